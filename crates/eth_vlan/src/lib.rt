@@ -1,0 +1,2 @@
+//! eth_vlan
+#![tactic(auto)]

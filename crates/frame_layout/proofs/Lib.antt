@@ -1,0 +1,4 @@
+pub mod Shapes
+pub mod Bounds
+pub mod Alike
+pub mod SameKey

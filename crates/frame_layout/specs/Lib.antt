@@ -1,0 +1,5 @@
+pub mod Shape
+pub mod Headers
+pub mod Key
+pub mod Candidate
+pub mod Segment

@@ -1,0 +1,2 @@
+pub mod Ip4
+pub mod Ip6

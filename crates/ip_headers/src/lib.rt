@@ -1,0 +1,2 @@
+//! ip_headers
+#![tactic(auto)]

@@ -1,0 +1,2 @@
+//! tcp_headers
+#![tactic(auto)]

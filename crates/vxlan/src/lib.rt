@@ -1,0 +1,2 @@
+//! vxlan
+#![tactic(auto)]
