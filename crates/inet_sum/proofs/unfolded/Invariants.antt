@@ -1,6 +1,6 @@
 use Rattle.std.proofs.Common.{◌≡◌, ◌+◌, ◌*◌, ◌≤◌, drop}
 use Rattle.inet_sum.specs.Sum.{word_sum, folded, fold_of as fold_of_bytes}
-use Rattle.inet_sum.proofs.fold_of.Given as goal
+use Rattle.inet_sum.proofs.unfolded.Given as goal
 
 abbrev pub invariant-loop-i : goal.invariant-loop-i
 invariant-loop-i l = record {

@@ -1,7 +1,7 @@
 use Rattle.std.proofs.Common.{◌≡◌, ◌+◌, ◌*◌, ◌<◌, drop, length, ap, ◌∙◌, arith}
 use Rattle.inet_sum.specs.Sum.{word_sum, folded}
 use Rattle.inet_sum.proofs.Words.{words_more}
-use Rattle.inet_sum.proofs.fold_of.Goals as goal
+use Rattle.inet_sum.proofs.unfolded.Goals as goal
 
 pub loop-i-preserved : goal.loop-i-preserved
 loop-i-preserved c =
