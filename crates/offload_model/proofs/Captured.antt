@@ -1,16 +1,15 @@
 -- What a capture of Ethernet frames holds.
-use Rattle.std.proofs.Common.{◌≡◌, ℕ, zero, suc, ◌+◌, ◌-◌, ◌*◌, ◌^◌, ◌<◌, ◌≤◌, inl, inr, Bool, true, false, Option, Some, None, List, [], ◌∷◌, ◌++◌, length, take, drop, refl, sym, ap, ◌∙◌, subst, arith, length-take}
-use Rattle.std.specs.Prelude.{nat_lt, nat_le}
+use Rattle.std.proofs.Common.{◌≡◌, ℕ, zero, suc, ◌+◌, ◌-◌, ◌^◌, ◌<◌, ◌≤◌, inl, inr, false, Option, Some, None, List, [], ◌∷◌, take, drop, refl, arith, length-take}
+use Rattle.std.specs.Prelude.{nat_le}
 use Rattle.std.specs.List.{AllByRecursion}
 use Rattle.std.proofs.lemmas.List.{get_or-take, get_or-drop, get_or_past}
 use Rattle.std.proofs.lemmas.Bool.{cases_lt, ltb-false, leb-false}
-use Rattle.net_bytes.specs.Bytes.{byte}
 use Rattle.net_bytes.specs.Order.{number}
 use Rattle.net_bytes.specs.declared.order.Order.{Order}
 use Rattle.net_bytes.specs.declared.order.Order.TheVariants.{Big, Little}
 use Rattle.run_cuts.specs.Cut.{AllNeighbours}
-use Rattle.pcap_io.specs.Capture.{Packet, Found, packet_at, ended, one_more, judged, records_from, reads, found_after}
-use Rattle.pcap_io.specs.Headers.{first_that_holds, head_refusals, record_refusals, body_refusals, captured_length, original_length, file_refusals, order_of, is_bad_original}
+use Rattle.pcap_io.specs.Capture.{Packet, Found, packet_at, judged, records_from, found_after}
+use Rattle.pcap_io.specs.Headers.{first_that_holds, record_refusals, captured_length, original_length, file_refusals, order_of}
 use Rattle.pcap_io.specs.declared.faults.CapKind.{CapKind}
 use Rattle.pcap_io.specs.declared.heads.Link.TheVariants.{Ethernet}
 use Rattle.pcap_io.proofs.Fronts.{not_first}

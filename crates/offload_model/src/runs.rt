@@ -6,7 +6,7 @@ pub fn fronts_are_mergeable()
     ensures law { FrontsAreMergeable }
 {}
 
-/// So a flow's packets have at most one cut into maximal runs.
+/// So a flow's packets have just one cut into maximal runs, the one that one pass finds.
 pub fn has_one_cut()
     ensures law { HasOneCut }
 {}
