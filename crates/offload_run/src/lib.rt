@@ -19,6 +19,8 @@ mod output;
 mod packet;
 mod round;
 mod status;
+#[cfg(test)]
+mod tests;
 
 pub use command::run;
 pub use merge::merge_all;
