@@ -1,5 +1,5 @@
 -- What one more packet has to meet to continue a line of packets.
-use Rattle.std.proofs.Common.{◌≡◌, ℕ, suc, true, ◌+◌, ◌-◌, ◌*◌, ◌/◌, ◌%◌, ◌^◌, ◌<◌, ◌≤◌, ◌⊎◌, inl, inr, Some, List, [], ◌∷◌, ◌++◌, length, get_or, refl, sym, ap, ◌∙◌, subst, arith, length-append}
+use Rattle.std.proofs.Common.{◌≡◌, ℕ, true, ◌+◌, ◌-◌, ◌*◌, ◌%◌, ◌^◌, ◌<◌, ◌≤◌, ◌⊎◌, inl, inr, Some, List, [], ◌∷◌, ◌++◌, length, refl, sym, subst, arith, length-append}
 use Rattle.std.proofs.lemmas.List.{get_or_append_left, get_or_push}
 use Rattle.std.proofs.lemmas.Bool.{cases_eq}
 use Rattle.ip_headers.specs.Ip4.{dont_fragment}
@@ -8,7 +8,7 @@ use Rattle.frame_layout.specs.Candidate.{IsCandidate}
 use Rattle.frame_layout.specs.Headers.{AtHeaders, AreHeadersAlike}
 use Rattle.frame_layout.specs.Shape.{Layout, shape_of}
 use Rattle.frame_layout.specs.declared.layout.Layer.TheVariants.{Ip4}
-use Rattle.net_bytes.specs.Bytes.{byte, be16}
+use Rattle.net_bytes.specs.Bytes.{be16}
 use Rattle.offload_model.specs.Each.{Each, EachButLast}
 use Rattle.offload_model.specs.Mergeable.{AreUdpSumsAlike, IsAckAlone, IsSequenceBehind, AreIdsInStep, IsLengthInRange, AreConsecutive, payloads_of}
 use Rattle.pcap_io.specs.Capture.{Packet}

@@ -1,12 +1,11 @@
 -- The laws of merging and segmenting, of one run.
-use Rattle.std.specs.Prelude.{◌≡◌, ℕ, ◌+◌, ◌-◌, ◌*◌, ◌^◌, ◌<◌, ◌≤◌, ◌↔◌, ◌==◌, Bool, true, Some, List, [], ◌∷◌, length, map, slice_index_or}
-use Rattle.std.specs.List.{AllByRecursion}
+use Rattle.std.specs.Prelude.{◌≡◌, ℕ, ◌+◌, ◌-◌, ◌*◌, ◌<◌, ◌≤◌, ◌↔◌, ◌==◌, Bool, true, false, Some, List, length, take, drop, slice_index_or}
 use Rattle.net_bytes.specs.Bytes.{byte}
 use Rattle.frame_layout.specs.Shape.{Layout, shape_of}
 use Rattle.frame_layout.specs.Headers.{AtHeaders, AreLaid}
 use Rattle.frame_layout.specs.Candidate.{IsCandidate}
 use Rattle.pcap_io.specs.Capture.{Packet}
-use Rattle.run_cuts.specs.Cut.{IsCut, IsClosedUnderFronts}
+use Rattle.run_cuts.specs.Cut.{IsCut, IsClosedUnderFronts, cut_of}
 use Rattle.offload_model.specs.Each.{Each}
 use Rattle.offload_model.specs.Mergeable.{IsLengthInRange, payloads_of, IsMergeableAs, IsMergeable}
 use Rattle.offload_model.specs.Frames.{merged_frame, segment_frame, IsMergedFrame, IsFixedAt, IsSegment}
@@ -24,9 +23,9 @@ InBytes f = (k : ℕ) → byte f k < 256
 abbrev pub FrontsAreMergeable : Type 0
 FrontsAreMergeable = IsClosedUnderFronts IsMergeable
 
--- so each flow's packets have at most one cut
+-- so each flow's packets have just one cut, the one that one pass finds
 abbrev pub HasOneCut : Type 0
-HasOneCut = (ps : List Packet) (runs others : List (List Packet)) → IsCut IsMergeable ps runs → IsCut IsMergeable ps others → runs ≡ others
+HasOneCut = (ps : List Packet) (runs : List (List Packet)) → IsCut IsMergeable ps runs ↔ (runs ≡ cut_of is_mergeable ps)
 
 -- ---- frames: the functions are what the relations say, and the relations alone bring the packets back
 
@@ -41,6 +40,18 @@ MergedFramesAreMerged =
     → InBytes payload
     → AtHeaders (IsLengthInRange (layout.payload_at + length payload)) layout.headers
     → IsMergedFrame layout first last payload (merged_frame layout first last payload)
+
+-- the segments of a frame, where its headers lie one behind the other and the lengths have room
+abbrev pub SegmentFramesAreSegments : Type 0
+SegmentFramesAreSegments =
+    (layout : Layout) (fixed : ℕ → Bool) (n m : ℕ) (is_last : Bool) (g : List ℕ) (i : ℕ)
+    → AreLaid 0 layout.headers layout.payload_at
+    → layout.payload_at ≤ length g
+    → InBytes g
+    → AtHeaders (IsLengthInRange (layout.payload_at + length (take m (drop (i * m) (drop layout.payload_at g))))) layout.headers
+    → (is_last ≡ true → i + 1 ≡ n)
+    → (is_last ≡ false → i + 1 < n)
+    → IsSegment layout fixed n m g i (segment_frame layout fixed m is_last g i)
 
 -- `first` and `last` are the frames of the first and of the last packet, `g` is the merged frame
 abbrev pub SegmentsAreThePackets : Type 0

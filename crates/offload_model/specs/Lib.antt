@@ -8,3 +8,5 @@ pub mod Tests
 pub mod Rounds
 pub mod Written
 pub mod Laws
+pub mod CaptureLaws
+pub mod Rows

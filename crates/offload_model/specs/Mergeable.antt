@@ -1,7 +1,7 @@
 -- Which packets may be merged into one, as receive offload does. Their headers say the same but for the fields that follow
 -- from a packet's place in its TCP stream (RFC 9293, section 3.1) and for IPv4's identification (RFC 791, section 3.1), lengths and
 -- sums.
-use Rattle.std.specs.Prelude.{◌≡◌, ℕ, ◌+◌, ◌-◌, ◌*◌, ◌%◌, ◌^◌, ◌<◌, ◌≤◌, ◌⊎◌, ◌↔◌, Bool, true, Some, List, [], ◌∷◌, length, drop}
+use Rattle.std.specs.Prelude.{◌≡◌, ℕ, ◌+◌, ◌-◌, ◌*◌, ◌%◌, ◌^◌, ◌≤◌, ◌⊎◌, ◌↔◌, true, Some, List, [], ◌∷◌, length, drop}
 use Rattle.std.specs.List.{flat_map}
 use Rattle.ip_headers.specs.Ip4.{identification, dont_fragment}
 use Rattle.tcp_headers.specs.Tcp.{sequence, flags}
