@@ -77,15 +77,6 @@ fold-append_odd xs ys e =
     (λ h. omega (arith, (shifted ys).1))
     ∙ sym (folded-swap (word_sum xs) (word_sum ys))
 
--- a loop's step
-pub word_sum_more : (xs : List ℕ) (i : ℕ) → i < length xs → i % 2 ≡ 0 → word_sum (take (i + 1) xs) ≡ word_sum (take i xs) + 256 * get_or xs i 0
-word_sum_more xs i h e =
-    ap word_sum (take_more xs i 0 h) ∙ even-append (take i xs) (get_or xs i 0 ∷ []) (ap (λ n. n % 2) (length-take-le i xs (omega arith)) ∙ e)
-
-pub word_sum_more_odd : (xs : List ℕ) (i : ℕ) → i < length xs → i % 2 ≡ 1 → word_sum (take (i + 1) xs) ≡ word_sum (take i xs) + get_or xs i 0
-word_sum_more_odd xs i h e =
-    ap word_sum (take_more xs i 0 h) ∙ odd-append (take i xs) (get_or xs i 0 ∷ []) (ap (λ n. n % 2) (length-take-le i xs (omega arith)) ∙ e) ∙ omega arith
-
 -- the two bytes of a number weigh as much as it
 pub number_bytes : (n : ℕ) → folded n ≡ fold_of (n / 256 ∷ n % 256 ∷ [])
 number_bytes n = let e : n ≡ word_sum (n / 256 ∷ n % 256 ∷ []) = omega arith in ap folded e
@@ -98,3 +89,8 @@ joined_case front back false e = sym (fold-append_even front back (omega (arith,
 pub joined_is : (front back : List ℕ) (a b n : ℕ) → a ≡ fold_of front → b ≡ fold_of back → n ≡ length front
     → joined_fold (n % 2 == 1) a b ≡ fold_of (front ++ back)
 joined_is front back a b n e g l = rw (e, g, l) (joined_case front back (length front % 2 == 1) refl)
+
+-- two pieces from numbers that have their folds, where the first is even
+pub even_total : (xs ys : List ℕ) (a b : ℕ) → length xs % 2 ≡ 0 → folded a ≡ fold_of xs → folded b ≡ fold_of ys → folded (a + b) ≡ fold_of (xs ++ ys)
+even_total xs ys a b even e g =
+    sym (folded-add a b) ∙ ap (λ z. folded (z + folded b)) e ∙ ap (λ z. folded (fold_of xs + z)) g ∙ sym (fold-append_even xs ys even)
