@@ -45,6 +45,7 @@ impl Cut {
         requires of { IsCutOf self.now frame.now }
         requires there { i < self.now.n }
         ensures payload { result.now ≡ payload_at self.now frame.now i }
+        ensures short { length result.now ≤ 65535 }
     {
         let m = usize::from(self.m);
         let from = self.layout.payload_at() + usize::from(i) * m;
@@ -59,6 +60,7 @@ impl Cut {
         requires there { i < self.now.n }
         ensures segment { result.items ++ payload_at self.now frame.now i ≡ segment_at self.now frame.now i }
         ensures relation { IsSegmentAt self.now frame.now i (result.items ++ payload_at self.now frame.now i) }
+        ensures len { length result.items ≡ self.now.layout.payload_at }
     {
         let mut payload = Partial::new();
         payload.add(self.payload(frame, i));

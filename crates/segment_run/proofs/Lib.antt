@@ -1,0 +1,6 @@
+mod Taken
+mod Written
+mod Judging
+mod Owed
+mod Ahead
+mod Whole
