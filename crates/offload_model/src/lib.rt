@@ -30,4 +30,4 @@ pub use frames::{
     segments_are_the_packets, segments_give_the_packets,
 };
 pub use rows::rows_hold;
-pub use runs::{fronts_are_mergeable, has_one_cut, tests_decide};
+pub use runs::{fronts_are_mergeable, grows_by_one, has_one_cut, tests_decide};
