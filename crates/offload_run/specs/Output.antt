@@ -24,15 +24,15 @@ single_bytes order p =
 abbrev pub round_bytes : Order → List Packet → List ℕ
 round_bytes order packets = flat_map (single_bytes order) packets
 
--- what is written of these packets, round by round
-abbrev pub rounds_bytes : Order → List Packet → List ℕ
-rounds_bytes order packets = flat_map (round_bytes order) (rounds 64 packets)
+-- what is written of these packets, in rounds of `budget` packets
+abbrev pub rounds_bytes : ℕ → Order → List Packet → List ℕ
+rounds_bytes budget order packets = flat_map (round_bytes order) (rounds budget packets)
 
-abbrev pub written : FileHead → List Packet → List ℕ
-written head packets = file_bytes head Offload ++ rounds_bytes head.order packets
+abbrev pub written : ℕ → FileHead → List Packet → List ℕ
+written budget head packets = file_bytes head Offload ++ rounds_bytes budget head.order packets
 
 -- what is written of a capture: nothing where its file header is refused
-abbrev pub merged : List ℕ → List ℕ
-merged given =
+abbrev pub merged : ℕ → List ℕ → List ℕ
+merged budget given =
     if is_some (first_that_holds (file_refusals Ethernet (take 24 given))) then [] else
-    written (file_head (take 24 given)) (reads Ethernet given).packets
+    written budget (file_head (take 24 given)) (reads Ethernet given).packets

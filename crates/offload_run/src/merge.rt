@@ -1,5 +1,5 @@
 //! Merges the records of a capture, round by round.
-ghost use Rattle.std.specs.Prelude.{◌≡◌, ◌≤◌, ◌⊎◌, true};
+ghost use Rattle.std.specs.Prelude.{◌≡◌, ◌≤◌, ◌<◌, ◌⊎◌, true};
 ghost use Rattle.std.specs.Io.KnownBytes.{Keeps};
 ghost use Rattle.off_io.specs.Faults.{Rose};
 ghost use Rattle.off_io.specs.Content.{SaysFlushed};
@@ -7,16 +7,15 @@ ghost use Rattle.off_io.specs.Told.{Told};
 ghost use Rattle.pcap_io.specs.declared.heads.Link.TheVariants.{Ethernet};
 ghost use Rattle.pcap_io.specs.Places.{IsReady, first_place};
 ghost use Rattle.pcap_io.specs.Readers.{place_of, source_of, SameLoan};
-ghost use Rattle.offload_run.specs.Merging.{Merges, Flushes};
+ghost use Rattle.offload_run.specs.Merging.{Merges, MergeAnswers, Flushes};
 
 use crate::packet::NoMemory;
 use crate::round::{RoundEnd, read_round};
 use crate::{Status, write_round};
 use off_io::{Failed, Sink, Source, WriteFault};
-use pcap_io::{CaptureReader, FileHead, Link};
+use offload_words::MergeOptions;
+use pcap_io::{CaptureReader, FileHead, InFault, Link, take_file, write_file_head};
 use std::alloc::Global;
-
-const BUDGET: usize = 64;
 
 // The answer after the last write: the sink is flushed first.
 fn finish<K: Sink>(sink: &mut K, status: Status) -> Status
@@ -32,19 +31,21 @@ fn finish<K: Sink>(sink: &mut K, status: Status) -> Status
     }
 }
 
-/// Merges the records of a capture, round by round, up to its end, and flushes the sink once, after the last write.
+/// Merges the records of a capture, in rounds of `budget` records, up to its end, and flushes the sink once, after the last write.
 ///
 /// Each answer says what was read and written (clause `given`); a read fault or a write fault only where the count of the
 /// source or the sink rose.
 pub fn merge_all<S: Source, K: Sink>(
     alloc: Global,
     reader: &mut CaptureReader<'_, S>,
+    budget: usize,
     sink: &mut K,
 ) -> Status
+    requires room { 0 < budget }
     requires ready { IsReady (place_of reader.old) }
     requires link { (place_of reader.old).link ≡ Ethernet }
     ensures same_source { SameLoan reader.old reader.new }
-    ensures given { Told (S.left (source_of reader.old)) (S.left (source_of reader.new)) (Merges (place_of reader.old) (K.held sink.old) (K.held sink.new) result) }
+    ensures given { Told (S.left (source_of reader.old)) (S.left (source_of reader.new)) (Merges budget (place_of reader.old) (K.held sink.old) (K.held sink.new) result) }
     ensures flushed { Flushes (K.held sink.new) (K.is_flushed sink.new) result }
     ensures not_usage { result ≡ Status.Usage → ⊥ }
     ensures later { S.faults (source_of reader.old) ≤ S.faults (source_of reader.new) }
@@ -54,7 +55,7 @@ pub fn merge_all<S: Source, K: Sink>(
 {
     let file = reader.file();
     'rounds: loop {
-        let round = match read_round(alloc, reader, BUDGET) {
+        let round = match read_round(alloc, reader, budget) {
             Ok(round) => round,
             Err(NoMemory) => return Status::NoMemory,
         };
@@ -72,13 +73,15 @@ pub fn merge_all<S: Source, K: Sink>(
 }
 
 // Merges the records behind a file header.
-pub(crate) fn merge_from<S: Source, K: Sink>(
+fn merge_from<S: Source, K: Sink>(
     alloc: Global,
     file: FileHead,
+    budget: usize,
     source: &mut S,
     sink: &mut K,
 ) -> Status
-    ensures given { Told (S.left source.old) (S.left source.new) (Merges (first_place file Ethernet 0) (K.held sink.old) (K.held sink.new) result) }
+    requires room { 0 < budget }
+    ensures given { Told (S.left source.old) (S.left source.new) (Merges budget (first_place file Ethernet 0) (K.held sink.old) (K.held sink.new) result) }
     ensures flushed { Flushes (K.held sink.new) (K.is_flushed sink.new) result }
     ensures not_usage { result ≡ Status.Usage → ⊥ }
     ensures later { S.faults source.old ≤ S.faults source.new }
@@ -87,5 +90,31 @@ pub(crate) fn merge_from<S: Source, K: Sink>(
     ensures write { result ≡ Status.WriteFault → Rose (K.faults sink.old) (K.faults sink.new) }
 {
     let mut reader = CaptureReader::after_file(source, file, Link::Ethernet);
-    merge_all(alloc, &mut reader, sink)
+    merge_all(alloc, &mut reader, budget, sink)
+}
+
+// Merges a whole capture of Ethernet frames.
+pub(crate) fn merge_capture<S: Source, K: Sink>(
+    alloc: Global,
+    options: MergeOptions,
+    source: &mut S,
+    sink: &mut K,
+) -> Status
+    requires room { 0 < options.budget }
+    ensures given { Told (S.left source.old) (S.left source.new) (MergeAnswers options.budget (K.held sink.old) (K.held sink.new) (K.is_flushed sink.new) (sink.new ≡ sink.old) result) }
+    ensures not_usage { result ≡ Status.Usage → ⊥ }
+    ensures later { S.faults source.old ≤ S.faults source.new }
+    ensures later_sink { K.faults sink.old ≤ K.faults sink.new }
+    ensures read { result ≡ Status.ReadFault → Rose (S.faults source.old) (S.faults source.new) }
+    ensures write { result ≡ Status.WriteFault → Rose (K.faults sink.old) (K.faults sink.new) }
+{
+    let file = match take_file(source, Link::Ethernet) {
+        Ok(file) => file,
+        Err(InFault::Cap(fault)) => return Status::Malformed(fault),
+        Err(InFault::ReadFault) => return Status::ReadFault,
+    };
+    match write_file_head(sink, &file, Link::Offload) {
+        Ok(()) => merge_from(alloc, file, options.budget as usize, source, sink),
+        Err(WriteFault) => Status::WriteFault,
+    }
 }
