@@ -22,6 +22,8 @@ mod output;
 mod packet;
 mod round;
 mod status;
+#[cfg(test)]
+mod tests;
 
 pub use command::run;
 pub use logging::write_log;
