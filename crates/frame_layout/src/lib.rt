@@ -9,6 +9,8 @@ mod queue;
 mod read;
 pub mod segment;
 mod sums;
+#[cfg(test)]
+mod tests;
 
 pub use flow::Key;
 pub use judge::candidate;
