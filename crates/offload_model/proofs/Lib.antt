@@ -1,0 +1,16 @@
+pub mod Maps
+pub mod Fronts
+pub mod Fields
+pub mod Grows
+pub mod Determined
+pub mod Identity
+pub mod Edits
+pub mod Filled
+pub mod Made
+pub mod Functions
+pub mod Whole
+pub mod Lawful
+pub mod Modes
+pub mod ByRelations
+pub mod Ranges
+pub mod Decides

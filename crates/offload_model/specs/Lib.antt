@@ -1,0 +1,10 @@
+pub mod Each
+pub mod Mergeable
+pub mod Edits
+pub mod Frames
+pub mod Merged
+pub mod Segments
+pub mod Tests
+pub mod Rounds
+pub mod Written
+pub mod Laws

@@ -1,0 +1,6 @@
+pub mod Headers
+pub mod Capture
+pub mod Places
+pub mod Reading
+pub mod Readers
+pub mod Written
