@@ -2,3 +2,6 @@ pub mod Shapes
 pub mod Bounds
 pub mod Alike
 pub mod SameKey
+mod Readers
+mod Keys
+pub mod Fronts

@@ -3,3 +3,4 @@ pub mod Headers
 pub mod Key
 pub mod Candidate
 pub mod Segment
+pub mod Found

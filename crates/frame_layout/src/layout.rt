@@ -1,6 +1,6 @@
 //! The headers of a frame, and where each begins.
 
-ghost use Rattle.std.specs.Prelude.{◌≤◌, length};
+ghost use Rattle.std.specs.Prelude.{◌≡◌, ◌≤◌, length};
 ghost use Rattle.frame_layout.specs.Shape.{Layout as LayoutSeen};
 
 use arrayvec::ArrayVec;
@@ -37,4 +37,31 @@ impl Model for Layout {
     ghost Value = { LayoutSeen };
 
     ghost view = { λ l. record { headers = l.headers.items; payload_at = l.payload_at } };
+}
+
+impl Layout {
+    /// These headers, and the place behind them.
+    pub(crate) fn of(headers: ArrayVec<Header, 11>, payload_at: usize) -> Layout
+        ensures { result ≡ record { headers = headers.items; payload_at = payload_at } }
+    {
+        Layout {
+            headers,
+            payload_at,
+        }
+    }
+
+    /// The headers from the front.
+    pub fn headers(&self) -> &[Header]
+        ensures headers { result.now ≡ self.now.headers }
+        ensures few { length result.now ≤ 11 }
+    {
+        self.headers.as_slice()
+    }
+
+    /// The place in the frame where the payload begins.
+    pub fn payload_at(&self) -> usize
+        ensures place { result ≡ self.now.payload_at }
+    {
+        self.payload_at
+    }
 }

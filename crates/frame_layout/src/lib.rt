@@ -1,8 +1,14 @@
 //! The headers of a frame.
 #![tactic(auto)]
 
+pub mod flow;
 pub mod layout;
+mod queue;
+mod read;
 pub mod segment;
 
+pub use flow::Key;
 pub use layout::{Header, Layer, Layout};
+pub use queue::{key, queue_of};
+pub use read::shape;
 pub use segment::{Fields, Seg};
