@@ -5,3 +5,8 @@ pub mod SameKey
 mod Readers
 mod Keys
 pub mod Fronts
+mod Counts
+mod Zeroed
+mod Right
+mod Frames
+pub mod Networks

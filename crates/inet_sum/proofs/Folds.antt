@@ -77,15 +77,6 @@ fold-append_odd xs ys e =
     (λ h. omega (arith, (shifted ys).1))
     ∙ sym (folded-swap (word_sum xs) (word_sum ys))
 
--- a loop's step
-pub word_sum_more : (xs : List ℕ) (i : ℕ) → i < length xs → i % 2 ≡ 0 → word_sum (take (i + 1) xs) ≡ word_sum (take i xs) + 256 * get_or xs i 0
-word_sum_more xs i h e =
-    ap word_sum (take_more xs i 0 h) ∙ even-append (take i xs) (get_or xs i 0 ∷ []) (ap (λ n. n % 2) (length-take-le i xs (omega arith)) ∙ e)
-
-pub word_sum_more_odd : (xs : List ℕ) (i : ℕ) → i < length xs → i % 2 ≡ 1 → word_sum (take (i + 1) xs) ≡ word_sum (take i xs) + get_or xs i 0
-word_sum_more_odd xs i h e =
-    ap word_sum (take_more xs i 0 h) ∙ odd-append (take i xs) (get_or xs i 0 ∷ []) (ap (λ n. n % 2) (length-take-le i xs (omega arith)) ∙ e) ∙ omega arith
-
 -- the two bytes of a number weigh as much as it
 pub number_bytes : (n : ℕ) → folded n ≡ fold_of (n / 256 ∷ n % 256 ∷ [])
 number_bytes n = let e : n ≡ word_sum (n / 256 ∷ n % 256 ∷ []) = omega arith in ap folded e

@@ -3,8 +3,8 @@
 #![tactic(auto)]
 
 ghost use Rattle.std.specs.Prelude.{◌≡◌, ℕ, ◌+◌, ◌*◌, ◌/◌, ◌%◌, ◌^◌, ◌<◌, ◌≤◌, List, [], ◌∷◌, ◌++◌, length};
-ghost use Rattle.inet_sum.specs.Stands.{StandsFor};
-ghost use Rattle.inet_sum.specs.Sum.{folded, fold_of as fold_of_bytes, checksum_of, not_zero, udp_checksum_of, joined_fold};
+ghost use Rattle.inet_sum.specs.Words.{number_of};
+ghost use Rattle.inet_sum.specs.Sum.{word_sum, folded, fold_of as fold_of_bytes, checksum_of, not_zero, udp_checksum_of, joined_fold};
 
 pub mod partial;
 
@@ -12,20 +12,39 @@ pub use partial::Partial;
 
 /// The fold of the bytes: 0 where their big-endian words add to 0, and else the number from 1 to 65535 that leaves the
 /// same remainder by 65535. An odd last byte counts as the high byte of a word.
-#[tactic(auto, using(crate::proofs::Folds::word_sum_more, crate::proofs::Folds::word_sum_more_odd))]
 pub fn fold_of(bytes: &[u8]) -> u16
     requires few { length bytes.now < 2 ^ 32 }
     ensures fold { result ≡ fold_of_bytes bytes.now }
 {
+    // A number of 32 bits leaves the same remainder by 65535 as its two halves together.
+    let quads = bytes.len() / 4;
     let mut sum: u64 = 0;
-    for (i, byte) in bytes.iter().enumerate() {
-        if i % 2 == 0 {
-            sum += 256 * u64::from(*byte);
-        } else {
-            sum += u64::from(*byte);
-        }
+    for i in 0..quads {
+        let at = 4 * i;
+        sum += u64::from(number([bytes[at], bytes[at + 1], bytes[at + 2], bytes[at + 3]]));
     }
-    fold_number(sum)
+    fold_number(sum + short_sum(&bytes[4 * quads..]))
+}
+
+/// The big-endian number in four bytes.
+fn number(quad: [u8; 4]) -> u32
+    ensures { result ≡ number_of quad }
+{
+    u32::from_be_bytes(quad)
+}
+
+/// What the words of at most three bytes add to.
+fn short_sum(bytes: &[u8]) -> u64
+    requires { length bytes.now ≤ 3 }
+    ensures sum { result ≡ word_sum bytes.now }
+    ensures small { result < 2 ^ 17 }
+{
+    match bytes {
+        [] => 0,
+        [high] => 256 * u64::from(*high),
+        [high, low] => 256 * u64::from(*high) + u64::from(*low),
+        [high, low, next, ..] => 256 * u64::from(*high) + u64::from(*low) + 256 * u64::from(*next),
+    }
 }
 
 /// The Internet checksum of the bytes, as it stands in an IPv4 or TCP header.

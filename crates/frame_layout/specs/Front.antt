@@ -1,0 +1,51 @@
+-- What a judge of frames knows of them: their first bytes, their length, and the sum of the bytes behind these.
+use Rattle.std.specs.Prelude.{◌≡◌, ℕ, ◌+◌, ◌-◌, ◌*◌, ◌/◌, ◌%◌, ◌<◌, ◌≤◌, ◌⊎◌, ◌||◌, ◌&&◌, ◌==◌, nat_lt, Bool, true, false, Option, Some, None, List, [], ◌∷◌, ◌++◌, length, drop}
+use Rattle.inet_sum.specs.Stands.{StandsFor}
+use Rattle.inet_sum.specs.Stands.{FoldAndLength}
+use Rattle.net_bytes.specs.Bytes.{byte, be16}
+use Rattle.frame_layout.specs.declared.layout.Header.{Header}
+use Rattle.frame_layout.specs.declared.layout.Layer.{Layer}
+use Rattle.frame_layout.specs.declared.layout.Layer.TheVariants.{Ethernet, Tag, Ip4, Ip6, Udp, Vxlan, Tcp}
+use Rattle.frame_layout.specs.Shape.{Layout, shape_of}
+use Rattle.frame_layout.specs.Candidate.{IsLengthRight, AreFlagsPlain, IsSumRight, IsCandidate}
+
+-- `f` is `head` with bytes behind it, of which `rest` is the sum
+pub record IsFrameOf (head : List ℕ) (rest : FoldAndLength) (f : List ℕ) : Type 0 where
+  pub tail : List ℕ
+  pub joined : f ≡ head ++ tail
+  pub sum : StandsFor rest tail
+  pub in_bytes : (k : ℕ) → byte f k < 256
+
+-- `f` begins with `head` and has this length, and `behind` is the sum of its bytes from `end` on
+pub record IsSummed (head : List ℕ) (end len : ℕ) (behind : FoldAndLength) (f : List ℕ) : Type 0 where
+  pub begins : (k : ℕ) → k < length head → byte f k ≡ byte head k
+  pub long : length f ≡ len
+  pub sum : StandsFor behind (drop end f)
+
+-- the header has a right length field and plain flags in a frame of n bytes
+abbrev pub is_plain : List ℕ → ℕ → Layer → ℕ → Bool
+is_plain f n Ip4 at = be16 f (at + 2) == n - at && nat_lt (byte f (at + 6)) 0x80
+is_plain f n Ip6 at = be16 f (at + 4) == n - at - 40
+is_plain f n Udp at = be16 f (at + 4) == n - at
+is_plain f n Tcp at =
+    byte f (at + 12) % 16 == 0
+    && (byte f (at + 13) == 0x10 || (byte f (at + 13) == 0x18 || (byte f (at + 13) == 0x11 || byte f (at + 13) == 0x19)))
+is_plain f n _ at = true
+
+abbrev pub IsHeaderRight : List ℕ → Header → Layer → ℕ → Type 0
+IsHeaderRight f ip layer at = IsLengthRight f layer at × AreFlagsPlain f layer at × IsSumRight f ip layer at
+
+abbrev pub are_headers_right : List ℕ → Header → List Header → Type 0
+are_headers_right f ip [] = Unit {0}
+are_headers_right f ip (h ∷ hs) = IsHeaderRight f ip h.layer h.at × are_headers_right f h hs
+
+-- the addresses of an IP header are within n bytes
+abbrev pub AreAddressesWithin : ℕ → Layer → ℕ → Type 0
+AreAddressesWithin n Ip4 at = at + 20 ≤ n
+AreAddressesWithin n Ip6 at = at + 40 ≤ n
+AreAddressesWithin n _ at = Unit {0}
+
+-- the answer is a candidate's layout, or there is none
+abbrev pub IsJudged : List ℕ → ℕ → Option Layout → Type 0
+IsJudged f original None = (layout : Layout) → shape_of f ≡ Some layout → IsCandidate f original layout → ⊥
+IsJudged f original (Some layout) = (shape_of f ≡ Some layout) × IsCandidate f original layout
