@@ -1,0 +1,4 @@
+mod Headers
+mod Decide
+mod Counts
+mod Knows

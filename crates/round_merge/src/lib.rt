@@ -1,0 +1,10 @@
+//! Merges the packets of a round.
+#![tactic(auto)]
+
+mod alike;
+mod candidate;
+mod next;
+mod packet;
+mod run;
+
+pub use packet::Packet;
