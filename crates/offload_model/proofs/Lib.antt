@@ -14,3 +14,12 @@ pub mod Modes
 pub mod ByRelations
 pub mod Ranges
 pub mod Decides
+pub mod Opened
+pub mod Records
+pub mod Lists
+pub mod RunRecords
+pub mod Items
+pub mod Flows
+pub mod Captured
+pub mod ReadBack
+pub mod WrittenBack

@@ -1,6 +1,5 @@
 -- The laws of merging and segmenting, of one run.
-use Rattle.std.specs.Prelude.{◌≡◌, ℕ, ◌+◌, ◌-◌, ◌*◌, ◌^◌, ◌<◌, ◌≤◌, ◌↔◌, ◌==◌, Bool, true, Some, List, [], ◌∷◌, length, map, slice_index_or}
-use Rattle.std.specs.List.{AllByRecursion}
+use Rattle.std.specs.Prelude.{◌≡◌, ℕ, ◌+◌, ◌-◌, ◌*◌, ◌^◌, ◌<◌, ◌≤◌, ◌↔◌, ◌==◌, Bool, true, false, Some, List, [], ◌∷◌, length, take, drop, slice_index_or}
 use Rattle.net_bytes.specs.Bytes.{byte}
 use Rattle.frame_layout.specs.Shape.{Layout, shape_of}
 use Rattle.frame_layout.specs.Headers.{AtHeaders, AreLaid}
@@ -41,6 +40,18 @@ MergedFramesAreMerged =
     → InBytes payload
     → AtHeaders (IsLengthInRange (layout.payload_at + length payload)) layout.headers
     → IsMergedFrame layout first last payload (merged_frame layout first last payload)
+
+-- the segments of a frame, where its headers lie one behind the other and the lengths have room
+abbrev pub SegmentFramesAreSegments : Type 0
+SegmentFramesAreSegments =
+    (layout : Layout) (fixed : ℕ → Bool) (n m : ℕ) (is_last : Bool) (g : List ℕ) (i : ℕ)
+    → AreLaid 0 layout.headers layout.payload_at
+    → layout.payload_at ≤ length g
+    → InBytes g
+    → AtHeaders (IsLengthInRange (layout.payload_at + length (take m (drop (i * m) (drop layout.payload_at g))))) layout.headers
+    → (is_last ≡ true → i + 1 ≡ n)
+    → (is_last ≡ false → i + 1 < n)
+    → IsSegment layout fixed n m g i (segment_frame layout fixed m is_last g i)
 
 -- `first` and `last` are the frames of the first and of the last packet, `g` is the merged frame
 abbrev pub SegmentsAreThePackets : Type 0

@@ -8,3 +8,4 @@ pub mod Tests
 pub mod Rounds
 pub mod Written
 pub mod Laws
+pub mod CaptureLaws

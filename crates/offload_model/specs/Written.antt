@@ -1,14 +1,14 @@
--- The capture of link type 147 that merging writes.
+-- The capture of link type 147 that merging writes, and the one of link type 1 that segmenting writes.
 use Rattle.std.specs.Prelude.{ℕ, ◌+◌, ◌*◌, ◌==◌, if◌then◌else◌, List, [], ◌∷◌, ◌++◌, length, map, take, drop}
 use Rattle.std.specs.List.{flat_map, range_with_len}
 use Rattle.net_bytes.specs.declared.order.Order.{Order}
-use Rattle.pcap_io.specs.Capture.{Packet, Found, ended, one_more}
+use Rattle.pcap_io.specs.Capture.{Packet}
 use Rattle.pcap_io.specs.Written.{file_bytes, rec_bytes}
 use Rattle.pcap_io.specs.declared.heads.FileHead.{FileHead}
-use Rattle.pcap_io.specs.declared.heads.Link.TheVariants.{Offload}
+use Rattle.pcap_io.specs.declared.heads.Link.TheVariants.{Ethernet, Offload}
 use Rattle.pcap_io.specs.declared.off_head.OffHead.{OffHead}
 use Rattle.offload_model.specs.Merged.{Merged, merged_of}
-use Rattle.offload_model.specs.Segments.{with_head, with_frame}
+use Rattle.offload_model.specs.Segments.{with_head, with_frame, segments_of}
 use Rattle.offload_model.specs.Rounds.{rounds_of, items_of}
 
 -- how a capture is merged: rounds of `budget` packets, the number of queues, the number of taps, and how many bytes of a frame
@@ -73,3 +73,8 @@ record_bytes order r = rec_bytes order r.sec r.frac (length r.frame) r.original 
 -- the whole capture, in the byte order of the one that was read
 abbrev pub written : FileHead → Options → List Packet → List ℕ
 written head o ps = file_bytes head Offload ++ flat_map (record_bytes head.order) (records_of o ps)
+
+-- ---- and the capture of link type 1 that segmenting these records writes
+
+abbrev pub segmented : FileHead → List Packet → List ℕ
+segmented head rs = file_bytes head Ethernet ++ flat_map (record_bytes head.order) (flat_map segments_of rs)
