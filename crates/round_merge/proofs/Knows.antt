@@ -222,6 +222,14 @@ pub no_next_by : (found : Option Layout) (sum : FoldAndLength) (p x : Packet) (p
     → IsMergeable ((p ∷ ps) ++ (x ∷ [])) → ⊥
 no_next_by found sum p x ps j e m = no_next p x ps (subst (λ z. IsJudged x.frame x.original z sum) e j) m
 
+-- the sum of a mergeable packet's payload
+pub payload_by : (found : Option Layout) (sum : FoldAndLength) (p x : Packet) (ps : List Packet) → IsJudged x.frame x.original found sum → IsMergeable ((p ∷ ps) ++ (x ∷ []))
+    → IsPayloadOf x.frame sum
+payload_by None sum p x ps j m = absurd (no_next p x ps j m)
+payload_by (Some own) sum p x ps j m = λ layout s.
+    let same : own ≡ layout = (let e : Some own ≡ Some layout = sym j.shape ∙ s in cc) in
+    subst (λ z. StandsFor sum (drop z.payload_at x.frame)) same j.payload
+
 pub placed_of : (p : Packet) (run : List Packet) (layout : Layout) (sum : FoldAndLength) (state : Progress) → IsRunOf layout sum state p run → IsPlaced layout
 placed_of p run layout sum state r =
     record { laid = (laid p.frame layout r.shape).0; low = (bounds p.frame r.in_bytes layout r.shape).0; few = (counts p.frame layout r.shape).1 }

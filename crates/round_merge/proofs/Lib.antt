@@ -2,3 +2,6 @@ mod Headers
 mod Decide
 mod Counts
 mod Knows
+mod Steps
+mod Index
+mod Gather

@@ -6,5 +6,6 @@ mod candidate;
 mod next;
 mod packet;
 mod run;
+mod table;
 
 pub use packet::Packet;
