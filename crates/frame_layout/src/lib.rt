@@ -2,6 +2,7 @@
 #![tactic(auto)]
 
 pub mod flow;
+mod front;
 mod judge;
 pub mod layout;
 mod queue;

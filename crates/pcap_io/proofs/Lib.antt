@@ -1,2 +1,2 @@
-pub mod Fronts
+mod Fronts
 pub mod RecordLaws

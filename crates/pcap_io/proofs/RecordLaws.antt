@@ -2,7 +2,7 @@
 use Rattle.std.proofs.Common.{◌≡◌, ◌<◌, ◌≤◌, ◌+◌, ℕ, zero, suc, List, [], ◌∷◌, ◌++◌, length, take, drop, refl, sym, ap, ◌∙◌, arith, Option, None, Some, Err, subst, length-append, length-drop, length-take, Bool, true, false, if◌then◌else◌}
 use Rattle.std.proofs.lemmas.Option.{none-some}
 use Rattle.std.specs.Prelude.{nat_lt}
-use Rattle.std.proofs.lemmas.List.{take_at, drop_at, length-take-le, drop-drop}
+use Rattle.std.proofs.lemmas.List.{take_all, take_at, drop_at, length-take-le, drop-drop}
 use Rattle.std.proofs.lemmas.Bool.{lt-ltb, le-ltb}
 use Rattle.pcap_io.specs.declared.faults.CapKind.{CapKind}
 use Rattle.pcap_io.specs.declared.faults.CapKind.TheVariants.{ShortRecord, ShortRecordHeader}
@@ -14,7 +14,7 @@ use Rattle.pcap_io.specs.Headers.{first_that_holds, head_refusals, body_refusals
 use Rattle.pcap_io.specs.Capture.{Packet, Found, packet, packet_at, ended, one_more, judged, records_from}
 use Rattle.off_io.specs.Told.{Told}
 use Rattle.pcap_io.specs.Places.{IsRefusal, found_at, IsHead, EntersBody, short_record}
-use Rattle.pcap_io.specs.Reading.{GivesHead, TakesHead}
+use Rattle.pcap_io.specs.Reading.{GivesHead, TakesHead, RefusesHead}
 use Rattle.pcap_io.specs.declared.faults.CapFault.{CapFault}
 use Rattle.pcap_io.specs.declared.faults.InFault.TheVariants.{Cap}
 use Rattle.std.specs.Io.KnownBytes.{Consumes, IsAtEnd}
@@ -83,7 +83,12 @@ head_refused (Some xs) (Some ys) place fault count buf size le some took is =
     let refused : first_that_holds (head_refusals order place.link place.number (take 16 xs)) ≡ Some fault.kind = rw both.0 is.0 in
     let all : first_that_holds (record_refusals order place.link place.number xs) ≡ Some fault.kind = first_append_some (head_refusals order place.link place.number (take 16 xs)) (body_refusals order (take 16 xs) (drop 16 xs)) fault.kind refused in
     let long : 0 < length xs = omega (arith, ap length took.0, length-append (take count buf) ys, length-take-le count buf le) in
-    (records_fault order place.link place.number place.offset xs fault.kind long all ∙ same_fault fault.kind _ _ _ _ (sym is.1) (sym is.2), both.1)
+    record {
+      some = long;
+      refused = (refused, is.1, is.2);
+      found = records_fault order place.link place.number place.offset xs fault.kind long all ∙ same_fault fault.kind _ _ _ _ (sym is.1) (sym is.2);
+      rest = both.1;
+    }
 
 -- what the last test says
 body_test : (order : Order) (link : Link) (n : ℕ) (bytes : List ℕ) (b : Bool) → first_that_holds (head_refusals order link n (take 16 bytes)) ≡ None → nat_lt (length (drop 16 bytes)) (captured_length order (take 16 bytes)) ≡ b
@@ -151,3 +156,16 @@ no_record place (b ∷ bytes) short =
     ap (λ (v : Bool). if v then Some ShortRecordHeader else first_that_holds (drop 1 (head_refusals order place.link place.number (take 16 xs)))) test in
     let all = first_append_some (head_refusals order place.link place.number (take 16 xs)) (body_refusals order (take 16 xs) (drop 16 xs)) ShortRecordHeader refused in
     ap (λ (f : Found). f.packets) (records_fault order place.link place.number place.offset xs ShortRecordHeader (omega arith) all)
+
+-- a refused header is refused again, whatever follows it
+pub refused_again : (place : Place) (bytes rest : List ℕ) (fault : CapFault) → RefusesHead place bytes rest fault → found_at place (take 16 bytes) ≡ ended (Some fault)
+refused_again place bytes rest fault refuses =
+    let order = place.file.order in
+    let xs = take 16 bytes in
+    let again : take 16 xs ≡ xs = take_all 16 xs (omega (arith, length-take 16 bytes)) in
+    let refused : first_that_holds (head_refusals order place.link place.number (take 16 xs)) ≡ Some fault.kind =
+    ap (λ (l : List ℕ). first_that_holds (head_refusals order place.link place.number l)) again ∙ refuses.refused.0 in
+    let all : first_that_holds (record_refusals order place.link place.number xs) ≡ Some fault.kind =
+    first_append_some (head_refusals order place.link place.number (take 16 xs)) (body_refusals order (take 16 xs) (drop 16 xs)) fault.kind refused in
+    let long : 0 < length xs = omega (arith, length-take 16 bytes, refuses.some) in
+    records_fault order place.link place.number place.offset xs fault.kind long all ∙ same_fault fault.kind _ _ _ _ (sym refuses.refused.1) (sym refuses.refused.2)

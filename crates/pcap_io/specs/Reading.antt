@@ -11,7 +11,7 @@ use Rattle.pcap_io.specs.declared.faults.InFault.{InFault}
 use Rattle.pcap_io.specs.declared.faults.InFault.TheVariants.{Cap, ReadFault}
 use Rattle.pcap_io.specs.Headers.{first_that_holds, head_refusals, file_refusals, file_place, file_head}
 use Rattle.pcap_io.specs.Capture.{ended}
-use Rattle.pcap_io.specs.Places.{found_at, IsHead, short_record}
+use Rattle.pcap_io.specs.Places.{found_at, IsHead, IsRefusal, short_record}
 
 -- some bytes are gone, fewer than n
 abbrev pub FewerGone : List ℕ → List ℕ → ℕ → Type 0
@@ -24,10 +24,17 @@ pub record TakesHead (place : Place) (bytes left : List ℕ) (head : RecHead) : 
   pub fields : IsHead place (take 16 bytes) head
   pub rest : left ≡ drop 16 bytes
 
+-- what follows the last record is no lawful record header, and this ends the capture
+pub record RefusesHead (place : Place) (bytes left : List ℕ) (fault : CapFault) : Type 0 where
+  pub some : 0 < length bytes
+  pub refused : IsRefusal place (head_refusals place.file.order place.link place.number (take 16 bytes)) fault
+  pub found : found_at place bytes ≡ ended (Some fault)
+  pub rest : left ≡ drop 16 bytes
+
 abbrev pub GivesHead : Place → Result (Option RecHead) InFault → List ℕ → List ℕ → Type 0
 GivesHead place (Ok None) bytes left = (bytes ≡ []) × (left ≡ [])
 GivesHead place (Ok (Some head)) bytes left = TakesHead place bytes left head
-GivesHead place (Err (Cap fault)) bytes left = (found_at place bytes ≡ ended (Some fault)) × (left ≡ drop 16 bytes)
+GivesHead place (Err (Cap fault)) bytes left = RefusesHead place bytes left fault
 GivesHead place (Err ReadFault) bytes left = FewerGone bytes left 16
 
 abbrev pub GivesBody : Place → Result (Unit {0}) InFault → List ℕ → List ℕ → List ℕ → Type 0

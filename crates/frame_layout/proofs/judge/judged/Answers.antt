@@ -3,10 +3,11 @@ use Rattle.std.specs.Prelude.{min}
 use Rattle.net_bytes.specs.Bytes.{byte}
 use Rattle.frame_layout.specs.Shape.{Layout, shape_of}
 use Rattle.frame_layout.specs.Headers.{size, AtHeaders}
-use Rattle.frame_layout.specs.Front.{IsSummed, are_headers_right}
+use Rattle.inet_sum.specs.Sum.{fold_of}
+use Rattle.frame_layout.specs.Front.{are_headers_right}
 use Rattle.frame_layout.specs.declared.layout.Layer.TheVariants.{Ethernet}
 use Rattle.frame_layout.proofs.Bounds.{placed}
-use Rattle.frame_layout.proofs.Frames.{long_is, summed_is, shape_of_head, only_layout, inside_all, within_all, candidate_is, is_candidate, not_longer}
+use Rattle.frame_layout.proofs.Frames.{long_is, begins_is, behind_is, shape_of_head, only_layout, inside_all, within_all, candidate_is, is_candidate, not_longer}
 use Rattle.frame_layout.proofs.judge.judged.Goals as goal
 
 pub returns-then-len-gt-LONGEST-clause-judged : goal.returns-then-len-gt-LONGEST-clause-judged
@@ -30,39 +31,37 @@ returns-then-end-len-clause-judged c = λ f s l e k.
     let b : p.payload_at < length f = only_layout f p l (λ z. z.payload_at < length f) a e k.payload in
     omega (arith, b, c.payload_at-end.ensures.place, c.if-end-len.true, long, c.requires.whole)
 
-pub are_right-requires-clause-inside : goal.are_right-requires-clause-inside
-are_right-requires-clause-inside c =
+pub are_right-requires : goal.are_right-requires
+are_right-requires c =
     let p : Layout = c.in-Some.layout in
-    subst (λ n. AtHeaders (λ layer at. at + size layer ≤ n) c.headers.result.now) (sym c.payload_at-end.ensures.place)
-    (subst (AtHeaders (λ layer at. at + size layer ≤ p.payload_at)) (sym c.headers.ensures.headers)
-    (inside_all 0 p.payload_at p.headers (placed c.args.head.now (λ k. omega (arith, c.type_inv.head k)) p c.in-Some.ensures.shape).laid))
+    record {
+      inside = subst (λ n. AtHeaders (λ layer at. at + size layer ≤ n) c.headers.result.now) (sym c.payload_at-end.ensures.place)
+          (subst (AtHeaders (λ layer at. at + size layer ≤ p.payload_at)) (sym c.headers.ensures.headers)
+          (inside_all 0 p.payload_at p.headers (placed c.args.head.now (λ k. omega (arith, c.type_inv.head k)) p c.in-Some.ensures.shape).laid));
+    }
 
 pub returns-then-not-are_right-clause-judged : goal.returns-then-not-are_right-clause-judged
 returns-then-not-are_right-clause-judged c = λ f s l e k.
     let h = c.args.head.now in
     let end = c.payload_at-end.result in
+    let ends : end ≤ length h = omega (arith, c.payload_at-end.ensures.place, c.in-Some.ensures.within) in
     let enough : min (length f) 200 ≤ length h = omega (arith, long_is h c.args.rest.now f s, c.requires.whole, c.requires.enough) in
     let p : Layout = c.in-Some.layout in
     let a : Some p ≡ shape_of f = c.in-Some.ensures.shape ∙ shape_of_head h c.args.rest.now f s (λ k. omega (arith, c.type_inv.head k)) enough in
-    let z : IsSummed h end c.args.len c.joined-behind.result f =
-    summed_is h c.args.rest.now f s end c.args.len c.joined-behind.result (omega (arith, c.payload_at-end.ensures.place, c.in-Some.ensures.within)) c.requires.whole
-    (c.joined-behind.ensures.sum (take (length h - end) (drop end h)) s.tail (c.add.ensures.sum [] c.new-behind.ensures.sum) s.sum) in
     let r : are_headers_right f (record { layer = Ethernet; at = 0 }) p.headers = only_layout f p l (λ z. are_headers_right f (record { layer = Ethernet; at = 0 }) z.headers) a e (is_candidate f c.args.original l k) in
-    let t : c.are_right.result ≡ true = (c.are_right.ensures f z).1 (subst (are_headers_right f (record { layer = Ethernet; at = 0 })) (sym c.headers.ensures.headers) r) in
+    let t : c.are_right.result ≡ true = (c.are_right.ensures f (record { begins = begins_is h c.args.rest.now f s; long = long_is h c.args.rest.now f s ∙ c.requires.whole; fold = c.fold_behind.ensures s.tail s.sum ∙ ap fold_of (behind_is h c.args.rest.now f s end ends) })).1 (subst (are_headers_right f (record { layer = Ethernet; at = 0 })) (sym c.headers.ensures.headers) r) in
     absurd cc
 
 pub returns-clause-judged : goal.returns-clause-judged
 returns-clause-judged c = λ f s.
     let h = c.args.head.now in
     let end = c.payload_at-end.result in
+    let ends : end ≤ length h = omega (arith, c.payload_at-end.ensures.place, c.in-Some.ensures.within) in
     let long : length f ≡ length h + c.args.rest.now.len = long_is h c.args.rest.now f s in
     let enough : min (length f) 200 ≤ length h = omega (arith, long, c.requires.whole, c.requires.enough) in
     let p : Layout = c.in-Some.layout in
     let a : Some p ≡ shape_of f = c.in-Some.ensures.shape ∙ shape_of_head h c.args.rest.now f s (λ k. omega (arith, c.type_inv.head k)) enough in
-    let z : IsSummed h end c.args.len c.joined-behind.result f =
-    summed_is h c.args.rest.now f s end c.args.len c.joined-behind.result (omega (arith, c.payload_at-end.ensures.place, c.in-Some.ensures.within)) c.requires.whole
-    (c.joined-behind.ensures.sum (take (length h - end) (drop end h)) s.tail (c.add.ensures.sum [] c.new-behind.ensures.sum) s.sum) in
-    let r : are_headers_right f (record { layer = Ethernet; at = 0 }) p.headers = subst (are_headers_right f (record { layer = Ethernet; at = 0 })) c.headers.ensures.headers ((c.are_right.ensures f z).0 c.if-not-are_right.false) in
+    let r : are_headers_right f (record { layer = Ethernet; at = 0 }) p.headers = subst (are_headers_right f (record { layer = Ethernet; at = 0 })) c.headers.ensures.headers ((c.are_right.ensures f (record { begins = begins_is h c.args.rest.now f s; long = long_is h c.args.rest.now f s ∙ c.requires.whole; fold = c.fold_behind.ensures s.tail s.sum ∙ ap fold_of (behind_is h c.args.rest.now f s end ends) })).0 c.if-not-are_right.false) in
     (sym a, candidate_is f c.args.original p (omega (arith, c.if-original-len.false, long, c.requires.whole)) (omega (arith, c.payload_at-end.ensures.place, c.if-end-len.false, long, c.requires.whole)) r)
 
 pub returns-clause-there : goal.returns-clause-there

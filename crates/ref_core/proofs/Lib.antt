@@ -1,0 +1,5 @@
+mod Holdings
+mod Weighing
+mod Agreeing
+mod Placing
+mod Runs

@@ -1,0 +1,12 @@
+use Rattle.std.proofs.Common.{◌≡◌, ℕ, ◌-◌, Some, sym, subst, ap, ◌∙◌, slice_set}
+use Rattle.ref_core.specs.WeightMachine.{Holdings, WeightState, IsWeighed, holding_of, dropped, word_of}
+use Rattle.ref_core.proofs.Weighing.{given_back_weighed}
+use Rattle.ref_core.proofs.weight_machine.WeightMachine.give_back.Goals as goal
+
+pub invariant_of-self : goal.invariant_of-self
+invariant_of-self c = let x = c.in-Some.held in let h = c.args.holder in let old = c.self.inside in
+    let w : WeightState = record { holdings = old.holdings.entries; words = old.words.items; memory = old.memory } in
+    let e : holding_of h w.holdings ≡ Some x = subst (λ (s : WeightState). holding_of h s.holdings ≡ Some x) (sym c.self.view_is) (sym c.in-Some.ensures.value) in
+    let word : c.word.result ≡ word_of w x.block = c.word.ensures.value ∙ ap (λ (s : WeightState). word_of s x.block) (sym c.self.view_is) in
+    let Left : Holdings → ℕ → Type 0 = λ hs v. IsWeighed (record { holdings = hs; words = slice_set old.words.items x.block (v - x.weight); memory = old.memory }) in
+    subst (λ hs. Left hs c.word.result) (sym c.shift_remove.ensures.entries) (subst (Left (dropped h w.holdings)) (sym word) (given_back_weighed w c.self.invariant h x e))

@@ -1,0 +1,49 @@
+//! Who holds which block, twice over: as a set of pairs, and as weights.
+//!
+//! A block of 2048 bytes has holders, which come and go by events: take, share, read, write, give back, claim, join. The
+//! set machine keeps the pairs of holder and block, and so knows who is the only holder, and who is the last. The weight
+//! machine knows no more than each holder's weight and a word for each block, which is what a count word in memory
+//! can be. `specs/SetMachine.antt` and `specs/WeightMachine.antt` say what one step of each answers, and `step` and
+//! `run_events` of both machines are proved to answer just that.
+//!
+//! `machines_agree` is the law: over every list of events, and so over every interleaving of holders, the weights answer
+//! as the pairs do. `weights_balance` is the rule by which a word and what was given back add up to the full weight.
+//!
+//! ```
+//! let mut machine = WeightMachine::make(alloc, 1)?;
+//! machine.step(Event::Take { block: 0, holder: 1 })?; // Done
+//! machine.step(Event::Share { holder: 1, fresh: 2, give: 5 })?; // Done
+//! machine.step(Event::GiveBack { holder: 2 })?; // Left
+//! ```
+#![tactic(auto)]
+
+ghost use Rattle.ref_core.specs.Agreement.{MachinesAgree};
+ghost use Rattle.ref_core.specs.WeightRule.{WeightRule};
+
+mod event;
+mod memory;
+mod set_machine;
+#[cfg(test)]
+mod tests;
+mod weight_machine;
+
+pub use event::{Answer, Event};
+pub use set_machine::SetMachine;
+pub use weight_machine::WeightMachine;
+
+/// The weight of a whole block.
+pub const FULL: u64 = 1 << 62;
+
+/// How many bytes a block has.
+pub const BLOCK_SIZE: usize = 2048;
+
+/// The law of the two machines: over every list of events at which the weight machine answers no `BadGive`, both give
+/// the same answers.
+pub fn machines_agree()
+    ensures { MachinesAgree }
+{}
+
+/// The rule of weights, which each step on a shared block's word keeps.
+pub fn weights_balance()
+    ensures { WeightRule }
+{}
