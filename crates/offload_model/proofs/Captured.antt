@@ -1,6 +1,6 @@
 -- What a capture of Ethernet frames holds.
-use Rattle.std.proofs.Common.{Bool, ◌≡◌, ℕ, zero, suc, ◌+◌, ◌-◌, ◌^◌, ◌<◌, ◌≤◌, inl, inr, false, Option, Some, None, List, [], ◌∷◌, take, drop, refl, arith, length-take}
-use Rattle.std.specs.Prelude.{nat_le}
+use Rattle.std.proofs.Common.{Bool, true, ◌≡◌, ℕ, zero, suc, ◌+◌, ◌-◌, ◌^◌, ◌<◌, ◌≤◌, inl, inr, false, Option, Some, None, List, [], ◌∷◌, take, drop, refl, arith, length-take}
+use Rattle.std.specs.Prelude.{if◌then◌else◌, nat_le}
 use Rattle.std.specs.List.{AllByRecursion}
 use Rattle.std.proofs.lemmas.List.{get_or-take, get_or-drop, get_or_past}
 use Rattle.std.proofs.lemmas.Bool.{cases_lt, ltb-false, leb-false}
@@ -12,7 +12,6 @@ use Rattle.pcap_io.specs.Capture.{Packet, Found, packet_at, judged, records_from
 use Rattle.pcap_io.specs.Headers.{first_that_holds, record_refusals, captured_length, original_length, file_refusals, order_of}
 use Rattle.pcap_io.specs.declared.faults.CapKind.{CapKind}
 use Rattle.pcap_io.specs.declared.heads.Link.TheVariants.{Ethernet}
-use Rattle.pcap_io.proofs.Fronts.{not_first}
 use Rattle.offload_model.specs.Laws.{InBytes}
 use Rattle.offload_model.specs.CaptureLaws.{IsCaptured, AreCaptured, CapturesAreCaptured}
 
@@ -43,6 +42,10 @@ rising_from : (n : ℕ) (ps : List Packet) → AreFrom n ps → AllNeighbours (�
 rising_from n [] a = tt
 rising_from n (p ∷ []) a = tt
 rising_from n (p ∷ q ∷ ps) a = (omega (arith, a.0, a.2.0), rising_from (n + 1) (q ∷ ps) a.2)
+
+not_first : (b : Bool) (kind : CapKind) (rest : Option CapKind) → (if b then Some kind else rest) ≡ None → (b ≡ false) × (rest ≡ None)
+not_first true kind rest e = absurd cc
+not_first false kind rest e = (refl, e)
 
 -- where no refusal stands, none holds
 none_holds : (rows : List (Bool × CapKind)) → first_that_holds rows ≡ None → AllByRecursion (λ row. row.0 ≡ false) rows
