@@ -1,9 +1,9 @@
 -- A shape has an IP header, and at most two of them.
-use Rattle.std.proofs.Common.{◌≡◌, ℕ, zero, suc, ◌+◌, ◌*◌, ◌/◌, ◌≤◌, Bool, true, false, Option, Some, None, List, [], ◌∷◌, sym, ap, ◌∙◌, subst, arith}
+use Rattle.std.proofs.Common.{◌≡◌, ℕ, zero, suc, ◌+◌, ◌*◌, ◌/◌, ◌≤◌, Bool, true, false, Option, Some, None, List, [], subst, arith}
 use Rattle.std.specs.Prelude.{◌==◌, if◌then◌else◌}
 use Rattle.net_bytes.specs.Bytes.{byte, be16}
 use Rattle.eth_vlan.specs.Tag.{is_tag}
-use Rattle.frame_layout.specs.Shape.{Layout, header, tcp_from, carried_from, ip4_from, ip6_from, network_from, typed_from, ethernet_from, vxlan_from, shape_of}
+use Rattle.frame_layout.specs.Shape.{Layout, header, tcp_from, carried_from, network_from, typed_from, ethernet_from, vxlan_from, shape_of}
 use Rattle.frame_layout.specs.declared.layout.Layer.{Layer}
 use Rattle.frame_layout.specs.declared.layout.Layer.TheVariants.{Ethernet, Tag, Ip4, Ip6, Udp, Vxlan, Tcp}
 use Rattle.frame_layout.proofs.Shapes.{found, with_header}
@@ -50,8 +50,8 @@ module _ (f : List ℕ) where
     counted_network kind at = counted_if 1 (1 + most) (kind == 0x0800) _ _
         (counted_header 0 most 1 (1 + most) Ip4 at _ _ (omega arith) (omega arith) (counted_carried (byte f (at + 9)) (at + 20)))
         (counted_if 1 (1 + most) (kind == 0x86dd) _ _
-          (counted_header 0 most 1 (1 + most) Ip6 at _ _ (omega arith) (omega arith) (counted_carried (byte f (at + 6)) (at + 40)))
-          (counted_none 1 (1 + most)))
+        (counted_header 0 most 1 (1 + most) Ip6 at _ _ (omega arith) (omega arith) (counted_carried (byte f (at + 6)) (at + 40)))
+        (counted_none 1 (1 + most)))
 
     counted_typed : (tags at : ℕ) → Counted 1 (1 + most) (typed_from f tunnel tags at)
     counted_typed zero at = counted_network (be16 f at) (at + 2)
@@ -65,7 +65,7 @@ module _ (f : List ℕ) where
   counted_vxlan : (at : ℕ) → Counted 0 1 (vxlan_from f at)
   counted_vxlan at = counted_header 0 1 0 1 Udp at _ _ (omega arith) (omega arith)
       (counted_header 0 1 0 1 Vxlan (at + 8) _ _ (omega arith) (omega arith)
-        (counted_more 1 (1 + 0) 0 1 _ (omega arith) (omega arith) (counted_ethernet 0 (λ _. None) (λ a. counted_none 0 0) (at + 16))))
+      (counted_more 1 (1 + 0) 0 1 _ (omega arith) (omega arith) (counted_ethernet 0 (λ _. None) (λ a. counted_none 0 0) (at + 16))))
 
   pub counts : (l : Layout) → shape_of f ≡ Some l → (1 ≤ ip_count l.headers) × (ip_count l.headers ≤ 2)
   unfolding shape_of

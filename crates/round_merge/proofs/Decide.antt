@@ -1,24 +1,24 @@
 -- What the tests of the next packet say of the run.
-use Rattle.std.proofs.Common.{◌≡◌, ℕ, zero, suc, ◌+◌, ◌-◌, ◌*◌, ◌/◌, ◌%◌, ◌^◌, ◌<◌, ◌≤◌, ◌⊎◌, inl, inr, Bool, true, false, Option, Some, None, List, [], ◌∷◌, ◌++◌, length, get_or, map, take, drop, refl, sym, ap, ◌∙◌, subst, arith, length-append}
-use Rattle.std.specs.Prelude.{◌==◌, ◌&&◌, ◌||◌, if◌then◌else◌}
+use Rattle.std.proofs.Common.{◌≡◌, ℕ, suc, ◌+◌, ◌-◌, ◌*◌, ◌%◌, ◌^◌, ◌<◌, ◌≤◌, inl, inr, Bool, true, false, Some, List, [], ◌∷◌, ◌++◌, length, get_or, drop, refl, sym, ap, ◌∙◌, subst, arith, length-append}
+use Rattle.std.specs.Prelude.{◌==◌, ◌||◌}
 use Rattle.std.proofs.lemmas.Bool.{and_parts, and_from, or_cases, eqb-true, eq-eqb, ne_eqb}
 use Rattle.std.proofs.lemmas.List.{length-drop}
 use Rattle.std.proofs.lemmas.List.Concat.{flat_map-append}
-use Rattle.net_bytes.specs.Bytes.{byte, be16, be32}
+use Rattle.net_bytes.specs.Bytes.{byte, be16}
 use Rattle.ip_headers.specs.Ip4.{dont_fragment}
 use Rattle.frame_layout.specs.Shape.{Layout, shape_of}
-use Rattle.frame_layout.specs.Headers.{AtHeaders, AreHeadersAlike}
+use Rattle.frame_layout.specs.Headers.{AtHeaders}
 use Rattle.frame_layout.specs.Candidate.{IsCandidate}
 use Rattle.frame_layout.specs.declared.layout.Header.{Header}
 use Rattle.frame_layout.specs.declared.layout.Layer.{Layer}
-use Rattle.frame_layout.specs.declared.layout.Layer.TheVariants.{Ethernet, Tag, Ip4, Ip6, Udp, Vxlan, Tcp}
+use Rattle.frame_layout.specs.declared.layout.Layer.TheVariants.{Ip4, Ip6}
 use Rattle.frame_layout.proofs.Shapes.{laid}
 use Rattle.pcap_io.specs.Capture.{Packet}
-use Rattle.offload_model.specs.Each.{Each, EachButLast}
-use Rattle.offload_model.specs.Mergeable.{AreUdpSumsAlike, IsAckAlone, IsSequenceBehind, AreIdsInStep, IsLengthInRange, AreConsecutive, payloads_of}
+use Rattle.offload_model.specs.Each.{Each}
+use Rattle.offload_model.specs.Mergeable.{AreUdpSumsAlike, IsSequenceBehind, AreIdsInStep, IsLengthInRange, payloads_of}
 use Rattle.offload_model.specs.Merged.{is_fixed_in, modes_at, modes_of}
-use Rattle.offload_model.proofs.Grows.{Continues, grows, grown, AreIdsRising, AreIdsStaying, ids_rise, ids_stay, ids_before}
-use Rattle.round_merge.specs.Next.{is_next_at, is_next_id_at, modes_behind, are_ids_next, IsNext}
+use Rattle.offload_model.proofs.Grows.{Continues, AreIdsRising, AreIdsStaying, ids_rise, ids_stay, ids_before}
+use Rattle.round_merge.specs.Next.{is_next_id_at, modes_behind, are_ids_next, IsNext}
 use Rattle.round_merge.specs.Runs.{IsProgress}
 use Rattle.round_merge.proofs.Headers.{headers_from, headers_to, zip_headers, next_udp, next_sequence, next_fits, IsNextAt, next_to}
 
@@ -62,7 +62,7 @@ module _ (p x : Packet) (small : (k : ℕ) → byte p.frame k < 256) where
       → AreIdsInStep p.frame (p ∷ ps) l at → is_next_id_at (length (p ∷ ps)) modes p.frame x.frame l at ≡ true
       → AreIdsInStep p.frame ((p ∷ ps) ++ (x ∷ [])) l at
   id_at_from [] modes s Ip4 at know i e = elim (or_cases _ _ e) [
-      inl t ↦ ids_rise p.frame (p ∷ []) x at (rising_one at) (eqb-true _ _ t)
+    | inl t ↦ ids_rise p.frame (p ∷ []) x at (rising_one at) (eqb-true _ _ t)
     | inr t ↦ let u : (dont_fragment p.frame at ≡ true) × ((be16 x.frame (at + 4) == be16 p.frame (at + 4)) ≡ true) = and_parts _ _ t in
         ids_stay p.frame (p ∷ []) x at u.0 (staying_one at) (eqb-true _ _ u.1)
   ]
@@ -77,11 +77,11 @@ module _ (p x : Packet) (small : (k : ℕ) → byte p.frame k < 256) where
   id_at_to : (ps : List Packet) (modes s : ℕ) (l : Layer) (at : ℕ) → (2 ≤ length (p ∷ ps) → modes ≡ modes_at l (is_fixed_in (p ∷ ps) at) s)
       → AreIdsInStep p.frame ((p ∷ ps) ++ (x ∷ [])) l at → is_next_id_at (length (p ∷ ps)) modes p.frame x.frame l at ≡ true
   id_at_to [] modes s Ip4 at know i = elim (ids_before p.frame (p ∷ []) x at i) [
-      inl t ↦ or_left _ _ (eq-eqb _ _ t.1)
+    | inl t ↦ or_left _ _ (eq-eqb _ _ t.1)
     | inr t ↦ or_right _ _ (and_from _ _ t.0 (eq-eqb _ _ t.2))
   ]
   id_at_to (q ∷ qs) modes s Ip4 at know i = elim (ids_before p.frame (p ∷ q ∷ qs) x at i) [
-      inl t ↦
+    | inl t ↦
         let m : (modes % 2 == 1) ≡ false = low (is_fixed_in (p ∷ q ∷ qs) at) modes s (know (omega arith)) ∙ second_rises q qs at t.0 in
         rw (more (length qs), m) (eq-eqb _ _ t.1)
     | inr t ↦
@@ -101,16 +101,17 @@ module _ (p x : Packet) (small : (k : ℕ) → byte p.frame k < 256) where
       → AtHeaders (AreIdsInStep p.frame ((p ∷ ps) ++ (x ∷ []))) hs
   ids_from ps modes [] know i e = tt
   ids_from ps modes (h ∷ hs) know i e =
-      let s : (is_next_id_at (length (p ∷ ps)) modes p.frame x.frame h.layer h.at ≡ true) × (are_ids_next (length (p ∷ ps)) (modes_behind h.layer modes) p.frame x.frame hs ≡ true) = and_parts _ _ e in
-      ( id_at_from ps modes (modes_of (is_fixed_in (p ∷ ps)) hs) h.layer h.at know i.0 s.0
-      , ids_from ps (modes_behind h.layer modes) hs (λ two. ap (modes_behind h.layer) (know two) ∙ behind h.layer (is_fixed_in (p ∷ ps) h.at) (modes_of (is_fixed_in (p ∷ ps)) hs)) i.1 s.1 )
+      let s : (is_next_id_at (length (p ∷ ps)) modes p.frame x.frame h.layer h.at ≡ true) × (are_ids_next (length (p ∷ ps)) (modes_behind h.layer modes) p.frame x.frame hs ≡ true) = and_parts _ _ e in (
+        id_at_from ps modes (modes_of (is_fixed_in (p ∷ ps)) hs) h.layer h.at know i.0 s.0,
+        ids_from ps (modes_behind h.layer modes) hs (λ two. ap (modes_behind h.layer) (know two) ∙ behind h.layer (is_fixed_in (p ∷ ps) h.at) (modes_of (is_fixed_in (p ∷ ps)) hs)) i.1 s.1,
+      )
 
   pub ids_to : (ps : List Packet) (modes : ℕ) (hs : List Header) → (2 ≤ length (p ∷ ps) → modes ≡ modes_of (is_fixed_in (p ∷ ps)) hs)
       → AtHeaders (AreIdsInStep p.frame ((p ∷ ps) ++ (x ∷ []))) hs → are_ids_next (length (p ∷ ps)) modes p.frame x.frame hs ≡ true
   ids_to ps modes [] know i = refl
   ids_to ps modes (h ∷ hs) know i =
       and_from _ _ (id_at_to ps modes (modes_of (is_fixed_in (p ∷ ps)) hs) h.layer h.at know i.0)
-        (ids_to ps (modes_behind h.layer modes) hs (λ two. ap (modes_behind h.layer) (know two) ∙ behind h.layer (is_fixed_in (p ∷ ps) h.at) (modes_of (is_fixed_in (p ∷ ps)) hs)) i.1)
+      (ids_to ps (modes_behind h.layer modes) hs (λ two. ap (modes_behind h.layer) (know two) ∙ behind h.layer (is_fixed_in (p ∷ ps) h.at) (modes_of (is_fixed_in (p ∷ ps)) hs)) i.1)
 
 -- ---- lengths
 
@@ -122,13 +123,24 @@ full_payloads layout n [] e = omega arith
 full_payloads layout n (p ∷ ps) e =
     let m : ℕ = n - layout.payload_at in
     let s : suc (length ps) * m ≡ m + length ps * m = omega arith in
-    omega (arith, length-append (drop layout.payload_at p.frame) (payloads_of layout ps), length-drop layout.payload_at p.frame, e.at 0 p (omega arith),
-      full_payloads layout n ps (each_tail (λ p. length p.frame ≡ n) p ps e), s)
+    omega (
+      arith,
+      length-append (drop layout.payload_at p.frame) (payloads_of layout ps),
+      length-drop layout.payload_at p.frame,
+      e.at 0 p (omega arith),
+      full_payloads layout n ps (each_tail (λ p. length p.frame ≡ n) p ps e),
+      s,
+    )
 
 pub more_payloads : (layout : Layout) (ps : List Packet) (x : Packet) → length (payloads_of layout (ps ++ (x ∷ []))) ≡ length (payloads_of layout ps) + (length x.frame - layout.payload_at)
 more_payloads layout ps x =
-    omega (arith, ap length (flat_map-append (λ (p : Packet). drop layout.payload_at p.frame) ps (x ∷ [])),
-      length-append (payloads_of layout ps) (drop layout.payload_at x.frame ++ []), length-append (drop layout.payload_at x.frame) [], length-drop layout.payload_at x.frame)
+    omega (
+      arith,
+      ap length (flat_map-append (λ (p : Packet). drop layout.payload_at p.frame) ps (x ∷ [])),
+      length-append (payloads_of layout ps) (drop layout.payload_at x.frame ++ []),
+      length-append (drop layout.payload_at x.frame) [],
+      length-drop layout.payload_at x.frame,
+    )
 
 -- ---- what the state and the tests together say
 
@@ -137,9 +149,9 @@ module _ (layout : Layout) (p : Packet) (ps : List Packet) (x : Packet) (total m
       → IsNext layout p.frame (length (p ∷ ps)) total modes x.frame → Continues layout p.frame (p ∷ ps) x
   continues r c s t =
       let n : total - layout.payload_at ≡ length (p ∷ ps) * (length p.frame - layout.payload_at)
-        = omega (arith, r.long, full_payloads layout (length p.frame) (p ∷ ps) (r.full refl)) in
+      = omega (arith, r.long, full_payloads layout (length p.frame) (p ∷ ps) (r.full refl)) in
       let len : total + (length x.frame - layout.payload_at) ≡ layout.payload_at + length (payloads_of layout ((p ∷ ps) ++ (x ∷ [])))
-        = omega (arith, r.long, more_payloads layout (p ∷ ps) x) in
+      = omega (arith, r.long, more_payloads layout (p ∷ ps) x) in
       record {
         shape_is = s;
         candidate = c;
@@ -160,17 +172,19 @@ module _ (layout : Layout) (p : Packet) (ps : List Packet) (x : Packet) (total m
   passes false r c = absurd (r.shut refl c.full c.flags)
   passes true r c =
       let n : length (p ∷ ps) * (length p.frame - layout.payload_at) ≡ total - layout.payload_at
-        = omega (arith, r.long, full_payloads layout (length p.frame) (p ∷ ps) (r.full refl)) in
+      = omega (arith, r.long, full_payloads layout (length p.frame) (p ∷ ps) (r.full refl)) in
       let len : layout.payload_at + length (payloads_of layout ((p ∷ ps) ++ (x ∷ []))) ≡ total + (length x.frame - layout.payload_at)
-        = omega (arith, r.long, more_payloads layout (p ∷ ps) x) in
-      (refl, record {
-        shorter = c.shorter;
-        there = (laid x.frame layout c.shape_is).1;
-        alike = λ k b o. sym (c.headers k b o);
-        numbers = headers_to _ (IsNextAt p.frame x.frame (total - layout.payload_at) (total + (length x.frame - layout.payload_at)))
-            (next_to p.frame x.frame (total - layout.payload_at) (total + (length x.frame - layout.payload_at))) layout.headers
-            (zip_headers _ _ layout.headers c.udp_sums (zip_headers _ _ layout.headers
+      = omega (arith, r.long, more_payloads layout (p ∷ ps) x) in (
+        refl,
+        record {
+          shorter = c.shorter;
+          there = (laid x.frame layout c.shape_is).1;
+          alike = λ k b o. sym (c.headers k b o);
+          numbers = headers_to _ (IsNextAt p.frame x.frame (total - layout.payload_at) (total + (length x.frame - layout.payload_at)))
+              (next_to p.frame x.frame (total - layout.payload_at) (total + (length x.frame - layout.payload_at))) layout.headers
+              (zip_headers _ _ layout.headers c.udp_sums (zip_headers _ _ layout.headers
               (subst (λ n. AtHeaders (IsSequenceBehind p.frame x.frame n) layout.headers) n c.sequence)
               (subst (λ n. AtHeaders (IsLengthInRange n) layout.headers) len c.fits)));
-        ids = ids_to p x small ps modes layout.headers r.staying c.ids;
-      })
+          ids = ids_to p x small ps modes layout.headers r.staying c.ids;
+        },
+      )

@@ -1,15 +1,15 @@
 -- All packets of a round, one after the other.
-use Rattle.std.proofs.Common.{◌≡◌, ℕ, zero, suc, ◌+◌, ◌%◌, ◌<◌, ◌≤◌, Bool, true, false, Option, Some, None, List, [], ◌∷◌, ◌++◌, length, get_or, map, refl, sym, ap, ◌∙◌, subst, arith, append_assoc}
+use Rattle.std.proofs.Common.{◌≡◌, ℕ, ◌<◌, true, Option, Some, None, List, [], ◌∷◌, ◌++◌, map, refl, sym, ap, ◌∙◌, subst, arith, append_assoc}
 use Rattle.std.specs.Prelude.{◌==◌}
 use Rattle.std.specs.List.{AllByRecursion, filter}
 use Rattle.std.proofs.lemmas.Bool.{eq-eqb}
-use Rattle.std.proofs.lemmas.List.{map-append, append-nil, get_or_push}
+use Rattle.std.proofs.lemmas.List.{map-append}
 use Rattle.run_cuts.specs.Cut.{AllNeighbours}
 use Rattle.run_cuts.specs.Items.{first_number, AreItems}
 use Rattle.run_cuts.proofs.Items.{unique_items}
-use Rattle.run_cuts.proofs.Pass.{all_append, all_front, all_back}
+use Rattle.run_cuts.proofs.Pass.{all_front, all_back}
 use Rattle.pcap_io.specs.Capture.{Packet}
-use Rattle.frame_layout.specs.Key.{key_of, hash_of, queue_of}
+use Rattle.frame_layout.specs.Key.{key_of, queue_of}
 use Rattle.offload_model.specs.Mergeable.{IsMergeable}
 use Rattle.offload_model.specs.Rounds.{is_of, is_queued, key_in, number_of, items_of}
 use Rattle.offload_model.proofs.Fronts.{fronts_too}
@@ -39,7 +39,7 @@ pub items_more : (xs : List Held) (x : Held) (ys : List Held) (old new : List (L
     → AreItems IsMergeable is_of number_of (map packet_of xs) old → AreItems IsMergeable is_of number_of (map packet_of (xs ++ (x ∷ []))) new
 items_more xs x ys old new r takes begun items =
     subst (λ z. AreItems IsMergeable is_of number_of z new) (sym (map-append packet_of xs (x ∷ [])))
-      (takes (map packet_of xs) (begun x.number (before xs x ys r)) items)
+    (takes (map packet_of xs) (begun x.number (before xs x ys r)) items)
 
 pub on : {X : Type 0} (xs : List X) (x : X) (ys zs all : List X) → xs ++ zs ≡ all → zs ≡ x ∷ ys → (xs ++ (x ∷ [])) ++ ys ≡ all
 on xs x ys zs all e f = append_assoc xs (x ∷ []) ys ∙ ap (λ z. xs ++ z) (sym f) ∙ e
@@ -66,7 +66,7 @@ pub all_runs : (xs : List Held) (runs : List (List Packet)) → AreRising xs →
 all_runs xs runs r items =
     let ps : List Packet = map packet_of xs in
     let own : AreItems IsMergeable is_of number_of ps (items_of 1 0 ps)
-      = subst (λ z. AreItems IsMergeable is_of number_of z (items_of 1 0 ps)) (all_queued ps) (items_are 1 0 ps (rising_map xs r)) in
+    = subst (λ z. AreItems IsMergeable is_of number_of z (items_of 1 0 ps)) (all_queued ps) (items_are 1 0 ps (rising_map xs r)) in
     unique_items is_of number_of key_in (λ p. is_key_self (key_of p.frame)) IsMergeable fronts_too ps runs (items_of 1 0 ps) items own ∙ one_queue ps
 
 pub none : AreItems IsMergeable is_of number_of [] []

@@ -1,11 +1,10 @@
 -- Tests of headers and the facts that they stand for.
-use Rattle.std.proofs.Common.{◌≡◌, ℕ, zero, suc, ◌+◌, ◌-◌, ◌*◌, ◌%◌, ◌^◌, ◌<◌, ◌≤◌, ◌⊎◌, inl, inr, Bool, true, false, List, [], ◌∷◌, length, get_or, take, drop, refl, sym, ap, ◌∙◌, subst, arith}
-use Rattle.std.specs.Prelude.{◌==◌, ◌&&◌, ◌||◌, not, nat_le, if◌then◌else◌, ◌↔◌}
+use Rattle.std.proofs.Common.{◌≡◌, ℕ, zero, suc, ◌+◌, ◌-◌, ◌*◌, ◌<◌, ◌≤◌, ◌⊎◌, inl, inr, Bool, true, false, List, [], ◌∷◌, length, get_or, take, drop, refl, sym, ap, ◌∙◌, subst, arith}
+use Rattle.std.specs.Prelude.{◌==◌, ◌&&◌, ◌||◌, not, ◌↔◌}
 use Rattle.std.proofs.lemmas.Bool.{and_parts, and_from, leb-true, le-leb, eqb-true, eq-eqb, ne_eqb, cases_lt}
 use Rattle.std.proofs.lemmas.List.{drop_more, length-drop, length-take-le, get_or-take, get_or-drop, ext_get_or}
-use Rattle.net_bytes.specs.Bytes.{byte, be16, be32}
-use Rattle.frame_layout.specs.Shape.{Layout}
-use Rattle.frame_layout.specs.Headers.{AtHeaders, IsOutside, AreHeadersAlike, AreLaid, size}
+use Rattle.net_bytes.specs.Bytes.{byte, be16}
+use Rattle.frame_layout.specs.Headers.{AtHeaders, IsOutside, AreLaid, size}
 use Rattle.frame_layout.specs.declared.layout.Header.{Header}
 use Rattle.frame_layout.specs.declared.layout.Layer.{Layer}
 use Rattle.frame_layout.specs.declared.layout.Layer.TheVariants.{Ethernet, Tag, Ip4, Ip6, Udp, Vxlan, Tcp}
@@ -131,22 +130,26 @@ module _ (f g : List ℕ) (end : ℕ) where
   -- a header's own places
   here_to : (from k at : ℕ) (layer : Layer) → IsAlikeTo f g from layer at → from ≤ k → IsOutside k layer at → (byte f k ≡ byte g k) ⊎ (fields_end from layer at ≤ k)
   here_to from k at Ip4 a h o = elim (cases_lt k (at + 2)) [
-      inl b ↦ inl (a.0 k h b)
-    | inr b ↦ elim (cases_lt k (at + 10)) [ inl c ↦ inl (a.1 k (omega (arith, o.0)) c) | inr c ↦ inr (omega (arith, o.1)) ] ]
+    | inl b ↦ inl (a.0 k h b)
+    | inr b ↦ elim (cases_lt k (at + 10)) [ inl c ↦ inl (a.1 k (omega (arith, o.0)) c) | inr c ↦ inr (omega (arith, o.1)) ]
+  ]
   here_to from k at Ip6 a h o = elim (cases_lt k (at + 4)) [ inl b ↦ inl (a k h b) | inr b ↦ inr (omega (arith, o)) ]
   here_to from k at Udp a h o = elim (cases_lt k (at + 4)) [ inl b ↦ inl (a k h b) | inr b ↦ inr (omega (arith, o)) ]
   here_to from k at Tcp a h o = elim (cases_lt k (at + 4)) [
-      inl b ↦ inl (a.0 k h b)
+    | inl b ↦ inl (a.0 k h b)
     | inr b ↦ elim (cases_lt k (at + 13)) [
-        inl c ↦ inl (a.1 k (omega (arith, o.0)) c)
-      | inr c ↦ elim (cases_lt k (at + 16)) [ inl d ↦ inl (a.2 k (omega (arith, o.1)) d) | inr d ↦ inr (omega (arith, o.2)) ] ] ]
+      | inl c ↦ inl (a.1 k (omega (arith, o.0)) c)
+      | inr c ↦ elim (cases_lt k (at + 16)) [ inl d ↦ inl (a.2 k (omega (arith, o.1)) d) | inr d ↦ inr (omega (arith, o.2)) ]
+    ]
+  ]
   here_to from k at _ a h o = inr h
 
   pub alike_to : (from : ℕ) (hs : List Header) → AreAlikeFrom f g end from hs → (k : ℕ) → from ≤ k → k < end → AtHeaders (IsOutside k) hs → byte f k ≡ byte g k
   alike_to from [] a k h b o = a k h b
   alike_to from (x ∷ hs) a k h b o = elim (here_to from k x.at x.layer a.0 h o.0) [
-      inl e ↦ e
-    | inr c ↦ alike_to (fields_end from x.layer x.at) hs a.1 k c b o.1 ]
+    | inl e ↦ e
+    | inr c ↦ alike_to (fields_end from x.layer x.at) hs a.1 k c b o.1
+  ]
 
   here_from : (from at : ℕ) (layer : Layer) → from ≤ at
       → ((k : ℕ) → from ≤ k → k < at + size layer → IsOutside k layer at → byte f k ≡ byte g k) → IsAlikeTo f g from layer at
@@ -154,9 +157,10 @@ module _ (f g : List ℕ) (end : ℕ) where
   here_from from at Ip6 h a = λ k b c. a k b (omega arith) (inl c)
   here_from from at Udp h a = λ k b c. a k b (omega arith) (inl c)
   here_from from at Tcp h a = (
-      λ k b c. a k b (omega arith) (inl c, inl (omega arith), inl (omega arith)),
-      λ k b c. a k (omega arith) (omega arith) (inr b, inl c, inl (omega arith)),
-      λ k b c. a k (omega arith) (omega arith) (inr (omega arith), inr b, inl c))
+    λ k b c. a k b (omega arith) (inl c, inl (omega arith), inl (omega arith)),
+    λ k b c. a k (omega arith) (omega arith) (inr b, inl c, inl (omega arith)),
+    λ k b c. a k (omega arith) (omega arith) (inr (omega arith), inr b, inl c),
+  )
   here_from from at _ h a = tt
 
   -- a place behind a header's fields is outside them
@@ -178,9 +182,10 @@ module _ (f g : List ℕ) (end : ℕ) where
       → ((k : ℕ) → from ≤ k → k < end → AtHeaders (IsOutside k) hs → byte f k ≡ byte g k) → AreAlikeFrom f g end from hs
   alike_from from [] l a = λ k h b. a k h b tt
   alike_from from (x ∷ hs) l a = (
-      here_from from x.at x.layer l.0 (λ k h b o. a k h (omega (arith, laid_end (x.at + size x.layer) hs end l.1)) (o, before_all k (x.at + size x.layer) end hs b l.1)),
-      alike_from (fields_end from x.layer x.at) hs (laid_next from end x.at x.layer hs l.0 l.1)
-        (λ k h b o. a k (omega (arith, fields_above from x.at x.layer l.0)) b (behind_fields from k x.at x.layer h, o)))
+    here_from from x.at x.layer l.0 (λ k h b o. a k h (omega (arith, laid_end (x.at + size x.layer) hs end l.1)) (o, before_all k (x.at + size x.layer) end hs b l.1)),
+    alike_from (fields_end from x.layer x.at) hs (laid_next from end x.at x.layer hs l.0 l.1)
+        (λ k h b o. a k (omega (arith, fields_above from x.at x.layer l.0)) b (behind_fields from k x.at x.layer h, o)),
+  )
 
 -- ---- walks along the headers
 
@@ -199,8 +204,8 @@ same_parts f g from to n e hf hg a =
     let lf : length (take n (drop from f)) ≡ n = length-take-le n (drop from f) (omega (arith, length-drop from f)) in
     let lg : length (take n (drop from g)) ≡ n = length-take-le n (drop from g) (omega (arith, length-drop from g)) in
     ext_get_or 0 (take n (drop from f)) (take n (drop from g)) (lf ∙ sym lg)
-      (λ k h. let b : k < n = omega arith in
-        get_or-take n (drop from f) k 0 b ∙ get_or-drop from f k 0 ∙ a (from + k) (omega arith) (omega arith) ∙ sym (get_or-drop from g k 0) ∙ sym (get_or-take n (drop from g) k 0 b))
+    (λ k h. let b : k < n = omega arith in
+    get_or-take n (drop from f) k 0 b ∙ get_or-drop from f k 0 ∙ a (from + k) (omega arith) (omega arith) ∙ sym (get_or-drop from g k 0) ∙ sym (get_or-take n (drop from g) k 0 b))
 
 pub parts_same : (f g : List ℕ) (from to n : ℕ) → from + n ≡ to → take n (drop from f) ≡ take n (drop from g) → AreSame f g from to
 parts_same f g from to n e p = λ k a b.
@@ -208,7 +213,7 @@ parts_same f g from to n e p = λ k a b.
     let back : from + i ≡ k = omega arith in
     let l : i < n = omega arith in
     subst (λ z. byte f z ≡ byte g z) back
-      (sym (get_or-drop from f i 0) ∙ sym (get_or-take n (drop from f) i 0 l) ∙ ap (λ z. get_or z i 0) p ∙ get_or-take n (drop from g) i 0 l ∙ get_or-drop from g i 0)
+    (sym (get_or-drop from f i 0) ∙ sym (get_or-take n (drop from f) i 0 l) ∙ ap (λ z. get_or z i 0) p ∙ get_or-take n (drop from g) i 0 l ∙ get_or-drop from g i 0)
 
 -- ---- the header at a place, on the way along the headers
 

@@ -5,3 +5,4 @@ mod Knows
 mod Steps
 mod Index
 mod Gather
+mod Merge

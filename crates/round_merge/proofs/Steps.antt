@@ -1,5 +1,5 @@
 -- One more packet, on lists of runs: a run of its flow takes it, or it opens one.
-use Rattle.std.proofs.Common.{◌≡◌, ℕ, zero, suc, ◌+◌, ◌<◌, ◌≤◌, ◌≢◌, ◌⊎◌, inl, inr, Bool, true, false, Option, Some, None, List, [], ◌∷◌, ◌++◌, length, get_or, map, set, take, drop, refl, sym, ap, ◌∙◌, subst, arith, length-append}
+use Rattle.std.proofs.Common.{◌≡◌, ℕ, zero, suc, ◌+◌, ◌<◌, ◌≢◌, Bool, true, false, Option, Some, None, List, [], ◌∷◌, ◌++◌, length, get_or, map, set, take, drop, refl, sym, ap, ◌∙◌, subst, arith, length-append}
 use Rattle.std.specs.List.{AllByRecursion, filter}
 use Rattle.std.proofs.lemmas.List.{set_split, take-append-drop, drop_more, get_or-drop, length-drop, length-map, same_from_push}
 use Rattle.std.proofs.lemmas.List.Elements.{filter-append}
@@ -42,12 +42,12 @@ module _ (x : Packet) (key : Option (List ℕ)) (is : key_of x.frame ≡ key) wh
       let n : suc i ≡ i + 1 = omega arith in
       let same : key_of y.frame ≡ key = sym (is_key_same key (key_of y.frame) (ap (begins_in (is_of key)) e ∙ last.1 [])) in
       subst (λ z. AreItems IsMergeable is_of number_of (packets ++ (x ∷ [])) z)
-        (sym (set_split rs i ((y ∷ rest) ++ (x ∷ [])) last.0 ∙ ap (λ z. take i rs ++ (((y ∷ rest) ++ (x ∷ [])) ∷ drop z rs)) n))
-        (extends_item IsMergeable is_of number_of packets x (take i rs) (drop (i + 1) rs) y rest
-          (λ k. ap (is_key k) (is ∙ sym same))
-          (λ k t. subst (λ z. AllByRecursion (λ r. begins_in (is_of z) r ≡ false) (drop (i + 1) rs)) (of_flow k t) (none_behind rs key i last.2))
-          m
-          (subst (λ z. AreItems IsMergeable is_of number_of packets z) split items))
+      (sym (set_split rs i ((y ∷ rest) ++ (x ∷ [])) last.0 ∙ ap (λ z. take i rs ++ (((y ∷ rest) ++ (x ∷ [])) ∷ drop z rs)) n))
+      (extends_item IsMergeable is_of number_of packets x (take i rs) (drop (i + 1) rs) y rest
+      (λ k. ap (is_key k) (is ∙ sym same))
+      (λ k t. subst (λ z. AllByRecursion (λ r. begins_in (is_of z) r ≡ false) (drop (i + 1) rs)) (of_flow k t) (none_behind rs key i last.2))
+      m
+      (subst (λ z. AreItems IsMergeable is_of number_of packets z) split items))
 
   pub run_opens : (rs : List (List Packet)) (o : Option ℕ)
       → IsLastBelow (begins_in (is_of key)) rs (length rs) o
@@ -55,22 +55,22 @@ module _ (x : Packet) (key : Option (List ℕ)) (is : key_of x.frame ≡ key) wh
       → TakesPacket rs x (rs ++ ((x ∷ []) ∷ []))
   run_opens rs None last full = λ packets later items.
       opens_item IsMergeable is_of number_of packets x rs later
-        (λ k t front run e few.
-          let none : filter (begins_in (is_of k)) rs ≡ [] = filter_none (begins_in (is_of k)) rs
-            (all_from_index (λ r. begins_in (is_of k) r ≡ false) rs (λ j d h. subst (λ z. begins_in (is_of z) (get_or rs j d) ≡ false) (of_flow k t) (last j d h))) in
-          omega (arith, ap length (sym none ∙ e), length-append front (run ∷ [])))
-        items
+      (λ k t front run e few.
+      let none : filter (begins_in (is_of k)) rs ≡ [] = filter_none (begins_in (is_of k)) rs
+      (all_from_index (λ r. begins_in (is_of k) r ≡ false) rs (λ j d h. subst (λ z. begins_in (is_of z) (get_or rs j d) ≡ false) (of_flow k t) (last j d h))) in
+      omega (arith, ap length (sym none ∙ e), length-append front (run ∷ [])))
+      items
   run_opens rs (Some i) last full = λ packets later items.
       opens_item IsMergeable is_of number_of packets x rs later
-        (λ k t front run e few.
-          let none : filter (begins_in (is_of k)) (drop (i + 1) rs) ≡ [] = filter_none (begins_in (is_of k)) (drop (i + 1) rs)
-            (subst (λ z. AllByRecursion (λ r. begins_in (is_of z) r ≡ false) (drop (i + 1) rs)) (of_flow k t) (none_behind rs key i last.2)) in
-          let mine : begins_in (is_of k) (get_or rs i []) ≡ true = subst (λ z. begins_in (is_of z) (get_or rs i []) ≡ true) (of_flow k t) (last.1 []) in
-          let kept : filter (begins_in (is_of k)) rs ≡ filter (begins_in (is_of k)) (take i rs) ++ (get_or rs i [] ∷ [])
-            = ap (filter (begins_in (is_of k))) (whole rs i last.0) ∙ filter-append (begins_in (is_of k)) (take i rs) (get_or rs i [] ∷ drop (i + 1) rs) ∙ rw (mine, none) in
-          let same : run ≡ get_or rs i [] = (same_from_push front (filter (begins_in (is_of k)) (take i rs)) run (get_or rs i []) (sym e ∙ kept)).1 in
-          full i refl (subst (λ z. IsMergeable (z ++ (x ∷ []))) same few))
-        items
+      (λ k t front run e few.
+      let none : filter (begins_in (is_of k)) (drop (i + 1) rs) ≡ [] = filter_none (begins_in (is_of k)) (drop (i + 1) rs)
+      (subst (λ z. AllByRecursion (λ r. begins_in (is_of z) r ≡ false) (drop (i + 1) rs)) (of_flow k t) (none_behind rs key i last.2)) in
+      let mine : begins_in (is_of k) (get_or rs i []) ≡ true = subst (λ z. begins_in (is_of z) (get_or rs i []) ≡ true) (of_flow k t) (last.1 []) in
+      let kept : filter (begins_in (is_of k)) rs ≡ filter (begins_in (is_of k)) (take i rs) ++ (get_or rs i [] ∷ [])
+      = ap (filter (begins_in (is_of k))) (whole rs i last.0) ∙ filter-append (begins_in (is_of k)) (take i rs) (get_or rs i [] ∷ drop (i + 1) rs) ∙ rw (mine, none) in
+      let same : run ≡ get_or rs i [] = (same_from_push front (filter (begins_in (is_of k)) (take i rs)) run (get_or rs i []) (sym e ∙ kept)).1 in
+      full i refl (subst (λ z. IsMergeable (z ++ (x ∷ []))) same few))
+      items
 
 -- an element of a mapped list
 at_map : {X Y : Type 0} (f : X → Y) (P : Y → Type 0) (xs : List X) (k : ℕ) (e : Y) → k < length xs → ((d : X) → P (f (get_or xs k d))) → P (get_or (map f xs) k e)
@@ -82,10 +82,11 @@ pub last_map : {X Y : Type 0} (f : X → Y) (test : Y → Bool) (xs : List X) (o
     → IsLastBelow (λ x. test (f x)) xs (length xs) o → IsLastBelow test (map f xs) (length (map f xs)) o
 last_map f test xs None h = λ k e l.
     let m : k < length xs = omega (arith, length-map xs f) in at_map f (λ z. test z ≡ false) xs k e m (λ d. h k d m)
-last_map f test xs (Some i) h =
-    ( omega (arith, h.0, length-map xs f)
-    , λ e. at_map f (λ z. test z ≡ true) xs i e h.0 h.1
-    , λ k e a l. let m : k < length xs = omega (arith, length-map xs f) in at_map f (λ z. test z ≡ false) xs k e m (λ d. h.2 k d a m) )
+last_map f test xs (Some i) h = (
+  omega (arith, h.0, length-map xs f),
+  λ e. at_map f (λ z. test z ≡ true) xs i e h.0 h.1,
+  λ k e a l. let m : k < length xs = omega (arith, length-map xs f) in at_map f (λ z. test z ≡ false) xs k e m (λ d. h.2 k d a m),
+)
 
 early_set : (n : ℕ) (rs : List (List Packet)) (i : ℕ) (x : Packet) → length (get_or rs i []) ≢ 0
     → AllByRecursion (λ run. first_number number_of run < n) rs → AllByRecursion (λ run. first_number number_of run < n) (set rs i (get_or rs i [] ++ (x ∷ [])))
@@ -105,7 +106,7 @@ pub early_grows : (rs : List (List Packet)) (key : Option (List ℕ)) (i : ℕ) 
     → IsLastBelow (begins_in (is_of key)) rs (length rs) (Some i) → KeepsEarly rs x (set rs i (run ++ (x ∷ [])))
 early_grows rs key i x run e last = λ n a b.
     subst (λ z. AllByRecursion (λ run. first_number number_of run < n) (set rs i (z ++ (x ∷ [])))) (sym e)
-      (early_set n rs i x (filled_run rs i key (last.1 [])) a)
+    (early_set n rs i x (filled_run rs i key (last.1 [])) a)
 
 pub early_opens : (rs : List (List Packet)) (x : Packet) → KeepsEarly rs x (rs ++ ((x ∷ []) ∷ []))
 early_opens rs x = λ n a b. all_append (λ run. first_number number_of run < n) rs ((x ∷ []) ∷ []) a (b, tt)

@@ -1,9 +1,7 @@
 -- What merging knows of a run of packets.
-use Rattle.std.specs.Prelude.{◌≡◌, ◌==◌, ◌&&◌, ◌⊎◌, ℕ, ◌+◌, ◌-◌, ◌<◌, ◌≤◌, Bool, true, false, Option, Some, None, List, [], ◌∷◌, ◌++◌, length, map, drop, slice_index_or}
-use Rattle.std.specs.List.{AllByRecursion}
+use Rattle.std.specs.Prelude.{◌≡◌, ◌==◌, ◌&&◌, ◌⊎◌, ℕ, ◌+◌, ◌-◌, ◌<◌, ◌≤◌, Bool, true, false, Option, Some, None, List, ◌∷◌, length, map, drop, slice_index_or}
 use Rattle.net_bytes.specs.Bytes.{byte}
 use Rattle.inet_sum.specs.Stands.{FoldAndLength, StandsFor}
-use Rattle.run_cuts.specs.Items.{begins_in, first_number, AreItems}
 use Rattle.pcap_io.specs.Capture.{Packet}
 use Rattle.frame_layout.specs.Shape.{Layout, shape_of}
 use Rattle.ip_headers.specs.Ip4.{identification}
@@ -13,9 +11,9 @@ use Rattle.offload_model.specs.Tests.{all_headers, is_ack_alone}
 use Rattle.round_merge.specs.Next.{ip_count}
 use Rattle.frame_layout.specs.Candidate.{IsCandidate}
 use Rattle.offload_model.specs.Each.{Each}
-use Rattle.offload_model.specs.Mergeable.{IsAckAlone, AreConsecutive, IsMergeable, payloads_of}
-use Rattle.offload_model.specs.Merged.{is_fixed_in, modes_of}
-use Rattle.offload_model.specs.Rounds.{is_of, number_of}
+use Rattle.offload_model.specs.Mergeable.{IsAckAlone, AreConsecutive, payloads_of}
+use Rattle.offload_model.specs.Merged.{frame_at, is_fixed_in, modes_of}
+use Rattle.merged_frame.specs.Filled.{HasFlags}
 use Rattle.round_merge.specs.declared.packet.Packet.{Packet as Held}
 use Rattle.round_merge.specs.declared.run.Progress.{Progress}
 use Rattle.round_merge.specs.declared.run.Run.{Run}
@@ -39,39 +37,38 @@ pub record IsProgress (layout : Layout) (first : List ℕ) (run : List Packet) (
 abbrev pub IsNoCandidate : List ℕ → ℕ → Type 0
 IsNoCandidate f original = (layout : Layout) → shape_of f ≡ Some layout → IsCandidate f original layout → ⊥
 
--- a candidate of this layout, and the sum of its payload
-pub record IsCandidateOf (f : List ℕ) (original : ℕ) (layout : Layout) (sum : FoldAndLength) : Type 0 where
+-- a candidate of this layout, the sum of its payload, and its control bits
+pub record IsCandidateOf (f : List ℕ) (original : ℕ) (layout : Layout) (sum : FoldAndLength) (bits : ℕ) : Type 0 where
   pub shape : shape_of f ≡ Some layout
   pub candidate : IsCandidate f original layout
   pub payload : StandsFor sum (drop layout.payload_at f)
+  pub flags : AtHeaders (HasFlags bits f) layout.headers
   pub in_bytes : (k : ℕ) → byte f k < 256
 
 -- there is a layout exactly where the frame is a candidate
-abbrev pub IsJudged : List ℕ → ℕ → Option Layout → FoldAndLength → Type 0
-IsJudged f original None sum = IsNoCandidate f original
-IsJudged f original (Some layout) sum = IsCandidateOf f original layout sum
+abbrev pub IsJudged : List ℕ → ℕ → Option Layout → FoldAndLength → ℕ → Type 0
+IsJudged f original None sum bits = IsNoCandidate f original
+IsJudged f original (Some layout) sum bits = IsCandidateOf f original layout sum bits
 
 -- the layout, where there is one, is the frame's
 abbrev pub IsShaped : Option Layout → List ℕ → Type 0
 IsShaped None f = Unit {0}
 IsShaped (Some layout) f = shape_of f ≡ Some layout
 
--- it is the sum of the frame's payload
-abbrev pub IsPayloadOf : List ℕ → FoldAndLength → Type 0
-IsPayloadOf f sum = (layout : Layout) → shape_of f ≡ Some layout → StandsFor sum (drop layout.payload_at f)
-
--- a run that begins with a candidate of this layout, the sum of its payloads, and what it has come to
-pub record IsRunOf (layout : Layout) (sum : FoldAndLength) (state : Progress) (first : Packet) (run : List Packet) : Type 0 where
+-- a run that begins with a candidate of this layout, the sum of its payloads, its last packet's control bits, and what it has come
+-- to
+pub record IsRunOf (layout : Layout) (sum : FoldAndLength) (bits : ℕ) (state : Progress) (first : Packet) (run : List Packet) : Type 0 where
   pub shape : shape_of first.frame ≡ Some layout
   pub candidate : IsCandidate first.frame first.original layout
   pub in_bytes : (k : ℕ) → byte first.frame k < 256
   pub payload : StandsFor sum (payloads_of layout run)
+  pub flags : AtHeaders (HasFlags bits (frame_at run (length run - 1))) layout.headers
   pub progress : IsProgress layout first.frame run state.is_open state.total state.modes
 
 -- a run that begins with no candidate is that packet alone
-abbrev pub IsRunBy : Option Layout → FoldAndLength → Progress → Packet → List Packet → Type 0
-IsRunBy None sum state first run = (length run ≡ 1) × IsNoCandidate first.frame first.original
-IsRunBy (Some layout) sum state first run = IsRunOf layout sum state first run
+abbrev pub IsRunBy : Option Layout → FoldAndLength → ℕ → Progress → Packet → List Packet → Type 0
+IsRunBy None sum bits state first run = (length run ≡ 1) × IsNoCandidate first.frame first.original
+IsRunBy (Some layout) sum bits state first run = IsRunOf layout sum bits state first run
 
 -- a frame that a capture may hold
 abbrev pub IsShort : Held → Type 0
@@ -107,7 +104,7 @@ abbrev pub packets_of : Run → List Packet
 packets_of r = packet_of r.first ∷ map packet_of r.rest.items
 
 abbrev pub IsRun : Run → Type 0
-IsRun r = IsRunBy r.layout r.payload r.progress (packet_of r.first) (packets_of r)
+IsRun r = IsRunBy r.layout r.payload r.flags r.progress (packet_of r.first) (packets_of r)
 
 abbrev pub AreRuns : List Run → Type 0
 AreRuns rs = (i : ℕ) (d : Run) → i < length rs → IsRun (slice_index_or rs i d)

@@ -10,7 +10,7 @@ use Rattle.offload_model.specs.Mergeable.{IsMergeable}
 use Rattle.offload_model.specs.Rounds.{is_of, number_of}
 use Rattle.round_merge.specs.declared.run.Run.{Run}
 use Rattle.round_merge.specs.declared.table.Table.{Table as Held}
-use Rattle.round_merge.specs.Runs.{IsRun, AreRuns, packets_of}
+use Rattle.round_merge.specs.Runs.{AreRuns, packets_of}
 
 -- what the map has at a key of these bytes
 abbrev pub found_in : {S : Type 0} → HashMap (Vec ℕ Global) ℕ S → List ℕ → Option ℕ

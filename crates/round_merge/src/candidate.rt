@@ -6,11 +6,13 @@ ghost use Rattle.round_merge.specs.Runs.{IsJudged};
 use frame_layout::{Layout, candidate};
 use inet_sum::Partial;
 
-/// Whether a packet may be merged, and the sum of its payload if so: the layout of its headers, or `None`.
+/// Whether a packet may be merged: the layout of its headers, or `None`. If so, also the sum of its payload and its TCP
+/// control bits.
 #[derive(Drop)]
 pub struct Candidacy {
     pub layout: Option<Layout>,
     pub payload: Partial,
+    pub flags: u8,
 }
 
 /// All headers of a frame that may be merged lie within these first bytes.
@@ -32,7 +34,7 @@ fn sum_from(frame: &[u8], at: usize, front: usize, rest: Partial) -> Partial
 /// Whether a frame of this original length may be merged. All bytes behind its first 200 are read once, for their sum.
 pub(crate) fn judge(frame: &[u8], original: u32) -> Candidacy
     requires short { length frame.now ≤ 262144 }
-    ensures judged { IsJudged frame.now original result.layout result.payload }
+    ensures judged { IsJudged frame.now original result.layout result.payload result.flags }
 {
     let front = frame.len().min(FRONT);
     let mut rest = Partial::new();
@@ -40,11 +42,13 @@ pub(crate) fn judge(frame: &[u8], original: u32) -> Candidacy
     match candidate(&frame[..front], &rest, frame.len() as u32, original) {
         Some(segment) => Candidacy {
             payload: sum_from(frame, segment.payload_at, front, rest),
+            flags: segment.flags,
             layout: Some(segment.layout),
         },
         None => Candidacy {
             layout: None,
             payload: rest,
+            flags: 0,
         },
     }
 }

@@ -43,13 +43,7 @@ fn has_udp_sum(frame: &[u8], at: usize) -> bool
 
 /// A header of the next frame: its sequence number is `further` bytes behind the first frame's, it has a UDP sum where that
 /// has one, and there is room for the length of a merged frame of `total` bytes.
-fn is_next_header(
-    first: &[u8],
-    next: &[u8],
-    further: u32,
-    total: usize,
-    header: Header,
-) -> bool
+fn is_next_header(first: &[u8], next: &[u8], further: u32, total: usize, header: Header) -> bool
     requires first { header.at + size header.layer ≤ length first.now }
     requires next { header.at + size header.layer ≤ length next.now }
     ensures next { result ≡ is_next_at first.now next.now further total header.layer header.at }

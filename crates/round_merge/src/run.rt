@@ -6,7 +6,7 @@ ghost use Rattle.frame_layout.specs.Shape.{shape_of};
 ghost use Rattle.offload_model.specs.Mergeable.{IsMergeable};
 ghost use Rattle.offload_model.specs.Tests.{all_headers, is_ack_alone as is_ack_alone_of};
 ghost use Rattle.round_merge.specs.Next.{AreInside, IsNext};
-ghost use Rattle.round_merge.specs.Runs.{packet_of, packets_of, IsJudged, IsRun, IsShort, IsPlaced, IsShaped, IsFirstProgress, IsNextProgress, IsPayloadOf};
+ghost use Rattle.round_merge.specs.Runs.{packet_of, packets_of, IsJudged, IsRun, IsShort, IsPlaced, IsShaped, IsFirstProgress, IsNextProgress};
 
 use crate::Packet;
 use crate::alike::are_alike;
@@ -25,13 +25,15 @@ pub struct Progress {
     pub modes: u8,
 }
 
-/// A run of packets of one layout, and the sum of their payloads. A packet that may not be merged is alone and has no layout.
+/// A run of packets of one layout, the sum of their payloads, and the last one's control bits. A packet that may not be merged is
+/// alone and has no layout.
 #[derive(Drop)]
 pub struct Run {
     pub first: Packet,
     pub rest: Vec<Packet>,
     pub layout: Option<Layout>,
     pub payload: Partial,
+    pub flags: u8,
     pub progress: Progress,
 }
 
@@ -76,7 +78,7 @@ fn stays_open(first: &[u8], next: &[u8], headers: &[Header]) -> bool
 impl Run {
     /// The run of one packet.
     pub(crate) fn open(alloc: Global, first: Packet, candidacy: Candidacy) -> Run
-        requires judged { IsJudged first.frame.items first.original candidacy.layout candidacy.payload }
+        requires judged { IsJudged first.frame.items first.original candidacy.layout candidacy.payload candidacy.flags }
         ensures run { IsRun result }
         ensures packets { packets_of result ≡ packet_of first ∷ [] }
     {
@@ -86,6 +88,7 @@ impl Run {
             rest: Vec::new(alloc),
             layout: candidacy.layout,
             payload: candidacy.payload,
+            flags: candidacy.flags,
             progress,
         }
     }
@@ -93,7 +96,7 @@ impl Run {
     /// Whether the run takes one more packet.
     pub(crate) fn takes(&self, next: &Packet, candidacy: &Candidacy) -> bool
         requires run { IsRun self.now }
-        requires judged { IsJudged next.now.frame.items next.now.original candidacy.now.layout candidacy.now.payload }
+        requires judged { IsJudged next.now.frame.items next.now.original candidacy.now.layout candidacy.now.payload candidacy.now.flags }
         requires short { IsShort next.now }
         ensures takes { Decides result (IsMergeable (packets_of self.now ++ (packet_of next.now ∷ []))) }
     {
@@ -137,18 +140,19 @@ impl Run {
     }
 
     /// One more packet, which the run takes.
-    pub(crate) fn add(&mut self, next: Packet, payload: Partial) -> Result<(), AllocError>
+    pub(crate) fn add(&mut self, next: Packet, candidacy: &Candidacy) -> Result<(), AllocError>
         requires run { IsRun self.old }
+        requires judged { IsJudged next.frame.items next.original candidacy.now.layout candidacy.now.payload candidacy.now.flags }
         requires short { IsShort next }
-        requires payload { IsPayloadOf next.frame.items payload }
         requires mergeable { IsMergeable (packets_of self.old ++ (packet_of next ∷ [])) }
         ensures run { OnOk result (IsRun self.new) }
         ensures packets { OnOk result (packets_of self.new ≡ packets_of self.old ++ (packet_of next ∷ [])) }
     {
         let progress = self.next_progress(&next);
-        let sum = self.payload.joined(payload);
+        let payload = self.payload.joined(candidacy.payload);
         self.rest.push(next)?;
-        self.payload = sum;
+        self.payload = payload;
+        self.flags = candidacy.flags;
         self.progress = progress;
         Ok(())
     }

@@ -43,9 +43,14 @@ fn put(
 
 impl Table {
     /// One more packet, of the flow whose key is in `self.key`: the flow's last run takes it, or it opens the next one.
-    fn place(&mut self, alloc: Global, packet: Packet, candidacy: Candidacy) -> Result<(), AllocError>
+    fn place(
+        &mut self,
+        alloc: Global,
+        packet: Packet,
+        candidacy: Candidacy,
+    ) -> Result<(), AllocError>
         requires table { IsTable self.old }
-        requires judged { IsJudged packet.frame.items packet.original candidacy.layout candidacy.payload }
+        requires judged { IsJudged packet.frame.items packet.original candidacy.layout candidacy.payload candidacy.flags }
         requires short { IsShort packet }
         requires key { key_of packet.frame.items ≡ Some self.old.key.items }
         ensures table { OnOk result (IsTable self.new) }
@@ -54,7 +59,7 @@ impl Table {
     {
         if let Some(i) = find(&self.latest, &self.key) {
             if self.runs[i].takes(&packet, &candidacy) {
-                self.runs[i].add(packet, candidacy.payload)?;
+                self.runs[i].add(packet, &candidacy)?;
                 return Ok(());
             }
         }

@@ -1,7 +1,6 @@
-use Rattle.std.proofs.Common.{◌≡◌, ◌+◌, ◌<◌, ◌≤◌, ◌∙◌, sym, subst, arith, length, drop}
+use Rattle.std.proofs.Common.{◌+◌, sym, subst, arith, drop}
 use Rattle.std.specs.Prelude.{◌↔◌}
 use Rattle.frame_layout.specs.Headers.{AreLaid}
-use Rattle.frame_layout.specs.declared.layout.Header.{Header}
 use Rattle.frame_layout.specs.declared.layout.Layer.TheVariants.{Ethernet}
 use Rattle.round_merge.specs.Next.{AreAlikeFrom}
 use Rattle.round_merge.proofs.Headers.{laid_inside, laid_on, alike_on}
@@ -22,8 +21,9 @@ fields_end_of-from-requires c = record {
 
 pub loop-header-preserved : goal.loop-header-preserved
 loop-header-preserved c = (
-    subst (λ z. AreLaid z (drop (c.loop-header.header-index + 1) c.args.headers.now) c.args.end) (sym c.fields_end_of-from.ensures.end)
+  subst (λ z. AreLaid z (drop (c.loop-header.header-index + 1) c.args.headers.now) c.args.end) (sym c.fields_end_of-from.ensures.end)
       (laid_on c.loop-header.from c.args.end c.args.headers.now c.loop-header.header-index (record { layer = Ethernet; at = 0 }) (omega arith) c.loop-header.invariant.0),
-    subst (λ z. AreAlikeFrom c.args.first.now c.args.next.now c.args.end z (drop (c.loop-header.header-index + 1) c.args.headers.now) ↔ AreAlikeFrom c.args.first.now c.args.next.now c.args.end 0 c.args.headers.now) (sym c.fields_end_of-from.ensures.end)
+  subst (λ z. AreAlikeFrom c.args.first.now c.args.next.now c.args.end z (drop (c.loop-header.header-index + 1) c.args.headers.now) ↔ AreAlikeFrom c.args.first.now c.args.next.now c.args.end 0 c.args.headers.now) (sym c.fields_end_of-from.ensures.end)
       (alike_on c.args.first.now c.args.next.now c.args.end c.loop-header.from c.args.headers.now c.loop-header.header-index (record { layer = Ethernet; at = 0 }) (omega arith)
-        (c.is_alike_to.ensures.alike.0 c.if-not-is_alike_to.false) c.loop-header.invariant.1))
+      (c.is_alike_to.ensures.alike.0 c.if-not-is_alike_to.false) c.loop-header.invariant.1),
+)

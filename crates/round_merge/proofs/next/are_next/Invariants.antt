@@ -1,6 +1,6 @@
 use Rattle.std.proofs.Common.{◌≡◌, drop}
 use Rattle.offload_model.specs.Tests.{all_headers}
-use Rattle.round_merge.specs.Next.{is_next_at, AreInside}
+use Rattle.round_merge.specs.Next.{is_next_at}
 use Rattle.round_merge.proofs.next.are_next.Given as goal
 
 abbrev pub invariant-loop-header : goal.invariant-loop-header

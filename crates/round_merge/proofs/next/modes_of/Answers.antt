@@ -1,4 +1,4 @@
-use Rattle.std.proofs.Common.{◌≡◌, ℕ, ◌+◌, ◌-◌, ◌<◌, ◌≤◌, Bool, length, get_or, drop, sym, subst, arith}
+use Rattle.std.proofs.Common.{ℕ, ◌-◌, Bool, arith}
 use Rattle.std.specs.Prelude.{◌==◌}
 use Rattle.ip_headers.specs.Ip4.{identification}
 use Rattle.frame_layout.specs.declared.layout.Layer.TheVariants.{Ethernet}
@@ -12,7 +12,8 @@ mode_before-modes-requires-clause-few c =
 
 pub loop-i-preserved : goal.loop-i-preserved
 loop-i-preserved c =
-    let stays : ℕ → Bool = λ at. identification c.args.next.now at == identification c.args.first.now at in
-    (omega (arith, c.loop-i.invariant.0)
-    , modes_step stays c.args.headers.now (c.loop-i.i - 1) c.loop-i.i (record { layer = Ethernet; at = 0 }) c.loop-i.modes c.mode_before-modes.result
-        (omega arith) (omega (arith, c.loop-i.invariant.0)) c.loop-i.invariant.1 c.mode_before-modes.ensures.modes)
+    let stays : ℕ → Bool = λ at. identification c.args.next.now at == identification c.args.first.now at in (
+      omega (arith, c.loop-i.invariant.0),
+      modes_step stays c.args.headers.now (c.loop-i.i - 1) c.loop-i.i (record { layer = Ethernet; at = 0 }) c.loop-i.modes c.mode_before-modes.result
+          (omega arith) (omega (arith, c.loop-i.invariant.0)) c.loop-i.invariant.1 c.mode_before-modes.ensures.modes,
+    )

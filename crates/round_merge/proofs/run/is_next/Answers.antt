@@ -1,4 +1,4 @@
-use Rattle.std.proofs.Common.{◌≡◌, ℕ, ◌≤◌, ◌<◌, length, sym, subst, arith}
+use Rattle.std.proofs.Common.{length, sym, subst, arith}
 use Rattle.round_merge.specs.Next.{AreInside}
 use Rattle.round_merge.proofs.Headers.{inside_all}
 use Rattle.round_merge.proofs.run.is_next.Goals as goal

@@ -1,8 +1,7 @@
-use Rattle.std.proofs.Common.{◌≡◌, ◌++◌, ◌∷◌, [], ◌+◌, ◌-◌, ◌<◌, ◌≤◌, ℕ, List, Some, inl, inr, map, length, sym, subst, ap, ◌∙◌, refl, arith}
+use Rattle.std.proofs.Common.{◌≡◌, ◌++◌, ◌∷◌, [], ◌+◌, ◌-◌, ◌≤◌, ℕ, List, Some, inl, map, length, sym, subst, ap, ◌∙◌, arith}
 use Rattle.std.proofs.lemmas.Bool.{eqb-true}
-use Rattle.frame_layout.specs.Shape.{Layout, shape_of}
+use Rattle.frame_layout.specs.Shape.{Layout}
 use Rattle.frame_layout.specs.declared.layout.Header.{Header}
-use Rattle.pcap_io.specs.Capture.{Packet}
 use Rattle.round_merge.specs.declared.packet.Packet.{Packet as Held}
 use Rattle.round_merge.specs.declared.run.Run.{Run}
 use Rattle.offload_model.specs.Mergeable.{IsMergeable}
@@ -14,14 +13,14 @@ use Rattle.round_merge.proofs.run.Run.next_progress.Goals as goal
 
 -- what the run and the next packet say of the layout
 module _ (run : Run) (next : Held) (layout : Layout) (is : run.layout ≡ Some layout) (own : IsRun run) (mergeable : IsMergeable (packets_of run ++ (packet_of next ∷ []))) where
-  known : IsRunOf layout run.payload run.progress (packet_of run.first) (packets_of run)
-  known = run_some run.layout run.payload run.progress (packet_of run.first) (packets_of run) layout own is
+  known : IsRunOf layout run.payload run.flags run.progress (packet_of run.first) (packets_of run)
+  known = run_some run.layout run.payload run.flags run.progress (packet_of run.first) (packets_of run) layout own is
 
   there : layout.payload_at ≤ length next.frame.items
-  there = next_within (packet_of run.first) (packet_of next) (map packet_of run.rest.items) layout run.payload run.progress known mergeable
+  there = next_within (packet_of run.first) (packet_of next) (map packet_of run.rest.items) layout run.payload run.flags run.progress known mergeable
 
   placed : IsPlaced layout
-  placed = placed_of (packet_of run.first) (packets_of run) layout run.payload run.progress known
+  placed = placed_of (packet_of run.first) (packets_of run) layout run.payload run.flags run.progress known
 
   inside_next : (g : List ℕ) (hs : List Header) → g ≡ next.frame.items → hs ≡ layout.headers → AreInside (length g) hs
   inside_next g hs eg eh =
@@ -34,7 +33,7 @@ module _ (run : Run) (next : Held) (layout : Layout) (is : run.layout ≡ Some l
   short : run.progress.total ≤ 65735
   short =
       let b : (layout.payload_at ≤ run.progress.total) × (run.progress.total ≤ layout.payload_at + 65535) × (layout.payload_at ≤ 200)
-        = bounded (packet_of run.first) (map packet_of run.rest.items) layout run.payload run.progress known in
+      = bounded (packet_of run.first) (map packet_of run.rest.items) layout run.payload run.flags run.progress known in
       omega (arith, b.1, b.2)
 
 pub stays_open-requires : goal.stays_open-requires

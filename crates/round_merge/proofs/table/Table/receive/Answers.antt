@@ -2,7 +2,6 @@ use Rattle.std.proofs.Common.{◌≡◌, ◌++◌, ◌∷◌, [], ℕ, List, Non
 use Rattle.std.specs.Option.{option_map}
 use Rattle.std.proofs.lemmas.List.{map-append}
 use Rattle.frame_layout.specs.Key.{key_of}
-use Rattle.pcap_io.specs.Capture.{Packet}
 use Rattle.round_merge.specs.declared.run.Run.{Run}
 use Rattle.round_merge.specs.Runs.{packet_of, packets_of, AreRuns}
 use Rattle.round_merge.specs.Table.{TakesPacket, IsIndexOf}
@@ -25,5 +24,5 @@ returns-in_default-clause-takes c =
     let items : List Run = c.args.self.now.runs.items in
     let none : key_of c.args.packet.frame.items ≡ None = sym (ap key_of c.deref-2.ensures.value) ∙ sym c.key-key.ensures.key ∙ sym c.bytes.ensures.bytes ∙ ap (option_map (λ (b : Bor (List ℕ)). b.now)) c.in_default.is in
     let new : map packets_of c.push.new.self.items ≡ map packets_of items ++ ((packet_of c.args.packet ∷ []) ∷ [])
-      = ap (map packets_of) c.in_ok-push.ensures.items ∙ map-append packets_of items (c.open.result ∷ []) ∙ ap (λ z. map packets_of items ++ (z ∷ [])) c.open.ensures.packets in
+    = ap (map packets_of) c.in_ok-push.ensures.items ∙ map-append packets_of items (c.open.result ∷ []) ∙ ap (λ z. map packets_of items ++ (z ∷ [])) c.open.ensures.packets in
     subst (λ z. TakesPacket (map packets_of items) (packet_of c.args.packet) z) (sym new) (other_opens (packet_of c.args.packet) none (map packets_of items))
