@@ -3,14 +3,14 @@ use Rattle.std.proofs.Common.{◌≡◌, ◌≢◌, ℕ, ◌+◌, ◌<◌, ◌�
 use mathlib.Core.Bool.{Bool, true, false}
 use seplogic.Ra.Ura.{Ura}
 use base.Logic.{SProp, ent, sep, never_e, guard}
-use base.Fml.{fsep, GName, Fml, ftrue, ffalse}
+use base.Fml.{fsep, Fml, ftrue, ffalse}
 use types.Logic.{Logic, sem}
-use types.Kit.{‵, given, ◌$◌, ◌∵◌, !, qed, by, move, drop, fsplit, fsplit3, fjoin, fjoin3, fpick, fpack, learn, check, frame, use1, done}
+use types.Kit.{‵, given, ◌$◌, ◌∵◌, !, qed, by, move, drop, fsplit, fsplit3, fjoin, fjoin3, fpick, fpack, learn, check, use1, done}
 use denote.RattleType.{RattleType}
 use denote.RawPtr.{Ptr, block_ptr, null_ptr}
 use denote.Steps.{nothing}
 use base.Stored.{Gv}
-use Rattle.ref_core.specs.WeightRule.{full_weight, IsBalanced, IsWeight}
+use Rattle.ref_core.specs.WeightRule.{full_weight}
 use Rattle.raw_block.specs.Views.{Life}
 use Rattle.raw_block.specs.Shares.{was}
 use Rattle.raw_block.specs.Heap.{heap_owns}

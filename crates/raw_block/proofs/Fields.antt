@@ -5,7 +5,7 @@ use mir.Syntax.{ty_ptr, ty_struct, tcons, tnil}
 use mir.Val.{Val, vstruct, vcons, vnil, of_list, has_ty, WT}
 use mir.Raw.{raw as bare}
 use base.Logic.{ent, emp, via, never, never_e, fst∗}
-use base.Fml.{Lft, GName}
+use base.Fml.{Lft}
 use contract.Monad.{fact, fact_i}
 use types.Logic.{Logic, sem}
 use denote.RattleType.{RattleType}
@@ -18,7 +18,6 @@ use denote.Shadow.{makes_shadow}
 use denote.Struct.Laws.{RawPtr-copy}
 use denote.Struct.Struct.{Struct}
 use denote.Struct.Owning.{shape}
-use Rattle.ref_core.specs.WeightRule.{full_weight, IsBalanced, IsWeight}
 use Rattle.raw_block.specs.Views.{Life}
 use Rattle.raw_block.specs.Shares.{share_owns, share_shares, released_owns, claimed_owns}
 use Rattle.raw_block.specs.Heap.{may_free, heap_owns}

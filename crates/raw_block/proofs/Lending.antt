@@ -3,7 +3,7 @@ use Rattle.std.proofs.Common.{ℕ, ◌+◌, ◌<◌, ◌≤◌, [], ◌∷◌, �
 use seplogic.Ra.Ura.{Ura}
 use base.FractionLaws.{Counts}
 use base.Logic.{SProp, ent, sep, upd_i, id⊢}
-use base.Fml.{Lft, GName, Share, Fml, ftrue, ffalse, fsep, fseps, fwand, fupd, fdead, fbor, flft, finv}
+use base.Fml.{Lft, Share, Fml, ftrue, ffalse, fsep, fseps, fwand, fupd, fdead, fbor, flft, finv}
 use contract.BorrowLft.{meet_⊑_left}
 use types.Logic.{Logic, sem}
 use types.Kit.{‵, ◌⊛◌, ◌$◌, ◌∵◌, !, qed, move, keep, drop, use1, use2, split, group, fsplit, fsplit3, fjoin, fjoin3, fpick, fpack, assume, suffices, updating, now, done}
@@ -16,7 +16,7 @@ use denote.SharingLaws.{contraction, shortens, said_shr_laws}
 use denote.Steps.{nothing}
 use denote.Struct.Lending.{Lends, Lends-false}
 use Rattle.core.proofs.cell.Borrows.{by_one}
-use Rattle.ref_core.specs.WeightRule.{full_weight, IsBalanced, IsWeight}
+use Rattle.ref_core.specs.WeightRule.{full_weight}
 use Rattle.raw_block.specs.Views.{Life}
 use Rattle.raw_block.specs.Shares.{about, entry, kept, offset, seen, Inv, owned, share_at, share_owns, share_shares}
 use Rattle.raw_block.proofs.Entries.{kept_in}

@@ -28,12 +28,12 @@ use Rattle.core.proofs.cell.Borrows.{flag}
 use Rattle.core.proofs.tally.Steps.{word_out, word_in}
 use types.Growing.{latest_new}
 use base.Growing.{latest}
-use Rattle.ref_core.specs.WeightRule.{full_weight, IsBalanced, IsWeight}
+use Rattle.ref_core.specs.WeightRule.{full_weight, IsBalanced}
 use Rattle.raw_block.specs.Views.{Life}
 use Rattle.raw_block.specs.Shares.{Log}
 use Rattle.raw_block.specs.Heap.{may_free}
 use Rattle.raw_block.specs.contracts.block.Block.{the_row}
-use Rattle.raw_block.specs.Shares.{About, about, entry, kept, offset, block, content_at, seen, whole_with, state, alive, Inv, owned, share_at, freed}
+use Rattle.raw_block.specs.Shares.{about, entry, kept, offset, block, content_at, seen, whole_with, state, alive, Inv, owned, share_at, freed}
 use Rattle.raw_block.proofs.Entries.{kept_in, kept_cut, entry_new, entry_cut}
 
 module _ {M : Type 1} {𝓤 : Ura M} (𝓛 : Logic 𝓤) where
@@ -98,7 +98,7 @@ module _ {M : Type 1} {𝓤 : Ura M} (𝓛 : Logic 𝓤) where
     pub regained : (γ : Life) (a w : ℕ) → ⟦ freed R b o γ x mark a w ⟧ ⊢ H.⇛ ⟦ block R b o 0 x ⟧
     regained γ a w = let W : ℕ → Pr = λ n. ⟦ fwand (fsep (word b (o + 0) n) (content_at R b o x)) (block R b o n x) ⟧ in
         qed 𝓛 (‵ (freed R b o γ x mark a w) ∷ []) ∵ updating ! $ fsplit3 ! $ move ! (1 ∷ 2 ∷ []) $ move ! (1 ∷ []) $ fsplit ! $ move ! (2 ∷ 0 ∷ []) $ lent_back ! tt $
-        -- [the value; the way back; the word]
+        -- [the content; the way back; the word]
         move ! (2 ∷ 0 ∷ []) $ fjoin ! $ move ! (1 ∷ []) $ use1 𝓛 (raw (W 0)) (all_e 𝓤 W 0) $ move ! (1 ∷ 0 ∷ []) $
         use2 𝓛 (‵ (block R b o 0 x)) (apply∗ 𝓤 ⟦ fsep (word b (o + 0) 0) (content_at R b o x) ⟧ ⟦ block R b o 0 x ⟧) $ now ! $ done !
 
@@ -111,10 +111,10 @@ module _ {M : Type 1} {𝓤 : Ura M} (𝓛 : Logic 𝓤) where
         use0 𝓛 (later (some (λ (δ : GName). ‵ (latest Log full_share δ (full_weight ∷ []))))) (via 𝓤 _ (latest_new Log 𝓛 (full_weight ∷ [])) (basic 𝓛 (ex 𝓤 (λ (δ : GName). ⟦ latest Log full_share δ (full_weight ∷ []) ⟧)))) $ await ! tt $ pick ! (λ δ. let γ : Life = (g, δ) in
         fpack ! (List ℕ) (λ k. latest Log full_share δ (k ++ (full_weight ∷ []))) [] $ move ! (1 ∷ 2 ∷ 3 ∷ 4 ∷ 5 ∷ 6 ∷ []) $
         use1 𝓛 (‵ (entry γ.0 (full_weight - full_weight) (full_weight - 1) (about R x mark a)) ⊛ ‵ (entry γ.0 full_weight 0 (about R x mark a))) (entry_cut 𝓛 γ.0 (about R x mark a) (full_weight - full_weight) full_weight full_weight (full_weight - 1) 0 (full_weight - 1) (omega arith) (omega arith) (omega arith) (omega arith)) $ split ! $
-        -- [the entry; my entry; the token; the word; the value; the way back; the token of μ]
+        -- [the entry; my entry; the token; the word; the content; the way back; the token of μ]
         move ! (2 ∷ []) $ use1 𝓛 (‵ (kept a (2 ^ 63))) (kept_in 𝓛 a (2 ^ 63) full_share (Counts-all 63)) $
         use1 𝓛 (‵ (kept a (2 ^ 63 - full_weight)) ⊛ ‵ (kept a full_weight)) (kept_cut 𝓛 a (2 ^ 63) (2 ^ 63 - full_weight) full_weight (omega arith) (omega arith) (omega arith) (omega arith)) $ split ! $
-        -- [the parts; my parts; the entry; my entry; the word; the value; the way back; the token of μ]
+        -- [the parts; my parts; the entry; my entry; the word; the content; the way back; the token of μ]
         move ! (5 ∷ []) $ bor_new ! tt κ $
         -- [the borrow; what is lent; the parts; my parts; the entry; my entry; the word; the way back; the token of μ]
         move ! (1 ∷ 7 ∷ []) $ fjoin ! $ move ! (4 ∷ 2 ∷ 0 ∷ []) $ fjoin3 ! $ nothing ! $ fpack ! (IsBalanced full_weight (full_weight - full_weight)) (λ _. ftrue) (omega arith, omega arith) $ fjoin ! $

@@ -1,12 +1,12 @@
 -- A block's bytes in memory are a row of cells, which is cut in three where some of them are lent. Assumes `Logic`.
-use Rattle.std.proofs.Common.{◌≡◌, ℕ, ◌+◌, ◌-◌, ◌^◌, ◌*◌, ◌<◌, ◌≤◌, List, [], ◌∷◌, ◌++◌, length, take, drop, refl, sym, ap, ◌∙◌, subst, arith}
+use Rattle.std.proofs.Common.{◌≡◌, ℕ, ◌+◌, ◌-◌, ◌≤◌, List, [], ◌∷◌, ◌++◌, length, take, drop, refl, sym, ap, ◌∙◌, arith}
 use Rattle.std.proofs.lemmas.List.{length-append, length-take, length-drop, take-append-drop, drop-drop}
 use Rattle.std.specs.Prelude.{slice_range}
 use seplogic.Ra.Ura.{Ura}
 use mir.Syntax.{named, ty_array, ty_int, ty_struct, w8}
 use mir.Val.{Val}
 use base.Fraction.{full_share}
-use base.Fml.{Fml, Lft, GName, Share, ftrue, fsep, feq, flft, fhide}
+use base.Fml.{Fml, Lft, GName, Share, ftrue, fsep, feq, flft}
 use base.Logic.{SProp, ent, sep, guard, ex}
 use types.Logic.{Logic, sem}
 use types.Mut.{open_ref}
@@ -131,8 +131,11 @@ module _ {M : Type 1} {𝓤 : Ura M} (𝓛 : Logic 𝓤) (b o : ℕ) where
     abbrev pub Lent : GName → SProp 𝓤
     Lent δ = sep 𝓤 (sem 𝓛 ((MutSlice (named 0) κ u8).own_val (record { ref_ptr = (b, place); ghost_name = δ; now = lent }) (slice_val (b, place) (to - from) ∷ []))) (sep 𝓤 (A.lft κ q) (sem 𝓛 (follows S (Array u8 0) γ δ after)))
 
+    abbrev pub Sized : Type 0
+    Sized = length lent + from ≡ to
+
     -- the bytes from..to of the block at (b, o) are lent on
-    pub lends : (vs : List Val) → ent 𝓤 (sep 𝓤 (sem 𝓛 ((MutRef (named 0) κ S).own_val (record { ref_ptr = (b, o); ghost_name = γ; now = d }) vs)) (A.lft κ q)) (H.⇛ (ex 𝓤 Lent))
+    pub lends : (vs : List Val) → ent 𝓤 (sep 𝓤 (sem 𝓛 ((MutRef (named 0) κ S).own_val (record { ref_ptr = (b, o); ghost_name = γ; now = d }) vs)) (A.lft κ q)) (H.⇛ (ex 𝓤 (λ (δ : GName). guard 𝓤 Sized (Lent δ))))
     lends vs = qed 𝓛 (‵ ((MutRef (named 0) κ S).own_val (record { ref_ptr = (b, o); ghost_name = γ; now = d }) vs) ∷ ‵ (flft κ q) ∷ []) ∵ updating ! $ fsplit3 ! $ drop_item ! $ open_ref ! tt (mem S) {b = b} {o = o} $
         use1 𝓛 (given (length d.bytes ≡ 2048) (‵ (Cells d.bytes start) ⊛ raw Left)) (bytes_out d) $ learn ! (λ long. split ! $
         let room : Room u8 (length lent) = (omega (arith, count long), omega (arith, count long)) in
@@ -141,4 +144,4 @@ module _ {M : Type 1} {𝓤 : Ura M} (𝓛 : Logic 𝓤) (b o : ℕ) where
         -- [the lent bytes; those behind; those in front; the rest; ..]
         move ! (1 ∷ 3 ∷ []) $ join ! $ move ! (2 ∷ 0 ∷ []) $ join ! $ move ! (2 ∷ 3 ∷ 4 ∷ 1 ∷ 0 ∷ []) $ group ! 5 $
         use1 𝓛 (later (some (lent_at (length lent)))) (lends_Elements 𝓛 S u8 after (named 0) κ q b o b place γ lent room Rest (put long) (S.coded.code d) (S.coded.code d)) $
-        await ! tt $ pick ! (λ δ. rewrite ! 0 (λ (k : ℕ). lent_at k δ) (count long) refl $ now ! $ show ! Lent δ $ done !))
+        await ! tt $ pick ! (λ δ. rewrite ! 0 (λ (k : ℕ). lent_at k δ) (count long) refl $ now ! $ show ! (λ (e : GName). guard 𝓤 Sized (Lent e)) δ $ check ! (let n = count long in let sized : Sized = omega arith in sized) $ done !))

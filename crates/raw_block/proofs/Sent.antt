@@ -12,7 +12,6 @@ use denote.Param.Send.{IsSend, IsSync, part_keyless, sendable}
 use Rattle.std.proofs.Crossing.{frees}
 use Rattle.raw_block.specs.contracts.block.Block as blocks
 use base.Growing.{latest, at_least}
-use Rattle.ref_core.specs.WeightRule.{full_weight, IsBalanced, IsWeight}
 use Rattle.raw_block.specs.Views.{Life}
 use Rattle.raw_block.specs.Shares.{reached, was, offset, block, beside_word, alive, share_at, share_owns, share_shares}
 

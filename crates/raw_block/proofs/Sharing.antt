@@ -2,7 +2,7 @@
 use Rattle.std.proofs.Common.{◌≡◌, ℕ, ◌+◌, ◌-◌, ◌<◌, ◌≤◌, [], ◌∷◌, refl, sym, arith}
 use seplogic.Ra.Ura.{Ura}
 use base.Logic.{SProp, ent, sep, via, never, never_e, fst∗, snd∗}
-use base.Fml.{GName, Fml, ftrue, finv}
+use base.Fml.{Fml, ftrue, finv}
 use types.Logic.{Logic, sem}
 use types.Kit.{‵, ◌⊛◌, given, ◌$◌, ◌∵◌, !, qed, by, move, keep, drop, split, fsplit, fsplit3, fjoin, fjoin3, fpick, fpack, learn, check, rewrite, frame, use1, use2, done}
 use base.Logic.{guard}
@@ -11,7 +11,7 @@ use denote.RawPtr.{Ptr, block_ptr, null_ptr}
 use denote.SharingLaws.{contraction}
 use denote.Steps.{nothing}
 use base.Stored.{Gv}
-use Rattle.ref_core.specs.WeightRule.{full_weight, IsBalanced, IsWeight}
+use Rattle.ref_core.specs.WeightRule.{full_weight}
 use Rattle.raw_block.specs.Views.{Life}
 use Rattle.raw_block.specs.Shares.{About, about, entry, kept, offset, seen, Inv, owned, share_at, share_owns, given_back_owns}
 use Rattle.raw_block.proofs.Entries.{kept_cut, kept_glue, entry_cut, Fit, entry_glue}

@@ -9,7 +9,7 @@ use mir.Syntax.{ty_int}
 use mir.Val.{vint, has_ty, WT}
 use base.Fraction.{full_share}
 use base.Logic.{SProp, ent, sep, wand, ex, ex_i, guard, never, never_e, upd, upd_i, via, apply∗}
-use base.Fml.{Lft, GName, Fml, ftrue, ffalse, fsep, fdead, finv, flft, fnamed}
+use base.Fml.{Lft, Fml, ftrue, ffalse, fsep, fdead, finv, flft, fnamed}
 use prog.Atomic.{either}
 use types.Logic.{Logic, sem}
 use types.Kit.{‵, raw, ◌⊛◌, some, given, ◌$◌, ◌∵◌, !, qed, by, move, keep, drop, split, fsplit, fsplit3, fjoin, fjoin3, fpick, fpack, pick, learn, show, check, frame, each, assume, suffices, settle, use1, use2, use3, rewrite, done}
@@ -20,7 +20,7 @@ use Rattle.core.specs.Sync.RawAtomic.{Shift, rests, ends, enters, leaves, along,
 use types.Growing.{latest_grows, latest_shows}
 use base.Growing.{latest, at_least}
 use mathlib.Core.List.{prefix-append}
-use Rattle.ref_core.specs.WeightRule.{full_weight, IsBalanced, IsWeight}
+use Rattle.ref_core.specs.WeightRule.{full_weight, IsBalanced}
 use Rattle.raw_block.specs.Views.{Life}
 use Rattle.raw_block.specs.Shares.{About, about, Log, reached, was, entry, kept, beside_word, state, alive, Inv, held, freed, told, tells}
 use Rattle.raw_block.proofs.Entries.{kept_glue, kept_whole, entry_cut, Fit, entry_glue}

@@ -100,8 +100,8 @@ impl Part {
         self.weight += weight;
     }
 
-    /// Ends this part. The number that the word held at the step decides: where it was this part's weight the block has
-    /// no other holder, and else the weight was given back.
+    /// Ends this part, by one fetch-sub of its weight. The number that the step answers decides: `Last` exactly where
+    /// the word held this part's weight, since the block has no other holder then, and else `Left`.
     pub fn release(self) -> Released
         ensures { IsReleased self result }
     {
@@ -127,8 +127,8 @@ impl Part {
         }
     }
 
-    /// Asks for the block back: the Sole where the word held this part's weight at the step, and else the part again,
-    /// with what the word held.
+    /// Asks for the block back, by one compare-exchange of the part's weight for 0. The number that the step answers
+    /// decides: `Sole` exactly where the word held this part's weight, and else `Shared`, with what it held.
     pub fn claim(self) -> Claimed
         ensures { IsClaimed self result }
     {
@@ -159,7 +159,7 @@ impl Part {
         }
     }
 
-    /// The block back, from a part and receipts that have all the weight of its life together.
+    /// The block back, from a part and a receipt that weigh `FULL` together: its compare-exchange cannot miss.
     pub fn reunite(self, receipt: Receipt) -> Sole
         requires { (receipt.life ≡ self.life) × (self.weight + receipt.weight ≡ full_weight) }
         ensures sole { (result.bytes ≡ self.bytes) × (result.mark ≡ self.mark) }

@@ -1,5 +1,5 @@
 //! The only holder of a block.
-ghost use Rattle.std.specs.Prelude.{◌≡◌, ◌≤◌, length, replicate, slice_range, IfOk};
+ghost use Rattle.std.specs.Prelude.{◌≡◌, ◌+◌, ◌≤◌, length, replicate, slice_range, IfOk};
 ghost use Rattle.std.specs.Borrow.{sem};
 ghost use Rattle.ref_core.specs.WeightRule.{full_weight};
 ghost use Rattle.raw_block.specs.Lending.{lends_bytes, lends_content};
@@ -32,7 +32,7 @@ impl Model for Sole {
 fn range_of(block: &mut Block<Bytes>, from: usize, to: usize) -> &mut [u8]
     requires { (from ≤ to) × (to ≤ 2048) }
     ensures* writes_back { sem 𝓛 (lends_content block.entry from result) }
-    ensures value { result.now ≡ slice_range block.old.content.bytes from to }
+    ensures value { (result.now ≡ slice_range block.old.content.bytes from to) × (length result.now + from ≡ to) }
 {
     block.content.range_mut(from, to)
 }
@@ -82,6 +82,7 @@ impl Sole {
         requires { (from ≤ to) × (to ≤ 2048) }
         ensures* writes_back { sem 𝓛 (lends_bytes self.entry from result) }
         ensures value { result.now ≡ slice_range self.old.bytes from to }
+        ensures size { length result.now + from ≡ to }
     {
         range_of(&mut self.block, from, to)
     }

@@ -1,16 +1,16 @@
 -- `range_mut` lends a range of the bytes. The borrow checker shows no write-back clause for a part of an array, so this walks the code by hand.
-use Rattle.std.proofs.Common.{◌≡◌, ℕ, ◌+◌, ◌-◌, ◌≤◌, List, [], ◌∷◌, refl, ap, arith, w64}
+use Rattle.std.proofs.Common.{ℕ, ◌+◌, ◌-◌, ◌≤◌, [], ◌∷◌, refl, arith, w64}
 use mir.Syntax.{named}
 use mir.Val.{Val, vptr, vint}
 use base.Logic.{SProp}
 use base.Fml.{GName, ftrue, flft}
-use types.Kit.{‵, raw, ◌⊛◌, some, later, ◌$◌, ◌∵◌, !, qed, by, move, keep, drop, split, split3, join, fsplit, fjoin, use2, await, pick, suffices, frame, done}
+use types.Kit.{‵, raw, ◌⊛◌, given, learn, some, later, ◌$◌, ◌∵◌, !, qed, move, keep, split, split3, join, fsplit, fjoin, use2, await, pick, suffices, frame, done}
 use types.Run.{stop, fld, addr, bin, no_more, and_then, returns, enter}
-use types.ByLocal.{alloc_all, pass_all, free_all, look_at, get, through, sets, is}
+use types.ByLocal.{alloc_all, pass_all, free_all, look_at, get, through, sets}
 use types.Part.{agg}
 use contract.Monad.{fact}
 use contract.Running.{tables}
-use denote.Builtin.{RefMutOf, u8, usize}
+use denote.Builtin.{RefMutOf, usize}
 use denote.Exit.{no, yes}
 use denote.Plain.{uint_vals, uint_Tells}
 use denote.Ref.{MutRef, mut_vals, mut_Tells}
@@ -18,10 +18,9 @@ use denote.RattleType.{owns}
 use denote.Signature.{plain}
 use denote.Slice.{slice_val}
 use denote.Steps.{nothing, heard}
-use denote.Triple.Entry.{on_entry}
 use denote.Triple.Walked.{says, Stays, stay_dropped, walk_of, ends_at, Goes-dropped, Goes-spent_ref}
 use Rattle.atomic_table.proofs.Walks.{proved}
-use Rattle.raw_block.proofs.Ranges.{S, lent_at, lends}
+use Rattle.raw_block.proofs.Ranges.{S, Sized, lent_at, lends}
 use Rattle.raw_block.specs.contracts.block.Bytes.range_mut as F
 use Rattle.raw_block.specs.contracts.block.Bytes.range_mut.Key.{name as #self}
 use Rattle.raw_block.proofs.block.Bytes.range_mut.Statement.{statement}
@@ -44,7 +43,7 @@ range_mut_spec 𝓤 𝓛 𝓜 𝓡 wired =
     sets ! (bin ! (get ! refl) (get ! refl) ordered) refl (tt, record { fits = omega arith }) $
     sets ! (addr ! (through ! refl (stop !))) refl (tt, tt) $
     sets ! (agg ! (and_then ! (get ! refl) (and_then ! (get ! refl) (no_more !)))) refl (tt, (tt, (record { fits = omega arith }, tt))) $
-    use2 𝓛 (later (some (lent_at 𝓛 b o κ q γ d from to ordered within (to - from)))) (lends 𝓛 b o κ q γ d from to ordered within (mut_vals a.0)) $ await ! tt $ pick ! (λ δ.
+    use2 𝓛 (later (some (λ (δ : GName). given (Sized 𝓛 b o κ q γ d from to ordered within) (lent_at 𝓛 b o κ q γ d from to ordered within (to - from) δ)))) (lends 𝓛 b o κ q γ d from to ordered within (mut_vals a.0)) $ await ! tt $ pick ! (λ δ. learn ! (λ sized.
     returns ! (look_at ! 0 refl) $ free_all ! refl $ keep ! (0 ∷ []) $ split3 ! $
     suffices ! _ (ends_at 𝓛 En hs c y (slice_val (b, from + (o + 0)) (to - from)) (record { ref_ptr = (b, from + (o + 0)); ghost_name = δ; now = Rattle.std.specs.Prelude.slice_range d.bytes from to }) (tt, (tt, (tt, tt))) (tt, (tt, (tt, tt)))) $
-    nothing ! $ nothing ! $ fjoin ! $ nothing ! $ fjoin ! $ nothing ! $ fjoin ! $ join ! $ move ! (1 ∷ 3 ∷ []) $ join ! $ join ! $ frame ! $ says ! refl $ done !))))
+    nothing ! $ nothing ! $ fjoin ! $ nothing ! $ fjoin ! $ nothing ! $ fjoin ! $ join ! $ move ! (1 ∷ 3 ∷ []) $ join ! $ join ! $ frame ! $ says ! (refl, sized) $ done !)))))

@@ -2,37 +2,35 @@
 use Rattle.std.proofs.Common.{◌≡◌, List, [], ◌∷◌, ◌++◌, refl, sym, ap, ◌∙◌, subst}
 use mir.Syntax.{Dict, a_type, dcons, dnil, impl, tcons, tnil}
 use mir.Raw.{raw as bare}
-use mir.Val.{Val, vptr, has_ty, WT}
+use mir.Val.{Val}
 use mir.MapTy.{inst_fn}
 use base.Fraction.{full_share}
-use base.Logic.{SProp, ent, emp, never, id⊢, fst∗, guard_i}
+use base.Logic.{SProp, ent, emp, never, id⊢, fst∗}
 use base.Fml.{Lft, Share, ftrue, flft}
 use prog.Wp.{WpFn}
 use types.Logic.{sem}
-use types.Kit.{Item, ‵, raw, ◌⊛◌, given, some, later, at_ret, ◌$◌, ◌∵◌, !, qed, by, move, keep, drop, split, split3, join, fsplit, fjoin, fjoin3, pick, learn, suffices, use0, use1, await, rewrite, feq_i, feq_l}
-use types.Run.{stop, fld, of_opd, no_more, and_then, first, blocks, exec, returns, enter}
-use types.ByLocal.{alloc_all, pass_all, free_all, look_at, get, get_in, sets, lands_as, lands_last, is, env}
-use types.Part.{agg, sub, whole}
-use contract.Monad.{fact, fact_i, fact_use}
+use types.Kit.{Item, ‵, raw, ◌⊛◌, some, later, ◌$◌, ◌∵◌, !, qed, by, move, keep, drop, split, split3, join, fsplit, fjoin, pick, suffices, use0, use1, await, feq_l}
+use types.Run.{of_opd, no_more, and_then, returns, enter}
+use types.ByLocal.{alloc_all, pass_all, free_all, look_at, get, sets, lands_as}
+use types.Part.{agg}
+use contract.Monad.{fact, fact_i}
 use contract.Running.{tables, tables_of}
 use contract.BorrowLft.{◌⊑◌, ⊑_static}
 use denote.Builtin.{RawPtr}
-use denote.Exit.{yes, no}
+use denote.Exit.{no}
 use denote.RattleType.{RattleType, owns}
-use denote.RawPtr.{Ptr, InBlock, block_ptr, null_ptr, ptr_val, block_of, count_of, at_block, in_a_block}
+use denote.RawPtr.{Ptr, block_ptr, null_ptr, ptr_val, in_a_block}
 use denote.Signature.{types_at, plain}
 use denote.Steps.{nothing, only, heard}
 use denote.Param.{param, arg, layout, bounded}
 use denote.Param.Laws.{Laws, arg_laws}
 use denote.Param.NoDrop.{glues}
 use denote.Triple.Clauses.{Lasts, lasts}
-use denote.Triple.Entry.{alive}
 use denote.Triple.Spec.{triple_of}
-use denote.Triple.Call.{calls_at, calls_at_last}
-use denote.Triple.Walked.{Stays, stay_dropped, walk_of, Goes-dropped}
+use denote.Triple.Call.{calls_at}
+use denote.Triple.Walked.{Stays, stay_dropped, walk_of}
 use Rattle.core.proofs.alloc.Calls.{Goes-blank}
-use Rattle.core.proofs.atomic.Steps.{tail}
-use Rattle.atomic_table.proofs.Walks.{proved, proved_at, leaves}
+use Rattle.atomic_table.proofs.Walks.{proved_at, leaves}
 use Rattle.atomic_table.proofs.Calls.{fm}
 use Rattle.std_alloc.proofs.BoxSteps.Form as box
 use Rattle.std_alloc.proofs.BoxSteps.Steps.{box_out, box_in}
@@ -40,12 +38,11 @@ use Rattle.std_alloc.specs.contracts.boxed.Box as boxes
 use Rattle.std_heap.specs.contracts.Global as heap
 use Rattle.std_heap.proofs.Global.TheLaws as heap_laws
 use Rattle.std_heap.proofs.GlobalAllocator.TheImpl.Met as allocator
-use Rattle.std_heap.proofs.Handle.{heap_val, heap_Tells}
 use Rattle.std_heap.specs.contracts.GlobalAllocator.TheImpl.{ghosts, dict}
 use Rattle.raw_block.proofs.Destruct++none.drop.Code as no_drop
 use Rattle.raw_block.specs.Heap.{may_free, heap_owns}
 use Rattle.raw_block.specs.contracts.heap.OnHeap as on_heap
-use Rattle.raw_block.proofs.Fields.{alone, typed, Heap_words, heap_told, heap_made, heap_placed}
+use Rattle.raw_block.proofs.Fields.{alone, Heap_words, heap_made}
 use Rattle.std_alloc.specs.contracts.boxed.Box.into_raw as callee
 use Rattle.std_alloc.proofs.boxed.Box.into_raw.Met as callee_met
 use Rattle.raw_block.specs.contracts.heap.OnHeap.of.{ended, clauses}

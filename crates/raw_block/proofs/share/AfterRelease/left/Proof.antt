@@ -3,7 +3,6 @@ use mir.Syntax.{dnil, a_type}
 use mir.Val.{Val}
 use mir.MapTy.{inst_fn}
 use base.Logic.{SProp, emp}
-use base.Fml.{GName}
 use types.Kit.{‵, raw, ◌⊛◌, given, ◌$◌, ◌∵◌, !, qed, by, move, keep, split, fsplit, fjoin, learn, use0, use1}
 use types.Run.{no_more, returns, enter}
 use types.ByLocal.{alloc_all, pass_all, free_all, look_at, sets}
@@ -20,7 +19,7 @@ use denote.Struct.Struct.{within}
 use denote.Triple.Entry.{alive}
 use denote.Triple.Walked.{Stays, stay_dropped, walk_of, Goes-dropped}
 use Rattle.atomic_table.proofs.Walks.{proved, leaves}
-use Rattle.ref_core.specs.WeightRule.{full_weight, IsBalanced, IsWeight}
+use Rattle.ref_core.specs.WeightRule.{full_weight}
 use Rattle.raw_block.specs.Views.{Life}
 use Rattle.raw_block.specs.Shares.{given_back_owns}
 use Rattle.raw_block.proofs.Fields.{alone}

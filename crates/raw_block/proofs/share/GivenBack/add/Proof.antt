@@ -2,7 +2,7 @@ use Rattle.std.proofs.Common.{◌≡◌, ℕ, ◌+◌, ◌<◌, List, [], ◌∷
 use mir.Syntax.{named}
 use mir.Val.{Val, vunit}
 use base.Logic.{SProp, emp}
-use base.Fml.{GName, ftrue, fsep, flft}
+use base.Fml.{ftrue, fsep, flft}
 use types.Kit.{‵, raw, ◌⊛◌, given, ◌$◌, ◌∵◌, !, qed, by, move, keep, split, join, fsplit, fsplit3, fjoin, learn, use0, use2, rewrite, feq_i, group}
 use types.Run.{of_opd, returns, enter}
 use types.ByLocal.{alloc_all, pass_all, free_all, look_at, sets}
@@ -15,7 +15,7 @@ use denote.Steps.{nothing, heard, opens, closes}
 use denote.Ref.{MutRef, mut_vals, mut_Tells}
 use denote.Triple.Walked.{Stays, stay_dropped, walk_of, Goes-dropped, stay_ref, Goes-ref}
 use Rattle.atomic_table.proofs.Walks.{proved, leaves}
-use Rattle.ref_core.specs.WeightRule.{full_weight, IsBalanced, IsWeight}
+use Rattle.ref_core.specs.WeightRule.{full_weight}
 use Rattle.raw_block.specs.Views.{Life}
 use Rattle.raw_block.specs.Shares.{given_back_owns}
 use Rattle.raw_block.proofs.Sharing as sharing

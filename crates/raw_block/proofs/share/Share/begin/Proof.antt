@@ -5,8 +5,7 @@ use mir.MapTy.{inst_fn}
 use base.Logic.{SProp, emp, id⊢, guard_i}
 use types.Logic.{sem}
 use base.Fml.{Lft, Share, ftrue, flft}
-use prog.Wp.{WpFn}
-use types.Kit.{‵, raw, ◌⊛◌, given, learn, later, ◌$◌, ◌∵◌, !, qed, by, move, keep, split, split3, join, fsplit, fjoin, fpick, use0, use1, await, rewrite, suffices, group}
+use types.Kit.{‵, raw, ◌⊛◌, given, learn, later, ◌$◌, ◌∵◌, !, qed, by, move, keep, split, split3, join, fsplit, fjoin, fpick, use0, use1, await, rewrite, group}
 use types.Run.{stop, fld, of_opd, no_more, and_then, returns, enter}
 use types.ByLocal.{alloc_all, pass_all, free_all, look_at, get, get_in, sets, is}
 use types.Part.{agg, sub, whole}
@@ -25,8 +24,7 @@ use denote.Param.Laws.{param_laws}
 use denote.Struct.Members.{Member}
 use denote.Triple.Walked.{Stays, stay_dropped, walk_of, Goes-dropped}
 use Rattle.atomic_table.proofs.Walks.{proved, leaves}
-use Rattle.ref_core.specs.WeightRule.{full_weight, IsBalanced, IsWeight}
-use Rattle.raw_block.specs.Views.{Life}
+use Rattle.ref_core.specs.WeightRule.{full_weight}
 use Rattle.raw_block.specs.Shares.{block, content_at, whole_with}
 use Rattle.raw_block.specs.contracts.share.Share as share
 use Rattle.raw_block.specs.Heap.{heap_owns}

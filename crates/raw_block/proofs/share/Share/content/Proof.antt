@@ -27,8 +27,6 @@ use denote.Struct.Lending.{lent_out}
 use denote.Triple.Walked.{Stays, stay_dropped, walk_of, Goes-dropped}
 use Rattle.core.proofs.atomic.Steps.{tail}
 use Rattle.atomic_table.proofs.Walks.{proved, leaves}
-use Rattle.ref_core.specs.WeightRule.{full_weight, IsBalanced, IsWeight}
-use Rattle.raw_block.specs.Views.{Life}
 use Rattle.raw_block.specs.Shares.{offset, share_shares}
 use Rattle.raw_block.specs.contracts.share.Share as share
 use Rattle.raw_block.proofs.Fields.{alone, Words, told, opened, sees}

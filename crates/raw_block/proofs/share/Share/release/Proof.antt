@@ -3,7 +3,7 @@ use mir.Syntax.{dnil, a_type}
 use mir.Val.{Val, vint, vptr, vstruct, vcons, vnil, of_list}
 use mir.MapTy.{inst_fn}
 use base.Logic.{SProp, emp, via, guard_i}
-use base.Fml.{Fml, GName, ftrue, fsep, feq}
+use base.Fml.{Fml, ftrue, fsep, feq}
 use types.Logic.{sem}
 use types.Kit.{‵, raw, ◌⊛◌, given, mean, at_ret, ◌$◌, ◌∵◌, !, qed, by, move, keep, drop, split, fsplit, fsplit3, fjoin, fjoin3, fpick, fpack, learn, use0, use1, use2, rewrite, feq_i, flt_i}
 use types.Run.{stop, fld, addr, lit, of_opd, no_more, and_then, first, blocks, exec, Calls-last, returns, enter}
@@ -24,7 +24,7 @@ use denote.Triple.Walked.{Stays, stay_dropped, walk_of, Goes-dropped}
 use Rattle.core.proofs.atomic.Steps.{tail}
 use Rattle.atomic_table.proofs.Walks.{proved, leaves}
 use Rattle.atomic_table.proofs.Calls.{fm, seq_cst, found, finds, subs}
-use Rattle.ref_core.specs.WeightRule.{full_weight, IsBalanced, IsWeight}
+use Rattle.ref_core.specs.WeightRule.{full_weight}
 use Rattle.raw_block.specs.Views.{Life}
 use Rattle.raw_block.specs.Shares.{about, entry, share_owns, tells}
 use Rattle.raw_block.specs.contracts.share.Share as share

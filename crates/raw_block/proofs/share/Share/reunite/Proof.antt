@@ -3,7 +3,7 @@ use mir.Syntax.{dnil, a_type}
 use mir.Val.{Val, vint, vptr}
 use mir.MapTy.{inst_fn}
 use base.Logic.{SProp, emp, via, guard_i}
-use base.Fml.{Fml, GName, ftrue}
+use base.Fml.{Fml, ftrue}
 use types.Logic.{sem}
 use types.Kit.{join, ‵, raw, ◌⊛◌, given, mean, at_ret, ◌$◌, ◌∵◌, !, qed, by, move, keep, drop, split, fsplit, fsplit3, fjoin, fpick, fpack, learn, use0, use1, use2, rewrite}
 use types.Run.{stop, fld, addr, lit, of_opd, no_more, and_then, first, blocks, exec, Calls-last, returns, enter}
@@ -24,7 +24,7 @@ use denote.Triple.Walked.{Stays, stay_dropped, walk_of, Goes-dropped}
 use Rattle.core.proofs.atomic.Steps.{tail}
 use Rattle.atomic_table.proofs.Walks.{proved, leaves}
 use Rattle.atomic_table.proofs.Calls.{fm, found, finds, exchanges}
-use Rattle.ref_core.specs.WeightRule.{full_weight, IsBalanced, IsWeight}
+use Rattle.ref_core.specs.WeightRule.{full_weight}
 use Rattle.raw_block.specs.Views.{Life}
 use Rattle.raw_block.specs.Shares.{About, about, entry, share_owns, tells}
 use Rattle.raw_block.specs.contracts.share.Share as share
@@ -56,7 +56,7 @@ reunite_spec 𝓤 𝓛 𝓜 𝓡 wired X L =
     let Asked : Type 0 = (k ≡ h.weight) × (t.life ≡ γ) × (h.weight + t.weight ≡ full_weight) in
     qed 𝓛 ((raw (alive 𝓛 En.signature κs qs) ⊛ ‵ (owns (types_at En.signature.params κs) a y.0.4)) ∷ raw (fact 𝓤 _) ∷ raw (fact 𝓤 Asked) ∷ []) ∵
     keep ! (2 ∷ 0 ∷ []) $ heard ! Asked (λ asked. let total = asked.2 in let heavy = asked.0 in split ! $ move ! (1 ∷ []) $ fsplit ! $ fsplit ! $ move ! (2 ∷ []) $ fsplit ! $ fsplit ! $
-    -- [its field; the note; the rest; my field; mine; the tokens]
+    -- [its field; what was given back; the rest; my field; mine; the tokens]
     keep ! (4 ∷ 1 ∷ 5 ∷ []) $ move ! (1 ∷ []) $ fsplit ! $ drop ! $ fpick ! (λ f. let V : About = ((f.0, t.mark), f.1) in move ! (1 ∷ []) $
     use1 𝓛 (given (InBlock p) (‵ (share_owns R p γ x mark h.weight))) (fact_use 𝓤 _ (owns_placed 𝓛 R p γ x mark h.weight) (guard_i 𝓤 (InBlock p) (sem 𝓛 (share_owns R p γ x mark h.weight)))) $ learn ! (λ inb. let at : p ≡ block_ptr b o = at_block p inb in
     rewrite ! 0 (λ (z : Ptr × ℕ). ‵ (share_owns R z.0 γ x mark z.1)) (λ i. (at i, sym asked.0 i)) refl $ rewrite ! 1 (λ (g : Life). ‵ (entry g.0 0 t.weight V)) asked.1 refl $

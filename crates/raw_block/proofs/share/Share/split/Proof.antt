@@ -4,7 +4,7 @@ use mir.Val.{Val, vint}
 use mir.MapTy.{inst_fn}
 use base.Fraction.{full_share}
 use base.Logic.{SProp, emp, guard_i}
-use base.Fml.{Fml, GName, ftrue, fsep, flft}
+use base.Fml.{Fml, ftrue, fsep, flft}
 use types.Logic.{sem}
 use types.Kit.{‵, raw, ◌⊛◌, given, ◌$◌, ◌∵◌, !, qed, by, move, keep, split, join, fsplit, fsplit3, fjoin, learn, use0, use1, rewrite, group}
 use types.Run.{stop, fld, load, of_opd, no_more, and_then, returns, enter}
@@ -26,7 +26,6 @@ use denote.Ref.{MutRef, mut_vals, mut_Tells}
 use denote.Plain.{uint_vals, uint_Tells}
 use denote.Triple.Walked.{Stays, stay_dropped, walk_of, Goes-dropped, stay_ref, Goes-ref}
 use Rattle.atomic_table.proofs.Walks.{proved, leaves}
-use Rattle.ref_core.specs.WeightRule.{full_weight, IsBalanced, IsWeight}
 use Rattle.raw_block.specs.Views.{Life}
 use Rattle.raw_block.specs.Shares.{share_owns}
 use Rattle.raw_block.specs.contracts.share.Share as share
