@@ -2,7 +2,6 @@
 use Rattle.std.proofs.Common.{◌≡◌, ℕ, ◌+◌, ◌-◌, ◌<◌, ◌≤◌, ◌⊎◌, inl, inr, Option, Some, None, List, [], ◌∷◌, ◌++◌, length, take, drop, length-append, refl, sym, ap, ◌∙◌, subst, arith}
 use Rattle.std.specs.Prelude.{min}
 use Rattle.std.proofs.lemmas.List.{get_or_append_left, drop-append-le, length-drop, take_all}
-use Rattle.inet_sum.specs.Stands.{StandsFor}
 use Rattle.inet_sum.specs.Stands.{FoldAndLength}
 use Rattle.net_bytes.specs.Bytes.{byte}
 use Rattle.frame_layout.specs.Shape.{Layout, shape_of}
@@ -14,7 +13,7 @@ use Rattle.frame_layout.specs.declared.layout.Layer.TheVariants.{Ethernet, Ip4, 
 use Rattle.frame_layout.proofs.Networks.{has_network}
 use Rattle.frame_layout.proofs.Shapes.{laid_end}
 use Rattle.frame_layout.proofs.Fronts.{same_shapes}
-use Rattle.frame_layout.specs.Front.{IsFrameOf, IsSummed, are_headers_right, IsJudged}
+use Rattle.frame_layout.specs.Front.{IsFrameOf, are_headers_right}
 use Rattle.frame_layout.proofs.Right.{right_all, all_right}
 
 module _ (h : List ℕ) (rest : FoldAndLength) (f : List ℕ) (s : IsFrameOf h rest f) where
@@ -29,14 +28,6 @@ module _ (h : List ℕ) (rest : FoldAndLength) (f : List ℕ) (s : IsFrameOf h r
 
   pub shape_of_head : ((k : ℕ) → byte h k < 256) → min (length f) 200 ≤ length h → shape_of h ≡ shape_of f
   shape_of_head small enough = same_shapes h f small s.in_bytes (omega (arith, long_is)) enough begins_is
-
-  pub summed_is : (end len : ℕ) (behind : FoldAndLength) → end ≤ length h → length h + rest.len ≡ len
-      → StandsFor behind (take (length h - end) (drop end h) ++ s.tail) → IsSummed h end len behind f
-  summed_is end len behind l whole sum = record {
-    begins = begins_is;
-    long = long_is ∙ whole;
-    sum = subst (StandsFor behind) (behind_is end l) sum;
-  }
 
 -- the layout is the frame's only one
 pub only_layout : (f : List ℕ) (l m : Layout) (P : Layout → Type 0) → Some l ≡ shape_of f → shape_of f ≡ Some m → P m → P l

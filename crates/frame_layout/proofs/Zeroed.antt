@@ -1,14 +1,16 @@
 -- Sums over pieces of a frame, with a field taken as zero.
-use Rattle.std.proofs.Common.{◌≡◌, ℕ, zero, suc, ◌+◌, ◌-◌, ◌*◌, ◌/◌, ◌%◌, ◌<◌, ◌≤◌, List, [], ◌∷◌, ◌++◌, length, take, drop, set, append_assoc, refl, sym, ap, ◌∙◌, subst, arith}
+use Rattle.std.proofs.Common.{◌≡◌, ℕ, zero, suc, ◌+◌, ◌-◌, ◌*◌, ◌/◌, ◌%◌, ◌<◌, ◌≤◌, List, [], ◌∷◌, ◌++◌, length, length-append, take, drop, set, append_assoc, refl, sym, ap, ◌∙◌, subst, arith}
 use Rattle.std.proofs.lemmas.List.{length-set, length-take, length-drop, get_or-take, get_or-drop, ext_get_or, take-take, drop-drop, drop-take, set-append_left}
 use Rattle.std.proofs.lemmas.List.Folds.{drop_split}
-use Rattle.inet_sum.specs.Stands.{StandsFor}
+use Rattle.inet_sum.specs.Sum.{word_sum, folded, fold_of, joined_fold}
+use Rattle.inet_sum.proofs.Folds.{even_total, joined_is}
+use Rattle.std.specs.Prelude.{◌==◌}
 use Rattle.net_bytes.specs.Bytes.{byte, be16, put16, part, bytes16}
 use Rattle.frame_layout.specs.Candidate.{pseudo_header, pseudo}
 use Rattle.frame_layout.specs.declared.layout.Header.{Header}
 use Rattle.frame_layout.specs.declared.layout.Layer.{Layer}
 use Rattle.frame_layout.specs.declared.layout.Layer.TheVariants.{Ethernet, Ip4, Ip6}
-use Rattle.frame_layout.specs.Front.{IsSummed, AreAddressesWithin}
+use Rattle.frame_layout.specs.Front.{AreAddressesWithin}
 
 -- a list with a field zero is what is before the field, two zeros, and what is behind it
 zeroed_split : (xs : List ℕ) (o : ℕ) → o + 2 ≤ length xs → put16 xs o 0 ≡ take o xs ++ (0 ∷ 0 ∷ drop (o + 2) xs)
@@ -37,6 +39,9 @@ zeroed_pieces h at o end inside fits =
     ∙ sym (zeroed_split (take (o + 2 + n) (drop at h)) o long)
     ∙ ap (λ z. put16 (take z (drop at h)) o 0) (sym b)
 
+length-put16 : (f : List ℕ) (at n : ℕ) → length (put16 f at n) ≡ length f
+length-put16 f at n = simp length-set
+
 -- a field in the first of two lists
 zeroed_append : (xs ys : List ℕ) (o : ℕ) → o + 2 ≤ length xs → put16 (xs ++ ys) o 0 ≡ put16 xs o 0 ++ ys
 zeroed_append xs ys o h =
@@ -63,29 +68,58 @@ zeroed_behind h f at o end inside fits long begins =
     ∙ sym (zeroed_append (part f at (end - at)) (drop end f) o size)
     ∙ ap (λ z. put16 z o 0) (sym (drop_split f at end (omega arith)))
 
-pub pseudo4 : (h : List ℕ) (at protocol len : ℕ) → protocol < 256
-    → (take (at + 20 - (at + 12)) (drop (at + 12) h) ++ (protocol / 256 ∷ protocol % 256 ∷ [])) ++ (len / 256 ∷ len % 256 ∷ []) ≡ pseudo_header h Ip4 at protocol len
-pseudo4 h at protocol len small =
-    let a : at + 20 - (at + 12) ≡ 8 = omega arith in
-    let b : protocol / 256 ≡ 0 = omega arith in
-    let c : protocol % 256 ≡ protocol = omega arith in
-    rw (a, b, c) (append_assoc (take 8 (drop (at + 12) h)) (0 ∷ protocol ∷ []) (bytes16 len))
+-- a number with the fold of a list in which a field is zero
+pub zeroed_total : (h : List ℕ) (at o end a b : ℕ) → at + o + 2 ≤ end → end ≤ length h → o % 2 ≡ 0
+    → folded a ≡ fold_of (take (at + o - at) (drop at h)) → folded b ≡ fold_of (take (end - (at + o + 2)) (drop (at + o + 2) h))
+    → folded (a + b) ≡ fold_of (put16 (part h at (end - at)) o 0)
+zeroed_total h at o end a b inside fits even ea eb =
+    let x : List ℕ = take (at + o - at) (drop at h) in
+    let y : List ℕ = take (end - (at + o + 2)) (drop (at + o + 2) h) in
+    let two : word_sum (0 ∷ 0 ∷ y) ≡ word_sum y = omega arith in
+    even_total x (0 ∷ 0 ∷ y) a b (omega (arith, length-take (at + o - at) (drop at h), length-drop at h)) ea (eb ∙ ap folded (sym two))
+    ∙ ap fold_of (zeroed_pieces h at o end inside fits)
 
-pub pseudo6 : (h : List ℕ) (at protocol len : ℕ) → protocol < 256
-    → (((take (at + 40 - (at + 8)) (drop (at + 8) h) ++ bytes16 (len / 65536)) ++ bytes16 (len % 65536)) ++ (0 ∷ 0 ∷ [])) ++ (protocol / 256 ∷ protocol % 256 ∷ []) ≡ pseudo_header h Ip6 at protocol len
-pseudo6 h at protocol len small =
-    let a : at + 40 - (at + 8) ≡ 32 = omega arith in
-    let b : protocol / 256 ≡ 0 = omega arith in
-    let c : protocol % 256 ≡ protocol = omega arith in
-    let p : List ℕ = take 32 (drop (at + 8) h) in
-    let x : List ℕ = bytes16 (len / 65536) in
-    let y : List ℕ = bytes16 (len % 65536) in
-    ap (λ z. (((take z (drop (at + 8) h) ++ x) ++ y) ++ (0 ∷ 0 ∷ [])) ++ (protocol / 256 ∷ protocol % 256 ∷ [])) a
-    ∙ ap (λ z. (((p ++ x) ++ y) ++ (0 ∷ 0 ∷ [])) ++ (z ∷ protocol % 256 ∷ [])) b
-    ∙ ap (λ z. (((p ++ x) ++ y) ++ (0 ∷ 0 ∷ [])) ++ (0 ∷ z ∷ [])) c
-    ∙ append_assoc ((p ++ x) ++ y) (0 ∷ 0 ∷ []) (0 ∷ protocol ∷ [])
-    ∙ append_assoc (p ++ x) y (0 ∷ 0 ∷ 0 ∷ protocol ∷ [])
-    ∙ append_assoc p x (y ++ (0 ∷ 0 ∷ 0 ∷ protocol ∷ []))
+-- numbers with the folds of the pseudo headers
+pub pseudo4_total : (h : List ℕ) (at protocol len a : ℕ) → at + 20 ≤ length h → folded a ≡ fold_of (take (at + 20 - (at + 12)) (drop (at + 12) h))
+    → folded (a + protocol + len) ≡ fold_of (pseudo_header h Ip4 at protocol len)
+pseudo4_total h at protocol len a fits e =
+    let n : at + 20 - (at + 12) ≡ 8 = omega arith in
+    let g : a + protocol + len ≡ a + (protocol + len) = omega arith in
+    let w : protocol + len ≡ word_sum (0 ∷ protocol ∷ bytes16 len) = omega arith in
+    ap folded g
+    ∙ even_total (part h (at + 12) 8) (0 ∷ protocol ∷ bytes16 len) a (protocol + len) (omega (arith, length-take 8 (drop (at + 12) h), length-drop (at + 12) h))
+    (e ∙ ap (λ z. fold_of (take z (drop (at + 12) h))) n) (ap folded w)
+
+pub pseudo6_total : (h : List ℕ) (at protocol len a : ℕ) → at + 40 ≤ length h → folded a ≡ fold_of (take (at + 40 - (at + 8)) (drop (at + 8) h))
+    → folded (a + len / 65536 + len % 65536 + protocol) ≡ fold_of (pseudo_header h Ip6 at protocol len)
+pseudo6_total h at protocol len a fits e =
+    let n : at + 40 - (at + 8) ≡ 32 = omega arith in
+    let tail : List ℕ = bytes16 (len / 65536) ++ (bytes16 (len % 65536) ++ (0 ∷ 0 ∷ 0 ∷ protocol ∷ [])) in
+    let g : a + len / 65536 + len % 65536 + protocol ≡ a + (len / 65536 + len % 65536 + protocol) = omega arith in
+    let w : len / 65536 + len % 65536 + protocol ≡ word_sum tail = omega arith in
+    ap folded g
+    ∙ even_total (part h (at + 8) 32) tail a (len / 65536 + len % 65536 + protocol) (omega (arith, length-take 32 (drop (at + 8) h), length-drop (at + 8) h))
+    (e ∙ ap (λ z. fold_of (take z (drop (at + 8) h))) n) (ap folded w)
+
+-- a pseudo header has an even number of bytes
+pseudo_even : (h : List ℕ) (l : Layer) (at protocol len : ℕ) → AreAddressesWithin (length h) l at → length (pseudo_header h l at protocol len) % 2 ≡ 0
+pseudo_even h Ip4 at protocol len fits = omega (arith, length-append (part h (at + 12) 8) (0 ∷ protocol ∷ bytes16 len), length-take 8 (drop (at + 12) h), length-drop (at + 12) h)
+pseudo_even h Ip6 at protocol len fits = omega (arith, length-append (part h (at + 8) 32) (bytes16 (len / 65536) ++ (bytes16 (len % 65536) ++ (0 ∷ 0 ∷ 0 ∷ protocol ∷ []))), length-take 32 (drop (at + 8) h), length-drop (at + 8) h)
+pseudo_even h _ at protocol len fits = refl
+
+-- the fold of the pseudo header, the header with its field zero, and what is behind `end`
+pub joined_total : (h : List ℕ) (ip : Header) (protocol at o end n a b behind : ℕ) (rest : List ℕ) → at + o + 2 ≤ end → end ≤ length h
+    → AreAddressesWithin (length h) ip.layer ip.at
+    → folded a ≡ fold_of (pseudo h ip protocol n) → folded b ≡ fold_of (put16 (part h at (end - at)) o 0) → behind ≡ fold_of rest
+    → joined_fold ((end - at) % 2 == 1) (folded (a + b)) behind ≡ fold_of ((pseudo h ip protocol n ++ put16 (part h at (end - at)) o 0) ++ rest)
+joined_total h ip protocol at o end n a b behind rest inside fits addresses ea eb er =
+    let x : List ℕ = pseudo h ip protocol n in
+    let y : List ℕ = put16 (part h at (end - at)) o 0 in
+    let even : length x % 2 ≡ 0 = pseudo_even h ip.layer ip.at protocol n addresses in
+    let ly : length y ≡ end - at = omega (arith, length-put16 (part h at (end - at)) o 0, length-take (end - at) (drop at h), length-drop at h) in
+    let parity : (length (x ++ y) % 2 == 1) ≡ ((end - at) % 2 == 1) = ap (λ z. z == 1) (omega (arith, length-append x y, even, ly)) in
+    ap (λ z. joined_fold z (folded (a + b)) behind) (sym parity)
+    ∙ joined_is (x ++ y) rest (folded (a + b)) behind (length (x ++ y)) (even_total x y a b even ea eb) er refl
 
 -- the pseudo header is read in the first bytes
 same_pseudo : (h f : List ℕ) (l : Layer) (at protocol len : ℕ) → AreAddressesWithin (length h) l at → length h ≤ length f

@@ -1,7 +1,8 @@
 -- What a judge of frames knows of them: their first bytes, their length, and the sum of the bytes behind these.
 use Rattle.std.specs.Prelude.{◌≡◌, ℕ, ◌+◌, ◌-◌, ◌*◌, ◌/◌, ◌%◌, ◌<◌, ◌≤◌, ◌⊎◌, ◌||◌, ◌&&◌, ◌==◌, nat_lt, Bool, true, false, Option, Some, None, List, [], ◌∷◌, ◌++◌, length, drop}
-use Rattle.inet_sum.specs.Stands.{StandsFor}
-use Rattle.inet_sum.specs.Stands.{FoldAndLength}
+use Rattle.inet_sum.specs.Stands.{FoldAndLength, StandsFor}
+use Rattle.inet_sum.specs.Sum.{fold_of}
+use Rattle.frame_layout.specs.declared.front.Front.{Front}
 use Rattle.net_bytes.specs.Bytes.{byte, be16}
 use Rattle.frame_layout.specs.declared.layout.Header.{Header}
 use Rattle.frame_layout.specs.declared.layout.Layer.{Layer}
@@ -16,11 +17,11 @@ pub record IsFrameOf (head : List ℕ) (rest : FoldAndLength) (f : List ℕ) : T
   pub sum : StandsFor rest tail
   pub in_bytes : (k : ℕ) → byte f k < 256
 
--- `f` begins with `head` and has this length, and `behind` is the sum of its bytes from `end` on
-pub record IsSummed (head : List ℕ) (end len : ℕ) (behind : FoldAndLength) (f : List ℕ) : Type 0 where
-  pub begins : (k : ℕ) → k < length head → byte f k ≡ byte head k
-  pub long : length f ≡ len
-  pub sum : StandsFor behind (drop end f)
+-- `f` begins with the first bytes that are known, and has the length and the fold that are known
+pub record IsFrontOf (front : Front) (f : List ℕ) : Type 0 where
+  pub begins : (k : ℕ) → k < length front.head.now → byte f k ≡ byte front.head.now k
+  pub long : length f ≡ front.len
+  pub fold : front.behind ≡ fold_of (drop front.end f)
 
 -- the header has a right length field and plain flags in a frame of n bytes
 abbrev pub is_plain : List ℕ → ℕ → Layer → ℕ → Bool
@@ -44,8 +45,3 @@ abbrev pub AreAddressesWithin : ℕ → Layer → ℕ → Type 0
 AreAddressesWithin n Ip4 at = at + 20 ≤ n
 AreAddressesWithin n Ip6 at = at + 40 ≤ n
 AreAddressesWithin n _ at = Unit {0}
-
--- the answer is a candidate's layout, or there is none
-abbrev pub IsJudged : List ℕ → ℕ → Option Layout → Type 0
-IsJudged f original None = (layout : Layout) → shape_of f ≡ Some layout → IsCandidate f original layout → ⊥
-IsJudged f original (Some layout) = (shape_of f ≡ Some layout) × IsCandidate f original layout

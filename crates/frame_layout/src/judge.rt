@@ -1,18 +1,20 @@
 //! Which frames may be merged.
 
-ghost use Rattle.std.specs.Prelude.{◌≡◌, ℕ, ◌+◌, ◌-◌, ◌<◌, ◌≤◌, ◌^◌, ◌↔◌, List, length, min, IsTrue, IfSome};
-ghost use Rattle.frame_layout.specs.Shape.{shape_of};
+ghost use Rattle.std.specs.Prelude.{◌≡◌, ℕ, ◌+◌, ◌-◌, ◌<◌, ◌≤◌, ◌^◌, ◌↔◌, ◌++◌, List, length, take, drop, min, IsTrue};
+ghost use Rattle.inet_sum.specs.Stands.{StandsFor};
+ghost use Rattle.inet_sum.specs.Sum.{fold_of};
 ghost use Rattle.frame_layout.specs.Candidate.{IsSumRight};
 ghost use Rattle.frame_layout.specs.Headers.{size, AtHeaders};
-ghost use Rattle.frame_layout.specs.Front.{IsFrameOf, IsSummed, is_plain as is_plain_of, IsHeaderRight, are_headers_right, AreAddressesWithin, IsJudged};
+ghost use Rattle.frame_layout.specs.Front.{IsFrameOf, IsFrontOf, is_plain as is_plain_of, IsHeaderRight, are_headers_right, AreAddressesWithin};
 ghost use Rattle.frame_layout.specs.Segment.{IsSegOf};
 ghost use Rattle.frame_layout.specs.declared.layout.Layer.TheVariants.{Ethernet, Tcp};
 
-use crate::layout::{Header, Layer, Layout};
+use crate::front::Front;
+use crate::layout::{Header, Layer};
 use crate::read::shape;
 use crate::segment::{Seg, fields_of};
-use crate::sums::{carried_sum, ip4_sum, is_udp_summed};
-use inet_sum::Partial;
+use crate::sums::{carried_sum, ip4_sum, is_udp_summed, joined};
+use inet_sum::{Partial, unfolded};
 use net_bytes::be16;
 
 /// No candidate is longer: its first IP header begins by place 22, has at most 40 bytes, and counts what follows in 16
@@ -48,69 +50,40 @@ fn is_plain_tcp(head: &[u8], at: usize) -> bool
 }
 
 /// Whether the header's sum is right.
-fn is_summed(
-    head: &[u8],
-    ip: Header,
-    header: Header,
-    end: usize,
-    len: usize,
-    behind: Partial,
-) -> bool
-    requires inside { header.at + size header.layer ≤ end }
-    requires end { end ≤ length head.now }
-    requires short { length head.now < 2 ^ 29 }
-    requires long { length head.now ≤ len }
-    requires few { len < 2 ^ 29 }
-    requires there { AreAddressesWithin (length head.now) ip.layer ip.at }
-    requires behind { behind.len < 2 ^ 29 }
-    ensures { (f : List ℕ) → IsSummed head.now end len behind f → IsTrue result ↔ IsSumRight f ip header.layer header.at }
+fn is_summed(front: &Front, ip: Header, header: Header) -> bool
+    requires inside { header.at + size header.layer ≤ front.now.end }
+    requires there { AreAddressesWithin (length front.now.head.now) ip.layer ip.at }
+    ensures { (f : List ℕ) → IsFrontOf front.now f → IsTrue result ↔ IsSumRight f ip header.layer header.at }
 {
     let at = header.at;
     match header.layer {
-        Layer::Ip4 => be16(head, at + 10) == ip4_sum(head, at),
-        Layer::Tcp => be16(head, at + 16) == carried_sum(head, ip, 6, at, 16, end, len, behind),
-        Layer::Udp => is_udp_summed(head, ip, at, end, len, behind),
+        Layer::Ip4 => be16(front.head, at + 10) == ip4_sum(front.head, at),
+        Layer::Tcp => be16(front.head, at + 16) == carried_sum(front, ip, 6, at, 16),
+        Layer::Udp => is_udp_summed(front, ip, at),
         _ => true,
     }
 }
 
 /// Whether the header's length field, flags and sum are right.
-fn is_right(
-    head: &[u8],
-    ip: Header,
-    header: Header,
-    end: usize,
-    len: usize,
-    behind: Partial,
-) -> bool
-    requires inside { header.at + size header.layer ≤ end }
-    requires end { end ≤ length head.now }
-    requires short { length head.now < 2 ^ 29 }
-    requires long { length head.now ≤ len }
-    requires few { len < 2 ^ 29 }
-    requires there { AreAddressesWithin (length head.now) ip.layer ip.at }
-    requires behind { behind.len < 2 ^ 29 }
-    ensures { (f : List ℕ) → IsSummed head.now end len behind f → IsTrue result ↔ IsHeaderRight f ip header.layer header.at }
+fn is_right(front: &Front, ip: Header, header: Header) -> bool
+    requires inside { header.at + size header.layer ≤ front.now.end }
+    requires there { AreAddressesWithin (length front.now.head.now) ip.layer ip.at }
+    ensures { (f : List ℕ) → IsFrontOf front.now f → IsTrue result ↔ IsHeaderRight f ip header.layer header.at }
 {
-    is_plain(head, len, header) && is_summed(head, ip, header, end, len, behind)
+    is_plain(front.head, front.len, header) && is_summed(front, ip, header)
 }
 
 /// Whether all headers' length fields, flags and sums are right.
-fn are_right(head: &[u8], headers: &[Header], end: usize, len: usize, behind: Partial) -> bool
-    requires inside { AtHeaders (λ layer at. at + size layer ≤ end) headers.now }
-    requires end { end ≤ length head.now }
-    requires short { length head.now < 2 ^ 29 }
-    requires long { length head.now ≤ len }
-    requires few { len < 2 ^ 29 }
-    requires behind { behind.len < 2 ^ 29 }
-    ensures { (f : List ℕ) → IsSummed head.now end len behind f → IsTrue result ↔ are_headers_right f (record { layer = Ethernet; at = 0 }) headers.now }
+fn are_right(front: &Front, headers: &[Header]) -> bool
+    requires inside { AtHeaders (λ layer at. at + size layer ≤ front.now.end) headers.now }
+    ensures { (f : List ℕ) → IsFrontOf front.now f → IsTrue result ↔ are_headers_right f (record { layer = Ethernet; at = 0 }) headers.now }
 {
     let mut ip = Header {
         layer: Layer::Ethernet,
         at: 0,
     };
     for header in headers {
-        if !is_right(head, ip, *header, end, len, behind) {
+        if !is_right(front, ip, *header) {
             return false;
         }
         ip = *header;
@@ -118,14 +91,25 @@ fn are_right(head: &[u8], headers: &[Header], end: usize, len: usize, behind: Pa
     true
 }
 
-/// The headers of the frame, where it may be merged. The frame is `head` with bytes behind it, of which `rest` is the
-/// sum; it is `len` bytes long in all, and was `original` bytes long.
-fn judged(head: &[u8], rest: &Partial, len: u32, original: u32) -> Option<Layout>
+/// The fold of the bytes from `end` on: those of `head`, and those behind it, of which `rest` is the sum.
+fn fold_behind(head: &[u8], end: usize, rest: &Partial) -> u16
+    requires inside { end ≤ length head.now }
+    requires short { length head.now < 2 ^ 29 }
+    ensures { (tail : List ℕ) → StandsFor rest.now tail → result ≡ fold_of (take (length head.now - end) (drop end head.now) ++ tail) }
+{
+    let own = unfolded(&head[end..]);
+    joined(own, (head.len() - end) % 2 == 1, rest.fold())
+}
+
+/// Whether a frame may be merged, and what merging reads of it. The frame is `head` with bytes behind it, of which
+/// `rest` is the sum; it has `len` bytes in all, and had `original` bytes before it was captured.
+///
+/// None where the frame has no shape, or isn't a candidate: it was cut off or padded, a reserved bit is set, a sum
+/// isn't its value, TCP's flags are others than ACK with at most PSH and FIN, or there is no payload.
+pub fn candidate(head: &[u8], rest: &Partial, len: u32, original: u32) -> Option<Seg>
     requires whole { length head.now + rest.now.len ≡ len }
     requires enough { min len 200 ≤ length head.now }
-    ensures judged { (f : List ℕ) → IsFrameOf head.now rest.now f → IsJudged f original result }
-    ensures there { IfSome result (λ l. AtHeaders (λ layer at. at + size layer ≤ length head.now) l.headers) }
-    ensures within { IfSome result (λ l. l.payload_at < len) }
+    ensures candidate { (f : List ℕ) → IsFrameOf head.now rest.now f → IsSegOf f original result }
 {
     if original != len {
         return None;
@@ -140,34 +124,20 @@ fn judged(head: &[u8], rest: &Partial, len: u32, original: u32) -> Option<Layout
     if end >= len as usize {
         return None;
     }
-    let mut behind = Partial::new();
-    behind.add(&head[end..]);
-    let behind = behind.joined(*rest);
-    if !are_right(head, layout.headers(), end, len as usize, behind) {
+    let front = Front {
+        head,
+        end,
+        len: len as usize,
+        behind: fold_behind(head, end, rest),
+    };
+    if !are_right(&front, layout.headers()) {
         return None;
     }
-    Some(layout)
-}
-
-/// Whether a frame may be merged, and what merging reads of it. The frame is `head` with bytes behind it, of which
-/// `rest` is the sum; it has `len` bytes in all, and had `original` bytes before it was captured.
-///
-/// None where the frame has no shape, or isn't a candidate: it was cut off or padded, a reserved bit is set, a sum
-/// isn't its value, TCP's flags are others than ACK with at most PSH and FIN, or there is no payload.
-pub fn candidate(head: &[u8], rest: &Partial, len: u32, original: u32) -> Option<Seg>
-    requires whole { length head.now + rest.now.len ≡ len }
-    requires enough { min len 200 ≤ length head.now }
-    ensures candidate { (f : List ℕ) → IsFrameOf head.now rest.now f → IsSegOf f original result }
-{
-    let Some(layout) = judged(head, rest, len, original) else {
-        return None;
-    };
     let fields = fields_of(head, layout.headers());
-    let payload_at = layout.payload_at();
     Some(Seg {
         layout,
-        payload_at,
-        payload_len: len - payload_at as u32,
+        payload_at: end,
+        payload_len: len - end as u32,
         seq: fields.seq,
         flags: fields.flags,
         id1: fields.id1,

@@ -89,3 +89,8 @@ joined_case front back false e = sym (fold-append_even front back (omega (arith,
 pub joined_is : (front back : List ℕ) (a b n : ℕ) → a ≡ fold_of front → b ≡ fold_of back → n ≡ length front
     → joined_fold (n % 2 == 1) a b ≡ fold_of (front ++ back)
 joined_is front back a b n e g l = rw (e, g, l) (joined_case front back (length front % 2 == 1) refl)
+
+-- two pieces from numbers that have their folds, where the first is even
+pub even_total : (xs ys : List ℕ) (a b : ℕ) → length xs % 2 ≡ 0 → folded a ≡ fold_of xs → folded b ≡ fold_of ys → folded (a + b) ≡ fold_of (xs ++ ys)
+even_total xs ys a b even e g =
+    sym (folded-add a b) ∙ ap (λ z. folded (z + folded b)) e ∙ ap (λ z. folded (fold_of xs + z)) g ∙ sym (fold-append_even xs ys even)

@@ -1,19 +1,17 @@
 -- What a capture of Ethernet frames holds.
-use Rattle.std.proofs.Common.{◌≡◌, ℕ, zero, suc, ◌+◌, ◌-◌, ◌*◌, ◌^◌, ◌<◌, ◌≤◌, inl, inr, Bool, true, false, Option, Some, None, List, [], ◌∷◌, ◌++◌, length, take, drop, refl, sym, ap, ◌∙◌, subst, arith, length-take}
-use Rattle.std.specs.Prelude.{nat_lt, nat_le}
+use Rattle.std.proofs.Common.{Bool, true, ◌≡◌, ℕ, zero, suc, ◌+◌, ◌-◌, ◌^◌, ◌<◌, ◌≤◌, inl, inr, false, Option, Some, None, List, [], ◌∷◌, take, drop, refl, arith, length-take}
+use Rattle.std.specs.Prelude.{if◌then◌else◌, nat_le}
 use Rattle.std.specs.List.{AllByRecursion}
 use Rattle.std.proofs.lemmas.List.{get_or-take, get_or-drop, get_or_past}
 use Rattle.std.proofs.lemmas.Bool.{cases_lt, ltb-false, leb-false}
-use Rattle.net_bytes.specs.Bytes.{byte}
 use Rattle.net_bytes.specs.Order.{number}
 use Rattle.net_bytes.specs.declared.order.Order.{Order}
 use Rattle.net_bytes.specs.declared.order.Order.TheVariants.{Big, Little}
 use Rattle.run_cuts.specs.Cut.{AllNeighbours}
-use Rattle.pcap_io.specs.Capture.{Packet, Found, packet_at, ended, one_more, judged, records_from, reads, found_after}
-use Rattle.pcap_io.specs.Headers.{first_that_holds, head_refusals, record_refusals, body_refusals, captured_length, original_length, file_refusals, order_of, is_bad_original}
+use Rattle.pcap_io.specs.Capture.{Packet, Found, packet_at, judged, records_from, found_after}
+use Rattle.pcap_io.specs.Headers.{first_that_holds, record_refusals, captured_length, original_length, file_refusals, order_of}
 use Rattle.pcap_io.specs.declared.faults.CapKind.{CapKind}
 use Rattle.pcap_io.specs.declared.heads.Link.TheVariants.{Ethernet}
-use Rattle.pcap_io.proofs.Fronts.{not_first}
 use Rattle.offload_model.specs.Laws.{InBytes}
 use Rattle.offload_model.specs.CaptureLaws.{IsCaptured, AreCaptured, CapturesAreCaptured}
 
@@ -45,17 +43,25 @@ rising_from n [] a = tt
 rising_from n (p ∷ []) a = tt
 rising_from n (p ∷ q ∷ ps) a = (omega (arith, a.0, a.2.0), rising_from (n + 1) (q ∷ ps) a.2)
 
+not_first : (b : Bool) (kind : CapKind) (rest : Option CapKind) → (if b then Some kind else rest) ≡ None → (b ≡ false) × (rest ≡ None)
+not_first true kind rest e = absurd cc
+not_first false kind rest e = (refl, e)
+
+-- where no refusal stands, none holds
+none_holds : (rows : List (Bool × CapKind)) → first_that_holds rows ≡ None → AllByRecursion (λ row. row.0 ≡ false) rows
+none_holds [] e = tt
+none_holds (row ∷ rows) e =
+    let p : (row.0 ≡ false) × (first_that_holds rows ≡ None) = not_first row.0 row.1 (first_that_holds rows) e in
+    (p.0, none_holds rows p.1)
+
 -- the first record, where nothing refuses it
 first_captured : (order : Order) (n : ℕ) (bytes : List ℕ) → InBytes bytes → first_that_holds (record_refusals order Ethernet n bytes) ≡ None → IsCaptured (packet_at order n bytes)
 first_captured order n bytes s e =
     let size : ℕ = captured_length order (take 16 bytes) in
-    let a = not_first _ _ _ e in
-    let b = not_first _ _ _ a.1 in
-    let c = not_first _ _ _ b.1 in
-    let d = not_first _ _ _ c.1 in
-    let few : n < 2 ^ 32 = few_of n b.0 in
-    let short : size ≤ 262144 = ltb-false 262144 size c.0 in
-    let lengths : original_length order (take 16 bytes) ≤ 2 ^ 31 - 1 = ltb-false (2 ^ 31 - 1) (original_length order (take 16 bytes)) d.0 in
+    let tests : AllByRecursion (λ row. row.0 ≡ false) (record_refusals order Ethernet n bytes) = none_holds (record_refusals order Ethernet n bytes) e in
+    let few : n < 2 ^ 32 = few_of n tests.1.0 in
+    let short : size ≤ 262144 = ltb-false 262144 size tests.1.1.0 in
+    let lengths : original_length order (take 16 bytes) ≤ 2 ^ 31 - 1 = ltb-false (2 ^ 31 - 1) (original_length order (take 16 bytes)) tests.1.1.1.0 in
     record {
       number = few;
       sec = number_small order (take 16 bytes) (take_small 16 bytes s);

@@ -1,8 +1,8 @@
 -- The tests are true exactly where the facts hold.
-use Rattle.std.proofs.Common.{◌≡◌, ℕ, zero, suc, ◌+◌, ◌-◌, ◌*◌, ◌%◌, ◌^◌, ◌<◌, ◌≤◌, ◌⊎◌, inl, inr, Bool, true, false, Option, Some, None, List, [], ◌∷◌, ◌++◌, length, get_or, refl, sym, ap, ◌∙◌, subst, arith}
+use Rattle.std.proofs.Common.{◌≡◌, ℕ, zero, suc, ◌+◌, ◌-◌, ◌*◌, ◌%◌, ◌^◌, ◌<◌, ◌≤◌, ◌⊎◌, inl, inr, Bool, true, false, Option, Some, None, List, [], ◌∷◌, length, get_or, refl, sym, subst, arith}
 use Rattle.std.specs.Prelude.{◌==◌, ◌&&◌, ◌||◌, not, nat_le, nat_lt, ◌↔◌}
 use Rattle.std.specs.Bool.{Decides}
-use Rattle.std.proofs.lemmas.Bool.{leb-true, le-leb, ltb-true, lt-ltb, and_parts, and_from, or_cases, eqb-true, eq-eqb}
+use Rattle.std.proofs.lemmas.Bool.{leb-true, le-leb, ltb-true, lt-ltb}
 use Rattle.std.proofs.lemmas.Bool.Decides.{Decides-eqb, Decides-like, Decides-and, Decides-or, Decides-not, Decides-below_and}
 use Rattle.net_bytes.specs.Bytes.{byte}
 use Rattle.ip_headers.specs.Ip4.{identification, dont_fragment}
@@ -13,13 +13,13 @@ use Rattle.frame_layout.specs.Headers.{AtHeaders, IsOutside, AreHeadersAlike}
 use Rattle.frame_layout.specs.Candidate.{IsLengthRight, AreFlagsPlain, IsSumRight, are_sums_right, IsCandidate}
 use Rattle.frame_layout.specs.declared.layout.Header.{Header}
 use Rattle.frame_layout.specs.declared.layout.Layer.{Layer}
-use Rattle.frame_layout.specs.declared.layout.Layer.TheVariants.{Ethernet, Tag, Ip4, Ip6, Udp, Vxlan, Tcp}
+use Rattle.frame_layout.specs.declared.layout.Layer.TheVariants.{Ethernet, Ip4, Ip6, Udp, Tcp}
 use Rattle.frame_layout.proofs.Shapes.{laid, same_shape}
 use Rattle.pcap_io.specs.Capture.{Packet}
 use Rattle.pcap_io.specs.Headers.{off_head}
 use Rattle.pcap_io.specs.declared.off_head.OffHead.{OffHead}
 use Rattle.offload_model.specs.Each.{Each, EachButLast}
-use Rattle.offload_model.specs.Mergeable.{AreUdpSumsAlike, IsAckAlone, IsSequenceBehind, AreIdsInStep, IsLengthInRange, payloads_of, AreConsecutive, IsMergeableAs, IsMergeable}
+use Rattle.offload_model.specs.Mergeable.{AreUdpSumsAlike, IsAckAlone, IsSequenceBehind, AreIdsInStep, IsLengthInRange, payloads_of, IsMergeableAs, IsMergeable}
 use Rattle.offload_model.specs.Merged.{Merged, is_fixed, modes_of}
 use Rattle.offload_model.specs.Segments.{packet_in, merged_in, IsModeLawful, IsCuttable, IsLawfulSuper, IsLawfulSingle, IsLawfulWindow, IsLawfulBy, IsLawfulRecord}
 use Rattle.offload_model.specs.Tests.{all_headers, each_from, each_but_last_from, is_length_right, are_flags_plain, is_sum_right, all_sums_right, is_candidate, is_outside, are_alike_below, are_udp_sums_alike, is_ack_alone, is_sequence_behind, are_ids_in_step, is_length_in_range, is_member, is_full_member, is_mergeable_as, is_mergeable, is_mode_lawful, is_cuttable_as, is_lawful_super, is_lawful_single, is_lawful_window, is_lawful_by, is_lawful_record}

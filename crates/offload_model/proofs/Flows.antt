@@ -1,21 +1,19 @@
 -- Over a whole capture every flow comes back.
-use Rattle.std.proofs.Common.{◌≡◌, ℕ, zero, suc, ◌+◌, ◌-◌, ◌%◌, ◌^◌, ◌<◌, ◌≤◌, ◌⊎◌, inl, inr, Bool, true, false, cond, Option, Some, None, List, [], ◌∷◌, ◌++◌, length, map, take, drop, refl, sym, ap, ◌∙◌, subst, arith}
-use Rattle.std.specs.Prelude.{◌==◌}
+use Rattle.std.proofs.Common.{◌≡◌, ℕ, ◌<◌, ◌≤◌, ◌⊎◌, Bool, true, false, cond, Option, Some, None, List, [], ◌∷◌, ◌++◌, length, map, take, refl, sym, ap, ◌∙◌, subst, arith}
 use Rattle.std.specs.List.{flat_map, filter, AllByRecursion, range_with_len}
 use Rattle.std.proofs.lemmas.List.{map-append, append-nil}
 use Rattle.std.proofs.lemmas.List.Concat.{flat_map-append}
 use Rattle.std.proofs.lemmas.List.Elements.{filter-append}
-use Rattle.std.proofs.lemmas.Bool.{cases_eq, eq-eqb, ne_eqb}
-use Rattle.run_cuts.specs.Cut.{AllNeighbours, IsCut}
+use Rattle.std.proofs.lemmas.Bool.{eq-eqb, ne_eqb}
 use Rattle.run_cuts.specs.Items.{begins_in, AreItems}
 use Rattle.run_cuts.proofs.Pass.{all_front, all_back}
-use Rattle.frame_layout.specs.Key.{key_of, queue_of, hash_of}
+use Rattle.frame_layout.specs.Key.{key_of, queue_of}
 use Rattle.pcap_io.specs.Capture.{Packet}
 use Rattle.offload_model.specs.Mergeable.{IsMergeable}
 use Rattle.offload_model.specs.Segments.{packet_in, with_frame, segments_of}
 use Rattle.offload_model.specs.Rounds.{is_key, is_of, is_queued, number_of, items_of, rounds_of}
-use Rattle.offload_model.specs.Written.{Options, record_of, window_of, window_record, windows_by, windows_of, round_records, records_of}
-use Rattle.offload_model.specs.CaptureLaws.{IsCaptured, AreCaptured, AreLawful, content, FlowsComeBack}
+use Rattle.offload_model.specs.Written.{Options, record_of, window_of, windows_by, windows_of, round_records}
+use Rattle.offload_model.specs.CaptureLaws.{IsCaptured, AreCaptured, content, FlowsComeBack}
 use Rattle.offload_model.proofs.Lists.{filter-flat_map, flat_map_none, all_filtered, all_of, all_joined, all_range, one_of_range, rounds_are, all_rounds, all_taken, near_taken, near_behind}
 use Rattle.offload_model.proofs.Items.{is_key_self, is_key_same, items_are}
 use Rattle.offload_model.proofs.RunRecords.{runs_come_back, record_key, segments_are}

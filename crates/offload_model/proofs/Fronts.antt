@@ -2,16 +2,15 @@
 use Rattle.std.proofs.Common.{◌≡◌, ℕ, suc, ◌+◌, ◌-◌, ◌*◌, ◌<◌, ◌≤◌, ◌⊎◌, inl, inr, List, [], ◌∷◌, ◌++◌, length, get_or, refl, sym, ap, ◌∙◌, subst, arith, length-append}
 use Rattle.std.proofs.lemmas.List.{get_or_append_left}
 use Rattle.std.proofs.lemmas.List.Concat.{flat_map-append}
-use Rattle.run_cuts.specs.Cut.{IsCut, IsClosedUnderFronts}
-use Rattle.run_cuts.proofs.Unique.{unique}
+use Rattle.run_cuts.specs.Cut.{IsClosedUnderFronts}
 use Rattle.frame_layout.specs.Headers.{AtHeaders}
 use Rattle.frame_layout.specs.Shape.{Layout}
 use Rattle.frame_layout.specs.declared.layout.Header.{Header}
 use Rattle.frame_layout.specs.declared.layout.Layer.{Layer}
-use Rattle.frame_layout.specs.declared.layout.Layer.TheVariants.{Ip4, Ip6, Udp}
+use Rattle.frame_layout.specs.declared.layout.Layer.TheVariants.{Ip4, Ip6}
 use Rattle.offload_model.proofs.Maps.{range_less}
 use Rattle.offload_model.specs.Each.{Each, EachButLast}
-use Rattle.offload_model.specs.Mergeable.{AreIdsInStep, IsLengthInRange, AreConsecutive, IsMergeable, payloads_of}
+use Rattle.offload_model.specs.Mergeable.{AreIdsInStep, AreConsecutive, IsMergeable, payloads_of}
 use Rattle.pcap_io.specs.Capture.{Packet}
 
 pub each_front : {X : Type 0} (P : ℕ → X → Type 0) (xs ys : List X) → Each P (xs ++ ys) → Each P xs
@@ -54,6 +53,3 @@ line_front layout first ps qs m = record {
 pub fronts_too : IsClosedUnderFronts IsMergeable
 fronts_too [] qs two m = absurd (omega arith)
 fronts_too (p ∷ ps) qs two m = (m.0, record { several = two; line = line_front m.0 p.frame (p ∷ ps) qs m.1.line })
-
-pub one_cut : (ps : List Packet) (rs ss : List (List Packet)) → IsCut IsMergeable ps rs → IsCut IsMergeable ps ss → rs ≡ ss
-one_cut ps rs ss = unique IsMergeable fronts_too ps rs ss

@@ -1,16 +1,16 @@
 -- What one more packet has to meet to continue a line of packets.
-use Rattle.std.proofs.Common.{◌≡◌, ℕ, suc, true, ◌+◌, ◌-◌, ◌*◌, ◌/◌, ◌%◌, ◌^◌, ◌<◌, ◌≤◌, ◌⊎◌, inl, inr, Some, List, [], ◌∷◌, ◌++◌, length, get_or, refl, sym, ap, ◌∙◌, subst, arith, length-append}
+use Rattle.std.proofs.Common.{◌≡◌, ℕ, true, ◌+◌, ◌%◌, ◌^◌, ◌<◌, ◌≤◌, ◌⊎◌, inl, inr, List, [], ◌∷◌, ◌++◌, length, refl, sym, subst, arith, length-append}
 use Rattle.std.proofs.lemmas.List.{get_or_append_left, get_or_push}
 use Rattle.std.proofs.lemmas.Bool.{cases_eq}
 use Rattle.ip_headers.specs.Ip4.{dont_fragment}
-use Rattle.offload_model.proofs.Fronts.{each_front}
-use Rattle.frame_layout.specs.Candidate.{IsCandidate}
-use Rattle.frame_layout.specs.Headers.{AtHeaders, AreHeadersAlike}
-use Rattle.frame_layout.specs.Shape.{Layout, shape_of}
+use Rattle.offload_model.proofs.Fronts.{each_front, line_front}
+use Rattle.offload_model.specs.Laws.{GrowsByOne}
+use Rattle.frame_layout.specs.Shape.{Layout}
 use Rattle.frame_layout.specs.declared.layout.Layer.TheVariants.{Ip4}
-use Rattle.net_bytes.specs.Bytes.{byte, be16}
+use Rattle.net_bytes.specs.Bytes.{be16}
 use Rattle.offload_model.specs.Each.{Each, EachButLast}
-use Rattle.offload_model.specs.Mergeable.{AreUdpSumsAlike, IsAckAlone, IsSequenceBehind, AreIdsInStep, IsLengthInRange, AreConsecutive, payloads_of}
+pub use Rattle.offload_model.specs.Mergeable.{Continues}
+use Rattle.offload_model.specs.Mergeable.{AreIdsInStep, AreConsecutive}
 use Rattle.pcap_io.specs.Capture.{Packet}
 
 pub each_push : {X : Type 0} (P : ℕ → X → Type 0) (xs : List X) (x : X) → Each P xs → P (length xs) x → Each P (xs ++ (x ∷ []))
@@ -36,19 +36,6 @@ each_but_last P xs x e = record {
   at = λ i d h.
       subst (P i) (get_or_append_left xs (x ∷ []) d i h) (e.at i d (omega (arith, length-append xs (x ∷ []))));
 }
-
--- what is asked of the packet and of the line before it
-pub record Continues (layout : Layout) (first : List ℕ) (ps : List Packet) (x : Packet) : Type 0 where
-  pub shape_is : shape_of x.frame ≡ Some layout
-  pub candidate : IsCandidate x.frame x.original layout
-  pub headers : AreHeadersAlike layout x.frame first
-  pub udp_sums : AtHeaders (AreUdpSumsAlike x.frame first) layout.headers
-  pub full : Each (λ i p. length p.frame ≡ length first) ps
-  pub shorter : length x.frame ≤ length first
-  pub flags : Each (λ i p. AtHeaders (IsAckAlone p.frame) layout.headers) ps
-  pub sequence : AtHeaders (IsSequenceBehind first x.frame (length ps * (length first - layout.payload_at))) layout.headers
-  pub ids : AtHeaders (AreIdsInStep first (ps ++ (x ∷ []))) layout.headers
-  pub fits : AtHeaders (IsLengthInRange (layout.payload_at + length (payloads_of layout (ps ++ (x ∷ []))))) layout.headers
 
 pub grows : (layout : Layout) (first : List ℕ) (ps : List Packet) (x : Packet)
     → AreConsecutive layout first ps → Continues layout first ps x → AreConsecutive layout first (ps ++ (x ∷ []))
@@ -119,3 +106,10 @@ ids_before first ps x at (inr s) =
 pub ids_apart : (first : List ℕ) (ps : List Packet) (d : Packet) (at : ℕ) → 2 ≤ length ps → be16 first (at + 4) < 65536
     → AreIdsRising first ps at → AreIdsStaying first ps at → ⊥
 ids_apart first ps d at two small r s = omega (arith, r.at 1 d two, s.at 1 d two)
+
+-- one more packet, both ways
+pub grows_by_one : GrowsByOne
+grows_by_one layout first ps x = (
+  λ l. (line_front layout first ps (x ∷ []) l, grown layout first ps x l),
+  λ h. grows layout first ps x h.0 h.1,
+)

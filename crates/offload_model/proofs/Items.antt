@@ -1,12 +1,16 @@
 -- The items of a queue are the cuts of its flows.
-use Rattle.std.proofs.Common.{◌≡◌, ℕ, ◌+◌, ◌<◌, ◌≤◌, ◌⊎◌, inl, inr, Bool, true, false, Option, Some, None, List, [], ◌∷◌, ◌++◌, length, take, refl, sym, ap, ◌∙◌, subst}
-use Rattle.std.specs.List.{flat_map, filter, AllByRecursion}
-use Rattle.std.specs.Bool.{Decides}
-use Rattle.std.specs.Str.{bytes_eq}
+use Rattle.std.proofs.Common.{◌≡◌, ℕ, ◌<◌, ◌⊎◌, inl, inr, true, Option, Some, None, List, [], ◌∷◌, ◌++◌, length, take, refl, sym, ap, subst}
+use Rattle.std.specs.List.{filter}
 use Rattle.std.proofs.lemmas.Slice.Eq.{bytes_eq-Decides}
 use Rattle.run_cuts.specs.Cut.{AllNeighbours, IsCut}
 use Rattle.run_cuts.specs.Items.{begins_in, AreFlows, AreItems}
+use Rattle.run_cuts.specs.Cut.{cut_of}
+use Rattle.run_cuts.proofs.Unique.{unique}
+use Rattle.run_cuts.proofs.Pass.{one_pass}
+use Rattle.run_cuts.proofs.Items.{unique_items}
 use Rattle.run_cuts.proofs.Ordered.{items_are_runs}
+use Rattle.offload_model.proofs.Fronts.{fronts_too}
+use Rattle.offload_model.specs.Laws.{HasOneCut}
 use Rattle.frame_layout.specs.Key.{key_of}
 use Rattle.pcap_io.specs.Capture.{Packet}
 use Rattle.offload_model.specs.Mergeable.{IsMergeable}
@@ -46,7 +50,8 @@ same_cut M N to from xs runs c = record {
   maximal = near_of (λ run next. M (run ++ take 1 next) → ⊥) (λ run next. N (run ++ take 1 next) → ⊥) runs (λ run next f m. f (from (run ++ take 1 next) m)) c.maximal;
 }
 
-pub items_are : ItemsAreRuns
+pub items_are : (queues q : ℕ) (ps : List Packet) → AllNeighbours (λ p q. p.number < q.number) ps
+    → AreItems IsMergeable is_of number_of (filter (is_queued queues q) ps) (items_of queues q ps)
 items_are queues q ps rising =
     let xs : List Packet = filter (is_queued queues q) ps in
     let i : AreItems (λ run. is_mergeable run ≡ true) is_of number_of xs (items_of queues q ps) =
@@ -56,3 +61,14 @@ items_are queues q ps rising =
       flows = λ key. same_cut (λ run. is_mergeable run ≡ true) IsMergeable (λ r. (decides_mergeable r).0) (λ r. (decides_mergeable r).1) (filter (is_of key) xs) (filter (begins_in (is_of key)) (items_of queues q ps)) (i.flows key);
       ordered = i.ordered;
     }
+
+pub items_are_runs_alone : ItemsAreRuns
+items_are_runs_alone queues q ps items rising = (
+  λ i. unique_items is_of number_of key_in (λ p. is_key_self (key_of p.frame)) IsMergeable fronts_too (filter (is_queued queues q) ps) items (items_of queues q ps) i (items_are queues q ps rising),
+  λ e. subst (AreItems IsMergeable is_of number_of (filter (is_queued queues q) ps)) (sym e) (items_are queues q ps rising),
+)
+
+pub one_cut : HasOneCut
+one_cut ps runs =
+    let own : IsCut IsMergeable ps (cut_of is_mergeable ps) = one_pass IsMergeable is_mergeable decides_mergeable ps in
+    (λ c. unique IsMergeable fronts_too ps runs (cut_of is_mergeable ps) c own, λ e. subst (IsCut IsMergeable ps) (sym e) own)

@@ -1,17 +1,15 @@
 -- The merged frame of mergeable packets is a right frame of their shape_of.
-use Rattle.std.proofs.Common.{◌≡◌, ℕ, suc, ◌+◌, ◌-◌, ◌*◌, ◌<◌, ◌≤◌, ◌⊎◌, inl, inr, Some, List, [], ◌∷◌, length, get_or, drop, refl, sym, ap, ◌∙◌, subst, arith, length-append}
+use Rattle.std.proofs.Common.{◌≡◌, ℕ, suc, ◌+◌, ◌-◌, ◌*◌, ◌<◌, ◌≤◌, inl, inr, Some, List, [], ◌∷◌, length, get_or, drop, refl, sym, ap, ◌∙◌, subst, arith, length-append}
 use Rattle.std.specs.List.{flat_map}
 use Rattle.std.proofs.lemmas.List.{length-drop}
 use Rattle.frame_layout.proofs.Shapes.{laid, same_shape}
 use Rattle.offload_model.proofs.Maps.{headers_map4}
 use Rattle.frame_layout.proofs.Alike.{IsAlikeAt, alike_at}
 use Rattle.frame_layout.specs.Candidate.{IsCandidate, AreFlagsPlain}
-use Rattle.frame_layout.specs.Headers.{AtHeaders, IsOutside, AreHeadersAlike, size, AreLaid}
+use Rattle.frame_layout.specs.Headers.{AtHeaders, AreHeadersAlike, AreLaid}
 use Rattle.frame_layout.specs.Shape.{Layout, shape_of}
-use Rattle.frame_layout.specs.declared.layout.Header.{Header}
 use Rattle.frame_layout.specs.declared.layout.Layer.{Layer}
-use Rattle.frame_layout.specs.declared.layout.Layer.TheVariants.{Ip4, Ip6, Udp, Tcp}
-use Rattle.net_bytes.specs.Bytes.{byte}
+use Rattle.frame_layout.specs.declared.layout.Layer.TheVariants.{Ip4, Tcp}
 use Rattle.offload_model.specs.Each.{Each}
 use Rattle.offload_model.specs.Frames.{IsMergedFrame, AreFlagsSame}
 use Rattle.offload_model.specs.Laws.{MergedIsLawful, IsCutExactly}

@@ -1,15 +1,15 @@
 -- The bytes that are written read as the records that they were written from.
-use Rattle.std.proofs.Common.{◌≡◌, ℕ, zero, suc, ◌+◌, ◌-◌, ◌*◌, ◌^◌, ◌<◌, ◌≤◌, ◌⊎◌, inl, inr, Bool, true, false, Option, Some, None, List, [], ◌∷◌, ◌++◌, length, map, take, drop, refl, sym, ap, ◌∙◌, subst, arith, length-append, length-take, length-drop, append_assoc}
-use Rattle.std.specs.Prelude.{nat_lt, nat_le, ◌||◌, ◌==◌, if◌then◌else◌}
-use Rattle.std.specs.List.{flat_map, AllByRecursion, range_with_len}
+use Rattle.std.proofs.Common.{◌≡◌, ℕ, ◌+◌, ◌^◌, ◌<◌, ◌≤◌, Bool, true, false, None, List, [], ◌∷◌, ◌++◌, length, take, drop, refl, sym, ap, ◌∙◌, arith, length-append, append_assoc}
+use Rattle.std.specs.Prelude.{nat_lt, nat_le, ◌||◌}
+use Rattle.std.specs.List.{flat_map, AllByRecursion}
 use Rattle.std.proofs.lemmas.List.{take_at, drop_at, drop-drop}
 use Rattle.std.proofs.lemmas.Bool.{le-ltb, lt-leb}
 use Rattle.byteorder.specs.Numbers.{big_number-reads_back, little_number-reads_back}
 use Rattle.net_bytes.specs.Order.{number, bytes_of}
 use Rattle.net_bytes.specs.declared.order.Order.{Order}
 use Rattle.net_bytes.specs.declared.order.Order.TheVariants.{Big, Little}
-use Rattle.pcap_io.specs.Capture.{Packet, Found, packet_at, ended, one_more, records_from, reads, found_after}
-use Rattle.pcap_io.specs.Headers.{first_that_holds, head_refusals, body_refusals, record_refusals, captured_length, original_length, file_refusals, file_head, order_of, captured_limit, is_bad_original, lacks_off_head}
+use Rattle.pcap_io.specs.Capture.{Packet, Found, one_more, records_from, reads}
+use Rattle.pcap_io.specs.Headers.{first_that_holds, head_refusals, body_refusals, record_refusals, captured_length, original_length, file_refusals, file_head, order_of, is_bad_original}
 use Rattle.pcap_io.specs.Written.{file_bytes, rec_bytes}
 use Rattle.pcap_io.specs.declared.faults.CapKind.{CapKind}
 use Rattle.pcap_io.specs.declared.heads.FileHead.{FileHead}

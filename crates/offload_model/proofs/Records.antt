@@ -1,20 +1,18 @@
 -- The record of mergeable packets may be cut, and is cut into these packets.
-use Rattle.std.proofs.Common.{◌≡◌, ℕ, zero, suc, ◌+◌, ◌-◌, ◌*◌, ◌/◌, ◌%◌, ◌^◌, ◌<◌, ◌≤◌, ◌⊎◌, inl, inr, Bool, true, false, Some, List, [], ◌∷◌, ◌++◌, length, get_or, map, take, drop, refl, sym, ap, ◌∙◌, subst, arith}
+use Rattle.std.proofs.Common.{◌≡◌, ℕ, zero, suc, ◌+◌, ◌-◌, ◌*◌, ◌/◌, ◌%◌, ◌^◌, ◌<◌, ◌≤◌, inl, inr, Bool, Some, List, [], ◌∷◌, ◌++◌, length, get_or, map, take, drop, refl, sym, ap, ◌∙◌, subst, arith}
 use Rattle.std.specs.Prelude.{◌==◌, if◌then◌else◌}
 use Rattle.std.specs.List.{AllByRecursion, range_with_len}
 use Rattle.std.specs.Option.{unwrap_or}
-use Rattle.std.proofs.lemmas.Bool.{eqb-true, eq-eqb, ne_eqb}
-use Rattle.std.proofs.lemmas.List.{length-map, length-drop}
+use Rattle.std.proofs.lemmas.Bool.{eqb-true}
+use Rattle.std.proofs.lemmas.List.{length-map}
 use Rattle.std.proofs.lemmas.List.FromFn.{fill_by_all}
 use Rattle.net_bytes.specs.Bytes.{byte, be16}
-use Rattle.ip_headers.specs.Ip4.{dont_fragment}
 use Rattle.frame_layout.specs.Shape.{Layout, shape_of}
-use Rattle.frame_layout.specs.Headers.{AtHeaders, AreHeadersAlike, size, AreLaid}
-use Rattle.frame_layout.specs.Candidate.{IsCandidate}
+use Rattle.frame_layout.specs.Headers.{AtHeaders, AreLaid}
 use Rattle.frame_layout.specs.declared.layout.Header.{Header}
 use Rattle.frame_layout.specs.declared.layout.Layer.{Layer}
-use Rattle.frame_layout.specs.declared.layout.Layer.TheVariants.{Ethernet, Tag, Ip4, Ip6, Udp, Vxlan, Tcp}
-use Rattle.frame_layout.proofs.Shapes.{laid, same_shape}
+use Rattle.frame_layout.specs.declared.layout.Layer.TheVariants.{Ip4, Ip6}
+use Rattle.frame_layout.proofs.Shapes.{laid}
 use Rattle.frame_layout.proofs.Alike.{IsAlikeAt, alike_at}
 use Rattle.frame_layout.proofs.SameKey.{same_key}
 use Rattle.frame_layout.specs.Key.{key_of}

@@ -1,24 +1,23 @@
 -- What a run's record is, and what comes back of it.
-use Rattle.std.proofs.Common.{◌≡◌, ℕ, zero, suc, ◌+◌, ◌-◌, ◌*◌, ◌^◌, ◌<◌, ◌≤◌, ◌⊎◌, inl, inr, Bool, true, false, Some, List, [], ◌∷◌, ◌++◌, length, get_or, map, drop, refl, sym, ap, ◌∙◌, subst, arith}
+use Rattle.std.proofs.Common.{◌≡◌, ℕ, zero, suc, ◌+◌, ◌-◌, ◌*◌, ◌^◌, ◌<◌, ◌≤◌, ◌⊎◌, inl, inr, false, List, [], ◌∷◌, length, get_or, map, refl, sym, ap, ◌∙◌, subst, arith}
 use Rattle.std.specs.Prelude.{◌==◌, if◌then◌else◌}
 use Rattle.std.specs.List.{AllByRecursion}
 use Rattle.std.proofs.lemmas.Bool.{ne_eqb}
 use Rattle.net_bytes.specs.Bytes.{byte}
-use Rattle.frame_layout.specs.Shape.{Layout, shape_of}
+use Rattle.frame_layout.specs.Shape.{Layout}
 use Rattle.frame_layout.specs.Key.{key_of}
 use Rattle.pcap_io.specs.Capture.{Packet}
 use Rattle.pcap_io.specs.Headers.{off_head}
-use Rattle.pcap_io.specs.Written.{off_bytes}
 use Rattle.pcap_io.specs.declared.off_head.OffHead.{OffHead}
-use Rattle.offload_model.specs.Mergeable.{IsMergeable, IsMergeableAs, payloads_of}
-use Rattle.offload_model.specs.Merged.{Merged, merged_of, frame_at, frame_of_run, is_fixed_in, modes_of}
-use Rattle.offload_model.specs.Segments.{with_head, packet_in, merged_in, frames_of, with_frame, segments_by, segments_of, IsCuttable, IsLawfulSuper, IsLawfulSingle, IsLawfulRecord, IsLawfulBy}
+use Rattle.offload_model.specs.Mergeable.{IsMergeable, payloads_of}
+use Rattle.offload_model.specs.Merged.{Merged, merged_of, frame_of_run}
+use Rattle.offload_model.specs.Segments.{with_head, packet_in, merged_in, frames_of, with_frame, segments_by, segments_of, IsCuttable, IsLawfulSuper, IsLawfulSingle}
 use Rattle.offload_model.specs.Written.{head_of, record_of}
 use Rattle.offload_model.specs.CaptureLaws.{IsCaptured, content, RunsComeBack, RunsAreLawful}
 use Rattle.offload_model.proofs.Lists.{all_of}
 use Rattle.offload_model.proofs.Opened.{Fits, opened_head, opened_packet}
 use Rattle.offload_model.proofs.Ranges.{in_range}
-use Rattle.offload_model.proofs.Records.{IsMergedRun, merged_by, merged_run, merged_of_is}
+use Rattle.offload_model.proofs.Records.{IsMergedRun, merged_run, merged_of_is}
 
 pub in_bytes : (ps : List Packet) → AllByRecursion IsCaptured ps → AllByRecursion (λ p. (k : ℕ) → byte p.frame k < 256) ps
 in_bytes ps a = all_of IsCaptured (λ (p : Packet). (k : ℕ) → byte p.frame k < 256) ps (λ p c. c.in_bytes) a

@@ -12,12 +12,12 @@ use Rattle.offload_model.proofs.Functions.{merged_is, segment_is}
 use Rattle.frame_layout.specs.Headers.{AreLaid}
 use Rattle.frame_layout.specs.Shape.{Layout}
 use Rattle.frame_layout.specs.declared.layout.Layer.{Layer}
-use Rattle.frame_layout.specs.declared.layout.Layer.TheVariants.{Ip4, Ip6, Udp}
+use Rattle.frame_layout.specs.declared.layout.Layer.TheVariants.{Ip4, Ip6}
 use Rattle.net_bytes.specs.Bytes.{byte, be16}
 use Rattle.offload_model.specs.Each.{Each}
 use Rattle.offload_model.specs.Frames.{segment_frame, IsMergedFrame, IsSegment, IsIdStep, IsFixedAt}
 use Rattle.offload_model.specs.Laws.{SegmentsGiveThePackets}
-use Rattle.offload_model.specs.Mergeable.{AreIdsInStep, IsLengthInRange, IsMergeableAs, payloads_of}
+use Rattle.offload_model.specs.Mergeable.{AreIdsInStep, IsMergeableAs, payloads_of}
 use Rattle.offload_model.specs.Merged.{frame_at, frame_of_run, is_fixed_in}
 use Rattle.pcap_io.specs.Capture.{Packet}
 

@@ -1,24 +1,21 @@
 -- All records that are written are lawful, and their bytes read as these records.
-use Rattle.std.proofs.Common.{◌≡◌, ℕ, zero, suc, ◌+◌, ◌-◌, ◌*◌, ◌^◌, ◌<◌, ◌≤◌, ◌⊎◌, inl, inr, Bool, true, false, cond, Option, Some, None, List, [], ◌∷◌, ◌++◌, length, map, take, drop, refl, sym, ap, ◌∙◌, subst, arith, length-append, length-take, length-drop}
+use Rattle.std.proofs.Common.{◌≡◌, ℕ, ◌+◌, ◌*◌, ◌^◌, ◌<◌, ◌≤◌, ◌⊎◌, inl, inr, true, false, cond, Option, None, List, [], ◌∷◌, ◌++◌, length, map, drop, refl, sym, ap, ◌∙◌, subst, arith, length-take, length-drop}
 use Rattle.std.specs.Prelude.{◌==◌, if◌then◌else◌}
 use Rattle.std.proofs.lemmas.List.{append-nil}
 use Rattle.std.specs.List.{flat_map, AllByRecursion, range_with_len, filter}
-use Rattle.run_cuts.specs.Items.{AreItems}
 use Rattle.run_cuts.proofs.Pass.{all_append}
-use Rattle.pcap_io.specs.Capture.{Packet, Found, reads, one_more, ended}
+use Rattle.pcap_io.specs.Capture.{Packet, Found, reads, one_more}
 use Rattle.pcap_io.specs.Headers.{off_head}
-use Rattle.pcap_io.specs.Written.{off_bytes}
 use Rattle.pcap_io.specs.declared.off_head.OffHead.{OffHead}
-use Rattle.pcap_io.specs.declared.heads.FileHead.{FileHead}
 use Rattle.pcap_io.specs.declared.heads.Link.TheVariants.{Offload}
 use Rattle.frame_layout.specs.Shape.{Layout}
 use Rattle.offload_model.specs.Mergeable.{IsMergeable}
 use Rattle.offload_model.specs.Merged.{Merged, merged_of}
-use Rattle.offload_model.specs.Segments.{with_head, packet_in, merged_in, with_frame, frames_of, segments_of, IsCuttable, IsLawfulSuper, IsLawfulSingle, IsLawfulWindow, IsLawfulBy, IsLawfulRecord}
+use Rattle.offload_model.specs.Segments.{packet_in, merged_in, with_frame, frames_of, segments_of, IsCuttable, IsLawfulWindow, IsLawfulRecord}
 use Rattle.offload_model.specs.Tests.{is_lawful_record}
-use Rattle.offload_model.specs.Rounds.{is_of, is_queued, number_of, items_of, rounds_of}
+use Rattle.offload_model.specs.Rounds.{is_of, is_queued, items_of, rounds_of}
 use Rattle.offload_model.specs.Written.{Options, head_of, record_of, window_of, window_record, windows_by, windows_of, round_records, records_of, record_bytes, written}
-use Rattle.offload_model.specs.CaptureLaws.{IsCaptured, AreCaptured, AreLawful, numbered, tested_from, reads_tested, content, ReadsBack, HeadReadsBack, WrittenComesBack}
+use Rattle.offload_model.specs.CaptureLaws.{IsCaptured, AreCaptured, AreLawful, numbered, tested_from, content, ReadsBack, HeadReadsBack, WrittenComesBack}
 use Rattle.offload_model.proofs.Decides.{decides_record}
 use Rattle.offload_model.proofs.Lists.{all_filtered, all_of, all_joined, all_range}
 use Rattle.offload_model.proofs.Opened.{opened_head, length-off_bytes}

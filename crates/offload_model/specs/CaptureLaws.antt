@@ -1,5 +1,5 @@
 -- The laws of merging and segmenting, of a whole capture.
-use Rattle.std.specs.Prelude.{◌≡◌, ℕ, ◌+◌, ◌^◌, ◌<◌, ◌≤◌, ◌⊎◌, Bool, true, if◌then◌else◌, Option, Some, None, List, [], ◌∷◌, length, map, take}
+use Rattle.std.specs.Prelude.{◌≡◌, ℕ, ◌+◌, ◌^◌, ◌<◌, ◌≤◌, ◌⊎◌, ◌↔◌, if◌then◌else◌, Option, Some, None, List, [], ◌∷◌, length, map, take}
 use Rattle.std.specs.List.{AllByRecursion, filter, flat_map}
 use Rattle.run_cuts.specs.Cut.{AllNeighbours}
 use Rattle.run_cuts.specs.Items.{AreItems}
@@ -11,7 +11,7 @@ use Rattle.pcap_io.specs.declared.faults.CapFault.{CapFault}
 use Rattle.pcap_io.specs.declared.faults.CapKind.TheVariants.{BadOffload}
 use Rattle.offload_model.specs.Mergeable.{IsMergeable}
 use Rattle.offload_model.specs.Merged.{merged_of}
-use Rattle.offload_model.specs.Segments.{packet_in, segments_of, IsLawfulSuper, IsLawfulRecord}
+use Rattle.offload_model.specs.Segments.{packet_in, segments_of, IsLawfulSuper}
 use Rattle.offload_model.specs.Tests.{is_lawful_record}
 use Rattle.offload_model.specs.Rounds.{is_of, is_queued, number_of, items_of}
 use Rattle.offload_model.specs.Written.{Options, record_of, records_of, written}
@@ -67,12 +67,12 @@ RunsAreLawful =
 
 -- ---- rounds
 
--- the items of a queue are the cuts of all its flows, in the order of their first packets' numbers
+-- the items of a queue are the cuts of all its flows, in the order of their first packets' numbers, and nothing else is
 abbrev pub ItemsAreRuns : Type 0
 ItemsAreRuns =
-    (queues q : ℕ) (ps : List Packet)
+    (queues q : ℕ) (ps : List Packet) (items : List (List Packet))
     → AllNeighbours (λ p q. p.number < q.number) ps
-    → AreItems IsMergeable is_of number_of (filter (is_queued queues q) ps) (items_of queues q ps)
+    → AreItems IsMergeable is_of number_of (filter (is_queued queues q) ps) items ↔ (items ≡ items_of queues q ps)
 
 -- over a whole capture every flow comes back: the segments of the records whose frames have a key are the packets that have
 -- it, in order

@@ -1,13 +1,13 @@
 -- The laws of merging and segmenting, of one run.
-use Rattle.std.specs.Prelude.{◌≡◌, ℕ, ◌+◌, ◌-◌, ◌*◌, ◌^◌, ◌<◌, ◌≤◌, ◌↔◌, ◌==◌, Bool, true, false, Some, List, [], ◌∷◌, length, take, drop, slice_index_or}
+use Rattle.std.specs.Prelude.{◌≡◌, ℕ, ◌+◌, ◌-◌, ◌*◌, ◌<◌, ◌≤◌, ◌↔◌, ◌==◌, Bool, true, false, Some, List, [], ◌∷◌, ◌++◌, length, take, drop, slice_index_or}
 use Rattle.net_bytes.specs.Bytes.{byte}
 use Rattle.frame_layout.specs.Shape.{Layout, shape_of}
 use Rattle.frame_layout.specs.Headers.{AtHeaders, AreLaid}
 use Rattle.frame_layout.specs.Candidate.{IsCandidate}
 use Rattle.pcap_io.specs.Capture.{Packet}
-use Rattle.run_cuts.specs.Cut.{IsCut, IsClosedUnderFronts}
+use Rattle.run_cuts.specs.Cut.{IsCut, IsClosedUnderFronts, cut_of}
 use Rattle.offload_model.specs.Each.{Each}
-use Rattle.offload_model.specs.Mergeable.{IsLengthInRange, payloads_of, IsMergeableAs, IsMergeable}
+use Rattle.offload_model.specs.Mergeable.{IsLengthInRange, payloads_of, AreConsecutive, Continues, IsMergeableAs, IsMergeable}
 use Rattle.offload_model.specs.Frames.{merged_frame, segment_frame, IsMergedFrame, IsFixedAt, IsSegment}
 use Rattle.pcap_io.specs.declared.off_head.OffHead.{OffHead}
 use Rattle.offload_model.specs.Segments.{IsLawfulSuper, IsLawfulRecord}
@@ -23,9 +23,15 @@ InBytes f = (k : ℕ) → byte f k < 256
 abbrev pub FrontsAreMergeable : Type 0
 FrontsAreMergeable = IsClosedUnderFronts IsMergeable
 
--- so each flow's packets have at most one cut
+-- packets and one more continue one another exactly where they do and it continues them
+abbrev pub GrowsByOne : Type 0
+GrowsByOne =
+    (layout : Layout) (first : List ℕ) (ps : List Packet) (x : Packet)
+    → AreConsecutive layout first (ps ++ (x ∷ [])) ↔ (AreConsecutive layout first ps × Continues layout first ps x)
+
+-- each flow's packets have just one cut, the one that one pass finds
 abbrev pub HasOneCut : Type 0
-HasOneCut = (ps : List Packet) (runs others : List (List Packet)) → IsCut IsMergeable ps runs → IsCut IsMergeable ps others → runs ≡ others
+HasOneCut = (ps : List Packet) (runs : List (List Packet)) → IsCut IsMergeable ps runs ↔ (runs ≡ cut_of is_mergeable ps)
 
 -- ---- frames: the functions are what the relations say, and the relations alone bring the packets back
 

@@ -9,3 +9,4 @@ pub mod Rounds
 pub mod Written
 pub mod Laws
 pub mod CaptureLaws
+pub mod Rows

@@ -1,5 +1,5 @@
 -- What a run of packets comes to: one packet stays, and mergeable ones become one.
-use Rattle.std.specs.Prelude.{ℕ, ◌+◌, ◌-◌, ◌*◌, ◌/◌, ◌%◌, ◌==◌, Bool, true, false, if◌then◌else◌, List, [], ◌∷◌, length, map, slice_index_or}
+use Rattle.std.specs.Prelude.{ℕ, ◌+◌, ◌-◌, ◌*◌, ◌/◌, ◌%◌, ◌==◌, Bool, false, if◌then◌else◌, List, [], ◌∷◌, length, map, slice_index_or}
 use Rattle.std.specs.Option.{unwrap_or}
 use Rattle.ip_headers.specs.Ip4.{identification}
 use Rattle.frame_layout.specs.Shape.{Layout, shape_of}

@@ -16,7 +16,8 @@ pub fn runs_are_lawful()
     ensures law { RunsAreLawful }
 {}
 
-/// A queue's items are the cuts of all its flows into maximal runs, in the order of their first packets.
+/// A queue's items are the cuts of all its flows into maximal runs, in the order of their first packets, and nothing else
+/// is, where the packets' numbers rise.
 pub fn items_are_runs()
     ensures law { ItemsAreRuns }
 {}
