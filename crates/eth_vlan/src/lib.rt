@@ -14,6 +14,8 @@
 
 mod ethernet;
 mod tag;
+#[cfg(test)]
+mod tests;
 
 pub use ethernet::EthView;
 pub use tag::{TagView, is_tag};

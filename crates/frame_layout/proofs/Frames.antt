@@ -13,7 +13,7 @@ use Rattle.frame_layout.specs.declared.layout.Layer.TheVariants.{Ethernet, Ip4, 
 use Rattle.frame_layout.proofs.Networks.{has_network}
 use Rattle.frame_layout.proofs.Shapes.{laid_end}
 use Rattle.frame_layout.proofs.Fronts.{same_shapes}
-use Rattle.frame_layout.specs.Front.{IsFrameOf, are_headers_right, IsJudged}
+use Rattle.frame_layout.specs.Front.{IsFrameOf, are_headers_right}
 use Rattle.frame_layout.proofs.Right.{right_all, all_right}
 
 module _ (h : List ℕ) (rest : FoldAndLength) (f : List ℕ) (s : IsFrameOf h rest f) where

@@ -45,8 +45,3 @@ abbrev pub AreAddressesWithin : ℕ → Layer → ℕ → Type 0
 AreAddressesWithin n Ip4 at = at + 20 ≤ n
 AreAddressesWithin n Ip6 at = at + 40 ≤ n
 AreAddressesWithin n _ at = Unit {0}
-
--- the answer is a candidate's layout, or there is none
-abbrev pub IsJudged : List ℕ → ℕ → Option Layout → Type 0
-IsJudged f original None = (layout : Layout) → shape_of f ≡ Some layout → IsCandidate f original layout → ⊥
-IsJudged f original (Some layout) = (shape_of f ≡ Some layout) × IsCandidate f original layout

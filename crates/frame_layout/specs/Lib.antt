@@ -5,3 +5,4 @@ pub mod Candidate
 pub mod Front
 pub mod Segment
 pub mod Found
+pub mod Laws

@@ -1,16 +1,16 @@
 //! Which frames may be merged.
 
-ghost use Rattle.std.specs.Prelude.{◌≡◌, ℕ, ◌+◌, ◌-◌, ◌<◌, ◌≤◌, ◌^◌, ◌↔◌, ◌++◌, List, length, take, drop, min, IsTrue, IfSome};
+ghost use Rattle.std.specs.Prelude.{◌≡◌, ℕ, ◌+◌, ◌-◌, ◌<◌, ◌≤◌, ◌^◌, ◌↔◌, ◌++◌, List, length, take, drop, min, IsTrue};
 ghost use Rattle.inet_sum.specs.Stands.{StandsFor};
 ghost use Rattle.inet_sum.specs.Sum.{fold_of};
 ghost use Rattle.frame_layout.specs.Candidate.{IsSumRight};
 ghost use Rattle.frame_layout.specs.Headers.{size, AtHeaders};
-ghost use Rattle.frame_layout.specs.Front.{IsFrameOf, IsFrontOf, is_plain as is_plain_of, IsHeaderRight, are_headers_right, AreAddressesWithin, IsJudged};
+ghost use Rattle.frame_layout.specs.Front.{IsFrameOf, IsFrontOf, is_plain as is_plain_of, IsHeaderRight, are_headers_right, AreAddressesWithin};
 ghost use Rattle.frame_layout.specs.Segment.{IsSegOf};
 ghost use Rattle.frame_layout.specs.declared.layout.Layer.TheVariants.{Ethernet, Tcp};
 
 use crate::front::Front;
-use crate::layout::{Header, Layer, Layout};
+use crate::layout::{Header, Layer};
 use crate::read::shape;
 use crate::segment::{Seg, fields_of};
 use crate::sums::{carried_sum, ip4_sum, is_udp_summed, joined};
@@ -101,14 +101,15 @@ fn fold_behind(head: &[u8], end: usize, rest: &Partial) -> u16
     joined(own, (head.len() - end) % 2 == 1, rest.fold())
 }
 
-/// The headers of the frame, where it may be merged. The frame is `head` with bytes behind it, of which `rest` is the
-/// sum; it is `len` bytes long in all, and was `original` bytes long.
-fn judged(head: &[u8], rest: &Partial, len: u32, original: u32) -> Option<Layout>
+/// Whether a frame may be merged, and what merging reads of it. The frame is `head` with bytes behind it, of which
+/// `rest` is the sum; it has `len` bytes in all, and had `original` bytes before it was captured.
+///
+/// None where the frame has no shape, or isn't a candidate: it was cut off or padded, a reserved bit is set, a sum
+/// isn't its value, TCP's flags are others than ACK with at most PSH and FIN, or there is no payload.
+pub fn candidate(head: &[u8], rest: &Partial, len: u32, original: u32) -> Option<Seg>
     requires whole { length head.now + rest.now.len ≡ len }
     requires enough { min len 200 ≤ length head.now }
-    ensures judged { (f : List ℕ) → IsFrameOf head.now rest.now f → IsJudged f original result }
-    ensures there { IfSome result (λ l. AtHeaders (λ layer at. at + size layer ≤ length head.now) l.headers) }
-    ensures within { IfSome result (λ l. l.payload_at < len) }
+    ensures candidate { (f : List ℕ) → IsFrameOf head.now rest.now f → IsSegOf f original result }
 {
     if original != len {
         return None;
@@ -132,28 +133,11 @@ fn judged(head: &[u8], rest: &Partial, len: u32, original: u32) -> Option<Layout
     if !are_right(&front, layout.headers()) {
         return None;
     }
-    Some(layout)
-}
-
-/// Whether a frame may be merged, and what merging reads of it. The frame is `head` with bytes behind it, of which
-/// `rest` is the sum; it has `len` bytes in all, and had `original` bytes before it was captured.
-///
-/// None where the frame has no shape, or isn't a candidate: it was cut off or padded, a reserved bit is set, a sum
-/// isn't its value, TCP's flags are others than ACK with at most PSH and FIN, or there is no payload.
-pub fn candidate(head: &[u8], rest: &Partial, len: u32, original: u32) -> Option<Seg>
-    requires whole { length head.now + rest.now.len ≡ len }
-    requires enough { min len 200 ≤ length head.now }
-    ensures candidate { (f : List ℕ) → IsFrameOf head.now rest.now f → IsSegOf f original result }
-{
-    let Some(layout) = judged(head, rest, len, original) else {
-        return None;
-    };
     let fields = fields_of(head, layout.headers());
-    let payload_at = layout.payload_at();
     Some(Seg {
         layout,
-        payload_at,
-        payload_len: len - payload_at as u32,
+        payload_at: end,
+        payload_len: len - end as u32,
         seq: fields.seq,
         flags: fields.flags,
         id1: fields.id1,

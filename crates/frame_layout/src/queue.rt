@@ -1,6 +1,6 @@
 //! The flow of a frame, and the receive queue of a flow.
 
-ghost use Rattle.std.specs.Prelude.{◌≡◌, ◌+◌, ◌%◌, ◌<◌, ◌≤◌, ◌^◌, ◌++◌, length};
+ghost use Rattle.std.specs.Prelude.{◌≡◌, ◌+◌, ◌%◌, ◌<◌, ◌≤◌, ◌^◌, ◌∷◌, ◌++◌, length};
 ghost use Rattle.std.specs.List.{flat_map};
 ghost use Rattle.arrayvec.specs.ArrayVec.{array_vec_len};
 ghost use Rattle.frame_layout.specs.Headers.{AtHeaders, IsThere};
@@ -20,6 +20,16 @@ fn add(key: &mut ArrayVec<u8, 120>, bytes: &[u8])
     let _full = key.try_extend_from_slice(bytes).is_err();
 }
 
+/// Appends a byte that tells the protocol, and these bytes.
+fn add_marked(key: &mut ArrayVec<u8, 120>, mark: u8, bytes: &[u8])
+    requires { array_vec_len key.old + 1 + length bytes.now ≤ 120 }
+    ensures items { key.new.items ≡ key.old.items ++ mark ∷ bytes.now }
+    ensures len { array_vec_len key.new ≡ array_vec_len key.old + 1 + length bytes.now }
+{
+    key.push(mark);
+    add(key, bytes);
+}
+
 /// Appends what of the header names the flow.
 fn add_part(frame: &[u8], header: Header, key: &mut ArrayVec<u8, 120>)
     requires there { IsThere (length frame.now) header.layer header.at }
@@ -31,23 +41,11 @@ fn add_part(frame: &[u8], header: Header, key: &mut ArrayVec<u8, 120>)
     match header.layer {
         Layer::Ethernet => add(key, &frame[at..at + 12]),
         Layer::Tag => add(key, &frame[at - 2..at + 2]),
-        Layer::Ip4 => {
-            key.push(4);
-            add(key, &frame[at + 12..at + 20]);
-        }
-        Layer::Ip6 => {
-            key.push(6);
-            add(key, &frame[at + 8..at + 40]);
-        }
-        Layer::Udp => {
-            key.push(17);
-            add(key, &frame[at..at + 4]);
-        }
+        Layer::Ip4 => add_marked(key, 4, &frame[at + 12..at + 20]),
+        Layer::Ip6 => add_marked(key, 6, &frame[at + 8..at + 40]),
+        Layer::Udp => add_marked(key, 17, &frame[at..at + 4]),
         Layer::Vxlan => add(key, &frame[at + 4..at + 7]),
-        Layer::Tcp => {
-            key.push(6);
-            add(key, &frame[at..at + 4]);
-        }
+        Layer::Tcp => add_marked(key, 6, &frame[at..at + 4]),
     }
 }
 

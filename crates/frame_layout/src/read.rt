@@ -72,13 +72,14 @@ fn is_vxlan(frame: &[u8], at: usize) -> bool
 }
 
 /// The IP header of this Ethernet type at the place: its protocol, and the place behind it.
+#[inline(always)]
 fn network(
     frame: &[u8],
     kind: u16,
     at: usize,
     found: &mut ArrayVec<Header, 11>,
 ) -> Option<(u8, usize)>
-    requires low { at < 2 ^ 32 }
+    requires low { at < 2 ^ 34 }
     requires room { array_vec_len found.old < 11 }
     ensures found { IsIpFound frame.now found.old.items found.new.items result (λ tunnel. network_from frame.now tunnel kind at) }
     ensures len { array_vec_len found.new ≤ array_vec_len found.old + 1 }
@@ -107,32 +108,58 @@ fn network(
     }
 }
 
-/// What stands behind an Ethernet type at the place, where this many tags may follow.
-fn typed(frame: &[u8], tags: u8, at: usize, found: &mut ArrayVec<Header, 11>) -> Option<(u8, usize)>
-    requires low { at + 4 * tags < 2 ^ 31 }
+/// What stands behind the Ethernet type at the place, where one tag may follow.
+#[inline(always)]
+fn one_tag(frame: &[u8], at: usize, found: &mut ArrayVec<Header, 11>) -> Option<(u8, usize)>
+    requires low { at < 2 ^ 33 }
     requires there { at + 2 ≤ length frame.now }
-    requires room { array_vec_len found.old + tags < 11 }
-    ensures found { IsIpFound frame.now found.old.items found.new.items result (λ tunnel. typed_from frame.now tunnel tags at) }
-    ensures len { array_vec_len found.new ≤ array_vec_len found.old + tags + 1 }
-    ensures near { IfSome result (λ r. r.1 ≤ at + 4 * tags + 42) }
+    requires room { array_vec_len found.old + 1 < 11 }
+    ensures found { IsIpFound frame.now found.old.items found.new.items result (λ tunnel. typed_from frame.now tunnel 1 at) }
+    ensures len { array_vec_len found.new ≤ array_vec_len found.old + 2 }
+    ensures near { IfSome result (λ r. r.1 ≤ at + 46) }
 {
     let kind = be16(frame, at);
-    if tags > 0 && is_tag(kind) {
-        if !is_tag_there(frame, at + 2) {
-            return None;
-        }
-        found.push(Header {
-            layer: Layer::Tag,
-            at: at + 2,
-        });
-        typed(frame, tags - 1, at + 4, found)
-    } else {
-        network(frame, kind, at + 2, found)
+    if !is_tag(kind) {
+        return network(frame, kind, at + 2, found);
     }
+    if !is_tag_there(frame, at + 2) {
+        return None;
+    }
+    found.push(Header {
+        layer: Layer::Tag,
+        at: at + 2,
+    });
+    network(frame, be16(frame, at + 4), at + 6, found)
+}
+
+/// What stands behind the Ethernet type at the place, where two tags may follow. These are two functions, and no
+/// recursion, so that they are inlined: a call costs as much as all that they do.
+#[inline(always)]
+fn two_tags(frame: &[u8], at: usize, found: &mut ArrayVec<Header, 11>) -> Option<(u8, usize)>
+    requires low { at < 2 ^ 32 }
+    requires there { at + 2 ≤ length frame.now }
+    requires room { array_vec_len found.old + 2 < 11 }
+    ensures found { IsIpFound frame.now found.old.items found.new.items result (λ tunnel. typed_from frame.now tunnel 2 at) }
+    ensures len { array_vec_len found.new ≤ array_vec_len found.old + 3 }
+    ensures near { IfSome result (λ r. r.1 ≤ at + 50) }
+{
+    let kind = be16(frame, at);
+    if !is_tag(kind) {
+        return network(frame, kind, at + 2, found);
+    }
+    if !is_tag_there(frame, at + 2) {
+        return None;
+    }
+    found.push(Header {
+        layer: Layer::Tag,
+        at: at + 2,
+    });
+    one_tag(frame, at + 4, found)
 }
 
 /// The headers of one Ethernet frame from the place on, as far as its IP header: that header's protocol, and the place
 /// behind it.
+#[inline(always)]
 fn link(frame: &[u8], at: usize, found: &mut ArrayVec<Header, 11>) -> Option<(u8, usize)>
     requires low { at < 2 ^ 30 }
     requires room { array_vec_len found.old + 3 < 11 }
@@ -147,7 +174,7 @@ fn link(frame: &[u8], at: usize, found: &mut ArrayVec<Header, 11>) -> Option<(u8
         layer: Layer::Ethernet,
         at,
     });
-    typed(frame, 2, at + 12, found)
+    two_tags(frame, at + 12, found)
 }
 
 /// The TCP header at the place, and where its payload begins.

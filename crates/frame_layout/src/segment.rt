@@ -95,16 +95,17 @@ pub fn fields_of(head: &[u8], headers: &[Header]) -> Fields
     requires there { AtHeaders (λ layer at. at + size layer ≤ length head.now) headers.now }
     ensures { result ≡ fields_said head.now headers.now }
 {
-    let Some((first, rest)) = headers.split_first() else {
-        return Fields {
-            seq: 0,
-            flags: 0,
-            id1: 0,
-            id2: 0,
-            df1: false,
-            df2: false,
-            udp_zero: true,
-        };
+    let mut fields = Fields {
+        seq: 0,
+        flags: 0,
+        id1: 0,
+        id2: 0,
+        df1: false,
+        df2: false,
+        udp_zero: true,
     };
-    fields_with(head, *first, fields_of(head, rest))
+    for i in 0..headers.len() {
+        fields = fields_with(head, headers[headers.len() - 1 - i], fields);
+    }
+    fields
 }

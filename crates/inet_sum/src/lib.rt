@@ -1,5 +1,17 @@
-//! The Internet sum: one's complement sums of 16-bit words, as IPv4, TCP and UDP carry them (RFC 1071; RFC 791,
-//! section 3.1; RFC 9293, section 3.1; RFC 768).
+//! The Internet sum: the one's complement sum of 16-bit words that IPv4, TCP and UDP carry (RFC 1071, section 1; RFC
+//! 791, section 3.1; RFC 9293, section 3.1; RFC 768).
+//!
+//! [`fold_of`] gives the sum of bytes folded into 16 bits, and [`checksum`] and [`udp_checksum`] what stands in a header
+//! (clauses `fold` and `checksum`). Bytes that come in pieces are summed by a [`Partial`], however they were cut, at odd
+//! places too: its clauses speak of every list of bytes that it stands for. The definition in `specs/` has one division
+//! in place of the carries.
+//!
+//! ```
+//! let mut sum = Partial::new();
+//! sum.add(&[0x00, 0x01, 0xf2]);
+//! sum.add(&[0x03, 0xf4, 0xf5, 0xf6, 0xf7]);
+//! let field = sum.checksum(); // 0x220d
+//! ```
 #![tactic(auto)]
 
 ghost use Rattle.std.specs.Prelude.{◌≡◌, ℕ, ◌+◌, ◌*◌, ◌/◌, ◌%◌, ◌^◌, ◌<◌, ◌≤◌, List, [], ◌∷◌, ◌++◌, length};
@@ -7,6 +19,8 @@ ghost use Rattle.inet_sum.specs.Words.{number_of};
 ghost use Rattle.inet_sum.specs.Sum.{word_sum, folded, fold_of as fold_of_bytes, checksum_of, not_zero, udp_checksum_of, joined_fold};
 
 pub mod partial;
+#[cfg(test)]
+mod tests;
 
 pub use partial::Partial;
 

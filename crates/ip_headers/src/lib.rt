@@ -15,6 +15,8 @@
 
 mod ip4;
 mod ip6;
+#[cfg(test)]
+mod tests;
 mod write;
 
 pub use ip4::{Ip4View, set_header_sum, set_id, set_total};

@@ -1,4 +1,4 @@
-//! `merge` over sources and sinks in memory: outputs, refusals, and each call of the outside failing in turn.
+//! `merge` over sources, sinks and logs in memory: outputs, refusals, and each call of the outside failing in turn.
 //!
 //! The bytes come from a program that was written from the format alone.
 
@@ -68,35 +68,84 @@ const NO_BYTES_SINGLE: [u8; 52] = [
     0x00, 0x00, 0x00, 0x00,
 ];
 
-fn words(alloc: Global, texts: &[&str]) -> Result<Vec<String>, AllocError> {
+// One TCP segment of each of three flows.
+const THREE_FLOWS: [u8; 241] = [
+    0xd4, 0xc3, 0xb2, 0xa1, 0x02, 0x00, 0x04, 0x00, 0x00, 0x00, 0x00, 0x00, 0x00, 0x00, 0x00, 0x00,
+    0x00, 0x00, 0x04, 0x00, 0x01, 0x00, 0x00, 0x00, 0x01, 0x00, 0x00, 0x00, 0x00, 0x00, 0x00, 0x00,
+    0x3a, 0x00, 0x00, 0x00, 0x3a, 0x00, 0x00, 0x00, 0x02, 0x00, 0x00, 0x00, 0x00, 0x02, 0x02, 0x00,
+    0x00, 0x00, 0x00, 0x01, 0x08, 0x00, 0x45, 0x00, 0x00, 0x2c, 0x00, 0x64, 0x40, 0x00, 0x40, 0x06,
+    0x26, 0x66, 0x0a, 0x00, 0x00, 0x01, 0x0a, 0x00, 0x00, 0x02, 0x9c, 0x40, 0x13, 0x89, 0x00, 0x00,
+    0x03, 0xe8, 0x00, 0x00, 0x00, 0x01, 0x50, 0x10, 0x01, 0x00, 0x22, 0x55, 0x00, 0x00, 0x61, 0x62,
+    0x63, 0x64, 0x01, 0x00, 0x00, 0x00, 0x05, 0x00, 0x00, 0x00, 0x38, 0x00, 0x00, 0x00, 0x38, 0x00,
+    0x00, 0x00, 0x02, 0x00, 0x00, 0x00, 0x00, 0x02, 0x02, 0x00, 0x00, 0x00, 0x00, 0x01, 0x08, 0x00,
+    0x45, 0x00, 0x00, 0x2a, 0x00, 0xc8, 0x40, 0x00, 0x40, 0x06, 0x26, 0x04, 0x0a, 0x00, 0x00, 0x01,
+    0x0a, 0x00, 0x00, 0x02, 0x9c, 0x41, 0x13, 0x89, 0x00, 0x00, 0x07, 0xd0, 0x00, 0x00, 0x00, 0x01,
+    0x50, 0x18, 0x01, 0x00, 0x7d, 0xc6, 0x00, 0x00, 0x65, 0x66, 0x01, 0x00, 0x00, 0x00, 0x0a, 0x00,
+    0x00, 0x00, 0x37, 0x00, 0x00, 0x00, 0x37, 0x00, 0x00, 0x00, 0x02, 0x00, 0x00, 0x00, 0x00, 0x02,
+    0x02, 0x00, 0x00, 0x00, 0x00, 0x01, 0x08, 0x00, 0x45, 0x00, 0x00, 0x29, 0x01, 0x2c, 0x40, 0x00,
+    0x40, 0x06, 0x25, 0xa1, 0x0a, 0x00, 0x00, 0x01, 0x0a, 0x00, 0x00, 0x02, 0x9c, 0x42, 0x13, 0x89,
+    0x00, 0x00, 0x0b, 0xb8, 0x00, 0x00, 0x00, 0x01, 0x50, 0x10, 0x01, 0x00, 0x78, 0x4c, 0x00, 0x00,
+    0x67,
+];
+
+// The three as singles.
+const THREE_SINGLES: [u8; 277] = [
+    0xd4, 0xc3, 0xb2, 0xa1, 0x02, 0x00, 0x04, 0x00, 0x00, 0x00, 0x00, 0x00, 0x00, 0x00, 0x00, 0x00,
+    0x0c, 0x00, 0x04, 0x00, 0x93, 0x00, 0x00, 0x00, 0x01, 0x00, 0x00, 0x00, 0x00, 0x00, 0x00, 0x00,
+    0x46, 0x00, 0x00, 0x00, 0x46, 0x00, 0x00, 0x00, 0x01, 0x00, 0x00, 0x01, 0x00, 0x00, 0x00, 0x00,
+    0x00, 0x00, 0x00, 0x00, 0x02, 0x00, 0x00, 0x00, 0x00, 0x02, 0x02, 0x00, 0x00, 0x00, 0x00, 0x01,
+    0x08, 0x00, 0x45, 0x00, 0x00, 0x2c, 0x00, 0x64, 0x40, 0x00, 0x40, 0x06, 0x26, 0x66, 0x0a, 0x00,
+    0x00, 0x01, 0x0a, 0x00, 0x00, 0x02, 0x9c, 0x40, 0x13, 0x89, 0x00, 0x00, 0x03, 0xe8, 0x00, 0x00,
+    0x00, 0x01, 0x50, 0x10, 0x01, 0x00, 0x22, 0x55, 0x00, 0x00, 0x61, 0x62, 0x63, 0x64, 0x01, 0x00,
+    0x00, 0x00, 0x05, 0x00, 0x00, 0x00, 0x44, 0x00, 0x00, 0x00, 0x44, 0x00, 0x00, 0x00, 0x01, 0x00,
+    0x00, 0x01, 0x00, 0x00, 0x00, 0x00, 0x00, 0x00, 0x00, 0x01, 0x02, 0x00, 0x00, 0x00, 0x00, 0x02,
+    0x02, 0x00, 0x00, 0x00, 0x00, 0x01, 0x08, 0x00, 0x45, 0x00, 0x00, 0x2a, 0x00, 0xc8, 0x40, 0x00,
+    0x40, 0x06, 0x26, 0x04, 0x0a, 0x00, 0x00, 0x01, 0x0a, 0x00, 0x00, 0x02, 0x9c, 0x41, 0x13, 0x89,
+    0x00, 0x00, 0x07, 0xd0, 0x00, 0x00, 0x00, 0x01, 0x50, 0x18, 0x01, 0x00, 0x7d, 0xc6, 0x00, 0x00,
+    0x65, 0x66, 0x01, 0x00, 0x00, 0x00, 0x0a, 0x00, 0x00, 0x00, 0x43, 0x00, 0x00, 0x00, 0x43, 0x00,
+    0x00, 0x00, 0x01, 0x00, 0x00, 0x01, 0x00, 0x00, 0x00, 0x00, 0x00, 0x00, 0x00, 0x02, 0x02, 0x00,
+    0x00, 0x00, 0x00, 0x02, 0x02, 0x00, 0x00, 0x00, 0x00, 0x01, 0x08, 0x00, 0x45, 0x00, 0x00, 0x29,
+    0x01, 0x2c, 0x40, 0x00, 0x40, 0x06, 0x25, 0xa1, 0x0a, 0x00, 0x00, 0x01, 0x0a, 0x00, 0x00, 0x02,
+    0x9c, 0x42, 0x13, 0x89, 0x00, 0x00, 0x0b, 0xb8, 0x00, 0x00, 0x00, 0x01, 0x50, 0x10, 0x01, 0x00,
+    0x78, 0x4c, 0x00, 0x00, 0x67,
+];
+
+// The words of a line, one space between two of them.
+fn words(alloc: Global, line: &str) -> Result<Vec<String>, AllocError> {
     let mut words = Vec::new(alloc);
-    for text in texts {
-        if words.push(String::from_str(alloc, text)?).is_err() {
-            return Err(AllocError);
-        }
+    for word in line.split(' ') {
+        words.push(String::from_str(alloc, word)?)?;
     }
     Ok(words)
 }
 
-// What the sink ends as, and the answer, where each call takes at most `step` bytes and these calls fail.
-fn merge(
+// What a run ends with.
+#[derive(Drop)]
+struct Ended {
+    status: Status,
+    sink: MemSink,
+    log: MemSink,
+}
+
+// Runs a line of words, where each call takes at most `step` bytes and these calls fail.
+fn run_line(
     alloc: Global,
-    texts: &[&str],
+    line: &str,
     bytes: &[u8],
     step: usize,
     source_fails: &[u64],
     sink_fails: &[u64],
-) -> Result<(Status, MemSink), AllocError> {
+) -> Result<Ended, AllocError> {
     let step = step.max(1);
-    let words = words(alloc, texts)?;
+    let words = words(alloc, line)?;
     let mut source = MemSource::new(bytes.to_vec(alloc)?, step, source_fails.to_vec(alloc)?);
     let mut sink = MemSink::new(alloc, step, sink_fails.to_vec(alloc)?);
     let mut log = MemSink::new(alloc, step, Vec::new(alloc));
     let status = run(alloc, &words, &mut source, &mut sink, &mut log, &NoGate);
-    Ok((status, sink))
+    Ok(Ended { status, sink, log })
 }
 
-const MERGE: [&str; 2] = ["offload", "merge"];
+const MERGE: &str = "offload merge";
 
 fn refused(kind: CapKind, offset: u64, number: u64) -> Status {
     Status::Malformed(CapFault {
@@ -109,101 +158,154 @@ fn refused(kind: CapKind, offset: u64, number: u64) -> Status {
 #[test]
 fn outputs_and_refusals(rt: HostRuntime) -> Result<(), Fail> {
     let rows = [
-        (CAPTURE.as_slice(), Status::Ok, SINGLES.as_slice()),
+        (CAPTURE.as_slice(), Status::Ok, SINGLES.as_slice(), ""),
         (
             BIG_NANOS.as_slice(),
             Status::Ok,
             BIG_NANOS_SINGLE.as_slice(),
+            "",
         ),
-        (NO_BYTES.as_slice(), Status::Ok, NO_BYTES_SINGLE.as_slice()),
-        (&CAPTURE[..24], Status::Ok, &SINGLES[..24]),
+        (
+            NO_BYTES.as_slice(),
+            Status::Ok,
+            NO_BYTES_SINGLE.as_slice(),
+            "",
+        ),
+        (&CAPTURE[..24], Status::Ok, &SINGLES[..24], ""),
         (
             &CAPTURE[..0],
             refused(CapKind::ShortHeader, 0, 0),
             &SINGLES[..0],
+            "malformed: ShortHeader at 0 in record 0\n",
         ),
         (
             &CAPTURE[..23],
             refused(CapKind::ShortHeader, 0, 0),
             &SINGLES[..0],
+            "malformed: ShortHeader at 0 in record 0\n",
         ),
         (
             SINGLES.as_slice(),
             refused(CapKind::BadLinkType, 20, 0),
             &SINGLES[..0],
+            "malformed: BadLinkType at 20 in record 0\n",
         ),
         (
             &CAPTURE[24..],
             refused(CapKind::BadMagic, 0, 0),
             &SINGLES[..0],
+            "malformed: BadMagic at 0 in record 0\n",
         ),
         (
             &CAPTURE[..103],
             refused(CapKind::ShortRecordHeader, 98, 1),
             &SINGLES[..110],
+            "malformed: ShortRecordHeader at 98 in record 1\n",
         ),
         (
             &CAPTURE[..124],
             refused(CapKind::ShortRecord, 98, 1),
             &SINGLES[..110],
+            "malformed: ShortRecord at 98 in record 1\n",
         ),
     ];
-    for (input, want, output) in rows {
+    for (input, want, output, line) in rows {
         for step in [1, 7, 64, 4096] {
-            let (status, sink) = merge(rt.alloc(), &MERGE, input, step, &[], &[])?;
-            assert_eq!(rt; status, want, "at step {step}");
-            assert_eq!(rt; sink.bytes(), output, "at step {step}");
-            assert!(rt; sink.is_flushed());
+            let ended = run_line(rt.alloc(), MERGE, input, step, &[], &[])?;
+            assert_eq!(rt; ended.status, want, "at step {step}");
+            assert_eq!(rt; ended.sink.bytes(), output, "at step {step}");
+            assert_eq!(rt; ended.log.bytes(), line.as_bytes(), "at step {step}");
+            assert!(rt; ended.sink.is_flushed());
         }
     }
     Ok(())
 }
 
-// A byte of the capture is changed: its place, the new byte, the refusal, and how much is written.
+// A byte of the capture is changed: its place, the new byte, the refusal, its line, and how much is written.
 #[test]
 fn fields_out_of_range(rt: HostRuntime) -> Result<(), Fail> {
     let rows = [
-        (3, 0x00, CapKind::BadMagic, 0, 0, 0),
-        (6, 0x03, CapKind::BadVersion, 4, 0, 0),
-        (23, 0x04, CapKind::BadLinkType, 20, 0, 0),
-        (109, 0x01, CapKind::TooLong, 98, 1, 110),
-        (113, 0x80, CapKind::BadOriginal, 98, 1, 110),
+        (
+            3,
+            0x00,
+            refused(CapKind::BadMagic, 0, 0),
+            "malformed: BadMagic at 0 in record 0\n",
+            0,
+        ),
+        (
+            6,
+            0x03,
+            refused(CapKind::BadVersion, 4, 0),
+            "malformed: BadVersion at 4 in record 0\n",
+            0,
+        ),
+        (
+            23,
+            0x04,
+            refused(CapKind::BadLinkType, 20, 0),
+            "malformed: BadLinkType at 20 in record 0\n",
+            0,
+        ),
+        (
+            109,
+            0x01,
+            refused(CapKind::TooLong, 98, 1),
+            "malformed: TooLong at 98 in record 1\n",
+            110,
+        ),
+        (
+            113,
+            0x80,
+            refused(CapKind::BadOriginal, 98, 1),
+            "malformed: BadOriginal at 98 in record 1\n",
+            110,
+        ),
     ];
-    for (at, byte, kind, offset, number, written) in rows {
+    for (at, byte, want, line, written) in rows {
         let mut input = CAPTURE;
         if at < 170 {
             input[at] = byte;
         }
-        let (status, sink) = merge(rt.alloc(), &MERGE, &input, 64, &[], &[])?;
-        assert_eq!(rt; status, refused(kind, offset, number), "at {at}");
-        assert_eq!(rt; sink.bytes().len(), written, "at {at}");
+        let ended = run_line(rt.alloc(), MERGE, &input, 64, &[], &[])?;
+        assert_eq!(rt; ended.status, want, "at {at}");
+        assert_eq!(rt; ended.log.bytes(), line.as_bytes(), "at {at}");
+        assert_eq!(rt; ended.sink.bytes().len(), written, "at {at}");
     }
     Ok(())
 }
 
 // The step, and how many reads the file header, each record and the end take, then how many writes and flushes all of it.
-const CALLS: [(usize, [u64; 4], u64); 3] = [
-    (1, [24, 74, 72, 1], 195),
-    (7, [4, 12, 11, 1], 32),
-    (64, [1, 2, 2, 1], 8),
+const CALLS: [(usize, [u64; 5], u64); 3] = [
+    (1, [24, 74, 72, 71, 1], 278),
+    (7, [4, 12, 11, 11, 1], 45),
+    (64, [1, 2, 2, 2, 1], 11),
 ];
 
 #[test]
 fn each_read_fails_in_turn(rt: HostRuntime) -> Result<(), Fail> {
     for (step, reads, _) in CALLS {
         let mut call = 0u64;
-        for (count, written) in reads.into_iter().zip([0usize, 24, 110, 194]) {
+        for (count, written) in reads.into_iter().zip([0usize, 24, 110, 194, 277]) {
             for _ in 0..count {
-                let (status, sink) = merge(rt.alloc(), &MERGE, &CAPTURE, step, &[call], &[])?;
-                assert_eq!(rt; status, Status::ReadFault, "call {call} at step {step}");
-                assert_eq!(rt; sink.bytes().len(), written, "call {call} at step {step}");
-                assert!(rt; SINGLES.starts_with(sink.bytes()));
-                assert!(rt; sink.is_flushed());
+                let ended = run_line(rt.alloc(), MERGE, &THREE_FLOWS, step, &[call], &[])?;
+                assert_eq!(rt;
+                    ended.status,
+                    Status::ReadFault,
+                    "call {call} at step {step}"
+                );
+                assert_eq!(rt;
+                    ended.sink.bytes().len(),
+                    written,
+                    "call {call} at step {step}"
+                );
+                assert!(rt; THREE_SINGLES.starts_with(ended.sink.bytes()));
+                assert!(rt; ended.sink.is_flushed());
+                assert_eq!(rt; ended.log.bytes(), b"read fault\n".as_slice());
                 call = call.saturating_add(1);
             }
         }
-        let (status, _) = merge(rt.alloc(), &MERGE, &CAPTURE, step, &[call], &[])?;
-        assert_eq!(rt; status, Status::Ok);
+        let ended = run_line(rt.alloc(), MERGE, &THREE_FLOWS, step, &[call], &[])?;
+        assert_eq!(rt; ended.status, Status::Ok);
     }
     Ok(())
 }
@@ -212,33 +314,47 @@ fn each_read_fails_in_turn(rt: HostRuntime) -> Result<(), Fail> {
 fn each_write_fails_in_turn(rt: HostRuntime) -> Result<(), Fail> {
     for (step, _, writes) in CALLS {
         for call in 0..writes {
-            let (status, sink) = merge(rt.alloc(), &MERGE, &CAPTURE, step, &[], &[call])?;
-            assert_eq!(rt; status, Status::WriteFault, "call {call} at step {step}");
-            assert!(rt; SINGLES.starts_with(sink.bytes()));
+            let ended = run_line(rt.alloc(), MERGE, &THREE_FLOWS, step, &[], &[call])?;
+            assert_eq!(rt;
+                ended.status,
+                Status::WriteFault,
+                "call {call} at step {step}"
+            );
+            assert!(rt; THREE_SINGLES.starts_with(ended.sink.bytes()));
+            assert_eq!(rt; ended.log.bytes(), b"write fault\n".as_slice());
             if step == 1 {
-                assert_eq!(rt; sink.bytes().len() as u64, call);
+                assert_eq!(rt; ended.sink.bytes().len() as u64, call);
             }
         }
-        let (status, _) = merge(rt.alloc(), &MERGE, &CAPTURE, step, &[], &[writes])?;
-        assert_eq!(rt; status, Status::Ok);
+        let ended = run_line(rt.alloc(), MERGE, &THREE_FLOWS, step, &[], &[writes])?;
+        assert_eq!(rt; ended.status, Status::Ok);
+    }
+    // The body of record 1 can't be read, and the sink fails at the record before.
+    for line in [MERGE, "offload merge --budget 1"] {
+        let ended = run_line(rt.alloc(), line, &THREE_FLOWS, 64, &[4], &[2])?;
+        assert_eq!(rt; ended.status, Status::WriteFault, "at {line}");
+        assert_eq!(rt; ended.sink.bytes(), &THREE_SINGLES[..40], "at {line}");
     }
     Ok(())
 }
 
-const NO_COMMANDS: [&[&str]; 4] = [
-    &[],
-    &["offload"],
-    &["offload", "Merge"],
-    &["offload", "merge", "merge"],
-];
-
 #[test]
-fn other_words_are_usage(rt: HostRuntime) -> Result<(), Fail> {
-    for texts in NO_COMMANDS {
-        let (status, sink) = merge(rt.alloc(), texts, &CAPTURE, 64, &[], &[])?;
-        assert_eq!(rt; status, Status::Usage);
-        assert_eq!(rt; status.code(), 2);
-        assert!(rt; sink.bytes().is_empty());
+fn lines_of_words(rt: HostRuntime) -> Result<(), Fail> {
+    let usage = "usage: offload merge, segment, check or make, with options\n";
+    let rows = [
+        ("offload merge --budget 1", 0, SINGLES.as_slice(), ""),
+        ("offload merge --budget=4096", 0, SINGLES.as_slice(), ""),
+        ("offload", 2, &SINGLES[..0], usage),
+        ("offload --help", 2, &SINGLES[..0], usage),
+        ("offload Merge", 2, &SINGLES[..0], usage),
+        ("offload merge merge", 2, &SINGLES[..0], usage),
+        ("offload merge --budget 0", 2, &SINGLES[..0], usage),
+    ];
+    for (line, code, output, logged) in rows {
+        let ended = run_line(rt.alloc(), line, &CAPTURE, 64, &[], &[])?;
+        assert_eq!(rt; ended.status.code(), code, "at {line}");
+        assert_eq!(rt; ended.sink.bytes(), output, "at {line}");
+        assert_eq!(rt; ended.log.bytes(), logged.as_bytes(), "at {line}");
     }
     Ok(())
 }

@@ -4,3 +4,5 @@ pub mod Places
 pub mod Reading
 pub mod Readers
 pub mod Written
+pub mod Split
+pub mod Laws

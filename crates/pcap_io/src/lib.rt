@@ -6,7 +6,9 @@
 //! [`OffHead`] is the 12-byte header of this project's own that stands before each frame in a capture of link type 147.
 //!
 //! Proved: what the reader gives, what it refuses, why and where, and what is left of the source is what `reads` in
-//! `specs/Capture.antt` says of the bytes (clauses `given`); each header written is its fields (`ok`, `err`).
+//! `specs/Capture.antt` says of the bytes (clauses `given`); each header written is its fields (`ok`, `err`). Laws of the
+//! definitions, each on a function: what is written is read back, and a capture is the longest list of its whole lawful
+//! records, spelled out, in one way alone ([`capture_splits`], [`split_is_unique`]).
 //!
 //! ```text
 //! let mut reader = CaptureReader::start(&mut feed, Link::Ethernet)?;
@@ -19,13 +21,20 @@
 mod faults;
 mod heads;
 mod judge;
+mod laws;
 mod off_head;
 mod place;
 mod reader;
+#[cfg(test)]
+mod tests;
 mod writer;
 
 pub use faults::{CapFault, CapKind, InFault};
 pub use heads::{FileHead, Link, RecHead};
+pub use laws::{
+    capture_reads_back, capture_splits, file_head_reads_back, off_head_reads_back,
+    off_head_writes_back, rec_head_reads_back, rec_head_writes_back, split_is_unique,
+};
 pub use net_bytes::Order;
 pub use off_head::OffHead;
 pub use place::Place;

@@ -44,13 +44,15 @@ impl Place {
         requires counted { Counted self.old }
         requires size { length head.now ≤ 16 }
         requires goes_on { self.old.is_done ≡ false }
-        ensures lawful { OnOk result (first_that_holds (head_refusals self.old.file.order self.old.link self.old.number head.now) ≡ None) }
+        ensures lawful { OnOk result (first_that_holds
+            (head_refusals self.old.file.order self.old.link self.old.number head.now) ≡ None) }
         ensures fields { IfOk result (IsHead self.old head.now) }
         ensures limit { IfOk result (λ it. it.captured ≤ captured_limit self.old.link) }
         ensures original { IfOk result (λ it. is_bad_original self.old.link it.original ≡ false) }
         ensures enters { IfOk result (EntersBody self.old self.new) }
         ensures counted { OnOk result (Counted self.new) }
-        ensures refused { IfErr result (IsRefusal self.old (head_refusals self.old.file.order self.old.link self.old.number head.now)) }
+        ensures refused { IfErr result (IsRefusal self.old
+            (head_refusals self.old.file.order self.old.link self.old.number head.now)) }
     {
         let order = self.file.order;
         if let Some(kind) = refuse_head(order, self.link, self.number, head) {

@@ -32,7 +32,8 @@ pub struct CaptureReader<'s, S> {
 pub fn take_file<S: Source>(source: &mut S, link: Link) -> Result<FileHead, InFault>
     ensures given { Told (S.left source.old) (S.left source.new) (GivesFile link result) }
     ensures later { S.faults source.old ≤ S.faults source.new }
-    ensures failed { result ≡ Err InFault.ReadFault → Rose (S.faults source.old) (S.faults source.new) }
+    ensures failed { result ≡ Err InFault.ReadFault → Rose (S.faults source.old)
+        (S.faults source.new) }
 {
     let mut head = [0u8; 24];
     let count = match read_full(source, &mut head) {
@@ -70,11 +71,15 @@ impl<'s, T: Source> CaptureReader<'s, Feed<T>> {
     ///
     /// Refused as [`take_file`] refuses.
     pub fn start(source: &'s mut Feed<T>, link: Link) -> Result<CaptureReader<'s, Feed<T>>, InFault>
-        ensures* rests { sem 𝓛 (RestsIfErr (the_row T.row) source.entry (λ it. it.source.ghost_name) result (λ last. IsRefused T.left T.faults link result source.entry.now.inner last.inner)) }
+        ensures* rests { sem 𝓛 (RestsIfErr (the_row T.row) source.entry
+            (λ it. it.source.ghost_name) result
+            (λ last. IsRefused T.left T.faults link result source.entry.now.inner last.inner)) }
         ensures same_source { IfOk result (λ it. it.source.ghost_name ≡ source.entry.ghost_name) }
-        ensures given { IfOk result (λ it. Told (T.left source.entry.now.inner) (T.left (source_of it).inner) (GivesFile link (Ok (place_of it).file))) }
+        ensures given { IfOk result (λ it. Told (T.left source.entry.now.inner)
+            (T.left (source_of it).inner) (GivesFile link (Ok (place_of it).file))) }
         ensures place { IfOk result (λ it. place_of it ≡ first_place (place_of it).file link 0) }
-        ensures later { IfOk result (λ it. T.faults source.entry.now.inner ≤ T.faults (source_of it).inner) }
+        ensures later { IfOk result (λ it. T.faults source.entry.now.inner ≤ T.faults
+            (source_of it).inner) }
     {
         let file = take_file(source, link)?;
         Ok(CaptureReader {
@@ -90,11 +95,16 @@ impl<'s, T: Source> CaptureReader<'s, Feed<T>> {
         first: u64,
     ) -> Result<CaptureReader<'s, Feed<T>>, InFault>
         requires few { first ≤ 2 ^ 32 }
-        ensures* rests { sem 𝓛 (RestsIfErr (the_row T.row) source.entry (λ it. it.source.ghost_name) result (λ last. IsRefused T.left T.faults link result source.entry.now.inner last.inner)) }
+        ensures* rests { sem 𝓛 (RestsIfErr (the_row T.row) source.entry
+            (λ it. it.source.ghost_name) result
+            (λ last. IsRefused T.left T.faults link result source.entry.now.inner last.inner)) }
         ensures same_source { IfOk result (λ it. it.source.ghost_name ≡ source.entry.ghost_name) }
-        ensures given { IfOk result (λ it. Told (T.left source.entry.now.inner) (T.left (source_of it).inner) (GivesFile link (Ok (place_of it).file))) }
-        ensures place { IfOk result (λ it. place_of it ≡ first_place (place_of it).file link first) }
-        ensures later { IfOk result (λ it. T.faults source.entry.now.inner ≤ T.faults (source_of it).inner) }
+        ensures given { IfOk result (λ it. Told (T.left source.entry.now.inner)
+            (T.left (source_of it).inner) (GivesFile link (Ok (place_of it).file))) }
+        ensures place { IfOk result (λ it. place_of it ≡ first_place
+            (place_of it).file link first) }
+        ensures later { IfOk result (λ it. T.faults source.entry.now.inner ≤ T.faults
+            (source_of it).inner) }
     {
         let file = take_file(source, link)?;
         Ok(CaptureReader {
@@ -155,15 +165,20 @@ impl<'s, S: Source> CaptureReader<'s, S> {
     pub fn next_head(&mut self) -> Result<Option<RecHead>, InFault>
         requires ready { IsReady (place_of self.old) }
         ensures same_source { SameLoan self.old self.new }
-        ensures given { Told (S.left (source_of self.old)) (S.left (source_of self.new)) (GivesHead (place_of self.old) result) }
-        ensures enters { IfOk result (λ found. IfSome found (EntersBody (place_of self.old) (place_of self.new))) }
-        ensures limit { IfOk result (λ found. IfSome found (λ it. it.captured ≤ captured_limit (place_of self.old).link)) }
-        ensures original { IfOk result (λ found. IfSome found (λ it. is_bad_original (place_of self.old).link it.original ≡ false)) }
+        ensures given { Told (S.left (source_of self.old)) (S.left (source_of self.new))
+            (GivesHead (place_of self.old) result) }
+        ensures enters { IfOk result (λ found. IfSome found
+            (EntersBody (place_of self.old) (place_of self.new))) }
+        ensures limit { IfOk result (λ found. IfSome found
+            (λ it. it.captured ≤ captured_limit (place_of self.old).link)) }
+        ensures original { IfOk result (λ found. IfSome found
+            (λ it. is_bad_original (place_of self.old).link it.original ≡ false)) }
         ensures counted { OnOk result (Counted (place_of self.new)) }
         ensures end { IfOk result (λ found. IfNone found ((place_of self.new).is_done ≡ true)) }
         ensures refused { OnErr result ((place_of self.new).is_done ≡ true) }
         ensures later { S.faults (source_of self.old) ≤ S.faults (source_of self.new) }
-        ensures failed { result ≡ Err InFault.ReadFault → Rose (S.faults (source_of self.old)) (S.faults (source_of self.new)) }
+        ensures failed { result ≡ Err InFault.ReadFault → Rose (S.faults (source_of self.old))
+            (S.faults (source_of self.new)) }
     {
         let mut head = [0u8; 16];
         let count = match read_full(self.source, &mut head) {
@@ -191,15 +206,16 @@ impl<'s, S: Source> CaptureReader<'s, S> {
     /// Refused as `Cap` exactly where the input ends before `into` is full; what was left is then gone. `ReadFault` only
     /// where the source's count of faults rose; fewer bytes than `into` has are then gone.
     pub fn read_body(&mut self, into: &mut [u8]) -> Result<(), InFault>
-        requires goes_on { (place_of self.old).is_done ≡ false }
         requires room { length into.old ≤ (place_of self.old).body }
-        requires begun { 0 < (place_of self.old).number }
         ensures same_source { SameLoan self.old self.new }
-        ensures given { Told (S.left (source_of self.old)) (S.left (source_of self.new)) (GivesBody (place_of self.old) result into.new) }
-        ensures place { OnOk result (ReadsOn (place_of self.old) (place_of self.new) (length into.new)) }
+        ensures given { Told (S.left (source_of self.old)) (S.left (source_of self.new))
+            (GivesBody (place_of self.old) result into.new) }
+        ensures place { OnOk result (ReadsOn (place_of self.old) (place_of self.new)
+            (length into.new)) }
         ensures refused { OnErr result ((place_of self.new).is_done ≡ true) }
         ensures later { S.faults (source_of self.old) ≤ S.faults (source_of self.new) }
-        ensures failed { result ≡ Err InFault.ReadFault → Rose (S.faults (source_of self.old)) (S.faults (source_of self.new)) }
+        ensures failed { result ≡ Err InFault.ReadFault → Rose (S.faults (source_of self.old))
+            (S.faults (source_of self.new)) }
     {
         let body = self.place.body;
         let count = match read_full(self.source, into) {
@@ -214,7 +230,7 @@ impl<'s, S: Source> CaptureReader<'s, S> {
             return Err(InFault::Cap(CapFault {
                 kind: CapKind::ShortRecord,
                 offset: self.place.current,
-                number: self.place.number - 1,
+                number: self.place.number.saturating_sub(1),
             }));
         }
         self.place.body = body - into.len() as u32;

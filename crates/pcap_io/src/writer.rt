@@ -49,8 +49,10 @@ impl FileHead {
 ///
 /// `WriteFault` only where the sink's count of faults rose; a front of the 24 bytes was then written.
 pub fn write_file_head<K: Sink>(sink: &mut K, head: &FileHead, link: Link) -> Result<(), WriteFault>
-    ensures ok { OnOk result (Appends (K.held sink.old) (K.held sink.new) (file_bytes head.now link)) }
-    ensures err { OnErr result (AppendsFront (K.held sink.old) (K.held sink.new) (file_bytes head.now link)) }
+    ensures ok { OnOk result (Appends (K.held sink.old) (K.held sink.new)
+        (file_bytes head.now link)) }
+    ensures err { OnErr result (AppendsFront (K.held sink.old) (K.held sink.new)
+        (file_bytes head.now link)) }
     ensures cause { HasCause (K.faults sink.old) (K.faults sink.new) result }
 {
     write_all(sink, &file_header(head, link))
@@ -67,8 +69,10 @@ pub fn write_rec_head<K: Sink>(
     captured: u32,
     original: u32,
 ) -> Result<(), WriteFault>
-    ensures ok { OnOk result (Appends (K.held sink.old) (K.held sink.new) (rec_bytes head.now.order sec frac captured original)) }
-    ensures err { OnErr result (AppendsFront (K.held sink.old) (K.held sink.new) (rec_bytes head.now.order sec frac captured original)) }
+    ensures ok { OnOk result (Appends (K.held sink.old) (K.held sink.new)
+        (rec_bytes head.now.order sec frac captured original)) }
+    ensures err { OnErr result (AppendsFront (K.held sink.old) (K.held sink.new)
+        (rec_bytes head.now.order sec frac captured original)) }
     ensures cause { HasCause (K.faults sink.old) (K.faults sink.new) result }
 {
     write_all(

@@ -14,6 +14,8 @@
 #![tactic(auto)]
 
 mod tcp;
+#[cfg(test)]
+mod tests;
 mod udp;
 mod write;
 

@@ -15,6 +15,9 @@ ghost use Rattle.std.specs.Prelude.{◌≡◌, ◌↔◌, ◌+◌, ◌≤◌, tr
 ghost use Rattle.vxlan.specs.View.{Placed};
 ghost use Rattle.vxlan.specs.Vxlan.{is_there, flags as flags_of, network_identifier};
 
+#[cfg(test)]
+mod tests;
+
 use net_bytes::be16;
 use std::marker::Model;
 

@@ -1,0 +1,10 @@
+pub mod Overwriting
+mod Endings
+mod Entries
+mod Fields
+mod Lending
+mod Opening
+mod Ranges
+mod Sent
+mod Sharing
+mod Steps

@@ -1,0 +1,12 @@
+use denote.RattleType.{RattleType}
+use denote.Param.Send.{IsSend, IsSync, struct_sync, sendable}
+use denote.Builtin.{RawPtr}
+use denote.Struct.Owning.{shape, to}
+use Rattle.raw_block.specs.contracts.share.Share as share
+use Rattle.raw_block.proofs.Sent.{seen_keyless}
+
+pointer : IsSync RawPtr
+pointer = search sendable
+
+pub sync : (T : RattleType) → IsSend T → IsSync T → IsSync (share.the_row T)
+sync T s y = record { shared = λ d b o κ. ((struct_sync (shape (share.the_type T)) (pointer, tt)).shared (to (share.the_type T) d) b o κ, seen_keyless T y d.at d.content κ) }

@@ -1,0 +1,6 @@
+pub mod Answers
+pub mod Heap
+pub mod Lending
+pub mod Overwriting
+pub mod Shares
+pub mod Views

@@ -1,0 +1,40 @@
+//! Blocks of 2048 bytes that several holders share by weights, on one count word.
+//!
+//! A `Sole` is a block's only holder, and alone writes its bytes. `share` begins a *life* of the block: one `Part` with
+//! the weight `FULL`, 2^62. Parts split and join without a step on the word, which is what all parts of the life weigh
+//! together. A `release` takes a part's weight from the word: the part that finds just its own weight there is the last
+//! and becomes the Sole, and any other leaves a `Receipt` of its weight. A `claim` asks for the Sole beside others, and
+//! `reunite` has it from a part and the receipts of all the rest.
+//!
+//! Proved over all interleavings of threads, with no lock: a part reads the bytes that its life began with
+//! (`Part::bytes`), and only a Sole lends them for writing (`Sole::bytes_mut`, `range_mut`). Receipts of one life weigh
+//! less than `FULL` together (`Receipt::add`), so some release was the last, and the proof of `release` has no second one
+//! (`IsReleased`). A failed claim tells what the word was, above the part's weight (`IsClaimed`), so a part of weight
+//! `FULL` is never refused, nor is a reunion. Holders of one life agree on its bytes and its mark (`agree` of `join`,
+//! `add`, `reunite`). The rule of weights is that of `ref_core`, and `specs/Shares.antt` says who owns what.
+//!
+//! ```
+//! let mut sole = Sole::new(alloc)?;
+//! sole.bytes_mut()[0] = 1;
+//! let mut part = sole.share();
+//! let other = part.split(1 << 50); // read by another thread
+//! match other.release() {
+//!     Released::Left(receipt) => sole = part.reunite(receipt),
+//!     Released::Last(_) => ..
+//! }
+//! ```
+#![tactic(auto)]
+
+mod block;
+mod heap;
+mod part;
+mod receipt;
+mod share;
+mod sole;
+#[cfg(test)]
+mod tests;
+
+pub use part::{Claimed, Part, Released};
+pub use receipt::{Receipt, Sight};
+pub use ref_core::{BLOCK_SIZE, FULL};
+pub use sole::Sole;

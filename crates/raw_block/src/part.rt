@@ -1,0 +1,186 @@
+//! A weighed part of a block that several hold.
+ghost use Rattle.std.specs.Prelude.{◌≡◌, ◌+◌, ◌<◌, ◌≤◌, ◌-◌, length};
+ghost use Rattle.ref_core.specs.WeightRule.{full_weight};
+ghost use Rattle.raw_block.specs.Answers.{IsReleased, IsClaimed};
+
+use crate::block::Bytes;
+use crate::receipt::{Receipt, Sight};
+use crate::share::Share;
+use crate::sole::Sole;
+use std::alloc::Global;
+use std::marker::Model;
+
+/// A holder of a block beside others, by a part of its weight. It must be spent: released, claimed, joined or reunited.
+pub struct Part {
+    pub(crate) share: Share<Bytes>,
+    pub(crate) weight: u64,
+    pub(crate) alloc: Global,
+    pub(crate) mark: u32,
+}
+
+impl Model for Part {
+    ghost use Rattle.std.specs.Prelude.{◌≡◌};
+    ghost use Rattle.ref_core.specs.WeightRule.{IsWeight};
+    ghost use Rattle.raw_block.specs.Views.{PartState};
+
+    ghost Value = { PartState };
+
+    ghost view = { λ p. record { life = p.share.life; weight = p.weight; bytes = p.share.content.bytes; mark = p.mark } };
+
+    ghost invariant = { λ p. (p.share.weight ≡ p.weight) × (p.share.mark ≡ p.mark) × IsWeight p.weight };
+}
+
+/// What a part's release leaves.
+pub enum Released {
+    /// The part was the last of its life.
+    Last(Sole),
+    Left(Receipt),
+}
+
+/// What a part's claim leaves.
+pub enum Claimed {
+    /// The part was the only one of its life.
+    Sole(Sole),
+    /// Others hold the block: the part as it was, and what the word was.
+    Shared(Part, Sight),
+}
+
+impl Part {
+    /// The 2048 bytes that the life began with.
+    pub fn bytes(&self) -> &[u8]
+        ensures value { result.now ≡ self.now.bytes }
+        ensures size { length result.now ≡ 2048 }
+    {
+        &self.share.content().bytes
+    }
+
+    pub fn weight(&self) -> u64
+        ensures value { result ≡ self.now.weight }
+        ensures range { (0 < result) × (result ≤ full_weight) }
+    {
+        self.weight
+    }
+
+    pub fn mark(&self) -> u32
+        ensures { result ≡ self.now.mark }
+    {
+        self.mark
+    }
+
+    /// A second part of the weight `give`, which this one gives away.
+    pub fn split(&mut self, give: u64) -> Part
+        requires { (0 < give) × (give < self.old.weight) }
+        ensures given { result ≡ record self.old { weight = give } }
+        ensures kept { self.new ≡ record self.old { weight = self.old.weight - give } }
+    {
+        let share = self.share.split(give);
+        self.weight -= give;
+        Part {
+            share,
+            weight: give,
+            alloc: self.alloc,
+            mark: self.mark,
+        }
+    }
+
+    /// Two parts of one life become one of both weights. They have the same bytes and the same mark.
+    pub fn join(&mut self, other: Part)
+        requires { other.life ≡ self.old.life }
+        ensures joined { self.new ≡ record self.old { weight = self.old.weight + other.weight } }
+        ensures range { self.new.weight ≤ full_weight }
+        ensures agree { (other.bytes ≡ self.old.bytes) × (other.mark ≡ self.old.mark) }
+    {
+        let Part {
+            share,
+            weight,
+            alloc: _,
+            mark: _,
+        } = other;
+        self.share.join(share);
+        self.weight += weight;
+    }
+
+    /// Ends this part, by one fetch-sub of its weight. The number that the step answers decides: `Last` exactly where
+    /// the word held this part's weight, since the block has no other holder then, and else `Left`.
+    pub fn release(self) -> Released
+        ensures { IsReleased self result }
+    {
+        let Part {
+            share,
+            weight,
+            alloc,
+            mark,
+        } = self;
+        let (found, after) = share.release(weight);
+        if found == weight {
+            Released::Last(Sole {
+                block: after.last().into_box(alloc),
+                alloc,
+                mark,
+            })
+        } else {
+            Released::Left(Receipt {
+                given_back: after.left(),
+                weight,
+                mark,
+            })
+        }
+    }
+
+    /// Asks for the block back, by one compare-exchange of the part's weight for 0. The number that the step answers
+    /// decides: `Sole` exactly where the word held this part's weight, and else `Shared`, with what it held.
+    pub fn claim(self) -> Claimed
+        ensures { IsClaimed self result }
+    {
+        let Part {
+            share,
+            weight,
+            alloc,
+            mark,
+        } = self;
+        let (found, after) = share.claim(weight);
+        if found == weight {
+            Claimed::Sole(Sole {
+                block: after.won().into_box(alloc),
+                alloc,
+                mark,
+            })
+        } else {
+            let (share, seen) = after.lost();
+            Claimed::Shared(
+                Part {
+                    share,
+                    weight,
+                    alloc,
+                    mark,
+                },
+                Sight { seen, total: found },
+            )
+        }
+    }
+
+    /// The block back, from a part and a receipt that weigh `FULL` together: its compare-exchange cannot miss.
+    pub fn reunite(self, receipt: Receipt) -> Sole
+        requires { (receipt.life ≡ self.life) × (self.weight + receipt.weight ≡ full_weight) }
+        ensures sole { (result.bytes ≡ self.bytes) × (result.mark ≡ self.mark) }
+        ensures agree { receipt.mark ≡ self.mark }
+    {
+        let Part {
+            share,
+            weight,
+            alloc,
+            mark,
+        } = self;
+        let Receipt {
+            given_back,
+            weight: _,
+            mark: _,
+        } = receipt;
+        let after = share.reunite(given_back, weight);
+        Sole {
+            block: after.last().into_box(alloc),
+            alloc,
+            mark,
+        }
+    }
+}
