@@ -1,0 +1,13 @@
+use Rattle.std.proofs.Common.{◌≡◌, ap, arith}
+use Rattle.frags.specs.PieceList.{size_of}
+use Rattle.frags.proofs.Joining.{joins_fit}
+use Rattle.frags.proofs.pieces.Pieces.join_back.Goals as goal
+
+pub invariant_of-self : goal.invariant_of-self
+invariant_of-self c =
+    let f = joins_fit c.self.inside.items.items c.other.inside.items.items c.append.new.self.items c.in-Ok.ensures.items c.self.invariant.2 c.other.invariant.2 in
+    let i = c.self.invariant in
+    let j = c.other.invariant in
+    let u = ap size_of c.self.view_is in
+    let v = ap size_of c.other.view_is in
+    (omega arith, omega arith, f.1)
