@@ -1,0 +1,3 @@
+pub mod Ethernet
+pub mod Tag
+pub mod View

@@ -1,0 +1,42 @@
+-- A frame and its first bytes.
+use Rattle.std.proofs.Common.{◌≡◌, ℕ, ◌+◌, ◌-◌, ◌<◌, ◌≤◌, ◌⊎◌, inl, inr, Option, Some, None, List, [], ◌∷◌, ◌++◌, length, take, drop, refl, sym, ap, ◌∙◌, subst, arith}
+use Rattle.std.specs.Prelude.{min}
+use Rattle.std.proofs.lemmas.List.{get_or-take, length-take, take_all, get_or_past}
+use Rattle.std.proofs.lemmas.Bool.{cases_lt}
+use Rattle.net_bytes.specs.Bytes.{byte}
+use Rattle.frame_layout.specs.Shape.{Layout, shape_of}
+use Rattle.frame_layout.proofs.Shapes.{same_shape}
+use Rattle.frame_layout.proofs.Bounds.{IsPlaced, placed}
+
+option_cases : {X : Type 0} (o : Option X) → (o ≡ None) ⊎ ((x : X) × (o ≡ Some x))
+option_cases None = inl refl
+option_cases (Some x) = inr (x, refl)
+
+-- the shape is in the first 200 bytes
+pub same_shapes : (h f : List ℕ) → ((k : ℕ) → byte h k < 256) → ((k : ℕ) → byte f k < 256) → length h ≤ length f → min (length f) 200 ≤ length h
+    → ((k : ℕ) → k < length h → byte f k ≡ byte h k) → shape_of h ≡ shape_of f
+same_shapes h f sh sf more enough begins = elim (option_cases (shape_of h)) [
+  | inr s ↦
+      let p : IsPlaced h s.0 = placed h sh s.0 (sym s.1) in
+      s.1 ∙ sym (same_shape h f s.0 s.1 (λ k a o. sym (begins k (omega (arith, p.within)))) (omega (arith, p.within)))
+  | inl n ↦ elim (option_cases (shape_of f)) [
+    | inl m ↦ n ∙ sym m
+    | inr s ↦
+        let p : IsPlaced f s.0 = placed f sf s.0 (sym s.1) in
+        let low : s.0.payload_at ≤ length h = omega (arith, p.within, p.low, enough) in
+        let e : None ≡ Some s.0 = sym n ∙ same_shape f h s.0 s.1 (λ k a o. begins k (omega arith)) low in
+        absurd cc
+  ]
+]
+
+-- the first 200 bytes have the frame's shape
+pub shape_in_front : (f : List ℕ) → ((k : ℕ) → byte f k < 256) → shape_of (take 200 f) ≡ shape_of f
+shape_in_front f small =
+    same_shapes (take 200 f) f small_front small (omega (arith, length-take 200 f)) (omega (arith, length-take 200 f))
+    (λ k l. sym (get_or-take 200 f k 0 (omega (arith, length-take 200 f))))
+  where
+    small_front : (k : ℕ) → byte (take 200 f) k < 256
+    small_front k = elim (cases_lt k 200) [
+      | inl l ↦ omega (arith, get_or-take 200 f k 0 l, small k)
+      | inr l ↦ omega (arith, get_or_past (take 200 f) k 0 (omega (arith, length-take 200 f)))
+    ]

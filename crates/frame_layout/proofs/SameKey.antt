@@ -1,0 +1,160 @@
+-- A frame that is alike in the headers of a shape is of the same flow.
+use Rattle.std.proofs.Common.{◌≡◌, ℕ, zero, suc, ◌+◌, ◌-◌, ◌*◌, ◌/◌, ◌%◌, ◌<◌, ◌≤◌, ◌⊎◌, inl, inr, Bool, true, false, Option, Some, None, List, [], ◌∷◌, ◌++◌, length, take, drop, refl, sym, ap, ◌∙◌, subst, arith}
+use Rattle.std.specs.Prelude.{◌==◌, if◌then◌else◌}
+use Rattle.std.specs.List.{flat_map}
+use Rattle.std.specs.Option.{option_map}
+use Rattle.std.proofs.lemmas.Bool.{cases_lt}
+use Rattle.std.proofs.lemmas.List.{ext_get_or, length-take, length-drop, get_or-take, get_or-drop}
+use Rattle.net_bytes.specs.Bytes.{byte, be16, part}
+use Rattle.frame_layout.specs.declared.layout.Header.{Header}
+use Rattle.frame_layout.specs.Shape.{Layout, header, tcp_there, tcp_from, carried_from, ip4_from, ip6_from, network_from, typed_from, ethernet_from, vxlan_from, shape_of}
+use Rattle.eth_vlan.specs.Tag.{is_tag}
+use Rattle.frame_layout.specs.Key.{flow_part, key_of}
+use Rattle.frame_layout.specs.Headers.{AtHeaders, IsOutside, AreHeadersAlike}
+use Rattle.frame_layout.specs.Headers.{size, AreLaid}
+use Rattle.frame_layout.proofs.Shapes.{found, with_header, laid}
+use Rattle.frame_layout.proofs.Shapes.{laid_end}
+use Rattle.frame_layout.proofs.Alike.{IsAlikeAt, alike_at}
+use Rattle.frame_layout.specs.declared.layout.Layer.{Layer}
+use Rattle.frame_layout.specs.declared.layout.Layer.TheVariants.{Ethernet, Tag, Ip4, Ip6, Udp, Vxlan, Tcp}
+
+-- ---- a tag stands just behind an Ethernet header or a tag
+
+abbrev IsTagBehind : Layer → ℕ → Layer → ℕ → Type 0
+IsTagBehind Ethernet end Tag at = at ≡ end
+IsTagBehind Tag end Tag at = at ≡ end
+IsTagBehind before end Tag at = ⊥
+IsTagBehind before end _ at = Unit {0}
+
+abbrev AreTagsBehind : Layer → ℕ → List Header → Type 0
+AreTagsBehind before end [] = Unit {0}
+AreTagsBehind before end (h ∷ hs) = IsTagBehind before end h.layer h.at × AreTagsBehind h.layer (h.at + size h.layer) hs
+
+record HasTags (before : Layer) (end : ℕ) (o : Option Layout) : Type 0 where
+  at : (l : Layout) → o ≡ Some l → AreTagsBehind before end l.headers
+
+tags_none : (before : Layer) (end : ℕ) → HasTags before end None
+tags_none before end = record { at = λ l e. absurd cc }
+
+tags_if : (before : Layer) (end : ℕ) (b : Bool) (x y : Option Layout) → HasTags before end x → HasTags before end y → HasTags before end (if b then x else y)
+tags_if before end true x y a b = a
+tags_if before end false x y a b = b
+
+tags_header : (before : Layer) (end : ℕ) (layer : Layer) (at : ℕ) (there : Bool) (rest : Option Layout)
+    → IsTagBehind before end layer at → HasTags layer (at + size layer) rest → HasTags before end (header layer at there rest)
+tags_header before end layer at there rest h k = record {
+  at = λ l e.
+      let w : (there ≡ true) × ((r : Layout) × (rest ≡ Some r) × (with_header layer at r ≡ l)) = found layer at there rest l e in
+      subst (λ z. AreTagsBehind before end z.headers) w.1.2 (h, k.at w.1.0 w.1.1);
+}
+
+no_tag : (before : Layer) (end : ℕ) (at : ℕ) → IsTagBehind before end Ip4 at × IsTagBehind before end Ip6 at × IsTagBehind before end Tcp at × IsTagBehind before end Udp at × IsTagBehind before end Vxlan at × IsTagBehind before end Ethernet at
+no_tag Ethernet end at = (tt, tt, tt, tt, tt, tt)
+no_tag Tag end at = (tt, tt, tt, tt, tt, tt)
+no_tag _ end at = (tt, tt, tt, tt, tt, tt)
+
+tags_tcp : (before : Layer) (end : ℕ) (f : List ℕ) (at : ℕ) → HasTags before end (tcp_from f at)
+tags_tcp before end f at = tags_header before end Tcp at _ _ (no_tag before end at).2 (record {
+  at = λ l s.
+      let is : record { headers = []; payload_at = at + 4 * (byte f (at + 12) / 16) } ≡ l = cc in
+      subst (λ z. AreTagsBehind Tcp (at + 20) z.headers) is tt;
+})
+
+module _ (f : List ℕ) (tunnel : ℕ → Option Layout) (inside : (before : Layer) (end at : ℕ) → HasTags before end (tunnel at)) where
+  tags_carried : (before : Layer) (end protocol at : ℕ) → HasTags before end (carried_from f tunnel protocol at)
+  tags_carried before end protocol at = tags_if before end (protocol == 6) _ _ (tags_tcp before end f at) (tags_if before end (protocol == 17) _ _ (inside before end at) (tags_none before end))
+
+  tags_network : (before : Layer) (end type at : ℕ) → HasTags before end (network_from f tunnel type at)
+  tags_network before end type at = tags_if before end (type == 0x0800) _ _
+      (tags_header before end Ip4 at _ _ (no_tag before end at).0 (tags_carried Ip4 (at + 20) (byte f (at + 9)) (at + 20)))
+      (tags_if before end (type == 0x86dd) _ _
+      (tags_header before end Ip6 at _ _ (no_tag before end at).1 (tags_carried Ip6 (at + 40) (byte f (at + 6)) (at + 40)))
+      (tags_none before end))
+
+  -- behind a header that a tag may follow
+  tags_typed : (before : Layer) (end tags at : ℕ) → IsTagBehind before end Tag (at + 2) → HasTags before end (typed_from f tunnel tags at)
+  tags_typed before end zero at h = tags_network before end (be16 f at) (at + 2)
+  tags_typed before end (suc tags) at h = tags_if before end (is_tag (be16 f at)) _ _
+      (tags_header before end Tag (at + 2) _ _ h (tags_typed Tag (at + 2 + 4) tags (at + 4) (omega arith)))
+      (tags_network before end (be16 f at) (at + 2))
+
+  tags_ethernet : (before : Layer) (end at : ℕ) → HasTags before end (ethernet_from f tunnel at)
+  tags_ethernet before end at = tags_header before end Ethernet at _ _ (no_tag before end at).5 (tags_typed Ethernet (at + 14) 2 (at + 12) (omega arith))
+
+tags_vxlan : (f : List ℕ) (before : Layer) (end at : ℕ) → HasTags before end (vxlan_from f at)
+tags_vxlan f before end at = tags_header before end Udp at _ _ (no_tag before end at).3
+    (tags_header Udp (at + 8) Vxlan (at + 8) _ _ (no_tag Udp (at + 8) (at + 8)).4
+    (tags_ethernet f (λ _. None) (λ b e a. tags_none b e) Vxlan (at + 8 + 8) (at + 16)))
+
+tags_of_shape : (f : List ℕ) (l : Layout) → shape_of f ≡ Some l → AreTagsBehind Vxlan 0 l.headers
+unfolding shape_of
+tags_of_shape f l e = (tags_ethernet f (vxlan_from f) (tags_vxlan f) Vxlan 0 0).at l e
+
+-- ---- the key
+
+same_part_long : (f g : List ℕ) (at n : ℕ) → at + n ≤ length f → at + n ≤ length g → ((k : ℕ) → at ≤ k → k < at + n → byte f k ≡ byte g k) → part f at n ≡ part g at n
+same_part_long f g at n hf hg agree =
+    let lf : length (part f at n) ≡ n = omega (arith, length-take n (drop at f), length-drop at f) in
+    let lg : length (part g at n) ≡ n = omega (arith, length-take n (drop at g), length-drop at g) in
+    ext_get_or 0 (part f at n) (part g at n) (lf ∙ sym lg) (λ i h.
+    let below : i < n = omega arith in
+    get_or-take n (drop at f) i 0 below ∙ get_or-drop at f i 0 ∙ agree (at + i) (omega arith) (omega arith)
+    ∙ sym (get_or-take n (drop at g) i 0 below ∙ get_or-drop at g i 0))
+
+-- the header that a tag is behind is alike in all its bytes
+abbrev IsWhole : Layer → ℕ → List ℕ → List ℕ → Type 0
+IsWhole Ethernet end f g = (k : ℕ) → end ≤ k + 2 → k < end → byte f k ≡ byte g k
+IsWhole Tag end f g = (k : ℕ) → end ≤ k + 2 → k < end → byte f k ≡ byte g k
+IsWhole _ end f g = Unit {0}
+
+whole_header : (f g : List ℕ) (l : Layer) (at : ℕ) → IsAlikeAt f g l at → IsWhole l (at + size l) f g
+whole_header f g Ethernet at alike = λ k a b. alike.same k (omega arith) b tt
+whole_header f g Tag at alike = λ k a b. alike.same k (omega arith) b tt
+whole_header f g _ at alike = tt
+
+tag_part : (f g : List ℕ) (before : Layer) (end at : ℕ) → IsTagBehind before end Tag at → IsWhole before end f g → IsAlikeAt f g Tag at
+    → 2 ≤ at → at + 4 ≤ length f → at + 4 ≤ length g → part f (at - 2) 4 ≡ part g (at - 2) 4
+tag_part f g Ethernet end at is whole alike two hf hg =
+    same_part_long f g (at - 2) 4 (omega arith) (omega arith) (λ k a b. elim (cases_lt k at) [
+      | inl l ↦ whole k (omega arith) (omega arith)
+      | inr l ↦ alike.same k l (omega arith) tt
+    ])
+tag_part f g Tag end at is whole alike two hf hg =
+    same_part_long f g (at - 2) 4 (omega arith) (omega arith) (λ k a b. elim (cases_lt k at) [
+      | inl l ↦ whole k (omega arith) (omega arith)
+      | inr l ↦ alike.same k l (omega arith) tt
+    ])
+tag_part f g _ end at is whole alike two hf hg = absurd is
+
+flow_at : (f g : List ℕ) (before : Layer) (end : ℕ) (l : Layer) (at : ℕ) → IsTagBehind before end l at → IsWhole before end f g
+    → ((a : ℕ) → IsTagBehind before end Tag a → 2 ≤ a)
+    → IsAlikeAt f g l at → at + size l ≤ length f → at + size l ≤ length g → flow_part f l at ≡ flow_part g l at
+flow_at f g before end Ethernet at tag whole far alike hf hg = same_part_long f g at 12 (omega arith) (omega arith) (λ k a b. alike.same k a (omega arith) tt)
+flow_at f g before end Tag at tag whole far alike hf hg = tag_part f g before end at tag whole alike (far at tag) hf hg
+flow_at f g before end Ip4 at tag whole far alike hf hg = ap (λ z. 4 ∷ z) (same_part_long f g (at + 12) 8 (omega arith) (omega arith) (λ k a b. alike.same k (omega arith) (omega arith) (inr (omega arith), inr (omega arith))))
+flow_at f g before end Ip6 at tag whole far alike hf hg = ap (λ z. 6 ∷ z) (same_part_long f g (at + 8) 32 (omega arith) (omega arith) (λ k a b. alike.same k (omega arith) (omega arith) (inr (omega arith))))
+flow_at f g before end Udp at tag whole far alike hf hg = ap (λ z. 17 ∷ z) (same_part_long f g at 4 (omega arith) (omega arith) (λ k a b. alike.same k (omega arith) (omega arith) (inl (omega arith))))
+flow_at f g before end Vxlan at tag whole far alike hf hg = same_part_long f g (at + 4) 3 (omega arith) (omega arith) (λ k a b. alike.same k (omega arith) (omega arith) tt)
+flow_at f g before end Tcp at tag whole far alike hf hg = ap (λ z. 6 ∷ z) (same_part_long f g at 4 (omega arith) (omega arith) (λ k a b. alike.same k (omega arith) (omega arith) (inl (omega arith), inl (omega arith), inl (omega arith))))
+
+far_behind : (l : Layer) (at a : ℕ) → IsTagBehind l (at + size l) Tag a → 2 ≤ a
+far_behind Ethernet at a t = omega arith
+far_behind Tag at a t = omega arith
+far_behind _ at a t = absurd t
+
+flows_same : (f g : List ℕ) (before : Layer) (end start stop : ℕ) (hs : List Header) → IsWhole before end f g → ((a : ℕ) → IsTagBehind before end Tag a → 2 ≤ a)
+    → AreTagsBehind before end hs → AtHeaders (IsAlikeAt f g) hs → AreLaid start hs stop → stop ≤ length f → stop ≤ length g
+    → flat_map (λ h. flow_part f h.layer h.at) hs ≡ flat_map (λ h. flow_part g h.layer h.at) hs
+flows_same f g before end start stop [] whole far tags alike laid hf hg = refl
+flows_same f g before end start stop (h ∷ hs) whole far tags alike laid hf hg =
+    ap (λ z. z ++ flat_map (λ h. flow_part f h.layer h.at) hs)
+    (flow_at f g before end h.layer h.at tags.0 whole far alike.0 (omega (arith, laid_end (h.at + size h.layer) hs stop laid.1)) (omega (arith, laid_end (h.at + size h.layer) hs stop laid.1)))
+    ∙ ap (λ z. flow_part g h.layer h.at ++ z)
+    (flows_same f g h.layer (h.at + size h.layer) (h.at + size h.layer) stop hs (whole_header f g h.layer h.at alike.0) (far_behind h.layer h.at) tags.1 alike.1 laid.1 hf hg)
+
+pub same_key : (f g : List ℕ) (l : Layout) → shape_of f ≡ Some l → shape_of g ≡ Some l → AreHeadersAlike l f g → key_of f ≡ key_of g
+unfolding key_of
+same_key f g l ef eg alike =
+    let lies : AreLaid 0 l.headers l.payload_at × (l.payload_at ≤ length f) = laid f l ef in
+    rw (ef, eg) (ap Some (flows_same f g Vxlan 0 0 l.payload_at l.headers tt (λ a t. absurd t) (tags_of_shape f l ef)
+    (alike_at l f g lies.0 alike) lies.0 lies.1 (laid g l eg).1))

@@ -1,0 +1,24 @@
+//! Laws of the definitions, each carried by a function that does nothing.
+
+ghost use Rattle.frame_layout.specs.Laws.{HeadersAreLaid, AlikeKeepsShape, AlikeKeepsKey, CandidatesAreShort};
+
+/// The headers of a shape lie one behind the other, within the frame and within its first 200 bytes.
+pub fn headers_are_laid()
+    ensures law { HeadersAreLaid }
+{}
+
+/// A frame that differs from one with a shape in lengths, sums, identifications, sequence numbers and TCP flags alone
+/// has the same shape.
+pub fn alike_keeps_shape()
+    ensures law { AlikeKeepsShape }
+{}
+
+/// Such a frame is of the same flow.
+pub fn alike_keeps_key()
+    ensures law { AlikeKeepsKey }
+{}
+
+/// A candidate has at most 65,597 bytes.
+pub fn candidates_are_short()
+    ensures law { CandidatesAreShort }
+{}

@@ -1,0 +1,258 @@
+//! The shape of a frame, and readers of its headers from a place on.
+
+ghost use Rattle.std.specs.Prelude.{◌≡◌, ◌+◌, ◌*◌, ◌<◌, ◌≤◌, ◌^◌, [], length, take, IfSome};
+ghost use Rattle.arrayvec.specs.ArrayVec.{array_vec_len};
+ghost use Rattle.frame_layout.specs.Shape.{ethernet_there, tag_there, ip4_there, ip6_there, tcp_there, udp_there, vxlan_there, network_from, typed_from, ethernet_from, tcp_from, vxlan_from, shape_of};
+ghost use Rattle.frame_layout.specs.Found.{IsIpFound, IsFound};
+
+use crate::layout::{Header, Layer, Layout};
+use arrayvec::ArrayVec;
+use eth_vlan::{EthView, TagView, is_tag};
+use ip_headers::{Ip4View, Ip6View};
+use net_bytes::be16;
+use tcp_headers::{TcpView, UdpView};
+use vxlan::VxlanView;
+
+/// Whether an Ethernet header stands there.
+fn is_ethernet(frame: &[u8], at: usize) -> bool
+    ensures { result ≡ ethernet_there frame.now at }
+{
+    EthView::read(frame, at).is_some()
+}
+
+/// Whether a tag stands there, without the type before it.
+fn is_tag_there(frame: &[u8], at: usize) -> bool
+    ensures { result ≡ tag_there frame.now at }
+{
+    TagView::read(frame, at).is_some()
+}
+
+/// Whether an IPv4 header stands there, and it is of a whole datagram.
+fn is_ip4(frame: &[u8], at: usize) -> bool
+    ensures { result ≡ ip4_there frame.now at }
+{
+    match Ip4View::read(frame, at) {
+        Some(header) => header.flags_and_offset() % 0x4000 == 0,
+        None => false,
+    }
+}
+
+/// Whether an IPv6 header stands there.
+fn is_ip6(frame: &[u8], at: usize) -> bool
+    ensures { result ≡ ip6_there frame.now at }
+{
+    Ip6View::read(frame, at).is_some()
+}
+
+/// Whether a TCP header stands there.
+fn is_tcp(frame: &[u8], at: usize) -> bool
+    ensures { result ≡ tcp_there frame.now at }
+{
+    TcpView::read(frame, at).is_some()
+}
+
+/// Whether a UDP header to VXLAN's port stands there.
+fn is_udp(frame: &[u8], at: usize) -> bool
+    ensures { result ≡ udp_there frame.now at }
+{
+    match UdpView::read(frame, at) {
+        Some(header) => header.destination_port() == vxlan::PORT,
+        None => false,
+    }
+}
+
+/// Whether a VXLAN header with a valid network identifier stands there.
+fn is_vxlan(frame: &[u8], at: usize) -> bool
+    ensures { result ≡ vxlan_there frame.now at }
+{
+    match VxlanView::read(frame, at) {
+        Some(header) => header.flags() / 8 % 2 == 1,
+        None => false,
+    }
+}
+
+/// The IP header of this Ethernet type at the place: its protocol, and the place behind it.
+#[inline(always)]
+fn network(
+    frame: &[u8],
+    kind: u16,
+    at: usize,
+    found: &mut ArrayVec<Header, 11>,
+) -> Option<(u8, usize)>
+    requires low { at < 2 ^ 34 }
+    requires room { array_vec_len found.old < 11 }
+    ensures found { IsIpFound frame.now found.old.items found.new.items result (λ tunnel. network_from frame.now tunnel kind at) }
+    ensures len { array_vec_len found.new ≤ array_vec_len found.old + 1 }
+    ensures near { IfSome result (λ r. r.1 ≤ at + 40) }
+{
+    if kind == 0x0800 {
+        if !is_ip4(frame, at) {
+            return None;
+        }
+        found.push(Header {
+            layer: Layer::Ip4,
+            at,
+        });
+        Some((frame[at + 9], at + 20))
+    } else if kind == 0x86dd {
+        if !is_ip6(frame, at) {
+            return None;
+        }
+        found.push(Header {
+            layer: Layer::Ip6,
+            at,
+        });
+        Some((frame[at + 6], at + 40))
+    } else {
+        None
+    }
+}
+
+/// What stands behind the Ethernet type at the place, where one tag may follow.
+#[inline(always)]
+fn one_tag(frame: &[u8], at: usize, found: &mut ArrayVec<Header, 11>) -> Option<(u8, usize)>
+    requires low { at < 2 ^ 33 }
+    requires there { at + 2 ≤ length frame.now }
+    requires room { array_vec_len found.old + 1 < 11 }
+    ensures found { IsIpFound frame.now found.old.items found.new.items result (λ tunnel. typed_from frame.now tunnel 1 at) }
+    ensures len { array_vec_len found.new ≤ array_vec_len found.old + 2 }
+    ensures near { IfSome result (λ r. r.1 ≤ at + 46) }
+{
+    let kind = be16(frame, at);
+    if !is_tag(kind) {
+        return network(frame, kind, at + 2, found);
+    }
+    if !is_tag_there(frame, at + 2) {
+        return None;
+    }
+    found.push(Header {
+        layer: Layer::Tag,
+        at: at + 2,
+    });
+    network(frame, be16(frame, at + 4), at + 6, found)
+}
+
+/// What stands behind the Ethernet type at the place, where two tags may follow. These are two functions, and no
+/// recursion, so that they are inlined: a call costs as much as all that they do.
+#[inline(always)]
+fn two_tags(frame: &[u8], at: usize, found: &mut ArrayVec<Header, 11>) -> Option<(u8, usize)>
+    requires low { at < 2 ^ 32 }
+    requires there { at + 2 ≤ length frame.now }
+    requires room { array_vec_len found.old + 2 < 11 }
+    ensures found { IsIpFound frame.now found.old.items found.new.items result (λ tunnel. typed_from frame.now tunnel 2 at) }
+    ensures len { array_vec_len found.new ≤ array_vec_len found.old + 3 }
+    ensures near { IfSome result (λ r. r.1 ≤ at + 50) }
+{
+    let kind = be16(frame, at);
+    if !is_tag(kind) {
+        return network(frame, kind, at + 2, found);
+    }
+    if !is_tag_there(frame, at + 2) {
+        return None;
+    }
+    found.push(Header {
+        layer: Layer::Tag,
+        at: at + 2,
+    });
+    one_tag(frame, at + 4, found)
+}
+
+/// The headers of one Ethernet frame from the place on, as far as its IP header: that header's protocol, and the place
+/// behind it.
+#[inline(always)]
+fn link(frame: &[u8], at: usize, found: &mut ArrayVec<Header, 11>) -> Option<(u8, usize)>
+    requires low { at < 2 ^ 30 }
+    requires room { array_vec_len found.old + 3 < 11 }
+    ensures found { IsIpFound frame.now found.old.items found.new.items result (λ tunnel. ethernet_from frame.now tunnel at) }
+    ensures len { array_vec_len found.new ≤ array_vec_len found.old + 4 }
+    ensures near { IfSome result (λ r. r.1 ≤ at + 62) }
+{
+    if !is_ethernet(frame, at) {
+        return None;
+    }
+    found.push(Header {
+        layer: Layer::Ethernet,
+        at,
+    });
+    two_tags(frame, at + 12, found)
+}
+
+/// The TCP header at the place, and where its payload begins.
+fn tcp(frame: &[u8], at: usize, found: &mut ArrayVec<Header, 11>) -> Option<usize>
+    requires low { at < 2 ^ 32 }
+    requires room { array_vec_len found.old < 11 }
+    ensures { IsFound found.old.items found.new.items result (tcp_from frame.now at) }
+{
+    if !is_tcp(frame, at) {
+        return None;
+    }
+    found.push(Header {
+        layer: Layer::Tcp,
+        at,
+    });
+    Some(at + 4 * usize::from(frame[at + 12] / 16))
+}
+
+/// UDP to VXLAN's port, VXLAN, and the headers of the frame in it.
+fn tunnel(frame: &[u8], at: usize, found: &mut ArrayVec<Header, 11>) -> Option<usize>
+    requires low { at < 2 ^ 29 }
+    requires room { array_vec_len found.old ≤ 4 }
+    ensures { IsFound found.old.items found.new.items result (vxlan_from frame.now at) }
+{
+    if !is_udp(frame, at) {
+        return None;
+    }
+    found.push(Header {
+        layer: Layer::Udp,
+        at,
+    });
+    if !is_vxlan(frame, at + 8) {
+        return None;
+    }
+    found.push(Header {
+        layer: Layer::Vxlan,
+        at: at + 8,
+    });
+    let Some((protocol, place)) = link(frame, at + 16, found) else {
+        return None;
+    };
+    if protocol != 6 {
+        return None;
+    }
+    tcp(frame, place, found)
+}
+
+/// The headers of the frame, and where its payload begins.
+fn find(frame: &[u8], found: &mut ArrayVec<Header, 11>) -> Option<usize>
+    requires { found.old.items ≡ [] }
+    ensures { IsFound [] found.new.items result (shape_of frame.now) }
+{
+    let Some((protocol, place)) = link(frame, 0, found) else {
+        return None;
+    };
+    if protocol == 6 {
+        tcp(frame, place, found)
+    } else if protocol == 17 {
+        tunnel(frame, place, found)
+    } else {
+        None
+    }
+}
+
+/// The headers of the frame from the front, and where its payload begins.
+///
+/// A frame has a shape where it begins with an Ethernet header, at most two VLAN tags, an IPv4 header without options
+/// that is no fragment or an IPv6 header, and then either a TCP header, or UDP to VXLAN's port, VXLAN, and an inner
+/// frame of the first form. All these headers lie within the first 200 bytes.
+pub fn shape(frame: &[u8]) -> Option<Layout>
+    ensures shape { result ≡ shape_of frame.now }
+    ensures front { result ≡ shape_of (take 200 frame.now) }
+    ensures within { IfSome result (λ l. l.payload_at ≤ length frame.now) }
+    ensures low { IfSome result (λ l. l.payload_at ≤ 200) }
+{
+    let mut headers = ArrayVec::new();
+    let Some(payload_at) = find(frame, &mut headers) else {
+        return None;
+    };
+    Some(Layout::of(headers, payload_at))
+}

@@ -1,0 +1,111 @@
+//! What merging reads in a frame.
+
+ghost use Rattle.std.specs.Prelude.{◌≡◌, ◌+◌, ◌≤◌, length};
+ghost use Rattle.frame_layout.specs.Headers.{size, AtHeaders};
+ghost use Rattle.frame_layout.specs.Segment.{fields_with as fields_with_said, fields_of as fields_said, fields_in};
+
+use crate::layout::{Header, Layer, Layout};
+use net_bytes::{be16, be32};
+
+/// What of a frame's headers the merging of packets compares. `id1` and `df1` are of the first IP header and `id2` and
+/// `df2` of the second: its identification, and whether it says "don't fragment". They are 0 and false where there is
+/// no such header or it is IPv6.
+#[derive(Clone, Copy)]
+pub struct Fields {
+    /// TCP's sequence number.
+    pub seq: u32,
+    /// TCP's control bits.
+    pub flags: u8,
+    pub id1: u16,
+    pub id2: u16,
+    pub df1: bool,
+    pub df2: bool,
+    /// Whether there is no UDP header, or it has no sum.
+    pub udp_zero: bool,
+}
+
+/// A frame that may be merged: its headers, where its payload begins and how long it is, and the [`Fields`].
+#[derive(Drop)]
+pub struct Seg {
+    pub layout: Layout,
+    pub payload_at: usize,
+    pub payload_len: u32,
+    pub seq: u32,
+    pub flags: u8,
+    pub id1: u16,
+    pub id2: u16,
+    pub df1: bool,
+    pub df2: bool,
+    pub udp_zero: bool,
+}
+
+impl Seg {
+    /// What was read in the headers.
+    pub fn fields(&self) -> Fields
+        ensures fields { result ≡ fields_in self.now }
+    {
+        Fields {
+            seq: self.seq,
+            flags: self.flags,
+            id1: self.id1,
+            id2: self.id2,
+            df1: self.df1,
+            df2: self.df2,
+            udp_zero: self.udp_zero,
+        }
+    }
+}
+
+/// The fields with this header in front of the others.
+fn fields_with(head: &[u8], header: Header, fields: Fields) -> Fields
+    requires there { header.at + size header.layer ≤ length head.now }
+    ensures { result ≡ fields_with_said head.now header.layer header.at fields }
+{
+    let at = header.at;
+    match header.layer {
+        Layer::Ip4 => Fields {
+            id1: be16(head, at + 4),
+            df1: head[at + 6] / 0x40 % 2 == 1,
+            id2: fields.id1,
+            df2: fields.df1,
+            ..fields
+        },
+        Layer::Ip6 => Fields {
+            id1: 0,
+            df1: false,
+            id2: fields.id1,
+            df2: fields.df1,
+            ..fields
+        },
+        Layer::Udp => Fields {
+            udp_zero: be16(head, at + 6) == 0,
+            ..fields
+        },
+        Layer::Tcp => Fields {
+            seq: be32(head, at + 4),
+            flags: head[at + 13],
+            ..fields
+        },
+        _ => fields,
+    }
+}
+
+/// The fields of these headers.
+pub fn fields_of(head: &[u8], headers: &[Header]) -> Fields
+    requires there { AtHeaders (λ layer at. at + size layer ≤ length head.now) headers.now }
+    ensures { result ≡ fields_said head.now headers.now }
+{
+    let mut fields = Fields {
+        seq: 0,
+        flags: 0,
+        id1: 0,
+        id2: 0,
+        df1: false,
+        df2: false,
+        udp_zero: true,
+    };
+    for i in 0..headers.len() {
+        fields = fields_with(head, headers[headers.len() - 1 - i], fields);
+    }
+    fields
+}

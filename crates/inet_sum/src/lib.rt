@@ -1,0 +1,101 @@
+//! The Internet sum: the one's complement sum of 16-bit words that IPv4, TCP and UDP carry (RFC 1071, section 1; RFC
+//! 791, section 3.1; RFC 9293, section 3.1; RFC 768).
+//!
+//! [`fold_of`] gives the sum of bytes folded into 16 bits, and [`checksum`] and [`udp_checksum`] what stands in a header
+//! (clauses `fold` and `checksum`). Bytes that come in pieces are summed by a [`Partial`], however they were cut, at odd
+//! places too: its clauses speak of every list of bytes that it stands for. The definition in `specs/` has one division
+//! in place of the carries.
+//!
+//! ```
+//! let mut sum = Partial::new();
+//! sum.add(&[0x00, 0x01, 0xf2]);
+//! sum.add(&[0x03, 0xf4, 0xf5, 0xf6, 0xf7]);
+//! let field = sum.checksum(); // 0x220d
+//! ```
+#![tactic(auto)]
+
+ghost use Rattle.std.specs.Prelude.{◌≡◌, ℕ, ◌+◌, ◌*◌, ◌/◌, ◌%◌, ◌^◌, ◌<◌, ◌≤◌, List, [], ◌∷◌, ◌++◌, length};
+ghost use Rattle.inet_sum.specs.Words.{number_of};
+ghost use Rattle.inet_sum.specs.Sum.{word_sum, folded, fold_of as fold_of_bytes, checksum_of, not_zero, udp_checksum_of, joined_fold};
+
+pub mod partial;
+#[cfg(test)]
+mod tests;
+
+pub use partial::Partial;
+
+/// The fold of the bytes: 0 where their big-endian words add to 0, and else the number from 1 to 65535 that leaves the
+/// same remainder by 65535. An odd last byte counts as the high byte of a word.
+pub fn fold_of(bytes: &[u8]) -> u16
+    requires few { length bytes.now < 2 ^ 32 }
+    ensures fold { result ≡ fold_of_bytes bytes.now }
+{
+    fold_number(unfolded(bytes))
+}
+
+/// A number that has the fold of the bytes: a sum of many pieces folds once, at its end.
+pub fn unfolded(bytes: &[u8]) -> u64
+    requires few { length bytes.now < 2 ^ 32 }
+    ensures fold { folded result ≡ fold_of_bytes bytes.now }
+    ensures small { result ≤ 2 ^ 30 * length bytes.now }
+{
+    // A number of 32 bits leaves the same remainder by 65535 as its two halves together.
+    let quads = bytes.len() / 4;
+    let mut sum: u64 = 0;
+    for i in 0..quads {
+        let at = 4 * i;
+        sum += u64::from(number([bytes[at], bytes[at + 1], bytes[at + 2], bytes[at + 3]]));
+    }
+    sum + short_sum(&bytes[4 * quads..])
+}
+
+/// The fold of a number: 0 of 0, and else the number from 1 to 65535 that leaves the same remainder by 65535.
+pub fn fold_number(number: u64) -> u16
+    ensures fold { result ≡ folded number }
+{
+    if number == 0 {
+        0
+    } else {
+        ((number - 1) % 65535 + 1) as u16
+    }
+}
+
+/// The big-endian number in four bytes.
+fn number(quad: [u8; 4]) -> u32
+    ensures { result ≡ number_of quad }
+{
+    u32::from_be_bytes(quad)
+}
+
+/// What the words of at most three bytes add to.
+fn short_sum(bytes: &[u8]) -> u64
+    requires { length bytes.now ≤ 3 }
+    ensures sum { result ≡ word_sum bytes.now }
+    ensures small { result ≤ 2 ^ 16 * length bytes.now }
+{
+    match bytes {
+        [] => 0,
+        [high] => 256 * u64::from(*high),
+        [high, low] => 256 * u64::from(*high) + u64::from(*low),
+        [high, low, next, ..] => 256 * u64::from(*high) + u64::from(*low) + 256 * u64::from(*next),
+    }
+}
+
+/// The Internet checksum of the bytes, as it stands in an IPv4 or TCP header.
+pub fn checksum(bytes: &[u8]) -> u16
+    requires few { length bytes.now < 2 ^ 32 }
+    ensures checksum { result ≡ checksum_of bytes.now }
+{
+    65535 - fold_of(bytes)
+}
+
+/// The Internet checksum of the bytes as it stands in a UDP header, where 0 is sent as 65535 (RFC 768).
+pub fn udp_checksum(bytes: &[u8]) -> u16
+    requires few { length bytes.now < 2 ^ 32 }
+    ensures checksum { result ≡ udp_checksum_of bytes.now }
+{
+    match checksum(bytes) {
+        0 => 65535,
+        sum => sum,
+    }
+}

@@ -1,0 +1,3 @@
+pub mod Ip4
+pub mod Ip6
+pub mod View

@@ -1,0 +1,136 @@
+//! The IPv4 header without options (RFC 791, section 3.1).
+
+ghost use Rattle.std.specs.Prelude.{◌≡◌, ◌↔◌, ℕ, ◌+◌, ◌<◌, ◌≤◌, ◌⊎◌, true, length, IsSome, IfSome};
+ghost use Rattle.net_bytes.specs.Bytes.{byte};
+ghost use Rattle.ip_headers.specs.View.{Placed};
+ghost use Rattle.ip_headers.specs.Ip4.{is_there, total_length as total_length_of, identification as identification_of, flags_and_offset as flags_and_offset_of, time_to_live, protocol as protocol_of, header_checksum, source as source_of, destination as destination_of};
+
+use crate::write::write16;
+use net_bytes::be16;
+use std::marker::Model;
+
+/// An IPv4 header of 20 bytes in a frame.
+#[derive(Drop)]
+pub struct Ip4View<'a> {
+    frame: &'a [u8],
+    at: usize,
+}
+
+impl<'a> Model for Ip4View<'a> {
+    ghost Value = { Placed };
+
+    ghost view = { λ v. record { frame = v.frame.now; at = v.at } };
+
+    ghost invariant = { λ v. v.at + 20 ≤ length v.frame.now };
+}
+
+impl<'a> Ip4View<'a> {
+    /// The header at `at`. There is none where its 20 bytes aren't there, or the first isn't 0x45, which says version 4
+    /// and no options.
+    pub fn read(frame: &'a [u8], at: usize) -> Option<Ip4View<'a>>
+        ensures found { IsSome result ↔ (is_there frame.now at ≡ true) }
+        ensures view { IfSome result (λ v. v ≡ record { frame = frame.now; at = at }) }
+    {
+        if frame.len() < 20 || frame.len() - 20 < at {
+            return None;
+        }
+        if frame[at] != 0x45 {
+            return None;
+        }
+        Some(Ip4View { frame, at })
+    }
+
+    /// The length of header and data, in bytes.
+    pub fn total_length(&self) -> u16
+        ensures field { result ≡ total_length_of self.now.frame self.now.at }
+    {
+        be16(self.frame, self.at + 2)
+    }
+
+    /// The number that fragments of one datagram share.
+    pub fn identification(&self) -> u16
+        ensures field { result ≡ identification_of self.now.frame self.now.at }
+    {
+        be16(self.frame, self.at + 4)
+    }
+
+    /// Three flags, reserved (0x8000), "don't fragment" (0x4000) and "more fragments" (0x2000), and the fragment's
+    /// offset in units of eight bytes.
+    pub fn flags_and_offset(&self) -> u16
+        ensures field { result ≡ flags_and_offset_of self.now.frame self.now.at }
+    {
+        be16(self.frame, self.at + 6)
+    }
+
+    /// The time to live, in hops.
+    pub fn ttl(&self) -> u8
+        ensures field { result ≡ time_to_live self.now.frame self.now.at }
+    {
+        self.frame[self.at + 8]
+    }
+
+    /// The protocol of the data: 6 is TCP, 17 is UDP.
+    pub fn protocol(&self) -> u8
+        ensures field { result ≡ protocol_of self.now.frame self.now.at }
+    {
+        self.frame[self.at + 9]
+    }
+
+    /// The checksum of the header.
+    pub fn header_sum(&self) -> u16
+        ensures field { result ≡ header_checksum self.now.frame self.now.at }
+    {
+        be16(self.frame, self.at + 10)
+    }
+
+    /// The address of the sender.
+    pub fn source(&self) -> [u8; 4]
+        ensures field { result ≡ source_of self.now.frame self.now.at }
+    {
+        let mut address = [0; 4];
+        address.copy_from_slice(&self.frame[self.at + 12..self.at + 16]);
+        address
+    }
+
+    /// The address of the receiver.
+    pub fn destination(&self) -> [u8; 4]
+        ensures field { result ≡ destination_of self.now.frame self.now.at }
+    {
+        let mut address = [0; 4];
+        address.copy_from_slice(&self.frame[self.at + 16..self.at + 20]);
+        address
+    }
+}
+
+/// Writes the total length of the IPv4 header at `at`.
+pub fn set_total(bytes: &mut [u8], at: usize, value: u16)
+    requires inside { at + 4 ≤ length bytes.old }
+    ensures field { total_length_of bytes.new at ≡ value }
+    ensures others { (k : ℕ) → (k < at + 2) ⊎ (at + 4 ≤ k) → byte bytes.new k ≡ byte bytes.old k }
+    ensures len { length bytes.new ≡ length bytes.old }
+    ensures same { total_length_of bytes.old at ≡ value → bytes.new ≡ bytes.old }
+{
+    write16(bytes, at + 2, value);
+}
+
+/// Writes the identification of the IPv4 header at `at`.
+pub fn set_id(bytes: &mut [u8], at: usize, value: u16)
+    requires inside { at + 6 ≤ length bytes.old }
+    ensures field { identification_of bytes.new at ≡ value }
+    ensures others { (k : ℕ) → (k < at + 4) ⊎ (at + 6 ≤ k) → byte bytes.new k ≡ byte bytes.old k }
+    ensures len { length bytes.new ≡ length bytes.old }
+    ensures same { identification_of bytes.old at ≡ value → bytes.new ≡ bytes.old }
+{
+    write16(bytes, at + 4, value);
+}
+
+/// Writes the header checksum of the IPv4 header at `at`.
+pub fn set_header_sum(bytes: &mut [u8], at: usize, value: u16)
+    requires inside { at + 12 ≤ length bytes.old }
+    ensures field { header_checksum bytes.new at ≡ value }
+    ensures others { (k : ℕ) → (k < at + 10) ⊎ (at + 12 ≤ k) → byte bytes.new k ≡ byte bytes.old k }
+    ensures len { length bytes.new ≡ length bytes.old }
+    ensures same { header_checksum bytes.old at ≡ value → bytes.new ≡ bytes.old }
+{
+    write16(bytes, at + 10, value);
+}

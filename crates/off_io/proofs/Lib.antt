@@ -1,0 +1,3 @@
+mod Pieces
+pub mod Appending
+pub mod Telling

@@ -1,0 +1,21 @@
+-- What calls do to the bytes that a source has left and a sink holds, where these tell.
+use Rattle.std.specs.Prelude.{◌≡◌, ℕ, ◌<◌, List, length, take, Bool, IfSome, Option, Result, MatchResult}
+use Rattle.std.specs.Io.KnownBytes.{Appends, Consumes, IsAtEnd}
+
+-- of a piece the first bytes were appended, maybe none and maybe all
+abbrev pub AppendsFront : Option (List ℕ) → Option (List ℕ) → List ℕ → Type 0
+AppendsFront old new bytes = (n : ℕ) × Appends old new (take n bytes)
+
+-- a sink that tells says whether all of it is flushed
+abbrev pub SaysFlushed : Option (List ℕ) → Bool → Bool → Type 0
+SaysFlushed held is_flushed answer = IfSome held (λ _. is_flushed ≡ answer)
+
+-- a source that tells lost some bytes, fewer than n
+abbrev pub LosesFewer : Option (List ℕ) → Option (List ℕ) → ℕ → Type 0
+LosesFewer old new n = (bytes : List ℕ) × Consumes old new bytes × (length bytes < n)
+
+-- at `Ok(n)` the first n bytes of the buffer were the next ones of the source, and fewer than all only at its end; at `Err` fewer bytes are gone
+abbrev pub FillsFront : {E : Type 0} → Option (List ℕ) → Option (List ℕ) → Result ℕ E → List ℕ → Type 0
+FillsFront old new r into = MatchResult r
+    (λ n. Consumes old new (take n into) × (n < length into → IsAtEnd new))
+    (λ _. LosesFewer old new (length into))

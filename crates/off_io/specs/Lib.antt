@@ -1,0 +1,5 @@
+pub mod Faults
+pub mod Content
+pub mod Memory
+pub mod Told
+pub mod Edge

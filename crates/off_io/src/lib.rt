@@ -1,0 +1,35 @@
+//! Where bytes come from and go to, and how often that failed.
+//!
+//! A [`Source`] gives bytes and a [`Sink`] takes them. Each may tell what it has left or holds, and each counts its
+//! faults; a call answers a fault only where that count rose. So a theorem over any source and sink can say which bytes
+//! were read and written, and can blame a fault on the outside alone. A [`Gate`] is passed by tasks and changes no answer.
+//!
+//! Proved: `write_all` appends all bytes, or a front of them at a fault (clauses `ok`, `err`, `cause`); `read_full` fills
+//! its buffer but at the end of the source (`bytes`, `cause`); the sources and sinks in memory fail at exactly the calls
+//! that they were told (`fails`). Trusted: that std's readers and writers behind [`StdSource`] and [`StdSink`] do as they say.
+//!
+//! ```text
+//! let mut source = StdSource::new(rt.stdin());
+//! let count = read_full(&mut source, &mut header)?;
+//! ```
+#![tactic(auto)]
+
+mod feed;
+mod gate;
+mod mem_sink;
+mod mem_source;
+mod sink;
+mod source;
+mod standard;
+mod sure;
+#[cfg(test)]
+mod tests;
+
+pub use feed::Feed;
+pub use gate::{Gate, NoGate, Who};
+pub use mem_sink::MemSink;
+pub use mem_source::MemSource;
+pub use sink::{Sink, WriteFault, write_all};
+pub use source::{Failed, Source, read_full};
+pub use standard::{StdSink, StdSource};
+pub use sure::{SureSink, SureSource};

@@ -1,0 +1,69 @@
+//! A source and a sink that never fail.
+ghost use Rattle.std.specs.Prelude.{◌≡◌, Some, None, drop, false, List, ℕ};
+
+use crate::mem_source::copy_front;
+use crate::{Failed, Sink, Source};
+use std::marker::Model;
+
+/// Gives the bytes that it was made with and never fails: its count of faults is the constant 0.
+#[derive(Drop)]
+pub struct SureSource {
+    bytes: Vec<u8>,
+    at: usize,
+}
+
+impl Model for SureSource {
+    ghost use Rattle.std.specs.Prelude.{◌≤◌, vec_len, drop, List, ℕ};
+
+    ghost Value = { List ℕ };
+
+    ghost view = { λ s. drop s.at s.bytes.items };
+
+    ghost invariant = { λ s. s.at ≤ vec_len s.bytes };
+}
+
+impl SureSource {
+    pub fn new(bytes: Vec<u8>) -> Self
+        ensures { result ≡ bytes.items }
+    {
+        SureSource { bytes, at: 0 }
+    }
+}
+
+impl Source for SureSource {
+    ghost left = { λ rest. Some rest };
+
+    ghost faults = { λ _. 0 };
+
+    fn read(&mut self, into: &mut [u8]) -> Result<usize, Failed> {
+        let count = copy_front(into, &self.bytes[self.at..], usize::MAX);
+        self.at += count;
+        Ok(count)
+    }
+}
+
+/// Takes all and keeps nothing; it tells nothing and never fails.
+#[derive(Clone, Copy, Debug)]
+pub struct SureSink;
+
+impl SureSink {
+    pub fn new() -> Self {
+        SureSink
+    }
+}
+
+impl Sink for SureSink {
+    ghost held = { λ _. None };
+
+    ghost is_flushed = { λ _. false };
+
+    ghost faults = { λ _. 0 };
+
+    fn write(&mut self, from: &[u8]) -> Result<usize, Failed> {
+        Ok(from.len())
+    }
+
+    fn flush(&mut self) -> Result<(), Failed> {
+        Ok(())
+    }
+}

@@ -1,0 +1,74 @@
+-- The items of a queue are the cuts of its flows.
+use Rattle.std.proofs.Common.{◌≡◌, ℕ, ◌<◌, ◌⊎◌, inl, inr, true, Option, Some, None, List, [], ◌∷◌, ◌++◌, length, take, refl, sym, ap, subst}
+use Rattle.std.specs.List.{filter}
+use Rattle.std.proofs.lemmas.Slice.Eq.{bytes_eq-Decides}
+use Rattle.run_cuts.specs.Cut.{AllNeighbours, IsCut}
+use Rattle.run_cuts.specs.Items.{begins_in, AreFlows, AreItems}
+use Rattle.run_cuts.specs.Cut.{cut_of}
+use Rattle.run_cuts.proofs.Unique.{unique}
+use Rattle.run_cuts.proofs.Pass.{one_pass}
+use Rattle.run_cuts.proofs.Items.{unique_items}
+use Rattle.run_cuts.proofs.Ordered.{items_are_runs}
+use Rattle.offload_model.proofs.Fronts.{fronts_too}
+use Rattle.offload_model.specs.Laws.{HasOneCut}
+use Rattle.frame_layout.specs.Key.{key_of}
+use Rattle.pcap_io.specs.Capture.{Packet}
+use Rattle.offload_model.specs.Mergeable.{IsMergeable}
+use Rattle.offload_model.specs.Tests.{is_mergeable}
+use Rattle.offload_model.specs.Rounds.{is_key, key_in, is_of, is_queued, number_of, items_of}
+use Rattle.offload_model.specs.CaptureLaws.{ItemsAreRuns}
+use Rattle.offload_model.proofs.Lists.{all_of, rising_filtered}
+use Rattle.offload_model.proofs.Decides.{decides_mergeable}
+
+pub is_key_self : (key : Option (List ℕ)) → is_key key key ≡ true
+is_key_self None = refl
+is_key_self (Some a) = (bytes_eq-Decides a a).1 refl
+
+pub is_key_same : (a b : Option (List ℕ)) → is_key a b ≡ true → a ≡ b
+is_key_same None None e = refl
+is_key_same None (Some b) e = absurd cc
+is_key_same (Some a) None e = absurd cc
+is_key_same (Some a) (Some b) e = ap Some ((bytes_eq-Decides a b).0 e)
+
+pub are_flows : AreFlows is_of key_in
+are_flows = record {
+  own = λ p. is_key_self (key_of p.frame);
+  one = λ key p x e. ap (λ k. is_key k (key_of x.frame)) (is_key_same key (key_of p.frame) e);
+}
+
+-- a cut by one rule is a cut by another that says the same
+near_of : {A : Type 0} (R S : A → A → Type 0) (xs : List A) → ((x y : A) → R x y → S x y) → AllNeighbours R xs → AllNeighbours S xs
+near_of R S [] f a = tt
+near_of R S (x ∷ []) f a = tt
+near_of R S (x ∷ y ∷ xs) f a = (f x y a.0, near_of R S (y ∷ xs) f a.1)
+
+same_cut : {A : Type 0} (M N : List A → Type 0) → ((r : List A) → M r → N r) → ((r : List A) → N r → M r) → (xs : List A) (runs : List (List A)) → IsCut M xs runs → IsCut N xs runs
+same_cut M N to from xs runs c = record {
+  filled = c.filled;
+  joined = c.joined;
+  each = all_of (λ run. (length run ≡ 1) ⊎ M run) (λ run. (length run ≡ 1) ⊎ N run) runs (λ run e. elim e [ inl one ↦ inl one | inr m ↦ inr (to run m) ]) c.each;
+  maximal = near_of (λ run next. M (run ++ take 1 next) → ⊥) (λ run next. N (run ++ take 1 next) → ⊥) runs (λ run next f m. f (from (run ++ take 1 next) m)) c.maximal;
+}
+
+pub items_are : (queues q : ℕ) (ps : List Packet) → AllNeighbours (λ p q. p.number < q.number) ps
+    → AreItems IsMergeable is_of number_of (filter (is_queued queues q) ps) (items_of queues q ps)
+items_are queues q ps rising =
+    let xs : List Packet = filter (is_queued queues q) ps in
+    let i : AreItems (λ run. is_mergeable run ≡ true) is_of number_of xs (items_of queues q ps) =
+    items_are_runs is_mergeable is_of key_in number_of xs are_flows (rising_filtered number_of (is_queued queues q) ps rising) in
+    record {
+      full = i.full;
+      flows = λ key. same_cut (λ run. is_mergeable run ≡ true) IsMergeable (λ r. (decides_mergeable r).0) (λ r. (decides_mergeable r).1) (filter (is_of key) xs) (filter (begins_in (is_of key)) (items_of queues q ps)) (i.flows key);
+      ordered = i.ordered;
+    }
+
+pub items_are_runs_alone : ItemsAreRuns
+items_are_runs_alone queues q ps items rising = (
+  λ i. unique_items is_of number_of key_in (λ p. is_key_self (key_of p.frame)) IsMergeable fronts_too (filter (is_queued queues q) ps) items (items_of queues q ps) i (items_are queues q ps rising),
+  λ e. subst (AreItems IsMergeable is_of number_of (filter (is_queued queues q) ps)) (sym e) (items_are queues q ps rising),
+)
+
+pub one_cut : HasOneCut
+one_cut ps runs =
+    let own : IsCut IsMergeable ps (cut_of is_mergeable ps) = one_pass IsMergeable is_mergeable decides_mergeable ps in
+    (λ c. unique IsMergeable fronts_too ps runs (cut_of is_mergeable ps) c own, λ e. subst (IsCut IsMergeable ps) (sym e) own)

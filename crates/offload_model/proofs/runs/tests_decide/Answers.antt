@@ -1,0 +1,5 @@
+use Rattle.offload_model.proofs.Decides.{decides_candidate, decides_mergeable, decides_super, decides_record}
+use Rattle.offload_model.proofs.runs.tests_decide.Goals as goal
+
+pub returns : goal.returns
+returns c = record { law = record { candidate = decides_candidate; mergeable = decides_mergeable; super = decides_super; lawful = decides_record } }

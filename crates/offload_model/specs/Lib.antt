@@ -1,0 +1,12 @@
+pub mod Each
+pub mod Mergeable
+pub mod Edits
+pub mod Frames
+pub mod Merged
+pub mod Segments
+pub mod Tests
+pub mod Rounds
+pub mod Written
+pub mod Laws
+pub mod CaptureLaws
+pub mod Rows

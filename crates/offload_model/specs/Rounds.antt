@@ -1,0 +1,42 @@
+-- The packets of a capture in rounds, and the runs of a round.
+use Rattle.std.specs.Prelude.{ℕ, zero, suc, ◌-◌, Bool, true, false, ◌==◌, Option, Some, None, List, [], ◌∷◌, take}
+use Rattle.std.specs.List.{filter}
+use Rattle.std.specs.Str.{bytes_eq}
+use Rattle.run_cuts.specs.Items.{items_of as runs_of}
+use Rattle.frame_layout.specs.Key.{key_of, queue_of}
+use Rattle.pcap_io.specs.Capture.{Packet}
+use Rattle.offload_model.specs.Tests.{is_mergeable}
+
+-- from here on, where `more` elements still belong to the round that was begun before
+abbrev pub rounds_from : {A : Type 0} → ℕ → ℕ → List A → List (List A)
+rounds_from budget more [] = []
+rounds_from budget (suc more) (x ∷ xs) = rounds_from budget more xs
+rounds_from budget zero (x ∷ xs) = take budget (x ∷ xs) ∷ rounds_from budget (budget - 1) xs
+
+-- successive rounds of `budget` elements, the last one maybe shorter
+abbrev pub rounds_of : {A : Type 0} → ℕ → List A → List (List A)
+rounds_of budget xs = rounds_from budget 0 xs
+
+-- whether two flow keys are one
+abbrev pub is_key : Option (List ℕ) → Option (List ℕ) → Bool
+is_key None None = true
+is_key None (Some b) = false
+is_key (Some a) None = false
+is_key (Some a) (Some b) = bytes_eq a b
+
+abbrev pub key_in : Packet → Option (List ℕ)
+key_in p = key_of p.frame
+
+-- whether a packet is of the flow with this key, and whether its flow is of queue q
+abbrev pub is_of : Option (List ℕ) → Packet → Bool
+is_of key p = is_key key (key_of p.frame)
+
+abbrev pub is_queued : ℕ → ℕ → Packet → Bool
+is_queued queues q p = queue_of (key_of p.frame) queues == q
+
+abbrev pub number_of : Packet → ℕ
+number_of p = p.number
+
+-- the runs of all flows of queue q, in the order of their first packets' numbers
+abbrev pub items_of : ℕ → ℕ → List Packet → List (List Packet)
+items_of queues q ps = runs_of is_mergeable is_of key_in number_of (filter (is_queued queues q) ps)

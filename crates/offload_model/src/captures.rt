@@ -1,0 +1,45 @@
+//! A whole capture: its rounds, the records that are written, and what comes back of them.
+ghost use Rattle.offload_model.specs.CaptureLaws.{CapturesAreCaptured, RunsComeBack, RunsAreLawful, ItemsAreRuns, FlowsComeBack, ReadsBack, HeadReadsBack, WrittenComesBack};
+
+/// The packets of a capture of Ethernet frames meet what the laws below ask of packets.
+pub fn captures_are_captured()
+    ensures law { CapturesAreCaptured }
+{}
+
+/// The segments of a run's record are the run's packets, in order, in bytes and original length.
+pub fn runs_come_back()
+    ensures law { RunsComeBack }
+{}
+
+/// The record of mergeable packets is a lawful super-packet, and its numbers fit their fields of 16 bits.
+pub fn runs_are_lawful()
+    ensures law { RunsAreLawful }
+{}
+
+/// A queue's items are the cuts of all its flows into maximal runs, in the order of their first packets, and nothing else
+/// is, where the packets' numbers rise.
+pub fn items_are_runs()
+    ensures law { ItemsAreRuns }
+{}
+
+/// Over a whole capture, the segments of the records whose frames have a key are the packets that have it, in order, in
+/// bytes and original length.
+pub fn flows_come_back()
+    ensures law { FlowsComeBack }
+{}
+
+/// The bytes that are written read as the records that they were written from, to the end, and each passes the test of
+/// whole records.
+pub fn reads_back()
+    ensures law { ReadsBack }
+{}
+
+/// The file header that is written has the fields of the one that was read.
+pub fn head_reads_back()
+    ensures law { HeadReadsBack }
+{}
+
+/// The segments of the records that are read from the written bytes bring every flow back.
+pub fn written_comes_back()
+    ensures law { WrittenComesBack }
+{}

@@ -1,0 +1,5 @@
+mod Packets
+mod PartRound
+mod Outputs
+mod Rounding
+mod Whole

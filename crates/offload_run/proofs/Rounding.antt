@@ -1,0 +1,265 @@
+-- Rounds, and what of them is written so far.
+use Rattle.std.proofs.Common.{◌≡◌, ◌≤◌, ◌<◌, ◌-◌, ℕ, zero, suc, List, [], ◌∷◌, ◌++◌, length, take, drop, map, refl, sym, ap, ◌∙◌, arith, Option, None, Some, subst, append_assoc, append-nil, length-append}
+use Rattle.std.proofs.lemmas.List.{take_at, drop_at, take_all, drop_all}
+use Rattle.std.proofs.KnownBytes.{Appends-trans}
+use Rattle.std.specs.List.{flat_map}
+use Rattle.std.specs.Io.KnownBytes.{Appends, Keeps}
+use Rattle.std.proofs.KnownBytes.{Appends-kept}
+use Rattle.std.proofs.Common.{inl, inr, ◌⊎◌}
+use Rattle.std.proofs.lemmas.List.{length-map}
+use Rattle.std.proofs.KnownBytes.{Appends-nil}
+use Rattle.off_io.specs.Content.{AppendsFront}
+use Rattle.off_io.proofs.Appending.{front_then, front_more}
+use Rattle.off_io.proofs.Telling.{Told-then, Told-same}
+use Rattle.pcap_io.specs.declared.heads.FileHead.{FileHead}
+use Rattle.pcap_io.specs.declared.faults.CapFault.{CapFault}
+use Rattle.offload_run.specs.declared.packet.Packet.{Packet as Read}
+use Rattle.offload_run.specs.declared.round.RoundEnd.{RoundEnd}
+use Rattle.offload_run.specs.declared.round.RoundEnd.TheVariants as ends
+use Rattle.offload_run.specs.declared.status.Status.{Status}
+use Rattle.offload_run.specs.declared.status.Status.TheVariants as statuses
+use Rattle.offload_run.specs.Reading.{GivesRound, Holds, Loses, Passes, in_front}
+use Rattle.pcap_io.specs.declared.place.Place.{Place}
+use Rattle.net_bytes.specs.declared.order.Order.{Order}
+use Rattle.pcap_io.specs.declared.heads.Link.TheVariants.{Ethernet}
+use Rattle.pcap_io.specs.Capture.{Packet, Found, ended}
+use Rattle.off_io.specs.Told.{Told}
+use Rattle.pcap_io.specs.Places.{IsReady, found_at}
+use Rattle.pcap_io.proofs.RecordLaws.{records_none}
+use Rattle.offload_run.specs.Rounds.{rounds_after, rounds}
+use Rattle.offload_run.specs.Output.{packet_of, round_bytes, rounds_bytes}
+use Rattle.offload_run.specs.Merging.{Merges, output_at}
+
+pub rounds_skip : {P : Type 0} (budget more : ℕ) (ps : List P) → rounds_after budget more ps ≡ rounds_after budget 0 (drop more ps)
+unfolding rounds_after
+rounds_skip budget zero ps = refl
+rounds_skip budget (suc more) [] = refl
+rounds_skip budget (suc more) (p ∷ ps) = rounds_skip budget more ps
+
+pub rounds_none : {P : Type 0} (budget : ℕ) → rounds {P = P} budget [] ≡ []
+unfolding rounds_after
+rounds_none budget = refl
+
+pub rounds_some : {P : Type 0} (budget : ℕ) (ps : List P) → 0 < budget → 0 < length ps → rounds budget ps ≡ take budget ps ∷ rounds budget (drop budget ps)
+unfolding rounds_after
+rounds_some budget [] room some = absurd (omega (arith, some))
+rounds_some budget (p ∷ ps) room some =
+    let e : budget ≡ suc (budget - 1) = omega arith in
+    let rest : drop budget (p ∷ ps) ≡ drop (budget - 1) ps = ap (λ (k : ℕ). drop k (p ∷ ps)) e in
+    ap (λ (l : List (List _)). take budget (p ∷ ps) ∷ l) (rounds_skip budget (budget - 1) ps ∙ ap (rounds_after budget 0) (sym rest))
+
+-- a full round, and the others
+pub rounds_full : {P : Type 0} (budget : ℕ) (xs ys : List P) → 0 < budget → length xs ≡ budget → rounds budget (xs ++ ys) ≡ xs ∷ rounds budget ys
+rounds_full budget xs ys room full =
+    let some : 0 < length (xs ++ ys) = omega (arith, length-append xs ys) in
+    rounds_some budget (xs ++ ys) room some ∙ rw (take_at xs ys budget full, drop_at xs ys budget full) refl
+
+-- one round alone
+pub rounds_last : {P : Type 0} (budget : ℕ) (xs : List P) → 0 < budget → 0 < length xs → length xs ≤ budget → rounds budget xs ≡ xs ∷ []
+rounds_last budget xs room some le =
+    rounds_some budget xs room some ∙ rw (take_all budget xs le, drop_all budget xs le, rounds_none budget) refl
+
+pub output_full : (budget : ℕ) (order : Order) (xs ys : List Packet) → 0 < budget → length xs ≡ budget → rounds_bytes budget order (xs ++ ys) ≡ round_bytes order xs ++ rounds_bytes budget order ys
+output_full budget order xs ys room full = ap (flat_map (round_bytes order)) (rounds_full budget xs ys room full)
+
+pub output_last : (budget : ℕ) (order : Order) (xs : List Packet) → 0 < budget → length xs ≤ budget → rounds_bytes budget order xs ≡ round_bytes order xs
+output_last budget order [] room le = ap (flat_map (round_bytes order)) (rounds_none budget)
+output_last budget order (x ∷ xs) room le =
+    ap (flat_map (round_bytes order)) (rounds_last budget (x ∷ xs) room (omega arith) le) ∙ append-nil (round_bytes order (x ∷ xs))
+
+-- of `all` the bytes `rest` are still to be appended
+abbrev pub Owes : Option (List ℕ) → Option (List ℕ) → List ℕ → List ℕ → Type 0
+Owes old new all rest = (done : List ℕ) × Appends old new done × (done ++ rest ≡ all)
+
+pub Owes-all : (a : Option (List ℕ)) (all : List ℕ) → Owes a a all all
+Owes-all a all = ([], Appends-nil a, refl)
+
+pub Owes-less : (a b c : Option (List ℕ)) (all part rest : List ℕ) → Owes a b all (part ++ rest) → Appends b c part → Owes a c all rest
+Owes-less a b c all part rest p q = (p.0 ++ part, Appends-trans a b c p.0 part p.1 q, append_assoc p.0 part rest ∙ p.2)
+
+pub Owes-none : (a b : Option (List ℕ)) (all : List ℕ) → Owes a b all [] → Appends a b all
+Owes-none a b all p = subst (Appends a b) (sym (append-nil p.0) ∙ p.2) p.1
+
+pub Owes-front : (a b : Option (List ℕ)) (all rest : List ℕ) → Owes a b all rest → AppendsFront a b all
+Owes-front a b all rest p =
+    (length p.0, subst (Appends a b) (sym (take_at p.0 rest (length p.0) refl) ∙ ap (take (length p.0)) p.2) p.1)
+
+-- a part of what is owed was written, and then the sink failed
+pub Owes-failed : (a b c : Option (List ℕ)) (all part rest : List ℕ) → Owes a b all (part ++ rest) → AppendsFront b c part → AppendsFront a c all
+Owes-failed a b c all part rest p q =
+    subst (AppendsFront a c) (append_assoc p.0 part rest ∙ p.2) (front_more a c (p.0 ++ part) rest (front_then a b c p.0 part p.1 q))
+
+pub front_whole : (a b : Option (List ℕ)) (all : List ℕ) → Appends a b all → AppendsFront a b all
+front_whole a b all p = (length all, subst (Appends a b) (sym (take_all (length all) all (omega arith))) p)
+
+-- what is written of the bytes that are gone is ahead of what is read, whatever follows them, and the rest is owed
+pub record Ahead (budget : ℕ) (held held' : Option (List ℕ)) (old new : Place) (bytes left : List ℕ) : Type 0 where
+  pub gone : List ℕ
+  pub split : bytes ≡ gone ++ left
+  pub same_end : (tail : List ℕ) → (found_at old (gone ++ tail)).fault ≡ (found_at new tail).fault
+  pub owed : (tail : List ℕ) → Owes held held' (output_at budget old (gone ++ tail)) (output_at budget new tail)
+
+pub ahead_none : (budget : ℕ) (a h : Option (List ℕ)) (place : Place) → Told a a (Ahead budget h h place place)
+ahead_none budget a h place = Told-same a (Ahead budget h h place place) (λ bytes. record { gone = []; split = refl; same_end = λ tail. refl; owed = λ tail. Owes-all h (output_at budget place tail) })
+
+pub record MergedSoFar (budget : ℕ) (before now held held' : Option (List ℕ)) (old new : Place) : Type 0 where
+  pub told : Told before now (Ahead budget held held' old new)
+  pub file : new.file ≡ old.file
+  pub link : new.link ≡ Ethernet
+  pub ready : IsReady new
+
+-- what is still to be written, before a round
+owed_before : (budget : ℕ) (p0 p1 p2 : Place) (file : FileHead) (ps : List Read) (more : List Packet) (rest : List ℕ) → p1.file ≡ p0.file → file ≡ p0.file
+    → (found_at p1 rest).packets ≡ map packet_of ps ++ more → output_at budget p1 rest ≡ rounds_bytes budget file.order (map packet_of ps ++ more)
+owed_before budget p0 p1 p2 file ps more rest f0 f e =
+    ap (λ (h : FileHead). rounds_bytes budget h.order (found_at p1 rest).packets) (f0 ∙ sym f) ∙ ap (rounds_bytes budget file.order) e
+
+pub ahead_more : (budget : ℕ) → 0 < budget → (h h1 h2 : Option (List ℕ)) (p0 p1 p2 : Place) (file : FileHead) (ps : List Read) (bytes rest left : List ℕ)
+    → p1.file ≡ p0.file → p2.file ≡ p1.file → file ≡ p0.file → length ps ≡ budget → Appends h1 h2 (round_bytes file.order (map packet_of ps))
+    → Ahead budget h h1 p0 p1 bytes rest → Passes p1 p2 (in_front (map packet_of ps)) rest left → Ahead budget h h2 p0 p2 bytes left
+ahead_more budget room h h1 h2 p0 p1 p2 file ps bytes rest left f1 f2 f full wrote ahead gives =
+    let round = map packet_of ps in
+    let g1 = ahead.gone in
+    let g2 = gives.0 in
+    let long : length round ≡ budget = length-map ps packet_of ∙ full in
+    let more : List ℕ → List Packet = λ tail. (found_at p2 tail).packets in
+    let whole : (tail : List ℕ) → output_at budget p1 (g2 ++ tail) ≡ round_bytes file.order round ++ rounds_bytes budget file.order (more tail) =
+    λ tail. owed_before budget p0 p1 p2 file ps (more tail) (g2 ++ tail) f1 f (ap (λ (x : Found). x.packets) (gives.2 tail)) ∙ output_full budget file.order round (more tail) room long in
+    let same : (tail : List ℕ) → rounds_bytes budget file.order (more tail) ≡ output_at budget p2 tail = λ tail. ap (λ (k : FileHead). rounds_bytes budget k.order (more tail)) (f ∙ sym f1 ∙ sym f2) in
+    record {
+      gone = g1 ++ g2;
+      split = ahead.split ∙ ap (λ l. g1 ++ l) gives.1 ∙ sym (append_assoc g1 g2 left);
+      same_end = λ tail. ap (λ (l : List ℕ). (found_at p0 l).fault) (append_assoc g1 g2 tail) ∙ ahead.same_end (g2 ++ tail) ∙ ap (λ (x : Found). x.fault) (gives.2 tail);
+      owed = λ tail.
+          subst (λ (l : List ℕ). Owes h h2 (output_at budget p0 l) (output_at budget p2 tail)) (sym (append_assoc g1 g2 tail))
+          (subst (Owes h h2 (output_at budget p0 (g1 ++ (g2 ++ tail)))) (same tail)
+          (Owes-less h h1 h2 (output_at budget p0 (g1 ++ (g2 ++ tail))) (round_bytes file.order round) (rounds_bytes budget file.order (more tail))
+          (subst (Owes h h1 (output_at budget p0 (g1 ++ (g2 ++ tail)))) (whole tail) (ahead.owed (g2 ++ tail))) wrote));
+    }
+
+-- all of these bytes is written, where the packets of a last round are all that stands behind those that are gone
+pub last_written : (budget : ℕ) → 0 < budget → (h h1 h2 h3 : Option (List ℕ)) (p0 p1 : Place) (file : FileHead) (ps : List Read) (bytes rest tail : List ℕ)
+    → p1.file ≡ p0.file → file ≡ p0.file → length ps ≤ budget → Appends h1 h2 (round_bytes file.order (map packet_of ps)) → Keeps h2 h3
+    → (ahead : Ahead budget h h1 p0 p1 bytes rest) → (found_at p1 tail).packets ≡ map packet_of ps → Appends h h3 (output_at budget p0 (ahead.gone ++ tail))
+last_written budget room h h1 h2 h3 p0 p1 file ps bytes rest tail f1 f le wrote kept ahead are =
+    let round = map packet_of ps in
+    let short : length round ≤ budget = omega (arith, length-map ps packet_of, le) in
+    let all = output_at budget p0 (ahead.gone ++ tail) in
+    let whole : output_at budget p1 tail ≡ round_bytes file.order round ++ [] =
+    owed_before budget p0 p1 p1 file ps [] tail f1 f (are ∙ sym (append-nil round))
+    ∙ ap (rounds_bytes budget file.order) (append-nil round) ∙ output_last budget file.order round room short ∙ sym (append-nil (round_bytes file.order round)) in
+    Appends-kept h h2 h3 all (Owes-none h h2 all (Owes-less h h1 h2 all (round_bytes file.order round) [] (subst (Owes h h1 all) whole (ahead.owed tail)) wrote)) kept
+
+-- all is written, where a last round ended so
+pub ahead_last : (budget : ℕ) → 0 < budget → (h h1 h2 h3 : Option (List ℕ)) (p0 p1 : Place) (file : FileHead) (ps : List Read) (fault : Option CapFault) (bytes rest : List ℕ)
+    → p1.file ≡ p0.file → file ≡ p0.file → length ps ≤ budget → Appends h1 h2 (round_bytes file.order (map packet_of ps)) → Keeps h2 h3
+    → Ahead budget h h1 p0 p1 bytes rest → found_at p1 rest ≡ in_front (map packet_of ps) (ended fault) → ((found_at p0 bytes).fault ≡ fault) × Appends h h3 (output_at budget p0 bytes)
+ahead_last budget room h h1 h2 h3 p0 p1 file ps fault bytes rest f1 f le wrote kept ahead gives =
+    let are = ap (λ (x : Found). x.packets) gives ∙ append-nil (map packet_of ps) in (
+      ap (λ (l : List ℕ). (found_at p0 l).fault) ahead.split ∙ ahead.same_end rest ∙ ap (λ (x : Found). x.fault) gives,
+      subst (λ (l : List ℕ). Appends h h3 (output_at budget p0 l)) (sym ahead.split) (last_written budget room h h1 h2 h3 p0 p1 file ps bytes rest rest f1 f le wrote kept ahead are),
+    )
+
+-- the whole records of a round, however it ended
+pub round_holds : (p1 p2 : Place) (ps : List Read) (end : RoundEnd) (rest left : List ℕ) → GivesRound p1 p2 ps end rest left → Holds p1 (map packet_of ps) rest left
+round_holds p1 p2 ps ends.Full rest left gives =
+    let none = records_none p2.file.order p2.link p2.number p2.offset in
+    let alone : found_at p1 gives.0 ≡ in_front (map packet_of ps) (ended None) = ap (found_at p1) (sym (append-nil gives.0)) ∙ gives.2 [] ∙ ap (in_front (map packet_of ps)) none in
+    (gives.0, gives.1, ap (λ (f : Found). f.packets) alone ∙ append-nil (map packet_of ps))
+round_holds p1 p2 ps ends.End rest left gives =
+    (rest, sym (append-nil rest) ∙ ap (λ l. rest ++ l) (sym gives.1), ap (λ (f : Found). f.packets) gives.0 ∙ append-nil (map packet_of ps))
+round_holds p1 p2 ps (ends.Malformed bad) rest left gives = gives.1
+round_holds p1 p2 ps ends.ReadFault rest left gives = gives
+
+-- all is written of the bytes that are gone, after a round however it ended
+pub gone_written : (budget : ℕ) → 0 < budget → (h h1 h2 h3 : Option (List ℕ)) (p0 p1 : Place) (file : FileHead) (ps : List Read) (bytes rest left : List ℕ)
+    → p1.file ≡ p0.file → file ≡ p0.file → length ps ≤ budget → Appends h1 h2 (round_bytes file.order (map packet_of ps)) → Keeps h2 h3
+    → Ahead budget h h1 p0 p1 bytes rest → Holds p1 (map packet_of ps) rest left → Merges budget p0 h h3 statuses.ReadFault bytes left
+gone_written budget room h h1 h2 h3 p0 p1 file ps bytes rest left f1 f le wrote kept ahead holds = (
+  ahead.gone ++ holds.0,
+  ahead.split ∙ ap (λ l. ahead.gone ++ l) holds.1 ∙ sym (append_assoc ahead.gone holds.0 left),
+  last_written budget room h h1 h2 h3 p0 p1 file ps bytes rest holds.0 f1 f le wrote kept ahead holds.2,
+)
+
+-- all was written, and then the sink failed
+unflushed : (budget : ℕ) (h h3 : Option (List ℕ)) (p0 : Place) (bytes left : List ℕ) → Merges budget p0 h h3 statuses.ReadFault bytes left → Merges budget p0 h h3 statuses.WriteFault bytes left
+unflushed budget h h3 p0 bytes left all = (all.0, all.1, front_whole h h3 (output_at budget p0 all.0) all.2)
+
+flush_failed : (budget : ℕ) → 0 < budget → (a b c h h1 h2 h3 : Option (List ℕ)) (p0 p1 p2 : Place) (file : FileHead) (ps : List Read) (end : RoundEnd) (r : Status)
+    → r ≡ statuses.WriteFault → p1.file ≡ p0.file → file ≡ p0.file → length ps ≤ budget → Appends h1 h2 (round_bytes file.order (map packet_of ps)) → Keeps h2 h3
+    → Told a b (Ahead budget h h1 p0 p1) → Told b c (GivesRound p1 p2 ps end) → Told a c (Merges budget p0 h h3 r)
+flush_failed budget room a b c h h1 h2 h3 p0 p1 p2 file ps end r fault f1 f le wrote kept first second =
+    Told-then a b c (Ahead budget h h1 p0 p1) (GivesRound p1 p2 ps end) (Merges budget p0 h h3 r)
+    (λ bytes rest left ahead gives. rw fault (unflushed budget h h3 p0 bytes left
+    (gone_written budget room h h1 h2 h3 p0 p1 file ps bytes rest left f1 f le wrote kept ahead (round_holds p1 p2 ps end rest left gives)))) first second
+
+pub fault_given : (budget : ℕ) → 0 < budget → (a b c h h1 h2 h3 : Option (List ℕ)) (p0 p1 p2 : Place) (file : FileHead) (ps : List Read) (end : RoundEnd) (r : Status)
+    → end ≡ ends.ReadFault → (r ≡ statuses.ReadFault) ⊎ (r ≡ statuses.WriteFault) → p1.file ≡ p0.file → file ≡ p0.file → length ps ≤ budget → Appends h1 h2 (round_bytes file.order (map packet_of ps)) → Keeps h2 h3
+    → Told a b (Ahead budget h h1 p0 p1) → Told b c (GivesRound p1 p2 ps end) → Told a c (Merges budget p0 h h3 r)
+fault_given budget room a b c h h1 h2 h3 p0 p1 p2 file ps end r is (inl ok) f1 f le wrote kept first second =
+    Told-then a b c (Ahead budget h h1 p0 p1) (GivesRound p1 p2 ps end) (Merges budget p0 h h3 r)
+    (λ bytes rest left ahead gives. rw ok (gone_written budget room h h1 h2 h3 p0 p1 file ps bytes rest left f1 f le wrote kept ahead (round_holds p1 p2 ps end rest left gives))) first second
+fault_given budget room a b c h h1 h2 h3 p0 p1 p2 file ps end r is (inr fault) f1 f le wrote kept first second =
+    flush_failed budget room a b c h h1 h2 h3 p0 p1 p2 file ps end r fault f1 f le wrote kept first second
+
+pub more_given : (budget : ℕ) → 0 < budget → (a b c h h1 h2 : Option (List ℕ)) (p0 p1 p2 : Place) (file : FileHead) (ps : List Read) (end : RoundEnd)
+    → end ≡ ends.Full → p1.file ≡ p0.file → p2.file ≡ p1.file → file ≡ p0.file → length ps ≡ budget → Appends h1 h2 (round_bytes file.order (map packet_of ps))
+    → Told a b (Ahead budget h h1 p0 p1) → Told b c (GivesRound p1 p2 ps end) → Told a c (Ahead budget h h2 p0 p2)
+more_given budget room a b c h h1 h2 p0 p1 p2 file ps end is f1 f2 f full wrote first then =
+    Told-then a b c (Ahead budget h h1 p0 p1) (GivesRound p1 p2 ps ends.Full) (Ahead budget h h2 p0 p2)
+    (λ bytes rest left ahead gives. ahead_more budget room h h1 h2 p0 p1 p2 file ps bytes rest left f1 f2 f full wrote ahead gives)
+    first (subst (λ (e : RoundEnd). Told b c (GivesRound p1 p2 ps e)) is then)
+
+pub ok_given : (budget : ℕ) → 0 < budget → (a b c h h1 h2 h3 : Option (List ℕ)) (p0 p1 p2 : Place) (file : FileHead) (ps : List Read) (end : RoundEnd) (r : Status)
+    → end ≡ ends.End → (r ≡ statuses.Ok) ⊎ (r ≡ statuses.WriteFault) → p1.file ≡ p0.file → file ≡ p0.file → length ps ≤ budget → Appends h1 h2 (round_bytes file.order (map packet_of ps)) → Keeps h2 h3
+    → Told a b (Ahead budget h h1 p0 p1) → Told b c (GivesRound p1 p2 ps end) → Told a c (Merges budget p0 h h3 r)
+ok_given budget room a b c h h1 h2 h3 p0 p1 p2 file ps end r is (inl ok) f1 f le wrote kept first then =
+    Told-then a b c (Ahead budget h h1 p0 p1) (GivesRound p1 p2 ps ends.End) (Merges budget p0 h h3 r)
+    (λ bytes rest left ahead gives. let p = ahead_last budget room h h1 h2 h3 p0 p1 file ps None bytes rest f1 f le wrote kept ahead gives.0 in rw ok (p.0, gives.1, p.1))
+    first (subst (λ (e : RoundEnd). Told b c (GivesRound p1 p2 ps e)) is then)
+ok_given budget room a b c h h1 h2 h3 p0 p1 p2 file ps end r is (inr fault) f1 f le wrote kept first then =
+    flush_failed budget room a b c h h1 h2 h3 p0 p1 p2 file ps end r fault f1 f le wrote kept first then
+
+pub malformed_given : (budget : ℕ) → 0 < budget → (a b c h h1 h2 h3 : Option (List ℕ)) (p0 p1 p2 : Place) (file : FileHead) (ps : List Read) (end : RoundEnd) (bad : CapFault) (r : Status)
+    → end ≡ ends.Malformed bad → (r ≡ statuses.Malformed bad) ⊎ (r ≡ statuses.WriteFault) → p1.file ≡ p0.file → file ≡ p0.file → length ps ≤ budget → Appends h1 h2 (round_bytes file.order (map packet_of ps)) → Keeps h2 h3
+    → Told a b (Ahead budget h h1 p0 p1) → Told b c (GivesRound p1 p2 ps end) → Told a c (Merges budget p0 h h3 r)
+malformed_given budget room a b c h h1 h2 h3 p0 p1 p2 file ps end bad r is (inl ok) f1 f le wrote kept first then =
+    Told-then a b c (Ahead budget h h1 p0 p1) (GivesRound p1 p2 ps (ends.Malformed bad)) (Merges budget p0 h h3 r)
+    (λ bytes rest left ahead gives. rw ok (ahead_last budget room h h1 h2 h3 p0 p1 file ps (Some bad) bytes rest f1 f le wrote kept ahead gives.0))
+    first (subst (λ (e : RoundEnd). Told b c (GivesRound p1 p2 ps e)) is then)
+malformed_given budget room a b c h h1 h2 h3 p0 p1 p2 file ps end bad r is (inr fault) f1 f le wrote kept first then =
+    flush_failed budget room a b c h h1 h2 h3 p0 p1 p2 file ps end r fault f1 f le wrote kept first then
+
+pub front_given : (budget : ℕ) (a b c h h1 : Option (List ℕ)) (p0 p1 : Place) → Told a b (Ahead budget h h1 p0 p1) → Told b c Loses → Told a c (Merges budget p0 h h1 statuses.NoMemory)
+front_given budget a b c h h1 p0 p1 first then =
+    Told-then a b c (Ahead budget h h1 p0 p1) Loses (Merges budget p0 h h1 statuses.NoMemory)
+    (λ bytes rest left ahead lost. (
+      ahead.gone ++ lost.0,
+      ahead.split ∙ ap (λ l. ahead.gone ++ l) lost.1 ∙ sym (append_assoc ahead.gone lost.0 left),
+      Owes-front h h1 (output_at budget p0 (ahead.gone ++ lost.0)) (output_at budget p1 lost.0) (ahead.owed lost.0),
+    )) first then
+
+-- the sink failed within a last round, behind which nothing is owed
+last_failed : (budget : ℕ) → 0 < budget → (h h1 h2 : Option (List ℕ)) (p0 p1 : Place) (file : FileHead) (ps : List Read) (bytes rest tail : List ℕ)
+    → p1.file ≡ p0.file → file ≡ p0.file → length ps ≤ budget → AppendsFront h1 h2 (round_bytes file.order (map packet_of ps))
+    → (ahead : Ahead budget h h1 p0 p1 bytes rest) → (found_at p1 tail).packets ≡ map packet_of ps → AppendsFront h h2 (output_at budget p0 (ahead.gone ++ tail))
+last_failed budget room h h1 h2 p0 p1 file ps bytes rest tail f1 f le wrote ahead are =
+    let round = map packet_of ps in
+    let short : length round ≤ budget = omega (arith, length-map ps packet_of, le) in
+    let all = output_at budget p0 (ahead.gone ++ tail) in
+    let whole : output_at budget p1 tail ≡ round_bytes file.order round ++ [] =
+    owed_before budget p0 p1 p1 file ps [] tail f1 f (are ∙ sym (append-nil round))
+    ∙ ap (rounds_bytes budget file.order) (append-nil round) ∙ output_last budget file.order round room short ∙ sym (append-nil (round_bytes file.order round)) in
+    Owes-failed h h1 h2 all (round_bytes file.order round) [] (subst (Owes h h1 all) whole (ahead.owed tail)) wrote
+
+pub failed_given : (budget : ℕ) → 0 < budget → (a b c h h1 h2 : Option (List ℕ)) (p0 p1 p2 : Place) (file : FileHead) (ps : List Read) (end : RoundEnd)
+    → p1.file ≡ p0.file → file ≡ p0.file → length ps ≤ budget → AppendsFront h1 h2 (round_bytes file.order (map packet_of ps))
+    → Told a b (Ahead budget h h1 p0 p1) → Told b c (GivesRound p1 p2 ps end) → Told a c (Merges budget p0 h h2 statuses.WriteFault)
+failed_given budget room a b c h h1 h2 p0 p1 p2 file ps end f1 f le wrote first second =
+    Told-then a b c (Ahead budget h h1 p0 p1) (GivesRound p1 p2 ps end) (Merges budget p0 h h2 statuses.WriteFault)
+    (λ bytes rest left ahead gives.
+    let holds = round_holds p1 p2 ps end rest left gives in (
+      ahead.gone ++ holds.0,
+      ahead.split ∙ ap (λ l. ahead.gone ++ l) holds.1 ∙ sym (append_assoc ahead.gone holds.0 left),
+      last_failed budget room h h1 h2 p0 p1 file ps bytes rest holds.0 f1 f le wrote ahead holds.2,
+    )) first second

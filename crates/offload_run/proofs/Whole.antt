@@ -1,0 +1,147 @@
+-- A whole capture: the file header and the records behind it.
+use Rattle.std.proofs.Common.{◌≡◌, ℕ, List, [], ◌++◌, take, drop, refl, sym, ap, ◌∙◌, Option, Some, Ok, subst, Bool, true, if◌then◌else◌}
+use Rattle.std.specs.Prelude.{is_some, nat_lt}
+use Rattle.std.proofs.Common.{◌≤◌, arith, length, length-append, length-take, append_assoc, take-append-drop, Err}
+use Rattle.std.proofs.lemmas.List.{take_at, drop_at, length-take-le}
+use Rattle.std.proofs.lemmas.Bool.{lt-ltb}
+use Rattle.std.proofs.KnownBytes.{Appends-nil}
+use Rattle.pcap_io.specs.declared.faults.InFault.TheVariants.{Cap, ReadFault}
+use Rattle.pcap_io.specs.declared.faults.CapFault.{CapFault}
+use Rattle.std.proofs.lemmas.Option.{none-some}
+use Rattle.pcap_io.specs.declared.faults.CapKind.TheVariants.{ShortHeader}
+use Rattle.std.proofs.KnownBytes.{Appends-trans}
+use Rattle.std.specs.Io.KnownBytes.{Appends}
+use Rattle.off_io.specs.Content.{AppendsFront}
+use Rattle.off_io.proofs.Appending.{front_then, front_more}
+use Rattle.pcap_io.specs.declared.heads.FileHead.{FileHead}
+use Rattle.pcap_io.specs.declared.heads.Link.TheVariants.{Ethernet, Offload}
+use Rattle.pcap_io.specs.declared.faults.CapKind.{CapKind}
+use Rattle.pcap_io.specs.Headers.{first_that_holds, file_refusals, file_head, order_of}
+use Rattle.pcap_io.specs.Capture.{Found, reads, found_after, records_from}
+use Rattle.off_io.specs.Told.{Told}
+use Rattle.pcap_io.specs.Places.{found_at, first_place}
+use Rattle.pcap_io.specs.Reading.{GivesFile}
+use Rattle.pcap_io.specs.Written.{file_bytes}
+use Rattle.off_io.proofs.Telling.{Told-then, Told-weaker}
+use Rattle.offload_run.specs.declared.status.Status.{Status}
+use Rattle.offload_run.specs.declared.status.Status.TheVariants as statuses
+use Rattle.offload_run.specs.Output.{written, merged}
+use Rattle.offload_run.specs.Merging.{Merges, Flushes, MergeAnswers, output_at}
+
+reads_is : (file : FileHead) (given rest : List ℕ) → GivesFile Ethernet (Ok file) given rest → reads Ethernet given ≡ found_at (first_place file Ethernet 0) rest
+reads_is file given rest gives =
+    let all = records_from (order_of (take 24 given)) Ethernet 0 24 0 (drop 24 given) in
+    let lawful = ap (λ (r : Option CapKind). found_after r all) gives.1 in
+    lawful ∙ ap (λ (f : FileHead). records_from f.order Ethernet 0 24 0 (drop 24 given)) (sym gives.2) ∙ ap (records_from file.order Ethernet 0 24 0) (sym gives.3)
+
+merged_is : (budget : ℕ) (file : FileHead) (given rest : List ℕ) → GivesFile Ethernet (Ok file) given rest → merged budget given ≡ file_bytes file Offload ++ output_at budget (first_place file Ethernet 0) rest
+merged_is budget file given rest gives =
+    let whole = written budget (file_head (take 24 given)) (reads Ethernet given).packets in
+    let lawful = ap (λ (r : Option CapKind). if is_some r then [] else whole) gives.1 in
+    lawful ∙ ap (λ (f : FileHead). written budget f (reads Ethernet given).packets) (sym gives.2)
+    ∙ ap (λ (found : Found). written budget file found.packets) (reads_is file given rest gives)
+
+-- a file header that was taken is taken again, whatever follows it
+file_again : (file : FileHead) (given rest more : List ℕ) → GivesFile Ethernet (Ok file) given rest → GivesFile Ethernet (Ok file) (take 24 given ++ more) more
+file_again file given rest more gives =
+    let front = take 24 given in
+    let size : length front ≡ 24 = length-take-le 24 given gives.0 in
+    let same : take 24 (front ++ more) ≡ front = take_at front more 24 size in (
+      omega (arith, size, length-append front more),
+      ap (λ (xs : List ℕ). first_that_holds (file_refusals Ethernet xs)) same ∙ gives.1,
+      gives.2 ∙ ap file_head (sym same),
+      sym (drop_at front more 24 size),
+    )
+
+-- where a file header is refused nothing is written
+merged_none : (budget : ℕ) (given : List ℕ) (kind : CapKind) → first_that_holds (file_refusals Ethernet (take 24 given)) ≡ Some kind → merged budget given ≡ []
+merged_none budget given kind refused =
+    ap (λ (r : Option CapKind). if is_some r then [] else written budget (file_head (take 24 given)) (reads Ethernet given).packets) refused
+
+-- fewer than 24 bytes are gone: nothing is written
+pub no_header : (budget : ℕ) (a b h : Option (List ℕ)) (flushed : Bool) (untouched : Type 0) → untouched → Told a b (GivesFile Ethernet (Err ReadFault)) → Told a b (MergeAnswers budget h h flushed untouched statuses.ReadFault)
+no_header budget a b h flushed untouched same told =
+    Told-weaker a b (GivesFile Ethernet (Err ReadFault)) (MergeAnswers budget h h flushed untouched statuses.ReadFault)
+    (λ given left gone.
+    let front = gone.0 in
+    let test : nat_lt (length (take 24 front)) 24 ≡ true = lt-ltb _ _ (omega (arith, length-take 24 front, gone.2)) in
+    let refused : first_that_holds (file_refusals Ethernet (take 24 front)) ≡ Some ShortHeader =
+    ap (λ (v : Bool). if v then Some ShortHeader else first_that_holds (drop 1 (file_refusals Ethernet (take 24 front)))) test in (
+      front,
+      gone.1,
+      subst (Appends h h) (sym (merged_none budget front ShortHeader refused)) (Appends-nil h),
+      record { behind = λ long. absurd (omega (arith, long, gone.2)); alone = λ none. same },
+    )) told
+
+-- the file header is refused: nothing is written
+pub bad_header : (budget : ℕ) (a b h : Option (List ℕ)) (flushed : Bool) (untouched : Type 0) (fault : CapFault) → untouched → Told a b (GivesFile Ethernet (Err (Cap fault))) → Told a b (MergeAnswers budget h h flushed untouched (statuses.Malformed fault))
+bad_header budget a b h flushed untouched fault same told =
+    Told-weaker a b (GivesFile Ethernet (Err (Cap fault))) (MergeAnswers budget h h flushed untouched (statuses.Malformed fault))
+    (λ given left gives.
+    let refused = gives.0.0 in
+    let all = records_from (order_of (take 24 given)) Ethernet 0 24 0 (drop 24 given) in (
+      ap (λ (r : Option CapKind). (found_after r all).fault) refused ∙ ap (λ (k : CapFault). Some k) (sym gives.0.1),
+      subst (Appends h h) (sym (merged_none budget given fault.kind refused)) (Appends-nil h),
+      record { behind = λ lawful. absurd (none-some fault.kind (sym lawful ∙ refused)); alone = λ none. same },
+    )) told
+
+-- the bytes that are gone behind a file header, and that header before them
+behind : (file : FileHead) (given rest gone left : List ℕ) → GivesFile Ethernet (Ok file) given rest → rest ≡ gone ++ left → given ≡ (take 24 given ++ gone) ++ left
+behind file given rest gone left gives split =
+    let front = take 24 given in
+    sym (take-append-drop 24 given) ∙ ap (λ l. front ++ l) (sym gives.3 ∙ split) ∙ sym (append_assoc front gone left)
+
+front_of : (budget : ℕ) (h h1 h2 : Option (List ℕ)) (file : FileHead) (given rest left : List ℕ) → Appends h h1 (file_bytes file Offload) → GivesFile Ethernet (Ok file) given rest
+    → (gone : List ℕ) × (rest ≡ gone ++ left) × AppendsFront h1 h2 (output_at budget (first_place file Ethernet 0) gone)
+    → (gone : List ℕ) × (given ≡ gone ++ left) × AppendsFront h h2 (merged budget gone)
+front_of budget h h1 h2 file given rest left head gives merges =
+    let gone = take 24 given ++ merges.0 in
+    let again = file_again file given rest merges.0 gives in (
+      gone,
+      behind file given rest merges.0 left gives merges.1,
+      subst (AppendsFront h h2) (sym (merged_is budget file gone merges.0 again)) (front_then h h1 h2 _ _ head merges.2),
+    )
+
+answers : (budget : ℕ) (h h1 h2 : Option (List ℕ)) (flushed : Bool) (untouched : Type 0) (file : FileHead) (status : Status) (given rest left : List ℕ)
+    → Appends h h1 (file_bytes file Offload) → Flushes h2 flushed status → GivesFile Ethernet (Ok file) given rest → Merges budget (first_place file Ethernet 0) h1 h2 status rest left → MergeAnswers budget h h2 flushed untouched status given left
+answers budget h h1 h2 flushed untouched file statuses.Ok given rest left head flush gives merges = (
+  ap (λ (f : Found). f.fault) (reads_is file given rest gives) ∙ merges.0,
+  merges.1,
+  subst (Appends h h2) (sym (merged_is budget file given rest gives)) (Appends-trans h h1 h2 _ _ head merges.2),
+  flush,
+)
+answers budget h h1 h2 flushed untouched file (statuses.Malformed fault) given rest left head flush gives merges = (
+  ap (λ (f : Found). f.fault) (reads_is file given rest gives) ∙ merges.0,
+  subst (Appends h h2) (sym (merged_is budget file given rest gives)) (Appends-trans h h1 h2 _ _ head merges.1),
+  record { behind = λ lawful. flush; alone = λ none. absurd (none gives.1) },
+)
+answers budget h h1 h2 flushed untouched file statuses.Usage given rest left head flush gives merges = absurd merges
+answers budget h h1 h2 flushed untouched file statuses.ReadFault given rest left head flush gives merges =
+    let front = take 24 given in
+    let again = file_again file given rest merges.0 gives in
+    let long : 24 ≤ length (front ++ merges.0) = again.0 in (
+      front ++ merges.0,
+      behind file given rest merges.0 left gives merges.1,
+      subst (Appends h h2) (sym (merged_is budget file (front ++ merges.0) merges.0 again)) (Appends-trans h h1 h2 _ _ head merges.2),
+      record { behind = λ enough. flush; alone = λ none. absurd (none long) },
+    )
+answers budget h h1 h2 flushed untouched file statuses.WriteFault given rest left head flush gives merges = front_of budget h h1 h2 file given rest left head gives merges
+answers budget h h1 h2 flushed untouched file statuses.NoMemory given rest left head flush gives merges = front_of budget h h1 h2 file given rest left head gives merges
+
+pub run_given : (budget : ℕ) (a b c h h1 h2 : Option (List ℕ)) (flushed : Bool) (untouched : Type 0) (file : FileHead) (status : Status)
+    → Appends h h1 (file_bytes file Offload) → Flushes h2 flushed status → Told a b (GivesFile Ethernet (Ok file)) → Told b c (Merges budget (first_place file Ethernet 0) h1 h2 status) → Told a c (MergeAnswers budget h h2 flushed untouched status)
+run_given budget a b c h h1 h2 flushed untouched file status head flush first second =
+    Told-then a b c (GivesFile Ethernet (Ok file)) (Merges budget (first_place file Ethernet 0) h1 h2 status) (MergeAnswers budget h h2 flushed untouched status)
+    (λ given rest left gives merges. answers budget h h1 h2 flushed untouched file status given rest left head flush gives merges) first second
+
+-- the file header was not wholly written
+pub head_failed : (budget : ℕ) (a b h h1 : Option (List ℕ)) (flushed : Bool) (untouched : Type 0) (file : FileHead) → AppendsFront h h1 (file_bytes file Offload) → Told a b (GivesFile Ethernet (Ok file)) → Told a b (MergeAnswers budget h h1 flushed untouched statuses.WriteFault)
+head_failed budget a b h h1 flushed untouched file wrote told =
+    Told-weaker a b (GivesFile Ethernet (Ok file)) (MergeAnswers budget h h1 flushed untouched statuses.WriteFault)
+    (λ given rest gives.
+    let front = take 24 given in
+    let again = file_again file given rest [] gives in (
+      front ++ [],
+      behind file given rest [] rest gives refl,
+      subst (AppendsFront h h1) (sym (merged_is budget file (front ++ []) [] again)) (front_more h h1 (file_bytes file Offload) (output_at budget (first_place file Ethernet 0) []) wrote),
+    )) told

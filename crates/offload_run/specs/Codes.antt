@@ -1,0 +1,12 @@
+-- The codes that the program ends with.
+use Rattle.std.specs.Prelude.{ℕ}
+use Rattle.offload_run.specs.declared.status.Status.{Status}
+use Rattle.offload_run.specs.declared.status.Status.TheVariants as statuses
+
+abbrev pub code_of : Status → ℕ
+code_of statuses.Ok = 0
+code_of statuses.Usage = 2
+code_of (statuses.Malformed _) = 3
+code_of statuses.ReadFault = 5
+code_of statuses.WriteFault = 6
+code_of statuses.NoMemory = 7

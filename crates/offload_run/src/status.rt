@@ -1,0 +1,39 @@
+//! What a run answers.
+ghost use Rattle.std.specs.Prelude.{◌≡◌};
+
+use pcap_io::CapFault;
+
+/// How a run ended.
+#[derive(Clone, Copy, Debug, PartialEq, Eq)]
+pub enum Status {
+    /// The capture was read to its end, and all is written and flushed.
+    Ok,
+    /// The words are no command.
+    Usage,
+    /// The capture is refused; the output of the records before is written.
+    Malformed(CapFault),
+    /// The source failed; the output of the whole records before is written.
+    ReadFault,
+    /// The sink failed; a front of the output is written.
+    WriteFault,
+    /// Memory ran out; a front of the output is written.
+    NoMemory,
+}
+
+impl Status {
+    ghost use Rattle.offload_run.specs.Codes.{code_of};
+
+    /// The code that the program ends with.
+    pub fn code(&self) -> u8
+        ensures code { result ≡ code_of self.now }
+    {
+        match self {
+            Status::Ok => 0,
+            Status::Usage => 2,
+            Status::Malformed(_) => 3,
+            Status::ReadFault => 5,
+            Status::WriteFault => 6,
+            Status::NoMemory => 7,
+        }
+    }
+}

@@ -1,0 +1,5 @@
+mod CommandSet
+mod NumberReads
+mod OptionNumbers
+mod OptionRows
+mod Subcommands

@@ -1,0 +1,33 @@
+//! The command set, as clap is told of it.
+
+ghost use Rattle.std.specs.Prelude.{◌≡◌, IfOk, codes, false};
+ghost use Rattle.clap.specs.Words.{app_of, new_app, with_subcommand};
+ghost use Rattle.offload_words.specs.Commands.{offload_app, has_globals_of, needs_subcommand};
+
+use crate::merge::merge_subcommand;
+use std::alloc::{AllocError, Global};
+
+/// The program's own level: one subcommand is required.
+fn program<'a>(alloc: Global) -> clap::Command<'a>
+    ensures { app_of result ≡ needs_subcommand (new_app (codes "offload")) }
+{
+    clap::Command::new(alloc, "offload").subcommand_required(true)
+}
+
+/// The program with one more subcommand.
+fn with_command<'a>(
+    app: clap::Command<'a>,
+    subcommand: clap::Command<'a>,
+) -> Result<clap::Command<'a>, AllocError>
+    requires { has_globals_of subcommand ≡ false }
+    ensures { IfOk result (λ c. app_of c ≡ with_subcommand (app_of app.entry) (app_of subcommand.entry).top) }
+{
+    app.subcommand(subcommand)
+}
+
+/// The whole command set.
+pub(crate) fn offload_commands<'a>(alloc: Global) -> Result<clap::Command<'a>, AllocError>
+    ensures { IfOk result (λ c. app_of c ≡ offload_app) }
+{
+    with_command(program(alloc), merge_subcommand(alloc)?)
+}

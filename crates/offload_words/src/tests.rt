@@ -1,0 +1,70 @@
+//! Lines of words, taken and refused.
+
+use crate::{Command, MergeOptions, WordsFault, every_faultless_line_is_a_command, parse_words};
+use std::alloc::{AllocError, Global};
+use std::test::Fail;
+
+/// The words of a line, one space between two of them; at a space at the end the last word is empty.
+fn words(alloc: Global, line: &str) -> Result<Vec<String>, AllocError> {
+    let mut words = Vec::new(alloc);
+    for word in line.split(' ') {
+        words.push(String::from_str(alloc, word)?)?;
+    }
+    Ok(words)
+}
+
+#[test]
+fn lines_of_words(rt: HostRuntime) -> Result<(), Fail> {
+    let alloc = rt.alloc();
+    let taken = [
+        ("offload merge", 64),
+        ("offload merge --budget 1", 1),
+        ("offload merge --budget 4096", 4096),
+        ("offload merge --budget=64", 64),
+        ("offload merge --budget +7", 7),
+        ("offload merge --budget 007", 7),
+        ("offload merge --", 64),
+        ("offload merge --budget 2 --", 2),
+        ("another-name merge --budget 2", 2),
+    ];
+    for (line, budget) in taken {
+        let command = parse_words(alloc, &words(alloc, line)?);
+        let want = Ok(Command::Merge(MergeOptions { budget }));
+        assert!(rt; command == want, "at {line}");
+    }
+    let refused = [
+        "offload",
+        "offload --help",
+        "offload --version",
+        "offload help",
+        "offload merge --help",
+        "offload merge -h",
+        "offload merge --version",
+        "offload frobnicate",
+        "offload segment",
+        "offload merge --queues 2",
+        "offload merge --budget 0",
+        "offload merge --budget 4097",
+        "offload merge --budget 18446744073709551616",
+        "offload merge --budget -0",
+        "offload merge --budget",
+        "offload merge --budget ",
+        "offload merge --budget=",
+        "offload merge --budget 0x1",
+        "offload merge --budget 1_0",
+        "offload merge --budget 2 --budget 2",
+        "offload merge --budget 2 3",
+        "offload merge -- 2",
+        "offload merge merge",
+        "offload --budget 2 merge",
+        "offload ",
+    ];
+    for line in refused {
+        let command = parse_words(alloc, &words(alloc, line)?);
+        assert!(rt; command == Err(WordsFault::Usage), "at {line}");
+    }
+    let none: Vec<String> = Vec::new(alloc);
+    assert_eq!(rt; parse_words(alloc, &none), Err(WordsFault::Usage));
+    every_faultless_line_is_a_command();
+    Ok(())
+}

@@ -1,0 +1,4 @@
+mod Fronts
+pub mod HeadLaws
+pub mod RecordLaws
+pub mod SplitLaws

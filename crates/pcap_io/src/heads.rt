@@ -1,0 +1,57 @@
+//! The headers of a capture.
+ghost use Rattle.std.specs.Prelude.{◌≡◌, ◌≤◌, length};
+ghost use Rattle.pcap_io.specs.Headers.{spelling_of};
+
+use byteorder::{BigEndian, ByteOrder, LittleEndian};
+use net_bytes::Order;
+
+/// The link type of a capture: what a record's bytes are.
+#[derive(Clone, Copy, Debug, PartialEq, Eq)]
+pub enum Link {
+    /// Number 1: Ethernet frames.
+    Ethernet,
+    /// Number 147, the first one for private use: a 12-byte offload header before each frame.
+    Offload,
+}
+
+/// A file header's fields that a reader passes on: byte order, whether fractions are nanoseconds (else microseconds), and
+/// the two fields after the version, unjudged.
+#[derive(Clone, Copy, Debug, PartialEq, Eq)]
+pub struct FileHead {
+    pub order: Order,
+    pub nanos: bool,
+    pub zone: u32,
+    pub sigfigs: u32,
+}
+
+/// A record header: time, captured and original length in bytes; and the record's number and its place in the file.
+#[derive(Clone, Copy, Debug, PartialEq, Eq)]
+pub struct RecHead {
+    pub sec: u32,
+    pub frac: u32,
+    pub captured: u32,
+    pub original: u32,
+    pub number: u32,
+    pub offset: u64,
+}
+
+pub(crate) const MICROS: u32 = 0xa1b2c3d4;
+
+pub(crate) const NANOS: u32 = 0xa1b23c4d;
+
+// The byte order and the unit of time (true: nanoseconds) that a capture's first four bytes name.
+pub(crate) fn spelling(bytes: &[u8]) -> Option<(Order, bool)>
+    requires { 4 ≤ length bytes.now }
+    ensures { result ≡ spelling_of bytes.now }
+{
+    match BigEndian::read_u32(bytes) {
+        MICROS => return Some((Order::Big, false)),
+        NANOS => return Some((Order::Big, true)),
+        _ => {}
+    }
+    match LittleEndian::read_u32(bytes) {
+        MICROS => Some((Order::Little, false)),
+        NANOS => Some((Order::Little, true)),
+        _ => None,
+    }
+}

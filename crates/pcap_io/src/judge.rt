@@ -1,0 +1,83 @@
+//! What refuses a header.
+ghost use Rattle.std.specs.Prelude.{◌≡◌, ◌≤◌, length};
+ghost use Rattle.pcap_io.specs.Headers.{first_that_holds, head_refusals, file_refusals, captured_limit, link_number, is_bad_original};
+
+use crate::heads::spelling;
+use crate::{CapKind, Link};
+use net_bytes::Order;
+
+const VERSION: (u16, u16) = (2, 4);
+
+impl Link {
+    pub(crate) fn number(self) -> u32
+        ensures { result ≡ link_number self }
+    {
+        match self {
+            Link::Ethernet => 1,
+            Link::Offload => 147,
+        }
+    }
+
+    pub(crate) fn captured_limit(self) -> u32
+        ensures { result ≡ captured_limit self }
+    {
+        match self {
+            Link::Ethernet => 262144,
+            Link::Offload => 262156,
+        }
+    }
+}
+
+// Why the first bytes are no file header.
+pub(crate) fn refuse_file(link: Link, head: &[u8]) -> Option<CapKind>
+    requires { length head.now ≤ 24 }
+    ensures { result ≡ first_that_holds (file_refusals link head.now) }
+{
+    if head.len() < 24 {
+        return Some(CapKind::ShortHeader);
+    }
+    let Some((order, _)) = spelling(head) else {
+        return Some(CapKind::BadMagic);
+    };
+    if (order.get16(&head[4..]), order.get16(&head[6..])) != VERSION {
+        return Some(CapKind::BadVersion);
+    }
+    if order.get32(&head[20..]) != link.number() {
+        return Some(CapKind::BadLinkType);
+    }
+    None
+}
+
+// Why the next bytes are no lawful record header.
+pub(crate) fn refuse_head(order: Order, link: Link, number: u64, head: &[u8]) -> Option<CapKind>
+    requires { length head.now ≤ 16 }
+    ensures { result ≡ first_that_holds (head_refusals order link number head.now) }
+{
+    if head.len() < 16 {
+        return Some(CapKind::ShortRecordHeader);
+    }
+    if number >= 1 << 32 {
+        return Some(CapKind::TooMany);
+    }
+    let captured = order.get32(&head[8..]);
+    let original = order.get32(&head[12..]);
+    if captured > link.captured_limit() {
+        return Some(CapKind::TooLong);
+    }
+    if is_bad_original(link, original) {
+        return Some(CapKind::BadOriginal);
+    }
+    if matches!(link, Link::Offload) && captured < 12 {
+        return Some(CapKind::BadOffload);
+    }
+    None
+}
+
+fn is_bad_original(link: Link, original: u32) -> bool
+    ensures { result ≡ is_bad_original link original }
+{
+    match link {
+        Link::Ethernet => original > (1 << 31) - 1,
+        Link::Offload => original > (1 << 31) + 11 || original < 12,
+    }
+}

@@ -1,0 +1,43 @@
+//! Laws of the definitions, each carried by a function that does nothing.
+ghost use Rattle.pcap_io.specs.Laws.{OffHeadReadsBack, OffHeadWritesBack, RecHeadReadsBack, RecHeadWritesBack, FileHeadReadsBack, CaptureSplits, SplitIsUnique, CaptureReadsBack};
+
+/// An offload header that is written is read back.
+pub fn off_head_reads_back()
+    ensures law { OffHeadReadsBack }
+{}
+
+/// An offload header that is read is written back.
+pub fn off_head_writes_back()
+    ensures law { OffHeadWritesBack }
+{}
+
+/// A record header that is written is read back.
+pub fn rec_head_reads_back()
+    ensures law { RecHeadReadsBack }
+{}
+
+/// A record header that is read is written back.
+pub fn rec_head_writes_back()
+    ensures law { RecHeadWritesBack }
+{}
+
+/// A file header that is written is lawful and is read back.
+pub fn file_head_reads_back()
+    ensures law { FileHeadReadsBack }
+{}
+
+/// The bytes of a capture are its file header, the records that are read, spelled out, and a rest that starts no whole
+/// lawful record: what is read is the longest list of whole lawful records from the front.
+pub fn capture_splits()
+    ensures law { CaptureSplits }
+{}
+
+/// This split is the only one.
+pub fn split_is_unique()
+    ensures law { SplitIsUnique }
+{}
+
+/// A capture that is written of lawful packets reads as these packets and ends well.
+pub fn capture_reads_back()
+    ensures law { CaptureReadsBack }
+{}

@@ -1,0 +1,42 @@
+//! Captures in the classic pcap layout, version 2.4: reading and writing.
+//!
+//! The layout is that of the pcap file format ("PCAP Capture File Format", draft-ietf-opsawg-pcap, sections 4 and 5; in
+//! short pcap-savefile(5)). A capture is a file header and records. [`CaptureReader`] gives the records one by one from a
+//! source and takes no byte beyond what it asks for; [`write_file_head`] and [`write_rec_head`] write the headers, and
+//! [`OffHead`] is the 12-byte header of this project's own that stands before each frame in a capture of link type 147.
+//!
+//! Proved: what the reader gives, what it refuses, why and where, and what is left of the source is what `reads` in
+//! `specs/Capture.antt` says of the bytes (clauses `given`); each header written is its fields (`ok`, `err`). Laws of the
+//! definitions, each on a function: what is written is read back, and a capture is the longest list of its whole lawful
+//! records, spelled out, in one way alone ([`capture_splits`], [`split_is_unique`]).
+//!
+//! ```text
+//! let mut reader = CaptureReader::start(&mut feed, Link::Ethernet)?;
+//! while let Some(head) = reader.next_head()? {
+//!     reader.read_body(&mut frame[..head.captured as usize])?;
+//! }
+//! ```
+#![tactic(auto)]
+
+mod faults;
+mod heads;
+mod judge;
+mod laws;
+mod off_head;
+mod place;
+mod reader;
+#[cfg(test)]
+mod tests;
+mod writer;
+
+pub use faults::{CapFault, CapKind, InFault};
+pub use heads::{FileHead, Link, RecHead};
+pub use laws::{
+    capture_reads_back, capture_splits, file_head_reads_back, off_head_reads_back,
+    off_head_writes_back, rec_head_reads_back, rec_head_writes_back, split_is_unique,
+};
+pub use net_bytes::Order;
+pub use off_head::OffHead;
+pub use place::Place;
+pub use reader::{CaptureReader, take_file};
+pub use writer::{write_file_head, write_rec_head};

@@ -1,0 +1,4 @@
+mod Pieces
+mod ModeBits
+mod Segments
+mod Judged

@@ -1,0 +1,70 @@
+-- A frame that may be cut, and its segments.
+use Rattle.std.proofs.Common.{◌≡◌, ℕ, ◌+◌, ◌-◌, ◌*◌, ◌<◌, ◌≤◌, Bool, true, false, List, [], ◌∷◌, ◌++◌, length, take, drop, sym, ap, ◌∙◌, subst, arith, length-append}
+use Rattle.std.specs.Prelude.{◌==◌}
+use Rattle.std.specs.List.{refill}
+use Rattle.std.proofs.lemmas.List.{length-take, length-take-le, length-drop, drop_all, take_at}
+use Rattle.std.proofs.lemmas.Bool.{eqb-true, eqb-false}
+use Rattle.net_bytes.specs.Bytes.{byte}
+use Rattle.frame_layout.specs.Headers.{AtHeaders, size, AreLaid}
+use Rattle.frame_layout.specs.Candidate.{IsLengthRight}
+use Rattle.frame_layout.specs.declared.layout.Header.{Header}
+use Rattle.frame_layout.specs.declared.layout.Layer.{Layer}
+use Rattle.frame_layout.specs.declared.layout.Layer.TheVariants.{Ip4, Ip6, Udp}
+use Rattle.frame_layout.proofs.Shapes.{laid_end}
+use Rattle.frame_layout.proofs.Bounds.{IsPlaced, placed}
+use Rattle.frame_layout.proofs.Alike.{headers_map}
+use Rattle.offload_model.specs.Mergeable.{IsLengthInRange}
+use Rattle.offload_model.specs.Merged.{is_fixed}
+use Rattle.offload_model.proofs.Filled.{Small}
+use Rattle.offload_model.proofs.Functions.{segment_is}
+use Rattle.offload_model.proofs.Maps.{range_less}
+use Rattle.offload_model.proofs.Ranges.{in_range}
+use Rattle.record_cut.specs.declared.cut.Cut.{Cut}
+use Rattle.record_cut.specs.Cuts.{IsCutOf, IsSegmentAt, segment_at, payload_at}
+
+-- headers that are laid out stand inside
+pub laid_inside : (start : ℕ) (hs : List Header) (end : ℕ) → AreLaid start hs end → AtHeaders (λ layer at. at + size layer ≤ end) hs
+laid_inside start [] end l = tt
+laid_inside start (h ∷ hs) end l = (laid_end (h.at + size h.layer) hs end l.1, laid_inside (h.at + size h.layer) hs end l.1)
+
+-- a right length is in range
+ranged : (f : List ℕ) → Small f → (l : Layer) (at : ℕ) → IsLengthRight f l at → IsLengthInRange (length f) l at
+ranged f small Ip4 at e = omega (arith, e, small (at + 2), small (at + 2 + 1))
+ranged f small Ip6 at e = omega (arith, e, small (at + 4), small (at + 4 + 1))
+ranged f small Udp at e = omega (arith, e, small (at + 4), small (at + 4 + 1))
+ranged f small _ at e = tt
+
+-- what a cut of a frame says of its headers' places
+pub places : (cut : Cut) (f : List ℕ) → Small f → IsCutOf cut f → IsPlaced f cut.layout
+places cut f small is = placed f small cut.layout (sym is.shape_is)
+
+pub ranges : (cut : Cut) (f : List ℕ) → Small f → IsCutOf cut f → AtHeaders (IsLengthInRange (length f)) cut.layout.headers
+ranges cut f small is = headers_map (ranged f small) cut.layout.headers is.candidate.lengths
+
+-- no frame that is cut is long
+pub short : (cut : Cut) (f : List ℕ) → Small f → IsCutOf cut f → length f ≤ 65597
+short cut f small is = (in_range f cut.layout (length f) is.shape_is (ranges cut f small is)).0
+
+-- a segment isn't longer than the frame
+pub payload_short : (cut : Cut) (f : List ℕ) (i : ℕ) → length (payload_at cut f i) ≤ length f - cut.layout.payload_at
+payload_short cut f i =
+    omega (arith, length-take cut.m (drop (i * cut.m) (drop cut.layout.payload_at f)), length-drop (i * cut.m) (drop cut.layout.payload_at f), length-drop cut.layout.payload_at f)
+
+pub segment_ranges : (cut : Cut) (f : List ℕ) (i : ℕ) → Small f → IsCutOf cut f
+    → AtHeaders (IsLengthInRange (cut.layout.payload_at + length (payload_at cut f i))) cut.layout.headers
+segment_ranges cut f i small is =
+    headers_map (range_less (cut.layout.payload_at + length (payload_at cut f i)) (length f) (omega (arith, payload_short cut f i, (places cut f small is).within)))
+    cut.layout.headers (ranges cut f small is)
+
+-- the segments are what the relation says
+pub segment_holds : (cut : Cut) (f : List ℕ) (i : ℕ) → Small f → IsCutOf cut f → i < cut.n → IsSegmentAt cut f i (segment_at cut f i)
+segment_holds cut f i small is less =
+    let p : IsPlaced f cut.layout = places cut f small is in
+    segment_is cut.layout (is_fixed cut.modes cut.layout.headers) cut.n cut.m (i + 1 == cut.n) f i p.laid p.within small (segment_ranges cut f i small is)
+    (λ e. eqb-true (i + 1) cut.n e)
+    (λ e. let apart : i + 1 ≡ cut.n → ⊥ = eqb-false (i + 1) cut.n e in omega (arith, apart))
+
+-- a list that is written whole
+pub refilled : (xs ws : List ℕ) → length ws ≡ length xs → refill (length xs) xs ws ≡ ws
+refilled xs ws same =
+    ap (λ z. take (length xs) (ws ++ z)) (drop_all (length ws) xs (omega arith)) ∙ take_at ws [] (length xs) same

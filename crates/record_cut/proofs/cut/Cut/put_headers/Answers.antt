@@ -1,0 +1,24 @@
+use Rattle.std.proofs.Common.{◌≡◌, ℕ, ◌+◌, ◌≤◌, ◌++◌, List, length, sym, ap, ◌∙◌, subst, arith}
+use Rattle.frame_layout.specs.Headers.{AtHeaders, size}
+use Rattle.frame_layout.specs.declared.layout.Header.{Header}
+use Rattle.offload_model.specs.Mergeable.{IsLengthInRange}
+use Rattle.record_cut.proofs.Segments.{laid_inside}
+use Rattle.record_cut.proofs.cut.Cut.put_headers.Goals as goal
+
+pub put_places-requires : goal.put_places-requires
+put_places-requires c = record {
+  inside = subst (λ hs. AtHeaders (λ layer at. at + size layer ≤ length c.args.head.now) hs) (sym c.headers-headers.ensures.headers)
+      (laid_inside 0 c.args.self.now.layout.headers (length c.args.head.now) c.requires.laid);
+}
+
+pub put_flags-requires : goal.put_flags-requires
+put_flags-requires c = record {
+  inside = subst (λ hs. AtHeaders (λ layer at. at + size layer ≤ length c.put_places.new.head) hs) (sym c.headers-headers.ensures.headers)
+      (subst (λ n. AtHeaders (λ layer at. at + size layer ≤ n) c.args.self.now.layout.headers) (sym c.put_places.auto.head)
+      (laid_inside 0 c.args.self.now.layout.headers (length c.args.head.now) c.requires.laid));
+}
+
+pub fill-requires-clause-ranges : goal.fill-requires-clause-ranges
+fill-requires-clause-ranges c =
+    subst (λ hs. AtHeaders (IsLengthInRange (length c.if-i-n.head + c.args.payload.len)) hs) (sym c.headers-headers.ensures.headers)
+    (subst (λ n. AtHeaders (IsLengthInRange (n + c.args.payload.len)) c.args.self.now.layout.headers) (sym (c.if-i-n.auto.head ∙ c.put_places.auto.head)) c.requires.ranges)

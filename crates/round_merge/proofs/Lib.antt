@@ -1,0 +1,8 @@
+mod Headers
+mod Decide
+mod Counts
+mod Knows
+mod Steps
+mod Index
+mod Gather
+mod Merge

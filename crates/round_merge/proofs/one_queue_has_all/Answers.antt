@@ -1,0 +1,5 @@
+use Rattle.round_merge.proofs.Gather.{one_queue}
+use Rattle.round_merge.proofs.one_queue_has_all.Goals as goal
+
+pub returns : goal.returns
+returns c = record { law = one_queue }

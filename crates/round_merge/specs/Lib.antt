@@ -1,0 +1,4 @@
+pub mod Next
+pub mod Runs
+pub mod Table
+pub mod Round

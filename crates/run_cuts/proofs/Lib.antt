@@ -1,0 +1,4 @@
+pub mod Unique
+pub mod Pass
+pub mod Items
+pub mod Ordered

@@ -1,0 +1,3 @@
+pub mod Tcp
+pub mod Udp
+pub mod View

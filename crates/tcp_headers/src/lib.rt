@@ -1,0 +1,23 @@
+//! The headers of TCP (RFC 9293, section 3.1) and UDP (RFC 768).
+//!
+//! [`TcpView`] and [`UdpView`] read the fields of a header that stands in a frame. `read` gives a view exactly where the
+//! header is there (`found`), and each reader gives the number in the field's bytes (`field`). The writers [`set_seq`],
+//! [`set_flags`], [`set_tcp_sum`], [`set_udp_len`] and [`set_udp_sum`] change one field: its reader then gives the
+//! number (`field`), all other bytes stay (`others`), and writing what the field holds changes nothing (`same`).
+//!
+//! ```
+//! if let Some(header) = TcpView::read(frame, 34) {
+//!     let next = header.sequence().wrapping_add(1448);
+//!     set_seq(copy, 34, next);
+//! }
+//! ```
+#![tactic(auto)]
+
+mod tcp;
+#[cfg(test)]
+mod tests;
+mod udp;
+mod write;
+
+pub use tcp::{TcpView, set_flags, set_seq, set_tcp_sum};
+pub use udp::{UdpView, set_udp_len, set_udp_sum};

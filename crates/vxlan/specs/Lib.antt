@@ -1,0 +1,2 @@
+pub mod Vxlan
+pub mod View

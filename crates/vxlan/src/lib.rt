@@ -1,0 +1,67 @@
+//! The VXLAN header (RFC 7348, section 5), which stands behind UDP to port [`PORT`] and before an inner Ethernet frame.
+//!
+//! [`VxlanView`] reads its fields in a frame. `read` gives a view exactly where the header's bytes are there (`found`),
+//! and each reader gives the number in the field's bytes (`field`).
+//!
+//! ```
+//! let Some(tunnel) = VxlanView::read(frame, 42) else { return None; };
+//! if tunnel.flags() & 0x08 != 0 {
+//!     return Some(tunnel.vni());
+//! }
+//! ```
+#![tactic(auto)]
+
+ghost use Rattle.std.specs.Prelude.{◌≡◌, ◌↔◌, ◌+◌, ◌≤◌, true, length, IsSome, IfSome};
+ghost use Rattle.vxlan.specs.View.{Placed};
+ghost use Rattle.vxlan.specs.Vxlan.{is_there, flags as flags_of, network_identifier};
+
+#[cfg(test)]
+mod tests;
+
+use net_bytes::be16;
+use std::marker::Model;
+
+/// The UDP port that is assigned to VXLAN.
+pub const PORT: u16 = 4789;
+
+/// A VXLAN header in a frame.
+#[derive(Drop)]
+pub struct VxlanView<'a> {
+    frame: &'a [u8],
+    at: usize,
+}
+
+impl<'a> Model for VxlanView<'a> {
+    ghost Value = { Placed };
+
+    ghost view = { λ v. record { frame = v.frame.now; at = v.at } };
+
+    ghost invariant = { λ v. v.at + 8 ≤ length v.frame.now };
+}
+
+impl<'a> VxlanView<'a> {
+    /// The header at `at`. There is none where its eight bytes aren't there.
+    pub fn read(frame: &'a [u8], at: usize) -> Option<VxlanView<'a>>
+        ensures found { IsSome result ↔ (is_there frame.now at ≡ true) }
+        ensures view { IfSome result (λ v. v ≡ record { frame = frame.now; at = at }) }
+    {
+        if frame.len() < 8 || frame.len() - 8 < at {
+            return None;
+        }
+        Some(VxlanView { frame, at })
+    }
+
+    /// The flags: 0x08 says that the network identifier is valid.
+    pub fn flags(&self) -> u8
+        ensures field { result ≡ flags_of self.now.frame self.now.at }
+    {
+        self.frame[self.at]
+    }
+
+    /// The VXLAN network identifier, of 24 bits.
+    pub fn vni(&self) -> u32
+        ensures field { result ≡ network_identifier self.now.frame self.now.at }
+    {
+        u32::from(be16(self.frame, self.at + 4)) * 256 + u32::from(self.frame[self.at + 6])
+    }
+}
