@@ -62,7 +62,7 @@ impl Part {
     }
 
     pub fn mark(&self) -> u32
-        ensures { result ≡ self.now.mark }
+        ensures value { result ≡ self.now.mark }
     {
         self.mark
     }
@@ -103,7 +103,7 @@ impl Part {
     /// Ends this part, by one fetch-sub of its weight. The number that the step answers decides: `Last` exactly where
     /// the word held this part's weight, since the block has no other holder then, and else `Left`.
     pub fn release(self) -> Released
-        ensures { IsReleased self result }
+        ensures answer { IsReleased self result }
     {
         let Part {
             share,
@@ -130,7 +130,7 @@ impl Part {
     /// Asks for the block back, by one compare-exchange of the part's weight for 0. The number that the step answers
     /// decides: `Sole` exactly where the word held this part's weight, and else `Shared`, with what it held.
     pub fn claim(self) -> Claimed
-        ensures { IsClaimed self result }
+        ensures answer { IsClaimed self result }
     {
         let Part {
             share,
