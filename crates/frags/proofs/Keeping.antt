@@ -203,3 +203,22 @@ share_sums t m (p ∷ ps) h w =
     let b = kept_given t m p g in
     let c = share_sums t m ps h.1 n.1 in
     omega arith
+
+-- a piece has a byte
+pub count_within : (ps : List Piece) → AllFit ps → length ps ≤ size_of ps
+count_within [] h = omega arith
+count_within (p ∷ ps) h = let a = h.0.0 in let i = count_within ps h.1 in omega arith
+
+pub append_keeps : (a b : List Piece) (x : Piece) → b ≡ a ++ x ∷ [] → Keeps (both (of_pieces a) (of_part x.part)) (of_pieces b)
+append_keeps a b x e t m = let f = ap (pieces_held t m) e ∙ pieces_held-append t m a (x ∷ []) in (omega arith, omega arith)
+
+pub join_keeps : (a c b : List Piece) → b ≡ a ++ c → Keeps (both (of_pieces a) (of_pieces c)) (of_pieces b)
+join_keeps a c b e t m = let f = ap (pieces_held t m) e ∙ pieces_held-append t m a c in (omega arith, omega arith)
+
+-- the last piece goes, its part to the outcomes
+pub keeps_pop_back : (s : Account) (x : Piece) (xs ys : List Piece) (o q : OutcomesState) → xs ≡ ys ++ x ∷ [] → Keeps s (both (of_pieces xs) (of_outcomes o)) → Keeps (both (of_part x.part) (of_outcomes o)) (of_outcomes q) → Keeps s (both (of_pieces ys) (of_outcomes q))
+keeps_pop_back s x xs ys o q e h k t m =
+    let d = ap (pieces_held t m) e ∙ pieces_held-append t m ys (x ∷ []) in
+    let f = h t m in
+    let g = k t m in
+    (omega arith, omega arith)
