@@ -8,7 +8,7 @@ use lib.Dec.{ltb}
 use Rattle.ref_core.specs.WeightRule.{full_weight, IsWeight}
 use Rattle.raw_block.specs.Views.{SoleState, PartState, ReceiptState}
 use Rattle.frags.specs.OutcomesState.{OutcomesState}
-use Rattle.frags.specs.Account.{Account, Keeps, both, counted, at_home, receipts_held, soles_home, of_part, of_outcomes}
+use Rattle.frags.specs.Account.{Account, Keeps, KeepsMarks, every, both, counted, at_home, receipts_held, soles_home, of_part, of_outcomes}
 use Rattle.frags.specs.PieceList.{bytes_of, piece_bytes, size_of, Fits, AllFit, pieces_held, of_pieces, kept, given, gift, kept_first, given_first, worn, cut_front}
 use Rattle.frags.specs.declared.pieces.Piece.{Piece}
 
@@ -43,6 +43,15 @@ keeps_trans a b c h k t m = let p = h t m in let q = k t m in (omega arith, omeg
 
 pub keeps_beside : (a b c : Account) → Keeps a b → Keeps (both a c) (both b c)
 keeps_beside a b c h t m = let p = h t m in (omega arith, omega arith)
+
+pub keeps_marks : (a b : Account) → Keeps a b → KeepsMarks a b
+keeps_marks a b h m = (h every m).1
+
+pub marks_trans : (a b c : Account) → KeepsMarks a b → KeepsMarks b c → KeepsMarks a c
+marks_trans a b c h k m = let p = h m in let q = k m in omega arith
+
+pub marks_beside : (a b c : Account) → KeepsMarks a b → KeepsMarks (both a c) (both b c)
+marks_beside a b c h m = let p = h m in omega arith
 
 pub gives_last : (p : PartState) (s : SoleState) (a b : OutcomesState) → s.mark ≡ p.mark → p.weight ≤ full_weight → b.receipts ≡ a.receipts → b.soles ≡ a.soles ++ s ∷ [] → Keeps (both (of_part p) (of_outcomes a)) (of_outcomes b)
 gives_last p s a b e h f g t m =

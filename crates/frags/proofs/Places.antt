@@ -124,3 +124,9 @@ last_cut keep start xs ys zs x e f a lt le h =
 pub least_weight-bound : (ps : List Piece) → least_weight ps ≤ full_weight
 least_weight-bound [] = omega arith
 least_weight-bound (p ∷ ps) = let i = least_weight-bound ps in omega arith
+
+pub size_of-keep_front : (n : ℕ) (ps : List Piece) → n ≤ size_of ps → size_of (keep_front n ps) ≡ n
+size_of-keep_front n [] h = omega arith
+size_of-keep_front n (p ∷ ps) h =
+    by_keep (λ (z : List Piece). size_of z ≡ n) p n [] (record p { to = p.from + n } ∷ []) (p ∷ keep_front (n - (p.to - p.from)) ps)
+    (λ e. sym e) (λ e lt. omega arith) (λ e le. let i = size_of-keep_front (n - (p.to - p.from)) ps (omega arith) in omega arith)

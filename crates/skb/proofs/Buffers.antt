@@ -2,7 +2,7 @@
 use Rattle.std.proofs.Common.{◌≡◌, ℕ, ◌+◌, ◌-◌, ◌*◌, ◌<◌, ◌≤◌, List, [], ◌∷◌, ◌++◌, Bool, true, false, length, map, take, drop, slice_range, refl, ap, sym, subst, append_assoc, ◌∙◌, zero, suc, get_or, arith, length-drop}
 use Rattle.std.proofs.lemmas.List.{length-take, drop-append-le, drop-take, drop-drop}
 use Rattle.std.proofs.Math.Seq.{drop-nil, drop-append-add, take-append-add, take-append_seam}
-use Rattle.std.proofs.lemmas.List.{append-nil, length-take-le}
+use Rattle.std.proofs.lemmas.List.{append-nil, length-take-le, take-append-le, get_or_append_left, get_or-append_right}
 use Rattle.std.specs.Prelude.{Ok, ◌≢◌, cond, ◌==◌}
 use Rattle.std.proofs.lemmas.Bool.{cond_both}
 use borrow.Author.Tests.{eqb-true}
@@ -10,14 +10,14 @@ use lib.Dec.{eqb}
 use Rattle.ref_core.specs.WeightRule.{full_weight}
 use Rattle.raw_block.specs.Views.{SoleState, PartState, ReceiptState}
 use Rattle.frags.specs.OutcomesState.{OutcomesState}
-use Rattle.frags.specs.Account.{Account, Keeps, both, every, counted, at_home, receipts_held, soles_home, of_part, of_sole, of_receipt, of_holder, of_released, of_outcomes}
+use Rattle.frags.specs.Account.{Account, Keeps, KeepsMarks, both, every, counted, at_home, receipts_held, soles_home, of_part, of_sole, of_receipt, of_holder, of_released, of_outcomes}
 use Rattle.frags.specs.PieceList.{bytes_of, piece_bytes, size_of, Fits, AllFit, pieces_held, of_pieces, kept, given, gift, cut_front, block, AsPart}
 use Rattle.frags.specs.declared.pieces.Piece.{Piece}
 use Rattle.frags.specs.declared.holder.Holder.{Holder}
 use Rattle.frags.specs.declared.holder.Holder.TheVariants.{Sole, Part}
 use Rattle.frags.proofs.Keeping.{counted-le, soles_home-append, size_of-append, pieces_held-append}
 use Rattle.frags.proofs.Joining.{released_keeps, part_block, bytes_of-append}
-use Rattle.skb.specs.SkbState.{SkbState, is_sole, written, written_head, tailroom, IsPut, Owned, of_buffer, of_unshared, buffer_bytes, head_bytes, Attaches, less, gave, IsLent, Gives}
+use Rattle.skb.specs.SkbState.{SkbState, is_sole, written, written_head, tailroom, IsPut, Owned, of_buffer, of_unshared, buffer_bytes, buffer_size, head_bytes, Attaches, less, gave, IsLent, Gives}
 use Rattle.skb.specs.declared.skb.Unshared.{Unshared}
 use Rattle.skb.specs.declared.skb.Unshared.TheVariants.{Unused, Gave}
 
@@ -165,3 +165,43 @@ puts a s w xs e wb wm l h k r =
       ap (λ (z : Holder). record a { head = z; to = a.to + length xs }) f,
       ap (λ (z : List ℕ). z ++ bytes_of a.rest) g ∙ behind_rest (head_bytes a) xs a.rest a.to r,
     )
+
+pub take_shorter : (k m : ℕ) (l : List ℕ) → k ≤ m → take k (take m l) ≡ take k l
+take_shorter zero m l h = refl
+take_shorter (suc k) zero l h = absurd (omega arith)
+take_shorter (suc k) (suc m) [] h = refl
+take_shorter (suc k) (suc m) (x ∷ xs) h = ap (λ (z : List ℕ). x ∷ z) (take_shorter k m xs (omega arith))
+
+-- the last bytes of the pieces go
+pub trim_rest : (f : SkbState) (r : List Piece) (n : ℕ) → length (block f.head) ≡ 2048 → f.to ≤ 2048 → n ≤ size_of f.rest → bytes_of r ≡ take (size_of f.rest - n) (bytes_of f.rest) → buffer_bytes (record f { rest = r }) ≡ take (buffer_size f - n) (buffer_bytes f)
+trim_rest f r n h k e g =
+    let l = length-head f h k in
+    let u : buffer_size f - n ≡ length (head_bytes f) + (size_of f.rest - n) = omega arith in
+    ap (λ (z : List ℕ). head_bytes f ++ z) g ∙ sym (take-append-add (head_bytes f) (bytes_of f.rest) (size_of f.rest - n)) ∙ ap (λ (z : ℕ). take z (buffer_bytes f)) (sym u)
+
+-- all pieces go, and the last bytes of the head
+pub trim_head : (f : SkbState) (r : List Piece) (n : ℕ) → length (block f.head) ≡ 2048 → f.from ≤ f.to → f.to ≤ 2048 → size_of f.rest ≤ n → n ≤ buffer_size f → bytes_of r ≡ [] → buffer_bytes (record f { to = f.to - (n - size_of f.rest); rest = r }) ≡ take (buffer_size f - n) (buffer_bytes f)
+trim_head f r n h o k e b g =
+    let l = length-head f h k in
+    let t : ℕ = f.to - (n - size_of f.rest) in
+    let j : ℕ = buffer_size f - n in
+    let u : t - f.from ≡ j = omega arith in
+    let x : List ℕ = drop f.from (block f.head) in
+    let q : List ℕ = take (t - f.from) x in
+    let jl : j ≤ f.to - f.from = omega arith in
+    ap (λ (z : List ℕ). q ++ z) g ∙ append-nil q ∙ ap (λ (z : ℕ). take z x) u ∙ sym (take_shorter j (f.to - f.from) x jl) ∙ sym (take-append-le j (head_bytes f) (bytes_of f.rest) (omega arith))
+
+-- the byte at a place lies in the head or in the pieces
+pub byte_of_head : (f : SkbState) (i : ℕ) (d : ℕ) → i < length (head_bytes f) → get_or (buffer_bytes f) i d ≡ get_or (head_bytes f) i d
+byte_of_head f i d h = get_or_append_left (head_bytes f) (bytes_of f.rest) d i h
+
+pub byte_of_rest : (f : SkbState) (i : ℕ) (d : ℕ) → length (head_bytes f) ≤ i → get_or (buffer_bytes f) i d ≡ get_or (bytes_of f.rest) (i - length (head_bytes f)) d
+byte_of_rest f i d h = get_or-append_right (head_bytes f) (bytes_of f.rest) (length (head_bytes f)) i d refl h
+
+-- a Sole that becomes a part keeps what its mark holds
+pub taken_marks : (a c : SkbState) (o : OutcomesState) (r : List Piece) (p : PartState) → AsPart c.head p → r ≡ a.rest ++ (record { part = p; from = c.from; to = c.to }) ∷ c.rest → KeepsMarks (both (of_buffer a) (both (of_buffer c) (of_outcomes o))) (both (of_buffer (record a { rest = r })) (of_outcomes o))
+taken_marks a c o r p k e m =
+    let x : Piece = record { part = p; from = c.from; to = c.to } in
+    let g = ap (pieces_held every m) e ∙ pieces_held-append every m a.rest (x ∷ c.rest) in
+    let l = lent_marks m c.head (Part p) k in
+    omega arith

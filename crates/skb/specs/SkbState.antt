@@ -1,12 +1,12 @@
 -- A buffer: a head block and pieces after it, as one run of bytes.
-use Rattle.std.specs.Prelude.{ℕ, zero, suc, ◌≡◌, ◌≢◌, ◌+◌, ◌-◌, ◌<◌, ◌≤◌, List, [], ◌∷◌, ◌++◌, Bool, false, true, ◌||◌, ◌==◌, cond, length, take, drop, slice_range, map, Ok, Err}
+use Rattle.std.specs.Prelude.{ℕ, zero, suc, ◌≡◌, ◌≢◌, ◌+◌, ◌-◌, ◌<◌, ◌≤◌, List, [], ◌∷◌, ◌++◌, Bool, false, true, ◌||◌, ◌==◌, cond, length, take, drop, slice_range, min, map, Ok, Err}
 use Rattle.std.specs.declared.result.Result.{Result}
 use Rattle.std.specs.declared.alloc.AllocError.{AllocError}
 use Rattle.ref_core.specs.WeightRule.{full_weight}
 use Rattle.raw_block.specs.Views.{SoleState, PartState}
 use Rattle.frags.specs.Account.{Account, Keeps, both, every, of_part, of_sole, of_holder, of_released, of_outcomes}
 use Rattle.frags.specs.OutcomesState.{OutcomesState}
-use Rattle.frags.specs.PieceList.{bytes_of, size_of, of_pieces, worn, gift, given, kept, block, AsPart}
+use Rattle.frags.specs.PieceList.{bytes_of, size_of, of_pieces, least_weight, worn, gift, given, kept, block, AsPart}
 use Rattle.frags.specs.declared.pieces.Piece.{Piece}
 use Rattle.frags.specs.declared.pieces.ShareFault.{ShareFault}
 use Rattle.frags.specs.declared.pieces.ShareFault.TheVariants.{Short, Worn, NoMemory}
@@ -87,6 +87,14 @@ head_worn (Part p) = p.weight == 1
 
 abbrev pub buffer_worn : SkbState → Bool
 buffer_worn f = head_worn f.head || worn f.rest
+
+abbrev pub head_least : Holder → ℕ
+head_least (Sole s) = full_weight
+head_least (Part p) = p.weight
+
+-- the least weight of a part, the full weight where there is none
+abbrev pub buffer_least : SkbState → ℕ
+buffer_least f = min (head_least f.head) (least_weight f.rest)
 
 abbrev pub less : PartState → PartState
 less p = record p { weight = p.weight - gift p.weight }

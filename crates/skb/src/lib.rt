@@ -28,6 +28,7 @@
 #![tactic(auto)]
 
 mod heads;
+mod lend;
 mod skb;
 
 pub use crate::skb::{RoomFault, Skb, Unshared};

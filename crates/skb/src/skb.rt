@@ -1,17 +1,19 @@
 //! A packet buffer.
-ghost use Rattle.std.specs.Prelude.{◌≡◌, ℕ, ◌+◌, ◌-◌, ◌<◌, ◌≤◌, ◌^◌, ◌*◌, [], ◌∷◌, ◌++◌, length, MatchResult, MatchOption, IfOk, drop, min, slice_index_or, false, true, Some, None};
+ghost use Rattle.std.specs.Prelude.{◌≡◌, ℕ, ◌+◌, ◌-◌, ◌<◌, ◌≤◌, ◌^◌, ◌*◌, [], ◌∷◌, ◌++◌, length, MatchResult, MatchOption, IfOk, drop, take, min, slice_index_or, false, true, Some, None};
 ghost use Rattle.std.specs.Borrow.{sem};
 ghost use Rattle.ref_core.specs.WeightRule.{full_weight};
 ghost use Rattle.raw_block.specs.Views.{SoleState};
-ghost use Rattle.frags.specs.Account.{Keeps, both, every, of_sole, of_holder, of_outcomes};
+ghost use Rattle.frags.specs.Account.{Keeps, KeepsMarks, both, every, of_sole, of_holder, of_outcomes};
 ghost use Rattle.frags.specs.PieceList.{size_of, piece_bytes, block};
 ghost use Rattle.frags.specs.declared.pieces.Piece.{Piece};
-ghost use Rattle.skb.specs.SkbState.{SkbState, buffer_bytes, buffer_size, head_bytes, headroom, tailroom, is_sole, written, IsPush, IsPut, Owned, IsClone, IsLent, Gives, head_worn, buffer_worn, of_buffer, of_unshared, Attaches};
+ghost use Rattle.skb.specs.Lending.{lends_head};
+ghost use Rattle.skb.specs.SkbState.{SkbState, buffer_least, buffer_bytes, buffer_size, head_bytes, headroom, tailroom, is_sole, written, IsPush, IsPut, Owned, IsClone, IsLent, Gives, head_worn, buffer_worn, of_buffer, of_unshared, Attaches};
 
 use crate::heads::{gives, lent, owned, write_at};
+use crate::lend::range_of;
 use core::mem::replace_with;
 use frags::{Holder, Outcomes, Pieces, ShareFault, Short};
-use raw_block::{BLOCK_SIZE, Released, Sight, Sole};
+use raw_block::{BLOCK_SIZE, FULL, Released, Sight, Sole};
 use std::alloc::AllocError;
 use std::marker::Model;
 
@@ -123,6 +125,40 @@ impl Skb {
         &all[self.from..self.to]
     }
 
+    /// The head's bytes, for writing. The condition is `head_is_sole()`.
+    pub fn head_bytes_mut(&mut self) -> &mut [u8]
+        requires { is_sole self.old.head ≡ true }
+        ensures* writes_back { sem 𝓛 (lends_head self.entry result) }
+        ensures value { result.now ≡ head_bytes self.old }
+    {
+        let from = self.from;
+        let to = self.to;
+        range_of(&mut self.head, from, to)
+    }
+
+    /// The byte at a place.
+    pub fn byte_at(&self, i: usize) -> u8
+        requires { i < buffer_size self.now }
+        ensures { (d : ℕ) → result ≡ slice_index_or (buffer_bytes self.now) i d }
+    {
+        let head = self.head();
+        if i < head.len() {
+            return head[i];
+        }
+        self.rest.byte_at(i - head.len())
+    }
+
+    /// The least weight of a part, `FULL` where there is none.
+    pub fn least_weight(&self) -> u64
+        ensures { result ≡ buffer_least self.now }
+    {
+        let head = match &self.head {
+            Holder::Sole(_) => FULL,
+            Holder::Part(part) => part.weight(),
+        };
+        head.min(self.rest.least_weight())
+    }
+
     /// The bytes of the i-th piece after the head, uncopied.
     pub fn slice(&self, i: usize) -> &[u8]
         requires { i < length self.now.rest }
@@ -202,6 +238,29 @@ impl Skb {
         Ok(())
     }
 
+    /// The last `n` bytes are gone. Pieces that are wholly gone are given back, and a head left empty stays. `Short`
+    /// exactly where `n > len()`.
+    pub fn trim(&mut self, n: usize, out: &mut Outcomes) -> Result<(), Short>
+        requires { length self.old.rest ≤ out.old.spare }
+        ensures bytes { MatchResult result (λ _. buffer_bytes self.new ≡ take (buffer_size self.old - n) (buffer_bytes self.old)) (λ e. (buffer_size self.old < n) × (e.have ≡ buffer_size self.old) × (e.need ≡ n) × (self.new ≡ self.old) × (out.new ≡ out.old)) }
+        ensures head { (self.new.head ≡ self.old.head) × (self.new.from ≡ self.old.from) }
+        ensures kept { Keeps (both (of_buffer self.old) (of_outcomes out.old)) (both (of_buffer self.new) (of_outcomes out.new)) }
+        ensures places { out.old.spare + length self.new.rest ≤ out.new.spare + length self.old.rest }
+    {
+        let have = self.len();
+        if have < n {
+            return Err(Short { have, need: n });
+        }
+        let rest = self.rest.len();
+        if n <= rest {
+            self.rest.cut_back(n, out)?;
+            return Ok(());
+        }
+        self.rest.cut_back(rest, out)?;
+        self.to -= n - rest;
+        Ok(())
+    }
+
     /// A second buffer of the same bytes, headroom and pieces, uncopied. Each part gives `max(1, weight / 4096)` away and
     /// keeps its life. A Sole head becomes a part first, also where memory is refused. `Worn` exactly where a part weighs
     /// 1, which is judged before all else.
@@ -250,7 +309,8 @@ impl Skb {
     pub fn attach(&mut self, other: Skb, out: &mut Outcomes) -> Result<(), (Skb, AllocError)>
         requires small { buffer_size self.old + buffer_size other < 2 ^ 32 }
         requires room { 1 ≤ out.old.spare }
-        ensures { Attaches self.old other out.old self.new out.new result }
+        ensures attached { Attaches self.old other out.old self.new out.new result }
+        ensures marks { IfOk result (λ _. KeepsMarks (both (of_buffer self.old) (both (of_buffer other) (of_outcomes out.old))) (both (of_buffer self.new) (of_outcomes out.new))) }
     {
         let Skb {
             head,

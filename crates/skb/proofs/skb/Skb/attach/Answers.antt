@@ -1,10 +1,11 @@
 use Rattle.std.proofs.Common.{◌≡◌, ◌≢◌, ◌+◌, ◌∙◌, ◌++◌, ◌∷◌, ℕ, List, length, ap, sym, subst, refl, arith}
 use Rattle.std.specs.Prelude.{Ok}
-use Rattle.frags.specs.Account.{Keeps, both, of_outcomes}
+use Rattle.frags.specs.Account.{Keeps, KeepsMarks, both, of_outcomes}
 use Rattle.frags.specs.PieceList.{size_of}
-use Rattle.skb.specs.SkbState.{SkbState, Attaches, buffer_size}
+use Rattle.skb.specs.SkbState.{SkbState, of_buffer, Attaches, buffer_size}
 use Rattle.frags.proofs.Keeping.{size_of-append}
-use Rattle.skb.proofs.Buffers.{attaches_joined, attaches_taken}
+use Rattle.skb.proofs.Buffers.{attaches_joined, attaches_taken, joined_keeps, taken_marks}
+use Rattle.frags.proofs.Keeping.{keeps_marks}
 use Rattle.skb.proofs.skb.Skb.attach.Goals as goal
 
 pub invariant_of-self-then-from-to : goal.invariant_of-self-then-from-to
@@ -16,8 +17,8 @@ invariant_of-self-then-from-to c =
     let r = c.requires.small in
     (i.0, i.1, i.2, omega arith)
 
-pub returns-then-from-to : goal.returns-then-from-to
-returns-then-from-to c =
+pub returns-then-from-to-clause-attached : goal.returns-then-from-to-clause-attached
+returns-then-from-to-clause-attached c =
     let s = c.self.inside in
     let n = c.other.inside in
     let a : SkbState = record { head = s.head; from = s.from; to = s.to; rest = s.rest } in
@@ -37,8 +38,8 @@ invariant_of-self-2 c =
     let r = c.requires.small in
     (i.0, i.1, i.2, omega arith)
 
-pub returns : goal.returns
-returns c =
+pub returns-clause-attached : goal.returns-clause-attached
+returns-clause-attached c =
     let s = c.self.inside in
     let n = c.other.inside in
     let a : SkbState = record { head = s.head; from = s.from; to = s.to; rest = s.rest } in
@@ -47,3 +48,29 @@ returns c =
     subst (λ (z : SkbState). Attaches z c.args.other c.args.out.now b c.args.out.now (Ok tt)) c.self.view_is
     (subst (λ (z : SkbState). Attaches a z c.args.out.now b c.args.out.now (Ok tt)) c.other.view_is
     (attaches_taken a d c.args.out.now c.append_all.new.self c.if-from-to.false c.in_default-append_all.ensures))
+
+pub returns-then-from-to-clause-marks : goal.returns-then-from-to-clause-marks
+returns-then-from-to-clause-marks c =
+    let s = c.self.inside in
+    let n = c.other.inside in
+    let a : SkbState = record { head = s.head; from = s.from; to = s.to; rest = s.rest } in
+    let d : SkbState = record { head = n.head; from = n.from; to = n.to; rest = n.rest } in
+    let b : SkbState = record { head = s.head; from = s.from; to = s.to; rest = c.join_back.new.self } in
+    let o = c.args.out.now in
+    let q = c.give_back_holder.new.self in
+    subst (λ (z : SkbState). KeepsMarks (both (of_buffer z) (both (of_buffer c.args.other) (of_outcomes o))) (both (of_buffer b) (of_outcomes q))) c.self.view_is
+    (subst (λ (z : SkbState). KeepsMarks (both (of_buffer a) (both (of_buffer z) (of_outcomes o))) (both (of_buffer b) (of_outcomes q))) c.other.view_is
+    (keeps_marks _ _ (joined_keeps a d o q c.join_back.new.self c.in_default.ensures.joined c.give_back_holder.ensures.kept)))
+
+pub returns-clause-marks : goal.returns-clause-marks
+returns-clause-marks c =
+    let s = c.self.inside in
+    let n = c.other.inside in
+    let a : SkbState = record { head = s.head; from = s.from; to = s.to; rest = s.rest } in
+    let d : SkbState = record { head = n.head; from = n.from; to = n.to; rest = n.rest } in
+    let b : SkbState = record { head = s.head; from = s.from; to = s.to; rest = c.append_all.new.self } in
+    let o = c.args.out.now in
+    let w = c.in_default-append_all.ensures in
+    subst (λ (z : SkbState). KeepsMarks (both (of_buffer z) (both (of_buffer c.args.other) (of_outcomes o))) (both (of_buffer b) (of_outcomes o))) c.self.view_is
+    (subst (λ (z : SkbState). KeepsMarks (both (of_buffer a) (both (of_buffer z) (of_outcomes o))) (both (of_buffer b) (of_outcomes o))) c.other.view_is
+    (taken_marks a d o c.append_all.new.self w.0 w.1.0 w.1.1))
