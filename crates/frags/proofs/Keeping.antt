@@ -8,7 +8,7 @@ use lib.Dec.{ltb}
 use Rattle.ref_core.specs.WeightRule.{full_weight, IsWeight}
 use Rattle.raw_block.specs.Views.{SoleState, PartState, ReceiptState}
 use Rattle.frags.specs.OutcomesState.{OutcomesState}
-use Rattle.frags.specs.Account.{Account, Keeps, both, counted, at_home, receipts_held, soles_home, of_part, of_outcomes}
+use Rattle.frags.specs.Account.{Account, Keeps, KeepsMarks, every, both, counted, at_home, receipts_held, soles_home, of_part, of_outcomes}
 use Rattle.frags.specs.PieceList.{bytes_of, piece_bytes, size_of, Fits, AllFit, pieces_held, of_pieces, kept, given, gift, kept_first, given_first, worn, cut_front}
 use Rattle.frags.specs.declared.pieces.Piece.{Piece}
 
@@ -43,6 +43,15 @@ keeps_trans a b c h k t m = let p = h t m in let q = k t m in (omega arith, omeg
 
 pub keeps_beside : (a b c : Account) → Keeps a b → Keeps (both a c) (both b c)
 keeps_beside a b c h t m = let p = h t m in (omega arith, omega arith)
+
+pub keeps_marks : (a b : Account) → Keeps a b → KeepsMarks a b
+keeps_marks a b h m = (h every m).1
+
+pub marks_trans : (a b c : Account) → KeepsMarks a b → KeepsMarks b c → KeepsMarks a c
+marks_trans a b c h k m = let p = h m in let q = k m in omega arith
+
+pub marks_beside : (a b c : Account) → KeepsMarks a b → KeepsMarks (both a c) (both b c)
+marks_beside a b c h m = let p = h m in omega arith
 
 pub gives_last : (p : PartState) (s : SoleState) (a b : OutcomesState) → s.mark ≡ p.mark → p.weight ≤ full_weight → b.receipts ≡ a.receipts → b.soles ≡ a.soles ++ s ∷ [] → Keeps (both (of_part p) (of_outcomes a)) (of_outcomes b)
 gives_last p s a b e h f g t m =
@@ -203,3 +212,22 @@ share_sums t m (p ∷ ps) h w =
     let b = kept_given t m p g in
     let c = share_sums t m ps h.1 n.1 in
     omega arith
+
+-- a piece has a byte
+pub count_within : (ps : List Piece) → AllFit ps → length ps ≤ size_of ps
+count_within [] h = omega arith
+count_within (p ∷ ps) h = let a = h.0.0 in let i = count_within ps h.1 in omega arith
+
+pub append_keeps : (a b : List Piece) (x : Piece) → b ≡ a ++ x ∷ [] → Keeps (both (of_pieces a) (of_part x.part)) (of_pieces b)
+append_keeps a b x e t m = let f = ap (pieces_held t m) e ∙ pieces_held-append t m a (x ∷ []) in (omega arith, omega arith)
+
+pub join_keeps : (a c b : List Piece) → b ≡ a ++ c → Keeps (both (of_pieces a) (of_pieces c)) (of_pieces b)
+join_keeps a c b e t m = let f = ap (pieces_held t m) e ∙ pieces_held-append t m a c in (omega arith, omega arith)
+
+-- the last piece goes, its part to the outcomes
+pub keeps_pop_back : (s : Account) (x : Piece) (xs ys : List Piece) (o q : OutcomesState) → xs ≡ ys ++ x ∷ [] → Keeps s (both (of_pieces xs) (of_outcomes o)) → Keeps (both (of_part x.part) (of_outcomes o)) (of_outcomes q) → Keeps s (both (of_pieces ys) (of_outcomes q))
+keeps_pop_back s x xs ys o q e h k t m =
+    let d = ap (pieces_held t m) e ∙ pieces_held-append t m ys (x ∷ []) in
+    let f = h t m in
+    let g = k t m in
+    (omega arith, omega arith)

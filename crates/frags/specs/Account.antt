@@ -31,6 +31,10 @@ both a b = record { held = λ t m. a.held t m + b.held t m; homes = λ m. a.home
 abbrev pub Keeps : Account → Account → Type 0
 Keeps a b = (t : ℕ × ℕ → Bool) (m : ℕ) → (b.held t m ≤ a.held t m) × (a.held t m + full_weight * a.homes m ≤ b.held t m + full_weight * b.homes m)
 
+-- the same by marks alone, over a call that shares a Sole and so begins a life
+abbrev pub KeepsMarks : Account → Account → Type 0
+KeepsMarks a b = (m : ℕ) → a.held every m + full_weight * a.homes m ≤ b.held every m + full_weight * b.homes m
+
 abbrev pub receipts_held : (ℕ × ℕ → Bool) → ℕ → List ReceiptState → ℕ
 receipts_held t m [] = 0
 receipts_held t m (s ∷ ss) = counted t m s.life s.mark s.weight + receipts_held t m ss

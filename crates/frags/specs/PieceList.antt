@@ -1,5 +1,5 @@
 -- Pieces of shared blocks, as a list of bytes.
-use Rattle.std.specs.Prelude.{ℕ, zero, suc, ◌≡◌, ◌+◌, ◌-◌, ◌/◌, ◌<◌, ◌≤◌, List, [], ◌∷◌, ◌++◌, Bool, false, true, cond, ◌||◌, ◌==◌, nat_lt, length, slice_range, max, map, Ok, Err}
+use Rattle.std.specs.Prelude.{ℕ, zero, suc, ◌≡◌, ◌+◌, ◌-◌, ◌/◌, ◌<◌, ◌≤◌, List, [], ◌∷◌, ◌++◌, Bool, false, true, cond, ◌||◌, ◌==◌, nat_lt, length, slice_range, slice_index_or, max, min, map, Ok, Err}
 use Rattle.ref_core.specs.WeightRule.{full_weight, IsWeight}
 use Rattle.raw_block.specs.Views.{SoleState, PartState}
 use Rattle.frags.specs.Account.{Account, counted}
@@ -96,6 +96,21 @@ IsSplit n a b (Ok c) = (n ≤ size_of a) × (cut_worn n a ≡ false) × (b ≡ f
 IsSplit n a b (Err (Short h k)) = (size_of a < n) × (h ≡ size_of a) × (k ≡ n) × (b ≡ a)
 IsSplit n a b (Err Worn) = (n ≤ size_of a) × (cut_worn n a ≡ true) × (b ≡ a)
 IsSplit n a b (Err NoMemory) = (n ≤ size_of a) × (cut_worn n a ≡ false) × (b ≡ a)
+
+-- the pieces of the first n bytes
+abbrev pub keep_front : ℕ → List Piece → List Piece
+keep_front n [] = []
+keep_front n (p ∷ ps) = cond (n == 0) [] (cond (nat_lt n (p.to - p.from)) (record p { to = p.from + n } ∷ []) (p ∷ keep_front (n - (p.to - p.from)) ps))
+
+-- the byte at a place of the first piece that reaches so far
+abbrev pub byte_in : ℕ → List Piece → ℕ
+byte_in n [] = 0
+byte_in n (p ∷ ps) = cond (nat_lt n (p.to - p.from)) (slice_index_or p.part.bytes (p.from + n) 0) (byte_in (n - (p.to - p.from)) ps)
+
+-- the least weight of a part, the full weight where there is none
+abbrev pub least_weight : List Piece → ℕ
+least_weight [] = full_weight
+least_weight (p ∷ ps) = min p.part.weight (least_weight ps)
 
 -- the 2048 bytes that a holder reads
 abbrev pub block : Holder → List ℕ

@@ -1,13 +1,13 @@
 //! Pieces of shared blocks, as one run of bytes.
-ghost use Rattle.std.specs.Prelude.{◌≡◌, ℕ, ◌+◌, ◌-◌, ◌<◌, ◌≤◌, ◌^◌, [], ◌∷◌, ◌++◌, length, MatchResult, MatchOption, IfOk, drop, slice_index_or, Bool, false};
+ghost use Rattle.std.specs.Prelude.{◌≡◌, ℕ, ◌+◌, ◌-◌, ◌<◌, ◌≤◌, ◌^◌, [], ◌∷◌, ◌++◌, length, MatchResult, MatchOption, IfOk, drop, take, slice_index_or, Bool, false};
 ghost use Rattle.frags.specs.declared.pieces.Piece.{Piece};
-ghost use Rattle.frags.specs.Account.{Keeps, both, of_outcomes};
-ghost use Rattle.frags.specs.PieceList.{bytes_of, piece_bytes, pieces_held, Fits, size_of, of_pieces, IsShare, IsSplit, IsAppend, block, AsPart, cut_front, cut_worn, worn};
+ghost use Rattle.frags.specs.Account.{Keeps, both, of_part, of_outcomes};
+ghost use Rattle.frags.specs.PieceList.{bytes_of, piece_bytes, pieces_held, Fits, AllFit, size_of, of_pieces, IsShare, IsSplit, IsAppend, block, AsPart, byte_in, keep_front, least_weight, cut_front, cut_worn, worn};
 
 use crate::cuts::split_into;
 use crate::{Holder, Outcomes};
 use core::mem::replace;
-use raw_block::Part;
+use raw_block::{FULL, Part};
 use std::alloc::{AllocError, Global};
 use std::collections::VecDeque;
 use std::marker::Model;
@@ -163,14 +163,16 @@ impl Pieces {
 
     /// The number of bytes.
     pub fn len(&self) -> usize
-        ensures { result ≡ size_of self.now }
+        ensures size { result ≡ size_of self.now }
+        ensures small { result < 2 ^ 32 }
     {
         self.size
     }
 
     /// The number of pieces.
     pub fn count(&self) -> usize
-        ensures { result ≡ length self.now }
+        ensures count { result ≡ length self.now }
+        ensures within { result ≤ size_of self.now }
     {
         self.items.len()
     }
@@ -210,7 +212,8 @@ impl Pieces {
     /// The other's pieces follow, uncopied.
     pub fn join_back(&mut self, other: Pieces) -> Result<(), (Pieces, AllocError)>
         requires { size_of self.old + size_of other < 2 ^ 32 }
-        ensures { MatchResult result (λ _. self.new ≡ self.old ++ other) (λ e. (self.new ≡ self.old) × (e.0 ≡ other)) }
+        ensures joined { MatchResult result (λ _. self.new ≡ self.old ++ other) (λ e. (self.new ≡ self.old) × (e.0 ≡ other)) }
+        ensures kept { IfOk result (λ _. Keeps (both (of_pieces self.old) (of_pieces other)) (of_pieces self.new)) }
     {
         let Pieces { mut items, size } = other;
         match self.items.append(&mut items) {
@@ -221,6 +224,76 @@ impl Pieces {
             }
             Err(error) => Err((Pieces { items, size }, error)),
         }
+    }
+
+    /// The last `n` bytes are gone. Pieces that are wholly cut are given back. `Short` exactly where `n > len()`.
+    pub fn cut_back(&mut self, n: usize, out: &mut Outcomes) -> Result<(), Short>
+        requires { length self.old ≤ out.old.spare }
+        ensures cut { MatchResult result (λ _. (n ≤ size_of self.old) × (self.new ≡ keep_front (size_of self.old - n) self.old)) (λ e. (e.have ≡ size_of self.old) × (e.need ≡ n) × (size_of self.old < n) × (self.new ≡ self.old) × (out.new ≡ out.old)) }
+        ensures bytes { IfOk result (λ _. bytes_of self.new ≡ take (size_of self.old - n) (bytes_of self.old)) }
+        ensures kept { Keeps (both (of_pieces self.old) (of_outcomes out.old)) (both (of_pieces self.new) (of_outcomes out.new)) }
+        ensures places { out.old.spare + length self.new ≤ out.new.spare + length self.old }
+    {
+        if self.size < n {
+            return Err(Short {
+                have: self.size,
+                need: n,
+            });
+        }
+        let keep = self.size - n;
+        while let Some(mut piece) = self.items.pop_back() {
+            let start = self.size - (piece.to - piece.from);
+            if start < keep {
+                piece.to = piece.from + (keep - start);
+                self.size = keep;
+                self.items.push_back_reserved(piece);
+                return Ok(());
+            }
+            self.size = start;
+            let Piece {
+                part,
+                from: _,
+                to: _,
+            } = piece;
+            out.give_back(part);
+        }
+        Ok(())
+    }
+
+    /// The byte at a place.
+    pub fn byte_at(&self, i: usize) -> u8
+        requires { i < size_of self.now }
+        ensures { (d : ℕ) → result ≡ slice_index_or (bytes_of self.now) i d }
+    {
+        self.find_byte(i)
+    }
+
+    fn find_byte(&self, i: usize) -> u8
+        requires { i < size_of self.now }
+        ensures byte { result ≡ byte_in i self.now }
+        ensures fits { AllFit self.now }
+    {
+        let mut left = i;
+        for k in 0..self.items.len() {
+            let piece = &self.items[k];
+            let size = piece.to - piece.from;
+            if left < size {
+                return piece.part.bytes()[piece.from + left];
+            }
+            left -= size;
+        }
+        unreachable!()
+    }
+
+    /// The least weight of a part, `FULL` where there is none.
+    pub fn least_weight(&self) -> u64
+        ensures { result ≡ least_weight self.now }
+    {
+        let mut least = FULL;
+        for i in 0..self.items.len() {
+            least = least.min(self.items[i].part.weight());
+        }
+        least
     }
 
     // The part that is cut at `at` has nothing to give.
@@ -278,7 +351,8 @@ impl Pieces {
     pub fn append(&mut self, part: Part, from: usize, to: usize) -> Result<(), (Part, AllocError)>
         requires range { (from < to) × (to ≤ 2048) }
         requires small { size_of self.old + (to - from) < 2 ^ 32 }
-        ensures { MatchResult result (λ _. self.new ≡ self.old ++ (record { part = part; from = from; to = to }) ∷ []) (λ e. (self.new ≡ self.old) × (e.0 ≡ part)) }
+        ensures appended { MatchResult result (λ _. self.new ≡ self.old ++ (record { part = part; from = from; to = to }) ∷ []) (λ e. (self.new ≡ self.old) × (e.0 ≡ part)) }
+        ensures kept { IfOk result (λ _. Keeps (both (of_pieces self.old) (of_part part)) (of_pieces self.new)) }
     {
         let _ = part.bytes();
         let _ = part.weight();

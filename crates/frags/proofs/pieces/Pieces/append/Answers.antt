@@ -1,7 +1,8 @@
-use Rattle.std.proofs.Common.{◌≡◌, ℕ, ◌+◌, ◌-◌, ◌∷◌, [], ◌++◌, length, arith, ◌∙◌, ap, sym, subst}
+use Rattle.std.proofs.Common.{◌≡◌, ℕ, ◌+◌, ◌-◌, ◌∷◌, [], ◌++◌, List, length, arith, ◌∙◌, ap, sym, subst}
 use Rattle.ref_core.specs.WeightRule.{IsWeight}
 use Rattle.frags.specs.PieceList.{size_of, AllFit}
-use Rattle.frags.proofs.Keeping.{size_of-append, AllFit-append}
+use Rattle.frags.proofs.Keeping.{size_of-append, AllFit-append, append_keeps}
+use Rattle.frags.specs.declared.pieces.Piece.{Piece}
 use Rattle.frags.proofs.pieces.Pieces.append.Goals as goal
 
 pub invariant_of-self : goal.invariant_of-self
@@ -12,3 +13,8 @@ invariant_of-self c =
     let v = ap size_of c.self.view_is in
     let l = ap length c.bytes.ensures.value in
     (omega arith, omega arith, subst AllFit (sym e) (AllFit-append _ _ i.2 ((c.requires.range.0, c.requires.range.1, sym l ∙ c.bytes.ensures.size, subst IsWeight c.weight.ensures.value c.weight.ensures.range), tt)))
+
+pub returns-in-Ok-clause-kept : goal.returns-in-Ok-clause-kept
+returns-in-Ok-clause-kept c =
+    let x : Piece = record { part = c.args.part; from = c.args.from; to = c.args.to } in
+    append_keeps c.args.self.now c.push_back.new.self.items x (c.in-Ok.ensures.items ∙ ap (λ (z : List Piece). z ++ x ∷ []) c.self.view_is)
