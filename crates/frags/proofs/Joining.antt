@@ -1,19 +1,19 @@
 -- Lists of pieces put together, and what a release leaves.
-use Rattle.std.proofs.Common.{◌≡◌, ℕ, ◌+◌, ◌-◌, ◌*◌, ◌<◌, ◌≤◌, List, [], ◌∷◌, ◌++◌, Bool, true, false, length, refl, ap, sym, subst, append_assoc, ◌∙◌, zero, suc, get_or, arith}
+use Rattle.std.proofs.Common.{◌≡◌, ℕ, ◌+◌, ◌-◌, ◌<◌, ◌≤◌, List, [], ◌∷◌, ◌++◌, length, refl, ap, sym, subst, append_assoc, ◌∙◌, zero, suc, get_or, arith}
 use Rattle.std.proofs.lemmas.Bool.{cond_both}
 use lib.Dec.{ltb}
 use Rattle.ref_core.specs.WeightRule.{full_weight}
-use Rattle.raw_block.specs.Views.{SoleState, PartState, ReceiptState}
+use Rattle.raw_block.specs.Views.{SoleState, PartState}
 use Rattle.raw_block.specs.declared.part.Released.{Released}
 use Rattle.raw_block.specs.declared.part.Released.TheVariants.{Last, Left}
 use Rattle.raw_block.specs.Answers.{IsReleased}
 use Rattle.frags.specs.OutcomesState.{OutcomesState}
-use Rattle.frags.specs.Account.{Account, Keeps, both, counted, at_home, receipts_held, soles_home, of_part, of_sole, of_holder, of_released, of_outcomes}
-use Rattle.frags.specs.PieceList.{bytes_of, piece_bytes, size_of, Fits, AllFit, pieces_held, of_pieces, cut_front, block, AsPart}
+use Rattle.frags.specs.Account.{Keeps, both, counted, at_home, receipts_held, soles_home, of_part, of_holder, of_released, of_outcomes}
+use Rattle.frags.specs.PieceList.{bytes_of, piece_bytes, size_of, Fits, AllFit, cut_front, block, AsPart}
 use Rattle.frags.specs.declared.pieces.Piece.{Piece}
 use Rattle.frags.specs.declared.holder.Holder.{Holder}
 use Rattle.frags.specs.declared.holder.Holder.TheVariants.{Sole, Part}
-use Rattle.frags.proofs.Keeping.{counted-le, soles_home-append, size_of-append, AllFit-append, pieces_held-append}
+use Rattle.frags.proofs.Keeping.{counted-le, soles_home-append, size_of-append, AllFit-append}
 
 -- a part released is its receipt, or its block's Sole
 pub released_keeps : (p : PartState) (r : Released) → p.weight ≤ full_weight → IsReleased p r → Keeps (of_part p) (of_released r)

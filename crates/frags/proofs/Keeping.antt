@@ -1,5 +1,5 @@
 -- How balances are kept by steps, one after another.
-use Rattle.std.proofs.Common.{◌≡◌, ℕ, ◌+◌, ◌-◌, ◌*◌, ◌<◌, ◌≤◌, List, [], ◌∷◌, ◌++◌, Bool, true, false, cond, ◌&&◌, ◌≢◌, zero, suc, add-one, refl, ap, sym, ◌∙◌, length, get_or, set, map, take, drop, arith, length-append, length-drop}
+use Rattle.std.proofs.Common.{◌≡◌, ℕ, ◌+◌, ◌-◌, ◌*◌, ◌<◌, ◌≤◌, List, [], ◌∷◌, ◌++◌, Bool, false, ◌≢◌, zero, suc, add-one, refl, ap, sym, ◌∙◌, length, get_or, set, map, take, drop, arith, length-append, length-drop}
 use Rattle.std.proofs.lemmas.List.{length-take, drop-append-le, drop-take, drop-drop}
 use Rattle.std.proofs.lemmas.Bool.{cond_both}
 use Rattle.std.proofs.Math.Seq.{drop-nil, drop-append-add}

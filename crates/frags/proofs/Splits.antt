@@ -1,13 +1,12 @@
 -- The two lists of pieces that a cut makes.
-use Rattle.std.proofs.Common.{◌≡◌, ◌≢◌, ℕ, ◌+◌, ◌-◌, ◌<◌, ◌≤◌, List, [], ◌∷◌, ◌++◌, Bool, true, false, length, take, drop, refl, ap, sym, ◌∙◌, append_assoc, append-nil, cond, arith}
+use Rattle.std.proofs.Common.{◌≡◌, ◌≢◌, ℕ, ◌+◌, ◌-◌, ◌<◌, ◌≤◌, List, [], ◌∷◌, ◌++◌, Bool, true, false, take, drop, refl, ap, sym, ◌∙◌, append_assoc, append-nil, cond, arith}
 use Rattle.std.proofs.lemmas.Bool.{cond_both}
 use Rattle.std.proofs.lemmas.List.{drop-drop}
 use Rattle.std.proofs.Math.Seq.{take-add}
 use borrow.Author.Tests.{ltb-true, ltb-false, eqb-true, eqb-false}
 use lib.Dec.{ltb, eqb}
 use Rattle.frags.specs.declared.pieces.Piece.{Piece}
-use Rattle.frags.specs.PieceList.{bytes_of, piece_bytes, size_of, Fits, AllFit, kept, given, gift, front, back, cut_worn, pieces_held}
-use Rattle.frags.specs.Account.{counted}
+use Rattle.frags.specs.PieceList.{bytes_of, piece_bytes, size_of, AllFit, kept, given, gift, front, back, cut_worn, pieces_held}
 use Rattle.frags.proofs.Keeping.{gift-weighs, kept_given}
 
 by_test : (P : Bool → Type 0) (b : Bool) → (b ≡ true → P true) → (b ≡ false → P false) → P b

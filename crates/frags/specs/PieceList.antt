@@ -1,7 +1,7 @@
 -- Pieces of shared blocks, as a list of bytes.
 use Rattle.std.specs.Prelude.{ℕ, zero, suc, ◌≡◌, ◌+◌, ◌-◌, ◌/◌, ◌<◌, ◌≤◌, List, [], ◌∷◌, ◌++◌, Bool, false, true, cond, ◌||◌, ◌==◌, nat_lt, length, slice_range, slice_index_or, max, min, map, Ok, Err}
 use Rattle.ref_core.specs.WeightRule.{full_weight, IsWeight}
-use Rattle.raw_block.specs.Views.{SoleState, PartState}
+use Rattle.raw_block.specs.Views.{PartState}
 use Rattle.frags.specs.Account.{Account, counted}
 use Rattle.frags.specs.declared.pieces.Piece.{Piece}
 use Rattle.frags.specs.declared.holder.Holder.{Holder}

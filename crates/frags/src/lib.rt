@@ -24,6 +24,8 @@ mod cuts;
 mod holder;
 mod outcomes;
 mod pieces;
+#[cfg(test)]
+mod tests;
 
 pub use holder::Holder;
 pub use outcomes::Outcomes;

@@ -1,4 +1,4 @@
-use Rattle.std.proofs.Common.{◌≤◌, ◌≡◌, subst, sym, arith}
+use Rattle.std.proofs.Common.{◌≤◌, arith}
 use Rattle.ref_core.specs.WeightRule.{full_weight}
 use Rattle.frags.proofs.Keeping.{gives_last, gives_left}
 use Rattle.frags.proofs.outcomes.Outcomes.give_back.Goals as goal

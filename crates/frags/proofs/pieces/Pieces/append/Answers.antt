@@ -1,4 +1,4 @@
-use Rattle.std.proofs.Common.{◌≡◌, ℕ, ◌+◌, ◌-◌, ◌∷◌, [], ◌++◌, List, length, arith, ◌∙◌, ap, sym, subst}
+use Rattle.std.proofs.Common.{◌∷◌, [], ◌++◌, List, length, arith, ◌∙◌, ap, sym, subst}
 use Rattle.ref_core.specs.WeightRule.{IsWeight}
 use Rattle.frags.specs.PieceList.{size_of, AllFit}
 use Rattle.frags.proofs.Keeping.{size_of-append, AllFit-append, append_keeps}

@@ -1,6 +1,6 @@
-use Rattle.std.proofs.Common.{◌≡◌, ◌+◌, ◌-◌, ◌∙◌, ◌++◌, ◌∷◌, [], List, length, ap, subst, sym, arith}
+use Rattle.std.proofs.Common.{◌≡◌, ◌∙◌, ◌++◌, ◌∷◌, [], List, length, ap, subst, arith}
 use Rattle.ref_core.specs.WeightRule.{IsWeight}
-use Rattle.frags.specs.PieceList.{size_of, AllFit}
+use Rattle.frags.specs.PieceList.{size_of}
 use Rattle.frags.specs.declared.pieces.Piece.{Piece}
 use Rattle.frags.proofs.Joining.{part_block, takes_in_fit}
 use Rattle.frags.proofs.pieces.Pieces.append_all.Goals as goal

@@ -1,4 +1,4 @@
-use Rattle.std.proofs.Common.{◌≡◌, ◌<◌, ◌∙◌, ℕ, List, ap, subst, sym, get_or, arith}
+use Rattle.std.proofs.Common.{◌∙◌}
 use Rattle.frags.proofs.Places.{byte_in-is}
 use Rattle.frags.proofs.pieces.Pieces.byte_at.Goals as goal
 

@@ -1,4 +1,4 @@
-use Rattle.std.proofs.Common.{◌≡◌, ◌+◌, ◌-◌, ◌<◌, ◌≤◌, ◌++◌, ◌∷◌, [], ◌∙◌, ℕ, List, length, ap, subst, sym, arith}
+use Rattle.std.proofs.Common.{◌≡◌, ◌-◌, ◌≤◌, ◌∷◌, [], ◌∙◌, ℕ, List, ap, subst, sym, arith}
 use Rattle.frags.specs.Account.{both, of_outcomes}
 use Rattle.frags.specs.PieceList.{size_of, bytes_of, keep_front, AllFit, of_pieces}
 use Rattle.frags.specs.declared.pieces.Piece.{Piece}

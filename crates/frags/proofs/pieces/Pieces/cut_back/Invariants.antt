@@ -1,4 +1,4 @@
-use Rattle.std.proofs.Common.{◌≡◌, ℕ, ◌+◌, ◌-◌, ◌≤◌, ◌<◌, ◌^◌, length}
+use Rattle.std.proofs.Common.{◌≡◌, ◌+◌, ◌-◌, ◌≤◌, ◌<◌, ◌^◌, length}
 use Rattle.frags.specs.Account.{Keeps, both, of_outcomes}
 use Rattle.frags.specs.PieceList.{of_pieces, keep_front, size_of, AllFit}
 use Rattle.frags.proofs.pieces.Pieces.cut_back.Given as goal

@@ -1,4 +1,4 @@
-use Rattle.std.proofs.Common.{◌≡◌, length, ap, subst, sym, arith}
+use Rattle.std.proofs.Common.{length, ap, subst, sym, arith}
 use Rattle.frags.specs.PieceList.{Fits}
 use Rattle.frags.proofs.Joining.{AllFit-at}
 use Rattle.frags.proofs.pieces.Pieces.cut_is_worn.Goals as goal

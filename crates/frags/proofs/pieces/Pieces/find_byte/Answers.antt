@@ -1,4 +1,4 @@
-use Rattle.std.proofs.Common.{◌≡◌, length, ap, subst, sym, arith}
+use Rattle.std.proofs.Common.{length, ap, subst, sym, arith}
 use Rattle.frags.specs.PieceList.{Fits, AllFit}
 use Rattle.frags.proofs.Joining.{AllFit-at}
 use Rattle.frags.proofs.pieces.Pieces.find_byte.Goals as goal

@@ -1,4 +1,4 @@
-use Rattle.std.proofs.Common.{◌≡◌, ◌∙◌, ◌++◌, List, ap, arith}
+use Rattle.std.proofs.Common.{◌∙◌, ◌++◌, List, ap, arith}
 use Rattle.frags.specs.PieceList.{size_of}
 use Rattle.frags.proofs.Joining.{joins_fit}
 use Rattle.frags.proofs.Keeping.{join_keeps}

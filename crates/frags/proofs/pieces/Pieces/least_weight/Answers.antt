@@ -1,4 +1,4 @@
-use Rattle.std.proofs.Common.{◌≡◌, ◌≤◌, arith}
+use Rattle.std.proofs.Common.{arith}
 use Rattle.frags.proofs.Places.{least_weight-bound}
 use Rattle.frags.proofs.pieces.Pieces.least_weight.Goals as goal
 

@@ -1,4 +1,4 @@
-use Rattle.std.proofs.Common.{◌≡◌, ℕ, ◌+◌, ◌≤◌, length}
+use Rattle.std.proofs.Common.{◌+◌, ◌≤◌, length}
 use Rattle.frags.specs.Account.{Keeps, both, of_outcomes}
 use Rattle.frags.specs.PieceList.{of_pieces}
 use Rattle.frags.proofs.pieces.Pieces.release.Given as goal

@@ -1,7 +1,7 @@
-use Rattle.std.proofs.Common.{◌≡◌, ◌≢◌, ℕ, ◌+◌, ◌-◌, ◌<◌, ◌≤◌, ◌/◌, ◌∷◌, [], ◌++◌, false, List, length, max, get_or, set, map, suc, arith, add-one, ap, sym, ◌∙◌, subst, refl}
+use Rattle.std.proofs.Common.{◌≡◌, ◌≢◌, ℕ, ◌-◌, ◌<◌, false, List, length, get_or, map, arith, ap, sym, ◌∙◌, subst}
 use Rattle.frags.specs.PieceList.{size_of, pieces_held, AllFit, worn, gift, kept, given, kept_first, given_first}
 use Rattle.frags.specs.declared.pieces.Piece.{Piece}
-use Rattle.frags.proofs.Keeping.{kept_first-length, kept_first-at, kept_first-step, given_first-step, kept_first-all, given_first-all, size_of-kept, size_of-given, AllFit-kept, AllFit-given, worn-at, share_is, gift-small, kept_step, given_step, share_sums}
+use Rattle.frags.proofs.Keeping.{kept_first-length, kept_first-at, kept_first-all, given_first-all, size_of-kept, size_of-given, AllFit-kept, AllFit-given, worn-at, gift-small, kept_step, given_step, share_sums}
 use Rattle.frags.proofs.pieces.Pieces.share.Goals as goal
 
 pub index_mut-piece-requires : goal.index_mut-piece-requires

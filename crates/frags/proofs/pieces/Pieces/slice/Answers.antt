@@ -1,6 +1,5 @@
-use Rattle.std.proofs.Common.{◌≡◌, ◌∙◌, length, get_or, ap, subst, sym, arith}
-use Rattle.frags.specs.PieceList.{Fits, AllFit}
-use Rattle.frags.specs.declared.pieces.Piece.{Piece}
+use Rattle.std.proofs.Common.{length, ap, subst, sym, arith}
+use Rattle.frags.specs.PieceList.{Fits}
 use Rattle.frags.proofs.Joining.{AllFit-at}
 use Rattle.frags.proofs.pieces.Pieces.slice.Goals as goal
 

@@ -1,4 +1,4 @@
-use Rattle.std.proofs.Common.{◌≡◌, ◌+◌, ◌≤◌, ◌++◌, ◌∙◌, List, false, ap, subst, sym, arith}
+use Rattle.std.proofs.Common.{◌≡◌, ◌≤◌, ◌++◌, ◌∙◌, List, false, ap, subst, sym, arith}
 use Rattle.frags.specs.PieceList.{size_of, AllFit, bytes_of, front, back, cut_worn, pieces_held}
 use Rattle.frags.specs.declared.pieces.Piece.{Piece}
 use Rattle.frags.proofs.Splits.{size_of-front, size_of-back, AllFit-front, AllFit-back, split_bytes, split_sums}
