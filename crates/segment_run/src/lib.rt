@@ -19,10 +19,14 @@
 
 mod capture;
 mod end;
+mod laws;
 mod record;
 mod segments;
+#[cfg(test)]
+mod tests;
 
 pub use capture::{segment_all, segment_capture};
 pub use end::End;
+pub use laws::captures_come_back;
 pub use record::read_record;
 pub use segments::{Refused, write_record};

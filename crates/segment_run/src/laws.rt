@@ -1,0 +1,9 @@
+//! The law that segmenting undoes merging.
+
+ghost use Rattle.segment_run.specs.Laws.{CapturesComeBack};
+
+/// Whatever merging writes of a capture's packets, segmenting it gives a capture in which each flow's packets are those of
+/// the first one, in order, byte for byte and with their original lengths.
+pub fn captures_come_back()
+    ensures law { CapturesComeBack }
+{}
