@@ -1,8 +1,8 @@
 -- How long the headers of a shape are, and how many bytes of the key they give.
-use Rattle.std.proofs.Common.{◌≡◌, ℕ, zero, suc, ◌+◌, ◌*◌, ◌/◌, ◌<◌, ◌≤◌, Bool, true, false, Option, Some, None, List, [], ◌∷◌, length, refl, sym, ap, ◌∙◌, subst, arith}
+use Rattle.std.proofs.Common.{◌≡◌, ℕ, zero, suc, ◌+◌, ◌*◌, ◌/◌, ◌<◌, ◌≤◌, Bool, true, false, Option, Some, None, List, [], ◌∷◌, length, sym, subst, arith}
 use Rattle.std.specs.Prelude.{◌==◌, if◌then◌else◌}
 use Rattle.net_bytes.specs.Bytes.{byte, be16}
-use Rattle.frame_layout.specs.Shape.{Layout, header, tcp_from, carried_from, ip4_from, ip6_from, network_from, typed_from, ethernet_from, vxlan_from, shape_of}
+use Rattle.frame_layout.specs.Shape.{Layout, header, tcp_from, carried_from, network_from, typed_from, ethernet_from, vxlan_from, shape_of}
 use Rattle.eth_vlan.specs.Tag.{is_tag}
 use Rattle.frame_layout.specs.declared.layout.Header.{Header}
 use Rattle.frame_layout.specs.Headers.{AtHeaders}

@@ -1,10 +1,10 @@
 -- A frame and its first bytes.
-use Rattle.std.proofs.Common.{◌≡◌, ℕ, ◌+◌, ◌-◌, ◌<◌, ◌≤◌, ◌⊎◌, inl, inr, Option, Some, None, List, [], ◌∷◌, ◌++◌, length, take, drop, refl, sym, ap, ◌∙◌, subst, arith}
+use Rattle.std.proofs.Common.{◌≡◌, ℕ, ◌<◌, ◌≤◌, ◌⊎◌, inl, inr, Option, Some, None, List, length, take, refl, sym, ◌∙◌, arith}
 use Rattle.std.specs.Prelude.{min}
-use Rattle.std.proofs.lemmas.List.{get_or-take, length-take, take_all, get_or_past}
+use Rattle.std.proofs.lemmas.List.{get_or-take, length-take, get_or_past}
 use Rattle.std.proofs.lemmas.Bool.{cases_lt}
 use Rattle.net_bytes.specs.Bytes.{byte}
-use Rattle.frame_layout.specs.Shape.{Layout, shape_of}
+use Rattle.frame_layout.specs.Shape.{shape_of}
 use Rattle.frame_layout.proofs.Shapes.{same_shape}
 use Rattle.frame_layout.proofs.Bounds.{IsPlaced, placed}
 

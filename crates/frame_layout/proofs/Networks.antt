@@ -1,5 +1,5 @@
 -- A shape has an IP header within the first bytes, and a TCP header behind it.
-use Rattle.std.proofs.Common.{◌≡◌, ℕ, zero, suc, ◌+◌, ◌-◌, ◌*◌, ◌/◌, ◌<◌, ◌≤◌, ◌⊎◌, inl, inr, Bool, true, false, Option, Some, None, List, [], ◌∷◌, length, refl, sym, ap, ◌∙◌, subst, arith}
+use Rattle.std.proofs.Common.{◌≡◌, ℕ, zero, suc, ◌+◌, ◌*◌, ◌≤◌, ◌⊎◌, inl, inr, Bool, true, false, Option, Some, None, List, subst, arith}
 use Rattle.std.specs.Prelude.{◌==◌, if◌then◌else◌}
 use Rattle.net_bytes.specs.Bytes.{byte, be16}
 use Rattle.eth_vlan.specs.Tag.{is_tag}
@@ -7,7 +7,7 @@ use Rattle.frame_layout.specs.Shape.{Layout, header, carried_from, ip4_there, ip
 use Rattle.frame_layout.specs.Headers.{AtHeaders}
 use Rattle.frame_layout.proofs.Shapes.{found, with_header}
 use Rattle.frame_layout.specs.declared.layout.Layer.{Layer}
-use Rattle.frame_layout.specs.declared.layout.Layer.TheVariants.{Ethernet, Tag, Ip4, Ip6, Udp, Vxlan, Tcp}
+use Rattle.frame_layout.specs.declared.layout.Layer.TheVariants.{Ethernet, Tag, Ip4, Ip6}
 
 -- what holds at each header holds at an IP header by this place
 record HasNetwork (end : ℕ) (P : Layer → ℕ → Type 0) (o : Option Layout) : Type 0 where

@@ -1,17 +1,16 @@
 -- What is tested in the first bytes of a frame holds of the frame.
-use Rattle.std.proofs.Common.{◌≡◌, ℕ, zero, suc, ◌+◌, ◌-◌, ◌*◌, ◌/◌, ◌%◌, ◌<◌, ◌≤◌, ◌⊎◌, inl, inr, Bool, true, false, List, [], ◌∷◌, length, drop, get_or, refl, sym, ap, ◌∙◌, subst, arith}
-use Rattle.std.specs.Prelude.{◌↔◌, ◌||◌, ◌&&◌, ◌==◌, nat_eq}
-use Rattle.std.specs.List.{AllByRecursion}
+use Rattle.std.proofs.Common.{◌≡◌, ℕ, ◌+◌, ◌-◌, ◌%◌, ◌<◌, ◌≤◌, ◌⊎◌, inl, inr, Bool, true, List, [], ◌∷◌, length, drop, get_or, refl, sym, ap, ◌∙◌, subst, arith}
+use Rattle.std.specs.Prelude.{◌↔◌, ◌||◌, ◌==◌, nat_eq}
 use Rattle.std.proofs.lemmas.Bool.{and_parts, and_from, or_cases, or_left, or_right, eqb-true, eq-eqb, ltb-true, lt-ltb}
 use Rattle.std.proofs.lemmas.List.{drop_more}
 use Rattle.inet_sum.specs.Sum.{checksum_of}
-use Rattle.net_bytes.specs.Bytes.{byte, be16, put16, part}
-use Rattle.frame_layout.specs.Candidate.{ip4_sum, IsLengthRight, AreFlagsPlain, IsSumRight, are_sums_right}
+use Rattle.net_bytes.specs.Bytes.{byte, be16, put16}
+use Rattle.frame_layout.specs.Candidate.{ip4_sum, IsLengthRight, AreFlagsPlain, are_sums_right}
 use Rattle.frame_layout.specs.Headers.{AtHeaders}
 use Rattle.frame_layout.specs.Headers.{size}
 use Rattle.frame_layout.specs.declared.layout.Header.{Header}
 use Rattle.frame_layout.specs.declared.layout.Layer.{Layer}
-use Rattle.frame_layout.specs.declared.layout.Layer.TheVariants.{Ethernet, Tag, Ip4, Ip6, Udp, Vxlan, Tcp}
+use Rattle.frame_layout.specs.declared.layout.Layer.TheVariants.{Ip4, Ip6, Udp, Tcp}
 use Rattle.frame_layout.specs.Front.{is_plain, IsHeaderRight, are_headers_right, AreAddressesWithin}
 use Rattle.frame_layout.proofs.Zeroed.{same_part_long}
 

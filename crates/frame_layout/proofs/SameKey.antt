@@ -1,16 +1,15 @@
 -- A frame that is alike in the headers of a shape is of the same flow.
-use Rattle.std.proofs.Common.{◌≡◌, ℕ, zero, suc, ◌+◌, ◌-◌, ◌*◌, ◌/◌, ◌%◌, ◌<◌, ◌≤◌, ◌⊎◌, inl, inr, Bool, true, false, Option, Some, None, List, [], ◌∷◌, ◌++◌, length, take, drop, refl, sym, ap, ◌∙◌, subst, arith}
+use Rattle.std.proofs.Common.{◌≡◌, ℕ, zero, suc, ◌+◌, ◌-◌, ◌*◌, ◌/◌, ◌<◌, ◌≤◌, inl, inr, Bool, true, false, Option, Some, None, List, [], ◌∷◌, ◌++◌, length, drop, refl, sym, ap, ◌∙◌, subst, arith}
 use Rattle.std.specs.Prelude.{◌==◌, if◌then◌else◌}
 use Rattle.std.specs.List.{flat_map}
-use Rattle.std.specs.Option.{option_map}
 use Rattle.std.proofs.lemmas.Bool.{cases_lt}
 use Rattle.std.proofs.lemmas.List.{ext_get_or, length-take, length-drop, get_or-take, get_or-drop}
 use Rattle.net_bytes.specs.Bytes.{byte, be16, part}
 use Rattle.frame_layout.specs.declared.layout.Header.{Header}
-use Rattle.frame_layout.specs.Shape.{Layout, header, tcp_there, tcp_from, carried_from, ip4_from, ip6_from, network_from, typed_from, ethernet_from, vxlan_from, shape_of}
+use Rattle.frame_layout.specs.Shape.{Layout, header, tcp_from, carried_from, network_from, typed_from, ethernet_from, vxlan_from, shape_of}
 use Rattle.eth_vlan.specs.Tag.{is_tag}
 use Rattle.frame_layout.specs.Key.{flow_part, key_of}
-use Rattle.frame_layout.specs.Headers.{AtHeaders, IsOutside, AreHeadersAlike}
+use Rattle.frame_layout.specs.Headers.{AtHeaders, AreHeadersAlike}
 use Rattle.frame_layout.specs.Headers.{size, AreLaid}
 use Rattle.frame_layout.proofs.Shapes.{found, with_header, laid}
 use Rattle.frame_layout.proofs.Shapes.{laid_end}

@@ -1,15 +1,15 @@
 -- Sums over pieces of a frame, with a field taken as zero.
-use Rattle.std.proofs.Common.{◌≡◌, ℕ, zero, suc, ◌+◌, ◌-◌, ◌*◌, ◌/◌, ◌%◌, ◌<◌, ◌≤◌, List, [], ◌∷◌, ◌++◌, length, length-append, take, drop, set, append_assoc, refl, sym, ap, ◌∙◌, subst, arith}
+use Rattle.std.proofs.Common.{◌≡◌, ℕ, zero, suc, ◌+◌, ◌-◌, ◌/◌, ◌%◌, ◌<◌, ◌≤◌, List, [], ◌∷◌, ◌++◌, length, length-append, take, drop, set, append_assoc, refl, sym, ap, ◌∙◌, arith}
 use Rattle.std.proofs.lemmas.List.{length-set, length-take, length-drop, get_or-take, get_or-drop, ext_get_or, take-take, drop-drop, drop-take, set-append_left}
 use Rattle.std.proofs.lemmas.List.Folds.{drop_split}
 use Rattle.inet_sum.specs.Sum.{word_sum, folded, fold_of, joined_fold}
 use Rattle.inet_sum.proofs.Folds.{even_total, joined_is}
 use Rattle.std.specs.Prelude.{◌==◌}
-use Rattle.net_bytes.specs.Bytes.{byte, be16, put16, part, bytes16}
+use Rattle.net_bytes.specs.Bytes.{byte, put16, part, bytes16}
 use Rattle.frame_layout.specs.Candidate.{pseudo_header, pseudo}
 use Rattle.frame_layout.specs.declared.layout.Header.{Header}
 use Rattle.frame_layout.specs.declared.layout.Layer.{Layer}
-use Rattle.frame_layout.specs.declared.layout.Layer.TheVariants.{Ethernet, Ip4, Ip6}
+use Rattle.frame_layout.specs.declared.layout.Layer.TheVariants.{Ip4, Ip6}
 use Rattle.frame_layout.specs.Front.{AreAddressesWithin}
 
 -- a list with a field zero is what is before the field, two zeros, and what is behind it

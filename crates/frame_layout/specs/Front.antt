@@ -1,14 +1,13 @@
 -- What a judge of frames knows of them: their first bytes, their length, and the sum of the bytes behind these.
-use Rattle.std.specs.Prelude.{◌≡◌, ℕ, ◌+◌, ◌-◌, ◌*◌, ◌/◌, ◌%◌, ◌<◌, ◌≤◌, ◌⊎◌, ◌||◌, ◌&&◌, ◌==◌, nat_lt, Bool, true, false, Option, Some, None, List, [], ◌∷◌, ◌++◌, length, drop}
+use Rattle.std.specs.Prelude.{◌≡◌, ℕ, ◌+◌, ◌-◌, ◌%◌, ◌<◌, ◌≤◌, ◌||◌, ◌&&◌, ◌==◌, nat_lt, Bool, true, List, [], ◌∷◌, ◌++◌, length, drop}
 use Rattle.inet_sum.specs.Stands.{FoldAndLength, StandsFor}
 use Rattle.inet_sum.specs.Sum.{fold_of}
 use Rattle.frame_layout.specs.declared.front.Front.{Front}
 use Rattle.net_bytes.specs.Bytes.{byte, be16}
 use Rattle.frame_layout.specs.declared.layout.Header.{Header}
 use Rattle.frame_layout.specs.declared.layout.Layer.{Layer}
-use Rattle.frame_layout.specs.declared.layout.Layer.TheVariants.{Ethernet, Tag, Ip4, Ip6, Udp, Vxlan, Tcp}
-use Rattle.frame_layout.specs.Shape.{Layout, shape_of}
-use Rattle.frame_layout.specs.Candidate.{IsLengthRight, AreFlagsPlain, IsSumRight, IsCandidate}
+use Rattle.frame_layout.specs.declared.layout.Layer.TheVariants.{Ip4, Ip6, Udp, Tcp}
+use Rattle.frame_layout.specs.Candidate.{IsLengthRight, AreFlagsPlain, IsSumRight}
 
 -- `f` is `head` with bytes behind it, of which `rest` is the sum
 pub record IsFrameOf (head : List ℕ) (rest : FoldAndLength) (f : List ℕ) : Type 0 where

@@ -3,7 +3,7 @@ use Rattle.std.specs.Prelude.{ℕ, ◌+◌, ◌-◌, ◌*◌, ◌%◌, ◌^◌, 
 use Rattle.std.specs.List.{fold, flat_map}
 use Rattle.std.specs.Option.{option_map}
 use Rattle.net_bytes.specs.Bytes.{part}
-use Rattle.frame_layout.specs.Shape.{Layout, shape_of}
+use Rattle.frame_layout.specs.Shape.{shape_of}
 use Rattle.frame_layout.specs.declared.layout.Header.{Header}
 use Rattle.frame_layout.specs.declared.layout.Layer.{Layer}
 use Rattle.frame_layout.specs.declared.layout.Layer.TheVariants.{Ethernet, Tag, Ip4, Ip6, Udp, Vxlan, Tcp}

@@ -1,5 +1,5 @@
 -- What merging reads in the headers of a candidate.
-use Rattle.std.specs.Prelude.{◌≡◌, ℕ, ◌+◌, ◌-◌, Bool, true, false, ◌==◌, Option, Some, None, List, [], ◌∷◌, length}
+use Rattle.std.specs.Prelude.{◌≡◌, ℕ, ◌-◌, Bool, true, false, ◌==◌, Option, Some, None, List, [], ◌∷◌, length}
 use Rattle.ip_headers.specs.Ip4.{identification, dont_fragment}
 use Rattle.tcp_headers.specs.Tcp.{sequence, flags}
 use Rattle.tcp_headers.specs.Udp.{checksum as udp_checksum}

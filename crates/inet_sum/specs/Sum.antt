@@ -1,5 +1,5 @@
 -- The Internet sum (RFC 1071, section 1), said by one division in place of the carries.
-use Rattle.std.specs.Prelude.{ℕ, zero, suc, ◌+◌, ◌-◌, ◌*◌, ◌%◌, Bool, true, false, ◌==◌, List, [], ◌∷◌}
+use Rattle.std.specs.Prelude.{ℕ, zero, suc, ◌+◌, ◌-◌, ◌*◌, ◌%◌, Bool, true, false, List, [], ◌∷◌}
 
 -- what the big-endian 16-bit words add to; an odd last byte is followed by a zero byte
 abbrev pub word_sum : List ℕ → ℕ

@@ -13,7 +13,7 @@ use Rattle.std.specs.Prelude.{IfSome, Vec}
 use Rattle.std.specs.declared.alloc.Global.{Global}
 use Rattle.off_io.proofs.Telling.{Told-weaker, Told-then}
 use Rattle.pcap_io.proofs.RecordLaws.{records_none, whole_record, cut_record, takes_again, refused_again, no_record}
-use Rattle.offload_run.specs.declared.packet.Packet.{Packet}
+use Rattle.round_merge.specs.declared.packet.Packet.{Packet}
 use Rattle.offload_run.specs.declared.packet.Stop.{Stop}
 use Rattle.offload_run.specs.declared.packet.Stop.TheVariants.{Cap, ReadFault, NoMemory}
 use Rattle.offload_run.specs.Reading.{GivesPacket, GivesFrame, IsStop, Loses}

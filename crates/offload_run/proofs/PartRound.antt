@@ -2,20 +2,22 @@
 use Rattle.std.proofs.Common.{◌≡◌, ◌+◌, ℕ, List, [], ◌∷◌, ◌++◌, length, refl, sym, ap, ◌∙◌, arith, Option, None, Some, Ok, Err, subst, map, append_assoc, append-nil, length-append}
 use Rattle.std.proofs.lemmas.List.{map-append}
 use Rattle.std.proofs.lemmas.List.Elements.{All-push}
-use Rattle.std.specs.Prelude.{All, IfSome, OnSome}
+use Rattle.std.specs.Prelude.{All, IfSome, OnSome, ◌<◌}
+use Rattle.std.specs.List.{AllByRecursion}
+use Rattle.round_merge.specs.Round.{AreRising}
 use Rattle.pcap_io.specs.declared.place.Place.{Place}
 use Rattle.pcap_io.specs.declared.heads.Link.{Link}
 use Rattle.pcap_io.specs.Capture.{Found}
 use Rattle.off_io.specs.Told.{Told}
 use Rattle.pcap_io.specs.Places.{IsReady, found_at}
 use Rattle.off_io.proofs.Telling.{Told-then, Told-same}
-use Rattle.offload_run.specs.declared.packet.Packet.{Packet as Read}
+use Rattle.round_merge.specs.declared.packet.Packet.{Packet as Read}
 use Rattle.offload_run.specs.declared.packet.Stop.{Stop}
 use Rattle.offload_run.specs.declared.packet.Stop.TheVariants.{Cap, ReadFault, NoMemory}
 use Rattle.offload_run.specs.declared.round.RoundEnd.{RoundEnd}
 use Rattle.offload_run.specs.declared.round.RoundEnd.TheVariants as ends
 use Rattle.offload_run.specs.Reading.{GivesPacket, GivesRound, GoesOn, IsEndFor, FitsLink, Loses, Passes, Holds, in_front}
-use Rattle.offload_run.specs.Output.{packet_of}
+use Rattle.round_merge.specs.Runs.{packet_of}
 
 -- these packets stand before what is still to be read
 abbrev pub Precede : Place → Place → List Read → List ℕ → List ℕ → Type 0
@@ -28,9 +30,13 @@ pub record ReadSoFar (before now : Option (List ℕ)) (old new : Place) (packets
   pub number : new.number ≡ old.number + length packets
   pub ready : IsReady new
   pub small : All (FitsLink old.link) packets
+  pub rising : AreRising packets
+  pub below : AllByRecursion (λ (p : Read). p.number < new.number) packets
 
 pub so_far_none : (a : Option (List ℕ)) (place : Place) → IsReady place → All (FitsLink place.link) [] → ReadSoFar a a place place []
 so_far_none a place ready small = record {
+  rising = tt;
+  below = tt;
   told = Told-same a (Precede place place []) (λ bytes. ([], refl, λ tail. refl));
   file = refl;
   link = refl;
@@ -38,6 +44,16 @@ so_far_none a place ready small = record {
   ready = ready;
   small = small;
 }
+
+-- one more number above the others
+rising_more : (n : ℕ) (packets : List Read) (p : Read) → AreRising packets → AllByRecursion (λ (q : Read). q.number < n) packets → p.number ≡ n → AreRising (packets ++ p ∷ [])
+rising_more n [] p r b e = tt
+rising_more n (q ∷ []) p r b e = (omega (arith, b.0, e), tt)
+rising_more n (q ∷ x ∷ packets) p r b e = (r.0, rising_more n (x ∷ packets) p r.1 b.1 e)
+
+below_more : (n m : ℕ) (packets : List Read) (p : Read) → AllByRecursion (λ (q : Read). q.number < n) packets → p.number ≡ n → m ≡ n + 1 → AllByRecursion (λ (q : Read). q.number < m) (packets ++ p ∷ [])
+below_more n m [] p b e f = (omega arith, tt)
+below_more n m (q ∷ packets) p b e f = (omega (arith, b.0), below_more n m packets p b.1 e f)
 
 -- one packet more
 pub precede_more : (old mid new : Place) (packets : List Read) (p : Read) (bytes rest left : List ℕ) → Precede old mid packets bytes rest → GivesPacket mid new (Ok (Some p)) rest left → Precede old new (packets ++ p ∷ []) bytes left
@@ -50,8 +66,10 @@ precede_more old mid new packets p bytes rest left so_far one =
     )
 
 pub so_far_more : (a b c : Option (List ℕ)) (old mid new : Place) (packets : List Read) (p : Read)
-    → ReadSoFar a b old mid packets → Told b c (GivesPacket mid new (Ok (Some p))) → GoesOn mid new → FitsLink mid.link p → All (FitsLink old.link) (packets ++ p ∷ []) → ReadSoFar a c old new (packets ++ p ∷ [])
-so_far_more a b c old mid new packets p so_far told goes small all = record {
+    → ReadSoFar a b old mid packets → Told b c (GivesPacket mid new (Ok (Some p))) → GoesOn mid new → FitsLink mid.link p → p.number ≡ mid.number → All (FitsLink old.link) (packets ++ p ∷ []) → ReadSoFar a c old new (packets ++ p ∷ [])
+so_far_more a b c old mid new packets p so_far told goes small numbered all = record {
+  rising = rising_more mid.number packets p so_far.rising so_far.below numbered;
+  below = below_more mid.number new.number packets p so_far.below numbered goes.number;
   told = Told-then a b c (Precede old mid packets) (GivesPacket mid new (Ok (Some p))) (Precede old new (packets ++ p ∷ []))
       (λ bytes rest left before one. precede_more old mid new packets p bytes rest left before one) so_far.told told;
   file = goes.file ∙ so_far.file;
@@ -96,13 +114,13 @@ round_stop_given a b c old mid new packets stop end is first then =
 
 -- a packet that was found, in the words of one that was read
 pub so_far_found : (a b c : Option (List ℕ)) (old mid new : Place) (packets : List Read) (found : Option Read) (p : Read)
-    → found ≡ Some p → ReadSoFar a b old mid packets → Told b c (GivesPacket mid new (Ok found)) → OnSome found (GoesOn mid new) → IfSome found (FitsLink mid.link) → ReadSoFar a c old new (packets ++ p ∷ [])
-so_far_found a b c old mid new packets found p some so_far told goes small =
+    → found ≡ Some p → ReadSoFar a b old mid packets → Told b c (GivesPacket mid new (Ok found)) → OnSome found (GoesOn mid new) → IfSome found (FitsLink mid.link) → IfSome found (λ (q : Read). q.number ≡ mid.number) → ReadSoFar a c old new (packets ++ p ∷ [])
+so_far_found a b c old mid new packets found p some so_far told goes small numbered =
     let told_p : Told b c (GivesPacket mid new (Ok (Some p))) = subst (λ (f : Option Read). Told b c (GivesPacket mid new (Ok f))) some told in
     let goes_p : GoesOn mid new = subst (λ (f : Option Read). OnSome f (GoesOn mid new)) some goes in
     let small_p : FitsLink mid.link p = subst (λ (f : Option Read). IfSome f (FitsLink mid.link)) some small in
     let small_old : FitsLink old.link p = subst (λ (k : Link). FitsLink k p) so_far.link small_p in
-    so_far_more a b c old mid new packets p so_far told_p goes_p small_p (All-push (FitsLink old.link) packets p so_far.small small_old)
+    so_far_more a b c old mid new packets p so_far told_p goes_p small_p (subst (λ (f : Option Read). IfSome f (λ (q : Read). q.number ≡ mid.number)) some numbered) (All-push (FitsLink old.link) packets p so_far.small small_old)
 
 -- whatever is read next, some bytes are gone from the front
 pub loses_more : (a b c : Option (List ℕ)) (old mid : Place) (packets : List Read) → Told a b (Precede old mid packets) → Told b c Loses → Told a c Loses

@@ -1,5 +1,4 @@
 pub mod Output
-pub mod Rounds
 pub mod Reading
 pub mod Merging
 pub mod Codes

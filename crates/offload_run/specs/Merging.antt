@@ -11,7 +11,7 @@ use Rattle.offload_words.specs.declared.words.Command.{Command}
 use Rattle.offload_words.specs.declared.words.Command.TheVariants.{Merge}
 use Rattle.offload_run.specs.declared.status.Status.{Status}
 use Rattle.offload_run.specs.declared.status.Status.TheVariants as statuses
-use Rattle.offload_run.specs.Output.{rounds_bytes, merged}
+use Rattle.offload_run.specs.Output.{rounds_bytes, merged, WritesMerged}
 
 -- what is written of the records that these bytes hold from a place on
 abbrev pub output_at : ℕ → Place → List ℕ → List ℕ
@@ -45,12 +45,12 @@ HasFileHead given = first_that_holds (file_refusals Ethernet (take 24 given)) �
 -- What each answer of `merge` says of the bytes that were given: as above, and when the sink is flushed.
 abbrev pub MergeAnswers : ℕ → Option (List ℕ) → Option (List ℕ) → Bool → Type 0 → Status → List ℕ → List ℕ → Type 0
 MergeAnswers budget old new is_flushed untouched statuses.Ok given left =
-    ((reads Ethernet given).fault ≡ None) × (left ≡ []) × Appends old new (merged budget given) × SaysFlushed new is_flushed true
+    ((reads Ethernet given).fault ≡ None) × (left ≡ []) × WritesMerged budget old new given × SaysFlushed new is_flushed true
 MergeAnswers budget old new is_flushed untouched (statuses.Malformed fault) given left =
-    ((reads Ethernet given).fault ≡ Some fault) × Appends old new (merged budget given) × FlushedBehind (HasFileHead given) (SaysFlushed new is_flushed true) untouched
+    ((reads Ethernet given).fault ≡ Some fault) × WritesMerged budget old new given × FlushedBehind (HasFileHead given) (SaysFlushed new is_flushed true) untouched
 MergeAnswers budget old new is_flushed untouched statuses.Usage given left = ⊥
 MergeAnswers budget old new is_flushed untouched statuses.ReadFault given left =
-    (gone : List ℕ) × (given ≡ gone ++ left) × Appends old new (merged budget gone) × FlushedBehind (24 ≤ length gone) (SaysFlushed new is_flushed true) untouched
+    (gone : List ℕ) × (given ≡ gone ++ left) × WritesMerged budget old new gone × FlushedBehind (24 ≤ length gone) (SaysFlushed new is_flushed true) untouched
 MergeAnswers budget old new is_flushed untouched statuses.WriteFault given left = (gone : List ℕ) × (given ≡ gone ++ left) × AppendsFront old new (merged budget gone)
 MergeAnswers budget old new is_flushed untouched statuses.NoMemory given left = (gone : List ℕ) × (given ≡ gone ++ left) × AppendsFront old new (merged budget gone)
 

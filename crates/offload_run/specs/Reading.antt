@@ -9,12 +9,12 @@ use Rattle.pcap_io.specs.Capture.{Packet, Found, ended, one_more}
 use Rattle.pcap_io.specs.Headers.{captured_limit, is_bad_original}
 use Rattle.pcap_io.specs.Places.{found_at, IsReady, short_record}
 use Rattle.pcap_io.specs.Reading.{FewerGone}
-use Rattle.offload_run.specs.declared.packet.Packet.{Packet as Read}
+use Rattle.round_merge.specs.declared.packet.Packet.{Packet as Read}
 use Rattle.offload_run.specs.declared.packet.Stop.{Stop}
 use Rattle.offload_run.specs.declared.packet.Stop.TheVariants.{Cap, ReadFault, NoMemory}
 use Rattle.offload_run.specs.declared.round.RoundEnd.{RoundEnd}
 use Rattle.offload_run.specs.declared.round.RoundEnd.TheVariants as ends
-use Rattle.offload_run.specs.Output.{packet_of}
+use Rattle.round_merge.specs.Runs.{packet_of}
 
 -- the body of a record; where memory ran out, no byte of it was taken
 abbrev pub GivesFrame : Place → Result (Vec ℕ Global) Stop → List ℕ → List ℕ → Type 0

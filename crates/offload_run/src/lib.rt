@@ -1,13 +1,14 @@
 //! The program over any source and any sink: words, a capture in, a capture out.
 //!
 //! [`run`] reads a capture of Ethernet frames (the classic pcap layout) in rounds of as many records as `--budget` says and
-//! writes a capture of link type 147: each record behind an offload header of 12 bytes. As yet every record is written
-//! alone, as a single. The log gets one line on each status but a good one.
+//! writes a capture of link type 147: what the maximal mergeable runs of each flow come to, each behind an offload header of
+//! 12 bytes. The log gets one line on each status but a good one.
 //!
 //! Proved, at every source, sink and log (clauses of [`run`]): which words are no command, and that nothing is then read or
 //! written (`usage`, `no_command`, `untouched`); what is read and written for each answer, and when the sink is flushed
 //! (`given`); that a fault is answered only where the outside failed (`read`, `write`); what the log gets (`log`, `quiet`).
-//! The definitions stand in `specs/`: `merged` is the output of a capture.
+//! The definitions stand in `specs/`: `merged` is the output of a capture, and where it was written, the segments of its
+//! records bring every flow back (`FlowsComeBack`).
 //!
 //! ```text
 //! let status = run(rt.alloc(), &words, &mut source, &mut sink, &mut log, &NoGate);
@@ -30,6 +31,7 @@ pub use logging::write_log;
 pub use merge::merge_all;
 pub use offload_words::{Command, MergeOptions, WordsFault, parse_words};
 pub use output::write_round;
-pub use packet::{NoMemory, Packet, Stop, read_packet};
+pub use packet::{NoMemory, Stop, read_packet};
 pub use round::{Round, RoundEnd, read_round};
+pub use round_merge::{Item, Packet};
 pub use status::Status;

@@ -15,6 +15,7 @@ use crate::{Status, write_round};
 use off_io::{Failed, Sink, Source, WriteFault};
 use offload_words::MergeOptions;
 use pcap_io::{CaptureReader, FileHead, InFault, Link, take_file, write_file_head};
+use round_merge::merge_round;
 use std::alloc::Global;
 
 // The answer after the last write: the sink is flushed first.
@@ -59,7 +60,11 @@ pub fn merge_all<S: Source, K: Sink>(
             Ok(round) => round,
             Err(NoMemory) => return Status::NoMemory,
         };
-        match write_round(sink, &file, &round.packets) {
+        let items = match merge_round(alloc, round.packets) {
+            Ok(items) => items,
+            Err(_) => return Status::NoMemory,
+        };
+        match write_round(sink, &file, &items) {
             Ok(()) => {}
             Err(WriteFault) => return Status::WriteFault,
         }

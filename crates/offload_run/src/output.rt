@@ -1,56 +1,88 @@
 //! Writes what comes of a round.
-ghost use Rattle.std.specs.Prelude.{◌≡◌, ◌+◌, OnOk, OnErr, map, All};
+ghost use Rattle.std.specs.Prelude.{◌≡◌, ◌==◌, ◌+◌, ◌≤◌, if◌then◌else◌, OnOk, OnErr, length, drop, All};
+ghost use Rattle.std.specs.List.{flat_map};
 ghost use Rattle.std.specs.Io.KnownBytes.{Appends};
 ghost use Rattle.off_io.specs.Faults.{HasCause};
 ghost use Rattle.off_io.specs.Content.{AppendsFront};
-ghost use Rattle.pcap_io.specs.declared.heads.Link.TheVariants.{Ethernet};
-ghost use Rattle.offload_run.specs.Reading.{FitsLink};
-ghost use Rattle.offload_run.specs.Output.{packet_of, single_bytes, round_bytes};
+ghost use Rattle.offload_model.specs.Written.{head_of as head_of_merged};
+ghost use Rattle.round_merge.specs.Round.{item_of, frame_of, IsWritable};
+ghost use Rattle.offload_run.specs.Output.{item_bytes};
 
-use crate::Packet;
 use off_io::{Sink, WriteFault, write_all};
 use pcap_io::{FileHead, OffHead, write_rec_head};
+use round_merge::{Item, Packet};
 
 const OFF_HEAD_LEN: u32 = 12;
 
-// Writes a packet as a record of its own.
-fn write_single<K: Sink>(sink: &mut K, file: &FileHead, packet: &Packet) -> Result<(), WriteFault>
-    requires { FitsLink Ethernet packet.now }
-    ensures ok { OnOk result (Appends (K.held sink.old) (K.held sink.new) (single_bytes file.now.order (packet_of packet.now))) }
-    ensures err { OnErr result (AppendsFront (K.held sink.old) (K.held sink.new) (single_bytes file.now.order (packet_of packet.now))) }
-    ensures cause { HasCause (K.faults sink.old) (K.faults sink.new) result }
-{
-    let head = OffHead {
-        version: 1,
-        kind: 0,
-        n: 1,
-        m: 0,
-        modes: 0,
-        lane: 0,
-        number: packet.number,
-    };
-    let captured = OFF_HEAD_LEN + packet.frame.len() as u32;
-    let original = OFF_HEAD_LEN + packet.original;
-    write_rec_head(sink, file, packet.sec, packet.frac, captured, original)?;
-    write_all(sink, &head.bytes())?;
-    write_all(sink, &packet.frame)
-}
-
-/// Writes what comes of a round's packets: as yet each of them as a single.
-///
-/// `WriteFault` only where the sink's count of faults rose; a front of the round's output was then written.
-pub fn write_round<K: Sink>(
+// Writes the payloads of packets, one behind the other.
+fn write_payloads<K: Sink>(
     sink: &mut K,
-    file: &FileHead,
     packets: &[Packet],
+    payload_at: usize,
 ) -> Result<(), WriteFault>
-    requires fit { All (FitsLink Ethernet) packets.now }
-    ensures ok { OnOk result (Appends (K.held sink.old) (K.held sink.new) (round_bytes file.now.order (map packet_of packets.now))) }
-    ensures err { OnErr result (AppendsFront (K.held sink.old) (K.held sink.new) (round_bytes file.now.order (map packet_of packets.now))) }
+    requires inside { All (λ packet. payload_at ≤ length packet.frame.items) packets.now }
+    ensures ok { OnOk result (Appends (K.held sink.old) (K.held sink.new) (flat_map (λ packet. drop payload_at packet.frame.items) packets.now)) }
+    ensures err { OnErr result (AppendsFront (K.held sink.old) (K.held sink.new) (flat_map (λ packet. drop payload_at packet.frame.items) packets.now)) }
     ensures cause { HasCause (K.faults sink.old) (K.faults sink.new) result }
 {
     for packet in packets {
-        write_single(sink, file, packet)?;
+        write_all(sink, &packet.frame[payload_at..])?;
+    }
+    Ok(())
+}
+
+// Writes the frame of an item.
+fn write_frame<K: Sink>(sink: &mut K, item: &Item) -> Result<(), WriteFault>
+    requires writable { IsWritable item.now }
+    ensures ok { OnOk result (Appends (K.held sink.old) (K.held sink.new) (frame_of item.now)) }
+    ensures err { OnErr result (AppendsFront (K.held sink.old) (K.held sink.new) (frame_of item.now)) }
+    ensures cause { HasCause (K.faults sink.old) (K.faults sink.new) result }
+{
+    write_all(sink, &item.frame)?;
+    write_payloads(sink, &item.rest, item.payload_at)
+}
+
+// The offload header of an item.
+fn head_of(item: &Item) -> OffHead
+    ensures head { result ≡ head_of_merged 0 (item_of item.now) }
+{
+    OffHead {
+        version: 1,
+        kind: if item.n == 1 { 0 } else { 1 },
+        n: item.n,
+        m: item.m,
+        modes: item.modes,
+        lane: 0,
+        number: item.number,
+    }
+}
+
+// Writes an item as a record.
+fn write_item<K: Sink>(sink: &mut K, file: &FileHead, item: &Item) -> Result<(), WriteFault>
+    requires writable { IsWritable item.now }
+    ensures ok { OnOk result (Appends (K.held sink.old) (K.held sink.new) (item_bytes file.now.order (item_of item.now))) }
+    ensures err { OnErr result (AppendsFront (K.held sink.old) (K.held sink.new) (item_bytes file.now.order (item_of item.now))) }
+    ensures cause { HasCause (K.faults sink.old) (K.faults sink.new) result }
+{
+    let head = head_of(item);
+    let captured = OFF_HEAD_LEN + item.len;
+    let original = OFF_HEAD_LEN + item.original;
+    write_rec_head(sink, file, item.sec, item.frac, captured, original)?;
+    write_all(sink, &head.bytes())?;
+    write_frame(sink, item)
+}
+
+/// Writes the items of a round, each as a record.
+///
+/// `WriteFault` only where the sink's count of faults rose; a front of the round's output was then written.
+pub fn write_round<K: Sink>(sink: &mut K, file: &FileHead, items: &[Item]) -> Result<(), WriteFault>
+    requires writable { All IsWritable items.now }
+    ensures ok { OnOk result (Appends (K.held sink.old) (K.held sink.new) (flat_map (λ item. item_bytes file.now.order (item_of item)) items.now)) }
+    ensures err { OnErr result (AppendsFront (K.held sink.old) (K.held sink.new) (flat_map (λ item. item_bytes file.now.order (item_of item)) items.now)) }
+    ensures cause { HasCause (K.faults sink.old) (K.faults sink.new) result }
+{
+    for item in items {
+        write_item(sink, file, item)?;
     }
     Ok(())
 }

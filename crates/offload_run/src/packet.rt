@@ -8,17 +8,8 @@ ghost use Rattle.offload_run.specs.Reading.{GivesPacket, GivesFrame, GoesOn, Fit
 
 use off_io::Source;
 use pcap_io::{CapFault, CaptureReader, InFault};
+use round_merge::Packet;
 use std::alloc::Global;
-
-/// A record that was read.
-#[derive(Drop)]
-pub struct Packet {
-    pub number: u32,
-    pub sec: u32,
-    pub frac: u32,
-    pub original: u32,
-    pub frame: Vec<u8>,
-}
 
 /// Why no packet was read.
 #[derive(Clone, Copy, Debug, PartialEq, Eq)]
@@ -74,6 +65,7 @@ pub fn read_packet<S: Source>(
     ensures given { Told (S.left (source_of reader.old)) (S.left (source_of reader.new)) (GivesPacket (place_of reader.old) (place_of reader.new) result) }
     ensures next { IfOk result (λ found. OnSome found (GoesOn (place_of reader.old) (place_of reader.new))) }
     ensures fits { IfOk result (λ found. IfSome found (FitsLink (place_of reader.old).link)) }
+    ensures numbered { IfOk result (λ found. IfSome found (λ packet. packet.number ≡ (place_of reader.old).number)) }
     ensures later { S.faults (source_of reader.old) ≤ S.faults (source_of reader.new) }
     ensures failed { result ≡ Err Stop.ReadFault → Rose (S.faults (source_of reader.old)) (S.faults (source_of reader.new)) }
 {

@@ -4,11 +4,13 @@ ghost use Rattle.off_io.specs.Faults.{Rose};
 ghost use Rattle.off_io.specs.Told.{Told};
 ghost use Rattle.pcap_io.specs.Places.{IsReady};
 ghost use Rattle.pcap_io.specs.Readers.{place_of, source_of, SameLoan};
+ghost use Rattle.round_merge.specs.Round.{AreRising};
 ghost use Rattle.offload_run.specs.Reading.{GivesRound, FitsLink, IsEndFor, Loses, PassesRound};
 
-use crate::packet::{NoMemory, Packet, Stop, read_packet};
+use crate::packet::{NoMemory, Stop, read_packet};
 use off_io::Source;
 use pcap_io::{CapFault, CaptureReader};
+use round_merge::Packet;
 use std::alloc::Global;
 
 /// Why a round has no more packets.
@@ -59,6 +61,7 @@ pub fn read_round<S: Source>(
     ensures size { IfOk result (λ round. length round.packets.items ≤ budget) }
     ensures full { IfOk result (λ round. round.end ≡ RoundEnd.Full → PassesRound (place_of reader.old) (place_of reader.new) round.packets.items budget) }
     ensures fit { IfOk result (λ round. All (FitsLink (place_of reader.old).link) round.packets.items) }
+    ensures rising { IfOk result (λ round. AreRising round.packets.items) }
     ensures later { S.faults (source_of reader.old) ≤ S.faults (source_of reader.new) }
     ensures failed { IfOk result (λ round. round.end ≡ RoundEnd.ReadFault → Rose (S.faults (source_of reader.old)) (S.faults (source_of reader.new))) }
 {

@@ -1,6 +1,8 @@
-//! `offload merge` over the sample captures of `data/`: a line for each, with its status and its records in and out.
+//! `offload merge` over the sample captures of `data/`: a line for each, with its status, its records in and out, how many of
+//! these are of merged packets, and a hash of all bytes written.
 //!
-//! It is run by the gate, which compares the lines with `stdout`; another program counted the records there.
+//! It is run by the gate, which compares the lines with `stdout`. These come from `contrib/merge_by_definition`, a slow
+//! program that was written from the definitions alone and judges all members of a run at once.
 #![tactic(auto)]
 
 use anyhow::Error;
@@ -17,8 +19,15 @@ const SAMPLES: [&str; 4] = [
     "tcp_vxlan.pcap",
 ];
 
-// The records of a capture that ends well.
-fn records(alloc: Global, bytes: Vec<u8>, link: Link) -> Option<usize> {
+// How many records a capture has, and in how many of them packets were merged.
+#[derive(Clone, Copy)]
+struct Counts {
+    records: usize,
+    merged: usize,
+}
+
+// The counts of a capture that ends well.
+fn count_records(alloc: Global, bytes: Vec<u8>, link: Link) -> Option<Counts> {
     let mut feed = Feed {
         inner: SureSource::new(bytes),
     };
@@ -28,11 +37,27 @@ fn records(alloc: Global, bytes: Vec<u8>, link: Link) -> Option<usize> {
     };
     match read_round(alloc, &mut reader, usize::MAX) {
         Ok(round) => match round.end {
-            RoundEnd::End => Some(round.packets.len()),
+            RoundEnd::End => Some(Counts {
+                records: round.packets.len(),
+                merged: round
+                    .packets
+                    .iter()
+                    .filter(|packet| packet.frame.get(1) == Some(&1))
+                    .count(),
+            }),
             _ => None,
         },
         Err(_) => None,
     }
+}
+
+// A hash of all bytes in turn, by which the whole output is compared.
+fn hash(bytes: &[u8]) -> u32 {
+    let mut hash = 0u32;
+    for byte in bytes {
+        hash = hash.wrapping_mul(31).wrapping_add(u32::from(*byte));
+    }
+    hash
 }
 
 fn main(rt: HostRuntime) -> Result<(), Error> {
@@ -48,9 +73,17 @@ fn main(rt: HostRuntime) -> Result<(), Error> {
         let status = run(alloc, &words, &mut source, &mut sink, &mut log, &NoGate);
         let written = sink.bytes().to_vec(alloc)?;
         let code = status.code();
-        let read = records(alloc, bytes, Link::Ethernet).unwrap_or(0);
-        let wrote = records(alloc, written, Link::Offload).unwrap_or(0);
-        println!(rt; "{name}: status {code}, records in {read}, out {wrote}")?;
+        let hash = hash(&written);
+        let none = Counts {
+            records: 0,
+            merged: 0,
+        };
+        let read = count_records(alloc, bytes, Link::Ethernet).unwrap_or(none);
+        let wrote = count_records(alloc, written, Link::Offload).unwrap_or(none);
+        println!(rt;
+            "{name}: status {code}, records in {}, out {}, merged {}, hash {hash}",
+            read.records, wrote.records, wrote.merged
+        )?;
     }
     Ok(())
 }

@@ -16,3 +16,11 @@ IsReleased part (Left receipt) = (receipt.weight ≡ part.weight) × (receipt.we
 abbrev pub IsClaimed : PartState → Claimed → Type 0
 IsClaimed part (Sole sole) = (sole.bytes ≡ part.bytes) × (sole.mark ≡ part.mark)
 IsClaimed part (Shared same sight) = (same ≡ part) × (sight.life ≡ part.life) × (part.weight < sight.total) × (sight.total ≤ full_weight)
+
+abbrev pub IsLast : Released → Type 0
+IsLast (Last _) = Unit {0}
+IsLast (Left _) = ⊥
+
+abbrev pub IsSole : Claimed → Type 0
+IsSole (Sole _) = Unit {0}
+IsSole (Shared _ _) = ⊥

@@ -10,8 +10,8 @@
 //! (`Part::bytes`), and only a Sole lends them for writing (`Sole::bytes_mut`, `range_mut`). Receipts of one life weigh
 //! less than `FULL` together (`Receipt::add`), so some release was the last, and the proof of `release` has no second one
 //! (`IsReleased`). A failed claim tells what the word was, above the part's weight (`IsClaimed`), so a part of weight
-//! `FULL` is never refused, nor is a reunion. Holders of one life agree on its bytes and its mark (`agree` of `join`,
-//! `add`, `reunite`). The rule of weights is that of `ref_core`, and `specs/Shares.antt` says who owns what.
+//! `FULL` is never refused (`whole`), nor is a reunion. Holders of one life agree on its bytes and its mark (`agree` of
+//! `join`, `add`, `reunite`). The rule of weights is that of `ref_core`, and `specs/Shares.antt` says who owns what.
 //!
 //! ```
 //! let mut sole = Sole::new(alloc)?;

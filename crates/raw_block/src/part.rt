@@ -1,7 +1,7 @@
 //! A weighed part of a block that several hold.
 ghost use Rattle.std.specs.Prelude.{◌≡◌, ◌+◌, ◌<◌, ◌≤◌, ◌-◌, length};
 ghost use Rattle.ref_core.specs.WeightRule.{full_weight};
-ghost use Rattle.raw_block.specs.Answers.{IsReleased, IsClaimed};
+ghost use Rattle.raw_block.specs.Answers.{IsReleased, IsLast, IsClaimed, IsSole};
 
 use crate::block::Bytes;
 use crate::receipt::{Receipt, Sight};
@@ -62,7 +62,7 @@ impl Part {
     }
 
     pub fn mark(&self) -> u32
-        ensures { result ≡ self.now.mark }
+        ensures value { result ≡ self.now.mark }
     {
         self.mark
     }
@@ -101,9 +101,11 @@ impl Part {
     }
 
     /// Ends this part, by one fetch-sub of its weight. The number that the step answers decides: `Last` exactly where
-    /// the word held this part's weight, since the block has no other holder then, and else `Left`.
+    /// the word held this part's weight, since the block has no other holder then, and else `Left`. A part that weighs all of
+    /// its life is the last.
     pub fn release(self) -> Released
-        ensures { IsReleased self result }
+        ensures answer { IsReleased self result }
+        ensures whole { (self.weight ≡ full_weight) → IsLast result }
     {
         let Part {
             share,
@@ -128,9 +130,11 @@ impl Part {
     }
 
     /// Asks for the block back, by one compare-exchange of the part's weight for 0. The number that the step answers
-    /// decides: `Sole` exactly where the word held this part's weight, and else `Shared`, with what it held.
+    /// decides: `Sole` exactly where the word held this part's weight, and else `Shared`, with what it held. A part that
+    /// weighs all of its life is never refused.
     pub fn claim(self) -> Claimed
-        ensures { IsClaimed self result }
+        ensures answer { IsClaimed self result }
+        ensures whole { (self.weight ≡ full_weight) → IsSole result }
     {
         let Part {
             share,

@@ -33,7 +33,7 @@ impl Receipt {
     }
 
     pub fn mark(&self) -> u32
-        ensures { result ≡ self.now.mark }
+        ensures value { result ≡ self.now.mark }
     {
         self.mark
     }
@@ -86,7 +86,7 @@ impl Model for Sight {
 impl Sight {
     /// What all holders of the life weighed together at that step.
     pub fn total(&self) -> u64
-        ensures { result ≡ self.now.total }
+        ensures value { result ≡ self.now.total }
     {
         self.total
     }

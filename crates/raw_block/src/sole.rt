@@ -40,7 +40,7 @@ fn range_of(block: &mut Block<Bytes>, from: usize, to: usize) -> &mut [u8]
 impl Sole {
     /// A block of zeros, with the mark 0.
     pub fn new(alloc: Global) -> Result<Sole, AllocError>
-        ensures { IfOk result (λ sole. (sole.bytes ≡ replicate 2048 0) × (sole.mark ≡ 0)) }
+        ensures zeros { IfOk result (λ sole. (sole.bytes ≡ replicate 2048 0) × (sole.mark ≡ 0)) }
     {
         let bytes = Bytes {
             bytes: [0; BLOCK_SIZE],
@@ -89,20 +89,21 @@ impl Sole {
 
     /// Sets the mark, a number that the block's holders carry.
     pub fn set_mark(&mut self, mark: u32)
-        ensures { (self.new.mark ≡ mark) × (self.new.bytes ≡ self.old.bytes) }
+        ensures set { self.new ≡ record self.old { mark = mark } }
     {
         self.mark = mark;
     }
 
     pub fn mark(&self) -> u32
-        ensures { result ≡ self.now.mark }
+        ensures value { result ≡ self.now.mark }
     {
         self.mark
     }
 
     /// A life of the block begins: one part with all the weight, the same bytes and the same mark.
     pub fn share(self) -> Part
-        ensures { (result.weight ≡ full_weight) × (result.bytes ≡ self.bytes) × (result.mark ≡ self.mark) }
+        ensures whole { result.weight ≡ full_weight }
+        ensures same { (result.bytes ≡ self.bytes) × (result.mark ≡ self.mark) }
     {
         let Sole {
             mut block,

@@ -1,9 +1,9 @@
 -- All packets of a round, one after the other.
-use Rattle.std.proofs.Common.{◌≡◌, ℕ, ◌<◌, true, Option, Some, None, List, [], ◌∷◌, ◌++◌, map, refl, sym, ap, ◌∙◌, subst, arith, append_assoc}
+use Rattle.std.proofs.Common.{length, get_or, ◌≡◌, ℕ, ◌<◌, true, Option, Some, None, List, [], ◌∷◌, ◌++◌, map, refl, sym, ap, ◌∙◌, subst, arith, append_assoc, inl, inr, length-append}
 use Rattle.std.specs.Prelude.{◌==◌}
 use Rattle.std.specs.List.{AllByRecursion, filter}
-use Rattle.std.proofs.lemmas.Bool.{eq-eqb}
-use Rattle.std.proofs.lemmas.List.{map-append}
+use Rattle.std.proofs.lemmas.Bool.{eq-eqb, cases_eq}
+use Rattle.std.proofs.lemmas.List.{map-append, get_or_append_left, get_or_push}
 use Rattle.run_cuts.specs.Cut.{AllNeighbours}
 use Rattle.run_cuts.specs.Items.{first_number, AreItems}
 use Rattle.run_cuts.proofs.Items.{unique_items}
@@ -17,6 +17,7 @@ use Rattle.offload_model.proofs.Items.{items_are, is_key_self}
 use Rattle.round_merge.specs.declared.packet.Packet.{Packet as Held}
 use Rattle.round_merge.specs.Runs.{packet_of}
 use Rattle.round_merge.specs.Round.{AreRising, runs_in, OneQueueHasAll}
+use Rattle.round_merge.proofs.OneQueue.{all_queued, one_queue}
 use Rattle.round_merge.specs.Table.{TakesPacket, KeepsEarly}
 
 -- the packets before one have smaller numbers
@@ -51,17 +52,6 @@ rising_map [] r = tt
 rising_map (x ∷ []) r = tt
 rising_map (x ∷ y ∷ xs) r = (r.0, rising_map (y ∷ xs) r.1)
 
-queued : (key : Option (List ℕ)) → (queue_of key 1 == 0) ≡ true
-queued None = refl
-queued (Some key) = eq-eqb _ _ (omega arith)
-
-all_queued : (ps : List Packet) → filter (is_queued 1 0) ps ≡ ps
-all_queued [] = refl
-all_queued (p ∷ ps) = rw (queued (key_of p.frame)) (ap (λ z. p ∷ z) (all_queued ps))
-
-pub one_queue : OneQueueHasAll
-one_queue ps = ap runs_in (all_queued ps)
-
 pub all_runs : (xs : List Held) (runs : List (List Packet)) → AreRising xs → AreItems IsMergeable is_of number_of (map packet_of xs) runs → runs ≡ runs_in (map packet_of xs)
 all_runs xs runs r items =
     let ps : List Packet = map packet_of xs in
@@ -71,3 +61,13 @@ all_runs xs runs r items =
 
 pub none : AreItems IsMergeable is_of number_of [] []
 none = record { full = tt; flows = λ k. record { filled = tt; joined = refl; each = tt; maximal = tt }; ordered = tt }
+
+pub all_push : {X : Type 0} (P : X → Type 0) (xs : List X) (x : X) → ((k : ℕ) (d : X) → k < length xs → P (get_or xs k d)) → P x
+    → (k : ℕ) (d : X) → k < length (xs ++ (x ∷ [])) → P (get_or (xs ++ (x ∷ [])) k d)
+all_push P xs x a p k d h = elim (cases_eq k (length xs)) [
+  | inl same ↦ rw same (subst P (sym (get_or_push xs x d (length xs) refl)) p)
+  | inr other ↦ let m : k < length xs = omega (arith, length-append xs (x ∷ [])) in subst P (sym (get_or_append_left xs (x ∷ []) d k m)) (a k d m)
+]
+
+pub mapped_more : {X Y Z : Type 0} (f : X → Z) (g : Y → Z) (xs : List X) (ys : List Y) (x : X) (y : Y) → map f xs ≡ map g ys → f x ≡ g y → map f (xs ++ (x ∷ [])) ≡ map g (ys ++ (y ∷ []))
+mapped_more f g xs ys x y e s = map-append f xs (x ∷ []) ∙ ap (λ z. z ++ (f x ∷ [])) e ∙ ap (λ z. map g ys ++ (z ∷ [])) s ∙ sym (map-append g ys (y ∷ []))

@@ -6,3 +6,4 @@ mod Steps
 mod Index
 mod Gather
 mod Merge
+pub mod OneQueue

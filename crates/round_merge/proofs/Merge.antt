@@ -1,5 +1,5 @@
 -- What a run of several packets comes to.
-use Rattle.std.proofs.Common.{◌≡◌, ℕ, suc, ◌+◌, ◌-◌, ◌<◌, ◌≤◌, List, [], ◌∷◌, ◌++◌, length, get_or, map, drop, refl, sym, ap, ◌∙◌, subst, arith, length-append}
+use Rattle.std.proofs.Common.{zero, suc, ◌≡◌, ℕ, suc, ◌+◌, ◌-◌, ◌<◌, ◌≤◌, List, [], ◌∷◌, ◌++◌, length, get_or, map, drop, refl, sym, ap, ◌∙◌, subst, arith, length-append}
 use Rattle.std.specs.List.{flat_map}
 use Rattle.std.specs.Option.{unwrap_or}
 use Rattle.std.proofs.lemmas.List.{length-drop}
@@ -67,6 +67,22 @@ module _ (p : Packet) (ps : List Packet) (layout : Layout) (sum : FoldAndLength)
   few =
       omega (arith, sums.1, r.progress.long, count layout.payload_at layout (p ∷ ps) refl (λ i d h. (r.progress.line.candidates.at i d h).payload))
 
+  pub rest_inside : (i : ℕ) (d : Packet) → i < length ps → layout.payload_at ≤ length (get_or ps i d).frame
+  rest_inside i d h = (laid (get_or ps i d).frame layout (r.progress.line.shapes.at (suc i) d (omega arith))).1
+
+  pub whole_long : (edited more : List ℕ) → more ≡ payloads_of layout ps → length edited ≡ length p.frame → state.total ≡ length (edited ++ more)
+  whole_long edited more emore long =
+      omega (
+        arith,
+        ap length emore,
+        length-append edited more,
+        long,
+        r.progress.long,
+        length-append (drop layout.payload_at p.frame) (payloads_of layout ps),
+        length-drop layout.payload_at p.frame,
+        within,
+      )
+
   -- `edited` is the first frame with its headers edited
   pub comes_to : (edited more : List ℕ) (at original n m modes : ℕ) (hs : List Header) → 1 ≤ length ps → at ≡ layout.payload_at → hs ≡ layout.headers
       → more ≡ payloads_of layout ps → length edited ≡ length p.frame
@@ -111,3 +127,9 @@ module _ (p : Packet) (ps : List Packet) (layout : Layout) (sum : FoldAndLength)
       known (q ∷ qs) h =
           let is : layout ≡ layout_of p.frame = sym (ap (λ z. unwrap_or z (record { headers = []; payload_at = 0 })) r.shape) in
           ap (λ (l : Layout). made p.number p.sec p.frac (length (frame_of_run l (p ∷ q ∷ qs))) (length (p ∷ q ∷ qs)) (length p.frame - l.payload_at) (modes_of (is_fixed_in (p ∷ q ∷ qs)) l.headers) (frame_of_run l (p ∷ q ∷ qs))) is
+
+pub held_inside : (rest : List Held) (at n : ℕ) → at ≡ n → ((i : ℕ) (d : Packet) → i < length (map packet_of rest) → n ≤ length (get_or (map packet_of rest) i d).frame)
+    → (i : ℕ) (d : Held) → i < length rest → at ≤ length (get_or rest i d).frame.items
+held_inside [] at n e f i d h = absurd (omega arith)
+held_inside (p ∷ ps) at n e f zero d h = omega (arith, e, f 0 (packet_of p) (omega arith))
+held_inside (p ∷ ps) at n e f (suc i) d h = held_inside ps at n e (λ j b l. f (suc j) b (omega arith)) i d (omega arith)

@@ -1,5 +1,5 @@
 -- The runs of a round.
-use Rattle.std.specs.Prelude.{◌≡◌, ℕ, ◌<◌, List, ◌++◌, drop}
+use Rattle.std.specs.Prelude.{◌≡◌, ◌^◌, ◌<◌, ◌≤◌, List, ◌++◌, length, drop, All, ℕ}
 use Rattle.std.specs.List.{flat_map}
 use Rattle.run_cuts.specs.Cut.{AllNeighbours}
 use Rattle.run_cuts.specs.Items.{items_of as all_runs}
@@ -34,3 +34,10 @@ item_of item = record {
   m = item.m;
   modes = item.modes;
 }
+
+-- what who writes an item has to know: how long its frame is, and that the other packets' payloads are there
+pub record IsWritable (item : Item) : Type 0 where
+  pub len : item.len ≡ length (frame_of item)
+  pub short : item.len ≤ 262144
+  pub original : item.original < 2 ^ 31
+  pub inside : All (λ p. item.payload_at ≤ length p.frame.items) item.rest.items

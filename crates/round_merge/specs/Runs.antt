@@ -1,5 +1,5 @@
 -- What merging knows of a run of packets.
-use Rattle.std.specs.Prelude.{◌≡◌, ◌==◌, ◌&&◌, ◌⊎◌, ℕ, ◌+◌, ◌-◌, ◌<◌, ◌≤◌, Bool, true, false, Option, Some, None, List, ◌∷◌, length, map, drop, slice_index_or}
+use Rattle.std.specs.Prelude.{◌≡◌, ◌==◌, ◌&&◌, ◌⊎◌, ℕ, ◌+◌, ◌-◌, ◌^◌, ◌<◌, ◌≤◌, Bool, true, false, Option, Some, None, List, ◌∷◌, length, map, drop, slice_index_or}
 use Rattle.net_bytes.specs.Bytes.{byte}
 use Rattle.inet_sum.specs.Stands.{FoldAndLength, StandsFor}
 use Rattle.pcap_io.specs.Capture.{Packet}
@@ -70,9 +70,10 @@ abbrev pub IsRunBy : Option Layout → FoldAndLength → ℕ → Progress → Pa
 IsRunBy None sum bits state first run = (length run ≡ 1) × IsNoCandidate first.frame first.original
 IsRunBy (Some layout) sum bits state first run = IsRunOf layout sum bits state first run
 
--- a frame that a capture may hold
-abbrev pub IsShort : Held → Type 0
-IsShort p = length p.frame.items ≤ 262144
+-- a packet that a capture of Ethernet frames may hold
+pub record IsShort (p : Held) : Type 0 where
+  pub frame : length p.frame.items ≤ 262144
+  pub original : p.original < 2 ^ 31
 
 -- a layout as shapes have it
 pub record IsPlaced (layout : Layout) : Type 0 where
@@ -103,8 +104,9 @@ IsNextProgress (Some layout) first more next old new =
 abbrev pub packets_of : Run → List Packet
 packets_of r = packet_of r.first ∷ map packet_of r.rest.items
 
-abbrev pub IsRun : Run → Type 0
-IsRun r = IsRunBy r.layout r.payload r.flags r.progress (packet_of r.first) (packets_of r)
+pub record IsRun (r : Run) : Type 0 where
+  pub run : IsRunBy r.layout r.payload r.flags r.progress (packet_of r.first) (packets_of r)
+  pub short : IsShort r.first
 
 abbrev pub AreRuns : List Run → Type 0
 AreRuns rs = (i : ℕ) (d : Run) → i < length rs → IsRun (slice_index_or rs i d)

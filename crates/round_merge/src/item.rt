@@ -7,8 +7,8 @@ ghost use Rattle.offload_model.specs.Mergeable.{IsLengthInRange};
 ghost use Rattle.offload_model.specs.Frames.{merged_frame};
 ghost use Rattle.offload_model.specs.Merged.{merged_of};
 ghost use Rattle.merged_frame.specs.Filled.{HasFlags};
-ghost use Rattle.round_merge.specs.Runs.{packet_of, packets_of, IsRun, IsRunOf};
-ghost use Rattle.round_merge.specs.Round.{item_of};
+ghost use Rattle.round_merge.specs.Runs.{packet_of, packets_of, IsRun, IsRunOf, IsShort};
+ghost use Rattle.round_merge.specs.Round.{item_of, IsWritable};
 
 use crate::Packet;
 use crate::run::{Progress, Run};
@@ -32,6 +32,8 @@ pub struct Item {
     /// A bit for each IP header, the lowest for the first, set where that is an IPv4 header whose identification stays the
     /// same; 0 of a packet that is alone.
     pub modes: u8,
+    /// The length of the whole frame.
+    pub len: u32,
     pub frame: Vec<u8>,
     pub payload_at: usize,
     pub rest: Vec<Packet>,
@@ -40,7 +42,9 @@ pub struct Item {
 /// A packet that is alone stays as it is.
 fn single(first: Packet, rest: Vec<Packet>) -> Item
     requires alone { length rest.items ≡ 0 }
+    requires short { IsShort first }
     ensures item { item_of result ≡ merged_of (packet_of first ∷ map packet_of rest.items) }
+    ensures writable { IsWritable result }
 {
     Item {
         number: first.number,
@@ -50,6 +54,7 @@ fn single(first: Packet, rest: Vec<Packet>) -> Item
         n: 1,
         m: 0,
         modes: 0,
+        len: first.frame.len() as u32,
         frame: first.frame,
         payload_at: 0,
         rest,
@@ -84,20 +89,23 @@ fn merged(
     requires run { IsRunOf layout.now payload flags progress (packet_of first) (packet_of first ∷ map packet_of rest.items) }
     requires several { 1 ≤ length rest.items }
     ensures item { item_of result ≡ merged_of (packet_of first ∷ map packet_of rest.items) }
+    ensures writable { IsWritable result }
 {
     let payload_at = layout.payload_at();
     let m = (first.frame.len() - payload_at) as u16;
     let n = (rest.len() + 1) as u16;
+    let len = progress.total as u32;
     let mut frame = first.frame;
     edit(&mut frame, payload_at, layout.headers(), flags, payload);
     Item {
         number: first.number,
         sec: first.sec,
         frac: first.frac,
-        original: progress.total as u32,
+        original: len,
         n,
         m,
         modes: progress.modes,
+        len,
         frame,
         payload_at,
         rest,
@@ -109,6 +117,7 @@ impl Run {
     pub(crate) fn into_item(self) -> Item
         requires run { IsRun self }
         ensures item { item_of result ≡ merged_of (packets_of self) }
+        ensures writable { IsWritable result }
     {
         let Run {
             first,

@@ -17,7 +17,7 @@
 ghost use Rattle.std.specs.Prelude.{◌≡◌, ◌≤◌, length, map, IfOk, All};
 ghost use Rattle.offload_model.specs.Merged.{merged_of};
 ghost use Rattle.round_merge.specs.Runs.{packet_of, IsShort, IsRun};
-ghost use Rattle.round_merge.specs.Round.{AreRising, runs_in, item_of, OneQueueHasAll};
+ghost use Rattle.round_merge.specs.Round.{AreRising, runs_in, item_of, IsWritable, OneQueueHasAll};
 
 mod alike;
 mod candidate;
@@ -38,6 +38,7 @@ pub fn merge_round(alloc: Global, packets: Vec<Packet>) -> Result<Vec<Item>, All
     requires short { All IsShort packets.items }
     requires rising { AreRising packets.items }
     ensures items { IfOk result (λ items. map item_of items.items ≡ map merged_of (runs_in (map packet_of packets.items))) }
+    ensures writable { IfOk result (λ items. All IsWritable items.items) }
 {
     let runs = runs_of(alloc, packets)?;
     let mut items = Vec::with_capacity(alloc, runs.len())?;

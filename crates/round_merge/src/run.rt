@@ -79,6 +79,7 @@ impl Run {
     /// The run of one packet.
     pub(crate) fn open(alloc: Global, first: Packet, candidacy: Candidacy) -> Run
         requires judged { IsJudged first.frame.items first.original candidacy.layout candidacy.payload candidacy.flags }
+        requires short { IsShort first }
         ensures run { IsRun result }
         ensures packets { packets_of result ≡ packet_of first ∷ [] }
     {

@@ -1,6 +1,6 @@
 -- The VXLAN header (RFC 7348, section 5), of the frame `f` at the place.
 use Rattle.std.specs.Prelude.{ℕ, ◌+◌, ◌*◌, ◌/◌, ◌%◌, Bool, ◌==◌, nat_le, List, length}
-use Rattle.net_bytes.specs.Bytes.{byte, be16, part}
+use Rattle.net_bytes.specs.Bytes.{byte, be16}
 
 -- the UDP port that is assigned to VXLAN
 abbrev pub port : ℕ

@@ -1,4 +1,4 @@
-use Rattle.std.proofs.Common.{◌≡◌, ◌+◌, ◌*◌, ◌<◌, drop, length, ap, ◌∙◌, arith}
+use Rattle.std.proofs.Common.{◌+◌, ◌*◌, drop, ap, ◌∙◌, arith}
 use Rattle.inet_sum.specs.Sum.{word_sum, folded}
 use Rattle.inet_sum.proofs.Words.{words_more}
 use Rattle.inet_sum.proofs.unfolded.Goals as goal

@@ -1,4 +1,4 @@
-use Rattle.round_merge.proofs.Gather.{one_queue}
+use Rattle.round_merge.proofs.OneQueue.{one_queue}
 use Rattle.round_merge.proofs.one_queue_has_all.Goals as goal
 
 pub returns : goal.returns

@@ -1,4 +1,4 @@
-use Rattle.std.proofs.Common.{◌≡◌, ◌+◌, ◌≤◌, true, get_or, length, arith}
+use Rattle.std.proofs.Common.{get_or, length}
 use Rattle.frame_layout.specs.declared.layout.Header.{Header}
 use Rattle.frame_layout.specs.declared.layout.Layer.TheVariants.{Ethernet}
 use Rattle.frame_layout.specs.Front.{are_headers_right}

@@ -1,6 +1,5 @@
-use Rattle.std.proofs.Common.{◌≡◌, ℕ, ◌+◌, ◌-◌, ◌<◌, ◌≤◌, ◌++◌, List, [], None, Some, true, false, length, take, drop, ap, sym, ◌∙◌, subst, arith}
+use Rattle.std.proofs.Common.{◌≡◌, ◌+◌, ◌<◌, ◌≤◌, None, Some, true, length, ap, sym, ◌∙◌, subst, arith}
 use Rattle.std.specs.Prelude.{min}
-use Rattle.net_bytes.specs.Bytes.{byte}
 use Rattle.frame_layout.specs.Shape.{Layout, shape_of}
 use Rattle.frame_layout.specs.Headers.{size, AtHeaders}
 use Rattle.inet_sum.specs.Sum.{fold_of}

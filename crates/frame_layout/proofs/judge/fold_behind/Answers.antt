@@ -1,4 +1,4 @@
-use Rattle.std.proofs.Common.{◌≡◌, ◌-◌, length, take, drop, ◌∙◌, arith}
+use Rattle.std.proofs.Common.{◌-◌, length, take, drop, ◌∙◌, arith}
 use Rattle.std.proofs.lemmas.List.{length-take, length-drop}
 use Rattle.inet_sum.specs.Sum.{folded}
 use Rattle.inet_sum.proofs.Folds.{joined_is}

@@ -1,6 +1,6 @@
-use Rattle.std.proofs.Common.{◌≡◌, ◌+◌, ◌≤◌, length, true, sym, ◌∙◌, arith}
+use Rattle.std.proofs.Common.{◌+◌, ◌≤◌, length, sym, ◌∙◌, arith}
 use Rattle.frame_layout.specs.Headers.{size}
-use Rattle.frame_layout.proofs.Right.{plain_to, plain_from}
+use Rattle.frame_layout.proofs.Right.{plain_to}
 use Rattle.frame_layout.proofs.judge.is_right.Goals as goal
 
 pub returns-then-is_plain : goal.returns-then-is_plain

@@ -1,4 +1,4 @@
-use Rattle.std.proofs.Common.{◌≡◌, ◌+◌, ◌≤◌, length, true, ap, sym, ◌∙◌, subst, arith}
+use Rattle.std.proofs.Common.{◌+◌, ◌≤◌, length, ap, sym, ◌∙◌, subst, arith}
 use Rattle.std.specs.Prelude.{nat_eq, IsTrue}
 use Rattle.net_bytes.specs.Bytes.{be16 as be16_of}
 use Rattle.frame_layout.specs.Candidate.{ip4_sum as ip4_sum_of, udp_sum as udp_sum_of, IsSumRight}

@@ -1,4 +1,4 @@
-use Rattle.std.proofs.Common.{◌≡◌, ◌+◌, get_or, drop, length, arith}
+use Rattle.std.proofs.Common.{length, arith}
 use Rattle.frame_layout.specs.declared.layout.Header.{Header}
 use Rattle.frame_layout.specs.declared.layout.Layer.TheVariants.{Ethernet}
 use Rattle.frame_layout.proofs.Keys.{part_more, key_size_more, there_more}

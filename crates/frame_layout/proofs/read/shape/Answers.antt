@@ -1,6 +1,5 @@
-use Rattle.std.proofs.Common.{◌≡◌, ◌<◌, ℕ, Option, Some, None, [], take, ap, sym, ◌∙◌, arith}
-use Rattle.net_bytes.specs.Bytes.{byte}
-use Rattle.frame_layout.specs.Shape.{Layout, shape_of}
+use Rattle.std.proofs.Common.{Some, ap, sym, ◌∙◌, arith}
+use Rattle.frame_layout.specs.Shape.{Layout}
 use Rattle.frame_layout.proofs.Bounds.{placed}
 use Rattle.frame_layout.proofs.Keys.{in_front-end}
 use Rattle.frame_layout.proofs.Fronts.{shape_in_front}

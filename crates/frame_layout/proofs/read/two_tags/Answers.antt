@@ -1,5 +1,4 @@
-use Rattle.std.proofs.Common.{◌≡◌, ◌+◌, inl, inr, refl, ap, sym, ◌∙◌, arith}
-use Rattle.net_bytes.specs.Bytes.{be16 as be16_of}
+use Rattle.std.proofs.Common.{◌+◌, inr, ap, sym, ◌∙◌, arith}
 use Rattle.eth_vlan.specs.Tag.{is_tag as is_tag_type}
 use Rattle.frame_layout.specs.declared.layout.Layer.TheVariants.{Tag}
 use Rattle.frame_layout.specs.Shape.{network_from, typed_from}

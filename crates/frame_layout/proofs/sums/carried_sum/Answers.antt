@@ -1,4 +1,4 @@
-use Rattle.std.proofs.Common.{◌≡◌, ◌+◌, ◌-◌, ◌≤◌, ◌++◌, length, drop, ap, sym, ◌∙◌, arith}
+use Rattle.std.proofs.Common.{◌-◌, ◌≤◌, length, drop, ap, sym, ◌∙◌, arith}
 use Rattle.inet_sum.specs.Sum.{fold_of}
 use Rattle.frame_layout.proofs.Zeroed.{joined_total, carried_is}
 use Rattle.frame_layout.proofs.sums.carried_sum.Goals as goal

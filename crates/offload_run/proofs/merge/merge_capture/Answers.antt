@@ -4,10 +4,10 @@ use Rattle.offload_run.proofs.merge.merge_capture.Goals as goal
 
 pub returns-in-Ok-write_file_head-clause-given : goal.returns-in-Ok-write_file_head-clause-given
 returns-in-Ok-write_file_head-clause-given g c =
-    run_given c.args.options.budget _ _ _ _ _ _ _ _ c.in-Ok.file c.merge_from.result c.in-Ok-write_file_head.ensures.ok c.merge_from.ensures.flushed c.in-Ok.ensures.given c.merge_from.ensures.given
+    run_given c.args.options.budget c.requires.room _ _ _ _ _ _ _ _ c.in-Ok.file c.merge_from.result c.in-Ok-write_file_head.ensures.ok c.merge_from.ensures.flushed c.in-Ok.ensures.given c.merge_from.ensures.given
 
 pub returns-in-Err-ReadFault-clause-given : goal.returns-in-Err-ReadFault-clause-given
-returns-in-Err-ReadFault-clause-given g c = no_header c.args.options.budget _ _ _ (g.K.Sink.is_flushed c.args.sink.now) _ refl (rw c.in-Err-ReadFault.field-0-is at c.in-Err-ReadFault.ensures.given)
+returns-in-Err-ReadFault-clause-given g c = no_header c.args.options.budget c.requires.room _ _ _ (g.K.Sink.is_flushed c.args.sink.now) _ refl (rw c.in-Err-ReadFault.field-0-is at c.in-Err-ReadFault.ensures.given)
 
 pub returns-in-Err-clause-given : goal.returns-in-Err-clause-given
 returns-in-Err-clause-given g c =

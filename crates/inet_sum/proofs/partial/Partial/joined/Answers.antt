@@ -1,5 +1,4 @@
-use Rattle.std.proofs.Common.{◌≡◌, ◌+◌, ◌++◌, length-append, sym, ap, ◌∙◌, arith}
-use Rattle.inet_sum.specs.Sum.{fold_of}
+use Rattle.std.proofs.Common.{length-append, ap, ◌∙◌, arith}
 use Rattle.inet_sum.proofs.Folds.{joined_is}
 use Rattle.inet_sum.proofs.partial.Partial.joined.Goals as goal
 

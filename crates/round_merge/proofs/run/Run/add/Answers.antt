@@ -8,7 +8,7 @@ use Rattle.round_merge.proofs.run.Run.add.Goals as goal
 pub joined-payload-requires : goal.joined-payload-requires
 joined-payload-requires c = record {
   few = sums_short (packet_of c.args.self.now.first) (packet_of c.args.next) (map packet_of c.args.self.now.rest.items) c.args.self.now.layout c.args.candidacy.now.layout c.args.self.now.payload c.args.candidacy.now.payload c.args.self.now.flags c.args.candidacy.now.flags c.args.self.now.progress
-      c.requires.run c.requires.mergeable c.requires.judged c.requires.short;
+      c.requires.run.run c.requires.mergeable c.requires.judged c.requires.short.frame;
 }
 
 pub returns-clause-run : goal.returns-clause-run
@@ -17,7 +17,10 @@ returns-clause-run c =
     let x : Packet = packet_of c.args.next in
     let ps : List Packet = map packet_of c.args.self.now.rest.items in
     let long : length c.args.self.now.rest.items ≡ length ps = sym (length-map c.args.self.now.rest.items packet_of) in
-    subst (λ z. IsRunBy c.args.self.now.layout c.joined-payload.result c.args.candidacy.now.flags c.next_progress-progress.result p (p ∷ z))
-    (sym (ap (map packet_of) c.in_ok-push.ensures.items ∙ map-append packet_of c.args.self.now.rest.items (c.args.next ∷ [])))
-    (grown_by p x ps c.args.self.now.layout c.args.candidacy.now.layout c.args.self.now.payload c.args.candidacy.now.payload c.joined-payload.result c.args.self.now.flags c.args.candidacy.now.flags c.args.self.now.progress c.next_progress-progress.result (length c.args.self.now.rest.items) long
-    c.requires.run c.requires.mergeable c.joined-payload.ensures.sum c.requires.judged c.next_progress-progress.ensures.progress)
+    record {
+      run = subst (λ z. IsRunBy c.args.self.now.layout c.joined-payload.result c.args.candidacy.now.flags c.next_progress-progress.result p (p ∷ z))
+          (sym (ap (map packet_of) c.in_ok-push.ensures.items ∙ map-append packet_of c.args.self.now.rest.items (c.args.next ∷ [])))
+          (grown_by p x ps c.args.self.now.layout c.args.candidacy.now.layout c.args.self.now.payload c.args.candidacy.now.payload c.joined-payload.result c.args.self.now.flags c.args.candidacy.now.flags c.args.self.now.progress c.next_progress-progress.result (length c.args.self.now.rest.items) long
+          c.requires.run.run c.requires.mergeable c.joined-payload.ensures.sum c.requires.judged c.next_progress-progress.ensures.progress);
+      short = c.requires.run.short;
+    }

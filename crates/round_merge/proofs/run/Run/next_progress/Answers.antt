@@ -14,7 +14,7 @@ use Rattle.round_merge.proofs.run.Run.next_progress.Goals as goal
 -- what the run and the next packet say of the layout
 module _ (run : Run) (next : Held) (layout : Layout) (is : run.layout ≡ Some layout) (own : IsRun run) (mergeable : IsMergeable (packets_of run ++ (packet_of next ∷ []))) where
   known : IsRunOf layout run.payload run.flags run.progress (packet_of run.first) (packets_of run)
-  known = run_some run.layout run.payload run.flags run.progress (packet_of run.first) (packets_of run) layout own is
+  known = run_some run.layout run.payload run.flags run.progress (packet_of run.first) (packets_of run) layout own.run is
 
   there : layout.payload_at ≤ length next.frame.items
   there = next_within (packet_of run.first) (packet_of next) (map packet_of run.rest.items) layout run.payload run.flags run.progress known mergeable
@@ -47,7 +47,7 @@ overflow_sub-result c =
 
 pub overflow_add-result : goal.overflow_add-result
 overflow_add-result c =
-    omega (arith, short c.args.self.now c.args.next.now c.in-Some.layout c.in-Some.is c.requires.run c.requires.mergeable, c.len.ensures, c.args.next.now.frame.ok.0, c.requires.short)
+    omega (arith, short c.args.self.now c.args.next.now c.in-Some.layout c.in-Some.is c.requires.run c.requires.mergeable, c.len.ensures, c.args.next.now.frame.ok.0, c.requires.short.frame)
 
 pub modes_of-requires-clause-first : goal.modes_of-requires-clause-first
 modes_of-requires-clause-first c =

@@ -5,5 +5,8 @@ use Rattle.round_merge.proofs.run.Run.open.Goals as goal
 
 pub returns-clause-run : goal.returns-clause-run
 returns-clause-run c =
-    subst (λ z. IsRunBy c.args.candidacy.layout c.args.candidacy.payload c.args.candidacy.flags c.first_progress-progress.result (packet_of c.args.first) (packet_of c.args.first ∷ map packet_of z)) (sym c.new.ensures.items)
-    (opened_by (packet_of c.args.first) c.args.candidacy.layout c.args.candidacy.payload c.args.candidacy.flags c.first_progress-progress.result c.requires.judged c.first_progress-progress.ensures.progress)
+    record {
+      run = subst (λ z. IsRunBy c.args.candidacy.layout c.args.candidacy.payload c.args.candidacy.flags c.first_progress-progress.result (packet_of c.args.first) (packet_of c.args.first ∷ map packet_of z)) (sym c.new.ensures.items)
+          (opened_by (packet_of c.args.first) c.args.candidacy.layout c.args.candidacy.payload c.args.candidacy.flags c.first_progress-progress.result c.requires.judged c.first_progress-progress.ensures.progress);
+      short = c.requires.short;
+    }

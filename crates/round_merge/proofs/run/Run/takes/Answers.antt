@@ -13,7 +13,7 @@ returns-then-not-self c = record {
   takes = (
     λ e. absurd cc,
     λ m. absurd (shut_by c.args.self.now.layout c.args.self.now.payload c.args.self.now.flags c.args.self.now.progress (packet_of c.args.self.now.first) (packet_of c.args.next.now) (map packet_of c.args.self.now.rest.items)
-        c.requires.run c.if-not-self.true m),
+        c.requires.run.run c.if-not-self.true m),
   );
 }
 
@@ -29,12 +29,12 @@ returns-in_default c = record {
 pub is_next-requires-clause-placed : goal.is_next-requires-clause-placed
 is_next-requires-clause-placed c =
     placed_of (packet_of c.args.self.now.first) (packets_of c.args.self.now) c.in-Some-layout.layout c.args.self.now.payload c.args.self.now.flags c.args.self.now.progress
-    (run_some c.args.self.now.layout c.args.self.now.payload c.args.self.now.flags c.args.self.now.progress (packet_of c.args.self.now.first) (packets_of c.args.self.now) c.in-Some-layout.layout c.requires.run c.in-Some-layout.is)
+    (run_some c.args.self.now.layout c.args.self.now.payload c.args.self.now.flags c.args.self.now.progress (packet_of c.args.self.now.first) (packets_of c.args.self.now) c.in-Some-layout.layout c.requires.run.run c.in-Some-layout.is)
 
 pub is_next-requires-clause-total : goal.is_next-requires-clause-total
 is_next-requires-clause-total c =
     let b = bounded (packet_of c.args.self.now.first) (map packet_of c.args.self.now.rest.items) c.in-Some-layout.layout c.args.self.now.payload c.args.self.now.flags c.args.self.now.progress
-    (run_some c.args.self.now.layout c.args.self.now.payload c.args.self.now.flags c.args.self.now.progress (packet_of c.args.self.now.first) (packets_of c.args.self.now) c.in-Some-layout.layout c.requires.run c.in-Some-layout.is) in
+    (run_some c.args.self.now.layout c.args.self.now.payload c.args.self.now.flags c.args.self.now.progress (packet_of c.args.self.now.first) (packets_of c.args.self.now) c.in-Some-layout.layout c.requires.run.run c.in-Some-layout.is) in
     omega (arith, b.1, b.2)
 
 pub returns-in-Some-layout : goal.returns-in-Some-layout
@@ -44,7 +44,7 @@ returns-in-Some-layout c =
     let ps : List Packet = map packet_of c.args.self.now.rest.items in
     let layout : Layout = c.in-Some-layout.layout in
     let r : IsRunOf layout c.args.self.now.payload c.args.self.now.flags c.args.self.now.progress p (packets_of c.args.self.now)
-    = run_some c.args.self.now.layout c.args.self.now.payload c.args.self.now.flags c.args.self.now.progress p (packets_of c.args.self.now) layout c.requires.run c.in-Some-layout.is in
+    = run_some c.args.self.now.layout c.args.self.now.payload c.args.self.now.flags c.args.self.now.progress p (packets_of c.args.self.now) layout c.requires.run.run c.in-Some-layout.is in
     let j : IsCandidateOf x.frame x.original c.in-Some._own c.args.candidacy.now.payload c.args.candidacy.now.flags = subst (λ z. IsJudged x.frame x.original z c.args.candidacy.now.payload c.args.candidacy.now.flags) c.in-Some.is c.requires.judged in
     let n : c.len.result + 1 ≡ length (packets_of c.args.self.now) = omega (arith, c.len.ensures, c.args.self.now.rest.ok.0, length-map c.args.self.now.rest.items packet_of) in
     let d : Decides c.is_next.result (IsNext layout p.frame (length (packets_of c.args.self.now)) c.args.self.now.progress.total c.args.self.now.progress.modes x.frame)
@@ -58,6 +58,6 @@ returns-in-None c = record {
   takes = (
     λ e. absurd cc,
     λ m. absurd (no_first_by c.args.self.now.layout c.args.self.now.payload c.args.self.now.flags c.args.self.now.progress (packet_of c.args.self.now.first) (packet_of c.args.next.now) (map packet_of c.args.self.now.rest.items)
-        c.requires.run c.in-None.is m),
+        c.requires.run.run c.in-None.is m),
   );
 }

@@ -1,0 +1,93 @@
+//! A pool of blocks.
+ghost use Rattle.std.specs.Prelude.{◌≡◌, ◌+◌, ◌-◌, ◌<◌, ◌≤◌, ◌^◌, [], ◌∷◌, ◌++◌, length, min, IfOk, MatchResult};
+ghost use Rattle.block_pool.specs.PoolState.{home};
+
+use raw_block::Sole;
+use std::alloc::{AllocError, Global};
+use std::marker::Model;
+
+/// The blocks that are home, and how many were made and taken. Dropping it frees them.
+#[derive(Drop)]
+pub struct Pool {
+    blocks: Vec<Sole>,
+    made: u32,
+    taken: u64,
+}
+
+impl Model for Pool {
+    ghost use Rattle.std.specs.Prelude.{◌≤◌, length, vec_capacity};
+    ghost use Rattle.block_pool.specs.PoolState.{PoolState};
+
+    ghost Value = { PoolState };
+
+    ghost view = { λ p. record { blocks = p.blocks.items; made = p.made; taken = p.taken } };
+
+    ghost invariant = { λ p. (length p.blocks.items ≤ p.made) × (p.made ≤ 65536) × (p.made ≤ vec_capacity p.blocks) };
+}
+
+/// No block is home.
+#[derive(Drop)]
+pub struct Empty;
+
+impl Pool {
+    /// A pool of `n` new blocks, all home. All its memory is taken here.
+    pub fn make(alloc: Global, n: u32) -> Result<Pool, AllocError>
+        requires { n ≤ 65536 }
+        ensures { IfOk result (λ pool. (home pool ≡ n) × (pool.made ≡ n) × (pool.taken ≡ 0)) }
+    {
+        let mut blocks = Vec::with_capacity(alloc, n as usize)?;
+        for _ in 0..n {
+            let block = Sole::new(alloc)?;
+            blocks.push_reserved(block);
+        }
+        Ok(Pool {
+            blocks,
+            made: n,
+            taken: 0,
+        })
+    }
+
+    /// The block that came home last, as its only holder. `Empty` exactly where no block is home.
+    pub fn take(&mut self) -> Result<Sole, Empty>
+        ensures block { MatchResult result (λ block. self.old.blocks ≡ self.new.blocks ++ block ∷ []) (λ _. (home self.old ≡ 0) × (self.new ≡ self.old)) }
+        ensures taken { IfOk result (λ _. self.new.taken ≡ min (self.old.taken + 1) (2 ^ 64 - 1)) }
+        ensures made { self.new.made ≡ self.old.made }
+    {
+        match self.blocks.pop() {
+            Some(block) => {
+                self.taken = self.taken.saturating_add(1);
+                Ok(block)
+            }
+            None => Err(Empty),
+        }
+    }
+
+    /// A block comes home.
+    pub fn put(&mut self, block: Sole)
+        requires { home self.old < self.old.made }
+        ensures { self.new ≡ record self.old { blocks = self.old.blocks ++ block ∷ [] } }
+    {
+        self.blocks.push_reserved(block);
+    }
+
+    /// The blocks that are home.
+    pub fn home(&self) -> u32
+        ensures { result ≡ home self.now }
+    {
+        self.blocks.len() as u32
+    }
+
+    /// The blocks that were made.
+    pub fn made(&self) -> u32
+        ensures { result ≡ self.now.made }
+    {
+        self.made
+    }
+
+    /// The takes that were answered with a block. It stays at `2^64 - 1`.
+    pub fn taken(&self) -> u64
+        ensures { result ≡ self.now.taken }
+    {
+        self.taken
+    }
+}

@@ -1,0 +1,63 @@
+-- Lists of pieces put together, and what a release leaves.
+use Rattle.std.proofs.Common.{◌≡◌, ℕ, ◌+◌, ◌-◌, ◌<◌, ◌≤◌, List, [], ◌∷◌, ◌++◌, length, refl, ap, sym, subst, append_assoc, ◌∙◌, zero, suc, get_or, arith}
+use Rattle.std.proofs.lemmas.Bool.{cond_both}
+use lib.Dec.{ltb}
+use Rattle.ref_core.specs.WeightRule.{full_weight}
+use Rattle.raw_block.specs.Views.{SoleState, PartState}
+use Rattle.raw_block.specs.declared.part.Released.{Released}
+use Rattle.raw_block.specs.declared.part.Released.TheVariants.{Last, Left}
+use Rattle.raw_block.specs.Answers.{IsReleased}
+use Rattle.frags.specs.OutcomesState.{OutcomesState}
+use Rattle.frags.specs.Account.{Keeps, both, counted, at_home, receipts_held, soles_home, of_part, of_holder, of_released, of_outcomes}
+use Rattle.frags.specs.PieceList.{bytes_of, piece_bytes, size_of, Fits, AllFit, cut_front, block, AsPart}
+use Rattle.frags.specs.declared.pieces.Piece.{Piece}
+use Rattle.frags.specs.declared.holder.Holder.{Holder}
+use Rattle.frags.specs.declared.holder.Holder.TheVariants.{Sole, Part}
+use Rattle.frags.proofs.Keeping.{counted-le, soles_home-append, size_of-append, AllFit-append}
+
+-- a part released is its receipt, or its block's Sole
+pub released_keeps : (p : PartState) (r : Released) → p.weight ≤ full_weight → IsReleased p r → Keeps (of_part p) (of_released r)
+released_keeps p (Last s) h k t m =
+    let c = counted-le t m p.life p.mark p.weight h in
+    let e = ap (at_home m) k.1 in
+    (omega arith, omega arith)
+released_keeps p (Left r) h k t m =
+    let w = k.0 in let l = k.2 in let a = k.3 in
+    let c : counted t m r.life r.mark r.weight ≡ counted t m p.life p.mark p.weight = cc in
+    (omega arith, omega arith)
+
+pub sole_keeps : (h : Holder) (s : SoleState) (a b : OutcomesState) → h ≡ Sole s → b.soles ≡ a.soles ++ s ∷ [] → b.receipts ≡ a.receipts → Keeps (both (of_holder h) (of_outcomes a)) (of_outcomes b)
+sole_keeps h s a b e f g t m =
+    let u = ap (λ (z : Holder). (of_holder z).held t m) e in
+    let v = ap (λ (z : Holder). (of_holder z).homes m) e in
+    let k = ap (soles_home m) f ∙ soles_home-append m a.soles (s ∷ []) in
+    let l = ap (receipts_held t m) g in
+    (omega arith, omega arith)
+
+pub part_block : (h : Holder) (p : PartState) → AsPart h p → p.bytes ≡ block h
+part_block (Sole s) p k = k.1
+part_block (Part q) p k = ap (λ (z : PartState). z.bytes) k
+
+pub takes_in_fit : (a rest b : List Piece) (x : Piece) → b ≡ (a ++ x ∷ []) ++ rest → AllFit a → Fits x → AllFit rest → (size_of b ≡ size_of a + ((x.to - x.from) + size_of rest)) × AllFit b
+takes_in_fit a rest b x e f g h =
+    let s = ap size_of e ∙ size_of-append (a ++ x ∷ []) rest in
+    let u = size_of-append a (x ∷ []) in
+    (omega arith, subst AllFit (sym e) (AllFit-append (a ++ x ∷ []) rest (AllFit-append a (x ∷ []) f (g, tt)) h))
+
+pub joins_fit : (a c b : List Piece) → b ≡ a ++ c → AllFit a → AllFit c → (size_of b ≡ size_of a + size_of c) × AllFit b
+joins_fit a c b e f h = (ap size_of e ∙ size_of-append a c, subst AllFit (sym e) (AllFit-append a c f h))
+
+pub bytes_of-append : (a b : List Piece) → bytes_of (a ++ b) ≡ bytes_of a ++ bytes_of b
+bytes_of-append [] b = refl
+bytes_of-append (p ∷ ps) b = ap (λ (z : List ℕ). piece_bytes p ++ z) (bytes_of-append ps b) ∙ sym (append_assoc (piece_bytes p) (bytes_of ps) (bytes_of b))
+
+pub AllFit-at : (ps : List Piece) (i : ℕ) (d : Piece) → AllFit ps → i < length ps → Fits (get_or ps i d)
+AllFit-at [] i d h k = absurd (omega arith)
+AllFit-at (p ∷ ps) zero d h k = h.0
+AllFit-at (p ∷ ps) (suc i) d h k = AllFit-at ps i d h.1 (omega arith)
+
+pub size_of-cut_front : (n : ℕ) (ps : List Piece) → size_of (cut_front n ps) ≤ size_of ps
+size_of-cut_front n [] = omega arith
+size_of-cut_front n (p ∷ ps) =
+    let h = size_of-cut_front (n - (p.to - p.from)) ps in
+    cond_both (ltb n (p.to - p.from)) (record p { from = p.from + n } ∷ ps) (cut_front (n - (p.to - p.from)) ps) (λ (z : List Piece). size_of z ≤ size_of (p ∷ ps)) (λ e. omega arith) (λ e. omega arith)

@@ -1,0 +1,4 @@
+pub mod Joining
+pub mod Keeping
+pub mod Places
+pub mod Splits

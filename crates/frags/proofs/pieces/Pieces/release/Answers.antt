@@ -1,0 +1,15 @@
+use Rattle.std.proofs.Common.{length, arith, ap}
+use Rattle.frags.specs.Account.{both, of_outcomes}
+use Rattle.frags.specs.PieceList.{of_pieces}
+use Rattle.frags.proofs.Keeping.{keeps_pop}
+use Rattle.frags.proofs.pieces.Pieces.release.Goals as goal
+
+pub loop-piece-preserved : goal.loop-piece-preserved
+loop-piece-preserved c =
+    let e = c.in-Some.ensures.items in
+    let n = ap length e in
+    let i = c.loop-piece.invariant in
+    record {
+      places = omega arith;
+      kept = keeps_pop (both (of_pieces c.args.self) (of_outcomes c.args.out.now)) c.in-Some.piece c.loop-piece.items.items c.pop_front.new.self.items c.loop-piece.out c.give_back.new.self e i.kept c.give_back.ensures.kept;
+    }

@@ -1,0 +1,13 @@
+use Rattle.std.proofs.Common.{◌+◌, ◌≤◌, length}
+use Rattle.frags.specs.Account.{Keeps, both, of_outcomes}
+use Rattle.frags.specs.PieceList.{of_pieces}
+use Rattle.frags.proofs.pieces.Pieces.release.Given as goal
+
+abbrev pub invariant-loop-piece : goal.invariant-loop-piece
+invariant-loop-piece l = record {
+  places : l.fn.out.spare + length l.items.items ≤ l.out.spare + length l.fn.self;
+  kept : Keeps (both (of_pieces l.fn.self) (of_outcomes l.fn.out)) (both (of_pieces l.items.items) (of_outcomes l.out));
+}
+
+abbrev pub decreases-loop-piece : goal.decreases-loop-piece
+decreases-loop-piece l = length l.items.items

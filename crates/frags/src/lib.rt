@@ -1,0 +1,32 @@
+//! Lists of pieces of shared blocks, as the field knows them from the fragments of Linux's `struct sk_buff`, and what is
+//! left of them when they are given back.
+//!
+//! `Pieces` is a list of parts of blocks, each with the range of its bytes that counts. Contracts see the list, and of it
+//! the bytes (`bytes_of`), the number of pieces and the weights (`specs/PieceList.antt`). Each call is an operation on that
+//! list: `append` and `join_back` put at the end, `cut_front` drops, `split_at` takes and drops, `share` gives every part's
+//! `max(1, weight / 4096)` to a second list. None of them copies a byte.
+//!
+//! `Outcomes` keeps what releases leave: a Sole or a receipt, in places that `reserve` made, so that giving back takes no
+//! memory.
+//!
+//! Nothing is lost: `specs/Account.antt` counts by lives and by marks what an object holds, and the clauses `kept` and
+//! `sums` say that it stays or that its block's Sole is at home. `Keeps` adds up over calls by arithmetic alone.
+//!
+//! ```
+//! let mut pieces = Pieces::new(alloc);
+//! pieces.append(sole.share(), 64, 1500)?;
+//! let mut clone = pieces.share()?;
+//! clone.cut_front(14, &mut outcomes)?;
+//! ```
+#![tactic(auto)]
+
+mod cuts;
+mod holder;
+mod outcomes;
+mod pieces;
+#[cfg(test)]
+mod tests;
+
+pub use holder::Holder;
+pub use outcomes::Outcomes;
+pub use pieces::{Piece, Pieces, ShareFault, Short};

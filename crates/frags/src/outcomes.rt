@@ -1,0 +1,128 @@
+//! What was given back: Soles and receipts, in places that were reserved before.
+ghost use Rattle.std.specs.Prelude.{◌≡◌, ℕ, ◌+◌, ◌-◌, ◌<◌, ◌≤◌, [], ◌∷◌, ◌++◌, length, min, IfOk, OnOk, MatchOption, vec_len, vec_capacity};
+ghost use Rattle.frags.specs.Account.{Keeps, both, of_part, of_holder, of_outcomes};
+
+use crate::Holder;
+use raw_block::{Part, Receipt, Released, Sole};
+use std::alloc::{AllocError, Global};
+use std::marker::Model;
+
+/// The Soles and receipts that were given back, in order of return. It must be spent: by `settle`, once no Sole is in it.
+pub struct Outcomes {
+    soles: Vec<Sole>,
+    receipts: Vec<Receipt>,
+}
+
+impl Model for Outcomes {
+    ghost use Rattle.std.specs.Prelude.{◌-◌, min, vec_len, vec_capacity};
+    ghost use Rattle.frags.specs.OutcomesState.{OutcomesState};
+
+    ghost Value = { OutcomesState };
+
+    ghost view = { λ o. record { soles = o.soles.items; receipts = o.receipts.items; spare = min (vec_capacity o.soles - vec_len o.soles) (vec_capacity o.receipts - vec_len o.receipts) } };
+}
+
+impl Outcomes {
+    /// Holds nothing, with no place reserved.
+    pub fn new(alloc: Global) -> Outcomes
+        ensures empty { (result.soles ≡ []) × (result.receipts ≡ []) }
+    {
+        Outcomes {
+            soles: Vec::new(alloc),
+            receipts: Vec::new(alloc),
+        }
+    }
+
+    /// Room for `n` Soles and `n` receipts more, so that giving them back takes no memory.
+    pub fn reserve(&mut self, n: usize) -> Result<(), AllocError>
+        ensures same { (self.new.soles ≡ self.old.soles) × (self.new.receipts ≡ self.old.receipts) }
+        ensures room { OnOk result (n ≤ self.new.spare) }
+    {
+        self.soles.reserve(n)?;
+        self.receipts.reserve(n)
+    }
+
+    /// The places that are reserved for more.
+    pub fn spare(&self) -> usize
+        ensures { result ≡ self.now.spare }
+    {
+        let soles = self.soles.capacity() - self.soles.len();
+        let receipts = self.receipts.capacity() - self.receipts.len();
+        soles.min(receipts)
+    }
+
+    /// Keeps a Sole behind the others, in a reserved place.
+    pub fn keep_sole(&mut self, sole: Sole)
+        requires { 1 ≤ self.old.spare }
+        ensures soles { self.new.soles ≡ self.old.soles ++ sole ∷ [] }
+        ensures receipts { self.new.receipts ≡ self.old.receipts }
+        ensures places { self.old.spare ≤ self.new.spare + 1 }
+    {
+        self.soles.push_reserved(sole);
+    }
+
+    /// Keeps a receipt behind the others, in a reserved place.
+    pub fn keep_receipt(&mut self, receipt: Receipt)
+        requires { 1 ≤ self.old.spare }
+        ensures soles { self.new.soles ≡ self.old.soles }
+        ensures receipts { self.new.receipts ≡ self.old.receipts ++ receipt ∷ [] }
+        ensures places { self.old.spare ≤ self.new.spare + 1 }
+    {
+        self.receipts.push_reserved(receipt);
+    }
+
+    /// The Sole that came last. None exactly where there is none.
+    pub fn pop_sole(&mut self) -> Option<Sole>
+        ensures receipts { self.new.receipts ≡ self.old.receipts }
+        ensures soles { MatchOption result ((self.old.soles ≡ []) × (self.new.soles ≡ [])) (λ s. self.old.soles ≡ self.new.soles ++ s ∷ []) }
+    {
+        self.soles.pop()
+    }
+
+    /// The receipt that came last. None exactly where there is none.
+    pub fn pop_receipt(&mut self) -> Option<Receipt>
+        ensures soles { self.new.soles ≡ self.old.soles }
+        ensures receipts { MatchOption result ((self.old.receipts ≡ []) × (self.new.receipts ≡ [])) (λ s. self.old.receipts ≡ self.new.receipts ++ s ∷ []) }
+    {
+        self.receipts.pop()
+    }
+
+    /// Spends what holds no Sole, and closes its receipts.
+    pub fn settle(self)
+        requires { self.soles ≡ [] }
+    {
+        let Outcomes {
+            soles: _,
+            mut receipts,
+        } = self;
+        while let Some(receipt) = receipts.pop() {
+            receipt.close();
+        }
+        receipts.destroy_empty();
+    }
+
+    /// Releases a part, and keeps what that leaves: its block's Sole, or a receipt of its weight.
+    pub fn give_back(&mut self, part: Part)
+        requires { 1 ≤ self.old.spare }
+        ensures kept { Keeps (both (of_part part) (of_outcomes self.old)) (of_outcomes self.new) }
+        ensures places { self.old.spare ≤ self.new.spare + 1 }
+    {
+        let _ = part.weight();
+        match part.release() {
+            Released::Last(sole) => self.keep_sole(sole),
+            Released::Left(receipt) => self.keep_receipt(receipt),
+        }
+    }
+
+    /// As `give_back`, of a Sole too, which is kept as it is.
+    pub fn give_back_holder(&mut self, holder: Holder)
+        requires { 1 ≤ self.old.spare }
+        ensures kept { Keeps (both (of_holder holder) (of_outcomes self.old)) (of_outcomes self.new) }
+        ensures places { self.old.spare ≤ self.new.spare + 1 }
+    {
+        match holder {
+            Holder::Sole(sole) => self.keep_sole(sole),
+            Holder::Part(part) => self.give_back(part),
+        }
+    }
+}

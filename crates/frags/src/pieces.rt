@@ -1,0 +1,392 @@
+//! Pieces of shared blocks, as one run of bytes.
+ghost use Rattle.std.specs.Prelude.{◌≡◌, ℕ, ◌+◌, ◌-◌, ◌<◌, ◌≤◌, ◌^◌, [], ◌∷◌, ◌++◌, length, MatchResult, MatchOption, IfOk, drop, take, slice_index_or, Bool, false};
+ghost use Rattle.frags.specs.declared.pieces.Piece.{Piece};
+ghost use Rattle.frags.specs.Account.{Keeps, both, of_part, of_outcomes};
+ghost use Rattle.frags.specs.PieceList.{bytes_of, piece_bytes, pieces_held, Fits, AllFit, size_of, of_pieces, IsShare, IsSplit, IsAppend, block, AsPart, byte_in, keep_front, least_weight, cut_front, cut_worn, worn};
+
+use crate::cuts::split_into;
+use crate::{Holder, Outcomes};
+use core::mem::replace;
+use raw_block::{FULL, Part};
+use std::alloc::{AllocError, Global};
+use std::collections::VecDeque;
+use std::marker::Model;
+
+/// The bytes `from` to `to` of a part's block.
+pub struct Piece {
+    pub part: Part,
+    pub from: usize,
+    pub to: usize,
+}
+
+/// A list of pieces of blocks that others may hold too, as one run of fewer than 2^32 bytes. It must be spent: released.
+pub struct Pieces {
+    items: VecDeque<Piece>,
+    size: usize,
+}
+
+impl Model for Pieces {
+    ghost use Rattle.std.specs.Prelude.{List, ◌≡◌, ◌<◌, ◌^◌};
+    ghost use Rattle.frags.specs.declared.pieces.Piece.{Piece};
+
+    ghost Value = { List Piece };
+
+    ghost use Rattle.frags.specs.PieceList.{size_of, AllFit};
+
+    ghost view = { λ p. p.items.items };
+
+    ghost invariant = { λ p. (p.size ≡ size_of p.items.items) × (p.size < 2 ^ 32) × AllFit p.items.items };
+}
+
+/// Why shared pieces aren't shared or cut.
+#[derive(Drop)]
+pub enum ShareFault {
+    /// The cut was asked for behind the end.
+    Short { have: usize, need: usize },
+    /// A part of weight 1 has nothing to give.
+    Worn,
+    NoMemory,
+}
+
+/// More bytes were asked for than there are.
+#[derive(Drop)]
+pub struct Short {
+    pub have: usize,
+    pub need: usize,
+}
+
+fn bytes_in(piece: &Piece) -> &[u8]
+    requires { Fits piece.now }
+    ensures { result.now ≡ piece_bytes piece.now }
+{
+    &piece.part.bytes()[piece.from..piece.to]
+}
+
+// A Sole becomes a part.
+fn as_part(holder: Holder) -> Part
+    ensures { AsPart holder result }
+{
+    match holder {
+        Holder::Sole(sole) => sole.share(),
+        Holder::Part(part) => part,
+    }
+}
+
+impl Pieces {
+    /// Some part weighs 1, and has nothing to give.
+    pub fn is_worn(&self) -> bool
+        ensures { result ≡ worn self.now }
+    {
+        for i in 0..self.items.len() {
+            let piece = &self.items[i];
+            if piece.part.weight() == 1 {
+                return true;
+            }
+        }
+        false
+    }
+
+    /// A second list of the same bytes, uncopied. Each part gives `max(1, weight / 4096)` away and keeps its life. `Worn`
+    /// exactly where some part weighs 1, which is judged before memory.
+    pub fn share(&mut self) -> Result<Pieces, ShareFault>
+        ensures share { IsShare self.old self.new result }
+        ensures sums { IfOk result (λ c. (t : ℕ × ℕ → Bool) (m : ℕ) → pieces_held t m self.new + pieces_held t m c ≡ pieces_held t m self.old) }
+    {
+        if self.is_worn() {
+            return Err(ShareFault::Worn);
+        }
+        let n = self.items.len();
+        let Ok(mut items) = VecDeque::with_capacity(*self.items.allocator(), n) else {
+            return Err(ShareFault::NoMemory);
+        };
+        for i in 0..n {
+            let piece = &mut self.items[i];
+            let weight = piece.part.weight();
+            let part = piece.part.split((weight / 4096).max(1));
+            items.push_back_reserved(Piece {
+                part,
+                from: piece.from,
+                to: piece.to,
+            });
+        }
+        Ok(Pieces {
+            items,
+            size: self.size,
+        })
+    }
+
+    /// The first `n` bytes are gone. Pieces that are wholly cut are given back. `Short` exactly where `n > len()`.
+    #[tactic(auto, using(crate::proofs::Keeping::cut_bytes))]
+    pub fn cut_front(&mut self, n: usize, out: &mut Outcomes) -> Result<(), Short>
+        requires { length self.old ≤ out.old.spare }
+        ensures spans { MatchResult result (λ _. (n ≤ size_of self.old) × (self.new ≡ cut_front n self.old)) (λ e. (e.have ≡ size_of self.old) × (e.need ≡ n) × (size_of self.old < n) × (self.new ≡ self.old) × (out.new ≡ out.old)) }
+        ensures bytes { IfOk result (λ _. bytes_of self.new ≡ drop n (bytes_of self.old)) }
+        ensures kept { Keeps (both (of_pieces self.old) (of_outcomes out.old)) (both (of_pieces self.new) (of_outcomes out.new)) }
+        ensures places { out.old.spare + length self.new ≤ out.new.spare + length self.old }
+    {
+        if self.size < n {
+            return Err(Short {
+                have: self.size,
+                need: n,
+            });
+        }
+        let mut left = n;
+        while let Some(mut piece) = self.items.pop_front() {
+            let size = piece.to - piece.from;
+            if left < size {
+                piece.from += left;
+                self.size -= left;
+                self.items.push_front_reserved(piece);
+                return Ok(());
+            }
+            left -= size;
+            self.size -= size;
+            let Piece {
+                part,
+                from: _,
+                to: _,
+            } = piece;
+            out.give_back(part);
+        }
+        Ok(())
+    }
+
+    /// No pieces.
+    pub fn new(alloc: Global) -> Pieces
+        ensures { result ≡ [] }
+    {
+        Pieces {
+            items: VecDeque::new(alloc),
+            size: 0,
+        }
+    }
+
+    /// The number of bytes.
+    pub fn len(&self) -> usize
+        ensures size { result ≡ size_of self.now }
+        ensures small { result < 2 ^ 32 }
+    {
+        self.size
+    }
+
+    /// The number of pieces.
+    pub fn count(&self) -> usize
+        ensures count { result ≡ length self.now }
+        ensures within { result ≤ size_of self.now }
+    {
+        self.items.len()
+    }
+
+    /// A holder's bytes `from..to` follow, and other pieces after them. A Sole becomes a part, once there is memory.
+    pub fn append_all(
+        &mut self,
+        holder: Holder,
+        from: usize,
+        to: usize,
+        others: Pieces,
+    ) -> Result<(), (Holder, Pieces, AllocError)>
+        requires range { (from < to) × (to ≤ 2048) × (length (block holder) ≡ 2048) }
+        requires small { size_of self.old + (to - from) + size_of others < 2 ^ 32 }
+        ensures { IsAppend self.old holder from to others self.new result }
+    {
+        if self.items.reserve(others.items.len() + 1).is_err() {
+            return Err((holder, others, AllocError));
+        }
+        let Pieces {
+            items: mut following,
+            size,
+        } = others;
+        let part = as_part(holder);
+        let _ = part.weight();
+        self.items.push_back_reserved(Piece { part, from, to });
+        self.size += to - from + size;
+        match self.items.append(&mut following) {
+            Ok(()) => {
+                following.destroy_empty();
+                Ok(())
+            }
+            Err(_) => unreachable!(),
+        }
+    }
+
+    /// The other's pieces follow, uncopied.
+    pub fn join_back(&mut self, other: Pieces) -> Result<(), (Pieces, AllocError)>
+        requires { size_of self.old + size_of other < 2 ^ 32 }
+        ensures joined { MatchResult result (λ _. self.new ≡ self.old ++ other) (λ e. (self.new ≡ self.old) × (e.0 ≡ other)) }
+        ensures kept { IfOk result (λ _. Keeps (both (of_pieces self.old) (of_pieces other)) (of_pieces self.new)) }
+    {
+        let Pieces { mut items, size } = other;
+        match self.items.append(&mut items) {
+            Ok(()) => {
+                items.destroy_empty();
+                self.size += size;
+                Ok(())
+            }
+            Err(error) => Err((Pieces { items, size }, error)),
+        }
+    }
+
+    /// The last `n` bytes are gone. Pieces that are wholly cut are given back. `Short` exactly where `n > len()`.
+    pub fn cut_back(&mut self, n: usize, out: &mut Outcomes) -> Result<(), Short>
+        requires { length self.old ≤ out.old.spare }
+        ensures cut { MatchResult result (λ _. (n ≤ size_of self.old) × (self.new ≡ keep_front (size_of self.old - n) self.old)) (λ e. (e.have ≡ size_of self.old) × (e.need ≡ n) × (size_of self.old < n) × (self.new ≡ self.old) × (out.new ≡ out.old)) }
+        ensures bytes { IfOk result (λ _. bytes_of self.new ≡ take (size_of self.old - n) (bytes_of self.old)) }
+        ensures kept { Keeps (both (of_pieces self.old) (of_outcomes out.old)) (both (of_pieces self.new) (of_outcomes out.new)) }
+        ensures places { out.old.spare + length self.new ≤ out.new.spare + length self.old }
+    {
+        if self.size < n {
+            return Err(Short {
+                have: self.size,
+                need: n,
+            });
+        }
+        let keep = self.size - n;
+        while let Some(mut piece) = self.items.pop_back() {
+            let start = self.size - (piece.to - piece.from);
+            if start < keep {
+                piece.to = piece.from + (keep - start);
+                self.size = keep;
+                self.items.push_back_reserved(piece);
+                return Ok(());
+            }
+            self.size = start;
+            let Piece {
+                part,
+                from: _,
+                to: _,
+            } = piece;
+            out.give_back(part);
+        }
+        Ok(())
+    }
+
+    /// The byte at a place.
+    pub fn byte_at(&self, i: usize) -> u8
+        requires { i < size_of self.now }
+        ensures { (d : ℕ) → result ≡ slice_index_or (bytes_of self.now) i d }
+    {
+        self.find_byte(i)
+    }
+
+    fn find_byte(&self, i: usize) -> u8
+        requires { i < size_of self.now }
+        ensures byte { result ≡ byte_in i self.now }
+        ensures fits { AllFit self.now }
+    {
+        let mut left = i;
+        for k in 0..self.items.len() {
+            let piece = &self.items[k];
+            let size = piece.to - piece.from;
+            if left < size {
+                return piece.part.bytes()[piece.from + left];
+            }
+            left -= size;
+        }
+        unreachable!()
+    }
+
+    /// The least weight of a part, `FULL` where there is none.
+    pub fn least_weight(&self) -> u64
+        ensures { result ≡ least_weight self.now }
+    {
+        let mut least = FULL;
+        for i in 0..self.items.len() {
+            least = least.min(self.items[i].part.weight());
+        }
+        least
+    }
+
+    // The part that is cut at `at` has nothing to give.
+    fn cut_is_worn(&self, at: usize) -> bool
+        ensures { result ≡ cut_worn at self.now }
+    {
+        let mut left = at;
+        for i in 0..self.items.len() {
+            let piece = &self.items[i];
+            let size = piece.to - piece.from;
+            if left < size {
+                return left != 0 && piece.part.weight() == 1;
+            }
+            left -= size;
+        }
+        false
+    }
+
+    /// Keeps the first `at` bytes, and answers the rest. `Short` exactly where `at > len()`; then `Worn` exactly where `at`
+    /// falls inside a piece whose part weighs 1; then memory. Of a part that is cut the front keeps `max(1, weight / 4096)`.
+    pub fn split_at(&mut self, at: usize) -> Result<Pieces, ShareFault>
+        ensures split { IsSplit at self.old self.new result }
+        ensures bytes { IfOk result (λ c. (bytes_of self.old ≡ bytes_of self.new ++ bytes_of c) × (size_of self.new ≡ at)) }
+        ensures sums { IfOk result (λ c. (t : ℕ × ℕ → Bool) (m : ℕ) → pieces_held t m self.new + pieces_held t m c ≡ pieces_held t m self.old) }
+    {
+        if self.size < at {
+            return Err(ShareFault::Short {
+                have: self.size,
+                need: at,
+            });
+        }
+        if self.cut_is_worn(at) {
+            return Err(ShareFault::Worn);
+        }
+        let Ok(mut first) = VecDeque::with_capacity(*self.items.allocator(), self.items.len())
+        else {
+            return Err(ShareFault::NoMemory);
+        };
+        split_into(&mut self.items, &mut first, at);
+        let items = replace(&mut self.items, first);
+        let size = self.size - at;
+        self.size = at;
+        Ok(Pieces { items, size })
+    }
+
+    /// The bytes of the i-th piece, uncopied.
+    pub fn slice(&self, i: usize) -> &[u8]
+        requires { i < length self.now }
+        ensures { (d : Piece) → result.now ≡ piece_bytes (slice_index_or self.now i d) }
+    {
+        bytes_in(&self.items[i])
+    }
+
+    /// The bytes `from..to` of a part follow, uncopied.
+    pub fn append(&mut self, part: Part, from: usize, to: usize) -> Result<(), (Part, AllocError)>
+        requires range { (from < to) × (to ≤ 2048) }
+        requires small { size_of self.old + (to - from) < 2 ^ 32 }
+        ensures appended { MatchResult result (λ _. self.new ≡ self.old ++ (record { part = part; from = from; to = to }) ∷ []) (λ e. (self.new ≡ self.old) × (e.0 ≡ part)) }
+        ensures kept { IfOk result (λ _. Keeps (both (of_pieces self.old) (of_part part)) (of_pieces self.new)) }
+    {
+        let _ = part.bytes();
+        let _ = part.weight();
+        match self.items.push_back(Piece { part, from, to }) {
+            Ok(()) => {
+                self.size += to - from;
+                Ok(())
+            }
+            Err(refused) => {
+                let Piece {
+                    part,
+                    from: _,
+                    to: _,
+                } = refused.value;
+                Err((part, AllocError))
+            }
+        }
+    }
+
+    /// Gives all parts back.
+    pub fn release(self, out: &mut Outcomes)
+        requires { length self ≤ out.old.spare }
+        ensures kept { Keeps (both (of_pieces self) (of_outcomes out.old)) (of_outcomes out.new) }
+        ensures places { out.old.spare ≤ out.new.spare + length self }
+    {
+        let Pieces { mut items, size: _ } = self;
+        while let Some(piece) = items.pop_front() {
+            let Piece {
+                part,
+                from: _,
+                to: _,
+            } = piece;
+            out.give_back(part);
+        }
+        items.destroy_empty();
+    }
+}

@@ -1,0 +1,70 @@
+//! What becomes of a buffer's head.
+ghost use Rattle.std.specs.Prelude.{◌≡◌, ◌+◌, ◌≤◌, length, false};
+ghost use Rattle.frags.specs.PieceList.{AsPart};
+ghost use Rattle.skb.specs.SkbState.{written, Owned, IsLent, Gives, head_worn};
+
+use crate::skb::Unshared;
+use frags::Holder;
+use raw_block::{Claimed, Part, Sole};
+
+// Writes over a block's bytes from a place on.
+pub(crate) fn write_at(sole: &mut Sole, at: usize, bytes: &[u8])
+    requires { (length sole.old.bytes ≡ 2048) × (at + length bytes.now ≤ 2048) }
+    ensures { (sole.new.bytes ≡ written sole.old.bytes at bytes.now) × (sole.new.mark ≡ sole.old.mark) }
+{
+    let range = sole.range_mut(at, at + bytes.len());
+    range.copy_from_slice(bytes);
+}
+
+// A head that is a Sole, and what became of the spare.
+pub(crate) fn owned(head: Holder, spare: Sole) -> (Holder, Unshared)
+    ensures { Owned head spare result.0 result.1 }
+{
+    match head {
+        Holder::Sole(sole) => (Holder::Sole(sole), Unshared::Unused(spare)),
+        Holder::Part(part) => {
+            let _ = part.weight();
+            match part.claim() {
+                Claimed::Sole(sole) => (Holder::Sole(sole), Unshared::Unused(spare)),
+                Claimed::Shared(part, sight) => {
+                    let mut spare = spare;
+                    copy_block(&mut spare, part.bytes());
+                    (Holder::Sole(spare), Unshared::Gave(part.release(), sight))
+                }
+            }
+        }
+    }
+}
+
+fn copy_block(sole: &mut Sole, bytes: &[u8])
+    requires { length bytes.now ≡ 2048 }
+    ensures { (sole.new.bytes ≡ bytes.now) × (sole.new.mark ≡ sole.old.mark) }
+{
+    let all = sole.bytes_mut();
+    all.copy_from_slice(bytes);
+}
+
+// A Sole head becomes a part.
+pub(crate) fn lent(head: Holder, none: ()) -> (Holder, ())
+    ensures { IsLent head result.0 }
+{
+    match head {
+        Holder::Sole(sole) => (Holder::Part(sole.share()), none),
+        Holder::Part(part) => (Holder::Part(part), none),
+    }
+}
+
+// The head gives a part away.
+pub(crate) fn gives(head: Holder, none: ()) -> (Holder, Part)
+    requires { head_worn head ≡ false }
+    ensures { Gives head result.0 result.1 }
+{
+    let _ = none;
+    let mut part = match head {
+        Holder::Sole(sole) => sole.share(),
+        Holder::Part(part) => part,
+    };
+    let weight = part.weight();
+    let gift = part.split((weight / 4096).max(1));
+    (Holder::Part(part), gift)
+}

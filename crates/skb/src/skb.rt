@@ -1,0 +1,361 @@
+//! A packet buffer.
+ghost use Rattle.std.specs.Prelude.{◌≡◌, ℕ, ◌+◌, ◌-◌, ◌<◌, ◌≤◌, ◌^◌, ◌*◌, [], ◌∷◌, ◌++◌, length, MatchResult, MatchOption, IfOk, drop, take, min, slice_index_or, false, true, Some, None};
+ghost use Rattle.std.specs.Borrow.{sem};
+ghost use Rattle.ref_core.specs.WeightRule.{full_weight};
+ghost use Rattle.raw_block.specs.Views.{SoleState};
+ghost use Rattle.frags.specs.Account.{Keeps, KeepsMarks, both, every, of_sole, of_holder, of_outcomes};
+ghost use Rattle.frags.specs.PieceList.{size_of, piece_bytes, block};
+ghost use Rattle.frags.specs.declared.pieces.Piece.{Piece};
+ghost use Rattle.skb.specs.Lending.{lends_head};
+ghost use Rattle.skb.specs.SkbState.{SkbState, buffer_least, buffer_bytes, buffer_size, head_bytes, headroom, tailroom, is_sole, written, IsPush, IsPut, Owned, IsClone, IsLent, Gives, head_worn, buffer_worn, of_buffer, of_unshared, Attaches};
+
+use crate::heads::{gives, lent, owned, write_at};
+use crate::lend::range_of;
+use core::mem::replace_with;
+use frags::{Holder, Outcomes, Pieces, ShareFault, Short};
+use raw_block::{BLOCK_SIZE, FULL, Released, Sight, Sole};
+use std::alloc::AllocError;
+use std::marker::Model;
+
+/// Why bytes can't be put into a head.
+#[derive(Drop)]
+pub enum RoomFault {
+    /// The room that is there, and what was asked for.
+    NoRoom { have: usize, need: usize },
+    /// Others hold the head's block.
+    Shared,
+}
+
+/// What `unshare` gives back.
+pub enum Unshared {
+    /// The spare: the head was a Sole, or its claim was granted.
+    Unused(Sole),
+    /// What the old head's release left, and what its failed claim saw.
+    Gave(Released, Sight),
+}
+
+/// A packet buffer: the bytes `from..to` of a head block, and pieces of other blocks after them. It must be spent:
+/// attached or released.
+pub struct Skb {
+    head: Holder,
+    from: usize,
+    to: usize,
+    rest: Pieces,
+}
+
+impl Model for Skb {
+    ghost use Rattle.skb.specs.SkbState.{SkbState};
+
+    ghost Value = { SkbState };
+
+    ghost use Rattle.std.specs.Prelude.{◌≡◌, ◌≤◌, ◌<◌, ◌+◌, ◌-◌, ◌^◌, length};
+    ghost use Rattle.frags.specs.PieceList.{size_of, block};
+
+    ghost view = { λ s. record { head = s.head; from = s.from; to = s.to; rest = s.rest } };
+
+    ghost invariant = { λ s. (s.from ≤ s.to) × (s.to ≤ 2048) × (length (block s.head) ≡ 2048) × ((s.to - s.from) + size_of s.rest < 2 ^ 32) };
+}
+
+impl Skb {
+    /// A buffer of the bytes `from..to` of a head block, and the pieces after them.
+    pub fn new(head: Sole, from: usize, to: usize, rest: Pieces) -> Skb
+        requires range { (from ≤ to) × (to ≤ 2048) }
+        requires small { (to - from) + size_of rest < 2 ^ 32 }
+        ensures { result ≡ record { head = Holder.Sole head; from = from; to = to; rest = rest } }
+    {
+        let _ = head.bytes();
+        Skb {
+            head: Holder::Sole(head),
+            from,
+            to,
+            rest,
+        }
+    }
+
+    /// The number of bytes.
+    pub fn len(&self) -> usize
+        ensures { result ≡ buffer_size self.now }
+    {
+        self.to - self.from + self.rest.len()
+    }
+
+    /// The bytes in front of the head's, which `push` may take.
+    pub fn headroom(&self) -> usize
+        ensures { result ≡ headroom self.now }
+    {
+        self.from
+    }
+
+    /// The bytes behind the head's, which `put_tail` may take. There are none where a piece follows.
+    pub fn tailroom(&self) -> usize
+        ensures { result ≡ tailroom self.now }
+    {
+        if self.rest.count() == 0 {
+            BLOCK_SIZE - self.to
+        } else {
+            0
+        }
+    }
+
+    /// Nobody else holds the head's block, so it may be written.
+    pub fn head_is_sole(&self) -> bool
+        ensures { result ≡ is_sole self.now.head }
+    {
+        match &self.head {
+            Holder::Sole(_) => true,
+            Holder::Part(_) => false,
+        }
+    }
+
+    /// The pieces and the head together.
+    pub fn count(&self) -> usize
+        ensures { result ≡ length self.now.rest + 1 }
+    {
+        self.rest.count() + 1
+    }
+
+    /// The head's bytes.
+    pub fn head(&self) -> &[u8]
+        ensures { result.now ≡ head_bytes self.now }
+    {
+        let all = match &self.head {
+            Holder::Sole(sole) => sole.bytes(),
+            Holder::Part(part) => part.bytes(),
+        };
+        &all[self.from..self.to]
+    }
+
+    /// The head's bytes, for writing. The condition is `head_is_sole()`.
+    pub fn head_bytes_mut(&mut self) -> &mut [u8]
+        requires { is_sole self.old.head ≡ true }
+        ensures* writes_back { sem 𝓛 (lends_head self.entry result) }
+        ensures value { result.now ≡ head_bytes self.old }
+    {
+        let from = self.from;
+        let to = self.to;
+        range_of(&mut self.head, from, to)
+    }
+
+    /// The byte at a place.
+    pub fn byte_at(&self, i: usize) -> u8
+        requires { i < buffer_size self.now }
+        ensures { (d : ℕ) → result ≡ slice_index_or (buffer_bytes self.now) i d }
+    {
+        let head = self.head();
+        if i < head.len() {
+            return head[i];
+        }
+        self.rest.byte_at(i - head.len())
+    }
+
+    /// The least weight of a part, `FULL` where there is none.
+    pub fn least_weight(&self) -> u64
+        ensures { result ≡ buffer_least self.now }
+    {
+        let head = match &self.head {
+            Holder::Sole(_) => FULL,
+            Holder::Part(part) => part.weight(),
+        };
+        head.min(self.rest.least_weight())
+    }
+
+    /// The bytes of the i-th piece after the head, uncopied.
+    pub fn slice(&self, i: usize) -> &[u8]
+        requires { i < length self.now.rest }
+        ensures { (d : Piece) → result.now ≡ piece_bytes (slice_index_or self.now.rest i d) }
+    {
+        self.rest.slice(i)
+    }
+
+    /// The bytes stand in front. `NoRoom` exactly where there are more of them than `headroom()`; else `Shared` exactly
+    /// where not `head_is_sole()`.
+    pub fn push(&mut self, bytes: &[u8]) -> Result<(), RoomFault>
+        requires { buffer_size self.old + length bytes.now < 2 ^ 32 }
+        ensures { IsPush self.old bytes.now self.new result }
+    {
+        if self.from < bytes.len() {
+            return Err(RoomFault::NoRoom {
+                have: self.from,
+                need: bytes.len(),
+            });
+        }
+        let start = self.from - bytes.len();
+        match &mut self.head {
+            Holder::Part(_) => Err(RoomFault::Shared),
+            Holder::Sole(sole) => {
+                write_at(sole, start, bytes);
+                self.from = start;
+                Ok(())
+            }
+        }
+    }
+
+    /// The bytes stand at the end. `NoRoom` exactly where there are more of them than `tailroom()`; else `Shared` exactly
+    /// where not `head_is_sole()`.
+    pub fn put_tail(&mut self, bytes: &[u8]) -> Result<(), RoomFault>
+        requires { buffer_size self.old + length bytes.now < 2 ^ 32 }
+        ensures { IsPut self.old bytes.now self.new result }
+    {
+        let room = self.tailroom();
+        if room < bytes.len() {
+            return Err(RoomFault::NoRoom {
+                have: room,
+                need: bytes.len(),
+            });
+        }
+        let end = self.to;
+        match &mut self.head {
+            Holder::Part(_) => Err(RoomFault::Shared),
+            Holder::Sole(sole) => {
+                write_at(sole, end, bytes);
+                self.to = end + bytes.len();
+                Ok(())
+            }
+        }
+    }
+
+    /// The first `n` bytes are gone. Pieces that are wholly gone are given back, and a head left empty stays. `Short`
+    /// exactly where `n > len()`.
+    pub fn pull(&mut self, n: usize, out: &mut Outcomes) -> Result<(), Short>
+        requires { length self.old.rest ≤ out.old.spare }
+        ensures bytes { MatchResult result (λ _. buffer_bytes self.new ≡ drop n (buffer_bytes self.old)) (λ e. (buffer_size self.old < n) × (e.have ≡ buffer_size self.old) × (e.need ≡ n) × (self.new ≡ self.old) × (out.new ≡ out.old)) }
+        ensures head { (self.new.head ≡ self.old.head) × (self.new.to ≡ self.old.to) }
+        ensures room { IfOk result (λ _. self.new.from ≡ min (self.old.from + n) self.old.to) }
+        ensures kept { Keeps (both (of_buffer self.old) (of_outcomes out.old)) (both (of_buffer self.new) (of_outcomes out.new)) }
+        ensures places { out.old.spare + length self.new.rest ≤ out.new.spare + length self.old.rest }
+    {
+        let have = self.len();
+        if have < n {
+            return Err(Short { have, need: n });
+        }
+        let head = self.to - self.from;
+        if n <= head {
+            self.from += n;
+            return Ok(());
+        }
+        self.rest.cut_front(n - head, out)?;
+        self.from = self.to;
+        Ok(())
+    }
+
+    /// The last `n` bytes are gone. Pieces that are wholly gone are given back, and a head left empty stays. `Short`
+    /// exactly where `n > len()`.
+    pub fn trim(&mut self, n: usize, out: &mut Outcomes) -> Result<(), Short>
+        requires { length self.old.rest ≤ out.old.spare }
+        ensures bytes { MatchResult result (λ _. buffer_bytes self.new ≡ take (buffer_size self.old - n) (buffer_bytes self.old)) (λ e. (buffer_size self.old < n) × (e.have ≡ buffer_size self.old) × (e.need ≡ n) × (self.new ≡ self.old) × (out.new ≡ out.old)) }
+        ensures head { (self.new.head ≡ self.old.head) × (self.new.from ≡ self.old.from) }
+        ensures kept { Keeps (both (of_buffer self.old) (of_outcomes out.old)) (both (of_buffer self.new) (of_outcomes out.new)) }
+        ensures places { out.old.spare + length self.new.rest ≤ out.new.spare + length self.old.rest }
+    {
+        let have = self.len();
+        if have < n {
+            return Err(Short { have, need: n });
+        }
+        let rest = self.rest.len();
+        if n <= rest {
+            self.rest.cut_back(n, out)?;
+            return Ok(());
+        }
+        self.rest.cut_back(rest, out)?;
+        self.to -= n - rest;
+        Ok(())
+    }
+
+    /// A second buffer of the same bytes, headroom and pieces, uncopied. Each part gives `max(1, weight / 4096)` away and
+    /// keeps its life. A Sole head becomes a part first, also where memory is refused. `Worn` exactly where a part weighs
+    /// 1, which is judged before all else.
+    pub fn clone(&mut self) -> Result<Skb, ShareFault>
+        ensures clone { IsClone self.old self.new result }
+        ensures marks { IfOk result (λ c. (m : ℕ) → (of_buffer self.new).held every m + (of_buffer c).held every m ≡ (of_buffer self.old).held every m + full_weight * (of_buffer self.old).homes m) }
+    {
+        if self.is_worn() {
+            return Err(ShareFault::Worn);
+        }
+        replace_with(&mut self.head, (), lent);
+        let rest = self.rest.share()?;
+        let part = replace_with(&mut self.head, (), gives);
+        Ok(Skb {
+            head: Holder::Part(part),
+            from: self.from,
+            to: self.to,
+            rest,
+        })
+    }
+
+    // A part weighs 1, and has nothing to give.
+    fn is_worn(&self) -> bool
+        ensures { result ≡ buffer_worn self.now }
+    {
+        let head = match &self.head {
+            Holder::Sole(_) => false,
+            Holder::Part(part) => part.weight() == 1,
+        };
+        head || self.rest.is_worn()
+    }
+
+    /// The head becomes a Sole, with the same bytes and room. `Unused` exactly where it was one, or its claim was granted;
+    /// else its bytes were copied into the spare, and `Gave` has what its release left and what the claim saw.
+    pub fn unshare(&mut self, spare: Sole) -> Unshared
+        ensures head { Owned self.old.head spare self.new.head result }
+        ensures room { (self.new.from ≡ self.old.from) × (self.new.to ≡ self.old.to) × (self.new.rest ≡ self.old.rest) }
+        ensures bytes { buffer_bytes self.new ≡ buffer_bytes self.old }
+        ensures kept { Keeps (both (of_buffer self.old) (of_sole spare)) (both (of_buffer self.new) (of_unshared result)) }
+    {
+        let _ = spare.bytes();
+        replace_with(&mut self.head, spare, owned)
+    }
+
+    /// The other's bytes follow, uncopied. A Sole head of the other becomes a part, and an empty head is given back.
+    pub fn attach(&mut self, other: Skb, out: &mut Outcomes) -> Result<(), (Skb, AllocError)>
+        requires small { buffer_size self.old + buffer_size other < 2 ^ 32 }
+        requires room { 1 ≤ out.old.spare }
+        ensures attached { Attaches self.old other out.old self.new out.new result }
+        ensures marks { IfOk result (λ _. KeepsMarks (both (of_buffer self.old) (both (of_buffer other) (of_outcomes out.old))) (both (of_buffer self.new) (of_outcomes out.new))) }
+    {
+        let Skb {
+            head,
+            from,
+            to,
+            rest,
+        } = other;
+        if from == to {
+            if let Err((rest, error)) = self.rest.join_back(rest) {
+                let other = Skb {
+                    head,
+                    from,
+                    to,
+                    rest,
+                };
+                return Err((other, error));
+            }
+            out.give_back_holder(head);
+            return Ok(());
+        }
+        if let Err((head, rest, error)) = self.rest.append_all(head, from, to, rest) {
+            let other = Skb {
+                head,
+                from,
+                to,
+                rest,
+            };
+            return Err((other, error));
+        }
+        Ok(())
+    }
+
+    /// Gives the head and all pieces back.
+    pub fn release(self, out: &mut Outcomes)
+        requires { length self.rest + 1 ≤ out.old.spare }
+        ensures kept { Keeps (both (of_buffer self) (of_outcomes out.old)) (of_outcomes out.new) }
+        ensures places { out.old.spare ≤ out.new.spare + (length self.rest + 1) }
+    {
+        let Skb {
+            head,
+            from: _,
+            to: _,
+            rest,
+        } = self;
+        out.give_back_holder(head);
+        rest.release(out);
+    }
+}
