@@ -1,5 +1,5 @@
 -- Segmenting what merging wrote.
-use Rattle.std.proofs.Common.{◌≡◌, ℕ, zero, suc, ◌+◌, ◌-◌, ◌*◌, ◌^◌, ◌<◌, ◌≤◌, ◌⊎◌, inl, inr, Bool, true, false, cond, Option, Some, None, List, [], ◌∷◌, ◌++◌, length, get_or, take, drop, map, refl, sym, ap, ◌∙◌, subst, arith}
+use Rattle.std.proofs.Common.{◌≡◌, ℕ, zero, suc, ◌+◌, ◌-◌, ◌*◌, ◌^◌, ◌<◌, ◌≤◌, ◌⊎◌, inl, inr, Bool, true, false, cond, Option, Some, None, List, [], ◌∷◌, ◌++◌, length, get_or, take, drop, map, refl, sym, ap, ◌∙◌, subst, arith, length-append}
 use Rattle.std.specs.Prelude.{◌==◌, if◌then◌else◌, is_some}
 use Rattle.std.specs.List.{flat_map, filter, AllByRecursion, range_with_len}
 use Rattle.std.proofs.lemmas.List.{take_at}
@@ -32,7 +32,7 @@ use Rattle.offload_model.proofs.Lists.{all_filtered, all_of, all_joined, all_ran
 use Rattle.offload_model.proofs.RunRecords.{runs_come_back, record_key, segments_are}
 use Rattle.offload_model.proofs.WrittenBack.{IsWritten, all_written, reads_back, head_reads_back, written_comes_back}
 use Rattle.segment_run.specs.Output.{output_of}
-use Rattle.segment_run.specs.Laws.{BringsBack, CapturesComeBack}
+use Rattle.segment_run.specs.Laws.{BringsBack, CapturesComeBack, RecordsAreFew}
 use Rattle.segment_run.proofs.FlowLists.{same_number, few}
 
 -- ---- the packets of a run are of one flow
@@ -295,3 +295,39 @@ captures_come_back head o ps zone sigfigs lawful c few_records =
     = ap (reads Ethernet) (output_is head o ps zone sigfigs lawful c few_records ∙ ap (λ z. file_bytes head Ethernet ++ z) (spelled_is head.order 0 qs))
     ∙ written_law 0 head Ethernet (numbered 0 qs) zone sigfigs lawful_qs in
     subst (BringsBack ps) (sym read) (record { whole = refl; flows = λ key. numbered_flow key 0 qs ∙ flows key })
+
+-- ---- how many records there are without taps
+
+abbrev IsSome : Packet → Type 0
+IsSome r = 1 ≤ length (segments_of r)
+
+length-content : (ps : List Packet) → length (map content ps) ≡ length ps
+length-content [] = refl
+length-content (p ∷ ps) = ap suc (length-content ps)
+
+run_some : (q : ℕ) (run : List Packet) → IsItem run → IsSome (record_of q run)
+run_some q run i =
+    omega (arith, ap length (runs_come_back q run i.captured i.allowed), length-content (segments_of (record_of q run)), length-content run, i.full)
+
+round_some : (o : Options) (ps : List Packet) → o.taps ≡ 0 → AreCaptured ps → AllByRecursion IsSome (round_records o ps)
+round_some o ps taps c =
+    all_append IsSome (flat_map (λ q. map (record_of q) (items_of o.queues q ps)) (range_with_len 0 o.queues)) (flat_map (λ t. windows_of o.snap t ps) (range_with_len 0 o.taps))
+    (all_joined IsSome (λ q. map (record_of q) (items_of o.queues q ps)) (range_with_len 0 o.queues)
+    (all_range (λ q. AllByRecursion IsSome (map (record_of q) (items_of o.queues q ps))) o.queues (λ q l.
+    all_mapped IsItem IsSome (record_of q) (items_of o.queues q ps) (λ run i. run_some q run i)
+    (all_items (filter (is_queued o.queues q) ps) (items_of o.queues q ps) (all_filtered IsCaptured (is_queued o.queues q) ps c.each) (items_are o.queues q ps c.rising)))))
+    (subst (λ n. AllByRecursion IsSome (flat_map (λ t. windows_of o.snap t ps) (range_with_len 0 n))) (sym taps) tt)
+
+no_more : (rs : List Packet) → AllByRecursion IsSome rs → length rs ≤ length (flat_map segments_of rs)
+no_more [] a = omega arith
+no_more (r ∷ rs) a = omega (arith, a.0, no_more rs a.1, length-append (segments_of r) (flat_map segments_of rs))
+
+pub records_are_few : RecordsAreFew
+records_are_few o ps lawful c taps =
+    let rs : List Packet = records_of o ps in
+    let some : AllByRecursion IsSome rs
+    = all_joined IsSome (round_records o) (rounds_of o.budget ps)
+        (all_of AreCaptured (λ round. AllByRecursion IsSome (round_records o round)) (rounds_of o.budget ps) (λ round k. round_some o round taps k) (rounds_captured o.budget ps c)) in
+    let flows : (key : Option (List ℕ)) → map content (filter (is_of key) (flat_map segments_of rs)) ≡ map content (filter (is_of key) ps)
+    = λ key. ap (map content) (flow_by_flow key rs (all_of IsSound IsOneFlow rs (λ r s. s.flow) (all_sound o ps c))) ∙ flows_come_back o ps lawful c key in
+    omega (arith, no_more rs some, same_number (flat_map segments_of rs) ps flows, few ps c.each c.rising)

@@ -5,4 +5,4 @@ mod Owed
 mod Ahead
 mod Whole
 mod FlowLists
-mod ComesBack
+pub mod ComesBack

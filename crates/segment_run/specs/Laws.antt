@@ -25,3 +25,7 @@ CapturesComeBack =
     → AreCaptured ps
     → length (records_of o ps) ≤ 2 ^ 32
     → BringsBack ps (reads Ethernet (output_of (written head o ps)))
+
+-- without taps there are no more records than packets, and these have numbers of 32 bits
+abbrev pub RecordsAreFew : Type 0
+RecordsAreFew = (o : Options) (ps : List Packet) → AreLawful o → AreCaptured ps → o.taps ≡ 0 → length (records_of o ps) ≤ 2 ^ 32
