@@ -3,3 +3,5 @@ mod PartRound
 mod Outputs
 mod Rounding
 mod Whole
+mod BothWays
+mod Statuses

@@ -3,3 +3,5 @@ pub mod Reading
 pub mod Merging
 pub mod Codes
 pub mod Log
+pub mod Segmenting
+pub mod Laws

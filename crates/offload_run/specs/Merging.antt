@@ -8,9 +8,10 @@ use Rattle.pcap_io.specs.Headers.{first_that_holds, file_refusals}
 use Rattle.pcap_io.specs.Capture.{reads}
 use Rattle.pcap_io.specs.Places.{found_at}
 use Rattle.offload_words.specs.declared.words.Command.{Command}
-use Rattle.offload_words.specs.declared.words.Command.TheVariants.{Merge}
+use Rattle.offload_words.specs.declared.words.Command.TheVariants.{Merge, Segment}
 use Rattle.offload_run.specs.declared.status.Status.{Status}
 use Rattle.offload_run.specs.declared.status.Status.TheVariants as statuses
+use Rattle.offload_run.specs.Segmenting.{SegmentStatus}
 use Rattle.offload_run.specs.Output.{rounds_bytes, merged, WritesMerged}
 
 -- what is written of the records that these bytes hold from a place on
@@ -57,3 +58,4 @@ MergeAnswers budget old new is_flushed untouched statuses.NoMemory given left = 
 -- what each answer of the whole program says, by the command that the words ask for
 abbrev pub Answers : Command → Option (List ℕ) → Option (List ℕ) → Bool → Type 0 → Status → List ℕ → List ℕ → Type 0
 Answers (Merge options) old new is_flushed untouched status given left = MergeAnswers options.budget old new is_flushed untouched status given left
+Answers Segment old new is_flushed untouched status given left = SegmentStatus old new is_flushed untouched status given left

@@ -10,6 +10,7 @@ ghost use Rattle.offload_run.specs.Log.{log_line};
 use crate::Status;
 use crate::logging::write_log;
 use crate::merge::merge_capture;
+use crate::segment::run_segment;
 use off_io::{Gate, Sink, Source};
 use offload_words::{Command, WordsFault, parse_words};
 use std::alloc::Global;
@@ -31,6 +32,7 @@ fn run_command<S: Source, K: Sink>(
 {
     match command {
         Command::Merge(options) => merge_capture(alloc, options, source, sink),
+        Command::Segment => run_segment(alloc, source, sink),
     }
 }
 
@@ -58,7 +60,8 @@ fn run_words<S: Source, K: Sink>(
 }
 
 /// Runs the command that the words ask for, the program's name before it, and logs how it ended. `merge` reads a capture
-/// of Ethernet frames from the source and writes its records to the sink.
+/// of Ethernet frames from the source and writes its records to the sink; `segment` reads an offload capture and writes the
+/// packets that its records stand for.
 ///
 /// `Usage` exactly where the words are none of the command set, want of memory aside: then nothing is read or written, and
 /// the counts of faults of the source and the sink stay as they are. `Ok` and `Malformed` exactly as the capture ends,

@@ -14,7 +14,7 @@ use Rattle.clap.proofs.WalkLemmas.{both}
 use Rattle.offload_words.specs.Numbers.{number_in}
 use Rattle.offload_words.specs.Commands.{HasRanges, command_by, command_named, command_of, command_unless, offload_app}
 use Rattle.offload_words.specs.declared.words.Command.{Command}
-use Rattle.offload_words.specs.declared.words.Command.TheVariants.{Merge}
+use Rattle.offload_words.specs.declared.words.Command.TheVariants.{Merge, Segment}
 use Rattle.offload_words.specs.declared.words.WordsFault.{WordsFault}
 use Rattle.offload_words.specs.declared.words.WordsFault.TheVariants.{Usage}
 use Rattle.offload_words.proofs.OptionRows.{AllFit, Each, IsValueOrHelp, defaults_for, level_fits, level_has}
@@ -91,6 +91,13 @@ merge_level s off ones has name = λ words word e no_help is.
     let budget = number_there s words (codes "budget") 1 4096 (omega arith) has (level_fits s words false [] off ones e) in
     (Merge (record { budget = budget.0 }), merge_made s.name (rows_after s.rules [] words) budget.0 name budget.1, (budget.2, budget.3))
 
+segment_made : (name : Text) (rows : List Row) → name ≡ codes "segment" → command_named name rows ≡ Some Segment
+unfolding command_named
+segment_made name rows e = rw e refl
+
+segment_level : (s : Shape) → s.name ≡ codes "segment" → Gives IsMade s
+segment_level s name = λ words word e no_help is. (Segment, segment_made s.name (rows_after s.rules [] words) name, tt)
+
 -- ---- the whole command set
 
 abbrev commands : App
@@ -100,7 +107,7 @@ commands = built offload_app
 each_gives : Each (Gives IsMade) commands.subs
 each_gives = (
   merge_level _ refl ((refl, refl, inl (refl, refl)), ((refl, refl, inr refl), tt)) refl refl,
-  (help_level IsMade _ refl refl, tt),
+  (segment_level _ refl, (help_level IsMade _ refl refl, tt)),
 )
 
 -- a line without a fault asks for a command in its ranges

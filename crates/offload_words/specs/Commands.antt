@@ -1,12 +1,13 @@
 -- The command set of offload, as clap's own functions read it.
-use Rattle.std.specs.Prelude.{◌≡◌, Bool, true, List, [], ◌∷◌, Option, None, IsSome, codes, if◌then◌else◌, option_and_then, option_map}
+use Rattle.std.specs.Prelude.{◌≡◌, Bool, true, List, [], ◌∷◌, Option, Some, None, ⊤, IsSome, codes, if◌then◌else◌, option_and_then, option_map}
 use Rattle.std.specs.Str.{bytes_eq}
 use Rattle.clap.specs.Words.{App, Kinds, Row, Text, fault_of, new_app, subcommand_of, with_subcommand}
 use Rattle.clap.specs.declared.builder.Command as clap_command
 use Rattle.clap.specs.declared.builder.Command.TheViews.{out-Command}
 use Rattle.offload_words.specs.Merge.{IsInRange, merge_app, merge_options_in}
+use Rattle.offload_words.specs.Segment.{segment_app}
 use Rattle.offload_words.specs.declared.words.Command.{Command}
-use Rattle.offload_words.specs.declared.words.Command.TheVariants.{Merge}
+use Rattle.offload_words.specs.declared.words.Command.TheVariants.{Merge, Segment}
 
 -- ---- what clap is told
 
@@ -16,7 +17,7 @@ needs_subcommand a = record a { top = record a.top { subcommand_required = true 
 
 -- the program, with one subcommand for each command
 abbrev pub offload_app : App
-offload_app = with_subcommand (needs_subcommand (new_app (codes "offload"))) merge_app.top
+offload_app = with_subcommand (with_subcommand (needs_subcommand (new_app (codes "offload"))) merge_app.top) segment_app.top
 
 -- whether clap's command passes options down to its subcommands
 abbrev pub has_globals_of : clap_command.Command → Bool
@@ -28,7 +29,8 @@ has_globals_of c = (out-Command c).has_globals
 unfoldable pub command_named : Text → List Row → Option Command
 command_named name rows =
     if bytes_eq name (codes "merge") then option_map Merge (merge_options_in rows)
-    else None
+    else (if bytes_eq name (codes "segment") then Some Segment
+    else None)
 
 abbrev pub command_unless : Kinds → Option Command → Option Command
 command_unless [] command = command
@@ -45,6 +47,7 @@ command_of words = command_by offload_app words
 -- what holds of the values of a command
 abbrev pub HasRanges : Command → Type 0
 HasRanges (Merge options) = IsInRange options
+HasRanges Segment = ⊤
 
 -- no line is without both a fault and a command
 abbrev pub FaultlessLinesAreCommands : Type 0

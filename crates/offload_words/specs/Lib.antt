@@ -1,3 +1,4 @@
 pub mod Commands
 pub mod Merge
 pub mod Numbers
+pub mod Segment

@@ -5,6 +5,7 @@ ghost use Rattle.clap.specs.Words.{app_of, new_app, with_subcommand};
 ghost use Rattle.offload_words.specs.Commands.{offload_app, has_globals_of, needs_subcommand};
 
 use crate::merge::merge_subcommand;
+use crate::segment::segment_subcommand;
 use std::alloc::{AllocError, Global};
 
 /// The program's own level: one subcommand is required.
@@ -29,5 +30,6 @@ fn with_command<'a>(
 pub(crate) fn offload_commands<'a>(alloc: Global) -> Result<clap::Command<'a>, AllocError>
     ensures { IfOk result (λ c. app_of c ≡ offload_app) }
 {
-    with_command(program(alloc), merge_subcommand(alloc)?)
+    let merge = with_command(program(alloc), merge_subcommand(alloc)?)?;
+    with_command(merge, segment_subcommand(alloc))
 }

@@ -15,6 +15,7 @@
 mod commands;
 pub mod merge;
 mod numbers;
+mod segment;
 #[cfg(test)]
 mod tests;
 pub mod words;

@@ -32,6 +32,10 @@ fn lines_of_words(rt: HostRuntime) -> Result<(), Fail> {
         let want = Ok(Command::Merge(MergeOptions { budget }));
         assert!(rt; command == want, "at {line}");
     }
+    for line in ["offload segment", "offload segment --"] {
+        let command = parse_words(alloc, &words(alloc, line)?);
+        assert!(rt; command == Ok(Command::Segment), "at {line}");
+    }
     let refused = [
         "offload",
         "offload --help",
@@ -41,7 +45,9 @@ fn lines_of_words(rt: HostRuntime) -> Result<(), Fail> {
         "offload merge -h",
         "offload merge --version",
         "offload frobnicate",
-        "offload segment",
+        "offload segment --budget 2",
+        "offload segment --help",
+        "offload segment merge",
         "offload merge --queues 2",
         "offload merge --budget 0",
         "offload merge --budget 4097",

@@ -16,6 +16,8 @@ use std::alloc::Global;
 pub enum Command {
     /// `merge`: merge the TCP segments of a capture.
     Merge(MergeOptions),
+    /// `segment`: cut the merged records of a capture again.
+    Segment,
 }
 
 /// Why a line of words gives no command.
@@ -41,6 +43,7 @@ fn command_at(name: &str, matches: &ArgMatches<'_>) -> Option<Command>
 {
     match name {
         "merge" => merge_command(matches),
+        "segment" => Some(Command::Segment),
         _ => None,
     }
 }

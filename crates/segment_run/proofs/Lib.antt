@@ -4,3 +4,5 @@ mod Judging
 mod Owed
 mod Ahead
 mod Whole
+mod FlowLists
+pub mod ComesBack

@@ -1,3 +1,4 @@
 pub mod Records
 pub mod Output
 pub mod Segmenting
+pub mod Laws

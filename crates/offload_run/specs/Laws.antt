@@ -1,0 +1,19 @@
+-- Merging and then segmenting.
+use Rattle.std.specs.Prelude.{ℕ, ◌≤◌, List}
+use Rattle.pcap_io.specs.declared.heads.Link.TheVariants.{Ethernet}
+use Rattle.pcap_io.specs.Capture.{reads}
+use Rattle.offload_model.specs.Laws.{InBytes}
+use Rattle.segment_run.specs.Output.{output_of}
+use Rattle.segment_run.specs.Laws.{BringsBack}
+use Rattle.offload_run.specs.Merging.{HasFileHead}
+use Rattle.offload_run.specs.Output.{merged}
+
+-- What `merge` writes of a capture is given to `segment`: what that writes is read to its end, and holds each flow's packets of
+-- the first capture, in order, with their bytes and original lengths.
+abbrev pub EveryFlowComesBack : Type 0
+EveryFlowComesBack =
+    (budget : ℕ) (given : List ℕ)
+    → 1 ≤ budget
+    → InBytes given
+    → HasFileHead given
+    → BringsBack (reads Ethernet given).packets (reads Ethernet (output_of (merged budget given)))
