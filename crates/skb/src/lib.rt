@@ -30,5 +30,7 @@
 mod heads;
 mod lend;
 mod skb;
+#[cfg(test)]
+mod tests;
 
 pub use crate::skb::{RoomFault, Skb, Unshared};
