@@ -22,6 +22,8 @@ mod merge;
 mod output;
 mod packet;
 mod round;
+#[cfg(test)]
+mod rows;
 mod status;
 #[cfg(test)]
 mod tests;
