@@ -24,6 +24,8 @@ mod merge;
 mod output;
 mod packet;
 mod round;
+#[cfg(test)]
+mod rows;
 mod segment;
 mod status;
 #[cfg(test)]

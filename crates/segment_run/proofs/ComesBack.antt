@@ -327,7 +327,7 @@ records_are_few o ps lawful c taps =
     let rs : List Packet = records_of o ps in
     let some : AllByRecursion IsSome rs
     = all_joined IsSome (round_records o) (rounds_of o.budget ps)
-        (all_of AreCaptured (λ round. AllByRecursion IsSome (round_records o round)) (rounds_of o.budget ps) (λ round k. round_some o round taps k) (rounds_captured o.budget ps c)) in
+    (all_of AreCaptured (λ round. AllByRecursion IsSome (round_records o round)) (rounds_of o.budget ps) (λ round k. round_some o round taps k) (rounds_captured o.budget ps c)) in
     let flows : (key : Option (List ℕ)) → map content (filter (is_of key) (flat_map segments_of rs)) ≡ map content (filter (is_of key) ps)
     = λ key. ap (map content) (flow_by_flow key rs (all_of IsSound IsOneFlow rs (λ r s. s.flow) (all_sound o ps c))) ∙ flows_come_back o ps lawful c key in
     omega (arith, no_more rs some, same_number (flat_map segments_of rs) ps flows, few ps c.each c.rising)

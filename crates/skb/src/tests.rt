@@ -111,7 +111,10 @@ fn one_block_has_room_as_its_numbers_say(rt: HostRuntime) -> Result<(), Fail> {
     let skb = Skb::new(block, 64, 64, Pieces::new(rt.alloc()));
     let (answers, short, shared) = over_one_block(skb, spare, &mut out);
     let soles = spend(out);
-    assert_eq!(rt; answers, [((0, 0), 50), ((50, 51), 50), ((0, 0), 1998), ((0, 1), 1998)]);
+    assert_eq!(rt;
+        answers,
+        [((0, 0), 50), ((50, 51), 50), ((0, 0), 1998), ((0, 1), 1998)]
+    );
     assert_eq!(rt; short, (1999, 2000));
     assert_eq!(rt; shared, (true, true, true));
     assert_eq!(rt; soles, 1);
