@@ -1,15 +1,18 @@
 //! `offload merge` over the sample captures of `data/`: a line for each, with its status, its records in and out, how many of
-//! these are of merged packets, and a hash of all bytes written.
+//! these are of merged packets, and a hash of all bytes written. Then `offload segment` over what was written: its status, and
+//! how many packets came back, each the next one of its flow, byte for byte and with its original length.
 //!
-//! It is run by the gate, which compares the lines with `stdout`. These come from `contrib/merge_by_definition`, a slow
-//! program that was written from the definitions alone and judges all members of a run at once.
+//! It is run by the gate, which compares the lines with `stdout`. The counts and hashes of merging come from
+//! `contrib/merge_by_definition`, a slow program that was written from the definitions alone and judges all members of a run
+//! at once.
 #![tactic(auto)]
 
 use anyhow::Error;
+use frame_layout::{Key, key};
 use off_io::{Feed, MemSink, MemSource, NoGate, SureSource};
-use offload_run::{RoundEnd, read_round, run};
+use offload_run::{Packet, RoundEnd, Status, read_round, run};
 use pcap_io::{CaptureReader, Link};
-use std::alloc::Global;
+use std::alloc::{AllocError, Global};
 use std::fs;
 
 const SAMPLES: [&str; 4] = [
@@ -26,8 +29,8 @@ struct Counts {
     merged: usize,
 }
 
-// The counts of a capture that ends well.
-fn count_records(alloc: Global, bytes: Vec<u8>, link: Link) -> Option<Counts> {
+// The packets of a capture that ends well.
+fn packets_of(alloc: Global, bytes: Vec<u8>, link: Link) -> Option<Vec<Packet>> {
     let mut feed = Feed {
         inner: SureSource::new(bytes),
     };
@@ -37,18 +40,74 @@ fn count_records(alloc: Global, bytes: Vec<u8>, link: Link) -> Option<Counts> {
     };
     match read_round(alloc, &mut reader, usize::MAX) {
         Ok(round) => match round.end {
-            RoundEnd::End => Some(Counts {
-                records: round.packets.len(),
-                merged: round
-                    .packets
-                    .iter()
-                    .filter(|packet| packet.frame.get(1) == Some(&1))
-                    .count(),
-            }),
+            RoundEnd::End => Some(round.packets),
             _ => None,
         },
         Err(_) => None,
     }
+}
+
+// The counts of a capture of offload records that ends well.
+fn count_records(alloc: Global, bytes: Vec<u8>) -> Counts {
+    match packets_of(alloc, bytes, Link::Offload) {
+        Some(packets) => Counts {
+            records: packets.len(),
+            merged: packets
+                .iter()
+                .filter(|packet| packet.frame.get(1) == Some(&1))
+                .count(),
+        },
+        None => Counts {
+            records: 0,
+            merged: 0,
+        },
+    }
+}
+
+// Whether two packets are of one flow.
+fn is_one_flow(a: &Key, b: &Key) -> bool {
+    match (a.bytes(), b.bytes()) {
+        (Some(a), Some(b)) => a == b,
+        (None, None) => true,
+        _ => false,
+    }
+}
+
+// The first place from `from` on of a packet of this flow that hasn't come back yet.
+fn next_of_flow(flow: &Key, keys: &[Key], is_back: &[bool]) -> Option<usize> {
+    for (i, (own, back)) in keys.iter().zip(is_back).enumerate() {
+        if !*back && is_one_flow(flow, own) {
+            return Some(i);
+        }
+    }
+    None
+}
+
+fn keys_of(alloc: Global, packets: &[Packet]) -> Result<Vec<Key>, AllocError> {
+    let mut keys = Vec::new(alloc);
+    for packet in packets {
+        keys.push(key(&packet.frame))?;
+    }
+    Ok(keys)
+}
+
+// How many of the packets are each the next one of its flow before, in bytes and original length.
+fn count_back(alloc: Global, before: &[Packet], after: &[Packet]) -> Result<usize, AllocError> {
+    let keys = keys_of(alloc, before)?;
+    let mut is_back = vec![in alloc; false; before.len()]?;
+    let mut count = 0usize;
+    for packet in after {
+        let Some(i) = next_of_flow(&key(&packet.frame), &keys, &is_back) else {
+            continue;
+        };
+        if let (Some(back), Some(own)) = (is_back.get_mut(i), before.get(i)) {
+            *back = true;
+            if own.original == packet.original && own.frame == packet.frame {
+                count = count.saturating_add(1);
+            }
+        }
+    }
+    Ok(count)
 }
 
 // A hash of all bytes in turn, by which the whole output is compared.
@@ -60,29 +119,50 @@ fn hash(bytes: &[u8]) -> u32 {
     hash
 }
 
-fn main(rt: HostRuntime) -> Result<(), Error> {
-    let alloc = rt.alloc();
+// What a command ended with, and what it wrote.
+#[derive(Drop)]
+struct Ended {
+    status: Status,
+    bytes: Vec<u8>,
+}
+
+// Runs a command over these bytes.
+fn run_over(alloc: Global, command: &str, bytes: &[u8]) -> Result<Ended, AllocError> {
     let mut words = Vec::new(alloc);
     words.push(String::from_str(alloc, "offload")?)?;
-    words.push(String::from_str(alloc, "merge")?)?;
+    words.push(String::from_str(alloc, command)?)?;
+    let mut source = MemSource::new(bytes.to_vec(alloc)?, 65536, Vec::new(alloc));
+    let mut sink = MemSink::new(alloc, 65536, Vec::new(alloc));
+    let mut log = MemSink::new(alloc, 64, Vec::new(alloc));
+    let status = run(alloc, &words, &mut source, &mut sink, &mut log, &NoGate);
+    let bytes = sink.bytes().to_vec(alloc)?;
+    Ok(Ended { status, bytes })
+}
+
+fn main(rt: HostRuntime) -> Result<(), Error> {
+    let alloc = rt.alloc();
     for name in SAMPLES {
         let bytes = fs::read(&rt, name)?;
-        let mut source = MemSource::new(bytes.as_slice().to_vec(alloc)?, 65536, Vec::new(alloc));
-        let mut sink = MemSink::new(alloc, 65536, Vec::new(alloc));
-        let mut log = MemSink::new(alloc, 64, Vec::new(alloc));
-        let status = run(alloc, &words, &mut source, &mut sink, &mut log, &NoGate);
-        let written = sink.bytes().to_vec(alloc)?;
-        let code = status.code();
-        let hash = hash(&written);
-        let none = Counts {
-            records: 0,
-            merged: 0,
-        };
-        let read = count_records(alloc, bytes, Link::Ethernet).unwrap_or(none);
-        let wrote = count_records(alloc, written, Link::Offload).unwrap_or(none);
+        let merged = run_over(alloc, "merge", &bytes)?;
+        let cut = run_over(alloc, "segment", &merged.bytes)?;
+        let code = merged.status.code();
+        let hash = hash(&merged.bytes);
+        let none = Vec::new(alloc);
+        let before = packets_of(alloc, bytes, Link::Ethernet).unwrap_or(none);
+        let none = Vec::new(alloc);
+        let after = packets_of(alloc, cut.bytes, Link::Ethernet).unwrap_or(none);
+        let wrote = count_records(alloc, merged.bytes);
         println!(rt;
             "{name}: status {code}, records in {}, out {}, merged {}, hash {hash}",
-            read.records, wrote.records, wrote.merged
+            before.len(),
+            wrote.records,
+            wrote.merged
+        )?;
+        println!(rt;
+            "{name}: segmented: status {}, records {}, back {}",
+            cut.status.code(),
+            after.len(),
+            count_back(alloc, &before, &after)?
         )?;
     }
     Ok(())
