@@ -1,0 +1,71 @@
+//! Nanoseconds that judging a frame takes beside summing its bytes, a line for each: `frame_steps 1000000`.
+//!
+//! The frame is a TCP segment of 1,514 bytes over IPv4 that may be merged, so that every sum of it is taken. With no number of
+//! turns it prints how it is called.
+#![tactic(auto)]
+
+use anyhow::Error;
+use frame_layout::candidate;
+use inet_sum::{Partial, fold_of};
+use std::env;
+use std::time::{Duration, Instant};
+
+const LENGTH: usize = 1514;
+
+const HEADERS: [u8; 54] = [
+    0x02, 0x00, 0x00, 0x00, 0x00, 0x02, 0x02, 0x00, 0x00, 0x00, 0x00, 0x01, 0x08, 0x00, 0x45, 0x00,
+    0x05, 0xdc, 0x00, 0x64, 0x40, 0x00, 0x40, 0x06, 0x20, 0xb6, 0x0a, 0x00, 0x00, 0x01, 0x0a, 0x00,
+    0x00, 0x02, 0x9c, 0x40, 0x13, 0x89, 0x00, 0x00, 0x03, 0xe8, 0x00, 0x00, 0x00, 0x01, 0x50, 0x10,
+    0x01, 0x00, 0xe1, 0x6b, 0x00, 0x00,
+];
+
+// Frames of one content at several places, so that no turn can be taken from the one before.
+fn frames() -> [[u8; LENGTH]; 4] {
+    let mut frame = [0; LENGTH];
+    frame[..54].copy_from_slice(&HEADERS);
+    [frame; 4]
+}
+
+fn is_candidate(frame: &[u8; LENGTH]) -> bool {
+    let mut rest = Partial::new();
+    rest.add(&frame[200..]);
+    candidate(&frame[..200], &rest, 1514, 1514).is_some()
+}
+
+fn time_judging(rt: &HostRuntime, turns: u64) -> Result<(Duration, u64), Error> {
+    let frames = frames();
+    let start = Instant::now(rt)?;
+    let mut found = 0u64;
+    for turn in 0..turns {
+        if is_candidate(&frames[(turn % 4) as usize]) {
+            found = found.wrapping_add(1);
+        }
+    }
+    Ok((start.elapsed(rt)?, found))
+}
+
+fn time_summing(rt: &HostRuntime, turns: u64) -> Result<(Duration, u64), Error> {
+    let frames = frames();
+    let start = Instant::now(rt)?;
+    let mut total = 0u64;
+    for turn in 0..turns {
+        total = total.wrapping_add(u64::from(fold_of(&frames[(turn % 4) as usize])));
+    }
+    Ok((start.elapsed(rt)?, total))
+}
+
+fn main(rt: HostRuntime) -> Result<(), Error> {
+    let Some(word) = env::args(&rt)?.nth(1) else {
+        println!(rt; "usage: frame_steps TURNS")?;
+        return Ok(());
+    };
+    let turns = word.parse::<u64>()?;
+    let (summing, total) = time_summing(&rt, turns)?;
+    println!(rt; "bytes summed: {} ns, total {total}", summing.as_nanos())?;
+    let (judging, found) = time_judging(&rt, turns)?;
+    println!(rt;
+        "shape and candidate: {} ns, {found} candidates",
+        judging.as_nanos()
+    )?;
+    Ok(())
+}
