@@ -1,6 +1,7 @@
 //! `offload merge` over the sample captures of `data/`: a line for each, with its status, its records in and out, how many of
 //! these are of merged packets, and a hash of all bytes written. Then `offload segment` over what was written: its status, and
-//! how many packets came back, each the next one of its flow, byte for byte and with its original length.
+//! how many packets came back, each the next one of its flow, byte for byte and with its original length. At last three runs
+//! that are refused, with their lines in the log.
 //!
 //! It is run by the gate, which compares the lines with `stdout`. The counts and hashes of merging come from
 //! `contrib/merge_by_definition`, a slow program that was written from the definitions alone and judges all members of a run
@@ -124,6 +125,7 @@ fn hash(bytes: &[u8]) -> u32 {
 struct Ended {
     status: Status,
     bytes: Vec<u8>,
+    log: Vec<u8>,
 }
 
 // Runs a command over these bytes.
@@ -136,7 +138,31 @@ fn run_over(alloc: Global, command: &str, bytes: &[u8]) -> Result<Ended, AllocEr
     let mut log = MemSink::new(alloc, 64, Vec::new(alloc));
     let status = run(alloc, &words, &mut source, &mut sink, &mut log, &NoGate);
     let bytes = sink.bytes().to_vec(alloc)?;
-    Ok(Ended { status, bytes })
+    let log = log.bytes().to_vec(alloc)?;
+    Ok(Ended { status, bytes, log })
+}
+
+// A line on a run that is refused: its status and its line in the log.
+fn show_refusal(rt: &HostRuntime, what: &str, command: &str, bytes: &[u8]) -> Result<(), Error> {
+    let ended = run_over(rt.alloc(), command, bytes)?;
+    let line = str::from_utf8(&ended.log).unwrap_or("no text");
+    println!(rt;
+        "{what}: status {}, log: {}",
+        ended.status.code(),
+        line.trim_end()
+    )?;
+    Ok(())
+}
+
+// A usage error, and a capture that is cut one byte before its end.
+fn show_refusals(rt: &HostRuntime, sample: &[u8]) -> Result<(), Error> {
+    let cut = match sample.split_last() {
+        Some((_, front)) => front,
+        None => sample,
+    };
+    show_refusal(rt, "frobnicate", "frobnicate", sample)?;
+    show_refusal(rt, "one byte short", "merge", cut)?;
+    show_refusal(rt, "no offload capture", "segment", sample)
 }
 
 fn main(rt: HostRuntime) -> Result<(), Error> {
@@ -165,5 +191,6 @@ fn main(rt: HostRuntime) -> Result<(), Error> {
             count_back(alloc, &before, &after)?
         )?;
     }
-    Ok(())
+    let sample = fs::read(&rt, SAMPLES[0])?;
+    show_refusals(&rt, &sample)
 }
