@@ -1,7 +1,7 @@
 //! `offload merge` over the sample captures of `data/`: a line for each, with its status, its records in and out, how many of
 //! these are of merged packets, and a hash of all bytes written. Then `offload segment` over what was written: its status, and
-//! how many packets came back, each the next one of its flow, byte for byte and with its original length. At last three runs
-//! that are refused, with their lines in the log.
+//! how many packets came back, each the next one of its flow, byte for byte and with its original length. Then a
+//! record of 65,495 segments, made by another program, and at last three runs that are refused, with their lines in the log.
 //!
 //! It is run by the gate, which compares the lines with `stdout`. The counts and hashes of merging come from
 //! `contrib/merge_by_definition`, a slow program that was written from the definitions alone and judges all members of a run
@@ -15,6 +15,8 @@ use offload_run::{Packet, RoundEnd, Status, read_round, run};
 use pcap_io::{CaptureReader, Link};
 use std::alloc::{AllocError, Global};
 use std::fs;
+
+const MOST_SEGMENTS: &str = "one_byte_segments.pcap";
 
 const SAMPLES: [&str; 4] = [
     "tcp_ipv4_four_flows.pcap",
@@ -142,6 +144,19 @@ fn run_over(alloc: Global, command: &str, bytes: &[u8]) -> Result<Ended, AllocEr
     Ok(Ended { status, bytes, log })
 }
 
+// A line on the record of the most segments that an IPv4 length field allows, each with one byte of payload.
+fn show_most_segments(rt: &HostRuntime) -> Result<(), Error> {
+    let bytes = fs::read(rt, MOST_SEGMENTS)?;
+    let ended = run_over(rt.alloc(), "segment", &bytes)?;
+    println!(rt;
+        "{MOST_SEGMENTS}: segmented: status {}, bytes {}, hash {}",
+        ended.status.code(),
+        ended.bytes.len(),
+        hash(&ended.bytes)
+    )?;
+    Ok(())
+}
+
 // A line on a run that is refused: its status and its line in the log.
 fn show_refusal(rt: &HostRuntime, what: &str, command: &str, bytes: &[u8]) -> Result<(), Error> {
     let ended = run_over(rt.alloc(), command, bytes)?;
@@ -191,6 +206,7 @@ fn main(rt: HostRuntime) -> Result<(), Error> {
             count_back(alloc, &before, &after)?
         )?;
     }
+    show_most_segments(&rt)?;
     let sample = fs::read(&rt, SAMPLES[0])?;
     show_refusals(&rt, &sample)
 }
