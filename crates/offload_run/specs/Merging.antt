@@ -7,6 +7,7 @@ use Rattle.pcap_io.specs.declared.heads.Link.TheVariants.{Ethernet}
 use Rattle.pcap_io.specs.Headers.{first_that_holds, file_refusals}
 use Rattle.pcap_io.specs.Capture.{reads}
 use Rattle.pcap_io.specs.Places.{found_at}
+use Rattle.segment_run.specs.Segmenting.{FlushedBehind}
 use Rattle.offload_words.specs.declared.words.Command.{Command}
 use Rattle.offload_words.specs.declared.words.Command.TheVariants.{Merge, Segment}
 use Rattle.offload_run.specs.declared.status.Status.{Status}
@@ -33,11 +34,6 @@ Flushes held is_flushed statuses.Ok = SaysFlushed held is_flushed true
 Flushes held is_flushed (statuses.Malformed fault) = SaysFlushed held is_flushed true
 Flushes held is_flushed statuses.ReadFault = SaysFlushed held is_flushed true
 Flushes held is_flushed _ = ⊤
-
--- behind a file header the sink is flushed, and without one it stays as it was
-pub record FlushedBehind (header flushed untouched : Type 0) : Type 0 where
-  pub behind : header → flushed
-  pub alone : (header → ⊥) → untouched
 
 -- these bytes begin with a lawful file header
 abbrev pub HasFileHead : List ℕ → Type 0

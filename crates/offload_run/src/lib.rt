@@ -25,6 +25,8 @@ mod output;
 mod packet;
 mod round;
 #[cfg(test)]
+mod row_frames;
+#[cfg(test)]
 mod rows;
 mod segment;
 mod status;
