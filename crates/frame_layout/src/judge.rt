@@ -27,7 +27,7 @@ fn is_plain(head: &[u8], len: usize, header: Header) -> bool
     requires long { length head.now ≤ len }
     ensures { result ≡ is_plain_of head.now len header.layer header.at }
 {
-    let at = header.at;
+    let at = header.at as usize;
     match header.layer {
         Layer::Ip4 => usize::from(be16(head, at + 2)) == len - at && head[at + 6] < 0x80,
         Layer::Ip6 => usize::from(be16(head, at + 4)) == len - at - 40,
@@ -55,7 +55,7 @@ fn is_summed(front: &Front, ip: Header, header: Header) -> bool
     requires there { AreAddressesWithin (length front.now.head.now) ip.layer ip.at }
     ensures { (f : List ℕ) → IsFrontOf front.now f → IsTrue result ↔ IsSumRight f ip header.layer header.at }
 {
-    let at = header.at;
+    let at = header.at as usize;
     match header.layer {
         Layer::Ip4 => be16(front.head, at + 10) == ip4_sum(front.head, at),
         Layer::Tcp => be16(front.head, at + 16) == carried_sum(front, ip, 6, at, 16),

@@ -56,37 +56,32 @@ impl Seg {
     }
 }
 
-/// The fields with this header in front of the others.
-fn fields_with(head: &[u8], header: Header, fields: Fields) -> Fields
+/// Puts this header in front of those that the fields were read in.
+#[inline(always)]
+fn put_first(head: &[u8], header: Header, fields: &mut Fields)
     requires there { header.at + size header.layer ≤ length head.now }
-    ensures { result ≡ fields_with_said head.now header.layer header.at fields }
+    ensures { fields.new ≡ fields_with_said head.now header.layer header.at fields.old }
 {
-    let at = header.at;
+    let at = header.at as usize;
     match header.layer {
-        Layer::Ip4 => Fields {
-            id1: be16(head, at + 4),
-            df1: head[at + 6] / 0x40 % 2 == 1,
-            id2: fields.id1,
-            df2: fields.df1,
-            ..fields
-        },
-        Layer::Ip6 => Fields {
-            id1: 0,
-            df1: false,
-            id2: fields.id1,
-            df2: fields.df1,
-            ..fields
-        },
-        Layer::Udp => Fields {
-            udp_zero: be16(head, at + 6) == 0,
-            ..fields
-        },
-        Layer::Tcp => Fields {
-            seq: be32(head, at + 4),
-            flags: head[at + 13],
-            ..fields
-        },
-        _ => fields,
+        Layer::Ip4 => {
+            fields.id2 = fields.id1;
+            fields.df2 = fields.df1;
+            fields.id1 = be16(head, at + 4);
+            fields.df1 = head[at + 6] / 0x40 % 2 == 1;
+        }
+        Layer::Ip6 => {
+            fields.id2 = fields.id1;
+            fields.df2 = fields.df1;
+            fields.id1 = 0;
+            fields.df1 = false;
+        }
+        Layer::Udp => fields.udp_zero = be16(head, at + 6) == 0,
+        Layer::Tcp => {
+            fields.seq = be32(head, at + 4);
+            fields.flags = head[at + 13];
+        }
+        _ => {}
     }
 }
 
@@ -105,7 +100,7 @@ pub fn fields_of(head: &[u8], headers: &[Header]) -> Fields
         udp_zero: true,
     };
     for i in 0..headers.len() {
-        fields = fields_with(head, headers[headers.len() - 1 - i], fields);
+        put_first(head, headers[headers.len() - 1 - i], &mut fields);
     }
     fields
 }

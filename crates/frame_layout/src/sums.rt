@@ -39,7 +39,7 @@ fn pseudo(head: &[u8], ip: Header, protocol: u8, len: u32) -> u64
     ensures fold { folded result ≡ fold_of (pseudo_of head.now ip protocol len) }
     ensures small { result < 2 ^ 61 }
 {
-    let at = ip.at;
+    let at = ip.at as usize;
     match ip.layer {
         Layer::Ip4 => unfolded(&head[at + 12..at + 20]) + u64::from(protocol) + u64::from(len),
         Layer::Ip6 => {
