@@ -3,7 +3,7 @@ use Rattle.std.proofs.Common.{◌≡◌, ℕ, ◌<◌, ◌≤◌, Option, Some, 
 use Rattle.std.specs.Prelude.{IfSome}
 use Rattle.net_bytes.specs.Bytes.{byte}
 use Rattle.frame_layout.specs.declared.layout.Header.{Header}
-use Rattle.frame_layout.specs.Shape.{Layout, shape_of}
+use Rattle.frame_layout.specs.Shape.{shape_of}
 use Rattle.frame_layout.specs.Found.{IsFound, layout_with}
 use Rattle.frame_layout.proofs.Bounds.{placed}
 use Rattle.frame_layout.proofs.Keys.{in_front-end}
