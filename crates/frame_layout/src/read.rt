@@ -79,7 +79,7 @@ fn network(
     at: usize,
     found: &mut ArrayVec<Header, 11>,
 ) -> Option<(u8, usize)>
-    requires low { at ≤ 100 }
+    requires low { at < 2 ^ 8 }
     requires room { array_vec_len found.old < 11 }
     ensures found { IsIpFound frame.now found.old.items found.new.items result (λ tunnel. network_from frame.now tunnel kind at) }
     ensures len { array_vec_len found.new ≤ array_vec_len found.old + 1 }
@@ -111,7 +111,7 @@ fn network(
 /// What stands behind the Ethernet type at the place, where one tag may follow.
 #[inline(always)]
 fn one_tag(frame: &[u8], at: usize, found: &mut ArrayVec<Header, 11>) -> Option<(u8, usize)>
-    requires low { at ≤ 94 }
+    requires low { at < 200 }
     requires there { at + 2 ≤ length frame.now }
     requires room { array_vec_len found.old + 1 < 11 }
     ensures found { IsIpFound frame.now found.old.items found.new.items result (λ tunnel. typed_from frame.now tunnel 1 at) }
@@ -136,7 +136,7 @@ fn one_tag(frame: &[u8], at: usize, found: &mut ArrayVec<Header, 11>) -> Option<
 /// recursion, so that they are inlined: a call costs as much as all that they do.
 #[inline(always)]
 fn two_tags(frame: &[u8], at: usize, found: &mut ArrayVec<Header, 11>) -> Option<(u8, usize)>
-    requires low { at ≤ 90 }
+    requires low { at < 150 }
     requires there { at + 2 ≤ length frame.now }
     requires room { array_vec_len found.old + 2 < 11 }
     ensures found { IsIpFound frame.now found.old.items found.new.items result (λ tunnel. typed_from frame.now tunnel 2 at) }
@@ -161,7 +161,7 @@ fn two_tags(frame: &[u8], at: usize, found: &mut ArrayVec<Header, 11>) -> Option
 /// behind it.
 #[inline(always)]
 fn link(frame: &[u8], at: usize, found: &mut ArrayVec<Header, 11>) -> Option<(u8, usize)>
-    requires low { at ≤ 78 }
+    requires low { at < 2 ^ 7 }
     requires room { array_vec_len found.old + 3 < 11 }
     ensures found { IsIpFound frame.now found.old.items found.new.items result (λ tunnel. ethernet_from frame.now tunnel at) }
     ensures len { array_vec_len found.new ≤ array_vec_len found.old + 4 }
@@ -179,7 +179,7 @@ fn link(frame: &[u8], at: usize, found: &mut ArrayVec<Header, 11>) -> Option<(u8
 
 /// The TCP header at the place, and where its payload begins.
 fn tcp(frame: &[u8], at: usize, found: &mut ArrayVec<Header, 11>) -> Option<usize>
-    requires low { at ≤ 140 }
+    requires low { at < 2 ^ 8 }
     requires room { array_vec_len found.old < 11 }
     ensures { IsFound found.old.items found.new.items result (tcp_from frame.now at) }
 {
@@ -195,7 +195,7 @@ fn tcp(frame: &[u8], at: usize, found: &mut ArrayVec<Header, 11>) -> Option<usiz
 
 /// UDP to VXLAN's port, VXLAN, and the headers of the frame in it.
 fn tunnel(frame: &[u8], at: usize, found: &mut ArrayVec<Header, 11>) -> Option<usize>
-    requires low { at ≤ 62 }
+    requires low { at < 100 }
     requires room { array_vec_len found.old ≤ 4 }
     ensures { IsFound found.old.items found.new.items result (vxlan_from frame.now at) }
 {
