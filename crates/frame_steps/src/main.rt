@@ -1,7 +1,7 @@
 //! Nanoseconds that judging a frame takes beside summing its bytes, a line for each: `frame_steps 1000000`.
 //!
-//! The frame is a TCP segment of 1,514 bytes over IPv4 that may be merged, so that every sum of it is taken. With no number of
-//! turns it prints how it is called.
+//! The frame is a TCP segment of 1,514 bytes over IPv4 that may be merged, so that every sum of it is taken: once from its
+//! first 200 bytes and the sum of the others, and once from all its bytes. With no number of turns it prints how it is called.
 #![tactic(auto)]
 
 use anyhow::Error;
