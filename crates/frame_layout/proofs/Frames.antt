@@ -10,6 +10,8 @@ use Rattle.frame_layout.specs.Headers.{size, AreLaid}
 use Rattle.frame_layout.specs.Headers.{AtHeaders}
 use Rattle.frame_layout.specs.declared.layout.Header.{Header}
 use Rattle.frame_layout.specs.declared.layout.Layer.TheVariants.{Ethernet, Ip4, Ip6}
+use Rattle.frame_layout.specs.declared.segment.Fields.{Fields}
+use Rattle.frame_layout.specs.declared.segment.Seg.{Seg}
 use Rattle.frame_layout.proofs.Networks.{has_network}
 use Rattle.frame_layout.proofs.Shapes.{laid_end}
 use Rattle.frame_layout.proofs.Fronts.{same_shapes}
@@ -58,3 +60,18 @@ not_longer f original l small e c =
       | inl a ↦ omega (arith, q.1, a, small (q.0 + 2), small (q.0 + 2 + 1))
       | inr a ↦ omega (arith, q.1, a, small (q.0 + 4), small (q.0 + 4 + 1))
     ]
+
+-- the description of these parts
+abbrev pub described : Layout → ℕ → ℕ → Fields → Seg
+described l at n s = record {
+  layout = l;
+  payload_at = at;
+  payload_len = n;
+  seq = s.seq;
+  flags = s.flags;
+  id1 = s.id1;
+  id2 = s.id2;
+  df1 = s.df1;
+  df2 = s.df2;
+  udp_zero = s.udp_zero;
+}

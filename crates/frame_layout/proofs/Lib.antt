@@ -4,6 +4,7 @@ pub mod Alike
 pub mod SameKey
 mod Readers
 mod Keys
+mod Places
 pub mod Fronts
 mod Counts
 mod Zeroed

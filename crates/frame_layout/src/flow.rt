@@ -1,7 +1,10 @@
 //! The key of a flow.
 
-ghost use Rattle.std.specs.Prelude.{◌≡◌, ◌≤◌, Option, Some, None, List, ℕ, length, IfSome};
-ghost use Rattle.std.specs.Option.{option_map};
+ghost use Rattle.std.specs.Prelude.{◌≡◌, ◌≤◌, Option, Some, None, List, ℕ, length, nat_eq, IfSome};
+ghost use Rattle.std.specs.Option.{option_map, option_eq};
+ghost use Rattle.std.proofs.Common.{rules};
+ghost use Rattle.std.specs.Cmp.Rules.{comparing};
+ghost use Rattle.std.specs.Cmp.Lexicographic.{pointwise};
 
 use arrayvec::ArrayVec;
 use std::marker::Model;
@@ -55,4 +58,19 @@ impl Key {
             None => None,
         }
     }
+}
+
+/// Two keys are equal where both are Other, or both have the same bytes.
+impl PartialEq for Key {
+    ghost eq = { option_eq (pointwise nat_eq) };
+
+    ghost laws = { Prim.search (comparing, rules) };
+
+    fn eq(&self, other: &Key) -> bool {
+        self.bytes() == other.bytes()
+    }
+}
+
+impl Eq for Key {
+    ghost laws = { Prim.search (comparing, rules) };
 }

@@ -10,10 +10,11 @@ ghost use Rattle.frame_layout.specs.Segment.{IsSegOf};
 ghost use Rattle.frame_layout.specs.declared.layout.Layer.TheVariants.{Ethernet, Tcp};
 
 use crate::front::Front;
-use crate::layout::{Header, Layer};
-use crate::read::shape;
+use crate::layout::{Header, Layer, Layout};
+use crate::read::find_headers;
 use crate::segment::{Seg, fields_of};
 use crate::sums::{carried_sum, ip4_sum, is_udp_summed, joined};
+use arrayvec::ArrayVec;
 use inet_sum::{Partial, unfolded};
 use net_bytes::be16;
 
@@ -27,7 +28,7 @@ fn is_plain(head: &[u8], len: usize, header: Header) -> bool
     requires long { length head.now ≤ len }
     ensures { result ≡ is_plain_of head.now len header.layer header.at }
 {
-    let at = header.at;
+    let at = header.at as usize;
     match header.layer {
         Layer::Ip4 => usize::from(be16(head, at + 2)) == len - at && head[at + 6] < 0x80,
         Layer::Ip6 => usize::from(be16(head, at + 4)) == len - at - 40,
@@ -55,7 +56,7 @@ fn is_summed(front: &Front, ip: Header, header: Header) -> bool
     requires there { AreAddressesWithin (length front.now.head.now) ip.layer ip.at }
     ensures { (f : List ℕ) → IsFrontOf front.now f → IsTrue result ↔ IsSumRight f ip header.layer header.at }
 {
-    let at = header.at;
+    let at = header.at as usize;
     match header.layer {
         Layer::Ip4 => be16(front.head, at + 10) == ip4_sum(front.head, at),
         Layer::Tcp => be16(front.head, at + 16) == carried_sum(front, ip, 6, at, 16),
@@ -117,10 +118,10 @@ pub fn candidate(head: &[u8], rest: &Partial, len: u32, original: u32) -> Option
     if len > LONGEST {
         return None;
     }
-    let Some(layout) = shape(head) else {
+    let mut headers = ArrayVec::new();
+    let Some(end) = find_headers(head, &mut headers) else {
         return None;
     };
-    let end = layout.payload_at();
     if end >= len as usize {
         return None;
     }
@@ -130,12 +131,12 @@ pub fn candidate(head: &[u8], rest: &Partial, len: u32, original: u32) -> Option
         len: len as usize,
         behind: fold_behind(head, end, rest),
     };
-    if !are_right(&front, layout.headers()) {
+    if !are_right(&front, headers.as_slice()) {
         return None;
     }
-    let fields = fields_of(head, layout.headers());
+    let fields = fields_of(head, headers.as_slice());
     Some(Seg {
-        layout,
+        layout: Layout::of(headers, end),
         payload_at: end,
         payload_len: len - end as u32,
         seq: fields.seq,

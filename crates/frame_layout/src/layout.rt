@@ -19,11 +19,11 @@ pub enum Layer {
     Tcp,
 }
 
-/// A header, and the place in the frame where it begins.
+/// A header, and the place in the frame where it begins: all headers lie in the first 200 bytes.
 #[derive(Clone, Copy, Default)]
 pub struct Header {
     pub layer: Layer,
-    pub at: usize,
+    pub at: u8,
 }
 
 /// The headers of a frame from the front, at most 11, and the place where the payload begins.

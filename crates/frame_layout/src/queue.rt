@@ -37,7 +37,7 @@ fn add_part(frame: &[u8], header: Header, key: &mut ArrayVec<u8, 120>)
     ensures items { key.new.items ≡ key.old.items ++ flow_part frame.now header.layer header.at }
     ensures len { array_vec_len key.new ≡ array_vec_len key.old + part_size header.layer }
 {
-    let at = header.at;
+    let at = header.at as usize;
     match header.layer {
         Layer::Ethernet => add(key, &frame[at..at + 12]),
         Layer::Tag => add(key, &frame[at - 2..at + 2]),

@@ -3,7 +3,7 @@
 ghost use Rattle.std.specs.Prelude.{◌≡◌, ◌+◌, ◌*◌, ◌<◌, ◌≤◌, ◌^◌, [], length, take, IfSome};
 ghost use Rattle.arrayvec.specs.ArrayVec.{array_vec_len};
 ghost use Rattle.frame_layout.specs.Shape.{ethernet_there, tag_there, ip4_there, ip6_there, tcp_there, udp_there, vxlan_there, network_from, typed_from, ethernet_from, tcp_from, vxlan_from, shape_of};
-ghost use Rattle.frame_layout.specs.Found.{IsIpFound, IsFound};
+ghost use Rattle.frame_layout.specs.Found.{IsIpFound, IsFound, layout_with};
 
 use crate::layout::{Header, Layer, Layout};
 use arrayvec::ArrayVec;
@@ -79,7 +79,7 @@ fn network(
     at: usize,
     found: &mut ArrayVec<Header, 11>,
 ) -> Option<(u8, usize)>
-    requires low { at < 2 ^ 34 }
+    requires low { at < 2 ^ 8 }
     requires room { array_vec_len found.old < 11 }
     ensures found { IsIpFound frame.now found.old.items found.new.items result (λ tunnel. network_from frame.now tunnel kind at) }
     ensures len { array_vec_len found.new ≤ array_vec_len found.old + 1 }
@@ -91,7 +91,7 @@ fn network(
         }
         found.push(Header {
             layer: Layer::Ip4,
-            at,
+            at: at as u8,
         });
         Some((frame[at + 9], at + 20))
     } else if kind == 0x86dd {
@@ -100,7 +100,7 @@ fn network(
         }
         found.push(Header {
             layer: Layer::Ip6,
-            at,
+            at: at as u8,
         });
         Some((frame[at + 6], at + 40))
     } else {
@@ -111,7 +111,7 @@ fn network(
 /// What stands behind the Ethernet type at the place, where one tag may follow.
 #[inline(always)]
 fn one_tag(frame: &[u8], at: usize, found: &mut ArrayVec<Header, 11>) -> Option<(u8, usize)>
-    requires low { at < 2 ^ 33 }
+    requires low { at < 200 }
     requires there { at + 2 ≤ length frame.now }
     requires room { array_vec_len found.old + 1 < 11 }
     ensures found { IsIpFound frame.now found.old.items found.new.items result (λ tunnel. typed_from frame.now tunnel 1 at) }
@@ -127,7 +127,7 @@ fn one_tag(frame: &[u8], at: usize, found: &mut ArrayVec<Header, 11>) -> Option<
     }
     found.push(Header {
         layer: Layer::Tag,
-        at: at + 2,
+        at: (at + 2) as u8,
     });
     network(frame, be16(frame, at + 4), at + 6, found)
 }
@@ -136,7 +136,7 @@ fn one_tag(frame: &[u8], at: usize, found: &mut ArrayVec<Header, 11>) -> Option<
 /// recursion, so that they are inlined: a call costs as much as all that they do.
 #[inline(always)]
 fn two_tags(frame: &[u8], at: usize, found: &mut ArrayVec<Header, 11>) -> Option<(u8, usize)>
-    requires low { at < 2 ^ 32 }
+    requires low { at < 150 }
     requires there { at + 2 ≤ length frame.now }
     requires room { array_vec_len found.old + 2 < 11 }
     ensures found { IsIpFound frame.now found.old.items found.new.items result (λ tunnel. typed_from frame.now tunnel 2 at) }
@@ -152,7 +152,7 @@ fn two_tags(frame: &[u8], at: usize, found: &mut ArrayVec<Header, 11>) -> Option
     }
     found.push(Header {
         layer: Layer::Tag,
-        at: at + 2,
+        at: (at + 2) as u8,
     });
     one_tag(frame, at + 4, found)
 }
@@ -161,7 +161,7 @@ fn two_tags(frame: &[u8], at: usize, found: &mut ArrayVec<Header, 11>) -> Option
 /// behind it.
 #[inline(always)]
 fn link(frame: &[u8], at: usize, found: &mut ArrayVec<Header, 11>) -> Option<(u8, usize)>
-    requires low { at < 2 ^ 30 }
+    requires low { at < 2 ^ 7 }
     requires room { array_vec_len found.old + 3 < 11 }
     ensures found { IsIpFound frame.now found.old.items found.new.items result (λ tunnel. ethernet_from frame.now tunnel at) }
     ensures len { array_vec_len found.new ≤ array_vec_len found.old + 4 }
@@ -172,14 +172,14 @@ fn link(frame: &[u8], at: usize, found: &mut ArrayVec<Header, 11>) -> Option<(u8
     }
     found.push(Header {
         layer: Layer::Ethernet,
-        at,
+        at: at as u8,
     });
     two_tags(frame, at + 12, found)
 }
 
 /// The TCP header at the place, and where its payload begins.
 fn tcp(frame: &[u8], at: usize, found: &mut ArrayVec<Header, 11>) -> Option<usize>
-    requires low { at < 2 ^ 32 }
+    requires low { at < 2 ^ 8 }
     requires room { array_vec_len found.old < 11 }
     ensures { IsFound found.old.items found.new.items result (tcp_from frame.now at) }
 {
@@ -188,14 +188,14 @@ fn tcp(frame: &[u8], at: usize, found: &mut ArrayVec<Header, 11>) -> Option<usiz
     }
     found.push(Header {
         layer: Layer::Tcp,
-        at,
+        at: at as u8,
     });
     Some(at + 4 * usize::from(frame[at + 12] / 16))
 }
 
 /// UDP to VXLAN's port, VXLAN, and the headers of the frame in it.
 fn tunnel(frame: &[u8], at: usize, found: &mut ArrayVec<Header, 11>) -> Option<usize>
-    requires low { at < 2 ^ 29 }
+    requires low { at < 100 }
     requires room { array_vec_len found.old ≤ 4 }
     ensures { IsFound found.old.items found.new.items result (vxlan_from frame.now at) }
 {
@@ -204,14 +204,14 @@ fn tunnel(frame: &[u8], at: usize, found: &mut ArrayVec<Header, 11>) -> Option<u
     }
     found.push(Header {
         layer: Layer::Udp,
-        at,
+        at: at as u8,
     });
     if !is_vxlan(frame, at + 8) {
         return None;
     }
     found.push(Header {
         layer: Layer::Vxlan,
-        at: at + 8,
+        at: (at + 8) as u8,
     });
     let Some((protocol, place)) = link(frame, at + 16, found) else {
         return None;
@@ -239,6 +239,18 @@ fn find(frame: &[u8], found: &mut ArrayVec<Header, 11>) -> Option<usize>
     }
 }
 
+/// Writes the headers of the frame, and gives the place where its payload begins: a caller that judges them first copies
+/// no layout.
+#[inline(always)]
+pub(crate) fn find_headers(frame: &[u8], found: &mut ArrayVec<Header, 11>) -> Option<usize>
+    requires empty { found.old.items ≡ [] }
+    ensures shape { layout_with found.new.items result ≡ shape_of frame.now }
+    ensures within { IfSome result (λ end. end ≤ length frame.now) }
+    ensures low { IfSome result (λ end. end ≤ 200) }
+{
+    find(frame, found)
+}
+
 /// The headers of the frame from the front, and where its payload begins.
 ///
 /// A frame has a shape where it begins with an Ethernet header, at most two VLAN tags, an IPv4 header without options
@@ -251,7 +263,7 @@ pub fn shape(frame: &[u8]) -> Option<Layout>
     ensures low { IfSome result (λ l. l.payload_at ≤ 200) }
 {
     let mut headers = ArrayVec::new();
-    let Some(payload_at) = find(frame, &mut headers) else {
+    let Some(payload_at) = find_headers(frame, &mut headers) else {
         return None;
     };
     Some(Layout::of(headers, payload_at))

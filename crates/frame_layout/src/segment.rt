@@ -7,18 +7,21 @@ ghost use Rattle.frame_layout.specs.Segment.{fields_with as fields_with_said, fi
 use crate::layout::{Header, Layer, Layout};
 use net_bytes::{be16, be32};
 
-/// What of a frame's headers the merging of packets compares. `id1` and `df1` are of the first IP header and `id2` and
-/// `df2` of the second: its identification, and whether it says "don't fragment". They are 0 and false where there is
-/// no such header or it is IPv6.
+/// What of a frame's headers the merging of packets compares. What is said of an IP header is 0 and false where there is
+/// no such header, or it is IPv6.
 #[derive(Clone, Copy)]
 pub struct Fields {
-    /// TCP's sequence number.
+    /// The sequence number of the TCP header.
     pub seq: u32,
-    /// TCP's control bits.
+    /// The control bits of the TCP header.
     pub flags: u8,
+    /// The identification of the first IP header.
     pub id1: u16,
+    /// The identification of the second IP header, that of the frame in the tunnel.
     pub id2: u16,
+    /// Whether the first IP header says "don't fragment".
     pub df1: bool,
+    /// Whether the second IP header says "don't fragment".
     pub df2: bool,
     /// Whether there is no UDP header, or it has no sum.
     pub udp_zero: bool,
@@ -27,15 +30,25 @@ pub struct Fields {
 /// A frame that may be merged: its headers, where its payload begins and how long it is, and the [`Fields`].
 #[derive(Drop)]
 pub struct Seg {
+    /// The headers of the frame, from the front.
     pub layout: Layout,
+    /// The place in the frame where the payload begins, at most 200; the layout has it too.
     pub payload_at: usize,
+    /// How many bytes of payload there are, at least 1. The payload ends with the frame.
     pub payload_len: u32,
+    /// The sequence number of the TCP header: that of the first byte of the payload.
     pub seq: u32,
+    /// The control bits of the TCP header: ACK, with at most PSH and FIN.
     pub flags: u8,
+    /// The identification of the first IP header; 0 where it is IPv6.
     pub id1: u16,
+    /// The identification of the second IP header; 0 where there is none, or it is IPv6.
     pub id2: u16,
+    /// Whether the first IP header says "don't fragment"; false where it is IPv6.
     pub df1: bool,
+    /// Whether the second IP header says "don't fragment"; false where there is none, or it is IPv6.
     pub df2: bool,
+    /// Whether there is no UDP header, or it has no sum.
     pub udp_zero: bool,
 }
 
@@ -56,37 +69,32 @@ impl Seg {
     }
 }
 
-/// The fields with this header in front of the others.
-fn fields_with(head: &[u8], header: Header, fields: Fields) -> Fields
+/// Puts this header in front of those that the fields were read in.
+#[inline(always)]
+fn put_first(head: &[u8], header: Header, fields: &mut Fields)
     requires there { header.at + size header.layer ≤ length head.now }
-    ensures { result ≡ fields_with_said head.now header.layer header.at fields }
+    ensures { fields.new ≡ fields_with_said head.now header.layer header.at fields.old }
 {
-    let at = header.at;
+    let at = header.at as usize;
     match header.layer {
-        Layer::Ip4 => Fields {
-            id1: be16(head, at + 4),
-            df1: head[at + 6] / 0x40 % 2 == 1,
-            id2: fields.id1,
-            df2: fields.df1,
-            ..fields
-        },
-        Layer::Ip6 => Fields {
-            id1: 0,
-            df1: false,
-            id2: fields.id1,
-            df2: fields.df1,
-            ..fields
-        },
-        Layer::Udp => Fields {
-            udp_zero: be16(head, at + 6) == 0,
-            ..fields
-        },
-        Layer::Tcp => Fields {
-            seq: be32(head, at + 4),
-            flags: head[at + 13],
-            ..fields
-        },
-        _ => fields,
+        Layer::Ip4 => {
+            fields.id2 = fields.id1;
+            fields.df2 = fields.df1;
+            fields.id1 = be16(head, at + 4);
+            fields.df1 = head[at + 6] / 0x40 % 2 == 1;
+        }
+        Layer::Ip6 => {
+            fields.id2 = fields.id1;
+            fields.df2 = fields.df1;
+            fields.id1 = 0;
+            fields.df1 = false;
+        }
+        Layer::Udp => fields.udp_zero = be16(head, at + 6) == 0,
+        Layer::Tcp => {
+            fields.seq = be32(head, at + 4);
+            fields.flags = head[at + 13];
+        }
+        _ => {}
     }
 }
 
@@ -105,7 +113,7 @@ pub fn fields_of(head: &[u8], headers: &[Header]) -> Fields
         udp_zero: true,
     };
     for i in 0..headers.len() {
-        fields = fields_with(head, headers[headers.len() - 1 - i], fields);
+        put_first(head, headers[headers.len() - 1 - i], &mut fields);
     }
     fields
 }

@@ -12,6 +12,7 @@ use inet_sum::{fold_number, unfolded};
 use net_bytes::be16;
 
 /// A number with the fold of the bytes from `at` to `end`, with the two bytes at `at + field` taken as zero.
+#[inline(always)]
 fn zeroed(head: &[u8], at: usize, field: usize, end: usize) -> u64
     requires inside { at + field + 2 ≤ end }
     requires end { end ≤ length head.now }
@@ -33,13 +34,14 @@ pub fn ip4_sum(head: &[u8], at: usize) -> u16
 }
 
 /// A number with the fold of the pseudo header of what the IP header carries.
+#[inline(always)]
 fn pseudo(head: &[u8], ip: Header, protocol: u8, len: u32) -> u64
     requires there { AreAddressesWithin (length head.now) ip.layer ip.at }
     requires short { length head.now < 2 ^ 29 }
     ensures fold { folded result ≡ fold_of (pseudo_of head.now ip protocol len) }
     ensures small { result < 2 ^ 61 }
 {
-    let at = ip.at;
+    let at = ip.at as usize;
     match ip.layer {
         Layer::Ip4 => unfolded(&head[at + 12..at + 20]) + u64::from(protocol) + u64::from(len),
         Layer::Ip6 => {
@@ -62,6 +64,7 @@ pub fn joined(front: u64, is_odd: bool, behind: u16) -> u16
 }
 
 /// The sum of the header at the place and all behind it, with its sum field taken as zero.
+#[inline(always)]
 pub fn carried_sum(front: &Front, ip: Header, protocol: u8, at: usize, field: usize) -> u16
     requires inside { at + field + 2 ≤ front.now.end }
     requires even { field % 2 ≡ 0 }

@@ -110,6 +110,10 @@ fn a_worked_segment(rt: HostRuntime) {
     let mut other = PLAIN;
     change(&mut other, &[(35, 0x41)]);
     assert_eq!(rt; queue_of(&key(&other), 2), 1);
+    assert!(rt; key(&PLAIN) == key(&NEXT));
+    assert!(rt; key(&PLAIN) != key(&other));
+    assert!(rt; Key::other() == Key::other());
+    assert!(rt; key(&PLAIN) != Key::other());
 }
 
 #[test]

@@ -1,7 +1,7 @@
 //! Nanoseconds that judging a frame takes beside summing its bytes, a line for each: `frame_steps 1000000`.
 //!
-//! The frame is a TCP segment of 1,514 bytes over IPv4 that may be merged, so that every sum of it is taken. With no number of
-//! turns it prints how it is called.
+//! The frame is a TCP segment of 1,514 bytes over IPv4 that may be merged, so that every sum of it is taken: once from its
+//! first 200 bytes and the sum of the others, and once from all its bytes. With no number of turns it prints how it is called.
 #![tactic(auto)]
 
 use anyhow::Error;
@@ -26,18 +26,35 @@ fn frames() -> [[u8; LENGTH]; 4] {
     [frame; 4]
 }
 
-fn is_candidate(frame: &[u8; LENGTH]) -> bool {
+// By its first 200 bytes and the sum of the others, as a packet in blocks is judged.
+fn is_candidate_in_two(frame: &[u8; LENGTH]) -> bool {
     let mut rest = Partial::new();
     rest.add(&frame[200..]);
     candidate(&frame[..200], &rest, 1514, 1514).is_some()
 }
 
-fn time_judging(rt: &HostRuntime, turns: u64) -> Result<(Duration, u64), Error> {
+fn is_candidate_whole(frame: &[u8; LENGTH]) -> bool {
+    candidate(frame, &Partial::new(), 1514, 1514).is_some()
+}
+
+fn time_judging_in_two(rt: &HostRuntime, turns: u64) -> Result<(Duration, u64), Error> {
     let frames = frames();
     let start = Instant::now(rt)?;
     let mut found = 0u64;
     for turn in 0..turns {
-        if is_candidate(&frames[(turn % 4) as usize]) {
+        if is_candidate_in_two(&frames[(turn % 4) as usize]) {
+            found = found.wrapping_add(1);
+        }
+    }
+    Ok((start.elapsed(rt)?, found))
+}
+
+fn time_judging_whole(rt: &HostRuntime, turns: u64) -> Result<(Duration, u64), Error> {
+    let frames = frames();
+    let start = Instant::now(rt)?;
+    let mut found = 0u64;
+    for turn in 0..turns {
+        if is_candidate_whole(&frames[(turn % 4) as usize]) {
             found = found.wrapping_add(1);
         }
     }
@@ -62,9 +79,14 @@ fn main(rt: HostRuntime) -> Result<(), Error> {
     let turns = word.parse::<u64>()?;
     let (summing, total) = time_summing(&rt, turns)?;
     println!(rt; "bytes summed: {} ns, total {total}", summing.as_nanos())?;
-    let (judging, found) = time_judging(&rt, turns)?;
+    let (judging, found) = time_judging_in_two(&rt, turns)?;
     println!(rt;
         "shape and candidate: {} ns, {found} candidates",
+        judging.as_nanos()
+    )?;
+    let (judging, found) = time_judging_whole(&rt, turns)?;
+    println!(rt;
+        "shape and candidate, whole frame: {} ns, {found} candidates",
         judging.as_nanos()
     )?;
     Ok(())

@@ -1,3 +1,4 @@
 pub mod Folds
 mod Words
+mod Blocks
 mod Rows

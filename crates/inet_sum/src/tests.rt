@@ -13,6 +13,15 @@ fn sums_of_whole_lists(rt: HostRuntime) {
     assert_eq!(rt; udp_checksum(&words), 0x220d);
 }
 
+/// 257 words of 1212, of which one is 3412, and 5600; the sum was computed by a separate program.
+#[test]
+fn a_sum_of_many_words(rt: HostRuntime) {
+    let mut bytes = [0x12; 515];
+    bytes[256] = 0x34;
+    bytes[514] = 0x56;
+    assert_eq!(rt; fold_of(&bytes), 0x9c24);
+}
+
 #[test]
 fn sums_of_pieces(rt: HostRuntime) {
     let words = [0x00, 0x01, 0xf2, 0x03, 0xf4, 0xf5, 0xf6, 0xf7];

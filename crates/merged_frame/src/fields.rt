@@ -30,7 +30,7 @@ fn put_flags_at(head: &mut [u8], header: Header, flags: u8)
         → head.new ++ rest ≡ with_flags flags header.layer header.at (head.old ++ rest) }
 {
     match header.layer {
-        Layer::Tcp => set_flags(head, header.at, flags),
+        Layer::Tcp => set_flags(head, header.at as usize, flags),
         _ => {}
     }
 }
@@ -60,7 +60,7 @@ fn put_length(head: &mut [u8], header: Header, total: usize)
         → length head.old + length rest ≡ total
         → head.new ++ rest ≡ with_length header.layer header.at (head.old ++ rest) }
 {
-    let at = header.at;
+    let at = header.at as usize;
     match header.layer {
         Layer::Ip4 => set_total(head, at, (total - at) as u16),
         Layer::Ip6 => set_payload_len(head, at, (total - at - 40) as u16),

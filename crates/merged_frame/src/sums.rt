@@ -61,7 +61,7 @@ fn put_sum(head: &mut [u8], ip: Header, header: Header, payload: Partial)
         → StandsFor payload bytes
         → head.new ++ bytes ≡ with_sum ip header.layer header.at (head.old ++ bytes) }
 {
-    let at = header.at;
+    let at = header.at as usize;
     match header.layer {
         Layer::Ip4 => {
             let sum = ip4_sum(head, at);
@@ -121,7 +121,7 @@ fn pseudo_sum(head: &[u8], ip: Header, protocol: u8, len: u32) -> Partial
     ensures sum { StandsFor result (pseudo_header head.now ip.layer ip.at protocol len) }
     ensures small { result.len ≤ 40 }
 {
-    let at = ip.at;
+    let at = ip.at as usize;
     let mut sum = Partial::new();
     match ip.layer {
         Layer::Ip4 => {

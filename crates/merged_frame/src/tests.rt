@@ -17,7 +17,7 @@ fn sum_of(first: &[u8], second: &[u8]) -> Partial
     front.joined(back)
 }
 
-fn header(layer: Layer, at: usize) -> Header
+fn header(layer: Layer, at: u8) -> Header
     ensures header { result ≡ record { layer = layer; at = at } }
 {
     Header { layer, at }

@@ -13,7 +13,7 @@ fn is_bit_lawful(frame: &[u8], header: Header, modes: u8) -> bool
     ensures { result ≡ is_bit_lawful_in modes frame.now header.layer header.at }
 {
     match header.layer {
-        Layer::Ip4 => modes % 2 != 1 || frame[header.at + 6] / 0x40 % 2 == 1,
+        Layer::Ip4 => modes % 2 != 1 || frame[header.at as usize + 6] / 0x40 % 2 == 1,
         Layer::Ip6 => modes % 2 != 1,
         _ => true,
     }
@@ -52,7 +52,7 @@ pub fn is_fixed(modes: u8, headers: &[Header], at: usize) -> bool
     for header in headers {
         match header.layer {
             Layer::Ip4 => {
-                if header.at == at {
+                if header.at as usize == at {
                     return left % 2 == 1;
                 }
                 left /= 2;

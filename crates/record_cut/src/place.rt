@@ -21,7 +21,7 @@ pub fn put_places(head: &mut [u8], headers: &[Header], modes: u8, i: u16, n: u32
     while k > 0 {
         k -= 1;
         let header = headers[k];
-        put_place(head, header, is_fixed(modes, headers, header.at), i, n);
+        put_place(head, header, is_fixed(modes, headers, header.at as usize), i, n);
     }
 }
 
@@ -30,7 +30,7 @@ fn put_place(head: &mut [u8], header: Header, stays: bool, i: u16, n: u32)
     requires inside { header.at + size header.layer ≤ length head.old }
     ensures edited { (rest : List ℕ) (fixed : ℕ → Bool) → fixed header.at ≡ stays → head.new ++ rest ≡ with_place fixed i n header.layer header.at (head.old ++ rest) }
 {
-    let at = header.at;
+    let at = header.at as usize;
     match header.layer {
         Layer::Ip4 => put_identification(head, at, stays, i),
         Layer::Tcp => {
@@ -71,7 +71,7 @@ fn put_flags_at(head: &mut [u8], header: Header, flags: u8)
     ensures edited { (rest : List ℕ) → head.new ++ rest ≡ with_flags flags header.layer header.at (head.old ++ rest) }
 {
     match header.layer {
-        Layer::Tcp => set_tcp_flags(head, header.at, flags),
+        Layer::Tcp => set_tcp_flags(head, header.at as usize, flags),
         _ => {}
     }
 }

@@ -24,7 +24,7 @@ fn is_alike_to(first: &[u8], next: &[u8], from: usize, header: Header) -> bool
     requires next { header.at + size header.layer ≤ length next.now }
     ensures alike { Decides result (IsAlikeTo first.now next.now from header.layer header.at) }
 {
-    let at = header.at;
+    let at = header.at as usize;
     match header.layer {
         Layer::Ip4 => is_same(first, next, from, at + 2) && is_same(first, next, at + 6, at + 10),
         Layer::Ip6 | Layer::Udp => is_same(first, next, from, at + 4),
@@ -42,11 +42,12 @@ fn fields_end_of(from: usize, header: Header) -> usize
     requires inside { header.at + size header.layer < 2 ^ 63 }
     ensures end { result ≡ fields_end from header.layer header.at }
 {
+    let at = header.at as usize;
     match header.layer {
-        Layer::Ip4 => header.at + 12,
-        Layer::Ip6 => header.at + 6,
-        Layer::Udp => header.at + 8,
-        Layer::Tcp => header.at + 18,
+        Layer::Ip4 => at + 12,
+        Layer::Ip6 => at + 6,
+        Layer::Udp => at + 8,
+        Layer::Tcp => at + 18,
         _ => from,
     }
 }

@@ -48,7 +48,7 @@ fn is_next_header(first: &[u8], next: &[u8], further: u32, total: usize, header:
     requires next { header.at + size header.layer ≤ length next.now }
     ensures next { result ≡ is_next_at first.now next.now further total header.layer header.at }
 {
-    let at = header.at;
+    let at = header.at as usize;
     match header.layer {
         Layer::Ip4 => total.saturating_sub(at) <= 65535,
         Layer::Ip6 => total.saturating_sub(at).saturating_sub(40) <= 65535,
@@ -84,7 +84,7 @@ fn is_ack_header(frame: &[u8], header: Header) -> bool
     ensures ack { result ≡ is_ack_alone_of frame.now header.layer header.at }
 {
     match header.layer {
-        Layer::Tcp => frame[header.at + 13] == 0x10,
+        Layer::Tcp => frame[header.at as usize + 13] == 0x10,
         _ => true,
     }
 }
@@ -111,12 +111,13 @@ fn is_next_id(first: &[u8], next: &[u8], count: usize, modes: u8, header: Header
 {
     match header.layer {
         Layer::Ip4 => {
-            let own = identification(first, header.at);
-            let id = identification(next, header.at);
+            let at = header.at as usize;
+            let own = identification(first, at);
+            let id = identification(next, at);
             let stays = id == own;
             let rises = id == own.wrapping_add((count % 65536) as u16);
             if count == 1 {
-                rises || (dont_fragment(first, header.at) && stays)
+                rises || (dont_fragment(first, at) && stays)
             } else if modes % 2 == 1 {
                 stays
             } else {
@@ -165,7 +166,8 @@ fn mode_before(first: &[u8], next: &[u8], header: Header, behind: u8) -> u8
 {
     match header.layer {
         Layer::Ip4 => {
-            let stays = identification(next, header.at) == identification(first, header.at);
+            let at = header.at as usize;
+            let stays = identification(next, at) == identification(first, at);
             u8::from(stays) + 2 * behind
         }
         Layer::Ip6 => 2 * behind,

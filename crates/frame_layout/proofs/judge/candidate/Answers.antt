@@ -1,4 +1,4 @@
-use Rattle.std.proofs.Common.{◌≡◌, ◌+◌, ◌<◌, ◌≤◌, None, Some, true, length, ap, sym, ◌∙◌, subst, arith}
+use Rattle.std.proofs.Common.{◌≡◌, ◌+◌, ◌-◌, ◌<◌, ◌≤◌, None, Some, true, length, refl, ap, sym, ◌∙◌, subst, arith}
 use Rattle.std.specs.Prelude.{min}
 use Rattle.frame_layout.specs.Shape.{Layout, shape_of}
 use Rattle.frame_layout.specs.Headers.{size, AtHeaders}
@@ -7,7 +7,9 @@ use Rattle.frame_layout.specs.Front.{are_headers_right}
 use Rattle.frame_layout.specs.declared.layout.Layer.TheVariants.{Ethernet}
 use Rattle.frame_layout.proofs.Bounds.{placed}
 use Rattle.frame_layout.proofs.Frames.{long_is, begins_is, behind_is, shape_of_head, only_layout, inside_all, within_all, candidate_is, is_candidate, not_longer}
-use Rattle.frame_layout.specs.Segment.{fields_of as fields_said, IsSaid, are_ids_said}
+use Rattle.frame_layout.specs.Candidate.{IsCandidate}
+use Rattle.frame_layout.specs.Segment.{fields_of as fields_said, IsSaid, are_ids_said, IsSeg}
+use Rattle.frame_layout.proofs.Frames.{described}
 use Rattle.frame_layout.proofs.Counts.{said, ids, same_fields}
 use Rattle.frame_layout.proofs.judge.candidate.Goals as goal
 
@@ -32,40 +34,39 @@ returns-then-end-len c = record {
       let h = c.args.head.now in
       let long : length f ≡ length h + c.args.rest.now.len = long_is h c.args.rest.now f s in
       let enough : min (length f) 200 ≤ length h = omega (arith, long, c.requires.whole, c.requires.enough) in
-      let p : Layout = c.in-Some.layout in
+      let p : Layout = record { headers = c.find_headers.new.found.items; payload_at = c.in-Some.end } in
       let a : Some p ≡ shape_of f = c.in-Some.ensures.shape ∙ shape_of_head h c.args.rest.now f s (λ k. omega (arith, c.type_inv.head k)) enough in
       let b : p.payload_at < length f = only_layout f p l (λ z. z.payload_at < length f) a e k.payload in
-      omega (arith, b, c.payload_at-end.ensures.place, c.if-end-len.true, long, c.requires.whole);
+      omega (arith, b, c.if-end-len.true, long, c.requires.whole);
 }
 
 pub are_right-requires : goal.are_right-requires
 are_right-requires c =
-    let p : Layout = c.in-Some.layout in
+    let p : Layout = record { headers = c.find_headers.new.found.items; payload_at = c.in-Some.end } in
     record {
-      inside = subst (λ n. AtHeaders (λ layer at. at + size layer ≤ n) c.headers.result.now) (sym c.payload_at-end.ensures.place)
-          (subst (AtHeaders (λ layer at. at + size layer ≤ p.payload_at)) (sym c.headers.ensures.headers)
-          (inside_all 0 p.payload_at p.headers (placed c.args.head.now (λ k. omega (arith, c.type_inv.head k)) p c.in-Some.ensures.shape).laid));
+      inside = subst (AtHeaders (λ layer at. at + size layer ≤ p.payload_at)) (sym c.as_slice.ensures.value)
+          (inside_all 0 p.payload_at p.headers (placed c.args.head.now (λ k. omega (arith, c.type_inv.head k)) p c.in-Some.ensures.shape).laid);
     }
 
 pub returns-then-not-are_right : goal.returns-then-not-are_right
 returns-then-not-are_right c = record {
   candidate = λ f s l e k.
       let h = c.args.head.now in
-      let end = c.payload_at-end.result in
-      let ends : end ≤ length h = omega (arith, c.payload_at-end.ensures.place, c.in-Some.ensures.within) in
+      let end = c.in-Some.end in
+      let ends : end ≤ length h = c.in-Some.ensures.within in
       let enough : min (length f) 200 ≤ length h = omega (arith, long_is h c.args.rest.now f s, c.requires.whole, c.requires.enough) in
-      let p : Layout = c.in-Some.layout in
+      let p : Layout = record { headers = c.find_headers.new.found.items; payload_at = c.in-Some.end } in
       let a : Some p ≡ shape_of f = c.in-Some.ensures.shape ∙ shape_of_head h c.args.rest.now f s (λ k. omega (arith, c.type_inv.head k)) enough in
       let r : are_headers_right f (record { layer = Ethernet; at = 0 }) p.headers = only_layout f p l (λ z. are_headers_right f (record { layer = Ethernet; at = 0 }) z.headers) a e (is_candidate f c.args.original l k) in
-      let t : c.are_right.result ≡ true = (c.are_right.ensures f (record { begins = begins_is h c.args.rest.now f s; long = long_is h c.args.rest.now f s ∙ c.requires.whole; fold = c.fold_behind.ensures s.tail s.sum ∙ ap fold_of (behind_is h c.args.rest.now f s end ends) })).1 (subst (are_headers_right f (record { layer = Ethernet; at = 0 })) (sym c.headers.ensures.headers) r) in
+      let t : c.are_right.result ≡ true = (c.are_right.ensures f (record { begins = begins_is h c.args.rest.now f s; long = long_is h c.args.rest.now f s ∙ c.requires.whole; fold = c.fold_behind.ensures s.tail s.sum ∙ ap fold_of (behind_is h c.args.rest.now f s end ends) })).1 (subst (are_headers_right f (record { layer = Ethernet; at = 0 })) (sym c.as_slice.ensures.value) r) in
       absurd cc;
 }
 
 pub fields_of-fields-requires : goal.fields_of-fields-requires
 fields_of-fields-requires c =
-    let p : Layout = c.in-Some.layout in
+    let p : Layout = record { headers = c.find_headers.new.found.items; payload_at = c.in-Some.end } in
     record {
-      there = subst (AtHeaders (λ layer at. at + size layer ≤ length c.args.head.now)) (sym c.headers-2.ensures.headers)
+      there = subst (AtHeaders (λ layer at. at + size layer ≤ length c.args.head.now)) (sym c.as_slice-2.ensures.value)
           (within_all p.payload_at (length c.args.head.now) p.headers c.in-Some.ensures.within
           (inside_all 0 p.payload_at p.headers (placed c.args.head.now (λ k. omega (arith, c.type_inv.head k)) p c.in-Some.ensures.shape).laid));
     }
@@ -74,23 +75,24 @@ pub returns : goal.returns
 returns c = record {
   candidate = λ f s.
       let h = c.args.head.now in
-      let end = c.payload_at-end.result in
-      let ends : end ≤ length h = omega (arith, c.payload_at-end.ensures.place, c.in-Some.ensures.within) in
+      let end = c.in-Some.end in
+      let ends : end ≤ length h = c.in-Some.ensures.within in
       let long : length f ≡ length h + c.args.rest.now.len = long_is h c.args.rest.now f s in
       let enough : min (length f) 200 ≤ length h = omega (arith, long, c.requires.whole, c.requires.enough) in
-      let p : Layout = c.in-Some.layout in
+      let p : Layout = record { headers = c.find_headers.new.found.items; payload_at = c.in-Some.end } in
       let is : shape_of f ≡ Some p = sym (c.in-Some.ensures.shape ∙ shape_of_head h c.args.rest.now f s (λ k. omega (arith, c.type_inv.head k)) enough) in
       let there : AtHeaders (λ layer at. at + size layer ≤ length h) p.headers =
       within_all p.payload_at (length h) p.headers c.in-Some.ensures.within
       (inside_all 0 p.payload_at p.headers (placed h (λ k. omega (arith, c.type_inv.head k)) p c.in-Some.ensures.shape).laid) in
-      let r : are_headers_right f (record { layer = Ethernet; at = 0 }) p.headers = subst (are_headers_right f (record { layer = Ethernet; at = 0 })) c.headers.ensures.headers ((c.are_right.ensures f (record { begins = begins_is h c.args.rest.now f s; long = long ∙ c.requires.whole; fold = c.fold_behind.ensures s.tail s.sum ∙ ap fold_of (behind_is h c.args.rest.now f s end ends) })).0 c.if-not-are_right.false) in
+      let r : are_headers_right f (record { layer = Ethernet; at = 0 }) p.headers = subst (are_headers_right f (record { layer = Ethernet; at = 0 })) c.as_slice.ensures.value ((c.are_right.ensures f (record { begins = begins_is h c.args.rest.now f s; long = long ∙ c.requires.whole; fold = c.fold_behind.ensures s.tail s.sum ∙ ap fold_of (behind_is h c.args.rest.now f s end ends) })).0 c.if-not-are_right.false) in
       let e : c.fields_of-fields.result ≡ fields_said f p.headers =
-      c.fields_of-fields.ensures ∙ ap (fields_said h) c.headers-2.ensures.headers ∙ same_fields h f (begins_is h c.args.rest.now f s) p.headers there in (
-        candidate_is f c.args.original p (omega (arith, c.if-original-len.false, long, c.requires.whole)) (omega (arith, c.payload_at-end.ensures.place, c.if-end-len.false, long, c.requires.whole)) r,
+      c.fields_of-fields.ensures ∙ ap (fields_said h) c.as_slice-2.ensures.value ∙ same_fields h f (begins_is h c.args.rest.now f s) p.headers there in
+      subst (λ l. IsCandidate f c.args.original l × IsSeg f (described l end (c.args.len - end) c.fields_of-fields.result)) (sym c.of.ensures) (
+        candidate_is f c.args.original p (omega (arith, c.if-original-len.false, long, c.requires.whole)) (omega (arith, c.if-end-len.false, long, c.requires.whole)) r,
         record {
           shape = is;
-          payload_at = c.payload_at-end.ensures.place;
-          payload_len = omega (arith, c.payload_at-end.ensures.place, long, c.requires.whole);
+          payload_at = refl;
+          payload_len = omega (arith, long, c.requires.whole);
           fields = e;
           said = subst (λ z. AtHeaders (IsSaid z f) p.headers) (sym e) (said f p is);
           ids = subst (λ z. are_ids_said z.id1 z.df1 z.id2 z.df2 f p.headers) (sym e) (ids f p is);
