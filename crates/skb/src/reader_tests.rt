@@ -24,10 +24,11 @@ struct Writer {
     out: Outcomes,
 }
 
-// What the three threads share: the bytes of the clones, and how many threads are at work.
+// What the three threads share: the bytes of the clones, how often they are read, and how many threads are at work.
 #[derive(Drop)]
 struct Meeting {
     wanted: [u8; SIZE],
+    reads: u32,
     here: AtomicU32,
 }
 
@@ -43,13 +44,13 @@ fn meet(meeting: &Meeting) {
 }
 
 // How often the head or the piece had other bytes than at first.
-fn changes_of(skb: &Skb, wanted: &[u8; SIZE]) -> u32 {
+fn changes_of(skb: &Skb, meeting: &Meeting) -> u32 {
     let mut changes = 0u32;
-    for _ in 0..50u32 {
-        if skb.head() != &wanted[..] {
+    for _ in 0..meeting.reads {
+        if skb.head() != &meeting.wanted[..] {
             changes = changes.wrapping_add(1);
         }
-        if skb.count() > 1 && skb.slice(0) != &wanted[..] {
+        if skb.count() > 1 && skb.slice(0) != &meeting.wanted[..] {
             changes = changes.wrapping_add(1);
         }
     }
@@ -64,7 +65,7 @@ fn read_and_release(reader: &mut Reader, meeting: &Meeting) -> u32
     match reader.clone.take() {
         Some(skb) => {
             meet(meeting);
-            let changes = changes_of(&skb, &meeting.wanted);
+            let changes = changes_of(&skb, meeting);
             skb.release(&mut reader.out);
             changes
         }
@@ -253,7 +254,11 @@ fn rooms(alloc: Global) -> Result<(Outcomes, Outcomes, Outcomes), AllocError>
 }
 
 // The changes that the readers saw, how the pushes went, and the blocks that came home.
-fn turn<R: Threads + Sync>(rt: &R, alloc: Global) -> Result<(u32, (bool, bool), u32), AllocError> {
+fn turn<R: Threads + Sync>(
+    rt: &R,
+    alloc: Global,
+    reads: u32,
+) -> Result<(u32, (bool, bool), u32), AllocError> {
     let head = filled(alloc)?;
     let second = filled(alloc)?;
     let spare = Sole::new(alloc)?;
@@ -268,6 +273,7 @@ fn turn<R: Threads + Sync>(rt: &R, alloc: Global) -> Result<(u32, (bool, bool), 
     };
     let meeting = Meeting {
         wanted: [7; SIZE],
+        reads,
         here: AtomicU32::new(0),
     };
     let (changes, went) = read_beside(rt, &mut writer, &mut first, &mut second, &meeting);
@@ -279,8 +285,9 @@ fn turn<R: Threads + Sync>(rt: &R, alloc: Global) -> Result<(u32, (bool, bool), 
 
 #[test]
 fn clones_keep_their_bytes_beside_a_writer(rt: HostRuntime) -> Result<(), Fail> {
-    for _ in 0..1000u32 {
-        let seen = turn(&rt, rt.alloc())?;
+    // With few reads the clones are given back while `unshare` asks for the head's block, with many after it.
+    for at in 0..1000u32 {
+        let seen = turn(&rt, rt.alloc(), at % 16)?;
         assert_eq!(rt; seen, (0, (true, true), 3));
     }
     Ok(())
