@@ -18,7 +18,7 @@ use std::time::{Duration, Instant};
 
 const HEADER: [u8; 14] = [2; 14];
 
-// A clone takes a 4096th of a part's weight, so a part is worn after about 180,000 of them.
+// A clone takes a 4096th of a part's weight, so a part is worn after 148,398 of them.
 const MOST_CLONES: u64 = 100_000;
 
 // Room for `n` returns.
