@@ -29,6 +29,8 @@
 
 mod heads;
 mod lend;
+#[cfg(test)]
+mod reader_tests;
 mod skb;
 #[cfg(test)]
 mod tests;
