@@ -5,6 +5,7 @@ ghost use Rattle.block_pool.specs.PoolState.{home};
 use raw_block::Sole;
 use std::alloc::{AllocError, Global};
 use std::marker::Model;
+use thiserror::Error;
 
 /// The blocks that are home, and how many were made and taken. Dropping it frees them.
 #[derive(Drop)]
@@ -26,7 +27,8 @@ impl Model for Pool {
 }
 
 /// No block is home.
-#[derive(Drop)]
+#[derive(Debug, Drop, Error)]
+#[error("no block is home")]
 pub struct Empty;
 
 impl Pool {
