@@ -21,7 +21,8 @@ pub fn put_places(head: &mut [u8], headers: &[Header], modes: u8, i: u16, n: u32
     while k > 0 {
         k -= 1;
         let header = headers[k];
-        put_place(head, header, is_fixed(modes, headers, header.at as usize), i, n);
+        let stays = is_fixed(modes, headers, header.at as usize);
+        put_place(head, header, stays, i, n);
     }
 }
 
