@@ -1,3 +1,4 @@
+pub mod Copying
 pub mod Joining
 pub mod Keeping
 pub mod Places

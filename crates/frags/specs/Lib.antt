@@ -1,3 +1,4 @@
 pub mod Account
+pub mod BuilderState
 pub mod OutcomesState
 pub mod PieceList

@@ -6,6 +6,9 @@
 //! list: `append` and `join_back` put at the end, `cut_front` drops, `split_at` takes and drops, `share` gives every part's
 //! `max(1, weight / 4096)` to a second list. None of them copies a byte.
 //!
+//! `PieceBuilder` puts such a list together in places that `with_room` reserved, so that a caller has its memory before it
+//! moves anything.
+//!
 //! `Outcomes` keeps what releases leave: a Sole or a receipt, in places that `reserve` made, so that giving back takes no
 //! memory.
 //!
@@ -20,6 +23,7 @@
 //! ```
 #![tactic(auto)]
 
+mod builder;
 mod cuts;
 mod holder;
 mod outcomes;
@@ -27,6 +31,7 @@ mod pieces;
 #[cfg(test)]
 mod tests;
 
+pub use builder::PieceBuilder;
 pub use holder::Holder;
 pub use outcomes::Outcomes;
 pub use pieces::{Piece, Pieces, ShareFault, Short};

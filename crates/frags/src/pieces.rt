@@ -1,5 +1,5 @@
 //! Pieces of shared blocks, as one run of bytes.
-ghost use Rattle.std.specs.Prelude.{◌≡◌, ℕ, ◌+◌, ◌-◌, ◌<◌, ◌≤◌, ◌^◌, [], ◌∷◌, ◌++◌, length, MatchResult, MatchOption, IfOk, drop, take, slice_index_or, Bool, false};
+ghost use Rattle.std.specs.Prelude.{◌≡◌, ℕ, ◌+◌, ◌-◌, ◌<◌, ◌≤◌, ◌^◌, [], ◌∷◌, ◌++◌, length, MatchResult, MatchOption, IfOk, drop, take, min, slice_index_or, slice_range, Bool, false};
 ghost use Rattle.frags.specs.declared.pieces.Piece.{Piece};
 ghost use Rattle.frags.specs.Account.{Keeps, both, of_part, of_outcomes};
 ghost use Rattle.frags.specs.PieceList.{bytes_of, piece_bytes, pieces_held, Fits, AllFit, size_of, of_pieces, IsShare, IsSplit, IsAppend, block, AsPart, byte_in, keep_front, least_weight, cut_front, cut_worn, worn};
@@ -21,8 +21,8 @@ pub struct Piece {
 
 /// A list of pieces of blocks that others may hold too, as one run of fewer than 2^32 bytes. It must be spent: released.
 pub struct Pieces {
-    items: VecDeque<Piece>,
-    size: usize,
+    pub(crate) items: VecDeque<Piece>,
+    pub(crate) size: usize,
 }
 
 impl Model for Pieces {
@@ -62,6 +62,18 @@ fn bytes_in(piece: &Piece) -> &[u8]
     &piece.part.bytes()[piece.from..piece.to]
 }
 
+// Copies bytes over `into` from the place `done` on, as many as fit, and answers where they end.
+fn copy_on(into: &mut [u8], done: usize, bytes: &[u8]) -> usize
+    requires { done ≤ length into.old }
+    ensures end { result ≡ done + min (length bytes.now) (length into.old - done) }
+    ensures written { take result into.new ≡ take done into.old ++ take (result - done) bytes.now }
+    ensures size { length into.new ≡ length into.old }
+{
+    let n = bytes.len().min(into.len() - done);
+    into[done..done + n].copy_from_slice(&bytes[..n]);
+    done + n
+}
+
 // A Sole becomes a part.
 fn as_part(holder: Holder) -> Part
     ensures { AsPart holder result }
@@ -73,84 +85,6 @@ fn as_part(holder: Holder) -> Part
 }
 
 impl Pieces {
-    /// Some part weighs 1, and has nothing to give.
-    pub fn is_worn(&self) -> bool
-        ensures { result ≡ worn self.now }
-    {
-        for i in 0..self.items.len() {
-            let piece = &self.items[i];
-            if piece.part.weight() == 1 {
-                return true;
-            }
-        }
-        false
-    }
-
-    /// A second list of the same bytes, uncopied. Each part gives `max(1, weight / 4096)` away and keeps its life. `Worn`
-    /// exactly where some part weighs 1, which is judged before memory.
-    pub fn share(&mut self) -> Result<Pieces, ShareFault>
-        ensures share { IsShare self.old self.new result }
-        ensures sums { IfOk result (λ c. (t : ℕ × ℕ → Bool) (m : ℕ) → pieces_held t m self.new + pieces_held t m c ≡ pieces_held t m self.old) }
-    {
-        if self.is_worn() {
-            return Err(ShareFault::Worn);
-        }
-        let n = self.items.len();
-        let Ok(mut items) = VecDeque::with_capacity(*self.items.allocator(), n) else {
-            return Err(ShareFault::NoMemory);
-        };
-        for i in 0..n {
-            let piece = &mut self.items[i];
-            let weight = piece.part.weight();
-            let part = piece.part.split((weight / 4096).max(1));
-            items.push_back_reserved(Piece {
-                part,
-                from: piece.from,
-                to: piece.to,
-            });
-        }
-        Ok(Pieces {
-            items,
-            size: self.size,
-        })
-    }
-
-    /// The first `n` bytes are gone. Pieces that are wholly cut are given back. `Short` exactly where `n > len()`.
-    #[tactic(auto, using(crate::proofs::Keeping::cut_bytes))]
-    pub fn cut_front(&mut self, n: usize, out: &mut Outcomes) -> Result<(), Short>
-        requires { length self.old ≤ out.old.spare }
-        ensures spans { MatchResult result (λ _. (n ≤ size_of self.old) × (self.new ≡ cut_front n self.old)) (λ e. (e.have ≡ size_of self.old) × (e.need ≡ n) × (size_of self.old < n) × (self.new ≡ self.old) × (out.new ≡ out.old)) }
-        ensures bytes { IfOk result (λ _. bytes_of self.new ≡ drop n (bytes_of self.old)) }
-        ensures kept { Keeps (both (of_pieces self.old) (of_outcomes out.old)) (both (of_pieces self.new) (of_outcomes out.new)) }
-        ensures places { out.old.spare + length self.new ≤ out.new.spare + length self.old }
-    {
-        if self.size < n {
-            return Err(Short {
-                have: self.size,
-                need: n,
-            });
-        }
-        let mut left = n;
-        while let Some(mut piece) = self.items.pop_front() {
-            let size = piece.to - piece.from;
-            if left < size {
-                piece.from += left;
-                self.size -= left;
-                self.items.push_front_reserved(piece);
-                return Ok(());
-            }
-            left -= size;
-            self.size -= size;
-            let Piece {
-                part,
-                from: _,
-                to: _,
-            } = piece;
-            out.give_back(part);
-        }
-        Ok(())
-    }
-
     /// No pieces.
     pub fn new(alloc: Global) -> Pieces
         ensures { result ≡ [] }
@@ -175,6 +109,94 @@ impl Pieces {
         ensures within { result ≤ size_of self.now }
     {
         self.items.len()
+    }
+
+    /// Some part weighs 1, and has nothing to give.
+    pub fn is_worn(&self) -> bool
+        ensures { result ≡ worn self.now }
+    {
+        for i in 0..self.items.len() {
+            let piece = &self.items[i];
+            if piece.part.weight() == 1 {
+                return true;
+            }
+        }
+        false
+    }
+
+    /// The least weight of a part, `FULL` where there is none.
+    pub fn least_weight(&self) -> u64
+        ensures { result ≡ least_weight self.now }
+    {
+        let mut least = FULL;
+        for i in 0..self.items.len() {
+            least = least.min(self.items[i].part.weight());
+        }
+        least
+    }
+
+    /// The byte at a place.
+    pub fn byte_at(&self, i: usize) -> u8
+        requires { i < size_of self.now }
+        ensures { (d : ℕ) → result ≡ slice_index_or (bytes_of self.now) i d }
+    {
+        self.find_byte(i)
+    }
+
+    /// Copies the bytes from the place `at` on over `into`, as many as it has, in one pass over the pieces.
+    pub fn copy_out(&self, at: usize, into: &mut [u8])
+        requires { at + length into.old ≤ size_of self.now }
+        ensures bytes { into.new ≡ slice_range (bytes_of self.now) at (at + length into.old) }
+    {
+        let mut skip = at;
+        let mut done = 0usize;
+        for i in 0..self.items.len() {
+            if done == into.len() {
+                return;
+            }
+            let bytes = bytes_in(&self.items[i]);
+            let start = skip.min(bytes.len());
+            done = copy_on(into, done, &bytes[start..]);
+            skip -= start;
+        }
+    }
+
+    /// The bytes of the i-th piece, uncopied.
+    pub fn slice(&self, i: usize) -> &[u8]
+        requires { i < length self.now }
+        ensures { (d : Piece) → result.now ≡ piece_bytes (slice_index_or self.now i d) }
+    {
+        bytes_in(&self.items[i])
+    }
+
+    /// What the places of the list are taken from.
+    pub fn allocator(&self) -> Global {
+        *self.items.allocator()
+    }
+
+    /// The bytes `from..to` of a part follow, uncopied.
+    pub fn append(&mut self, part: Part, from: usize, to: usize) -> Result<(), (Part, AllocError)>
+        requires range { (from < to) × (to ≤ 2048) }
+        requires small { size_of self.old + (to - from) < 2 ^ 32 }
+        ensures appended { MatchResult result (λ _. self.new ≡ self.old ++ (record { part = part; from = from; to = to }) ∷ []) (λ e. (self.new ≡ self.old) × (e.0 ≡ part)) }
+        ensures kept { IfOk result (λ _. Keeps (both (of_pieces self.old) (of_part part)) (of_pieces self.new)) }
+    {
+        let _ = part.bytes();
+        let _ = part.weight();
+        match self.items.push_back(Piece { part, from, to }) {
+            Ok(()) => {
+                self.size += to - from;
+                Ok(())
+            }
+            Err(refused) => {
+                let Piece {
+                    part,
+                    from: _,
+                    to: _,
+                } = refused.value;
+                Err((part, AllocError))
+            }
+        }
     }
 
     /// A holder's bytes `from..to` follow, and other pieces after them. A Sole becomes a part, once there is memory.
@@ -226,6 +248,54 @@ impl Pieces {
         }
     }
 
+    /// All pieces move out, and none are left. It takes no memory.
+    pub fn take(&mut self) -> Pieces
+        ensures taken { result ≡ self.old }
+        ensures empty { self.new ≡ [] }
+    {
+        let none = VecDeque::new(*self.items.allocator());
+        let items = replace(&mut self.items, none);
+        let size = self.size;
+        self.size = 0;
+        Pieces { items, size }
+    }
+
+    /// The first `n` bytes are gone. Pieces that are wholly cut are given back. `Short` exactly where `n > len()`.
+    #[tactic(auto, using(crate::proofs::Keeping::cut_bytes))]
+    pub fn cut_front(&mut self, n: usize, out: &mut Outcomes) -> Result<(), Short>
+        requires { length self.old ≤ out.old.spare }
+        ensures spans { MatchResult result (λ _. (n ≤ size_of self.old) × (self.new ≡ cut_front n self.old)) (λ e. (e.have ≡ size_of self.old) × (e.need ≡ n) × (size_of self.old < n) × (self.new ≡ self.old) × (out.new ≡ out.old)) }
+        ensures bytes { IfOk result (λ _. bytes_of self.new ≡ drop n (bytes_of self.old)) }
+        ensures kept { Keeps (both (of_pieces self.old) (of_outcomes out.old)) (both (of_pieces self.new) (of_outcomes out.new)) }
+        ensures places { out.old.spare + length self.new ≤ out.new.spare + length self.old }
+    {
+        if self.size < n {
+            return Err(Short {
+                have: self.size,
+                need: n,
+            });
+        }
+        let mut left = n;
+        while let Some(mut piece) = self.items.pop_front() {
+            let size = piece.to - piece.from;
+            if left < size {
+                piece.from += left;
+                self.size -= left;
+                self.items.push_front_reserved(piece);
+                return Ok(());
+            }
+            left -= size;
+            self.size -= size;
+            let Piece {
+                part,
+                from: _,
+                to: _,
+            } = piece;
+            out.give_back(part);
+        }
+        Ok(())
+    }
+
     /// The last `n` bytes are gone. Pieces that are wholly cut are given back. `Short` exactly where `n > len()`.
     pub fn cut_back(&mut self, n: usize, out: &mut Outcomes) -> Result<(), Short>
         requires { length self.old ≤ out.old.spare }
@@ -260,56 +330,33 @@ impl Pieces {
         Ok(())
     }
 
-    /// The byte at a place.
-    pub fn byte_at(&self, i: usize) -> u8
-        requires { i < size_of self.now }
-        ensures { (d : ℕ) → result ≡ slice_index_or (bytes_of self.now) i d }
+    /// A second list of the same bytes, uncopied. Each part gives `max(1, weight / 4096)` away and keeps its life. `Worn`
+    /// exactly where some part weighs 1, which is judged before memory.
+    pub fn share(&mut self) -> Result<Pieces, ShareFault>
+        ensures share { IsShare self.old self.new result }
+        ensures sums { IfOk result (λ c. (t : ℕ × ℕ → Bool) (m : ℕ) → pieces_held t m self.new + pieces_held t m c ≡ pieces_held t m self.old) }
     {
-        self.find_byte(i)
-    }
-
-    fn find_byte(&self, i: usize) -> u8
-        requires { i < size_of self.now }
-        ensures byte { result ≡ byte_in i self.now }
-        ensures fits { AllFit self.now }
-    {
-        let mut left = i;
-        for k in 0..self.items.len() {
-            let piece = &self.items[k];
-            let size = piece.to - piece.from;
-            if left < size {
-                return piece.part.bytes()[piece.from + left];
-            }
-            left -= size;
+        if self.is_worn() {
+            return Err(ShareFault::Worn);
         }
-        unreachable!()
-    }
-
-    /// The least weight of a part, `FULL` where there is none.
-    pub fn least_weight(&self) -> u64
-        ensures { result ≡ least_weight self.now }
-    {
-        let mut least = FULL;
-        for i in 0..self.items.len() {
-            least = least.min(self.items[i].part.weight());
+        let n = self.items.len();
+        let Ok(mut items) = VecDeque::with_capacity(*self.items.allocator(), n) else {
+            return Err(ShareFault::NoMemory);
+        };
+        for i in 0..n {
+            let piece = &mut self.items[i];
+            let weight = piece.part.weight();
+            let part = piece.part.split((weight / 4096).max(1));
+            items.push_back_reserved(Piece {
+                part,
+                from: piece.from,
+                to: piece.to,
+            });
         }
-        least
-    }
-
-    // The part that is cut at `at` has nothing to give.
-    fn cut_is_worn(&self, at: usize) -> bool
-        ensures { result ≡ cut_worn at self.now }
-    {
-        let mut left = at;
-        for i in 0..self.items.len() {
-            let piece = &self.items[i];
-            let size = piece.to - piece.from;
-            if left < size {
-                return left != 0 && piece.part.weight() == 1;
-            }
-            left -= size;
-        }
-        false
+        Ok(Pieces {
+            items,
+            size: self.size,
+        })
     }
 
     /// Keeps the first `at` bytes, and answers the rest. `Short` exactly where `at > len()`; then `Worn` exactly where `at`
@@ -339,39 +386,6 @@ impl Pieces {
         Ok(Pieces { items, size })
     }
 
-    /// The bytes of the i-th piece, uncopied.
-    pub fn slice(&self, i: usize) -> &[u8]
-        requires { i < length self.now }
-        ensures { (d : Piece) → result.now ≡ piece_bytes (slice_index_or self.now i d) }
-    {
-        bytes_in(&self.items[i])
-    }
-
-    /// The bytes `from..to` of a part follow, uncopied.
-    pub fn append(&mut self, part: Part, from: usize, to: usize) -> Result<(), (Part, AllocError)>
-        requires range { (from < to) × (to ≤ 2048) }
-        requires small { size_of self.old + (to - from) < 2 ^ 32 }
-        ensures appended { MatchResult result (λ _. self.new ≡ self.old ++ (record { part = part; from = from; to = to }) ∷ []) (λ e. (self.new ≡ self.old) × (e.0 ≡ part)) }
-        ensures kept { IfOk result (λ _. Keeps (both (of_pieces self.old) (of_part part)) (of_pieces self.new)) }
-    {
-        let _ = part.bytes();
-        let _ = part.weight();
-        match self.items.push_back(Piece { part, from, to }) {
-            Ok(()) => {
-                self.size += to - from;
-                Ok(())
-            }
-            Err(refused) => {
-                let Piece {
-                    part,
-                    from: _,
-                    to: _,
-                } = refused.value;
-                Err((part, AllocError))
-            }
-        }
-    }
-
     /// Gives all parts back.
     pub fn release(self, out: &mut Outcomes)
         requires { length self ≤ out.old.spare }
@@ -388,5 +402,38 @@ impl Pieces {
             out.give_back(part);
         }
         items.destroy_empty();
+    }
+
+    fn find_byte(&self, i: usize) -> u8
+        requires { i < size_of self.now }
+        ensures byte { result ≡ byte_in i self.now }
+        ensures fits { AllFit self.now }
+    {
+        let mut left = i;
+        for k in 0..self.items.len() {
+            let piece = &self.items[k];
+            let size = piece.to - piece.from;
+            if left < size {
+                return piece.part.bytes()[piece.from + left];
+            }
+            left -= size;
+        }
+        unreachable!()
+    }
+
+    // The part that is cut at `at` has nothing to give.
+    fn cut_is_worn(&self, at: usize) -> bool
+        ensures { result ≡ cut_worn at self.now }
+    {
+        let mut left = at;
+        for i in 0..self.items.len() {
+            let piece = &self.items[i];
+            let size = piece.to - piece.from;
+            if left < size {
+                return left != 0 && piece.part.weight() == 1;
+            }
+            left -= size;
+        }
+        false
     }
 }
