@@ -1,4 +1,5 @@
 pub mod Copying
+pub mod Growing
 pub mod Joining
 pub mod Keeping
 pub mod Places

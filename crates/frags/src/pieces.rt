@@ -2,6 +2,7 @@
 ghost use Rattle.std.specs.Prelude.{◌≡◌, ℕ, ◌+◌, ◌-◌, ◌<◌, ◌≤◌, ◌^◌, [], ◌∷◌, ◌++◌, length, MatchResult, MatchOption, IfOk, drop, take, min, slice_index_or, slice_range, Bool, false};
 ghost use Rattle.frags.specs.declared.pieces.Piece.{Piece};
 ghost use Rattle.frags.specs.Account.{Keeps, both, of_part, of_outcomes};
+ghost use Rattle.frags.specs.Growth.{Grows};
 ghost use Rattle.frags.specs.PieceList.{bytes_of, piece_bytes, pieces_held, Fits, AllFit, size_of, of_pieces, IsShare, IsSplit, IsAppend, block, AsPart, byte_in, keep_front, least_weight, cut_front, cut_worn, worn};
 
 use crate::cuts::split_into;
@@ -267,6 +268,8 @@ impl Pieces {
         ensures spans { MatchResult result (λ _. (n ≤ size_of self.old) × (self.new ≡ cut_front n self.old)) (λ e. (e.have ≡ size_of self.old) × (e.need ≡ n) × (size_of self.old < n) × (self.new ≡ self.old) × (out.new ≡ out.old)) }
         ensures bytes { IfOk result (λ _. bytes_of self.new ≡ drop n (bytes_of self.old)) }
         ensures kept { Keeps (both (of_pieces self.old) (of_outcomes out.old)) (both (of_pieces self.new) (of_outcomes out.new)) }
+        ensures fewer { length self.new ≤ length self.old }
+        ensures grows { Grows (length self.old - length self.new) out.old out.new }
         ensures places { out.old.spare + length self.new ≤ out.new.spare + length self.old }
     {
         if self.size < n {
@@ -302,6 +305,8 @@ impl Pieces {
         ensures cut { MatchResult result (λ _. (n ≤ size_of self.old) × (self.new ≡ keep_front (size_of self.old - n) self.old)) (λ e. (e.have ≡ size_of self.old) × (e.need ≡ n) × (size_of self.old < n) × (self.new ≡ self.old) × (out.new ≡ out.old)) }
         ensures bytes { IfOk result (λ _. bytes_of self.new ≡ take (size_of self.old - n) (bytes_of self.old)) }
         ensures kept { Keeps (both (of_pieces self.old) (of_outcomes out.old)) (both (of_pieces self.new) (of_outcomes out.new)) }
+        ensures fewer { length self.new ≤ length self.old }
+        ensures grows { Grows (length self.old - length self.new) out.old out.new }
         ensures places { out.old.spare + length self.new ≤ out.new.spare + length self.old }
     {
         if self.size < n {
@@ -390,6 +395,7 @@ impl Pieces {
     pub fn release(self, out: &mut Outcomes)
         requires { length self ≤ out.old.spare }
         ensures kept { Keeps (both (of_pieces self) (of_outcomes out.old)) (of_outcomes out.new) }
+        ensures grows { Grows (length self) out.old out.new }
         ensures places { out.old.spare ≤ out.new.spare + length self }
     {
         let Pieces { mut items, size: _ } = self;
