@@ -1,7 +1,9 @@
 //! Pieces of shared blocks, as one run of bytes.
-ghost use Rattle.std.specs.Prelude.{◌≡◌, ℕ, ◌+◌, ◌-◌, ◌<◌, ◌≤◌, ◌^◌, [], ◌∷◌, ◌++◌, length, MatchResult, MatchOption, IfOk, drop, take, min, slice_index_or, slice_range, Bool, false};
+ghost use Rattle.std.specs.Prelude.{◌≡◌, ℕ, ◌+◌, ◌-◌, ◌<◌, ◌≤◌, ◌^◌, [], ◌∷◌, ◌++◌, length, MatchResult, MatchOption, IfOk, IfErr, drop, take, min, slice_index_or, slice_range, Bool, false};
 ghost use Rattle.frags.specs.declared.pieces.Piece.{Piece};
-ghost use Rattle.frags.specs.Account.{Keeps, both, of_part, of_outcomes};
+ghost use Rattle.frags.specs.declared.holder.Holder.{Holder};
+ghost use Rattle.raw_block.specs.Views.{PartState};
+ghost use Rattle.frags.specs.Account.{Keeps, KeepsMarks, both, of_part, of_holder, of_outcomes};
 ghost use Rattle.frags.specs.Growth.{Grows};
 ghost use Rattle.frags.specs.PieceList.{bytes_of, piece_bytes, pieces_held, Fits, AllFit, size_of, of_pieces, IsShare, IsSplit, IsAppend, block, AsPart, byte_in, keep_front, least_weight, cut_front, cut_worn, worn};
 
@@ -88,7 +90,8 @@ fn as_part(holder: Holder) -> Part
 impl Pieces {
     /// No pieces.
     pub fn new(alloc: Global) -> Pieces
-        ensures { result ≡ [] }
+        ensures empty { result ≡ [] }
+        ensures held { (t : ℕ × ℕ → Bool) (m : ℕ) → pieces_held t m result ≡ 0 }
     {
         Pieces {
             items: VecDeque::new(alloc),
@@ -181,6 +184,7 @@ impl Pieces {
         requires small { size_of self.old + (to - from) < 2 ^ 32 }
         ensures appended { MatchResult result (λ _. self.new ≡ self.old ++ (record { part = part; from = from; to = to }) ∷ []) (λ e. (self.new ≡ self.old) × (e.0 ≡ part)) }
         ensures kept { IfOk result (λ _. Keeps (both (of_pieces self.old) (of_part part)) (of_pieces self.new)) }
+        ensures back { IfErr result (λ e. Keeps (both (of_pieces self.old) (of_part part)) (both (of_pieces self.new) (of_part e.0))) }
     {
         let _ = part.bytes();
         let _ = part.weight();
@@ -210,7 +214,10 @@ impl Pieces {
     ) -> Result<(), (Holder, Pieces, AllocError)>
         requires range { (from < to) × (to ≤ 2048) × (length (block holder) ≡ 2048) }
         requires small { size_of self.old + (to - from) + size_of others < 2 ^ 32 }
-        ensures { IsAppend self.old holder from to others self.new result }
+        ensures appended { IsAppend self.old holder from to others self.new result }
+        ensures kept { IfOk result (λ _. (p : PartState) → holder ≡ Holder.Part p → Keeps (both (of_pieces self.old) (both (of_part p) (of_pieces others))) (of_pieces self.new)) }
+        ensures marks { IfOk result (λ _. KeepsMarks (both (of_pieces self.old) (both (of_holder holder) (of_pieces others))) (of_pieces self.new)) }
+        ensures back { IfErr result (λ e. Keeps (both (of_pieces self.old) (both (of_holder holder) (of_pieces others))) (both (of_pieces self.new) (both (of_holder e.0) (of_pieces e.1)))) }
     {
         if self.items.reserve(others.items.len() + 1).is_err() {
             return Err((holder, others, AllocError));
@@ -237,6 +244,7 @@ impl Pieces {
         requires { size_of self.old + size_of other < 2 ^ 32 }
         ensures joined { MatchResult result (λ _. self.new ≡ self.old ++ other) (λ e. (self.new ≡ self.old) × (e.0 ≡ other)) }
         ensures kept { IfOk result (λ _. Keeps (both (of_pieces self.old) (of_pieces other)) (of_pieces self.new)) }
+        ensures back { IfErr result (λ e. Keeps (both (of_pieces self.old) (of_pieces other)) (both (of_pieces self.new) (of_pieces e.0))) }
     {
         let Pieces { mut items, size } = other;
         match self.items.append(&mut items) {
