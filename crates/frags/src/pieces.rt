@@ -347,6 +347,10 @@ impl Pieces {
     /// exactly where some part weighs 1, which is judged before memory.
     pub fn share(&mut self) -> Result<Pieces, ShareFault>
         ensures share { IsShare self.old self.new result }
+        ensures same { IfErr result (λ _. self.new ≡ self.old) }
+        ensures count { IfOk result (λ c. (length self.new ≡ length self.old) × (length c ≡ length self.old)) }
+        ensures sizes { IfOk result (λ c. (size_of self.new ≡ size_of self.old) × (size_of c ≡ size_of self.old)) }
+        ensures bytes { IfOk result (λ c. (bytes_of self.new ≡ bytes_of self.old) × (bytes_of c ≡ bytes_of self.old)) }
         ensures sums { IfOk result (λ c. (t : ℕ × ℕ → Bool) (m : ℕ) → pieces_held t m self.new + pieces_held t m c ≡ pieces_held t m self.old) }
     {
         if self.is_worn() {
@@ -376,6 +380,9 @@ impl Pieces {
     /// falls inside a piece whose part weighs 1; then memory. Of a part that is cut the front keeps `max(1, weight / 4096)`.
     pub fn split_at(&mut self, at: usize) -> Result<Pieces, ShareFault>
         ensures split { IsSplit at self.old self.new result }
+        ensures same { IfErr result (λ _. self.new ≡ self.old) }
+        ensures count { IfOk result (λ c. length self.new + length c ≤ length self.old + 1) }
+        ensures sizes { IfOk result (λ c. size_of self.new + size_of c ≡ size_of self.old) }
         ensures bytes { IfOk result (λ c. (bytes_of self.old ≡ bytes_of self.new ++ bytes_of c) × (size_of self.new ≡ at)) }
         ensures sums { IfOk result (λ c. (t : ℕ × ℕ → Bool) (m : ℕ) → pieces_held t m self.new + pieces_held t m c ≡ pieces_held t m self.old) }
     {
