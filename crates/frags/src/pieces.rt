@@ -5,7 +5,7 @@ ghost use Rattle.frags.specs.declared.holder.Holder.{Holder};
 ghost use Rattle.raw_block.specs.Views.{PartState};
 ghost use Rattle.frags.specs.Account.{Keeps, KeepsMarks, both, of_part, of_holder, of_outcomes};
 ghost use Rattle.frags.specs.Growth.{Grows};
-ghost use Rattle.frags.specs.PieceList.{bytes_of, piece_bytes, pieces_held, Fits, AllFit, size_of, of_pieces, IsShare, IsSplit, IsAppend, block, AsPart, byte_in, keep_front, least_weight, cut_front, cut_worn, worn};
+ghost use Rattle.frags.specs.PieceList.{bytes_of, piece_bytes, pieces_held, Fits, AllFit, size_of, of_pieces, IsShare, IsSplit, IsAppend, AsPart, byte_in, keep_front, least_weight, cut_front, cut_worn, worn};
 
 use crate::cuts::split_into;
 use crate::{Holder, Outcomes};
@@ -212,7 +212,7 @@ impl Pieces {
         to: usize,
         others: Pieces,
     ) -> Result<(), (Holder, Pieces, AllocError)>
-        requires range { (from < to) × (to ≤ 2048) × (length (block holder) ≡ 2048) }
+        requires range { (from < to) × (to ≤ 2048) }
         requires small { size_of self.old + (to - from) + size_of others < 2 ^ 32 }
         ensures appended { IsAppend self.old holder from to others self.new result }
         ensures kept { IfOk result (λ _. (p : PartState) → holder ≡ Holder.Part p → Keeps (both (of_pieces self.old) (both (of_part p) (of_pieces others))) (of_pieces self.new)) }
@@ -227,6 +227,7 @@ impl Pieces {
             size,
         } = others;
         let part = as_part(holder);
+        let _ = part.bytes();
         let _ = part.weight();
         self.items.push_back_reserved(Piece { part, from, to });
         self.size += to - from + size;
