@@ -58,35 +58,6 @@ pub struct Short {
     pub need: usize,
 }
 
-fn bytes_in(piece: &Piece) -> &[u8]
-    requires { Fits piece.now }
-    ensures { result.now ≡ piece_bytes piece.now }
-{
-    &piece.part.bytes()[piece.from..piece.to]
-}
-
-// Copies bytes over `into` from the place `done` on, as many as fit, and answers where they end.
-fn copy_on(into: &mut [u8], done: usize, bytes: &[u8]) -> usize
-    requires { done ≤ length into.old }
-    ensures end { result ≡ done + min (length bytes.now) (length into.old - done) }
-    ensures written { take result into.new ≡ take done into.old ++ take (result - done) bytes.now }
-    ensures size { length into.new ≡ length into.old }
-{
-    let n = bytes.len().min(into.len() - done);
-    into[done..done + n].copy_from_slice(&bytes[..n]);
-    done + n
-}
-
-// A Sole becomes a part.
-fn as_part(holder: Holder) -> Part
-    ensures { AsPart holder result }
-{
-    match holder {
-        Holder::Sole(sole) => sole.share(),
-        Holder::Part(part) => part,
-    }
-}
-
 impl Pieces {
     /// No pieces.
     pub fn new(alloc: Global) -> Pieces
@@ -298,12 +269,7 @@ impl Pieces {
             }
             left -= size;
             self.size -= size;
-            let Piece {
-                part,
-                from: _,
-                to: _,
-            } = piece;
-            out.give_back(part);
+            give_back(piece, out);
         }
         Ok(())
     }
@@ -334,12 +300,7 @@ impl Pieces {
                 return Ok(());
             }
             self.size = start;
-            let Piece {
-                part,
-                from: _,
-                to: _,
-            } = piece;
-            out.give_back(part);
+            give_back(piece, out);
         }
         Ok(())
     }
@@ -416,12 +377,7 @@ impl Pieces {
     {
         let Pieces { mut items, size: _ } = self;
         while let Some(piece) = items.pop_front() {
-            let Piece {
-                part,
-                from: _,
-                to: _,
-            } = piece;
-            out.give_back(part);
+            give_back(piece, out);
         }
         items.destroy_empty();
     }
@@ -457,5 +413,50 @@ impl Pieces {
             left -= size;
         }
         false
+    }
+}
+
+// The bytes of a piece.
+fn bytes_in(piece: &Piece) -> &[u8]
+    requires { Fits piece.now }
+    ensures { result.now ≡ piece_bytes piece.now }
+{
+    &piece.part.bytes()[piece.from..piece.to]
+}
+
+// Copies bytes over `into` from the place `done` on, as many as fit, and answers where they end.
+fn copy_on(into: &mut [u8], done: usize, bytes: &[u8]) -> usize
+    requires { done ≤ length into.old }
+    ensures end { result ≡ done + min (length bytes.now) (length into.old - done) }
+    ensures written { take result into.new ≡ take done into.old ++ take (result - done) bytes.now }
+    ensures size { length into.new ≡ length into.old }
+{
+    let n = bytes.len().min(into.len() - done);
+    into[done..done + n].copy_from_slice(&bytes[..n]);
+    done + n
+}
+
+// A piece that is gone gives its part back.
+fn give_back(piece: Piece, out: &mut Outcomes)
+    requires { 1 ≤ out.old.spare }
+    ensures grows { Grows 1 out.old out.new }
+    ensures kept { Keeps (both (of_part piece.part) (of_outcomes out.old)) (of_outcomes out.new) }
+    ensures places { out.old.spare ≤ out.new.spare + 1 }
+{
+    let Piece {
+        part,
+        from: _,
+        to: _,
+    } = piece;
+    out.give_back(part);
+}
+
+// A Sole becomes a part.
+fn as_part(holder: Holder) -> Part
+    ensures { AsPart holder result }
+{
+    match holder {
+        Holder::Sole(sole) => sole.share(),
+        Holder::Part(part) => part,
     }
 }

@@ -1,5 +1,5 @@
 //! A block's bytes in three pieces, and outcomes that are counted.
-ghost use Rattle.std.specs.Prelude.{◌≡◌, ◌+◌, ◌<◌, ◌≤◌, [], length, IfSome};
+ghost use Rattle.std.specs.Prelude.{◌+◌, ◌<◌, ◌≤◌, length, IfSome};
 ghost use Rattle.frags.specs.PieceList.{size_of};
 
 use crate::{Outcomes, Pieces};

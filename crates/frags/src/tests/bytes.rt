@@ -1,7 +1,4 @@
 //! Bytes across pieces, and cuts at each kind of place.
-ghost use Rattle.std.specs.Prelude.{◌≡◌, ◌+◌, ◌≤◌, length};
-ghost use Rattle.frags.specs.PieceList.{size_of};
-
 use super::blocks::{counted, has_bytes, outcomes, three_pieces};
 use crate::{PieceBuilder, ShareFault};
 use raw_block::Sole;

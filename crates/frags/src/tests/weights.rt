@@ -1,6 +1,5 @@
 //! Weights by their numbers: what shares keep, and when nothing is left to give.
-ghost use Rattle.std.specs.Prelude.{◌≡◌, ◌+◌, ◌≤◌, length};
-ghost use Rattle.frags.specs.PieceList.{size_of};
+ghost use Rattle.std.specs.Prelude.{◌+◌, ◌≤◌};
 
 use super::blocks::{counted, outcomes, put};
 use crate::{Holder, Outcomes, Pieces, ShareFault};
