@@ -3,4 +3,5 @@ pub mod Growing
 pub mod Joining
 pub mod Keeping
 pub mod Places
+pub mod Returning
 pub mod Splits

@@ -44,14 +44,15 @@ impl Model for Pieces {
 /// Why shared pieces aren't shared or cut.
 #[derive(Drop)]
 pub enum ShareFault {
-    /// The cut was asked for behind the end.
+    /// The cut was asked for behind the end: the bytes that there are, and its place.
     Short { have: usize, need: usize },
     /// A part of weight 1 has nothing to give.
     Worn,
+    /// There is no memory for the second list.
     NoMemory,
 }
 
-/// More bytes were asked for than there are.
+/// More bytes were asked for than there are: both numbers.
 #[derive(Drop)]
 pub struct Short {
     pub have: usize,
@@ -144,12 +145,12 @@ impl Pieces {
         bytes_in(&self.items[i])
     }
 
-    /// What the places of the list are taken from.
+    /// The allocator that the list takes its places from.
     pub fn allocator(&self) -> Global {
         *self.items.allocator()
     }
 
-    /// The bytes `from..to` of a part follow, uncopied.
+    /// The bytes `from..to` of a part follow, uncopied. Where there is no memory for a piece more the part comes back.
     pub fn append(&mut self, part: Part, from: usize, to: usize) -> Result<(), (Part, AllocError)>
         requires range { (from < to) × (to ≤ 2048) }
         requires small { size_of self.old + (to - from) < 2 ^ 32 }
@@ -175,7 +176,8 @@ impl Pieces {
         }
     }
 
-    /// A holder's bytes `from..to` follow, and other pieces after them. A Sole becomes a part, once there is memory.
+    /// A holder's bytes `from..to` follow, and other pieces after them, uncopied. A Sole becomes a part, once there is memory;
+    /// where there is none both come back as they were.
     pub fn append_all(
         &mut self,
         holder: Holder,
@@ -211,7 +213,7 @@ impl Pieces {
         }
     }
 
-    /// The other's pieces follow, uncopied.
+    /// The other's pieces follow, uncopied. Where there is no memory for them the other comes back.
     pub fn join_back(&mut self, other: Pieces) -> Result<(), (Pieces, AllocError)>
         requires { size_of self.old + size_of other < 2 ^ 32 }
         ensures joined { MatchResult result (λ _. self.new ≡ self.old ++ other) (λ e. (self.new ≡ self.old) × (e.0 ≡ other)) }
@@ -306,7 +308,7 @@ impl Pieces {
     }
 
     /// A second list of the same bytes, uncopied. Each part gives `max(1, weight / 4096)` away and keeps its life. `Worn`
-    /// exactly where some part weighs 1, which is judged before memory.
+    /// exactly where some part weighs 1, which is judged before memory. A refusal changes nothing.
     pub fn share(&mut self) -> Result<Pieces, ShareFault>
         ensures share { IsShare self.old self.new result }
         ensures same { IfErr result (λ _. self.new ≡ self.old) }
@@ -339,7 +341,8 @@ impl Pieces {
     }
 
     /// Keeps the first `at` bytes, and answers the rest. `Short` exactly where `at > len()`; then `Worn` exactly where `at`
-    /// falls inside a piece whose part weighs 1; then memory. Of a part that is cut the front keeps `max(1, weight / 4096)`.
+    /// falls inside a piece whose part weighs 1; then memory. Of a part that is cut the front keeps `max(1, weight / 4096)`,
+    /// and the rest what remains. A refusal changes nothing.
     pub fn split_at(&mut self, at: usize) -> Result<Pieces, ShareFault>
         ensures split { IsSplit at self.old self.new result }
         ensures same { IfErr result (λ _. self.new ≡ self.old) }
@@ -368,7 +371,7 @@ impl Pieces {
         Ok(Pieces { items, size })
     }
 
-    /// Gives all parts back.
+    /// Gives all parts back, the first piece's first.
     pub fn release(self, out: &mut Outcomes)
         requires { length self ≤ out.old.spare }
         ensures kept { Keeps (both (of_pieces self) (of_outcomes out.old)) (of_outcomes out.new) }
