@@ -1,6 +1,6 @@
 //! Bytes across pieces, and cuts at each kind of place.
 use super::blocks::{counted, has_bytes, outcomes, three_pieces};
-use crate::{PieceBuilder, ShareFault};
+use crate::{PieceBuilder, Pieces, ShareFault};
 use raw_block::Sole;
 use std::alloc::Global;
 use std::test::Fail;
@@ -135,10 +135,13 @@ fn a_cut_behind_the_end_is_short(rt: HostRuntime) -> Result<(), Fail> {
 // A piece and the three pieces of another block, put together in reserved places.
 fn built(block: Sole, other: Sole, alloc: Global) -> Option<(bool, usize, (usize, usize))> {
     let mut out = outcomes(alloc)?;
-    let Ok(mut builder) = PieceBuilder::with_room(alloc, 4) else {
+    let none = Pieces::new(alloc);
+    let Ok(mut builder) = PieceBuilder::with_room(none.allocator(), 4) else {
+        none.release(&mut out);
         let _ = counted(out);
         return None;
     };
+    builder.append(none);
     builder.push(other.share(), 2000, 2048);
     builder.append(three_pieces(block, alloc, &mut out));
     let room = builder.room();

@@ -157,3 +157,25 @@ fn a_sole_begins_a_life_where_it_is_taken_in(rt: HostRuntime) -> Result<(), Fail
     assert_eq!(rt; taken_in(block, other, rt.alloc()), Some(wanted));
     Ok(())
 }
+
+// The places that are left where a Sole and both parts of a block were given back, and what they left.
+fn holders_given_back(block: Sole, other: Sole, alloc: Global) -> Option<(usize, (usize, usize))> {
+    let mut out = outcomes(alloc)?;
+    let mut part = other.share();
+    let rest = part.split(1);
+    out.give_back_holder(Holder::Sole(block));
+    out.give_back_holder(Holder::Part(rest));
+    out.give_back_holder(Holder::Part(part));
+    let spare = out.spare();
+    Some((spare, counted(out)))
+}
+
+#[test]
+fn holders_leave_soles_and_receipts(rt: HostRuntime) -> Result<(), Fail> {
+    let block = Sole::new(rt.alloc())?;
+    let other = Sole::new(rt.alloc())?;
+    let (spare, left) = holders_given_back(block, other, rt.alloc()).unwrap_or((0, (0, 0)));
+    assert!(rt; 6 <= spare);
+    assert_eq!(rt; left, (2, 1));
+    Ok(())
+}
