@@ -74,6 +74,7 @@ impl Pieces {
     /// The number of bytes.
     pub fn len(&self) -> usize
         ensures size { result ≡ size_of self.now }
+        ensures bytes { result ≡ length (bytes_of self.now) }
         ensures small { result < 2 ^ 32 }
     {
         self.size
