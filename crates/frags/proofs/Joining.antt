@@ -1,5 +1,5 @@
 -- Lists of pieces put together, and what a release leaves.
-use Rattle.std.proofs.Common.{◌≡◌, ℕ, ◌+◌, ◌-◌, ◌<◌, ◌≤◌, List, [], ◌∷◌, ◌++◌, length, refl, ap, sym, subst, append_assoc, ◌∙◌, zero, suc, get_or, arith}
+use Rattle.std.proofs.Common.{◌≡◌, ℕ, ◌+◌, ◌-◌, ◌*◌, ◌<◌, ◌≤◌, List, [], ◌∷◌, ◌++◌, length, refl, ap, sym, subst, append_assoc, ◌∙◌, zero, suc, get_or, arith}
 use Rattle.std.proofs.lemmas.Bool.{cond_both}
 use lib.Dec.{ltb}
 use Rattle.ref_core.specs.WeightRule.{full_weight}
@@ -8,12 +8,12 @@ use Rattle.raw_block.specs.declared.part.Released.{Released}
 use Rattle.raw_block.specs.declared.part.Released.TheVariants.{Last, Left}
 use Rattle.raw_block.specs.Answers.{IsReleased}
 use Rattle.frags.specs.OutcomesState.{OutcomesState}
-use Rattle.frags.specs.Account.{Keeps, both, counted, at_home, receipts_held, soles_home, of_part, of_holder, of_released, of_outcomes}
-use Rattle.frags.specs.PieceList.{bytes_of, piece_bytes, size_of, Fits, AllFit, cut_front, block, AsPart}
+use Rattle.frags.specs.Account.{Keeps, KeepsMarks, every, both, counted, at_home, receipts_held, soles_home, of_part, of_holder, of_released, of_outcomes}
+use Rattle.frags.specs.PieceList.{of_pieces, pieces_held, bytes_of, piece_bytes, size_of, Fits, AllFit, cut_front, block, AsPart}
 use Rattle.frags.specs.declared.pieces.Piece.{Piece}
 use Rattle.frags.specs.declared.holder.Holder.{Holder}
 use Rattle.frags.specs.declared.holder.Holder.TheVariants.{Sole, Part}
-use Rattle.frags.proofs.Keeping.{counted-le, soles_home-append, size_of-append, AllFit-append}
+use Rattle.frags.proofs.Keeping.{counted-le, soles_home-append, pieces_held-append, size_of-append, AllFit-append}
 
 -- a part released is its receipt, or its block's Sole
 pub released_keeps : (p : PartState) (r : Released) → p.weight ≤ full_weight → IsReleased p r → Keeps (of_part p) (of_released r)
@@ -61,3 +61,28 @@ size_of-cut_front n [] = omega arith
 size_of-cut_front n (p ∷ ps) =
     let h = size_of-cut_front (n - (p.to - p.from)) ps in
     cond_both (ltb n (p.to - p.from)) (record p { from = p.from + n } ∷ ps) (cut_front (n - (p.to - p.from)) ps) (λ (z : List Piece). size_of z ≤ size_of (p ∷ ps)) (λ e. omega arith) (λ e. omega arith)
+
+pub takes_in_is : (a s others rest b : List Piece) (x : Piece) → b ≡ (s ++ x ∷ []) ++ rest → s ≡ a → rest ≡ others → b ≡ a ++ x ∷ others
+takes_in_is a s others rest b x e f g =
+    e ∙ append_assoc s (x ∷ []) rest ∙ ap (λ (z : List Piece). z ++ x ∷ rest) f ∙ ap (λ (z : List Piece). a ++ x ∷ z) g
+
+-- a Sole counts as the part of the full weight that it becomes
+pub as_part_marks : (m : ℕ) (h : Holder) (p : PartState) → AsPart h p → (of_part p).held every m ≡ (of_holder h).held every m + full_weight * (of_holder h).homes m
+as_part_marks m (Sole s) p l =
+    let u : counted every m p.life p.mark p.weight ≡ counted every m p.life s.mark full_weight = cc (l.0, l.2) in
+    let v : counted every m p.life s.mark full_weight ≡ full_weight * at_home m s.mark = grind arith in
+    omega arith
+as_part_marks m (Part q) p l = let u = ap (λ (z : PartState). (of_part z).held every m) l in omega arith
+
+pub takes_in_marks : (a others b : List Piece) (h : Holder) (x : Piece) → AsPart h x.part → b ≡ a ++ x ∷ others → KeepsMarks (both (of_pieces a) (both (of_holder h) (of_pieces others))) (of_pieces b)
+takes_in_marks a others b h x l e m =
+    let u = as_part_marks m h x.part l in
+    let f = ap (pieces_held every m) e ∙ pieces_held-append every m a (x ∷ others) in
+    omega arith
+
+pub takes_in_keeps : (a others b : List Piece) (h : Holder) (q : PartState) (x : Piece) → AsPart h x.part → h ≡ Part q → b ≡ a ++ x ∷ others → Keeps (both (of_pieces a) (both (of_part q) (of_pieces others))) (of_pieces b)
+takes_in_keeps a others b h q x l k e t m =
+    let g : x.part ≡ q = subst (λ (z : Holder). AsPart z x.part) k l in
+    let u = ap (λ (z : PartState). (of_part z).held t m) g in
+    let f = ap (pieces_held t m) e ∙ pieces_held-append t m a (x ∷ others) in
+    (omega arith, omega arith)

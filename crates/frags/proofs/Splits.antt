@@ -1,5 +1,5 @@
 -- The two lists of pieces that a cut makes.
-use Rattle.std.proofs.Common.{◌≡◌, ◌≢◌, ℕ, ◌+◌, ◌-◌, ◌<◌, ◌≤◌, List, [], ◌∷◌, ◌++◌, Bool, true, false, take, drop, refl, ap, sym, ◌∙◌, append_assoc, append-nil, cond, arith}
+use Rattle.std.proofs.Common.{◌≡◌, ◌≢◌, ℕ, ◌+◌, ◌-◌, ◌<◌, ◌≤◌, List, [], ◌∷◌, ◌++◌, Bool, true, false, length, take, drop, refl, ap, sym, ◌∙◌, append_assoc, append-nil, cond, arith}
 use Rattle.std.proofs.lemmas.Bool.{cond_both}
 use Rattle.std.proofs.lemmas.List.{drop-drop}
 use Rattle.std.proofs.Math.Seq.{take-add}
@@ -89,3 +89,14 @@ split_sums t m n (p ∷ ps) h w =
     (λ e. let lt = ltb-true n (p.to - p.from) e in by_test Q (eqb n 0) (λ d. omega arith)
     (λ d. let g = (gift-weighs p.part.weight h.0.3 (nw.0 lt (eqb-false n 0 d))).0.0 in let l : gift p.part.weight ≤ p.part.weight = omega arith in let s = kept_given t m p l in omega arith))
     (λ e. let i = split_sums t m k ps h.1 (nw.1 (ltb-false n (p.to - p.from) e)) in omega arith)
+
+-- a cut makes at most one piece more
+pub split_count : (n : ℕ) (ps : List Piece) → length (front n ps) + length (back n ps) ≤ length ps + 1
+split_count n [] = omega arith
+split_count n (p ∷ ps) =
+    let k : ℕ = n - (p.to - p.from) in
+    let P : Bool → Type 0 = λ b. length (cond b (cond (eqb n 0) [] (record (given p) { to = p.from + n } ∷ [])) (p ∷ front k ps)) + length (cond b (cond (eqb n 0) (p ∷ ps) (record (kept p) { from = p.from + n } ∷ ps)) (back k ps)) ≤ length (p ∷ ps) + 1 in
+    let Q : Bool → Type 0 = λ b. length (cond b [] (record (given p) { to = p.from + n } ∷ [])) + length (cond b (p ∷ ps) (record (kept p) { from = p.from + n } ∷ ps)) ≤ length (p ∷ ps) + 1 in
+    by_test P (ltb n (p.to - p.from))
+    (λ e. by_test Q (eqb n 0) (λ d. omega arith) (λ d. omega arith))
+    (λ e. let i = split_count k ps in omega arith)

@@ -1,3 +1,5 @@
 pub mod Account
+pub mod BuilderState
+pub mod Growth
 pub mod OutcomesState
 pub mod PieceList

@@ -4,13 +4,17 @@
 //! `Pieces` is a list of parts of blocks, each with the range of its bytes that counts. Contracts see the list, and of it
 //! the bytes (`bytes_of`), the number of pieces and the weights (`specs/PieceList.antt`). Each call is an operation on that
 //! list: `append` and `join_back` put at the end, `cut_front` drops, `split_at` takes and drops, `share` gives every part's
-//! `max(1, weight / 4096)` to a second list. None of them copies a byte.
+//! `max(1, weight / 4096)` to a second list. No byte is copied but by `copy_out`, which fills the caller's slice.
+//!
+//! `PieceBuilder` puts such a list together in places that `with_room` reserved, so that a caller has its memory before it
+//! moves anything.
 //!
 //! `Outcomes` keeps what releases leave: a Sole or a receipt, in places that `reserve` made, so that giving back takes no
-//! memory.
+//! memory. They come in order of return, and the clause `grows` says how many (`specs/Growth.antt`).
 //!
 //! Nothing is lost: `specs/Account.antt` counts by lives and by marks what an object holds, and the clauses `kept` and
-//! `sums` say that it stays or that its block's Sole is at home. `Keeps` adds up over calls by arithmetic alone.
+//! `sums` say that it stays or that its block's Sole is at home, `back` that a refused call hands it back, and `marks` the
+//! same where a Sole is shared and a life begins. `Keeps` adds up over calls by arithmetic alone.
 //!
 //! ```
 //! let mut pieces = Pieces::new(alloc);
@@ -20,6 +24,7 @@
 //! ```
 #![tactic(auto)]
 
+mod builder;
 mod cuts;
 mod holder;
 mod outcomes;
@@ -27,6 +32,7 @@ mod pieces;
 #[cfg(test)]
 mod tests;
 
+pub use builder::PieceBuilder;
 pub use holder::Holder;
 pub use outcomes::Outcomes;
 pub use pieces::{Piece, Pieces, ShareFault, Short};

@@ -1,6 +1,9 @@
 //! What was given back: Soles and receipts, in places that were reserved before.
-ghost use Rattle.std.specs.Prelude.{◌≡◌, ℕ, ◌+◌, ◌-◌, ◌<◌, ◌≤◌, [], ◌∷◌, ◌++◌, length, min, IfOk, OnOk, MatchOption, vec_len, vec_capacity};
-ghost use Rattle.frags.specs.Account.{Keeps, both, of_part, of_holder, of_outcomes};
+ghost use Rattle.std.specs.Prelude.{◌≡◌, ℕ, ◌+◌, ◌≤◌, [], ◌∷◌, ◌++◌, OnOk, MatchOption};
+ghost use Rattle.ref_core.specs.WeightRule.{full_weight};
+ghost use Rattle.raw_block.specs.Answers.{IsReleased, IsLast};
+ghost use Rattle.frags.specs.Account.{Keeps, both, of_part, of_sole, of_receipt, of_holder, of_outcomes};
+ghost use Rattle.frags.specs.Growth.{Grows, Behind};
 
 use crate::Holder;
 use raw_block::{Part, Receipt, Released, Sole};
@@ -56,6 +59,7 @@ impl Outcomes {
         requires { 1 ≤ self.old.spare }
         ensures soles { self.new.soles ≡ self.old.soles ++ sole ∷ [] }
         ensures receipts { self.new.receipts ≡ self.old.receipts }
+        ensures kept { Keeps (both (of_sole sole) (of_outcomes self.old)) (of_outcomes self.new) }
         ensures places { self.old.spare ≤ self.new.spare + 1 }
     {
         self.soles.push_reserved(sole);
@@ -66,6 +70,7 @@ impl Outcomes {
         requires { 1 ≤ self.old.spare }
         ensures soles { self.new.soles ≡ self.old.soles }
         ensures receipts { self.new.receipts ≡ self.old.receipts ++ receipt ∷ [] }
+        ensures kept { Keeps (both (of_receipt receipt) (of_outcomes self.old)) (of_outcomes self.new) }
         ensures places { self.old.spare ≤ self.new.spare + 1 }
     {
         self.receipts.push_reserved(receipt);
@@ -75,6 +80,7 @@ impl Outcomes {
     pub fn pop_sole(&mut self) -> Option<Sole>
         ensures receipts { self.new.receipts ≡ self.old.receipts }
         ensures soles { MatchOption result ((self.old.soles ≡ []) × (self.new.soles ≡ [])) (λ s. self.old.soles ≡ self.new.soles ++ s ∷ []) }
+        ensures kept { MatchOption result (Keeps (of_outcomes self.old) (of_outcomes self.new)) (λ s. Keeps (of_outcomes self.old) (both (of_sole s) (of_outcomes self.new))) }
     {
         self.soles.pop()
     }
@@ -82,7 +88,8 @@ impl Outcomes {
     /// The receipt that came last. None exactly where there is none.
     pub fn pop_receipt(&mut self) -> Option<Receipt>
         ensures soles { self.new.soles ≡ self.old.soles }
-        ensures receipts { MatchOption result ((self.old.receipts ≡ []) × (self.new.receipts ≡ [])) (λ s. self.old.receipts ≡ self.new.receipts ++ s ∷ []) }
+        ensures receipts { MatchOption result ((self.old.receipts ≡ []) × (self.new.receipts ≡ [])) (λ r. self.old.receipts ≡ self.new.receipts ++ r ∷ []) }
+        ensures kept { MatchOption result (Keeps (of_outcomes self.old) (of_outcomes self.new)) (λ r. Keeps (of_outcomes self.old) (both (of_receipt r) (of_outcomes self.new))) }
     {
         self.receipts.pop()
     }
@@ -104,6 +111,8 @@ impl Outcomes {
     /// Releases a part, and keeps what that leaves: its block's Sole, or a receipt of its weight.
     pub fn give_back(&mut self, part: Part)
         requires { 1 ≤ self.old.spare }
+        ensures gave { (r : Released) × (IsReleased part r × ((part.weight ≡ full_weight) → IsLast r) × Behind r self.old self.new) }
+        ensures grows { Grows 1 self.old self.new }
         ensures kept { Keeps (both (of_part part) (of_outcomes self.old)) (of_outcomes self.new) }
         ensures places { self.old.spare ≤ self.new.spare + 1 }
     {
@@ -117,6 +126,7 @@ impl Outcomes {
     /// As `give_back`, of a Sole too, which is kept as it is.
     pub fn give_back_holder(&mut self, holder: Holder)
         requires { 1 ≤ self.old.spare }
+        ensures grows { Grows 1 self.old self.new }
         ensures kept { Keeps (both (of_holder holder) (of_outcomes self.old)) (of_outcomes self.new) }
         ensures places { self.old.spare ≤ self.new.spare + 1 }
     {

@@ -1,8 +1,11 @@
 //! Pieces of shared blocks, as one run of bytes.
-ghost use Rattle.std.specs.Prelude.{◌≡◌, ℕ, ◌+◌, ◌-◌, ◌<◌, ◌≤◌, ◌^◌, [], ◌∷◌, ◌++◌, length, MatchResult, MatchOption, IfOk, drop, take, slice_index_or, Bool, false};
+ghost use Rattle.std.specs.Prelude.{◌≡◌, ℕ, ◌+◌, ◌-◌, ◌<◌, ◌≤◌, ◌^◌, [], ◌∷◌, ◌++◌, length, MatchResult, MatchOption, IfOk, IfErr, drop, take, min, slice_index_or, slice_range, Bool, false};
 ghost use Rattle.frags.specs.declared.pieces.Piece.{Piece};
-ghost use Rattle.frags.specs.Account.{Keeps, both, of_part, of_outcomes};
-ghost use Rattle.frags.specs.PieceList.{bytes_of, piece_bytes, pieces_held, Fits, AllFit, size_of, of_pieces, IsShare, IsSplit, IsAppend, block, AsPart, byte_in, keep_front, least_weight, cut_front, cut_worn, worn};
+ghost use Rattle.frags.specs.declared.holder.Holder.{Holder};
+ghost use Rattle.raw_block.specs.Views.{PartState};
+ghost use Rattle.frags.specs.Account.{Keeps, KeepsMarks, both, of_part, of_holder, of_outcomes};
+ghost use Rattle.frags.specs.Growth.{Grows};
+ghost use Rattle.frags.specs.PieceList.{bytes_of, piece_bytes, pieces_held, Fits, AllFit, size_of, of_pieces, IsShare, IsSplit, IsAppend, AsPart, byte_in, keep_front, least_weight, cut_front, cut_worn, worn};
 
 use crate::cuts::split_into;
 use crate::{Holder, Outcomes};
@@ -21,8 +24,8 @@ pub struct Piece {
 
 /// A list of pieces of blocks that others may hold too, as one run of fewer than 2^32 bytes. It must be spent: released.
 pub struct Pieces {
-    items: VecDeque<Piece>,
-    size: usize,
+    pub(crate) items: VecDeque<Piece>,
+    pub(crate) size: usize,
 }
 
 impl Model for Pieces {
@@ -41,38 +44,50 @@ impl Model for Pieces {
 /// Why shared pieces aren't shared or cut.
 #[derive(Drop)]
 pub enum ShareFault {
-    /// The cut was asked for behind the end.
+    /// The cut was asked for behind the end: the bytes that there are, and its place.
     Short { have: usize, need: usize },
     /// A part of weight 1 has nothing to give.
     Worn,
+    /// There is no memory for the second list.
     NoMemory,
 }
 
-/// More bytes were asked for than there are.
+/// More bytes were asked for than there are: both numbers.
 #[derive(Drop)]
 pub struct Short {
     pub have: usize,
     pub need: usize,
 }
 
-fn bytes_in(piece: &Piece) -> &[u8]
-    requires { Fits piece.now }
-    ensures { result.now ≡ piece_bytes piece.now }
-{
-    &piece.part.bytes()[piece.from..piece.to]
-}
-
-// A Sole becomes a part.
-fn as_part(holder: Holder) -> Part
-    ensures { AsPart holder result }
-{
-    match holder {
-        Holder::Sole(sole) => sole.share(),
-        Holder::Part(part) => part,
-    }
-}
-
 impl Pieces {
+    /// No pieces.
+    pub fn new(alloc: Global) -> Pieces
+        ensures empty { result ≡ [] }
+        ensures held { (t : ℕ × ℕ → Bool) (m : ℕ) → pieces_held t m result ≡ 0 }
+    {
+        Pieces {
+            items: VecDeque::new(alloc),
+            size: 0,
+        }
+    }
+
+    /// The number of bytes.
+    pub fn len(&self) -> usize
+        ensures size { result ≡ size_of self.now }
+        ensures bytes { result ≡ length (bytes_of self.now) }
+        ensures small { result < 2 ^ 32 }
+    {
+        self.size
+    }
+
+    /// The number of pieces.
+    pub fn count(&self) -> usize
+        ensures count { result ≡ length self.now }
+        ensures within { result ≤ size_of self.now }
+    {
+        self.items.len()
+    }
+
     /// Some part weighs 1, and has nothing to give.
     pub fn is_worn(&self) -> bool
         ensures { result ≡ worn self.now }
@@ -86,10 +101,221 @@ impl Pieces {
         false
     }
 
+    /// The least weight of a part, `FULL` where there is none.
+    pub fn least_weight(&self) -> u64
+        ensures { result ≡ least_weight self.now }
+    {
+        let mut least = FULL;
+        for i in 0..self.items.len() {
+            least = least.min(self.items[i].part.weight());
+        }
+        least
+    }
+
+    /// The byte at a place.
+    pub fn byte_at(&self, i: usize) -> u8
+        requires { i < size_of self.now }
+        ensures { (d : ℕ) → result ≡ slice_index_or (bytes_of self.now) i d }
+    {
+        self.find_byte(i)
+    }
+
+    /// Copies the bytes from the place `at` on over `into`, as many as it has, in one pass over the pieces.
+    pub fn copy_out(&self, at: usize, into: &mut [u8])
+        requires { at + length into.old ≤ size_of self.now }
+        ensures bytes { into.new ≡ slice_range (bytes_of self.now) at (at + length into.old) }
+    {
+        let mut skip = at;
+        let mut done = 0usize;
+        for i in 0..self.items.len() {
+            if done == into.len() {
+                return;
+            }
+            let bytes = bytes_in(&self.items[i]);
+            let start = skip.min(bytes.len());
+            done = copy_on(into, done, &bytes[start..]);
+            skip -= start;
+        }
+    }
+
+    /// The bytes of the i-th piece, uncopied.
+    pub fn slice(&self, i: usize) -> &[u8]
+        requires { i < length self.now }
+        ensures { (d : Piece) → result.now ≡ piece_bytes (slice_index_or self.now i d) }
+    {
+        bytes_in(&self.items[i])
+    }
+
+    /// The allocator that the list takes its places from.
+    pub fn allocator(&self) -> Global {
+        *self.items.allocator()
+    }
+
+    /// The bytes `from..to` of a part follow, uncopied. Where there is no memory for a piece more the part comes back.
+    pub fn append(&mut self, part: Part, from: usize, to: usize) -> Result<(), (Part, AllocError)>
+        requires range { (from < to) × (to ≤ 2048) }
+        requires small { size_of self.old + (to - from) < 2 ^ 32 }
+        ensures appended { MatchResult result (λ _. self.new ≡ self.old ++ (record { part = part; from = from; to = to }) ∷ []) (λ e. (self.new ≡ self.old) × (e.0 ≡ part)) }
+        ensures kept { IfOk result (λ _. Keeps (both (of_pieces self.old) (of_part part)) (of_pieces self.new)) }
+        ensures back { IfErr result (λ e. Keeps (both (of_pieces self.old) (of_part part)) (both (of_pieces self.new) (of_part e.0))) }
+    {
+        let _ = part.bytes();
+        let _ = part.weight();
+        match self.items.push_back(Piece { part, from, to }) {
+            Ok(()) => {
+                self.size += to - from;
+                Ok(())
+            }
+            Err(refused) => {
+                let Piece {
+                    part,
+                    from: _,
+                    to: _,
+                } = refused.value;
+                Err((part, AllocError))
+            }
+        }
+    }
+
+    /// A holder's bytes `from..to` follow, and other pieces after them, uncopied. A Sole becomes a part, once there is memory;
+    /// where there is none both come back as they were.
+    pub fn append_all(
+        &mut self,
+        holder: Holder,
+        from: usize,
+        to: usize,
+        others: Pieces,
+    ) -> Result<(), (Holder, Pieces, AllocError)>
+        requires range { (from < to) × (to ≤ 2048) }
+        requires small { size_of self.old + (to - from) + size_of others < 2 ^ 32 }
+        ensures appended { IsAppend self.old holder from to others self.new result }
+        ensures kept { IfOk result (λ _. (p : PartState) → holder ≡ Holder.Part p → Keeps (both (of_pieces self.old) (both (of_part p) (of_pieces others))) (of_pieces self.new)) }
+        ensures marks { IfOk result (λ _. KeepsMarks (both (of_pieces self.old) (both (of_holder holder) (of_pieces others))) (of_pieces self.new)) }
+        ensures back { IfErr result (λ e. Keeps (both (of_pieces self.old) (both (of_holder holder) (of_pieces others))) (both (of_pieces self.new) (both (of_holder e.0) (of_pieces e.1)))) }
+    {
+        if self.items.reserve(others.items.len() + 1).is_err() {
+            return Err((holder, others, AllocError));
+        }
+        let Pieces {
+            items: mut following,
+            size,
+        } = others;
+        let part = as_part(holder);
+        let _ = part.bytes();
+        let _ = part.weight();
+        self.items.push_back_reserved(Piece { part, from, to });
+        self.size += to - from + size;
+        match self.items.append(&mut following) {
+            Ok(()) => {
+                following.destroy_empty();
+                Ok(())
+            }
+            Err(_) => unreachable!(),
+        }
+    }
+
+    /// The other's pieces follow, uncopied. Where there is no memory for them the other comes back.
+    pub fn join_back(&mut self, other: Pieces) -> Result<(), (Pieces, AllocError)>
+        requires { size_of self.old + size_of other < 2 ^ 32 }
+        ensures joined { MatchResult result (λ _. self.new ≡ self.old ++ other) (λ e. (self.new ≡ self.old) × (e.0 ≡ other)) }
+        ensures kept { IfOk result (λ _. Keeps (both (of_pieces self.old) (of_pieces other)) (of_pieces self.new)) }
+        ensures back { IfErr result (λ e. Keeps (both (of_pieces self.old) (of_pieces other)) (both (of_pieces self.new) (of_pieces e.0))) }
+    {
+        let Pieces { mut items, size } = other;
+        match self.items.append(&mut items) {
+            Ok(()) => {
+                items.destroy_empty();
+                self.size += size;
+                Ok(())
+            }
+            Err(error) => Err((Pieces { items, size }, error)),
+        }
+    }
+
+    /// All pieces move out, and none are left. It takes no memory.
+    pub fn take(&mut self) -> Pieces
+        ensures taken { result ≡ self.old }
+        ensures empty { self.new ≡ [] }
+    {
+        let none = VecDeque::new(*self.items.allocator());
+        let items = replace(&mut self.items, none);
+        let size = self.size;
+        self.size = 0;
+        Pieces { items, size }
+    }
+
+    /// The first `n` bytes are gone. Pieces that are wholly cut are given back. `Short` exactly where `n > len()`.
+    #[tactic(auto, using(crate::proofs::Keeping::cut_bytes))]
+    pub fn cut_front(&mut self, n: usize, out: &mut Outcomes) -> Result<(), Short>
+        requires { length self.old ≤ out.old.spare }
+        ensures spans { MatchResult result (λ _. (n ≤ size_of self.old) × (self.new ≡ cut_front n self.old)) (λ e. (e.have ≡ size_of self.old) × (e.need ≡ n) × (size_of self.old < n) × (self.new ≡ self.old) × (out.new ≡ out.old)) }
+        ensures bytes { IfOk result (λ _. bytes_of self.new ≡ drop n (bytes_of self.old)) }
+        ensures kept { Keeps (both (of_pieces self.old) (of_outcomes out.old)) (both (of_pieces self.new) (of_outcomes out.new)) }
+        ensures fewer { length self.new ≤ length self.old }
+        ensures grows { Grows (length self.old - length self.new) out.old out.new }
+        ensures places { out.old.spare + length self.new ≤ out.new.spare + length self.old }
+    {
+        if self.size < n {
+            return Err(Short {
+                have: self.size,
+                need: n,
+            });
+        }
+        let mut left = n;
+        while let Some(mut piece) = self.items.pop_front() {
+            let size = piece.to - piece.from;
+            if left < size {
+                piece.from += left;
+                self.size -= left;
+                self.items.push_front_reserved(piece);
+                return Ok(());
+            }
+            left -= size;
+            self.size -= size;
+            give_back(piece, out);
+        }
+        Ok(())
+    }
+
+    /// The last `n` bytes are gone. Pieces that are wholly cut are given back. `Short` exactly where `n > len()`.
+    pub fn cut_back(&mut self, n: usize, out: &mut Outcomes) -> Result<(), Short>
+        requires { length self.old ≤ out.old.spare }
+        ensures cut { MatchResult result (λ _. (n ≤ size_of self.old) × (self.new ≡ keep_front (size_of self.old - n) self.old)) (λ e. (e.have ≡ size_of self.old) × (e.need ≡ n) × (size_of self.old < n) × (self.new ≡ self.old) × (out.new ≡ out.old)) }
+        ensures bytes { IfOk result (λ _. bytes_of self.new ≡ take (size_of self.old - n) (bytes_of self.old)) }
+        ensures kept { Keeps (both (of_pieces self.old) (of_outcomes out.old)) (both (of_pieces self.new) (of_outcomes out.new)) }
+        ensures fewer { length self.new ≤ length self.old }
+        ensures grows { Grows (length self.old - length self.new) out.old out.new }
+        ensures places { out.old.spare + length self.new ≤ out.new.spare + length self.old }
+    {
+        if self.size < n {
+            return Err(Short {
+                have: self.size,
+                need: n,
+            });
+        }
+        let keep = self.size - n;
+        while let Some(mut piece) = self.items.pop_back() {
+            let start = self.size - (piece.to - piece.from);
+            if start < keep {
+                piece.to = piece.from + (keep - start);
+                self.size = keep;
+                self.items.push_back_reserved(piece);
+                return Ok(());
+            }
+            self.size = start;
+            give_back(piece, out);
+        }
+        Ok(())
+    }
+
     /// A second list of the same bytes, uncopied. Each part gives `max(1, weight / 4096)` away and keeps its life. `Worn`
-    /// exactly where some part weighs 1, which is judged before memory.
+    /// exactly where some part weighs 1, which is judged before memory. A refusal changes nothing.
     pub fn share(&mut self) -> Result<Pieces, ShareFault>
         ensures share { IsShare self.old self.new result }
+        ensures same { IfErr result (λ _. self.new ≡ self.old) }
+        ensures count { IfOk result (λ c. (length self.new ≡ length self.old) × (length c ≡ length self.old)) }
+        ensures sizes { IfOk result (λ c. (size_of self.new ≡ size_of self.old) × (size_of c ≡ size_of self.old)) }
+        ensures bytes { IfOk result (λ c. (bytes_of self.new ≡ bytes_of self.old) × (bytes_of c ≡ bytes_of self.old)) }
         ensures sums { IfOk result (λ c. (t : ℕ × ℕ → Bool) (m : ℕ) → pieces_held t m self.new + pieces_held t m c ≡ pieces_held t m self.old) }
     {
         if self.is_worn() {
@@ -115,207 +341,14 @@ impl Pieces {
         })
     }
 
-    /// The first `n` bytes are gone. Pieces that are wholly cut are given back. `Short` exactly where `n > len()`.
-    #[tactic(auto, using(crate::proofs::Keeping::cut_bytes))]
-    pub fn cut_front(&mut self, n: usize, out: &mut Outcomes) -> Result<(), Short>
-        requires { length self.old ≤ out.old.spare }
-        ensures spans { MatchResult result (λ _. (n ≤ size_of self.old) × (self.new ≡ cut_front n self.old)) (λ e. (e.have ≡ size_of self.old) × (e.need ≡ n) × (size_of self.old < n) × (self.new ≡ self.old) × (out.new ≡ out.old)) }
-        ensures bytes { IfOk result (λ _. bytes_of self.new ≡ drop n (bytes_of self.old)) }
-        ensures kept { Keeps (both (of_pieces self.old) (of_outcomes out.old)) (both (of_pieces self.new) (of_outcomes out.new)) }
-        ensures places { out.old.spare + length self.new ≤ out.new.spare + length self.old }
-    {
-        if self.size < n {
-            return Err(Short {
-                have: self.size,
-                need: n,
-            });
-        }
-        let mut left = n;
-        while let Some(mut piece) = self.items.pop_front() {
-            let size = piece.to - piece.from;
-            if left < size {
-                piece.from += left;
-                self.size -= left;
-                self.items.push_front_reserved(piece);
-                return Ok(());
-            }
-            left -= size;
-            self.size -= size;
-            let Piece {
-                part,
-                from: _,
-                to: _,
-            } = piece;
-            out.give_back(part);
-        }
-        Ok(())
-    }
-
-    /// No pieces.
-    pub fn new(alloc: Global) -> Pieces
-        ensures { result ≡ [] }
-    {
-        Pieces {
-            items: VecDeque::new(alloc),
-            size: 0,
-        }
-    }
-
-    /// The number of bytes.
-    pub fn len(&self) -> usize
-        ensures size { result ≡ size_of self.now }
-        ensures small { result < 2 ^ 32 }
-    {
-        self.size
-    }
-
-    /// The number of pieces.
-    pub fn count(&self) -> usize
-        ensures count { result ≡ length self.now }
-        ensures within { result ≤ size_of self.now }
-    {
-        self.items.len()
-    }
-
-    /// A holder's bytes `from..to` follow, and other pieces after them. A Sole becomes a part, once there is memory.
-    pub fn append_all(
-        &mut self,
-        holder: Holder,
-        from: usize,
-        to: usize,
-        others: Pieces,
-    ) -> Result<(), (Holder, Pieces, AllocError)>
-        requires range { (from < to) × (to ≤ 2048) × (length (block holder) ≡ 2048) }
-        requires small { size_of self.old + (to - from) + size_of others < 2 ^ 32 }
-        ensures { IsAppend self.old holder from to others self.new result }
-    {
-        if self.items.reserve(others.items.len() + 1).is_err() {
-            return Err((holder, others, AllocError));
-        }
-        let Pieces {
-            items: mut following,
-            size,
-        } = others;
-        let part = as_part(holder);
-        let _ = part.weight();
-        self.items.push_back_reserved(Piece { part, from, to });
-        self.size += to - from + size;
-        match self.items.append(&mut following) {
-            Ok(()) => {
-                following.destroy_empty();
-                Ok(())
-            }
-            Err(_) => unreachable!(),
-        }
-    }
-
-    /// The other's pieces follow, uncopied.
-    pub fn join_back(&mut self, other: Pieces) -> Result<(), (Pieces, AllocError)>
-        requires { size_of self.old + size_of other < 2 ^ 32 }
-        ensures joined { MatchResult result (λ _. self.new ≡ self.old ++ other) (λ e. (self.new ≡ self.old) × (e.0 ≡ other)) }
-        ensures kept { IfOk result (λ _. Keeps (both (of_pieces self.old) (of_pieces other)) (of_pieces self.new)) }
-    {
-        let Pieces { mut items, size } = other;
-        match self.items.append(&mut items) {
-            Ok(()) => {
-                items.destroy_empty();
-                self.size += size;
-                Ok(())
-            }
-            Err(error) => Err((Pieces { items, size }, error)),
-        }
-    }
-
-    /// The last `n` bytes are gone. Pieces that are wholly cut are given back. `Short` exactly where `n > len()`.
-    pub fn cut_back(&mut self, n: usize, out: &mut Outcomes) -> Result<(), Short>
-        requires { length self.old ≤ out.old.spare }
-        ensures cut { MatchResult result (λ _. (n ≤ size_of self.old) × (self.new ≡ keep_front (size_of self.old - n) self.old)) (λ e. (e.have ≡ size_of self.old) × (e.need ≡ n) × (size_of self.old < n) × (self.new ≡ self.old) × (out.new ≡ out.old)) }
-        ensures bytes { IfOk result (λ _. bytes_of self.new ≡ take (size_of self.old - n) (bytes_of self.old)) }
-        ensures kept { Keeps (both (of_pieces self.old) (of_outcomes out.old)) (both (of_pieces self.new) (of_outcomes out.new)) }
-        ensures places { out.old.spare + length self.new ≤ out.new.spare + length self.old }
-    {
-        if self.size < n {
-            return Err(Short {
-                have: self.size,
-                need: n,
-            });
-        }
-        let keep = self.size - n;
-        while let Some(mut piece) = self.items.pop_back() {
-            let start = self.size - (piece.to - piece.from);
-            if start < keep {
-                piece.to = piece.from + (keep - start);
-                self.size = keep;
-                self.items.push_back_reserved(piece);
-                return Ok(());
-            }
-            self.size = start;
-            let Piece {
-                part,
-                from: _,
-                to: _,
-            } = piece;
-            out.give_back(part);
-        }
-        Ok(())
-    }
-
-    /// The byte at a place.
-    pub fn byte_at(&self, i: usize) -> u8
-        requires { i < size_of self.now }
-        ensures { (d : ℕ) → result ≡ slice_index_or (bytes_of self.now) i d }
-    {
-        self.find_byte(i)
-    }
-
-    fn find_byte(&self, i: usize) -> u8
-        requires { i < size_of self.now }
-        ensures byte { result ≡ byte_in i self.now }
-        ensures fits { AllFit self.now }
-    {
-        let mut left = i;
-        for k in 0..self.items.len() {
-            let piece = &self.items[k];
-            let size = piece.to - piece.from;
-            if left < size {
-                return piece.part.bytes()[piece.from + left];
-            }
-            left -= size;
-        }
-        unreachable!()
-    }
-
-    /// The least weight of a part, `FULL` where there is none.
-    pub fn least_weight(&self) -> u64
-        ensures { result ≡ least_weight self.now }
-    {
-        let mut least = FULL;
-        for i in 0..self.items.len() {
-            least = least.min(self.items[i].part.weight());
-        }
-        least
-    }
-
-    // The part that is cut at `at` has nothing to give.
-    fn cut_is_worn(&self, at: usize) -> bool
-        ensures { result ≡ cut_worn at self.now }
-    {
-        let mut left = at;
-        for i in 0..self.items.len() {
-            let piece = &self.items[i];
-            let size = piece.to - piece.from;
-            if left < size {
-                return left != 0 && piece.part.weight() == 1;
-            }
-            left -= size;
-        }
-        false
-    }
-
     /// Keeps the first `at` bytes, and answers the rest. `Short` exactly where `at > len()`; then `Worn` exactly where `at`
-    /// falls inside a piece whose part weighs 1; then memory. Of a part that is cut the front keeps `max(1, weight / 4096)`.
+    /// falls inside a piece whose part weighs 1; then memory. Of a part that is cut the front keeps `max(1, weight / 4096)`,
+    /// and the rest what remains. A refusal changes nothing.
     pub fn split_at(&mut self, at: usize) -> Result<Pieces, ShareFault>
         ensures split { IsSplit at self.old self.new result }
+        ensures same { IfErr result (λ _. self.new ≡ self.old) }
+        ensures count { IfOk result (λ c. length self.new + length c ≤ length self.old + 1) }
+        ensures sizes { IfOk result (λ c. size_of self.new + size_of c ≡ size_of self.old) }
         ensures bytes { IfOk result (λ c. (bytes_of self.old ≡ bytes_of self.new ++ bytes_of c) × (size_of self.new ≡ at)) }
         ensures sums { IfOk result (λ c. (t : ℕ × ℕ → Bool) (m : ℕ) → pieces_held t m self.new + pieces_held t m c ≡ pieces_held t m self.old) }
     {
@@ -339,54 +372,95 @@ impl Pieces {
         Ok(Pieces { items, size })
     }
 
-    /// The bytes of the i-th piece, uncopied.
-    pub fn slice(&self, i: usize) -> &[u8]
-        requires { i < length self.now }
-        ensures { (d : Piece) → result.now ≡ piece_bytes (slice_index_or self.now i d) }
-    {
-        bytes_in(&self.items[i])
-    }
-
-    /// The bytes `from..to` of a part follow, uncopied.
-    pub fn append(&mut self, part: Part, from: usize, to: usize) -> Result<(), (Part, AllocError)>
-        requires range { (from < to) × (to ≤ 2048) }
-        requires small { size_of self.old + (to - from) < 2 ^ 32 }
-        ensures appended { MatchResult result (λ _. self.new ≡ self.old ++ (record { part = part; from = from; to = to }) ∷ []) (λ e. (self.new ≡ self.old) × (e.0 ≡ part)) }
-        ensures kept { IfOk result (λ _. Keeps (both (of_pieces self.old) (of_part part)) (of_pieces self.new)) }
-    {
-        let _ = part.bytes();
-        let _ = part.weight();
-        match self.items.push_back(Piece { part, from, to }) {
-            Ok(()) => {
-                self.size += to - from;
-                Ok(())
-            }
-            Err(refused) => {
-                let Piece {
-                    part,
-                    from: _,
-                    to: _,
-                } = refused.value;
-                Err((part, AllocError))
-            }
-        }
-    }
-
-    /// Gives all parts back.
+    /// Gives all parts back, the first piece's first.
     pub fn release(self, out: &mut Outcomes)
         requires { length self ≤ out.old.spare }
         ensures kept { Keeps (both (of_pieces self) (of_outcomes out.old)) (of_outcomes out.new) }
+        ensures grows { Grows (length self) out.old out.new }
         ensures places { out.old.spare ≤ out.new.spare + length self }
     {
         let Pieces { mut items, size: _ } = self;
         while let Some(piece) = items.pop_front() {
-            let Piece {
-                part,
-                from: _,
-                to: _,
-            } = piece;
-            out.give_back(part);
+            give_back(piece, out);
         }
         items.destroy_empty();
+    }
+
+    fn find_byte(&self, i: usize) -> u8
+        requires { i < size_of self.now }
+        ensures byte { result ≡ byte_in i self.now }
+        ensures fits { AllFit self.now }
+    {
+        let mut left = i;
+        for k in 0..self.items.len() {
+            let piece = &self.items[k];
+            let size = piece.to - piece.from;
+            if left < size {
+                return piece.part.bytes()[piece.from + left];
+            }
+            left -= size;
+        }
+        unreachable!()
+    }
+
+    // The part that is cut at `at` has nothing to give.
+    fn cut_is_worn(&self, at: usize) -> bool
+        ensures { result ≡ cut_worn at self.now }
+    {
+        let mut left = at;
+        for i in 0..self.items.len() {
+            let piece = &self.items[i];
+            let size = piece.to - piece.from;
+            if left < size {
+                return left != 0 && piece.part.weight() == 1;
+            }
+            left -= size;
+        }
+        false
+    }
+}
+
+// The bytes of a piece.
+fn bytes_in(piece: &Piece) -> &[u8]
+    requires { Fits piece.now }
+    ensures { result.now ≡ piece_bytes piece.now }
+{
+    &piece.part.bytes()[piece.from..piece.to]
+}
+
+// Copies bytes over `into` from the place `done` on, as many as fit, and answers where they end.
+fn copy_on(into: &mut [u8], done: usize, bytes: &[u8]) -> usize
+    requires { done ≤ length into.old }
+    ensures end { result ≡ done + min (length bytes.now) (length into.old - done) }
+    ensures written { take result into.new ≡ take done into.old ++ take (result - done) bytes.now }
+    ensures size { length into.new ≡ length into.old }
+{
+    let n = bytes.len().min(into.len() - done);
+    into[done..done + n].copy_from_slice(&bytes[..n]);
+    done + n
+}
+
+// A piece that is gone gives its part back.
+fn give_back(piece: Piece, out: &mut Outcomes)
+    requires { 1 ≤ out.old.spare }
+    ensures grows { Grows 1 out.old out.new }
+    ensures kept { Keeps (both (of_part piece.part) (of_outcomes out.old)) (of_outcomes out.new) }
+    ensures places { out.old.spare ≤ out.new.spare + 1 }
+{
+    let Piece {
+        part,
+        from: _,
+        to: _,
+    } = piece;
+    out.give_back(part);
+}
+
+// A Sole becomes a part.
+fn as_part(holder: Holder) -> Part
+    ensures { AsPart holder result }
+{
+    match holder {
+        Holder::Sole(sole) => sole.share(),
+        Holder::Part(part) => part,
     }
 }

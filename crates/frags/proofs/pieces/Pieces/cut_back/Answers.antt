@@ -1,7 +1,8 @@
-use Rattle.std.proofs.Common.{◌≡◌, ◌-◌, ◌≤◌, ◌∷◌, [], ◌∙◌, ℕ, List, ap, subst, sym, arith}
+use Rattle.std.proofs.Common.{◌≡◌, ◌+◌, ◌-◌, ◌≤◌, length, ◌∷◌, [], ◌∙◌, ℕ, List, ap, subst, sym, arith}
 use Rattle.frags.specs.Account.{both, of_outcomes}
 use Rattle.frags.specs.PieceList.{size_of, bytes_of, keep_front, AllFit, of_pieces}
 use Rattle.frags.specs.declared.pieces.Piece.{Piece}
+use Rattle.frags.proofs.Growing.{grows_trans, grows_by}
 use Rattle.frags.proofs.Keeping.{keeps_pop_back}
 use Rattle.frags.proofs.Places.{last_piece, last_cut, keep_front-less, keep_front-bytes}
 use Rattle.frags.proofs.pieces.Pieces.cut_back.Goals as goal
@@ -92,5 +93,6 @@ loop-piece-preserved c =
       enough = omega arith;
       fewer = omega arith;
       places = omega arith;
-      kept = keeps_pop_back (both (of_pieces c.args.self.now) (of_outcomes c.args.out.now)) c.in-Some.piece c.loop-piece.self-inside.items.items c.pop_back.new.self.items c.loop-piece.out c.give_back.new.self c.in-Some.ensures.items i.kept c.give_back.ensures.kept;
+      grows = grows_by (length c.args.self.now - length c.loop-piece.self-inside.items.items + 1) (length c.args.self.now - length c.pop_back.new.self.items) c.args.out.now c.give_back.new.out (grows_trans (length c.args.self.now - length c.loop-piece.self-inside.items.items) 1 c.args.out.now c.loop-piece.out c.give_back.new.out i.grows c.give_back.ensures.grows) (omega arith);
+      kept = keeps_pop_back (both (of_pieces c.args.self.now) (of_outcomes c.args.out.now)) c.in-Some.piece c.loop-piece.self-inside.items.items c.pop_back.new.self.items c.loop-piece.out c.give_back.new.out c.in-Some.ensures.items i.kept c.give_back.ensures.kept;
     }

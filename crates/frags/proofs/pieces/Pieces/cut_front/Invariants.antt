@@ -1,5 +1,6 @@
-use Rattle.std.proofs.Common.{◌≡◌, ◌+◌, ◌≤◌, ◌<◌, ◌^◌, length}
+use Rattle.std.proofs.Common.{◌≡◌, ◌+◌, ◌-◌, ◌≤◌, ◌<◌, ◌^◌, length}
 use Rattle.frags.specs.Account.{Keeps, both, of_outcomes}
+use Rattle.frags.specs.Growth.{Grows}
 use Rattle.frags.specs.PieceList.{of_pieces, cut_front, size_of, AllFit}
 use Rattle.frags.proofs.pieces.Pieces.cut_front.Given as goal
 
@@ -12,6 +13,7 @@ invariant-loop-piece l = record {
   enough : l.left ≤ l.self-inside.size;
   fewer : length l.self-inside.items.items ≤ length l.fn.self;
   places : l.fn.out.spare + length l.self-inside.items.items ≤ l.out.spare + length l.fn.self;
+  grows : Grows (length l.fn.self - length l.self-inside.items.items) l.fn.out l.out;
   kept : Keeps (both (of_pieces l.fn.self) (of_outcomes l.fn.out)) (both (of_pieces l.self-inside.items.items) (of_outcomes l.out));
 }
 

@@ -1,6 +1,7 @@
-use Rattle.std.proofs.Common.{length, arith, ap}
+use Rattle.std.proofs.Common.{◌+◌, ◌-◌, length, arith, ap}
 use Rattle.frags.specs.Account.{both, of_outcomes}
 use Rattle.frags.specs.PieceList.{of_pieces}
+use Rattle.frags.proofs.Growing.{grows_trans, grows_by}
 use Rattle.frags.proofs.Keeping.{keeps_pop}
 use Rattle.frags.proofs.pieces.Pieces.release.Goals as goal
 
@@ -10,6 +11,8 @@ loop-piece-preserved c =
     let n = ap length e in
     let i = c.loop-piece.invariant in
     record {
+      fewer = omega arith;
+      grows = grows_by (length c.args.self - length c.loop-piece.items.items + 1) (length c.args.self - length c.pop_front.new.self.items) c.args.out.now c.give_back.new.out (grows_trans (length c.args.self - length c.loop-piece.items.items) 1 c.args.out.now c.loop-piece.out c.give_back.new.out i.grows c.give_back.ensures.grows) (omega arith);
       places = omega arith;
-      kept = keeps_pop (both (of_pieces c.args.self) (of_outcomes c.args.out.now)) c.in-Some.piece c.loop-piece.items.items c.pop_front.new.self.items c.loop-piece.out c.give_back.new.self e i.kept c.give_back.ensures.kept;
+      kept = keeps_pop (both (of_pieces c.args.self) (of_outcomes c.args.out.now)) c.in-Some.piece c.loop-piece.items.items c.pop_front.new.self.items c.loop-piece.out c.give_back.new.out e i.kept c.give_back.ensures.kept;
     }

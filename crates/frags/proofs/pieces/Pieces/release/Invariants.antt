@@ -1,10 +1,13 @@
-use Rattle.std.proofs.Common.{◌+◌, ◌≤◌, length}
+use Rattle.std.proofs.Common.{◌+◌, ◌-◌, ◌≤◌, length}
 use Rattle.frags.specs.Account.{Keeps, both, of_outcomes}
+use Rattle.frags.specs.Growth.{Grows}
 use Rattle.frags.specs.PieceList.{of_pieces}
 use Rattle.frags.proofs.pieces.Pieces.release.Given as goal
 
 abbrev pub invariant-loop-piece : goal.invariant-loop-piece
 invariant-loop-piece l = record {
+  fewer : length l.items.items ≤ length l.fn.self;
+  grows : Grows (length l.fn.self - length l.items.items) l.fn.out l.out;
   places : l.fn.out.spare + length l.items.items ≤ l.out.spare + length l.fn.self;
   kept : Keeps (both (of_pieces l.fn.self) (of_outcomes l.fn.out)) (both (of_pieces l.items.items) (of_outcomes l.out));
 }

@@ -1,7 +1,8 @@
 use Rattle.std.proofs.Common.{◌≡◌, ◌≢◌, ℕ, ◌-◌, ◌<◌, false, List, length, get_or, map, arith, ap, sym, ◌∙◌, subst}
-use Rattle.frags.specs.PieceList.{size_of, pieces_held, AllFit, worn, gift, kept, given, kept_first, given_first}
+use Rattle.std.proofs.lemmas.List.{length-map}
+use Rattle.frags.specs.PieceList.{bytes_of, size_of, pieces_held, AllFit, worn, gift, kept, given, kept_first, given_first}
 use Rattle.frags.specs.declared.pieces.Piece.{Piece}
-use Rattle.frags.proofs.Keeping.{kept_first-length, kept_first-at, kept_first-all, given_first-all, size_of-kept, size_of-given, AllFit-kept, AllFit-given, worn-at, gift-small, kept_step, given_step, share_sums}
+use Rattle.frags.proofs.Keeping.{kept_first-length, kept_first-at, kept_first-all, given_first-all, size_of-kept, size_of-given, bytes_of-kept, bytes_of-given, AllFit-kept, AllFit-given, worn-at, gift-small, kept_step, given_step, share_sums}
 use Rattle.frags.proofs.pieces.Pieces.share.Goals as goal
 
 pub index_mut-piece-requires : goal.index_mut-piece-requires
@@ -75,3 +76,27 @@ returns-clause-sums c = λ t m.
     let b = ap (pieces_held t m) (i.given ∙ ap (λ (k : ℕ). given_first k c.args.self.now) n ∙ given_first-all c.args.self.now) in
     let s = share_sums t m c.args.self.now (subst AllFit c.self.view_is c.self.invariant.2) (sym c.is_worn.ensures ∙ c.if-is_worn.false) in
     omega arith
+
+pub returns-clause-count : goal.returns-clause-count
+returns-clause-count c =
+    let i = c.loop-i.invariant in
+    let n : c.loop-i.i ≡ length c.args.self.now = omega arith in
+    let a : c.loop-i.self-inside.items.items ≡ map kept c.args.self.now = i.kept ∙ ap (λ (k : ℕ). kept_first k c.args.self.now) n ∙ kept_first-all c.args.self.now in
+    let b : c.loop-i.items.items ≡ map given c.args.self.now = i.given ∙ ap (λ (k : ℕ). given_first k c.args.self.now) n ∙ given_first-all c.args.self.now in
+    (ap length a ∙ length-map c.args.self.now kept, ap length b ∙ length-map c.args.self.now given)
+
+pub returns-clause-sizes : goal.returns-clause-sizes
+returns-clause-sizes c =
+    let i = c.loop-i.invariant in
+    let n : c.loop-i.i ≡ length c.args.self.now = omega arith in
+    let a : c.loop-i.self-inside.items.items ≡ map kept c.args.self.now = i.kept ∙ ap (λ (k : ℕ). kept_first k c.args.self.now) n ∙ kept_first-all c.args.self.now in
+    let b : c.loop-i.items.items ≡ map given c.args.self.now = i.given ∙ ap (λ (k : ℕ). given_first k c.args.self.now) n ∙ given_first-all c.args.self.now in
+    (ap size_of a ∙ size_of-kept c.args.self.now, ap size_of b ∙ size_of-given c.args.self.now)
+
+pub returns-clause-bytes : goal.returns-clause-bytes
+returns-clause-bytes c =
+    let i = c.loop-i.invariant in
+    let n : c.loop-i.i ≡ length c.args.self.now = omega arith in
+    let a : c.loop-i.self-inside.items.items ≡ map kept c.args.self.now = i.kept ∙ ap (λ (k : ℕ). kept_first k c.args.self.now) n ∙ kept_first-all c.args.self.now in
+    let b : c.loop-i.items.items ≡ map given c.args.self.now = i.given ∙ ap (λ (k : ℕ). given_first k c.args.self.now) n ∙ given_first-all c.args.self.now in
+    (ap bytes_of a ∙ bytes_of-kept c.args.self.now, ap bytes_of b ∙ bytes_of-given c.args.self.now)

@@ -31,8 +31,8 @@ returns-then-from-to-clause-attached c =
 pub invariant_of-self-2 : goal.invariant_of-self-2
 invariant_of-self-2 c =
     let i = c.self.invariant in
-    let e = c.in_default-append_all.ensures.1.1 in
-    let s = ap size_of e ∙ size_of-append c.self.inside.rest (record { part = c.in_default-append_all.ensures.0; from = c.other.inside.from; to = c.other.inside.to } ∷ c.other.inside.rest) in
+    let e = c.in_default-append_all.ensures.appended.1.1 in
+    let s = ap size_of e ∙ size_of-append c.self.inside.rest (record { part = c.in_default-append_all.ensures.appended.0; from = c.other.inside.from; to = c.other.inside.to } ∷ c.other.inside.rest) in
     let u = ap buffer_size c.self.view_is in
     let v = ap buffer_size c.other.view_is in
     let r = c.requires.small in
@@ -47,7 +47,7 @@ returns-clause-attached c =
     let b : SkbState = record { head = s.head; from = s.from; to = s.to; rest = c.append_all.new.self } in
     subst (λ (z : SkbState). Attaches z c.args.other c.args.out.now b c.args.out.now (Ok tt)) c.self.view_is
     (subst (λ (z : SkbState). Attaches a z c.args.out.now b c.args.out.now (Ok tt)) c.other.view_is
-    (attaches_taken a d c.args.out.now c.append_all.new.self c.if-from-to.false c.in_default-append_all.ensures))
+    (attaches_taken a d c.args.out.now c.append_all.new.self c.if-from-to.false c.in_default-append_all.ensures.appended))
 
 pub returns-then-from-to-clause-marks : goal.returns-then-from-to-clause-marks
 returns-then-from-to-clause-marks c =
@@ -70,7 +70,7 @@ returns-clause-marks c =
     let d : SkbState = record { head = n.head; from = n.from; to = n.to; rest = n.rest } in
     let b : SkbState = record { head = s.head; from = s.from; to = s.to; rest = c.append_all.new.self } in
     let o = c.args.out.now in
-    let w = c.in_default-append_all.ensures in
+    let w = c.in_default-append_all.ensures.appended in
     subst (λ (z : SkbState). KeepsMarks (both (of_buffer z) (both (of_buffer c.args.other) (of_outcomes o))) (both (of_buffer b) (of_outcomes o))) c.self.view_is
     (subst (λ (z : SkbState). KeepsMarks (both (of_buffer a) (both (of_buffer z) (of_outcomes o))) (both (of_buffer b) (of_outcomes o))) c.other.view_is
     (taken_marks a d o c.append_all.new.self w.0 w.1.0 w.1.1))

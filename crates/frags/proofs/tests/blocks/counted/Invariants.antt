@@ -1,5 +1,5 @@
 use Rattle.std.proofs.Common.{◌≡◌, [], length}
-use Rattle.frags.proofs.tests.counted.Given as goal
+use Rattle.frags.proofs.tests.blocks.counted.Given as goal
 
 abbrev pub decreases-loop-soles : goal.decreases-loop-soles
 decreases-loop-soles l = length l.out.soles

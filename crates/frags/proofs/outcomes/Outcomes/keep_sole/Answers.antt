@@ -1,0 +1,9 @@
+use Rattle.std.proofs.Common.{[], ◌∷◌, ◌++◌, ◌∙◌, ap}
+use Rattle.frags.specs.OutcomesState.{OutcomesState}
+use Rattle.frags.proofs.Returning.{sole_kept}
+use Rattle.frags.proofs.outcomes.Outcomes.keep_sole.Goals as goal
+
+pub returns-clause-kept : goal.returns-clause-kept
+returns-clause-kept c =
+    let b : OutcomesState = record { soles = c.push_reserved.new.self.items; receipts = c.self.inside.receipts.items; spare = 0 } in
+    sole_kept c.args.sole c.args.self.now b (c.push_reserved.ensures.items ∙ ap (λ (o : OutcomesState). o.soles ++ c.args.sole ∷ []) c.self.view_is) (ap (λ (o : OutcomesState). o.receipts) c.self.view_is)
