@@ -81,6 +81,7 @@ impl Outcomes {
         ensures receipts { self.new.receipts ≡ self.old.receipts }
         ensures soles { MatchOption result ((self.old.soles ≡ []) × (self.new.soles ≡ [])) (λ s. self.old.soles ≡ self.new.soles ++ s ∷ []) }
         ensures kept { MatchOption result (Keeps (of_outcomes self.old) (of_outcomes self.new)) (λ s. Keeps (of_outcomes self.old) (both (of_sole s) (of_outcomes self.new))) }
+        ensures places { self.old.spare ≤ self.new.spare }
     {
         self.soles.pop()
     }
@@ -90,6 +91,7 @@ impl Outcomes {
         ensures soles { self.new.soles ≡ self.old.soles }
         ensures receipts { MatchOption result ((self.old.receipts ≡ []) × (self.new.receipts ≡ [])) (λ r. self.old.receipts ≡ self.new.receipts ++ r ∷ []) }
         ensures kept { MatchOption result (Keeps (of_outcomes self.old) (of_outcomes self.new)) (λ r. Keeps (of_outcomes self.old) (both (of_receipt r) (of_outcomes self.new))) }
+        ensures places { self.old.spare ≤ self.new.spare }
     {
         self.receipts.pop()
     }

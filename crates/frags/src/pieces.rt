@@ -14,6 +14,7 @@ use raw_block::{FULL, Part};
 use std::alloc::{AllocError, Global};
 use std::collections::VecDeque;
 use std::marker::Model;
+use thiserror::Error;
 
 /// The bytes `from` to `to` of a part's block.
 pub struct Piece {
@@ -42,18 +43,22 @@ impl Model for Pieces {
 }
 
 /// Why shared pieces aren't shared or cut.
-#[derive(Drop)]
+#[derive(Debug, Drop, Error)]
 pub enum ShareFault {
     /// The cut was asked for behind the end: the bytes that there are, and its place.
+    #[error("a cut at {need} is behind the end of {have} bytes")]
     Short { have: usize, need: usize },
     /// A part of weight 1 has nothing to give.
+    #[error("a part has no weight to give")]
     Worn,
     /// There is no memory for the second list.
+    #[error("there is no memory for a second list of pieces")]
     NoMemory,
 }
 
 /// More bytes were asked for than there are: both numbers.
-#[derive(Drop)]
+#[derive(Debug, Drop, Error)]
+#[error("{need} bytes were asked for, and there are {have}")]
 pub struct Short {
     pub have: usize,
     pub need: usize,
