@@ -4,10 +4,10 @@ ghost use Rattle.std.specs.Borrow.{sem};
 ghost use Rattle.ref_core.specs.WeightRule.{full_weight};
 ghost use Rattle.raw_block.specs.Views.{SoleState};
 ghost use Rattle.frags.specs.Account.{Keeps, KeepsMarks, both, every, of_sole, of_holder, of_outcomes};
-ghost use Rattle.frags.specs.PieceList.{size_of, piece_bytes, block};
+ghost use Rattle.frags.specs.PieceList.{size_of, of_pieces, piece_bytes, block, cut_front, keep_front};
 ghost use Rattle.frags.specs.declared.pieces.Piece.{Piece};
 ghost use Rattle.skb.specs.Lending.{lends_head};
-ghost use Rattle.skb.specs.SkbState.{SkbState, buffer_least, buffer_bytes, buffer_size, head_bytes, headroom, tailroom, is_sole, written, IsPush, IsPut, Owned, IsClone, IsLent, Gives, head_worn, buffer_worn, of_buffer, of_unshared, Attaches};
+ghost use Rattle.skb.specs.SkbState.{SkbState, head_size, buffer_least, buffer_bytes, buffer_size, head_bytes, headroom, tailroom, is_sole, written, IsPush, IsPut, Owned, IsClone, IsLent, Gives, head_worn, buffer_worn, of_buffer, of_unshared, Attaches};
 
 use crate::heads::{gives, lent, owned, write_at};
 use crate::lend::range_of;
@@ -61,7 +61,8 @@ impl Skb {
     pub fn new(head: Sole, from: usize, to: usize, rest: Pieces) -> Skb
         requires range { (from ≤ to) × (to ≤ 2048) }
         requires small { (to - from) + size_of rest < 2 ^ 32 }
-        ensures { result ≡ record { head = Holder.Sole head; from = from; to = to; rest = rest } }
+        ensures same { result ≡ record { head = Holder.Sole head; from = from; to = to; rest = rest } }
+        ensures account { of_buffer result ≡ both (of_sole head) (of_pieces rest) }
     {
         let _ = head.bytes();
         Skb {
@@ -171,7 +172,8 @@ impl Skb {
     /// where not `head_is_sole()`.
     pub fn push(&mut self, bytes: &[u8]) -> Result<(), RoomFault>
         requires { buffer_size self.old + length bytes.now < 2 ^ 32 }
-        ensures { IsPush self.old bytes.now self.new result }
+        ensures push { IsPush self.old bytes.now self.new result }
+        ensures account { of_buffer self.new ≡ of_buffer self.old }
     {
         if self.from < bytes.len() {
             return Err(RoomFault::NoRoom {
@@ -194,7 +196,8 @@ impl Skb {
     /// where not `head_is_sole()`.
     pub fn put_tail(&mut self, bytes: &[u8]) -> Result<(), RoomFault>
         requires { buffer_size self.old + length bytes.now < 2 ^ 32 }
-        ensures { IsPut self.old bytes.now self.new result }
+        ensures put { IsPut self.old bytes.now self.new result }
+        ensures account { of_buffer self.new ≡ of_buffer self.old }
     {
         let room = self.tailroom();
         if room < bytes.len() {
@@ -221,6 +224,8 @@ impl Skb {
         ensures bytes { MatchResult result (λ _. buffer_bytes self.new ≡ drop n (buffer_bytes self.old)) (λ e. (buffer_size self.old < n) × (e.have ≡ buffer_size self.old) × (e.need ≡ n) × (self.new ≡ self.old) × (out.new ≡ out.old)) }
         ensures head { (self.new.head ≡ self.old.head) × (self.new.to ≡ self.old.to) }
         ensures room { IfOk result (λ _. self.new.from ≡ min (self.old.from + n) self.old.to) }
+        ensures rest { IfOk result (λ _. self.new.rest ≡ cut_front (n - head_size self.old) self.old.rest) }
+        ensures bare { self.old.rest ≡ [] → self.new.rest ≡ [] }
         ensures kept { Keeps (both (of_buffer self.old) (of_outcomes out.old)) (both (of_buffer self.new) (of_outcomes out.new)) }
         ensures places { out.old.spare + length self.new.rest ≤ out.new.spare + length self.old.rest }
     {
@@ -228,13 +233,9 @@ impl Skb {
         if have < n {
             return Err(Short { have, need: n });
         }
-        let head = self.to - self.from;
-        if n <= head {
-            self.from += n;
-            return Ok(());
-        }
-        self.rest.cut_front(n - head, out)?;
-        self.from = self.to;
+        let of_head = n.min(self.to - self.from);
+        self.rest.cut_front(n - of_head, out)?;
+        self.from += of_head;
         Ok(())
     }
 
@@ -244,6 +245,9 @@ impl Skb {
         requires { length self.old.rest ≤ out.old.spare }
         ensures bytes { MatchResult result (λ _. buffer_bytes self.new ≡ take (buffer_size self.old - n) (buffer_bytes self.old)) (λ e. (buffer_size self.old < n) × (e.have ≡ buffer_size self.old) × (e.need ≡ n) × (self.new ≡ self.old) × (out.new ≡ out.old)) }
         ensures head { (self.new.head ≡ self.old.head) × (self.new.from ≡ self.old.from) }
+        ensures room { IfOk result (λ _. self.new.to ≡ self.old.to - (n - size_of self.old.rest)) }
+        ensures rest { IfOk result (λ _. self.new.rest ≡ keep_front (size_of self.old.rest - n) self.old.rest) }
+        ensures bare { self.old.rest ≡ [] → self.new.rest ≡ [] }
         ensures kept { Keeps (both (of_buffer self.old) (of_outcomes out.old)) (both (of_buffer self.new) (of_outcomes out.new)) }
         ensures places { out.old.spare + length self.new.rest ≤ out.new.spare + length self.old.rest }
     {
@@ -251,13 +255,9 @@ impl Skb {
         if have < n {
             return Err(Short { have, need: n });
         }
-        let rest = self.rest.len();
-        if n <= rest {
-            self.rest.cut_back(n, out)?;
-            return Ok(());
-        }
-        self.rest.cut_back(rest, out)?;
-        self.to -= n - rest;
+        let of_rest = n.min(self.rest.len());
+        self.rest.cut_back(of_rest, out)?;
+        self.to -= n - of_rest;
         Ok(())
     }
 
@@ -266,7 +266,7 @@ impl Skb {
     /// 1, which is judged before all else.
     pub fn clone(&mut self) -> Result<Skb, ShareFault>
         ensures clone { IsClone self.old self.new result }
-        ensures marks { IfOk result (λ c. (m : ℕ) → (of_buffer self.new).held every m + (of_buffer c).held every m ≡ (of_buffer self.old).held every m + full_weight * (of_buffer self.old).homes m) }
+        ensures marks { MatchResult result (λ c. (m : ℕ) → (of_buffer self.new).held every m + (of_buffer c).held every m ≡ (of_buffer self.old).held every m + full_weight * (of_buffer self.old).homes m) (λ _. KeepsMarks (of_buffer self.old) (of_buffer self.new)) }
     {
         if self.is_worn() {
             return Err(ShareFault::Worn);
