@@ -126,6 +126,18 @@ impl Skb {
         &all[self.from..self.to]
     }
 
+    /// The head's bytes, for writing. None exactly where not `head_is_sole()`.
+    // What is written through an `Option` of a slice can't be said: `head_bytes_mut` says it.
+    pub fn head_mut(&mut self) -> Option<&mut [u8]>
+        ensures { MatchOption result (is_sole self.old.head ≡ false) (λ r. (is_sole self.old.head ≡ true) × (r.now ≡ head_bytes self.old)) }
+    {
+        if self.head_is_sole() {
+            Some(self.head_bytes_mut())
+        } else {
+            None
+        }
+    }
+
     /// The head's bytes, for writing. The condition is `head_is_sole()`.
     pub fn head_bytes_mut(&mut self) -> &mut [u8]
         requires { is_sole self.old.head ≡ true }
