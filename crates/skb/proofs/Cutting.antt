@@ -1,8 +1,9 @@
 -- The bytes of a buffer whose ends are cut.
-use Rattle.std.proofs.Common.{◌≡◌, ℕ, ◌+◌, ◌-◌, ◌≤◌, List, [], ◌++◌, Bool, true, false, length, min, take, drop, refl, ap, ◌∙◌, arith}
+use Rattle.std.proofs.Common.{◌≡◌, ℕ, ◌+◌, ◌-◌, ◌≤◌, List, [], ◌∷◌, ◌++◌, Bool, true, false, length, min, take, drop, refl, ap, ◌∙◌, arith}
+use Rattle.std.proofs.lemmas.Bool.{cond_both}
 use borrow.Author.Tests.{ltb-true, ltb-false}
 use lib.Dec.{ltb}
-use Rattle.frags.specs.PieceList.{bytes_of, size_of, block}
+use Rattle.frags.specs.PieceList.{bytes_of, size_of, block, cut_front}
 use Rattle.frags.specs.declared.pieces.Piece.{Piece}
 use Rattle.skb.specs.SkbState.{SkbState, buffer_bytes, buffer_size, head_size}
 use Rattle.skb.proofs.Buffers.{pull_head, pull_rest, trim_rest, trim_head}
@@ -36,3 +37,11 @@ trimmed f r n k h t o e s g =
     (λ l. let u : k ≡ size_of f.rest = omega arith in let z : size_of f.rest - k ≡ 0 = omega arith in
     let w : bytes_of r ≡ [] = g ∙ ap (λ (i : ℕ). take i (bytes_of f.rest)) z in
     ap (λ (i : ℕ). buffer_bytes (record f { to = f.to - (n - i); rest = r })) u ∙ trim_head f r n h o t l s w)
+
+pub size_of-cut : (n : ℕ) (ps : List Piece) → n ≤ size_of ps → size_of (cut_front n ps) + n ≡ size_of ps
+size_of-cut n [] h = omega arith
+size_of-cut n (p ∷ ps) h =
+    let s : ℕ = p.to - p.from in
+    cond_both (ltb n s) (record p { from = p.from + n } ∷ ps) (cut_front (n - s) ps) (λ (z : List Piece). size_of z + n ≡ size_of (p ∷ ps))
+    (λ e. let l = ltb-true n s e in omega arith)
+    (λ e. let l = ltb-false n s e in let i = size_of-cut (n - s) ps (omega arith) in omega arith)

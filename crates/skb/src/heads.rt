@@ -1,11 +1,12 @@
 //! What becomes of a buffer's head.
 ghost use Rattle.std.specs.Prelude.{◌≡◌, ◌+◌, ◌≤◌, length, false};
 ghost use Rattle.frags.specs.PieceList.{AsPart};
+ghost use Rattle.skb.specs.PullUp.{HeadReleased};
 ghost use Rattle.skb.specs.SkbState.{written, Owned, IsLent, Gives, head_worn};
 
 use crate::skb::Unshared;
 use frags::Holder;
-use raw_block::{Claimed, Part, Sole};
+use raw_block::{Claimed, Part, Released, Sole};
 
 // Writes over a block's bytes from a place on.
 pub(crate) fn write_at(sole: &mut Sole, at: usize, bytes: &[u8])
@@ -42,6 +43,20 @@ fn copy_block(sole: &mut Sole, bytes: &[u8])
 {
     let all = sole.bytes_mut();
     all.copy_from_slice(bytes);
+}
+
+// Another block's Sole becomes the head, and the old one is released.
+pub(crate) fn replaced(head: Holder, other: Sole) -> (Holder, Released)
+    ensures { (result.0 ≡ Holder.Sole other) × HeadReleased head result.1 }
+{
+    let released = match head {
+        Holder::Sole(sole) => Released::Last(sole),
+        Holder::Part(part) => {
+            let _ = part.weight();
+            part.release()
+        }
+    };
+    (Holder::Sole(other), released)
 }
 
 // A Sole head becomes a part.

@@ -29,8 +29,10 @@
 
 mod heads;
 mod lend;
+mod pull_up;
 mod skb;
 #[cfg(test)]
 mod tests;
 
+pub use crate::pull_up::{HEADROOM, PullFault, Returned};
 pub use crate::skb::{RoomFault, Skb, Unshared};

@@ -1,5 +1,5 @@
 //! A packet buffer.
-ghost use Rattle.std.specs.Prelude.{◌≡◌, ℕ, ◌+◌, ◌-◌, ◌<◌, ◌≤◌, ◌^◌, ◌*◌, [], ◌∷◌, ◌++◌, length, MatchResult, MatchOption, IfOk, drop, take, min, slice_index_or, false, true, Some, None};
+ghost use Rattle.std.specs.Prelude.{◌≡◌, ℕ, ◌+◌, ◌-◌, ◌<◌, ◌≤◌, ◌^◌, ◌*◌, [], ◌∷◌, ◌++◌, length, MatchResult, MatchOption, IfOk, drop, take, min, slice_index_or, slice_range, false, true, Some, None};
 ghost use Rattle.std.specs.Borrow.{sem};
 ghost use Rattle.ref_core.specs.WeightRule.{full_weight};
 ghost use Rattle.raw_block.specs.Views.{SoleState};
@@ -37,10 +37,10 @@ pub enum Unshared {
 /// A packet buffer: the bytes `from..to` of a head block, and pieces of other blocks after them. It must be spent:
 /// attached or released.
 pub struct Skb {
-    head: Holder,
-    from: usize,
-    to: usize,
-    rest: Pieces,
+    pub(crate) head: Holder,
+    pub(crate) from: usize,
+    pub(crate) to: usize,
+    pub(crate) rest: Pieces,
 }
 
 impl Model for Skb {
@@ -159,6 +159,19 @@ impl Skb {
             return head[i];
         }
         self.rest.byte_at(i - head.len())
+    }
+
+    /// Copies the bytes from the place `at` on over `into`, as many as it has.
+    pub fn copy_out(&self, at: usize, into: &mut [u8])
+        requires { at + length into.old ≤ buffer_size self.now }
+        ensures bytes { into.new ≡ slice_range (buffer_bytes self.now) at (at + length into.old) }
+    {
+        let head = self.head();
+        let start = at.min(head.len());
+        let of_head = (head.len() - start).min(into.len());
+        let (front, back) = into.split_at_mut(of_head);
+        front.copy_from_slice(&head[start..start + of_head]);
+        self.rest.copy_out(at - start, back);
     }
 
     /// The least weight of a part, `FULL` where there is none.
