@@ -1,10 +1,15 @@
 -- The bytes of a buffer whose ends are cut.
-use Rattle.std.proofs.Common.{◌≡◌, ℕ, ◌+◌, ◌-◌, ◌≤◌, List, [], ◌∷◌, ◌++◌, Bool, true, false, length, min, take, drop, refl, ap, ◌∙◌, arith}
+use Rattle.std.proofs.Common.{◌≡◌, ℕ, ◌+◌, ◌-◌, ◌<◌, ◌≤◌, List, [], ◌∷◌, ◌++◌, Bool, true, false, length, min, take, drop, slice_range, append_assoc, append-nil, refl, sym, ap, ◌∙◌, arith}
 use Rattle.std.proofs.lemmas.Bool.{cond_both}
 use borrow.Author.Tests.{ltb-true, ltb-false}
 use lib.Dec.{ltb}
 use Rattle.frags.specs.PieceList.{bytes_of, size_of, block, cut_front}
 use Rattle.frags.specs.declared.pieces.Piece.{Piece}
+use Rattle.frags.specs.declared.holder.Holder.{Holder}
+use Rattle.frags.proofs.Joining.{part_block}
+use Rattle.frags.proofs.Splits.{halves}
+use Rattle.raw_block.specs.Views.{PartState}
+use Rattle.skb.specs.Cut.{KeepsGift}
 use Rattle.skb.specs.SkbState.{SkbState, buffer_bytes, buffer_size, head_size}
 use Rattle.skb.proofs.Buffers.{pull_head, pull_rest, trim_rest, trim_head}
 
@@ -45,3 +50,20 @@ size_of-cut n (p ∷ ps) h =
     cond_both (ltb n s) (record p { from = p.from + n } ∷ ps) (cut_front (n - s) ps) (λ (z : List Piece). size_of z + n ≡ size_of (p ∷ ps))
     (λ e. let l = ltb-true n s e in omega arith)
     (λ e. let l = ltb-false n s e in let i = size_of-cut (n - s) ps (omega arith) in omega arith)
+
+-- both halves of a head that is cut, and the pieces after it
+pub cut_head : (f : SkbState) (n : ℕ) (k : Holder) (r : PartState) (rest c : List Piece) → KeepsGift f.head k r → n < head_size f → rest ≡ [] → c ≡ (record { part = r; from = f.from + n; to = f.to }) ∷ f.rest
+    → buffer_bytes f ≡ buffer_bytes (record { head = k; from = f.from; to = f.from + n; rest = rest }) ++ bytes_of c
+cut_head f n k r rest c w lt er ec =
+    let p : PartState = w.0 in
+    let x : Piece = record { part = p; from = f.from; to = f.to } in
+    let after : List ℕ = bytes_of f.rest in
+    let a : List ℕ = slice_range p.bytes f.from (f.from + n) in
+    let b : List ℕ = slice_range p.bytes (f.from + n) f.to in
+    let pb : p.bytes ≡ block f.head = part_block f.head p w.1.0 in
+    let ek : slice_range (block k) f.from (f.from + n) ≡ a = ap (λ (z : Holder). slice_range (block z) f.from (f.from + n)) w.1.2 in
+    let eb : bytes_of c ≡ b ++ after = ap bytes_of ec ∙ ap (λ (z : PartState). slice_range z.bytes (f.from + n) f.to ++ after) w.1.3 in
+    let en : bytes_of rest ≡ [] = ap bytes_of er in
+    let front : slice_range (block k) f.from (f.from + n) ++ bytes_of rest ≡ a = ap (λ (z : List ℕ). slice_range (block k) f.from (f.from + n) ++ z) en ∙ append-nil (slice_range (block k) f.from (f.from + n)) ∙ ek in
+    ap (λ (z : List ℕ). slice_range z f.from f.to ++ after) (sym pb) ∙ ap (λ (z : List ℕ). z ++ after) (halves x n lt) ∙ append_assoc a b after
+    ∙ ap (λ (z : List ℕ). a ++ z) (sym eb) ∙ ap (λ (z : List ℕ). z ++ bytes_of c) (sym front)

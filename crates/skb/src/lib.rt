@@ -27,6 +27,7 @@
 //! ```
 #![tactic(auto)]
 
+mod cut;
 mod heads;
 mod lend;
 mod pull_up;

@@ -9,7 +9,7 @@ ghost use Rattle.frags.specs.declared.pieces.Piece.{Piece};
 ghost use Rattle.skb.specs.Lending.{lends_head};
 ghost use Rattle.skb.specs.SkbState.{SkbState, head_size, buffer_least, buffer_bytes, buffer_size, head_bytes, headroom, tailroom, is_sole, written, IsPush, IsPut, Owned, IsClone, IsLent, Gives, head_worn, buffer_worn, of_buffer, of_unshared, Attaches};
 
-use crate::heads::{gives, lent, owned, write_at};
+use crate::heads::{gives, is_worn, lent, owned, write_at};
 use crate::lend::range_of;
 use core::mem::replace_with;
 use frags::{Holder, Outcomes, Pieces, ShareFault, Short};
@@ -311,11 +311,7 @@ impl Skb {
     fn is_worn(&self) -> bool
         ensures { result ≡ buffer_worn self.now }
     {
-        let head = match &self.head {
-            Holder::Sole(_) => false,
-            Holder::Part(part) => part.weight() == 1,
-        };
-        head || self.rest.is_worn()
+        is_worn(&self.head) || self.rest.is_worn()
     }
 
     /// The head becomes a Sole, with the same bytes and room. `Unused` exactly where it was one, or its claim was granted;
