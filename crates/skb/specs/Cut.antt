@@ -7,7 +7,7 @@ use Rattle.frags.specs.declared.pieces.Piece.{Piece}
 use Rattle.frags.specs.declared.pieces.ShareFault.{ShareFault}
 use Rattle.frags.specs.declared.pieces.ShareFault.TheVariants.{Short, Worn, NoMemory}
 use Rattle.frags.specs.declared.holder.Holder.{Holder}
-use Rattle.frags.specs.declared.holder.Holder.TheVariants.{Sole, Part}
+use Rattle.frags.specs.declared.holder.Holder.TheVariants.{Part}
 use Rattle.skb.specs.SkbState.{SkbState, buffer_size, head_size, head_worn, less, gave}
 
 -- the part that is cut at n has nothing to give

@@ -1,3 +1,4 @@
+pub mod Copy
 pub mod Cut
 pub mod Lending
 pub mod PullUp

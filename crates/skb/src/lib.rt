@@ -27,6 +27,7 @@
 //! ```
 #![tactic(auto)]
 
+mod copy;
 mod cut;
 mod heads;
 mod lend;
@@ -35,5 +36,6 @@ mod skb;
 #[cfg(test)]
 mod tests;
 
+pub use crate::copy::CopyFault;
 pub use crate::pull_up::{HEADROOM, PullFault, Returned};
 pub use crate::skb::{RoomFault, Skb, Unshared};

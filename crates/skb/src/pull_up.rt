@@ -2,6 +2,7 @@
 ghost use Rattle.std.specs.Prelude.{◌≡◌, ◌+◌, ◌-◌, ◌<◌, ◌≤◌, length, slice_range, IfOk};
 ghost use Rattle.raw_block.specs.Views.{SoleState};
 ghost use Rattle.frags.specs.Account.{Keeps, both, of_sole, of_outcomes};
+ghost use Rattle.frags.specs.Growth.{Grows};
 ghost use Rattle.skb.specs.SkbState.{SkbState, buffer_bytes, buffer_size, head_size, of_buffer, written};
 ghost use Rattle.skb.specs.PullUp.{IsPullUp, of_pulled};
 
@@ -46,6 +47,8 @@ impl Skb {
         ensures bytes { buffer_bytes self.new ≡ buffer_bytes self.old }
         ensures head { IfOk result (λ _. n ≤ head_size self.new) }
         ensures kept { Keeps (both (of_buffer self.old) (both (of_sole spare) (of_outcomes out.old))) (both (of_buffer self.new) (both (of_pulled result) (of_outcomes out.new))) }
+        ensures fewer { length self.new.rest ≤ length self.old.rest }
+        ensures grows { Grows (length self.old.rest - length self.new.rest) out.old out.new }
         ensures places { out.old.spare + length self.new.rest ≤ out.new.spare + length self.old.rest }
     {
         let have = self.len();

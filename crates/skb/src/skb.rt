@@ -4,6 +4,7 @@ ghost use Rattle.std.specs.Borrow.{sem};
 ghost use Rattle.ref_core.specs.WeightRule.{full_weight};
 ghost use Rattle.raw_block.specs.Views.{SoleState};
 ghost use Rattle.frags.specs.Account.{Keeps, KeepsMarks, both, every, of_sole, of_holder, of_outcomes};
+ghost use Rattle.frags.specs.Growth.{Grows};
 ghost use Rattle.frags.specs.PieceList.{size_of, of_pieces, piece_bytes, block, cut_front, keep_front};
 ghost use Rattle.frags.specs.declared.pieces.Piece.{Piece};
 ghost use Rattle.skb.specs.Lending.{lends_head};
@@ -75,7 +76,9 @@ impl Skb {
 
     /// The number of bytes.
     pub fn len(&self) -> usize
-        ensures { result ≡ buffer_size self.now }
+        ensures size { result ≡ buffer_size self.now }
+        ensures bytes { result ≡ length (buffer_bytes self.now) }
+        ensures small { result < 2 ^ 32 }
     {
         self.to - self.from + self.rest.len()
     }
@@ -252,6 +255,8 @@ impl Skb {
         ensures rest { IfOk result (λ _. self.new.rest ≡ cut_front (n - head_size self.old) self.old.rest) }
         ensures bare { self.old.rest ≡ [] → self.new.rest ≡ [] }
         ensures kept { Keeps (both (of_buffer self.old) (of_outcomes out.old)) (both (of_buffer self.new) (of_outcomes out.new)) }
+        ensures fewer { length self.new.rest ≤ length self.old.rest }
+        ensures grows { Grows (length self.old.rest - length self.new.rest) out.old out.new }
         ensures places { out.old.spare + length self.new.rest ≤ out.new.spare + length self.old.rest }
     {
         let have = self.len();
@@ -274,6 +279,8 @@ impl Skb {
         ensures rest { IfOk result (λ _. self.new.rest ≡ keep_front (size_of self.old.rest - n) self.old.rest) }
         ensures bare { self.old.rest ≡ [] → self.new.rest ≡ [] }
         ensures kept { Keeps (both (of_buffer self.old) (of_outcomes out.old)) (both (of_buffer self.new) (of_outcomes out.new)) }
+        ensures fewer { length self.new.rest ≤ length self.old.rest }
+        ensures grows { Grows (length self.old.rest - length self.new.rest) out.old out.new }
         ensures places { out.old.spare + length self.new.rest ≤ out.new.spare + length self.old.rest }
     {
         let have = self.len();
@@ -331,6 +338,8 @@ impl Skb {
         requires small { buffer_size self.old + buffer_size other < 2 ^ 32 }
         requires room { 1 ≤ out.old.spare }
         ensures attached { Attaches self.old other out.old self.new out.new result }
+        ensures grows { IfOk result (λ _. Grows (length other.rest + 1 - (length self.new.rest - length self.old.rest)) out.old out.new) }
+        ensures places { out.old.spare ≤ out.new.spare + 1 }
         ensures marks { IfOk result (λ _. KeepsMarks (both (of_buffer self.old) (both (of_buffer other) (of_outcomes out.old))) (both (of_buffer self.new) (of_outcomes out.new))) }
     {
         let Skb {
@@ -368,6 +377,7 @@ impl Skb {
     pub fn release(self, out: &mut Outcomes)
         requires { length self.rest + 1 ≤ out.old.spare }
         ensures kept { Keeps (both (of_buffer self) (of_outcomes out.old)) (of_outcomes out.new) }
+        ensures grows { Grows (length self.rest + 1) out.old out.new }
         ensures places { out.old.spare ≤ out.new.spare + (length self.rest + 1) }
     {
         let Skb {
