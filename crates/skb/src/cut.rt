@@ -1,5 +1,5 @@
 //! Buffers cut in two.
-ghost use Rattle.std.specs.Prelude.{◌≡◌, ◌<◌, ◌≤◌, ◌+◌, ◌-◌, ◌*◌, ◌++◌, ℕ, Bool, true, false, IfOk};
+ghost use Rattle.std.specs.Prelude.{◌≡◌, ◌<◌, ◌≤◌, ◌+◌, ◌-◌, ◌*◌, ◌++◌, ℕ, Bool, true, false, length, IfOk, IfErr};
 ghost use Rattle.ref_core.specs.WeightRule.{full_weight};
 ghost use Rattle.frags.specs.Account.{every};
 ghost use Rattle.frags.specs.PieceList.{bytes_of, pieces_held};
@@ -17,7 +17,9 @@ impl Skb {
     /// where `at > len()`; then `Worn` exactly where the part that is cut weighs 1; then memory. A refused call changes nothing.
     pub fn split_at(&mut self, at: usize) -> Result<Pieces, ShareFault>
         ensures split { IsCut at self.old self.new result }
+        ensures same { IfErr result (λ _. self.new ≡ self.old) }
         ensures bytes { IfOk result (λ c. (buffer_bytes self.old ≡ buffer_bytes self.new ++ bytes_of c) × (buffer_size self.new ≡ at)) }
+        ensures count { IfOk result (λ c. length self.new.rest + length c ≤ length self.old.rest + 1) }
         ensures sums { (at < head_size self.old → is_sole self.old.head ≡ false) → IfOk result (λ c. (t : ℕ × ℕ → Bool) (m : ℕ) → (of_buffer self.new).held t m + pieces_held t m c ≡ (of_buffer self.old).held t m) }
         ensures marks { IfOk result (λ c. (m : ℕ) → (of_buffer self.new).held every m + full_weight * (of_buffer self.new).homes m + pieces_held every m c ≡ (of_buffer self.old).held every m + full_weight * (of_buffer self.old).homes m) }
     {

@@ -29,6 +29,8 @@
 
 mod copy;
 mod cut;
+#[cfg(test)]
+mod cut_tests;
 mod heads;
 mod lend;
 mod pull_up;
