@@ -1,21 +1,21 @@
 -- How a buffer's calls keep its bytes and its account.
-use Rattle.std.proofs.Common.{◌≡◌, ℕ, ◌+◌, ◌-◌, ◌*◌, ◌<◌, ◌≤◌, List, [], ◌∷◌, ◌++◌, Bool, true, false, length, map, take, drop, slice_range, refl, ap, sym, subst, append_assoc, ◌∙◌, zero, suc, get_or, arith, length-drop}
+use Rattle.std.proofs.Common.{◌≡◌, ℕ, ◌+◌, ◌-◌, ◌*◌, ◌<◌, ◌≤◌, List, [], ◌∷◌, ◌++◌, Bool, length, take, drop, slice_range, refl, ap, sym, append_assoc, ◌∙◌, zero, suc, get_or, arith, length-drop}
 use Rattle.std.proofs.lemmas.List.{length-take, drop-append-le, drop-take, drop-drop}
-use Rattle.std.proofs.Math.Seq.{drop-nil, drop-append-add, take-append-add, take-append_seam}
+use Rattle.std.proofs.Math.Seq.{drop-append-add, take-append-add, take-append_seam}
 use Rattle.std.proofs.lemmas.List.{append-nil, length-take-le, take-append-le, get_or_append_left, get_or-append_right}
 use Rattle.std.specs.Prelude.{Ok, ◌≢◌, cond, ◌==◌}
 use Rattle.std.proofs.lemmas.Bool.{cond_both}
 use borrow.Author.Tests.{eqb-true}
 use lib.Dec.{eqb}
 use Rattle.ref_core.specs.WeightRule.{full_weight}
-use Rattle.raw_block.specs.Views.{SoleState, PartState, ReceiptState}
+use Rattle.raw_block.specs.Views.{SoleState, PartState}
 use Rattle.frags.specs.OutcomesState.{OutcomesState}
-use Rattle.frags.specs.Account.{Account, Keeps, KeepsMarks, both, every, counted, at_home, receipts_held, soles_home, of_part, of_sole, of_receipt, of_holder, of_released, of_outcomes}
-use Rattle.frags.specs.PieceList.{bytes_of, piece_bytes, size_of, Fits, AllFit, pieces_held, of_pieces, kept, given, gift, cut_front, block, AsPart}
+use Rattle.frags.specs.Account.{Keeps, KeepsMarks, both, every, counted, at_home, of_part, of_sole, of_holder, of_outcomes}
+use Rattle.frags.specs.PieceList.{bytes_of, size_of, pieces_held, gift, block, AsPart}
 use Rattle.frags.specs.declared.pieces.Piece.{Piece}
 use Rattle.frags.specs.declared.holder.Holder.{Holder}
 use Rattle.frags.specs.declared.holder.Holder.TheVariants.{Sole, Part}
-use Rattle.frags.proofs.Keeping.{counted-le, soles_home-append, size_of-append, pieces_held-append}
+use Rattle.frags.proofs.Keeping.{counted-le, pieces_held-append}
 use Rattle.frags.proofs.Joining.{released_keeps, part_block, bytes_of-append}
 use Rattle.skb.specs.SkbState.{SkbState, is_sole, written, written_head, tailroom, IsPut, Owned, of_buffer, of_unshared, buffer_bytes, buffer_size, head_bytes, Attaches, less, gave, IsLent, Gives}
 use Rattle.skb.specs.declared.skb.Unshared.{Unshared}

@@ -1,5 +1,5 @@
 -- A head's bytes that are lent for writing, and what the buffer has once the loan ends.
-use Rattle.std.specs.Prelude.{ℕ, List, Some, None}
+use Rattle.std.specs.Prelude.{ℕ, List}
 use Rattle.std.specs.declared.option.Option.{Option}
 use Rattle.std.specs.Borrow.{Lends, LendsIf, MutBor, Fml, u8, Array}
 use Rattle.raw_block.specs.Lending.{with_bytes}

@@ -1,2 +1,5 @@
+pub mod Copy
+pub mod Cut
 pub mod Lending
+pub mod PullUp
 pub mod SkbState

@@ -1,10 +1,10 @@
 -- A buffer: a head block and pieces after it, as one run of bytes.
-use Rattle.std.specs.Prelude.{ℕ, zero, suc, ◌≡◌, ◌≢◌, ◌+◌, ◌-◌, ◌<◌, ◌≤◌, List, [], ◌∷◌, ◌++◌, Bool, false, true, ◌||◌, ◌==◌, cond, length, take, drop, slice_range, min, map, Ok, Err}
+use Rattle.std.specs.Prelude.{ℕ, ◌≡◌, ◌≢◌, ◌+◌, ◌-◌, ◌<◌, ◌≤◌, List, ◌∷◌, ◌++◌, Bool, false, true, ◌||◌, ◌==◌, cond, length, take, drop, slice_range, min, map, Ok, Err}
 use Rattle.std.specs.declared.result.Result.{Result}
 use Rattle.std.specs.declared.alloc.AllocError.{AllocError}
 use Rattle.ref_core.specs.WeightRule.{full_weight}
 use Rattle.raw_block.specs.Views.{SoleState, PartState}
-use Rattle.frags.specs.Account.{Account, Keeps, both, every, of_part, of_sole, of_holder, of_released, of_outcomes}
+use Rattle.frags.specs.Account.{Account, Keeps, both, of_sole, of_holder, of_released, of_outcomes}
 use Rattle.frags.specs.OutcomesState.{OutcomesState}
 use Rattle.frags.specs.PieceList.{bytes_of, size_of, of_pieces, least_weight, worn, gift, given, kept, block, AsPart}
 use Rattle.frags.specs.declared.pieces.Piece.{Piece}
@@ -15,7 +15,6 @@ use Rattle.frags.specs.declared.holder.Holder.TheVariants.{Sole, Part}
 use Rattle.skb.specs.declared.skb.Unshared.{Unshared}
 use Rattle.skb.specs.declared.skb.Unshared.TheVariants.{Unused, Gave}
 use Rattle.raw_block.specs.Answers.{IsReleased}
-use Rattle.raw_block.specs.declared.part.Released.{Released}
 use Rattle.skb.specs.declared.skb.RoomFault.{RoomFault}
 use Rattle.skb.specs.declared.skb.RoomFault.TheVariants.{NoRoom, Shared}
 
@@ -38,6 +37,9 @@ head_bytes f = slice_range (block f.head) f.from f.to
 
 abbrev pub buffer_bytes : SkbState → List ℕ
 buffer_bytes f = head_bytes f ++ bytes_of f.rest
+
+abbrev pub head_size : SkbState → ℕ
+head_size f = f.to - f.from
 
 abbrev pub buffer_size : SkbState → ℕ
 buffer_size f = (f.to - f.from) + size_of f.rest

@@ -1,11 +1,13 @@
 //! What becomes of a buffer's head.
 ghost use Rattle.std.specs.Prelude.{◌≡◌, ◌+◌, ◌≤◌, length, false};
 ghost use Rattle.frags.specs.PieceList.{AsPart};
+ghost use Rattle.skb.specs.Cut.{KeepsGift};
+ghost use Rattle.skb.specs.PullUp.{HeadReleased};
 ghost use Rattle.skb.specs.SkbState.{written, Owned, IsLent, Gives, head_worn};
 
 use crate::skb::Unshared;
 use frags::Holder;
-use raw_block::{Claimed, Part, Sole};
+use raw_block::{Claimed, Part, Released, Sole};
 
 // Writes over a block's bytes from a place on.
 pub(crate) fn write_at(sole: &mut Sole, at: usize, bytes: &[u8])
@@ -44,6 +46,20 @@ fn copy_block(sole: &mut Sole, bytes: &[u8])
     all.copy_from_slice(bytes);
 }
 
+// Another block's Sole becomes the head, and the old one is released.
+pub(crate) fn replaced(head: Holder, other: Sole) -> (Holder, Released)
+    ensures { (result.0 ≡ Holder.Sole other) × HeadReleased head result.1 }
+{
+    let released = match head {
+        Holder::Sole(sole) => Released::Last(sole),
+        Holder::Part(part) => {
+            let _ = part.weight();
+            part.release()
+        }
+    };
+    (Holder::Sole(other), released)
+}
+
 // A Sole head becomes a part.
 pub(crate) fn lent(head: Holder, none: ()) -> (Holder, ())
     ensures { IsLent head result.0 }
@@ -67,4 +83,29 @@ pub(crate) fn gives(head: Holder, none: ()) -> (Holder, Part)
     let weight = part.weight();
     let gift = part.split((weight / 4096).max(1));
     (Holder::Part(part), gift)
+}
+
+// The head keeps its gift, and the rest of it is another part.
+pub(crate) fn keeps_gift(head: Holder, none: ()) -> (Holder, Part)
+    requires { head_worn head ≡ false }
+    ensures { KeepsGift head result.0 result.1 }
+{
+    let _ = none;
+    let mut part = match head {
+        Holder::Sole(sole) => sole.share(),
+        Holder::Part(part) => part,
+    };
+    let weight = part.weight();
+    let gift = part.split((weight / 4096).max(1));
+    (Holder::Part(gift), part)
+}
+
+// A part of weight 1 has nothing to give.
+pub(crate) fn is_worn(head: &Holder) -> bool
+    ensures { result ≡ head_worn head.now }
+{
+    match head {
+        Holder::Sole(_) => false,
+        Holder::Part(part) => part.weight() == 1,
+    }
 }

@@ -9,14 +9,28 @@
 //! ```
 //!
 //! Contracts see the head with its range and the list of pieces (`SkbState`), and of it the bytes (`buffer_bytes`). `push`
-//! and `pull` move `from`, `put_tail` moves `to`. There is tailroom only where no piece follows the head.
+//! and `pull` move `from`, `put_tail` and `trim` move `to`, and a head left empty stays. There is tailroom only where no piece
+//! follows the head.
 //!
-//! Sharing: a head that is a Sole is the only one that is written, so `push` and `put_tail` of a shared one are refused.
-//! `clone` makes the head a Part and gives `max(1, weight / 4096)` of each part away; no byte is copied. `unshare` asks for
-//! the head's block back, and copies it into a spare where others hold it. `attach` puts another buffer behind, uncopied.
+//! Sharing: a head that is a Sole is the only one that is written, so `push` and `put_tail` of a shared one are refused, and
+//! `head_mut` has none. `clone` makes the head a Part and gives `max(1, weight / 4096)` of each part away; no byte is copied.
+//! `unshare` asks for the head's block back, and copies it into a spare where others hold it. `attach` puts another buffer
+//! behind, uncopied, and `split_at` cuts one in two, uncopied: of the part that is cut the front keeps what `clone` would
+//! give. `pull_up` copies the first bytes into a spare, which becomes the head, and `copy` copies all into spares, which share
+//! nothing. Blocks come from the caller; memory is taken for lists of pieces alone.
 //!
-//! Proved: each call is that operation on the list of bytes; each refusal comes exactly where its clause says, and leaves
-//! the buffer as it was (`IsPush`, `IsPut`, `IsClone`, `Attaches`); nothing is lost (`kept`, `marks`; see `frags`).
+//! Proved, by the names of the clauses:
+//!
+//! - `bytes`: each call is that operation on the list of bytes, and so are `copy_out` and `byte_at`.
+//! - `push`, `put`, `clone`, `attached`, `split`, `pull_up`, `copy`: the exact buffer afterwards, and each refusal exactly where
+//!   its definition says (`IsPush`, `IsPut`, `IsClone`, `Attaches`, `IsCut`, `IsPullUp`, `IsCopy`). It leaves the buffer as it
+//!   was, but that a clone refused for memory has made a Sole head a part. `pull` and `trim` say the same by `bytes`, `head`,
+//!   `room` and `rest`, and `unshare` by `head` and `room`.
+//! - `account`, `kept`, `sums`, `marks`: nothing is lost (see `frags`). A call that begins a life, since it shares a Sole,
+//!   says it by marks.
+//! - `grows`, `fewer`, `places`: outcomes grow only at their end, by how many, and what room is left in them.
+//!
+//! Not said: what is written through `head_mut`. `head_bytes_mut` says it, under its condition.
 //!
 //! ```
 //! let mut skb = Skb::new(pool.take()?, 64, 64, Pieces::new(alloc));
@@ -24,15 +38,23 @@
 //! skb.push(header)?;
 //! let mut clone = skb.clone()?;
 //! clone.pull(14, &mut outcomes)?;
+//! let payload = clone.split_at(1460)?;
 //! ```
 #![tactic(auto)]
 
+mod copy;
+mod cut;
+#[cfg(test)]
+mod cut_tests;
 mod heads;
 mod lend;
+mod pull_up;
 #[cfg(test)]
 mod reader_tests;
 mod skb;
 #[cfg(test)]
 mod tests;
 
+pub use crate::copy::CopyFault;
+pub use crate::pull_up::{HEADROOM, PullFault, Returned};
 pub use crate::skb::{RoomFault, Skb, Unshared};

@@ -1,15 +1,16 @@
 //! A packet buffer.
-ghost use Rattle.std.specs.Prelude.{◌≡◌, ℕ, ◌+◌, ◌-◌, ◌<◌, ◌≤◌, ◌^◌, ◌*◌, [], ◌∷◌, ◌++◌, length, MatchResult, MatchOption, IfOk, drop, take, min, slice_index_or, false, true, Some, None};
+ghost use Rattle.std.specs.Prelude.{◌≡◌, ℕ, ◌+◌, ◌-◌, ◌<◌, ◌≤◌, ◌^◌, ◌*◌, [], ◌∷◌, ◌++◌, length, MatchResult, MatchOption, IfOk, drop, take, min, slice_index_or, slice_range, false, true, Some, None};
 ghost use Rattle.std.specs.Borrow.{sem};
 ghost use Rattle.ref_core.specs.WeightRule.{full_weight};
 ghost use Rattle.raw_block.specs.Views.{SoleState};
 ghost use Rattle.frags.specs.Account.{Keeps, KeepsMarks, both, every, of_sole, of_holder, of_outcomes};
-ghost use Rattle.frags.specs.PieceList.{size_of, piece_bytes, block};
+ghost use Rattle.frags.specs.Growth.{Grows};
+ghost use Rattle.frags.specs.PieceList.{size_of, of_pieces, piece_bytes, block, cut_front, keep_front};
 ghost use Rattle.frags.specs.declared.pieces.Piece.{Piece};
 ghost use Rattle.skb.specs.Lending.{lends_head};
-ghost use Rattle.skb.specs.SkbState.{SkbState, buffer_least, buffer_bytes, buffer_size, head_bytes, headroom, tailroom, is_sole, written, IsPush, IsPut, Owned, IsClone, IsLent, Gives, head_worn, buffer_worn, of_buffer, of_unshared, Attaches};
+ghost use Rattle.skb.specs.SkbState.{SkbState, head_size, buffer_least, buffer_bytes, buffer_size, head_bytes, headroom, tailroom, is_sole, written, IsPush, IsPut, Owned, IsClone, IsLent, Gives, head_worn, buffer_worn, of_buffer, of_unshared, Attaches};
 
-use crate::heads::{gives, lent, owned, write_at};
+use crate::heads::{gives, is_worn, lent, owned, write_at};
 use crate::lend::range_of;
 use core::mem::replace_with;
 use frags::{Holder, Outcomes, Pieces, ShareFault, Short};
@@ -37,10 +38,10 @@ pub enum Unshared {
 /// A packet buffer: the bytes `from..to` of a head block, and pieces of other blocks after them. It must be spent:
 /// attached or released.
 pub struct Skb {
-    head: Holder,
-    from: usize,
-    to: usize,
-    rest: Pieces,
+    pub(crate) head: Holder,
+    pub(crate) from: usize,
+    pub(crate) to: usize,
+    pub(crate) rest: Pieces,
 }
 
 impl Model for Skb {
@@ -61,7 +62,8 @@ impl Skb {
     pub fn new(head: Sole, from: usize, to: usize, rest: Pieces) -> Skb
         requires range { (from ≤ to) × (to ≤ 2048) }
         requires small { (to - from) + size_of rest < 2 ^ 32 }
-        ensures { result ≡ record { head = Holder.Sole head; from = from; to = to; rest = rest } }
+        ensures same { result ≡ record { head = Holder.Sole head; from = from; to = to; rest = rest } }
+        ensures account { of_buffer result ≡ both (of_sole head) (of_pieces rest) }
     {
         let _ = head.bytes();
         Skb {
@@ -74,7 +76,9 @@ impl Skb {
 
     /// The number of bytes.
     pub fn len(&self) -> usize
-        ensures { result ≡ buffer_size self.now }
+        ensures size { result ≡ buffer_size self.now }
+        ensures bytes { result ≡ length (buffer_bytes self.now) }
+        ensures small { result < 2 ^ 32 }
     {
         self.to - self.from + self.rest.len()
     }
@@ -125,6 +129,18 @@ impl Skb {
         &all[self.from..self.to]
     }
 
+    /// The head's bytes, for writing. None exactly where not `head_is_sole()`.
+    // What is written through an `Option` of a slice can't be said: `head_bytes_mut` says it.
+    pub fn head_mut(&mut self) -> Option<&mut [u8]>
+        ensures { MatchOption result (is_sole self.old.head ≡ false) (λ r. (is_sole self.old.head ≡ true) × (r.now ≡ head_bytes self.old)) }
+    {
+        if self.head_is_sole() {
+            Some(self.head_bytes_mut())
+        } else {
+            None
+        }
+    }
+
     /// The head's bytes, for writing. The condition is `head_is_sole()`.
     pub fn head_bytes_mut(&mut self) -> &mut [u8]
         requires { is_sole self.old.head ≡ true }
@@ -146,6 +162,19 @@ impl Skb {
             return head[i];
         }
         self.rest.byte_at(i - head.len())
+    }
+
+    /// Copies the bytes from the place `at` on over `into`, as many as it has.
+    pub fn copy_out(&self, at: usize, into: &mut [u8])
+        requires { at + length into.old ≤ buffer_size self.now }
+        ensures bytes { into.new ≡ slice_range (buffer_bytes self.now) at (at + length into.old) }
+    {
+        let head = self.head();
+        let start = at.min(head.len());
+        let of_head = (head.len() - start).min(into.len());
+        let (front, back) = into.split_at_mut(of_head);
+        front.copy_from_slice(&head[start..start + of_head]);
+        self.rest.copy_out(at - start, back);
     }
 
     /// The least weight of a part, `FULL` where there is none.
@@ -171,7 +200,8 @@ impl Skb {
     /// where not `head_is_sole()`.
     pub fn push(&mut self, bytes: &[u8]) -> Result<(), RoomFault>
         requires { buffer_size self.old + length bytes.now < 2 ^ 32 }
-        ensures { IsPush self.old bytes.now self.new result }
+        ensures push { IsPush self.old bytes.now self.new result }
+        ensures account { of_buffer self.new ≡ of_buffer self.old }
     {
         if self.from < bytes.len() {
             return Err(RoomFault::NoRoom {
@@ -194,7 +224,8 @@ impl Skb {
     /// where not `head_is_sole()`.
     pub fn put_tail(&mut self, bytes: &[u8]) -> Result<(), RoomFault>
         requires { buffer_size self.old + length bytes.now < 2 ^ 32 }
-        ensures { IsPut self.old bytes.now self.new result }
+        ensures put { IsPut self.old bytes.now self.new result }
+        ensures account { of_buffer self.new ≡ of_buffer self.old }
     {
         let room = self.tailroom();
         if room < bytes.len() {
@@ -221,20 +252,20 @@ impl Skb {
         ensures bytes { MatchResult result (λ _. buffer_bytes self.new ≡ drop n (buffer_bytes self.old)) (λ e. (buffer_size self.old < n) × (e.have ≡ buffer_size self.old) × (e.need ≡ n) × (self.new ≡ self.old) × (out.new ≡ out.old)) }
         ensures head { (self.new.head ≡ self.old.head) × (self.new.to ≡ self.old.to) }
         ensures room { IfOk result (λ _. self.new.from ≡ min (self.old.from + n) self.old.to) }
+        ensures rest { IfOk result (λ _. self.new.rest ≡ cut_front (n - head_size self.old) self.old.rest) }
+        ensures bare { self.old.rest ≡ [] → self.new.rest ≡ [] }
         ensures kept { Keeps (both (of_buffer self.old) (of_outcomes out.old)) (both (of_buffer self.new) (of_outcomes out.new)) }
+        ensures fewer { length self.new.rest ≤ length self.old.rest }
+        ensures grows { Grows (length self.old.rest - length self.new.rest) out.old out.new }
         ensures places { out.old.spare + length self.new.rest ≤ out.new.spare + length self.old.rest }
     {
         let have = self.len();
         if have < n {
             return Err(Short { have, need: n });
         }
-        let head = self.to - self.from;
-        if n <= head {
-            self.from += n;
-            return Ok(());
-        }
-        self.rest.cut_front(n - head, out)?;
-        self.from = self.to;
+        let of_head = n.min(self.to - self.from);
+        self.rest.cut_front(n - of_head, out)?;
+        self.from += of_head;
         Ok(())
     }
 
@@ -244,20 +275,21 @@ impl Skb {
         requires { length self.old.rest ≤ out.old.spare }
         ensures bytes { MatchResult result (λ _. buffer_bytes self.new ≡ take (buffer_size self.old - n) (buffer_bytes self.old)) (λ e. (buffer_size self.old < n) × (e.have ≡ buffer_size self.old) × (e.need ≡ n) × (self.new ≡ self.old) × (out.new ≡ out.old)) }
         ensures head { (self.new.head ≡ self.old.head) × (self.new.from ≡ self.old.from) }
+        ensures room { IfOk result (λ _. self.new.to ≡ self.old.to - (n - size_of self.old.rest)) }
+        ensures rest { IfOk result (λ _. self.new.rest ≡ keep_front (size_of self.old.rest - n) self.old.rest) }
+        ensures bare { self.old.rest ≡ [] → self.new.rest ≡ [] }
         ensures kept { Keeps (both (of_buffer self.old) (of_outcomes out.old)) (both (of_buffer self.new) (of_outcomes out.new)) }
+        ensures fewer { length self.new.rest ≤ length self.old.rest }
+        ensures grows { Grows (length self.old.rest - length self.new.rest) out.old out.new }
         ensures places { out.old.spare + length self.new.rest ≤ out.new.spare + length self.old.rest }
     {
         let have = self.len();
         if have < n {
             return Err(Short { have, need: n });
         }
-        let rest = self.rest.len();
-        if n <= rest {
-            self.rest.cut_back(n, out)?;
-            return Ok(());
-        }
-        self.rest.cut_back(rest, out)?;
-        self.to -= n - rest;
+        let of_rest = n.min(self.rest.len());
+        self.rest.cut_back(of_rest, out)?;
+        self.to -= n - of_rest;
         Ok(())
     }
 
@@ -266,7 +298,7 @@ impl Skb {
     /// 1, which is judged before all else.
     pub fn clone(&mut self) -> Result<Skb, ShareFault>
         ensures clone { IsClone self.old self.new result }
-        ensures marks { IfOk result (λ c. (m : ℕ) → (of_buffer self.new).held every m + (of_buffer c).held every m ≡ (of_buffer self.old).held every m + full_weight * (of_buffer self.old).homes m) }
+        ensures marks { MatchResult result (λ c. (m : ℕ) → (of_buffer self.new).held every m + (of_buffer c).held every m ≡ (of_buffer self.old).held every m + full_weight * (of_buffer self.old).homes m) (λ _. KeepsMarks (of_buffer self.old) (of_buffer self.new)) }
     {
         if self.is_worn() {
             return Err(ShareFault::Worn);
@@ -286,11 +318,7 @@ impl Skb {
     fn is_worn(&self) -> bool
         ensures { result ≡ buffer_worn self.now }
     {
-        let head = match &self.head {
-            Holder::Sole(_) => false,
-            Holder::Part(part) => part.weight() == 1,
-        };
-        head || self.rest.is_worn()
+        is_worn(&self.head) || self.rest.is_worn()
     }
 
     /// The head becomes a Sole, with the same bytes and room. `Unused` exactly where it was one, or its claim was granted;
@@ -310,6 +338,8 @@ impl Skb {
         requires small { buffer_size self.old + buffer_size other < 2 ^ 32 }
         requires room { 1 ≤ out.old.spare }
         ensures attached { Attaches self.old other out.old self.new out.new result }
+        ensures grows { IfOk result (λ _. Grows (length other.rest + 1 - (length self.new.rest - length self.old.rest)) out.old out.new) }
+        ensures places { out.old.spare ≤ out.new.spare + 1 }
         ensures marks { IfOk result (λ _. KeepsMarks (both (of_buffer self.old) (both (of_buffer other) (of_outcomes out.old))) (both (of_buffer self.new) (of_outcomes out.new))) }
     {
         let Skb {
@@ -347,6 +377,7 @@ impl Skb {
     pub fn release(self, out: &mut Outcomes)
         requires { length self.rest + 1 ≤ out.old.spare }
         ensures kept { Keeps (both (of_buffer self) (of_outcomes out.old)) (of_outcomes out.new) }
+        ensures grows { Grows (length self.rest + 1) out.old out.new }
         ensures places { out.old.spare ≤ out.new.spare + (length self.rest + 1) }
     {
         let Skb {

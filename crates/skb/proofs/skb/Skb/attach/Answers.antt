@@ -1,6 +1,6 @@
-use Rattle.std.proofs.Common.{◌≡◌, ◌≢◌, ◌+◌, ◌∙◌, ◌++◌, ◌∷◌, ℕ, List, length, ap, sym, subst, refl, arith}
+use Rattle.std.proofs.Common.{◌∙◌, ◌∷◌, ap, subst, arith}
 use Rattle.std.specs.Prelude.{Ok}
-use Rattle.frags.specs.Account.{Keeps, KeepsMarks, both, of_outcomes}
+use Rattle.frags.specs.Account.{KeepsMarks, both, of_outcomes}
 use Rattle.frags.specs.PieceList.{size_of}
 use Rattle.skb.specs.SkbState.{SkbState, of_buffer, Attaches, buffer_size}
 use Rattle.frags.proofs.Keeping.{size_of-append}

@@ -1,7 +1,6 @@
-use Rattle.std.proofs.Common.{◌≡◌, List, length, map, ap, ◌∙◌, arith}
-use Rattle.frags.specs.PieceList.{size_of, pieces_held, kept, given}
+use Rattle.std.proofs.Common.{length, ap, ◌∙◌, arith}
+use Rattle.frags.specs.PieceList.{size_of, pieces_held}
 use Rattle.frags.specs.Account.{of_holder}
-use Rattle.frags.specs.PieceList.{block}
 use Rattle.skb.specs.SkbState.{SkbState}
 use Rattle.frags.specs.Account.{every}
 use Rattle.frags.proofs.Keeping.{size_of-kept, size_of-given}

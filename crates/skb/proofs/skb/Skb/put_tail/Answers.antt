@@ -1,12 +1,12 @@
-use Rattle.std.proofs.Common.{◌≡◌, ◌≤◌, ◌+◌, List, length, subst, sym, arith}
+use Rattle.std.proofs.Common.{◌≤◌, ◌+◌, length, subst, sym, arith}
 use Rattle.std.specs.Prelude.{Ok}
 use Rattle.frags.specs.declared.holder.Holder.TheVariants.{Sole}
 use Rattle.skb.specs.SkbState.{SkbState, IsPut, tailroom}
 use Rattle.skb.proofs.Buffers.{puts}
 use Rattle.skb.proofs.skb.Skb.put_tail.Goals as goal
 
-pub returns-in-Sole : goal.returns-in-Sole
-returns-in-Sole c =
+pub returns-in-Sole-clause-put : goal.returns-in-Sole-clause-put
+returns-in-Sole-clause-put c =
     let s = c.self.inside in
     let a : SkbState = record { head = s.head; from = s.from; to = s.to; rest = s.rest } in
     let b : SkbState = record { head = Sole c.write_at.new.sole; from = s.from; to = s.to + length c.args.bytes.now; rest = s.rest } in
