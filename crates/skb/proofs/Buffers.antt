@@ -75,7 +75,7 @@ joined_keeps a c o q r e k t m =
     (omega arith, omega arith)
 
 pub attaches_joined : (a c : SkbState) (o q : OutcomesState) (r : List Piece) → c.from ≡ c.to → r ≡ a.rest ++ c.rest → Keeps (both (of_holder c.head) (of_outcomes o)) (of_outcomes q) → Attaches a c o (record a { rest = r }) q (Ok tt)
-attaches_joined a c o q r e f k = (joined_bytes a c r e f, refl, refl, refl, (λ _. joined_keeps a c o q r f k), (λ n. absurd (n e)))
+attaches_joined a c o q r e f k = (joined_bytes a c r e f, refl, refl, refl, (λ _. (f, joined_keeps a c o q r f k)), (λ n. absurd (n e)))
 
 pub attaches_taken : (a c : SkbState) (o : OutcomesState) (r : List Piece) → c.from ≢ c.to → ((p : PartState) × (AsPart c.head p × (r ≡ a.rest ++ (record { part = p; from = c.from; to = c.to }) ∷ c.rest))) → Attaches a c o (record a { rest = r }) o (Ok tt)
 attaches_taken a c o r n w = (taken_bytes a c w.0 r (part_block c.head w.0 w.1.0) w.1.1, refl, refl, refl, (λ e. absurd (n e)), (λ _. (refl, w)))

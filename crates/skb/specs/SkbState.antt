@@ -120,7 +120,15 @@ Gives (Part p) (Part q) g = (q ≡ less p) × (g ≡ gave p) × (1 < p.weight)
 Gives (Part p) (Sole s) g = ⊥
 Gives (Sole s) h g = Unit {0}
 
+-- the other's head has no bytes: it is given back, and the other's pieces follow
+abbrev pub JoinsRest : SkbState → SkbState → OutcomesState → SkbState → OutcomesState → Type 0
+JoinsRest a c o b q = (b.rest ≡ a.rest ++ c.rest) × Keeps (both (of_buffer a) (both (of_buffer c) (of_outcomes o))) (both (of_buffer b) (of_outcomes q))
+
+-- the other's head follows as a piece, and its pieces after it
+abbrev pub TakesHead : SkbState → SkbState → OutcomesState → SkbState → OutcomesState → Type 0
+TakesHead a c o b q = (q ≡ o) × ((p : PartState) × (AsPart c.head p × (b.rest ≡ a.rest ++ (record { part = p; from = c.from; to = c.to }) ∷ c.rest)))
+
 -- what `attach` answers: the other's bytes follow, or nothing has changed
 abbrev pub Attaches : SkbState → SkbState → OutcomesState → SkbState → OutcomesState → Result Unit (SkbState × AllocError) → Type 0
-Attaches a c o b q (Ok _) = (buffer_bytes b ≡ buffer_bytes a ++ buffer_bytes c) × (b.head ≡ a.head) × (b.from ≡ a.from) × (b.to ≡ a.to) × (c.from ≡ c.to → Keeps (both (of_buffer a) (both (of_buffer c) (of_outcomes o))) (both (of_buffer b) (of_outcomes q))) × (c.from ≢ c.to → (q ≡ o) × ((p : PartState) × (AsPart c.head p × (b.rest ≡ a.rest ++ (record { part = p; from = c.from; to = c.to }) ∷ c.rest))))
+Attaches a c o b q (Ok _) = (buffer_bytes b ≡ buffer_bytes a ++ buffer_bytes c) × (b.head ≡ a.head) × (b.from ≡ a.from) × (b.to ≡ a.to) × (c.from ≡ c.to → JoinsRest a c o b q) × (c.from ≢ c.to → TakesHead a c o b q)
 Attaches a c o b q (Err e) = (e.0 ≡ c) × (b ≡ a) × (q ≡ o)

@@ -9,12 +9,15 @@ ghost use Rattle.skb.specs.Copy.{IsCopy, IsNextBlock, blocks_for};
 use crate::{HEADROOM, Skb};
 use frags::{PieceBuilder, Pieces};
 use raw_block::{BLOCK_SIZE, Sole};
+use thiserror::Error;
 
 /// Why a buffer isn't copied.
-#[derive(Drop)]
+#[derive(Debug, Drop, Error)]
 pub enum CopyFault {
     /// The spares that are there, and the blocks that a copy needs.
+    #[error("a copy needs {need} blocks, and there are {have}")]
     Empty { have: usize, need: usize },
+    #[error("there is no memory for the copy's list of pieces")]
     NoMemory,
 }
 

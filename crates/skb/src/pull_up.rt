@@ -11,16 +11,19 @@ use crate::heads::replaced;
 use core::mem::replace_with;
 use frags::Outcomes;
 use raw_block::{BLOCK_SIZE, Released, Sole};
+use thiserror::Error;
 
 /// The headroom that `pull_up` and `copy` leave in front of a new head.
 pub const HEADROOM: usize = 64;
 
 /// Why bytes can't be brought into a head.
-#[derive(Drop)]
+#[derive(Debug, Drop, Error)]
 pub enum PullFault {
     /// The bytes that are there, and what was asked for.
+    #[error("{need} bytes were asked for, and there are {have}")]
     Short { have: usize, need: usize },
     /// More than a block has room for behind the headroom.
+    #[error("a block has no room for so many bytes behind its headroom")]
     TooBig,
 }
 

@@ -17,13 +17,16 @@ use frags::{Holder, Outcomes, Pieces, ShareFault, Short};
 use raw_block::{BLOCK_SIZE, FULL, Released, Sight, Sole};
 use std::alloc::AllocError;
 use std::marker::Model;
+use thiserror::Error;
 
 /// Why bytes can't be put into a head.
-#[derive(Drop)]
+#[derive(Debug, Drop, Error)]
 pub enum RoomFault {
     /// The room that is there, and what was asked for.
+    #[error("{need} bytes have no room in {have}")]
     NoRoom { have: usize, need: usize },
     /// Others hold the head's block.
+    #[error("others hold the head's block")]
     Shared,
 }
 
