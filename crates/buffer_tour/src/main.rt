@@ -7,7 +7,7 @@
 ghost use Rattle.std.specs.Prelude.{◌≡◌, ◌+◌, ◌<◌, ◌≤◌, [], length};
 ghost use Rattle.skb.specs.SkbState.{buffer_size};
 
-use anyhow::{Error, bail, ensure};
+use anyhow::Error;
 use block_pool::Pool;
 use frags::{Outcomes, Pieces};
 use raw_block::{Released, Sole};
@@ -44,9 +44,9 @@ fn fill(skb: &mut Skb, lines: &mut Lines) -> Result<(), Error>
     requires { buffer_size skb.old ≡ 0 }
     ensures { (skb.new.rest ≡ skb.old.rest) × (buffer_size skb.new ≤ 1014) }
 {
-    ensure!(skb.put_tail(&PAYLOAD).is_ok(), "the payload has no room");
+    skb.put_tail(&PAYLOAD)?;
     lines.show("put_tail: the payload", skb);
-    ensure!(skb.push(&ETHERNET).is_ok(), "the header has no room");
+    skb.push(&ETHERNET)?;
     lines.show("push: an Ethernet header", skb);
     Ok(())
 }
@@ -56,9 +56,7 @@ fn lend(skb: &mut Skb, out: &mut Outcomes, lines: &mut Lines) -> Result<(), Erro
     requires { (skb.old.rest ≡ []) × (buffer_size skb.old ≤ 1014) × (2 ≤ out.old.spare) }
     ensures { (skb.new.rest ≡ []) × (buffer_size skb.new ≤ 1014) × (out.old.spare ≤ out.new.spare + 1) }
 {
-    let Ok(mut clone) = skb.clone() else {
-        bail!("the buffer can't be cloned");
-    };
+    let mut clone = skb.clone()?;
     lines.show("clone: for a second reader", &clone);
     match clone.pull(ETHERNET.len(), out) {
         Ok(()) => lines.show("  pull: the clone has no header", &clone),
@@ -104,9 +102,9 @@ fn lengthen(skb: &mut Skb, other: Skb, out: &mut Outcomes, lines: &mut Lines) ->
 fn tour(pool: &mut Pool, alloc: Global, out: &mut Outcomes, lines: &mut Lines) -> Result<(), Error>
     requires { 8 ≤ out.old.spare }
 {
-    let (Ok(head), Ok(spare), Ok(block)) = (pool.take(), pool.take(), pool.take()) else {
-        bail!("the pool is empty");
-    };
+    let head = pool.take()?;
+    let spare = pool.take()?;
+    let block = pool.take()?;
     let mut skb = Skb::new(head, 64, 64, Pieces::new(alloc));
     lines.show("a buffer over one block, 64 to 64", &skb);
     let filled = fill(&mut skb, lines);
