@@ -7,6 +7,7 @@ use crate::{Returned, Skb};
 use frags::{Outcomes, Pieces, ShareFault};
 use raw_block::Sole;
 use std::alloc::Global;
+use std::process::Abort;
 use std::test::Fail;
 
 // A block whose bytes count.
@@ -179,6 +180,43 @@ fn of_weight_one(skb: Skb, out: &mut Outcomes) -> (u64, bool, usize)
     (weight, worn, after)
 }
 
+// The length of a piece, whether bytes of head and piece are copied out, and whether the head's are lent for writing.
+fn read_and_written(rt: &impl Abort, mut skb: Skb, out: &mut Outcomes) -> (usize, bool, bool)
+    requires { (length skb.rest ≡ 1) × (buffer_size skb ≡ 200) }
+{
+    let piece = skb.slice(0).len();
+    let mut bytes = [0; 10];
+    skb.copy_out(95, &mut bytes);
+    let mut copied = true;
+    for i in 0..10 {
+        copied = copied && bytes[i] == expected(95 + i);
+    }
+    if let Some(head) = skb.head_mut() {
+        head.fill(9);
+    }
+    let head = skb.head();
+    let written = head.len() == 100 && head[0] == 9 && head[99] == 9;
+    assert!(rt; skb.count() <= out.spare());
+    skb.release(out);
+    (piece, copied, written)
+}
+
+// Whether a shared head is lent for writing.
+fn is_lent_beside_a_clone(rt: &impl Abort, mut skb: Skb, out: &mut Outcomes) -> bool
+    requires { (skb.rest ≡ []) × (2 ≤ out.old.spare) }
+{
+    let lent = match skb.clone() {
+        Ok(clone) => {
+            clone.release(out);
+            skb.head_mut().is_some()
+        }
+        Err(_) => true,
+    };
+    assert!(rt; skb.count() <= out.spare());
+    skb.release(out);
+    lent
+}
+
 #[test]
 fn a_head_of_weight_one_is_not_cut(rt: HostRuntime) -> Result<(), Fail> {
     let block = Sole::new(rt.alloc())?;
@@ -192,6 +230,29 @@ fn a_head_of_weight_one_is_not_cut(rt: HostRuntime) -> Result<(), Fail> {
     let soles = spend(out);
     assert_eq!(rt; seen, (1, true, 0));
     assert_eq!(rt; soles, 1);
+    Ok(())
+}
+
+#[test]
+fn bytes_are_read_and_written(rt: HostRuntime) -> Result<(), Fail> {
+    let first = Sole::new(rt.alloc())?;
+    let second = Sole::new(rt.alloc())?;
+    let third = Sole::new(rt.alloc())?;
+    let mut out = Outcomes::new(rt.alloc());
+    if out.reserve(6).is_err() {
+        out.settle();
+        return Ok(());
+    }
+    let seen = match two_blocks(first, second, rt.alloc(), &mut out) {
+        Some(skb) => read_and_written(&rt, skb, &mut out),
+        None => (0, false, false),
+    };
+    assert!(rt; 2 <= out.spare());
+    let shared = Skb::new(third, 64, 128, Pieces::new(rt.alloc()));
+    let lent = is_lent_beside_a_clone(&rt, shared, &mut out);
+    let _ = spend(out);
+    assert_eq!(rt; seen, (100, true, true));
+    assert!(rt; !lent);
     Ok(())
 }
 

@@ -1,5 +1,5 @@
 //! A packet buffer.
-ghost use Rattle.std.specs.Prelude.{◌≡◌, ℕ, ◌+◌, ◌-◌, ◌<◌, ◌≤◌, ◌^◌, ◌*◌, [], ◌∷◌, ◌++◌, length, MatchResult, MatchOption, IfOk, drop, take, min, slice_index_or, slice_range, false, true, Some, None};
+ghost use Rattle.std.specs.Prelude.{◌≡◌, ℕ, ◌+◌, ◌-◌, ◌<◌, ◌≤◌, ◌^◌, ◌*◌, [], ◌∷◌, ◌++◌, length, MatchResult, MatchOption, IfOk, drop, take, min, slice_index_or, slice_range, Bool, false, true, Some, None};
 ghost use Rattle.std.specs.Borrow.{sem};
 ghost use Rattle.ref_core.specs.WeightRule.{full_weight};
 ghost use Rattle.raw_block.specs.Views.{SoleState};
@@ -301,6 +301,9 @@ impl Skb {
     /// 1, which is judged before all else.
     pub fn clone(&mut self) -> Result<Skb, ShareFault>
         ensures clone { IsClone self.old self.new result }
+        ensures bytes { MatchResult result (λ c. (buffer_bytes self.new ≡ buffer_bytes self.old) × (buffer_bytes c ≡ buffer_bytes self.old)) (λ _. buffer_bytes self.new ≡ buffer_bytes self.old) }
+        ensures count { MatchResult result (λ c. (length self.new.rest ≡ length self.old.rest) × (length c.rest ≡ length self.old.rest)) (λ _. length self.new.rest ≡ length self.old.rest) }
+        ensures sums { is_sole self.old.head ≡ false → IfOk result (λ c. (t : ℕ × ℕ → Bool) (m : ℕ) → (of_buffer self.new).held t m + (of_buffer c).held t m ≡ (of_buffer self.old).held t m) }
         ensures marks { MatchResult result (λ c. (m : ℕ) → (of_buffer self.new).held every m + (of_buffer c).held every m ≡ (of_buffer self.old).held every m + full_weight * (of_buffer self.old).homes m) (λ _. KeepsMarks (of_buffer self.old) (of_buffer self.new)) }
     {
         if self.is_worn() {
@@ -341,6 +344,7 @@ impl Skb {
         requires small { buffer_size self.old + buffer_size other < 2 ^ 32 }
         requires room { 1 ≤ out.old.spare }
         ensures attached { Attaches self.old other out.old self.new out.new result }
+        ensures count { IfOk result (λ _. length self.new.rest ≤ length self.old.rest + (length other.rest + 1)) }
         ensures grows { IfOk result (λ _. Grows (length other.rest + 1 - (length self.new.rest - length self.old.rest)) out.old out.new) }
         ensures places { out.old.spare ≤ out.new.spare + 1 }
         ensures marks { IfOk result (λ _. KeepsMarks (both (of_buffer self.old) (both (of_buffer other) (of_outcomes out.old))) (both (of_buffer self.new) (of_outcomes out.new))) }
