@@ -1,4 +1,4 @@
-use Rattle.std.proofs.Common.{◌≡◌, length}
+use Rattle.std.proofs.Common.{length}
 use Rattle.skb.proofs.tests.spend.Given as goal
 
 abbrev pub decreases-loop-soles : goal.decreases-loop-soles
