@@ -40,6 +40,13 @@ of_pieces ps = record { held = λ t m. pieces_held t m ps; homes = λ m. 0 }
 abbrev pub gift : ℕ → ℕ
 gift w = max (w / 4096) 1
 
+-- a part that gave a share away, and the share
+abbrev pub less : PartState → PartState
+less p = record p { weight = p.weight - gift p.weight }
+
+abbrev pub gave : PartState → PartState
+gave p = record p { weight = gift p.weight }
+
 abbrev pub reweighed : Piece → ℕ → Piece
 reweighed p w = record p { part = record p.part { weight = w } }
 

@@ -3,7 +3,7 @@ ghost use Rattle.std.specs.Prelude.{◌≡◌, ◌+◌, ◌-◌, ◌≤◌, ◌+
 ghost use Rattle.std.specs.VecDeque.{deque_len, deque_capacity};
 ghost use Rattle.frags.specs.PieceList.{AllFit, size_of, front, back, cut_worn};
 
-use crate::Piece;
+use crate::{Piece, give_share};
 use std::collections::VecDeque;
 
 // Moves the first `at` bytes over.
@@ -21,8 +21,7 @@ pub(crate) fn split_into(items: &mut VecDeque<Piece>, first: &mut VecDeque<Piece
         let size = piece.to - piece.from;
         if left < size {
             if 0 < left {
-                let weight = piece.part.weight();
-                let part = piece.part.split((weight / 4096).max(1));
+                let part = give_share(&mut piece.part);
                 first.push_back_reserved(Piece {
                     part,
                     from: piece.from,

@@ -1,8 +1,38 @@
-//! Who holds a block.
+//! Who holds a block, and what a part of it gives away.
+ghost use Rattle.std.specs.Prelude.{◌≡◌, ◌≢◌, ◌<◌, ◌≤◌};
+ghost use Rattle.ref_core.specs.WeightRule.{full_weight};
+ghost use Rattle.frags.specs.PieceList.{AsPart, less, gave};
+
 use raw_block::{Part, Sole};
 
 /// A block's only holder, or one beside others.
 pub enum Holder {
     Sole(Sole),
     Part(Part),
+}
+
+impl Holder {
+    /// A part of the block. A Sole is shared, and its part has all the weight.
+    pub fn into_part(self) -> Part
+        ensures part { AsPart self result }
+        ensures weight { (0 < result.weight) × (result.weight ≤ full_weight) }
+    {
+        match self {
+            Holder::Sole(sole) => sole.share(),
+            Holder::Part(part) => {
+                let _ = part.weight();
+                part
+            }
+        }
+    }
+}
+
+/// A second part, which gets `max(1, weight / 4096)` of a part's weight. A part of weight 1 has nothing to give.
+pub fn give_share(part: &mut Part) -> Part
+    requires { part.old.weight ≢ 1 }
+    ensures share { result ≡ gave part.old }
+    ensures left { part.new ≡ less part.old }
+{
+    let weight = part.weight();
+    part.split((weight / 4096).max(1))
 }

@@ -33,6 +33,6 @@ mod pieces;
 mod tests;
 
 pub use builder::PieceBuilder;
-pub use holder::Holder;
+pub use holder::{Holder, give_share};
 pub use outcomes::Outcomes;
 pub use pieces::{Piece, Pieces, ShareFault, Short};

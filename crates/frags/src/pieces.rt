@@ -5,10 +5,10 @@ ghost use Rattle.frags.specs.declared.holder.Holder.{Holder};
 ghost use Rattle.raw_block.specs.Views.{PartState};
 ghost use Rattle.frags.specs.Account.{Keeps, KeepsMarks, both, of_part, of_holder, of_outcomes};
 ghost use Rattle.frags.specs.Growth.{Grows};
-ghost use Rattle.frags.specs.PieceList.{bytes_of, piece_bytes, pieces_held, Fits, AllFit, size_of, of_pieces, IsShare, IsSplit, IsAppend, AsPart, byte_in, keep_front, least_weight, cut_front, cut_worn, worn};
+ghost use Rattle.frags.specs.PieceList.{bytes_of, piece_bytes, pieces_held, Fits, AllFit, size_of, of_pieces, IsShare, IsSplit, IsAppend, byte_in, keep_front, least_weight, cut_front, cut_worn, worn};
 
 use crate::cuts::split_into;
-use crate::{Holder, Outcomes};
+use crate::{Holder, Outcomes, give_share};
 use core::mem::replace;
 use raw_block::{FULL, Part};
 use std::alloc::{AllocError, Global};
@@ -205,7 +205,7 @@ impl Pieces {
             items: mut following,
             size,
         } = others;
-        let part = as_part(holder);
+        let part = holder.into_part();
         let _ = part.bytes();
         let _ = part.weight();
         self.items.push_back_reserved(Piece { part, from, to });
@@ -332,8 +332,7 @@ impl Pieces {
         };
         for i in 0..n {
             let piece = &mut self.items[i];
-            let weight = piece.part.weight();
-            let part = piece.part.split((weight / 4096).max(1));
+            let part = give_share(&mut piece.part);
             items.push_back_reserved(Piece {
                 part,
                 from: piece.from,
@@ -458,14 +457,4 @@ fn give_back(piece: Piece, out: &mut Outcomes)
         to: _,
     } = piece;
     out.give_back(part);
-}
-
-// A Sole becomes a part.
-fn as_part(holder: Holder) -> Part
-    ensures { AsPart holder result }
-{
-    match holder {
-        Holder::Sole(sole) => sole.share(),
-        Holder::Part(part) => part,
-    }
 }

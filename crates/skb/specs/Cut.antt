@@ -2,13 +2,13 @@
 use Rattle.std.specs.Prelude.{ℕ, ◌≡◌, ◌+◌, ◌-◌, ◌<◌, ◌≤◌, List, [], ◌∷◌, Bool, true, false, cond, nat_lt, Ok, Err}
 use Rattle.std.specs.declared.result.Result.{Result}
 use Rattle.raw_block.specs.Views.{PartState}
-use Rattle.frags.specs.PieceList.{front, back, cut_worn, AsPart}
+use Rattle.frags.specs.PieceList.{front, back, cut_worn, less, gave, AsPart}
 use Rattle.frags.specs.declared.pieces.Piece.{Piece}
 use Rattle.frags.specs.declared.pieces.ShareFault.{ShareFault}
 use Rattle.frags.specs.declared.pieces.ShareFault.TheVariants.{Short, Worn, NoMemory}
 use Rattle.frags.specs.declared.holder.Holder.{Holder}
 use Rattle.frags.specs.declared.holder.Holder.TheVariants.{Part}
-use Rattle.skb.specs.SkbState.{SkbState, buffer_size, head_size, head_worn, less, gave}
+use Rattle.skb.specs.SkbState.{SkbState, buffer_size, head_size, head_worn}
 
 -- the part that is cut at n has nothing to give
 abbrev pub cut_is_worn : ℕ → SkbState → Bool

@@ -6,7 +6,7 @@ use Rattle.ref_core.specs.WeightRule.{full_weight}
 use Rattle.raw_block.specs.Views.{SoleState, PartState}
 use Rattle.frags.specs.Account.{Account, Keeps, both, of_sole, of_holder, of_released, of_outcomes}
 use Rattle.frags.specs.OutcomesState.{OutcomesState}
-use Rattle.frags.specs.PieceList.{bytes_of, size_of, of_pieces, least_weight, worn, gift, given, kept, block, AsPart}
+use Rattle.frags.specs.PieceList.{bytes_of, size_of, of_pieces, least_weight, worn, less, gave, given, kept, block, AsPart}
 use Rattle.frags.specs.declared.pieces.Piece.{Piece}
 use Rattle.frags.specs.declared.pieces.ShareFault.{ShareFault}
 use Rattle.frags.specs.declared.pieces.ShareFault.TheVariants.{Short, Worn, NoMemory}
@@ -97,12 +97,6 @@ head_least (Part p) = p.weight
 -- the least weight of a part, the full weight where there is none
 abbrev pub buffer_least : SkbState → ℕ
 buffer_least f = min (head_least f.head) (least_weight f.rest)
-
-abbrev pub less : PartState → PartState
-less p = record p { weight = p.weight - gift p.weight }
-
-abbrev pub gave : PartState → PartState
-gave p = record p { weight = gift p.weight }
 
 -- what `clone` answers, of the buffer before and after
 abbrev pub IsClone : SkbState → SkbState → Result SkbState ShareFault → Type 0

@@ -6,7 +6,7 @@ ghost use Rattle.skb.specs.PullUp.{HeadReleased};
 ghost use Rattle.skb.specs.SkbState.{written, Owned, IsLent, Gives, head_worn};
 
 use crate::skb::Unshared;
-use frags::Holder;
+use frags::{Holder, give_share};
 use raw_block::{Claimed, Part, Released, Sole};
 
 // Writes over a block's bytes from a place on.
@@ -64,10 +64,7 @@ pub(crate) fn replaced(head: Holder, other: Sole) -> (Holder, Released)
 pub(crate) fn lent(head: Holder, none: ()) -> (Holder, ())
     ensures { IsLent head result.0 }
 {
-    match head {
-        Holder::Sole(sole) => (Holder::Part(sole.share()), none),
-        Holder::Part(part) => (Holder::Part(part), none),
-    }
+    (Holder::Part(head.into_part()), none)
 }
 
 // The head gives a part away.
@@ -76,12 +73,8 @@ pub(crate) fn gives(head: Holder, none: ()) -> (Holder, Part)
     ensures { Gives head result.0 result.1 }
 {
     let _ = none;
-    let mut part = match head {
-        Holder::Sole(sole) => sole.share(),
-        Holder::Part(part) => part,
-    };
-    let weight = part.weight();
-    let gift = part.split((weight / 4096).max(1));
+    let mut part = head.into_part();
+    let gift = give_share(&mut part);
     (Holder::Part(part), gift)
 }
 
@@ -91,12 +84,8 @@ pub(crate) fn keeps_gift(head: Holder, none: ()) -> (Holder, Part)
     ensures { KeepsGift head result.0 result.1 }
 {
     let _ = none;
-    let mut part = match head {
-        Holder::Sole(sole) => sole.share(),
-        Holder::Part(part) => part,
-    };
-    let weight = part.weight();
-    let gift = part.split((weight / 4096).max(1));
+    let mut part = head.into_part();
+    let gift = give_share(&mut part);
     (Holder::Part(gift), part)
 }
 

@@ -1,4 +1,4 @@
-use Rattle.std.proofs.Common.{◌≡◌, ◌∙◌, List, length, ap, sym}
+use Rattle.std.proofs.Common.{◌∙◌, List, length, ap, sym}
 use Rattle.frags.specs.PieceList.{bytes_of}
 use Rattle.frags.specs.declared.pieces.Piece.{Piece}
 use Rattle.frags.proofs.Keeping.{length-bytes_of}

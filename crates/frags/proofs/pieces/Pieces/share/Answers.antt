@@ -1,8 +1,8 @@
-use Rattle.std.proofs.Common.{◌≡◌, ◌≢◌, ℕ, ◌-◌, ◌<◌, false, List, length, get_or, map, arith, ap, sym, ◌∙◌, subst}
+use Rattle.std.proofs.Common.{◌≡◌, ℕ, ◌<◌, false, List, length, get_or, map, arith, ap, sym, ◌∙◌, subst}
 use Rattle.std.proofs.lemmas.List.{length-map}
-use Rattle.frags.specs.PieceList.{bytes_of, size_of, pieces_held, AllFit, worn, gift, kept, given, kept_first, given_first}
+use Rattle.frags.specs.PieceList.{bytes_of, size_of, pieces_held, AllFit, worn, kept, given, kept_first, given_first}
 use Rattle.frags.specs.declared.pieces.Piece.{Piece}
-use Rattle.frags.proofs.Keeping.{kept_first-length, kept_first-at, kept_first-all, given_first-all, size_of-kept, size_of-given, bytes_of-kept, bytes_of-given, AllFit-kept, AllFit-given, worn-at, gift-small, kept_step, given_step, share_sums}
+use Rattle.frags.proofs.Keeping.{kept_first-length, kept_first-at, kept_first-all, given_first-all, size_of-kept, size_of-given, bytes_of-kept, bytes_of-given, AllFit-kept, AllFit-given, worn-at, kept_step, given_step, share_sums}
 use Rattle.frags.proofs.pieces.Pieces.share.Goals as goal
 
 pub index_mut-piece-requires : goal.index_mut-piece-requires
@@ -11,18 +11,14 @@ index_mut-piece-requires c =
     let k = ap length i.kept ∙ kept_first-length c.loop-i.i c.args.self.now in
     omega arith
 
-pub split-part-requires : goal.split-part-requires
-split-part-requires c =
+pub give_share-part-requires : goal.give_share-part-requires
+give_share-part-requires c =
     let q : Piece = c.index_mut-piece.result.now in
     let i = c.loop-i.invariant in
     let lt : c.loop-i.i < length c.args.self.now = omega arith in
     let e : q ≡ get_or c.args.self.now c.loop-i.i q = c.index_mut-piece.ensures.value ∙ ap (λ (z : List Piece). get_or z c.loop-i.i q) i.kept ∙ kept_first-at c.loop-i.i c.args.self.now q in
     let w : worn c.args.self.now ≡ false = sym c.is_worn.ensures ∙ c.if-is_worn.false in
-    let n : q.part.weight ≢ 1 = λ h. worn-at c.args.self.now c.loop-i.i q w lt (sym (ap (λ (z : Piece). z.part.weight) e) ∙ h) in
-    let a : c.weight-weight.result ≢ 1 = λ h. n (sym c.weight-weight.ensures.value ∙ h) in
-    let b = gift-small c.weight-weight.result c.weight-weight.ensures.range.0 a in
-    let d = c.max.ensures in
-    (omega arith, omega arith)
+    λ h. worn-at c.args.self.now c.loop-i.i q w lt (sym (ap (λ (z : Piece). z.part.weight) e) ∙ h)
 
 pub loop-i-preserved : goal.loop-i-preserved
 loop-i-preserved c =
@@ -30,12 +26,9 @@ loop-i-preserved c =
     let i = c.loop-i.invariant in
     let lt : c.loop-i.i < length c.args.self.now = omega arith in
     let e : q ≡ get_or c.args.self.now c.loop-i.i q = c.index_mut-piece.ensures.value ∙ ap (λ (z : List Piece). get_or z c.loop-i.i q) i.kept ∙ kept_first-at c.loop-i.i c.args.self.now q in
-    let w : c.max.result ≡ gift q.part.weight = c.max.ensures ∙ ap gift c.weight-weight.ensures.value in
-    let k : c.split-part.new.self ≡ record q.part { weight = q.part.weight - gift q.part.weight } = c.split-part.ensures.kept ∙ ap (λ (z : ℕ). record q.part { weight = q.part.weight - z }) w in
-    let r : c.split-part.result ≡ record q.part { weight = gift q.part.weight } = c.split-part.ensures.given ∙ ap (λ (z : ℕ). record q.part { weight = z }) w in
     record {
-      kept = kept_step c.args.self.now c.loop-i.self-inside.items.items c.loop-i.i q c.split-part.new.self i.kept e k lt;
-      given = c.push_back_reserved.ensures.items ∙ given_step c.args.self.now c.loop-i.items.items c.loop-i.i q c.split-part.result i.given e r lt;
+      kept = kept_step c.args.self.now c.loop-i.self-inside.items.items c.loop-i.i q c.give_share-part.new.part i.kept e c.give_share-part.ensures.left lt;
+      given = c.push_back_reserved.ensures.items ∙ given_step c.args.self.now c.loop-i.items.items c.loop-i.i q c.give_share-part.result i.given e c.give_share-part.ensures.share lt;
       all = i.all;
       room = omega arith;
       so_far = omega arith;
