@@ -1,6 +1,7 @@
 -- Lists of pieces put together, and what a release leaves.
 use Rattle.std.proofs.Common.{◌≡◌, ℕ, ◌+◌, ◌-◌, ◌*◌, ◌<◌, ◌≤◌, List, [], ◌∷◌, ◌++◌, length, refl, ap, sym, subst, append_assoc, ◌∙◌, zero, suc, get_or, arith}
 use Rattle.std.proofs.lemmas.Bool.{cond_both}
+use borrow.Author.Tests.{ltb-false}
 use lib.Dec.{ltb}
 use Rattle.ref_core.specs.WeightRule.{full_weight}
 use Rattle.raw_block.specs.Views.{SoleState, PartState}
@@ -86,3 +87,11 @@ takes_in_keeps a others b h q x l k e t m =
     let u = ap (λ (z : PartState). (of_part z).held t m) g in
     let f = ap (pieces_held t m) e ∙ pieces_held-append t m a (x ∷ others) in
     (omega arith, omega arith)
+
+-- no bytes are cut off
+pub cut_front-none : (ps : List Piece) → AllFit ps → cut_front 0 ps ≡ ps
+cut_front-none [] h = refl
+cut_front-none (p ∷ ps) h =
+    let k : p.from < p.to = h.0.0 in
+    let s : p.from + 0 ≡ p.from = omega arith in
+    cond_both (ltb 0 (p.to - p.from)) (record p { from = p.from + 0 } ∷ ps) (cut_front (0 - (p.to - p.from)) ps) (λ (z : List Piece). z ≡ p ∷ ps) (λ e. ap (λ (i : ℕ). record p { from = i } ∷ ps) s) (λ e. let f = ltb-false 0 (p.to - p.from) e in absurd (omega arith))

@@ -81,6 +81,7 @@ impl Pieces {
         ensures size { result ≡ size_of self.now }
         ensures bytes { result ≡ length (bytes_of self.now) }
         ensures small { result < 2 ^ 32 }
+        ensures fits { AllFit self.now }
     {
         self.size
     }

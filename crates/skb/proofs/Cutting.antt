@@ -1,5 +1,5 @@
 -- The bytes of a buffer whose ends are cut.
-use Rattle.std.proofs.Common.{◌≡◌, ℕ, ◌+◌, ◌-◌, ◌<◌, ◌≤◌, List, [], ◌∷◌, ◌++◌, Bool, true, false, length, min, take, drop, slice_range, append_assoc, append-nil, refl, sym, ap, ◌∙◌, arith}
+use Rattle.std.proofs.Common.{◌≡◌, ℕ, ◌+◌, ◌-◌, ◌<◌, ◌≤◌, List, [], ◌∷◌, ◌++◌, Bool, true, false, length, min, take, slice_range, append_assoc, append-nil, refl, sym, ap, ◌∙◌, arith}
 use Rattle.std.proofs.lemmas.Bool.{cond_both}
 use borrow.Author.Tests.{ltb-true, ltb-false}
 use lib.Dec.{ltb}
@@ -11,7 +11,7 @@ use Rattle.frags.proofs.Splits.{halves}
 use Rattle.raw_block.specs.Views.{PartState}
 use Rattle.skb.specs.Cut.{KeepsGift}
 use Rattle.skb.specs.SkbState.{SkbState, buffer_bytes, buffer_size, head_size}
-use Rattle.skb.proofs.Buffers.{pull_head, pull_rest, trim_rest, trim_head}
+use Rattle.skb.proofs.Buffers.{trim_rest, trim_head}
 
 pub by_bool : (P : Type 0) (v : Bool) → (v ≡ true → P) → (v ≡ false → P) → P
 by_bool P true f g = f refl
@@ -19,18 +19,6 @@ by_bool P false f g = g refl
 
 pub by_le : (P : Type 0) (a b : ℕ) → (a ≤ b → P) → (b ≤ a → P) → P
 by_le P a b f g = by_bool P (ltb a b) (λ e. let h = ltb-true a b e in f (omega arith)) (λ e. g (ltb-false a b e))
-
-pub pulled : (f : SkbState) (r : List Piece) (n k : ℕ) → length (block f.head) ≡ 2048 → f.to ≤ 2048 → f.from ≤ f.to → k ≡ min n (head_size f) → bytes_of r ≡ drop (n - k) (bytes_of f.rest) → buffer_bytes (record f { from = f.from + k; rest = r }) ≡ drop n (buffer_bytes f)
-pulled f r n k h t o e g =
-    let P : Type 0 = buffer_bytes (record f { from = f.from + k; rest = r }) ≡ drop n (buffer_bytes f) in
-    by_le P n (head_size f)
-    (λ l. let u : k ≡ n = omega arith in let z : n - k ≡ 0 = omega arith in
-    let w : bytes_of r ≡ bytes_of f.rest = g ∙ ap (λ (i : ℕ). drop i (bytes_of f.rest)) z in
-    let a : SkbState = record f { from = f.from + k } in
-    ap (λ (x : List ℕ). take (f.to - (f.from + k)) (drop (f.from + k) (block f.head)) ++ x) w ∙ ap (λ (i : ℕ). buffer_bytes (record f { from = f.from + i })) u ∙ pull_head f n h t l)
-    (λ l. let u : k ≡ head_size f = omega arith in let v : f.from + k ≡ f.to = omega arith in
-    let w : bytes_of r ≡ drop (n - (f.to - f.from)) (bytes_of f.rest) = g ∙ ap (λ (i : ℕ). drop (n - i) (bytes_of f.rest)) u in
-    ap (λ (i : ℕ). buffer_bytes (record f { from = i; rest = r })) v ∙ pull_rest f r n h t l w)
 
 pub trimmed : (f : SkbState) (r : List Piece) (n k : ℕ) → length (block f.head) ≡ 2048 → f.to ≤ 2048 → f.from ≤ f.to → k ≡ min n (size_of f.rest) → n ≤ buffer_size f → bytes_of r ≡ take (size_of f.rest - k) (bytes_of f.rest) → buffer_bytes (record f { to = f.to - (n - k); rest = r }) ≡ take (buffer_size f - n) (buffer_bytes f)
 trimmed f r n k h t o e s g =

@@ -5,7 +5,7 @@ ghost use Rattle.ref_core.specs.WeightRule.{full_weight};
 ghost use Rattle.raw_block.specs.Views.{SoleState};
 ghost use Rattle.frags.specs.Account.{Keeps, KeepsMarks, both, every, of_sole, of_holder, of_outcomes};
 ghost use Rattle.frags.specs.Growth.{Grows};
-ghost use Rattle.frags.specs.PieceList.{size_of, of_pieces, piece_bytes, block, cut_front, keep_front};
+ghost use Rattle.frags.specs.PieceList.{AllFit, size_of, of_pieces, piece_bytes, block, cut_front, keep_front};
 ghost use Rattle.frags.specs.declared.pieces.Piece.{Piece};
 ghost use Rattle.skb.specs.Lending.{lends_head};
 ghost use Rattle.skb.specs.SkbState.{SkbState, head_size, buffer_least, buffer_bytes, buffer_size, head_bytes, headroom, tailroom, is_sole, written, IsPush, IsPut, Owned, IsClone, IsLent, Gives, head_worn, buffer_worn, of_buffer, of_unshared, Attaches};
@@ -82,6 +82,7 @@ impl Skb {
         ensures size { result ≡ buffer_size self.now }
         ensures bytes { result ≡ length (buffer_bytes self.now) }
         ensures small { result < 2 ^ 32 }
+        ensures fits { AllFit self.now.rest }
     {
         self.to - self.from + self.rest.len()
     }
@@ -266,9 +267,13 @@ impl Skb {
         if have < n {
             return Err(Short { have, need: n });
         }
-        let of_head = n.min(self.to - self.from);
+        let of_head = self.to - self.from;
+        if n <= of_head {
+            self.from += n;
+            return Ok(());
+        }
         self.rest.cut_front(n - of_head, out)?;
-        self.from += of_head;
+        self.from = self.to;
         Ok(())
     }
 
