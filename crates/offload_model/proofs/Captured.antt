@@ -7,7 +7,7 @@ use Rattle.std.proofs.lemmas.Bool.{cases_lt, ltb-false, leb-false}
 use Rattle.net_bytes.specs.Order.{number}
 use Rattle.net_bytes.specs.declared.order.Order.{Order}
 use Rattle.net_bytes.specs.declared.order.Order.TheVariants.{Big, Little}
-use Rattle.run_cuts.specs.Cut.{AllNeighbours}
+use Rattle.maximal_runs.specs.Cut.{AllNeighbours}
 use Rattle.pcap_io.specs.Capture.{Packet, Found, packet_at, judged, records_from, found_after}
 use Rattle.pcap_io.specs.Headers.{first_that_holds, record_refusals, captured_length, original_length, file_refusals, order_of}
 use Rattle.pcap_io.specs.declared.faults.CapKind.{CapKind}

@@ -5,8 +5,8 @@ use Rattle.std.proofs.lemmas.List.{map-append, append-nil}
 use Rattle.std.proofs.lemmas.List.Concat.{flat_map-append}
 use Rattle.std.proofs.lemmas.List.Elements.{filter-append}
 use Rattle.std.proofs.lemmas.Bool.{eq-eqb, ne_eqb}
-use Rattle.run_cuts.specs.Items.{begins_in, AreItems}
-use Rattle.run_cuts.proofs.Pass.{all_front, all_back}
+use Rattle.maximal_runs.specs.Items.{begins_in, AreItems}
+use Rattle.maximal_runs.proofs.Pass.{all_front, all_back}
 use Rattle.frame_layout.specs.Key.{key_of, queue_of}
 use Rattle.pcap_io.specs.Capture.{Packet}
 use Rattle.offload_model.specs.Mergeable.{IsMergeable}

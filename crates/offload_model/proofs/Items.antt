@@ -2,13 +2,13 @@
 use Rattle.std.proofs.Common.{◌≡◌, ℕ, ◌<◌, ◌⊎◌, inl, inr, true, Option, Some, None, List, [], ◌∷◌, ◌++◌, length, take, refl, sym, ap, subst}
 use Rattle.std.specs.List.{filter}
 use Rattle.std.proofs.lemmas.Slice.Eq.{bytes_eq-Decides}
-use Rattle.run_cuts.specs.Cut.{AllNeighbours, IsCut}
-use Rattle.run_cuts.specs.Items.{begins_in, AreFlows, AreItems}
-use Rattle.run_cuts.specs.Cut.{cut_of}
-use Rattle.run_cuts.proofs.Unique.{unique}
-use Rattle.run_cuts.proofs.Pass.{one_pass}
-use Rattle.run_cuts.proofs.Items.{unique_items}
-use Rattle.run_cuts.proofs.Ordered.{items_are_runs}
+use Rattle.maximal_runs.specs.Cut.{AllNeighbours, IsCut}
+use Rattle.maximal_runs.specs.Items.{begins_in, AreFlows, AreItems}
+use Rattle.maximal_runs.specs.Cut.{cut_of}
+use Rattle.maximal_runs.proofs.Unique.{unique}
+use Rattle.maximal_runs.proofs.Pass.{one_pass}
+use Rattle.maximal_runs.proofs.Items.{unique_items}
+use Rattle.maximal_runs.proofs.Ordered.{items_are_runs}
 use Rattle.offload_model.proofs.Fronts.{fronts_too}
 use Rattle.offload_model.specs.Laws.{HasOneCut}
 use Rattle.frame_layout.specs.Key.{key_of}

@@ -4,8 +4,8 @@ use Rattle.std.specs.List.{flat_map, filter, AllByRecursion, range_with_len}
 use Rattle.std.proofs.lemmas.List.{take-append-drop, append-nil}
 use Rattle.std.proofs.lemmas.List.Elements.{filter-append}
 use Rattle.std.proofs.lemmas.Bool.{cases_eq}
-use Rattle.run_cuts.specs.Cut.{AllNeighbours}
-use Rattle.run_cuts.proofs.Pass.{all_append}
+use Rattle.maximal_runs.specs.Cut.{AllNeighbours}
+use Rattle.maximal_runs.proofs.Pass.{all_append}
 use Rattle.offload_model.specs.Rounds.{rounds_from, rounds_of}
 
 pub filter-flat_map : {A B : Type 0} (p : B → Bool) (f : A → List B) (xs : List A) → filter p (flat_map f xs) ≡ flat_map (λ x. filter p (f x)) xs

@@ -3,7 +3,7 @@ use Rattle.std.proofs.Common.{◌≡◌, ℕ, ◌+◌, ◌*◌, ◌^◌, ◌<◌
 use Rattle.std.specs.Prelude.{◌==◌, if◌then◌else◌}
 use Rattle.std.proofs.lemmas.List.{append-nil}
 use Rattle.std.specs.List.{flat_map, AllByRecursion, range_with_len, filter}
-use Rattle.run_cuts.proofs.Pass.{all_append}
+use Rattle.maximal_runs.proofs.Pass.{all_append}
 use Rattle.pcap_io.specs.Capture.{Packet, Found, reads, one_more}
 use Rattle.pcap_io.specs.Headers.{off_head}
 use Rattle.pcap_io.specs.declared.off_head.OffHead.{OffHead}

@@ -1,8 +1,8 @@
 -- The laws of merging and segmenting, of a whole capture.
 use Rattle.std.specs.Prelude.{◌≡◌, ℕ, ◌+◌, ◌^◌, ◌<◌, ◌≤◌, ◌⊎◌, ◌↔◌, if◌then◌else◌, Option, Some, None, List, [], ◌∷◌, length, map, take}
 use Rattle.std.specs.List.{AllByRecursion, filter, flat_map}
-use Rattle.run_cuts.specs.Cut.{AllNeighbours}
-use Rattle.run_cuts.specs.Items.{AreItems}
+use Rattle.maximal_runs.specs.Cut.{AllNeighbours}
+use Rattle.maximal_runs.specs.Items.{AreItems}
 use Rattle.pcap_io.specs.Capture.{Packet, Found, ended, one_more, reads}
 use Rattle.pcap_io.specs.Headers.{off_head, file_head}
 use Rattle.pcap_io.specs.declared.heads.FileHead.{FileHead}

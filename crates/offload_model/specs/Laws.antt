@@ -5,7 +5,7 @@ use Rattle.frame_layout.specs.Shape.{Layout, shape_of}
 use Rattle.frame_layout.specs.Headers.{AtHeaders, AreLaid}
 use Rattle.frame_layout.specs.Candidate.{IsCandidate}
 use Rattle.pcap_io.specs.Capture.{Packet}
-use Rattle.run_cuts.specs.Cut.{IsCut, IsClosedUnderFronts, cut_of}
+use Rattle.maximal_runs.specs.Cut.{IsCut, IsClosedUnderFronts, cut_of}
 use Rattle.offload_model.specs.Each.{Each}
 use Rattle.offload_model.specs.Mergeable.{IsLengthInRange, payloads_of, AreConsecutive, Continues, IsMergeableAs, IsMergeable}
 use Rattle.offload_model.specs.Frames.{merged_frame, segment_frame, IsMergedFrame, IsFixedAt, IsSegment}

@@ -2,7 +2,7 @@
 use Rattle.std.specs.Prelude.{ℕ, zero, suc, ◌-◌, Bool, true, false, ◌==◌, Option, Some, None, List, [], ◌∷◌, take}
 use Rattle.std.specs.List.{filter}
 use Rattle.std.specs.Str.{bytes_eq}
-use Rattle.run_cuts.specs.Items.{items_of as runs_of}
+use Rattle.maximal_runs.specs.Items.{items_of as runs_of}
 use Rattle.frame_layout.specs.Key.{key_of, queue_of}
 use Rattle.pcap_io.specs.Capture.{Packet}
 use Rattle.offload_model.specs.Tests.{is_mergeable}

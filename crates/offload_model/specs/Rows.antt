@@ -5,7 +5,7 @@ use Rattle.net_bytes.specs.Bytes.{bytes16}
 use Rattle.ip_headers.specs.Ip4.{total_length}
 use Rattle.net_bytes.specs.declared.order.Order.TheVariants.{Little}
 use Rattle.pcap_io.specs.Capture.{Packet}
-use Rattle.run_cuts.specs.Cut.{IsCut}
+use Rattle.maximal_runs.specs.Cut.{IsCut}
 use Rattle.offload_model.specs.Mergeable.{IsMergeable}
 use Rattle.offload_model.specs.Merged.{merged_of}
 use Rattle.offload_model.specs.Segments.{with_head, segments_of}

@@ -9,8 +9,8 @@ ghost use Rattle.record_cut.specs.Cuts.{IsCutOf, IsSegmentAt, segment_at, segmen
 use crate::place::{put_flags, put_places};
 use arrayvec::ArrayVec;
 use frame_layout::Layout;
+use header_fill::fill;
 use inet_sum::Partial;
-use merged_frame::fill;
 use std::cmp::min;
 
 /// ACK alone, of TCP's control bits.

@@ -4,10 +4,10 @@ use Rattle.std.specs.Prelude.{◌==◌}
 use Rattle.std.specs.List.{AllByRecursion, filter}
 use Rattle.std.proofs.lemmas.Bool.{eq-eqb, cases_eq}
 use Rattle.std.proofs.lemmas.List.{map-append, get_or_append_left, get_or_push}
-use Rattle.run_cuts.specs.Cut.{AllNeighbours}
-use Rattle.run_cuts.specs.Items.{first_number, AreItems}
-use Rattle.run_cuts.proofs.Items.{unique_items}
-use Rattle.run_cuts.proofs.Pass.{all_front, all_back}
+use Rattle.maximal_runs.specs.Cut.{AllNeighbours}
+use Rattle.maximal_runs.specs.Items.{first_number, AreItems}
+use Rattle.maximal_runs.proofs.Items.{unique_items}
+use Rattle.maximal_runs.proofs.Pass.{all_front, all_back}
 use Rattle.pcap_io.specs.Capture.{Packet}
 use Rattle.frame_layout.specs.Key.{key_of, queue_of}
 use Rattle.offload_model.specs.Mergeable.{IsMergeable}

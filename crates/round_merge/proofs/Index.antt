@@ -6,7 +6,7 @@ use Rattle.std.specs.HashMap.{HashMap}
 use Rattle.std.proofs.lemmas.Bool.{cases_eq, cases_Bool}
 use Rattle.std.proofs.lemmas.List.{length-set, get_or-set_same, get_or-set_other, get_or_append_left, get_or_push, get_or_default}
 use Rattle.std.proofs.lemmas.Slice.Eq.{bytes_eq-Decides}
-use Rattle.run_cuts.specs.Items.{begins_in}
+use Rattle.maximal_runs.specs.Items.{begins_in}
 use Rattle.pcap_io.specs.Capture.{Packet}
 use Rattle.frame_layout.specs.Key.{key_of}
 use Rattle.offload_model.specs.Rounds.{is_key, is_of}

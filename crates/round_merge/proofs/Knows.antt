@@ -19,7 +19,7 @@ use Rattle.frame_layout.proofs.Bounds.{bounds}
 use Rattle.pcap_io.specs.Capture.{Packet}
 use Rattle.offload_model.specs.Mergeable.{AreUdpSumsAlike, IsAckAlone, IsSequenceBehind, AreIdsInStep, IsLengthInRange, AreConsecutive, IsMergeable, payloads_of}
 use Rattle.offload_model.specs.Merged.{frame_at, is_fixed_in, modes_of}
-use Rattle.merged_frame.specs.Filled.{HasFlags}
+use Rattle.header_fill.specs.Filled.{HasFlags}
 use Rattle.offload_model.specs.Tests.{all_headers, is_ack_alone}
 use Rattle.offload_model.proofs.Fronts.{at_headers_map}
 use Rattle.offload_model.proofs.Grows.{Continues, grows, grown, each_push, each_last}

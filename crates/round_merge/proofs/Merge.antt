@@ -12,7 +12,7 @@ use Rattle.pcap_io.specs.Capture.{Packet}
 use Rattle.offload_model.specs.Mergeable.{IsLengthInRange, payloads_of}
 use Rattle.offload_model.specs.Frames.{merged_frame}
 use Rattle.offload_model.specs.Merged.{frame_at, frame_of_run, layout_of, is_fixed_in, modes_of, Merged, merged_of}
-use Rattle.merged_frame.specs.Filled.{HasFlags}
+use Rattle.header_fill.specs.Filled.{HasFlags}
 use Rattle.round_merge.specs.declared.packet.Packet.{Packet as Held}
 use Rattle.round_merge.specs.declared.run.Progress.{Progress}
 use Rattle.round_merge.specs.Runs.{packet_of, IsRunOf}

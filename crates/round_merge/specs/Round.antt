@@ -1,8 +1,8 @@
 -- The runs of a round.
 use Rattle.std.specs.Prelude.{◌≡◌, ◌^◌, ◌<◌, ◌≤◌, List, ◌++◌, length, drop, All, ℕ}
 use Rattle.std.specs.List.{flat_map}
-use Rattle.run_cuts.specs.Cut.{AllNeighbours}
-use Rattle.run_cuts.specs.Items.{items_of as all_runs}
+use Rattle.maximal_runs.specs.Cut.{AllNeighbours}
+use Rattle.maximal_runs.specs.Items.{items_of as all_runs}
 use Rattle.pcap_io.specs.Capture.{Packet}
 use Rattle.offload_model.specs.Tests.{is_mergeable}
 use Rattle.offload_model.specs.Rounds.{key_in, is_of, number_of, items_of}

@@ -13,7 +13,7 @@ use Rattle.frame_layout.specs.Candidate.{IsCandidate}
 use Rattle.offload_model.specs.Each.{Each}
 use Rattle.offload_model.specs.Mergeable.{IsAckAlone, AreConsecutive, payloads_of}
 use Rattle.offload_model.specs.Merged.{frame_at, is_fixed_in, modes_of}
-use Rattle.merged_frame.specs.Filled.{HasFlags}
+use Rattle.header_fill.specs.Filled.{HasFlags}
 use Rattle.round_merge.specs.declared.packet.Packet.{Packet as Held}
 use Rattle.round_merge.specs.declared.run.Progress.{Progress}
 use Rattle.round_merge.specs.declared.run.Run.{Run}

@@ -4,7 +4,7 @@ use Rattle.std.specs.List.{AllByRecursion}
 use Rattle.std.specs.Str.{bytes_eq}
 use Rattle.std.specs.HashMap.{HashMap, get_by}
 use Rattle.std.specs.Global.{Global}
-use Rattle.run_cuts.specs.Items.{begins_in, first_number, AreItems}
+use Rattle.maximal_runs.specs.Items.{begins_in, first_number, AreItems}
 use Rattle.pcap_io.specs.Capture.{Packet}
 use Rattle.offload_model.specs.Mergeable.{IsMergeable}
 use Rattle.offload_model.specs.Rounds.{is_of, number_of}

@@ -6,15 +6,15 @@ ghost use Rattle.frame_layout.specs.Headers.{AtHeaders, AreLaid};
 ghost use Rattle.offload_model.specs.Mergeable.{IsLengthInRange};
 ghost use Rattle.offload_model.specs.Frames.{merged_frame};
 ghost use Rattle.offload_model.specs.Merged.{merged_of};
-ghost use Rattle.merged_frame.specs.Filled.{HasFlags};
+ghost use Rattle.header_fill.specs.Filled.{HasFlags};
 ghost use Rattle.round_merge.specs.Runs.{packet_of, packets_of, IsRun, IsRunOf, IsShort};
 ghost use Rattle.round_merge.specs.Round.{item_of, IsWritable};
 
 use crate::Packet;
 use crate::run::{Progress, Run};
 use frame_layout::{Header, Layout};
+use header_fill::merge_headers;
 use inet_sum::Partial;
-use merged_frame::merge_headers;
 
 /// What a run of packets comes to: a record that is to be written, with the number and the time of the run's first packet. It
 /// holds the packets' own vectors, so that no payload is copied: its frame is `frame`, and behind it the bytes of each

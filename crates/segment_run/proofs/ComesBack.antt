@@ -10,7 +10,7 @@ use Rattle.net_bytes.specs.declared.order.Order.{Order}
 use Rattle.net_bytes.specs.declared.order.Order.TheVariants.{Big, Little}
 use Rattle.frame_layout.specs.Key.{key_of}
 use Rattle.frame_layout.proofs.SameKey.{same_key}
-use Rattle.run_cuts.proofs.Pass.{all_append}
+use Rattle.maximal_runs.proofs.Pass.{all_append}
 use Rattle.pcap_io.specs.declared.faults.CapKind.{CapKind}
 use Rattle.pcap_io.specs.declared.heads.FileHead.{FileHead}
 use Rattle.pcap_io.specs.declared.heads.Link.TheVariants.{Ethernet, Offload}

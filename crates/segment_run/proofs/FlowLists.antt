@@ -1,7 +1,7 @@
 -- Lists that hold the same of each flow have one length.
 use Rattle.std.proofs.Common.{◌≡◌, ℕ, zero, suc, ◌+◌, ◌<◌, ◌≤◌, Bool, true, false, cond, Option, List, [], ◌∷◌, length, map, refl, sym, ap, ◌∙◌, arith}
 use Rattle.std.specs.List.{filter, AllByRecursion}
-use Rattle.run_cuts.specs.Cut.{AllNeighbours}
+use Rattle.maximal_runs.specs.Cut.{AllNeighbours}
 use Rattle.frame_layout.specs.Key.{key_of}
 use Rattle.pcap_io.specs.Capture.{Packet}
 use Rattle.offload_model.specs.Rounds.{is_key, is_of}

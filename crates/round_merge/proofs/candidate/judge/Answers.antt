@@ -7,7 +7,7 @@ use Rattle.frame_layout.specs.Segment.{IsSegOf, IsSaid, fields_in}
 use Rattle.frame_layout.specs.declared.layout.Layer.{Layer}
 use Rattle.frame_layout.specs.declared.layout.Layer.TheVariants.{Tcp}
 use Rattle.offload_model.proofs.Fronts.{at_headers_map}
-use Rattle.merged_frame.specs.Filled.{HasFlags}
+use Rattle.header_fill.specs.Filled.{HasFlags}
 use Rattle.frame_layout.specs.declared.segment.Seg.{Seg}
 use Rattle.frame_layout.proofs.Shapes.{laid}
 use Rattle.frame_layout.proofs.Bounds.{bounds}

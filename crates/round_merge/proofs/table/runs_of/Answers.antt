@@ -1,6 +1,6 @@
 use Rattle.std.proofs.Common.{◌≡◌, ◌++◌, ◌∷◌, List, map, sym, ap, ◌∙◌, subst, arith}
 use Rattle.std.proofs.lemmas.List.{append-nil, nil_from_length}
-use Rattle.run_cuts.specs.Items.{AreItems}
+use Rattle.maximal_runs.specs.Items.{AreItems}
 use Rattle.offload_model.specs.Mergeable.{IsMergeable}
 use Rattle.offload_model.specs.Rounds.{is_of, number_of}
 use Rattle.round_merge.specs.declared.packet.Packet.{Packet}

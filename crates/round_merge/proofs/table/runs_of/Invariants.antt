@@ -1,5 +1,5 @@
 use Rattle.std.proofs.Common.{◌≡◌, ◌++◌, map}
-use Rattle.run_cuts.specs.Items.{AreItems}
+use Rattle.maximal_runs.specs.Items.{AreItems}
 use Rattle.offload_model.specs.Mergeable.{IsMergeable}
 use Rattle.offload_model.specs.Rounds.{is_of, number_of}
 use Rattle.round_merge.specs.Runs.{packet_of, packets_of}

@@ -1,6 +1,6 @@
 use Rattle.std.proofs.Common.{◌≡◌, ℕ, Some, None, true, false, List, [], ◌∷◌, ◌++◌, length, get_or, map, set, sym, ap, ◌∙◌, subst, arith}
 use Rattle.std.proofs.lemmas.List.{get_or_default, get_or-map, map-set, map-append}
-use Rattle.run_cuts.specs.Items.{begins_in}
+use Rattle.maximal_runs.specs.Items.{begins_in}
 use Rattle.pcap_io.specs.Capture.{Packet}
 use Rattle.offload_model.specs.Mergeable.{IsMergeable}
 use Rattle.offload_model.specs.Rounds.{is_of}

@@ -1,0 +1,80 @@
+//! The headers of a merged frame, written in place.
+//!
+//! A merged frame is the first packet's headers with the last packet's control bits, followed by all payloads, with right
+//! lengths (RFC 791, section 3.1; RFC 8200, section 3; RFC 768) and right sums (RFC 1071). [`merge_headers`] makes these
+//! headers from the first packet's (`merged`: by the function of the model; `frame`: by what holds of the frame). It
+//! rests on [`fill`], which writes the lengths and sums of any headers before a payload (`filled`, `right`). No payload
+//! byte is read: what is known of the payload is its sum, which is joined from the sums of its pieces.
+//!
+//! ```
+//! let payload = first_payload.joined(second_payload);
+//! merge_headers(&mut headers, layout.headers(), last_flags, payload);
+//! ```
+#![tactic(auto)]
+
+ghost use Rattle.std.specs.Prelude.{◌≡◌, ℕ, ◌+◌, ◌<◌, ◌≤◌, ◌^◌, ◌++◌, List, length, take};
+ghost use Rattle.net_bytes.specs.Bytes.{byte};
+ghost use Rattle.inet_sum.specs.Stands.{StandsFor};
+ghost use Rattle.frame_layout.specs.Shape.{Layout};
+ghost use Rattle.frame_layout.specs.Headers.{AtHeaders, AreLaid};
+ghost use Rattle.offload_model.specs.Mergeable.{IsLengthInRange};
+ghost use Rattle.offload_model.specs.Edits.{with_lengths_and_sums};
+ghost use Rattle.offload_model.specs.Frames.{merged_frame, IsMergedFrame};
+ghost use Rattle.header_fill.specs.Filled.{HasFlags, IsFilled};
+
+mod fields;
+mod sums;
+#[cfg(test)]
+mod tests;
+
+use crate::fields::{put_flags, put_lengths};
+use crate::sums::put_sums;
+use frame_layout::Header;
+use inet_sum::Partial;
+
+/// Makes the first frame's header bytes those of the merged frame.
+///
+/// `headers` are the headers of the layout, and `head` ends where the payload begins. `flags` is the last frame's byte of
+/// control bits, and `payload` the sum of all payloads, one behind the other.
+pub fn merge_headers(head: &mut [u8], headers: &[Header], flags: u8, payload: Partial)
+    requires laid { AreLaid 0 headers.now (length head.old) }
+    requires ranges { AtHeaders (IsLengthInRange (length head.old + payload.len)) headers.now }
+    requires few { length head.old + payload.len < 2 ^ 31 }
+    ensures merged { let layout : Layout = record { headers = headers.now; payload_at = length head.old } in
+        (first last bytes : List ℕ)
+        → take (length head.old) first ≡ head.old
+        → AtHeaders (HasFlags flags last) headers.now
+        → StandsFor payload bytes
+        → head.new ++ bytes ≡ merged_frame layout first last bytes }
+    ensures frame { let layout : Layout = record { headers = headers.now; payload_at = length head.old } in
+        (first last bytes : List ℕ)
+        → take (length head.old) first ≡ head.old
+        → AtHeaders (HasFlags flags last) headers.now
+        → StandsFor payload bytes
+        → ((k : ℕ) → byte first k < 256)
+        → ((k : ℕ) → byte last k < 256)
+        → ((k : ℕ) → byte bytes k < 256)
+        → IsMergedFrame layout first last bytes (head.new ++ bytes) }
+{
+    put_flags(head, headers, flags);
+    fill(head, headers, payload);
+}
+
+/// Fills in the lengths and sums of headers that stand before a payload. A UDP sum of 0 stays, as that header has none.
+///
+/// `payload` is the payload's sum, and says how long it is.
+pub fn fill(head: &mut [u8], headers: &[Header], payload: Partial)
+    requires laid { AreLaid 0 headers.now (length head.old) }
+    requires ranges { AtHeaders (IsLengthInRange (length head.old + payload.len)) headers.now }
+    requires few { length head.old + payload.len < 2 ^ 31 }
+    ensures filled { (bytes : List ℕ)
+        → StandsFor payload bytes
+        → head.new ++ bytes ≡ with_lengths_and_sums headers.now (head.old ++ bytes) }
+    ensures right { (bytes : List ℕ)
+        → StandsFor payload bytes
+        → IsFilled headers.now (head.old ++ bytes) (head.new ++ bytes) }
+{
+    let total = head.len() + payload.len() as usize;
+    put_lengths(head, headers, total);
+    put_sums(head, headers, payload);
+}
