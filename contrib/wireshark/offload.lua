@@ -1,7 +1,9 @@
--- Shows the 12-byte offload header of link type 147, and the frame behind it.
--- Use: tshark -X lua_script:contrib/wireshark/offload.lua -r merged.pcap
+-- Shows the 12-byte offload header of link type 147. Wireshark's table of private link types hands the header to this
+-- dissector and the frame behind it to its own Ethernet dissector, with the frame's lengths as the record has them:
+--   tshark -r merged.pcap -X lua_script:contrib/wireshark/offload.lua \
+--          -o 'uat:user_dlts:"User 0 (DLT=147)","eth_withoutfcs","12","offload","0",""'
 
-local offload = Proto("offload", "Offload record")
+local offload = Proto("offload", "Offload header")
 
 local kinds = { [0] = "single", [1] = "merged", [2] = "tap window" }
 
@@ -15,14 +17,12 @@ fields.first_fixed = ProtoField.bool("offload.modes.first", "First IP layer keep
 fields.second_fixed = ProtoField.bool("offload.modes.second", "Second IP layer keeps its identification", 8, nil, 0x02)
 fields.queue = ProtoField.uint8("offload.queue", "Queue")
 fields.tap = ProtoField.uint8("offload.tap", "Tap")
-fields.number = ProtoField.uint32("offload.number", "Record number")
+fields.number = ProtoField.uint32("offload.number", "Record number, from 0")
 
 local header_length = 12
-local ethernet = Dissector.get("eth_withoutfcs")
-local data = Dissector.get("data")
 
 function offload.dissector(buffer, packet, tree)
-  if buffer:len() < header_length then
+  if buffer:captured_len() < header_length then
     return 0
   end
   local kind = buffer(1, 1):uint()
@@ -37,16 +37,5 @@ function offload.dissector(buffer, packet, tree)
   header:add(kind == 2 and fields.tap or fields.queue, buffer(7, 1))
   header:add(fields.number, buffer(8, 4))
   header:append_text(": " .. (kinds[kind] or "unknown kind"))
-
-  local rest = buffer(header_length):tvb()
-  if kind == 2 then
-    packet.cols.protocol = "OFFLOAD"
-    packet.cols.info = "Tap window of record " .. buffer(8, 4):uint()
-    data:call(rest, packet, tree)
-  else
-    ethernet:call(rest, packet, tree)
-  end
-  return buffer:len()
+  return header_length
 end
-
-DissectorTable.get("wtap_encap"):add(wtap.USER0, offload)
