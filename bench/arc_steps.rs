@@ -1,4 +1,4 @@
-// The turns of block_steps with Rust's Arc, on one thread: `arc_steps 10000000`.
+// The turns of `steps blocks` with Rust's Arc, on one thread: `arc_steps 10000000`.
 use std::hint::black_box;
 use std::sync::Arc;
 use std::time::Instant;

@@ -1,4 +1,4 @@
-// The turns of buffer_steps with Rust's Arc and, under `--cfg has_bytes`, with bytes::Bytes, on one thread:
+// The turns of `steps buffers` with Rust's Arc and, under `--cfg has_bytes`, with bytes::Bytes, on one thread:
 // `buffer_steps 1000000`.
 use std::hint::black_box;
 use std::sync::Arc;

@@ -1,13 +1,11 @@
-//! Nanoseconds that judging a frame takes beside summing its bytes, a line for each: `frame_steps 1000000`.
+//! Judging a frame, beside summing its bytes.
 //!
 //! The frame is a TCP segment of 1,514 bytes over IPv4 that may be merged, so that every sum of it is taken: once from its
-//! first 200 bytes and the sum of the others, and once from all its bytes. With no number of turns it prints how it is called.
-#![tactic(auto)]
+//! first 200 bytes and the sum of the others, and once from all its bytes.
 
 use anyhow::Error;
 use frame_layout::candidate;
 use inet_sum::{Partial, fold_of};
-use std::env;
 use std::time::{Duration, Instant};
 
 const LENGTH: usize = 1514;
@@ -71,20 +69,15 @@ fn time_summing(rt: &HostRuntime, turns: u64) -> Result<(Duration, u64), Error> 
     Ok((start.elapsed(rt)?, total))
 }
 
-fn main(rt: HostRuntime) -> Result<(), Error> {
-    let Some(word) = env::args(&rt)?.nth(1) else {
-        println!(rt; "usage: frame_steps TURNS")?;
-        return Ok(());
-    };
-    let turns = word.parse::<u64>()?;
-    let (summing, total) = time_summing(&rt, turns)?;
+pub fn measure(rt: &HostRuntime, turns: u64) -> Result<(), Error> {
+    let (summing, total) = time_summing(rt, turns)?;
     println!(rt; "bytes summed: {} ns, total {total}", summing.as_nanos())?;
-    let (judging, found) = time_judging_in_two(&rt, turns)?;
+    let (judging, found) = time_judging_in_two(rt, turns)?;
     println!(rt;
         "shape and candidate: {} ns, {found} candidates",
         judging.as_nanos()
     )?;
-    let (judging, found) = time_judging_whole(&rt, turns)?;
+    let (judging, found) = time_judging_whole(rt, turns)?;
     println!(rt;
         "shape and candidate, whole frame: {} ns, {found} candidates",
         judging.as_nanos()

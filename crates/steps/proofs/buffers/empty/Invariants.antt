@@ -1,5 +1,5 @@
 use Rattle.std.proofs.Common.{◌≡◌, [], length}
-use Rattle.buffer_steps.proofs.empty.Given as goal
+use Rattle.steps.proofs.buffers.empty.Given as goal
 
 abbrev pub decreases-loop : goal.decreases-loop
 decreases-loop l = length l.out.soles

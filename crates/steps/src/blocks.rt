@@ -1,15 +1,10 @@
-//! Nanoseconds that the calls on a block take on one thread, a line for each pair: `block_steps 10000000`.
-//!
-//! `bench/block-steps` builds and runs it, beside the same turns of Rust's `Arc`. With no number of turns it prints how it is
-//! called.
-#![tactic(auto)]
+//! The calls on a block, each pair as it follows in use. `bench/block-steps` sets them beside the same turns of Rust's `Arc`.
 
 use anyhow::Error;
 use raw_block::{Claimed, Part, Released, Sole};
-use std::env;
 use std::time::{Duration, Instant};
 
-fn spend(part: Part) {
+pub fn spend(part: Part) {
     match part.release() {
         Released::Left(receipt) => receipt.close(),
         Released::Last(_) => {}
@@ -69,17 +64,12 @@ fn time_shares(rt: &HostRuntime, mut sole: Sole, turns: u64) -> Result<Duration,
     Ok(start.elapsed(rt)?)
 }
 
-fn main(rt: HostRuntime) -> Result<(), Error> {
-    let Some(word) = env::args(&rt)?.nth(1) else {
-        println!(rt; "usage: block_steps TURNS")?;
-        return Ok(());
-    };
-    let turns = word.parse::<u64>()?;
-    let splits = time_splits(&rt, Sole::new(rt.alloc())?, turns)?;
+pub fn measure(rt: &HostRuntime, turns: u64) -> Result<(), Error> {
+    let splits = time_splits(rt, Sole::new(rt.alloc())?, turns)?;
     println!(rt; "split + release: {} ns", splits.as_nanos())?;
-    let claims = time_claims(&rt, Sole::new(rt.alloc())?, turns)?;
+    let claims = time_claims(rt, Sole::new(rt.alloc())?, turns)?;
     println!(rt; "claim + share: {} ns", claims.as_nanos())?;
-    let shares = time_shares(&rt, Sole::new(rt.alloc())?, turns)?;
+    let shares = time_shares(rt, Sole::new(rt.alloc())?, turns)?;
     println!(rt; "share + release: {} ns", shares.as_nanos())?;
     Ok(())
 }

@@ -1,6 +1,6 @@
 use Rattle.std.proofs.Common.{◌+◌, ◌≤◌, length}
 use Rattle.block_pool.specs.PoolState.{home}
-use Rattle.buffer_steps.proofs.pieces_of.Given as goal
+use Rattle.steps.proofs.buffers.pieces_of.Given as goal
 
 abbrev pub invariant-loop-block : goal.invariant-loop-block
 invariant-loop-block l = length l.rest + home l.pool ≤ home l.fn.pool

@@ -1,19 +1,15 @@
-//! Nanoseconds that the calls on a packet buffer take on one thread, a line for each: `buffer_steps 1000000`.
-//!
-//! `bench/buffer-steps` builds and runs it, beside the same turns of Rust's `bytes::Bytes` and `Arc`. With no number of turns
-//! it prints how it is called.
-#![tactic(auto)]
+//! The calls on a packet buffer. `bench/buffer-steps` sets them beside the same turns of Rust's `bytes::Bytes` and `Arc`.
 
 ghost use Rattle.std.specs.Prelude.{◌≡◌, ◌+◌, ◌≤◌, [], length, IfOk};
 ghost use Rattle.block_pool.specs.PoolState.{home};
 
+use crate::blocks::spend;
 use anyhow::{Error, bail};
 use block_pool::Pool;
 use frags::{Outcomes, Pieces};
-use raw_block::{Part, Released, Sole};
+use raw_block::Sole;
 use skb::Skb;
 use std::alloc::{AllocError, Global};
-use std::env;
 use std::time::{Duration, Instant};
 
 const HEADER: [u8; 14] = [2; 14];
@@ -42,13 +38,6 @@ fn empty(out: &mut Outcomes)
     while let Some(_) = out.pop_sole() {}
     while let Some(receipt) = out.pop_receipt() {
         receipt.close();
-    }
-}
-
-fn spend(part: Part) {
-    match part.release() {
-        Released::Left(receipt) => receipt.close(),
-        Released::Last(_) => {}
     }
 }
 
@@ -228,19 +217,14 @@ fn time_pushes(rt: &HostRuntime, turns: u64) -> Result<Duration, Error> {
     taken
 }
 
-fn main(rt: HostRuntime) -> Result<(), Error> {
-    let Some(word) = env::args(&rt)?.nth(1) else {
-        println!(rt; "usage: buffer_steps TURNS")?;
-        return Ok(());
-    };
-    let turns = word.parse::<u64>()?;
-    let taken = time_clones(&rt, 1, turns)?;
+pub fn measure(rt: &HostRuntime, turns: u64) -> Result<(), Error> {
+    let taken = time_clones(rt, 1, turns)?;
     println!(rt; "clone + release, 1 piece: {} ns", taken.as_nanos())?;
-    let taken = time_clones(&rt, 2, turns)?;
+    let taken = time_clones(rt, 2, turns)?;
     println!(rt; "clone + release, 2 pieces: {} ns", taken.as_nanos())?;
-    let taken = time_clones(&rt, 16, turns)?;
+    let taken = time_clones(rt, 16, turns)?;
     println!(rt; "clone + release, 16 pieces: {} ns", taken.as_nanos())?;
-    let taken = time_pushes(&rt, turns)?;
+    let taken = time_pushes(rt, turns)?;
     println!(rt; "push + pull, 14 bytes: {} ns", taken.as_nanos())?;
     Ok(())
 }

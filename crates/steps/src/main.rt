@@ -1,0 +1,26 @@
+//! Nanoseconds that calls take on one thread, a line for each: `steps frames 1000000`, and so with `blocks` and `buffers`.
+//!
+//! The scripts of `bench/` build and run it. With no such word, or no number of turns, it prints how it is called.
+#![tactic(auto)]
+
+mod blocks;
+mod buffers;
+mod frames;
+
+use anyhow::Error;
+use std::env;
+
+fn main(rt: HostRuntime) -> Result<(), Error> {
+    let mut words = env::args(&rt)?;
+    if let (Some(which), Some(turns)) = (words.nth(1), words.next()) {
+        let turns = turns.parse::<u64>()?;
+        match which.as_str() {
+            "frames" => return frames::measure(&rt, turns),
+            "blocks" => return blocks::measure(&rt, turns),
+            "buffers" => return buffers::measure(&rt, turns),
+            _ => {}
+        }
+    }
+    println!(rt; "usage: steps frames|blocks|buffers TURNS")?;
+    Ok(())
+}
