@@ -1,5 +1,5 @@
 -- Lists of pieces put together, and what a release leaves.
-use Rattle.std.proofs.Common.{◌≡◌, ℕ, ◌+◌, ◌-◌, ◌*◌, ◌<◌, ◌≤◌, List, [], ◌∷◌, ◌++◌, length, refl, ap, sym, subst, append_assoc, ◌∙◌, zero, suc, get_or, arith}
+use Rattle.std.proofs.Common.{◌≡◌, ℕ, Bool, ◌+◌, ◌-◌, ◌*◌, ◌<◌, ◌≤◌, List, [], ◌∷◌, ◌++◌, length, refl, ap, sym, subst, append_assoc, ◌∙◌, zero, suc, get_or, arith}
 use Rattle.std.proofs.lemmas.Bool.{cond_both}
 use borrow.Author.Tests.{ltb-false}
 use lib.Dec.{ltb}
@@ -9,7 +9,7 @@ use Rattle.raw_block.specs.declared.part.Released.{Released}
 use Rattle.raw_block.specs.declared.part.Released.TheVariants.{Last, Left}
 use Rattle.raw_block.specs.Answers.{IsReleased}
 use Rattle.frags.specs.OutcomesState.{OutcomesState}
-use Rattle.frags.specs.Account.{Keeps, KeepsMarks, every, both, counted, at_home, receipts_held, soles_home, of_part, of_holder, of_released, of_outcomes}
+use Rattle.frags.specs.Account.{Tests, Keeps, KeepsMarks, every, both, counted, at_home, receipts_held, soles_home, of_part, of_holder, of_released, of_outcomes}
 use Rattle.frags.specs.PieceList.{of_pieces, pieces_held, bytes_of, piece_bytes, size_of, Fits, AllFit, cut_front, block, AsPart}
 use Rattle.frags.specs.declared.pieces.Piece.{Piece}
 use Rattle.frags.specs.declared.holder.Holder.{Holder}
@@ -20,7 +20,7 @@ use Rattle.frags.proofs.Keeping.{counted-le, soles_home-append, pieces_held-appe
 pub released_keeps : (p : PartState) (r : Released) → p.weight ≤ full_weight → IsReleased p r → Keeps (of_part p) (of_released r)
 released_keeps p (Last s) h k t m =
     let c = counted-le t m p.life p.mark p.weight h in
-    let e = ap (at_home m) k.1 in
+    let e : at_home t.blocks m s.block s.mark ≡ at_home t.blocks m p.life.block p.mark = cc (k.0, k.2) in
     (omega arith, omega arith)
 released_keeps p (Left r) h k t m =
     let w = k.0 in let l = k.2 in let a = k.3 in
@@ -30,13 +30,13 @@ released_keeps p (Left r) h k t m =
 pub sole_keeps : (h : Holder) (s : SoleState) (a b : OutcomesState) → h ≡ Sole s → b.soles ≡ a.soles ++ s ∷ [] → b.receipts ≡ a.receipts → Keeps (both (of_holder h) (of_outcomes a)) (of_outcomes b)
 sole_keeps h s a b e f g t m =
     let u = ap (λ (z : Holder). (of_holder z).held t m) e in
-    let v = ap (λ (z : Holder). (of_holder z).homes m) e in
-    let k = ap (soles_home m) f ∙ soles_home-append m a.soles (s ∷ []) in
+    let v = ap (λ (z : Holder). (of_holder z).homes t.blocks m) e in
+    let k = ap (soles_home t.blocks m) f ∙ soles_home-append t.blocks m a.soles (s ∷ []) in
     let l = ap (receipts_held t m) g in
     (omega arith, omega arith)
 
 pub part_block : (h : Holder) (p : PartState) → AsPart h p → p.bytes ≡ block h
-part_block (Sole s) p k = k.1
+part_block (Sole s) p k = k.2
 part_block (Part q) p k = ap (λ (z : PartState). z.bytes) k
 
 pub takes_in_fit : (a rest b : List Piece) (x : Piece) → b ≡ (a ++ x ∷ []) ++ rest → AllFit a → Fits x → AllFit rest → (size_of b ≡ size_of a + ((x.to - x.from) + size_of rest)) × AllFit b
@@ -68,17 +68,17 @@ takes_in_is a s others rest b x e f g =
     e ∙ append_assoc s (x ∷ []) rest ∙ ap (λ (z : List Piece). z ++ x ∷ rest) f ∙ ap (λ (z : List Piece). a ++ x ∷ z) g
 
 -- a Sole counts as the part of the full weight that it becomes
-pub as_part_marks : (m : ℕ) (h : Holder) (p : PartState) → AsPart h p → (of_part p).held every m ≡ (of_holder h).held every m + full_weight * (of_holder h).homes m
-as_part_marks m (Sole s) p l =
-    let u : counted every m p.life p.mark p.weight ≡ counted every m p.life s.mark full_weight = cc (l.0, l.2) in
-    let v : counted every m p.life s.mark full_weight ≡ full_weight * at_home m s.mark = grind arith in
+pub as_part_marks : (bs : ℕ → Bool) (m : ℕ) (h : Holder) (p : PartState) → AsPart h p → (of_part p).held (every bs) m ≡ (of_holder h).held (every bs) m + full_weight * (of_holder h).homes bs m
+as_part_marks bs m (Sole s) p l =
+    let u : counted (every bs) m p.life p.mark p.weight ≡ counted (every bs) m p.life s.mark full_weight = cc (l.0, l.3) in
+    let v : counted (every bs) m p.life s.mark full_weight ≡ full_weight * at_home bs m s.block s.mark = let i = l.1 in grind arith in
     omega arith
-as_part_marks m (Part q) p l = let u = ap (λ (z : PartState). (of_part z).held every m) l in omega arith
+as_part_marks bs m (Part q) p l = let u = ap (λ (z : PartState). (of_part z).held (every bs) m) l in omega arith
 
 pub takes_in_marks : (a others b : List Piece) (h : Holder) (x : Piece) → AsPart h x.part → b ≡ a ++ x ∷ others → KeepsMarks (both (of_pieces a) (both (of_holder h) (of_pieces others))) (of_pieces b)
-takes_in_marks a others b h x l e m =
-    let u = as_part_marks m h x.part l in
-    let f = ap (pieces_held every m) e ∙ pieces_held-append every m a (x ∷ others) in
+takes_in_marks a others b h x l e bs m =
+    let u = as_part_marks bs m h x.part l in
+    let f = ap (pieces_held (every bs) m) e ∙ pieces_held-append (every bs) m a (x ∷ others) in
     omega arith
 
 pub takes_in_keeps : (a others b : List Piece) (h : Holder) (q : PartState) (x : Piece) → AsPart h x.part → h ≡ Part q → b ≡ a ++ x ∷ others → Keeps (both (of_pieces a) (both (of_part q) (of_pieces others))) (of_pieces b)

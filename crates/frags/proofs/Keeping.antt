@@ -6,21 +6,21 @@ use Rattle.std.proofs.Math.Seq.{drop-nil, drop-append-add}
 use borrow.Author.Tests.{ltb-true, ltb-false}
 use lib.Dec.{ltb}
 use Rattle.ref_core.specs.WeightRule.{full_weight, IsWeight}
-use Rattle.raw_block.specs.Views.{SoleState, PartState, ReceiptState}
+use Rattle.raw_block.specs.Views.{Life, SoleState, PartState, ReceiptState}
 use Rattle.frags.specs.OutcomesState.{OutcomesState}
-use Rattle.frags.specs.Account.{Account, Keeps, KeepsMarks, every, both, counted, at_home, receipts_held, soles_home, of_part, of_outcomes}
+use Rattle.frags.specs.Account.{Account, Tests, Keeps, KeepsMarks, every, both, counted, at_home, receipts_held, soles_home, of_part, of_outcomes}
 use Rattle.frags.specs.PieceList.{bytes_of, piece_bytes, size_of, Fits, AllFit, pieces_held, of_pieces, kept, given, gift, kept_first, given_first, worn, cut_front}
 use Rattle.frags.specs.declared.pieces.Piece.{Piece}
 
-pub receipts_held-append : (t : ℕ × ℕ → Bool) (m : ℕ) (a b : List ReceiptState) → receipts_held t m (a ++ b) ≡ receipts_held t m a + receipts_held t m b
+pub receipts_held-append : (t : Tests) (m : ℕ) (a b : List ReceiptState) → receipts_held t m (a ++ b) ≡ receipts_held t m a + receipts_held t m b
 receipts_held-append t m [] b = omega arith
 receipts_held-append t m (x ∷ xs) b = omega (arith, receipts_held-append t m xs b)
 
-pub soles_home-append : (m : ℕ) (a b : List SoleState) → soles_home m (a ++ b) ≡ soles_home m a + soles_home m b
-soles_home-append m [] b = omega arith
-soles_home-append m (x ∷ xs) b = omega (arith, soles_home-append m xs b)
+pub soles_home-append : (bs : ℕ → Bool) (m : ℕ) (a b : List SoleState) → soles_home bs m (a ++ b) ≡ soles_home bs m a + soles_home bs m b
+soles_home-append bs m [] b = omega arith
+soles_home-append bs m (x ∷ xs) b = omega (arith, soles_home-append bs m xs b)
 
-pub pieces_held-append : (t : ℕ × ℕ → Bool) (m : ℕ) (a b : List Piece) → pieces_held t m (a ++ b) ≡ pieces_held t m a + pieces_held t m b
+pub pieces_held-append : (t : Tests) (m : ℕ) (a b : List Piece) → pieces_held t m (a ++ b) ≡ pieces_held t m a + pieces_held t m b
 pieces_held-append t m [] b = omega arith
 pieces_held-append t m (x ∷ xs) b = omega (arith, pieces_held-append t m xs b)
 
@@ -32,7 +32,7 @@ pub AllFit-append : (a b : List Piece) → AllFit a → AllFit b → AllFit (a +
 AllFit-append [] b h k = k
 AllFit-append (x ∷ xs) b h k = (h.0, AllFit-append xs b h.1 k)
 
-pub counted-le : (t : ℕ × ℕ → Bool) (m : ℕ) (l : ℕ × ℕ) (k w : ℕ) → w ≤ full_weight → counted t m l k w ≤ full_weight * at_home m k
+pub counted-le : (t : Tests) (m : ℕ) (l : Life) (k w : ℕ) → w ≤ full_weight → counted t m l k w ≤ full_weight * at_home t.blocks m l.block k
 counted-le t m l k w h = grind arith
 
 pub keeps_refl : (a : Account) → Keeps a a
@@ -45,26 +45,26 @@ pub keeps_beside : (a b c : Account) → Keeps a b → Keeps (both a c) (both b 
 keeps_beside a b c h t m = let p = h t m in (omega arith, omega arith)
 
 pub keeps_marks : (a b : Account) → Keeps a b → KeepsMarks a b
-keeps_marks a b h m = (h every m).1
+keeps_marks a b h bs m = (h (every bs) m).1
 
 pub marks_trans : (a b c : Account) → KeepsMarks a b → KeepsMarks b c → KeepsMarks a c
-marks_trans a b c h k m = let p = h m in let q = k m in omega arith
+marks_trans a b c h k bs m = let p = h bs m in let q = k bs m in omega arith
 
 pub marks_beside : (a b c : Account) → KeepsMarks a b → KeepsMarks (both a c) (both b c)
-marks_beside a b c h m = let p = h m in omega arith
+marks_beside a b c h bs m = let p = h bs m in omega arith
 
-pub gives_last : (p : PartState) (s : SoleState) (a b : OutcomesState) → s.mark ≡ p.mark → p.weight ≤ full_weight → b.receipts ≡ a.receipts → b.soles ≡ a.soles ++ s ∷ [] → Keeps (both (of_part p) (of_outcomes a)) (of_outcomes b)
-gives_last p s a b e h f g t m =
+pub gives_last : (p : PartState) (s : SoleState) (a b : OutcomesState) → s.block ≡ p.life.block → s.mark ≡ p.mark → p.weight ≤ full_weight → b.receipts ≡ a.receipts → b.soles ≡ a.soles ++ s ∷ [] → Keeps (both (of_part p) (of_outcomes a)) (of_outcomes b)
+gives_last p s a b o e h f g t m =
     let c = counted-le t m p.life p.mark p.weight h in
     let d = ap (receipts_held t m) f in
-    let k = ap (soles_home m) g ∙ soles_home-append m a.soles (s ∷ []) in
-    let i = ap (at_home m) e in
+    let k = ap (soles_home t.blocks m) g ∙ soles_home-append t.blocks m a.soles (s ∷ []) in
+    let i : at_home t.blocks m s.block s.mark ≡ at_home t.blocks m p.life.block p.mark = cc (o, e) in
     (omega arith, omega arith)
 
 pub gives_left : (p : PartState) (r : ReceiptState) (a b : OutcomesState) → r.weight ≡ p.weight → r.life ≡ p.life → r.mark ≡ p.mark → b.soles ≡ a.soles → b.receipts ≡ a.receipts ++ r ∷ [] → Keeps (both (of_part p) (of_outcomes a)) (of_outcomes b)
 gives_left p r a b w l k f g t m =
     let c : counted t m r.life r.mark r.weight ≡ counted t m p.life p.mark p.weight = cc in
-    let d = ap (soles_home m) f in
+    let d = ap (soles_home t.blocks m) f in
     let e = ap (receipts_held t m) g ∙ receipts_held-append t m a.receipts (r ∷ []) in
     (omega arith, omega arith)
 
@@ -146,7 +146,7 @@ share_is s p w a b c d i = record { life = b i; weight = a i; bytes = c i; mark 
 pub gift-small : (w : ℕ) → 0 < w → w ≢ 1 → (0 < gift w) × (gift w < w)
 gift-small w h k = (omega arith, omega arith)
 
-pub kept_given : (t : ℕ × ℕ → Bool) (m : ℕ) (p : Piece) → gift p.part.weight ≤ p.part.weight → counted t m p.part.life p.part.mark (p.part.weight - gift p.part.weight) + counted t m p.part.life p.part.mark (gift p.part.weight) ≡ counted t m p.part.life p.part.mark p.part.weight
+pub kept_given : (t : Tests) (m : ℕ) (p : Piece) → gift p.part.weight ≤ p.part.weight → counted t m p.part.life p.part.mark (p.part.weight - gift p.part.weight) + counted t m p.part.life p.part.mark (gift p.part.weight) ≡ counted t m p.part.life p.part.mark p.part.weight
 kept_given t m p h = grind arith
 
 pub kept_step : (old items : List Piece) (i : ℕ) (q : Piece) (s : PartState) → items ≡ kept_first i old → q ≡ get_or old i q → s ≡ record q.part { weight = q.part.weight - gift q.part.weight } → i < length old → set items i (record { part = s; from = q.from; to = q.to }) ≡ kept_first (i + 1) old
@@ -166,7 +166,7 @@ given_step old items i q s e f g h =
     rw add-one (a ∙ b ∙ c ∙ given_first-step i old q h)
 
 -- a step on x alone, beside o
-pub keeps_step : (s x xs ys o q : Account) → ((t : ℕ × ℕ → Bool) (m : ℕ) → (xs.held t m ≡ x.held t m + ys.held t m) × (xs.homes m ≡ x.homes m + ys.homes m)) → Keeps s (both xs o) → Keeps (both x o) q → Keeps s (both ys q)
+pub keeps_step : (s x xs ys o q : Account) → ((t : Tests) (m : ℕ) → (xs.held t m ≡ x.held t m + ys.held t m) × (xs.homes t.blocks m ≡ x.homes t.blocks m + ys.homes t.blocks m)) → Keeps s (both xs o) → Keeps (both x o) q → Keeps s (both ys q)
 keeps_step s x xs ys o q e h k t m =
     let d = e t m in
     let f = h t m in
@@ -174,7 +174,7 @@ keeps_step s x xs ys o q e h k t m =
     (omega arith, omega arith)
 
 -- where all else is receipts that weigh less than a whole, a Sole is at home
-pub sole_at_home : (a : Account) (o : OutcomesState) (t : ℕ × ℕ → Bool) (m : ℕ) → Keeps a (of_outcomes o) → full_weight ≤ a.held t m + full_weight * a.homes m → receipts_held t m o.receipts < full_weight → 1 ≤ soles_home m o.soles
+pub sole_at_home : (a : Account) (o : OutcomesState) (t : Tests) (m : ℕ) → Keeps a (of_outcomes o) → full_weight ≤ a.held t m + full_weight * a.homes t.blocks m → receipts_held t m o.receipts < full_weight → 1 ≤ soles_home t.blocks m o.soles
 sole_at_home a o t m k h l = let f = k t m in omega arith
 
 -- the pieces' bytes after a cut
@@ -203,7 +203,7 @@ cut_bytes n (p ∷ ps) h =
     cut_bytes (n - (p.to - p.from)) ps h.1 ∙ sym (drop-append-add (piece_bytes p) (bytes_of ps) (n - (p.to - p.from))) ∙ ap (λ (z : ℕ). drop z (piece_bytes p ++ bytes_of ps)) (sym k))
 
 -- what each part gives away and what it keeps is what it had
-pub share_sums : (t : ℕ × ℕ → Bool) (m : ℕ) (ps : List Piece) → AllFit ps → worn ps ≡ false → pieces_held t m (map kept ps) + pieces_held t m (map given ps) ≡ pieces_held t m ps
+pub share_sums : (t : Tests) (m : ℕ) (ps : List Piece) → AllFit ps → worn ps ≡ false → pieces_held t m (map kept ps) + pieces_held t m (map given ps) ≡ pieces_held t m ps
 share_sums t m [] h w = refl
 share_sums t m (p ∷ ps) h w =
     let n = not_worn p ps w in

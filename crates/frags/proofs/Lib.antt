@@ -4,4 +4,5 @@ pub mod Joining
 pub mod Keeping
 pub mod Places
 pub mod Returning
+pub mod Settling
 pub mod Splits

@@ -6,6 +6,7 @@ use Rattle.std.proofs.Math.Seq.{take-append-add, take-length}
 use borrow.Author.Tests.{ltb-true, ltb-false, eqb-true, eqb-false}
 use lib.Dec.{ltb, eqb}
 use Rattle.frags.specs.declared.pieces.Piece.{Piece}
+use Rattle.frags.specs.Account.{Tests}
 use Rattle.frags.specs.PieceList.{bytes_of, piece_bytes, size_of, Fits, AllFit, pieces_held, keep_front, byte_in, least_weight}
 use Rattle.ref_core.specs.WeightRule.{full_weight}
 use Rattle.frags.proofs.Keeping.{length-piece, size_of-append, AllFit-append, pieces_held-append}
@@ -102,7 +103,7 @@ last_piece xs ys x e h =
 
 -- the pieces of the first `keep` bytes, where the last piece is cut
 pub last_cut : (keep start : ℕ) (xs ys zs : List Piece) (x : Piece) → xs ≡ ys ++ x ∷ [] → zs ≡ ys ++ (record x { to = x.from + (keep - start) }) ∷ [] → start ≡ size_of ys → start < keep → keep ≤ size_of xs → AllFit xs
-    → (zs ≡ keep_front keep xs) × (size_of zs ≡ keep) × AllFit zs × ((t : ℕ × ℕ → Bool) (m : ℕ) → pieces_held t m zs ≡ pieces_held t m xs)
+    → (zs ≡ keep_front keep xs) × (size_of zs ≡ keep) × AllFit zs × ((t : Tests) (m : ℕ) → pieces_held t m zs ≡ pieces_held t m xs)
 last_cut keep start xs ys zs x e f a lt le h =
     let y : Piece = record x { to = x.from + (keep - start) } in
     let g = last_piece xs ys x e h in

@@ -10,34 +10,34 @@ use Rattle.frags.proofs.Keeping.{receipts_held-append, soles_home-append}
 
 pub sole_kept : (s : SoleState) (a b : OutcomesState) → b.soles ≡ a.soles ++ s ∷ [] → b.receipts ≡ a.receipts → Keeps (both (of_sole s) (of_outcomes a)) (of_outcomes b)
 sole_kept s a b e f t m =
-    let k = ap (soles_home m) e ∙ soles_home-append m a.soles (s ∷ []) in
+    let k = ap (soles_home t.blocks m) e ∙ soles_home-append t.blocks m a.soles (s ∷ []) in
     let l = ap (receipts_held t m) f in
     (omega arith, omega arith)
 
 pub receipt_kept : (r : ReceiptState) (a b : OutcomesState) → b.soles ≡ a.soles → b.receipts ≡ a.receipts ++ r ∷ [] → Keeps (both (of_receipt r) (of_outcomes a)) (of_outcomes b)
 receipt_kept r a b e f t m =
-    let k = ap (soles_home m) e in
+    let k = ap (soles_home t.blocks m) e in
     let l = ap (receipts_held t m) f ∙ receipts_held-append t m a.receipts (r ∷ []) in
     (omega arith, omega arith)
 
 pub sole_taken : (r : Option SoleState) (a b : OutcomesState) → a.soles ≡ b.soles ++ option_to_list r → b.receipts ≡ a.receipts
     → MatchOption r (Keeps (of_outcomes a) (of_outcomes b)) (λ s. Keeps (of_outcomes a) (both (of_sole s) (of_outcomes b)))
 sole_taken None a b e f = λ t m.
-    let k = ap (soles_home m) e ∙ soles_home-append m b.soles [] in
+    let k = ap (soles_home t.blocks m) e ∙ soles_home-append t.blocks m b.soles [] in
     let l = ap (receipts_held t m) f in
     (omega arith, omega arith)
 sole_taken (Some s) a b e f = λ t m.
-    let k = ap (soles_home m) e ∙ soles_home-append m b.soles (s ∷ []) in
+    let k = ap (soles_home t.blocks m) e ∙ soles_home-append t.blocks m b.soles (s ∷ []) in
     let l = ap (receipts_held t m) f in
     (omega arith, omega arith)
 
 pub receipt_taken : (r : Option ReceiptState) (a b : OutcomesState) → b.soles ≡ a.soles → a.receipts ≡ b.receipts ++ option_to_list r
     → MatchOption r (Keeps (of_outcomes a) (of_outcomes b)) (λ s. Keeps (of_outcomes a) (both (of_receipt s) (of_outcomes b)))
 receipt_taken None a b e f = λ t m.
-    let k = ap (soles_home m) e in
+    let k = ap (soles_home t.blocks m) e in
     let l = ap (receipts_held t m) f ∙ receipts_held-append t m b.receipts [] in
     (omega arith, omega arith)
 receipt_taken (Some r) a b e f = λ t m.
-    let k = ap (soles_home m) e in
+    let k = ap (soles_home t.blocks m) e in
     let l = ap (receipts_held t m) f ∙ receipts_held-append t m b.receipts (r ∷ []) in
     (omega arith, omega arith)

@@ -6,6 +6,7 @@ use Rattle.std.proofs.Math.Seq.{take-add}
 use borrow.Author.Tests.{ltb-true, ltb-false, eqb-true, eqb-false}
 use lib.Dec.{ltb, eqb}
 use Rattle.frags.specs.declared.pieces.Piece.{Piece}
+use Rattle.frags.specs.Account.{Tests}
 use Rattle.frags.specs.PieceList.{bytes_of, piece_bytes, size_of, AllFit, kept, given, gift, front, back, cut_worn, pieces_held}
 use Rattle.frags.proofs.Keeping.{gift-weighs, kept_given}
 
@@ -78,7 +79,7 @@ split_bytes n (p ∷ ps) =
     (λ e. ap (λ (z : List ℕ). piece_bytes p ++ z) (split_bytes k ps) ∙ sym (append_assoc (piece_bytes p) (bytes_of (front k ps)) (bytes_of (back k ps))))
 
 -- the weights of both lists of a cut are what they were
-pub split_sums : (t : ℕ × ℕ → Bool) (m : ℕ) (n : ℕ) (ps : List Piece) → AllFit ps → cut_worn n ps ≡ false → pieces_held t m (front n ps) + pieces_held t m (back n ps) ≡ pieces_held t m ps
+pub split_sums : (t : Tests) (m : ℕ) (n : ℕ) (ps : List Piece) → AllFit ps → cut_worn n ps ≡ false → pieces_held t m (front n ps) + pieces_held t m (back n ps) ≡ pieces_held t m ps
 split_sums t m n [] h w = refl
 split_sums t m n (p ∷ ps) h w =
     let k : ℕ = n - (p.to - p.from) in

@@ -3,3 +3,4 @@ pub mod BuilderState
 pub mod Growth
 pub mod OutcomesState
 pub mod PieceList
+pub mod RoundAccount

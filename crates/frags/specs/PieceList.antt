@@ -2,7 +2,7 @@
 use Rattle.std.specs.Prelude.{ℕ, zero, suc, ◌≡◌, ◌+◌, ◌-◌, ◌/◌, ◌<◌, ◌≤◌, List, [], ◌∷◌, ◌++◌, Bool, false, true, cond, ◌||◌, ◌==◌, nat_lt, length, slice_range, slice_index_or, max, min, map, Ok, Err}
 use Rattle.ref_core.specs.WeightRule.{full_weight, IsWeight}
 use Rattle.raw_block.specs.Views.{PartState}
-use Rattle.frags.specs.Account.{Account, counted}
+use Rattle.frags.specs.Account.{Account, Tests, counted}
 use Rattle.frags.specs.declared.pieces.Piece.{Piece}
 use Rattle.frags.specs.declared.holder.Holder.{Holder}
 use Rattle.frags.specs.declared.holder.Holder.TheVariants.{Sole, Part}
@@ -29,12 +29,12 @@ abbrev pub AllFit : List Piece → Type 0
 AllFit [] = Unit {0}
 AllFit (p ∷ ps) = Fits p × AllFit ps
 
-abbrev pub pieces_held : (ℕ × ℕ → Bool) → ℕ → List Piece → ℕ
+abbrev pub pieces_held : Tests → ℕ → List Piece → ℕ
 pieces_held t m [] = 0
 pieces_held t m (p ∷ ps) = counted t m p.part.life p.part.mark p.part.weight + pieces_held t m ps
 
 abbrev pub of_pieces : List Piece → Account
-of_pieces ps = record { held = λ t m. pieces_held t m ps; homes = λ m. 0 }
+of_pieces ps = record { held = λ t m. pieces_held t m ps; homes = λ bs m. 0 }
 
 -- what a share of weight w gives away
 abbrev pub gift : ℕ → ℕ
@@ -126,7 +126,7 @@ block (Part p) = p.bytes
 
 -- the part that a holder is, or that its Sole becomes
 abbrev pub AsPart : Holder → PartState → Type 0
-AsPart (Sole s) p = (p.weight ≡ full_weight) × (p.bytes ≡ s.bytes) × (p.mark ≡ s.mark)
+AsPart (Sole s) p = (p.weight ≡ full_weight) × (p.life.block ≡ s.block) × (p.bytes ≡ s.bytes) × (p.mark ≡ s.mark)
 AsPart (Part q) p = p ≡ q
 
 -- what `append_all` answers, of the pieces before and after

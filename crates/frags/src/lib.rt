@@ -12,9 +12,10 @@
 //! `Outcomes` keeps what releases leave: a Sole or a receipt, in places that `reserve` made, so that giving back takes no
 //! memory. They come in order of return, and the clause `grows` says how many (`specs/Growth.antt`).
 //!
-//! Nothing is lost: `specs/Account.antt` counts by lives and by marks what an object holds, and the clauses `kept` and
-//! `sums` say that it stays or that its block's Sole is at home, `back` that a refused call hands it back, and `marks` the
-//! same where a Sole is shared and a life begins. `Keeps` adds up over calls by arithmetic alone.
+//! Nothing is lost: `specs/Account.antt` counts by blocks, lives and marks what an object holds, and the clauses `kept` and
+//! `sums` say that it stays or that its own block's Sole is at home, `back` that a refused call hands it back, and `marks` the
+//! same over all lives of a block, where a Sole is shared and a life begins. `Keeps` adds up over calls by arithmetic alone.
+//! What follows over a round is in `specs/RoundAccount.antt`.
 //!
 //! ```
 //! let mut pieces = Pieces::new(alloc);
@@ -27,6 +28,7 @@
 mod builder;
 mod cuts;
 mod holder;
+mod laws;
 mod outcomes;
 mod pieces;
 #[cfg(test)]
@@ -34,5 +36,6 @@ mod tests;
 
 pub use builder::PieceBuilder;
 pub use holder::{Holder, give_share};
+pub use laws::{block_is_home, keeps_is_settling, settling_adds_up};
 pub use outcomes::Outcomes;
 pub use pieces::{Piece, Pieces, ShareFault, Short};

@@ -1,5 +1,5 @@
 //! What was given back: Soles and receipts, in places that were reserved before.
-ghost use Rattle.std.specs.Prelude.{◌≡◌, ℕ, ◌+◌, ◌≤◌, [], ◌∷◌, ◌++◌, OnOk, MatchOption};
+ghost use Rattle.std.specs.Prelude.{◌≡◌, ℕ, ◌+◌, ◌≤◌, [], ◌∷◌, ◌++◌, OnOk, IsOk, MatchOption};
 ghost use Rattle.ref_core.specs.WeightRule.{full_weight};
 ghost use Rattle.raw_block.specs.Answers.{IsReleased, IsLast};
 ghost use Rattle.frags.specs.Account.{Keeps, both, of_part, of_sole, of_receipt, of_holder, of_outcomes};
@@ -36,10 +36,13 @@ impl Outcomes {
         }
     }
 
-    /// Room for `n` Soles and `n` receipts more, so that giving them back takes no memory.
+    /// Room for `n` Soles and `n` receipts more, so that giving them back takes no memory. What is reserved stays so, also where
+    /// there is no memory for more.
     pub fn reserve(&mut self, n: usize) -> Result<(), AllocError>
         ensures same { (self.new.soles ≡ self.old.soles) × (self.new.receipts ≡ self.old.receipts) }
         ensures room { OnOk result (n ≤ self.new.spare) }
+        ensures later { self.old.spare ≤ self.new.spare }
+        ensures succeeds { n ≤ self.old.spare → IsOk result }
     {
         self.soles.reserve(n)?;
         self.receipts.reserve(n)

@@ -3,7 +3,7 @@ ghost use Rattle.std.specs.Prelude.{◌≡◌, ℕ, ◌+◌, ◌-◌, ◌<◌, �
 ghost use Rattle.frags.specs.declared.pieces.Piece.{Piece};
 ghost use Rattle.frags.specs.declared.holder.Holder.{Holder};
 ghost use Rattle.raw_block.specs.Views.{PartState};
-ghost use Rattle.frags.specs.Account.{Keeps, KeepsMarks, both, of_part, of_holder, of_outcomes};
+ghost use Rattle.frags.specs.Account.{Tests, Keeps, KeepsMarks, both, of_part, of_holder, of_outcomes};
 ghost use Rattle.frags.specs.Growth.{Grows};
 ghost use Rattle.frags.specs.PieceList.{bytes_of, piece_bytes, pieces_held, Fits, AllFit, size_of, of_pieces, IsShare, IsSplit, IsAppend, byte_in, keep_front, least_weight, cut_front, cut_worn, worn};
 
@@ -68,7 +68,7 @@ impl Pieces {
     /// No pieces.
     pub fn new(alloc: Global) -> Pieces
         ensures empty { result ≡ [] }
-        ensures held { (t : ℕ × ℕ → Bool) (m : ℕ) → pieces_held t m result ≡ 0 }
+        ensures held { (t : Tests) (m : ℕ) → pieces_held t m result ≡ 0 }
     {
         Pieces {
             items: VecDeque::new(alloc),
@@ -322,7 +322,7 @@ impl Pieces {
         ensures count { IfOk result (λ c. (length self.new ≡ length self.old) × (length c ≡ length self.old)) }
         ensures sizes { IfOk result (λ c. (size_of self.new ≡ size_of self.old) × (size_of c ≡ size_of self.old)) }
         ensures bytes { IfOk result (λ c. (bytes_of self.new ≡ bytes_of self.old) × (bytes_of c ≡ bytes_of self.old)) }
-        ensures sums { IfOk result (λ c. (t : ℕ × ℕ → Bool) (m : ℕ) → pieces_held t m self.new + pieces_held t m c ≡ pieces_held t m self.old) }
+        ensures sums { IfOk result (λ c. (t : Tests) (m : ℕ) → pieces_held t m self.new + pieces_held t m c ≡ pieces_held t m self.old) }
     {
         if self.is_worn() {
             return Err(ShareFault::Worn);
@@ -346,16 +346,16 @@ impl Pieces {
         })
     }
 
-    /// Keeps the first `at` bytes, and answers the rest. `Short` exactly where `at > len()`; then `Worn` exactly where `at`
-    /// falls inside a piece whose part weighs 1; then memory. Of a part that is cut the front keeps `max(1, weight / 4096)`,
-    /// and the rest what remains. A refusal changes nothing.
+    /// Keeps the first `at` bytes, and answers the rest, as std's `split_off` does. `Short` exactly where `at > len()`; then
+    /// `Worn` exactly where `at` falls inside a piece whose part weighs 1; then memory. Of a part that is cut the front keeps
+    /// `max(1, weight / 4096)`, and the rest what remains. A refusal changes nothing.
     pub fn split_at(&mut self, at: usize) -> Result<Pieces, ShareFault>
         ensures split { IsSplit at self.old self.new result }
         ensures same { IfErr result (λ _. self.new ≡ self.old) }
         ensures count { IfOk result (λ c. length self.new + length c ≤ length self.old + 1) }
         ensures sizes { IfOk result (λ c. size_of self.new + size_of c ≡ size_of self.old) }
         ensures bytes { IfOk result (λ c. (bytes_of self.old ≡ bytes_of self.new ++ bytes_of c) × (size_of self.new ≡ at)) }
-        ensures sums { IfOk result (λ c. (t : ℕ × ℕ → Bool) (m : ℕ) → pieces_held t m self.new + pieces_held t m c ≡ pieces_held t m self.old) }
+        ensures sums { IfOk result (λ c. (t : Tests) (m : ℕ) → pieces_held t m self.new + pieces_held t m c ≡ pieces_held t m self.old) }
     {
         if self.size < at {
             return Err(ShareFault::Short {

@@ -11,7 +11,7 @@ use denote.RawPtr.{Ptr, block_ptr, null_ptr}
 use denote.Steps.{nothing}
 use base.Stored.{Gv}
 use Rattle.ref_core.specs.WeightRule.{full_weight}
-use Rattle.raw_block.specs.Views.{Life}
+use Rattle.raw_block.specs.Views.{LifeNames}
 use Rattle.raw_block.specs.Shares.{was}
 use Rattle.raw_block.specs.Heap.{heap_owns}
 use Rattle.raw_block.specs.contracts.block.Block.{the_row}
@@ -38,7 +38,7 @@ module _ {M : Type 1} {𝓤 : Ura M} (𝓛 : Logic 𝓤) where
   abbrev pub Above : ℕ → ℕ → Type 0
   Above w n = (w < n) × (n ≤ full_weight)
 
-  module _ (R : RattleType) (b o : ℕ) (γ : Life) (x : R.Denot) (mark a w n : ℕ) (B : Fml) where
+  module _ (R : RattleType) (b o : ℕ) (γ : LifeNames) (x : R.Denot) (mark a w n : ℕ) (B : Fml) where
     hit : n ≡ w → (y : Bool) → ⟦ told R b o γ x mark a w B n y ⟧ ⊢ H.⇛ ⟦ block R b o 0 x ⟧
     hit same true = qed 𝓛 (‵ (told R b o γ x mark a w B n true) ∷ []) ∵ fsplit ! $ drop ! $ by ! (regained 𝓛 R b o x mark γ a w)
     hit same false = qed 𝓛 (‵ (told R b o γ x mark a w B n false) ∷ []) ∵ fsplit ! $ fpick ! (λ h. let l = h.0 in absurd (omega arith))
@@ -47,7 +47,7 @@ module _ {M : Type 1} {𝓤 : Ura M} (𝓛 : Logic 𝓤) where
     miss other true = qed 𝓛 (‵ (told R b o γ x mark a w B n true) ∷ []) ∵ fsplit ! $ fpick ! (λ h. absurd (other h))
     miss other false = qed 𝓛 (‵ (told R b o γ x mark a w B n false) ∷ []) ∵ fsplit ! $ fpick ! (λ h. check ! h $ drop ! $ done !)
 
-  module _ (R : RattleType) (γ : Life) (x : R.Denot) (mark w n : ℕ) where
+  module _ (R : RattleType) (γ : LifeNames) (x : R.Denot) (mark w n : ℕ) where
     abbrev Whole : Ptr → Fml
     Whole p = heap_owns (the_row R) p (record { word = 0; content = x })
 

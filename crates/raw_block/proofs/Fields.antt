@@ -18,7 +18,7 @@ use denote.Shadow.{makes_shadow}
 use denote.Struct.Laws.{RawPtr-copy}
 use denote.Struct.Struct.{Struct}
 use denote.Struct.Owning.{shape}
-use Rattle.raw_block.specs.Views.{Life}
+use Rattle.raw_block.specs.Views.{LifeNames}
 use Rattle.raw_block.specs.Shares.{share_owns, share_shares, released_owns, claimed_owns}
 use Rattle.raw_block.specs.Heap.{may_free, heap_owns}
 use Rattle.raw_block.specs.contracts.heap.OnHeap as on_heap
@@ -27,6 +27,8 @@ use Rattle.raw_block.specs.contracts.share.AfterClaim as after_claim
 use Rattle.raw_block.specs.contracts.share.GivenBack as given_back
 use Rattle.raw_block.specs.contracts.share.WordSeen as word_seen
 use Rattle.raw_block.specs.contracts.share.Share as share
+use Rattle.raw_block.specs.contracts.name.Name as name
+use Rattle.raw_block.specs.contracts.name.NameSeen as name_seen
 
 abbrev pub alone : Ptr → Val
 alone p = vstruct (vcons (ptr_val p) vnil)
@@ -64,7 +66,7 @@ module _ {M : Type 1} {𝓤 : Ura M} (𝓛 : Logic 𝓤) (R : RattleType) where
   heap_placed (block_ptr b o) x = fact_i 𝓤 (Unit {0}) _ tt
   heap_placed null_ptr x = via 𝓤 (never 𝓤) (fst∗ 𝓤 (never 𝓤) (sem 𝓛 (may_free (bare (lone R.mir)) null_ptr))) (never_e 𝓤 _)
 
-  pub owns_placed : (p : Ptr) (γ : Life) (x : R.Denot) (mark w : ℕ) → ent 𝓤 (sem 𝓛 (share_owns R p γ x mark w)) (fact 𝓤 (InBlock p))
+  pub owns_placed : (p : Ptr) (γ : LifeNames) (x : R.Denot) (mark w : ℕ) → ent 𝓤 (sem 𝓛 (share_owns R p γ x mark w)) (fact 𝓤 (InBlock p))
   owns_placed (block_ptr b o) γ x mark w = fact_i 𝓤 (Unit {0}) _ tt
   owns_placed null_ptr γ x mark w = never_e 𝓤 _
 
@@ -93,11 +95,11 @@ module _ (R : RattleType) where
   claimed_made 𝓛 p = makes_shadow 𝓛 (Claimed_words.own_val (p, tt) (alone p ∷ [])) (λ vss. (tt, (tt, tt))) ((ptr_val p ∷ [], tt), (refl, (refl, tt)))
 
 module _ {M : Type 1} {𝓤 : Ura M} (𝓛 : Logic 𝓤) (R : RattleType) where
-  pub released_placed : (p : Ptr) (γ : Life) (x : R.Denot) (mark w n : ℕ) → ent 𝓤 (sem 𝓛 (released_owns R p γ x mark w n)) (fact 𝓤 (InBlock p))
+  pub released_placed : (p : Ptr) (γ : LifeNames) (x : R.Denot) (mark w n : ℕ) → ent 𝓤 (sem 𝓛 (released_owns R p γ x mark w n)) (fact 𝓤 (InBlock p))
   released_placed (block_ptr b o) γ x mark w n = fact_i 𝓤 (Unit {0}) _ tt
   released_placed null_ptr γ x mark w n = never_e 𝓤 _
 
-  pub claimed_placed : (p : Ptr) (γ : Life) (x : R.Denot) (mark w n : ℕ) → ent 𝓤 (sem 𝓛 (claimed_owns R p γ x mark w n)) (fact 𝓤 (InBlock p))
+  pub claimed_placed : (p : Ptr) (γ : LifeNames) (x : R.Denot) (mark w n : ℕ) → ent 𝓤 (sem 𝓛 (claimed_owns R p γ x mark w n)) (fact 𝓤 (InBlock p))
   claimed_placed (block_ptr b o) γ x mark w n = fact_i 𝓤 (Unit {0}) _ tt
   claimed_placed null_ptr γ x mark w n = never_e 𝓤 _
 
@@ -117,3 +119,9 @@ given_back_made 𝓛 = makes_shadow 𝓛 ((Struct (shape given_back.the_type)).o
 
 pub word_seen_made : {M : Type 1} {𝓤 : Ura M} (𝓛 : Logic 𝓤) → ent 𝓤 (emp 𝓤) (sem 𝓛 ((Struct (shape word_seen.the_type)).own_val tt (none ∷ [])))
 word_seen_made 𝓛 = makes_shadow 𝓛 ((Struct (shape word_seen.the_type)).own_val tt (none ∷ [])) (λ vss. (tt, tt)) (tt, (refl, tt))
+
+pub name_made : {M : Type 1} {𝓤 : Ura M} (𝓛 : Logic 𝓤) → ent 𝓤 (emp 𝓤) (sem 𝓛 ((Struct (shape name.the_type)).own_val tt (none ∷ [])))
+name_made 𝓛 = makes_shadow 𝓛 ((Struct (shape name.the_type)).own_val tt (none ∷ [])) (λ vss. (tt, tt)) (tt, (refl, tt))
+
+pub name_seen_made : {M : Type 1} {𝓤 : Ura M} (𝓛 : Logic 𝓤) → ent 𝓤 (emp 𝓤) (sem 𝓛 ((Struct (shape name_seen.the_type)).own_val tt (none ∷ [])))
+name_seen_made 𝓛 = makes_shadow 𝓛 ((Struct (shape name_seen.the_type)).own_val tt (none ∷ [])) (λ vss. (tt, tt)) (tt, (refl, tt))

@@ -17,7 +17,7 @@ use denote.Steps.{nothing}
 use denote.Struct.Lending.{Lends, Lends-false}
 use Rattle.core.proofs.cell.Borrows.{by_one}
 use Rattle.ref_core.specs.WeightRule.{full_weight}
-use Rattle.raw_block.specs.Views.{Life}
+use Rattle.raw_block.specs.Views.{LifeNames}
 use Rattle.raw_block.specs.Shares.{about, entry, kept, offset, seen, Inv, owned, share_at, share_owns, share_shares}
 use Rattle.raw_block.proofs.Entries.{kept_in}
 
@@ -42,7 +42,7 @@ module _ {M : Type 1} {𝓤 : Ura M} (𝓛 : Logic 𝓤) where
 
   infix 26 ◌⊢◌
   infixr 35 ◌∗◌
-  module _ (R : RattleType) (L : RowLaws R) (b o : ℕ) (γ : Life) (x : R.Denot) (mark w : ℕ) (κ : Lft) where
+  module _ (R : RattleType) (L : RowLaws R) (b o : ℕ) (γ : LifeNames) (x : R.Denot) (mark w : ℕ) (κ : Lft) where
     abbrev P : Fml
     P = share_at R b o γ x mark w
 
@@ -70,6 +70,6 @@ module _ {M : Type 1} {𝓤 : Ura M} (𝓛 : Logic 𝓤) where
         use1 𝓛 (‵ (V (a ++ κ))) (shortens 𝓛 V (L x b (o + offset R)) a (a ++ κ) (meet_⊑_left a κ)) $ move ! (1 ∷ 0 ∷ []) $
         use2 𝓛 (‵ (V κ)) (moves 𝓛 V (L x b (o + offset R)) κ a) $ now ! $ keep ! (0 ∷ 2 ∷ []) $ done !))))
 
-  pub lends_share : (R : RattleType) → RowLaws R → (l : Lft) (p : Ptr) (γ : Life) (x : R.Denot) (mark w : ℕ) → Lends 𝓛 (share_owns R p γ x mark w) (share_shares R p x) l
+  pub lends_share : (R : RattleType) → RowLaws R → (l : Lft) (p : Ptr) (γ : LifeNames) (x : R.Denot) (mark w : ℕ) → Lends 𝓛 (share_owns R p γ x mark w) (share_shares R p x) l
   lends_share R L l null_ptr γ x mark w = Lends-false 𝓛 (share_shares R null_ptr x) l
   lends_share R L l (block_ptr b o) γ x mark w = λ κ ts inc sp. by_one 𝓛 κ ts sp (A.bor κ (share_at R b o γ x mark w)) ⟦ seen R b o x κ ⟧ (lends_seen R L b o γ x mark w κ)

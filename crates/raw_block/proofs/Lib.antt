@@ -3,6 +3,7 @@ mod Endings
 mod Entries
 mod Fields
 mod Lending
+mod Naming
 mod Opening
 mod Ranges
 mod Sent

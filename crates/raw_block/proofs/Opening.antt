@@ -29,7 +29,7 @@ use Rattle.core.proofs.tally.Steps.{word_out, word_in}
 use types.Growing.{latest_new}
 use base.Growing.{latest}
 use Rattle.ref_core.specs.WeightRule.{full_weight, IsBalanced}
-use Rattle.raw_block.specs.Views.{Life}
+use Rattle.raw_block.specs.Views.{LifeNames}
 use Rattle.raw_block.specs.Shares.{Log}
 use Rattle.raw_block.specs.Heap.{may_free}
 use Rattle.raw_block.specs.contracts.block.Block.{the_row}
@@ -95,7 +95,7 @@ module _ {M : Type 1} {𝓤 : Ura M} (𝓛 : Logic 𝓤) where
 
   module _ (R : RattleType) (b o : ℕ) (x : R.Denot) (mark : ℕ) where
     -- the last share's holder has the block again
-    pub regained : (γ : Life) (a w : ℕ) → ⟦ freed R b o γ x mark a w ⟧ ⊢ H.⇛ ⟦ block R b o 0 x ⟧
+    pub regained : (γ : LifeNames) (a w : ℕ) → ⟦ freed R b o γ x mark a w ⟧ ⊢ H.⇛ ⟦ block R b o 0 x ⟧
     regained γ a w = let W : ℕ → Pr = λ n. ⟦ fwand (fsep (word b (o + 0) n) (content_at R b o x)) (block R b o n x) ⟧ in
         qed 𝓛 (‵ (freed R b o γ x mark a w) ∷ []) ∵ updating ! $ fsplit3 ! $ move ! (1 ∷ 2 ∷ []) $ move ! (1 ∷ []) $ fsplit ! $ move ! (2 ∷ 0 ∷ []) $ lent_back ! tt $
         -- [the content; the way back; the word]
@@ -103,12 +103,12 @@ module _ {M : Type 1} {𝓤 : Ura M} (𝓛 : Logic 𝓤) where
         use2 𝓛 (‵ (block R b o 0 x)) (apply∗ 𝓤 ⟦ fsep (word b (o + 0) 0) (content_at R b o x) ⟧ ⟦ block R b o 0 x ⟧) $ now ! $ done !
 
     abbrev pub Begun : Fml
-    Begun = fex Life (λ γ. share_at R b o γ x mark full_weight)
+    Begun = fex LifeNames (λ γ. share_at R b o γ x mark full_weight)
 
     pub begins : (l : Lft) → Shares 𝓛 R l → (μ : Lft) (q : Share) → Incl μ l → ⟦ word b (o + 0) full_weight ⟧ ∗ ⟦ content_at R b o x ⟧ ∗ ⟦ whole_with R b o x ⟧ ∗ A.lft μ q ⊢ H.⇛ (⟦ Begun ⟧ ∗ A.lft μ q)
     begins l shares μ q inc = qed 𝓛 (‵ (word b (o + 0) full_weight) ∷ ‵ (content_at R b o x) ∷ ‵ (whole_with R b o x) ∷ ‵ (flft μ q) ∷ []) ∵ updating ! $ lft_new ! tt (λ a. let κ : Lft = a ∷ [] in
         use0 𝓛 (later (some (λ (γ : GName). ‵ (entry γ full_weight (full_weight - 1) (about R x mark a))))) (via 𝓤 _ (entry_new 𝓛 full_weight (full_weight - 1) (about R x mark a)) (basic 𝓛 (ex 𝓤 (λ (γ : GName). ⟦ entry γ full_weight (full_weight - 1) (about R x mark a) ⟧)))) $ await ! tt $ pick ! (λ g.
-        use0 𝓛 (later (some (λ (δ : GName). ‵ (latest Log full_share δ (full_weight ∷ []))))) (via 𝓤 _ (latest_new Log 𝓛 (full_weight ∷ [])) (basic 𝓛 (ex 𝓤 (λ (δ : GName). ⟦ latest Log full_share δ (full_weight ∷ []) ⟧)))) $ await ! tt $ pick ! (λ δ. let γ : Life = (g, δ) in
+        use0 𝓛 (later (some (λ (δ : GName). ‵ (latest Log full_share δ (full_weight ∷ []))))) (via 𝓤 _ (latest_new Log 𝓛 (full_weight ∷ [])) (basic 𝓛 (ex 𝓤 (λ (δ : GName). ⟦ latest Log full_share δ (full_weight ∷ []) ⟧)))) $ await ! tt $ pick ! (λ δ. let γ : LifeNames = (g, δ) in
         fpack ! (List ℕ) (λ k. latest Log full_share δ (k ++ (full_weight ∷ []))) [] $ move ! (1 ∷ 2 ∷ 3 ∷ 4 ∷ 5 ∷ 6 ∷ []) $
         use1 𝓛 (‵ (entry γ.0 (full_weight - full_weight) (full_weight - 1) (about R x mark a)) ⊛ ‵ (entry γ.0 full_weight 0 (about R x mark a))) (entry_cut 𝓛 γ.0 (about R x mark a) (full_weight - full_weight) full_weight full_weight (full_weight - 1) 0 (full_weight - 1) (omega arith) (omega arith) (omega arith) (omega arith)) $ split ! $
         -- [the entry; my entry; the token; the word; the content; the way back; the token of μ]
@@ -126,4 +126,4 @@ module _ {M : Type 1} {𝓤 : Ura M} (𝓛 : Logic 𝓤) where
         use2 𝓛 (later (‵ (seen R b o x κ) ⊛ ‵ (flft κ s) ⊛ ‵ (flft μ q))) (shares x κ ((κ, s) ∷ (μ, q) ∷ []) b (o + offset R) (Incl-trans (meet_⊑_right κ μ) inc) (meet_⊑_left κ μ)) $ await ! tt $ split3 ! $
         -- [seen; the token; the token of μ; the invariant; my entry]
         move ! (1 ∷ []) $ use1 𝓛 (‵ (kept a full_weight)) (kept_in 𝓛 a full_weight s c) $ move ! (4 ∷ 0 ∷ []) $ fjoin ! $ move ! (3 ∷ 0 ∷ 1 ∷ []) $ fjoin3 ! $ fpack ! ℕ (λ u. owned R b o γ x mark u full_weight) a $
-        nothing ! $ fpack ! ((0 < full_weight) × (full_weight ≤ full_weight)) (λ _. ftrue) (omega arith, omega arith) $ fjoin ! $ fpack ! Life (λ g. share_at R b o g x mark full_weight) γ $ now ! $ done !)))))
+        nothing ! $ fpack ! ((0 < full_weight) × (full_weight ≤ full_weight)) (λ _. ftrue) (omega arith, omega arith) $ fjoin ! $ fpack ! LifeNames (λ g. share_at R b o g x mark full_weight) γ $ now ! $ done !)))))

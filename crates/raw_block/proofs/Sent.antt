@@ -12,7 +12,7 @@ use denote.Param.Send.{IsSend, IsSync, part_keyless, sendable}
 use Rattle.std.proofs.Crossing.{frees}
 use Rattle.raw_block.specs.contracts.block.Block as blocks
 use base.Growing.{latest, at_least}
-use Rattle.raw_block.specs.Views.{Life}
+use Rattle.raw_block.specs.Views.{LifeNames}
 use Rattle.raw_block.specs.Shares.{reached, was, offset, block, beside_word, alive, share_at, share_owns, share_shares}
 
 pub reached_keyless : (δ : GName) (w : ℕ) → Keyless (reached δ w)
@@ -26,7 +26,7 @@ was_keyless δ n = λ h. tt
 block_send : (R : RattleType) → IsSend R → IsSend (blocks.the_row R)
 block_send R s = search sendable
 
-module _ (R : RattleType) (s : IsSend R) (y : IsSync R) (b o : ℕ) (γ : Life) (x : R.Denot) (mark : ℕ) where
+module _ (R : RattleType) (s : IsSend R) (y : IsSync R) (b o : ℕ) (γ : LifeNames) (x : R.Denot) (mark : ℕ) where
   block_keyless : (w : ℕ) → Keyless (block R b o w x)
   block_keyless w = (part_keyless (blocks.the_row R) (block_send R s) full_share (record { word = w; content = x }) b o, frees.frees (record { memory = record { seal = tt } }) (bare (lone (blocks.the_row R).mir)) (block_ptr b o))
 
@@ -43,7 +43,7 @@ module _ (R : RattleType) (s : IsSend R) (y : IsSync R) (b o : ℕ) (γ : Life) 
   share_keyless : (w : ℕ) → Keyless (share_at R b o γ x mark w)
   share_keyless w = ((λ _. tt), λ a. (alive_keyless a, ((tt, λ e c. tt), y.shared x b (o + offset R) (a ∷ []))))
 
-pub shares_keyless : (R : RattleType) → IsSend R → IsSync R → (p : Ptr) (γ : Life) (x : R.Denot) (mark w : ℕ) → Keyless (share_owns R p γ x mark w)
+pub shares_keyless : (R : RattleType) → IsSend R → IsSync R → (p : Ptr) (γ : LifeNames) (x : R.Denot) (mark w : ℕ) → Keyless (share_owns R p γ x mark w)
 shares_keyless R s y (block_ptr b o) γ x mark w = share_keyless R s y b o γ x mark w
 shares_keyless R s y null_ptr γ x mark w = tt
 

@@ -12,7 +12,7 @@ use denote.SharingLaws.{contraction}
 use denote.Steps.{nothing}
 use base.Stored.{Gv}
 use Rattle.ref_core.specs.WeightRule.{full_weight}
-use Rattle.raw_block.specs.Views.{Life}
+use Rattle.raw_block.specs.Views.{LifeNames}
 use Rattle.raw_block.specs.Shares.{About, about, entry, kept, offset, seen, Inv, owned, share_at, share_owns, given_back_owns}
 use Rattle.raw_block.proofs.Entries.{kept_cut, kept_glue, entry_cut, Fit, entry_glue}
 
@@ -31,7 +31,7 @@ module _ {M : Type 1} {𝓤 : Ura M} (𝓛 : Logic 𝓤) where
 
   infix 26 ◌⊢◌
   infixr 35 ◌∗◌
-  module _ (R : RattleType) (b o : ℕ) (γ : Life) (x : R.Denot) (mark : ℕ) where
+  module _ (R : RattleType) (b o : ℕ) (γ : LifeNames) (x : R.Denot) (mark : ℕ) where
     abbrev S : ℕ → Fml
     S = share_at R b o γ x mark
 
@@ -68,21 +68,21 @@ module _ {M : Type 1} {𝓤 : Ura M} (𝓛 : Logic 𝓤) where
           -- [the parts; the entry; seen; the invariant; seen]
           move ! (3 ∷ 1 ∷ 0 ∷ 4 ∷ []) $ keep ! (0 ∷ 1 ∷ 2 ∷ 3 ∷ []) $ by ! (packs a (w + v) (omega arith) (omega arith))))))
 
-  pub shares_cut : (R : RattleType) → RowLaws R → (p : Ptr) (γ : Life) (x : R.Denot) (mark w g : ℕ) → 0 < g → g < w → ⟦ share_owns R p γ x mark w ⟧ ⊢ ⟦ share_owns R p γ x mark (w - g) ⟧ ∗ ⟦ share_owns R p γ x mark g ⟧
+  pub shares_cut : (R : RattleType) → RowLaws R → (p : Ptr) (γ : LifeNames) (x : R.Denot) (mark w g : ℕ) → 0 < g → g < w → ⟦ share_owns R p γ x mark w ⟧ ⊢ ⟦ share_owns R p γ x mark (w - g) ⟧ ∗ ⟦ share_owns R p γ x mark g ⟧
   shares_cut R L (block_ptr b o) γ x mark w g some less = share_cut R b o γ x mark L w g some less
   shares_cut R L null_ptr γ x mark w g some less = never_e 𝓤 _
 
   abbrev pub Agreed : {X : Type 0} → X → X → ℕ → ℕ → ℕ → ℕ → Type 0
   Agreed x x' mark mark' w v = (w + v ≤ full_weight) × (mark' ≡ mark) × (x' ≡ x)
 
-  pub shares_join : (R : RattleType) (p p' : Ptr) (γ : Life) (x x' : R.Denot) (mark mark' w v : ℕ)
+  pub shares_join : (R : RattleType) (p p' : Ptr) (γ : LifeNames) (x x' : R.Denot) (mark mark' w v : ℕ)
       → ⟦ share_owns R p γ x mark w ⟧ ∗ ⟦ share_owns R p' γ x' mark' v ⟧ ⊢ guard 𝓤 (Agreed x x' mark mark' w v) ⟦ share_owns R p γ x mark (w + v) ⟧
   shares_join R (block_ptr b o) (block_ptr b' o') γ x x' mark mark' w v = share_join R b o γ x mark b' o' x' mark' w v
   shares_join R (block_ptr b o) null_ptr γ x x' mark mark' w v = via 𝓤 (never 𝓤) (snd∗ 𝓤 ⟦ share_owns R (block_ptr b o) γ x mark w ⟧ (never 𝓤)) (never_e 𝓤 _)
   shares_join R null_ptr p' γ x x' mark mark' w v = via 𝓤 (never 𝓤) (fst∗ 𝓤 (never 𝓤) ⟦ share_owns R p' γ x' mark' v ⟧) (never_e 𝓤 _)
 
   -- what was given back adds up, to less than the whole
-  pub given_back_join : (γ : Life) (mark mark' r s : ℕ) → ⟦ given_back_owns γ mark r ⟧ ∗ ⟦ given_back_owns γ mark' s ⟧ ⊢ guard 𝓤 ((r + s < full_weight) × (mark' ≡ mark)) ⟦ given_back_owns γ mark (r + s) ⟧
+  pub given_back_join : (γ : LifeNames) (mark mark' r s : ℕ) → ⟦ given_back_owns γ mark r ⟧ ∗ ⟦ given_back_owns γ mark' s ⟧ ⊢ guard 𝓤 ((r + s < full_weight) × (mark' ≡ mark)) ⟦ given_back_owns γ mark (r + s) ⟧
   given_back_join γ mark mark' r s = qed 𝓛 (‵ (given_back_owns γ mark r) ∷ ‵ (given_back_owns γ mark' s) ∷ []) ∵ fsplit ! $ fpick ! (λ h. let h₀ = h.0 in drop ! $ fpick ! (λ f. move ! (1 ∷ []) $ fsplit ! $ drop ! $ fpick ! (λ g. move ! (1 ∷ 0 ∷ []) $
       let F : About = ((f.0, mark), f.1) in let G : About = ((g.0, mark'), g.1) in
       use2 𝓛 (given (Fit 𝓛 γ.0 F G 0 0 r s) (‵ (entry γ.0 0 (r + s) F))) (entry_glue 𝓛 γ.0 F G 0 0 r s) $ learn ! (λ fit. let top = fit.2 in let less : r + s < full_weight = omega arith in

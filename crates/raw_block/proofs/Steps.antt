@@ -21,11 +21,11 @@ use types.Growing.{latest_grows, latest_shows}
 use base.Growing.{latest, at_least}
 use mathlib.Core.List.{prefix-append}
 use Rattle.ref_core.specs.WeightRule.{full_weight, IsBalanced}
-use Rattle.raw_block.specs.Views.{Life}
+use Rattle.raw_block.specs.Views.{LifeNames}
 use Rattle.raw_block.specs.Shares.{About, about, Log, reached, was, entry, kept, beside_word, state, alive, Inv, held, freed, told, tells}
 use Rattle.raw_block.proofs.Entries.{kept_glue, kept_whole, entry_cut, Fit, entry_glue}
 
-module _ {M : Type 1} {𝓤 : Ura M} (𝓛 : Logic 𝓤) (R : RattleType) (b o : ℕ) (γ : Life) (x : R.Denot) (mark a : ℕ) where
+module _ {M : Type 1} {𝓤 : Ura M} (𝓛 : Logic 𝓤) (R : RattleType) (b o : ℕ) (γ : LifeNames) (x : R.Denot) (mark a : ℕ) where
   open 𝓛 use {H, A}
 
   abbrev Pr : Type 2

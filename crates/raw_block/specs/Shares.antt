@@ -29,7 +29,7 @@ use denote.Sharing.{said}
 use Rattle.core.specs.Sync.RawAtomic.{word}
 use Rattle.ref_core.specs.WeightRule.{full_weight, IsBalanced, IsWeight}
 use Rattle.raw_block.specs.Heap.{heap_owns}
-use Rattle.raw_block.specs.Views.{Life}
+use Rattle.raw_block.specs.Views.{LifeNames}
 use Rattle.raw_block.specs.contracts.block.Block.{the_row}
 
 -- ---- the entries of a life
@@ -115,7 +115,7 @@ module _ (R : RattleType) (b o : ℕ) where
   abbrev pub whole_with : R.Denot → Fml
   whole_with x = fall ℕ (λ w. fwand (fsep (word b (o + 0) w) (content_at x)) (block w x))
 
-  module _ (γ : Life) (x : R.Denot) (mark a : ℕ) where
+  module _ (γ : LifeNames) (x : R.Denot) (mark a : ℕ) where
     -- what lies beside the word w
     abbrev pub beside_word : ℕ → Fml
     beside_word w = fsep (reached γ.1 w) (fsep (fact (IsBalanced w (full_weight - w))) (fsep (entry γ.0 (full_weight - w) (w - 1) (about R x mark a)) (fsep (kept a (2 ^ 63 - w)) (fsep (flent (a ∷ []) (content_at x)) (whole_with x)))))
@@ -137,11 +137,11 @@ module _ (R : RattleType) (b o : ℕ) where
     abbrev pub owned : ℕ → Fml
     owned w = fsep (finv Inv) (fsep (held w) (seen x (a ∷ [])))
 
-  abbrev pub share_at : Life → R.Denot → ℕ → ℕ → Fml
+  abbrev pub share_at : LifeNames → R.Denot → ℕ → ℕ → Fml
   share_at γ x mark w = fsep (fact (IsWeight w)) (fex ℕ (λ a. owned γ x mark a w))
 
 -- a share of weight w, of the life γ with the content x and this mark
-abbrev pub share_owns : (R : RattleType) → Ptr → Life → R.Denot → ℕ → ℕ → Fml
+abbrev pub share_owns : (R : RattleType) → Ptr → LifeNames → R.Denot → ℕ → ℕ → Fml
 share_owns R (block_ptr b o) γ x mark w = share_at R b o γ x mark w
 share_owns R null_ptr γ x mark w = ffalse
 
@@ -151,12 +151,12 @@ share_shares R (block_ptr b o) x = seen R b o x
 share_shares R null_ptr x = said ffalse
 
 -- that r was given back in the life γ with this mark, by one release or by several
-abbrev pub given_back_owns : Life → ℕ → ℕ → Fml
+abbrev pub given_back_owns : LifeNames → ℕ → ℕ → Fml
 given_back_owns γ mark r = fsep (fact ((0 < r) × (r + 1 ≤ full_weight))) (fex (ℕ × Gv) (λ f. entry γ.0 0 r ((f.0, mark), f.1)))
 
 -- ---- what a step leaves its caller: where it found the caller's own weight w the life has ended, and else `back`
 
-module _ (R : RattleType) (b o : ℕ) (γ : Life) (x : R.Denot) (mark a w : ℕ) where
+module _ (R : RattleType) (b o : ℕ) (γ : LifeNames) (x : R.Denot) (mark a w : ℕ) where
   abbrev pub freed : Fml
   freed = fsep (word b (o + 0) 0) (fsep (fdead (a ∷ [])) (fsep (flent (a ∷ []) (content_at R b o x)) (whole_with R b o x)))
 
@@ -167,21 +167,21 @@ module _ (R : RattleType) (b o : ℕ) (γ : Life) (x : R.Denot) (mark a w : ℕ)
   abbrev pub tells : Fml → ℕ → Fml
   tells back n = fex Bool (told back n)
 
-module _ (R : RattleType) (b o : ℕ) (γ : Life) (x : R.Denot) (mark w n : ℕ) where
+module _ (R : RattleType) (b o : ℕ) (γ : LifeNames) (x : R.Denot) (mark w n : ℕ) where
   abbrev pub released_at : Fml
   released_at = fsep (fact (IsWeight w)) (fex ℕ (λ a. tells R b o γ x mark a w (entry γ.0 0 w (about R x mark a)) n))
 
   abbrev pub claimed_at : Fml
   claimed_at = fsep (fact (IsWeight w)) (fex ℕ (λ a. fsep (finv (Inv R b o γ x mark a)) (fsep (seen R b o x (a ∷ [])) (tells R b o γ x mark a w (fsep (held R b o γ x mark a w) (was γ.1 n)) n))))
 
-abbrev pub released_owns : (R : RattleType) → Ptr → Life → R.Denot → ℕ → ℕ → ℕ → Fml
+abbrev pub released_owns : (R : RattleType) → Ptr → LifeNames → R.Denot → ℕ → ℕ → ℕ → Fml
 released_owns R (block_ptr b o) γ x mark w n = released_at R b o γ x mark w n
 released_owns R null_ptr γ x mark w n = ffalse
 
-abbrev pub claimed_owns : (R : RattleType) → Ptr → Life → R.Denot → ℕ → ℕ → ℕ → Fml
+abbrev pub claimed_owns : (R : RattleType) → Ptr → LifeNames → R.Denot → ℕ → ℕ → ℕ → Fml
 claimed_owns R (block_ptr b o) γ x mark w n = claimed_at R b o γ x mark w n
 claimed_owns R null_ptr γ x mark w n = ffalse
 
 -- that the word of the life was n
-abbrev pub seen_owns : Life → ℕ → Fml
+abbrev pub seen_owns : LifeNames → ℕ → Fml
 seen_owns γ n = was γ.1 n

@@ -1,11 +1,18 @@
 -- What a contract sees of a block's holders.
 use Rattle.std.specs.Prelude.{ℕ, List}
 
--- A life of a block: from the sharing of its Sole to its next Sole. The names of its weights and of its word's log.
-abbrev pub Life : Type 0
-Life = ℕ × ℕ
+-- the names of a life's entries and of its word's log
+abbrev pub LifeNames : Type 0
+LifeNames = ℕ × ℕ
 
+-- a life of a block, from the sharing of its Sole to its next Sole
+pub record Life : Type 0 where
+  pub names : LifeNames
+  pub block : ℕ
+
+-- the block is told by its name, which it has from its making on
 pub record SoleState : Type 0 where
+  pub block : ℕ
   pub bytes : List ℕ
   pub mark : ℕ
 

@@ -13,6 +13,11 @@
 //! `FULL` is never refused (`whole`), nor is a reunion. Holders of one life agree on its bytes and its mark (`agree` of
 //! `join`, `add`, `reunite`). The rule of weights is that of `ref_core`, and `specs/Shares.antt` says who owns what.
 //!
+//! A block has a name, which contracts alone see: a number that is chosen as the block is made. Its Soles, parts, receipts
+//! and sights show it through all lives, and no two live blocks have the same (`Sole::differ`).
+//!
+//! Not said: how many steps on the word a call takes. `Share::release`, `claim` and `reunite` are one each, in one line.
+//!
 //! ```
 //! let mut sole = Sole::new(alloc)?;
 //! sole.bytes_mut()[0] = 1;
@@ -27,6 +32,7 @@
 
 mod block;
 mod heap;
+mod name;
 mod part;
 mod receipt;
 mod share;

@@ -3,7 +3,7 @@ ghost use Rattle.std.specs.Prelude.{◌≡◌, ◌+◌, ◌<◌, ◌≤◌, ◌-
 ghost use Rattle.ref_core.specs.WeightRule.{full_weight};
 ghost use Rattle.raw_block.specs.Answers.{IsReleased, IsLast, IsClaimed, IsSole};
 
-use crate::block::Bytes;
+use crate::block::Content;
 use crate::receipt::{Receipt, Sight};
 use crate::share::Share;
 use crate::sole::Sole;
@@ -12,7 +12,7 @@ use std::marker::Model;
 
 /// A holder of a block beside others, by a part of its weight. It must be spent: released, claimed, joined or reunited.
 pub struct Part {
-    pub(crate) share: Share<Bytes>,
+    pub(crate) share: Share<Content>,
     pub(crate) weight: u64,
     pub(crate) alloc: Global,
     pub(crate) mark: u32,
@@ -25,7 +25,7 @@ impl Model for Part {
 
     ghost Value = { PartState };
 
-    ghost view = { λ p. record { life = p.share.life; weight = p.weight; bytes = p.share.content.bytes; mark = p.mark } };
+    ghost view = { λ p. record { life = record { names = p.share.life; block = p.share.content.name.id }; weight = p.weight; bytes = p.share.content.bytes.bytes; mark = p.mark } };
 
     ghost invariant = { λ p. (p.share.weight ≡ p.weight) × (p.share.mark ≡ p.mark) × IsWeight p.weight };
 }
@@ -51,7 +51,7 @@ impl Part {
         ensures value { result.now ≡ self.now.bytes }
         ensures size { length result.now ≡ 2048 }
     {
-        &self.share.content().bytes
+        &self.share.content().bytes.bytes
     }
 
     pub fn weight(&self) -> u64
@@ -113,6 +113,7 @@ impl Part {
             alloc,
             mark,
         } = self;
+        let name = share.content().name.seen();
         let (found, after) = share.release(weight);
         if found == weight {
             Released::Last(Sole {
@@ -125,6 +126,7 @@ impl Part {
                 given_back: after.left(),
                 weight,
                 mark,
+                name,
             })
         }
     }
@@ -142,6 +144,7 @@ impl Part {
             alloc,
             mark,
         } = self;
+        let name = share.content().name.seen();
         let (found, after) = share.claim(weight);
         if found == weight {
             Claimed::Sole(Sole {
@@ -158,7 +161,11 @@ impl Part {
                     alloc,
                     mark,
                 },
-                Sight { seen, total: found },
+                Sight {
+                    seen,
+                    total: found,
+                    name,
+                },
             )
         }
     }
@@ -166,7 +173,7 @@ impl Part {
     /// The block back, from a part and a receipt that weigh `FULL` together: its compare-exchange cannot miss.
     pub fn reunite(self, receipt: Receipt) -> Sole
         requires { (receipt.life ≡ self.life) × (self.weight + receipt.weight ≡ full_weight) }
-        ensures sole { (result.bytes ≡ self.bytes) × (result.mark ≡ self.mark) }
+        ensures sole { (result.block ≡ self.life.block) × (result.bytes ≡ self.bytes) × (result.mark ≡ self.mark) }
         ensures agree { receipt.mark ≡ self.mark }
     {
         let Part {
@@ -179,6 +186,7 @@ impl Part {
             given_back,
             weight: _,
             mark: _,
+            name: _,
         } = receipt;
         let after = share.reunite(given_back, weight);
         Sole {

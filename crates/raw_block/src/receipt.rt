@@ -2,6 +2,7 @@
 ghost use Rattle.std.specs.Prelude.{◌≡◌, ◌+◌, ◌<◌};
 ghost use Rattle.ref_core.specs.WeightRule.{full_weight};
 
+use crate::name::NameSeen;
 use crate::share::{GivenBack, WordSeen};
 use std::marker::Model;
 
@@ -10,6 +11,7 @@ pub struct Receipt {
     pub(crate) given_back: GivenBack,
     pub(crate) weight: u64,
     pub(crate) mark: u32,
+    pub(crate) name: NameSeen,
 }
 
 impl Model for Receipt {
@@ -19,7 +21,7 @@ impl Model for Receipt {
 
     ghost Value = { ReceiptState };
 
-    ghost view = { λ r. record { life = r.given_back.life; weight = r.weight; mark = r.mark } };
+    ghost view = { λ r. record { life = record { names = r.given_back.life; block = r.name.id }; weight = r.weight; mark = r.mark } };
 
     ghost invariant = { λ r. (r.given_back.weight ≡ r.weight) × (r.given_back.mark ≡ r.mark) × (0 < r.weight) × (r.weight < full_weight) };
 }
@@ -49,6 +51,7 @@ impl Receipt {
             given_back,
             weight,
             mark: _,
+            name: _,
         } = other;
         self.given_back.add(given_back);
         self.weight += weight;
@@ -60,6 +63,7 @@ impl Receipt {
             given_back,
             weight: _,
             mark: _,
+            name: _,
         } = self;
         given_back.close();
     }
@@ -70,6 +74,7 @@ impl Receipt {
 pub struct Sight {
     pub(crate) seen: WordSeen,
     pub(crate) total: u64,
+    pub(crate) name: NameSeen,
 }
 
 impl Model for Sight {
@@ -78,7 +83,7 @@ impl Model for Sight {
 
     ghost Value = { SightState };
 
-    ghost view = { λ s. record { life = s.seen.life; total = s.total } };
+    ghost view = { λ s. record { life = record { names = s.seen.life; block = s.name.id }; total = s.total } };
 
     ghost invariant = { λ s. s.seen.total ≡ s.total };
 }

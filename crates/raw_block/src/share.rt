@@ -1,10 +1,11 @@
 //! A weighed share of a block, and what each step on the block's word leaves of it.
 //!
 //! The structs of this module hold nothing but an address. What they own stands in `specs/Shares.antt`, and the functions
-//! here are proved by hand against it. Three of them step the word, once each: `release`, `claim` and `reunite`.
+//! here are proved by hand against it. Three of them step the word, once each: `release`, `claim` and `reunite`. The steps are
+//! `SeqCst`, the one order that the toolchain has; on x86 a weaker one would be the same instruction.
 ghost use Rattle.std.specs.Prelude.{◌≡◌, ◌≢◌, ℕ, ◌+◌, ◌<◌, ◌≤◌};
 ghost use Rattle.ref_core.specs.WeightRule.{full_weight};
-ghost use Rattle.raw_block.specs.Views.{Life};
+ghost use Rattle.raw_block.specs.Views.{LifeNames};
 ghost use Rattle.raw_block.specs.Shares.{share_owns, share_shares, given_back_owns, released_owns, claimed_owns, seen_owns};
 
 use crate::block::Block;
@@ -19,7 +20,7 @@ use std::sync::atomic::raw;
 pub(crate) struct Share<T> {
     at: *mut Block<T>,
     ghost weight: { ℕ },
-    ghost life: { Life },
+    ghost life: { LifeNames },
     ghost mark: { ℕ },
     ghost content: { T },
 }
@@ -33,7 +34,7 @@ impl<T> Model for Share<T> {
 /// That a share of some weight was released in a life, and was not the last.
 pub(crate) struct GivenBack {
     ghost weight: { ℕ },
-    ghost life: { Life },
+    ghost life: { LifeNames },
     ghost mark: { ℕ },
 }
 
@@ -45,7 +46,7 @@ impl Model for GivenBack {
 #[derive(Drop)]
 pub(crate) struct WordSeen {
     ghost total: { ℕ },
-    ghost life: { Life },
+    ghost life: { LifeNames },
 }
 
 impl Model for WordSeen {
@@ -57,7 +58,7 @@ pub(crate) struct AfterRelease<T> {
     at: *mut Block<T>,
     ghost found: { ℕ },
     ghost weight: { ℕ },
-    ghost life: { Life },
+    ghost life: { LifeNames },
     ghost mark: { ℕ },
     ghost content: { T },
 }
@@ -71,7 +72,7 @@ pub(crate) struct AfterClaim<T> {
     at: *mut Block<T>,
     ghost found: { ℕ },
     ghost weight: { ℕ },
-    ghost life: { Life },
+    ghost life: { LifeNames },
     ghost mark: { ℕ },
     ghost content: { T },
 }

@@ -1,11 +1,12 @@
 //! The only holder of a block.
-ghost use Rattle.std.specs.Prelude.{◌≡◌, ◌+◌, ◌≤◌, length, replicate, slice_range, IfOk};
+ghost use Rattle.std.specs.Prelude.{◌≡◌, ◌≢◌, ◌+◌, ◌≤◌, length, replicate, slice_range, IfOk};
 ghost use Rattle.std.specs.Borrow.{sem};
 ghost use Rattle.ref_core.specs.WeightRule.{full_weight};
-ghost use Rattle.raw_block.specs.Lending.{lends_bytes, lends_content};
+ghost use Rattle.raw_block.specs.Lending.{lends_bytes, lends_bytes_of, lends_content};
 
-use crate::block::{Block, Bytes};
+use crate::block::{Block, Bytes, Content};
 use crate::heap::OnHeap;
+use crate::name::Name;
 use crate::part::Part;
 use crate::share::Share;
 use ref_core::{BLOCK_SIZE, FULL};
@@ -15,7 +16,7 @@ use std::marker::Model;
 /// A block that nobody else holds: the only one who may write its bytes.
 #[derive(Drop)]
 pub struct Sole {
-    pub(crate) block: Box<Block<Bytes>, Global>,
+    pub(crate) block: Box<Block<Content>, Global>,
     pub(crate) alloc: Global,
     pub(crate) mark: u32,
 }
@@ -25,16 +26,25 @@ impl Model for Sole {
 
     ghost Value = { SoleState };
 
-    ghost view = { λ s. record { bytes = s.block.value.content.bytes; mark = s.mark } };
+    ghost view = { λ s. record { block = s.block.value.content.name.id; bytes = s.block.value.content.bytes.bytes; mark = s.mark } };
+}
+
+// The bytes `from..to` of what a block holds, for writing.
+fn range_in(content: &mut Content, from: usize, to: usize) -> &mut [u8]
+    requires { (from ≤ to) × (to ≤ 2048) }
+    ensures* writes_back { sem 𝓛 (lends_bytes_of content.entry from result) }
+    ensures value { (result.now ≡ slice_range content.old.bytes.bytes from to) × (length result.now + from ≡ to) }
+{
+    content.bytes.range_mut(from, to)
 }
 
 // The bytes `from..to` of a block, for writing.
-fn range_of(block: &mut Block<Bytes>, from: usize, to: usize) -> &mut [u8]
+fn range_of(block: &mut Block<Content>, from: usize, to: usize) -> &mut [u8]
     requires { (from ≤ to) × (to ≤ 2048) }
     ensures* writes_back { sem 𝓛 (lends_content block.entry from result) }
-    ensures value { (result.now ≡ slice_range block.old.content.bytes from to) × (length result.now + from ≡ to) }
+    ensures value { (result.now ≡ slice_range block.old.content.bytes.bytes from to) × (length result.now + from ≡ to) }
 {
-    block.content.range_mut(from, to)
+    range_in(&mut block.content, from, to)
 }
 
 impl Sole {
@@ -49,7 +59,10 @@ impl Sole {
             alloc,
             Block {
                 word: 0,
-                content: bytes,
+                content: Content {
+                    bytes,
+                    name: Name::new(),
+                },
             },
         )?;
         Ok(Sole {
@@ -64,7 +77,7 @@ impl Sole {
         ensures value { result.now ≡ self.now.bytes }
         ensures size { length result.now ≡ 2048 }
     {
-        &self.block.content.bytes
+        &self.block.content.bytes.bytes
     }
 
     /// The 2048 bytes, for writing.
@@ -100,10 +113,21 @@ impl Sole {
         self.mark
     }
 
+    /// Two Soles that stand side by side are of two blocks.
+    pub fn differ(&mut self, other: &mut Sole)
+        ensures blocks { self.old.block ≢ other.old.block }
+        ensures same { (self.new ≡ self.old) × (other.new ≡ other.old) }
+    {
+        self.block
+            .content
+            .name
+            .differ(&mut other.block.content.name);
+    }
+
     /// A life of the block begins: one part with all the weight, the same bytes and the same mark.
     pub fn share(self) -> Part
         ensures whole { result.weight ≡ full_weight }
-        ensures same { (result.bytes ≡ self.bytes) × (result.mark ≡ self.mark) }
+        ensures same { (result.life.block ≡ self.block) × (result.bytes ≡ self.bytes) × (result.mark ≡ self.mark) }
     {
         let Sole {
             mut block,

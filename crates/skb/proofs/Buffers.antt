@@ -1,16 +1,16 @@
 -- How a buffer's calls keep its bytes and its account.
-use Rattle.std.proofs.Common.{◌≡◌, ℕ, ◌+◌, ◌-◌, ◌*◌, ◌<◌, ◌≤◌, List, [], ◌∷◌, ◌++◌, Bool, length, take, drop, slice_range, refl, ap, sym, append_assoc, ◌∙◌, zero, suc, get_or, arith, length-drop}
+use Rattle.std.proofs.Common.{◌≡◌, ℕ, ◌+◌, ◌-◌, ◌*◌, ◌<◌, ◌≤◌, List, [], ◌∷◌, ◌++◌, Bool, false, length, take, drop, slice_range, refl, ap, sym, append_assoc, ◌∙◌, zero, suc, get_or, arith, length-drop}
 use Rattle.std.proofs.lemmas.List.{length-take, drop-append-le, drop-take, drop-drop}
 use Rattle.std.proofs.Math.Seq.{drop-append-add, take-append-add, take-append_seam}
 use Rattle.std.proofs.lemmas.List.{append-nil, length-take-le, take-append-le, get_or_append_left, get_or-append_right}
 use Rattle.std.specs.Prelude.{Ok, ◌≢◌, cond, ◌==◌}
-use Rattle.std.proofs.lemmas.Bool.{cond_both}
+use Rattle.std.proofs.lemmas.Bool.{cond_both, true≢false}
 use borrow.Author.Tests.{eqb-true}
 use lib.Dec.{eqb}
 use Rattle.ref_core.specs.WeightRule.{full_weight}
 use Rattle.raw_block.specs.Views.{SoleState, PartState}
 use Rattle.frags.specs.OutcomesState.{OutcomesState}
-use Rattle.frags.specs.Account.{Keeps, KeepsMarks, both, every, counted, at_home, of_part, of_sole, of_holder, of_outcomes}
+use Rattle.frags.specs.Account.{Tests, Keeps, KeepsMarks, both, every, counted, at_home, of_part, of_sole, of_holder, of_outcomes}
 use Rattle.frags.specs.PieceList.{bytes_of, size_of, pieces_held, gift, less, gave, block, AsPart}
 use Rattle.frags.specs.declared.pieces.Piece.{Piece}
 use Rattle.frags.specs.declared.holder.Holder.{Holder}
@@ -23,16 +23,16 @@ use Rattle.skb.specs.declared.skb.Unshared.TheVariants.{Unused, Gave}
 
 pub owned_keeps : (a : Holder) (s : SoleState) (h : Holder) (u : Unshared) → Owned a s h u → Keeps (both (of_holder a) (of_sole s)) (both (of_holder h) (of_unshared u))
 owned_keeps (Sole b) s (Sole x) (Unused u) k t m =
-    let e = ap (λ (z : SoleState). at_home m z.mark) k.0 in
-    let f = ap (λ (z : SoleState). at_home m z.mark) k.1 in
+    let e = ap (λ (z : SoleState). at_home t.blocks m z.block z.mark) k.0 in
+    let f = ap (λ (z : SoleState). at_home t.blocks m z.block z.mark) k.1 in
     (omega arith, omega arith)
 owned_keeps (Part p) s (Sole x) (Unused u) k t m =
-    let e = ap (at_home m) k.1 in
-    let f = ap (λ (z : SoleState). at_home m z.mark) k.2 in
+    let e : at_home t.blocks m x.block x.mark ≡ at_home t.blocks m p.life.block p.mark = cc (k.4, k.1) in
+    let f = ap (λ (z : SoleState). at_home t.blocks m z.block z.mark) k.2 in
     let c = counted-le t m p.life p.mark p.weight k.3 in
     (omega arith, omega arith)
 owned_keeps (Part p) s (Sole x) (Gave r n) k t m =
-    let e = ap (at_home m) k.1 in
+    let e : at_home t.blocks m x.block x.mark ≡ at_home t.blocks m s.block s.mark = cc (k.6, k.1) in
     let g = k.4 in let l = k.5 in
     let f = released_keeps p r (omega arith) k.2 t m in
     (omega arith, omega arith)
@@ -47,7 +47,7 @@ unshared_keeps a b s u k e t m =
     (omega arith, omega arith)
 
 pub lent_gives : (a h q : Holder) (g : PartState) → IsLent a h → Gives h q g → (block q ≡ block a) × (g.bytes ≡ block a)
-lent_gives (Sole s) (Part p) (Part q) g l k = (ap (λ (z : PartState). z.bytes) k.0 ∙ l.1, ap (λ (z : PartState). z.bytes) k.1 ∙ l.1)
+lent_gives (Sole s) (Part p) (Part q) g l k = (ap (λ (z : PartState). z.bytes) k.0 ∙ l.2, ap (λ (z : PartState). z.bytes) k.1 ∙ l.2)
 lent_gives (Part r) (Part p) (Part q) g l k = (ap (λ (z : PartState). z.bytes) (k.0) ∙ ap (λ (z : PartState). z.bytes) l, ap (λ (z : PartState). z.bytes) k.1 ∙ ap (λ (z : PartState). z.bytes) l)
 lent_gives a (Part p) (Sole s) g l k = absurd k
 lent_gives a (Sole s) q g l k = absurd l
@@ -103,10 +103,10 @@ pull_rest f r n h k e g =
     ap (λ (w : List ℕ). w ++ bytes_of r) y ∙ g ∙ sym (drop-append-add (head_bytes f) (bytes_of f.rest) (n - (f.to - f.from))) ∙ ap (λ (w : ℕ). drop w (buffer_bytes f)) (sym u)
 
 -- what a part gives away and what it keeps is what it had
-pub less_gave : (t : ℕ × ℕ → Bool) (m : ℕ) (p : PartState) → 1 < p.weight → counted t m p.life p.mark (less p).weight + counted t m p.life p.mark (gave p).weight ≡ counted t m p.life p.mark p.weight
+pub less_gave : (t : Tests) (m : ℕ) (p : PartState) → 1 < p.weight → counted t m p.life p.mark (less p).weight + counted t m p.life p.mark (gave p).weight ≡ counted t m p.life p.mark p.weight
 less_gave t m p h = let g : gift p.weight ≤ p.weight = omega arith in grind arith
 
-pub gives_sums : (t : ℕ × ℕ → Bool) (m : ℕ) (a h q : Holder) (g : PartState) → IsLent a h → Gives h q g → (of_holder q).held t m + (of_part g).held t m ≡ (of_holder h).held t m
+pub gives_sums : (t : Tests) (m : ℕ) (a h q : Holder) (g : PartState) → IsLent a h → Gives h q g → (of_holder q).held t m + (of_part g).held t m ≡ (of_holder h).held t m
 gives_sums t m a (Part p) (Part q) g l k =
     let u = ap (λ (z : PartState). (of_part z).held t m) k.0 in
     let v = ap (λ (z : PartState). (of_part z).held t m) k.1 in
@@ -115,13 +115,13 @@ gives_sums t m a (Part p) (Part q) g l k =
 gives_sums t m a (Part p) (Sole s) g l k = absurd k
 gives_sums t m a (Sole s) q g l k = absurd l
 
-pub lent_marks : (m : ℕ) (a h : Holder) → IsLent a h → (of_holder h).held every m ≡ (of_holder a).held every m + full_weight * (of_holder a).homes m
-lent_marks m (Sole s) (Part p) l =
-    let u : counted every m p.life p.mark p.weight ≡ counted every m p.life s.mark full_weight = cc (l.0, l.2) in
-    let v : counted every m p.life s.mark full_weight ≡ full_weight * at_home m s.mark = grind arith in
+pub lent_marks : (bs : ℕ → Bool) (m : ℕ) (a h : Holder) → IsLent a h → (of_holder h).held (every bs) m ≡ (of_holder a).held (every bs) m + full_weight * (of_holder a).homes bs m
+lent_marks bs m (Sole s) (Part p) l =
+    let u : counted (every bs) m p.life p.mark p.weight ≡ counted (every bs) m p.life s.mark full_weight = cc (l.0, l.3) in
+    let v : counted (every bs) m p.life s.mark full_weight ≡ full_weight * at_home bs m s.block s.mark = let i = l.1 in grind arith in
     omega arith
-lent_marks m (Part r) (Part p) l = let u = ap (λ (z : PartState). (of_part z).held every m) l in omega arith
-lent_marks m a (Sole s) l = absurd l
+lent_marks bs m (Part r) (Part p) l = let u = ap (λ (z : PartState). (of_part z).held (every bs) m) l in omega arith
+lent_marks bs m a (Sole s) l = absurd l
 
 -- the head's bytes and what is written behind them
 pub written_behind : (b xs : List ℕ) (from to : ℕ) → from ≤ to → to ≤ length b → slice_range (written b to xs) from (to + length xs) ≡ slice_range b from to ++ xs
@@ -153,9 +153,9 @@ pub room_within : (rest : List Piece) (to n : ℕ) → to ≤ 2048 → n ≤ con
 room_within [] to n h k = omega arith
 room_within (p ∷ ps) to n h k = let z = no_room p ps (2048 - to) in omega arith
 
-pub puts : (a : SkbState) (s w : SoleState) (xs : List ℕ) → a.head ≡ Sole s → w.bytes ≡ written s.bytes a.to xs → w.mark ≡ s.mark → length (block a.head) ≡ 2048 → a.from ≤ a.to → a.to ≤ 2048 → length xs ≤ tailroom a → IsPut a xs (record a { head = Sole w; to = a.to + length xs }) (Ok tt)
-puts a s w xs e wb wm l h k r =
-    let we : w ≡ record s { bytes = written s.bytes a.to xs } = λ i. record { bytes = wb i; mark = wm i } in
+pub puts : (a : SkbState) (s w : SoleState) (xs : List ℕ) → a.head ≡ Sole s → w.bytes ≡ written s.bytes a.to xs → w.mark ≡ s.mark → w.block ≡ s.block → length (block a.head) ≡ 2048 → a.from ≤ a.to → a.to ≤ 2048 → length xs ≤ tailroom a → IsPut a xs (record a { head = Sole w; to = a.to + length xs }) (Ok tt)
+puts a s w xs e wb wm wo l h k r =
+    let we : w ≡ record s { bytes = written s.bytes a.to xs } = λ i. record { block = wo i; bytes = wb i; mark = wm i } in
     let b : block a.head ≡ s.bytes = ap block e in
     let lb : length s.bytes ≡ 2048 = sym (ap length b) ∙ l in
     let f : Sole w ≡ written_head a.head a.to xs = ap Sole we ∙ sym (ap (λ (z : Holder). written_head z a.to xs) e) in
@@ -200,8 +200,14 @@ byte_of_rest f i d h = get_or-append_right (head_bytes f) (bytes_of f.rest) (len
 
 -- a Sole that becomes a part keeps what its mark holds
 pub taken_marks : (a c : SkbState) (o : OutcomesState) (r : List Piece) (p : PartState) → AsPart c.head p → r ≡ a.rest ++ (record { part = p; from = c.from; to = c.to }) ∷ c.rest → KeepsMarks (both (of_buffer a) (both (of_buffer c) (of_outcomes o))) (both (of_buffer (record a { rest = r })) (of_outcomes o))
-taken_marks a c o r p k e m =
+taken_marks a c o r p k e bs m =
     let x : Piece = record { part = p; from = c.from; to = c.to } in
-    let g = ap (pieces_held every m) e ∙ pieces_held-append every m a.rest (x ∷ c.rest) in
-    let l = lent_marks m c.head (Part p) k in
+    let g = ap (pieces_held (every bs) m) e ∙ pieces_held-append (every bs) m a.rest (x ∷ c.rest) in
+    let l = lent_marks bs m c.head (Part p) k in
     omega arith
+
+-- a part that is lent counts as it did
+pub lent_held : (t : Tests) (m : ℕ) (a h : Holder) → is_sole a ≡ false → IsLent a h → (of_holder h).held t m ≡ (of_holder a).held t m
+lent_held t m (Part r) (Part p) e l = ap (λ (z : PartState). (of_part z).held t m) l
+lent_held t m (Sole s) h e l = absurd (true≢false e)
+lent_held t m (Part r) (Sole s) e l = absurd l

@@ -1,5 +1,5 @@
 -- Blocks that are filled one after another with a buffer's bytes.
-use Rattle.std.proofs.Common.{◌≡◌, ℕ, ◌+◌, ◌-◌, ◌*◌, ◌<◌, ◌≤◌, List, [], ◌∷◌, ◌++◌, length, min, take, drop, slice_range, refl, sym, ap, ◌∙◌, append_assoc, append-nil, arith, length-append}
+use Rattle.std.proofs.Common.{◌≡◌, ℕ, Bool, ◌+◌, ◌-◌, ◌*◌, ◌<◌, ◌≤◌, List, [], ◌∷◌, ◌++◌, length, min, take, drop, slice_range, refl, sym, ap, ◌∙◌, append_assoc, append-nil, arith, length-append}
 use Rattle.std.proofs.lemmas.List.{drop-drop, take-append-drop, take-append-le}
 use Rattle.ref_core.specs.WeightRule.{full_weight}
 use Rattle.raw_block.specs.Views.{SoleState, PartState}
@@ -23,7 +23,7 @@ pub record Filled (a : SkbState) (from : ℕ) (first : List SoleState) (at room 
   pub enough : blocks_for (buffer_size a - at) ≤ length s
   pub whole : least_weight c ≡ full_weight
   pub spares : take (length s - blocks_for (buffer_size a - at)) s ≡ take (length first - blocks_for (buffer_size a - from)) first
-  pub marks : (m : ℕ) → pieces_held every m c + full_weight * soles_home m s ≡ full_weight * soles_home m first
+  pub marks : (bs : ℕ → Bool) (m : ℕ) → pieces_held (every bs) m c + full_weight * soles_home bs m s ≡ full_weight * soles_home bs m first
 
 pub least_weight-behind : (c : List Piece) (x : Piece) → x.part.weight ≡ full_weight → least_weight (c ++ x ∷ []) ≡ least_weight c
 least_weight-behind [] x e = omega arith
@@ -41,10 +41,10 @@ next_bytes xs ys at n c d x e f g =
     let r : block ++ drop (at + n) xs ≡ drop at xs = ap (λ (z : List ℕ). z ++ drop (at + n) xs) b ∙ ap (λ (z : List ℕ). take n (drop at xs) ++ z) (sym (drop-drop n at xs)) ∙ take-append-drop n (drop at xs) in
     ap (λ (z : List ℕ). z ++ drop (at + n) xs) h ∙ append_assoc (bytes_of c) block (drop (at + n) xs) ∙ ap (λ (z : List ℕ). bytes_of c ++ z) r ∙ g
 
-pub whole_marks : (m : ℕ) (p : PartState) (b : SoleState) → p.mark ≡ b.mark → p.weight ≡ full_weight → counted every m p.life p.mark p.weight ≡ full_weight * at_home m b.mark
-whole_marks m p b e f =
-    let u : counted every m p.life p.mark p.weight ≡ counted every m p.life b.mark full_weight = cc (e, f) in
-    let v : counted every m p.life b.mark full_weight ≡ full_weight * at_home m b.mark = grind arith in
+pub whole_marks : (bs : ℕ → Bool) (m : ℕ) (p : PartState) (b : SoleState) → p.life.block ≡ b.block → p.mark ≡ b.mark → p.weight ≡ full_weight → counted (every bs) m p.life p.mark p.weight ≡ full_weight * at_home bs m b.block b.mark
+whole_marks bs m p b o e f =
+    let u : counted (every bs) m p.life p.mark p.weight ≡ counted (every bs) m p.life b.mark full_weight = cc (e, f) in
+    let v : counted (every bs) m p.life b.mark full_weight ≡ full_weight * at_home bs m b.block b.mark = grind arith in
     u ∙ v
 
 pub filled_next : (a : SkbState) (from : ℕ) (first : List SoleState) (at room end less : ℕ) (s t : List SoleState) (c d : List Piece) → Filled a from first at room s c → at < buffer_size a → end ≡ at + min (buffer_size a - at) 2048 → less + 1 ≡ room → IsNextBlock a at s c t d → Filled a from first end less t d
@@ -76,11 +76,11 @@ filled_next a from first at room end less s t c d h lt e r w =
       enough = omega arith;
       whole = ap least_weight k.4 ∙ least_weight-behind c x k.2 ∙ h.whole;
       spares = sym (take-append-le j t (b ∷ []) (omega arith)) ∙ sym (ap (λ (z : List SoleState). take j z) k.0) ∙ sym (ap (λ (z : ℕ). take z s) q) ∙ h.spares;
-      marks = λ m.
-          let f = ap (soles_home m) k.0 ∙ soles_home-append m t (b ∷ []) in
-          let g = ap (pieces_held every m) k.4 ∙ pieces_held-append every m c (x ∷ []) in
-          let v = whole_marks m p b k.1 k.2 in
-          let hm = h.marks m in
+      marks = λ bs m.
+          let f = ap (soles_home bs m) k.0 ∙ soles_home-append bs m t (b ∷ []) in
+          let g = ap (pieces_held (every bs) m) k.4 ∙ pieces_held-append (every bs) m c (x ∷ []) in
+          let v = whole_marks bs m p b k.5 k.1 k.2 in
+          let hm = h.marks bs m in
           omega arith;
     }
 
@@ -97,7 +97,7 @@ filled_first a from room s c e w p l =
       enough = l;
       whole = ap least_weight e;
       spares = refl;
-      marks = λ m. let f = ap (pieces_held every m) e in omega arith;
+      marks = λ bs m. let f = ap (pieces_held (every bs) m) e in omega arith;
     }
 
 -- a head's block and blocks behind it, from the end of the spares
@@ -122,11 +122,11 @@ copied a c s u t b x k r es ek ex er el ew et ec need =
       omega arith,
     )
 
-pub copied_marks : (m : ℕ) (c : SkbState) (s u t : List SoleState) (b x : SoleState) (k : ℕ) (r : List Piece) → s ≡ u ++ b ∷ [] → x.mark ≡ b.mark → c ≡ record { head = Sole x; from = 64; to = 64 + k; rest = r } → pieces_held every m r + full_weight * soles_home m t ≡ full_weight * soles_home m u
-    → (of_buffer c).held every m + full_weight * ((of_buffer c).homes m + soles_home m t) ≡ full_weight * soles_home m s
-copied_marks m c s u t b x k r es ex ec h =
-    let f = ap (soles_home m) es ∙ soles_home-append m u (b ∷ []) in
-    let g = ap (λ (y : SkbState). (of_buffer y).held every m) ec in
-    let i = ap (λ (y : SkbState). (of_buffer y).homes m) ec in
-    let n = ap (at_home m) ex in
+pub copied_marks : (bs : ℕ → Bool) (m : ℕ) (c : SkbState) (s u t : List SoleState) (b x : SoleState) (k : ℕ) (r : List Piece) → s ≡ u ++ b ∷ [] → x.block ≡ b.block → x.mark ≡ b.mark → c ≡ record { head = Sole x; from = 64; to = 64 + k; rest = r } → pieces_held (every bs) m r + full_weight * soles_home bs m t ≡ full_weight * soles_home bs m u
+    → (of_buffer c).held (every bs) m + full_weight * ((of_buffer c).homes bs m + soles_home bs m t) ≡ full_weight * soles_home bs m s
+copied_marks bs m c s u t b x k r es eo ex ec h =
+    let f = ap (soles_home bs m) es ∙ soles_home-append bs m u (b ∷ []) in
+    let g = ap (λ (y : SkbState). (of_buffer y).held (every bs) m) ec in
+    let i = ap (λ (y : SkbState). (of_buffer y).homes bs m) ec in
+    let n : at_home bs m x.block x.mark ≡ at_home bs m b.block b.mark = cc (eo, ex) in
     omega arith

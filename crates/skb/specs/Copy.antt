@@ -25,4 +25,4 @@ IsCopy a s t (Err NoMemory) = (copy_need a ≤ length s) × (t ≡ s)
 
 -- the bytes from `at` on that fit a block, in the last spare
 abbrev pub IsNextBlock : SkbState → ℕ → List SoleState → List Piece → List SoleState → List Piece → Type 0
-IsNextBlock a at s c t d = let n = min (buffer_size a - at) 2048 in (b : SoleState) × ((p : PartState) × ((s ≡ t ++ b ∷ []) × (p.mark ≡ b.mark) × (p.weight ≡ full_weight) × (slice_range p.bytes 0 n ≡ slice_range (buffer_bytes a) at (at + n)) × (d ≡ c ++ (record { part = p; from = 0; to = n }) ∷ [])))
+IsNextBlock a at s c t d = let n = min (buffer_size a - at) 2048 in (b : SoleState) × ((p : PartState) × ((s ≡ t ++ b ∷ []) × (p.mark ≡ b.mark) × (p.weight ≡ full_weight) × (slice_range p.bytes 0 n ≡ slice_range (buffer_bytes a) at (at + n)) × (d ≡ c ++ (record { part = p; from = 0; to = n }) ∷ []) × (p.life.block ≡ b.block)))

@@ -75,8 +75,8 @@ IsPut a xs b (Err Shared) = (length xs ≤ tailroom a) × (is_sole a.head ≡ fa
 -- a head made a Sole: it was one, or its claim was granted, or its bytes were copied into the spare
 abbrev pub Owned : Holder → SoleState → Holder → Unshared → Type 0
 Owned (Sole s) spare (Sole x) (Unused u) = (x ≡ s) × (u ≡ spare)
-Owned (Part p) spare (Sole x) (Unused u) = (x.bytes ≡ p.bytes) × (x.mark ≡ p.mark) × (u ≡ spare) × (p.weight ≤ full_weight)
-Owned (Part p) spare (Sole x) (Gave r t) = (x.bytes ≡ p.bytes) × (x.mark ≡ spare.mark) × IsReleased p r × (t.life ≡ p.life) × (p.weight < t.total) × (t.total ≤ full_weight)
+Owned (Part p) spare (Sole x) (Unused u) = (x.bytes ≡ p.bytes) × (x.mark ≡ p.mark) × (u ≡ spare) × (p.weight ≤ full_weight) × (x.block ≡ p.life.block)
+Owned (Part p) spare (Sole x) (Gave r t) = (x.bytes ≡ p.bytes) × (x.mark ≡ spare.mark) × IsReleased p r × (t.life ≡ p.life) × (p.weight < t.total) × (t.total ≤ full_weight) × (x.block ≡ spare.block)
 Owned _ _ _ _ = ⊥
 
 abbrev pub of_unshared : Unshared → Account

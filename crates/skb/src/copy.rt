@@ -1,5 +1,5 @@
 //! A buffer copied into blocks of its own.
-ghost use Rattle.std.specs.Prelude.{◌≡◌, ◌<◌, ◌≤◌, ◌+◌, ◌-◌, ◌*◌, ◌^◌, ◌++◌, [], ℕ, length, min, take, drop, IfOk};
+ghost use Rattle.std.specs.Prelude.{◌≡◌, ◌<◌, ◌≤◌, ◌+◌, ◌-◌, ◌*◌, ◌^◌, ◌++◌, [], ℕ, Bool, length, min, take, drop, IfOk};
 ghost use Rattle.ref_core.specs.WeightRule.{full_weight};
 ghost use Rattle.frags.specs.Account.{every, soles_home};
 ghost use Rattle.frags.specs.PieceList.{bytes_of, size_of, pieces_held, least_weight};
@@ -35,7 +35,7 @@ impl Skb {
     /// `ceil((len() + 64) / 2048)`; then memory. A refused call takes none of them.
     pub fn copy(&self, spares: &mut Vec<Sole>) -> Result<Skb, CopyFault>
         ensures copy { IsCopy self.now spares.old.items spares.new.items result }
-        ensures marks { IfOk result (λ c. (m : ℕ) → (of_buffer c).held every m + full_weight * ((of_buffer c).homes m + soles_home m spares.new.items) ≡ full_weight * soles_home m spares.old.items) }
+        ensures marks { IfOk result (λ c. (bs : ℕ → Bool) (m : ℕ) → (of_buffer c).held (every bs) m + full_weight * ((of_buffer c).homes bs m + soles_home bs m spares.new.items) ≡ full_weight * soles_home bs m spares.old.items) }
     {
         let len = self.len();
         let need = blocks_for(len + HEADROOM);
@@ -68,7 +68,7 @@ impl Skb {
         ensures count { length result ≡ blocks_for (buffer_size self.now - from) }
         ensures whole { least_weight result ≡ full_weight }
         ensures spares { spares.new.items ≡ take (length spares.old.items - blocks_for (buffer_size self.now - from)) spares.old.items }
-        ensures marks { (m : ℕ) → pieces_held every m result + full_weight * soles_home m spares.new.items ≡ full_weight * soles_home m spares.old.items }
+        ensures marks { (bs : ℕ → Bool) (m : ℕ) → pieces_held (every bs) m result + full_weight * soles_home bs m spares.new.items ≡ full_weight * soles_home bs m spares.old.items }
     {
         let len = self.len();
         let mut copied = none;

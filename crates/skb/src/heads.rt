@@ -12,7 +12,7 @@ use raw_block::{Claimed, Part, Released, Sole};
 // Writes over a block's bytes from a place on.
 pub(crate) fn write_at(sole: &mut Sole, at: usize, bytes: &[u8])
     requires { (length sole.old.bytes ≡ 2048) × (at + length bytes.now ≤ 2048) }
-    ensures { (sole.new.bytes ≡ written sole.old.bytes at bytes.now) × (sole.new.mark ≡ sole.old.mark) }
+    ensures { (sole.new.bytes ≡ written sole.old.bytes at bytes.now) × (sole.new.mark ≡ sole.old.mark) × (sole.new.block ≡ sole.old.block) }
 {
     let range = sole.range_mut(at, at + bytes.len());
     range.copy_from_slice(bytes);
@@ -40,7 +40,7 @@ pub(crate) fn owned(head: Holder, spare: Sole) -> (Holder, Unshared)
 
 fn copy_block(sole: &mut Sole, bytes: &[u8])
     requires { length bytes.now ≡ 2048 }
-    ensures { (sole.new.bytes ≡ bytes.now) × (sole.new.mark ≡ sole.old.mark) }
+    ensures { (sole.new.bytes ≡ bytes.now) × (sole.new.mark ≡ sole.old.mark) × (sole.new.block ≡ sole.old.block) }
 {
     let all = sole.bytes_mut();
     all.copy_from_slice(bytes);

@@ -3,7 +3,7 @@ ghost use Rattle.std.specs.Prelude.{◌≡◌, ℕ, ◌+◌, ◌-◌, ◌<◌, �
 ghost use Rattle.std.specs.Borrow.{sem};
 ghost use Rattle.ref_core.specs.WeightRule.{full_weight};
 ghost use Rattle.raw_block.specs.Views.{SoleState};
-ghost use Rattle.frags.specs.Account.{Keeps, KeepsMarks, both, every, of_sole, of_holder, of_outcomes};
+ghost use Rattle.frags.specs.Account.{Tests, Keeps, KeepsMarks, both, every, of_sole, of_holder, of_outcomes};
 ghost use Rattle.frags.specs.Growth.{Grows};
 ghost use Rattle.frags.specs.PieceList.{AllFit, size_of, of_pieces, piece_bytes, block, cut_front, keep_front};
 ghost use Rattle.frags.specs.declared.pieces.Piece.{Piece};
@@ -115,7 +115,7 @@ impl Skb {
         }
     }
 
-    /// The pieces and the head together.
+    /// The number of blocks: the head's, and one for each piece.
     pub fn count(&self) -> usize
         ensures { result ≡ length self.now.rest + 1 }
     {
@@ -192,7 +192,7 @@ impl Skb {
         head.min(self.rest.least_weight())
     }
 
-    /// The bytes of the i-th piece after the head, uncopied.
+    /// The bytes of the i-th piece behind the head, uncopied. `count` has the head too.
     pub fn slice(&self, i: usize) -> &[u8]
         requires { i < length self.now.rest }
         ensures { (d : Piece) → result.now ≡ piece_bytes (slice_index_or self.now.rest i d) }
@@ -203,7 +203,7 @@ impl Skb {
     /// The bytes stand in front. `NoRoom` exactly where there are more of them than `headroom()`; else `Shared` exactly
     /// where not `head_is_sole()`.
     pub fn push(&mut self, bytes: &[u8]) -> Result<(), RoomFault>
-        requires { buffer_size self.old + length bytes.now < 2 ^ 32 }
+        requires small { length bytes.now ≤ headroom self.old → buffer_size self.old + length bytes.now < 2 ^ 32 }
         ensures push { IsPush self.old bytes.now self.new result }
         ensures account { of_buffer self.new ≡ of_buffer self.old }
     {
@@ -227,7 +227,7 @@ impl Skb {
     /// The bytes stand at the end. `NoRoom` exactly where there are more of them than `tailroom()`; else `Shared` exactly
     /// where not `head_is_sole()`.
     pub fn put_tail(&mut self, bytes: &[u8]) -> Result<(), RoomFault>
-        requires { buffer_size self.old + length bytes.now < 2 ^ 32 }
+        requires small { length bytes.now ≤ tailroom self.old → buffer_size self.old + length bytes.now < 2 ^ 32 }
         ensures put { IsPut self.old bytes.now self.new result }
         ensures account { of_buffer self.new ≡ of_buffer self.old }
     {
@@ -277,8 +277,8 @@ impl Skb {
         Ok(())
     }
 
-    /// The last `n` bytes are gone. Pieces that are wholly gone are given back, and a head left empty stays. `Short`
-    /// exactly where `n > len()`.
+    /// The last `n` bytes are gone; Linux's `skb_trim` is told how many stay. Pieces that are wholly gone are given back, and a
+    /// head left empty stays. `Short` exactly where `n > len()`.
     pub fn trim(&mut self, n: usize, out: &mut Outcomes) -> Result<(), Short>
         requires { length self.old.rest ≤ out.old.spare }
         ensures bytes { MatchResult result (λ _. buffer_bytes self.new ≡ take (buffer_size self.old - n) (buffer_bytes self.old)) (λ e. (buffer_size self.old < n) × (e.have ≡ buffer_size self.old) × (e.need ≡ n) × (self.new ≡ self.old) × (out.new ≡ out.old)) }
@@ -308,8 +308,8 @@ impl Skb {
         ensures clone { IsClone self.old self.new result }
         ensures bytes { MatchResult result (λ c. (buffer_bytes self.new ≡ buffer_bytes self.old) × (buffer_bytes c ≡ buffer_bytes self.old)) (λ _. buffer_bytes self.new ≡ buffer_bytes self.old) }
         ensures count { MatchResult result (λ c. (length self.new.rest ≡ length self.old.rest) × (length c.rest ≡ length self.old.rest)) (λ _. length self.new.rest ≡ length self.old.rest) }
-        ensures sums { is_sole self.old.head ≡ false → IfOk result (λ c. (t : ℕ × ℕ → Bool) (m : ℕ) → (of_buffer self.new).held t m + (of_buffer c).held t m ≡ (of_buffer self.old).held t m) }
-        ensures marks { MatchResult result (λ c. (m : ℕ) → (of_buffer self.new).held every m + (of_buffer c).held every m ≡ (of_buffer self.old).held every m + full_weight * (of_buffer self.old).homes m) (λ _. KeepsMarks (of_buffer self.old) (of_buffer self.new)) }
+        ensures sums { is_sole self.old.head ≡ false → IfOk result (λ c. (t : Tests) (m : ℕ) → (of_buffer self.new).held t m + (of_buffer c).held t m ≡ (of_buffer self.old).held t m) }
+        ensures marks { MatchResult result (λ c. (bs : ℕ → Bool) (m : ℕ) → (of_buffer self.new).held (every bs) m + (of_buffer c).held (every bs) m ≡ (of_buffer self.old).held (every bs) m + full_weight * (of_buffer self.old).homes bs m) (λ _. KeepsMarks (of_buffer self.old) (of_buffer self.new)) }
     {
         if self.is_worn() {
             return Err(ShareFault::Worn);

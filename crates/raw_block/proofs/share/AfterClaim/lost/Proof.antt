@@ -22,7 +22,7 @@ use denote.Triple.Entry.{alive}
 use denote.Triple.Walked.{Stays, stay_dropped, walk_of, Goes-dropped}
 use Rattle.atomic_table.proofs.Walks.{proved, leaves}
 use Rattle.ref_core.specs.WeightRule.{full_weight}
-use Rattle.raw_block.specs.Views.{Life}
+use Rattle.raw_block.specs.Views.{LifeNames}
 use Rattle.raw_block.specs.Shares.{share_owns}
 use Rattle.raw_block.specs.contracts.share.Share as share
 use Rattle.raw_block.proofs.Fields.{alone, typed, Words, made}
@@ -47,7 +47,7 @@ lost_spec 𝓤 𝓛 𝓜 𝓡 wired X L =
     let Pr : RattleType = after_claim.the_row R in let Sr : RattleType = share.the_row R in let Gr : RattleType = word_seen.the_row in let self = plain (λ _. Pr) in let hs : Stays En.signature.params En.kept = (stay_dropped self no, tt) in
     proved 𝓛 En hs c 𝓜 𝓡 (Goes-dropped 𝓛 1 self no (λ κs x f. refl), tt) (#self inst) fn closed
     (λ κs. ((λ x. alone x.at ∷ []), tt)) (λ κs. ((λ x vs so. claimed_told R x.at vs so.0), tt)) (λ κs qs bounds a gh are.
-    let h : Pr.Denot = a.0 in let p : Ptr = h.at in let x : X.Denot = h.content in let mark : ℕ = h.mark in let γ : Life = h.life in let w : ℕ = h.weight in let n : ℕ = h.found in
+    let h : Pr.Denot = a.0 in let p : Ptr = h.at in let x : X.Denot = h.content in let mark : ℕ = h.mark in let γ : LifeNames = h.life in let w : ℕ = h.weight in let n : ℕ = h.found in
     let y : (walk_of 𝓛 En hs c).Ghost = ((κs, qs, bounds, a, (alone p ∷ [], tt)), gh) in let Post : Val → SProp 𝓤 = (walk_of 𝓛 En hs c).post y in
     qed 𝓛 ((raw (alive 𝓛 En.signature κs qs) ⊛ ‵ (owns (types_at En.signature.params κs) a y.0.4)) ∷ raw (fact 𝓤 _) ∷ raw (fact 𝓤 (n ≢ w)) ∷ []) ∵
     keep ! (2 ∷ 0 ∷ []) $ heard ! (n ≢ w) (λ other. split ! $ move ! (1 ∷ []) $ fsplit ! $ fsplit ! $ keep ! (1 ∷ 3 ∷ []) $

@@ -25,7 +25,7 @@ use Rattle.core.proofs.atomic.Steps.{tail}
 use Rattle.atomic_table.proofs.Walks.{proved, leaves}
 use Rattle.atomic_table.proofs.Calls.{fm, seq_cst, found, finds, subs}
 use Rattle.ref_core.specs.WeightRule.{full_weight}
-use Rattle.raw_block.specs.Views.{Life}
+use Rattle.raw_block.specs.Views.{LifeNames}
 use Rattle.raw_block.specs.Shares.{about, entry, share_owns, tells}
 use Rattle.raw_block.specs.contracts.share.Share as share
 use Rattle.raw_block.proofs.Fields.{alone, typed, told, owns_placed}
@@ -44,7 +44,7 @@ release_spec 𝓤 𝓛 𝓜 𝓡 wired X L =
     let Sr : RattleType = share.the_row R in let Pr : RattleType = after_release.the_row R in let self = plain (λ _. Sr) in let number = plain (λ _. u64) in let hs : Stays En.signature.params En.kept = (stay_dropped self no, (stay_dropped number yes, tt)) in
     proved 𝓛 En hs c 𝓜 𝓡 (Goes-dropped 𝓛 1 self no (λ κs x f. refl), (Goes-dropped 𝓛 1 number yes (λ κs x f. refl), tt)) (#self inst) fn closed
     (λ κs. ((λ x. alone x.at ∷ []), (uint_vals w64, tt))) (λ κs. ((λ x vs so. told R x.at vs so.0), (uint_Tells w64, tt))) (λ κs qs bounds a gh are.
-    let h : Sr.Denot = a.0 in let p : Ptr = h.at in let b : ℕ = block_of p in let o : ℕ = count_of p in let x : X.Denot = h.content in let mark : ℕ = h.mark in let γ : Life = h.life in let k : ℕ = a.1.0 in
+    let h : Sr.Denot = a.0 in let p : Ptr = h.at in let b : ℕ = block_of p in let o : ℕ = count_of p in let x : X.Denot = h.content in let mark : ℕ = h.mark in let γ : LifeNames = h.life in let k : ℕ = a.1.0 in
     let y : (walk_of 𝓛 En hs c).Ghost = ((κs, qs, bounds, a, (alone p ∷ [], (vint w64 k ∷ [], tt))), gh) in let Post : Val → SProp 𝓤 = (walk_of 𝓛 En hs c).post y in
     qed 𝓛 ((raw (alive 𝓛 En.signature κs qs) ⊛ ‵ (owns (types_at En.signature.params κs) a y.0.4)) ∷ raw (fact 𝓤 _) ∷ raw (fact 𝓤 (k ≡ h.weight)) ∷ []) ∵
     keep ! (2 ∷ 0 ∷ []) $ heard ! (k ≡ h.weight) (λ asked. split ! $ move ! (1 ∷ []) $ fsplit ! $ fsplit ! $ keep ! (1 ∷ 3 ∷ []) $

@@ -25,7 +25,7 @@ use Rattle.core.proofs.atomic.Steps.{tail}
 use Rattle.atomic_table.proofs.Walks.{proved, leaves}
 use Rattle.atomic_table.proofs.Calls.{fm, found, finds, exchanges}
 use Rattle.ref_core.specs.WeightRule.{full_weight}
-use Rattle.raw_block.specs.Views.{Life}
+use Rattle.raw_block.specs.Views.{LifeNames}
 use Rattle.raw_block.specs.Shares.{About, about, entry, share_owns, tells}
 use Rattle.raw_block.specs.contracts.share.Share as share
 use Rattle.raw_block.proofs.Fields.{alone, typed, told, owns_placed}
@@ -51,7 +51,7 @@ reunite_spec 𝓤 𝓛 𝓜 𝓡 wired X L =
     let hs : Stays En.signature.params En.kept = (stay_dropped self no, (stay_dropped item yes, (stay_dropped number yes, tt))) in
     proved 𝓛 En hs c 𝓜 𝓡 (Goes-dropped 𝓛 1 self no (λ κs x f. refl), (Goes-dropped 𝓛 1 item yes (λ κs x f. refl), (Goes-dropped 𝓛 1 number yes (λ κs x f. refl), tt))) (#self inst) fn closed
     (λ κs. ((λ x. alone x.at ∷ []), ((λ x. none ∷ []), (uint_vals w64, tt)))) (λ κs. ((λ x vs so. told R x.at vs so.0), ((λ x vs so. given_back_told vs so.0), (uint_Tells w64, tt)))) (λ κs qs bounds a gh are.
-    let h : Sr.Denot = a.0 in let p : Ptr = h.at in let b : ℕ = block_of p in let o : ℕ = count_of p in let x : X.Denot = h.content in let mark : ℕ = h.mark in let γ : Life = h.life in let t = a.1.0 in let k : ℕ = a.1.1.0 in
+    let h : Sr.Denot = a.0 in let p : Ptr = h.at in let b : ℕ = block_of p in let o : ℕ = count_of p in let x : X.Denot = h.content in let mark : ℕ = h.mark in let γ : LifeNames = h.life in let t = a.1.0 in let k : ℕ = a.1.1.0 in
     let y : (walk_of 𝓛 En hs c).Ghost = ((κs, qs, bounds, a, (alone p ∷ [], (none ∷ [], (vint w64 k ∷ [], tt)))), gh) in let Post : Val → SProp 𝓤 = (walk_of 𝓛 En hs c).post y in
     let Asked : Type 0 = (k ≡ h.weight) × (t.life ≡ γ) × (h.weight + t.weight ≡ full_weight) in
     qed 𝓛 ((raw (alive 𝓛 En.signature κs qs) ⊛ ‵ (owns (types_at En.signature.params κs) a y.0.4)) ∷ raw (fact 𝓤 _) ∷ raw (fact 𝓤 Asked) ∷ []) ∵
@@ -59,7 +59,7 @@ reunite_spec 𝓤 𝓛 𝓜 𝓡 wired X L =
     -- [its field; what was given back; the rest; my field; mine; the tokens]
     keep ! (4 ∷ 1 ∷ 5 ∷ []) $ move ! (1 ∷ []) $ fsplit ! $ drop ! $ fpick ! (λ f. let V : About = ((f.0, t.mark), f.1) in move ! (1 ∷ []) $
     use1 𝓛 (given (InBlock p) (‵ (share_owns R p γ x mark h.weight))) (fact_use 𝓤 _ (owns_placed 𝓛 R p γ x mark h.weight) (guard_i 𝓤 (InBlock p) (sem 𝓛 (share_owns R p γ x mark h.weight)))) $ learn ! (λ inb. let at : p ≡ block_ptr b o = at_block p inb in
-    rewrite ! 0 (λ (z : Ptr × ℕ). ‵ (share_owns R z.0 γ x mark z.1)) (λ i. (at i, sym asked.0 i)) refl $ rewrite ! 1 (λ (g : Life). ‵ (entry g.0 0 t.weight V)) asked.1 refl $
+    rewrite ! 0 (λ (z : Ptr × ℕ). ‵ (share_owns R z.0 γ x mark z.1)) (λ i. (at i, sym asked.0 i)) refl $ rewrite ! 1 (λ (g : LifeNames). ‵ (entry g.0 0 t.weight V)) asked.1 refl $
     enter ! 𝓣.C 𝓣.Λ fn (alone p ∷ none ∷ vint w64 k ∷ []) Post $ alloc_all ! (λ l. pass_all ! refl (typed p inb, ((tt, tt), ((tt, record { fits = are.1.1.0.1 }), tt))) $ let Ev = env fn.locals l in
     fsplit ! $ fpick ! (λ fit. drop ! $ fpick ! (λ u. fsplit3 ! $
     -- [the invariant; mine; what is seen; the receipt; the tokens]

@@ -26,7 +26,7 @@ use denote.Ref.{MutRef, mut_vals, mut_Tells}
 use denote.Plain.{uint_vals, uint_Tells}
 use denote.Triple.Walked.{Stays, stay_dropped, walk_of, Goes-dropped, stay_ref, Goes-ref}
 use Rattle.atomic_table.proofs.Walks.{proved, leaves}
-use Rattle.raw_block.specs.Views.{Life}
+use Rattle.raw_block.specs.Views.{LifeNames}
 use Rattle.raw_block.specs.Shares.{share_owns}
 use Rattle.raw_block.specs.contracts.share.Share as share
 use Rattle.raw_block.proofs.Fields.{alone, Words, told, made, owns_placed}
@@ -43,7 +43,7 @@ split_spec 𝓤 𝓛 𝓜 𝓡 wired X L =
     let Sr : RattleType = share.the_row R in let number = plain (λ _. u64) in let hs : Stays En.signature.params En.kept = (stay_ref (0 ∷ []) tt (plain (λ _. Sr)), (stay_dropped number yes, tt)) in
     proved 𝓛 En hs c 𝓜 𝓡 (Goes-ref 𝓛 2 0 tt (plain (λ _. Sr)), (Goes-dropped 𝓛 2 number yes (λ κs x f. refl), tt)) (#self inst) fn closed
     (λ κs. (mut_vals, (uint_vals w64, tt))) (λ κs. (mut_Tells (named 0) κs.0 Sr, (uint_Tells w64, tt))) (λ κs qs bounds a gh are.
-    let b : ℕ = a.0.ref_ptr.0 in let o : ℕ = a.0.ref_ptr.1 in let h : Sr.Denot = a.0.now in let vs = mut_vals a.0 in let p : Ptr = h.at in let x : X.Denot = h.content in let mark : ℕ = h.mark in let γ : Life = h.life in let w : ℕ = h.weight in let k : ℕ = a.1.0 in
+    let b : ℕ = a.0.ref_ptr.0 in let o : ℕ = a.0.ref_ptr.1 in let h : Sr.Denot = a.0.now in let vs = mut_vals a.0 in let p : Ptr = h.at in let x : X.Denot = h.content in let mark : ℕ = h.mark in let γ : LifeNames = h.life in let w : ℕ = h.weight in let k : ℕ = a.1.0 in
     let y : (walk_of 𝓛 En hs c).Ghost = ((κs, qs, bounds, a, (vs, (vint w64 k ∷ [], tt))), gh) in let Post : Val → SProp 𝓤 = (walk_of 𝓛 En hs c).post y in let others : Fml = fsep (flft κs.1.0 qs.1.0) ftrue in
     let Asked : Type 0 = (0 < k) × (k < w) in
     qed 𝓛 (((‵ (flft κs.0 qs.0) ⊛ ‵ others) ⊛ ‵ ((MutRef (named 0) κs.0 Sr).own_val a.0 vs) ⊛ ‵ (fsep (u64.own_val k (vint w64 k ∷ [])) ftrue)) ∷ raw (fact 𝓤 _) ∷ raw (fact 𝓤 Asked) ∷ []) ∵

@@ -10,5 +10,5 @@ returns-clause-kept c = λ t m.
     let f = c.release.ensures.kept t m in
     let u = ap (λ (z : SkbState). pieces_held t m z.rest) c.self.view_is in
     let v = ap (λ (z : SkbState). (of_holder z.head).held t m) c.self.view_is in
-    let w = ap (λ (z : SkbState). (of_holder z.head).homes m) c.self.view_is in
+    let w = ap (λ (z : SkbState). (of_holder z.head).homes t.blocks m) c.self.view_is in
     (omega arith, omega arith)
