@@ -1,5 +1,5 @@
 -- A count of faults, and when a call may answer a fault.
-use Rattle.std.specs.Prelude.{ℕ, ◌+◌, ◌-◌, ◌^◌, ◌≤◌, min, OnErr, Result}
+use Rattle.std.specs.Prelude.{ℕ, ◌≡◌, ◌+◌, ◌-◌, ◌^◌, ◌≤◌, min, OnErr, Result, MatchResult}
 
 -- one more, up to the last value of a counter of 64 bits
 abbrev pub next_count : ℕ → ℕ
@@ -13,3 +13,7 @@ Rose before now = next_count before ≤ now
 pub record HasCause {T E : Type 0} (before now : ℕ) (result : Result T E) : Type 0 where
   pub later : before ≤ now
   pub failed : OnErr result (Rose before now)
+
+-- the count rose by one where the call failed, and else it stayed
+abbrev pub CountsFault : {T E : Type 0} → ℕ → ℕ → Result T E → Type 0
+CountsFault before now result = MatchResult result (λ _. now ≡ before) (λ _. now ≡ next_count before)

@@ -2,7 +2,7 @@
 ghost use Rattle.std.specs.Prelude.{◌≡◌, ◌<◌, ◌≤◌, ◌+◌, ◌↔◌, min, Some, [], true, false, length, IsErr, IfOk, OnOk, OnErr, IsTrue};
 ghost use Rattle.std.specs.Io.{WritesAtMost};
 ghost use Rattle.std.specs.Io.KnownBytes.{WriteAppends, Keeps};
-ghost use Rattle.off_io.specs.Faults.{Rose, HasCause, next_count};
+ghost use Rattle.off_io.specs.Faults.{HasCause, CountsFault, next_count};
 ghost use Rattle.off_io.specs.Content.{SaysFlushed};
 ghost use Rattle.off_io.specs.Memory.{is_listed, SameScript, FailsAsListed};
 
@@ -12,7 +12,7 @@ use std::marker::Model;
 
 /// Keeps what is written, at most `step` bytes at a call. Writes and flushes are counted together, from 0. A call whose
 /// number is in the list `fails` answers `Failed`; any other call answers it only where `refused` rose, the number of
-/// writes that were given up for want of memory. Each `Failed` raises the count of faults.
+/// writes that were given up for want of memory. Each `Failed` raises the count of faults, and nothing else does.
 #[derive(Drop)]
 pub struct MemSink {
     bytes: Vec<u8>,
@@ -107,6 +107,9 @@ impl Sink for MemSink {
         ensures cause { HasCause self.old.faults self.new.faults result }
         ensures fails { IsTrue (is_listed self.old.fails self.old.calls) → IsErr result }
         ensures memory { FailsAsListed self.old self.new result }
+        ensures refused { OnOk result (self.new.refused ≡ self.old.refused) }
+        ensures listed { IsTrue (is_listed self.old.fails self.old.calls) → self.new.refused ≡ self.old.refused }
+        ensures faults { CountsFault self.old.faults self.new.faults result }
         ensures count { IfOk result (λ n. n ≡ min (length from.now) self.old.step) }
         ensures script { SameScript self.old self.new }
     {
@@ -131,6 +134,8 @@ impl Sink for MemSink {
         ensures flushed { OnOk result (SaysFlushed (Some self.new.bytes) self.new.is_flushed true) }
         ensures cause { HasCause self.old.faults self.new.faults result }
         ensures fails { IsErr result ↔ IsTrue (is_listed self.old.fails self.old.calls) }
+        ensures refused { self.new.refused ≡ self.old.refused }
+        ensures faults { CountsFault self.old.faults self.new.faults result }
         ensures script { SameScript self.old self.new }
     {
         if self.starts_failing() {

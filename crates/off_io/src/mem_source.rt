@@ -2,7 +2,7 @@
 ghost use Rattle.std.specs.Prelude.{◌≡◌, ◌<◌, ◌≤◌, ◌↔◌, min, Some, [], take, length, IsErr, IfOk, OnOk, IsTrue};
 ghost use Rattle.std.specs.Io.{ReadsAtMost};
 ghost use Rattle.std.specs.Io.KnownBytes.{ReadConsumes};
-ghost use Rattle.off_io.specs.Faults.{HasCause, next_count};
+ghost use Rattle.off_io.specs.Faults.{HasCause, CountsFault, next_count};
 ghost use Rattle.off_io.specs.Memory.{is_listed};
 
 use crate::{Failed, Source};
@@ -68,7 +68,7 @@ impl Source for MemSource {
         ensures cause { HasCause self.old.faults self.new.faults result }
         ensures fails { IsErr result ↔ IsTrue (is_listed self.old.fails self.old.calls) }
         ensures count { IfOk result (λ n. n ≡ min (min (length self.old.rest) (length into.new)) self.old.step) }
-        ensures faults { OnOk result (self.new.faults ≡ self.old.faults) }
+        ensures faults { CountsFault self.old.faults self.new.faults result }
         ensures calls { self.new.calls ≡ next_count self.old.calls }
         ensures script { (self.new.fails ≡ self.old.fails) × (self.new.step ≡ self.old.step) }
     {

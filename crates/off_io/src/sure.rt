@@ -1,5 +1,9 @@
 //! A source and a sink that never fail.
-ghost use Rattle.std.specs.Prelude.{◌≡◌, Some, None, drop, false, List, ℕ};
+ghost use Rattle.std.specs.Prelude.{◌≡◌, ◌<◌, Some, None, drop, false, length, List, ℕ, IfOk};
+ghost use Rattle.std.specs.Io.{WritesAtMost};
+ghost use Rattle.std.specs.Io.KnownBytes.{WriteAppends};
+ghost use Rattle.off_io.specs.Faults.{HasCause};
+ghost use Rattle.off_io.specs.Content.{SaysFlushed};
 
 use crate::mem_source::copy_front;
 use crate::{Failed, Sink, Source};
@@ -59,7 +63,14 @@ impl Sink for SureSink {
 
     ghost faults = { λ _. 0 };
 
-    fn write(&mut self, from: &[u8]) -> Result<usize, Failed> {
+    fn write(&mut self, from: &[u8]) -> Result<usize, Failed>
+        ensures bound { WritesAtMost result from.now }
+        ensures progress { IfOk result (λ n. 0 < length from.now → 0 < n) }
+        ensures bytes { WriteAppends None None result from.now }
+        ensures unflushed { IfOk result (λ n. 0 < n → SaysFlushed None false false) }
+        ensures cause { HasCause 0 0 result }
+        ensures takes { result ≡ Ok (length from.now) }
+    {
         Ok(from.len())
     }
 

@@ -289,7 +289,7 @@ ack_at : (f g : List ℕ) (l : Layer) (at : ℕ) → AreSameAt FlagsPlace f g l 
 ack_at f g Tcp at q s = q.same (at + 13) refl ∙ s
 ack_at f g _ at q s = tt
 
--- what the headers of a cut frame are, before lengths and sums are with_lengths_and_sums in
+-- what the headers of a cut frame are, before lengths and sums are filled in
 record IsPlaced (layout : Layout) (fixed : ℕ → Bool) (n m : ℕ) (g : List ℕ) (i : ℕ) (slice b : List ℕ) : Type 0 where
   small : Small b
   long : length b ≡ layout.payload_at + length slice

@@ -140,7 +140,7 @@ same_at_headers X Y own within hs end f g laid agree =
           agree k (omega (arith, w.1, q.1)) (q.2 k w.0 w.1 w.2);
     }) hs (inner X own 0 hs end laid)
 
--- ---- a frame that was with_lengths_and_sums in is like its model
+-- ---- a frame whose lengths and sums were filled in is like its model
 
 length_outside_sum : (l : Layer) (at k : ℕ) → LengthPlace k l at → (at ≤ k) × (k < at + size l) × OutsideSum k l at
 length_outside_sum Ip4 at k y = (omega arith, omega arith, inl (omega arith))

@@ -16,7 +16,8 @@ use Rattle.pcap_io.proofs.RecordLaws.{records_none, whole_record, cut_record, ta
 use Rattle.round_merge.specs.declared.packet.Packet.{Packet}
 use Rattle.offload_run.specs.declared.packet.Stop.{Stop}
 use Rattle.offload_run.specs.declared.packet.Stop.TheVariants.{Cap, ReadFault, NoMemory}
-use Rattle.offload_run.specs.Reading.{GivesPacket, GivesFrame, IsStop, Loses}
+use Rattle.pcap_io.specs.Reading.{Loses}
+use Rattle.offload_run.specs.Reading.{GivesPacket, GivesFrame, IsStop}
 
 pub at_end : (old new : Place) (bytes left : List ℕ) → GivesHead old (Ok None) bytes left → GivesPacket old new (Ok None) bytes left
 at_end old new bytes left gives =

@@ -16,7 +16,8 @@ use Rattle.offload_run.specs.declared.packet.Stop.{Stop}
 use Rattle.offload_run.specs.declared.packet.Stop.TheVariants.{Cap, ReadFault, NoMemory}
 use Rattle.offload_run.specs.declared.round.RoundEnd.{RoundEnd}
 use Rattle.offload_run.specs.declared.round.RoundEnd.TheVariants as ends
-use Rattle.offload_run.specs.Reading.{GivesPacket, GivesRound, GoesOn, IsEndFor, FitsLink, Loses, Passes, Holds, in_front}
+use Rattle.pcap_io.specs.Reading.{Loses}
+use Rattle.offload_run.specs.Reading.{GivesPacket, GivesRound, GoesOn, IsEndFor, FitsLink, Passes, Holds, in_front}
 use Rattle.round_merge.specs.Runs.{packet_of}
 
 -- these packets stand before what is still to be read

@@ -18,7 +18,8 @@ use Rattle.offload_run.specs.declared.round.RoundEnd.{RoundEnd}
 use Rattle.offload_run.specs.declared.round.RoundEnd.TheVariants as ends
 use Rattle.offload_run.specs.declared.status.Status.{Status}
 use Rattle.offload_run.specs.declared.status.Status.TheVariants as statuses
-use Rattle.offload_run.specs.Reading.{GivesRound, Holds, Loses, Passes, in_front}
+use Rattle.pcap_io.specs.Reading.{Loses}
+use Rattle.offload_run.specs.Reading.{GivesRound, Holds, Passes, in_front}
 use Rattle.pcap_io.specs.declared.place.Place.{Place}
 use Rattle.net_bytes.specs.declared.order.Order.{Order}
 use Rattle.pcap_io.specs.declared.heads.Link.TheVariants.{Ethernet}
@@ -223,7 +224,10 @@ pub malformed_given : (budget : ℕ) → 0 < budget → (a b c h h1 h2 h3 : Opti
     → Told a b (Ahead budget h h1 p0 p1) → Told b c (GivesRound p1 p2 ps end) → Told a c (Merges budget p0 h h3 r)
 malformed_given budget room a b c h h1 h2 h3 p0 p1 p2 file ps end bad r is (inl ok) f1 f le wrote kept first then =
     Told-then a b c (Ahead budget h h1 p0 p1) (GivesRound p1 p2 ps (ends.Malformed bad)) (Merges budget p0 h h3 r)
-    (λ bytes rest left ahead gives. rw ok (ahead_last budget room h h1 h2 h3 p0 p1 file ps (Some bad) bytes rest f1 f le wrote kept ahead gives.0))
+    (λ bytes rest left ahead gives.
+    let p = ahead_last budget room h h1 h2 h3 p0 p1 file ps (Some bad) bytes rest f1 f le wrote kept ahead gives.0 in
+    let lost : Loses bytes left = (ahead.gone ++ gives.1.0, ahead.split ∙ ap (λ l. ahead.gone ++ l) gives.1.1 ∙ sym (append_assoc ahead.gone gives.1.0 left)) in
+    rw ok (p.0, p.1, lost))
     first (subst (λ (e : RoundEnd). Told b c (GivesRound p1 p2 ps e)) is then)
 malformed_given budget room a b c h h1 h2 h3 p0 p1 p2 file ps end bad r is (inr fault) f1 f le wrote kept first then =
     flush_failed budget room a b c h h1 h2 h3 p0 p1 p2 file ps end r fault f1 f le wrote kept first then

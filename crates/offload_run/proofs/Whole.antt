@@ -5,6 +5,7 @@ use Rattle.std.proofs.Common.{◌≤◌, arith, length, length-append, length-ta
 use Rattle.std.proofs.lemmas.List.{take_at, drop_at, length-take-le}
 use Rattle.std.proofs.lemmas.Bool.{lt-ltb}
 use Rattle.std.proofs.KnownBytes.{Appends-nil}
+use Rattle.pcap_io.specs.declared.faults.InFault.{InFault}
 use Rattle.pcap_io.specs.declared.faults.InFault.TheVariants.{Cap, ReadFault}
 use Rattle.pcap_io.specs.declared.faults.CapFault.{CapFault}
 use Rattle.std.proofs.lemmas.Option.{none-some}
@@ -36,7 +37,7 @@ use Rattle.offload_model.specs.Laws.{InBytes}
 use Rattle.offload_model.specs.Written.{written, record_bytes, round_records, records_of}
 use Rattle.offload_model.proofs.Captured.{captures_are_captured}
 use Rattle.offload_model.proofs.Flows.{flows_come_back}
-use Rattle.offload_run.specs.Merging.{Merges, Flushes, MergeAnswers, output_at}
+use Rattle.offload_run.specs.Merging.{Merges, Flushes, IsStatusFor, MergeAnswers, output_at}
 
 reads_is : (file : FileHead) (given rest : List ℕ) → GivesFile Ethernet (Ok file) given rest → reads Ethernet given ≡ found_at (first_place file Ethernet 0) rest
 reads_is file given rest gives =
@@ -85,7 +86,7 @@ merged_none budget given kind refused =
     ap (λ (r : Option CapKind). if is_some r then [] else written (file_head (take 24 given)) (options budget) (reads Ethernet given).packets) refused
 
 -- fewer than 24 bytes are gone: nothing is written
-pub no_header : (budget : ℕ) → 0 < budget → (a b h : Option (List ℕ)) (flushed : Bool) (untouched : Type 0) → untouched → Told a b (GivesFile Ethernet (Err ReadFault)) → Told a b (MergeAnswers budget h h flushed untouched statuses.ReadFault)
+no_header : (budget : ℕ) → 0 < budget → (a b h : Option (List ℕ)) (flushed : Bool) (untouched : Type 0) → untouched → Told a b (GivesFile Ethernet (Err ReadFault)) → Told a b (MergeAnswers budget h h flushed untouched statuses.ReadFault)
 no_header budget room a b h flushed untouched same told =
     Told-weaker a b (GivesFile Ethernet (Err ReadFault)) (MergeAnswers budget h h flushed untouched statuses.ReadFault)
     (λ given left gone.
@@ -100,7 +101,7 @@ no_header budget room a b h flushed untouched same told =
     )) told
 
 -- the file header is refused: nothing is written
-pub bad_header : (budget : ℕ) → 0 < budget → (a b h : Option (List ℕ)) (flushed : Bool) (untouched : Type 0) (fault : CapFault) → untouched → Told a b (GivesFile Ethernet (Err (Cap fault))) → Told a b (MergeAnswers budget h h flushed untouched (statuses.Malformed fault))
+bad_header : (budget : ℕ) → 0 < budget → (a b h : Option (List ℕ)) (flushed : Bool) (untouched : Type 0) (fault : CapFault) → untouched → Told a b (GivesFile Ethernet (Err (Cap fault))) → Told a b (MergeAnswers budget h h flushed untouched (statuses.Malformed fault))
 bad_header budget room a b h flushed untouched fault same told =
     Told-weaker a b (GivesFile Ethernet (Err (Cap fault))) (MergeAnswers budget h h flushed untouched (statuses.Malformed fault))
     (λ given left gives.
@@ -109,7 +110,15 @@ bad_header budget room a b h flushed untouched fault same told =
       ap (λ (r : Option CapKind). (found_after r all).fault) refused ∙ ap (λ (k : CapFault). Some k) (sym gives.0.1),
       writes_merged budget room h h given (subst (Appends h h) (sym (merged_none budget given fault.kind refused)) (Appends-nil h)),
       record { behind = λ lawful. absurd (none-some fault.kind (sym lawful ∙ refused)); alone = λ none. same },
+      (take 24 given, sym (take-append-drop 24 given) ∙ ap (λ l. take 24 given ++ l) (sym gives.1)),
     )) told
+
+pub no_file : (budget : ℕ) → 0 < budget → (a b h : Option (List ℕ)) (flushed : Bool) (untouched : Type 0) (fault : InFault) (status : Status) → untouched → IsStatusFor fault status
+    → Told a b (GivesFile Ethernet (Err fault)) → Told a b (MergeAnswers budget h h flushed untouched status)
+no_file budget room a b h flushed untouched (Cap fault) status same is told =
+    subst (λ (s : Status). Told a b (MergeAnswers budget h h flushed untouched s)) (sym is) (bad_header budget room a b h flushed untouched fault same told)
+no_file budget room a b h flushed untouched ReadFault status same is told =
+    subst (λ (s : Status). Told a b (MergeAnswers budget h h flushed untouched s)) (sym is) (no_header budget room a b h flushed untouched same told)
 
 -- the bytes that are gone behind a file header, and that header before them
 behind : (file : FileHead) (given rest gone left : List ℕ) → GivesFile Ethernet (Ok file) given rest → rest ≡ gone ++ left → given ≡ (take 24 given ++ gone) ++ left
@@ -140,6 +149,7 @@ answers budget room h h1 h2 flushed untouched file (statuses.Malformed fault) gi
   ap (λ (f : Found). f.fault) (reads_is file given rest gives) ∙ merges.0,
   writes_merged budget room h h2 given (subst (Appends h h2) (sym (merged_is budget file given rest gives)) (Appends-trans h h1 h2 _ _ head merges.1)),
   record { behind = λ lawful. flush; alone = λ none. absurd (none gives.1) },
+  (take 24 given ++ merges.2.0, behind file given rest merges.2.0 left gives merges.2.1),
 )
 answers budget room h h1 h2 flushed untouched file statuses.Usage given rest left head flush gives merges = absurd merges
 answers budget room h h1 h2 flushed untouched file statuses.ReadFault given rest left head flush gives merges =

@@ -4,9 +4,12 @@ use Rattle.std.specs.Io.KnownBytes.{Appends}
 use Rattle.off_io.specs.Content.{AppendsFront, SaysFlushed}
 use Rattle.pcap_io.specs.declared.place.Place.{Place}
 use Rattle.pcap_io.specs.declared.heads.Link.TheVariants.{Ethernet}
+use Rattle.pcap_io.specs.declared.faults.InFault.{InFault}
+use Rattle.pcap_io.specs.declared.faults.InFault.TheVariants as faults
 use Rattle.pcap_io.specs.Headers.{first_that_holds, file_refusals}
 use Rattle.pcap_io.specs.Capture.{reads}
 use Rattle.pcap_io.specs.Places.{found_at}
+use Rattle.pcap_io.specs.Reading.{Loses}
 use Rattle.segment_run.specs.Segmenting.{FlushedBehind}
 use Rattle.offload_words.specs.declared.words.Command.{Command}
 use Rattle.offload_words.specs.declared.words.Command.TheVariants.{Merge, Segment}
@@ -22,7 +25,7 @@ output_at budget place bytes = rounds_bytes budget place.file.order (found_at pl
 -- The bytes that are gone from the source were read, and what is written is what comes of them; where the sink failed or memory ran out, a front of it.
 abbrev pub Merges : ℕ → Place → Option (List ℕ) → Option (List ℕ) → Status → List ℕ → List ℕ → Type 0
 Merges budget place old new statuses.Ok bytes left = ((found_at place bytes).fault ≡ None) × (left ≡ []) × Appends old new (output_at budget place bytes)
-Merges budget place old new (statuses.Malformed fault) bytes left = ((found_at place bytes).fault ≡ Some fault) × Appends old new (output_at budget place bytes)
+Merges budget place old new (statuses.Malformed fault) bytes left = ((found_at place bytes).fault ≡ Some fault) × Appends old new (output_at budget place bytes) × Loses bytes left
 Merges budget place old new statuses.Usage bytes left = ⊥
 Merges budget place old new statuses.ReadFault bytes left = (gone : List ℕ) × (bytes ≡ gone ++ left) × Appends old new (output_at budget place gone)
 Merges budget place old new statuses.WriteFault bytes left = (gone : List ℕ) × (bytes ≡ gone ++ left) × AppendsFront old new (output_at budget place gone)
@@ -35,6 +38,11 @@ Flushes held is_flushed (statuses.Malformed fault) = SaysFlushed held is_flushed
 Flushes held is_flushed statuses.ReadFault = SaysFlushed held is_flushed true
 Flushes held is_flushed _ = ⊤
 
+-- the status for a fault of the reader
+abbrev pub IsStatusFor : InFault → Status → Type 0
+IsStatusFor (faults.Cap fault) status = status ≡ statuses.Malformed fault
+IsStatusFor faults.ReadFault status = status ≡ statuses.ReadFault
+
 -- these bytes begin with a lawful file header
 abbrev pub HasFileHead : List ℕ → Type 0
 HasFileHead given = first_that_holds (file_refusals Ethernet (take 24 given)) ≡ None
@@ -44,7 +52,7 @@ abbrev pub MergeAnswers : ℕ → Option (List ℕ) → Option (List ℕ) → Bo
 MergeAnswers budget old new is_flushed untouched statuses.Ok given left =
     ((reads Ethernet given).fault ≡ None) × (left ≡ []) × WritesMerged budget old new given × SaysFlushed new is_flushed true
 MergeAnswers budget old new is_flushed untouched (statuses.Malformed fault) given left =
-    ((reads Ethernet given).fault ≡ Some fault) × WritesMerged budget old new given × FlushedBehind (HasFileHead given) (SaysFlushed new is_flushed true) untouched
+    ((reads Ethernet given).fault ≡ Some fault) × WritesMerged budget old new given × FlushedBehind (HasFileHead given) (SaysFlushed new is_flushed true) untouched × Loses given left
 MergeAnswers budget old new is_flushed untouched statuses.Usage given left = ⊥
 MergeAnswers budget old new is_flushed untouched statuses.ReadFault given left =
     (gone : List ℕ) × (given ≡ gone ++ left) × WritesMerged budget old new gone × FlushedBehind (24 ≤ length gone) (SaysFlushed new is_flushed true) untouched

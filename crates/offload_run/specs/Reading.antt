@@ -8,7 +8,7 @@ use Rattle.pcap_io.specs.declared.faults.InFault.TheVariants as faults
 use Rattle.pcap_io.specs.Capture.{Packet, Found, ended, one_more}
 use Rattle.pcap_io.specs.Headers.{captured_limit, is_bad_original}
 use Rattle.pcap_io.specs.Places.{found_at, IsReady, short_record}
-use Rattle.pcap_io.specs.Reading.{FewerGone}
+use Rattle.pcap_io.specs.Reading.{FewerGone, Loses}
 use Rattle.round_merge.specs.declared.packet.Packet.{Packet as Read}
 use Rattle.offload_run.specs.declared.packet.Stop.{Stop}
 use Rattle.offload_run.specs.declared.packet.Stop.TheVariants.{Cap, ReadFault, NoMemory}
@@ -26,10 +26,6 @@ GivesFrame place (Err NoMemory) bytes left = bytes ≡ left
 -- some packets in front
 abbrev pub in_front : List Packet → Found → Found
 in_front packets rest = record { packets = packets ++ rest.packets; fault = rest.fault }
-
--- some bytes are gone from the front
-abbrev pub Loses : List ℕ → List ℕ → Type 0
-Loses bytes left = (gone : List ℕ) × (bytes ≡ gone ++ left)
 
 -- the bytes that are gone stand, whatever follows them, for some packets in front of those that follow
 abbrev pub Passes : Place → Place → (Found → Found) → List ℕ → List ℕ → Type 0

@@ -7,7 +7,7 @@ ghost use Rattle.off_io.specs.Told.{Told};
 ghost use Rattle.pcap_io.specs.declared.heads.Link.TheVariants.{Ethernet};
 ghost use Rattle.pcap_io.specs.Places.{IsReady, first_place};
 ghost use Rattle.pcap_io.specs.Readers.{place_of, source_of, SameLoan};
-ghost use Rattle.offload_run.specs.Merging.{Merges, MergeAnswers, Flushes};
+ghost use Rattle.offload_run.specs.Merging.{Merges, MergeAnswers, Flushes, IsStatusFor};
 
 use crate::packet::NoMemory;
 use crate::round::{RoundEnd, read_round};
@@ -17,6 +17,16 @@ use offload_words::MergeOptions;
 use pcap_io::{CaptureReader, FileHead, InFault, Link, take_file, write_file_head};
 use round_merge::merge_round;
 use std::alloc::Global;
+
+// The status for a fault of the reader.
+fn status_of(fault: InFault) -> Status
+    ensures { IsStatusFor fault result }
+{
+    match fault {
+        InFault::Cap(fault) => Status::Malformed(fault),
+        InFault::ReadFault => Status::ReadFault,
+    }
+}
 
 // The answer after the last write: the sink is flushed first.
 fn finish<K: Sink>(sink: &mut K, status: Status) -> Status
@@ -115,8 +125,7 @@ pub(crate) fn merge_capture<S: Source, K: Sink>(
 {
     let file = match take_file(source, Link::Ethernet) {
         Ok(file) => file,
-        Err(InFault::Cap(fault)) => return Status::Malformed(fault),
-        Err(InFault::ReadFault) => return Status::ReadFault,
+        Err(fault) => return status_of(fault),
     };
     match write_file_head(sink, &file, Link::Offload) {
         Ok(()) => merge_from(alloc, file, options.budget as usize, source, sink),

@@ -5,7 +5,8 @@ ghost use Rattle.off_io.specs.Told.{Told};
 ghost use Rattle.pcap_io.specs.Places.{IsReady};
 ghost use Rattle.pcap_io.specs.Readers.{place_of, source_of, SameLoan};
 ghost use Rattle.round_merge.specs.Round.{AreRising};
-ghost use Rattle.offload_run.specs.Reading.{GivesRound, FitsLink, IsEndFor, Loses, PassesRound};
+ghost use Rattle.pcap_io.specs.Reading.{Loses};
+ghost use Rattle.offload_run.specs.Reading.{GivesRound, FitsLink, IsEndFor, PassesRound};
 
 use crate::packet::{NoMemory, Stop, read_packet};
 use off_io::Source;

@@ -48,7 +48,7 @@ fn said_in(alloc: Global, output: &[u8]) -> Result<Vec<Said>, AllocError> {
     Ok(said)
 }
 
-fn hash(bytes: &[u8]) -> u32 {
+pub fn hash(bytes: &[u8]) -> u32 {
     let mut hash = 0u32;
     for byte in bytes {
         hash = hash.wrapping_mul(31).wrapping_add(u32::from(*byte));

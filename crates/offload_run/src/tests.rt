@@ -2,6 +2,8 @@
 //!
 //! The bytes come from a program that was written from the format alone.
 
+use crate::row_frames::{Frame, NEXT, PLAIN, capture_of};
+use crate::rows::hash;
 use crate::{Status, run};
 use off_io::{MemSink, MemSource, NoGate};
 use pcap_io::{CapFault, CapKind};
@@ -345,6 +347,69 @@ fn each_write_fails_in_turn(rt: HostRuntime) -> Result<(), Fail> {
         let ended = run_line(rt.alloc(), line, &THREE_FLOWS, 64, &[4], &[2])?;
         assert_eq!(rt; ended.status, Status::WriteFault, "at {line}");
         assert_eq!(rt; ended.sink.bytes(), &THREE_SINGLES[..40], "at {line}");
+    }
+    Ok(())
+}
+
+// The step, how many reads the file header, each record and the end take, and how many writes and flushes all of it: segments
+// of 100, 60 and 100 bytes of one flow, of which the first two are merged.
+const CALLS_OF_MERGED: [(usize, [u64; 5], u64); 3] = [
+    (1, [24, 170, 130, 170, 1], 449),
+    (7, [4, 25, 20, 25, 1], 68),
+    (64, [1, 4, 3, 4, 1], 13),
+];
+
+#[test]
+fn each_call_fails_within_a_merged_record(rt: HostRuntime) -> Result<(), Fail> {
+    let short = Frame {
+        payload: 60,
+        ..NEXT
+    };
+    let last = Frame {
+        id: 102,
+        seq: 1160,
+        ..PLAIN
+    };
+    let input = capture_of(rt.alloc(), &[PLAIN, short, last])?;
+    let whole = run_line(rt.alloc(), MERGE, &input, 4096, &[], &[])?;
+    assert_eq!(rt; whole.status, Status::Ok);
+    // The hash is that of `contrib/merge_by_definition`.
+    assert_eq!(rt;
+        (whole.sink.bytes().len(), hash(whole.sink.bytes())),
+        (448, 232015797)
+    );
+    for (step, reads, writes) in CALLS_OF_MERGED {
+        let mut call = 0u64;
+        for (count, written) in reads.into_iter().zip([0usize, 24, 206, 266, 448]) {
+            for _ in 0..count {
+                let ended = run_line(rt.alloc(), MERGE, &input, step, &[call], &[])?;
+                assert_eq!(rt;
+                    ended.status,
+                    Status::ReadFault,
+                    "call {call} at step {step}"
+                );
+                assert_eq!(rt;
+                    ended.sink.bytes().len(),
+                    written,
+                    "call {call} at step {step}"
+                );
+                call = call.saturating_add(1);
+            }
+        }
+        for call in 0..writes {
+            let ended = run_line(rt.alloc(), MERGE, &input, step, &[], &[call])?;
+            assert_eq!(rt;
+                ended.status,
+                Status::WriteFault,
+                "call {call} at step {step}"
+            );
+            assert!(rt; whole.sink.bytes().starts_with(ended.sink.bytes()));
+            if step == 1 {
+                assert_eq!(rt; ended.sink.bytes().len() as u64, call);
+            }
+        }
+        let ended = run_line(rt.alloc(), MERGE, &input, step, &[], &[writes])?;
+        assert_eq!(rt; ended.status, Status::Ok);
     }
     Ok(())
 }

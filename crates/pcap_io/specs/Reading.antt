@@ -13,6 +13,10 @@ use Rattle.pcap_io.specs.Headers.{first_that_holds, head_refusals, file_refusals
 use Rattle.pcap_io.specs.Capture.{ended}
 use Rattle.pcap_io.specs.Places.{found_at, IsHead, IsRefusal, short_record}
 
+-- some bytes are gone from the front
+abbrev pub Loses : List ℕ → List ℕ → Type 0
+Loses bytes left = (gone : List ℕ) × (bytes ≡ gone ++ left)
+
 -- some bytes are gone, fewer than n
 abbrev pub FewerGone : List ℕ → List ℕ → ℕ → Type 0
 FewerGone old new n = (front : List ℕ) × (old ≡ front ++ new) × (length front < n)

@@ -20,6 +20,7 @@ use Rattle.pcap_io.specs.declared.heads.Link.TheVariants.{Offload}
 use Rattle.pcap_io.specs.declared.place.Place.{Place}
 use Rattle.pcap_io.specs.Capture.{Packet, Found, ended, one_more}
 use Rattle.pcap_io.specs.Places.{IsReady, found_at}
+use Rattle.pcap_io.specs.Reading.{Loses}
 use Rattle.offload_model.specs.Segments.{segments_of}
 use Rattle.offload_model.specs.Tests.{is_lawful_record}
 use Rattle.offload_model.specs.CaptureLaws.{tested_from}
@@ -126,6 +127,11 @@ all_written h h1 h3 p0 p1 fault bytes rest kept ahead end =
           (Appends-kept h h1 h3 all (Owes-none h h1 all (subst (Owes h h1 all) (output_end p1 rest fault end) (ahead.owed rest))) kept),
     )
 
+-- what is gone is a front of what was given
+lost : (h h1 : Option (List ℕ)) (p0 p1 : Place) (bytes rest last left : List ℕ) → Ahead h h1 p0 p1 bytes rest → rest ≡ last ++ left → Loses bytes left
+lost h h1 p0 p1 bytes rest last left ahead split =
+    (ahead.gone ++ last, ahead.split ∙ ap (λ l. ahead.gone ++ l) split ∙ sym (append_assoc ahead.gone last left))
+
 -- all was written, and then the flush failed
 unflushed : (h h3 : Option (List ℕ)) (p0 : Place) (bytes left : List ℕ) → Segments p0 h h3 ReadFault bytes left → Segments p0 h h3 WriteFault bytes left
 unflushed h h3 p0 bytes left all = (all.0, all.1, front_whole h h3 (output_at p0 all.0) all.2)
@@ -135,7 +141,8 @@ unflushed h h3 p0 bytes left all = (all.0, all.1, front_whole h h3 (output_at p0
 stopped : (h h1 h3 : Option (List ℕ)) (p0 p1 p2 : Place) (fault : InFault) (end r : End) (buffer bytes rest left : List ℕ) → IsEndFor fault end → (r ≡ end) ⊎ (r ≡ WriteFault) → Keeps h1 h3
     → Ahead h h1 p0 p1 bytes rest → GivesRecord p1 p2 (Err fault) buffer rest left → Segments p0 h h3 r bytes left
 stopped h h1 h3 p0 p1 p2 (faults.Cap fault) end r buffer bytes rest left is (inl e) kept ahead gives =
-    rw (e, is) (all_written h h1 h3 p0 p1 (Some fault) bytes rest kept ahead (tested_end p1 rest (Some fault) gives.0))
+    let all = all_written h h1 h3 p0 p1 (Some fault) bytes rest kept ahead (tested_end p1 rest (Some fault) gives.0) in
+    rw (e, is) (all.0, all.1, lost h h1 p0 p1 bytes rest gives.1.0 left ahead gives.1.1)
 stopped h h1 h3 p0 p1 p2 (faults.Cap fault) end r buffer bytes rest left is (inr e) kept ahead gives =
     rw e (unflushed h h3 p0 bytes left (gone_written h h1 h3 p0 p1 bytes rest gives.1.0 left kept ahead gives.1.1 (output_none p1 gives.1.0 gives.1.2)))
 stopped h h1 h3 p0 p1 p2 faults.ReadFault end r buffer bytes rest left is (inl e) kept ahead gives =
@@ -218,7 +225,8 @@ module _ (a b c h h1 : Option (List ℕ)) (p0 p1 p2 : Place) (found : Option Rec
           let tested : tested_at p1 (gives.0 ++ left) ≡ ended (Some (record { kind = BadOffload; offset = p1.offset; number = r.number }))
           = tested_bad p1 (packet_of r body) (gives.0 ++ left) (found_at p2 left) (gives.2 left) lawful in
           let end_is : tested_at p1 rest ≡ ended (Some (bad_record r)) = ap (tested_at p1) gives.1 ∙ tested ∙ ap (λ (k : CapFault). ended (Some k)) fault_is in
-          rw e (all_written h h1 h3 p0 p1 (Some (bad_record r)) bytes rest keeps ahead end_is)
+          let all = all_written h h1 h3 p0 p1 (Some (bad_record r)) bytes rest keeps ahead end_is in
+          rw e (all.0, all.1, lost h h1 p0 p1 bytes rest gives.0 left ahead gives.1)
       at_bad bytes rest left lawful keeps ahead gives (inr e) =
           let tested : tested_at p1 (gives.0 ++ []) ≡ ended (Some (record { kind = BadOffload; offset = p1.offset; number = r.number }))
           = tested_bad p1 (packet_of r body) (gives.0 ++ []) (found_at p2 []) (gives.2 []) lawful in

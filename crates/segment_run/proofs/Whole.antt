@@ -2,7 +2,7 @@
 use Rattle.std.proofs.Common.{◌≡◌, ℕ, ◌≤◌, Bool, true, if◌then◌else◌, List, [], ◌++◌, length, take, drop, refl, sym, ap, ◌∙◌, arith, Option, Some, Ok, Err, subst, length-append, length-take, append_assoc, take-append-drop}
 use Rattle.std.specs.Prelude.{is_some, nat_lt}
 use Rattle.std.specs.Io.KnownBytes.{Appends}
-use Rattle.std.proofs.KnownBytes.{Appends-nil, Appends-trans}
+use Rattle.std.proofs.KnownBytes.{Appends-nil, Appends-kept, Appends-trans}
 use Rattle.std.proofs.lemmas.List.{take_at, drop_at, length-take-le}
 use Rattle.std.proofs.lemmas.Bool.{lt-ltb}
 use Rattle.std.proofs.lemmas.Option.{none-some}
@@ -83,6 +83,7 @@ no_file h flushed untouched (faults.Cap fault) end given left same is gives =
       ap (λ (r : Option CapKind). (tested_from 24 (found_after r all).packets (found_after r all).fault).fault) refused ∙ ap (λ (k : CapFault). Some k) (sym gives.0.1),
       subst (Appends h h) (sym (output_none given fault.kind refused)) (Appends-nil h),
       record { behind = λ lawful. absurd (none-some fault.kind (sym lawful ∙ refused)); alone = λ none. same },
+      (take 24 given, sym (take-append-drop 24 given) ∙ ap (λ l. take 24 given ++ l) (sym gives.1)),
     )
 
 pub no_file_given : (a b h : Option (List ℕ)) (flushed : Bool) (untouched : Type 0) (fault : InFault) (end : End) → untouched → IsEndFor fault end
@@ -119,6 +120,7 @@ answers h h1 h2 flushed untouched file (Malformed fault) given rest left head fl
   ap (λ (f : Found). f.fault) (tested_is file given rest gives) ∙ cut.0,
   subst (Appends h h2) (sym (output_is file given rest gives)) (Appends-trans h h1 h2 _ _ head cut.1),
   record { behind = λ lawful. flush; alone = λ none. absurd (none gives.1) },
+  (take 24 given ++ cut.2.0, behind file given rest cut.2.0 left gives cut.2.1),
 )
 answers h h1 h2 flushed untouched file ReadFault given rest left head flush gives cut =
     let front = take 24 given in
@@ -130,7 +132,7 @@ answers h h1 h2 flushed untouched file ReadFault given rest left head flush give
       record { behind = λ enough. flush; alone = λ none. absurd (none long) },
     )
 answers h h1 h2 flushed untouched file WriteFault given rest left head flush gives cut = front_of h h1 h2 file given rest left head gives cut
-answers h h1 h2 flushed untouched file NoMemory given rest left head flush gives cut = front_of h h1 h2 file given rest left head gives cut
+answers h h1 h2 flushed untouched file NoMemory given rest left head flush gives cut = front_of h h1 h2 file given rest left head gives ([], cut.0, (0, Appends-kept h1 h1 h2 [] (Appends-nil h1) cut.1))
 
 pub run_given : (a b c h h1 h2 : Option (List ℕ)) (flushed : Bool) (untouched : Type 0) (file : FileHead) (end : End)
     → Appends h h1 (file_bytes file Ethernet) → Flushes h2 flushed end → Told a b (GivesFile Offload (Ok file)) → Told b c (Segments (first_place file Offload 0) h1 h2 end) → Told a c (SegmentAnswers h h2 flushed untouched end)

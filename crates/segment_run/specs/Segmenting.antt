@@ -1,6 +1,6 @@
 -- What the segmenting of a capture says of each answer.
 use Rattle.std.specs.Prelude.{◌≡◌, ℕ, ◌≤◌, List, [], ◌++◌, length, Bool, true, Option, None, Some, ⊤, take}
-use Rattle.std.specs.Io.KnownBytes.{Appends}
+use Rattle.std.specs.Io.KnownBytes.{Appends, Keeps}
 use Rattle.off_io.specs.Content.{AppendsFront, SaysFlushed}
 use Rattle.pcap_io.specs.declared.place.Place.{Place}
 use Rattle.pcap_io.specs.declared.faults.CapFault.{CapFault}
@@ -10,6 +10,7 @@ use Rattle.pcap_io.specs.declared.faults.InFault.TheVariants as faults
 use Rattle.pcap_io.specs.declared.heads.RecHead.{RecHead}
 use Rattle.pcap_io.specs.declared.heads.Link.TheVariants.{Offload}
 use Rattle.pcap_io.specs.Headers.{first_that_holds, file_refusals}
+use Rattle.pcap_io.specs.Reading.{Loses}
 use Rattle.offload_model.specs.CaptureLaws.{reads_tested}
 use Rattle.segment_run.specs.declared.end.End.{End}
 use Rattle.segment_run.specs.declared.end.End.TheVariants.{Done, Malformed, ReadFault, WriteFault, NoMemory}
@@ -19,10 +20,10 @@ use Rattle.segment_run.specs.Output.{tested_at, output_at, output_of}
 -- it. Where memory ran out nothing was read or written.
 abbrev pub Segments : Place → Option (List ℕ) → Option (List ℕ) → End → List ℕ → List ℕ → Type 0
 Segments place old new Done bytes left = ((tested_at place bytes).fault ≡ None) × (left ≡ []) × Appends old new (output_at place bytes)
-Segments place old new (Malformed fault) bytes left = ((tested_at place bytes).fault ≡ Some fault) × Appends old new (output_at place bytes)
+Segments place old new (Malformed fault) bytes left = ((tested_at place bytes).fault ≡ Some fault) × Appends old new (output_at place bytes) × Loses bytes left
 Segments place old new ReadFault bytes left = (gone : List ℕ) × (bytes ≡ gone ++ left) × Appends old new (output_at place gone)
 Segments place old new WriteFault bytes left = (gone : List ℕ) × (bytes ≡ gone ++ left) × AppendsFront old new (output_at place gone)
-Segments place old new NoMemory bytes left = (gone : List ℕ) × (bytes ≡ gone ++ left) × AppendsFront old new (output_at place gone)
+Segments place old new NoMemory bytes left = (bytes ≡ left) × Keeps old new
 
 -- after which answers a sink that tells says that all is flushed
 abbrev pub Flushes : Option (List ℕ) → Bool → End → Type 0
@@ -45,7 +46,7 @@ abbrev pub SegmentAnswers : Option (List ℕ) → Option (List ℕ) → Bool →
 SegmentAnswers old new is_flushed untouched Done given left =
     ((reads_tested given).fault ≡ None) × (left ≡ []) × Appends old new (output_of given) × SaysFlushed new is_flushed true
 SegmentAnswers old new is_flushed untouched (Malformed fault) given left =
-    ((reads_tested given).fault ≡ Some fault) × Appends old new (output_of given) × FlushedBehind (HasFileHead given) (SaysFlushed new is_flushed true) untouched
+    ((reads_tested given).fault ≡ Some fault) × Appends old new (output_of given) × FlushedBehind (HasFileHead given) (SaysFlushed new is_flushed true) untouched × Loses given left
 SegmentAnswers old new is_flushed untouched ReadFault given left =
     (gone : List ℕ) × (given ≡ gone ++ left) × Appends old new (output_of gone) × FlushedBehind (24 ≤ length gone) (SaysFlushed new is_flushed true) untouched
 SegmentAnswers old new is_flushed untouched WriteFault given left = (gone : List ℕ) × (given ≡ gone ++ left) × AppendsFront old new (output_of gone)
