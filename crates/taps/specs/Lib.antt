@@ -1,0 +1,3 @@
+pub mod Texts
+pub mod Clones
+pub mod Shown

@@ -1,0 +1,59 @@
+//! The packets that a tap reads, as clones of the workers' buffers.
+ghost use Rattle.std.specs.Prelude.{◌≡◌, ◌+◌, ◌≤◌, length, slice_range};
+ghost use Rattle.frags.specs.Account.{Keeps, both, of_outcomes};
+ghost use Rattle.frags.specs.Growth.{Grows};
+ghost use Rattle.offload_model.specs.Written.{window_of};
+ghost use Rattle.skb.specs.SkbState.{buffer_bytes, buffer_size};
+ghost use Rattle.taps.specs.Clones.{blocks_of, of_clones};
+
+use frags::Outcomes;
+use skb::Skb;
+
+/// A clone of a packet's buffer, and what its record said. It must be spent: its buffer is given back by
+/// [`TapTask::run`](crate::TapTask::run).
+pub struct TapClone {
+    /// The packet's bytes as they arrived.
+    pub skb: Skb,
+    /// Its time: seconds, and micro- or nanoseconds as the capture has them.
+    pub sec: u32,
+    pub frac: u32,
+    /// Its length on the wire, in bytes.
+    pub original: u32,
+    /// Its number in the capture, from 0.
+    pub number: u32,
+}
+
+impl TapClone {
+    /// Where window `tap` lies in the packet's bytes: `from..to`, empty where the packet ends before it.
+    pub(crate) fn window(&self, tap: u32, snap: u32) -> (usize, usize)
+        ensures range { (result.0 ≤ result.1) × (result.1 ≤ buffer_size self.now.skb) }
+        ensures bytes { result.1 ≤ length (buffer_bytes self.now.skb) }
+        ensures window { slice_range (buffer_bytes self.now.skb) result.0 result.1 ≡ window_of snap tap (buffer_bytes self.now.skb) }
+    {
+        let len = self.skb.len();
+        let from = (tap as usize * snap as usize).min(len);
+        let to = (from + snap as usize).min(len);
+        (from, to)
+    }
+}
+
+/// Gives the buffers of all clones back.
+pub(crate) fn release_all(clones: Vec<TapClone>, out: &mut Outcomes)
+    requires room { blocks_of clones.items ≤ out.old.spare }
+    ensures kept { Keeps (both (of_clones clones.items) (of_outcomes out.old)) (of_outcomes out.new) }
+    ensures grows { Grows (blocks_of clones.items) out.old out.new }
+    ensures places { out.old.spare ≤ out.new.spare + blocks_of clones.items }
+{
+    let mut clones = clones;
+    while let Some(clone) = clones.pop() {
+        let TapClone {
+            skb,
+            sec: _,
+            frac: _,
+            original: _,
+            number: _,
+        } = clone;
+        skb.release(out);
+    }
+    clones.destroy_empty();
+}

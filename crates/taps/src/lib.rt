@@ -1,0 +1,44 @@
+//! What taps read of packets: a window of each, as it arrived, whatever becomes of the packet meanwhile.
+//!
+//! ```text
+//!   packet   |........|........|........|...|        snap bytes a window
+//!   tap      0        1        2        3            tap 4 reads nothing of it
+//! ```
+//!
+//! A [`TapTask`] holds a clone of each packet, so its bytes stay while others push, pull, merge or release theirs. [`TapTask::run`]
+//! copies the windows out, into one vector for all of them, and gives every clone back.
+//!
+//! Proved, by the names of the clauses of `run`:
+//!
+//! - `texts`: the windows are those of the packets, in the order of the clones, the empty ones left out.
+//! - `windows`: the records made of them are the tap's windows in what merging writes (`windows_of`).
+//! - `kept`, `grows`, `places`: nothing is lost (see `frags`), also where memory runs out.
+//!
+//! Only tested: that the gate is passed, once before and once after, and that memory suffices where there is some.
+//!
+//! ```
+//! let TapResult { texts, outcomes } = task.run(&NoGate);
+//! let _ = home_of(outcomes);
+//! let texts = texts?;
+//! for i in 0..texts.len() {
+//!     read = read.wrapping_add(texts.get(i).bytes.len());
+//! }
+//! ```
+#![tactic(auto)]
+
+ghost use Rattle.taps.specs.Texts.{TextsAreWindows};
+
+mod clones;
+mod task;
+#[cfg(test)]
+mod tests;
+mod texts;
+
+pub use clones::TapClone;
+pub use task::{TapResult, TapTask};
+pub use texts::{TapText, TapTexts};
+
+/// The records of a tap's texts are its windows in what merging writes.
+pub fn texts_are_windows()
+    ensures law { TextsAreWindows }
+{}

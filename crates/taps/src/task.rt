@@ -1,0 +1,113 @@
+//! A tap's work in one round.
+ghost use Rattle.std.specs.Prelude.{◌≡◌, ◌<◌, ◌≤◌, ◌+◌, map, IfOk, true, false};
+ghost use Rattle.frags.specs.Account.{Keeps, both, of_outcomes};
+ghost use Rattle.frags.specs.Growth.{Grows};
+ghost use Rattle.offload_model.specs.Written.{windows_of};
+ghost use Rattle.taps.specs.Clones.{packet_of, blocks_of, of_clones};
+ghost use Rattle.taps.specs.Texts.{texts_of, record_of_text};
+
+use crate::clones::{TapClone, release_all};
+use crate::texts::TapTexts;
+use frags::Outcomes;
+use off_io::{Gate, Who};
+use std::alloc::{AllocError, Global};
+
+/// What one tap is to read of a round. It must be spent: run.
+pub struct TapTask {
+    /// The tap's number, from 0. It reads window `tap` of each packet.
+    pub tap: u32,
+    /// The bytes of a window.
+    pub snap: u32,
+    /// A clone of each packet, by record number.
+    pub clones: Vec<TapClone>,
+    /// Takes what the clones leave, in places that were reserved before.
+    pub outcomes: Outcomes,
+}
+
+/// What a tap has read, and what its clones left.
+pub struct TapResult {
+    /// The windows that aren't empty, or the want of memory for them.
+    pub texts: Result<TapTexts, AllocError>,
+    pub outcomes: Outcomes,
+}
+
+impl TapTask {
+    /// Whether the outcomes have room for all that the clones leave, as `run` wants it.
+    pub fn has_room(&self) -> bool
+        ensures room { result ≡ true → blocks_of self.now.clones.items ≤ self.now.outcomes.spare }
+        ensures short { result ≡ false → self.now.outcomes.spare < blocks_of self.now.clones.items }
+    {
+        has_room(self.outcomes.spare(), &self.clones)
+    }
+
+    /// Reads window `tap` of each clone: its bytes from `tap * snap` on, at most `snap`. Empty windows are left out.
+    ///
+    /// The gate is passed at point 0 before the work and at point 1 after it. Each clone is given back, also where memory
+    /// runs out; nothing is claimed, and nothing waits.
+    pub fn run<G: Gate>(self, gate: &G) -> TapResult
+        requires room { blocks_of self.clones.items ≤ self.outcomes.spare }
+        ensures texts { IfOk result.texts (λ texts. texts ≡ texts_of self.snap self.tap (map packet_of self.clones.items)) }
+        ensures windows { IfOk result.texts (λ texts. map (record_of_text self.tap) texts ≡ windows_of self.snap self.tap (map packet_of self.clones.items)) }
+        ensures kept { Keeps (both (of_clones self.clones.items) (of_outcomes self.outcomes)) (of_outcomes result.outcomes) }
+        ensures grows { Grows (blocks_of self.clones.items) self.outcomes result.outcomes }
+        ensures places { self.outcomes.spare ≤ result.outcomes.spare + blocks_of self.clones.items }
+    {
+        let TapTask {
+            tap,
+            snap,
+            clones,
+            mut outcomes,
+        } = self;
+        gate.pass(Who::Tap(tap), 0);
+        let texts = read_texts(*clones.allocator(), tap, snap, &clones);
+        release_all(clones, &mut outcomes);
+        gate.pass(Who::Tap(tap), 1);
+        TapResult { texts, outcomes }
+    }
+}
+
+// Whether all blocks of the clones have a place.
+fn has_room(places: usize, clones: &[TapClone]) -> bool
+    ensures room { result ≡ true → blocks_of clones.now ≤ places }
+    ensures short { result ≡ false → places < blocks_of clones.now }
+{
+    let mut left = places;
+    for clone in clones {
+        let count = clone.skb.count();
+        if left < count {
+            return false;
+        }
+        left -= count;
+    }
+    true
+}
+
+// The bytes of all windows together. A sum that is too large stays at the largest number, for which there is no memory.
+fn bytes_of_windows(tap: u32, snap: u32, clones: &[TapClone]) -> usize {
+    let mut bytes = 0usize;
+    for clone in clones {
+        let (from, to) = clone.window(tap, snap);
+        bytes = bytes.saturating_add(to - from);
+    }
+    bytes
+}
+
+// Memory is taken once for all windows.
+fn read_texts(
+    alloc: Global,
+    tap: u32,
+    snap: u32,
+    clones: &[TapClone],
+) -> Result<TapTexts, AllocError>
+    ensures texts { IfOk result (λ texts. texts ≡ texts_of snap tap (map packet_of clones.now)) }
+{
+    let bytes = bytes_of_windows(tap, snap, clones);
+    let mut texts = TapTexts::with_room(alloc, clones.len(), bytes)?;
+    for clone in clones {
+        let (from, to) = clone.window(tap, snap);
+        if from < to {
+            texts.push(clone, from, to)?;
+        }
+    }
+    Ok(texts)
+}

@@ -1,0 +1,137 @@
+//! The windows that a tap read.
+ghost use Rattle.std.specs.Prelude.{◌≡◌, ◌==◌, ◌<◌, ◌≤◌, [], ◌∷◌, ◌++◌, length, IfOk, OnOk, OnErr, slice_index_or, slice_range};
+ghost use Rattle.pcap_io.specs.Capture.{Packet};
+ghost use Rattle.skb.specs.SkbState.{buffer_bytes, buffer_size};
+ghost use Rattle.taps.specs.Clones.{packet_of};
+ghost use Rattle.taps.specs.Shown.{shown_text};
+
+use crate::TapClone;
+use skb::Skb;
+use std::alloc::{AllocError, Global};
+use std::marker::Model;
+
+/// One packet's window: `from..to` of the bytes of all.
+#[derive(Clone, Copy, Debug)]
+pub(crate) struct Span {
+    pub(crate) number: u32,
+    pub(crate) sec: u32,
+    pub(crate) frac: u32,
+    pub(crate) original: u32,
+    pub(crate) from: usize,
+    pub(crate) to: usize,
+}
+
+/// A window of a packet as it arrived.
+#[derive(Clone, Copy, Debug)]
+pub struct TapText<'a> {
+    /// The packet's number in the capture, from 0.
+    pub number: u32,
+    /// Its time: seconds, and micro- or nanoseconds as the capture has them.
+    pub sec: u32,
+    pub frac: u32,
+    /// Its length on the wire, in bytes.
+    pub original: u32,
+    /// The window's bytes, at least one.
+    pub bytes: &'a [u8],
+}
+
+/// The windows that a tap read, in the order of its clones. All their bytes stand in one vector.
+#[derive(Debug, Drop)]
+pub struct TapTexts {
+    spans: Vec<Span>,
+    bytes: Vec<u8>,
+}
+
+impl Model for TapTexts {
+    ghost use Rattle.std.specs.Prelude.{List, map, All};
+    ghost use Rattle.pcap_io.specs.Capture.{Packet};
+    ghost use Rattle.taps.specs.Texts.{text_at, IsWithin};
+
+    ghost Value = { List Packet };
+
+    ghost view = { λ t. map (text_at t.bytes.items) t.spans.items };
+
+    ghost invariant = { λ t. All (IsWithin t.bytes.items) t.spans.items };
+}
+
+impl TapTexts {
+    /// No windows yet, and room for `windows` of them with `bytes` bytes in all.
+    pub(crate) fn with_room(
+        alloc: Global,
+        windows: usize,
+        bytes: usize,
+    ) -> Result<TapTexts, AllocError>
+        ensures empty { IfOk result (λ texts. texts ≡ []) }
+    {
+        Ok(TapTexts {
+            spans: Vec::with_capacity(alloc, windows)?,
+            bytes: Vec::with_capacity(alloc, bytes)?,
+        })
+    }
+
+    /// Copies the bytes `from..to` of a clone out, as the window behind the others.
+    pub(crate) fn push(
+        &mut self,
+        clone: &TapClone,
+        from: usize,
+        to: usize,
+    ) -> Result<(), AllocError>
+        requires range { (from < to) × (to ≤ buffer_size clone.now.skb) }
+        ensures pushed { OnOk result (self.new ≡ self.old ++ record (packet_of clone.now) { frame = slice_range (buffer_bytes clone.now.skb) from to } ∷ []) }
+    {
+        let start = self.bytes.len();
+        append(&mut self.bytes, &clone.skb, from, to)?;
+        self.spans.push(Span {
+            number: clone.number,
+            sec: clone.sec,
+            frac: clone.frac,
+            original: clone.original,
+            from: start,
+            to: self.bytes.len(),
+        })?;
+        Ok(())
+    }
+
+    /// The number of windows.
+    pub fn len(&self) -> usize
+        ensures count { result ≡ length self.now }
+    {
+        self.spans.len()
+    }
+
+    /// No window was read: each was empty.
+    pub fn is_empty(&self) -> bool
+        ensures empty { result ≡ (length self.now == 0) }
+    {
+        self.spans.is_empty()
+    }
+
+    /// The i-th window, in the order of the clones.
+    pub fn get(&self, i: usize) -> TapText<'_>
+        requires range { i < length self.now }
+        ensures text { (d : Packet) → shown_text result ≡ slice_index_or self.now i d }
+    {
+        let span = self.spans[i];
+        TapText {
+            number: span.number,
+            sec: span.sec,
+            frac: span.frac,
+            original: span.original,
+            bytes: &self.bytes[span.from..span.to],
+        }
+    }
+}
+
+// Copies the bytes `from..to` of a buffer behind others.
+fn append(bytes: &mut Vec<u8>, skb: &Skb, from: usize, to: usize) -> Result<(), AllocError>
+    requires range { (from < to) × (to ≤ buffer_size skb.now) }
+    ensures ok { OnOk result (bytes.new.items ≡ bytes.old.items ++ slice_range (buffer_bytes skb.now) from to) }
+    ensures more { OnOk result (length bytes.old.items < length bytes.new.items) }
+    ensures err { OnErr result (bytes.new.items ≡ bytes.old.items) }
+{
+    let _ = skb.len();
+    let start = bytes.len();
+    bytes.resize(start + (to - from), 0)?;
+    skb.copy_out(from, &mut bytes[start..]);
+    Ok(())
+}
