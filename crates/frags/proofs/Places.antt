@@ -1,5 +1,5 @@
 -- The pieces of the first bytes, and the byte at a place.
-use Rattle.std.proofs.Common.{◌≡◌, ◌≢◌, ℕ, ◌+◌, ◌-◌, ◌<◌, ◌≤◌, List, [], ◌∷◌, ◌++◌, Bool, length, take, drop, get_or, refl, ap, sym, subst, ◌∙◌, zero, suc, cond, append-nil, arith}
+use Rattle.std.proofs.Common.{◌≡◌, ◌≢◌, ℕ, ◌+◌, ◌-◌, ◌<◌, ◌≤◌, List, [], ◌∷◌, ◌++◌, length, take, drop, get_or, refl, ap, sym, subst, ◌∙◌, zero, suc, cond, append-nil, arith}
 use Rattle.std.proofs.lemmas.Bool.{cond_both}
 use Rattle.std.proofs.lemmas.List.{take-append-le, get_or_append_left, get_or-append_right, get_or-take, get_or-drop, get_or_default, length-append}
 use Rattle.std.proofs.Math.Seq.{take-append-add, take-length}

@@ -1,6 +1,5 @@
 -- What is kept block by block is kept mark by mark.
-use Rattle.std.proofs.Common.{◌≡◌, ℕ, ◌+◌, ◌*◌, ◌<◌, ◌≤◌, arith}
-use Rattle.ref_core.specs.WeightRule.{full_weight}
+use Rattle.std.proofs.Common.{◌≡◌, ℕ, arith}
 use Rattle.frags.specs.Account.{Account, Keeps, both, every}
 use Rattle.frags.specs.RoundAccount.{all_blocks, of_lives, one_block, KeepsSums, Settles, KeepsIsSettling, SettlingAddsUp, BlockIsHome}
 

@@ -26,5 +26,12 @@ abbrev pub lends_range : MutBor Holder → ℕ → MutBor (List ℕ) → Fml
 lends_range h from r = Lends holder_row (Array u8 0) h r (with_range h.now from)
 
 -- what is written stands in the head's block from the head's first byte on
+abbrev pub with_head : SkbState → List ℕ → SkbState
+with_head s ws = record s { head = with_range s.head s.from ws }
+
 abbrev pub lends_head : MutBor SkbState → MutBor (List ℕ) → Fml
-lends_head s r = Lends skb_row (Array u8 0) s r (λ ws. record s.now { head = with_range s.now.head s.now.from ws })
+lends_head s r = Lends skb_row (Array u8 0) s r (with_head s.now)
+
+-- the same where there is a Sole, and else nothing changes
+abbrev pub lends_head_if : MutBor SkbState → Option (MutBor (List ℕ)) → Fml
+lends_head_if s r = LendsIf skb_row (Array u8 0) s r (with_head s.now) s.now

@@ -29,8 +29,8 @@
 //! - `account`, `kept`, `sums`, `marks`: nothing is lost (see `frags`). A call that begins a life, since it shares a Sole,
 //!   says it by marks.
 //! - `grows`, `fewer`, `places`: outcomes grow only at their end, by how many, and what room is left in them.
-//!
-//! Not said: what is written through `head_mut`. `head_bytes_mut` says it, under its condition.
+//! - `writes_back`: after `head_mut` the head's bytes are what was written, and all else is as it was; at None nothing has
+//!   changed.
 //!
 //! ```
 //! let mut skb = Skb::new(pool.take()?, 64, 64, Pieces::new(alloc));

@@ -7,7 +7,7 @@ ghost use Rattle.frags.specs.Account.{Tests, Keeps, KeepsMarks, both, every, of_
 ghost use Rattle.frags.specs.Growth.{Grows};
 ghost use Rattle.frags.specs.PieceList.{AllFit, size_of, of_pieces, piece_bytes, block, cut_front, keep_front};
 ghost use Rattle.frags.specs.declared.pieces.Piece.{Piece};
-ghost use Rattle.skb.specs.Lending.{lends_head};
+ghost use Rattle.skb.specs.Lending.{lends_head, lends_head_if};
 ghost use Rattle.skb.specs.SkbState.{SkbState, head_size, buffer_least, buffer_bytes, buffer_size, head_bytes, headroom, tailroom, is_sole, written, IsPush, IsPut, Owned, IsClone, IsLent, Gives, head_worn, buffer_worn, of_buffer, of_unshared, Attaches};
 
 use crate::heads::{gives, is_worn, lent, owned, write_at};
@@ -89,14 +89,16 @@ impl Skb {
 
     /// The bytes in front of the head's, which `push` may take.
     pub fn headroom(&self) -> usize
-        ensures { result ≡ headroom self.now }
+        ensures value { result ≡ headroom self.now }
+        ensures within { result ≤ 2048 }
     {
         self.from
     }
 
     /// The bytes behind the head's, which `put_tail` may take. There are none where a piece follows.
     pub fn tailroom(&self) -> usize
-        ensures { result ≡ tailroom self.now }
+        ensures value { result ≡ tailroom self.now }
+        ensures within { result ≤ 2048 }
     {
         if self.rest.count() == 0 {
             BLOCK_SIZE - self.to
@@ -133,16 +135,24 @@ impl Skb {
         &all[self.from..self.to]
     }
 
-    /// The head's bytes, for writing. None exactly where not `head_is_sole()`.
-    // What is written through an `Option` of a slice can't be said: `head_bytes_mut` says it.
+    /// The head's bytes, for writing. None exactly where not `head_is_sole()`, and then nothing has changed.
     pub fn head_mut(&mut self) -> Option<&mut [u8]>
-        ensures { MatchOption result (is_sole self.old.head ≡ false) (λ r. (is_sole self.old.head ≡ true) × (r.now ≡ head_bytes self.old)) }
+        ensures* writes_back { sem 𝓛 (lends_head_if self.entry result) }
+        ensures value { MatchOption result (is_sole self.old.head ≡ false) (λ r. (is_sole self.old.head ≡ true) × (r.now ≡ head_bytes self.old)) }
     {
-        if self.head_is_sole() {
+        if self.has_sole_head() {
             Some(self.head_bytes_mut())
         } else {
             None
         }
+    }
+
+    // `head_is_sole` over a borrow for writing, which the proof of `head_mut` has back.
+    fn has_sole_head(&mut self) -> bool
+        ensures answer { result ≡ is_sole self.old.head }
+        ensures same { self.new ≡ self.old }
+    {
+        self.head_is_sole()
     }
 
     /// The head's bytes, for writing. The condition is `head_is_sole()`.
