@@ -1,4 +1,4 @@
 pub mod Folds
 mod Words
-mod Blocks
+mod Held
 mod Rows

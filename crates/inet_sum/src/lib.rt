@@ -18,10 +18,12 @@ ghost use Rattle.std.specs.Prelude.{◌≡◌, ℕ, ◌+◌, ◌*◌, ◌/◌, �
 ghost use Rattle.inet_sum.specs.Words.{number_of};
 ghost use Rattle.inet_sum.specs.Sum.{word_sum, folded, fold_of as fold_of_bytes, checksum_of, not_zero, udp_checksum_of, joined_fold};
 
+mod lanes;
 pub mod partial;
 #[cfg(test)]
 mod tests;
 
+use lanes::{STEP, lanes_sum};
 pub use partial::Partial;
 
 /// The fold of the bytes: 0 where their big-endian words add to 0, and else the number from 1 to 65535 that leaves the
@@ -33,22 +35,34 @@ pub fn fold_of(bytes: &[u8]) -> u16
     fold_number(unfolded(bytes))
 }
 
-/// How many bytes are summed by one loop: its number of turns is known to the compiler, which makes it twice as fast.
-const BLOCK: usize = 256;
+/// Lists that are shorter are summed by the plain loop alone, which is done before the lanes are added up.
+const SHORT: usize = 128;
 
 /// A number that has the fold of the bytes: a sum of many pieces folds once, at its end.
+#[inline(always)]
 pub fn unfolded(bytes: &[u8]) -> u64
     requires few { length bytes.now < 2 ^ 32 }
     ensures fold { folded result ≡ fold_of_bytes bytes.now }
     ensures small { result ≤ 2 ^ 30 * length bytes.now }
 {
-    let blocks = bytes.len() / BLOCK;
-    let mut sum: u64 = 0;
-    for i in 0..blocks {
-        let at = BLOCK * i;
-        sum += quads_sum(&bytes[at..at + BLOCK]);
+    if bytes.len() < SHORT {
+        quads_sum(bytes)
+    } else {
+        long_sum(bytes)
     }
-    sum + quads_sum(&bytes[BLOCK * blocks..])
+}
+
+/// The sum by lanes, and by the plain loop for the rest alone. It isn't inlined, since at a length that the compiler knows
+/// it takes less of the loop's turns together, which is slower.
+#[inline(never)]
+fn long_sum(bytes: &[u8]) -> u64
+    requires long { 16 ≤ length bytes.now }
+    requires few { length bytes.now < 2 ^ 32 }
+    ensures fold { folded result ≡ fold_of_bytes bytes.now }
+    ensures small { result ≤ 2 ^ 30 * length bytes.now }
+{
+    let (front, rest) = bytes.split_at(bytes.len() / STEP * STEP);
+    lanes_sum(front) + quads_sum(rest)
 }
 
 /// The sum of the 32-bit numbers in the bytes, and of the words of those behind them.

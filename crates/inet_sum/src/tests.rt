@@ -1,5 +1,9 @@
-//! Sums from RFC 1071, section 3, and at the ends of the range.
+//! Sums from RFC 1071, section 3, and at the ends of the range; the lanes beside a sum word by word.
+ghost use Rattle.std.specs.Prelude.{◌<◌, ◌^◌, IfOk, vec_len};
+
 use crate::{Partial, checksum, fold_of, udp_checksum};
+use std::alloc::Global;
+use std::test::Fail;
 
 #[test]
 fn sums_of_whole_lists(rt: HostRuntime) {
@@ -37,4 +41,68 @@ fn sums_of_pieces(rt: HostRuntime) {
     sum.add_number(0xf4f5);
     sum.add_number(0xf6f7);
     assert_eq!(rt; sum.checksum(), 0x220d);
+}
+
+// Bytes ff, some more than a million.
+fn all_ones(alloc: Global, count: usize) -> Result<Vec<u8>, Fail>
+    requires { count < 2 ^ 20 }
+    ensures { IfOk result (λ bytes. vec_len bytes < 2 ^ 20) }
+{
+    Ok(vec![in alloc; 0xff; count]?)
+}
+
+fn sum_in_pieces(bytes: &[u8], size: usize) -> Partial
+    requires { 0 < size }
+{
+    let mut sum = Partial::new();
+    for piece in bytes.chunks(size) {
+        // Here all lists are short enough for the sum.
+        if sum.len() < 1 << 20 && piece.len() < 1 << 20 {
+            sum.add(piece);
+        }
+    }
+    sum
+}
+
+/// 500,000 words of ffff leave nothing, and the last byte is the word ff00, whose complement is 00ff.
+#[test]
+fn a_million_and_one_bytes_ff(rt: HostRuntime) -> Result<(), Fail> {
+    let bytes = all_ones(rt.alloc(), 1_000_001)?;
+    assert_eq!(rt; bytes.len(), 1_000_001);
+    assert_eq!(rt; checksum(&bytes), 0x00ff);
+    for size in [63, 64, 65] {
+        let sum = sum_in_pieces(&bytes, size);
+        assert_eq!(rt; sum.len(), 1_000_001);
+        assert_eq!(rt; sum.checksum(), 0x00ff, "in pieces of {size}");
+    }
+    Ok(())
+}
+
+/// Word by word, the carries added at once (RFC 1071, section 1).
+fn slow_fold(bytes: &[u8]) -> u16 {
+    let mut sum = 0u32;
+    for (i, byte) in bytes.iter().enumerate() {
+        let weight = if i % 2 == 0 { 256 } else { 1 };
+        sum = sum.wrapping_add(weight * u32::from(*byte));
+        if sum > 65535 {
+            sum -= 65535;
+        }
+    }
+    (sum % (1 << 16)) as u16
+}
+
+#[test]
+fn every_length_at_every_place(rt: HostRuntime) {
+    let mut buffer = [0u8; 320];
+    let mut state = 1u32;
+    for byte in &mut buffer {
+        state = state.wrapping_mul(1_664_525).wrapping_add(1_013_904_223);
+        *byte = (state >> 24) as u8;
+    }
+    for length in 0..301 {
+        for at in 0..16 {
+            let bytes = &buffer[at..at + length];
+            assert_eq!(rt; fold_of(bytes), slow_fold(bytes), "{length} bytes at {at}");
+        }
+    }
 }
