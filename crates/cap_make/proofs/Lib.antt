@@ -1,0 +1,6 @@
+mod Counting
+mod Steps
+mod Owing
+mod Taking
+mod Lawful
+mod Rows

@@ -1,0 +1,40 @@
+use Rattle.std.proofs.Common.{arith, ap, ◌∙◌, subst, ◌++◌, ◌-◌}
+use Rattle.std.proofs.lemmas.Result.{err_from_is_err_and}
+use Rattle.off_io.specs.Content.{AppendsFront}
+use Rattle.off_io.proofs.Appending.{front_more}
+use Rattle.cap_make.specs.Capture.{first_next, records_from}
+use Rattle.cap_make.proofs.Steps.{made_is, next_owed, none_owed}
+use Rattle.cap_make.proofs.Owing.{owes_less, owes_after_fault, owes_nothing}
+use Rattle.cap_make.proofs.capture.make_capture.Goals as goal
+
+pub returns-in_err-write_all-clause-err : goal.returns-in_err-write_all-clause-err
+returns-in_err-write_all-clause-err g c =
+    let p = err_from_is_err_and c.from_residual.result c.from_residual.ensures.1 in
+    let seed = c.args.seed in let count = c.args.count in
+    let head = c.bytes.ensures.bytes ∙ c.of_file_header-buffer.ensures in
+    rw p.1 (subst (AppendsFront _ _) (ap (λ z. z ++ records_from (count - 0) 0 (first_next seed)) head ∙ made_is seed count)
+    (front_more _ _ c.bytes.result.now (records_from (count - 0) 0 (first_next seed)) c.in_err-write_all.ensures.err))
+
+pub loop-number-init : goal.loop-number-init
+loop-number-init g c =
+    let seed = c.args.seed in let count = c.args.count in
+    let head = c.bytes.ensures.bytes ∙ c.of_file_header-buffer.ensures in (
+      (c.bytes.result.now, c.in_ok-write_all.ensures.ok, ap (λ z. c.bytes.result.now ++ records_from (count - 0) 0 z) c.new-maker.ensures ∙ ap (λ z. z ++ records_from (count - 0) 0 (first_next seed)) head ∙ made_is seed count),
+      c.in_ok-write_all.ensures.cause.later,
+    )
+
+pub loop-number-preserved : goal.loop-number-preserved
+loop-number-preserved g c =
+    let owed = next_owed c.args.count c.loop-number.number c.loop-number.maker c.next_record.new.self c.bytes-in-loop-number.result.now (omega arith) (c.bytes-in-loop-number.ensures.bytes ∙ c.next_record.ensures.bytes) c.next_record.ensures.next in (
+      owes_less _ _ _ _ _ _ _ c.loop-number.invariant.0 owed c.in_ok-write_all-2.ensures.ok,
+      omega (arith, c.in_ok-write_all-2.ensures.cause.later),
+    )
+
+pub returns-in_err-write_all-2-clause-err : goal.returns-in_err-write_all-2-clause-err
+returns-in_err-write_all-2-clause-err g c =
+    let p = err_from_is_err_and c.from_residual-in_err-write_all-2.result c.from_residual-in_err-write_all-2.ensures.1 in
+    let owed = next_owed c.args.count c.loop-number.number c.loop-number.maker c.next_record.new.self c.bytes-in-loop-number.result.now (omega arith) (c.bytes-in-loop-number.ensures.bytes ∙ c.next_record.ensures.bytes) c.next_record.ensures.next in
+    rw p.1 (owes_after_fault _ _ _ _ _ _ _ c.loop-number.invariant.0 owed c.in_err-write_all-2.ensures.err)
+
+pub returns-clause-ok : goal.returns-clause-ok
+returns-clause-ok g c = owes_nothing _ _ _ _ c.loop-number.invariant.0 (none_owed _ c.loop-number.number c.loop-number.maker (omega arith))

@@ -1,0 +1,5 @@
+pub mod Draws
+pub mod Headers
+pub mod Frames
+pub mod Capture
+pub mod Laws
