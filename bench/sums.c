@@ -1,4 +1,4 @@
-/* The Internet sum of a list of bytes as a C loop over its 32-bit words: `sums LENGTH TURNS` prints the nanoseconds that the
+/* The Internet sum of a list of bytes as a C loop over its 32-bit words: `sums TURNS LENGTH` prints the nanoseconds that the
  * turns take, and what the folds add to. */
 #include <stdint.h>
 #include <stdio.h>
@@ -31,8 +31,8 @@ static uint16_t fold_of(const unsigned char *from, size_t count) {
 
 int main(int words, char **line) {
   if (words != 3) return 2;
-  size_t length = strtoul(line[1], NULL, 10);
-  uint64_t turns = strtoull(line[2], NULL, 10), total = 0;
+  uint64_t turns = strtoull(line[1], NULL, 10), total = 0;
+  size_t length = strtoul(line[2], NULL, 10);
   if (length > LONGEST) return 2;
   uint32_t state = 12345;
   for (size_t at = 0; at < 64 + length; at++) {

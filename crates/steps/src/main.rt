@@ -1,4 +1,5 @@
-//! Nanoseconds that calls take on one thread, a line for each: `steps frames 1000000`, and so with `blocks` and `buffers`.
+//! Nanoseconds that calls take on one thread, a line for each: `steps frames 1000000`, and so with `blocks` and `buffers`;
+//! `steps sums 1000000 1460` sums lists of that many bytes.
 //!
 //! The scripts of `bench/` build and run it. With no such word, or no number of turns, it prints how it is called.
 #![tactic(auto)]
@@ -6,6 +7,7 @@
 mod blocks;
 mod buffers;
 mod frames;
+mod sums;
 
 use anyhow::Error;
 use std::env;
@@ -18,9 +20,14 @@ fn main(rt: HostRuntime) -> Result<(), Error> {
             "frames" => return frames::measure(&rt, turns),
             "blocks" => return blocks::measure(&rt, turns),
             "buffers" => return buffers::measure(&rt, turns),
+            "sums" => {
+                if let Some(length) = words.next() {
+                    return sums::measure(&rt, turns, length.parse::<usize>()?);
+                }
+            }
             _ => {}
         }
     }
-    println!(rt; "usage: steps frames|blocks|buffers TURNS")?;
+    println!(rt; "usage: steps frames|blocks|buffers TURNS, or steps sums TURNS LENGTH")?;
     Ok(())
 }
