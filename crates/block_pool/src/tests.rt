@@ -1,6 +1,8 @@
-//! A pool of one block.
+//! A pool of one block; the shared pool's tests stand in `passes`.
 ghost use Rattle.std.specs.Prelude.{◌≡◌};
 ghost use Rattle.block_pool.specs.PoolState.{home};
+
+mod passes;
 
 use crate::Pool;
 use std::test::Fail;

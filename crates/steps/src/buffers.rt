@@ -18,7 +18,7 @@ const HEADER: [u8; 14] = [2; 14];
 const MOST_CLONES: u64 = 100_000;
 
 // Room for `n` returns.
-fn places(alloc: Global, n: usize) -> Result<Outcomes, AllocError>
+pub fn places(alloc: Global, n: usize) -> Result<Outcomes, AllocError>
     ensures { IfOk result (λ out. (n ≤ out.spare) × (out.soles ≡ [])) }
 {
     let mut out = Outcomes::new(alloc);
@@ -32,7 +32,7 @@ fn places(alloc: Global, n: usize) -> Result<Outcomes, AllocError>
 }
 
 // Gives up what came back, so that its places are free again.
-fn empty(out: &mut Outcomes)
+pub fn empty(out: &mut Outcomes)
     ensures { out.new.soles ≡ [] }
 {
     while let Some(_) = out.pop_sole() {}

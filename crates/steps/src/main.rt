@@ -1,4 +1,4 @@
-//! Nanoseconds that calls take on one thread, a line for each: `steps frames 1000000`, and so with `blocks` and `buffers`;
+//! Nanoseconds that calls take, a line for each: `steps frames 1000000`, and so with `blocks`, `buffers`, `pools` and `taps`;
 //! `steps sums 1000000 1460` sums lists of that many bytes.
 //!
 //! The scripts of `bench/` build and run it. With no such word, or no number of turns, it prints how it is called.
@@ -7,7 +7,9 @@
 mod blocks;
 mod buffers;
 mod frames;
+mod pools;
 mod sums;
+mod taps;
 
 use anyhow::Error;
 use std::env;
@@ -20,6 +22,8 @@ fn main(rt: HostRuntime) -> Result<(), Error> {
             "frames" => return frames::measure(&rt, turns),
             "blocks" => return blocks::measure(&rt, turns),
             "buffers" => return buffers::measure(&rt, turns),
+            "pools" => return pools::measure(&rt, turns),
+            "taps" => return taps::measure(&rt, turns),
             "sums" => {
                 if let Some(length) = words.next() {
                     return sums::measure(&rt, turns, length.parse::<usize>()?);
@@ -28,6 +32,6 @@ fn main(rt: HostRuntime) -> Result<(), Error> {
             _ => {}
         }
     }
-    println!(rt; "usage: steps frames|blocks|buffers TURNS, or steps sums TURNS LENGTH")?;
+    println!(rt; "usage: steps frames|blocks|buffers|pools|taps TURNS, or steps sums TURNS LENGTH")?;
     Ok(())
 }

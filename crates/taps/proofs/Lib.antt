@@ -1,6 +1,6 @@
 -- the windows of packets, and their records
 mod Windows
 -- what the clones hold, given back one after another
-mod Returning
+pub mod Returning
 -- the windows in memory, one more of them, and those of the clones so far
 mod Spans
