@@ -32,6 +32,8 @@ fn main(rt: HostRuntime) -> Result<(), Error> {
             _ => {}
         }
     }
-    println!(rt; "usage: steps frames|blocks|buffers|pools|taps TURNS, or steps sums TURNS LENGTH")?;
+    println!(rt;
+        "usage: steps frames|blocks|buffers|pools|taps TURNS, or steps sums TURNS LENGTH"
+    )?;
     Ok(())
 }

@@ -117,7 +117,10 @@ fn time<R: Clock + Print + AllocGlobal + Threads + Wait + Sync>(
     requires { (1 ≤ blocks) × (blocks ≤ 65536) }
 {
     let plain = time_plain(rt, blocks, turns)?;
-    println!(rt; "{blocks} blocks: take + fill + put of a Pool: {} ns", plain.as_nanos())?;
+    println!(rt;
+        "{blocks} blocks: take + fill + put of a Pool: {} ns",
+        plain.as_nanos()
+    )?;
 
     let (pool, mut pass) = SharedPool::make(rt, rt.alloc(), blocks)?;
     let start = Instant::now(rt)?;
@@ -128,7 +131,10 @@ fn time<R: Clock + Print + AllocGlobal + Threads + Wait + Sync>(
     let start = Instant::now(rt)?;
     filling_turns_of(rt, &pool, &mut pass, turns);
     let taken = start.elapsed(rt)?;
-    println!(rt; "{blocks} blocks: take + fill + put: {} ns", taken.as_nanos())?;
+    println!(rt;
+        "{blocks} blocks: take + fill + put: {} ns",
+        taken.as_nanos()
+    )?;
 
     if pass.parts() < 5 {
         return Ok(());
@@ -137,7 +143,10 @@ fn time<R: Clock + Print + AllocGlobal + Threads + Wait + Sync>(
     let start = Instant::now(rt)?;
     turns_of_all(rt, &pool, passes.as_mut_slice(), turns / 4);
     let taken = start.elapsed(rt)?;
-    println!(rt; "{blocks} blocks: take + put, four threads: {} ns", taken.as_nanos())?;
+    println!(rt;
+        "{blocks} blocks: take + put, four threads: {} ns",
+        taken.as_nanos()
+    )?;
     Ok(())
 }
 
