@@ -1,5 +1,6 @@
 //! Weights, receipts and claims by their numbers, and threads that share a block.
 ghost use Rattle.std.specs.Prelude.{◌≡◌, IfSome};
+ghost use Rattle.raw_block.specs.Views.{Life};
 
 use crate::{Claimed, FULL, Part, Receipt, Released, Sole};
 use std::test::Fail;
@@ -136,10 +137,15 @@ fn receipts_add_up_to_the_rest(rt: HostRuntime) -> Result<(), Fail> {
 }
 
 // A closure holds only what is `Drop`, so a part goes to a thread behind a `&mut`.
-fn released(slot: &mut Option<Part>) -> Option<Released> {
+fn released(slot: &mut Option<Part>) -> (Option<Sole>, Option<Receipt>)
+    ensures { IfSome slot.old (λ p. IfSome result.1 (λ r. r.life ≡ p.life)) }
+{
     match slot.take() {
-        Some(part) => Some(part.release()),
-        None => None,
+        Some(part) => match part.release() {
+            Released::Last(sole) => (Some(sole), None),
+            Released::Left(receipt) => (None, Some(receipt)),
+        },
+        None => (None, None),
     }
 }
 
@@ -150,39 +156,37 @@ fn empty(slot: Option<Part>) {
     }
 }
 
-struct Tally {
-    lasts: u64,
-    left: u64,
-    block: Option<Sole>,
+// Receipts of one life, added.
+fn both(first: Option<Receipt>, second: Option<Receipt>) -> Option<Receipt>
+    requires { IfSome first (λ r. IfSome second (λ s. s.life ≡ r.life)) }
+    ensures { (l : Life) → IfSome first (λ r. r.life ≡ l) → IfSome second (λ s. s.life ≡ l) → IfSome result (λ r. r.life ≡ l) }
+{
+    let Some(mut total) = first else {
+        return second;
+    };
+    if let Some(receipt) = second {
+        total.add(receipt);
+    }
+    Some(total)
 }
 
-fn count(tally: Tally, released: Option<Released>) -> Tally {
-    let Tally { lasts, left, block } = tally;
-    match released {
-        Some(Released::Last(sole)) => {
-            drop(block);
-            Tally {
-                lasts: lasts.wrapping_add(1),
-                left,
-                block: Some(sole),
-            }
-        }
-        Some(Released::Left(receipt)) => {
-            let left = left.wrapping_add(receipt.weight());
-            receipt.close();
-            Tally { lasts, left, block }
-        }
-        None => Tally { lasts, left, block },
+// How many were the last, and a Sole of them.
+fn counted(lasts: (u32, Option<Sole>), sole: Option<Sole>) -> (u32, Option<Sole>) {
+    if sole.is_some() {
+        (lasts.0.wrapping_add(1), sole)
+    } else {
+        lasts
     }
 }
 
-fn release_at_once<R: Threads + Sync>(rt: &R, block: Sole) -> Tally {
+// Four quarters that are released at once: the ones that were last, and what the receipts of the others weigh together.
+fn release_at_once<R: Threads + Sync>(rt: &R, block: Sole) -> (u32, Option<Sole>, u64) {
     let (a, b, c, d) = quarters(block.share());
     let mut a = Some(a);
     let mut b = Some(b);
     let mut c = Some(c);
     let mut d = Some(d);
-    let ((w, x), (y, z)) = join(
+    let (front, back) = join(
         rt,
         || join(rt, || released(&mut a), || released(&mut b)),
         || join(rt, || released(&mut c), || released(&mut d)),
@@ -191,24 +195,27 @@ fn release_at_once<R: Threads + Sync>(rt: &R, block: Sole) -> Tally {
     empty(b);
     empty(c);
     empty(d);
-    let tally = Tally {
-        lasts: 0,
-        left: 0,
-        block: None,
+    let (of_a, of_b) = front;
+    let (of_c, of_d) = back;
+    let left = match both(both(of_a.1, of_b.1), both(of_c.1, of_d.1)) {
+        Some(receipt) => {
+            let weight = receipt.weight();
+            receipt.close();
+            weight
+        }
+        None => 0,
     };
-    count(count(count(count(tally, w), x), y), z)
+    let lasts = counted(counted((0, None), of_a.0), of_b.0);
+    let (count, block) = counted(counted(lasts, of_c.0), of_d.0);
+    (count, block, left)
 }
 
 #[test]
 fn one_of_four_threads_is_last(rt: HostRuntime) -> Result<(), Fail> {
     let mut block = Sole::new(rt.alloc())?;
     for _ in 0..1000u32 {
-        let Tally {
-            lasts,
-            left,
-            block: back,
-        } = release_at_once(&rt, block);
-        assert_eq!(rt; (lasts, left), (1, FULL - QUARTER));
+        let (count, back, left) = release_at_once(&rt, block);
+        assert_eq!(rt; (count, left), (1, FULL - QUARTER));
         block = match back {
             Some(block) => block,
             None => Sole::new(rt.alloc())?,
@@ -267,5 +274,18 @@ fn a_part_reads_the_same_bytes(rt: HostRuntime) -> Result<(), Fail> {
     let mut wanted = [0; 2048];
     wanted[9] = 6;
     assert_eq!(rt; read_beside_others(&rt, block, &wanted), 0);
+    Ok(())
+}
+
+// Telling two blocks apart is for the proofs: it changes nothing.
+#[test]
+fn two_blocks_are_told_apart(rt: HostRuntime) -> Result<(), Fail> {
+    let mut first = Sole::new(rt.alloc())?;
+    let mut second = Sole::new(rt.alloc())?;
+    first.set_mark(1);
+    second.bytes_mut()[5] = 2;
+    first.differ(&mut second);
+    assert_eq!(rt; (first.mark(), second.mark()), (1, 0));
+    assert_eq!(rt; (first.bytes()[5], second.bytes()[5]), (0, 2));
     Ok(())
 }

@@ -1,17 +1,17 @@
 -- `head_mut` lends the head's bytes on in an `Option`. The borrow checker shows no write-back clause for an `Option` of a slice,
 -- so this walks the code by hand.
-use Rattle.std.proofs.Common.{◌≡◌, ℕ, List, [], ◌∷◌, Bool, true, false, refl, ap, sym, ◌∙◌, lit<}
+use Rattle.std.proofs.Common.{◌≡◌, ℕ, List, [], ◌∷◌, Bool, true, false, length, refl, ap, sym, ◌∙◌, lit<}
 use Rattle.std.proofs.raw_atomic.Walks.{proved}
 use lib.Dec.{T}
 use mathlib.Core.Bool.{not}
 use mir.Syntax.{named}
-use mir.Val.{Val, vbool, of_list}
+use mir.Val.{Val, of_list}
 use base.Fraction.{full_share}
 use base.Logic.{SProp, emp, id⊢}
 use base.Fml.{ftrue, flft, fres}
-use types.Logic.{sem}
 use types.Match.{live}
-use types.Kit.{‵, raw, ◌⊛◌, some, later, at_ret, ◌$◌, ◌∵◌, !, qed, done, drop, move, keep, use0, use1, use2, use3, split, split3, join, fsplit, fsplit3, fjoin, feq_l, pick, await, rewrite, suffices, frame}
+use types.Kit.{‵, raw, ◌⊛◌, some, later, at_ret, ◌$◌, ◌∵◌, !, qed, done, drop, move, keep, use0, use1, use2, use3}
+use types.Kit.{split, split3, join, fsplit, fsplit3, fjoin, feq_l, pick, await, rewrite, suffices, frame}
 use types.Run.{enter, of_opd, lit, addr, stop, no_more, and_then, first, branches, exec, returns}
 use types.ByLocal.{alloc_all, pass_all, free_all, look_at, get, through, sets, sets_last, lands_as, env}
 use types.Part.{agg}
@@ -112,14 +112,14 @@ head_mut_spec 𝓤 𝓛 𝓜 𝓡 wired =
     move ! (3 ∷ []) $ pick ! (λ ws'. split3 ! $ drop ! $ move ! (1 ∷ []) $ heard ! _ (λ value. move ! (3 ∷ []) $
     peeks ! Slice _ (shows 𝓛 Slice) x (w ∷ []) (λ is.
     -- [the bytes; what the lender ends as; the token; nothing; ..]
-    let e : w ≡ slice_val x.ref_ptr (Rattle.std.proofs.Common.length x.now) = ap only is.0.0 in
+    let e : w ≡ slice_val x.ref_ptr (length x.now) = ap only is.0.0 in
     rewrite ! 0 (λ (u' : Val). ‵ (Slice.own_val x (u' ∷ []))) e refl $
     lands_as ! e refl (tt, (tt, (record { fits = is.0.1.0 }, tt))) $
     sets_last ! (agg ! (and_then ! (lit ! tt) (and_then ! (get ! refl) (no_more !)))) refl (tt, (record { fits = lit< tt }, ((tt, (record { fits = is.0.1.0 }, tt)), tt))) $
     exec ! 𝓣.C 𝓣.Λ (env code.Mir.locals l) code.Mir.t-4 (at_ret _ Post) $
     sets ! (of_opd ! (get ! refl)) refl (tt, (record { fits = lit< tt }, ((tt, (record { fits = is.0.1.0 }, tt)), tt))) $
     returns ! (look_at ! 0 refl) $ free_all ! refl $ keep ! (0 ∷ 2 ∷ 1 ∷ []) $
-    let v' : Val = slice_val x.ref_ptr (Rattle.std.proofs.Common.length x.now) in
+    let v' : Val = slice_val x.ref_ptr (length x.now) in
     use1 𝓛 (‵ ((option.the_row Slice).own_val (Some x) (live 1 (of_list (v' ∷ [])) ∷ []))) (Some-of 𝓛 Slice x v') $
     suffices ! _ (ends_at 𝓛 F.ended stayed c y (live 1 (of_list (v' ∷ []))) (Some x) (tt, tt) (tt, tt)) $
     nothing ! $ nothing ! $ fjoin ! $ join ! $ nothing ! $ move ! (2 ∷ 0 ∷ []) $ join ! $ join ! $ frame ! $ says ! (on, value) $ done !))))))
