@@ -14,7 +14,7 @@ use Rattle.clap.proofs.WalkLemmas.{both}
 use Rattle.offload_words.specs.Numbers.{number_in}
 use Rattle.offload_words.specs.Commands.{HasRanges, command_by, command_named, command_of, command_unless, offload_app}
 use Rattle.offload_words.specs.declared.words.Command.{Command}
-use Rattle.offload_words.specs.declared.words.Command.TheVariants.{Merge, Segment}
+use Rattle.offload_words.specs.declared.words.Command.TheVariants.{Merge, Segment, Make}
 use Rattle.offload_words.specs.declared.words.WordsFault.{WordsFault}
 use Rattle.offload_words.specs.declared.words.WordsFault.TheVariants.{Usage}
 use Rattle.offload_words.proofs.OptionRows.{AllFit, Each, IsValueOrHelp, defaults_for, level_fits, level_has}
@@ -75,11 +75,11 @@ IsMade p = (c : Command) × (command_named p.0 p.1 ≡ Some c) × HasRanges c
 abbrev has_number : Text → ℕ → ℕ → List Rule → Bool
 has_number id low high c = list_all (is_ranged id low high) c && defaults_for id c
 
-number_there : (s : Shape) (words : List Text) (id : Text) (low high : ℕ) → high ≤ 4294967295 → has_number id low high s.rules ≡ true → AllFit s.rules (rows_after s.rules [] words)
-    → (n : ℕ) × (number_in 4294967295 id (rows_after s.rules [] words) ≡ Some n) × (low ≤ n) × (n ≤ high)
-number_there s words id low high within e fit =
+number_there : (s : Shape) (words : List Text) (id : Text) (limit low high : ℕ) → high ≤ limit → has_number id low high s.rules ≡ true → AllFit s.rules (rows_after s.rules [] words)
+    → (n : ℕ) × (number_in limit id (rows_after s.rules [] words) ≡ Some n) × (low ≤ n) × (n ≤ high)
+number_there s words id limit low high within e fit =
     let b = both _ _ e in
-    number_read s.rules id 4294967295 low high (rows_after s.rules [] words) within b.0 fit (level_has s words id b.1)
+    number_read s.rules id limit low high (rows_after s.rules [] words) within b.0 fit (level_has s words id b.1)
 
 merge_made : (name : Text) (rows : List Row) (budget : ℕ) → name ≡ codes "merge" → number_in 4294967295 (codes "budget") rows ≡ Some budget
     → command_named name rows ≡ Some (Merge (record { budget = budget }))
@@ -88,7 +88,7 @@ merge_made name rows budget e f = rw (e, f) refl
 
 merge_level : (s : Shape) → s.args_override_self ≡ false → Each IsValueOrHelp s.rules → has_number (codes "budget") 1 4096 s.rules ≡ true → s.name ≡ codes "merge" → Gives IsMade s
 merge_level s off ones has name = λ words word e no_help is.
-    let budget = number_there s words (codes "budget") 1 4096 (omega arith) has (level_fits s words false [] off ones e) in
+    let budget = number_there s words (codes "budget") 4294967295 1 4096 (omega arith) has (level_fits s words false [] off ones e) in
     (Merge (record { budget = budget.0 }), merge_made s.name (rows_after s.rules [] words) budget.0 name budget.1, (budget.2, budget.3))
 
 segment_made : (name : Text) (rows : List Row) → name ≡ codes "segment" → command_named name rows ≡ Some Segment
@@ -97,6 +97,19 @@ segment_made name rows e = rw e refl
 
 segment_level : (s : Shape) → s.name ≡ codes "segment" → Gives IsMade s
 segment_level s name = λ words word e no_help is. (Segment, segment_made s.name (rows_after s.rules [] words) name, tt)
+
+make_made : (name : Text) (rows : List Row) (seed count : ℕ) → name ≡ codes "make" → number_in 18446744073709551615 (codes "seed") rows ≡ Some seed
+    → number_in 4294967295 (codes "count") rows ≡ Some count → command_named name rows ≡ Some (Make (record { seed = seed; count = count }))
+unfolding command_named
+make_made name rows seed count e f g = rw (e, f, g) refl
+
+make_level : (s : Shape) → s.args_override_self ≡ false → Each IsValueOrHelp s.rules → has_number (codes "seed") 0 18446744073709551615 s.rules ≡ true
+    → has_number (codes "count") 0 10000000 s.rules ≡ true → s.name ≡ codes "make" → Gives IsMade s
+make_level s off ones has_seed has_count name = λ words word e no_help is.
+    let fit = level_fits s words false [] off ones e in
+    let seed = number_there s words (codes "seed") 18446744073709551615 0 18446744073709551615 (omega arith) has_seed fit in
+    let count = number_there s words (codes "count") 4294967295 0 10000000 (omega arith) has_count fit in
+    (Make (record { seed = seed.0; count = count.0 }), make_made s.name (rows_after s.rules [] words) seed.0 count.0 name seed.1 count.1, (seed.3, count.3))
 
 -- ---- the whole command set
 
@@ -107,7 +120,13 @@ commands = built offload_app
 each_gives : Each (Gives IsMade) commands.subs
 each_gives = (
   merge_level _ refl ((refl, refl, inl (refl, refl)), ((refl, refl, inr refl), tt)) refl refl,
-  (segment_level _ refl, (help_level IsMade _ refl refl, tt)),
+  (
+    segment_level _ refl,
+    (
+      make_level _ refl ((refl, refl, inl (refl, refl)), ((refl, refl, inl (refl, refl)), ((refl, refl, inr refl), tt))) refl refl refl,
+      (help_level IsMade _ refl refl, tt),
+    ),
+  ),
 )
 
 -- a line without a fault asks for a command in its ranges

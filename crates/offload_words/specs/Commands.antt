@@ -6,8 +6,10 @@ use Rattle.clap.specs.declared.builder.Command as clap_command
 use Rattle.clap.specs.declared.builder.Command.TheViews.{out-Command}
 use Rattle.offload_words.specs.Merge.{IsInRange, merge_app, merge_options_in}
 use Rattle.offload_words.specs.Segment.{segment_app}
+use Rattle.offload_words.specs.Make.{make_app, make_options_in}
+use Rattle.offload_words.specs.Make as make
 use Rattle.offload_words.specs.declared.words.Command.{Command}
-use Rattle.offload_words.specs.declared.words.Command.TheVariants.{Merge, Segment}
+use Rattle.offload_words.specs.declared.words.Command.TheVariants.{Merge, Segment, Make}
 
 -- ---- what clap is told
 
@@ -17,7 +19,7 @@ needs_subcommand a = record a { top = record a.top { subcommand_required = true 
 
 -- the program, with one subcommand for each command
 abbrev pub offload_app : App
-offload_app = with_subcommand (with_subcommand (needs_subcommand (new_app (codes "offload"))) merge_app.top) segment_app.top
+offload_app = with_subcommand (with_subcommand (with_subcommand (needs_subcommand (new_app (codes "offload"))) merge_app.top) segment_app.top) make_app.top
 
 -- whether clap's command passes options down to its subcommands
 abbrev pub has_globals_of : clap_command.Command → Bool
@@ -30,7 +32,8 @@ unfoldable pub command_named : Text → List Row → Option Command
 command_named name rows =
     if bytes_eq name (codes "merge") then option_map Merge (merge_options_in rows)
     else (if bytes_eq name (codes "segment") then Some Segment
-    else None)
+    else (if bytes_eq name (codes "make") then option_map Make (make_options_in rows)
+    else None))
 
 abbrev pub command_unless : Kinds → Option Command → Option Command
 command_unless [] command = command
@@ -48,6 +51,7 @@ command_of words = command_by offload_app words
 abbrev pub HasRanges : Command → Type 0
 HasRanges (Merge options) = IsInRange options
 HasRanges Segment = ⊤
+HasRanges (Make options) = make.IsInRange options
 
 -- no line is without both a fault and a command
 abbrev pub FaultlessLinesAreCommands : Type 0

@@ -1,4 +1,5 @@
 pub mod Commands
+pub mod Make
 pub mod Merge
 pub mod Numbers
 pub mod Segment

@@ -4,6 +4,7 @@ ghost use Rattle.std.specs.Prelude.{◌≡◌, IfOk, codes, false};
 ghost use Rattle.clap.specs.Words.{app_of, new_app, with_subcommand};
 ghost use Rattle.offload_words.specs.Commands.{offload_app, has_globals_of, needs_subcommand};
 
+use crate::make::make_subcommand;
 use crate::merge::merge_subcommand;
 use crate::segment::segment_subcommand;
 use std::alloc::{AllocError, Global};
@@ -31,5 +32,6 @@ pub(crate) fn offload_commands<'a>(alloc: Global) -> Result<clap::Command<'a>, A
     ensures { IfOk result (λ c. app_of c ≡ offload_app) }
 {
     let merge = with_command(program(alloc), merge_subcommand(alloc)?)?;
-    with_command(merge, segment_subcommand(alloc))
+    let segment = with_command(merge, segment_subcommand(alloc))?;
+    with_command(segment, make_subcommand(alloc)?)
 }

@@ -13,6 +13,7 @@
 #![tactic(auto)]
 
 mod commands;
+pub mod make;
 pub mod merge;
 mod numbers;
 mod segment;
@@ -20,5 +21,6 @@ mod segment;
 mod tests;
 pub mod words;
 
+pub use make::MakeOptions;
 pub use merge::MergeOptions;
 pub use words::{Command, WordsFault, every_faultless_line_is_a_command, parse_words};

@@ -26,6 +26,13 @@ pub(crate) fn number_option<'a>(
         .default_value(default)
 }
 
+/// The number at the option `--id`, of 64 bits.
+pub(crate) fn wide_number_at(matches: &ArgMatches<'_>, id: &str) -> Option<u64>
+    ensures { result ≡ number_in 18446744073709551615 id.now (rows_of (found_of matches.now)) }
+{
+    matches.get_one::<u64>(id)
+}
+
 /// The number at the option `--id`.
 pub(crate) fn number_at(matches: &ArgMatches<'_>, id: &str) -> Option<u32>
     ensures { result ≡ number_in 4294967295 id.now (rows_of (found_of matches.now)) }

@@ -1,6 +1,8 @@
 //! Lines of words, taken and refused.
 
-use crate::{Command, MergeOptions, WordsFault, every_faultless_line_is_a_command, parse_words};
+use crate::{
+    Command, MakeOptions, MergeOptions, WordsFault, every_faultless_line_is_a_command, parse_words,
+};
 use std::alloc::{AllocError, Global};
 use std::test::Fail;
 
@@ -36,7 +38,27 @@ fn lines_of_words(rt: HostRuntime) -> Result<(), Fail> {
         let command = parse_words(alloc, &words(alloc, line)?);
         assert!(rt; command == Ok(Command::Segment), "at {line}");
     }
+    let made = [
+        ("offload make", 1, 1000),
+        ("offload make --seed 0 --count 0", 0, 0),
+        ("offload make --count 10000000", 1, 10000000),
+        ("offload make --seed=18446744073709551615", u64::MAX, 1000),
+        ("offload make --count 5 --seed +07", 7, 5),
+    ];
+    for (line, seed, count) in made {
+        let command = parse_words(alloc, &words(alloc, line)?);
+        assert!(rt;
+            command == Ok(Command::Make(MakeOptions { seed, count })),
+            "at {line}"
+        );
+    }
     let refused = [
+        "offload make --count 10000001",
+        "offload make --seed 18446744073709551616",
+        "offload make --seed -1",
+        "offload make --budget 2",
+        "offload make 1",
+        "offload make --help",
         "offload",
         "offload --help",
         "offload --version",

@@ -3,9 +3,11 @@
 ghost use Rattle.std.specs.Prelude.{◌≡◌, ◌≢◌, [], IfOk, Some, None, MatchResult, map, option_and_then, option_map, string_bytes, true};
 ghost use Rattle.clap.specs.Words.{app_of, fault_of, found_of, is_simple_and_free, rows_of, subcommand_rows_of};
 ghost use Rattle.offload_words.specs.Commands.{FaultlessLinesAreCommands, command_by, command_named, command_of, HasRanges, offload_app};
+ghost use Rattle.offload_words.specs.Make.{make_options_in};
 ghost use Rattle.offload_words.specs.Merge.{merge_options_in};
 
 use crate::commands::offload_commands;
+use crate::make::{MakeOptions, make_options};
 use crate::merge::{MergeOptions, merge_options};
 use clap::ArgMatches;
 use clap::error::ErrorKind;
@@ -18,6 +20,8 @@ pub enum Command {
     Merge(MergeOptions),
     /// `segment`: cut the merged records of a capture again.
     Segment,
+    /// `make`: write a generated capture.
+    Make(MakeOptions),
 }
 
 /// Why a line of words gives no command.
@@ -36,6 +40,13 @@ fn merge_command(matches: &ArgMatches<'_>) -> Option<Command>
     Some(Command::Merge(merge_options(matches)?))
 }
 
+/// `make` with the options among its matches.
+fn make_command(matches: &ArgMatches<'_>) -> Option<Command>
+    ensures { result ≡ option_map Command.Make (make_options_in (rows_of (found_of matches.now))) }
+{
+    Some(Command::Make(make_options(matches)?))
+}
+
 /// The command of a subcommand's name and its matches.
 #[tactic(auto, unfolding(crate::specs::Commands::command_named))]
 fn command_at(name: &str, matches: &ArgMatches<'_>) -> Option<Command>
@@ -44,6 +55,7 @@ fn command_at(name: &str, matches: &ArgMatches<'_>) -> Option<Command>
     match name {
         "merge" => merge_command(matches),
         "segment" => Some(Command::Segment),
+        "make" => make_command(matches),
         _ => None,
     }
 }
