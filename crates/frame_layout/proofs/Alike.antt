@@ -1,52 +1,58 @@
 -- Two frames that are alike in the headers of a layout, header by header.
-use Rattle.std.proofs.Common.{◌≡◌, ℕ, ◌+◌, ◌<◌, ◌≤◌, ◌⊎◌, inl, inr, List, [], ◌∷◌, arith}
+use Rattle.std.proofs.Common.{◌≡◌, ℕ, ◌+◌, ◌<◌, ◌≤◌, ◌⊎◌, inl, inr, Bool, true, List, [], ◌∷◌, refl, arith}
+use Rattle.std.specs.Prelude.{◌&&◌, nat_le}
+use Rattle.std.proofs.lemmas.Bool.{and_parts, leb-true}
 use Rattle.net_bytes.specs.Bytes.{byte}
 use Rattle.frame_layout.specs.Shape.{Layout}
-use Rattle.frame_layout.specs.Headers.{size, AreLaid, AtHeaders, IsOutside, AreHeadersAlike}
+use Rattle.frame_layout.specs.Headers.{size, AreLaid, AtHeaders, varying, IsOutside, AreHeadersAlike}
 use Rattle.frame_layout.specs.declared.layout.Header.{Header}
 use Rattle.frame_layout.specs.declared.layout.Layer.{Layer}
-use Rattle.frame_layout.specs.declared.layout.Layer.TheVariants.{Ip4, Ip6, Udp, Tcp}
+use Rattle.frame_layout.proofs.AtHeaders.{headers_map}
+use Rattle.frame_layout.proofs.Clear.{are_clear, outside_clear, Outside, are_inside, own}
 use Rattle.frame_layout.proofs.Shapes.{laid_end}
 
-pub headers_map : {P Q : Layer → ℕ → Type 0} → ((l : Layer) (at : ℕ) → P l at → Q l at) → (hs : List Header) → AtHeaders P hs → AtHeaders Q hs
-headers_map f [] p = tt
-headers_map f (h ∷ hs) p = (f h.layer h.at p.0, headers_map f hs p.1)
+-- the headers lie before their end, and so within more bytes
+pub inside_all : (start end : ℕ) (hs : List Header) → AreLaid start hs end → AtHeaders (λ layer at. at + size layer ≤ end) hs
+inside_all start end [] laid = tt
+inside_all start end (h ∷ hs) laid = (laid_end (h.at + size h.layer) hs end laid.1, inside_all (h.at + size h.layer) end hs laid.1)
 
--- a place of a header that is outside by that header is outside by all
-pub inner : (X : ℕ → Layer → ℕ → Type 0) → ((l : Layer) (at k : ℕ) → (k < at) ⊎ (at + size l ≤ k) → X k l at)
-    → (start : ℕ) (hs : List Header) (end : ℕ) → AreLaid start hs end
-    → AtHeaders (λ l at. (start ≤ at) × (at + size l ≤ end) × ((k : ℕ) → at ≤ k → k < at + size l → X k l at → AtHeaders (X k) hs)) hs
-inner X own start [] end laid = tt
-inner X own start (h ∷ hs) end laid = (
-  (laid.0, laid_end (h.at + size h.layer) hs end laid.1, λ k a b x. (x, before (h.at + size h.layer) hs k laid.1 b)),
-  widen hs (inner X own (h.at + size h.layer) hs end laid.1),
+pub within_all : (end n : ℕ) (hs : List Header) → end ≤ n → AtHeaders (λ layer at. at + size layer ≤ end) hs → AtHeaders (λ layer at. at + size layer ≤ n) hs
+within_all end n [] h a = tt
+within_all end n (x ∷ hs) h a = (omega (arith, a.0), within_all end n hs h a.1)
+
+-- what lies before the headers, or behind them, is outside their fields
+pub outside_all : (x : Layer → List (ℕ × ℕ)) → are_inside x ≡ true → (start : ℕ) (hs : List Header) (end k : ℕ) → AreLaid start hs end → (k < start) ⊎ (end ≤ k)
+    → AtHeaders (Outside x k) hs
+outside_all x e start [] end k laid out = tt
+outside_all x e start (h ∷ hs) end k laid out = (
+  own x e h.layer h.at k (elim out [ inl a ↦ inl (omega (arith, laid.0)) | inr a ↦ inr (omega (arith, laid_end (h.at + size h.layer) hs end laid.1)) ]),
+  outside_all x e (h.at + size h.layer) hs end k laid.1 (elim out [ inl a ↦ inl (omega (arith, laid.0)) | inr a ↦ inr a ]),
 )
-  where
-    before : (s : ℕ) (gs : List Header) (k : ℕ) → AreLaid s gs end → k < s → AtHeaders (X k) gs
-    before s [] k l b = tt
-    before s (g ∷ gs) k l b = (own g.layer g.at k (inl (omega (arith, l.0))), before (g.at + size g.layer) gs k l.1 (omega (arith, l.0)))
 
-    widen : (gs : List Header)
-        → AtHeaders (λ l at. (h.at + size h.layer ≤ at) × (at + size l ≤ end) × ((k : ℕ) → at ≤ k → k < at + size l → X k l at → AtHeaders (X k) hs)) gs
-        → AtHeaders (λ l at. (start ≤ at) × (at + size l ≤ end) × ((k : ℕ) → at ≤ k → k < at + size l → X k l at → AtHeaders (X k) (h ∷ hs))) gs
-    widen [] q = tt
-    widen (g ∷ gs) q = ((omega (arith, laid.0, q.0.0), q.0.1, λ k a b x. (own h.layer h.at k (inr (omega (arith, q.0.0))), q.0.2 k a b x)), widen gs q.1)
+-- a place of a header that is outside its own fields is outside all fields
+pub inner : (x : Layer → List (ℕ × ℕ)) → are_inside x ≡ true → (start : ℕ) (hs : List Header) (end : ℕ) → AreLaid start hs end
+    → AtHeaders (λ l at. (start ≤ at) × (at + size l ≤ end) × ((k : ℕ) → at ≤ k → k < at + size l → Outside x k l at → AtHeaders (Outside x k) hs)) hs
+inner x e start [] end laid = tt
+inner x e start (h ∷ hs) end laid = (
+  (laid.0, laid_end (h.at + size h.layer) hs end laid.1, λ k a b o. (o, outside_all x e (h.at + size h.layer) hs end k laid.1 (inl b))),
+  headers_map (λ l at q. (omega (arith, laid.0, q.0), q.1, λ k a b o. (own x e h.layer h.at k (inr (omega (arith, q.0))), q.2 k a b o))) hs
+      (inner x e (h.at + size h.layer) hs end laid.1),
+)
 
 -- the two are alike in this header
 pub record IsAlikeAt (f g : List ℕ) (l : Layer) (at : ℕ) : Type 0 where
   pub same : (k : ℕ) → at ≤ k → k < at + size l → IsOutside k l at → byte f k ≡ byte g k
 
-outside_own : (l : Layer) (at k : ℕ) → (k < at) ⊎ (at + size l ≤ k) → IsOutside k l at
-outside_own Ip4 at k (inl a) = (inl (omega arith), inl (omega arith))
-outside_own Ip4 at k (inr a) = (inr (omega arith), inr (omega arith))
-outside_own Ip6 at k (inl a) = inl (omega arith)
-outside_own Ip6 at k (inr a) = inr (omega arith)
-outside_own Udp at k (inl a) = inl (omega arith)
-outside_own Udp at k (inr a) = inr (omega arith)
-outside_own Tcp at k (inl a) = (inl (omega arith), inl (omega arith), inl (omega arith))
-outside_own Tcp at k (inr a) = (inr (omega arith), inr (omega arith), inr (omega arith))
-outside_own _ at k a = tt
+-- so n bytes from place j of the header on, where its fields that may differ are clear of these
+pub alike_bytes : (f g : List ℕ) (l : Layer) (at j n : ℕ) → IsAlikeAt f g l at → (nat_le (j + n) (size l) && are_clear j n (varying l)) ≡ true
+    → (k : ℕ) → at + j ≤ k → k < at + j + n → byte f k ≡ byte g k
+alike_bytes f g l at j n alike e k a b =
+    let p = and_parts (nat_le (j + n) (size l)) _ e in
+    alike.same k (omega arith) (omega (arith, leb-true _ _ p.0)) (outside_clear j n (varying l) p.1 at k a b)
+
+pub alike_byte : (f g : List ℕ) (l : Layer) (at j : ℕ) → IsAlikeAt f g l at → (nat_le (j + 1) (size l) && are_clear j 1 (varying l)) ≡ true → byte f (at + j) ≡ byte g (at + j)
+alike_byte f g l at j alike e = alike_bytes f g l at j 1 alike e (at + j) (omega arith) (omega arith)
 
 pub alike_at : (layout : Layout) (f g : List ℕ) → AreLaid 0 layout.headers layout.payload_at → AreHeadersAlike layout f g → AtHeaders (IsAlikeAt f g) layout.headers
 alike_at layout f g laid alike =
-    headers_map (λ l at q. record { same = λ k a b o. alike k (omega (arith, q.1)) (q.2 k a b o) }) layout.headers (inner IsOutside outside_own 0 layout.headers layout.payload_at laid)
+    headers_map (λ l at q. record { same = λ k a b o. alike k (omega (arith, q.1)) (q.2 k a b o) }) layout.headers (inner varying refl 0 layout.headers layout.payload_at laid)

@@ -10,10 +10,7 @@ use Rattle.frame_layout.specs.Headers.{size, AreLaid}
 use Rattle.frame_layout.specs.Headers.{AtHeaders}
 use Rattle.frame_layout.specs.declared.layout.Header.{Header}
 use Rattle.frame_layout.specs.declared.layout.Layer.TheVariants.{Ethernet, Ip4, Ip6}
-use Rattle.frame_layout.specs.declared.segment.Fields.{Fields}
-use Rattle.frame_layout.specs.declared.segment.Seg.{Seg}
 use Rattle.frame_layout.proofs.Networks.{has_network}
-use Rattle.frame_layout.proofs.Shapes.{laid_end}
 use Rattle.frame_layout.proofs.Fronts.{same_shapes}
 use Rattle.frame_layout.specs.Front.{IsFrameOf, are_headers_right}
 use Rattle.frame_layout.proofs.Right.{right_all, all_right}
@@ -35,10 +32,6 @@ module _ (h : List ℕ) (rest : FoldAndLength) (f : List ℕ) (s : IsFrameOf h r
 pub only_layout : (f : List ℕ) (l m : Layout) (P : Layout → Type 0) → Some l ≡ shape_of f → shape_of f ≡ Some m → P m → P l
 only_layout f l m P a b p = let e : Some l ≡ Some m = a ∙ b in let g : l ≡ m = cc in subst P (sym g) p
 
-pub inside_all : (start end : ℕ) (hs : List Header) → AreLaid start hs end → AtHeaders (λ layer at. at + size layer ≤ end) hs
-inside_all start end [] laid = tt
-inside_all start end (h ∷ hs) laid = (laid_end (h.at + size h.layer) hs end laid.1, inside_all (h.at + size h.layer) end hs laid.1)
-
 pub candidate_is : (f : List ℕ) (original : ℕ) (l : Layout) → original ≡ length f → l.payload_at < length f
     → are_headers_right f (record { layer = Ethernet; at = 0 }) l.headers → IsCandidate f original l
 candidate_is f original l whole payload r =
@@ -48,10 +41,6 @@ candidate_is f original l whole payload r =
 pub is_candidate : (f : List ℕ) (original : ℕ) (l : Layout) → IsCandidate f original l → are_headers_right f (record { layer = Ethernet; at = 0 }) l.headers
 is_candidate f original l c = all_right f (record { layer = Ethernet; at = 0 }) l.headers c.lengths c.flags c.sums
 
-pub within_all : (end n : ℕ) (hs : List Header) → end ≤ n → AtHeaders (λ layer at. at + size layer ≤ end) hs → AtHeaders (λ layer at. at + size layer ≤ n) hs
-within_all end n [] h a = tt
-within_all end n (x ∷ hs) h a = (omega (arith, a.0), within_all end n hs h a.1)
-
 -- a candidate's length is counted by its first IP header, in 16 bits
 pub not_longer : (f : List ℕ) (original : ℕ) (l : Layout) → ((k : ℕ) → byte f k < 256) → shape_of f ≡ Some l → IsCandidate f original l → length f ≤ 65597
 not_longer f original l small e c =
@@ -60,18 +49,3 @@ not_longer f original l small e c =
       | inl a ↦ omega (arith, q.1, a, small (q.0 + 2), small (q.0 + 2 + 1))
       | inr a ↦ omega (arith, q.1, a, small (q.0 + 4), small (q.0 + 4 + 1))
     ]
-
--- the description of these parts
-abbrev pub described : Layout → ℕ → ℕ → Fields → Seg
-described l at n s = record {
-  layout = l;
-  payload_at = at;
-  payload_len = n;
-  seq = s.seq;
-  flags = s.flags;
-  id1 = s.id1;
-  id2 = s.id2;
-  df1 = s.df1;
-  df2 = s.df2;
-  udp_zero = s.udp_zero;
-}

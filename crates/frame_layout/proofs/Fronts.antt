@@ -5,6 +5,9 @@ use Rattle.std.proofs.lemmas.List.{get_or-take, length-take, get_or_past}
 use Rattle.std.proofs.lemmas.Bool.{cases_lt}
 use Rattle.net_bytes.specs.Bytes.{byte}
 use Rattle.frame_layout.specs.Shape.{shape_of}
+use Rattle.frame_layout.specs.Key.{key_of, IsHeadOf}
+use Rattle.frame_layout.proofs.Keys.{key_none}
+use Rattle.frame_layout.proofs.SameKey.{same_key}
 use Rattle.frame_layout.proofs.Shapes.{same_shape}
 use Rattle.frame_layout.proofs.Bounds.{IsPlaced, placed}
 
@@ -39,4 +42,15 @@ shape_in_front f small =
     small_front k = elim (cases_lt k 200) [
       | inl l ↦ omega (arith, get_or-take 200 f k 0 l, small k)
       | inr l ↦ omega (arith, get_or_past (take 200 f) k 0 (omega (arith, length-take 200 f)))
+    ]
+
+-- and so is the key
+pub same_keys : (h f : List ℕ) → ((k : ℕ) → byte h k < 256) → IsHeadOf h f → key_of h ≡ key_of f
+same_keys h f small o =
+    let shapes : shape_of h ≡ shape_of f = same_shapes h f small o.in_bytes o.more o.enough o.begins in
+    elim (option_cases (shape_of h)) [
+      | inl n ↦ sym (key_none h (sym n)) ∙ key_none f (sym n ∙ shapes)
+      | inr s ↦
+          let p : IsPlaced h s.0 = placed h small s.0 (sym s.1) in
+          same_key h f s.0 s.1 (sym shapes ∙ s.1) (λ k a b. sym (o.begins k (omega (arith, p.within))))
     ]

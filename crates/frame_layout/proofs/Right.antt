@@ -1,17 +1,20 @@
 -- What is tested in the first bytes of a frame holds of the frame.
 use Rattle.std.proofs.Common.{◌≡◌, ℕ, ◌+◌, ◌-◌, ◌%◌, ◌<◌, ◌≤◌, ◌⊎◌, inl, inr, Bool, true, List, [], ◌∷◌, length, drop, get_or, refl, sym, ap, ◌∙◌, subst, arith}
-use Rattle.std.specs.Prelude.{◌↔◌, ◌||◌, ◌==◌, nat_eq}
-use Rattle.std.proofs.lemmas.Bool.{and_parts, and_from, or_cases, or_left, or_right, eqb-true, eq-eqb, ltb-true, lt-ltb}
+use Rattle.std.specs.Prelude.{◌↔◌, ◌||◌, ◌==◌, nat_eq, nat_lt}
+use Rattle.std.specs.Bool.{Decides}
+use Rattle.std.proofs.lemmas.Bool.{or_cases, or_left, or_right, eqb-true, eq-eqb}
+use Rattle.std.proofs.lemmas.Bool.Decides.{Decides-and}
 use Rattle.std.proofs.lemmas.List.{drop_more}
 use Rattle.inet_sum.specs.Sum.{checksum_of}
 use Rattle.net_bytes.specs.Bytes.{byte, be16, put16}
-use Rattle.frame_layout.specs.Candidate.{ip4_sum, IsLengthRight, AreFlagsPlain, are_sums_right}
+use Rattle.frame_layout.specs.Candidate.{ip4_sum, IsLengthRight, is_length_right, AreFlagsPlain, are_flags_plain, are_sums_right}
 use Rattle.frame_layout.specs.Headers.{AtHeaders}
 use Rattle.frame_layout.specs.Headers.{size}
 use Rattle.frame_layout.specs.declared.layout.Header.{Header}
 use Rattle.frame_layout.specs.declared.layout.Layer.{Layer}
 use Rattle.frame_layout.specs.declared.layout.Layer.TheVariants.{Ip4, Ip6, Udp, Tcp}
 use Rattle.frame_layout.specs.Front.{is_plain, IsHeaderRight, are_headers_right, AreAddressesWithin}
+use Rattle.frame_layout.proofs.Deciding.{decides_length, decides_flags}
 use Rattle.frame_layout.proofs.Zeroed.{same_part_long}
 
 pub eqb_is : (a b c d : ℕ) → a ≡ c → b ≡ d → (nat_eq a b ≡ true → c ≡ d) × (c ≡ d → nat_eq a b ≡ true)
@@ -23,24 +26,6 @@ udp_is r a b u is e = (
   λ t. is ∙ elim t [ inl z ↦ or_left (a == 0) (a == u) (eq-eqb a 0 (e ∙ z)) | inr z ↦ or_right (a == 0) (a == u) (eq-eqb a u (e ∙ z)) ],
 )
 
-flags_to : (x y : ℕ) → y ≡ x → (x == 0x10 || (x == 0x18 || (x == 0x11 || x == 0x19))) ≡ true → (y ≡ 0x10) ⊎ ((y ≡ 0x18) ⊎ ((y ≡ 0x11) ⊎ (y ≡ 0x19)))
-flags_to x y e t = elim (or_cases (x == 0x10) (x == 0x18 || (x == 0x11 || x == 0x19)) t) [
-  | inl a ↦ inl (e ∙ eqb-true x 0x10 a)
-  | inr a ↦ inr (elim (or_cases (x == 0x18) (x == 0x11 || x == 0x19) a) [
-    | inl b ↦ inl (e ∙ eqb-true x 0x18 b)
-    | inr b ↦ inr (elim (or_cases (x == 0x11) (x == 0x19) b) [
-      | inl d ↦ inl (e ∙ eqb-true x 0x11 d)
-      | inr d ↦ inr (e ∙ eqb-true x 0x19 d)
-    ])
-  ])
-]
-
-flags_from : (x y : ℕ) → y ≡ x → (y ≡ 0x10) ⊎ ((y ≡ 0x18) ⊎ ((y ≡ 0x11) ⊎ (y ≡ 0x19))) → (x == 0x10 || (x == 0x18 || (x == 0x11 || x == 0x19))) ≡ true
-flags_from x y e (inl a) = or_left (x == 0x10) (x == 0x18 || (x == 0x11 || x == 0x19)) (eq-eqb x 0x10 (sym e ∙ a))
-flags_from x y e (inr (inl a)) = or_right (x == 0x10) (x == 0x18 || (x == 0x11 || x == 0x19)) (or_left (x == 0x18) (x == 0x11 || x == 0x19) (eq-eqb x 0x18 (sym e ∙ a)))
-flags_from x y e (inr (inr (inl a))) = or_right (x == 0x10) (x == 0x18 || (x == 0x11 || x == 0x19)) (or_right (x == 0x18) (x == 0x11 || x == 0x19) (or_left (x == 0x11) (x == 0x19) (eq-eqb x 0x11 (sym e ∙ a))))
-flags_from x y e (inr (inr (inr a))) = or_right (x == 0x10) (x == 0x18 || (x == 0x11 || x == 0x19)) (or_right (x == 0x18) (x == 0x11 || x == 0x19) (or_right (x == 0x11) (x == 0x19) (eq-eqb x 0x19 (sym e ∙ a))))
-
 module _ (h f : List ℕ) (n : ℕ) (long : length f ≡ n) (more : length h ≤ length f) (begins : (k : ℕ) → k < length h → byte f k ≡ byte h k) where
   pub same16 : (at : ℕ) → at + 2 ≤ length h → be16 f at ≡ be16 h at
   same16 at fits = omega (arith, begins at (omega arith), begins (at + 1) (omega arith))
@@ -48,27 +33,22 @@ module _ (h f : List ℕ) (n : ℕ) (long : length f ≡ n) (more : length h ≤
   pub same_ip4_sum : (at : ℕ) → at + 20 ≤ length h → ip4_sum h at ≡ ip4_sum f at
   same_ip4_sum at fits = ap (λ z. checksum_of (put16 z 10 0)) (same_part_long h f at 20 fits (omega arith) (λ k a. sym (begins k (omega arith))))
 
-  pub plain_to : (l : Layer) (at : ℕ) → at + size l ≤ length h → is_plain h n l at ≡ true → IsLengthRight f l at × AreFlagsPlain f l at
-  plain_to Ip4 at fits t =
-      let p = and_parts (be16 h (at + 2) == n - at) _ t in
-      (same16 (at + 2) (omega arith) ∙ eqb-true _ _ p.0 ∙ ap (λ z. z - at) (sym long), omega (arith, begins (at + 6) (omega arith), ltb-true (byte h (at + 6)) 0x80 p.1))
-  plain_to Ip6 at fits t = (same16 (at + 4) (omega arith) ∙ eqb-true _ _ t ∙ ap (λ z. z - at - 40) (sym long), tt)
-  plain_to Udp at fits t = (same16 (at + 4) (omega arith) ∙ eqb-true _ _ t ∙ ap (λ z. z - at) (sym long), tt)
-  plain_to Tcp at fits t =
-      let p = and_parts (byte h (at + 12) % 16 == 0) _ t in
-      (tt, (ap (λ z. z % 16) (begins (at + 12) (omega arith)) ∙ eqb-true _ _ p.0, flags_to (byte h (at + 13)) (byte f (at + 13)) (begins (at + 13) (omega arith)) p.1))
-  plain_to _ at fits t = (tt, tt)
+  same_length : (l : Layer) (at : ℕ) → at + size l ≤ length h → is_length_right n h l at ≡ is_length_right n f l at
+  same_length Ip4 at fits = ap (λ z. z == n - at) (sym (same16 (at + 2) (omega arith)))
+  same_length Ip6 at fits = ap (λ z. z == n - at - 40) (sym (same16 (at + 4) (omega arith)))
+  same_length Udp at fits = ap (λ z. z == n - at) (sym (same16 (at + 4) (omega arith)))
+  same_length _ at fits = refl
 
-  pub plain_from : (l : Layer) (at : ℕ) → at + size l ≤ length h → IsLengthRight f l at → AreFlagsPlain f l at → is_plain h n l at ≡ true
-  plain_from Ip4 at fits a b =
-      and_from _ _ (eq-eqb (be16 h (at + 2)) (n - at) (sym (same16 (at + 2) (omega arith)) ∙ a ∙ ap (λ z. z - at) long))
-      (lt-ltb (byte h (at + 6)) 0x80 (omega (arith, begins (at + 6) (omega arith), b)))
-  plain_from Ip6 at fits a b = eq-eqb (be16 h (at + 4)) (n - at - 40) (sym (same16 (at + 4) (omega arith)) ∙ a ∙ ap (λ z. z - at - 40) long)
-  plain_from Udp at fits a b = eq-eqb (be16 h (at + 4)) (n - at) (sym (same16 (at + 4) (omega arith)) ∙ a ∙ ap (λ z. z - at) long)
-  plain_from Tcp at fits a b =
-      and_from _ _ (eq-eqb (byte h (at + 12) % 16) 0 (ap (λ z. z % 16) (sym (begins (at + 12) (omega arith))) ∙ b.0))
-      (flags_from (byte h (at + 13)) (byte f (at + 13)) (begins (at + 13) (omega arith)) b.1)
-  plain_from _ at fits a b = refl
+  same_flags : (l : Layer) (at : ℕ) → at + size l ≤ length h → are_flags_plain h l at ≡ are_flags_plain f l at
+  same_flags Ip4 at fits = ap (λ z. nat_lt z 0x80) (sym (begins (at + 6) (omega arith)))
+  same_flags Tcp at fits = rw (begins (at + 12) (omega arith), begins (at + 13) (omega arith)) refl
+  same_flags _ at fits = refl
+
+  pub plain : (l : Layer) (at : ℕ) → at + size l ≤ length h → Decides (is_plain h n l at) (IsLengthRight f l at × AreFlagsPlain f l at)
+  plain l at fits =
+      let whole : Decides (is_length_right n f l at) (IsLengthRight f l at) = subst (λ z. Decides (is_length_right z f l at) (IsLengthRight f l at)) long (decides_length f l at) in
+      Decides-and _ _ (subst (λ b. Decides b (IsLengthRight f l at)) (sym (same_length l at fits)) whole)
+      (subst (λ b. Decides b (AreFlagsPlain f l at)) (sym (same_flags l at fits)) (decides_flags f l at))
 
 -- the facts at each header are three facts of all
 pub right_all : (f : List ℕ) (ip : Header) (hs : List Header) → are_headers_right f ip hs

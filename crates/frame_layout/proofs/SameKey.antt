@@ -1,19 +1,18 @@
 -- A frame that is alike in the headers of a shape is of the same flow.
 use Rattle.std.proofs.Common.{◌≡◌, ℕ, zero, suc, ◌+◌, ◌-◌, ◌*◌, ◌/◌, ◌<◌, ◌≤◌, inl, inr, Bool, true, false, Option, Some, None, List, [], ◌∷◌, ◌++◌, length, drop, refl, sym, ap, ◌∙◌, subst, arith}
-use Rattle.std.specs.Prelude.{◌==◌, if◌then◌else◌}
+use Rattle.std.specs.Prelude.{◌==◌, ◌&&◌}
 use Rattle.std.specs.List.{flat_map}
-use Rattle.std.proofs.lemmas.Bool.{cases_lt}
+use Rattle.std.proofs.lemmas.Bool.{cases_lt, and_parts, eqb-true}
 use Rattle.std.proofs.lemmas.List.{ext_get_or, length-take, length-drop, get_or-take, get_or-drop}
-use Rattle.net_bytes.specs.Bytes.{byte, be16, part}
+use Rattle.net_bytes.specs.Bytes.{byte, part}
 use Rattle.frame_layout.specs.declared.layout.Header.{Header}
-use Rattle.frame_layout.specs.Shape.{Layout, header, tcp_from, carried_from, network_from, typed_from, ethernet_from, vxlan_from, shape_of}
-use Rattle.eth_vlan.specs.Tag.{is_tag}
+use Rattle.frame_layout.specs.Shape.{Layout, shape_of}
 use Rattle.frame_layout.specs.Key.{flow_part, key_of}
 use Rattle.frame_layout.specs.Headers.{AtHeaders, AreHeadersAlike}
 use Rattle.frame_layout.specs.Headers.{size, AreLaid}
-use Rattle.frame_layout.proofs.Shapes.{found, with_header, laid}
-use Rattle.frame_layout.proofs.Shapes.{laid_end}
-use Rattle.frame_layout.proofs.Alike.{IsAlikeAt, alike_at}
+use Rattle.frame_layout.proofs.Listed.{shape_passes}
+use Rattle.frame_layout.proofs.Shapes.{laid, laid_end}
+use Rattle.frame_layout.proofs.Alike.{IsAlikeAt, alike_at, alike_bytes}
 use Rattle.frame_layout.specs.declared.layout.Layer.{Layer}
 use Rattle.frame_layout.specs.declared.layout.Layer.TheVariants.{Ethernet, Tag, Ip4, Ip6, Udp, Vxlan, Tcp}
 
@@ -29,65 +28,30 @@ abbrev AreTagsBehind : Layer → ℕ → List Header → Type 0
 AreTagsBehind before end [] = Unit {0}
 AreTagsBehind before end (h ∷ hs) = IsTagBehind before end h.layer h.at × AreTagsBehind h.layer (h.at + size h.layer) hs
 
-record HasTags (before : Layer) (end : ℕ) (o : Option Layout) : Type 0 where
-  at : (l : Layout) → o ≡ Some l → AreTagsBehind before end l.headers
+abbrev is_tag_behind : Layer → ℕ → Layer → ℕ → Bool
+is_tag_behind Ethernet end Tag at = at == end
+is_tag_behind Tag end Tag at = at == end
+is_tag_behind before end Tag at = false
+is_tag_behind before end _ at = true
 
-tags_none : (before : Layer) (end : ℕ) → HasTags before end None
-tags_none before end = record { at = λ l e. absurd cc }
+abbrev are_tags_behind : Layer → ℕ → List Header → Bool
+are_tags_behind before end [] = true
+are_tags_behind before end (h ∷ hs) = is_tag_behind before end h.layer h.at && are_tags_behind h.layer (h.at + size h.layer) hs
 
-tags_if : (before : Layer) (end : ℕ) (b : Bool) (x y : Option Layout) → HasTags before end x → HasTags before end y → HasTags before end (if b then x else y)
-tags_if before end true x y a b = a
-tags_if before end false x y a b = b
+tag_behind : (before : Layer) (end : ℕ) (l : Layer) (at : ℕ) → is_tag_behind before end l at ≡ true → IsTagBehind before end l at
+tag_behind Ethernet end Tag at e = eqb-true _ _ e
+tag_behind Tag end Tag at e = eqb-true _ _ e
+tag_behind _ end Tag at e = absurd (let t : false ≡ true = e in cc)
+tag_behind _ end _ at e = tt
 
-tags_header : (before : Layer) (end : ℕ) (layer : Layer) (at : ℕ) (there : Bool) (rest : Option Layout)
-    → IsTagBehind before end layer at → HasTags layer (at + size layer) rest → HasTags before end (header layer at there rest)
-tags_header before end layer at there rest h k = record {
-  at = λ l e.
-      let w : (there ≡ true) × ((r : Layout) × (rest ≡ Some r) × (with_header layer at r ≡ l)) = found layer at there rest l e in
-      subst (λ z. AreTagsBehind before end z.headers) w.1.2 (h, k.at w.1.0 w.1.1);
-}
-
-no_tag : (before : Layer) (end : ℕ) (at : ℕ) → IsTagBehind before end Ip4 at × IsTagBehind before end Ip6 at × IsTagBehind before end Tcp at × IsTagBehind before end Udp at × IsTagBehind before end Vxlan at × IsTagBehind before end Ethernet at
-no_tag Ethernet end at = (tt, tt, tt, tt, tt, tt)
-no_tag Tag end at = (tt, tt, tt, tt, tt, tt)
-no_tag _ end at = (tt, tt, tt, tt, tt, tt)
-
-tags_tcp : (before : Layer) (end : ℕ) (f : List ℕ) (at : ℕ) → HasTags before end (tcp_from f at)
-tags_tcp before end f at = tags_header before end Tcp at _ _ (no_tag before end at).2 (record {
-  at = λ l s.
-      let is : record { headers = []; payload_at = at + 4 * (byte f (at + 12) / 16) } ≡ l = cc in
-      subst (λ z. AreTagsBehind Tcp (at + 20) z.headers) is tt;
-})
-
-module _ (f : List ℕ) (tunnel : ℕ → Option Layout) (inside : (before : Layer) (end at : ℕ) → HasTags before end (tunnel at)) where
-  tags_carried : (before : Layer) (end protocol at : ℕ) → HasTags before end (carried_from f tunnel protocol at)
-  tags_carried before end protocol at = tags_if before end (protocol == 6) _ _ (tags_tcp before end f at) (tags_if before end (protocol == 17) _ _ (inside before end at) (tags_none before end))
-
-  tags_network : (before : Layer) (end type at : ℕ) → HasTags before end (network_from f tunnel type at)
-  tags_network before end type at = tags_if before end (type == 0x0800) _ _
-      (tags_header before end Ip4 at _ _ (no_tag before end at).0 (tags_carried Ip4 (at + 20) (byte f (at + 9)) (at + 20)))
-      (tags_if before end (type == 0x86dd) _ _
-      (tags_header before end Ip6 at _ _ (no_tag before end at).1 (tags_carried Ip6 (at + 40) (byte f (at + 6)) (at + 40)))
-      (tags_none before end))
-
-  -- behind a header that a tag may follow
-  tags_typed : (before : Layer) (end tags at : ℕ) → IsTagBehind before end Tag (at + 2) → HasTags before end (typed_from f tunnel tags at)
-  tags_typed before end zero at h = tags_network before end (be16 f at) (at + 2)
-  tags_typed before end (suc tags) at h = tags_if before end (is_tag (be16 f at)) _ _
-      (tags_header before end Tag (at + 2) _ _ h (tags_typed Tag (at + 2 + 4) tags (at + 4) (omega arith)))
-      (tags_network before end (be16 f at) (at + 2))
-
-  tags_ethernet : (before : Layer) (end at : ℕ) → HasTags before end (ethernet_from f tunnel at)
-  tags_ethernet before end at = tags_header before end Ethernet at _ _ (no_tag before end at).5 (tags_typed Ethernet (at + 14) 2 (at + 12) (omega arith))
-
-tags_vxlan : (f : List ℕ) (before : Layer) (end at : ℕ) → HasTags before end (vxlan_from f at)
-tags_vxlan f before end at = tags_header before end Udp at _ _ (no_tag before end at).3
-    (tags_header Udp (at + 8) Vxlan (at + 8) _ _ (no_tag Udp (at + 8) (at + 8)).4
-    (tags_ethernet f (λ _. None) (λ b e a. tags_none b e) Vxlan (at + 8 + 8) (at + 16)))
+tags_behind : (before : Layer) (end : ℕ) (hs : List Header) → are_tags_behind before end hs ≡ true → AreTagsBehind before end hs
+tags_behind before end [] e = tt
+tags_behind before end (h ∷ hs) e =
+    let p = and_parts (is_tag_behind before end h.layer h.at) (are_tags_behind h.layer (h.at + size h.layer) hs) e in
+    (tag_behind before end h.layer h.at p.0, tags_behind h.layer (h.at + size h.layer) hs p.1)
 
 tags_of_shape : (f : List ℕ) (l : Layout) → shape_of f ≡ Some l → AreTagsBehind Vxlan 0 l.headers
-unfolding shape_of
-tags_of_shape f l e = (tags_ethernet f (vxlan_from f) (tags_vxlan f) Vxlan 0 0).at l e
+tags_of_shape f l e = tags_behind Vxlan 0 l.headers (shape_passes f (are_tags_behind Vxlan 0) refl l e)
 
 -- ---- the key
 
@@ -130,11 +94,11 @@ flow_at : (f g : List ℕ) (before : Layer) (end : ℕ) (l : Layer) (at : ℕ) �
     → IsAlikeAt f g l at → at + size l ≤ length f → at + size l ≤ length g → flow_part f l at ≡ flow_part g l at
 flow_at f g before end Ethernet at tag whole far alike hf hg = same_part_long f g at 12 (omega arith) (omega arith) (λ k a b. alike.same k a (omega arith) tt)
 flow_at f g before end Tag at tag whole far alike hf hg = tag_part f g before end at tag whole alike (far at tag) hf hg
-flow_at f g before end Ip4 at tag whole far alike hf hg = ap (λ z. 4 ∷ z) (same_part_long f g (at + 12) 8 (omega arith) (omega arith) (λ k a b. alike.same k (omega arith) (omega arith) (inr (omega arith), inr (omega arith))))
-flow_at f g before end Ip6 at tag whole far alike hf hg = ap (λ z. 6 ∷ z) (same_part_long f g (at + 8) 32 (omega arith) (omega arith) (λ k a b. alike.same k (omega arith) (omega arith) (inr (omega arith))))
-flow_at f g before end Udp at tag whole far alike hf hg = ap (λ z. 17 ∷ z) (same_part_long f g at 4 (omega arith) (omega arith) (λ k a b. alike.same k (omega arith) (omega arith) (inl (omega arith))))
+flow_at f g before end Ip4 at tag whole far alike hf hg = ap (λ z. 4 ∷ z) (same_part_long f g (at + 12) 8 (omega arith) (omega arith) (alike_bytes f g Ip4 at 12 8 alike refl))
+flow_at f g before end Ip6 at tag whole far alike hf hg = ap (λ z. 6 ∷ z) (same_part_long f g (at + 8) 32 (omega arith) (omega arith) (alike_bytes f g Ip6 at 8 32 alike refl))
+flow_at f g before end Udp at tag whole far alike hf hg = ap (λ z. 17 ∷ z) (same_part_long f g at 4 (omega arith) (omega arith) (λ k a b. alike_bytes f g Udp at 0 4 alike refl k (omega arith) (omega arith)))
 flow_at f g before end Vxlan at tag whole far alike hf hg = same_part_long f g (at + 4) 3 (omega arith) (omega arith) (λ k a b. alike.same k (omega arith) (omega arith) tt)
-flow_at f g before end Tcp at tag whole far alike hf hg = ap (λ z. 6 ∷ z) (same_part_long f g at 4 (omega arith) (omega arith) (λ k a b. alike.same k (omega arith) (omega arith) (inl (omega arith), inl (omega arith), inl (omega arith))))
+flow_at f g before end Tcp at tag whole far alike hf hg = ap (λ z. 6 ∷ z) (same_part_long f g at 4 (omega arith) (omega arith) (λ k a b. alike_bytes f g Tcp at 0 4 alike refl k (omega arith) (omega arith)))
 
 far_behind : (l : Layer) (at a : ℕ) → IsTagBehind l (at + size l) Tag a → 2 ≤ a
 far_behind Ethernet at a t = omega arith

@@ -1,15 +1,16 @@
 -- The headers of a shape lie one behind the other, and the fields that may differ do not change it.
 use Rattle.std.proofs.Common.{◌≡◌, ℕ, zero, suc, ◌+◌, ◌*◌, ◌/◌, ◌%◌, ◌<◌, ◌≤◌, inl, inr, Bool, true, false, Option, Some, None, List, [], ◌∷◌, length, refl, sym, ap, ◌∙◌, subst, arith}
-use Rattle.std.specs.Prelude.{◌&&◌, ◌==◌, nat_le, if◌then◌else◌}
-use Rattle.std.proofs.lemmas.Bool.{and_parts, leb-true, le-leb, and_from}
+use Rattle.std.specs.Prelude.{◌&&◌, ◌==◌, nat_le, nat_lt, if◌then◌else◌}
+use Rattle.std.proofs.lemmas.Bool.{and_parts, leb-true, ltb-true, le-leb, and_from}
 use Rattle.net_bytes.specs.Bytes.{byte, be16}
 use Rattle.eth_vlan.specs.Tag.{is_tag}
 use Rattle.frame_layout.specs.Shape.{Layout, header, vxlan_there, tcp_from, carried_from, ip4_from, ip6_from, network_from, typed_from, ethernet_from, vxlan_from, shape_of}
 use Rattle.frame_layout.specs.declared.layout.Header.{Header}
-use Rattle.frame_layout.specs.Headers.{AtHeaders, IsOutside, AreHeadersAlike}
+use Rattle.frame_layout.specs.Headers.{AtHeaders, varying, IsOutside, AreHeadersAlike}
 use Rattle.frame_layout.specs.Headers.{size, AreLaid}
 use Rattle.frame_layout.specs.declared.layout.Layer.{Layer}
 use Rattle.frame_layout.specs.declared.layout.Layer.TheVariants.{Ethernet, Tag, Ip4, Ip6, Udp, Vxlan, Tcp}
+use Rattle.frame_layout.proofs.Clear.{are_clear, outside_clear, own}
 
 abbrev pub with_header : Layer → ℕ → Layout → Layout
 with_header layer at r = record { headers = record { layer = layer; at = at } ∷ r.headers; payload_at = r.payload_at }
@@ -103,23 +104,15 @@ pub laid_end : (start : ℕ) (hs : List Header) (end : ℕ) → AreLaid start hs
 laid_end start [] end h = h
 laid_end start (x ∷ hs) end h = omega (arith, h.0, laid_end (x.at + size x.layer) hs end h.1)
 
-before_at : (l : Layer) (at k : ℕ) → k < at → IsOutside k l at
-before_at Ip4 at k h = (inl (omega arith), inl (omega arith))
-before_at Ip6 at k h = inl (omega arith)
-before_at Udp at k h = inl (omega arith)
-before_at Tcp at k h = (inl (omega arith), inl (omega arith), inl (omega arith))
-before_at _ at k h = tt
+at_byte : (f g : List ℕ) (layer : Layer) (at j k : ℕ) → AreAlikeIn f g layer at → (nat_lt j (size layer) && are_clear j 1 (varying layer)) ≡ true → k ≡ at + j
+    → byte f k ≡ byte g k
+at_byte f g layer at j k inside e is =
+    let p = and_parts (nat_lt j (size layer)) _ e in
+    inside k (omega arith) (omega (arith, ltb-true _ _ p.0)) (outside_clear j 1 (varying layer) p.1 at k (omega arith) (omega arith))
 
 before_all : (start : ℕ) (hs : List Header) (end k : ℕ) → AreLaid start hs end → k < start → AtHeaders (IsOutside k) hs
 before_all start [] end k h b = tt
-before_all start (x ∷ hs) end k h b = (before_at x.layer x.at k (omega (arith, h.0)), before_all (x.at + size x.layer) hs end k h.1 (omega (arith, h.0)))
-
-behind_at : (l : Layer) (at k : ℕ) → at + size l ≤ k → IsOutside k l at
-behind_at Ip4 at k h = (inr (omega arith), inr (omega arith))
-behind_at Ip6 at k h = inr (omega arith)
-behind_at Udp at k h = inr (omega arith)
-behind_at Tcp at k h = (inr (omega arith), inr (omega arith), inr (omega arith))
-behind_at _ at k h = tt
+before_all start (x ∷ hs) end k h b = (own varying refl x.layer x.at k (inl (omega (arith, h.0))), before_all (x.at + size x.layer) hs end k h.1 (omega (arith, h.0)))
 
 there_is : (layer : Layer) (at : ℕ) (there : Bool) (rest : Option Layout) (r : Layout) → there ≡ true → rest ≡ Some r → header layer at there rest ≡ Some (with_header layer at r)
 unfolding header
@@ -140,7 +133,7 @@ keeps_header start f g layer at there there' rest rest' h lies test step = recor
       subst (λ z. AreAlikeFrom start z f g → z.payload_at ≤ length g → header layer at there' rest' ≡ Some z) w.1.2 (λ alike long.
       let inside : AreAlikeIn f g layer at = λ k a b o. alike k (omega arith) (omega arith) (o, before_all (at + size layer) r.headers r.payload_at k i.0 b) in
       there_is layer at there' rest' r (test r w.1.1 fits long inside w.0)
-      ((step inside).at r w.1.1 (λ k a b o. alike k (omega arith) b (behind_at layer at k a, o)) long));
+      ((step inside).at r w.1.1 (λ k a b o. alike k (omega arith) b (own varying refl layer at k (inr a), o)) long));
 }
 
 keeps_none : (start : ℕ) (f g : List ℕ) (p : Option Layout) → Keeps start f g None p
@@ -170,7 +163,7 @@ keeps_tcp f g at = keeps_header at f g Tcp at _ _ _ _ (omega arith)
     record { at = λ l s alike long. subst (λ w. Some (record { headers = []; payload_at = at + 4 * (w / 16) }) ≡ Some l) same s })
   where
     words : AreAlikeIn f g Tcp at → byte f (at + 12) ≡ byte g (at + 12)
-    words inside = inside (at + 12) (omega arith) (omega arith) (inr (omega arith), inl (omega arith), inl (omega arith))
+    words inside = at_byte f g Tcp at 12 (at + 12) inside refl refl
 
 module _ (f g : List ℕ) (tunnel tunnel' : ℕ → Option Layout)
     (inside_f : (at : ℕ) → IsLaid at f (tunnel at)) (inside : (at : ℕ) → Keeps at f g (tunnel at) (tunnel' at)) where
@@ -185,23 +178,23 @@ module _ (f g : List ℕ) (tunnel tunnel' : ℕ → Option Layout)
       (λ r s fits long in_header e.
       let p : ((nat_le (at + 20) (length f) && byte f at == 0x45) ≡ true) × ((be16 f (at + 6) % 0x4000 == 0) ≡ true) = and_parts _ _ e in
       let q : (nat_le (at + 20) (length f) ≡ true) × ((byte f at == 0x45) ≡ true) = and_parts _ _ p.0 in
-      let first : byte f at ≡ byte g at = in_header at (omega arith) (omega arith) (inl (omega arith), inl (omega arith)) in
-      let high : byte f (at + 6) ≡ byte g (at + 6) = in_header (at + 6) (omega arith) (omega arith) (inr (omega arith), inl (omega arith)) in
-      let low : byte f (at + 6 + 1) ≡ byte g (at + 6 + 1) = in_header (at + 6 + 1) (omega arith) (omega arith) (inr (omega arith), inl (omega arith)) in
+      let first : byte f at ≡ byte g at = at_byte f g Ip4 at 0 at in_header refl (omega arith) in
+      let high : byte f (at + 6) ≡ byte g (at + 6) = at_byte f g Ip4 at 6 (at + 6) in_header refl refl in
+      let low : byte f (at + 6 + 1) ≡ byte g (at + 6 + 1) = at_byte f g Ip4 at 7 (at + 6 + 1) in_header refl (omega arith) in
       and_from _ _
       (and_from _ _ (le-leb (at + 20) (length g) (omega arith)) (ap (λ z. z == 0x45) (sym first) ∙ q.1))
       (ap (λ z. z % 0x4000 == 0) (sym (same16 f g (at + 6) high low)) ∙ p.1))
       (λ in_header. keeps_carried (byte f (at + 9)) (byte g (at + 9)) (at + 20)
-      (in_header (at + 9) (omega arith) (omega arith) (inr (omega arith), inl (omega arith))))
+      (at_byte f g Ip4 at 9 (at + 9) in_header refl refl))
 
   keeps_ip6 : (at : ℕ) → Keeps at f g (ip6_from f tunnel at) (ip6_from g tunnel' at)
   keeps_ip6 at = keeps_header at f g Ip6 at _ _ _ _ (omega arith)
       (λ e. laid_carried f tunnel inside_f (byte f (at + 6)) (at + 40))
       (λ r s fits long in_header e.
       let p : (nat_le (at + 40) (length f) ≡ true) × ((byte f at / 16 == 6) ≡ true) = and_parts _ _ e in
-      let first : byte f at ≡ byte g at = in_header at (omega arith) (omega arith) (inl (omega arith)) in
+      let first : byte f at ≡ byte g at = at_byte f g Ip6 at 0 at in_header refl (omega arith) in
       and_from _ _ (le-leb (at + 40) (length g) (omega arith)) (ap (λ z. z / 16 == 6) (sym first) ∙ p.1))
-      (λ in_header. keeps_carried (byte f (at + 6)) (byte g (at + 6)) (at + 40) (in_header (at + 6) (omega arith) (omega arith) (inr (omega arith))))
+      (λ in_header. keeps_carried (byte f (at + 6)) (byte g (at + 6)) (at + 40) (at_byte f g Ip6 at 6 (at + 6) in_header refl refl))
 
   keeps_network : (type type' at : ℕ) → type ≡ type' → Keeps at f g (network_from f tunnel type at) (network_from g tunnel' type' at)
   keeps_network type type' at e =
@@ -235,8 +228,8 @@ keeps_vxlan f g at = keeps_header at f g Udp at _ _ _ _ (omega arith)
     (λ t. laid_inner)
     (λ r s fits long in_header e.
     let p : (nat_le (at + 8) (length f) ≡ true) × ((be16 f (at + 2) == 4789) ≡ true) = and_parts _ _ e in
-    let high : byte f (at + 2) ≡ byte g (at + 2) = in_header (at + 2) (omega arith) (omega arith) (inl (omega arith)) in
-    let low : byte f (at + 2 + 1) ≡ byte g (at + 2 + 1) = in_header (at + 2 + 1) (omega arith) (omega arith) (inl (omega arith)) in
+    let high : byte f (at + 2) ≡ byte g (at + 2) = at_byte f g Udp at 2 (at + 2) in_header refl refl in
+    let low : byte f (at + 2 + 1) ≡ byte g (at + 2 + 1) = at_byte f g Udp at 3 (at + 2 + 1) in_header refl (omega arith) in
     and_from _ _ (le-leb (at + 8) (length g) (omega arith)) (ap (λ z. z == 4789) (sym (same16 f g (at + 2) high low)) ∙ p.1))
     (λ in_header. keeps_header (at + 8) f g Vxlan (at + 8) _ _ _ _ (omega arith)
     (λ t. laid_innermost)

@@ -1,13 +1,13 @@
 -- What a judge of frames knows of them: their first bytes, their length, and the sum of the bytes behind these.
-use Rattle.std.specs.Prelude.{◌≡◌, ℕ, ◌+◌, ◌-◌, ◌%◌, ◌<◌, ◌≤◌, ◌||◌, ◌&&◌, ◌==◌, nat_lt, Bool, true, List, [], ◌∷◌, ◌++◌, length, drop}
+use Rattle.std.specs.Prelude.{◌≡◌, ℕ, ◌+◌, ◌-◌, ◌%◌, ◌<◌, ◌≤◌, ◌&&◌, Bool, List, [], ◌∷◌, ◌++◌, length, drop}
 use Rattle.inet_sum.specs.Stands.{FoldAndLength, StandsFor}
 use Rattle.inet_sum.specs.Sum.{fold_of}
 use Rattle.frame_layout.specs.declared.front.Front.{Front}
-use Rattle.net_bytes.specs.Bytes.{byte, be16}
+use Rattle.net_bytes.specs.Bytes.{byte}
 use Rattle.frame_layout.specs.declared.layout.Header.{Header}
 use Rattle.frame_layout.specs.declared.layout.Layer.{Layer}
-use Rattle.frame_layout.specs.declared.layout.Layer.TheVariants.{Ip4, Ip6, Udp, Tcp}
-use Rattle.frame_layout.specs.Candidate.{IsLengthRight, AreFlagsPlain, IsSumRight}
+use Rattle.frame_layout.specs.declared.layout.Layer.TheVariants.{Ip4, Ip6}
+use Rattle.frame_layout.specs.Candidate.{IsLengthRight, is_length_right, AreFlagsPlain, are_flags_plain, IsSumRight}
 
 -- `f` is `head` with bytes behind it, of which `rest` is the sum
 pub record IsFrameOf (head : List ℕ) (rest : FoldAndLength) (f : List ℕ) : Type 0 where
@@ -24,13 +24,7 @@ pub record IsFrontOf (front : Front) (f : List ℕ) : Type 0 where
 
 -- the header has a right length field and plain flags in a frame of n bytes
 abbrev pub is_plain : List ℕ → ℕ → Layer → ℕ → Bool
-is_plain f n Ip4 at = be16 f (at + 2) == n - at && nat_lt (byte f (at + 6)) 0x80
-is_plain f n Ip6 at = be16 f (at + 4) == n - at - 40
-is_plain f n Udp at = be16 f (at + 4) == n - at
-is_plain f n Tcp at =
-    byte f (at + 12) % 16 == 0
-    && (byte f (at + 13) == 0x10 || (byte f (at + 13) == 0x18 || (byte f (at + 13) == 0x11 || byte f (at + 13) == 0x19)))
-is_plain f n _ at = true
+is_plain f n layer at = is_length_right n f layer at && are_flags_plain f layer at
 
 abbrev pub IsHeaderRight : List ℕ → Header → Layer → ℕ → Type 0
 IsHeaderRight f ip layer at = IsLengthRight f layer at × AreFlagsPlain f layer at × IsSumRight f ip layer at

@@ -1,8 +1,8 @@
 -- The flow of a frame, and the receive queue of a flow.
-use Rattle.std.specs.Prelude.{ℕ, ◌+◌, ◌-◌, ◌*◌, ◌%◌, ◌^◌, Option, Some, None, List, [], ◌∷◌}
+use Rattle.std.specs.Prelude.{◌≡◌, ℕ, ◌+◌, ◌-◌, ◌*◌, ◌%◌, ◌^◌, ◌<◌, ◌≤◌, min, Option, Some, None, List, [], ◌∷◌, length}
 use Rattle.std.specs.List.{fold, flat_map}
 use Rattle.std.specs.Option.{option_map}
-use Rattle.net_bytes.specs.Bytes.{part}
+use Rattle.net_bytes.specs.Bytes.{byte, part}
 use Rattle.frame_layout.specs.Shape.{shape_of}
 use Rattle.frame_layout.specs.declared.layout.Header.{Header}
 use Rattle.frame_layout.specs.declared.layout.Layer.{Layer}
@@ -35,6 +35,13 @@ key_size (h ∷ hs) = part_size h.layer + key_size hs
 -- the key of the frame's flow; of a frame that has no shape, `None`
 unfoldable pub key_of : List ℕ → Option (List ℕ)
 key_of f = option_map (λ layout. flat_map (λ h. flow_part f h.layer h.at) layout.headers) (shape_of f)
+
+-- `head` are the first 200 bytes of the frame `f`, or more of it, or all
+pub record IsHeadOf (head f : List ℕ) : Type 0 where
+  pub begins : (k : ℕ) → k < length head → byte f k ≡ byte head k
+  pub more : length head ≤ length f
+  pub enough : min (length f) 200 ≤ length head
+  pub in_bytes : (k : ℕ) → byte f k < 256
 
 abbrev pub hash_of : List ℕ → ℕ
 hash_of key = fold (λ h b. (h * 31 + b) % 2 ^ 32) 0 key

@@ -12,7 +12,7 @@ ghost use Rattle.frame_layout.specs.declared.layout.Layer.TheVariants.{Ethernet,
 use crate::front::Front;
 use crate::layout::{Header, Layer, Layout};
 use crate::read::find_headers;
-use crate::segment::{Seg, fields_of};
+use crate::segment::{Seg, flags_of};
 use crate::sums::{carried_sum, ip4_sum, is_udp_summed, joined};
 use arrayvec::ArrayVec;
 use inet_sum::{Partial, unfolded};
@@ -102,7 +102,7 @@ fn fold_behind(head: &[u8], end: usize, rest: &Partial) -> u16
     joined(own, (head.len() - end) % 2 == 1, rest.fold())
 }
 
-/// Whether a frame may be merged, and what merging reads of it. The frame is `head` with bytes behind it, of which
+/// Whether a frame may be merged, and what merging and segmenting read of it. The frame is `head` with bytes behind it, of which
 /// `rest` is the sum; it has `len` bytes in all, and had `original` bytes before it was captured.
 ///
 /// None where the frame has no shape, or isn't a candidate: it was cut off or padded, a reserved bit is set, a sum
@@ -134,17 +134,10 @@ pub fn candidate(head: &[u8], rest: &Partial, len: u32, original: u32) -> Option
     if !are_right(&front, headers.as_slice()) {
         return None;
     }
-    let fields = fields_of(head, headers.as_slice());
+    let flags = flags_of(head, headers.as_slice());
     Some(Seg {
         layout: Layout::of(headers, end),
-        payload_at: end,
         payload_len: len - end as u32,
-        seq: fields.seq,
-        flags: fields.flags,
-        id1: fields.id1,
-        id2: fields.id2,
-        df1: fields.df1,
-        df2: fields.df2,
-        udp_zero: fields.udp_zero,
+        flags,
     })
 }

@@ -3,14 +3,14 @@
 //! A frame of Ethernet (with up to two VLAN tags), IPv4 or IPv6, and TCP, or of these behind UDP and VXLAN, has a
 //! [`Layout`]: [`shape`] finds it in the first 200 bytes (clauses `shape` and `front`). [`key`] gives what tells its
 //! flow, and [`queue_of`] the flow's receive queue. [`candidate`] says whether the frame is a plain TCP segment with exact
-//! lengths, right sums and a payload (`candidate`, in both directions), and what merging compares of it: a [`Seg`]. It
-//! needs the front of the frame and the sum of the rest alone. No call takes memory.
+//! lengths, right sums and a payload (`candidate`, in both directions), and what is read of it: a [`Seg`]. It needs the
+//! front of the frame and the sum of the rest alone. No call takes memory.
 //!
 //! ```
 //! let queue = queue_of(&key(frame), 4);
 //! let len = frame.len() as u32;
 //! if let Some(segment) = candidate(frame, &Partial::new(), len, len) {
-//!     let next = segment.seq.wrapping_add(segment.payload_len);
+//!     let payload = &frame[segment.layout.payload_at()..];
 //! }
 //! ```
 #![tactic(auto)]
@@ -31,6 +31,6 @@ pub use flow::Key;
 pub use judge::candidate;
 pub use laws::{alike_keeps_key, alike_keeps_shape, candidates_are_short, headers_are_laid};
 pub use layout::{Header, Layer, Layout};
-pub use queue::{key, queue_of};
+pub use queue::{key, key_behind, queue_of};
 pub use read::shape;
-pub use segment::{Fields, Seg};
+pub use segment::Seg;

@@ -1,13 +1,14 @@
 //! The flow of a frame, and the receive queue of a flow.
 
-ghost use Rattle.std.specs.Prelude.{◌≡◌, ◌+◌, ◌%◌, ◌<◌, ◌≤◌, ◌^◌, ◌∷◌, ◌++◌, length};
+ghost use Rattle.std.specs.Prelude.{◌≡◌, ℕ, Some, List, ◌+◌, ◌%◌, ◌<◌, ◌≤◌, ◌^◌, ◌∷◌, ◌++◌, length};
 ghost use Rattle.std.specs.List.{flat_map};
 ghost use Rattle.arrayvec.specs.ArrayVec.{array_vec_len};
 ghost use Rattle.frame_layout.specs.Headers.{AtHeaders, IsThere};
-ghost use Rattle.frame_layout.specs.Key.{flow_part, part_size, key_size, key_of, hash_of, queue_of as queue_of_key};
+ghost use Rattle.frame_layout.specs.Shape.{shape_of};
+ghost use Rattle.frame_layout.specs.Key.{flow_part, part_size, key_size, key_of, IsHeadOf, hash_of, queue_of as queue_of_key};
 
 use crate::flow::Key;
-use crate::layout::{Header, Layer};
+use crate::layout::{Header, Layer, Layout};
 use crate::read::shape;
 use arrayvec::ArrayVec;
 
@@ -60,16 +61,26 @@ fn add_parts(frame: &[u8], headers: &[Header], key: &mut ArrayVec<u8, 120>)
     }
 }
 
-/// The key of the frame's flow.
+/// The key of a frame's flow, where its layout is known: its headers aren't walked again. `head` are the frame's first 200
+/// bytes, or all of it.
+pub fn key_behind(head: &[u8], layout: &Layout) -> Key
+    requires shape { (f : List ℕ) × (IsHeadOf head.now f × (shape_of f ≡ Some layout.now)) }
+    ensures key { (f : List ℕ) → IsHeadOf head.now f → result ≡ key_of f }
+{
+    let mut own = ArrayVec::new();
+    add_parts(head, layout.headers(), &mut own);
+    Key::of(own)
+}
+
+/// The key of the frame's flow. Its first 200 bytes tell it: it is that of each frame that has these (`front`).
 pub fn key(frame: &[u8]) -> Key
     ensures key { result ≡ key_of frame.now }
+    ensures front { (f : List ℕ) → IsHeadOf frame.now f → result ≡ key_of f }
 {
-    let Some(layout) = shape(frame) else {
-        return Key::other();
-    };
-    let mut own = ArrayVec::new();
-    add_parts(frame, layout.headers(), &mut own);
-    Key::of(own)
+    match shape(frame) {
+        Some(layout) => key_behind(frame, &layout),
+        None => Key::other(),
+    }
 }
 
 /// The receive queue of a flow: a hash of its key modulo the number of queues, and queue 0 for Other.

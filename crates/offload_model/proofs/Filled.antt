@@ -3,14 +3,16 @@ use Rattle.std.proofs.Common.{◌≡◌, ℕ, zero, suc, ◌+◌, ◌-◌, ◌/�
 use Rattle.std.proofs.lemmas.Bool.{cases_eq, cases_lt, eq-eqb, ne_eqb}
 use Rattle.std.proofs.lemmas.List.{get_or-set_same, get_or-set_other, set_past}
 use Rattle.offload_model.proofs.Fields.{length-put16, put16_other, be16-put16}
-use Rattle.offload_model.proofs.Determined.{OutsideSum, IsAddress, same_ip4_sum, same_sum, address_within}
+use Rattle.offload_model.proofs.Determined.{IsAddress, same_ip4_sum, same_sum, address_within}
 use Rattle.offload_model.proofs.Edits.{IsEdit, IsLocal, all_local, with_edits-long, with_edits-sets}
 use Rattle.frame_layout.specs.Candidate.{pseudo, IsLengthRight, IsSumRight, are_sums_right, ip4_sum, tcp_sum, udp_sum}
-use Rattle.frame_layout.specs.Headers.{AtHeaders, size, AreLaid}
+use Rattle.frame_layout.specs.Headers.{AtHeaders, lengths, sums, size, AreLaid}
 use Rattle.frame_layout.specs.declared.layout.Header.{Header}
 use Rattle.frame_layout.specs.declared.layout.Layer.{Layer}
 use Rattle.frame_layout.specs.declared.layout.Layer.TheVariants.{Ip4, Ip6, Udp, Tcp}
 use Rattle.inet_sum.specs.Sum.{checksum_of, not_zero}
+use Rattle.frame_layout.proofs.Clear.{Outside, own}
+use Rattle.frame_layout.proofs.Alike.{outside_all}
 use Rattle.frame_layout.proofs.Shapes.{laid_end}
 use Rattle.net_bytes.specs.Bytes.{byte, be16, put16, part}
 use Rattle.offload_model.specs.Edits.{with_edits, put_length, put_sum, with_sums, with_lengths_and_sums}
@@ -18,14 +20,8 @@ use Rattle.offload_model.specs.Mergeable.{AreUdpSumsAlike, IsLengthInRange}
 
 -- ---- lengths
 
-abbrev pub OutsideLength : ℕ → Layer → ℕ → Type 0
-OutsideLength k Ip4 at = (k < at + 2) ⊎ (at + 4 ≤ k)
-OutsideLength k Ip6 at = (k < at + 4) ⊎ (at + 6 ≤ k)
-OutsideLength k Udp at = (k < at + 4) ⊎ (at + 6 ≤ k)
-OutsideLength k _ at = Unit {0}
-
-pub lengths_are_edits : IsEdit OutsideLength put_length
-lengths_are_edits = record { long = long; leaves = leaves; own = own }
+pub lengths_are_edits : IsEdit lengths put_length
+lengths_are_edits = record { inside = refl; long = long; leaves = leaves }
   where
     long : (l : Layer) (at : ℕ) (f : List ℕ) → length (put_length l at f) ≡ length f
     long Ip4 at f = length-put16 f (at + 2) (length f - at)
@@ -33,20 +29,11 @@ lengths_are_edits = record { long = long; leaves = leaves; own = own }
     long Udp at f = length-put16 f (at + 4) (length f - at)
     long _ at f = refl
 
-    leaves : (l : Layer) (at : ℕ) (f : List ℕ) (k : ℕ) → OutsideLength k l at → byte (put_length l at f) k ≡ byte f k
-    leaves Ip4 at f k o = put16_other f (at + 2) (length f - at) k (omega arith) (omega arith)
-    leaves Ip6 at f k o = put16_other f (at + 4) (length f - at - 40) k (omega arith) (omega arith)
-    leaves Udp at f k o = put16_other f (at + 4) (length f - at) k (omega arith) (omega arith)
+    leaves : (l : Layer) (at : ℕ) (f : List ℕ) (k : ℕ) → Outside lengths k l at → byte (put_length l at f) k ≡ byte f k
+    leaves Ip4 at f k o = put16_other f (at + 2) (length f - at) k (omega (arith, o.0)) (omega (arith, o.0))
+    leaves Ip6 at f k o = put16_other f (at + 4) (length f - at - 40) k (omega (arith, o.0)) (omega (arith, o.0))
+    leaves Udp at f k o = put16_other f (at + 4) (length f - at) k (omega (arith, o.0)) (omega (arith, o.0))
     leaves _ at f k o = refl
-
-    own : (l : Layer) (at k : ℕ) → (k < at) ⊎ (at + size l ≤ k) → OutsideLength k l at
-    own Ip4 at k (inl a) = inl (omega arith)
-    own Ip4 at k (inr a) = inr (omega arith)
-    own Ip6 at k (inl a) = inl (omega arith)
-    own Ip6 at k (inr a) = inr (omega arith)
-    own Udp at k (inl a) = inl (omega arith)
-    own Udp at k (inr a) = inr (omega arith)
-    own _ at k o = tt
 
 same16 : (f g : List ℕ) (at : ℕ) → byte f at ≡ byte g at → byte f (at + 1) ≡ byte g (at + 1) → be16 f at ≡ be16 g at
 same16 f g at a b = omega arith
@@ -62,7 +49,7 @@ length_is_local = record { moves = moves }
 
 pub lengths_set : (hs : List Header) (start end : ℕ) (f : List ℕ) → AreLaid start hs end → end ≤ length f → AtHeaders (IsLengthRight (with_edits put_length hs f)) hs
 lengths_set hs start end f laid fits =
-    with_edits-sets OutsideLength put_length lengths_are_edits IsLengthRight length_is_local f sets start hs end laid fits
+    with_edits-sets lengths put_length lengths_are_edits IsLengthRight length_is_local f sets start hs end laid fits
   where
     sets : (l : Layer) (at : ℕ) (g : List ℕ) → at + size l ≤ length g → length g ≡ length f → ((k : ℕ) → at ≤ k → k < at + size l → byte g k ≡ byte f k) → IsLengthRight (put_length l at g) l at
     sets Ip4 at g h e same = be16-put16 g (at + 2) (length g - at) (omega arith) ∙ ap (λ n. n - at) (sym (length-put16 g (at + 2) (length g - at)))
@@ -86,12 +73,12 @@ put_sum_long ip Tcp at f = length-put16 f (at + 16) (tcp_sum f ip at)
 put_sum_long ip Udp at f = elim (udp_cases ip at f) [ inl u ↦ ap length u.1 | inr u ↦ ap length u.1 ∙ length-put16 f (at + 6) (udp_sum f ip at) ]
 put_sum_long ip _ at f = refl
 
-put_sum_leaves : (ip : Header) (l : Layer) (at : ℕ) (f : List ℕ) (k : ℕ) → OutsideSum k l at → byte (put_sum ip l at f) k ≡ byte f k
-put_sum_leaves ip Ip4 at f k o = put16_other f (at + 10) (ip4_sum f at) k (omega arith) (omega arith)
-put_sum_leaves ip Tcp at f k o = put16_other f (at + 16) (tcp_sum f ip at) k (omega arith) (omega arith)
+put_sum_leaves : (ip : Header) (l : Layer) (at : ℕ) (f : List ℕ) (k : ℕ) → Outside sums k l at → byte (put_sum ip l at f) k ≡ byte f k
+put_sum_leaves ip Ip4 at f k o = put16_other f (at + 10) (ip4_sum f at) k (omega (arith, o.0)) (omega (arith, o.0))
+put_sum_leaves ip Tcp at f k o = put16_other f (at + 16) (tcp_sum f ip at) k (omega (arith, o.0)) (omega (arith, o.0))
 put_sum_leaves ip Udp at f k o = elim (udp_cases ip at f) [
   | inl u ↦ ap (λ z. byte z k) u.1
-  | inr u ↦ ap (λ z. byte z k) u.1 ∙ put16_other f (at + 6) (udp_sum f ip at) k (omega arith) (omega arith)
+  | inr u ↦ ap (λ z. byte z k) u.1 ∙ put16_other f (at + 6) (udp_sum f ip at) k (omega (arith, o.0)) (omega (arith, o.0))
 ]
 put_sum_leaves ip _ at f k o = refl
 
@@ -99,7 +86,7 @@ pub with_sums-long : (ip : Header) (hs : List Header) (f : List ℕ) → length 
 with_sums-long ip [] f = refl
 with_sums-long ip (h ∷ hs) f = put_sum_long ip h.layer h.at (with_sums h hs f) ∙ with_sums-long h hs f
 
-pub with_sums-leaves : (ip : Header) (hs : List Header) (f : List ℕ) (k : ℕ) → AtHeaders (OutsideSum k) hs → byte (with_sums ip hs f) k ≡ byte f k
+pub with_sums-leaves : (ip : Header) (hs : List Header) (f : List ℕ) (k : ℕ) → AtHeaders (Outside sums k) hs → byte (with_sums ip hs f) k ≡ byte f k
 with_sums-leaves ip [] f k o = refl
 with_sums-leaves ip (h ∷ hs) f k o = put_sum_leaves ip h.layer h.at (with_sums h hs f) k o.0 ∙ with_sums-leaves h hs f k o.1
 
@@ -131,7 +118,7 @@ sums_move f g ip start (h ∷ hs) end laid e same addresses q = (
 sum_set : (ip : Header) (l : Layer) (at : ℕ) (f : List ℕ) → at + size l ≤ length f → ((k : ℕ) → IsAddress ip.layer ip.at k → k < at) → IsSumRight (put_sum ip l at f) ip l at
 sum_set ip Ip4 at f h addresses =
     be16-put16 f (at + 10) (ip4_sum f at) (omega arith)
-    ∙ same_ip4_sum f (put16 f (at + 10) (ip4_sum f at)) at (sym (length-put16 f (at + 10) (ip4_sum f at))) (λ k a o. sym (put16_other f (at + 10) (ip4_sum f at) k (omega arith) (omega arith)))
+    ∙ same_ip4_sum f (put16 f (at + 10) (ip4_sum f at)) at (sym (length-put16 f (at + 10) (ip4_sum f at))) (λ k a o. sym (put16_other f (at + 10) (ip4_sum f at) k (omega (arith, o.0)) (omega (arith, o.0))))
 sum_set ip Tcp at f h addresses =
     be16-put16 f (at + 16) (tcp_sum f ip at) (omega arith)
     ∙ same_sum f (put16 f (at + 16) (tcp_sum f ip at)) ip 6 at 16 (sym (length-put16 f (at + 16) (tcp_sum f ip at)))
@@ -147,12 +134,6 @@ sum_set ip Udp at f h addresses = elim (udp_cases ip at f) [
 ]
 sum_set ip _ at f h addresses = tt
 
-behind_sum : (l : Layer) (at k : ℕ) → at + size l ≤ k → OutsideSum k l at
-behind_sum Ip4 at k a = inr (omega arith)
-behind_sum Udp at k a = inr a
-behind_sum Tcp at k a = inr (omega arith)
-behind_sum _ at k a = tt
-
 pub sums_set : (ip : Header) (hs : List Header) (start end : ℕ) (f : List ℕ) → AreLaid start hs end → end ≤ length f
     → ((k : ℕ) → IsAddress ip.layer ip.at k → k < start) → are_sums_right (with_sums ip hs f) ip hs
 sums_set ip [] start end f laid fits addresses = tt
@@ -161,27 +142,12 @@ sums_set ip (h ∷ hs) start end f laid fits addresses =
       sum_set ip h.layer h.at (with_sums h hs f) (omega (arith, laid_end (h.at + size h.layer) hs end laid.1)) (λ k a. omega (arith, laid.0, addresses k a)),
       sums_move (with_sums h hs f) (put_sum ip h.layer h.at (with_sums h hs f)) h (h.at + size h.layer) hs end laid.1
           (sym (put_sum_long ip h.layer h.at (with_sums h hs f)))
-          (λ k a. sym (put_sum_leaves ip h.layer h.at (with_sums h hs f) k (behind_sum h.layer h.at k a)))
+          (λ k a. sym (put_sum_leaves ip h.layer h.at (with_sums h hs f) k (own sums refl h.layer h.at k (inr a))))
           (λ k a. sym (put_sum_leaves ip h.layer h.at (with_sums h hs f) k (address_within h.layer h.at k a).2))
           (sums_set h hs (h.at + size h.layer) end f laid.1 fits (λ k a. (address_within h.layer h.at k a).1)),
     )
 
 -- ---- UDP sums stay zero, or not zero
-
-before_sum_at : (l : Layer) (at k : ℕ) → k < at → OutsideSum k l at
-before_sum_at Ip4 at k a = inl (omega arith)
-before_sum_at Udp at k a = inl (omega arith)
-before_sum_at Tcp at k a = inl (omega arith)
-before_sum_at _ at k a = tt
-
-pub before_sums : (start : ℕ) (hs : List Header) (end k : ℕ) → AreLaid start hs end → k < start → AtHeaders (OutsideSum k) hs
-before_sums start [] end k laid a = tt
-before_sums start (h ∷ hs) end k laid a = (before_sum_at h.layer h.at k (omega (arith, laid.0)), before_sums (h.at + size h.layer) hs end k laid.1 (omega (arith, laid.0)))
-
-pub behind_sums : (start : ℕ) (hs : List Header) (end k : ℕ) → AreLaid start hs end → end ≤ k → AtHeaders (OutsideSum k) hs
-behind_sums start [] end k laid a = tt
-behind_sums start (h ∷ hs) end k laid a =
-    (behind_sum h.layer h.at k (omega (arith, laid_end (h.at + size h.layer) hs end laid.1)), behind_sums (h.at + size h.layer) hs end k laid.1 a)
 
 not_zero-positive : (n : ℕ) → not_zero n ≢ 0
 not_zero-positive zero = λ e. omega arith
@@ -214,10 +180,10 @@ udp_kept ip [] start end f laid fits = tt
 udp_kept ip (h ∷ hs) start end f laid fits =
     let long : length (with_sums h hs f) ≡ length f = with_sums-long h hs f in (
       udp_at ip h.layer h.at (with_sums h hs f) f (omega (arith, laid_end (h.at + size h.layer) hs end laid.1))
-          (λ k a b. with_sums-leaves h hs f k (before_sums (h.at + size h.layer) hs end k laid.1 b)),
+          (λ k a b. with_sums-leaves h hs f k (outside_all sums refl (h.at + size h.layer) hs end k laid.1 (inl b))),
       all_local (λ g l at. AreUdpSumsAlike g f l at) (udp_is_local f) (with_sums h hs f) (put_sum ip h.layer h.at (with_sums h hs f)) (h.at + size h.layer) hs end laid.1
           (sym (put_sum_long ip h.layer h.at (with_sums h hs f)))
-          (λ k a. sym (put_sum_leaves ip h.layer h.at (with_sums h hs f) k (behind_sum h.layer h.at k a)))
+          (λ k a. sym (put_sum_leaves ip h.layer h.at (with_sums h hs f) k (own sums refl h.layer h.at k (inr a))))
           (udp_kept h hs (h.at + size h.layer) end f laid.1 fits),
     )
 
@@ -248,7 +214,7 @@ lengths_small : (hs : List Header) (f : List ℕ) → AtHeaders (IsLengthInRange
 lengths_small [] f r s = s
 lengths_small (h ∷ hs) f r s =
     length_small h.layer h.at (with_edits put_length hs f)
-    (subst (λ n. IsLengthInRange n h.layer h.at) (sym (with_edits-long OutsideLength put_length lengths_are_edits hs f)) r.0)
+    (subst (λ n. IsLengthInRange n h.layer h.at) (sym (with_edits-long lengths put_length lengths_are_edits hs f)) r.0)
     (lengths_small hs f r.1 s)
 
 checksum_le : (xs : List ℕ) → checksum_of xs ≤ 65535

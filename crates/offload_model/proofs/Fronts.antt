@@ -5,12 +5,11 @@ use Rattle.std.proofs.lemmas.List.Concat.{flat_map-append}
 use Rattle.maximal_runs.specs.Cut.{IsClosedUnderFronts}
 use Rattle.frame_layout.specs.Headers.{AtHeaders}
 use Rattle.frame_layout.specs.Shape.{Layout}
-use Rattle.frame_layout.specs.declared.layout.Header.{Header}
 use Rattle.frame_layout.specs.declared.layout.Layer.{Layer}
-use Rattle.frame_layout.specs.declared.layout.Layer.TheVariants.{Ip4, Ip6}
-use Rattle.offload_model.proofs.Maps.{range_less}
+use Rattle.frame_layout.specs.declared.layout.Layer.TheVariants.{Ip4, Ip6, Udp}
 use Rattle.offload_model.specs.Each.{Each, EachButLast}
-use Rattle.offload_model.specs.Mergeable.{AreIdsInStep, AreConsecutive, IsMergeable, payloads_of}
+use Rattle.offload_model.specs.Mergeable.{AreIdsInStep, IsLengthInRange, AreConsecutive, IsMergeable, payloads_of}
+use Rattle.frame_layout.proofs.AtHeaders.{headers_map}
 use Rattle.pcap_io.specs.Capture.{Packet}
 
 pub each_front : {X : Type 0} (P : ℕ → X → Type 0) (xs ys : List X) → Each P (xs ++ ys) → Each P xs
@@ -23,9 +22,12 @@ but_last_front P xs ys e = record {
   at = λ i d h. subst (P i) (get_or_append_left xs ys d i (omega arith)) (e.at i d (omega (arith, length-append xs ys)));
 }
 
-pub at_headers_map : (P Q : Layer → ℕ → Type 0) → ((l : Layer) (at : ℕ) → P l at → Q l at) → (hs : List Header) → AtHeaders P hs → AtHeaders Q hs
-at_headers_map P Q f [] h = tt
-at_headers_map P Q f (x ∷ xs) h = (f x.layer x.at h.0, at_headers_map P Q f xs h.1)
+-- a shorter frame has its lengths in range too
+pub range_less : (m n : ℕ) → m ≤ n → (l : Layer) (at : ℕ) → IsLengthInRange n l at → IsLengthInRange m l at
+range_less m n le Ip4 at h = omega arith
+range_less m n le Ip6 at h = omega arith
+range_less m n le Udp at h = omega arith
+range_less m n le _ at h = tt
 
 ids_front : (first : List ℕ) (ps qs : List Packet) (l : Layer) (at : ℕ) → AreIdsInStep first (ps ++ qs) l at → AreIdsInStep first ps l at
 ids_front first ps qs Ip4 at (inl h) = inl (each_front _ ps qs h)
@@ -43,8 +45,8 @@ line_front layout first ps qs m = record {
   shorter = each_front _ ps qs m.shorter;
   flags = but_last_front _ ps qs m.flags;
   sequence = each_front _ ps qs m.sequence;
-  ids = at_headers_map _ _ (ids_front first ps qs) layout.headers m.ids;
-  fits = at_headers_map _ _
+  ids = headers_map (ids_front first ps qs) layout.headers m.ids;
+  fits = headers_map
       (range_less (layout.payload_at + length (payloads_of layout ps)) (layout.payload_at + length (payloads_of layout (ps ++ qs)))
       (omega (arith, ap length (flat_map-append (λ (p : Packet). Rattle.std.proofs.Common.drop layout.payload_at p.frame) ps qs), length-append (payloads_of layout ps) (payloads_of layout qs))))
       layout.headers m.fits;

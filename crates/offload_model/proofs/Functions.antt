@@ -6,10 +6,11 @@ use Rattle.std.proofs.lemmas.List.{length-take-le, length-take, get_or-take, get
 use Rattle.offload_model.proofs.Fields.{same_drop, length-put16, length-put32, be16-put16, put16_other, put32_other, be32-put32}
 use Rattle.offload_model.proofs.Edits.{IsEdit, IsLocal, with_edits-long, with_edits-leaves, with_edits-around, with_edits-sets}
 use Rattle.offload_model.proofs.Filled.{Small, set_small, put16_small}
-use Rattle.frame_layout.proofs.Alike.{headers_map}
-use Rattle.offload_model.proofs.Maps.{headers_map2}
-use Rattle.offload_model.proofs.Made.{with_lengths_and_sums-leaves, same16, flags_at, be32_at, sequence_at, sequence_same_at, id_same_at, udp_same_at, udp_joined, same_at_headers, AreSameAt, FlagsPlace, SequencePlace, IdPlace, UdpPlace, Unfilled, unfilled_own, flags_unfilled, sequence_unfilled, id_unfilled, filled_is_like}
-use Rattle.frame_layout.specs.Headers.{AtHeaders, IsOutside, AreHeadersAlike, size, AreLaid}
+use Rattle.frame_layout.proofs.AtHeaders.{headers_map, headers_map2}
+use Rattle.frame_layout.proofs.Clear.{Outside, among}
+use Rattle.offload_model.proofs.Made.{with_lengths_and_sums-leaves, same16, flags_at, be32_at, sequence_at, sequence_same_at, id_same_at, udp_same_at, udp_joined}
+use Rattle.offload_model.proofs.Made.{same_at_headers, AreSameAt, filled, flag_bits, sequences, ids, udp_sums, filled_is_like}
+use Rattle.frame_layout.specs.Headers.{AtHeaders, varying, AreHeadersAlike, size, AreLaid}
 use Rattle.frame_layout.specs.Shape.{Layout}
 use Rattle.frame_layout.specs.declared.layout.Header.{Header}
 use Rattle.frame_layout.specs.declared.layout.Layer.{Layer}
@@ -38,35 +39,26 @@ front_small f xs n h sf sx k =
 
 -- ---- the flags
 
-abbrev pub OutsideFlags : ℕ → Layer → ℕ → Type 0
-OutsideFlags k Tcp at = (k < at + 13) ⊎ (at + 14 ≤ k)
-OutsideFlags k _ at = Unit {0}
-
-flags_own : (l : Layer) (at k : ℕ) → (k < at) ⊎ (at + size l ≤ k) → OutsideFlags k l at
-flags_own Tcp at k (inl a) = inl (omega arith)
-flags_own Tcp at k (inr a) = inr (omega arith)
-flags_own _ at k a = tt
-
-pub copying_flags : (g : List ℕ) → IsEdit OutsideFlags (put_flags_of g)
-copying_flags g = record { long = long; leaves = leaves; own = flags_own }
+pub copying_flags : (g : List ℕ) → IsEdit flag_bits (put_flags_of g)
+copying_flags g = record { inside = refl; long = long; leaves = leaves }
   where
     long : (l : Layer) (at : ℕ) (f : List ℕ) → length (put_flags_of g l at f) ≡ length f
     long Tcp at f = length-set f (at + 13) (byte g (at + 13))
     long _ at f = refl
 
-    leaves : (l : Layer) (at : ℕ) (f : List ℕ) (k : ℕ) → OutsideFlags k l at → byte (put_flags_of g l at f) k ≡ byte f k
-    leaves Tcp at f k o = get_or-set_other f (at + 13) k (byte g (at + 13)) 0 (omega arith)
+    leaves : (l : Layer) (at : ℕ) (f : List ℕ) (k : ℕ) → Outside flag_bits k l at → byte (put_flags_of g l at f) k ≡ byte f k
+    leaves Tcp at f k o = get_or-set_other f (at + 13) k (byte g (at + 13)) 0 (omega (arith, o.0))
     leaves _ at f k o = refl
 
-putting_flags : (n : ℕ) → IsEdit OutsideFlags (put_flags n)
-putting_flags n = record { long = long; leaves = leaves; own = flags_own }
+putting_flags : (n : ℕ) → IsEdit flag_bits (put_flags n)
+putting_flags n = record { inside = refl; long = long; leaves = leaves }
   where
     long : (l : Layer) (at : ℕ) (f : List ℕ) → length (put_flags n l at f) ≡ length f
     long Tcp at f = length-set f (at + 13) n
     long _ at f = refl
 
-    leaves : (l : Layer) (at : ℕ) (f : List ℕ) (k : ℕ) → OutsideFlags k l at → byte (put_flags n l at f) k ≡ byte f k
-    leaves Tcp at f k o = get_or-set_other f (at + 13) k n 0 (omega arith)
+    leaves : (l : Layer) (at : ℕ) (f : List ℕ) (k : ℕ) → Outside flag_bits k l at → byte (put_flags n l at f) k ≡ byte f k
+    leaves Tcp at f k o = get_or-set_other f (at + 13) k n 0 (omega (arith, o.0))
     leaves _ at f k o = refl
 
 flags_are_local : (g : List ℕ) → IsLocal (λ f l at. AreFlagsSame f g l at)
@@ -84,14 +76,14 @@ ack_is_local = record { moves = moves }
     moves f h _ at e same q = tt
 
 flags_copied : (g f : List ℕ) (hs : List Header) (end : ℕ) → AreLaid 0 hs end → end ≤ length f → AtHeaders (AreFlagsSame (with_edits (put_flags_of g) hs f) g) hs
-flags_copied g f hs end laid fits = with_edits-sets OutsideFlags (put_flags_of g) (copying_flags g) (λ x l at. AreFlagsSame x g l at) (flags_are_local g) f sets 0 hs end laid fits
+flags_copied g f hs end laid fits = with_edits-sets flag_bits (put_flags_of g) (copying_flags g) (λ x l at. AreFlagsSame x g l at) (flags_are_local g) f sets 0 hs end laid fits
   where
     sets : (l : Layer) (at : ℕ) (x : List ℕ) → at + size l ≤ length x → length x ≡ length f → ((k : ℕ) → at ≤ k → k < at + size l → byte x k ≡ byte f k) → AreFlagsSame (put_flags_of g l at x) g l at
     sets Tcp at x h e same = get_or-set_same x (at + 13) (byte g (at + 13)) 0 (omega arith)
     sets _ at x h e same = tt
 
 ack_put : (f : List ℕ) (hs : List Header) (end : ℕ) → AreLaid 0 hs end → end ≤ length f → AtHeaders (IsAckAlone (with_edits (put_flags 0x10) hs f)) hs
-ack_put f hs end laid fits = with_edits-sets OutsideFlags (put_flags 0x10) (putting_flags 0x10) IsAckAlone ack_is_local f sets 0 hs end laid fits
+ack_put f hs end laid fits = with_edits-sets flag_bits (put_flags 0x10) (putting_flags 0x10) IsAckAlone ack_is_local f sets 0 hs end laid fits
   where
     sets : (l : Layer) (at : ℕ) (x : List ℕ) → at + size l ≤ length x → length x ≡ length f → ((k : ℕ) → at ≤ k → k < at + size l → byte x k ≡ byte f k) → IsAckAlone (put_flags 0x10 l at x) l at
     sets Tcp at x h e same = get_or-set_same x (at + 13) 0x10 0 (omega arith)
@@ -113,22 +105,6 @@ put_small n b (h ∷ hs) f sf = at_layer h.layer h.at (with_edits (put_flags n) 
     at_layer Tcp at x s = set_small x (at + 13) n b s
     at_layer _ at x s = s
 
-outside_flags : (k : ℕ) (l : Layer) (at : ℕ) → IsOutside k l at → OutsideFlags k l at
-outside_flags k Tcp at o = o.1
-outside_flags k _ at o = tt
-
-udp_outside_flags : (l : Layer) (at k : ℕ) → UdpPlace k l at → (at ≤ k) × (k < at + size l) × OutsideFlags k l at
-udp_outside_flags Udp at k y = (omega arith, omega arith, tt)
-udp_outside_flags _ at k y = absurd y
-
-sequence_outside_flags : (l : Layer) (at k : ℕ) → SequencePlace k l at → (at ≤ k) × (k < at + size l) × OutsideFlags k l at
-sequence_outside_flags Tcp at k y = (omega arith, omega arith, inl (omega arith))
-sequence_outside_flags _ at k y = absurd y
-
-id_outside_flags : (l : Layer) (at k : ℕ) → IdPlace k l at → (at ≤ k) × (k < at + size l) × OutsideFlags k l at
-id_outside_flags Ip4 at k y = (omega arith, omega arith, tt)
-id_outside_flags _ at k y = absurd y
-
 -- the merged frame is what the relation says
 pub merged_is : (layout : Layout) (first last payload : List ℕ)
     → AreLaid 0 layout.headers layout.payload_at → layout.payload_at ≤ length first
@@ -140,28 +116,28 @@ merged_is layout first last payload laid fits sf sl sp range =
     let a : List ℕ = take layout.payload_at first ++ payload in
     let b : List ℕ = with_edits (put_flags_of last) hs a in
     let a_long : length a ≡ layout.payload_at + length payload = omega (arith, length-append (take layout.payload_at first) payload, length-take-le layout.payload_at first fits) in
-    let b_long : length b ≡ length a = with_edits-long OutsideFlags (put_flags_of last) (copying_flags last) hs a in
-    let b_first : (k : ℕ) → k < layout.payload_at → AtHeaders (OutsideFlags k) hs → byte b k ≡ byte first k
-    = λ k l o. with_edits-leaves OutsideFlags (put_flags_of last) (copying_flags last) hs a k o ∙ front_byte first payload layout.payload_at k fits l in
+    let b_long : length b ≡ length a = with_edits-long flag_bits (put_flags_of last) (copying_flags last) hs a in
+    let b_first : (k : ℕ) → k < layout.payload_at → AtHeaders (Outside flag_bits k) hs → byte b k ≡ byte first k
+    = λ k l o. with_edits-leaves flag_bits (put_flags_of last) (copying_flags last) hs a k o ∙ front_byte first payload layout.payload_at k fits l in
     let rest : drop layout.payload_at b ≡ payload
-    = same_drop b a layout.payload_at b_long (λ k h. with_edits-around OutsideFlags (put_flags_of last) (copying_flags last) 0 hs layout.payload_at a k laid (inr h))
+    = same_drop b a layout.payload_at b_long (λ k h. with_edits-around flag_bits (put_flags_of last) (copying_flags last) 0 hs layout.payload_at a k laid (inr h))
     ∙ front_drop first payload layout.payload_at fits in
-    let filled_b : (k : ℕ) → k < layout.payload_at → AtHeaders (Unfilled k) hs → byte (with_lengths_and_sums hs b) k ≡ byte b k = λ k l o. with_lengths_and_sums-leaves hs b k o in
+    let filled_b : (k : ℕ) → k < layout.payload_at → AtHeaders (Outside filled k) hs → byte (with_lengths_and_sums hs b) k ≡ byte b k = λ k l o. with_lengths_and_sums-leaves hs b k o in
     record {
       like = subst (λ z. IsFrameLike layout first z (with_lengths_and_sums hs b)) rest
           (filled_is_like layout first b laid (omega arith) (copied_small last hs a sl (front_small first payload layout.payload_at fits sf sp))
           (subst (λ n. AtHeaders (IsLengthInRange n) hs) (sym a_long ∙ sym b_long) range)
-          (λ k l o. b_first k l (headers_map (outside_flags k) hs o))
-          (headers_map (udp_same_at b first) hs (same_at_headers OutsideFlags UdpPlace flags_own udp_outside_flags hs layout.payload_at b first laid b_first)));
+          (λ k l o. b_first k l (headers_map (among flag_bits varying refl k) hs o))
+          (headers_map (udp_same_at b first) hs (same_at_headers flag_bits udp_sums refl refl hs layout.payload_at b first laid b_first)));
       flags = headers_map2 (flags_at (with_lengths_and_sums hs b) b last) hs
-          (same_at_headers Unfilled FlagsPlace unfilled_own flags_unfilled hs layout.payload_at (with_lengths_and_sums hs b) b laid filled_b)
+          (same_at_headers filled flag_bits refl refl hs layout.payload_at (with_lengths_and_sums hs b) b laid filled_b)
           (flags_copied last a hs layout.payload_at laid (omega arith));
       sequence = headers_map2 (λ l at p q. trans_sequence (with_lengths_and_sums hs b) b first l at (sequence_same_at (with_lengths_and_sums hs b) b l at p) (sequence_same_at b first l at q)) hs
-          (same_at_headers Unfilled SequencePlace unfilled_own sequence_unfilled hs layout.payload_at (with_lengths_and_sums hs b) b laid filled_b)
-          (same_at_headers OutsideFlags SequencePlace flags_own sequence_outside_flags hs layout.payload_at b first laid b_first);
+          (same_at_headers filled sequences refl refl hs layout.payload_at (with_lengths_and_sums hs b) b laid filled_b)
+          (same_at_headers flag_bits sequences refl refl hs layout.payload_at b first laid b_first);
       ids = headers_map2 (λ l at p q. trans_ids (with_lengths_and_sums hs b) b first l at (id_same_at (with_lengths_and_sums hs b) b l at p) (id_same_at b first l at q)) hs
-          (same_at_headers Unfilled IdPlace unfilled_own id_unfilled hs layout.payload_at (with_lengths_and_sums hs b) b laid filled_b)
-          (same_at_headers OutsideFlags IdPlace flags_own id_outside_flags hs layout.payload_at b first laid b_first);
+          (same_at_headers filled ids refl refl hs layout.payload_at (with_lengths_and_sums hs b) b laid filled_b)
+          (same_at_headers flag_bits ids refl refl hs layout.payload_at b first laid b_first);
     }
   where
     trans_sequence : (f g h : List ℕ) (l : Layer) (at : ℕ) → AreSequencesSame f g l at → AreSequencesSame g h l at → AreSequencesSame f h l at
@@ -174,17 +150,11 @@ merged_is layout first last payload laid fits sf sl sp range =
 
 -- ---- segments
 
-abbrev OutsidePlaced : ℕ → Layer → ℕ → Type 0
-OutsidePlaced k Ip4 at = (k < at + 4) ⊎ (at + 6 ≤ k)
-OutsidePlaced k Tcp at = (k < at + 4) ⊎ (at + 8 ≤ k)
-OutsidePlaced k _ at = Unit {0}
-
-placed_own : (l : Layer) (at k : ℕ) → (k < at) ⊎ (at + size l ≤ k) → OutsidePlaced k l at
-placed_own Ip4 at k (inl a) = inl (omega arith)
-placed_own Ip4 at k (inr a) = inr (omega arith)
-placed_own Tcp at k (inl a) = inl (omega arith)
-placed_own Tcp at k (inr a) = inr (omega arith)
-placed_own _ at k a = tt
+-- the fields that a packet's place in its run tells
+abbrev placed_fields : Layer → List (ℕ × ℕ)
+placed_fields Ip4 = (4, 2) ∷ []
+placed_fields Tcp = (4, 4) ∷ []
+placed_fields _ = []
 
 -- an identification, written only where it is not fixed
 put_id : Bool → ℕ → ℕ → List ℕ → List ℕ
@@ -194,7 +164,7 @@ id_long : (stays : Bool) (i at : ℕ) (f : List ℕ) → length (if stays then f
 id_long true i at f = refl
 id_long false i at f = length-put16 f (at + 4) ((be16 f (at + 4) + i) % 2 ^ 16)
 
-id_leaves : (stays : Bool) (i at : ℕ) (f : List ℕ) (k : ℕ) → (k < at + 4) ⊎ (at + 6 ≤ k) → byte (if stays then f else put16 f (at + 4) ((be16 f (at + 4) + i) % 2 ^ 16)) k ≡ byte f k
+id_leaves : (stays : Bool) (i at : ℕ) (f : List ℕ) (k : ℕ) → (k < at + 4) ⊎ (at + 4 + 2 ≤ k) → byte (if stays then f else put16 f (at + 4) ((be16 f (at + 4) + i) % 2 ^ 16)) k ≡ byte f k
 id_leaves true i at f k o = refl
 id_leaves false i at f k o = put16_other f (at + 4) ((be16 f (at + 4) + i) % 2 ^ 16) k (omega arith) (omega arith)
 
@@ -206,17 +176,17 @@ id_set : (stays : Bool) (i at : ℕ) (f : List ℕ) → at + 20 ≤ length f →
 id_set true i at f h = refl
 id_set false i at f h = be16-put16 f (at + 4) ((be16 f (at + 4) + i) % 2 ^ 16) (omega arith)
 
-placing : (fixed : ℕ → Bool) (i n : ℕ) → IsEdit OutsidePlaced (put_place fixed i n)
-placing fixed i n = record { long = long; leaves = leaves; own = placed_own }
+placing : (fixed : ℕ → Bool) (i n : ℕ) → IsEdit placed_fields (put_place fixed i n)
+placing fixed i n = record { inside = refl; long = long; leaves = leaves }
   where
     long : (l : Layer) (at : ℕ) (f : List ℕ) → length (put_place fixed i n l at f) ≡ length f
     long Ip4 at f = id_long (fixed at) i at f
     long Tcp at f = length-put32 f (at + 4) ((be32 f (at + 4) + n) % 2 ^ 32)
     long _ at f = refl
 
-    leaves : (l : Layer) (at : ℕ) (f : List ℕ) (k : ℕ) → OutsidePlaced k l at → byte (put_place fixed i n l at f) k ≡ byte f k
-    leaves Ip4 at f k o = id_leaves (fixed at) i at f k o
-    leaves Tcp at f k o = put32_other f (at + 4) ((be32 f (at + 4) + n) % 2 ^ 32) k (elim o [ inl a ↦ inl a | inr a ↦ inr (omega arith) ])
+    leaves : (l : Layer) (at : ℕ) (f : List ℕ) (k : ℕ) → Outside placed_fields k l at → byte (put_place fixed i n l at f) k ≡ byte f k
+    leaves Ip4 at f k o = id_leaves (fixed at) i at f k o.0
+    leaves Tcp at f k o = put32_other f (at + 4) ((be32 f (at + 4) + n) % 2 ^ 32) k o.0
     leaves _ at f k o = refl
 
 placed_small : (fixed : ℕ → Bool) (i n : ℕ) (hs : List Header) (f : List ℕ) → Small f → Small (with_edits (put_place fixed i n) hs f)
@@ -232,7 +202,7 @@ placed_small fixed i n (h ∷ hs) f sf = at_layer h.layer h.at (with_edits (put_
 
 sequence_placed : (fixed : ℕ → Bool) (i n : ℕ) (f : List ℕ) (hs : List Header) (end : ℕ) → AreLaid 0 hs end → end ≤ length f → AtHeaders (IsSequenceBehind f (with_edits (put_place fixed i n) hs f) n) hs
 sequence_placed fixed i n f hs end laid fits =
-    with_edits-sets OutsidePlaced (put_place fixed i n) (placing fixed i n) (λ x l at. IsSequenceBehind f x n l at) (record { moves = moves }) f sets 0 hs end laid fits
+    with_edits-sets placed_fields (put_place fixed i n) (placing fixed i n) (λ x l at. IsSequenceBehind f x n l at) (record { moves = moves }) f sets 0 hs end laid fits
   where
     moves : (g h : List ℕ) (l : Layer) (at : ℕ) → length g ≡ length h → ((k : ℕ) → at ≤ k → k < at + size l → byte g k ≡ byte h k) → IsSequenceBehind f g n l at → IsSequenceBehind f h n l at
     moves g h Tcp at e same q = be32_at h g (at + 4) (λ k a b. sym (same k (omega arith) (omega arith))) ∙ q
@@ -246,7 +216,7 @@ sequence_placed fixed i n f hs end laid fits =
 
 ids_placed : (fixed : ℕ → Bool) (i n : ℕ) (f : List ℕ) (hs : List Header) (end : ℕ) → AreLaid 0 hs end → end ≤ length f → AtHeaders (IsIdBehind fixed f (with_edits (put_place fixed i n) hs f) i) hs
 ids_placed fixed i n f hs end laid fits =
-    with_edits-sets OutsidePlaced (put_place fixed i n) (placing fixed i n) (λ x l at. IsIdBehind fixed f x i l at) (record { moves = moves }) f sets 0 hs end laid fits
+    with_edits-sets placed_fields (put_place fixed i n) (placing fixed i n) (λ x l at. IsIdBehind fixed f x i l at) (record { moves = moves }) f sets 0 hs end laid fits
   where
     moves : (g h : List ℕ) (l : Layer) (at : ℕ) → length g ≡ length h → ((k : ℕ) → at ≤ k → k < at + size l → byte g k ≡ byte h k) → IsIdBehind fixed f g i l at → IsIdBehind fixed f h i l at
     moves g h Ip4 at e same q = subst (λ z. IsIdStep (fixed at) z (be16 f (at + 4)) i) (same16 g h (at + 4) (same (at + 4) (omega arith) (omega arith)) (same (at + 4 + 1) (omega arith) (omega arith))) q
@@ -259,19 +229,6 @@ ids_placed fixed i n f hs end laid fits =
         (id_set (fixed at) i at x h)
     sets _ at x h e same = tt
 
-outside_placed : (k : ℕ) (l : Layer) (at : ℕ) → IsOutside k l at → OutsidePlaced k l at
-outside_placed k Ip4 at o = elim o.0 [ inl a ↦ inl (omega arith) | inr a ↦ inr a ]
-outside_placed k Tcp at o = o.0
-outside_placed k _ at o = tt
-
-udp_outside_placed : (l : Layer) (at k : ℕ) → UdpPlace k l at → (at ≤ k) × (k < at + size l) × OutsidePlaced k l at
-udp_outside_placed Udp at k y = (omega arith, omega arith, tt)
-udp_outside_placed _ at k y = absurd y
-
-flags_outside_placed : (l : Layer) (at k : ℕ) → FlagsPlace k l at → (at ≤ k) × (k < at + size l) × OutsidePlaced k l at
-flags_outside_placed Tcp at k y = (omega arith, omega arith, inr (omega arith))
-flags_outside_placed _ at k y = absurd y
-
 sequence_base : (f g h : List ℕ) (n : ℕ) (l : Layer) (at : ℕ) → AreSequencesSame f g l at → IsSequenceBehind f h n l at → IsSequenceBehind g h n l at
 sequence_base f g h n Tcp at e q = q ∙ ap (λ z. (z + n) % 2 ^ 32) e
 sequence_base f g h n _ at e q = tt
@@ -280,13 +237,13 @@ id_base : (fixed : ℕ → Bool) (f g h : List ℕ) (i : ℕ) (l : Layer) (at : 
 id_base fixed f g h i Ip4 at e q = subst (λ z. IsIdStep (fixed at) (be16 h (at + 4)) z i) e q
 id_base fixed f g h i _ at e q = tt
 
-id_at : (fixed : ℕ → Bool) (f g h : List ℕ) (i : ℕ) (l : Layer) (at : ℕ) → AreSameAt IdPlace f g l at → IsIdBehind fixed h g i l at → IsIdBehind fixed h f i l at
+id_at : (fixed : ℕ → Bool) (f g h : List ℕ) (i : ℕ) (l : Layer) (at : ℕ) → AreSameAt ids f g l at → IsIdBehind fixed h g i l at → IsIdBehind fixed h f i l at
 id_at fixed f g h i Ip4 at q s =
-    subst (λ z. IsIdStep (fixed at) z (be16 h (at + 4)) i) (sym (same16 f g (at + 4) (q.same (at + 4) (omega arith, omega arith)) (q.same (at + 4 + 1) (omega arith, omega arith)))) s
+    subst (λ z. IsIdStep (fixed at) z (be16 h (at + 4)) i) (sym (same16 f g (at + 4) (q.same (at + 4) (inl (omega arith, omega arith))) (q.same (at + 4 + 1) (inl (omega arith, omega arith))))) s
 id_at fixed f g h i _ at q s = tt
 
-ack_at : (f g : List ℕ) (l : Layer) (at : ℕ) → AreSameAt FlagsPlace f g l at → IsAckAlone g l at → IsAckAlone f l at
-ack_at f g Tcp at q s = q.same (at + 13) refl ∙ s
+ack_at : (f g : List ℕ) (l : Layer) (at : ℕ) → AreSameAt flag_bits f g l at → IsAckAlone g l at → IsAckAlone f l at
+ack_at f g Tcp at q s = q.same (at + 13) (inl (omega arith, omega arith)) ∙ s
 ack_at f g _ at q s = tt
 
 -- what the headers of a cut frame are, before lengths and sums are filled in
@@ -307,21 +264,21 @@ placed_fills : (layout : Layout) (fixed : ℕ → Bool) (n m : ℕ) (g : List �
     → IsSegment layout fixed n m g i (with_lengths_and_sums layout.headers b)
 placed_fills layout fixed n m g i b laid range p =
     let hs : List Header = layout.headers in
-    let left : (k : ℕ) → k < layout.payload_at → AtHeaders (Unfilled k) hs → byte (with_lengths_and_sums hs b) k ≡ byte b k = λ k l o. with_lengths_and_sums-leaves hs b k o in
-    let flags_same : AtHeaders (AreSameAt FlagsPlace (with_lengths_and_sums hs b) b) hs = same_at_headers Unfilled FlagsPlace unfilled_own flags_unfilled hs layout.payload_at (with_lengths_and_sums hs b) b laid left in
+    let left : (k : ℕ) → k < layout.payload_at → AtHeaders (Outside filled k) hs → byte (with_lengths_and_sums hs b) k ≡ byte b k = λ k l o. with_lengths_and_sums-leaves hs b k o in
+    let flags_same : AtHeaders (AreSameAt flag_bits (with_lengths_and_sums hs b) b) hs = same_at_headers filled flag_bits refl refl hs layout.payload_at (with_lengths_and_sums hs b) b laid left in
     record {
       like = subst (λ z. IsFrameLike layout g z (with_lengths_and_sums hs b)) p.rest
           (filled_is_like layout g b laid (omega (arith, p.long)) p.small (subst (λ z. AtHeaders (IsLengthInRange z) hs) (sym p.long) range) p.headers p.udp_sums);
       last_flags = λ e. headers_map2 (flags_at (with_lengths_and_sums hs b) b g) hs flags_same (p.last_flags e);
       flags = λ e. headers_map2 (ack_at (with_lengths_and_sums hs b) b) hs flags_same (p.flags e);
       sequence = headers_map2 (sequence_at (with_lengths_and_sums hs b) b g (i * m)) hs
-          (same_at_headers Unfilled SequencePlace unfilled_own sequence_unfilled hs layout.payload_at (with_lengths_and_sums hs b) b laid left) p.sequence;
+          (same_at_headers filled sequences refl refl hs layout.payload_at (with_lengths_and_sums hs b) b laid left) p.sequence;
       ids = headers_map2 (id_at fixed (with_lengths_and_sums hs b) b g i) hs
-          (same_at_headers Unfilled IdPlace unfilled_own id_unfilled hs layout.payload_at (with_lengths_and_sums hs b) b laid left) p.ids;
+          (same_at_headers filled ids refl refl hs layout.payload_at (with_lengths_and_sums hs b) b laid left) p.ids;
     }
 
-flags_same_at : (f g : List ℕ) (l : Layer) (at : ℕ) → AreSameAt FlagsPlace f g l at → AreFlagsSame f g l at
-flags_same_at f g Tcp at q = q.same (at + 13) refl
+flags_same_at : (f g : List ℕ) (l : Layer) (at : ℕ) → AreSameAt flag_bits f g l at → AreFlagsSame f g l at
+flags_same_at f g Tcp at q = q.same (at + 13) (inl (omega arith, omega arith))
 flags_same_at f g _ at q = tt
 
 module _ (layout : Layout) (fixed : ℕ → Bool) (n m : ℕ) (g : List ℕ) (i : ℕ)
@@ -348,17 +305,17 @@ module _ (layout : Layout) (fixed : ℕ → Bool) (n m : ℕ) (g : List ℕ) (i 
 
   placed_long : length placed ≡ length cut
   unfolding placed
-  placed_long = with_edits-long OutsidePlaced (put_place fixed i (i * m)) (placing fixed i (i * m)) layout.headers cut
+  placed_long = with_edits-long placed_fields (put_place fixed i (i * m)) (placing fixed i (i * m)) layout.headers cut
 
-  placed_front : (k : ℕ) → k < layout.payload_at → AtHeaders (OutsidePlaced k) layout.headers → byte placed k ≡ byte g k
+  placed_front : (k : ℕ) → k < layout.payload_at → AtHeaders (Outside placed_fields k) layout.headers → byte placed k ≡ byte g k
   unfolding placed cut
-  placed_front k l o = with_edits-leaves OutsidePlaced (put_place fixed i (i * m)) (placing fixed i (i * m)) layout.headers cut k o ∙ front_byte g slice layout.payload_at k fits l
+  placed_front k l o = with_edits-leaves placed_fields (put_place fixed i (i * m)) (placing fixed i (i * m)) layout.headers cut k o ∙ front_byte g slice layout.payload_at k fits l
 
   placed_rest : drop layout.payload_at placed ≡ slice
   unfolding placed cut
   placed_rest =
-      same_drop placed cut layout.payload_at (with_edits-long OutsidePlaced (put_place fixed i (i * m)) (placing fixed i (i * m)) layout.headers cut)
-      (λ k h. with_edits-around OutsidePlaced (put_place fixed i (i * m)) (placing fixed i (i * m)) 0 layout.headers layout.payload_at cut k laid (inr h))
+      same_drop placed cut layout.payload_at (with_edits-long placed_fields (put_place fixed i (i * m)) (placing fixed i (i * m)) layout.headers cut)
+      (λ k h. with_edits-around placed_fields (put_place fixed i (i * m)) (placing fixed i (i * m)) 0 layout.headers layout.payload_at cut k laid (inr h))
       ∙ front_drop g slice layout.payload_at fits
 
   is_small : Small placed
@@ -372,13 +329,13 @@ module _ (layout : Layout) (fixed : ℕ → Bool) (n m : ℕ) (g : List ℕ) (i 
   is_sequence : AtHeaders (IsSequenceBehind g placed (i * m)) layout.headers
   unfolding placed
   is_sequence = headers_map2 (λ l at p q. sequence_base cut g placed (i * m) l at (sequence_same_at cut g l at p) q) layout.headers
-      (same_at_headers OutsideFlags SequencePlace flags_own sequence_outside_flags layout.headers layout.payload_at cut g laid (λ k l o. cut_same k l))
+      (same_at_headers flag_bits sequences refl refl layout.headers layout.payload_at cut g laid (λ k l o. cut_same k l))
       (sequence_placed fixed i (i * m) cut layout.headers layout.payload_at laid (omega (arith, cut_long)))
 
   is_ids : AtHeaders (IsIdBehind fixed g placed i) layout.headers
   unfolding placed
   is_ids = headers_map2 (λ l at p q. id_base fixed cut g placed i l at (id_same_at cut g l at p) q) layout.headers
-      (same_at_headers OutsideFlags IdPlace flags_own id_outside_flags layout.headers layout.payload_at cut g laid (λ k l o. cut_same k l))
+      (same_at_headers flag_bits ids refl refl layout.headers layout.payload_at cut g laid (λ k l o. cut_same k l))
       (ids_placed fixed i (i * m) cut layout.headers layout.payload_at laid (omega (arith, cut_long)))
 
   last_placed : i + 1 ≡ n → IsPlaced layout fixed n m g i slice placed
@@ -386,11 +343,11 @@ module _ (layout : Layout) (fixed : ℕ → Bool) (n m : ℕ) (g : List ℕ) (i 
     small = is_small;
     long = placed_long ∙ cut_long;
     rest = placed_rest;
-    headers = λ k l o. placed_front k l (headers_map (outside_placed k) layout.headers o);
+    headers = λ k l o. placed_front k l (headers_map (among placed_fields varying refl k) layout.headers o);
     udp_sums = headers_map (udp_same_at placed g) layout.headers
-        (same_at_headers OutsidePlaced UdpPlace placed_own udp_outside_placed layout.headers layout.payload_at placed g laid placed_front);
+        (same_at_headers placed_fields udp_sums refl refl layout.headers layout.payload_at placed g laid placed_front);
     last_flags = λ _. headers_map (flags_same_at placed g) layout.headers
-        (same_at_headers OutsidePlaced FlagsPlace placed_own flags_outside_placed layout.headers layout.payload_at placed g laid placed_front);
+        (same_at_headers placed_fields flag_bits refl refl layout.headers layout.payload_at placed g laid placed_front);
     flags = λ l. absurd (omega arith);
     sequence = is_sequence;
     ids = is_ids;
@@ -399,27 +356,27 @@ module _ (layout : Layout) (fixed : ℕ → Bool) (n m : ℕ) (g : List ℕ) (i 
   inner_placed : i + 1 < n → IsPlaced layout fixed n m g i slice (with_edits (put_flags 0x10) layout.headers placed)
   inner_placed e =
       let b : List ℕ = with_edits (put_flags 0x10) layout.headers placed in
-      let long : length b ≡ length placed = with_edits-long OutsideFlags (put_flags 0x10) (putting_flags 0x10) layout.headers placed in
-      let left : (k : ℕ) → k < layout.payload_at → AtHeaders (OutsideFlags k) layout.headers → byte b k ≡ byte placed k
-      = λ k l o. with_edits-leaves OutsideFlags (put_flags 0x10) (putting_flags 0x10) layout.headers placed k o in
+      let long : length b ≡ length placed = with_edits-long flag_bits (put_flags 0x10) (putting_flags 0x10) layout.headers placed in
+      let left : (k : ℕ) → k < layout.payload_at → AtHeaders (Outside flag_bits k) layout.headers → byte b k ≡ byte placed k
+      = λ k l o. with_edits-leaves flag_bits (put_flags 0x10) (putting_flags 0x10) layout.headers placed k o in
       record {
         small = put_small 0x10 (omega arith) layout.headers placed is_small;
         long = long ∙ placed_long ∙ cut_long;
         rest = same_drop b placed layout.payload_at long
-            (λ k h. with_edits-around OutsideFlags (put_flags 0x10) (putting_flags 0x10) 0 layout.headers layout.payload_at placed k laid (inr h))
+            (λ k h. with_edits-around flag_bits (put_flags 0x10) (putting_flags 0x10) 0 layout.headers layout.payload_at placed k laid (inr h))
             ∙ placed_rest;
-        headers = λ k l o. left k l (headers_map (outside_flags k) layout.headers o) ∙ placed_front k l (headers_map (outside_placed k) layout.headers o);
+        headers = λ k l o. left k l (headers_map (among flag_bits varying refl k) layout.headers o) ∙ placed_front k l (headers_map (among placed_fields varying refl k) layout.headers o);
         udp_sums = headers_map2 (udp_joined b placed g) layout.headers
             (headers_map (udp_same_at b placed) layout.headers
-            (same_at_headers OutsideFlags UdpPlace flags_own udp_outside_flags layout.headers layout.payload_at b placed laid left))
+            (same_at_headers flag_bits udp_sums refl refl layout.headers layout.payload_at b placed laid left))
             (headers_map (udp_same_at placed g) layout.headers
-            (same_at_headers OutsidePlaced UdpPlace placed_own udp_outside_placed layout.headers layout.payload_at placed g laid placed_front));
+            (same_at_headers placed_fields udp_sums refl refl layout.headers layout.payload_at placed g laid placed_front));
         last_flags = λ e2. absurd (omega arith);
         flags = λ _. ack_put placed layout.headers layout.payload_at laid (omega (arith, placed_long, cut_long));
         sequence = headers_map2 (sequence_at b placed g (i * m)) layout.headers
-            (same_at_headers OutsideFlags SequencePlace flags_own sequence_outside_flags layout.headers layout.payload_at b placed laid left) is_sequence;
+            (same_at_headers flag_bits sequences refl refl layout.headers layout.payload_at b placed laid left) is_sequence;
         ids = headers_map2 (id_at fixed b placed g i) layout.headers
-            (same_at_headers OutsideFlags IdPlace flags_own id_outside_flags layout.headers layout.payload_at b placed laid left) is_ids;
+            (same_at_headers flag_bits ids refl refl layout.headers layout.payload_at b placed laid left) is_ids;
       }
 
 -- the segments are what the relation says

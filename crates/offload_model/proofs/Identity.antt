@@ -3,11 +3,12 @@ use Rattle.std.proofs.Common.{◌≡◌, ℕ, zero, suc, ◌+◌, ◌-◌, ◌*�
 use Rattle.std.specs.List.{flat_map}
 use Rattle.std.proofs.lemmas.List.{ext_get_or, length-drop, get_or-drop, take_all, take_at, drop-drop, drop_at, append-nil}
 use Rattle.std.proofs.lemmas.Bool.{cases_eq, cases_lt}
-use Rattle.offload_model.proofs.Maps.{headers_map2}
+use Rattle.frame_layout.proofs.AtHeaders.{headers_map2}
+use Rattle.frame_layout.proofs.Clear.{Outside, IsIn, clear_or_in}
 use Rattle.offload_model.proofs.Fields.{be16_bytes, be32_bytes}
-use Rattle.offload_model.proofs.Determined.{OutsideSum, Agree, same_sums}
+use Rattle.offload_model.proofs.Determined.{Agree, same_sums}
 use Rattle.frame_layout.specs.Candidate.{IsLengthRight, AreSumsRight, IsCandidate}
-use Rattle.frame_layout.specs.Headers.{AtHeaders, IsOutside, AreHeadersAlike, AreLaid}
+use Rattle.frame_layout.specs.Headers.{AtHeaders, varying, sums, IsOutside, AreHeadersAlike, AreLaid}
 use Rattle.frame_layout.specs.Shape.{Layout}
 use Rattle.frame_layout.specs.declared.layout.Header.{Header}
 use Rattle.frame_layout.specs.declared.layout.Layer.{Layer}
@@ -48,48 +49,31 @@ module _ (f g : List ℕ) (bf : (k : ℕ) → byte f k < 256) (bg : (k : ℕ) �
         | inr n ↦ let h : k ≡ o + 1 = omega arith in subst (λ z. byte f z ≡ byte g z) (sym h) w.1
       ]
 
-  at_header : (l : Layer) (at k : ℕ) → AreFieldsSame f g l at → OutsideSum k l at → IsOutside k l at ⊎ (byte f k ≡ byte g k)
-  at_header Ip4 at k s o = elim (cases_lt k (at + 2)) [
-    | inl a ↦ inl (inl a, o)
-    | inr a ↦ elim (cases_lt k (at + 6)) [
-      | inr b ↦ inl (inr b, o)
-      | inl b ↦ elim (cases_lt k (at + 4)) [
-        | inl c ↦ inr (in_field (at + 2) k s.0 a (omega arith))
-        | inr c ↦ inr (in_field (at + 4) k s.1 c (omega arith))
-      ]
-    ]
-  ]
-  at_header Ip6 at k s o = elim (cases_lt k (at + 4)) [
-    | inl a ↦ inl (inl a)
-    | inr a ↦ elim (cases_lt k (at + 6)) [ inr b ↦ inl (inr b) | inl b ↦ inr (in_field (at + 4) k s a (omega arith)) ]
-  ]
-  at_header Udp at k s o = elim (cases_lt k (at + 4)) [
-    | inl a ↦ inl (inl a)
-    | inr a ↦ elim (cases_lt k (at + 6)) [ inr b ↦ inl (inr (omega arith)) | inl b ↦ inr (in_field (at + 4) k s a (omega arith)) ]
-  ]
-  at_header Tcp at k s o =
+  -- a place in a field is in a sum, or the fields say the same
+  in_fields : (l : Layer) (at k : ℕ) → AreFieldsSame f g l at → Outside sums k l at → IsIn (varying l) k at → byte f k ≡ byte g k
+  in_fields Ip4 at k s o (inl i) = in_field (at + 2) k s.0 i.0 i.1
+  in_fields Ip4 at k s o (inr (inl i)) = in_field (at + 4) k s.1 i.0 i.1
+  in_fields Ip4 at k s o (inr (inr (inl i))) = absurd (omega (arith, o.0, i.0, i.1))
+  in_fields Ip4 at k s o (inr (inr (inr i))) = absurd i
+  in_fields Ip6 at k s o (inl i) = in_field (at + 4) k s i.0 i.1
+  in_fields Ip6 at k s o (inr i) = absurd i
+  in_fields Udp at k s o (inl i) = in_field (at + 4) k s i.0 i.1
+  in_fields Udp at k s o (inr (inl i)) = absurd (omega (arith, o.0, i.0, i.1))
+  in_fields Udp at k s o (inr (inr i)) = absurd i
+  in_fields Tcp at k s o (inl i) =
       let w : (be16 f (at + 4) ≡ be16 g (at + 4)) × (be16 f (at + 4 + 2) ≡ be16 g (at + 4 + 2)) = be32_bytes f g (at + 4) bf bg s.0 in
-      elim (cases_eq k (at + 13)) [
-        | inl e ↦ inr (subst (λ z. byte f z ≡ byte g z) (sym e) s.1)
-        | inr n ↦ elim (cases_lt k (at + 4)) [
-          | inl a ↦ inl (inl a, inl (omega arith), o)
-          | inr a ↦ elim (cases_lt k (at + 8)) [
-            | inr b ↦ elim (cases_lt k (at + 13)) [ inl c ↦ inl (inr b, inl c, o) | inr c ↦ inl (inr b, inr (omega arith), o) ]
-            | inl b ↦ elim (cases_lt k (at + 6)) [
-              | inl c ↦ inr (in_field (at + 4) k w.0 a (omega arith))
-              | inr c ↦ inr (in_field (at + 4 + 2) k w.1 (omega arith) (omega arith))
-            ]
-          ]
-        ]
-      ]
-  at_header _ at k s o = inl tt
+      elim (cases_lt k (at + 6)) [ inl c ↦ in_field (at + 4) k w.0 i.0 (omega arith) | inr c ↦ in_field (at + 4 + 2) k w.1 (omega arith) (omega (arith, i.1)) ]
+  in_fields Tcp at k s o (inr (inl i)) = let e : at + 13 ≡ k = omega (arith, i.0, i.1) in subst (λ z. byte f z ≡ byte g z) e s.1
+  in_fields Tcp at k s o (inr (inr (inl i))) = absurd (omega (arith, o.0, i.0, i.1))
+  in_fields Tcp at k s o (inr (inr (inr i))) = absurd i
+  in_fields _ at k s o i = absurd i
 
   outside_sums : (hs : List Header) (k : ℕ) → (AtHeaders (IsOutside k) hs → byte f k ≡ byte g k)
-      → AtHeaders (AreFieldsSame f g) hs → AtHeaders (OutsideSum k) hs → byte f k ≡ byte g k
+      → AtHeaders (AreFieldsSame f g) hs → AtHeaders (Outside sums k) hs → byte f k ≡ byte g k
   outside_sums [] k alike s o = alike tt
-  outside_sums (h ∷ hs) k alike s o = elim (at_header h.layer h.at k s.0 o.0) [
+  outside_sums (h ∷ hs) k alike s o = elim (clear_or_in (varying h.layer) k h.at) [
     | inl out ↦ outside_sums hs k (λ r. alike (out, r)) s.1 o.1
-    | inr e ↦ e
+    | inr i ↦ in_fields h.layer h.at k s.0 o.0 i
   ]
 
 -- two right frames with alike headers, the same payload and the same fields are one frame

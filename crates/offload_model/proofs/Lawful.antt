@@ -3,8 +3,8 @@ use Rattle.std.proofs.Common.{◌≡◌, ℕ, suc, ◌+◌, ◌-◌, ◌*◌, �
 use Rattle.std.specs.List.{flat_map}
 use Rattle.std.proofs.lemmas.List.{length-drop}
 use Rattle.frame_layout.proofs.Shapes.{laid, same_shape}
-use Rattle.offload_model.proofs.Maps.{headers_map4}
-use Rattle.frame_layout.proofs.Alike.{IsAlikeAt, alike_at}
+use Rattle.frame_layout.proofs.AtHeaders.{headers_map4}
+use Rattle.frame_layout.proofs.Alike.{IsAlikeAt, alike_at, alike_byte}
 use Rattle.frame_layout.specs.Candidate.{IsCandidate, AreFlagsPlain}
 use Rattle.frame_layout.specs.Headers.{AtHeaders, AreHeadersAlike, AreLaid}
 use Rattle.frame_layout.specs.Shape.{Layout, shape_of}
@@ -38,9 +38,9 @@ joined_length f m (x ∷ y ∷ xs) full within h =
     (omega (arith, length-append (f x) (flat_map f (y ∷ xs)), r.0, a, e), omega (arith, length-append (f x) (flat_map f (y ∷ xs)), r.1, b, e))
 
 plain_moves : (f g last : List ℕ) (l : Layer) (at : ℕ) → IsAlikeAt g f l at → AreFlagsSame g last l at → AreFlagsPlain last l at → AreFlagsPlain f l at → AreFlagsPlain g l at
-plain_moves f g last Ip4 at alike flags plain pf = rw (alike.same (at + 6) (omega arith) (omega arith) (inr (omega arith), inl (omega arith))) pf
+plain_moves f g last Ip4 at alike flags plain pf = rw (alike_byte g f Ip4 at 6 alike refl) pf
 plain_moves f g last Tcp at alike flags plain pf = (
-  rw (alike.same (at + 12) (omega arith) (omega arith) (inr (omega arith), inl (omega arith), inl (omega arith))) pf.0,
+  rw (alike_byte g f Tcp at 12 alike refl) pf.0,
   rw flags plain.1,
 )
 plain_moves f g last _ at alike flags plain pf = tt

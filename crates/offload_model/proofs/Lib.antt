@@ -1,4 +1,3 @@
-pub mod Maps
 pub mod Fronts
 pub mod Fields
 pub mod Grows

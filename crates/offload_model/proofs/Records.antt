@@ -13,7 +13,7 @@ use Rattle.frame_layout.specs.declared.layout.Header.{Header}
 use Rattle.frame_layout.specs.declared.layout.Layer.{Layer}
 use Rattle.frame_layout.specs.declared.layout.Layer.TheVariants.{Ip4, Ip6}
 use Rattle.frame_layout.proofs.Shapes.{laid}
-use Rattle.frame_layout.proofs.Alike.{IsAlikeAt, alike_at}
+use Rattle.frame_layout.proofs.Alike.{IsAlikeAt, alike_at, alike_byte}
 use Rattle.frame_layout.proofs.SameKey.{same_key}
 use Rattle.frame_layout.specs.Key.{key_of}
 use Rattle.pcap_io.specs.Capture.{Packet}
@@ -23,7 +23,7 @@ use Rattle.offload_model.specs.Edits.{with_edits, with_lengths_and_sums, put_fla
 use Rattle.offload_model.specs.Frames.{segment_frame, IsMergedFrame}
 use Rattle.offload_model.specs.Merged.{frame_at, frame_of_run, layout_of, is_fixed_in, modes_at, modes_of, is_fixed, Merged, merged_of}
 use Rattle.offload_model.specs.Segments.{frames_of, IsModeLawful, IsCuttable}
-use Rattle.offload_model.proofs.Maps.{headers_map3}
+use Rattle.frame_layout.proofs.AtHeaders.{headers_map3}
 use Rattle.offload_model.proofs.Filled.{Small}
 use Rattle.offload_model.proofs.Functions.{merged_is}
 use Rattle.offload_model.proofs.Modes.{IsSaid, modes_said, same_places}
@@ -74,7 +74,7 @@ mode_lawful modes run d g hs two small Ip4 at said (inl rise) alike = λ t.
     = eqb-true (be16 (frame_at run 1) (at + 4)) (be16 (frame_at run 0) (at + 4)) (sym said ∙ t) in
     absurd (omega (arith, small (at + 4), small (at + 4 + 1)))
 mode_lawful modes run d g hs two small Ip4 at said (inr stay) alike = λ t.
-    ap (λ b. b / 0x40 % 2 == 1) (alike.same (at + 6) (omega arith) (omega arith) (inr (omega arith), inl (omega arith))) ∙ stay.0
+    ap (λ b. b / 0x40 % 2 == 1) (alike_byte g (frame_at run 0) Ip4 at 6 alike refl) ∙ stay.0
 mode_lawful modes run d g hs two small Ip6 at said ids alike = tt
 mode_lawful modes run d g hs two small _ at said ids alike = tt
 

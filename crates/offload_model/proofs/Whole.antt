@@ -3,8 +3,8 @@ use Rattle.std.proofs.Common.{◌≡◌, ℕ, suc, ◌+◌, ◌-◌, ◌*◌, �
 use Rattle.std.specs.Prelude.{◌==◌}
 use Rattle.std.proofs.lemmas.Bool.{cases_lt, eqb-true, eqb-false, eq-eqb, ne_eqb}
 use Rattle.std.proofs.lemmas.List.{get_or-map, length-take, length-drop, get_or_append_left, get_or-append_right, get_or-drop}
-use Rattle.offload_model.proofs.Fronts.{at_headers_map}
-use Rattle.offload_model.proofs.Maps.{range_less}
+use Rattle.frame_layout.proofs.AtHeaders.{headers_map}
+use Rattle.offload_model.proofs.Fronts.{range_less}
 use Rattle.offload_model.proofs.Identity.{identity}
 use Rattle.frame_layout.proofs.Shapes.{laid}
 use Rattle.offload_model.proofs.Filled.{Small}
@@ -80,11 +80,11 @@ whole layout ps d m bytes i h =
     = omega (arith, length-take size (drop (i * size) (drop layout.payload_at g)), length-drop (i * size) (drop layout.payload_at g), ap length merged.like.payload) in
     let seg : IsSegment layout (is_fixed_in ps) (length ps) size g i (segment_frame layout (is_fixed_in ps) size (i + 1 == length ps) g i)
     = segment_is layout (is_fixed_in ps) (length ps) size (i + 1 == length ps) g i lies.0 (omega (arith, merged.like.long)) merged.like.in_bytes
-    (at_headers_map _ _ (range_less (layout.payload_at + length (take size (drop (i * size) (drop layout.payload_at g)))) (layout.payload_at + length (payloads_of layout ps)) (omega (arith, slice_le))) layout.headers m.fits)
+    (headers_map (range_less (layout.payload_at + length (take size (drop (i * size) (drop layout.payload_at g)))) (layout.payload_at + length (payloads_of layout ps)) (omega (arith, slice_le))) layout.headers m.fits)
     (λ e. eqb-true (i + 1) (length ps) e)
     (λ e. let ne : i + 1 ≡ length ps → ⊥ = eqb-false (i + 1) (length ps) e in omega arith) in
     identity layout first last g ps (is_fixed_in ps) lies.0 m
-    (at_headers_map _ _ (stays_right ps d m.several small_first) layout.headers m.ids)
+    (headers_map (stays_right ps d m.several small_first) layout.headers m.ids)
     bytes
     (record { at = λ j e l same. sym (frame_is ps j e l) ∙ ap (frame_at ps) (omega arith) })
     merged i d (segment_frame layout (is_fixed_in ps) size (i + 1 == length ps) g i) h seg

@@ -2,15 +2,15 @@
 -- contract of `tests_decide`.
 use Rattle.std.specs.Prelude.{ℕ, zero, suc, ◌+◌, ◌-◌, ◌*◌, ◌%◌, ◌^◌, Bool, true, false, ◌==◌, ◌&&◌, ◌||◌, not, nat_lt, nat_le, Option, Some, None, List, [], ◌∷◌, length}
 use Rattle.net_bytes.specs.Bytes.{byte}
-use Rattle.ip_headers.specs.Ip4.{total_length, identification, dont_fragment, header_checksum}
-use Rattle.ip_headers.specs.Ip6.{payload_length}
-use Rattle.tcp_headers.specs.Tcp.{sequence, reserved, flags, checksum as tcp_checksum}
-use Rattle.tcp_headers.specs.Udp.{udp_length, checksum as udp_checksum}
+use Rattle.ip_headers.specs.Ip4.{identification, dont_fragment}
+use Rattle.tcp_headers.specs.Tcp.{sequence, flags}
+use Rattle.tcp_headers.specs.Udp.{checksum as udp_checksum}
 use Rattle.frame_layout.specs.Shape.{Layout, shape_of}
-use Rattle.frame_layout.specs.Candidate.{ip4_sum, tcp_sum, udp_sum}
+use Rattle.frame_layout.specs.Headers.{all_headers, are_alike_below}
+use Rattle.frame_layout.specs.Candidate.{is_candidate}
 use Rattle.frame_layout.specs.declared.layout.Header.{Header}
 use Rattle.frame_layout.specs.declared.layout.Layer.{Layer}
-use Rattle.frame_layout.specs.declared.layout.Layer.TheVariants.{Ethernet, Ip4, Ip6, Udp, Tcp}
+use Rattle.frame_layout.specs.declared.layout.Layer.TheVariants.{Ip4, Ip6, Udp, Tcp}
 use Rattle.pcap_io.specs.Capture.{Packet}
 use Rattle.pcap_io.specs.Headers.{off_head}
 use Rattle.pcap_io.specs.declared.off_head.OffHead.{OffHead}
@@ -18,11 +18,7 @@ use Rattle.offload_model.specs.Mergeable.{payloads_of}
 use Rattle.offload_model.specs.Merged.{Merged, is_fixed, modes_of}
 use Rattle.offload_model.specs.Segments.{packet_in, merged_in}
 
--- what is tested at each header, and at each element with its place
-abbrev pub all_headers : (Layer → ℕ → Bool) → List Header → Bool
-all_headers test [] = true
-all_headers test (h ∷ hs) = test h.layer h.at && all_headers test hs
-
+-- what is tested at each element with its place
 abbrev pub each_from : {A : Type 0} → (ℕ → A → Bool) → ℕ → List A → Bool
 each_from test i [] = true
 each_from test i (x ∷ xs) = test i x && each_from test (i + 1) xs
@@ -32,52 +28,7 @@ each_but_last_from test i [] = true
 each_but_last_from test i (x ∷ []) = true
 each_but_last_from test i (x ∷ y ∷ xs) = test i x && each_but_last_from test (i + 1) (y ∷ xs)
 
--- ---- candidates
-
-abbrev pub is_length_right : List ℕ → Layer → ℕ → Bool
-is_length_right f Ip4 at = total_length f at == length f - at
-is_length_right f Ip6 at = payload_length f at == length f - at - 40
-is_length_right f Udp at = udp_length f at == length f - at
-is_length_right f _ at = true
-
-abbrev pub are_flags_plain : List ℕ → Layer → ℕ → Bool
-are_flags_plain f Ip4 at = nat_lt (byte f (at + 6)) 0x80
-are_flags_plain f Tcp at =
-    reserved f at == 0 && (flags f at == 0x10 || (flags f at == 0x18 || (flags f at == 0x11 || flags f at == 0x19)))
-are_flags_plain f _ at = true
-
-abbrev pub is_sum_right : List ℕ → Header → Layer → ℕ → Bool
-is_sum_right f ip Ip4 at = header_checksum f at == ip4_sum f at
-is_sum_right f ip Tcp at = tcp_checksum f at == tcp_sum f ip at
-is_sum_right f ip Udp at = udp_checksum f at == 0 || udp_checksum f at == udp_sum f ip at
-is_sum_right f ip _ at = true
-
-abbrev pub all_sums_right : List ℕ → Header → List Header → Bool
-all_sums_right f ip [] = true
-all_sums_right f ip (h ∷ hs) = is_sum_right f ip h.layer h.at && all_sums_right f h hs
-
-abbrev pub is_candidate : List ℕ → ℕ → Layout → Bool
-is_candidate f original layout =
-    original == length f
-    && (all_headers (is_length_right f) layout.headers
-    && (all_headers (are_flags_plain f) layout.headers
-    && (all_sums_right f (record { layer = Ethernet; at = 0 }) layout.headers && nat_lt layout.payload_at (length f))))
-
 -- ---- mergeable packets
-
-abbrev pub is_outside : ℕ → Layer → ℕ → Bool
-is_outside k Ip4 at = (nat_lt k (at + 2) || nat_le (at + 6) k) && (nat_lt k (at + 10) || nat_le (at + 12) k)
-is_outside k Ip6 at = nat_lt k (at + 4) || nat_le (at + 6) k
-is_outside k Udp at = nat_lt k (at + 4) || nat_le (at + 8) k
-is_outside k Tcp at =
-    (nat_lt k (at + 4) || nat_le (at + 8) k)
-    && ((nat_lt k (at + 13) || nat_le (at + 14) k) && (nat_lt k (at + 16) || nat_le (at + 18) k))
-is_outside k _ at = true
-
--- the frames are alike below place n
-abbrev pub are_alike_below : List Header → List ℕ → List ℕ → ℕ → Bool
-are_alike_below hs f g zero = true
-are_alike_below hs f g (suc n) = (not (all_headers (is_outside n) hs) || byte f n == byte g n) && are_alike_below hs f g n
 
 abbrev pub are_udp_sums_alike : List ℕ → List ℕ → Layer → ℕ → Bool
 are_udp_sums_alike f g Udp at =

@@ -12,12 +12,12 @@ use Rattle.frame_layout.specs.declared.layout.Layer.{Layer}
 use Rattle.frame_layout.specs.declared.layout.Layer.TheVariants.{Ip4, Ip6, Udp}
 use Rattle.frame_layout.proofs.Shapes.{laid_end}
 use Rattle.frame_layout.proofs.Bounds.{IsPlaced, placed}
-use Rattle.frame_layout.proofs.Alike.{headers_map}
+use Rattle.frame_layout.proofs.AtHeaders.{headers_map}
 use Rattle.offload_model.specs.Mergeable.{IsLengthInRange}
 use Rattle.offload_model.specs.Merged.{is_fixed}
 use Rattle.offload_model.proofs.Filled.{Small}
 use Rattle.offload_model.proofs.Functions.{segment_is}
-use Rattle.offload_model.proofs.Maps.{range_less}
+use Rattle.offload_model.proofs.Fronts.{range_less}
 use Rattle.offload_model.proofs.Ranges.{in_range}
 use Rattle.record_cut.specs.declared.cut.Cut.{Cut}
 use Rattle.record_cut.specs.Cuts.{IsCutOf, IsSegmentAt, segment_at, payload_at}

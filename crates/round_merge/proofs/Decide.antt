@@ -1,26 +1,30 @@
 -- What the tests of the next packet say of the run.
 use Rattle.std.proofs.Common.{◌≡◌, ℕ, suc, ◌+◌, ◌-◌, ◌*◌, ◌%◌, ◌^◌, ◌<◌, ◌≤◌, inl, inr, Bool, true, false, Some, List, [], ◌∷◌, ◌++◌, length, get_or, drop, refl, sym, ap, ◌∙◌, subst, arith, length-append}
 use Rattle.std.specs.Prelude.{◌==◌, ◌||◌}
+use Rattle.std.specs.Bool.{Decides}
+use Rattle.std.proofs.lemmas.Bool.Decides.{Decides-and}
 use Rattle.std.proofs.lemmas.Bool.{and_parts, and_from, or_cases, eqb-true, eq-eqb, ne_eqb}
 use Rattle.std.proofs.lemmas.List.{length-drop}
 use Rattle.std.proofs.lemmas.List.Concat.{flat_map-append}
 use Rattle.net_bytes.specs.Bytes.{byte, be16}
 use Rattle.ip_headers.specs.Ip4.{dont_fragment}
 use Rattle.frame_layout.specs.Shape.{Layout, shape_of}
-use Rattle.frame_layout.specs.Headers.{AtHeaders}
+use Rattle.frame_layout.specs.Headers.{AtHeaders, all_headers}
 use Rattle.frame_layout.specs.Candidate.{IsCandidate}
 use Rattle.frame_layout.specs.declared.layout.Header.{Header}
 use Rattle.frame_layout.specs.declared.layout.Layer.{Layer}
 use Rattle.frame_layout.specs.declared.layout.Layer.TheVariants.{Ip4, Ip6}
+use Rattle.frame_layout.proofs.AtHeaders.{headers_map, headers_map3}
+use Rattle.frame_layout.proofs.Deciding.{decides_headers}
 use Rattle.frame_layout.proofs.Shapes.{laid}
 use Rattle.pcap_io.specs.Capture.{Packet}
 use Rattle.offload_model.specs.Each.{Each}
 use Rattle.offload_model.specs.Mergeable.{AreUdpSumsAlike, IsSequenceBehind, AreIdsInStep, IsLengthInRange, payloads_of}
 use Rattle.offload_model.specs.Merged.{is_fixed_in, modes_at, modes_of}
+use Rattle.offload_model.proofs.Decides.{decides_udp, decides_sequence, decides_range}
 use Rattle.offload_model.proofs.Grows.{Continues, AreIdsRising, AreIdsStaying, ids_rise, ids_stay, ids_before}
-use Rattle.round_merge.specs.Next.{is_next_id_at, modes_behind, are_ids_next, IsNext}
+use Rattle.round_merge.specs.Next.{is_next_at, is_next_id_at, modes_behind, are_ids_next, IsNext}
 use Rattle.round_merge.specs.Runs.{IsProgress}
-use Rattle.round_merge.proofs.Headers.{headers_from, headers_to, zip_headers, next_udp, next_sequence, next_fits, IsNextAt, next_to}
 
 or_right : (x y : Bool) → y ≡ true → (x || y) ≡ true
 or_right true y e = refl
@@ -144,6 +148,13 @@ more_payloads layout ps x =
 
 -- ---- what the state and the tests together say
 
+abbrev IsNextAt : List ℕ → List ℕ → ℕ → ℕ → Layer → ℕ → Type 0
+IsNextAt first x n len l at = AreUdpSumsAlike x first l at × (IsSequenceBehind first x n l at × IsLengthInRange len l at)
+
+decides_next : (first x : List ℕ) (n len : ℕ) (hs : List Header) → Decides (all_headers (is_next_at first x n len) hs) (AtHeaders (IsNextAt first x n len) hs)
+decides_next first x n len hs = decides_headers _ (IsNextAt first x n len)
+    (λ l at. Decides-and _ _ (decides_udp x first l at) (Decides-and _ _ (decides_sequence first x n l at) (decides_range len l at))) hs
+
 module _ (layout : Layout) (p : Packet) (ps : List Packet) (x : Packet) (total modes : ℕ) (small : (k : ℕ) → byte p.frame k < 256) where
   pub continues : IsProgress layout p.frame (p ∷ ps) true total modes → IsCandidate x.frame x.original layout → shape_of x.frame ≡ Some layout
       → IsNext layout p.frame (length (p ∷ ps)) total modes x.frame → Continues layout p.frame (p ∷ ps) x
@@ -152,19 +163,19 @@ module _ (layout : Layout) (p : Packet) (ps : List Packet) (x : Packet) (total m
       = omega (arith, r.long, full_payloads layout (length p.frame) (p ∷ ps) (r.full refl)) in
       let len : total + (length x.frame - layout.payload_at) ≡ layout.payload_at + length (payloads_of layout ((p ∷ ps) ++ (x ∷ [])))
       = omega (arith, r.long, more_payloads layout (p ∷ ps) x) in
+      let next : AtHeaders (IsNextAt p.frame x.frame (total - layout.payload_at) (total + (length x.frame - layout.payload_at))) layout.headers
+      = (decides_next p.frame x.frame (total - layout.payload_at) (total + (length x.frame - layout.payload_at)) layout.headers).0 t.numbers in
       record {
         shape_is = s;
         candidate = c;
         headers = λ k b o. sym (t.alike k b o);
-        udp_sums = headers_from _ (AreUdpSumsAlike x.frame p.frame) (next_udp p.frame x.frame (total - layout.payload_at) (total + (length x.frame - layout.payload_at))) layout.headers t.numbers;
+        udp_sums = headers_map (λ l at h. h.0) layout.headers next;
         full = r.full refl;
         shorter = t.shorter;
         flags = r.flags refl;
-        sequence = subst (λ n. AtHeaders (IsSequenceBehind p.frame x.frame n) layout.headers) n
-            (headers_from _ (IsSequenceBehind p.frame x.frame (total - layout.payload_at)) (next_sequence p.frame x.frame (total - layout.payload_at) (total + (length x.frame - layout.payload_at))) layout.headers t.numbers);
+        sequence = subst (λ n. AtHeaders (IsSequenceBehind p.frame x.frame n) layout.headers) n (headers_map (λ l at h. h.1.0) layout.headers next);
         ids = ids_from p x small ps modes layout.headers r.staying r.line.ids t.ids;
-        fits = subst (λ n. AtHeaders (IsLengthInRange n) layout.headers) len
-            (headers_from _ (IsLengthInRange (total + (length x.frame - layout.payload_at))) (next_fits p.frame x.frame (total - layout.payload_at) (total + (length x.frame - layout.payload_at))) layout.headers t.numbers);
+        fits = subst (λ n. AtHeaders (IsLengthInRange n) layout.headers) len (headers_map (λ l at h. h.1.1) layout.headers next);
       }
 
   pub passes : (o : Bool) → IsProgress layout p.frame (p ∷ ps) o total modes → Continues layout p.frame (p ∷ ps) x
@@ -180,11 +191,10 @@ module _ (layout : Layout) (p : Packet) (ps : List Packet) (x : Packet) (total m
           shorter = c.shorter;
           there = (laid x.frame layout c.shape_is).1;
           alike = λ k b o. sym (c.headers k b o);
-          numbers = headers_to _ (IsNextAt p.frame x.frame (total - layout.payload_at) (total + (length x.frame - layout.payload_at)))
-              (next_to p.frame x.frame (total - layout.payload_at) (total + (length x.frame - layout.payload_at))) layout.headers
-              (zip_headers _ _ layout.headers c.udp_sums (zip_headers _ _ layout.headers
+          numbers = (decides_next p.frame x.frame (total - layout.payload_at) (total + (length x.frame - layout.payload_at)) layout.headers).1
+              (headers_map3 (λ l at u q r. (u, (q, r))) layout.headers c.udp_sums
               (subst (λ n. AtHeaders (IsSequenceBehind p.frame x.frame n) layout.headers) n c.sequence)
-              (subst (λ n. AtHeaders (IsLengthInRange n) layout.headers) len c.fits)));
+              (subst (λ n. AtHeaders (IsLengthInRange n) layout.headers) len c.fits));
           ids = ids_to p x small ps modes layout.headers r.staying c.ids;
         },
       )

@@ -9,26 +9,28 @@ use Rattle.net_bytes.specs.Bytes.{byte}
 use Rattle.inet_sum.specs.Stands.{FoldAndLength, StandsFor}
 use Rattle.ip_headers.specs.Ip4.{identification}
 use Rattle.frame_layout.specs.Shape.{Layout, shape_of}
-use Rattle.frame_layout.specs.Headers.{AtHeaders, AreHeadersAlike}
+use Rattle.frame_layout.specs.Headers.{AtHeaders, all_headers, AreHeadersAlike}
 use Rattle.frame_layout.specs.Candidate.{IsCandidate, IsLengthRight}
 use Rattle.frame_layout.specs.declared.layout.Header.{Header}
 use Rattle.frame_layout.specs.declared.layout.Layer.{Layer}
 use Rattle.frame_layout.specs.declared.layout.Layer.TheVariants.{Ip4, Ip6, Udp, Tcp}
 use Rattle.frame_layout.proofs.Shapes.{laid, same_shape}
 use Rattle.frame_layout.proofs.Bounds.{bounds}
+use Rattle.frame_layout.proofs.Networks.{counts}
 use Rattle.pcap_io.specs.Capture.{Packet}
 use Rattle.offload_model.specs.Mergeable.{AreUdpSumsAlike, IsAckAlone, IsSequenceBehind, AreIdsInStep, IsLengthInRange, AreConsecutive, IsMergeable, payloads_of}
 use Rattle.offload_model.specs.Merged.{frame_at, is_fixed_in, modes_of}
 use Rattle.header_fill.specs.Filled.{HasFlags}
-use Rattle.offload_model.specs.Tests.{all_headers, is_ack_alone}
-use Rattle.offload_model.proofs.Fronts.{at_headers_map}
+use Rattle.offload_model.specs.Tests.{is_ack_alone}
+use Rattle.frame_layout.proofs.AtHeaders.{headers_all, headers_map}
+use Rattle.offload_model.proofs.Decides.{decides_acks}
+use Rattle.offload_model.proofs.Ranges.{in_range as range_bounds}
 use Rattle.offload_model.proofs.Grows.{Continues, grows, grown, each_push, each_last}
 use Rattle.round_merge.specs.Next.{IsNext, AreInside}
 use Rattle.round_merge.specs.Runs.{IsProgress, IsNoCandidate, IsCandidateOf, IsJudged, IsRunOf, IsRunBy, IsPlaced, IsFirstProgress, AreNextModes, IsNextProgress, IsShaped}
 use Rattle.round_merge.specs.declared.run.Progress.{Progress}
-use Rattle.round_merge.proofs.Headers.{headers_from, headers_to, ack_from, ack_to, bounding, inside_all}
+use Rattle.round_merge.proofs.Headers.{inside_all}
 use Rattle.round_merge.proofs.Decide.{continues, passes, each_one, rising_one, more_payloads}
-use Rattle.round_merge.proofs.Counts.{counts}
 
 -- a run that takes one more packet is a line of the first's layout
 in_line : (p x : Packet) (ps : List Packet) (l : Layout) → shape_of p.frame ≡ Some l → IsMergeable ((p ∷ ps) ++ (x ∷ []))
@@ -59,7 +61,7 @@ module _ (p : Packet) (ps : List Packet) (layout : Layout) (sum : FoldAndLength)
   bounded =
       let q : IsProgress layout p.frame (p ∷ ps) state.is_open state.total state.modes = r.progress in (
         omega (arith, q.long),
-        omega (arith, q.long, bounding 0 layout.headers layout.payload_at (layout.payload_at + length (payloads_of layout (p ∷ ps))) (laid p.frame layout r.shape).0 (counts p.frame layout r.shape).0 q.line.fits),
+        omega (arith, q.long, (range_bounds p.frame layout (layout.payload_at + length (payloads_of layout (p ∷ ps))) r.shape q.line.fits).1),
         (bounds p.frame r.in_bytes layout r.shape).0,
       )
 
@@ -92,10 +94,6 @@ in_range f small n e Ip6 at h = omega (arith, h, small (at + 4), small (at + 4 +
 in_range f small n e Udp at h = omega (arith, h, small (at + 4), small (at + 4 + 1))
 in_range f small n e _ at h = tt
 
-all_headers_true : (P : Layer → ℕ → Type 0) → ((l : Layer) (at : ℕ) → P l at) → (hs : List Header) → AtHeaders P hs
-all_headers_true P f [] = tt
-all_headers_true P f (h ∷ hs) = (f h.layer h.at, all_headers_true P f hs)
-
 module _ (p : Packet) (l : Layout) (small : (k : ℕ) → byte p.frame k < 256) (s : shape_of p.frame ≡ Some l) (c : IsCandidate p.frame p.original l) where
   own_sequence : (ly : Layer) (at : ℕ) → IsSequenceBehind p.frame p.frame (0 * (length p.frame - l.payload_at)) ly at
   own_sequence Tcp at =
@@ -119,22 +117,22 @@ module _ (p : Packet) (l : Layout) (small : (k : ℕ) → byte p.frame k < 256) 
     shapes = each_one _ p s;
     candidates = each_one _ p c;
     headers = each_one (λ i q. AreHeadersAlike l q.frame p.frame) p (λ k a b. refl);
-    udp_sums = each_one (λ i q. AtHeaders (AreUdpSumsAlike q.frame p.frame) l.headers) p (all_headers_true (AreUdpSumsAlike p.frame p.frame) own_udp l.headers);
+    udp_sums = each_one (λ i q. AtHeaders (AreUdpSumsAlike q.frame p.frame) l.headers) p (headers_all own_udp l.headers);
     full = record { at = λ i d h. absurd (omega arith) };
     shorter = each_one (λ i q. length q.frame ≤ length p.frame) p (omega arith);
     flags = record { at = λ i d h. absurd (omega arith) };
     sequence = each_one (λ i q. AtHeaders (IsSequenceBehind p.frame q.frame (i * (length p.frame - l.payload_at))) l.headers) p
-        (all_headers_true (IsSequenceBehind p.frame p.frame (0 * (length p.frame - l.payload_at))) own_sequence l.headers);
-    ids = all_headers_true (AreIdsInStep p.frame (p ∷ [])) own_ids l.headers;
-    fits = at_headers_map (IsLengthRight p.frame) (IsLengthInRange (l.payload_at + length (payloads_of l (p ∷ [])))) (in_range p.frame small (l.payload_at + length (payloads_of l (p ∷ []))) one_long) l.headers c.lengths;
+        (headers_all own_sequence l.headers);
+    ids = headers_all own_ids l.headers;
+    fits = headers_map (in_range p.frame small (l.payload_at + length (payloads_of l (p ∷ []))) one_long) l.headers c.lengths;
   }
 
   pub one_progress : (modes : ℕ) → IsProgress l p.frame (p ∷ []) (all_headers (is_ack_alone p.frame) l.headers) (length p.frame) modes
   one_progress modes = record {
     line = one_line;
     full = λ _. each_one (λ i q. length q.frame ≡ length p.frame) p refl;
-    flags = λ e. each_one (λ i q. AtHeaders (IsAckAlone q.frame) l.headers) p (headers_from (is_ack_alone p.frame) (IsAckAlone p.frame) (ack_from p.frame) l.headers e);
-    shut = λ e f a. (let t : false ≡ true = sym e ∙ headers_to (is_ack_alone p.frame) (IsAckAlone p.frame) (ack_to p.frame) l.headers (a.at 0 p (omega arith)) in cc);
+    flags = λ e. each_one (λ i q. AtHeaders (IsAckAlone q.frame) l.headers) p ((decides_acks p.frame l.headers).0 e);
+    shut = λ e f a. (let t : false ≡ true = sym e ∙ (decides_acks p.frame l.headers).1 (a.at 0 p (omega arith)) in cc);
     long = sym one_long;
     staying = λ two. absurd (omega arith);
   }
@@ -182,11 +180,11 @@ module _ (p : Packet) (ps : List Packet) (x : Packet) (layout : Layout) (sum : F
         line = line;
         full = λ e. each_push (λ i q. length q.frame ≡ length p.frame) (p ∷ ps) x k.full (eqb-true _ _ (and_parts _ _ (sym eo ∙ e)).0);
         flags = λ e. each_push (λ i q. AtHeaders (IsAckAlone q.frame) layout.headers) (p ∷ ps) x k.flags
-            (headers_from (is_ack_alone x.frame) (IsAckAlone x.frame) (ack_from x.frame) layout.headers (and_parts _ _ (sym eo ∙ e)).1);
+            ((decides_acks x.frame layout.headers).0 (and_parts _ _ (sym eo ∙ e)).1);
         shut = λ e f a.
             let yes : (length x.frame == length p.frame && all_headers (is_ack_alone x.frame) layout.headers) ≡ true
             = and_from _ _ (eq-eqb _ _ (each_last (λ i q. length q.frame ≡ length p.frame) (p ∷ ps) x f))
-            (headers_to (is_ack_alone x.frame) (IsAckAlone x.frame) (ack_to x.frame) layout.headers
+            ((decides_acks x.frame layout.headers).1
             (each_last (λ i q. AtHeaders (IsAckAlone q.frame) layout.headers) (p ∷ ps) x a)) in
             let u : false ≡ true = sym e ∙ eo ∙ yes in cc;
         long = omega (arith, et, q.long, more_payloads layout (p ∷ ps) x);

@@ -1,6 +1,5 @@
 mod Headers
 mod Decide
-mod Counts
 mod Knows
 mod Steps
 mod Index

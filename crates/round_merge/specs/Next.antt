@@ -1,14 +1,14 @@
 -- What is asked of the next packet of a run, header by header.
-use Rattle.std.specs.Prelude.{◌≡◌, ℕ, ◌+◌, ◌-◌, ◌/◌, ◌%◌, ◌^◌, ◌<◌, ◌≤◌, ◌==◌, Bool, true, ◌&&◌, ◌||◌, if◌then◌else◌, List, [], ◌∷◌, length}
-use Rattle.std.specs.List.{AllByRecursion}
+use Rattle.std.specs.Prelude.{◌≡◌, ℕ, ◌+◌, ◌-◌, ◌/◌, ◌%◌, ◌^◌, ◌<◌, ◌≤◌, ◌==◌, ◌↔◌, Bool, true, ◌&&◌, ◌||◌, if◌then◌else◌, Option, Some, None, List, [], ◌∷◌, ◌++◌, length, map}
+use Rattle.std.specs.List.{AllByRecursion, flat_map}
 use Rattle.net_bytes.specs.Bytes.{byte}
 use Rattle.ip_headers.specs.Ip4.{identification, dont_fragment}
 use Rattle.frame_layout.specs.Shape.{Layout}
-use Rattle.frame_layout.specs.Headers.{AreHeadersAlike, size}
+use Rattle.frame_layout.specs.Headers.{all_headers, varying, AreHeadersAlike, size}
 use Rattle.frame_layout.specs.declared.layout.Header.{Header}
 use Rattle.frame_layout.specs.declared.layout.Layer.{Layer}
 use Rattle.frame_layout.specs.declared.layout.Layer.TheVariants.{Ip4, Ip6, Udp, Tcp}
-use Rattle.offload_model.specs.Tests.{all_headers, are_udp_sums_alike, is_sequence_behind, is_length_in_range}
+use Rattle.offload_model.specs.Tests.{are_udp_sums_alike, is_sequence_behind, is_length_in_range}
 
 -- a header of the next frame: it has a UDP sum where the first frame has one, its sequence number is `further` bytes behind that of
 -- the first frame, and its length field has room in a merged frame of `total` bytes
@@ -41,26 +41,31 @@ are_ids_next n modes first next (h ∷ hs) = is_next_id_at n modes first next h.
 abbrev pub AreSame : List ℕ → List ℕ → ℕ → ℕ → Type 0
 AreSame f g from to = (k : ℕ) → from ≤ k → k < to → byte f k ≡ byte g k
 
--- two frames are alike from a place on up to the last field of the header that may differ
-abbrev pub IsAlikeTo : List ℕ → List ℕ → ℕ → Layer → ℕ → Type 0
-IsAlikeTo f g from Ip4 at = AreSame f g from (at + 2) × AreSame f g (at + 6) (at + 10)
-IsAlikeTo f g from Ip6 at = AreSame f g from (at + 4)
-IsAlikeTo f g from Udp at = AreSame f g from (at + 4)
-IsAlikeTo f g from Tcp at = AreSame f g from (at + 4) × AreSame f g (at + 8) (at + 13) × AreSame f g (at + 14) (at + 16)
-IsAlikeTo f g from _ at = Unit {0}
+-- the fields of a header that begins at `at`, by their places in the frame
+abbrev pub fields_at : ℕ → List (ℕ × ℕ) → List (ℕ × ℕ)
+fields_at at fields = map (λ (f : ℕ × ℕ). (at + f.0, f.1)) fields
 
--- the end of that field; a header that has none changes nothing
-abbrev pub fields_end : ℕ → Layer → ℕ → ℕ
-fields_end from Ip4 at = at + 12
-fields_end from Ip6 at = at + 6
-fields_end from Udp at = at + 8
-fields_end from Tcp at = at + 18
-fields_end from _ at = from
+-- all fields of the headers that may differ
+abbrev pub varying_in : List Header → List (ℕ × ℕ)
+varying_in hs = flat_map (λ h. fields_at h.at (varying h.layer)) hs
 
--- two frames are alike between the fields that may differ, from a place on
-abbrev pub AreAlikeFrom : List ℕ → List ℕ → ℕ → ℕ → List Header → Type 0
+-- two frames are alike from a place on, between these fields
+abbrev pub AreAlikeFrom : List ℕ → List ℕ → ℕ → ℕ → List (ℕ × ℕ) → Type 0
 AreAlikeFrom f g end from [] = AreSame f g from end
-AreAlikeFrom f g end from (h ∷ hs) = IsAlikeTo f g from h.layer h.at × AreAlikeFrom f g end (fields_end from h.layer h.at) hs
+AreAlikeFrom f g end from (x ∷ xs) = AreSame f g from x.0 × AreAlikeFrom f g end (x.0 + x.1) xs
+
+-- the fields stand one behind the other, from a place on
+abbrev pub AreApart : ℕ → List (ℕ × ℕ) → ℕ → Type 0
+AreApart start [] end = start ≤ end
+AreApart start (x ∷ xs) end = (start ≤ x.0) × AreApart (x.0 + x.1) xs end
+
+-- where two frames are alike between these fields, `to` is the end of the last one
+abbrev pub AlikeTo : List ℕ → List ℕ → ℕ → ℕ → List (ℕ × ℕ) → Option ℕ → Type 0
+AlikeTo f g end from fields None = (rest : List (ℕ × ℕ)) → AreAlikeFrom f g end from (fields ++ rest) → ⊥
+AlikeTo f g end from fields (Some to) =
+    (rest : List (ℕ × ℕ))
+    → (AreAlikeFrom f g end to rest ↔ AreAlikeFrom f g end from (fields ++ rest))
+    × (AreApart from (fields ++ rest) end → AreApart to rest end)
 
 -- the frame `next` continues an open run of `count` packets that begins with `first`: its merged frame has `total` bytes so far, and
 -- `modes` say which identifications stay
@@ -74,13 +79,3 @@ pub record IsNext (layout : Layout) (first : List ℕ) (count total modes : ℕ)
 -- each header lies within the first n bytes
 abbrev pub AreInside : ℕ → List Header → Type 0
 AreInside n hs = AllByRecursion (λ h. h.at + size h.layer ≤ n) hs
-
--- how many of the headers are IP headers
-abbrev pub ip_weight : Layer → ℕ
-ip_weight Ip4 = 1
-ip_weight Ip6 = 1
-ip_weight _ = 0
-
-abbrev pub ip_count : List Header → ℕ
-ip_count [] = 0
-ip_count (h ∷ hs) = ip_weight h.layer + ip_count hs

@@ -6,9 +6,8 @@ use Rattle.pcap_io.specs.Capture.{Packet}
 use Rattle.frame_layout.specs.Shape.{Layout, shape_of}
 use Rattle.ip_headers.specs.Ip4.{identification}
 use Rattle.frame_layout.specs.declared.layout.Header.{Header}
-use Rattle.frame_layout.specs.Headers.{AtHeaders, AreLaid}
-use Rattle.offload_model.specs.Tests.{all_headers, is_ack_alone}
-use Rattle.round_merge.specs.Next.{ip_count}
+use Rattle.frame_layout.specs.Headers.{AtHeaders, all_headers, AreLaid, ip_count}
+use Rattle.offload_model.specs.Tests.{is_ack_alone}
 use Rattle.frame_layout.specs.Candidate.{IsCandidate}
 use Rattle.offload_model.specs.Each.{Each}
 use Rattle.offload_model.specs.Mergeable.{IsAckAlone, AreConsecutive, payloads_of}

@@ -1,8 +1,8 @@
 //! Whether two frames have the same headers, but for the fields that may differ.
-ghost use Rattle.std.specs.Prelude.{◌≡◌, ◌+◌, ◌<◌, ◌≤◌, ◌^◌, ℕ, length};
+ghost use Rattle.std.specs.Prelude.{◌≡◌, ◌+◌, ◌<◌, ◌≤◌, ◌++◌, ℕ, List, length};
 ghost use Rattle.std.specs.Bool.{Decides};
-ghost use Rattle.frame_layout.specs.Headers.{AreLaid, size};
-ghost use Rattle.round_merge.specs.Next.{AreSame, IsAlikeTo, fields_end, AreAlikeFrom};
+ghost use Rattle.frame_layout.specs.Headers.{AreLaid, varying as varying_of};
+ghost use Rattle.round_merge.specs.Next.{AreSame, fields_at, varying_in, AreAlikeFrom, AreApart, AlikeTo};
 
 use frame_layout::{Header, Layer};
 
@@ -16,40 +16,42 @@ fn is_same(first: &[u8], next: &[u8], from: usize, to: usize) -> bool
     first[from..to] == next[from..to]
 }
 
-/// Whether two frames have the same bytes from a place to the last field of the header that may differ, and between its
-/// fields.
-fn is_alike_to(first: &[u8], next: &[u8], from: usize, header: Header) -> bool
-    requires order { from ≤ header.at }
-    requires first { header.at + size header.layer ≤ length first.now }
-    requires next { header.at + size header.layer ≤ length next.now }
-    ensures alike { Decides result (IsAlikeTo first.now next.now from header.layer header.at) }
+/// The fields of a header that may differ: where each begins in the header, and how many bytes it has.
+fn varying(layer: Layer) -> &'static [(usize, usize)]
+    ensures fields { result.now ≡ varying_of layer }
 {
-    let at = header.at as usize;
-    match header.layer {
-        Layer::Ip4 => is_same(first, next, from, at + 2) && is_same(first, next, at + 6, at + 10),
-        Layer::Ip6 | Layer::Udp => is_same(first, next, from, at + 4),
-        Layer::Tcp => {
-            is_same(first, next, from, at + 4)
-                && is_same(first, next, at + 8, at + 13)
-                && is_same(first, next, at + 14, at + 16)
-        }
-        _ => true,
+    match layer {
+        Layer::Ip4 => &[(2, 2), (4, 2), (10, 2)],
+        Layer::Ip6 => &[(4, 2)],
+        Layer::Udp => &[(4, 2), (6, 2)],
+        Layer::Tcp => &[(4, 4), (13, 1), (16, 2)],
+        _ => &[],
     }
 }
 
-/// The end of that field.
-fn fields_end_of(from: usize, header: Header) -> usize
-    requires inside { header.at + size header.layer < 2 ^ 63 }
-    ensures end { result ≡ fields_end from header.layer header.at }
+/// Whether two frames have the same bytes from a place on between these fields of a header at `at`; if so, the end of the last
+/// field. The payload begins at `end`.
+fn alike_to(
+    first: &[u8],
+    next: &[u8],
+    from: usize,
+    fields: &[(usize, usize)],
+    at: usize,
+    end: usize,
+) -> Option<usize>
+    requires apart { (rest : List (ℕ × ℕ)) × AreApart from (fields_at at fields.now ++ rest) end }
+    requires first { end ≤ length first.now }
+    requires next { end ≤ length next.now }
+    ensures alike { AlikeTo first.now next.now end from (fields_at at fields.now) result }
 {
-    let at = header.at as usize;
-    match header.layer {
-        Layer::Ip4 => at + 12,
-        Layer::Ip6 => at + 6,
-        Layer::Udp => at + 8,
-        Layer::Tcp => at + 18,
-        _ => from,
+    let mut to = from;
+    for (place, len) in fields {
+        if !is_same(first, next, to, at + place) {
+            return None;
+        }
+        to = at + place + len;
     }
+    Some(to)
 }
 
 /// Whether two frames have the same headers, up to the payload at `end`, but for the fields that may differ.
@@ -57,14 +59,15 @@ pub(crate) fn are_alike(first: &[u8], next: &[u8], headers: &[Header], end: usiz
     requires laid { AreLaid 0 headers.now end }
     requires first { end ≤ length first.now }
     requires next { end ≤ length next.now }
-    ensures alike { Decides result (AreAlikeFrom first.now next.now end 0 headers.now) }
+    ensures alike { Decides result (AreAlikeFrom first.now next.now end 0 (varying_in headers.now)) }
 {
     let mut from = 0;
     for header in headers {
-        if !is_alike_to(first, next, from, *header) {
+        let fields = varying(header.layer);
+        let Some(to) = alike_to(first, next, from, fields, header.at as usize, end) else {
             return false;
-        }
-        from = fields_end_of(from, *header);
+        };
+        from = to;
     }
     is_same(first, next, from, end)
 }

@@ -1,9 +1,10 @@
 //! Which packets may be merged at all.
 ghost use Rattle.std.specs.Prelude.{◌≡◌, ◌≤◌, ◌<◌, length, drop};
 ghost use Rattle.inet_sum.specs.Stands.{StandsFor};
-ghost use Rattle.round_merge.specs.Runs.{IsJudged};
+ghost use Rattle.frame_layout.specs.Key.{key_of};
+ghost use Rattle.round_merge.specs.Runs.{IsJudged, IsShaped};
 
-use frame_layout::{Layout, candidate};
+use frame_layout::{Key, Layout, candidate, key, key_behind};
 use inet_sum::Partial;
 
 /// Whether a packet may be merged: the layout of its headers, or `None`. If so, also the sum of its payload and its TCP
@@ -41,7 +42,7 @@ pub(crate) fn judge(frame: &[u8], original: u32) -> Candidacy
     rest.add(&frame[front..]);
     match candidate(&frame[..front], &rest, frame.len() as u32, original) {
         Some(segment) => Candidacy {
-            payload: sum_from(frame, segment.payload_at, front, rest),
+            payload: sum_from(frame, segment.layout.payload_at(), front, rest),
             flags: segment.flags,
             layout: Some(segment.layout),
         },
@@ -50,5 +51,16 @@ pub(crate) fn judge(frame: &[u8], original: u32) -> Candidacy
             payload: rest,
             flags: 0,
         },
+    }
+}
+
+/// The key of the frame's flow. The headers of a frame that may be merged aren't walked again.
+pub(crate) fn flow_key(frame: &[u8], candidacy: &Candidacy) -> Key
+    requires shaped { IsShaped candidacy.now.layout frame.now }
+    ensures key { result ≡ key_of frame.now }
+{
+    match &candidacy.layout {
+        Some(layout) => key_behind(frame, layout),
+        None => key(frame),
     }
 }

@@ -5,10 +5,10 @@ ghost use Rattle.net_bytes.specs.Bytes.{byte};
 ghost use Rattle.ip_headers.specs.Ip4.{identification as identification_of, dont_fragment as dont_fragment_of};
 ghost use Rattle.tcp_headers.specs.Tcp.{sequence as sequence_of, flags as flags_of};
 ghost use Rattle.tcp_headers.specs.Udp.{checksum as udp_checksum_of};
-ghost use Rattle.frame_layout.specs.Headers.{AtHeaders, AreLaid, IsOutside, size};
-ghost use Rattle.offload_model.specs.Tests.{all_headers, is_ack_alone as is_ack_alone_of};
+ghost use Rattle.frame_layout.specs.Headers.{all_headers, size, ip_count};
+ghost use Rattle.offload_model.specs.Tests.{is_ack_alone as is_ack_alone_of};
 ghost use Rattle.offload_model.specs.Merged.{modes_at, modes_of as modes_of_headers};
-ghost use Rattle.round_merge.specs.Next.{is_next_at, is_next_id_at, modes_behind as modes_behind_of, are_ids_next, AreInside, ip_count};
+ghost use Rattle.round_merge.specs.Next.{is_next_at, is_next_id_at, modes_behind as modes_behind_of, are_ids_next, AreInside};
 
 use frame_layout::{Header, Layer};
 use net_bytes::{be16, be32};

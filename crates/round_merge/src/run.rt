@@ -1,10 +1,10 @@
 //! A run of packets.
 ghost use Rattle.std.specs.Prelude.{◌≡◌, ◌==◌, ◌&&◌, ◌+◌, ◌<◌, ◌≤◌, ◌^◌, ◌++◌, ◌∷◌, [], ℕ, length, drop, OnOk};
 ghost use Rattle.std.specs.Bool.{Decides};
-ghost use Rattle.frame_layout.specs.Headers.{AreHeadersAlike};
+ghost use Rattle.frame_layout.specs.Headers.{all_headers, AreHeadersAlike};
 ghost use Rattle.frame_layout.specs.Shape.{shape_of};
 ghost use Rattle.offload_model.specs.Mergeable.{IsMergeable};
-ghost use Rattle.offload_model.specs.Tests.{all_headers, is_ack_alone as is_ack_alone_of};
+ghost use Rattle.offload_model.specs.Tests.{is_ack_alone as is_ack_alone_of};
 ghost use Rattle.round_merge.specs.Next.{AreInside, IsNext};
 ghost use Rattle.round_merge.specs.Runs.{packet_of, packets_of, IsJudged, IsRun, IsShort, IsPlaced, IsShaped, IsFirstProgress, IsNextProgress};
 

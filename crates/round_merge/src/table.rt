@@ -6,9 +6,8 @@ ghost use Rattle.round_merge.specs.Round.{AreRising, runs_in};
 ghost use Rattle.round_merge.specs.Table.{found_in, PutsIn, IsTable, TakesPacket, KeepsEarly};
 
 use crate::Packet;
-use crate::candidate::{Candidacy, judge};
+use crate::candidate::{Candidacy, flow_key, judge};
 use crate::run::Run;
-use frame_layout::key;
 use std::alloc::{AllocError, Global};
 use std::collections::HashMap;
 
@@ -90,7 +89,7 @@ impl Table {
         ensures early { OnOk result (KeepsEarly (map packets_of self.old.runs.items) (packet_of packet) (map packets_of self.new.runs.items)) }
     {
         let candidacy = judge(&packet.frame, packet.original);
-        let key = key(&packet.frame);
+        let key = flow_key(&packet.frame, &candidacy);
         let Some(bytes) = key.bytes() else {
             self.runs.push(Run::open(alloc, packet, candidacy))?;
             return Ok(());

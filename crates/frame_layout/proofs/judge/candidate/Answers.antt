@@ -5,12 +5,12 @@ use Rattle.frame_layout.specs.Headers.{size, AtHeaders}
 use Rattle.inet_sum.specs.Sum.{fold_of}
 use Rattle.frame_layout.specs.Front.{are_headers_right}
 use Rattle.frame_layout.specs.declared.layout.Layer.TheVariants.{Ethernet}
+use Rattle.frame_layout.proofs.Alike.{inside_all, within_all}
 use Rattle.frame_layout.proofs.Bounds.{placed}
-use Rattle.frame_layout.proofs.Frames.{long_is, begins_is, behind_is, shape_of_head, only_layout, inside_all, within_all, candidate_is, is_candidate, not_longer}
+use Rattle.frame_layout.proofs.Frames.{long_is, begins_is, behind_is, shape_of_head, only_layout, candidate_is, is_candidate, not_longer}
 use Rattle.frame_layout.specs.Candidate.{IsCandidate}
-use Rattle.frame_layout.specs.Segment.{fields_of as fields_said, IsSaid, are_ids_said, IsSeg}
-use Rattle.frame_layout.proofs.Frames.{described}
-use Rattle.frame_layout.proofs.Counts.{said, ids, same_fields}
+use Rattle.frame_layout.specs.Segment.{flags_of as flags_said, HasFlags, IsSeg}
+use Rattle.frame_layout.proofs.ControlBits.{has_flags, same_flags}
 use Rattle.frame_layout.proofs.judge.candidate.Goals as goal
 
 pub returns-then-len-gt-LONGEST : goal.returns-then-len-gt-LONGEST
@@ -62,8 +62,8 @@ returns-then-not-are_right c = record {
       absurd cc;
 }
 
-pub fields_of-fields-requires : goal.fields_of-fields-requires
-fields_of-fields-requires c =
+pub flags_of-flags-requires : goal.flags_of-flags-requires
+flags_of-flags-requires c =
     let p : Layout = record { headers = c.find_headers.new.found.items; payload_at = c.in-Some.end } in
     record {
       there = subst (AtHeaders (λ layer at. at + size layer ≤ length c.args.head.now)) (sym c.as_slice-2.ensures.value)
@@ -85,17 +85,14 @@ returns c = record {
       within_all p.payload_at (length h) p.headers c.in-Some.ensures.within
       (inside_all 0 p.payload_at p.headers (placed h (λ k. omega (arith, c.type_inv.head k)) p c.in-Some.ensures.shape).laid) in
       let r : are_headers_right f (record { layer = Ethernet; at = 0 }) p.headers = subst (are_headers_right f (record { layer = Ethernet; at = 0 })) c.as_slice.ensures.value ((c.are_right.ensures f (record { begins = begins_is h c.args.rest.now f s; long = long ∙ c.requires.whole; fold = c.fold_behind.ensures s.tail s.sum ∙ ap fold_of (behind_is h c.args.rest.now f s end ends) })).0 c.if-not-are_right.false) in
-      let e : c.fields_of-fields.result ≡ fields_said f p.headers =
-      c.fields_of-fields.ensures ∙ ap (fields_said h) c.as_slice-2.ensures.value ∙ same_fields h f (begins_is h c.args.rest.now f s) p.headers there in
-      subst (λ l. IsCandidate f c.args.original l × IsSeg f (described l end (c.args.len - end) c.fields_of-fields.result)) (sym c.of.ensures) (
+      let e : c.flags_of-flags.result ≡ flags_said f p.headers =
+      c.flags_of-flags.ensures ∙ ap (flags_said h) c.as_slice-2.ensures.value ∙ same_flags h f (begins_is h c.args.rest.now f s) p.headers there in
+      subst (λ l. IsCandidate f c.args.original l × IsSeg f (record { layout = l; payload_len = c.args.len - end; flags = c.flags_of-flags.result })) (sym c.of.ensures) (
         candidate_is f c.args.original p (omega (arith, c.if-original-len.false, long, c.requires.whole)) (omega (arith, c.if-end-len.false, long, c.requires.whole)) r,
         record {
           shape = is;
-          payload_at = refl;
           payload_len = omega (arith, long, c.requires.whole);
-          fields = e;
-          said = subst (λ z. AtHeaders (IsSaid z f) p.headers) (sym e) (said f p is);
-          ids = subst (λ z. are_ids_said z.id1 z.df1 z.id2 z.df2 f p.headers) (sym e) (ids f p is);
+          flags = subst (λ n. AtHeaders (HasFlags n f) p.headers) (sym e) (has_flags f p is);
         },
       );
 }

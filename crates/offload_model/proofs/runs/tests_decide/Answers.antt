@@ -1,4 +1,5 @@
-use Rattle.offload_model.proofs.Decides.{decides_candidate, decides_mergeable, decides_super, decides_record}
+use Rattle.frame_layout.proofs.Deciding.{decides_candidate}
+use Rattle.offload_model.proofs.Decides.{decides_mergeable, decides_super, decides_record}
 use Rattle.offload_model.proofs.runs.tests_decide.Goals as goal
 
 pub returns : goal.returns

@@ -3,12 +3,11 @@ use Rattle.std.proofs.lemmas.List.{take-append-drop, take_all, length-drop}
 use Rattle.net_bytes.specs.Bytes.{byte}
 use Rattle.inet_sum.specs.Stands.{FoldAndLength, StandsFor}
 use Rattle.frame_layout.specs.Front.{IsFrameOf}
-use Rattle.frame_layout.specs.Segment.{IsSegOf, IsSaid, fields_in}
+use Rattle.frame_layout.specs.Segment.{IsSegOf, HasFlags as HasFlagsOf}
 use Rattle.frame_layout.specs.declared.layout.Layer.{Layer}
 use Rattle.frame_layout.specs.declared.layout.Layer.TheVariants.{Tcp}
-use Rattle.offload_model.proofs.Fronts.{at_headers_map}
+use Rattle.frame_layout.proofs.AtHeaders.{headers_map}
 use Rattle.header_fill.specs.Filled.{HasFlags}
-use Rattle.frame_layout.specs.declared.segment.Seg.{Seg}
 use Rattle.frame_layout.proofs.Shapes.{laid}
 use Rattle.frame_layout.proofs.Bounds.{bounds}
 use Rattle.round_merge.proofs.candidate.judge.Goals as goal
@@ -19,9 +18,9 @@ behind f n p s = subst (StandsFor p) (take_all (length f - n) (drop n f) (omega 
 whole : (f : List ℕ) (n : ℕ) (p : FoldAndLength) → ((k : ℕ) → byte f k < 256) → StandsFor p (drop n f) → IsFrameOf (take n f) p f
 whole f n p small s = record { tail = drop n f; joined = sym (take-append-drop n f); sum = s; in_bytes = small }
 
-said : (s : Seg) (f : List ℕ) (l : Layer) (at : ℕ) → IsSaid (fields_in s) f l at → HasFlags s.flags f l at
-said s f Tcp at h = sym h.1
-said s f _ at h = tt
+said : (n : ℕ) (f : List ℕ) (l : Layer) (at : ℕ) → HasFlagsOf n f l at → HasFlags n f l at
+said n f Tcp at h = h
+said n f _ at h = tt
 
 pub sum_from-requires-clause-rest : goal.sum_from-requires-clause-rest
 sum_from-requires-clause-rest c = behind c.args.frame.now c.min-front.result c.add.new.self (c.add.ensures.sum [] c.new-rest.ensures.sum)
@@ -32,7 +31,7 @@ sum_from-requires-clause-order c =
     let small : (k : ℕ) → byte f k < 256 = λ k. omega (arith, c.type_inv.frame k) in
     let s : IsSegOf f c.args.original (Some c.in-Some.segment) = subst (IsSegOf f c.args.original) c.in-Some.is
     (c.candidate.ensures.candidate f (whole f c.min-front.result c.add.new.self small (behind f c.min-front.result c.add.new.self (c.add.ensures.sum [] c.new-rest.ensures.sum)))) in
-    omega (arith, c.min-front.ensures, s.1.payload_at, (bounds f small c.in-Some.segment.layout s.1.shape).0, (laid f c.in-Some.segment.layout s.1.shape).1)
+    omega (arith, c.min-front.ensures, c.payload_at.ensures.place, (bounds f small c.in-Some.segment.layout s.1.shape).0, (laid f c.in-Some.segment.layout s.1.shape).1)
 
 pub returns-in-Some : goal.returns-in-Some
 returns-in-Some c =
@@ -44,8 +43,8 @@ returns-in-Some c =
       judged = record {
         shape = s.1.shape;
         candidate = s.0;
-        payload = subst (λ z. StandsFor c.sum_from.result (drop z f)) s.1.payload_at c.sum_from.ensures.sum;
-        flags = at_headers_map (IsSaid (fields_in c.in-Some.segment) f) (HasFlags c.in-Some.segment.flags f) (said c.in-Some.segment f) c.in-Some.segment.layout.headers s.1.said;
+        payload = subst (λ z. StandsFor c.sum_from.result (drop z f)) c.payload_at.ensures.place c.sum_from.ensures.sum;
+        flags = headers_map (said c.in-Some.segment.flags f) c.in-Some.segment.layout.headers s.1.flags;
         in_bytes = small;
       };
     }

@@ -1,5 +1,5 @@
 use Rattle.std.proofs.Common.{◌≡◌, drop}
-use Rattle.offload_model.specs.Tests.{all_headers}
+use Rattle.frame_layout.specs.Headers.{all_headers}
 use Rattle.round_merge.specs.Next.{is_next_at}
 use Rattle.round_merge.proofs.next.are_next.Given as goal
 

@@ -1,7 +1,7 @@
 use Rattle.std.proofs.Common.{ℕ, List, subst, arith}
 use Rattle.std.specs.Bool.{Decides}
 use Rattle.frame_layout.specs.declared.layout.Header.{Header}
-use Rattle.round_merge.specs.Next.{AreAlikeFrom}
+use Rattle.round_merge.specs.Next.{varying_in, AreAlikeFrom}
 use Rattle.round_merge.proofs.Headers.{alike_to, alike_from}
 use Rattle.round_merge.proofs.run.are_headers_alike.Goals as goal
 
@@ -11,8 +11,8 @@ returns c =
     let g : List ℕ = c.args.next.now in
     let end : ℕ = c.args.layout.now.payload_at in
     let hs : List Header = c.args.layout.now.headers in
-    let d : Decides c.are_alike.result (AreAlikeFrom f g end 0 hs) = subst (λ z. Decides c.are_alike.result (AreAlikeFrom f g z 0 hs)) c.payload_at.ensures.place
-    (subst (λ z. Decides c.are_alike.result (AreAlikeFrom f g c.payload_at.result 0 z)) c.headers.ensures.headers c.are_alike.ensures.alike) in
+    let d : Decides c.are_alike.result (AreAlikeFrom f g end 0 (varying_in hs)) = subst (λ z. Decides c.are_alike.result (AreAlikeFrom f g z 0 (varying_in hs))) c.payload_at.ensures.place
+    (subst (λ z. Decides c.are_alike.result (AreAlikeFrom f g c.payload_at.result 0 (varying_in z))) c.headers.ensures.headers c.are_alike.ensures.alike) in
     record {
-      alike = (λ t k b o. alike_to f g end 0 hs (d.0 t) k (omega arith) b o, λ a. d.1 (alike_from f g end 0 hs c.requires.placed.laid (λ k h b o. a k b o)));
+      alike = (λ t k b o. alike_to f g end hs (d.0 t) k b o, λ a. d.1 (alike_from f g end hs c.requires.placed.laid (λ k b o. a k b o)));
     }

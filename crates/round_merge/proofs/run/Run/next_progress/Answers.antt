@@ -5,7 +5,8 @@ use Rattle.frame_layout.specs.declared.layout.Header.{Header}
 use Rattle.round_merge.specs.declared.packet.Packet.{Packet as Held}
 use Rattle.round_merge.specs.declared.run.Run.{Run}
 use Rattle.offload_model.specs.Mergeable.{IsMergeable}
-use Rattle.round_merge.specs.Next.{AreInside, ip_count}
+use Rattle.frame_layout.specs.Headers.{ip_count}
+use Rattle.round_merge.specs.Next.{AreInside}
 use Rattle.round_merge.specs.Runs.{packet_of, IsRun, IsRunOf, IsPlaced, packets_of}
 use Rattle.round_merge.proofs.Headers.{inside_all}
 use Rattle.round_merge.proofs.Knows.{run_some, placed_of, bounded, within, next_within, next_by}

@@ -1,0 +1,12 @@
+use Rattle.std.proofs.Common.{refl, subst, arith}
+use Rattle.frame_layout.specs.Key.{IsHeadOf}
+use Rattle.round_merge.specs.Runs.{IsShaped}
+use Rattle.round_merge.proofs.candidate.flow_key.Goals as goal
+
+pub key_behind-requires : goal.key_behind-requires
+key_behind-requires c = record {
+  shape = (
+    c.args.frame.now,
+    (record { begins = λ k l. refl; more = omega arith; enough = omega arith; in_bytes = λ k. omega (arith, c.type_inv.frame k) }, subst (λ z. IsShaped z c.args.frame.now) c.in-Some.is c.requires.shaped),
+  );
+}
