@@ -31,7 +31,7 @@ module _ (h f : List ℕ) (n : ℕ) (long : length f ≡ n) (more : length h ≤
   same16 at fits = omega (arith, begins at (omega arith), begins (at + 1) (omega arith))
 
   pub same_ip4_sum : (at : ℕ) → at + 20 ≤ length h → ip4_sum h at ≡ ip4_sum f at
-  same_ip4_sum at fits = ap (λ z. checksum_of (put16 z 10 0)) (same_part_long h f at 20 fits (omega arith) (λ k a. sym (begins k (omega arith))))
+  same_ip4_sum at fits = ap (λ z. checksum_of (put16 z 10 0)) (same_part_long h f at 20 fits (omega arith) (λ k a b. sym (begins k (omega arith))))
 
   same_length : (l : Layer) (at : ℕ) → at + size l ≤ length h → is_length_right n h l at ≡ is_length_right n f l at
   same_length Ip4 at fits = ap (λ z. z == n - at) (sym (same16 (at + 2) (omega arith)))

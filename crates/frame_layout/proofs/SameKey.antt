@@ -3,7 +3,6 @@ use Rattle.std.proofs.Common.{◌≡◌, ℕ, zero, suc, ◌+◌, ◌-◌, ◌*�
 use Rattle.std.specs.Prelude.{◌==◌, ◌&&◌}
 use Rattle.std.specs.List.{flat_map}
 use Rattle.std.proofs.lemmas.Bool.{cases_lt, and_parts, eqb-true}
-use Rattle.std.proofs.lemmas.List.{ext_get_or, length-take, length-drop, get_or-take, get_or-drop}
 use Rattle.net_bytes.specs.Bytes.{byte, part}
 use Rattle.frame_layout.specs.declared.layout.Header.{Header}
 use Rattle.frame_layout.specs.Shape.{Layout, shape_of}
@@ -12,6 +11,7 @@ use Rattle.frame_layout.specs.Headers.{AtHeaders, AreHeadersAlike}
 use Rattle.frame_layout.specs.Headers.{size, AreLaid}
 use Rattle.frame_layout.proofs.Listed.{shape_passes}
 use Rattle.frame_layout.proofs.Shapes.{laid, laid_end}
+use Rattle.frame_layout.proofs.Zeroed.{same_part_long}
 use Rattle.frame_layout.proofs.Alike.{IsAlikeAt, alike_at, alike_bytes}
 use Rattle.frame_layout.specs.declared.layout.Layer.{Layer}
 use Rattle.frame_layout.specs.declared.layout.Layer.TheVariants.{Ethernet, Tag, Ip4, Ip6, Udp, Vxlan, Tcp}
@@ -54,15 +54,6 @@ tags_of_shape : (f : List ℕ) (l : Layout) → shape_of f ≡ Some l → AreTag
 tags_of_shape f l e = tags_behind Vxlan 0 l.headers (shape_passes f (are_tags_behind Vxlan 0) refl l e)
 
 -- ---- the key
-
-same_part_long : (f g : List ℕ) (at n : ℕ) → at + n ≤ length f → at + n ≤ length g → ((k : ℕ) → at ≤ k → k < at + n → byte f k ≡ byte g k) → part f at n ≡ part g at n
-same_part_long f g at n hf hg agree =
-    let lf : length (part f at n) ≡ n = omega (arith, length-take n (drop at f), length-drop at f) in
-    let lg : length (part g at n) ≡ n = omega (arith, length-take n (drop at g), length-drop at g) in
-    ext_get_or 0 (part f at n) (part g at n) (lf ∙ sym lg) (λ i h.
-    let below : i < n = omega arith in
-    get_or-take n (drop at f) i 0 below ∙ get_or-drop at f i 0 ∙ agree (at + i) (omega arith) (omega arith)
-    ∙ sym (get_or-take n (drop at g) i 0 below ∙ get_or-drop at g i 0))
 
 -- the header that a tag is behind is alike in all its bytes
 abbrev IsWhole : Layer → ℕ → List ℕ → List ℕ → Type 0

@@ -10,83 +10,19 @@ use Rattle.frame_layout.specs.Headers.{AtHeaders, varying, IsOutside, AreHeaders
 use Rattle.frame_layout.specs.Headers.{size, AreLaid}
 use Rattle.frame_layout.specs.declared.layout.Layer.{Layer}
 use Rattle.frame_layout.specs.declared.layout.Layer.TheVariants.{Ethernet, Tag, Ip4, Ip6, Udp, Vxlan, Tcp}
+use Rattle.frame_layout.proofs.Listed.{with_header, found, places, ends, IsListed, Lists, all_typed, all_tunnels, listed}
+use Rattle.frame_layout.proofs.Listed.{lists_none, lists_header, lists_end, lists_carried, lists_typed, lists_ethernet, lists_vxlan}
 use Rattle.frame_layout.proofs.Clear.{are_clear, outside_clear, own}
 
-abbrev pub with_header : Layer → ℕ → Layout → Layout
-with_header layer at r = record { headers = record { layer = layer; at = at } ∷ r.headers; payload_at = r.payload_at }
+laid_places : (start : ℕ) (ks : List Layer) (options : ℕ) → AreLaid start (places start ks) (ends start ks + options)
+laid_places start [] options = omega arith
+laid_places start (k ∷ ks) options = (omega arith, laid_places (start + size k) ks options)
 
--- a header that is found stands there, and the rest is found behind it
-pub found : (layer : Layer) (at : ℕ) (there : Bool) (rest : Option Layout) (l : Layout) → header layer at there rest ≡ Some l
-    → (there ≡ true) × ((r : Layout) × (rest ≡ Some r) × (with_header layer at r ≡ l))
-unfolding header
-found layer at true (Some r) l e = (refl, (r, refl, cc))
-found layer at true None l e = absurd cc
-found layer at false rest l e = absurd cc
-
-record IsLaid (start : ℕ) (f : List ℕ) (o : Option Layout) : Type 0 where
-  at : (l : Layout) → o ≡ Some l → AreLaid start l.headers l.payload_at × (l.payload_at ≤ length f)
-
-laid_none : (start : ℕ) (f : List ℕ) → IsLaid start f None
-laid_none start f = record { at = λ l e. absurd cc }
-
-laid_if : (start : ℕ) (f : List ℕ) (b : Bool) (x y : Option Layout) → IsLaid start f x → IsLaid start f y → IsLaid start f (if b then x else y)
-laid_if start f true x y a b = a
-laid_if start f false x y a b = b
-
-laid_header : (start : ℕ) (f : List ℕ) (layer : Layer) (at : ℕ) (there : Bool) (rest : Option Layout)
-    → start ≤ at → (there ≡ true → IsLaid (at + size layer) f rest) → IsLaid start f (header layer at there rest)
-laid_header start f layer at there rest h k = record {
-  at = λ l e.
-      let w : (there ≡ true) × ((r : Layout) × (rest ≡ Some r) × (with_header layer at r ≡ l)) = found layer at there rest l e in
-      let i : AreLaid (at + size layer) w.1.0.headers w.1.0.payload_at × (w.1.0.payload_at ≤ length f) = (k w.0).at w.1.0 w.1.1 in
-      subst (λ z. AreLaid start z.headers z.payload_at × (z.payload_at ≤ length f)) w.1.2 ((h, i.0), i.1);
-}
-
-laid_tcp_end : (f : List ℕ) (at words : ℕ) → (nat_le (at + 20) (length f) && nat_le 5 words && nat_le (at + 4 * words) (length f)) ≡ true
-    → IsLaid (at + 20) f (Some (record { headers = []; payload_at = at + 4 * words }))
-laid_tcp_end f at words e = record {
-  at = λ l s.
-      let p : ((nat_le (at + 20) (length f) && nat_le 5 words) ≡ true) × (nat_le (at + 4 * words) (length f) ≡ true) = and_parts _ _ e in
-      let q : (nat_le (at + 20) (length f) ≡ true) × (nat_le 5 words ≡ true) = and_parts _ _ p.0 in
-      let r : record { headers = []; payload_at = at + 4 * words } ≡ l = cc in
-      subst (λ z. AreLaid (at + 20) z.headers z.payload_at × (z.payload_at ≤ length f)) r
-      (omega (arith, leb-true _ _ q.1), leb-true _ _ p.1);
-}
-
-laid_tcp : (f : List ℕ) (at : ℕ) → IsLaid at f (tcp_from f at)
-laid_tcp f at = laid_header at f Tcp at _ _ (omega arith) (λ e. laid_tcp_end f at (byte f (at + 12) / 16) e)
-
-module _ (f : List ℕ) (tunnel : ℕ → Option Layout) (inside : (at : ℕ) → IsLaid at f (tunnel at)) where
-  laid_carried : (protocol at : ℕ) → IsLaid at f (carried_from f tunnel protocol at)
-  laid_carried protocol at = laid_if at f (protocol == 6) _ _ (laid_tcp f at) (laid_if at f (protocol == 17) _ _ (inside at) (laid_none at f))
-
-  laid_network : (type at : ℕ) → IsLaid at f (network_from f tunnel type at)
-  laid_network type at = laid_if at f (type == 0x0800) _ _
-      (laid_header at f Ip4 at _ _ (omega arith) (λ e. laid_carried (byte f (at + 9)) (at + 20)))
-      (laid_if at f (type == 0x86dd) _ _
-      (laid_header at f Ip6 at _ _ (omega arith) (λ e. laid_carried (byte f (at + 6)) (at + 40)))
-      (laid_none at f))
-
-  laid_typed : (tags at : ℕ) → IsLaid (at + 2) f (typed_from f tunnel tags at)
-  laid_typed zero at = laid_network (be16 f at) (at + 2)
-  laid_typed (suc tags) at = laid_if (at + 2) f (is_tag (be16 f at)) _ _
-      (laid_header (at + 2) f Tag (at + 2) _ _ (omega arith) (λ e.
-      let n : at + 4 + 2 ≡ at + 2 + 4 = omega arith in subst (λ z. IsLaid z f (typed_from f tunnel tags (at + 4))) n (laid_typed tags (at + 4))))
-      (laid_network (be16 f at) (at + 2))
-
-  laid_ethernet : (at : ℕ) → IsLaid at f (ethernet_from f tunnel at)
-  laid_ethernet at = laid_header at f Ethernet at _ _ (omega arith) (λ e.
-      let n : at + 12 + 2 ≡ at + 14 = omega arith in subst (λ z. IsLaid z f (typed_from f tunnel 2 (at + 12))) n (laid_typed 2 (at + 12)))
-
-laid_vxlan : (f : List ℕ) (at : ℕ) → IsLaid at f (vxlan_from f at)
-laid_vxlan f at = laid_header at f Udp at _ _ (omega arith) (λ e.
-    laid_header (at + 8) f Vxlan (at + 8) _ _ (omega arith) (λ e2.
-    let n : at + 16 ≡ at + 8 + 8 = omega arith in
-    subst (λ z. IsLaid z f (ethernet_from f (λ _. None) (at + 16))) n (laid_ethernet f (λ _. None) (λ a. laid_none a f) (at + 16))))
+laid_of : (test : List Layer → Bool) (start : ℕ) (f : List ℕ) (l : Layout) → IsListed test start f l → AreLaid start l.headers l.payload_at
+laid_of test start f l i = subst (λ z. AreLaid start z.headers z.payload_at) i.is (laid_places start i.kinds i.options)
 
 pub laid : (f : List ℕ) (l : Layout) → shape_of f ≡ Some l → AreLaid 0 l.headers l.payload_at × (l.payload_at ≤ length f)
-unfolding shape_of
-laid f l e = (laid_ethernet f (vxlan_from f) (laid_vxlan f) 0).at l e
+laid f l e = let i = listed f (λ _. true) refl l e in (laid_of (λ _. true) 0 f l i, i.within)
 
 -- ---- frames that are alike from a place on have the same headers from there on
 
@@ -120,7 +56,7 @@ there_is layer at there rest r t e = rw (t, e)
 
 keeps_header : (start : ℕ) (f g : List ℕ) (layer : Layer) (at : ℕ) (there there' : Bool) (rest rest' : Option Layout)
     → start ≤ at
-    → (there ≡ true → IsLaid (at + size layer) f rest)
+    → (there ≡ true → Lists (λ _. true) (at + size layer) f rest)
     → ((r : Layout) → rest ≡ Some r → at + size layer ≤ r.payload_at → r.payload_at ≤ length g → AreAlikeIn f g layer at → there ≡ true → there' ≡ true)
     → (AreAlikeIn f g layer at → Keeps (at + size layer) f g rest rest')
     → Keeps start f g (header layer at there rest) (header layer at there' rest')
@@ -128,10 +64,10 @@ keeps_header start f g layer at there there' rest rest' h lies test step = recor
   at = λ l e.
       let w : (there ≡ true) × ((r : Layout) × (rest ≡ Some r) × (with_header layer at r ≡ l)) = found layer at there rest l e in
       let r : Layout = w.1.0 in
-      let i : AreLaid (at + size layer) r.headers r.payload_at × (r.payload_at ≤ length f) = (lies w.0).at r w.1.1 in
-      let fits : at + size layer ≤ r.payload_at = laid_end (at + size layer) r.headers r.payload_at i.0 in
+      let i : AreLaid (at + size layer) r.headers r.payload_at = laid_of (λ _. true) (at + size layer) f r ((lies w.0).at r w.1.1) in
+      let fits : at + size layer ≤ r.payload_at = laid_end (at + size layer) r.headers r.payload_at i in
       subst (λ z. AreAlikeFrom start z f g → z.payload_at ≤ length g → header layer at there' rest' ≡ Some z) w.1.2 (λ alike long.
-      let inside : AreAlikeIn f g layer at = λ k a b o. alike k (omega arith) (omega arith) (o, before_all (at + size layer) r.headers r.payload_at k i.0 b) in
+      let inside : AreAlikeIn f g layer at = λ k a b o. alike k (omega arith) (omega arith) (o, before_all (at + size layer) r.headers r.payload_at k i b) in
       there_is layer at there' rest' r (test r w.1.1 fits long inside w.0)
       ((step inside).at r w.1.1 (λ k a b o. alike k (omega arith) b (own varying refl layer at k (inr a), o)) long));
 }
@@ -149,7 +85,7 @@ same16 f g at a b = omega arith
 
 keeps_tcp : (f g : List ℕ) (at : ℕ) → Keeps at f g (tcp_from f at) (tcp_from g at)
 keeps_tcp f g at = keeps_header at f g Tcp at _ _ _ _ (omega arith)
-    (λ e. laid_tcp_end f at (byte f (at + 12) / 16) e)
+    (λ e. lists_end f (λ _. true) refl at e)
     (λ r s fits long inside e.
     let same : byte f (at + 12) ≡ byte g (at + 12) = words inside in
     let p : ((nat_le (at + 20) (length f) && nat_le 5 (byte f (at + 12) / 16)) ≡ true) × (nat_le (at + 4 * (byte f (at + 12) / 16)) (length f) ≡ true) = and_parts _ _ e in
@@ -165,8 +101,15 @@ keeps_tcp f g at = keeps_header at f g Tcp at _ _ _ _ (omega arith)
     words : AreAlikeIn f g Tcp at → byte f (at + 12) ≡ byte g (at + 12)
     words inside = at_byte f g Tcp at 12 (at + 12) inside refl refl
 
-module _ (f g : List ℕ) (tunnel tunnel' : ℕ → Option Layout)
-    (inside_f : (at : ℕ) → IsLaid at f (tunnel at)) (inside : (at : ℕ) → Keeps at f g (tunnel at) (tunnel' at)) where
+module _ (f g : List ℕ) (tunnel tunnel' : ℕ → Option Layout) (inner : (List Layer → Bool) → Bool) (any : inner (λ _. true) ≡ true)
+    (inside_f : (test : List Layer → Bool) → inner test ≡ true → (at : ℕ) → Lists test at f (tunnel at)) (inside : (at : ℕ) → Keeps at f g (tunnel at) (tunnel' at)) where
+  any_typed : (tags : ℕ) → all_typed tags inner (λ _. true) ≡ true
+  any_typed zero = and_from _ _ any any
+  any_typed (suc tags) = and_from _ _ (any_typed tags) (and_from _ _ any any)
+
+  behind_typed : (tags at end : ℕ) → at + 2 ≡ end → Lists (λ _. true) end f (typed_from f tunnel tags at)
+  behind_typed tags at end n = subst (λ z. Lists (λ _. true) z f (typed_from f tunnel tags at)) n (lists_typed f inner tunnel inside_f tags (λ _. true) (any_typed tags) at)
+
   keeps_carried : (protocol protocol' at : ℕ) → protocol ≡ protocol' → Keeps at f g (carried_from f tunnel protocol at) (carried_from g tunnel' protocol' at)
   keeps_carried protocol protocol' at e =
       keeps_if at f g (protocol == 6) (protocol' == 6) _ _ _ _ (ap (λ z. z == 6) e) (keeps_tcp f g at)
@@ -174,7 +117,7 @@ module _ (f g : List ℕ) (tunnel tunnel' : ℕ → Option Layout)
 
   keeps_ip4 : (at : ℕ) → Keeps at f g (ip4_from f tunnel at) (ip4_from g tunnel' at)
   keeps_ip4 at = keeps_header at f g Ip4 at _ _ _ _ (omega arith)
-      (λ e. laid_carried f tunnel inside_f (byte f (at + 9)) (at + 20))
+      (λ e. lists_carried f inner tunnel inside_f (λ _. true) any (byte f (at + 9)) (at + 20))
       (λ r s fits long in_header e.
       let p : ((nat_le (at + 20) (length f) && byte f at == 0x45) ≡ true) × ((be16 f (at + 6) % 0x4000 == 0) ≡ true) = and_parts _ _ e in
       let q : (nat_le (at + 20) (length f) ≡ true) × ((byte f at == 0x45) ≡ true) = and_parts _ _ p.0 in
@@ -189,7 +132,7 @@ module _ (f g : List ℕ) (tunnel tunnel' : ℕ → Option Layout)
 
   keeps_ip6 : (at : ℕ) → Keeps at f g (ip6_from f tunnel at) (ip6_from g tunnel' at)
   keeps_ip6 at = keeps_header at f g Ip6 at _ _ _ _ (omega arith)
-      (λ e. laid_carried f tunnel inside_f (byte f (at + 6)) (at + 40))
+      (λ e. lists_carried f inner tunnel inside_f (λ _. true) any (byte f (at + 6)) (at + 40))
       (λ r s fits long in_header e.
       let p : (nat_le (at + 40) (length f) ≡ true) × ((byte f at / 16 == 6) ≡ true) = and_parts _ _ e in
       let first : byte f at ≡ byte g at = at_byte f g Ip6 at 0 at in_header refl (omega arith) in
@@ -206,7 +149,7 @@ module _ (f g : List ℕ) (tunnel tunnel' : ℕ → Option Layout)
   keeps_typed (suc tags) at e =
       keeps_if (at + 2) f g (is_tag (be16 f at)) (is_tag (be16 g at)) _ _ _ _ (ap is_tag e)
       (keeps_header (at + 2) f g Tag (at + 2) _ _ _ _ (omega arith)
-      (λ t. let n : at + 4 + 2 ≡ at + 2 + 4 = omega arith in subst (λ z. IsLaid z f (typed_from f tunnel tags (at + 4))) n (laid_typed f tunnel inside_f tags (at + 4)))
+      (λ t. behind_typed tags (at + 4) (at + 2 + 4) (omega arith))
       (λ r s fits long in_header t. le-leb (at + 2 + 4) (length g) (omega arith))
       (λ in_header.
       let n : at + 4 + 2 ≡ at + 2 + 4 = omega arith in
@@ -216,7 +159,7 @@ module _ (f g : List ℕ) (tunnel tunnel' : ℕ → Option Layout)
 
   keeps_ethernet : (at : ℕ) → Keeps at f g (ethernet_from f tunnel at) (ethernet_from g tunnel' at)
   keeps_ethernet at = keeps_header at f g Ethernet at _ _ _ _ (omega arith)
-      (λ t. let n : at + 12 + 2 ≡ at + 14 = omega arith in subst (λ z. IsLaid z f (typed_from f tunnel 2 (at + 12))) n (laid_typed f tunnel inside_f 2 (at + 12)))
+      (λ t. behind_typed 2 (at + 12) (at + 14) (omega arith))
       (λ r s fits long in_header t. le-leb (at + 14) (length g) (omega arith))
       (λ in_header.
       let n : at + 12 + 2 ≡ at + 14 = omega arith in
@@ -239,18 +182,18 @@ keeps_vxlan f g at = keeps_header at f g Udp at _ _ _ _ (omega arith)
     (λ in_vxlan.
     let n : at + 16 ≡ at + 8 + 8 = omega arith in
     subst (λ z. Keeps z f g (ethernet_from f (λ _. None) (at + 16)) (ethernet_from g (λ _. None) (at + 16))) n
-    (keeps_ethernet f g (λ _. None) (λ _. None) (λ a. laid_none a f) (λ a. keeps_none a f g None) (at + 16))))
+    (keeps_ethernet f g (λ _. None) (λ _. None) (λ _. true) refl (λ p e a. lists_none p a f) (λ a. keeps_none a f g None) (at + 16))))
   where
-    laid_innermost : IsLaid (at + 8 + 8) f (ethernet_from f (λ _. None) (at + 16))
+    laid_innermost : Lists (λ _. true) (at + 8 + 8) f (ethernet_from f (λ _. None) (at + 16))
     laid_innermost =
         let n : at + 16 ≡ at + 8 + 8 = omega arith in
-        subst (λ z. IsLaid z f (ethernet_from f (λ _. None) (at + 16))) n (laid_ethernet f (λ _. None) (λ a. laid_none a f) (at + 16))
+        subst (λ z. Lists (λ _. true) z f (ethernet_from f (λ _. None) (at + 16))) n (lists_ethernet f (λ _. true) (λ _. None) (λ p e a. lists_none p a f) (λ _. true) refl (at + 16))
 
-    laid_inner : IsLaid (at + 8) f (header Vxlan (at + 8) (vxlan_there f (at + 8)) (ethernet_from f (λ _. None) (at + 16)))
-    laid_inner = laid_header (at + 8) f Vxlan (at + 8) _ _ (omega arith) (λ t. laid_innermost)
+    laid_inner : Lists (λ _. true) (at + 8) f (header Vxlan (at + 8) (vxlan_there f (at + 8)) (ethernet_from f (λ _. None) (at + 16)))
+    laid_inner = lists_header (λ _. true) (at + 8) f Vxlan _ _ (λ t. laid_innermost)
 
 -- a frame that is alike in the headers, and holds them, has the same shape
 pub same_shape : (f g : List ℕ) (l : Layout) → shape_of f ≡ Some l → AreHeadersAlike l f g → l.payload_at ≤ length g → shape_of g ≡ Some l
 unfolding shape_of
 same_shape f g l e alike long =
-    (keeps_ethernet f g (vxlan_from f) (vxlan_from g) (laid_vxlan f) (keeps_vxlan f g) 0).at l e (λ k a b o. alike k b o) long
+    (keeps_ethernet f g (vxlan_from f) (vxlan_from g) all_tunnels refl (lists_vxlan f) (keeps_vxlan f g) 0).at l e (λ k a b o. alike k b o) long

@@ -48,13 +48,13 @@ zeroed_append xs ys o h =
     ap (λ z. set z (o + 1) 0) (set-append_left xs ys o 0 (omega arith))
     ∙ set-append_left (set xs o 0) ys (o + 1) 0 (omega (arith, length-set xs o 0))
 
-pub same_part_long : (f g : List ℕ) (at n : ℕ) → at + n ≤ length f → at + n ≤ length g → ((k : ℕ) → k < at + n → byte f k ≡ byte g k) → part f at n ≡ part g at n
+pub same_part_long : (f g : List ℕ) (at n : ℕ) → at + n ≤ length f → at + n ≤ length g → ((k : ℕ) → at ≤ k → k < at + n → byte f k ≡ byte g k) → part f at n ≡ part g at n
 same_part_long f g at n hf hg agree =
     let lf : length (part f at n) ≡ n = omega (arith, length-take n (drop at f), length-drop at f) in
     let lg : length (part g at n) ≡ n = omega (arith, length-take n (drop at g), length-drop at g) in
     ext_get_or 0 (part f at n) (part g at n) (lf ∙ sym lg) (λ i h.
     let below : i < n = omega arith in
-    get_or-take n (drop at f) i 0 below ∙ get_or-drop at f i 0 ∙ agree (at + i) (omega arith)
+    get_or-take n (drop at f) i 0 below ∙ get_or-drop at f i 0 ∙ agree (at + i) (omega arith) (omega arith)
     ∙ sym (get_or-take n (drop at g) i 0 below ∙ get_or-drop at g i 0))
 
 -- what a header carries: its first bytes with a field zero, and all behind `end`
@@ -62,7 +62,7 @@ pub zeroed_behind : (h f : List ℕ) (at o end : ℕ) → at + o + 2 ≤ end →
     → ((k : ℕ) → k < length h → byte f k ≡ byte h k)
     → put16 (part h at (end - at)) o 0 ++ drop end f ≡ put16 (drop at f) o 0
 zeroed_behind h f at o end inside fits long begins =
-    let same : part f at (end - at) ≡ part h at (end - at) = same_part_long f h at (end - at) (omega arith) (omega arith) (λ k a. begins k (omega arith)) in
+    let same : part f at (end - at) ≡ part h at (end - at) = same_part_long f h at (end - at) (omega arith) (omega arith) (λ k a b. begins k (omega arith)) in
     let size : o + 2 ≤ length (part f at (end - at)) = omega (arith, length-take (end - at) (drop at f), length-drop at f) in
     ap (λ z. put16 z o 0 ++ drop end f) (sym same)
     ∙ sym (zeroed_append (part f at (end - at)) (drop end f) o size)
@@ -125,9 +125,9 @@ joined_total h ip protocol at o end n a b behind rest inside fits addresses ea e
 same_pseudo : (h f : List ℕ) (l : Layer) (at protocol len : ℕ) → AreAddressesWithin (length h) l at → length h ≤ length f
     → ((k : ℕ) → k < length h → byte f k ≡ byte h k) → pseudo_header h l at protocol len ≡ pseudo_header f l at protocol len
 same_pseudo h f Ip4 at protocol len fits long begins =
-    ap (λ z. z ++ (0 ∷ protocol ∷ bytes16 len)) (same_part_long h f (at + 12) 8 (omega arith) (omega arith) (λ k a. sym (begins k (omega arith))))
+    ap (λ z. z ++ (0 ∷ protocol ∷ bytes16 len)) (same_part_long h f (at + 12) 8 (omega arith) (omega arith) (λ k a b. sym (begins k (omega arith))))
 same_pseudo h f Ip6 at protocol len fits long begins =
-    ap (λ z. z ++ (bytes16 (len / 65536) ++ (bytes16 (len % 65536) ++ (0 ∷ 0 ∷ 0 ∷ protocol ∷ [])))) (same_part_long h f (at + 8) 32 (omega arith) (omega arith) (λ k a. sym (begins k (omega arith))))
+    ap (λ z. z ++ (bytes16 (len / 65536) ++ (bytes16 (len % 65536) ++ (0 ∷ 0 ∷ 0 ∷ protocol ∷ [])))) (same_part_long h f (at + 8) 32 (omega arith) (omega arith) (λ k a b. sym (begins k (omega arith))))
 same_pseudo h f _ at protocol len fits long begins = refl
 
 -- all that a sum covers

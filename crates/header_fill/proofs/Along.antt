@@ -5,7 +5,7 @@ use Rattle.frame_layout.specs.Headers.{AtHeaders, size, AreLaid}
 use Rattle.frame_layout.specs.declared.layout.Header.{Header}
 use Rattle.frame_layout.specs.declared.layout.Layer.{Layer}
 use Rattle.frame_layout.specs.declared.layout.Layer.TheVariants.{Ethernet, Ip4, Ip6, Tcp}
-use Rattle.frame_layout.proofs.Shapes.{laid_end}
+use Rattle.frame_layout.proofs.Lemmas.{laid_end}
 use Rattle.offload_model.specs.Edits.{with_edits, put_sum, with_sums, put_flags, put_flags_of}
 use Rattle.header_fill.specs.Filled.{HasFlags, IsInside, AreAddressesInside, header_before}
 

@@ -4,8 +4,7 @@ use Rattle.frame_layout.specs.Headers.{AreLaid}
 use Rattle.frame_layout.specs.declared.layout.Header.{Header}
 use Rattle.frame_layout.specs.declared.layout.Layer.{Layer}
 use Rattle.frame_layout.specs.declared.layout.Layer.TheVariants.{Ip4, Ip6, Udp, Tcp}
-use Rattle.frame_layout.proofs.AtHeaders.{headers_map}
-use Rattle.frame_layout.proofs.Clear.{Outside}
+use Rattle.frame_layout.proofs.Lemmas.{headers_map, Outside}
 use Rattle.offload_model.specs.Edits.{with_lengths_and_sums}
 use Rattle.offload_model.proofs.Made.{filled, with_lengths_and_sums-leaves, with_lengths_and_sums-long, lengths_right, sums_right, udp_alike}
 use Rattle.header_fill.specs.Filled.{IsOutsideFilled, IsFilled}

@@ -12,8 +12,8 @@ use Rattle.frame_layout.specs.Candidate.{IsCandidate}
 use Rattle.frame_layout.specs.declared.layout.Header.{Header}
 use Rattle.frame_layout.specs.declared.layout.Layer.{Layer}
 use Rattle.frame_layout.specs.declared.layout.Layer.TheVariants.{Ip4, Ip6, Udp, Tcp}
-use Rattle.frame_layout.proofs.Shapes.{laid, same_shape}
-use Rattle.frame_layout.proofs.Deciding.{decides_lt, decides_le, always, decides_headers, decides_candidate, implied, decides_alike}
+use Rattle.frame_layout.proofs.Lemmas.{laid, same_shape, decides_lt, decides_le, always, decides_headers}
+use Rattle.frame_layout.proofs.Lemmas.{decides_candidate, implied, decides_alike}
 use Rattle.pcap_io.specs.Capture.{Packet}
 use Rattle.pcap_io.specs.Headers.{off_head}
 use Rattle.pcap_io.specs.declared.off_head.OffHead.{OffHead}

@@ -11,9 +11,7 @@ use Rattle.frame_layout.specs.declared.layout.Header.{Header}
 use Rattle.frame_layout.specs.declared.layout.Layer.{Layer}
 use Rattle.frame_layout.specs.declared.layout.Layer.TheVariants.{Ip4, Ip6, Udp, Tcp}
 use Rattle.inet_sum.specs.Sum.{checksum_of, not_zero}
-use Rattle.frame_layout.proofs.Clear.{Outside, own}
-use Rattle.frame_layout.proofs.Alike.{outside_all}
-use Rattle.frame_layout.proofs.Shapes.{laid_end}
+use Rattle.frame_layout.proofs.Lemmas.{Outside, own, outside_all, laid_end}
 use Rattle.net_bytes.specs.Bytes.{byte, be16, put16, part}
 use Rattle.offload_model.specs.Edits.{with_edits, put_length, put_sum, with_sums, with_lengths_and_sums}
 use Rattle.offload_model.specs.Mergeable.{AreUdpSumsAlike, IsLengthInRange}

@@ -13,7 +13,8 @@ use Rattle.offload_model.specs.Mergeable.{IsMergeable}
 use Rattle.offload_model.specs.Segments.{packet_in, with_frame, segments_of}
 use Rattle.offload_model.specs.Rounds.{is_key, is_of, is_queued, number_of, items_of, rounds_of}
 use Rattle.offload_model.specs.Written.{Options, record_of, window_of, windows_by, windows_of, round_records}
-use Rattle.offload_model.specs.CaptureLaws.{IsCaptured, AreCaptured, content, FlowsComeBack}
+use Rattle.offload_model.specs.Captured.{IsCaptured, AreCaptured, content}
+use Rattle.offload_model.specs.CaptureLaws.{FlowsComeBack}
 use Rattle.offload_model.proofs.Lists.{filter-flat_map, flat_map_none, all_filtered, all_of, all_joined, all_range, one_of_range, rounds_are, all_rounds, all_taken, near_taken, near_behind}
 use Rattle.offload_model.proofs.Items.{is_key_self, is_key_same, items_are}
 use Rattle.offload_model.proofs.RunRecords.{runs_come_back, record_key, segments_are}

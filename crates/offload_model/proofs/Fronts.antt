@@ -9,7 +9,7 @@ use Rattle.frame_layout.specs.declared.layout.Layer.{Layer}
 use Rattle.frame_layout.specs.declared.layout.Layer.TheVariants.{Ip4, Ip6, Udp}
 use Rattle.offload_model.specs.Each.{Each, EachButLast}
 use Rattle.offload_model.specs.Mergeable.{AreIdsInStep, IsLengthInRange, AreConsecutive, IsMergeable, payloads_of}
-use Rattle.frame_layout.proofs.AtHeaders.{headers_map}
+use Rattle.frame_layout.proofs.Lemmas.{headers_map}
 use Rattle.pcap_io.specs.Capture.{Packet}
 
 pub each_front : {X : Type 0} (P : ℕ → X → Type 0) (xs ys : List X) → Each P (xs ++ ys) → Each P xs

@@ -3,8 +3,7 @@ use Rattle.std.proofs.Common.{◌≡◌, ℕ, zero, suc, ◌+◌, ◌-◌, ◌*�
 use Rattle.std.specs.List.{flat_map}
 use Rattle.std.proofs.lemmas.List.{ext_get_or, length-drop, get_or-drop, take_all, take_at, drop-drop, drop_at, append-nil}
 use Rattle.std.proofs.lemmas.Bool.{cases_eq, cases_lt}
-use Rattle.frame_layout.proofs.AtHeaders.{headers_map2}
-use Rattle.frame_layout.proofs.Clear.{Outside, IsIn, clear_or_in}
+use Rattle.frame_layout.proofs.Lemmas.{headers_map2, Outside, IsIn, clear_or_in}
 use Rattle.offload_model.proofs.Fields.{be16_bytes, be32_bytes}
 use Rattle.offload_model.proofs.Determined.{Agree, same_sums}
 use Rattle.frame_layout.specs.Candidate.{IsLengthRight, AreSumsRight, IsCandidate}

@@ -2,9 +2,7 @@
 use Rattle.std.proofs.Common.{◌≡◌, ℕ, suc, ◌+◌, ◌-◌, ◌*◌, ◌<◌, ◌≤◌, inl, inr, Some, List, [], ◌∷◌, length, get_or, drop, refl, sym, ap, ◌∙◌, subst, arith, length-append}
 use Rattle.std.specs.List.{flat_map}
 use Rattle.std.proofs.lemmas.List.{length-drop}
-use Rattle.frame_layout.proofs.Shapes.{laid, same_shape}
-use Rattle.frame_layout.proofs.AtHeaders.{headers_map4}
-use Rattle.frame_layout.proofs.Alike.{IsAlikeAt, alike_at, alike_byte}
+use Rattle.frame_layout.proofs.Lemmas.{laid, same_shape, headers_map4, IsAlikeAt, alike_at, alike_byte}
 use Rattle.frame_layout.specs.Candidate.{IsCandidate, AreFlagsPlain}
 use Rattle.frame_layout.specs.Headers.{AtHeaders, AreHeadersAlike, AreLaid}
 use Rattle.frame_layout.specs.Shape.{Layout, shape_of}

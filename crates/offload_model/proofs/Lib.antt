@@ -22,3 +22,6 @@ pub mod Flows
 pub mod Captured
 pub mod ReadBack
 pub mod WrittenBack
+pub mod OneQueue
+mod FlowLists
+pub mod ComesBack

@@ -16,7 +16,7 @@ use Rattle.pcap_io.specs.declared.heads.FileHead.{FileHead}
 use Rattle.pcap_io.specs.declared.heads.Link.TheVariants.{Offload}
 use Rattle.pcap_io.proofs.RecordLaws.{records_none, records_whole}
 use Rattle.offload_model.specs.Written.{record_bytes}
-use Rattle.offload_model.specs.CaptureLaws.{numbered}
+use Rattle.offload_model.specs.Tested.{numbered}
 
 -- ---- one record
 

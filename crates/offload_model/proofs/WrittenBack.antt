@@ -15,7 +15,9 @@ use Rattle.offload_model.specs.Segments.{packet_in, merged_in, with_frame, frame
 use Rattle.offload_model.specs.Tests.{is_lawful_record}
 use Rattle.offload_model.specs.Rounds.{is_of, is_queued, items_of, rounds_of}
 use Rattle.offload_model.specs.Written.{Options, head_of, record_of, window_of, window_record, windows_by, windows_of, round_records, records_of, record_bytes, written}
-use Rattle.offload_model.specs.CaptureLaws.{IsCaptured, AreCaptured, AreLawful, numbered, tested_from, content, ReadsBack, HeadReadsBack, WrittenComesBack}
+use Rattle.offload_model.specs.Captured.{IsCaptured, AreCaptured, AreLawful, content}
+use Rattle.offload_model.specs.Tested.{numbered, tested_from}
+use Rattle.offload_model.specs.CaptureLaws.{ReadsBack, HeadReadsBack, WrittenComesBack}
 use Rattle.offload_model.proofs.Decides.{decides_record}
 use Rattle.offload_model.proofs.Lists.{all_filtered, all_of, all_joined, all_range}
 use Rattle.offload_model.proofs.Opened.{opened_head, length-off_bytes}

@@ -1,51 +1,26 @@
 -- The laws of merging and segmenting, of a whole capture.
-use Rattle.std.specs.Prelude.{◌≡◌, ℕ, ◌+◌, ◌^◌, ◌<◌, ◌≤◌, ◌⊎◌, ◌↔◌, if◌then◌else◌, Option, Some, None, List, [], ◌∷◌, length, map, take}
+use Rattle.std.specs.Prelude.{◌≡◌, ℕ, ◌+◌, ◌^◌, ◌<◌, ◌≤◌, ◌⊎◌, ◌↔◌, Option, None, List, length, map, take}
 use Rattle.std.specs.List.{AllByRecursion, filter, flat_map}
 use Rattle.maximal_runs.specs.Cut.{AllNeighbours}
 use Rattle.maximal_runs.specs.Items.{AreItems}
-use Rattle.pcap_io.specs.Capture.{Packet, Found, ended, one_more, reads}
+use Rattle.pcap_io.specs.Capture.{Packet, Found, reads}
 use Rattle.pcap_io.specs.Headers.{off_head, file_head}
 use Rattle.pcap_io.specs.declared.heads.FileHead.{FileHead}
 use Rattle.pcap_io.specs.declared.heads.Link.TheVariants.{Ethernet, Offload}
-use Rattle.pcap_io.specs.declared.faults.CapFault.{CapFault}
-use Rattle.pcap_io.specs.declared.faults.CapKind.TheVariants.{BadOffload}
 use Rattle.offload_model.specs.Mergeable.{IsMergeable}
 use Rattle.offload_model.specs.Merged.{merged_of}
 use Rattle.offload_model.specs.Segments.{packet_in, segments_of, IsLawfulSuper}
-use Rattle.offload_model.specs.Tests.{is_lawful_record}
-use Rattle.offload_model.specs.Rounds.{is_of, is_queued, number_of, items_of}
+use Rattle.offload_model.specs.Rounds.{is_of, is_queued, number_of, items_of, runs_in}
 use Rattle.offload_model.specs.Written.{Options, record_of, records_of, written}
+use Rattle.offload_model.specs.Captured.{IsCaptured, AreCaptured, AreLawful, content}
+use Rattle.offload_model.specs.Tested.{numbered, reads_tested, segmented_of}
 use Rattle.offload_model.specs.Laws.{InBytes}
-
--- ---- premises: what a capture of Ethernet frames holds, and the options that there are
-
-pub record IsCaptured (p : Packet) : Type 0 where
-  pub number : p.number < 2 ^ 32
-  pub sec : p.sec < 2 ^ 32
-  pub frac : p.frac < 2 ^ 32
-  pub original : p.original < 2 ^ 31
-  pub short : length p.frame ≤ 262144
-  pub in_bytes : InBytes p.frame
-
-pub record AreCaptured (ps : List Packet) : Type 0 where
-  pub each : AllByRecursion IsCaptured ps
-  pub rising : AllNeighbours (λ p q. p.number < q.number) ps
-
-pub record AreLawful (o : Options) : Type 0 where
-  pub budget : 1 ≤ o.budget
-  pub some : 1 ≤ o.queues
-  pub queues : o.queues ≤ 64
-  pub taps : o.taps ≤ 8
 
 -- the packets of a capture of link type 1
 abbrev pub CapturesAreCaptured : Type 0
 CapturesAreCaptured = (bytes : List ℕ) → InBytes bytes → AreCaptured (reads Ethernet bytes).packets
 
 -- ---- runs
-
--- what comes back of a packet: its bytes and its original length
-abbrev pub content : Packet → ℕ × List ℕ
-content p = (p.original, p.frame)
 
 -- the segments of a run's record are the run's packets, in order
 abbrev pub RunsComeBack : Type 0
@@ -74,6 +49,10 @@ ItemsAreRuns =
     → AllNeighbours (λ p q. p.number < q.number) ps
     → AreItems IsMergeable is_of number_of (filter (is_queued queues q) ps) items ↔ (items ≡ items_of queues q ps)
 
+-- where there is one queue, it has all flows
+abbrev pub OneQueueHasAll : Type 0
+OneQueueHasAll = (packets : List Packet) → items_of 1 0 packets ≡ runs_in packets
+
 -- over a whole capture every flow comes back: the segments of the records whose frames have a key are the packets that have
 -- it, in order
 abbrev pub FlowsComeBack : Type 0
@@ -85,23 +64,6 @@ FlowsComeBack =
     → map content (flat_map segments_of (filter (λ r. is_of key (packet_in r)) (records_of o ps))) ≡ map content (filter (is_of key) ps)
 
 -- ---- the bytes that are written
-
--- packets with the numbers from n on
-abbrev pub numbered : ℕ → List Packet → List Packet
-numbered n [] = []
-numbered n (r ∷ rs) = record { number = n; sec = r.sec; frac = r.frac; original = r.original; frame = r.frame } ∷ numbered (n + 1) rs
-
--- a capture of link type 147 with each whole record tested too, which begin at this offset: the first one that isn't lawful
--- ends it
-abbrev pub tested_from : ℕ → List Packet → Option CapFault → Found
-tested_from offset [] fault = ended fault
-tested_from offset (r ∷ rs) fault =
-    if is_lawful_record r
-    then one_more r (tested_from (offset + 16 + length r.frame) rs fault)
-    else ended (Some (record { kind = BadOffload; offset = offset; number = r.number }))
-
-abbrev pub reads_tested : List ℕ → Found
-reads_tested bytes = tested_from 24 (reads Offload bytes).packets (reads Offload bytes).fault
 
 -- the bytes that are written read as the records that they were written from, to the end, and each record is lawful. The fields
 -- of the file header are passed on
@@ -130,3 +92,26 @@ WrittenComesBack =
     → length (records_of o ps) ≤ 2 ^ 32
     → (key : Option (List ℕ))
     → map content (flat_map segments_of (filter (λ r. is_of key (packet_in r)) (reads_tested (written head o ps)).packets)) ≡ map content (filter (is_of key) ps)
+
+-- ---- segmenting what merging wrote, in bytes
+
+-- a capture of packets of which each flow's are the given ones, in order, with their bytes and original lengths; and it has
+-- its end
+pub record BringsBack (ps : List Packet) (back : Found) : Type 0 where
+  pub whole : back.fault ≡ None
+  pub flows : (key : Option (List ℕ)) → map content (filter (is_of key) back.packets) ≡ map content (filter (is_of key) ps)
+
+-- the bytes that merging writes of packets are cut back into bytes that read as a capture of these packets, flow by flow
+abbrev pub CapturesComeBack : Type 0
+CapturesComeBack =
+    (head : FileHead) (o : Options) (ps : List Packet)
+    → head.zone < 2 ^ 32
+    → head.sigfigs < 2 ^ 32
+    → AreLawful o
+    → AreCaptured ps
+    → length (records_of o ps) ≤ 2 ^ 32
+    → BringsBack ps (reads Ethernet (segmented_of (written head o ps)))
+
+-- without taps there are no more records than packets, and these have numbers of 32 bits
+abbrev pub RecordsAreFew : Type 0
+RecordsAreFew = (o : Options) (ps : List Packet) → AreLawful o → AreCaptured ps → o.taps ≡ 0 → length (records_of o ps) ≤ 2 ^ 32

@@ -8,5 +8,7 @@ pub mod Tests
 pub mod Rounds
 pub mod Written
 pub mod Laws
+pub mod Captured
+pub mod Tested
 pub mod CaptureLaws
 pub mod Rows

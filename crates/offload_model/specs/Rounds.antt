@@ -37,6 +37,10 @@ is_queued queues q p = queue_of (key_of p.frame) queues == q
 abbrev pub number_of : Packet → ℕ
 number_of p = p.number
 
--- the runs of all flows of queue q, in the order of their first packets' numbers
+-- the runs of all flows of some packets, in the order of their first packets' numbers
+abbrev pub runs_in : List Packet → List (List Packet)
+runs_in ps = runs_of is_mergeable is_of key_in number_of ps
+
+-- those of queue q
 abbrev pub items_of : ℕ → ℕ → List Packet → List (List Packet)
-items_of queues q ps = runs_of is_mergeable is_of key_in number_of (filter (is_queued queues q) ps)
+items_of queues q ps = runs_in (filter (is_queued queues q) ps)

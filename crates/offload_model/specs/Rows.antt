@@ -12,7 +12,7 @@ use Rattle.offload_model.specs.Segments.{with_head, segments_of}
 use Rattle.offload_model.specs.Tests.{is_lawful_record}
 use Rattle.offload_model.specs.Rounds.{items_of}
 use Rattle.offload_model.specs.Written.{Options, records_of, written}
-use Rattle.offload_model.specs.CaptureLaws.{content}
+use Rattle.offload_model.specs.Captured.{content}
 
 -- ---- frames
 

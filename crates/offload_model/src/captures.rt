@@ -1,5 +1,6 @@
 //! A whole capture: its rounds, the records that are written, and what comes back of them.
 ghost use Rattle.offload_model.specs.CaptureLaws.{CapturesAreCaptured, RunsComeBack, RunsAreLawful, ItemsAreRuns, FlowsComeBack, ReadsBack, HeadReadsBack, WrittenComesBack};
+ghost use Rattle.offload_model.specs.CaptureLaws.{OneQueueHasAll, CapturesComeBack, RecordsAreFew};
 
 /// The packets of a capture of Ethernet frames meet what the laws below ask of packets.
 pub fn captures_are_captured()
@@ -42,4 +43,20 @@ pub fn head_reads_back()
 /// The segments of the records that are read from the written bytes bring every flow back.
 pub fn written_comes_back()
     ensures law { WrittenComesBack }
+{}
+
+/// Where there is one queue, its items are what all runs come to.
+pub fn one_queue_has_all()
+    ensures law { OneQueueHasAll }
+{}
+
+/// Whatever merging writes of a capture's packets, segmenting it gives a capture in which each flow's packets are those of
+/// the first one, in order, byte for byte and with their original lengths.
+pub fn captures_come_back()
+    ensures law { CapturesComeBack }
+{}
+
+/// Where there are no taps, the records that merging writes are few enough to be read again.
+pub fn records_are_few()
+    ensures law { RecordsAreFew }
 {}

@@ -10,11 +10,11 @@ use Rattle.pcap_io.specs.Headers.{file_head, order_of}
 use Rattle.pcap_io.specs.Capture.{Packet, reads}
 use Rattle.offload_model.specs.Laws.{InBytes}
 use Rattle.offload_model.specs.Written.{written}
-use Rattle.offload_model.specs.CaptureLaws.{AreCaptured, AreLawful}
+use Rattle.offload_model.specs.Captured.{AreCaptured, AreLawful}
 use Rattle.offload_model.proofs.Captured.{number_small, captures_are_captured}
-use Rattle.segment_run.specs.Output.{output_of}
-use Rattle.segment_run.specs.Laws.{BringsBack}
-use Rattle.segment_run.proofs.ComesBack.{captures_come_back, records_are_few}
+use Rattle.offload_model.specs.Tested.{segmented_of}
+use Rattle.offload_model.specs.CaptureLaws.{BringsBack}
+use Rattle.offload_model.proofs.ComesBack.{captures_come_back, records_are_few}
 use Rattle.offload_run.specs.Laws.{EveryFlowComesBack}
 use Rattle.offload_run.specs.Output.{options, merged}
 
@@ -36,7 +36,7 @@ every_flow_comes_back budget given room bytes header =
     let lawful : AreLawful (options budget) = record { budget = room; some = omega arith; queues = omega arith; taps = omega arith } in
     let is : merged budget given ≡ written head (options budget) ps
     = ap (λ (r : Option CapKind). if is_some r then [] else written head (options budget) ps) header in
-    subst (λ xs. BringsBack ps (reads Ethernet (output_of xs))) (sym is)
+    subst (λ xs. BringsBack ps (reads Ethernet (segmented_of xs))) (sym is)
     (captures_come_back head (options budget) ps
     (number_small (order_of (take 24 given)) (drop 8 (take 24 given)) (small_drop 8 (take 24 given) front))
     (number_small (order_of (take 24 given)) (drop 12 (take 24 given)) (small_drop 12 (take 24 given) front))

@@ -16,8 +16,9 @@ use Rattle.offload_model.specs.Written.{record_of, record_bytes}
 use Rattle.round_merge.specs.declared.item.Item.{Item}
 use Rattle.round_merge.specs.declared.packet.Packet.{Packet as Read}
 use Rattle.round_merge.specs.Runs.{packet_of}
-use Rattle.round_merge.specs.Round.{item_of, runs_in}
-use Rattle.round_merge.proofs.OneQueue.{one_queue}
+use Rattle.offload_model.specs.Rounds.{runs_in}
+use Rattle.round_merge.specs.Round.{item_of}
+use Rattle.offload_model.proofs.OneQueue.{one_queue}
 use Rattle.offload_run.specs.Output.{item_bytes, round_bytes}
 
 -- three writes, of which the last one's answer is handed on

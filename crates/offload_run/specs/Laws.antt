@@ -3,8 +3,8 @@ use Rattle.std.specs.Prelude.{ℕ, ◌≤◌, List}
 use Rattle.pcap_io.specs.declared.heads.Link.TheVariants.{Ethernet}
 use Rattle.pcap_io.specs.Capture.{reads}
 use Rattle.offload_model.specs.Laws.{InBytes}
-use Rattle.segment_run.specs.Output.{output_of}
-use Rattle.segment_run.specs.Laws.{BringsBack}
+use Rattle.offload_model.specs.Tested.{segmented_of}
+use Rattle.offload_model.specs.CaptureLaws.{BringsBack}
 use Rattle.offload_run.specs.Merging.{HasFileHead}
 use Rattle.offload_run.specs.Output.{merged}
 
@@ -16,4 +16,4 @@ EveryFlowComesBack =
     → 1 ≤ budget
     → InBytes given
     → HasFileHead given
-    → BringsBack (reads Ethernet given).packets (reads Ethernet (output_of (merged budget given)))
+    → BringsBack (reads Ethernet given).packets (reads Ethernet (segmented_of (merged budget given)))

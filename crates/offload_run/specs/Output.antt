@@ -10,7 +10,7 @@ use Rattle.offload_model.specs.Merged.{Merged}
 use Rattle.offload_model.specs.Segments.{with_head, packet_in, segments_of}
 use Rattle.offload_model.specs.Rounds.{rounds_of, is_of}
 use Rattle.offload_model.specs.Written.{Options, head_of, round_records, records_of, record_bytes, written}
-use Rattle.offload_model.specs.CaptureLaws.{content}
+use Rattle.offload_model.specs.Captured.{content}
 use Rattle.offload_model.specs.Laws.{InBytes}
 
 -- how a capture is merged: in rounds of `budget` records, in one queue, with no tap

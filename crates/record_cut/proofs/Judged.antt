@@ -10,8 +10,7 @@ use Rattle.frame_layout.specs.Shape.{Layout, shape_of}
 use Rattle.frame_layout.specs.Headers.{AtHeaders, size, AreLaid}
 use Rattle.frame_layout.specs.Segment.{IsSeg, IsSegOf}
 use Rattle.frame_layout.specs.declared.segment.Seg.{Seg}
-use Rattle.frame_layout.proofs.AtHeaders.{headers_map}
-use Rattle.frame_layout.proofs.Shapes.{laid}
+use Rattle.frame_layout.proofs.Lemmas.{headers_map, laid}
 use Rattle.pcap_io.specs.Capture.{Packet, packet}
 use Rattle.pcap_io.specs.declared.off_head.OffHead.{OffHead}
 use Rattle.offload_model.specs.Frames.{segment_frame}

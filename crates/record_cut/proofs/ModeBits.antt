@@ -9,7 +9,7 @@ use Rattle.frame_layout.specs.declared.layout.Layer.{Layer}
 use Rattle.frame_layout.specs.declared.layout.Layer.TheVariants.{Ethernet, Tag, Ip4, Ip6, Udp, Vxlan, Tcp}
 use Rattle.offload_model.specs.Merged.{modes_at, modes_of, fixed_at, is_fixed}
 use Rattle.offload_model.specs.Segments.{IsModeLawful}
-use Rattle.frame_layout.proofs.AtHeaders.{headers_map2}
+use Rattle.frame_layout.proofs.Lemmas.{headers_map2}
 use Rattle.record_cut.specs.Modes.{is_bit_lawful, modes_behind, are_bits_lawful}
 
 -- what `IsModeLawful` says, of any test of places

@@ -10,9 +10,7 @@ use Rattle.frame_layout.specs.Candidate.{IsLengthRight}
 use Rattle.frame_layout.specs.declared.layout.Header.{Header}
 use Rattle.frame_layout.specs.declared.layout.Layer.{Layer}
 use Rattle.frame_layout.specs.declared.layout.Layer.TheVariants.{Ip4, Ip6, Udp}
-use Rattle.frame_layout.proofs.Shapes.{laid_end}
-use Rattle.frame_layout.proofs.Bounds.{IsPlaced, placed}
-use Rattle.frame_layout.proofs.AtHeaders.{headers_map}
+use Rattle.frame_layout.proofs.Lemmas.{laid_end, IsPlaced, placed, headers_map}
 use Rattle.offload_model.specs.Mergeable.{IsLengthInRange}
 use Rattle.offload_model.specs.Merged.{is_fixed}
 use Rattle.offload_model.proofs.Filled.{Small}

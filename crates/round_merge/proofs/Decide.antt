@@ -14,9 +14,7 @@ use Rattle.frame_layout.specs.Candidate.{IsCandidate}
 use Rattle.frame_layout.specs.declared.layout.Header.{Header}
 use Rattle.frame_layout.specs.declared.layout.Layer.{Layer}
 use Rattle.frame_layout.specs.declared.layout.Layer.TheVariants.{Ip4, Ip6}
-use Rattle.frame_layout.proofs.AtHeaders.{headers_map, headers_map3}
-use Rattle.frame_layout.proofs.Deciding.{decides_headers}
-use Rattle.frame_layout.proofs.Shapes.{laid}
+use Rattle.frame_layout.proofs.Lemmas.{headers_map, headers_map3, decides_headers, laid}
 use Rattle.pcap_io.specs.Capture.{Packet}
 use Rattle.offload_model.specs.Each.{Each}
 use Rattle.offload_model.specs.Mergeable.{AreUdpSumsAlike, IsSequenceBehind, AreIdsInStep, IsLengthInRange, payloads_of}

@@ -16,8 +16,10 @@ use Rattle.offload_model.proofs.Fronts.{fronts_too}
 use Rattle.offload_model.proofs.Items.{items_are, is_key_self}
 use Rattle.round_merge.specs.declared.packet.Packet.{Packet as Held}
 use Rattle.round_merge.specs.Runs.{packet_of}
-use Rattle.round_merge.specs.Round.{AreRising, runs_in, OneQueueHasAll}
-use Rattle.round_merge.proofs.OneQueue.{all_queued, one_queue}
+use Rattle.offload_model.specs.Rounds.{runs_in}
+use Rattle.offload_model.specs.CaptureLaws.{OneQueueHasAll}
+use Rattle.round_merge.specs.Round.{AreRising}
+use Rattle.offload_model.proofs.OneQueue.{all_queued, one_queue}
 use Rattle.round_merge.specs.Table.{TakesPacket, KeepsEarly}
 
 -- the packets before one have smaller numbers

@@ -8,8 +8,7 @@ use Rattle.frame_layout.specs.Headers.{AtHeaders, all_headers, varying, IsOutsid
 use Rattle.frame_layout.specs.declared.layout.Header.{Header}
 use Rattle.frame_layout.specs.declared.layout.Layer.{Layer}
 use Rattle.frame_layout.specs.declared.layout.Layer.TheVariants.{Ip4, Ip6}
-use Rattle.frame_layout.proofs.Clear.{each_layer}
-use Rattle.frame_layout.proofs.Shapes.{laid_end}
+use Rattle.frame_layout.proofs.Lemmas.{each_layer, laid_end}
 use Rattle.offload_model.specs.Merged.{modes_at, modes_of}
 use Rattle.round_merge.specs.Next.{AreSame, fields_at, varying_in, AreAlikeFrom, AreApart, AreInside}
 

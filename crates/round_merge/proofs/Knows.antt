@@ -14,15 +14,12 @@ use Rattle.frame_layout.specs.Candidate.{IsCandidate, IsLengthRight}
 use Rattle.frame_layout.specs.declared.layout.Header.{Header}
 use Rattle.frame_layout.specs.declared.layout.Layer.{Layer}
 use Rattle.frame_layout.specs.declared.layout.Layer.TheVariants.{Ip4, Ip6, Udp, Tcp}
-use Rattle.frame_layout.proofs.Shapes.{laid, same_shape}
-use Rattle.frame_layout.proofs.Bounds.{bounds}
-use Rattle.frame_layout.proofs.Networks.{counts}
+use Rattle.frame_layout.proofs.Lemmas.{laid, same_shape, bounds, counts, headers_all, headers_map}
 use Rattle.pcap_io.specs.Capture.{Packet}
 use Rattle.offload_model.specs.Mergeable.{AreUdpSumsAlike, IsAckAlone, IsSequenceBehind, AreIdsInStep, IsLengthInRange, AreConsecutive, IsMergeable, payloads_of}
 use Rattle.offload_model.specs.Merged.{frame_at, is_fixed_in, modes_of}
 use Rattle.header_fill.specs.Filled.{HasFlags}
 use Rattle.offload_model.specs.Tests.{is_ack_alone}
-use Rattle.frame_layout.proofs.AtHeaders.{headers_all, headers_map}
 use Rattle.offload_model.proofs.Decides.{decides_acks}
 use Rattle.offload_model.proofs.Ranges.{in_range as range_bounds}
 use Rattle.offload_model.proofs.Grows.{Continues, grows, grown, each_push, each_last}

@@ -5,4 +5,3 @@ mod Steps
 mod Index
 mod Gather
 mod Merge
-pub mod OneQueue

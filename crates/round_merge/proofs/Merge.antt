@@ -7,7 +7,7 @@ use Rattle.inet_sum.specs.Stands.{FoldAndLength, StandsFor}
 use Rattle.frame_layout.specs.Shape.{Layout}
 use Rattle.frame_layout.specs.Headers.{AtHeaders, AreLaid}
 use Rattle.frame_layout.specs.declared.layout.Header.{Header}
-use Rattle.frame_layout.proofs.Shapes.{laid}
+use Rattle.frame_layout.proofs.Lemmas.{laid}
 use Rattle.pcap_io.specs.Capture.{Packet}
 use Rattle.offload_model.specs.Mergeable.{IsLengthInRange, payloads_of}
 use Rattle.offload_model.specs.Frames.{merged_frame}

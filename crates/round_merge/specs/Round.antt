@@ -2,10 +2,6 @@
 use Rattle.std.specs.Prelude.{◌≡◌, ◌^◌, ◌<◌, ◌≤◌, List, ◌++◌, length, drop, All, ℕ}
 use Rattle.std.specs.List.{flat_map}
 use Rattle.maximal_runs.specs.Cut.{AllNeighbours}
-use Rattle.maximal_runs.specs.Items.{items_of as all_runs}
-use Rattle.pcap_io.specs.Capture.{Packet}
-use Rattle.offload_model.specs.Tests.{is_mergeable}
-use Rattle.offload_model.specs.Rounds.{key_in, is_of, number_of, items_of}
 use Rattle.offload_model.specs.Merged.{Merged}
 use Rattle.round_merge.specs.declared.packet.Packet.{Packet as Held}
 use Rattle.round_merge.specs.declared.item.Item.{Item}
@@ -13,14 +9,6 @@ use Rattle.round_merge.specs.declared.item.Item.{Item}
 -- the packets stand in the order of their numbers
 abbrev pub AreRising : List Held → Type 0
 AreRising packets = AllNeighbours (λ p q. p.number < q.number) packets
-
--- the runs of all flows of some packets, in the order of their first packets' numbers
-abbrev pub runs_in : List Packet → List (List Packet)
-runs_in packets = all_runs is_mergeable is_of key_in number_of packets
-
--- where there is one queue, it has all flows
-abbrev pub OneQueueHasAll : Type 0
-OneQueueHasAll = (packets : List Packet) → items_of 1 0 packets ≡ runs_in packets
 
 -- an item's frame: the first frame, whose headers were edited, and then the payloads of the other packets
 abbrev pub frame_of : Item → List ℕ

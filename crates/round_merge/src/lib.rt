@@ -17,7 +17,8 @@
 ghost use Rattle.std.specs.Prelude.{◌≡◌, ◌≤◌, length, map, IfOk, All};
 ghost use Rattle.offload_model.specs.Merged.{merged_of};
 ghost use Rattle.round_merge.specs.Runs.{packet_of, IsShort, IsRun};
-ghost use Rattle.round_merge.specs.Round.{AreRising, runs_in, item_of, IsWritable, OneQueueHasAll};
+ghost use Rattle.offload_model.specs.Rounds.{runs_in};
+ghost use Rattle.round_merge.specs.Round.{AreRising, item_of, IsWritable};
 
 mod alike;
 mod candidate;
@@ -47,8 +48,3 @@ pub fn merge_round(alloc: Global, packets: Vec<Packet>) -> Result<Vec<Item>, All
     }
     Ok(items)
 }
-
-/// Where there is one queue, its items are what all runs come to.
-pub fn one_queue_has_all()
-    ensures law { OneQueueHasAll }
-{}

@@ -2,7 +2,8 @@
 ghost use Rattle.std.specs.Prelude.{◌≡◌, ◌≤◌, ◌<◌, ◌++◌, ◌∷◌, [], Some, length, map, OnOk, IfOk, All};
 ghost use Rattle.frame_layout.specs.Key.{key_of};
 ghost use Rattle.round_merge.specs.Runs.{packet_of, packets_of, IsJudged, IsShort, AreRuns};
-ghost use Rattle.round_merge.specs.Round.{AreRising, runs_in};
+ghost use Rattle.offload_model.specs.Rounds.{runs_in};
+ghost use Rattle.round_merge.specs.Round.{AreRising};
 ghost use Rattle.round_merge.specs.Table.{found_in, PutsIn, IsTable, TakesPacket, KeepsEarly};
 
 use crate::Packet;

@@ -23,7 +23,7 @@ use Rattle.pcap_io.specs.Places.{IsReady, found_at}
 use Rattle.pcap_io.specs.Reading.{Loses}
 use Rattle.offload_model.specs.Segments.{segments_of}
 use Rattle.offload_model.specs.Tests.{is_lawful_record}
-use Rattle.offload_model.specs.CaptureLaws.{tested_from}
+use Rattle.offload_model.specs.Tested.{tested_from}
 use Rattle.offload_model.specs.Written.{record_bytes}
 use Rattle.segment_run.specs.declared.end.End.{End}
 use Rattle.segment_run.specs.declared.end.End.TheVariants.{Done, Malformed, ReadFault, WriteFault}

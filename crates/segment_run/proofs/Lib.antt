@@ -4,5 +4,3 @@ mod Judging
 mod Owed
 mod Ahead
 mod Whole
-mod FlowLists
-pub mod ComesBack

@@ -22,11 +22,12 @@ use Rattle.pcap_io.specs.Capture.{Found, reads, found_after, records_from}
 use Rattle.pcap_io.specs.Places.{found_at, first_place}
 use Rattle.pcap_io.specs.Reading.{GivesFile}
 use Rattle.pcap_io.specs.Written.{file_bytes}
-use Rattle.offload_model.specs.CaptureLaws.{tested_from, reads_tested}
+use Rattle.offload_model.specs.Tested.{tested_from, reads_tested}
 use Rattle.offload_model.specs.Written.{segmented}
 use Rattle.segment_run.specs.declared.end.End.{End}
 use Rattle.segment_run.specs.declared.end.End.TheVariants.{Done, Malformed, ReadFault, WriteFault, NoMemory}
-use Rattle.segment_run.specs.Output.{tested_at, output_at, output_of}
+use Rattle.offload_model.specs.Tested.{segmented_of}
+use Rattle.segment_run.specs.Output.{tested_at, output_at}
 use Rattle.segment_run.specs.Segmenting.{Segments, Flushes, SegmentAnswers, IsEndFor}
 
 reads_is : (file : FileHead) (given rest : List ℕ) → GivesFile Offload (Ok file) given rest → reads Offload given ≡ found_at (first_place file Offload 0) rest
@@ -38,7 +39,7 @@ reads_is file given rest gives =
 tested_is : (file : FileHead) (given rest : List ℕ) → GivesFile Offload (Ok file) given rest → reads_tested given ≡ tested_at (first_place file Offload 0) rest
 tested_is file given rest gives = ap (λ (f : Found). tested_from 24 f.packets f.fault) (reads_is file given rest gives)
 
-output_is : (file : FileHead) (given rest : List ℕ) → GivesFile Offload (Ok file) given rest → output_of given ≡ file_bytes file Ethernet ++ output_at (first_place file Offload 0) rest
+output_is : (file : FileHead) (given rest : List ℕ) → GivesFile Offload (Ok file) given rest → segmented_of given ≡ file_bytes file Ethernet ++ output_at (first_place file Offload 0) rest
 output_is file given rest gives =
     let whole = segmented (file_head (take 24 given)) (reads_tested given).packets in
     let lawful = ap (λ (r : Option CapKind). if is_some r then [] else whole) gives.1 in
@@ -58,7 +59,7 @@ file_again file given rest more gives =
     )
 
 -- where a file header is refused nothing is written
-output_none : (given : List ℕ) (kind : CapKind) → first_that_holds (file_refusals Offload (take 24 given)) ≡ Some kind → output_of given ≡ []
+output_none : (given : List ℕ) (kind : CapKind) → first_that_holds (file_refusals Offload (take 24 given)) ≡ Some kind → segmented_of given ≡ []
 output_none given kind refused =
     ap (λ (r : Option CapKind). if is_some r then [] else segmented (file_head (take 24 given)) (reads_tested given).packets) refused
 
@@ -99,7 +100,7 @@ behind file given rest gone left gives split =
 
 front_of : (h h1 h2 : Option (List ℕ)) (file : FileHead) (given rest left : List ℕ) → Appends h h1 (file_bytes file Ethernet) → GivesFile Offload (Ok file) given rest
     → (gone : List ℕ) × (rest ≡ gone ++ left) × AppendsFront h1 h2 (output_at (first_place file Offload 0) gone)
-    → (gone : List ℕ) × (given ≡ gone ++ left) × AppendsFront h h2 (output_of gone)
+    → (gone : List ℕ) × (given ≡ gone ++ left) × AppendsFront h h2 (segmented_of gone)
 front_of h h1 h2 file given rest left head gives cut =
     let gone = take 24 given ++ cut.0 in
     let again = file_again file given rest cut.0 gives in (

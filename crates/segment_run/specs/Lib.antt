@@ -1,4 +1,3 @@
 pub mod Records
 pub mod Output
 pub mod Segmenting
-pub mod Laws

@@ -12,7 +12,7 @@ use Rattle.pcap_io.specs.Headers.{first_that_holds, file_refusals, file_head}
 use Rattle.pcap_io.specs.Places.{found_at}
 use Rattle.offload_model.specs.Segments.{segments_of}
 use Rattle.offload_model.specs.Tests.{is_lawful_record}
-use Rattle.offload_model.specs.CaptureLaws.{tested_from, reads_tested}
+use Rattle.offload_model.specs.Tested.{tested_from, reads_tested}
 use Rattle.offload_model.specs.Written.{record_bytes, segmented}
 use Rattle.record_cut.specs.declared.cut.Cut.{Cut}
 use Rattle.record_cut.specs.declared.lawful.Plan.{Plan}
@@ -51,12 +51,6 @@ tested_at place bytes = tested_from place.offset (found_at place bytes).packets 
 -- what is written of the records that these bytes hold from a place on
 abbrev pub output_at : Place → List ℕ → List ℕ
 output_at place bytes = records_bytes place.file.order (flat_map segments_of (tested_at place bytes).packets)
-
--- what is written of a capture: nothing where its file header is refused
-abbrev pub output_of : List ℕ → List ℕ
-output_of given =
-    if is_some (first_that_holds (file_refusals Offload (take 24 given))) then [] else
-    segmented (file_head (take 24 given)) (reads_tested given).packets
 
 -- what is written of one record
 abbrev pub WritesRecord : Order → Packet → Option (List ℕ) → Option (List ℕ) → Result (Unit {0}) Refused → Type 0

@@ -11,10 +11,10 @@ use Rattle.pcap_io.specs.declared.heads.RecHead.{RecHead}
 use Rattle.pcap_io.specs.declared.heads.Link.TheVariants.{Offload}
 use Rattle.pcap_io.specs.Headers.{first_that_holds, file_refusals}
 use Rattle.pcap_io.specs.Reading.{Loses}
-use Rattle.offload_model.specs.CaptureLaws.{reads_tested}
+use Rattle.offload_model.specs.Tested.{reads_tested, segmented_of}
 use Rattle.segment_run.specs.declared.end.End.{End}
 use Rattle.segment_run.specs.declared.end.End.TheVariants.{Done, Malformed, ReadFault, WriteFault, NoMemory}
-use Rattle.segment_run.specs.Output.{tested_at, output_at, output_of}
+use Rattle.segment_run.specs.Output.{tested_at, output_at}
 
 -- The bytes that are gone from the source were read, and what is written is what comes of them; where the sink failed, a front of
 -- it. Where memory ran out nothing was read or written.
@@ -44,13 +44,13 @@ HasFileHead given = first_that_holds (file_refusals Offload (take 24 given)) ≡
 -- What each answer says of a whole capture's bytes: as above, and when the sink is flushed.
 abbrev pub SegmentAnswers : Option (List ℕ) → Option (List ℕ) → Bool → Type 0 → End → List ℕ → List ℕ → Type 0
 SegmentAnswers old new is_flushed untouched Done given left =
-    ((reads_tested given).fault ≡ None) × (left ≡ []) × Appends old new (output_of given) × SaysFlushed new is_flushed true
+    ((reads_tested given).fault ≡ None) × (left ≡ []) × Appends old new (segmented_of given) × SaysFlushed new is_flushed true
 SegmentAnswers old new is_flushed untouched (Malformed fault) given left =
-    ((reads_tested given).fault ≡ Some fault) × Appends old new (output_of given) × FlushedBehind (HasFileHead given) (SaysFlushed new is_flushed true) untouched × Loses given left
+    ((reads_tested given).fault ≡ Some fault) × Appends old new (segmented_of given) × FlushedBehind (HasFileHead given) (SaysFlushed new is_flushed true) untouched × Loses given left
 SegmentAnswers old new is_flushed untouched ReadFault given left =
-    (gone : List ℕ) × (given ≡ gone ++ left) × Appends old new (output_of gone) × FlushedBehind (24 ≤ length gone) (SaysFlushed new is_flushed true) untouched
-SegmentAnswers old new is_flushed untouched WriteFault given left = (gone : List ℕ) × (given ≡ gone ++ left) × AppendsFront old new (output_of gone)
-SegmentAnswers old new is_flushed untouched NoMemory given left = (gone : List ℕ) × (given ≡ gone ++ left) × AppendsFront old new (output_of gone)
+    (gone : List ℕ) × (given ≡ gone ++ left) × Appends old new (segmented_of gone) × FlushedBehind (24 ≤ length gone) (SaysFlushed new is_flushed true) untouched
+SegmentAnswers old new is_flushed untouched WriteFault given left = (gone : List ℕ) × (given ≡ gone ++ left) × AppendsFront old new (segmented_of gone)
+SegmentAnswers old new is_flushed untouched NoMemory given left = (gone : List ℕ) × (given ≡ gone ++ left) × AppendsFront old new (segmented_of gone)
 
 -- the end for a fault of the reader
 abbrev pub IsEndFor : InFault → End → Type 0

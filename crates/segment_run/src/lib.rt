@@ -7,8 +7,8 @@
 //!
 //! Proved, at every source and sink: what is read and written for each answer, when the sink is flushed, and that the first
 //! record that isn't lawful ends the capture as `BadOffload` (clause `given` of [`segment_capture`]); that a fault is answered
-//! only where the outside failed (`read`, `write`); and that segmenting undoes merging: of the bytes that merging writes it
-//! gives a capture that holds each flow's packets again ([`captures_come_back`]).
+//! only where the outside failed (`read`, `write`). That segmenting undoes merging is a law of the model,
+//! `offload_model::captures_come_back`.
 //!
 //! ```
 //! match segment_capture(rt.alloc(), &mut source, &mut sink) {
@@ -20,7 +20,6 @@
 
 mod capture;
 mod end;
-mod laws;
 mod record;
 mod segments;
 #[cfg(test)]
@@ -28,6 +27,5 @@ mod tests;
 
 pub use capture::{segment_all, segment_capture};
 pub use end::End;
-pub use laws::{captures_come_back, records_are_few};
 pub use record::read_record;
 pub use segments::{Refused, write_record};

@@ -6,10 +6,8 @@ use Rattle.frame_layout.specs.Front.{IsFrameOf}
 use Rattle.frame_layout.specs.Segment.{IsSegOf, HasFlags as HasFlagsOf}
 use Rattle.frame_layout.specs.declared.layout.Layer.{Layer}
 use Rattle.frame_layout.specs.declared.layout.Layer.TheVariants.{Tcp}
-use Rattle.frame_layout.proofs.AtHeaders.{headers_map}
+use Rattle.frame_layout.proofs.Lemmas.{headers_map, laid, bounds}
 use Rattle.header_fill.specs.Filled.{HasFlags}
-use Rattle.frame_layout.proofs.Shapes.{laid}
-use Rattle.frame_layout.proofs.Bounds.{bounds}
 use Rattle.round_merge.proofs.candidate.judge.Goals as goal
 
 behind : (f : List ℕ) (n : ℕ) (p : FoldAndLength) → StandsFor p (take (length f - n) (drop n f)) → StandsFor p (drop n f)

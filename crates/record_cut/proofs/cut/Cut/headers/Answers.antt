@@ -2,7 +2,7 @@ use Rattle.std.proofs.Common.{◌≡◌, ℕ, ◌+◌, ◌-◌, ◌*◌, ◌≤�
 use Rattle.std.specs.List.{refill}
 use Rattle.inet_sum.specs.Stands.{StandsFor}
 use Rattle.frame_layout.specs.Headers.{AtHeaders, AreLaid}
-use Rattle.frame_layout.proofs.Bounds.{IsPlaced}
+use Rattle.frame_layout.proofs.Lemmas.{IsPlaced}
 use Rattle.offload_model.specs.Mergeable.{IsLengthInRange}
 use Rattle.offload_model.proofs.Filled.{Small}
 use Rattle.record_cut.specs.Cuts.{IsSegmentAt, payload_at, segment_at, segment_from}

@@ -9,7 +9,7 @@ use Rattle.std.proofs.lemmas.Simd.{map-map}
 use Rattle.net_bytes.specs.declared.order.Order.{Order}
 use Rattle.net_bytes.specs.declared.order.Order.TheVariants.{Big, Little}
 use Rattle.frame_layout.specs.Key.{key_of}
-use Rattle.frame_layout.proofs.SameKey.{same_key}
+use Rattle.frame_layout.proofs.Lemmas.{same_key}
 use Rattle.maximal_runs.proofs.Pass.{all_append}
 use Rattle.pcap_io.specs.declared.faults.CapKind.{CapKind}
 use Rattle.pcap_io.specs.declared.heads.FileHead.{FileHead}
@@ -25,15 +25,16 @@ use Rattle.offload_model.specs.Mergeable.{IsMergeable, IsMergeableAs}
 use Rattle.offload_model.specs.Segments.{packet_in, merged_in, with_head, with_frame, frames_of, segments_by, segments_of}
 use Rattle.offload_model.specs.Rounds.{is_key, is_of, is_queued, items_of, rounds_of}
 use Rattle.offload_model.specs.Written.{Options, record_of, window_of, window_record, windows_by, windows_of, round_records, records_of, record_bytes, written, segmented}
-use Rattle.offload_model.specs.CaptureLaws.{IsCaptured, AreCaptured, AreLawful, content, numbered, reads_tested}
+use Rattle.offload_model.specs.Captured.{IsCaptured, AreCaptured, AreLawful, content}
+use Rattle.offload_model.specs.Tested.{numbered, reads_tested}
 use Rattle.offload_model.proofs.Flows.{IsItem, all_items, rounds_captured, back, flows_come_back}
 use Rattle.offload_model.proofs.Items.{items_are}
 use Rattle.offload_model.proofs.Lists.{all_filtered, all_of, all_joined, all_range}
 use Rattle.offload_model.proofs.RunRecords.{runs_come_back, record_key, segments_are}
 use Rattle.offload_model.proofs.WrittenBack.{IsWritten, all_written, reads_back, head_reads_back, written_comes_back}
-use Rattle.segment_run.specs.Output.{output_of}
-use Rattle.segment_run.specs.Laws.{BringsBack, CapturesComeBack, RecordsAreFew}
-use Rattle.segment_run.proofs.FlowLists.{same_number, few}
+use Rattle.offload_model.specs.Tested.{segmented_of}
+use Rattle.offload_model.specs.CaptureLaws.{BringsBack, CapturesComeBack, RecordsAreFew}
+use Rattle.offload_model.proofs.FlowLists.{same_number, few}
 
 -- ---- the packets of a run are of one flow
 
@@ -272,7 +273,7 @@ file_size head = by head.order head.nanos head.zone head.sigfigs
 
 -- what is written of a merged capture
 output_is : (head : FileHead) (o : Options) (ps : List Packet) → head.zone < 2 ^ 32 → head.sigfigs < 2 ^ 32 → AreLawful o → AreCaptured ps → length (records_of o ps) ≤ 2 ^ 32
-    → output_of (written head o ps) ≡ segmented head (numbered 0 (records_of o ps))
+    → segmented_of (written head o ps) ≡ segmented head (numbered 0 (records_of o ps))
 output_is head o ps zone sigfigs lawful c few =
     let bytes : List ℕ = written head o ps in
     let front : take 24 bytes ≡ file_bytes head Offload = take_at (file_bytes head Offload) (flat_map (record_bytes head.order) (records_of o ps)) 24 (file_size head) in
@@ -291,7 +292,7 @@ captures_come_back head o ps zone sigfigs lawful c few_records =
     ∙ sym (ap (λ (f : Found). back key f.packets) (reads_back head o ps lawful c few_records).1) ∙ written_comes_back head o ps lawful c few_records key in
     let count : length qs ≤ 4294967296 = omega (arith, same_number qs ps flows, few ps c.each c.rising) in
     let lawful_qs : AreLawfulFrom Ethernet 0 (numbered 0 qs) = lawful_from 0 qs (omega arith) (all_held 0 (records_of o ps) (all_written o ps lawful c) sound) in
-    let read : reads Ethernet (output_of (written head o ps)) ≡ record { packets = numbered 0 qs; fault = None }
+    let read : reads Ethernet (segmented_of (written head o ps)) ≡ record { packets = numbered 0 qs; fault = None }
     = ap (reads Ethernet) (output_is head o ps zone sigfigs lawful c few_records ∙ ap (λ z. file_bytes head Ethernet ++ z) (spelled_is head.order 0 qs))
     ∙ written_law 0 head Ethernet (numbered 0 qs) zone sigfigs lawful_qs in
     subst (BringsBack ps) (sym read) (record { whole = refl; flows = λ key. numbered_flow key 0 qs ∙ flows key })

@@ -5,8 +5,8 @@ use Rattle.std.specs.List.{filter}
 use Rattle.std.proofs.lemmas.Bool.{eq-eqb}
 use Rattle.pcap_io.specs.Capture.{Packet}
 use Rattle.frame_layout.specs.Key.{key_of, queue_of}
-use Rattle.offload_model.specs.Rounds.{is_queued}
-use Rattle.round_merge.specs.Round.{runs_in, OneQueueHasAll}
+use Rattle.offload_model.specs.Rounds.{is_queued, runs_in}
+use Rattle.offload_model.specs.CaptureLaws.{OneQueueHasAll}
 
 queued : (key : Option (List ℕ)) → (queue_of key 1 == 0) ≡ true
 queued None = refl

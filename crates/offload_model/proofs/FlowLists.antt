@@ -5,7 +5,7 @@ use Rattle.maximal_runs.specs.Cut.{AllNeighbours}
 use Rattle.frame_layout.specs.Key.{key_of}
 use Rattle.pcap_io.specs.Capture.{Packet}
 use Rattle.offload_model.specs.Rounds.{is_key, is_of}
-use Rattle.offload_model.specs.CaptureLaws.{IsCaptured, content}
+use Rattle.offload_model.specs.Captured.{IsCaptured, content}
 use Rattle.offload_model.proofs.Items.{is_key_self, is_key_same}
 
 abbrev Content : Type 0
