@@ -1,3 +1,2 @@
 pub mod Ethernet
 pub mod Tag
-pub mod View

@@ -1,10 +1,10 @@
 //! The header of an Ethernet frame (IEEE 802.3, clause 3.2).
 
 ghost use Rattle.std.specs.Prelude.{◌≡◌, ◌↔◌, ◌+◌, ◌≤◌, true, length, IsSome, IfSome};
-ghost use Rattle.eth_vlan.specs.View.{Placed};
+ghost use Rattle.net_bytes.specs.View.{Placed};
 ghost use Rattle.eth_vlan.specs.Ethernet.{is_there, destination as destination_of, source as source_of, ether_type as ether_type_of};
 
-use net_bytes::be16;
+use net_bytes::{be16, is_inside};
 use std::marker::Model;
 
 /// An Ethernet header in a frame.
@@ -28,7 +28,7 @@ impl<'a> EthView<'a> {
         ensures found { IsSome result ↔ (is_there frame.now at ≡ true) }
         ensures view { IfSome result (λ v. v ≡ record { frame = frame.now; at = at }) }
     {
-        if frame.len() < 14 || frame.len() - 14 < at {
+        if !is_inside(frame, at, 14) {
             return None;
         }
         Some(EthView { frame, at })

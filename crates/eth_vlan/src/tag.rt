@@ -1,10 +1,10 @@
 //! A VLAN tag behind its type (IEEE 802.1Q, clause 9.6).
 
 ghost use Rattle.std.specs.Prelude.{◌≡◌, ◌↔◌, ◌+◌, ◌≤◌, true, length, IsSome, IfSome};
-ghost use Rattle.eth_vlan.specs.View.{Placed};
+ghost use Rattle.net_bytes.specs.View.{Placed};
 ghost use Rattle.eth_vlan.specs.Tag.{is_there, control, next_type as next_type_of, is_tag as is_tag_type};
 
-use net_bytes::be16;
+use net_bytes::{be16, is_inside};
 use std::marker::Model;
 
 /// A VLAN tag in a frame, without the type before it.
@@ -28,7 +28,7 @@ impl<'a> TagView<'a> {
         ensures found { IsSome result ↔ (is_there frame.now at ≡ true) }
         ensures view { IfSome result (λ v. v ≡ record { frame = frame.now; at = at }) }
     {
-        if frame.len() < 4 || frame.len() - 4 < at {
+        if !is_inside(frame, at, 4) {
             return None;
         }
         Some(TagView { frame, at })

@@ -16,7 +16,8 @@ use crate::segment::{Seg, flags_of};
 use crate::sums::{carried_sum, ip4_sum, is_udp_summed, joined};
 use arrayvec::ArrayVec;
 use inet_sum::{Partial, unfolded};
-use net_bytes::be16;
+use ip_headers::{ip4, ip6};
+use tcp_headers::{tcp, udp};
 
 /// No candidate is longer: its first IP header begins by place 22, has at most 40 bytes, and counts what follows in 16
 /// bits.
@@ -30,9 +31,9 @@ fn is_plain(head: &[u8], len: usize, header: Header) -> bool
 {
     let at = header.at as usize;
     match header.layer {
-        Layer::Ip4 => usize::from(be16(head, at + 2)) == len - at && head[at + 6] < 0x80,
-        Layer::Ip6 => usize::from(be16(head, at + 4)) == len - at - 40,
-        Layer::Udp => usize::from(be16(head, at + 4)) == len - at,
+        Layer::Ip4 => usize::from(ip4::total_length(head, at)) == len - at && head[at + 6] < 0x80,
+        Layer::Ip6 => usize::from(ip6::payload_length(head, at)) == len - at - 40,
+        Layer::Udp => usize::from(udp::total_length(head, at)) == len - at,
         Layer::Tcp => is_plain_tcp(head, at),
         _ => true,
     }
@@ -58,8 +59,8 @@ fn is_summed(front: &Front, ip: Header, header: Header) -> bool
 {
     let at = header.at as usize;
     match header.layer {
-        Layer::Ip4 => be16(front.head, at + 10) == ip4_sum(front.head, at),
-        Layer::Tcp => be16(front.head, at + 16) == carried_sum(front, ip, 6, at, 16),
+        Layer::Ip4 => ip4::header_checksum(front.head, at) == ip4_sum(front.head, at),
+        Layer::Tcp => tcp::checksum(front.head, at) == carried_sum(front, ip, 6, at, 16),
         Layer::Udp => is_udp_summed(front, ip, at),
         _ => true,
     }

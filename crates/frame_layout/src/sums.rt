@@ -1,15 +1,15 @@
 //! The sums of a frame's headers, each taken with its own field as zero.
 
 ghost use Rattle.std.specs.Prelude.{◌≡◌, ℕ, ◌+◌, ◌-◌, ◌*◌, ◌%◌, ◌<◌, ◌≤◌, ◌^◌, ◌==◌, ◌||◌, List, ◌++◌, length, drop};
-ghost use Rattle.inet_sum.specs.Sum.{folded, fold_of, checksum_of, not_zero as not_zero_of, joined_fold};
+ghost use Rattle.inet_sum.specs.Sum.{folded, fold_of, checksum_of, joined_fold};
 ghost use Rattle.net_bytes.specs.Bytes.{be16 as be16_of, put16, part};
 ghost use Rattle.frame_layout.specs.Candidate.{pseudo as pseudo_of, ip4_sum as ip4_sum_of, udp_sum as udp_sum_of};
 ghost use Rattle.frame_layout.specs.Front.{IsFrontOf, AreAddressesWithin};
 
 use crate::front::Front;
 use crate::layout::{Header, Layer};
-use inet_sum::{fold_number, unfolded};
-use net_bytes::be16;
+use inet_sum::{fold_number, not_zero, unfolded};
+use tcp_headers::udp;
 
 /// A number with the fold of the bytes from `at` to `end`, with the two bytes at `at + field` taken as zero.
 #[inline(always)]
@@ -82,16 +82,9 @@ pub fn is_udp_summed(front: &Front, ip: Header, at: usize) -> bool
     requires there { AreAddressesWithin (length front.now.head.now) ip.layer ip.at }
     ensures { (f : List ℕ) → IsFrontOf front.now f → result ≡ (be16_of front.now.head.now (at + 6) == 0 || be16_of front.now.head.now (at + 6) == udp_sum_of f ip at) }
 {
-    let field = be16(front.head, at + 6);
+    let field = udp::checksum(front.head, at);
     if field == 0 {
         return true;
     }
     field == not_zero(carried_sum(front, ip, 17, at, 6))
-}
-
-/// A UDP sum of 0 is sent as 65535 (RFC 768).
-fn not_zero(sum: u16) -> u16
-    ensures { result ≡ not_zero_of sum }
-{
-    if sum == 0 { 65535 } else { sum }
 }

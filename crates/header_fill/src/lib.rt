@@ -23,14 +23,17 @@ ghost use Rattle.offload_model.specs.Frames.{merged_frame, IsMergedFrame};
 ghost use Rattle.header_fill.specs.Filled.{HasFlags, IsFilled};
 
 mod fields;
+mod place;
 mod sums;
 #[cfg(test)]
 mod tests;
 
-use crate::fields::{put_flags, put_lengths};
+use crate::fields::put_lengths;
 use crate::sums::put_sums;
+pub use fields::put_flags;
 use frame_layout::Header;
 use inet_sum::Partial;
+pub use place::put_places;
 
 /// Makes the first frame's header bytes those of the merged frame.
 ///

@@ -3,7 +3,7 @@
 
 ghost use Rattle.std.specs.Prelude.{◌≡◌, ℕ, ◌+◌, ◌-◌, ◌<◌, ◌≤◌, ◌^◌, ◌++◌, List, length, drop};
 ghost use Rattle.net_bytes.specs.Bytes.{put16};
-ghost use Rattle.inet_sum.specs.Sum.{checksum_of, not_zero as not_zero_of};
+ghost use Rattle.inet_sum.specs.Sum.{checksum_of};
 ghost use Rattle.inet_sum.specs.Stands.{StandsFor};
 ghost use Rattle.frame_layout.specs.Headers.{AreLaid};
 ghost use Rattle.frame_layout.specs.Candidate.{pseudo_header, ip4_sum as ip4_sum_of};
@@ -11,10 +11,9 @@ ghost use Rattle.offload_model.specs.Edits.{put_sum as with_sum, with_sums};
 ghost use Rattle.header_fill.specs.Filled.{IsInside, AreAddressesInside, header_before};
 
 use frame_layout::{Header, Layer};
-use inet_sum::Partial;
+use inet_sum::{Partial, not_zero};
 use ip_headers::set_header_sum;
-use net_bytes::be16;
-use tcp_headers::{set_tcp_sum, set_udp_sum};
+use tcp_headers::{set_tcp_sum, set_udp_sum, udp};
 
 /// TCP's number in an IP header (RFC 790).
 const TCP: u8 = 6;
@@ -72,7 +71,7 @@ fn put_sum(head: &mut [u8], ip: Header, header: Header, payload: Partial)
             set_tcp_sum(head, at, sum);
         }
         Layer::Udp => {
-            if be16(head, at + 6) != 0 {
+            if udp::checksum(head, at) != 0 {
                 let sum = not_zero(carried_sum(head, ip, UDP, at, 6, payload));
                 set_udp_sum(head, at, sum);
             }
@@ -83,8 +82,8 @@ fn put_sum(head: &mut [u8], ip: Header, header: Header, payload: Partial)
 
 /// The sum of an IPv4 header (RFC 791, section 3.1).
 fn ip4_sum(head: &[u8], at: usize) -> u16
-    requires inside { at + 20 ≤ length head.now }
-    ensures sum { result ≡ ip4_sum_of head.now at }
+    requires there { at + 20 ≤ length head.now }
+    ensures sum { (bytes : List ℕ) → result ≡ ip4_sum_of (head.now ++ bytes) at }
 {
     sum_without(&head[at..at + 20], 10).checksum()
 }
@@ -152,11 +151,4 @@ fn sum_without(bytes: &[u8], field: usize) -> Partial
     sum.add_number(0);
     sum.add(&bytes[field + 2..]);
     sum
-}
-
-/// A UDP sum of 0 is sent as 65535 (RFC 768).
-fn not_zero(sum: u16) -> u16
-    ensures sum { result ≡ not_zero_of sum }
-{
-    if sum == 0 { 65535 } else { sum }
 }

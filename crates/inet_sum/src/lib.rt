@@ -16,7 +16,7 @@
 
 ghost use Rattle.std.specs.Prelude.{◌≡◌, ℕ, ◌+◌, ◌*◌, ◌/◌, ◌%◌, ◌^◌, ◌<◌, ◌≤◌, List, [], ◌∷◌, ◌++◌, length};
 ghost use Rattle.inet_sum.specs.Words.{number_of};
-ghost use Rattle.inet_sum.specs.Sum.{word_sum, folded, fold_of as fold_of_bytes, checksum_of, not_zero, udp_checksum_of, joined_fold};
+ghost use Rattle.inet_sum.specs.Sum.{word_sum, folded, fold_of as fold_of_bytes, checksum_of, not_zero as not_zero_of, udp_checksum_of, joined_fold};
 
 mod lanes;
 pub mod partial;
@@ -127,8 +127,12 @@ pub fn udp_checksum(bytes: &[u8]) -> u16
     requires few { length bytes.now < 2 ^ 32 }
     ensures checksum { result ≡ udp_checksum_of bytes.now }
 {
-    match checksum(bytes) {
-        0 => 65535,
-        sum => sum,
-    }
+    not_zero(checksum(bytes))
+}
+
+/// A UDP sum of 0 is sent as 65535 (RFC 768).
+pub fn not_zero(sum: u16) -> u16
+    ensures sum { result ≡ not_zero_of sum }
+{
+    if sum == 0 { 65535 } else { sum }
 }

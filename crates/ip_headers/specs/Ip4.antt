@@ -1,5 +1,5 @@
 -- The IPv4 header without options (RFC 791, section 3.1), of the frame `f` at the place.
-use Rattle.std.specs.Prelude.{◌≡◌, ℕ, ◌+◌, ◌/◌, ◌%◌, ◌<◌, Bool, ◌==◌, ◌&&◌, nat_le, List, length}
+use Rattle.std.specs.Prelude.{ℕ, ◌+◌, ◌/◌, ◌%◌, ◌<◌, Bool, ◌==◌, ◌&&◌, nat_le, List, length}
 use Rattle.net_bytes.specs.Bytes.{byte, be16, part}
 
 -- its 20 bytes are there, and the first says version 4 and a header of five words

@@ -1,3 +1,2 @@
 pub mod Ip4
 pub mod Ip6
-pub mod View

@@ -1,12 +1,11 @@
 //! The IPv4 header without options (RFC 791, section 3.1).
 
-ghost use Rattle.std.specs.Prelude.{◌≡◌, ◌↔◌, ℕ, ◌+◌, ◌<◌, ◌≤◌, ◌⊎◌, true, length, IsSome, IfSome};
-ghost use Rattle.net_bytes.specs.Bytes.{byte};
-ghost use Rattle.ip_headers.specs.View.{Placed};
-ghost use Rattle.ip_headers.specs.Ip4.{is_there, total_length as total_length_of, identification as identification_of, flags_and_offset as flags_and_offset_of, time_to_live, protocol as protocol_of, header_checksum, source as source_of, destination as destination_of};
+ghost use Rattle.std.specs.Prelude.{◌≡◌, ◌↔◌, ℕ, ◌+◌, ◌<◌, ◌≤◌, ◌⊎◌, ◌++◌, true, List, length, IsSome, IfSome};
+ghost use Rattle.net_bytes.specs.Bytes.{byte, put16};
+ghost use Rattle.net_bytes.specs.View.{Placed};
+ghost use Rattle.ip_headers.specs.Ip4.{is_there, total_length as total_length_of, identification as identification_of, flags_and_offset as flags_and_offset_of, dont_fragment, time_to_live, protocol as protocol_of, header_checksum as header_checksum_of, source as source_of, destination as destination_of};
 
-use crate::write::write16;
-use net_bytes::be16;
+use net_bytes::{be16, is_inside, put_be16};
 use std::marker::Model;
 
 /// An IPv4 header of 20 bytes in a frame.
@@ -31,7 +30,7 @@ impl<'a> Ip4View<'a> {
         ensures found { IsSome result ↔ (is_there frame.now at ≡ true) }
         ensures view { IfSome result (λ v. v ≡ record { frame = frame.now; at = at }) }
     {
-        if frame.len() < 20 || frame.len() - 20 < at {
+        if !is_inside(frame, at, 20) {
             return None;
         }
         if frame[at] != 0x45 {
@@ -44,14 +43,14 @@ impl<'a> Ip4View<'a> {
     pub fn total_length(&self) -> u16
         ensures field { result ≡ total_length_of self.now.frame self.now.at }
     {
-        be16(self.frame, self.at + 2)
+        total_length(self.frame, self.at)
     }
 
     /// The number that fragments of one datagram share.
     pub fn identification(&self) -> u16
         ensures field { result ≡ identification_of self.now.frame self.now.at }
     {
-        be16(self.frame, self.at + 4)
+        identification(self.frame, self.at)
     }
 
     /// Three flags, reserved (0x8000), "don't fragment" (0x4000) and "more fragments" (0x2000), and the fragment's
@@ -78,9 +77,9 @@ impl<'a> Ip4View<'a> {
 
     /// The checksum of the header.
     pub fn header_sum(&self) -> u16
-        ensures field { result ≡ header_checksum self.now.frame self.now.at }
+        ensures field { result ≡ header_checksum_of self.now.frame self.now.at }
     {
-        be16(self.frame, self.at + 10)
+        header_checksum(self.frame, self.at)
     }
 
     /// The address of the sender.
@@ -102,35 +101,71 @@ impl<'a> Ip4View<'a> {
     }
 }
 
+/// The total length in the IPv4 header at `at`: header and data, in bytes.
+pub fn total_length(frame: &[u8], at: usize) -> u16
+    requires there { at + 4 ≤ length frame.now }
+    ensures field { result ≡ total_length_of frame.now at }
+    ensures front { (rest : List ℕ) → result ≡ total_length_of (frame.now ++ rest) at }
+{
+    be16(frame, at + 2)
+}
+
+/// The identification in the IPv4 header at `at`.
+pub fn identification(frame: &[u8], at: usize) -> u16
+    requires there { at + 6 ≤ length frame.now }
+    ensures field { result ≡ identification_of frame.now at }
+    ensures front { (rest : List ℕ) → result ≡ identification_of (frame.now ++ rest) at }
+{
+    be16(frame, at + 4)
+}
+
+/// Whether the IPv4 header at `at` says "don't fragment".
+pub fn has_dont_fragment(frame: &[u8], at: usize) -> bool
+    requires there { at + 7 ≤ length frame.now }
+    ensures field { result ≡ dont_fragment frame.now at }
+    ensures front { (rest : List ℕ) → result ≡ dont_fragment (frame.now ++ rest) at }
+{
+    frame[at + 6] / 0x40 % 2 == 1
+}
+
+/// The header checksum in the IPv4 header at `at`.
+pub fn header_checksum(frame: &[u8], at: usize) -> u16
+    requires there { at + 12 ≤ length frame.now }
+    ensures field { result ≡ header_checksum_of frame.now at }
+    ensures front { (rest : List ℕ) → result ≡ header_checksum_of (frame.now ++ rest) at }
+{
+    be16(frame, at + 10)
+}
+
 /// Writes the total length of the IPv4 header at `at`.
 pub fn set_total(bytes: &mut [u8], at: usize, value: u16)
     requires inside { at + 4 ≤ length bytes.old }
+    ensures written { (rest : List ℕ) → bytes.new ++ rest ≡ put16 (bytes.old ++ rest) (at + 2) value }
     ensures field { total_length_of bytes.new at ≡ value }
     ensures others { (k : ℕ) → (k < at + 2) ⊎ (at + 4 ≤ k) → byte bytes.new k ≡ byte bytes.old k }
     ensures len { length bytes.new ≡ length bytes.old }
-    ensures same { total_length_of bytes.old at ≡ value → bytes.new ≡ bytes.old }
 {
-    write16(bytes, at + 2, value);
+    put_be16(bytes, at + 2, value);
 }
 
 /// Writes the identification of the IPv4 header at `at`.
 pub fn set_id(bytes: &mut [u8], at: usize, value: u16)
     requires inside { at + 6 ≤ length bytes.old }
+    ensures written { (rest : List ℕ) → bytes.new ++ rest ≡ put16 (bytes.old ++ rest) (at + 4) value }
     ensures field { identification_of bytes.new at ≡ value }
     ensures others { (k : ℕ) → (k < at + 4) ⊎ (at + 6 ≤ k) → byte bytes.new k ≡ byte bytes.old k }
     ensures len { length bytes.new ≡ length bytes.old }
-    ensures same { identification_of bytes.old at ≡ value → bytes.new ≡ bytes.old }
 {
-    write16(bytes, at + 4, value);
+    put_be16(bytes, at + 4, value);
 }
 
 /// Writes the header checksum of the IPv4 header at `at`.
 pub fn set_header_sum(bytes: &mut [u8], at: usize, value: u16)
     requires inside { at + 12 ≤ length bytes.old }
-    ensures field { header_checksum bytes.new at ≡ value }
+    ensures written { (rest : List ℕ) → bytes.new ++ rest ≡ put16 (bytes.old ++ rest) (at + 10) value }
+    ensures field { header_checksum_of bytes.new at ≡ value }
     ensures others { (k : ℕ) → (k < at + 10) ⊎ (at + 12 ≤ k) → byte bytes.new k ≡ byte bytes.old k }
     ensures len { length bytes.new ≡ length bytes.old }
-    ensures same { header_checksum bytes.old at ≡ value → bytes.new ≡ bytes.old }
 {
-    write16(bytes, at + 10, value);
+    put_be16(bytes, at + 10, value);
 }

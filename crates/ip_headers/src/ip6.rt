@@ -1,12 +1,11 @@
 //! The IPv6 header (RFC 8200, section 3).
 
-ghost use Rattle.std.specs.Prelude.{◌≡◌, ◌↔◌, ℕ, ◌+◌, ◌<◌, ◌≤◌, ◌⊎◌, true, length, IsSome, IfSome};
-ghost use Rattle.net_bytes.specs.Bytes.{byte};
-ghost use Rattle.ip_headers.specs.View.{Placed};
+ghost use Rattle.std.specs.Prelude.{◌≡◌, ◌↔◌, ℕ, ◌+◌, ◌<◌, ◌≤◌, ◌⊎◌, ◌++◌, true, List, length, IsSome, IfSome};
+ghost use Rattle.net_bytes.specs.Bytes.{byte, put16};
+ghost use Rattle.net_bytes.specs.View.{Placed};
 ghost use Rattle.ip_headers.specs.Ip6.{is_there, payload_length as payload_length_of, next_header as next_header_of, hop_limit as hop_limit_of, source as source_of, destination as destination_of};
 
-use crate::write::write16;
-use net_bytes::be16;
+use net_bytes::{be16, is_inside, put_be16};
 use std::marker::Model;
 
 /// An IPv6 header in a frame.
@@ -31,7 +30,7 @@ impl<'a> Ip6View<'a> {
         ensures found { IsSome result ↔ (is_there frame.now at ≡ true) }
         ensures view { IfSome result (λ v. v ≡ record { frame = frame.now; at = at }) }
     {
-        if frame.len() < 40 || frame.len() - 40 < at {
+        if !is_inside(frame, at, 40) {
             return None;
         }
         if frame[at] / 16 != 6 {
@@ -44,7 +43,7 @@ impl<'a> Ip6View<'a> {
     pub fn payload_length(&self) -> u16
         ensures field { result ≡ payload_length_of self.now.frame self.now.at }
     {
-        be16(self.frame, self.at + 4)
+        payload_length(self.frame, self.at)
     }
 
     /// What follows the header: 6 is TCP, 17 is UDP.
@@ -80,13 +79,22 @@ impl<'a> Ip6View<'a> {
     }
 }
 
+/// The payload length in the IPv6 header at `at`: what follows the header, in bytes.
+pub fn payload_length(frame: &[u8], at: usize) -> u16
+    requires there { at + 6 ≤ length frame.now }
+    ensures field { result ≡ payload_length_of frame.now at }
+    ensures front { (rest : List ℕ) → result ≡ payload_length_of (frame.now ++ rest) at }
+{
+    be16(frame, at + 4)
+}
+
 /// Writes the payload length of the IPv6 header at `at`.
 pub fn set_payload_len(bytes: &mut [u8], at: usize, value: u16)
     requires inside { at + 6 ≤ length bytes.old }
+    ensures written { (rest : List ℕ) → bytes.new ++ rest ≡ put16 (bytes.old ++ rest) (at + 4) value }
     ensures field { payload_length_of bytes.new at ≡ value }
     ensures others { (k : ℕ) → (k < at + 4) ⊎ (at + 6 ≤ k) → byte bytes.new k ≡ byte bytes.old k }
     ensures len { length bytes.new ≡ length bytes.old }
-    ensures same { payload_length_of bytes.old at ≡ value → bytes.new ≡ bytes.old }
 {
-    write16(bytes, at + 4, value);
+    put_be16(bytes, at + 4, value);
 }

@@ -17,6 +17,6 @@ mod order;
 #[cfg(test)]
 mod tests;
 
-pub use frame::{be16, be32, put_be16, put_be32};
+pub use frame::{be16, be32, is_inside, put_be16, put_be32};
 pub use laws::{frames_are_big, reads_back, reads_first};
 pub use order::Order;

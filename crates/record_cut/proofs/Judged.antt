@@ -1,10 +1,9 @@
 -- Which records are lawful, and what packets a lawful one stands for.
-use Rattle.std.proofs.Common.{◌≡◌, ℕ, ◌+◌, ◌-◌, ◌*◌, ◌<◌, ◌≤◌, Bool, true, false, Option, Some, None, List, [], ◌∷◌, ◌++◌, length, map, refl, sym, ap, ◌∙◌, subst, arith}
-use Rattle.std.specs.Prelude.{◌==◌, ◌&&◌, ◌||◌, nat_lt, nat_le}
+use Rattle.std.proofs.Common.{◌≡◌, ℕ, ◌+◌, ◌-◌, ◌*◌, ◌<◌, ◌≤◌, Bool, true, false, Some, List, [], length, map, refl, sym, ap, ◌∙◌, subst, arith}
+use Rattle.std.specs.Prelude.{◌==◌, ◌&&◌, nat_lt, nat_le}
 use Rattle.std.specs.List.{range_with_len}
 use Rattle.std.specs.Option.{unwrap_or}
 use Rattle.std.proofs.lemmas.Bool.{and_parts, and_from, eqb-true, le-leb, leb-true, lt-ltb, ltb-true}
-use Rattle.std.proofs.lemmas.List.{append-nil}
 use Rattle.std.proofs.lemmas.Simd.{map-map}
 use Rattle.frame_layout.specs.Shape.{Layout, shape_of}
 use Rattle.frame_layout.specs.Headers.{AtHeaders, size, AreLaid}
@@ -14,12 +13,12 @@ use Rattle.frame_layout.proofs.Lemmas.{headers_map, laid}
 use Rattle.pcap_io.specs.Capture.{Packet, packet}
 use Rattle.pcap_io.specs.declared.off_head.OffHead.{OffHead}
 use Rattle.offload_model.specs.Frames.{segment_frame}
-use Rattle.offload_model.specs.Merged.{Merged, layout_of, is_fixed}
-use Rattle.offload_model.specs.Segments.{with_frame, merged_in, frames_of, segments_by, IsCuttable, IsLawfulSuper}
+use Rattle.offload_model.specs.Merged.{layout_of, is_fixed}
+use Rattle.offload_model.specs.Segments.{with_frame, merged_in, segments_by, IsCuttable, IsLawfulSuper}
 use Rattle.offload_model.specs.Tests.{is_lawful_super, is_lawful_single, is_lawful_window, is_lawful_by}
 use Rattle.offload_model.proofs.Decides.{decides_super}
 use Rattle.record_cut.specs.declared.cut.Cut.{Cut}
-use Rattle.record_cut.specs.Cuts.{HasNumbersOf, merged_by, IsCutOf, segment_at, segments_at}
+use Rattle.record_cut.specs.Cuts.{HasNumbersOf, IsCutOf, segment_at, segments_at}
 use Rattle.record_cut.specs.Modes.{are_bits_lawful}
 use Rattle.record_cut.proofs.ModeBits.{bits_from, bits_to}
 use Rattle.record_cut.proofs.Segments.{laid_inside}

@@ -1,4 +1,3 @@
-mod Pieces
 mod ModeBits
 mod Segments
 mod Judged

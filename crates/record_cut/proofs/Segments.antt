@@ -1,10 +1,9 @@
 -- A frame that may be cut, and its segments.
-use Rattle.std.proofs.Common.{◌≡◌, ℕ, ◌+◌, ◌-◌, ◌*◌, ◌<◌, ◌≤◌, Bool, true, false, List, [], ◌∷◌, ◌++◌, length, take, drop, sym, ap, ◌∙◌, subst, arith, length-append}
+use Rattle.std.proofs.Common.{◌≡◌, ℕ, ◌+◌, ◌-◌, ◌*◌, ◌<◌, ◌≤◌, List, [], ◌∷◌, ◌++◌, length, take, drop, sym, ap, ◌∙◌, arith}
 use Rattle.std.specs.Prelude.{◌==◌}
 use Rattle.std.specs.List.{refill}
-use Rattle.std.proofs.lemmas.List.{length-take, length-take-le, length-drop, drop_all, take_at}
+use Rattle.std.proofs.lemmas.List.{length-take, length-drop, drop_all, take_at}
 use Rattle.std.proofs.lemmas.Bool.{eqb-true, eqb-false}
-use Rattle.net_bytes.specs.Bytes.{byte}
 use Rattle.frame_layout.specs.Headers.{AtHeaders, size, AreLaid}
 use Rattle.frame_layout.specs.Candidate.{IsLengthRight}
 use Rattle.frame_layout.specs.declared.layout.Header.{Header}

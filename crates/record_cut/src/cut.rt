@@ -6,10 +6,9 @@ ghost use Rattle.frame_layout.specs.Headers.{AtHeaders, AreLaid};
 ghost use Rattle.offload_model.specs.Mergeable.{IsLengthInRange};
 ghost use Rattle.record_cut.specs.Cuts.{IsCutOf, IsSegmentAt, segment_at, segment_from, payload_at};
 
-use crate::place::{put_flags, put_places};
 use arrayvec::ArrayVec;
 use frame_layout::Layout;
-use header_fill::fill;
+use header_fill::{fill, put_flags, put_places};
 use inet_sum::Partial;
 use std::cmp::min;
 

@@ -20,7 +20,6 @@
 mod cut;
 mod lawful;
 mod modes;
-mod place;
 
 pub use cut::Cut;
 pub use lawful::{BadOffload, Plan, judge};

@@ -1,9 +1,10 @@
 //! The headers of TCP (RFC 9293, section 3.1) and UDP (RFC 768).
 //!
 //! [`TcpView`] and [`UdpView`] read the fields of a header that stands in a frame. `read` gives a view exactly where the
-//! header is there (`found`), and each reader gives the number in the field's bytes (`field`). The writers [`set_seq`],
-//! [`set_flags`], [`set_tcp_sum`], [`set_udp_len`] and [`set_udp_sum`] change one field: its reader then gives the
-//! number (`field`), all other bytes stay (`others`), and writing what the field holds changes nothing (`same`).
+//! header is there (`found`), and each reader gives the number in the field's bytes (`field`). Where a caller knows that
+//! the header is there, the readers of [`tcp`] and [`udp`] do without the view; the first bytes of a frame are enough
+//! (`front`). The writers [`set_seq`], [`set_flags`], [`set_tcp_sum`], [`set_udp_len`] and [`set_udp_sum`] write the
+//! number's bytes into the field (`written`): its reader then gives it (`field`), and all other bytes stay (`others`).
 //!
 //! ```
 //! if let Some(header) = TcpView::read(frame, 34) {
@@ -13,11 +14,10 @@
 //! ```
 #![tactic(auto)]
 
-mod tcp;
+pub mod tcp;
 #[cfg(test)]
 mod tests;
-mod udp;
-mod write;
+pub mod udp;
 
 pub use tcp::{TcpView, set_flags, set_seq, set_tcp_sum};
 pub use udp::{UdpView, set_udp_len, set_udp_sum};

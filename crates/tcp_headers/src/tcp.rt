@@ -1,12 +1,11 @@
 //! The TCP header (RFC 9293, section 3.1).
 
-ghost use Rattle.std.specs.Prelude.{◌≡◌, ◌↔◌, ℕ, ◌+◌, ◌<◌, ◌≤◌, ◌≢◌, ◌⊎◌, true, length, IsSome, IfSome};
-ghost use Rattle.net_bytes.specs.Bytes.{byte};
-ghost use Rattle.tcp_headers.specs.View.{Placed};
-ghost use Rattle.tcp_headers.specs.Tcp.{is_there, data_offset as data_offset_of, source_port as source_port_of, destination_port as destination_port_of, sequence as sequence_of, acknowledgment as acknowledgment_of, reserved as reserved_of, flags as flags_of, window as window_of, checksum, urgent_pointer};
+ghost use Rattle.std.specs.Prelude.{◌≡◌, ◌↔◌, ℕ, ◌+◌, ◌<◌, ◌≤◌, ◌≢◌, ◌⊎◌, ◌++◌, true, List, length, slice_set, IsSome, IfSome};
+ghost use Rattle.net_bytes.specs.Bytes.{byte, put16, put32};
+ghost use Rattle.net_bytes.specs.View.{Placed};
+ghost use Rattle.tcp_headers.specs.Tcp.{is_there, data_offset as data_offset_of, source_port as source_port_of, destination_port as destination_port_of, sequence as sequence_of, acknowledgment as acknowledgment_of, reserved as reserved_of, flags as flags_of, window as window_of, checksum as checksum_of, urgent_pointer};
 
-use crate::write::write16;
-use net_bytes::{be16, be32};
+use net_bytes::{be16, be32, is_inside, put_be16, put_be32};
 use std::marker::Model;
 
 /// A TCP header in a frame.
@@ -31,7 +30,7 @@ impl<'a> TcpView<'a> {
         ensures found { IsSome result ↔ (is_there frame.now at ≡ true) }
         ensures view { IfSome result (λ v. v ≡ record { frame = frame.now; at = at }) }
     {
-        if frame.len() < 20 || frame.len() - 20 < at {
+        if !is_inside(frame, at, 20) {
             return None;
         }
         let words = usize::from(frame[at + 12] / 16);
@@ -59,7 +58,7 @@ impl<'a> TcpView<'a> {
     pub fn sequence(&self) -> u32
         ensures field { result ≡ sequence_of self.now.frame self.now.at }
     {
-        be32(self.frame, self.at + 4)
+        sequence(self.frame, self.at)
     }
 
     /// The next sequence number that the sender of this segment waits for.
@@ -87,7 +86,7 @@ impl<'a> TcpView<'a> {
     pub fn flags(&self) -> u8
         ensures field { result ≡ flags_of self.now.frame self.now.at }
     {
-        self.frame[self.at + 13]
+        flags(self.frame, self.at)
     }
 
     /// How many bytes the sender of this segment can take.
@@ -99,9 +98,9 @@ impl<'a> TcpView<'a> {
 
     /// The checksum of pseudo header, header and payload.
     pub fn sum(&self) -> u16
-        ensures field { result ≡ checksum self.now.frame self.now.at }
+        ensures field { result ≡ checksum_of self.now.frame self.now.at }
     {
-        be16(self.frame, self.at + 16)
+        checksum(self.frame, self.at)
     }
 
     /// The urgent pointer.
@@ -112,25 +111,51 @@ impl<'a> TcpView<'a> {
     }
 }
 
+/// The sequence number in the TCP header at `at`.
+pub fn sequence(frame: &[u8], at: usize) -> u32
+    requires there { at + 8 ≤ length frame.now }
+    ensures field { result ≡ sequence_of frame.now at }
+    ensures front { (rest : List ℕ) → result ≡ sequence_of (frame.now ++ rest) at }
+{
+    be32(frame, at + 4)
+}
+
+/// The control bits in the TCP header at `at`.
+pub fn flags(frame: &[u8], at: usize) -> u8
+    requires there { at + 14 ≤ length frame.now }
+    ensures field { result ≡ flags_of frame.now at }
+    ensures front { (rest : List ℕ) → result ≡ flags_of (frame.now ++ rest) at }
+{
+    frame[at + 13]
+}
+
+/// The checksum in the TCP header at `at`.
+pub fn checksum(frame: &[u8], at: usize) -> u16
+    requires there { at + 18 ≤ length frame.now }
+    ensures field { result ≡ checksum_of frame.now at }
+    ensures front { (rest : List ℕ) → result ≡ checksum_of (frame.now ++ rest) at }
+{
+    be16(frame, at + 16)
+}
+
 /// Writes the sequence number of the TCP header at `at`.
 pub fn set_seq(bytes: &mut [u8], at: usize, value: u32)
     requires inside { at + 8 ≤ length bytes.old }
+    ensures written { (rest : List ℕ) → bytes.new ++ rest ≡ put32 (bytes.old ++ rest) (at + 4) value }
     ensures field { sequence_of bytes.new at ≡ value }
     ensures others { (k : ℕ) → (k < at + 4) ⊎ (at + 8 ≤ k) → byte bytes.new k ≡ byte bytes.old k }
     ensures len { length bytes.new ≡ length bytes.old }
-    ensures same { sequence_of bytes.old at ≡ value → bytes.new ≡ bytes.old }
 {
-    write16(bytes, at + 4, (value / 65536) as u16);
-    write16(bytes, at + 6, (value % 65536) as u16);
+    put_be32(bytes, at + 4, value);
 }
 
 /// Writes the control bits of the TCP header at `at`.
 pub fn set_flags(bytes: &mut [u8], at: usize, value: u8)
     requires inside { at + 14 ≤ length bytes.old }
+    ensures written { (rest : List ℕ) → bytes.new ++ rest ≡ slice_set (bytes.old ++ rest) (at + 13) value }
     ensures field { flags_of bytes.new at ≡ value }
     ensures others { (k : ℕ) → k ≢ at + 13 → byte bytes.new k ≡ byte bytes.old k }
     ensures len { length bytes.new ≡ length bytes.old }
-    ensures same { flags_of bytes.old at ≡ value → bytes.new ≡ bytes.old }
 {
     bytes[at + 13] = value;
 }
@@ -138,10 +163,10 @@ pub fn set_flags(bytes: &mut [u8], at: usize, value: u8)
 /// Writes the checksum of the TCP header at `at`.
 pub fn set_tcp_sum(bytes: &mut [u8], at: usize, value: u16)
     requires inside { at + 18 ≤ length bytes.old }
-    ensures field { checksum bytes.new at ≡ value }
+    ensures written { (rest : List ℕ) → bytes.new ++ rest ≡ put16 (bytes.old ++ rest) (at + 16) value }
+    ensures field { checksum_of bytes.new at ≡ value }
     ensures others { (k : ℕ) → (k < at + 16) ⊎ (at + 18 ≤ k) → byte bytes.new k ≡ byte bytes.old k }
     ensures len { length bytes.new ≡ length bytes.old }
-    ensures same { checksum bytes.old at ≡ value → bytes.new ≡ bytes.old }
 {
-    write16(bytes, at + 16, value);
+    put_be16(bytes, at + 16, value);
 }

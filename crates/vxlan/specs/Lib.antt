@@ -1,2 +1,1 @@
 pub mod Vxlan
-pub mod View

@@ -12,13 +12,13 @@
 #![tactic(auto)]
 
 ghost use Rattle.std.specs.Prelude.{◌≡◌, ◌↔◌, ◌+◌, ◌≤◌, true, length, IsSome, IfSome};
-ghost use Rattle.vxlan.specs.View.{Placed};
+ghost use Rattle.net_bytes.specs.View.{Placed};
 ghost use Rattle.vxlan.specs.Vxlan.{is_there, flags as flags_of, network_identifier};
 
 #[cfg(test)]
 mod tests;
 
-use net_bytes::be16;
+use net_bytes::{be16, is_inside};
 use std::marker::Model;
 
 /// The UDP port that is assigned to VXLAN.
@@ -45,7 +45,7 @@ impl<'a> VxlanView<'a> {
         ensures found { IsSome result ↔ (is_there frame.now at ≡ true) }
         ensures view { IfSome result (λ v. v ≡ record { frame = frame.now; at = at }) }
     {
-        if frame.len() < 8 || frame.len() - 8 < at {
+        if !is_inside(frame, at, 8) {
             return None;
         }
         Some(VxlanView { frame, at })

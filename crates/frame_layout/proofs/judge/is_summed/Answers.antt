@@ -11,13 +11,13 @@ returns-in-Ip4 c = λ f s.
     let front = c.args.front.now in
     let h = front.head.now in
     let at = c.args.header.at in
-    let a = c.be16.result in
+    let a = c.header_checksum.result in
     let b = c.ip4_sum.result in
     let more : length h ≤ length f = omega (arith, s.long, front.long) in
     let fits : at + 20 ≤ length h = omega (arith, ap size c.in-Ip4.is, c.requires.inside, front.inside) in
     subst (λ l. (IsTrue (nat_eq a b) → IsSumRight f c.args.ip l at) × (IsSumRight f c.args.ip l at → IsTrue (nat_eq a b))) (sym c.in-Ip4.is)
     (eqb_is a b (be16_of f (at + 10)) (ip4_sum_of f at)
-    (c.be16.ensures.number ∙ sym (same16 h f front.len s.long more s.begins (at + 10) (omega arith)))
+    (c.header_checksum.ensures.field ∙ sym (same16 h f front.len s.long more s.begins (at + 10) (omega arith)))
     (c.ip4_sum.ensures ∙ same_ip4_sum h f front.len s.long more s.begins at fits))
 
 pub returns-in-Udp : goal.returns-in-Udp

@@ -1,4 +1,4 @@
-use Rattle.std.proofs.Common.{◌≡◌, ℕ, ◌+◌, ◌≤◌, Option, Some, true, false, List, [], length, sym, ap, ◌∙◌, subst, arith}
+use Rattle.std.proofs.Common.{◌≡◌, ℕ, ◌+◌, ◌≤◌, Some, true, false, List, [], length, sym, ap, ◌∙◌, subst, arith}
 use Rattle.std.proofs.lemmas.List.{append-nil}
 use Rattle.frame_layout.specs.Headers.{AtHeaders, size}
 use Rattle.frame_layout.specs.Front.{IsFrameOf}
@@ -21,7 +21,8 @@ returns-then-not-are_modes_lawful-clause-refused c = λ s.
     let seg : IsSegOf f c.args.original (Some c.in-Some.seg) = c.in-Some.ensures.candidate f frame in
     let bits : are_bits_lawful c.args.head.now.modes f c.in-Some.seg.layout.headers ≡ true
     = bits_to_seg f c.args.original c.in-Some.seg c.args.head.now.n c.args.head.now.m c.args.head.now.modes s.layout seg.1 s.cuttable in
-    let both : false ≡ true = sym c.if-not-are_modes_lawful.true ∙ c.are_modes_lawful.ensures ∙ ap (are_bits_lawful c.args.head.now.modes f) c.headers.ensures.headers ∙ bits in
+    let both : false ≡ true = sym c.if-not-are_modes_lawful.true ∙ c.are_modes_lawful.ensures.bits [] ∙ ap (λ z. are_bits_lawful c.args.head.now.modes z c.headers.result.now) (append-nil f)
+    ∙ ap (are_bits_lawful c.args.head.now.modes f) c.headers.ensures.headers ∙ bits in
     cc
 
 pub returns-clause-lawful : goal.returns-clause-lawful
@@ -30,7 +31,8 @@ returns-clause-lawful c =
     let frame : IsFrameOf f c.new.result f = record { tail = []; joined = sym (append-nil f); sum = c.new.ensures.sum; in_bytes = λ k. omega (arith, c.type_inv.frame k) } in
     let exact : is_cut_exactly c.args.head.now.n c.args.head.now.m c.in-Some.seg.payload_len ≡ true = sym c.is_cut_exactly.ensures ∙ c.if-not-is_cut_exactly.false in
     let bits : are_bits_lawful c.args.head.now.modes f c.in-Some.seg.layout.headers ≡ true
-    = ap (are_bits_lawful c.args.head.now.modes f) (sym c.headers.ensures.headers) ∙ sym c.are_modes_lawful.ensures ∙ c.if-not-are_modes_lawful.false in
+    = ap (are_bits_lawful c.args.head.now.modes f) (sym c.headers.ensures.headers) ∙ ap (λ z. are_bits_lawful c.args.head.now.modes z c.headers.result.now) (sym (append-nil f))
+    ∙ sym (c.are_modes_lawful.ensures.bits []) ∙ c.if-not-are_modes_lawful.false in
     let head : is_merged c.args.head.now ≡ true = sym c.is_merged.ensures ∙ c.if-not-is_merged.false in
     super_from c.args.head.now f c.args.original c.in-Some.seg head (c.in-Some.ensures.candidate f frame) exact bits
 
@@ -40,6 +42,7 @@ returns-clause-cut c =
     let frame : IsFrameOf f c.new.result f = record { tail = []; joined = sym (append-nil f); sum = c.new.ensures.sum; in_bytes = λ k. omega (arith, c.type_inv.frame k) } in
     let exact : is_cut_exactly c.args.head.now.n c.args.head.now.m c.in-Some.seg.payload_len ≡ true = sym c.is_cut_exactly.ensures ∙ c.if-not-is_cut_exactly.false in
     let bits : are_bits_lawful c.args.head.now.modes f c.in-Some.seg.layout.headers ≡ true
-    = ap (are_bits_lawful c.args.head.now.modes f) (sym c.headers.ensures.headers) ∙ sym c.are_modes_lawful.ensures ∙ c.if-not-are_modes_lawful.false in
+    = ap (are_bits_lawful c.args.head.now.modes f) (sym c.headers.ensures.headers) ∙ ap (λ z. are_bits_lawful c.args.head.now.modes z c.headers.result.now) (sym (append-nil f))
+    ∙ sym (c.are_modes_lawful.ensures.bits []) ∙ c.if-not-are_modes_lawful.false in
     cut_is c.args.head.now f c.args.original c.cut_by.result c.in-Some.seg.layout c.cut_by.ensures.layout c.cut_by.ensures.numbers
     (cuttable_from f c.args.original c.in-Some.seg c.args.head.now.n c.args.head.now.m c.args.head.now.modes (c.in-Some.ensures.candidate f frame) exact bits)

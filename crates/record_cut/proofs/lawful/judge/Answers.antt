@@ -1,4 +1,4 @@
-use Rattle.std.proofs.Common.{◌≡◌, ℕ, true, false, sym, ◌∙◌, refl}
+use Rattle.std.proofs.Common.{◌≡◌, true, false, sym, ◌∙◌, refl}
 use Rattle.pcap_io.specs.Capture.{Packet, packet}
 use Rattle.offload_model.specs.Tests.{is_lawful_by}
 use Rattle.record_cut.proofs.Judged.{lawful_super, lawful_none, segments_are}

@@ -1,4 +1,4 @@
-use Rattle.std.proofs.Common.{◌≡◌, ℕ, ◌+◌, ◌-◌, ◌*◌, ◌≤◌, ◌++◌, List, [], length, take, drop, Fits, sym, ap, ◌∙◌, subst, arith}
+use Rattle.std.proofs.Common.{◌≡◌, ℕ, ◌+◌, ◌++◌, List, [], length, take, sym, ap, ◌∙◌, subst, arith}
 use Rattle.std.specs.List.{refill}
 use Rattle.inet_sum.specs.Stands.{StandsFor}
 use Rattle.frame_layout.specs.Headers.{AtHeaders, AreLaid}

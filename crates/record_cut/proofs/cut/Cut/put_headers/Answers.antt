@@ -1,6 +1,5 @@
-use Rattle.std.proofs.Common.{◌≡◌, ℕ, ◌+◌, ◌≤◌, ◌++◌, List, length, sym, ap, ◌∙◌, subst, arith}
+use Rattle.std.proofs.Common.{◌+◌, ◌≤◌, length, sym, ◌∙◌, subst}
 use Rattle.frame_layout.specs.Headers.{AtHeaders, size}
-use Rattle.frame_layout.specs.declared.layout.Header.{Header}
 use Rattle.offload_model.specs.Mergeable.{IsLengthInRange}
 use Rattle.record_cut.proofs.Segments.{laid_inside}
 use Rattle.record_cut.proofs.cut.Cut.put_headers.Goals as goal

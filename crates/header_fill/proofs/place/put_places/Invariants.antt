@@ -1,7 +1,7 @@
 use Rattle.std.proofs.Common.{◌≡◌, ℕ, ◌≤◌, List, ◌++◌, length, drop}
 use Rattle.offload_model.specs.Merged.{is_fixed}
 use Rattle.offload_model.specs.Edits.{with_edits, put_place}
-use Rattle.record_cut.proofs.place.put_places.Given as goal
+use Rattle.header_fill.proofs.place.put_places.Given as goal
 
 abbrev pub invariant-loop-k : goal.invariant-loop-k
 invariant-loop-k l = record {
