@@ -9,7 +9,7 @@ mod buffers;
 mod frames;
 mod pools;
 mod sums;
-mod taps;
+mod windows;
 
 use anyhow::Error;
 use std::env;
@@ -23,7 +23,7 @@ fn main(rt: HostRuntime) -> Result<(), Error> {
             "blocks" => return blocks::measure(&rt, turns),
             "buffers" => return buffers::measure(&rt, turns),
             "pools" => return pools::measure(&rt, turns),
-            "taps" => return taps::measure(&rt, turns),
+            "taps" => return windows::measure(&rt, turns),
             "sums" => {
                 if let Some(length) = words.next() {
                     return sums::measure(&rt, turns, length.parse::<usize>()?);

@@ -1,6 +1,6 @@
 use Rattle.std.proofs.Common.{◌+◌, ◌≤◌}
 use Rattle.taps.specs.Clones.{blocks_of}
-use Rattle.steps.proofs.taps.task_over.Given as goal
+use Rattle.steps.proofs.windows.task_over.Given as goal
 
 abbrev pub invariant-loop-_turn : goal.invariant-loop-_turn
 invariant-loop-_turn l = record {
