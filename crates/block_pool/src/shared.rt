@@ -4,6 +4,14 @@
 //! what it did. The opening pass has 65,536 parts; `fork` moves one of them to a new pass for another thread, and `gather`
 //! adds a pass to another again. The pass that has all parts knows the pool whole: the blocks that are home are those that
 //! were made and those that were put, without those that were taken.
+//!
+//! ```
+//! let (pool, mut pass) = SharedPool::make(&rt, alloc, 64)?;
+//! let mut theirs = pool.fork(&mut pass);
+//! thread::join_mut(&rt, &mut || work(&rt, &pool, &mut theirs), &mut || read(&rt, &pool, &mut pass));
+//! pool.gather(&rt, theirs, &mut pass);
+//! pool.home(&rt, &mut pass);
+//! ```
 ghost use Rattle.std.specs.Prelude.{◌≡◌, ℕ, ◌+◌, ◌<◌, ◌≤◌, length, All, IfOk, IfErr, IsOk};
 ghost use Rattle.block_pool.specs.PassState.{IsOwn, IsOpening, IsNew, IsFresh, IsHome, IsSame, LostPart, Took, Put, FoundEmpty, FoundFull, Gathered};
 
