@@ -1,5 +1,5 @@
 -- Two frames that are alike in the headers of a layout, header by header.
-use Rattle.std.proofs.Common.{◌≡◌, ℕ, ◌+◌, ◌<◌, ◌≤◌, ◌⊎◌, inl, inr, Bool, true, List, [], ◌∷◌, refl, arith}
+use Rattle.std.proofs.Common.{◌≡◌, ℕ, ◌+◌, ◌<◌, ◌≤◌, ◌⊎◌, inl, inr, true, List, [], ◌∷◌, refl, arith}
 use Rattle.std.specs.Prelude.{◌&&◌, nat_le}
 use Rattle.std.proofs.lemmas.Bool.{and_parts, leb-true}
 use Rattle.net_bytes.specs.Bytes.{byte}
@@ -43,15 +43,11 @@ inner x e start (h ∷ hs) end laid = (
 pub record IsAlikeAt (f g : List ℕ) (l : Layer) (at : ℕ) : Type 0 where
   pub same : (k : ℕ) → at ≤ k → k < at + size l → IsOutside k l at → byte f k ≡ byte g k
 
--- so n bytes from place j of the header on, where its fields that may differ are clear of these
-pub alike_bytes : (f g : List ℕ) (l : Layer) (at j n : ℕ) → IsAlikeAt f g l at → (nat_le (j + n) (size l) && are_clear j n (varying l)) ≡ true
-    → (k : ℕ) → at + j ≤ k → k < at + j + n → byte f k ≡ byte g k
-alike_bytes f g l at j n alike e k a b =
-    let p = and_parts (nat_le (j + n) (size l)) _ e in
-    alike.same k (omega arith) (omega (arith, leb-true _ _ p.0)) (outside_clear j n (varying l) p.1 at k a b)
-
+-- so in byte j of the header, where that is none of its fields that may differ
 pub alike_byte : (f g : List ℕ) (l : Layer) (at j : ℕ) → IsAlikeAt f g l at → (nat_le (j + 1) (size l) && are_clear j 1 (varying l)) ≡ true → byte f (at + j) ≡ byte g (at + j)
-alike_byte f g l at j alike e = alike_bytes f g l at j 1 alike e (at + j) (omega arith) (omega arith)
+alike_byte f g l at j alike e =
+    let p = and_parts (nat_le (j + 1) (size l)) _ e in
+    alike.same (at + j) (omega arith) (omega (arith, leb-true _ _ p.0)) (outside_clear j 1 (varying l) p.1 at (at + j) (omega arith) (omega arith))
 
 pub alike_at : (layout : Layout) (f g : List ℕ) → AreLaid 0 layout.headers layout.payload_at → AreHeadersAlike layout f g → AtHeaders (IsAlikeAt f g) layout.headers
 alike_at layout f g laid alike =

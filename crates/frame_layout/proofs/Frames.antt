@@ -1,14 +1,11 @@
 -- A frame from its first bytes and the sum of the others.
-use Rattle.std.proofs.Common.{◌≡◌, ℕ, ◌+◌, ◌-◌, ◌<◌, ◌≤◌, ◌⊎◌, inl, inr, Some, List, [], ◌∷◌, ◌++◌, length, take, drop, length-append, sym, ap, ◌∙◌, subst, arith}
+use Rattle.std.proofs.Common.{◌≡◌, ℕ, ◌+◌, ◌-◌, ◌<◌, ◌≤◌, ◌⊎◌, inl, inr, Some, List, ◌++◌, length, take, drop, length-append, sym, ap, ◌∙◌, subst, arith}
 use Rattle.std.specs.Prelude.{min}
 use Rattle.std.proofs.lemmas.List.{get_or_append_left, drop-append-le, length-drop, take_all}
 use Rattle.inet_sum.specs.Stands.{FoldAndLength}
 use Rattle.net_bytes.specs.Bytes.{byte}
 use Rattle.frame_layout.specs.Shape.{Layout, shape_of}
 use Rattle.frame_layout.specs.Candidate.{IsCandidate, IsLengthRight}
-use Rattle.frame_layout.specs.Headers.{size, AreLaid}
-use Rattle.frame_layout.specs.Headers.{AtHeaders}
-use Rattle.frame_layout.specs.declared.layout.Header.{Header}
 use Rattle.frame_layout.specs.declared.layout.Layer.TheVariants.{Ethernet, Ip4, Ip6}
 use Rattle.frame_layout.proofs.Networks.{has_network}
 use Rattle.frame_layout.proofs.Fronts.{same_shapes}

@@ -1,7 +1,7 @@
 -- The headers of a shape lie one behind the other, and the fields that may differ do not change it.
 use Rattle.std.proofs.Common.{◌≡◌, ℕ, zero, suc, ◌+◌, ◌*◌, ◌/◌, ◌%◌, ◌<◌, ◌≤◌, inl, inr, Bool, true, false, Option, Some, None, List, [], ◌∷◌, length, refl, sym, ap, ◌∙◌, subst, arith}
 use Rattle.std.specs.Prelude.{◌&&◌, ◌==◌, nat_le, nat_lt, if◌then◌else◌}
-use Rattle.std.proofs.lemmas.Bool.{and_parts, leb-true, ltb-true, le-leb, and_from}
+use Rattle.std.proofs.lemmas.Bool.{and_parts, ltb-true, le-leb, and_from}
 use Rattle.net_bytes.specs.Bytes.{byte, be16}
 use Rattle.eth_vlan.specs.Tag.{is_tag}
 use Rattle.frame_layout.specs.Shape.{Layout, header, vxlan_there, tcp_from, carried_from, ip4_from, ip6_from, network_from, typed_from, ethernet_from, vxlan_from, shape_of}

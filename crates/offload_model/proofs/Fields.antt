@@ -40,13 +40,6 @@ be32_bytes f g at bf bg e = (
   omega (arith, bf at, bf (at + 1), bg at, bg (at + 1), bf (at + 2), bf (at + 2 + 1), bg (at + 2), bg (at + 2 + 1)),
 )
 
--- writing what is there changes nothing
-pub put16_same : (f : List ℕ) (at : ℕ) → ((k : ℕ) → byte f k < 256) → put16 f at (be16 f at) ≡ f
-put16_same f at bf =
-    let high : be16 f at / 256 ≡ byte f at = omega (arith, bf at, bf (at + 1)) in
-    let low : be16 f at % 256 ≡ byte f (at + 1) = omega (arith, bf at, bf (at + 1)) in
-    rw (high, low) (ap (λ x. set x (at + 1) (byte f (at + 1))) (set-get_or f at 0) ∙ set-get_or f (at + 1) 0)
-
 -- lists that agree outside a field are one list once the field is zero
 pub zeroed_same : (xs ys : List ℕ) (o : ℕ) → length xs ≡ length ys
     → ((i : ℕ) → i < length xs → i ≢ o → i ≢ o + 1 → byte xs i ≡ byte ys i) → put16 xs o 0 ≡ put16 ys o 0

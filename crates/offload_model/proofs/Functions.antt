@@ -155,10 +155,6 @@ placed_fields Ip4 = (4, 2) ∷ []
 placed_fields Tcp = (4, 4) ∷ []
 placed_fields _ = []
 
--- an identification, written only where it is not fixed
-put_id : Bool → ℕ → ℕ → List ℕ → List ℕ
-put_id stays i at f = if stays then f else put16 f (at + 4) ((be16 f (at + 4) + i) % 2 ^ 16)
-
 id_long : (stays : Bool) (i at : ℕ) (f : List ℕ) → length (if stays then f else put16 f (at + 4) ((be16 f (at + 4) + i) % 2 ^ 16)) ≡ length f
 id_long true i at f = refl
 id_long false i at f = length-put16 f (at + 4) ((be16 f (at + 4) + i) % 2 ^ 16)

@@ -67,10 +67,6 @@ grown layout first ps x l = record {
   fits = l.fits;
 }
 
--- a line whose last member is full too is full
-pub full_from_last : {X : Type 0} (P : ℕ → X → Type 0) (xs : List X) (x : X) → EachButLast P (xs ++ (x ∷ [])) → P (length xs) x → Each P (xs ++ (x ∷ []))
-full_from_last P xs x e p = each_push P xs x (each_but_last P xs x e) p
-
 -- ---- identifications, one packet on: which of the two it may be is known from the second packet on
 
 abbrev pub AreIdsRising : List ℕ → List Packet → ℕ → Type 0
@@ -101,11 +97,6 @@ ids_before first ps x at (inr s) =
       each_front (λ i p. be16 p.frame (at + 4) ≡ be16 first (at + 4)) ps (x ∷ []) s.1,
       each_last (λ i p. be16 p.frame (at + 4) ≡ be16 first (at + 4)) ps x s.1,
     )
-
--- two packets or more do not both rise and stay
-pub ids_apart : (first : List ℕ) (ps : List Packet) (d : Packet) (at : ℕ) → 2 ≤ length ps → be16 first (at + 4) < 65536
-    → AreIdsRising first ps at → AreIdsStaying first ps at → ⊥
-ids_apart first ps d at two small r s = omega (arith, r.at 1 d two, s.at 1 d two)
 
 -- one more packet, both ways
 pub grows_by_one : GrowsByOne

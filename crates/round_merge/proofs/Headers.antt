@@ -88,16 +88,6 @@ module _ (f g : List ℕ) (end : ℕ) where
   pub alike_from : (hs : List Header) → AreLaid 0 hs end → ((k : ℕ) → k < end → AtHeaders (IsOutside k) hs → byte f k ≡ byte g k) → AreAlikeFrom f g end 0 (varying_in hs)
   alike_from hs l s = within 0 (varying_in hs) (apart_all 0 end hs l) (λ k h b o. s k b (at_outside k hs o))
 
--- ---- walks along the headers
-
-pub all_step : (t : Layer → ℕ → Bool) (hs : List Header) (i : ℕ) (d : Header) → i < length hs → t (get_or hs i d).layer (get_or hs i d).at ≡ true
-    → all_headers t (drop (i + 1) hs) ≡ all_headers t (drop i hs)
-all_step t hs i d h e = sym (ap (all_headers t) (drop_more hs i d h) ∙ ap (λ b. b && all_headers t (drop (i + 1) hs)) e)
-
-pub all_stop : (t : Layer → ℕ → Bool) (hs : List Header) (i : ℕ) (d : Header) → i < length hs → t (get_or hs i d).layer (get_or hs i d).at ≡ false
-    → false ≡ all_headers t (drop i hs)
-all_stop t hs i d h e = sym (ap (all_headers t) (drop_more hs i d h) ∙ ap (λ b. b && all_headers t (drop (i + 1) hs)) e)
-
 -- ---- parts of frames
 
 pub same_parts : (f g : List ℕ) (from to n : ℕ) → from + n ≡ to → to ≤ length f → to ≤ length g → AreSame f g from to → take n (drop from f) ≡ take n (drop from g)

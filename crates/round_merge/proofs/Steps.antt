@@ -108,9 +108,6 @@ early_grows rs key i x run e last = λ n a b.
     subst (λ z. AllByRecursion (λ run. first_number number_of run < n) (set rs i (z ++ (x ∷ [])))) (sym e)
     (early_set n rs i x (filled_run rs i key (last.1 [])) a)
 
-pub early_opens : (rs : List (List Packet)) (x : Packet) → KeepsEarly rs x (rs ++ ((x ∷ []) ∷ []))
-early_opens rs x = λ n a b. all_append (λ run. first_number number_of run < n) rs ((x ∷ []) ∷ []) a (b, tt)
-
 -- ---- a packet that has no key
 
 no_key : (f : List ℕ) (layout : Layout) → key_of f ≡ None → shape_of f ≡ Some layout → ⊥
