@@ -1,5 +1,6 @@
 mod Packets
 mod PartRound
+mod Makings
 mod Outputs
 mod Rounding
 mod Whole

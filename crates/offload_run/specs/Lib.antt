@@ -1,5 +1,6 @@
 pub mod Output
 pub mod Reading
+pub mod Making
 pub mod Merging
 pub mod Codes
 pub mod Log

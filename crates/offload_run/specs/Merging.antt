@@ -12,10 +12,11 @@ use Rattle.pcap_io.specs.Places.{found_at}
 use Rattle.pcap_io.specs.Reading.{Loses}
 use Rattle.segment_run.specs.Segmenting.{FlushedBehind}
 use Rattle.offload_words.specs.declared.words.Command.{Command}
-use Rattle.offload_words.specs.declared.words.Command.TheVariants.{Merge, Segment}
+use Rattle.offload_words.specs.declared.words.Command.TheVariants.{Merge, Segment, Make}
 use Rattle.offload_run.specs.declared.status.Status.{Status}
 use Rattle.offload_run.specs.declared.status.Status.TheVariants as statuses
 use Rattle.offload_run.specs.Segmenting.{SegmentStatus}
+use Rattle.offload_run.specs.Making.{MakeAnswers}
 use Rattle.offload_run.specs.Output.{rounds_bytes, merged, WritesMerged}
 
 -- what is written of the records that these bytes hold from a place on
@@ -63,3 +64,4 @@ MergeAnswers budget old new is_flushed untouched statuses.NoMemory given left = 
 abbrev pub Answers : Command → Option (List ℕ) → Option (List ℕ) → Bool → Type 0 → Status → List ℕ → List ℕ → Type 0
 Answers (Merge options) old new is_flushed untouched status given left = MergeAnswers options.budget old new is_flushed untouched status given left
 Answers Segment old new is_flushed untouched status given left = SegmentStatus old new is_flushed untouched status given left
+Answers (Make options) old new is_flushed untouched status given left = MakeAnswers options old new is_flushed status × (left ≡ given)

@@ -4,11 +4,13 @@ ghost use Rattle.off_io.specs.Faults.{Rose};
 ghost use Rattle.off_io.specs.Told.{Told};
 ghost use Rattle.offload_words.specs.Commands.{command_of, HasRanges};
 ghost use Rattle.status_log.specs.Lines.{Logs};
+ghost use Rattle.offload_run.specs.Making.{Makes};
 ghost use Rattle.offload_run.specs.Merging.{Answers};
 ghost use Rattle.offload_run.specs.Log.{log_line};
 
 use crate::Status;
 use crate::logging::write_log;
+use crate::make::run_make;
 use crate::merge::merge_capture;
 use crate::segment::run_segment;
 use off_io::{Gate, Sink, Source};
@@ -24,6 +26,7 @@ fn run_command<S: Source, K: Sink>(
 ) -> Status
     requires { HasRanges command }
     ensures given { Told (S.left source.old) (S.left source.new) (Answers command (K.held sink.old) (K.held sink.new) (K.is_flushed sink.new) (sink.new ≡ sink.old) result) }
+    ensures made { Makes command (K.held sink.old) (K.held sink.new) (K.is_flushed sink.new) (source.new ≡ source.old) result }
     ensures not_usage { result ≡ Status.Usage → ⊥ }
     ensures later { S.faults source.old ≤ S.faults source.new }
     ensures later_sink { K.faults sink.old ≤ K.faults sink.new }
@@ -33,6 +36,7 @@ fn run_command<S: Source, K: Sink>(
     match command {
         Command::Merge(options) => merge_capture(alloc, options, source, sink),
         Command::Segment => run_segment(alloc, source, sink),
+        Command::Make(options) => run_make(options, sink),
     }
 }
 
@@ -47,6 +51,7 @@ fn run_words<S: Source, K: Sink>(
     ensures no_command { command_of (map string_bytes words.now) ≡ None → (result ≡ Status.Usage) ⊎ (result ≡ Status.NoMemory) }
     ensures untouched { command_of (map string_bytes words.now) ≡ None → (source.new ≡ source.old) × (sink.new ≡ sink.old) }
     ensures given { IfSome (command_of (map string_bytes words.now)) (λ command. Told (S.left source.old) (S.left source.new) (Answers command (K.held sink.old) (K.held sink.new) (K.is_flushed sink.new) (sink.new ≡ sink.old) result)) }
+    ensures made { IfSome (command_of (map string_bytes words.now)) (λ command. Makes command (K.held sink.old) (K.held sink.new) (K.is_flushed sink.new) (source.new ≡ source.old) result) }
     ensures later { S.faults source.old ≤ S.faults source.new }
     ensures later_sink { K.faults sink.old ≤ K.faults sink.new }
     ensures read { result ≡ Status.ReadFault → Rose (S.faults source.old) (S.faults source.new) }
@@ -61,7 +66,7 @@ fn run_words<S: Source, K: Sink>(
 
 /// Runs the command that the words ask for, the program's name before it, and logs how it ended. `merge` reads a capture
 /// of Ethernet frames from the source and writes its records to the sink; `segment` reads an offload capture and writes the
-/// packets that its records stand for.
+/// packets that its records stand for; `make` reads nothing and writes a generated capture (clause `made`).
 ///
 /// `Usage` exactly where the words are none of the command set, want of memory aside: then nothing is read or written, and
 /// the counts of faults of the source and the sink stay as they are. `Ok` and `Malformed` exactly as the capture ends,
@@ -83,6 +88,7 @@ pub fn run<S: Source + Send, K: Sink + Send, L: Sink, G: Gate + Sync>(
     ensures no_command { command_of (map string_bytes words.now) ≡ None → (result ≡ Status.Usage) ⊎ (result ≡ Status.NoMemory) }
     ensures untouched { command_of (map string_bytes words.now) ≡ None → (source.new ≡ source.old) × (sink.new ≡ sink.old) }
     ensures given { IfSome (command_of (map string_bytes words.now)) (λ command. Told (S.left source.old) (S.left source.new) (Answers command (K.held sink.old) (K.held sink.new) (K.is_flushed sink.new) (sink.new ≡ sink.old) result)) }
+    ensures made { IfSome (command_of (map string_bytes words.now)) (λ command. Makes command (K.held sink.old) (K.held sink.new) (K.is_flushed sink.new) (source.new ≡ source.old) result) }
     ensures later { S.faults source.old ≤ S.faults source.new }
     ensures later_sink { K.faults sink.old ≤ K.faults sink.new }
     ensures read { result ≡ Status.ReadFault → Rose (S.faults source.old) (S.faults source.new) }

@@ -20,6 +20,7 @@
 mod command;
 mod laws;
 mod logging;
+mod make;
 mod merge;
 mod output;
 mod packet;
@@ -37,7 +38,7 @@ pub use command::run;
 pub use laws::every_flow_comes_back;
 pub use logging::write_log;
 pub use merge::merge_all;
-pub use offload_words::{Command, MergeOptions, WordsFault, parse_words};
+pub use offload_words::{Command, MakeOptions, MergeOptions, WordsFault, parse_words};
 pub use output::write_round;
 pub use packet::{NoMemory, Stop, read_packet};
 pub use round::{Round, RoundEnd, read_round};

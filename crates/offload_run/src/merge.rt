@@ -29,7 +29,7 @@ fn status_of(fault: InFault) -> Status
 }
 
 // The answer after the last write: the sink is flushed first.
-fn finish<K: Sink>(sink: &mut K, status: Status) -> Status
+pub(crate) fn finish<K: Sink>(sink: &mut K, status: Status) -> Status
     ensures answer { (result ≡ status) ⊎ (result ≡ Status.WriteFault) }
     ensures content { Keeps (K.held sink.old) (K.held sink.new) }
     ensures flushed { result ≡ Status.WriteFault ⊎ SaysFlushed (K.held sink.new) (K.is_flushed sink.new) true }

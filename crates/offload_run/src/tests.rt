@@ -434,3 +434,41 @@ fn lines_of_words(rt: HostRuntime) -> Result<(), Fail> {
     }
     Ok(())
 }
+
+// A line, and the length and the hash of the capture that it makes.
+const MADE: [(&str, usize, u32); 4] = [
+    ("offload make --seed 0 --count 0", 24, 2459910643),
+    ("offload make --seed 0 --count 1", 1344, 4245813587),
+    ("offload make --count 40", 47902, 1836684797),
+    ("offload make", 1169776, 3027703749),
+];
+
+#[test]
+fn captures_are_made(rt: HostRuntime) -> Result<(), Fail> {
+    let alloc = rt.alloc();
+    for (line, len, want) in MADE {
+        // A read would fail, and none is made.
+        let ended = run_line(alloc, line, &CAPTURE, 4096, &[0], &[])?;
+        assert_eq!(rt; ended.status, Status::Ok, "at {line}");
+        assert_eq!(rt; ended.sink.bytes().len(), len, "at {line}");
+        assert_eq!(rt; hash(ended.sink.bytes()), want, "at {line}");
+        assert!(rt; ended.sink.is_flushed(), "at {line}");
+        assert_eq!(rt; ended.log.bytes(), b"".as_slice(), "at {line}");
+    }
+    // The file header, two records and the flush.
+    for (call, len) in [(0, 0), (1, 24), (2, 1314), (3, 2584)] {
+        let ended = run_line(alloc, "offload make --count 2", &[], 4096, &[], &[call])?;
+        assert_eq!(rt; ended.status, Status::WriteFault, "call {call}");
+        assert_eq!(rt; ended.sink.bytes().len(), len, "call {call}");
+        assert_eq!(rt; ended.log.bytes(), b"write fault\n".as_slice());
+    }
+    // All segments together have as many bytes as the capture that they were merged from.
+    let made = run_line(alloc, "offload make --count 40", &[], 4096, &[], &[])?;
+    let merged = run_line(alloc, MERGE, made.sink.bytes(), 4096, &[], &[])?;
+    assert_eq!(rt; merged.status, Status::Ok);
+    assert!(rt; merged.sink.bytes().len() < made.sink.bytes().len());
+    let cut = run_line(alloc, "offload segment", merged.sink.bytes(), 4096, &[], &[])?;
+    assert_eq!(rt; cut.status, Status::Ok);
+    assert_eq!(rt; cut.sink.bytes().len(), made.sink.bytes().len());
+    Ok(())
+}

@@ -1,0 +1,22 @@
+-- What `make` says of each answer. It reads nothing.
+use Rattle.std.specs.Prelude.{ℕ, List, Bool, true, Option, ⊤}
+use Rattle.std.specs.Io.KnownBytes.{Appends}
+use Rattle.off_io.specs.Content.{AppendsFront, SaysFlushed}
+use Rattle.offload_words.specs.declared.make.MakeOptions.{MakeOptions}
+use Rattle.offload_words.specs.declared.words.Command.{Command}
+use Rattle.offload_words.specs.declared.words.Command.TheVariants.{Make}
+use Rattle.cap_make.specs.Capture.{made}
+use Rattle.offload_run.specs.declared.status.Status.{Status}
+use Rattle.offload_run.specs.declared.status.Status.TheVariants as statuses
+
+-- the whole generated capture was written and flushed; where the sink failed or memory ran out, a front of it was written
+abbrev pub MakeAnswers : MakeOptions → Option (List ℕ) → Option (List ℕ) → Bool → Status → Type 0
+MakeAnswers options old new is_flushed statuses.Ok = Appends old new (made options.seed options.count) × SaysFlushed new is_flushed true
+MakeAnswers options old new is_flushed statuses.WriteFault = AppendsFront old new (made options.seed options.count)
+MakeAnswers options old new is_flushed statuses.NoMemory = AppendsFront old new (made options.seed options.count)
+MakeAnswers options old new is_flushed _ = ⊥
+
+-- the same where the command is `make`, whatever a source tells; `untouched` says that the source is as it was
+abbrev pub Makes : Command → Option (List ℕ) → Option (List ℕ) → Bool → Type 0 → Status → Type 0
+Makes (Make options) old new is_flushed untouched status = MakeAnswers options old new is_flushed status × untouched
+Makes _ old new is_flushed untouched status = ⊤
