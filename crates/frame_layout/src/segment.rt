@@ -5,6 +5,7 @@ ghost use Rattle.frame_layout.specs.Headers.{size, AtHeaders};
 ghost use Rattle.frame_layout.specs.Segment.{flags_before as flags_before_said, flags_of as flags_said};
 
 use crate::layout::{Header, Layer, Layout};
+use tcp_headers::tcp;
 
 /// A frame that may be merged: its headers, the length of its payload, and its TCP control bits.
 #[derive(Drop)]
@@ -24,7 +25,7 @@ fn flags_before(head: &[u8], header: Header, behind: u8) -> u8
     ensures { result ≡ flags_before_said head.now header.layer header.at behind }
 {
     match header.layer {
-        Layer::Tcp => head[header.at as usize + 13],
+        Layer::Tcp => tcp::flags(head, header.at as usize),
         _ => behind,
     }
 }

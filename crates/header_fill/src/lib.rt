@@ -4,7 +4,9 @@
 //! lengths (RFC 791, section 3.1; RFC 8200, section 3; RFC 768) and right sums (RFC 1071). [`merge_headers`] makes these
 //! headers from the first packet's (`merged`: by the function of the model; `frame`: by what holds of the frame). It
 //! rests on [`fill`], which writes the lengths and sums of any headers before a payload (`filled`, `right`). No payload
-//! byte is read: what is known of the payload is its sum, which is joined from the sums of its pieces.
+//! byte is read: what is known of the payload is its sum, which is joined from the sums of its pieces. What a segment's
+//! place in its stream decides is written before that: identifications and sequence numbers by [`put_places`], control
+//! bits by [`put_flags`] (`edited`, whatever follows the headers).
 //!
 //! ```
 //! let payload = first_payload.joined(second_payload);
