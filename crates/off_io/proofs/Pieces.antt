@@ -1,5 +1,5 @@
 -- Lists of bytes that are taken piece by piece.
-use Rattle.std.proofs.Common.{◌≡◌, ◌≤◌, ◌+◌, ◌-◌, ℕ, List, [], ◌++◌, length, take, drop, sym, ap, ◌∙◌, arith, Option}
+use Rattle.std.proofs.Common.{◌≡◌, ◌≤◌, ◌+◌, ◌-◌, ℕ, List, [], ◌++◌, length, take, drop, sym, ap, ◌∙◌, arith, Option, add-zero, append-nil}
 use Rattle.std.proofs.lemmas.List.{take-append-drop, take-take, drop-take, drop-drop, drop_all, length-drop, take_rest, length-take-le, take-append-le, length-append}
 use Rattle.std.proofs.Math.Seq.{take-append-add}
 use Rattle.std.proofs.KnownBytes.{Appends-trans, Consumes-trans}
@@ -46,3 +46,9 @@ filled_within into piece at n le room =
     let post = post_of at (length into - at) into in
     let len : length (take at into) ≡ at = length-take-le at into le in
     omega (arith, len, length-append (take at into) (piece ++ post), length-append piece post)
+
+-- what was filled before stays
+pub filled_same : (into piece : List ℕ) (at : ℕ) → at ≤ length into → take at (put_mid at (length into - at) into piece) ≡ take at into
+filled_same into piece at le =
+    let whole : take (at + 0) (put_mid at (length into - at) into piece) ≡ take at into ++ [] = filled_take into piece at 0 le (omega arith) in
+    subst (λ k. take k (put_mid at (length into - at) into piece) ≡ take at into) (add-zero at) (whole ∙ append-nil (take at into))

@@ -8,8 +8,8 @@ use Rattle.std.proofs.KnownBytes.{Appends-kept}
 use Rattle.std.proofs.Common.{inl, inr, ◌⊎◌}
 use Rattle.std.proofs.lemmas.List.{length-map}
 use Rattle.std.proofs.KnownBytes.{Appends-nil}
-use Rattle.off_io.specs.Content.{AppendsFront}
-use Rattle.off_io.proofs.Appending.{front_then, front_more}
+use Rattle.off_io.specs.Content.{AppendsFront, Owes}
+use Rattle.off_io.proofs.Owing.{Owes-all, Owes-less, Owes-none, Owes-front, Owes-failed, front_whole}
 use Rattle.off_io.proofs.Telling.{Told-then, Told-same}
 use Rattle.pcap_io.specs.declared.heads.FileHead.{FileHead}
 use Rattle.pcap_io.specs.declared.faults.CapFault.{CapFault}
@@ -65,31 +65,6 @@ pub output_last : (budget : ℕ) (order : Order) (xs : List Packet) → 0 < budg
 output_last budget order [] room le = ap (flat_map (round_bytes order)) (rounds_none budget)
 output_last budget order (x ∷ xs) room le =
     ap (flat_map (round_bytes order)) (rounds_last budget (x ∷ xs) room (omega arith) le) ∙ append-nil (round_bytes order (x ∷ xs))
-
--- of `all` the bytes `rest` are still to be appended
-abbrev pub Owes : Option (List ℕ) → Option (List ℕ) → List ℕ → List ℕ → Type 0
-Owes old new all rest = (done : List ℕ) × Appends old new done × (done ++ rest ≡ all)
-
-pub Owes-all : (a : Option (List ℕ)) (all : List ℕ) → Owes a a all all
-Owes-all a all = ([], Appends-nil a, refl)
-
-pub Owes-less : (a b c : Option (List ℕ)) (all part rest : List ℕ) → Owes a b all (part ++ rest) → Appends b c part → Owes a c all rest
-Owes-less a b c all part rest p q = (p.0 ++ part, Appends-trans a b c p.0 part p.1 q, append_assoc p.0 part rest ∙ p.2)
-
-pub Owes-none : (a b : Option (List ℕ)) (all : List ℕ) → Owes a b all [] → Appends a b all
-Owes-none a b all p = subst (Appends a b) (sym (append-nil p.0) ∙ p.2) p.1
-
-pub Owes-front : (a b : Option (List ℕ)) (all rest : List ℕ) → Owes a b all rest → AppendsFront a b all
-Owes-front a b all rest p =
-    (length p.0, subst (Appends a b) (sym (take_at p.0 rest (length p.0) refl) ∙ ap (take (length p.0)) p.2) p.1)
-
--- a part of what is owed was written, and then the sink failed
-pub Owes-failed : (a b c : Option (List ℕ)) (all part rest : List ℕ) → Owes a b all (part ++ rest) → AppendsFront b c part → AppendsFront a c all
-Owes-failed a b c all part rest p q =
-    subst (AppendsFront a c) (append_assoc p.0 part rest ∙ p.2) (front_more a c (p.0 ++ part) rest (front_then a b c p.0 part p.1 q))
-
-pub front_whole : (a b : Option (List ℕ)) (all : List ℕ) → Appends a b all → AppendsFront a b all
-front_whole a b all p = (length all, subst (Appends a b) (sym (take_all (length all) all (omega arith))) p)
 
 -- what is written of the bytes that are gone is ahead of what is read, whatever follows them, and the rest is owed
 pub record Ahead (budget : ℕ) (held held' : Option (List ℕ)) (old new : Place) (bytes left : List ℕ) : Type 0 where

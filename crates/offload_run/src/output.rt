@@ -9,10 +9,8 @@ ghost use Rattle.round_merge.specs.Round.{item_of, frame_of, IsWritable};
 ghost use Rattle.offload_run.specs.Output.{item_bytes};
 
 use off_io::{Sink, WriteFault, write_all};
-use pcap_io::{FileHead, OffHead, write_rec_head};
+use pcap_io::{FileHead, OFF_HEAD_LEN, OffHead, write_rec_head};
 use round_merge::{Item, Packet};
-
-const OFF_HEAD_LEN: u32 = 12;
 
 // Writes the payloads of packets, one behind the other.
 fn write_payloads<K: Sink>(
@@ -65,8 +63,8 @@ fn write_item<K: Sink>(sink: &mut K, file: &FileHead, item: &Item) -> Result<(),
     ensures cause { HasCause (K.faults sink.old) (K.faults sink.new) result }
 {
     let head = head_of(item);
-    let captured = OFF_HEAD_LEN + item.len;
-    let original = OFF_HEAD_LEN + item.original;
+    let captured = OFF_HEAD_LEN as u32 + item.len;
+    let original = OFF_HEAD_LEN as u32 + item.original;
     write_rec_head(sink, file, item.sec, item.frac, captured, original)?;
     write_all(sink, &head.bytes())?;
     write_frame(sink, item)

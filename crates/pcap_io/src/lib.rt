@@ -36,7 +36,7 @@ pub use laws::{
     off_head_writes_back, rec_head_reads_back, rec_head_writes_back, split_is_unique,
 };
 pub use net_bytes::Order;
-pub use off_head::OffHead;
+pub use off_head::{OFF_HEAD_LEN, OffHead};
 pub use place::Place;
 pub use reader::{CaptureReader, take_file};
 pub use writer::{write_file_head, write_rec_head};

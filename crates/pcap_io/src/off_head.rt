@@ -5,6 +5,9 @@ ghost use Rattle.pcap_io.specs.Headers.{off_head};
 
 use net_bytes::{Order, be16, be32};
 
+/// The bytes of an offload header.
+pub const OFF_HEAD_LEN: usize = 12;
+
 /// The 12 bytes before each frame in a capture of link type 147, its fields as they stand, unjudged. Numbers are big-endian
 /// whatever the file's order is.
 ///

@@ -6,7 +6,7 @@ use Rattle.std.proofs.KnownBytes.{Appends-kept, Keeps-trans}
 use Rattle.std.specs.Prelude.{IfSome}
 use Rattle.std.specs.List.{flat_map}
 use Rattle.std.specs.Io.KnownBytes.{Appends, Keeps}
-use Rattle.off_io.specs.Content.{AppendsFront}
+use Rattle.off_io.specs.Content.{AppendsFront, Owes}
 use Rattle.off_io.specs.Told.{Told}
 use Rattle.off_io.proofs.Telling.{Told-then, Told-same}
 use Rattle.net_bytes.specs.declared.order.Order.{Order}
@@ -32,7 +32,7 @@ use Rattle.segment_run.specs.declared.segments.Refused.TheVariants as refused
 use Rattle.segment_run.specs.Records.{GivesRecord, GoesOn, FitsOffload, HoldsNone, Passes, packet_of}
 use Rattle.segment_run.specs.Output.{records_bytes, tested_at, output_at, WritesRecord}
 use Rattle.segment_run.specs.Segmenting.{Segments, IsEndFor, bad_record}
-use Rattle.segment_run.proofs.Owed.{Owes, Owes-all, Owes-less, Owes-none, Owes-failed, front_whole}
+use Rattle.off_io.proofs.Owing.{Owes-all, Owes-less, Owes-none, Owes-failed, front_whole}
 
 -- ---- what is read
 

@@ -1,6 +1,5 @@
 mod Taken
 mod Written
 mod Judging
-mod Owed
 mod Ahead
 mod Whole

@@ -11,11 +11,8 @@ ghost use Rattle.segment_run.specs.Records.{packet_of, FitsOffload};
 ghost use Rattle.segment_run.specs.Output.{records_bytes, segment_packet, segments_bytes, planned, FitsPlan, WritesRecord};
 
 use off_io::{Sink, WriteFault, write_all};
-use pcap_io::{FileHead, OffHead, RecHead, write_rec_head};
+use pcap_io::{FileHead, OFF_HEAD_LEN, OffHead, RecHead, write_rec_head};
 use record_cut::{BadOffload, Cut, Plan, judge};
-
-/// The bytes of an offload header.
-const OFF_HEAD_LEN: usize = 12;
 
 /// Why the packets of a record aren't all written.
 #[derive(Clone, Copy, Debug, PartialEq, Eq)]

@@ -4,7 +4,7 @@ use Rattle.std.proofs.lemmas.List.{take_all, length-drop}
 use Rattle.std.proofs.lemmas.Result.{err_from_is_err_and}
 use Rattle.off_io.specs.Content.{AppendsFront}
 use Rattle.round_merge.specs.declared.packet.Packet.{Packet}
-use Rattle.offload_run.proofs.Outputs.{wrote_one_more, failed_at}
+use Rattle.off_io.proofs.Owing.{wrote_one_more, failed_at}
 use Rattle.offload_run.proofs.output.write_payloads.Goals as goal
 
 -- all that stands from a place on

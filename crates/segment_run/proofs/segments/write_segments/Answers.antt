@@ -10,11 +10,11 @@ pub returns-in_err-write_segment-clause-err : goal.returns-in_err-write_segment-
 returns-in_err-write_segment-clause-err g c =
     let p = err_from_is_err_and c.from_residual.result c.from_residual.ensures.1 in
     let each : ℕ → Packet = λ i. segment_packet c.args.head.now (segment_at c.args.cut.now c.args.frame.now i) in
-    rw p.1 (failed_at _ _ _ c.args.file.now.order each c.loop-i.i c.args.cut.now.n (omega arith) c.loop-i.invariant.0 c.in_err-write_segment.ensures.err)
+    rw p.1 (failed_at c.args.file.now.order each c.loop-i.i c.args.cut.now.n (omega arith) _ _ _ c.loop-i.invariant.0 c.in_err-write_segment.ensures.err)
 
 pub loop-i-preserved : goal.loop-i-preserved
 loop-i-preserved g c =
     let each : ℕ → Packet = λ i. segment_packet c.args.head.now (segment_at c.args.cut.now c.args.frame.now i) in (
-      wrote_one_more _ _ _ c.args.file.now.order each c.loop-i.i c.loop-i.invariant.0 c.in_ok-write_segment.ensures.ok,
+      wrote_one_more c.args.file.now.order each c.loop-i.i c.args.cut.now.n (omega arith) _ _ _ c.loop-i.invariant.0 c.in_ok-write_segment.ensures.ok,
       omega (arith, c.in_ok-write_segment.ensures.cause.later),
     )
