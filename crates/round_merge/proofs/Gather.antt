@@ -1,23 +1,21 @@
 -- All packets of a round, one after the other.
-use Rattle.std.proofs.Common.{length, get_or, ◌≡◌, ℕ, ◌<◌, true, Option, Some, None, List, [], ◌∷◌, ◌++◌, map, refl, sym, ap, ◌∙◌, subst, arith, append_assoc, inl, inr, length-append}
-use Rattle.std.specs.Prelude.{◌==◌}
-use Rattle.std.specs.List.{AllByRecursion, filter}
-use Rattle.std.proofs.lemmas.Bool.{eq-eqb, cases_eq}
+use Rattle.std.proofs.Common.{length, get_or, ◌≡◌, ℕ, ◌<◌, List, [], ◌∷◌, ◌++◌, map, refl, sym, ap, ◌∙◌, subst, arith, append_assoc, inl, inr, length-append}
+use Rattle.std.specs.List.{AllByRecursion}
+use Rattle.std.proofs.lemmas.Bool.{cases_eq}
 use Rattle.std.proofs.lemmas.List.{map-append, get_or_append_left, get_or_push}
 use Rattle.maximal_runs.specs.Cut.{AllNeighbours}
 use Rattle.maximal_runs.specs.Items.{first_number, AreItems}
 use Rattle.maximal_runs.proofs.Items.{unique_items}
 use Rattle.maximal_runs.proofs.Pass.{all_front, all_back}
 use Rattle.pcap_io.specs.Capture.{Packet}
-use Rattle.frame_layout.specs.Key.{key_of, queue_of}
+use Rattle.frame_layout.specs.Key.{key_of}
 use Rattle.offload_model.specs.Mergeable.{IsMergeable}
-use Rattle.offload_model.specs.Rounds.{is_of, is_queued, key_in, number_of, items_of}
+use Rattle.offload_model.specs.Rounds.{is_of, key_in, number_of, items_of}
 use Rattle.offload_model.proofs.Fronts.{fronts_too}
 use Rattle.offload_model.proofs.Items.{items_are, is_key_self}
 use Rattle.round_merge.specs.declared.packet.Packet.{Packet as Held}
 use Rattle.round_merge.specs.Runs.{packet_of}
 use Rattle.offload_model.specs.Rounds.{runs_in}
-use Rattle.offload_model.specs.CaptureLaws.{OneQueueHasAll}
 use Rattle.round_merge.specs.Round.{AreRising}
 use Rattle.offload_model.proofs.OneQueue.{all_queued, one_queue}
 use Rattle.round_merge.specs.Table.{TakesPacket, KeepsEarly}

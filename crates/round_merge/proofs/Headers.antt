@@ -1,10 +1,10 @@
 -- Tests of headers and the facts that they stand for.
 use Rattle.std.proofs.Common.{◌≡◌, ℕ, zero, suc, ◌+◌, ◌-◌, ◌*◌, ◌<◌, ◌≤◌, inl, inr, Bool, true, false, List, [], ◌∷◌, ◌++◌, length, get_or, take, drop, refl, sym, ap, ◌∙◌, subst, arith}
-use Rattle.std.specs.Prelude.{◌&&◌, ◌↔◌, nat_le}
+use Rattle.std.specs.Prelude.{◌&&◌, nat_le}
 use Rattle.std.proofs.lemmas.Bool.{and_parts, leb-true}
 use Rattle.std.proofs.lemmas.List.{drop_more, length-drop, length-take-le, get_or-take, get_or-drop, ext_get_or}
 use Rattle.net_bytes.specs.Bytes.{byte}
-use Rattle.frame_layout.specs.Headers.{AtHeaders, all_headers, varying, IsOutsideOf, IsOutside, AreLaid, size, ip_weight, ip_count}
+use Rattle.frame_layout.specs.Headers.{AtHeaders, varying, IsOutsideOf, IsOutside, AreLaid, size, ip_weight, ip_count}
 use Rattle.frame_layout.specs.declared.layout.Header.{Header}
 use Rattle.frame_layout.specs.declared.layout.Layer.{Layer}
 use Rattle.frame_layout.specs.declared.layout.Layer.TheVariants.{Ip4, Ip6}

@@ -5,7 +5,6 @@ use Rattle.std.proofs.lemmas.List.{set_split, take-append-drop, drop_more, get_o
 use Rattle.std.proofs.lemmas.List.Elements.{filter-append}
 use Rattle.maximal_runs.specs.Items.{begins_in, first_number, AreItems}
 use Rattle.maximal_runs.proofs.Items.{opens_item, extends_item, filter_none}
-use Rattle.maximal_runs.proofs.Pass.{all_append}
 use Rattle.pcap_io.specs.Capture.{Packet}
 use Rattle.frame_layout.specs.Shape.{Layout, shape_of}
 use Rattle.frame_layout.specs.Key.{key_of}

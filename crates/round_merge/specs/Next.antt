@@ -7,7 +7,7 @@ use Rattle.frame_layout.specs.Shape.{Layout}
 use Rattle.frame_layout.specs.Headers.{all_headers, varying, AreHeadersAlike, size}
 use Rattle.frame_layout.specs.declared.layout.Header.{Header}
 use Rattle.frame_layout.specs.declared.layout.Layer.{Layer}
-use Rattle.frame_layout.specs.declared.layout.Layer.TheVariants.{Ip4, Ip6, Udp, Tcp}
+use Rattle.frame_layout.specs.declared.layout.Layer.TheVariants.{Ip4, Ip6}
 use Rattle.offload_model.specs.Tests.{are_udp_sums_alike, is_sequence_behind, is_length_in_range}
 
 -- a header of the next frame: it has a UDP sum where the first frame has one, its sequence number is `further` bytes behind that of

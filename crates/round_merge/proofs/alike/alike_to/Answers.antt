@@ -1,5 +1,4 @@
-use Rattle.std.proofs.Common.{ℕ, ◌+◌, ◌≤◌, arith, get_or}
-use Rattle.round_merge.specs.Next.{fields_at}
+use Rattle.std.proofs.Common.{arith}
 use Rattle.round_merge.proofs.Headers.{field_fits}
 use Rattle.round_merge.proofs.alike.alike_to.Goals as goal
 

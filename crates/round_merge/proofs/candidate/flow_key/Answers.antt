@@ -1,5 +1,4 @@
 use Rattle.std.proofs.Common.{refl, subst, arith}
-use Rattle.frame_layout.specs.Key.{IsHeadOf}
 use Rattle.round_merge.specs.Runs.{IsShaped}
 use Rattle.round_merge.proofs.candidate.flow_key.Goals as goal
 

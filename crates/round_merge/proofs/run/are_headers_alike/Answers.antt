@@ -1,4 +1,4 @@
-use Rattle.std.proofs.Common.{ℕ, List, subst, arith}
+use Rattle.std.proofs.Common.{ℕ, List, subst}
 use Rattle.std.specs.Bool.{Decides}
 use Rattle.frame_layout.specs.declared.layout.Header.{Header}
 use Rattle.round_merge.specs.Next.{varying_in, AreAlikeFrom}
