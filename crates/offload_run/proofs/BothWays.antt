@@ -1,5 +1,5 @@
 -- Merging and then segmenting brings every flow back.
-use Rattle.std.proofs.Common.{◌≡◌, ℕ, ◌+◌, ◌<◌, ◌≤◌, inl, inr, Option, List, [], take, drop, length, refl, sym, ap, subst, arith, Bool, if◌then◌else◌}
+use Rattle.std.proofs.Common.{◌≡◌, ℕ, ◌+◌, ◌<◌, inl, inr, Option, List, [], take, drop, refl, sym, ap, subst, arith, if◌then◌else◌}
 use Rattle.std.specs.Prelude.{is_some}
 use Rattle.std.proofs.lemmas.List.{get_or-take, get_or_past, get_or-drop, length-take}
 use Rattle.std.proofs.lemmas.Bool.{cases_lt}

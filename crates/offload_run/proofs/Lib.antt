@@ -3,6 +3,7 @@ mod PartRound
 mod Makings
 mod Outputs
 mod Rounding
+mod Numbered
 mod Whole
 mod BothWays
 mod Statuses

@@ -8,7 +8,7 @@ use Rattle.cap_make.specs.Capture.{made}
 use Rattle.offload_run.specs.declared.status.Status.{Status}
 use Rattle.offload_run.specs.declared.status.Status.TheVariants as statuses
 use Rattle.offload_run.specs.Making.{MakeAnswers}
-use Rattle.offload_run.proofs.Rounding.{front_whole}
+use Rattle.off_io.proofs.Owing.{front_whole}
 
 -- all was written, and then the sink was flushed, or failed
 pub made_and_flushed : (o : MakeOptions) (a b c : Option (List ℕ)) (flushed : Bool) (status : Status) → Appends a b (made o.seed o.count) → Keeps b c

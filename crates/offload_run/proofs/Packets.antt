@@ -97,6 +97,14 @@ whole_given a b c old mid new found head frame some enters size on first then =
     Told-then a b c (GivesHead old (Ok (Some head))) (GivesFrame mid (Ok frame)) (GivesPacket old new (Ok (Some (record { number = head.number; sec = head.sec; frac = head.frac; original = head.original; frame = frame }))))
     (λ bytes rest left takes gives. body_whole old mid new head frame bytes rest left entered size on takes gives) at_some then
 
+-- the same of a packet that was put together so
+pub packet_given : (a b c : Option (List ℕ)) (old mid new : Place) (found : Option RecHead) (head : RecHead) (frame : Vec ℕ Global) (p : Packet)
+    → p ≡ record { number = head.number; sec = head.sec; frac = head.frac; original = head.original; frame = frame }
+    → found ≡ Some head → IfSome found (EntersBody old mid) → length frame.items ≡ mid.body → ReadsOn mid new mid.body
+    → Told a b (GivesHead old (Ok found)) → Told b c (GivesFrame mid (Ok frame)) → Told a c (GivesPacket old new (Ok (Some p)))
+packet_given a b c old mid new found head frame p is some enters size on first then =
+    subst (λ q. Told a c (GivesPacket old new (Ok (Some q)))) (sym is) (whole_given a b c old mid new found head frame some enters size on first then)
+
 pub none_from : {X : Type 0} (o : Option X) → ((x : X) → o ≡ Some x → ⊥) → o ≡ None
 none_from None h = refl
 none_from (Some x) h = absurd (h x refl)

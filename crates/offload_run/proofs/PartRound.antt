@@ -17,7 +17,7 @@ use Rattle.offload_run.specs.declared.packet.Stop.TheVariants.{Cap, ReadFault, N
 use Rattle.offload_run.specs.declared.round.RoundEnd.{RoundEnd}
 use Rattle.offload_run.specs.declared.round.RoundEnd.TheVariants as ends
 use Rattle.pcap_io.specs.Reading.{Loses}
-use Rattle.offload_run.specs.Reading.{GivesPacket, GivesRound, GoesOn, IsEndFor, FitsLink, Passes, Holds, in_front}
+use Rattle.offload_run.specs.Reading.{GivesPacket, GivesRound, GoesOn, IsEndFor, FitsLink, IsHeld, Passes, Holds, in_front}
 use Rattle.round_merge.specs.Runs.{packet_of}
 
 -- these packets stand before what is still to be read
@@ -31,11 +31,12 @@ pub record ReadSoFar (before now : Option (List ℕ)) (old new : Place) (packets
   pub number : new.number ≡ old.number + length packets
   pub ready : IsReady new
   pub small : All (FitsLink old.link) packets
+  pub held : All IsHeld packets
   pub rising : AreRising packets
   pub below : AllByRecursion (λ (p : Read). p.number < new.number) packets
 
-pub so_far_none : (a : Option (List ℕ)) (place : Place) → IsReady place → All (FitsLink place.link) [] → ReadSoFar a a place place []
-so_far_none a place ready small = record {
+pub so_far_none : (a : Option (List ℕ)) (place : Place) → IsReady place → All (FitsLink place.link) [] → All IsHeld [] → ReadSoFar a a place place []
+so_far_none a place ready small held = record {
   rising = tt;
   below = tt;
   told = Told-same a (Precede place place []) (λ bytes. ([], refl, λ tail. refl));
@@ -44,6 +45,7 @@ so_far_none a place ready small = record {
   number = omega arith;
   ready = ready;
   small = small;
+  held = held;
 }
 
 -- one more number above the others
@@ -67,8 +69,9 @@ precede_more old mid new packets p bytes rest left so_far one =
     )
 
 pub so_far_more : (a b c : Option (List ℕ)) (old mid new : Place) (packets : List Read) (p : Read)
-    → ReadSoFar a b old mid packets → Told b c (GivesPacket mid new (Ok (Some p))) → GoesOn mid new → FitsLink mid.link p → p.number ≡ mid.number → All (FitsLink old.link) (packets ++ p ∷ []) → ReadSoFar a c old new (packets ++ p ∷ [])
-so_far_more a b c old mid new packets p so_far told goes small numbered all = record {
+    → ReadSoFar a b old mid packets → Told b c (GivesPacket mid new (Ok (Some p))) → GoesOn mid new → FitsLink mid.link p → p.number ≡ mid.number → All (FitsLink old.link) (packets ++ p ∷ [])
+    → All IsHeld (packets ++ p ∷ []) → ReadSoFar a c old new (packets ++ p ∷ [])
+so_far_more a b c old mid new packets p so_far told goes small numbered all held = record {
   rising = rising_more mid.number packets p so_far.rising so_far.below numbered;
   below = below_more mid.number new.number packets p so_far.below numbered goes.number;
   told = Told-then a b c (Precede old mid packets) (GivesPacket mid new (Ok (Some p))) (Precede old new (packets ++ p ∷ []))
@@ -78,6 +81,7 @@ so_far_more a b c old mid new packets p so_far told goes small numbered all = re
   number = omega (arith, goes.number, so_far.number, length-append packets (p ∷ []));
   ready = goes.ready;
   small = all;
+  held = held;
 }
 
 pub round_full : (old new : Place) (packets : List Read) (bytes left : List ℕ) → Precede old new packets bytes left → GivesRound old new packets ends.Full bytes left
@@ -115,13 +119,15 @@ round_stop_given a b c old mid new packets stop end is first then =
 
 -- a packet that was found, in the words of one that was read
 pub so_far_found : (a b c : Option (List ℕ)) (old mid new : Place) (packets : List Read) (found : Option Read) (p : Read)
-    → found ≡ Some p → ReadSoFar a b old mid packets → Told b c (GivesPacket mid new (Ok found)) → OnSome found (GoesOn mid new) → IfSome found (FitsLink mid.link) → IfSome found (λ (q : Read). q.number ≡ mid.number) → ReadSoFar a c old new (packets ++ p ∷ [])
-so_far_found a b c old mid new packets found p some so_far told goes small numbered =
+    → found ≡ Some p → ReadSoFar a b old mid packets → Told b c (GivesPacket mid new (Ok found)) → OnSome found (GoesOn mid new) → IfSome found (FitsLink mid.link) → IfSome found (λ (q : Read). q.number ≡ mid.number)
+    → IfSome found IsHeld → ReadSoFar a c old new (packets ++ p ∷ [])
+so_far_found a b c old mid new packets found p some so_far told goes small numbered held =
     let told_p : Told b c (GivesPacket mid new (Ok (Some p))) = subst (λ (f : Option Read). Told b c (GivesPacket mid new (Ok f))) some told in
     let goes_p : GoesOn mid new = subst (λ (f : Option Read). OnSome f (GoesOn mid new)) some goes in
     let small_p : FitsLink mid.link p = subst (λ (f : Option Read). IfSome f (FitsLink mid.link)) some small in
     let small_old : FitsLink old.link p = subst (λ (k : Link). FitsLink k p) so_far.link small_p in
     so_far_more a b c old mid new packets p so_far told_p goes_p small_p (subst (λ (f : Option Read). IfSome f (λ (q : Read). q.number ≡ mid.number)) some numbered) (All-push (FitsLink old.link) packets p so_far.small small_old)
+    (All-push IsHeld packets p so_far.held (subst (λ (f : Option Read). IfSome f IsHeld) some held))
 
 -- whatever is read next, some bytes are gone from the front
 pub loses_more : (a b c : Option (List ℕ)) (old mid : Place) (packets : List Read) → Told a b (Precede old mid packets) → Told b c Loses → Told a c Loses

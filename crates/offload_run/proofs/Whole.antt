@@ -26,18 +26,18 @@ use Rattle.pcap_io.specs.Written.{file_bytes}
 use Rattle.off_io.proofs.Telling.{Told-then, Told-weaker}
 use Rattle.offload_run.specs.declared.status.Status.{Status}
 use Rattle.offload_run.specs.declared.status.Status.TheVariants as statuses
-use Rattle.offload_run.specs.Output.{options, round_bytes, rounds_bytes, merged, WritesMerged, FlowsComeBack}
-use Rattle.std.specs.List.{flat_map}
-use Rattle.std.proofs.Common.{◌<◌, zero, suc, ◌∷◌}
+use Rattle.offload_run.specs.Output.{options, round_bytes, merged, WritesMerged, FlowsComeBack}
+use Rattle.std.specs.List.{flat_map, AllByRecursion}
+use Rattle.std.proofs.Common.{◌<◌, ◌∷◌}
 use Rattle.std.proofs.lemmas.Grind.{flat_map-append}
 use Rattle.net_bytes.specs.declared.order.Order.{Order}
 use Rattle.pcap_io.specs.Capture.{Packet}
 use Rattle.offload_model.specs.Rounds.{rounds_of}
-use Rattle.offload_model.specs.Laws.{InBytes}
-use Rattle.offload_model.specs.Written.{written, record_bytes, round_records, records_of}
-use Rattle.offload_model.proofs.Captured.{captures_are_captured}
+use Rattle.offload_model.specs.Captured.{IsCaptured}
+use Rattle.offload_model.specs.Written.{written, record_bytes, round_records}
 use Rattle.offload_model.proofs.Flows.{flows_come_back}
-use Rattle.offload_run.specs.Merging.{Merges, Flushes, IsStatusFor, MergeAnswers, output_at}
+use Rattle.offload_run.specs.Merging.{Merges, Flushes, IsStatusFor, MergeAnswers, AreCapturedAt, output_at}
+use Rattle.offload_run.proofs.Numbered.{reads_rising}
 
 reads_is : (file : FileHead) (given rest : List ℕ) → GivesFile Ethernet (Ok file) given rest → reads Ethernet given ≡ found_at (first_place file Ethernet 0) rest
 reads_is file given rest gives =
@@ -52,13 +52,27 @@ rounds_joined order (r ∷ rs) =
     flat_map-append (record_bytes order) (round_records (options 0) r) (flat_map (round_records (options 0)) rs) ∙ ap (λ l. round_bytes order r ++ l) (rounds_joined order rs)
 
 -- every flow comes back of what is written
-flows_back : (budget : ℕ) → 0 < budget → (given : List ℕ) → InBytes given → FlowsComeBack budget (reads Ethernet given).packets
-flows_back budget room given small =
+flows_back : (budget : ℕ) → 0 < budget → (given : List ℕ) → AllByRecursion IsCaptured (reads Ethernet given).packets
+    → FlowsComeBack budget (reads Ethernet given).packets
+flows_back budget room given each =
     flows_come_back (options budget) (reads Ethernet given).packets (record { budget = omega arith; some = omega arith; queues = omega arith; taps = omega arith })
-    (captures_are_captured given small)
+    (record { each = each; rising = reads_rising given })
 
-writes_merged : (budget : ℕ) → 0 < budget → (old new : Option (List ℕ)) (given : List ℕ) → Appends old new (merged budget given) → WritesMerged budget old new given
-writes_merged budget room old new given a = record { appends = a; flows = flows_back budget room given }
+writes_merged : (budget : ℕ) → 0 < budget → (old new : Option (List ℕ)) (given : List ℕ)
+    → Appends old new (merged budget given) → AllByRecursion IsCaptured (reads Ethernet given).packets → WritesMerged budget old new given
+writes_merged budget room old new given a each = record { appends = a; flows = flows_back budget room given each }
+
+-- of what stands behind a file header
+each_behind : (file : FileHead) (given rest : List ℕ) → GivesFile Ethernet (Ok file) given rest
+    → AreCapturedAt (first_place file Ethernet 0) rest → AllByRecursion IsCaptured (reads Ethernet given).packets
+each_behind file given rest gives each = subst (λ (found : Found). AllByRecursion IsCaptured found.packets) (sym (reads_is file given rest gives)) each
+
+-- where the file header is refused there are no packets
+none_captured : (given : List ℕ) (kind : CapKind) → first_that_holds (file_refusals Ethernet (take 24 given)) ≡ Some kind
+    → AllByRecursion IsCaptured (reads Ethernet given).packets
+none_captured given kind refused =
+    let all = records_from (order_of (take 24 given)) Ethernet 0 24 0 (drop 24 given) in
+    subst (λ (r : Option CapKind). AllByRecursion IsCaptured (found_after r all).packets) (sym refused) tt
 
 merged_is : (budget : ℕ) (file : FileHead) (given rest : List ℕ) → GivesFile Ethernet (Ok file) given rest → merged budget given ≡ file_bytes file Offload ++ output_at budget (first_place file Ethernet 0) rest
 merged_is budget file given rest gives =
@@ -96,7 +110,8 @@ no_header budget room a b h flushed untouched same told =
     ap (λ (v : Bool). if v then Some ShortHeader else first_that_holds (drop 1 (file_refusals Ethernet (take 24 front)))) test in (
       front,
       gone.1,
-      writes_merged budget room h h front (subst (Appends h h) (sym (merged_none budget front ShortHeader refused)) (Appends-nil h)),
+      writes_merged budget room h h front (subst (Appends h h) (sym (merged_none budget front ShortHeader refused)) (Appends-nil h))
+          (none_captured front ShortHeader refused),
       record { behind = λ long. absurd (omega (arith, long, gone.2)); alone = λ none. same },
     )) told
 
@@ -108,7 +123,8 @@ bad_header budget room a b h flushed untouched fault same told =
     let refused = gives.0.0 in
     let all = records_from (order_of (take 24 given)) Ethernet 0 24 0 (drop 24 given) in (
       ap (λ (r : Option CapKind). (found_after r all).fault) refused ∙ ap (λ (k : CapFault). Some k) (sym gives.0.1),
-      writes_merged budget room h h given (subst (Appends h h) (sym (merged_none budget given fault.kind refused)) (Appends-nil h)),
+      writes_merged budget room h h given (subst (Appends h h) (sym (merged_none budget given fault.kind refused)) (Appends-nil h))
+          (none_captured given fault.kind refused),
       record { behind = λ lawful. absurd (none-some fault.kind (sym lawful ∙ refused)); alone = λ none. same },
       (take 24 given, sym (take-append-drop 24 given) ∙ ap (λ l. take 24 given ++ l) (sym gives.1)),
     )) told
@@ -142,12 +158,12 @@ answers : (budget : ℕ) → 0 < budget → (h h1 h2 : Option (List ℕ)) (flush
 answers budget room h h1 h2 flushed untouched file statuses.Ok given rest left head flush gives merges = (
   ap (λ (f : Found). f.fault) (reads_is file given rest gives) ∙ merges.0,
   merges.1,
-  writes_merged budget room h h2 given (subst (Appends h h2) (sym (merged_is budget file given rest gives)) (Appends-trans h h1 h2 _ _ head merges.2)),
+  writes_merged budget room h h2 given (subst (Appends h h2) (sym (merged_is budget file given rest gives)) (Appends-trans h h1 h2 _ _ head merges.2)) (each_behind file given rest gives merges.3),
   flush,
 )
 answers budget room h h1 h2 flushed untouched file (statuses.Malformed fault) given rest left head flush gives merges = (
   ap (λ (f : Found). f.fault) (reads_is file given rest gives) ∙ merges.0,
-  writes_merged budget room h h2 given (subst (Appends h h2) (sym (merged_is budget file given rest gives)) (Appends-trans h h1 h2 _ _ head merges.1)),
+  writes_merged budget room h h2 given (subst (Appends h h2) (sym (merged_is budget file given rest gives)) (Appends-trans h h1 h2 _ _ head merges.1)) (each_behind file given rest gives merges.3),
   record { behind = λ lawful. flush; alone = λ none. absurd (none gives.1) },
   (take 24 given ++ merges.2.0, behind file given rest merges.2.0 left gives merges.2.1),
 )
@@ -158,7 +174,8 @@ answers budget room h h1 h2 flushed untouched file statuses.ReadFault given rest
     let long : 24 ≤ length (front ++ merges.0) = again.0 in (
       front ++ merges.0,
       behind file given rest merges.0 left gives merges.1,
-      writes_merged budget room h h2 (front ++ merges.0) (subst (Appends h h2) (sym (merged_is budget file (front ++ merges.0) merges.0 again)) (Appends-trans h h1 h2 _ _ head merges.2)),
+      writes_merged budget room h h2 (front ++ merges.0) (subst (Appends h h2) (sym (merged_is budget file (front ++ merges.0) merges.0 again)) (Appends-trans h h1 h2 _ _ head merges.2))
+          (each_behind file (front ++ merges.0) merges.0 again merges.3),
       record { behind = λ enough. flush; alone = λ none. absurd (none long) },
     )
 answers budget room h h1 h2 flushed untouched file statuses.WriteFault given rest left head flush gives merges = front_of budget h h1 h2 file given rest left head gives merges

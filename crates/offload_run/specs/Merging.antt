@@ -1,5 +1,6 @@
 -- What the merging of a capture says of each answer.
 use Rattle.std.specs.Prelude.{◌≡◌, ℕ, ◌≤◌, List, [], ◌++◌, length, Bool, true, Option, None, Some, ⊤, take}
+use Rattle.std.specs.List.{AllByRecursion}
 use Rattle.std.specs.Io.KnownBytes.{Appends}
 use Rattle.off_io.specs.Content.{AppendsFront, SaysFlushed}
 use Rattle.pcap_io.specs.declared.place.Place.{Place}
@@ -10,6 +11,7 @@ use Rattle.pcap_io.specs.Headers.{first_that_holds, file_refusals}
 use Rattle.pcap_io.specs.Capture.{reads}
 use Rattle.pcap_io.specs.Places.{found_at}
 use Rattle.pcap_io.specs.Reading.{Loses}
+use Rattle.offload_model.specs.Captured.{IsCaptured}
 use Rattle.segment_run.specs.Segmenting.{FlushedBehind}
 use Rattle.offload_words.specs.declared.words.Command.{Command}
 use Rattle.offload_words.specs.declared.words.Command.TheVariants.{Merge, Segment, Make}
@@ -23,12 +25,16 @@ use Rattle.offload_run.specs.Output.{rounds_bytes, merged, WritesMerged}
 abbrev pub output_at : ℕ → Place → List ℕ → List ℕ
 output_at budget place bytes = rounds_bytes budget place.file.order (found_at place bytes).packets
 
+-- the packets that these bytes hold from a place on are such as a capture may hold
+abbrev pub AreCapturedAt : Place → List ℕ → Type 0
+AreCapturedAt place bytes = AllByRecursion IsCaptured (found_at place bytes).packets
+
 -- The bytes that are gone from the source were read, and what is written is what comes of them; where the sink failed or memory ran out, a front of it.
 abbrev pub Merges : ℕ → Place → Option (List ℕ) → Option (List ℕ) → Status → List ℕ → List ℕ → Type 0
-Merges budget place old new statuses.Ok bytes left = ((found_at place bytes).fault ≡ None) × (left ≡ []) × Appends old new (output_at budget place bytes)
-Merges budget place old new (statuses.Malformed fault) bytes left = ((found_at place bytes).fault ≡ Some fault) × Appends old new (output_at budget place bytes) × Loses bytes left
+Merges budget place old new statuses.Ok bytes left = ((found_at place bytes).fault ≡ None) × (left ≡ []) × Appends old new (output_at budget place bytes) × AreCapturedAt place bytes
+Merges budget place old new (statuses.Malformed fault) bytes left = ((found_at place bytes).fault ≡ Some fault) × Appends old new (output_at budget place bytes) × Loses bytes left × AreCapturedAt place bytes
 Merges budget place old new statuses.Usage bytes left = ⊥
-Merges budget place old new statuses.ReadFault bytes left = (gone : List ℕ) × (bytes ≡ gone ++ left) × Appends old new (output_at budget place gone)
+Merges budget place old new statuses.ReadFault bytes left = (gone : List ℕ) × (bytes ≡ gone ++ left) × Appends old new (output_at budget place gone) × AreCapturedAt place gone
 Merges budget place old new statuses.WriteFault bytes left = (gone : List ℕ) × (bytes ≡ gone ++ left) × AppendsFront old new (output_at budget place gone)
 Merges budget place old new statuses.NoMemory bytes left = (gone : List ℕ) × (bytes ≡ gone ++ left) × AppendsFront old new (output_at budget place gone)
 

@@ -11,7 +11,6 @@ use Rattle.offload_model.specs.Segments.{with_head, packet_in, segments_of}
 use Rattle.offload_model.specs.Rounds.{rounds_of, is_of}
 use Rattle.offload_model.specs.Written.{Options, head_of, round_records, records_of, record_bytes, written}
 use Rattle.offload_model.specs.Captured.{content}
-use Rattle.offload_model.specs.Laws.{InBytes}
 
 -- how a capture is merged: in rounds of `budget` records, in one queue, with no tap
 abbrev pub options : ℕ → Options
@@ -45,4 +44,4 @@ FlowsComeBack budget packets =
 -- the output of a capture was written, and every flow comes back of its records
 pub record WritesMerged (budget : ℕ) (old new : Option (List ℕ)) (given : List ℕ) : Type 0 where
   pub appends : Appends old new (merged budget given)
-  pub flows : InBytes given → FlowsComeBack budget (reads Ethernet given).packets
+  pub flows : FlowsComeBack budget (reads Ethernet given).packets

@@ -1,6 +1,6 @@
 -- What each answer of a call that reads says of the bytes that were left before it and are left after it.
 use Rattle.std.specs.declared.alloc.Global.{Global}
-use Rattle.std.specs.Prelude.{Vec, ◌<◌, ◌≡◌, ℕ, ◌+◌, List, [], ◌++◌, length, map, ◌≤◌, false, Option, None, Some, Result, Ok, Err}
+use Rattle.std.specs.Prelude.{Vec, ◌^◌, ◌<◌, ◌≡◌, ℕ, ◌+◌, List, [], ◌++◌, length, map, ◌≤◌, false, Option, None, Some, Result, Ok, Err}
 use Rattle.pcap_io.specs.declared.place.Place.{Place}
 use Rattle.pcap_io.specs.declared.heads.Link.{Link}
 use Rattle.pcap_io.specs.declared.faults.InFault.{InFault}
@@ -9,6 +9,7 @@ use Rattle.pcap_io.specs.Capture.{Packet, Found, ended, one_more}
 use Rattle.pcap_io.specs.Headers.{captured_limit, is_bad_original}
 use Rattle.pcap_io.specs.Places.{found_at, IsReady, short_record}
 use Rattle.pcap_io.specs.Reading.{FewerGone, Loses}
+use Rattle.offload_model.specs.Laws.{InBytes}
 use Rattle.round_merge.specs.declared.packet.Packet.{Packet as Read}
 use Rattle.offload_run.specs.declared.packet.Stop.{Stop}
 use Rattle.offload_run.specs.declared.packet.Stop.TheVariants.{Cap, ReadFault, NoMemory}
@@ -65,6 +66,13 @@ pub record GoesOn (old new : Place) : Type 0 where
 pub record FitsLink (link : Link) (p : Read) : Type 0 where
   pub captured : length p.frame.items ≤ captured_limit link
   pub original : is_bad_original link p.original ≡ false
+
+-- its numbers fit their fields, and its frame is bytes
+pub record IsHeld (p : Read) : Type 0 where
+  pub number : p.number < 2 ^ 32
+  pub sec : p.sec < 2 ^ 32
+  pub frac : p.frac < 2 ^ 32
+  pub in_bytes : InBytes p.frame.items
 
 -- the end of a round for a stop
 abbrev pub IsEndFor : Stop → RoundEnd → Type 0

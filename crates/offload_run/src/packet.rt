@@ -4,10 +4,10 @@ ghost use Rattle.off_io.specs.Faults.{Rose};
 ghost use Rattle.off_io.specs.Told.{Told};
 ghost use Rattle.pcap_io.specs.Places.{IsReady, ReadsOn};
 ghost use Rattle.pcap_io.specs.Readers.{place_of, source_of, SameLoan};
-ghost use Rattle.offload_run.specs.Reading.{GivesPacket, GivesFrame, GoesOn, FitsLink, IsStop};
+ghost use Rattle.offload_run.specs.Reading.{GivesPacket, GivesFrame, GoesOn, FitsLink, IsHeld, IsStop};
 
 use off_io::Source;
-use pcap_io::{CapFault, CaptureReader, InFault};
+use pcap_io::{CapFault, CaptureReader, InFault, RecHead};
 use round_merge::Packet;
 use std::alloc::Global;
 
@@ -29,6 +29,20 @@ fn stop_of(fault: InFault) -> Stop
     match fault {
         InFault::Cap(fault) => Stop::Cap(fault),
         InFault::ReadFault => Stop::ReadFault,
+    }
+}
+
+// A record's packet.
+fn packet_from(head: RecHead, frame: Vec<u8>) -> Packet
+    ensures packet { result ≡ record { number = head.number; sec = head.sec; frac = head.frac; original = head.original; frame = frame } }
+    ensures held { IsHeld result }
+{
+    Packet {
+        number: head.number,
+        sec: head.sec,
+        frac: head.frac,
+        original: head.original,
+        frame,
     }
 }
 
@@ -65,6 +79,7 @@ pub fn read_packet<S: Source>(
     ensures given { Told (S.left (source_of reader.old)) (S.left (source_of reader.new)) (GivesPacket (place_of reader.old) (place_of reader.new) result) }
     ensures next { IfOk result (λ found. OnSome found (GoesOn (place_of reader.old) (place_of reader.new))) }
     ensures fits { IfOk result (λ found. IfSome found (FitsLink (place_of reader.old).link)) }
+    ensures held { IfOk result (λ found. IfSome found IsHeld) }
     ensures numbered { IfOk result (λ found. IfSome found (λ packet. packet.number ≡ (place_of reader.old).number)) }
     ensures later { S.faults (source_of reader.old) ≤ S.faults (source_of reader.new) }
     ensures failed { result ≡ Err Stop.ReadFault → Rose (S.faults (source_of reader.old)) (S.faults (source_of reader.new)) }
@@ -80,11 +95,5 @@ pub fn read_packet<S: Source>(
         Ok(frame) => frame,
         Err(stop) => return Err(stop),
     };
-    Ok(Some(Packet {
-        number: head.number,
-        sec: head.sec,
-        frac: head.frac,
-        original: head.original,
-        frame,
-    }))
+    Ok(Some(packet_from(head, frame)))
 }

@@ -6,7 +6,7 @@ ghost use Rattle.pcap_io.specs.Places.{IsReady};
 ghost use Rattle.pcap_io.specs.Readers.{place_of, source_of, SameLoan};
 ghost use Rattle.round_merge.specs.Round.{AreRising};
 ghost use Rattle.pcap_io.specs.Reading.{Loses};
-ghost use Rattle.offload_run.specs.Reading.{GivesRound, FitsLink, IsEndFor, PassesRound};
+ghost use Rattle.offload_run.specs.Reading.{GivesRound, FitsLink, IsHeld, IsEndFor, PassesRound};
 
 use crate::packet::{NoMemory, Stop, read_packet};
 use off_io::Source;
@@ -62,6 +62,7 @@ pub fn read_round<S: Source>(
     ensures size { IfOk result (λ round. length round.packets.items ≤ budget) }
     ensures full { IfOk result (λ round. round.end ≡ RoundEnd.Full → PassesRound (place_of reader.old) (place_of reader.new) round.packets.items budget) }
     ensures fit { IfOk result (λ round. All (FitsLink (place_of reader.old).link) round.packets.items) }
+    ensures held { IfOk result (λ round. All IsHeld round.packets.items) }
     ensures rising { IfOk result (λ round. AreRising round.packets.items) }
     ensures later { S.faults (source_of reader.old) ≤ S.faults (source_of reader.new) }
     ensures failed { IfOk result (λ round. round.end ≡ RoundEnd.ReadFault → Rose (S.faults (source_of reader.old)) (S.faults (source_of reader.new))) }

@@ -467,7 +467,14 @@ fn captures_are_made(rt: HostRuntime) -> Result<(), Fail> {
     let merged = run_line(alloc, MERGE, made.sink.bytes(), 4096, &[], &[])?;
     assert_eq!(rt; merged.status, Status::Ok);
     assert!(rt; merged.sink.bytes().len() < made.sink.bytes().len());
-    let cut = run_line(alloc, "offload segment", merged.sink.bytes(), 4096, &[], &[])?;
+    let cut = run_line(
+        alloc,
+        "offload segment",
+        merged.sink.bytes(),
+        4096,
+        &[],
+        &[],
+    )?;
     assert_eq!(rt; cut.status, Status::Ok);
     assert_eq!(rt; cut.sink.bytes().len(), made.sink.bytes().len());
     Ok(())

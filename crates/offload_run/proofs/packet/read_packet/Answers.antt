@@ -1,4 +1,4 @@
-use Rattle.offload_run.proofs.Packets.{head_stop_given, end_given, cut_given, whole_given, none_from}
+use Rattle.offload_run.proofs.Packets.{head_stop_given, end_given, cut_given, packet_given, none_from}
 use Rattle.offload_run.proofs.packet.read_packet.Goals as goal
 
 pub returns-in_default-clause-given : goal.returns-in_default-clause-given
@@ -11,7 +11,8 @@ returns-in-Err-read_frame-clause-given g c =
 
 pub returns-clause-given : goal.returns-clause-given
 returns-clause-given g c =
-    whole_given _ _ _ c.args.reader.now.place c.next_head.new.self.place c.read_frame.new.reader.place c.in-Ok.found c.in-Some.head c.in-Ok-read_frame.frame c.in-Some.is c.in-Ok.ensures.enters c.in-Ok-read_frame.ensures.size c.in-Ok-read_frame.ensures.place c.in-Ok.ensures.given c.in-Ok-read_frame.ensures.given
+    packet_given _ _ _ c.args.reader.now.place c.next_head.new.self.place c.read_frame.new.reader.place c.in-Ok.found c.in-Some.head c.in-Ok-read_frame.frame
+    c.packet_from.result c.packet_from.ensures.packet c.in-Some.is c.in-Ok.ensures.enters c.in-Ok-read_frame.ensures.size c.in-Ok-read_frame.ensures.place c.in-Ok.ensures.given c.in-Ok-read_frame.ensures.given
 
 pub returns-in-Err-clause-given : goal.returns-in-Err-clause-given
 returns-in-Err-clause-given g c =
