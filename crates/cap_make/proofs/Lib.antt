@@ -1,6 +1,5 @@
 mod Counting
 mod Steps
-mod Owing
 mod Taking
 mod Lawful
 mod Rows
