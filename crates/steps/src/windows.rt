@@ -48,7 +48,7 @@ fn task_over(clones: Vec<TapClone>, alloc: Global, outcomes: Outcomes) -> TapTas
         clones,
         outcomes,
     };
-    for _turn in 0..PACKETS {
+    for turn in 0..PACKETS {
         if task.clones.len() < task.clones.capacity() {
             if let Some(clone) = tap_clone(alloc, &mut task.outcomes) {
                 task.clones.push_reserved(clone);
