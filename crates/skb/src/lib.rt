@@ -15,9 +15,10 @@
 //! Sharing: a head that is a Sole is the only one that is written, so `push` and `put_tail` of a shared one are refused, and
 //! `head_mut` has none. `clone` makes the head a Part and gives `max(1, weight / 4096)` of each part away; no byte is copied.
 //! `unshare` asks for the head's block back, and copies it into a spare where others hold it. `attach` puts another buffer
-//! behind, uncopied, and `split_at` cuts one in two, uncopied: of the part that is cut the front keeps what `clone` would
-//! give. `pull_up` copies the first bytes into a spare, which becomes the head, and `copy` copies all into spares, which share
-//! nothing. Blocks come from the caller; memory is taken for lists of pieces alone.
+//! behind, uncopied, and `move_into` puts a buffer behind the pieces of a list whose memory was taken before. `split_at` cuts
+//! one in two, uncopied: of the part that is cut the front keeps what `clone` would give. `pull_up` copies the first bytes
+//! into a spare, which becomes the head, and `copy` copies all into spares, which share nothing. Blocks come from the caller;
+//! memory is taken for lists of pieces alone.
 //!
 //! Proved, by the names of the clauses:
 //!
@@ -48,6 +49,7 @@ mod cut;
 mod cut_tests;
 mod heads;
 mod lend;
+mod moving;
 mod pull_up;
 #[cfg(test)]
 mod reader_tests;

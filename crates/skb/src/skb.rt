@@ -8,6 +8,7 @@ ghost use Rattle.frags.specs.Growth.{Grows};
 ghost use Rattle.frags.specs.PieceList.{AllFit, size_of, of_pieces, piece_bytes, block, cut_front, keep_front};
 ghost use Rattle.frags.specs.declared.pieces.Piece.{Piece};
 ghost use Rattle.skb.specs.Lending.{lends_head, lends_head_if};
+ghost use Rattle.skb.specs.Moving.{JoinsAccount};
 ghost use Rattle.skb.specs.SkbState.{SkbState, head_size, buffer_least, buffer_bytes, buffer_size, head_bytes, headroom, tailroom, is_sole, written, IsPush, IsPut, Owned, IsClone, IsLent, Gives, head_worn, buffer_worn, of_buffer, of_unshared, Attaches};
 
 use crate::heads::{gives, is_worn, lent, owned, write_at};
@@ -126,7 +127,8 @@ impl Skb {
 
     /// The head's bytes.
     pub fn head(&self) -> &[u8]
-        ensures { result.now ≡ head_bytes self.now }
+        ensures bytes { result.now ≡ head_bytes self.now }
+        ensures size { length result.now ≡ head_size self.now }
     {
         let all = match &self.head {
             Holder::Sole(sole) => sole.bytes(),
@@ -267,6 +269,7 @@ impl Skb {
         ensures head { (self.new.head ≡ self.old.head) × (self.new.to ≡ self.old.to) }
         ensures room { IfOk result (λ _. self.new.from ≡ min (self.old.from + n) self.old.to) }
         ensures rest { IfOk result (λ _. self.new.rest ≡ cut_front (n - head_size self.old) self.old.rest) }
+        ensures within { n ≤ head_size self.old → (self.new ≡ record self.old { from = self.old.from + n }) × (out.new ≡ out.old) }
         ensures bare { self.old.rest ≡ [] → self.new.rest ≡ [] }
         ensures kept { Keeps (both (of_buffer self.old) (of_outcomes out.old)) (both (of_buffer self.new) (of_outcomes out.new)) }
         ensures fewer { length self.new.rest ≤ length self.old.rest }
@@ -362,6 +365,7 @@ impl Skb {
         ensures count { IfOk result (λ _. length self.new.rest ≤ length self.old.rest + (length other.rest + 1)) }
         ensures grows { IfOk result (λ _. Grows (length other.rest + 1 - (length self.new.rest - length self.old.rest)) out.old out.new) }
         ensures places { out.old.spare ≤ out.new.spare + 1 }
+        ensures account { IfOk result (λ _. JoinsAccount other (of_buffer self.old) out.old (of_buffer self.new) out.new) }
         ensures marks { IfOk result (λ _. KeepsMarks (both (of_buffer self.old) (both (of_buffer other) (of_outcomes out.old))) (both (of_buffer self.new) (of_outcomes out.new))) }
     {
         let Skb {

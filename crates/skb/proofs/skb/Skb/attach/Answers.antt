@@ -6,6 +6,8 @@ use Rattle.skb.specs.SkbState.{SkbState, of_buffer, Attaches, buffer_size}
 use Rattle.frags.proofs.Keeping.{size_of-append}
 use Rattle.skb.proofs.Buffers.{attaches_joined, attaches_taken, joined_keeps, taken_marks}
 use Rattle.frags.proofs.Keeping.{keeps_marks}
+use Rattle.skb.specs.Moving.{JoinsAccount}
+use Rattle.skb.proofs.Moved.{joined_account, taken_account}
 use Rattle.skb.proofs.skb.Skb.attach.Goals as goal
 
 pub invariant_of-self-then-from-to : goal.invariant_of-self-then-from-to
@@ -74,3 +76,29 @@ returns-clause-marks c =
     subst (λ (z : SkbState). KeepsMarks (both (of_buffer z) (both (of_buffer c.args.other) (of_outcomes o))) (both (of_buffer b) (of_outcomes o))) c.self.view_is
     (subst (λ (z : SkbState). KeepsMarks (both (of_buffer a) (both (of_buffer z) (of_outcomes o))) (both (of_buffer b) (of_outcomes o))) c.other.view_is
     (taken_marks a d o c.append_all.new.self w.0 w.1.0 w.1.1))
+
+pub returns-then-from-to-clause-account : goal.returns-then-from-to-clause-account
+returns-then-from-to-clause-account c =
+    let s = c.self.inside in
+    let n = c.other.inside in
+    let a : SkbState = record { head = s.head; from = s.from; to = s.to; rest = s.rest } in
+    let d : SkbState = record { head = n.head; from = n.from; to = n.to; rest = n.rest } in
+    let b : SkbState = record { head = s.head; from = s.from; to = s.to; rest = c.join_back.new.self } in
+    let o = c.args.out.now in
+    let q = c.give_back_holder.new.self in
+    subst (λ (z : SkbState). JoinsAccount c.args.other (of_buffer z) o (of_buffer b) q) c.self.view_is
+    (subst (λ (z : SkbState). JoinsAccount z (of_buffer a) o (of_buffer b) q) c.other.view_is
+    (joined_account a d c.join_back.new.self o q c.in_default.ensures.joined c.give_back_holder.ensures.kept))
+
+pub returns-clause-account : goal.returns-clause-account
+returns-clause-account c =
+    let s = c.self.inside in
+    let n = c.other.inside in
+    let a : SkbState = record { head = s.head; from = s.from; to = s.to; rest = s.rest } in
+    let d : SkbState = record { head = n.head; from = n.from; to = n.to; rest = n.rest } in
+    let b : SkbState = record { head = s.head; from = s.from; to = s.to; rest = c.append_all.new.self } in
+    let o = c.args.out.now in
+    let w = c.in_default-append_all.ensures.appended in
+    subst (λ (z : SkbState). JoinsAccount c.args.other (of_buffer z) o (of_buffer b) o) c.self.view_is
+    (subst (λ (z : SkbState). JoinsAccount z (of_buffer a) o (of_buffer b) o) c.other.view_is
+    (taken_account a d c.append_all.new.self o o w.0 w.1.0 w.1.1))
