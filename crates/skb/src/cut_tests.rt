@@ -4,7 +4,7 @@ ghost use Rattle.skb.specs.SkbState.{buffer_size};
 
 use crate::tests::{spend, spend_released};
 use crate::{Returned, Skb};
-use frags::{Outcomes, Pieces, ShareFault};
+use frags::{Outcomes, PieceBuilder, Pieces, ShareFault};
 use raw_block::Sole;
 use std::alloc::Global;
 use std::process::Abort;
@@ -105,6 +105,29 @@ fn cut_off(mut skb: Skb, first: usize, last: usize, out: &mut Outcomes) -> ([usi
     let numbers = [skb.len(), skb.headroom(), skb.head().len(), skb.count()];
     let right = pulled && trimmed && has_bytes(&skb, first);
     skb.release(out);
+    (numbers, right)
+}
+
+// Length and pieces of a list that a buffer was moved into, and whether the bytes are right.
+fn moved<A: Abort>(
+    rt: &A,
+    skb: Skb,
+    from: usize,
+    alloc: Global,
+    out: &mut Outcomes,
+) -> ([usize; 2], bool)
+    requires { (length skb.rest ≡ 1) × (buffer_size skb ≤ 200) × (from ≤ 200) × (4 ≤ out.old.spare) }
+{
+    let Ok(mut pieces) = PieceBuilder::with_room(alloc, 4) else {
+        skb.release(out);
+        return ([0; 2], false);
+    };
+    skb.move_into(&mut pieces, out);
+    let pieces = pieces.finish();
+    let numbers = [pieces.len(), pieces.count()];
+    let right = pieces_have_bytes(&pieces, from);
+    assert!(rt; pieces.count() <= out.spare());
+    pieces.release(out);
     (numbers, right)
 }
 
@@ -334,6 +357,31 @@ fn first_bytes_are_pulled_up(rt: HostRuntime) -> Result<(), Fail> {
         };
         let _ = spend(out);
         assert_eq!(rt; seen, (numbers, served, true));
+    }
+    Ok(())
+}
+
+#[test]
+fn buffers_are_moved_behind_pieces(rt: HostRuntime) -> Result<(), Fail> {
+    for (first, numbers) in [(0, [200, 2]), (40, [160, 2]), (100, [100, 1])] {
+        let one = Sole::new(rt.alloc())?;
+        let two = Sole::new(rt.alloc())?;
+        let mut out = Outcomes::new(rt.alloc());
+        if out.reserve(8).is_err() {
+            out.settle();
+            return Ok(());
+        }
+        let seen = match two_blocks(one, two, rt.alloc(), &mut out) {
+            Some(mut skb) => {
+                let _ = skb.pull(first, &mut out);
+                assert!(rt; skb.len() <= 200 && skb.count() == 2 && out.spare() >= 4);
+                moved(&rt, skb, first, rt.alloc(), &mut out)
+            }
+            None => ([0; 2], false),
+        };
+        let soles = spend(out);
+        assert_eq!(rt; seen, (numbers, true));
+        assert_eq!(rt; soles, 2);
     }
     Ok(())
 }
