@@ -1,8 +1,8 @@
 -- How long the headers of a shape are, and how many bytes of the key they give.
 use Rattle.std.proofs.Common.{◌≡◌, ℕ, ◌+◌, ◌<◌, ◌≤◌, Bool, true, Some, List, [], ◌∷◌, length, refl, sym, subst, arith}
-use Rattle.std.specs.Prelude.{nat_le}
+use Rattle.std.specs.Prelude.{◌&&◌, nat_le}
 use Rattle.std.specs.Bool.{Decides}
-use Rattle.std.proofs.lemmas.Bool.{leb-true}
+use Rattle.std.proofs.lemmas.Bool.{leb-true, and_parts}
 use Rattle.net_bytes.specs.Bytes.{byte}
 use Rattle.frame_layout.specs.Shape.{Layout, shape_of}
 use Rattle.frame_layout.specs.Headers.{AtHeaders, all_headers, size, AreLaid, IsFar, IsThere}
@@ -22,10 +22,12 @@ decides_far : (l : Layer) (at : ℕ) → Decides (is_far l at) (IsFar l at)
 decides_far Tag at = decides_le 2 at
 decides_far _ at = always
 
-pub bounds : (f : List ℕ) → ((k : ℕ) → byte f k < 256) → (l : Layout) → shape_of f ≡ Some l → (l.payload_at ≤ 200) × (key_size l.headers ≤ 119) × AtHeaders IsFar l.headers
+pub bounds : (f : List ℕ) → ((k : ℕ) → byte f k < 256) → (l : Layout) → shape_of f ≡ Some l → (54 ≤ l.payload_at) × (l.payload_at ≤ 200) × (key_size l.headers ≤ 119) × AtHeaders IsFar l.headers
 bounds f small l e =
-    let i : IsListed (λ ks. nat_le (ends 0 ks) 160) 0 f l = listed f (λ ks. nat_le (ends 0 ks) 160) refl l e in (
-      subst (λ z. z.payload_at ≤ 200) i.is (omega (arith, leb-true (ends 0 i.kinds) 160 i.passes, i.few small)),
+    let i : IsListed (λ ks. nat_le 54 (ends 0 ks) && nat_le (ends 0 ks) 160) 0 f l = listed f (λ ks. nat_le 54 (ends 0 ks) && nat_le (ends 0 ks) 160) refl l e in
+    let p = and_parts (nat_le 54 (ends 0 i.kinds)) (nat_le (ends 0 i.kinds) 160) i.passes in (
+      subst (λ z. 54 ≤ z.payload_at) i.is (omega (arith, leb-true 54 (ends 0 i.kinds) p.0)),
+      subst (λ z. z.payload_at ≤ 200) i.is (omega (arith, leb-true (ends 0 i.kinds) 160 p.1, i.few small)),
       leb-true _ _ (shape_passes f (λ hs. nat_le (key_size hs) 119) refl l e),
       (decides_headers is_far IsFar decides_far l.headers).0 (shape_passes f (all_headers is_far) refl l e),
     )
@@ -39,6 +41,7 @@ all_there n start end (h ∷ hs) laid fits far =
 pub record IsPlaced (f : List ℕ) (l : Layout) : Type 0 where
   pub laid : AreLaid 0 l.headers l.payload_at
   pub within : l.payload_at ≤ length f
+  pub least : 54 ≤ l.payload_at
   pub low : l.payload_at ≤ 200
   pub light : key_size l.headers ≤ 119
   pub there : AtHeaders (IsThere (length f)) l.headers
@@ -46,11 +49,12 @@ pub record IsPlaced (f : List ℕ) (l : Layout) : Type 0 where
 pub placed : (f : List ℕ) → ((k : ℕ) → byte f k < 256) → (l : Layout) → Some l ≡ shape_of f → IsPlaced f l
 placed f small l e =
     let a : AreLaid 0 l.headers l.payload_at × (l.payload_at ≤ length f) = laid f l (sym e) in
-    let b : (l.payload_at ≤ 200) × (key_size l.headers ≤ 119) × AtHeaders IsFar l.headers = bounds f small l (sym e) in
+    let b : (54 ≤ l.payload_at) × (l.payload_at ≤ 200) × (key_size l.headers ≤ 119) × AtHeaders IsFar l.headers = bounds f small l (sym e) in
     record {
       laid = a.0;
       within = a.1;
-      low = b.0;
-      light = b.1;
-      there = all_there (length f) 0 l.payload_at l.headers a.0 a.1 b.2;
+      least = b.0;
+      low = b.1;
+      light = b.2;
+      there = all_there (length f) 0 l.payload_at l.headers a.0 a.1 b.3;
     }

@@ -1,33 +1,56 @@
 -- A frame from its first bytes and the sum of the others.
-use Rattle.std.proofs.Common.{◌≡◌, ℕ, ◌+◌, ◌-◌, ◌<◌, ◌≤◌, ◌⊎◌, inl, inr, Some, List, ◌++◌, length, take, drop, length-append, sym, ap, ◌∙◌, subst, arith}
+use Rattle.std.proofs.Common.{◌≡◌, ℕ, ◌+◌, ◌-◌, ◌<◌, ◌≤◌, ◌⊎◌, inl, inr, Some, None, List, ◌++◌, length, take, drop, length-append, sym, ap, ◌∙◌, subst, arith}
 use Rattle.std.specs.Prelude.{min}
 use Rattle.std.proofs.lemmas.List.{get_or_append_left, drop-append-le, length-drop, take_all}
-use Rattle.inet_sum.specs.Stands.{FoldAndLength}
+use Rattle.inet_sum.specs.Stands.{FoldAndLength, StandsFor}
+use Rattle.inet_sum.specs.Sum.{fold_of}
 use Rattle.net_bytes.specs.Bytes.{byte}
 use Rattle.frame_layout.specs.Shape.{Layout, shape_of}
 use Rattle.frame_layout.specs.Candidate.{IsCandidate, IsLengthRight}
 use Rattle.frame_layout.specs.declared.layout.Layer.TheVariants.{Ethernet, Ip4, Ip6}
 use Rattle.frame_layout.proofs.Networks.{has_network}
+use Rattle.frame_layout.proofs.Bounds.{placed}
 use Rattle.frame_layout.proofs.Fronts.{same_shapes}
-use Rattle.frame_layout.specs.Front.{IsFrameOf, are_headers_right}
+use Rattle.frame_layout.specs.Segment.{IsSegOf}
+use Rattle.frame_layout.specs.Front.{IsFrameOf, IsPayloadOf, are_headers_right}
 use Rattle.frame_layout.proofs.Right.{right_all, all_right}
 
-module _ (h : List ℕ) (rest : FoldAndLength) (f : List ℕ) (s : IsFrameOf h rest f) where
-  pub long_is : length f ≡ length h + rest.len
-  long_is = ap length s.joined ∙ length-append h s.tail ∙ ap (λ n. length h + n) (sym s.sum.1)
+-- what a layout and the sum of the payload say of a frame that begins with these bytes
+pub record IsJudged (h : List ℕ) (l : Layout) (payload : FoldAndLength) (f : List ℕ) : Type 0 where
+  pub long : length f ≡ l.payload_at + payload.len
+  pub fold : payload.fold ≡ fold_of (drop l.payload_at f)
+  pub begins : (k : ℕ) → k < length h → byte f k ≡ byte h k
+  pub shape : shape_of f ≡ Some l
+  pub small : (k : ℕ) → byte f k < 256
 
-  pub begins_is : (k : ℕ) → k < length h → byte f k ≡ byte h k
-  begins_is k l = ap (λ z. byte z k) s.joined ∙ get_or_append_left h s.tail 0 k l
+pub shape_of_head : (h tail f : List ℕ) → f ≡ h ++ tail → ((k : ℕ) → byte h k < 256) → ((k : ℕ) → byte f k < 256) → min (length f) 200 ≤ length h → shape_of h ≡ shape_of f
+shape_of_head h tail f joined small all enough = same_shapes h f small all (omega (arith, ap length joined, length-append h tail)) enough
+    (λ k l. ap (λ z. byte z k) joined ∙ get_or_append_left h tail 0 k l)
 
-  pub behind_is : (end : ℕ) → end ≤ length h → take (length h - end) (drop end h) ++ s.tail ≡ drop end f
-  behind_is end l = ap (λ z. z ++ s.tail) (take_all (length h - end) (drop end h) (omega (arith, length-drop end h))) ∙ sym (ap (drop end) s.joined ∙ drop-append-le end h s.tail l)
+pub judged : (h : List ℕ) (l : Layout) (payload : FoldAndLength) (f : List ℕ) → ((k : ℕ) → byte h k < 256) → shape_of h ≡ Some l
+    → min (l.payload_at + payload.len) 200 ≤ length h → IsPayloadOf h l.payload_at payload f → IsJudged h l payload f
+judged h l payload f small e enough s =
+    let long : length f ≡ l.payload_at + payload.len =
+    omega (arith, (placed h small l (sym e)).within, ap length s.joined, length-append h s.tail, s.sum.1, length-drop l.payload_at f) in
+    record {
+      long = long;
+      fold = s.sum.0;
+      begins = λ k l. ap (λ z. byte z k) s.joined ∙ get_or_append_left h s.tail 0 k l;
+      shape = sym (shape_of_head h s.tail f s.joined small s.in_bytes (omega (arith, long, enough))) ∙ e;
+      small = s.in_bytes;
+    }
 
-  pub shape_of_head : ((k : ℕ) → byte h k < 256) → min (length f) 200 ≤ length h → shape_of h ≡ shape_of f
-  shape_of_head small enough = same_shapes h f small s.in_bytes (omega (arith, long_is)) enough begins_is
+-- the sum of the payload, from the sum of what is behind the first bytes
+pub payload_of : (h : List ℕ) (at : ℕ) (rest payload : FoldAndLength) (f : List ℕ) → at ≤ length h
+    → ((back : List ℕ) → StandsFor rest back → StandsFor payload (take (length h - at) (drop at h) ++ back)) → IsFrameOf h rest f → IsPayloadOf h at payload f
+payload_of h at rest payload f within sums s =
+    let e : take (length h - at) (drop at h) ++ s.tail ≡ drop at f =
+    ap (λ z. z ++ s.tail) (take_all (length h - at) (drop at h) (omega (arith, length-drop at h))) ∙ sym (ap (drop at) s.joined ∙ drop-append-le at h s.tail within) in
+    record { tail = s.tail; joined = s.joined; sum = subst (StandsFor payload) e (sums s.tail s.sum); in_bytes = s.in_bytes }
 
--- the layout is the frame's only one
-pub only_layout : (f : List ℕ) (l m : Layout) (P : Layout → Type 0) → Some l ≡ shape_of f → shape_of f ≡ Some m → P m → P l
-only_layout f l m P a b p = let e : Some l ≡ Some m = a ∙ b in let g : l ≡ m = cc in subst P (sym g) p
+-- a frame has one layout, so where it isn't a candidate by this one it is none
+pub refused : (f : List ℕ) (original : ℕ) (l : Layout) → shape_of f ≡ Some l → (IsCandidate f original l → ⊥) → IsSegOf f original None
+refused f original l shape refusal m e k = let s : Some m ≡ Some l = sym e ∙ shape in let g : m ≡ l = cc in refusal (subst (IsCandidate f original) g k)
 
 pub candidate_is : (f : List ℕ) (original : ℕ) (l : Layout) → original ≡ length f → l.payload_at < length f
     → are_headers_right f (record { layer = Ethernet; at = 0 }) l.headers → IsCandidate f original l

@@ -4,16 +4,17 @@ use Rattle.std.specs.List.{flat_map}
 use Rattle.std.specs.Option.{option_map}
 use Rattle.frame_layout.specs.declared.layout.Header.{Header}
 use Rattle.frame_layout.specs.Shape.{Layout, then_layout, shape_of}
-use Rattle.frame_layout.specs.Key.{flow_part, key_of}
-use Rattle.frame_layout.specs.Found.{in_front}
+use Rattle.frame_layout.specs.Key.{flow_part, part_size, key_size, key_of}
+use Rattle.frame_layout.specs.Found.{in_front, IsFound}
 use Rattle.std.proofs.lemmas.List.{drop_more}
-use Rattle.frame_layout.specs.Headers.{AtHeaders}
-use Rattle.frame_layout.specs.Headers.{IsThere}
-use Rattle.frame_layout.specs.Key.{part_size, key_size}
+use Rattle.frame_layout.specs.Headers.{AtHeaders, IsThere}
 
-pub in_front-end : (hs : List Header) (end : ℕ) → in_front hs (Some (record { headers = []; payload_at = end })) ≡ Some (record { headers = hs; payload_at = end })
+in_front-end : (hs : List Header) (end : ℕ) → in_front hs (Some (record { headers = []; payload_at = end })) ≡ Some (record { headers = hs; payload_at = end })
 in_front-end [] end = refl
 in_front-end (h ∷ hs) end = ap (then_layout h.layer h.at) (in_front-end hs end)
+
+pub found_shape : (f : List ℕ) (hs : List Header) (end : ℕ) → IsFound [] hs (Some end) (shape_of f) → Some (record { headers = hs; payload_at = end }) ≡ shape_of f
+found_shape f hs end w = ap (λ z. Some (record { headers = z; payload_at = end })) w.1 ∙ sym (w.2 ∙ in_front-end w.0 end)
 
 pub key_none : (f : List ℕ) → None ≡ shape_of f → None ≡ key_of f
 unfolding key_of

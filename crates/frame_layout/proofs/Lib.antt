@@ -8,7 +8,6 @@ mod Deciding
 mod SameKey
 mod Readers
 mod Keys
-mod Places
 mod Fronts
 mod ControlBits
 mod Zeroed

@@ -1,21 +1,19 @@
 //! Which frames may be merged.
 
-ghost use Rattle.std.specs.Prelude.{◌≡◌, ℕ, ◌+◌, ◌-◌, ◌<◌, ◌≤◌, ◌^◌, ◌↔◌, ◌++◌, List, length, take, drop, min, IsTrue};
-ghost use Rattle.inet_sum.specs.Stands.{StandsFor};
-ghost use Rattle.inet_sum.specs.Sum.{fold_of};
+ghost use Rattle.std.specs.Prelude.{◌≡◌, ℕ, ◌+◌, ◌<◌, ◌≤◌, ◌^◌, ◌↔◌, List, length, min, IsTrue, Some};
 ghost use Rattle.frame_layout.specs.Candidate.{IsSumRight};
 ghost use Rattle.frame_layout.specs.Headers.{size, AtHeaders};
-ghost use Rattle.frame_layout.specs.Front.{IsFrameOf, IsFrontOf, is_plain as is_plain_of, IsHeaderRight, are_headers_right, AreAddressesWithin};
+ghost use Rattle.frame_layout.specs.Front.{IsFrameOf, IsPayloadOf, IsFrontOf, is_plain as is_plain_of, IsHeaderRight, are_headers_right, AreAddressesWithin};
 ghost use Rattle.frame_layout.specs.Segment.{IsSegOf};
+ghost use Rattle.frame_layout.specs.Shape.{shape_of};
 ghost use Rattle.frame_layout.specs.declared.layout.Layer.TheVariants.{Ethernet, Tcp};
 
 use crate::front::Front;
 use crate::layout::{Header, Layer, Layout};
-use crate::read::find_headers;
+use crate::read::shape;
 use crate::segment::{Seg, flags_of};
-use crate::sums::{carried_sum, ip4_sum, is_udp_summed, joined};
-use arrayvec::ArrayVec;
-use inet_sum::{Partial, unfolded};
+use crate::sums::{carried_sum, ip4_sum, is_udp_summed};
+use inet_sum::Partial;
 use ip_headers::{ip4, ip6};
 use tcp_headers::{tcp, udp};
 
@@ -93,36 +91,26 @@ fn are_right(front: &Front, headers: &[Header]) -> bool
     true
 }
 
-/// The fold of the bytes from `end` on: those of `head`, and those behind it, of which `rest` is the sum.
-fn fold_behind(head: &[u8], end: usize, rest: &Partial) -> u16
-    requires inside { end ≤ length head.now }
-    requires short { length head.now < 2 ^ 29 }
-    ensures { (tail : List ℕ) → StandsFor rest.now tail → result ≡ fold_of (take (length head.now - end) (drop end head.now) ++ tail) }
-{
-    let own = unfolded(&head[end..]);
-    joined(own, (head.len() - end) % 2 == 1, rest.fold())
-}
-
-/// Whether a frame may be merged, and what merging and segmenting read of it. The frame is `head` with bytes behind it, of which
-/// `rest` is the sum; it has `len` bytes in all, and had `original` bytes before it was captured.
+/// Whether a frame may be merged, and what merging and segmenting read of it, where its layout is known and the sum of
+/// its payload. `head` are its first 200 bytes, or all of it; it had `original` bytes before it was captured.
 ///
-/// None where the frame has no shape, or isn't a candidate: it was cut off or padded, a reserved bit is set, a sum
-/// isn't its value, TCP's flags are others than ACK with at most PSH and FIN, or there is no payload.
-pub fn candidate(head: &[u8], rest: &Partial, len: u32, original: u32) -> Option<Seg>
-    requires whole { length head.now + rest.now.len ≡ len }
-    requires enough { min len 200 ≤ length head.now }
-    ensures candidate { (f : List ℕ) → IsFrameOf head.now rest.now f → IsSegOf f original result }
+/// None where the frame isn't a candidate: it was cut off or padded, a reserved bit is set, a sum isn't its value, TCP's
+/// flags are others than ACK with at most PSH and FIN, or there is no payload.
+pub fn candidate_in(layout: Layout, head: &[u8], payload: &Partial, original: u32) -> Option<Seg>
+    requires shape { shape_of head.now ≡ Some layout }
+    requires few { layout.payload_at + payload.now.len < 2 ^ 32 }
+    requires whole { length head.now ≤ layout.payload_at + payload.now.len }
+    requires enough { min (layout.payload_at + payload.now.len) 200 ≤ length head.now }
+    ensures candidate { (f : List ℕ) → IsPayloadOf head.now layout.payload_at payload.now f → IsSegOf f original result }
 {
+    let end = layout.payload_at();
+    let len = end as u32 + payload.len();
     if original != len {
         return None;
     }
     if len > LONGEST {
         return None;
     }
-    let mut headers = ArrayVec::new();
-    let Some(end) = find_headers(head, &mut headers) else {
-        return None;
-    };
     if end >= len as usize {
         return None;
     }
@@ -130,15 +118,34 @@ pub fn candidate(head: &[u8], rest: &Partial, len: u32, original: u32) -> Option
         head,
         end,
         len: len as usize,
-        behind: fold_behind(head, end, rest),
+        behind: payload.fold(),
     };
-    if !are_right(&front, headers.as_slice()) {
+    if !are_right(&front, layout.headers()) {
         return None;
     }
-    let flags = flags_of(head, headers.as_slice());
+    let flags = flags_of(head, layout.headers());
     Some(Seg {
-        layout: Layout::of(headers, end),
-        payload_len: len - end as u32,
+        layout,
+        payload_len: payload.len(),
         flags,
     })
+}
+
+/// The same where the layout isn't known. The frame is `head` with bytes behind it, of which `rest` is the sum; it has `len`
+/// bytes in all. None also where it has no shape.
+pub fn candidate(head: &[u8], rest: &Partial, len: u32, original: u32) -> Option<Seg>
+    requires whole { length head.now + rest.now.len ≡ len }
+    requires enough { min len 200 ≤ length head.now }
+    ensures candidate { (f : List ℕ) → IsFrameOf head.now rest.now f → IsSegOf f original result }
+{
+    if len != original {
+        return None;
+    }
+    let Some(layout) = shape(head) else {
+        return None;
+    };
+    let mut payload = Partial::new();
+    payload.add(&head[layout.payload_at()..]);
+    let payload = payload.joined(*rest);
+    candidate_in(layout, head, &payload, original)
 }

@@ -4,7 +4,8 @@
 //! [`Layout`]: [`shape`] finds it in the first 200 bytes (clauses `shape` and `front`). [`key`] gives what tells its
 //! flow, and [`queue_of`] the flow's receive queue. [`candidate`] says whether the frame is a plain TCP segment with exact
 //! lengths, right sums and a payload (`candidate`, in both directions), and what is read of it: a [`Seg`]. It needs the
-//! front of the frame and the sum of the rest alone. No call takes memory.
+//! front of the frame and the sum of the rest alone; [`candidate_in`] takes a layout that is known, and the payload's sum.
+//! No call takes memory.
 //!
 //! ```
 //! let queue = queue_of(&key(frame), 4);
@@ -28,7 +29,7 @@ mod sums;
 mod tests;
 
 pub use flow::Key;
-pub use judge::candidate;
+pub use judge::{candidate, candidate_in};
 pub use laws::{alike_keeps_key, alike_keeps_shape, candidates_are_short, headers_are_laid};
 pub use layout::{Header, Layer, Layout};
 pub use queue::{key, key_behind, queue_of};

@@ -3,7 +3,7 @@
 ghost use Rattle.std.specs.Prelude.{◌≡◌, ◌+◌, ◌*◌, ◌<◌, ◌≤◌, ◌^◌, [], length, take, IfSome};
 ghost use Rattle.arrayvec.specs.ArrayVec.{array_vec_len};
 ghost use Rattle.frame_layout.specs.Shape.{ethernet_there, tag_there, ip4_there, ip6_there, tcp_there, udp_there, vxlan_there, network_from, typed_from, ethernet_from, tcp_from, vxlan_from, shape_of};
-ghost use Rattle.frame_layout.specs.Found.{IsIpFound, IsFound, layout_with};
+ghost use Rattle.frame_layout.specs.Found.{IsIpFound, IsFound};
 
 use crate::layout::{Header, Layer, Layout};
 use arrayvec::ArrayVec;
@@ -239,31 +239,21 @@ fn find(frame: &[u8], found: &mut ArrayVec<Header, 11>) -> Option<usize>
     }
 }
 
-/// Writes the headers of the frame, and gives the place where its payload begins: a caller that judges them first copies
-/// no layout.
-#[inline(always)]
-pub(crate) fn find_headers(frame: &[u8], found: &mut ArrayVec<Header, 11>) -> Option<usize>
-    requires empty { found.old.items ≡ [] }
-    ensures shape { layout_with found.new.items result ≡ shape_of frame.now }
-    ensures within { IfSome result (λ end. end ≤ length frame.now) }
-    ensures low { IfSome result (λ end. end ≤ 200) }
-{
-    find(frame, found)
-}
-
 /// The headers of the frame from the front, and where its payload begins.
 ///
 /// A frame has a shape where it begins with an Ethernet header, at most two VLAN tags, an IPv4 header without options
 /// that is no fragment or an IPv6 header, and then either a TCP header, or UDP to VXLAN's port, VXLAN, and an inner
-/// frame of the first form. All these headers lie within the first 200 bytes.
+/// frame of the first form. All these headers lie within the first 200 bytes, and are 54 bytes at least.
+#[inline(always)]
 pub fn shape(frame: &[u8]) -> Option<Layout>
     ensures shape { result ≡ shape_of frame.now }
     ensures front { result ≡ shape_of (take 200 frame.now) }
     ensures within { IfSome result (λ l. l.payload_at ≤ length frame.now) }
     ensures low { IfSome result (λ l. l.payload_at ≤ 200) }
+    ensures least { IfSome result (λ l. 54 ≤ l.payload_at) }
 {
     let mut headers = ArrayVec::new();
-    let Some(payload_at) = find_headers(frame, &mut headers) else {
+    let Some(payload_at) = find(frame, &mut headers) else {
         return None;
     };
     Some(Layout::of(headers, payload_at))

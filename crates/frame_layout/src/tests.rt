@@ -1,7 +1,7 @@
 //! Frames, sums and keys that a separate program computed from the RFCs.
 ghost use Rattle.std.specs.Prelude.{◌≡◌, ◌<◌, ◌^◌, length};
 
-use crate::{Key, candidate, key, queue_of, shape};
+use crate::{Key, candidate, candidate_in, key, queue_of, shape};
 use inet_sum::Partial;
 
 /// Ethernet, IPv4, TCP, and four bytes.
@@ -140,6 +140,20 @@ fn a_tunnel_in_two_pieces(rt: HostRuntime) {
     for n in 0..200 {
         assert!(rt; shape(&TUNNEL[..n]).is_none(), "cut at {n}");
     }
+}
+
+#[test]
+fn a_layout_that_is_known(rt: HostRuntime) {
+    let head = &TUNNEL[..200];
+    let mut payload = Partial::new();
+    payload.add(&TUNNEL[200..]);
+    let Some(layout) = shape(head) else {
+        panic!(rt; "no shape");
+    };
+    if layout.payload_at() != 200 {
+        panic!(rt; "another payload");
+    }
+    assert!(rt; candidate_in(layout, head, &payload, 203).is_some());
 }
 
 #[test]

@@ -1,19 +1,23 @@
-use Rattle.std.proofs.Common.{Some, ap, sym, ◌∙◌, arith}
+use Rattle.std.proofs.Common.{◌≡◌, Some, ap, sym, ◌∙◌, arith}
+use Rattle.frame_layout.specs.Shape.{Layout, shape_of}
+use Rattle.frame_layout.proofs.Bounds.{IsPlaced, placed}
 use Rattle.frame_layout.proofs.Fronts.{shape_in_front}
+use Rattle.frame_layout.proofs.Keys.{found_shape}
 use Rattle.frame_layout.proofs.read.shape.Goals as goal
 
 pub returns-in_default-clause-front : goal.returns-in_default-clause-front
-returns-in_default-clause-front c = c.in_default.ensures.shape ∙ sym (shape_in_front c.args.frame.now (λ k. omega (arith, c.type_inv.frame k)))
+returns-in_default-clause-front c = sym c.in_default.ensures ∙ sym (shape_in_front c.args.frame.now (λ k. omega (arith, c.type_inv.frame k)))
 
-pub returns-clause-shape : goal.returns-clause-shape
-returns-clause-shape c = ap Some c.of.ensures ∙ c.in-Some.ensures.shape
-
-pub returns-clause-front : goal.returns-clause-front
-returns-clause-front c =
-    ap Some c.of.ensures ∙ c.in-Some.ensures.shape ∙ sym (shape_in_front c.args.frame.now (λ k. omega (arith, c.type_inv.frame k)))
-
-pub returns-clause-within : goal.returns-clause-within
-returns-clause-within c = omega (arith, ap (λ z. z.payload_at) c.of.ensures, c.in-Some.ensures.within)
-
-pub returns-clause-low : goal.returns-clause-low
-returns-clause-low c = omega (arith, ap (λ z. z.payload_at) c.of.ensures, c.in-Some.ensures.low)
+pub returns : goal.returns
+returns c =
+    let f = c.args.frame.now in
+    let l : Layout = record { headers = c.find.new.found.items; payload_at = c.in-Some.payload_at } in
+    let e : Some l ≡ shape_of f = found_shape f l.headers l.payload_at c.in-Some.ensures in
+    let p : IsPlaced f l = placed f (λ k. omega (arith, c.type_inv.frame k)) l e in
+    record {
+      shape = ap Some c.of.ensures ∙ e;
+      front = ap Some c.of.ensures ∙ e ∙ sym (shape_in_front f (λ k. omega (arith, c.type_inv.frame k)));
+      within = omega (arith, ap (λ z. z.payload_at) c.of.ensures, p.within);
+      low = omega (arith, ap (λ z. z.payload_at) c.of.ensures, p.low);
+      least = omega (arith, ap (λ z. z.payload_at) c.of.ensures, p.least);
+    }
