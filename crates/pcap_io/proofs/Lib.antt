@@ -1,4 +1,5 @@
 mod Fronts
 pub mod HeadLaws
 pub mod RecordLaws
+pub mod LengthLaws
 pub mod SplitLaws

@@ -91,7 +91,7 @@ head_refused (Some xs) (Some ys) place fault count buf size le some took is =
     }
 
 -- what the last test says
-body_test : (order : Order) (link : Link) (n : ℕ) (bytes : List ℕ) (b : Bool) → first_that_holds (head_refusals order link n (take 16 bytes)) ≡ None → nat_lt (length (drop 16 bytes)) (captured_length order (take 16 bytes)) ≡ b
+pub body_test : (order : Order) (link : Link) (n : ℕ) (bytes : List ℕ) (b : Bool) → first_that_holds (head_refusals order link n (take 16 bytes)) ≡ None → nat_lt (length (drop 16 bytes)) (captured_length order (take 16 bytes)) ≡ b
     → first_that_holds (record_refusals order link n bytes) ≡ (if b then Some ShortRecord else None)
 body_test order link n bytes b lawful test =
     first_append_none (head_refusals order link n (take 16 bytes)) (body_refusals order (take 16 bytes) (drop 16 bytes)) lawful

@@ -137,18 +137,18 @@ number_fits Big (a ∷ b ∷ c ∷ d ∷ bytes) long are = high_fits a b c d are
 number_fits Little (a ∷ b ∷ c ∷ d ∷ bytes) long are = low_fits a b c d are.0 are.1.0 are.1.1.0 are.1.1.1.0
 
 -- a record at the front that nothing refuses
-record Unrefused (order : Order) (link : Link) (n : ℕ) (bytes : List ℕ) : Type 0 where
-  head : 16 ≤ length bytes
-  few : n < 2 ^ 32
-  captured : captured_length order (take 16 bytes) ≤ captured_limit link
-  original : is_bad_original link (original_length order (take 16 bytes)) ≡ false
-  has_off_head : lacks_off_head link (captured_length order (take 16 bytes)) ≡ false
-  body : captured_length order (take 16 bytes) ≤ length (drop 16 bytes)
+pub record Unrefused (order : Order) (link : Link) (n : ℕ) (bytes : List ℕ) : Type 0 where
+  pub head : 16 ≤ length bytes
+  pub few : n < 2 ^ 32
+  pub captured : captured_length order (take 16 bytes) ≤ captured_limit link
+  pub original : is_bad_original link (original_length order (take 16 bytes)) ≡ false
+  pub has_off_head : lacks_off_head link (captured_length order (take 16 bytes)) ≡ false
+  pub body : captured_length order (take 16 bytes) ≤ length (drop 16 bytes)
 
 long_head : (bytes : List ℕ) → nat_lt (length (take 16 bytes)) 16 ≡ false → 16 ≤ length bytes
 long_head bytes test = omega (arith, ltb-false (length (take 16 bytes)) 16 test, length-take 16 bytes)
 
-unrefused : (order : Order) (link : Link) (n : ℕ) (bytes : List ℕ) → first_that_holds (record_refusals order link n bytes) ≡ None → Unrefused order link n bytes
+pub unrefused : (order : Order) (link : Link) (n : ℕ) (bytes : List ℕ) → first_that_holds (record_refusals order link n bytes) ≡ None → Unrefused order link n bytes
 unrefused order link n bytes e =
     let a = not_first _ _ _ e in
     let b = not_first _ _ _ a.1 in

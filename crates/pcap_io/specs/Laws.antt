@@ -1,12 +1,18 @@
 -- Laws of the definitions, each carried by a function of the crate.
-use Rattle.std.specs.Prelude.{◌≡◌, ℕ, ◌^◌, ◌<◌, List, ◌++◌, length, take, drop, None}
+use Rattle.std.specs.Prelude.{◌≡◌, ℕ, ◌^◌, ◌<◌, ◌≤◌, List, [], ◌∷◌, ◌++◌, length, map, take, drop, None}
 use Rattle.net_bytes.specs.declared.order.Order.{Order}
 use Rattle.net_bytes.specs.Order.{number}
 use Rattle.pcap_io.specs.declared.heads.Link.{Link}
 use Rattle.pcap_io.specs.declared.heads.FileHead.{FileHead}
+use Rattle.pcap_io.specs.declared.heads.RecHead.{RecHead}
+use Rattle.pcap_io.specs.declared.place.Place.{Place}
+use Rattle.pcap_io.specs.declared.faults.CapFault.{CapFault}
 use Rattle.pcap_io.specs.declared.off_head.OffHead.{OffHead}
 use Rattle.pcap_io.specs.Headers.{first_that_holds, file_refusals, file_head, captured_length, original_length, off_head}
 use Rattle.pcap_io.specs.Capture.{Packet, Found, reads_numbered}
+use Rattle.pcap_io.specs.Places.{found_at, EntersBody}
+use Rattle.pcap_io.specs.Lengths.{lengths_at}
+use Rattle.pcap_io.specs.Reading.{TakesHead, RefusesHead}
 use Rattle.pcap_io.specs.Written.{file_bytes, rec_bytes, off_bytes}
 use Rattle.pcap_io.specs.Split.{AreBytes, AreLawful, spelled_all, IsSplit}
 
@@ -66,3 +72,25 @@ abbrev pub CaptureReadsBack : Type 0
 CaptureReadsBack =
     (first : ℕ) (head : FileHead) (link : Link) (ps : List Packet) → head.zone < 2 ^ 32 → head.sigfigs < 2 ^ 32 → AreLawful link first ps
     → reads_numbered first link (file_bytes head link ++ spelled_all head.order ps) ≡ record { packets = ps; fault = None }
+
+-- The captured lengths go record by record, as a reader takes them: where nothing is left, where the next header is refused, and
+-- where it is taken, by whether its body is there.
+pub record GoesByRecord (place : Place) : Type 0 where
+  pub none : lengths_at place [] ≡ []
+  pub refused : (bytes left : List ℕ) (fault : CapFault) → RefusesHead place bytes left fault → lengths_at place bytes ≡ []
+  pub whole : (mid : Place) (bytes rest frame left : List ℕ) (head : RecHead) → TakesHead place bytes rest head → EntersBody place mid head
+      → rest ≡ frame ++ left → length frame ≡ head.captured → lengths_at place bytes ≡ head.captured ∷ lengths_at mid left
+  pub cut : (bytes rest : List ℕ) (head : RecHead) → TakesHead place bytes rest head → length rest < head.captured
+      → lengths_at place bytes ≡ head.captured ∷ []
+
+abbrev pub LengthsByRecord : Type 0
+LengthsByRecord = (place : Place) → GoesByRecord place
+
+abbrev pub frame_length : Packet → ℕ
+frame_length p = length p.frame
+
+-- They are the lengths of the packets that the bytes hold, and of at most one record more, which is cut short.
+abbrev pub LengthsOfPackets : Type 0
+LengthsOfPackets =
+    (place : Place) (bytes : List ℕ)
+    → (more : List ℕ) × (lengths_at place bytes ≡ map frame_length (found_at place bytes).packets ++ more) × (length more ≤ 1)

@@ -1,6 +1,7 @@
 pub mod Headers
 pub mod Capture
 pub mod Places
+pub mod Lengths
 pub mod Reading
 pub mod Readers
 pub mod Written

@@ -1,5 +1,5 @@
 //! Laws of the definitions, each carried by a function that does nothing.
-ghost use Rattle.pcap_io.specs.Laws.{OffHeadReadsBack, OffHeadWritesBack, RecHeadReadsBack, RecHeadWritesBack, FileHeadReadsBack, CaptureSplits, SplitIsUnique, CaptureReadsBack};
+ghost use Rattle.pcap_io.specs.Laws.{OffHeadReadsBack, OffHeadWritesBack, RecHeadReadsBack, RecHeadWritesBack, FileHeadReadsBack, CaptureSplits, SplitIsUnique, CaptureReadsBack, LengthsByRecord, LengthsOfPackets};
 
 /// An offload header that is written is read back.
 pub fn off_head_reads_back()
@@ -40,4 +40,14 @@ pub fn split_is_unique()
 /// A capture that is written of lawful packets reads as these packets and ends well.
 pub fn capture_reads_back()
     ensures law { CaptureReadsBack }
+{}
+
+/// The captured lengths of a capture's lawful record headers go record by record.
+pub fn lengths_go_by_record()
+    ensures law { LengthsByRecord }
+{}
+
+/// They are those of the packets that a capture holds, and of at most one record more, which is cut short.
+pub fn lengths_are_of_packets()
+    ensures law { LengthsOfPackets }
 {}

@@ -32,8 +32,9 @@ mod writer;
 pub use faults::{CapFault, CapKind, InFault};
 pub use heads::{FileHead, Link, RecHead};
 pub use laws::{
-    capture_reads_back, capture_splits, file_head_reads_back, off_head_reads_back,
-    off_head_writes_back, rec_head_reads_back, rec_head_writes_back, split_is_unique,
+    capture_reads_back, capture_splits, file_head_reads_back, lengths_are_of_packets,
+    lengths_go_by_record, off_head_reads_back, off_head_writes_back, rec_head_reads_back,
+    rec_head_writes_back, split_is_unique,
 };
 pub use net_bytes::Order;
 pub use off_head::{OFF_HEAD_LEN, OffHead};
