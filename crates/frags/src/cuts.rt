@@ -12,7 +12,7 @@ pub(crate) fn split_into(items: &mut VecDeque<Piece>, first: &mut VecDeque<Piece
     requires within { at ≤ size_of items.old.items }
     requires fresh { cut_worn at items.old.items ≡ false }
     requires empty { (first.old.items ≡ []) × (deque_len first.old ≡ 0) }
-    requires room { deque_len items.old ≤ deque_capacity first.old }
+    requires room { length (front at items.old.items) ≤ deque_capacity first.old }
     ensures front { first.new.items ≡ front at items.old.items }
     ensures back { items.new.items ≡ back at items.old.items }
 {

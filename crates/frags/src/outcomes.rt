@@ -63,6 +63,7 @@ impl Outcomes {
         ensures soles { self.new.soles ≡ self.old.soles ++ sole ∷ [] }
         ensures receipts { self.new.receipts ≡ self.old.receipts }
         ensures kept { Keeps (both (of_sole sole) (of_outcomes self.old)) (of_outcomes self.new) }
+        ensures grows { Grows 1 self.old self.new }
         ensures places { self.old.spare ≤ self.new.spare + 1 }
     {
         self.soles.push_reserved(sole);
@@ -74,6 +75,7 @@ impl Outcomes {
         ensures soles { self.new.soles ≡ self.old.soles }
         ensures receipts { self.new.receipts ≡ self.old.receipts ++ receipt ∷ [] }
         ensures kept { Keeps (both (of_receipt receipt) (of_outcomes self.old)) (of_outcomes self.new) }
+        ensures grows { Grows 1 self.old self.new }
         ensures places { self.old.spare ≤ self.new.spare + 1 }
     {
         self.receipts.push_reserved(receipt);

@@ -5,7 +5,7 @@ ghost use Rattle.frags.specs.declared.holder.Holder.{Holder};
 ghost use Rattle.raw_block.specs.Views.{PartState};
 ghost use Rattle.frags.specs.Account.{Tests, Keeps, KeepsMarks, both, of_part, of_holder, of_outcomes};
 ghost use Rattle.frags.specs.Growth.{Grows};
-ghost use Rattle.frags.specs.PieceList.{bytes_of, piece_bytes, pieces_held, Fits, AllFit, size_of, of_pieces, IsShare, IsSplit, IsAppend, byte_in, keep_front, least_weight, cut_front, cut_worn, worn};
+ghost use Rattle.frags.specs.PieceList.{bytes_of, piece_bytes, pieces_held, Fits, AllFit, size_of, of_pieces, IsShare, IsSplit, IsAppend, byte_in, keep_front, least_weight, cut_front, front, cut_worn, worn};
 
 use crate::cuts::split_into;
 use crate::{Holder, Outcomes, give_share};
@@ -363,11 +363,11 @@ impl Pieces {
                 need: at,
             });
         }
-        if self.cut_is_worn(at) {
+        let (count, is_worn) = self.cut_at(at);
+        if is_worn {
             return Err(ShareFault::Worn);
         }
-        let Ok(mut first) = VecDeque::with_capacity(*self.items.allocator(), self.items.len())
-        else {
+        let Ok(mut first) = VecDeque::with_capacity(*self.items.allocator(), count) else {
             return Err(ShareFault::NoMemory);
         };
         split_into(&mut self.items, &mut first, at);
@@ -375,6 +375,14 @@ impl Pieces {
         let size = self.size - at;
         self.size = at;
         Ok(Pieces { items, size })
+    }
+
+    /// Spends an empty list. It takes no memory, and no outcomes.
+    pub fn discard(self)
+        requires { self ≡ [] }
+    {
+        let Pieces { items, size: _ } = self;
+        items.destroy_empty();
     }
 
     /// Gives all parts back, the first piece's first.
@@ -408,20 +416,24 @@ impl Pieces {
         unreachable!()
     }
 
-    // The part that is cut at `at` has nothing to give.
-    fn cut_is_worn(&self, at: usize) -> bool
-        ensures { result ≡ cut_worn at self.now }
+    // How many pieces the first `at` bytes are, and whether the part that is cut there has nothing to give.
+    fn cut_at(&self, at: usize) -> (usize, bool)
+        ensures count { result.0 ≡ length (front at self.now) }
+        ensures worn { result.1 ≡ cut_worn at self.now }
     {
         let mut left = at;
         for i in 0..self.items.len() {
             let piece = &self.items[i];
             let size = piece.to - piece.from;
             if left < size {
-                return left != 0 && piece.part.weight() == 1;
+                if left == 0 {
+                    return (i, false);
+                }
+                return (i + 1, piece.part.weight() == 1);
             }
             left -= size;
         }
-        false
+        (self.items.len(), false)
     }
 }
 

@@ -70,7 +70,7 @@ fn split_and_joined(block: Sole, alloc: Global, at: usize) -> Option<(bool, bool
     let whole = pieces.take();
     let joined = has_bytes(&whole, 0, 25) && pieces.len() == 0;
     whole.release(&mut out);
-    pieces.release(&mut out);
+    pieces.discard();
     Some((split, joined, counted(out)))
 }
 

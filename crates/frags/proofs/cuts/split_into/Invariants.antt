@@ -7,10 +7,10 @@ abbrev pub invariant-loop-piece : goal.invariant-loop-piece
 invariant-loop-piece l = record {
   fits : AllFit l.items.items;
   within : l.left ≤ size_of l.items.items;
+  room : deque_len l.first + length (front l.left l.items.items) ≤ deque_capacity l.first;
   fresh : cut_worn l.left l.items.items ≡ false;
   front : l.first.items ++ front l.left l.items.items ≡ front l.at l.fn.items.items;
   back : back l.left l.items.items ≡ back l.at l.fn.items.items;
-  room : deque_len l.items + deque_len l.first ≤ deque_capacity l.first;
 }
 
 abbrev pub decreases-loop-piece : goal.decreases-loop-piece

@@ -1,7 +1,7 @@
 use Rattle.std.proofs.Common.{length, ap, subst, sym, arith}
 use Rattle.frags.specs.PieceList.{Fits}
 use Rattle.frags.proofs.Joining.{AllFit-at}
-use Rattle.frags.proofs.pieces.Pieces.cut_is_worn.Goals as goal
+use Rattle.frags.proofs.pieces.Pieces.cut_at.Goals as goal
 
 pub overflow_sub-size : goal.overflow_sub-size
 overflow_sub-size c =
