@@ -74,14 +74,16 @@ impl Pool {
 
     /// The blocks that are home.
     pub fn home(&self) -> u32
-        ensures { result ≡ home self.now }
+        ensures home { result ≡ home self.now }
+        ensures within { result ≤ self.now.made }
     {
         self.blocks.len() as u32
     }
 
     /// The blocks that were made.
     pub fn made(&self) -> u32
-        ensures { result ≡ self.now.made }
+        ensures made { result ≡ self.now.made }
+        ensures few { result ≤ 65536 }
     {
         self.made
     }
