@@ -8,7 +8,7 @@ use crate::{fold_number, fold_of};
 use std::marker::Model;
 
 /// The sum of some bytes: their fold, and how many they are. It stands for every list of bytes that has both.
-#[derive(Clone, Copy)]
+#[derive(Clone, Copy, Default)]
 pub struct Partial {
     fold: u16,
     len: u32,
