@@ -2,12 +2,13 @@
 use Rattle.std.proofs.Common.{◌≡◌, ℕ, zero, suc, ◌+◌, ◌<◌, List, [], ◌∷◌, length, get_or, slice_set, drop, refl, sym, ap, ◌∙◌, arith}
 use Rattle.std.proofs.lemmas.List.{drop_more, get_or_default}
 use Rattle.frame_layout.specs.Headers.{AtHeaders, size, AreLaid}
+use Rattle.frame_layout.specs.Segment.{HasFlags}
 use Rattle.frame_layout.specs.declared.layout.Header.{Header}
 use Rattle.frame_layout.specs.declared.layout.Layer.{Layer}
 use Rattle.frame_layout.specs.declared.layout.Layer.TheVariants.{Ethernet, Ip4, Ip6, Tcp}
 use Rattle.frame_layout.proofs.Lemmas.{laid_end}
 use Rattle.offload_model.specs.Edits.{with_edits, put_sum, with_sums, put_flags, put_flags_of}
-use Rattle.header_fill.specs.Filled.{HasFlags, IsInside, AreAddressesInside, header_before}
+use Rattle.header_fill.specs.Filled.{IsInside, AreAddressesInside, header_before}
 
 -- what holds at each header holds at one
 pub at_one : (P : Layer → ℕ → Type 0) (hs : List Header) (i : ℕ) (d : Header) → i < length hs → AtHeaders P hs → P (get_or hs i d).layer (get_or hs i d).at

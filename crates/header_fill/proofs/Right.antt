@@ -1,5 +1,5 @@
 -- A frame whose lengths and sums are filled in is right, and nothing else of it changed.
-use Rattle.std.proofs.Common.{ℕ, ◌+◌, ◌<◌, ◌≤◌, inl, inr, List, length, arith}
+use Rattle.std.proofs.Common.{ℕ, ◌≤◌, inl, inr, List, length, arith}
 use Rattle.frame_layout.specs.Headers.{AreLaid}
 use Rattle.frame_layout.specs.declared.layout.Header.{Header}
 use Rattle.frame_layout.specs.declared.layout.Layer.{Layer}

@@ -1,18 +1,12 @@
 -- Headers whose lengths and sums follow from the frame that they stand in.
 use Rattle.std.specs.Prelude.{◌≡◌, ℕ, zero, suc, ◌+◌, ◌<◌, ◌≤◌, ◌⊎◌, List, length, slice_index_or}
 use Rattle.net_bytes.specs.Bytes.{byte}
-use Rattle.tcp_headers.specs.Tcp.{flags}
 use Rattle.frame_layout.specs.Headers.{AtHeaders, size}
 use Rattle.frame_layout.specs.Candidate.{IsLengthRight, AreSumsRight}
 use Rattle.frame_layout.specs.declared.layout.Header.{Header}
 use Rattle.frame_layout.specs.declared.layout.Layer.{Layer}
 use Rattle.frame_layout.specs.declared.layout.Layer.TheVariants.{Ethernet, Ip4, Ip6, Udp, Tcp}
 use Rattle.offload_model.specs.Mergeable.{AreUdpSumsAlike}
-
--- the control bits of a TCP header are n
-abbrev pub HasFlags : ℕ → List ℕ → Layer → ℕ → Type 0
-HasFlags n f Tcp at = flags f at ≡ n
-HasFlags n f _ at = Unit {0}
 
 -- the place lies outside the fields of a header that follow from the rest of the frame: its length and its sum
 abbrev pub IsOutsideFilled : ℕ → Layer → ℕ → Type 0

@@ -19,10 +19,11 @@ ghost use Rattle.net_bytes.specs.Bytes.{byte};
 ghost use Rattle.inet_sum.specs.Stands.{StandsFor};
 ghost use Rattle.frame_layout.specs.Shape.{Layout};
 ghost use Rattle.frame_layout.specs.Headers.{AtHeaders, AreLaid};
+ghost use Rattle.frame_layout.specs.Segment.{HasFlags};
 ghost use Rattle.offload_model.specs.Mergeable.{IsLengthInRange};
 ghost use Rattle.offload_model.specs.Edits.{with_lengths_and_sums};
 ghost use Rattle.offload_model.specs.Frames.{merged_frame, IsMergedFrame};
-ghost use Rattle.header_fill.specs.Filled.{HasFlags, IsFilled};
+ghost use Rattle.header_fill.specs.Filled.{IsFilled};
 
 mod fields;
 mod place;

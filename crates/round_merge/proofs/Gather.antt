@@ -18,7 +18,7 @@ use Rattle.round_merge.specs.Runs.{packet_of}
 use Rattle.offload_model.specs.Rounds.{runs_in}
 use Rattle.round_merge.specs.Round.{AreRising}
 use Rattle.offload_model.proofs.OneQueue.{all_queued, one_queue}
-use Rattle.round_merge.specs.Table.{TakesPacket, KeepsEarly}
+use Rattle.merge_rule.specs.Steps.{TakesPacket, KeepsEarly}
 
 -- the packets before one have smaller numbers
 pub before : (xs : List Held) (x : Held) (ys : List Held) → AreRising (xs ++ (x ∷ ys)) → AllByRecursion (λ (p : Held). p.number < x.number) xs

@@ -12,7 +12,8 @@ use Rattle.frame_layout.specs.Key.{key_of}
 use Rattle.offload_model.specs.Rounds.{is_key, is_of}
 use Rattle.round_merge.specs.declared.run.Run.{Run}
 use Rattle.round_merge.specs.Runs.{IsRun, AreRuns, packets_of}
-use Rattle.round_merge.specs.Table.{IsLastBelow, is_run_of, found_in, PutsIn, IsIndexOf}
+use Rattle.merge_rule.specs.Steps.{IsLastBelow}
+use Rattle.round_merge.specs.Table.{is_run_of, found_in, PutsIn, IsIndexOf}
 
 -- two lists on which the test gives the same
 same_last : {X : Type 0} (test : X → Bool) (xs ys : List X) (o : Option ℕ) → length ys ≡ length xs

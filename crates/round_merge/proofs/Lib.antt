@@ -1,7 +1,3 @@
-mod Headers
-mod Decide
-mod Knows
-mod Steps
 mod Index
 mod Gather
 mod Merge

@@ -1,4 +1,3 @@
-pub mod Next
 pub mod Runs
 pub mod Table
 pub mod Round

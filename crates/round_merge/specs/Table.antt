@@ -1,13 +1,11 @@
 -- A table of runs, where the last run of each flow is found by its key.
-use Rattle.std.specs.Prelude.{◌≡◌, ℕ, ◌<◌, Bool, true, false, Option, Some, None, List, [], ◌∷◌, ◌++◌, length, if◌then◌else◌, slice_index_or, Vec}
-use Rattle.std.specs.List.{AllByRecursion}
+use Rattle.std.specs.Prelude.{◌≡◌, ℕ, Bool, Option, Some, List, length, if◌then◌else◌, Vec}
 use Rattle.std.specs.Str.{bytes_eq}
 use Rattle.std.specs.HashMap.{HashMap, get_by}
 use Rattle.std.specs.Global.{Global}
-use Rattle.maximal_runs.specs.Items.{begins_in, first_number, AreItems}
-use Rattle.pcap_io.specs.Capture.{Packet}
-use Rattle.offload_model.specs.Mergeable.{IsMergeable}
-use Rattle.offload_model.specs.Rounds.{is_of, number_of}
+use Rattle.maximal_runs.specs.Items.{begins_in}
+use Rattle.offload_model.specs.Rounds.{is_of}
+use Rattle.merge_rule.specs.Steps.{IsLastBelow}
 use Rattle.round_merge.specs.declared.run.Run.{Run}
 use Rattle.round_merge.specs.declared.table.Table.{Table as Held}
 use Rattle.round_merge.specs.Runs.{AreRuns, packets_of}
@@ -18,12 +16,6 @@ found_in m key = get_by (λ k. bytes_eq key k.items) m
 
 abbrev pub PutsIn : {S : Type 0} → HashMap (Vec ℕ Global) ℕ S → List ℕ → ℕ → HashMap (Vec ℕ Global) ℕ S → Type 0
 PutsIn old key i new = (q : Vec ℕ Global) → found_in new q.items ≡ (if bytes_eq key q.items then Some i else found_in old q.items)
-
--- the last of the first n elements that pass the test
-abbrev pub IsLastBelow : {X : Type 0} → (X → Bool) → List X → ℕ → Option ℕ → Type 0
-IsLastBelow {X} test xs n None = (k : ℕ) (d : X) → k < n → test (slice_index_or xs k d) ≡ false
-IsLastBelow {X} test xs n (Some i) =
-    (i < n) × ((d : X) → test (slice_index_or xs i d) ≡ true) × ((k : ℕ) (d : X) → i < k → k < n → test (slice_index_or xs k d) ≡ false)
 
 -- the run's first packet is of the flow with this key
 abbrev pub is_run_of : List ℕ → Run → Bool
@@ -36,20 +28,3 @@ IsIndexOf m rs = (q : Vec ℕ Global) → IsLastBelow (is_run_of q.items) rs (le
 pub record IsTable (t : Held) : Type 0 where
   pub runs : AreRuns t.runs.items
   pub index : IsIndexOf t.latest t.runs.items
-
--- the runs are those of the packets so far, whatever these are, with one more packet, whose number is above those that begin a
--- run
-abbrev pub TakesPacket : List (List Packet) → Packet → List (List Packet) → Type 0
-TakesPacket old x new =
-    (packets : List Packet)
-    → AllByRecursion (λ run. first_number number_of run < x.number) old
-    → AreItems IsMergeable is_of number_of packets old
-    → AreItems IsMergeable is_of number_of (packets ++ (x ∷ [])) new
-
--- runs that began before n still do, and so does the new packet's
-abbrev pub KeepsEarly : List (List Packet) → Packet → List (List Packet) → Type 0
-KeepsEarly old x new =
-    (n : ℕ)
-    → AllByRecursion (λ run. first_number number_of run < n) old
-    → x.number < n
-    → AllByRecursion (λ run. first_number number_of run < n) new

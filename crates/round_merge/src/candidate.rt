@@ -2,19 +2,11 @@
 ghost use Rattle.std.specs.Prelude.{◌≡◌, ◌≤◌, ◌<◌, length, drop};
 ghost use Rattle.inet_sum.specs.Stands.{StandsFor};
 ghost use Rattle.frame_layout.specs.Key.{key_of};
-ghost use Rattle.round_merge.specs.Runs.{IsJudged, IsShaped};
+ghost use Rattle.merge_rule.specs.Runs.{IsJudged, IsShaped};
 
 use frame_layout::{Key, Layout, candidate, key, key_behind};
 use inet_sum::Partial;
-
-/// Whether a packet may be merged: the layout of its headers, or `None`. If so, also the sum of its payload and its TCP
-/// control bits.
-#[derive(Drop)]
-pub struct Candidacy {
-    pub layout: Option<Layout>,
-    pub payload: Partial,
-    pub flags: u8,
-}
+use merge_rule::Candidacy;
 
 /// All headers of a frame that may be merged lie within these first bytes.
 const FRONT: usize = 200;

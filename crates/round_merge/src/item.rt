@@ -6,15 +6,17 @@ ghost use Rattle.frame_layout.specs.Headers.{AtHeaders, AreLaid};
 ghost use Rattle.offload_model.specs.Mergeable.{IsLengthInRange};
 ghost use Rattle.offload_model.specs.Frames.{merged_frame};
 ghost use Rattle.offload_model.specs.Merged.{merged_of};
-ghost use Rattle.header_fill.specs.Filled.{HasFlags};
-ghost use Rattle.round_merge.specs.Runs.{packet_of, packets_of, IsRun, IsRunOf, IsShort};
+ghost use Rattle.frame_layout.specs.Segment.{HasFlags};
+ghost use Rattle.merge_rule.specs.Runs.{IsRunOf};
+ghost use Rattle.round_merge.specs.Runs.{packet_of, packets_of, IsRun, IsShort};
 ghost use Rattle.round_merge.specs.Round.{item_of, IsWritable};
 
 use crate::Packet;
-use crate::run::{Progress, Run};
+use crate::run::Run;
 use frame_layout::{Header, Layout};
 use header_fill::merge_headers;
 use inet_sum::Partial;
+use merge_rule::Progress;
 
 /// What a run of packets comes to: a record that is to be written, with the number and the time of the run's first packet. It
 /// holds the packets' own vectors, so that no payload is copied: its frame is `frame`, and behind it the bytes of each

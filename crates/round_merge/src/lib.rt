@@ -20,10 +20,8 @@ ghost use Rattle.round_merge.specs.Runs.{packet_of, IsShort, IsRun};
 ghost use Rattle.offload_model.specs.Rounds.{runs_in};
 ghost use Rattle.round_merge.specs.Round.{AreRising, item_of, IsWritable};
 
-mod alike;
 mod candidate;
 mod item;
-mod next;
 mod packet;
 mod run;
 mod table;

@@ -1,14 +1,17 @@
 //! The runs of a round.
 ghost use Rattle.std.specs.Prelude.{◌≡◌, ◌≤◌, ◌<◌, ◌++◌, ◌∷◌, [], Some, length, map, OnOk, IfOk, All};
 ghost use Rattle.frame_layout.specs.Key.{key_of};
-ghost use Rattle.round_merge.specs.Runs.{packet_of, packets_of, IsJudged, IsShort, AreRuns};
+ghost use Rattle.merge_rule.specs.Runs.{IsJudged};
+ghost use Rattle.round_merge.specs.Runs.{packet_of, packets_of, IsShort, AreRuns};
 ghost use Rattle.offload_model.specs.Rounds.{runs_in};
 ghost use Rattle.round_merge.specs.Round.{AreRising};
-ghost use Rattle.round_merge.specs.Table.{found_in, PutsIn, IsTable, TakesPacket, KeepsEarly};
+ghost use Rattle.merge_rule.specs.Steps.{TakesPacket, KeepsEarly};
+ghost use Rattle.round_merge.specs.Table.{found_in, PutsIn, IsTable};
 
 use crate::Packet;
-use crate::candidate::{Candidacy, flow_key, judge};
+use crate::candidate::{flow_key, judge};
 use crate::run::Run;
+use merge_rule::Candidacy;
 use std::alloc::{AllocError, Global};
 use std::collections::HashMap;
 

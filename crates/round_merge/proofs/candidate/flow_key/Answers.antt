@@ -1,5 +1,5 @@
 use Rattle.std.proofs.Common.{refl, subst, arith}
-use Rattle.round_merge.specs.Runs.{IsShaped}
+use Rattle.merge_rule.specs.Runs.{IsShaped}
 use Rattle.round_merge.proofs.candidate.flow_key.Goals as goal
 
 pub key_behind-requires : goal.key_behind-requires

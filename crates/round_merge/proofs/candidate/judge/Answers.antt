@@ -3,11 +3,8 @@ use Rattle.std.proofs.lemmas.List.{take-append-drop, take_all, length-drop}
 use Rattle.net_bytes.specs.Bytes.{byte}
 use Rattle.inet_sum.specs.Stands.{FoldAndLength, StandsFor}
 use Rattle.frame_layout.specs.Front.{IsFrameOf}
-use Rattle.frame_layout.specs.Segment.{IsSegOf, HasFlags as HasFlagsOf}
-use Rattle.frame_layout.specs.declared.layout.Layer.{Layer}
-use Rattle.frame_layout.specs.declared.layout.Layer.TheVariants.{Tcp}
-use Rattle.frame_layout.proofs.Lemmas.{headers_map, laid, bounds}
-use Rattle.header_fill.specs.Filled.{HasFlags}
+use Rattle.frame_layout.specs.Segment.{IsSegOf}
+use Rattle.frame_layout.proofs.Lemmas.{laid, bounds}
 use Rattle.round_merge.proofs.candidate.judge.Goals as goal
 
 behind : (f : List ℕ) (n : ℕ) (p : FoldAndLength) → StandsFor p (take (length f - n) (drop n f)) → StandsFor p (drop n f)
@@ -15,10 +12,6 @@ behind f n p s = subst (StandsFor p) (take_all (length f - n) (drop n f) (omega 
 
 whole : (f : List ℕ) (n : ℕ) (p : FoldAndLength) → ((k : ℕ) → byte f k < 256) → StandsFor p (drop n f) → IsFrameOf (take n f) p f
 whole f n p small s = record { tail = drop n f; joined = sym (take-append-drop n f); sum = s; in_bytes = small }
-
-said : (n : ℕ) (f : List ℕ) (l : Layer) (at : ℕ) → HasFlagsOf n f l at → HasFlags n f l at
-said n f Tcp at h = h
-said n f _ at h = tt
 
 pub sum_from-requires-clause-rest : goal.sum_from-requires-clause-rest
 sum_from-requires-clause-rest c = behind c.args.frame.now c.min-front.result c.add.new.self (c.add.ensures.sum [] c.new-rest.ensures.sum)
@@ -42,7 +35,7 @@ returns-in-Some c =
         shape = s.1.shape;
         candidate = s.0;
         payload = subst (λ z. StandsFor c.sum_from.result (drop z f)) c.payload_at.ensures.place c.sum_from.ensures.sum;
-        flags = headers_map (said c.in-Some.segment.flags f) c.in-Some.segment.layout.headers s.1.flags;
+        flags = s.1.flags;
         in_bytes = small;
       };
     }

@@ -8,7 +8,8 @@ use Rattle.offload_model.specs.Frames.{merged_frame}
 use Rattle.pcap_io.specs.Capture.{Packet}
 use Rattle.round_merge.specs.declared.packet.Packet.{Packet as Held}
 use Rattle.round_merge.specs.Runs.{packet_of}
-use Rattle.round_merge.proofs.Merge.{laid_out, in_range, total_short, payload_short, first_short, few, payloads_held, made, comes_to, whole_long, rest_inside, held_inside}
+use Rattle.merge_rule.proofs.Merge.{laid_out, in_range, total_short, payload_short, first_short, few, made, comes_to, whole_long, rest_inside}
+use Rattle.round_merge.proofs.Merge.{payloads_held, held_inside}
 use Rattle.round_merge.proofs.item.merged.Goals as goal
 
 pub overflow_cast-m : goal.overflow_cast-m

@@ -6,8 +6,9 @@ use Rattle.offload_model.specs.Mergeable.{IsMergeable}
 use Rattle.offload_model.specs.Rounds.{is_of}
 use Rattle.round_merge.specs.declared.run.Run.{Run}
 use Rattle.round_merge.specs.Runs.{packet_of, packets_of, AreRuns}
-use Rattle.round_merge.specs.Table.{IsLastBelow, is_run_of, TakesPacket, KeepsEarly, IsIndexOf}
-use Rattle.round_merge.proofs.Steps.{run_grows, run_opens, last_map, early_grows}
+use Rattle.merge_rule.specs.Steps.{IsLastBelow, TakesPacket, KeepsEarly}
+use Rattle.round_merge.specs.Table.{is_run_of, IsIndexOf}
+use Rattle.merge_rule.proofs.Steps.{run_grows, run_opens, last_map, early_grows}
 use Rattle.round_merge.proofs.Index.{index_grows, index_opens, runs_set, runs_push, filled_by}
 use Rattle.round_merge.proofs.table.Table.place.Goals as goal
 use Rattle.round_merge.proofs.table.Table.place.Goals.{in-Some+else-takes, in_default}

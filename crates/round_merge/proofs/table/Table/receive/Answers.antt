@@ -3,10 +3,12 @@ use Rattle.std.specs.Option.{option_map}
 use Rattle.std.proofs.lemmas.List.{map-append}
 use Rattle.frame_layout.specs.Key.{key_of}
 use Rattle.round_merge.specs.declared.run.Run.{Run}
-use Rattle.round_merge.specs.Runs.{packet_of, packets_of, IsJudged, IsShaped, AreRuns}
-use Rattle.round_merge.specs.Table.{TakesPacket, IsIndexOf}
-use Rattle.round_merge.proofs.Knows.{shaped_by}
-use Rattle.round_merge.proofs.Steps.{other_opens}
+use Rattle.merge_rule.specs.Runs.{IsJudged, IsShaped}
+use Rattle.round_merge.specs.Runs.{packet_of, packets_of, AreRuns}
+use Rattle.merge_rule.specs.Steps.{TakesPacket}
+use Rattle.round_merge.specs.Table.{IsIndexOf}
+use Rattle.merge_rule.proofs.Knows.{shaped_by}
+use Rattle.merge_rule.proofs.Steps.{other_opens}
 use Rattle.round_merge.proofs.Index.{index_other, runs_push}
 use Rattle.round_merge.proofs.table.Table.receive.Goals as goal
 

@@ -1,0 +1,6 @@
+pub mod Headers
+pub mod Decide
+pub mod Heads
+pub mod Knows
+pub mod Steps
+pub mod Merge

@@ -1,0 +1,8 @@
+use Rattle.merge_rule.proofs.Heads.{next_by_head}
+use Rattle.merge_rule.proofs.rule.is_next.Goals as goal
+
+pub returns : goal.returns
+returns c = record {
+  next = λ f g hf kg. next_by_head c.args.layout.now c.args.first.now c.args.first_len c.args.count c.args.progress.now.total c.args.progress.now.modes
+      c.args.next.now c.args.next_len c.continues.result f g c.requires.placed c.requires.first c.requires.next hf kg c.continues.ensures.next;
+}

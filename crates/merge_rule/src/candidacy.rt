@@ -1,0 +1,13 @@
+//! What judging a packet gives.
+
+use frame_layout::Layout;
+use inet_sum::Partial;
+
+/// Whether a packet may be merged: the layout of its headers, or `None`. If so, also the sum of its payload and its TCP
+/// control bits.
+#[derive(Drop)]
+pub struct Candidacy {
+    pub layout: Option<Layout>,
+    pub payload: Partial,
+    pub flags: u8,
+}

@@ -1,7 +1,0 @@
-use Rattle.std.proofs.Common.{◌≡◌, drop}
-use Rattle.frame_layout.specs.Headers.{all_headers}
-use Rattle.round_merge.specs.Next.{is_next_at}
-use Rattle.round_merge.proofs.next.are_next.Given as goal
-
-abbrev pub invariant-loop-header : goal.invariant-loop-header
-invariant-loop-header l = all_headers (is_next_at l.first l.next l.further l.total) (drop l.header-index l.headers) ≡ all_headers (is_next_at l.first l.next l.further l.total) l.headers
