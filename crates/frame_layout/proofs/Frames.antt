@@ -23,8 +23,8 @@ pub record IsJudged (h : List ℕ) (l : Layout) (payload : FoldAndLength) (f : L
   pub shape : shape_of f ≡ Some l
   pub small : (k : ℕ) → byte f k < 256
 
-pub shape_of_head : (h tail f : List ℕ) → f ≡ h ++ tail → ((k : ℕ) → byte h k < 256) → ((k : ℕ) → byte f k < 256) → min (length f) 200 ≤ length h → shape_of h ≡ shape_of f
-shape_of_head h tail f joined small all enough = same_shapes h f small all (omega (arith, ap length joined, length-append h tail)) enough
+pub shape_of_head : (h tail f : List ℕ) → f ≡ h ++ tail → ((k : ℕ) → byte h k < 256) → min (length f) 200 ≤ length h → shape_of h ≡ shape_of f
+shape_of_head h tail f joined small enough = same_shapes h f small (omega (arith, ap length joined, length-append h tail)) enough
     (λ k l. ap (λ z. byte z k) joined ∙ get_or_append_left h tail 0 k l)
 
 pub judged : (h : List ℕ) (l : Layout) (payload : FoldAndLength) (f : List ℕ) → ((k : ℕ) → byte h k < 256) → shape_of h ≡ Some l
@@ -36,7 +36,7 @@ judged h l payload f small e enough s =
       long = long;
       fold = s.sum.0;
       begins = λ k l. ap (λ z. byte z k) s.joined ∙ get_or_append_left h s.tail 0 k l;
-      shape = sym (shape_of_head h s.tail f s.joined small s.in_bytes (omega (arith, long, enough))) ∙ e;
+      shape = sym (shape_of_head h s.tail f s.joined small (omega (arith, long, enough))) ∙ e;
       small = s.in_bytes;
     }
 

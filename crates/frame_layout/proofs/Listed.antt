@@ -59,7 +59,7 @@ pub record IsListed (test : List Layer → Bool) (start : ℕ) (f : List ℕ) (l
   pub passes : test kinds ≡ true
   pub is : record { headers = places start kinds; payload_at = ends start kinds + options } ≡ l
   pub within : l.payload_at ≤ length f
-  pub few : ((k : ℕ) → byte f k < 256) → options ≤ 40
+  pub few : ((k : ℕ) → k < ends start kinds → byte f k < 256) → options ≤ 40
 
 pub record Lists (test : List Layer → Bool) (start : ℕ) (f : List ℕ) (o : Option Layout) : Type 0 where
   pub at : (l : Layout) → o ≡ Some l → IsListed test start f l
@@ -96,7 +96,7 @@ module _ (f : List ℕ) where
           passes = e;
           is = ap (λ n. record { headers = []; payload_at = n }) end ∙ is;
           within = subst (λ z. z.payload_at ≤ length f) is (leb-true (at + 4 * words) (length f) p.1);
-          few = λ small. omega (arith, small (at + 12));
+          few = λ small. omega (arith, small (at + 12) (omega arith));
         };
   }
 

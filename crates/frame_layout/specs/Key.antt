@@ -41,7 +41,6 @@ pub record IsHeadOf (head f : List ℕ) : Type 0 where
   pub begins : (k : ℕ) → k < length head → byte f k ≡ byte head k
   pub more : length head ≤ length f
   pub enough : min (length f) 200 ≤ length head
-  pub in_bytes : (k : ℕ) → byte f k < 256
 
 abbrev pub hash_of : List ℕ → ℕ
 hash_of key = fold (λ h b. (h * 31 + b) % 2 ^ 32) 0 key

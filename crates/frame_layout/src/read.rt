@@ -1,9 +1,10 @@
 //! The shape of a frame, and readers of its headers from a place on.
 
-ghost use Rattle.std.specs.Prelude.{◌≡◌, ◌+◌, ◌*◌, ◌<◌, ◌≤◌, ◌^◌, [], length, take, IfSome};
+ghost use Rattle.std.specs.Prelude.{◌≡◌, ℕ, List, ◌+◌, ◌*◌, ◌<◌, ◌≤◌, ◌^◌, [], length, take, IfSome};
 ghost use Rattle.arrayvec.specs.ArrayVec.{array_vec_len};
 ghost use Rattle.frame_layout.specs.Shape.{ethernet_there, tag_there, ip4_there, ip6_there, tcp_there, udp_there, vxlan_there, network_from, typed_from, ethernet_from, tcp_from, vxlan_from, shape_of};
 ghost use Rattle.frame_layout.specs.Found.{IsIpFound, IsFound};
+ghost use Rattle.frame_layout.specs.Key.{IsHeadOf};
 
 use crate::layout::{Header, Layer, Layout};
 use arrayvec::ArrayVec;
@@ -243,11 +244,13 @@ fn find(frame: &[u8], found: &mut ArrayVec<Header, 11>) -> Option<usize>
 ///
 /// A frame has a shape where it begins with an Ethernet header, at most two VLAN tags, an IPv4 header without options
 /// that is no fragment or an IPv6 header, and then either a TCP header, or UDP to VXLAN's port, VXLAN, and an inner
-/// frame of the first form. All these headers lie within the first 200 bytes, and are 54 bytes at least.
+/// frame of the first form. All these headers lie within the first 200 bytes, and are 54 bytes at least. So the shape is that
+/// of each frame that begins with these (`whole`).
 #[inline(always)]
 pub fn shape(frame: &[u8]) -> Option<Layout>
     ensures shape { result ≡ shape_of frame.now }
     ensures front { result ≡ shape_of (take 200 frame.now) }
+    ensures whole { (f : List ℕ) → IsHeadOf frame.now f → result ≡ shape_of f }
     ensures within { IfSome result (λ l. l.payload_at ≤ length frame.now) }
     ensures low { IfSome result (λ l. l.payload_at ≤ 200) }
     ensures least { IfSome result (λ l. 54 ≤ l.payload_at) }

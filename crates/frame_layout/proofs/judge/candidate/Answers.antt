@@ -14,7 +14,7 @@ returns-in_default c = record {
   candidate = λ f s l e k.
       let h = c.args.head.now in
       let long : length f ≡ length h + c.args.rest.now.len = omega (arith, ap length s.joined, length-append h s.tail, s.sum.1) in
-      let b : None ≡ Some l = c.in_default.ensures.shape ∙ shape_of_head h s.tail f s.joined (λ k. omega (arith, c.type_inv.head k)) s.in_bytes (omega (arith, long, c.requires.whole, c.requires.enough)) ∙ e in
+      let b : None ≡ Some l = c.in_default.ensures.shape ∙ shape_of_head h s.tail f s.joined (λ k. omega (arith, c.type_inv.head k)) (omega (arith, long, c.requires.whole, c.requires.enough)) ∙ e in
       absurd cc;
 }
 

@@ -1,4 +1,4 @@
-use Rattle.std.proofs.Common.{◌≡◌, ◌+◌, ◌<◌, ◌≤◌, true, length, drop, ap, sym, ◌∙◌, subst, arith}
+use Rattle.std.proofs.Common.{◌≡◌, ◌+◌, ◌≤◌, true, length, drop, ap, sym, ◌∙◌, subst, arith}
 use Rattle.inet_sum.specs.Sum.{fold_of}
 use Rattle.frame_layout.specs.Shape.{Layout}
 use Rattle.frame_layout.specs.Headers.{size, AtHeaders}
@@ -6,7 +6,7 @@ use Rattle.frame_layout.specs.Front.{are_headers_right}
 use Rattle.frame_layout.specs.declared.layout.Layer.TheVariants.{Ethernet}
 use Rattle.frame_layout.proofs.Alike.{inside_all, within_all}
 use Rattle.frame_layout.proofs.Bounds.{IsPlaced, placed}
-use Rattle.frame_layout.proofs.Frames.{IsJudged, judged, refused, candidate_is, is_candidate, not_longer}
+use Rattle.frame_layout.proofs.Frames.{judged, refused, candidate_is, is_candidate, not_longer}
 use Rattle.frame_layout.specs.Segment.{flags_of as flags_said, HasFlags}
 use Rattle.frame_layout.proofs.ControlBits.{has_flags, same_flags}
 use Rattle.frame_layout.proofs.judge.candidate_in.Goals as goal

@@ -7,7 +7,7 @@ pub key_behind-requires : goal.key_behind-requires
 key_behind-requires c = record {
   shape = (
     c.args.frame.now,
-    (record { begins = λ k l. refl; more = omega arith; enough = omega arith; in_bytes = λ k. omega (arith, c.type_inv.frame k) }, sym c.in-Some.ensures.shape),
+    (record { begins = λ k l. refl; more = omega arith; enough = omega arith }, sym c.in-Some.ensures.shape),
   );
 }
 

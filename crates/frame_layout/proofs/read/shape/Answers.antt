@@ -1,12 +1,15 @@
 use Rattle.std.proofs.Common.{◌≡◌, Some, ap, sym, ◌∙◌, arith}
 use Rattle.frame_layout.specs.Shape.{Layout, shape_of}
 use Rattle.frame_layout.proofs.Bounds.{IsPlaced, placed}
-use Rattle.frame_layout.proofs.Fronts.{shape_in_front}
+use Rattle.frame_layout.proofs.Fronts.{same_shapes, shape_in_front}
 use Rattle.frame_layout.proofs.Keys.{found_shape}
 use Rattle.frame_layout.proofs.read.shape.Goals as goal
 
 pub returns-in_default-clause-front : goal.returns-in_default-clause-front
 returns-in_default-clause-front c = sym c.in_default.ensures ∙ sym (shape_in_front c.args.frame.now (λ k. omega (arith, c.type_inv.frame k)))
+
+pub returns-in_default-clause-whole : goal.returns-in_default-clause-whole
+returns-in_default-clause-whole c = λ g o. sym c.in_default.ensures ∙ same_shapes c.args.frame.now g (λ k. omega (arith, c.type_inv.frame k)) o.more o.enough o.begins
 
 pub returns : goal.returns
 returns c =
@@ -17,6 +20,7 @@ returns c =
     record {
       shape = ap Some c.of.ensures ∙ e;
       front = ap Some c.of.ensures ∙ e ∙ sym (shape_in_front f (λ k. omega (arith, c.type_inv.frame k)));
+      whole = λ g o. ap Some c.of.ensures ∙ e ∙ same_shapes f g (λ k. omega (arith, c.type_inv.frame k)) o.more o.enough o.begins;
       within = omega (arith, ap (λ z. z.payload_at) c.of.ensures, p.within);
       low = omega (arith, ap (λ z. z.payload_at) c.of.ensures, p.low);
       least = omega (arith, ap (λ z. z.payload_at) c.of.ensures, p.least);

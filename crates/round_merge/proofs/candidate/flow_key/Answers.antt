@@ -6,6 +6,6 @@ pub key_behind-requires : goal.key_behind-requires
 key_behind-requires c = record {
   shape = (
     c.args.frame.now,
-    (record { begins = λ k l. refl; more = omega arith; enough = omega arith; in_bytes = λ k. omega (arith, c.type_inv.frame k) }, subst (λ z. IsShaped z c.args.frame.now) c.in-Some.is c.requires.shaped),
+    (record { begins = λ k l. refl; more = omega arith; enough = omega arith }, subst (λ z. IsShaped z c.args.frame.now) c.in-Some.is c.requires.shaped),
   );
 }
