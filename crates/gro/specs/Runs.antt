@@ -1,7 +1,7 @@
 -- What is known of a run of packets in buffers.
 use Rattle.std.specs.Prelude.{ℕ, ◌≡◌, List, ◌∷◌, map}
 use Rattle.pcap_io.specs.Capture.{Packet}
-use Rattle.round_merge.specs.Runs.{IsRunBy}
+use Rattle.merge_rule.specs.Runs.{IsRunBy}
 use Rattle.gro.specs.declared.packet.Packet.{Packet as Held}
 use Rattle.gro.specs.declared.run.Run.{Run}
 use Rattle.gro.specs.Held.{packet_of, AreHeld, counts_of}

@@ -3,7 +3,7 @@
 use crate::Packet;
 use frame_layout::Layout;
 use inet_sum::Partial;
-use round_merge::Progress;
+use merge_rule::Progress;
 use std::collections::VecDeque;
 
 /// A run of packets of one layout, the sum of their payloads, the last one's control bits, what the run has come to, and how many

@@ -29,7 +29,6 @@ mod table;
 use crate::table::runs_of;
 pub use item::Item;
 pub use packet::Packet;
-pub use run::Progress;
 use std::alloc::{AllocError, Global};
 
 /// Merges the packets of a round: what the maximal runs of all flows come to, in the order of their first packets. Where
