@@ -264,7 +264,7 @@ impl Skb {
     /// The first `n` bytes are gone. Pieces that are wholly gone are given back, and a head left empty stays. `Short`
     /// exactly where `n > len()`.
     pub fn pull(&mut self, n: usize, out: &mut Outcomes) -> Result<(), Short>
-        requires { length self.old.rest ≤ out.old.spare }
+        requires { head_size self.old < n → length self.old.rest ≤ out.old.spare }
         ensures bytes { MatchResult result (λ _. buffer_bytes self.new ≡ drop n (buffer_bytes self.old)) (λ e. (buffer_size self.old < n) × (e.have ≡ buffer_size self.old) × (e.need ≡ n) × (self.new ≡ self.old) × (out.new ≡ out.old)) }
         ensures head { (self.new.head ≡ self.old.head) × (self.new.to ≡ self.old.to) }
         ensures room { IfOk result (λ _. self.new.from ≡ min (self.old.from + n) self.old.to) }
