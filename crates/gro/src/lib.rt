@@ -13,6 +13,8 @@
 //! merging has left.
 #![tactic(auto)]
 
+mod flow_key;
+mod flows;
 mod item;
 mod packet;
 mod run;
