@@ -13,9 +13,9 @@ use Rattle.pcap_io.specs.declared.heads.RecHead.{RecHead}
 use Rattle.pcap_io.specs.declared.off_head.OffHead.{OffHead}
 use Rattle.offload_model.specs.Segments.{packet_in, merged_in, segments_by, segments_of}
 use Rattle.offload_model.specs.Tests.{is_cuttable_as, is_lawful_single, is_lawful_window, is_lawful_by, is_lawful_record}
-use Rattle.record_cut.specs.declared.lawful.Plan.{Plan}
-use Rattle.record_cut.specs.declared.lawful.Plan.TheVariants.{Nothing, Single, Segments}
-use Rattle.record_cut.specs.Cuts.{IsPlan}
+use Rattle.record_cut.specs.declared.judging.Plan.{Plan}
+use Rattle.record_cut.specs.declared.judging.Plan.TheVariants.{Nothing, Single, Segments}
+use Rattle.record_cut.specs.Plans.{IsPlan}
 use Rattle.segment_run.specs.Records.{packet_of}
 use Rattle.segment_run.specs.Output.{records_bytes, planned, FitsPlan, WritesRecord}
 

@@ -14,10 +14,10 @@ use Rattle.offload_model.specs.Segments.{segments_of}
 use Rattle.offload_model.specs.Tests.{is_lawful_record}
 use Rattle.offload_model.specs.Tested.{tested_from, reads_tested}
 use Rattle.offload_model.specs.Written.{record_bytes, segmented}
-use Rattle.record_cut.specs.declared.cut.Cut.{Cut}
-use Rattle.record_cut.specs.declared.lawful.Plan.{Plan}
-use Rattle.record_cut.specs.declared.lawful.Plan.TheVariants.{Nothing, Single, Segments}
-use Rattle.record_cut.specs.Cuts.{IsCutOf, segment_at, segments_at}
+use Rattle.segment_rule.specs.declared.segmentation.Segmentation.{Segmentation}
+use Rattle.record_cut.specs.declared.judging.Plan.{Plan}
+use Rattle.record_cut.specs.declared.judging.Plan.TheVariants.{Nothing, Single, Segments}
+use Rattle.segment_rule.specs.Segmentations.{IsSegmentationOf, segment_at, segments_at}
 use Rattle.segment_run.specs.declared.segments.Refused.{Refused}
 use Rattle.segment_run.specs.declared.segments.Refused.TheVariants.{BadOffload, WriteFault}
 
@@ -30,7 +30,7 @@ abbrev pub segment_packet : RecHead → List ℕ → Packet
 segment_packet r f = packet r.number r.sec r.frac (length f) f
 
 -- the first k segments of a merged frame as records of their own
-abbrev pub segments_bytes : Order → RecHead → Cut → List ℕ → ℕ → List ℕ
+abbrev pub segments_bytes : Order → RecHead → Segmentation → List ℕ → ℕ → List ℕ
 segments_bytes order r cut f k = records_bytes order (map (λ i. segment_packet r (segment_at cut f i)) (range_with_len 0 k))
 
 -- the packets of a plan, where the packet behind the offload header has this original length and this frame
@@ -41,7 +41,7 @@ planned r original f (Segments cut) = segments_at cut (packet r.number r.sec r.f
 
 -- the frame can be cut as the plan says
 abbrev pub FitsPlan : List ℕ → Plan → Type 0
-FitsPlan f (Segments cut) = IsCutOf cut f
+FitsPlan f (Segments cut) = IsSegmentationOf cut f
 FitsPlan f _ = Unit {0}
 
 -- what these bytes read as from a place on, with each whole record tested too

@@ -6,13 +6,14 @@ ghost use Rattle.off_io.specs.Faults.{HasCause, Rose};
 ghost use Rattle.off_io.specs.Content.{AppendsFront};
 ghost use Rattle.pcap_io.specs.Capture.{packet};
 ghost use Rattle.offload_model.specs.Written.{record_bytes};
-ghost use Rattle.record_cut.specs.Cuts.{IsCutOf, segment_at};
+ghost use Rattle.segment_rule.specs.Segmentations.{IsSegmentationOf, segment_at};
 ghost use Rattle.segment_run.specs.Records.{packet_of, FitsOffload};
 ghost use Rattle.segment_run.specs.Output.{records_bytes, segment_packet, segments_bytes, planned, FitsPlan, WritesRecord};
 
 use off_io::{Sink, WriteFault, write_all};
 use pcap_io::{FileHead, OFF_HEAD_LEN, OffHead, RecHead, write_rec_head};
-use record_cut::{BadOffload, Cut, Plan, judge};
+use record_cut::{Plan, headers, judge, payload};
+use segment_rule::{BadOffload, Segmentation};
 
 /// Why the packets of a record aren't all written.
 #[derive(Clone, Copy, Debug, PartialEq, Eq)]
@@ -48,20 +49,20 @@ fn write_segment<K: Sink>(
     sink: &mut K,
     file: &FileHead,
     head: &RecHead,
-    cut: &Cut,
+    cut: &Segmentation,
     frame: &[u8],
     i: u16,
 ) -> Result<(), WriteFault>
-    requires cut { IsCutOf cut.now frame.now }
+    requires cut { IsSegmentationOf cut.now frame.now }
     requires there { i < cut.now.n }
     ensures ok { OnOk result (Appends (K.held sink.old) (K.held sink.new) (record_bytes file.now.order (segment_packet head.now (segment_at cut.now frame.now i)))) }
     ensures err { OnErr result (AppendsFront (K.held sink.old) (K.held sink.new) (record_bytes file.now.order (segment_packet head.now (segment_at cut.now frame.now i)))) }
     ensures cause { HasCause (K.faults sink.old) (K.faults sink.new) result }
 {
-    let headers = cut.headers(frame, i);
-    let payload = cut.payload(frame, i);
-    let len = (headers.len() + payload.len()) as u32;
-    write_packet(sink, file, head, len, headers.as_slice(), payload)
+    let head_bytes = headers(cut, frame, i);
+    let own = payload(cut, frame, i);
+    let len = (head_bytes.len() + own.len()) as u32;
+    write_packet(sink, file, head, len, head_bytes.as_slice(), own)
 }
 
 /// Writes all segments of a merged frame.
@@ -69,10 +70,10 @@ fn write_segments<K: Sink>(
     sink: &mut K,
     file: &FileHead,
     head: &RecHead,
-    cut: &Cut,
+    cut: &Segmentation,
     frame: &[u8],
 ) -> Result<(), WriteFault>
-    requires cut { IsCutOf cut.now frame.now }
+    requires cut { IsSegmentationOf cut.now frame.now }
     ensures ok { OnOk result (Appends (K.held sink.old) (K.held sink.new) (segments_bytes file.now.order head.now cut.now frame.now cut.now.n)) }
     ensures err { OnErr result (AppendsFront (K.held sink.old) (K.held sink.new) (segments_bytes file.now.order head.now cut.now frame.now cut.now.n)) }
     ensures cause { HasCause (K.faults sink.old) (K.faults sink.new) result }

@@ -1,7 +1,7 @@
 use Rattle.std.proofs.Common.{◌≡◌, ℕ, arith}
 use Rattle.std.proofs.lemmas.Result.{err_from_is_err_and}
 use Rattle.pcap_io.specs.Capture.{Packet}
-use Rattle.record_cut.specs.Cuts.{segment_at}
+use Rattle.segment_rule.specs.Segmentations.{segment_at}
 use Rattle.segment_run.specs.Output.{segment_packet}
 use Rattle.segment_run.proofs.Written.{wrote_one_more, failed_at}
 use Rattle.segment_run.proofs.segments.write_segments.Goals as goal

@@ -10,7 +10,7 @@ use Rattle.frame_layout.specs.declared.layout.Layer.TheVariants.{Ethernet, Tag, 
 use Rattle.offload_model.specs.Merged.{modes_at, modes_of, fixed_at, is_fixed}
 use Rattle.offload_model.specs.Segments.{IsModeLawful}
 use Rattle.frame_layout.proofs.Lemmas.{headers_map2}
-use Rattle.record_cut.specs.Modes.{is_bit_lawful, modes_behind, are_bits_lawful}
+use Rattle.segment_rule.specs.Modes.{is_bit_lawful, modes_behind, are_bits_lawful}
 
 -- what `IsModeLawful` says, of any test of places
 abbrev LawfulAt : (ℕ → Bool) → List ℕ → Layer → ℕ → Type 0

@@ -16,8 +16,8 @@ use Rattle.offload_model.proofs.Filled.{Small}
 use Rattle.offload_model.proofs.Functions.{segment_is}
 use Rattle.offload_model.proofs.Fronts.{range_less}
 use Rattle.offload_model.proofs.Ranges.{in_range}
-use Rattle.record_cut.specs.declared.cut.Cut.{Cut}
-use Rattle.record_cut.specs.Cuts.{IsCutOf, IsSegmentAt, segment_at, payload_at}
+use Rattle.segment_rule.specs.declared.segmentation.Segmentation.{Segmentation}
+use Rattle.segment_rule.specs.Segmentations.{IsSegmentationOf, IsSegmentAt, segment_at, payload_at}
 
 -- headers that are laid out stand inside
 pub laid_inside : (start : ℕ) (hs : List Header) (end : ℕ) → AreLaid start hs end → AtHeaders (λ layer at. at + size layer ≤ end) hs
@@ -32,29 +32,29 @@ ranged f small Udp at e = omega (arith, e, small (at + 4), small (at + 4 + 1))
 ranged f small _ at e = tt
 
 -- what a cut of a frame says of its headers' places
-pub places : (cut : Cut) (f : List ℕ) → Small f → IsCutOf cut f → IsPlaced f cut.layout
+pub places : (cut : Segmentation) (f : List ℕ) → Small f → IsSegmentationOf cut f → IsPlaced f cut.layout
 places cut f small is = placed f small cut.layout (sym is.shape_is)
 
-pub ranges : (cut : Cut) (f : List ℕ) → Small f → IsCutOf cut f → AtHeaders (IsLengthInRange (length f)) cut.layout.headers
+pub ranges : (cut : Segmentation) (f : List ℕ) → Small f → IsSegmentationOf cut f → AtHeaders (IsLengthInRange (length f)) cut.layout.headers
 ranges cut f small is = headers_map (ranged f small) cut.layout.headers is.candidate.lengths
 
 -- no frame that is cut is long
-pub short : (cut : Cut) (f : List ℕ) → Small f → IsCutOf cut f → length f ≤ 65597
+pub short : (cut : Segmentation) (f : List ℕ) → Small f → IsSegmentationOf cut f → length f ≤ 65597
 short cut f small is = (in_range f cut.layout (length f) is.shape_is (ranges cut f small is)).0
 
 -- a segment isn't longer than the frame
-pub payload_short : (cut : Cut) (f : List ℕ) (i : ℕ) → length (payload_at cut f i) ≤ length f - cut.layout.payload_at
+pub payload_short : (cut : Segmentation) (f : List ℕ) (i : ℕ) → length (payload_at cut f i) ≤ length f - cut.layout.payload_at
 payload_short cut f i =
     omega (arith, length-take cut.m (drop (i * cut.m) (drop cut.layout.payload_at f)), length-drop (i * cut.m) (drop cut.layout.payload_at f), length-drop cut.layout.payload_at f)
 
-pub segment_ranges : (cut : Cut) (f : List ℕ) (i : ℕ) → Small f → IsCutOf cut f
+pub segment_ranges : (cut : Segmentation) (f : List ℕ) (i : ℕ) → Small f → IsSegmentationOf cut f
     → AtHeaders (IsLengthInRange (cut.layout.payload_at + length (payload_at cut f i))) cut.layout.headers
 segment_ranges cut f i small is =
     headers_map (range_less (cut.layout.payload_at + length (payload_at cut f i)) (length f) (omega (arith, payload_short cut f i, (places cut f small is).within)))
     cut.layout.headers (ranges cut f small is)
 
 -- the segments are what the relation says
-pub segment_holds : (cut : Cut) (f : List ℕ) (i : ℕ) → Small f → IsCutOf cut f → i < cut.n → IsSegmentAt cut f i (segment_at cut f i)
+pub segment_holds : (cut : Segmentation) (f : List ℕ) (i : ℕ) → Small f → IsSegmentationOf cut f → i < cut.n → IsSegmentAt cut f i (segment_at cut f i)
 segment_holds cut f i small is less =
     let p : IsPlaced f cut.layout = places cut f small is in
     segment_is cut.layout (is_fixed cut.modes cut.layout.headers) cut.n cut.m (i + 1 == cut.n) f i p.laid p.within small (segment_ranges cut f i small is)

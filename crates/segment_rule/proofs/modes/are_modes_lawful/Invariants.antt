@@ -1,6 +1,6 @@
 use Rattle.std.proofs.Common.{◌≡◌, ℕ, ◌++◌, List, drop}
-use Rattle.record_cut.specs.Modes.{are_bits_lawful}
-use Rattle.record_cut.proofs.modes.are_modes_lawful.Given as goal
+use Rattle.segment_rule.specs.Modes.{are_bits_lawful}
+use Rattle.segment_rule.proofs.modes.are_modes_lawful.Given as goal
 
 abbrev pub invariant-loop-header : goal.invariant-loop-header
 invariant-loop-header l =

@@ -17,20 +17,17 @@ use Rattle.offload_model.specs.Merged.{layout_of, is_fixed}
 use Rattle.offload_model.specs.Segments.{with_frame, merged_in, segments_by, IsCuttable, IsLawfulSuper}
 use Rattle.offload_model.specs.Tests.{is_lawful_super, is_lawful_single, is_lawful_window, is_lawful_by}
 use Rattle.offload_model.proofs.Decides.{decides_super}
-use Rattle.record_cut.specs.declared.cut.Cut.{Cut}
-use Rattle.record_cut.specs.Cuts.{HasNumbersOf, IsCutOf, segment_at, segments_at}
-use Rattle.record_cut.specs.Modes.{are_bits_lawful}
-use Rattle.record_cut.proofs.ModeBits.{bits_from, bits_to}
-use Rattle.record_cut.proofs.Segments.{laid_inside}
+use Rattle.segment_rule.specs.declared.segmentation.Segmentation.{Segmentation}
+use Rattle.segment_rule.specs.Segmentations.{HasNumbersOf, IsSegmentationOf, segment_at, segments_at, is_merged_head, is_filled}
+use Rattle.segment_rule.specs.Modes.{are_bits_lawful}
+use Rattle.segment_rule.proofs.ModeBits.{bits_from, bits_to}
+use Rattle.segment_rule.proofs.Segments.{laid_inside}
 
 -- ---- merged frames
 
-abbrev pub is_cut_exactly : ℕ → ℕ → ℕ → Bool
-is_cut_exactly n m payload = nat_le 2 n && (nat_le 1 m && (nat_lt ((n - 1) * m) payload && nat_le payload (n * m)))
-
 -- n, m and modes suit a candidate
 pub cuttable_from : (f : List ℕ) (original : ℕ) (s : Seg) (n m modes : ℕ) → IsSegOf f original (Some s)
-    → is_cut_exactly n m s.payload_len ≡ true → are_bits_lawful modes f s.layout.headers ≡ true
+    → is_filled n m s.payload_len ≡ true → are_bits_lawful modes f s.layout.headers ≡ true
     → IsCuttable s.layout (record { packet = packet 0 0 0 original f; n = n; m = m; modes = modes })
 cuttable_from f original s n m modes seg exact bits =
     let a = and_parts (nat_le 2 n) (nat_le 1 m && (nat_lt ((n - 1) * m) s.payload_len && nat_le s.payload_len (n * m))) exact in
@@ -59,7 +56,7 @@ same_layout f s layout seg e = let both : Some layout ≡ Some s.layout = sym e 
 
 pub exact_to : (f : List ℕ) (original : ℕ) (s : Seg) (n m modes : ℕ) (layout : Layout) → IsSeg f s
     → IsCuttable layout (record { packet = packet 0 0 0 original f; n = n; m = m; modes = modes })
-    → is_cut_exactly n m s.payload_len ≡ true
+    → is_filled n m s.payload_len ≡ true
 exact_to f original s n m modes layout seg c =
     let p : s.payload_len ≡ length f - layout.payload_at = seg.payload_len ∙ ap (λ (l : Layout). length f - l.payload_at) (sym (same_layout f s layout seg c.shape_is)) in
     and_from (nat_le 2 n) (nat_le 1 m && (nat_lt ((n - 1) * m) s.payload_len && nat_le s.payload_len (n * m))) (le-leb 2 n c.several)
@@ -75,12 +72,8 @@ bits_to_seg f original s n m modes layout seg c =
     subst (λ (l : Layout). are_bits_lawful modes f l.headers ≡ true) (same_layout f s layout seg c.shape_is)
     (bits_to modes f 0 layout.headers layout.payload_at (laid f layout c.shape_is).0 c.modes c.only)
 
--- a header that says so, and a frame that may be cut as it says
-abbrev pub is_merged : OffHead → Bool
-is_merged head = head.version == 1 && (head.kind == 1 && nat_le head.lane 63)
-
-pub super_from : (head : OffHead) (f : List ℕ) (original : ℕ) (s : Seg) → is_merged head ≡ true → IsSegOf f original (Some s)
-    → is_cut_exactly head.n head.m s.payload_len ≡ true → are_bits_lawful head.modes f s.layout.headers ≡ true
+pub super_from : (head : OffHead) (f : List ℕ) (original : ℕ) (s : Seg) → is_merged_head head ≡ true → IsSegOf f original (Some s)
+    → is_filled head.n head.m s.payload_len ≡ true → are_bits_lawful head.modes f s.layout.headers ≡ true
     → IsLawfulSuper head (packet 0 0 0 original f)
 super_from head f original s e seg exact bits =
     let a : (head.version == 1 ≡ true) × ((head.kind == 1 && nat_le head.lane 63) ≡ true) = and_parts (head.version == 1) (head.kind == 1 && nat_le head.lane 63) e in
@@ -97,8 +90,8 @@ abbrev IsCuttableBy : List ℕ → Layout → ℕ → ℕ → ℕ → ℕ → Ty
 IsCuttableBy f layout original n m modes = IsCuttable layout (record { packet = packet 0 0 0 original f; n = n; m = m; modes = modes })
 
 -- a lawful super-packet's cut
-pub cut_is : (head : OffHead) (f : List ℕ) (original : ℕ) (cut : Cut) (layout : Layout) → cut.layout ≡ layout → HasNumbersOf head cut
-    → IsCuttable layout (merged_in head (packet 0 0 0 original f)) → IsCutOf cut f
+pub cut_is : (head : OffHead) (f : List ℕ) (original : ℕ) (cut : Segmentation) (layout : Layout) → cut.layout ≡ layout → HasNumbersOf head cut
+    → IsCuttable layout (merged_in head (packet 0 0 0 original f)) → IsSegmentationOf cut f
 cut_is head f original cut layout same has c =
     subst (λ l. IsCuttableBy f l (length f) cut.n cut.m cut.modes) (sym same)
     (subst (λ k. IsCuttableBy f layout (length f) cut.n cut.m k) (sym has.modes)
@@ -128,7 +121,7 @@ abbrev frames_with : Layout → ℕ → ℕ → ℕ → List ℕ → List (List 
 frames_with layout n m modes f = map (λ i. segment_frame layout (is_fixed modes layout.headers) m (i + 1 == n) f i) (range_with_len 0 n)
 
 -- the segments of a merged record are those of its cut
-pub segments_are : (head : OffHead) (p : Packet) (cut : Cut) → head.kind ≡ 1 → HasNumbersOf head cut → shape_of p.frame ≡ Some cut.layout
+pub segments_are : (head : OffHead) (p : Packet) (cut : Segmentation) → head.kind ≡ 1 → HasNumbersOf head cut → shape_of p.frame ≡ Some cut.layout
     → segments_by head p ≡ segments_at cut p
 segments_are head p cut kind has shape =
     let none : Layout = record { headers = []; payload_at = 0 } in

@@ -1,8 +1,8 @@
 use Rattle.std.proofs.Common.{◌+◌, ◌≤◌, length, sym, ◌∙◌, subst}
 use Rattle.frame_layout.specs.Headers.{AtHeaders, size}
 use Rattle.offload_model.specs.Mergeable.{IsLengthInRange}
-use Rattle.record_cut.proofs.Segments.{laid_inside}
-use Rattle.record_cut.proofs.cut.Cut.put_headers.Goals as goal
+use Rattle.segment_rule.proofs.Segments.{laid_inside}
+use Rattle.segment_rule.proofs.segmentation.Segmentation.put_headers.Goals as goal
 
 pub put_places-requires : goal.put_places-requires
 put_places-requires c = record {

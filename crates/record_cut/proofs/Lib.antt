@@ -1,3 +1,0 @@
-mod ModeBits
-mod Segments
-mod Judged

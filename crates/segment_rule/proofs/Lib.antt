@@ -1,0 +1,3 @@
+mod ModeBits
+pub mod Segments
+pub mod Judged
