@@ -19,6 +19,8 @@ pub mod Lists
 pub mod RunRecords
 pub mod Items
 pub mod Flows
+pub mod Rounding
+mod Needs
 pub mod Captured
 pub mod ReadBack
 pub mod WrittenBack

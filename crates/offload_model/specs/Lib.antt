@@ -12,3 +12,5 @@ pub mod Captured
 pub mod Tested
 pub mod CaptureLaws
 pub mod Rows
+pub mod Need
+pub mod NeedLaws

@@ -19,6 +19,7 @@
 
 mod captures;
 mod frames;
+mod need;
 mod rows;
 mod runs;
 
@@ -31,5 +32,6 @@ pub use frames::{
     merged_frames_are_merged, merged_is_lawful, segment_frames_are_segments,
     segments_are_the_packets, segments_give_the_packets,
 };
-pub use rows::rows_hold;
+pub use need::{needs_add, needs_exceed, rounds_exceed};
+pub use rows::{need_rows_hold, rows_hold};
 pub use runs::{fronts_are_mergeable, grows_by_one, has_one_cut, tests_decide};
