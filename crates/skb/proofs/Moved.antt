@@ -1,15 +1,16 @@
 -- What follows from how a buffer comes to stand behind pieces.
-use Rattle.std.proofs.Common.{◌≡◌, ℕ, ◌+◌, ◌-◌, ◌*◌, ◌<◌, ◌≤◌, ◌⊎◌, List, [], ◌∷◌, ◌++◌, length, take, drop, slice_range, refl, ap, sym, ◌∙◌, inl, inr, arith, length-append}
-use Rattle.raw_block.specs.Views.{SoleState, PartState}
+use Rattle.std.proofs.Common.{◌≡◌, ℕ, ◌+◌, ◌-◌, ◌≤◌, List, [], ◌∷◌, ◌++◌, false, take, drop, slice_range, refl, ap, sym, ◌∙◌, subst, inl, inr, arith}
+use Rattle.std.proofs.lemmas.Bool.{true≢false}
+use Rattle.raw_block.specs.Views.{PartState}
 use Rattle.frags.specs.OutcomesState.{OutcomesState}
-use Rattle.frags.specs.Account.{Account, Tests, Keeps, both, of_part, of_holder, of_outcomes}
+use Rattle.frags.specs.Account.{Account, Keeps, both, of_holder, of_outcomes}
 use Rattle.frags.specs.PieceList.{bytes_of, size_of, of_pieces, pieces_held, least_weight, block, AsPart}
 use Rattle.frags.specs.declared.pieces.Piece.{Piece}
 use Rattle.frags.specs.declared.holder.Holder.{Holder}
 use Rattle.frags.specs.declared.holder.Holder.TheVariants.{Sole, Part}
 use Rattle.frags.proofs.Keeping.{pieces_held-append, size_of-append}
 use Rattle.frags.proofs.Joining.{part_block, bytes_of-append}
-use Rattle.skb.specs.SkbState.{SkbState, IsLent, buffer_bytes, buffer_size, buffer_least, head_least, of_buffer}
+use Rattle.skb.specs.SkbState.{SkbState, is_sole, buffer_bytes, buffer_size, head_least, of_buffer}
 use Rattle.skb.specs.Moving.{HandedOn, MovesRest, MovesHead, JoinsAccount, KeepsLeast}
 
 least-append : (w : ℕ) (a b : List Piece) → w ≤ least_weight a → w ≤ least_weight b → w ≤ least_weight (a ++ b)
@@ -85,6 +86,16 @@ module _ (c : SkbState) (a b : List Piece) (o q : OutcomesState) where
       let l = part_least c.head p m.1.1.0 in
       let f = least-append w a (x ∷ c.rest) k (omega arith) in
       omega arith
+
+handed_part : (a h : Holder) → is_sole a ≡ false → HandedOn a h → h ≡ a
+handed_part (Sole s) h e k = absurd (true≢false e)
+handed_part (Part p) (Sole s) e k = elim k [ inl l ↦ l | inr l ↦ absurd l ]
+handed_part (Part p) (Part r) e k = elim k [ inl l ↦ l | inr l ↦ ap Part l ]
+
+-- no life begins where the head is a part
+pub joins_kept : (c : SkbState) (a : Account) (o : OutcomesState) (b : Account) (q : OutcomesState) → is_sole c.head ≡ false → JoinsAccount c a o b q
+    → Keeps (both a (both (of_buffer c) (of_outcomes o))) (both b (of_outcomes q))
+joins_kept c a o b q e k = subst (λ h. Keeps (both a (both (of_buffer (record c { head = h })) (of_outcomes o))) (both b (of_outcomes q))) (handed_part c.head k.0 e k.1.0) k.1.1
 
 -- the same of a buffer that stands behind another's pieces
 module _ (a c : SkbState) (r : List Piece) (o q : OutcomesState) where

@@ -4,3 +4,4 @@ pub mod Lending
 pub mod Moving
 pub mod PullUp
 pub mod SkbState
+pub mod Checksum

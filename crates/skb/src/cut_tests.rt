@@ -5,6 +5,7 @@ ghost use Rattle.skb.specs.SkbState.{buffer_size};
 use crate::tests::{spend, spend_released};
 use crate::{Returned, Skb};
 use frags::{Outcomes, PieceBuilder, Pieces, ShareFault};
+use inet_sum::Partial;
 use raw_block::Sole;
 use std::alloc::Global;
 use std::process::Abort;
@@ -203,14 +204,27 @@ fn of_weight_one(skb: Skb, out: &mut Outcomes) -> (u64, bool, usize)
     (weight, worn, after)
 }
 
-// The length of a piece, whether bytes of head and piece are copied out, and whether the head's are lent for writing.
+// Whether the sum from an odd place on is that of the bytes copied out.
+fn is_summed(skb: &Skb) -> bool
+    requires { buffer_size skb.now ≡ 200 }
+{
+    let at = skb.head().len().min(33);
+    let mut bytes = [0; 200];
+    skb.copy_out(0, &mut bytes);
+    let mut sum = Partial::new();
+    sum.add(&bytes[at..]);
+    skb.sum_from(at).fold() == sum.fold()
+}
+
+// The length of a piece, whether bytes of head and piece are summed and copied out, and whether the head's are lent for
+// writing until it is shared.
 fn read_and_written(rt: &impl Abort, mut skb: Skb, out: &mut Outcomes) -> (usize, bool, bool)
     requires { (length skb.rest ≡ 1) × (buffer_size skb ≡ 200) }
 {
     let piece = skb.slice(0).len();
     let mut bytes = [0; 10];
     skb.copy_out(95, &mut bytes);
-    let mut copied = true;
+    let mut copied = is_summed(&skb);
     for i in 0..10 {
         copied = copied && bytes[i] == expected(95 + i);
     }
@@ -219,6 +233,8 @@ fn read_and_written(rt: &impl Abort, mut skb: Skb, out: &mut Outcomes) -> (usize
     }
     let head = skb.head();
     let written = head.len() == 100 && head[0] == 9 && head[99] == 9;
+    skb.share_head();
+    assert!(rt; !skb.head_is_sole());
     assert!(rt; skb.count() <= out.spare());
     skb.release(out);
     (piece, copied, written)

@@ -17,8 +17,9 @@
 //! `unshare` asks for the head's block back, and copies it into a spare where others hold it. `attach` puts another buffer
 //! behind, uncopied, and `move_into` puts a buffer behind the pieces of a list whose memory was taken before. `split_at` cuts
 //! one in two, uncopied: of the part that is cut the front keeps what `clone` would give. `pull_up` copies the first bytes
-//! into a spare, which becomes the head, and `copy` copies all into spares, which share nothing. Blocks come from the caller;
-//! memory is taken for lists of pieces alone.
+//! into a spare, which becomes the head, and `copy` copies all into spares, which share nothing. `share_head` makes a Sole head
+//! a Part at once, so that no later call does. `sum_from` is the Internet sum of the bytes, where they lie. Blocks come from
+//! the caller; memory is taken for lists of pieces alone.
 //!
 //! Proved, by the names of the clauses:
 //!
@@ -28,7 +29,8 @@
 //!   was, but that a clone refused for memory has made a Sole head a part. `pull` and `trim` say the same by `bytes`, `head`,
 //!   `room` and `rest`, and `unshare` by `head` and `room`.
 //! - `account`, `kept`, `sums`, `marks`: nothing is lost (see `frags`). A call that begins a life, since it shares a Sole,
-//!   says it by marks.
+//!   says it by marks; where the head is a Part, none begins.
+//! - `sum`, `in_bytes`: the sum stands for the bytes from that place on, and each is below 256.
 //! - `grows`, `fewer`, `places`: outcomes grow only at their end, by how many, and what room is left in them.
 //! - `writes_back`: after `head_mut` the head's bytes are what was written, and all else is as it was; at None nothing has
 //!   changed.
@@ -43,6 +45,7 @@
 //! ```
 #![tactic(auto)]
 
+mod checksum;
 mod copy;
 mod cut;
 #[cfg(test)]

@@ -1,8 +1,8 @@
 //! Buffers moved behind the pieces of a list that is put together.
-ghost use Rattle.std.specs.Prelude.{◌≡◌, ◌+◌, ◌<◌, ◌≤◌, ◌^◌, ◌++◌, length};
-ghost use Rattle.frags.specs.Account.{KeepsMarks, both, of_outcomes};
+ghost use Rattle.std.specs.Prelude.{◌≡◌, ◌+◌, ◌<◌, ◌≤◌, ◌^◌, ◌++◌, length, false};
+ghost use Rattle.frags.specs.Account.{Keeps, KeepsMarks, both, of_outcomes};
 ghost use Rattle.frags.specs.PieceList.{bytes_of, size_of, of_pieces};
-ghost use Rattle.skb.specs.SkbState.{buffer_bytes, buffer_size, of_buffer};
+ghost use Rattle.skb.specs.SkbState.{is_sole, buffer_bytes, buffer_size, of_buffer};
 ghost use Rattle.skb.specs.Moving.{Moves, JoinsAccount, KeepsLeast, given_back};
 
 use crate::Skb;
@@ -21,6 +21,7 @@ impl Skb {
         ensures size { size_of pieces.new.pieces ≡ size_of pieces.old.pieces + buffer_size self }
         ensures count { length pieces.new.pieces + given_back out.new ≡ length pieces.old.pieces + given_back out.old + (length self.rest + 1) }
         ensures account { JoinsAccount self (of_pieces pieces.old.pieces) out.old (of_pieces pieces.new.pieces) out.new }
+        ensures kept { is_sole self.head ≡ false → Keeps (both (of_pieces pieces.old.pieces) (both (of_buffer self) (of_outcomes out.old))) (both (of_pieces pieces.new.pieces) (of_outcomes out.new)) }
         ensures marks { KeepsMarks (both (of_pieces pieces.old.pieces) (both (of_buffer self) (of_outcomes out.old))) (both (of_pieces pieces.new.pieces) (of_outcomes out.new)) }
         ensures least { KeepsLeast self pieces.old.pieces pieces.new.pieces }
         ensures room { pieces.old.room ≤ pieces.new.room + (length self.rest + 1) }

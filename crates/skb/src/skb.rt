@@ -7,16 +7,18 @@ ghost use Rattle.frags.specs.Account.{Tests, Keeps, KeepsMarks, both, every, of_
 ghost use Rattle.frags.specs.Growth.{Grows};
 ghost use Rattle.frags.specs.PieceList.{AllFit, size_of, of_pieces, piece_bytes, block, cut_front, keep_front};
 ghost use Rattle.frags.specs.declared.pieces.Piece.{Piece};
+ghost use Rattle.skb.specs.Checksum.{AreBytes};
 ghost use Rattle.skb.specs.Lending.{lends_head, lends_head_if};
 ghost use Rattle.skb.specs.Moving.{JoinsAccount};
 ghost use Rattle.skb.specs.SkbState.{SkbState, head_size, buffer_least, buffer_bytes, buffer_size, head_bytes, headroom, tailroom, is_sole, written, IsPush, IsPut, Owned, IsClone, IsLent, Gives, head_worn, buffer_worn, of_buffer, of_unshared, Attaches};
 
+use crate::checksum::in_bytes;
 use crate::heads::{gives, is_worn, lent, owned, write_at};
 use crate::lend::range_of;
 use core::mem::replace_with;
 use frags::{Holder, Outcomes, Pieces, ShareFault, Short};
 use raw_block::{BLOCK_SIZE, FULL, Released, Sight, Sole};
-use std::alloc::AllocError;
+use std::alloc::{AllocError, Global};
 use std::marker::Model;
 use thiserror::Error;
 
@@ -129,12 +131,13 @@ impl Skb {
     pub fn head(&self) -> &[u8]
         ensures bytes { result.now ≡ head_bytes self.now }
         ensures size { length result.now ≡ head_size self.now }
+        ensures in_bytes { AreBytes result.now }
     {
         let all = match &self.head {
             Holder::Sole(sole) => sole.bytes(),
             Holder::Part(part) => part.bytes(),
         };
-        &all[self.from..self.to]
+        in_bytes(&all[self.from..self.to])
     }
 
     /// The head's bytes, for writing. None exactly where not `head_is_sole()`, and then nothing has changed.
@@ -345,6 +348,16 @@ impl Skb {
         is_worn(&self.head) || self.rest.is_worn()
     }
 
+    /// A Sole head becomes a part, with the same bytes and room: its life begins here, and no later call begins one.
+    pub fn share_head(&mut self)
+        ensures head { IsLent self.old.head self.new.head }
+        ensures rest { (self.new.from ≡ self.old.from) × (self.new.to ≡ self.old.to) × (self.new.rest ≡ self.old.rest) }
+        ensures bytes { buffer_bytes self.new ≡ buffer_bytes self.old }
+        ensures marks { KeepsMarks (of_buffer self.old) (of_buffer self.new) }
+    {
+        replace_with(&mut self.head, (), lent);
+    }
+
     /// The head becomes a Sole, with the same bytes and room. `Unused` exactly where it was one, or its claim was granted;
     /// else its bytes were copied into the spare, and `Gave` has what its release left and what the claim saw.
     pub fn unshare(&mut self, spare: Sole) -> Unshared
@@ -366,6 +379,7 @@ impl Skb {
         ensures grows { IfOk result (λ _. Grows (length other.rest + 1 - (length self.new.rest - length self.old.rest)) out.old out.new) }
         ensures places { out.old.spare ≤ out.new.spare + 1 }
         ensures account { IfOk result (λ _. JoinsAccount other (of_buffer self.old) out.old (of_buffer self.new) out.new) }
+        ensures kept { is_sole other.head ≡ false → IfOk result (λ _. Keeps (both (of_buffer self.old) (both (of_buffer other) (of_outcomes out.old))) (both (of_buffer self.new) (of_outcomes out.new))) }
         ensures marks { IfOk result (λ _. KeepsMarks (both (of_buffer self.old) (both (of_buffer other) (of_outcomes out.old))) (both (of_buffer self.new) (of_outcomes out.new))) }
     {
         let Skb {
@@ -397,6 +411,11 @@ impl Skb {
             return Err((other, error));
         }
         Ok(())
+    }
+
+    /// The allocator that the list of pieces takes its places from.
+    pub fn allocator(&self) -> Global {
+        self.rest.allocator()
     }
 
     /// Gives the head and all pieces back.

@@ -7,7 +7,7 @@ use Rattle.frags.proofs.Keeping.{size_of-append}
 use Rattle.skb.proofs.Buffers.{attaches_joined, attaches_taken, joined_keeps, taken_marks}
 use Rattle.frags.proofs.Keeping.{keeps_marks}
 use Rattle.skb.specs.Moving.{JoinsAccount}
-use Rattle.skb.proofs.Moved.{joined_account, taken_account}
+use Rattle.skb.proofs.Moved.{joins_kept, joined_account, taken_account}
 use Rattle.skb.proofs.skb.Skb.attach.Goals as goal
 
 pub invariant_of-self-then-from-to : goal.invariant_of-self-then-from-to
@@ -102,3 +102,9 @@ returns-clause-account c =
     subst (λ (z : SkbState). JoinsAccount c.args.other (of_buffer z) o (of_buffer b) o) c.self.view_is
     (subst (λ (z : SkbState). JoinsAccount z (of_buffer a) o (of_buffer b) o) c.other.view_is
     (taken_account a d c.append_all.new.self o o w.0 w.1.0 w.1.1))
+
+pub returns-then-from-to-clause-kept : goal.returns-then-from-to-clause-kept
+returns-then-from-to-clause-kept c = λ e. joins_kept c.args.other _ c.args.out.now _ c.give_back_holder.new.self e (returns-then-from-to-clause-account c)
+
+pub returns-clause-kept : goal.returns-clause-kept
+returns-clause-kept c = λ e. joins_kept c.args.other _ c.args.out.now _ c.args.out.now e (returns-clause-account c)

@@ -1,6 +1,5 @@
-use Rattle.std.proofs.Common.{◌≡◌, ◌+◌, ◌<◌, ◌^◌, ◌++◌, [], ◌∷◌, ◌∙◌, ℕ, List, refl, ap, subst, append_assoc, arith}
+use Rattle.std.proofs.Common.{◌≡◌, ◌+◌, ◌++◌, [], ◌∷◌, ◌∙◌, List, refl, ap, subst, append_assoc, arith}
 use Rattle.frags.specs.PieceList.{bytes_of, size_of, of_pieces}
-use Rattle.frags.specs.OutcomesState.{OutcomesState}
 use Rattle.frags.specs.declared.pieces.Piece.{Piece}
 use Rattle.frags.proofs.Keeping.{size_of-append}
 use Rattle.skb.specs.SkbState.{SkbState, buffer_bytes, buffer_size}
@@ -10,6 +9,7 @@ use Rattle.skb.proofs.Moved.{
   head_bytes_moved,
   rest_size_moved,
   head_size_moved,
+  joins_kept,
   rest_account,
   head_account,
   rest_least,
@@ -100,3 +100,9 @@ returns-clause-least c =
     let e : b ≡ a ++ x ∷ d.rest = c.append-2.ensures.appended ∙ ap (λ (z : List Piece). z ++ d.rest) c.push.ensures.pushed ∙ append_assoc a (x ∷ []) d.rest in
     let m : MovesHead d a o b o = (refl, (c.into_part.result, (c.into_part.ensures.part, e))) in
     subst (λ (z : SkbState). KeepsLeast z a b) c.self.view_is (head_least_moved d a b o o m)
+
+pub returns-then-from-to-clause-kept : goal.returns-then-from-to-clause-kept
+returns-then-from-to-clause-kept c = λ e. joins_kept c.args.self _ c.args.out.now _ c.give_back_holder.new.self e (returns-then-from-to-clause-account c)
+
+pub returns-clause-kept : goal.returns-clause-kept
+returns-clause-kept c = λ e. joins_kept c.args.self _ c.args.out.now _ c.args.out.now e (returns-clause-account c)

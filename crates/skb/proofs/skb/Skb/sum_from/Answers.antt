@@ -1,0 +1,26 @@
+use Rattle.std.proofs.Common.{[], length, drop, ap, subst, arith, ◌∙◌}
+use Rattle.inet_sum.specs.Stands.{StandsFor}
+use Rattle.skb.specs.Checksum.{AreBytes}
+use Rattle.skb.proofs.Summing.{all_behind, summed_front, summed_more, summed_few}
+use Rattle.skb.proofs.skb.Skb.sum_from.Goals as goal
+
+pub loop-i-init : goal.loop-i-init
+loop-i-init c =
+    let e = all_behind c.head.result.now c.args.at ∙ ap (drop c.args.at) c.head.ensures.bytes in
+    record {
+      summed = summed_front c.args.self.now c.args.at c.add.new.sum (omega (arith, c.requires.inside, c.head.ensures.size, ap length c.head.ensures.bytes))
+          (subst (StandsFor c.add.new.sum) e (c.add.ensures.sum [] c.new-sum.ensures.sum)) (subst AreBytes e c.add.ensures.in_bytes);
+    }
+
+pub add-requires-in-loop-i : goal.add-requires-in-loop-i
+add-requires-in-loop-i c = record {
+  few = summed_few c.args.self.now c.args.at c.loop-i.i c.loop-i.sum c.slice.result.now (omega (arith, c.count-i-end.ensures, c.loop-i-test.true)) c.loop-i.invariant.summed c.slice.ensures (omega (arith, c.len.ensures.bytes, c.len.ensures.small));
+}
+
+pub loop-i-preserved : goal.loop-i-preserved
+loop-i-preserved c =
+    let i = c.loop-i.invariant in
+    record {
+      summed = summed_more c.args.self.now c.args.at c.loop-i.i c.loop-i.sum c.slice.result.now (omega (arith, c.count-i-end.ensures, c.loop-i-test.true)) i.summed c.slice.ensures c.add-in-loop-i.new.sum
+          (c.add-in-loop-i.ensures.sum i.summed.done i.summed.stands) c.add-in-loop-i.ensures.in_bytes;
+    }
