@@ -1,1 +1,2 @@
 mod Flowing
+mod Running

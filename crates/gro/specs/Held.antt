@@ -6,7 +6,7 @@ use Rattle.frags.specs.Account.{Account, both, of_sole}
 use Rattle.frags.specs.declared.holder.Holder.{Holder}
 use Rattle.frags.specs.declared.holder.Holder.TheVariants.{Part}
 use Rattle.raw_block.specs.Views.{PartState}
-use Rattle.skb.specs.SkbState.{SkbState, buffer_bytes, buffer_size, head_size, buffer_least, is_sole, of_buffer}
+use Rattle.skb.specs.SkbState.{SkbState, buffer_bytes, buffer_size, head_size, buffer_least, of_buffer}
 use Rattle.skb.specs.Moving.{HandedOn}
 use Rattle.gro.specs.declared.packet.Packet.{Packet as Held}
 

@@ -1,5 +1,5 @@
 -- What a run of packets in buffers comes to.
-use Rattle.std.specs.Prelude.{ℕ, ◌≡◌, ◌+◌, ◌≤◌, List, [], ◌∷◌, length, map}
+use Rattle.std.specs.Prelude.{ℕ, ◌≡◌, ◌+◌, ◌≤◌, List, length}
 use Rattle.ref_core.specs.WeightRule.{full_weight}
 use Rattle.frags.specs.Account.{Account, Keeps, both, of_outcomes}
 use Rattle.skb.specs.SkbState.{buffer_bytes, buffer_least, of_buffer}

@@ -1,5 +1,5 @@
 -- What is known of a run of packets in buffers.
-use Rattle.std.specs.Prelude.{ℕ, ◌≡◌, List, ◌∷◌, map}
+use Rattle.std.specs.Prelude.{◌≡◌, List, ◌∷◌, map}
 use Rattle.pcap_io.specs.Capture.{Packet}
 use Rattle.merge_rule.specs.Runs.{IsRunBy}
 use Rattle.gro.specs.declared.packet.Packet.{Packet as Held}

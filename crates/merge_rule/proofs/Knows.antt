@@ -10,11 +10,12 @@ use Rattle.inet_sum.specs.Stands.{FoldAndLength, StandsFor}
 use Rattle.ip_headers.specs.Ip4.{identification}
 use Rattle.frame_layout.specs.Shape.{Layout, shape_of}
 use Rattle.frame_layout.specs.Headers.{AtHeaders, all_headers, AreHeadersAlike}
+use Rattle.frame_layout.specs.Key.{key_of}
 use Rattle.frame_layout.specs.Candidate.{IsCandidate, IsLengthRight}
 use Rattle.frame_layout.specs.declared.layout.Header.{Header}
 use Rattle.frame_layout.specs.declared.layout.Layer.{Layer}
 use Rattle.frame_layout.specs.declared.layout.Layer.TheVariants.{Ip4, Ip6, Udp, Tcp}
-use Rattle.frame_layout.proofs.Lemmas.{laid, same_shape, bounds, counts, headers_all, headers_map}
+use Rattle.frame_layout.proofs.Lemmas.{laid, same_shape, same_key, bounds, counts, headers_all, headers_map}
 use Rattle.pcap_io.specs.Capture.{Packet}
 use Rattle.offload_model.specs.Mergeable.{AreUdpSumsAlike, IsAckAlone, IsSequenceBehind, AreIdsInStep, IsLengthInRange, AreConsecutive, IsMergeable, payloads_of}
 use Rattle.offload_model.specs.Merged.{frame_at, is_fixed_in, modes_of}
@@ -43,6 +44,12 @@ pub no_next : (p x : Packet) (ps : List Packet) → IsNoCandidate x.frame x.orig
 no_next p x ps n m =
     let k : Continues m.0 p.frame (p ∷ ps) x = grown m.0 p.frame (p ∷ ps) x m.1.line in
     n m.0 k.shape_is k.candidate
+
+-- the packets of a run are of one flow
+pub one_flow : (p x : Packet) (ps : List Packet) → IsMergeable ((p ∷ ps) ++ (x ∷ [])) → key_of x.frame ≡ key_of p.frame
+one_flow p x ps m =
+    let k : Continues m.0 p.frame (p ∷ ps) x = grown m.0 p.frame (p ∷ ps) x m.1.line in
+    same_key x.frame p.frame m.0 k.shape_is (m.1.line.shapes.at 0 p (omega arith)) k.headers
 
 module _ (p : Packet) (ps : List Packet) (layout : Layout) (sum : FoldAndLength) (bits : ℕ) (state : Progress) (r : IsRunOf layout sum bits state p (p ∷ ps)) where
   continued : (x : Packet) → IsMergeable ((p ∷ ps) ++ (x ∷ [])) → Continues layout p.frame (p ∷ ps) x
