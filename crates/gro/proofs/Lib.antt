@@ -1,2 +1,9 @@
 mod Flowing
+mod Comes
+mod Fronts
+mod Joined
+mod Lent
+mod Packets
+mod Placing
 mod Running
+mod Taking

@@ -1,12 +1,10 @@
 -- Packets in buffers, and what they hold.
-use Rattle.std.specs.Prelude.{ℕ, ◌≡◌, ◌+◌, ◌≤◌, List, [], ◌∷◌, length, min}
+use Rattle.std.specs.Prelude.{ℕ, ◌≡◌, ◌+◌, ◌≤◌, List, [], ◌∷◌, length, min, false}
 use Rattle.std.specs.List.{AllByRecursion}
 use Rattle.pcap_io.specs.Capture.{Packet}
 use Rattle.frags.specs.Account.{Account, both, of_sole}
 use Rattle.frags.specs.declared.holder.Holder.{Holder}
-use Rattle.frags.specs.declared.holder.Holder.TheVariants.{Part}
-use Rattle.raw_block.specs.Views.{PartState}
-use Rattle.skb.specs.SkbState.{SkbState, buffer_bytes, buffer_size, head_size, buffer_least, of_buffer}
+use Rattle.skb.specs.SkbState.{SkbState, buffer_bytes, buffer_size, head_size, buffer_least, is_sole, of_buffer}
 use Rattle.skb.specs.Moving.{HandedOn}
 use Rattle.gro.specs.declared.packet.Packet.{Packet as Held}
 
@@ -55,7 +53,7 @@ AreLentFrom (p ∷ ps) qs = (h : Holder) × ((rs : List Held) × (HandedOn p.skb
 
 -- each head is a part beside others
 abbrev pub AreShared : List Held → Type 0
-AreShared ps = AllByRecursion (λ (p : Held). (q : PartState) × (p.skb.head ≡ Part q)) ps
+AreShared ps = AllByRecursion (λ (p : Held). is_sole p.skb.head ≡ false) ps
 
 -- no part of the packets weighs less than w
 abbrev pub WeighAtLeast : ℕ → List Held → Type 0

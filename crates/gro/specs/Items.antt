@@ -1,13 +1,16 @@
 -- What a run of packets in buffers comes to.
-use Rattle.std.specs.Prelude.{ℕ, ◌≡◌, ◌+◌, ◌≤◌, List, length}
+use Rattle.std.specs.Prelude.{ℕ, ◌≡◌, ◌+◌, ◌≤◌, List, [], ◌∷◌, length}
 use Rattle.ref_core.specs.WeightRule.{full_weight}
 use Rattle.frags.specs.Account.{Account, Keeps, both, of_outcomes}
-use Rattle.skb.specs.SkbState.{buffer_bytes, buffer_least, of_buffer}
+use Rattle.frags.specs.OutcomesState.{OutcomesState}
+use Rattle.skb.specs.SkbState.{SkbState, buffer_bytes, buffer_least, of_buffer}
 use Rattle.skb.specs.Moving.{given_back}
-use Rattle.offload_model.specs.Merged.{Merged}
+use Rattle.offload_model.specs.Merged.{Merged, merged_of}
 use Rattle.gro.specs.declared.packet.Packet.{Packet as Held}
 use Rattle.gro.specs.declared.item.Item.{Item}
+use Rattle.gro.specs.declared.run.Run.{Run}
 use Rattle.gro.specs.Held.{of_packets, AreLentFrom, AreShared, counts_of, IsFronted, WeighAtLeast}
+use Rattle.gro.specs.Runs.{held_of, packets_of}
 
 -- an item, without where its bytes lie
 abbrev pub item_of : Item → Merged
@@ -18,19 +21,31 @@ item_of item = record {
   modes = item.modes;
 }
 
--- the blocks and parts that an item holds
+-- the blocks and parts that a buffer and what was given back beside it hold
+abbrev pub count_with : SkbState → OutcomesState → ℕ
+count_with s o = (length s.rest + 1) + given_back o
+
 abbrev pub item_count : Item → ℕ
-item_count item = (length item.skb.rest + 1) + given_back item.outcomes
+item_count item = count_with item.skb item.outcomes
 
 abbrev pub of_item : Item → Account
 of_item item = both (of_buffer item.skb) (of_outcomes item.outcomes)
 
--- what an item is to hold: its first 200 bytes, or all of fewer, in the head, one free block at least, and all that its packets
--- held; no life begins where each of their heads is a part
-pub record IsItemOf (ps : List Held) (item : Item) : Type 0 where
-  pub front : IsFronted item.skb
-  pub count : item_count item ≡ counts_of ps
-  pub soles : 1 ≤ length item.outcomes.soles
-  pub account : (qs : List Held) × (AreLentFrom ps qs × Keeps (of_packets qs) (of_item item))
-  pub shared : AreShared ps → Keeps (of_packets ps) (of_item item)
-  pub least : (w : ℕ) → w ≤ full_weight → WeighAtLeast w ps → w ≤ buffer_least item.skb
+-- what a buffer of packets and the outcomes beside it hold: the first 200 bytes, or all of fewer, in the head, one free block at
+-- least, and all that the packets held. A life begins at most with a head's Sole; where each head is a part, none does.
+pub record HoldsAll (ps : List Held) (s : SkbState) (o : OutcomesState) : Type 0 where
+  pub front : IsFronted s
+  pub count : count_with s o ≡ counts_of ps
+  pub soles : 1 ≤ length o.soles
+  pub account : (qs : List Held) × (AreLentFrom ps qs × Keeps (of_packets qs) (both (of_buffer s) (of_outcomes o)))
+  pub shared : AreShared ps → Keeps (of_packets ps) (both (of_buffer s) (of_outcomes o))
+  pub least : (w : ℕ) → w ≤ full_weight → WeighAtLeast w ps → w ≤ buffer_least s
+
+abbrev pub IsItemOf : List Held → Item → Type 0
+IsItemOf ps item = HoldsAll ps item.skb item.outcomes
+
+-- each run's item, in order
+abbrev pub AreItemsOf : List Run → List Item → Type 0
+AreItemsOf [] items = items ≡ []
+AreItemsOf (r ∷ rs) [] = ⊥
+AreItemsOf (r ∷ rs) (i ∷ is) = ((item_of i ≡ merged_of (packets_of r)) × IsItemOf (held_of r) i) × AreItemsOf rs is

@@ -1,7 +1,24 @@
 //! What a run comes to.
+ghost use Rattle.std.specs.Prelude.{◌≡◌, ◌+◌, ◌≤◌, ◌∷◌, [], length, map, vec_len, vec_capacity};
+ghost use Rattle.std.specs.List.{AllByRecursion};
+ghost use Rattle.offload_model.specs.Merged.{merged_of};
+ghost use Rattle.merge_rule.specs.Runs.{IsRunOf};
+ghost use Rattle.gro.specs.Build.{pieces_in, free_in};
+ghost use Rattle.gro.specs.Held.{packet_of, AreHeld};
+ghost use Rattle.gro.specs.Items.{item_of, IsItemOf, AreItemsOf};
+ghost use Rattle.gro.specs.Places.{IsEmpty, IsPlaceOf, ArePlacesOf};
+ghost use Rattle.gro.specs.Runs.{IsRun, held_of, packets_of};
 
+use crate::Packet;
+use crate::build::join;
+use crate::places::Places;
+use crate::run::Run;
 use frags::Outcomes;
+use frame_layout::Layout;
+use inet_sum::Partial;
+use merge_rule::Progress;
 use skb::Skb;
+use std::collections::VecDeque;
 
 /// What a run of packets comes to: a record that is to be written, with the number and the time of the run's first packet. It
 /// must be spent: its buffer and its outcomes.
@@ -20,4 +37,143 @@ pub struct Item {
     pub modes: u8,
     /// The blocks that merging has left: one at least.
     pub outcomes: Outcomes,
+}
+
+impl Run {
+    /// The record that the run comes to, in places that were made before. It takes no memory.
+    pub(crate) fn into_item(self, places: Places) -> Item
+        requires run { IsRun self }
+        requires places { IsPlaceOf self places }
+        ensures item { item_of result ≡ merged_of (packets_of self) }
+        ensures holds { IsItemOf (held_of self) result }
+    {
+        let Run {
+            first,
+            rest,
+            count: _,
+            layout,
+            payload,
+            flags,
+            progress,
+        } = self;
+        if rest.is_empty() {
+            return alone(first, rest, places);
+        }
+        match layout {
+            Some(layout) => merged(first, rest, &layout, payload, flags, progress, places),
+            None => unreachable!(),
+        }
+    }
+}
+
+// A packet that is alone, and places that it doesn't need.
+fn alone(first: Packet, rest: VecDeque<Packet>, places: Places) -> Item
+    requires held { AreHeld (first ∷ []) }
+    requires none { rest.items ≡ [] }
+    requires empty { IsEmpty places }
+    requires places { free_in (first ∷ []) ≤ places.outcomes.spare }
+    ensures item { item_of result ≡ merged_of (packet_of first ∷ []) }
+    ensures holds { IsItemOf (first ∷ []) result }
+{
+    rest.destroy_empty();
+    let Places {
+        pieces,
+        mut outcomes,
+    } = places;
+    let none = pieces.finish();
+    none.release(&mut outcomes);
+    single(first, outcomes)
+}
+
+// A packet that is alone stays as it is.
+fn single(first: Packet, out: Outcomes) -> Item
+    requires held { AreHeld (first ∷ []) }
+    requires empty { (out.soles ≡ []) × (out.receipts ≡ []) }
+    requires places { free_in (first ∷ []) ≤ out.spare }
+    ensures item { item_of result ≡ merged_of (packet_of first ∷ []) }
+    ensures holds { IsItemOf (first ∷ []) result }
+{
+    let Packet {
+        skb,
+        spare1,
+        spare2,
+        sec,
+        frac,
+        original,
+        number,
+    } = first;
+    let mut outcomes = out;
+    outcomes.keep_sole(spare1);
+    outcomes.keep_sole(spare2);
+    Item {
+        skb,
+        number,
+        sec,
+        frac,
+        original,
+        n: 1,
+        m: 0,
+        modes: 0,
+        outcomes,
+    }
+}
+
+// Packets that are merged.
+fn merged(
+    first: Packet,
+    rest: VecDeque<Packet>,
+    layout: &Layout,
+    payload: Partial,
+    flags: u8,
+    progress: Progress,
+    places: Places,
+) -> Item
+    requires run { IsRunOf layout.now payload flags progress (packet_of first) (packet_of first ∷ map packet_of rest.items) }
+    requires several { 1 ≤ length rest.items }
+    requires held { AreHeld (first ∷ rest.items) }
+    requires empty { IsEmpty places }
+    requires reserved { pieces_in (first ∷ rest.items) ≤ places.pieces.room }
+    requires room { free_in (first ∷ rest.items) ≤ places.outcomes.spare }
+    ensures item { item_of result ≡ merged_of (packet_of first ∷ map packet_of rest.items) }
+    ensures holds { IsItemOf (first ∷ rest.items) result }
+{
+    let number = first.number;
+    let sec = first.sec;
+    let frac = first.frac;
+    let m = (first.skb.len() - layout.payload_at()) as u16;
+    let n = (rest.len() + 1) as u16;
+    let Places { pieces, outcomes } = places;
+    let (skb, outcomes) = join(first, rest, layout, flags, payload, pieces, outcomes);
+    let original = skb.len() as u32;
+    Item {
+        skb,
+        number,
+        sec,
+        frac,
+        original,
+        n,
+        m,
+        modes: progress.modes,
+        outcomes,
+    }
+}
+
+/// The items of runs, in places that were made before. It takes no memory.
+pub(crate) fn build_all(runs: VecDeque<Run>, places: VecDeque<Places>, items: &mut Vec<Item>)
+    requires runs { AllByRecursion IsRun runs.items }
+    requires places { ArePlacesOf runs.items places.items }
+    requires empty { items.old.items ≡ [] }
+    requires room { vec_len items.old + length runs.items ≤ vec_capacity items.old }
+    ensures items { AreItemsOf runs.items items.new.items }
+{
+    let mut runs = runs;
+    let mut places = places;
+    while let Some(run) = runs.pop_front() {
+        let Some(own) = places.pop_front() else {
+            unreachable!()
+        };
+        items.push_reserved(run.into_item(own));
+    }
+    runs.destroy_empty();
+    places.destroy_empty();
 }

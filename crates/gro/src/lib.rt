@@ -13,10 +13,12 @@
 //! merging has left.
 #![tactic(auto)]
 
+mod build;
 mod flow_key;
 mod flows;
 mod item;
 mod packet;
+mod places;
 mod run;
 
 pub use item::Item;

@@ -1,0 +1,200 @@
+//! Buffers joined into one.
+ghost use Rattle.std.specs.Prelude.{◌≡◌, ◌+◌, ◌<◌, ◌≤◌, ◌^◌, ◌*◌, ◌++◌, ◌∷◌, [], ℕ, List, length, take, true};
+ghost use Rattle.inet_sum.specs.Stands.{StandsFor};
+ghost use Rattle.frame_layout.specs.Headers.{AtHeaders, AreLaid};
+ghost use Rattle.offload_model.specs.Mergeable.{IsLengthInRange};
+ghost use Rattle.offload_model.specs.Frames.{merged_frame};
+ghost use Rattle.frame_layout.specs.Segment.{HasFlags};
+ghost use Rattle.frags.specs.PieceList.{size_of};
+ghost use Rattle.skb.specs.SkbState.{buffer_bytes, buffer_size, head_size, is_sole, written};
+ghost use Rattle.gro.specs.Held.{IsFronted};
+ghost use Rattle.gro.specs.Build.{build, IsBuild, IsSameBlock, TakesBuffer, TakesPackets, AreJoinable, sizes_behind, pieces_in, free_in, front_of, payloads};
+ghost use Rattle.gro.specs.Items.{HoldsAll};
+
+use crate::Packet;
+use frags::{Outcomes, PieceBuilder};
+use frame_layout::Layout;
+use header_fill::merge_headers;
+use inet_sum::Partial;
+use raw_block::Sole;
+use skb::{HEADROOM, Skb};
+use std::collections::VecDeque;
+
+/// A merged buffer's head has so many bytes, or all of fewer: all headers lie in them.
+const FRONT: usize = 200;
+
+// Writes over a block's bytes from a place on.
+fn write_at(block: &mut Sole, at: usize, bytes: &[u8])
+    requires { (length block.old.bytes ≡ 2048) × (at + length bytes.now ≤ 2048) }
+    ensures bytes { block.new.bytes ≡ written block.old.bytes at bytes.now }
+    ensures same { IsSameBlock block.old block.new }
+{
+    let range = block.range_mut(at, at + bytes.len());
+    range.copy_from_slice(bytes);
+}
+
+// A buffer's bytes from `at` on follow: the block has as many of them as it still wants, and the rest moves behind it.
+fn take_buffer(
+    skb: Skb,
+    at: usize,
+    block: &mut Sole,
+    filled: usize,
+    pieces: &mut PieceBuilder,
+    out: &mut Outcomes,
+) -> usize
+    requires head { at ≤ head_size skb }
+    requires order { at ≤ filled }
+    requires front { IsFronted skb }
+    requires build { IsBuild (build block.old filled pieces.old.pieces out.old) }
+    requires reserved { length skb.rest + 1 ≤ pieces.old.room }
+    requires places { 1 ≤ out.old.spare }
+    requires small { size_of pieces.old.pieces + buffer_size skb < 2 ^ 32 }
+    ensures takes { TakesBuffer skb at (build block.old filled pieces.old.pieces out.old) (build block.new result pieces.new.pieces out.new) }
+    ensures more { filled ≤ result }
+    ensures room { pieces.old.room ≤ pieces.new.room + (length skb.rest + 1) }
+    ensures left { out.old.spare ≤ out.new.spare + 1 }
+{
+    let mut skb = skb;
+    let _ = skb.len();
+    let head = skb.head();
+    let n = (FRONT - filled).min(head.len() - at);
+    write_at(block, HEADROOM + filled, &head[at..at + n]);
+    let Ok(()) = skb.pull(at + n, out) else {
+        unreachable!()
+    };
+    skb.move_into(pieces, out);
+    filled + n
+}
+
+// The same of a packet, whose spares are given back.
+fn take_packet(
+    packet: Packet,
+    at: usize,
+    block: &mut Sole,
+    filled: usize,
+    pieces: &mut PieceBuilder,
+    out: &mut Outcomes,
+) -> usize
+    requires head { at ≤ head_size packet.skb }
+    requires order { at ≤ filled }
+    requires front { IsFronted packet.skb }
+    requires build { IsBuild (build block.old filled pieces.old.pieces out.old) }
+    requires reserved { length packet.skb.rest + 1 ≤ pieces.old.room }
+    requires places { 3 ≤ out.old.spare }
+    requires small { size_of pieces.old.pieces + buffer_size packet.skb < 2 ^ 32 }
+    ensures takes { TakesPackets (packet ∷ []) at (build block.old filled pieces.old.pieces out.old) (build block.new result pieces.new.pieces out.new) }
+    ensures size { result + size_of pieces.new.pieces + at ≡ filled + size_of pieces.old.pieces + buffer_size packet.skb }
+    ensures more { filled ≤ result }
+    ensures room { pieces.old.room ≤ pieces.new.room + (length packet.skb.rest + 1) }
+    ensures left { out.old.spare ≤ out.new.spare + 3 }
+{
+    let Packet {
+        skb,
+        spare1,
+        spare2,
+        sec: _,
+        frac: _,
+        original: _,
+        number: _,
+    } = packet;
+    out.keep_sole(spare1);
+    out.keep_sole(spare2);
+    take_buffer(skb, at, block, filled, pieces, out)
+}
+
+// The same of packets, one after the other.
+fn take_packets(
+    packets: VecDeque<Packet>,
+    at: usize,
+    block: &mut Sole,
+    filled: usize,
+    pieces: &mut PieceBuilder,
+    out: &mut Outcomes,
+) -> usize
+    requires each { AreJoinable at packets.items }
+    requires order { at ≤ filled }
+    requires build { IsBuild (build block.old filled pieces.old.pieces out.old) }
+    requires reserved { pieces_in packets.items ≤ pieces.old.room }
+    requires places { free_in packets.items ≤ out.old.spare }
+    requires small { filled + size_of pieces.old.pieces + sizes_behind at packets.items < 2 ^ 31 }
+    ensures takes { TakesPackets packets.items at (build block.old filled pieces.old.pieces out.old) (build block.new result pieces.new.pieces out.new) }
+{
+    let mut packets = packets;
+    let mut end = filled;
+    while let Some(packet) = packets.pop_front() {
+        end = take_packet(packet, at, block, end, pieces, out);
+    }
+    packets.destroy_empty();
+    end
+}
+
+// The headers of the merged frame stand in a block behind its headroom, made from the first packet's.
+fn put_headers(block: &mut Sole, head: &[u8], layout: &Layout, flags: u8, payload: Partial)
+    requires laid { AreLaid 0 layout.now.headers layout.now.payload_at }
+    requires low { layout.now.payload_at ≤ 200 }
+    requires inside { layout.now.payload_at ≤ length head.now }
+    requires ranges { AtHeaders (IsLengthInRange (layout.now.payload_at + payload.len)) layout.now.headers }
+    requires few { layout.now.payload_at + payload.len < 2 ^ 31 }
+    ensures merged { (first last bytes : List ℕ)
+        → take layout.now.payload_at first ≡ take layout.now.payload_at head.now
+        → AtHeaders (HasFlags flags last) layout.now.headers
+        → StandsFor payload bytes
+        → front_of block.new layout.now.payload_at ++ bytes ≡ merged_frame layout.now first last bytes }
+    ensures size { length block.new.bytes ≡ 2048 }
+    ensures same { IsSameBlock block.old block.new }
+{
+    let at = layout.payload_at();
+    let _ = block.bytes();
+    let range = block.range_mut(HEADROOM, HEADROOM + at);
+    range.copy_from_slice(&head[..at]);
+    merge_headers(range, layout.headers(), flags, payload);
+}
+
+/// Packets of one layout as one buffer: the first one's headers, merged, and all payloads. Nothing is copied but what the
+/// head must have, and no packet's head is written. `pieces` and `out` are empty and have their places.
+pub(crate) fn join(
+    first: Packet,
+    rest: VecDeque<Packet>,
+    layout: &Layout,
+    flags: u8,
+    payload: Partial,
+    pieces: PieceBuilder,
+    out: Outcomes,
+) -> (Skb, Outcomes)
+    requires laid { AreLaid 0 layout.now.headers layout.now.payload_at }
+    requires low { layout.now.payload_at ≤ 200 }
+    requires ranges { AtHeaders (IsLengthInRange (layout.now.payload_at + payload.len)) layout.now.headers }
+    requires few { layout.now.payload_at + payload.len < 2 ^ 31 }
+    requires payload { StandsFor payload (payloads layout.now.payload_at (first ∷ rest.items)) }
+    requires each { AreJoinable layout.now.payload_at (first ∷ rest.items) }
+    requires small { layout.now.payload_at + sizes_behind layout.now.payload_at (first ∷ rest.items) < 2 ^ 31 }
+    requires empty { (pieces.pieces ≡ []) × (out.soles ≡ []) × (out.receipts ≡ []) }
+    requires reserved { pieces_in (first ∷ rest.items) ≤ pieces.room }
+    requires places { free_in (first ∷ rest.items) ≤ out.spare }
+    ensures bytes { (last : List ℕ)
+        → AtHeaders (HasFlags flags last) layout.now.headers
+        → buffer_bytes result.0 ≡ merged_frame layout.now (buffer_bytes first.skb) last (payloads layout.now.payload_at (first ∷ rest.items)) }
+    ensures holds { HoldsAll (first ∷ rest.items) result.0 result.1 }
+    ensures head { (is_sole result.0.head ≡ true) × (result.0.from ≡ 64) }
+{
+    let Packet {
+        skb,
+        spare1,
+        spare2,
+        sec: _,
+        frac: _,
+        original: _,
+        number: _,
+    } = first;
+    let at = layout.payload_at();
+    let mut block = spare1;
+    let mut pieces = pieces;
+    let mut out = out;
+    put_headers(&mut block, skb.head(), layout, flags, payload);
+    out.keep_sole(spare2);
+    let one = take_buffer(skb, at, &mut block, at, &mut pieces, &mut out);
+    let all = take_packets(rest, at, &mut block, one, &mut pieces, &mut out);
+    let rest = pieces.finish();
+    let _ = rest.len();
+    (Skb::new(block, HEADROOM, HEADROOM + all, rest), out)
+}

@@ -1,0 +1,89 @@
+//! The places that items need, made before anything moves.
+ghost use Rattle.std.specs.Prelude.{◌≡◌, ◌-◌, ◌*◌, ◌≤◌, IfOk};
+ghost use Rattle.std.specs.List.{AllByRecursion};
+ghost use Rattle.gro.specs.Places.{IsEmpty, AreEmpty, IsPlaceOf, ArePlacesOf};
+ghost use Rattle.gro.specs.Runs.{IsRun};
+
+use crate::run::Run;
+use frags::{Outcomes, PieceBuilder};
+use std::alloc::{AllocError, Global};
+use std::collections::VecDeque;
+
+/// The places that a run's item needs.
+pub(crate) struct Places {
+    pub pieces: PieceBuilder,
+    pub outcomes: Outcomes,
+}
+
+// Gives places up that nothing has been moved into.
+fn give_up(places: Places)
+    requires empty { IsEmpty places }
+{
+    let Places {
+        pieces,
+        mut outcomes,
+    } = places;
+    let none = pieces.finish();
+    none.release(&mut outcomes);
+    outcomes.settle();
+}
+
+/// Gives all places up that nothing has been moved into.
+pub(crate) fn give_all_up(all: VecDeque<Places>)
+    requires empty { AreEmpty all.items }
+{
+    let mut all = all;
+    while let Some(places) = all.pop_front() {
+        give_up(places);
+    }
+    all.destroy_empty();
+}
+
+// Of n packets with `count` blocks and parts, two spares each among them: how many pieces they come to, none where one is
+// alone, and how many blocks may be free beside these.
+fn room_for(count: usize, n: usize) -> (usize, usize)
+    requires each { 3 * n ≤ count }
+    ensures pieces { 2 ≤ n → result.0 ≡ count - 2 * n }
+    ensures free { result.1 ≡ 3 * n }
+{
+    let free = 3 * n;
+    if n == 1 {
+        return (0, free);
+    }
+    (count - 2 * n, free)
+}
+
+// The places that a run's item needs.
+fn places_of(alloc: Global, run: &Run) -> Result<Places, AllocError>
+    requires run { IsRun run.now }
+    ensures places { IfOk result (λ p. IsPlaceOf run.now p) }
+{
+    let (count, free) = room_for(run.count, run.rest.len() + 1);
+    let pieces = PieceBuilder::with_room(alloc, count)?;
+    let mut outcomes = Outcomes::new(alloc);
+    if let Err(error) = outcomes.reserve(free) {
+        give_up(Places { pieces, outcomes });
+        return Err(error);
+    }
+    Ok(Places { pieces, outcomes })
+}
+
+/// The places that all runs' items need. Where there is no memory for some, all are given up.
+pub(crate) fn all_places(
+    alloc: Global,
+    runs: &VecDeque<Run>,
+) -> Result<VecDeque<Places>, AllocError>
+    requires runs { AllByRecursion IsRun runs.now.items }
+    ensures places { IfOk result (λ ps. ArePlacesOf runs.now.items ps.items) }
+    ensures empty { IfOk result (λ ps. AreEmpty ps.items) }
+{
+    let mut all = VecDeque::with_capacity(alloc, runs.len())?;
+    for i in 0..runs.len() {
+        let Ok(places) = places_of(alloc, &runs[i]) else {
+            give_all_up(all);
+            return Err(AllocError);
+        };
+        all.push_back_reserved(places);
+    }
+    Ok(all)
+}
