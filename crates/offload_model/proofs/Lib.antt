@@ -21,6 +21,7 @@ pub mod Items
 pub mod Flows
 pub mod Rounding
 mod Needs
+pub mod Passings
 pub mod Captured
 pub mod ReadBack
 pub mod WrittenBack

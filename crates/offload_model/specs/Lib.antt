@@ -14,3 +14,5 @@ pub mod CaptureLaws
 pub mod Rows
 pub mod Need
 pub mod NeedLaws
+pub mod Passing
+pub mod PassingLaws

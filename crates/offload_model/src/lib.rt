@@ -20,6 +20,7 @@
 mod captures;
 mod frames;
 mod need;
+mod passing;
 mod rows;
 mod runs;
 
@@ -33,5 +34,8 @@ pub use frames::{
     segments_are_the_packets, segments_give_the_packets,
 };
 pub use need::{needs_add, needs_exceed, rounds_exceed};
+pub use passing::{
+    blocks_suffice, fronts_are_written, merging_stops, records_to_whole, stops_are_one,
+};
 pub use rows::{need_rows_hold, rows_hold};
 pub use runs::{fronts_are_mergeable, grows_by_one, has_one_cut, tests_decide};

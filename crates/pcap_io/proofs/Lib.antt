@@ -1,4 +1,4 @@
-mod Fronts
+pub mod Fronts
 pub mod HeadLaws
 pub mod RecordLaws
 pub mod LengthLaws

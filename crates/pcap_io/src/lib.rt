@@ -40,4 +40,4 @@ pub use net_bytes::Order;
 pub use off_head::{OFF_HEAD_LEN, OffHead};
 pub use place::Place;
 pub use reader::{CaptureReader, take_file};
-pub use writer::{write_file_head, write_rec_head};
+pub use writer::{record_header, write_file_head, write_rec_head};

@@ -10,8 +10,9 @@ use crate::{FileHead, Link};
 use net_bytes::Order;
 use off_io::{Sink, WriteFault, write_all};
 
-fn record_header(order: Order, sec: u32, frac: u32, captured: u32, original: u32) -> [u8; 16]
-    ensures { result ≡ rec_bytes order sec frac captured original }
+/// A record's header in 16 bytes, for who writes it in one call with what follows.
+pub fn record_header(order: Order, sec: u32, frac: u32, captured: u32, original: u32) -> [u8; 16]
+    ensures bytes { result ≡ rec_bytes order sec frac captured original }
 {
     // Back to front, so that each call's clause is the concatenation so far.
     let mut out = [0u8; 16];
