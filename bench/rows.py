@@ -1,0 +1,207 @@
+"""The rows that `throughput` and `instructions` measure: captures that are what their names say, and the programs that read them."""
+import os
+import shutil
+import struct
+import subprocess
+import sys
+from typing import NamedTuple
+
+from common import ROOT
+
+HEADER = 24
+RECORD = 16
+SAMPLE = os.path.join(ROOT, "samples", "tcp_ipv4_four_flows.pcap")
+PROGRAM = os.path.join(ROOT, "crates", "offload", "out", "offload")
+EMPTY = b"\xd4\xc3\xb2\xa1\x02\0\x04\0" + bytes(8) + b"\0\0\x04\0\x01\0\0\0"
+SAMPLES = {"VXLAN": "tcp_vxlan", "IPv6": "tcp_ipv6_four_flows", "two tags": "tcp_two_tags"}
+
+
+class Capture(NamedTuple):
+    path: str
+    packets: int  # of a capture that was merged, those before merging
+
+
+class Run(NamedTuple):
+    name: str
+    command: list
+    capture: str
+
+
+class Group(NamedTuple):
+    """Runs that are measured in turn, and those that the others are divided by."""
+
+    title: str
+    runs: list
+    over: tuple
+
+
+# Captures.
+
+
+def records_of(path, length=None):
+    """A sample's file header, and its records, those of this length or all, as (seconds, fraction, frame)."""
+    with open(path, "rb") as file:
+        data = file.read()
+    if data[:4] != b"\xd4\xc3\xb2\xa1":
+        sys.exit(f"{path}: not a little-endian classic capture in microseconds (a compressed one is unpacked by gzip -dc)")
+    at, found = HEADER, []
+    while at + RECORD <= len(data):
+        seconds, fraction, captured, _ = struct.unpack_from("<IIII", data, at)
+        frame = data[at + RECORD : at + RECORD + captured]
+        if len(frame) == captured and length in (None, captured):
+            found.append((seconds, fraction, frame))
+        at += RECORD + captured
+    if not found:
+        sys.exit(f"{path}: it has no frames of {length or 'any'} bytes, which the captures are made of")
+    return found
+
+
+def write_capture(path, records, size):
+    """Repeats records up to about `size` bytes, and answers how many there are then."""
+    block = b"".join(struct.pack("<IIII", s, f, len(p), len(p)) + p for s, f, p in records)
+    times = max(1, size // len(block))
+    with open(path, "wb") as out:
+        out.write(EMPTY)
+        for _ in range(times):
+            out.write(block)
+    return Capture(path, times * len(records))
+
+
+def checksum(data):
+    """The Internet checksum, by one division (RFC 1071)."""
+    number = int.from_bytes(data + b"\0" * (len(data) % 2), "big")
+    return 65535 - ((number - 1) % 65535 + 1 if number else 0)
+
+
+def segment(port, sequence, acknowledgment, identification, payload):
+    """A segment over IPv4 with twelve bytes of options, as Linux sends them: 66 bytes and its payload."""
+    hosts = bytes((10, 77, 0, 1, 10, 77, 0, 2))
+    options = b"\1\1\x08\x0a\0\0\0\1\0\0\0\2"
+    size = 32 + len(payload)
+
+    def tcp(total):
+        return struct.pack(">HHIIBBHHH", port, 5201, sequence % 2**32, acknowledgment, 0x80, 0x10, 1000, total, 0) + options + payload
+
+    def ip4(total):
+        return struct.pack(">BBHHHBBH", 0x45, 0, 20 + size, identification % 65536, 0x4000, 64, 6, total) + hosts
+
+    ethernet = bytes((2, 0, 0, 0, 0, 2, 2, 0, 0, 0, 0, 1, 8, 0))
+    return ethernet + ip4(checksum(ip4(0))) + tcp(checksum(hosts + struct.pack(">BBH", 0, 6, size) + tcp(0)))
+
+
+def small_payload(i):
+    return bytes((7 * i + j) % 256 for j in range(34))
+
+
+def with_port(frame, port):
+    """An untagged IPv4 frame with another TCP source port, its checksum corrected (RFC 1624, section 3)."""
+    old, total = struct.unpack_from(">H", frame, 34)[0], struct.unpack_from(">H", frame, 50)[0]
+    changed = bytearray(frame)
+    struct.pack_into(">H", changed, 34, port)
+    struct.pack_into(">H", changed, 50, checksum(struct.pack(">HHH", 65535 - total, 65535 - old, port)))
+    return bytes(changed)
+
+
+def is_plain(frame):
+    """Whether a frame is untagged TCP over IPv4 without options, whose ports `with_port` can change."""
+    return frame[12:15] == b"\x08\x00\x45" and frame[23] == 6
+
+
+def large_records(sample, name):
+    """The records of a capture of 1,514-byte frames, or None where the sample has none that it is made of."""
+    records = records_of(sample, 1514)
+    if name == "1,514 bytes":
+        return records
+    if name == "cut":  # their IP length is wrong then, so none is a candidate
+        return [(s, f, p[:100]) for s, f, p in records]
+    if not is_plain(records[0][2]):
+        return None
+    own = [record for record in records if record[2][34:38] == records[0][2][34:38]]
+    burst = own[:8] if name == "4,096 flows by 8" else own[:1]
+    return [(s, f, with_port(p, 1024 + flow)) for flow in range(4096) for s, f, p in burst]
+
+
+def small_records(name):
+    if name == "ACKs":
+        return [(1, 0, segment(40000 + i % 4, 1000, 2000 + i, 100 + i, b"")) for i in range(256)]
+    if name == "one flow":
+        return [(1, 0, segment(40000, 1000 + 34 * i, 1, 100 + i, small_payload(i))) for i in range(256)]
+    return [(1, 0, segment(40000 + i, 1000, 1, 100, small_payload(i))) for i in range(64)]
+
+
+SMALL = ("cut", "ACKs", "one flow", "64 flows")
+
+
+def make(name, sample, size, folder):
+    """Makes a capture by its name; `size` is that of 1,514-byte frames, and those of small ones have three tenths of it."""
+    path = os.path.join(folder, name.replace(" ", "_").replace(",", "") + ".pcap")
+    if name == "no records":
+        with open(path, "wb") as file:
+            file.write(EMPTY)
+        return Capture(path, 1)
+    if name.startswith("merged "):
+        source = make(name.removeprefix("merged "), sample, size, folder)
+        with open(source.path, "rb") as read, open(path, "wb") as write:
+            subprocess.run([PROGRAM, "merge"], stdin=read, stdout=write, check=True)
+        os.unlink(source.path)
+        return Capture(path, source.packets)
+    if name in SAMPLES:
+        records = records_of(os.path.join(ROOT, "samples", SAMPLES[name] + ".pcap"))
+    else:
+        records = small_records(name) if name in SMALL[1:] else large_records(sample, name)
+    return write_capture(path, records, size * 3 // 10 if name in SMALL else size) if records else None
+
+
+# Programs.
+
+
+def takes(*words):
+    """Whether the program takes such a line."""
+    return subprocess.run([PROGRAM, *words], input=EMPTY, capture_output=True, check=False).returncode != 2
+
+
+def beside(walk, capture):
+    """What the program is measured beside."""
+    runs = [Run("record walk in C", [walk], capture), Run("the same, bytes summed", [walk, "sum"], capture)]
+    if shutil.which("tcpdump"):
+        runs.append(Run("tcpdump -r - -w -", ["tcpdump", "-r", "-", "-w", "-"], capture))
+    if shutil.which("editcap"):
+        runs.append(Run("editcap - -", ["editcap", "-F", "pcap", "-", "-"], capture))
+    return runs
+
+
+BESIDE = ("the same, bytes summed", "tcpdump -r - -w -")
+
+
+def merges(name, capture, *words):
+    return Run(name, [PROGRAM, "merge", *words], capture)
+
+
+def groups(walk):
+    """What is measured, in groups; options that the program doesn't take yet are left out."""
+    titles = {"1,514 bytes": "1,514-byte frames, as captured", "cut": "the same cut to 100 bytes, which can't be merged", "ACKs": "66-byte acknowledgments"}
+    titles |= {"one flow": "100-byte segments of one flow", "64 flows": "100-byte segments of 64 flows, none of which continues"}
+    found = [Group(title, beside(walk, name) + [merges("offload merge", name)], BESIDE) for name, title in titles.items()]
+    layouts = ("1,514 bytes", "4,096 flows in turn", "4,096 flows by 8", *SAMPLES)
+    found.append(Group("merging by flows and layouts", [merges(f"merge, {name}", name) for name in layouts], ("merge, 1,514 bytes",)))
+    options = [("--budget", str(budget)) for budget in (16, 256, 1024, 4096)]
+    options += [("--taps", "1"), ("--queues", "4"), ("--blocks", "384"), ("--blocks", "65536")]
+    runs = [merges("merge", "1,514 bytes")]
+    runs += [merges(f"merge {name} {value}", "1,514 bytes", name, value) for name, value in options if takes("merge", name, value)]
+    found.append(Group("merging by options, 1,514-byte frames", runs, ("merge",)))
+    for name in ("merged 1,514 bytes", "merged one flow"):
+        runs = beside(walk, name)[:2] + [Run("offload segment", [PROGRAM, "segment"], name)]
+        found.append(Group(f"segmenting what merge wrote of {name.removeprefix('merged ')}", runs, BESIDE[:1]))
+    runs = [merges("merge, no records", "no records"), Run("make, 1,000 records", [PROGRAM, "make"], "no records")]
+    return found + [Group("short runs, nanoseconds a run", runs, ())]
+
+
+def build():
+    """Has the program proved and built."""
+    subprocess.run([os.path.join(ROOT, "offload"), "merge"], input=EMPTY, stdout=subprocess.DEVNULL, check=True)
+
+
+def compile_walk(folder):
+    walk = os.path.join(folder, "walk")
+    subprocess.run(["cc", "-O3", "-o", walk, os.path.join(ROOT, "bench", "walk.c")], check=True)
+    return walk
