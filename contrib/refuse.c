@@ -1,0 +1,39 @@
+// For `fail-alloc`: loaded before the C library, it refuses the one growth of memory whose number, from 1, stands in REFUSE_AT, and makes
+// the file REFUSE_TOLD then.
+#include <errno.h>
+#include <fcntl.h>
+#include <stddef.h>
+#include <stdlib.h>
+#include <unistd.h>
+
+extern void *__libc_malloc(size_t size);
+extern void *__libc_calloc(size_t count, size_t size);
+extern void *__libc_realloc(void *old, size_t size);
+extern void *__libc_memalign(size_t align, size_t size);
+
+static long left = -1;
+static const char *told;
+
+__attribute__((constructor)) static void begin(void) {
+  const char *at = getenv("REFUSE_AT");
+  told = getenv("REFUSE_TOLD");
+  left = at ? atol(at) : -1;
+}
+
+static int is_refused(void) {
+  if (left <= 0 || --left > 0) return 0;
+  if (told) close(open(told, O_CREAT | O_WRONLY, 0600));
+  errno = ENOMEM;
+  return 1;
+}
+
+void *malloc(size_t size) { return is_refused() ? NULL : __libc_malloc(size); }
+void *calloc(size_t count, size_t size) { return is_refused() ? NULL : __libc_calloc(count, size); }
+void *realloc(void *old, size_t size) { return is_refused() ? NULL : __libc_realloc(old, size); }
+void *aligned_alloc(size_t align, size_t size) { return is_refused() ? NULL : __libc_memalign(align, size); }
+
+int posix_memalign(void **made, size_t align, size_t size) {
+  if (is_refused()) return ENOMEM;
+  *made = __libc_memalign(align, size);
+  return *made ? 0 : ENOMEM;
+}
