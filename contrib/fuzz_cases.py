@@ -1,0 +1,391 @@
+"""Cases for `fuzz`: from a seed a command, its words and a capture, most of them lawful in most places and wrong in some."""
+import random
+import struct
+from typing import NamedTuple, Optional
+
+import by_definition as defined
+from by_definition import IP4, IP6, TAG, TCP, UDP, VXLAN, Options
+
+
+class Case(NamedTuple):
+    words: list
+    options: Optional[Options]  # None where the words are no command
+    data: bytes
+
+
+class Flow:
+    """What the frames of a flow have in common, and what its next frame continues."""
+
+    def __init__(self, rng):
+        self.tags = [(rng.choice((0x8100, 0x88A8)), rng.randrange(4)) for _ in range(rng.choice((0, 0, 0, 1, 2)))]
+        self.inner_tags = [(0x8100, rng.randrange(4)) for _ in range(rng.choice((0, 0, 1, 2)))]
+        self.tunnel = rng.choice((0, 0, 0, 4, 6))
+        self.has_udp_sum = rng.random() < 0.5
+        self.ip = rng.choice((4, 4, 6))
+        self.has_df = rng.random() < 0.8
+        self.id_step = [rng.choice((1, 1, 1, 0)) for _ in range(2)]
+        self.ids = [rng.choice((0, 100, 65534, 65535)) for _ in range(2)]
+        self.hosts = rng.randrange(3)
+        self.port = 40000 + rng.randrange(3)
+        self.vni = rng.randrange(2)
+        self.options = rng.randbytes(4 * rng.choice((0, 0, 3, 3, 10)))
+        self.sequence = rng.choice((1000, 2**32 - 60, 2**32 - 1))
+        self.size = rng.choice((1, 2, 3, 4, 7, 48, 99, 100))
+        self.has_sum_of_zero = rng.random() < 0.1
+
+    def addresses(self, ip):
+        if ip == 4:
+            return bytes((10, 0, 0, 1 + self.hosts, 10, 0, 0, 2))
+        return bytes((0x20, 1, 0x0D, 0xB8)) + bytes(11) + bytes((1 + self.hosts,)) + bytes((0x20, 1, 0x0D, 0xB8)) + bytes(11) + b"\x02"
+
+    def pseudo(self, ip, protocol, length):
+        if ip == 4:
+            return self.addresses(4) + struct.pack(">BBH", 0, protocol, length % 65536)
+        return self.addresses(6) + struct.pack(">IBBBB", length, 0, 0, 0, protocol)
+
+    def with_ip(self, ip, protocol, identification, body):
+        if ip == 6:
+            return b"\x60\0\0\0" + struct.pack(">HBB", len(body) % 65536, protocol, 64) + self.addresses(6) + body
+        fields = (0x45, 0, (20 + len(body)) % 65536, identification, 0x4000 if self.has_df else 0, 64, protocol)
+        head = struct.pack(">BBHHHBBH", *fields, 0) + self.addresses(4)
+        return struct.pack(">BBHHHBBH", *fields, defined.checksum(head)) + self.addresses(4) + body
+
+    def with_ethernet(self, tags, ip, body):
+        head = bytes((2, 0, 0, 0, 0, 2, 2, 0, 0, 0, 0, 1))
+        for kind, control in tags:
+            head += struct.pack(">HH", kind, control)
+        return head + (b"\x08\x00" if ip == 4 else b"\x86\xdd") + body
+
+    def segment(self, flags, payload):
+        fields = (self.port, 5001, self.sequence, 1, (5 + len(self.options) // 4) << 4, flags, 256)
+        head = struct.pack(">HHIIBBHHH", *fields, 0, 0) + self.options
+        value = defined.checksum(self.pseudo(self.ip, 6, len(head) + len(payload)) + head + payload)
+        if self.has_sum_of_zero and payload[:2] == b"\0\0":
+            payload, value = struct.pack(">H", value) + payload[2:], 0
+        return struct.pack(">HHIIBBHHH", *fields, value, 0) + self.options + payload
+
+    def frame(self, flags, payload):
+        packet = self.with_ip(self.ip, 6, self.ids[0], self.segment(flags, payload))
+        if not self.tunnel:
+            return self.with_ethernet(self.tags, self.ip, packet)
+        body = struct.pack(">II", 8 << 24, self.vni << 8) + self.with_ethernet(self.inner_tags, self.ip, packet)
+        head = struct.pack(">HHH", 50000, 4789, (8 + len(body)) % 65536)
+        value = defined.checksum(self.pseudo(self.tunnel, 17, 8 + len(body)) + head + b"\0\0" + body) or 65535
+        datagram = head + struct.pack(">H", value if self.has_udp_sum else 0) + body
+        return self.with_ethernet(self.tags, self.tunnel, self.with_ip(self.tunnel, 17, self.ids[1], datagram))
+
+    def next(self, rng):
+        size = self.size
+        if rng.random() < 0.15:
+            size = rng.choice((0, 1, max(1, size - 1), size // 2, size + 1))
+        payload = bytes(min(size, 2)) + rng.randbytes(size - min(size, 2)) if self.has_sum_of_zero else rng.randbytes(size)
+        flags = 0x10 if rng.random() < 0.85 else rng.choice((0x18, 0x11, 0x19, 0x02, 0x12, 0x14, 0x30, 0x50, 0x90, 0x00))
+        frame = self.frame(flags, payload)
+        self.sequence = (self.sequence + size + (rng.random() < 0.03)) % 2**32
+        for i, step in enumerate(self.id_step):
+            self.ids[i] = (self.ids[i] + step + 7 * (rng.random() < 0.03)) % 65536
+        return frame
+
+
+# Edits of a frame. Each takes a bytearray, and answers what stands in its place.
+
+FIELDS = {
+    IP4: ((0, 1), (1, 1), (2, 2), (4, 2), (6, 2), (8, 1), (9, 1), (10, 2), (12, 4), (16, 4)),
+    IP6: ((0, 1), (4, 2), (6, 1), (7, 1), (8, 4), (36, 4)),
+    TCP: ((0, 2), (2, 2), (4, 4), (8, 4), (12, 1), (13, 1), (14, 2), (16, 2), (18, 2)),
+    UDP: ((0, 2), (2, 2), (4, 2), (6, 2)),
+    VXLAN: ((0, 1), (4, 4)),
+    TAG: ((0, 2), (2, 2)),
+    defined.ETHERNET: ((0, 4), (6, 4), (12, 2)),
+}
+
+
+def flip(rng, frame):
+    if frame:
+        frame[rng.randrange(len(frame))] ^= 1 << rng.randrange(8)
+    return frame
+
+
+def flip_near_front(rng, frame):
+    if frame:
+        frame[rng.randrange(min(len(frame), 130))] ^= 1 << rng.randrange(8)
+    return frame
+
+
+def edit_field(rng, frame):
+    """A number of a header is one more or less, or one at an edge."""
+    found = defined.shape(bytes(frame))
+    if found is None:
+        return flip(rng, frame)
+    kind, at = rng.choice(found[0])
+    place, size = rng.choice(FIELDS[kind])
+    old = int.from_bytes(frame[at + place : at + place + size], "big")
+    new = rng.choice((old + 1, old - 1, 0, 256**size - 1, old ^ 1 << rng.randrange(8 * size), rng.randrange(256**size)))
+    frame[at + place : at + place + size] = (new % 256**size).to_bytes(size, "big")
+    return frame
+
+
+def edit_fragment(rng, frame):
+    """Reserved bit, "don't fragment", "more fragments" or a fragment offset."""
+    found = defined.shape(bytes(frame))
+    layers = [at for kind, at in found[0] if kind == IP4] if found else []
+    if not layers:
+        return edit_field(rng, frame)
+    frame[rng.choice(layers) + 6] ^= rng.choice((0x80, 0x40, 0x20, 0x01))
+    return frame
+
+
+def cut_end(rng, frame):
+    return frame[: rng.randrange(len(frame) + 1)]
+
+
+def pad(rng, frame):
+    return frame + bytes(rng.choice((1, 2, 6, 18)))
+
+
+def swap_headers(rng, frame):
+    """The bytes of two headers, or two halves of one, change places."""
+    found = defined.shape(bytes(frame))
+    if found is None or len(found[0]) < 2:
+        return flip(rng, frame)
+    places = [at for _, at in found[0]] + [found[1]]
+    i = rng.randrange(1, len(places) - 1)
+    a, b, c = places[i - 1], places[i], places[i + 1]
+    return frame[:a] + frame[b:c] + frame[a:b] + frame[c:]
+
+
+def drop_or_double(rng, frame):
+    """A header is left out, or stands twice."""
+    found = defined.shape(bytes(frame))
+    if found is None:
+        return cut_end(rng, frame)
+    places = [at for _, at in found[0]] + [found[1]]
+    i = rng.randrange(len(places) - 1)
+    a, b = places[i], places[i + 1]
+    return frame[:b] + frame[a:] if rng.random() < 0.5 else frame[:a] + frame[b:]
+
+
+def add_tag(rng, frame):
+    kind = rng.choice((b"\x81\x00", b"\x88\xa8", b"\x91\x00"))
+    return frame[:12] + kind + bytes((0, rng.randrange(4))) + frame[12:]
+
+
+def add_options(rng, frame):
+    """An IP layer gets four bytes of options, or an extension header of eight."""
+    found = defined.shape(bytes(frame))
+    layers = [(kind, at) for kind, at in found[0] if kind in (IP4, IP6)] if found else []
+    if not layers:
+        return flip(rng, frame)
+    kind, at = rng.choice(layers)
+    if kind == IP4:
+        frame[at] = 0x46
+        return frame[: at + 20] + b"\1\1\1\0" + frame[at + 20 :]
+    more = bytes((frame[at + 6], 0)) + bytes(6)
+    frame[at + 6] = rng.choice((0, 44, 60))
+    return frame[: at + 40] + more + frame[at + 40 :]
+
+
+def edit_sum(rng, frame):
+    """A sum is 0, ffff, or one off."""
+    found = defined.shape(bytes(frame))
+    places = [at + defined.SUM_FIELD[kind] for kind, at in found[0] if kind in defined.SUM_FIELD] if found else []
+    if not places:
+        return flip(rng, frame)
+    at = rng.choice(places)
+    old = defined.be16(frame, at)
+    frame[at : at + 2] = struct.pack(">H", rng.choice((0, 65535, (old + 1) % 65536, old ^ 0x8000)))
+    return frame
+
+
+def repair(rng, frame):
+    """Lengths and sums as they ought to be; a UDP sum of 0 mostly stays."""
+    found = defined.shape(bytes(frame))
+    if found is not None and len(frame) <= 65535:
+        defined.fill(frame, found[0], defined.has_udp_sum(bytes(frame)) or rng.random() < 0.1)
+    return frame
+
+
+EDITS = (flip, flip_near_front, edit_field, edit_field, edit_fragment, cut_end, pad, swap_headers, drop_or_double, add_tag, add_options, edit_sum)
+
+
+def edited(rng, frame):
+    frame = bytearray(frame)
+    for _ in range(rng.choice((1, 1, 1, 2, 3))):
+        frame = rng.choice(EDITS)(rng, frame)
+    return bytes(repair(rng, frame) if rng.random() < 0.5 else frame)
+
+
+# Captures, as lists of [seconds, fraction, captured, original, bytes].
+
+MAGICS = (b"\xd4\xc3\xb2\xa1", b"\xd4\xc3\xb2\xa1", b"\x4d\x3c\xb2\xa1", b"\xa1\xb2\xc3\xd4", b"\xa1\xb2\x3c\x4d")
+
+
+def written(rng, link, records):
+    magic = rng.choice(MAGICS)
+    order = defined.ORDERS[magic]
+    zone, figures = (rng.randrange(2**32), rng.randrange(2**32)) if rng.random() < 0.2 else (0, 0)
+    snaplen = rng.choice((262144, 65535, 0, 2**32 - 1))
+    out = [magic + struct.pack(order + "HHIIII", 2, 4, zone, figures, snaplen, link)]
+    for seconds, fraction, captured, original, data in records:
+        out.append(struct.pack(order + "IIII", seconds, fraction, captured % 2**32, original % 2**32) + data)
+    return b"".join(out)
+
+
+def record(rng, data):
+    return [rng.randrange(2**32), rng.randrange(10**6), len(data), len(data), data]
+
+
+def edit_records(rng, records, most):
+    """Records double, out of order or gone; lengths that aren't theirs or stand at an edge."""
+    for _ in range(rng.choice((0, 0, 0, 1, 1, 2))):
+        if not records:
+            return
+        i, j = rng.randrange(len(records)), rng.randrange(len(records))
+        act = rng.randrange(6)
+        if act == 0:
+            records.insert(j, list(records[i]))
+        elif act == 1:
+            records[i], records[j] = records[j], records[i]
+        elif act == 2:
+            del records[i]
+        elif act == 3:
+            records[i][3] += rng.choice((1, -1, 2, 1000))
+        else:
+            edges = (0, 11, 12, 13, most - 1, most, most + 1, 2**31 - 1, 2**31, 2**31 + 11, 2**31 + 12, 2**32 - 1)
+            records[i][2 if act == 4 else 3] = rng.choice(edges)
+
+
+def edit_file(rng, data):
+    """A file that ends early, goes on behind its end, or has other bytes."""
+    act = rng.random()
+    if act < 0.05:
+        return data[: rng.randrange(len(data) + 1)]
+    if act < 0.07:
+        return data + rng.randbytes(rng.choice((1, 15, 16, 17)))
+    if act < 0.09:
+        return bytes(flip(rng, bytearray(data[:24]))) + data[24:]
+    return bytes(flip(rng, bytearray(data))) if act < 0.11 else data
+
+
+def some_frames(rng, is_wrong):
+    flows = [Flow(rng) for _ in range(rng.choice((1, 1, 2, 3)))]
+    count = rng.choice((0, 1, 2, 3, 5, 8, 8, 12))
+    chance = rng.choice((0, 0.1, 0.4)) if is_wrong else 0
+    if rng.random() < 0.01:
+        count = 140
+    if rng.random() < 0.02:
+        flows[0].size, flows[0].tunnel = rng.choice((536, 1448, 1984, 4000, 9000)), rng.choice((0, 4))
+    if rng.random() < 0.002:
+        flows, count = flows[:1], 70
+        flows[0].size = 1448
+    for _ in range(count):
+        frame = rng.choice(flows).next(rng)
+        yield edited(rng, frame) if rng.random() < chance else frame
+
+
+def frames_capture(rng):
+    records = [record(rng, frame) for frame in some_frames(rng, True)]
+    if rng.random() < 0.002:
+        records.append(record(rng, rng.randbytes(rng.choice((262143, 262144, 262145)))))
+    edit_records(rng, records, 262144)
+    return edit_file(rng, written(rng, defined.ETHERNET_LINK, records))
+
+
+def merged_records(rng):
+    """The records that merging gives, as [seconds, fraction, captured, original, head, frame]."""
+    records = [record(rng, frame) for frame in some_frames(rng, rng.random() < 0.3)]
+    options = Options(queues=rng.choice((1, 2, 64)), taps=rng.choice((0, 0, 1)), snap=rng.choice((1, 64)))
+    data = b"\xd4\xc3\xb2\xa1" + struct.pack("<HHIIII", 2, 4, 0, 0, 0, defined.ETHERNET_LINK)
+    data += b"".join(struct.pack("<IIII", *own[:4]) + own[4] for own in records)
+    out, at, found = defined.merge(data, options).output, 24, []
+    while at < len(out):
+        seconds, fraction, captured, original = struct.unpack_from("<IIII", out, at)
+        body = out[at + 16 : at + 16 + captured]
+        found.append([seconds, fraction, captured, original, list(struct.unpack(">BBHHBBI", body[:12])), body[12:]])
+        at += 16 + captured
+    return found
+
+
+def payload_of(frame):
+    found = defined.shape(frame)
+    return len(frame) - found[1] if found else len(frame)
+
+
+def edit_merged(rng, own):
+    """A field of the offload header is another, n and m together too, or the frame is."""
+    head, payload = own[4], max(1, payload_of(own[5]))
+    act = rng.randrange(9)
+    if act == 0:
+        head[2] = rng.choice((head[2] + 1, max(0, head[2] - 1), 0, 1, 2, 65535)) % 65536
+    elif act == 1:
+        head[3] = rng.choice((head[3] + 1, max(0, head[3] - 1), 0, 1, payload, payload - 1, 65535)) % 65536
+    elif act in (2, 3):
+        head[3] = rng.randint(1, min(payload, 65535)) if payload < 300 or rng.random() < 0.1 else max(1, payload // 3)
+        head[2] = min(-(-payload // head[3]) + (rng.random() < 0.1), 65535)
+    elif act == 4:
+        head[4] = rng.choice((0, 1, 2, 3, 4, 128, rng.randrange(256)))
+    elif act == 5:
+        head[0], head[1] = rng.choice((0, 1, 1, 1, 2)), rng.choice((0, 1, 2, 2, 3, 255))
+        if head[1] in (0, 2) and rng.random() < 0.7:
+            head[2:5] = [1 - head[1] // 2, 0, 0]
+    elif act == 6:
+        head[5], head[6] = rng.choice((0, 7, 8, 63, 64, 255)), rng.randrange(2**32)
+    else:
+        own[5] = edited(rng, own[5]) if act == 7 else bytes(repair(rng, edit_field(rng, bytearray(own[5]))))
+        own[2] = own[3] = 12 + len(own[5])
+
+
+def offload_capture(rng):
+    found = merged_records(rng)
+    chance = rng.choice((0, 0.1, 0.1, 0.5))
+    for own in found:
+        while rng.random() < chance:
+            edit_merged(rng, own)
+    records = [own[:4] + [struct.pack(">BBHHBBI", *own[4]) + own[5]] for own in found]
+    if rng.random() < 0.3:
+        edit_records(rng, records, 262156)
+    return edit_file(rng, written(rng, defined.OFFLOAD_LINK, records))
+
+
+# Words.
+
+RANGES = {"budget": (1, 4096), "queues": (1, 64), "taps": (0, 8), "snap": (1, 2048), "blocks": (1, 65536)}
+OF_COMMAND = {"merge": tuple(RANGES), "check": tuple(RANGES), "segment": ("blocks",)}
+USUAL = {"budget": (1, 2, 3, 4, 4, 64, 65, 4096), "queues": (1, 2, 3, 64), "taps": (0, 1, 2, 8), "snap": (1, 20, 64, 2048), "blocks": (1, 3, 6, 40, 8384)}
+DEFAULT_BLOCKS = 8384
+
+
+def option_words(rng, name, value):
+    text = rng.choice(("", "", "", "+", "0", "00")) + str(value)
+    return [f"--{name}={text}"] if rng.random() < 0.3 else [f"--{name}", text]
+
+
+def wrong_words(rng, command, taken):
+    """A line that is no command."""
+    words = [[], ["--help"], [command.title()], [command, command], [command, "--frob", "1"], [command, "--help"], [command, "x"]]
+    for name in sorted(taken):
+        least, most = RANGES[name]
+        bad = rng.choice((str(least - 1), str(most + 1), "", "x", "0x1", "1_0", " 1", "-0", "1.0", str(2**64)))
+        words += [[command, f"--{name}", bad], [command, f"--{name}"], [command, f"--{name}", "1", f"--{name}", "1"]]
+    return rng.choice(words)
+
+
+def line(rng, command, taken):
+    """The words of a command and its options; `taken` are those that the program takes."""
+    if rng.random() < 0.01:
+        return wrong_words(rng, command, taken), None
+    words, options = [], Options(blocks=DEFAULT_BLOCKS if "blocks" in taken else None)
+    for name in sorted(taken):
+        if rng.random() < 0.5:
+            value = rng.choice(USUAL[name])
+            options = options._replace(**{name: value})
+            words = words + option_words(rng, name, value) if rng.random() < 0.5 else option_words(rng, name, value) + words
+    return [command] + words + ["--"] * (rng.random() < 0.02), options
+
+
+def case(seed, taken):
+    """The case of a seed; `taken` has for each command of the program the options that it takes."""
+    rng = random.Random(seed)
+    command = rng.choice(sorted(taken))
+    words, options = line(rng, command, taken[command])
+    return Case(words, options, (offload_capture if command == "segment" else frames_capture)(rng))
