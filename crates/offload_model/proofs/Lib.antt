@@ -20,8 +20,9 @@ pub mod RunRecords
 pub mod Items
 pub mod Flows
 pub mod Rounding
-mod Needs
+pub mod Needs
 pub mod Passings
+pub mod Steps
 pub mod Captured
 pub mod ReadBack
 pub mod WrittenBack

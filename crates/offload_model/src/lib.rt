@@ -35,7 +35,8 @@ pub use frames::{
 };
 pub use need::{needs_add, needs_exceed, rounds_exceed};
 pub use passing::{
-    blocks_suffice, fronts_are_written, merging_stops, records_to_whole, stops_are_one,
+    blocks_suffice, commands_pass_on, fronts_are_written, merging_goes_by_round, merging_stops,
+    records_to_whole, segmenting_goes_by_record, stops_are_one,
 };
 pub use rows::{need_rows_hold, rows_hold};
 pub use runs::{fronts_are_mergeable, grows_by_one, has_one_cut, tests_decide};

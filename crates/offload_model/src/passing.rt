@@ -1,5 +1,6 @@
 //! What a command says of each way in which it ends.
 ghost use Rattle.offload_model.specs.PassingLaws.{StopsAreOne, FrontsAreWritten, MergingStops, RecordsToWhole, BlocksSuffice};
+ghost use Rattle.offload_model.specs.Steps.{CommandsPassOn, MergingGoesByRound, SegmentingGoesByRecord};
 
 /// Where some bytes stop a command is determined.
 pub fn stops_are_one()
@@ -25,4 +26,20 @@ pub fn records_to_whole<K>()
 /// Where no round exceeds the blocks, what is written and where it stops is what it is without a bound.
 pub fn blocks_suffice()
     ensures law { BlocksSuffice }
+{}
+
+/// Rounds follow one another, and what a command says of what follows them is what it says of all.
+pub fn commands_pass_on()
+    ensures law { CommandsPassOn }
+{}
+
+/// Merging goes round by round: one that is full and fits goes before the others, and the last one is written as the capture
+/// ends, where no record exceeds the blocks.
+pub fn merging_goes_by_round()
+    ensures law { MergingGoesByRound }
+{}
+
+/// Segmenting goes record by record, in the order in which each is judged: the blocks, whether it is whole, the test.
+pub fn segmenting_goes_by_record()
+    ensures law { SegmentingGoesByRecord }
 {}
