@@ -7,3 +7,5 @@ mod Packets
 mod Placing
 mod Running
 mod Taking
+mod Indexing
+mod Receiving

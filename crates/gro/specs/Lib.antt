@@ -4,3 +4,6 @@ pub mod Items
 pub mod Places
 pub mod Runs
 pub mod Flows
+pub mod Index
+pub mod Totals
+pub mod Steps

@@ -20,6 +20,7 @@ mod item;
 mod packet;
 mod places;
 mod run;
+mod runs;
 
 pub use item::Item;
 pub use packet::Packet;

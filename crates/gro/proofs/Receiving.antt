@@ -1,0 +1,219 @@
+-- A packet comes: a run takes it, or it opens one.
+use Rattle.std.proofs.Common.{◌≡◌, ℕ, zero, suc, ◌+◌, ◌-◌, ◌*◌, ◌<◌, ◌≤◌, inl, inr, Bool, true, false, Option, Some, None, List, [], ◌∷◌, ◌++◌, length, get_or, map, set, refl, sym, ap, ◌∙◌, subst, arith, length-append}
+use Rattle.std.specs.Prelude.{if◌then◌else◌}
+use Rattle.std.specs.List.{AllByRecursion}
+use Rattle.std.proofs.lemmas.List.{map-append, map-set, get_or-map, length-map}
+use Rattle.std.proofs.Math.Seq.{map-set_same}
+use Rattle.maximal_runs.specs.Items.{begins_in, first_number}
+use Rattle.maximal_runs.proofs.Pass.{all_append}
+use Rattle.std.specs.Str.{bytes_eq}
+use Rattle.std.proofs.lemmas.Bool.{cases_Bool}
+use Rattle.std.proofs.lemmas.Slice.Eq.{bytes_eq-Decides}
+use Rattle.inet_sum.specs.Stands.{FoldAndLength}
+use Rattle.frame_layout.specs.Shape.{Layout}
+use Rattle.pcap_io.specs.Capture.{Packet}
+use Rattle.frame_layout.specs.Key.{key_of}
+use Rattle.skb.specs.SkbState.{buffer_bytes}
+use Rattle.offload_model.specs.Mergeable.{IsMergeable}
+use Rattle.offload_model.specs.Rounds.{is_of, number_of}
+use Rattle.merge_rule.specs.Steps.{IsLastBelow, TakesPacket, KeepsEarly}
+use Rattle.merge_rule.specs.Runs.{IsJudged}
+use Rattle.merge_rule.proofs.Knows.{shut_by, no_first}
+use Rattle.merge_rule.proofs.Steps.{early_grows, other_opens}
+use Rattle.gro.specs.declared.packet.Packet.{Packet as Held}
+use Rattle.gro.specs.declared.run.Run.{Run}
+use Rattle.gro.specs.declared.runs.Runs.{Runs}
+use Rattle.gro.specs.Held.{packet_of, count_of, counts_of}
+use Rattle.gro.specs.Runs.{IsRun, held_of, packets_of}
+use Rattle.gro.specs.Flows.{place_of, AreFlows, Puts}
+use Rattle.gro.specs.Index.{IsShut, IsIndexOf}
+use Rattle.gro.specs.Totals.{total, totals}
+use Rattle.gro.specs.Steps.{held_in, packets_in, AreRuns, HasPlaces, Takes}
+use Rattle.gro.proofs.Indexing.{found_last, index_grows, takes_grows, index_opens, takes_opens, index_other, index_none}
+
+-- ---- lists
+
+pub all_at : {X : Type 0} (P : X → Type 0) (xs : List X) (i : ℕ) (d : X) → AllByRecursion P xs → i < length xs → P (get_or xs i d)
+all_at P [] i d a h = absurd (omega arith)
+all_at P (x ∷ xs) zero d a h = a.0
+all_at P (x ∷ xs) (suc i) d a h = all_at P xs i d a.1 (omega arith)
+
+all_set : {X : Type 0} (P : X → Type 0) (xs : List X) (i : ℕ) (y : X) → AllByRecursion P xs → P y → AllByRecursion P (set xs i y)
+all_set P [] i y a p = tt
+all_set P (x ∷ xs) zero y a p = (p, a.1)
+all_set P (x ∷ xs) (suc i) y a p = (a.0, all_set P xs i y a.1 p)
+
+total_push : (f : Held → ℕ) (ps : List Held) (p : Held) → total f (ps ++ (p ∷ [])) ≡ total f ps + f p
+total_push f [] p = omega arith
+total_push f (q ∷ ps) p = omega (arith, total_push f ps p)
+
+totals_push : (f : Held → ℕ) (rs : List Run) (r : Run) (p : Held) → held_of r ≡ p ∷ [] → totals f (map held_of (rs ++ (r ∷ []))) ≡ totals f (map held_of rs) + f p
+totals_push f [] r p e = omega (arith, ap (total f) e)
+totals_push f (s ∷ rs) r p e = omega (arith, totals_push f rs r p e)
+
+totals_set : (f : Held → ℕ) (rs : List Run) (i : ℕ) (old new : Run) (p : Held) → i < length rs → old ≡ get_or rs i old → held_of new ≡ held_of old ++ (p ∷ [])
+    → totals f (map held_of (set rs i new)) ≡ totals f (map held_of rs) + f p
+totals_set f [] i old new p h e g = absurd (omega arith)
+totals_set f (s ∷ rs) zero old new p h e g = omega (arith, ap (total f) g, total_push f (held_of old) p, ap (λ z. total f (held_of z)) e)
+totals_set f (s ∷ rs) (suc i) old new p h e g = omega (arith, totals_set f rs i old new p (omega arith) e g)
+
+-- a run holds no more than all
+pub one_of_all : (f : Held → ℕ) (rs : List Run) (i : ℕ) (d : Run) → i < length rs → total f (held_of (get_or rs i d)) ≤ totals f (map held_of rs)
+one_of_all f [] i d h = absurd (omega arith)
+one_of_all f (r ∷ rs) zero d h = omega arith
+one_of_all f (r ∷ rs) (suc i) d h = omega (arith, one_of_all f rs i d (omega arith))
+
+counts_total : (ps : List Held) → counts_of ps ≡ total count_of ps
+counts_total [] = refl
+counts_total (p ∷ ps) = omega (arith, counts_total ps)
+
+early_opens : (rs : List (List Packet)) (x : Packet) → KeepsEarly rs x (rs ++ ((x ∷ []) ∷ []))
+early_opens rs x = λ n a b. all_append (λ run. first_number number_of run < n) rs ((x ∷ []) ∷ []) a (b, tt)
+
+-- ---- runs
+
+run_shut : (r : Run) → IsRun r → r.progress.is_open ≡ false → IsShut (packets_of r)
+run_shut r is e = λ x m. shut_by r.layout r.payload r.flags r.progress (packet_of r.first) x (map packet_of r.rest.items) is.run e m
+
+-- what finds nothing finds nothing else
+keeps_none : (look : List ℕ → Option ℕ) (key q : List ℕ) → look key ≡ None → look q ≡ (if bytes_eq key q then None else look q)
+keeps_none look key q e = elim (cases_Bool (bytes_eq key q)) [
+  | inl t ↦ ap look (sym ((bytes_eq-Decides key q).0 t)) ∙ e ∙ sym (ap (λ (b : Bool). if b then None else look q) t)
+  | inr f ↦ sym (ap (λ (b : Bool). if b then None else look q) f)
+]
+
+-- a packet that is no candidate is followed by none
+pub alone_shut : (p : Held) (found : Option Layout) (sum : FoldAndLength) (bits : ℕ) → IsJudged (buffer_bytes p.skb) p.original found sum bits → found ≡ None → IsShut (packet_of p ∷ [])
+alone_shut p found sum bits j e = λ x m. no_first (packet_of p) x [] (subst (λ z. IsJudged (buffer_bytes p.skb) p.original z sum bits) e j) m
+
+-- a packet opens a run
+module _ (a b : Runs) (p : Held) (r : Run) (runs : AreRuns a) (items : b.list.items ≡ a.list.items ++ (r ∷ [])) (is : IsRun r) (one : held_of r ≡ p ∷ [])
+    (places : (n : ℕ) → HasPlaces a (n + 1) → HasPlaces b n) where
+  one_packet : packets_of r ≡ packet_of p ∷ []
+  one_packet = ap (map packet_of) one
+
+  packets : packets_in b ≡ packets_in a ++ ((packet_of p ∷ []) ∷ [])
+  packets = ap (map packets_of) items ∙ map-append packets_of a.list.items (r ∷ []) ∙ ap (λ z. packets_in a ++ (z ∷ [])) one_packet
+
+  each : AllByRecursion IsRun b.list.items
+  each = subst (AllByRecursion IsRun) (sym items) (all_append IsRun a.list.items (r ∷ []) runs.each (is, tt))
+
+  opened_by : AreFlows b.flows → IsIndexOf (place_of b.flows) (packets_in a ++ ((packet_of p ∷ []) ∷ [])) → TakesPacket (packets_in a) (packet_of p) (packets_in a ++ ((packet_of p ∷ []) ∷ []))
+      → Takes a p b
+  opened_by flows index takes = record {
+    runs = record { each = each; flows = flows; index = subst (IsIndexOf (place_of b.flows)) (sym packets) index };
+    takes = subst (TakesPacket (packets_in a) (packet_of p)) (sym packets) takes;
+    early = subst (KeepsEarly (packets_in a) (packet_of p)) (sym packets) (early_opens (packets_in a) (packet_of p));
+    same = λ f. ap (λ z. totals f (map held_of z)) items ∙ totals_push f a.list.items r p one;
+    places = places;
+  }
+
+  opens_at : (key : List ℕ) (i : ℕ) (is_open : Bool) → key_of (buffer_bytes p.skb) ≡ Some key → i ≡ length a.list.items → AreFlows b.flows
+      → Puts a.flows key (if is_open then Some i else None) b.flows → (is_open ≡ false → IsShut (packet_of p ∷ []))
+      → ((j : ℕ) → place_of a.flows key ≡ Some j → IsMergeable (get_or (packets_in a) j [] ++ (packet_of p ∷ [])) → ⊥)
+      → Takes a p b
+  opens_at key i is_open k e flows puts shut not = opened_by flows
+      (index_opens (place_of a.flows) (place_of b.flows) (packets_in a) (packet_of p) key runs.index k i is_open (e ∙ sym (length-map a.list.items packets_of)) puts shut)
+      (takes_opens (place_of a.flows) (place_of b.flows) (packets_in a) (packet_of p) key runs.index k not)
+
+  pub opens_run : (key : List ℕ) (i : ℕ) → key_of (buffer_bytes p.skb) ≡ Some key → i ≡ length a.list.items → AreFlows b.flows
+      → Puts a.flows key (if r.progress.is_open then Some i else None) b.flows
+      → ((j : ℕ) → place_of a.flows key ≡ Some j → IsMergeable (get_or (packets_in a) j [] ++ (packet_of p ∷ [])) → ⊥)
+      → Takes a p b
+  opens_run key i k e flows puts not = opens_at key i r.progress.is_open k e flows puts (λ s. subst IsShut one_packet (run_shut r is s)) not
+
+  opens_other : key_of (buffer_bytes p.skb) ≡ None → b.flows ≡ a.flows → Takes a p b
+  opens_other k e = opened_by (subst AreFlows (sym e) runs.flows)
+      (subst (λ z. IsIndexOf (place_of z) (packets_in a ++ ((packet_of p ∷ []) ∷ []))) (sym e) (index_other (place_of a.flows) (packets_in a) (packet_of p) runs.index k))
+      (other_opens (packet_of p) k (packets_in a))
+
+  -- a packet of no flow, or of a flow that finds nothing, that no other joins
+  pub opens_alone : ((q : List ℕ) → key_of (buffer_bytes p.skb) ≡ Some q → (place_of a.flows q ≡ None) × IsShut (packet_of p ∷ [])) → b.flows ≡ a.flows → Takes a p b
+  opens_alone alone e = at (key_of (buffer_bytes p.skb)) refl
+    where
+      at : (k : Option (List ℕ)) → key_of (buffer_bytes p.skb) ≡ k → Takes a p b
+      at None k = opens_other k e
+      at (Some key) k =
+          let f = alone key k in
+          opens_at key (length a.list.items) false k refl (subst AreFlows (sym e) runs.flows)
+          (λ q. ap (λ z. place_of z q) e ∙ keeps_none (place_of a.flows) key q f.0)
+          (λ s. f.1)
+          (λ j g m. let t : None ≡ Some j = sym f.0 ∙ g in absurd cc)
+
+-- the run that is found
+module _ (a : Runs) (key : List ℕ) (i : ℕ) (runs : AreRuns a) (found : place_of a.flows key ≡ Some i) where
+  last : IsLastBelow (begins_in (is_of (Some key))) (packets_in a) (length (packets_in a)) (Some i)
+  last = found_last (place_of a.flows) (packets_in a) key i runs.index found
+
+  pub inside : i < length a.list.items
+  inside = omega (arith, last.0, length-map a.list.items packets_of)
+
+  pub run_at : (old : Run) → old ≡ get_or a.list.items i old → IsRun old
+  run_at old was = subst IsRun (sym was) (all_at IsRun a.list.items i old runs.each inside)
+
+  pub packets_at : (old : Run) → old ≡ get_or a.list.items i old → packets_of old ≡ get_or (packets_in a) i []
+  packets_at old was = ap packets_of was ∙ sym (get_or-map packets_of a.list.items i old [] inside)
+
+  -- its own count is within that of all
+  pub few_more : (old : Run) → old ≡ get_or a.list.items i old → old.count ≤ totals count_of (held_in a)
+  few_more old was = omega (
+    arith,
+    (run_at old was).count,
+    counts_total (held_of old),
+    ap (λ z. total count_of (held_of z)) was,
+    one_of_all count_of a.list.items i old inside,
+  )
+
+-- a run takes a packet
+module _ (a b : Runs) (p : Held) (key : List ℕ) (i : ℕ) (old new : Run) (runs : AreRuns a) (found : place_of a.flows key ≡ Some i) (was : old ≡ get_or a.list.items i old)
+    (items : b.list.items ≡ set a.list.items i new) (is : IsRun new) (more : held_of new ≡ held_of old ++ (p ∷ [])) where
+  within : i < length a.list.items
+  within = inside a key i runs found
+
+  there : packets_of old ≡ get_or (packets_in a) i []
+  there = packets_at a key i runs found old was
+
+  grown : packets_of new ≡ packets_of old ++ (packet_of p ∷ [])
+  grown = ap (map packet_of) more ∙ map-append packet_of (held_of old) (p ∷ [])
+
+  all_packets : packets_in b ≡ set (packets_in a) i (packets_of old ++ (packet_of p ∷ []))
+  all_packets = ap (map packets_of) items ∙ map-set packets_of a.list.items i new ∙ ap (set (packets_in a) i) grown
+
+  pub grows_run : key_of (buffer_bytes p.skb) ≡ Some key → AreFlows b.flows → Puts a.flows key (if new.progress.is_open then Some i else None) b.flows
+      → IsMergeable (get_or (packets_in a) i [] ++ (packet_of p ∷ [])) → ((n : ℕ) → HasPlaces a (n + 1) → HasPlaces b n) → Takes a p b
+  grows_run k flows puts m places = record {
+    runs = record {
+      each = subst (AllByRecursion IsRun) (sym items) (all_set IsRun a.list.items i new runs.each is);
+      flows = flows;
+      index = subst (IsIndexOf (place_of b.flows)) (sym all_packets)
+          (index_grows (place_of a.flows) (packets_in a) key i (packets_of old) (packet_of p) runs.index found there (place_of b.flows) new.progress.is_open puts
+          (λ s. subst IsShut grown (run_shut new is s)));
+    };
+    takes = subst (TakesPacket (packets_in a) (packet_of p)) (sym all_packets)
+        (takes_grows (place_of a.flows) (packets_in a) key i (packets_of old) (packet_of p) runs.index found there k (subst (λ z. IsMergeable (z ++ (packet_of p ∷ []))) (sym there) m));
+    early = subst (KeepsEarly (packets_in a) (packet_of p)) (sym all_packets) (early_grows (packets_in a) (Some key) i (packet_of p) (packets_of old) there (last a key i runs found));
+    same = λ f. ap (λ z. totals f (map held_of z)) items ∙ totals_set f a.list.items i old new p within was more;
+    places = places;
+  }
+
+-- where a run is as it was
+module _ (a b : Runs) (i : ℕ) (old new : Run) (was : old ≡ get_or a.list.items i old)
+    (items : b.list.items ≡ set a.list.items i new) (same : held_of new ≡ held_of old) where
+  pub held_kept : held_in b ≡ held_in a
+  held_kept = ap (map held_of) items ∙ map-set_same held_of a.list.items i new old (same ∙ ap held_of was)
+
+  pub runs_kept : AreRuns a → IsRun new → b.flows ≡ a.flows → AreRuns b
+  runs_kept runs is e = record {
+    each = subst (AllByRecursion IsRun) (sym items) (all_set IsRun a.list.items i new runs.each is);
+    flows = subst AreFlows (sym e) runs.flows;
+    index = subst (λ z. IsIndexOf (place_of z) (packets_in b)) (sym e)
+        (subst (IsIndexOf (place_of a.flows)) (sym (ap (map packets_of) items ∙ map-set_same packets_of a.list.items i new old (ap (map packet_of) (same ∙ ap held_of was)))) runs.index);
+  }
+
+-- no runs yet
+pub no_runs : (a : Runs) → a.list.items ≡ [] → AreFlows a.flows → ((q : List ℕ) → place_of a.flows q ≡ None) → AreRuns a
+no_runs a e flows none = record {
+  each = subst (AllByRecursion IsRun) (sym e) tt;
+  flows = flows;
+  index = subst (λ (z : List Run). IsIndexOf (place_of a.flows) (map packets_of z)) (sym e) (index_none (place_of a.flows) none);
+}

@@ -1,0 +1,152 @@
+//! The runs of a round, as packets come.
+ghost use Rattle.std.specs.Prelude.{◌≡◌, ◌+◌, ◌<◌, ◌≤◌, ◌^◌, ◌++◌, ◌∷◌, [], Some, None, ℕ, List, length, IsTrue, map, OnOk, OnErr, IfOk, IfErr, slice_index_or};
+ghost use Rattle.frame_layout.specs.Key.{key_of};
+ghost use Rattle.offload_model.specs.Mergeable.{IsMergeable};
+ghost use Rattle.merge_rule.specs.Runs.{IsJudged};
+ghost use Rattle.skb.specs.SkbState.{buffer_bytes};
+ghost use Rattle.gro.specs.Held.{packet_of, count_of, IsHeld};
+ghost use Rattle.gro.specs.Runs.{packets_of};
+ghost use Rattle.gro.specs.Flows.{slot_of, place_of};
+ghost use Rattle.gro.specs.Totals.{totals};
+ghost use Rattle.gro.specs.Steps.{held_in, packets_in, AreRuns, HasPlaces, Takes};
+
+use crate::Packet;
+use crate::flow_key::FlowKey;
+use crate::flows::{Flows, Found};
+use crate::run::Run;
+use merge_rule::Candidacy;
+use std::alloc::{AllocError, Global};
+use std::collections::VecDeque;
+
+/// The runs of a round in the order of their first packets, and the open one of each flow.
+pub(crate) struct Runs {
+    pub list: VecDeque<Run>,
+    pub flows: Flows,
+    pub alloc: Global,
+}
+
+impl Runs {
+    /// No runs yet. The memory for n is taken.
+    pub(crate) fn with_capacity(alloc: Global, n: usize) -> Result<Runs, AllocError>
+        ensures runs { IfOk result AreRuns }
+        ensures none { IfOk result (λ r. r.list.items ≡ []) }
+        ensures places { IfOk result (λ r. HasPlaces r n) }
+    {
+        let flows = Flows::with_capacity(alloc, n)?;
+        let list = VecDeque::with_capacity(alloc, n)?;
+        Ok(Runs { list, flows, alloc })
+    }
+
+    /// A packet of a flow of which no run is found: it opens one.
+    fn begin(&mut self, key: FlowKey, packet: Packet, candidacy: Candidacy)
+        requires runs { AreRuns self.old }
+        requires places { HasPlaces self.old 1 }
+        requires judged { IsJudged (buffer_bytes packet.skb) packet.original candidacy.layout candidacy.payload candidacy.flags }
+        requires held { IsHeld packet }
+        requires key { key_of (buffer_bytes packet.skb) ≡ Some key }
+        requires none { place_of self.old.flows key ≡ None }
+        ensures takes { Takes self.old packet self.new }
+    {
+        let run = Run::open(self.alloc, packet, candidacy);
+        self.flows.begin(key, self.list.len(), run.progress.is_open);
+        self.list.push_back_reserved(run);
+    }
+
+    /// A packet that its flow's run at `found` doesn't take: it opens the next one.
+    fn follow(&mut self, key: &FlowKey, found: Found, packet: Packet, candidacy: Candidacy)
+        requires runs { AreRuns self.old }
+        requires places { HasPlaces self.old 1 }
+        requires judged { IsJudged (buffer_bytes packet.skb) packet.original candidacy.layout candidacy.payload candidacy.flags }
+        requires held { IsHeld packet }
+        requires key { key_of (buffer_bytes packet.skb) ≡ Some key.now }
+        requires slot { slot_of self.old.flows key.now ≡ Some found.slot }
+        requires place { place_of self.old.flows key.now ≡ Some found.place }
+        requires apart { IsMergeable (slice_index_or (packets_in self.old) found.place [] ++ (packet_of packet ∷ [])) → ⊥ }
+        ensures takes { Takes self.old packet self.new }
+    {
+        let run = Run::open(self.alloc, packet, candidacy);
+        let is_open = run.progress.is_open;
+        self.flows.follow(key, found.slot, self.list.len(), is_open);
+        self.list.push_back_reserved(run);
+    }
+
+    /// A packet that its flow's run at `found` takes.
+    fn grow(
+        &mut self,
+        key: &FlowKey,
+        found: Found,
+        packet: Packet,
+        candidacy: &Candidacy,
+    ) -> Result<(), (Packet, AllocError)>
+        requires runs { AreRuns self.old }
+        requires judged { IsJudged (buffer_bytes packet.skb) packet.original candidacy.now.layout candidacy.now.payload candidacy.now.flags }
+        requires held { IsHeld packet }
+        requires key { key_of (buffer_bytes packet.skb) ≡ Some key.now }
+        requires slot { slot_of self.old.flows key.now ≡ Some found.slot }
+        requires place { place_of self.old.flows key.now ≡ Some found.place }
+        requires mergeable { IsMergeable (slice_index_or (packets_in self.old) found.place [] ++ (packet_of packet ∷ [])) }
+        requires few { totals count_of (held_in self.old) + count_of packet < 2 ^ 63 }
+        ensures takes { OnOk result (Takes self.old packet self.new) }
+        ensures back { IfErr result (λ e. (e.0 ≡ packet) × (held_in self.new ≡ held_in self.old)) }
+        ensures left { OnErr result (AreRuns self.new) }
+        ensures room { OnErr result ((n : ℕ) → HasPlaces self.old n → HasPlaces self.new n) }
+    {
+        let run = &mut self.list[found.place];
+        if let Err(refused) = run.add(packet, candidacy) {
+            return Err(refused);
+        }
+        let is_open = run.progress.is_open;
+        self.flows.keep(key, found, is_open);
+        Ok(())
+    }
+
+    /// A packet of the flow with this key: its flow's run takes it, or it opens one.
+    fn place(
+        &mut self,
+        key: FlowKey,
+        packet: Packet,
+        candidacy: Candidacy,
+    ) -> Result<(), (Packet, AllocError)>
+        requires runs { AreRuns self.old }
+        requires places { HasPlaces self.old 1 }
+        requires judged { IsJudged (buffer_bytes packet.skb) packet.original candidacy.layout candidacy.payload candidacy.flags }
+        requires held { IsHeld packet }
+        requires key { key_of (buffer_bytes packet.skb) ≡ Some key }
+        requires few { totals count_of (held_in self.old) + count_of packet < 2 ^ 63 }
+        ensures takes { OnOk result (Takes self.old packet self.new) }
+        ensures back { IfErr result (λ e. (e.0 ≡ packet) × (held_in self.new ≡ held_in self.old)) }
+        ensures left { OnErr result (AreRuns self.new) }
+        ensures room { OnErr result ((n : ℕ) → HasPlaces self.old n → HasPlaces self.new n) }
+    {
+        let Some(found) = self.flows.find(&key) else {
+            self.begin(key, packet, candidacy);
+            return Ok(());
+        };
+        if self.list[found.place].takes(&packet, &candidacy) {
+            return self.grow(&key, found, packet, &candidacy);
+        }
+        self.follow(&key, found, packet, candidacy);
+        Ok(())
+    }
+
+    /// A packet that no run takes, of a flow of which no run is found, or of no flow: it opens a run, which no other joins.
+    fn stand_alone(&mut self, packet: Packet, candidacy: Candidacy)
+        requires runs { AreRuns self.old }
+        requires places { HasPlaces self.old 1 }
+        requires judged { IsJudged (buffer_bytes packet.skb) packet.original candidacy.layout candidacy.payload candidacy.flags }
+        requires held { IsHeld packet }
+        requires alone { (q : List ℕ) → key_of (buffer_bytes packet.skb) ≡ Some q → (place_of self.old.flows q ≡ None) × (candidacy.layout ≡ None) }
+        ensures takes { Takes self.old packet self.new }
+    {
+        let run = Run::open(self.alloc, packet, candidacy);
+        self.list.push_back_reserved(run);
+    }
+
+    /// Whether a packet can neither be merged nor end a run, whatever its flow is.
+    fn is_apart(&self, candidacy: &Candidacy) -> bool
+        ensures layout { IsTrue result → candidacy.now.layout ≡ None }
+        ensures none { IsTrue result → (q : List ℕ) → place_of self.now.flows q ≡ None }
+    {
+        candidacy.layout.is_none() && self.flows.is_empty()
+    }
+}
