@@ -9,3 +9,4 @@ mod Running
 mod Taking
 mod Indexing
 mod Receiving
+mod Judged

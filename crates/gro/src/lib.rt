@@ -14,6 +14,7 @@
 #![tactic(auto)]
 
 mod build;
+mod candidacy;
 mod flow_key;
 mod flows;
 mod item;

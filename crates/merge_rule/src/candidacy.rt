@@ -1,4 +1,5 @@
 //! What judging a packet gives.
+ghost use Rattle.std.specs.Prelude.{◌≡◌, None};
 
 use frame_layout::Layout;
 use inet_sum::Partial;
@@ -10,4 +11,17 @@ pub struct Candidacy {
     pub layout: Option<Layout>,
     pub payload: Partial,
     pub flags: u8,
+}
+
+impl Candidacy {
+    /// Of a packet that may not be merged.
+    pub fn none() -> Candidacy
+        ensures layout { result.layout ≡ None }
+    {
+        Candidacy {
+            layout: None,
+            payload: Partial::new(),
+            flags: 0,
+        }
+    }
 }

@@ -38,11 +38,7 @@ pub(crate) fn judge(frame: &[u8], original: u32) -> Candidacy
             flags: segment.flags,
             layout: Some(segment.layout),
         },
-        None => Candidacy {
-            layout: None,
-            payload: rest,
-            flags: 0,
-        },
+        None => Candidacy::none(),
     }
 }
 

@@ -5,6 +5,7 @@ use Rattle.inet_sum.specs.Stands.{FoldAndLength, StandsFor}
 use Rattle.frame_layout.specs.Front.{IsFrameOf}
 use Rattle.frame_layout.specs.Segment.{IsSegOf}
 use Rattle.frame_layout.proofs.Lemmas.{laid, bounds}
+use Rattle.merge_rule.specs.Runs.{IsJudged}
 use Rattle.round_merge.proofs.candidate.judge.Goals as goal
 
 behind : (f : List ℕ) (n : ℕ) (p : FoldAndLength) → StandsFor p (take (length f - n) (drop n f)) → StandsFor p (drop n f)
@@ -45,6 +46,7 @@ returns-in-None c =
     let f : List ℕ = c.args.frame.now in
     let small : (k : ℕ) → byte f k < 256 = λ k. omega (arith, c.type_inv.frame k) in
     record {
-      judged = subst (IsSegOf f c.args.original) c.in-None.is
-          (c.candidate.ensures.candidate f (whole f c.min-front.result c.add.new.self small (behind f c.min-front.result c.add.new.self (c.add.ensures.sum [] c.new-rest.ensures.sum))));
+      judged = subst (λ z. IsJudged f c.args.original z c.none.result.payload c.none.result.flags) (sym c.none.ensures.layout)
+          (subst (IsSegOf f c.args.original) c.in-None.is
+          (c.candidate.ensures.candidate f (whole f c.min-front.result c.add.new.self small (behind f c.min-front.result c.add.new.self (c.add.ensures.sum [] c.new-rest.ensures.sum)))));
     }
