@@ -16,6 +16,8 @@ pub use Rattle.frame_layout.proofs.Networks.{counts, has_network}
 -- (`alike_keeps_key`)
 pub use Rattle.frame_layout.proofs.Alike.{IsAlikeAt, alike_at, alike_byte}
 pub use Rattle.frame_layout.proofs.Shapes.{same_shape}
+-- the first 200 bytes of a frame, or all of fewer, tell its shape
+pub use Rattle.frame_layout.proofs.Frames.{shape_of_head}
 pub use Rattle.frame_layout.proofs.SameKey.{same_key}
 -- the tests decide: of alike headers, and of candidates
 pub use Rattle.frame_layout.proofs.Deciding.{decides_alike, decides_candidate}
