@@ -1,0 +1,9 @@
+mod Weights
+mod Fronts
+mod Chunks
+mod Summing
+mod BufferSums
+mod Steps
+mod Turns
+mod Heads
+mod Fronted

@@ -1,0 +1,30 @@
+use Rattle.std.proofs.Common.{◌≡◌, ◌∙◌, ◌-◌, ℕ, List, [], ◌∷◌, refl, sym, ap, subst, arith}
+use Rattle.skb.specs.SkbState.{buffer_bytes}
+use Rattle.gso.specs.Merged.{MergedState}
+use Rattle.gso.specs.Whole.{WholeState}
+use Rattle.gso.specs.Cutting.{IsLeft, segments_from}
+use Rattle.gso.specs.declared.cutter.Work.TheVariants.{Whole}
+use Rattle.gso.proofs.Turns.{frames_are, started}
+use Rattle.gso.proofs.cutter.Cutter.start.Goals.{in-Nothing, in-Single, in-Segments}
+use Rattle.gso.proofs.cutter.Cutter.start.Goals as goal
+
+pub returns-clause-left : goal.returns-clause-left
+returns-clause-left c = λ p e.
+    elim c.match-plan.branch [
+      | in-Nothing w ↦
+          started c.args.plan _ p c.match-plan.work _ w.in-Nothing.is (sym w.work-is)
+          (subst (λ (z : WholeState). IsLeft [] (Whole z)) (sym w.new.ensures.same) refl)
+      | in-Single w ↦
+          started c.args.plan _ p c.match-plan.work _ w.in-Single.is (sym w.work-is)
+          (subst (λ (z : WholeState). IsLeft (p.frame ∷ []) (Whole z)) (sym w.new-in-Single.ensures.same) (ap (λ (z : List ℕ). z ∷ []) e))
+      | in-Segments w ↦
+          let cut = w.in-Segments.cut in
+          let f : List ℕ = buffer_bytes c.args.skb in
+          let all : cut.n - 0 ≡ cut.n = omega arith in
+          started c.args.plan _ p c.match-plan.work _ w.in-Segments.is (sym w.work-is) (
+            f,
+            w.new-in-Segments.ensures.at,
+            frames_are cut p ∙ ap (λ (z : List ℕ). segments_from cut z 0 cut.n) e ∙ ap (segments_from cut f 0) (sym all)
+                ∙ ap (λ (z : MergedState). segments_from z.cut f z.i (z.cut.n - z.i)) (sym w.new-in-Segments.ensures.same),
+          )
+    ]

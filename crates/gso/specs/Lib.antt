@@ -1,0 +1,7 @@
+pub mod Sums
+pub mod Judging
+pub mod Planning
+pub mod Opening
+pub mod Merged
+pub mod Whole
+pub mod Cutting
