@@ -11,6 +11,7 @@ ghost use Rattle.gro.specs.Totals.{totals};
 ghost use Rattle.gro.specs.Steps.{held_in, packets_in, AreRuns, HasPlaces, Takes};
 
 use crate::Packet;
+use crate::candidacy::{flow_key, judge};
 use crate::flow_key::FlowKey;
 use crate::flows::{Flows, Found};
 use crate::run::Run;
@@ -148,5 +149,31 @@ impl Runs {
         ensures none { IsTrue result → (q : List ℕ) → place_of self.now.flows q ≡ None }
     {
         candidacy.layout.is_none() && self.flows.is_empty()
+    }
+
+    /// One more packet: the last run of its flow takes it, or it opens the next one.
+    pub(crate) fn receive(&mut self, packet: Packet) -> Result<(), (Packet, AllocError)>
+        requires runs { AreRuns self.old }
+        requires places { HasPlaces self.old 1 }
+        requires held { IsHeld packet }
+        requires few { totals count_of (held_in self.old) + count_of packet < 2 ^ 63 }
+        ensures takes { OnOk result (Takes self.old packet self.new) }
+        ensures back { IfErr result (λ e. (e.0 ≡ packet) × (held_in self.new ≡ held_in self.old)) }
+        ensures left { OnErr result (AreRuns self.new) }
+        ensures room { OnErr result ((n : ℕ) → HasPlaces self.old n → HasPlaces self.new n) }
+    {
+        let candidacy = judge(&packet.skb, packet.original);
+        if self.is_apart(&candidacy) {
+            self.stand_alone(packet, candidacy);
+            return Ok(());
+        }
+        let key = flow_key(&packet.skb, &candidacy);
+        match key.bytes() {
+            Some(bytes) => self.place(FlowKey::of(bytes), packet, candidacy),
+            None => {
+                self.stand_alone(packet, candidacy);
+                Ok(())
+            }
+        }
     }
 }
