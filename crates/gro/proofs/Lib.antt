@@ -10,3 +10,4 @@ mod Taking
 mod Indexing
 mod Receiving
 mod Judged
+mod Tables

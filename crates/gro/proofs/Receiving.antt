@@ -43,7 +43,7 @@ all_set P [] i y a p = tt
 all_set P (x ∷ xs) zero y a p = (p, a.1)
 all_set P (x ∷ xs) (suc i) y a p = (a.0, all_set P xs i y a.1 p)
 
-total_push : (f : Held → ℕ) (ps : List Held) (p : Held) → total f (ps ++ (p ∷ [])) ≡ total f ps + f p
+pub total_push : (f : Held → ℕ) (ps : List Held) (p : Held) → total f (ps ++ (p ∷ [])) ≡ total f ps + f p
 total_push f [] p = omega arith
 total_push f (q ∷ ps) p = omega (arith, total_push f ps p)
 
@@ -63,7 +63,7 @@ one_of_all f [] i d h = absurd (omega arith)
 one_of_all f (r ∷ rs) zero d h = omega arith
 one_of_all f (r ∷ rs) (suc i) d h = omega (arith, one_of_all f rs i d (omega arith))
 
-counts_total : (ps : List Held) → counts_of ps ≡ total count_of ps
+pub counts_total : (ps : List Held) → counts_of ps ≡ total count_of ps
 counts_total [] = refl
 counts_total (p ∷ ps) = omega (arith, counts_total ps)
 

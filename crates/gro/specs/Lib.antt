@@ -7,3 +7,4 @@ pub mod Flows
 pub mod Index
 pub mod Totals
 pub mod Steps
+pub mod Table

@@ -22,6 +22,8 @@ mod packet;
 mod places;
 mod run;
 mod runs;
+mod table;
 
 pub use item::Item;
 pub use packet::Packet;
+pub use table::RoundTable;

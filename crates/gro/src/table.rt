@@ -1,0 +1,103 @@
+//! A round's packets, run by run.
+ghost use Rattle.std.specs.Prelude.{◌≡◌, ◌+◌, ◌<◌, ◌≤◌, ◌++◌, ◌∷◌, [], List, ℕ, length, map, OnOk, IfOk, IfErr};
+ghost use Rattle.pcap_io.specs.Capture.{Packet as PacketSeen};
+ghost use Rattle.frags.specs.Account.{Keeps, both, of_outcomes};
+ghost use Rattle.frags.specs.Growth.{Grows};
+ghost use Rattle.ref_core.specs.WeightRule.{full_weight};
+ghost use Rattle.skb.specs.SkbState.{buffer_size};
+ghost use Rattle.offload_model.specs.Merged.{merged_of};
+ghost use Rattle.offload_model.specs.Rounds.{runs_in};
+ghost use Rattle.gro.specs.declared.packet.Packet.{Packet as Held};
+ghost use Rattle.gro.specs.Held.{packet_of, of_packets, count_of, counts_of, AreShared, WeighAtLeast, IsFronted, IsHeld};
+ghost use Rattle.gro.specs.Items.{item_of};
+ghost use Rattle.gro.specs.Table.{TableState, Received, of_runs, counts_in, AreItemsFrom, counts_of_items, of_items, KeepsTable, AreReady, ItemsWeighAtLeast};
+
+use crate::Packet;
+use crate::runs::Runs;
+use std::alloc::{AllocError, Global};
+use std::marker::Model;
+
+/// The packets of a round, run by run: one pass over them, in the order of their numbers. It must be spent: finished or released.
+///
+/// What it has received is told by a fact of every list of packets (`Received`): its runs are theirs, and hold all of them.
+pub struct RoundTable {
+    runs: Runs,
+    limit: u32,
+    received: u32,
+    above: u64,
+    count: usize,
+}
+
+impl Model for RoundTable {
+    ghost use Rattle.std.specs.Prelude.{map};
+    ghost use Rattle.gro.specs.Table.{TableState, IsTable};
+    ghost use Rattle.gro.specs.Steps.{held_in};
+
+    ghost Value = { TableState };
+
+    ghost view = { λ t. record { runs = held_in t.runs; limit = t.limit; received = t.received; above = t.above } };
+
+    ghost invariant = { λ t. IsTable t.runs t.limit t.received t.above t.count };
+}
+
+/// How many blocks and parts a packet holds.
+fn weigh(packet: &Packet) -> usize
+    requires front { IsFronted packet.now.skb }
+    requires short { buffer_size packet.now.skb ≤ 262144 }
+    ensures count { result ≡ count_of packet.now }
+    ensures held { IsHeld packet.now }
+    ensures few { result ≤ 262147 }
+{
+    let _ = packet.skb.len();
+    packet.skb.count() + 2
+}
+
+impl RoundTable {
+    /// An empty table for at most `limit` packets. The memory for so many runs and flows is taken here.
+    pub fn make(alloc: Global, limit: u32) -> Result<RoundTable, AllocError>
+        ensures received { IfOk result (λ t. Received [] t) }
+        ensures limit { IfOk result (λ t. t.limit ≡ limit) }
+        ensures above { IfOk result (λ t. t.above ≡ 0) }
+    {
+        let runs = Runs::with_capacity(alloc, limit as usize)?;
+        Ok(RoundTable {
+            runs,
+            limit,
+            received: 0,
+            above: 0,
+            count: 0,
+        })
+    }
+
+    /// The blocks and parts that it holds.
+    pub fn count(&self) -> usize
+        ensures count { result ≡ counts_in self.now.runs }
+    {
+        self.count
+    }
+
+    /// One more packet, with a number above those before: its flow's open run takes it, or it opens one. Where memory is refused
+    /// it comes back, and the table is as it was.
+    pub fn receive(&mut self, packet: Packet) -> Result<(), (Packet, AllocError)>
+        requires room { self.old.received < self.old.limit }
+        requires rising { self.old.above ≤ packet.number }
+        requires front { IsFronted packet.skb }
+        requires short { buffer_size packet.skb ≤ 262144 }
+        ensures received { OnOk result ((ps : List Held) → Received ps self.old → Received (ps ++ (packet ∷ [])) self.new) }
+        ensures count { OnOk result (counts_in self.new.runs ≡ counts_in self.old.runs + count_of packet) }
+        ensures many { OnOk result (self.new.received ≡ self.old.received + 1) }
+        ensures above { OnOk result (self.new.above ≡ packet.number + 1) }
+        ensures limit { self.new.limit ≡ self.old.limit }
+        ensures back { IfErr result (λ e. (e.0 ≡ packet) × (self.new ≡ self.old)) }
+    {
+        let above = packet.number as u64 + 1;
+        let count = weigh(&packet);
+        if let Err(refused) = self.runs.receive(packet) {
+            return Err(refused);
+        }
+        self.count += count;
+        self.received += 1;
+        self.above = above;
+        Ok(())
+    }
+}
