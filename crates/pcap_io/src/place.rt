@@ -1,6 +1,6 @@
 //! Where in a capture a reader stands.
 ghost use Rattle.std.specs.Prelude.{◌≡◌, false, ◌≤◌, ◌^◌, length, IfOk, OnOk, IfErr, None};
-ghost use Rattle.pcap_io.specs.Headers.{first_that_holds, head_refusals, captured_limit, is_bad_original};
+ghost use Rattle.pcap_io.specs.Headers.{first_that_holds, head_refusals, captured_limit, is_bad_original, lacks_off_head};
 ghost use Rattle.pcap_io.specs.Places.{Counted, EntersBody, first_place, IsHead, IsRefusal};
 
 use crate::judge::refuse_head;
@@ -49,6 +49,7 @@ impl Place {
         ensures fields { IfOk result (IsHead self.old head.now) }
         ensures limit { IfOk result (λ it. it.captured ≤ captured_limit self.old.link) }
         ensures original { IfOk result (λ it. is_bad_original self.old.link it.original ≡ false) }
+        ensures off_head { IfOk result (λ it. lacks_off_head self.old.link it.captured ≡ false) }
         ensures enters { IfOk result (EntersBody self.old self.new) }
         ensures counted { OnOk result (Counted self.new) }
         ensures refused { IfErr result (IsRefusal self.old

@@ -4,7 +4,7 @@ ghost use Rattle.std.specs.Borrow.{sem, RestsIfErr};
 ghost use Rattle.off_io.specs.contracts.feed.Feed.{the_row};
 ghost use Rattle.off_io.specs.Faults.{Rose};
 ghost use Rattle.off_io.specs.Told.{Told};
-ghost use Rattle.pcap_io.specs.Headers.{captured_limit, is_bad_original};
+ghost use Rattle.pcap_io.specs.Headers.{captured_limit, is_bad_original, lacks_off_head};
 ghost use Rattle.pcap_io.specs.Places.{IsReady, Counted, EntersBody, ReadsOn, first_place};
 ghost use Rattle.pcap_io.specs.Reading.{GivesHead, GivesBody, GivesFile, IsFile, IsRefused};
 ghost use Rattle.pcap_io.specs.Readers.{place_of, source_of, SameLoan};
@@ -173,6 +173,8 @@ impl<'s, S: Source> CaptureReader<'s, S> {
             (λ it. it.captured ≤ captured_limit (place_of self.old).link)) }
         ensures original { IfOk result (λ found. IfSome found
             (λ it. is_bad_original (place_of self.old).link it.original ≡ false)) }
+        ensures off_head { IfOk result (λ found. IfSome found
+            (λ it. lacks_off_head (place_of self.old).link it.captured ≡ false)) }
         ensures counted { OnOk result (Counted (place_of self.new)) }
         ensures end { IfOk result (λ found. IfNone found ((place_of self.new).is_done ≡ true)) }
         ensures refused { OnErr result ((place_of self.new).is_done ≡ true) }
