@@ -1,0 +1,90 @@
+//! Writes what runs of packets come to.
+ghost use Rattle.std.specs.Prelude.{◌≡◌, ◌+◌, ◌<◌, ◌^◌, OnOk, OnErr, All};
+ghost use Rattle.std.specs.List.{flat_map};
+ghost use Rattle.std.specs.Io.KnownBytes.{Appends};
+ghost use Rattle.off_io.specs.Faults.{HasCause};
+ghost use Rattle.off_io.specs.Content.{AppendsFront};
+ghost use Rattle.offload_model.specs.Written.{head_of as head_of_merged};
+ghost use Rattle.round_write.specs.Records.{item_of, item_bytes, FitsItem};
+
+use crate::{Time, write_record};
+use off_io::{Sink, WriteFault};
+use pcap_io::{FileHead, OffHead};
+use skb::Skb;
+
+/// What a run of packets comes to: a record that is to be written, with the number and the time of the run's first packet.
+pub struct Item {
+    pub skb: Skb,
+    pub number: u32,
+    pub sec: u32,
+    pub frac: u32,
+    pub original: u32,
+    /// How many packets there are.
+    pub n: u16,
+    /// The length of the first payload; 0 of a packet that is alone.
+    pub m: u16,
+    /// A bit for each IP header, the lowest for the first, set where that is an IPv4 header whose identification stays the
+    /// same; 0 of a packet that is alone.
+    pub modes: u8,
+}
+
+// The offload header of an item of this queue.
+fn head_of(lane: u8, item: &Item) -> OffHead
+    ensures head { result ≡ head_of_merged lane (item_of item.now) }
+{
+    OffHead {
+        version: 1,
+        kind: if item.n == 1 { 0 } else { 1 },
+        n: item.n,
+        m: item.m,
+        modes: item.modes,
+        lane,
+        number: item.number,
+    }
+}
+
+/// Writes an item of a queue as a record.
+///
+/// `WriteFault` only where the sink's count of faults rose; a front of the record was then written.
+pub fn write_item<K: Sink>(
+    sink: &mut K,
+    file: &FileHead,
+    lane: u8,
+    item: &Item,
+) -> Result<(), WriteFault>
+    requires fits { FitsItem item.now }
+    ensures ok { OnOk result (Appends (K.held sink.old) (K.held sink.new)
+        (item_bytes file.now.order lane (item_of item.now))) }
+    ensures err { OnErr result (AppendsFront (K.held sink.old) (K.held sink.new)
+        (item_bytes file.now.order lane (item_of item.now))) }
+    ensures cause { HasCause (K.faults sink.old) (K.faults sink.new) result }
+{
+    let head = head_of(lane, item);
+    let time = Time {
+        sec: item.sec,
+        frac: item.frac,
+    };
+    write_record(sink, file, time, item.original, Some(head), &item.skb)
+}
+
+/// Writes the items of a queue, each as a record.
+///
+/// `WriteFault` only where the sink's count of faults rose; a front of their output was then written.
+pub fn write_items<K: Sink>(
+    sink: &mut K,
+    file: &FileHead,
+    lane: u8,
+    items: &[Item],
+) -> Result<(), WriteFault>
+    requires fit { All FitsItem items.now }
+    ensures ok { OnOk result (Appends (K.held sink.old) (K.held sink.new)
+        (flat_map (λ item. item_bytes file.now.order lane (item_of item)) items.now)) }
+    ensures err { OnErr result (AppendsFront (K.held sink.old) (K.held sink.new)
+        (flat_map (λ item. item_bytes file.now.order lane (item_of item)) items.now)) }
+    ensures cause { HasCause (K.faults sink.old) (K.faults sink.new) result }
+{
+    for item in items {
+        write_item(sink, file, lane, item)?;
+    }
+    Ok(())
+}

@@ -1,0 +1,23 @@
+//! Writes records from buffers: one way for merged packets, single ones, segments and the windows of taps.
+//!
+//! A record is its header, maybe an offload header of 12 bytes, and a frame (pcap file format, section 5). Both headers are
+//! put together and written by one call, and then the slices of the frame's buffer, uncopied.
+//!
+//! Proved, at every sink: what was appended is exactly the record as the model has it (`record_bytes`, clauses `ok`), or a
+//! front of it where the sink's count of faults rose (`err`, `cause`).
+//!
+//! ```text
+//! write_record(&mut sink, &file, time, original, None, &segment)?;
+//! write_items(&mut sink, &file, lane, &items)?;
+//! ```
+#![tactic(auto)]
+
+mod buffer;
+mod items;
+mod record;
+#[cfg(test)]
+mod tests;
+
+pub use buffer::write_buffer;
+pub use items::{Item, write_item, write_items};
+pub use record::{Time, write_record, write_window};
