@@ -35,7 +35,7 @@ pub use frames::{
 };
 pub use need::{needs_add, needs_exceed, rounds_exceed};
 pub use passing::{
-    blocks_suffice, commands_pass_on, fronts_are_written, merging_goes_by_round, merging_stops,
+    blocks_suffice, commands_pass_on, commands_stop, fronts_are_written, merging_goes_by_round,
     records_to_whole, segmenting_goes_by_record, stops_are_one,
 };
 pub use rows::{need_rows_hold, rows_hold};
