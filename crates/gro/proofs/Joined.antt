@@ -7,6 +7,7 @@ use Rattle.frags.specs.Account.{Keeps, both, of_outcomes, at_home, soles_home, r
 use Rattle.frags.specs.OutcomesState.{OutcomesState}
 use Rattle.frags.specs.PieceList.{bytes_of, size_of, AllFit}
 use Rattle.frags.specs.declared.holder.Holder.TheVariants.{Sole}
+use Rattle.frags.specs.declared.pieces.Piece.{Piece}
 use Rattle.frags.proofs.Keeping.{length-bytes_of}
 use Rattle.skb.specs.SkbState.{SkbState, buffer_bytes, of_buffer}
 use Rattle.gro.specs.declared.packet.Packet.{Packet as Held}
@@ -14,6 +15,15 @@ use Rattle.gro.specs.Held.{IsFronted, of_packets, AreLentFrom, with_head}
 use Rattle.gro.specs.Build.{Build, build, front_of, IsSameBlock, TakesBuffer, TakesPackets, payloads}
 use Rattle.gro.specs.Items.{HoldsAll}
 use Rattle.gro.proofs.Lent.{none_lent}
+
+-- the same where the place of the payload and the pieces are read from what has them
+pub begun : (s : SkbState) (at place : ℕ) (ps : List Piece) (g : SoleState) (q : OutcomesState) (b : Build) → place ≡ at → ps ≡ []
+    → TakesBuffer s place (build g place ps q) b → TakesBuffer s at (build g at [] q) b
+begun s at place ps g q b e f t =
+    subst (λ (z : ℕ). TakesBuffer s z (build g z [] q) b) e (subst (λ (z : List Piece). TakesBuffer s place (build g place z q) b) f t)
+
+pub followed : (rs : List Held) (at place : ℕ) (b c : Build) → place ≡ at → TakesPackets rs place b c → TakesPackets rs at b c
+followed rs at place b c e t = subst (λ (z : ℕ). TakesPackets rs z b c) e t
 
 module _ (p : Held) (rs : List Held) (at : ℕ) (g : SoleState) (o q : OutcomesState) (b c : Build)
     (empty : (o.soles ≡ []) × (o.receipts ≡ []))

@@ -1,16 +1,20 @@
 -- Places and items, one after the other.
 use Rattle.std.proofs.Common.{◌≡◌, ℕ, zero, suc, ◌+◌, ◌*◌, ◌<◌, ◌≤◌, List, [], ◌∷◌, ◌++◌, length, get_or, drop, refl, sym, ap, ◌∙◌, subst, arith, append_assoc}
 use Rattle.std.specs.List.{AllByRecursion}
+use Rattle.std.specs.Prelude.{IfOk, Ok, Err, ◌==◌, false, true}
+use Rattle.std.specs.declared.alloc.AllocError.{AllocError}
+use Rattle.std.specs.declared.result.Result.{Result}
 use Rattle.std.proofs.lemmas.List.{drop_more, append-nil, nil_from_length, length-drop}
 use Rattle.gro.specs.declared.places.Places.{Places}
+use Rattle.gro.specs.declared.places.Places.TheVariants.{Alone, Several}
 use Rattle.gro.specs.declared.item.Item.{Item}
 use Rattle.gro.specs.declared.run.Run.{Run}
 use Rattle.gro.specs.declared.packet.Packet.{Packet as Held}
-use Rattle.gro.specs.Build.{pieces_in}
+use Rattle.gro.specs.Build.{pieces_in, free_in}
 use Rattle.gro.specs.Held.{counts_of}
 use Rattle.gro.specs.Items.{AreItemsOf}
-use Rattle.gro.specs.Places.{IsEmpty, AreEmpty, IsPlaceOf, ArePlacesOf}
-use Rattle.gro.specs.Runs.{IsRun}
+use Rattle.gro.specs.Places.{IsEmpty, AreEmpty, AreSeveral, IsPlaceOf, ArePlacesOf}
+use Rattle.gro.specs.Runs.{IsRun, held_of}
 
 -- two spares each, and the pieces that they come to
 pub counts_are : (ps : List Held) → counts_of ps ≡ pieces_in ps + 2 * length ps
@@ -20,6 +24,21 @@ counts_are (p ∷ ps) = omega (arith, counts_are ps)
 pub pieces_are : (ps : List Held) → length ps ≤ pieces_in ps
 pieces_are [] = omega arith
 pieces_are (p ∷ ps) = omega (arith, pieces_are ps)
+
+pub some_rest : (n : ℕ) → false ≡ (n == 0) → 1 ≤ n
+some_rest zero e = absurd (let t : false ≡ true = e in cc)
+some_rest (suc n) e = omega arith
+
+-- places of several packets serve the run that has so many
+several_are : (r : Run) (count free : ℕ) (p : Places) → 1 ≤ length r.rest.items → pieces_in (held_of r) ≤ count → free_in (held_of r) ≤ free
+    → AreSeveral count free p → IsPlaceOf r p
+several_are r count free (Alone soles) h a b s = absurd s
+several_are r count free (Several pieces out) h a b s = (h, (s.0, omega (arith, a, s.1), omega (arith, b, s.2)))
+
+pub several_serve : (r : Run) (count free : ℕ) (found : Result Places AllocError) → 1 ≤ length r.rest.items → pieces_in (held_of r) ≤ count
+    → free_in (held_of r) ≤ free → IfOk found (λ p. AreSeveral count free p) → IfOk found (λ p. IsPlaceOf r p)
+several_serve r count free (Ok p) h a b s = several_are r count free p h a b s
+several_serve r count free (Err e) h a b s = tt
 
 pub empty_more : (ps : List Places) (p : Places) → AreEmpty ps → IsEmpty p → AreEmpty (ps ++ p ∷ [])
 empty_more [] p a e = (e, tt)

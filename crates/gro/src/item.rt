@@ -6,17 +6,18 @@ ghost use Rattle.merge_rule.specs.Runs.{IsRunOf};
 ghost use Rattle.gro.specs.Build.{pieces_in, free_in};
 ghost use Rattle.gro.specs.Held.{packet_of, AreHeld};
 ghost use Rattle.gro.specs.Items.{item_of, IsItemOf, AreItemsOf};
-ghost use Rattle.gro.specs.Places.{IsEmpty, IsPlaceOf, ArePlacesOf};
+ghost use Rattle.gro.specs.Places.{IsPlaceOf, ArePlacesOf};
 ghost use Rattle.gro.specs.Runs.{IsRun, held_of, packets_of};
 
 use crate::Packet;
 use crate::build::join;
 use crate::places::Places;
 use crate::run::Run;
-use frags::Outcomes;
+use frags::{Outcomes, PieceBuilder};
 use frame_layout::Layout;
 use inet_sum::Partial;
 use merge_rule::Progress;
+use raw_block::Sole;
 use skb::Skb;
 use std::collections::VecDeque;
 
@@ -56,40 +57,26 @@ impl Run {
             flags,
             progress,
         } = self;
-        if rest.is_empty() {
-            return alone(first, rest, places);
-        }
-        match layout {
-            Some(layout) => merged(first, rest, &layout, payload, flags, progress, places),
-            None => unreachable!(),
+        match places {
+            Places::Alone(soles) => {
+                rest.destroy_empty();
+                single(first, soles)
+            }
+            Places::Several(pieces, outcomes) => {
+                let Some(layout) = layout else { unreachable!() };
+                merged(
+                    first, rest, &layout, payload, flags, progress, pieces, outcomes,
+                )
+            }
         }
     }
 }
 
-// A packet that is alone, and places that it doesn't need.
-fn alone(first: Packet, rest: VecDeque<Packet>, places: Places) -> Item
-    requires held { AreHeld (first ∷ []) }
-    requires none { rest.items ≡ [] }
-    requires empty { IsEmpty places }
-    requires places { free_in (first ∷ []) ≤ places.outcomes.spare }
-    ensures item { item_of result ≡ merged_of (packet_of first ∷ []) }
-    ensures holds { IsItemOf (first ∷ []) result }
-{
-    rest.destroy_empty();
-    let Places {
-        pieces,
-        mut outcomes,
-    } = places;
-    let none = pieces.finish();
-    none.release(&mut outcomes);
-    single(first, outcomes)
-}
-
 // A packet that is alone stays as it is.
-fn single(first: Packet, out: Outcomes) -> Item
+fn single(first: Packet, soles: Vec<Sole>) -> Item
     requires held { AreHeld (first ∷ []) }
-    requires empty { (out.soles ≡ []) × (out.receipts ≡ []) }
-    requires places { free_in (first ∷ []) ≤ out.spare }
+    requires empty { soles.items ≡ [] }
+    requires places { 2 ≤ vec_capacity soles }
     ensures item { item_of result ≡ merged_of (packet_of first ∷ []) }
     ensures holds { IsItemOf (first ∷ []) result }
 {
@@ -102,9 +89,9 @@ fn single(first: Packet, out: Outcomes) -> Item
         original,
         number,
     } = first;
-    let mut outcomes = out;
-    outcomes.keep_sole(spare1);
-    outcomes.keep_sole(spare2);
+    let mut soles = soles;
+    soles.push_reserved(spare1);
+    soles.push_reserved(spare2);
     Item {
         skb,
         number,
@@ -114,7 +101,7 @@ fn single(first: Packet, out: Outcomes) -> Item
         n: 1,
         m: 0,
         modes: 0,
-        outcomes,
+        outcomes: Outcomes::of_soles(soles),
     }
 }
 
@@ -126,14 +113,15 @@ fn merged(
     payload: Partial,
     flags: u8,
     progress: Progress,
-    places: Places,
+    pieces: PieceBuilder,
+    outcomes: Outcomes,
 ) -> Item
     requires run { IsRunOf layout.now payload flags progress (packet_of first) (packet_of first ∷ map packet_of rest.items) }
     requires several { 1 ≤ length rest.items }
     requires held { AreHeld (first ∷ rest.items) }
-    requires empty { IsEmpty places }
-    requires reserved { pieces_in (first ∷ rest.items) ≤ places.pieces.room }
-    requires room { free_in (first ∷ rest.items) ≤ places.outcomes.spare }
+    requires empty { (pieces.pieces ≡ []) × (outcomes.soles ≡ []) × (outcomes.receipts ≡ []) }
+    requires reserved { pieces_in (first ∷ rest.items) ≤ pieces.room }
+    requires room { free_in (first ∷ rest.items) ≤ outcomes.spare }
     ensures item { item_of result ≡ merged_of (packet_of first ∷ map packet_of rest.items) }
     ensures holds { IsItemOf (first ∷ rest.items) result }
 {
@@ -142,7 +130,6 @@ fn merged(
     let frac = first.frac;
     let m = (first.skb.len() - layout.payload_at()) as u16;
     let n = (rest.len() + 1) as u16;
-    let Places { pieces, outcomes } = places;
     let (skb, outcomes) = join(first, rest, layout, flags, payload, pieces, outcomes);
     let original = skb.len() as u32;
     Item {

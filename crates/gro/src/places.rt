@@ -1,31 +1,34 @@
 //! The places that items need, made before anything moves.
 ghost use Rattle.std.specs.Prelude.{◌≡◌, ◌-◌, ◌*◌, ◌≤◌, IfOk};
 ghost use Rattle.std.specs.List.{AllByRecursion};
-ghost use Rattle.gro.specs.Places.{IsEmpty, AreEmpty, IsPlaceOf, ArePlacesOf};
+ghost use Rattle.gro.specs.Places.{IsEmpty, AreEmpty, AreSeveral, IsPlaceOf, ArePlacesOf};
 ghost use Rattle.gro.specs.Runs.{IsRun};
 
 use crate::run::Run;
 use frags::{Outcomes, PieceBuilder};
+use raw_block::Sole;
 use std::alloc::{AllocError, Global};
 use std::collections::VecDeque;
 
 /// The places that a run's item needs.
-pub(crate) struct Places {
-    pub pieces: PieceBuilder,
-    pub outcomes: Outcomes,
+pub(crate) enum Places {
+    /// For both spares of a packet that is alone.
+    Alone(Vec<Sole>),
+    /// For the pieces of packets that are merged, and for what they give back.
+    Several(PieceBuilder, Outcomes),
 }
 
 // Gives places up that nothing has been moved into.
 fn give_up(places: Places)
     requires empty { IsEmpty places }
 {
-    let Places {
-        pieces,
-        mut outcomes,
-    } = places;
-    let none = pieces.finish();
-    none.release(&mut outcomes);
-    outcomes.settle();
+    match places {
+        Places::Alone(_) => (),
+        Places::Several(pieces, outcomes) => {
+            pieces.finish().discard();
+            outcomes.settle();
+        }
+    }
 }
 
 /// Gives all places up that nothing has been moved into.
@@ -39,18 +42,30 @@ pub(crate) fn give_all_up(all: VecDeque<Places>)
     all.destroy_empty();
 }
 
-// Of n packets with `count` blocks and parts, two spares each among them: how many pieces they come to, none where one is
-// alone, and how many blocks may be free beside these.
+// Of n packets with `count` blocks and parts, two spares each among them: how many pieces they come to, and how many
+// blocks may be free beside these.
 fn room_for(count: usize, n: usize) -> (usize, usize)
     requires each { 3 * n ≤ count }
-    ensures pieces { 2 ≤ n → result.0 ≡ count - 2 * n }
+    ensures pieces { result.0 ≡ count - 2 * n }
     ensures free { result.1 ≡ 3 * n }
 {
     let free = 3 * n;
-    if n == 1 {
-        return (0, free);
-    }
     (count - 2 * n, free)
+}
+
+// The places of packets that are merged.
+fn several(alloc: Global, count: usize, free: usize) -> Result<Places, AllocError>
+    ensures places { IfOk result (λ p. AreSeveral count free p) }
+{
+    let pieces = PieceBuilder::with_room(alloc, count)?;
+    let mut outcomes = Outcomes::new(alloc);
+    match outcomes.reserve(free) {
+        Ok(()) => Ok(Places::Several(pieces, outcomes)),
+        Err(error) => {
+            give_up(Places::Several(pieces, outcomes));
+            Err(error)
+        }
+    }
 }
 
 // The places that a run's item needs.
@@ -58,14 +73,12 @@ fn places_of(alloc: Global, run: &Run) -> Result<Places, AllocError>
     requires run { IsRun run.now }
     ensures places { IfOk result (λ p. IsPlaceOf run.now p) }
 {
-    let (count, free) = room_for(run.count, run.rest.len() + 1);
-    let pieces = PieceBuilder::with_room(alloc, count)?;
-    let mut outcomes = Outcomes::new(alloc);
-    if let Err(error) = outcomes.reserve(free) {
-        give_up(Places { pieces, outcomes });
-        return Err(error);
+    if run.rest.is_empty() {
+        let soles = Vec::with_capacity(alloc, 2)?;
+        return Ok(Places::Alone(soles));
     }
-    Ok(Places { pieces, outcomes })
+    let (count, free) = room_for(run.count, run.rest.len() + 1);
+    several(alloc, count, free)
 }
 
 /// The places that all runs' items need. Where there is no memory for some, all are given up.

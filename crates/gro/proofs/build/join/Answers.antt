@@ -1,12 +1,12 @@
-use Rattle.std.proofs.Common.{◌≡◌, ◌≤◌, ◌+◌, ◌++◌, ◌∷◌, [], ◌∙◌, ℕ, List, length, take, ap, subst, sym, arith}
+use Rattle.std.proofs.Common.{◌≡◌, ◌≤◌, ◌+◌, ◌++◌, ◌∷◌, ◌∙◌, ℕ, List, length, take, ap, subst, sym, arith}
 use Rattle.std.proofs.lemmas.List.{take-append-le}
-use Rattle.frags.specs.declared.pieces.Piece.{Piece}
 use Rattle.frags.specs.PieceList.{AllFit, bytes_of, size_of}
 use Rattle.frags.specs.declared.holder.Holder.TheVariants.{Sole}
+use Rattle.frags.specs.declared.pieces.Piece.{Piece}
 use Rattle.skb.specs.SkbState.{SkbState, buffer_bytes, head_bytes}
-use Rattle.gro.specs.Build.{Build, build, TakesBuffer, TakesPackets, payloads, front_of}
+use Rattle.gro.specs.Build.{Build, build, payloads, front_of}
 use Rattle.gro.specs.Items.{HoldsAll}
-use Rattle.gro.proofs.Joined.{size_is, bytes_are, holds}
+use Rattle.gro.proofs.Joined.{begun, followed, size_is, bytes_are, holds}
 use Rattle.gro.proofs.Taking.{front_size}
 use Rattle.gro.proofs.build.join.Goals as goal
 
@@ -20,15 +20,15 @@ new-requires-clause-small c =
     let all = c.take_packets-all in
     let b : Build = build one.new.block one.result one.new.pieces.pieces one.new.out in
     let d : Build = build all.new.block all.result all.new.pieces.pieces all.new.out in
-    let t : TakesBuffer a.first.skb at (build g at [] q) b =
-    subst (λ (z : ℕ). TakesBuffer a.first.skb z (build g z [] q) b) c.payload_at-at.ensures.place
-    (subst (λ (z : List Piece). TakesBuffer a.first.skb c.payload_at-at.result (build g c.payload_at-at.result z q) b) c.requires.empty.0 one.ensures.takes) in
-    let u : TakesPackets a.rest.items at b d = subst (λ (z : ℕ). TakesPackets a.rest.items z b d) c.payload_at-at.ensures.place all.ensures.takes in
+    let place = c.payload_at-at.ensures.place in
+    let t = begun a.first.skb at c.payload_at-at.result a.pieces.pieces g q b place c.requires.empty.0 one.ensures.takes in
+    let u = followed a.rest.items at c.payload_at-at.result b d place all.ensures.takes in
     let fits : AllFit all.new.pieces.pieces = subst AllFit c.finish-rest.ensures c.len.ensures.fits in
+    let long = front_size g at c.put_headers.ensures.size c.requires.low in
     omega (
       arith,
-      size_is a.first a.rest.items at g (a.out) q b d (c.requires.empty.1, c.requires.empty.2) c.put_headers.ensures.same c.keep_sole.ensures.soles c.keep_sole.ensures.receipts t u fits
-          (front_size g at c.put_headers.ensures.size c.requires.low),
+      size_is a.first a.rest.items at g a.out q b d (c.requires.empty.1, c.requires.empty.2) c.put_headers.ensures.same
+          c.keep_sole.ensures.soles c.keep_sole.ensures.receipts t u fits long,
       c.requires.payload.1,
       c.requires.few,
       ap size_of c.finish-rest.ensures,
@@ -44,16 +44,17 @@ returns-clause-bytes c = λ last flags.
     let all = c.take_packets-all in
     let b : Build = build one.new.block one.result one.new.pieces.pieces one.new.out in
     let d : Build = build all.new.block all.result all.new.pieces.pieces all.new.out in
-    let t : TakesBuffer a.first.skb at (build g at [] q) b =
-    subst (λ (z : ℕ). TakesBuffer a.first.skb z (build g z [] q) b) c.payload_at-at.ensures.place
-    (subst (λ (z : List Piece). TakesBuffer a.first.skb c.payload_at-at.result (build g c.payload_at-at.result z q) b) c.requires.empty.0 one.ensures.takes) in
-    let u : TakesPackets a.rest.items at b d = subst (λ (z : ℕ). TakesPackets a.rest.items z b d) c.payload_at-at.ensures.place all.ensures.takes in
-    let inside : at ≤ length (head_bytes a.first.skb) = omega (arith, c.requires.each.0.0, c.head.ensures.size, ap length c.head.ensures.bytes) in
+    let place = c.payload_at-at.ensures.place in
+    let t = begun a.first.skb at c.payload_at-at.result a.pieces.pieces g q b place c.requires.empty.0 one.ensures.takes in
+    let u = followed a.rest.items at c.payload_at-at.result b d place all.ensures.takes in
+    let own = head_bytes a.first.skb in
+    let inside : at ≤ length own = omega (arith, c.requires.each.0.0, c.head.ensures.size, ap length c.head.ensures.bytes) in
     let front : take at (buffer_bytes a.first.skb) ≡ take at c.head.result.now =
-    take-append-le at (head_bytes a.first.skb) (bytes_of a.first.skb.rest) inside ∙ ap (take at) (sym c.head.ensures.bytes) in
+    take-append-le at own (bytes_of a.first.skb.rest) inside ∙ ap (take at) (sym c.head.ensures.bytes) in
     ap buffer_bytes c.new.ensures.same
     ∙ ap (λ (z : List Piece). front_of all.new.block all.result ++ bytes_of z) c.finish-rest.ensures
-    ∙ bytes_are a.first a.rest.items at g (a.out) q b d (c.requires.empty.1, c.requires.empty.2) c.put_headers.ensures.same c.keep_sole.ensures.soles c.keep_sole.ensures.receipts t u
+    ∙ bytes_are a.first a.rest.items at g a.out q b d (c.requires.empty.1, c.requires.empty.2) c.put_headers.ensures.same
+    c.keep_sole.ensures.soles c.keep_sole.ensures.receipts t u
     ∙ c.put_headers.ensures.merged (buffer_bytes a.first.skb) last (payloads at (a.first ∷ a.rest.items)) front flags c.requires.payload
 
 pub returns-clause-holds : goal.returns-clause-holds
@@ -66,10 +67,11 @@ returns-clause-holds c =
     let all = c.take_packets-all in
     let b : Build = build one.new.block one.result one.new.pieces.pieces one.new.out in
     let d : Build = build all.new.block all.result all.new.pieces.pieces all.new.out in
-    let t : TakesBuffer a.first.skb at (build g at [] q) b =
-    subst (λ (z : ℕ). TakesBuffer a.first.skb z (build g z [] q) b) c.payload_at-at.ensures.place
-    (subst (λ (z : List Piece). TakesBuffer a.first.skb c.payload_at-at.result (build g c.payload_at-at.result z q) b) c.requires.empty.0 one.ensures.takes) in
-    let u : TakesPackets a.rest.items at b d = subst (λ (z : ℕ). TakesPackets a.rest.items z b d) c.payload_at-at.ensures.place all.ensures.takes in
-    let is = ap (λ (z : List Piece). record { head = Sole all.new.block; from = 64; to = 64 + all.result; rest = z }) (sym c.finish-rest.ensures) ∙ sym c.new.ensures.same in
+    let place = c.payload_at-at.ensures.place in
+    let t = begun a.first.skb at c.payload_at-at.result a.pieces.pieces g q b place c.requires.empty.0 one.ensures.takes in
+    let u = followed a.rest.items at c.payload_at-at.result b d place all.ensures.takes in
+    let with_rest : List Piece → SkbState = λ z. record { head = Sole all.new.block; from = 64; to = 64 + all.result; rest = z } in
+    let is = ap with_rest (sym c.finish-rest.ensures) ∙ sym c.new.ensures.same in
     subst (λ (z : SkbState). HoldsAll (a.first ∷ a.rest.items) z all.new.out) is
-    (holds a.first a.rest.items at g (a.out) q b d (c.requires.empty.1, c.requires.empty.2) c.put_headers.ensures.same c.keep_sole.ensures.soles c.keep_sole.ensures.receipts t u)
+    (holds a.first a.rest.items at g a.out q b d (c.requires.empty.1, c.requires.empty.2) c.put_headers.ensures.same
+    c.keep_sole.ensures.soles c.keep_sole.ensures.receipts t u)

@@ -1,6 +1,7 @@
-use Rattle.std.proofs.Common.{◌∙◌, arith}
+use Rattle.std.proofs.Common.{arith}
+use Rattle.std.specs.VecDeque.{deque_len}
 use Rattle.gro.specs.Runs.{held_of}
-use Rattle.gro.proofs.Placing.{counts_are, pieces_are}
+use Rattle.gro.proofs.Placing.{counts_are, pieces_are, several_serve, some_rest}
 use Rattle.gro.proofs.places.places_of.Goals as goal
 
 pub room_for-count-requires : goal.room_for-count-requires
@@ -10,20 +11,11 @@ room_for-count-requires c =
 
 pub returns : goal.returns
 returns c =
-    let ps = held_of c.args.run.now in
+    let r = c.args.run.now in
     let n = c.len.ensures in
     record {
-      places = record {
-        empty = (c.in_ok-pieces.ensures.empty, c.reserve.ensures.same.0 ∙ c.new-outcomes.ensures.empty.0, c.reserve.ensures.same.1 ∙ c.new-outcomes.ensures.empty.1);
-        reserved = λ several. omega (
-          arith,
-          counts_are ps,
-          c.requires.run.count,
-          c.room_for-count.ensures.pieces (omega (arith, several, n, c.args.run.now.rest.ok)),
-          c.in_ok-pieces.ensures.room,
-          n,
-          c.args.run.now.rest.ok,
-        );
-        room = omega (arith, c.in_default.ensures.room, c.room_for-count.ensures.free, n, c.args.run.now.rest.ok);
-      };
+      places = several_serve r c.room_for-count.result.0 c.room_for-count.result.1 c.several.result
+          (omega (arith, some_rest (deque_len r.rest) c.if-is_empty.ensures, r.rest.ok))
+          (omega (arith, counts_are (held_of r), c.requires.run.count, c.room_for-count.ensures.pieces, n, r.rest.ok))
+          (omega (arith, c.room_for-count.ensures.free, n, r.rest.ok)) c.several.ensures.places;
     }
