@@ -15,6 +15,8 @@
 
 mod build;
 mod candidacy;
+#[cfg(test)]
+mod candidacy_tests;
 mod flow_key;
 mod flows;
 mod item;

@@ -3,6 +3,7 @@ use Rattle.merge_rule.proofs.rule.is_next.Goals as goal
 
 pub returns : goal.returns
 returns c = record {
-  next = λ f g hf kg. next_by_head c.args.layout.now c.args.first.now c.args.first_len c.args.count c.args.progress.now.total c.args.progress.now.modes
-      c.args.next.now c.args.next_len c.continues.result f g c.requires.placed c.requires.first c.requires.next hf kg c.continues.ensures.next;
+  next = λ f g hf kg.
+      next_by_head c.args.layout.now c.requires.placed c.args.first.now c.args.first_len c.args.next.now c.args.next_len f g hf kg c.requires.first
+      c.args.count c.args.progress.now.total c.args.progress.now.modes c.continues.result c.requires.next c.continues.ensures.next;
 }
