@@ -11,3 +11,5 @@ mod Indexing
 mod Receiving
 mod Judged
 mod Tables
+mod Releasing
+mod Finishing

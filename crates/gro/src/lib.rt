@@ -22,6 +22,7 @@ mod flows;
 mod item;
 mod packet;
 mod places;
+mod release;
 mod run;
 mod runs;
 mod table;

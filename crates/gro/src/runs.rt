@@ -176,4 +176,16 @@ impl Runs {
             }
         }
     }
+
+    /// The runs alone.
+    pub(crate) fn into_list(self) -> VecDeque<Run>
+        ensures list { result ≡ self.list }
+    {
+        let Runs {
+            list,
+            flows: _,
+            alloc: _,
+        } = self;
+        list
+    }
 }

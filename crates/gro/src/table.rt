@@ -13,7 +13,11 @@ ghost use Rattle.gro.specs.Items.{item_of};
 ghost use Rattle.gro.specs.Table.{TableState, Received, of_runs, counts_in, AreItemsFrom, counts_of_items, of_items, KeepsTable, AreReady, ItemsWeighAtLeast};
 
 use crate::Packet;
+use crate::item::{Item, build_all};
+use crate::places::{all_places, give_all_up};
+use crate::release::release_runs;
 use crate::runs::Runs;
+use frags::Outcomes;
 use std::alloc::{AllocError, Global};
 use std::marker::Model;
 
@@ -99,5 +103,51 @@ impl RoundTable {
         self.received += 1;
         self.above = above;
         Ok(())
+    }
+
+    /// The items of all runs, in the order of their first packets. Where there is no memory for them the table comes back as
+    /// it was: all places are made before anything moves.
+    pub fn finish(self) -> Result<Vec<Item>, (RoundTable, AllocError)>
+        ensures items { IfOk result (λ items. AreItemsFrom self.runs items.items) }
+        ensures merged { (ps : List Held) → Received ps self → IfOk result (λ items. map item_of items.items ≡ map merged_of (runs_in (map packet_of ps))) }
+        ensures count { (ps : List Held) → Received ps self → IfOk result (λ items. counts_of_items items.items ≡ counts_of ps) }
+        ensures account { IfOk result (λ items. KeepsTable self.runs items.items) }
+        ensures shared { (ps : List Held) → Received ps self → AreShared ps → IfOk result (λ items. Keeps (of_packets ps) (of_items items.items)) }
+        ensures least { (ps : List Held) (w : ℕ) → Received ps self → w ≤ full_weight → WeighAtLeast w ps → IfOk result (λ items. ItemsWeighAtLeast w items.items) }
+        ensures ready { IfOk result (λ items. AreReady items.items) }
+        ensures back { IfErr result (λ e. e.0 ≡ self) }
+    {
+        let Ok(places) = all_places(self.runs.alloc, &self.runs.list) else {
+            return Err((self, AllocError));
+        };
+        let Ok(mut items) = Vec::with_capacity(self.runs.alloc, self.runs.list.len()) else {
+            give_all_up(places);
+            return Err((self, AllocError));
+        };
+        let RoundTable {
+            runs,
+            limit: _,
+            received: _,
+            above: _,
+            count: _,
+        } = self;
+        build_all(runs.into_list(), places, &mut items);
+        Ok(items)
+    }
+
+    /// Gives all buffers and spares back.
+    pub fn release(self, out: &mut Outcomes)
+        requires room { counts_in self.runs ≤ out.old.spare }
+        ensures kept { Keeps (both (of_runs self.runs) (of_outcomes out.old)) (of_outcomes out.new) }
+        ensures grows { Grows (counts_in self.runs) out.old out.new }
+    {
+        let RoundTable {
+            runs,
+            limit: _,
+            received: _,
+            above: _,
+            count: _,
+        } = self;
+        release_runs(runs.into_list(), out);
     }
 }

@@ -1,0 +1,32 @@
+use Rattle.std.proofs.Common.{◌≡◌, List, ap, subst}
+use Rattle.gro.specs.declared.item.Item.{Item}
+use Rattle.gro.specs.declared.run.Run.{Run}
+use Rattle.gro.specs.Items.{AreItemsOf}
+use Rattle.gro.specs.Table.{TableState, AreItemsFrom}
+use Rattle.gro.proofs.Finishing.{items_from, items_account, items_ready, received_merged, received_count, received_shared, received_least}
+use Rattle.gro.proofs.table.RoundTable.finish.Goals as goal
+
+pub returns-clause-items : goal.returns-clause-items
+returns-clause-items c =
+    let is : List Item = c.build_all.new.items.items in
+    let list : c.into_list.result ≡ c.self.inside.runs.list = c.into_list.ensures.list in
+    subst (λ (z : TableState). AreItemsFrom z.runs is) c.self.view_is
+    (items_from c.self.inside.runs.list.items is (subst (λ (z : List Run). AreItemsOf z is) (ap (λ l. l.items) list) c.build_all.ensures.items))
+
+pub returns-clause-merged : goal.returns-clause-merged
+returns-clause-merged c = λ ps r. received_merged ps c.args.self c.build_all.new.items.items r (returns-clause-items c)
+
+pub returns-clause-count : goal.returns-clause-count
+returns-clause-count c = λ ps r. received_count ps c.args.self c.build_all.new.items.items r (returns-clause-items c)
+
+pub returns-clause-account : goal.returns-clause-account
+returns-clause-account c = items_account c.args.self.runs c.build_all.new.items.items (returns-clause-items c)
+
+pub returns-clause-shared : goal.returns-clause-shared
+returns-clause-shared c = λ ps r s. received_shared ps c.args.self c.build_all.new.items.items r s (returns-clause-items c)
+
+pub returns-clause-least : goal.returns-clause-least
+returns-clause-least c = λ ps w r f s. received_least ps w c.args.self c.build_all.new.items.items r f s (returns-clause-items c)
+
+pub returns-clause-ready : goal.returns-clause-ready
+returns-clause-ready c = items_ready c.args.self.runs c.build_all.new.items.items (returns-clause-items c)
