@@ -10,6 +10,7 @@ use pcap_io::{FileHead, OffHead, Order};
 use raw_block::Sole;
 use skb::Skb;
 use std::alloc::{AllocError, Global};
+use std::process::Abort;
 use std::test::Fail;
 
 const FILE: FileHead = FileHead {
@@ -85,7 +86,12 @@ fn records_are_headers_and_slices(rt: HostRuntime) -> Result<(), Fail> {
         assert_eq!(rt; write(&mut sink, &items), Err(WriteFault));
         assert!(rt; WRITTEN.starts_with(sink.bytes()));
     }
-    while let Some(item) = items.pop() {
+    go_home(&rt, items, out);
+    Ok(())
+}
+
+fn go_home<A: Abort>(rt: &A, mut items: Vec<Item>, mut out: Outcomes) {
+    'items: while let Some(item) = items.pop() {
         let Item {
             skb,
             number: _,
@@ -100,7 +106,6 @@ fn records_are_headers_and_slices(rt: HostRuntime) -> Result<(), Fail> {
         skb.release(&mut out);
     }
     items.destroy_empty();
-    while let Some(_) = out.pop_sole() {}
+    'soles: while let Some(_) = out.pop_sole() {}
     out.settle();
-    Ok(())
 }
