@@ -18,6 +18,8 @@
 #![tactic(auto)]
 
 mod command;
+#[cfg(test)]
+mod hostile;
 mod laws;
 mod logging;
 mod make;

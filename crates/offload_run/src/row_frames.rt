@@ -9,6 +9,8 @@ pub struct Frame {
     pub tags: u8,
     // The version of the outer IP header of a tunnel; 0 where there is no tunnel.
     pub tunnel: u8,
+    // How many tunnels there are, one in the other, where there is one.
+    pub tunnels: u8,
     pub outer_id: u16,
     pub has_udp_sum: bool,
     // The version of the IP header below TCP.
@@ -39,6 +41,7 @@ pub enum Sum {
 pub const PLAIN: Frame = Frame {
     tags: 0,
     tunnel: 0,
+    tunnels: 1,
     outer_id: 7,
     has_udp_sum: false,
     ip: 4,
@@ -207,7 +210,9 @@ fn bytes_of(alloc: Global, frame: &Frame) -> Result<Vec<u8>, AllocError> {
     let packet = with_ip(alloc, frame, frame.ip, frame.id, 6, &segment)?;
     let mut bytes = with_ethernet(alloc, frame.tags, frame.ip, &packet)?;
     if frame.tunnel != 0 {
-        bytes = with_tunnel(alloc, frame, &bytes)?;
+        for _ in 0..frame.tunnels {
+            bytes = with_tunnel(alloc, frame, &bytes)?;
+        }
     }
     for _ in 0..frame.padding {
         bytes.push(0)?;

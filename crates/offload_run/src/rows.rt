@@ -545,6 +545,21 @@ fn rows_of_frames(rt: HostRuntime) -> Result<(), Fail> {
             652577484,
         ),
         (
+            "a tunnel in a tunnel, of no flow, between two segments",
+            [
+                PLAIN,
+                Frame {
+                    tunnel: 4,
+                    tunnels: 2,
+                    ..PLAIN
+                },
+                NEXT,
+            ]
+            .as_slice(),
+            [(0, 2, 100, 0, 254), (1, 1, 0, 0, 254)].as_slice(),
+            2884561502,
+        ),
+        (
             "the deepest layout",
             [
                 Frame {

@@ -1,0 +1,298 @@
+//! Captures that end early, records that were edited by hand and an outside that fails, as rows of a run: how it ends, the line of the
+//! log, and how much is written.
+//!
+//! The numbers follow from the formats by hand: a file header of 24 bytes, a record header of 16, an offload header of 12.
+
+use crate::Status;
+use crate::rows::hash;
+use crate::tests::{CAPTURE, Ended, MERGED, SINGLES, refused, run_line};
+use pcap_io::CapKind;
+use std::alloc::{AllocError, Global};
+use std::test::Fail;
+
+const SEGMENT: &str = "offload segment";
+
+// The status, the line of the log, and how many bytes are written.
+type Want = (Status, &'static str, usize);
+
+// What segmenting gives: both packets with the time of the first.
+fn packets() -> [u8; 170] {
+    let mut bytes = CAPTURE;
+    bytes[102] = 0;
+    bytes
+}
+
+// Whether a run ended as a row wants, with a front of this output, and flushed where the file header was taken.
+fn is_as_wanted(ended: &Ended, want: Want, output: &[u8]) -> bool {
+    let (status, line, len) = want;
+    ended.status == status
+        && ended.log.bytes() == line.as_bytes()
+        && ended.sink.bytes().len() == len
+        && output.starts_with(ended.sink.bytes())
+        && ended.sink.is_flushed()
+}
+
+// The want of the first bytes of a capture whose first record ends at `first`, behind which `one` bytes are written.
+fn want_of_cut(len: usize, first: usize, one: usize) -> Want {
+    if len < 24 {
+        let line = "malformed: ShortHeader at 0 in record 0\n";
+        return (refused(CapKind::ShortHeader, 0, 0), line, 0);
+    }
+    if len == 24 || len == first {
+        return (Status::Ok, "", if len == 24 { 24 } else { one });
+    }
+    if len < 40 {
+        let line = "malformed: ShortRecordHeader at 24 in record 0\n";
+        return (refused(CapKind::ShortRecordHeader, 24, 0), line, 24);
+    }
+    if len < first {
+        let line = "malformed: ShortRecord at 24 in record 0\n";
+        return (refused(CapKind::ShortRecord, 24, 0), line, 24);
+    }
+    if len < 114 {
+        let line = "malformed: ShortRecordHeader at 98 in record 1\n";
+        return (refused(CapKind::ShortRecordHeader, 98, 1), line, one);
+    }
+    let line = "malformed: ShortRecord at 98 in record 1\n";
+    (refused(CapKind::ShortRecord, 98, 1), line, one)
+}
+
+#[test]
+fn captures_cut_at_each_place(rt: HostRuntime) -> Result<(), Fail> {
+    for len in 0..170 {
+        let ended = run_line(rt.alloc(), "offload merge", &CAPTURE[..len], 64, &[], &[])?;
+        let want = want_of_cut(len, 98, 110);
+        assert!(rt; is_as_wanted(&ended, want, &SINGLES), "merge, {len} bytes");
+    }
+    let packets = packets();
+    for len in 0..113 {
+        let ended = run_line(rt.alloc(), SEGMENT, &MERGED[..len], 64, &[], &[])?;
+        let want = want_of_cut(len, 112, 170);
+        assert!(rt;
+            is_as_wanted(&ended, want, &packets),
+            "segment, {len} bytes"
+        );
+    }
+    Ok(())
+}
+
+// The first eight bytes of an offload header (version, kind, n, m, modes, where) in the place of those of the merged record, which are
+// 1, 1, 2, 4, 0 and 0 and have six bytes of payload behind them.
+const REFUSED: [[u8; 8]; 16] = [
+    [0, 1, 0, 2, 0, 4, 0, 0],
+    [2, 1, 0, 2, 0, 4, 0, 0],
+    [1, 3, 0, 2, 0, 4, 0, 0],
+    [1, 1, 0, 2, 0, 4, 0, 64],
+    [1, 1, 0, 1, 0, 4, 0, 0],
+    [1, 1, 0, 3, 0, 4, 0, 0],
+    [1, 1, 255, 255, 0, 4, 0, 0],
+    [1, 1, 0, 2, 0, 0, 0, 0],
+    [1, 1, 0, 2, 0, 2, 0, 0],
+    [1, 1, 0, 2, 0, 6, 0, 0],
+    [1, 1, 0, 2, 255, 4, 0, 0],
+    [1, 1, 0, 2, 0, 4, 2, 0],
+    [1, 1, 0, 2, 0, 4, 4, 0],
+    [1, 0, 0, 1, 0, 0, 0, 64],
+    [1, 0, 0, 2, 0, 0, 0, 0],
+    [1, 2, 0, 0, 0, 0, 0, 8],
+];
+
+// Those that are taken, how much is written, and its hash by `contrib/by_definition.py`.
+const TAKEN: [([u8; 8], usize, u32); 6] = [
+    ([1, 1, 0, 2, 0, 4, 0, 63], 170, 2226559973),
+    ([1, 1, 0, 2, 0, 5, 0, 0], 170, 3048609287),
+    ([1, 1, 0, 2, 0, 3, 0, 0], 170, 292049363),
+    ([1, 1, 0, 2, 0, 4, 1, 0], 170, 2247594149),
+    ([1, 0, 0, 1, 0, 0, 0, 0], 100, 1886162403),
+    ([1, 2, 0, 0, 0, 0, 0, 7], 24, 2459910643),
+];
+
+fn with_head(head: [u8; 8]) -> [u8; 112] {
+    let mut bytes = MERGED;
+    bytes[40..48].copy_from_slice(&head);
+    bytes
+}
+
+#[test]
+fn offload_headers_edited_by_hand(rt: HostRuntime) -> Result<(), Fail> {
+    let line = "malformed: BadOffload at 24 in record 0\n";
+    let want = (refused(CapKind::BadOffload, 24, 0), line, 24);
+    for head in REFUSED {
+        let ended = run_line(rt.alloc(), SEGMENT, &with_head(head), 64, &[], &[])?;
+        assert!(rt; is_as_wanted(&ended, want, &CAPTURE), "head {head:?}");
+    }
+    for (head, len, hashed) in TAKEN {
+        let ended = run_line(rt.alloc(), SEGMENT, &with_head(head), 64, &[], &[])?;
+        let output = ended.sink.bytes();
+        assert!(rt;
+            is_as_wanted(&ended, (Status::Ok, "", len), output),
+            "head {head:?}"
+        );
+        assert_eq!(rt; hash(output), hashed, "head {head:?}");
+    }
+    Ok(())
+}
+
+// Two bytes of a capture, each by its place, and what is wanted of it then.
+#[test]
+fn lengths_and_sums_edited_by_hand(rt: HostRuntime) -> Result<(), Fail> {
+    let line = "malformed: BadOffload at 24 in record 0\n";
+    let bad = (refused(CapKind::BadOffload, 24, 0), line, 24);
+    let line = "malformed: BadOriginal at 24 in record 0\n";
+    let bad_original = (refused(CapKind::BadOriginal, 24, 0), line, 24);
+    let line = "malformed: TooLong at 24 in record 0\n";
+    let too_long = (refused(CapKind::TooLong, 24, 0), line, 24);
+    let rows = [
+        // The original length; one bit of the IPv4 total length, and of the TCP sum.
+        (36, 71, 37, 0, bad),
+        (69, 0x2f, 68, 0, bad),
+        (103, 0xe5, 102, 0xbc, bad),
+        // A captured length of 11, and then an original one of 12 and of 11.
+        (32, 11, 36, 12, bad),
+        (32, 11, 36, 11, bad_original),
+        // An original length, and a captured one, above what there may be.
+        (39, 0x80, 36, 12, bad_original),
+        (34, 4, 32, 13, too_long),
+    ];
+    for (a, first, b, second, want) in rows {
+        let mut input = MERGED;
+        if a < 112 {
+            input[a] = first;
+        }
+        if b < 112 {
+            input[b] = second;
+        }
+        let ended = run_line(rt.alloc(), SEGMENT, &input, 64, &[], &[])?;
+        assert!(rt; is_as_wanted(&ended, want, &CAPTURE), "{first} at {a}");
+    }
+    // A packet whose IPv4 total length is two more than there is stays by itself.
+    let (mut input, mut output) = (CAPTURE, SINGLES);
+    input[57] = 0x2e;
+    output[69] = 0x2e;
+    let ended = run_line(rt.alloc(), "offload merge", &input, 64, &[], &[])?;
+    assert!(rt; is_as_wanted(&ended, (Status::Ok, "", 194), &output));
+    Ok(())
+}
+
+// The step, how many reads the file header, each record and the end take, and how many writes and flushes all of it: of two packets that
+// are written as singles, and of the one record that they are merged to, segmented.
+const SINGLE_CALLS: [(usize, [u64; 4], u64); 3] = [
+    (1, [24, 74, 72, 1], 195),
+    (7, [4, 12, 11, 1], 32),
+    (64, [1, 2, 2, 1], 8),
+];
+
+const SEGMENT_CALLS: [(usize, [u64; 4], u64); 3] = [
+    (1, [24, 88, 1, 0], 171),
+    (7, [4, 14, 1, 0], 29),
+    (64, [1, 3, 1, 0], 8),
+];
+
+// A line of words, its input, and what it writes where no call fails.
+#[derive(Clone, Copy)]
+struct Whole<'a> {
+    line: &'a str,
+    input: &'a [u8],
+    output: &'a [u8],
+}
+
+// The first read that fails and isn't answered by what is written then (`lens`, of the parts of `reads`).
+fn first_wrong_read(
+    alloc: Global,
+    whole: Whole,
+    step: usize,
+    reads: [u64; 4],
+    lens: [usize; 4],
+) -> Result<Option<u64>, AllocError> {
+    let mut call = 0u64;
+    for (count, len) in reads.into_iter().zip(lens) {
+        for _ in 0..count {
+            let ended = run_line(alloc, whole.line, whole.input, step, &[call], &[])?;
+            let want = (Status::ReadFault, "read fault\n", len);
+            if !is_as_wanted(&ended, want, whole.output) {
+                return Ok(Some(call));
+            }
+            call = call.saturating_add(1);
+        }
+    }
+    Ok(None)
+}
+
+// The first write or flush that fails and isn't answered by a front of the output, the whole of it where the flush fails.
+fn first_wrong_write(
+    alloc: Global,
+    whole: Whole,
+    step: usize,
+    writes: u64,
+) -> Result<Option<u64>, AllocError> {
+    for call in 0..writes {
+        let ended = run_line(alloc, whole.line, whole.input, step, &[], &[call])?;
+        let len = ended.sink.bytes().len();
+        let is_last = call.saturating_add(1) == writes;
+        let has_len = if is_last {
+            len == whole.output.len()
+        } else {
+            step > 1 || len as u64 == call
+        };
+        let is_front = whole.output.starts_with(ended.sink.bytes());
+        let is_told = ended.log.bytes() == b"write fault\n".as_slice();
+        if ended.status != Status::WriteFault || !has_len || !is_front || !is_told {
+            return Ok(Some(call));
+        }
+    }
+    Ok(None)
+}
+
+// Whether a run ends well whose failing calls lie behind the last ones.
+fn ends_well(
+    alloc: Global,
+    whole: Whole,
+    step: usize,
+    reads: [u64; 4],
+    writes: u64,
+) -> Result<bool, AllocError> {
+    let mut count = 0u64;
+    for own in reads {
+        count = count.saturating_add(own);
+    }
+    let ended = run_line(alloc, whole.line, whole.input, step, &[count], &[writes])?;
+    let want = (Status::Ok, "", whole.output.len());
+    Ok(is_as_wanted(&ended, want, whole.output))
+}
+
+#[test]
+fn each_call_of_merge_fails_in_turn(rt: HostRuntime) -> Result<(), Fail> {
+    let whole = Whole {
+        line: "offload merge --budget 1",
+        input: &CAPTURE,
+        output: &SINGLES,
+    };
+    for (step, reads, writes) in SINGLE_CALLS {
+        let lens = [0, 24, 110, 194];
+        let wrong = first_wrong_read(rt.alloc(), whole, step, reads, lens)?;
+        assert_eq!(rt; wrong, None, "reads at step {step}");
+        let wrong = first_wrong_write(rt.alloc(), whole, step, writes)?;
+        assert_eq!(rt; wrong, None, "writes at step {step}");
+        assert!(rt; ends_well(rt.alloc(), whole, step, reads, writes)?);
+    }
+    Ok(())
+}
+
+#[test]
+fn each_call_of_segment_fails_in_turn(rt: HostRuntime) -> Result<(), Fail> {
+    let packets = packets();
+    let whole = Whole {
+        line: SEGMENT,
+        input: &MERGED,
+        output: &packets,
+    };
+    for (step, reads, writes) in SEGMENT_CALLS {
+        let lens = [0, 24, 170, 170];
+        let wrong = first_wrong_read(rt.alloc(), whole, step, reads, lens)?;
+        assert_eq!(rt; wrong, None, "reads at step {step}");
+        let wrong = first_wrong_write(rt.alloc(), whole, step, writes)?;
+        assert_eq!(rt; wrong, None, "writes at step {step}");
+        assert!(rt; ends_well(rt.alloc(), whole, step, reads, writes)?);
+    }
+    Ok(())
+}
