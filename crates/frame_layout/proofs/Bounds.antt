@@ -22,19 +22,22 @@ decides_far : (l : Layer) (at : ℕ) → Decides (is_far l at) (IsFar l at)
 decides_far Tag at = decides_le 2 at
 decides_far _ at = always
 
--- of the frame's bytes the first 200 are asked
-pub bounds_in : (f : List ℕ) → ((k : ℕ) → k < 200 → byte f k < 256) → (l : Layout) → shape_of f ≡ Some l → (l.payload_at ≤ 200) × (key_size l.headers ≤ 119) × AtHeaders IsFar l.headers × (54 ≤ l.payload_at)
-bounds_in f small l e =
-    let i : IsListed (λ ks. nat_le 54 (ends 0 ks) && nat_le (ends 0 ks) 160) 0 f l = listed f (λ ks. nat_le 54 (ends 0 ks) && nat_le (ends 0 ks) 160) refl l e in
+-- the headers end between place 54, where there is no tag and no tunnel, and 200. Of the frame's bytes the first 200 are asked
+pub ends_within : (f : List ℕ) → ((k : ℕ) → k < 200 → byte f k < 256) → (l : Layout) → shape_of f ≡ Some l → (54 ≤ l.payload_at) × (l.payload_at ≤ 200)
+ends_within f small l e =
+    let test : List Layer → Bool = λ ks. nat_le 54 (ends 0 ks) && nat_le (ends 0 ks) 160 in
+    let i : IsListed test 0 f l = listed f test refl l e in
     let p = and_parts (nat_le 54 (ends 0 i.kinds)) (nat_le (ends 0 i.kinds) 160) i.passes in (
-      subst (λ z. z.payload_at ≤ 200) i.is (omega (arith, leb-true (ends 0 i.kinds) 160 p.1, i.few (λ k h. small k (omega (arith, leb-true (ends 0 i.kinds) 160 p.1))))),
-      leb-true _ _ (shape_passes f (λ hs. nat_le (key_size hs) 119) refl l e),
-      (decides_headers is_far IsFar decides_far l.headers).0 (shape_passes f (all_headers is_far) refl l e),
       subst (λ z. 54 ≤ z.payload_at) i.is (omega (arith, leb-true 54 (ends 0 i.kinds) p.0)),
+      subst (λ z. z.payload_at ≤ 200) i.is (omega (arith, leb-true (ends 0 i.kinds) 160 p.1, i.few (λ k h. small k (omega (arith, leb-true (ends 0 i.kinds) 160 p.1))))),
     )
 
-pub bounds : (f : List ℕ) → ((k : ℕ) → byte f k < 256) → (l : Layout) → shape_of f ≡ Some l → (l.payload_at ≤ 200) × (key_size l.headers ≤ 119) × AtHeaders IsFar l.headers × (54 ≤ l.payload_at)
-bounds f small l e = bounds_in f (λ k h. small k) l e
+pub bounds : (f : List ℕ) → ((k : ℕ) → byte f k < 256) → (l : Layout) → shape_of f ≡ Some l → (l.payload_at ≤ 200) × (key_size l.headers ≤ 119) × AtHeaders IsFar l.headers
+bounds f small l e = (
+  (ends_within f (λ k h. small k) l e).1,
+  leb-true _ _ (shape_passes f (λ hs. nat_le (key_size hs) 119) refl l e),
+  (decides_headers is_far IsFar decides_far l.headers).0 (shape_passes f (all_headers is_far) refl l e),
+)
 
 pub all_there : (n start end : ℕ) (hs : List Header) → AreLaid start hs end → end ≤ n → AtHeaders IsFar hs → AtHeaders (IsThere n) hs
 all_there n start end [] laid fits far = tt
@@ -53,11 +56,11 @@ pub record IsPlaced (f : List ℕ) (l : Layout) : Type 0 where
 pub placed : (f : List ℕ) → ((k : ℕ) → byte f k < 256) → (l : Layout) → Some l ≡ shape_of f → IsPlaced f l
 placed f small l e =
     let a : AreLaid 0 l.headers l.payload_at × (l.payload_at ≤ length f) = laid f l (sym e) in
-    let b : (l.payload_at ≤ 200) × (key_size l.headers ≤ 119) × AtHeaders IsFar l.headers × (54 ≤ l.payload_at) = bounds f small l (sym e) in
+    let b : (l.payload_at ≤ 200) × (key_size l.headers ≤ 119) × AtHeaders IsFar l.headers = bounds f small l (sym e) in
     record {
       laid = a.0;
       within = a.1;
-      least = b.3;
+      least = (ends_within f (λ k h. small k) l (sym e)).0;
       low = b.0;
       light = b.1;
       there = all_there (length f) 0 l.payload_at l.headers a.0 a.1 b.2;
