@@ -12,10 +12,9 @@ use denote.Steps.{nothing}
 use base.Stored.{Gv}
 use Rattle.ref_core.specs.WeightRule.{full_weight}
 use Rattle.raw_block.specs.Views.{LifeNames}
-use Rattle.raw_block.specs.Shares.{was}
+use Rattle.raw_block.specs.Shares.{was, about, entry, block, held, owned, share_owns, given_back_owns, told, tells, released_at, released_owns, claimed_at, claimed_owns, seen_owns}
 use Rattle.raw_block.specs.Heap.{heap_owns}
 use Rattle.raw_block.specs.contracts.block.Block.{the_row}
-use Rattle.raw_block.specs.Shares.{about, entry, block, held, owned, share_owns, given_back_owns, told, tells, released_at, released_owns, claimed_at, claimed_owns, seen_owns}
 use Rattle.raw_block.proofs.Opening.{regained}
 
 module _ {M : Type 1} {𝓤 : Ura M} (𝓛 : Logic 𝓤) where

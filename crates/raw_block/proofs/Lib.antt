@@ -9,3 +9,4 @@ mod Ranges
 mod Sent
 mod Sharing
 mod Steps
+mod Walking

@@ -30,10 +30,9 @@ use types.Growing.{latest_new}
 use base.Growing.{latest}
 use Rattle.ref_core.specs.WeightRule.{full_weight, IsBalanced}
 use Rattle.raw_block.specs.Views.{LifeNames}
-use Rattle.raw_block.specs.Shares.{Log}
+use Rattle.raw_block.specs.Shares.{Log, about, entry, kept, offset, block, content_at, seen, whole_with, state, alive, Inv, owned, share_at, freed}
 use Rattle.raw_block.specs.Heap.{may_free}
 use Rattle.raw_block.specs.contracts.block.Block.{the_row}
-use Rattle.raw_block.specs.Shares.{about, entry, kept, offset, block, content_at, seen, whole_with, state, alive, Inv, owned, share_at, freed}
 use Rattle.raw_block.proofs.Entries.{kept_in, kept_cut, entry_new, entry_cut}
 
 module _ {M : Type 1} {𝓤 : Ura M} (𝓛 : Logic 𝓤) where

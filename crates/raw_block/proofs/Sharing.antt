@@ -1,11 +1,10 @@
 -- Shares are cut and joined, and so is what was given back. Assumes `Logic`.
 use Rattle.std.proofs.Common.{◌≡◌, ℕ, ◌+◌, ◌-◌, ◌<◌, ◌≤◌, [], ◌∷◌, refl, sym, arith}
 use seplogic.Ra.Ura.{Ura}
-use base.Logic.{SProp, ent, sep, via, never, never_e, fst∗, snd∗}
+use base.Logic.{SProp, ent, sep, via, never, never_e, fst∗, snd∗, guard}
 use base.Fml.{Fml, ftrue, finv}
 use types.Logic.{Logic, sem}
 use types.Kit.{‵, ◌⊛◌, given, ◌$◌, ◌∵◌, !, qed, by, move, keep, drop, split, fsplit, fsplit3, fjoin, fjoin3, fpick, fpack, learn, check, rewrite, frame, use1, use2, done}
-use base.Logic.{guard}
 use denote.RattleType.{RattleType, RowLaws}
 use denote.RawPtr.{Ptr, block_ptr, null_ptr}
 use denote.SharingLaws.{contraction}

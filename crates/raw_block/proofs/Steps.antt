@@ -1,7 +1,7 @@
 -- One step on a block's word, under its life's invariant. Assumes `Logic`.
 use Rattle.std.proofs.Common.{◌≢◌, ◌≡◌, ℕ, ◌+◌, ◌-◌, ◌%◌, ◌^◌, ◌<◌, ◌≤◌, eqb, List, [], ◌∷◌, ◌++◌, sym, refl, subst, arith, eq-eqb, ne_eqb, w64}
 use mathlib.Core.Bool.{Bool, true, false}
-use mathlib.Core.List.{Mem, not-mem-nil}
+use mathlib.Core.List.{Mem, not-mem-nil, prefix-append}
 use mathlib.Core.Logic.{dite}
 use native.Mathlib.Decide.{ℕ_discrete}
 use seplogic.Ra.Ura.{Ura}
@@ -19,10 +19,9 @@ use denote.Steps.{nothing}
 use Rattle.core.specs.Sync.RawAtomic.{Shift, rests, ends, enters, leaves, along, if_none, shifted, back, found, asks, always, word}
 use types.Growing.{latest_grows, latest_shows}
 use base.Growing.{latest, at_least}
-use mathlib.Core.List.{prefix-append}
 use Rattle.ref_core.specs.WeightRule.{full_weight, IsBalanced}
 use Rattle.raw_block.specs.Views.{LifeNames}
-use Rattle.raw_block.specs.Shares.{About, about, Log, reached, was, entry, kept, beside_word, state, alive, Inv, held, freed, told, tells}
+use Rattle.raw_block.specs.Shares.{About, about, Log, reached, was, entry, kept, beside_word, state, alive, Inv, held, told, tells}
 use Rattle.raw_block.proofs.Entries.{kept_glue, kept_whole, entry_cut, Fit, entry_glue}
 
 module _ {M : Type 1} {𝓤 : Ura M} (𝓛 : Logic 𝓤) (R : RattleType) (b o : ℕ) (γ : LifeNames) (x : R.Denot) (mark a : ℕ) where
@@ -103,9 +102,6 @@ module _ {M : Type 1} {𝓤 : Ura M} (𝓛 : Logic 𝓤) (R : RattleType) (b o :
   module _ (w : ℕ) (some_weight : 0 < w) (small : w ≤ full_weight) where
     abbrev Mine : Fml
     Mine = held R b o γ x mark a w
-
-    abbrev Freed : Fml
-    Freed = freed R b o γ x mark a w
 
     dies_with : ⟦ fdead κ ⟧ ∗ ⟦ Mine ⟧ ⊢ never 𝓤
     dies_with = qed 𝓛 (‵ (fdead κ) ∷ ‵ Mine ∷ []) ∵ move ! (1 ∷ []) $ fsplit ! $ keep ! (2 ∷ 1 ∷ []) $ by ! (not_dead w (never 𝓤))

@@ -1,44 +1,19 @@
 -- `into_box` makes the box again.
 use Rattle.std.proofs.Common.{◌≡◌, List, [], ◌∷◌, refl, sym, ap, subst}
 use lib.Dec.{T as T'}
-use mir.Syntax.{Dict, a_type, dcons, dnil, impl, tcons, tnil}
-use mir.Raw.{raw as bare}
-use mir.Val.{Val, vptr, has_ty, WT}
-use mir.MapTy.{inst_fn}
-use base.Fraction.{full_share}
-use base.Logic.{SProp, emp, id⊢, guard_i}
-use base.Fml.{Lft, Share, ftrue, flft}
-use types.Logic.{sem}
+use mir.Val.{has_ty, WT}
 use types.Kit.{Item, ‵, raw, ◌⊛◌, given, some, later, at_ret, ◌$◌, ◌∵◌, !, qed, by, move, keep, drop, split, split3, join, fsplit, fjoin, fjoin3, pick, learn, use0, use1, await, feq_i}
-use types.Run.{stop, fld, of_opd, no_more, and_then, first, blocks, exec, returns, enter}
-use types.ByLocal.{alloc_all, pass_all, free_all, look_at, get, get_in, sets, lands_last, is, env}
-use types.Part.{sub, whole}
-use contract.Monad.{fact, fact_i, fact_use}
-use contract.Running.{tables, tables_of}
-use contract.BorrowLft.{◌⊑◌, ⊑_static}
-use denote.Exit.{yes, no}
-use denote.RattleType.{RattleType, owns}
-use denote.RawPtr.{Ptr, InBlock, block_ptr, ptr_val, block_of, count_of, at_block}
-use denote.Signature.{types_at, plain}
-use denote.Steps.{nothing, only, heard}
-use denote.Param.{param, arg, layout, bounded}
-use denote.Param.Laws.{Laws, arg_laws}
-use denote.Param.NoDrop.{glues}
-use denote.Triple.Clauses.{Lasts, lasts}
-use denote.Triple.Spec.{triple_of}
+use Rattle.raw_block.proofs.Walking.{Dict, a_type, dcons, dnil, impl, tcons, tnil, bare, Val, vptr, inst_fn, full_share, SProp, emp, id⊢, guard_i, Lft, Share, ftrue, flft, sem, stop, fld, of_opd, no_more, and_then, first}
+use Rattle.raw_block.proofs.Walking.{blocks, exec, returns, enter, alloc_all, pass_all, free_all, look_at, get, get_in, sets, lands_last, is, env, sub, whole, fact, fact_i, fact_use, tables, tables_of, ◌⊑◌, ⊑_static, yes, no}
+use Rattle.raw_block.proofs.Walking.{RattleType, owns, Ptr, InBlock, block_ptr, ptr_val, block_of, count_of, at_block, types_at, plain, nothing, only, heard, param, arg, layout, bounded, Laws, arg_laws, glues, Lasts, lasts}
+use Rattle.raw_block.proofs.Walking.{triple_of, Stays, stay_dropped, walk_of, Goes-dropped, tail, proved, leaves, fm, box_out, box_in, ghosts, dict}
 use denote.Triple.Call.{calls_at_last}
-use denote.Triple.Walked.{Stays, stay_dropped, walk_of, Goes-dropped}
-use Rattle.core.proofs.atomic.Steps.{tail}
-use Rattle.atomic_table.proofs.Walks.{proved, leaves}
-use Rattle.atomic_table.proofs.Calls.{fm}
 use Rattle.std_alloc.proofs.BoxSteps.Form as box
-use Rattle.std_alloc.proofs.BoxSteps.Steps.{box_out, box_in}
 use Rattle.std_alloc.specs.contracts.boxed.Box as boxes
 use Rattle.std_heap.specs.contracts.Global as heap
 use Rattle.std_heap.proofs.Global.TheLaws as heap_laws
 use Rattle.std_heap.proofs.GlobalAllocator.TheImpl.Met as allocator
 use Rattle.std_heap.proofs.Handle.{heap_val, heap_Tells}
-use Rattle.std_heap.specs.contracts.GlobalAllocator.TheImpl.{ghosts, dict}
 use Rattle.raw_block.proofs.Destruct++none.drop.Code as no_drop
 use Rattle.raw_block.specs.Heap.{heap_owns}
 use Rattle.raw_block.specs.contracts.heap.OnHeap as on_heap

@@ -1,44 +1,22 @@
 -- `of` takes the memory out of the box.
 use Rattle.std.proofs.Common.{◌≡◌, List, [], ◌∷◌, ◌++◌, refl, sym, ap, ◌∙◌, subst}
-use mir.Syntax.{Dict, a_type, dcons, dnil, impl, tcons, tnil}
-use mir.Raw.{raw as bare}
-use mir.Val.{Val}
-use mir.MapTy.{inst_fn}
-use base.Fraction.{full_share}
-use base.Logic.{SProp, ent, emp, never, id⊢, fst∗}
-use base.Fml.{Lft, Share, ftrue, flft}
+use base.Logic.{ent, never, fst∗}
 use prog.Wp.{WpFn}
-use types.Logic.{sem}
 use types.Kit.{Item, ‵, raw, ◌⊛◌, some, later, ◌$◌, ◌∵◌, !, qed, by, move, keep, drop, split, split3, join, fsplit, fjoin, pick, suffices, use0, use1, await, feq_l}
-use types.Run.{of_opd, no_more, and_then, returns, enter}
-use types.ByLocal.{alloc_all, pass_all, free_all, look_at, get, sets, lands_as}
-use types.Part.{agg}
-use contract.Monad.{fact, fact_i}
-use contract.Running.{tables, tables_of}
-use contract.BorrowLft.{◌⊑◌, ⊑_static}
+use Rattle.raw_block.proofs.Walking.{Dict, a_type, dcons, dnil, impl, tcons, tnil, bare, Val, inst_fn, full_share, SProp, emp, id⊢, Lft, Share, ftrue, flft, sem, of_opd, no_more, and_then, returns, enter, alloc_all, pass_all}
+use Rattle.raw_block.proofs.Walking.{free_all, look_at, get, sets, agg, fact, fact_i, tables, tables_of, ◌⊑◌, ⊑_static, no, RattleType, owns, Ptr, block_ptr, ptr_val, types_at, plain, nothing, only, heard, param, arg, layout}
+use Rattle.raw_block.proofs.Walking.{bounded, Laws, arg_laws, glues, Lasts, lasts, triple_of, Stays, stay_dropped, walk_of, leaves, fm, box_out, box_in, ghosts, dict}
+use types.ByLocal.{lands_as}
 use denote.Builtin.{RawPtr}
-use denote.Exit.{no}
-use denote.RattleType.{RattleType, owns}
-use denote.RawPtr.{Ptr, block_ptr, null_ptr, ptr_val, in_a_block}
-use denote.Signature.{types_at, plain}
-use denote.Steps.{nothing, only, heard}
-use denote.Param.{param, arg, layout, bounded}
-use denote.Param.Laws.{Laws, arg_laws}
-use denote.Param.NoDrop.{glues}
-use denote.Triple.Clauses.{Lasts, lasts}
-use denote.Triple.Spec.{triple_of}
+use denote.RawPtr.{null_ptr, in_a_block}
 use denote.Triple.Call.{calls_at}
-use denote.Triple.Walked.{Stays, stay_dropped, walk_of}
 use Rattle.core.proofs.alloc.Calls.{Goes-blank}
-use Rattle.atomic_table.proofs.Walks.{proved_at, leaves}
-use Rattle.atomic_table.proofs.Calls.{fm}
+use Rattle.atomic_table.proofs.Walks.{proved_at}
 use Rattle.std_alloc.proofs.BoxSteps.Form as box
-use Rattle.std_alloc.proofs.BoxSteps.Steps.{box_out, box_in}
 use Rattle.std_alloc.specs.contracts.boxed.Box as boxes
 use Rattle.std_heap.specs.contracts.Global as heap
 use Rattle.std_heap.proofs.Global.TheLaws as heap_laws
 use Rattle.std_heap.proofs.GlobalAllocator.TheImpl.Met as allocator
-use Rattle.std_heap.specs.contracts.GlobalAllocator.TheImpl.{ghosts, dict}
 use Rattle.raw_block.proofs.Destruct++none.drop.Code as no_drop
 use Rattle.raw_block.specs.Heap.{may_free, heap_owns}
 use Rattle.raw_block.specs.contracts.heap.OnHeap as on_heap

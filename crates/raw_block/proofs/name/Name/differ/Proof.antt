@@ -1,20 +1,8 @@
 use Rattle.std.proofs.Common.{◌≡◌, ◌≢◌, ℕ, List, [], ◌∷◌, refl}
-use mir.Syntax.{named}
-use mir.Val.{Val, vunit}
-use base.Logic.{SProp, emp, sep, guard_i}
-use base.Fml.{ftrue, fsep, flft}
-use types.Logic.{sem}
+use base.Logic.{sep}
 use types.Kit.{‵, raw, ◌⊛◌, given, ◌$◌, ◌∵◌, !, qed, by, move, keep, split, join, fsplit, fsplit3, fjoin, learn, use0, use2, feq_i, group}
-use types.Run.{of_opd, returns, enter, unit_lit}
-use types.ByLocal.{alloc_all, pass_all, free_all, look_at, sets}
-use contract.Running.{tables}
-use contract.Monad.{fact, fact_i, fact_use}
-use denote.RattleType.{RattleType}
-use denote.Signature.{plain}
-use denote.Steps.{nothing, opens, closes}
-use denote.Ref.{MutRef, mut_vals, mut_Tells}
-use denote.Triple.Walked.{Stays, walk_of, stay_ref, Goes-ref}
-use Rattle.atomic_table.proofs.Walks.{proved, leaves}
+use Rattle.raw_block.proofs.Walking.{named, Val, vunit, SProp, emp, guard_i, ftrue, fsep, flft, sem, of_opd, returns, enter, unit_lit, alloc_all, pass_all, free_all, look_at, sets, tables, fact, fact_i, fact_use, RattleType}
+use Rattle.raw_block.proofs.Walking.{plain, nothing, opens, closes, MutRef, mut_vals, mut_Tells, Stays, walk_of, stay_ref, Goes-ref, proved, leaves}
 use Rattle.raw_block.specs.Naming.{name_owns}
 use Rattle.raw_block.proofs.Naming.{names_differ}
 use Rattle.raw_block.specs.contracts.name.Name.differ.{ended, clauses}

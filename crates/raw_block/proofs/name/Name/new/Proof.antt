@@ -1,24 +1,11 @@
 use Rattle.std.proofs.Common.{◌-◌, [], ◌∷◌, refl}
-use base.Logic.{via, ex}
+use base.Logic.{ex}
 use types.Owned.{basic}
-use Rattle.ref_core.specs.WeightRule.{full_weight}
 use Rattle.raw_block.specs.Naming.{about_nothing, name_owns}
 use Rattle.raw_block.proofs.Entries.{entry_new}
-use mir.Val.{Val}
-use base.Logic.{SProp}
-use base.Fml.{GName}
-use types.Logic.{sem}
 use types.Kit.{‵, raw, ◌⊛◌, ◌$◌, ◌∵◌, !, qed, by, keep, split, fjoin, use0, later, some, await, pick}
-use types.Run.{no_more, returns, enter}
-use types.ByLocal.{alloc_all, pass_all, free_all, look_at, sets}
-use types.Part.{agg}
-use contract.Running.{tables}
-use denote.RattleType.{RattleType, owns}
-use denote.Signature.{types_at}
-use denote.Steps.{nothing}
-use denote.Triple.Entry.{alive}
-use denote.Triple.Walked.{Stays, walk_of}
-use Rattle.atomic_table.proofs.Walks.{proved, leaves}
+use Rattle.raw_block.proofs.Walking.{via, full_weight, Val, SProp, GName, sem, no_more, returns, enter, alloc_all, pass_all, free_all, look_at, sets, agg, tables, RattleType, owns, types_at, nothing, alive, Stays, walk_of}
+use Rattle.raw_block.proofs.Walking.{proved, leaves}
 use Rattle.raw_block.specs.contracts.name.Name as name
 use Rattle.raw_block.proofs.Fields.{none, name_made}
 use Rattle.raw_block.specs.contracts.name.Name.new.{ended, clauses}

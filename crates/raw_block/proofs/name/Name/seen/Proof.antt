@@ -1,22 +1,7 @@
 use Rattle.std.proofs.Common.{◌≡◌, ℕ, [], ◌∷◌, refl}
-use mir.Syntax.{named}
-use mir.Val.{Val, vptr}
-use base.Logic.{SProp, emp}
 use types.Kit.{‵, raw, ◌⊛◌, ◌$◌, ◌∵◌, !, qed, by, move, keep, split, fjoin, use0}
-use types.Run.{no_more, returns, enter}
-use types.ByLocal.{alloc_all, pass_all, free_all, look_at, sets}
-use types.Part.{agg}
-use contract.Running.{tables}
-use contract.Monad.{fact, fact_i}
-use denote.Exit.{yes}
-use denote.RattleType.{RattleType, owns}
-use denote.Signature.{types_at, plain}
-use denote.Steps.{nothing}
-use denote.Builtin.{RefOf}
-use denote.Ref.{shr_vals, shr_Tells}
-use denote.Triple.Entry.{alive}
-use denote.Triple.Walked.{Stays, stay_dropped, walk_of, Goes-dropped}
-use Rattle.atomic_table.proofs.Walks.{proved, leaves}
+use Rattle.raw_block.proofs.Walking.{named, Val, vptr, SProp, emp, no_more, returns, enter, alloc_all, pass_all, free_all, look_at, sets, agg, tables, fact, fact_i, yes, RattleType, owns, types_at, plain, nothing, RefOf}
+use Rattle.raw_block.proofs.Walking.{shr_vals, shr_Tells, alive, Stays, stay_dropped, walk_of, Goes-dropped, proved, leaves}
 use Rattle.raw_block.specs.contracts.name.Name as name
 use Rattle.raw_block.specs.contracts.name.NameSeen as name_seen
 use Rattle.raw_block.proofs.Fields.{none, name_seen_made}

@@ -1,34 +1,13 @@
 use Rattle.std.proofs.Common.{◌≡◌, ◌≢◌, ℕ, ◌<◌, ◌≤◌, List, [], ◌∷◌, ◌++◌, refl, ap}
-use mir.Syntax.{dnil, a_type}
-use mir.Val.{Val, vstruct, vcons, vnil, of_list}
-use mir.MapTy.{inst_fn}
-use base.Logic.{SProp, emp, guard_i}
-use base.Fml.{fsep, feq}
-use types.Logic.{sem}
 use types.Kit.{‵, raw, ◌⊛◌, given, ◌$◌, ◌∵◌, !, qed, by, move, keep, split, join, fsplit, fjoin, fjoin3, fpack, learn, use0, use1, rewrite, feq_i}
-use types.Run.{stop, fld, of_opd, no_more, and_then, returns, enter}
-use types.ByLocal.{alloc_all, pass_all, free_all, look_at, get, get_in, sets, is}
-use types.Part.{agg, sub, whole}
-use contract.Running.{tables}
-use contract.Monad.{fact, fact_i, fact_use}
-use denote.Exit.{no}
-use denote.RattleType.{RattleType, Valss, owns}
-use denote.Signature.{types_at, plain}
-use denote.RawPtr.{Ptr, InBlock, block_ptr, ptr_val, block_of, count_of, at_block}
-use denote.Steps.{nothing, heard}
-use denote.Param.{param, bounded}
-use denote.Struct.Struct.{within}
-use denote.Triple.Entry.{alive}
-use denote.Triple.Walked.{Stays, stay_dropped, walk_of, Goes-dropped}
-use Rattle.atomic_table.proofs.Walks.{proved, leaves}
-use Rattle.ref_core.specs.WeightRule.{full_weight}
+use Rattle.raw_block.proofs.Walking.{dnil, a_type, Val, vstruct, vcons, vnil, of_list, inst_fn, SProp, emp, guard_i, fsep, feq, sem, stop, fld, of_opd, no_more, and_then, returns, enter, alloc_all, pass_all, free_all, look_at}
+use Rattle.raw_block.proofs.Walking.{get, get_in, sets, is, agg, sub, whole, tables, fact, fact_i, fact_use, no, RattleType, Valss, owns, types_at, plain, Ptr, InBlock, block_ptr, ptr_val, block_of, count_of, at_block, nothing}
+use Rattle.raw_block.proofs.Walking.{heard, param, bounded, alive, Stays, stay_dropped, walk_of, Goes-dropped, proved, leaves, full_weight}
 use Rattle.raw_block.specs.Views.{LifeNames}
-use Rattle.raw_block.specs.Shares.{share_owns}
+use Rattle.raw_block.specs.Shares.{share_owns, claimed_owns, seen_owns}
 use Rattle.raw_block.specs.contracts.share.Share as share
-use Rattle.raw_block.proofs.Fields.{alone, typed, Words, made}
+use Rattle.raw_block.proofs.Fields.{alone, typed, Words, made, claimed_told, claimed_placed, none, word_seen_made}
 use Rattle.raw_block.specs.contracts.share.AfterClaim as after_claim
-use Rattle.raw_block.specs.Shares.{claimed_owns}
-use Rattle.raw_block.proofs.Fields.{claimed_told, claimed_placed}
 use Rattle.raw_block.proofs.Endings as endings
 use Rattle.raw_block.specs.contracts.share.AfterClaim.lost.{ended, clauses}
 use Rattle.raw_block.specs.contracts.share.AfterClaim.lost.Key.{name as #self}
@@ -36,9 +15,7 @@ use Rattle.raw_block.proofs.share.AfterClaim.lost.Statement.{statement}
 use Rattle.raw_block.proofs.share.AfterClaim.lost.Code as code
 use denote.Struct.Struct
 use denote.Struct.Owning
-use Rattle.raw_block.specs.Shares.{seen_owns}
 use Rattle.raw_block.specs.contracts.share.WordSeen as word_seen
-use Rattle.raw_block.proofs.Fields.{none, word_seen_made}
 
 pub lost_spec : {M : Type 1} → statement M
 lost_spec 𝓤 𝓛 𝓜 𝓡 wired X L =

@@ -1,24 +1,8 @@
 use Rattle.std.proofs.Common.{◌≡◌, ℕ, [], ◌∷◌, refl, ap}
-use mir.Syntax.{dnil, a_type}
-use mir.Val.{Val}
-use mir.MapTy.{inst_fn}
-use base.Logic.{SProp, emp, guard_i}
-use types.Logic.{sem}
 use types.Kit.{‵, raw, ◌⊛◌, given, later, ◌$◌, ◌∵◌, !, qed, by, move, keep, split, fsplit, fjoin, learn, use0, use1, await, rewrite}
-use types.Run.{stop, fld, of_opd, no_more, and_then, returns, enter}
-use types.ByLocal.{alloc_all, pass_all, free_all, look_at, get, get_in, sets, is}
-use types.Part.{agg, sub, whole}
-use contract.Running.{tables}
-use contract.Monad.{fact, fact_i, fact_use}
-use denote.Exit.{no}
-use denote.RattleType.{RattleType, owns}
-use denote.Signature.{types_at, plain}
-use denote.RawPtr.{Ptr, InBlock, block_ptr, ptr_val, block_of, count_of, at_block}
-use denote.Steps.{nothing, heard}
-use denote.Param.{param, bounded}
-use denote.Triple.Entry.{alive}
-use denote.Triple.Walked.{Stays, stay_dropped, walk_of, Goes-dropped}
-use Rattle.atomic_table.proofs.Walks.{proved, leaves}
+use Rattle.raw_block.proofs.Walking.{dnil, a_type, Val, inst_fn, SProp, emp, guard_i, sem, stop, fld, of_opd, no_more, and_then, returns, enter, alloc_all, pass_all, free_all, look_at, get, get_in, sets, is, agg, sub, whole}
+use Rattle.raw_block.proofs.Walking.{tables, fact, fact_i, fact_use, no, RattleType, owns, types_at, plain, Ptr, InBlock, block_ptr, ptr_val, block_of, count_of, at_block, nothing, heard, param, bounded, alive, Stays}
+use Rattle.raw_block.proofs.Walking.{stay_dropped, walk_of, Goes-dropped, proved, leaves}
 use Rattle.raw_block.specs.Heap.{heap_owns}
 use Rattle.raw_block.specs.Shares.{released_owns}
 use Rattle.raw_block.specs.Views.{LifeNames}

@@ -1,32 +1,12 @@
 use Rattle.std.proofs.Common.{◌≡◌, ◌≢◌, ℕ, ◌<◌, ◌≤◌, [], ◌∷◌, refl}
-use mir.Syntax.{dnil, a_type}
-use mir.Val.{Val}
-use mir.MapTy.{inst_fn}
-use base.Logic.{SProp, emp}
 use types.Kit.{‵, raw, ◌⊛◌, given, ◌$◌, ◌∵◌, !, qed, by, move, keep, split, fsplit, fjoin, learn, use0, use1}
-use types.Run.{no_more, returns, enter}
-use types.ByLocal.{alloc_all, pass_all, free_all, look_at, sets}
-use types.Part.{agg}
-use contract.Running.{tables}
-use contract.Monad.{fact, fact_i}
-use denote.Exit.{no}
-use denote.RattleType.{RattleType, owns}
-use denote.Signature.{types_at, plain}
-use denote.RawPtr.{Ptr}
-use denote.Steps.{nothing, heard}
-use denote.Param.{param, bounded}
-use denote.Struct.Struct.{within}
-use denote.Triple.Entry.{alive}
-use denote.Triple.Walked.{Stays, stay_dropped, walk_of, Goes-dropped}
-use Rattle.atomic_table.proofs.Walks.{proved, leaves}
-use Rattle.ref_core.specs.WeightRule.{full_weight}
+use Rattle.raw_block.proofs.Walking.{dnil, a_type, Val, inst_fn, SProp, emp, no_more, returns, enter, alloc_all, pass_all, free_all, look_at, sets, agg, tables, fact, fact_i, no, RattleType, owns, types_at, plain, Ptr, nothing}
+use Rattle.raw_block.proofs.Walking.{heard, param, bounded, alive, Stays, stay_dropped, walk_of, Goes-dropped, proved, leaves, full_weight}
 use Rattle.raw_block.specs.Views.{LifeNames}
 use Rattle.raw_block.specs.Shares.{given_back_owns}
-use Rattle.raw_block.proofs.Fields.{alone}
+use Rattle.raw_block.proofs.Fields.{alone, released_told, typed_any, none, given_back_made}
 use Rattle.raw_block.specs.contracts.share.AfterRelease as after_release
-use Rattle.raw_block.proofs.Fields.{released_told}
 use Rattle.raw_block.proofs.Endings as endings
-use Rattle.raw_block.proofs.Fields.{typed_any}
 use Rattle.raw_block.specs.contracts.share.AfterRelease.left.{ended, clauses}
 use Rattle.raw_block.specs.contracts.share.AfterRelease.left.Key.{name as #self}
 use Rattle.raw_block.proofs.share.AfterRelease.left.Statement.{statement}
@@ -34,7 +14,6 @@ use Rattle.raw_block.proofs.share.AfterRelease.left.Code as code
 use denote.Struct.Struct
 use denote.Struct.Owning
 use Rattle.raw_block.specs.contracts.share.GivenBack as given_back
-use Rattle.raw_block.proofs.Fields.{none, given_back_made}
 
 pub left_spec : {M : Type 1} → statement M
 left_spec 𝓤 𝓛 𝓜 𝓡 wired X L =

@@ -1,25 +1,10 @@
 use Rattle.std.proofs.Common.{◌≡◌, ℕ, ◌+◌, ◌<◌, List, [], ◌∷◌, refl}
-use mir.Syntax.{named}
-use mir.Val.{Val, vunit}
-use base.Logic.{SProp, emp}
-use base.Fml.{ftrue, fsep, flft}
 use types.Kit.{‵, raw, ◌⊛◌, given, ◌$◌, ◌∵◌, !, qed, by, move, keep, split, join, fsplit, fsplit3, fjoin, learn, use0, use2, rewrite, feq_i, group}
-use types.Run.{of_opd, returns, enter}
-use types.ByLocal.{alloc_all, pass_all, free_all, look_at, sets}
-use contract.Running.{tables}
-use contract.Monad.{fact, fact_i}
-use denote.Exit.{yes}
-use denote.RattleType.{RattleType}
-use denote.Signature.{plain}
-use denote.Steps.{nothing, heard, opens, closes}
-use denote.Ref.{MutRef, mut_vals, mut_Tells}
-use denote.Triple.Walked.{Stays, stay_dropped, walk_of, Goes-dropped, stay_ref, Goes-ref}
-use Rattle.atomic_table.proofs.Walks.{proved, leaves}
-use Rattle.ref_core.specs.WeightRule.{full_weight}
+use Rattle.raw_block.proofs.Walking.{named, Val, vunit, SProp, emp, ftrue, fsep, flft, of_opd, returns, enter, alloc_all, pass_all, free_all, look_at, sets, tables, fact, fact_i, yes, RattleType, plain, nothing, heard, opens}
+use Rattle.raw_block.proofs.Walking.{closes, MutRef, mut_vals, mut_Tells, Stays, stay_dropped, walk_of, Goes-dropped, stay_ref, Goes-ref, proved, leaves, full_weight, unit_lit}
 use Rattle.raw_block.specs.Views.{LifeNames}
 use Rattle.raw_block.specs.Shares.{given_back_owns}
 use Rattle.raw_block.proofs.Sharing as sharing
-use types.Run.{unit_lit}
 use Rattle.raw_block.specs.contracts.share.GivenBack.add.{ended, clauses}
 use Rattle.raw_block.specs.contracts.share.GivenBack.add.Key.{name as #self}
 use Rattle.raw_block.proofs.share.GivenBack.add.Statement.{statement}

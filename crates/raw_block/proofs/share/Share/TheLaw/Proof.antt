@@ -1,6 +1,5 @@
 -- A `&` to a share holds a `&` to the content. Assumes `Logic`.
-use denote.RattleType.{RattleType}
-use denote.Param.Laws.{Laws}
+use Rattle.raw_block.proofs.Walking.{RattleType, Laws}
 use denote.Param.Shared.{copy_shared}
 use denote.Struct.Field.{RawPtr-field}
 use denote.Struct.Laws.{RawPtr-copy}

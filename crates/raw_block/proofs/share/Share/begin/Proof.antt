@@ -1,30 +1,10 @@
 use Rattle.std.proofs.Common.{◌≡◌, ℕ, ◌+◌, [], ◌∷◌, refl, ap, w32}
-use mir.Syntax.{dnil, a_type}
-use mir.Val.{Val, vint}
-use mir.MapTy.{inst_fn}
-use base.Logic.{SProp, emp, id⊢, guard_i}
-use types.Logic.{sem}
-use base.Fml.{Lft, Share, ftrue, flft}
 use types.Kit.{‵, raw, ◌⊛◌, given, learn, later, ◌$◌, ◌∵◌, !, qed, by, move, keep, split, split3, join, fsplit, fjoin, fpick, use0, use1, await, rewrite, group}
-use types.Run.{stop, fld, of_opd, no_more, and_then, returns, enter}
-use types.ByLocal.{alloc_all, pass_all, free_all, look_at, get, get_in, sets, is}
-use types.Part.{agg, sub, whole}
-use contract.Running.{tables}
-use contract.Monad.{fact, fact_i, fact_use}
-use contract.BorrowLft.{◌⊑◌}
-use denote.Exit.{yes, no}
-use denote.RattleType.{RattleType, owns}
-use denote.Signature.{types_at, plain}
-use denote.RawPtr.{Ptr, InBlock, block_ptr, ptr_val, block_of, count_of, at_block}
+use Rattle.raw_block.proofs.Walking.{dnil, a_type, Val, vint, inst_fn, SProp, emp, id⊢, guard_i, sem, Lft, Share, ftrue, flft, stop, fld, of_opd, no_more, and_then, returns, enter, alloc_all, pass_all, free_all, look_at, get}
+use Rattle.raw_block.proofs.Walking.{get_in, sets, is, agg, sub, whole, tables, fact, fact_i, fact_use, ◌⊑◌, yes, no, RattleType, owns, types_at, plain, Ptr, InBlock, block_ptr, ptr_val, block_of, count_of, at_block, uint_vals}
+use Rattle.raw_block.proofs.Walking.{uint_Tells, nothing, heard, param, layout, bounded, param_laws, Stays, stay_dropped, walk_of, Goes-dropped, proved, leaves, full_weight}
 use denote.Builtin.{u32}
-use denote.Plain.{uint_vals, uint_Tells}
-use denote.Steps.{nothing, heard}
-use denote.Param.{param, layout, bounded}
-use denote.Param.Laws.{param_laws}
 use denote.Struct.Members.{Member}
-use denote.Triple.Walked.{Stays, stay_dropped, walk_of, Goes-dropped}
-use Rattle.atomic_table.proofs.Walks.{proved, leaves}
-use Rattle.ref_core.specs.WeightRule.{full_weight}
 use Rattle.raw_block.specs.Shares.{block, content_at, whole_with}
 use Rattle.raw_block.specs.contracts.share.Share as share
 use Rattle.raw_block.specs.Heap.{heap_owns}

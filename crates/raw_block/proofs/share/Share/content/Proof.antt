@@ -1,32 +1,16 @@
 use Rattle.std.proofs.Common.{◌≡◌, ℕ, ◌+◌, List, [], ◌∷◌, sym, refl, ap, ◌∙◌}
-use mir.Syntax.{dnil, a_type, named}
-use mir.Val.{Val, vptr}
-use mir.MapTy.{inst_fn}
-use base.Logic.{SProp, emp, id⊢, guard_i}
-use base.Fml.{Lft, Fml, ftrue, fsep, flft, fhide}
-use types.Logic.{sem}
+use base.Fml.{fhide}
 use types.Kit.{‵, raw, ◌⊛◌, given, at_ret, ◌$◌, ◌∵◌, !, qed, by, move, keep, split, join, fsplit, fjoin, learn, use0, use1, rewrite, feq_i}
-use types.Run.{stop, fld, hop, addr, of_opd, first, blocks, exec, returns, enter}
-use types.ByLocal.{alloc_all, pass_all, free_all, look_at, get, through, sets, sets_last, env}
-use types.Part.{sub, whole, look_in}
-use contract.Running.{tables}
-use contract.Monad.{fact, fact_i, fact_use}
-use denote.Exit.{yes}
-use denote.RattleType.{RattleType, owns}
-use denote.Signature.{types_at, plain}
-use denote.RawPtr.{Ptr, InBlock, block_ptr, block_of, count_of, at_block}
-use denote.Steps.{nothing, peeks, looks, shuts}
+use Rattle.raw_block.proofs.Walking.{dnil, a_type, named, Val, vptr, inst_fn, SProp, emp, id⊢, guard_i, Lft, Fml, ftrue, fsep, flft, sem, stop, fld, addr, of_opd, first, blocks, exec, returns, enter, alloc_all, pass_all}
+use Rattle.raw_block.proofs.Walking.{free_all, look_at, get, through, sets, env, sub, whole, look_in, tables, fact, fact_i, fact_use, yes, RattleType, owns, types_at, plain, Ptr, InBlock, block_ptr, block_of, count_of, at_block}
+use Rattle.raw_block.proofs.Walking.{nothing, peeks, shows, cell_at, param, bounded, param_laws, RefOf, shr_vals, shr_Tells, Stays, stay_dropped, walk_of, Goes-dropped, tail, proved, leaves}
+use types.Run.{hop}
+use types.ByLocal.{sets_last}
+use denote.Steps.{looks, shuts}
 use denote.Opens.{unhide}
-use denote.Laws.{Is, shows}
-use denote.Memory.{cell_at, hidden_shr}
-use denote.Param.{param, bounded}
-use denote.Param.Laws.{param_laws}
-use denote.Builtin.{RefOf}
-use denote.Ref.{shr_vals, shr_Tells}
+use denote.Laws.{Is}
+use denote.Memory.{hidden_shr}
 use denote.Struct.Lending.{lent_out}
-use denote.Triple.Walked.{Stays, stay_dropped, walk_of, Goes-dropped}
-use Rattle.core.proofs.atomic.Steps.{tail}
-use Rattle.atomic_table.proofs.Walks.{proved, leaves}
 use Rattle.raw_block.specs.Shares.{offset, share_shares}
 use Rattle.raw_block.specs.contracts.share.Share as share
 use Rattle.raw_block.proofs.Fields.{alone, Words, told, opened, sees}

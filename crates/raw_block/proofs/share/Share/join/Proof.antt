@@ -1,31 +1,12 @@
 use Rattle.std.proofs.Common.{◌≡◌, ℕ, ◌+◌, ◌≤◌, List, [], ◌∷◌, refl}
-use mir.Syntax.{dnil, a_type, named}
-use mir.Val.{Val, vunit}
-use mir.MapTy.{inst_fn}
-use base.Logic.{SProp, emp}
-use base.Fml.{Fml, ftrue, fsep, flft}
 use types.Kit.{‵, raw, ◌⊛◌, given, ◌$◌, ◌∵◌, !, qed, by, move, keep, split, join, fsplit, fsplit3, fjoin, learn, use0, use2, rewrite, feq_i, group}
-use types.Run.{of_opd, returns, enter}
-use types.ByLocal.{alloc_all, pass_all, free_all, look_at, sets}
-use contract.Running.{tables}
-use contract.Monad.{fact, fact_i}
-use denote.Exit.{no}
-use denote.RattleType.{RattleType}
-use denote.Signature.{plain}
-use denote.RawPtr.{Ptr}
-use denote.Steps.{nothing, heard, opens, closes}
-use denote.Param.{param, bounded}
-use denote.Ref.{MutRef, mut_vals, mut_Tells}
-use denote.Triple.Walked.{Stays, stay_dropped, walk_of, Goes-dropped, stay_ref, Goes-ref}
-use Rattle.atomic_table.proofs.Walks.{proved, leaves}
-use Rattle.ref_core.specs.WeightRule.{full_weight}
+use Rattle.raw_block.proofs.Walking.{dnil, a_type, named, Val, vunit, inst_fn, SProp, emp, Fml, ftrue, fsep, flft, of_opd, returns, enter, alloc_all, pass_all, free_all, look_at, sets, tables, fact, fact_i, no, RattleType}
+use Rattle.raw_block.proofs.Walking.{plain, Ptr, nothing, heard, opens, closes, param, bounded, MutRef, mut_vals, mut_Tells, Stays, stay_dropped, walk_of, Goes-dropped, stay_ref, Goes-ref, proved, leaves, full_weight, unit_lit}
 use Rattle.raw_block.specs.Views.{LifeNames}
 use Rattle.raw_block.specs.Shares.{share_owns}
 use Rattle.raw_block.specs.contracts.share.Share as share
-use Rattle.raw_block.proofs.Fields.{alone, told}
+use Rattle.raw_block.proofs.Fields.{alone, told, typed_any}
 use Rattle.raw_block.proofs.Sharing as sharing
-use Rattle.raw_block.proofs.Fields.{typed_any}
-use types.Run.{unit_lit}
 use Rattle.raw_block.specs.contracts.share.Share.join.{ended, clauses}
 use Rattle.raw_block.specs.contracts.share.Share.join.Key.{name as #self}
 use Rattle.raw_block.proofs.share.Share.join.Statement.{statement}

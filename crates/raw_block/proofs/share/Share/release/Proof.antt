@@ -1,37 +1,16 @@
 use Rattle.std.proofs.Common.{◌≡◌, ℕ, ◌+◌, ◌^◌, ◌<◌, ◌≤◌, List, [], ◌∷◌, ◌++◌, sym, refl, ap, lit<, w64}
-use mir.Syntax.{dnil, a_type}
-use mir.Val.{Val, vint, vptr, vstruct, vcons, vnil, of_list}
-use mir.MapTy.{inst_fn}
-use base.Logic.{SProp, emp, via, guard_i}
-use base.Fml.{Fml, ftrue, fsep, feq}
-use types.Logic.{sem}
 use types.Kit.{‵, raw, ◌⊛◌, given, mean, at_ret, ◌$◌, ◌∵◌, !, qed, by, move, keep, drop, split, fsplit, fsplit3, fjoin, fjoin3, fpick, fpack, learn, use0, use1, use2, rewrite, feq_i, flt_i}
-use types.Run.{stop, fld, addr, lit, of_opd, no_more, and_then, first, blocks, exec, Calls-last, returns, enter}
-use types.ByLocal.{alloc_all, pass_all, free_all, look_at, get, get_in, through, sets, lands_last, is, env}
-use types.Part.{agg, sub, whole}
-use contract.Running.{tables}
-use contract.Monad.{fact, fact_i, fact_use}
-use denote.Exit.{yes, no}
-use denote.RattleType.{RattleType, Valss, owns}
-use denote.Signature.{types_at, plain}
-use denote.RawPtr.{Ptr, InBlock, block_ptr, ptr_val, block_of, count_of, at_block}
-use denote.Steps.{nothing, heard}
-use denote.Param.{param, bounded}
-use denote.Builtin.{u64}
-use denote.Plain.{uint_vals, uint_Tells}
-use denote.Triple.Entry.{alive}
-use denote.Triple.Walked.{Stays, stay_dropped, walk_of, Goes-dropped}
-use Rattle.core.proofs.atomic.Steps.{tail}
-use Rattle.atomic_table.proofs.Walks.{proved, leaves}
-use Rattle.atomic_table.proofs.Calls.{fm, seq_cst, found, finds, subs}
-use Rattle.ref_core.specs.WeightRule.{full_weight}
+use Rattle.raw_block.proofs.Walking.{dnil, a_type, Val, vint, vptr, vstruct, vcons, vnil, of_list, inst_fn, SProp, emp, via, guard_i, Fml, ftrue, fsep, feq, sem, stop, fld, addr, lit, of_opd, no_more, and_then, first, blocks}
+use Rattle.raw_block.proofs.Walking.{exec, Calls-last, returns, enter, alloc_all, pass_all, free_all, look_at, get, get_in, through, sets, lands_last, is, env, agg, sub, whole, tables, fact, fact_i, fact_use, yes, no}
+use Rattle.raw_block.proofs.Walking.{RattleType, Valss, owns, types_at, plain, Ptr, InBlock, block_ptr, ptr_val, block_of, count_of, at_block, nothing, heard, param, bounded, u64, uint_vals, uint_Tells, alive, Stays}
+use Rattle.raw_block.proofs.Walking.{stay_dropped, walk_of, Goes-dropped, tail, proved, leaves, fm, found, finds, full_weight}
+use Rattle.atomic_table.proofs.Calls.{seq_cst, subs}
 use Rattle.raw_block.specs.Views.{LifeNames}
 use Rattle.raw_block.specs.Shares.{about, entry, share_owns, tells}
 use Rattle.raw_block.specs.contracts.share.Share as share
-use Rattle.raw_block.proofs.Fields.{alone, typed, told, owns_placed}
+use Rattle.raw_block.proofs.Fields.{alone, typed, told, owns_placed, Released_words, released_made}
 use Rattle.raw_block.proofs.Steps as steps
 use Rattle.raw_block.specs.contracts.share.AfterRelease as after_release
-use Rattle.raw_block.proofs.Fields.{Released_words, released_made}
 use Rattle.raw_block.specs.contracts.share.Share.release.{ended, clauses}
 use Rattle.raw_block.specs.contracts.share.Share.release.Key.{name as #self}
 use Rattle.raw_block.proofs.share.Share.release.Statement.{statement}

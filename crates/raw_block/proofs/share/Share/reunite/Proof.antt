@@ -1,47 +1,23 @@
 use Rattle.std.proofs.Common.{◌≡◌, ℕ, ◌+◌, ◌<◌, ◌≤◌, [], ◌∷◌, sym, refl, ap, ◌∙◌, lit<, w64, arith}
-use mir.Syntax.{dnil, a_type}
-use mir.Val.{Val, vint, vptr}
-use mir.MapTy.{inst_fn}
-use base.Logic.{SProp, emp, via, guard_i}
-use base.Fml.{Fml, ftrue}
-use types.Logic.{sem}
 use types.Kit.{join, ‵, raw, ◌⊛◌, given, mean, at_ret, ◌$◌, ◌∵◌, !, qed, by, move, keep, drop, split, fsplit, fsplit3, fjoin, fpick, fpack, learn, use0, use1, use2, rewrite}
-use types.Run.{stop, fld, addr, lit, of_opd, no_more, and_then, first, blocks, exec, Calls-last, returns, enter}
-use types.ByLocal.{alloc_all, pass_all, free_all, look_at, get, get_in, through, sets, lands_last, is, env}
-use types.Part.{agg, sub, whole}
-use contract.Running.{tables}
-use contract.Monad.{fact, fact_i, fact_use}
-use denote.Exit.{yes, no}
-use denote.RattleType.{RattleType, owns}
-use denote.Signature.{types_at, plain}
-use denote.RawPtr.{Ptr, InBlock, block_ptr, ptr_val, block_of, count_of, at_block}
-use denote.Steps.{nothing, heard}
-use denote.Param.{param, bounded}
-use denote.Builtin.{u64}
-use denote.Plain.{uint_vals, uint_Tells}
-use denote.Triple.Entry.{alive}
-use denote.Triple.Walked.{Stays, stay_dropped, walk_of, Goes-dropped}
-use Rattle.core.proofs.atomic.Steps.{tail}
-use Rattle.atomic_table.proofs.Walks.{proved, leaves}
-use Rattle.atomic_table.proofs.Calls.{fm, found, finds, exchanges}
-use Rattle.ref_core.specs.WeightRule.{full_weight}
+use Rattle.raw_block.proofs.Walking.{dnil, a_type, Val, vint, vptr, inst_fn, SProp, emp, via, guard_i, Fml, ftrue, sem, stop, fld, addr, lit, of_opd, no_more, and_then, first, blocks, exec, Calls-last, returns, enter, alloc_all}
+use Rattle.raw_block.proofs.Walking.{pass_all, free_all, look_at, get, get_in, through, sets, lands_last, is, env, agg, sub, whole, tables, fact, fact_i, fact_use, yes, no, RattleType, owns, types_at, plain, Ptr, InBlock}
+use Rattle.raw_block.proofs.Walking.{block_ptr, ptr_val, block_of, count_of, at_block, nothing, heard, param, bounded, u64, uint_vals, uint_Tells, alive, Stays, stay_dropped, walk_of, Goes-dropped, tail, proved, leaves, fm}
+use Rattle.raw_block.proofs.Walking.{found, finds, exchanges, full_weight}
 use Rattle.raw_block.specs.Views.{LifeNames}
 use Rattle.raw_block.specs.Shares.{About, about, entry, share_owns, tells}
 use Rattle.raw_block.specs.contracts.share.Share as share
-use Rattle.raw_block.proofs.Fields.{alone, typed, told, owns_placed}
+use Rattle.raw_block.proofs.Fields.{alone, typed, told, owns_placed, Released_words, released_made, none, given_back_told}
 use Rattle.raw_block.proofs.Steps as steps
 use Rattle.raw_block.specs.contracts.share.AfterRelease as after_release
-use Rattle.raw_block.proofs.Fields.{Released_words, released_made}
 use Rattle.raw_block.proofs.Endings as endings
 use Rattle.raw_block.specs.contracts.share.Share.reunite.{ended, clauses}
 use Rattle.raw_block.specs.contracts.share.Share.reunite.Key.{name as #self}
 use Rattle.raw_block.proofs.share.Share.reunite.Statement.{statement}
 use Rattle.raw_block.proofs.share.Share.reunite.Code as code
 use base.Fml.{ffalse}
-use Rattle.raw_block.proofs.Entries.{entry_glue, entry_cut}
-use Rattle.raw_block.proofs.Entries.{Fit as steps_fit}
+use Rattle.raw_block.proofs.Entries.{entry_glue, entry_cut, Fit as steps_fit}
 use Rattle.raw_block.specs.contracts.share.GivenBack as given_back
-use Rattle.raw_block.proofs.Fields.{none, given_back_told}
 
 pub reunite_spec : {M : Type 1} → statement M
 reunite_spec 𝓤 𝓛 𝓜 𝓡 wired X L =

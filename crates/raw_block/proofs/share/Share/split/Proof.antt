@@ -1,31 +1,10 @@
 use Rattle.std.proofs.Common.{◌≡◌, ℕ, ◌+◌, ◌-◌, ◌<◌, List, [], ◌∷◌, sym, refl, ap, ◌∙◌, w64, arith}
-use mir.Syntax.{dnil, a_type, named}
-use mir.Val.{Val, vint}
-use mir.MapTy.{inst_fn}
-use base.Fraction.{full_share}
-use base.Logic.{SProp, emp, guard_i}
-use base.Fml.{Fml, ftrue, fsep, flft}
-use types.Logic.{sem}
 use types.Kit.{‵, raw, ◌⊛◌, given, ◌$◌, ◌∵◌, !, qed, by, move, keep, split, join, fsplit, fsplit3, fjoin, learn, use0, use1, rewrite, group}
-use types.Run.{stop, fld, load, of_opd, no_more, and_then, returns, enter}
-use types.ByLocal.{alloc_all, pass_all, free_all, look_at, get, through, sets}
-use types.Part.{agg, sub, whole, look_in}
-use contract.Running.{tables}
-use contract.Monad.{fact, fact_i, fact_use}
-use denote.Exit.{yes}
-use denote.RattleType.{RattleType}
-use denote.Signature.{plain}
-use denote.RawPtr.{Ptr, InBlock, block_ptr, block_of, count_of, at_block}
-use denote.Steps.{nothing, peeks, heard, opens, closes}
-use denote.Laws.{shows}
-use denote.Memory.{cell_at}
-use denote.Param.{param, bounded}
-use denote.Param.Laws.{param_laws}
-use denote.Builtin.{u64}
-use denote.Ref.{MutRef, mut_vals, mut_Tells}
-use denote.Plain.{uint_vals, uint_Tells}
-use denote.Triple.Walked.{Stays, stay_dropped, walk_of, Goes-dropped, stay_ref, Goes-ref}
-use Rattle.atomic_table.proofs.Walks.{proved, leaves}
+use Rattle.raw_block.proofs.Walking.{dnil, a_type, named, Val, vint, inst_fn, full_share, SProp, emp, guard_i, Fml, ftrue, fsep, flft, sem, stop, fld, of_opd, no_more, and_then, returns, enter, alloc_all, pass_all, free_all}
+use Rattle.raw_block.proofs.Walking.{look_at, get, through, sets, agg, sub, whole, look_in, tables, fact, fact_i, fact_use, yes, RattleType, plain, Ptr, InBlock, block_ptr, block_of, count_of, at_block, nothing, peeks, heard}
+use Rattle.raw_block.proofs.Walking.{opens, closes, shows, cell_at, param, bounded, param_laws, u64, MutRef, mut_vals, mut_Tells, uint_vals, uint_Tells, Stays, stay_dropped, walk_of, Goes-dropped, stay_ref, Goes-ref, proved}
+use Rattle.raw_block.proofs.Walking.{leaves}
+use types.Run.{load}
 use Rattle.raw_block.specs.Views.{LifeNames}
 use Rattle.raw_block.specs.Shares.{share_owns}
 use Rattle.raw_block.specs.contracts.share.Share as share
