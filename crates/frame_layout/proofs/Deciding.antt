@@ -9,8 +9,7 @@ use Rattle.net_bytes.specs.Bytes.{byte}
 use Rattle.tcp_headers.specs.Tcp.{reserved, flags}
 use Rattle.frame_layout.specs.Shape.{Layout}
 use Rattle.frame_layout.specs.Headers.{AtHeaders, all_headers, varying, IsOutsideOf, IsOutside, is_outside, AreHeadersAlike, are_alike_below}
-use Rattle.frame_layout.specs.Candidate.{IsLengthRight, is_length_right, AreFlagsPlain, are_flags_plain, IsSumRight, is_sum_right}
-use Rattle.frame_layout.specs.Candidate.{are_sums_right, all_sums_right, IsCandidate, is_candidate}
+use Rattle.frame_layout.specs.Candidate.{IsLengthRight, is_length_right, AreFlagsPlain, are_flags_plain, IsSumRight, is_sum_right, are_sums_right, all_sums_right, IsCandidate, is_candidate}
 use Rattle.frame_layout.specs.declared.layout.Header.{Header}
 use Rattle.frame_layout.specs.declared.layout.Layer.{Layer}
 use Rattle.frame_layout.specs.declared.layout.Layer.TheVariants.{Ethernet, Ip4, Ip6, Udp, Tcp}

@@ -8,8 +8,7 @@ use Rattle.std.proofs.lemmas.List.{drop_more}
 use Rattle.inet_sum.specs.Sum.{checksum_of}
 use Rattle.net_bytes.specs.Bytes.{byte, be16, put16}
 use Rattle.frame_layout.specs.Candidate.{ip4_sum, IsLengthRight, is_length_right, AreFlagsPlain, are_flags_plain, are_sums_right}
-use Rattle.frame_layout.specs.Headers.{AtHeaders}
-use Rattle.frame_layout.specs.Headers.{size}
+use Rattle.frame_layout.specs.Headers.{AtHeaders, size}
 use Rattle.frame_layout.specs.declared.layout.Header.{Header}
 use Rattle.frame_layout.specs.declared.layout.Layer.{Layer}
 use Rattle.frame_layout.specs.declared.layout.Layer.TheVariants.{Ip4, Ip6, Udp, Tcp}

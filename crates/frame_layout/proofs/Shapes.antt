@@ -6,12 +6,10 @@ use Rattle.net_bytes.specs.Bytes.{byte, be16}
 use Rattle.eth_vlan.specs.Tag.{is_tag}
 use Rattle.frame_layout.specs.Shape.{Layout, header, vxlan_there, tcp_from, carried_from, ip4_from, ip6_from, network_from, typed_from, ethernet_from, vxlan_from, shape_of}
 use Rattle.frame_layout.specs.declared.layout.Header.{Header}
-use Rattle.frame_layout.specs.Headers.{AtHeaders, varying, IsOutside, AreHeadersAlike}
-use Rattle.frame_layout.specs.Headers.{size, AreLaid}
+use Rattle.frame_layout.specs.Headers.{AtHeaders, varying, IsOutside, AreHeadersAlike, size, AreLaid}
 use Rattle.frame_layout.specs.declared.layout.Layer.{Layer}
 use Rattle.frame_layout.specs.declared.layout.Layer.TheVariants.{Ethernet, Tag, Ip4, Ip6, Udp, Vxlan, Tcp}
-use Rattle.frame_layout.proofs.Listed.{with_header, found, places, ends, IsListed, Lists, all_typed, all_tunnels, listed}
-use Rattle.frame_layout.proofs.Listed.{lists_none, lists_header, lists_end, lists_carried, lists_typed, lists_ethernet, lists_vxlan}
+use Rattle.frame_layout.proofs.Listed.{with_header, found, places, ends, IsListed, Lists, all_typed, all_tunnels, listed, lists_none, lists_header, lists_end, lists_carried, lists_typed, lists_ethernet, lists_vxlan}
 use Rattle.frame_layout.proofs.Clear.{are_clear, outside_clear, own}
 
 laid_places : (start : ℕ) (ks : List Layer) (options : ℕ) → AreLaid start (places start ks) (ends start ks + options)

@@ -1,14 +1,14 @@
 -- Along the headers, from the innermost outward.
 use Rattle.std.proofs.Common.{◌≡◌, ℕ, zero, suc, ◌+◌, ◌<◌, List, [], ◌∷◌, length, get_or, slice_set, drop, refl, sym, ap, ◌∙◌, arith}
 use Rattle.std.proofs.lemmas.List.{drop_more, get_or_default}
-use Rattle.frame_layout.specs.Headers.{AtHeaders, size, AreLaid}
+use Rattle.frame_layout.specs.Headers.{AtHeaders}
 use Rattle.frame_layout.specs.Segment.{HasFlags}
 use Rattle.frame_layout.specs.declared.layout.Header.{Header}
 use Rattle.frame_layout.specs.declared.layout.Layer.{Layer}
 use Rattle.frame_layout.specs.declared.layout.Layer.TheVariants.{Ethernet, Ip4, Ip6, Tcp}
-use Rattle.frame_layout.proofs.Lemmas.{laid_end}
+use Rattle.frame_layout.specs.Front.{AreAddressesWithin}
 use Rattle.offload_model.specs.Edits.{with_edits, put_sum, with_sums, put_flags, put_flags_of}
-use Rattle.header_fill.specs.Filled.{IsInside, AreAddressesInside, header_before}
+use Rattle.header_fill.specs.Filled.{IsInside, header_before}
 
 -- what holds at each header holds at one
 pub at_one : (P : Layer → ℕ → Type 0) (hs : List Header) (i : ℕ) (d : Header) → i < length hs → AtHeaders P hs → P (get_or hs i d).layer (get_or hs i d).at
@@ -16,35 +16,13 @@ at_one P [] i d h a = absurd (omega arith)
 at_one P (x ∷ xs) zero d h a = a.0
 at_one P (x ∷ xs) (suc i) d h a = at_one P xs i d (omega arith) a.1
 
--- the loop's step, from place i + 1 to i
-pub edit_step : (edit : Layer → ℕ → List ℕ → List ℕ) (hs : List Header) (i j : ℕ) (d : Header) (f : List ℕ) → j ≡ i + 1 → i < length hs
-    → edit (get_or hs i d).layer (get_or hs i d).at (with_edits edit (drop j hs) f) ≡ with_edits edit (drop i hs) f
-edit_step edit hs i j d f ej h =
-    ap (λ z. edit (get_or hs i d).layer (get_or hs i d).at (with_edits edit (drop z hs) f)) ej
-    ∙ sym (ap (λ z. with_edits edit z f) (drop_more hs i d h))
-
-pub sum_step : (hs : List Header) (i j : ℕ) (d : Header) (f : List ℕ) → j ≡ i + 1 → i < length hs
-    → put_sum (header_before hs i) (get_or hs i d).layer (get_or hs i d).at (with_sums (header_before hs j) (drop j hs) f)
-    ≡ with_sums (header_before hs i) (drop i hs) f
-sum_step hs i j d f ej h =
-    let next : j ≡ suc i = omega arith in
-    let own : header_before hs j ≡ get_or hs i d = ap (header_before hs) next ∙ get_or_default hs i (record { layer = Ethernet; at = 0 }) d h in
-    ap (put_sum (header_before hs i) (get_or hs i d).layer (get_or hs i d).at)
-    (ap (λ z. with_sums z (drop j hs) f) own ∙ ap (λ z. with_sums (get_or hs i d) (drop z hs) f) ej)
-    ∙ sym (ap (λ z. with_sums (header_before hs i) z f) (drop_more hs i d h))
-
--- headers that are laid out stand inside
-pub laid_inside : (start : ℕ) (hs : List Header) (end : ℕ) → AreLaid start hs end → AtHeaders (IsInside end) hs
-laid_inside start [] end l = tt
-laid_inside start (h ∷ hs) end l = (laid_end (h.at + size h.layer) hs end l.1, laid_inside (h.at + size h.layer) hs end l.1)
-
-addresses_inside : (n : ℕ) (layer : Layer) (at : ℕ) → IsInside n layer at → AreAddressesInside n layer at
+addresses_inside : (n : ℕ) (layer : Layer) (at : ℕ) → IsInside n layer at → AreAddressesWithin n layer at
 addresses_inside n Ip4 at h = h
 addresses_inside n Ip6 at h = h
 addresses_inside n _ at h = tt
 
 pub before_inside : (hs : List Header) (n i : ℕ) → i < length hs → AtHeaders (IsInside n) hs
-    → AreAddressesInside n (header_before hs i).layer (header_before hs i).at
+    → AreAddressesWithin n (header_before hs i).layer (header_before hs i).at
 before_inside hs n zero h a = tt
 before_inside hs n (suc i) h a =
     addresses_inside n (header_before hs (suc i)).layer (header_before hs (suc i)).at (at_one (IsInside n) hs i (record { layer = Ethernet; at = 0 }) (omega arith) a)

@@ -10,7 +10,7 @@ use Rattle.frame_layout.specs.declared.layout.Layer.{Layer}
 use Rattle.frame_layout.specs.declared.layout.Layer.TheVariants.{Ip4, Ip6, Udp}
 use Rattle.offload_model.specs.Edits.{put_sum}
 use Rattle.net_bytes.proofs.Numbers.{put16_front}
-use Rattle.header_fill.specs.Filled.{AreAddressesInside}
+use Rattle.frame_layout.specs.Front.{AreAddressesWithin}
 
 zeroed_at : (xs : List ℕ) (o j k : ℕ) → j ≡ o + 1 → k ≡ o + 2 → o + 1 < length xs → set (set xs o 0) j 0 ≡ take o xs ++ (0 ∷ 0 ∷ drop k xs)
 zeroed_at [] o j k ej ek h = absurd (omega arith)
@@ -30,7 +30,7 @@ pub part_front : (xs ys : List ℕ) (at n : ℕ) → at + n ≤ length xs → pa
 part_front xs ys at n h =
     ap (take n) (drop-append-le at xs ys (omega arith)) ∙ take-append-le n (drop at xs) ys (omega (arith, length-drop at xs))
 
-pub pseudo_front : (xs ys : List ℕ) (layer : Layer) (at protocol len : ℕ) → AreAddressesInside (length xs) layer at
+pub pseudo_front : (xs ys : List ℕ) (layer : Layer) (at protocol len : ℕ) → AreAddressesWithin (length xs) layer at
     → pseudo_header (xs ++ ys) layer at protocol len ≡ pseudo_header xs layer at protocol len
 pseudo_front xs ys Ip4 at protocol len h = ap (λ z. z ++ (0 ∷ protocol ∷ bytes16 len)) (part_front xs ys (at + 12) 8 (omega arith))
 pseudo_front xs ys Ip6 at protocol len h =
@@ -56,10 +56,3 @@ pub pseudo_ip6 : (f : List ℕ) (at a n protocol len : ℕ) → a ≡ at + 8 →
     → ((take n (drop a f) ++ (len / 65536 / 256 ∷ len / 65536 % 256 ∷ [])) ++ (len % 65536 / 256 ∷ len % 65536 % 256 ∷ [])) ++ (0 ∷ 0 ∷ 0 ∷ protocol ∷ [])
     ≡ pseudo_header f Ip6 at protocol len
 pseudo_ip6 f at a n protocol len ea en = rw (ea, en) (simp append_assoc)
-
--- a UDP sum is put where there is one
-pub udp_put : (ip : Header) (f : List ℕ) (at : ℕ) → be16 f (at + 6) ≢ 0 → put_sum ip Udp at f ≡ put16 f (at + 6) (udp_sum f ip at)
-udp_put ip f at h = rw (ne_eqb (be16 f (at + 6)) 0 h) refl
-
-pub udp_left : (ip : Header) (f : List ℕ) (at : ℕ) → be16 f (at + 6) ≡ 0 → put_sum ip Udp at f ≡ f
-udp_left ip f at h = rw (eq-eqb (be16 f (at + 6)) 0 h) refl

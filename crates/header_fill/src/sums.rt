@@ -8,7 +8,8 @@ ghost use Rattle.inet_sum.specs.Stands.{StandsFor};
 ghost use Rattle.frame_layout.specs.Headers.{AreLaid};
 ghost use Rattle.frame_layout.specs.Candidate.{pseudo_header, ip4_sum as ip4_sum_of};
 ghost use Rattle.offload_model.specs.Edits.{put_sum as with_sum, with_sums};
-ghost use Rattle.header_fill.specs.Filled.{IsInside, AreAddressesInside, header_before};
+ghost use Rattle.frame_layout.specs.Front.{AreAddressesWithin};
+ghost use Rattle.header_fill.specs.Filled.{IsInside, header_before};
 
 use frame_layout::{Header, Layer};
 use inet_sum::{Partial, not_zero};
@@ -54,7 +55,7 @@ fn before(headers: &[Header], i: usize) -> Header
 /// One header's sum, where it has one; `ip` is the header before it.
 fn put_sum(head: &mut [u8], ip: Header, header: Header, payload: Partial)
     requires inside { IsInside (length head.old) header.layer header.at }
-    requires addresses { AreAddressesInside (length head.old) ip.layer ip.at }
+    requires addresses { AreAddressesWithin (length head.old) ip.layer ip.at }
     requires few { length head.old + payload.len < 2 ^ 31 }
     ensures summed { (bytes : List ℕ)
         → StandsFor payload bytes
@@ -99,7 +100,7 @@ fn carried_sum(
     payload: Partial,
 ) -> u16
     requires field { at + field + 2 ≤ length head.now }
-    requires addresses { AreAddressesInside (length head.now) ip.layer ip.at }
+    requires addresses { AreAddressesWithin (length head.now) ip.layer ip.at }
     requires few { length head.now + payload.len < 2 ^ 31 }
     ensures sum { (bytes : List ℕ)
         → StandsFor payload bytes
@@ -116,7 +117,7 @@ fn carried_sum(
 
 /// The sum of the pseudo header of `len` bytes that an IP header carries.
 fn pseudo_sum(head: &[u8], ip: Header, protocol: u8, len: u32) -> Partial
-    requires addresses { AreAddressesInside (length head.now) ip.layer ip.at }
+    requires addresses { AreAddressesWithin (length head.now) ip.layer ip.at }
     ensures sum { StandsFor result (pseudo_header head.now ip.layer ip.at protocol len) }
     ensures small { result.len ≤ 40 }
 {

@@ -4,10 +4,6 @@ use Rattle.std.specs.Prelude.{◌==◌}
 use Rattle.std.proofs.lemmas.Bool.{eqb-true, eqb-false}
 use Rattle.inet_sum.specs.Sum.{word_sum, folded, fold_of, joined_fold}
 
-pub folded_le : (n : ℕ) → folded n ≤ 65535
-folded_le zero = omega arith
-folded_le (suc n) = omega arith
-
 folded-zero : (n : ℕ) → folded n ≡ 0 → n ≡ 0
 folded-zero zero h = refl
 folded-zero (suc n) h = omega arith
@@ -75,10 +71,6 @@ fold-append_odd xs ys e =
     (λ h. omega (arith, shifted-zero ys (omega arith)))
     (λ h. omega (arith, (shifted ys).1))
     ∙ sym (folded-swap (word_sum xs) (word_sum ys))
-
--- the two bytes of a number weigh as much as it
-pub number_bytes : (n : ℕ) → folded n ≡ fold_of (n / 256 ∷ n % 256 ∷ [])
-number_bytes n = let e : n ≡ word_sum (n / 256 ∷ n % 256 ∷ []) = omega arith in ap folded e
 
 joined_case : (front back : List ℕ) (odd : Bool) → (length front % 2 == 1) ≡ odd → joined_fold odd (fold_of front) (fold_of back) ≡ fold_of (front ++ back)
 joined_case front back true e = sym (fold-append_odd front back (eqb-true (length front % 2) 1 e))

@@ -26,13 +26,12 @@ use Rattle.offload_model.specs.Segments.{packet_in, merged_in, with_head, with_f
 use Rattle.offload_model.specs.Rounds.{is_key, is_of, is_queued, items_of, rounds_of}
 use Rattle.offload_model.specs.Written.{Options, record_of, window_of, window_record, windows_by, windows_of, round_records, records_of, record_bytes, written, segmented}
 use Rattle.offload_model.specs.Captured.{IsCaptured, AreCaptured, AreLawful, content}
-use Rattle.offload_model.specs.Tested.{numbered, reads_tested}
+use Rattle.offload_model.specs.Tested.{numbered, reads_tested, segmented_of}
 use Rattle.offload_model.proofs.Flows.{IsItem, all_items, rounds_captured, back, flows_come_back}
 use Rattle.offload_model.proofs.Items.{items_are}
 use Rattle.offload_model.proofs.Lists.{all_filtered, all_of, all_joined, all_range}
 use Rattle.offload_model.proofs.RunRecords.{runs_come_back, record_key, segments_are}
 use Rattle.offload_model.proofs.WrittenBack.{IsWritten, all_written, reads_back, head_reads_back, written_comes_back}
-use Rattle.offload_model.specs.Tested.{segmented_of}
 use Rattle.offload_model.specs.CaptureLaws.{BringsBack, CapturesComeBack, RecordsAreFew}
 use Rattle.offload_model.proofs.FlowLists.{same_number, few}
 

@@ -12,8 +12,7 @@ use Rattle.frame_layout.specs.Candidate.{IsCandidate}
 use Rattle.frame_layout.specs.declared.layout.Header.{Header}
 use Rattle.frame_layout.specs.declared.layout.Layer.{Layer}
 use Rattle.frame_layout.specs.declared.layout.Layer.TheVariants.{Ip4, Ip6, Udp, Tcp}
-use Rattle.frame_layout.proofs.Lemmas.{laid, same_shape, decides_lt, decides_le, always, decides_headers}
-use Rattle.frame_layout.proofs.Lemmas.{decides_candidate, implied, decides_alike}
+use Rattle.frame_layout.proofs.Lemmas.{laid, same_shape, decides_lt, decides_le, always, decides_headers, decides_candidate, implied, decides_alike}
 use Rattle.pcap_io.specs.Capture.{Packet}
 use Rattle.pcap_io.specs.Headers.{off_head}
 use Rattle.pcap_io.specs.declared.off_head.OffHead.{OffHead}
@@ -21,9 +20,7 @@ use Rattle.offload_model.specs.Each.{Each, EachButLast}
 use Rattle.offload_model.specs.Mergeable.{AreUdpSumsAlike, IsAckAlone, IsSequenceBehind, AreIdsInStep, IsLengthInRange, payloads_of, IsMergeableAs, IsMergeable}
 use Rattle.offload_model.specs.Merged.{Merged, is_fixed, modes_of}
 use Rattle.offload_model.specs.Segments.{packet_in, merged_in, IsModeLawful, IsCuttable, IsLawfulSuper, IsLawfulSingle, IsLawfulWindow, IsLawfulBy, IsLawfulRecord}
-use Rattle.offload_model.specs.Tests.{each_from, each_but_last_from, are_udp_sums_alike, is_ack_alone, is_sequence_behind}
-use Rattle.offload_model.specs.Tests.{are_ids_in_step, is_length_in_range, is_member, is_full_member, is_mergeable_as, is_mergeable}
-use Rattle.offload_model.specs.Tests.{is_mode_lawful, is_cuttable_as, is_lawful_super, is_lawful_single, is_lawful_window, is_lawful_by, is_lawful_record}
+use Rattle.offload_model.specs.Tests.{each_from, each_but_last_from, are_udp_sums_alike, is_ack_alone, is_sequence_behind, are_ids_in_step, is_length_in_range, is_member, is_full_member, is_mergeable_as, is_mergeable, is_mode_lawful, is_cuttable_as, is_lawful_super, is_lawful_single, is_lawful_window, is_lawful_by, is_lawful_record}
 
 -- ---- elements
 

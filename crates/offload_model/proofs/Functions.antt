@@ -7,8 +7,7 @@ use Rattle.offload_model.proofs.Fields.{same_drop, length-put16, length-put32, b
 use Rattle.offload_model.proofs.Edits.{IsEdit, IsLocal, with_edits-long, with_edits-leaves, with_edits-around, with_edits-sets}
 use Rattle.offload_model.proofs.Filled.{Small, set_small, put16_small}
 use Rattle.frame_layout.proofs.Lemmas.{headers_map, headers_map2, Outside, among}
-use Rattle.offload_model.proofs.Made.{with_lengths_and_sums-leaves, same16, flags_at, be32_at, sequence_at, sequence_same_at, id_same_at, udp_same_at, udp_joined}
-use Rattle.offload_model.proofs.Made.{same_at_headers, AreSameAt, filled, flag_bits, sequences, ids, udp_sums, filled_is_like}
+use Rattle.offload_model.proofs.Made.{with_lengths_and_sums-leaves, same16, flags_at, be32_at, sequence_at, sequence_same_at, id_same_at, udp_same_at, udp_joined, same_at_headers, AreSameAt, filled, flag_bits, sequences, ids, udp_sums, filled_is_like}
 use Rattle.frame_layout.specs.Headers.{AtHeaders, varying, AreHeadersAlike, size, AreLaid}
 use Rattle.frame_layout.specs.Shape.{Layout}
 use Rattle.frame_layout.specs.declared.layout.Header.{Header}

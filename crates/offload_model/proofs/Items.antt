@@ -2,9 +2,8 @@
 use Rattle.std.proofs.Common.{◌≡◌, ℕ, ◌<◌, ◌⊎◌, inl, inr, true, Option, Some, None, List, [], ◌∷◌, ◌++◌, length, take, refl, sym, ap, subst}
 use Rattle.std.specs.List.{filter}
 use Rattle.std.proofs.lemmas.Slice.Eq.{bytes_eq-Decides}
-use Rattle.maximal_runs.specs.Cut.{AllNeighbours, IsCut}
+use Rattle.maximal_runs.specs.Cut.{AllNeighbours, IsCut, cut_of}
 use Rattle.maximal_runs.specs.Items.{begins_in, AreFlows, AreItems}
-use Rattle.maximal_runs.specs.Cut.{cut_of}
 use Rattle.maximal_runs.proofs.Unique.{unique}
 use Rattle.maximal_runs.proofs.Pass.{one_pass}
 use Rattle.maximal_runs.proofs.Items.{unique_items}

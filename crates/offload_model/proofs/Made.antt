@@ -3,8 +3,7 @@ use Rattle.std.proofs.Common.{◌≡◌, ℕ, ◌+◌, ◌-◌, ◌<◌, ◌≤�
 use Rattle.std.proofs.lemmas.List.{length-drop}
 use Rattle.offload_model.proofs.Fields.{same_drop}
 use Rattle.offload_model.proofs.Edits.{with_edits-long, with_edits-leaves}
-use Rattle.frame_layout.proofs.Lemmas.{headers_map, headers_map2, Outside, IsIn, are_inside, are_apart, apart, among}
-use Rattle.frame_layout.proofs.Lemmas.{outside_all, inner}
+use Rattle.frame_layout.proofs.Lemmas.{headers_map, headers_map2, Outside, IsIn, are_inside, are_apart, apart, among, outside_all, inner}
 use Rattle.offload_model.proofs.Filled.{lengths_are_edits, lengths_set, with_sums-long, with_sums-leaves, sums_set, udp_kept, Small, filled_small}
 use Rattle.frame_layout.specs.Candidate.{IsLengthRight, AreSumsRight}
 use Rattle.frame_layout.specs.Headers.{AtHeaders, varying, lengths, sums, AreHeadersAlike, size, AreLaid}

@@ -1,6 +1,5 @@
 //! A whole capture: its rounds, the records that are written, and what comes back of them.
-ghost use Rattle.offload_model.specs.CaptureLaws.{CapturesAreCaptured, RunsComeBack, RunsAreLawful, ItemsAreRuns, FlowsComeBack, ReadsBack, HeadReadsBack, WrittenComesBack};
-ghost use Rattle.offload_model.specs.CaptureLaws.{OneQueueHasAll, CapturesComeBack, RecordsAreFew};
+ghost use Rattle.offload_model.specs.CaptureLaws.{CapturesAreCaptured, RunsComeBack, RunsAreLawful, ItemsAreRuns, FlowsComeBack, ReadsBack, HeadReadsBack, WrittenComesBack, OneQueueHasAll, CapturesComeBack, RecordsAreFew};
 
 /// The packets of a capture of Ethernet frames meet what the laws below ask of packets.
 pub fn captures_are_captured()

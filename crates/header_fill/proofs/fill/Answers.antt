@@ -3,12 +3,12 @@ use Rattle.frame_layout.specs.Headers.{AtHeaders}
 use Rattle.offload_model.specs.Mergeable.{IsLengthInRange}
 use Rattle.offload_model.specs.Edits.{with_sums, with_lengths_and_sums}
 use Rattle.header_fill.specs.Filled.{header_before, IsFilled}
-use Rattle.header_fill.proofs.Along.{laid_inside}
+use Rattle.frame_layout.proofs.Lemmas.{inside_all}
 use Rattle.header_fill.proofs.Right.{is_filled}
 use Rattle.header_fill.proofs.fill.Goals as goal
 
 pub put_lengths-requires-clause-inside : goal.put_lengths-requires-clause-inside
-put_lengths-requires-clause-inside c = laid_inside 0 c.args.headers.now (length c.args.head.now) c.requires.laid
+put_lengths-requires-clause-inside c = inside_all 0 (length c.args.head.now) c.args.headers.now c.requires.laid
 
 pub put_lengths-requires-clause-ranges : goal.put_lengths-requires-clause-ranges
 put_lengths-requires-clause-ranges c =

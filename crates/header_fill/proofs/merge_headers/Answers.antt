@@ -5,11 +5,12 @@ use Rattle.offload_model.specs.Mergeable.{IsLengthInRange}
 use Rattle.offload_model.specs.Edits.{with_edits, with_lengths_and_sums, put_flags_of}
 use Rattle.offload_model.specs.Frames.{merged_frame, IsMergedFrame}
 use Rattle.offload_model.proofs.Functions.{merged_is}
-use Rattle.header_fill.proofs.Along.{laid_inside, flags_same}
+use Rattle.header_fill.proofs.Along.{flags_same}
+use Rattle.frame_layout.proofs.Lemmas.{inside_all}
 use Rattle.header_fill.proofs.merge_headers.Goals as goal
 
 pub put_flags-requires : goal.put_flags-requires
-put_flags-requires c = record { inside = laid_inside 0 c.args.headers.now (length c.args.head.now) c.requires.laid }
+put_flags-requires c = record { inside = inside_all 0 (length c.args.head.now) c.args.headers.now c.requires.laid }
 
 pub fill-requires-clause-ranges : goal.fill-requires-clause-ranges
 fill-requires-clause-ranges c =

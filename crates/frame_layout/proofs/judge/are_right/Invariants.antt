@@ -1,7 +1,6 @@
 use Rattle.std.proofs.Common.{ℕ, ◌+◌, ◌≤◌, List, length, drop}
 use Rattle.std.specs.Prelude.{◌↔◌}
-use Rattle.frame_layout.specs.Headers.{AtHeaders}
-use Rattle.frame_layout.specs.Headers.{size}
+use Rattle.frame_layout.specs.Headers.{AtHeaders, size}
 use Rattle.frame_layout.specs.declared.layout.Layer.TheVariants.{Ethernet}
 use Rattle.frame_layout.specs.Front.{IsFrontOf, are_headers_right, AreAddressesWithin}
 use Rattle.frame_layout.proofs.judge.are_right.Given as goal
