@@ -140,12 +140,6 @@ worn-at [] i d h k = absurd (omega arith)
 worn-at (p ∷ ps) zero d h k = grind (arith, h)
 worn-at (p ∷ ps) (suc i) d h k = worn-at ps i d (grind (arith, h)) (omega arith)
 
-pub share_is : (s p : PartState) (w : ℕ) → s.weight ≡ w → s.life ≡ p.life → s.bytes ≡ p.bytes → s.mark ≡ p.mark → s ≡ record p { weight = w }
-share_is s p w a b c d i = record { life = b i; weight = a i; bytes = c i; mark = d i }
-
-pub gift-small : (w : ℕ) → 0 < w → w ≢ 1 → (0 < gift w) × (gift w < w)
-gift-small w h k = (omega arith, omega arith)
-
 pub kept_given : (t : Tests) (m : ℕ) (p : Piece) → gift p.part.weight ≤ p.part.weight → counted t m p.part.life p.part.mark (p.part.weight - gift p.part.weight) + counted t m p.part.life p.part.mark (gift p.part.weight) ≡ counted t m p.part.life p.part.mark p.part.weight
 kept_given t m p h = grind arith
 
@@ -164,18 +158,6 @@ given_step old items i q s e f g h =
     let b : given_first i old ++ x ∷ [] ≡ given_first i old ++ given q ∷ [] = ap (λ (z : PartState). given_first i old ++ (record { part = z; from = q.from; to = q.to }) ∷ []) g in
     let c : given_first i old ++ given q ∷ [] ≡ given_first i old ++ given (get_or old i q) ∷ [] = ap (λ (z : Piece). given_first i old ++ given z ∷ []) f in
     rw add-one (a ∙ b ∙ c ∙ given_first-step i old q h)
-
--- a step on x alone, beside o
-pub keeps_step : (s x xs ys o q : Account) → ((t : Tests) (m : ℕ) → (xs.held t m ≡ x.held t m + ys.held t m) × (xs.homes t.blocks m ≡ x.homes t.blocks m + ys.homes t.blocks m)) → Keeps s (both xs o) → Keeps (both x o) q → Keeps s (both ys q)
-keeps_step s x xs ys o q e h k t m =
-    let d = e t m in
-    let f = h t m in
-    let g = k t m in
-    (omega arith, omega arith)
-
--- where all else is receipts that weigh less than a whole, a Sole is at home
-pub sole_at_home : (a : Account) (o : OutcomesState) (t : Tests) (m : ℕ) → Keeps a (of_outcomes o) → full_weight ≤ a.held t m + full_weight * a.homes t.blocks m → receipts_held t m o.receipts < full_weight → 1 ≤ soles_home t.blocks m o.soles
-sole_at_home a o t m k h l = let f = k t m in omega arith
 
 -- the pieces' bytes after a cut
 pub length-piece : (p : Piece) → Fits p → length (piece_bytes p) ≡ p.to - p.from

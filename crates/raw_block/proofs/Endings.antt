@@ -1,16 +1,7 @@
 -- What a step left is a block, or what was given back, or a share. Assumes `Logic`.
 use Rattle.std.proofs.Common.{◌≡◌, ◌≢◌, ℕ, ◌+◌, ◌<◌, ◌≤◌, [], ◌∷◌, arith}
-use mathlib.Core.Bool.{Bool, true, false}
-use seplogic.Ra.Ura.{Ura}
-use base.Logic.{SProp, ent, sep, never_e, guard}
-use base.Fml.{fsep, Fml, ftrue, ffalse}
-use types.Logic.{Logic, sem}
 use types.Kit.{‵, given, ◌$◌, ◌∵◌, !, qed, by, move, drop, fsplit, fsplit3, fjoin, fjoin3, fpick, fpack, learn, check, use1, done}
-use denote.RattleType.{RattleType}
-use denote.RawPtr.{Ptr, block_ptr, null_ptr}
-use denote.Steps.{nothing}
-use base.Stored.{Gv}
-use Rattle.ref_core.specs.WeightRule.{full_weight}
+use Rattle.raw_block.proofs.Walking.{Bool, true, false, Ura, SProp, ent, sep, never_e, guard, fsep, Fml, ftrue, ffalse, Logic, sem, RattleType, Ptr, block_ptr, null_ptr, nothing, Gv, full_weight}
 use Rattle.raw_block.specs.Views.{LifeNames}
 use Rattle.raw_block.specs.Shares.{was, about, entry, block, held, owned, share_owns, given_back_owns, told, tells, released_at, released_owns, claimed_at, claimed_owns, seen_owns}
 use Rattle.raw_block.specs.Heap.{heap_owns}

@@ -1,15 +1,10 @@
 -- The parts of a lifetime's token, and the entries of a life: cut, glued and compared. Assumes `Logic`.
 use Rattle.std.proofs.Common.{◌≡◌, ℕ, ◌+◌, ◌^◌, ◌∙◌, ◌<◌, ◌≤◌, [], ◌∷◌, refl, sym, subst, arith}
-use seplogic.Ra.Ura.{Ura}
-use base.Fraction.{full_share}
-use base.FractionLaws.{Counts, counts_some, Counts-op, Counts-all}
+use base.FractionLaws.{counts_some, Counts-op}
 use base.Graph.{sum_in, sum_out}
-use base.Logic.{SProp, ent, sep, ex, emp, guard, guard_i, upd, via, id⊢}
-use base.Fml.{GName, Share, Fml, fex, flft}
-use types.Logic.{Logic, sem}
 use types.Kit.{‵, ◌⊛◌, ◌$◌, ◌∵◌, !, qed, by, move, split, fpick, fpack, use1, use2, done}
+use Rattle.raw_block.proofs.Walking.{Ura, full_share, Counts, Counts-all, SProp, ent, sep, ex, emp, guard, guard_i, upd, via, id⊢, GName, Share, Fml, fex, flft, Logic, sem, full_weight}
 use types.Owned.{own_glued, own_new}
-use Rattle.ref_core.specs.WeightRule.{full_weight}
 use Rattle.raw_block.specs.Shares.{About, Entry, Adds, adds, entries, entry, kept}
 
 module _ {M : Type 1} {𝓤 : Ura M} (𝓛 : Logic 𝓤) where

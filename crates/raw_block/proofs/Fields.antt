@@ -1,23 +1,11 @@
 -- The data fields of the structs that own by their address: one, or none. Assumes `Logic`.
 use Rattle.std.proofs.Common.{◌≡◌, ℕ, T, List, [], ◌∷◌, ◌++◌, refl, ap, ◌∙◌, lit<}
-use seplogic.Ra.Ura.{Ura}
-use mir.Syntax.{ty_ptr, ty_struct, tcons, tnil}
-use mir.Val.{Val, vstruct, vcons, vnil, of_list, has_ty, WT}
-use mir.Raw.{raw as bare}
-use base.Logic.{ent, emp, via, never, never_e, fst∗}
-use base.Fml.{Lft}
-use contract.Monad.{fact, fact_i}
-use types.Logic.{Logic, sem}
-use denote.RattleType.{RattleType}
-use denote.Laws.{Is}
-use denote.Memory.{lone}
+use Rattle.raw_block.proofs.Walking.{Ura, ty_struct, tcons, tnil, Val, vstruct, vcons, vnil, of_list, has_ty, WT, bare, ent, emp, via, never, never_e, fst∗, Lft, fact, fact_i, Logic, sem, RattleType, Is, lone, Ptr, InBlock, block_ptr}
+use Rattle.raw_block.proofs.Walking.{null_ptr, ptr_val, RawPtr-copy, Struct, shape}
+use mir.Syntax.{ty_ptr}
 use denote.Opens.{Opens}
 use denote.Copied.{Struct-Copied}
-use denote.RawPtr.{Ptr, InBlock, block_ptr, null_ptr, ptr_val}
 use denote.Shadow.{makes_shadow}
-use denote.Struct.Laws.{RawPtr-copy}
-use denote.Struct.Struct.{Struct}
-use denote.Struct.Owning.{shape}
 use Rattle.raw_block.specs.Views.{LifeNames}
 use Rattle.raw_block.specs.Shares.{share_owns, share_shares, released_owns, claimed_owns}
 use Rattle.raw_block.specs.Heap.{may_free, heap_owns}

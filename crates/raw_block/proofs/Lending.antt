@@ -1,22 +1,15 @@
 -- A `&` to a share holds a `&` to the content. Assumes `Logic`.
 use Rattle.std.proofs.Common.{ℕ, ◌+◌, ◌<◌, ◌≤◌, [], ◌∷◌, ◌++◌}
-use seplogic.Ra.Ura.{Ura}
-use base.FractionLaws.{Counts}
-use base.Logic.{SProp, ent, sep, upd_i, id⊢}
-use base.Fml.{Lft, Share, Fml, ftrue, ffalse, fsep, fseps, fwand, fupd, fdead, fbor, flft, finv}
-use contract.BorrowLft.{meet_⊑_left}
-use types.Logic.{Logic, sem}
+use base.Fml.{fseps, fupd, fbor}
 use types.Kit.{‵, ◌⊛◌, ◌$◌, ◌∵◌, !, qed, move, keep, drop, use1, use2, split, group, fsplit, fsplit3, fjoin, fjoin3, fpick, fpack, assume, suffices, updating, now, done}
+use Rattle.raw_block.proofs.Walking.{Ura, Counts, SProp, ent, sep, upd_i, id⊢, Lft, Share, Fml, ftrue, ffalse, fsep, fwand, fdead, flft, finv, meet_⊑_left, Logic, sem, RattleType, RowLaws, Ptr, block_ptr, null_ptr, contraction, nothing}
+use Rattle.raw_block.proofs.Walking.{full_weight}
 use types.Tokens.{bor_open, obor_alter, bor_fracture}
-use denote.RattleType.{RattleType, RowLaws}
 use denote.Moves.{moves}
-use denote.RawPtr.{Ptr, block_ptr, null_ptr}
 use denote.Sharing.{ShrLaws}
-use denote.SharingLaws.{contraction, shortens, said_shr_laws}
-use denote.Steps.{nothing}
+use denote.SharingLaws.{shortens, said_shr_laws}
 use denote.Struct.Lending.{Lends, Lends-false}
 use Rattle.core.proofs.cell.Borrows.{by_one}
-use Rattle.ref_core.specs.WeightRule.{full_weight}
 use Rattle.raw_block.specs.Views.{LifeNames}
 use Rattle.raw_block.specs.Shares.{about, entry, kept, offset, seen, Inv, owned, share_at, share_owns, share_shares}
 use Rattle.raw_block.proofs.Entries.{kept_in}

@@ -2,12 +2,8 @@
 use Rattle.std.proofs.Common.{◌≡◌, ◌≢◌, ℕ, ◌+◌, ◌-◌, [], ◌∷◌, Bool, true, false, refl, subst, arith}
 use borrow.Author.Tests.{eqb-true}
 use lib.Dec.{eqb}
-use seplogic.Ra.Ura.{Ura}
-use base.Logic.{SProp, ent, sep, emp, via}
-use types.Logic.{Logic, sem}
 use types.Kit.{‵, given, ◌$◌, ◌∵◌, !, qed, drop, use2, learn, done}
-use contract.Monad.{fact, fact_i}
-use Rattle.ref_core.specs.WeightRule.{full_weight}
+use Rattle.raw_block.proofs.Walking.{Ura, SProp, ent, sep, emp, via, Logic, sem, fact, fact_i, full_weight}
 use Rattle.raw_block.specs.Shares.{entry}
 use Rattle.raw_block.specs.Naming.{about_nothing, name_owns}
 use Rattle.raw_block.proofs.Entries.{Fit, entry_glue}

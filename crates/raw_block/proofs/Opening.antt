@@ -1,34 +1,22 @@
 -- A block is taken apart and made again, and a life begins and ends. Assumes `Logic`.
 use Rattle.std.proofs.Common.{◌++◌, ℕ, zero, ◌+◌, ◌-◌, ◌^◌, ◌<◌, ◌≤◌, List, [], ◌∷◌, arith}
-use mathlib.Core.Bool.{Bool, true}
-use seplogic.Ra.Ura.{Ura}
-use mir.Raw.{raw as bare}
-use base.Fraction.{full_share}
-use base.FractionLaws.{Counts-all}
-use base.Logic.{SProp, ent, sep, wand, ex, all_e, via, apply∗}
-use base.Fml.{Lft, GName, Share, Incl, Incl-trans, Fml, ftrue, fsep, fex, fwand, flft, finv}
-use contract.BorrowLft.{meet_⊑_left, meet_⊑_right}
-use types.Logic.{Logic, sem}
+use base.Logic.{all_e}
+use base.Fml.{Incl, Incl-trans}
+use contract.BorrowLft.{meet_⊑_right}
 use types.Kit.{‵, raw, ◌⊛◌, some, later, ◌$◌, ◌∵◌, !, qed, by, move, drop, use0, use1, use2, split, split3, join, fsplit, fsplit3, fjoin, fjoin3, fpick, fpack, pick, frame, each, assume, await, updating, now, done}
+use Rattle.raw_block.proofs.Walking.{Bool, true, Ura, bare, full_share, Counts-all, SProp, ent, sep, wand, ex, via, apply∗, Lft, GName, Share, Fml, ftrue, fsep, fex, fwand, flft, finv, meet_⊑_left, Logic, sem, basic, RattleType, Val}
+use Rattle.raw_block.proofs.Walking.{part_at, cell_at, lone, block_ptr, nothing, Struct, Member, shape_of, word, latest, full_weight, IsBalanced}
 use types.Tokens.{lft_new, bor_new, lent_back}
-use types.Owned.{basic}
-use denote.RattleType.{RattleType, Denots}
+use denote.RattleType.{Denots}
 use denote.Laws.{Lawful}
-use mir.Val.{Val}
-use denote.Memory.{part_of, part_at, cell_at, lone}
-use denote.RawPtr.{block_ptr}
+use denote.Memory.{part_of}
 use denote.Shares.{Shares}
-use denote.Steps.{nothing}
-use denote.Struct.Struct.{Struct}
 use denote.Struct.Laws.{u64-laws}
-use denote.Struct.Members.{Member, row_of, rows_of, parts_at}
-use denote.Struct.Parts.{PartsBack, Struct-parts, shape_of}
-use Rattle.core.specs.Sync.RawAtomic.{word}
+use denote.Struct.Members.{row_of, rows_of, parts_at}
+use denote.Struct.Parts.{PartsBack, Struct-parts}
 use Rattle.core.proofs.cell.Borrows.{flag}
 use Rattle.core.proofs.tally.Steps.{word_out, word_in}
 use types.Growing.{latest_new}
-use base.Growing.{latest}
-use Rattle.ref_core.specs.WeightRule.{full_weight, IsBalanced}
 use Rattle.raw_block.specs.Views.{LifeNames}
 use Rattle.raw_block.specs.Shares.{Log, about, entry, kept, offset, block, content_at, seen, whole_with, state, alive, Inv, owned, share_at, freed}
 use Rattle.raw_block.specs.Heap.{may_free}

@@ -2,36 +2,27 @@
 use Rattle.std.proofs.Common.{◌≡◌, ℕ, ◌+◌, ◌-◌, ◌≤◌, List, [], ◌∷◌, ◌++◌, length, take, drop, refl, sym, ap, ◌∙◌, arith}
 use Rattle.std.proofs.lemmas.List.{length-append, length-take, length-drop, take-append-drop, drop-drop}
 use Rattle.std.specs.Prelude.{slice_range}
-use seplogic.Ra.Ura.{Ura}
-use mir.Syntax.{named, ty_array, ty_int, ty_struct, w8}
-use mir.Val.{Val}
-use base.Fraction.{full_share}
-use base.Fml.{Fml, Lft, GName, Share, ftrue, fsep, feq, flft}
-use base.Logic.{SProp, ent, sep, guard, ex}
-use types.Logic.{Logic, sem}
+use mir.Syntax.{ty_array, w8}
 use types.Mut.{open_ref}
 use types.SemTy.{cells}
 use types.Kit.{Item, ‵, ◌⊛◌, raw, given, some, later, ◌$◌, ◌∵◌, !, qed, by, move, drop as drop_item, split, join, learn, fsplit, fsplit3, fjoin, use1, use2, await, pick, updating, group, now, show, done, rewrite, feq_l, feq_i, check}
+use Rattle.raw_block.proofs.Walking.{Ura, named, ty_int, ty_struct, Val, full_share, Fml, Lft, GName, Share, ftrue, fsep, feq, flft, SProp, ent, sep, guard, ex, Logic, sem, part_at, copy_shared, RattleType, MutRef, slice_val, nothing}
+use Rattle.raw_block.proofs.Walking.{Member, shape_of, Struct}
 use denote.Array.{Array}
 use denote.ArrayMemory.{Array-apart, Array-whole}
 use denote.Builtin.{u8}
 use denote.Follow.{follows}
 use denote.FollowSlice.{lends_Elements}
 use denote.Index.{row, whole_in, whole_out}
-use denote.Memory.{mem, part_at}
+use denote.Memory.{mem}
 use denote.Param.Laws.{array_laws, of_field}
-use denote.Param.Shared.{copy_shared}
-use denote.RattleType.{RattleType}
-use denote.Ref.{MutRef}
-use denote.Slice.{MutSlice, Room, slice_val}
-use denote.Steps.{nothing}
+use denote.Slice.{MutSlice, Room}
 use denote.Struct.Declared.{shape}
 use denote.Struct.Field.{u8-field}
 use denote.Struct.Laws.{u8-laws, u8-copy}
-use denote.Struct.Members.{Member, raw_tys}
-use denote.Struct.Parts.{shape_of, Struct-left, left_Struct}
+use denote.Struct.Members.{raw_tys}
+use denote.Struct.Parts.{Struct-left, left_Struct}
 use denote.Struct.Recorded.{Recorded-part}
-use denote.Struct.Struct.{Struct}
 use borrow.Table.Elements.{at, at_byte, cut_app, join_app}
 use Rattle.raw_block.specs.Overwriting.{overwritten}
 use Rattle.raw_block.proofs.Overwriting.{overwritten-inside}

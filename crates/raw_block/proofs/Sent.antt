@@ -1,17 +1,9 @@
 -- A share may cross threads, and so may a `&` to one: nothing that it owns names a thread.
 use Rattle.std.proofs.Common.{ℕ, ◌+◌, [], ◌∷◌}
-use mathlib.Core.Bool.{Bool, true, false}
-use mir.Raw.{raw as bare}
-use base.Fraction.{full_share}
-use base.Fml.{Lft, GName}
+use Rattle.raw_block.proofs.Walking.{Bool, true, false, bare, full_share, Lft, GName, RattleType, lone, Ptr, block_ptr, null_ptr, IsSend, IsSync, part_keyless, sendable, latest, at_least}
 use base.Shift.{Keyless}
-use denote.RattleType.{RattleType}
-use denote.Memory.{lone}
-use denote.RawPtr.{Ptr, block_ptr, null_ptr}
-use denote.Param.Send.{IsSend, IsSync, part_keyless, sendable}
 use Rattle.std.proofs.Crossing.{frees}
 use Rattle.raw_block.specs.contracts.block.Block as blocks
-use base.Growing.{latest, at_least}
 use Rattle.raw_block.specs.Views.{LifeNames}
 use Rattle.raw_block.specs.Shares.{reached, was, offset, block, beside_word, alive, share_at, share_owns, share_shares}
 

@@ -1,16 +1,8 @@
 -- Shares are cut and joined, and so is what was given back. Assumes `Logic`.
 use Rattle.std.proofs.Common.{◌≡◌, ℕ, ◌+◌, ◌-◌, ◌<◌, ◌≤◌, [], ◌∷◌, refl, sym, arith}
-use seplogic.Ra.Ura.{Ura}
-use base.Logic.{SProp, ent, sep, via, never, never_e, fst∗, snd∗, guard}
-use base.Fml.{Fml, ftrue, finv}
-use types.Logic.{Logic, sem}
+use base.Logic.{snd∗}
 use types.Kit.{‵, ◌⊛◌, given, ◌$◌, ◌∵◌, !, qed, by, move, keep, drop, split, fsplit, fsplit3, fjoin, fjoin3, fpick, fpack, learn, check, rewrite, frame, use1, use2, done}
-use denote.RattleType.{RattleType, RowLaws}
-use denote.RawPtr.{Ptr, block_ptr, null_ptr}
-use denote.SharingLaws.{contraction}
-use denote.Steps.{nothing}
-use base.Stored.{Gv}
-use Rattle.ref_core.specs.WeightRule.{full_weight}
+use Rattle.raw_block.proofs.Walking.{Ura, SProp, ent, sep, via, never, never_e, fst∗, guard, Fml, ftrue, finv, Logic, sem, RattleType, RowLaws, Ptr, block_ptr, null_ptr, contraction, nothing, Gv, full_weight}
 use Rattle.raw_block.specs.Views.{LifeNames}
 use Rattle.raw_block.specs.Shares.{About, about, entry, kept, offset, seen, Inv, owned, share_at, share_owns, given_back_owns}
 use Rattle.raw_block.proofs.Entries.{kept_cut, kept_glue, entry_cut, Fit, entry_glue}

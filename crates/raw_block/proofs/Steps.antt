@@ -1,25 +1,16 @@
 -- One step on a block's word, under its life's invariant. Assumes `Logic`.
 use Rattle.std.proofs.Common.{◌≢◌, ◌≡◌, ℕ, ◌+◌, ◌-◌, ◌%◌, ◌^◌, ◌<◌, ◌≤◌, eqb, List, [], ◌∷◌, ◌++◌, sym, refl, subst, arith, eq-eqb, ne_eqb, w64}
-use mathlib.Core.Bool.{Bool, true, false}
 use mathlib.Core.List.{Mem, not-mem-nil, prefix-append}
 use mathlib.Core.Logic.{dite}
 use native.Mathlib.Decide.{ℕ_discrete}
-use seplogic.Ra.Ura.{Ura}
-use mir.Syntax.{ty_int}
-use mir.Val.{vint, has_ty, WT}
-use base.Fraction.{full_share}
-use base.Logic.{SProp, ent, sep, wand, ex, ex_i, guard, never, never_e, upd, upd_i, via, apply∗}
-use base.Fml.{Lft, Fml, ftrue, ffalse, fsep, fdead, finv, flft, fnamed}
+use base.Logic.{ex_i}
+use base.Fml.{fnamed}
 use prog.Atomic.{either}
-use types.Logic.{Logic, sem}
 use types.Kit.{‵, raw, ◌⊛◌, some, given, ◌$◌, ◌∵◌, !, qed, by, move, keep, drop, split, fsplit, fsplit3, fjoin, fjoin3, fpick, fpack, pick, learn, show, check, frame, each, assume, suffices, settle, use1, use2, use3, rewrite, done}
-use denote.RattleType.{RattleType}
-use denote.RawPtr.{block_ptr}
-use denote.Steps.{nothing}
-use Rattle.core.specs.Sync.RawAtomic.{Shift, rests, ends, enters, leaves, along, if_none, shifted, back, found, asks, always, word}
+use Rattle.raw_block.proofs.Walking.{Bool, true, false, Ura, ty_int, vint, has_ty, WT, full_share, SProp, ent, sep, wand, ex, guard, never, never_e, upd, upd_i, via, apply∗, Lft, Fml, ftrue, ffalse, fsep, fdead, finv, flft, Logic, sem}
+use Rattle.raw_block.proofs.Walking.{RattleType, block_ptr, nothing, word, latest, at_least, full_weight, IsBalanced}
+use Rattle.core.specs.Sync.RawAtomic.{Shift, rests, ends, enters, leaves, along, if_none, shifted, back, found, asks, always}
 use types.Growing.{latest_grows, latest_shows}
-use base.Growing.{latest, at_least}
-use Rattle.ref_core.specs.WeightRule.{full_weight, IsBalanced}
 use Rattle.raw_block.specs.Views.{LifeNames}
 use Rattle.raw_block.specs.Shares.{About, about, Log, reached, was, entry, kept, beside_word, state, alive, Inv, held, told, tells}
 use Rattle.raw_block.proofs.Entries.{kept_glue, kept_whole, entry_cut, Fit, entry_glue}

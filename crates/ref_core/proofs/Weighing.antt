@@ -111,13 +111,6 @@ module _ (w : WeightState) (i : IsWeighed w) where
       let sum : part c x.block (x.weight + y.weight) ≡ part c x.block x.weight + part c x.block y.weight = by_test (λ z. cond z (x.weight + y.weight) 0 ≡ cond z x.weight 0 + cond z y.weight 0) (eqb c x.block) (λ _. refl) (λ _. refl) in omega arith)
       (live_with n h x.block (x.weight + y.weight) us l.1 (omega arith) (live_dropped n k ws i.live))
 
-  -- two holders of one block weigh at most its word together
-  pub two_le_word : (h k : ℕ) (x y : Holding) → holding_of h ws ≡ Some x → holding_of k ws ≡ Some y → h ≢ k → x.block ≡ y.block → x.weight + y.weight ≤ full_weight
-  two_le_word h k x y e f apart same = let us = dropped k ws in let e' : holding_of h us ≡ Some x = found_dropped h k ws apart ∙ e in
-      let c = x.block in let s = i.sums c in let most = i.bounded c in let b = total-dropped c h us in let p : part_if c (holding_of h us) ≡ part c c x.weight = ap (part_if c) e' in
-      let d = total-dropped c k ws in let q = part_found c k y f in let r : part c y.block y.weight ≡ part c c y.weight = ap (λ z. part c z y.weight) (sym same) in
-      let o = part_own c x.weight in let u = part_own c y.weight in omega arith
-
   -- the map in which the holder has given some of its weight has the same live holders
   pub lowered_fresh : (h k g : ℕ) (x : Holding) → holding_of h ws ≡ Some x → is_none (holding_of k ws) ≡ true → is_none (holding_of k (lowered h x g)) ≡ true
   lowered_fresh h k g x e fresh = sym (fresh_is k (lowered h x g)) ∙ ap (λ ps. is_none (block_of k ps)) (kept_is h (x.weight - g) ws x e) ∙ fresh_is k ws ∙ fresh

@@ -1,11 +1,10 @@
 -- `range_mut` lends a range of the bytes. The borrow checker shows no write-back clause for a part of an array, so this walks the code by hand.
 use Rattle.std.proofs.Common.{ℕ, ◌+◌, ◌-◌, ◌≤◌, [], ◌∷◌, refl, arith, w64}
 use types.Kit.{‵, raw, ◌⊛◌, given, learn, some, later, ◌$◌, ◌∵◌, !, qed, move, keep, split, split3, join, fsplit, fjoin, use2, await, pick, suffices, frame, done}
-use Rattle.raw_block.proofs.Walking.{named, Val, vptr, vint, SProp, GName, ftrue, flft, stop, fld, addr, no_more, and_then, returns, enter, alloc_all, pass_all, free_all, look_at, get, through, sets, agg, fact, tables, no, yes}
-use Rattle.raw_block.proofs.Walking.{uint_vals, uint_Tells, MutRef, mut_vals, mut_Tells, owns, plain, nothing, heard, Stays, stay_dropped, walk_of, Goes-dropped, proved}
+use Rattle.raw_block.proofs.Walking.{named, Val, vptr, vint, SProp, GName, ftrue, flft, stop, fld, addr, no_more, and_then, returns, enter, alloc_all, pass_all, free_all, look_at, get, through, sets, agg, fact, tables, no, yes, uint_vals}
+use Rattle.raw_block.proofs.Walking.{uint_Tells, MutRef, mut_vals, mut_Tells, owns, plain, nothing, heard, Stays, stay_dropped, walk_of, Goes-dropped, proved, slice_val}
 use types.Run.{bin}
 use denote.Builtin.{RefMutOf, usize}
-use denote.Slice.{slice_val}
 use denote.Triple.Walked.{says, ends_at, Goes-spent_ref}
 use Rattle.raw_block.proofs.Ranges.{S, Sized, lent_at, lends}
 use Rattle.raw_block.specs.contracts.block.Bytes.range_mut as F

@@ -1,12 +1,11 @@
 -- `into_box` makes the box again.
 use Rattle.std.proofs.Common.{◌≡◌, List, [], ◌∷◌, refl, sym, ap, subst}
 use lib.Dec.{T as T'}
-use mir.Val.{has_ty, WT}
 use types.Kit.{Item, ‵, raw, ◌⊛◌, given, some, later, at_ret, ◌$◌, ◌∵◌, !, qed, by, move, keep, drop, split, split3, join, fsplit, fjoin, fjoin3, pick, learn, use0, use1, await, feq_i}
-use Rattle.raw_block.proofs.Walking.{Dict, a_type, dcons, dnil, impl, tcons, tnil, bare, Val, vptr, inst_fn, full_share, SProp, emp, id⊢, guard_i, Lft, Share, ftrue, flft, sem, stop, fld, of_opd, no_more, and_then, first}
-use Rattle.raw_block.proofs.Walking.{blocks, exec, returns, enter, alloc_all, pass_all, free_all, look_at, get, get_in, sets, lands_last, is, env, sub, whole, fact, fact_i, fact_use, tables, tables_of, ◌⊑◌, ⊑_static, yes, no}
-use Rattle.raw_block.proofs.Walking.{RattleType, owns, Ptr, InBlock, block_ptr, ptr_val, block_of, count_of, at_block, types_at, plain, nothing, only, heard, param, arg, layout, bounded, Laws, arg_laws, glues, Lasts, lasts}
-use Rattle.raw_block.proofs.Walking.{triple_of, Stays, stay_dropped, walk_of, Goes-dropped, tail, proved, leaves, fm, box_out, box_in, ghosts, dict}
+use Rattle.raw_block.proofs.Walking.{has_ty, WT, Dict, a_type, dcons, dnil, impl, tcons, tnil, bare, Val, vptr, inst_fn, full_share, SProp, emp, id⊢, guard_i, Lft, Share, ftrue, flft, sem, stop, fld, of_opd, no_more, and_then, first}
+use Rattle.raw_block.proofs.Walking.{blocks, exec, returns, enter, alloc_all, pass_all, free_all, look_at, get, get_in, sets, lands_last, is, env, sub, whole, fact, fact_i, fact_use, tables, tables_of, ◌⊑◌, ⊑_static, yes, no, RattleType}
+use Rattle.raw_block.proofs.Walking.{owns, Ptr, InBlock, block_ptr, ptr_val, block_of, count_of, at_block, types_at, plain, nothing, only, heard, param, arg, layout, bounded, Laws, arg_laws, glues, Lasts, lasts, triple_of, Stays}
+use Rattle.raw_block.proofs.Walking.{stay_dropped, walk_of, Goes-dropped, tail, proved, leaves, fm, box_out, box_in, ghosts, dict}
 use denote.Triple.Call.{calls_at_last}
 use Rattle.std_alloc.proofs.BoxSteps.Form as box
 use Rattle.std_alloc.specs.contracts.boxed.Box as boxes

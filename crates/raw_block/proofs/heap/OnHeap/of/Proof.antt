@@ -1,14 +1,12 @@
 -- `of` takes the memory out of the box.
 use Rattle.std.proofs.Common.{◌≡◌, List, [], ◌∷◌, ◌++◌, refl, sym, ap, ◌∙◌, subst}
-use base.Logic.{ent, never, fst∗}
 use prog.Wp.{WpFn}
 use types.Kit.{Item, ‵, raw, ◌⊛◌, some, later, ◌$◌, ◌∵◌, !, qed, by, move, keep, drop, split, split3, join, fsplit, fjoin, pick, suffices, use0, use1, await, feq_l}
-use Rattle.raw_block.proofs.Walking.{Dict, a_type, dcons, dnil, impl, tcons, tnil, bare, Val, inst_fn, full_share, SProp, emp, id⊢, Lft, Share, ftrue, flft, sem, of_opd, no_more, and_then, returns, enter, alloc_all, pass_all}
-use Rattle.raw_block.proofs.Walking.{free_all, look_at, get, sets, agg, fact, fact_i, tables, tables_of, ◌⊑◌, ⊑_static, no, RattleType, owns, Ptr, block_ptr, ptr_val, types_at, plain, nothing, only, heard, param, arg, layout}
-use Rattle.raw_block.proofs.Walking.{bounded, Laws, arg_laws, glues, Lasts, lasts, triple_of, Stays, stay_dropped, walk_of, leaves, fm, box_out, box_in, ghosts, dict}
+use Rattle.raw_block.proofs.Walking.{ent, never, fst∗, Dict, a_type, dcons, dnil, impl, tcons, tnil, bare, Val, inst_fn, full_share, SProp, emp, id⊢, Lft, Share, ftrue, flft, sem, of_opd, no_more, and_then, returns, enter, alloc_all}
+use Rattle.raw_block.proofs.Walking.{pass_all, free_all, look_at, get, sets, agg, fact, fact_i, tables, tables_of, ◌⊑◌, ⊑_static, no, RattleType, owns, Ptr, block_ptr, ptr_val, types_at, plain, nothing, only, heard, param, arg, layout}
+use Rattle.raw_block.proofs.Walking.{bounded, Laws, arg_laws, glues, Lasts, lasts, triple_of, Stays, stay_dropped, walk_of, leaves, fm, box_out, box_in, ghosts, dict, RawPtr, null_ptr}
 use types.ByLocal.{lands_as}
-use denote.Builtin.{RawPtr}
-use denote.RawPtr.{null_ptr, in_a_block}
+use denote.RawPtr.{in_a_block}
 use denote.Triple.Call.{calls_at}
 use Rattle.core.proofs.alloc.Calls.{Goes-blank}
 use Rattle.atomic_table.proofs.Walks.{proved_at}

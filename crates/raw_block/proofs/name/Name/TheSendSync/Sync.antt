@@ -1,4 +1,4 @@
-use denote.Param.Send.{IsSync, part_keyless}
+use Rattle.raw_block.proofs.Walking.{IsSync, part_keyless}
 use Rattle.raw_block.specs.contracts.name.Name.{the_row}
 use Rattle.raw_block.proofs.name.Name.TheSendSync.Send.{send}
 

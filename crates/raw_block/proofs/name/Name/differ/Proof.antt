@@ -1,8 +1,7 @@
 use Rattle.std.proofs.Common.{◌≡◌, ◌≢◌, ℕ, List, [], ◌∷◌, refl}
-use base.Logic.{sep}
 use types.Kit.{‵, raw, ◌⊛◌, given, ◌$◌, ◌∵◌, !, qed, by, move, keep, split, join, fsplit, fsplit3, fjoin, learn, use0, use2, feq_i, group}
-use Rattle.raw_block.proofs.Walking.{named, Val, vunit, SProp, emp, guard_i, ftrue, fsep, flft, sem, of_opd, returns, enter, unit_lit, alloc_all, pass_all, free_all, look_at, sets, tables, fact, fact_i, fact_use, RattleType}
-use Rattle.raw_block.proofs.Walking.{plain, nothing, opens, closes, MutRef, mut_vals, mut_Tells, Stays, walk_of, stay_ref, Goes-ref, proved, leaves}
+use Rattle.raw_block.proofs.Walking.{sep, named, Val, vunit, SProp, emp, guard_i, ftrue, fsep, flft, sem, of_opd, returns, enter, unit_lit, alloc_all, pass_all, free_all, look_at, sets, tables, fact, fact_i, fact_use, RattleType, plain}
+use Rattle.raw_block.proofs.Walking.{nothing, opens, closes, MutRef, mut_vals, mut_Tells, Stays, walk_of, stay_ref, Goes-ref, proved, leaves}
 use Rattle.raw_block.specs.Naming.{name_owns}
 use Rattle.raw_block.proofs.Naming.{names_differ}
 use Rattle.raw_block.specs.contracts.name.Name.differ.{ended, clauses}

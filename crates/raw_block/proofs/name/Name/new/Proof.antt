@@ -1,10 +1,8 @@
 use Rattle.std.proofs.Common.{◌-◌, [], ◌∷◌, refl}
-use base.Logic.{ex}
-use types.Owned.{basic}
 use Rattle.raw_block.specs.Naming.{about_nothing, name_owns}
 use Rattle.raw_block.proofs.Entries.{entry_new}
 use types.Kit.{‵, raw, ◌⊛◌, ◌$◌, ◌∵◌, !, qed, by, keep, split, fjoin, use0, later, some, await, pick}
-use Rattle.raw_block.proofs.Walking.{via, full_weight, Val, SProp, GName, sem, no_more, returns, enter, alloc_all, pass_all, free_all, look_at, sets, agg, tables, RattleType, owns, types_at, nothing, alive, Stays, walk_of}
+use Rattle.raw_block.proofs.Walking.{ex, basic, via, full_weight, Val, SProp, GName, sem, no_more, returns, enter, alloc_all, pass_all, free_all, look_at, sets, agg, tables, RattleType, owns, types_at, nothing, alive, Stays, walk_of}
 use Rattle.raw_block.proofs.Walking.{proved, leaves}
 use Rattle.raw_block.specs.contracts.name.Name as name
 use Rattle.raw_block.proofs.Fields.{none, name_made}

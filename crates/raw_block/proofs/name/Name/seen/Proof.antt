@@ -1,7 +1,7 @@
 use Rattle.std.proofs.Common.{◌≡◌, ℕ, [], ◌∷◌, refl}
 use types.Kit.{‵, raw, ◌⊛◌, ◌$◌, ◌∵◌, !, qed, by, move, keep, split, fjoin, use0}
-use Rattle.raw_block.proofs.Walking.{named, Val, vptr, SProp, emp, no_more, returns, enter, alloc_all, pass_all, free_all, look_at, sets, agg, tables, fact, fact_i, yes, RattleType, owns, types_at, plain, nothing, RefOf}
-use Rattle.raw_block.proofs.Walking.{shr_vals, shr_Tells, alive, Stays, stay_dropped, walk_of, Goes-dropped, proved, leaves}
+use Rattle.raw_block.proofs.Walking.{named, Val, vptr, SProp, emp, no_more, returns, enter, alloc_all, pass_all, free_all, look_at, sets, agg, tables, fact, fact_i, yes, RattleType, owns, types_at, plain, nothing, RefOf, shr_vals}
+use Rattle.raw_block.proofs.Walking.{shr_Tells, alive, Stays, stay_dropped, walk_of, Goes-dropped, proved, leaves}
 use Rattle.raw_block.specs.contracts.name.Name as name
 use Rattle.raw_block.specs.contracts.name.NameSeen as name_seen
 use Rattle.raw_block.proofs.Fields.{none, name_seen_made}

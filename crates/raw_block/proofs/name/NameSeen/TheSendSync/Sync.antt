@@ -1,4 +1,4 @@
-use denote.Param.Send.{IsSync, part_keyless}
+use Rattle.raw_block.proofs.Walking.{IsSync, part_keyless}
 use Rattle.raw_block.specs.contracts.name.NameSeen.{the_row}
 use Rattle.raw_block.proofs.name.NameSeen.TheSendSync.Send.{send}
 

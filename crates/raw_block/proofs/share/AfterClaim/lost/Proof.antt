@@ -1,8 +1,8 @@
 use Rattle.std.proofs.Common.{◌≡◌, ◌≢◌, ℕ, ◌<◌, ◌≤◌, List, [], ◌∷◌, ◌++◌, refl, ap}
 use types.Kit.{‵, raw, ◌⊛◌, given, ◌$◌, ◌∵◌, !, qed, by, move, keep, split, join, fsplit, fjoin, fjoin3, fpack, learn, use0, use1, rewrite, feq_i}
-use Rattle.raw_block.proofs.Walking.{dnil, a_type, Val, vstruct, vcons, vnil, of_list, inst_fn, SProp, emp, guard_i, fsep, feq, sem, stop, fld, of_opd, no_more, and_then, returns, enter, alloc_all, pass_all, free_all, look_at}
-use Rattle.raw_block.proofs.Walking.{get, get_in, sets, is, agg, sub, whole, tables, fact, fact_i, fact_use, no, RattleType, Valss, owns, types_at, plain, Ptr, InBlock, block_ptr, ptr_val, block_of, count_of, at_block, nothing}
-use Rattle.raw_block.proofs.Walking.{heard, param, bounded, alive, Stays, stay_dropped, walk_of, Goes-dropped, proved, leaves, full_weight}
+use Rattle.raw_block.proofs.Walking.{dnil, a_type, Val, vstruct, vcons, vnil, of_list, inst_fn, SProp, emp, guard_i, fsep, feq, sem, stop, fld, of_opd, no_more, and_then, returns, enter, alloc_all, pass_all, free_all, look_at, get}
+use Rattle.raw_block.proofs.Walking.{get_in, sets, is, agg, sub, whole, tables, fact, fact_i, fact_use, no, RattleType, Valss, owns, types_at, plain, Ptr, InBlock, block_ptr, ptr_val, block_of, count_of, at_block, nothing, heard, param}
+use Rattle.raw_block.proofs.Walking.{bounded, alive, Stays, stay_dropped, walk_of, Goes-dropped, proved, leaves, full_weight}
 use Rattle.raw_block.specs.Views.{LifeNames}
 use Rattle.raw_block.specs.Shares.{share_owns, claimed_owns, seen_owns}
 use Rattle.raw_block.specs.contracts.share.Share as share

@@ -1,8 +1,8 @@
 use Rattle.std.proofs.Common.{◌≡◌, ℕ, [], ◌∷◌, refl, ap}
 use types.Kit.{‵, raw, ◌⊛◌, given, later, ◌$◌, ◌∵◌, !, qed, by, move, keep, split, fsplit, fjoin, learn, use0, use1, await, rewrite}
-use Rattle.raw_block.proofs.Walking.{dnil, a_type, Val, inst_fn, SProp, emp, guard_i, sem, stop, fld, of_opd, no_more, and_then, returns, enter, alloc_all, pass_all, free_all, look_at, get, get_in, sets, is, agg, sub, whole}
-use Rattle.raw_block.proofs.Walking.{tables, fact, fact_i, fact_use, no, RattleType, owns, types_at, plain, Ptr, InBlock, block_ptr, ptr_val, block_of, count_of, at_block, nothing, heard, param, bounded, alive, Stays}
-use Rattle.raw_block.proofs.Walking.{stay_dropped, walk_of, Goes-dropped, proved, leaves}
+use Rattle.raw_block.proofs.Walking.{dnil, a_type, Val, inst_fn, SProp, emp, guard_i, sem, stop, fld, of_opd, no_more, and_then, returns, enter, alloc_all, pass_all, free_all, look_at, get, get_in, sets, is, agg, sub, whole, tables, fact}
+use Rattle.raw_block.proofs.Walking.{fact_i, fact_use, no, RattleType, owns, types_at, plain, Ptr, InBlock, block_ptr, ptr_val, block_of, count_of, at_block, nothing, heard, param, bounded, alive, Stays, stay_dropped, walk_of}
+use Rattle.raw_block.proofs.Walking.{Goes-dropped, proved, leaves}
 use Rattle.raw_block.specs.Heap.{heap_owns}
 use Rattle.raw_block.specs.Shares.{released_owns}
 use Rattle.raw_block.specs.Views.{LifeNames}

@@ -1,7 +1,7 @@
 use Rattle.std.proofs.Common.{◌≡◌, ◌≢◌, ℕ, ◌<◌, ◌≤◌, [], ◌∷◌, refl}
 use types.Kit.{‵, raw, ◌⊛◌, given, ◌$◌, ◌∵◌, !, qed, by, move, keep, split, fsplit, fjoin, learn, use0, use1}
-use Rattle.raw_block.proofs.Walking.{dnil, a_type, Val, inst_fn, SProp, emp, no_more, returns, enter, alloc_all, pass_all, free_all, look_at, sets, agg, tables, fact, fact_i, no, RattleType, owns, types_at, plain, Ptr, nothing}
-use Rattle.raw_block.proofs.Walking.{heard, param, bounded, alive, Stays, stay_dropped, walk_of, Goes-dropped, proved, leaves, full_weight}
+use Rattle.raw_block.proofs.Walking.{dnil, a_type, Val, inst_fn, SProp, emp, no_more, returns, enter, alloc_all, pass_all, free_all, look_at, sets, agg, tables, fact, fact_i, no, RattleType, owns, types_at, plain, Ptr, nothing, heard}
+use Rattle.raw_block.proofs.Walking.{param, bounded, alive, Stays, stay_dropped, walk_of, Goes-dropped, proved, leaves, full_weight}
 use Rattle.raw_block.specs.Views.{LifeNames}
 use Rattle.raw_block.specs.Shares.{given_back_owns}
 use Rattle.raw_block.proofs.Fields.{alone, released_told, typed_any, none, given_back_made}

@@ -1,4 +1,4 @@
-use denote.Param.Send.{IsSend}
+use Rattle.raw_block.proofs.Walking.{IsSend}
 use Rattle.raw_block.specs.contracts.share.GivenBack.{the_row}
 
 pub send : IsSend the_row

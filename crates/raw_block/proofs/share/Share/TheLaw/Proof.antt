@@ -1,8 +1,6 @@
 -- A `&` to a share holds a `&` to the content. Assumes `Logic`.
-use Rattle.raw_block.proofs.Walking.{RattleType, Laws}
-use denote.Param.Shared.{copy_shared}
+use Rattle.raw_block.proofs.Walking.{RattleType, Laws, copy_shared, RawPtr-copy}
 use denote.Struct.Field.{RawPtr-field}
-use denote.Struct.Laws.{RawPtr-copy}
 use denote.Struct.Lending.{of_Lends}
 use Rattle.raw_block.specs.contracts.share.Share as C
 use Rattle.raw_block.proofs.share.Share.TheLaw.Statement.{statement}

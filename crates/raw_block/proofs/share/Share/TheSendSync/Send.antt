@@ -1,5 +1,4 @@
-use denote.RattleType.{RattleType}
-use denote.Param.Send.{IsSend, IsSync}
+use Rattle.raw_block.proofs.Walking.{RattleType, IsSend, IsSync}
 use Rattle.raw_block.specs.contracts.share.Share.{the_row}
 use Rattle.raw_block.proofs.Sent.{shares_keyless}
 

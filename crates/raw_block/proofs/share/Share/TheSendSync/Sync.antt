@@ -1,7 +1,6 @@
-use denote.RattleType.{RattleType}
-use denote.Param.Send.{IsSend, IsSync, struct_sync, sendable}
-use denote.Builtin.{RawPtr}
-use denote.Struct.Owning.{shape, to}
+use Rattle.raw_block.proofs.Walking.{RattleType, IsSend, IsSync, sendable, RawPtr, shape}
+use denote.Param.Send.{struct_sync}
+use denote.Struct.Owning.{to}
 use Rattle.raw_block.specs.contracts.share.Share as share
 use Rattle.raw_block.proofs.Sent.{seen_keyless}
 

@@ -1,10 +1,9 @@
 use Rattle.std.proofs.Common.{◌≡◌, ℕ, ◌+◌, [], ◌∷◌, refl, ap, w32}
 use types.Kit.{‵, raw, ◌⊛◌, given, learn, later, ◌$◌, ◌∵◌, !, qed, by, move, keep, split, split3, join, fsplit, fjoin, fpick, use0, use1, await, rewrite, group}
-use Rattle.raw_block.proofs.Walking.{dnil, a_type, Val, vint, inst_fn, SProp, emp, id⊢, guard_i, sem, Lft, Share, ftrue, flft, stop, fld, of_opd, no_more, and_then, returns, enter, alloc_all, pass_all, free_all, look_at, get}
-use Rattle.raw_block.proofs.Walking.{get_in, sets, is, agg, sub, whole, tables, fact, fact_i, fact_use, ◌⊑◌, yes, no, RattleType, owns, types_at, plain, Ptr, InBlock, block_ptr, ptr_val, block_of, count_of, at_block, uint_vals}
-use Rattle.raw_block.proofs.Walking.{uint_Tells, nothing, heard, param, layout, bounded, param_laws, Stays, stay_dropped, walk_of, Goes-dropped, proved, leaves, full_weight}
+use Rattle.raw_block.proofs.Walking.{dnil, a_type, Val, vint, inst_fn, SProp, emp, id⊢, guard_i, sem, Lft, Share, ftrue, flft, stop, fld, of_opd, no_more, and_then, returns, enter, alloc_all, pass_all, free_all, look_at, get, get_in}
+use Rattle.raw_block.proofs.Walking.{sets, is, agg, sub, whole, tables, fact, fact_i, fact_use, ◌⊑◌, yes, no, RattleType, owns, types_at, plain, Ptr, InBlock, block_ptr, ptr_val, block_of, count_of, at_block, uint_vals, uint_Tells}
+use Rattle.raw_block.proofs.Walking.{nothing, heard, param, layout, bounded, param_laws, Stays, stay_dropped, walk_of, Goes-dropped, proved, leaves, full_weight, Member, word}
 use denote.Builtin.{u32}
-use denote.Struct.Members.{Member}
 use Rattle.raw_block.specs.Shares.{block, content_at, whole_with}
 use Rattle.raw_block.specs.contracts.share.Share as share
 use Rattle.raw_block.specs.Heap.{heap_owns}
@@ -16,7 +15,6 @@ use Rattle.raw_block.specs.contracts.share.Share.begin.Key.{name as #self}
 use Rattle.raw_block.proofs.share.Share.begin.Statement.{statement}
 use Rattle.raw_block.proofs.share.Share.begin.Code as code
 use Rattle.raw_block.specs.contracts.block.Block as blocks
-use Rattle.core.specs.Sync.RawAtomic.{word}
 
 pub begin_spec : {M : Type 1} → statement M
 begin_spec 𝓤 𝓛 𝓜 𝓡 wired X L =

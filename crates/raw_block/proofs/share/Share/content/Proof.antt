@@ -1,14 +1,13 @@
 use Rattle.std.proofs.Common.{◌≡◌, ℕ, ◌+◌, List, [], ◌∷◌, sym, refl, ap, ◌∙◌}
 use base.Fml.{fhide}
 use types.Kit.{‵, raw, ◌⊛◌, given, at_ret, ◌$◌, ◌∵◌, !, qed, by, move, keep, split, join, fsplit, fjoin, learn, use0, use1, rewrite, feq_i}
-use Rattle.raw_block.proofs.Walking.{dnil, a_type, named, Val, vptr, inst_fn, SProp, emp, id⊢, guard_i, Lft, Fml, ftrue, fsep, flft, sem, stop, fld, addr, of_opd, first, blocks, exec, returns, enter, alloc_all, pass_all}
-use Rattle.raw_block.proofs.Walking.{free_all, look_at, get, through, sets, env, sub, whole, look_in, tables, fact, fact_i, fact_use, yes, RattleType, owns, types_at, plain, Ptr, InBlock, block_ptr, block_of, count_of, at_block}
-use Rattle.raw_block.proofs.Walking.{nothing, peeks, shows, cell_at, param, bounded, param_laws, RefOf, shr_vals, shr_Tells, Stays, stay_dropped, walk_of, Goes-dropped, tail, proved, leaves}
+use Rattle.raw_block.proofs.Walking.{dnil, a_type, named, Val, vptr, inst_fn, SProp, emp, id⊢, guard_i, Lft, Fml, ftrue, fsep, flft, sem, stop, fld, addr, of_opd, first, blocks, exec, returns, enter, alloc_all, pass_all, free_all}
+use Rattle.raw_block.proofs.Walking.{look_at, get, through, sets, env, sub, whole, look_in, tables, fact, fact_i, fact_use, yes, RattleType, owns, types_at, plain, Ptr, InBlock, block_ptr, block_of, count_of, at_block, nothing, peeks}
+use Rattle.raw_block.proofs.Walking.{shows, cell_at, param, bounded, param_laws, RefOf, shr_vals, shr_Tells, Stays, stay_dropped, walk_of, Goes-dropped, tail, proved, leaves, Is}
 use types.Run.{hop}
 use types.ByLocal.{sets_last}
 use denote.Steps.{looks, shuts}
 use denote.Opens.{unhide}
-use denote.Laws.{Is}
 use denote.Memory.{hidden_shr}
 use denote.Struct.Lending.{lent_out}
 use Rattle.raw_block.specs.Shares.{offset, share_shares}

@@ -1,7 +1,7 @@
 use Rattle.std.proofs.Common.{◌≡◌, ℕ, ◌+◌, ◌≤◌, List, [], ◌∷◌, refl}
 use types.Kit.{‵, raw, ◌⊛◌, given, ◌$◌, ◌∵◌, !, qed, by, move, keep, split, join, fsplit, fsplit3, fjoin, learn, use0, use2, rewrite, feq_i, group}
-use Rattle.raw_block.proofs.Walking.{dnil, a_type, named, Val, vunit, inst_fn, SProp, emp, Fml, ftrue, fsep, flft, of_opd, returns, enter, alloc_all, pass_all, free_all, look_at, sets, tables, fact, fact_i, no, RattleType}
-use Rattle.raw_block.proofs.Walking.{plain, Ptr, nothing, heard, opens, closes, param, bounded, MutRef, mut_vals, mut_Tells, Stays, stay_dropped, walk_of, Goes-dropped, stay_ref, Goes-ref, proved, leaves, full_weight, unit_lit}
+use Rattle.raw_block.proofs.Walking.{dnil, a_type, named, Val, vunit, inst_fn, SProp, emp, Fml, ftrue, fsep, flft, of_opd, returns, enter, alloc_all, pass_all, free_all, look_at, sets, tables, fact, fact_i, no, RattleType, plain, Ptr}
+use Rattle.raw_block.proofs.Walking.{nothing, heard, opens, closes, param, bounded, MutRef, mut_vals, mut_Tells, Stays, stay_dropped, walk_of, Goes-dropped, stay_ref, Goes-ref, proved, leaves, full_weight, unit_lit}
 use Rattle.raw_block.specs.Views.{LifeNames}
 use Rattle.raw_block.specs.Shares.{share_owns}
 use Rattle.raw_block.specs.contracts.share.Share as share

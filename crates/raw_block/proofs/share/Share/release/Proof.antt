@@ -1,9 +1,9 @@
 use Rattle.std.proofs.Common.{◌≡◌, ℕ, ◌+◌, ◌^◌, ◌<◌, ◌≤◌, List, [], ◌∷◌, ◌++◌, sym, refl, ap, lit<, w64}
 use types.Kit.{‵, raw, ◌⊛◌, given, mean, at_ret, ◌$◌, ◌∵◌, !, qed, by, move, keep, drop, split, fsplit, fsplit3, fjoin, fjoin3, fpick, fpack, learn, use0, use1, use2, rewrite, feq_i, flt_i}
-use Rattle.raw_block.proofs.Walking.{dnil, a_type, Val, vint, vptr, vstruct, vcons, vnil, of_list, inst_fn, SProp, emp, via, guard_i, Fml, ftrue, fsep, feq, sem, stop, fld, addr, lit, of_opd, no_more, and_then, first, blocks}
-use Rattle.raw_block.proofs.Walking.{exec, Calls-last, returns, enter, alloc_all, pass_all, free_all, look_at, get, get_in, through, sets, lands_last, is, env, agg, sub, whole, tables, fact, fact_i, fact_use, yes, no}
-use Rattle.raw_block.proofs.Walking.{RattleType, Valss, owns, types_at, plain, Ptr, InBlock, block_ptr, ptr_val, block_of, count_of, at_block, nothing, heard, param, bounded, u64, uint_vals, uint_Tells, alive, Stays}
-use Rattle.raw_block.proofs.Walking.{stay_dropped, walk_of, Goes-dropped, tail, proved, leaves, fm, found, finds, full_weight}
+use Rattle.raw_block.proofs.Walking.{dnil, a_type, Val, vint, vptr, vstruct, vcons, vnil, of_list, inst_fn, SProp, emp, via, guard_i, Fml, ftrue, fsep, feq, sem, stop, fld, addr, lit, of_opd, no_more, and_then, first, blocks, exec}
+use Rattle.raw_block.proofs.Walking.{Calls-last, returns, enter, alloc_all, pass_all, free_all, look_at, get, get_in, through, sets, lands_last, is, env, agg, sub, whole, tables, fact, fact_i, fact_use, yes, no, RattleType, Valss, owns}
+use Rattle.raw_block.proofs.Walking.{types_at, plain, Ptr, InBlock, block_ptr, ptr_val, block_of, count_of, at_block, nothing, heard, param, bounded, u64, uint_vals, uint_Tells, alive, Stays, stay_dropped, walk_of, Goes-dropped, tail}
+use Rattle.raw_block.proofs.Walking.{proved, leaves, fm, found, finds, full_weight}
 use Rattle.atomic_table.proofs.Calls.{seq_cst, subs}
 use Rattle.raw_block.specs.Views.{LifeNames}
 use Rattle.raw_block.specs.Shares.{about, entry, share_owns, tells}

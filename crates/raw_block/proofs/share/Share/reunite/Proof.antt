@@ -1,9 +1,9 @@
 use Rattle.std.proofs.Common.{◌≡◌, ℕ, ◌+◌, ◌<◌, ◌≤◌, [], ◌∷◌, sym, refl, ap, ◌∙◌, lit<, w64, arith}
 use types.Kit.{join, ‵, raw, ◌⊛◌, given, mean, at_ret, ◌$◌, ◌∵◌, !, qed, by, move, keep, drop, split, fsplit, fsplit3, fjoin, fpick, fpack, learn, use0, use1, use2, rewrite}
-use Rattle.raw_block.proofs.Walking.{dnil, a_type, Val, vint, vptr, inst_fn, SProp, emp, via, guard_i, Fml, ftrue, sem, stop, fld, addr, lit, of_opd, no_more, and_then, first, blocks, exec, Calls-last, returns, enter, alloc_all}
-use Rattle.raw_block.proofs.Walking.{pass_all, free_all, look_at, get, get_in, through, sets, lands_last, is, env, agg, sub, whole, tables, fact, fact_i, fact_use, yes, no, RattleType, owns, types_at, plain, Ptr, InBlock}
-use Rattle.raw_block.proofs.Walking.{block_ptr, ptr_val, block_of, count_of, at_block, nothing, heard, param, bounded, u64, uint_vals, uint_Tells, alive, Stays, stay_dropped, walk_of, Goes-dropped, tail, proved, leaves, fm}
-use Rattle.raw_block.proofs.Walking.{found, finds, exchanges, full_weight}
+use Rattle.raw_block.proofs.Walking.{dnil, a_type, Val, vint, vptr, inst_fn, SProp, emp, via, guard_i, Fml, ftrue, sem, stop, fld, addr, lit, of_opd, no_more, and_then, first, blocks, exec, Calls-last, returns, enter, alloc_all, pass_all}
+use Rattle.raw_block.proofs.Walking.{free_all, look_at, get, get_in, through, sets, lands_last, is, env, agg, sub, whole, tables, fact, fact_i, fact_use, yes, no, RattleType, owns, types_at, plain, Ptr, InBlock, block_ptr, ptr_val}
+use Rattle.raw_block.proofs.Walking.{block_of, count_of, at_block, nothing, heard, param, bounded, u64, uint_vals, uint_Tells, alive, Stays, stay_dropped, walk_of, Goes-dropped, tail, proved, leaves, fm, found, finds, exchanges}
+use Rattle.raw_block.proofs.Walking.{full_weight, ffalse}
 use Rattle.raw_block.specs.Views.{LifeNames}
 use Rattle.raw_block.specs.Shares.{About, about, entry, share_owns, tells}
 use Rattle.raw_block.specs.contracts.share.Share as share
@@ -15,7 +15,6 @@ use Rattle.raw_block.specs.contracts.share.Share.reunite.{ended, clauses}
 use Rattle.raw_block.specs.contracts.share.Share.reunite.Key.{name as #self}
 use Rattle.raw_block.proofs.share.Share.reunite.Statement.{statement}
 use Rattle.raw_block.proofs.share.Share.reunite.Code as code
-use base.Fml.{ffalse}
 use Rattle.raw_block.proofs.Entries.{entry_glue, entry_cut, Fit as steps_fit}
 use Rattle.raw_block.specs.contracts.share.GivenBack as given_back
 

@@ -1,9 +1,8 @@
 use Rattle.std.proofs.Common.{◌≡◌, ℕ, ◌+◌, ◌-◌, ◌<◌, List, [], ◌∷◌, sym, refl, ap, ◌∙◌, w64, arith}
 use types.Kit.{‵, raw, ◌⊛◌, given, ◌$◌, ◌∵◌, !, qed, by, move, keep, split, join, fsplit, fsplit3, fjoin, learn, use0, use1, rewrite, group}
-use Rattle.raw_block.proofs.Walking.{dnil, a_type, named, Val, vint, inst_fn, full_share, SProp, emp, guard_i, Fml, ftrue, fsep, flft, sem, stop, fld, of_opd, no_more, and_then, returns, enter, alloc_all, pass_all, free_all}
-use Rattle.raw_block.proofs.Walking.{look_at, get, through, sets, agg, sub, whole, look_in, tables, fact, fact_i, fact_use, yes, RattleType, plain, Ptr, InBlock, block_ptr, block_of, count_of, at_block, nothing, peeks, heard}
-use Rattle.raw_block.proofs.Walking.{opens, closes, shows, cell_at, param, bounded, param_laws, u64, MutRef, mut_vals, mut_Tells, uint_vals, uint_Tells, Stays, stay_dropped, walk_of, Goes-dropped, stay_ref, Goes-ref, proved}
-use Rattle.raw_block.proofs.Walking.{leaves}
+use Rattle.raw_block.proofs.Walking.{dnil, a_type, named, Val, vint, inst_fn, full_share, SProp, emp, guard_i, Fml, ftrue, fsep, flft, sem, stop, fld, of_opd, no_more, and_then, returns, enter, alloc_all, pass_all, free_all, look_at, get}
+use Rattle.raw_block.proofs.Walking.{through, sets, agg, sub, whole, look_in, tables, fact, fact_i, fact_use, yes, RattleType, plain, Ptr, InBlock, block_ptr, block_of, count_of, at_block, nothing, peeks, heard, opens, closes, shows}
+use Rattle.raw_block.proofs.Walking.{cell_at, param, bounded, param_laws, u64, MutRef, mut_vals, mut_Tells, uint_vals, uint_Tells, Stays, stay_dropped, walk_of, Goes-dropped, stay_ref, Goes-ref, proved, leaves}
 use types.Run.{load}
 use Rattle.raw_block.specs.Views.{LifeNames}
 use Rattle.raw_block.specs.Shares.{share_owns}

@@ -1,4 +1,4 @@
-use denote.Param.Send.{IsSend}
+use Rattle.raw_block.proofs.Walking.{IsSend}
 use Rattle.raw_block.specs.contracts.share.WordSeen.{the_row}
 use Rattle.raw_block.proofs.Sent.{was_keyless}
 
