@@ -24,8 +24,8 @@ module _ (s : SkbState) (head : List ℕ) (is : head ≡ head_bytes s) where
   }
 
   -- and with the sum of what is behind a place of it, all of the frame is known
-  pub payload_of : (at : ℕ) (sum : FoldAndLength) → at ≤ length head → AreBytes head → StandsFor sum (drop at (buffer_bytes s)) → AreBytes (drop at (buffer_bytes s))
-      → IsPayloadOf head at sum (buffer_bytes s)
+  pub payload_of : (at : ℕ) (sum : FoldAndLength) → at ≤ length head → AreBytes head → StandsFor sum (drop at (buffer_bytes s))
+      → AreBytes (drop at (buffer_bytes s)) → IsPayloadOf head at sum (buffer_bytes s)
   payload_of at sum within own sums behind = record {
     tail = bytes_of s.rest;
     joined = ap (λ z. z ++ bytes_of s.rest) (sym is);

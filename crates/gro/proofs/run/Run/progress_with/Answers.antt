@@ -13,7 +13,8 @@ use Rattle.gro.proofs.run.Run.progress_with.Goals as goal
 there : (run : Run) (next : Held) (layout : Layout) → run.layout ≡ Some layout → IsRun run → IsMergeable (packets_of run ++ (packet_of next ∷ []))
     → layout.payload_at ≤ length (buffer_bytes next.skb)
 there run next layout is own mergeable =
-    next_within (packet_of run.first) (packet_of next) (map packet_of run.rest.items) layout run.payload run.flags run.progress (known run layout is own) mergeable
+    next_within (packet_of run.first) (packet_of next) (map packet_of run.rest.items) layout run.payload run.flags run.progress
+    (known run layout is own) mergeable
 
 pub next_progress-requires-clause-placed : goal.next_progress-requires-clause-placed
 next_progress-requires-clause-placed c = placed c.args.self.now c.in-Some.layout c.in-Some.is c.requires.run

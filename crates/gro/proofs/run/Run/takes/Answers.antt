@@ -18,8 +18,8 @@ returns-then-not-self c =
     record {
       takes = (
         λ e. absurd cc,
-        λ m. absurd (shut_by run.layout run.payload run.flags run.progress (packet_of run.first) (packet_of c.args.next.now) (map packet_of run.rest.items)
-            c.requires.run.run c.if-not-self.true m),
+        λ m. absurd (shut_by run.layout run.payload run.flags run.progress (packet_of run.first) (packet_of c.args.next.now)
+            (map packet_of run.rest.items) c.requires.run.run c.if-not-self.true m),
       );
       flow = λ t. absurd cc;
     }
@@ -30,8 +30,8 @@ returns-in_default c =
     record {
       takes = (
         λ e. absurd cc,
-        λ m. absurd (no_next_by c.args.candidacy.now.layout c.args.candidacy.now.payload c.args.candidacy.now.flags (packet_of run.first) (packet_of c.args.next.now)
-            (map packet_of run.rest.items) c.requires.judged c.in_default.is m),
+        λ m. absurd (no_next_by c.args.candidacy.now.layout c.args.candidacy.now.payload c.args.candidacy.now.flags (packet_of run.first)
+            (packet_of c.args.next.now) (map packet_of run.rest.items) c.requires.judged c.in_default.is m),
       );
       flow = λ t. absurd cc;
     }
@@ -44,7 +44,8 @@ is_next-requires-clause-first c = first_in_head c.args.self.now c.in-Some-layout
 
 pub is_next-requires-clause-next : goal.is_next-requires-clause-next
 is_next-requires-clause-next c = λ h.
-    in_head c.args.next.now c.in-Some-layout.layout.payload_at _ c.requires.held (sums c.args.self.now c.in-Some-layout.layout c.in-Some-layout.is c.requires.run).2
+    in_head c.args.next.now c.in-Some-layout.layout.payload_at _ c.requires.held
+    (sums c.args.self.now c.in-Some-layout.layout c.in-Some-layout.is c.requires.run).2
     (omega (arith, h, c.len-next_len.ensures.bytes)) c.head-in-Some-layout.ensures.size
 
 pub is_next-requires-clause-behind : goal.is_next-requires-clause-behind
@@ -82,8 +83,8 @@ returns-in-None c =
     record {
       takes = (
         λ e. absurd cc,
-        λ m. absurd (no_first_by run.layout run.payload run.flags run.progress (packet_of run.first) (packet_of c.args.next.now) (map packet_of run.rest.items)
-            c.requires.run.run c.in-None.is m),
+        λ m. absurd (no_first_by run.layout run.payload run.flags run.progress (packet_of run.first) (packet_of c.args.next.now)
+            (map packet_of run.rest.items) c.requires.run.run c.in-None.is m),
       );
       flow = λ t. absurd cc;
     }
