@@ -1,6 +1,7 @@
 //! A run of packets.
-ghost use Rattle.std.specs.Prelude.{◌≡◌, ◌+◌, ◌<◌, ◌^◌, ◌++◌, ◌∷◌, [], length, IsTrue, OnOk, OnErr, IfErr};
+ghost use Rattle.std.specs.Prelude.{◌≡◌, ◌+◌, ◌<◌, ◌≤◌, ◌^◌, ◌++◌, ◌∷◌, [], length, IsTrue, OnOk, OnErr, IfErr};
 ghost use Rattle.std.specs.Bool.{Decides};
+ghost use Rattle.std.specs.VecDeque.{deque_len, deque_capacity};
 ghost use Rattle.frame_layout.specs.Key.{key_of};
 ghost use Rattle.offload_model.specs.Mergeable.{IsMergeable};
 ghost use Rattle.merge_rule.specs.Runs.{IsJudged, IsFirstProgress, IsNextProgress};
@@ -118,7 +119,8 @@ impl Run {
         }
     }
 
-    /// One more packet, which the run takes. Where there is no memory it comes back, and the run is as it was.
+    /// One more packet, which the run takes. Where the list of packets is full and there is no memory it comes back, and the run is as
+    /// it was.
     pub(crate) fn add(
         &mut self,
         next: Packet,
@@ -134,6 +136,7 @@ impl Run {
         ensures back { IfErr result (λ e. (e.0 ≡ next) × (held_of self.new ≡ held_of self.old)) }
         ensures same { OnErr result (IsRun self.new) }
         ensures left { OnErr result (self.new ≡ record self.old { rest = self.new.rest }) }
+        ensures full { OnErr result (deque_capacity self.old.rest ≤ deque_len self.old.rest) }
     {
         let progress = self.progress_with(&next);
         let payload = self.payload.joined(candidacy.payload);
