@@ -26,6 +26,8 @@ mod release;
 mod run;
 mod runs;
 mod table;
+#[cfg(test)]
+mod tests;
 
 pub use item::Item;
 pub use packet::Packet;

@@ -1,0 +1,199 @@
+//! Runs of packets in buffers, by what they come to.
+ghost use Rattle.std.specs.Prelude.{◌≡◌, ◌+◌, ◌<◌, ◌≤◌, length};
+ghost use Rattle.gro.specs.Held.{IsHeld};
+ghost use Rattle.gro.specs.Runs.{IsRun};
+
+mod frames;
+mod joins;
+
+use crate::candidacy::judge;
+use crate::item::build_all;
+use crate::places::all_places;
+use crate::run::Run;
+use crate::{Item, Packet};
+use frags::{Outcomes, Pieces};
+use raw_block::Sole;
+use skb::Skb;
+use std::alloc::Global;
+use std::collections::VecDeque;
+use std::process::Abort;
+
+// The sum of bytes as words, modulo 65535.
+fn sum_of(bytes: &[u8]) -> u32 {
+    let mut sum: u32 = 0;
+    for i in 0..bytes.len() {
+        let byte = bytes[i] as u32;
+        let word = if i % 2 == 0 { byte * 256 } else { byte };
+        sum = sum.wrapping_add(word) % 65535;
+    }
+    sum
+}
+
+// The checksum of words that have this sum.
+fn checksum(sum: u32) -> u16 {
+    let rest = sum % 65535;
+    if rest == 0 { 0 } else { (65535 - rest) as u16 }
+}
+
+fn put16(head: &mut [u8; 54], at: usize, value: u16)
+    requires { at + 2 ≤ 54 }
+{
+    head[at..at + 2].copy_from_slice(&value.to_be_bytes());
+}
+
+// The headers of packet `index` of a flow, Ethernet, IPv4 and TCP, whose payload stands behind `before` bytes of that flow.
+fn plain(index: u16, before: u32, flags: u8, payload: &[u8]) -> [u8; 54]
+    requires { length payload.now ≤ 1000 }
+{
+    let mut head = frames::PLAIN_FIRST;
+    let long = payload.len() as u16;
+    put16(&mut head, 16, 40 + long);
+    put16(&mut head, 18, index.wrapping_add(100));
+    put16(&mut head, 24, 0);
+    head[38..42].copy_from_slice(&before.wrapping_add(1000).to_be_bytes());
+    head[47] = flags;
+    put16(&mut head, 50, 0);
+    let own = checksum(sum_of(&head[14..34]));
+    put16(&mut head, 24, own);
+    let pseudo = sum_of(&head[26..34]) % 65535 + 26 + long as u32;
+    let all = pseudo + sum_of(&head[34..]) % 65535 + sum_of(payload) % 65535;
+    put16(&mut head, 50, checksum(all));
+    head
+}
+
+// A packet of these headers and this payload.
+fn packet(rt: &impl Abort, alloc: Global, number: u32, head: &[u8], payload: &[u8]) -> Packet
+    ensures held { IsHeld result }
+{
+    let mut skb = Skb::new(
+        Sole::new(alloc).expect(rt, "block"),
+        64,
+        64,
+        Pieces::new(alloc),
+    );
+    skb.put_tail(head).expect(rt, "room");
+    skb.put_tail(payload).expect(rt, "room");
+    let original = skb.len() as u32;
+    let packet = Packet {
+        skb,
+        spare1: Sole::new(alloc).expect(rt, "block"),
+        spare2: Sole::new(alloc).expect(rt, "block"),
+        sec: 1,
+        frac: 2,
+        original,
+        number,
+    };
+    checked(rt, packet)
+}
+
+// A packet whose frame lies in its head.
+fn checked(rt: &impl Abort, packet: Packet) -> Packet
+    ensures held { IsHeld result }
+{
+    let len = packet.skb.len();
+    assert!(rt; len <= 2000 && packet.skb.head().len() == len);
+    packet
+}
+
+// How many blocks are home once a buffer and what stands beside it are given back.
+fn freed(rt: &impl Abort, skb: Skb, mut outcomes: Outcomes) -> usize {
+    outcomes.reserve(skb.count()).expect(rt, "places");
+    skb.release(&mut outcomes);
+    let mut blocks: usize = 0;
+    while let Some(_sole) = outcomes.pop_sole() {
+        blocks = blocks.wrapping_add(1);
+    }
+    outcomes.settle();
+    blocks
+}
+
+// The same of an item.
+fn home(rt: &impl Abort, item: Item) -> usize {
+    let Item {
+        skb,
+        number: _,
+        sec: _,
+        frac: _,
+        original: _,
+        n: _,
+        m: _,
+        modes: _,
+        outcomes,
+    } = item;
+    freed(rt, skb, outcomes)
+}
+
+fn spend(rt: &impl Abort, alloc: Global, packet: Packet) {
+    let Packet {
+        skb,
+        spare1: _,
+        spare2: _,
+        sec: _,
+        frac: _,
+        original: _,
+        number: _,
+    } = packet;
+    freed(rt, skb, Outcomes::new(alloc));
+}
+
+fn opened(alloc: Global, packet: Packet) -> Run
+    requires held { IsHeld packet }
+    ensures run { IsRun result }
+{
+    let candidacy = judge(&packet.skb, packet.original);
+    Run::open(alloc, packet, candidacy)
+}
+
+// Whether the run takes a packet. If not, the packet is spent.
+fn adds(rt: &impl Abort, alloc: Global, run: &mut Run, packet: Packet) -> bool
+    requires run { IsRun run.old }
+    requires held { IsHeld packet }
+    ensures run { IsRun run.new }
+{
+    let candidacy = judge(&packet.skb, packet.original);
+    let count = packet.skb.count();
+    assert!(rt; run.count < 1000000 && count < 1000000);
+    if !run.takes(&packet, &candidacy) {
+        spend(rt, alloc, packet);
+        return false;
+    }
+    match run.add(packet, &candidacy) {
+        Ok(()) => true,
+        Err((packet, _)) => {
+            spend(rt, alloc, packet);
+            false
+        }
+    }
+}
+
+// What a run comes to.
+fn item_of(rt: &impl Abort, alloc: Global, run: Run) -> Item
+    requires run { IsRun run }
+{
+    let mut runs = VecDeque::with_capacity(alloc, 1).expect(rt, "runs");
+    runs.push_back_reserved(run);
+    let places = all_places(alloc, &runs).expect(rt, "places");
+    let mut items = Vec::with_capacity(alloc, 1).expect(rt, "items");
+    build_all(runs, places, &mut items);
+    let item = items.pop();
+    while let Some(other) = items.pop() {
+        home(rt, other);
+    }
+    items.destroy_empty();
+    item.expect(rt, "an item")
+}
+
+// Whether a buffer has these bytes from a place on.
+fn has_bytes(skb: &Skb, at: usize, bytes: &[u8]) -> bool
+    requires { (at < 10000) × (length bytes.now < 10000) }
+{
+    if skb.len() < at + bytes.len() {
+        return false;
+    }
+    for i in 0..bytes.len() {
+        if skb.byte_at(at + i) != bytes[i] {
+            return false;
+        }
+    }
+    true
+}
