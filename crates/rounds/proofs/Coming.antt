@@ -1,0 +1,209 @@
+-- Objects that come home one after another.
+use Rattle.std.proofs.Common.{◌≡◌, ℕ, suc, ◌+◌, ◌<◌, ◌≤◌, List, [], ◌∷◌, ◌++◌, Bool, refl, sym, ap, ◌∙◌, subst, length, arith}
+use Rattle.ref_core.specs.WeightRule.{full_weight}
+use Rattle.raw_block.specs.Views.{Life}
+use Rattle.block_pool.specs.PoolState.{PoolState, home}
+use Rattle.frags.specs.Account.{Account, Tests, Keeps, both, of_outcomes, receipts_held, soles_home}
+use Rattle.frags.specs.OutcomesState.{OutcomesState}
+use Rattle.frags.specs.RoundAccount.{of_lives}
+use Rattle.gro.specs.declared.packet.Packet.{Packet}
+use Rattle.gro.specs.declared.item.Item.{Item}
+use Rattle.gro.specs.Held.{of_packet, of_packets, count_of, counts_of}
+use Rattle.gro.specs.Items.{of_item}
+use Rattle.rounds.specs.Held.{blocks_in, of_items, blocks_in_items}
+use Rattle.rounds.specs.Marks.{all, IsMarked, IsWhole, nothing}
+use Rattle.rounds.specs.Table.{place_at, place_held, place_home, place_missing, of_places, IsOwed, missing, AllOpen, AllHome, MayCome, Comes, IsBare}
+use Rattle.rounds.specs.declared.table.Place.{Place}
+use Rattle.rounds.specs.declared.table.Place.TheVariants.{Open, Home, Owed}
+use Rattle.rounds.proofs.Places.{marked_at}
+
+-- one account is two others
+abbrev pub IsSum : Account → Account → Account → Type 0
+IsSum xs x ys = (t : Tests) (m : ℕ) → (xs.held t m ≡ x.held t m + ys.held t m) × (xs.homes t.blocks m ≡ x.homes t.blocks m + ys.homes t.blocks m)
+
+-- what is still to come may come
+pub may_rest : (s xs : Account) (p0 p : PoolState) (t0 t : List Place) → MayCome s p0 t0 → Comes s xs p0 t0 p t → MayCome xs p t
+may_rest s xs p0 p t0 t may comes = record {
+  room = omega (arith, may.room, comes.count, comes.made);
+  marked = marked_at (length t0) (length t) (both (of_places t0) s) (both (of_places t) xs) comes.size (λ f m. (comes.settles m).0 f) may.marked;
+  owed = comes.owed;
+}
+
+-- less may come as well
+pub may_less : (xs x : Account) (p : PoolState) (t : List Place) → ((f : Life → Bool) (m : ℕ) → x.held (of_lives f) m ≤ xs.held (of_lives f) m) → MayCome xs p t → MayCome x p t
+may_less xs x p t le may = record {
+  room = may.room;
+  marked = marked_at (length t) (length t) (both (of_places t) xs) (both (of_places t) x) refl (λ f m. omega (arith, le f m)) may.marked;
+  owed = may.owed;
+}
+
+pub may_first : (xs x ys : Account) (p : PoolState) (t : List Place) → IsSum xs x ys → MayCome xs p t → MayCome x p t
+may_first xs x ys p t sum may = may_less xs x p t (λ f m. omega (arith, (sum (of_lives f) m).0)) may
+
+-- nothing has come yet
+pub comes_none : (s : Account) (p : PoolState) (t : List Place) → MayCome s p t → Comes s s p t p t
+comes_none s p t may = record {
+  settles = λ m. ((λ f. omega arith), λ lt z. (z, omega arith));
+  count = refl;
+  size = refl;
+  owed = may.owed;
+  made = refl;
+  taken = refl;
+}
+
+-- x came, and ys is still to come
+pub comes_step : (s xs x ys : Account) (p0 p1 p2 : PoolState) (t0 t1 t2 : List Place) → IsSum xs x ys → Comes s xs p0 t0 p1 t1 → Comes x nothing p1 t1 p2 t2 → Comes s ys p0 t0 p2 t2
+comes_step s xs x ys p0 p1 p2 t0 t1 t2 sum h g = record {
+  settles = λ m.
+      let a = h.settles m in
+      let b = g.settles m in (
+        (λ f. omega (arith, a.0 f, b.0 f, (sum (of_lives f) m).0)),
+        λ lt z.
+            let y = b.1 (omega (arith, lt, h.size)) (omega (arith, z)) in
+            let w = a.1 lt (omega (arith, y.0, z, (sum all m).1)) in
+            (w.0, omega (arith, w.1, y.1, (sum all m).0)),
+      );
+  count = omega (arith, h.count, g.count);
+  size = g.size ∙ h.size;
+  owed = g.owed;
+  made = g.made ∙ h.made;
+  taken = g.taken ∙ h.taken;
+}
+
+-- the last of it came
+pub comes_last : (s xs : Account) (p0 p1 p2 : PoolState) (t0 t1 t2 : List Place) → Comes s xs p0 t0 p1 t1 → Comes xs nothing p1 t1 p2 t2 → Comes s nothing p0 t0 p2 t2
+comes_last s xs p0 p1 p2 t0 t1 t2 h g = comes_step s xs xs nothing p0 p1 p2 t0 t1 t2 (λ t m. (omega arith, omega arith)) h g
+
+-- nothing is left of it
+pub comes_all : (s xs : Account) (p0 p : PoolState) (t0 t : List Place) → ((t : Tests) (m : ℕ) → (xs.held t m ≡ 0) × (xs.homes t.blocks m ≡ 0)) → Comes s xs p0 t0 p t → Comes s nothing p0 t0 p t
+comes_all s xs p0 p t0 t none h = record {
+  settles = λ m. let a = h.settles m in ((λ f. omega (arith, a.0 f)), λ lt z. let b = a.1 lt (omega (arith, z, (none all m).1)) in (b.0, omega (arith, b.1, (none all m).0)));
+  count = h.count;
+  size = h.size;
+  owed = h.owed;
+  made = h.made;
+  taken = h.taken;
+}
+
+-- x became y without loss, and y came
+pub comes_kept : (x y : Account) (p0 p : PoolState) (t0 t : List Place) → Keeps x y → Comes y nothing p0 t0 p t → Comes x nothing p0 t0 p t
+comes_kept x y p0 p t0 t k h = record {
+  settles = λ m.
+      let a = h.settles m in
+      let e = k all m in (
+        (λ f. let l = (k (of_lives f) m).0 in omega (arith, a.0 f, l)),
+        λ lt z. let b = a.1 lt z in (omega (arith, b.0, e.0, e.1), omega (arith, b.0, b.1, e.0, e.1)),
+      );
+  count = h.count;
+  size = h.size;
+  owed = h.owed;
+  made = h.made;
+  taken = h.taken;
+}
+
+pub may_kept : (x y : Account) (p : PoolState) (t : List Place) → Keeps x y → MayCome x p t → MayCome y p t
+may_kept x y p t k may = may_less x y p t (λ f m. (k (of_lives f) m).0) may
+
+-- beside outcomes that had nothing
+pub keeps_bare : (x y : Account) (o : OutcomesState) → IsBare o → Keeps (both x (of_outcomes o)) y → Keeps x y
+keeps_bare x y o bare k t m =
+    let a = k t m in
+    let h = ap (receipts_held t m) bare.1 in
+    let s = ap (soles_home t.blocks m) bare.0 in
+    (omega (arith, a.0, h), omega (arith, a.1, h, s))
+
+-- lists of objects, the last one apart
+pub packets_last : (xs : List Packet) (x : Packet) → IsSum (of_packets (xs ++ x ∷ [])) (of_packet x) (of_packets xs)
+packets_last [] x t m = (omega arith, omega arith)
+packets_last (y ∷ ys) x t m = let i = packets_last ys x t m in (omega (arith, i), omega (arith, i))
+
+pub packets_first : (a b : List Packet) (x : Packet) → a ≡ x ∷ b → IsSum (of_packets a) (of_packet x) (of_packets b)
+packets_first a b x e = subst (λ (z : List Packet). IsSum (of_packets z) (of_packet x) (of_packets b)) (sym e) (λ t m. (refl, refl))
+
+pub counts_last : (xs : List Packet) (x : Packet) → counts_of (xs ++ x ∷ []) ≡ count_of x + counts_of xs
+counts_last [] x = omega arith
+counts_last (y ∷ ys) x = omega (arith, counts_last ys x)
+
+pub no_packets : (xs : List Packet) → xs ≡ [] → (t : Tests) (m : ℕ) → ((of_packets xs).held t m ≡ 0) × ((of_packets xs).homes t.blocks m ≡ 0)
+no_packets xs e t m = (ap (λ (z : List Packet). (of_packets z).held t m) e, ap (λ (z : List Packet). (of_packets z).homes t.blocks m) e)
+
+items_last : (xs : List Item) (x : Item) → IsSum (of_items (xs ++ x ∷ [])) (of_item x) (of_items xs)
+items_last [] x t m = (omega arith, omega arith)
+items_last (y ∷ ys) x t m = let i = items_last ys x t m in (omega (arith, i), omega (arith, i))
+
+pub items_pop : (a b : List Item) (x : Item) → a ≡ b ++ x ∷ [] → IsSum (of_items a) (of_item x) (of_items b)
+items_pop a b x e = subst (λ (z : List Item). IsSum (of_items z) (of_item x) (of_items b)) (sym e) (items_last b x)
+
+blocks_last : (xs : List Item) (x : Item) → blocks_in_items (xs ++ x ∷ []) ≡ blocks_in x.skb + blocks_in_items xs
+blocks_last [] x = omega arith
+blocks_last (y ∷ ys) x = omega (arith, blocks_last ys x)
+
+pub blocks_pop : (a b : List Item) (x : Item) → a ≡ b ++ x ∷ [] → blocks_in_items a ≡ blocks_in x.skb + blocks_in_items b
+blocks_pop a b x e = ap blocks_in_items e ∙ blocks_last b x
+
+pub no_items : (xs : List Item) → xs ≡ [] → (t : Tests) (m : ℕ) → ((of_items xs).held t m ≡ 0) × ((of_items xs).homes t.blocks m ≡ 0)
+no_items xs e t m = (ap (λ (z : List Item). (of_items z).held t m) e, ap (λ (z : List Item). (of_items z).homes t.blocks m) e)
+
+-- all places are home where all that was whole has come
+home_is : (p : Place) (m : ℕ) → IsOwed m p → (place_home p ≡ 0 → full_weight ≤ place_held all m p) → p ≡ Home
+home_is Open m o h = let f = h refl in absurd (omega (arith, f))
+home_is Home m o h = refl
+home_is (Owed r) m o h =
+    let f = h refl in
+    let e : place_held all m (Owed r) ≡ r.weight = grind (arith, o.0) in
+    absurd (omega (arith, f, e, o.2))
+
+missing_home : (ps : List Place) → AllHome ps → missing ps ≡ 0
+missing_home [] h = refl
+missing_home (p ∷ ps) h =
+    let a : place_missing p ≡ 0 = ap place_missing (h 0 (omega arith)) in
+    let b = missing_home ps (λ m lt. h (suc m) (omega (arith, lt))) in
+    omega (arith, a, b)
+
+pub missing_open : (ps : List Place) → AllOpen ps → missing ps ≡ length ps
+missing_open [] h = refl
+missing_open (p ∷ ps) h =
+    let a : place_missing p ≡ 1 = ap place_missing (h 0) in
+    let b = missing_open ps (λ m. h (suc m)) in
+    omega (arith, a, b)
+
+-- what is to come may come to an open table
+pub may_open : (x : Account) (p : PoolState) (t : List Place) → AllOpen t → home p + length t ≤ p.made → IsMarked (length t) x → MayCome x p t
+may_open x p t opened room marked = record {
+  room = omega (arith, missing_open t opened, room);
+  marked = marked_at (length t) (length t) x (both (of_places t) x) refl (λ f m. let z = ap (place_held (of_lives f) m) (opened m) in omega (arith, z)) marked;
+  owed = λ m. subst (IsOwed m) (sym (opened m)) tt;
+}
+
+-- a whole round came to an open table: all places are home
+pub comes_home : (x : Account) (p0 p : PoolState) (t0 t : List Place) → AllOpen t0 → IsWhole (length t0) x → Comes x nothing p0 t0 p t → AllHome t
+comes_home x p0 p t0 t opened whole h m lt =
+    let before : m < length t0 = omega (arith, lt, h.size) in
+    let held = ap (place_held all m) (opened m) in
+    home_is (place_at t m) m (h.owed m) (λ z.
+    let a = (h.settles m).1 before (omega (arith, z)) in
+    let w = whole m before (omega (arith, a.0)) in
+    omega (arith, a.1, w, held))
+
+pub home_count : (x : Account) (p0 p : PoolState) (t0 t : List Place) → AllOpen t0 → AllHome t → Comes x nothing p0 t0 p t → home p ≡ home p0 + length t0
+home_count x p0 p t0 t opened all_home h = omega (arith, h.count, missing_open t0 opened, missing_home t all_home)
+
+-- two spares and a buffer are given back in turn
+pub gives_packet : (b s1 s2 : Account) (o0 o1 o2 o3 : OutcomesState) → IsBare o0 → Keeps (both s1 (of_outcomes o0)) (of_outcomes o1) → Keeps (both s2 (of_outcomes o1)) (of_outcomes o2) → Keeps (both b (of_outcomes o2)) (of_outcomes o3)
+    → Keeps (both b (both s1 s2)) (of_outcomes o3)
+gives_packet b s1 s2 o0 o1 o2 o3 bare h g k t m =
+    let x = h t m in
+    let y = g t m in
+    let z = k t m in
+    let r = ap (receipts_held t m) bare.1 in
+    let s = ap (soles_home t.blocks m) bare.0 in
+    (omega (arith, x.0, y.0, z.0, r), omega (arith, x.1, y.1, z.1, r, s))
+
+-- outcomes came, then packets, and items are still to come
+pub outcomes_came : (o ps is : Account) (p0 p1 : PoolState) (t0 t1 : List Place) → MayCome (both o (both ps is)) p0 t0 → Comes o nothing p0 t0 p1 t1 → Comes (both o (both ps is)) (both ps is) p0 t0 p1 t1
+outcomes_came o ps is p0 p1 t0 t1 may first =
+    comes_step (both o (both ps is)) (both o (both ps is)) o (both ps is) p0 p0 p1 t0 t0 t1 (λ t m. (omega arith, omega arith)) (comes_none (both o (both ps is)) p0 t0 may) first
+
+pub packets_came : (o ps is : Account) (p0 p1 p2 : PoolState) (t0 t1 t2 : List Place) → MayCome (both o (both ps is)) p0 t0 → Comes o nothing p0 t0 p1 t1 → Comes ps nothing p1 t1 p2 t2 → Comes (both o (both ps is)) is p0 t0 p2 t2
+packets_came o ps is p0 p1 p2 t0 t1 t2 may first then =
+    comes_step (both o (both ps is)) (both ps is) ps is p0 p1 p2 t0 t1 t2 (λ t m. (omega arith, omega arith)) (outcomes_came o ps is p0 p1 t0 t1 may first) then

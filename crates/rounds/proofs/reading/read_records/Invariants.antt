@@ -1,0 +1,31 @@
+use Rattle.std.proofs.Common.{◌≡◌, ◌+◌, ◌-◌, ◌^◌, ◌≤◌, [], min, map, length}
+use Rattle.std.specs.VecDeque.{deque_capacity}
+use Rattle.block_pool.specs.PoolState.{home}
+use Rattle.offload_model.specs.Need.{round_need}
+use Rattle.gro.specs.Held.{packet_of, of_packets, counts_of}
+use Rattle.rounds.specs.Fresh.{AreRead, IsFresh, NumberedFrom}
+use Rattle.rounds.proofs.Rounding.{ReadSoFar}
+use Rattle.rounds.proofs.reading.read_records.Given as goal
+
+abbrev pub invariant-reading : goal.invariant-reading
+invariant-reading g l = record {
+  so_far : ReadSoFar (g.S.Source.left l.initial.reader.source.now) (g.S.Source.left l.reader.source.now) l.initial.reader.place l.reader.place l.packets.items;
+  size : length l.packets.items ≤ l.budget;
+  reserved : l.budget ≤ deque_capacity l.packets;
+  fresh : IsFresh 0 l.used (of_packets l.packets.items);
+  read : AreRead l.packets.items;
+  numbers : NumberedFrom l.initial.reader.place.number l.packets.items;
+  count : counts_of l.packets.items ≡ l.used;
+  need : l.used ≡ round_need (map packet_of l.packets.items);
+  home : home l.pool + l.used ≡ l.initial.pool.made;
+  made : l.pool.made ≡ l.initial.pool.made;
+  taken : min (l.initial.pool.taken + l.used) (2 ^ 64 - 1) ≤ l.pool.taken;
+  most : l.pool.taken ≤ l.initial.pool.taken + l.used;
+  empty : l.hold.items ≡ [];
+  capacity : deque_capacity l.hold ≡ deque_capacity l.initial.hold;
+  same : l.reader.source.ghost_name ≡ l.initial.reader.source.ghost_name;
+  later : g.S.Source.faults l.initial.reader.source.now ≤ g.S.Source.faults l.reader.source.now;
+}
+
+abbrev pub decreases-reading : goal.decreases-reading
+decreases-reading g l = l.budget - length l.packets.items

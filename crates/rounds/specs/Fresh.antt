@@ -1,0 +1,49 @@
+-- Blocks as they were taken for a round: each is there once, and with all of its weight.
+use Rattle.std.specs.Prelude.{ℕ, ◌≡◌, ◌+◌, ◌*◌, ◌<◌, ◌≤◌, List, [], ◌∷◌, Bool, false}
+use Rattle.std.specs.List.{AllByRecursion}
+use Rattle.ref_core.specs.WeightRule.{full_weight}
+use Rattle.raw_block.specs.Views.{Life, SoleState}
+use Rattle.frags.specs.Account.{Account}
+use Rattle.frags.specs.RoundAccount.{all_blocks, of_lives}
+use Rattle.frags.specs.declared.pieces.Piece.{Piece}
+use Rattle.skb.specs.SkbState.{buffer_least, is_sole}
+use Rattle.gro.specs.declared.packet.Packet.{Packet as Held}
+use Rattle.gro.specs.Held.{IsHeld}
+use Rattle.rounds.specs.Marks.{all, OneLife}
+
+-- what is held of a mark, and what is home of it
+abbrev pub weight_at : Account → ℕ → ℕ
+weight_at a m = a.held all m + full_weight * a.homes all_blocks m
+
+-- the blocks with k marks from `first` on, each with all of its weight, and no other
+pub record IsFresh (first k : ℕ) (a : Account) : Type 0 where
+  pub one : (m : ℕ) → OneLife a m
+  pub exact : (m : ℕ) → first ≤ m → m < first + k → weight_at a m ≡ full_weight
+  pub low : (m : ℕ) → 0 < weight_at a m → first ≤ m
+  pub range : (m : ℕ) → 0 < weight_at a m → m < first + k
+  pub less : (f : Life → Bool) (m : ℕ) → a.held (of_lives f) m ≤ a.held all m
+
+-- Soles marked in turn
+abbrev pub MarkedFrom : ℕ → List SoleState → Type 0
+MarkedFrom k [] = Unit {0}
+MarkedFrom k (s ∷ ss) = (s.mark ≡ k) × MarkedFrom (k + 1) ss
+
+-- pieces of whole blocks marked in turn
+abbrev pub WholeFrom : ℕ → List Piece → Type 0
+WholeFrom k [] = Unit {0}
+WholeFrom k (p ∷ ps) = (p.part.weight ≡ full_weight) × (p.part.mark ≡ k) × WholeFrom (k + 1) ps
+
+-- a packet that was read: its head is shared already, behind headroom, and no part has given anything away
+pub record IsRead (p : Held) : Type 0 where
+  pub held : IsHeld p
+  pub shared : is_sole p.skb.head ≡ false
+  pub least : buffer_least p.skb ≡ full_weight
+  pub headroom : p.skb.from ≡ 64
+
+abbrev pub AreRead : List Held → Type 0
+AreRead ps = AllByRecursion IsRead ps
+
+-- packets with numbers in turn
+abbrev pub NumberedFrom : ℕ → List Held → Type 0
+NumberedFrom k [] = Unit {0}
+NumberedFrom k (p ∷ ps) = (p.number ≡ k) × NumberedFrom (k + 1) ps

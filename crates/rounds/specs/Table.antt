@@ -1,0 +1,84 @@
+-- A place for each mark of a round: what came back of its block.
+use Rattle.std.specs.Prelude.{ℕ, ◌≡◌, ◌+◌, ◌<◌, ◌≤◌, List, [], ◌∷◌, length, slice_index_or}
+use Rattle.ref_core.specs.WeightRule.{full_weight}
+use Rattle.raw_block.specs.Views.{ReceiptState}
+use Rattle.block_pool.specs.PoolState.{PoolState, home}
+use Rattle.frags.specs.Account.{Account, Tests, counted, both}
+use Rattle.frags.specs.OutcomesState.{OutcomesState}
+use Rattle.frags.specs.RoundAccount.{Settles}
+use Rattle.rounds.specs.Marks.{IsMarked}
+use Rattle.rounds.specs.declared.table.Place.{Place}
+use Rattle.rounds.specs.declared.table.Place.TheVariants.{Open, Home, Owed}
+
+abbrev pub place_held : Tests → ℕ → Place → ℕ
+place_held t m Open = 0
+place_held t m Home = 0
+place_held t m (Owed r) = counted t m r.life r.mark r.weight
+
+abbrev pub place_home : Place → ℕ
+place_home Open = 0
+place_home Home = 1
+place_home (Owed r) = 0
+
+-- what stands at a mark; nothing came back beyond the table
+abbrev pub place_at : List Place → ℕ → Place
+place_at places m = slice_index_or places m Open
+
+-- by marks: a Sole that is home is told by its mark alone
+abbrev pub of_places : List Place → Account
+of_places places = record { held = λ t m. place_held t m (place_at places m); homes = λ bs m. place_home (place_at places m) }
+
+-- what is owed at a place is of its mark, and no whole
+abbrev pub IsOwed : ℕ → Place → Type 0
+IsOwed m Open = Unit {0}
+IsOwed m Home = Unit {0}
+IsOwed m (Owed r) = (r.mark ≡ m) × (0 < r.weight) × (r.weight < full_weight)
+
+abbrev pub AreOwed : List Place → Type 0
+AreOwed places = (m : ℕ) → IsOwed m (place_at places m)
+
+abbrev pub place_missing : Place → ℕ
+place_missing Open = 1
+place_missing Home = 0
+place_missing (Owed r) = 1
+
+-- how many blocks of the table haven't come home
+abbrev pub missing : List Place → ℕ
+missing [] = 0
+missing (p ∷ ps) = place_missing p + missing ps
+
+abbrev pub AllOpen : List Place → Type 0
+AllOpen places = (m : ℕ) → place_at places m ≡ Open
+
+abbrev pub AllHome : List Place → Type 0
+AllHome places = (m : ℕ) → m < length places → place_at places m ≡ Home
+
+-- a receipt is of the life of what is owed at a place
+abbrev pub IsOfLife : Place → ReceiptState → Type 0
+IsOfLife (Owed q) r = r.life ≡ q.life
+IsOfLife _ r = Unit {0}
+
+-- a receipt came back: closed where its block is home, and else owed with the others
+abbrev pub Receives : Place → ReceiptState → Place → Type 0
+Receives Open r p = (p ≡ Owed r) × (0 < r.weight) × (r.weight < full_weight)
+Receives Home r p = p ≡ Home
+Receives (Owed q) r p = (p ≡ Owed (record q { weight = q.weight + r.weight })) × (0 < r.weight) × (q.weight + r.weight < full_weight)
+
+-- there is room in the pool for what hasn't come home, and `x`, which is to come, has marks of the table
+pub record MayCome (x : Account) (pool : PoolState) (places : List Place) : Type 0 where
+  pub room : home pool + missing places ≤ pool.made
+  pub marked : IsMarked (length places) (both (of_places places) x)
+  pub owed : AreOwed places
+
+-- Of `x` all but `rest` came: what of it isn't home is owed, and a block is home for each place that is Home.
+pub record Comes (x rest : Account) (pool : PoolState) (places : List Place) (pool' : PoolState) (places' : List Place) : Type 0 where
+  pub settles : Settles (length places) (both (of_places places) x) (both (of_places places') rest)
+  pub count : home pool' + missing places' ≡ home pool + missing places
+  pub size : length places' ≡ length places
+  pub owed : AreOwed places'
+  pub made : pool'.made ≡ pool.made
+  pub taken : pool'.taken ≡ pool.taken
+
+-- nothing is in it
+abbrev pub IsBare : OutcomesState → Type 0
+IsBare o = (o.soles ≡ []) × (o.receipts ≡ [])

@@ -1,0 +1,176 @@
+//! Brings the blocks of a round home.
+ghost use Rattle.std.specs.Prelude.{◌≡◌, ◌+◌, ◌≤◌, [], length};
+ghost use Rattle.block_pool.specs.PoolState.{home};
+ghost use Rattle.frags.specs.Account.{both, of_outcomes};
+ghost use Rattle.skb.specs.SkbState.{of_buffer};
+ghost use Rattle.gro.specs.Held.{of_packet, of_packets, count_of, counts_of};
+ghost use Rattle.gro.specs.Items.{of_item};
+ghost use Rattle.rounds.specs.Held.{blocks_in, of_items, blocks_in_items};
+ghost use Rattle.rounds.specs.Marks.{IsRound, nothing};
+ghost use Rattle.rounds.specs.Table.{AllOpen, Comes, IsBare, MayCome};
+
+use crate::table::{Place, reopen, sweep};
+use block_pool::Pool;
+use frags::Outcomes;
+use gro::{Item, Packet};
+use skb::Skb;
+use std::collections::VecDeque;
+
+// A buffer is given back, and its blocks go home.
+fn bring_buffer(pool: &mut Pool, places: &mut [Place], out: &mut Outcomes, skb: Skb)
+    requires may { MayCome (of_buffer skb) pool.old places.old }
+    requires bare { IsBare out.old }
+    requires spare { blocks_in skb ≤ out.old.spare }
+    ensures comes { Comes (of_buffer skb) nothing pool.old places.old pool.new places.new }
+    ensures bare { IsBare out.new }
+    ensures spare { out.old.spare ≤ out.new.spare + blocks_in skb }
+{
+    skb.release(out);
+    sweep(pool, places, out);
+}
+
+// What was given back elsewhere goes home, and its outcomes are spent.
+fn bring_outcomes(pool: &mut Pool, places: &mut [Place], outcomes: Outcomes)
+    requires may { MayCome (of_outcomes outcomes) pool.old places.old }
+    ensures comes { Comes (of_outcomes outcomes) nothing pool.old places.old pool.new places.new }
+{
+    let mut outcomes = outcomes;
+    sweep(pool, places, &mut outcomes);
+    outcomes.settle();
+}
+
+// A packet is given back.
+fn bring_packet(pool: &mut Pool, places: &mut [Place], out: &mut Outcomes, packet: Packet)
+    requires may { MayCome (of_packet packet) pool.old places.old }
+    requires bare { IsBare out.old }
+    requires spare { count_of packet ≤ out.old.spare }
+    ensures comes { Comes (of_packet packet) nothing pool.old places.old pool.new places.new }
+    ensures bare { IsBare out.new }
+    ensures spare { out.old.spare ≤ out.new.spare + count_of packet }
+{
+    let Packet {
+        skb,
+        spare1,
+        spare2,
+        sec: _,
+        frac: _,
+        original: _,
+        number: _,
+    } = packet;
+    out.keep_sole(spare1);
+    out.keep_sole(spare2);
+    skb.release(out);
+    sweep(pool, places, out);
+}
+
+// An item is given back.
+fn bring_item(pool: &mut Pool, places: &mut [Place], out: &mut Outcomes, item: Item)
+    requires may { MayCome (of_item item) pool.old places.old }
+    requires bare { IsBare out.old }
+    requires spare { blocks_in item.skb ≤ out.old.spare }
+    ensures comes { Comes (of_item item) nothing pool.old places.old pool.new places.new }
+    ensures bare { IsBare out.new }
+    ensures spare { out.old.spare ≤ out.new.spare + blocks_in item.skb }
+{
+    let Item {
+        skb,
+        outcomes,
+        number: _,
+        sec: _,
+        frac: _,
+        original: _,
+        n: _,
+        m: _,
+        modes: _,
+    } = item;
+    bring_buffer(pool, places, out, skb);
+    bring_outcomes(pool, places, outcomes);
+}
+
+// All packets are given back, and their memory stays.
+fn bring_packets(
+    pool: &mut Pool,
+    places: &mut [Place],
+    out: &mut Outcomes,
+    packets: &mut VecDeque<Packet>,
+)
+    requires may { MayCome (of_packets packets.old.items) pool.old places.old }
+    requires bare { IsBare out.old }
+    requires spare { counts_of packets.old.items ≤ out.old.spare }
+    ensures comes { Comes (of_packets packets.old.items) nothing pool.old places.old pool.new places.new }
+    ensures bare { IsBare out.new }
+    ensures spare { out.old.spare ≤ out.new.spare + counts_of packets.old.items }
+    ensures none { packets.new.items ≡ [] }
+{
+    while let Some(packet) = packets.pop_front() {
+        bring_packet(pool, places, out, packet);
+    }
+}
+
+// All items are given back, and their memory stays.
+fn bring_items(pool: &mut Pool, places: &mut [Place], out: &mut Outcomes, items: &mut Vec<Item>)
+    requires may { MayCome (of_items items.old.items) pool.old places.old }
+    requires bare { IsBare out.old }
+    requires spare { blocks_in_items items.old.items ≤ out.old.spare }
+    ensures comes { Comes (of_items items.old.items) nothing pool.old places.old pool.new places.new }
+    ensures bare { IsBare out.new }
+    ensures spare { out.old.spare ≤ out.new.spare + blocks_in_items items.old.items }
+    ensures none { items.new.items ≡ [] }
+{
+    while let Some(item) = items.pop() {
+        bring_item(pool, places, out, item);
+    }
+}
+
+// All that is left of a round comes home to a table with a place for each of its blocks.
+fn bring_all(
+    pool: &mut Pool,
+    places: &mut [Place],
+    out: &mut Outcomes,
+    packets: &mut VecDeque<Packet>,
+    items: &mut Vec<Item>,
+)
+    requires round { IsRound (length places.old) (both (of_outcomes out.old) (both (of_packets packets.old.items) (of_items items.old.items))) }
+    requires room { home pool.old + length places.old ≤ pool.old.made }
+    requires open { AllOpen places.old }
+    requires spare { counts_of packets.old.items + blocks_in_items items.old.items ≤ out.old.spare }
+    ensures home { home pool.new ≡ home pool.old + length places.old }
+    ensures made { (pool.new.made ≡ pool.old.made) × (pool.new.taken ≡ pool.old.taken) }
+    ensures open { AllOpen places.new }
+    ensures size { length places.new ≡ length places.old }
+    ensures bare { IsBare out.new }
+    ensures spare { out.old.spare ≤ out.new.spare + (counts_of packets.old.items + blocks_in_items items.old.items) }
+    ensures none { (packets.new.items ≡ []) × (items.new.items ≡ []) }
+{
+    sweep(pool, places, out);
+    bring_packets(pool, places, out, packets);
+    bring_items(pool, places, out, items);
+    reopen(places);
+}
+
+/// All blocks of a round go home, `blocks` of them, at whichever point it is ended or given up: what was given back so far, the
+/// packets that aren't merged, and the items.
+pub(crate) fn bring_round(
+    pool: &mut Pool,
+    table: &mut [Place],
+    blocks: u32,
+    out: &mut Outcomes,
+    packets: &mut VecDeque<Packet>,
+    items: &mut Vec<Item>,
+)
+    requires round { IsRound blocks (both (of_outcomes out.old) (both (of_packets packets.old.items) (of_items items.old.items))) }
+    requires few { blocks ≤ length table.old }
+    requires room { home pool.old + blocks ≤ pool.old.made }
+    requires open { AllOpen table.old }
+    requires spare { counts_of packets.old.items + blocks_in_items items.old.items ≤ out.old.spare }
+    ensures home { home pool.new ≡ home pool.old + blocks }
+    ensures made { (pool.new.made ≡ pool.old.made) × (pool.new.taken ≡ pool.old.taken) }
+    ensures open { AllOpen table.new }
+    ensures size { length table.new ≡ length table.old }
+    ensures bare { IsBare out.new }
+    ensures spare { out.old.spare ≤ out.new.spare + (counts_of packets.old.items + blocks_in_items items.old.items) }
+    ensures none { (packets.new.items ≡ []) × (items.new.items ≡ []) }
+{
+    let (places, _) = table.split_at_mut(blocks as usize);
+    bring_all(pool, places, out, packets, items);
+}

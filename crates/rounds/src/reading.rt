@@ -1,0 +1,79 @@
+//! Reads the records of a round.
+ghost use Rattle.std.specs.Prelude.{◌≡◌, ◌≢◌, ◌+◌, ◌-◌, ◌<◌, ◌≤◌, ◌^◌, [], length, map, min};
+ghost use Rattle.std.specs.VecDeque.{deque_capacity};
+ghost use Rattle.block_pool.specs.PoolState.{home};
+ghost use Rattle.off_io.specs.Faults.{Rose};
+ghost use Rattle.off_io.specs.Told.{Told};
+ghost use Rattle.pcap_io.specs.declared.heads.Link.TheVariants.{Ethernet};
+ghost use Rattle.pcap_io.specs.Places.{IsReady};
+ghost use Rattle.pcap_io.specs.Readers.{place_of, source_of, SameLoan};
+ghost use Rattle.offload_model.specs.Need.{round_need};
+ghost use Rattle.gro.specs.Held.{packet_of, of_packets, count_of, counts_of};
+ghost use Rattle.rounds.specs.Fresh.{AreRead, IsFresh, NumberedFrom};
+ghost use Rattle.rounds.specs.Reading.{GivesRound, PassesRound};
+
+use crate::record::read_record;
+use crate::round::{RoundEnd, end_of};
+use block_pool::Pool;
+use gro::Packet;
+use off_io::Source;
+use pcap_io::CaptureReader;
+use raw_block::Sole;
+use std::alloc::Global;
+use std::collections::VecDeque;
+
+// The blocks of a packet.
+fn packet_blocks(packet: &Packet) -> u32
+    requires { count_of packet.now ≤ 65536 }
+    ensures { result ≡ count_of packet.now }
+{
+    packet.skb.count() as u32 + 2
+}
+
+/// Reads records until there are `budget` of them, or no more: the blocks that they have, and why.
+pub(crate) fn read_records<S: Source>(
+    alloc: Global,
+    pool: &mut Pool,
+    hold: &mut VecDeque<Sole>,
+    reader: &mut CaptureReader<'_, S>,
+    budget: usize,
+    packets: &mut VecDeque<Packet>,
+) -> (u32, RoundEnd)
+    requires ready { IsReady (place_of reader.old) }
+    requires link { (place_of reader.old).link ≡ Ethernet }
+    requires empty { hold.old.items ≡ [] }
+    requires capacity { 131 ≤ deque_capacity hold.old }
+    requires home { home pool.old ≡ pool.old.made }
+    requires made { pool.old.made ≤ 65536 }
+    requires none { packets.old.items ≡ [] }
+    requires reserved { budget ≤ deque_capacity packets.old }
+    ensures same_source { SameLoan reader.old reader.new }
+    ensures given { Told (S.left (source_of reader.old)) (S.left (source_of reader.new)) (GivesRound pool.old.made (place_of reader.old) (place_of reader.new) packets.new.items result.1) }
+    ensures size { length packets.new.items ≤ budget }
+    ensures fewer { result.1 ≢ RoundEnd.Full → length packets.new.items < budget }
+    ensures full { result.1 ≡ RoundEnd.Full → PassesRound (place_of reader.old) (place_of reader.new) packets.new.items budget }
+    ensures fresh { IsFresh 0 result.0 (of_packets packets.new.items) }
+    ensures count { counts_of packets.new.items ≡ result.0 }
+    ensures read { AreRead packets.new.items }
+    ensures numbers { NumberedFrom (place_of reader.old).number packets.new.items }
+    ensures need { result.0 ≡ round_need (map packet_of packets.new.items) }
+    ensures home { home pool.new + result.0 ≡ pool.old.made }
+    ensures made { pool.new.made ≡ pool.old.made }
+    ensures taken { min (pool.old.taken + result.0) (2 ^ 64 - 1) ≤ pool.new.taken }
+    ensures most { pool.new.taken ≤ pool.old.taken + pool.old.made }
+    ensures empty { hold.new.items ≡ [] }
+    ensures capacity { deque_capacity hold.new ≡ deque_capacity hold.old }
+    ensures later { S.faults (source_of reader.old) ≤ S.faults (source_of reader.new) }
+    ensures failed { result.1 ≡ RoundEnd.ReadFault → Rose (S.faults (source_of reader.old)) (S.faults (source_of reader.new)) }
+{
+    let mut used = 0;
+    'reading: while packets.len() < budget {
+        let packet = match read_record(alloc, pool, hold, reader, &mut [], used) {
+            Ok(packet) => packet,
+            Err(stop) => return (used, end_of(stop)),
+        };
+        used += packet_blocks(&packet);
+        packets.push_back_reserved(packet);
+    }
+    (used, RoundEnd::Full)
+}

@@ -1,0 +1,79 @@
+//! The records of a round, and what they come to.
+ghost use Rattle.std.specs.Prelude.{◌≡◌};
+ghost use Rattle.rounds.specs.Reading.{IsEndOf};
+
+use crate::record::Stop;
+use gro::{Item, Packet};
+use pcap_io::CapFault;
+use std::collections::VecDeque;
+use std::marker::Model;
+
+/// The records of a round, in blocks. It must be spent: worked or dropped, by the rounds that read it.
+pub struct Round {
+    pub(crate) packets: VecDeque<Packet>,
+    pub(crate) blocks: u32,
+}
+
+impl Model for Round {
+    ghost use Rattle.std.specs.Prelude.{◌≡◌, ℕ};
+    ghost use Rattle.gro.specs.Held.{of_packets, counts_of};
+    ghost use Rattle.rounds.specs.Fresh.{AreRead, IsFresh, NumberedFrom};
+    ghost use Rattle.rounds.specs.RoundsState.{RoundState};
+
+    ghost Value = { RoundState };
+
+    ghost view = { λ r. record { packets = r.packets.items; blocks = r.blocks } };
+
+    ghost invariant = { λ r. IsFresh 0 r.blocks (of_packets r.packets.items) × AreRead r.packets.items × (counts_of r.packets.items ≡ r.blocks) × ((k : ℕ) × NumberedFrom k r.packets.items) };
+}
+
+/// What the packets of a round come to. It must be spent: ended, by the rounds that worked it.
+pub struct Worked {
+    pub(crate) items: Vec<Item>,
+    pub(crate) blocks: u32,
+}
+
+impl Model for Worked {
+    ghost use Rattle.std.specs.Prelude.{◌≤◌};
+    ghost use Rattle.rounds.specs.Held.{of_items, blocks_in_items};
+    ghost use Rattle.rounds.specs.Marks.{IsRound};
+    ghost use Rattle.rounds.specs.RoundsState.{WorkedState};
+
+    ghost Value = { WorkedState };
+
+    ghost view = { λ w. record { items = w.items.items; blocks = w.blocks } };
+
+    ghost invariant = { λ w. IsRound w.blocks (of_items w.items.items) × (blocks_in_items w.items.items ≤ w.blocks) };
+}
+
+/// Why a round has no more records.
+#[derive(Clone, Copy, Debug, PartialEq, Eq)]
+pub enum RoundEnd {
+    /// It has as many as it may have.
+    Full,
+    /// The capture has no more.
+    End,
+    Malformed(CapFault),
+    /// With the next record it would need this many blocks, and there are fewer.
+    PoolEmpty { need: u32 },
+    ReadFault,
+    NoMemory,
+}
+
+/// A round, and why it has no more records.
+pub struct RoundRead {
+    pub round: Round,
+    pub end: RoundEnd,
+}
+
+pub(crate) fn end_of(stop: Stop) -> RoundEnd
+    ensures { IsEndOf stop result }
+{
+    match stop {
+        Stop::End => RoundEnd::End,
+        Stop::Malformed(fault) => RoundEnd::Malformed(fault),
+        Stop::PoolEmpty { need } => RoundEnd::PoolEmpty { need },
+        Stop::ReadFault => RoundEnd::ReadFault,
+        Stop::NoMemory => RoundEnd::NoMemory,
+    }
+}

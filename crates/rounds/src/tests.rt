@@ -1,0 +1,74 @@
+//! Rounds are read, dropped and ended, and all blocks are home again.
+ghost use Rattle.std.specs.Prelude.{◌≤◌};
+
+use crate::{RoundEnd, RoundRead, Rounds};
+use off_io::{Feed, MemSource};
+use pcap_io::{CaptureReader, Link};
+use std::alloc::Global;
+use std::test::Fail;
+
+// Two records of 1 and 2 bytes, little-endian microseconds.
+const TWO: [u8; 59] = [
+    0xd4, 0xc3, 0xb2, 0xa1, 0x02, 0x00, 0x04, 0x00, 0x00, 0x00, 0x00, 0x00, 0x00, 0x00, 0x00, 0x00,
+    0x00, 0x00, 0x04, 0x00, 0x01, 0x00, 0x00, 0x00, 0x01, 0x00, 0x00, 0x00, 0x02, 0x00, 0x00, 0x00,
+    0x01, 0x00, 0x00, 0x00, 0x03, 0x00, 0x00, 0x00, 0xaa, 0x01, 0x00, 0x00, 0x00, 0x05, 0x00, 0x00,
+    0x00, 0x02, 0x00, 0x00, 0x00, 0x02, 0x00, 0x00, 0x00, 0xbb, 0xcc,
+];
+
+// A round of two, of a source that fails at these of its calls: the blocks that are home while the round is out and once it was
+// dropped, the blocks that were taken, and why it ended.
+fn turn(alloc: Global, blocks: u32, fails: Vec<u64>) -> Result<(u32, u32, u64, RoundEnd), Fail>
+    requires { (1 ≤ blocks) × (blocks ≤ 65536) }
+{
+    let mut feed = Feed {
+        inner: MemSource::new(TWO.to_vec(alloc)?, 24, fails),
+    };
+    let mut reader = match CaptureReader::start(&mut feed, Link::Ethernet) {
+        Ok(reader) => reader,
+        Err(_) => return Err(Fail::from("the file header is lawful")),
+    };
+    let mut rounds = Rounds::make(alloc, blocks, 2)?;
+    let RoundRead { round, end } = rounds.read_round(&mut reader);
+    let home = rounds.home();
+    rounds.drop_round(round);
+    Ok((home, rounds.home(), rounds.taken(), end))
+}
+
+#[test]
+fn the_need_is_exact(rt: HostRuntime) -> Result<(), Fail> {
+    let alloc = rt.alloc();
+    assert_eq!(rt; turn(alloc, 7, Vec::new(alloc))?, (1, 7, 6, RoundEnd::Full));
+    assert_eq!(rt; turn(alloc, 6, Vec::new(alloc))?, (0, 6, 6, RoundEnd::Full));
+    assert_eq!(rt;
+        turn(alloc, 5, Vec::new(alloc))?,
+        (2, 5, 3, RoundEnd::PoolEmpty { need: 6 })
+    );
+    assert_eq!(rt;
+        turn(alloc, 2, Vec::new(alloc))?,
+        (2, 2, 0, RoundEnd::PoolEmpty { need: 3 })
+    );
+    Ok(())
+}
+
+// Call 0 gives the file header; then each record's header is a call, and its body is one.
+#[test]
+fn a_half_read_record_leaves_no_block_out(rt: HostRuntime) -> Result<(), Fail> {
+    let alloc = rt.alloc();
+    assert_eq!(rt;
+        turn(alloc, 7, vec![in alloc; 1]?)?,
+        (7, 7, 0, RoundEnd::ReadFault)
+    );
+    assert_eq!(rt;
+        turn(alloc, 7, vec![in alloc; 2]?)?,
+        (7, 7, 3, RoundEnd::ReadFault)
+    );
+    assert_eq!(rt;
+        turn(alloc, 7, vec![in alloc; 3]?)?,
+        (4, 7, 3, RoundEnd::ReadFault)
+    );
+    assert_eq!(rt;
+        turn(alloc, 7, vec![in alloc; 4]?)?,
+        (4, 7, 6, RoundEnd::ReadFault)
+    );
+    Ok(())
+}
