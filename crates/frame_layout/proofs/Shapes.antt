@@ -78,7 +78,7 @@ keeps_if : (start : ℕ) (f g : List ℕ) (b c : Bool) (x y x' y' : Option Layou
 keeps_if start f g true c x y x' y' e a b = rw (← e) a
 keeps_if start f g false c x y x' y' e a b = rw (← e) b
 
-same16 : (f g : List ℕ) (at : ℕ) → byte f at ≡ byte g at → byte f (at + 1) ≡ byte g (at + 1) → be16 f at ≡ be16 g at
+pub same16 : (f g : List ℕ) (at : ℕ) → byte f at ≡ byte g at → byte f (at + 1) ≡ byte g (at + 1) → be16 f at ≡ be16 g at
 same16 f g at a b = omega arith
 
 keeps_tcp : (f g : List ℕ) (at : ℕ) → Keeps at f g (tcp_from f at) (tcp_from g at)

@@ -2,7 +2,7 @@
 use Rattle.std.proofs.Common.{◌≡◌, ℕ, zero, suc, ◌+◌, ◌-◌, ◌*◌, ◌^◌, ◌<◌, ◌≤◌, ◌⊎◌, inl, inr, Bool, true, false, cond, Option, Some, None, List, [], ◌∷◌, ◌++◌, length, get_or, take, drop, map, refl, sym, ap, ◌∙◌, subst, arith, length-append}
 use Rattle.std.specs.Prelude.{◌==◌, if◌then◌else◌, is_some}
 use Rattle.std.specs.List.{flat_map, filter, AllByRecursion, range_with_len}
-use Rattle.std.proofs.lemmas.List.{take_at}
+use Rattle.std.proofs.lemmas.List.{take_at, length-map}
 use Rattle.std.proofs.lemmas.List.Elements.{filter-append}
 use Rattle.std.proofs.lemmas.Bool.{le-ltb}
 use Rattle.std.proofs.lemmas.Simd.{map-map}
@@ -29,8 +29,9 @@ use Rattle.offload_model.specs.Captured.{IsCaptured, AreCaptured, AreLawful, con
 use Rattle.offload_model.specs.Tested.{numbered, reads_tested, segmented_of}
 use Rattle.offload_model.proofs.Flows.{IsItem, all_items, rounds_captured, back, flows_come_back}
 use Rattle.offload_model.proofs.Items.{items_are}
-use Rattle.offload_model.proofs.Lists.{all_filtered, all_of, all_joined, all_range}
+use Rattle.offload_model.proofs.Lists.{all_filtered, all_of, all_mapped, all_joined, all_range}
 use Rattle.offload_model.proofs.RunRecords.{runs_come_back, record_key, segments_are}
+use Rattle.offload_model.proofs.ReadBack.{length-file_bytes}
 use Rattle.offload_model.proofs.WrittenBack.{IsWritten, all_written, reads_back, head_reads_back, written_comes_back}
 use Rattle.offload_model.specs.CaptureLaws.{BringsBack, CapturesComeBack, RecordsAreFew}
 use Rattle.offload_model.proofs.FlowLists.{same_number, few}
@@ -103,10 +104,6 @@ window_sound t p window c =
 windows_sound : (t : ℕ) (p : Packet) (window : List ℕ) → IsCaptured p → AllByRecursion IsSound (windows_by t p window)
 windows_sound t p [] c = tt
 windows_sound t p (b ∷ bytes) c = (window_sound t p (b ∷ bytes) c, tt)
-
-all_mapped : {A B : Type 0} (P : A → Type 0) (Q : B → Type 0) (f : A → B) (xs : List A) → ((x : A) → P x → Q (f x)) → AllByRecursion P xs → AllByRecursion Q (map f xs)
-all_mapped P Q f [] g a = tt
-all_mapped P Q f (x ∷ xs) g a = (g x a.0, all_mapped P Q f xs g a.1)
 
 round_sound : (o : Options) (ps : List Packet) → AreCaptured ps → AllByRecursion IsSound (round_records o ps)
 round_sound o ps c =
@@ -263,19 +260,12 @@ numbered_flow key n (p ∷ ps) = by (is_of key p) (numbered_flow key (n + 1) ps)
     by true i = ap (λ z. content p ∷ z) i
     by false i = i
 
-file_size : (head : FileHead) → length (file_bytes head Offload) ≡ 24
-file_size head = by head.order head.nanos head.zone head.sigfigs
-  where
-    by : (order : Order) (nanos : Bool) (zone sigfigs : ℕ) → length (file_bytes (record { order = order; nanos = nanos; zone = zone; sigfigs = sigfigs }) Offload) ≡ 24
-    by Big nanos zone sigfigs = refl
-    by Little nanos zone sigfigs = refl
-
 -- what is written of a merged capture
 output_is : (head : FileHead) (o : Options) (ps : List Packet) → head.zone < 2 ^ 32 → head.sigfigs < 2 ^ 32 → AreLawful o → AreCaptured ps → length (records_of o ps) ≤ 2 ^ 32
     → segmented_of (written head o ps) ≡ segmented head (numbered 0 (records_of o ps))
 output_is head o ps zone sigfigs lawful c few =
     let bytes : List ℕ = written head o ps in
-    let front : take 24 bytes ≡ file_bytes head Offload = take_at (file_bytes head Offload) (flat_map (record_bytes head.order) (records_of o ps)) 24 (file_size head) in
+    let front : take 24 bytes ≡ file_bytes head Offload = take_at (file_bytes head Offload) (flat_map (record_bytes head.order) (records_of o ps)) 24 (length-file_bytes head.order head.nanos head.zone head.sigfigs) in
     let taken : first_that_holds (file_refusals Offload (take 24 bytes)) ≡ None = ap (λ xs. first_that_holds (file_refusals Offload xs)) front ∙ (file_head_law head Offload zone sigfigs).0 in
     ap (λ (r : Option CapKind). if is_some r then [] else segmented (file_head (take 24 bytes)) (reads_tested bytes).packets) taken
     ∙ ap (λ h. segmented h (reads_tested bytes).packets) (head_reads_back head o ps zone sigfigs)
@@ -301,13 +291,9 @@ captures_come_back head o ps zone sigfigs lawful c few_records =
 abbrev IsSome : Packet → Type 0
 IsSome r = 1 ≤ length (segments_of r)
 
-length-content : (ps : List Packet) → length (map content ps) ≡ length ps
-length-content [] = refl
-length-content (p ∷ ps) = ap suc (length-content ps)
-
 run_some : (q : ℕ) (run : List Packet) → IsItem run → IsSome (record_of q run)
 run_some q run i =
-    omega (arith, ap length (runs_come_back q run i.captured i.allowed), length-content (segments_of (record_of q run)), length-content run, i.full)
+    omega (arith, ap length (runs_come_back q run i.captured i.allowed), length-map (segments_of (record_of q run)) content, length-map run content, i.full)
 
 round_some : (o : Options) (ps : List Packet) → o.taps ≡ 0 → AreCaptured ps → AllByRecursion IsSome (round_records o ps)
 round_some o ps taps c =

@@ -2,6 +2,7 @@
 use Rattle.std.proofs.Common.{◌≡◌, ℕ, ◌+◌, ◌-◌, ◌/◌, ◌%◌, ◌<◌, ◌≤◌, ◌≢◌, ◌⊎◌, inl, inr, List, length, set, drop, sym, ap, ◌∙◌, arith}
 use Rattle.std.proofs.lemmas.List.{length-set, get_or-set_same, get_or-set_other, ext_get_or, set-get_or, get_or-take, get_or-drop, length-take, length-drop}
 use Rattle.std.proofs.lemmas.Bool.{cases_eq}
+pub use Rattle.net_bytes.proofs.Numbers.{put16_other, put32_other}
 use Rattle.net_bytes.specs.Bytes.{byte, be16, be32, put16, put32, part}
 
 pub length-put16 : (f : List ℕ) (at n : ℕ) → length (put16 f at n) ≡ length f
@@ -15,9 +16,6 @@ put16_first f at n h = get_or-set_other (set f at (n / 256)) (at + 1) at (n % 25
 
 pub put16_second : (f : List ℕ) (at n : ℕ) → at + 1 < length f → byte (put16 f at n) (at + 1) ≡ n % 256
 put16_second f at n h = get_or-set_same (set f at (n / 256)) (at + 1) (n % 256) 0 (simp length-set h)
-
-pub put16_other : (f : List ℕ) (at n k : ℕ) → k ≢ at → k ≢ at + 1 → byte (put16 f at n) k ≡ byte f k
-put16_other f at n k a b = get_or-set_other (set f at (n / 256)) (at + 1) k (n % 256) 0 b ∙ get_or-set_other f at k (n / 256) 0 a
 
 -- what was written is read
 pub be16-put16 : (f : List ℕ) (at n : ℕ) → at + 1 < length f → be16 (put16 f at n) at ≡ n
@@ -73,7 +71,3 @@ be32-put32 f at n h =
     let b : be16 (put32 f at n) (at + 2) ≡ n % 65536 =
     be16-put16 (put16 f at (n / 65536)) (at + 2) (n % 65536) (omega (arith, length-put16 f at (n / 65536))) in
     omega arith
-
-pub put32_other : (f : List ℕ) (at n k : ℕ) → (k < at) ⊎ (at + 4 ≤ k) → byte (put32 f at n) k ≡ byte f k
-put32_other f at n k out =
-    put16_other (put16 f at (n / 65536)) (at + 2) (n % 65536) k (omega arith) (omega arith) ∙ put16_other f at (n / 65536) k (omega arith) (omega arith)

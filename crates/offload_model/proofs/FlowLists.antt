@@ -1,5 +1,6 @@
 -- Lists that hold the same of each flow have one length.
 use Rattle.std.proofs.Common.{◌≡◌, ℕ, zero, suc, ◌+◌, ◌<◌, ◌≤◌, Bool, true, false, cond, Option, List, [], ◌∷◌, length, map, refl, sym, ap, ◌∙◌, arith}
+use Rattle.std.proofs.lemmas.List.{length-map}
 use Rattle.std.specs.List.{filter, AllByRecursion}
 use Rattle.maximal_runs.specs.Cut.{AllNeighbours}
 use Rattle.frame_layout.specs.Key.{key_of}
@@ -83,15 +84,11 @@ filter_content key (p ∷ ps) = by (is_of key p) refl (filter_content key ps)
     by true s i = rw (s, i) refl
     by false s i = rw (s, i) refl
 
-length-content : (ps : List Packet) → length (map content ps) ≡ length ps
-length-content [] = refl
-length-content (p ∷ ps) = ap suc (length-content ps)
-
 pub same_number : (qs ps : List Packet) → ((key : Option (List ℕ)) → map content (filter (is_of key) qs) ≡ map content (filter (is_of key) ps)) → length qs ≡ length ps
 same_number qs ps same =
-    sym (length-content qs)
+    sym (length-map qs content)
     ∙ same_length (map content qs) (map content ps) (λ key. filter_content key qs ∙ same key ∙ sym (filter_content key ps))
-    ∙ length-content ps
+    ∙ length-map ps content
 
 -- packets with rising numbers of 32 bits are few
 few_from : (n : ℕ) (p : Packet) (ps : List Packet) → n ≤ p.number → AllByRecursion IsCaptured (p ∷ ps) → AllNeighbours (λ p q. p.number < q.number) (p ∷ ps) → n + length (p ∷ ps) ≤ 4294967296

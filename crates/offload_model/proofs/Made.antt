@@ -3,6 +3,7 @@ use Rattle.std.proofs.Common.{◌≡◌, ℕ, ◌+◌, ◌-◌, ◌<◌, ◌≤�
 use Rattle.std.proofs.lemmas.List.{length-drop}
 use Rattle.offload_model.proofs.Fields.{same_drop}
 use Rattle.offload_model.proofs.Edits.{with_edits-long, with_edits-leaves}
+pub use Rattle.frame_layout.proofs.Lemmas.{same16}
 use Rattle.frame_layout.proofs.Lemmas.{headers_map, headers_map2, Outside, IsIn, are_inside, are_apart, apart, among, outside_all, inner}
 use Rattle.offload_model.proofs.Filled.{lengths_are_edits, lengths_set, with_sums-long, with_sums-leaves, sums_set, udp_kept, Small, filled_small}
 use Rattle.frame_layout.specs.Candidate.{IsLengthRight, AreSumsRight}
@@ -28,9 +29,6 @@ with_lengths_and_sums-leaves hs f k o =
 
 pub with_lengths_and_sums-long : (hs : List Header) (f : List ℕ) → length (with_lengths_and_sums hs f) ≡ length f
 with_lengths_and_sums-long hs f = with_sums-long _ hs (with_edits put_length hs f) ∙ with_edits-long lengths put_length lengths_are_edits hs f
-
-pub same16 : (f g : List ℕ) (at : ℕ) → byte f at ≡ byte g at → byte f (at + 1) ≡ byte g (at + 1) → be16 f at ≡ be16 g at
-same16 f g at a b = omega arith
 
 pub same32 : (f g : List ℕ) (at : ℕ) → be16 f at ≡ be16 g at → be16 f (at + 2) ≡ be16 g (at + 2) → be32 f at ≡ be32 g at
 same32 f g at a b = omega arith

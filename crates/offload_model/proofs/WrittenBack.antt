@@ -19,7 +19,7 @@ use Rattle.offload_model.specs.Captured.{IsCaptured, AreCaptured, AreLawful, con
 use Rattle.offload_model.specs.Tested.{numbered, tested_from}
 use Rattle.offload_model.specs.CaptureLaws.{ReadsBack, HeadReadsBack, WrittenComesBack}
 use Rattle.offload_model.proofs.Decides.{decides_record}
-use Rattle.offload_model.proofs.Lists.{all_filtered, all_of, all_joined, all_range}
+use Rattle.offload_model.proofs.Lists.{all_filtered, all_of, all_mapped, all_joined, all_range}
 use Rattle.offload_model.proofs.Opened.{opened_head, length-off_bytes}
 use Rattle.offload_model.proofs.RunRecords.{IsRunRecord, run_record, super_record, single_record, in_bytes}
 use Rattle.offload_model.proofs.Items.{items_are}
@@ -92,10 +92,6 @@ window_written t p window lane c short =
 windows_written : (t : ℕ) (p : Packet) (window : List ℕ) → t ≤ 7 → IsCaptured p → length window ≤ 262144 → AllByRecursion IsWritten (windows_by t p window)
 windows_written t p [] lane c short = tt
 windows_written t p (b ∷ bytes) lane c short = (window_written t p (b ∷ bytes) lane c short, tt)
-
-all_mapped : {A B : Type 0} (P : A → Type 0) (Q : B → Type 0) (f : A → B) (xs : List A) → ((x : A) → P x → Q (f x)) → AllByRecursion P xs → AllByRecursion Q (map f xs)
-all_mapped P Q f [] g a = tt
-all_mapped P Q f (x ∷ xs) g a = (g x a.0, all_mapped P Q f xs g a.1)
 
 window_short : (snap t : ℕ) (p : Packet) → IsCaptured p → length (window_of snap t p.frame) ≤ 262144
 window_short snap t p c = omega (arith, length-take snap (drop (t * snap) p.frame), length-drop (t * snap) p.frame, c.short)
