@@ -24,7 +24,8 @@ pub payloads_held : (layout : Layout) (ps : List Held) → payloads layout.paylo
 payloads_held layout [] = refl
 payloads_held layout (p ∷ ps) = ap (λ (z : List ℕ). drop layout.payload_at (buffer_bytes p.skb) ++ z) (payloads_held layout ps)
 
-pub joinable : (at : ℕ) (ps : List Held) → at ≤ 200 → AreHeld ps → ((i : ℕ) (d : Packet) → i < length (map packet_of ps) → at ≤ length (get_or (map packet_of ps) i d).frame) → AreJoinable at ps
+pub joinable : (at : ℕ) (ps : List Held) → at ≤ 200 → AreHeld ps
+    → ((i : ℕ) (d : Packet) → i < length (map packet_of ps) → at ≤ length (get_or (map packet_of ps) i d).frame) → AreJoinable at ps
 joinable at [] low h f = tt
 joinable at (p ∷ ps) low h f = (
   (omega (arith, low, h.0.front, h.0.size, f 0 (packet_of p) (omega arith)), h.0.front),
@@ -101,5 +102,8 @@ module _ (first : Held) (rest : List Held) (layout : Layout) (sum : FoldAndLengt
       → made p.number p.sec p.frac original n m modes frame ≡ merged_of (p ∷ ps)
   item_is frame original n m modes several f eo en em es =
       let last : List ℕ = frame_at (p ∷ ps) (length (p ∷ ps) - 1) in
-      let whole : frame ≡ frame_of_run layout (p ∷ ps) = f last r.flags ∙ ap (λ (z : List ℕ). merged_frame layout (buffer_bytes first.skb) last z) (payloads_held layout (first ∷ rest)) in
-      comes_to p ps layout sum bits state r frame original n m modes (omega (arith, several, length-map rest packet_of)) whole eo (omega (arith, en, length-map rest packet_of)) (omega (arith, em, held.0.size)) es
+      let whole : frame ≡ frame_of_run layout (p ∷ ps) =
+      f last r.flags ∙ ap (λ (z : List ℕ). merged_frame layout (buffer_bytes first.skb) last z) (payloads_held layout (first ∷ rest)) in
+      let long = length-map rest packet_of in
+      comes_to p ps layout sum bits state r frame original n m modes (omega (arith, several, long)) whole eo (omega (arith, en, long))
+      (omega (arith, em, held.0.size)) es

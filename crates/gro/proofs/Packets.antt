@@ -85,6 +85,7 @@ taken_then p ps at a b c f g =
       least = λ w z y. g.least w z.1 (f.least w (z.0, tt) y);
     }
 
-pub then_all : (p : Held) (xs ys all : List Held) (at : ℕ) (first a b : Build) → xs ≡ p ∷ ys → TakesPackets (p ∷ []) at a b → ((c : Build) → TakesPackets xs at a c → TakesPackets all at first c)
+pub then_all : (p : Held) (xs ys all : List Held) (at : ℕ) (first a b : Build) → xs ≡ p ∷ ys → TakesPackets (p ∷ []) at a b
+    → ((c : Build) → TakesPackets xs at a c → TakesPackets all at first c)
     → (c : Build) → TakesPackets ys at b c → TakesPackets all at first c
 then_all p xs ys all at first a b e f g c h = g c (subst (λ (z : List Held). TakesPackets z at a c) (sym e) (taken_then p ys at a b c f h))

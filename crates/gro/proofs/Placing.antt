@@ -56,7 +56,8 @@ places_more runs i r all p h e is f qs a =
     let g : drop i runs ≡ r ∷ drop (i + 1) runs = drop_more runs i r h ∙ ap (λ (z : Run). z ∷ drop (i + 1) runs) (sym e) in
     subst (ArePlacesOf runs) (sym (append_assoc all (p ∷ []) qs)) (f (p ∷ qs) (subst (λ (z : List Run). ArePlacesOf z (p ∷ qs)) (sym g) (is, a)))
 
-pub places_end : (runs : List Run) (all : List Places) (n : ℕ) → n ≡ length runs → ((qs : List Places) → ArePlacesOf (drop n runs) qs → ArePlacesOf runs (all ++ qs)) → ArePlacesOf runs all
+pub places_end : (runs : List Run) (all : List Places) (n : ℕ) → n ≡ length runs
+    → ((qs : List Places) → ArePlacesOf (drop n runs) qs → ArePlacesOf runs (all ++ qs)) → ArePlacesOf runs all
 places_end runs all n e f =
     let g : drop n runs ≡ [] = nil_from_length (drop n runs) (omega (arith, length-drop n runs, e)) in
     subst (ArePlacesOf runs) (append-nil all) (f [] (subst (λ (z : List Run). ArePlacesOf z []) (sym g) refl))

@@ -22,7 +22,8 @@ returns-clause-merged c = λ first last bytes same flags sum.
     let at : ℕ = c.args.layout.now.payload_at in
     let is : old ≡ take at c.args.head.now = c.copy_from_slice.ensures.after ∙ ap (λ (z : ℕ). take z c.args.head.now) c.payload_at-at.ensures.place in
     let long : length old ≡ at = ap length is ∙ length-take-le at c.args.head.now c.requires.inside in
-    ap (λ (z : List ℕ). z ++ bytes) (front_is c.args.block.now.bytes w at (sym (ap length c.bytes.ensures.value) ∙ c.bytes.ensures.size) (c.merge_headers.auto.head ∙ long) c.requires.low)
+    let size = sym (ap length c.bytes.ensures.value) ∙ c.bytes.ensures.size in
+    ap (λ (z : List ℕ). z ++ bytes) (front_is c.args.block.now.bytes w at size (c.merge_headers.auto.head ∙ long) c.requires.low)
     ∙ c.merge_headers.ensures.merged first last bytes (ap (λ (z : ℕ). take z first) long ∙ same ∙ sym is) (subst (AtHeaders (HasFlags c.args.flags last)) (sym c.headers.ensures.headers) flags) sum
     ∙ ap (λ (z : List Header). merged_frame (record { headers = z; payload_at = length old }) first last bytes) c.headers.ensures.headers
     ∙ ap (λ (z : ℕ). merged_frame (record { headers = c.args.layout.now.headers; payload_at = z }) first last bytes) long

@@ -1,4 +1,4 @@
-use Rattle.std.proofs.Common.{List, length, ap, subst, sym, arith}
+use Rattle.std.proofs.Common.{◌≡◌, [], List, length, ap, subst, sym, arith}
 use Rattle.std.proofs.lemmas.List.{nil_from_length}
 use Rattle.gro.specs.declared.packet.Packet.{Packet}
 use Rattle.gro.specs.Build.{build, TakesPackets, AreJoinable, sizes_behind, pieces_in}
@@ -29,6 +29,8 @@ pub returns : goal.returns
 returns c =
     let i = c.loop-packet.invariant in
     let b = build c.loop-packet.block c.loop-packet.end c.loop-packet.pieces.pieces c.loop-packet.out in
+    let none : c.loop-packet.packets.items ≡ [] =
+    nil_from_length c.loop-packet.packets.items (omega (arith, c.in_default.ensures.cases.0, c.loop-packet.packets.ok)) in
     record {
-      takes = i.rest b (subst (λ (z : List Packet). TakesPackets z c.args.at b b) (sym (nil_from_length c.loop-packet.packets.items (omega (arith, c.in_default.ensures.cases.0, c.loop-packet.packets.ok)))) (none_taken c.args.at b i.is));
+      takes = i.rest b (subst (λ (z : List Packet). TakesPackets z c.args.at b b) (sym none) (none_taken c.args.at b i.is));
     }

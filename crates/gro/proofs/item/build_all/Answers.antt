@@ -20,7 +20,8 @@ loop-run-preserved c =
       each = all.1;
       places = two.1;
       room = omega (arith, i.room, ap length e, c.push_reserved.ensures.len, c.push_reserved.ensures.capacity);
-      rest = items_more c.args.runs.items c.loop-run.runs.items c.in-Some.run' c.pop_front.new.self.items c.loop-run.items.items c.push_reserved.new.self.items c.into_item.result e c.push_reserved.ensures.items
+      rest = items_more c.args.runs.items c.loop-run.runs.items c.in-Some.run' c.pop_front.new.self.items c.loop-run.items.items
+          c.push_reserved.new.self.items c.into_item.result e c.push_reserved.ensures.items
           ((c.into_item.ensures.item, c.into_item.ensures.holds), refl) i.rest;
     }
 
