@@ -28,6 +28,8 @@ mod judging;
 mod merged;
 mod open;
 mod sums;
+#[cfg(test)]
+mod tests;
 mod whole;
 
 pub use cutter::{Cut, Cutter};
