@@ -21,6 +21,7 @@ pub mod Items
 pub mod Flows
 pub mod Rounding
 pub mod Needs
+mod Limits
 pub mod Passings
 pub mod Steps
 pub mod Captured

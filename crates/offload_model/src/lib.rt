@@ -33,7 +33,7 @@ pub use frames::{
     merged_frames_are_merged, merged_is_lawful, segment_frames_are_segments,
     segments_are_the_packets, segments_give_the_packets,
 };
-pub use need::{needs_add, needs_exceed, rounds_exceed};
+pub use need::{defaults_suffice, needs_add, needs_exceed, rounds_exceed};
 pub use passing::{
     blocks_suffice, commands_pass_on, commands_stop, fronts_are_written, merging_goes_by_round,
     records_to_whole, segmenting_goes_by_record, stops_are_one,
