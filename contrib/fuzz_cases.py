@@ -1,4 +1,5 @@
 """Cases for `fuzz`: from a seed a command, its words and a capture, most of them lawful in most places and wrong in some."""
+import copy
 import random
 import struct
 from typing import NamedTuple, Optional
@@ -13,25 +14,41 @@ class Case(NamedTuple):
     data: bytes
 
 
+def mostly(rng, usual, *others):
+    """The usual value nineteen times of twenty."""
+    return usual if rng.random() < 0.95 else rng.choice(others)
+
+
 class Flow:
     """What the frames of a flow have in common, and what its next frame continues."""
 
     def __init__(self, rng):
         self.tags = [(rng.choice((0x8100, 0x88A8)), rng.randrange(4)) for _ in range(rng.choice((0, 0, 0, 1, 2)))]
         self.inner_tags = [(0x8100, rng.randrange(4)) for _ in range(rng.choice((0, 0, 1, 2)))]
-        self.tunnel = rng.choice((0, 0, 0, 4, 6))
-        self.has_udp_sum = rng.random() < 0.5
-        self.ip = rng.choice((4, 4, 6))
-        self.has_df = rng.random() < 0.8
+        self.tunnel, self.tunnel_port = rng.choice((0, 0, 0, 4, 6)), mostly(rng, 4789, 4790, 8472)
+        self.vxlan_flags, self.vni = mostly(rng, 8, 0, 0x0C, 0xFF), rng.randrange(2)
+        self.has_udp_sum, self.has_udp_sum_of_zero = rng.random() < 0.5, rng.random() < 0.1
+        self.ip, self.ip_start = rng.choice((4, 4, 6)), mostly(rng, 0x45, 0x44, 0x46, 0x55)
+        self.fragment = mostly(rng, 0, 0x80, 0x20, 0x01) << 8 | (0x4000 if rng.random() < 0.7 else 0)
         self.id_step = [rng.choice((1, 1, 1, 0)) for _ in range(2)]
         self.ids = [rng.choice((0, 100, 65534, 65535)) for _ in range(2)]
-        self.hosts = rng.randrange(3)
-        self.port = 40000 + rng.randrange(3)
-        self.vni = rng.randrange(2)
-        self.options = rng.randbytes(4 * rng.choice((0, 0, 3, 3, 10)))
+        self.hosts, self.port = rng.randrange(3), 40000 + rng.randrange(3)
+        self.options, self.reserved = rng.randbytes(4 * rng.choice((0, 0, 3, 3, 10))), mostly(rng, 0, 1, 8)
         self.sequence = rng.choice((1000, 2**32 - 60, 2**32 - 1))
         self.size = rng.choice((1, 2, 3, 4, 7, 48, 99, 100))
-        self.has_sum_of_zero = rng.random() < 0.1
+        self.has_sum_of_zero, self.zero_as = rng.random() < 0.15, rng.choice((0, 0, 65535))
+        self.is_steady = rng.random() < 0.3  # no frame of it differs in size, flags or step
+        self.edit = rng.randrange(2**32)  # what is done to each of its frames, where something is
+
+    def twin(self, rng):
+        """A flow that differs in one place of the key, or in none that belongs to it."""
+        other = copy.copy(self)
+        other.ids = list(self.ids)
+        name, value = rng.choice((("vni", self.vni + 1), ("port", self.port + 1), ("hosts", self.hosts + 1), ("has_udp_sum", not self.has_udp_sum)))
+        setattr(other, name, value)
+        if other.tags and rng.random() < 0.3:
+            other.tags = [(kind, control + 1) for kind, control in other.tags]
+        return other
 
     def addresses(self, ip):
         if ip == 4:
@@ -46,7 +63,7 @@ class Flow:
     def with_ip(self, ip, protocol, identification, body):
         if ip == 6:
             return b"\x60\0\0\0" + struct.pack(">HBB", len(body) % 65536, protocol, 64) + self.addresses(6) + body
-        fields = (0x45, 0, (20 + len(body)) % 65536, identification, 0x4000 if self.has_df else 0, 64, protocol)
+        fields = (self.ip_start, 0, (20 + len(body)) % 65536, identification, self.fragment, 64, protocol)
         head = struct.pack(">BBHHHBBH", *fields, 0) + self.addresses(4)
         return struct.pack(">BBHHHBBH", *fields, defined.checksum(head)) + self.addresses(4) + body
 
@@ -57,33 +74,46 @@ class Flow:
         return head + (b"\x08\x00" if ip == 4 else b"\x86\xdd") + body
 
     def segment(self, flags, payload):
-        fields = (self.port, 5001, self.sequence, 1, (5 + len(self.options) // 4) << 4, flags, 256)
+        fields = (self.port, 5001, self.sequence, 1, (5 + len(self.options) // 4) << 4 | self.reserved, flags, 256)
         head = struct.pack(">HHIIBBHHH", *fields, 0, 0) + self.options
         value = defined.checksum(self.pseudo(self.ip, 6, len(head) + len(payload)) + head + payload)
         if self.has_sum_of_zero and payload[:2] == b"\0\0":
-            payload, value = struct.pack(">H", value) + payload[2:], 0
+            payload, value = struct.pack(">H", value) + payload[2:], self.zero_as
         return struct.pack(">HHIIBBHHH", *fields, value, 0) + self.options + payload
+
+    def datagram(self, body):
+        """The body in a UDP datagram, whose sum is 0, right, or ffff for 0 by a source port that makes it so."""
+        size = 8 + len(body)
+
+        def head(port, total):
+            return struct.pack(">HHHH", port, self.tunnel_port, size % 65536, total)
+
+        def value(port):
+            return defined.checksum(self.pseudo(self.tunnel, 17, size) + head(port, 0) + body)
+
+        port = (50000 + value(50000) - 1) % 65535 + 1 if self.has_udp_sum_of_zero else 50000
+        return head(port, (value(port) or 65535) if self.has_udp_sum else 0) + body
 
     def frame(self, flags, payload):
         packet = self.with_ip(self.ip, 6, self.ids[0], self.segment(flags, payload))
         if not self.tunnel:
             return self.with_ethernet(self.tags, self.ip, packet)
-        body = struct.pack(">II", 8 << 24, self.vni << 8) + self.with_ethernet(self.inner_tags, self.ip, packet)
-        head = struct.pack(">HHH", 50000, 4789, (8 + len(body)) % 65536)
-        value = defined.checksum(self.pseudo(self.tunnel, 17, 8 + len(body)) + head + b"\0\0" + body) or 65535
-        datagram = head + struct.pack(">H", value if self.has_udp_sum else 0) + body
-        return self.with_ethernet(self.tags, self.tunnel, self.with_ip(self.tunnel, 17, self.ids[1], datagram))
+        body = struct.pack(">II", self.vxlan_flags << 24, self.vni << 8) + self.with_ethernet(self.inner_tags, self.ip, packet)
+        return self.with_ethernet(self.tags, self.tunnel, self.with_ip(self.tunnel, 17, self.ids[1], self.datagram(body)))
 
     def next(self, rng):
-        size = self.size
-        if rng.random() < 0.15:
-            size = rng.choice((0, 1, max(1, size - 1), size // 2, size + 1))
+        size, flags, jumps = self.size, 0x10, [0, 0, 0]
+        if not self.is_steady:
+            jumps = [rng.random() < 0.03 for _ in jumps]
+            if rng.random() < 0.15:
+                size = rng.choice((0, 1, max(1, size - 1), size // 2, size + 1))
+            if rng.random() < 0.15:
+                flags = rng.choice((0x18, 0x11, 0x19, 0x02, 0x12, 0x14, 0x30, 0x50, 0x90, 0x00))
         payload = bytes(min(size, 2)) + rng.randbytes(size - min(size, 2)) if self.has_sum_of_zero else rng.randbytes(size)
-        flags = 0x10 if rng.random() < 0.85 else rng.choice((0x18, 0x11, 0x19, 0x02, 0x12, 0x14, 0x30, 0x50, 0x90, 0x00))
         frame = self.frame(flags, payload)
-        self.sequence = (self.sequence + size + (rng.random() < 0.03)) % 2**32
+        self.sequence = (self.sequence + size + jumps[2]) % 2**32
         for i, step in enumerate(self.id_step):
-            self.ids[i] = (self.ids[i] + step + 7 * (rng.random() < 0.03)) % 65536
+            self.ids[i] = (self.ids[i] + step + 7 * jumps[i]) % 65536
         return frame
 
 
@@ -212,7 +242,7 @@ def edited(rng, frame):
     frame = bytearray(frame)
     for _ in range(rng.choice((1, 1, 1, 2, 3))):
         frame = rng.choice(EDITS)(rng, frame)
-    return bytes(repair(rng, frame) if rng.random() < 0.5 else frame)
+    return bytes(repair(rng, frame) if rng.random() < 0.7 else frame)
 
 
 # Captures, as lists of [seconds, fraction, captured, original, bytes].
@@ -268,18 +298,26 @@ def edit_file(rng, data):
 
 
 def some_frames(rng, is_wrong):
+    """Frames of some flows; where some are wrong, one by one or all of a flow in the same way."""
     flows = [Flow(rng) for _ in range(rng.choice((1, 1, 2, 3)))]
+    if rng.random() < 0.2:
+        flows.append(flows[0].twin(rng))
     count = rng.choice((0, 1, 2, 3, 5, 8, 8, 12))
     chance = rng.choice((0, 0.1, 0.4)) if is_wrong else 0
     if rng.random() < 0.01:
         count = 140
     if rng.random() < 0.02:
         flows[0].size, flows[0].tunnel = rng.choice((536, 1448, 1984, 4000, 9000)), rng.choice((0, 4))
-    if rng.random() < 0.002:
-        flows, count = flows[:1], 70
-        flows[0].size = 1448
+    if rng.random() < 0.005:
+        flows = flows[:1]
+        flows[0].size, count = rng.choice(((1448, 70), (9000, 12), (16300, 10)))
+        flows[0].is_steady = True
+    are_alike = is_wrong and rng.random() < 0.3
     for _ in range(count):
-        frame = rng.choice(flows).next(rng)
+        flow = rng.choice(flows)
+        frame = flow.next(rng)
+        if are_alike:
+            frame = edited(random.Random(flow.edit), frame)
         yield edited(rng, frame) if rng.random() < chance else frame
 
 
@@ -314,7 +352,7 @@ def payload_of(frame):
 def edit_merged(rng, own):
     """A field of the offload header is another, n and m together too, or the frame is."""
     head, payload = own[4], max(1, payload_of(own[5]))
-    act = rng.randrange(9)
+    act = rng.choice((0, 1, 2, 3, 4, 4, 4, 5, 6, 7, 8, 8)) if head[1] == defined.MERGED else rng.randrange(9)
     if act == 0:
         head[2] = rng.choice((head[2] + 1, max(0, head[2] - 1), 0, 1, 2, 65535)) % 65536
     elif act == 1:
@@ -323,7 +361,7 @@ def edit_merged(rng, own):
         head[3] = rng.randint(1, min(payload, 65535)) if payload < 300 or rng.random() < 0.1 else max(1, payload // 3)
         head[2] = min(-(-payload // head[3]) + (rng.random() < 0.1), 65535)
     elif act == 4:
-        head[4] = rng.choice((0, 1, 2, 3, 4, 128, rng.randrange(256)))
+        head[4] = rng.choice((head[4] ^ 1, head[4] ^ 1, head[4] ^ 2, 3, 4, 128, rng.randrange(256)))
     elif act == 5:
         head[0], head[1] = rng.choice((0, 1, 1, 1, 2)), rng.choice((0, 1, 2, 2, 3, 255))
         if head[1] in (0, 2) and rng.random() < 0.7:
@@ -331,7 +369,8 @@ def edit_merged(rng, own):
     elif act == 6:
         head[5], head[6] = rng.choice((0, 7, 8, 63, 64, 255)), rng.randrange(2**32)
     else:
-        own[5] = edited(rng, own[5]) if act == 7 else bytes(repair(rng, edit_field(rng, bytearray(own[5]))))
+        edit = rng.choice((edit_field, edit_field, edit_fragment))
+        own[5] = edited(rng, own[5]) if act == 7 else bytes(repair(rng, edit(rng, bytearray(own[5]))))
         own[2] = own[3] = 12 + len(own[5])
 
 
@@ -339,7 +378,7 @@ def offload_capture(rng):
     found = merged_records(rng)
     chance = rng.choice((0, 0.1, 0.1, 0.5))
     for own in found:
-        while rng.random() < chance:
+        while rng.random() < (2 * chance if own[4][1] == defined.MERGED and chance < 0.5 else chance):
             edit_merged(rng, own)
     records = [own[:4] + [struct.pack(">BBHHBBI", *own[4]) + own[5]] for own in found]
     if rng.random() < 0.3:
