@@ -1,6 +1,5 @@
 -- Rounds, and what of them is written so far.
-use Rattle.std.proofs.Common.{◌≡◌, ◌≤◌, ◌<◌, ◌-◌, ◌^◌, false, ℕ, zero, suc, List, [], ◌∷◌, ◌++◌, length, take, drop, map, refl, sym, ap, ◌∙◌, arith, Option, None, Some, subst, append_assoc, append-nil, length-append}
-use Rattle.std.proofs.lemmas.List.{take_at, drop_at, take_all, drop_all}
+use Rattle.std.proofs.Common.{◌≡◌, ◌≤◌, ◌<◌, ◌-◌, ◌^◌, false, ℕ, suc, List, [], ◌∷◌, ◌++◌, length, map, refl, sym, ap, ◌∙◌, arith, Option, None, Some, subst, append_assoc, append-nil}
 use Rattle.std.specs.List.{flat_map, AllByRecursion}
 use Rattle.std.specs.Prelude.{All}
 use Rattle.std.proofs.lemmas.Bool.{ltb-false}
@@ -30,36 +29,10 @@ use Rattle.pcap_io.specs.Capture.{Packet, Found, ended}
 use Rattle.off_io.specs.Told.{Told}
 use Rattle.pcap_io.specs.Places.{IsReady, found_at}
 use Rattle.pcap_io.proofs.RecordLaws.{records_none}
-use Rattle.offload_model.specs.Rounds.{rounds_from, rounds_of}
+use Rattle.offload_model.proofs.Rounding.{rounds_none, rounds_full, rounds_last}
 use Rattle.round_merge.specs.Runs.{packet_of}
 use Rattle.offload_run.specs.Output.{round_bytes, rounds_bytes}
 use Rattle.offload_run.specs.Merging.{Merges, AreCapturedAt, output_at}
-
-pub rounds_skip : {P : Type 0} (budget more : ℕ) (ps : List P) → rounds_from budget more ps ≡ rounds_from budget 0 (drop more ps)
-rounds_skip budget zero ps = refl
-rounds_skip budget (suc more) [] = refl
-rounds_skip budget (suc more) (p ∷ ps) = rounds_skip budget more ps
-
-pub rounds_none : {P : Type 0} (budget : ℕ) → rounds_of {A = P} budget [] ≡ []
-rounds_none budget = refl
-
-pub rounds_some : {P : Type 0} (budget : ℕ) (ps : List P) → 0 < budget → 0 < length ps → rounds_of budget ps ≡ take budget ps ∷ rounds_of budget (drop budget ps)
-rounds_some budget [] room some = absurd (omega (arith, some))
-rounds_some budget (p ∷ ps) room some =
-    let e : budget ≡ suc (budget - 1) = omega arith in
-    let rest : drop budget (p ∷ ps) ≡ drop (budget - 1) ps = ap (λ (k : ℕ). drop k (p ∷ ps)) e in
-    ap (λ (l : List (List _)). take budget (p ∷ ps) ∷ l) (rounds_skip budget (budget - 1) ps ∙ ap (rounds_from budget 0) (sym rest))
-
--- a full round, and the others
-pub rounds_full : {P : Type 0} (budget : ℕ) (xs ys : List P) → 0 < budget → length xs ≡ budget → rounds_of budget (xs ++ ys) ≡ xs ∷ rounds_of budget ys
-rounds_full budget xs ys room full =
-    let some : 0 < length (xs ++ ys) = omega (arith, length-append xs ys) in
-    rounds_some budget (xs ++ ys) room some ∙ rw (take_at xs ys budget full, drop_at xs ys budget full) refl
-
--- one round alone
-pub rounds_last : {P : Type 0} (budget : ℕ) (xs : List P) → 0 < budget → 0 < length xs → length xs ≤ budget → rounds_of budget xs ≡ xs ∷ []
-rounds_last budget xs room some le =
-    rounds_some budget xs room some ∙ rw (take_all budget xs le, drop_all budget xs le, rounds_none budget) refl
 
 pub output_full : (budget : ℕ) (order : Order) (xs ys : List Packet) → 0 < budget → length xs ≡ budget → rounds_bytes budget order (xs ++ ys) ≡ round_bytes order xs ++ rounds_bytes budget order ys
 output_full budget order xs ys room full = ap (flat_map (round_bytes order)) (rounds_full budget xs ys room full)
