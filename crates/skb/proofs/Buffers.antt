@@ -1,8 +1,7 @@
 -- How a buffer's calls keep its bytes and its account.
 use Rattle.std.proofs.Common.{◌≡◌, ℕ, ◌+◌, ◌-◌, ◌*◌, ◌<◌, ◌≤◌, List, [], ◌∷◌, ◌++◌, Bool, false, length, take, drop, slice_range, refl, ap, sym, append_assoc, ◌∙◌, zero, suc, get_or, arith, length-drop}
-use Rattle.std.proofs.lemmas.List.{length-take, drop-append-le, drop-take, drop-drop}
+use Rattle.std.proofs.lemmas.List.{length-take, drop-append-le, drop-take, drop-drop, append-nil, length-take-le, take-append-le, get_or_append_left, get_or-append_right}
 use Rattle.std.proofs.Math.Seq.{drop-append-add, take-append-add, take-append_seam}
-use Rattle.std.proofs.lemmas.List.{append-nil, length-take-le, take-append-le, get_or_append_left, get_or-append_right}
 use Rattle.std.specs.Prelude.{Ok, ◌≢◌, cond, ◌==◌}
 use Rattle.std.proofs.lemmas.Bool.{cond_both, true≢false}
 use borrow.Author.Tests.{eqb-true}
@@ -149,10 +148,6 @@ behind_rest h xs [] to k = append-nil (h ++ xs) ∙ ap (λ (z : List ℕ). z ++ 
 behind_rest h [] (p ∷ ps) to k = ap (λ (z : List ℕ). z ++ bytes_of (p ∷ ps)) (append-nil h) ∙ sym (append-nil (h ++ bytes_of (p ∷ ps)))
 behind_rest h (x ∷ xs) (p ∷ ps) to k = let z = no_room p ps (2048 - to) in absurd (omega arith)
 
-pub room_within : (rest : List Piece) (to n : ℕ) → to ≤ 2048 → n ≤ cond (length rest == 0) (2048 - to) 0 → to + n ≤ 2048
-room_within [] to n h k = omega arith
-room_within (p ∷ ps) to n h k = let z = no_room p ps (2048 - to) in omega arith
-
 pub puts : (a : SkbState) (s w : SoleState) (xs : List ℕ) → a.head ≡ Sole s → w.bytes ≡ written s.bytes a.to xs → w.mark ≡ s.mark → w.block ≡ s.block → length (block a.head) ≡ 2048 → a.from ≤ a.to → a.to ≤ 2048 → length xs ≤ tailroom a → IsPut a xs (record a { head = Sole w; to = a.to + length xs }) (Ok tt)
 puts a s w xs e wb wm wo l h k r =
     let we : w ≡ record s { bytes = written s.bytes a.to xs } = λ i. record { block = wo i; bytes = wb i; mark = wm i } in
@@ -190,13 +185,6 @@ trim_head f r n h o k e b g =
     let q : List ℕ = take (t - f.from) x in
     let jl : j ≤ f.to - f.from = omega arith in
     ap (λ (z : List ℕ). q ++ z) g ∙ append-nil q ∙ ap (λ (z : ℕ). take z x) u ∙ sym (take_shorter j (f.to - f.from) x jl) ∙ sym (take-append-le j (head_bytes f) (bytes_of f.rest) (omega arith))
-
--- the byte at a place lies in the head or in the pieces
-pub byte_of_head : (f : SkbState) (i : ℕ) (d : ℕ) → i < length (head_bytes f) → get_or (buffer_bytes f) i d ≡ get_or (head_bytes f) i d
-byte_of_head f i d h = get_or_append_left (head_bytes f) (bytes_of f.rest) d i h
-
-pub byte_of_rest : (f : SkbState) (i : ℕ) (d : ℕ) → length (head_bytes f) ≤ i → get_or (buffer_bytes f) i d ≡ get_or (bytes_of f.rest) (i - length (head_bytes f)) d
-byte_of_rest f i d h = get_or-append_right (head_bytes f) (bytes_of f.rest) (length (head_bytes f)) i d refl h
 
 -- a Sole that becomes a part keeps what its mark holds
 pub taken_marks : (a c : SkbState) (o : OutcomesState) (r : List Piece) (p : PartState) → AsPart c.head p → r ≡ a.rest ++ (record { part = p; from = c.from; to = c.to }) ∷ c.rest → KeepsMarks (both (of_buffer a) (both (of_buffer c) (of_outcomes o))) (both (of_buffer (record a { rest = r })) (of_outcomes o))

@@ -84,22 +84,6 @@ filled_next a from first at room end less s t c d h lt e r w =
           omega arith;
     }
 
-pub filled_first : (a : SkbState) (from room : ℕ) (s : List SoleState) (c : List Piece) → c ≡ [] → from ≤ buffer_size a → blocks_for (buffer_size a - from) ≤ room → blocks_for (buffer_size a - from) ≤ length s → Filled a from s from room s c
-filled_first a from room s c e w p l =
-    let es = ap size_of e in
-    let el = ap length e in
-    record {
-      within = w;
-      bytes = ap (λ (z : List Piece). bytes_of z ++ drop from (buffer_bytes a)) e;
-      size = omega arith;
-      count = omega arith;
-      places = p;
-      enough = l;
-      whole = ap least_weight e;
-      spares = refl;
-      marks = λ bs m. let f = ap (pieces_held (every bs) m) e in omega arith;
-    }
-
 -- a head's block and blocks behind it, from the end of the spares
 pub copied : (a c : SkbState) (s u t : List SoleState) (b x : SoleState) (k : ℕ) (r : List Piece) → s ≡ u ++ b ∷ [] → k ≡ min (buffer_size a) 1984 → slice_range x.bytes 64 (64 + k) ≡ slice_range (buffer_bytes a) 0 (0 + k) → bytes_of r ≡ drop k (buffer_bytes a) → length r ≡ blocks_for (buffer_size a - k) → least_weight r ≡ full_weight
     → t ≡ take (length u - blocks_for (buffer_size a - k)) u → c ≡ record { head = Sole x; from = 64; to = 64 + k; rest = r } → copy_need a ≤ length s → IsCopy a s t (Ok c)

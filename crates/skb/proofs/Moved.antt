@@ -22,7 +22,7 @@ rest_bytes c e =
     let z : c.to - c.from ≡ 0 = omega arith in
     ap (λ (n : ℕ). take n (drop c.from (block c.head)) ++ bytes_of c.rest) z
 
-part_least : (h : Holder) (p : PartState) → AsPart h p → head_least h ≡ p.weight
+pub part_least : (h : Holder) (p : PartState) → AsPart h p → head_least h ≡ p.weight
 part_least (Sole s) p e = sym e.0
 part_least (Part r) p e = sym (ap (λ (z : PartState). z.weight) e)
 
@@ -87,7 +87,7 @@ module _ (c : SkbState) (a b : List Piece) (o q : OutcomesState) where
       let f = least-append w a (x ∷ c.rest) k (omega arith) in
       omega arith
 
-handed_part : (a h : Holder) → is_sole a ≡ false → HandedOn a h → h ≡ a
+pub handed_part : (a h : Holder) → is_sole a ≡ false → HandedOn a h → h ≡ a
 handed_part (Sole s) h e k = absurd (true≢false e)
 handed_part (Part p) (Sole s) e k = elim k [ inl l ↦ l | inr l ↦ absurd l ]
 handed_part (Part p) (Part r) e k = elim k [ inl l ↦ l | inr l ↦ ap Part l ]

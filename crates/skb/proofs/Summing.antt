@@ -7,7 +7,7 @@ use Rattle.frags.specs.declared.pieces.Piece.{Piece}
 use Rattle.skb.specs.SkbState.{SkbState, head_bytes, buffer_bytes}
 use Rattle.skb.specs.Checksum.{AreBytes, IsSummed}
 
-bytes_more : (a b : List ℕ) → AreBytes a → AreBytes b → AreBytes (a ++ b)
+pub bytes_more : (a b : List ℕ) → AreBytes a → AreBytes b → AreBytes (a ++ b)
 bytes_more [] b f g k = g k
 bytes_more (x ∷ xs) b f g zero = f zero
 bytes_more (x ∷ xs) b f g (suc k) = bytes_more xs b (λ j. f (suc j)) g k
@@ -18,7 +18,7 @@ all_behind f n = take_all (length f - n) (drop n f) (omega (arith, length-drop n
 pub summed_front : (s : SkbState) (at : ℕ) (sum : FoldAndLength) → at ≤ length (head_bytes s) → StandsFor sum (drop at (head_bytes s)) → AreBytes (drop at (head_bytes s)) → IsSummed s at 0 sum
 summed_front s at sum h st b = record { done = drop at (head_bytes s); stands = st; whole = sym (drop-append-le at (head_bytes s) (bytes_of s.rest) h); in_bytes = b }
 
-piece_first : (ps : List Piece) (i : ℕ) (p : List ℕ) → i < length ps → ((d : Piece) → p ≡ piece_bytes (get_or ps i d)) → bytes_of (drop i ps) ≡ p ++ bytes_of (drop (i + 1) ps)
+pub piece_first : (ps : List Piece) (i : ℕ) (p : List ℕ) → i < length ps → ((d : Piece) → p ≡ piece_bytes (get_or ps i d)) → bytes_of (drop i ps) ≡ p ++ bytes_of (drop (i + 1) ps)
 piece_first [] i p h is = absurd (omega arith)
 piece_first (x ∷ xs) i p h is = ap bytes_of (drop_more (x ∷ xs) i x h) ∙ ap (λ (z : List ℕ). z ++ bytes_of (drop (i + 1) (x ∷ xs))) (sym (is x))
 
