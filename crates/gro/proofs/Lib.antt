@@ -12,4 +12,4 @@ mod Receiving
 mod Judged
 mod Tables
 mod Releasing
-mod Finishing
+pub mod Finishing

@@ -49,6 +49,7 @@ pub(crate) fn release_runs(runs: VecDeque<Run>, out: &mut Outcomes)
     requires room { counts_in (map held_of runs.items) ≤ out.old.spare }
     ensures kept { Keeps (both (of_runs (map held_of runs.items)) (of_outcomes out.old)) (of_outcomes out.new) }
     ensures grows { Grows (counts_in (map held_of runs.items)) out.old out.new }
+    ensures places { out.old.spare ≤ out.new.spare + counts_in (map held_of runs.items) }
 {
     let mut runs = runs;
     while let Some(run) = runs.pop_front() {

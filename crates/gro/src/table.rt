@@ -140,6 +140,7 @@ impl RoundTable {
         requires room { counts_in self.runs ≤ out.old.spare }
         ensures kept { Keeps (both (of_runs self.runs) (of_outcomes out.old)) (of_outcomes out.new) }
         ensures grows { Grows (counts_in self.runs) out.old out.new }
+        ensures places { out.old.spare ≤ out.new.spare + counts_in self.runs }
     {
         let RoundTable {
             runs,

@@ -10,7 +10,8 @@ use Rattle.gro.specs.declared.packet.Packet.{Packet}
 use Rattle.gro.specs.declared.item.Item.{Item}
 use Rattle.gro.specs.Held.{of_packet, of_packets, count_of, counts_of}
 use Rattle.gro.specs.Items.{of_item}
-use Rattle.rounds.specs.Held.{blocks_in, of_items, blocks_in_items}
+use Rattle.gro.specs.Table.{of_items}
+use Rattle.rounds.specs.Held.{blocks_in, blocks_in_items}
 use Rattle.rounds.specs.Marks.{all, IsMarked, IsWhole, nothing}
 use Rattle.rounds.specs.Table.{place_at, place_held, place_home, place_missing, of_places, IsOwed, missing, AllOpen, AllHome, MayCome, Comes, IsBare}
 use Rattle.rounds.specs.declared.table.Place.{Place}

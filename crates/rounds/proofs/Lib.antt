@@ -10,3 +10,5 @@ mod Filling
 mod Recording
 -- a round that is read
 mod Rounding
+-- packets that are merged
+mod Working

@@ -5,7 +5,8 @@ ghost use Rattle.frags.specs.Account.{both, of_outcomes};
 ghost use Rattle.skb.specs.SkbState.{of_buffer};
 ghost use Rattle.gro.specs.Held.{of_packet, of_packets, count_of, counts_of};
 ghost use Rattle.gro.specs.Items.{of_item};
-ghost use Rattle.rounds.specs.Held.{blocks_in, of_items, blocks_in_items};
+ghost use Rattle.gro.specs.Table.{of_items};
+ghost use Rattle.rounds.specs.Held.{blocks_in, blocks_in_items};
 ghost use Rattle.rounds.specs.Marks.{IsRound, nothing};
 ghost use Rattle.rounds.specs.Table.{AllOpen, Comes, IsBare, MayCome};
 

@@ -13,7 +13,9 @@
 //!
 //! - `given` of `read_round`: the packets are the next ones of the capture, and the end is told by its bytes alone; `PoolEmpty` exactly
 //!   where the round's need first exceeds the blocks, with that need, judged by the record's header.
-//! - `home`: how many blocks are home after each call, as an equation; after `drop_round` and `end_round` all that were out.
+//! - `merged` of `work_round`: the items are what the maximal runs of each flow come to, in the order of their first packets.
+//! - `home`: how many blocks are home after each call, as an equation; after `drop_round` and `end_round`, and where
+//!   `work_round` wants memory, all of the round.
 //! - `need`, `taken`, `most`: the blocks that are out are what the packets need, and `taken` rises by at least as many.
 //!
 //! That they are home follows from the account alone (`specs/Marks.antt`): the blocks of a round are marked 0, 1, ..; of each mark one
@@ -40,6 +42,7 @@ mod rounds;
 mod table;
 #[cfg(test)]
 mod tests;
+mod work;
 
 pub use round::{Round, RoundEnd, RoundRead, Worked};
 pub use rounds::Rounds;

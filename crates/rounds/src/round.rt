@@ -35,7 +35,8 @@ pub struct Worked {
 
 impl Model for Worked {
     ghost use Rattle.std.specs.Prelude.{◌≤◌};
-    ghost use Rattle.rounds.specs.Held.{of_items, blocks_in_items};
+    ghost use Rattle.gro.specs.Table.{of_items};
+    ghost use Rattle.rounds.specs.Held.{blocks_in_items};
     ghost use Rattle.rounds.specs.Marks.{IsRound};
     ghost use Rattle.rounds.specs.RoundsState.{WorkedState};
 

@@ -1,5 +1,5 @@
 //! Rounds of records, over one pool of blocks.
-ghost use Rattle.std.specs.Prelude.{◌≡◌, ◌≢◌, ◌+◌, ◌-◌, ◌<◌, ◌≤◌, ◌^◌, [], length, map, min, IfOk};
+ghost use Rattle.std.specs.Prelude.{◌≡◌, ◌≢◌, ◌+◌, ◌-◌, ◌<◌, ◌≤◌, ◌^◌, [], length, map, min, IfOk, OnOk, OnErr};
 ghost use Rattle.block_pool.specs.PoolState.{home};
 ghost use Rattle.off_io.specs.Faults.{Rose};
 ghost use Rattle.off_io.specs.Told.{Told};
@@ -7,7 +7,11 @@ ghost use Rattle.pcap_io.specs.declared.heads.Link.TheVariants.{Ethernet};
 ghost use Rattle.pcap_io.specs.Places.{IsReady};
 ghost use Rattle.pcap_io.specs.Readers.{place_of, source_of, SameLoan};
 ghost use Rattle.offload_model.specs.Need.{round_need};
+ghost use Rattle.offload_model.specs.Merged.{merged_of};
+ghost use Rattle.offload_model.specs.Rounds.{runs_in};
 ghost use Rattle.gro.specs.Held.{packet_of};
+ghost use Rattle.gro.specs.Items.{item_of};
+ghost use Rattle.gro.specs.Table.{AreReady};
 ghost use Rattle.rounds.specs.Fresh.{NumberedFrom};
 ghost use Rattle.rounds.specs.Reading.{GivesRound, PassesRound};
 ghost use Rattle.rounds.specs.RoundsState.{RoundsState};
@@ -17,11 +21,12 @@ use crate::home::bring_round;
 use crate::reading::read_records;
 use crate::round::{Round, RoundEnd, RoundRead, Worked};
 use crate::table::Place;
+use crate::work::merge_packets;
 use block_pool::Pool;
 use core::mem::replace;
 use frags::Outcomes;
 use gro::{Item, Packet};
-use off_io::Source;
+use off_io::{Gate, Source, Who};
 use pcap_io::CaptureReader;
 use raw_block::Sole;
 use std::alloc::{AllocError, Global};
@@ -213,6 +218,43 @@ impl Rounds {
         RoundRead {
             round: Round { packets, blocks },
             end,
+        }
+    }
+
+    /// Merges the packets of a round: what their runs come to, in the order of their first packets. The gate is passed at point 0
+    /// before the work and at point 1 after it. For want of memory all blocks of the round are home.
+    pub fn work_round<G: Gate>(&mut self, round: Round, gate: &G) -> Result<Worked, AllocError>
+        requires out { self.old.home + round.blocks ≤ self.old.blocks }
+        ensures merged { IfOk result (λ worked. map item_of worked.items ≡ map merged_of (runs_in (map packet_of round.packets))) }
+        ensures ready { IfOk result (λ worked. AreReady worked.items) }
+        ensures worked { IfOk result (λ worked. worked.blocks ≡ round.blocks) }
+        ensures same { OnOk result (self.new ≡ self.old) }
+        ensures home { OnErr result (self.new ≡ record self.old { home = self.old.home + round.blocks }) }
+    {
+        let Round {
+            mut packets,
+            blocks,
+        } = round;
+        gate.pass(Who::Worker(0), 0);
+        let merged = merge_packets(self.alloc, &mut packets, &mut self.out);
+        gate.pass(Who::Worker(0), 1);
+        match merged {
+            Ok(items) => {
+                replace(&mut self.packets, packets).destroy_empty();
+                Ok(Worked { items, blocks })
+            }
+            Err(error) => {
+                bring_round(
+                    &mut self.pool,
+                    &mut self.places,
+                    blocks,
+                    &mut self.out,
+                    &mut packets,
+                    &mut self.items,
+                );
+                replace(&mut self.packets, packets).destroy_empty();
+                Err(error)
+            }
         }
     }
 

@@ -2,7 +2,7 @@
 ghost use Rattle.std.specs.Prelude.{◌≤◌};
 
 use crate::{RoundEnd, RoundRead, Rounds};
-use off_io::{Feed, MemSource};
+use off_io::{Feed, MemSource, NoGate};
 use pcap_io::{CaptureReader, Link};
 use std::alloc::Global;
 use std::test::Fail;
@@ -32,6 +32,34 @@ fn turn(alloc: Global, blocks: u32, fails: Vec<u64>) -> Result<(u32, u32, u64, R
     let home = rounds.home();
     rounds.drop_round(round);
     Ok((home, rounds.home(), rounds.taken(), end))
+}
+
+// The same round worked and ended: how many items there are, and the blocks that are home before the end and after it.
+fn worked_turn(alloc: Global, blocks: u32) -> Result<(usize, u32, u32), Fail>
+    requires { (1 ≤ blocks) × (blocks ≤ 65536) }
+{
+    let mut feed = Feed {
+        inner: MemSource::new(TWO.to_vec(alloc)?, 24, Vec::new(alloc)),
+    };
+    let mut reader = match CaptureReader::start(&mut feed, Link::Ethernet) {
+        Ok(reader) => reader,
+        Err(_) => return Err(Fail::from("the file header is lawful")),
+    };
+    let mut rounds = Rounds::make(alloc, blocks, 2)?;
+    let RoundRead { round, end: _ } = rounds.read_round(&mut reader);
+    let worked = rounds.work_round(round, &NoGate)?;
+    let items = worked.items.len();
+    let home = rounds.home();
+    rounds.end_round(worked);
+    Ok((items, home, rounds.home()))
+}
+
+#[test]
+fn a_worked_round_comes_home(rt: HostRuntime) -> Result<(), Fail> {
+    let alloc = rt.alloc();
+    assert_eq!(rt; worked_turn(alloc, 7)?, (2, 1, 7));
+    assert_eq!(rt; worked_turn(alloc, 5)?, (1, 2, 5));
+    Ok(())
 }
 
 #[test]

@@ -1,7 +1,7 @@
 use Rattle.std.proofs.Common.{arith}
 use Rattle.frags.specs.Account.{both, of_outcomes}
 use Rattle.gro.specs.Held.{of_packets}
-use Rattle.rounds.specs.Held.{of_items}
+use Rattle.gro.specs.Table.{of_items}
 use Rattle.rounds.proofs.Coming.{may_open, may_first, may_rest, outcomes_came, packets_came, comes_last, comes_home, home_count}
 use Rattle.rounds.proofs.home.bring_all.Goals as goal
 

@@ -1,6 +1,6 @@
 use Rattle.std.proofs.Common.{◌≡◌, [], arith, rules}
 use Rattle.gro.specs.Items.{of_item}
-use Rattle.rounds.specs.Held.{of_items}
+use Rattle.gro.specs.Table.{of_items}
 use Rattle.rounds.proofs.Coming.{items_pop, blocks_pop, no_items, may_rest, may_first, comes_none, comes_step, comes_all}
 use Rattle.rounds.proofs.home.bring_items.Goals as goal
 

@@ -1,5 +1,6 @@
 use Rattle.std.proofs.Common.{◌+◌, ◌≤◌, length}
-use Rattle.rounds.specs.Held.{of_items, blocks_in_items}
+use Rattle.gro.specs.Table.{of_items}
+use Rattle.rounds.specs.Held.{blocks_in_items}
 use Rattle.rounds.specs.Table.{Comes, IsBare}
 use Rattle.rounds.proofs.home.bring_items.Given as goal
 

@@ -1,7 +1,7 @@
 use Rattle.std.proofs.Common.{arith}
 use Rattle.frags.specs.Account.{both, of_outcomes}
 use Rattle.gro.specs.Held.{of_packets}
-use Rattle.rounds.specs.Held.{of_items}
+use Rattle.gro.specs.Table.{of_items}
 use Rattle.rounds.proofs.Coming.{no_packets}
 use Rattle.rounds.proofs.Rounding.{round_same, no_outcomes}
 use Rattle.rounds.proofs.rounds.Rounds.end_round.Goals as goal

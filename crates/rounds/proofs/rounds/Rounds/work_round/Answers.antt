@@ -1,0 +1,21 @@
+use Rattle.std.proofs.Common.{arith}
+use Rattle.gro.specs.Held.{of_packets}
+use Rattle.gro.specs.Table.{of_items}
+use Rattle.rounds.proofs.Coming.{no_items}
+use Rattle.rounds.proofs.Taking.{fresh_round}
+use Rattle.rounds.proofs.Working.{round_back, round_keeps}
+use Rattle.rounds.proofs.rounds.Rounds.work_round.Goals as goal
+
+pub invariant_of-result : goal.invariant_of-result
+invariant_of-result g c =
+    let r = c.round.inside in
+    let ps = of_packets r.packets.items in
+    (round_keeps r.blocks ps (of_items c.in-Ok.items.items) c.in-Ok.ensures.kept (fresh_round r.blocks ps c.round.invariant.0), omega (arith, c.in-Ok.ensures.count, c.round.invariant.2))
+
+pub bring_round-requires-clause-round : goal.bring_round-requires-clause-round
+bring_round-requires-clause-round g c =
+    let r = c.round.inside in
+    let s = c.self.inside in
+    let m = c.merge_packets-merged.new in
+    let ps = of_packets r.packets.items in
+    round_back r.blocks ps (of_packets m.packets.items) (of_items s.items.items) s.out m.out c.self.invariant.5 (no_items s.items.items c.self.invariant.8) c.in-Err.ensures.back (fresh_round r.blocks ps c.round.invariant.0)
