@@ -10,10 +10,10 @@ use Rattle.pcap_io.specs.Capture.{Packet}
 use Rattle.frame_layout.specs.Key.{key_of}
 use Rattle.offload_model.specs.Mergeable.{IsMergeable}
 use Rattle.offload_model.specs.Rounds.{is_key, is_of}
-use Rattle.offload_model.proofs.Items.{is_key_same}
+use Rattle.offload_model.proofs.Items.{is_key_same, is_key_self}
 use Rattle.merge_rule.specs.Steps.{IsLastBelow, TakesPacket}
 use Rattle.merge_rule.proofs.Steps.{run_grows, run_opens}
-use Rattle.gro.specs.Index.{IsShut, IsFound, IsIndexOf}
+use Rattle.gro.specs.Index.{IsShut, IsFound, IsIndexOf, IsLatest}
 
 -- the run's first packet is of the flow with this key
 abbrev pub is_run_of : List ℕ → List Packet → Bool
@@ -219,3 +219,15 @@ index_other look rs x index is = λ q.
 -- no runs yet
 pub index_none : (look : List ℕ → Option ℕ) → ((q : List ℕ) → look q ≡ None) → IsIndexOf look []
 index_none look none = λ q. (None, ((λ k d h. absurd (omega arith)), none q))
+
+-- ---- the run that the last packet is in
+
+pub latest_of : (look : List ℕ → Option ℕ) (rs : List (List Packet)) (key : List ℕ) (i : ℕ) (is_open : Bool) → i < length rs → is_run_of key (get_or rs i []) ≡ true
+    → look key ≡ (if is_open then Some i else None) → IsLatest look rs (if is_open then Some i else None)
+latest_of look rs key i true h b e = (h, λ q t. ap look (one_flow q key (get_or rs i []) t b) ∙ e)
+latest_of look rs key i false h b e = tt
+
+-- the packet that it takes finds it
+pub latest_found : (look : List ℕ → Option ℕ) (rs : List (List Packet)) (i : ℕ) (first x : Packet) (rest : List Packet) → IsLatest look rs (Some i) → get_or rs i [] ≡ first ∷ rest
+    → key_of x.frame ≡ key_of first.frame → (q : List ℕ) → key_of first.frame ≡ Some q → look q ≡ Some i
+latest_found look rs i first x rest l e k q s = l.1 q (ap (is_run_of q) e ∙ ap (is_key (Some q)) s ∙ is_key_self (Some q))

@@ -2,7 +2,7 @@
 use Rattle.std.proofs.Common.{◌≡◌, ℕ, zero, suc, ◌+◌, ◌-◌, ◌*◌, ◌<◌, ◌≤◌, inl, inr, Bool, true, false, Option, Some, None, List, [], ◌∷◌, ◌++◌, length, get_or, map, set, refl, sym, ap, ◌∙◌, subst, arith, length-append}
 use Rattle.std.specs.Prelude.{if◌then◌else◌}
 use Rattle.std.specs.List.{AllByRecursion}
-use Rattle.std.proofs.lemmas.List.{map-append, map-set, get_or-map, length-map}
+use Rattle.std.proofs.lemmas.List.{map-append, map-set, get_or-map, length-map, length-set, get_or-set_same, get_or_push}
 use Rattle.std.proofs.Math.Seq.{map-set_same}
 use Rattle.maximal_runs.specs.Items.{begins_in, first_number}
 use Rattle.maximal_runs.proofs.Pass.{all_append}
@@ -15,21 +15,22 @@ use Rattle.pcap_io.specs.Capture.{Packet}
 use Rattle.frame_layout.specs.Key.{key_of}
 use Rattle.skb.specs.SkbState.{buffer_bytes}
 use Rattle.offload_model.specs.Mergeable.{IsMergeable}
-use Rattle.offload_model.specs.Rounds.{is_of, number_of}
+use Rattle.offload_model.specs.Rounds.{is_key, is_of, number_of}
+use Rattle.offload_model.proofs.Items.{is_key_self, is_key_same}
 use Rattle.merge_rule.specs.Steps.{IsLastBelow, TakesPacket, KeepsEarly}
 use Rattle.merge_rule.specs.Runs.{IsJudged}
 use Rattle.merge_rule.proofs.Knows.{shut_by, no_first}
-use Rattle.merge_rule.proofs.Steps.{early_grows, other_opens}
+use Rattle.merge_rule.proofs.Steps.{early_grows, other_opens, never}
 use Rattle.gro.specs.declared.packet.Packet.{Packet as Held}
 use Rattle.gro.specs.declared.run.Run.{Run}
 use Rattle.gro.specs.declared.runs.Runs.{Runs}
 use Rattle.gro.specs.Held.{packet_of, count_of, counts_of}
 use Rattle.gro.specs.Runs.{IsRun, held_of, packets_of}
 use Rattle.gro.specs.Flows.{place_of, AreFlows, Puts}
-use Rattle.gro.specs.Index.{IsShut, IsIndexOf}
+use Rattle.gro.specs.Index.{IsShut, IsIndexOf, IsLatest}
 use Rattle.gro.specs.Totals.{total, totals}
 use Rattle.gro.specs.Steps.{held_in, packets_in, AreRuns, HasPlaces, Takes}
-use Rattle.gro.proofs.Indexing.{found_last, index_grows, takes_grows, index_opens, takes_opens, index_other, index_none}
+use Rattle.gro.proofs.Indexing.{found_last, index_grows, takes_grows, index_opens, takes_opens, index_other, index_none, latest_of, latest_found}
 
 -- ---- lists
 
@@ -99,9 +100,14 @@ module _ (a b : Runs) (p : Held) (r : Run) (runs : AreRuns a) (items : b.list.it
   each = subst (AllByRecursion IsRun) (sym items) (all_append IsRun a.list.items (r ∷ []) runs.each (is, tt))
 
   opened_by : AreFlows b.flows → IsIndexOf (place_of b.flows) (packets_in a ++ ((packet_of p ∷ []) ∷ [])) → TakesPacket (packets_in a) (packet_of p) (packets_in a ++ ((packet_of p ∷ []) ∷ []))
-      → Takes a p b
-  opened_by flows index takes = record {
-    runs = record { each = each; flows = flows; index = subst (IsIndexOf (place_of b.flows)) (sym packets) index };
+      → IsLatest (place_of b.flows) (packets_in a ++ ((packet_of p ∷ []) ∷ [])) b.last → Takes a p b
+  opened_by flows index takes latest = record {
+    runs = record {
+      each = each;
+      flows = flows;
+      index = subst (IsIndexOf (place_of b.flows)) (sym packets) index;
+      latest = subst (λ (z : List (List Packet)). IsLatest (place_of b.flows) z b.last) (sym packets) latest;
+    };
     takes = subst (TakesPacket (packets_in a) (packet_of p)) (sym packets) takes;
     early = subst (KeepsEarly (packets_in a) (packet_of p)) (sym packets) (early_opens (packets_in a) (packet_of p));
     same = λ f. ap (λ z. totals f (map held_of z)) items ∙ totals_push f a.list.items r p one;
@@ -111,34 +117,58 @@ module _ (a b : Runs) (p : Held) (r : Run) (runs : AreRuns a) (items : b.list.it
   opens_at : (key : List ℕ) (i : ℕ) (is_open : Bool) → key_of (buffer_bytes p.skb) ≡ Some key → i ≡ length a.list.items → AreFlows b.flows
       → Puts a.flows key (if is_open then Some i else None) b.flows → (is_open ≡ false → IsShut (packet_of p ∷ []))
       → ((j : ℕ) → place_of a.flows key ≡ Some j → IsMergeable (get_or (packets_in a) j [] ++ (packet_of p ∷ [])) → ⊥)
-      → Takes a p b
-  opens_at key i is_open k e flows puts shut not = opened_by flows
+      → IsLatest (place_of b.flows) (packets_in a ++ ((packet_of p ∷ []) ∷ [])) b.last → Takes a p b
+  opens_at key i is_open k e flows puts shut not latest = opened_by flows
       (index_opens (place_of a.flows) (place_of b.flows) (packets_in a) (packet_of p) key runs.index k i is_open (e ∙ sym (length-map a.list.items packets_of)) puts shut)
       (takes_opens (place_of a.flows) (place_of b.flows) (packets_in a) (packet_of p) key runs.index k not)
+      latest
+
+  latest_opened : (key : List ℕ) (i : ℕ) (is_open : Bool) → key_of (buffer_bytes p.skb) ≡ Some key → i ≡ length a.list.items → Puts a.flows key (if is_open then Some i else None) b.flows
+      → b.last ≡ (if is_open then Some i else None) → IsLatest (place_of b.flows) (packets_in a ++ ((packet_of p ∷ []) ∷ [])) b.last
+  latest_opened key i is_open k e puts last =
+      let n : i ≡ length (packets_in a) = e ∙ sym (length-map a.list.items packets_of) in
+      subst (IsLatest (place_of b.flows) (packets_in a ++ ((packet_of p ∷ []) ∷ []))) (sym last)
+      (latest_of (place_of b.flows) (packets_in a ++ ((packet_of p ∷ []) ∷ [])) key i is_open (omega (arith, n, length-append (packets_in a) ((packet_of p ∷ []) ∷ [])))
+      (ap (begins_in (is_of (Some key))) (get_or_push (packets_in a) (packet_of p ∷ []) [] i (sym n)) ∙ ap (is_key (Some key)) k ∙ is_key_self (Some key))
+      (puts key ∙ ap (λ (b : Bool). if b then (if is_open then Some i else None) else place_of a.flows key) ((bytes_eq-Decides key key).1 refl)))
 
   pub opens_run : (key : List ℕ) (i : ℕ) → key_of (buffer_bytes p.skb) ≡ Some key → i ≡ length a.list.items → AreFlows b.flows
       → Puts a.flows key (if r.progress.is_open then Some i else None) b.flows
       → ((j : ℕ) → place_of a.flows key ≡ Some j → IsMergeable (get_or (packets_in a) j [] ++ (packet_of p ∷ [])) → ⊥)
-      → Takes a p b
-  opens_run key i k e flows puts not = opens_at key i r.progress.is_open k e flows puts (λ s. subst IsShut one_packet (run_shut r is s)) not
+      → b.last ≡ (if r.progress.is_open then Some i else None) → Takes a p b
+  opens_run key i k e flows puts not last =
+      opens_at key i r.progress.is_open k e flows puts (λ s. subst IsShut one_packet (run_shut r is s)) not (latest_opened key i r.progress.is_open k e puts last)
 
-  opens_other : key_of (buffer_bytes p.skb) ≡ None → b.flows ≡ a.flows → Takes a p b
-  opens_other k e = opened_by (subst AreFlows (sym e) runs.flows)
+  latest_none : b.last ≡ None → IsLatest (place_of b.flows) (packets_in a ++ ((packet_of p ∷ []) ∷ [])) b.last
+  latest_none e = subst (IsLatest (place_of b.flows) (packets_in a ++ ((packet_of p ∷ []) ∷ []))) (sym e) tt
+
+  opens_other : key_of (buffer_bytes p.skb) ≡ None → b.flows ≡ a.flows → b.last ≡ None → Takes a p b
+  opens_other k e last = opened_by (subst AreFlows (sym e) runs.flows)
       (subst (λ z. IsIndexOf (place_of z) (packets_in a ++ ((packet_of p ∷ []) ∷ []))) (sym e) (index_other (place_of a.flows) (packets_in a) (packet_of p) runs.index k))
       (other_opens (packet_of p) k (packets_in a))
+      (latest_none last)
 
   -- a packet of no flow, or of a flow that finds nothing, that no other joins
-  pub opens_alone : ((q : List ℕ) → key_of (buffer_bytes p.skb) ≡ Some q → (place_of a.flows q ≡ None) × IsShut (packet_of p ∷ [])) → b.flows ≡ a.flows → Takes a p b
-  opens_alone alone e = at (key_of (buffer_bytes p.skb)) refl
+  pub opens_alone : ((q : List ℕ) → key_of (buffer_bytes p.skb) ≡ Some q → (place_of a.flows q ≡ None) × IsShut (packet_of p ∷ [])) → b.flows ≡ a.flows → b.last ≡ None → Takes a p b
+  opens_alone alone e last = at (key_of (buffer_bytes p.skb)) refl
     where
       at : (k : Option (List ℕ)) → key_of (buffer_bytes p.skb) ≡ k → Takes a p b
-      at None k = opens_other k e
+      at None k = opens_other k e last
       at (Some key) k =
           let f = alone key k in
           opens_at key (length a.list.items) false k refl (subst AreFlows (sym e) runs.flows)
           (λ q. ap (λ z. place_of z q) e ∙ keeps_none (place_of a.flows) key q f.0)
           (λ s. f.1)
           (λ j g m. let t : None ≡ Some j = sym f.0 ∙ g in absurd cc)
+          (latest_none last)
+
+-- the run at a place: what it holds is within what all hold
+module _ (a : Runs) (i : ℕ) (old : Run) (runs : AreRuns a) (h : i < length a.list.items) (was : old ≡ get_or a.list.items i old) where
+  pub run_in : IsRun old
+  run_in = subst IsRun (sym was) (all_at IsRun a.list.items i old runs.each h)
+
+  pub few_at : old.count ≤ totals count_of (held_in a)
+  few_at = omega (arith, run_in.count, counts_total (held_of old), ap (λ z. total count_of (held_of z)) was, one_of_all count_of a.list.items i old h)
 
 -- the run that is found
 module _ (a : Runs) (key : List ℕ) (i : ℕ) (runs : AreRuns a) (found : place_of a.flows key ≡ Some i) where
@@ -149,20 +179,14 @@ module _ (a : Runs) (key : List ℕ) (i : ℕ) (runs : AreRuns a) (found : place
   inside = omega (arith, last.0, length-map a.list.items packets_of)
 
   pub run_at : (old : Run) → old ≡ get_or a.list.items i old → IsRun old
-  run_at old was = subst IsRun (sym was) (all_at IsRun a.list.items i old runs.each inside)
+  run_at old was = run_in a i old runs inside was
 
   pub packets_at : (old : Run) → old ≡ get_or a.list.items i old → packets_of old ≡ get_or (packets_in a) i []
   packets_at old was = ap packets_of was ∙ sym (get_or-map packets_of a.list.items i old [] inside)
 
   -- its own count is within that of all
   pub few_more : (old : Run) → old ≡ get_or a.list.items i old → old.count ≤ totals count_of (held_in a)
-  few_more old was = omega (
-    arith,
-    (run_at old was).count,
-    counts_total (held_of old),
-    ap (λ z. total count_of (held_of z)) was,
-    one_of_all count_of a.list.items i old inside,
-  )
+  few_more old was = few_at a i old runs inside was
 
 -- a run takes a packet
 module _ (a b : Runs) (p : Held) (key : List ℕ) (i : ℕ) (old new : Run) (runs : AreRuns a) (found : place_of a.flows key ≡ Some i) (was : old ≡ get_or a.list.items i old)
@@ -179,15 +203,27 @@ module _ (a b : Runs) (p : Held) (key : List ℕ) (i : ℕ) (old new : Run) (run
   all_packets : packets_in b ≡ set (packets_in a) i (packets_of old ++ (packet_of p ∷ []))
   all_packets = ap (map packets_of) items ∙ map-set packets_of a.list.items i new ∙ ap (set (packets_in a) i) grown
 
+  now_there : get_or (packets_in b) i [] ≡ packets_of new
+  now_there = ap (λ (z : List (List Packet)). get_or z i []) (ap (map packets_of) items ∙ map-set packets_of a.list.items i new)
+      ∙ get_or-set_same (packets_in a) i (packets_of new) [] (omega (arith, within, length-map a.list.items packets_of))
+
+  new_key : begins_in (is_of (Some key)) (packets_of new) ≡ true
+  new_key = ap (begins_in (is_of (Some key))) grown ∙ ap (begins_in (is_of (Some key))) there ∙ (last a key i runs found).1 []
+
   pub grows_run : key_of (buffer_bytes p.skb) ≡ Some key → AreFlows b.flows → Puts a.flows key (if new.progress.is_open then Some i else None) b.flows
-      → IsMergeable (get_or (packets_in a) i [] ++ (packet_of p ∷ [])) → ((n : ℕ) → HasPlaces a (n + 1) → HasPlaces b n) → Takes a p b
-  grows_run k flows puts m places = record {
+      → IsMergeable (get_or (packets_in a) i [] ++ (packet_of p ∷ [])) → ((n : ℕ) → HasPlaces a (n + 1) → HasPlaces b n)
+      → b.last ≡ (if new.progress.is_open then Some i else None) → Takes a p b
+  grows_run k flows puts m places latest = record {
     runs = record {
       each = subst (AllByRecursion IsRun) (sym items) (all_set IsRun a.list.items i new runs.each is);
       flows = flows;
       index = subst (IsIndexOf (place_of b.flows)) (sym all_packets)
           (index_grows (place_of a.flows) (packets_in a) key i (packets_of old) (packet_of p) runs.index found there (place_of b.flows) new.progress.is_open puts
           (λ s. subst IsShut grown (run_shut new is s)));
+      latest = subst (IsLatest (place_of b.flows) (packets_in b)) (sym latest)
+          (latest_of (place_of b.flows) (packets_in b) key i new.progress.is_open (omega (arith, within, ap length items, length-set a.list.items i new, length-map b.list.items packets_of))
+          (ap (begins_in (is_of (Some key))) now_there ∙ new_key)
+          (puts key ∙ ap (λ (b : Bool). if b then (if new.progress.is_open then Some i else None) else place_of a.flows key) ((bytes_eq-Decides key key).1 refl)));
     };
     takes = subst (TakesPacket (packets_in a) (packet_of p)) (sym all_packets)
         (takes_grows (place_of a.flows) (packets_in a) key i (packets_of old) (packet_of p) runs.index found there k (subst (λ z. IsMergeable (z ++ (packet_of p ∷ []))) (sym there) m));
@@ -202,18 +238,58 @@ module _ (a b : Runs) (i : ℕ) (old new : Run) (was : old ≡ get_or a.list.ite
   pub held_kept : held_in b ≡ held_in a
   held_kept = ap (map held_of) items ∙ map-set_same held_of a.list.items i new old (same ∙ ap held_of was)
 
-  pub runs_kept : AreRuns a → IsRun new → b.flows ≡ a.flows → AreRuns b
-  runs_kept runs is e = record {
+  packets_kept : packets_in b ≡ packets_in a
+  packets_kept = ap (map packets_of) items ∙ map-set_same packets_of a.list.items i new old (ap (map packet_of) (same ∙ ap held_of was))
+
+  pub runs_kept : AreRuns a → IsRun new → b.flows ≡ a.flows → b.last ≡ a.last → AreRuns b
+  runs_kept runs is e l = record {
     each = subst (AllByRecursion IsRun) (sym items) (all_set IsRun a.list.items i new runs.each is);
     flows = subst AreFlows (sym e) runs.flows;
-    index = subst (λ z. IsIndexOf (place_of z) (packets_in b)) (sym e)
-        (subst (IsIndexOf (place_of a.flows)) (sym (ap (map packets_of) items ∙ map-set_same packets_of a.list.items i new old (ap (map packet_of) (same ∙ ap held_of was)))) runs.index);
+    index = subst (λ z. IsIndexOf (place_of z) (packets_in b)) (sym e) (subst (IsIndexOf (place_of a.flows)) (sym packets_kept) runs.index);
+    latest = subst (λ z. IsLatest (place_of z) (packets_in b) b.last) (sym e)
+        (subst (λ (z : List (List Packet)). IsLatest (place_of a.flows) z b.last) (sym packets_kept) (subst (IsLatest (place_of a.flows) (packets_in a)) (sym l) runs.latest));
   }
 
 -- no runs yet
-pub no_runs : (a : Runs) → a.list.items ≡ [] → AreFlows a.flows → ((q : List ℕ) → place_of a.flows q ≡ None) → AreRuns a
-no_runs a e flows none = record {
+pub no_runs : (a : Runs) → a.list.items ≡ [] → AreFlows a.flows → ((q : List ℕ) → place_of a.flows q ≡ None) → a.last ≡ None → AreRuns a
+no_runs a e flows none last = record {
   each = subst (AllByRecursion IsRun) (sym e) tt;
   flows = flows;
   index = subst (λ (z : List Run). IsIndexOf (place_of a.flows) (map packets_of z)) (sym e) (index_none (place_of a.flows) none);
+  latest = subst (IsLatest (place_of a.flows) (packets_in a)) (sym last) tt;
 }
+
+-- the last packet's run takes a packet, and its flow is told by its first packet
+module _ (a b : Runs) (p : Held) (i : ℕ) (old new : Run) (runs : AreRuns a) (found : (q : List ℕ) → key_of (buffer_bytes p.skb) ≡ Some q → place_of a.flows q ≡ Some i)
+    (was : old ≡ get_or a.list.items i old) (items : b.list.items ≡ set a.list.items i new) (is : IsRun new) (more : held_of new ≡ held_of old ++ (p ∷ [])) where
+  first_key : (q : List ℕ) → place_of a.flows q ≡ Some i → key_of (buffer_bytes new.first.skb) ≡ Some q
+  first_key q f = sym (is_key_same (Some q) (key_of (buffer_bytes new.first.skb)) (new_key a b p q i old new runs f was items is more))
+
+  pub extends_run : AreFlows b.flows
+      → ((q : List ℕ) → key_of (buffer_bytes new.first.skb) ≡ Some q → Puts a.flows q (if new.progress.is_open then place_of a.flows q else None) b.flows)
+      → IsMergeable (get_or (packets_in a) i [] ++ (packet_of p ∷ [])) → ((n : ℕ) → HasPlaces a (n + 1) → HasPlaces b n)
+      → b.last ≡ (if new.progress.is_open then Some i else None) → Takes a p b
+  extends_run flows puts m places latest = at (key_of (buffer_bytes p.skb)) refl
+    where
+      at : (k : Option (List ℕ)) → key_of (buffer_bytes p.skb) ≡ k → Takes a p b
+      at None k = absurd (never (packet_of p) k (get_or (packets_in a) i []) m)
+      at (Some q) k =
+          let f : place_of a.flows q ≡ Some i = found q k in
+          grows_run a b p q i old new runs f was items is more k flows
+          (λ r. puts q (first_key q f) r ∙ ap (λ (o : Option ℕ). if bytes_eq q r then (if new.progress.is_open then o else None) else place_of a.flows r) f)
+          m places latest
+
+-- what the last packet's run takes finds it
+pub last_finds : (a : Runs) (i : ℕ) (run : Run) (x : Held) → AreRuns a → a.last ≡ Some i → run ≡ get_or a.list.items i run → key_of (buffer_bytes x.skb) ≡ key_of (buffer_bytes run.first.skb)
+    → (q : List ℕ) → key_of (buffer_bytes x.skb) ≡ Some q → place_of a.flows q ≡ Some i
+last_finds a i run x runs last was k q s =
+    let l : IsLatest (place_of a.flows) (packets_in a) (Some i) = subst (IsLatest (place_of a.flows) (packets_in a)) last runs.latest in
+    latest_found (place_of a.flows) (packets_in a) i (packet_of run.first) (packet_of x) (map packet_of run.rest.items) l
+    (get_or-map packets_of a.list.items i run [] (omega (arith, l.0, length-map a.list.items packets_of)) ∙ ap packets_of (sym was)) k q (sym k ∙ s)
+
+pub last_inside : (a : Runs) (i : ℕ) → AreRuns a → a.last ≡ Some i → i < length a.list.items
+last_inside a i runs last =
+    omega (arith, (subst (IsLatest (place_of a.flows) (packets_in a)) last runs.latest).0, length-map a.list.items packets_of)
+
+pub last_packets : (a : Runs) (i : ℕ) (run : Run) → i < length a.list.items → run ≡ get_or a.list.items i run → packets_of run ≡ get_or (packets_in a) i []
+last_packets a i run h was = ap packets_of was ∙ sym (get_or-map packets_of a.list.items i run [] h)

@@ -1,5 +1,5 @@
 -- The open runs, looked up by their flows' keys.
-use Rattle.std.specs.Prelude.{ℕ, ◌≡◌, ◌⊎◌, Option, Some, None, List, [], ◌∷◌, ◌++◌, length, slice_index_or}
+use Rattle.std.specs.Prelude.{ℕ, ◌≡◌, ◌<◌, ◌⊎◌, true, Option, Some, None, List, [], ◌∷◌, ◌++◌, length, slice_index_or}
 use Rattle.maximal_runs.specs.Items.{begins_in}
 use Rattle.pcap_io.specs.Capture.{Packet}
 use Rattle.offload_model.specs.Mergeable.{IsMergeable}
@@ -18,3 +18,8 @@ IsFound rs (Some i) found = (found ≡ Some i) ⊎ ((found ≡ None) × IsShut (
 -- each flow's key finds its last run, but that one that no packet continues may not be found
 abbrev pub IsIndexOf : (List ℕ → Option ℕ) → List (List Packet) → Type 0
 IsIndexOf look rs = (q : List ℕ) → (last : Option ℕ) × (IsLastBelow (begins_in (is_of (Some q))) rs (length rs) last × IsFound rs last (look q))
+
+-- the run that the last packet is in, where it is open, is what its flow finds
+abbrev pub IsLatest : (List ℕ → Option ℕ) → List (List Packet) → Option ℕ → Type 0
+IsLatest look rs None = Unit {0}
+IsLatest look rs (Some i) = (i < length rs) × ((q : List ℕ) → begins_in (is_of (Some q)) (slice_index_or rs i []) ≡ true → look q ≡ Some i)

@@ -9,7 +9,7 @@ use Rattle.gro.specs.declared.runs.Runs.{Runs}
 use Rattle.gro.specs.Held.{packet_of}
 use Rattle.gro.specs.Runs.{IsRun, held_of, packets_of}
 use Rattle.gro.specs.Flows.{place_of, AreFlows, HasRoom}
-use Rattle.gro.specs.Index.{IsIndexOf}
+use Rattle.gro.specs.Index.{IsIndexOf, IsLatest}
 use Rattle.gro.specs.Totals.{totals}
 
 abbrev pub held_in : Runs → List (List Held)
@@ -22,6 +22,7 @@ pub record AreRuns (a : Runs) : Type 0 where
   pub each : AllByRecursion IsRun a.list.items
   pub flows : AreFlows a.flows
   pub index : IsIndexOf (place_of a.flows) (packets_in a)
+  pub latest : IsLatest (place_of a.flows) (packets_in a) a.last
 
 -- so many more runs may be opened
 abbrev pub HasPlaces : Runs → ℕ → Type 0

@@ -134,4 +134,16 @@ impl Flows {
             self.leave(key, found.slot);
         }
     }
+
+    /// Nothing is found of the flow any more.
+    pub(crate) fn forget(&mut self, key: &FlowKey)
+        requires flows { AreFlows self.old }
+        ensures flows { AreFlows self.new }
+        ensures puts { Puts self.old key.now None self.new }
+        ensures room { (n : ℕ) → HasRoom self.old n → HasRoom self.new n }
+    {
+        if let Some(found) = self.find(key) {
+            self.leave(key, found.slot);
+        }
+    }
 }

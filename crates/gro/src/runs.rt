@@ -1,12 +1,12 @@
 //! The runs of a round, as packets come.
-ghost use Rattle.std.specs.Prelude.{◌≡◌, ◌+◌, ◌<◌, ◌≤◌, ◌^◌, ◌++◌, ◌∷◌, [], Some, None, ℕ, List, length, IsTrue, map, OnOk, OnErr, IfOk, IfErr, slice_index_or};
+ghost use Rattle.std.specs.Prelude.{◌≡◌, ◌+◌, ◌<◌, ◌≤◌, ◌^◌, ◌++◌, ◌∷◌, [], Some, None, ℕ, List, length, IsTrue, map, OnOk, OnErr, IfOk, IfErr, slice_index_or, if◌then◌else◌};
 ghost use Rattle.frame_layout.specs.Key.{key_of};
 ghost use Rattle.offload_model.specs.Mergeable.{IsMergeable};
 ghost use Rattle.merge_rule.specs.Runs.{IsJudged};
 ghost use Rattle.skb.specs.SkbState.{buffer_bytes};
 ghost use Rattle.gro.specs.Held.{packet_of, count_of, IsHeld};
-ghost use Rattle.gro.specs.Runs.{packets_of};
-ghost use Rattle.gro.specs.Flows.{slot_of, place_of};
+ghost use Rattle.gro.specs.Runs.{IsRun};
+ghost use Rattle.gro.specs.Flows.{slot_of, place_of, AreFlows, Puts, HasRoom};
 ghost use Rattle.gro.specs.Totals.{totals};
 ghost use Rattle.gro.specs.Steps.{held_in, packets_in, AreRuns, HasPlaces, Takes};
 
@@ -19,11 +19,36 @@ use merge_rule::Candidacy;
 use std::alloc::{AllocError, Global};
 use std::collections::VecDeque;
 
-/// The runs of a round in the order of their first packets, and the open one of each flow.
+/// The runs of a round in the order of their first packets, the open one of each flow, and the place of the run that the last
+/// packet is in, where that is open.
 pub(crate) struct Runs {
     pub list: VecDeque<Run>,
     pub flows: Flows,
+    pub last: Option<usize>,
     pub alloc: Global,
+}
+
+fn open_at(place: usize, is_open: bool) -> Option<usize>
+    ensures place { result ≡ (if is_open then Some place else None) }
+{
+    if is_open { Some(place) } else { None }
+}
+
+/// The flow of a run that it finds finds nothing any more, where the run isn't open.
+fn settle(flows: &mut Flows, run: &Run)
+    requires flows { AreFlows flows.old }
+    requires run { IsRun run.now }
+    ensures flows { AreFlows flows.new }
+    ensures puts { (q : List ℕ) → key_of (buffer_bytes run.now.first.skb) ≡ Some q → Puts flows.old q (if run.now.progress.is_open then place_of flows.old q else None) flows.new }
+    ensures room { (n : ℕ) → HasRoom flows.old n → HasRoom flows.new n }
+{
+    if run.progress.is_open {
+        return;
+    }
+    let key = flow_key(&run.first.skb, &Candidacy::none());
+    if let Some(bytes) = key.bytes() {
+        flows.forget(&FlowKey::of(bytes));
+    }
 }
 
 impl Runs {
@@ -35,7 +60,12 @@ impl Runs {
     {
         let flows = Flows::with_capacity(alloc, n)?;
         let list = VecDeque::with_capacity(alloc, n)?;
-        Ok(Runs { list, flows, alloc })
+        Ok(Runs {
+            list,
+            flows,
+            last: None,
+            alloc,
+        })
     }
 
     /// A packet of a flow of which no run is found: it opens one.
@@ -49,7 +79,10 @@ impl Runs {
         ensures takes { Takes self.old packet self.new }
     {
         let run = Run::open(self.alloc, packet, candidacy);
-        self.flows.begin(key, self.list.len(), run.progress.is_open);
+        let place = self.list.len();
+        let is_open = run.progress.is_open;
+        self.flows.begin(key, place, is_open);
+        self.last = open_at(place, is_open);
         self.list.push_back_reserved(run);
     }
 
@@ -67,7 +100,9 @@ impl Runs {
     {
         let run = Run::open(self.alloc, packet, candidacy);
         let is_open = run.progress.is_open;
-        self.flows.follow(key, found.slot, self.list.len(), is_open);
+        let place = self.list.len();
+        self.flows.follow(key, found.slot, place, is_open);
+        self.last = open_at(place, is_open);
         self.list.push_back_reserved(run);
     }
 
@@ -98,6 +133,35 @@ impl Runs {
         }
         let is_open = run.progress.is_open;
         self.flows.keep(key, found, is_open);
+        self.last = open_at(found.place, is_open);
+        Ok(())
+    }
+
+    /// A packet that the last packet's run takes. Its key isn't asked for, but where the run ends with it.
+    fn extend(
+        &mut self,
+        place: usize,
+        packet: Packet,
+        candidacy: &Candidacy,
+    ) -> Result<(), (Packet, AllocError)>
+        requires runs { AreRuns self.old }
+        requires judged { IsJudged (buffer_bytes packet.skb) packet.original candidacy.now.layout candidacy.now.payload candidacy.now.flags }
+        requires held { IsHeld packet }
+        requires inside { place < length self.old.list.items }
+        requires found { (q : List ℕ) → key_of (buffer_bytes packet.skb) ≡ Some q → place_of self.old.flows q ≡ Some place }
+        requires mergeable { IsMergeable (slice_index_or (packets_in self.old) place [] ++ (packet_of packet ∷ [])) }
+        requires few { totals count_of (held_in self.old) + count_of packet < 2 ^ 63 }
+        ensures takes { OnOk result (Takes self.old packet self.new) }
+        ensures back { IfErr result (λ e. (e.0 ≡ packet) × (held_in self.new ≡ held_in self.old)) }
+        ensures left { OnErr result (AreRuns self.new) }
+        ensures room { OnErr result ((n : ℕ) → HasPlaces self.old n → HasPlaces self.new n) }
+    {
+        let run = &mut self.list[place];
+        if let Err(refused) = run.add(packet, candidacy) {
+            return Err(refused);
+        }
+        settle(&mut self.flows, run);
+        self.last = open_at(place, run.progress.is_open);
         Ok(())
     }
 
@@ -140,6 +204,7 @@ impl Runs {
         ensures takes { Takes self.old packet self.new }
     {
         let run = Run::open(self.alloc, packet, candidacy);
+        self.last = None;
         self.list.push_back_reserved(run);
     }
 
@@ -163,6 +228,30 @@ impl Runs {
         ensures room { OnErr result ((n : ℕ) → HasPlaces self.old n → HasPlaces self.new n) }
     {
         let candidacy = judge(&packet.skb, packet.original);
+        if let Some(place) = self.last {
+            if self.list[place].takes(&packet, &candidacy) {
+                return self.extend(place, packet, &candidacy);
+            }
+        }
+        self.find_place(packet, candidacy)
+    }
+
+    /// A packet that the last packet's run doesn't take.
+    fn find_place(
+        &mut self,
+        packet: Packet,
+        candidacy: Candidacy,
+    ) -> Result<(), (Packet, AllocError)>
+        requires runs { AreRuns self.old }
+        requires places { HasPlaces self.old 1 }
+        requires judged { IsJudged (buffer_bytes packet.skb) packet.original candidacy.layout candidacy.payload candidacy.flags }
+        requires held { IsHeld packet }
+        requires few { totals count_of (held_in self.old) + count_of packet < 2 ^ 63 }
+        ensures takes { OnOk result (Takes self.old packet self.new) }
+        ensures back { IfErr result (λ e. (e.0 ≡ packet) × (held_in self.new ≡ held_in self.old)) }
+        ensures left { OnErr result (AreRuns self.new) }
+        ensures room { OnErr result ((n : ℕ) → HasPlaces self.old n → HasPlaces self.new n) }
+    {
         if self.is_apart(&candidacy) {
             self.stand_alone(packet, candidacy);
             return Ok(());
@@ -184,6 +273,7 @@ impl Runs {
         let Runs {
             list,
             flows: _,
+            last: _,
             alloc: _,
         } = self;
         list

@@ -113,7 +113,7 @@ no_key : (f : List ℕ) (layout : Layout) → key_of f ≡ None → shape_of f �
 unfolding key_of
 no_key f layout n s = absurd (let e = rw s at n in cc)
 
-never : (x : Packet) → key_of x.frame ≡ None → (run : List Packet) → IsMergeable (run ++ (x ∷ [])) → ⊥
+pub never : (x : Packet) → key_of x.frame ≡ None → (run : List Packet) → IsMergeable (run ++ (x ∷ [])) → ⊥
 never x n [] m = omega (arith, m.1.several)
 never x n (p ∷ ps) m =
     let k : Continues m.0 p.frame (p ∷ ps) x = grown m.0 p.frame (p ∷ ps) x m.1.line in
