@@ -2,3 +2,5 @@
 mod Slices
 -- headers and the frame behind them
 mod Heads
+-- the items of a queue are its runs
+pub mod Runs

@@ -4,11 +4,11 @@ use Rattle.net_bytes.specs.declared.order.Order.{Order}
 use Rattle.pcap_io.specs.declared.off_head.OffHead.{OffHead}
 use Rattle.pcap_io.specs.Capture.{Packet}
 use Rattle.pcap_io.specs.Written.{rec_bytes, off_bytes}
-use Rattle.skb.specs.SkbState.{buffer_bytes, buffer_size}
+use Rattle.skb.specs.SkbState.{buffer_size}
 use Rattle.offload_model.specs.Merged.{Merged}
 use Rattle.offload_model.specs.Segments.{with_head}
 use Rattle.offload_model.specs.Written.{head_of, record_bytes}
-use Rattle.round_write.specs.declared.items.Item.{Item}
+use Rattle.gro.specs.declared.item.Item.{Item}
 
 -- a packet behind an offload header, where there is one
 abbrev pub headed : Option OffHead → Packet → Packet
@@ -21,14 +21,6 @@ heads_of order sec frac len original None = rec_bytes order sec frac len origina
 heads_of order sec frac len original (Some head) = rec_bytes order sec frac (len + 12) (original + 12) ++ off_bytes head
 
 -- ---- what runs come to
-
-abbrev pub item_of : Item → Merged
-item_of item = record {
-  packet = record { number = item.number; sec = item.sec; frac = item.frac; original = item.original; frame = buffer_bytes item.skb };
-  n = item.n;
-  m = item.m;
-  modes = item.modes;
-}
 
 -- what is written of an item of queue q
 abbrev pub item_bytes : Order → ℕ → Merged → List ℕ

@@ -5,28 +5,13 @@ ghost use Rattle.std.specs.Io.KnownBytes.{Appends};
 ghost use Rattle.off_io.specs.Faults.{HasCause};
 ghost use Rattle.off_io.specs.Content.{AppendsFront};
 ghost use Rattle.offload_model.specs.Written.{head_of as head_of_merged};
-ghost use Rattle.round_write.specs.Records.{item_of, item_bytes, FitsItem};
+ghost use Rattle.gro.specs.Items.{item_of};
+ghost use Rattle.round_write.specs.Records.{item_bytes, FitsItem};
 
 use crate::{Time, write_record};
+use gro::Item;
 use off_io::{Sink, WriteFault};
 use pcap_io::{FileHead, OffHead};
-use skb::Skb;
-
-/// What a run of packets comes to: a record that is to be written, with the number and the time of the run's first packet.
-pub struct Item {
-    pub skb: Skb,
-    pub number: u32,
-    pub sec: u32,
-    pub frac: u32,
-    pub original: u32,
-    /// How many packets there are.
-    pub n: u16,
-    /// The length of the first payload; 0 of a packet that is alone.
-    pub m: u16,
-    /// A bit for each IP header, the lowest for the first, set where that is an IPv4 header whose identification stays the
-    /// same; 0 of a packet that is alone.
-    pub modes: u8,
-}
 
 // The offload header of an item of this queue.
 fn head_of(lane: u8, item: &Item) -> OffHead

@@ -19,5 +19,5 @@ mod record;
 mod tests;
 
 pub use buffer::write_buffer;
-pub use items::{Item, write_item, write_items};
+pub use items::{write_item, write_items};
 pub use record::{Time, write_record, write_window};

@@ -3,8 +3,9 @@
 ghost use Rattle.std.specs.Prelude.{All};
 ghost use Rattle.round_write.specs.Records.{FitsItem};
 
-use crate::{Item, Time, write_items, write_record, write_window};
+use crate::{Time, write_items, write_record, write_window};
 use frags::{Outcomes, PieceBuilder};
+use gro::Item;
 use off_io::{MemSink, WriteFault};
 use pcap_io::{FileHead, OffHead, Order};
 use raw_block::Sole;
@@ -62,8 +63,8 @@ fn write(sink: &mut MemSink, items: &[Item]) -> Result<(), WriteFault>
 #[test]
 fn records_are_headers_and_slices(rt: HostRuntime) -> Result<(), Fail> {
     let alloc = rt.alloc();
-    let mut out = Outcomes::new(alloc);
-    assert!(rt; out.reserve(2).is_ok());
+    let mut outcomes = Outcomes::new(alloc);
+    assert!(rt; outcomes.reserve(2).is_ok());
     let mut items = Vec::with_capacity(alloc, 1).expect(&rt, "no memory");
     let skb = frame(alloc).expect(&rt, "no memory");
     assert!(rt; skb.len() == 5 && skb.count() == 2 && items.len() < items.capacity());
@@ -76,6 +77,7 @@ fn records_are_headers_and_slices(rt: HostRuntime) -> Result<(), Fail> {
         n: 2,
         m: 3,
         modes: 1,
+        outcomes,
     });
     let mut sink = MemSink::new(alloc, 16, Vec::new(alloc));
     assert_eq!(rt; write(&mut sink, &items), Ok(()));
@@ -86,26 +88,31 @@ fn records_are_headers_and_slices(rt: HostRuntime) -> Result<(), Fail> {
         assert_eq!(rt; write(&mut sink, &items), Err(WriteFault));
         assert!(rt; WRITTEN.starts_with(sink.bytes()));
     }
-    go_home(&rt, items, out);
+    all_go_home(&rt, items);
     Ok(())
 }
 
-fn go_home<A: Abort>(rt: &A, mut items: Vec<Item>, mut out: Outcomes) {
+fn all_go_home<A: Abort>(rt: &A, mut items: Vec<Item>) {
     'items: while let Some(item) = items.pop() {
-        let Item {
-            skb,
-            number: _,
-            sec: _,
-            frac: _,
-            original: _,
-            n: _,
-            m: _,
-            modes: _,
-        } = item;
-        assert!(rt; skb.count() <= out.spare());
-        skb.release(&mut out);
+        go_home(rt, item);
     }
     items.destroy_empty();
-    'soles: while let Some(_) = out.pop_sole() {}
-    out.settle();
+}
+
+fn go_home<A: Abort>(rt: &A, item: Item) {
+    let Item {
+        skb,
+        number: _,
+        sec: _,
+        frac: _,
+        original: _,
+        n: _,
+        m: _,
+        modes: _,
+        mut outcomes,
+    } = item;
+    assert!(rt; skb.count() <= outcomes.spare());
+    skb.release(&mut outcomes);
+    'soles: while let Some(_) = outcomes.pop_sole() {}
+    outcomes.settle();
 }

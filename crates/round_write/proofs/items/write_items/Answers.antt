@@ -1,8 +1,9 @@
 use Rattle.std.proofs.Common.{arith}
 use Rattle.std.proofs.lemmas.Result.{err_from_is_err_and}
 use Rattle.off_io.proofs.Owing.{wrote_one_more, failed_at}
-use Rattle.round_write.specs.declared.items.Item.{Item}
-use Rattle.round_write.specs.Records.{item_of, item_bytes}
+use Rattle.gro.specs.declared.item.Item.{Item}
+use Rattle.gro.specs.Items.{item_of}
+use Rattle.round_write.specs.Records.{item_bytes}
 use Rattle.round_write.proofs.items.write_items.Goals as goal
 
 pub loop-item-preserved : goal.loop-item-preserved

@@ -1,8 +1,9 @@
 use Rattle.std.proofs.Common.{◌≤◌, take}
 use Rattle.std.specs.List.{flat_map}
 use Rattle.std.specs.Io.KnownBytes.{Appends}
-use Rattle.round_write.specs.declared.items.Item.{Item}
-use Rattle.round_write.specs.Records.{item_of, item_bytes}
+use Rattle.gro.specs.declared.item.Item.{Item}
+use Rattle.gro.specs.Items.{item_of}
+use Rattle.round_write.specs.Records.{item_bytes}
 use Rattle.round_write.proofs.items.write_items.Given as goal
 
 abbrev pub invariant-loop-item : goal.invariant-loop-item

@@ -1,8 +1,5 @@
 use Rattle.std.proofs.Common.{length}
 use Rattle.round_write.proofs.tests.go_home.Given as goal
 
-abbrev pub decreases-items : goal.decreases-items
-decreases-items g l = length l.items.items
-
 abbrev pub decreases-soles : goal.decreases-soles
-decreases-soles g l = length l.out.soles
+decreases-soles g l = length l.outcomes.soles
