@@ -1,6 +1,6 @@
 //! A round's packets, run by run.
 ghost use Rattle.std.specs.Prelude.{◌≡◌, ◌+◌, ◌<◌, ◌≤◌, ◌++◌, ◌∷◌, [], List, ℕ, length, map, OnOk, IfOk, IfErr};
-ghost use Rattle.pcap_io.specs.Capture.{Packet as PacketSeen};
+ghost use Rattle.std.specs.Bool.{Decides};
 ghost use Rattle.frags.specs.Account.{Keeps, both, of_outcomes};
 ghost use Rattle.frags.specs.Growth.{Grows};
 ghost use Rattle.ref_core.specs.WeightRule.{full_weight};
@@ -78,6 +78,13 @@ impl RoundTable {
         ensures count { result ≡ counts_in self.now.runs }
     {
         self.count
+    }
+
+    /// Whether a packet with this number may be received: fewer than `limit` were, all with smaller numbers.
+    pub fn may_receive(&self, number: u32) -> bool
+        ensures may { Decides result ((self.now.received < self.now.limit) × (self.now.above ≤ number)) }
+    {
+        self.received < self.limit && self.above <= number as u64
     }
 
     /// One more packet, with a number above those before: its flow's open run takes it, or it opens one. Where memory is refused
