@@ -20,8 +20,8 @@ bytes_behind f at n h b k =
 all_small : (f front : List ℕ) → f ≡ front ++ drop (length front) f → AreBytes front → (at : ℕ) → at ≤ length front → AreBytes (drop at f) → AreBytes f
 all_small f front joined small at within behind = subst AreBytes (sym joined) (bytes_more front (drop (length front) f) small (bytes_behind f at (length front) within behind))
 
-pub same_shape : (f front : List ℕ) → f ≡ front ++ drop (length front) f → AreBytes front → min (length f) 200 ≤ length front → (at : ℕ) → at ≤ length front → AreBytes (drop at f) → shape_of front ≡ shape_of f
-same_shape f front joined small enough at within behind = shape_of_head front (drop (length front) f) f joined small (all_small f front joined small at within behind) enough
+pub same_shape : (f front : List ℕ) → f ≡ front ++ drop (length front) f → AreBytes front → min (length f) 200 ≤ length front → shape_of front ≡ shape_of f
+same_shape f front joined small enough = shape_of_head front (drop (length front) f) f joined small enough
 
 -- what the sums of the payload's segments say of a frame whose first bytes are known
 pub record IsKnown (f front : List ℕ) (at m : ℕ) (sums : Sums) (payload : FoldAndLength) : Type 0 where
@@ -40,7 +40,7 @@ known f front at m place sums payload joined small enough within is behind sum s
       small = all;
       known = k;
       payload_is = record { tail = drop (length front) f; joined = joined; sum = stands (drop at f) k; in_bytes = all };
-      same = same_shape f front joined small enough at within b;
+      same = same_shape f front joined small enough;
     }
 
 -- headers stand in the bytes that have their shape

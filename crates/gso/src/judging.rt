@@ -133,7 +133,6 @@ fn merged(head: &OffHead, skb: &Skb, original: u32) -> Option<(Segmentation, Sum
     }
     let front = front_bytes(skb);
     let Some(layout) = shape(front) else {
-        let _all_bytes = sums_of(skb, front.len(), head.m);
         return None;
     };
     segmented(head, skb, front, layout, original)
