@@ -5,6 +5,7 @@ ghost use Rattle.gro.specs.Runs.{IsRun};
 
 mod frames;
 mod joins;
+mod rounds;
 
 use crate::candidacy::judge;
 use crate::item::build_all;
