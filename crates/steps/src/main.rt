@@ -1,5 +1,5 @@
-//! Nanoseconds that calls take, a line for each: `steps frames 1000000`, and so with `blocks`, `buffers`, `pools` and `taps`;
-//! `steps sums 1000000 1460` sums lists of that many bytes.
+//! Nanoseconds that calls take, a line for each: `steps frames 1000000`, and so with `blocks`, `buffers`, `pools`, `segmenting` and
+//! `taps`; `steps sums 1000000 1460` sums lists of that many bytes.
 //!
 //! The scripts of `bench/` build and run it. With no such word, or no number of turns, it prints how it is called.
 #![tactic(auto)]
@@ -8,6 +8,7 @@ mod blocks;
 mod buffers;
 mod frames;
 mod pools;
+mod segmenting;
 mod sums;
 mod windows;
 
@@ -23,6 +24,7 @@ fn main(rt: HostRuntime) -> Result<(), Error> {
             "blocks" => return blocks::measure(&rt, turns),
             "buffers" => return buffers::measure(&rt, turns),
             "pools" => return pools::measure(&rt, turns),
+            "segmenting" => return segmenting::measure(&rt, turns),
             "taps" => return windows::measure(&rt, turns),
             "sums" => {
                 if let Some(length) = words.next() {
@@ -33,7 +35,7 @@ fn main(rt: HostRuntime) -> Result<(), Error> {
         }
     }
     println!(rt;
-        "usage: steps frames|blocks|buffers|pools|taps TURNS, or steps sums TURNS LENGTH"
+        "usage: steps frames|blocks|buffers|pools|segmenting|taps TURNS, or steps sums TURNS LENGTH"
     )?;
     Ok(())
 }
