@@ -4,5 +4,6 @@ pub mod Key
 pub mod Candidate
 pub mod Front
 pub mod Segment
+pub mod Judged
 pub mod Found
 pub mod Laws

@@ -5,6 +5,7 @@ ghost use Rattle.frame_layout.specs.Candidate.{IsSumRight};
 ghost use Rattle.frame_layout.specs.Headers.{size, AtHeaders};
 ghost use Rattle.frame_layout.specs.Front.{IsFrameOf, IsPayloadOf, IsFrontOf, is_plain as is_plain_of, IsHeaderRight, are_headers_right, AreAddressesWithin};
 ghost use Rattle.frame_layout.specs.Segment.{IsSegOf};
+ghost use Rattle.frame_layout.specs.Judged.{seg_of};
 ghost use Rattle.frame_layout.specs.Shape.{shape_of};
 ghost use Rattle.frame_layout.specs.declared.layout.Layer.TheVariants.{Ethernet, Tcp};
 
@@ -91,17 +92,14 @@ fn are_right(front: &Front, headers: &[Header]) -> bool
     true
 }
 
-/// Whether a frame may be merged, and what merging and segmenting read of it, where its layout is known and the sum of
-/// its payload. `head` are its first 200 bytes, or all of it; it had `original` bytes before it was captured.
-///
-/// None where the frame isn't a candidate: it was cut off or padded, a reserved bit is set, a sum isn't its value, TCP's
-/// flags are others than ACK with at most PSH and FIN, or there is no payload.
-pub fn candidate_in(layout: Layout, head: &[u8], payload: &Partial, original: u32) -> Option<Seg>
-    requires shape { shape_of head.now ≡ Some layout }
-    requires few { layout.payload_at + payload.now.len < 2 ^ 32 }
-    requires whole { length head.now ≤ layout.payload_at + payload.now.len }
-    requires enough { min (layout.payload_at + payload.now.len) 200 ≤ length head.now }
-    ensures candidate { (f : List ℕ) → IsPayloadOf head.now layout.payload_at payload.now f → IsSegOf f original result }
+/// The control bits of a frame of this layout, where it may be merged. The layout is only read here, so that it is copied once, to
+/// where the frame is described.
+fn mergeable_flags(layout: &Layout, head: &[u8], payload: &Partial, original: u32) -> Option<u8>
+    requires shape { shape_of head.now ≡ Some layout.now }
+    requires few { layout.now.payload_at + payload.now.len < 2 ^ 32 }
+    requires whole { length head.now ≤ layout.now.payload_at + payload.now.len }
+    requires enough { min (layout.now.payload_at + payload.now.len) 200 ≤ length head.now }
+    ensures candidate { (f : List ℕ) → IsPayloadOf head.now layout.now.payload_at payload.now f → IsSegOf f original (seg_of layout.now payload.now.len result) }
 {
     let end = layout.payload_at();
     let len = end as u32 + payload.len();
@@ -123,7 +121,25 @@ pub fn candidate_in(layout: Layout, head: &[u8], payload: &Partial, original: u3
     if !are_right(&front, layout.headers()) {
         return None;
     }
-    let flags = flags_of(head, layout.headers());
+    Some(flags_of(head, layout.headers()))
+}
+
+/// Whether a frame may be merged, and what merging and segmenting read of it, where its layout is known and the sum of
+/// its payload. `head` are its first 200 bytes, or all of it; it had `original` bytes before it was captured.
+///
+/// None where the frame isn't a candidate: it was cut off or padded, a reserved bit is set, a sum isn't its value, TCP's
+/// flags are others than ACK with at most PSH and FIN, or there is no payload.
+#[inline(always)]
+pub fn candidate_in(layout: Layout, head: &[u8], payload: &Partial, original: u32) -> Option<Seg>
+    requires shape { shape_of head.now ≡ Some layout }
+    requires few { layout.payload_at + payload.now.len < 2 ^ 32 }
+    requires whole { length head.now ≤ layout.payload_at + payload.now.len }
+    requires enough { min (layout.payload_at + payload.now.len) 200 ≤ length head.now }
+    ensures candidate { (f : List ℕ) → IsPayloadOf head.now layout.payload_at payload.now f → IsSegOf f original result }
+{
+    let Some(flags) = mergeable_flags(&layout, head, payload, original) else {
+        return None;
+    };
     Some(Seg {
         layout,
         payload_len: payload.len(),
@@ -147,5 +163,12 @@ pub fn candidate(head: &[u8], rest: &Partial, len: u32, original: u32) -> Option
     let mut payload = Partial::new();
     payload.add(&head[layout.payload_at()..]);
     let payload = payload.joined(*rest);
-    candidate_in(layout, head, &payload, original)
+    let Some(flags) = mergeable_flags(&layout, head, &payload, original) else {
+        return None;
+    };
+    Some(Seg {
+        layout,
+        payload_len: payload.len(),
+        flags,
+    })
 }

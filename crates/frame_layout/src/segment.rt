@@ -2,7 +2,7 @@
 
 ghost use Rattle.std.specs.Prelude.{◌≡◌, ◌+◌, ◌≤◌, length};
 ghost use Rattle.frame_layout.specs.Headers.{size, AtHeaders};
-ghost use Rattle.frame_layout.specs.Segment.{flags_before as flags_before_said, flags_of as flags_said};
+ghost use Rattle.frame_layout.specs.Segment.{flags_of as flags_said};
 
 use crate::layout::{Header, Layer, Layout};
 use tcp_headers::tcp;
@@ -18,26 +18,15 @@ pub struct Seg {
     pub flags: u8,
 }
 
-/// The control bits with this header in front of those that `behind` was read in.
-#[inline(always)]
-fn flags_before(head: &[u8], header: Header, behind: u8) -> u8
-    requires there { header.at + size header.layer ≤ length head.now }
-    ensures { result ≡ flags_before_said head.now header.layer header.at behind }
-{
-    match header.layer {
-        Layer::Tcp => tcp::flags(head, header.at as usize),
-        _ => behind,
-    }
-}
-
-/// The control bits of the TCP header among these headers.
+/// The control bits of the first TCP header among these headers.
 pub(crate) fn flags_of(head: &[u8], headers: &[Header]) -> u8
     requires there { AtHeaders (λ layer at. at + size layer ≤ length head.now) headers.now }
     ensures { result ≡ flags_said head.now headers.now }
 {
-    let mut flags = 0;
-    for i in 0..headers.len() {
-        flags = flags_before(head, headers[headers.len() - 1 - i], flags);
+    for header in headers {
+        if let Layer::Tcp = header.layer {
+            return tcp::flags(head, header.at as usize);
+        }
     }
-    flags
+    0
 }
