@@ -1,5 +1,5 @@
-pub mod Headers
-pub mod Decide
+mod Headers
+mod Decide
 pub mod Heads
 pub mod Knows
 pub mod Steps

@@ -1,22 +1,22 @@
 pub mod Fronts
-pub mod Fields
+mod Fields
 pub mod Grows
-pub mod Determined
-pub mod Identity
+mod Determined
+mod Identity
 pub mod Edits
 pub mod Filled
 pub mod Made
 pub mod Functions
-pub mod Whole
-pub mod Lawful
-pub mod Modes
-pub mod ByRelations
+mod Whole
+mod Lawful
+mod Modes
+mod ByRelations
 pub mod Ranges
 pub mod Decides
 pub mod Opened
 pub mod Records
 pub mod Lists
-pub mod RunRecords
+mod RunRecords
 pub mod Items
 pub mod Flows
 pub mod Rounding
@@ -25,8 +25,8 @@ mod Limits
 pub mod Passings
 pub mod Steps
 pub mod Captured
-pub mod ReadBack
-pub mod WrittenBack
+mod ReadBack
+mod WrittenBack
 pub mod OneQueue
 mod FlowLists
 pub mod ComesBack
