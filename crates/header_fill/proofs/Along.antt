@@ -1,13 +1,12 @@
 -- Along the headers, from the innermost outward.
-use Rattle.std.proofs.Common.{◌≡◌, ℕ, zero, suc, ◌+◌, ◌<◌, List, [], ◌∷◌, length, get_or, slice_set, drop, refl, sym, ap, ◌∙◌, arith}
-use Rattle.std.proofs.lemmas.List.{drop_more, get_or_default}
+use Rattle.std.proofs.Common.{◌≡◌, ℕ, zero, suc, ◌+◌, ◌<◌, List, [], ◌∷◌, length, get_or, slice_set, refl, sym, ap, ◌∙◌, arith}
 use Rattle.frame_layout.specs.Headers.{AtHeaders}
 use Rattle.frame_layout.specs.Segment.{HasFlags}
 use Rattle.frame_layout.specs.declared.layout.Header.{Header}
 use Rattle.frame_layout.specs.declared.layout.Layer.{Layer}
 use Rattle.frame_layout.specs.declared.layout.Layer.TheVariants.{Ethernet, Ip4, Ip6, Tcp}
 use Rattle.frame_layout.specs.Front.{AreAddressesWithin}
-use Rattle.offload_model.specs.Edits.{with_edits, put_sum, with_sums, put_flags, put_flags_of}
+use Rattle.offload_model.specs.Edits.{with_edits, put_flags, put_flags_of}
 use Rattle.header_fill.specs.Filled.{IsInside, header_before}
 
 -- what holds at each header holds at one

@@ -1,9 +1,9 @@
 //! Sums, from the innermost header outward. Behind a header stand the headers within and the payload, and of the payload
-//! its sum is enough (RFC 1071, section 2: partial sums).
+//! its sum is enough (RFC 1071, section 2: partial sums). Words are added as they are, and folded once, at the end.
 
-ghost use Rattle.std.specs.Prelude.{◌≡◌, ℕ, ◌+◌, ◌-◌, ◌<◌, ◌≤◌, ◌^◌, ◌++◌, List, length, drop};
+ghost use Rattle.std.specs.Prelude.{◌≡◌, ℕ, ◌+◌, ◌-◌, ◌%◌, ◌<◌, ◌≤◌, ◌^◌, ◌++◌, List, length, drop};
 ghost use Rattle.net_bytes.specs.Bytes.{put16};
-ghost use Rattle.inet_sum.specs.Sum.{checksum_of};
+ghost use Rattle.inet_sum.specs.Sum.{folded, fold_of, checksum_of, joined_fold};
 ghost use Rattle.inet_sum.specs.Stands.{StandsFor};
 ghost use Rattle.frame_layout.specs.Headers.{AreLaid};
 ghost use Rattle.frame_layout.specs.Candidate.{pseudo_header, ip4_sum as ip4_sum_of};
@@ -12,7 +12,7 @@ ghost use Rattle.frame_layout.specs.Front.{AreAddressesWithin};
 ghost use Rattle.header_fill.specs.Filled.{IsInside, header_before};
 
 use frame_layout::{Header, Layer};
-use inet_sum::{Partial, not_zero};
+use inet_sum::{Partial, fold_number, not_zero, unfolded};
 use ip_headers::set_header_sum;
 use tcp_headers::{set_tcp_sum, set_udp_sum, udp};
 
@@ -86,7 +86,7 @@ fn ip4_sum(head: &[u8], at: usize) -> u16
     requires there { at + 20 ≤ length head.now }
     ensures sum { (bytes : List ℕ) → result ≡ ip4_sum_of (head.now ++ bytes) at }
 {
-    sum_without(&head[at..at + 20], 10).checksum()
+    65535 - fold_number(zeroed(&head[at..at + 20], 10))
 }
 
 /// The sum of what an IP header carries, from the header at `at` on, with that header's sum field at `field` taken as zero
@@ -100,6 +100,7 @@ fn carried_sum(
     payload: Partial,
 ) -> u16
     requires field { at + field + 2 ≤ length head.now }
+    requires even { field % 2 ≡ 0 }
     requires addresses { AreAddressesWithin (length head.now) ip.layer ip.at }
     requires few { length head.now + payload.len < 2 ^ 31 }
     ensures sum { (bytes : List ℕ)
@@ -110,46 +111,47 @@ fn carried_sum(
 {
     let behind = &head[at..];
     let len = behind.len() as u32 + payload.len();
-    let pseudo = pseudo_sum(head, ip, protocol, len);
-    let own = sum_without(behind, field);
-    pseudo.joined(own).joined(payload).checksum()
+    let own = pseudo(head, ip, protocol, len) + zeroed(behind, field);
+    65535 - joined(own, behind.len() % 2 == 1, payload.fold())
 }
 
-/// The sum of the pseudo header of `len` bytes that an IP header carries.
-fn pseudo_sum(head: &[u8], ip: Header, protocol: u8, len: u32) -> Partial
+/// A number with the fold of the pseudo header of `len` bytes that an IP header carries.
+#[inline(always)]
+fn pseudo(head: &[u8], ip: Header, protocol: u8, len: u32) -> u64
     requires addresses { AreAddressesWithin (length head.now) ip.layer ip.at }
-    ensures sum { StandsFor result (pseudo_header head.now ip.layer ip.at protocol len) }
-    ensures small { result.len ≤ 40 }
+    ensures fold { folded result ≡ fold_of (pseudo_header head.now ip.layer ip.at protocol len) }
+    ensures small { result < 2 ^ 60 }
 {
     let at = ip.at as usize;
-    let mut sum = Partial::new();
     match ip.layer {
-        Layer::Ip4 => {
-            sum.add(&head[at + 12..at + 20]);
-            sum.add(&[0, protocol]);
-            sum.add_number(len);
-        }
+        Layer::Ip4 => unfolded(&head[at + 12..at + 20]) + u64::from(protocol) + u64::from(len),
         Layer::Ip6 => {
-            sum.add(&head[at + 8..at + 40]);
-            sum.add_number(len / 65536);
-            sum.add_number(len % 65536);
-            sum.add(&[0, 0, 0, protocol]);
+            unfolded(&head[at + 8..at + 40])
+                + u64::from(len / 65536)
+                + u64::from(len % 65536)
+                + u64::from(protocol)
         }
-        _ => {}
+        _ => 0,
     }
-    sum
 }
 
-/// The sum of some bytes, with the two at `field` taken as zero.
-fn sum_without(bytes: &[u8], field: usize) -> Partial
+/// A number with the fold of some bytes, with the two at `field` taken as zero.
+#[inline(always)]
+fn zeroed(bytes: &[u8], field: usize) -> u64
     requires field { field + 2 ≤ length bytes.now }
+    requires even { field % 2 ≡ 0 }
     requires few { length bytes.now < 2 ^ 31 }
-    ensures sum { StandsFor result (put16 bytes.now field 0) }
-    ensures len { result.len ≡ length bytes.now }
+    ensures fold { folded result ≡ fold_of (put16 bytes.now field 0) }
+    ensures small { result < 2 ^ 62 }
 {
-    let mut sum = Partial::new();
-    sum.add(&bytes[..field]);
-    sum.add_number(0);
-    sum.add(&bytes[field + 2..]);
-    sum
+    unfolded(&bytes[..field]) + unfolded(&bytes[field + 2..])
+}
+
+/// The fold of header bytes and a payload, from a number with the fold of the first and from the second's fold.
+fn joined(front: u64, is_odd: bool, payload: u16) -> u16
+    requires small { front < 2 ^ 63 }
+    ensures fold { result ≡ joined_fold is_odd (folded front) payload }
+{
+    let weight = if is_odd { 256 } else { 1 };
+    fold_number(front + weight * u64::from(payload))
 }

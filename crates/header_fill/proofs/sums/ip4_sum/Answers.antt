@@ -11,7 +11,7 @@ returns c =
     let n : at + 20 - at ≡ 20 = omega arith in
     record {
       sum = λ bytes.
-          c.checksum.ensures.checksum (put16 (take (at + 20 - at) (drop at f)) 10 0) c.sum_without.ensures.sum
+          ap (λ z. 65535 - z) (c.fold_number.ensures.fold ∙ c.zeroed.ensures.fold)
           ∙ ap (λ z. checksum_of (put16 (take z (drop at f)) 10 0)) n
           ∙ sym (ip4_front f bytes at c.requires.there);
     }
