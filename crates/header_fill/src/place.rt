@@ -1,6 +1,6 @@
 //! What a packet's place in its stream decides: identification and sequence number.
 
-ghost use Rattle.std.specs.Prelude.{◌≡◌, ℕ, ◌+◌, ◌≤◌, ◌++◌, List, length, Bool};
+ghost use Rattle.std.specs.Prelude.{◌≡◌, ℕ, ◌+◌, ◌≤◌, ◌++◌, List, length};
 ghost use Rattle.frame_layout.specs.Headers.{AtHeaders};
 ghost use Rattle.offload_model.specs.Merged.{is_fixed as is_fixed_by};
 ghost use Rattle.offload_model.specs.Edits.{with_edits, put_place as with_place};
@@ -19,14 +19,7 @@ pub fn put_places(head: &mut [u8], headers: &[Header], modes: u8, i: u16, n: u32
     let mut k = headers.len();
     while k > 0 {
         k -= 1;
-        let header = headers[k];
-        put_place(
-            head,
-            header,
-            is_fixed(modes, headers, header.at as usize),
-            i,
-            n,
-        );
+        put_place(head, headers, headers[k], modes, i, n);
     }
 }
 
@@ -51,16 +44,15 @@ fn is_fixed(modes: u8, headers: &[Header], at: usize) -> bool
 }
 
 /// One header's identification or sequence number.
-fn put_place(head: &mut [u8], header: Header, stays: bool, i: u16, n: u32)
+fn put_place(head: &mut [u8], headers: &[Header], header: Header, modes: u8, i: u16, n: u32)
     requires inside { IsInside (length head.old) header.layer header.at }
-    ensures edited { (rest : List ℕ) (fixed : ℕ → Bool)
-        → fixed header.at ≡ stays
-        → head.new ++ rest ≡ with_place fixed i n header.layer header.at (head.old ++ rest) }
+    ensures edited { (rest : List ℕ)
+        → head.new ++ rest ≡ with_place (is_fixed_by modes headers.now) i n header.layer header.at (head.old ++ rest) }
 {
     let at = header.at as usize;
     match header.layer {
         Layer::Ip4 => {
-            if !stays {
+            if !is_fixed(modes, headers, at) {
                 let identification = ip4::identification(head, at).wrapping_add(i);
                 set_id(head, at, identification);
             }
