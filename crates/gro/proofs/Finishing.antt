@@ -1,6 +1,5 @@
 -- What all items of a table come to, and what they hold together.
-use Rattle.std.proofs.Common.{◌≡◌, ℕ, ◌+◌, ◌*◌, ◌-◌, ◌<◌, ◌≤◌, Bool, true, false, List, [], ◌∷◌, map, ◌∙◌, refl, sym, ap, subst, arith}
-use Rattle.std.specs.Prelude.{if◌then◌else◌}
+use Rattle.std.proofs.Common.{◌≡◌, ℕ, ◌-◌, ◌<◌, ◌≤◌, Bool, true, false, List, [], ◌∷◌, map, ◌∙◌, refl, sym, ap, subst, arith}
 use Rattle.std.specs.List.{AllByRecursion}
 use Rattle.maximal_runs.specs.Cut.{AllNeighbours}
 use Rattle.maximal_runs.specs.Items.{AreItems}
@@ -15,7 +14,7 @@ use Rattle.offload_model.specs.Rounds.{is_of, key_in, number_of, items_of, runs_
 use Rattle.offload_model.proofs.Fronts.{fronts_too}
 use Rattle.offload_model.proofs.Items.{items_are, is_key_self}
 use Rattle.offload_model.proofs.OneQueue.{all_queued, one_queue}
-use Rattle.frags.specs.Account.{Account, Tests, Keeps}
+use Rattle.frags.specs.Account.{Tests, Keeps}
 use Rattle.gro.specs.declared.packet.Packet.{Packet as Held}
 use Rattle.gro.specs.declared.item.Item.{Item}
 use Rattle.gro.specs.declared.run.Run.{Run}
@@ -23,7 +22,7 @@ use Rattle.gro.specs.Held.{of_nothing, of_packet, of_packets, packet_of, count_o
 use Rattle.gro.specs.Items.{item_of, AreItemsOf}
 use Rattle.gro.specs.Runs.{held_of}
 use Rattle.gro.specs.Totals.{total, totals, AreSame}
-use Rattle.gro.specs.Table.{TableState, Received, of_runs, counts_in, counts_of_items, of_items, AreItemsFrom, AreRunsOf, KeepsTable, AreReady, ItemsWeighAtLeast}
+use Rattle.gro.specs.Table.{TableState, Received, of_runs, counts_in, counts_of_items, of_items, AreItemsFrom, KeepsTable, AreReady, ItemsWeighAtLeast}
 use Rattle.gro.proofs.Receiving.{counts_total}
 use Rattle.gro.proofs.Tables.{counts_totals}
 

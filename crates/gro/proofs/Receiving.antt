@@ -1,5 +1,5 @@
 -- A packet comes: a run takes it, or it opens one.
-use Rattle.std.proofs.Common.{◌≡◌, ℕ, zero, suc, ◌+◌, ◌-◌, ◌*◌, ◌<◌, ◌≤◌, inl, inr, Bool, true, false, Option, Some, None, List, [], ◌∷◌, ◌++◌, length, get_or, map, set, refl, sym, ap, ◌∙◌, subst, arith, length-append}
+use Rattle.std.proofs.Common.{◌≡◌, ℕ, zero, suc, ◌+◌, ◌<◌, ◌≤◌, inl, inr, Bool, true, false, Option, Some, None, List, [], ◌∷◌, ◌++◌, length, get_or, map, set, refl, sym, ap, ◌∙◌, subst, arith, length-append}
 use Rattle.std.specs.Prelude.{if◌then◌else◌}
 use Rattle.std.specs.List.{AllByRecursion}
 use Rattle.std.proofs.lemmas.List.{map-append, map-set, get_or-map, length-map, length-set, get_or-set_same, get_or_push}
@@ -27,7 +27,7 @@ use Rattle.gro.specs.declared.runs.Runs.{Runs}
 use Rattle.gro.specs.Held.{packet_of, count_of, counts_of}
 use Rattle.gro.specs.Runs.{IsRun, held_of, packets_of}
 use Rattle.gro.specs.Flows.{place_of, AreFlows, Puts}
-use Rattle.gro.specs.Index.{IsShut, IsIndexOf, IsLatest}
+use Rattle.gro.specs.Index.{IsShut, IsFound, IsIndexOf, IsLatest}
 use Rattle.gro.specs.Totals.{total, totals}
 use Rattle.gro.specs.Steps.{held_in, packets_in, AreRuns, HasPlaces, Takes}
 use Rattle.gro.proofs.Indexing.{found_last, index_grows, takes_grows, index_opens, takes_opens, index_other, index_none, latest_of, latest_found}
@@ -257,6 +257,23 @@ no_runs a e flows none last = record {
   flows = flows;
   index = subst (λ (z : List Run). IsIndexOf (place_of a.flows) (map packets_of z)) (sym e) (index_none (place_of a.flows) none);
   latest = subst (IsLatest (place_of a.flows) (packets_in a)) (sym last) tt;
+}
+
+index_again : (look again : List ℕ → Option ℕ) (rs : List (List Packet)) → ((q : List ℕ) → again q ≡ look q) → IsIndexOf look rs → IsIndexOf again rs
+index_again look again rs same i = λ q. let x = i q in (x.0, (x.1.0, subst (IsFound rs x.0) (sym (same q)) x.1.1))
+
+latest_again : (look again : List ℕ → Option ℕ) (rs : List (List Packet)) (last : Option ℕ) → ((q : List ℕ) → again q ≡ look q) → IsLatest look rs last → IsLatest again rs last
+latest_again look again rs None same l = tt
+latest_again look again rs (Some i) same l = (l.0, λ q b. same q ∙ l.1 q b)
+
+-- the same runs, where each key finds what it did
+pub runs_again : (a b : Runs) → b.list.items ≡ a.list.items → AreFlows b.flows → ((q : List ℕ) → place_of b.flows q ≡ place_of a.flows q) → b.last ≡ a.last → AreRuns a → AreRuns b
+runs_again a b items flows same last runs = record {
+  each = subst (AllByRecursion IsRun) (sym items) runs.each;
+  flows = flows;
+  index = subst (λ (z : List Run). IsIndexOf (place_of b.flows) (map packets_of z)) (sym items) (index_again (place_of a.flows) (place_of b.flows) (packets_in a) same runs.index);
+  latest = subst (λ (z : List Run). IsLatest (place_of b.flows) (map packets_of z) b.last) (sym items)
+      (subst (IsLatest (place_of b.flows) (packets_in a)) (sym last) (latest_again (place_of a.flows) (place_of b.flows) (packets_in a) a.last same runs.latest));
 }
 
 -- the last packet's run takes a packet, and its flow is told by its first packet

@@ -1,5 +1,5 @@
 -- What is given back of packets and runs.
-use Rattle.std.proofs.Common.{◌≡◌, ℕ, ◌+◌, ◌*◌, ◌≤◌, arith}
+use Rattle.std.proofs.Common.{◌≡◌, ℕ, ◌+◌, arith}
 use Rattle.frags.specs.Account.{Account, Tests, Keeps, both}
 
 -- what is left, and what was given back of it

@@ -1,5 +1,5 @@
 -- What a table has received.
-use Rattle.std.proofs.Common.{◌≡◌, ℕ, ◌+◌, ◌*◌, ◌-◌, ◌<◌, ◌≤◌, true, Some, List, [], ◌∷◌, ◌++◌, length, map, refl, sym, ap, ◌∙◌, subst, arith, length-append}
+use Rattle.std.proofs.Common.{◌≡◌, ℕ, ◌+◌, ◌-◌, ◌<◌, ◌≤◌, List, [], ◌∷◌, ◌++◌, map, refl, sym, ap, ◌∙◌, subst, arith, length-append}
 use Rattle.std.specs.List.{AllByRecursion}
 use Rattle.std.proofs.lemmas.List.{map-append}
 use Rattle.maximal_runs.specs.Cut.{AllNeighbours}
@@ -11,11 +11,11 @@ use Rattle.offload_model.specs.Rounds.{is_of, number_of}
 use Rattle.gro.specs.declared.packet.Packet.{Packet as Held}
 use Rattle.gro.specs.declared.run.Run.{Run}
 use Rattle.gro.specs.declared.runs.Runs.{Runs}
-use Rattle.gro.specs.Held.{packet_of, count_of, counts_of}
+use Rattle.gro.specs.Held.{packet_of, count_of}
 use Rattle.gro.specs.Runs.{held_of, packets_of}
-use Rattle.gro.specs.Totals.{total, totals, AreSame}
+use Rattle.gro.specs.Totals.{totals}
 use Rattle.gro.specs.Steps.{held_in, packets_in, AreRuns, HasPlaces, Takes}
-use Rattle.gro.specs.Table.{TableState, IsTable, AreRunsOf, Received, counts_in}
+use Rattle.gro.specs.Table.{TableState, IsTable, Received, counts_in}
 use Rattle.gro.proofs.Receiving.{total_push, counts_total}
 
 pub counts_totals : (rs : List (List Held)) → counts_in rs ≡ totals count_of rs
@@ -96,3 +96,17 @@ none_received t e f = record {
   many = sym f;
   below = tt;
 }
+
+-- a table that holds nothing
+pub table_none : (a : Runs) (limit : ℕ) → AreRuns a → a.list.items ≡ [] → HasPlaces a limit → IsTable a limit 0 0 0
+table_none a limit are none places = record {
+  are = are;
+  early = subst (λ (z : List Run). AllByRecursion (λ run. first_number number_of run < 0) (map packets_of z)) (sym none) tt;
+  places = subst (HasPlaces a) (let s : limit ≡ limit - 0 = omega arith in s) places;
+  within = omega arith;
+  counted = sym (ap (λ (z : List Run). totals count_of (map held_of z)) none);
+  few = omega arith;
+}
+
+pub places_less : (a : Runs) (m n : ℕ) → m ≤ n → HasPlaces a n → HasPlaces a m
+places_less a m n h p = (omega (arith, h, p.0), (omega (arith, h, p.1.0), omega (arith, h, p.1.1)))

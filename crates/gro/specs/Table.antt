@@ -25,6 +25,10 @@ pub record TableState : Type 0 where
   pub received : ℕ
   pub above : ℕ
 
+-- a table that holds nothing, between two rounds
+abbrev pub no_table : TableState
+no_table = record { runs = []; limit = 0; received = 0; above = 0 }
+
 -- what is known of a table's runs, and how many blocks and parts they hold
 pub record IsTable (runs : Runs) (limit received above count : ℕ) : Type 0 where
   pub are : AreRuns runs

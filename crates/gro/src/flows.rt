@@ -1,5 +1,5 @@
 //! The open run of each flow.
-ghost use Rattle.std.specs.Prelude.{◌≡◌, ◌+◌, ◌≤◌, Option, Some, None, IsSome, List, ℕ, length, IfOk, IfSome, IfNone, true, if◌then◌else◌};
+ghost use Rattle.std.specs.Prelude.{◌≡◌, ◌+◌, ◌≤◌, Option, Some, None, IsSome, List, ℕ, length, IfOk, OnOk, IfSome, IfNone, true, if◌then◌else◌};
 ghost use Rattle.gro.specs.Flows.{slot_of, place_of, AreFlows, Puts, HasRoom};
 
 use crate::flow_key::FlowKey;
@@ -32,6 +32,28 @@ impl Flows {
         let open = Slab::with_capacity(alloc, n)?;
         let slots = HashMap::with_capacity(alloc, n)?;
         Ok(Flows { open, slots })
+    }
+
+    /// Room for n flows more.
+    pub(crate) fn reserve(&mut self, n: usize) -> Result<(), AllocError>
+        requires flows { AreFlows self.old }
+        ensures flows { AreFlows self.new }
+        ensures same { (q : List ℕ) → place_of self.new q ≡ place_of self.old q }
+        ensures room { OnOk result (HasRoom self.new n) }
+        ensures later { (k : ℕ) → HasRoom self.old k → HasRoom self.new k }
+    {
+        self.open.reserve(n)?;
+        self.slots.reserve(n)
+    }
+
+    /// No flow has an open run any more. The memory stays.
+    pub(crate) fn clear(&mut self)
+        ensures flows { AreFlows self.new }
+        ensures none { (q : List ℕ) → place_of self.new q ≡ None }
+        ensures room { HasRoom self.new 0 }
+    {
+        self.open.clear();
+        self.slots.clear();
     }
 
     /// Whether no flow has an open run.

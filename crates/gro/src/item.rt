@@ -145,22 +145,23 @@ fn merged(
     }
 }
 
-/// The items of runs, in places that were made before. It takes no memory.
-pub(crate) fn build_all(runs: VecDeque<Run>, places: VecDeque<Places>, items: &mut Vec<Item>)
-    requires runs { AllByRecursion IsRun runs.items }
-    requires places { ArePlacesOf runs.items places.items }
+/// The items of runs, in places that were made before. It takes no memory, and leaves the lists theirs.
+pub(crate) fn build_all(
+    runs: &mut VecDeque<Run>,
+    places: &mut VecDeque<Places>,
+    items: &mut Vec<Item>,
+)
+    requires runs { AllByRecursion IsRun runs.old.items }
+    requires places { ArePlacesOf runs.old.items places.old.items }
     requires empty { items.old.items ≡ [] }
-    requires room { vec_len items.old + length runs.items ≤ vec_capacity items.old }
-    ensures items { AreItemsOf runs.items items.new.items }
+    requires room { vec_len items.old + length runs.old.items ≤ vec_capacity items.old }
+    ensures items { AreItemsOf runs.old.items items.new.items }
+    ensures none { (runs.new.items ≡ []) × (places.new.items ≡ []) }
 {
-    let mut runs = runs;
-    let mut places = places;
     while let Some(run) = runs.pop_front() {
         let Some(own) = places.pop_front() else {
             unreachable!()
         };
         items.push_reserved(run.into_item(own));
     }
-    runs.destroy_empty();
-    places.destroy_empty();
 }

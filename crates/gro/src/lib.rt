@@ -57,6 +57,7 @@ mod places;
 mod release;
 mod run;
 mod runs;
+mod shelf;
 mod table;
 #[cfg(test)]
 mod tests;

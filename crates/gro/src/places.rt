@@ -1,5 +1,5 @@
 //! The places that items need, made before anything moves.
-ghost use Rattle.std.specs.Prelude.{◌≡◌, ◌-◌, ◌*◌, ◌≤◌, IfOk};
+ghost use Rattle.std.specs.Prelude.{◌≡◌, ◌-◌, ◌*◌, ◌≤◌, [], IfOk, OnOk, OnErr};
 ghost use Rattle.std.specs.List.{AllByRecursion};
 ghost use Rattle.gro.specs.Places.{IsEmpty, AreEmpty, AreSeveral, IsPlaceOf, ArePlacesOf};
 ghost use Rattle.gro.specs.Runs.{IsRun};
@@ -32,14 +32,13 @@ fn give_up(places: Places)
 }
 
 /// Gives all places up that nothing has been moved into.
-pub(crate) fn give_all_up(all: VecDeque<Places>)
-    requires empty { AreEmpty all.items }
+pub(crate) fn give_all_up(all: &mut VecDeque<Places>)
+    requires empty { AreEmpty all.old.items }
+    ensures none { all.new.items ≡ [] }
 {
-    let mut all = all;
     while let Some(places) = all.pop_front() {
         give_up(places);
     }
-    all.destroy_empty();
 }
 
 // Of n packets with `count` blocks and parts, two spares each among them: how many pieces they come to, and how many
@@ -85,12 +84,14 @@ fn places_of(alloc: Global, run: &Run) -> Result<Places, AllocError>
 pub(crate) fn all_places(
     alloc: Global,
     runs: &VecDeque<Run>,
-) -> Result<VecDeque<Places>, AllocError>
+    all: &mut VecDeque<Places>,
+) -> Result<(), AllocError>
     requires runs { AllByRecursion IsRun runs.now.items }
-    ensures places { IfOk result (λ ps. ArePlacesOf runs.now.items ps.items) }
-    ensures empty { IfOk result (λ ps. AreEmpty ps.items) }
+    requires none { all.old.items ≡ [] }
+    ensures places { OnOk result (ArePlacesOf runs.now.items all.new.items) }
+    ensures back { OnErr result (all.new.items ≡ []) }
 {
-    let mut all = VecDeque::with_capacity(alloc, runs.len())?;
+    all.reserve(runs.len())?;
     for i in 0..runs.len() {
         let Ok(places) = places_of(alloc, &runs[i]) else {
             give_all_up(all);
@@ -98,5 +99,5 @@ pub(crate) fn all_places(
         };
         all.push_back_reserved(places);
     }
-    Ok(all)
+    Ok(())
 }

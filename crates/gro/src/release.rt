@@ -1,5 +1,5 @@
 //! Buffers and spares are given back.
-ghost use Rattle.std.specs.Prelude.{◌≡◌, ◌+◌, ◌≤◌, map};
+ghost use Rattle.std.specs.Prelude.{◌≡◌, ◌+◌, ◌≤◌, [], map};
 ghost use Rattle.frags.specs.Account.{Keeps, both, of_outcomes};
 ghost use Rattle.frags.specs.Growth.{Grows};
 ghost use Rattle.gro.specs.Held.{of_packet, of_packets, count_of, counts_of};
@@ -44,14 +44,14 @@ fn release_packets(packets: VecDeque<Packet>, out: &mut Outcomes)
     packets.destroy_empty();
 }
 
-/// Gives the buffers and spares of all runs back.
-pub(crate) fn release_runs(runs: VecDeque<Run>, out: &mut Outcomes)
-    requires room { counts_in (map held_of runs.items) ≤ out.old.spare }
-    ensures kept { Keeps (both (of_runs (map held_of runs.items)) (of_outcomes out.old)) (of_outcomes out.new) }
-    ensures grows { Grows (counts_in (map held_of runs.items)) out.old out.new }
-    ensures places { out.old.spare ≤ out.new.spare + counts_in (map held_of runs.items) }
+/// Gives the buffers and spares of all runs back. The list's memory stays.
+pub(crate) fn release_runs(runs: &mut VecDeque<Run>, out: &mut Outcomes)
+    requires room { counts_in (map held_of runs.old.items) ≤ out.old.spare }
+    ensures kept { Keeps (both (of_runs (map held_of runs.old.items)) (of_outcomes out.old)) (of_outcomes out.new) }
+    ensures grows { Grows (counts_in (map held_of runs.old.items)) out.old out.new }
+    ensures places { out.old.spare ≤ out.new.spare + counts_in (map held_of runs.old.items) }
+    ensures none { runs.new.items ≡ [] }
 {
-    let mut runs = runs;
     while let Some(run) = runs.pop_front() {
         let Run {
             first,
@@ -65,5 +65,4 @@ pub(crate) fn release_runs(runs: VecDeque<Run>, out: &mut Outcomes)
         release_packet(first, out);
         release_packets(rest, out);
     }
-    runs.destroy_empty();
 }

@@ -266,9 +266,32 @@ impl Runs {
         }
     }
 
-    /// The runs alone.
-    pub(crate) fn into_list(self) -> VecDeque<Run>
-        ensures list { result ≡ self.list }
+    /// Room for n runs more.
+    pub(crate) fn reserve(&mut self, n: usize) -> Result<(), AllocError>
+        requires runs { AreRuns self.old }
+        ensures runs { AreRuns self.new }
+        ensures same { self.new.list.items ≡ self.old.list.items }
+        ensures places { OnOk result (HasPlaces self.new n) }
+        ensures later { (k : ℕ) → HasPlaces self.old k → HasPlaces self.new k }
+    {
+        self.list.reserve(n)?;
+        self.flows.reserve(n)
+    }
+
+    /// Once the list is empty, no flow has an open run either. The memory stays.
+    pub(crate) fn clear(&mut self)
+        requires none { self.old.list.items ≡ [] }
+        ensures runs { AreRuns self.new }
+        ensures none { self.new.list.items ≡ [] }
+        ensures places { HasPlaces self.new 0 }
+    {
+        self.flows.clear();
+        self.last = None;
+    }
+
+    /// Frees the memory of no runs.
+    pub(crate) fn discard(self)
+        requires none { self.list.items ≡ [] }
     {
         let Runs {
             list,
@@ -276,6 +299,6 @@ impl Runs {
             last: _,
             alloc: _,
         } = self;
-        list
+        list.destroy_empty();
     }
 }

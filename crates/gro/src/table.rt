@@ -1,5 +1,5 @@
 //! A round's packets, run by run.
-ghost use Rattle.std.specs.Prelude.{◌≡◌, ◌+◌, ◌<◌, ◌≤◌, ◌++◌, ◌∷◌, [], List, ℕ, length, map, OnOk, IfOk, IfErr};
+ghost use Rattle.std.specs.Prelude.{◌≡◌, ◌+◌, ◌<◌, ◌≤◌, ◌++◌, ◌∷◌, [], List, ℕ, length, map, OnOk, OnErr, IfOk, IfErr};
 ghost use Rattle.std.specs.Bool.{Decides};
 ghost use Rattle.frags.specs.Account.{Keeps, both, of_outcomes};
 ghost use Rattle.frags.specs.Growth.{Grows};
@@ -10,13 +10,13 @@ ghost use Rattle.offload_model.specs.Rounds.{runs_in};
 ghost use Rattle.gro.specs.declared.packet.Packet.{Packet as Held};
 ghost use Rattle.gro.specs.Held.{packet_of, of_packets, count_of, counts_of, AreShared, WeighAtLeast, IsFronted, IsHeld};
 ghost use Rattle.gro.specs.Items.{item_of};
-ghost use Rattle.gro.specs.Table.{TableState, Received, of_runs, counts_in, AreItemsFrom, counts_of_items, of_items, KeepsTable, AreReady, ItemsWeighAtLeast};
+ghost use Rattle.gro.specs.Table.{TableState, no_table, Received, of_runs, counts_in, AreItemsFrom, counts_of_items, of_items, KeepsTable, AreReady, ItemsWeighAtLeast};
 
 use crate::Packet;
-use crate::item::{Item, build_all};
-use crate::places::{all_places, give_all_up};
+use crate::item::Item;
 use crate::release::release_runs;
 use crate::runs::Runs;
+use crate::shelf::Shelf;
 use frags::Outcomes;
 use std::alloc::{AllocError, Global};
 use std::marker::Model;
@@ -26,6 +26,7 @@ use std::marker::Model;
 /// What it has received is told by a fact of every list of packets (`Received`): its runs are theirs, and hold all of them.
 pub struct RoundTable {
     runs: Runs,
+    shelf: Shelf,
     limit: u32,
     received: u32,
     above: u64,
@@ -60,17 +61,37 @@ impl RoundTable {
     /// An empty table for at most `limit` packets. The memory for so many runs and flows is taken here.
     pub fn make(alloc: Global, limit: u32) -> Result<RoundTable, AllocError>
         ensures received { IfOk result (λ t. Received [] t) }
+        ensures none { IfOk result (λ t. t.runs ≡ []) }
         ensures limit { IfOk result (λ t. t.limit ≡ limit) }
         ensures above { IfOk result (λ t. t.above ≡ 0) }
     {
         let runs = Runs::with_capacity(alloc, limit as usize)?;
         Ok(RoundTable {
             runs,
+            shelf: Shelf::new(alloc),
             limit,
             received: 0,
             above: 0,
             count: 0,
         })
+    }
+
+    /// The next round, of at most `limit` packets, in a table that holds nothing. Where one before was for as many, that takes no
+    /// memory.
+    pub fn start(&mut self, limit: u32) -> Result<(), AllocError>
+        requires none { self.old.runs ≡ [] }
+        ensures received { Received [] self.new }
+        ensures none { self.new.runs ≡ [] }
+        ensures limit { OnOk result (self.new.limit ≡ limit) }
+        ensures above { self.new.above ≡ 0 }
+    {
+        self.limit = 0;
+        self.received = 0;
+        self.above = 0;
+        self.count = 0;
+        self.runs.reserve(limit as usize)?;
+        self.limit = limit;
+        Ok(())
     }
 
     /// The blocks and parts that it holds.
@@ -112,8 +133,33 @@ impl RoundTable {
         Ok(())
     }
 
+    /// The items of all runs, in the order of their first packets, into a list that is empty. The table is empty again, and its
+    /// memory serves the next round, once that is started. Where there is no memory for the items nothing has changed: all
+    /// places are made before anything moves.
+    pub fn finish_into(&mut self, items: &mut Vec<Item>) -> Result<(), AllocError>
+        requires empty { items.old.items ≡ [] }
+        ensures items { OnOk result (AreItemsFrom self.old.runs items.new.items) }
+        ensures merged { (ps : List Held) → Received ps self.old → OnOk result (map item_of items.new.items ≡ map merged_of (runs_in (map packet_of ps))) }
+        ensures count { (ps : List Held) → Received ps self.old → OnOk result (counts_of_items items.new.items ≡ counts_of ps) }
+        ensures account { OnOk result (KeepsTable self.old.runs items.new.items) }
+        ensures shared { (ps : List Held) → Received ps self.old → AreShared ps → OnOk result (Keeps (of_packets ps) (of_items items.new.items)) }
+        ensures least { (ps : List Held) (w : ℕ) → Received ps self.old → w ≤ full_weight → WeighAtLeast w ps → OnOk result (ItemsWeighAtLeast w items.new.items) }
+        ensures ready { OnOk result (AreReady items.new.items) }
+        ensures none { OnOk result (self.new ≡ no_table) }
+        ensures back { OnErr result ((self.new ≡ self.old) × (items.new.items ≡ [])) }
+    {
+        self.shelf
+            .build_items(self.runs.alloc, &mut self.runs.list, items)?;
+        self.runs.clear();
+        self.limit = 0;
+        self.received = 0;
+        self.above = 0;
+        self.count = 0;
+        Ok(())
+    }
+
     /// The items of all runs, in the order of their first packets. Where there is no memory for them the table comes back as
-    /// it was: all places are made before anything moves.
+    /// it was.
     pub fn finish(self) -> Result<Vec<Item>, (RoundTable, AllocError)>
         ensures items { IfOk result (λ items. AreItemsFrom self.runs items.items) }
         ensures merged { (ps : List Held) → Received ps self → IfOk result (λ items. map item_of items.items ≡ map merged_of (runs_in (map packet_of ps))) }
@@ -124,22 +170,34 @@ impl RoundTable {
         ensures ready { IfOk result (λ items. AreReady items.items) }
         ensures back { IfErr result (λ e. e.0 ≡ self) }
     {
-        let Ok(places) = all_places(self.runs.alloc, &self.runs.list) else {
-            return Err((self, AllocError));
-        };
-        let Ok(mut items) = Vec::with_capacity(self.runs.alloc, self.runs.list.len()) else {
-            give_all_up(places);
-            return Err((self, AllocError));
-        };
-        let RoundTable {
-            runs,
-            limit: _,
-            received: _,
-            above: _,
-            count: _,
-        } = self;
-        build_all(runs.into_list(), places, &mut items);
-        Ok(items)
+        let mut table = self;
+        let mut items = Vec::new(table.runs.alloc);
+        match table.finish_into(&mut items) {
+            Ok(()) => {
+                table.discard();
+                Ok(items)
+            }
+            Err(error) => {
+                items.destroy_empty();
+                Err((table, error))
+            }
+        }
+    }
+
+    /// Gives all buffers and spares back. The table is empty again, and its memory serves the next round.
+    pub fn clear(&mut self, out: &mut Outcomes)
+        requires room { counts_in self.old.runs ≤ out.old.spare }
+        ensures kept { Keeps (both (of_runs self.old.runs) (of_outcomes out.old)) (of_outcomes out.new) }
+        ensures grows { Grows (counts_in self.old.runs) out.old out.new }
+        ensures places { out.old.spare ≤ out.new.spare + counts_in self.old.runs }
+        ensures none { self.new ≡ no_table }
+    {
+        release_runs(&mut self.runs.list, out);
+        self.runs.clear();
+        self.limit = 0;
+        self.received = 0;
+        self.above = 0;
+        self.count = 0;
     }
 
     /// Gives all buffers and spares back.
@@ -149,13 +207,23 @@ impl RoundTable {
         ensures grows { Grows (counts_in self.runs) out.old out.new }
         ensures places { out.old.spare ≤ out.new.spare + counts_in self.runs }
     {
+        let mut table = self;
+        table.clear(out);
+        table.discard();
+    }
+
+    /// Frees the memory of a table that holds nothing.
+    pub fn discard(self)
+        requires none { self.runs ≡ [] }
+    {
         let RoundTable {
             runs,
+            shelf: _,
             limit: _,
             received: _,
             above: _,
             count: _,
         } = self;
-        release_runs(runs.into_list(), out);
+        runs.discard();
     }
 }

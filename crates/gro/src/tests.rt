@@ -8,9 +8,8 @@ mod joins;
 mod rounds;
 
 use crate::candidacy::judge;
-use crate::item::build_all;
-use crate::places::all_places;
 use crate::run::Run;
+use crate::shelf::Shelf;
 use crate::{Item, Packet};
 use frags::{Outcomes, Pieces};
 use raw_block::Sole;
@@ -173,9 +172,12 @@ fn item_of(rt: &impl Abort, alloc: Global, run: Run) -> Item
 {
     let mut runs = VecDeque::with_capacity(alloc, 1).expect(rt, "runs");
     runs.push_back_reserved(run);
-    let places = all_places(alloc, &runs).expect(rt, "places");
-    let mut items = Vec::with_capacity(alloc, 1).expect(rt, "items");
-    build_all(runs, places, &mut items);
+    let mut items = Vec::new(alloc);
+    let mut shelf = Shelf::new(alloc);
+    shelf
+        .build_items(alloc, &mut runs, &mut items)
+        .expect(rt, "places");
+    runs.destroy_empty();
     let item = items.pop();
     while let Some(other) = items.pop() {
         home(rt, other);

@@ -1,4 +1,4 @@
-use Rattle.std.proofs.Common.{◌≡◌, ◌∷◌, [], List, refl, ap, subst, sym, arith, length}
+use Rattle.std.proofs.Common.{◌≡◌, ◌∷◌, [], List, refl, ap, ◌∙◌, subst, sym, arith, length}
 use Rattle.std.proofs.lemmas.List.{append-nil, nil_from_length}
 use Rattle.std.specs.List.{AllByRecursion}
 use Rattle.gro.specs.declared.places.Places.{Places}
@@ -6,7 +6,7 @@ use Rattle.gro.specs.declared.run.Run.{Run}
 use Rattle.gro.specs.Items.{AreItemsOf}
 use Rattle.gro.specs.Places.{ArePlacesOf}
 use Rattle.gro.specs.Runs.{IsRun}
-use Rattle.gro.proofs.Placing.{items_more}
+use Rattle.gro.proofs.Placing.{items_more, no_place}
 use Rattle.gro.proofs.item.build_all.Goals as goal
 
 pub loop-run-preserved : goal.loop-run-preserved
@@ -20,7 +20,7 @@ loop-run-preserved c =
       each = all.1;
       places = two.1;
       room = omega (arith, i.room, ap length e, c.push_reserved.ensures.len, c.push_reserved.ensures.capacity);
-      rest = items_more c.args.runs.items c.loop-run.runs.items c.in-Some.run' c.pop_front.new.self.items c.loop-run.items.items
+      rest = items_more c.args.runs.now.items c.loop-run.runs.items c.in-Some.run' c.pop_front.new.self.items c.loop-run.items.items
           c.push_reserved.new.self.items c.into_item.result e c.push_reserved.ensures.items
           ((c.into_item.ensures.item, c.into_item.ensures.holds), refl) i.rest;
     }
@@ -30,5 +30,6 @@ returns c =
     let i = c.loop-run.invariant in
     let e : c.loop-run.runs.items ≡ [] = nil_from_length c.loop-run.runs.items (omega (arith, c.in_default.ensures.cases.0, c.loop-run.runs.ok)) in
     record {
-      items = subst (AreItemsOf c.args.runs.items) (append-nil c.loop-run.items.items) (i.rest [] (subst (λ (z : List Run). AreItemsOf z []) (sym e) refl));
+      items = subst (AreItemsOf c.args.runs.now.items) (append-nil c.loop-run.items.items) (i.rest [] (subst (λ (z : List Run). AreItemsOf z []) (sym e) refl));
+      none = (sym c.in_default.ensures.items ∙ e, no_place c.loop-run.places.items (subst (λ (z : List Run). ArePlacesOf z c.loop-run.places.items) e i.places));
     }

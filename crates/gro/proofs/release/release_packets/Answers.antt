@@ -1,6 +1,5 @@
-use Rattle.std.proofs.Common.{◌+◌, ◌-◌, List, arith, ap, ◌≡◌, []}
-use Rattle.std.proofs.lemmas.List.{nil_from_length}
-use Rattle.frags.specs.Account.{both, of_outcomes}
+use Rattle.std.proofs.Common.{◌+◌, ◌-◌, List, arith, ap}
+use Rattle.frags.specs.Account.{of_outcomes}
 use Rattle.frags.proofs.Growing.{grows_trans, grows_by}
 use Rattle.gro.specs.declared.packet.Packet.{Packet}
 use Rattle.gro.specs.Held.{of_packet, of_packets, counts_of, count_of}

@@ -1,8 +1,7 @@
-use Rattle.std.proofs.Common.{◌+◌, ◌-◌, ◌∷◌, List, map, arith, ap, ◌≡◌}
-use Rattle.frags.specs.Account.{both, of_outcomes}
+use Rattle.std.proofs.Common.{◌+◌, ◌-◌, List, map, arith, ap}
 use Rattle.frags.proofs.Growing.{grows_trans, grows_by}
 use Rattle.gro.specs.declared.run.Run.{Run}
-use Rattle.gro.specs.Held.{of_packet, of_packets, counts_of, count_of}
+use Rattle.gro.specs.Held.{counts_of, count_of}
 use Rattle.gro.specs.Runs.{held_of}
 use Rattle.gro.specs.Table.{of_runs, counts_in}
 use Rattle.gro.proofs.release.release_runs.Goals as goal
@@ -15,7 +14,7 @@ loop-run-preserved c =
     let p = c.release_packet in
     let r = c.release_packets in
     let run = c.in-Some.run' in
-    let all = counts_in (map held_of c.args.runs.items) in
+    let all = counts_in (map held_of c.args.runs.now.items) in
     let done = all - counts_in (map held_of c.loop-run.runs.items) in
     record {
       fewer = omega arith;

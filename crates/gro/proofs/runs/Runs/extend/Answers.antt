@@ -1,6 +1,5 @@
 use Rattle.std.proofs.Common.{refl, arith}
 use Rattle.std.specs.VecDeque.{deque_with_item}
-use Rattle.gro.specs.declared.run.Run.{Run}
 use Rattle.gro.specs.declared.runs.Runs.{Runs}
 use Rattle.gro.proofs.Receiving.{run_in, few_at, extends_run, held_kept, runs_kept}
 use Rattle.gro.proofs.runs.Runs.extend.Goals as goal

@@ -1,4 +1,4 @@
-use Rattle.std.proofs.Common.{[], ◌∷◌, ◌++◌, List, arith, subst, ap, sym, ◌∙◌}
+use Rattle.std.proofs.Common.{[], ◌∷◌, ◌++◌, List, arith, subst}
 use Rattle.pcap_io.specs.Capture.{Packet}
 use Rattle.offload_model.specs.Mergeable.{IsMergeable}
 use Rattle.gro.specs.Held.{packet_of}

@@ -1,5 +1,4 @@
 use Rattle.std.proofs.Common.{None, refl}
-use Rattle.gro.specs.declared.runs.Runs.{Runs}
 use Rattle.gro.proofs.Receiving.{no_runs}
 use Rattle.gro.proofs.runs.Runs.with_capacity.Goals as goal
 

@@ -1,6 +1,5 @@
-use Rattle.std.proofs.Common.{ℕ, ◌+◌, ◌≡◌, refl, sym, ap, ◌∙◌, arith}
+use Rattle.std.proofs.Common.{ℕ, ◌+◌, refl, sym, ap, ◌∙◌, arith}
 use Rattle.gro.specs.Held.{count_of}
-use Rattle.gro.specs.declared.runs.Runs.{Runs}
 use Rattle.gro.specs.Steps.{held_in}
 use Rattle.gro.specs.Table.{TableState, counts_in}
 use Rattle.gro.proofs.Tables.{counts_totals, table_more, table_left, received_more}

@@ -1,0 +1,28 @@
+use Rattle.std.proofs.Common.{List, subst}
+use Rattle.gro.specs.declared.item.Item.{Item}
+use Rattle.gro.specs.Table.{TableState, AreItemsFrom}
+use Rattle.gro.proofs.Finishing.{items_from, items_account, items_ready, received_merged, received_count, received_shared, received_least}
+use Rattle.gro.proofs.table.RoundTable.finish_into.Goals as goal
+
+pub returns-clause-items : goal.returns-clause-items
+returns-clause-items c =
+    let is : List Item = c.build_items.new.items.items in
+    subst (λ (z : TableState). AreItemsFrom z.runs is) c.self.view_is (items_from c.self.inside.runs.list.items is c.in_ok-build_items.ensures.items)
+
+pub returns-clause-merged : goal.returns-clause-merged
+returns-clause-merged c = λ ps r. received_merged ps c.args.self.now c.build_items.new.items.items r (returns-clause-items c)
+
+pub returns-clause-count : goal.returns-clause-count
+returns-clause-count c = λ ps r. received_count ps c.args.self.now c.build_items.new.items.items r (returns-clause-items c)
+
+pub returns-clause-account : goal.returns-clause-account
+returns-clause-account c = items_account c.args.self.now.runs c.build_items.new.items.items (returns-clause-items c)
+
+pub returns-clause-shared : goal.returns-clause-shared
+returns-clause-shared c = λ ps r s. received_shared ps c.args.self.now c.build_items.new.items.items r s (returns-clause-items c)
+
+pub returns-clause-least : goal.returns-clause-least
+returns-clause-least c = λ ps w r f s. received_least ps w c.args.self.now c.build_items.new.items.items r f s (returns-clause-items c)
+
+pub returns-clause-ready : goal.returns-clause-ready
+returns-clause-ready c = items_ready c.args.self.now.runs c.build_items.new.items.items (returns-clause-items c)
