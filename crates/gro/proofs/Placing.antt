@@ -32,7 +32,7 @@ some_rest (suc n) e = omega arith
 -- places of several packets serve the run that has so many
 several_are : (r : Run) (count free : ℕ) (p : Places) → 1 ≤ length r.rest.items → pieces_in (held_of r) ≤ count → free_in (held_of r) ≤ free
     → AreSeveral count free p → IsPlaceOf r p
-several_are r count free (Alone soles) h a b s = absurd s
+several_are r count free (Alone out) h a b s = absurd s
 several_are r count free (Several pieces out) h a b s = (h, (s.0, omega (arith, a, s.1), omega (arith, b, s.2)))
 
 pub several_serve : (r : Run) (count free : ℕ) (found : Result Places AllocError) → 1 ≤ length r.rest.items → pieces_in (held_of r) ≤ count

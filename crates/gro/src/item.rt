@@ -6,7 +6,7 @@ ghost use Rattle.merge_rule.specs.Runs.{IsRunOf};
 ghost use Rattle.gro.specs.Build.{pieces_in, free_in};
 ghost use Rattle.gro.specs.Held.{packet_of, AreHeld};
 ghost use Rattle.gro.specs.Items.{item_of, IsItemOf, AreItemsOf};
-ghost use Rattle.gro.specs.Places.{IsPlaceOf, ArePlacesOf};
+ghost use Rattle.gro.specs.Places.{IsBare, IsPlaceOf, ArePlacesOf};
 ghost use Rattle.gro.specs.Runs.{IsRun, held_of, packets_of};
 
 use crate::Packet;
@@ -17,7 +17,6 @@ use frags::{Outcomes, PieceBuilder};
 use frame_layout::Layout;
 use inet_sum::Partial;
 use merge_rule::Progress;
-use raw_block::Sole;
 use skb::Skb;
 use std::collections::VecDeque;
 
@@ -58,9 +57,9 @@ impl Run {
             progress,
         } = self;
         match places {
-            Places::Alone(soles) => {
+            Places::Alone(outcomes) => {
                 rest.destroy_empty();
-                single(first, soles)
+                single(first, outcomes)
             }
             Places::Several(pieces, outcomes) => {
                 let Some(layout) = layout else { unreachable!() };
@@ -73,10 +72,10 @@ impl Run {
 }
 
 // A packet that is alone stays as it is.
-fn single(first: Packet, soles: Vec<Sole>) -> Item
+fn single(first: Packet, outcomes: Outcomes) -> Item
     requires held { AreHeld (first ∷ []) }
-    requires empty { soles.items ≡ [] }
-    requires places { 2 ≤ vec_capacity soles }
+    requires empty { IsBare outcomes }
+    requires places { 2 ≤ outcomes.spare }
     ensures item { item_of result ≡ merged_of (packet_of first ∷ []) }
     ensures holds { IsItemOf (first ∷ []) result }
 {
@@ -89,9 +88,9 @@ fn single(first: Packet, soles: Vec<Sole>) -> Item
         original,
         number,
     } = first;
-    let mut soles = soles;
-    soles.push_reserved(spare1);
-    soles.push_reserved(spare2);
+    let mut outcomes = outcomes;
+    outcomes.keep_sole(spare1);
+    outcomes.keep_sole(spare2);
     Item {
         skb,
         number,
@@ -101,7 +100,7 @@ fn single(first: Packet, soles: Vec<Sole>) -> Item
         n: 1,
         m: 0,
         modes: 0,
-        outcomes: Outcomes::of_soles(soles),
+        outcomes,
     }
 }
 

@@ -24,24 +24,28 @@
 //! - `ready` of `finish`: each item's head has the first 200 bytes, or all of fewer, and one block at least is free beside it.
 //! - `back`: where memory is refused, `receive` gives the packet and `finish` the table back, and the table is as it was.
 //! - `kept`, `grows` and `places` of `release`: all that the table holds is given back, in places that were reserved before.
+//! - `finish_into` and `clear` say the same as `finish` and `release`, and `none`: the table holds nothing, and may be started again.
 //!
-//! Memory is taken in `make`, for all runs and flows that may come; in `receive`, where the list of a run's packets is full; and in
-//! `finish`, before anything moves.
+//! Memory is taken in `make` and `start`, for all runs and flows that may come; in `receive`, where the list of a run's packets is
+//! full; and in `finish`, before anything moves. A table that serves one round after another keeps all of it but what items take
+//! with them: each run's list of pieces, and outcomes, which `keep` takes back once they are empty. When memory is refused no
+//! clause says.
 //!
 //! ```
 //! let mut table = RoundTable::make(alloc, 64)?;
-//! for packet in packets {
-//!     if let Err((packet, _)) = table.receive(packet) {
-//!         give_back(packet);
+//! for round in rounds {
+//!     table.start(64)?;
+//!     for packet in round {
+//!         if let Err((packet, _)) = table.receive(packet) {
+//!             give_back(packet);
+//!         }
+//!     }
+//!     match table.finish_into(&mut items) {
+//!         Ok(()) => write(&mut items),
+//!         Err(_) => table.clear(&mut outcomes),
 //!     }
 //! }
-//! match table.finish() {
-//!     Ok(items) => write(items),
-//!     Err((table, _)) => {
-//!         outcomes.reserve(table.count())?;
-//!         table.release(&mut outcomes);
-//!     }
-//! }
+//! table.discard();
 //! ```
 #![tactic(auto)]
 

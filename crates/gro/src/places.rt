@@ -1,19 +1,18 @@
 //! The places that items need, made before anything moves.
 ghost use Rattle.std.specs.Prelude.{◌≡◌, ◌-◌, ◌*◌, ◌≤◌, [], IfOk, OnOk, OnErr};
 ghost use Rattle.std.specs.List.{AllByRecursion};
-ghost use Rattle.gro.specs.Places.{IsEmpty, AreEmpty, AreSeveral, IsPlaceOf, ArePlacesOf};
+ghost use Rattle.gro.specs.Places.{IsBare, AreBare, IsEmpty, AreEmpty, AreSeveral, IsPlaceOf, ArePlacesOf};
 ghost use Rattle.gro.specs.Runs.{IsRun};
 
 use crate::run::Run;
 use frags::{Outcomes, PieceBuilder};
-use raw_block::Sole;
 use std::alloc::{AllocError, Global};
 use std::collections::VecDeque;
 
 /// The places that a run's item needs.
 pub(crate) enum Places {
     /// For both spares of a packet that is alone.
-    Alone(Vec<Sole>),
+    Alone(Outcomes),
     /// For the pieces of packets that are merged, and for what they give back.
     Several(PieceBuilder, Outcomes),
 }
@@ -23,7 +22,7 @@ fn give_up(places: Places)
     requires empty { IsEmpty places }
 {
     match places {
-        Places::Alone(_) => (),
+        Places::Alone(outcomes) => outcomes.settle(),
         Places::Several(pieces, outcomes) => {
             pieces.finish().discard();
             outcomes.settle();
@@ -52,48 +51,88 @@ fn room_for(count: usize, n: usize) -> (usize, usize)
     (count - 2 * n, free)
 }
 
+// Outcomes that hold nothing: the memory of earlier ones, where there are any.
+fn first_of(alloc: Global, shelf: &mut VecDeque<Outcomes>) -> Outcomes
+    requires bare { AreBare shelf.old.items }
+    ensures bare { AreBare shelf.new.items }
+    ensures empty { IsBare result }
+{
+    match shelf.pop_front() {
+        Some(outcomes) => outcomes,
+        None => Outcomes::new(alloc),
+    }
+}
+
+// Outcomes that hold nothing, with room for n.
+fn room_of(alloc: Global, shelf: &mut VecDeque<Outcomes>, n: usize) -> Result<Outcomes, AllocError>
+    requires bare { AreBare shelf.old.items }
+    ensures bare { AreBare shelf.new.items }
+    ensures empty { IfOk result IsBare }
+    ensures room { IfOk result (λ out. n ≤ out.spare) }
+{
+    let mut outcomes = first_of(alloc, shelf);
+    match outcomes.reserve(n) {
+        Ok(()) => Ok(outcomes),
+        Err(error) => {
+            outcomes.settle();
+            Err(error)
+        }
+    }
+}
+
 // The places of packets that are merged.
-fn several(alloc: Global, count: usize, free: usize) -> Result<Places, AllocError>
+fn several(
+    alloc: Global,
+    shelf: &mut VecDeque<Outcomes>,
+    count: usize,
+    free: usize,
+) -> Result<Places, AllocError>
+    requires bare { AreBare shelf.old.items }
+    ensures bare { AreBare shelf.new.items }
     ensures places { IfOk result (λ p. AreSeveral count free p) }
 {
-    let pieces = PieceBuilder::with_room(alloc, count)?;
-    let mut outcomes = Outcomes::new(alloc);
-    match outcomes.reserve(free) {
-        Ok(()) => Ok(Places::Several(pieces, outcomes)),
+    let outcomes = room_of(alloc, shelf, free)?;
+    match PieceBuilder::with_room(alloc, count) {
+        Ok(pieces) => Ok(Places::Several(pieces, outcomes)),
         Err(error) => {
-            give_up(Places::Several(pieces, outcomes));
+            outcomes.settle();
             Err(error)
         }
     }
 }
 
 // The places that a run's item needs.
-fn places_of(alloc: Global, run: &Run) -> Result<Places, AllocError>
+fn places_of(alloc: Global, shelf: &mut VecDeque<Outcomes>, run: &Run) -> Result<Places, AllocError>
+    requires bare { AreBare shelf.old.items }
     requires run { IsRun run.now }
+    ensures bare { AreBare shelf.new.items }
     ensures places { IfOk result (λ p. IsPlaceOf run.now p) }
 {
     if run.rest.is_empty() {
-        let soles = Vec::with_capacity(alloc, 2)?;
-        return Ok(Places::Alone(soles));
+        return Ok(Places::Alone(room_of(alloc, shelf, 2)?));
     }
     let (count, free) = room_for(run.count, run.rest.len() + 1);
-    several(alloc, count, free)
+    several(alloc, shelf, count, free)
 }
 
-/// The places that all runs' items need. Where there is no memory for some, all are given up.
+/// The places that all runs' items need, in outcomes off the shelf where there are any. Where there is no memory for some, all are
+/// given up.
 pub(crate) fn all_places(
     alloc: Global,
+    shelf: &mut VecDeque<Outcomes>,
     runs: &VecDeque<Run>,
     all: &mut VecDeque<Places>,
 ) -> Result<(), AllocError>
+    requires bare { AreBare shelf.old.items }
     requires runs { AllByRecursion IsRun runs.now.items }
     requires none { all.old.items ≡ [] }
+    ensures bare { AreBare shelf.new.items }
     ensures places { OnOk result (ArePlacesOf runs.now.items all.new.items) }
     ensures back { OnErr result (all.new.items ≡ []) }
 {
     all.reserve(runs.len())?;
     for i in 0..runs.len() {
-        let Ok(places) = places_of(alloc, &runs[i]) else {
+        let Ok(places) = places_of(alloc, shelf, &runs[i]) else {
             give_all_up(all);
             return Err(AllocError);
         };

@@ -10,6 +10,7 @@ ghost use Rattle.offload_model.specs.Rounds.{runs_in};
 ghost use Rattle.gro.specs.declared.packet.Packet.{Packet as Held};
 ghost use Rattle.gro.specs.Held.{packet_of, of_packets, count_of, counts_of, AreShared, WeighAtLeast, IsFronted, IsHeld};
 ghost use Rattle.gro.specs.Items.{item_of};
+ghost use Rattle.gro.specs.Places.{IsBare};
 ghost use Rattle.gro.specs.Table.{TableState, no_table, Received, of_runs, counts_in, AreItemsFrom, counts_of_items, of_items, KeepsTable, AreReady, ItemsWeighAtLeast};
 
 use crate::Packet;
@@ -182,6 +183,14 @@ impl RoundTable {
                 Err((table, error))
             }
         }
+    }
+
+    /// The memory of outcomes that hold nothing serves items to come.
+    pub fn keep(&mut self, outcomes: Outcomes)
+        requires bare { IsBare outcomes }
+        ensures same { self.new ≡ self.old }
+    {
+        self.shelf.keep(outcomes);
     }
 
     /// Gives all buffers and spares back. The table is empty again, and its memory serves the next round.

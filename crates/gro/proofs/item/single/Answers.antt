@@ -8,11 +8,10 @@ use Rattle.gro.proofs.item.single.Goals as goal
 pub returns-clause-holds : goal.returns-clause-holds
 returns-clause-holds c =
     let p = c.args.first in
-    let o = c.of_soles.result in
+    let o = c.keep_sole-2.new.self in
     let two : o.soles ≡ p.spare1 ∷ p.spare2 ∷ [] =
-    c.of_soles.ensures.soles ∙ c.push_reserved-2.ensures.items
-    ∙ ap (λ (z : List SoleState). z ++ p.spare2 ∷ []) (c.push_reserved.ensures.items ∙ ap (λ (z : List SoleState). z ++ p.spare1 ∷ []) c.requires.empty) in
-    let none = c.of_soles.ensures.receipts in
+    c.keep_sole-2.ensures.soles ∙ ap (λ (z : List SoleState). z ++ p.spare2 ∷ []) (c.keep_sole.ensures.soles ∙ ap (λ (z : List SoleState). z ++ p.spare1 ∷ []) c.requires.empty.0) in
+    let none : o.receipts ≡ [] = c.keep_sole-2.ensures.receipts ∙ c.keep_sole.ensures.receipts ∙ c.requires.empty.1 in
     let kept : Keeps (of_packets (p ∷ [])) (both (of_buffer p.skb) (of_outcomes o)) = λ t m.
     let e = ap (soles_home t.blocks m) two in
     let f = ap (receipts_held t m) none in
