@@ -1,11 +1,10 @@
 -- Packets that are merged.
-use Rattle.std.proofs.Common.{◌≡◌, ℕ, ◌+◌, ◌*◌, ◌<◌, ◌≤◌, List, [], ◌∷◌, ◌++◌, refl, sym, ap, ◌∙◌, subst, length, arith, append_assoc}
-use Rattle.std.specs.List.{AllByRecursion}
+use Rattle.std.proofs.Common.{◌≡◌, ℕ, ◌+◌, ◌≤◌, List, [], ◌∷◌, ◌++◌, sym, ap, ◌∙◌, subst, length, arith, append_assoc}
 use Rattle.frags.specs.Account.{Account, Tests, Keeps, both, of_outcomes}
 use Rattle.frags.specs.OutcomesState.{OutcomesState}
 use Rattle.gro.specs.declared.packet.Packet.{Packet}
 use Rattle.gro.specs.declared.item.Item.{Item}
-use Rattle.gro.specs.Held.{of_packet, of_packets, count_of, counts_of, AreShared}
+use Rattle.gro.specs.Held.{of_packets, counts_of, AreShared}
 use Rattle.gro.specs.Table.{TableState, Received, of_runs, counts_in, counts_of_items}
 use Rattle.gro.proofs.Finishing.{counts_received, received_held}
 use Rattle.rounds.specs.Fresh.{AreRead, IsRead, NumberedFrom}

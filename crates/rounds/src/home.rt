@@ -13,7 +13,7 @@ ghost use Rattle.rounds.specs.Table.{AllOpen, Comes, IsBare, MayCome};
 use crate::table::{Place, reopen, sweep};
 use block_pool::Pool;
 use frags::Outcomes;
-use gro::{Item, Packet};
+use gro::{Item, Packet, RoundTable};
 use skb::Skb;
 use std::collections::VecDeque;
 
@@ -30,14 +30,20 @@ fn bring_buffer(pool: &mut Pool, places: &mut [Place], out: &mut Outcomes, skb: 
     sweep(pool, places, out);
 }
 
-// What was given back elsewhere goes home, and its outcomes are spent.
-fn bring_outcomes(pool: &mut Pool, places: &mut [Place], outcomes: Outcomes)
+// What was given back elsewhere goes home, and its outcomes serve items to come.
+fn bring_outcomes(
+    pool: &mut Pool,
+    places: &mut [Place],
+    merging: &mut RoundTable,
+    outcomes: Outcomes,
+)
     requires may { MayCome (of_outcomes outcomes) pool.old places.old }
     ensures comes { Comes (of_outcomes outcomes) nothing pool.old places.old pool.new places.new }
+    ensures merging { merging.new ≡ merging.old }
 {
     let mut outcomes = outcomes;
     sweep(pool, places, &mut outcomes);
-    outcomes.settle();
+    merging.keep(outcomes);
 }
 
 // A packet is given back.
@@ -65,13 +71,20 @@ fn bring_packet(pool: &mut Pool, places: &mut [Place], out: &mut Outcomes, packe
 }
 
 // An item is given back.
-fn bring_item(pool: &mut Pool, places: &mut [Place], out: &mut Outcomes, item: Item)
+fn bring_item(
+    pool: &mut Pool,
+    places: &mut [Place],
+    merging: &mut RoundTable,
+    out: &mut Outcomes,
+    item: Item,
+)
     requires may { MayCome (of_item item) pool.old places.old }
     requires bare { IsBare out.old }
     requires spare { blocks_in item.skb ≤ out.old.spare }
     ensures comes { Comes (of_item item) nothing pool.old places.old pool.new places.new }
     ensures bare { IsBare out.new }
     ensures spare { out.old.spare ≤ out.new.spare + blocks_in item.skb }
+    ensures merging { merging.new ≡ merging.old }
 {
     let Item {
         skb,
@@ -85,7 +98,7 @@ fn bring_item(pool: &mut Pool, places: &mut [Place], out: &mut Outcomes, item: I
         modes: _,
     } = item;
     bring_buffer(pool, places, out, skb);
-    bring_outcomes(pool, places, outcomes);
+    bring_outcomes(pool, places, merging, outcomes);
 }
 
 // All packets are given back, and their memory stays.
@@ -109,7 +122,13 @@ fn bring_packets(
 }
 
 // All items are given back, and their memory stays.
-fn bring_items(pool: &mut Pool, places: &mut [Place], out: &mut Outcomes, items: &mut Vec<Item>)
+fn bring_items(
+    pool: &mut Pool,
+    places: &mut [Place],
+    merging: &mut RoundTable,
+    out: &mut Outcomes,
+    items: &mut Vec<Item>,
+)
     requires may { MayCome (of_items items.old.items) pool.old places.old }
     requires bare { IsBare out.old }
     requires spare { blocks_in_items items.old.items ≤ out.old.spare }
@@ -117,9 +136,10 @@ fn bring_items(pool: &mut Pool, places: &mut [Place], out: &mut Outcomes, items:
     ensures bare { IsBare out.new }
     ensures spare { out.old.spare ≤ out.new.spare + blocks_in_items items.old.items }
     ensures none { items.new.items ≡ [] }
+    ensures merging { merging.new ≡ merging.old }
 {
     while let Some(item) = items.pop() {
-        bring_item(pool, places, out, item);
+        bring_item(pool, places, merging, out, item);
     }
 }
 
@@ -127,6 +147,7 @@ fn bring_items(pool: &mut Pool, places: &mut [Place], out: &mut Outcomes, items:
 fn bring_all(
     pool: &mut Pool,
     places: &mut [Place],
+    merging: &mut RoundTable,
     out: &mut Outcomes,
     packets: &mut VecDeque<Packet>,
     items: &mut Vec<Item>,
@@ -142,19 +163,21 @@ fn bring_all(
     ensures bare { IsBare out.new }
     ensures spare { out.old.spare ≤ out.new.spare + (counts_of packets.old.items + blocks_in_items items.old.items) }
     ensures none { (packets.new.items ≡ []) × (items.new.items ≡ []) }
+    ensures merging { merging.new ≡ merging.old }
 {
     sweep(pool, places, out);
     bring_packets(pool, places, out, packets);
-    bring_items(pool, places, out, items);
+    bring_items(pool, places, merging, out, items);
     reopen(places);
 }
 
 /// All blocks of a round go home, `blocks` of them, at whichever point it is ended or given up: what was given back so far, the
-/// packets that aren't merged, and the items.
+/// packets that aren't merged, and the items. The items' lists serve the next round's merging.
 pub(crate) fn bring_round(
     pool: &mut Pool,
     table: &mut [Place],
     blocks: u32,
+    merging: &mut RoundTable,
     out: &mut Outcomes,
     packets: &mut VecDeque<Packet>,
     items: &mut Vec<Item>,
@@ -171,7 +194,8 @@ pub(crate) fn bring_round(
     ensures bare { IsBare out.new }
     ensures spare { out.old.spare ≤ out.new.spare + (counts_of packets.old.items + blocks_in_items items.old.items) }
     ensures none { (packets.new.items ≡ []) × (items.new.items ≡ []) }
+    ensures merging { merging.new ≡ merging.old }
 {
     let (places, _) = table.split_at_mut(blocks as usize);
-    bring_all(pool, places, out, packets, items);
+    bring_all(pool, places, merging, out, packets, items);
 }

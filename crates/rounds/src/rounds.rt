@@ -25,7 +25,7 @@ use crate::work::merge_packets;
 use block_pool::Pool;
 use core::mem::replace;
 use frags::Outcomes;
-use gro::{Item, Packet};
+use gro::{Item, Packet, RoundTable};
 use off_io::{Gate, Source, Who};
 use pcap_io::CaptureReader;
 use raw_block::Sole;
@@ -48,6 +48,7 @@ pub struct Rounds {
     // Memory alone.
     packets: VecDeque<Packet>,
     items: Vec<Item>,
+    table: RoundTable,
     budget: u32,
 }
 
@@ -62,7 +63,7 @@ impl Model for Rounds {
 
     ghost view = { λ r. record { home = home_of r.pool; blocks = r.pool.made; taken = r.pool.taken; budget = r.budget } };
 
-    ghost invariant = { λ r. (r.pool.made ≤ 65536) × (r.hold.items ≡ []) × (131 ≤ deque_capacity r.hold) × AllOpen r.places.items × (length r.places.items ≡ r.pool.made) × IsBare r.out × (r.pool.made ≤ r.out.spare + home_of r.pool) × (r.packets.items ≡ []) × (r.items.items ≡ []) };
+    ghost invariant = { λ r. (r.pool.made ≤ 65536) × (r.hold.items ≡ []) × (131 ≤ deque_capacity r.hold) × AllOpen r.places.items × (length r.places.items ≡ r.pool.made) × IsBare r.out × (r.pool.made ≤ r.out.spare + home_of r.pool) × (r.packets.items ≡ []) × (r.items.items ≡ []) × (r.table.runs ≡ []) };
 }
 
 impl Drop for Rounds {
@@ -75,12 +76,14 @@ impl Drop for Rounds {
             out,
             packets,
             items,
+            table,
             budget: _,
         } = self;
         close_places(places);
         out.settle();
         packets.destroy_empty();
         items.destroy_empty();
+        table.discard();
     }
 }
 
@@ -108,6 +111,21 @@ fn close_places(places: Vec<Place>)
         }
     }
     places.destroy_empty();
+}
+
+// The packets of a round of `budget`, and the table that merges them.
+fn round_lists(alloc: Global, budget: u32) -> Result<(VecDeque<Packet>, RoundTable), AllocError>
+    ensures packets { IfOk result (λ lists. lists.0.items ≡ []) }
+    ensures table { IfOk result (λ lists. lists.1.runs ≡ []) }
+{
+    let packets = VecDeque::with_capacity(alloc, budget as usize)?;
+    match RoundTable::make(alloc, budget) {
+        Ok(table) => Ok((packets, table)),
+        Err(error) => {
+            packets.destroy_empty();
+            Err(error)
+        }
+    }
 }
 
 // Outcomes with room for `n`.
@@ -142,14 +160,15 @@ impl Rounds {
                 return Err(error);
             }
         };
-        let packets = match VecDeque::with_capacity(alloc, budget as usize) {
-            Ok(packets) => packets,
+        let lists = match round_lists(alloc, budget) {
+            Ok(lists) => lists,
             Err(error) => {
                 close_places(places);
                 out.settle();
                 return Err(error);
             }
         };
+        let (packets, table) = lists;
         Ok(Rounds {
             alloc,
             pool,
@@ -158,6 +177,7 @@ impl Rounds {
             out,
             packets,
             items: Vec::new(alloc),
+            table,
             budget,
         })
     }
@@ -236,10 +256,11 @@ impl Rounds {
             blocks,
         } = round;
         gate.pass(Who::Worker(0), 0);
-        let merged = merge_packets(self.alloc, &mut packets, &mut self.out);
+        let mut items = replace(&mut self.items, Vec::new(self.alloc));
+        let merged = merge_packets(&mut self.table, &mut packets, &mut items, &mut self.out);
         gate.pass(Who::Worker(0), 1);
         match merged {
-            Ok(items) => {
+            Ok(()) => {
                 replace(&mut self.packets, packets).destroy_empty();
                 Ok(Worked { items, blocks })
             }
@@ -248,11 +269,13 @@ impl Rounds {
                     &mut self.pool,
                     &mut self.places,
                     blocks,
+                    &mut self.table,
                     &mut self.out,
                     &mut packets,
-                    &mut self.items,
+                    &mut items,
                 );
                 replace(&mut self.packets, packets).destroy_empty();
+                replace(&mut self.items, items).destroy_empty();
                 Err(error)
             }
         }
@@ -271,6 +294,7 @@ impl Rounds {
             &mut self.pool,
             &mut self.places,
             blocks,
+            &mut self.table,
             &mut self.out,
             &mut packets,
             &mut self.items,
@@ -288,6 +312,7 @@ impl Rounds {
             &mut self.pool,
             &mut self.places,
             blocks,
+            &mut self.table,
             &mut self.out,
             &mut self.packets,
             &mut items,

@@ -1,5 +1,5 @@
 //! Merges the packets of a round.
-ghost use Rattle.std.specs.Prelude.{◌≡◌, ℕ, ◌+◌, ◌≤◌, ◌++◌, [], List, length, map, IfOk, OnOk, OnErr};
+ghost use Rattle.std.specs.Prelude.{◌≡◌, ℕ, ◌+◌, ◌≤◌, ◌++◌, [], List, length, map, OnOk, OnErr};
 ghost use Rattle.frags.specs.Account.{Keeps, both, of_outcomes};
 ghost use Rattle.offload_model.specs.Merged.{merged_of};
 ghost use Rattle.offload_model.specs.Rounds.{runs_in};
@@ -13,7 +13,7 @@ ghost use Rattle.rounds.specs.Table.{IsBare};
 
 use frags::Outcomes;
 use gro::{Item, Packet, RoundTable};
-use std::alloc::{AllocError, Global};
+use std::alloc::AllocError;
 use std::collections::VecDeque;
 
 // The table receives the packets, the first one first. One that it has no memory for stands in front of the others again.
@@ -35,35 +35,38 @@ fn receive_all(table: &mut RoundTable, packets: &mut VecDeque<Packet>) -> Result
     Ok(())
 }
 
-/// What the runs of the packets come to, in the order of their first packets. Where memory is refused, all that isn't in
-/// `packets` any more was given back into `out`.
+/// What the runs of the packets come to, in the order of their first packets, into a list that is empty. The table holds nothing
+/// before and after. Where memory is refused, all that isn't in `packets` any more was given back into `out`.
 pub(crate) fn merge_packets(
-    alloc: Global,
+    table: &mut RoundTable,
     packets: &mut VecDeque<Packet>,
+    items: &mut Vec<Item>,
     out: &mut Outcomes,
-) -> Result<Vec<Item>, AllocError>
+) -> Result<(), AllocError>
+    requires table { table.old.runs ≡ [] }
+    requires empty { items.old.items ≡ [] }
     requires read { AreRead packets.old.items }
     requires numbers { (k : ℕ) × NumberedFrom k packets.old.items }
     requires few { counts_of packets.old.items ≤ 65536 }
     requires spare { counts_of packets.old.items ≤ out.old.spare }
-    ensures merged { IfOk result (λ items. map item_of items.items ≡ map merged_of (runs_in (map packet_of packets.old.items))) }
-    ensures ready { IfOk result (λ items. AreReady items.items) }
-    ensures kept { IfOk result (λ items. Keeps (of_packets packets.old.items) (of_items items.items)) }
-    ensures count { IfOk result (λ items. blocks_in_items items.items ≤ counts_of packets.old.items) }
+    ensures merged { OnOk result (map item_of items.new.items ≡ map merged_of (runs_in (map packet_of packets.old.items))) }
+    ensures ready { OnOk result (AreReady items.new.items) }
+    ensures kept { OnOk result (Keeps (of_packets packets.old.items) (of_items items.new.items)) }
+    ensures count { OnOk result (blocks_in_items items.new.items ≤ counts_of packets.old.items) }
     ensures all { OnOk result ((packets.new.items ≡ []) × (out.new ≡ out.old)) }
     ensures back { OnErr result (Keeps (both (of_packets packets.old.items) (of_outcomes out.old)) (both (of_packets packets.new.items) (of_outcomes out.new))) }
+    ensures none { OnErr result (items.new.items ≡ []) }
+    ensures table { table.new.runs ≡ [] }
     ensures places { out.old.spare + counts_of packets.new.items ≤ out.new.spare + counts_of packets.old.items }
 {
-    let mut table = RoundTable::make(alloc, packets.len() as u32)?;
-    if let Err(error) = receive_all(&mut table, packets) {
-        table.release(out);
+    table.start(packets.len() as u32)?;
+    if let Err(error) = receive_all(table, packets) {
+        table.clear(out);
         return Err(error);
     }
-    match table.finish() {
-        Ok(items) => Ok(items),
-        Err((table, error)) => {
-            table.release(out);
-            Err(error)
-        }
+    if let Err(error) = table.finish_into(items) {
+        table.clear(out);
+        return Err(error);
     }
+    Ok(())
 }

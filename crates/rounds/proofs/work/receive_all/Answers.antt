@@ -1,6 +1,4 @@
-use Rattle.std.proofs.Common.{◌≡◌, ℕ, ◌+◌, ◌∷◌, ◌++◌, [], List, ap, sym, subst, ◌∙◌, arith, length, refl}
-use Rattle.gro.specs.declared.packet.Packet.{Packet}
-use Rattle.gro.specs.Table.{Received}
+use Rattle.std.proofs.Common.{◌+◌, ◌∷◌, ◌++◌, [], ap, arith, length, refl}
 use Rattle.rounds.proofs.Working.{first_numbered, first_read, more_done}
 use Rattle.rounds.proofs.work.receive_all.Goals as goal
 

@@ -10,7 +10,8 @@ pub invariant_of-result : goal.invariant_of-result
 invariant_of-result g c =
     let r = c.round.inside in
     let ps = of_packets r.packets.items in
-    (round_keeps r.blocks ps (of_items c.in-Ok.items.items) c.in-Ok.ensures.kept (fresh_round r.blocks ps c.round.invariant.0), omega (arith, c.in-Ok.ensures.count, c.round.invariant.2))
+    let is = c.merge_packets-merged.new.items.items in
+    (round_keeps r.blocks ps (of_items is) c.in-Ok.ensures.kept (fresh_round r.blocks ps c.round.invariant.0), omega (arith, c.in-Ok.ensures.count, c.round.invariant.2))
 
 pub bring_round-requires-clause-round : goal.bring_round-requires-clause-round
 bring_round-requires-clause-round g c =
@@ -18,4 +19,4 @@ bring_round-requires-clause-round g c =
     let s = c.self.inside in
     let m = c.merge_packets-merged.new in
     let ps = of_packets r.packets.items in
-    round_back r.blocks ps (of_packets m.packets.items) (of_items s.items.items) s.out m.out c.self.invariant.5 (no_items s.items.items c.self.invariant.8) c.in-Err.ensures.back (fresh_round r.blocks ps c.round.invariant.0)
+    round_back r.blocks ps (of_packets m.packets.items) (of_items m.items.items) s.out m.out c.self.invariant.5 (no_items m.items.items c.in-Err.ensures.none) c.in-Err.ensures.back (fresh_round r.blocks ps c.round.invariant.0)
