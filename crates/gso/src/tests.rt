@@ -6,10 +6,12 @@ mod frames;
 
 use cutting::{Given, buffer, counted, cut, digest, header, home_of, merged};
 use frags::{Outcomes, PieceBuilder};
-use frames::{PLAIN, PLAIN_2194, PLAIN_65495, PLAIN_SEGMENTS, TAGGED_500, TUNNEL, TUNNEL_SEGMENTS};
+use frames::{
+    NESTED_500, PLAIN, PLAIN_2194, PLAIN_65495, PLAIN_SEGMENTS, TAGGED_500, TUNNEL, TUNNEL_SEGMENTS,
+};
 use pcap_io::OffHead;
-use raw_block::{FULL, Sole};
-use skb::Skb;
+use raw_block::{FULL, Released, Sole};
+use skb::{Returned, Skb};
 use std::alloc::Global;
 use std::process::Abort;
 use std::test::Fail;
@@ -115,23 +117,69 @@ fn hostile_records_are_refused(rt: HostRuntime) -> Result<(), Fail> {
 }
 
 // m, n, how many bytes the head has and each piece, the blocks, and the digest of all frames. From segment 65 on sums aren't kept.
-const TAGGED: [(u16, u16, usize, usize, usize, u32); 3] = [
+type Row = (u16, u16, usize, usize, usize, u32);
+
+const TAGGED: [Row; 3] = [
     (7, 72, 200, 33, 86, 2_051_142_430),
     (250, 2, 622, 1, 3, 355_341_419),
     (499, 2, 300, 200, 5, 2_352_762_784),
 ];
 
-#[test]
-fn frames_in_pieces_are_cut(rt: HostRuntime) -> Result<(), Fail> {
-    let alloc = rt.alloc();
-    let frame = counted(&rt, alloc, &TAGGED_500, 500);
-    for (m, n, of_head, of_piece, blocks, sum) in TAGGED {
+const NESTED: [Row; 3] = [
+    (7, 72, 200, 33, 89, 2_783_449_920),
+    (100, 5, 200, 200, 9, 3_270_548_043),
+    (201, 3, 700, 1, 4, 4_206_346_562),
+];
+
+fn check_rows<A: Abort>(rt: &A, alloc: Global, frame: &[u8], original: u32, rows: [Row; 3]) {
+    for (m, n, of_head, of_piece, blocks, sum) in rows {
         assert!(rt; of_head <= 1984 && 0 < of_piece && of_piece <= 1984);
-        let skb = buffer(&rt, alloc, frame.as_slice(), of_head, of_piece);
-        let given = cut(&rt, alloc, &merged(n, m, 0), skb, 634).expect(&rt, "lawful");
+        let skb = buffer(rt, alloc, frame, of_head, of_piece);
+        let given = cut(rt, alloc, &merged(n, m, 0), skb, original).expect(rt, "lawful");
         assert!(rt; is_whole(&given, usize::from(n), blocks));
         assert_eq!(rt; digest(given.bytes.as_slice()), sum);
     }
+}
+
+#[test]
+fn frames_in_pieces_are_cut(rt: HostRuntime) -> Result<(), Fail> {
+    let alloc = rt.alloc();
+    let tagged = counted(&rt, alloc, &TAGGED_500, 500);
+    check_rows(&rt, alloc, tagged.as_slice(), 634, TAGGED);
+    let nested = counted(&rt, alloc, &NESTED_500, 500);
+    check_rows(&rt, alloc, nested.as_slice(), 712, NESTED);
+    Ok(())
+}
+
+// The first 200 bytes, or all of fewer, are brought into a fresh head.
+fn pull_headers<A: Abort>(rt: &A, alloc: Global, skb: &mut Skb, out: &mut Outcomes) {
+    let spare = Sole::new(alloc).expect(rt, "no memory");
+    assert!(rt; skb.count() <= out.spare());
+    match skb.pull_up(skb.len().min(200), spare, out) {
+        Ok(Returned::Gave(Released::Left(receipt))) => out.keep_receipt(receipt),
+        Ok(Returned::Gave(Released::Last(block))) => out.keep_sole(block),
+        Ok(Returned::Unused(spare)) => out.keep_sole(spare),
+        Err((_, spare)) => out.keep_sole(spare),
+    }
+}
+
+#[test]
+fn frames_whose_headers_lie_in_pieces_are_cut_once_pulled_up(rt: HostRuntime) -> Result<(), Fail> {
+    let alloc = rt.alloc();
+    let mut out = Outcomes::new(alloc);
+    assert!(rt; out.reserve(40).is_ok());
+    let mut plain = buffer(&rt, alloc, &PLAIN, 0, 7);
+    pull_headers(&rt, alloc, &mut plain, &mut out);
+    let given = cut(&rt, alloc, &merged(2, 4, 0), plain, 72).expect(&rt, "lawful");
+    assert_eq!(rt; given.bytes.as_slice(), PLAIN_SEGMENTS.as_slice());
+    assert!(rt; is_whole(&given, 2, 3));
+    let frame = counted(&rt, alloc, &NESTED_500, 500);
+    let mut nested = buffer(&rt, alloc, frame.as_slice(), 20, 33);
+    pull_headers(&rt, alloc, &mut nested, &mut out);
+    let given = cut(&rt, alloc, &merged(5, 100, 0), nested, 712).expect(&rt, "lawful");
+    assert_eq!(rt; digest(given.bytes.as_slice()), 3_270_548_043);
+    assert!(rt; is_whole(&given, 5, 22));
+    assert_eq!(rt; home_of(out), 16);
     Ok(())
 }
 
