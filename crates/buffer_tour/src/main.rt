@@ -1,4 +1,5 @@
-//! A tour of a packet buffer's calls: `rt run` in this folder prints a line for each step.
+//! A tour of a packet buffer's calls, and of a merged frame that is cut into its packets: `rt run` in this folder prints a line for
+//! each step.
 //!
 //! The buffer is over blocks of a pool, and each of them has to come home. A buffer can't be dropped, and the check refuses a
 //! function that forgets one. So no function leaves by `?` with a buffer of its own in hand: it gives the buffer back first.
@@ -6,6 +7,8 @@
 
 ghost use Rattle.std.specs.Prelude.{◌≡◌, ◌+◌, ◌<◌, ◌≤◌, [], length};
 ghost use Rattle.skb.specs.SkbState.{buffer_size};
+
+mod segments;
 
 use anyhow::Error;
 use block_pool::Pool;
@@ -302,8 +305,10 @@ fn main(rt: HostRuntime) -> Result<(), Error> {
     };
     let toured = tour(&mut pool, rt.alloc(), &mut out, &mut lines);
     bring_home(out, &mut pool);
+    let cut = segments::tour(&mut pool, rt.alloc(), &mut lines);
     lines.printed?;
     let (home, made) = (pool.home(), pool.made());
     println!(rt; "all given back: {home} of {made} blocks are home")?;
-    toured
+    toured?;
+    cut
 }
