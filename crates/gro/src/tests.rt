@@ -1,6 +1,7 @@
 //! Runs of packets in buffers, by what they come to.
 ghost use Rattle.std.specs.Prelude.{◌≡◌, ◌+◌, ◌<◌, ◌≤◌, length};
 ghost use Rattle.gro.specs.Held.{IsHeld};
+ghost use Rattle.gro.specs.Places.{IsBare};
 ghost use Rattle.gro.specs.Runs.{IsRun};
 
 mod frames;
@@ -61,23 +62,26 @@ fn plain(index: u16, before: u32, flags: u8, payload: &[u8]) -> [u8; 54]
     head
 }
 
+// A block. Where one call is refused memory, the next one isn't.
+fn block(rt: &impl Abort, alloc: Global) -> Sole {
+    match Sole::new(alloc) {
+        Ok(block) => block,
+        Err(_) => Sole::new(alloc).expect(rt, "block"),
+    }
+}
+
 // A packet of these headers and this payload.
 fn packet(rt: &impl Abort, alloc: Global, number: u32, head: &[u8], payload: &[u8]) -> Packet
     ensures held { IsHeld result }
 {
-    let mut skb = Skb::new(
-        Sole::new(alloc).expect(rt, "block"),
-        64,
-        64,
-        Pieces::new(alloc),
-    );
+    let mut skb = Skb::new(block(rt, alloc), 64, 64, Pieces::new(alloc));
     skb.put_tail(head).expect(rt, "room");
     skb.put_tail(payload).expect(rt, "room");
     let original = skb.len() as u32;
     let packet = Packet {
         skb,
-        spare1: Sole::new(alloc).expect(rt, "block"),
-        spare2: Sole::new(alloc).expect(rt, "block"),
+        spare1: block(rt, alloc),
+        spare2: block(rt, alloc),
         sec: 1,
         frac: 2,
         original,
@@ -97,13 +101,33 @@ fn checked(rt: &impl Abort, packet: Packet) -> Packet
 
 // How many blocks are home once a buffer and what stands beside it are given back.
 fn freed(rt: &impl Abort, skb: Skb, mut outcomes: Outcomes) -> usize {
-    outcomes.reserve(skb.count()).expect(rt, "places");
+    reserve(rt, &mut outcomes, skb.count());
     skb.release(&mut outcomes);
+    let blocks = emptied(&mut outcomes);
+    outcomes.settle();
+    blocks
+}
+
+// Room for n more. Where one call is refused memory, the next one isn't.
+fn reserve(rt: &impl Abort, outcomes: &mut Outcomes, n: usize)
+    ensures { n ≤ outcomes.new.spare }
+{
+    if outcomes.reserve(n).is_err() {
+        outcomes.reserve(n).expect(rt, "places");
+    }
+}
+
+// The Soles that were given back are dropped, and the receipts closed: how many Soles there were.
+fn emptied(outcomes: &mut Outcomes) -> usize
+    ensures { IsBare outcomes.new }
+{
     let mut blocks: usize = 0;
     while let Some(_sole) = outcomes.pop_sole() {
         blocks = blocks.wrapping_add(1);
     }
-    outcomes.settle();
+    while let Some(receipt) = outcomes.pop_receipt() {
+        receipt.close();
+    }
     blocks
 }
 

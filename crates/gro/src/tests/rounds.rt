@@ -1,7 +1,7 @@
 //! Rounds of packets: which runs they come to, and that nothing is lost. Each call that is refused memory is called again.
-ghost use Rattle.std.specs.Prelude.{◌≤◌, length};
+ghost use Rattle.std.specs.Prelude.{◌≡◌, ◌≤◌, [], length};
 
-use super::{home, packet, plain, put16, spend};
+use super::{emptied, home, packet, plain, put16, reserve, spend};
 use crate::{Item, RoundTable};
 use frags::Outcomes;
 use std::alloc::Global;
@@ -19,15 +19,22 @@ fn in_flow(head: [u8; 54], flow: u16) -> [u8; 54] {
     other
 }
 
+// A table for so many packets. Where one call is refused memory, the next one isn't.
+fn table_for(rt: &impl Abort, alloc: Global, limit: u32) -> RoundTable
+    ensures { result.runs ≡ [] }
+{
+    match RoundTable::make(alloc, limit) {
+        Ok(table) => table,
+        Err(_) => RoundTable::make(alloc, limit).expect(rt, "table"),
+    }
+}
+
 // How many blocks are home once a table is given up.
 fn given_up(rt: &impl Abort, alloc: Global, table: RoundTable) -> usize {
     let mut outcomes = Outcomes::new(alloc);
-    outcomes.reserve(table.count()).expect(rt, "places");
+    reserve(rt, &mut outcomes, table.count());
     table.release(&mut outcomes);
-    let mut blocks: usize = 0;
-    while let Some(_sole) = outcomes.pop_sole() {
-        blocks = blocks.wrapping_add(1);
-    }
+    let blocks = emptied(&mut outcomes);
     outcomes.settle();
     blocks
 }
@@ -92,7 +99,7 @@ fn spent(rt: &impl Abort, items: Vec<Item>, rows: &[Said]) -> usize {
 fn come_to(rt: &impl Abort, alloc: Global, heads: &[[u8; 54]], payload: &[u8], rows: &[Said])
     requires { length heads.now ≤ 128 }
 {
-    let mut table = RoundTable::make(alloc, heads.len() as u32).expect(rt, "table");
+    let mut table = table_for(rt, alloc, heads.len() as u32);
     for i in 0..heads.len() {
         put(rt, alloc, &mut table, i as u32, &heads[i], payload);
     }
@@ -140,7 +147,7 @@ fn rows_of_packets(rt: HostRuntime) {
 fn two_flows_and_an_ack(rt: HostRuntime) {
     let alloc = rt.alloc();
     let payload = [9; 100];
-    let mut table = RoundTable::make(alloc, 6).expect(&rt, "table");
+    let mut table = table_for(&rt, alloc, 6);
     let heads = [
         plain(0, 0, 0x10, &payload),
         in_flow(plain(0, 0, 0x10, &payload), 1),
@@ -160,19 +167,142 @@ fn two_flows_and_an_ack(rt: HostRuntime) {
     assert_eq!(rt; spent(&rt, items, &rows), 18);
 }
 
-/// 64 flows in turn, two packets of each: 64 items, in the order of their first packets.
+// So many flows in turn, so many packets of each: an item for each flow, in the order of the first packets.
+fn flows_in_turn(rt: &impl Abort, alloc: Global, flows: u16, turns: u16)
+    requires { (flows ≤ 4096) × (turns ≤ 16) }
+{
+    let all = flows as u32 * turns as u32;
+    let mut table = table_for(rt, alloc, all);
+    for turn in 0..turns {
+        for flow in 0..flows {
+            let head = in_flow(plain(turn, turn as u32 * 4, 0x10, &[7; 4]), flow);
+            let number = turn as u32 * flows as u32 + flow as u32;
+            put(rt, alloc, &mut table, number, &head, &[7; 4]);
+        }
+    }
+    assert!(rt; !table.may_receive(all));
+    let mut items = finished(rt, alloc, table);
+    assert_eq!(rt; items.len(), flows as usize);
+    let mut blocks: usize = 0;
+    while let Some(item) = items.pop() {
+        assert_eq!(rt; (item.number as usize, item.n), (items.len(), turns));
+        blocks = blocks.wrapping_add(home(rt, item));
+    }
+    items.destroy_empty();
+    assert_eq!(rt; blocks, (all as usize).wrapping_mul(3));
+}
+
+/// 2,048 flows in turn, two packets of each, and 4,096 packets of as many flows.
 #[test]
 fn many_flows_in_turn(rt: HostRuntime) {
-    let alloc = rt.alloc();
-    let mut heads = [[0u8; 54]; 128];
-    let mut rows = [(0, 2, 4, 0); 64];
-    for i in 0..64 {
-        rows[i].0 = i as u32;
-        let flow = i as u16;
-        heads[i] = in_flow(plain(0, 0, 0x10, &[7; 4]), flow);
-        heads[i + 64] = in_flow(plain(1, 4, 0x10, &[7; 4]), flow);
+    flows_in_turn(&rt, rt.alloc(), 2048, 2);
+    flows_in_turn(&rt, rt.alloc(), 4096, 1);
+}
+
+// Two packets, of which the second has a payload that makes 0 the value of its TCP sum, and this in its place.
+fn summed(rt: &impl Abort, alloc: Global, sum: u16, rows: &[Said]) {
+    let payload = [9; 100];
+    let mut other = payload;
+    other[..2].copy_from_slice(&[0, 0]);
+    let mut next = plain(1, 100, 0x10, &other);
+    other[..2].copy_from_slice(&next[50..52]);
+    put16(&mut next, 50, sum);
+    let mut table = table_for(rt, alloc, 2);
+    put(
+        rt,
+        alloc,
+        &mut table,
+        0,
+        &plain(0, 0, 0x10, &payload),
+        &payload,
+    );
+    put(rt, alloc, &mut table, 1, &next, &other);
+    let items = finished(rt, alloc, table);
+    assert_eq!(rt; spent(rt, items, rows), 6);
+}
+
+/// A packet whose TCP sum is ffff where 0 is the value is alone: no frame that is put together has such a sum.
+#[test]
+fn a_sum_of_ffff(rt: HostRuntime) {
+    summed(&rt, rt.alloc(), 0, &[(0, 2, 100, 0)]);
+    summed(&rt, rt.alloc(), 0xffff, &[(0, 1, 0, 0), (1, 1, 0, 0)]);
+}
+
+// The next round of the table: two packets of a run and one that is alone. The memory of their outcomes serves the one after.
+fn serve(rt: &impl Abort, alloc: Global, table: &mut RoundTable)
+    requires { table.old.runs ≡ [] }
+    ensures { table.new.runs ≡ [] }
+{
+    started(rt, table, 3);
+    put(rt, alloc, table, 0, &plain(0, 0, 0x10, &[7; 4]), &[7; 4]);
+    put(rt, alloc, table, 1, &plain(1, 4, 0x10, &[7; 4]), &[7; 4]);
+    put(rt, alloc, table, 2, &plain(0, 0, 0x10, &[7; 5]), &[7; 5]);
+    let mut items = Vec::new(alloc);
+    finished_into(rt, table, &mut items);
+    assert_eq!(rt; items.len(), 2);
+    let mut blocks: usize = 0;
+    while let Some(item) = items.pop() {
+        blocks = blocks.wrapping_add(brought(rt, table, item));
     }
-    come_to(&rt, alloc, &heads, &[7; 4], &rows);
+    items.destroy_empty();
+    assert_eq!(rt; blocks, 9);
+}
+
+// The table's next round. Where one call is refused memory, the next one isn't.
+fn started(rt: &impl Abort, table: &mut RoundTable, limit: u32)
+    requires { table.old.runs ≡ [] }
+{
+    if table.start(limit).is_err() {
+        table.start(limit).expect(rt, "room");
+    }
+}
+
+// The table's items. Where they are refused, nothing has changed.
+fn finished_into(rt: &impl Abort, table: &mut RoundTable, items: &mut Vec<Item>)
+    requires { items.old.items ≡ [] }
+    ensures { table.new.runs ≡ [] }
+{
+    let before = table.count();
+    match table.finish_into(items) {
+        Ok(()) => {}
+        Err(_) => {
+            assert_eq!(rt; table.count(), before);
+            table.finish_into(items).expect(rt, "items");
+        }
+    }
+}
+
+// How many blocks are home once an item is spent. The table keeps the memory of its outcomes.
+fn brought(rt: &impl Abort, table: &mut RoundTable, item: Item) -> usize
+    ensures { table.new.runs ≡ table.old.runs }
+{
+    let Item {
+        skb,
+        number: _,
+        sec: _,
+        frac: _,
+        original: _,
+        n: _,
+        m: _,
+        modes: _,
+        mut outcomes,
+    } = item;
+    reserve(rt, &mut outcomes, skb.count());
+    skb.release(&mut outcomes);
+    let blocks = emptied(&mut outcomes);
+    table.keep(outcomes);
+    blocks
+}
+
+/// One table serves three rounds.
+#[test]
+fn a_table_lives_on(rt: HostRuntime) {
+    let alloc = rt.alloc();
+    let mut table = table_for(&rt, alloc, 2);
+    serve(&rt, alloc, &mut table);
+    serve(&rt, alloc, &mut table);
+    serve(&rt, alloc, &mut table);
+    table.discard();
 }
 
 /// 70 packets of 1,000 bytes: 65 have room in one frame's length field, and five follow.
@@ -192,7 +322,7 @@ fn a_frame_is_full(rt: HostRuntime) {
 #[test]
 fn given_back(rt: HostRuntime) {
     let alloc = rt.alloc();
-    let mut table = RoundTable::make(alloc, 2).expect(&rt, "table");
+    let mut table = table_for(&rt, alloc, 2);
     for i in 0..2u32 {
         let head = plain(i as u16, i * 4, 0x10, &[1; 4]);
         put(&rt, alloc, &mut table, i, &head, &[1; 4]);
