@@ -1,5 +1,5 @@
-//! Nanoseconds that calls take, a line for each: `steps frames 1000000`, and so with `blocks`, `buffers`, `pools`, `segmenting` and
-//! `taps`; `steps sums 1000000 1460` sums lists of that many bytes.
+//! Nanoseconds that calls take, a line for each: `steps frames 1000000`, and so with `blocks`, `buffers`, `merging`, `pools`,
+//! `segmenting` and `taps`; `steps sums 1000000 1460` sums lists of that many bytes.
 //!
 //! The scripts of `bench/` build and run it. With no such word, or no number of turns, it prints how it is called.
 #![tactic(auto)]
@@ -7,6 +7,7 @@
 mod blocks;
 mod buffers;
 mod frames;
+mod merging;
 mod pools;
 mod segmenting;
 mod sums;
@@ -23,6 +24,7 @@ fn main(rt: HostRuntime) -> Result<(), Error> {
             "frames" => return frames::measure(&rt, turns),
             "blocks" => return blocks::measure(&rt, turns),
             "buffers" => return buffers::measure(&rt, turns),
+            "merging" => return merging::measure(&rt, turns),
             "pools" => return pools::measure(&rt, turns),
             "segmenting" => return segmenting::measure(&rt, turns),
             "taps" => return windows::measure(&rt, turns),
@@ -35,7 +37,7 @@ fn main(rt: HostRuntime) -> Result<(), Error> {
         }
     }
     println!(rt;
-        "usage: steps frames|blocks|buffers|pools|segmenting|taps TURNS, or steps sums TURNS LENGTH"
+        "usage: steps frames|blocks|buffers|merging|pools|segmenting|taps TURNS, or steps sums TURNS LENGTH"
     )?;
     Ok(())
 }
