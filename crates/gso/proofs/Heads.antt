@@ -47,3 +47,8 @@ marks_kept (Merged c) b spare r k bs m =
     let e = handed_marks bs m c.skb.head k.0 k.1.0 in
     let g = (k.1.1 (every bs) m).1 in
     omega arith
+
+-- the same of equal states and answers
+pub account_moved : (a x b y : Work) (spare : SoleState) (r q : Result Cut (SoleState × AllocError)) → a ≡ x → b ≡ y → r ≡ q → NextAccount a spare b r → NextAccount x spare y q
+account_moved a x b y spare r q e f g h =
+    subst (λ (z : Work). NextAccount z spare y q) e (subst (λ (z : Work). NextAccount a spare z q) f (subst (NextAccount a spare b) g h))

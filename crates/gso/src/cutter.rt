@@ -71,6 +71,7 @@ impl Cutter {
         ensures count { NextCount self.old self.new result }
         ensures account { NextAccount self.old spare self.new result }
         ensures parts { is_sole (head_of self.old) ≡ false → Keeps (both (of_work self.old) (of_sole spare)) (both (of_work self.new) (of_next result)) }
+        ensures shared { is_sole (head_of self.old) ≡ false → is_sole (head_of self.new) ≡ false }
         ensures marks { KeepsMarks (both (of_work self.old) (of_sole spare)) (both (of_work self.new) (of_next result)) }
     {
         match &mut self.work {

@@ -1,9 +1,9 @@
 //! A merged frame, cut into its segments.
 
-ghost use Rattle.std.specs.Prelude.{◌≡◌, ◌+◌, ◌≤◌, [], ℕ, List, length, drop};
+ghost use Rattle.std.specs.Prelude.{◌≡◌, ◌+◌, ◌≤◌, [], ℕ, List, false, length, drop};
 ghost use Rattle.frags.specs.Account.{Keeps, both, of_outcomes};
 ghost use Rattle.frags.specs.Growth.{Grows};
-ghost use Rattle.skb.specs.SkbState.{buffer_bytes, buffer_least};
+ghost use Rattle.skb.specs.SkbState.{buffer_bytes, buffer_least, is_sole};
 ghost use Rattle.gso.specs.Planning.{IsSegmentsReady};
 ghost use Rattle.gso.specs.Merged.{MergedState, IsAt, GivesSegment, IsGiven};
 ghost use Rattle.gso.specs.Cutting.{NextCount, NextAccount, count_of, of_merged};
@@ -62,6 +62,7 @@ impl Merged {
         ensures next { (f : List ℕ) → IsAt f self.old → IsGiven f self.old spare self.new result }
         ensures count { NextCount (MergedWork self.old) (MergedWork self.new) result }
         ensures account { NextAccount (MergedWork self.old) spare (MergedWork self.new) result }
+        ensures shared { is_sole self.old.skb.head ≡ false → is_sole self.new.skb.head ≡ false }
     {
         if self.i == self.cut.n {
             return Ok(Cut::Done(spare));

@@ -1,8 +1,8 @@
 //! Bytes cut off as pieces, with no part worn.
 
-ghost use Rattle.std.specs.Prelude.{◌≡◌, ◌≢◌, ◌+◌, ◌≤◌, ◌++◌, [], length, IfOk, IfErr};
+ghost use Rattle.std.specs.Prelude.{◌≡◌, ◌≢◌, ◌+◌, ◌≤◌, ◌++◌, [], false, length, IfOk, IfErr};
 ghost use Rattle.frags.specs.PieceList.{bytes_of, size_of};
-ghost use Rattle.skb.specs.SkbState.{buffer_bytes, buffer_size, buffer_least, head_size};
+ghost use Rattle.skb.specs.SkbState.{buffer_bytes, buffer_size, buffer_least, head_size, is_sole};
 ghost use Rattle.gso.specs.Opening.{Enough, OpensAccount, KeepsPieces};
 
 use core::mem::replace;
@@ -23,6 +23,7 @@ pub(crate) fn cut_behind(skb: &mut Skb, at: usize) -> Result<Pieces, AllocError>
     ensures same { IfErr result (λ _. skb.new ≡ skb.old) }
     ensures count { IfOk result (λ cut. length cut ≤ length skb.old.rest + 1) }
     ensures account { IfOk result (λ cut. OpensAccount skb.old [] skb.new cut) }
+    ensures shared { is_sole skb.old.head ≡ false → is_sole skb.new.head ≡ false }
 {
     let _ = skb.len();
     match skb.split_at(at) {
@@ -51,6 +52,7 @@ pub(crate) fn open(skb: &mut Skb, pieces: &mut Pieces, at: usize) -> Result<(), 
     ensures same { IfErr result (λ _. (skb.new ≡ skb.old) × (pieces.new ≡ pieces.old)) }
     ensures count { length skb.new.rest + length pieces.new ≤ length skb.old.rest + length pieces.old + 1 }
     ensures account { OpensAccount skb.old pieces.old skb.new pieces.new }
+    ensures shared { is_sole skb.old.head ≡ false → is_sole skb.new.head ≡ false }
 {
     if skb.len() == at {
         return Ok(());

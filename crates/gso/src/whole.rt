@@ -1,9 +1,9 @@
 //! A frame that is given as it is, in a spare's block: an empty head, and all of it as pieces.
 
-ghost use Rattle.std.specs.Prelude.{◌≡◌, ◌+◌, ◌≤◌, ℕ, List, length, true};
+ghost use Rattle.std.specs.Prelude.{◌≡◌, ◌+◌, ◌≤◌, ℕ, List, length, false, true};
 ghost use Rattle.frags.specs.Growth.{Grows};
 ghost use Rattle.frags.specs.Account.{Keeps, both, of_outcomes};
-ghost use Rattle.skb.specs.SkbState.{buffer_least, of_buffer};
+ghost use Rattle.skb.specs.SkbState.{buffer_least, is_sole, of_buffer};
 ghost use Rattle.gso.specs.Whole.{WholeState};
 ghost use Rattle.gso.specs.Cutting.{IsLeft, IsNext, NextCount, NextAccount};
 ghost use Rattle.gso.specs.declared.cutter.Work.TheVariants.{Whole as WholeWork};
@@ -45,6 +45,7 @@ impl Whole {
         ensures next { (frames : List (List ℕ)) → IsLeft frames (WholeWork self.old) → IsNext frames (WholeWork self.old) spare (WholeWork self.new) result }
         ensures count { NextCount (WholeWork self.old) (WholeWork self.new) result }
         ensures account { NextAccount (WholeWork self.old) spare (WholeWork self.new) result }
+        ensures shared { is_sole self.old.skb.head ≡ false → is_sole self.new.skb.head ≡ false }
     {
         if !self.is_left {
             return Ok(Cut::Done(spare));

@@ -12,3 +12,13 @@ mod Recording
 mod Rounding
 -- packets that are merged
 mod Working
+-- items that are short enough to be written
+mod Small
+-- rounds that are merged
+mod Merging
+-- the blocks of a record whose packets are given one after another
+mod Spares
+-- the packets of a record, written one after another
+mod Packets
+-- what segmenting one record shows
+mod Moving

@@ -164,6 +164,7 @@ end_given a b old new used blocks front found none told =
       subst (λ (xs : List ℕ). found_at old xs ≡ ended None) (sym gives.0) (records_none old.file.order old.link old.number old.offset),
       subst (λ (xs : List ℕ). lengths_at old xs ≡ []) (sym gives.0) (lengths_by_record old).none,
       gives.1,
+      gives.0,
     )) at_none
 
 needs_more : (old mid : Place) (used blocks need : ℕ) (head : RecHead) (bytes left : List ℕ) → EntersBody old mid head → need ≡ used + need_of (head.captured - front_size old.link) → blocks < need

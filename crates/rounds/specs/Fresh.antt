@@ -1,5 +1,5 @@
 -- Blocks as they were taken for a round: each is there once, and with all of its weight.
-use Rattle.std.specs.Prelude.{ℕ, ◌≡◌, ◌+◌, ◌*◌, ◌<◌, ◌≤◌, List, [], ◌∷◌, Bool, false}
+use Rattle.std.specs.Prelude.{ℕ, ◌≡◌, ◌+◌, ◌*◌, ◌^◌, ◌<◌, ◌≤◌, List, [], ◌∷◌, Bool, false}
 use Rattle.std.specs.List.{AllByRecursion}
 use Rattle.ref_core.specs.WeightRule.{full_weight}
 use Rattle.raw_block.specs.Views.{Life, SoleState}
@@ -33,12 +33,13 @@ abbrev pub WholeFrom : ℕ → List Piece → Type 0
 WholeFrom k [] = Unit {0}
 WholeFrom k (p ∷ ps) = (p.part.weight ≡ full_weight) × (p.part.mark ≡ k) × WholeFrom (k + 1) ps
 
--- a packet that was read: its head is shared already, behind headroom, and no part has given anything away
+-- a packet that was read: its head is shared already, behind headroom, no part has given anything away, and its header was lawful
 pub record IsRead (p : Held) : Type 0 where
   pub held : IsHeld p
   pub shared : is_sole p.skb.head ≡ false
   pub least : buffer_least p.skb ≡ full_weight
   pub headroom : p.skb.from ≡ 64
+  pub original : p.original ≤ 2 ^ 31 + 11
 
 abbrev pub AreRead : List Held → Type 0
 AreRead ps = AllByRecursion IsRead ps

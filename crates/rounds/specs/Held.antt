@@ -1,6 +1,7 @@
--- How many blocks the buffers of a round's items have.
-use Rattle.std.specs.Prelude.{ℕ, ◌+◌, List, [], ◌∷◌, length}
-use Rattle.skb.specs.SkbState.{SkbState}
+-- How many blocks the buffers of a round's items have, and how long they are.
+use Rattle.std.specs.Prelude.{ℕ, ◌+◌, ◌^◌, ◌≤◌, List, [], ◌∷◌, length}
+use Rattle.std.specs.List.{AllByRecursion}
+use Rattle.skb.specs.SkbState.{SkbState, buffer_bytes}
 use Rattle.gro.specs.declared.item.Item.{Item}
 
 -- the blocks of a buffer
@@ -10,3 +11,10 @@ blocks_in b = length b.rest + 1
 abbrev pub blocks_in_items : List Item → ℕ
 blocks_in_items [] = 0
 blocks_in_items (i ∷ is) = blocks_in i.skb + blocks_in_items is
+
+-- the lengths of an item are such as a record may have
+abbrev pub IsSmall : Item → Type 0
+IsSmall i = (length (buffer_bytes i.skb) ≤ 262144) × (i.original ≤ 2 ^ 31 + 11)
+
+abbrev pub AreSmall : List Item → Type 0
+AreSmall items = AllByRecursion IsSmall items

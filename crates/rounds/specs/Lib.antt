@@ -1,8 +1,11 @@
+pub mod Cutting
 pub mod Data
 pub mod Fresh
 pub mod Held
 pub mod Marks
+pub mod Merging
 pub mod Reading
 pub mod Record
 pub mod RoundsState
+pub mod Segmenting
 pub mod Table

@@ -67,12 +67,17 @@ NeedsMore used blocks need place bytes left =
 -- one record, where `used` blocks are the round's already
 abbrev pub GivesRecord : ℕ → ℕ → Place → Place → List ℕ → Result Held Stop → List ℕ → List ℕ → Type 0
 GivesRecord used blocks old new front (Ok p) bytes left = Passes old new (record_of front p ∷ []) bytes left
-GivesRecord used blocks old new front (Err End) bytes left = (found_at old bytes ≡ ended None) × (lengths_at old bytes ≡ []) × (left ≡ [])
+GivesRecord used blocks old new front (Err End) bytes left = (found_at old bytes ≡ ended None) × (lengths_at old bytes ≡ []) × (left ≡ []) × (bytes ≡ [])
 GivesRecord used blocks old new front (Err (Malformed fault)) bytes left =
     (found_at old bytes ≡ ended (Some fault)) × (used + needed (judged_at old bytes) ≤ blocks) × HoldsNone used blocks old bytes left
 GivesRecord used blocks old new front (Err (PoolEmpty need)) bytes left = NeedsMore used blocks need old bytes left
 GivesRecord used blocks old new front (Err ReadFault) bytes left = HoldsNone used blocks old bytes left
 GivesRecord used blocks old new front (Err NoMemory) bytes left = Loses bytes left
+
+-- the record alone, of one that was read with its place
+abbrev pub record_in : Result (Held × ℕ) Stop → Result Held Stop
+record_in (Ok r) = Ok r.0
+record_in (Err stop) = Err stop
 
 -- one record was taken, and the next one may be
 pub record GoesOn (old new : Place) : Type 0 where

@@ -16,3 +16,9 @@ pub record RoundState : Type 0 where
 pub record WorkedState : Type 0 where
   pub items : List Item
   pub blocks : ℕ
+
+-- of what segments records: the same, and each record is a round of its own
+pub record SegmentState : Type 0 where
+  pub home : ℕ
+  pub blocks : ℕ
+  pub taken : ℕ

@@ -117,6 +117,7 @@ pub(crate) fn make_packet(
     requires marks { MarkedFrom first hold.old.items }
     requires count { length hold.old.items ≡ need_of len }
     requires range { first + 1 < 2 ^ 32 }
+    requires original { head.now.original ≤ 2 ^ 31 + 11 }
     ensures fresh { IsFresh first (need_of len) (of_packet result) }
     ensures count { count_of result ≡ need_of len }
     ensures read { IsRead result }

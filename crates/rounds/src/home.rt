@@ -46,8 +46,13 @@ fn bring_outcomes(
     merging.keep(outcomes);
 }
 
-// A packet is given back.
-fn bring_packet(pool: &mut Pool, places: &mut [Place], out: &mut Outcomes, packet: Packet)
+/// A packet is given back.
+pub(crate) fn bring_packet(
+    pool: &mut Pool,
+    places: &mut [Place],
+    out: &mut Outcomes,
+    packet: Packet,
+)
     requires may { MayCome (of_packet packet) pool.old places.old }
     requires bare { IsBare out.old }
     requires spare { count_of packet ≤ out.old.spare }

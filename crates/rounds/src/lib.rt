@@ -17,32 +17,50 @@
 //! - `home`: how many blocks are home after each call, as an equation; after `drop_round` and `end_round`, and where
 //!   `work_round` wants memory, all of the round.
 //! - `need`, `taken`, `most`: the blocks that are out are what the packets need, and `taken` rises by at least as many.
+//! - `given` of `merge_all`: what is written, and where it stops, is what the model makes of the capture's bytes (`merging` of
+//!   `offload_model`), whole rounds alone; a round that exceeds the blocks is told by its number and its need. After a fault, or want
+//!   of memory, it is that of the bytes that are gone, or a front of it. All blocks are home whatever the ending (`home`).
+//!
+//! And of [`SegmentRun`], where each record is a round:
+//!
+//! - `given` of `next`: what is written is the next record's segments, by the definition of the whole capture's; and for each fault
+//!   how much of the source is gone, and that nothing is written for a record that isn't whole, lawful and within the blocks.
+//! - `home`: all blocks are home after every answer.
+//! - `taken`: a record that was segmented took as many blocks as it needs.
 //!
 //! That they are home follows from the account alone (`specs/Marks.antt`): the blocks of a round are marked 0, 1, ..; of each mark one
 //! life is held, with all of its weight (`specs/Fresh.antt`), and no call makes weight up or loses it. All receipts of a life weigh
 //! less than the whole. So where a mark's Sole isn't home something would still be held, and nothing is.
 //!
-//! Memory is taken in [`Rounds::make`], and for the list of its pieces by a record of more than 1,984 bytes.
+//! Memory is taken in [`Rounds::make`] and [`SegmentRun::make`], and for lists of pieces: by a record of more than 1,984 bytes, and by
+//! each segment of a merged one.
 //!
 //! ```
 //! let mut rounds = Rounds::make(alloc, blocks, 2)?;
-//! let RoundRead { round, end } = rounds.read_round(&mut reader);
-//! let home = rounds.home();
-//! rounds.drop_round(round);
+//! let end = rounds.merge_all(&mut reader, &file, &mut sink, &gate);
 //! ```
 #![tactic(auto)]
 
 mod blocks;
 mod body;
+mod cut;
 mod home;
+mod memory;
+mod merge;
 mod reading;
 mod record;
 mod round;
 mod rounds;
+mod segment;
+#[cfg(test)]
+mod segment_tests;
 mod table;
 #[cfg(test)]
 mod tests;
 mod work;
+mod writing;
 
+pub use merge::MergeEnd;
 pub use round::{Round, RoundEnd, RoundRead, Worked};
 pub use rounds::Rounds;
+pub use segment::{Moved, SegFault, SegmentRun};

@@ -1,15 +1,16 @@
 //! Reads one record of a capture into blocks.
-ghost use Rattle.std.specs.Prelude.{◌≡◌, ◌+◌, ◌-◌, ◌≤◌, ◌^◌, [], min, length, IfOk, OnOk, OnErr, Err};
+ghost use Rattle.std.specs.Prelude.{◌≡◌, ◌+◌, ◌-◌, ◌≤◌, ◌^◌, [], false, min, length, IfOk, OnOk, OnErr, Err};
 ghost use Rattle.std.specs.VecDeque.{deque_capacity};
 ghost use Rattle.block_pool.specs.PoolState.{home};
 ghost use Rattle.skb.specs.SkbState.{buffer_bytes};
 ghost use Rattle.off_io.specs.Faults.{Rose};
 ghost use Rattle.off_io.specs.Told.{Told};
+ghost use Rattle.pcap_io.specs.Headers.{is_bad_original};
 ghost use Rattle.pcap_io.specs.Places.{IsReady, ReadsOn};
 ghost use Rattle.pcap_io.specs.Readers.{place_of, source_of, SameLoan};
 ghost use Rattle.gro.specs.Held.{of_packet, count_of};
 ghost use Rattle.rounds.specs.Fresh.{IsFresh, IsRead};
-ghost use Rattle.rounds.specs.Record.{front_size, GivesPacket, GivesRecord, GoesOn, IsStopOf};
+ghost use Rattle.rounds.specs.Record.{front_size, GivesPacket, GivesRecord, GoesOn, IsStopOf, record_in};
 ghost use Rattle.offload_model.specs.Need.{need_of};
 
 use crate::blocks::{blocks_of, make_packet, put_back, take_blocks};
@@ -56,6 +57,7 @@ fn read_packet<S: Source>(
 ) -> Result<Packet, Stop>
     requires len { len ≤ 262144 }
     requires whole { head.now.captured ≡ length front.old + len }
+    requires original { head.now.original ≤ 2 ^ 31 + 11 }
     requires body { (place_of reader.old).body ≡ head.now.captured }
     requires empty { hold.old.items ≡ [] }
     requires capacity { 131 ≤ deque_capacity hold.old }
@@ -71,6 +73,7 @@ fn read_packet<S: Source>(
     ensures size { IfOk result (λ p. length (buffer_bytes p.skb) ≡ len) }
     ensures read { IfOk result (λ p. IsRead p) }
     ensures number { IfOk result (λ p. p.number ≡ head.now.number) }
+    ensures original { IfOk result (λ p. p.original ≡ head.now.original) }
     ensures home { OnOk result (home pool.new + need_of len ≡ home pool.old) }
     ensures back { OnErr result (home pool.new ≡ home pool.old) }
     ensures made { pool.new.made ≡ pool.old.made }
@@ -99,10 +102,66 @@ fn read_packet<S: Source>(
 }
 
 /// Reads the next record: `front`, where its link type has bytes in front of a frame, and the frame into blocks with marks from
-/// `used` on.
+/// `used` on; and says where in the capture its header lies.
 ///
 /// It is judged in this order: its header, whether the round then needs more blocks than there are, its body. A record that
 /// isn't given leaves all blocks home that were.
+pub(crate) fn read_placed<S: Source>(
+    alloc: Global,
+    pool: &mut Pool,
+    hold: &mut VecDeque<Sole>,
+    reader: &mut CaptureReader<'_, S>,
+    front: &mut [u8],
+    used: u32,
+) -> Result<(Packet, u64), Stop>
+    requires ready { IsReady (place_of reader.old) }
+    requires front { length front.old ≡ front_size (place_of reader.old).link }
+    requires empty { hold.old.items ≡ [] }
+    requires capacity { 131 ≤ deque_capacity hold.old }
+    requires home { home pool.old + used ≡ pool.old.made }
+    requires made { pool.old.made ≤ 65536 }
+    ensures same_source { SameLoan reader.old reader.new }
+    ensures given { Told (S.left (source_of reader.old)) (S.left (source_of reader.new)) (GivesRecord used pool.old.made (place_of reader.old) (place_of reader.new) front.new (record_in result)) }
+    ensures next { OnOk result (GoesOn (place_of reader.old) (place_of reader.new)) }
+    ensures front { length front.new ≡ length front.old }
+    ensures number { IfOk result (λ r. r.0.number ≡ (place_of reader.old).number) }
+    ensures original { IfOk result (λ r. is_bad_original (place_of reader.old).link r.0.original ≡ false) }
+    ensures offset { IfOk result (λ r. r.1 ≡ (place_of reader.old).offset) }
+    ensures behind { IfOk result (λ r. (place_of reader.new).offset ≡ (place_of reader.old).offset + 16 + (length front.new + length (buffer_bytes r.0.skb))) }
+    ensures fresh { IfOk result (λ r. IsFresh used (count_of r.0) (of_packet r.0)) }
+    ensures read { IfOk result (λ r. IsRead r.0) }
+    ensures need { IfOk result (λ r. count_of r.0 ≡ need_of (length (buffer_bytes r.0.skb))) }
+    ensures home { IfOk result (λ r. home pool.new + count_of r.0 ≡ home pool.old) }
+    ensures taken { IfOk result (λ r. pool.new.taken ≡ min (pool.old.taken + count_of r.0) (2 ^ 64 - 1)) }
+    ensures back { OnErr result (home pool.new ≡ home pool.old) }
+    ensures most { OnErr result (pool.new.taken ≤ pool.old.taken + home pool.old) }
+    ensures least { pool.old.taken ≤ pool.new.taken }
+    ensures made { pool.new.made ≡ pool.old.made }
+    ensures empty { hold.new.items ≡ [] }
+    ensures capacity { deque_capacity hold.new ≡ deque_capacity hold.old }
+    ensures later { S.faults (source_of reader.old) ≤ S.faults (source_of reader.new) }
+    ensures failed { result ≡ Err Stop.ReadFault → Rose (S.faults (source_of reader.old)) (S.faults (source_of reader.new)) }
+{
+    let _ = pool.taken();
+    let found = match reader.next_head() {
+        Ok(found) => found,
+        Err(fault) => return Err(stop_of(fault)),
+    };
+    let Some(head) = found else {
+        return Err(Stop::End);
+    };
+    let len = head.captured - front.len() as u32;
+    let need = used + (blocks_of(len) + 2);
+    if need > pool.made() {
+        return Err(Stop::PoolEmpty { need });
+    }
+    match read_packet(alloc, pool, hold, reader, front, &head, len, used) {
+        Ok(packet) => Ok((packet, head.offset)),
+        Err(stop) => Err(stop),
+    }
+}
+
+/// The same, wherever it lies.
 pub(crate) fn read_record<S: Source>(
     alloc: Global,
     pool: &mut Pool,
@@ -136,21 +195,8 @@ pub(crate) fn read_record<S: Source>(
     ensures later { S.faults (source_of reader.old) ≤ S.faults (source_of reader.new) }
     ensures failed { result ≡ Err Stop.ReadFault → Rose (S.faults (source_of reader.old)) (S.faults (source_of reader.new)) }
 {
-    let _ = pool.taken();
-    let found = match reader.next_head() {
-        Ok(found) => found,
-        Err(fault) => return Err(stop_of(fault)),
-    };
-    let Some(head) = found else {
-        return Err(Stop::End);
-    };
-    let len = head.captured - front.len() as u32;
-    let need = used + (blocks_of(len) + 2);
-    if need > pool.made() {
-        return Err(Stop::PoolEmpty { need });
-    }
-    match read_packet(alloc, pool, hold, reader, front, &head, len, used) {
-        Ok(packet) => Ok(packet),
+    match read_placed(alloc, pool, hold, reader, front, used) {
+        Ok((packet, _)) => Ok(packet),
         Err(stop) => Err(stop),
     }
 }

@@ -36,7 +36,7 @@ pub struct Worked {
 impl Model for Worked {
     ghost use Rattle.std.specs.Prelude.{◌≤◌};
     ghost use Rattle.gro.specs.Table.{of_items};
-    ghost use Rattle.rounds.specs.Held.{blocks_in_items};
+    ghost use Rattle.rounds.specs.Held.{blocks_in_items, AreSmall};
     ghost use Rattle.rounds.specs.Marks.{IsRound};
     ghost use Rattle.rounds.specs.RoundsState.{WorkedState};
 
@@ -44,7 +44,7 @@ impl Model for Worked {
 
     ghost view = { λ w. record { items = w.items.items; blocks = w.blocks } };
 
-    ghost invariant = { λ w. IsRound w.blocks (of_items w.items.items) × (blocks_in_items w.items.items ≤ w.blocks) };
+    ghost invariant = { λ w. IsRound w.blocks (of_items w.items.items) × (blocks_in_items w.items.items ≤ w.blocks) × AreSmall w.items.items };
 }
 
 /// Why a round has no more records.

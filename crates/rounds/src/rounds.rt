@@ -1,7 +1,9 @@
 //! Rounds of records, over one pool of blocks.
 ghost use Rattle.std.specs.Prelude.{◌≡◌, ◌≢◌, ◌+◌, ◌-◌, ◌<◌, ◌≤◌, ◌^◌, [], length, map, min, IfOk, OnOk, OnErr};
+ghost use Rattle.std.specs.Io.KnownBytes.{Appends};
 ghost use Rattle.block_pool.specs.PoolState.{home};
-ghost use Rattle.off_io.specs.Faults.{Rose};
+ghost use Rattle.off_io.specs.Content.{AppendsFront};
+ghost use Rattle.off_io.specs.Faults.{HasCause, Rose};
 ghost use Rattle.off_io.specs.Told.{Told};
 ghost use Rattle.pcap_io.specs.declared.heads.Link.TheVariants.{Ethernet};
 ghost use Rattle.pcap_io.specs.Places.{IsReady};
@@ -13,28 +15,27 @@ ghost use Rattle.gro.specs.Held.{packet_of};
 ghost use Rattle.gro.specs.Items.{item_of};
 ghost use Rattle.gro.specs.Table.{AreReady};
 ghost use Rattle.rounds.specs.Fresh.{NumberedFrom};
+ghost use Rattle.rounds.specs.Merging.{worked_bytes};
 ghost use Rattle.rounds.specs.Reading.{GivesRound, PassesRound};
 ghost use Rattle.rounds.specs.RoundsState.{RoundsState};
-ghost use Rattle.rounds.specs.Table.{AllOpen, IsBare};
 
 use crate::home::bring_round;
+use crate::memory::{MOST, close_places, open_places, room_for};
 use crate::reading::read_records;
 use crate::round::{Round, RoundEnd, RoundRead, Worked};
 use crate::table::Place;
 use crate::work::merge_packets;
+use crate::writing::write_all_items;
 use block_pool::Pool;
 use core::mem::replace;
 use frags::Outcomes;
 use gro::{Item, Packet, RoundTable};
-use off_io::{Gate, Source, Who};
-use pcap_io::CaptureReader;
+use off_io::{Gate, Sink, Source, Who, WriteFault};
+use pcap_io::{CaptureReader, FileHead};
 use raw_block::Sole;
 use std::alloc::{AllocError, Global};
 use std::collections::VecDeque;
 use std::marker::Model;
-
-// The most blocks that a record needs.
-const MOST: usize = 131;
 
 /// A pool of blocks, and memory that each round uses again. Dropping it frees the blocks that are home.
 pub struct Rounds {
@@ -63,7 +64,7 @@ impl Model for Rounds {
 
     ghost view = { λ r. record { home = home_of r.pool; blocks = r.pool.made; taken = r.pool.taken; budget = r.budget } };
 
-    ghost invariant = { λ r. (r.pool.made ≤ 65536) × (r.hold.items ≡ []) × (131 ≤ deque_capacity r.hold) × AllOpen r.places.items × (length r.places.items ≡ r.pool.made) × IsBare r.out × (r.pool.made ≤ r.out.spare + home_of r.pool) × (r.packets.items ≡ []) × (r.items.items ≡ []) × (r.table.runs ≡ []) };
+    ghost invariant = { λ r. (r.pool.made ≤ 65536) × (r.hold.items ≡ []) × (131 ≤ deque_capacity r.hold) × AllOpen r.places.items × (length r.places.items ≡ r.pool.made) × IsBare r.out × (r.pool.made ≤ r.out.spare + home_of r.pool) × (r.packets.items ≡ []) × (r.items.items ≡ []) × (r.table.runs ≡ []) × (1 ≤ r.budget) };
 }
 
 impl Drop for Rounds {
@@ -87,32 +88,6 @@ impl Drop for Rounds {
     }
 }
 
-// A table with an open place for each of `n` marks.
-fn open_places(alloc: Global, n: u32) -> Result<Vec<Place>, AllocError>
-    ensures open { IfOk result (λ places. AllOpen places.items) }
-    ensures size { IfOk result (λ places. length places.items ≡ n) }
-{
-    let mut places = Vec::with_capacity(alloc, n as usize)?;
-    for _ in 0..n {
-        places.push_reserved(Place::Open);
-    }
-    Ok(places)
-}
-
-// A table whose places are all open is given up.
-fn close_places(places: Vec<Place>)
-    requires { AllOpen places.items }
-{
-    let mut places = places;
-    while let Some(place) = places.pop() {
-        match place {
-            Place::Open => {}
-            _ => unreachable!(),
-        }
-    }
-    places.destroy_empty();
-}
-
 // The packets of a round of `budget`, and the table that merges them.
 fn round_lists(alloc: Global, budget: u32) -> Result<(VecDeque<Packet>, RoundTable), AllocError>
     ensures packets { IfOk result (λ lists. lists.0.items ≡ []) }
@@ -128,26 +103,12 @@ fn round_lists(alloc: Global, budget: u32) -> Result<(VecDeque<Packet>, RoundTab
     }
 }
 
-// Outcomes with room for `n`.
-fn room_for(alloc: Global, n: usize) -> Result<Outcomes, AllocError>
-    ensures bare { IfOk result (λ out. IsBare out) }
-    ensures room { IfOk result (λ out. n ≤ out.spare) }
-{
-    let mut out = Outcomes::new(alloc);
-    match out.reserve(n) {
-        Ok(()) => Ok(out),
-        Err(error) => {
-            out.settle();
-            Err(error)
-        }
-    }
-}
-
 impl Rounds {
     /// Rounds of up to `budget` records over `blocks` blocks. All memory for blocks, for what comes back of them and for the
     /// packets of a round is taken here.
     pub fn make(alloc: Global, blocks: u32, budget: u32) -> Result<Rounds, AllocError>
-        requires { (1 ≤ blocks) × (blocks ≤ 65536) }
+        requires blocks { (1 ≤ blocks) × (blocks ≤ 65536) }
+        requires budget { (1 ≤ budget) × (budget ≤ 4096) }
         ensures { IfOk result (λ rounds. rounds ≡ record { home = blocks; blocks = blocks; taken = 0; budget = budget }) }
     {
         let hold = VecDeque::with_capacity(alloc, MOST)?;
@@ -212,6 +173,7 @@ impl Rounds {
         ensures need { result.round.blocks ≡ round_need (map packet_of result.round.packets) }
         ensures home { self.new.home + result.round.blocks ≡ self.old.blocks }
         ensures same { (self.new.blocks ≡ self.old.blocks) × (self.new.budget ≡ self.old.budget) }
+        ensures budget { 1 ≤ self.old.budget }
         ensures taken { min (self.old.taken + result.round.blocks) (2 ^ 64 - 1) ≤ self.new.taken }
         ensures most { self.new.taken ≤ self.old.taken + self.old.blocks }
         ensures later { S.faults (source_of reader.old) ≤ S.faults (source_of reader.new) }
@@ -279,6 +241,22 @@ impl Rounds {
                 Err(error)
             }
         }
+    }
+
+    /// Writes what a round came to, each item as a record of queue 0. The sink isn't flushed.
+    ///
+    /// `WriteFault` only where the sink's count of faults rose; a front of the round's output was then written.
+    pub fn write_round<K: Sink>(
+        &self,
+        worked: &Worked,
+        file: &FileHead,
+        sink: &mut K,
+    ) -> Result<(), WriteFault>
+        ensures ok { OnOk result (Appends (K.held sink.old) (K.held sink.new) (worked_bytes file.now.order worked.now)) }
+        ensures err { OnErr result (AppendsFront (K.held sink.old) (K.held sink.new) (worked_bytes file.now.order worked.now)) }
+        ensures cause { HasCause (K.faults sink.old) (K.faults sink.new) result }
+    {
+        write_all_items(sink, file, &worked.items)
     }
 
     /// Gives a round up. Its blocks go home, all of them.

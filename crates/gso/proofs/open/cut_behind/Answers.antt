@@ -1,5 +1,6 @@
-use Rattle.std.proofs.Common.{◌≡◌, ◌∙◌, true, false, [], Err, refl, sym, subst, arith}
+use Rattle.std.proofs.Common.{◌≡◌, ◌∙◌, true, false, [], Err, refl, sym, ap, subst, arith}
 use Rattle.frags.specs.declared.pieces.ShareFault.{ShareFault}
+use Rattle.skb.specs.SkbState.{SkbState, is_sole}
 use Rattle.skb.specs.Cut.{IsCut}
 use Rattle.gso.specs.Opening.{OpensAccount}
 use Rattle.gso.proofs.Weights.{open_head, open_rest, opened_enough, elim_lt, bare, front_kept, enough_least, buffer_not_worn}
@@ -27,3 +28,10 @@ unreachable-requires c =
 
 pub returns-in-Ok-clause-bare : goal.returns-in-Ok-clause-bare
 returns-in-Ok-clause-bare c = bare c.split_at.new.self c.args.at c.len-in-Ok-2.ensures.fits c.in-Ok.ensures.bytes.1 (front_kept c.args.skb.now c.split_at.new.self c.args.at c.in-Ok.cut c.requires.front c.in-Ok.ensures.split.2 c.in-Ok.ensures.split.3)
+
+pub returns-in-Ok-clause-shared : goal.returns-in-Ok-clause-shared
+returns-in-Ok-clause-shared c = λ part.
+    let s = c.in-Ok.ensures.split in
+    elim_lt (is_sole c.split_at.new.self.head ≡ false) c.args.at _
+    (λ l. ap (λ (z : SkbState). is_sole z.head) (s.2 l).1.1)
+    (λ l. ap (λ (z : SkbState). is_sole z.head) (s.3 l).0 ∙ part)

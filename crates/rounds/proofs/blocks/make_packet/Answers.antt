@@ -47,4 +47,5 @@ returns-clause-read c =
       shared = lent_is_part s b.head head;
       least = omega (arith, least, lent_weighs s b.head head);
       headroom = from;
+      original = c.requires.original;
     }

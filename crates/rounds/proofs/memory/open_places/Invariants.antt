@@ -1,6 +1,6 @@
 use Rattle.std.proofs.Common.{◌≡◌, ◌≤◌, length, vec_capacity}
 use Rattle.rounds.specs.Table.{AllOpen}
-use Rattle.rounds.proofs.rounds.open_places.Given as goal
+use Rattle.rounds.proofs.memory.open_places.Given as goal
 
 abbrev pub invariant-loop : goal.invariant-loop
 invariant-loop l = record {

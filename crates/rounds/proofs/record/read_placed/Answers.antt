@@ -1,6 +1,7 @@
 use Rattle.std.proofs.Common.{arith}
 use Rattle.rounds.proofs.Recording.{head_stop_given, end_given, empty_given, cut_given, whole_given, none_from}
-use Rattle.rounds.proofs.record.read_record.Goals as goal
+use Rattle.rounds.proofs.Small.{original_of}
+use Rattle.rounds.proofs.record.read_placed.Goals as goal
 
 pub returns-in-Err-clause-given : goal.returns-in-Err-clause-given
 returns-in-Err-clause-given g c =
@@ -25,3 +26,6 @@ returns-in-Err-read_packet-clause-given g c =
     let r = c.in-Err-read_packet in
     cut_given _ _ _ c.args.reader.now.place c.next_head.new.self.place c.read_packet.new.reader.place c.args.used c.args.pool.now.made c.read_packet.new.front c.in-Ok.found c.in-Some.head r.stop
     (omega (arith, c.blocks_of.ensures, c.requires.front, c.if-need-made.false, c.made.ensures.made)) c.in-Some.is c.in-Ok.ensures.enters c.in-Ok.ensures.given r.ensures.given
+
+pub read_packet-requires-clause-original : goal.read_packet-requires-clause-original
+read_packet-requires-clause-original g c = original_of c.args.reader.now.place.link c.in-Ok.found c.in-Some.head c.in-Some.is c.in-Ok.ensures.original

@@ -1,0 +1,317 @@
+-- Rounds that are merged, and how merging ends.
+use Rattle.std.proofs.Common.{◌≡◌, ◌+◌, ◌-◌, ◌^◌, ◌<◌, ◌≤◌, ◌⊎◌, inl, inr, ℕ, min, List, [], ◌∷◌, ◌++◌, Bool, true, false, Option, Some, None, refl, sym, ap, ◌∙◌, subst, length, map, take, arith, append_assoc, append-nil}
+use Rattle.std.specs.List.{flat_map}
+use Rattle.std.proofs.lemmas.Bool.{false≢true}
+use Rattle.std.proofs.lemmas.List.{length-map}
+use Rattle.std.specs.Io.KnownBytes.{Appends, Keeps}
+use Rattle.std.proofs.KnownBytes.{Appends-nil, Appends-trans, Appends-kept}
+use Rattle.off_io.specs.Content.{AppendsFront}
+use Rattle.off_io.specs.Told.{Told}
+use Rattle.off_io.proofs.Owing.{front_whole}
+use Rattle.off_io.proofs.Telling.{Told-then, Told-same, Told-weaker}
+use Rattle.net_bytes.specs.declared.order.Order.{Order}
+use Rattle.pcap_io.specs.declared.heads.FileHead.{FileHead}
+use Rattle.pcap_io.specs.declared.place.Place.{Place}
+use Rattle.pcap_io.specs.declared.faults.CapFault.{CapFault}
+use Rattle.pcap_io.specs.Capture.{Packet, Found, ended}
+use Rattle.pcap_io.specs.Laws.{frame_length}
+use Rattle.pcap_io.specs.Lengths.{lengths_at}
+use Rattle.pcap_io.specs.Places.{found_at}
+use Rattle.pcap_io.specs.Reading.{Loses}
+use Rattle.pcap_io.proofs.LengthLaws.{lengths_none, lengths_of_packets}
+use Rattle.pcap_io.proofs.RecordLaws.{records_none}
+use Rattle.offload_model.specs.Merged.{merged_of}
+use Rattle.offload_model.specs.Need.{need_of, needed, round_need}
+use Rattle.offload_model.specs.Passing.{Ending, Stopped, Stop, Nowhere, AtFault, AtRound, Passed, ReadFault, WriteFault, NoMemory, merging, Passes, IsNoRound, stop_of, flushes}
+use Rattle.offload_model.specs.Rounds.{runs_in, items_of}
+use Rattle.offload_model.specs.Steps.{GoesOn, ending_behind, behind, round_output}
+use Rattle.offload_model.specs.Written.{Options, record_of, record_bytes}
+use Rattle.offload_model.proofs.Needs.{needed_append, needs_add}
+use Rattle.offload_model.proofs.OneQueue.{one_queue}
+use Rattle.offload_model.proofs.Steps.{commands_pass_on, merging_goes_by_round}
+use Rattle.gro.specs.declared.packet.Packet.{Packet as Held}
+use Rattle.gro.specs.Held.{packet_of}
+use Rattle.gro.specs.Items.{item_of}
+use Rattle.round_write.proofs.Runs.{items_bytes}
+use Rattle.rounds.specs.Record.{in_front, Passes as PassesRecords}
+use Rattle.rounds.specs.Reading.{GivesRound, Holds, Exceeds}
+use Rattle.rounds.specs.RoundsState.{RoundsState, WorkedState}
+use Rattle.rounds.specs.Merging.{ending_of, options_of, worked_bytes, round_bytes, Fails, WritesLast, Ahead, EndsBehind, Steps, TakesAll}
+use Rattle.rounds.specs.declared.round.RoundEnd.{RoundEnd}
+use Rattle.rounds.specs.declared.round.RoundEnd.TheVariants as rounds
+use Rattle.rounds.specs.declared.merge.MergeEnd.{MergeEnd}
+use Rattle.rounds.specs.declared.merge.MergeEnd.TheVariants as ends
+use Rattle.rounds.specs.declared.merge.Step.{Step}
+use Rattle.rounds.specs.declared.merge.Step.TheVariants as steps
+
+-- ---- what is written
+
+pub worked_is : (order : Order) (ps : List Packet) (worked : WorkedState) → map item_of worked.items ≡ map merged_of (runs_in ps) → worked_bytes order worked ≡ round_bytes order ps
+worked_is order ps worked are = items_bytes order 0 (runs_in ps) worked.items are
+
+-- as the model has it
+output_is : (state : RoundsState) (order : Order) (ps : List Packet) → round_output (options_of state) order ps ≡ round_bytes order ps
+output_is state order ps =
+    let records = map (record_of 0) (items_of 1 0 ps) in
+    ap (flat_map (record_bytes order)) (append-nil (records ++ []) ∙ append-nil records)
+    ∙ ap (λ (runs : List (List Packet)). flat_map (record_bytes order) (map (record_of 0) runs)) (one_queue ps)
+
+-- a round that was written, and then the sink was flushed
+pub finished : (h h1 h2 : Option (List ℕ)) (bytes : List ℕ) (end result : MergeEnd) → Appends h h1 bytes → (result ≡ end) ⊎ (result ≡ ends.WriteFault) → Keeps h1 h2 → WritesLast h h2 bytes end result
+finished h h1 h2 bytes end result wrote (inl e) kept = inl (e, Appends-kept h h1 h2 bytes wrote kept)
+finished h h1 h2 bytes end result wrote (inr e) kept = inr (inl (e, front_whole h h2 bytes (Appends-kept h h1 h2 bytes wrote kept)))
+
+-- a round that wasn't written whole is no reason to flush
+pub fails_flush : (h h1 : Option (List ℕ)) (bytes : List ℕ) (end : MergeEnd) (X : Type 0) → Fails h h1 bytes end → flushes (ending_of end) ≡ true → X
+fails_flush h h1 bytes end X (inl f) e = absurd (false≢true (sym (ap (λ (x : MergeEnd). flushes (ending_of x)) f.0) ∙ e))
+fails_flush h h1 bytes end X (inr f) e = absurd (false≢true (sym (ap (λ (x : MergeEnd). flushes (ending_of x)) f.0) ∙ e))
+
+-- ---- rounds in a row
+
+pub ahead_none : (blocks : ℕ) (options : Options) (place : Place) (a h : Option (List ℕ)) (taken : ℕ) → Told a a (Ahead blocks options 0 place place h h taken taken)
+ahead_none blocks options place a h taken =
+    let passing = merging blocks options place in
+    Told-same a (Ahead blocks options 0 place place h h taken taken) (λ bytes. record {
+      gone = [];
+      done = [];
+      packets = [];
+      split = refl;
+      goes = (commands_pass_on passing passing 0 [] []).none;
+      found = λ tail. refl;
+      wrote = Appends-nil h;
+      took = omega arith;
+    })
+
+module _ (blocks : ℕ) (options : Options) (k : ℕ) (p0 p1 p2 : Place) (a b c h h1 h2 : Option (List ℕ)) (t0 t1 t2 : ℕ) where
+  one_ahead : (bytes rest left : List ℕ) → Ahead blocks options k p0 p1 h h1 t0 t1 bytes rest → Ahead blocks options 1 p1 p2 h1 h2 t1 t2 rest left → Ahead blocks options (k + 1) p0 p2 h h2 t0 t2 bytes left
+  one_ahead bytes rest left x y = record {
+    gone = x.gone ++ y.gone;
+    done = x.done ++ y.done;
+    packets = x.packets ++ y.packets;
+    split = x.split ∙ ap (λ (l : List ℕ). x.gone ++ l) y.split ∙ sym (append_assoc x.gone y.gone left);
+    goes = (commands_pass_on (merging blocks options p0) (merging blocks options p1) k x.gone x.done).more (merging blocks options p2) 1 y.gone y.done x.goes y.goes;
+    found = λ tail. ap (found_at p0) (append_assoc x.gone y.gone tail) ∙ x.found (y.gone ++ tail) ∙ ap (in_front x.packets) (y.found tail) ∙ (rw append_assoc refl);
+    wrote = Appends-trans h h1 h2 x.done y.done x.wrote y.wrote;
+    took = omega (arith, x.took, y.took, needs_add x.packets y.packets);
+  }
+
+  -- one round more
+  pub goes_then : Told a b (Ahead blocks options k p0 p1 h h1 t0 t1) → Told b c (Steps k blocks options p1 p2 h1 h2 t1 t2 steps.Goes) → Told a c (Ahead blocks options (k + 1) p0 p2 h h2 t0 t2)
+  goes_then first more =
+      Told-then a b c (Ahead blocks options k p0 p1 h h1 t0 t1) (Ahead blocks options 1 p1 p2 h1 h2 t1 t2) (Ahead blocks options (k + 1) p0 p2 h h2 t0 t2)
+      (λ bytes rest left x y. one_ahead bytes rest left x y) first more
+
+  one_end : (end : MergeEnd) (bytes rest left : List ℕ) → Ahead blocks options k p0 p1 h h1 t0 t1 bytes rest → EndsBehind k blocks options p1 h1 h2 end rest left → Passes (merging blocks options p0) h h2 (ending_of end) bytes left
+  one_end end bytes rest left x y =
+      let from = merging blocks options p0 in
+      let all = (commands_pass_on from (merging blocks options p1) k x.gone x.done).passes h h1 h2 y.0 rest left x.goes x.wrote y.2 in
+      subst (λ (l : List ℕ). Passes from h h2 (ending_of end) l left) (sym x.split) (subst (λ (e : Ending). Passes from h h2 e (x.gone ++ rest) left) (sym y.1) all)
+
+  -- and the end
+  pub ends_then : (end : MergeEnd) → Told a b (Ahead blocks options k p0 p1 h h1 t0 t1) → Told b c (Steps k blocks options p1 p2 h1 h2 t1 t2 (steps.Ends end)) → Told a c (Passes (merging blocks options p0) h h2 (ending_of end))
+  ends_then end first more =
+      Told-then a b c (Ahead blocks options k p0 p1 h h1 t0 t1) (EndsBehind k blocks options p1 h1 h2 end) (Passes (merging blocks options p0) h h2 (ending_of end))
+      (λ bytes rest left x y. one_end end bytes rest left x y) first more
+
+  one_taken : (bytes rest left : List ℕ) → Ahead blocks options k p0 p1 h h1 t0 t1 bytes rest → TakesAll t1 t2 p1 rest left → TakesAll t0 t2 p0 bytes left
+  one_taken bytes rest left x y =
+      let found = ap (found_at p0) x.split ∙ x.found rest in
+      let n = ap (λ (f : Found). round_need f.packets) found ∙ needs_add x.packets (found_at p1 rest).packets in
+      omega (arith, x.took, y, n)
+
+  -- the blocks of all
+  pub taken_then : Told a b (Ahead blocks options k p0 p1 h h1 t0 t1) → Told b c (TakesAll t1 t2 p1) → Told a c (TakesAll t0 t2 p0)
+  taken_then first more =
+      Told-then a b c (Ahead blocks options k p0 p1 h h1 t0 t1) (TakesAll t1 t2 p1) (TakesAll t0 t2 p0) (λ bytes rest left x y. one_taken bytes rest left x y) first more
+
+-- ---- one round
+
+-- the bytes that are gone come to this, and no round of them exceeds the blocks
+abbrev pub ComesTo : (List ℕ → Passed) → List ℕ → List ℕ → List ℕ → Type 0
+ComesTo passing out bytes left = (gone : List ℕ) × (bytes ≡ gone ++ left) × IsNoRound (passing gone).stop × ((passing gone).output ≡ out)
+
+no_round : (fault : Option CapFault) → IsNoRound (stop_of fault None)
+no_round None = tt
+no_round (Some fault) = tt
+
+module _ (blocks : ℕ) (state : RoundsState) (file : FileHead) (from to : Place) (round : List Held) (is_file : from.file ≡ file) (some : 1 ≤ state.budget) (fits : round_need (map packet_of round) ≤ blocks) where
+  abbrev passing : List ℕ → Passed
+  passing = merging blocks (options_of state) from
+
+  abbrev packets : List Packet
+  packets = map packet_of round
+
+  abbrev out : List ℕ
+  out = round_bytes file.order packets
+
+  out_is : round_output (options_of state) from.file.order packets ≡ out
+  out_is = ap (λ (f : FileHead). round_output (options_of state) f.order packets) is_file ∙ output_is state file.order packets
+
+  -- a last round, behind which this many more headers are lawful
+  last_by : (bytes more : List ℕ) (fault : Option CapFault) → length round + length more ≤ state.budget → round_need packets + needed more ≤ blocks
+      → found_at from bytes ≡ in_front packets (ended fault) → lengths_at from bytes ≡ map frame_length packets ++ more → passing bytes ≡ record { output = out; stop = stop_of fault None }
+  last_by bytes more fault few room found lens =
+      (merging_goes_by_round blocks (options_of state) from packets bytes (omega (arith, some))).last fault more (omega (arith, few, length-map round packet_of)) room found lens
+      ∙ ap (λ (l : List ℕ). record { output = l; stop = stop_of fault None }) out_is
+
+  -- a short round
+  last_is : (bytes : List ℕ) (fault : Option CapFault) → length round < state.budget → needed (lengths_at from bytes) ≤ blocks → found_at from bytes ≡ in_front packets (ended fault)
+      → passing bytes ≡ record { output = out; stop = stop_of fault None }
+  last_is bytes fault fewer room found =
+      let l = lengths_of_packets from bytes in
+      let more = l.0 in
+      let are : (found_at from bytes).packets ≡ packets = ap (λ (f : Found). f.packets) found ∙ append-nil packets in
+      let lens = l.1 ∙ ap (λ (ps : List Packet). map frame_length ps ++ more) are in
+      let n = ap needed lens ∙ needed_append (map frame_length packets) more in
+      last_by bytes more fault (omega (arith, fewer, l.2)) (omega (arith, n, room)) found lens
+
+  comes_to : (bytes left gone : List ℕ) (fault : Option CapFault) → bytes ≡ gone ++ left → passing gone ≡ record { output = out; stop = stop_of fault None } → ComesTo passing out bytes left
+  comes_to bytes left gone fault split is = (gone, split, subst IsNoRound (sym (ap (λ (x : Passed). x.stop) is)) (no_round fault), ap (λ (x : Passed). x.output) is)
+
+  holds_come : (bytes left : List ℕ) → length round < state.budget → Holds blocks from packets bytes left → ComesTo passing out bytes left
+  holds_come bytes left fewer holds =
+      let fault = (found_at from holds.0).fault in
+      let found : found_at from holds.0 ≡ in_front packets (ended fault) =
+      ap (λ (ps : List Packet). record { packets = ps; fault = fault }) (holds.2 ∙ sym (append-nil packets)) in
+      comes_to bytes left holds.0 fault holds.1 (last_is holds.0 fault fewer holds.3 found)
+
+  full_comes : (bytes left : List ℕ) → length round ≡ state.budget → PassesRecords from to packets bytes left → ComesTo passing out bytes left
+  full_comes bytes left full passes =
+      let gone = passes.0 in
+      let alone = append-nil gone in
+      let between = passes.2 [] in
+      let found = ap (found_at from) (sym alone) ∙ between.found ∙ ap (in_front packets) (records_none to.file.order to.link to.number to.offset) in
+      let lens = ap (lengths_at from) (sym alone) ∙ between.lengths ∙ ap (λ (l : List ℕ). map frame_length packets ++ l) (lengths_none to.file.order to.link to.number) in
+      comes_to bytes left gone None passes.1 (last_by gone [] None (omega (arith, full)) (omega (arith, fits)) found lens)
+
+  end_comes : (bytes left : List ℕ) → passing bytes ≡ record { output = out; stop = Nowhere } → left ≡ [] → ComesTo passing out bytes left
+  end_comes bytes left is none = comes_to bytes left bytes None (sym (append-nil bytes) ∙ ap (λ (l : List ℕ). bytes ++ l) (sym none)) is
+
+  module _ (k : ℕ) (a b h h1 : Option (List ℕ)) where
+    fails_end : (end : MergeEnd) (bytes left : List ℕ) → Fails h h1 out end → ComesTo passing out bytes left → EndsBehind k blocks (options_of state) from h h1 end bytes left
+    fails_end end bytes left (inl f) comes = (WriteFault, ap ending_of f.0, (comes.0, comes.1, subst (AppendsFront h h1) (sym comes.3) f.1))
+    fails_end end bytes left (inr f) comes = (NoMemory, ap ending_of f.0, (comes.0, comes.1, (0, Appends-kept h h h1 [] (Appends-nil h) f.1)))
+
+    -- the last round ended as it was to, or it failed
+    last_end : (end result : MergeEnd) (ending : Ending) (bytes left : List ℕ) → ending_of end ≡ ending_behind k ending → (Appends h h1 out → Passes passing h h1 ending bytes left) → ComesTo passing out bytes left
+        → WritesLast h h1 out end result → EndsBehind k blocks (options_of state) from h h1 result bytes left
+    last_end end result ending bytes left is passes comes (inl w) = (ending, ap ending_of w.0 ∙ is, passes w.1)
+    last_end end result ending bytes left is passes comes (inr f) = fails_end result bytes left f comes
+
+    pub end_given : (end : RoundEnd) (result : MergeEnd) → end ≡ rounds.End → length round < state.budget → WritesLast h h1 out ends.Done result
+        → Told a b (GivesRound blocks from to round end) → Told a b (EndsBehind k blocks (options_of state) from h h1 result)
+    end_given end result is fewer wrote told =
+        Told-weaker a b (GivesRound blocks from to round rounds.End) (EndsBehind k blocks (options_of state) from h h1 result)
+        (λ bytes left gives.
+        let all = last_is bytes None fewer gives.1 gives.0 in
+        last_end ends.Done result (Stopped Nowhere) bytes left refl
+        (λ w. (ap (λ (x : Passed). x.stop) all, gives.2, subst (Appends h h1) (sym (ap (λ (x : Passed). x.output) all)) w))
+        (end_comes bytes left all gives.2) wrote)
+        (subst (λ (e : RoundEnd). Told a b (GivesRound blocks from to round e)) is told)
+
+    pub malformed_given : (end : RoundEnd) (fault : CapFault) (result : MergeEnd) → end ≡ rounds.Malformed fault → length round < state.budget → WritesLast h h1 out (ends.Malformed fault) result
+        → Told a b (GivesRound blocks from to round end) → Told a b (EndsBehind k blocks (options_of state) from h h1 result)
+    malformed_given end fault result is fewer wrote told =
+        Told-weaker a b (GivesRound blocks from to round (rounds.Malformed fault)) (EndsBehind k blocks (options_of state) from h h1 result)
+        (λ bytes left gives.
+        let all = last_is bytes (Some fault) fewer gives.1 gives.0 in
+        last_end (ends.Malformed fault) result (Stopped (AtFault fault)) bytes left refl
+        (λ w. (ap (λ (x : Passed). x.stop) all, (gives.2.0, gives.2.1), subst (Appends h h1) (sym (ap (λ (x : Passed). x.output) all)) w))
+        (holds_come bytes left fewer gives.2) wrote)
+        (subst (λ (e : RoundEnd). Told a b (GivesRound blocks from to round e)) is told)
+
+    pub fault_given : (end : RoundEnd) (result : MergeEnd) → end ≡ rounds.ReadFault → length round < state.budget → WritesLast h h1 out ends.ReadFault result
+        → Told a b (GivesRound blocks from to round end) → Told a b (EndsBehind k blocks (options_of state) from h h1 result)
+    fault_given end result is fewer wrote told =
+        Told-weaker a b (GivesRound blocks from to round rounds.ReadFault) (EndsBehind k blocks (options_of state) from h h1 result)
+        (λ bytes left gives.
+        let comes = holds_come bytes left fewer gives in
+        last_end ends.ReadFault result ReadFault bytes left refl (λ w. (comes.0, comes.1, comes.2, subst (Appends h h1) (sym comes.3) w)) comes wrote)
+        (subst (λ (e : RoundEnd). Told a b (GivesRound blocks from to round e)) is told)
+
+    pub failed_given : (end : RoundEnd) (result : MergeEnd) → end ≡ rounds.Full → length round ≡ state.budget → Fails h h1 out result
+        → Told a b (GivesRound blocks from to round end) → Told a b (EndsBehind k blocks (options_of state) from h h1 result)
+    failed_given end result is full fails told =
+        Told-weaker a b (GivesRound blocks from to round rounds.Full) (EndsBehind k blocks (options_of state) from h h1 result)
+        (λ bytes left gives. fails_end result bytes left fails (full_comes bytes left full gives))
+        (subst (λ (e : RoundEnd). Told a b (GivesRound blocks from to round e)) is told)
+
+    exceeds_end : (need : ℕ) (bytes left : List ℕ) → length round < state.budget → Exceeds blocks need from packets bytes left → (passing bytes ≡ record { output = []; stop = AtRound 0 need }) × Loses bytes left
+    exceeds_end need bytes left fewer ex =
+        let len = ex.0 in
+        let more = ex.1.0 in
+        let is = ex.1.1 in
+        let stops = (merging_goes_by_round blocks (options_of state) from packets bytes (omega (arith, some))).exceeds len more (omega (arith, fewer, length-map round packet_of)) fits (omega (arith, is.1, is.2)) is.0 in
+        (stops ∙ ap (λ (n : ℕ). record { output = []; stop = AtRound 0 n }) (sym is.1), is.3)
+
+    empty_by : (need : ℕ) (result : MergeEnd) (bytes left : List ℕ) → (result ≡ ends.PoolEmpty k need) ⊎ (result ≡ ends.WriteFault) → Keeps h h1 → (passing bytes ≡ record { output = []; stop = AtRound 0 need }) × Loses bytes left
+        → EndsBehind k blocks (options_of state) from h h1 result bytes left
+    empty_by need result bytes left (inl e) kept ex =
+        let same : k ≡ k + 0 = omega arith in (
+          Stopped (AtRound 0 need),
+          ap ending_of e ∙ ap (λ (n : ℕ). Stopped (AtRound n need)) same,
+          (ap (λ (x : Passed). x.stop) ex.0, ex.1, subst (Appends h h1) (sym (ap (λ (x : Passed). x.output) ex.0)) (Appends-kept h h h1 [] (Appends-nil h) kept)),
+        )
+    empty_by need result bytes left (inr e) kept ex = (WriteFault, ap ending_of e, (ex.1.0, ex.1.1, (0, Appends-kept h h h1 [] (Appends-nil h) kept)))
+
+    pub empty_given : (end : RoundEnd) (need : ℕ) (result : MergeEnd) → end ≡ rounds.PoolEmpty need → length round < state.budget → (result ≡ ends.PoolEmpty k need) ⊎ (result ≡ ends.WriteFault) → Keeps h h1
+        → Told a b (GivesRound blocks from to round end) → Told a b (EndsBehind k blocks (options_of state) from h h1 result)
+    empty_given end need result is fewer answer kept told =
+        Told-weaker a b (GivesRound blocks from to round (rounds.PoolEmpty need)) (EndsBehind k blocks (options_of state) from h h1 result)
+        (λ bytes left gives. empty_by need result bytes left answer kept (exceeds_end need bytes left fewer gives))
+        (subst (λ (e : RoundEnd). Told a b (GivesRound blocks from to round e)) is told)
+
+    -- a full round was written
+    full_goes : (t t1 : ℕ) (bytes left : List ℕ) → length round ≡ state.budget → to.file ≡ from.file → min (t + round_need packets) (2 ^ 64 - 1) ≤ t1 → Appends h h1 out → PassesRecords from to packets bytes left
+        → Ahead blocks (options_of state) 1 from to h h1 t t1 bytes left
+    full_goes t t1 bytes left full same took wrote passes = record {
+      gone = passes.0;
+      done = out;
+      packets = packets;
+      split = passes.1;
+      goes = λ tail.
+          (merging_goes_by_round blocks (options_of state) from packets (passes.0 ++ tail) (omega (arith, some))).full to tail (omega (arith, full, length-map round packet_of)) fits same (passes.2 tail).found (passes.2 tail).lengths
+          ∙ ap (λ (l : List ℕ). behind 1 l (merging blocks (options_of state) to tail)) out_is;
+      found = λ tail. (passes.2 tail).found;
+      wrote = wrote;
+      took = took;
+    }
+
+    pub full_given : (end : RoundEnd) (t t1 : ℕ) → end ≡ rounds.Full → length round ≡ state.budget → to.file ≡ from.file → min (t + round_need packets) (2 ^ 64 - 1) ≤ t1 → Appends h h1 out
+        → Told a b (GivesRound blocks from to round end) → Told a b (Ahead blocks (options_of state) 1 from to h h1 t t1)
+    full_given end t t1 is full same took wrote told =
+        Told-weaker a b (GivesRound blocks from to round rounds.Full) (Ahead blocks (options_of state) 1 from to h h1 t t1)
+        (λ bytes left gives. full_goes t t1 bytes left full same took wrote gives)
+        (subst (λ (e : RoundEnd). Told a b (GivesRound blocks from to round e)) is told)
+
+-- there was no memory for a round
+pub memory_given : (k blocks : ℕ) (options : Options) (from to : Place) (round : List Held) (a b h : Option (List ℕ)) (end : RoundEnd) → end ≡ rounds.NoMemory → Told a b (GivesRound blocks from to round end) → Told a b (EndsBehind k blocks options from h h ends.NoMemory)
+memory_given k blocks options from to round a b h end is told =
+    Told-weaker a b Loses (EndsBehind k blocks options from h h ends.NoMemory) (λ bytes left loses. (NoMemory, refl, (loses.0, loses.1, (0, Appends-nil h))))
+    (subst (λ (e : RoundEnd). Told a b (GivesRound blocks from to round e)) is told)
+
+-- as many blocks were taken as the last packets need
+pub done_taken : (blocks t t1 : ℕ) (from to : Place) (round : List Held) (a b : Option (List ℕ)) (end : RoundEnd) → end ≡ rounds.End → min (t + round_need (map packet_of round)) (2 ^ 64 - 1) ≤ t1
+    → Told a b (GivesRound blocks from to round end) → Told a b (TakesAll t t1 from)
+done_taken blocks t t1 from to round a b end is took told =
+    Told-weaker a b (GivesRound blocks from to round rounds.End) (TakesAll t t1 from)
+    (λ bytes left gives.
+    let n = ap (λ (f : Found). round_need f.packets) gives.0 ∙ ap round_need (append-nil (map packet_of round)) in
+    omega (arith, took, n))
+    (subst (λ (e : RoundEnd). Told a b (GivesRound blocks from to round e)) is told)
+
+-- whether a round's end tells that it has fewer packets than it may have
+abbrev pub is_short : RoundEnd → Bool
+is_short rounds.Full = false
+is_short rounds.NoMemory = false
+is_short _ = true
+
+pub fewer_by : (end : RoundEnd) (n m : ℕ) → is_short end ≡ true → ((end ≡ rounds.Full → ⊥) → (end ≡ rounds.NoMemory → ⊥) → n < m) → n < m
+fewer_by end n m short fewer = fewer (λ e. false≢true (sym (ap is_short e) ∙ short)) (λ e. false≢true (sym (ap is_short e) ∙ short))
+
+-- a step of rounds that are as they were at first
+pub steps_as : (k : ℕ) (s s0 : RoundsState) (from to : Place) (a b h h1 : Option (List ℕ)) (t t1 : ℕ) (step : Step) → s.blocks ≡ s0.blocks → s.budget ≡ s0.budget
+    → Told a b (Steps k s.blocks (options_of s) from to h h1 t t1 step) → Told a b (Steps k s0.blocks (options_of s0) from to h h1 t t1 step)
+steps_as k s s0 from to a b h h1 t t1 step blocks budget told =
+    subst (λ (n : ℕ). Told a b (Steps k n (options_of s0) from to h h1 t t1 step)) blocks
+    (subst (λ (n : ℕ). Told a b (Steps k s.blocks (record { budget = n; queues = 1; taps = 0; snap = 64 }) from to h h1 t t1 step)) budget told)

@@ -1,0 +1,26 @@
+use Rattle.std.proofs.Common.{arith, subst, sym, ap, length}
+use Rattle.std.proofs.lemmas.Result.{err_from_is_err_and}
+use Rattle.off_io.proofs.Owing.{wrote_one_more, failed_at}
+use Rattle.gro.specs.declared.item.Item.{Item}
+use Rattle.gro.specs.Items.{item_of}
+use Rattle.round_write.specs.Records.{item_bytes}
+use Rattle.rounds.specs.Held.{IsSmall}
+use Rattle.rounds.proofs.Small.{small_at}
+use Rattle.rounds.proofs.writing.write_all_items.Goals as goal
+
+pub write_item-requires : goal.write_item-requires
+write_item-requires g c =
+    let i = c.item-item.result in
+    let small = subst IsSmall (sym c.item-item.is) (small_at c.args.items.now c.loop-item.item-index i (omega arith) c.requires.small) in
+    record { fits = record { captured = omega (arith, c.len.ensures.size, c.len.ensures.bytes, small.0); original = omega (arith, small.1) } }
+
+pub loop-item-preserved : goal.loop-item-preserved
+loop-item-preserved g c = (
+  wrote_one_more (λ (i : Item). item_bytes c.args.file.now.order 0 (item_of i)) c.args.items.now c.loop-item.item-index c.item-item.result (omega arith) c.item-item.is _ _ _ c.loop-item.invariant.0 c.in_ok-write_item.ensures.ok,
+  omega (arith, c.in_ok-write_item.ensures.cause.later),
+)
+
+pub returns-in_err-write_item-clause-err : goal.returns-in_err-write_item-clause-err
+returns-in_err-write_item-clause-err g c =
+    let p = err_from_is_err_and c.from_residual.result c.from_residual.ensures.1 in
+    rw p.1 (failed_at (λ (i : Item). item_bytes c.args.file.now.order 0 (item_of i)) c.args.items.now c.loop-item.item-index c.item-item.result (omega arith) c.item-item.is _ _ _ c.loop-item.invariant.0 c.in_err-write_item.ensures.err)

@@ -1,0 +1,91 @@
+-- How merging ends, what is written of a round, and what a round or a row of them says of the bytes that are gone.
+use Rattle.std.specs.Prelude.{◌≡◌, ◌⊎◌, ℕ, ◌+◌, ◌-◌, ◌<◌, ◌≤◌, ◌^◌, min, map, Option, List, ◌++◌}
+use Rattle.std.specs.List.{flat_map}
+use Rattle.std.specs.Io.KnownBytes.{Appends, Keeps}
+use Rattle.off_io.specs.Content.{AppendsFront}
+use Rattle.net_bytes.specs.declared.order.Order.{Order}
+use Rattle.pcap_io.specs.declared.place.Place.{Place}
+use Rattle.pcap_io.specs.Capture.{Packet}
+use Rattle.pcap_io.specs.Places.{IsReady, found_at}
+use Rattle.offload_model.specs.Need.{round_need}
+use Rattle.offload_model.specs.Passing.{Ending, Stopped, Nowhere, AtFault, AtRound, ReadFault, WriteFault, NoMemory, merging, Passes}
+use Rattle.offload_model.specs.Rounds.{runs_in}
+use Rattle.offload_model.specs.Steps.{GoesOn, ending_behind}
+use Rattle.offload_model.specs.Written.{Options, record_of, record_bytes}
+use Rattle.gro.specs.Items.{item_of}
+use Rattle.round_write.specs.Records.{item_bytes}
+use Rattle.rounds.specs.Record.{in_front}
+use Rattle.rounds.specs.RoundsState.{RoundsState, WorkedState}
+use Rattle.rounds.specs.declared.merge.MergeEnd.{MergeEnd}
+use Rattle.rounds.specs.declared.merge.MergeEnd.TheVariants as ends
+use Rattle.rounds.specs.declared.merge.Step.{Step}
+use Rattle.rounds.specs.declared.merge.Step.TheVariants as steps
+
+abbrev pub ending_of : MergeEnd → Ending
+ending_of ends.Done = Stopped Nowhere
+ending_of (ends.Malformed fault) = Stopped (AtFault fault)
+ending_of (ends.PoolEmpty round need) = Stopped (AtRound round need)
+ending_of ends.ReadFault = ReadFault
+ending_of ends.WriteFault = WriteFault
+ending_of ends.NoMemory = NoMemory
+
+-- in one queue, with no tap
+abbrev pub options_of : RoundsState → Options
+options_of rounds = record { budget = rounds.budget; queues = 1; taps = 0; snap = 64 }
+
+-- what is written of a round that was worked
+abbrev pub worked_bytes : Order → WorkedState → List ℕ
+worked_bytes order worked = flat_map (λ item. item_bytes order 0 (item_of item)) worked.items
+
+-- what is written of a round's packets
+abbrev pub round_bytes : Order → List Packet → List ℕ
+round_bytes order ps = flat_map (record_bytes order) (map (record_of 0) (runs_in ps))
+
+-- ---- a round that is written
+
+-- a round wasn't written whole: the sink failed, or there was no memory
+abbrev pub Fails : Option (List ℕ) → Option (List ℕ) → List ℕ → MergeEnd → Type 0
+Fails old new bytes end = ((end ≡ ends.WriteFault) × AppendsFront old new bytes) ⊎ ((end ≡ ends.NoMemory) × Keeps old new)
+
+-- the last round: it was written, and merging ends as it is to, or it wasn't
+abbrev pub WritesLast : Option (List ℕ) → Option (List ℕ) → List ℕ → MergeEnd → MergeEnd → Type 0
+WritesLast old new bytes end result = ((result ≡ end) × Appends old new bytes) ⊎ Fails old new bytes result
+
+-- ---- rounds
+
+-- The bytes that are gone are k rounds, whatever follows them: this was written of them, and as many blocks were taken as they need.
+pub record Ahead (blocks : ℕ) (options : Options) (k : ℕ) (from to : Place) (old new : Option (List ℕ)) (before now : ℕ) (bytes left : List ℕ) : Type 0 where
+  pub gone : List ℕ
+  pub done : List ℕ
+  pub packets : List Packet
+  pub split : bytes ≡ gone ++ left
+  pub goes : GoesOn (merging blocks options from) (merging blocks options to) k gone done
+  pub found : (tail : List ℕ) → found_at from (gone ++ tail) ≡ in_front packets (found_at to tail)
+  pub wrote : Appends old new done
+  pub took : min (before + round_need packets) (2 ^ 64 - 1) ≤ now
+
+-- from here on merging ends so, behind k rounds
+abbrev pub EndsBehind : ℕ → ℕ → Options → Place → Option (List ℕ) → Option (List ℕ) → MergeEnd → List ℕ → List ℕ → Type 0
+EndsBehind k blocks options from old new end bytes left =
+    (ending : Ending) × (ending_of end ≡ ending_behind k ending) × Passes (merging blocks options from) old new ending bytes left
+
+-- what a step says, behind k rounds
+abbrev pub Steps : ℕ → ℕ → Options → Place → Place → Option (List ℕ) → Option (List ℕ) → ℕ → ℕ → Step → List ℕ → List ℕ → Type 0
+Steps k blocks options from to old new before now steps.Goes bytes left = Ahead blocks options 1 from to old new before now bytes left
+Steps k blocks options from to old new before now (steps.Ends end) bytes left = EndsBehind k blocks options from old new end bytes left
+
+-- of the end that a step comes to
+abbrev pub IfEnds : Step → (MergeEnd → Type 0) → Type 0
+IfEnds steps.Goes P = Unit {0}
+IfEnds (steps.Ends end) P = P end
+
+-- as many blocks were taken as all packets need
+abbrev pub TakesAll : ℕ → ℕ → Place → List ℕ → List ℕ → Type 0
+TakesAll before now place bytes left = min (before + round_need (found_at place bytes).packets) (2 ^ 64 - 1) ≤ now
+
+-- the next round may be read
+pub record MovesOn (old new : Place) : Type 0 where
+  pub file : new.file ≡ old.file
+  pub link : new.link ≡ old.link
+  pub number : old.number < new.number
+  pub ready : IsReady new

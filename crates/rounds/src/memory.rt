@@ -1,0 +1,51 @@
+//! Memory that is kept from round to round.
+ghost use Rattle.std.specs.Prelude.{◌≡◌, ◌≤◌, length, IfOk};
+ghost use Rattle.rounds.specs.Table.{AllOpen, IsBare};
+
+use crate::table::Place;
+use frags::Outcomes;
+use std::alloc::{AllocError, Global};
+
+/// The most blocks that a record needs.
+pub(crate) const MOST: usize = 131;
+
+/// A table with an open place for each of `n` marks.
+pub(crate) fn open_places(alloc: Global, n: u32) -> Result<Vec<Place>, AllocError>
+    ensures open { IfOk result (λ places. AllOpen places.items) }
+    ensures size { IfOk result (λ places. length places.items ≡ n) }
+{
+    let mut places = Vec::with_capacity(alloc, n as usize)?;
+    for _ in 0..n {
+        places.push_reserved(Place::Open);
+    }
+    Ok(places)
+}
+
+/// A table whose places are all open is given up.
+pub(crate) fn close_places(places: Vec<Place>)
+    requires { AllOpen places.items }
+{
+    let mut places = places;
+    while let Some(place) = places.pop() {
+        match place {
+            Place::Open => {}
+            _ => unreachable!(),
+        }
+    }
+    places.destroy_empty();
+}
+
+/// Outcomes with room for `n`.
+pub(crate) fn room_for(alloc: Global, n: usize) -> Result<Outcomes, AllocError>
+    ensures bare { IfOk result (λ out. IsBare out) }
+    ensures room { IfOk result (λ out. n ≤ out.spare) }
+{
+    let mut out = Outcomes::new(alloc);
+    match out.reserve(n) {
+        Ok(()) => Ok(out),
+        Err(error) => {
+            out.settle();
+            Err(error)
+        }
+    }
+}
