@@ -1,5 +1,5 @@
 -- Rounds that are merged, and how merging ends.
-use Rattle.std.proofs.Common.{◌≡◌, ◌+◌, ◌-◌, ◌^◌, ◌<◌, ◌≤◌, ◌⊎◌, inl, inr, ℕ, min, List, [], ◌∷◌, ◌++◌, Bool, true, false, Option, Some, None, refl, sym, ap, ◌∙◌, subst, length, map, take, arith, append_assoc, append-nil}
+use Rattle.std.proofs.Common.{◌≡◌, ◌+◌, ◌-◌, ◌^◌, ◌<◌, ◌≤◌, ◌⊎◌, inl, inr, ℕ, min, List, [], ◌++◌, Bool, true, false, Option, Some, None, refl, sym, ap, ◌∙◌, subst, length, map, arith, append_assoc, append-nil}
 use Rattle.std.specs.List.{flat_map}
 use Rattle.std.proofs.lemmas.Bool.{false≢true}
 use Rattle.std.proofs.lemmas.List.{length-map}
@@ -21,10 +21,10 @@ use Rattle.pcap_io.specs.Reading.{Loses}
 use Rattle.pcap_io.proofs.LengthLaws.{lengths_none, lengths_of_packets}
 use Rattle.pcap_io.proofs.RecordLaws.{records_none}
 use Rattle.offload_model.specs.Merged.{merged_of}
-use Rattle.offload_model.specs.Need.{need_of, needed, round_need}
-use Rattle.offload_model.specs.Passing.{Ending, Stopped, Stop, Nowhere, AtFault, AtRound, Passed, ReadFault, WriteFault, NoMemory, merging, Passes, IsNoRound, stop_of, flushes}
+use Rattle.offload_model.specs.Need.{needed, round_need}
+use Rattle.offload_model.specs.Passing.{Ending, Stopped, Nowhere, AtFault, AtRound, Passed, ReadFault, WriteFault, NoMemory, merging, Passes, IsNoRound, stop_of, flushes}
 use Rattle.offload_model.specs.Rounds.{runs_in, items_of}
-use Rattle.offload_model.specs.Steps.{GoesOn, ending_behind, behind, round_output}
+use Rattle.offload_model.specs.Steps.{ending_behind, behind, round_output}
 use Rattle.offload_model.specs.Written.{Options, record_of, record_bytes}
 use Rattle.offload_model.proofs.Needs.{needed_append, needs_add}
 use Rattle.offload_model.proofs.OneQueue.{one_queue}

@@ -1,4 +1,4 @@
-use Rattle.std.proofs.Common.{◌≡◌, ◌∙◌, refl, arith}
+use Rattle.std.proofs.Common.{◌∙◌, refl, arith}
 use Rattle.rounds.specs.Merging.{options_of}
 use Rattle.rounds.specs.declared.merge.Step.TheVariants.{Goes, Ends}
 use Rattle.rounds.proofs.Merging.{ahead_none, goes_then, ends_then, taken_then, steps_as}

@@ -1,4 +1,4 @@
-use Rattle.std.proofs.Common.{◌≡◌, map, refl, subst, inl}
+use Rattle.std.proofs.Common.{map, refl, subst, inl}
 use Rattle.std.specs.Io.KnownBytes.{Appends}
 use Rattle.off_io.specs.Content.{AppendsFront}
 use Rattle.gro.specs.Held.{packet_of}

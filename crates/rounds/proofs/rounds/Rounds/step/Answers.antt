@@ -1,4 +1,4 @@
-use Rattle.std.proofs.Common.{◌≡◌, ap, arith, map}
+use Rattle.std.proofs.Common.{ap, arith}
 use Rattle.rounds.specs.RoundsState.{RoundsState}
 use Rattle.rounds.proofs.Merging.{full_given, failed_given, end_given, malformed_given, fault_given, empty_given, fewer_by, is_short}
 use Rattle.rounds.proofs.rounds.Rounds.step.Goals as goal
