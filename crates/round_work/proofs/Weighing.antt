@@ -1,0 +1,101 @@
+-- A packet's buffer after a clone was taken.
+use Rattle.std.proofs.Common.{◌≡◌, ℕ, suc, ◌+◌, ◌-◌, ◌*◌, ◌/◌, ◌^◌, ◌<◌, ◌≤◌, max, min, Bool, true, false, List, [], ◌∷◌, map, length, refl, sym, ap, ◌∙◌, subst, arith}
+use Rattle.std.specs.Prelude.{◌||◌, ◌==◌, Ok, Err}
+use Rattle.ref_core.specs.WeightRule.{full_weight}
+use Rattle.raw_block.specs.Views.{PartState}
+use Rattle.frags.specs.PieceList.{size_of, gift, less, kept, given, worn, least_weight, AsPart}
+use Rattle.frags.specs.declared.pieces.Piece.{Piece}
+use Rattle.frags.specs.declared.pieces.ShareFault.{ShareFault}
+use Rattle.frags.specs.declared.pieces.ShareFault.TheVariants.{Short, Worn, NoMemory}
+use Rattle.frags.specs.declared.holder.Holder.{Holder}
+use Rattle.frags.specs.declared.holder.Holder.TheVariants.{Sole, Part}
+use Rattle.skb.specs.SkbState.{SkbState, IsClone, buffer_bytes, buffer_least, buffer_size, head_least, head_worn, buffer_worn, is_sole}
+use Rattle.gro.specs.declared.packet.Packet.{Packet as Held}
+use Rattle.gro.specs.Held.{IsHeld}
+use Rattle.round_work.specs.Clones.{weight_after, IsAfter, IsNoMemory}
+
+-- a part that gives a clone away
+pub less_weighs : (k w : ℕ) → k < 8 → weight_after k ≤ w → weight_after (k + 1) ≤ w - gift w
+less_weighs k w few le =
+    let g : gift w ≡ w / 4096 = grind (arith, few, le) in
+    omega (arith, few, le, g)
+
+pub pieces_weigh : (k : ℕ) (ps : List Piece) → k < 8 → weight_after k ≤ least_weight ps → weight_after (k + 1) ≤ least_weight (map kept ps)
+pieces_weigh k [] few le = omega arith
+pieces_weigh k (p ∷ ps) few le =
+    let a = less_weighs k p.part.weight few (omega (arith, le)) in
+    let b = pieces_weigh k ps few (omega (arith, le)) in
+    omega (arith, a, b)
+
+pub size-kept : (ps : List Piece) → size_of (map kept ps) ≡ size_of ps
+size-kept [] = refl
+size-kept (p ∷ ps) = ap (λ z. (p.to - p.from) + z) (size-kept ps)
+
+-- where all parts weigh more than 1, none is worn
+pieces_fresh : (ps : List Piece) → 1 < least_weight ps → worn ps ≡ false
+pieces_fresh [] lt = refl
+pieces_fresh (p ∷ ps) lt =
+    let i = pieces_fresh ps (omega (arith, lt)) in
+    let h : 1 < p.part.weight = omega (arith, lt) in
+    grind (arith, i, h)
+
+head_fresh : (h : Holder) → 1 < head_least h → head_worn h ≡ false
+head_fresh (Sole s) lt = refl
+head_fresh (Part p) lt = grind (arith, lt)
+
+pub not_worn : (k : ℕ) (s : SkbState) → k < 8 → weight_after k ≤ buffer_least s → buffer_worn s ≡ false
+not_worn k s few le =
+    let a = head_fresh s.head (omega (arith, few, le)) in
+    let b = pieces_fresh s.rest (omega (arith, few, le)) in
+    grind (arith, a, b)
+
+-- ---- what a clone leaves
+
+-- the buffer is the same but for its weights
+pub record Remains (k : ℕ) (a b : SkbState) : Type 0 where
+  pub size : buffer_size b ≡ buffer_size a
+  pub range : (b.from ≡ a.from) × (b.to ≡ a.to)
+  pub count : length b.rest ≡ length a.rest
+  pub shared : is_sole b.head ≡ false
+  pub weighs : weight_after k ≤ buffer_least b
+
+length-kept : (ps : List Piece) → length (map kept ps) ≡ length ps
+length-kept [] = refl
+length-kept (p ∷ ps) = ap suc (length-kept ps)
+
+as_weight : (h : Holder) (p : PartState) → AsPart h p → head_least h ≡ p.weight
+as_weight (Sole s) p a = sym a.0
+as_weight (Part q) p a = ap (λ (z : PartState). z.weight) (sym a)
+
+pub remains : (k : ℕ) (a b c : SkbState) → k < 8 → weight_after k ≤ buffer_least a → IsClone a b (Ok c) → Remains (k + 1) a b
+remains k a b c few le h =
+    let p : PartState = h.1.0 in
+    let w = as_weight a.head p h.1.1.0 in
+    let x = less_weighs k p.weight few (omega (arith, le, w)) in
+    let y = pieces_weigh k a.rest few (omega (arith, le)) in
+    subst (Remains (k + 1) a) (sym h.1.1.1) (record {
+      size = ap (λ z. (a.to - a.from) + z) (size-kept a.rest);
+      range = (refl, refl);
+      count = length-kept a.rest;
+      shared = refl;
+      weighs = omega (arith, x, y);
+    })
+
+pub is_after : (k : ℕ) (p : Held) (b : SkbState) → Remains k p.skb b → buffer_bytes b ≡ buffer_bytes p.skb → IsAfter k p (record p { skb = b })
+is_after k p b r e = record {
+  same = ap (λ z. record { number = p.number; sec = p.sec; frac = p.frac; original = p.original; frame = z }) e;
+  count = omega (arith, r.count);
+  held = λ h. record {
+    size = omega (arith, r.size, h.size, ap length e);
+    front = omega (arith, r.size, r.range.0, r.range.1, h.front);
+    short = omega (arith, h.short, ap length e);
+  };
+  shared = r.shared;
+  weighs = r.weighs;
+}
+
+-- a clone of parts that have enough to give is refused for memory alone
+pub for_memory : (a b : SkbState) (f : ShareFault) → buffer_worn a ≡ false → IsClone a b (Err f) → IsNoMemory f
+for_memory a b (Short h n) fresh c = c
+for_memory a b Worn fresh c = absurd (grind (arith, sym c.0 ∙ fresh))
+for_memory a b NoMemory fresh c = tt

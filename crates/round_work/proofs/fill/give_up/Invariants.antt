@@ -1,0 +1,14 @@
+use Rattle.std.proofs.Common.{◌≡◌, ◌+◌, ◌≤◌, length}
+use Rattle.frags.specs.Account.{Keeps, both, of_outcomes}
+use Rattle.taps.specs.Clones.{of_clones}
+use Rattle.round_work.specs.Lanes.{of_tap, IsTapReady}
+use Rattle.round_work.proofs.fill.give_up.Given as goal
+
+abbrev pub invariant-loop-clone : goal.invariant-loop-clone
+invariant-loop-clone l = record {
+  ready : IsTapReady l.lane;
+  kept : Keeps (of_tap l.fn.lane) (of_tap l.lane);
+}
+
+abbrev pub decreases-loop-clone : goal.decreases-loop-clone
+decreases-loop-clone l = length l.lane.clones.items

@@ -1,0 +1,50 @@
+//! The work of one round: its packets spread over receive queues and merged there, and what taps read of them, each lane in a
+//! thread of its own.
+//!
+//! ```text
+//!   packets ── a clone of each ──> tap 0 ─┐
+//!      │    ── a clone of each ──> tap 1 ─┤ windows, as the packets arrived
+//!      │
+//!      └── by flow ──> queue 0 ───────────┤ what runs of packets come to
+//!                      queue 1 ───────────┘
+//! ```
+//!
+//! A lane is a queue or a tap, with what it has to do and then what it has done ([`QueueLane`], [`TapLane`]). [`work_packets`] takes
+//! the memory of all lanes, clones each packet for each tap, spreads the packets over the queues by their flows, and then runs all
+//! lanes as the leaves of one tree of joins. A lane holds room for all that its packets or clones may leave before it gets them, so
+//! giving back wants no memory.
+//!
+//! Proved, by the names of the clauses of `work_packets`, whatever the order in which the lanes run:
+//!
+//! - `lanes`: queue by queue, the items are what the maximal runs of its flows come to, in the order of their first packets;
+//!   `windows`: tap by tap, the texts are its windows of the packets as they arrived.
+//! - `records`: the records that are written of these, queue by queue and then tap by tap, are those of the round in what merging
+//!   writes.
+//! - `kept`: nothing is lost, whether all work was done or memory was refused; `count`: the queues hold no more blocks and parts
+//!   than the packets did; `clones`: no clone is left.
+//! - `ready`, `weigh`: each item's first bytes lie in its head, a block is free beside it, and its parts have enough weight to be cut.
+//!
+//! Only tested: that lanes run at the same time, that each passes the gate before its work and after it, and that memory suffices
+//! where there is some.
+//!
+//! ```
+//! let plan = Plan { queues: 4, taps: 1, snap: 64 };
+//! match work_packets(&rt, alloc, &mut packets, &plan, &NoGate) {
+//!     Ok(lanes) => write(lanes),
+//!     Err((lanes, _)) => give_back(packets, lanes),
+//! }
+//! ```
+#![tactic(auto)]
+
+mod clones;
+mod fill;
+mod lanes;
+mod merge;
+mod plan;
+mod round;
+mod share;
+mod work;
+
+pub use lanes::{Lanes, QueueLane, TapLane};
+pub use plan::Plan;
+pub use round::work_packets;
