@@ -13,7 +13,7 @@
 ghost use Rattle.std.specs.Prelude.{◌≡◌, ◌++◌, ◌+◌, ◌≤◌, codes, decimal, length};
 ghost use Rattle.arrayvec.specs.ArrayString.{array_string_len};
 ghost use Rattle.off_io.specs.Content.{AppendsFront};
-ghost use Rattle.status_log.specs.Lines.{Logs, malformed_line, no_memory_line, read_fault_line, usage_line, write_fault_line};
+ghost use Rattle.status_log.specs.Lines.{Logs, malformed_line, no_memory_line, pool_empty_line, read_fault_line, usage_line, write_fault_line};
 
 #[cfg(test)]
 mod tests;
@@ -81,6 +81,31 @@ pub fn log_malformed<L: Sink>(log: &mut L, kind: &str, offset: u64, number: u64)
     ensures later { L.faults log.old ≤ L.faults log.new }
 {
     let line = malformed_text(kind, offset, number);
+    log_line(log, line.as_str());
+}
+
+#[tactic(auto, unfolding(crate::specs::Lines::pool_empty_line))]
+fn pool_empty_text(round: u64, need: u32, blocks: u32) -> Line
+    ensures { result.bytes ≡ pool_empty_line round need blocks }
+{
+    let mut line = Line::new();
+    line.push_str("pool empty: round ");
+    push_number(&mut line, round);
+    line.push_str(" needs ");
+    push_number(&mut line, u64::from(need));
+    line.push_str(" of ");
+    push_number(&mut line, u64::from(blocks));
+    line.push_str(" blocks\n");
+    line
+}
+
+/// Logs that a round needs more blocks than there are: its number, its need, and the blocks.
+pub fn log_pool_empty<L: Sink>(log: &mut L, round: u64, need: u32, blocks: u32)
+    ensures line { Logs (L.held log.old) (L.held log.new) (L.faults log.old) (L.faults log.new) (pool_empty_line round need blocks) }
+    ensures front { AppendsFront (L.held log.old) (L.held log.new) (pool_empty_line round need blocks) }
+    ensures later { L.faults log.old ≤ L.faults log.new }
+{
+    let line = pool_empty_text(round, need, blocks);
     log_line(log, line.as_str());
 }
 

@@ -1,6 +1,8 @@
 //! The lines, byte for byte, in logs that take them whole, byte by byte, or fail.
 
-use crate::{log_malformed, log_no_memory, log_read_fault, log_usage, log_write_fault};
+use crate::{
+    log_malformed, log_no_memory, log_pool_empty, log_read_fault, log_usage, log_write_fault,
+};
 use off_io::MemSink;
 use std::test::Fail;
 
@@ -10,6 +12,8 @@ fn lines_of_the_log(rt: HostRuntime) -> Result<(), Fail> {
     let want = "usage: offload merge, segment, check or make, with options\n\
         malformed: ShortHeader at 0 in record 0\n\
         malformed: ShortRecordHeader at 18446744073709551615 in record 4294967296\n\
+        pool empty: round 0 needs 6 of 3 blocks\n\
+        pool empty: round 18446744073709551615 needs 4294967295 of 65536 blocks\n\
         read fault\n\
         write fault\n\
         no memory\n";
@@ -18,6 +22,8 @@ fn lines_of_the_log(rt: HostRuntime) -> Result<(), Fail> {
         log_usage(&mut log);
         log_malformed(&mut log, "ShortHeader", 0, 0);
         log_malformed(&mut log, "ShortRecordHeader", u64::MAX, 1 << 32);
+        log_pool_empty(&mut log, 0, 6, 3);
+        log_pool_empty(&mut log, u64::MAX, u32::MAX, 65536);
         log_read_fault(&mut log);
         log_write_fault(&mut log);
         log_no_memory(&mut log);
