@@ -38,6 +38,7 @@ fn main(rt: HostRuntime) -> ExitCode {
     };
     let mut source = StdSource::new(input);
     let mut sink = StdSink::new(output);
+    let mut engine = None;
     let status = run(
         rt.alloc(),
         &words,
@@ -45,6 +46,7 @@ fn main(rt: HostRuntime) -> ExitCode {
         &mut sink,
         &mut log,
         &NoGate,
+        &mut engine,
     );
     ExitCode::from(status.code())
 }

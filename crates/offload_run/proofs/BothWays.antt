@@ -14,11 +14,12 @@ use Rattle.offload_model.specs.Captured.{AreCaptured, AreLawful}
 use Rattle.offload_model.proofs.Captured.{number_small, captures_are_captured}
 use Rattle.offload_model.specs.Tested.{segmented_of}
 use Rattle.offload_model.specs.CaptureLaws.{BringsBack}
+use Rattle.offload_model.specs.PassingLaws.{written_of}
 use Rattle.offload_model.proofs.ComesBack.{captures_come_back, records_are_few}
 use Rattle.offload_run.specs.Laws.{EveryFlowComesBack}
-use Rattle.offload_run.specs.Output.{options, merged}
+use Rattle.offload_run.specs.Output.{options}
 
-small_take : (n : ℕ) (f : List ℕ) → InBytes f → InBytes (take n f)
+pub small_take : (n : ℕ) (f : List ℕ) → InBytes f → InBytes (take n f)
 small_take n f s k = elim (cases_lt k n) [
   | inl l ↦ subst (λ b. b < 256) (sym (get_or-take n f k 0 l)) (s k)
   | inr l ↦ subst (λ b. b < 256) (sym (get_or_past (take n f) k 0 (omega (arith, length-take n f)))) (omega arith)
@@ -34,7 +35,7 @@ every_flow_comes_back budget given room bytes header =
     let front : InBytes (take 24 given) = small_take 24 given bytes in
     let captured : AreCaptured ps = captures_are_captured given bytes in
     let lawful : AreLawful (options budget) = record { budget = room; some = omega arith; queues = omega arith; taps = omega arith } in
-    let is : merged budget given ≡ written head (options budget) ps
+    let is : written_of (options budget) given ≡ written head (options budget) ps
     = ap (λ (r : Option CapKind). if is_some r then [] else written head (options budget) ps) header in
     subst (λ xs. BringsBack ps (reads Ethernet (segmented_of xs))) (sym is)
     (captures_come_back head (options budget) ps

@@ -1,9 +1,7 @@
-mod Packets
-mod PartRound
+mod Behind
+mod Segmenting
+mod Used
 mod Makings
-mod Outputs
-mod Rounding
-mod Numbered
-mod Whole
+mod BackAgain
+mod PlainWords
 mod BothWays
-mod Statuses

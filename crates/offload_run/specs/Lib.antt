@@ -1,8 +1,10 @@
 pub mod Output
-pub mod Reading
+pub mod Ending
+pub mod RunAnswers
+pub mod Engines
+pub mod Segmenting
 pub mod Making
-pub mod Merging
 pub mod Codes
 pub mod Log
-pub mod Segmenting
+pub mod PlainWords
 pub mod Laws

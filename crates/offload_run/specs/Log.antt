@@ -1,6 +1,6 @@
 -- The line that the log gets of a status.
 use Rattle.std.specs.Prelude.{ℕ, List, [], codes}
-use Rattle.status_log.specs.Lines.{malformed_line, no_memory_line, read_fault_line, usage_line, write_fault_line}
+use Rattle.status_log.specs.Lines.{malformed_line, no_memory_line, pool_empty_line, read_fault_line, usage_line, write_fault_line}
 use Rattle.pcap_io.specs.declared.faults.CapKind.{CapKind}
 use Rattle.pcap_io.specs.declared.faults.CapKind.TheVariants as kinds
 use Rattle.offload_run.specs.declared.status.Status.{Status}
@@ -24,6 +24,7 @@ abbrev pub log_line : Status → List ℕ
 log_line statuses.Ok = []
 log_line statuses.Usage = usage_line
 log_line (statuses.Malformed fault) = malformed_line (kind_name fault.kind) fault.offset fault.number
+log_line (statuses.PoolEmpty round need blocks) = pool_empty_line round need blocks
 log_line statuses.ReadFault = read_fault_line
 log_line statuses.WriteFault = write_fault_line
 log_line statuses.NoMemory = no_memory_line

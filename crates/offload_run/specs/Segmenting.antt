@@ -1,24 +1,29 @@
--- What `segment` says of each answer.
-use Rattle.std.specs.Prelude.{ℕ, List, Bool, Option}
-use Rattle.segment_run.specs.declared.end.End.{End}
-use Rattle.segment_run.specs.declared.end.End.TheVariants as ends
-use Rattle.segment_run.specs.Segmenting.{SegmentAnswers}
+-- The records that were segmented so far.
+use Rattle.std.specs.Prelude.{◌≡◌, ℕ, ◌+◌, ◌-◌, ◌^◌, ◌≤◌, min, List, ◌++◌, Option, Some, ◌⊎◌}
+use Rattle.std.specs.Io.KnownBytes.{Appends}
+use Rattle.pcap_io.specs.declared.place.Place.{Place}
+use Rattle.pcap_io.specs.Capture.{Packet}
+use Rattle.pcap_io.specs.Places.{found_at}
+use Rattle.offload_model.specs.Passing.{segmenting}
+use Rattle.offload_model.specs.Steps.{GoesOn, ending_behind, in_front}
+use Rattle.rounds.specs.declared.segment.SegFault.{SegFault}
+use Rattle.rounds.specs.Segmenting.{ending_of as fault_ending}
 use Rattle.offload_run.specs.declared.status.Status.{Status}
-use Rattle.offload_run.specs.declared.status.Status.TheVariants as statuses
+use Rattle.offload_run.specs.declared.status.Status.TheVariants.{WriteFault}
+use Rattle.offload_run.specs.Ending.{ending_of}
+use Rattle.offload_run.specs.Engines.{records_need}
 
--- the status that an end of segmenting is answered by
-abbrev pub status_of : End → Status
-status_of ends.Done = statuses.Ok
-status_of (ends.Malformed fault) = statuses.Malformed fault
-status_of ends.ReadFault = statuses.ReadFault
-status_of ends.WriteFault = statuses.WriteFault
-status_of ends.NoMemory = statuses.NoMemory
+-- the bytes that are gone are k records, whatever follows them, and their segments were written
+abbrev pub Segmented : ℕ → ℕ → Place → Place → Option (List ℕ) → Option (List ℕ) → List ℕ → List ℕ → Type 0
+Segmented blocks k from to old new bytes left =
+    (gone : List ℕ) × (done : List ℕ) × (bytes ≡ gone ++ left) × GoesOn (segmenting blocks from) (segmenting blocks to) k gone done × Appends old new done
 
--- what each status says of the bytes that were given
-abbrev pub SegmentStatus : Option (List ℕ) → Option (List ℕ) → Bool → Type 0 → Status → List ℕ → List ℕ → Type 0
-SegmentStatus old new is_flushed untouched statuses.Ok given left = SegmentAnswers old new is_flushed untouched ends.Done given left
-SegmentStatus old new is_flushed untouched (statuses.Malformed fault) given left = SegmentAnswers old new is_flushed untouched (ends.Malformed fault) given left
-SegmentStatus old new is_flushed untouched statuses.Usage given left = ⊥
-SegmentStatus old new is_flushed untouched statuses.ReadFault given left = SegmentAnswers old new is_flushed untouched ends.ReadFault given left
-SegmentStatus old new is_flushed untouched statuses.WriteFault given left = SegmentAnswers old new is_flushed untouched ends.WriteFault given left
-SegmentStatus old new is_flushed untouched statuses.NoMemory given left = SegmentAnswers old new is_flushed untouched ends.NoMemory given left
+-- and they took at least as many blocks as they need
+abbrev pub TookThem : ℕ → ℕ → Place → Place → List ℕ → List ℕ → Type 0
+TookThem old new from to bytes left =
+    (gone : List ℕ) × (rs : List Packet) × (bytes ≡ gone ++ left) × ((tail : List ℕ) → found_at from (gone ++ tail) ≡ in_front rs (found_at to tail))
+    × (min (old + records_need rs) (2 ^ 64 - 1) ≤ new)
+
+-- behind k records one is at fault, and the status says so, or the last flush failed
+abbrev pub GivesUp : ℕ → SegFault → Status → Type 0
+GivesUp k fault status = (ending_of status ≡ Some (ending_behind k (fault_ending fault))) ⊎ (status ≡ WriteFault)

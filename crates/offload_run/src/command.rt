@@ -5,28 +5,35 @@ ghost use Rattle.off_io.specs.Told.{Told};
 ghost use Rattle.offload_words.specs.Commands.{command_of, HasRanges};
 ghost use Rattle.status_log.specs.Lines.{Logs};
 ghost use Rattle.offload_run.specs.Making.{Makes};
-ghost use Rattle.offload_run.specs.Merging.{Answers};
+ghost use Rattle.offload_run.specs.RunAnswers.{Answers, AreBlocksOf, FlowsBack};
+ghost use Rattle.offload_run.specs.Engines.{HasRun};
 ghost use Rattle.offload_run.specs.Log.{log_line};
 
-use crate::Status;
 use crate::logging::write_log;
 use crate::make::run_make;
-use crate::merge::merge_capture;
+use crate::merge::run_merge;
 use crate::segment::run_segment;
+use crate::{Engine, Status};
 use off_io::{Gate, Sink, Source};
 use offload_words::{Command, WordsFault, parse_words};
 use std::alloc::Global;
 
 // Runs a command.
-fn run_command<S: Source, K: Sink>(
+fn run_command<S: Source, K: Sink, G: Gate>(
     alloc: Global,
     command: Command,
     source: &mut S,
     sink: &mut K,
+    gate: &G,
+    engine: &mut Option<Engine>,
 ) -> Status
-    requires { HasRanges command }
+    requires ranges { HasRanges command }
+    requires engine { engine.old ≡ None }
     ensures given { Told (S.left source.old) (S.left source.new) (Answers command (K.held sink.old) (K.held sink.new) (K.is_flushed sink.new) (sink.new ≡ sink.old) result) }
     ensures made { Makes command (K.held sink.old) (K.held sink.new) (K.is_flushed sink.new) (source.new ≡ source.old) result }
+    ensures blocks { AreBlocksOf command result }
+    ensures flows { Told (S.left source.old) (S.left source.new) (FlowsBack command) }
+    ensures engine { result ≡ Status.Ok → HasRun command engine.new (S.left source.old) (S.left source.new) }
     ensures not_usage { result ≡ Status.Usage → ⊥ }
     ensures later { S.faults source.old ≤ S.faults source.new }
     ensures later_sink { K.faults sink.old ≤ K.faults sink.new }
@@ -34,31 +41,37 @@ fn run_command<S: Source, K: Sink>(
     ensures write { result ≡ Status.WriteFault → Rose (K.faults sink.old) (K.faults sink.new) }
 {
     match command {
-        Command::Merge(options) => merge_capture(alloc, options, source, sink),
-        Command::Segment => run_segment(alloc, source, sink),
+        Command::Merge(options) => run_merge(alloc, options, source, sink, gate, engine),
+        Command::Segment(options) => run_segment(alloc, options, source, sink, engine),
         Command::Make(options) => run_make(options, sink),
     }
 }
 
 // Runs the command that the words ask for, without its line in the log.
-fn run_words<S: Source, K: Sink>(
+fn run_words<S: Source, K: Sink, G: Gate>(
     alloc: Global,
     words: &[String],
     source: &mut S,
     sink: &mut K,
+    gate: &G,
+    engine: &mut Option<Engine>,
 ) -> Status
+    requires engine { engine.old ≡ None }
     ensures usage { result ≡ Status.Usage → command_of (map string_bytes words.now) ≡ None }
     ensures no_command { command_of (map string_bytes words.now) ≡ None → (result ≡ Status.Usage) ⊎ (result ≡ Status.NoMemory) }
     ensures untouched { command_of (map string_bytes words.now) ≡ None → (source.new ≡ source.old) × (sink.new ≡ sink.old) }
     ensures given { IfSome (command_of (map string_bytes words.now)) (λ command. Told (S.left source.old) (S.left source.new) (Answers command (K.held sink.old) (K.held sink.new) (K.is_flushed sink.new) (sink.new ≡ sink.old) result)) }
     ensures made { IfSome (command_of (map string_bytes words.now)) (λ command. Makes command (K.held sink.old) (K.held sink.new) (K.is_flushed sink.new) (source.new ≡ source.old) result) }
+    ensures blocks { IfSome (command_of (map string_bytes words.now)) (λ command. AreBlocksOf command result) }
+    ensures flows { IfSome (command_of (map string_bytes words.now)) (λ command. Told (S.left source.old) (S.left source.new) (FlowsBack command)) }
+    ensures engine { IfSome (command_of (map string_bytes words.now)) (λ command. result ≡ Status.Ok → HasRun command engine.new (S.left source.old) (S.left source.new)) }
     ensures later { S.faults source.old ≤ S.faults source.new }
     ensures later_sink { K.faults sink.old ≤ K.faults sink.new }
     ensures read { result ≡ Status.ReadFault → Rose (S.faults source.old) (S.faults source.new) }
     ensures write { result ≡ Status.WriteFault → Rose (K.faults sink.old) (K.faults sink.new) }
 {
     match parse_words(alloc, words) {
-        Ok(command) => run_command(alloc, command, source, sink),
+        Ok(command) => run_command(alloc, command, source, sink, gate, engine),
         Err(WordsFault::Usage) => Status::Usage,
         Err(WordsFault::NoMemory) => Status::NoMemory,
     }
@@ -66,29 +79,39 @@ fn run_words<S: Source, K: Sink>(
 
 /// Runs the command that the words ask for, the program's name before it, and logs how it ended. `merge` reads a capture
 /// of Ethernet frames from the source and writes its records to the sink; `segment` reads an offload capture and writes the
-/// packets that its records stand for; `make` reads nothing and writes a generated capture (clause `made`).
+/// packets that its records stand for; `make` reads nothing and writes a generated capture (clause `made`). The one worker
+/// of `merge` passes the gate.
 ///
 /// `Usage` exactly where the words are none of the command set, want of memory aside: then nothing is read or written, and
-/// the counts of faults of the source and the sink stay as they are. `Ok` and `Malformed` exactly as the capture ends,
-/// where neither the source nor the sink fails and memory suffices. `ReadFault` and `WriteFault` only where the count of
-/// faults of the source, of the sink, rose in this call. At `Malformed` and `ReadFault` the output of all whole records
-/// before is in the sink, so a sink that fails before that is answered first, by `WriteFault`.
+/// the counts of faults of the source and the sink stay as they are. `Ok`, `Malformed` and `PoolEmpty` exactly as the
+/// capture ends or a round first needs more blocks than `--blocks` says, where neither the source nor the sink fails and
+/// memory suffices. `ReadFault` and `WriteFault` only where the count of faults of the source, of the sink, rose in this
+/// call. At `Malformed`, `PoolEmpty` and `ReadFault` the output of all whole records (of all rounds) before is in the sink, so a
+/// sink that fails before that is answered first, by `WriteFault`.
 ///
 /// The sink is flushed once, after the last write, and stays as it was where there is no lawful file header. On each
 /// status but `Ok` the log gets one line. A log that fails is ignored.
+///
+/// At `Ok` of a command that reads, `engine` holds the blocks that this call made, all of them home, and its count of blocks
+/// taken is at least what the records need (clause `engine`). Else what it holds isn't said.
 pub fn run<S: Source + Send, K: Sink + Send, L: Sink, G: Gate + Sync>(
     alloc: Global,
     words: &[String],
     source: &mut S,
     sink: &mut K,
     log: &mut L,
-    _gate: &G,
+    gate: &G,
+    engine: &mut Option<Engine>,
 ) -> Status
+    requires engine { engine.old ≡ None }
     ensures usage { result ≡ Status.Usage → command_of (map string_bytes words.now) ≡ None }
     ensures no_command { command_of (map string_bytes words.now) ≡ None → (result ≡ Status.Usage) ⊎ (result ≡ Status.NoMemory) }
     ensures untouched { command_of (map string_bytes words.now) ≡ None → (source.new ≡ source.old) × (sink.new ≡ sink.old) }
     ensures given { IfSome (command_of (map string_bytes words.now)) (λ command. Told (S.left source.old) (S.left source.new) (Answers command (K.held sink.old) (K.held sink.new) (K.is_flushed sink.new) (sink.new ≡ sink.old) result)) }
     ensures made { IfSome (command_of (map string_bytes words.now)) (λ command. Makes command (K.held sink.old) (K.held sink.new) (K.is_flushed sink.new) (source.new ≡ source.old) result) }
+    ensures blocks { IfSome (command_of (map string_bytes words.now)) (λ command. AreBlocksOf command result) }
+    ensures flows { IfSome (command_of (map string_bytes words.now)) (λ command. Told (S.left source.old) (S.left source.new) (FlowsBack command)) }
+    ensures engine { IfSome (command_of (map string_bytes words.now)) (λ command. result ≡ Status.Ok → HasRun command engine.new (S.left source.old) (S.left source.new)) }
     ensures later { S.faults source.old ≤ S.faults source.new }
     ensures later_sink { K.faults sink.old ≤ K.faults sink.new }
     ensures read { result ≡ Status.ReadFault → Rose (S.faults source.old) (S.faults source.new) }
@@ -97,7 +120,7 @@ pub fn run<S: Source + Send, K: Sink + Send, L: Sink, G: Gate + Sync>(
     ensures quiet { result ≡ Status.Ok → log.new ≡ log.old }
     ensures later_log { L.faults log.old ≤ L.faults log.new }
 {
-    let status = run_words(alloc, words, source, sink);
+    let status = run_words(alloc, words, source, sink, gate, engine);
     write_log(log, &status);
     status
 }

@@ -10,7 +10,10 @@ use pcap_io::CapKind;
 use std::alloc::{AllocError, Global};
 use std::test::Fail;
 
-const SEGMENT: &str = "offload segment";
+// With blocks enough for four short frames.
+const MERGE: &str = "offload merge --blocks 12";
+
+const SEGMENT: &str = "offload segment --blocks 12";
 
 // The status, the line of the log, and how many bytes are written.
 type Want = (Status, &'static str, usize);
@@ -60,7 +63,7 @@ fn want_of_cut(len: usize, first: usize, one: usize) -> Want {
 #[test]
 fn captures_cut_at_each_place(rt: HostRuntime) -> Result<(), Fail> {
     for len in 0..170 {
-        let ended = run_line(rt.alloc(), "offload merge", &CAPTURE[..len], 64, &[], &[])?;
+        let ended = run_line(rt.alloc(), MERGE, &CAPTURE[..len], 64, &[], &[])?;
         let want = want_of_cut(len, 98, 110);
         assert!(rt; is_as_wanted(&ended, want, &SINGLES), "merge, {len} bytes");
     }
@@ -169,7 +172,7 @@ fn lengths_and_sums_edited_by_hand(rt: HostRuntime) -> Result<(), Fail> {
     let (mut input, mut output) = (CAPTURE, SINGLES);
     input[57] = 0x2e;
     output[69] = 0x2e;
-    let ended = run_line(rt.alloc(), "offload merge", &input, 64, &[], &[])?;
+    let ended = run_line(rt.alloc(), MERGE, &input, 64, &[], &[])?;
     assert!(rt; is_as_wanted(&ended, (Status::Ok, "", 194), &output));
     Ok(())
 }
@@ -263,7 +266,7 @@ fn ends_well(
 #[test]
 fn each_call_of_merge_fails_in_turn(rt: HostRuntime) -> Result<(), Fail> {
     let whole = Whole {
-        line: "offload merge --budget 1",
+        line: "offload merge --budget 1 --blocks 12",
         input: &CAPTURE,
         output: &SINGLES,
     };

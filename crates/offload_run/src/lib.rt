@@ -3,30 +3,36 @@
 //! [`run`] does the command that the words ask for. `merge` reads a capture of Ethernet frames (the classic pcap layout) in
 //! rounds of as many records as `--budget` says and writes a capture of link type 147: what the maximal mergeable runs of each
 //! flow come to, each behind an offload header of 12 bytes. `segment` cuts such a capture back into the packets that its
-//! records stand for. The log gets one line on each status but a good one.
+//! records stand for. Records are read into `--blocks` blocks of 2048 bytes, and all of these are home after each round. The log
+//! gets one line on each status but a good one.
 //!
-//! Proved, at every source, sink and log (clauses of [`run`]): which words are no command, and that nothing is then read or
+//! Proved, at every source, sink, log and gate (clauses of [`run`]): which words are no command, and that nothing is then read or
 //! written (`usage`, `no_command`, `untouched`); what is read and written for each answer, and when the sink is flushed
-//! (`given`); that a fault is answered only where the outside failed (`read`, `write`); what the log gets (`log`, `quiet`).
-//! The definitions stand in `specs/`: `merged` is the output of a capture, and where it was written, the segments of its
-//! records bring every flow back (`FlowsComeBack`). So do the two commands one after the other ([`every_flow_comes_back`]).
+//! (`given`, in plain words in [`answers_in_plain_words`]); of which pool an empty one is told (`blocks`); that every flow comes
+//! back of what merging makes (`flows`); which engine a good run leaves, with all blocks home, and how many it took
+//! (`engine`); that a fault is answered only where the outside failed (`read`, `write`); what the log gets (`log`, `quiet`).
+//! So do the two commands one after the other ([`every_flow_comes_back`]).
 //!
 //! ```text
-//! let status = run(rt.alloc(), &words, &mut source, &mut sink, &mut log, &NoGate);
+//! let mut engine = None;
+//! let status = run(rt.alloc(), &words, &mut source, &mut sink, &mut log, &NoGate, &mut engine);
 //! ExitCode::from(status.code())
 //! ```
 #![tactic(auto)]
 
+#[cfg(test)]
+mod blocks;
 mod command;
+mod ending;
+mod engine;
 #[cfg(test)]
 mod hostile;
+#[cfg(test)]
+mod kinds;
 mod laws;
 mod logging;
 mod make;
 mod merge;
-mod output;
-mod packet;
-mod round;
 #[cfg(test)]
 mod row_frames;
 #[cfg(test)]
@@ -37,12 +43,11 @@ mod status;
 mod tests;
 
 pub use command::run;
-pub use laws::every_flow_comes_back;
+pub use engine::Engine;
+pub use laws::{answers_in_plain_words, every_flow_comes_back};
 pub use logging::write_log;
-pub use merge::merge_all;
-pub use offload_words::{Command, MakeOptions, MergeOptions, WordsFault, parse_words};
-pub use output::write_round;
-pub use packet::{NoMemory, Stop, read_packet};
-pub use round::{Round, RoundEnd, read_round};
-pub use round_merge::{Item, Packet};
+pub use offload_words::{
+    Command, MakeOptions, MergeOptions, SegmentOptions, WordsFault, parse_words,
+};
+pub use rounds::{Rounds, SegmentRun};
 pub use status::Status;

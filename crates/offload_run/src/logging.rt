@@ -6,7 +6,9 @@ ghost use Rattle.offload_run.specs.Log.{kind_name, log_line};
 use crate::Status;
 use off_io::Sink;
 use pcap_io::CapKind;
-use status_log::{log_malformed, log_no_memory, log_read_fault, log_usage, log_write_fault};
+use status_log::{
+    log_malformed, log_no_memory, log_pool_empty, log_read_fault, log_usage, log_write_fault,
+};
 
 // The kind's name, as the log writes it.
 fn name_of(kind: CapKind) -> &'static str
@@ -39,6 +41,11 @@ pub fn write_log<L: Sink>(log: &mut L, status: &Status)
         Status::Malformed(fault) => {
             log_malformed(log, name_of(fault.kind), fault.offset, fault.number)
         }
+        Status::PoolEmpty {
+            round,
+            need,
+            blocks,
+        } => log_pool_empty(log, round, need, blocks),
         Status::ReadFault => log_read_fault(log),
         Status::WriteFault => log_write_fault(log),
         Status::NoMemory => log_no_memory(log),

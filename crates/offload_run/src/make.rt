@@ -4,7 +4,7 @@ ghost use Rattle.off_io.specs.Faults.{Rose};
 ghost use Rattle.offload_run.specs.Making.{MakeAnswers};
 
 use crate::Status;
-use crate::merge::finish;
+use crate::ending::finish;
 use cap_make::make_capture;
 use off_io::{Sink, WriteFault};
 use offload_words::MakeOptions;

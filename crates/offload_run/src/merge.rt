@@ -1,122 +1,118 @@
-//! Merges the records of a capture, round by round.
-ghost use Rattle.std.specs.Prelude.{◌≡◌, ◌≤◌, ◌<◌, ◌⊎◌, true};
-ghost use Rattle.std.specs.Io.KnownBytes.{Keeps};
-ghost use Rattle.off_io.specs.Faults.{Rose};
+//! Merges a capture, in rounds over one pool of blocks.
+ghost use Rattle.std.specs.Prelude.{◌≡◌, ◌≤◌, ◌^◌, ◌-◌, ◌+◌, Some, None, true, min};
 ghost use Rattle.off_io.specs.Content.{SaysFlushed};
+ghost use Rattle.off_io.specs.Faults.{Rose};
 ghost use Rattle.off_io.specs.Told.{Told};
-ghost use Rattle.pcap_io.specs.declared.heads.Link.TheVariants.{Ethernet};
-ghost use Rattle.pcap_io.specs.Places.{IsReady, first_place};
-ghost use Rattle.pcap_io.specs.Readers.{place_of, source_of, SameLoan};
-ghost use Rattle.offload_run.specs.Merging.{Merges, MergeAnswers, Flushes, IsStatusFor};
+ghost use Rattle.pcap_io.specs.declared.heads.Link.TheVariants.{Ethernet, Offload};
+ghost use Rattle.pcap_io.specs.Capture.{reads};
+ghost use Rattle.pcap_io.specs.Places.{first_place, found_at};
+ghost use Rattle.offload_model.specs.Need.{round_need};
+ghost use Rattle.offload_model.specs.Passing.{merging, merging_whole, Answers, Passes, flushes};
+ghost use Rattle.offload_words.specs.Merge.{IsInRange};
+ghost use Rattle.rounds.specs.Merging.{ending_of as merge_ending};
+ghost use Rattle.offload_run.specs.Ending.{ending_of, Ends, FlushesAt, HasBlocks};
+ghost use Rattle.offload_run.specs.Engines.{HasMerged};
+ghost use Rattle.offload_run.specs.Output.{options as options_of};
 
-use crate::packet::NoMemory;
-use crate::round::{RoundEnd, read_round};
-use crate::{Status, write_round};
-use off_io::{Failed, Sink, Source, WriteFault};
+use crate::ending::refused;
+use crate::{Engine, Status};
+use off_io::{Gate, Sink, Source, WriteFault};
 use offload_words::MergeOptions;
-use pcap_io::{CaptureReader, FileHead, InFault, Link, take_file, write_file_head};
-use round_merge::merge_round;
+use pcap_io::{CaptureReader, FileHead, Link, take_file, write_file_head};
+use rounds::{MergeEnd, Rounds};
 use std::alloc::Global;
 
-// The status for a fault of the reader.
-fn status_of(fault: InFault) -> Status
-    ensures { IsStatusFor fault result }
-{
-    match fault {
-        InFault::Cap(fault) => Status::Malformed(fault),
-        InFault::ReadFault => Status::ReadFault,
-    }
-}
-
-// The answer after the last write: the sink is flushed first.
-pub(crate) fn finish<K: Sink>(sink: &mut K, status: Status) -> Status
-    ensures answer { (result ≡ status) ⊎ (result ≡ Status.WriteFault) }
-    ensures content { Keeps (K.held sink.old) (K.held sink.new) }
-    ensures flushed { result ≡ Status.WriteFault ⊎ SaysFlushed (K.held sink.new) (K.is_flushed sink.new) true }
-    ensures later { K.faults sink.old ≤ K.faults sink.new }
-    ensures failed { result ≡ Status.WriteFault → (status ≡ Status.WriteFault) ⊎ Rose (K.faults sink.old) (K.faults sink.new) }
-{
-    match sink.flush() {
-        Ok(()) => status,
-        Err(Failed) => Status::WriteFault,
-    }
-}
-
-/// Merges the records of a capture, in rounds of `budget` records, up to its end, and flushes the sink once, after the last write.
-///
-/// Each answer says what was read and written (clause `given`); a read fault or a write fault only where the count of the
-/// source or the sink rose.
-pub fn merge_all<S: Source, K: Sink>(
-    alloc: Global,
-    reader: &mut CaptureReader<'_, S>,
-    budget: usize,
-    sink: &mut K,
-) -> Status
-    requires room { 0 < budget }
-    requires ready { IsReady (place_of reader.old) }
-    requires link { (place_of reader.old).link ≡ Ethernet }
-    ensures same_source { SameLoan reader.old reader.new }
-    ensures given { Told (S.left (source_of reader.old)) (S.left (source_of reader.new)) (Merges budget (place_of reader.old) (K.held sink.old) (K.held sink.new) result) }
-    ensures flushed { Flushes (K.held sink.new) (K.is_flushed sink.new) result }
+// The status that merging ends with over this many blocks.
+fn status_of(end: MergeEnd, blocks: u32) -> Status
+    ensures ending { ending_of result ≡ Some (merge_ending end) }
+    ensures blocks { HasBlocks blocks result }
+    ensures done { result ≡ Status.Ok → end ≡ MergeEnd.Done }
     ensures not_usage { result ≡ Status.Usage → ⊥ }
-    ensures later { S.faults (source_of reader.old) ≤ S.faults (source_of reader.new) }
-    ensures later_sink { K.faults sink.old ≤ K.faults sink.new }
-    ensures read { result ≡ Status.ReadFault → Rose (S.faults (source_of reader.old)) (S.faults (source_of reader.new)) }
-    ensures write { result ≡ Status.WriteFault → Rose (K.faults sink.old) (K.faults sink.new) }
+    ensures read { result ≡ Status.ReadFault → end ≡ MergeEnd.ReadFault }
+    ensures write { result ≡ Status.WriteFault → end ≡ MergeEnd.WriteFault }
 {
-    let file = reader.file();
-    'rounds: loop {
-        let round = match read_round(alloc, reader, budget) {
-            Ok(round) => round,
-            Err(NoMemory) => return Status::NoMemory,
-        };
-        let items = match merge_round(alloc, round.packets) {
-            Ok(items) => items,
-            Err(_) => return Status::NoMemory,
-        };
-        match write_round(sink, &file, &items) {
-            Ok(()) => {}
-            Err(WriteFault) => return Status::WriteFault,
-        }
-        match round.end {
-            RoundEnd::Full => {}
-            RoundEnd::End => return finish(sink, Status::Ok),
-            RoundEnd::Malformed(fault) => return finish(sink, Status::Malformed(fault)),
-            RoundEnd::ReadFault => return finish(sink, Status::ReadFault),
-        }
+    match end {
+        MergeEnd::Done => Status::Ok,
+        MergeEnd::Malformed(fault) => Status::Malformed(fault),
+        MergeEnd::PoolEmpty { round, need } => Status::PoolEmpty {
+            round,
+            need,
+            blocks,
+        },
+        MergeEnd::ReadFault => Status::ReadFault,
+        MergeEnd::WriteFault => Status::WriteFault,
+        MergeEnd::NoMemory => Status::NoMemory,
     }
 }
 
 // Merges the records behind a file header.
-fn merge_from<S: Source, K: Sink>(
-    alloc: Global,
+fn merge_behind<S: Source, K: Sink, G: Gate>(
+    rounds: &mut Rounds,
     file: FileHead,
-    budget: usize,
     source: &mut S,
     sink: &mut K,
+    gate: &G,
+) -> MergeEnd
+    requires home { rounds.old.home ≡ rounds.old.blocks }
+    ensures given { Told (S.left source.old) (S.left source.new) (Passes (merging rounds.old.blocks (options_of rounds.old.budget) (first_place file Ethernet 0)) (K.held sink.old) (K.held sink.new) (merge_ending result)) }
+    ensures flushed { flushes (merge_ending result) ≡ true → SaysFlushed (K.held sink.new) (K.is_flushed sink.new) true }
+    ensures home { rounds.new.home ≡ rounds.new.blocks }
+    ensures same { rounds.new.blocks ≡ rounds.old.blocks }
+    ensures taken { result ≡ MergeEnd.Done → Told (S.left source.old) (S.left source.new) (λ rest left. min (rounds.old.taken + round_need (found_at (first_place file Ethernet 0) rest).packets) (2 ^ 64 - 1) ≤ rounds.new.taken) }
+    ensures later { S.faults source.old ≤ S.faults source.new }
+    ensures later_sink { K.faults sink.old ≤ K.faults sink.new }
+    ensures read { result ≡ MergeEnd.ReadFault → Rose (S.faults source.old) (S.faults source.new) }
+    ensures write { result ≡ MergeEnd.WriteFault → Rose (K.faults sink.old) (K.faults sink.new) }
+{
+    let mut reader = CaptureReader::after_file(source, file, Link::Ethernet);
+    rounds.merge_all(&mut reader, &file, sink, gate)
+}
+
+// Makes the pool, and merges the records behind a file header.
+fn merge_records<S: Source, K: Sink, G: Gate>(
+    alloc: Global,
+    options: MergeOptions,
+    file: FileHead,
+    source: &mut S,
+    sink: &mut K,
+    gate: &G,
+    engine: &mut Option<Engine>,
 ) -> Status
-    requires room { 0 < budget }
-    ensures given { Told (S.left source.old) (S.left source.new) (Merges budget (first_place file Ethernet 0) (K.held sink.old) (K.held sink.new) result) }
-    ensures flushed { Flushes (K.held sink.new) (K.is_flushed sink.new) result }
+    requires range { IsInRange options }
+    requires engine { engine.old ≡ None }
+    ensures given { Told (S.left source.old) (S.left source.new) (Ends (Passes (merging options.blocks (options_of options.budget) (first_place file Ethernet 0)) (K.held sink.old) (K.held sink.new)) (ending_of result)) }
+    ensures flushed { FlushesAt (K.held sink.new) (K.is_flushed sink.new) (ending_of result) }
+    ensures blocks { HasBlocks options.blocks result }
+    ensures engine { result ≡ Status.Ok → HasMerged options.blocks (λ rest. round_need (found_at (first_place file Ethernet 0) rest).packets) engine.new (S.left source.old) (S.left source.new) }
     ensures not_usage { result ≡ Status.Usage → ⊥ }
     ensures later { S.faults source.old ≤ S.faults source.new }
     ensures later_sink { K.faults sink.old ≤ K.faults sink.new }
     ensures read { result ≡ Status.ReadFault → Rose (S.faults source.old) (S.faults source.new) }
     ensures write { result ≡ Status.WriteFault → Rose (K.faults sink.old) (K.faults sink.new) }
 {
-    let mut reader = CaptureReader::after_file(source, file, Link::Ethernet);
-    merge_all(alloc, &mut reader, budget, sink)
+    let mut rounds = match Rounds::make(alloc, options.blocks, options.budget) {
+        Ok(rounds) => rounds,
+        Err(_) => return Status::NoMemory,
+    };
+    let end = merge_behind(&mut rounds, file, source, sink, gate);
+    *engine = Some(Engine::Merge(rounds));
+    status_of(end, options.blocks)
 }
 
-// Merges a whole capture of Ethernet frames.
-pub(crate) fn merge_capture<S: Source, K: Sink>(
+// Merges a whole capture of Ethernet frames. Where its file header is refused no block is made.
+pub(crate) fn run_merge<S: Source, K: Sink, G: Gate>(
     alloc: Global,
     options: MergeOptions,
     source: &mut S,
     sink: &mut K,
+    gate: &G,
+    engine: &mut Option<Engine>,
 ) -> Status
-    requires room { 0 < options.budget }
-    ensures given { Told (S.left source.old) (S.left source.new) (MergeAnswers options.budget (K.held sink.old) (K.held sink.new) (K.is_flushed sink.new) (sink.new ≡ sink.old) result) }
+    requires range { IsInRange options }
+    requires engine { engine.old ≡ None }
+    ensures given { Told (S.left source.old) (S.left source.new) (Ends (Answers Ethernet (merging_whole options.blocks (options_of options.budget)) (K.held sink.old) (K.held sink.new) (K.is_flushed sink.new) (sink.new ≡ sink.old)) (ending_of result)) }
+    ensures blocks { HasBlocks options.blocks result }
+    ensures engine { result ≡ Status.Ok → HasMerged options.blocks (λ given. round_need (reads Ethernet given).packets) engine.new (S.left source.old) (S.left source.new) }
     ensures not_usage { result ≡ Status.Usage → ⊥ }
     ensures later { S.faults source.old ≤ S.faults source.new }
     ensures later_sink { K.faults sink.old ≤ K.faults sink.new }
@@ -125,10 +121,10 @@ pub(crate) fn merge_capture<S: Source, K: Sink>(
 {
     let file = match take_file(source, Link::Ethernet) {
         Ok(file) => file,
-        Err(fault) => return status_of(fault),
+        Err(fault) => return refused(fault),
     };
     match write_file_head(sink, &file, Link::Offload) {
-        Ok(()) => merge_from(alloc, file, options.budget as usize, source, sink),
+        Ok(()) => merge_records(alloc, options, file, source, sink, gate, engine),
         Err(WriteFault) => Status::WriteFault,
     }
 }

@@ -69,11 +69,20 @@ fn merged_capture(alloc: Global, capture: Vec<u8>) -> Result<(Status, Vec<u8>), 
     let mut source = MemSource::new(capture, 65536, Vec::new(alloc));
     let mut sink = MemSink::new(alloc, 65536, Vec::new(alloc));
     let mut log = MemSink::new(alloc, 64, Vec::new(alloc));
-    let status = run(alloc, &words, &mut source, &mut sink, &mut log, &NoGate);
+    let mut engine = None;
+    let status = run(
+        alloc,
+        &words,
+        &mut source,
+        &mut sink,
+        &mut log,
+        &NoGate,
+        &mut engine,
+    );
     Ok((status, sink.bytes().to_vec(alloc)?))
 }
 
-const SEGMENT: Frame = Frame {
+pub const SEGMENT: Frame = Frame {
     options: 3,
     payload: 1448,
     ..PLAIN

@@ -1,35 +1,170 @@
-//! Segments a capture.
-ghost use Rattle.std.specs.Prelude.{◌≡◌, ◌≤◌};
+//! Segments a capture, record by record over one pool of blocks.
+ghost use Rattle.std.specs.Prelude.{◌≡◌, ◌≤◌, ◌^◌, ◌-◌, ◌+◌, ◌⊎◌, Some, None, true, min};
+ghost use Rattle.std.specs.Io.KnownBytes.{Keeps};
 ghost use Rattle.off_io.specs.Faults.{Rose};
 ghost use Rattle.off_io.specs.Told.{Told};
-ghost use Rattle.offload_run.specs.Segmenting.{status_of as status_of_end, SegmentStatus};
+ghost use Rattle.pcap_io.specs.declared.heads.Link.TheVariants.{Ethernet, Offload};
+ghost use Rattle.pcap_io.specs.Capture.{reads};
+ghost use Rattle.pcap_io.specs.Places.{IsReady, first_place, found_at};
+ghost use Rattle.pcap_io.specs.Readers.{place_of, source_of, SameLoan};
+ghost use Rattle.offload_model.specs.Passing.{segmenting, segmenting_whole, Answers, Passes};
+ghost use Rattle.offload_words.specs.Segment.{IsInRange};
+ghost use Rattle.offload_run.specs.Ending.{ending_of, Ends, FlushesAt, HasBlocks};
+ghost use Rattle.offload_run.specs.Engines.{HasSegmented, records_need};
+ghost use Rattle.offload_run.specs.Segmenting.{GivesUp};
 
-use crate::Status;
-use off_io::{Sink, Source};
-use segment_run::{End, segment_capture};
+use crate::ending::{finish, refused};
+use crate::{Engine, Status};
+use off_io::{Sink, Source, WriteFault};
+use offload_words::SegmentOptions;
+use pcap_io::{CaptureReader, FileHead, Link, take_file, write_file_head};
+use rounds::{Moved, SegFault, SegmentRun};
 use std::alloc::Global;
 
-// The status that an end is answered by.
-fn status_of(end: End) -> Status
-    ensures { result ≡ status_of_end end }
+// Ends at the fault of a record, behind `round` others and over this many blocks. What is written is flushed, where that can be.
+fn give_up<K: Sink>(sink: &mut K, fault: SegFault, round: u64, blocks: u32) -> Status
+    ensures answer { GivesUp round fault result }
+    ensures content { Keeps (K.held sink.old) (K.held sink.new) }
+    ensures flushed { FlushesAt (K.held sink.new) (K.is_flushed sink.new) (ending_of result) }
+    ensures blocks { HasBlocks blocks result }
+    ensures not_ok { result ≡ Status.Ok → ⊥ }
+    ensures not_usage { result ≡ Status.Usage → ⊥ }
+    ensures later { K.faults sink.old ≤ K.faults sink.new }
+    ensures read { result ≡ Status.ReadFault → fault ≡ SegFault.ReadFault }
+    ensures write { result ≡ Status.WriteFault → (fault ≡ SegFault.WriteFault) ⊎ Rose (K.faults sink.old) (K.faults sink.new) }
 {
-    match end {
-        End::Done => Status::Ok,
-        End::Malformed(fault) => Status::Malformed(fault),
-        End::ReadFault => Status::ReadFault,
-        End::WriteFault => Status::WriteFault,
-        End::NoMemory => Status::NoMemory,
+    match fault {
+        SegFault::Malformed(fault) => finish(sink, Status::Malformed(fault)),
+        SegFault::PoolEmpty { need } => finish(
+            sink,
+            Status::PoolEmpty {
+                round,
+                need,
+                blocks,
+            },
+        ),
+        SegFault::ReadFault => finish(sink, Status::ReadFault),
+        SegFault::WriteFault => Status::WriteFault,
+        SegFault::NoMemory => Status::NoMemory,
     }
 }
 
-// Segments a whole capture of link type 147.
-pub(crate) fn run_segment<S: Source, K: Sink>(alloc: Global, source: &mut S, sink: &mut K) -> Status
-    ensures given { Told (S.left source.old) (S.left source.new) (SegmentStatus (K.held sink.old) (K.held sink.new) (K.is_flushed sink.new) (sink.new ≡ sink.old) result) }
+// Segments the records of a capture up to its end, and flushes the sink.
+fn segment_all<S: Source, K: Sink>(
+    run: &mut SegmentRun,
+    blocks: u32,
+    reader: &mut CaptureReader<'_, S>,
+    sink: &mut K,
+) -> Status
+    requires ready { IsReady (place_of reader.old) }
+    requires link { (place_of reader.old).link ≡ Offload }
+    requires first { (place_of reader.old).number ≡ 0 }
+    requires blocks { run.old.blocks ≡ blocks }
+    requires home { run.old.home ≡ run.old.blocks }
+    ensures same_source { SameLoan reader.old reader.new }
+    ensures given { Told (S.left (source_of reader.old)) (S.left (source_of reader.new)) (Ends (Passes (segmenting blocks (place_of reader.old)) (K.held sink.old) (K.held sink.new)) (ending_of result)) }
+    ensures flushed { FlushesAt (K.held sink.new) (K.is_flushed sink.new) (ending_of result) }
+    ensures blocks { HasBlocks blocks result }
+    ensures home { (run.new.blocks ≡ blocks) × (run.new.home ≡ blocks) }
+    ensures taken { result ≡ Status.Ok → Told (S.left (source_of reader.old)) (S.left (source_of reader.new)) (λ bytes left. min (run.old.taken + records_need (found_at (place_of reader.old) bytes).packets) (2 ^ 64 - 1) ≤ run.new.taken) }
+    ensures not_usage { result ≡ Status.Usage → ⊥ }
+    ensures later { S.faults (source_of reader.old) ≤ S.faults (source_of reader.new) }
+    ensures later_sink { K.faults sink.old ≤ K.faults sink.new }
+    ensures read { result ≡ Status.ReadFault → Rose (S.faults (source_of reader.old)) (S.faults (source_of reader.new)) }
+    ensures write { result ≡ Status.WriteFault → Rose (K.faults sink.old) (K.faults sink.new) }
+{
+    let mut round = 0u64;
+    'records: loop {
+        match run.next(reader, sink) {
+            Ok(moved) => match moved {
+                Moved::One => round += 1,
+                Moved::End => return finish(sink, Status::Ok),
+            },
+            Err(fault) => return give_up(sink, fault, round, blocks),
+        }
+    }
+}
+
+// Segments the records behind a file header.
+fn segment_behind<S: Source, K: Sink>(
+    run: &mut SegmentRun,
+    blocks: u32,
+    file: FileHead,
+    source: &mut S,
+    sink: &mut K,
+) -> Status
+    requires blocks { run.old.blocks ≡ blocks }
+    requires home { run.old.home ≡ run.old.blocks }
+    ensures given { Told (S.left source.old) (S.left source.new) (Ends (Passes (segmenting blocks (first_place file Offload 0)) (K.held sink.old) (K.held sink.new)) (ending_of result)) }
+    ensures flushed { FlushesAt (K.held sink.new) (K.is_flushed sink.new) (ending_of result) }
+    ensures blocks { HasBlocks blocks result }
+    ensures home { (run.new.blocks ≡ blocks) × (run.new.home ≡ blocks) }
+    ensures taken { result ≡ Status.Ok → Told (S.left source.old) (S.left source.new) (λ rest left. min (run.old.taken + records_need (found_at (first_place file Offload 0) rest).packets) (2 ^ 64 - 1) ≤ run.new.taken) }
     ensures not_usage { result ≡ Status.Usage → ⊥ }
     ensures later { S.faults source.old ≤ S.faults source.new }
     ensures later_sink { K.faults sink.old ≤ K.faults sink.new }
     ensures read { result ≡ Status.ReadFault → Rose (S.faults source.old) (S.faults source.new) }
     ensures write { result ≡ Status.WriteFault → Rose (K.faults sink.old) (K.faults sink.new) }
 {
-    status_of(segment_capture(alloc, source, sink))
+    let mut reader = CaptureReader::after_file(source, file, Link::Offload);
+    segment_all(run, blocks, &mut reader, sink)
+}
+
+// Makes the pool, and segments the records behind a file header.
+fn segment_records<S: Source, K: Sink>(
+    alloc: Global,
+    blocks: u32,
+    file: FileHead,
+    source: &mut S,
+    sink: &mut K,
+    engine: &mut Option<Engine>,
+) -> Status
+    requires range { (1 ≤ blocks) × (blocks ≤ 65536) }
+    requires engine { engine.old ≡ None }
+    ensures given { Told (S.left source.old) (S.left source.new) (Ends (Passes (segmenting blocks (first_place file Offload 0)) (K.held sink.old) (K.held sink.new)) (ending_of result)) }
+    ensures flushed { FlushesAt (K.held sink.new) (K.is_flushed sink.new) (ending_of result) }
+    ensures blocks { HasBlocks blocks result }
+    ensures engine { result ≡ Status.Ok → HasSegmented blocks (λ rest. records_need (found_at (first_place file Offload 0) rest).packets) engine.new (S.left source.old) (S.left source.new) }
+    ensures not_usage { result ≡ Status.Usage → ⊥ }
+    ensures later { S.faults source.old ≤ S.faults source.new }
+    ensures later_sink { K.faults sink.old ≤ K.faults sink.new }
+    ensures read { result ≡ Status.ReadFault → Rose (S.faults source.old) (S.faults source.new) }
+    ensures write { result ≡ Status.WriteFault → Rose (K.faults sink.old) (K.faults sink.new) }
+{
+    let mut run = match SegmentRun::make(alloc, blocks) {
+        Ok(run) => run,
+        Err(_) => return Status::NoMemory,
+    };
+    let status = segment_behind(&mut run, blocks, file, source, sink);
+    *engine = Some(Engine::Segment(run));
+    status
+}
+
+// Segments a whole capture of link type 147. Where its file header is refused no block is made.
+pub(crate) fn run_segment<S: Source, K: Sink>(
+    alloc: Global,
+    options: SegmentOptions,
+    source: &mut S,
+    sink: &mut K,
+    engine: &mut Option<Engine>,
+) -> Status
+    requires range { IsInRange options }
+    requires engine { engine.old ≡ None }
+    ensures given { Told (S.left source.old) (S.left source.new) (Ends (Answers Offload (segmenting_whole options.blocks) (K.held sink.old) (K.held sink.new) (K.is_flushed sink.new) (sink.new ≡ sink.old)) (ending_of result)) }
+    ensures blocks { HasBlocks options.blocks result }
+    ensures engine { result ≡ Status.Ok → HasSegmented options.blocks (λ given. records_need (reads Offload given).packets) engine.new (S.left source.old) (S.left source.new) }
+    ensures not_usage { result ≡ Status.Usage → ⊥ }
+    ensures later { S.faults source.old ≤ S.faults source.new }
+    ensures later_sink { K.faults sink.old ≤ K.faults sink.new }
+    ensures read { result ≡ Status.ReadFault → Rose (S.faults source.old) (S.faults source.new) }
+    ensures write { result ≡ Status.WriteFault → Rose (K.faults sink.old) (K.faults sink.new) }
+{
+    let file = match take_file(source, Link::Offload) {
+        Ok(file) => file,
+        Err(fault) => return refused(fault),
+    };
+    match write_file_head(sink, &file, Link::Ethernet) {
+        Ok(()) => segment_records(alloc, options.blocks, file, source, sink, engine),
+        Err(WriteFault) => Status::WriteFault,
+    }
 }

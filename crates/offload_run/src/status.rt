@@ -12,6 +12,9 @@ pub enum Status {
     Usage,
     /// The capture is refused; the output of the records before is written.
     Malformed(CapFault),
+    /// A round, counted from 0, needs this many blocks, and there are fewer; the output of the rounds before is written. In
+    /// `segment` each record is a round of its own.
+    PoolEmpty { round: u64, need: u32, blocks: u32 },
     /// The source failed; the output of the whole records before is written.
     ReadFault,
     /// The sink failed; a front of the output is written.
@@ -31,6 +34,7 @@ impl Status {
             Status::Ok => 0,
             Status::Usage => 2,
             Status::Malformed(_) => 3,
+            Status::PoolEmpty { .. } => 4,
             Status::ReadFault => 5,
             Status::WriteFault => 6,
             Status::NoMemory => 7,

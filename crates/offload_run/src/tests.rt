@@ -4,7 +4,7 @@
 
 use crate::row_frames::{Frame, NEXT, PLAIN, capture_of};
 use crate::rows::hash;
-use crate::{Status, run};
+use crate::{Engine, Status, run};
 use off_io::{MemSink, MemSource, NoGate};
 use pcap_io::{CapFault, CapKind};
 use std::alloc::{AllocError, Global};
@@ -138,6 +138,7 @@ pub struct Ended {
     pub status: Status,
     pub sink: MemSink,
     pub log: MemSink,
+    pub engine: Option<Engine>,
 }
 
 // Runs a line of words, where each call takes at most `step` bytes and these calls fail.
@@ -154,11 +155,26 @@ pub fn run_line(
     let mut source = MemSource::new(bytes.to_vec(alloc)?, step, source_fails.to_vec(alloc)?);
     let mut sink = MemSink::new(alloc, step, sink_fails.to_vec(alloc)?);
     let mut log = MemSink::new(alloc, step, Vec::new(alloc));
-    let status = run(alloc, &words, &mut source, &mut sink, &mut log, &NoGate);
-    Ok(Ended { status, sink, log })
+    let mut engine = None;
+    let status = run(
+        alloc,
+        &words,
+        &mut source,
+        &mut sink,
+        &mut log,
+        &NoGate,
+        &mut engine,
+    );
+    Ok(Ended {
+        status,
+        sink,
+        log,
+        engine,
+    })
 }
 
-const MERGE: &str = "offload merge";
+// As many blocks as 64 frames of 1,568 bytes need.
+const MERGE: &str = "offload merge --blocks 192";
 
 pub fn refused(kind: CapKind, offset: u64, number: u64) -> Status {
     Status::Malformed(CapFault {

@@ -10,9 +10,9 @@
 
 use anyhow::Error;
 use frame_layout::{Key, key};
-use off_io::{Feed, MemSink, MemSource, NoGate, SureSource};
-use offload_run::{Packet, RoundEnd, Status, read_round, run};
-use pcap_io::{CaptureReader, Link};
+use off_io::{MemSink, MemSource, NoGate, Source, SureSource};
+use offload_run::{Status, run};
+use pcap_io::{CaptureReader, FileHead, Link, take_file};
 use std::alloc::{AllocError, Global};
 use std::fs;
 
@@ -32,27 +32,69 @@ struct Counts {
     merged: usize,
 }
 
-// The packets of a capture that ends well.
-fn packets_of(alloc: Global, bytes: Vec<u8>, link: Link) -> Option<Vec<Packet>> {
-    let mut feed = Feed {
-        inner: SureSource::new(bytes),
+// A packet of a capture: its length on the wire, and its bytes.
+#[derive(Drop)]
+struct Packet {
+    original: u32,
+    frame: Vec<u8>,
+}
+
+// What stands next in a capture.
+#[derive(Drop)]
+enum Next {
+    Record(Packet),
+    End,
+    Fault,
+}
+
+// Reads the next record behind the file header and others.
+fn next_record<S: Source>(
+    alloc: Global,
+    source: &mut S,
+    file: FileHead,
+    link: Link,
+) -> Result<Next, AllocError> {
+    let mut reader = CaptureReader::after_file(source, file, link);
+    let head = match reader.next_head() {
+        Ok(Some(head)) => head,
+        Ok(None) => return Ok(Next::End),
+        Err(_) => return Ok(Next::Fault),
     };
-    let mut reader = match CaptureReader::start(&mut feed, link) {
-        Ok(reader) => reader,
-        Err(_) => return None,
-    };
-    match read_round(alloc, &mut reader, usize::MAX) {
-        Ok(round) => match round.end {
-            RoundEnd::End => Some(round.packets),
-            _ => None,
-        },
-        Err(_) => None,
+    let mut frame = vec![in alloc; 0u8; head.captured as usize]?;
+    if reader.read_body(&mut frame).is_err() {
+        return Ok(Next::Fault);
     }
+    Ok(Next::Record(Packet {
+        original: head.original,
+        frame,
+    }))
+}
+
+// The packets of a capture that ends well.
+fn packets_of(
+    alloc: Global,
+    bytes: Vec<u8>,
+    link: Link,
+) -> Result<Option<Vec<Packet>>, AllocError> {
+    let most = bytes.len();
+    let mut source = SureSource::new(bytes);
+    let Ok(file) = take_file(&mut source, link) else {
+        return Ok(None);
+    };
+    let mut packets = Vec::new(alloc);
+    for _ in 0..most {
+        match next_record(alloc, &mut source, file, link)? {
+            Next::Record(packet) => packets.push(packet)?,
+            Next::End => return Ok(Some(packets)),
+            Next::Fault => return Ok(None),
+        }
+    }
+    Ok(None)
 }
 
 // The counts of a capture of offload records that ends well.
-fn count_records(alloc: Global, bytes: Vec<u8>) -> Counts {
-    match packets_of(alloc, bytes, Link::Offload) {
+fn count_records(alloc: Global, bytes: Vec<u8>) -> Result<Counts, AllocError> {
+    Ok(match packets_of(alloc, bytes, Link::Offload)? {
         Some(packets) => Counts {
             records: packets.len(),
             merged: packets
@@ -64,7 +106,7 @@ fn count_records(alloc: Global, bytes: Vec<u8>) -> Counts {
             records: 0,
             merged: 0,
         },
-    }
+    })
 }
 
 // Whether two packets are of one flow.
@@ -138,7 +180,16 @@ fn run_over(alloc: Global, command: &str, bytes: &[u8]) -> Result<Ended, AllocEr
     let mut source = MemSource::new(bytes.to_vec(alloc)?, 65536, Vec::new(alloc));
     let mut sink = MemSink::new(alloc, 65536, Vec::new(alloc));
     let mut log = MemSink::new(alloc, 64, Vec::new(alloc));
-    let status = run(alloc, &words, &mut source, &mut sink, &mut log, &NoGate);
+    let mut engine = None;
+    let status = run(
+        alloc,
+        &words,
+        &mut source,
+        &mut sink,
+        &mut log,
+        &NoGate,
+        &mut engine,
+    );
     let bytes = sink.bytes().to_vec(alloc)?;
     let log = log.bytes().to_vec(alloc)?;
     Ok(Ended { status, bytes, log })
@@ -189,10 +240,10 @@ fn main(rt: HostRuntime) -> Result<(), Error> {
         let code = merged.status.code();
         let hash = hash(&merged.bytes);
         let none = Vec::new(alloc);
-        let before = packets_of(alloc, bytes, Link::Ethernet).unwrap_or(none);
+        let before = packets_of(alloc, bytes, Link::Ethernet)?.unwrap_or(none);
         let none = Vec::new(alloc);
-        let after = packets_of(alloc, cut.bytes, Link::Ethernet).unwrap_or(none);
-        let wrote = count_records(alloc, merged.bytes);
+        let after = packets_of(alloc, cut.bytes, Link::Ethernet)?.unwrap_or(none);
+        let wrote = count_records(alloc, merged.bytes)?;
         println!(rt;
             "{name}: status {code}, records in {}, out {}, merged {}, hash {hash}",
             before.len(),

@@ -81,22 +81,32 @@ number_there s words id limit low high within e fit =
     let b = both _ _ e in
     number_read s.rules id limit low high (rows_after s.rules [] words) within b.0 fit (level_has s words id b.1)
 
-merge_made : (name : Text) (rows : List Row) (budget : ℕ) → name ≡ codes "merge" → number_in 4294967295 (codes "budget") rows ≡ Some budget
-    → command_named name rows ≡ Some (Merge (record { budget = budget }))
+merge_made : (name : Text) (rows : List Row) (budget blocks : ℕ) → name ≡ codes "merge" → number_in 4294967295 (codes "budget") rows ≡ Some budget
+    → number_in 4294967295 (codes "blocks") rows ≡ Some blocks → command_named name rows ≡ Some (Merge (record { budget = budget; blocks = blocks }))
 unfolding command_named
-merge_made name rows budget e f = rw (e, f) refl
+merge_made name rows budget blocks e f g = rw (e, f, g) refl
 
-merge_level : (s : Shape) → s.args_override_self ≡ false → Each IsValueOrHelp s.rules → has_number (codes "budget") 1 4096 s.rules ≡ true → s.name ≡ codes "merge" → Gives IsMade s
-merge_level s off ones has name = λ words word e no_help is.
-    let budget = number_there s words (codes "budget") 4294967295 1 4096 (omega arith) has (level_fits s words false [] off ones e) in
-    (Merge (record { budget = budget.0 }), merge_made s.name (rows_after s.rules [] words) budget.0 name budget.1, (budget.2, budget.3))
+merge_level : (s : Shape) → s.args_override_self ≡ false → Each IsValueOrHelp s.rules → has_number (codes "budget") 1 4096 s.rules ≡ true
+    → has_number (codes "blocks") 1 65536 s.rules ≡ true → s.name ≡ codes "merge" → Gives IsMade s
+merge_level s off ones has_budget has_blocks name = λ words word e no_help is.
+    let fit = level_fits s words false [] off ones e in
+    let budget = number_there s words (codes "budget") 4294967295 1 4096 (omega arith) has_budget fit in
+    let blocks = number_there s words (codes "blocks") 4294967295 1 65536 (omega arith) has_blocks fit in (
+      Merge (record { budget = budget.0; blocks = blocks.0 }),
+      merge_made s.name (rows_after s.rules [] words) budget.0 blocks.0 name budget.1 blocks.1,
+      (budget.2, budget.3, (blocks.2, blocks.3)),
+    )
 
-segment_made : (name : Text) (rows : List Row) → name ≡ codes "segment" → command_named name rows ≡ Some Segment
+segment_made : (name : Text) (rows : List Row) (blocks : ℕ) → name ≡ codes "segment" → number_in 4294967295 (codes "blocks") rows ≡ Some blocks
+    → command_named name rows ≡ Some (Segment (record { blocks = blocks }))
 unfolding command_named
-segment_made name rows e = rw e refl
+segment_made name rows blocks e f = rw (e, f) refl
 
-segment_level : (s : Shape) → s.name ≡ codes "segment" → Gives IsMade s
-segment_level s name = λ words word e no_help is. (Segment, segment_made s.name (rows_after s.rules [] words) name, tt)
+segment_level : (s : Shape) → s.args_override_self ≡ false → Each IsValueOrHelp s.rules → has_number (codes "blocks") 1 65536 s.rules ≡ true
+    → s.name ≡ codes "segment" → Gives IsMade s
+segment_level s off ones has name = λ words word e no_help is.
+    let blocks = number_there s words (codes "blocks") 4294967295 1 65536 (omega arith) has (level_fits s words false [] off ones e) in
+    (Segment (record { blocks = blocks.0 }), segment_made s.name (rows_after s.rules [] words) blocks.0 name blocks.1, (blocks.2, blocks.3))
 
 make_made : (name : Text) (rows : List Row) (seed count : ℕ) → name ≡ codes "make" → number_in 18446744073709551615 (codes "seed") rows ≡ Some seed
     → number_in 4294967295 (codes "count") rows ≡ Some count → command_named name rows ≡ Some (Make (record { seed = seed; count = count }))
@@ -119,9 +129,9 @@ commands = built offload_app
 -- each of its subcommands gives a command, or is the call for help that clap adds
 each_gives : Each (Gives IsMade) commands.subs
 each_gives = (
-  merge_level _ refl ((refl, refl, inl (refl, refl)), ((refl, refl, inr refl), tt)) refl refl,
+  merge_level _ refl ((refl, refl, inl (refl, refl)), ((refl, refl, inl (refl, refl)), ((refl, refl, inr refl), tt))) refl refl refl,
   (
-    segment_level _ refl,
+    segment_level _ refl ((refl, refl, inl (refl, refl)), ((refl, refl, inr refl), tt)) refl refl,
     (
       make_level _ refl ((refl, refl, inl (refl, refl)), ((refl, refl, inl (refl, refl)), ((refl, refl, inr refl), tt))) refl refl refl,
       (help_level IsMade _ refl refl, tt),

@@ -1,4 +1,4 @@
-mod CommandSet
+pub mod CommandSet
 mod NumberReads
 mod OptionNumbers
 mod OptionRows

@@ -1,11 +1,12 @@
 -- The command set of offload, as clap's own functions read it.
-use Rattle.std.specs.Prelude.{◌≡◌, Bool, true, List, [], ◌∷◌, Option, Some, None, ⊤, IsSome, codes, if◌then◌else◌, option_and_then, option_map}
+use Rattle.std.specs.Prelude.{◌≡◌, Bool, true, List, [], ◌∷◌, Option, None, IsSome, codes, if◌then◌else◌, option_and_then, option_map}
 use Rattle.std.specs.Str.{bytes_eq}
 use Rattle.clap.specs.Words.{App, Kinds, Row, Text, fault_of, new_app, subcommand_of, with_subcommand}
 use Rattle.clap.specs.declared.builder.Command as clap_command
 use Rattle.clap.specs.declared.builder.Command.TheViews.{out-Command}
 use Rattle.offload_words.specs.Merge.{IsInRange, merge_app, merge_options_in}
-use Rattle.offload_words.specs.Segment.{segment_app}
+use Rattle.offload_words.specs.Segment.{segment_app, segment_options_in}
+use Rattle.offload_words.specs.Segment as segment
 use Rattle.offload_words.specs.Make.{make_app, make_options_in}
 use Rattle.offload_words.specs.Make as make
 use Rattle.offload_words.specs.declared.words.Command.{Command}
@@ -31,7 +32,7 @@ has_globals_of c = (out-Command c).has_globals
 unfoldable pub command_named : Text → List Row → Option Command
 command_named name rows =
     if bytes_eq name (codes "merge") then option_map Merge (merge_options_in rows)
-    else (if bytes_eq name (codes "segment") then Some Segment
+    else (if bytes_eq name (codes "segment") then option_map Segment (segment_options_in rows)
     else (if bytes_eq name (codes "make") then option_map Make (make_options_in rows)
     else None))
 
@@ -50,7 +51,7 @@ command_of words = command_by offload_app words
 -- what holds of the values of a command
 abbrev pub HasRanges : Command → Type 0
 HasRanges (Merge options) = IsInRange options
-HasRanges Segment = ⊤
+HasRanges (Segment options) = segment.IsInRange options
 HasRanges (Make options) = make.IsInRange options
 
 -- no line is without both a fault and a command

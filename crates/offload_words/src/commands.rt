@@ -32,6 +32,6 @@ pub(crate) fn offload_commands<'a>(alloc: Global) -> Result<clap::Command<'a>, A
     ensures { IfOk result (λ c. app_of c ≡ offload_app) }
 {
     let merge = with_command(program(alloc), merge_subcommand(alloc)?)?;
-    let segment = with_command(merge, segment_subcommand(alloc))?;
+    let segment = with_command(merge, segment_subcommand(alloc)?)?;
     with_command(segment, make_subcommand(alloc)?)
 }

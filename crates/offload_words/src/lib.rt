@@ -8,7 +8,7 @@
 //!
 //! ```text
 //! let command = parse_words(alloc, words)?;   // offload merge --budget 16
-//! // Command::Merge(MergeOptions { budget: 16 })
+//! // Command::Merge(MergeOptions { budget: 16, blocks: 8384 })
 //! ```
 #![tactic(auto)]
 
@@ -16,11 +16,12 @@ mod commands;
 pub mod make;
 pub mod merge;
 mod numbers;
-mod segment;
+pub mod segment;
 #[cfg(test)]
 mod tests;
 pub mod words;
 
 pub use make::MakeOptions;
 pub use merge::MergeOptions;
+pub use segment::SegmentOptions;
 pub use words::{Command, WordsFault, every_faultless_line_is_a_command, parse_words};

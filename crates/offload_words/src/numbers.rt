@@ -3,6 +3,7 @@
 ghost use Rattle.std.specs.Prelude.{◌≡◌, false};
 ghost use Rattle.clap.specs.Words.{rule_of, found_of, rows_of};
 ghost use Rattle.offload_words.specs.Numbers.{number_rule, number_in};
+ghost use Rattle.offload_words.specs.Blocks.{blocks_rule};
 
 use clap::builder::ValueParser;
 use clap::{Arg, ArgAction, ArgMatches};
@@ -24,6 +25,14 @@ pub(crate) fn number_option<'a>(
         .action(ArgAction::Set)
         .value_parser(ValueParser::unsigned(low, high))
         .default_value(default)
+}
+
+/// The option `--blocks`. By default there are as many as 64 records of the greatest length need.
+pub(crate) fn blocks_option<'a>(alloc: Global) -> Arg<'a>
+    ensures rule { rule_of result ≡ blocks_rule }
+    ensures local { result.global ≡ false }
+{
+    number_option(alloc, "blocks", 1, 65536, "8384")
 }
 
 /// The number at the option `--id`, of 64 bits.

@@ -1,7 +1,8 @@
 //! Lines of words, taken and refused.
 
 use crate::{
-    Command, MakeOptions, MergeOptions, WordsFault, every_faultless_line_is_a_command, parse_words,
+    Command, MakeOptions, MergeOptions, SegmentOptions, WordsFault,
+    every_faultless_line_is_a_command, parse_words,
 };
 use std::alloc::{AllocError, Global};
 use std::test::Fail;
@@ -19,24 +20,34 @@ fn words(alloc: Global, line: &str) -> Result<Vec<String>, AllocError> {
 fn lines_of_words(rt: HostRuntime) -> Result<(), Fail> {
     let alloc = rt.alloc();
     let taken = [
-        ("offload merge", 64),
-        ("offload merge --budget 1", 1),
-        ("offload merge --budget 4096", 4096),
-        ("offload merge --budget=64", 64),
-        ("offload merge --budget +7", 7),
-        ("offload merge --budget 007", 7),
-        ("offload merge --", 64),
-        ("offload merge --budget 2 --", 2),
-        ("another-name merge --budget 2", 2),
+        ("offload merge", 64, 8384),
+        ("offload merge --budget 1", 1, 8384),
+        ("offload merge --budget 4096", 4096, 8384),
+        ("offload merge --budget=64", 64, 8384),
+        ("offload merge --budget +7", 7, 8384),
+        ("offload merge --budget 007", 7, 8384),
+        ("offload merge --", 64, 8384),
+        ("offload merge --budget 2 --", 2, 8384),
+        ("another-name merge --budget 2", 2, 8384),
+        ("offload merge --blocks 3 --budget 2", 2, 3),
+        ("offload merge --blocks=65536", 64, 65536),
     ];
-    for (line, budget) in taken {
+    for (line, budget, blocks) in taken {
         let command = parse_words(alloc, &words(alloc, line)?);
-        let want = Ok(Command::Merge(MergeOptions { budget }));
+        let want = Ok(Command::Merge(MergeOptions { budget, blocks }));
         assert!(rt; command == want, "at {line}");
     }
-    for line in ["offload segment", "offload segment --"] {
+    let segmented = [
+        ("offload segment", 8384),
+        ("offload segment --", 8384),
+        ("offload segment --blocks 1", 1),
+    ];
+    for (line, blocks) in segmented {
         let command = parse_words(alloc, &words(alloc, line)?);
-        assert!(rt; command == Ok(Command::Segment), "at {line}");
+        assert!(rt;
+            command == Ok(Command::Segment(SegmentOptions { blocks })),
+            "at {line}"
+        );
     }
     let made = [
         ("offload make", 1, 1000),
@@ -57,6 +68,7 @@ fn lines_of_words(rt: HostRuntime) -> Result<(), Fail> {
         "offload make --seed 18446744073709551616",
         "offload make --seed -1",
         "offload make --budget 2",
+        "offload make --blocks 2",
         "offload make 1",
         "offload make --help",
         "offload",
@@ -68,11 +80,14 @@ fn lines_of_words(rt: HostRuntime) -> Result<(), Fail> {
         "offload merge --version",
         "offload frobnicate",
         "offload segment --budget 2",
+        "offload segment --blocks 0",
         "offload segment --help",
         "offload segment merge",
         "offload merge --queues 2",
         "offload merge --budget 0",
         "offload merge --budget 4097",
+        "offload merge --blocks 0",
+        "offload merge --blocks 65537",
         "offload merge --budget 18446744073709551616",
         "offload merge --budget -0",
         "offload merge --budget",

@@ -5,10 +5,12 @@ ghost use Rattle.clap.specs.Words.{app_of, fault_of, found_of, is_simple_and_fre
 ghost use Rattle.offload_words.specs.Commands.{FaultlessLinesAreCommands, command_by, command_named, command_of, HasRanges, offload_app};
 ghost use Rattle.offload_words.specs.Make.{make_options_in};
 ghost use Rattle.offload_words.specs.Merge.{merge_options_in};
+ghost use Rattle.offload_words.specs.Segment.{segment_options_in};
 
 use crate::commands::offload_commands;
 use crate::make::{MakeOptions, make_options};
 use crate::merge::{MergeOptions, merge_options};
+use crate::segment::{SegmentOptions, segment_options};
 use clap::ArgMatches;
 use clap::error::ErrorKind;
 use std::alloc::Global;
@@ -19,7 +21,7 @@ pub enum Command {
     /// `merge`: merge the TCP segments of a capture.
     Merge(MergeOptions),
     /// `segment`: cut the merged records of a capture again.
-    Segment,
+    Segment(SegmentOptions),
     /// `make`: write a generated capture.
     Make(MakeOptions),
 }
@@ -40,6 +42,13 @@ fn merge_command(matches: &ArgMatches<'_>) -> Option<Command>
     Some(Command::Merge(merge_options(matches)?))
 }
 
+/// `segment` with the options among its matches.
+fn segment_command(matches: &ArgMatches<'_>) -> Option<Command>
+    ensures { result ≡ option_map Command.Segment (segment_options_in (rows_of (found_of matches.now))) }
+{
+    Some(Command::Segment(segment_options(matches)?))
+}
+
 /// `make` with the options among its matches.
 fn make_command(matches: &ArgMatches<'_>) -> Option<Command>
     ensures { result ≡ option_map Command.Make (make_options_in (rows_of (found_of matches.now))) }
@@ -54,7 +63,7 @@ fn command_at(name: &str, matches: &ArgMatches<'_>) -> Option<Command>
 {
     match name {
         "merge" => merge_command(matches),
-        "segment" => Some(Command::Segment),
+        "segment" => segment_command(matches),
         "make" => make_command(matches),
         _ => None,
     }

@@ -1,0 +1,22 @@
+use Rattle.std.proofs.Common.{refl}
+use Rattle.pcap_io.specs.declared.heads.Link.TheVariants.{Ethernet, Offload}
+use Rattle.offload_model.specs.Passing.{merging}
+use Rattle.offload_run.specs.Ending.{ending_of}
+use Rattle.offload_run.specs.Output.{options}
+use Rattle.offload_run.proofs.Behind.{no_file, head_failed, whole_given}
+use Rattle.offload_run.proofs.merge.run_merge.Goals as goal
+
+pub returns-in-Err-clause-given : goal.returns-in-Err-clause-given
+returns-in-Err-clause-given g c =
+    no_file Ethernet Offload (merging c.args.options.blocks (options c.args.options.budget)) _ _ _ (g.K.Sink.is_flushed c.args.sink.now) c.args.sink.now c.args.sink.now
+    c.in-Err.fault c.refused.result refl c.refused.ensures c.in-Err.ensures.given
+
+pub returns-in-Err-write_file_head-clause-given : goal.returns-in-Err-write_file_head-clause-given
+returns-in-Err-write_file_head-clause-given g c =
+    head_failed Ethernet Offload (merging c.args.options.blocks (options c.args.options.budget)) _ _ _ _ (g.K.Sink.is_flushed c.write_file_head.new.sink) c.args.sink.now c.write_file_head.new.sink
+    c.in-Ok.file c.in-Err-write_file_head.ensures.err c.in-Ok.ensures.given
+
+pub returns-in-Ok-write_file_head-clause-given : goal.returns-in-Ok-write_file_head-clause-given
+returns-in-Ok-write_file_head-clause-given g c =
+    whole_given Ethernet Offload (merging c.args.options.blocks (options c.args.options.budget)) _ _ _ _ _ _ (g.K.Sink.is_flushed c.merge_records.new.sink) c.args.sink.now c.merge_records.new.sink
+    c.in-Ok.file (ending_of c.merge_records.result) c.in-Ok.ensures.given c.in-Ok-write_file_head.ensures.ok c.merge_records.ensures.given c.merge_records.ensures.flushed

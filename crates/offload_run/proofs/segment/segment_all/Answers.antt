@@ -1,0 +1,57 @@
+use Rattle.std.proofs.Common.{◌+◌, ◌∙◌, ℕ, ap, arith, refl, Ok, Err}
+use Rattle.rounds.specs.declared.segment.Moved.{Moved}
+use Rattle.offload_run.proofs.Segmenting.{moves_by, none_yet, one_more_given, done_given, fault_given, took_none, took_more, took_all}
+use Rattle.offload_run.proofs.segment.segment_all.Goals as goal
+
+pub records-init : goal.records-init
+records-init g c = (
+  none_yet c.args.blocks _ _ c.args.reader.now.place,
+  took_none _ _ c.args.reader.now.place,
+  c.requires.link,
+  c.requires.first,
+  c.requires.ready,
+  c.requires.blocks,
+  c.requires.home,
+  refl,
+  omega arith,
+  omega arith,
+)
+
+pub records-preserved : goal.records-preserved
+records-preserved g c =
+    let from = c.args.reader.now.place in
+    let mid = c.records.reader.place in
+    let next = c.next.new.reader.place in
+    let one = ap (λ (m : Moved). Ok m) c.in-One.is in
+    let goes = c.in-Ok.ensures.next one in (
+      one_more_given c.args.blocks c.records.round from mid next _ _ _ _ _ _ c.records.invariant.0
+          (moves_by _ c.args.blocks mid next _ _ _ _ _ _ c.records.invariant.5 one c.in-Ok.ensures.given),
+      took_more _ _ _ from mid next _ _ _ c.records.invariant.1 (c.in-Ok.ensures.taken one),
+      goes.link ∙ c.records.invariant.2,
+      goes.number ∙ ap (λ (n : ℕ). n + 1) c.records.invariant.3,
+      goes.ready,
+      c.in-Ok.ensures.same ∙ c.records.invariant.5,
+      c.in-Ok.ensures.home,
+      c.in-Ok.ensures.same_source ∙ c.records.invariant.7,
+      omega (arith, c.in-Ok.ensures.later, c.records.invariant.8),
+      omega (arith, c.in-Ok.ensures.later_sink, c.records.invariant.9),
+    )
+
+pub returns-in-End-clause-given : goal.returns-in-End-clause-given
+returns-in-End-clause-given g c =
+    done_given c.args.blocks c.records.round c.args.reader.now.place c.records.reader.place c.next.new.reader.place _ _ _ _ _ _ _ c.finish.result c.records.invariant.0
+    (moves_by _ c.args.blocks c.records.reader.place c.next.new.reader.place _ _ _ _ _ _ c.records.invariant.5 (ap (λ (m : Moved). Ok m) c.in-End.is) c.in-Ok.ensures.given)
+    c.finish.ensures.content c.finish.ensures.answer
+
+pub returns-in-End-clause-taken : goal.returns-in-End-clause-taken
+returns-in-End-clause-taken g c = λ ok.
+    took_all c.args.blocks _ _ _ c.args.reader.now.place c.records.reader.place c.next.new.reader.place _ _ _ _ _ c.records.invariant.1
+    (moves_by _ c.args.blocks c.records.reader.place c.next.new.reader.place _ _ _ _ _ _ c.records.invariant.5 (ap (λ (m : Moved). Ok m) c.in-End.is) c.in-Ok.ensures.given)
+    c.in-Ok.ensures.least
+
+pub returns-in-Err-clause-given : goal.returns-in-Err-clause-given
+returns-in-Err-clause-given g c =
+    fault_given c.args.blocks c.records.round c.args.reader.now.place c.records.reader.place c.next.new.reader.place _ _ _ _ _ _ _ c.in-Err.fault c.give_up.result
+    c.records.invariant.0
+    (moves_by _ c.args.blocks c.records.reader.place c.next.new.reader.place _ _ _ _ (Err c.in-Err.fault) (Err c.in-Err.fault) c.records.invariant.5 refl c.in-Err.ensures.given)
+    c.give_up.ensures.content c.give_up.ensures.answer

@@ -1,0 +1,32 @@
+-- What an engine tells when a command that read a capture is done: all of its blocks are home, and it took at least as many as the
+-- bytes that were given need, or its count stands at its last value.
+use Rattle.std.specs.Prelude.{◌≡◌, ℕ, ◌-◌, ◌^◌, ◌≤◌, List, length, map, min, Option, Some, ⊤}
+use Rattle.off_io.specs.Told.{Told}
+use Rattle.pcap_io.specs.declared.heads.Link.TheVariants.{Ethernet, Offload}
+use Rattle.pcap_io.specs.Capture.{Packet, reads}
+use Rattle.offload_model.specs.Need.{needed, round_need}
+use Rattle.offload_words.specs.declared.words.Command.{Command}
+use Rattle.offload_words.specs.declared.words.Command.TheVariants.{Merge, Segment, Make}
+use Rattle.offload_run.specs.declared.engine.Engine.{Engine}
+use Rattle.offload_run.specs.declared.engine.Engine.TheVariants as engines
+
+-- the need of all records, each a round of its own: an offload header of 12 bytes isn't read into blocks
+abbrev pub records_need : List Packet → ℕ
+records_need rs = needed (map (λ r. length r.frame - 12) rs)
+
+-- what is left of the source before and after
+abbrev pub HasMerged : ℕ → (List ℕ → ℕ) → Option Engine → Option (List ℕ) → Option (List ℕ) → Type 0
+HasMerged blocks need (Some (engines.Merge rounds)) old new =
+    (rounds.blocks ≡ blocks) × (rounds.home ≡ blocks) × Told old new (λ given left. min (need given) (2 ^ 64 - 1) ≤ rounds.taken)
+HasMerged blocks need _ old new = ⊥
+
+abbrev pub HasSegmented : ℕ → (List ℕ → ℕ) → Option Engine → Option (List ℕ) → Option (List ℕ) → Type 0
+HasSegmented blocks need (Some (engines.Segment run)) old new =
+    (run.blocks ≡ blocks) × (run.home ≡ blocks) × Told old new (λ given left. min (need given) (2 ^ 64 - 1) ≤ run.taken)
+HasSegmented blocks need _ old new = ⊥
+
+-- the engine is that of the command
+abbrev pub HasRun : Command → Option Engine → Option (List ℕ) → Option (List ℕ) → Type 0
+HasRun (Merge o) engine old new = HasMerged o.blocks (λ given. round_need (reads Ethernet given).packets) engine old new
+HasRun (Segment o) engine old new = HasSegmented o.blocks (λ given. records_need (reads Offload given).packets) engine old new
+HasRun (Make o) engine old new = ⊤

@@ -1,0 +1,101 @@
+-- The clause `given` of `run` in plain words: what a capture reads as, where it exceeds the blocks, and what is written.
+use Rattle.std.specs.Prelude.{◌≡◌, ℕ, ◌+◌, ◌≤◌, Bool, true, is_some, if◌then◌else◌, Option, None, Some, List, [], ◌++◌, length, take, drop}
+use Rattle.std.specs.Io.KnownBytes.{Appends}
+use Rattle.off_io.specs.Content.{AppendsFront, SaysFlushed}
+use Rattle.pcap_io.specs.declared.heads.Link.{Link}
+use Rattle.pcap_io.specs.declared.heads.Link.TheVariants.{Ethernet, Offload}
+use Rattle.pcap_io.specs.declared.faults.CapKind.{CapKind}
+use Rattle.pcap_io.specs.Headers.{first_that_holds, file_refusals, file_head}
+use Rattle.pcap_io.specs.Capture.{Found, reads, found_after}
+use Rattle.pcap_io.specs.Places.{first_place}
+use Rattle.pcap_io.specs.Reading.{Loses}
+use Rattle.offload_model.specs.Need.{exceeded_at, exceeded_record_at, packets_within, records_within}
+use Rattle.offload_model.specs.Passing.{HasFileHead, FlushedBehind}
+use Rattle.offload_model.specs.PassingLaws.{written_of}
+use Rattle.offload_model.specs.Tested.{tested_from, reads_tested, segmented_of}
+use Rattle.offload_model.specs.Written.{written, segmented}
+use Rattle.offload_words.specs.declared.merge.MergeOptions.{MergeOptions}
+use Rattle.offload_words.specs.declared.segment.SegmentOptions.{SegmentOptions}
+use Rattle.offload_words.specs.declared.words.Command.TheVariants.{Merge, Segment}
+use Rattle.offload_run.specs.declared.status.Status.{Status}
+use Rattle.offload_run.specs.declared.status.Status.TheVariants as statuses
+use Rattle.offload_run.specs.Output.{options}
+use Rattle.offload_run.specs.RunAnswers.{Answers}
+
+-- why a file header is refused, if it is
+abbrev pub refusal : Link → List ℕ → Option CapKind
+refusal link given = first_that_holds (file_refusals link (take 24 given))
+
+-- ---- merging
+
+-- the round that exceeds the blocks, and its need
+abbrev pub merge_exceeds : MergeOptions → List ℕ → Option (ℕ × ℕ)
+merge_exceeds o given =
+    if is_some (refusal Ethernet given) then None else
+    exceeded_at o.blocks o.budget (first_place (file_head (take 24 given)) Ethernet 0) (drop 24 given)
+
+-- what is written of the rounds before it, and of all where there is none
+abbrev pub written_before : MergeOptions → List ℕ → List ℕ
+written_before o given =
+    if is_some (refusal Ethernet given) then [] else
+    written (file_head (take 24 given)) (options o.budget) (packets_within o.blocks o.budget (first_place (file_head (take 24 given)) Ethernet 0) (drop 24 given))
+
+abbrev pub MergeSays : MergeOptions → Option (List ℕ) → Option (List ℕ) → Bool → Type 0 → Status → List ℕ → List ℕ → Type 0
+MergeSays o old new is_flushed untouched statuses.Ok given left =
+    ((reads Ethernet given).fault ≡ None) × (merge_exceeds o given ≡ None) × (left ≡ [])
+    × Appends old new (written_of (options o.budget) given) × SaysFlushed new is_flushed true
+MergeSays o old new is_flushed untouched statuses.Usage given left = ⊥
+MergeSays o old new is_flushed untouched (statuses.Malformed fault) given left =
+    ((reads Ethernet given).fault ≡ Some fault) × (merge_exceeds o given ≡ None) × Loses given left
+    × Appends old new (written_of (options o.budget) given) × FlushedBehind (HasFileHead Ethernet given) (SaysFlushed new is_flushed true) untouched
+MergeSays o old new is_flushed untouched (statuses.PoolEmpty round need blocks) given left =
+    (merge_exceeds o given ≡ Some (round, need)) × Loses given left × Appends old new (written_before o given) × SaysFlushed new is_flushed true
+MergeSays o old new is_flushed untouched statuses.ReadFault given left =
+    (gone : List ℕ) × (given ≡ gone ++ left) × (merge_exceeds o gone ≡ None) × Appends old new (written_of (options o.budget) gone)
+    × FlushedBehind (24 + length left ≤ length given) (SaysFlushed new is_flushed true) untouched
+MergeSays o old new is_flushed untouched statuses.WriteFault given left = (gone : List ℕ) × (given ≡ gone ++ left) × AppendsFront old new (written_before o gone)
+MergeSays o old new is_flushed untouched statuses.NoMemory given left = (gone : List ℕ) × (given ≡ gone ++ left) × AppendsFront old new (written_before o gone)
+
+-- ---- segmenting
+
+-- the record that exceeds the blocks, and its need
+abbrev pub segment_exceeds : SegmentOptions → List ℕ → Option (ℕ × ℕ)
+segment_exceeds o given =
+    if is_some (refusal Offload given) then None else
+    exceeded_record_at o.blocks (first_place (file_head (take 24 given)) Offload 0) (drop 24 given)
+
+-- the records before it, each tested as a whole
+abbrev pub tested_before : SegmentOptions → List ℕ → Found
+tested_before o given =
+    let found = records_within o.blocks (first_place (file_head (take 24 given)) Offload 0) (drop 24 given) in
+    found_after (refusal Offload given) (tested_from 24 found.packets found.fault)
+
+-- what is written of them
+abbrev pub segmented_before : SegmentOptions → List ℕ → List ℕ
+segmented_before o given =
+    if is_some (refusal Offload given) then [] else segmented (file_head (take 24 given)) (tested_before o given).packets
+
+abbrev pub SegmentSays : SegmentOptions → Option (List ℕ) → Option (List ℕ) → Bool → Type 0 → Status → List ℕ → List ℕ → Type 0
+SegmentSays o old new is_flushed untouched statuses.Ok given left =
+    ((reads_tested given).fault ≡ None) × (segment_exceeds o given ≡ None) × (left ≡ [])
+    × Appends old new (segmented_of given) × SaysFlushed new is_flushed true
+SegmentSays o old new is_flushed untouched statuses.Usage given left = ⊥
+SegmentSays o old new is_flushed untouched (statuses.Malformed fault) given left =
+    ((tested_before o given).fault ≡ Some fault) × Loses given left
+    × Appends old new (segmented_before o given) × FlushedBehind (HasFileHead Offload given) (SaysFlushed new is_flushed true) untouched
+SegmentSays o old new is_flushed untouched (statuses.PoolEmpty round need blocks) given left =
+    ((tested_before o given).fault ≡ None) × (segment_exceeds o given ≡ Some (round, need)) × Loses given left
+    × Appends old new (segmented_before o given) × SaysFlushed new is_flushed true
+SegmentSays o old new is_flushed untouched statuses.ReadFault given left =
+    (gone : List ℕ) × (given ≡ gone ++ left) × ((tested_before o gone).fault ≡ None → segment_exceeds o gone ≡ None)
+    × Appends old new (segmented_before o gone) × FlushedBehind (24 + length left ≤ length given) (SaysFlushed new is_flushed true) untouched
+SegmentSays o old new is_flushed untouched statuses.WriteFault given left = (gone : List ℕ) × (given ≡ gone ++ left) × AppendsFront old new (segmented_before o gone)
+SegmentSays o old new is_flushed untouched statuses.NoMemory given left = (gone : List ℕ) × (given ≡ gone ++ left) × AppendsFront old new (segmented_before o gone)
+
+-- ---- what each answer says is this; the sink before and after is of any type
+
+abbrev pub InPlainWords : Type 0 → Type 0
+InPlainWords K =
+    (old new : Option (List ℕ)) (is_flushed : Bool) (before after : K) (status : Status) (given left : List ℕ)
+    → ((o : MergeOptions) → Answers (Merge o) old new is_flushed (after ≡ before) status given left → MergeSays o old new is_flushed (after ≡ before) status given left)
+    × ((o : SegmentOptions) → Answers (Segment o) old new is_flushed (after ≡ before) status given left → SegmentSays o old new is_flushed (after ≡ before) status given left)

@@ -1,0 +1,32 @@
+-- What each answer of the whole program says, by the command that the words ask for.
+use Rattle.std.specs.Prelude.{◌≡◌, ℕ, List, ◌++◌, Bool, Option, ⊤}
+use Rattle.pcap_io.specs.declared.heads.Link.TheVariants.{Ethernet, Offload}
+use Rattle.offload_model.specs.Laws.{InBytes}
+use Rattle.offload_model.specs.Passing.{merging_whole, segmenting_whole}
+use Rattle.offload_model.specs.Passing as passing
+use Rattle.offload_words.specs.declared.words.Command.{Command}
+use Rattle.offload_words.specs.declared.words.Command.TheVariants.{Merge, Segment, Make}
+use Rattle.offload_run.specs.declared.status.Status.{Status}
+use Rattle.offload_run.specs.Ending.{ending_of, Ends, HasBlocks}
+use Rattle.offload_run.specs.Making.{MakeAnswers}
+use Rattle.offload_run.specs.Output.{options, merged_packets, FlowsComeBack}
+
+-- `untouched` says that the sink is as it was
+abbrev pub Answers : Command → Option (List ℕ) → Option (List ℕ) → Bool → Type 0 → Status → List ℕ → List ℕ → Type 0
+Answers (Merge o) old new is_flushed untouched status given left =
+    Ends (passing.Answers Ethernet (merging_whole o.blocks (options o.budget)) old new is_flushed untouched) (ending_of status) given left
+Answers (Segment o) old new is_flushed untouched status given left =
+    Ends (passing.Answers Offload (segmenting_whole o.blocks) old new is_flushed untouched) (ending_of status) given left
+Answers (Make o) old new is_flushed untouched status given left = MakeAnswers o old new is_flushed status × (left ≡ given)
+
+-- the blocks of a pool that is empty are those that the command asks for
+abbrev pub AreBlocksOf : Command → Status → Type 0
+AreBlocksOf (Merge o) status = HasBlocks o.blocks status
+AreBlocksOf (Segment o) status = HasBlocks o.blocks status
+AreBlocksOf (Make o) status = ⊤
+
+-- however much of the bytes was read, every flow comes back of what `merge` makes of that
+abbrev pub FlowsBack : Command → List ℕ → List ℕ → Type 0
+FlowsBack (Merge o) given left =
+    InBytes given → (seen rest : List ℕ) → given ≡ seen ++ rest → FlowsComeBack o.budget (merged_packets o.blocks o.budget seen)
+FlowsBack _ given left = ⊤
