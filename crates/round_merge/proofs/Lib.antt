@@ -1,3 +1,0 @@
-mod Index
-mod Gather
-mod Merge

@@ -1,5 +1,0 @@
-mod Taken
-mod Written
-mod Judging
-mod Ahead
-mod Whole
