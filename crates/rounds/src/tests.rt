@@ -1,8 +1,8 @@
-//! Rounds are read, dropped and ended, and all blocks are home again.
+//! Rounds are read, dropped, ended and merged, and all blocks are home again.
 ghost use Rattle.std.specs.Prelude.{◌≤◌};
 
-use crate::{RoundEnd, RoundRead, Rounds};
-use off_io::{Feed, MemSource, NoGate};
+use crate::{MergeEnd, RoundEnd, RoundRead, Rounds};
+use off_io::{Feed, MemSink, MemSource, NoGate};
 use pcap_io::{CaptureReader, Link};
 use std::alloc::Global;
 use std::test::Fail;
@@ -52,6 +52,70 @@ fn worked_turn(alloc: Global, blocks: u32) -> Result<(usize, u32, u32), Fail>
     let home = rounds.home();
     rounds.end_round(worked);
     Ok((items, home, rounds.home()))
+}
+
+// What merging both writes: each alone in its record.
+const WRITTEN: [u8; 59] = [
+    0x01, 0x00, 0x00, 0x00, 0x02, 0x00, 0x00, 0x00, 0x0d, 0x00, 0x00, 0x00, 0x0f, 0x00, 0x00, 0x00,
+    0x01, 0x00, 0x00, 0x01, 0x00, 0x00, 0x00, 0x00, 0x00, 0x00, 0x00, 0x00, 0xaa, 0x01, 0x00, 0x00,
+    0x00, 0x05, 0x00, 0x00, 0x00, 0x0e, 0x00, 0x00, 0x00, 0x0e, 0x00, 0x00, 0x00, 0x01, 0x00, 0x00,
+    0x01, 0x00, 0x00, 0x00, 0x00, 0x00, 0x00, 0x00, 0x01, 0xbb, 0xcc,
+];
+
+// Both merged in rounds of two, from a source and to a sink that fail at these of their calls: how it ended, what was written and
+// whether it is flushed, and the blocks that are home.
+fn merge(
+    alloc: Global,
+    blocks: u32,
+    reads: Vec<u64>,
+    writes: Vec<u64>,
+) -> Result<(MergeEnd, Vec<u8>, bool, u32), Fail>
+    requires { (1 ≤ blocks) × (blocks ≤ 65536) }
+{
+    let mut feed = Feed {
+        inner: MemSource::new(TWO.to_vec(alloc)?, 24, reads),
+    };
+    let mut reader = match CaptureReader::start(&mut feed, Link::Ethernet) {
+        Ok(reader) => reader,
+        Err(_) => return Err(Fail::from("the file header is lawful")),
+    };
+    let file = reader.file();
+    let mut sink = MemSink::new(alloc, 64, writes);
+    let mut rounds = Rounds::make(alloc, blocks, 2)?;
+    let end = rounds.merge_all(&mut reader, &file, &mut sink, &NoGate);
+    let written = sink.bytes().to_vec(alloc)?;
+    Ok((end, written, sink.is_flushed(), rounds.home()))
+}
+
+#[test]
+fn all_is_merged(rt: HostRuntime) -> Result<(), Fail> {
+    let alloc = rt.alloc();
+    let (end, written, flushed, home) = merge(alloc, 6, Vec::new(alloc), Vec::new(alloc))?;
+    assert_eq!(rt; (end, flushed, home), (MergeEnd::Done, true, 6));
+    assert_eq!(rt; written.as_slice(), WRITTEN.as_slice());
+    Ok(())
+}
+
+#[test]
+fn of_a_round_that_exceeds_the_blocks_nothing_is_written(rt: HostRuntime) -> Result<(), Fail> {
+    let alloc = rt.alloc();
+    let (end, written, flushed, home) = merge(alloc, 3, Vec::new(alloc), Vec::new(alloc))?;
+    let empty = MergeEnd::PoolEmpty { round: 0, need: 6 };
+    assert_eq!(rt; (end, flushed, home), (empty, true, 3));
+    assert_eq!(rt; written.len(), 0);
+    Ok(())
+}
+
+#[test]
+fn a_failing_source_and_sink(rt: HostRuntime) -> Result<(), Fail> {
+    let alloc = rt.alloc();
+    let (end, written, flushed, home) = merge(alloc, 7, vec![in alloc; 4]?, Vec::new(alloc))?;
+    assert_eq!(rt; (end, flushed, home), (MergeEnd::ReadFault, true, 7));
+    assert_eq!(rt; written.as_slice(), &WRITTEN[..29]);
+    let (end, written, _, home) = merge(alloc, 7, Vec::new(alloc), vec![in alloc; 0]?)?;
+    assert_eq!(rt; (end, home), (MergeEnd::WriteFault, 7));
+    assert_eq!(rt; written.len(), 0);
+    Ok(())
 }
 
 #[test]
