@@ -66,13 +66,16 @@ fn segmented(
     let mut run = SegmentRun::make(alloc, blocks)?;
     let first = run.next(&mut reader, &mut sink);
     let home = run.home();
-    if first != Ok(Moved::One) {
-        return Ok(Ended {
-            first,
-            second: first,
-            home: (home, home),
-            sink,
-        });
+    match first {
+        Ok(Moved::One) => {}
+        _ => {
+            return Ok(Ended {
+                first,
+                second: first,
+                home: (home, home),
+                sink,
+            });
+        }
     }
     let second = run.next(&mut reader, &mut sink);
     Ok(Ended {
