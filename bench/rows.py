@@ -184,10 +184,11 @@ def groups(walk):
     found = [Group(title, beside(walk, name) + [merges("offload merge", name)], BESIDE) for name, title in titles.items()]
     layouts = ("1,514 bytes", "4,096 flows in turn", "4,096 flows by 8", *SAMPLES)
     found.append(Group("merging by flows and layouts", [merges(f"merge, {name}", name) for name in layouts], ("merge, 1,514 bytes",)))
-    options = [("--budget", str(budget)) for budget in (16, 256, 1024, 4096)]
-    options += [("--taps", "1"), ("--queues", "4"), ("--blocks", "384"), ("--blocks", "65536")]
+    options = [("--budget", str(budget)) for budget in (16, 256, 1024)]
+    # A round of 4,096 frames needs 12,288 blocks.
+    options += [("--budget", "4096", "--blocks", "16384"), ("--taps", "1"), ("--queues", "4"), ("--blocks", "384"), ("--blocks", "65536")]
     runs = [merges("merge", "1,514 bytes")]
-    runs += [merges(f"merge {name} {value}", "1,514 bytes", name, value) for name, value in options if takes("merge", name, value)]
+    runs += [merges(" ".join(("merge", *words)), "1,514 bytes", *words) for words in options if takes("merge", *words)]
     found.append(Group("merging by options, 1,514-byte frames", runs, ("merge",)))
     for name in ("merged 1,514 bytes", "merged one flow"):
         runs = beside(walk, name)[:2] + [Run("offload segment", [PROGRAM, "segment"], name)]
