@@ -43,6 +43,8 @@ mod merge;
 mod plan;
 mod round;
 mod share;
+#[cfg(test)]
+mod tests;
 mod work;
 
 pub use lanes::{Lanes, QueueLane, TapLane};

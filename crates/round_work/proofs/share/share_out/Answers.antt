@@ -1,4 +1,5 @@
 use Rattle.std.proofs.Common.{◌≡◌, ◌+◌, ℕ, List, ◌∷◌, length, length-set, set, ap, sym, subst, ◌∙◌, refl, arith}
+use Rattle.frags.specs.Account.{Tests}
 use Rattle.gro.specs.declared.packet.Packet.{Packet as Held}
 use Rattle.gro.specs.Held.{of_packets, counts_of, AreHeld}
 use Rattle.round_work.specs.Lanes.{of_queues}
@@ -13,7 +14,7 @@ loop-packet-init c =
     record {
       size = refl;
       shared = c.requires.open;
-      account = λ t m. let z = empty_account n every 0 c.args.lanes.now c.requires.open t m in (omega (arith, z.0), omega (arith, z.1));
+      account = λ (t : Tests) (m : ℕ). let z = empty_account n every 0 c.args.lanes.now c.requires.open t m in (omega (arith, z.0), omega (arith, z.1));
       counts = omega (arith, empty_counts n every 0 c.args.lanes.now c.requires.open);
       held = c.requires.held;
     }
@@ -33,17 +34,17 @@ returns-in-Err-clause-shared c =
     let back = c.in-Err.ensures.back in
     let rest = c.pop_front.new.self.items in
     let same : l.packets.items ≡ c.push_front_reserved.new.self.items
-    = c.in-Some.ensures.items ∙ ap (λ (z : Held). z ∷ rest) (sym back.0) ∙ sym c.push_front_reserved.ensures.items in
+    = c.in-Some.ensures.items ∙ ap (λ (z : Held). z ∷ rest) (sym {A = Held} back.0) ∙ sym {A = List Held} c.push_front_reserved.ensures.items in
     subst (λ (z : List Held). EachFrom (IsSharing n every z) 0 lanes) same
     (share_stop n every l.packets.items 0 c.queue_for-queue.result l.lanes c.index-lanes-queue.result c.take_in.new.lane (omega arith) back.1 l.invariant.shared)
 
 pub returns-in-Err-clause-account : goal.returns-in-Err-clause-account
-returns-in-Err-clause-account c = λ t m.
+returns-in-Err-clause-account c = λ (t : Tests) (m : ℕ).
     let l = c.loop-packet in
     let back = c.in-Err.ensures.back in
     let rest = c.pop_front.new.self.items in
     let same : l.packets.items ≡ c.push_front_reserved.new.self.items
-    = c.in-Some.ensures.items ∙ ap (λ (z : Held). z ∷ rest) (sym back.0) ∙ sym c.push_front_reserved.ensures.items in
+    = c.in-Some.ensures.items ∙ ap (λ (z : Held). z ∷ rest) (sym {A = Held} back.0) ∙ sym {A = List Held} c.push_front_reserved.ensures.items in
     let s = stop_account c.queue_for-queue.result l.lanes c.index-lanes-queue.result c.take_in.new.lane (omega arith) back.1 t m in
     let i = l.invariant.account t m in
     let h = ap (λ (z : List Held). (of_packets z).held t m) same in
@@ -56,7 +57,7 @@ returns-in-Err-clause-counts c =
     let back = c.in-Err.ensures.back in
     let rest = c.pop_front.new.self.items in
     let same : l.packets.items ≡ c.push_front_reserved.new.self.items
-    = c.in-Some.ensures.items ∙ ap (λ (z : Held). z ∷ rest) (sym back.0) ∙ sym c.push_front_reserved.ensures.items in
+    = c.in-Some.ensures.items ∙ ap (λ (z : Held). z ∷ rest) (sym {A = Held} back.0) ∙ sym {A = List Held} c.push_front_reserved.ensures.items in
     let s = stop_counts c.queue_for-queue.result l.lanes c.index-lanes-queue.result c.take_in.new.lane (omega arith) back.1 in
     omega (arith, s, ap counts_of same, l.invariant.counts)
 
@@ -75,7 +76,7 @@ loop-packet-preserved c =
     record {
       size = length-set l.lanes q m ∙ l.invariant.size;
       shared = share_turn n every rest p 0 q l.lanes d m (omega (arith, c.queue_for-queue.ensures.queue)) (omega arith) taken (subst (λ (z : List Held). EachFrom (IsSharing n every z) 0 l.lanes) e l.invariant.shared);
-      account = λ t j.
+      account = λ (t : Tests) (j : ℕ).
           let s = turn_account q l.lanes d m p (omega arith) taken t j in
           let i = l.invariant.account t j in
           let h = ap (λ (z : List Held). (of_packets z).held t j) e in
