@@ -181,8 +181,8 @@ fn lengths_and_sums_edited_by_hand(rt: HostRuntime) -> Result<(), Fail> {
 // are written as singles, and of the one record that they are merged to, segmented.
 const SINGLE_CALLS: [(usize, [u64; 4], u64); 3] = [
     (1, [24, 74, 72, 1], 195),
-    (7, [4, 12, 11, 1], 32),
-    (64, [1, 2, 2, 1], 8),
+    (7, [4, 12, 11, 1], 30),
+    (64, [1, 2, 2, 1], 6),
 ];
 
 const SEGMENT_CALLS: [(usize, [u64; 4], u64); 3] = [

@@ -306,8 +306,8 @@ fn fields_out_of_range(rt: HostRuntime) -> Result<(), Fail> {
 // The step, and how many reads the file header, each record and the end take, then how many writes and flushes all of it.
 const CALLS: [(usize, [u64; 5], u64); 3] = [
     (1, [24, 74, 72, 71, 1], 278),
-    (7, [4, 12, 11, 11, 1], 45),
-    (64, [1, 2, 2, 2, 1], 11),
+    (7, [4, 12, 11, 11, 1], 42),
+    (64, [1, 2, 2, 2, 1], 8),
 ];
 
 #[test]
@@ -362,7 +362,7 @@ fn each_write_fails_in_turn(rt: HostRuntime) -> Result<(), Fail> {
     for line in [MERGE, "offload merge --budget 1"] {
         let ended = run_line(rt.alloc(), line, &THREE_FLOWS, 64, &[4], &[2])?;
         assert_eq!(rt; ended.status, Status::WriteFault, "at {line}");
-        assert_eq!(rt; ended.sink.bytes(), &THREE_SINGLES[..40], "at {line}");
+        assert_eq!(rt; ended.sink.bytes(), &THREE_SINGLES[..52], "at {line}");
     }
     Ok(())
 }
@@ -371,8 +371,8 @@ fn each_write_fails_in_turn(rt: HostRuntime) -> Result<(), Fail> {
 // of 100, 60 and 100 bytes of one flow, of which the first two are merged.
 const CALLS_OF_MERGED: [(usize, [u64; 5], u64); 3] = [
     (1, [24, 170, 130, 170, 1], 449),
-    (7, [4, 25, 20, 25, 1], 68),
-    (64, [1, 4, 3, 4, 1], 13),
+    (7, [4, 25, 20, 25, 1], 66),
+    (64, [1, 4, 3, 4, 1], 12),
 ];
 
 #[test]
