@@ -1,0 +1,4 @@
+mod Headers
+mod Records
+mod Flows
+mod Outcomes

@@ -1,0 +1,126 @@
+//! What C calls.
+ghost use Rattle.std.specs.Prelude.{◌≡◌, ◌≤◌, ◌<◌, ◌⊎◌, ◌↔◌, take};
+ghost use Rattle.pcap_io.specs.declared.heads.Link.TheVariants.{Ethernet};
+ghost use Rattle.pcap_io.specs.Capture.{reads};
+ghost use Rattle.frame_layout.specs.Key.{key_of, queue_of as queue_of_key};
+ghost use Rattle.offload_model.specs.CaptureLaws.{BringsBack};
+ghost use Rattle.offload_model.specs.Passing.{Nowhere, merging_whole, segmenting_whole};
+ghost use Rattle.offload_model.specs.Tested.{segmented_of};
+ghost use Rattle.offload_c.specs.Answers.{Fills, IsShort, IsAtFault, IsAtRound, options};
+
+use crate::memory::Outcome;
+use crate::merging::merge_bytes;
+use crate::segmenting::segment_bytes;
+use frame_layout::{key, queue_of};
+use std::alloc::Global;
+
+const OK: u32 = 0;
+
+const USAGE: u32 = 2;
+
+const MALFORMED: u32 = 3;
+
+const POOL_EMPTY: u32 = 4;
+
+const NO_MEMORY: u32 = 7;
+
+const NO_ROOM: u32 = 9;
+
+// Copies an output to where it goes, or says how long it is.
+fn deliver(bytes: &[u8], code: u32, output: &mut [u8], count: &mut usize) -> u32
+    requires { code < 9 }
+    ensures answer { (result ≡ code) ⊎ (result ≡ 9) }
+    ensures fills { result ≡ code → Fills output.old output.new count.new bytes.now }
+    ensures short { result ≡ 9 → IsShort output.old output.new count.new bytes.now }
+{
+    *count = bytes.len();
+    if output.len() < bytes.len() {
+        return NO_ROOM;
+    }
+    output[..bytes.len()].copy_from_slice(bytes);
+    code
+}
+
+/// Merges a capture of Ethernet frames (classic pcap) in memory, in rounds of `budget` records (1 to 4096) over a pool of `blocks`
+/// blocks of 2048 bytes (1 to 65536). A frame of n bytes needs (n + 2111) / 2048 + 2 of them while its round lasts.
+///
+/// `*count` is the length of the output, which stands at the front of `output` where it has room. 0: the capture was read to its
+/// end. 2: a number is out of its range. 3: the capture is refused; the output of the records before stands there. 4: a round needs
+/// more blocks than there are; the output of the rounds before stands there. 7: there was no memory. 9: the output is longer than
+/// `output`.
+#[unsafe(no_mangle)]
+pub extern "C" fn offload_merge(
+    alloc: Global,
+    budget: u32,
+    blocks: u32,
+    capture: &[u8],
+    output: &mut [u8],
+    count: &mut usize,
+) -> u32
+    ensures usage { result ≡ 2 ↔ (((budget ≡ 0) ⊎ (4096 < budget)) ⊎ ((blocks ≡ 0) ⊎ (65536 < blocks))) }
+    ensures ok { result ≡ 0 → ((merging_whole blocks (options budget) capture.now).stop ≡ Nowhere) × Fills output.old output.new count.new (merging_whole blocks (options budget) capture.now).output }
+    ensures malformed { result ≡ 3 → IsAtFault (merging_whole blocks (options budget) capture.now).stop × Fills output.old output.new count.new (merging_whole blocks (options budget) capture.now).output }
+    ensures empty { result ≡ 4 → IsAtRound (merging_whole blocks (options budget) capture.now).stop × Fills output.old output.new count.new (merging_whole blocks (options budget) capture.now).output }
+    ensures flows { result ≡ 0 → BringsBack (reads Ethernet capture.now).packets (reads Ethernet (segmented_of (take count.new output.new))) }
+    ensures short { result ≡ 9 → IsShort output.old output.new count.new (merging_whole blocks (options budget) capture.now).output }
+    ensures codes { (result ≡ 0) ⊎ ((result ≡ 2) ⊎ ((result ≡ 3) ⊎ ((result ≡ 4) ⊎ ((result ≡ 7) ⊎ (result ≡ 9))))) }
+    ensures untouched { (result ≡ 2) ⊎ (result ≡ 7) → (output.new ≡ output.old) × (count.new ≡ 0) }
+{
+    *count = 0;
+    if budget == 0 || budget > 4096 {
+        return USAGE;
+    }
+    if blocks == 0 || blocks > 65536 {
+        return USAGE;
+    }
+    match merge_bytes(alloc, budget, blocks, capture) {
+        Outcome::Whole(bytes) => deliver(&bytes, OK, output, count),
+        Outcome::Refused(bytes) => deliver(&bytes, MALFORMED, output, count),
+        Outcome::Empty(bytes) => deliver(&bytes, POOL_EMPTY, output, count),
+        Outcome::NoMemory => NO_MEMORY,
+    }
+}
+
+/// Cuts an offload capture in memory, as [`offload_merge`] makes it, back into the packets that its records stand for, each record
+/// in a pool of `blocks` blocks of 2048 bytes (1 to 65536). A record whose frame has n bytes needs (n + 2111) / 2048 + 2 of them.
+///
+/// The answers are those of [`offload_merge`]; a record that isn't lawful ends the capture too.
+#[unsafe(no_mangle)]
+pub extern "C" fn offload_segment(
+    alloc: Global,
+    blocks: u32,
+    capture: &[u8],
+    output: &mut [u8],
+    count: &mut usize,
+) -> u32
+    ensures usage { result ≡ 2 ↔ ((blocks ≡ 0) ⊎ (65536 < blocks)) }
+    ensures ok { result ≡ 0 → ((segmenting_whole blocks capture.now).stop ≡ Nowhere) × Fills output.old output.new count.new (segmenting_whole blocks capture.now).output }
+    ensures malformed { result ≡ 3 → IsAtFault (segmenting_whole blocks capture.now).stop × Fills output.old output.new count.new (segmenting_whole blocks capture.now).output }
+    ensures empty { result ≡ 4 → IsAtRound (segmenting_whole blocks capture.now).stop × Fills output.old output.new count.new (segmenting_whole blocks capture.now).output }
+    ensures short { result ≡ 9 → IsShort output.old output.new count.new (segmenting_whole blocks capture.now).output }
+    ensures codes { (result ≡ 0) ⊎ ((result ≡ 2) ⊎ ((result ≡ 3) ⊎ ((result ≡ 4) ⊎ ((result ≡ 7) ⊎ (result ≡ 9))))) }
+    ensures untouched { (result ≡ 2) ⊎ (result ≡ 7) → (output.new ≡ output.old) × (count.new ≡ 0) }
+{
+    *count = 0;
+    if blocks == 0 || blocks > 65536 {
+        return USAGE;
+    }
+    match segment_bytes(alloc, blocks, capture) {
+        Outcome::Whole(bytes) => deliver(&bytes, OK, output, count),
+        Outcome::Refused(bytes) => deliver(&bytes, MALFORMED, output, count),
+        Outcome::Empty(bytes) => deliver(&bytes, POOL_EMPTY, output, count),
+        Outcome::NoMemory => NO_MEMORY,
+    }
+}
+
+/// The queue of a frame's flow among 1 to 64 queues. With another number of queues, that number.
+#[unsafe(no_mangle)]
+pub extern "C" fn offload_queue(frame: &[u8], queues: u32) -> u32
+    ensures queue { 1 ≤ queues → queues ≤ 64 → (result ≡ queue_of_key (key_of frame.now) queues) × (result < queues) }
+    ensures refused { (queues ≡ 0) ⊎ (64 < queues) → result ≡ queues }
+{
+    if queues == 0 || queues > 64 {
+        return queues;
+    }
+    queue_of(&key(frame), queues)
+}

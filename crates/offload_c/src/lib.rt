@@ -1,0 +1,23 @@
+//! `offload` for C: a capture in memory is merged, or cut back into packets. `contrib/c/offload.h` declares what is exported.
+//!
+//! No export has a `requires`: each number is tested and answered. A C caller owes what the header says, and nothing checks that it
+//! keeps it.
+//!
+//! Proved, of [`offload_merge`] and [`offload_segment`], where `output` and `count` are what the call leaves in them:
+//!
+//! - `ok`, `malformed`, `empty`: which bytes stand at the front of `output`, and that the model of the command stops nowhere, at a
+//!   fault of the capture, or at a round that needs more blocks than there are. The rest of `output` is as it was.
+//! - `flows` of `offload_merge`: segmenting the output brings back each flow of the capture, packet by packet.
+//! - `short`: `output` is as it was, and `count` is the length of the whole output.
+//! - `usage`: exactly where a number is out of its range. `untouched`: then, and where there is no memory, nothing was written.
+//! - `codes`: there are no other answers.
+//!
+//! Each call makes its own pool, works on the caller's thread alone, and keeps nothing.
+#![tactic(auto)]
+
+mod exports;
+mod memory;
+mod merging;
+mod segmenting;
+
+pub use exports::{offload_merge, offload_queue, offload_segment};
