@@ -1,5 +1,6 @@
 -- Blocks that are filled one after the other.
-use Rattle.std.proofs.Common.{◌≡◌, ℕ, zero, suc, ◌+◌, ◌-◌, ◌*◌, ◌<◌, ◌≤◌, min, List, [], ◌∷◌, ◌++◌, Option, Ok, Err, refl, sym, ap, ◌∙◌, length, get_or, set, take, drop, slice_range, append-nil, append_assoc, length-append, arith}
+use Rattle.std.proofs.Common.{◌≡◌, ℕ, zero, suc, ◌+◌, ◌-◌, ◌*◌, ◌<◌, ◌≤◌, min, List, [], ◌∷◌, ◌++◌, Option, Ok, Err, refl, sym, ap, subst, ◌∙◌, length, get_or, set, take, drop, slice_range, append-nil, append_assoc, length-append, length-drop, arith}
+use Rattle.std.proofs.lemmas.List.{take_all, take_at, drop_at, length-take-le}
 use Rattle.raw_block.specs.Views.{SoleState}
 use Rattle.frags.specs.declared.pieces.Piece.{Piece}
 use Rattle.frags.specs.PieceList.{bytes_of, piece_bytes, block}
@@ -13,6 +14,7 @@ use Rattle.pcap_io.specs.declared.faults.InFault.{InFault}
 use Rattle.pcap_io.specs.declared.faults.InFault.TheVariants.{Cap, ReadFault}
 use Rattle.pcap_io.specs.Places.{ReadsOn, short_record}
 use Rattle.pcap_io.specs.Reading.{GivesBody}
+use Rattle.offload_model.specs.Laws.{InBytes}
 use Rattle.rounds.specs.Data.{data_of, GivesFrame, Filled}
 use Rattle.rounds.specs.Fresh.{MarkedFrom}
 
@@ -118,3 +120,29 @@ bytes_more ps qs p xs ys s left count left' e f g from to c l =
 pub lent_bytes : (s : SoleState) (h : Holder) → IsLent (Sole s) h → block h ≡ s.bytes
 lent_bytes s (Sole x) h = absurd h
 lent_bytes s (Part p) h = h.2
+
+-- ---- bytes
+
+none_in_bytes : InBytes []
+none_in_bytes k = omega arith
+
+pub bytes_none : (f : List ℕ) → f ≡ [] → InBytes f
+bytes_none f e = subst InBytes (sym e) none_in_bytes
+
+both_bytes : (a b : List ℕ) → InBytes a → InBytes b → InBytes (a ++ b)
+both_bytes [] b f g k = g k
+both_bytes (x ∷ xs) b f g zero = f zero
+both_bytes (x ∷ xs) b f g (suc k) = both_bytes xs b (λ j. f (suc j)) g k
+
+-- bytes, and behind them others
+pub bytes_behind : (f a b : List ℕ) → f ≡ a ++ b → InBytes a → InBytes b → InBytes f
+bytes_behind f a b e x y = subst InBytes (sym e) (both_bytes a b x y)
+
+-- what was written into a range stands there
+pub written_range : (from to : ℕ) (b x : List ℕ) → length x + from ≡ to → to ≤ length b → slice_range (take (length b) (take from b ++ (x ++ drop (from + length x) b))) from to ≡ x
+written_range from to b x size within =
+    let rest = drop (from + length x) b in
+    let front : length (take from b) ≡ from = length-take-le from b (omega (arith, size, within)) in
+    let whole : take (length b) (take from b ++ (x ++ rest)) ≡ take from b ++ (x ++ rest) =
+    take_all (length b) (take from b ++ (x ++ rest)) (omega (arith, length-append (take from b) (x ++ rest), length-append x rest, length-drop (from + length x) b, front, size, within)) in
+    ap (λ (l : List ℕ). take (to - from) (drop from l)) whole ∙ ap (take (to - from)) (drop_at (take from b) (x ++ rest) from front) ∙ take_at x rest (to - from) (omega (arith, size))

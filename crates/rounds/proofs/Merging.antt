@@ -1,8 +1,8 @@
 -- Rounds that are merged, and how merging ends.
-use Rattle.std.proofs.Common.{◌≡◌, ◌+◌, ◌-◌, ◌^◌, ◌<◌, ◌≤◌, ◌⊎◌, inl, inr, ℕ, min, List, [], ◌++◌, Bool, true, false, Option, Some, None, refl, sym, ap, ◌∙◌, subst, length, map, arith, append_assoc, append-nil}
-use Rattle.std.specs.List.{flat_map}
+use Rattle.std.proofs.Common.{◌≡◌, ◌+◌, ◌-◌, ◌^◌, ◌*◌, ◌<◌, ◌≤◌, ◌⊎◌, inl, inr, ℕ, min, List, [], ◌++◌, Bool, true, false, Option, Some, None, refl, sym, ap, ◌∙◌, subst, length, length-append, map, take, arith, append_assoc, append-nil}
+use Rattle.std.specs.List.{AllByRecursion, flat_map}
 use Rattle.std.proofs.lemmas.Bool.{false≢true}
-use Rattle.std.proofs.lemmas.List.{length-map}
+use Rattle.std.proofs.lemmas.List.{length-map, take_at}
 use Rattle.std.specs.Io.KnownBytes.{Appends, Keeps}
 use Rattle.std.proofs.KnownBytes.{Appends-nil, Appends-trans, Appends-kept}
 use Rattle.off_io.specs.Content.{AppendsFront}
@@ -21,11 +21,14 @@ use Rattle.pcap_io.specs.Reading.{Loses}
 use Rattle.pcap_io.proofs.LengthLaws.{lengths_none, lengths_of_packets}
 use Rattle.pcap_io.proofs.RecordLaws.{records_none}
 use Rattle.offload_model.specs.Merged.{merged_of}
-use Rattle.offload_model.specs.Need.{needed, round_need}
-use Rattle.offload_model.specs.Passing.{Ending, Stopped, Nowhere, AtFault, AtRound, Passed, ReadFault, WriteFault, NoMemory, merging, Passes, IsNoRound, stop_of, flushes}
+use Rattle.maximal_runs.proofs.Pass.{all_append}
+use Rattle.offload_model.specs.Captured.{IsCaptured}
+use Rattle.offload_model.specs.Need.{needed, round_need, exceeded_at, found_before}
+use Rattle.offload_model.specs.Passing.{Stop, Ending, Stopped, Nowhere, AtFault, AtRound, Passed, ReadFault, WriteFault, NoMemory, merging, Passes, IsNoRound, stop_of, flushes}
 use Rattle.offload_model.specs.Rounds.{runs_in, items_of}
 use Rattle.offload_model.specs.Steps.{ending_behind, behind, round_output}
 use Rattle.offload_model.specs.Written.{Options, record_of, record_bytes}
+use Rattle.offload_model.proofs.Lists.{all_taken}
 use Rattle.offload_model.proofs.Needs.{needed_append, needs_add}
 use Rattle.offload_model.proofs.OneQueue.{one_queue}
 use Rattle.offload_model.proofs.Steps.{commands_pass_on, merging_goes_by_round}
@@ -36,7 +39,7 @@ use Rattle.round_write.proofs.Runs.{items_bytes}
 use Rattle.rounds.specs.Record.{in_front, Passes as PassesRecords}
 use Rattle.rounds.specs.Reading.{GivesRound, Holds, Exceeds}
 use Rattle.rounds.specs.RoundsState.{RoundsState, WorkedState}
-use Rattle.rounds.specs.Merging.{ending_of, options_of, worked_bytes, round_bytes, Fails, WritesLast, Ahead, EndsBehind, Steps, TakesAll}
+use Rattle.rounds.specs.Merging.{ending_of, options_of, worked_bytes, round_bytes, Fails, WritesLast, Ahead, EndsBehind, Steps, TakesAll, AreCapturedAt, EndsCaptured, HoldsCaptured}
 use Rattle.rounds.specs.declared.round.RoundEnd.{RoundEnd}
 use Rattle.rounds.specs.declared.round.RoundEnd.TheVariants as rounds
 use Rattle.rounds.specs.declared.merge.MergeEnd.{MergeEnd}
@@ -80,6 +83,8 @@ ahead_none blocks options place a h taken =
       found = λ tail. refl;
       wrote = Appends-nil h;
       took = omega arith;
+      size = omega arith;
+      each = tt;
     })
 
 module _ (blocks : ℕ) (options : Options) (k : ℕ) (p0 p1 p2 : Place) (a b c h h1 h2 : Option (List ℕ)) (t0 t1 t2 : ℕ) where
@@ -93,6 +98,8 @@ module _ (blocks : ℕ) (options : Options) (k : ℕ) (p0 p1 p2 : Place) (a b c 
     found = λ tail. ap (found_at p0) (append_assoc x.gone y.gone tail) ∙ x.found (y.gone ++ tail) ∙ ap (in_front x.packets) (y.found tail) ∙ (rw append_assoc refl);
     wrote = Appends-trans h h1 h2 x.done y.done x.wrote y.wrote;
     took = omega (arith, x.took, y.took, needs_add x.packets y.packets);
+    size = omega (arith, x.size, y.size, length-append x.packets y.packets);
+    each = all_append IsCaptured x.packets y.packets x.each y.each;
   }
 
   -- one round more
@@ -123,6 +130,129 @@ module _ (blocks : ℕ) (options : Options) (k : ℕ) (p0 p1 p2 : Place) (a b c 
   pub taken_then : Told a b (Ahead blocks options k p0 p1 h h1 t0 t1) → Told b c (TakesAll t1 t2 p1) → Told a c (TakesAll t0 t2 p0)
   taken_then first more =
       Told-then a b c (Ahead blocks options k p0 p1 h h1 t0 t1) (TakesAll t1 t2 p1) (TakesAll t0 t2 p0) (λ bytes rest left x y. one_taken bytes rest left x y) first more
+
+-- ---- packets as a capture may hold them
+
+-- both of two facts are told
+both_told : (a b : Option (List ℕ)) (P Q : List ℕ → List ℕ → Type 0) → Told a b P → Told a b Q → Told a b (λ x y. P x y × Q x y)
+both_told None b P Q p q = tt
+both_told (Some x) None P Q p q = absurd p
+both_told (Some x) (Some y) P Q p q = (p, q)
+
+captured_before : (budget : ℕ) (exceeded : Option (ℕ × ℕ)) (found : Found) → AllByRecursion IsCaptured found.packets → AllByRecursion IsCaptured (found_before budget exceeded found).packets
+captured_before budget None found c = c
+captured_before budget (Some at) found c = all_taken IsCaptured (at.0 * budget) found.packets c
+
+-- the number of the round that exceeds the blocks, and whether there is one
+abbrev round_in : Stop → ℕ
+round_in (AtRound round need) = round
+round_in _ = 0
+
+abbrev is_round : Stop → Bool
+is_round (AtRound round need) = true
+is_round _ = false
+
+not_round : (fault : Option CapFault) (round need : ℕ) (X : Type 0) → stop_of fault None ≡ AtRound round need → X
+not_round None round need X e = absurd (false≢true (ap is_round e))
+not_round (Some fault) round need X e = absurd (false≢true (ap is_round e))
+
+-- the packets before the round that exceeds the blocks are those of the rounds before
+rounds_before : (budget k round need : ℕ) (packets : List Packet) (exceeded : Option (ℕ × ℕ)) (found rest : Found) → stop_of (found_before budget exceeded found).fault exceeded ≡ AtRound round need → round ≡ k
+    → found ≡ in_front packets rest → length packets ≡ k * budget → AllByRecursion IsCaptured packets → AllByRecursion IsCaptured (found_before budget exceeded found).packets
+rounds_before budget k round need packets None found rest stops is e size each = not_round found.fault round need _ stops
+rounds_before budget k round need packets (Some at) found rest stops is e size each =
+    let at_k : at.0 ≡ k = ap round_in stops ∙ is in
+    let n : length packets ≡ at.0 * budget = size ∙ ap (λ (m : ℕ). m * budget) (sym at_k) in
+    let front : take (at.0 * budget) found.packets ≡ packets = ap (λ (f : Found). take (at.0 * budget) f.packets) e ∙ take_at packets rest.packets (at.0 * budget) n in
+    subst (AllByRecursion IsCaptured) (sym front) each
+
+module _ (blocks : ℕ) (options : Options) (k : ℕ) (p0 p1 p2 : Place) (a b c h h1 h2 : Option (List ℕ)) (t0 t1 t2 : ℕ) where
+  -- packets that are captured, behind others that are
+  captured_on : (gone tail : List ℕ) (packets : List Packet) → found_at p0 (gone ++ tail) ≡ in_front packets (found_at p1 tail) → AllByRecursion IsCaptured packets → AreCapturedAt p1 tail
+      → AllByRecursion IsCaptured (found_before options.budget (exceeded_at blocks options.budget p0 (gone ++ tail)) (found_at p0 (gone ++ tail))).packets
+  captured_on gone tail packets found each here =
+      captured_before options.budget (exceeded_at blocks options.budget p0 (gone ++ tail)) (found_at p0 (gone ++ tail))
+      (subst (λ (f : Found). AllByRecursion IsCaptured f.packets) (sym found) (all_append IsCaptured packets (found_at p1 tail).packets each here))
+
+  captured_whole : (bytes rest : List ℕ) → Ahead blocks options k p0 p1 h h1 t0 t1 bytes rest → AreCapturedAt p1 rest
+      → AllByRecursion IsCaptured (found_before options.budget (exceeded_at blocks options.budget p0 bytes) (found_at p0 bytes)).packets
+  captured_whole bytes rest x here =
+      subst (λ (l : List ℕ). AllByRecursion IsCaptured (found_before options.budget (exceeded_at blocks options.budget p0 l) (found_at p0 l)).packets) (sym x.split)
+      (captured_on x.gone rest x.packets (x.found rest) x.each here)
+
+  one_captured : (end : MergeEnd) (bytes rest left : List ℕ) → Ahead blocks options k p0 p1 h h1 t0 t1 bytes rest → EndsBehind k blocks options p1 h1 h2 end rest left × EndsCaptured k p1 end rest left
+      → HoldsCaptured blocks options.budget p0 end bytes left
+  one_captured ends.Done bytes rest left x y = captured_whole bytes rest x y.1
+  one_captured (ends.Malformed fault) bytes rest left x y = captured_whole bytes rest x y.1
+  one_captured (ends.PoolEmpty round need) bytes rest left x y =
+      let passes = one_end blocks options k p0 p1 p2 a b c h h1 h2 t0 t1 t2 (ends.PoolEmpty round need) bytes rest left x y.0 in
+      rounds_before options.budget k round need x.packets (exceeded_at blocks options.budget p0 bytes) (found_at p0 bytes) (found_at p1 rest) passes.0 y.1 (ap (found_at p0) x.split ∙ x.found rest) x.size x.each
+  one_captured ends.ReadFault bytes rest left x y = (
+    x.gone ++ y.1.0,
+    x.split ∙ ap (λ (l : List ℕ). x.gone ++ l) y.1.1 ∙ sym (append_assoc x.gone y.1.0 left),
+    captured_on x.gone y.1.0 x.packets (x.found y.1.0) x.each y.1.2,
+  )
+  one_captured ends.WriteFault bytes rest left x y = tt
+  one_captured ends.NoMemory bytes rest left x y = tt
+
+  -- of all packets that are merged
+  pub captured_then : (end : MergeEnd) → Told a b (Ahead blocks options k p0 p1 h h1 t0 t1) → Told b c (Steps k blocks options p1 p2 h1 h2 t1 t2 (steps.Ends end)) → Told b c (EndsCaptured k p1 end)
+      → Told a c (HoldsCaptured blocks options.budget p0 end)
+  captured_then end first more here =
+      Told-then a b c (Ahead blocks options k p0 p1 h h1 t0 t1) (λ rest left. EndsBehind k blocks options p1 h1 h2 end rest left × EndsCaptured k p1 end rest left) (HoldsCaptured blocks options.budget p0 end)
+      (λ bytes rest left x y. one_captured end bytes rest left x y) first (both_told b c (EndsBehind k blocks options p1 h1 h2 end) (EndsCaptured k p1 end) more here)
+
+-- of a round that wasn't written whole nothing is said
+fails_captured : (k : ℕ) (place : Place) (h h1 : Option (List ℕ)) (out : List ℕ) (end : MergeEnd) (bytes left : List ℕ) → Fails h h1 out end → EndsCaptured k place end bytes left
+fails_captured k place h h1 out end bytes left (inl f) = subst (λ (e : MergeEnd). EndsCaptured k place e bytes left) (sym f.0) tt
+fails_captured k place h h1 out end bytes left (inr f) = subst (λ (e : MergeEnd). EndsCaptured k place e bytes left) (sym f.0) tt
+
+last_captured : (k : ℕ) (place : Place) (h h1 : Option (List ℕ)) (out : List ℕ) (end result : MergeEnd) (bytes left : List ℕ) → WritesLast h h1 out end result → EndsCaptured k place end bytes left → EndsCaptured k place result bytes left
+last_captured k place h h1 out end result bytes left (inl w) here = subst (λ (e : MergeEnd). EndsCaptured k place e bytes left) (sym w.0) here
+last_captured k place h h1 out end result bytes left (inr f) here = fails_captured k place h h1 out result bytes left f
+
+module _ (k blocks : ℕ) (from to : Place) (round : List Held) (a b h h1 : Option (List ℕ)) (out : List ℕ) (each : AllByRecursion IsCaptured (map packet_of round)) where
+  here_by : (bytes : List ℕ) (fault : Option CapFault) → found_at from bytes ≡ in_front (map packet_of round) (ended fault) → AreCapturedAt from bytes
+  here_by bytes fault found = subst (λ (f : Found). AllByRecursion IsCaptured f.packets) (sym found) (subst (AllByRecursion IsCaptured) (sym (append-nil (map packet_of round))) each)
+
+  pub end_captured : (end : RoundEnd) (result : MergeEnd) → end ≡ rounds.End → WritesLast h h1 out ends.Done result → Told a b (GivesRound blocks from to round end) → Told a b (EndsCaptured k from result)
+  end_captured end result is wrote told =
+      Told-weaker a b (GivesRound blocks from to round rounds.End) (EndsCaptured k from result)
+      (λ bytes left gives. last_captured k from h h1 out ends.Done result bytes left wrote (here_by bytes None gives.0))
+      (subst (λ (e : RoundEnd). Told a b (GivesRound blocks from to round e)) is told)
+
+  pub malformed_captured : (end : RoundEnd) (fault : CapFault) (result : MergeEnd) → end ≡ rounds.Malformed fault → WritesLast h h1 out (ends.Malformed fault) result → Told a b (GivesRound blocks from to round end)
+      → Told a b (EndsCaptured k from result)
+  malformed_captured end fault result is wrote told =
+      Told-weaker a b (GivesRound blocks from to round (rounds.Malformed fault)) (EndsCaptured k from result)
+      (λ bytes left gives. last_captured k from h h1 out (ends.Malformed fault) result bytes left wrote (here_by bytes (Some fault) gives.0))
+      (subst (λ (e : RoundEnd). Told a b (GivesRound blocks from to round e)) is told)
+
+  pub fault_captured : (end : RoundEnd) (result : MergeEnd) → end ≡ rounds.ReadFault → WritesLast h h1 out ends.ReadFault result → Told a b (GivesRound blocks from to round end) → Told a b (EndsCaptured k from result)
+  fault_captured end result is wrote told =
+      Told-weaker a b (GivesRound blocks from to round rounds.ReadFault) (EndsCaptured k from result)
+      (λ bytes left gives. last_captured k from h h1 out ends.ReadFault result bytes left wrote (gives.0, gives.1, subst (AllByRecursion IsCaptured) (sym gives.2) each))
+      (subst (λ (e : RoundEnd). Told a b (GivesRound blocks from to round e)) is told)
+
+  pub failed_captured : (end : RoundEnd) (result : MergeEnd) → end ≡ rounds.Full → Fails h h1 out result → Told a b (GivesRound blocks from to round end) → Told a b (EndsCaptured k from result)
+  failed_captured end result is fails told =
+      Told-weaker a b (GivesRound blocks from to round rounds.Full) (EndsCaptured k from result) (λ bytes left gives. fails_captured k from h h1 out result bytes left fails)
+      (subst (λ (e : RoundEnd). Told a b (GivesRound blocks from to round e)) is told)
+
+  empty_here : (need : ℕ) (result : MergeEnd) (bytes left : List ℕ) → (result ≡ ends.PoolEmpty k need) ⊎ (result ≡ ends.WriteFault) → EndsCaptured k from result bytes left
+  empty_here need result bytes left (inl e) = subst (λ (x : MergeEnd). EndsCaptured k from x bytes left) (sym e) refl
+  empty_here need result bytes left (inr e) = subst (λ (x : MergeEnd). EndsCaptured k from x bytes left) (sym e) tt
+
+  pub empty_captured : (end : RoundEnd) (need : ℕ) (result : MergeEnd) → end ≡ rounds.PoolEmpty need → (result ≡ ends.PoolEmpty k need) ⊎ (result ≡ ends.WriteFault) → Told a b (GivesRound blocks from to round end)
+      → Told a b (EndsCaptured k from result)
+  empty_captured end need result is answer told =
+      Told-weaker a b (GivesRound blocks from to round (rounds.PoolEmpty need)) (EndsCaptured k from result) (λ bytes left gives. empty_here need result bytes left answer)
+      (subst (λ (e : RoundEnd). Told a b (GivesRound blocks from to round e)) is told)
+
+  pub memory_captured : (end : RoundEnd) → end ≡ rounds.NoMemory → Told a b (GivesRound blocks from to round end) → Told a b (EndsCaptured k from ends.NoMemory)
+  memory_captured end is told =
+      Told-weaker a b (GivesRound blocks from to round rounds.NoMemory) (EndsCaptured k from ends.NoMemory) (λ bytes left gives. tt)
+      (subst (λ (e : RoundEnd). Told a b (GivesRound blocks from to round e)) is told)
 
 -- ---- one round
 
@@ -262,9 +392,9 @@ module _ (blocks : ℕ) (state : RoundsState) (file : FileHead) (from to : Place
         (subst (λ (e : RoundEnd). Told a b (GivesRound blocks from to round e)) is told)
 
     -- a full round was written
-    full_goes : (t t1 : ℕ) (bytes left : List ℕ) → length round ≡ state.budget → to.file ≡ from.file → min (t + round_need packets) (2 ^ 64 - 1) ≤ t1 → Appends h h1 out → PassesRecords from to packets bytes left
+    full_goes : (t t1 : ℕ) (bytes left : List ℕ) → length round ≡ state.budget → to.file ≡ from.file → min (t + round_need packets) (2 ^ 64 - 1) ≤ t1 → Appends h h1 out → AllByRecursion IsCaptured packets → PassesRecords from to packets bytes left
         → Ahead blocks (options_of state) 1 from to h h1 t t1 bytes left
-    full_goes t t1 bytes left full same took wrote passes = record {
+    full_goes t t1 bytes left full same took wrote each passes = record {
       gone = passes.0;
       done = out;
       packets = packets;
@@ -275,13 +405,15 @@ module _ (blocks : ℕ) (state : RoundsState) (file : FileHead) (from to : Place
       found = λ tail. (passes.2 tail).found;
       wrote = wrote;
       took = took;
+      size = omega (arith, full, length-map round packet_of);
+      each = each;
     }
 
-    pub full_given : (end : RoundEnd) (t t1 : ℕ) → end ≡ rounds.Full → length round ≡ state.budget → to.file ≡ from.file → min (t + round_need packets) (2 ^ 64 - 1) ≤ t1 → Appends h h1 out
+    pub full_given : (end : RoundEnd) (t t1 : ℕ) → end ≡ rounds.Full → length round ≡ state.budget → to.file ≡ from.file → min (t + round_need packets) (2 ^ 64 - 1) ≤ t1 → Appends h h1 out → AllByRecursion IsCaptured packets
         → Told a b (GivesRound blocks from to round end) → Told a b (Ahead blocks (options_of state) 1 from to h h1 t t1)
-    full_given end t t1 is full same took wrote told =
+    full_given end t t1 is full same took wrote each told =
         Told-weaker a b (GivesRound blocks from to round rounds.Full) (Ahead blocks (options_of state) 1 from to h h1 t t1)
-        (λ bytes left gives. full_goes t t1 bytes left full same took wrote gives)
+        (λ bytes left gives. full_goes t t1 bytes left full same took wrote each gives)
         (subst (λ (e : RoundEnd). Told a b (GivesRound blocks from to round e)) is told)
 
 -- there was no memory for a round

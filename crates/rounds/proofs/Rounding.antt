@@ -15,6 +15,7 @@ use Rattle.frags.specs.OutcomesState.{OutcomesState}
 use Rattle.frags.specs.RoundAccount.{of_lives}
 use Rattle.skb.specs.SkbState.{buffer_bytes}
 use Rattle.offload_model.specs.Need.{need_of, needed, round_need}
+use Rattle.offload_model.specs.Captured.{IsCaptured}
 use Rattle.gro.specs.declared.packet.Packet.{Packet as Held}
 use Rattle.gro.specs.Held.{packet_of}
 use Rattle.rounds.specs.Marks.{all, others, IsRound}
@@ -180,6 +181,10 @@ need_last (x ∷ xs) p = omega (arith, need_last xs p)
 pub read_last : (xs : List Held) (p : Held) → AllByRecursion IsRead xs → IsRead p → AllByRecursion IsRead (xs ++ p ∷ [])
 read_last [] p h r = (r, tt)
 read_last (x ∷ xs) p h r = (h.0, read_last xs p h.1 r)
+
+pub captured_last : (xs : List Held) (p : Held) → AllByRecursion IsCaptured (map packet_of xs) → IsCaptured (packet_of p) → AllByRecursion IsCaptured (map packet_of (xs ++ p ∷ []))
+captured_last [] p h r = (r, tt)
+captured_last (x ∷ xs) p h r = (h.0, captured_last xs p h.1 r)
 
 pub so_far_at : (a b : Option (List ℕ)) (old new : Place) (xs ys : List Held) → ys ≡ xs → ReadSoFar a b old new xs → ReadSoFar a b old new ys
 so_far_at a b old new xs ys e h = subst (ReadSoFar a b old new) (sym e) h

@@ -14,6 +14,7 @@ use Rattle.maximal_runs.proofs.Pass.{all_append, all_front, all_back, one_pass}
 use Rattle.frame_layout.specs.Shape.{Layout, shape_of}
 use Rattle.frame_layout.specs.Headers.{lengths}
 use Rattle.frame_layout.specs.declared.layout.Layer.TheVariants.{Ethernet}
+use Rattle.offload_model.specs.Captured.{IsCaptured}
 use Rattle.offload_model.specs.Edits.{with_edits, put_length, put_flags_of}
 use Rattle.offload_model.specs.Frames.{merged_frame}
 use Rattle.offload_model.specs.Mergeable.{IsMergeable, payloads_of}
@@ -32,7 +33,7 @@ use Rattle.gro.specs.declared.packet.Packet.{Packet as Held}
 use Rattle.gro.specs.declared.item.Item.{Item}
 use Rattle.gro.specs.Held.{packet_of}
 use Rattle.gro.specs.Items.{item_of}
-use Rattle.rounds.specs.Fresh.{AreRead}
+use Rattle.rounds.specs.Fresh.{AreRead, IsRead, IsInFields}
 use Rattle.rounds.specs.Held.{IsSmall, AreSmall}
 
 -- ---- lawful headers
@@ -47,6 +48,21 @@ original_within Offload n e = ltb-false (2 ^ 31 + 11) n (or_left _ _ e)
 
 pub original_of : (link : Link) (found : Option RecHead) (head : RecHead) → found ≡ Some head → IfSome found (λ (it : RecHead). is_bad_original link it.original ≡ false) → head.original ≤ 2 ^ 31 + 11
 original_of link found head e h = original_within link head.original (subst (λ (f : Option RecHead). IfSome f (λ (it : RecHead). is_bad_original link it.original ≡ false)) e h)
+
+-- of a record of Ethernet
+pub original_below : (found : Option RecHead) (head : RecHead) → found ≡ Some head → IfSome found (λ (it : RecHead). is_bad_original EthernetLink it.original ≡ false) → head.original < 2 ^ 31
+original_below found head e h =
+    omega (arith, ltb-false (2 ^ 31 - 1) head.original (subst (λ (f : Option RecHead). IfSome f (λ (it : RecHead). is_bad_original EthernetLink it.original ≡ false)) e h))
+
+pub captured_of : (p : Held) → p.original < 2 ^ 31 → IsRead p → IsInFields p → IsCaptured (packet_of p)
+captured_of p original read fields = record {
+  number = fields.number;
+  sec = fields.sec;
+  frac = fields.frac;
+  original = original;
+  short = read.held.short;
+  in_bytes = fields.in_bytes;
+}
 
 -- ---- merged frames
 

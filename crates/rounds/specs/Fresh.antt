@@ -6,7 +6,8 @@ use Rattle.raw_block.specs.Views.{Life, SoleState}
 use Rattle.frags.specs.Account.{Account}
 use Rattle.frags.specs.RoundAccount.{all_blocks, of_lives}
 use Rattle.frags.specs.declared.pieces.Piece.{Piece}
-use Rattle.skb.specs.SkbState.{buffer_least, is_sole}
+use Rattle.skb.specs.SkbState.{buffer_bytes, buffer_least, is_sole}
+use Rattle.offload_model.specs.Laws.{InBytes}
 use Rattle.gro.specs.declared.packet.Packet.{Packet as Held}
 use Rattle.gro.specs.Held.{IsHeld}
 use Rattle.rounds.specs.Marks.{all, OneLife}
@@ -40,6 +41,13 @@ pub record IsRead (p : Held) : Type 0 where
   pub least : buffer_least p.skb ≡ full_weight
   pub headroom : p.skb.from ≡ 64
   pub original : p.original ≤ 2 ^ 31 + 11
+
+-- and what was read is held in fields of 32 bits and in bytes
+pub record IsInFields (p : Held) : Type 0 where
+  pub number : p.number < 2 ^ 32
+  pub sec : p.sec < 2 ^ 32
+  pub frac : p.frac < 2 ^ 32
+  pub in_bytes : InBytes (buffer_bytes p.skb)
 
 abbrev pub AreRead : List Held → Type 0
 AreRead ps = AllByRecursion IsRead ps

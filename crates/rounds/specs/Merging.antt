@@ -1,13 +1,14 @@
 -- How merging ends, what is written of a round, and what a round or a row of them says of the bytes that are gone.
-use Rattle.std.specs.Prelude.{◌≡◌, ◌⊎◌, ℕ, ◌+◌, ◌-◌, ◌<◌, ◌≤◌, ◌^◌, min, map, Option, List, ◌++◌}
-use Rattle.std.specs.List.{flat_map}
+use Rattle.std.specs.Prelude.{◌≡◌, ◌⊎◌, ℕ, ◌+◌, ◌-◌, ◌<◌, ◌≤◌, ◌^◌, ◌*◌, ⊤, min, map, length, Option, List, ◌++◌}
+use Rattle.std.specs.List.{AllByRecursion, flat_map}
 use Rattle.std.specs.Io.KnownBytes.{Appends, Keeps}
 use Rattle.off_io.specs.Content.{AppendsFront}
 use Rattle.net_bytes.specs.declared.order.Order.{Order}
 use Rattle.pcap_io.specs.declared.place.Place.{Place}
 use Rattle.pcap_io.specs.Capture.{Packet}
 use Rattle.pcap_io.specs.Places.{IsReady, found_at}
-use Rattle.offload_model.specs.Need.{round_need}
+use Rattle.offload_model.specs.Captured.{IsCaptured}
+use Rattle.offload_model.specs.Need.{packets_within, round_need}
 use Rattle.offload_model.specs.Passing.{Ending, Stopped, Nowhere, AtFault, AtRound, ReadFault, WriteFault, NoMemory, merging, Passes}
 use Rattle.offload_model.specs.Rounds.{runs_in}
 use Rattle.offload_model.specs.Steps.{GoesOn, ending_behind}
@@ -54,6 +55,7 @@ WritesLast old new bytes end result = ((result ≡ end) × Appends old new bytes
 -- ---- rounds
 
 -- The bytes that are gone are k rounds, whatever follows them: this was written of them, and as many blocks were taken as they need.
+-- Their packets are such as a capture may hold, since they were read into fields of 32 bits and into bytes.
 pub record Ahead (blocks : ℕ) (options : Options) (k : ℕ) (from to : Place) (old new : Option (List ℕ)) (before now : ℕ) (bytes left : List ℕ) : Type 0 where
   pub gone : List ℕ
   pub done : List ℕ
@@ -63,6 +65,8 @@ pub record Ahead (blocks : ℕ) (options : Options) (k : ℕ) (from to : Place) 
   pub found : (tail : List ℕ) → found_at from (gone ++ tail) ≡ in_front packets (found_at to tail)
   pub wrote : Appends old new done
   pub took : min (before + round_need packets) (2 ^ 64 - 1) ≤ now
+  pub size : length packets ≡ k * options.budget
+  pub each : AllByRecursion IsCaptured packets
 
 -- from here on merging ends so, behind k rounds
 abbrev pub EndsBehind : ℕ → ℕ → Options → Place → Option (List ℕ) → Option (List ℕ) → MergeEnd → List ℕ → List ℕ → Type 0
@@ -82,6 +86,30 @@ IfEnds (steps.Ends end) P = P end
 -- as many blocks were taken as all packets need
 abbrev pub TakesAll : ℕ → ℕ → Place → List ℕ → List ℕ → Type 0
 TakesAll before now place bytes left = min (before + round_need (found_at place bytes).packets) (2 ^ 64 - 1) ≤ now
+
+-- the packets that these bytes hold from a place on are such as a capture may hold
+abbrev pub AreCapturedAt : Place → List ℕ → Type 0
+AreCapturedAt place bytes = AllByRecursion IsCaptured (found_at place bytes).packets
+
+-- What a step that ends merging says, behind k rounds, of the packets that were read: of those before a round that exceeds the
+-- blocks only how many rounds they are.
+abbrev pub EndsCaptured : ℕ → Place → MergeEnd → List ℕ → List ℕ → Type 0
+EndsCaptured k place ends.Done bytes left = AreCapturedAt place bytes
+EndsCaptured k place (ends.Malformed fault) bytes left = AreCapturedAt place bytes
+EndsCaptured k place (ends.PoolEmpty round need) bytes left = round ≡ k
+EndsCaptured k place ends.ReadFault bytes left = (gone : List ℕ) × (bytes ≡ gone ++ left) × AreCapturedAt place gone
+EndsCaptured k place ends.WriteFault bytes left = ⊤
+EndsCaptured k place ends.NoMemory bytes left = ⊤
+
+-- the packets that are merged are such as a capture may hold; of a source that failed those of the bytes that are gone
+abbrev pub HoldsCaptured : ℕ → ℕ → Place → MergeEnd → List ℕ → List ℕ → Type 0
+HoldsCaptured blocks budget place ends.Done bytes left = AllByRecursion IsCaptured (packets_within blocks budget place bytes)
+HoldsCaptured blocks budget place (ends.Malformed fault) bytes left = AllByRecursion IsCaptured (packets_within blocks budget place bytes)
+HoldsCaptured blocks budget place (ends.PoolEmpty round need) bytes left = AllByRecursion IsCaptured (packets_within blocks budget place bytes)
+HoldsCaptured blocks budget place ends.ReadFault bytes left =
+    (gone : List ℕ) × (bytes ≡ gone ++ left) × AllByRecursion IsCaptured (packets_within blocks budget place gone)
+HoldsCaptured blocks budget place ends.WriteFault bytes left = ⊤
+HoldsCaptured blocks budget place ends.NoMemory bytes left = ⊤
 
 -- the next round may be read
 pub record MovesOn (old new : Place) : Type 0 where

@@ -121,6 +121,7 @@ pub(crate) fn make_packet(
     ensures fresh { IsFresh first (need_of len) (of_packet result) }
     ensures count { count_of result ≡ need_of len }
     ensures read { IsRead result }
+    ensures range { (result.number < 2 ^ 32) × (result.sec < 2 ^ 32) × (result.frac < 2 ^ 32) }
     ensures bytes { buffer_bytes result.skb ≡ data_of 64 len hold.old.items }
     ensures fields { (result.number ≡ head.now.number) × (result.sec ≡ head.now.sec) × (result.frac ≡ head.now.frac) × (result.original ≡ head.now.original) }
     ensures none { hold.new.items ≡ [] }

@@ -9,6 +9,7 @@ ghost use Rattle.pcap_io.specs.Readers.{place_of, source_of, SameLoan};
 ghost use Rattle.rounds.specs.Data.{GivesFrame, data_of};
 ghost use Rattle.rounds.specs.Fresh.{MarkedFrom};
 ghost use Rattle.offload_model.specs.Need.{data_blocks};
+ghost use Rattle.offload_model.specs.Laws.{InBytes};
 
 use crate::blocks::blocks_of;
 use off_io::Source;
@@ -16,6 +17,11 @@ use pcap_io::{CaptureReader, InFault};
 use raw_block::{BLOCK_SIZE, Sole};
 use skb::HEADROOM;
 use std::collections::VecDeque;
+
+// What a slice of bytes holds are bytes.
+fn in_bytes(bytes: &[u8])
+    ensures { InBytes bytes.now }
+{}
 
 // Fills the bytes `from..to` of a block with the next bytes of the record's body.
 fn read_block<S: Source>(
@@ -29,6 +35,7 @@ fn read_block<S: Source>(
     ensures same_source { SameLoan reader.old reader.new }
     ensures given { Told (S.left (source_of reader.old)) (S.left (source_of reader.new)) (GivesBody (place_of reader.old) result (slice_range block.new.bytes from to)) }
     ensures size { length (slice_range block.new.bytes from to) + from ≡ to }
+    ensures in_bytes { InBytes (slice_range block.new.bytes from to) }
     ensures mark { block.new.mark ≡ block.old.mark }
     ensures place { OnOk result (ReadsOn (place_of reader.old) (place_of reader.new) (to - from)) }
     ensures later { S.faults (source_of reader.old) ≤ S.faults (source_of reader.new) }
@@ -36,7 +43,9 @@ fn read_block<S: Source>(
 {
     let _ = block.bytes();
     let range = block.range_mut(from, to);
-    reader.read_body(range)
+    let read = reader.read_body(range);
+    in_bytes(range);
+    read
 }
 
 /// Reads the body of the record that was begun: first `front`, and then `len` bytes into the first of the blocks that were taken
@@ -53,6 +62,7 @@ pub(crate) fn read_frame<S: Source>(
     ensures same_source { SameLoan reader.old reader.new }
     ensures given { Told (S.left (source_of reader.old)) (S.left (source_of reader.new)) (GivesFrame (place_of reader.old) front.new len result hold.new.items) }
     ensures long { OnOk result (length (data_of 64 len hold.new.items) ≡ len) }
+    ensures in_bytes { OnOk result (InBytes (data_of 64 len hold.new.items)) }
     ensures front { length front.new ≡ length front.old }
     ensures marks { (k : ℕ) → MarkedFrom k hold.old.items → MarkedFrom k hold.new.items }
     ensures size { length hold.new.items ≡ length hold.old.items }

@@ -20,6 +20,8 @@
 //! - `given` of `merge_all`: what is written, and where it stops, is what the model makes of the capture's bytes (`merging` of
 //!   `offload_model`), whole rounds alone; a round that exceeds the blocks is told by its number and its need. After a fault, or want
 //!   of memory, it is that of the bytes that are gone, or a front of it. All blocks are home whatever the ending (`home`).
+//! - `captured` of `merge_all`: the packets that are merged are such as a capture may hold, since each was read into fields of 32 bits and
+//!   into bytes.
 //!
 //! And of [`SegmentRun`], where each record is a round:
 //!

@@ -10,7 +10,7 @@ ghost use Rattle.pcap_io.specs.Readers.{place_of, source_of, SameLoan};
 ghost use Rattle.offload_model.specs.Need.{round_need};
 ghost use Rattle.offload_model.specs.Passing.{merging, Passes, flushes};
 ghost use Rattle.gro.specs.Held.{packet_of};
-ghost use Rattle.rounds.specs.Merging.{ending_of, options_of, round_bytes, Fails, WritesLast, Steps, IfEnds, TakesAll, MovesOn};
+ghost use Rattle.rounds.specs.Merging.{ending_of, options_of, round_bytes, Fails, WritesLast, Steps, IfEnds, TakesAll, EndsCaptured, HoldsCaptured, MovesOn};
 
 use crate::Rounds;
 use crate::round::{Round, RoundEnd, RoundRead};
@@ -126,6 +126,7 @@ impl Rounds {
         ensures home { self.new.home ≡ self.new.blocks }
         ensures same { (self.new.blocks ≡ self.old.blocks) × (self.new.budget ≡ self.old.budget) }
         ensures taken { IfEnds result (λ end. end ≡ MergeEnd.Done → Told (S.left (source_of reader.old)) (S.left (source_of reader.new)) (TakesAll self.old.taken self.new.taken (place_of reader.old))) }
+        ensures captured { IfEnds result (λ end. Told (S.left (source_of reader.old)) (S.left (source_of reader.new)) (EndsCaptured number (place_of reader.old) end)) }
         ensures later { S.faults (source_of reader.old) ≤ S.faults (source_of reader.new) }
         ensures later_sink { K.faults sink.old ≤ K.faults sink.new }
         ensures read { IfEnds result (λ end. end ≡ MergeEnd.ReadFault → Rose (S.faults (source_of reader.old)) (S.faults (source_of reader.new))) }
@@ -165,8 +166,8 @@ impl Rounds {
     /// Merges the records of a capture, round by round, up to its end: each round is read, worked, written and ended. The sink is
     /// flushed once, after the last write.
     ///
-    /// `given` says of each ending what was read and written. A read fault or a write fault only where the count of the source or
-    /// the sink rose. All blocks are home again, whatever the ending.
+    /// `given` says of each ending what was read and written, and `captured` that the packets are such as a capture may hold. A read
+    /// fault or a write fault only where the count of the source or the sink rose. All blocks are home again, whatever the ending.
     pub fn merge_all<S: Source, K: Sink, G: Gate>(
         &mut self,
         reader: &mut CaptureReader<'_, S>,
@@ -184,6 +185,7 @@ impl Rounds {
         ensures home { self.new.home ≡ self.new.blocks }
         ensures same { (self.new.blocks ≡ self.old.blocks) × (self.new.budget ≡ self.old.budget) }
         ensures taken { result ≡ MergeEnd.Done → Told (S.left (source_of reader.old)) (S.left (source_of reader.new)) (λ bytes left. min (self.old.taken + round_need (found_at (place_of reader.old) bytes).packets) (2 ^ 64 - 1) ≤ self.new.taken) }
+        ensures captured { Told (S.left (source_of reader.old)) (S.left (source_of reader.new)) (HoldsCaptured self.old.blocks self.old.budget (place_of reader.old) result) }
         ensures later { S.faults (source_of reader.old) ≤ S.faults (source_of reader.new) }
         ensures later_sink { K.faults sink.old ≤ K.faults sink.new }
         ensures read { result ≡ MergeEnd.ReadFault → Rose (S.faults (source_of reader.old)) (S.faults (source_of reader.new)) }

@@ -1,5 +1,6 @@
 //! Reads the records of a round.
 ghost use Rattle.std.specs.Prelude.{◌≡◌, ◌≢◌, ◌+◌, ◌-◌, ◌<◌, ◌≤◌, ◌^◌, [], length, map, min};
+ghost use Rattle.std.specs.List.{AllByRecursion};
 ghost use Rattle.std.specs.VecDeque.{deque_capacity};
 ghost use Rattle.block_pool.specs.PoolState.{home};
 ghost use Rattle.off_io.specs.Faults.{Rose};
@@ -8,6 +9,7 @@ ghost use Rattle.pcap_io.specs.declared.heads.Link.TheVariants.{Ethernet};
 ghost use Rattle.pcap_io.specs.Places.{IsReady};
 ghost use Rattle.pcap_io.specs.Readers.{place_of, source_of, SameLoan};
 ghost use Rattle.offload_model.specs.Need.{round_need};
+ghost use Rattle.offload_model.specs.Captured.{IsCaptured};
 ghost use Rattle.gro.specs.Held.{packet_of, of_packets, count_of, counts_of};
 ghost use Rattle.rounds.specs.Fresh.{AreRead, IsFresh, NumberedFrom};
 ghost use Rattle.rounds.specs.Reading.{GivesRound, PassesRound};
@@ -55,6 +57,7 @@ pub(crate) fn read_records<S: Source>(
     ensures fresh { IsFresh 0 result.0 (of_packets packets.new.items) }
     ensures count { counts_of packets.new.items ≡ result.0 }
     ensures read { AreRead packets.new.items }
+    ensures captured { AllByRecursion IsCaptured (map packet_of packets.new.items) }
     ensures numbers { NumberedFrom (place_of reader.old).number packets.new.items }
     ensures need { result.0 ≡ round_need (map packet_of packets.new.items) }
     ensures home { home pool.new + result.0 ≡ pool.old.made }

@@ -5,13 +5,15 @@ ghost use Rattle.block_pool.specs.PoolState.{home};
 ghost use Rattle.skb.specs.SkbState.{buffer_bytes};
 ghost use Rattle.off_io.specs.Faults.{Rose};
 ghost use Rattle.off_io.specs.Told.{Told};
+ghost use Rattle.pcap_io.specs.declared.heads.Link.TheVariants.{Ethernet};
 ghost use Rattle.pcap_io.specs.Headers.{is_bad_original};
 ghost use Rattle.pcap_io.specs.Places.{IsReady, ReadsOn};
 ghost use Rattle.pcap_io.specs.Readers.{place_of, source_of, SameLoan};
-ghost use Rattle.gro.specs.Held.{of_packet, count_of};
-ghost use Rattle.rounds.specs.Fresh.{IsFresh, IsRead};
+ghost use Rattle.gro.specs.Held.{of_packet, packet_of, count_of};
+ghost use Rattle.rounds.specs.Fresh.{IsFresh, IsInFields, IsRead};
 ghost use Rattle.rounds.specs.Record.{front_size, GivesPacket, GivesRecord, GoesOn, IsStopOf, record_in};
 ghost use Rattle.offload_model.specs.Need.{need_of};
+ghost use Rattle.offload_model.specs.Captured.{IsCaptured};
 
 use crate::blocks::{blocks_of, make_packet, put_back, take_blocks};
 use crate::body::read_frame;
@@ -72,6 +74,7 @@ fn read_packet<S: Source>(
     ensures count { IfOk result (λ p. count_of p ≡ need_of len) }
     ensures size { IfOk result (λ p. length (buffer_bytes p.skb) ≡ len) }
     ensures read { IfOk result (λ p. IsRead p) }
+    ensures in_fields { IfOk result (λ p. IsInFields p) }
     ensures number { IfOk result (λ p. p.number ≡ head.now.number) }
     ensures original { IfOk result (λ p. p.original ≡ head.now.original) }
     ensures home { OnOk result (home pool.new + need_of len ≡ home pool.old) }
@@ -130,6 +133,7 @@ pub(crate) fn read_placed<S: Source>(
     ensures behind { IfOk result (λ r. (place_of reader.new).offset ≡ (place_of reader.old).offset + 16 + (length front.new + length (buffer_bytes r.0.skb))) }
     ensures fresh { IfOk result (λ r. IsFresh used (count_of r.0) (of_packet r.0)) }
     ensures read { IfOk result (λ r. IsRead r.0) }
+    ensures captured { IfOk result (λ r. (place_of reader.old).link ≡ Ethernet → IsCaptured (packet_of r.0)) }
     ensures need { IfOk result (λ r. count_of r.0 ≡ need_of (length (buffer_bytes r.0.skb))) }
     ensures home { IfOk result (λ r. home pool.new + count_of r.0 ≡ home pool.old) }
     ensures taken { IfOk result (λ r. pool.new.taken ≡ min (pool.old.taken + count_of r.0) (2 ^ 64 - 1)) }
@@ -183,6 +187,7 @@ pub(crate) fn read_record<S: Source>(
     ensures number { IfOk result (λ p. p.number ≡ (place_of reader.old).number) }
     ensures fresh { IfOk result (λ p. IsFresh used (count_of p) (of_packet p)) }
     ensures read { IfOk result (λ p. IsRead p) }
+    ensures captured { IfOk result (λ p. (place_of reader.old).link ≡ Ethernet → IsCaptured (packet_of p)) }
     ensures need { IfOk result (λ p. count_of p ≡ need_of (length (buffer_bytes p.skb))) }
     ensures home { IfOk result (λ p. home pool.new + count_of p ≡ home pool.old) }
     ensures taken { IfOk result (λ p. pool.new.taken ≡ min (pool.old.taken + count_of p) (2 ^ 64 - 1)) }

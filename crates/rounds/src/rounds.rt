@@ -1,5 +1,6 @@
 //! Rounds of records, over one pool of blocks.
 ghost use Rattle.std.specs.Prelude.{◌≡◌, ◌≢◌, ◌+◌, ◌-◌, ◌<◌, ◌≤◌, ◌^◌, [], length, map, min, IfOk, OnOk, OnErr};
+ghost use Rattle.std.specs.List.{AllByRecursion};
 ghost use Rattle.std.specs.Io.KnownBytes.{Appends};
 ghost use Rattle.block_pool.specs.PoolState.{home};
 ghost use Rattle.off_io.specs.Content.{AppendsFront};
@@ -9,6 +10,7 @@ ghost use Rattle.pcap_io.specs.declared.heads.Link.TheVariants.{Ethernet};
 ghost use Rattle.pcap_io.specs.Places.{IsReady};
 ghost use Rattle.pcap_io.specs.Readers.{place_of, source_of, SameLoan};
 ghost use Rattle.offload_model.specs.Need.{round_need};
+ghost use Rattle.offload_model.specs.Captured.{IsCaptured};
 ghost use Rattle.offload_model.specs.Merged.{merged_of};
 ghost use Rattle.offload_model.specs.Rounds.{runs_in};
 ghost use Rattle.gro.specs.Held.{packet_of};
@@ -169,6 +171,7 @@ impl Rounds {
         ensures size { length result.round.packets ≤ self.old.budget }
         ensures fewer { (result.end ≢ RoundEnd.Full) → (result.end ≢ RoundEnd.NoMemory) → length result.round.packets < self.old.budget }
         ensures full { result.end ≡ RoundEnd.Full → PassesRound (place_of reader.old) (place_of reader.new) result.round.packets self.old.budget }
+        ensures captured { AllByRecursion IsCaptured (map packet_of result.round.packets) }
         ensures numbers { NumberedFrom (place_of reader.old).number result.round.packets }
         ensures need { result.round.blocks ≡ round_need (map packet_of result.round.packets) }
         ensures home { self.new.home + result.round.blocks ≡ self.old.blocks }

@@ -1,8 +1,9 @@
-use Rattle.std.proofs.Common.{◌≡◌, ◌<◌, ◌+◌, ◌-◌, ◌++◌, ℕ, length, arith, refl, ap, ◌∙◌, sym, set, slice_range, length-append}
+use Rattle.std.proofs.Common.{◌≡◌, ◌<◌, ◌+◌, ◌-◌, ◌++◌, ℕ, length, arith, refl, ap, ◌∙◌, sym, subst, set, slice_range, length-append}
 use Rattle.std.proofs.lemmas.List.{length-set}
 use Rattle.raw_block.specs.Views.{SoleState}
 use Rattle.rounds.specs.Data.{data_of}
-use Rattle.rounds.proofs.Filling.{filled_none, filled_more, filled_stop, data_zero, data_step, marked_set, short_same}
+use Rattle.rounds.proofs.Filling.{filled_none, filled_more, filled_stop, data_zero, data_step, marked_set, short_same, bytes_none, bytes_behind}
+use Rattle.offload_model.specs.Laws.{InBytes}
 use Rattle.rounds.proofs.body.read_frame.Goals as goal
 
 pub loop-i-init : goal.loop-i-init
@@ -11,6 +12,7 @@ loop-i-init g c =
     record {
       told = filled_none _ _ c.args.reader.now.place c.read_body.new.into (c.args.len - c.args.len) c.args.hold.now.items none c.in-Ok.ensures.given;
       long = ap length (data_zero 64 (c.args.len - c.args.len) c.args.hold.now.items none) ∙ sym none;
+      in_bytes = bytes_none _ (data_zero 64 (c.args.len - c.args.len) c.args.hold.now.items none);
       apart = c.read_body.auto.into;
       place = let on = c.in-Ok.ensures.place in record { file = on.file; link = on.link; number = on.number; offset = on.offset; current = on.current; body = omega (arith, on.body, c.read_body.auto.into); goes_on = on.goes_on };
       left = omega arith;
@@ -53,6 +55,7 @@ loop-i-preserved g c =
     record {
       told = filled_more _ _ _ l.reader.place c.read_body.new.into n n' l.hold.items (set l.hold.items l.i s) (slice_range s.bytes l.from (l.from + size)) step' i.told c.in-Ok-read_block.ensures.given;
       long = omega (arith, ap length step', length-append (data_of 64 n l.hold.items) (slice_range s.bytes l.from (l.from + size)), i.long, c.in-Ok-read_block.ensures.size, whole);
+      in_bytes = bytes_behind _ _ _ step' i.in_bytes c.in-Ok-read_block.ensures.in_bytes;
       apart = i.apart;
       place = record { file = on.file ∙ i.place.file; link = on.link ∙ i.place.link; number = on.number ∙ i.place.number; offset = on.offset ∙ i.place.offset; current = on.current ∙ i.place.current; body = omega (arith, on.body, i.place.body, whole); goes_on = on.goes_on ∙ i.place.goes_on };
       left = omega (arith, i.left, c.min-size.ensures, i.reach);
@@ -72,3 +75,9 @@ returns-clause-long g c =
     let l = c.loop-i in
     let all : c.args.len - l.left ≡ c.args.len = omega (arith, l.invariant.left, c.loop-i-test.false, c.blocks_of-i-end.ensures) in
     ap (λ (k : ℕ). length (data_of 64 k l.hold.items)) (sym all) ∙ l.invariant.long ∙ all
+
+pub returns-clause-in_bytes : goal.returns-clause-in_bytes
+returns-clause-in_bytes g c =
+    let l = c.loop-i in
+    let all : c.args.len - l.left ≡ c.args.len = omega (arith, l.invariant.left, c.loop-i-test.false, c.blocks_of-i-end.ensures) in
+    subst (λ (k : ℕ). InBytes (data_of 64 k l.hold.items)) all l.invariant.in_bytes

@@ -1,12 +1,14 @@
 use Rattle.std.proofs.Common.{◌≡◌, ◌+◌, ◌++◌, ◌∷◌, [], List, ℕ, Ok, Err, ap, sym, subst, ◌∙◌, arith, refl, length, length-append, map}
 use Rattle.off_io.specs.Told.{Told}
+use Rattle.std.specs.List.{AllByRecursion}
 use Rattle.offload_model.specs.Need.{round_need}
+use Rattle.offload_model.specs.Captured.{IsCaptured}
 use Rattle.gro.specs.declared.packet.Packet.{Packet}
 use Rattle.gro.specs.Held.{packet_of, of_packets, counts_of}
 use Rattle.rounds.specs.Fresh.{AreRead, IsFresh, NumberedFrom}
 use Rattle.rounds.specs.Record.{GivesRecord}
 use Rattle.rounds.proofs.Coming.{counts_last}
-use Rattle.rounds.proofs.Rounding.{no_front, so_far_none, so_far_at, so_far_more, round_stop_given, need_last, read_last}
+use Rattle.rounds.proofs.Rounding.{no_front, so_far_none, so_far_at, so_far_more, round_stop_given, need_last, read_last, captured_last}
 use Rattle.rounds.proofs.Taking.{fresh_none, fresh_more, numbered_last}
 use Rattle.rounds.proofs.reading.read_records.Goals as goal
 
@@ -20,6 +22,7 @@ reading-init g c =
       reserved = c.requires.reserved;
       fresh = subst (λ (xs : List Packet). IsFresh 0 0 (of_packets xs)) (sym none) (fresh_none 0);
       read = subst AreRead (sym none) tt;
+      captured = subst (λ (xs : List Packet). AllByRecursion IsCaptured (map packet_of xs)) (sym none) tt;
       numbers = subst (NumberedFrom place.number) (sym none) tt;
       count = ap counts_of none;
       need = sym (ap (λ (xs : List Packet). round_need (map packet_of xs)) none);
@@ -60,6 +63,7 @@ reading-preserved g c =
       reserved = omega (arith, i.reserved, c.push_back_reserved.ensures);
       fresh = subst (λ (xs : List Packet). IsFresh 0 (l.used + c.packet_blocks-used.result) (of_packets xs)) (sym e) (subst (λ (n : ℕ). IsFresh 0 (l.used + n) (of_packets (ps ++ p ∷ []))) (sym k) (fresh_more l.used _ ps p i.fresh r.fresh));
       read = subst AreRead (sym e) (read_last ps p i.read r.read);
+      captured = subst (λ (xs : List Packet). AllByRecursion IsCaptured (map packet_of xs)) (sym e) (captured_last ps p i.captured (r.captured (i.so_far.link ∙ c.requires.link)));
       numbers = subst (NumberedFrom c.args.reader.now.place.number) (sym e) (numbered_last c.args.reader.now.place.number ps p i.numbers (r.number ∙ i.so_far.number));
       count = omega (arith, ap counts_of e, counts_last ps p, i.count, k);
       need = omega (arith, ap (λ (xs : List Packet). round_need (map packet_of xs)) e, need_last ps p, i.need, k, r.need);

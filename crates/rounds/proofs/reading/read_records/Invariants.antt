@@ -1,7 +1,9 @@
 use Rattle.std.proofs.Common.{◌≡◌, ◌+◌, ◌-◌, ◌^◌, ◌≤◌, [], min, map, length}
 use Rattle.std.specs.VecDeque.{deque_capacity}
 use Rattle.block_pool.specs.PoolState.{home}
+use Rattle.std.specs.List.{AllByRecursion}
 use Rattle.offload_model.specs.Need.{round_need}
+use Rattle.offload_model.specs.Captured.{IsCaptured}
 use Rattle.gro.specs.Held.{packet_of, of_packets, counts_of}
 use Rattle.rounds.specs.Fresh.{AreRead, IsFresh, NumberedFrom}
 use Rattle.rounds.proofs.Rounding.{ReadSoFar}
@@ -14,6 +16,7 @@ invariant-reading g l = record {
   reserved : l.budget ≤ deque_capacity l.packets;
   fresh : IsFresh 0 l.used (of_packets l.packets.items);
   read : AreRead l.packets.items;
+  captured : AllByRecursion IsCaptured (map packet_of l.packets.items);
   numbers : NumberedFrom l.initial.reader.place.number l.packets.items;
   count : counts_of l.packets.items ≡ l.used;
   need : l.used ≡ round_need (map packet_of l.packets.items);

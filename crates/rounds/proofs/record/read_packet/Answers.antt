@@ -1,6 +1,7 @@
-use Rattle.std.proofs.Common.{ap, ◌∙◌, length, length-append, arith}
+use Rattle.std.proofs.Common.{ap, sym, subst, ◌∙◌, length, length-append, arith}
 use Rattle.skb.specs.SkbState.{buffer_bytes}
 use Rattle.rounds.proofs.Recording.{packet_given, frame_stop_given, memory_given}
+use Rattle.offload_model.specs.Laws.{InBytes}
 use Rattle.rounds.proofs.record.read_packet.Goals as goal
 
 pub returns-in-Err-clause-given : goal.returns-in-Err-clause-given
@@ -24,3 +25,8 @@ pub returns-in-Err-with_room-clause-given : goal.returns-in-Err-with_room-clause
 returns-in-Err-with_room-clause-given g c =
     let r = c.read_frame.new in
     memory_given _ _ c.args.reader.now.place c.args.head.now r.front c.args.len r.hold.items c.in-Ok.ensures.given
+
+pub returns-in-Ok-with_room-clause-in_fields : goal.returns-in-Ok-with_room-clause-in_fields
+returns-in-Ok-with_room-clause-in_fields g c =
+    let m = c.make_packet.ensures in
+    record { number = m.range.0; sec = m.range.1; frac = m.range.2; in_bytes = subst InBytes (sym m.bytes) c.in-Ok.ensures.in_bytes }

@@ -1,7 +1,7 @@
 use Rattle.std.proofs.Common.{◌∙◌, refl, arith}
 use Rattle.rounds.specs.Merging.{options_of}
 use Rattle.rounds.specs.declared.merge.Step.TheVariants.{Goes, Ends}
-use Rattle.rounds.proofs.Merging.{ahead_none, goes_then, ends_then, taken_then, steps_as}
+use Rattle.rounds.proofs.Merging.{ahead_none, goes_then, ends_then, taken_then, captured_then, steps_as}
 use Rattle.rounds.proofs.rounds.Rounds.merge_all.Goals as goal
 
 pub rounds-init : goal.rounds-init
@@ -57,3 +57,12 @@ returns-in-Ends-clause-taken g c =
     let first = c.args.self.now in
     let new = c.step.new in
     λ done. taken_then first.blocks (options_of first) l.number c.args.reader.now.place l.reader.place new.reader.place _ _ _ _ (g.K.Sink.held l.sink) (g.K.Sink.held l.sink) first.taken l.self.taken new.self.taken l.invariant.told (c.in-Ends.ensures.taken done)
+
+pub returns-in-Ends-clause-captured : goal.returns-in-Ends-clause-captured
+returns-in-Ends-clause-captured g c =
+    let l = c.rounds in
+    let i = l.invariant in
+    let first = c.args.self.now in
+    let new = c.step.new in
+    captured_then first.blocks (options_of first) l.number c.args.reader.now.place l.reader.place new.reader.place _ _ _ _ _ _ first.taken l.self.taken new.self.taken c.in-Ends.end i.told
+    (steps_as l.number l.self first l.reader.place new.reader.place _ _ _ _ l.self.taken new.self.taken (Ends c.in-Ends.end) i.blocks i.budget c.in-Ends.ensures.given) c.in-Ends.ensures.captured
