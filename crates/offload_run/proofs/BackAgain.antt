@@ -1,82 +1,163 @@
 -- Every flow comes back of what merging makes of some bytes; and what is said where nothing was read.
-use Rattle.std.proofs.Common.{◌≡◌, ℕ, zero, suc, ◌*◌, ◌<◌, ◌≤◌, List, [], ◌∷◌, ◌++◌, length, take, drop, refl, ap, ◌∙◌, subst, arith, Option, Some, None, Bool, if◌then◌else◌}
-use Rattle.std.specs.Prelude.{is_some, IfSome}
+use Rattle.std.proofs.Common.{◌≡◌, ℕ, ◌*◌, ◌<◌, ◌≤◌, List, [], ◌++◌, length, length-append, length-take, take, drop, refl, sym, ap, ◌∙◌, subst, arith, append_assoc, take-append-drop, Option, Some, None, Ok, Err, Bool, true, if◌then◌else◌}
+use Rattle.std.specs.Prelude.{is_some, nat_lt, IfSome}
+use Rattle.std.specs.List.{AllByRecursion}
 use Rattle.std.proofs.KnownBytes.{Appends-nil}
-use Rattle.std.proofs.lemmas.Bool.{false≢true}
-use Rattle.clap.specs.Words.{Text}
-use Rattle.std.proofs.lemmas.List.{take_at}
+use Rattle.std.proofs.lemmas.Bool.{false≢true, lt-ltb}
+use Rattle.std.proofs.lemmas.List.{take_at, drop_at, length-take-le}
 use Rattle.off_io.specs.Told.{Told}
-use Rattle.off_io.proofs.Telling.{Told-weaker, Told-same}
+use Rattle.off_io.proofs.Telling.{Told-weaker, Told-then, Told-same}
 use Rattle.maximal_runs.specs.Cut.{AllNeighbours}
 use Rattle.pcap_io.specs.declared.faults.CapKind.{CapKind}
+use Rattle.pcap_io.specs.declared.faults.CapKind.TheVariants.{ShortHeader}
+use Rattle.pcap_io.specs.declared.faults.InFault.{InFault}
+use Rattle.pcap_io.specs.declared.faults.InFault.TheVariants.{Cap, ReadFault}
+use Rattle.pcap_io.specs.declared.heads.FileHead.{FileHead}
 use Rattle.pcap_io.specs.declared.heads.Link.TheVariants.{Ethernet}
-use Rattle.pcap_io.specs.Headers.{first_that_holds, file_refusals, file_head, order_of}
-use Rattle.pcap_io.specs.Capture.{Packet, Found, found_after, records_from}
+use Rattle.pcap_io.specs.declared.place.Place.{Place}
+use Rattle.pcap_io.specs.Headers.{first_that_holds, file_refusals, file_head}
+use Rattle.pcap_io.specs.Capture.{Packet, Found}
 use Rattle.pcap_io.specs.Places.{first_place, found_at}
-use Rattle.offload_model.specs.Laws.{InBytes}
-use Rattle.offload_model.specs.Captured.{AreCaptured}
+use Rattle.pcap_io.specs.Reading.{GivesFile}
+use Rattle.offload_model.specs.Captured.{IsCaptured}
 use Rattle.offload_model.specs.Need.{exceeded_at, found_before, packets_within}
-use Rattle.offload_model.proofs.Lists.{all_taken}
-use Rattle.offload_model.proofs.Captured.{captures_are_captured}
+use Rattle.offload_model.proofs.Lists.{near_taken}
 use Rattle.offload_model.proofs.Flows.{flows_come_back}
 use Rattle.offload_words.specs.declared.words.Command.{Command}
 use Rattle.offload_words.specs.declared.words.Command.TheVariants.{Merge, Segment, Make}
-use Rattle.offload_words.specs.Commands.{HasRanges, command_of}
-use Rattle.offload_words.proofs.CommandSet.{ranges}
-use Rattle.offload_run.specs.Output.{options, merged_packets, FlowsComeBack}
+use Rattle.rounds.specs.declared.merge.MergeEnd.{MergeEnd}
+use Rattle.rounds.specs.declared.merge.MergeEnd.TheVariants as ends
+use Rattle.rounds.specs.Merging.{HoldsCaptured}
+use Rattle.offload_run.specs.declared.status.Status.{Status}
 use Rattle.offload_run.specs.declared.status.Status.TheVariants as statuses
+use Rattle.offload_run.specs.Ending.{OfRead, IsStatusFor, status_by}
+use Rattle.offload_run.specs.Output.{options, merged_packets, AreCapturedWithin, FlowsComeBack}
 use Rattle.offload_run.specs.RunAnswers.{Answers, FlowsBack}
-use Rattle.offload_run.proofs.BothWays.{small_take}
+use Rattle.offload_run.proofs.Numbered.{records_rising}
 
-rising_taken : (n : ℕ) (ps : List Packet) → AllNeighbours (λ p q. p.number < q.number) ps → AllNeighbours (λ p q. p.number < q.number) (take n ps)
-rising_taken zero ps r = tt
-rising_taken (suc n) [] r = tt
-rising_taken (suc zero) (p ∷ ps) r = tt
-rising_taken (suc (suc n)) (p ∷ []) r = tt
-rising_taken (suc (suc n)) (p ∷ q ∷ ps) r = (r.0, rising_taken (suc n) (q ∷ ps) r.1)
+-- ---- what is merged
 
-captured_taken : (n : ℕ) (ps : List Packet) → AreCaptured ps → AreCaptured (take n ps)
-captured_taken n ps c = record { each = all_taken _ n ps c.each; rising = rising_taken n ps c.rising }
+rising_before : (budget : ℕ) (exceeded : Option (ℕ × ℕ)) (found : Found) → AllNeighbours (λ p q. p.number < q.number) found.packets → AllNeighbours (λ p q. p.number < q.number) (found_before budget exceeded found).packets
+rising_before budget None found r = r
+rising_before budget (Some at) found r = near_taken (λ (p q : Packet). p.number < q.number) (at.0 * budget) found.packets r
 
-captured_before : (budget : ℕ) (exceeded : Option (ℕ × ℕ)) (found : Found) → AreCaptured found.packets → AreCaptured (found_before budget exceeded found).packets
-captured_before budget None found c = c
-captured_before budget (Some at) found c = captured_taken (at.0 * budget) found.packets c
+-- the packets of these bytes that are merged
+abbrev merged_at : Option CapKind → ℕ → ℕ → List ℕ → List Packet
+merged_at refused blocks budget given =
+    if is_some refused then [] else packets_within blocks budget (first_place (file_head (take 24 given)) Ethernet 0) (drop 24 given)
 
--- the packets that are merged, whatever the file header is
-captured_merged : (blocks budget : ℕ) (given : List ℕ) → InBytes given → AreCaptured (merged_packets blocks budget given)
-captured_merged blocks budget given bytes =
-    go (first_that_holds (file_refusals Ethernet (take 24 given))) (captures_are_captured given bytes)
-  where
-    go : (r : Option CapKind) → AreCaptured (found_after r (records_from (order_of (take 24 given)) Ethernet 0 24 0 (drop 24 given))).packets
-        → AreCaptured (if is_some r then [] else packets_within blocks budget (first_place (file_head (take 24 given)) Ethernet 0) (drop 24 given))
-    go (Some kind) c = record { each = tt; rising = tt }
-    go None c =
-        let place = first_place (file_head (take 24 given)) Ethernet 0 in
-        captured_before budget (exceeded_at blocks budget place (drop 24 given)) (found_at place (drop 24 given)) c
+merged_rising : (refused : Option CapKind) (blocks budget : ℕ) (given : List ℕ) → AllNeighbours (λ p q. p.number < q.number) (merged_at refused blocks budget given)
+merged_rising (Some kind) blocks budget given = tt
+merged_rising None blocks budget given =
+    let place = first_place (file_head (take 24 given)) Ethernet 0 in
+    rising_before budget (exceeded_at blocks budget place (drop 24 given)) (found_at place (drop 24 given)) (records_rising place.file place.offset (drop 24 given))
 
-small_front : (seen rest given : List ℕ) → given ≡ seen ++ rest → InBytes given → InBytes seen
-small_front seen rest given e bytes =
-    subst InBytes (ap (take (length seen)) e ∙ take_at seen rest (length seen) refl) (small_take (length seen) given bytes)
+-- packets that are captured each come back
+flows_back : (blocks budget : ℕ) → 1 ≤ budget → (given : List ℕ) → AllByRecursion IsCaptured (merged_packets blocks budget given) → FlowsComeBack budget (merged_packets blocks budget given)
+flows_back blocks budget room given each =
+    flows_come_back (options budget) (merged_packets blocks budget given) (record { budget = room; some = omega arith; queues = omega arith; taps = omega arith })
+    (record { each = each; rising = merged_rising (first_that_holds (file_refusals Ethernet (take 24 given))) blocks budget given })
 
-flows_back : (blocks budget : ℕ) → 1 ≤ budget → (given : List ℕ) → InBytes given → (seen rest : List ℕ) → given ≡ seen ++ rest
-    → FlowsComeBack budget (merged_packets blocks budget seen)
-flows_back blocks budget room given bytes seen rest e =
-    flows_come_back (options budget) (merged_packets blocks budget seen) (record { budget = room; some = omega arith; queues = omega arith; taps = omega arith })
-    (captured_merged blocks budget seen (small_front seen rest given e bytes))
+-- where the file header is refused there are none
+none_merged : (blocks budget : ℕ) → 1 ≤ budget → (given : List ℕ) (kind : CapKind) → first_that_holds (file_refusals Ethernet (take 24 given)) ≡ Some kind → FlowsComeBack budget (merged_packets blocks budget given)
+none_merged blocks budget room given kind refused =
+    flows_back blocks budget room given (subst (λ (o : Option CapKind). AllByRecursion IsCaptured (merged_at o blocks budget given)) (sym refused) tt)
 
-flows_at : (command : Command) → HasRanges command → (given left : List ℕ) → FlowsBack command given left
-flows_at (Merge o) ranges given left = λ bytes seen rest e. flows_back o.blocks o.budget ranges.0 given bytes seen rest e
-flows_at (Segment o) ranges given left = tt
-flows_at (Make o) ranges given left = tt
+-- behind a lawful one stand those that were read
+behind_merged : (blocks budget : ℕ) → 1 ≤ budget → (file : FileHead) (given rest : List ℕ) → GivesFile Ethernet (Ok file) given rest → AreCapturedWithin blocks budget (first_place file Ethernet 0) rest
+    → FlowsComeBack budget (merged_packets blocks budget given)
+behind_merged blocks budget room file given rest gives each =
+    flows_back blocks budget room given
+    (subst (λ (o : Option CapKind). AllByRecursion IsCaptured (merged_at o blocks budget given)) (sym gives.1)
+    (subst (λ (f : FileHead). AreCapturedWithin blocks budget (first_place f Ethernet 0) (drop 24 given)) gives.2
+    (subst (AreCapturedWithin blocks budget (first_place file Ethernet 0)) gives.3 each)))
 
--- whatever else is told of the bytes
-pub flows_given : (command : Command) (a b : Option (List ℕ)) (P : List ℕ → List ℕ → Type 0) → HasRanges command → Told a b P → Told a b (FlowsBack command)
-flows_given command a b P ranges told = Told-weaker a b P (FlowsBack command) (λ given left p. flows_at command ranges given left) told
+-- a file header that was taken is taken again, whatever follows it
+file_again : (file : FileHead) (given rest more : List ℕ) → GivesFile Ethernet (Ok file) given rest → GivesFile Ethernet (Ok file) (take 24 given ++ more) more
+file_again file given rest more gives =
+    let front = take 24 given in
+    let size : length front ≡ 24 = length-take-le 24 given gives.0 in
+    let same : take 24 (front ++ more) ≡ front = take_at front more 24 size in (
+      omega (arith, size, length-append front more),
+      ap (λ (xs : List ℕ). first_that_holds (file_refusals Ethernet xs)) same ∙ gives.1,
+      gives.2 ∙ ap file_head (sym same),
+      sym (drop_at front more 24 size),
+    )
+
+-- ---- by what was read
+
+module _ (blocks budget : ℕ) (room : 1 ≤ budget) where
+  abbrev Back : List ℕ → Type 0
+  Back read = FlowsComeBack budget (merged_packets blocks budget read)
+
+  -- fewer than 24 bytes are gone
+  no_header : (given left : List ℕ) → GivesFile Ethernet (Err ReadFault) given left → OfRead Back statuses.ReadFault given left
+  no_header given left gives =
+      let front = gives.0 in
+      let test : nat_lt (length (take 24 front)) 24 ≡ true = lt-ltb _ _ (omega (arith, length-take 24 front, gives.2)) in
+      let refused : first_that_holds (file_refusals Ethernet (take 24 front)) ≡ Some ShortHeader =
+      ap (λ (v : Bool). if v then Some ShortHeader else first_that_holds (drop 1 (file_refusals Ethernet (take 24 front)))) test in
+      (front, gives.1, none_merged blocks budget room front ShortHeader refused)
+
+  -- a file header that is refused or can't be read
+  pub no_file_back : (a b : Option (List ℕ)) (fault : InFault) (status : Status) → IsStatusFor fault status → Told a b (GivesFile Ethernet (Err fault)) → Told a b (OfRead Back status)
+  no_file_back a b (Cap fault) status is told =
+      subst (λ (s : Status). Told a b (OfRead Back s)) (sym is)
+      (Told-weaker a b (GivesFile Ethernet (Err (Cap fault))) (OfRead Back (statuses.Malformed fault)) (λ given left gives. none_merged blocks budget room given fault.kind gives.0.0) told)
+  no_file_back a b ReadFault status is told =
+      subst (λ (s : Status). Told a b (OfRead Back s)) (sym is)
+      (Told-weaker a b (GivesFile Ethernet (Err ReadFault)) (OfRead Back statuses.ReadFault) (λ given left gives. no_header given left gives) told)
+
+  -- the file header was not wholly written
+  pub head_failed_back : (a b : Option (List ℕ)) (file : FileHead) → Told a b (GivesFile Ethernet (Ok file)) → Told a b (OfRead Back statuses.WriteFault)
+  head_failed_back a b file told = Told-weaker a b (GivesFile Ethernet (Ok file)) (OfRead Back statuses.WriteFault) (λ given left gives. tt) told
+
+  back_behind : (file : FileHead) (status : Status) (given rest left : List ℕ) → GivesFile Ethernet (Ok file) given rest → OfRead (AreCapturedWithin blocks budget (first_place file Ethernet 0)) status rest left
+      → OfRead Back status given left
+  back_behind file statuses.Ok given rest left gives each = behind_merged blocks budget room file given rest gives each
+  back_behind file (statuses.Malformed fault) given rest left gives each = behind_merged blocks budget room file given rest gives each
+  back_behind file (statuses.PoolEmpty round need made) given rest left gives each = behind_merged blocks budget room file given rest gives each
+  back_behind file statuses.ReadFault given rest left gives each =
+      let front = take 24 given in (
+        front ++ each.0,
+        sym (take-append-drop 24 given) ∙ ap (λ (l : List ℕ). front ++ l) (sym gives.3 ∙ each.1) ∙ sym (append_assoc front each.0 left),
+        behind_merged blocks budget room file (front ++ each.0) each.0 (file_again file given rest each.0 gives) each.2,
+      )
+  back_behind file statuses.Usage given rest left gives each = tt
+  back_behind file statuses.WriteFault given rest left gives each = tt
+  back_behind file statuses.NoMemory given rest left gives each = tt
+
+  -- what was read behind a file header
+  pub whole_back : (a b c : Option (List ℕ)) (file : FileHead) (status : Status) → Told a b (GivesFile Ethernet (Ok file)) → Told b c (OfRead (AreCapturedWithin blocks budget (first_place file Ethernet 0)) status)
+      → Told a c (OfRead Back status)
+  whole_back a b c file status first second =
+      Told-then a b c (GivesFile Ethernet (Ok file)) (OfRead (AreCapturedWithin blocks budget (first_place file Ethernet 0)) status) (OfRead Back status)
+      (λ given rest left gives each. back_behind file status given rest left gives each) first second
+
+captured_by : (blocks budget made : ℕ) (place : Place) (end : MergeEnd) (bytes left : List ℕ) → HoldsCaptured blocks budget place end bytes left → OfRead (AreCapturedWithin blocks budget place) (status_by end made) bytes left
+captured_by blocks budget made place ends.Done bytes left h = h
+captured_by blocks budget made place (ends.Malformed fault) bytes left h = h
+captured_by blocks budget made place (ends.PoolEmpty round need) bytes left h = h
+captured_by blocks budget made place ends.ReadFault bytes left h = h
+captured_by blocks budget made place ends.WriteFault bytes left h = tt
+captured_by blocks budget made place ends.NoMemory bytes left h = tt
+
+-- the packets that merging read, by its status
+pub captured_given : (blocks budget made : ℕ) (place : Place) (a b : Option (List ℕ)) (end : MergeEnd) (status : Status) → status ≡ status_by end made → Told a b (HoldsCaptured blocks budget place end)
+    → Told a b (OfRead (AreCapturedWithin blocks budget place) status)
+captured_given blocks budget made place a b end status is told =
+    subst (λ (s : Status). Told a b (OfRead (AreCapturedWithin blocks budget place) s)) (sym is)
+    (Told-weaker a b (HoldsCaptured blocks budget place end) (OfRead (AreCapturedWithin blocks budget place) (status_by end made)) (λ bytes left h. captured_by blocks budget made place end bytes left h) told)
+
+pub none_captured : (P : List ℕ → Type 0) (a : Option (List ℕ)) → Told a a (OfRead P statuses.NoMemory)
+none_captured P a = Told-same a (OfRead P statuses.NoMemory) (λ given. tt)
 
 -- where nothing was read
-pub flows_unread : (words : List Text) (o : Option Command) (a : Option (List ℕ)) → command_of words ≡ o → IfSome o (λ command. Told a a (FlowsBack command))
-flows_unread words None a is = tt
-flows_unread words (Some command) a is = Told-same a (FlowsBack command) (λ given. flows_at command (ranges words command is) given given)
+pub flows_unread : (o : Option Command) (a : Option (List ℕ)) → IfSome o (λ command. Told a a (FlowsBack command statuses.NoMemory))
+flows_unread None a = tt
+flows_unread (Some (Merge o)) a = Told-same a (FlowsBack (Merge o) statuses.NoMemory) (λ given. tt)
+flows_unread (Some (Segment o)) a = Told-same a (FlowsBack (Segment o) statuses.NoMemory) (λ given. tt)
+flows_unread (Some (Make o)) a = Told-same a (FlowsBack (Make o) statuses.NoMemory) (λ given. tt)
 
 -- ---- no memory for the words
 

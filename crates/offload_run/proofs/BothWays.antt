@@ -19,7 +19,7 @@ use Rattle.offload_model.proofs.ComesBack.{captures_come_back, records_are_few}
 use Rattle.offload_run.specs.Laws.{EveryFlowComesBack}
 use Rattle.offload_run.specs.Output.{options}
 
-pub small_take : (n : ℕ) (f : List ℕ) → InBytes f → InBytes (take n f)
+small_take : (n : ℕ) (f : List ℕ) → InBytes f → InBytes (take n f)
 small_take n f s k = elim (cases_lt k n) [
   | inl l ↦ subst (λ b. b < 256) (sym (get_or-take n f k 0 l)) (s k)
   | inr l ↦ subst (λ b. b < 256) (sym (get_or_past (take n f) k 0 (omega (arith, length-take n f)))) (omega arith)

@@ -2,6 +2,7 @@ mod Behind
 mod Segmenting
 mod Used
 mod Makings
+mod Numbered
 mod BackAgain
 mod PlainWords
 mod BothWays

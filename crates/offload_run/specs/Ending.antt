@@ -1,9 +1,11 @@
 -- How a command that reads a capture and writes one ended, by its status.
-use Rattle.std.specs.Prelude.{◌≡◌, ℕ, Bool, true, List, Option, Some, None, ⊤}
+use Rattle.std.specs.Prelude.{◌≡◌, ℕ, Bool, true, List, ◌++◌, Option, Some, None, ⊤}
 use Rattle.off_io.specs.Content.{SaysFlushed}
 use Rattle.pcap_io.specs.declared.faults.InFault.{InFault}
 use Rattle.pcap_io.specs.declared.faults.InFault.TheVariants as faults
 use Rattle.offload_model.specs.Passing.{Ending, Stopped, Nowhere, AtFault, AtRound, ReadFault, WriteFault, NoMemory, flushes}
+use Rattle.rounds.specs.declared.merge.MergeEnd.{MergeEnd}
+use Rattle.rounds.specs.declared.merge.MergeEnd.TheVariants as ends
 use Rattle.offload_run.specs.declared.status.Status.{Status}
 use Rattle.offload_run.specs.declared.status.Status.TheVariants as statuses
 
@@ -36,3 +38,23 @@ HasBlocks blocks _ = ⊤
 abbrev pub IsStatusFor : InFault → Status → Type 0
 IsStatusFor (faults.Cap fault) status = status ≡ statuses.Malformed fault
 IsStatusFor faults.ReadFault status = status ≡ statuses.ReadFault
+
+-- the status that merging ends with over this many blocks
+abbrev pub status_by : MergeEnd → ℕ → Status
+status_by ends.Done blocks = statuses.Ok
+status_by (ends.Malformed fault) blocks = statuses.Malformed fault
+status_by (ends.PoolEmpty round need) blocks = statuses.PoolEmpty round need blocks
+status_by ends.ReadFault blocks = statuses.ReadFault
+status_by ends.WriteFault blocks = statuses.WriteFault
+status_by ends.NoMemory blocks = statuses.NoMemory
+
+-- This holds of the bytes that were given, where they end the command; where the source failed, of those that are gone. Where
+-- the sink failed or memory ran out, nothing is said.
+abbrev pub OfRead : (List ℕ → Type 0) → Status → List ℕ → List ℕ → Type 0
+OfRead P statuses.Ok given left = P given
+OfRead P (statuses.Malformed fault) given left = P given
+OfRead P (statuses.PoolEmpty round need blocks) given left = P given
+OfRead P statuses.ReadFault given left = (gone : List ℕ) × (given ≡ gone ++ left) × P gone
+OfRead P statuses.Usage given left = ⊤
+OfRead P statuses.WriteFault given left = ⊤
+OfRead P statuses.NoMemory given left = ⊤

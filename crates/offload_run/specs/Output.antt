@@ -1,15 +1,16 @@
 -- What `merge` makes of a capture.
 use Rattle.std.specs.Prelude.{◌≡◌, ℕ, List, [], take, drop, is_some, if◌then◌else◌, map, Option}
-use Rattle.std.specs.List.{filter, flat_map}
+use Rattle.std.specs.List.{AllByRecursion, filter, flat_map}
 use Rattle.pcap_io.specs.declared.heads.Link.TheVariants.{Ethernet}
 use Rattle.pcap_io.specs.Headers.{first_that_holds, file_refusals, file_head}
 use Rattle.pcap_io.specs.Capture.{Packet}
+use Rattle.pcap_io.specs.declared.place.Place.{Place}
 use Rattle.pcap_io.specs.Places.{first_place}
 use Rattle.offload_model.specs.Segments.{packet_in, segments_of}
 use Rattle.offload_model.specs.Rounds.{is_of}
 use Rattle.offload_model.specs.Written.{Options, records_of}
 use Rattle.offload_model.specs.Need.{packets_within}
-use Rattle.offload_model.specs.Captured.{content}
+use Rattle.offload_model.specs.Captured.{IsCaptured, content}
 
 -- how a capture is merged: in rounds of `budget` records, in one queue, with no tap
 abbrev pub options : ℕ → Options
@@ -21,6 +22,10 @@ abbrev pub merged_packets : ℕ → ℕ → List ℕ → List Packet
 merged_packets blocks budget given =
     if is_some (first_that_holds (file_refusals Ethernet (take 24 given))) then [] else
     packets_within blocks budget (first_place (file_head (take 24 given)) Ethernet 0) (drop 24 given)
+
+-- the packets that are merged of what stands behind a file header are such as a capture may hold
+abbrev pub AreCapturedWithin : ℕ → ℕ → Place → List ℕ → Type 0
+AreCapturedWithin blocks budget place bytes = AllByRecursion IsCaptured (packets_within blocks budget place bytes)
 
 -- every flow comes back: the segments of the records that are written and whose frames have a key are the packets that
 -- have it, in order, in bytes and original length

@@ -1,13 +1,12 @@
 -- What each answer of the whole program says, by the command that the words ask for.
-use Rattle.std.specs.Prelude.{◌≡◌, ℕ, List, ◌++◌, Bool, Option, ⊤}
+use Rattle.std.specs.Prelude.{◌≡◌, ℕ, List, Bool, Option, ⊤}
 use Rattle.pcap_io.specs.declared.heads.Link.TheVariants.{Ethernet, Offload}
-use Rattle.offload_model.specs.Laws.{InBytes}
 use Rattle.offload_model.specs.Passing.{merging_whole, segmenting_whole}
 use Rattle.offload_model.specs.Passing as passing
 use Rattle.offload_words.specs.declared.words.Command.{Command}
 use Rattle.offload_words.specs.declared.words.Command.TheVariants.{Merge, Segment, Make}
 use Rattle.offload_run.specs.declared.status.Status.{Status}
-use Rattle.offload_run.specs.Ending.{ending_of, Ends, HasBlocks}
+use Rattle.offload_run.specs.Ending.{ending_of, Ends, HasBlocks, OfRead}
 use Rattle.offload_run.specs.Making.{MakeAnswers}
 use Rattle.offload_run.specs.Output.{options, merged_packets, FlowsComeBack}
 
@@ -25,8 +24,7 @@ AreBlocksOf (Merge o) status = HasBlocks o.blocks status
 AreBlocksOf (Segment o) status = HasBlocks o.blocks status
 AreBlocksOf (Make o) status = ⊤
 
--- however much of the bytes was read, every flow comes back of what `merge` makes of that
-abbrev pub FlowsBack : Command → List ℕ → List ℕ → Type 0
-FlowsBack (Merge o) given left =
-    InBytes given → (seen rest : List ℕ) → given ≡ seen ++ rest → FlowsComeBack o.budget (merged_packets o.blocks o.budget seen)
-FlowsBack _ given left = ⊤
+-- every flow comes back of what `merge` makes of what was read
+abbrev pub FlowsBack : Command → Status → List ℕ → List ℕ → Type 0
+FlowsBack (Merge o) status given left = OfRead (λ read. FlowsComeBack o.budget (merged_packets o.blocks o.budget read)) status given left
+FlowsBack _ status given left = ⊤

@@ -32,7 +32,7 @@ fn run_command<S: Source, K: Sink, G: Gate>(
     ensures given { Told (S.left source.old) (S.left source.new) (Answers command (K.held sink.old) (K.held sink.new) (K.is_flushed sink.new) (sink.new ≡ sink.old) result) }
     ensures made { Makes command (K.held sink.old) (K.held sink.new) (K.is_flushed sink.new) (source.new ≡ source.old) result }
     ensures blocks { AreBlocksOf command result }
-    ensures flows { Told (S.left source.old) (S.left source.new) (FlowsBack command) }
+    ensures flows { Told (S.left source.old) (S.left source.new) (FlowsBack command result) }
     ensures engine { result ≡ Status.Ok → HasRun command engine.new (S.left source.old) (S.left source.new) }
     ensures not_usage { result ≡ Status.Usage → ⊥ }
     ensures later { S.faults source.old ≤ S.faults source.new }
@@ -63,7 +63,7 @@ fn run_words<S: Source, K: Sink, G: Gate>(
     ensures given { IfSome (command_of (map string_bytes words.now)) (λ command. Told (S.left source.old) (S.left source.new) (Answers command (K.held sink.old) (K.held sink.new) (K.is_flushed sink.new) (sink.new ≡ sink.old) result)) }
     ensures made { IfSome (command_of (map string_bytes words.now)) (λ command. Makes command (K.held sink.old) (K.held sink.new) (K.is_flushed sink.new) (source.new ≡ source.old) result) }
     ensures blocks { IfSome (command_of (map string_bytes words.now)) (λ command. AreBlocksOf command result) }
-    ensures flows { IfSome (command_of (map string_bytes words.now)) (λ command. Told (S.left source.old) (S.left source.new) (FlowsBack command)) }
+    ensures flows { IfSome (command_of (map string_bytes words.now)) (λ command. Told (S.left source.old) (S.left source.new) (FlowsBack command result)) }
     ensures engine { IfSome (command_of (map string_bytes words.now)) (λ command. result ≡ Status.Ok → HasRun command engine.new (S.left source.old) (S.left source.new)) }
     ensures later { S.faults source.old ≤ S.faults source.new }
     ensures later_sink { K.faults sink.old ≤ K.faults sink.new }
@@ -110,7 +110,7 @@ pub fn run<S: Source + Send, K: Sink + Send, L: Sink, G: Gate + Sync>(
     ensures given { IfSome (command_of (map string_bytes words.now)) (λ command. Told (S.left source.old) (S.left source.new) (Answers command (K.held sink.old) (K.held sink.new) (K.is_flushed sink.new) (sink.new ≡ sink.old) result)) }
     ensures made { IfSome (command_of (map string_bytes words.now)) (λ command. Makes command (K.held sink.old) (K.held sink.new) (K.is_flushed sink.new) (source.new ≡ source.old) result) }
     ensures blocks { IfSome (command_of (map string_bytes words.now)) (λ command. AreBlocksOf command result) }
-    ensures flows { IfSome (command_of (map string_bytes words.now)) (λ command. Told (S.left source.old) (S.left source.new) (FlowsBack command)) }
+    ensures flows { IfSome (command_of (map string_bytes words.now)) (λ command. Told (S.left source.old) (S.left source.new) (FlowsBack command result)) }
     ensures engine { IfSome (command_of (map string_bytes words.now)) (λ command. result ≡ Status.Ok → HasRun command engine.new (S.left source.old) (S.left source.new)) }
     ensures later { S.faults source.old ≤ S.faults source.new }
     ensures later_sink { K.faults sink.old ≤ K.faults sink.new }

@@ -9,10 +9,10 @@ ghost use Rattle.pcap_io.specs.Places.{first_place, found_at};
 ghost use Rattle.offload_model.specs.Need.{round_need};
 ghost use Rattle.offload_model.specs.Passing.{merging, merging_whole, Answers, Passes, flushes};
 ghost use Rattle.offload_words.specs.Merge.{IsInRange};
-ghost use Rattle.rounds.specs.Merging.{ending_of as merge_ending};
-ghost use Rattle.offload_run.specs.Ending.{ending_of, Ends, FlushesAt, HasBlocks};
+ghost use Rattle.rounds.specs.Merging.{ending_of as merge_ending, HoldsCaptured};
+ghost use Rattle.offload_run.specs.Ending.{ending_of, Ends, FlushesAt, HasBlocks, OfRead, status_by};
 ghost use Rattle.offload_run.specs.Engines.{HasMerged};
-ghost use Rattle.offload_run.specs.Output.{options as options_of};
+ghost use Rattle.offload_run.specs.Output.{options as options_of, merged_packets, AreCapturedWithin, FlowsComeBack};
 
 use crate::ending::refused;
 use crate::{Engine, Status};
@@ -24,6 +24,7 @@ use std::alloc::Global;
 
 // The status that merging ends with over this many blocks.
 fn status_of(end: MergeEnd, blocks: u32) -> Status
+    ensures is { result ≡ status_by end blocks }
     ensures ending { ending_of result ≡ Some (merge_ending end) }
     ensures blocks { HasBlocks blocks result }
     ensures done { result ≡ Status.Ok → end ≡ MergeEnd.Done }
@@ -55,6 +56,7 @@ fn merge_behind<S: Source, K: Sink, G: Gate>(
 ) -> MergeEnd
     requires home { rounds.old.home ≡ rounds.old.blocks }
     ensures given { Told (S.left source.old) (S.left source.new) (Passes (merging rounds.old.blocks (options_of rounds.old.budget) (first_place file Ethernet 0)) (K.held sink.old) (K.held sink.new) (merge_ending result)) }
+    ensures captured { Told (S.left source.old) (S.left source.new) (HoldsCaptured rounds.old.blocks rounds.old.budget (first_place file Ethernet 0) result) }
     ensures flushed { flushes (merge_ending result) ≡ true → SaysFlushed (K.held sink.new) (K.is_flushed sink.new) true }
     ensures home { rounds.new.home ≡ rounds.new.blocks }
     ensures same { rounds.new.blocks ≡ rounds.old.blocks }
@@ -81,6 +83,7 @@ fn merge_records<S: Source, K: Sink, G: Gate>(
     requires range { IsInRange options }
     requires engine { engine.old ≡ None }
     ensures given { Told (S.left source.old) (S.left source.new) (Ends (Passes (merging options.blocks (options_of options.budget) (first_place file Ethernet 0)) (K.held sink.old) (K.held sink.new)) (ending_of result)) }
+    ensures captured { Told (S.left source.old) (S.left source.new) (OfRead (AreCapturedWithin options.blocks options.budget (first_place file Ethernet 0)) result) }
     ensures flushed { FlushesAt (K.held sink.new) (K.is_flushed sink.new) (ending_of result) }
     ensures blocks { HasBlocks options.blocks result }
     ensures engine { result ≡ Status.Ok → HasMerged options.blocks (λ rest. round_need (found_at (first_place file Ethernet 0) rest).packets) engine.new (S.left source.old) (S.left source.new) }
@@ -111,6 +114,7 @@ pub(crate) fn run_merge<S: Source, K: Sink, G: Gate>(
     requires range { IsInRange options }
     requires engine { engine.old ≡ None }
     ensures given { Told (S.left source.old) (S.left source.new) (Ends (Answers Ethernet (merging_whole options.blocks (options_of options.budget)) (K.held sink.old) (K.held sink.new) (K.is_flushed sink.new) (sink.new ≡ sink.old)) (ending_of result)) }
+    ensures flows { Told (S.left source.old) (S.left source.new) (OfRead (λ read. FlowsComeBack options.budget (merged_packets options.blocks options.budget read)) result) }
     ensures blocks { HasBlocks options.blocks result }
     ensures engine { result ≡ Status.Ok → HasMerged options.blocks (λ given. round_need (reads Ethernet given).packets) engine.new (S.left source.old) (S.left source.new) }
     ensures not_usage { result ≡ Status.Usage → ⊥ }

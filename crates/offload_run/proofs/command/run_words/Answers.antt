@@ -1,4 +1,4 @@
-use Rattle.std.proofs.Common.{◌≡◌, refl}
+use Rattle.std.proofs.Common.{◌≡◌}
 use Rattle.offload_words.specs.Commands.{command_of}
 use Rattle.std.specs.Prelude.{map, string_bytes}
 use Rattle.offload_run.proofs.BackAgain.{all_unread, flows_unread}
@@ -9,4 +9,4 @@ returns-in-Err-NoMemory-clause-given g c =
     all_unread (command_of (map string_bytes c.args.words.now)) _ _ (g.K.Sink.is_flushed c.args.sink.now) (c.args.sink.now ≡ c.args.sink.now)
 
 pub returns-in-Err-NoMemory-clause-flows : goal.returns-in-Err-NoMemory-clause-flows
-returns-in-Err-NoMemory-clause-flows g c = flows_unread (map string_bytes c.args.words.now) (command_of (map string_bytes c.args.words.now)) _ refl
+returns-in-Err-NoMemory-clause-flows g c = flows_unread (command_of (map string_bytes c.args.words.now)) _
