@@ -1,6 +1,6 @@
 //! Pools that just suffice, and pools with a block too few.
 
-use crate::row_frames::{Frame, capture_of};
+use crate::row_frames::{FILE_HEADER, Frame, PLAIN, capture_of};
 use crate::rows::SEGMENT;
 use crate::tests::run_line;
 use crate::{Engine, Status};
@@ -36,6 +36,49 @@ fn empty(need: u32, blocks: u32, line: &'static str) -> (Status, &'static str) {
         },
         line,
     )
+}
+
+// A capture of a link type whose only record is cut short behind its header.
+fn begun(link: u8, len: u32) -> [u8; 40] {
+    let mut bytes = [0; 40];
+    bytes[..24].copy_from_slice(&FILE_HEADER);
+    bytes[20] = link;
+    bytes[32..36].copy_from_slice(&len.to_le_bytes());
+    bytes[36..].copy_from_slice(&len.to_le_bytes());
+    bytes
+}
+
+// A record that is cut short and too big for the pool is refused for its size; that of 65,495 segments needs 35 blocks.
+#[test]
+fn records_are_judged_by_their_headers(rt: HostRuntime) -> Result<(), Fail> {
+    let rows = [
+        (
+            "offload merge --blocks 2",
+            begun(1, 1514),
+            "pool empty: round 0 needs 3 of 2 blocks\n",
+        ),
+        (
+            "offload merge --blocks 3",
+            begun(1, 1514),
+            "malformed: ShortRecord at 24 in record 0\n",
+        ),
+        (
+            "offload segment --blocks 34",
+            begun(147, 65561),
+            "pool empty: round 0 needs 35 of 34 blocks\n",
+        ),
+        (
+            "offload segment --blocks 35",
+            begun(147, 65561),
+            "malformed: ShortRecord at 24 in record 0\n",
+        ),
+    ];
+    for (line, input, log) in rows {
+        let ended = run_line(rt.alloc(), line, &input, 4096, &[], &[])?;
+        assert_eq!(rt; ended.log.bytes(), log.as_bytes(), "at {line}");
+        assert_eq!(rt; ended.sink.bytes().len(), 24, "at {line}");
+    }
+    Ok(())
 }
 
 // Each frame of 1,514 bytes needs three blocks; their merged frame of 2,962 bytes needs four.
@@ -112,5 +155,40 @@ fn engines_tell_their_blocks(rt: HostRuntime) -> Result<(), Fail> {
     assert_eq!(rt; told_by(&cut.engine), (7, 4));
     let made = run_line(alloc, "offload make --count 1", &[], 4096, &[], &[])?;
     assert_eq!(rt; told_by(&made.engine), (0, 0));
+    Ok(())
+}
+
+// 200 segments in rounds of two, and 20,000 rounds of one packet, with the fewest blocks.
+#[test]
+fn the_fewest_blocks_serve_every_round(rt: HostRuntime) -> Result<(), Fail> {
+    let alloc = rt.alloc();
+    let mut frames = Vec::new(alloc);
+    for i in 0..200u16 {
+        frames.push(Frame {
+            id: 100 + i,
+            seq: 1000 + 1448 * u32::from(i),
+            ..SEGMENT
+        })?;
+    }
+    let input = capture_of(alloc, &frames)?;
+    let line = "offload merge --blocks 6 --budget 2";
+    let pairs = run_line(alloc, line, &input, 4096, &[], &[])?;
+    assert_eq!(rt; pairs.status, Status::Ok);
+    assert_eq!(rt; pairs.sink.bytes().len(), 299024);
+    assert_eq!(rt; told_by(&pairs.engine), (6, 600));
+    let mut frames = Vec::new(alloc);
+    for port in 0..20000u16 {
+        frames.push(Frame {
+            port,
+            payload: 1,
+            ..PLAIN
+        })?;
+    }
+    let input = capture_of(alloc, &frames)?;
+    let line = "offload merge --blocks 3 --budget 1";
+    let singles = run_line(alloc, line, &input, 4096, &[], &[])?;
+    assert_eq!(rt; singles.status, Status::Ok);
+    assert_eq!(rt; singles.sink.bytes().len(), 1660024);
+    assert_eq!(rt; told_by(&singles.engine), (3, 60000));
     Ok(())
 }
