@@ -19,5 +19,7 @@ mod exports;
 mod memory;
 mod merging;
 mod segmenting;
+#[cfg(test)]
+mod tests;
 
 pub use exports::{offload_merge, offload_queue, offload_segment};

@@ -1,0 +1,57 @@
+//! The exports, called as C calls them.
+use crate::{offload_merge, offload_queue, offload_segment};
+use std::test::Fail;
+
+// One merged record of two TCP segments, little-endian microseconds.
+const MERGED: [u8; 112] = [
+    0xd4, 0xc3, 0xb2, 0xa1, 0x02, 0x00, 0x04, 0x00, 0x00, 0x00, 0x00, 0x00, 0x00, 0x00, 0x00, 0x00,
+    0x0c, 0x00, 0x04, 0x00, 0x93, 0x00, 0x00, 0x00, 0x01, 0x00, 0x00, 0x00, 0x00, 0x00, 0x00, 0x00,
+    0x48, 0x00, 0x00, 0x00, 0x48, 0x00, 0x00, 0x00, 0x01, 0x01, 0x00, 0x02, 0x00, 0x04, 0x00, 0x00,
+    0x00, 0x00, 0x00, 0x00, 0x02, 0x00, 0x00, 0x00, 0x00, 0x02, 0x02, 0x00, 0x00, 0x00, 0x00, 0x01,
+    0x08, 0x00, 0x45, 0x00, 0x00, 0x2e, 0x00, 0x64, 0x40, 0x00, 0x40, 0x06, 0x26, 0x64, 0x0a, 0x00,
+    0x00, 0x01, 0x0a, 0x00, 0x00, 0x02, 0x9c, 0x40, 0x13, 0x89, 0x00, 0x00, 0x03, 0xe8, 0x00, 0x00,
+    0x00, 0x01, 0x50, 0x18, 0x01, 0x00, 0xbc, 0xe4, 0x00, 0x00, 0x61, 0x62, 0x63, 0x64, 0x65, 0x66,
+];
+
+#[test]
+fn a_record_is_cut_and_merged_again(rt: HostRuntime) -> Result<(), Fail> {
+    let mut packets = [0x55; 180];
+    let mut count = 0;
+    let cut = offload_segment(rt.alloc(), 3, &MERGED, &mut packets, &mut count);
+    assert_eq!(rt; (cut, count), (0, 170));
+    assert_eq!(rt; &packets[169..172], [0x66, 0x55, 0x55].as_slice());
+    let mut merged = [0; 112];
+    let code = offload_merge(rt.alloc(), 64, 6, &packets[..170], &mut merged, &mut count);
+    assert_eq!(rt; (code, count), (0, 112));
+    assert_eq!(rt; merged.as_slice(), MERGED.as_slice());
+    Ok(())
+}
+
+#[test]
+fn each_other_answer(rt: HostRuntime) -> Result<(), Fail> {
+    let alloc = rt.alloc();
+    let mut output = [0x55; 200];
+    let mut count = 0;
+    let usage = offload_segment(alloc, 65537, &MERGED, &mut output, &mut count);
+    assert_eq!(rt; (usage, count), (2, 0));
+    let malformed = offload_segment(alloc, 3, &MERGED[..111], &mut output, &mut count);
+    assert_eq!(rt; (malformed, count), (3, 24));
+    let empty = offload_segment(alloc, 2, &MERGED, &mut output, &mut count);
+    assert_eq!(rt; (empty, count), (4, 24));
+    let short = offload_segment(alloc, 3, &MERGED, &mut output[..169], &mut count);
+    assert_eq!(rt; (short, count), (9, 170));
+    assert_eq!(rt; output[24], 0x55);
+    assert_eq!(rt;
+        offload_merge(alloc, 4097, 6, &MERGED, &mut output, &mut count),
+        2
+    );
+    assert_eq!(rt;
+        offload_merge(alloc, 64, 6, &MERGED, &mut output, &mut count),
+        3
+    );
+    assert_eq!(rt;
+        (offload_queue(&MERGED, 8), offload_queue(&MERGED, 0)),
+        (0, 0)
+    );
+    Ok(())
+}
