@@ -1,18 +1,17 @@
 -- Packets that go to their queues.
-use Rattle.std.proofs.Common.{◌≡◌, ℕ, zero, suc, ◌+◌, ◌<◌, ◌≤◌, Bool, true, false, List, [], ◌∷◌, ◌++◌, map, length, get_or, set, refl, sym, ap, ◌∙◌, subst, append_assoc, append-nil, length-append, arith}
-use Rattle.std.specs.Prelude.{cond, ◌==◌}
+use Rattle.std.proofs.Common.{◌≡◌, ℕ, zero, suc, ◌+◌, ◌<◌, ◌≤◌, Bool, true, false, List, [], ◌∷◌, ◌++◌, map, length, get_or, set, refl, sym, ap, ◌∙◌, append_assoc, length-append, arith}
+use Rattle.std.specs.Prelude.{cond}
 use Rattle.std.specs.List.{filter, AllByRecursion}
 use Rattle.std.proofs.lemmas.Bool.{eq-eqb, ne_eqb}
 use Rattle.pcap_io.specs.Capture.{Packet}
 use Rattle.frame_layout.specs.Key.{key_of, queue_of}
-use Rattle.frags.specs.Account.{Account, Tests, both, of_outcomes, receipts_held, soles_home}
-use Rattle.offload_model.specs.Rounds.{is_queued}
+use Rattle.frags.specs.Account.{Tests, receipts_held, soles_home}
 use Rattle.skb.specs.SkbState.{buffer_bytes}
 use Rattle.gro.specs.declared.packet.Packet.{Packet as Held}
 use Rattle.gro.specs.Held.{packet_of, of_packet, of_packets, count_of, counts_of}
 use Rattle.gro.specs.Table.{of_items, counts_of_items}
 use Rattle.round_work.specs.declared.lanes.QueueLane.{QueueLane}
-use Rattle.round_work.specs.Lanes.{of_queue, of_queues, count_of_queue, counts_of_queues}
+use Rattle.round_work.specs.Lanes.{of_queue, of_queues, counts_of_queues}
 use Rattle.round_work.specs.Packets.{RiseFrom}
 use Rattle.round_work.specs.Sharing.{EachFrom, in_queue, IsSharing, IsSum, TakesIn, StaysAs}
 

@@ -1,9 +1,8 @@
 -- A packet's buffer after a clone was taken.
-use Rattle.std.proofs.Common.{◌≡◌, ℕ, suc, ◌+◌, ◌-◌, ◌*◌, ◌/◌, ◌^◌, ◌<◌, ◌≤◌, max, min, Bool, true, false, List, [], ◌∷◌, map, length, refl, sym, ap, ◌∙◌, subst, arith}
-use Rattle.std.specs.Prelude.{◌||◌, ◌==◌, Ok, Err}
-use Rattle.ref_core.specs.WeightRule.{full_weight}
+use Rattle.std.proofs.Common.{◌≡◌, ℕ, suc, ◌+◌, ◌-◌, ◌/◌, ◌<◌, ◌≤◌, false, List, [], ◌∷◌, map, length, refl, sym, ap, ◌∙◌, subst, arith}
+use Rattle.std.specs.Prelude.{Ok, Err}
 use Rattle.raw_block.specs.Views.{PartState}
-use Rattle.frags.specs.PieceList.{size_of, gift, less, kept, given, worn, least_weight, AsPart}
+use Rattle.frags.specs.PieceList.{size_of, gift, kept, worn, least_weight, AsPart}
 use Rattle.frags.specs.declared.pieces.Piece.{Piece}
 use Rattle.frags.specs.declared.pieces.ShareFault.{ShareFault}
 use Rattle.frags.specs.declared.pieces.ShareFault.TheVariants.{Short, Worn, NoMemory}
@@ -11,16 +10,15 @@ use Rattle.frags.specs.declared.holder.Holder.{Holder}
 use Rattle.frags.specs.declared.holder.Holder.TheVariants.{Sole, Part}
 use Rattle.skb.specs.SkbState.{SkbState, IsClone, buffer_bytes, buffer_least, buffer_size, head_least, head_worn, buffer_worn, is_sole}
 use Rattle.gro.specs.declared.packet.Packet.{Packet as Held}
-use Rattle.gro.specs.Held.{IsHeld}
 use Rattle.round_work.specs.Clones.{weight_after, IsAfter, IsNoMemory}
 
 -- a part that gives a clone away
-pub less_weighs : (k w : ℕ) → k < 8 → weight_after k ≤ w → weight_after (k + 1) ≤ w - gift w
+pub less_weighs : (k w : ℕ) → k < 9 → weight_after k ≤ w → weight_after (k + 1) ≤ w - gift w
 less_weighs k w few le =
     let g : gift w ≡ w / 4096 = grind (arith, few, le) in
     omega (arith, few, le, g)
 
-pub pieces_weigh : (k : ℕ) (ps : List Piece) → k < 8 → weight_after k ≤ least_weight ps → weight_after (k + 1) ≤ least_weight (map kept ps)
+pub pieces_weigh : (k : ℕ) (ps : List Piece) → k < 9 → weight_after k ≤ least_weight ps → weight_after (k + 1) ≤ least_weight (map kept ps)
 pieces_weigh k [] few le = omega arith
 pieces_weigh k (p ∷ ps) few le =
     let a = less_weighs k p.part.weight few (omega (arith, le)) in
@@ -43,7 +41,7 @@ head_fresh : (h : Holder) → 1 < head_least h → head_worn h ≡ false
 head_fresh (Sole s) lt = refl
 head_fresh (Part p) lt = grind (arith, lt)
 
-pub not_worn : (k : ℕ) (s : SkbState) → k < 8 → weight_after k ≤ buffer_least s → buffer_worn s ≡ false
+pub not_worn : (k : ℕ) (s : SkbState) → k < 9 → weight_after k ≤ buffer_least s → buffer_worn s ≡ false
 not_worn k s few le =
     let a = head_fresh s.head (omega (arith, few, le)) in
     let b = pieces_fresh s.rest (omega (arith, few, le)) in
@@ -67,7 +65,7 @@ as_weight : (h : Holder) (p : PartState) → AsPart h p → head_least h ≡ p.w
 as_weight (Sole s) p a = sym a.0
 as_weight (Part q) p a = ap (λ (z : PartState). z.weight) (sym a)
 
-pub remains : (k : ℕ) (a b c : SkbState) → k < 8 → weight_after k ≤ buffer_least a → IsClone a b (Ok c) → Remains (k + 1) a b
+pub remains : (k : ℕ) (a b c : SkbState) → k < 9 → weight_after k ≤ buffer_least a → IsClone a b (Ok c) → Remains (k + 1) a b
 remains k a b c few le h =
     let p : PartState = h.1.0 in
     let w = as_weight a.head p h.1.1.0 in

@@ -1,5 +1,5 @@
 -- All lanes of a round together.
-use Rattle.std.proofs.Common.{◌≡◌, ℕ, zero, suc, ◌+◌, ◌<◌, ◌≤◌, List, [], ◌∷◌, ◌++◌, map, length, get_or, refl, sym, ap, ◌∙◌, subst, arith}
+use Rattle.std.proofs.Common.{◌≡◌, ℕ, suc, ◌+◌, ◌≤◌, List, [], ◌∷◌, ◌++◌, map, length, refl, sym, ap, ◌∙◌, subst, arith}
 use Rattle.std.specs.Prelude.{All, IsSome, Some, Ok, Err, OnOk, true}
 use Rattle.std.specs.declared.result.Result.{Result}
 use Rattle.std.specs.List.{flat_map, range_with_len}
@@ -9,15 +9,16 @@ use Rattle.offload_model.specs.Merged.{merged_of}
 use Rattle.offload_model.specs.Rounds.{items_of}
 use Rattle.offload_model.specs.Written.{record_of, round_records, windows_of, Options}
 use Rattle.gro.specs.declared.packet.Packet.{Packet as Held}
-use Rattle.gro.specs.Held.{of_packets}
+use Rattle.gro.specs.Held.{packet_of, of_packets, counts_of}
+use Rattle.gro.specs.Table.{AreReady, ItemsWeighAtLeast}
 use Rattle.taps.specs.Texts.{texts_of}
 use Rattle.round_work.specs.declared.lanes.QueueLane.{QueueLane}
 use Rattle.round_work.specs.declared.lanes.TapLane.{TapLane}
 use Rattle.round_work.specs.declared.lanes.Lanes.{Lanes}
-use Rattle.round_work.specs.Lanes.{of_queues, of_taps, of_lanes, counts_of_queues, EachQueueDid, EachTapDid, IsFilled}
+use Rattle.round_work.specs.declared.plan.Plan.{Plan}
+use Rattle.round_work.specs.Lanes.{of_queues, of_taps, of_lanes, counts_of_queues, EachTapDid, IsFilled}
 use Rattle.round_work.specs.Sharing.{EachFrom, IsSharing, IsSum}
-use Rattle.round_work.specs.Taps.{HasClones}
-use Rattle.round_work.specs.Work.{IsToWork, IsWorked, IsWatched, AreMerged, AreWatched, merged_in, lane_records, records_of_queue, records_of_tap}
+use Rattle.round_work.specs.Work.{AreFilled, Did, IsDone, IsRefused, IsToWork, IsWorked, IsWatched, AreMerged, AreWatched, merged_in, lane_records, records_of_tap}
 use Rattle.round_work.proofs.Listing.{all_from, each_map, each_equal}
 use Rattle.round_work.proofs.Sharing.{empty_account}
 use Rattle.round_work.proofs.Worked.{all_worked, all_watched, queues_fewer, queues_kept, taps_kept, queue_records, tap_records}
@@ -39,25 +40,6 @@ fill_all p q r ls ts k s t m =
     let x = k t m in
     let z = s t m in
     (omega (arith, x.0, z.0), omega (arith, x.1, z.0, z.1))
-
--- ---- and while they work
-
-pub run_keeps : (p q a b c d : Account) → Keeps p (both q (both a b)) → Keeps a c → Keeps b d → Keeps p (both q (both c d))
-run_keeps p q a b c d k h g t m =
-    let x = k t m in
-    let y = h t m in
-    let z = g t m in
-    (omega (arith, x.0, y.0, z.0), omega (arith, x.1, y.1, z.1))
-
-pub keeps_same : (a : Account) → Keeps a a
-keeps_same a t m = (omega arith, omega arith)
-
-pub no_packets : (p l : Account) (ps : List Held) → ps ≡ [] → Keeps p (both (of_packets ps) l) → Keeps p l
-no_packets p l ps e k t m =
-    let x = k t m in
-    let h = ap (λ (z : List Held). (of_packets z).held t m) e in
-    let g = ap (λ (z : List Held). (of_packets z).homes t.blocks m) e in
-    (omega (arith, x.0, h), omega (arith, x.1, h, g))
 
 -- ---- what all lanes have done
 
@@ -100,24 +82,46 @@ pub on_ok : {A E : Type 0} (r : Result A E) (P Q : Type 0) → (P → Q) → OnO
 on_ok (Ok x) P Q f h = f h
 on_ok (Err e) P Q f h = tt
 
--- the lanes after their work, as they stand in the vectors that they were lent from
-pub all_worked_in : (n : ℕ) (ps : List Packet) (ls ms ns : List QueueLane) → ns ≡ ms → length ms ≡ length ls → EachFrom (IsToWork n ps) 0 ls → EachQueueDid ls ms → All (λ (m : QueueLane). m.done ≡ true) ns → EachFrom (IsWorked n ps) 0 ns
-all_worked_in n ps ls ms ns e f h did done =
-    subst (EachFrom (IsWorked n ps) 0) (sym e) (all_worked n ps ls ms f h did (subst (All (λ (m : QueueLane). m.done ≡ true)) e done))
+pub all_filled : (n : ℕ) (ps : List Packet) (ls : List QueueLane) → EachFrom (IsToWork n ps) 0 ls → All IsFilled ls
+all_filled n ps ls h = all_from (IsToWork n ps) IsFilled 0 ls (λ q l w. w.filled) h
 
-pub all_watched_in : (snap : ℕ) (ps : List Packet) (ls ms ns : List TapLane) → ns ≡ ms → length ms ≡ length ls → EachFrom (HasClones ps) 0 ls → EachTapDid snap ls ms → All (λ (m : TapLane). IsSome m.texts) ns → EachFrom (IsWatched snap ps) 0 ns
-all_watched_in snap ps ls ms ns e f h did done =
-    subst (EachFrom (IsWatched snap ps) 0) (sym e) (all_watched snap ps ls ms f h did (subst (All (λ (m : TapLane). IsSome m.texts)) e done))
+-- ---- a round that is done
 
-pub all_kept_in : (p q : Account) (snap : ℕ) (ls ms ns : List QueueLane) (ts us vs : List TapLane) → ns ≡ ms → vs ≡ us → length ms ≡ length ls → length us ≡ length ts → EachQueueDid ls ms → EachTapDid snap ts us
-    → Keeps p (both q (both (of_queues ls) (of_taps ts))) → Keeps p (both q (both (of_queues ns) (of_taps vs)))
-all_kept_in p q snap ls ms ns ts us vs e f a b did watched k =
-    run_keeps p q (of_queues ls) (of_taps ts) (of_queues ns) (of_taps vs) k
-    (subst (λ (z : List QueueLane). Keeps (of_queues ls) (of_queues z)) (sym e) (queues_kept ls ms a did))
-    (subst (λ (z : List TapLane). Keeps (of_taps ts) (of_taps z)) (sym f) (taps_kept snap ts us b watched))
+keeps_lanes : (p : Account) (snap : ℕ) (l m : Lanes) → Keeps p (of_lanes l) → Did snap l m → Keeps p (of_lanes m)
+keeps_lanes p snap l m k d t i =
+    let x = k t i in
+    let y = queues_kept l.queues.items m.queues.items d.sizes.0 d.queues t i in
+    let z = taps_kept snap l.taps.items m.taps.items d.sizes.1 d.taps t i in
+    (omega (arith, x.0, y.0, z.0), omega (arith, x.1, y.1, z.1))
 
-pub fewer_in : (ls ms ns : List QueueLane) → ns ≡ ms → length ms ≡ length ls → EachQueueDid ls ms → counts_of_queues ns ≤ counts_of_queues ls
-fewer_in ls ms ns e f did = omega (arith, ap counts_of_queues e, queues_fewer ls ms f did)
+no_clones : (snap : ℕ) (ls ms : List TapLane) → length ms ≡ length ls → EachTapDid snap ls ms → All (λ (t : TapLane). t.clones.items ≡ []) ms
+no_clones snap ls ms e h i d lt = (h i d (omega (arith, e, lt))).none
 
-pub all_filled : (n : ℕ) (ps : List Packet) (ls ms : List QueueLane) → ms ≡ ls → EachFrom (IsToWork n ps) 0 ls → All IsFilled ms
-all_filled n ps ls ms e h = subst (All IsFilled) (sym e) (all_from (IsToWork n ps) IsFilled 0 ls (λ q l w. w.filled) h)
+fewer_lanes : (plan : Plan) (old : List Held) (l m : Lanes) → AreFilled plan old l → Did plan.snap l m → counts_of_queues m.queues.items ≤ counts_of old
+fewer_lanes plan old l m f d = let n = queues_fewer l.queues.items m.queues.items d.sizes.0 d.queues in omega (arith, f.count, n)
+
+pub is_done : (plan : Plan) (old : List Held) (l m : Lanes) → AreFilled plan old l → Did plan.snap l m → All (λ (q : QueueLane). q.done ≡ true) m.queues.items → All (λ (t : TapLane). IsSome t.texts) m.taps.items → IsDone plan old m
+is_done plan old l m f d done read =
+    let ps = map packet_of old in
+    let qs = all_worked plan.queues ps l.queues.items m.queues.items d.sizes.0 f.queues d.queues done in
+    let ts = all_watched plan.snap ps l.taps.items m.taps.items d.sizes.1 f.taps d.taps read in
+    let a : length m.queues.items ≡ plan.queues = d.sizes.0 ∙ f.sizes.0 in
+    let b : length m.taps.items ≡ plan.taps = d.sizes.1 ∙ f.sizes.1 in
+    record {
+      lanes = are_merged plan.queues ps m.queues.items a qs;
+      windows = are_watched plan.snap plan.taps ps m.taps.items b ts;
+      records = λ budget. are_records (record { budget = budget; queues = plan.queues; taps = plan.taps; snap = plan.snap }) ps m a b qs ts;
+      ready = all_from (IsWorked plan.queues ps) (λ (q : QueueLane). AreReady q.items.items) 0 m.queues.items (λ i q w. w.ready) qs;
+      weigh = all_from (IsWorked plan.queues ps) (λ (q : QueueLane). ItemsWeighAtLeast 2048 q.items.items) 0 m.queues.items (λ i q w. w.weigh) qs;
+      all = all_from (IsWorked plan.queues ps) (λ (q : QueueLane). q.packets.items ≡ []) 0 m.queues.items (λ i q w. w.all) qs;
+      kept = keeps_lanes (of_packets old) plan.snap l m f.kept d;
+      count = fewer_lanes plan old l m f d;
+      clones = no_clones plan.snap l.taps.items m.taps.items d.sizes.1 d.taps;
+    }
+
+pub is_refused : (plan : Plan) (old : List Held) (l m : Lanes) → AreFilled plan old l → Did plan.snap l m → IsRefused old [] m
+is_refused plan old l m f d = record {
+  kept = λ t i. let x = keeps_lanes (of_packets old) plan.snap l m f.kept d t i in (omega (arith, x.0), omega (arith, x.1));
+  count = omega (arith, fewer_lanes plan old l m f d);
+  clones = no_clones plan.snap l.taps.items m.taps.items d.sizes.1 d.taps;
+}

@@ -1,10 +1,9 @@
 -- Lanes whose work is done.
-use Rattle.std.proofs.Common.{◌≡◌, ℕ, zero, suc, ◌+◌, ◌<◌, ◌≤◌, Bool, true, false, List, [], ◌∷◌, ◌++◌, map, length, get_or, refl, sym, ap, ◌∙◌, subst, append-nil, arith}
+use Rattle.std.proofs.Common.{◌≡◌, ℕ, zero, suc, ◌+◌, ◌≤◌, Bool, true, false, List, [], ◌∷◌, ◌++◌, map, length, refl, sym, ap, ◌∙◌, subst, append-nil, arith}
 use Rattle.std.specs.Prelude.{Option, None, Some, IsSome, IfSome, All}
-use Rattle.std.specs.List.{AllByRecursion, filter, flat_map, range_with_len}
-use Rattle.ref_core.specs.WeightRule.{full_weight}
+use Rattle.std.specs.List.{filter, flat_map, range_with_len}
 use Rattle.pcap_io.specs.Capture.{Packet}
-use Rattle.frags.specs.Account.{Account, Tests, Keeps, both}
+use Rattle.frags.specs.Account.{Keeps}
 use Rattle.skb.specs.SkbState.{buffer_least, is_sole}
 use Rattle.offload_model.specs.Merged.{Merged, merged_of}
 use Rattle.offload_model.specs.Rounds.{is_queued, items_of, runs_in}
@@ -12,15 +11,14 @@ use Rattle.offload_model.specs.Segments.{with_head}
 use Rattle.offload_model.specs.Written.{head_of, record_of, windows_of}
 use Rattle.gro.specs.declared.packet.Packet.{Packet as Held}
 use Rattle.gro.specs.Held.{packet_of, counts_of, IsHeld, AreHeld, AreShared, WeighAtLeast}
-use Rattle.gro.specs.Items.{item_of}
 use Rattle.taps.specs.Clones.{packet_of as packet_of_clone}
 use Rattle.taps.specs.Texts.{texts_of, record_of_text}
 use Rattle.round_work.specs.declared.lanes.QueueLane.{QueueLane}
 use Rattle.round_work.specs.declared.lanes.TapLane.{TapLane}
 use Rattle.round_work.specs.Clones.{weight_after, AreAfter}
-use Rattle.round_work.specs.Lanes.{of_queue, of_queues, of_tap, of_taps, count_of_queue, counts_of_queues, IsFilled, DidQueue, DidTap, EachQueueDid, EachTapDid, IsTapReady}
+use Rattle.round_work.specs.Lanes.{of_queues, of_taps, counts_of_queues, DidQueue, DidTap, EachQueueDid, EachTapDid}
 use Rattle.round_work.specs.Packets.{RiseFrom}
-use Rattle.round_work.specs.Sharing.{EachFrom, in_queue, IsSharing}
+use Rattle.round_work.specs.Sharing.{EachFrom, IsSharing}
 use Rattle.round_work.specs.Taps.{HasClones}
 use Rattle.round_work.specs.Work.{IsToWork, IsWorked, IsWatched, merged_in, records_of_queue, records_of_texts, records_of_tap}
 use Rattle.round_work.proofs.Listing.{each_did}
@@ -32,7 +30,7 @@ weigh_less : (v w : ℕ) (ps : List Held) → v ≤ w → WeighAtLeast w ps → 
 weigh_less v w [] le h = tt
 weigh_less v w (p ∷ ps) le h = (omega (arith, le, h.0), weigh_less v w ps le h.1)
 
-pub to_work : (n : ℕ) (old now : List Held) (q : ℕ) (l : QueueLane) → AreAfter 8 old now → RiseFrom 0 (map packet_of old) → counts_of old ≤ 65536
+pub to_work : (n : ℕ) (old now : List Held) (q : ℕ) (l : QueueLane) → AreAfter 9 old now → RiseFrom 0 (map packet_of old) → counts_of old ≤ 65536
     → IsSharing n now [] q l → IsToWork n (map packet_of old) q l
 to_work n old now q l a rise few h =
     let f : Held → Bool = λ (p : Held). is_queued n q (packet_of p) in
@@ -45,7 +43,7 @@ to_work n old now q l a rise few h =
       filled = record {
         held = subst AreHeld (sym e) (filter_each IsHeld f now a.held);
         shared = subst AreShared (sym e) (filter_each (λ (p : Held). is_sole p.skb.head ≡ false) f now a.shared);
-        weigh = subst (WeighAtLeast 2048) (sym e) (filter_each (λ (p : Held). 2048 ≤ buffer_least p.skb) f now (weigh_less 2048 (weight_after 8) now (omega arith) a.weigh));
+        weigh = subst (WeighAtLeast 2048) (sym e) (filter_each (λ (p : Held). 2048 ≤ buffer_least p.skb) f now (weigh_less 2048 (weight_after 9) now (omega arith) a.weigh));
         rising = subst (RiseFrom 0) (sym is) (filter_rises (is_queued n q) 0 (map packet_of old) rise);
         few = low;
         spare = omega (arith, h.count, h.spare);

@@ -1,5 +1,5 @@
 -- Packets that go to their queues, one after another.
-use Rattle.std.specs.Prelude.{ℕ, suc, ◌≡◌, ◌+◌, ◌≤◌, Bool, false, List, [], ◌∷◌, ◌++◌}
+use Rattle.std.specs.Prelude.{ℕ, suc, ◌≡◌, ◌+◌, ◌≤◌, false, List, [], ◌∷◌, ◌++◌}
 use Rattle.std.specs.List.{filter}
 use Rattle.frags.specs.Account.{Account, Tests}
 use Rattle.offload_model.specs.Rounds.{is_queued}

@@ -1,12 +1,14 @@
 -- The lanes of a round after their work, and the records that are written of them.
-use Rattle.std.specs.Prelude.{ℕ, ◌≡◌, ◌≤◌, Option, None, Some, List, [], ◌++◌, map}
+use Rattle.std.specs.Prelude.{ℕ, ◌≡◌, ◌+◌, ◌≤◌, Option, None, Some, All, List, [], ◌++◌, map, length}
 use Rattle.std.specs.List.{filter, flat_map, range_with_len}
 use Rattle.pcap_io.specs.Capture.{Packet}
+use Rattle.frags.specs.Account.{Keeps, both}
 use Rattle.offload_model.specs.Merged.{Merged, merged_of}
 use Rattle.offload_model.specs.Rounds.{is_queued, items_of}
 use Rattle.offload_model.specs.Segments.{with_head}
-use Rattle.offload_model.specs.Written.{head_of, windows_of}
-use Rattle.gro.specs.Held.{packet_of}
+use Rattle.offload_model.specs.Written.{head_of, windows_of, round_records}
+use Rattle.gro.specs.declared.packet.Packet.{Packet as Held}
+use Rattle.gro.specs.Held.{packet_of, of_packets, counts_of}
 use Rattle.gro.specs.Items.{item_of}
 use Rattle.gro.specs.Table.{AreReady, ItemsWeighAtLeast}
 use Rattle.taps.specs.Texts.{texts_of, record_of_text}
@@ -14,7 +16,9 @@ use Rattle.round_work.specs.declared.plan.Plan.{Plan}
 use Rattle.round_work.specs.declared.lanes.QueueLane.{QueueLane}
 use Rattle.round_work.specs.declared.lanes.TapLane.{TapLane}
 use Rattle.round_work.specs.declared.lanes.Lanes.{Lanes}
-use Rattle.round_work.specs.Lanes.{IsFilled}
+use Rattle.round_work.specs.Lanes.{of_lanes, counts_of_queues, IsFilled, EachQueueDid, EachTapDid}
+use Rattle.round_work.specs.Sharing.{EachFrom}
+use Rattle.round_work.specs.Taps.{HasClones}
 
 -- how many lanes there may be, and how far a tap may read
 abbrev pub IsPlan : Plan → Type 0
@@ -72,3 +76,37 @@ pub record IsWatched (snap : ℕ) (ps : List Packet) (t : ℕ) (l : TapLane) : T
   pub tap : l.tap ≡ t
   pub texts : l.texts ≡ Some (texts_of snap t ps)
   pub windows : records_of_tap l ≡ windows_of snap t ps
+
+-- ---- all lanes
+
+-- they have what they are to do
+pub record AreFilled (plan : Plan) (old : List Held) (l : Lanes) : Type 0 where
+  pub kept : Keeps (of_packets old) (of_lanes l)
+  pub count : counts_of_queues l.queues.items ≡ counts_of old
+  pub queues : EachFrom (IsToWork plan.queues (map packet_of old)) 0 l.queues.items
+  pub taps : EachFrom (HasClones (map packet_of old)) 0 l.taps.items
+  pub sizes : (length l.queues.items ≡ plan.queues) × (length l.taps.items ≡ plan.taps)
+
+-- each has done it, or for want of memory gave back what it had
+pub record Did (snap : ℕ) (old new : Lanes) : Type 0 where
+  pub queues : EachQueueDid old.queues.items new.queues.items
+  pub taps : EachTapDid snap old.taps.items new.taps.items
+  pub sizes : (length new.queues.items ≡ length old.queues.items) × (length new.taps.items ≡ length old.taps.items)
+
+-- what a round comes to
+pub record IsDone (plan : Plan) (old : List Held) (l : Lanes) : Type 0 where
+  pub lanes : AreMerged plan.queues (map packet_of old) l.queues.items
+  pub windows : AreWatched plan.snap plan.taps (map packet_of old) l.taps.items
+  pub records : (budget : ℕ) → lane_records l ≡ round_records (record { budget = budget; queues = plan.queues; taps = plan.taps; snap = plan.snap }) (map packet_of old)
+  pub ready : All (λ q. AreReady q.items.items) l.queues.items
+  pub weigh : All (λ q. ItemsWeighAtLeast 2048 q.items.items) l.queues.items
+  pub all : All (λ q. q.packets.items ≡ []) l.queues.items
+  pub kept : Keeps (of_packets old) (of_lanes l)
+  pub count : counts_of_queues l.queues.items ≤ counts_of old
+  pub clones : All (λ t. t.clones.items ≡ []) l.taps.items
+
+-- where memory was refused: the packets that stay, and what the lanes have of the others
+pub record IsRefused (old new : List Held) (l : Lanes) : Type 0 where
+  pub kept : Keeps (of_packets old) (both (of_packets new) (of_lanes l))
+  pub count : counts_of new + counts_of_queues l.queues.items ≤ counts_of old
+  pub clones : All (λ t. t.clones.items ≡ []) l.taps.items

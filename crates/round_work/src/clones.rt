@@ -22,12 +22,12 @@ fn refused(fault: ShareFault) -> AllocError
     }
 }
 
-// A clone of a packet for tap `tap`, which is the next one that is given one.
-fn clone_packet(packet: &mut Packet, tap: u32) -> Result<TapClone, AllocError>
-    requires few { tap < 8 }
+// A clone of a packet of which `before` clones were taken at most.
+fn clone_packet(packet: &mut Packet, before: u32) -> Result<TapClone, AllocError>
+    requires few { before < 9 }
     requires shared { is_sole packet.old.skb.head ≡ false }
-    requires weighs { weight_after tap ≤ buffer_least packet.old.skb }
-    ensures after { IsAfter (tap + 1) packet.old packet.new }
+    requires weighs { weight_after before ≤ buffer_least packet.old.skb }
+    ensures after { IsAfter (before + 1) packet.old packet.new }
     ensures kept { MatchResult result (IsCloneOf packet.old packet.new) (λ _. Keeps (of_packet packet.old) (of_packet packet.new)) }
 {
     match packet.skb.clone() {
@@ -42,25 +42,25 @@ fn clone_packet(packet: &mut Packet, tap: u32) -> Result<TapClone, AllocError>
     }
 }
 
-/// A clone of each packet, in places that were reserved before.
+/// A clone of each packet, in places that were reserved before. Of each packet `before` clones were taken at most.
 pub(crate) fn clone_all(
     packets: &mut VecDeque<Packet>,
-    tap: u32,
+    before: u32,
     clones: &mut Vec<TapClone>,
 ) -> Result<(), AllocError>
-    requires few { tap < 8 }
+    requires few { before < 9 }
     requires held { AreHeld packets.old.items }
     requires shared { AreShared packets.old.items }
-    requires weigh { WeighAtLeast (weight_after tap) packets.old.items }
+    requires weigh { WeighAtLeast (weight_after before) packets.old.items }
     requires none { clones.old.items ≡ [] }
     requires room { length packets.old.items ≤ vec_capacity clones.old }
-    ensures after { AreAfter (tap + 1) packets.old.items packets.new.items }
+    ensures after { AreAfter (before + 1) packets.old.items packets.new.items }
     ensures kept { Keeps (of_packets packets.old.items) (both (of_packets packets.new.items) (of_clones clones.new.items)) }
     ensures fewer { blocks_of clones.new.items ≤ counts_of packets.old.items }
     ensures all { OnOk result (map packet_of_clone clones.new.items ≡ map packet_of packets.old.items) }
 {
     for i in 0..packets.len() {
-        clones.push_reserved(clone_packet(&mut packets[i], tap)?);
+        clones.push_reserved(clone_packet(&mut packets[i], before)?);
     }
     Ok(())
 }

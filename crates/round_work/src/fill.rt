@@ -103,10 +103,10 @@ pub(crate) fn add_taps(
     requires few { plan.now.taps ≤ 8 }
     requires held { AreHeld packets.old.items }
     requires shared { AreShared packets.old.items }
-    requires weigh { WeighAtLeast (weight_after 0) packets.old.items }
+    requires weigh { WeighAtLeast (weight_after 1) packets.old.items }
     requires count { count ≡ counts_of packets.old.items }
     requires none { lanes.old.items ≡ [] }
-    ensures after { AreAfter 8 packets.old.items packets.new.items }
+    ensures after { AreAfter 9 packets.old.items packets.new.items }
     ensures kept { Keeps (of_packets packets.old.items) (both (of_packets packets.new.items) (of_taps lanes.new.items)) }
     ensures ready { All IsTapReady lanes.new.items }
     ensures clones { OnOk result (EachFrom (HasClones (map packet_of packets.old.items)) 0 lanes.new.items) }
@@ -115,7 +115,7 @@ pub(crate) fn add_taps(
     lanes.reserve(plan.taps as usize)?;
     for tap in 0..plan.taps {
         let mut lane = open_tap(alloc, tap, packets.len(), count)?;
-        let cloned = clone_all(packets, tap, &mut lane.clones);
+        let cloned = clone_all(packets, tap + 1, &mut lane.clones);
         lanes.push_reserved(lane);
         cloned?;
     }

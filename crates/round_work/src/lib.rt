@@ -11,10 +11,13 @@
 //!
 //! A lane is a queue or a tap, with what it has to do and then what it has done ([`QueueLane`], [`TapLane`]). [`work_packets`] takes
 //! the memory of all lanes, clones each packet for each tap, spreads the packets over the queues by their flows, and then runs all
-//! lanes as the leaves of one tree of joins. A lane holds room for all that its packets or clones may leave before it gets them, so
-//! giving back wants no memory.
+//! lanes as the leaves of one tree of joins. [`work_packets_alone`] runs them in the thread that calls, one after another. A lane
+//! holds room for all that its packets or clones may leave before it gets them, so giving back wants no memory.
 //!
-//! Proved, by the names of the clauses of `work_packets`, whatever the order in which the lanes run:
+//! [`keep_packets`] takes a clone of each packet before that, so that what comes out can be compared with what went in. With eight
+//! taps a packet is cloned nine times, and what each clone takes of a block's weight leaves enough to cut what is merged.
+//!
+//! Proved, by the names of the clauses of `work_packets` and of `work_packets_alone`, whatever the order in which the lanes run:
 //!
 //! - `lanes`: queue by queue, the items are what the maximal runs of its flows come to, in the order of their first packets;
 //!   `windows`: tap by tap, the texts are its windows of the packets as they arrived.
@@ -23,6 +26,9 @@
 //! - `kept`: nothing is lost, whether all work was done or memory was refused; `count`: the queues hold no more blocks and parts
 //!   than the packets did; `clones`: no clone is left.
 //! - `ready`, `weigh`: each item's first bytes lie in its head, a block is free beside it, and its parts have enough weight to be cut.
+//!
+//! And of `keep_packets`: `all`, the clones are those of the packets, in their order; `after`, the packets are the same and may still be
+//! worked; `kept` and `fewer`, nothing is lost.
 //!
 //! Only tested: that lanes run at the same time, that each passes the gate before its work and after it, and that memory suffices
 //! where there is some.
@@ -38,6 +44,7 @@
 
 mod clones;
 mod fill;
+mod keep;
 mod lanes;
 mod merge;
 mod plan;
@@ -47,6 +54,7 @@ mod share;
 mod tests;
 mod work;
 
+pub use keep::keep_packets;
 pub use lanes::{Lanes, QueueLane, TapLane};
 pub use plan::Plan;
-pub use round::work_packets;
+pub use round::{work_packets, work_packets_alone};

@@ -1,22 +1,23 @@
 //! The work of a round, over all its lanes.
-ghost use Rattle.std.specs.Prelude.{◌≡◌, ℕ, ◌+◌, ◌≤◌, true, [], length, map, All, IfOk, OnOk, MatchResult, IsSome};
+ghost use Rattle.std.specs.Prelude.{◌≡◌, ℕ, ◌+◌, ◌≤◌, true, List, [], length, map, All, IfOk, IfErr, OnOk, MatchResult, IsSome};
 ghost use Rattle.std.specs.List.{range_with_len};
-ghost use Rattle.ref_core.specs.WeightRule.{full_weight};
 ghost use Rattle.frags.specs.Account.{Keeps, both};
 ghost use Rattle.offload_model.specs.Written.{round_records};
+ghost use Rattle.gro.specs.declared.packet.Packet.{Packet as Held};
 ghost use Rattle.gro.specs.Held.{packet_of, of_packets, counts_of, AreHeld, AreShared, WeighAtLeast};
 ghost use Rattle.gro.specs.Table.{AreReady, ItemsWeighAtLeast};
-ghost use Rattle.round_work.specs.Lanes.{of_lanes, counts_of_queues, IsTapReady};
+ghost use Rattle.round_work.specs.Clones.{weight_after};
+ghost use Rattle.round_work.specs.Lanes.{of_lanes, counts_of_queues, IsFilled, IsTapReady};
 ghost use Rattle.round_work.specs.Packets.{RiseFrom};
 ghost use Rattle.round_work.specs.Sharing.{EachFrom};
 ghost use Rattle.round_work.specs.Taps.{HasClones};
-ghost use Rattle.round_work.specs.Work.{IsPlan, IsToWork, AreMerged, AreWatched, lane_records};
+ghost use Rattle.round_work.specs.Work.{IsPlan, IsToWork, AreFilled, AreMerged, AreWatched, Did, IsDone, IsRefused, lane_records};
 
 use crate::fill::{add_taps, give_all_up, open_queues, weigh};
 use crate::lanes::{Lanes, QueueLane, TapLane};
 use crate::plan::Plan;
 use crate::share::share_out;
-use crate::work::run_all;
+use crate::work::{run_all, run_in_turn};
 use gro::Packet;
 use off_io::Gate;
 use std::alloc::{AllocError, Global};
@@ -34,7 +35,7 @@ fn fill(
     requires plan { IsPlan plan.now }
     requires held { AreHeld packets.old.items }
     requires shared { AreShared packets.old.items }
-    requires whole { WeighAtLeast full_weight packets.old.items }
+    requires weighs { WeighAtLeast (weight_after 1) packets.old.items }
     requires rising { RiseFrom 0 (map packet_of packets.old.items) }
     requires few { counts_of packets.old.items ≤ 65536 }
     requires none { (lanes.old.queues.items ≡ []) × (lanes.old.taps.items ≡ []) }
@@ -84,9 +85,51 @@ fn are_done(lanes: &Lanes) -> bool
     are_merged(&lanes.queues) && are_read(&lanes.taps)
 }
 
+// The lanes with what they have to do. Where memory is refused they come back as far as they got, and have no clones.
+fn begin(
+    alloc: Global,
+    packets: &mut VecDeque<Packet>,
+    plan: &Plan,
+) -> Result<Lanes, (Lanes, AllocError)>
+    requires plan { IsPlan plan.now }
+    requires held { AreHeld packets.old.items }
+    requires shared { AreShared packets.old.items }
+    requires weighs { WeighAtLeast (weight_after 1) packets.old.items }
+    requires rising { RiseFrom 0 (map packet_of packets.old.items) }
+    requires few { counts_of packets.old.items ≤ 65536 }
+    ensures filled { IfOk result (AreFilled plan.now packets.old.items) }
+    ensures ready { IfOk result (λ l. All IsFilled l.queues.items × All IsTapReady l.taps.items) }
+    ensures all { OnOk result (packets.new.items ≡ []) }
+    ensures refused { IfErr result (λ e. IsRefused packets.old.items packets.new.items e.0) }
+{
+    let mut lanes = Lanes {
+        queues: Vec::new(alloc),
+        taps: Vec::new(alloc),
+    };
+    match fill(alloc, plan, packets, &mut lanes) {
+        Ok(()) => Ok(lanes),
+        Err(error) => {
+            give_all_up(&mut lanes.taps);
+            Err((lanes, error))
+        }
+    }
+}
+
+// The lanes after their work: all of it is done, or one was refused memory.
+fn finish(lanes: Lanes) -> Result<Lanes, (Lanes, AllocError)>
+    ensures { (plan : Plan) (old : List Held) (before : Lanes) → AreFilled plan old before → Did plan.snap before lanes → MatchResult result (IsDone plan old) (λ e. IsRefused old [] e.0) }
+{
+    if are_done(&lanes) {
+        Ok(lanes)
+    } else {
+        Err((lanes, AllocError))
+    }
+}
+
 /// The work of a round. Each packet goes to the queue of its flow; each tap is given a clone of every packet before any worker
 /// starts; and each worker and each tap is a leaf of one tree of joins, which passes the gate at point 0 before its work and at
-/// point 1 after it. Where there is one queue and no tap, no thread is started.
+/// point 1 after it. Where there is one queue and no tap, no thread is started. One clone of each packet may have been kept before,
+/// by [`keep_packets`](crate::keep_packets).
 ///
 /// For want of memory the lanes come back as far as they got, and what isn't in `packets` any more is in them.
 pub fn work_packets<R: Threads + Sync, G: Gate + Sync>(
@@ -99,7 +142,7 @@ pub fn work_packets<R: Threads + Sync, G: Gate + Sync>(
     requires plan { IsPlan plan.now }
     requires held { AreHeld packets.old.items }
     requires shared { AreShared packets.old.items }
-    requires whole { WeighAtLeast full_weight packets.old.items }
+    requires weighs { WeighAtLeast (weight_after 1) packets.old.items }
     requires rising { RiseFrom 0 (map packet_of packets.old.items) }
     requires few { counts_of packets.old.items ≤ 65536 }
     ensures lanes { IfOk result (λ l. AreMerged plan.now.queues (map packet_of packets.old.items) l.queues.items) }
@@ -112,18 +155,36 @@ pub fn work_packets<R: Threads + Sync, G: Gate + Sync>(
     ensures count { MatchResult result (λ l. counts_of_queues l.queues.items ≤ counts_of packets.old.items) (λ e. counts_of packets.new.items + counts_of_queues e.0.queues.items ≤ counts_of packets.old.items) }
     ensures clones { MatchResult result (λ l. All (λ t. t.clones.items ≡ []) l.taps.items) (λ e. All (λ t. t.clones.items ≡ []) e.0.taps.items) }
 {
-    let mut lanes = Lanes {
-        queues: Vec::new(alloc),
-        taps: Vec::new(alloc),
-    };
-    if let Err(error) = fill(alloc, plan, packets, &mut lanes) {
-        give_all_up(&mut lanes.taps);
-        return Err((lanes, error));
-    }
+    let mut lanes = begin(alloc, packets, plan)?;
     run_all(rt, gate, plan.snap, &mut lanes.queues, &mut lanes.taps);
-    if are_done(&lanes) {
-        Ok(lanes)
-    } else {
-        Err((lanes, AllocError))
-    }
+    finish(lanes)
+}
+
+/// The work of a round as [`work_packets`] does it, with every lane in the thread that calls, queue after queue and then tap after
+/// tap: for callers that may start no thread. Each lane passes the gate at the same points.
+pub fn work_packets_alone<G: Gate>(
+    alloc: Global,
+    packets: &mut VecDeque<Packet>,
+    plan: &Plan,
+    gate: &G,
+) -> Result<Lanes, (Lanes, AllocError)>
+    requires plan { IsPlan plan.now }
+    requires held { AreHeld packets.old.items }
+    requires shared { AreShared packets.old.items }
+    requires weighs { WeighAtLeast (weight_after 1) packets.old.items }
+    requires rising { RiseFrom 0 (map packet_of packets.old.items) }
+    requires few { counts_of packets.old.items ≤ 65536 }
+    ensures lanes { IfOk result (λ l. AreMerged plan.now.queues (map packet_of packets.old.items) l.queues.items) }
+    ensures windows { IfOk result (λ l. AreWatched plan.now.snap plan.now.taps (map packet_of packets.old.items) l.taps.items) }
+    ensures records { IfOk result (λ l. (budget : ℕ) → lane_records l ≡ round_records (record { budget = budget; queues = plan.now.queues; taps = plan.now.taps; snap = plan.now.snap }) (map packet_of packets.old.items)) }
+    ensures ready { IfOk result (λ l. All (λ q. AreReady q.items.items) l.queues.items) }
+    ensures weigh { IfOk result (λ l. All (λ q. ItemsWeighAtLeast 2048 q.items.items) l.queues.items) }
+    ensures all { IfOk result (λ l. (packets.new.items ≡ []) × All (λ q. q.packets.items ≡ []) l.queues.items) }
+    ensures kept { MatchResult result (λ l. Keeps (of_packets packets.old.items) (of_lanes l)) (λ e. Keeps (of_packets packets.old.items) (both (of_packets packets.new.items) (of_lanes e.0))) }
+    ensures count { MatchResult result (λ l. counts_of_queues l.queues.items ≤ counts_of packets.old.items) (λ e. counts_of packets.new.items + counts_of_queues e.0.queues.items ≤ counts_of packets.old.items) }
+    ensures clones { MatchResult result (λ l. All (λ t. t.clones.items ≡ []) l.taps.items) (λ e. All (λ t. t.clones.items ≡ []) e.0.taps.items) }
+{
+    let mut lanes = begin(alloc, packets, plan)?;
+    run_in_turn(gate, plan.snap, &mut lanes.queues, &mut lanes.taps);
+    finish(lanes)
 }

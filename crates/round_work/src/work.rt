@@ -1,4 +1,4 @@
-//! The work of the lanes, each in a thread of its own.
+//! The work of the lanes, each in a thread of its own, or all in the thread that calls.
 ghost use Rattle.std.specs.Prelude.{◌≡◌, All};
 ghost use Rattle.round_work.specs.Lanes.{DidQueue, DidTap, EachQueueDid, EachTapDid, IsFilled, IsTapReady};
 
@@ -96,4 +96,40 @@ pub(crate) fn run_all<R: Threads + Sync, G: Gate + Sync>(
             ensures { EachTapDid snap taps.entry.now taps.exit.now }
         { watch_all(rt, gate, snap, taps) },
     );
+}
+
+// The queues' workers, one after another.
+fn work_in_turn<G: Gate>(gate: &G, queues: &mut [QueueLane])
+    requires { All IsFilled queues.old }
+    ensures { EachQueueDid queues.old queues.new }
+{
+    for i in 0..queues.len() {
+        work(gate, &mut queues[i]);
+    }
+}
+
+// The taps' tasks, one after another.
+fn watch_in_turn<G: Gate>(gate: &G, snap: u32, taps: &mut [TapLane])
+    requires { All IsTapReady taps.old }
+    ensures { EachTapDid snap taps.old taps.new }
+{
+    for i in 0..taps.len() {
+        watch(gate, snap, &mut taps[i]);
+    }
+}
+
+/// All lanes in the thread that calls, one after another.
+pub(crate) fn run_in_turn<G: Gate>(
+    gate: &G,
+    snap: u32,
+    queues: &mut [QueueLane],
+    taps: &mut [TapLane],
+)
+    requires queues { All IsFilled queues.old }
+    requires taps { All IsTapReady taps.old }
+    ensures queues { EachQueueDid queues.old queues.new }
+    ensures taps { EachTapDid snap taps.old taps.new }
+{
+    work_in_turn(gate, queues);
+    watch_in_turn(gate, snap, taps);
 }

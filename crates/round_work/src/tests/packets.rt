@@ -3,6 +3,7 @@ ghost use Rattle.std.specs.Prelude.{◌≡◌, ◌≤◌, false, map};
 ghost use Rattle.ref_core.specs.WeightRule.{full_weight};
 ghost use Rattle.skb.specs.SkbState.{buffer_least, is_sole};
 ghost use Rattle.gro.specs.Held.{packet_of, count_of, counts_of, IsHeld, AreHeld, AreShared, WeighAtLeast};
+ghost use Rattle.round_work.specs.Clones.{weight_after};
 ghost use Rattle.round_work.specs.Packets.{RiseFrom};
 
 use super::frames::IN_TURN;
@@ -14,12 +15,14 @@ use skb::Skb;
 use std::alloc::Global;
 use std::collections::VecDeque;
 use std::process::Abort;
+use taps::TapClone;
 
 // A packet whose head is a part of the whole weight.
 fn packet(rt: &impl Abort, alloc: Global, number: u32, frame: &[u8]) -> Packet
     ensures held { IsHeld result }
     ensures shared { is_sole result.skb.head ≡ false }
     ensures whole { full_weight ≤ buffer_least result.skb }
+    ensures weighs { weight_after 1 ≤ buffer_least result.skb }
     ensures count { count_of result ≡ 3 }
     ensures number { result.number ≡ number }
 {
@@ -46,6 +49,7 @@ pub(crate) fn in_turn(rt: &impl Abort, alloc: Global) -> VecDeque<Packet>
     ensures held { AreHeld result.items }
     ensures shared { AreShared result.items }
     ensures whole { WeighAtLeast full_weight result.items }
+    ensures weighs { WeighAtLeast (weight_after 1) result.items }
     ensures rising { RiseFrom 0 (map packet_of result.items) }
     ensures few { counts_of result.items ≤ 24 }
 {
@@ -162,4 +166,27 @@ pub(crate) fn all_home(rt: &impl Abort, lanes: Lanes) -> usize {
 /// The same of packets that aren't in lanes, and of lanes.
 pub(crate) fn rest_home(rt: &impl Abort, packets: VecDeque<Packet>, lanes: Lanes) -> usize {
     home_of_packets(rt, packets).wrapping_add(all_home(rt, lanes))
+}
+
+/// The same of clones that were kept, which are those of both flows' packets.
+pub(crate) fn kept_home(rt: &impl Abort, kept: Vec<TapClone>) -> usize {
+    let mut kept = kept;
+    let mut blocks = 0usize;
+    while let Some(clone) = kept.pop() {
+        let TapClone {
+            skb,
+            sec: _,
+            frac: _,
+            original: _,
+            number,
+        } = clone;
+        assert!(rt; number < 8 && kept.len() == number as usize);
+        assert_eq!(rt; skb.head(), IN_TURN[number as usize].as_slice());
+        let mut outcomes = Outcomes::new(skb.allocator());
+        outcomes.reserve(skb.count()).expect(rt, "places");
+        skb.release(&mut outcomes);
+        blocks = blocks.wrapping_add(home(outcomes));
+    }
+    kept.destroy_empty();
+    blocks
 }

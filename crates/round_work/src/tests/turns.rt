@@ -2,11 +2,12 @@
 ghost use Rattle.round_work.specs.Work.{IsPlan};
 
 use super::frames::IN_TURN;
-use super::packets::{all_home, in_turn, rest_home};
-use crate::{Lanes, Plan, QueueLane, TapLane, work_packets};
-use off_io::{Gate, NoGate};
+use super::packets::{all_home, in_turn, kept_home, rest_home};
+use crate::{Lanes, Plan, QueueLane, TapLane, keep_packets, work_packets, work_packets_alone};
+use off_io::{Gate, NoGate, Who};
 use std::alloc::Global;
 use std::process::Abort;
+use std::sync::atomic::{AtomicU32, Ordering};
 use std::thread::Threads;
 
 // Number, packets and first payload of an item.
@@ -106,4 +107,51 @@ fn many_lanes(rt: HostRuntime) {
             .is_empty()
     );
     assert_eq!(rt; all_home(&rt, lanes), 24);
+}
+
+// How often it was passed.
+#[derive(Drop)]
+struct Count {
+    passes: AtomicU32,
+}
+
+impl Gate for Count {
+    fn pass(&self, _: Who, _: u32) {
+        self.passes.fetch_add(1, Ordering::SeqCst);
+    }
+}
+
+/// All lanes in one thread, each passing the gate twice, over packets of which a clone is kept: each is cloned nine times.
+#[test]
+fn kept_and_alone(rt: HostRuntime) {
+    let alloc = rt.alloc();
+    let plan = Plan {
+        queues: 2,
+        taps: 8,
+        snap: 64,
+    };
+    let mut packets = in_turn(&rt, alloc);
+    let mut kept = Vec::new(alloc);
+    keep_packets(&mut packets, &mut kept).expect(&rt, "there is memory");
+    let gate = Count {
+        passes: AtomicU32::new(0),
+    };
+    match work_packets_alone(alloc, &mut packets, &plan, &gate) {
+        Ok(lanes) => {
+            assert!(rt; lanes.queues.len() == 2 && lanes.taps.len() == 8);
+            says(&rt, &lanes.queues[0], &[(0, 4, 16)]);
+            says(&rt, &lanes.queues[1], &[(1, 4, 16)]);
+            has_read(&rt, &lanes.taps[1], 64, 70);
+            assert_eq!(rt; gate.passes.load(Ordering::SeqCst), 20);
+            assert_eq!(rt; kept.len(), 8);
+            let blocks = all_home(&rt, lanes);
+            assert_eq!(rt; kept_home(&rt, kept).wrapping_add(blocks), 24);
+            packets.destroy_empty();
+        }
+        Err((lanes, _)) => {
+            kept_home(&rt, kept);
+            rest_home(&rt, packets, lanes);
+            panic!(rt; "there is memory");
+        }
+    }
 }

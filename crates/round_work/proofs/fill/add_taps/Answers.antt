@@ -1,4 +1,4 @@
-use Rattle.std.proofs.Common.{◌≡◌, ◌+◌, ◌∷◌, ◌++◌, [], List, map, length, length-append, ap, sym, subst, ◌∙◌, arith}
+use Rattle.std.proofs.Common.{◌+◌, ◌∷◌, [], List, map, length, length-append, ap, sym, subst, ◌∙◌, arith}
 use Rattle.std.specs.Prelude.{All}
 use Rattle.frags.specs.Account.{Keeps, both}
 use Rattle.gro.specs.Held.{packet_of, of_packets}
@@ -35,7 +35,7 @@ loop-tap-preserved c =
     let q = of_packets c.clone_all-cloned.new.packets.items in
     let more = c.push_reserved.ensures.items in
     record {
-      after = after_both l.tap (l.tap + 1) old l.packets.items c.clone_all-cloned.new.packets.items l.invariant.after c.clone_all-cloned.ensures.after;
+      after = after_both (l.tap + 1) (l.tap + 1 + 1) old l.packets.items c.clone_all-cloned.new.packets.items l.invariant.after c.clone_all-cloned.ensures.after;
       kept = subst (λ (z : List TapLane). Keeps p (both q (of_taps z))) (sym more)
           (add_keeps p (of_packets l.packets.items) q l.lanes.items lane c.in_ok-lane.ensures.bare l.invariant.kept c.clone_all-cloned.ensures.kept);
       ready = subst (All IsTapReady) (sym more)
@@ -51,4 +51,4 @@ loop-tap-preserved c =
     }
 
 pub returns-clause-after : goal.returns-clause-after
-returns-clause-after c = after_later c.loop-tap.tap 8 c.args.packets.now.items c.loop-tap.packets.items (omega arith) c.loop-tap.invariant.after
+returns-clause-after c = after_later (c.loop-tap.tap + 1) 9 c.args.packets.now.items c.loop-tap.packets.items (omega arith) c.loop-tap.invariant.after

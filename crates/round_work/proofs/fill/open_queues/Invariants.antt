@@ -1,5 +1,5 @@
-use Rattle.std.proofs.Common.{◌≡◌, ◌+◌, ◌≤◌, ℕ, List, length}
-use Rattle.std.specs.Prelude.{vec_len, vec_capacity}
+use Rattle.std.proofs.Common.{◌≡◌, ◌≤◌, ℕ, List, length}
+use Rattle.std.specs.Prelude.{vec_capacity}
 use Rattle.gro.specs.declared.packet.Packet.{Packet}
 use Rattle.round_work.specs.Sharing.{EachFrom, IsSharing}
 use Rattle.round_work.proofs.fill.open_queues.Given as goal

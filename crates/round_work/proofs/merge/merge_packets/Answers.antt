@@ -1,9 +1,8 @@
-use Rattle.std.proofs.Common.{◌≡◌, ◌++◌, ◌+◌, List, [], ◌∷◌, map, ap, sym, subst, ◌∙◌, arith, length, append-nil}
+use Rattle.std.proofs.Common.{◌≡◌, ◌++◌, List, ap, sym, subst, ◌∙◌, arith, append-nil}
 use Rattle.frags.specs.Account.{Keeps}
 use Rattle.gro.specs.declared.packet.Packet.{Packet}
-use Rattle.gro.specs.Held.{packet_of, of_packets, counts_of, AreShared, WeighAtLeast}
+use Rattle.gro.specs.Held.{of_packets, counts_of, AreShared, WeighAtLeast}
 use Rattle.gro.specs.Table.{Received, of_items}
-use Rattle.round_work.specs.Packets.{RiseFrom}
 use Rattle.round_work.proofs.Merging.{counts_back, few_packets, keeps_back}
 use Rattle.round_work.proofs.merge.merge_packets.Goals as goal
 

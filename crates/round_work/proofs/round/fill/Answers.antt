@@ -1,10 +1,8 @@
-use Rattle.std.proofs.Common.{◌≡◌, ◌+◌, ◌++◌, [], List, map, take, drop, length, ap, sym, subst, ◌∙◌, refl, arith}
-use Rattle.std.specs.Prelude.{OnOk}
+use Rattle.std.proofs.Common.{◌≡◌, ◌++◌, [], List, map, take, drop, length, ap, sym, subst, ◌∙◌, arith}
 use Rattle.frags.specs.Account.{Keeps, both}
-use Rattle.gro.specs.declared.packet.Packet.{Packet as Held}
-use Rattle.gro.specs.Held.{packet_of, of_packets, counts_of}
+use Rattle.gro.specs.Held.{packet_of, of_packets}
 use Rattle.round_work.specs.declared.lanes.QueueLane.{QueueLane}
-use Rattle.round_work.specs.Lanes.{of_queues, of_taps, counts_of_queues}
+use Rattle.round_work.specs.Lanes.{of_queues, of_taps}
 use Rattle.round_work.specs.Sharing.{EachFrom, IsSharing}
 use Rattle.round_work.specs.Work.{IsToWork}
 use Rattle.round_work.proofs.Listing.{each_map, refilled}

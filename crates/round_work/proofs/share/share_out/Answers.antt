@@ -1,8 +1,7 @@
-use Rattle.std.proofs.Common.{◌≡◌, ◌+◌, ℕ, List, ◌∷◌, length, length-set, set, ap, sym, subst, ◌∙◌, refl, arith}
+use Rattle.std.proofs.Common.{◌≡◌, ℕ, List, ◌∷◌, length, length-set, set, ap, sym, subst, ◌∙◌, refl, arith}
 use Rattle.frags.specs.Account.{Tests}
 use Rattle.gro.specs.declared.packet.Packet.{Packet as Held}
 use Rattle.gro.specs.Held.{of_packets, counts_of, AreHeld}
-use Rattle.round_work.specs.Lanes.{of_queues}
 use Rattle.round_work.specs.Sharing.{EachFrom, IsSharing}
 use Rattle.round_work.proofs.Sharing.{empty_account, empty_counts, lane_count, share_stop, share_turn, stop_account, stop_counts, turn_account, turn_counts}
 use Rattle.round_work.proofs.share.share_out.Goals as goal

@@ -1,4 +1,4 @@
-use Rattle.std.proofs.Common.{◌≡◌, ◌+◌, ◌≤◌, length}
+use Rattle.std.proofs.Common.{◌≡◌, ◌+◌, length}
 use Rattle.gro.specs.Held.{of_packets, counts_of, AreHeld}
 use Rattle.round_work.specs.Lanes.{of_queues, counts_of_queues}
 use Rattle.round_work.specs.Sharing.{EachFrom, IsSharing, IsSum}

@@ -1,4 +1,4 @@
-use Rattle.std.proofs.Common.{◌≡◌, ◌+◌, ◌*◌, ◌≤◌, length, map}
+use Rattle.std.proofs.Common.{◌+◌, ◌*◌, ◌≤◌, map}
 use Rattle.std.specs.VecDeque.{deque_len, deque_capacity}
 use Rattle.ref_core.specs.WeightRule.{full_weight}
 use Rattle.gro.specs.Held.{packet_of, counts_of, AreHeld, AreShared, WeighAtLeast}
