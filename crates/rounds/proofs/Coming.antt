@@ -200,11 +200,21 @@ gives_packet b s1 s2 o0 o1 o2 o3 bare h g k t m =
     let s = ap (soles_home t.blocks m) bare.0 in
     (omega (arith, x.0, y.0, z.0, r), omega (arith, x.1, y.1, z.1, r, s))
 
--- outcomes came, then packets, and items are still to come
-pub outcomes_came : (o ps is : Account) (p0 p1 : PoolState) (t0 t1 : List Place) → MayCome (both o (both ps is)) p0 t0 → Comes o nothing p0 t0 p1 t1 → Comes (both o (both ps is)) (both ps is) p0 t0 p1 t1
-outcomes_came o ps is p0 p1 t0 t1 may first =
-    comes_step (both o (both ps is)) (both o (both ps is)) o (both ps is) p0 p0 p1 t0 t0 t1 (λ t m. (omega arith, omega arith)) (comes_none (both o (both ps is)) p0 t0 may) first
+-- ---- x, and then y
 
-pub packets_came : (o ps is : Account) (p0 p1 p2 : PoolState) (t0 t1 t2 : List Place) → MayCome (both o (both ps is)) p0 t0 → Comes o nothing p0 t0 p1 t1 → Comes ps nothing p1 t1 p2 t2 → Comes (both o (both ps is)) is p0 t0 p2 t2
-packets_came o ps is p0 p1 p2 t0 t1 t2 may first then =
-    comes_step (both o (both ps is)) (both ps is) ps is p0 p1 p2 t0 t1 t2 (λ t m. (omega arith, omega arith)) (outcomes_came o ps is p0 p1 t0 t1 may first) then
+pub and_first : (x y : Account) (p : PoolState) (t : List Place) → MayCome (both x y) p t → MayCome x p t
+and_first x y p t may = may_first (both x y) x y p t (λ t m. (omega arith, omega arith)) may
+
+and_came : (x y : Account) (p0 p1 : PoolState) (t0 t1 : List Place) → MayCome (both x y) p0 t0 → Comes x nothing p0 t0 p1 t1 → Comes (both x y) y p0 t0 p1 t1
+and_came x y p0 p1 t0 t1 may first =
+    comes_step (both x y) (both x y) x y p0 p0 p1 t0 t0 t1 (λ t m. (omega arith, omega arith)) (comes_none (both x y) p0 t0 may) first
+
+pub and_rest : (x y : Account) (p0 p1 : PoolState) (t0 t1 : List Place) → MayCome (both x y) p0 t0 → Comes x nothing p0 t0 p1 t1 → MayCome y p1 t1
+and_rest x y p0 p1 t0 t1 may first = may_rest (both x y) y p0 p1 t0 t1 may (and_came x y p0 p1 t0 t1 may first)
+
+pub and_comes : (x y : Account) (p0 p1 p2 : PoolState) (t0 t1 t2 : List Place) → MayCome (both x y) p0 t0 → Comes x nothing p0 t0 p1 t1 → Comes y nothing p1 t1 p2 t2 → Comes (both x y) nothing p0 t0 p2 t2
+and_comes x y p0 p1 p2 t0 t1 t2 may first last = comes_last (both x y) y p0 p1 p2 t0 t1 t2 (and_came x y p0 p1 t0 t1 may first) last
+
+-- an account that holds nothing comes by itself
+pub nothing_comes : (x : Account) (p : PoolState) (t : List Place) → ((t : Tests) (m : ℕ) → (x.held t m ≡ 0) × (x.homes t.blocks m ≡ 0)) → MayCome x p t → Comes x nothing p t p t
+nothing_comes x p t none may = comes_all x x p p t t none (comes_none x p t may)

@@ -12,8 +12,14 @@ mod Recording
 mod Rounding
 -- packets that are merged
 mod Working
+-- what lanes hold, the last one apart
+mod LaneCounts
 -- items that are short enough to be written
 mod Small
+-- packets that are worked in lanes, with clones beside them
+mod Keeping
+-- what is written of rounds that are worked in lanes
+mod Lanes
 -- rounds that are merged
 mod Merging
 -- the blocks of a record whose packets are given one after another

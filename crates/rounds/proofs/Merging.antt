@@ -1,6 +1,6 @@
 -- Rounds that are merged, and how merging ends.
 use Rattle.std.proofs.Common.{◌≡◌, ◌+◌, ◌-◌, ◌^◌, ◌*◌, ◌<◌, ◌≤◌, ◌⊎◌, inl, inr, ℕ, min, List, [], ◌++◌, Bool, true, false, Option, Some, None, refl, sym, ap, ◌∙◌, subst, length, length-append, map, take, arith, append_assoc, append-nil}
-use Rattle.std.specs.List.{AllByRecursion, flat_map}
+use Rattle.std.specs.List.{AllByRecursion}
 use Rattle.std.proofs.lemmas.Bool.{false≢true}
 use Rattle.std.proofs.lemmas.List.{length-map, take_at}
 use Rattle.std.specs.Io.KnownBytes.{Appends, Keeps}
@@ -9,7 +9,6 @@ use Rattle.off_io.specs.Content.{AppendsFront}
 use Rattle.off_io.specs.Told.{Told}
 use Rattle.off_io.proofs.Owing.{front_whole}
 use Rattle.off_io.proofs.Telling.{Told-then, Told-same, Told-weaker}
-use Rattle.net_bytes.specs.declared.order.Order.{Order}
 use Rattle.pcap_io.specs.declared.heads.FileHead.{FileHead}
 use Rattle.pcap_io.specs.declared.place.Place.{Place}
 use Rattle.pcap_io.specs.declared.faults.CapFault.{CapFault}
@@ -20,26 +19,21 @@ use Rattle.pcap_io.specs.Places.{found_at}
 use Rattle.pcap_io.specs.Reading.{Loses}
 use Rattle.pcap_io.proofs.LengthLaws.{lengths_none, lengths_of_packets}
 use Rattle.pcap_io.proofs.RecordLaws.{records_none}
-use Rattle.offload_model.specs.Merged.{merged_of}
 use Rattle.maximal_runs.proofs.Pass.{all_append}
 use Rattle.offload_model.specs.Captured.{IsCaptured}
 use Rattle.offload_model.specs.Need.{needed, round_need, exceeded_at, found_before}
 use Rattle.offload_model.specs.Passing.{Stop, Ending, Stopped, Nowhere, AtFault, AtRound, Passed, ReadFault, WriteFault, NoMemory, merging, Passes, IsNoRound, stop_of, flushes}
-use Rattle.offload_model.specs.Rounds.{runs_in, items_of}
 use Rattle.offload_model.specs.Steps.{ending_behind, behind, round_output}
-use Rattle.offload_model.specs.Written.{Options, record_of, record_bytes}
+use Rattle.offload_model.specs.Written.{Options}
 use Rattle.offload_model.proofs.Lists.{all_taken}
 use Rattle.offload_model.proofs.Needs.{needed_append, needs_add}
-use Rattle.offload_model.proofs.OneQueue.{one_queue}
 use Rattle.offload_model.proofs.Steps.{commands_pass_on, merging_goes_by_round}
 use Rattle.gro.specs.declared.packet.Packet.{Packet as Held}
 use Rattle.gro.specs.Held.{packet_of}
-use Rattle.gro.specs.Items.{item_of}
-use Rattle.round_write.proofs.Runs.{items_bytes}
 use Rattle.rounds.specs.Record.{in_front, Passes as PassesRecords}
-use Rattle.rounds.specs.Reading.{GivesRound, Holds, Exceeds}
-use Rattle.rounds.specs.RoundsState.{RoundsState, WorkedState}
-use Rattle.rounds.specs.Merging.{ending_of, options_of, worked_bytes, round_bytes, Fails, WritesLast, Ahead, EndsBehind, Steps, TakesAll, AreCapturedAt, EndsCaptured, HoldsCaptured}
+use Rattle.rounds.specs.Reading.{GivesRound, PassesRound, Holds, Exceeds}
+use Rattle.rounds.specs.RoundsState.{RoundsState}
+use Rattle.rounds.specs.Merging.{ending_of, options_of, Fails, WritesLast, Puts, GivesUp, Ahead, EndsBehind, Steps, IfEnds, TakesAll, AreCapturedAt, EndsCaptured, HoldsCaptured, MovesOn}
 use Rattle.rounds.specs.declared.round.RoundEnd.{RoundEnd}
 use Rattle.rounds.specs.declared.round.RoundEnd.TheVariants as rounds
 use Rattle.rounds.specs.declared.merge.MergeEnd.{MergeEnd}
@@ -48,16 +42,6 @@ use Rattle.rounds.specs.declared.merge.Step.{Step}
 use Rattle.rounds.specs.declared.merge.Step.TheVariants as steps
 
 -- ---- what is written
-
-pub worked_is : (order : Order) (ps : List Packet) (worked : WorkedState) → map item_of worked.items ≡ map merged_of (runs_in ps) → worked_bytes order worked ≡ round_bytes order ps
-worked_is order ps worked are = items_bytes order 0 (runs_in ps) worked.items are
-
--- as the model has it
-output_is : (state : RoundsState) (order : Order) (ps : List Packet) → round_output (options_of state) order ps ≡ round_bytes order ps
-output_is state order ps =
-    let records = map (record_of 0) (items_of 1 0 ps) in
-    ap (flat_map (record_bytes order)) (append-nil (records ++ []) ∙ append-nil records)
-    ∙ ap (λ (runs : List (List Packet)). flat_map (record_bytes order) (map (record_of 0) runs)) (one_queue ps)
 
 -- a round that was written, and then the sink was flushed
 pub finished : (h h1 h2 : Option (List ℕ)) (bytes : List ℕ) (end result : MergeEnd) → Appends h h1 bytes → (result ≡ end) ⊎ (result ≡ ends.WriteFault) → Keeps h1 h2 → WritesLast h h2 bytes end result
@@ -272,10 +256,10 @@ module _ (blocks : ℕ) (state : RoundsState) (file : FileHead) (from to : Place
   packets = map packet_of round
 
   abbrev out : List ℕ
-  out = round_bytes file.order packets
+  out = round_output (options_of state) file.order packets
 
   out_is : round_output (options_of state) from.file.order packets ≡ out
-  out_is = ap (λ (f : FileHead). round_output (options_of state) f.order packets) is_file ∙ output_is state file.order packets
+  out_is = ap (λ (f : FileHead). round_output (options_of state) f.order packets) is_file
 
   -- a last round, behind which this many more headers are lawful
   last_by : (bytes more : List ℕ) (fault : Option CapFault) → length round + length more ≤ state.budget → round_need packets + needed more ≤ blocks
@@ -438,12 +422,163 @@ is_short rounds.Full = false
 is_short rounds.NoMemory = false
 is_short _ = true
 
-pub fewer_by : (end : RoundEnd) (n m : ℕ) → is_short end ≡ true → ((end ≡ rounds.Full → ⊥) → (end ≡ rounds.NoMemory → ⊥) → n < m) → n < m
+-- ---- a step
+
+fewer_by : (end : RoundEnd) (n m : ℕ) → is_short end ≡ true → ((end ≡ rounds.Full → ⊥) → (end ≡ rounds.NoMemory → ⊥) → n < m) → n < m
 fewer_by end n m short fewer = fewer (λ e. false≢true (sym (ap is_short e) ∙ short)) (λ e. false≢true (sym (ap is_short e) ∙ short))
 
+no_step : (X : Type 0) → ⊥ → X
+no_step X bottom = absurd bottom
+
+abbrev is_done : MergeEnd → Bool
+is_done ends.Done = true
+is_done _ = false
+
+fails_done : (h h1 : Option (List ℕ)) (bytes : List ℕ) (result : MergeEnd) (X : Type 0) → Fails h h1 bytes result → result ≡ ends.Done → X
+fails_done h h1 bytes result X (inl f) done = absurd (false≢true (ap is_done (sym f.0 ∙ done)))
+fails_done h h1 bytes result X (inr f) done = absurd (false≢true (ap is_done (sym f.0 ∙ done)))
+
+abbrev is_read : MergeEnd → Bool
+is_read ends.ReadFault = true
+is_read _ = false
+
+fails_reads : (h h1 : Option (List ℕ)) (bytes : List ℕ) (result : MergeEnd) (X : Type 0) → Fails h h1 bytes result → result ≡ ends.ReadFault → X
+fails_reads h h1 bytes result X (inl f) fault = absurd (false≢true (ap is_read (sym f.0 ∙ fault)))
+fails_reads h h1 bytes result X (inr f) fault = absurd (false≢true (ap is_read (sym f.0 ∙ fault)))
+
+abbrev is_going : Step → Bool
+is_going steps.Goes = true
+is_going _ = false
+
+abbrev pub is_quiet : MergeEnd → Bool
+is_quiet (ends.PoolEmpty round need) = true
+is_quiet ends.WriteFault = true
+is_quiet ends.NoMemory = true
+is_quiet _ = false
+
+-- behind a round that was written
+pub puts_full : (h h1 h2 : Option (List ℕ)) (bytes : List ℕ) → h2 ≡ h1 → Appends h h1 bytes → Puts h h2 bytes rounds.Full steps.Goes
+puts_full h h1 h2 bytes same wrote = subst (λ (z : Option (List ℕ)). Appends h z bytes) (sym same) wrote
+
+module _ (blocks : ℕ) (state : RoundsState) (file : FileHead) (from to : Place) (round : List Held) (is_file : from.file ≡ file) (some : 1 ≤ state.budget) (fits : round_need (map packet_of round) ≤ blocks)
+    (k : ℕ) (a b h h1 : Option (List ℕ)) (t t1 : ℕ) (each : AllByRecursion IsCaptured (map packet_of round)) where
+  abbrev output : List ℕ
+  output = round_output (options_of state) file.order (map packet_of round)
+
+  -- what a round that was put says
+  pub put_given : (end : RoundEnd) (step : Step) → (end ≡ rounds.Full → PassesRound from to round state.budget) → ((end ≡ rounds.Full → ⊥) → (end ≡ rounds.NoMemory → ⊥) → length round < state.budget)
+      → min (t + round_need (map packet_of round)) (2 ^ 64 - 1) ≤ t1 → Puts h h1 output end step → Told a b (GivesRound blocks from to round end) → Told a b (Steps k blocks (options_of state) from to h h1 t t1 step)
+  put_given rounds.Full steps.Goes full fewer took puts told =
+      full_given blocks state file from to round is_file some fits k a b h h1 rounds.Full t t1 refl (full refl).full (full refl).file took puts each told
+  put_given rounds.Full (steps.Ends result) full fewer took puts told =
+      failed_given blocks state file from to round is_file some fits k a b h h1 rounds.Full result refl (full refl).full puts told
+  put_given rounds.End (steps.Ends result) full fewer took puts told =
+      end_given blocks state file from to round is_file some fits k a b h h1 rounds.End result refl (fewer_by rounds.End (length round) state.budget refl fewer) puts told
+  put_given (rounds.Malformed fault) (steps.Ends result) full fewer took puts told =
+      malformed_given blocks state file from to round is_file some fits k a b h h1 (rounds.Malformed fault) fault result refl (fewer_by (rounds.Malformed fault) (length round) state.budget refl fewer) puts told
+  put_given rounds.ReadFault (steps.Ends result) full fewer took puts told =
+      fault_given blocks state file from to round is_file some fits k a b h h1 rounds.ReadFault result refl (fewer_by rounds.ReadFault (length round) state.budget refl fewer) puts told
+  put_given rounds.End steps.Goes full fewer took puts told = no_step _ puts
+  put_given (rounds.Malformed fault) steps.Goes full fewer took puts told = no_step _ puts
+  put_given rounds.ReadFault steps.Goes full fewer took puts told = no_step _ puts
+  put_given (rounds.PoolEmpty need) step full fewer took puts told = no_step _ puts
+  put_given rounds.NoMemory step full fewer took puts told = no_step _ puts
+
+  -- and one that is given up
+  pub given_up : (end : RoundEnd) (result : MergeEnd) → ((end ≡ rounds.Full → ⊥) → (end ≡ rounds.NoMemory → ⊥) → length round < state.budget) → GivesUp h h1 k end result → Told a b (GivesRound blocks from to round end)
+      → Told a b (EndsBehind k blocks (options_of state) from h h1 result)
+  given_up (rounds.PoolEmpty need) result fewer gives told =
+      empty_given blocks state file from to round is_file some fits k a b h h1 (rounds.PoolEmpty need) need result refl (fewer_by (rounds.PoolEmpty need) (length round) state.budget refl fewer) gives.0 gives.1 told
+  given_up rounds.NoMemory result fewer gives told =
+      subst (λ (z : Option (List ℕ)). Told a b (EndsBehind k blocks (options_of state) from h z result)) (sym gives.1)
+      (subst (λ (e : MergeEnd). Told a b (EndsBehind k blocks (options_of state) from h h e)) (sym gives.0) (memory_given k blocks (options_of state) from to round a b h rounds.NoMemory refl told))
+  given_up rounds.Full result fewer gives told = no_step _ gives
+  given_up rounds.End result fewer gives told = no_step _ gives
+  given_up (rounds.Malformed fault) result fewer gives told = no_step _ gives
+  given_up rounds.ReadFault result fewer gives told = no_step _ gives
+
+  pub put_captured : (end : RoundEnd) (step : Step) → Puts h h1 output end step → Told a b (GivesRound blocks from to round end) → IfEnds step (λ result. Told a b (EndsCaptured k from result))
+  put_captured rounds.Full steps.Goes puts told = tt
+  put_captured rounds.Full (steps.Ends result) puts told = failed_captured k blocks from to round a b h h1 output each rounds.Full result refl puts told
+  put_captured rounds.End (steps.Ends result) puts told = end_captured k blocks from to round a b h h1 output each rounds.End result refl puts told
+  put_captured (rounds.Malformed fault) (steps.Ends result) puts told = malformed_captured k blocks from to round a b h h1 output each (rounds.Malformed fault) fault result refl puts told
+  put_captured rounds.ReadFault (steps.Ends result) puts told = fault_captured k blocks from to round a b h h1 output each rounds.ReadFault result refl puts told
+  put_captured rounds.End steps.Goes puts told = tt
+  put_captured (rounds.Malformed fault) steps.Goes puts told = tt
+  put_captured rounds.ReadFault steps.Goes puts told = tt
+  put_captured (rounds.PoolEmpty need) step puts told = no_step _ puts
+  put_captured rounds.NoMemory step puts told = no_step _ puts
+
+  pub up_captured : (end : RoundEnd) (result : MergeEnd) → GivesUp h h1 k end result → Told a b (GivesRound blocks from to round end) → Told a b (EndsCaptured k from result)
+  up_captured (rounds.PoolEmpty need) result gives told = empty_captured k blocks from to round a b h h1 output each (rounds.PoolEmpty need) need result refl gives.0 told
+  up_captured rounds.NoMemory result gives told =
+      subst (λ (e : MergeEnd). Told a b (EndsCaptured k from e)) (sym gives.0) (memory_captured k blocks from to round a b h h1 output each rounds.NoMemory refl told)
+  up_captured rounds.Full result gives told = no_step _ gives
+  up_captured rounds.End result gives told = no_step _ gives
+  up_captured (rounds.Malformed fault) result gives told = no_step _ gives
+  up_captured rounds.ReadFault result gives told = no_step _ gives
+
+  -- merging is done where the capture was read to its end
+  last_done : (end result : MergeEnd) (X : Type 0) → is_done end ≡ false → WritesLast h h1 output end result → result ≡ ends.Done → X
+  last_done end result X e (inl w) done = absurd (false≢true (sym e ∙ ap is_done (sym w.0 ∙ done)))
+  last_done end result X e (inr f) done = fails_done h h1 output result X f done
+
+  pub put_taken : (end : RoundEnd) (step : Step) → min (t + round_need (map packet_of round)) (2 ^ 64 - 1) ≤ t1 → Puts h h1 output end step → Told a b (GivesRound blocks from to round end)
+      → IfEnds step (λ result. result ≡ ends.Done → Told a b (TakesAll t t1 from))
+  put_taken rounds.End (steps.Ends result) took puts told = λ done. done_taken blocks t t1 from to round a b rounds.End refl took told
+  put_taken rounds.Full steps.Goes took puts told = tt
+  put_taken rounds.Full (steps.Ends result) took puts told = λ done. fails_done h h1 output result _ puts done
+  put_taken (rounds.Malformed fault) (steps.Ends result) took puts told = λ done. last_done (ends.Malformed fault) result _ refl puts done
+  put_taken rounds.ReadFault (steps.Ends result) took puts told = λ done. last_done ends.ReadFault result _ refl puts done
+  put_taken rounds.End steps.Goes took puts told = tt
+  put_taken (rounds.Malformed fault) steps.Goes took puts told = tt
+  put_taken rounds.ReadFault steps.Goes took puts told = tt
+  put_taken (rounds.PoolEmpty need) step took puts told = no_step _ puts
+  put_taken rounds.NoMemory step took puts told = no_step _ puts
+
+  -- the next round may be read
+  pub put_moves : (end : RoundEnd) (step : Step) → (end ≡ rounds.Full → PassesRound from to round state.budget) → Puts h h1 output end step → step ≡ steps.Goes → MovesOn from to
+  put_moves rounds.Full steps.Goes full puts goes = let p = full refl in record { file = p.file; link = p.link; number = omega (arith, p.number, some); ready = p.ready }
+  put_moves end (steps.Ends result) full puts goes = absurd (false≢true (ap is_going goes))
+  put_moves rounds.End steps.Goes full puts goes = no_step _ puts
+  put_moves (rounds.Malformed fault) steps.Goes full puts goes = no_step _ puts
+  put_moves rounds.ReadFault steps.Goes full puts goes = no_step _ puts
+  put_moves (rounds.PoolEmpty need) steps.Goes full puts goes = no_step _ puts
+  put_moves rounds.NoMemory steps.Goes full puts goes = no_step _ puts
+
+  -- merging ends by a read fault where reading did
+  last_reads : (end result : MergeEnd) (X : Type 0) → is_read end ≡ false → WritesLast h h1 output end result → result ≡ ends.ReadFault → X
+  last_reads end result X e (inl w) fault = absurd (false≢true (sym e ∙ ap is_read (sym w.0 ∙ fault)))
+  last_reads end result X e (inr f) fault = fails_reads h h1 output result X f fault
+
+  pub put_reads : (X : Type 0) (end : RoundEnd) (step : Step) → (end ≡ rounds.ReadFault → X) → Puts h h1 output end step → IfEnds step (λ result. result ≡ ends.ReadFault → X)
+  put_reads X rounds.ReadFault (steps.Ends result) read puts = λ fault. read refl
+  put_reads X rounds.Full steps.Goes read puts = tt
+  put_reads X rounds.Full (steps.Ends result) read puts = λ fault. fails_reads h h1 output result X puts fault
+  put_reads X rounds.End (steps.Ends result) read puts = λ fault. last_reads ends.Done result X refl puts fault
+  put_reads X (rounds.Malformed fault) (steps.Ends result) read puts = λ is. last_reads (ends.Malformed fault) result X refl puts is
+  put_reads X rounds.End steps.Goes read puts = tt
+  put_reads X (rounds.Malformed fault) steps.Goes read puts = tt
+  put_reads X rounds.ReadFault steps.Goes read puts = tt
+  put_reads X (rounds.PoolEmpty need) step read puts = no_step _ puts
+  put_reads X rounds.NoMemory step read puts = no_step _ puts
+
+-- a round that is given up is no end of the capture
+gives_quiet : (h h1 : Option (List ℕ)) (k : ℕ) (end : RoundEnd) (result : MergeEnd) → GivesUp h h1 k end result → is_quiet result ≡ true
+gives_quiet h h1 k (rounds.PoolEmpty need) result (inl e, kept) = ap is_quiet e
+gives_quiet h h1 k (rounds.PoolEmpty need) result (inr e, kept) = ap is_quiet e
+gives_quiet h h1 k rounds.NoMemory result gives = ap is_quiet gives.0
+gives_quiet h h1 k rounds.Full result gives = no_step _ gives
+gives_quiet h h1 k rounds.End result gives = no_step _ gives
+gives_quiet h h1 k (rounds.Malformed fault) result gives = no_step _ gives
+gives_quiet h h1 k rounds.ReadFault result gives = no_step _ gives
+
+pub up_not : (h h1 : Option (List ℕ)) (k : ℕ) (end : RoundEnd) (result other : MergeEnd) (X : Type 0) → is_quiet other ≡ false → GivesUp h h1 k end result → result ≡ other → X
+up_not h h1 k end result other X e gives is = absurd (false≢true (sym e ∙ ap is_quiet (sym is) ∙ gives_quiet h h1 k end result gives))
+
 -- a step of rounds that are as they were at first
-pub steps_as : (k : ℕ) (s s0 : RoundsState) (from to : Place) (a b h h1 : Option (List ℕ)) (t t1 : ℕ) (step : Step) → s.blocks ≡ s0.blocks → s.budget ≡ s0.budget
+pub steps_as : (k : ℕ) (s s0 : RoundsState) (from to : Place) (a b h h1 : Option (List ℕ)) (t t1 : ℕ) (step : Step) → s.blocks ≡ s0.blocks → options_of s ≡ options_of s0
     → Told a b (Steps k s.blocks (options_of s) from to h h1 t t1 step) → Told a b (Steps k s0.blocks (options_of s0) from to h h1 t t1 step)
-steps_as k s s0 from to a b h h1 t t1 step blocks budget told =
+steps_as k s s0 from to a b h h1 t t1 step blocks options told =
     subst (λ (n : ℕ). Told a b (Steps k n (options_of s0) from to h h1 t t1 step)) blocks
-    (subst (λ (n : ℕ). Told a b (Steps k s.blocks (record { budget = n; queues = 1; taps = 0; snap = 64 }) from to h h1 t t1 step)) budget told)
+    (subst (λ (o : Options). Told a b (Steps k s.blocks o from to h h1 t t1 step)) options told)

@@ -35,6 +35,7 @@ use Rattle.gro.specs.Held.{packet_of}
 use Rattle.gro.specs.Items.{item_of}
 use Rattle.rounds.specs.Fresh.{AreRead, IsRead, IsInFields}
 use Rattle.rounds.specs.Held.{IsSmall, AreSmall}
+use Rattle.rounds.specs.Kept.{Fits}
 
 -- ---- lawful headers
 
@@ -65,9 +66,6 @@ captured_of p original read fields = record {
 }
 
 -- ---- merged frames
-
-abbrev Fits : Packet → Type 0
-Fits p = (length p.frame ≤ 262144) × (p.original ≤ 2 ^ 31 + 11)
 
 -- one packet, or packets that may be merged
 abbrev IsRun : List Packet → Type 0
@@ -125,20 +123,22 @@ merged_fits (p ∷ q ∷ ps) (inr m, fit) = several_fit p q ps m
 
 -- ---- items
 
-read_fit : (ps : List Held) → AreRead ps → AllByRecursion Fits (map packet_of ps)
+pub read_fit : (ps : List Held) → AreRead ps → AllByRecursion Fits (map packet_of ps)
 read_fit [] r = tt
 read_fit (p ∷ ps) r = ((r.0.held.short, r.0.original), read_fit ps r.1)
 
-items_fit : (items : List Item) → AllByRecursion (λ (m : Merged). Fits m.packet) (map item_of items) → AreSmall items
+pub items_fit : (items : List Item) → AllByRecursion (λ (m : Merged). Fits m.packet) (map item_of items) → AreSmall items
 items_fit [] a = tt
 items_fit (i ∷ items) a = (a.0, items_fit items a.1)
+
+-- what the runs of packets come to
+pub runs_merge_fit : (ps : List Packet) → AllByRecursion Fits ps → AllByRecursion (λ (m : Merged). Fits m.packet) (map merged_of (runs_in ps))
+runs_merge_fit ps fit = all_mapped IsRun (λ (m : Merged). Fits m.packet) merged_of (runs_in ps) merged_fits (runs_fit ps ps fit)
 
 -- what packets that were read come to has the lengths of records
 pub items_small : (ps : List Held) (items : List Item) → AreRead ps → map item_of items ≡ map merged_of (runs_in (map packet_of ps)) → AreSmall items
 items_small ps items read are =
-    let qs = map packet_of ps in
-    items_fit items (subst (AllByRecursion (λ (m : Merged). Fits m.packet)) (sym are)
-    (all_mapped IsRun (λ (m : Merged). Fits m.packet) merged_of (runs_in qs) merged_fits (runs_fit qs qs (read_fit ps read))))
+    items_fit items (subst (AllByRecursion (λ (m : Merged). Fits m.packet)) (sym are) (runs_merge_fit (map packet_of ps) (read_fit ps read)))
 
 pub small_at : (items : List Item) (i : ℕ) (d : Item) → i < length items → AreSmall items → IsSmall (get_or items i d)
 small_at [] i d lt a = absurd (omega (arith, lt))

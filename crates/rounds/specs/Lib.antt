@@ -2,6 +2,8 @@ pub mod Cutting
 pub mod Data
 pub mod Fresh
 pub mod Held
+pub mod Kept
+pub mod Lanes
 pub mod Marks
 pub mod Merging
 pub mod Reading

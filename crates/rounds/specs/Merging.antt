@@ -1,22 +1,20 @@
 -- How merging ends, what is written of a round, and what a round or a row of them says of the bytes that are gone.
-use Rattle.std.specs.Prelude.{◌≡◌, ◌⊎◌, ℕ, ◌+◌, ◌-◌, ◌<◌, ◌≤◌, ◌^◌, ◌*◌, ⊤, min, map, length, Option, List, ◌++◌}
-use Rattle.std.specs.List.{AllByRecursion, flat_map}
+use Rattle.std.specs.Prelude.{◌≡◌, ◌⊎◌, ℕ, ◌+◌, ◌-◌, ◌<◌, ◌≤◌, ◌^◌, ◌*◌, ⊤, Bool, true, false, min, length, Option, List, ◌++◌}
+use Rattle.std.specs.List.{AllByRecursion}
 use Rattle.std.specs.Io.KnownBytes.{Appends, Keeps}
 use Rattle.off_io.specs.Content.{AppendsFront}
-use Rattle.net_bytes.specs.declared.order.Order.{Order}
 use Rattle.pcap_io.specs.declared.place.Place.{Place}
 use Rattle.pcap_io.specs.Capture.{Packet}
 use Rattle.pcap_io.specs.Places.{IsReady, found_at}
 use Rattle.offload_model.specs.Captured.{IsCaptured}
 use Rattle.offload_model.specs.Need.{packets_within, round_need}
 use Rattle.offload_model.specs.Passing.{Ending, Stopped, Nowhere, AtFault, AtRound, ReadFault, WriteFault, NoMemory, merging, Passes}
-use Rattle.offload_model.specs.Rounds.{runs_in}
 use Rattle.offload_model.specs.Steps.{GoesOn, ending_behind}
-use Rattle.offload_model.specs.Written.{Options, record_of, record_bytes}
-use Rattle.gro.specs.Items.{item_of}
-use Rattle.round_write.specs.Records.{item_bytes}
+use Rattle.offload_model.specs.Written.{Options}
 use Rattle.rounds.specs.Record.{in_front}
-use Rattle.rounds.specs.RoundsState.{RoundsState, WorkedState}
+use Rattle.rounds.specs.RoundsState.{RoundsState}
+use Rattle.rounds.specs.declared.round.RoundEnd.{RoundEnd}
+use Rattle.rounds.specs.declared.round.RoundEnd.TheVariants as read_ends
 use Rattle.rounds.specs.declared.merge.MergeEnd.{MergeEnd}
 use Rattle.rounds.specs.declared.merge.MergeEnd.TheVariants as ends
 use Rattle.rounds.specs.declared.merge.Step.{Step}
@@ -30,17 +28,8 @@ ending_of ends.ReadFault = ReadFault
 ending_of ends.WriteFault = WriteFault
 ending_of ends.NoMemory = NoMemory
 
--- in one queue, with no tap
 abbrev pub options_of : RoundsState → Options
-options_of rounds = record { budget = rounds.budget; queues = 1; taps = 0; snap = 64 }
-
--- what is written of a round that was worked
-abbrev pub worked_bytes : Order → WorkedState → List ℕ
-worked_bytes order worked = flat_map (λ item. item_bytes order 0 (item_of item)) worked.items
-
--- what is written of a round's packets
-abbrev pub round_bytes : Order → List Packet → List ℕ
-round_bytes order ps = flat_map (record_bytes order) (map (record_of 0) (runs_in ps))
+options_of rounds = record { budget = rounds.budget; queues = rounds.queues; taps = rounds.taps; snap = rounds.snap }
 
 -- ---- a round that is written
 
@@ -51,6 +40,27 @@ Fails old new bytes end = ((end ≡ ends.WriteFault) × AppendsFront old new byt
 -- the last round: it was written, and merging ends as it is to, or it wasn't
 abbrev pub WritesLast : Option (List ℕ) → Option (List ℕ) → List ℕ → MergeEnd → MergeEnd → Type 0
 WritesLast old new bytes end result = ((result ≡ end) × Appends old new bytes) ⊎ Fails old new bytes result
+
+-- a round that ended so is worked: there was memory for it, and it doesn't exceed the blocks
+abbrev pub is_worked : RoundEnd → Bool
+is_worked (read_ends.PoolEmpty need) = false
+is_worked read_ends.NoMemory = false
+is_worked _ = true
+
+-- a round that was worked is put: merging goes on behind a full one, and else ends as the reading did, unless it fails
+abbrev pub Puts : Option (List ℕ) → Option (List ℕ) → List ℕ → RoundEnd → Step → Type 0
+Puts old new bytes read_ends.Full steps.Goes = Appends old new bytes
+Puts old new bytes read_ends.Full (steps.Ends result) = Fails old new bytes result
+Puts old new bytes read_ends.End (steps.Ends result) = WritesLast old new bytes ends.Done result
+Puts old new bytes (read_ends.Malformed fault) (steps.Ends result) = WritesLast old new bytes (ends.Malformed fault) result
+Puts old new bytes read_ends.ReadFault (steps.Ends result) = WritesLast old new bytes ends.ReadFault result
+Puts old new bytes _ _ = ⊥
+
+-- of a round that is given up, behind k others, nothing is written
+abbrev pub GivesUp : Option (List ℕ) → Option (List ℕ) → ℕ → RoundEnd → MergeEnd → Type 0
+GivesUp old new k (read_ends.PoolEmpty need) result = ((result ≡ ends.PoolEmpty k need) ⊎ (result ≡ ends.WriteFault)) × Keeps old new
+GivesUp old new k read_ends.NoMemory result = (result ≡ ends.NoMemory) × (new ≡ old)
+GivesUp old new k _ result = ⊥
 
 -- ---- rounds
 

@@ -1,20 +1,31 @@
 -- What a contract sees of rounds: how many blocks are home, were made and were taken, and of a round what it holds.
-use Rattle.std.specs.Prelude.{ℕ, List}
+use Rattle.std.specs.Prelude.{ℕ, Bool, List}
 use Rattle.gro.specs.declared.packet.Packet.{Packet}
 use Rattle.gro.specs.declared.item.Item.{Item}
+use Rattle.taps.specs.declared.clones.TapClone.{TapClone}
+use Rattle.round_work.specs.declared.lanes.Lanes.{Lanes}
 
+-- and how many packets a round may have, how many queues and taps there are, how many bytes a tap reads of a packet, and whether
+-- a clone of each packet is kept
 pub record RoundsState : Type 0 where
   pub home : ℕ
   pub blocks : ℕ
   pub taken : ℕ
   pub budget : ℕ
+  pub queues : ℕ
+  pub taps : ℕ
+  pub snap : ℕ
+  pub keep : Bool
 
 pub record RoundState : Type 0 where
   pub packets : List Packet
   pub blocks : ℕ
 
+-- the items that merged in no lane, the lanes, and the clones that were kept
 pub record WorkedState : Type 0 where
   pub items : List Item
+  pub lanes : Lanes
+  pub kept : List TapClone
   pub blocks : ℕ
 
 -- of what segments records: the same, and each record is a round of its own

@@ -7,18 +7,22 @@ ghost use Rattle.gro.specs.Held.{of_packet, of_packets, count_of, counts_of};
 ghost use Rattle.gro.specs.Items.{of_item};
 ghost use Rattle.gro.specs.Table.{of_items};
 ghost use Rattle.rounds.specs.Held.{blocks_in, blocks_in_items};
+ghost use Rattle.rounds.specs.Lanes.{of_work, count_of_work, AreSpent};
 ghost use Rattle.rounds.specs.Marks.{IsRound, nothing};
 ghost use Rattle.rounds.specs.Table.{AllOpen, Comes, IsBare, MayCome};
 
+use crate::lane_home::{bring_kept, bring_lanes};
 use crate::table::{Place, reopen, sweep};
 use block_pool::Pool;
 use frags::Outcomes;
 use gro::{Item, Packet, RoundTable};
+use round_work::Lanes;
 use skb::Skb;
 use std::collections::VecDeque;
+use taps::TapClone;
 
-// A buffer is given back, and its blocks go home.
-fn bring_buffer(pool: &mut Pool, places: &mut [Place], out: &mut Outcomes, skb: Skb)
+/// A buffer is given back, and its blocks go home.
+pub(crate) fn bring_buffer(pool: &mut Pool, places: &mut [Place], out: &mut Outcomes, skb: Skb)
     requires may { MayCome (of_buffer skb) pool.old places.old }
     requires bare { IsBare out.old }
     requires spare { blocks_in skb ≤ out.old.spare }
@@ -28,22 +32,6 @@ fn bring_buffer(pool: &mut Pool, places: &mut [Place], out: &mut Outcomes, skb: 
 {
     skb.release(out);
     sweep(pool, places, out);
-}
-
-// What was given back elsewhere goes home, and its outcomes serve items to come.
-fn bring_outcomes(
-    pool: &mut Pool,
-    places: &mut [Place],
-    merging: &mut RoundTable,
-    outcomes: Outcomes,
-)
-    requires may { MayCome (of_outcomes outcomes) pool.old places.old }
-    ensures comes { Comes (of_outcomes outcomes) nothing pool.old places.old pool.new places.new }
-    ensures merging { merging.new ≡ merging.old }
-{
-    let mut outcomes = outcomes;
-    sweep(pool, places, &mut outcomes);
-    merging.keep(outcomes);
 }
 
 /// A packet is given back.
@@ -75,25 +63,24 @@ pub(crate) fn bring_packet(
     sweep(pool, places, out);
 }
 
-// An item is given back.
-fn bring_item(
+/// An item is given back. Its outcomes hold nothing any more.
+pub(crate) fn bring_item(
     pool: &mut Pool,
     places: &mut [Place],
-    merging: &mut RoundTable,
     out: &mut Outcomes,
     item: Item,
-)
+) -> Outcomes
     requires may { MayCome (of_item item) pool.old places.old }
     requires bare { IsBare out.old }
     requires spare { blocks_in item.skb ≤ out.old.spare }
     ensures comes { Comes (of_item item) nothing pool.old places.old pool.new places.new }
     ensures bare { IsBare out.new }
     ensures spare { out.old.spare ≤ out.new.spare + blocks_in item.skb }
-    ensures merging { merging.new ≡ merging.old }
+    ensures empty { IsBare result }
 {
     let Item {
         skb,
-        outcomes,
+        mut outcomes,
         number: _,
         sec: _,
         frac: _,
@@ -103,11 +90,12 @@ fn bring_item(
         modes: _,
     } = item;
     bring_buffer(pool, places, out, skb);
-    bring_outcomes(pool, places, merging, outcomes);
+    sweep(pool, places, &mut outcomes);
+    outcomes
 }
 
-// All packets are given back, and their memory stays.
-fn bring_packets(
+/// All packets are given back, and their memory stays.
+pub(crate) fn bring_packets(
     pool: &mut Pool,
     places: &mut [Place],
     out: &mut Outcomes,
@@ -126,7 +114,7 @@ fn bring_packets(
     }
 }
 
-// All items are given back, and their memory stays.
+// All items are given back, and their memory stays. Their outcomes serve items to come.
 fn bring_items(
     pool: &mut Pool,
     places: &mut [Place],
@@ -144,8 +132,33 @@ fn bring_items(
     ensures merging { merging.new ≡ merging.old }
 {
     while let Some(item) = items.pop() {
-        bring_item(pool, places, merging, out, item);
+        merging.keep(bring_item(pool, places, out, item));
     }
+}
+
+// What a round came to is given back: items, lanes, and clones that were kept.
+fn bring_work(
+    pool: &mut Pool,
+    places: &mut [Place],
+    merging: &mut RoundTable,
+    out: &mut Outcomes,
+    items: &mut Vec<Item>,
+    lanes: Lanes,
+    kept: Vec<TapClone>,
+)
+    requires may { MayCome (of_work items.old.items lanes kept.items) pool.old places.old }
+    requires bare { IsBare out.old }
+    requires spare { count_of_work items.old.items lanes kept.items ≤ out.old.spare }
+    requires spent { AreSpent lanes.taps.items }
+    ensures comes { Comes (of_work items.old.items lanes kept.items) nothing pool.old places.old pool.new places.new }
+    ensures bare { IsBare out.new }
+    ensures spare { out.old.spare ≤ out.new.spare + count_of_work items.old.items lanes kept.items }
+    ensures none { items.new.items ≡ [] }
+    ensures merging { merging.new ≡ merging.old }
+{
+    bring_items(pool, places, merging, out, items);
+    bring_lanes(pool, places, out, lanes);
+    bring_kept(pool, places, out, kept);
 }
 
 // All that is left of a round comes home to a table with a place for each of its blocks.
@@ -156,28 +169,32 @@ fn bring_all(
     out: &mut Outcomes,
     packets: &mut VecDeque<Packet>,
     items: &mut Vec<Item>,
+    lanes: Lanes,
+    kept: Vec<TapClone>,
 )
-    requires round { IsRound (length places.old) (both (of_outcomes out.old) (both (of_packets packets.old.items) (of_items items.old.items))) }
+    requires round { IsRound (length places.old) (both (of_outcomes out.old) (both (of_packets packets.old.items) (of_work items.old.items lanes kept.items))) }
     requires room { home pool.old + length places.old ≤ pool.old.made }
     requires open { AllOpen places.old }
-    requires spare { counts_of packets.old.items + blocks_in_items items.old.items ≤ out.old.spare }
+    requires spare { counts_of packets.old.items + count_of_work items.old.items lanes kept.items ≤ out.old.spare }
+    requires spent { AreSpent lanes.taps.items }
     ensures home { home pool.new ≡ home pool.old + length places.old }
     ensures made { (pool.new.made ≡ pool.old.made) × (pool.new.taken ≡ pool.old.taken) }
     ensures open { AllOpen places.new }
     ensures size { length places.new ≡ length places.old }
     ensures bare { IsBare out.new }
-    ensures spare { out.old.spare ≤ out.new.spare + (counts_of packets.old.items + blocks_in_items items.old.items) }
+    ensures spare { out.old.spare ≤ out.new.spare + (counts_of packets.old.items + count_of_work items.old.items lanes kept.items) }
     ensures none { (packets.new.items ≡ []) × (items.new.items ≡ []) }
     ensures merging { merging.new ≡ merging.old }
 {
     sweep(pool, places, out);
     bring_packets(pool, places, out, packets);
-    bring_items(pool, places, merging, out, items);
+    bring_work(pool, places, merging, out, items, lanes, kept);
     reopen(places);
 }
 
 /// All blocks of a round go home, `blocks` of them, at whichever point it is ended or given up: what was given back so far, the
-/// packets that aren't merged, and the items. The items' lists serve the next round's merging.
+/// packets that aren't merged, the items, what the lanes hold, and the clones that were kept. The lists of items that merged in no
+/// lane serve the next round's merging.
 pub(crate) fn bring_round(
     pool: &mut Pool,
     table: &mut [Place],
@@ -186,21 +203,24 @@ pub(crate) fn bring_round(
     out: &mut Outcomes,
     packets: &mut VecDeque<Packet>,
     items: &mut Vec<Item>,
+    lanes: Lanes,
+    kept: Vec<TapClone>,
 )
-    requires round { IsRound blocks (both (of_outcomes out.old) (both (of_packets packets.old.items) (of_items items.old.items))) }
+    requires round { IsRound blocks (both (of_outcomes out.old) (both (of_packets packets.old.items) (of_work items.old.items lanes kept.items))) }
     requires few { blocks ≤ length table.old }
     requires room { home pool.old + blocks ≤ pool.old.made }
     requires open { AllOpen table.old }
-    requires spare { counts_of packets.old.items + blocks_in_items items.old.items ≤ out.old.spare }
+    requires spare { counts_of packets.old.items + count_of_work items.old.items lanes kept.items ≤ out.old.spare }
+    requires spent { AreSpent lanes.taps.items }
     ensures home { home pool.new ≡ home pool.old + blocks }
     ensures made { (pool.new.made ≡ pool.old.made) × (pool.new.taken ≡ pool.old.taken) }
     ensures open { AllOpen table.new }
     ensures size { length table.new ≡ length table.old }
     ensures bare { IsBare out.new }
-    ensures spare { out.old.spare ≤ out.new.spare + (counts_of packets.old.items + blocks_in_items items.old.items) }
+    ensures spare { out.old.spare ≤ out.new.spare + (counts_of packets.old.items + count_of_work items.old.items lanes kept.items) }
     ensures none { (packets.new.items ≡ []) × (items.new.items ≡ []) }
     ensures merging { merging.new ≡ merging.old }
 {
     let (places, _) = table.split_at_mut(blocks as usize);
-    bring_all(pool, places, merging, out, packets, items);
+    bring_all(pool, places, merging, out, packets, items, lanes, kept);
 }

@@ -13,12 +13,16 @@
 //!
 //! - `given` of `read_round`: the packets are the next ones of the capture, and the end is told by its bytes alone; `PoolEmpty` exactly
 //!   where the round's need first exceeds the blocks, with that need, judged by the record's header.
-//! - `merged` of `work_round`: the items are what the maximal runs of each flow come to, in the order of their first packets.
+//! - `records` of `work_round`: the records that are written of the round are those of the model, queue by queue what the maximal runs
+//!   of each flow come to, in the order of their first packets, and then tap by tap its windows of the packets as they were read,
+//!   whatever the order in which the lanes run; of `work_round_alone` the same. `checked`: where clones are kept, all that a comparison
+//!   of the items with the packets wants to know.
+//! - `ok`, `err` of `write_round`: byte for byte what is written of a round that was worked.
 //! - `home`: how many blocks are home after each call, as an equation; after `drop_round` and `end_round`, and where
 //!   `work_round` wants memory, all of the round.
 //! - `need`, `taken`, `most`: the blocks that are out are what the packets need, and `taken` rises by at least as many.
-//! - `given` of `merge_all`: what is written, and where it stops, is what the model makes of the capture's bytes (`merging` of
-//!   `offload_model`), whole rounds alone; a round that exceeds the blocks is told by its number and its need. After a fault, or want
+//! - `given` of `merge_all` and `merge_all_alone`: what is written, and where it stops, is what the model makes of the capture's bytes
+//!   (`merging` of `offload_model`) with all options, whole rounds alone; a round that exceeds the blocks is told by its number and its need. After a fault, or want
 //!   of memory, it is that of the bytes that are gone, or a front of it. All blocks are home whatever the ending (`home`).
 //! - `captured` of `merge_all`: the packets that are merged are such as a capture may hold, since each was read into fields of 32 bits and
 //!   into bytes.
@@ -35,11 +39,12 @@
 //! less than the whole. So where a mark's Sole isn't home something would still be held, and nothing is.
 //!
 //! Memory is taken in [`Rounds::make`] and [`SegmentRun::make`], and for lists of pieces: by a record of more than 1,984 bytes, and by
-//! each segment of a merged one.
+//! each segment of a merged one. Where one queue is all there is, no thread and no lane is made; else each round takes memory for its
+//! lanes, and for the clones that are kept.
 //!
 //! ```
-//! let mut rounds = Rounds::make(alloc, blocks, 2)?;
-//! let end = rounds.merge_all(&mut reader, &file, &mut sink, &gate);
+//! let mut rounds = Rounds::make(alloc, blocks, 64, 4, 1, 64, false)?;
+//! let end = rounds.merge_all(&rt, &mut reader, &file, &mut sink, &gate);
 //! ```
 #![tactic(auto)]
 
@@ -47,6 +52,10 @@ mod blocks;
 mod body;
 mod cut;
 mod home;
+mod lane_home;
+#[cfg(test)]
+mod lane_tests;
+mod lane_work;
 mod memory;
 mod merge;
 mod reading;

@@ -1,5 +1,5 @@
 //! Merges the records of a capture, round by round.
-ghost use Rattle.std.specs.Prelude.{◌≡◌, ◌⊎◌, ◌+◌, ◌-◌, ◌<◌, ◌≤◌, ◌^◌, true, min, map, OnOk, IfErr, Err};
+ghost use Rattle.std.specs.Prelude.{◌≡◌, ◌⊎◌, ℕ, ◌+◌, ◌≤◌, ◌^◌, ◌-◌, true, false, Option, List, min, IfOk, MatchResult};
 ghost use Rattle.std.specs.Io.KnownBytes.{Appends, Keeps};
 ghost use Rattle.off_io.specs.Content.{SaysFlushed};
 ghost use Rattle.off_io.specs.Faults.{Rose};
@@ -9,13 +9,15 @@ ghost use Rattle.pcap_io.specs.Places.{IsReady, found_at};
 ghost use Rattle.pcap_io.specs.Readers.{place_of, source_of, SameLoan};
 ghost use Rattle.offload_model.specs.Need.{round_need};
 ghost use Rattle.offload_model.specs.Passing.{merging, Passes, flushes};
-ghost use Rattle.gro.specs.Held.{packet_of};
-ghost use Rattle.rounds.specs.Merging.{ending_of, options_of, round_bytes, Fails, WritesLast, Steps, IfEnds, TakesAll, EndsCaptured, HoldsCaptured, MovesOn};
+ghost use Rattle.rounds.specs.Lanes.{worked_bytes};
+ghost use Rattle.rounds.specs.Merging.{ending_of, options_of, is_worked, Puts, GivesUp, Steps, IfEnds, TakesAll, EndsCaptured, HoldsCaptured, MovesOn};
 
 use crate::Rounds;
-use crate::round::{Round, RoundEnd, RoundRead};
+use crate::round::{Round, RoundEnd, RoundRead, Worked, is_worked};
 use off_io::{Failed, Gate, Sink, Source, WriteFault};
 use pcap_io::{CapFault, CaptureReader, FileHead};
+use std::alloc::AllocError;
+use std::thread::Threads;
 
 /// How merging ended.
 #[derive(Clone, Copy, Debug, PartialEq, Eq)]
@@ -56,58 +58,120 @@ fn finish<K: Sink>(sink: &mut K, end: MergeEnd) -> MergeEnd
     }
 }
 
+// What follows a round that was written, by why it has no more records.
+fn close_round<K: Sink>(sink: &mut K, end: RoundEnd) -> Step
+    requires works { is_worked end ≡ true }
+    ensures puts { (held : Option (List ℕ)) → (bytes : List ℕ) → Appends held (K.held sink.old) bytes → Puts held (K.held sink.new) bytes end result }
+    ensures flushed { IfEnds result (λ end. flushes (ending_of end) ≡ true → SaysFlushed (K.held sink.new) (K.is_flushed sink.new) true) }
+    ensures later { K.faults sink.old ≤ K.faults sink.new }
+    ensures rose { IfEnds result (λ end. end ≡ MergeEnd.WriteFault → Rose (K.faults sink.old) (K.faults sink.new)) }
+{
+    match end {
+        RoundEnd::Full => Step::Goes,
+        RoundEnd::End => Step::Ends(finish(sink, MergeEnd::Done)),
+        RoundEnd::Malformed(fault) => Step::Ends(finish(sink, MergeEnd::Malformed(fault))),
+        RoundEnd::ReadFault => Step::Ends(finish(sink, MergeEnd::ReadFault)),
+        RoundEnd::PoolEmpty { need: _ } | RoundEnd::NoMemory => unreachable!(),
+    }
+}
+
 impl Rounds {
-    // Works a round, writes it and ends it. Where that fails merging ends so; the round's blocks are home all the same.
-    fn put_round<K: Sink, G: Gate>(
+    // Writes a round that was worked and ends it. Where that fails merging ends so; the round's blocks are home all the same.
+    fn put_round<K: Sink>(
         &mut self,
-        round: Round,
+        worked: Result<Worked, AllocError>,
+        end: RoundEnd,
         file: &FileHead,
         sink: &mut K,
-        gate: &G,
-    ) -> Result<(), MergeEnd>
-        requires out { self.old.home + round.blocks ≡ self.old.blocks }
-        ensures ok { OnOk result (Appends (K.held sink.old) (K.held sink.new) (round_bytes file.now.order (map packet_of round.packets))) }
-        ensures err { IfErr result (λ end. Fails (K.held sink.old) (K.held sink.new) (round_bytes file.now.order (map packet_of round.packets)) end) }
+    ) -> Step
+        requires out { MatchResult worked (λ w. self.old.home + w.blocks ≡ self.old.blocks) (λ _. self.old.home ≡ self.old.blocks) }
+        requires works { is_worked end ≡ true }
+        ensures puts { (bytes : List ℕ) → IfOk worked (λ w. worked_bytes file.now.order w ≡ bytes) → Puts (K.held sink.old) (K.held sink.new) bytes end result }
+        ensures flushed { IfEnds result (λ end. flushes (ending_of end) ≡ true → SaysFlushed (K.held sink.new) (K.is_flushed sink.new) true) }
         ensures home { self.new ≡ record self.old { home = self.old.blocks } }
         ensures later { K.faults sink.old ≤ K.faults sink.new }
-        ensures rose { result ≡ Err MergeEnd.WriteFault → Rose (K.faults sink.old) (K.faults sink.new) }
+        ensures rose { IfEnds result (λ end. end ≡ MergeEnd.WriteFault → Rose (K.faults sink.old) (K.faults sink.new)) }
     {
-        let worked = match self.work_round(round, gate) {
+        let worked = match worked {
             Ok(worked) => worked,
-            Err(_) => return Err(MergeEnd::NoMemory),
+            Err(_) => return Step::Ends(MergeEnd::NoMemory),
         };
         let written = self.write_round(&worked, file, sink);
         self.end_round(worked);
         match written {
-            Ok(()) => Ok(()),
-            Err(WriteFault) => Err(MergeEnd::WriteFault),
+            Ok(()) => close_round(sink, end),
+            Err(WriteFault) => Step::Ends(MergeEnd::WriteFault),
         }
     }
 
-    // The last round, behind which merging ends so: what is written is flushed.
-    fn last_round<K: Sink, G: Gate>(
+    // Gives up a round, behind `number` others, that exceeds the blocks or that there was no memory for. Nothing is written of it.
+    fn give_up<K: Sink>(
         &mut self,
         round: Round,
-        file: &FileHead,
+        end: RoundEnd,
         sink: &mut K,
-        gate: &G,
-        end: MergeEnd,
+        number: u64,
     ) -> MergeEnd
         requires out { self.old.home + round.blocks ≡ self.old.blocks }
-        ensures wrote { WritesLast (K.held sink.old) (K.held sink.new) (round_bytes file.now.order (map packet_of round.packets)) end result }
+        requires ends { is_worked end ≡ false }
+        ensures gives { GivesUp (K.held sink.old) (K.held sink.new) number end result }
         ensures flushed { flushes (ending_of result) ≡ true → SaysFlushed (K.held sink.new) (K.is_flushed sink.new) true }
         ensures home { self.new ≡ record self.old { home = self.old.blocks } }
         ensures later { K.faults sink.old ≤ K.faults sink.new }
-        ensures rose { result ≡ MergeEnd.WriteFault → (end ≡ MergeEnd.WriteFault) ⊎ Rose (K.faults sink.old) (K.faults sink.new) }
+        ensures rose { result ≡ MergeEnd.WriteFault → Rose (K.faults sink.old) (K.faults sink.new) }
     {
-        match self.put_round(round, file, sink, gate) {
-            Ok(()) => finish(sink, end),
-            Err(failed) => failed,
+        self.drop_round(round);
+        match end {
+            RoundEnd::PoolEmpty { need } => {
+                let end = MergeEnd::PoolEmpty {
+                    round: number,
+                    need,
+                };
+                finish(sink, end)
+            }
+            RoundEnd::NoMemory => MergeEnd::NoMemory,
+            RoundEnd::Full | RoundEnd::End | RoundEnd::Malformed(_) | RoundEnd::ReadFault =>
+                unreachable!(),
         }
     }
 
-    // Reads the next round, behind `number` others, and puts it. Of a round that exceeds the blocks nothing is written.
-    fn step<S: Source, K: Sink, G: Gate>(
+    // Reads the next round, behind `number` others, works it and puts it. Of a round that exceeds the blocks nothing is written.
+    fn step<R: Threads + Sync, S: Source, K: Sink, G: Gate + Sync>(
+        &mut self,
+        rt: &R,
+        reader: &mut CaptureReader<'_, S>,
+        file: &FileHead,
+        sink: &mut K,
+        gate: &G,
+        number: u64,
+    ) -> Step
+        requires ready { IsReady (place_of reader.old) }
+        requires link { (place_of reader.old).link ≡ Ethernet }
+        requires file { (place_of reader.old).file ≡ file.now }
+        requires home { self.old.home ≡ self.old.blocks }
+        ensures same_source { SameLoan reader.old reader.new }
+        ensures given { Told (S.left (source_of reader.old)) (S.left (source_of reader.new)) (Steps number self.old.blocks (options_of self.old) (place_of reader.old) (place_of reader.new) (K.held sink.old) (K.held sink.new) self.old.taken self.new.taken result) }
+        ensures moves { result ≡ Step.Goes → MovesOn (place_of reader.old) (place_of reader.new) }
+        ensures flushed { IfEnds result (λ end. flushes (ending_of end) ≡ true → SaysFlushed (K.held sink.new) (K.is_flushed sink.new) true) }
+        ensures home { self.new.home ≡ self.new.blocks }
+        ensures same { (self.new.blocks ≡ self.old.blocks) × (options_of self.new ≡ options_of self.old) × (self.new.keep ≡ self.old.keep) }
+        ensures taken { IfEnds result (λ end. end ≡ MergeEnd.Done → Told (S.left (source_of reader.old)) (S.left (source_of reader.new)) (TakesAll self.old.taken self.new.taken (place_of reader.old))) }
+        ensures captured { IfEnds result (λ end. Told (S.left (source_of reader.old)) (S.left (source_of reader.new)) (EndsCaptured number (place_of reader.old) end)) }
+        ensures later { S.faults (source_of reader.old) ≤ S.faults (source_of reader.new) }
+        ensures later_sink { K.faults sink.old ≤ K.faults sink.new }
+        ensures read { IfEnds result (λ end. end ≡ MergeEnd.ReadFault → Rose (S.faults (source_of reader.old)) (S.faults (source_of reader.new))) }
+        ensures write { IfEnds result (λ end. end ≡ MergeEnd.WriteFault → Rose (K.faults sink.old) (K.faults sink.new)) }
+    {
+        let RoundRead { round, end } = self.read_round(reader);
+        if !is_worked(end) {
+            return Step::Ends(self.give_up(round, end, sink, number));
+        }
+        let worked = self.work_round(rt, round, gate);
+        self.put_round(worked, end, file, sink)
+    }
+
+    // The same in the thread that calls.
+    fn step_alone<S: Source, K: Sink, G: Gate>(
         &mut self,
         reader: &mut CaptureReader<'_, S>,
         file: &FileHead,
@@ -124,7 +188,7 @@ impl Rounds {
         ensures moves { result ≡ Step.Goes → MovesOn (place_of reader.old) (place_of reader.new) }
         ensures flushed { IfEnds result (λ end. flushes (ending_of end) ≡ true → SaysFlushed (K.held sink.new) (K.is_flushed sink.new) true) }
         ensures home { self.new.home ≡ self.new.blocks }
-        ensures same { (self.new.blocks ≡ self.old.blocks) × (self.new.budget ≡ self.old.budget) }
+        ensures same { (self.new.blocks ≡ self.old.blocks) × (options_of self.new ≡ options_of self.old) × (self.new.keep ≡ self.old.keep) }
         ensures taken { IfEnds result (λ end. end ≡ MergeEnd.Done → Told (S.left (source_of reader.old)) (S.left (source_of reader.new)) (TakesAll self.old.taken self.new.taken (place_of reader.old))) }
         ensures captured { IfEnds result (λ end. Told (S.left (source_of reader.old)) (S.left (source_of reader.new)) (EndsCaptured number (place_of reader.old) end)) }
         ensures later { S.faults (source_of reader.old) ≤ S.faults (source_of reader.new) }
@@ -133,34 +197,11 @@ impl Rounds {
         ensures write { IfEnds result (λ end. end ≡ MergeEnd.WriteFault → Rose (K.faults sink.old) (K.faults sink.new)) }
     {
         let RoundRead { round, end } = self.read_round(reader);
-        match end {
-            RoundEnd::Full => match self.put_round(round, file, sink, gate) {
-                Ok(()) => Step::Goes,
-                Err(failed) => Step::Ends(failed),
-            },
-            RoundEnd::End => {
-                Step::Ends(self.last_round(round, file, sink, gate, MergeEnd::Done))
-            }
-            RoundEnd::Malformed(fault) => {
-                let end = MergeEnd::Malformed(fault);
-                Step::Ends(self.last_round(round, file, sink, gate, end))
-            }
-            RoundEnd::ReadFault => {
-                Step::Ends(self.last_round(round, file, sink, gate, MergeEnd::ReadFault))
-            }
-            RoundEnd::PoolEmpty { need } => {
-                let end = MergeEnd::PoolEmpty {
-                    round: number,
-                    need,
-                };
-                self.drop_round(round);
-                Step::Ends(finish(sink, end))
-            }
-            RoundEnd::NoMemory => {
-                self.drop_round(round);
-                Step::Ends(MergeEnd::NoMemory)
-            }
+        if !is_worked(end) {
+            return Step::Ends(self.give_up(round, end, sink, number));
         }
+        let worked = self.work_round_alone(round, gate);
+        self.put_round(worked, end, file, sink)
     }
 
     /// Merges the records of a capture, round by round, up to its end: each round is read, worked, written and ended. The sink is
@@ -168,7 +209,41 @@ impl Rounds {
     ///
     /// `given` says of each ending what was read and written, and `captured` that the packets are such as a capture may hold. A read
     /// fault or a write fault only where the count of the source or the sink rose. All blocks are home again, whatever the ending.
-    pub fn merge_all<S: Source, K: Sink, G: Gate>(
+    pub fn merge_all<R: Threads + Sync, S: Source, K: Sink, G: Gate + Sync>(
+        &mut self,
+        rt: &R,
+        reader: &mut CaptureReader<'_, S>,
+        file: &FileHead,
+        sink: &mut K,
+        gate: &G,
+    ) -> MergeEnd
+        requires ready { IsReady (place_of reader.old) }
+        requires link { (place_of reader.old).link ≡ Ethernet }
+        requires file { (place_of reader.old).file ≡ file.now }
+        requires home { self.old.home ≡ self.old.blocks }
+        ensures same_source { SameLoan reader.old reader.new }
+        ensures given { Told (S.left (source_of reader.old)) (S.left (source_of reader.new)) (Passes (merging self.old.blocks (options_of self.old) (place_of reader.old)) (K.held sink.old) (K.held sink.new) (ending_of result)) }
+        ensures flushed { flushes (ending_of result) ≡ true → SaysFlushed (K.held sink.new) (K.is_flushed sink.new) true }
+        ensures home { self.new.home ≡ self.new.blocks }
+        ensures same { (self.new.blocks ≡ self.old.blocks) × (options_of self.new ≡ options_of self.old) × (self.new.keep ≡ self.old.keep) }
+        ensures taken { result ≡ MergeEnd.Done → Told (S.left (source_of reader.old)) (S.left (source_of reader.new)) (λ bytes left. min (self.old.taken + round_need (found_at (place_of reader.old) bytes).packets) (2 ^ 64 - 1) ≤ self.new.taken) }
+        ensures captured { Told (S.left (source_of reader.old)) (S.left (source_of reader.new)) (HoldsCaptured self.old.blocks self.old.budget (place_of reader.old) result) }
+        ensures later { S.faults (source_of reader.old) ≤ S.faults (source_of reader.new) }
+        ensures later_sink { K.faults sink.old ≤ K.faults sink.new }
+        ensures read { result ≡ MergeEnd.ReadFault → Rose (S.faults (source_of reader.old)) (S.faults (source_of reader.new)) }
+        ensures write { result ≡ MergeEnd.WriteFault → Rose (K.faults sink.old) (K.faults sink.new) }
+    {
+        let mut number = 0;
+        'rounds: loop {
+            match self.step(rt, reader, file, sink, gate, number) {
+                Step::Goes => number += 1,
+                Step::Ends(end) => return end,
+            }
+        }
+    }
+
+    /// The same, with the work of every queue and tap in the thread that calls.
+    pub fn merge_all_alone<S: Source, K: Sink, G: Gate>(
         &mut self,
         reader: &mut CaptureReader<'_, S>,
         file: &FileHead,
@@ -183,7 +258,7 @@ impl Rounds {
         ensures given { Told (S.left (source_of reader.old)) (S.left (source_of reader.new)) (Passes (merging self.old.blocks (options_of self.old) (place_of reader.old)) (K.held sink.old) (K.held sink.new) (ending_of result)) }
         ensures flushed { flushes (ending_of result) ≡ true → SaysFlushed (K.held sink.new) (K.is_flushed sink.new) true }
         ensures home { self.new.home ≡ self.new.blocks }
-        ensures same { (self.new.blocks ≡ self.old.blocks) × (self.new.budget ≡ self.old.budget) }
+        ensures same { (self.new.blocks ≡ self.old.blocks) × (options_of self.new ≡ options_of self.old) × (self.new.keep ≡ self.old.keep) }
         ensures taken { result ≡ MergeEnd.Done → Told (S.left (source_of reader.old)) (S.left (source_of reader.new)) (λ bytes left. min (self.old.taken + round_need (found_at (place_of reader.old) bytes).packets) (2 ^ 64 - 1) ≤ self.new.taken) }
         ensures captured { Told (S.left (source_of reader.old)) (S.left (source_of reader.new)) (HoldsCaptured self.old.blocks self.old.budget (place_of reader.old) result) }
         ensures later { S.faults (source_of reader.old) ≤ S.faults (source_of reader.new) }
@@ -193,7 +268,7 @@ impl Rounds {
     {
         let mut number = 0;
         'rounds: loop {
-            match self.step(reader, file, sink, gate, number) {
+            match self.step_alone(reader, file, sink, gate, number) {
                 Step::Goes => number += 1,
                 Step::Ends(end) => return end,
             }

@@ -1,12 +1,15 @@
 //! The records of a round, and what they come to.
 ghost use Rattle.std.specs.Prelude.{◌≡◌};
+ghost use Rattle.rounds.specs.Merging.{is_worked as is_worked_end};
 ghost use Rattle.rounds.specs.Reading.{IsEndOf};
 
 use crate::record::Stop;
 use gro::{Item, Packet};
 use pcap_io::CapFault;
+use round_work::Lanes;
 use std::collections::VecDeque;
 use std::marker::Model;
+use taps::TapClone;
 
 /// The records of a round, in blocks. It must be spent: worked or dropped, by the rounds that read it.
 pub struct Round {
@@ -29,22 +32,25 @@ impl Model for Round {
 
 /// What the packets of a round come to. It must be spent: ended, by the rounds that worked it.
 pub struct Worked {
+    // What merged in no lane: all of it where there is one queue and no tap, and no clone is kept.
     pub(crate) items: Vec<Item>,
+    pub(crate) lanes: Lanes,
+    // A clone of each packet, where they are kept.
+    pub(crate) kept: Vec<TapClone>,
     pub(crate) blocks: u32,
 }
 
 impl Model for Worked {
-    ghost use Rattle.std.specs.Prelude.{◌≤◌};
-    ghost use Rattle.gro.specs.Table.{of_items};
-    ghost use Rattle.rounds.specs.Held.{blocks_in_items, AreSmall};
+    ghost use Rattle.std.specs.Prelude.{◌+◌, ◌≤◌};
+    ghost use Rattle.rounds.specs.Lanes.{of_work, count_of_work, AreSpent, IsSmallWork};
     ghost use Rattle.rounds.specs.Marks.{IsRound};
     ghost use Rattle.rounds.specs.RoundsState.{WorkedState};
 
     ghost Value = { WorkedState };
 
-    ghost view = { λ w. record { items = w.items.items; blocks = w.blocks } };
+    ghost view = { λ w. record { items = w.items.items; lanes = w.lanes; kept = w.kept.items; blocks = w.blocks } };
 
-    ghost invariant = { λ w. IsRound w.blocks (of_items w.items.items) × (blocks_in_items w.items.items ≤ w.blocks) × AreSmall w.items.items };
+    ghost invariant = { λ w. IsRound w.blocks (of_work w.items.items w.lanes w.kept.items) × (count_of_work w.items.items w.lanes w.kept.items ≤ w.blocks + w.blocks) × AreSpent w.lanes.taps.items × IsSmallWork w.items.items w.lanes };
 }
 
 /// Why a round has no more records.
@@ -65,6 +71,16 @@ pub enum RoundEnd {
 pub struct RoundRead {
     pub round: Round,
     pub end: RoundEnd,
+}
+
+/// Whether a round that ended so is worked: there was memory for it, and it doesn't exceed the blocks.
+pub(crate) fn is_worked(end: RoundEnd) -> bool
+    ensures { result ≡ is_worked_end end }
+{
+    match end {
+        RoundEnd::PoolEmpty { need: _ } | RoundEnd::NoMemory => false,
+        _ => true,
+    }
 }
 
 pub(crate) fn end_of(stop: Stop) -> RoundEnd

@@ -11,13 +11,14 @@ ghost use Rattle.pcap_io.specs.Places.{IsReady};
 ghost use Rattle.pcap_io.specs.Readers.{place_of, source_of, SameLoan};
 ghost use Rattle.offload_model.specs.Need.{round_need};
 ghost use Rattle.offload_model.specs.Captured.{IsCaptured};
-ghost use Rattle.offload_model.specs.Merged.{merged_of};
-ghost use Rattle.offload_model.specs.Rounds.{runs_in};
-ghost use Rattle.gro.specs.Held.{packet_of};
-ghost use Rattle.gro.specs.Items.{item_of};
-ghost use Rattle.gro.specs.Table.{AreReady};
+ghost use Rattle.frags.specs.Account.{both};
+ghost use Rattle.gro.specs.Held.{packet_of, of_packets, counts_of};
+ghost use Rattle.taps.specs.Clones.{blocks_of, of_clones};
+ghost use Rattle.round_work.specs.Lanes.{of_lanes, counts_of_queues};
 ghost use Rattle.rounds.specs.Fresh.{NumberedFrom};
-ghost use Rattle.rounds.specs.Merging.{worked_bytes};
+ghost use Rattle.rounds.specs.Lanes.{worked_bytes, AreSpent};
+ghost use Rattle.rounds.specs.Marks.{IsRound};
+ghost use Rattle.rounds.specs.Merging.{options_of};
 ghost use Rattle.rounds.specs.Reading.{GivesRound, PassesRound};
 ghost use Rattle.rounds.specs.RoundsState.{RoundsState};
 
@@ -26,47 +27,52 @@ use crate::memory::{MOST, close_places, open_places, room_for};
 use crate::reading::read_records;
 use crate::round::{Round, RoundEnd, RoundRead, Worked};
 use crate::table::Place;
-use crate::work::merge_packets;
-use crate::writing::write_all_items;
+use crate::writing::write_work;
 use block_pool::Pool;
 use core::mem::replace;
 use frags::Outcomes;
 use gro::{Item, Packet, RoundTable};
-use off_io::{Gate, Sink, Source, Who, WriteFault};
+use off_io::{Sink, Source, WriteFault};
 use pcap_io::{CaptureReader, FileHead};
 use raw_block::Sole;
+use round_work::{Lanes, Plan};
 use std::alloc::{AllocError, Global};
 use std::collections::VecDeque;
 use std::marker::Model;
+use taps::TapClone;
 
 /// A pool of blocks, and memory that each round uses again. Dropping it frees the blocks that are home.
 pub struct Rounds {
-    alloc: Global,
-    pool: Pool,
+    pub(crate) alloc: Global,
+    pub(crate) pool: Pool,
     // The blocks of the record that is being read.
     hold: VecDeque<Sole>,
-    // What came back, and where: used as a round ends.
-    places: Vec<Place>,
-    out: Outcomes,
+    // What came back, and where: used as a round ends. There is room for all blocks and for a clone's part of each.
+    pub(crate) places: Vec<Place>,
+    pub(crate) out: Outcomes,
     // Memory alone.
-    packets: VecDeque<Packet>,
-    items: Vec<Item>,
-    table: RoundTable,
+    pub(crate) packets: VecDeque<Packet>,
+    pub(crate) items: Vec<Item>,
+    pub(crate) table: RoundTable,
     budget: u32,
+    pub(crate) plan: Plan,
+    // Whether a clone of each packet is kept beside the work of a round.
+    pub(crate) keep: bool,
 }
 
 impl Model for Rounds {
     ghost use Rattle.std.specs.Prelude.{◌≡◌, ◌+◌, ◌≤◌, [], length};
     ghost use Rattle.std.specs.VecDeque.{deque_capacity};
     ghost use Rattle.block_pool.specs.PoolState.{home as home_of};
+    ghost use Rattle.round_work.specs.Work.{IsPlan};
     ghost use Rattle.rounds.specs.RoundsState.{RoundsState};
     ghost use Rattle.rounds.specs.Table.{AllOpen, IsBare};
 
     ghost Value = { RoundsState };
 
-    ghost view = { λ r. record { home = home_of r.pool; blocks = r.pool.made; taken = r.pool.taken; budget = r.budget } };
+    ghost view = { λ r. record { home = home_of r.pool; blocks = r.pool.made; taken = r.pool.taken; budget = r.budget; queues = r.plan.queues; taps = r.plan.taps; snap = r.plan.snap; keep = r.keep } };
 
-    ghost invariant = { λ r. (r.pool.made ≤ 65536) × (r.hold.items ≡ []) × (131 ≤ deque_capacity r.hold) × AllOpen r.places.items × (length r.places.items ≡ r.pool.made) × IsBare r.out × (r.pool.made ≤ r.out.spare + home_of r.pool) × (r.packets.items ≡ []) × (r.items.items ≡ []) × (r.table.runs ≡ []) × (1 ≤ r.budget) };
+    ghost invariant = { λ r. (r.pool.made ≤ 65536) × (r.hold.items ≡ []) × (131 ≤ deque_capacity r.hold) × AllOpen r.places.items × (length r.places.items ≡ r.pool.made) × IsBare r.out × (r.pool.made + r.pool.made ≤ r.out.spare + (home_of r.pool + home_of r.pool)) × (r.packets.items ≡ []) × (r.items.items ≡ []) × (r.table.runs ≡ []) × (1 ≤ r.budget) × (r.budget ≤ 4096) × IsPlan r.plan };
 }
 
 impl Drop for Rounds {
@@ -81,6 +87,8 @@ impl Drop for Rounds {
             items,
             table,
             budget: _,
+            plan: _,
+            keep: _,
         } = self;
         close_places(places);
         out.settle();
@@ -106,17 +114,30 @@ fn round_lists(alloc: Global, budget: u32) -> Result<(VecDeque<Packet>, RoundTab
 }
 
 impl Rounds {
-    /// Rounds of up to `budget` records over `blocks` blocks. All memory for blocks, for what comes back of them and for the
-    /// packets of a round is taken here.
-    pub fn make(alloc: Global, blocks: u32, budget: u32) -> Result<Rounds, AllocError>
+    /// Rounds of up to `budget` records over `blocks` blocks, worked in `queues` receive queues, beside which each of `taps` taps
+    /// reads windows of `snap` bytes. Where `keep`, a clone of each packet stands beside the work of its round, for [`Rounds::check_round`].
+    /// All memory for blocks, for what comes back of them and for the packets of a round is taken here; the lanes of several queues or
+    /// of taps, and clones that are kept, take more in each round.
+    pub fn make(
+        alloc: Global,
+        blocks: u32,
+        budget: u32,
+        queues: u32,
+        taps: u32,
+        snap: u32,
+        keep: bool,
+    ) -> Result<Rounds, AllocError>
         requires blocks { (1 ≤ blocks) × (blocks ≤ 65536) }
         requires budget { (1 ≤ budget) × (budget ≤ 4096) }
-        ensures { IfOk result (λ rounds. rounds ≡ record { home = blocks; blocks = blocks; taken = 0; budget = budget }) }
+        requires queues { (1 ≤ queues) × (queues ≤ 64) }
+        requires taps { taps ≤ 8 }
+        requires snap { (1 ≤ snap) × (snap ≤ 2048) }
+        ensures { IfOk result (λ rounds. rounds ≡ record { home = blocks; blocks = blocks; taken = 0; budget = budget; queues = queues; taps = taps; snap = snap; keep = keep }) }
     {
         let hold = VecDeque::with_capacity(alloc, MOST)?;
         let pool = Pool::make(alloc, blocks)?;
         let places = open_places(alloc, blocks)?;
-        let out = match room_for(alloc, blocks as usize) {
+        let out = match room_for(alloc, 2 * blocks as usize) {
             Ok(out) => out,
             Err(error) => {
                 close_places(places);
@@ -142,6 +163,8 @@ impl Rounds {
             items: Vec::new(alloc),
             table,
             budget,
+            plan: Plan { queues, taps, snap },
+            keep,
         })
     }
 
@@ -175,15 +198,15 @@ impl Rounds {
         ensures numbers { NumberedFrom (place_of reader.old).number result.round.packets }
         ensures need { result.round.blocks ≡ round_need (map packet_of result.round.packets) }
         ensures home { self.new.home + result.round.blocks ≡ self.old.blocks }
-        ensures same { (self.new.blocks ≡ self.old.blocks) × (self.new.budget ≡ self.old.budget) }
-        ensures budget { 1 ≤ self.old.budget }
+        ensures same { (self.new.blocks ≡ self.old.blocks) × (options_of self.new ≡ options_of self.old) × (self.new.keep ≡ self.old.keep) }
+        ensures budget { (1 ≤ self.old.budget) × (self.old.budget ≤ 4096) }
         ensures taken { min (self.old.taken + result.round.blocks) (2 ^ 64 - 1) ≤ self.new.taken }
         ensures most { self.new.taken ≤ self.old.taken + self.old.blocks }
         ensures later { S.faults (source_of reader.old) ≤ S.faults (source_of reader.new) }
         ensures failed { result.end ≡ RoundEnd.ReadFault → Rose (S.faults (source_of reader.old)) (S.faults (source_of reader.new)) }
     {
         let _ = self.pool.taken();
-        let most = self.pool.made() as usize;
+        let most = 2 * self.pool.made() as usize;
         let budget = self.budget as usize;
         if self.out.reserve(most).is_err() {
             return no_round(self.alloc);
@@ -206,47 +229,7 @@ impl Rounds {
         }
     }
 
-    /// Merges the packets of a round: what their runs come to, in the order of their first packets. The gate is passed at point 0
-    /// before the work and at point 1 after it. For want of memory all blocks of the round are home.
-    pub fn work_round<G: Gate>(&mut self, round: Round, gate: &G) -> Result<Worked, AllocError>
-        requires out { self.old.home + round.blocks ≤ self.old.blocks }
-        ensures merged { IfOk result (λ worked. map item_of worked.items ≡ map merged_of (runs_in (map packet_of round.packets))) }
-        ensures ready { IfOk result (λ worked. AreReady worked.items) }
-        ensures worked { IfOk result (λ worked. worked.blocks ≡ round.blocks) }
-        ensures same { OnOk result (self.new ≡ self.old) }
-        ensures home { OnErr result (self.new ≡ record self.old { home = self.old.home + round.blocks }) }
-    {
-        let Round {
-            mut packets,
-            blocks,
-        } = round;
-        gate.pass(Who::Worker(0), 0);
-        let mut items = replace(&mut self.items, Vec::new(self.alloc));
-        let merged = merge_packets(&mut self.table, &mut packets, &mut items, &mut self.out);
-        gate.pass(Who::Worker(0), 1);
-        match merged {
-            Ok(()) => {
-                replace(&mut self.packets, packets).destroy_empty();
-                Ok(Worked { items, blocks })
-            }
-            Err(error) => {
-                bring_round(
-                    &mut self.pool,
-                    &mut self.places,
-                    blocks,
-                    &mut self.table,
-                    &mut self.out,
-                    &mut packets,
-                    &mut items,
-                );
-                replace(&mut self.packets, packets).destroy_empty();
-                replace(&mut self.items, items).destroy_empty();
-                Err(error)
-            }
-        }
-    }
-
-    /// Writes what a round came to, each item as a record of queue 0. The sink isn't flushed.
+    /// Writes what a round came to: queue by queue each item as a record, and then tap by tap its windows. The sink isn't flushed.
     ///
     /// `WriteFault` only where the sink's count of faults rose; a front of the round's output was then written.
     pub fn write_round<K: Sink>(
@@ -259,7 +242,7 @@ impl Rounds {
         ensures err { OnErr result (AppendsFront (K.held sink.old) (K.held sink.new) (worked_bytes file.now.order worked.now)) }
         ensures cause { HasCause (K.faults sink.old) (K.faults sink.new) result }
     {
-        write_all_items(sink, file, &worked.items)
+        write_work(sink, file, &worked.items, &worked.lanes)
     }
 
     /// Gives a round up. Its blocks go home, all of them.
@@ -267,10 +250,25 @@ impl Rounds {
         requires out { self.old.home + round.blocks ≤ self.old.blocks }
         ensures home { self.new ≡ record self.old { home = self.old.home + round.blocks } }
     {
-        let Round {
-            mut packets,
-            blocks,
-        } = round;
+        let Round { packets, blocks } = round;
+        self.bring_back(packets, no_lanes(self.alloc), Vec::new(self.alloc), blocks);
+    }
+
+    /// What is left of a round of which no item stands outside the lanes goes home.
+    pub(crate) fn bring_back(
+        &mut self,
+        packets: VecDeque<Packet>,
+        lanes: Lanes,
+        kept: Vec<TapClone>,
+        blocks: u32,
+    )
+        requires out { self.old.home + blocks ≤ self.old.blocks }
+        requires round { IsRound blocks (both (of_packets packets.items) (both (of_lanes lanes) (of_clones kept.items))) }
+        requires counts { counts_of packets.items + (counts_of_queues lanes.queues.items + blocks_of kept.items) ≤ blocks + blocks }
+        requires spent { AreSpent lanes.taps.items }
+        ensures home { self.new ≡ record self.old { home = self.old.home + blocks } }
+    {
+        let mut packets = packets;
         bring_round(
             &mut self.pool,
             &mut self.places,
@@ -279,6 +277,8 @@ impl Rounds {
             &mut self.out,
             &mut packets,
             &mut self.items,
+            lanes,
+            kept,
         );
         replace(&mut self.packets, packets).destroy_empty();
     }
@@ -288,7 +288,12 @@ impl Rounds {
         requires out { self.old.home + worked.blocks ≤ self.old.blocks }
         ensures home { self.new ≡ record self.old { home = self.old.home + worked.blocks } }
     {
-        let Worked { mut items, blocks } = worked;
+        let Worked {
+            mut items,
+            lanes,
+            kept,
+            blocks,
+        } = worked;
         bring_round(
             &mut self.pool,
             &mut self.places,
@@ -297,8 +302,20 @@ impl Rounds {
             &mut self.out,
             &mut self.packets,
             &mut items,
+            lanes,
+            kept,
         );
         replace(&mut self.items, items).destroy_empty();
+    }
+}
+
+/// The lanes of a round that has none.
+pub(crate) fn no_lanes(alloc: Global) -> Lanes
+    ensures none { (result.queues.items ≡ []) × (result.taps.items ≡ []) }
+{
+    Lanes {
+        queues: Vec::new(alloc),
+        taps: Vec::new(alloc),
     }
 }
 

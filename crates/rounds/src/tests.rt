@@ -7,8 +7,8 @@ use pcap_io::{CaptureReader, Link};
 use std::alloc::Global;
 use std::test::Fail;
 
-// Two records of 1 and 2 bytes, little-endian microseconds.
-const TWO: [u8; 59] = [
+/// Two records of 1 and 2 bytes, little-endian microseconds.
+pub(crate) const TWO: [u8; 59] = [
     0xd4, 0xc3, 0xb2, 0xa1, 0x02, 0x00, 0x04, 0x00, 0x00, 0x00, 0x00, 0x00, 0x00, 0x00, 0x00, 0x00,
     0x00, 0x00, 0x04, 0x00, 0x01, 0x00, 0x00, 0x00, 0x01, 0x00, 0x00, 0x00, 0x02, 0x00, 0x00, 0x00,
     0x01, 0x00, 0x00, 0x00, 0x03, 0x00, 0x00, 0x00, 0xaa, 0x01, 0x00, 0x00, 0x00, 0x05, 0x00, 0x00,
@@ -27,7 +27,7 @@ fn turn(alloc: Global, blocks: u32, fails: Vec<u64>) -> Result<(u32, u32, u64, R
         Ok(reader) => reader,
         Err(_) => return Err(Fail::from("the file header is lawful")),
     };
-    let mut rounds = Rounds::make(alloc, blocks, 2)?;
+    let mut rounds = Rounds::make(alloc, blocks, 2, 1, 0, 64, false)?;
     let RoundRead { round, end } = rounds.read_round(&mut reader);
     let home = rounds.home();
     rounds.drop_round(round);
@@ -45,17 +45,17 @@ fn worked_turn(alloc: Global, blocks: u32) -> Result<(usize, u32, u32), Fail>
         Ok(reader) => reader,
         Err(_) => return Err(Fail::from("the file header is lawful")),
     };
-    let mut rounds = Rounds::make(alloc, blocks, 2)?;
+    let mut rounds = Rounds::make(alloc, blocks, 2, 1, 0, 64, false)?;
     let RoundRead { round, end: _ } = rounds.read_round(&mut reader);
-    let worked = rounds.work_round(round, &NoGate)?;
+    let worked = rounds.work_round_alone(round, &NoGate)?;
     let items = worked.items.len();
     let home = rounds.home();
     rounds.end_round(worked);
     Ok((items, home, rounds.home()))
 }
 
-// What merging both writes: each alone in its record.
-const WRITTEN: [u8; 59] = [
+/// What merging both writes: each alone in its record.
+pub(crate) const WRITTEN: [u8; 59] = [
     0x01, 0x00, 0x00, 0x00, 0x02, 0x00, 0x00, 0x00, 0x0d, 0x00, 0x00, 0x00, 0x0f, 0x00, 0x00, 0x00,
     0x01, 0x00, 0x00, 0x01, 0x00, 0x00, 0x00, 0x00, 0x00, 0x00, 0x00, 0x00, 0xaa, 0x01, 0x00, 0x00,
     0x00, 0x05, 0x00, 0x00, 0x00, 0x0e, 0x00, 0x00, 0x00, 0x0e, 0x00, 0x00, 0x00, 0x01, 0x00, 0x00,
@@ -81,8 +81,8 @@ fn merge(
     };
     let file = reader.file();
     let mut sink = MemSink::new(alloc, 64, writes);
-    let mut rounds = Rounds::make(alloc, blocks, 2)?;
-    let end = rounds.merge_all(&mut reader, &file, &mut sink, &NoGate);
+    let mut rounds = Rounds::make(alloc, blocks, 2, 1, 0, 64, false)?;
+    let end = rounds.merge_all_alone(&mut reader, &file, &mut sink, &NoGate);
     let written = sink.bytes().to_vec(alloc)?;
     Ok((end, written, sink.is_flushed(), rounds.home()))
 }

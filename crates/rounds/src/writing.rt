@@ -1,33 +1,165 @@
 //! Writes what a round came to.
-ghost use Rattle.std.specs.Prelude.{OnOk, OnErr};
-ghost use Rattle.std.specs.List.{flat_map};
+ghost use Rattle.std.specs.Prelude.{◌++◌, OnOk, OnErr};
+ghost use Rattle.std.specs.List.{AllByRecursion, flat_map};
 ghost use Rattle.std.specs.Io.KnownBytes.{Appends};
 ghost use Rattle.off_io.specs.Faults.{HasCause};
 ghost use Rattle.off_io.specs.Content.{AppendsFront};
-ghost use Rattle.gro.specs.Items.{item_of};
-ghost use Rattle.round_write.specs.Records.{item_bytes};
+ghost use Rattle.taps.specs.Shown.{shown_text};
 ghost use Rattle.rounds.specs.Held.{AreSmall};
+ghost use Rattle.rounds.specs.Lanes.{bytes_of_items, queue_bytes, text_bytes, tap_bytes, lanes_bytes, IsShortText, IsSmallQueue, IsSmallTap, IsSmallWork};
 
 use gro::Item;
 use off_io::{Sink, WriteFault};
-use pcap_io::FileHead;
-use round_write::write_item;
+use pcap_io::{FileHead, OffHead};
+use round_work::{Lanes, QueueLane, TapLane};
+use round_write::{Time, write_item, write_window};
+use taps::{TapText, TapTexts};
 
-/// Writes items, each as a record of queue 0.
-pub(crate) fn write_all_items<K: Sink>(
+// Writes items, each as a record of this queue.
+fn write_all_items<K: Sink>(
     sink: &mut K,
     file: &FileHead,
+    queue: u8,
     items: &[Item],
 ) -> Result<(), WriteFault>
     requires small { AreSmall items.now }
-    ensures ok { OnOk result (Appends (K.held sink.old) (K.held sink.new) (flat_map (λ item. item_bytes file.now.order 0 (item_of item)) items.now)) }
-    ensures err { OnErr result (AppendsFront (K.held sink.old) (K.held sink.new) (flat_map (λ item. item_bytes file.now.order 0 (item_of item)) items.now)) }
+    ensures ok { OnOk result (Appends (K.held sink.old) (K.held sink.new) (bytes_of_items file.now.order queue items.now)) }
+    ensures err { OnErr result (AppendsFront (K.held sink.old) (K.held sink.new) (bytes_of_items file.now.order queue items.now)) }
     ensures cause { HasCause (K.faults sink.old) (K.faults sink.new) result }
 {
     for item in items {
         // That it is as long as its bytes is known of a buffer that was asked.
         let _ = item.skb.len();
-        write_item(sink, file, 0, item)?;
+        write_item(sink, file, queue, item)?;
     }
     Ok(())
+}
+
+fn write_queue<K: Sink>(sink: &mut K, file: &FileHead, lane: &QueueLane) -> Result<(), WriteFault>
+    requires small { IsSmallQueue lane.now }
+    ensures ok { OnOk result (Appends (K.held sink.old) (K.held sink.new) (queue_bytes file.now.order lane.now)) }
+    ensures err { OnErr result (AppendsFront (K.held sink.old) (K.held sink.new) (queue_bytes file.now.order lane.now)) }
+    ensures cause { HasCause (K.faults sink.old) (K.faults sink.new) result }
+{
+    write_all_items(sink, file, lane.queue as u8, &lane.items)
+}
+
+fn write_queues<K: Sink>(
+    sink: &mut K,
+    file: &FileHead,
+    lanes: &[QueueLane],
+) -> Result<(), WriteFault>
+    requires small { AllByRecursion IsSmallQueue lanes.now }
+    ensures ok { OnOk result (Appends (K.held sink.old) (K.held sink.new) (flat_map (queue_bytes file.now.order) lanes.now)) }
+    ensures err { OnErr result (AppendsFront (K.held sink.old) (K.held sink.new) (flat_map (queue_bytes file.now.order) lanes.now)) }
+    ensures cause { HasCause (K.faults sink.old) (K.faults sink.new) result }
+{
+    for lane in lanes {
+        write_queue(sink, file, lane)?;
+    }
+    Ok(())
+}
+
+// Writes a window as a record of this tap.
+fn write_text<K: Sink>(
+    sink: &mut K,
+    file: &FileHead,
+    tap: u8,
+    text: &TapText<'_>,
+) -> Result<(), WriteFault>
+    requires short { IsShortText (shown_text text.now) }
+    ensures ok { OnOk result (Appends (K.held sink.old) (K.held sink.new) (text_bytes file.now.order tap (shown_text text.now))) }
+    ensures err { OnErr result (AppendsFront (K.held sink.old) (K.held sink.new) (text_bytes file.now.order tap (shown_text text.now))) }
+    ensures cause { HasCause (K.faults sink.old) (K.faults sink.new) result }
+{
+    let head = OffHead {
+        version: 1,
+        kind: 2,
+        n: 0,
+        m: 0,
+        modes: 0,
+        lane: tap,
+        number: text.number,
+    };
+    let time = Time {
+        sec: text.sec,
+        frac: text.frac,
+    };
+    write_window(
+        sink,
+        file,
+        time,
+        text.bytes.len() as u32,
+        Some(head),
+        text.bytes,
+    )
+}
+
+fn write_texts<K: Sink>(
+    sink: &mut K,
+    file: &FileHead,
+    tap: u8,
+    texts: &TapTexts,
+) -> Result<(), WriteFault>
+    requires short { AllByRecursion IsShortText texts.now }
+    ensures ok { OnOk result (Appends (K.held sink.old) (K.held sink.new) (flat_map (text_bytes file.now.order tap) texts.now)) }
+    ensures err { OnErr result (AppendsFront (K.held sink.old) (K.held sink.new) (flat_map (text_bytes file.now.order tap) texts.now)) }
+    ensures cause { HasCause (K.faults sink.old) (K.faults sink.new) result }
+{
+    for i in 0..texts.len() {
+        write_text(sink, file, tap, &texts.get(i))?;
+    }
+    Ok(())
+}
+
+fn write_tap<K: Sink>(sink: &mut K, file: &FileHead, lane: &TapLane) -> Result<(), WriteFault>
+    requires small { IsSmallTap lane.now }
+    ensures ok { OnOk result (Appends (K.held sink.old) (K.held sink.new) (tap_bytes file.now.order lane.now)) }
+    ensures err { OnErr result (AppendsFront (K.held sink.old) (K.held sink.new) (tap_bytes file.now.order lane.now)) }
+    ensures cause { HasCause (K.faults sink.old) (K.faults sink.new) result }
+{
+    match &lane.texts {
+        Some(texts) => write_texts(sink, file, lane.tap as u8, texts),
+        None => Ok(()),
+    }
+}
+
+fn write_taps<K: Sink>(sink: &mut K, file: &FileHead, lanes: &[TapLane]) -> Result<(), WriteFault>
+    requires small { AllByRecursion IsSmallTap lanes.now }
+    ensures ok { OnOk result (Appends (K.held sink.old) (K.held sink.new) (flat_map (tap_bytes file.now.order) lanes.now)) }
+    ensures err { OnErr result (AppendsFront (K.held sink.old) (K.held sink.new) (flat_map (tap_bytes file.now.order) lanes.now)) }
+    ensures cause { HasCause (K.faults sink.old) (K.faults sink.new) result }
+{
+    for lane in lanes {
+        write_tap(sink, file, lane)?;
+    }
+    Ok(())
+}
+
+// Queue by queue its items, and then tap by tap its windows.
+fn write_lanes<K: Sink>(sink: &mut K, file: &FileHead, lanes: &Lanes) -> Result<(), WriteFault>
+    requires queues { AllByRecursion IsSmallQueue lanes.now.queues.items }
+    requires taps { AllByRecursion IsSmallTap lanes.now.taps.items }
+    ensures ok { OnOk result (Appends (K.held sink.old) (K.held sink.new) (lanes_bytes file.now.order lanes.now)) }
+    ensures err { OnErr result (AppendsFront (K.held sink.old) (K.held sink.new) (lanes_bytes file.now.order lanes.now)) }
+    ensures cause { HasCause (K.faults sink.old) (K.faults sink.new) result }
+{
+    write_queues(sink, file, &lanes.queues)?;
+    write_taps(sink, file, &lanes.taps)
+}
+
+/// Writes items that merged in no lane, as records of queue 0, and then what the lanes came to.
+pub(crate) fn write_work<K: Sink>(
+    sink: &mut K,
+    file: &FileHead,
+    items: &[Item],
+    lanes: &Lanes,
+) -> Result<(), WriteFault>
+    requires small { IsSmallWork items.now lanes.now }
+    ensures ok { OnOk result (Appends (K.held sink.old) (K.held sink.new) (bytes_of_items file.now.order 0 items.now ++ lanes_bytes file.now.order lanes.now)) }
+    ensures err { OnErr result (AppendsFront (K.held sink.old) (K.held sink.new) (bytes_of_items file.now.order 0 items.now ++ lanes_bytes file.now.order lanes.now)) }
+    ensures cause { HasCause (K.faults sink.old) (K.faults sink.new) result }
+{
+    write_all_items(sink, file, 0, items)?;
+    write_lanes(sink, file, lanes)
 }

@@ -36,7 +36,7 @@ loop-item-preserved c =
           (items_pop l.items.items rest c.in-Some.item c.in-Some.ensures.items) l.invariant.comes e.ensures.comes;
       bare = e.ensures.bare;
       room = omega (arith, k, e.ensures.spare, l.invariant.room);
-      merging = e.ensures.merging ∙ l.invariant.merging;
+      merging = c.keep.ensures.same ∙ l.invariant.merging;
       spare = omega (arith, k, e.ensures.spare, l.invariant.spare);
     }
 

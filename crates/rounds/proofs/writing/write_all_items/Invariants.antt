@@ -8,5 +8,5 @@ use Rattle.rounds.proofs.writing.write_all_items.Given as goal
 
 abbrev pub invariant-loop-item : goal.invariant-loop-item
 invariant-loop-item g l =
-    Appends (g.K.Sink.held l.initial.sink) (g.K.Sink.held l.sink) (flat_map (λ (i : Item). item_bytes l.file.order 0 (item_of i)) (take l.item-index l.items))
+    Appends (g.K.Sink.held l.initial.sink) (g.K.Sink.held l.sink) (flat_map (λ (i : Item). item_bytes l.file.order l.queue (item_of i)) (take l.item-index l.items))
     × (g.K.Sink.faults l.initial.sink ≤ g.K.Sink.faults l.sink)

@@ -12,7 +12,8 @@ rounds-init g c = record {
   ready = c.requires.ready;
   home = c.requires.home;
   blocks = refl;
-  budget = refl;
+  options = refl;
+  keep = refl;
   counted = omega arith;
   same = refl;
   later = omega arith;
@@ -29,13 +30,14 @@ rounds-preserved g c =
     let new = c.step.new in
     record {
       told = goes_then first.blocks (options_of first) l.number c.args.reader.now.place l.reader.place new.reader.place _ _ _ _ _ _ first.taken l.self.taken new.self.taken i.told
-          (steps_as l.number l.self first l.reader.place new.reader.place _ _ _ _ l.self.taken new.self.taken Goes i.blocks i.budget s.given);
+          (steps_as l.number l.self first l.reader.place new.reader.place _ _ _ _ l.self.taken new.self.taken Goes i.blocks i.options s.given);
       file = m.file ∙ i.file;
       link = m.link ∙ i.link;
       ready = m.ready;
       home = s.home;
       blocks = s.same.0 ∙ i.blocks;
-      budget = s.same.1 ∙ i.budget;
+      options = s.same.1 ∙ i.options;
+      keep = s.same.2 ∙ i.keep;
       counted = omega (arith, i.counted, m.number);
       same = s.same_source ∙ i.same;
       later = omega (arith, s.later, i.later);
@@ -49,7 +51,7 @@ returns-in-Ends-clause-given g c =
     let first = c.args.self.now in
     let new = c.step.new in
     ends_then first.blocks (options_of first) l.number c.args.reader.now.place l.reader.place new.reader.place _ _ _ _ _ _ first.taken l.self.taken new.self.taken c.in-Ends.end i.told
-    (steps_as l.number l.self first l.reader.place new.reader.place _ _ _ _ l.self.taken new.self.taken (Ends c.in-Ends.end) i.blocks i.budget c.in-Ends.ensures.given)
+    (steps_as l.number l.self first l.reader.place new.reader.place _ _ _ _ l.self.taken new.self.taken (Ends c.in-Ends.end) i.blocks i.options c.in-Ends.ensures.given)
 
 pub returns-in-Ends-clause-taken : goal.returns-in-Ends-clause-taken
 returns-in-Ends-clause-taken g c =
@@ -65,4 +67,4 @@ returns-in-Ends-clause-captured g c =
     let first = c.args.self.now in
     let new = c.step.new in
     captured_then first.blocks (options_of first) l.number c.args.reader.now.place l.reader.place new.reader.place _ _ _ _ _ _ first.taken l.self.taken new.self.taken c.in-Ends.end i.told
-    (steps_as l.number l.self first l.reader.place new.reader.place _ _ _ _ l.self.taken new.self.taken (Ends c.in-Ends.end) i.blocks i.budget c.in-Ends.ensures.given) c.in-Ends.ensures.captured
+    (steps_as l.number l.self first l.reader.place new.reader.place _ _ _ _ l.self.taken new.self.taken (Ends c.in-Ends.end) i.blocks i.options c.in-Ends.ensures.given) c.in-Ends.ensures.captured

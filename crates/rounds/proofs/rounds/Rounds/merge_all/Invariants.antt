@@ -14,7 +14,8 @@ invariant-rounds g l = record {
   ready : IsReady l.reader.place;
   home : l.self.home ≡ l.self.blocks;
   blocks : l.self.blocks ≡ l.initial.self.blocks;
-  budget : l.self.budget ≡ l.initial.self.budget;
+  options : options_of l.self ≡ options_of l.initial.self;
+  keep : l.self.keep ≡ l.initial.self.keep;
   counted : l.number ≤ l.reader.place.number;
   same : l.reader.source.ghost_name ≡ l.initial.reader.source.ghost_name;
   later : g.S.Source.faults l.initial.reader.source.now ≤ g.S.Source.faults l.reader.source.now;

@@ -1,0 +1,191 @@
+-- Packets that are worked in lanes, with a clone of each beside them: that they may be, and that what comes of them fits.
+use Rattle.std.proofs.Common.{◌≡◌, ℕ, suc, zero, ◌+◌, ◌*◌, ◌<◌, ◌≤◌, Bool, true, false, Option, None, Some, List, [], ◌∷◌, ◌++◌, map, length, get_or, take, drop, refl, sym, ap, ◌∙◌, subst, arith}
+use Rattle.std.specs.Prelude.{All, IfOk, Ok, Err, MatchResult}
+use Rattle.std.specs.declared.result.Result.{Result}
+use Rattle.std.specs.List.{AllByRecursion, filter, range_with_len}
+use Rattle.std.proofs.lemmas.List.{length-take}
+use Rattle.pcap_io.specs.Capture.{Packet}
+use Rattle.ref_core.specs.WeightRule.{full_weight}
+use Rattle.maximal_runs.proofs.Pass.{all_append}
+use Rattle.frags.specs.Account.{Account, Tests, Keeps, both}
+use Rattle.offload_model.specs.Merged.{Merged, merged_of}
+use Rattle.offload_model.specs.Rounds.{is_queued, items_of}
+use Rattle.offload_model.specs.Written.{window_of}
+use Rattle.offload_model.proofs.Lists.{all_filtered}
+use Rattle.gro.specs.declared.packet.Packet.{Packet as Held}
+use Rattle.gro.specs.declared.item.Item.{Item}
+use Rattle.gro.specs.Held.{packet_of, of_packets, counts_of, AreHeld, AreShared, WeighAtLeast}
+use Rattle.taps.specs.declared.clones.TapClone.{TapClone}
+use Rattle.taps.specs.Clones.{packet_of as packet_of_clone, blocks_of, of_clones}
+use Rattle.taps.specs.Texts.{text_by, text_of, texts_of}
+use Rattle.round_work.specs.declared.lanes.QueueLane.{QueueLane}
+use Rattle.round_work.specs.declared.lanes.TapLane.{TapLane}
+use Rattle.round_work.specs.declared.lanes.Lanes.{Lanes}
+use Rattle.round_work.specs.declared.plan.Plan.{Plan}
+use Rattle.round_work.specs.Clones.{weight_after, AreAfter}
+use Rattle.round_work.specs.Lanes.{of_lanes, counts_of_queues}
+use Rattle.round_work.specs.Packets.{RiseFrom}
+use Rattle.round_work.specs.Work.{IsPlan, AreMerged, AreWatched, merged_in}
+use Rattle.rounds.specs.Fresh.{AreRead, IsFresh, NumberedFrom}
+use Rattle.rounds.specs.Held.{AreSmall}
+use Rattle.rounds.specs.Kept.{Fits, IsKept, IsDone, IsLeft}
+use Rattle.rounds.specs.Lanes.{AreSpent, AreShortTexts, IsShortText, IsSmallQueue, IsSmallTap, IsSmallWork}
+use Rattle.rounds.specs.Marks.{IsRound}
+use Rattle.rounds.specs.declared.lane_work.Kept.{Kept}
+use Rattle.rounds.proofs.Small.{read_fit, items_fit, runs_merge_fit}
+use Rattle.rounds.proofs.Taking.{fresh_round}
+use Rattle.rounds.proofs.Working.{are_shared, round_keeps}
+
+-- ---- packets as they were read
+
+pub are_held : (ps : List Held) → AreRead ps → AreHeld ps
+are_held [] r = tt
+are_held (p ∷ ps) r = (r.0.held, are_held ps r.1)
+
+pub weigh_full : (ps : List Held) → AreRead ps → WeighAtLeast full_weight ps
+weigh_full [] r = tt
+weigh_full (p ∷ ps) r = (omega (arith, r.0.least), weigh_full ps r.1)
+
+weigh_less : (v w : ℕ) (ps : List Held) → v ≤ w → WeighAtLeast w ps → WeighAtLeast v ps
+weigh_less v w [] le h = tt
+weigh_less v w (p ∷ ps) le h = (omega (arith, le, h.0), weigh_less v w ps le h.1)
+
+-- no clone was taken
+pub after_none : (ps : List Held) → AreHeld ps → AreShared ps → WeighAtLeast full_weight ps → AreAfter 1 ps ps
+after_none ps held shared whole = record { same = refl; counts = refl; held = held; shared = shared; weigh = weigh_less (weight_after 1) full_weight ps (omega arith) whole }
+
+rise : (j k : ℕ) (ps : List Held) → j ≤ k → NumberedFrom k ps → RiseFrom j (map packet_of ps)
+rise j k [] le h = tt
+rise j k (p ∷ ps) le h = (omega (arith, le, h.0), rise (p.number + 1) (k + 1) ps (omega (arith, h.0)) h.1)
+
+beside : (n : ℕ) (a b c : Account) → Keeps a b → IsRound n (both a c) → IsRound n (both b c)
+beside n a b c k r = round_keeps n (both a c) (both b c) (λ t m. let x = k t m in (omega (arith, x.0), omega (arith, x.0, x.1))) r
+
+pub are_kept : (keep : Bool) (n : ℕ) (ps : List Held) (k : Kept) → k.blocks ≡ n → IsFresh 0 n (of_packets ps) → AreRead ps → counts_of ps ≡ n → (j : ℕ) × NumberedFrom j ps → n ≤ 65536
+    → AreAfter 1 ps k.packets.items → Keeps (of_packets ps) (both (of_packets k.packets.items) (of_clones k.kept.items)) → blocks_of k.kept.items ≤ counts_of ps → (keep ≡ true → map packet_of_clone k.kept.items ≡ map packet_of ps)
+    → IsKept keep (map packet_of ps) n k
+are_kept keep n ps k size fresh read counts numbers few after keeps fewer clones = record {
+  same = after.same;
+  size = size;
+  held = after.held;
+  shared = after.shared;
+  weighs = after.weigh;
+  rising = subst (RiseFrom 0) (sym after.same) (rise 0 numbers.0 ps (omega arith) numbers.1);
+  fit = subst (AllByRecursion Fits) (sym after.same) (read_fit ps read);
+  few = omega (arith, after.counts, counts, few);
+  counts = omega (arith, after.counts, counts, fewer, size);
+  round = subst (λ (m : ℕ). IsRound m (both (of_packets k.packets.items) (of_clones k.kept.items))) (sym size)
+      (round_keeps n (of_packets ps) (both (of_packets k.packets.items) (of_clones k.kept.items)) keeps (fresh_round n (of_packets ps) fresh));
+  clones = clones;
+}
+
+-- ---- what the lanes come to fits
+
+below : {A : Type 0} (f : A → ℕ) (k n m : ℕ) (xs : List A) → k + n ≤ m → map f xs ≡ range_with_len k n → AllByRecursion (λ x. f x < m) xs
+below f k n m [] le e = tt
+below f k zero m (x ∷ xs) le e = absurd (omega (arith, ap length e))
+below f k (suc n) m (x ∷ xs) le e =
+    let first : f x ≡ k = ap (λ z. get_or z 0 0) e in
+    let rest : map f xs ≡ range_with_len (k + 1) n = ap (drop 1) e in
+    (omega (arith, first, le), below f (k + 1) n m xs (omega (arith, le)) rest)
+
+abbrev AreFit : List Merged → Type 0
+AreFit ms = AllByRecursion (λ (m : Merged). Fits m.packet) ms
+
+merged_fit : (n : ℕ) (ps : List Packet) (qs : List ℕ) → AllByRecursion Fits ps → AllByRecursion AreFit (map (λ q. map merged_of (items_of n q ps)) qs)
+merged_fit n ps [] fit = tt
+merged_fit n ps (q ∷ qs) fit = (runs_merge_fit (filter (is_queued n q) ps) (all_filtered Fits (is_queued n q) ps fit), merged_fit n ps qs fit)
+
+small_queues : (ls : List QueueLane) → AllByRecursion (λ (l : QueueLane). l.queue < 64) ls → AllByRecursion AreFit (map merged_in ls) → AllByRecursion IsSmallQueue ls
+small_queues [] number fit = tt
+small_queues (l ∷ ls) number fit = ((omega (arith, number.0), items_fit l.items.items fit.0), small_queues ls number.1 fit.1)
+
+text_short : (p : Packet) (bytes : List ℕ) → length bytes ≤ 2048 → AllByRecursion IsShortText (text_by p bytes)
+text_short p [] le = tt
+text_short p (b ∷ bytes) le = (le, tt)
+
+texts_short : (snap t : ℕ) (ps : List Packet) → snap ≤ 2048 → AllByRecursion IsShortText (texts_of snap t ps)
+texts_short snap t [] le = tt
+texts_short snap t (p ∷ ps) le =
+    all_append IsShortText (text_of snap t p) (texts_of snap t ps) (text_short p (window_of snap t p.frame) (omega (arith, le, length-take snap (drop (t * snap) p.frame)))) (texts_short snap t ps le)
+
+all_short : (snap : ℕ) (ps : List Packet) (ts : List ℕ) → snap ≤ 2048 → AllByRecursion AreShortTexts (map (λ t. Some (texts_of snap t ps)) ts)
+all_short snap ps [] le = tt
+all_short snap ps (t ∷ ts) le = (texts_short snap t ps le, all_short snap ps ts le)
+
+small_taps : (ls : List TapLane) → AllByRecursion (λ (l : TapLane). l.tap < 8) ls → AllByRecursion AreShortTexts (map (λ (l : TapLane). l.texts) ls) → AllByRecursion IsSmallTap ls
+small_taps [] number short = tt
+small_taps (l ∷ ls) number short = ((omega (arith, number.0), short.0), small_taps ls number.1 short.1)
+
+small_lanes : (plan : Plan) (ps : List Packet) (lanes : Lanes) → IsPlan plan → AllByRecursion Fits ps → AreMerged plan.queues ps lanes.queues.items → AreWatched plan.snap plan.taps ps lanes.taps.items → IsSmallWork [] lanes
+small_lanes plan ps lanes is fit merged watched = record {
+  small = tt;
+  queues = small_queues lanes.queues.items (below (λ (l : QueueLane). l.queue) 0 plan.queues 64 lanes.queues.items (omega (arith, is.0.1)) merged.numbers)
+      (subst (AllByRecursion AreFit) (sym merged.items) (merged_fit plan.queues ps (range_with_len 0 plan.queues) fit));
+  taps = small_taps lanes.taps.items (below (λ (l : TapLane). l.tap) 0 plan.taps 8 lanes.taps.items (omega (arith, is.1)) watched.numbers)
+      (subst (AllByRecursion AreShortTexts) (sym watched.texts) (all_short plan.snap ps (range_with_len 0 plan.taps) is.2.1));
+}
+
+pub small_alone : (items : List Item) (lanes : Lanes) → AreSmall items → (lanes.queues.items ≡ []) × (lanes.taps.items ≡ []) → IsSmallWork items lanes
+small_alone items lanes small none = record {
+  small = small;
+  queues = subst (AllByRecursion IsSmallQueue) (sym none.0) tt;
+  taps = subst (AllByRecursion IsSmallTap) (sym none.1) tt;
+}
+
+-- ---- what the lanes have done, or not
+
+round_now : (x : Account) (k j : Kept) → j.kept.items ≡ k.kept.items → j.blocks ≡ k.blocks → IsRound k.blocks (both (of_packets k.packets.items) (of_clones k.kept.items)) → Keeps (of_packets k.packets.items) x
+    → IsRound j.blocks (both x (of_clones j.kept.items))
+round_now x k j same size round keeps =
+    subst (λ (m : ℕ). IsRound m (both x (of_clones j.kept.items))) (sym size)
+    (subst (λ (z : List TapClone). IsRound k.blocks (both x (of_clones z))) (sym same) (beside k.blocks (of_packets k.packets.items) x (of_clones k.kept.items) keeps round))
+
+module _ {E : Type 0} (keep : Bool) (ps : List Packet) (n : ℕ) (plan : Plan) (k j : Kept) (is : IsPlan plan) (kept : IsKept keep ps n k) (same : j.kept.items ≡ k.kept.items) (size : j.blocks ≡ k.blocks) where
+  pub settles : (r : Result Lanes (Lanes × E)) → IfOk r (λ l. AreMerged plan.queues (map packet_of k.packets.items) l.queues.items) → IfOk r (λ l. AreWatched plan.snap plan.taps (map packet_of k.packets.items) l.taps.items)
+      → IfOk r (λ l. (j.packets.items ≡ []) × All (λ (q : QueueLane). q.packets.items ≡ []) l.queues.items)
+      → MatchResult r (λ l. Keeps (of_packets k.packets.items) (of_lanes l)) (λ e. Keeps (of_packets k.packets.items) (both (of_packets j.packets.items) (of_lanes e.0)))
+      → MatchResult r (λ l. counts_of_queues l.queues.items ≤ counts_of k.packets.items) (λ e. counts_of j.packets.items + counts_of_queues e.0.queues.items ≤ counts_of k.packets.items)
+      → MatchResult r (λ l. AreSpent l.taps.items) (λ e. AreSpent e.0.taps.items)
+      → MatchResult r (IsDone j) (λ e. IsLeft j e.0)
+  settles (Ok l) merged watched all keeps counts spent = record {
+    all = all.0;
+    round = round_now (of_lanes l) k j same size kept.round keeps;
+    counts = omega (arith, counts, kept.counts, size, ap blocks_of same);
+    spent = spent;
+    small = small_lanes plan (map packet_of k.packets.items) l is kept.fit merged watched;
+  }
+  settles (Err e) merged watched all keeps counts spent = record {
+    round = round_keeps j.blocks (both (both (of_packets j.packets.items) (of_lanes e.0)) (of_clones j.kept.items)) (both (of_packets j.packets.items) (both (of_lanes e.0) (of_clones j.kept.items)))
+        (λ t m. (omega arith, omega arith)) (round_now (both (of_packets j.packets.items) (of_lanes e.0)) k j same size kept.round keeps);
+    counts = omega (arith, counts, kept.counts, size, ap blocks_of same);
+    spent = spent;
+  }
+
+-- ---- a round that goes home
+
+-- packets alone, without lanes or clones
+pub round_alone : (n : ℕ) (ps ls ks : Account) → ((t : Tests) (m : ℕ) → (ls.held t m ≡ 0) × (ls.homes t.blocks m ≡ 0)) → ((t : Tests) (m : ℕ) → (ks.held t m ≡ 0) × (ks.homes t.blocks m ≡ 0)) → IsRound n ps → IsRound n (both ps (both ls ks))
+round_alone n ps ls ks none no_kept r =
+    round_keeps n ps (both ps (both ls ks)) (λ t m. let a = none t m in let b = no_kept t m in (omega (arith, a.0, b.0), omega (arith, a.0, b.0, a.1, b.1))) r
+
+-- the same beside outcomes and items that hold nothing
+pub round_left : (n : ℕ) (os ps is ls ks : Account) → ((t : Tests) (m : ℕ) → (os.held t m ≡ 0) × (os.homes t.blocks m ≡ 0)) → ((t : Tests) (m : ℕ) → (is.held t m ≡ 0) × (is.homes t.blocks m ≡ 0)) → IsRound n (both ps (both ls ks))
+    → IsRound n (both os (both ps (both is (both ls ks))))
+round_left n os ps is ls ks no_out no_item r =
+    round_keeps n (both ps (both ls ks)) (both os (both ps (both is (both ls ks)))) (λ t m. let a = no_out t m in let b = no_item t m in (omega (arith, a.0, b.0), omega (arith, a.0, b.0, a.1, b.1))) r
+
+-- what merged in no lane, beside lanes and clones that hold nothing
+pub round_work : (n : ℕ) (ps is ls ks : Account) → Keeps ps is → ((t : Tests) (m : ℕ) → (ls.held t m ≡ 0) × (ls.homes t.blocks m ≡ 0)) → ((t : Tests) (m : ℕ) → (ks.held t m ≡ 0) × (ks.homes t.blocks m ≡ 0)) → IsRound n ps
+    → IsRound n (both is (both ls ks))
+round_work n ps is ls ks keeps none no_kept r =
+    round_keeps n ps (both is (both ls ks)) (λ t m. let x = keeps t m in let a = none t m in let b = no_kept t m in (omega (arith, x.0, a.0, b.0), omega (arith, x.1, a.0, b.0, a.1, b.1))) r
+
+-- packets of which clones were taken, without lanes
+pub round_kept : (n : ℕ) (ps qs ls ks : Account) → Keeps ps (both qs ks) → ((t : Tests) (m : ℕ) → (ls.held t m ≡ 0) × (ls.homes t.blocks m ≡ 0)) → IsRound n ps → IsRound n (both qs (both ls ks))
+round_kept n ps qs ls ks keeps none r =
+    round_keeps n ps (both qs (both ls ks)) (λ t m. let x = keeps t m in let a = none t m in (omega (arith, x.0, a.0), omega (arith, x.1, a.0, a.1))) r
+
+-- lanes beside no item
+pub round_done : (n : ℕ) (is ls ks : Account) → ((t : Tests) (m : ℕ) → (is.held t m ≡ 0) × (is.homes t.blocks m ≡ 0)) → IsRound n (both ls ks) → IsRound n (both is (both ls ks))
+round_done n is ls ks no_item r = round_keeps n (both ls ks) (both is (both ls ks)) (λ t m. let a = no_item t m in (omega (arith, a.0), omega (arith, a.0, a.1))) r

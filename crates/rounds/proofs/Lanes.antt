@@ -1,0 +1,128 @@
+-- Rounds that are worked in lanes: what is written of them.
+use Rattle.std.proofs.Common.{◌≡◌, ℕ, ◌+◌, ◌≤◌, Bool, true, Option, None, Some, List, [], ◌∷◌, ◌++◌, map, refl, sym, ap, ◌∙◌, subst, append-nil, arith}
+use Rattle.std.specs.Prelude.{All, IfOk, OnOk, OnErr, MatchResult, Ok, Err}
+use Rattle.std.specs.declared.result.Result.{Result}
+use Rattle.std.specs.List.{AllByRecursion, flat_map, range_with_len}
+use Rattle.std.proofs.lemmas.Grind.{flat_map-append}
+use Rattle.std.proofs.lemmas.List.Elements.{All-from_recursion}
+use Rattle.std.specs.Io.KnownBytes.{Appends}
+use Rattle.off_io.specs.Content.{AppendsFront}
+use Rattle.off_io.proofs.Appending.{front_more}
+use Rattle.off_io.proofs.Owing.{then_ok, then_err}
+use Rattle.net_bytes.specs.declared.order.Order.{Order}
+use Rattle.pcap_io.specs.Capture.{Packet}
+use Rattle.offload_model.specs.Merged.{Merged, merged_of}
+use Rattle.offload_model.specs.Rounds.{runs_in, items_of}
+use Rattle.offload_model.specs.Segments.{with_head}
+use Rattle.offload_model.specs.Steps.{round_output}
+use Rattle.offload_model.specs.Written.{Options, head_of, record_of, record_bytes, round_records, windows_of}
+use Rattle.offload_model.proofs.OneQueue.{one_queue}
+use Rattle.gro.specs.declared.item.Item.{Item}
+use Rattle.gro.specs.Items.{item_of}
+use Rattle.gro.specs.Table.{AreReady}
+use Rattle.taps.specs.Texts.{record_of_text}
+use Rattle.round_work.specs.declared.lanes.QueueLane.{QueueLane}
+use Rattle.round_work.specs.declared.lanes.TapLane.{TapLane}
+use Rattle.round_work.specs.declared.lanes.Lanes.{Lanes}
+use Rattle.round_work.specs.Work.{lane_records, records_of_queue, records_of_tap, records_of_texts}
+use Rattle.round_write.specs.Records.{item_bytes}
+use Rattle.rounds.specs.Lanes.{records_of_items, worked_records, bytes_of_items, queue_bytes, text_bytes, bytes_of_texts, tap_bytes, lanes_bytes, worked_bytes}
+use Rattle.rounds.specs.RoundsState.{RoundsState, WorkedState}
+
+-- ---- the bytes of its records
+
+both_parts : {A : Type 0} (a b x y : List A) → a ≡ b → x ≡ y → a ++ x ≡ b ++ y
+both_parts a b x y e f = ap (λ z. z ++ x) e ∙ ap (λ z. b ++ z) f
+
+flat_twice : {A B C : Type 0} (f : B → List C) (g : A → List B) (h : A → List C) (xs : List A) → ((x : A) → flat_map f (g x) ≡ h x) → flat_map f (flat_map g xs) ≡ flat_map h xs
+flat_twice f g h [] e = refl
+flat_twice f g h (x ∷ xs) e = flat_map-append f (g x) (flat_map g xs) ∙ both_parts (flat_map f (g x)) (h x) (flat_map f (flat_map g xs)) (flat_map h xs) (e x) (flat_twice f g h xs e)
+
+items_are : (order : Order) (q : ℕ) (items : List Item) → flat_map (record_bytes order) (records_of_items q items) ≡ bytes_of_items order q items
+items_are order q [] = refl
+items_are order q (i ∷ items) = ap (λ z. item_bytes order q (item_of i) ++ z) (items_are order q items)
+
+texts_are : (order : Order) (t : ℕ) (texts : List Packet) → flat_map (record_bytes order) (map (record_of_text t) texts) ≡ flat_map (text_bytes order t) texts
+texts_are order t [] = refl
+texts_are order t (x ∷ texts) = ap (λ z. text_bytes order t x ++ z) (texts_are order t texts)
+
+some_texts_are : (order : Order) (t : ℕ) (texts : Option (List Packet)) → flat_map (record_bytes order) (records_of_texts t texts) ≡ bytes_of_texts order t texts
+some_texts_are order t None = refl
+some_texts_are order t (Some texts) = texts_are order t texts
+
+pub lanes_are : (order : Order) (lanes : Lanes) → flat_map (record_bytes order) (lane_records lanes) ≡ lanes_bytes order lanes
+lanes_are order lanes =
+    let queues = lanes.queues.items in
+    let taps = lanes.taps.items in
+    let bytes = record_bytes order in
+    flat_map-append bytes (flat_map records_of_queue queues) (flat_map records_of_tap taps)
+    ∙ both_parts (flat_map bytes (flat_map records_of_queue queues)) (flat_map (queue_bytes order) queues) (flat_map bytes (flat_map records_of_tap taps)) (flat_map (tap_bytes order) taps)
+    (flat_twice bytes records_of_queue (queue_bytes order) queues (λ l. items_are order l.queue l.items.items))
+    (flat_twice bytes records_of_tap (tap_bytes order) taps (λ l. some_texts_are order l.tap l.texts))
+
+work_is : (order : Order) (worked : WorkedState) → flat_map (record_bytes order) (worked_records worked) ≡ worked_bytes order worked
+work_is order worked =
+    let items = records_of_items 0 worked.items in
+    flat_map-append (record_bytes order) items (lane_records worked.lanes)
+    ∙ both_parts (flat_map (record_bytes order) items) (bytes_of_items order 0 worked.items) (flat_map (record_bytes order) (lane_records worked.lanes)) (lanes_bytes order worked.lanes)
+    (items_are order 0 worked.items) (lanes_are order worked.lanes)
+
+-- what is written of a round that was worked is what merging writes of it
+pub worked_is : (options : Options) (order : Order) (ps : List Packet) (worked : WorkedState) → worked_records worked ≡ round_records options ps → worked_bytes order worked ≡ round_output options order ps
+worked_is options order ps worked e = sym (work_is order worked) ∙ ap (flat_map (record_bytes order)) e
+
+-- ---- in one queue, with no lane
+
+runs_are : (q : ℕ) (runs : List (List Packet)) → map (λ (m : Merged). with_head (head_of q m) m.packet) (map merged_of runs) ≡ map (record_of q) runs
+runs_are q [] = refl
+runs_are q (run ∷ runs) = ap (λ z. record_of q run ∷ z) (runs_are q runs)
+
+no_records : (lanes : Lanes) → (lanes.queues.items ≡ []) × (lanes.taps.items ≡ []) → lane_records lanes ≡ []
+no_records lanes none =
+    ap (λ (z : List QueueLane). flat_map records_of_queue z ++ flat_map records_of_tap lanes.taps.items) none.0 ∙ ap (λ (z : List TapLane). flat_map records_of_tap z) none.1
+
+one_queue_records : (options : Options) (ps : List Packet) → options.queues ≡ 1 → options.taps ≡ 0 → round_records options ps ≡ map (record_of 0) (runs_in ps)
+one_queue_records options ps queues taps =
+    let records = map (record_of 0) (items_of 1 0 ps) in
+    ap (λ (n : ℕ). flat_map (λ q. map (record_of q) (items_of n q ps)) (range_with_len 0 n) ++ flat_map (λ t. windows_of options.snap t ps) (range_with_len 0 options.taps)) queues
+    ∙ ap (λ (n : ℕ). flat_map (λ q. map (record_of q) (items_of 1 q ps)) (range_with_len 0 1) ++ flat_map (λ t. windows_of options.snap t ps) (range_with_len 0 n)) taps
+    ∙ append-nil (records ++ []) ∙ append-nil records ∙ ap (λ (runs : List (List Packet)). map (record_of 0) runs) (one_queue ps)
+
+pub records_alone : (options : Options) (ps : List Packet) (items : List Item) (lanes : Lanes) → options.queues ≡ 1 → options.taps ≡ 0 → map item_of items ≡ map merged_of (runs_in ps)
+    → (lanes.queues.items ≡ []) × (lanes.taps.items ≡ []) → records_of_items 0 items ++ lane_records lanes ≡ round_records options ps
+records_alone options ps items lanes queues taps are none =
+    ap (λ z. records_of_items 0 items ++ z) (no_records lanes none) ∙ append-nil (records_of_items 0 items)
+    ∙ ap (λ (ms : List Merged). map (λ (m : Merged). with_head (head_of 0 m) m.packet) ms) are ∙ runs_are 0 (runs_in ps) ∙ sym (one_queue_records options ps queues taps)
+
+pub none_ready : (lanes : Lanes) → (lanes.queues.items ≡ []) × (lanes.taps.items ≡ []) → All (λ (l : QueueLane). AreReady l.items.items) lanes.queues.items
+none_ready lanes none = All-from_recursion (λ (l : QueueLane). AreReady l.items.items) lanes.queues.items (subst (AllByRecursion (λ (l : QueueLane). AreReady l.items.items)) (sym none.0) tt)
+
+-- ---- a round that was worked, or not
+
+bytes_at : {E : Type 0} (options : Options) (order : Order) (ps : List Packet) (r : Result WorkedState E) → IfOk r (λ w. worked_records w ≡ round_records options ps) → IfOk r (λ w. worked_bytes order w ≡ round_output options order ps)
+bytes_at options order ps (Ok w) h = worked_is options order ps w h
+bytes_at options order ps (Err e) h = tt
+
+pub works_out : {E : Type 0} (options now : Options) (order : Order) (ps : List Packet) (r : Result WorkedState E) → now ≡ options → IfOk r (λ w. worked_records w ≡ round_records now ps)
+    → IfOk r (λ w. worked_bytes order w ≡ round_output options order ps)
+works_out options now order ps r same h = bytes_at options order ps r (subst (λ (o : Options). IfOk r (λ w. worked_records w ≡ round_records o ps)) same h)
+
+pub after_work : {E : Type 0} (r : Result WorkedState E) (old new : RoundsState) (n : ℕ) → OnOk r (new ≡ old) → OnErr r (new ≡ record old { home = old.home + n }) → new ≡ record old { home = new.home }
+after_work (Ok w) old new n same home = subst (λ (z : RoundsState). z ≡ record old { home = z.home }) (sym same) refl
+after_work (Err e) old new n same home = subst (λ (z : RoundsState). z ≡ record old { home = z.home }) (sym home) refl
+
+pub may_put : {E : Type 0} (r : Result WorkedState E) (old new : RoundsState) (n : ℕ) → IfOk r (λ w. w.blocks ≡ n) → OnOk r (new ≡ old) → OnErr r (new ≡ record old { home = old.home + n }) → old.home + n ≡ old.blocks
+    → MatchResult r (λ w. new.home + w.blocks ≡ new.blocks) (λ _. new.home ≡ new.blocks)
+may_put (Ok w) old new n size same home all = omega (arith, size, ap (λ (z : RoundsState). z.home) same, ap (λ (z : RoundsState). z.blocks) same, all)
+may_put (Err e) old new n size same home all = omega (arith, ap (λ (z : RoundsState). z.home) home, ap (λ (z : RoundsState). z.blocks) home, all)
+
+-- ---- one thing written behind another, of lists that are borrowed
+
+pub ok_at : {T E : Type 0} (r : Result T E) (a b c : Option (List ℕ)) (xs ys vs ws : List ℕ) → xs ≡ vs → ys ≡ ws → Appends a b xs → OnOk r (Appends b c ys) → OnOk r (Appends a c (vs ++ ws))
+ok_at r a b c xs ys vs ws e f p q = subst (λ (z : List ℕ). OnOk r (Appends a c (z ++ ws))) e (subst (λ (z : List ℕ). OnOk r (Appends a c (xs ++ z))) f (then_ok r a b c xs ys p q))
+
+pub err_at : {T E : Type 0} (r : Result T E) (a b c : Option (List ℕ)) (xs ys vs ws : List ℕ) → xs ≡ vs → ys ≡ ws → Appends a b xs → OnErr r (AppendsFront b c ys) → OnErr r (AppendsFront a c (vs ++ ws))
+err_at r a b c xs ys vs ws e f p q = subst (λ (z : List ℕ). OnErr r (AppendsFront a c (z ++ ws))) e (subst (λ (z : List ℕ). OnErr r (AppendsFront a c (xs ++ z))) f (then_err r a b c xs ys p q))
+
+pub front_at : (a b : Option (List ℕ)) (xs vs ws : List ℕ) → xs ≡ vs → AppendsFront a b xs → AppendsFront a b (vs ++ ws)
+front_at a b xs vs ws e h = front_more a b vs ws (subst (AppendsFront a b) e h)

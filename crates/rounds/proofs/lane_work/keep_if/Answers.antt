@@ -1,0 +1,16 @@
+use Rattle.std.proofs.Common.{List, sym, subst, ap, arith}
+use Rattle.gro.specs.Held.{counts_of}
+use Rattle.taps.specs.declared.clones.TapClone.{TapClone}
+use Rattle.taps.specs.Clones.{blocks_of}
+use Rattle.rounds.proofs.Keeping.{after_none}
+use Rattle.rounds.proofs.LaneCounts.{no_clones}
+use Rattle.rounds.proofs.lane_work.keep_if.Goals as goal
+
+pub returns-then-not-keep-clause-after : goal.returns-then-not-keep-clause-after
+returns-then-not-keep-clause-after c = after_none c.args.packets.now.items c.requires.held c.requires.shared c.requires.whole
+
+pub returns-then-not-keep-clause-kept : goal.returns-then-not-keep-clause-kept
+returns-then-not-keep-clause-kept c = λ t m. let k = no_clones c.args.kept.now.items c.requires.none t m in (omega (arith, k.0), omega (arith, k.0, k.1))
+
+pub returns-then-not-keep-clause-fewer : goal.returns-then-not-keep-clause-fewer
+returns-then-not-keep-clause-fewer c = omega (arith, ap blocks_of c.requires.none)

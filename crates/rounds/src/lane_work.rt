@@ -1,0 +1,220 @@
+//! Works a round: its packets are merged, in one queue or in lanes.
+ghost use Rattle.std.specs.Prelude.{◌≡◌, ◌+◌, ◌≤◌, true, false, [], map, All, IfOk, OnOk, OnErr, MatchResult};
+ghost use Rattle.offload_model.specs.Written.{round_records};
+ghost use Rattle.ref_core.specs.WeightRule.{full_weight};
+ghost use Rattle.frags.specs.Account.{Keeps, both};
+ghost use Rattle.gro.specs.Held.{packet_of, of_packets, counts_of, AreHeld, AreShared, WeighAtLeast};
+ghost use Rattle.taps.specs.Clones.{packet_of as packet_of_clone, blocks_of, of_clones};
+ghost use Rattle.round_work.specs.Clones.{AreAfter};
+ghost use Rattle.gro.specs.Table.{AreReady};
+ghost use Rattle.rounds.specs.Kept.{IsKept, IsDone, IsLeft, IsOfLanes};
+ghost use Rattle.rounds.specs.Lanes.{worked_records, IsKeptWorkOf};
+ghost use Rattle.rounds.specs.Merging.{options_of};
+
+use crate::home::bring_round;
+use crate::round::{Round, Worked};
+use crate::rounds::{Rounds, no_lanes};
+use crate::work::merge_packets;
+use core::mem::replace;
+use gro::Packet;
+use off_io::{Gate, Who};
+use round_work::{Lanes, keep_packets, work_packets, work_packets_alone};
+use std::alloc::AllocError;
+use std::collections::VecDeque;
+use std::thread::Threads;
+use taps::TapClone;
+
+// A round before the work of its lanes: its packets, and a clone of each where they are kept.
+struct Kept {
+    packets: VecDeque<Packet>,
+    kept: Vec<TapClone>,
+    blocks: u32,
+}
+
+// A clone of each packet, if that is wanted.
+fn keep_if(
+    keep: bool,
+    packets: &mut VecDeque<Packet>,
+    kept: &mut Vec<TapClone>,
+) -> Result<(), AllocError>
+    requires held { AreHeld packets.old.items }
+    requires shared { AreShared packets.old.items }
+    requires whole { WeighAtLeast full_weight packets.old.items }
+    requires none { kept.old.items ≡ [] }
+    ensures after { AreAfter 1 packets.old.items packets.new.items }
+    ensures kept { Keeps (of_packets packets.old.items) (both (of_packets packets.new.items) (of_clones kept.new.items)) }
+    ensures fewer { blocks_of kept.new.items ≤ counts_of packets.old.items }
+    ensures all { OnOk result (keep ≡ true → map packet_of_clone kept.new.items ≡ map packet_of packets.old.items) }
+{
+    if !keep {
+        return Ok(());
+    }
+    keep_packets(packets, kept)
+}
+
+impl Rounds {
+    // Whether one queue is all there is, so that no lane is made.
+    fn is_plain(&self) -> bool
+        ensures plain { result ≡ true → (self.now.queues ≡ 1) × (self.now.taps ≡ 0) × (self.now.keep ≡ false) }
+    {
+        self.plan.queues == 1 && self.plan.taps == 0 && !self.keep
+    }
+
+    // Merges the packets of a round in one queue.
+    fn merge_round<G: Gate>(&mut self, round: Round, gate: &G) -> Result<Worked, AllocError>
+        requires out { self.old.home + round.blocks ≤ self.old.blocks }
+        requires plain { (self.old.queues ≡ 1) × (self.old.taps ≡ 0) }
+        ensures records { IfOk result (λ worked. worked_records worked ≡ round_records (options_of self.old) (map packet_of round.packets)) }
+        ensures ready { IfOk result (λ worked. AreReady worked.items × All (λ lane. AreReady lane.items.items) worked.lanes.queues.items) }
+        ensures worked { IfOk result (λ worked. worked.blocks ≡ round.blocks) }
+        ensures same { OnOk result (self.new ≡ self.old) }
+        ensures home { OnErr result (self.new ≡ record self.old { home = self.old.home + round.blocks }) }
+    {
+        let Round {
+            mut packets,
+            blocks,
+        } = round;
+        gate.pass(Who::Worker(0), 0);
+        let mut items = replace(&mut self.items, Vec::new(self.alloc));
+        let merged = merge_packets(&mut self.table, &mut packets, &mut items, &mut self.out);
+        gate.pass(Who::Worker(0), 1);
+        let lanes = no_lanes(self.alloc);
+        let kept = Vec::new(self.alloc);
+        match merged {
+            Ok(()) => {
+                replace(&mut self.packets, packets).destroy_empty();
+                Ok(Worked {
+                    items,
+                    lanes,
+                    kept,
+                    blocks,
+                })
+            }
+            Err(error) => {
+                bring_round(
+                    &mut self.pool,
+                    &mut self.places,
+                    blocks,
+                    &mut self.table,
+                    &mut self.out,
+                    &mut packets,
+                    &mut items,
+                    lanes,
+                    kept,
+                );
+                replace(&mut self.packets, packets).destroy_empty();
+                replace(&mut self.items, items).destroy_empty();
+                Err(error)
+            }
+        }
+    }
+
+    // A clone of each packet is kept, if that is wanted. For want of memory all blocks of the round are home.
+    fn keep_round(&mut self, round: Round) -> Result<Kept, AllocError>
+        requires out { self.old.home + round.blocks ≤ self.old.blocks }
+        ensures kept { IfOk result (λ k. IsKept self.old.keep (map packet_of round.packets) round.blocks k) }
+        ensures same { OnOk result (self.new ≡ self.old) }
+        ensures home { OnErr result (self.new ≡ record self.old { home = self.old.home + round.blocks }) }
+    {
+        let Round {
+            mut packets,
+            blocks,
+        } = round;
+        let mut kept = Vec::new(self.alloc);
+        match keep_if(self.keep, &mut packets, &mut kept) {
+            Ok(()) => Ok(Kept {
+                packets,
+                kept,
+                blocks,
+            }),
+            Err(error) => {
+                self.bring_back(packets, no_lanes(self.alloc), kept, blocks);
+                Err(error)
+            }
+        }
+    }
+
+    // What the lanes came to. For want of memory all blocks of the round are home.
+    fn settle(
+        &mut self,
+        kept: Kept,
+        lanes: Result<Lanes, (Lanes, AllocError)>,
+    ) -> Result<Worked, AllocError>
+        requires out { self.old.home + kept.blocks ≤ self.old.blocks }
+        requires lanes { MatchResult lanes (IsDone kept) (λ e. IsLeft kept e.0) }
+        ensures worked { IfOk result (IsOfLanes lanes kept.kept.items kept.blocks) }
+        ensures same { OnOk result (self.new ≡ self.old) }
+        ensures home { OnErr result (self.new ≡ record self.old { home = self.old.home + kept.blocks }) }
+    {
+        let Kept {
+            packets,
+            kept,
+            blocks,
+        } = kept;
+        match lanes {
+            Ok(lanes) => {
+                replace(&mut self.packets, packets).destroy_empty();
+                Ok(Worked {
+                    items: Vec::new(self.alloc),
+                    lanes,
+                    kept,
+                    blocks,
+                })
+            }
+            Err((lanes, error)) => {
+                self.bring_back(packets, lanes, kept, blocks);
+                Err(error)
+            }
+        }
+    }
+
+    /// Works a round: queue by queue what the runs of its flows come to, in the order of their first packets, and tap by tap the
+    /// windows of the packets as they were read. Each queue and each tap is a leaf of one tree of joins, which passes the gate at
+    /// point 0 before its work and at point 1 after it; one queue alone is worked in the thread that calls. For want of memory all
+    /// blocks of the round are home.
+    pub fn work_round<R: Threads + Sync, G: Gate + Sync>(
+        &mut self,
+        rt: &R,
+        round: Round,
+        gate: &G,
+    ) -> Result<Worked, AllocError>
+        requires out { self.old.home + round.blocks ≤ self.old.blocks }
+        ensures records { IfOk result (λ worked. worked_records worked ≡ round_records (options_of self.old) (map packet_of round.packets)) }
+        ensures checked { self.old.keep ≡ true → IfOk result (λ worked. IsKeptWorkOf (options_of self.old) (map packet_of round.packets) worked) }
+        ensures ready { IfOk result (λ worked. AreReady worked.items × All (λ lane. AreReady lane.items.items) worked.lanes.queues.items) }
+        ensures worked { IfOk result (λ worked. worked.blocks ≡ round.blocks) }
+        ensures same { OnOk result (self.new ≡ self.old) }
+        ensures home { OnErr result (self.new ≡ record self.old { home = self.old.home + round.blocks }) }
+    {
+        if self.is_plain() {
+            return self.merge_round(round, gate);
+        }
+        let plan = self.plan;
+        let mut kept = self.keep_round(round)?;
+        let lanes = work_packets(rt, self.alloc, &mut kept.packets, &plan, gate);
+        self.settle(kept, lanes)
+    }
+
+    /// The same, with the work of every queue and tap in the thread that calls.
+    pub fn work_round_alone<G: Gate>(
+        &mut self,
+        round: Round,
+        gate: &G,
+    ) -> Result<Worked, AllocError>
+        requires out { self.old.home + round.blocks ≤ self.old.blocks }
+        ensures records { IfOk result (λ worked. worked_records worked ≡ round_records (options_of self.old) (map packet_of round.packets)) }
+        ensures checked { self.old.keep ≡ true → IfOk result (λ worked. IsKeptWorkOf (options_of self.old) (map packet_of round.packets) worked) }
+        ensures ready { IfOk result (λ worked. AreReady worked.items × All (λ lane. AreReady lane.items.items) worked.lanes.queues.items) }
+        ensures worked { IfOk result (λ worked. worked.blocks ≡ round.blocks) }
+        ensures same { OnOk result (self.new ≡ self.old) }
+        ensures home { OnErr result (self.new ≡ record self.old { home = self.old.home + round.blocks }) }
+    {
+        if self.is_plain() {
+            return self.merge_round(round, gate);
+        }
+        let plan = self.plan;
+        let mut kept = self.keep_round(round)?;
+        let lanes = work_packets_alone(self.alloc, &mut kept.packets, &plan, gate);
+        self.settle(kept, lanes)
+    }
+}
