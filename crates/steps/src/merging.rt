@@ -145,7 +145,7 @@ fn time_round(
 {
     let RoundRead { round, end } = rounds.read_round(reader);
     let start = Instant::now(rt);
-    let worked = rounds.work_round(round, &NoGate);
+    let worked = rounds.work_round_alone(round, &NoGate);
     let taken = match start {
         Ok(start) => start.elapsed(rt).map_err(Error::from),
         Err(error) => Err(Error::from(error)),
@@ -191,7 +191,7 @@ fn time_pass(
 // How long the work on the row's packets took, and how many there were.
 fn time_row(rt: &HostRuntime, row: &Row, turns: u64) -> Result<(Duration, u64), Error> {
     let bytes = capture_of(rt.alloc(), row, PASS)?;
-    let mut rounds = Rounds::make(rt.alloc(), BLOCKS, ROUND as u32)?;
+    let mut rounds = Rounds::make(rt.alloc(), BLOCKS, ROUND as u32, 1, 0, 64, false)?;
     let mut taken = Duration::ZERO;
     let mut packets = 0u64;
     for _ in 0..turns.div_ceil(PASS * ROUND as u64) {
