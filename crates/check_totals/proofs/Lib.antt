@@ -1,0 +1,5 @@
+pub mod Adding
+pub mod Summing
+mod Owing
+mod Exceeding
+mod Tallying

@@ -1,0 +1,4 @@
+pub mod Counts
+pub mod Lines
+pub mod Checking
+pub mod Tallies
