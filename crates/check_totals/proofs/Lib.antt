@@ -3,3 +3,4 @@ pub mod Summing
 mod Owing
 mod Exceeding
 mod Tallying
+pub mod Bounds

@@ -2,6 +2,7 @@
 use Rattle.std.specs.Prelude.{◌≡◌, ℕ, ◌+◌, ◌*◌, ◌<◌, ◌≤◌, None, Option, List, [], ◌∷◌, ◌++◌, length, map}
 use Rattle.std.specs.Io.KnownBytes.{Appends}
 use Rattle.off_io.specs.Content.{AppendsFront}
+use Rattle.maximal_runs.specs.Cut.{AllNeighbours}
 use Rattle.pcap_io.specs.declared.place.Place.{Place}
 use Rattle.pcap_io.specs.declared.faults.CapFault.{CapFault}
 use Rattle.pcap_io.specs.Capture.{Packet, ended}
@@ -12,7 +13,7 @@ use Rattle.offload_model.specs.Need.{need_of, needed, round_need}
 use Rattle.offload_model.specs.Passing.{Stop, AtRound, Ending, Stopped, ReadFault, WriteFault, NoMemory, stop_of, IsLeft, IsNoRound, Passes}
 use Rattle.offload_model.specs.Steps.{stop_behind, ending_behind, in_front}
 use Rattle.offload_model.specs.Written.{Options}
-use Rattle.check_totals.specs.Counts.{Counts, round_totals, totals_of, added, no_lanes}
+use Rattle.check_totals.specs.Counts.{Counts, round_totals, totals_of, added, no_lanes, IsWithin}
 use Rattle.check_totals.specs.Lines.{check_lines}
 use Rattle.check_totals.specs.Checking.{Tally, counting, checking}
 
@@ -82,6 +83,17 @@ pub record TotalsByRound (options : Options) (ps : List Packet) : Type 0 where
 
 abbrev pub TotalsGoByRound : Type 0
 TotalsGoByRound = (options : Options) (ps : List Packet) → 0 < options.budget → TotalsByRound options ps
+
+-- ---- how few
+
+-- a round of rising numbers has no more items than packets, so none of its numbers exceeds the blocks that it needs, or their bytes
+abbrev pub TotalsAreFew : Type 0
+TotalsAreFew = (options : Options) (ps : List Packet) → AllNeighbours (λ p q. p.number < q.number) ps
+    → IsWithin (round_need ps) (2048 * round_need ps) (round_totals options ps)
+
+-- numbers that are added add their bounds
+abbrev pub BoundsAdd : Type 0
+BoundsAdd = (a b : Counts) (m n j k : ℕ) → IsWithin m n a → IsWithin j k b → IsWithin (m + j) (n + k) (added a b)
 
 -- ---- lines
 

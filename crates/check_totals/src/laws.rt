@@ -1,5 +1,5 @@
 //! How counting goes on, and that the lines tell what was counted.
-ghost use Rattle.check_totals.specs.Tallies.{CountingGoesByRound, TotalsAddUp, TotalsGoByRound, TotalsAreTold};
+ghost use Rattle.check_totals.specs.Tallies.{BoundsAdd, CountingGoesByRound, TotalsAddUp, TotalsAreFew, TotalsAreTold, TotalsGoByRound};
 
 /// Counting goes round by round: one that is full and fits is counted before the others, and the last one is counted as the capture
 /// ends, where no record exceeds the blocks.
@@ -20,4 +20,14 @@ pub fn totals_go_by_round()
 /// Where all was counted from nothing, the lines of the totals are what checking writes.
 pub fn totals_are_told()
     ensures law { TotalsAreTold }
+{}
+
+/// A round's numbers don't exceed the blocks that it needs, and those of taps not their bytes.
+pub fn totals_are_few()
+    ensures law { TotalsAreFew }
+{}
+
+/// Where totals are added, their bounds are.
+pub fn bounds_add()
+    ensures law { BoundsAdd }
 {}

@@ -14,9 +14,14 @@
 #![tactic(auto)]
 
 mod laws;
+#[cfg(test)]
+mod tests;
 mod totals;
 mod write;
 
-pub use laws::{counting_goes_by_round, totals_add_up, totals_are_told, totals_go_by_round};
+pub use laws::{
+    bounds_add, counting_goes_by_round, totals_add_up, totals_are_few, totals_are_told,
+    totals_go_by_round,
+};
 pub use totals::{QueueTotals, TapTotals, Totals};
 pub use write::{write_made, write_totals};
