@@ -1,6 +1,6 @@
 -- What reading one record into blocks shows of the records of a capture.
 use Rattle.std.proofs.Common.{◌≡◌, ◌+◌, ◌-◌, ◌<◌, ◌≤◌, ℕ, List, [], ◌∷◌, ◌++◌, ◌⊎◌, inl, inr, length, refl, sym, ap, ◌∙◌, arith, Option, None, Some, Ok, Err, subst, map, take, drop, append_assoc, append-nil, take-append-drop, length-take, Bool, true, if◌then◌else◌}
-use Rattle.std.proofs.lemmas.List.{take_all, length-take-le}
+use Rattle.std.proofs.lemmas.List.{drop_all, take_all, length-take-le}
 use Rattle.std.proofs.lemmas.Bool.{lt-ltb}
 use Rattle.std.specs.Prelude.{IfSome, nat_lt}
 use Rattle.off_io.specs.Told.{Told}
@@ -13,7 +13,7 @@ use Rattle.pcap_io.specs.declared.faults.CapFault.{CapFault}
 use Rattle.pcap_io.specs.declared.faults.InFault.{InFault}
 use Rattle.pcap_io.specs.declared.faults.InFault.TheVariants as faults
 use Rattle.pcap_io.specs.Capture.{Found, packet, ended, one_more, records_from}
-use Rattle.pcap_io.specs.Places.{EntersBody, found_at, IsRefusal, ReadsOn}
+use Rattle.pcap_io.specs.Places.{EntersBody, found_at, IsHead, IsRefusal, ReadsOn}
 use Rattle.pcap_io.specs.Reading.{GivesHead, RefusesHead, TakesHead}
 use Rattle.pcap_io.specs.Headers.{first_that_holds, head_refusals}
 use Rattle.pcap_io.specs.Lengths.{lengths_at}
@@ -171,7 +171,18 @@ needs_more : (old mid : Place) (used blocks need : ℕ) (head : RecHead) (bytes 
     → TakesHead old bytes left head → NeedsMore used blocks need old bytes left
 needs_more old mid used blocks need head bytes left enters is more takes =
     let some = announces old mid bytes left head takes enters (below_or (length left) head.captured) in
-    (head.captured, (some.0, (some.1, is, more, (take 16 bytes, sym (take-append-drop 16 bytes) ∙ ap (λ (l : List ℕ). take 16 bytes ++ l) (sym takes.rest)))))
+    let front = take 16 bytes in
+    let size : length front ≡ 16 = length-take-le 16 bytes takes.whole in
+    let again : take 16 front ≡ front = take_all 16 front (omega (arith, size)) in
+    let alone : TakesHead old front [] head = record {
+      whole = omega (arith, size);
+      lawful = subst (λ (l : List ℕ). first_that_holds (head_refusals old.file.order old.link old.number l) ≡ None) (sym again) takes.lawful;
+      fields = subst (λ (l : List ℕ). IsHead old l head) (sym again) takes.fields;
+      rest = sym (drop_all 16 front (omega (arith, size)));
+    } in
+    let here = announces old mid front [] head alone enters (below_or 0 head.captured) in
+    let split : bytes ≡ front ++ left = sym (take-append-drop 16 bytes) ∙ ap (λ (l : List ℕ). front ++ l) (sym takes.rest) in
+    (head.captured, (some.0, (some.1, is, more, (front, split), (front, split, here))))
 
 pub empty_given : (a b : Option (List ℕ)) (old mid : Place) (used blocks need : ℕ) (front : List ℕ) (found : Option RecHead) (head : RecHead) → found ≡ Some head → IfSome found (EntersBody old mid)
     → need ≡ used + need_of (head.captured - front_size old.link) → blocks < need

@@ -142,6 +142,15 @@ exceeds_so_far old mid used blocks need packets bytes rest left ethernet u befor
           omega (arith, is.1, n, u),
           is.2,
           (before.0 ++ is.3.0, before.1 ∙ ap (λ (l : List ℕ). before.0 ++ l) is.3.1 ∙ sym (append_assoc before.0 is.3.0 left)),
+          (
+            before.0 ++ is.4.0,
+            before.1 ∙ ap (λ (l : List ℕ). before.0 ++ l) is.4.1 ∙ sym (append_assoc before.0 is.4.0 left),
+            (
+              is.4.2.0,
+              (before.2 is.4.0).lengths ∙ ap (λ (l : List ℕ). map frame_length packets ++ l) is.4.2.1
+              ∙ sym (append_assoc (map frame_length packets) (len ∷ []) is.4.2.0),
+            ),
+          ),
         ),
       ),
     )

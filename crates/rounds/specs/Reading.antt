@@ -9,7 +9,7 @@ use Rattle.pcap_io.specs.Reading.{Loses}
 use Rattle.offload_model.specs.Need.{need_of, needed, round_need}
 use Rattle.gro.specs.declared.packet.Packet.{Packet as Held}
 use Rattle.gro.specs.Held.{packet_of}
-use Rattle.rounds.specs.Record.{in_front, Passes}
+use Rattle.rounds.specs.Record.{in_front, Passes, Announces}
 use Rattle.rounds.specs.declared.record.Stop.{Stop}
 use Rattle.rounds.specs.declared.record.Stop.TheVariants as stops
 use Rattle.rounds.specs.declared.round.RoundEnd.{RoundEnd}
@@ -19,10 +19,11 @@ use Rattle.rounds.specs.declared.round.RoundEnd.TheVariants as ends
 abbrev pub Holds : ℕ → Place → List Packet → List ℕ → List ℕ → Type 0
 Holds blocks old packets bytes left = (gone : List ℕ) × (bytes ≡ gone ++ left) × ((found_at old gone).packets ≡ packets) × (needed (lengths_at old gone) ≤ blocks)
 
--- behind whole records stands a lawful header, and with its record they need more than there are blocks
+-- Behind whole records stands a lawful header, and with its record they need more than there are blocks. The bytes that are gone say so.
 abbrev pub Exceeds : ℕ → ℕ → Place → List Packet → List ℕ → List ℕ → Type 0
 Exceeds blocks need old packets bytes left =
-    (len : ℕ) × ((more : List ℕ) × ((lengths_at old bytes ≡ map frame_length packets ++ len ∷ more) × (need ≡ round_need packets + need_of len) × (blocks < need) × Loses bytes left))
+    (len : ℕ) × ((more : List ℕ) × ((lengths_at old bytes ≡ map frame_length packets ++ len ∷ more) × (need ≡ round_need packets + need_of len) × (blocks < need) × Loses bytes left
+    × Announces old (map frame_length packets ++ len ∷ []) bytes left))
 
 abbrev pub GivesRound : ℕ → Place → Place → List Held → RoundEnd → List ℕ → List ℕ → Type 0
 GivesRound blocks old new round ends.Full bytes left = Passes old new (map packet_of round) bytes left

@@ -59,10 +59,15 @@ judged_at place bytes = map (λ len. len - front_size place.link) (lengths_at pl
 abbrev pub HoldsNone : ℕ → ℕ → Place → List ℕ → List ℕ → Type 0
 HoldsNone used blocks old bytes left = (gone : List ℕ) × (bytes ≡ gone ++ left) × ((found_at old gone).packets ≡ []) × (used + needed (judged_at old gone) ≤ blocks)
 
--- the header of a record is lawful, and with it the round needs more than there are blocks
+-- the bytes that are gone hold these lengths, and maybe others behind them
+abbrev pub Announces : Place → List ℕ → List ℕ → List ℕ → Type 0
+Announces place lens bytes left = (gone : List ℕ) × (bytes ≡ gone ++ left) × ((more : List ℕ) × (lengths_at place gone ≡ lens ++ more))
+
+-- The header of a record is lawful, and with it the round needs more than there are blocks. The bytes that are gone say so.
 abbrev pub NeedsMore : ℕ → ℕ → ℕ → Place → List ℕ → List ℕ → Type 0
 NeedsMore used blocks need place bytes left =
-    (len : ℕ) × ((more : List ℕ) × ((lengths_at place bytes ≡ len ∷ more) × (need ≡ used + need_of (len - front_size place.link)) × (blocks < need) × Loses bytes left))
+    (len : ℕ) × ((more : List ℕ) × ((lengths_at place bytes ≡ len ∷ more) × (need ≡ used + need_of (len - front_size place.link)) × (blocks < need) × Loses bytes left
+    × Announces place (len ∷ []) bytes left))
 
 -- one record, where `used` blocks are the round's already
 abbrev pub GivesRecord : ℕ → ℕ → Place → Place → List ℕ → Result Held Stop → List ℕ → List ℕ → Type 0
