@@ -7,8 +7,7 @@ use Rattle.std.proofs.lemmas.List.Sums.{sum_by-cons}
 use Rattle.maximal_runs.specs.Cut.{AllNeighbours, cut_of}
 use Rattle.maximal_runs.specs.Items.{first_number}
 use Rattle.pcap_io.specs.Capture.{Packet}
-use Rattle.pcap_io.specs.Laws.{frame_length}
-use Rattle.offload_model.specs.Need.{need_of, needed, round_need}
+use Rattle.offload_model.specs.Captured.{IsCaptured}
 use Rattle.offload_model.specs.Rounds.{is_queued, is_of, key_in, number_of, items_of}
 use Rattle.offload_model.specs.Tests.{is_mergeable}
 use Rattle.offload_model.specs.Written.{Options, window_of, windows_of, windows_by}
@@ -75,35 +74,31 @@ few_windows snap t (p ∷ ps) =
     one [] = omega arith
     one (b ∷ bytes) = omega arith
 
-few_bytes : (o : Options) (t : ℕ) (ps : List Packet) → sum_by (window_length o t) ps ≤ 2048 * round_need ps
-few_bytes o t [] = omega arith
-few_bytes o t (p ∷ ps) =
+few_bytes : (o : Options) (t : ℕ) (ps : List Packet) → AllByRecursion IsCaptured ps → sum_by (window_length o t) ps ≤ 262144 * length ps
+few_bytes o t [] each = omega arith
+few_bytes o t (p ∷ ps) each =
     let within : length (window_of o.snap t p.frame) ≤ length p.frame = omega (arith, length-take o.snap (drop (t * o.snap) p.frame), length-drop (t * o.snap) p.frame) in
-    omega (arith, sum_by-cons (window_length o t) p ps, within, few_bytes o t ps)
-
-few_packets : (ps : List Packet) → length ps ≤ round_need ps
-few_packets [] = omega arith
-few_packets (p ∷ ps) = omega (arith, few_packets ps)
+    let times : 262144 * (suc (length ps)) ≡ 262144 + 262144 * length ps = omega arith in
+    omega (arith, times, sum_by-cons (window_length o t) p ps, within, each.0.short, few_bytes o t ps each.1)
 
 -- ---- a round
 
 pub totals_are_few : TotalsAreFew
-totals_are_few o ps rising =
-    let need = round_need ps in
-    let all = few_packets ps in
+totals_are_few o ps captured =
+    let n = length ps in
     record {
-      queues = all_lanes (IsQueueWithin need) (λ q. queue_totals o q ps) (λ q.
+      queues = all_lanes (IsQueueWithin n) (λ q. queue_totals o q ps) (λ q.
           let few = length_filter (is_queued o.queues q) ps in
-          let items = few_items o.queues q ps rising in
+          let items = few_items o.queues q ps captured.rising in
           record {
-            records = omega (arith, all, few);
-            items = omega (arith, all, few, items);
-            merged = omega (arith, all, few, items, length_filter is_merged (items_of o.queues q ps));
-            returned = omega (arith, all, few);
+            records = omega (arith, few);
+            items = omega (arith, few, items);
+            merged = omega (arith, few, items, length_filter is_merged (items_of o.queues q ps));
+            returned = omega (arith, few);
           }) (range_with_len 0 o.queues);
-      taps = all_lanes (IsTapWithin (2048 * need)) (λ t. tap_totals o t ps) (λ t. record {
-        windows = omega (arith, all, few_windows o.snap t ps);
-        bytes = few_bytes o t ps;
+      taps = all_lanes (IsTapWithin (262144 * n)) (λ t. tap_totals o t ps) (λ t. record {
+        windows = omega (arith, few_windows o.snap t ps);
+        bytes = few_bytes o t ps captured.each;
       }) (range_with_len 0 o.taps);
     }
   where
@@ -127,12 +122,15 @@ queue_within m j (x ∷ xs) [] p q = all_of (IsQueueWithin m) (IsQueueWithin (m 
   merged = omega (arith, w.merged);
   returned = omega (arith, w.returned);
 }) p
-queue_within m j (x ∷ xs) (y ∷ ys) p q = (record {
-  records = omega (arith, p.0.records, q.0.records);
-  items = omega (arith, p.0.items, q.0.items);
-  merged = omega (arith, p.0.merged, q.0.merged);
-  returned = omega (arith, p.0.returned, q.0.returned);
-}, queue_within m j xs ys p.1 q.1)
+queue_within m j (x ∷ xs) (y ∷ ys) p q = (
+  record {
+    records = omega (arith, p.0.records, q.0.records);
+    items = omega (arith, p.0.items, q.0.items);
+    merged = omega (arith, p.0.merged, q.0.merged);
+    returned = omega (arith, p.0.returned, q.0.returned);
+  },
+  queue_within m j xs ys p.1 q.1,
+)
 
 tap_within : (m j : ℕ) (xs ys : List TapTotals) → AllByRecursion (IsTapWithin m) xs → AllByRecursion (IsTapWithin j) ys
     → AllByRecursion (IsTapWithin (m + j)) (each_plus tap_plus xs ys)

@@ -2,6 +2,7 @@
 use Rattle.std.proofs.Common.{◌≡◌, ◌≤◌, ◌<◌, ◌+◌, ◌*◌, ℕ, zero, suc, List, [], ◌∷◌, ◌++◌, length, map, take, drop, replicate, refl, sym, ap, ◌∙◌, subst, arith, length-append, append-nil, append_assoc, take-append-drop, length-drop}
 use Rattle.std.specs.List.{AllByRecursion, sum_by, range_with_len}
 use Rattle.std.proofs.lemmas.List.{length-take-le}
+use Rattle.std.proofs.lemmas.List.FromFn.{length-map-range_with_len}
 use Rattle.std.proofs.lemmas.List.Sums.{sum_by-cons}
 use Rattle.pcap_io.specs.Capture.{Packet}
 use Rattle.offload_model.specs.Rounds.{rounds_of}
@@ -10,7 +11,7 @@ use Rattle.offload_model.proofs.Rounding.{rounds_full, rounds_last}
 use Rattle.check_totals.specs.declared.totals.QueueTotals.{QueueTotals}
 use Rattle.check_totals.specs.declared.totals.TapTotals.{TapTotals}
 use Rattle.check_totals.specs.Counts.{Counts, queue_totals, tap_totals, round_totals, queue_sum, tap_sum, totals_of, queue_plus, tap_plus, each_plus, added, no_lanes, IsQueueWithin}
-use Rattle.check_totals.specs.Tallies.{TotalsByRound, TotalsGoByRound}
+use Rattle.check_totals.specs.Tallies.{TotalsByRound, TotalsGoByRound, LanesStay}
 use Rattle.check_totals.proofs.Adding.{plus_none, plus_assoc, mapped, plus_mapped}
 
 -- ---- records of numbers
@@ -189,4 +190,38 @@ within_more m n x le p = record {
   items = omega (arith, le, p.items);
   merged = omega (arith, le, p.merged);
   returned = omega (arith, le, p.returned);
+}
+
+-- ---- lanes
+
+length_plus : {A : Type 0} (plus : A → A → A) (xs ys : List A) → length xs ≡ length ys → length (each_plus plus xs ys) ≡ length ys
+length_plus plus [] ys same = refl
+length_plus plus (x ∷ xs) [] same = same
+length_plus plus (x ∷ xs) (y ∷ ys) same = ap suc (length_plus plus xs ys (omega (arith, same)))
+
+-- what changes nothing beside each element changes nothing
+plus_nothing : {A : Type 0} (plus : A → A → A) (z : A) (a n : ℕ) (xs : List A) → ((x : A) → plus x z ≡ x) → length xs ≡ n
+    → each_plus plus xs (map (λ q. z) (range_with_len a n)) ≡ xs
+plus_nothing plus z a zero [] law same = refl
+plus_nothing plus z a zero (x ∷ xs) law same = refl
+plus_nothing plus z a (suc n) [] law same = absurd (omega (arith, same))
+plus_nothing plus z a (suc n) (x ∷ xs) law same =
+    ap (λ l. plus x z ∷ l) (plus_nothing plus z (a + 1) n xs law (omega (arith, same))) ∙ ap (λ y. y ∷ xs) (law x)
+
+pub lanes_stay : LanesStay
+lanes_stay o = record {
+  of_round = λ ps. record {
+    queues = length-map-range_with_len (λ q. queue_totals o q ps) 0 o.queues;
+    taps = length-map-range_with_len (λ t. tap_totals o t ps) 0 o.taps;
+  };
+  of_all = λ ps. record {
+    queues = length-map-range_with_len (λ q. queue_sum (map (queue_totals o q) (rounds_of o.budget ps))) 0 o.queues;
+    taps = length-map-range_with_len (λ t. tap_sum (map (tap_totals o t) (rounds_of o.budget ps))) 0 o.taps;
+  };
+  of_sum = λ a b p q. record {
+    queues = length_plus queue_plus a.queues b.queues (p.queues ∙ sym q.queues) ∙ q.queues;
+    taps = length_plus tap_plus a.taps b.taps (p.taps ∙ sym q.taps) ∙ q.taps;
+  };
+  of_nothing = λ a p. same_counts _ _ _ _ (plus_nothing queue_plus (queue_sum []) 0 o.queues a.queues queue_none_behind p.queues)
+      (plus_nothing tap_plus (tap_sum []) 0 o.taps a.taps tap_none_behind p.taps);
 }

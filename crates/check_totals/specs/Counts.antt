@@ -114,3 +114,8 @@ pub record IsWithin (most most_of_tap : ℕ) (c : Counts) : Type 0 where
 pub record HasSameLanes (a b : Counts) : Type 0 where
   pub queues : length a.queues ≡ length b.queues
   pub taps : length a.taps ≡ length b.taps
+
+-- as many as the options say
+pub record HasLanes (o : Options) (c : Counts) : Type 0 where
+  pub queues : length c.queues ≡ o.queues
+  pub taps : length c.taps ≡ o.taps

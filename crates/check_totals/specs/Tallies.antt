@@ -2,18 +2,18 @@
 use Rattle.std.specs.Prelude.{◌≡◌, ℕ, ◌+◌, ◌*◌, ◌<◌, ◌≤◌, None, Option, List, [], ◌∷◌, ◌++◌, length, map}
 use Rattle.std.specs.Io.KnownBytes.{Appends}
 use Rattle.off_io.specs.Content.{AppendsFront}
-use Rattle.maximal_runs.specs.Cut.{AllNeighbours}
 use Rattle.pcap_io.specs.declared.place.Place.{Place}
 use Rattle.pcap_io.specs.declared.faults.CapFault.{CapFault}
 use Rattle.pcap_io.specs.Capture.{Packet, ended}
 use Rattle.pcap_io.specs.Places.{found_at}
 use Rattle.pcap_io.specs.Lengths.{lengths_at}
 use Rattle.pcap_io.specs.Laws.{frame_length}
+use Rattle.offload_model.specs.Captured.{AreCaptured}
 use Rattle.offload_model.specs.Need.{need_of, needed, round_need}
 use Rattle.offload_model.specs.Passing.{Stop, AtRound, Ending, Stopped, ReadFault, WriteFault, NoMemory, stop_of, IsLeft, IsNoRound, Passes}
 use Rattle.offload_model.specs.Steps.{stop_behind, ending_behind, in_front}
 use Rattle.offload_model.specs.Written.{Options}
-use Rattle.check_totals.specs.Counts.{Counts, round_totals, totals_of, added, no_lanes, IsWithin}
+use Rattle.check_totals.specs.Counts.{Counts, round_totals, totals_of, added, no_lanes, IsWithin, HasLanes}
 use Rattle.check_totals.specs.Lines.{check_lines}
 use Rattle.check_totals.specs.Checking.{Tally, counting, checking}
 
@@ -86,14 +86,25 @@ TotalsGoByRound = (options : Options) (ps : List Packet) → 0 < options.budget 
 
 -- ---- how few
 
--- a round of rising numbers has no more items than packets, so none of its numbers exceeds the blocks that it needs, or their bytes
+-- A round has no more items than packets, nor more windows of a tap; and no tap reads more bytes than the packets have.
 abbrev pub TotalsAreFew : Type 0
-TotalsAreFew = (options : Options) (ps : List Packet) → AllNeighbours (λ p q. p.number < q.number) ps
-    → IsWithin (round_need ps) (2048 * round_need ps) (round_totals options ps)
+TotalsAreFew = (options : Options) (ps : List Packet) → AreCaptured ps → IsWithin (length ps) (262144 * length ps) (round_totals options ps)
 
 -- numbers that are added add their bounds
 abbrev pub BoundsAdd : Type 0
 BoundsAdd = (a b : Counts) (m n j k : ℕ) → IsWithin m n a → IsWithin j k b → IsWithin (m + j) (n + k) (added a b)
+
+-- ---- lanes
+
+-- there are as many as the options say, and of as many the totals of no packet add nothing
+pub record LanesAre (options : Options) : Type 0 where
+  pub of_round : (ps : List Packet) → HasLanes options (round_totals options ps)
+  pub of_all : (ps : List Packet) → HasLanes options (totals_of options ps)
+  pub of_sum : (a b : Counts) → HasLanes options a → HasLanes options b → HasLanes options (added a b)
+  pub of_nothing : (a : Counts) → HasLanes options a → added a (totals_of options []) ≡ a
+
+abbrev pub LanesStay : Type 0
+LanesStay = (options : Options) → LanesAre options
 
 -- ---- lines
 

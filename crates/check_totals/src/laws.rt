@@ -1,5 +1,5 @@
 //! How counting goes on, and that the lines tell what was counted.
-ghost use Rattle.check_totals.specs.Tallies.{BoundsAdd, CountingGoesByRound, TotalsAddUp, TotalsAreFew, TotalsAreTold, TotalsGoByRound};
+ghost use Rattle.check_totals.specs.Tallies.{BoundsAdd, CountingGoesByRound, LanesStay, TotalsAddUp, TotalsAreFew, TotalsAreTold, TotalsGoByRound};
 
 /// Counting goes round by round: one that is full and fits is counted before the others, and the last one is counted as the capture
 /// ends, where no record exceeds the blocks.
@@ -22,7 +22,7 @@ pub fn totals_are_told()
     ensures law { TotalsAreTold }
 {}
 
-/// A round's numbers don't exceed the blocks that it needs, and those of taps not their bytes.
+/// A round's numbers don't exceed its packets, and those of taps not the bytes that these may have.
 pub fn totals_are_few()
     ensures law { TotalsAreFew }
 {}
@@ -30,4 +30,9 @@ pub fn totals_are_few()
 /// Where totals are added, their bounds are.
 pub fn bounds_add()
     ensures law { BoundsAdd }
+{}
+
+/// There are as many lanes as the options say, and of as many the totals of no packet add nothing.
+pub fn lanes_stay()
+    ensures law { LanesStay }
 {}

@@ -20,7 +20,7 @@ mod totals;
 mod write;
 
 pub use laws::{
-    bounds_add, counting_goes_by_round, totals_add_up, totals_are_few, totals_are_told,
+    bounds_add, counting_goes_by_round, lanes_stay, totals_add_up, totals_are_few, totals_are_told,
     totals_go_by_round,
 };
 pub use totals::{QueueTotals, TapTotals, Totals};

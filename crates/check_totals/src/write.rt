@@ -146,7 +146,7 @@ fn write_taps<K: Sink>(sink: &mut K, taps: &[TapTotals]) -> Result<(), WriteFaul
 // The sums over all queues.
 fn sum_of(queues: &[QueueTotals]) -> QueueTotals
     requires lanes { length queues.now ≤ 2 ^ 12 }
-    requires within { AllByRecursion (IsQueueWithin (2 ^ 48)) queues.now }
+    requires within { AllByRecursion (IsQueueWithin (2 ^ 50)) queues.now }
     ensures { result ≡ queue_sum queues.now }
 {
     let mut sum = QueueTotals {
@@ -167,7 +167,7 @@ fn write_lanes<K: Sink>(
     taps: &[TapTotals],
 ) -> Result<(), WriteFault>
     requires lanes { length queues.now ≤ 2 ^ 12 }
-    requires within { AllByRecursion (IsQueueWithin (2 ^ 48)) queues.now }
+    requires within { AllByRecursion (IsQueueWithin (2 ^ 50)) queues.now }
     ensures ok { OnOk result (Appends (K.held sink.old) (K.held sink.new) (check_lines (record { queues = queues.now; taps = taps.now }))) }
     ensures err { OnErr result (AppendsFront (K.held sink.old) (K.held sink.new) (check_lines (record { queues = queues.now; taps = taps.now }))) }
     ensures cause { HasCause (K.faults sink.old) (K.faults sink.new) result }
@@ -182,7 +182,7 @@ fn write_lanes<K: Sink>(
 /// `WriteFault` only where the sink's count of faults rose; a front of the lines was then written.
 pub fn write_totals<K: Sink>(sink: &mut K, totals: &Totals) -> Result<(), WriteFault>
     requires lanes { length totals.now.queues ≤ 2 ^ 12 }
-    requires within { AllByRecursion (IsQueueWithin (2 ^ 48)) totals.now.queues }
+    requires within { AllByRecursion (IsQueueWithin (2 ^ 50)) totals.now.queues }
     ensures ok { OnOk result (Appends (K.held sink.old) (K.held sink.new) (check_lines totals.now)) }
     ensures err { OnErr result (AppendsFront (K.held sink.old) (K.held sink.new) (check_lines totals.now)) }
     ensures cause { HasCause (K.faults sink.old) (K.faults sink.new) result }

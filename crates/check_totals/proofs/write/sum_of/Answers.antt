@@ -7,7 +7,7 @@ use Rattle.check_totals.proofs.write.sum_of.Goals as goal
 
 pub plus-sum-requires : goal.plus-sum-requires
 plus-sum-requires c =
-    let n = 2 ^ 48 in
+    let n = 2 ^ 50 in
     let xs = c.args.queues.now in
     let front = take c.queues.queue-index xs in
     record {
