@@ -1,0 +1,8 @@
+pub mod Bytes
+pub mod Same
+pub mod Keys
+pub mod Chain
+pub mod Segments
+pub mod Flows
+pub mod Items
+pub mod Texts

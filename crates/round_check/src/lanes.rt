@@ -1,0 +1,107 @@
+//! All lanes of a round.
+ghost use Rattle.std.specs.Prelude.{◌≡◌, ◌<◌, ◌≤◌, ◌^◌, ℕ, length, map, IfOk, IfSome};
+ghost use Rattle.std.specs.List.{AllByRecursion, range_with_len};
+ghost use Rattle.offload_model.specs.Captured.{IsCaptured, AreCaptured};
+ghost use Rattle.offload_model.specs.Rounds.{items_of};
+ghost use Rattle.offload_model.specs.Written.{Options};
+ghost use Rattle.gro.specs.Table.{AreReady};
+ghost use Rattle.taps.specs.Clones.{packet_of};
+ghost use Rattle.round_work.specs.Packets.{RiseFrom};
+ghost use Rattle.round_work.specs.Work.{AreMerged, AreWatched};
+ghost use Rattle.check_totals.specs.Counts.{round_totals};
+ghost use Rattle.round_check.specs.Flows.{AreFlows};
+ghost use Rattle.round_check.specs.Items.{Remains, runs_from, totals_of_runs};
+ghost use Rattle.round_check.specs.Texts.{text_bytes, IsShort, tap_totals_of, totals_of_texts};
+
+use crate::flows::Flows;
+use crate::items::check_items;
+use check_totals::{QueueTotals, TapTotals, Totals};
+use round_work::{Lanes, QueueLane, TapLane};
+use std::alloc::{AllocError, Global};
+use taps::{TapClone, TapTexts};
+
+// The totals of all queues.
+fn check_queues(
+    alloc: Global,
+    lanes: &[QueueLane],
+    kept: &[TapClone],
+    flows: &mut Flows,
+) -> Result<Vec<QueueTotals>, AllocError>
+    requires captured { AreCaptured (map packet_of kept.now) }
+    requires few { length kept.now ≤ 4096 }
+    requires merged { AreMerged (length lanes.now) (map packet_of kept.now) lanes.now }
+    requires ready { AllByRecursion (λ l. AreReady l.items.items) lanes.now }
+    requires flows { AreFlows (map packet_of kept.now) flows.old }
+    requires left { Remains (map packet_of kept.now) flows.old (runs_from (length lanes.now) (map packet_of kept.now) 0 (length lanes.now)) }
+    ensures totals { IfOk result (λ totals. totals.items ≡ map (λ q. totals_of_runs (items_of (length lanes.now) q (map packet_of kept.now))) (range_with_len 0 (length lanes.now))) }
+{
+    let mut totals = Vec::with_capacity(alloc, lanes.len())?;
+    for i in 0..lanes.len() {
+        totals.push_reserved(check_items(&lanes[i].items, kept, flows));
+    }
+    Ok(totals)
+}
+
+// How many windows a tap has read, and their bytes.
+fn count_texts(texts: &TapTexts) -> TapTotals
+    requires few { text_bytes texts.now < 2 ^ 62 }
+    ensures totals { result ≡ tap_totals_of texts.now }
+{
+    let mut bytes = 0u64;
+    for i in 0..texts.len() {
+        bytes += texts.get(i).bytes.len() as u64;
+    }
+    TapTotals {
+        windows: texts.len() as u64,
+        bytes,
+    }
+}
+
+// The totals of a tap.
+fn check_tap(lane: &TapLane) -> TapTotals
+    requires short { IfSome lane.now.texts IsShort }
+    ensures totals { result ≡ totals_of_texts lane.now.texts }
+{
+    match &lane.texts {
+        Some(texts) => count_texts(texts),
+        None => TapTotals {
+            windows: 0,
+            bytes: 0,
+        },
+    }
+}
+
+// The totals of all taps.
+fn check_taps(alloc: Global, lanes: &[TapLane]) -> Result<Vec<TapTotals>, AllocError>
+    requires short { AllByRecursion (λ l. IfSome l.texts IsShort) lanes.now }
+    ensures totals { IfOk result (λ totals. totals.items ≡ map (λ l. totals_of_texts l.texts) lanes.now) }
+{
+    let mut totals = Vec::with_capacity(alloc, lanes.len())?;
+    for i in 0..lanes.len() {
+        totals.push_reserved(check_tap(&lanes[i]));
+    }
+    Ok(totals)
+}
+
+/// Compares what the lanes of a round came to with the packets that went in, of which `kept` are clones.
+///
+/// The packets that an item stands for, its own or its segments, are compared one by one with the packets of its flow in their
+/// places, byte for byte and in original length: an item is cut by its headers and by the places of its payload alone, so no
+/// buffer changes and no payload is copied. `AllocError` where there is no memory for the totals or for the places of the flows.
+pub fn check_lanes(alloc: Global, lanes: &Lanes, kept: &[TapClone]) -> Result<Totals, AllocError>
+    requires captured { AllByRecursion IsCaptured (map packet_of kept.now) }
+    requires rising { (k : ℕ) × RiseFrom k (map packet_of kept.now) }
+    requires few { length kept.now ≤ 4096 }
+    requires queues { (1 ≤ length lanes.now.queues.items) × (length lanes.now.queues.items ≤ 64) }
+    requires merged { AreMerged (length lanes.now.queues.items) (map packet_of kept.now) lanes.now.queues.items }
+    requires ready { AllByRecursion (λ l. AreReady l.items.items) lanes.now.queues.items }
+    requires windows { (snap : ℕ) × AreWatched snap (length lanes.now.taps.items) (map packet_of kept.now) lanes.now.taps.items }
+    ensures totals { (o : Options) → o.queues ≡ length lanes.now.queues.items → o.taps ≡ length lanes.now.taps.items
+        → AreWatched o.snap (length lanes.now.taps.items) (map packet_of kept.now) lanes.now.taps.items
+        → IfOk result (λ totals. totals ≡ round_totals o (map packet_of kept.now)) }
+{
+    let mut flows = Flows::of(alloc, kept)?;
+    let queues = check_queues(alloc, &lanes.queues, kept, &mut flows)?;
+    let taps = check_taps(alloc, &lanes.taps)?;
+    Ok(Totals { queues, taps })
+}
