@@ -1,0 +1,141 @@
+//! The segments of a merged frame, compared with packets of which one has another byte or another length. The bytes come from a
+//! program that was written from the formats alone.
+ghost use Rattle.std.specs.Prelude.{◌≡◌, ◌≤◌, length};
+ghost use Rattle.skb.specs.SkbState.{head_size, buffer_size};
+
+use crate::counting::count_packets;
+use crate::flow_key::FlowKey;
+use crate::flows::Flows;
+use frags::{Outcomes, Pieces};
+use gro::Item;
+use gso::check_super;
+use pcap_io::OffHead;
+use raw_block::Sole;
+use skb::Skb;
+use std::alloc::Global;
+use std::process::Abort;
+use taps::TapClone;
+
+// A merged frame of two TCP segments over IPv4, m 4; and the two.
+const MERGED: [u8; 60] = [
+    0x02, 0x00, 0x00, 0x00, 0x00, 0x02, 0x02, 0x00, 0x00, 0x00, 0x00, 0x01, 0x08, 0x00, 0x45, 0x00,
+    0x00, 0x2e, 0x00, 0x64, 0x40, 0x00, 0x40, 0x06, 0x26, 0x64, 0x0a, 0x00, 0x00, 0x01, 0x0a, 0x00,
+    0x00, 0x02, 0x9c, 0x40, 0x13, 0x89, 0x00, 0x00, 0x03, 0xe8, 0x00, 0x00, 0x00, 0x01, 0x50, 0x18,
+    0x01, 0x00, 0xbc, 0xe4, 0x00, 0x00, 0x61, 0x62, 0x63, 0x64, 0x65, 0x66,
+];
+
+const FIRST: [u8; 58] = [
+    0x02, 0x00, 0x00, 0x00, 0x00, 0x02, 0x02, 0x00, 0x00, 0x00, 0x00, 0x01, 0x08, 0x00, 0x45, 0x00,
+    0x00, 0x2c, 0x00, 0x64, 0x40, 0x00, 0x40, 0x06, 0x26, 0x66, 0x0a, 0x00, 0x00, 0x01, 0x0a, 0x00,
+    0x00, 0x02, 0x9c, 0x40, 0x13, 0x89, 0x00, 0x00, 0x03, 0xe8, 0x00, 0x00, 0x00, 0x01, 0x50, 0x10,
+    0x01, 0x00, 0x22, 0x55, 0x00, 0x00, 0x61, 0x62, 0x63, 0x64,
+];
+
+const SECOND: [u8; 56] = [
+    0x02, 0x00, 0x00, 0x00, 0x00, 0x02, 0x02, 0x00, 0x00, 0x00, 0x00, 0x01, 0x08, 0x00, 0x45, 0x00,
+    0x00, 0x2a, 0x00, 0x65, 0x40, 0x00, 0x40, 0x06, 0x26, 0x67, 0x0a, 0x00, 0x00, 0x01, 0x0a, 0x00,
+    0x00, 0x02, 0x9c, 0x40, 0x13, 0x89, 0x00, 0x00, 0x03, 0xec, 0x00, 0x00, 0x00, 0x01, 0x50, 0x18,
+    0x01, 0x00, 0x81, 0xab, 0x00, 0x00, 0x65, 0x66,
+];
+
+// A buffer of these bytes.
+fn buffer(rt: &impl Abort, alloc: Global, bytes: &[u8]) -> Skb {
+    let block = Sole::new(alloc).expect(rt, "block");
+    let mut skb = Skb::new(block, 64, 64, Pieces::new(alloc));
+    skb.put_tail(bytes).expect(rt, "room");
+    skb
+}
+
+fn clone_of(rt: &impl Abort, alloc: Global, bytes: &[u8], original: u32, number: u32) -> TapClone {
+    TapClone {
+        skb: buffer(rt, alloc, bytes),
+        sec: 1,
+        frac: 2,
+        original,
+        number,
+    }
+}
+
+// All blocks of a buffer are given back.
+fn spend(rt: &impl Abort, skb: Skb) {
+    let mut outcomes = Outcomes::new(skb.allocator());
+    outcomes.reserve(skb.count()).expect(rt, "places");
+    skb.release(&mut outcomes);
+    while let Some(_sole) = outcomes.pop_sole() {}
+    outcomes.settle();
+}
+
+fn spend_all(rt: &impl Abort, kept: Vec<TapClone>) {
+    let mut kept = kept;
+    while let Some(clone) = kept.pop() {
+        let TapClone {
+            skb,
+            sec: _,
+            frac: _,
+            original: _,
+            number: _,
+        } = clone;
+        spend(rt, skb);
+    }
+    kept.destroy_empty();
+}
+
+// In how many places the segments of the merged frame are these packets, of which the first one is right.
+fn compared(rt: &impl Abort, alloc: Global, second: &[u8], original: u32) -> u64 {
+    let mut kept = Vec::with_capacity(alloc, 2).expect(rt, "places");
+    kept.push_reserved(clone_of(rt, alloc, &FIRST, 58, 0));
+    kept.push_reserved(clone_of(rt, alloc, second, original, 1));
+    let flows = Flows::of(alloc, &kept).expect(rt, "places");
+    let item = Item {
+        skb: buffer(rt, alloc, &MERGED),
+        number: 0,
+        sec: 1,
+        frac: 2,
+        original: 60,
+        n: 2,
+        m: 4,
+        modes: 0,
+        outcomes: Outcomes::new(alloc),
+    };
+    let head = OffHead {
+        version: 1,
+        kind: 1,
+        n: 2,
+        m: 4,
+        modes: 0,
+        lane: 0,
+        number: 0,
+    };
+    assert!(rt; item.skb.len().min(200) <= item.skb.head().len());
+    let Ok(plan) = check_super(&head, &item.skb, 72) else {
+        panic!(rt; "the record is lawful")
+    };
+    let mut at = flows.place(&FlowKey::of(&item.skb));
+    let count = count_packets(&plan, &item, &kept, &flows.next, &mut at);
+    let Item {
+        skb,
+        outcomes,
+        number: _,
+        sec: _,
+        frac: _,
+        original: _,
+        n: _,
+        m: _,
+        modes: _,
+    } = item;
+    spend(rt, skb);
+    outcomes.settle();
+    spend_all(rt, kept);
+    count
+}
+
+#[test]
+fn segments_are_compared(rt: HostRuntime) {
+    let alloc = rt.alloc();
+    assert_eq!(rt; compared(&rt, alloc, &SECOND, 56), 2);
+    let mut other = SECOND;
+    other[55] = 0x67;
+    assert_eq!(rt; compared(&rt, alloc, &other, 56), 1);
+    assert_eq!(rt; compared(&rt, alloc, &SECOND, 57), 1);
+    assert_eq!(rt; compared(&rt, alloc, &FIRST, 58), 1);
+}
