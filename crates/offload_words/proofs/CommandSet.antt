@@ -12,6 +12,8 @@ use Rattle.clap.specs.declared.error.ErrorKind.TheVariants.{OutOfMemory}
 use Rattle.clap.proofs.OnLiterals.{clap_on_literals}
 use Rattle.clap.proofs.WalkLemmas.{both}
 use Rattle.offload_words.specs.Numbers.{number_in}
+use Rattle.offload_words.specs.Merge.{IsInRange, merge_options_in}
+use Rattle.offload_words.specs.declared.merge.MergeOptions.{MergeOptions}
 use Rattle.offload_words.specs.Commands.{HasRanges, command_by, command_named, command_of, command_unless, offload_app}
 use Rattle.offload_words.specs.declared.words.Command.{Command}
 use Rattle.offload_words.specs.declared.words.Command.TheVariants.{Merge, Segment, Make}
@@ -81,21 +83,47 @@ number_there s words id limit low high within e fit =
     let b = both _ _ e in
     number_read s.rules id limit low high (rows_after s.rules [] words) within b.0 fit (level_has s words id b.1)
 
-merge_made : (name : Text) (rows : List Row) (budget blocks : ℕ) → name ≡ codes "merge" → number_in 4294967295 (codes "budget") rows ≡ Some budget
-    → number_in 4294967295 (codes "blocks") rows ≡ Some blocks → command_named name rows ≡ Some (Merge (record { budget = budget; blocks = blocks }))
-unfolding command_named
-merge_made name rows budget blocks e f g = rw (e, f, g) refl
+-- what stands at the options of merge
+abbrev HasMerge : List Row → MergeOptions → Type 0
+HasMerge rows o =
+    (number_in 4294967295 (codes "queues") rows ≡ Some o.queues) × (number_in 4294967295 (codes "budget") rows ≡ Some o.budget)
+    × (number_in 4294967295 (codes "blocks") rows ≡ Some o.blocks) × (number_in 4294967295 (codes "taps") rows ≡ Some o.taps)
+    × (number_in 4294967295 (codes "snap") rows ≡ Some o.snap)
 
-merge_level : (s : Shape) → s.args_override_self ≡ false → Each IsValueOrHelp s.rules → has_number (codes "budget") 1 4096 s.rules ≡ true
-    → has_number (codes "blocks") 1 65536 s.rules ≡ true → s.name ≡ codes "merge" → Gives IsMade s
-merge_level s off ones has_budget has_blocks name = λ words word e no_help is.
-    let fit = level_fits s words false [] off ones e in
-    let budget = number_there s words (codes "budget") 4294967295 1 4096 (omega arith) has_budget fit in
-    let blocks = number_there s words (codes "blocks") 4294967295 1 65536 (omega arith) has_blocks fit in (
-      Merge (record { budget = budget.0; blocks = blocks.0 }),
-      merge_made s.name (rows_after s.rules [] words) budget.0 blocks.0 name budget.1 blocks.1,
-      (budget.2, budget.3, (blocks.2, blocks.3)),
+merge_read : (rows : List Row) (o : MergeOptions) → HasMerge rows o → merge_options_in rows ≡ Some o
+merge_read rows o (q, b, n, t, s) = rw (q, b, n, t, s) refl
+
+-- the rules have the options of merge
+abbrev has_merge : List Rule → Bool
+has_merge c = has_number (codes "queues") 1 64 c && (has_number (codes "budget") 1 4096 c && (has_number (codes "blocks") 1 65536 c
+    && (has_number (codes "taps") 0 8 c && has_number (codes "snap") 1 2048 c)))
+
+merge_there : (s : Shape) (words : List Text) → has_merge s.rules ≡ true → AllFit s.rules (rows_after s.rules [] words)
+    → (o : MergeOptions) × (merge_options_in (rows_after s.rules [] words) ≡ Some o) × IsInRange o
+merge_there s words has fit =
+    let has_queues = both _ _ has in
+    let has_budget = both _ _ has_queues.1 in
+    let has_blocks = both _ _ has_budget.1 in
+    let has_taps = both _ _ has_blocks.1 in
+    let queues = number_there s words (codes "queues") 4294967295 1 64 (omega arith) has_queues.0 fit in
+    let budget = number_there s words (codes "budget") 4294967295 1 4096 (omega arith) has_budget.0 fit in
+    let blocks = number_there s words (codes "blocks") 4294967295 1 65536 (omega arith) has_blocks.0 fit in
+    let taps = number_there s words (codes "taps") 4294967295 0 8 (omega arith) has_taps.0 fit in
+    let snap = number_there s words (codes "snap") 4294967295 1 2048 (omega arith) has_taps.1 fit in
+    let o : MergeOptions = record { queues = queues.0; budget = budget.0; blocks = blocks.0; taps = taps.0; snap = snap.0 } in (
+      o,
+      merge_read (rows_after s.rules [] words) o (queues.1, budget.1, blocks.1, taps.1, snap.1),
+      (queues.2, queues.3, budget.2, budget.3, (blocks.2, blocks.3), taps.3, snap.2, snap.3),
     )
+
+merge_made : (name : Text) (rows : List Row) (o : MergeOptions) → name ≡ codes "merge" → merge_options_in rows ≡ Some o → command_named name rows ≡ Some (Merge o)
+unfolding command_named
+merge_made name rows o e f = rw (e, f) refl
+
+merge_level : (s : Shape) → s.args_override_self ≡ false → Each IsValueOrHelp s.rules → has_merge s.rules ≡ true → s.name ≡ codes "merge" → Gives IsMade s
+merge_level s off ones has name = λ words word e no_help is.
+    let m = merge_there s words has (level_fits s words false [] off ones e) in
+    (Merge m.0, merge_made s.name (rows_after s.rules [] words) m.0 name m.1, m.2)
 
 segment_made : (name : Text) (rows : List Row) (blocks : ℕ) → name ≡ codes "segment" → number_in 4294967295 (codes "blocks") rows ≡ Some blocks
     → command_named name rows ≡ Some (Segment (record { blocks = blocks }))
@@ -129,7 +157,7 @@ commands = built offload_app
 -- each of its subcommands gives a command, or is the call for help that clap adds
 each_gives : Each (Gives IsMade) commands.subs
 each_gives = (
-  merge_level _ refl ((refl, refl, inl (refl, refl)), ((refl, refl, inl (refl, refl)), ((refl, refl, inr refl), tt))) refl refl refl,
+  merge_level _ refl ((refl, refl, inl (refl, refl)), ((refl, refl, inl (refl, refl)), ((refl, refl, inl (refl, refl)), ((refl, refl, inl (refl, refl)), ((refl, refl, inl (refl, refl)), ((refl, refl, inr refl), tt)))))) refl refl,
   (
     segment_level _ refl ((refl, refl, inl (refl, refl)), ((refl, refl, inr refl), tt)) refl refl,
     (

@@ -8,7 +8,7 @@
 //!
 //! ```text
 //! let command = parse_words(alloc, words)?;   // offload merge --budget 16
-//! // Command::Merge(MergeOptions { budget: 16, blocks: 8384 })
+//! // Command::Merge(MergeOptions { queues: 1, budget: 16, blocks: 8384, taps: 0, snap: 64 })
 //! ```
 #![tactic(auto)]
 

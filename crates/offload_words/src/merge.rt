@@ -3,19 +3,41 @@
 ghost use Rattle.std.specs.Prelude.{◌≡◌, IfOk, false};
 ghost use Rattle.clap.specs.Words.{app_of, found_of, rows_of};
 ghost use Rattle.offload_words.specs.Commands.{has_globals_of};
-ghost use Rattle.offload_words.specs.Merge.{merge_app, merge_options_in};
+ghost use Rattle.offload_words.specs.Merge.{merge_app, merge_options_in, with_merge_rules};
 
-use crate::numbers::{blocks_option, number_at, number_option};
+use crate::numbers::{number_at, with_blocks, with_number};
 use clap::ArgMatches;
 use std::alloc::{AllocError, Global};
 
 /// The options of `merge`.
 #[derive(Clone, Copy, Debug, PartialEq, Eq)]
 pub struct MergeOptions {
+    /// The queues that packets go to by their flow keys, each worked on its own: 1 to 64.
+    pub queues: u32,
     /// The most records that are merged with one another, a round: 1 to 4096.
     pub budget: u32,
     /// The blocks of 2048 bytes that the records of a round are read into: 1 to 65536.
     pub blocks: u32,
+    /// The taps, each of which reads a window of every record: 0 to 8.
+    pub taps: u32,
+    /// The most bytes of a window: 1 to 2048.
+    pub snap: u32,
+}
+
+/// A subcommand with the options of `merge`.
+fn with_merge_options<'a>(
+    alloc: Global,
+    app: clap::Command<'a>,
+) -> Result<clap::Command<'a>, AllocError>
+    requires { has_globals_of app ≡ false }
+    ensures app { IfOk result (λ c. app_of c ≡ with_merge_rules (app_of app.entry)) }
+    ensures local { IfOk result (λ c. has_globals_of c ≡ false) }
+{
+    let queues = with_number(alloc, app, "queues", 1, 64, "1")?;
+    let budget = with_number(alloc, queues, "budget", 1, 4096, "64")?;
+    let blocks = with_blocks(alloc, budget)?;
+    let taps = with_number(alloc, blocks, "taps", 0, 8, "0")?;
+    with_number(alloc, taps, "snap", 1, 2048, "64")
 }
 
 /// What clap is told of `merge`.
@@ -23,16 +45,23 @@ pub(crate) fn merge_subcommand<'a>(alloc: Global) -> Result<clap::Command<'a>, A
     ensures app { IfOk result (λ c. app_of c ≡ merge_app) }
     ensures local { IfOk result (λ c. has_globals_of c ≡ false) }
 {
-    clap::Command::new(alloc, "merge")
-        .arg(number_option(alloc, "budget", 1, 4096, "64"))?
-        .arg(blocks_option(alloc))
+    with_merge_options(alloc, clap::Command::new(alloc, "merge"))
 }
 
 /// The options among the matches of `merge`.
 pub(crate) fn merge_options(matches: &ArgMatches<'_>) -> Option<MergeOptions>
     ensures { result ≡ merge_options_in (rows_of (found_of matches.now)) }
 {
+    let queues = number_at(matches, "queues")?;
     let budget = number_at(matches, "budget")?;
     let blocks = number_at(matches, "blocks")?;
-    Some(MergeOptions { budget, blocks })
+    let taps = number_at(matches, "taps")?;
+    let snap = number_at(matches, "snap")?;
+    Some(MergeOptions {
+        queues,
+        budget,
+        blocks,
+        taps,
+        snap,
+    })
 }

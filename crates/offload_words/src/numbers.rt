@@ -1,13 +1,14 @@
 //! Options that take one number: told to clap, and read from its matches.
 
-ghost use Rattle.std.specs.Prelude.{◌≡◌, false};
-ghost use Rattle.clap.specs.Words.{rule_of, found_of, rows_of};
+ghost use Rattle.std.specs.Prelude.{◌≡◌, IfOk, false};
+ghost use Rattle.clap.specs.Words.{app_of, found_of, rows_of, rule_of, with_rule};
+ghost use Rattle.offload_words.specs.Commands.{has_globals_of};
 ghost use Rattle.offload_words.specs.Numbers.{number_rule, number_in};
 ghost use Rattle.offload_words.specs.Blocks.{blocks_rule};
 
 use clap::builder::ValueParser;
 use clap::{Arg, ArgAction, ArgMatches};
-use std::alloc::Global;
+use std::alloc::{AllocError, Global};
 
 /// The option `--id`, which takes a number from `low` to `high`.
 pub(crate) fn number_option<'a>(
@@ -27,12 +28,32 @@ pub(crate) fn number_option<'a>(
         .default_value(default)
 }
 
-/// The option `--blocks`. By default there are as many as 64 records of the greatest length need.
-pub(crate) fn blocks_option<'a>(alloc: Global) -> Arg<'a>
-    ensures rule { rule_of result ≡ blocks_rule }
-    ensures local { result.global ≡ false }
+/// The subcommand with the option `--id` too.
+pub(crate) fn with_number<'a>(
+    alloc: Global,
+    app: clap::Command<'a>,
+    id: &'a str,
+    low: u64,
+    high: u64,
+    default: &'a str,
+) -> Result<clap::Command<'a>, AllocError>
+    requires { has_globals_of app ≡ false }
+    ensures app { IfOk result (λ c. app_of c ≡ with_rule (app_of app.entry) (number_rule id.entry.now low high default.entry.now)) }
+    ensures local { IfOk result (λ c. has_globals_of c ≡ false) }
 {
-    number_option(alloc, "blocks", 1, 65536, "8384")
+    app.arg(number_option(alloc, id, low, high, default))
+}
+
+/// The subcommand with the option `--blocks` too. By default there are as many as 64 records of the greatest length need.
+pub(crate) fn with_blocks<'a>(
+    alloc: Global,
+    app: clap::Command<'a>,
+) -> Result<clap::Command<'a>, AllocError>
+    requires { has_globals_of app ≡ false }
+    ensures app { IfOk result (λ c. app_of c ≡ with_rule (app_of app.entry) blocks_rule) }
+    ensures local { IfOk result (λ c. has_globals_of c ≡ false) }
+{
+    with_number(alloc, app, "blocks", 1, 65536, "8384")
 }
 
 /// The number at the option `--id`, of 64 bits.

@@ -5,7 +5,7 @@ ghost use Rattle.clap.specs.Words.{app_of, found_of, rows_of};
 ghost use Rattle.offload_words.specs.Commands.{has_globals_of};
 ghost use Rattle.offload_words.specs.Segment.{segment_app, segment_options_in};
 
-use crate::numbers::{blocks_option, number_at};
+use crate::numbers::{number_at, with_blocks};
 use clap::ArgMatches;
 use std::alloc::{AllocError, Global};
 
@@ -21,7 +21,7 @@ pub(crate) fn segment_subcommand<'a>(alloc: Global) -> Result<clap::Command<'a>,
     ensures app { IfOk result (λ c. app_of c ≡ segment_app) }
     ensures local { IfOk result (λ c. has_globals_of c ≡ false) }
 {
-    clap::Command::new(alloc, "segment").arg(blocks_option(alloc))
+    with_blocks(alloc, clap::Command::new(alloc, "segment"))
 }
 
 /// The options among the matches of `segment`.
