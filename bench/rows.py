@@ -186,10 +186,16 @@ def groups(walk):
     found.append(Group("merging by flows and layouts", [merges(f"merge, {name}", name) for name in layouts], ("merge, 1,514 bytes",)))
     options = [("--budget", str(budget)) for budget in (16, 256, 1024)]
     # A round of 4,096 frames needs 12,288 blocks.
-    options += [("--budget", "4096", "--blocks", "16384"), ("--taps", "1"), ("--queues", "4"), ("--blocks", "384"), ("--blocks", "65536")]
+    options += [("--budget", "4096", "--blocks", "16384"), ("--blocks", "384"), ("--blocks", "65536")]
     runs = [merges("merge", "1,514 bytes")]
     runs += [merges(" ".join(("merge", *words)), "1,514 bytes", *words) for words in options if takes("merge", *words)]
     found.append(Group("merging by options, 1,514-byte frames", runs, ("merge",)))
+    # Of four queues the sample's flows have one, and those that are made of it have all.
+    lanes = {"1,514 bytes": (("--taps", "1"), ("--taps", "8"), ("--queues", "4")), "4,096 flows by 8": (("--queues", "4"),)}
+    for name, own in lanes.items():
+        lines = [budget + lane for budget in ((), ("--budget", "1024")) for lane in ((), *own) if takes("merge", *lane)]
+        runs = [merges(" ".join(("merge", *words)), name, *words) for words in lines]
+        found.append(Group(f"merging over queues and taps, {name}", runs, ("merge", "merge --budget 1024")))
     for name in ("merged 1,514 bytes", "merged one flow"):
         runs = beside(walk, name)[:2] + [Run("offload segment", [PROGRAM, "segment"], name)]
         found.append(Group(f"segmenting what merge wrote of {name.removeprefix('merged ')}", runs, BESIDE[:1]))

@@ -1,7 +1,8 @@
 // For `fail-alloc`: loaded before the C library, it refuses the one growth of memory whose number, from 1, stands in REFUSE_AT, and makes
-// the file REFUSE_TOLD then.
+// the file REFUSE_TOLD then. The growths of all threads are counted together, as they come.
 #include <errno.h>
 #include <fcntl.h>
+#include <stdatomic.h>
 #include <stddef.h>
 #include <stdlib.h>
 #include <unistd.h>
@@ -11,7 +12,7 @@ extern void *__libc_calloc(size_t count, size_t size);
 extern void *__libc_realloc(void *old, size_t size);
 extern void *__libc_memalign(size_t align, size_t size);
 
-static long left = -1;
+static atomic_long left = -1;
 static const char *told;
 
 __attribute__((constructor)) static void begin(void) {
@@ -21,7 +22,7 @@ __attribute__((constructor)) static void begin(void) {
 }
 
 static int is_refused(void) {
-  if (left <= 0 || --left > 0) return 0;
+  if (left <= 0 || atomic_fetch_sub(&left, 1) != 1) return 0;
   if (told) close(open(told, O_CREAT | O_WRONLY, 0600));
   errno = ENOMEM;
   return 1;
