@@ -1,8 +1,8 @@
 -- Every flow comes back of a whole output.
-use Rattle.std.proofs.Common.{◌≡◌, ℕ, ◌≤◌, List, [], ◌++◌, take, drop, refl, sym, ap, ◌∙◌, subst, arith, Option, None, Some, Bool, if◌then◌else◌}
+use Rattle.std.proofs.Common.{◌≡◌, ◌⊎◌, inl, inr, ℕ, ◌+◌, ◌*◌, ◌^◌, ◌≤◌, List, [], ◌∷◌, length, length-append, take, drop, refl, sym, ap, ◌∙◌, subst, arith, Option, None, Some, if◌then◌else◌}
 use Rattle.std.specs.Prelude.{is_some}
+use Rattle.std.specs.List.{flat_map}
 use Rattle.std.proofs.lemmas.Option.{none-some}
-use Rattle.pcap_io.specs.declared.faults.CapFault.{CapFault}
 use Rattle.pcap_io.specs.declared.faults.CapKind.{CapKind}
 use Rattle.pcap_io.specs.declared.heads.FileHead.{FileHead}
 use Rattle.pcap_io.specs.declared.heads.Link.TheVariants.{Ethernet, Offload}
@@ -17,11 +17,13 @@ use Rattle.offload_model.specs.Need.{exceeded_at, found_before}
 use Rattle.offload_model.specs.Passing.{Stop, Nowhere, AtFault, AtRound, Passed, stop_of, merging, merging_whole, behind_head}
 use Rattle.offload_model.specs.PassingLaws.{written_of}
 use Rattle.offload_model.specs.Tested.{segmented_of}
-use Rattle.offload_model.specs.Written.{Options, written}
+use Rattle.offload_model.specs.Written.{Options, record_bytes, records_of, written}
 use Rattle.offload_model.proofs.Captured.{take_small, drop_small, number_small, captures_are_captured}
 use Rattle.offload_model.proofs.ComesBack.{captures_come_back, records_are_few}
 use Rattle.offload_model.proofs.Passings.{blocks_suffice}
-use Rattle.offload_c.specs.Answers.{options, Gives, FlowsOf}
+use Rattle.offload_c.specs.Answers.{Gives, FlowsOf}
+use Rattle.offload_c.proofs.Sizes.{size, records_long}
+use Rattle.offload_c.proofs.Totals.{total}
 use Rattle.offload_c.specs.declared.memory.Outcome.{Outcome}
 use Rattle.offload_c.specs.declared.memory.Outcome.TheVariants.{Whole, Refused, Empty, NoMemory}
 
@@ -40,28 +42,42 @@ no_round : (budget : ℕ) (found : Found) (exceeded : Option (ℕ × ℕ)) → s
 no_round budget found None e = refl
 no_round budget found (Some at) e = absurd (none-some (AtRound at.0 at.1) (sym (ap stopped_at e)))
 
-flows : (blocks budget : ℕ) (given : List ℕ) → 1 ≤ budget → InBytes given → (merging_whole blocks (options budget) given).stop ≡ Nowhere
-    → BringsBack (reads Ethernet given).packets (reads Ethernet (segmented_of (merging_whole blocks (options budget) given).output))
-flows blocks budget given some bytes nowhere =
-    let o : Options = options budget in
+-- an output of at most 2^36 bytes has at most 2^32 records, since each has a header of 16
+headers_less : (rs : List Packet) → length rs * 16 ≤ total size rs
+headers_less [] = omega arith
+headers_less (r ∷ rs) = omega (arith, headers_less rs)
+
+few_records : (head : FileHead) (o : Options) (ps : List Packet) (output : List ℕ) → AreLawful o → AreCaptured ps → output ≡ written head o ps
+    → (o.taps ≡ 0) ⊎ (length output ≤ 2 ^ 36) → length (records_of o ps) ≤ 2 ^ 32
+few_records head o ps output lawful captured is (inl taps) = records_are_few o ps lawful captured taps
+few_records head o ps output lawful captured is (inr short) =
+    let rs : List Packet = records_of o ps in
+    let long : length output ≡ length (file_bytes head Offload) + length (flat_map (record_bytes head.order) rs)
+    = ap length is ∙ length-append (file_bytes head Offload) (flat_map (record_bytes head.order) rs) in
+    omega (arith, short, long, records_long head.order rs, headers_less rs)
+
+flows : (blocks : ℕ) (o : Options) (given : List ℕ) → AreLawful o → InBytes given → (merging_whole blocks o given).stop ≡ Nowhere
+    → (o.taps ≡ 0) ⊎ (length (merging_whole blocks o given).output ≤ 2 ^ 36)
+    → BringsBack (reads Ethernet given).packets (reads Ethernet (segmented_of (merging_whole blocks o given).output))
+flows blocks o given options_are bytes nowhere few =
     let front : List ℕ = take 24 given in
     let head : FileHead = file_head front in
     let place = first_place head Ethernet 0 in
     let ps : List Packet = (reads Ethernet given).packets in
     let heads = header_is (first_that_holds (file_refusals Ethernet front)) (file_bytes head Offload) (merging blocks o place (drop 24 given)) nowhere in
-    let none : exceeded_at blocks budget place (drop 24 given) ≡ None = no_round budget (found_at place (drop 24 given)) (exceeded_at blocks budget place (drop 24 given)) heads.1 in
-    let whole = ((blocks_suffice blocks o given).0 none).output in
+    let none : exceeded_at blocks o.budget place (drop 24 given) ≡ None = no_round o.budget (found_at place (drop 24 given)) (exceeded_at blocks o.budget place (drop 24 given)) heads.1 in
     let lawful : written_of o given ≡ written head o ps = ap (λ (r : Option CapKind). if is_some r then [] else written head o ps) heads.0 in
+    let whole : (merging_whole blocks o given).output ≡ written head o ps = ((blocks_suffice blocks o given).0 none).output ∙ lawful in
     let small : InBytes front = take_small 24 given bytes in
     let captured : AreCaptured ps = captures_are_captured given bytes in
-    let options_are : AreLawful o = record { budget = some; some = omega arith; queues = omega arith; taps = omega arith } in
-    subst (λ xs. BringsBack ps (reads Ethernet (segmented_of xs))) (sym (whole ∙ lawful))
+    subst (λ xs. BringsBack ps (reads Ethernet (segmented_of xs))) (sym whole)
     (captures_come_back head o ps (number_small (order_of front) (drop 8 front) (drop_small 8 front small)) (number_small (order_of front) (drop 12 front) (drop_small 12 front small))
-    options_are captured (records_are_few o ps options_are captured refl))
+    options_are captured (few_records head o ps (merging_whole blocks o given).output options_are captured whole few))
 
-pub flows_of : (blocks budget : ℕ) (given : List ℕ) (outcome : Outcome) → 1 ≤ budget → InBytes given → Gives (merging_whole blocks (options budget) given) outcome → FlowsOf given outcome
-flows_of blocks budget given (Whole bytes) some small gives =
-    subst (λ xs. BringsBack (reads Ethernet given).packets (reads Ethernet (segmented_of xs))) (sym gives.1) (flows blocks budget given some small gives.0)
-flows_of blocks budget given (Refused bytes) some small gives = tt
-flows_of blocks budget given (Empty bytes) some small gives = tt
-flows_of blocks budget given NoMemory some small gives = tt
+pub flows_of : (blocks : ℕ) (o : Options) (given : List ℕ) (outcome : Outcome) → AreLawful o → InBytes given → Gives (merging_whole blocks o given) outcome → FlowsOf o.taps given outcome
+flows_of blocks o given (Whole bytes) lawful small gives = λ few.
+    subst (λ xs. BringsBack (reads Ethernet given).packets (reads Ethernet (segmented_of xs))) (sym gives.1)
+    (flows blocks o given lawful small gives.0 (subst (λ (xs : List ℕ). (o.taps ≡ 0) ⊎ (length xs ≤ 2 ^ 36)) gives.1 few))
+flows_of blocks o given (Refused bytes) lawful small gives = tt
+flows_of blocks o given (Empty bytes) lawful small gives = tt
+flows_of blocks o given NoMemory lawful small gives = tt

@@ -1,5 +1,5 @@
 -- A whole capture: its file header, and the records behind it.
-use Rattle.std.proofs.Common.{◌≡◌, ℕ, List, take, drop, refl, sym, subst, Option, None, Some, Err, Ok, Bool, true}
+use Rattle.std.proofs.Common.{◌≡◌, ℕ, List, drop, refl, sym, subst, Option, None, Some, Err, Ok, true}
 use Rattle.std.specs.Io.KnownBytes.{Appends}
 use Rattle.off_io.specs.Content.{AppendsFront, SaysFlushed}
 use Rattle.off_io.specs.Told.{Told}

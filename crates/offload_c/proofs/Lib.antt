@@ -2,3 +2,8 @@ mod Headers
 mod Records
 mod Flows
 mod Outcomes
+mod Totals
+mod Sizes
+mod MergedBound
+mod SegmentedBound
+mod Rooms

@@ -1,6 +1,6 @@
 -- Records that are segmented one after the other, and how that ends.
-use Rattle.std.proofs.Common.{◌≡◌, ℕ, ◌+◌, List, [], ◌++◌, take, drop, refl, sym, ap, ◌∙◌, subst, append_assoc, append-nil, Option, None, Some, Result, Err, Ok}
-use Rattle.std.specs.Io.KnownBytes.{Appends, Keeps}
+use Rattle.std.proofs.Common.{◌≡◌, ℕ, ◌+◌, List, [], ◌++◌, refl, sym, ap, ◌∙◌, subst, append_assoc, Option, None, Result, Err, Ok}
+use Rattle.std.specs.Io.KnownBytes.{Appends}
 use Rattle.std.proofs.KnownBytes.{Appends-nil, Appends-trans, Appends-kept}
 use Rattle.off_io.specs.Content.{AppendsFront}
 use Rattle.off_io.specs.Told.{Told}
@@ -22,8 +22,8 @@ use Rattle.rounds.specs.declared.segment.Moved.{Moved}
 use Rattle.rounds.specs.declared.segment.Moved.TheVariants.{One, End}
 use Rattle.rounds.specs.declared.segment.SegFault.{SegFault}
 use Rattle.rounds.specs.declared.segment.SegFault.TheVariants as segments
-use Rattle.rounds.specs.Segmenting.{ending_of, Moves}
-use Rattle.offload_c.specs.Ends.{IsSegFault, IsEndingFor, EndsAs}
+use Rattle.rounds.specs.Segmenting.{Moves}
+use Rattle.offload_c.specs.Ends.{IsSegFault, EndsAs}
 use Rattle.offload_c.proofs.Headers.{no_file, head_failed, behind_head}
 
 -- the bytes that are gone are k records, whatever follows them, and this was written of them

@@ -1,18 +1,13 @@
 -- What the answers of the exports say.
-use Rattle.std.specs.Prelude.{◌≡◌, ℕ, ◌≤◌, ◌<◌, List, take, drop, length, ⊤}
+use Rattle.std.specs.Prelude.{◌≡◌, ◌⊎◌, ℕ, ◌^◌, ◌≤◌, ◌<◌, List, take, drop, length, ⊤}
 use Rattle.pcap_io.specs.declared.faults.CapFault.{CapFault}
 use Rattle.pcap_io.specs.declared.heads.Link.TheVariants.{Ethernet}
 use Rattle.pcap_io.specs.Capture.{reads}
 use Rattle.offload_model.specs.CaptureLaws.{BringsBack}
 use Rattle.offload_model.specs.Passing.{Stop, Nowhere, AtFault, AtRound, Passed}
 use Rattle.offload_model.specs.Tested.{segmented_of}
-use Rattle.offload_model.specs.Written.{Options}
 use Rattle.offload_c.specs.declared.memory.Outcome.{Outcome}
 use Rattle.offload_c.specs.declared.memory.Outcome.TheVariants.{Whole, Refused, Empty, NoMemory}
-
--- how a capture is merged: in rounds of `budget` records, in one queue, with no tap
-abbrev pub options : ℕ → Options
-options budget = record { budget = budget; queues = 1; taps = 0; snap = 64 }
 
 -- ---- the caller's buffer
 
@@ -44,7 +39,12 @@ Gives passed (Refused bytes) = IsAtFault passed.stop × (bytes.items ≡ passed.
 Gives passed (Empty bytes) = IsAtRound passed.stop × (bytes.items ≡ passed.output)
 Gives passed NoMemory = ⊤
 
--- of a whole output every flow comes back
-abbrev pub FlowsOf : List ℕ → Outcome → Type 0
-FlowsOf given (Whole bytes) = BringsBack (reads Ethernet given).packets (reads Ethernet (segmented_of bytes.items))
-FlowsOf given _ = ⊤
+-- Segmented again the output brings every flow back. With taps its records may be more than can be read again, and no output of this
+-- length has so many.
+abbrev pub FlowsBack : ℕ → List ℕ → List ℕ → Type 0
+FlowsBack taps given output =
+    (taps ≡ 0) ⊎ (length output ≤ 2 ^ 36) → BringsBack (reads Ethernet given).packets (reads Ethernet (segmented_of output))
+
+abbrev pub FlowsOf : ℕ → List ℕ → Outcome → Type 0
+FlowsOf taps given (Whole bytes) = FlowsBack taps given bytes.items
+FlowsOf taps given _ = ⊤

@@ -1,15 +1,14 @@
 //! What C calls.
-ghost use Rattle.std.specs.Prelude.{◌≡◌, ◌≤◌, ◌<◌, ◌⊎◌, ◌↔◌, take};
-ghost use Rattle.pcap_io.specs.declared.heads.Link.TheVariants.{Ethernet};
-ghost use Rattle.pcap_io.specs.Capture.{reads};
+ghost use Rattle.std.specs.Prelude.{◌≡◌, ◌≢◌, ℕ, ◌≤◌, ◌<◌, ◌⊎◌, ◌↔◌, length, take};
 ghost use Rattle.frame_layout.specs.Key.{key_of, queue_of as queue_of_key};
-ghost use Rattle.offload_model.specs.CaptureLaws.{BringsBack};
 ghost use Rattle.offload_model.specs.Passing.{Nowhere, merging_whole, segmenting_whole};
-ghost use Rattle.offload_model.specs.Tested.{segmented_of};
-ghost use Rattle.offload_c.specs.Answers.{Fills, IsShort, IsAtFault, IsAtRound, options};
+ghost use Rattle.offload_c.specs.Bounds.{packets_read, packets_cut, merge_bound, segment_bound};
+ghost use Rattle.offload_c.specs.Answers.{Fills, IsShort, IsAtFault, IsAtRound, FlowsBack};
+ghost use Rattle.offload_c.specs.Options.{AreInRange, model_of};
 
 use crate::memory::Outcome;
 use crate::merging::merge_bytes;
+use crate::options::MergeOptions;
 use crate::segmenting::segment_bytes;
 use frame_layout::{key, queue_of};
 use std::alloc::Global;
@@ -41,39 +40,36 @@ fn deliver(bytes: &[u8], code: u32, output: &mut [u8], count: &mut usize) -> u32
     code
 }
 
-/// Merges a capture of Ethernet frames (classic pcap) in memory, in rounds of `budget` records (1 to 4096) over a pool of `blocks`
-/// blocks of 2048 bytes (1 to 65536). A frame of n bytes needs (n + 2111) / 2048 + 2 of them while its round lasts.
+/// Merges a capture of Ethernet frames (classic pcap) in memory. A frame of n bytes needs (n + 2111) / 2048 + 2 of the blocks while its
+/// round lasts. All queues and taps are worked in the thread that calls.
 ///
 /// `*count` is the length of the output, which stands at the front of `output` where it has room. 0: the capture was read to its
 /// end. 2: a number is out of its range. 3: the capture is refused; the output of the records before stands there. 4: a round needs
 /// more blocks than there are; the output of the rounds before stands there. 7: there was no memory. 9: the output is longer than
-/// `output`.
+/// `output`, which can't be where that has [`crate::offload_merge_bound`] bytes.
 #[unsafe(no_mangle)]
 pub extern "C" fn offload_merge(
     alloc: Global,
-    budget: u32,
-    blocks: u32,
+    options: &MergeOptions,
     capture: &[u8],
     output: &mut [u8],
     count: &mut usize,
 ) -> u32
-    ensures usage { result ≡ 2 ↔ (((budget ≡ 0) ⊎ (4096 < budget)) ⊎ ((blocks ≡ 0) ⊎ (65536 < blocks))) }
-    ensures ok { result ≡ 0 → ((merging_whole blocks (options budget) capture.now).stop ≡ Nowhere) × Fills output.old output.new count.new (merging_whole blocks (options budget) capture.now).output }
-    ensures malformed { result ≡ 3 → IsAtFault (merging_whole blocks (options budget) capture.now).stop × Fills output.old output.new count.new (merging_whole blocks (options budget) capture.now).output }
-    ensures empty { result ≡ 4 → IsAtRound (merging_whole blocks (options budget) capture.now).stop × Fills output.old output.new count.new (merging_whole blocks (options budget) capture.now).output }
-    ensures flows { result ≡ 0 → BringsBack (reads Ethernet capture.now).packets (reads Ethernet (segmented_of (take count.new output.new))) }
-    ensures short { result ≡ 9 → IsShort output.old output.new count.new (merging_whole blocks (options budget) capture.now).output }
+    ensures usage { result ≡ 2 ↔ (AreInRange options.now → ⊥) }
+    ensures ok { result ≡ 0 → ((merging_whole options.now.blocks (model_of options.now) capture.now).stop ≡ Nowhere) × Fills output.old output.new count.new (merging_whole options.now.blocks (model_of options.now) capture.now).output }
+    ensures malformed { result ≡ 3 → IsAtFault (merging_whole options.now.blocks (model_of options.now) capture.now).stop × Fills output.old output.new count.new (merging_whole options.now.blocks (model_of options.now) capture.now).output }
+    ensures empty { result ≡ 4 → IsAtRound (merging_whole options.now.blocks (model_of options.now) capture.now).stop × Fills output.old output.new count.new (merging_whole options.now.blocks (model_of options.now) capture.now).output }
+    ensures flows { result ≡ 0 → FlowsBack options.now.taps capture.now (take count.new output.new) }
+    ensures short { result ≡ 9 → IsShort output.old output.new count.new (merging_whole options.now.blocks (model_of options.now) capture.now).output }
+    ensures room { (records : ℕ) → length (packets_read capture.now) ≤ records → merge_bound (length capture.now) records options.now.taps options.now.snap ≤ length output.old → result ≢ 9 }
     ensures codes { (result ≡ 0) ⊎ ((result ≡ 2) ⊎ ((result ≡ 3) ⊎ ((result ≡ 4) ⊎ ((result ≡ 7) ⊎ (result ≡ 9))))) }
     ensures untouched { (result ≡ 2) ⊎ (result ≡ 7) → (output.new ≡ output.old) × (count.new ≡ 0) }
 {
     *count = 0;
-    if budget == 0 || budget > 4096 {
+    if !options.are_in_range() {
         return USAGE;
     }
-    if blocks == 0 || blocks > 65536 {
-        return USAGE;
-    }
-    match merge_bytes(alloc, budget, blocks, capture) {
+    match merge_bytes(alloc, options, capture) {
         Outcome::Whole(bytes) => deliver(&bytes, OK, output, count),
         Outcome::Refused(bytes) => deliver(&bytes, MALFORMED, output, count),
         Outcome::Empty(bytes) => deliver(&bytes, POOL_EMPTY, output, count),
@@ -84,7 +80,8 @@ pub extern "C" fn offload_merge(
 /// Cuts an offload capture in memory, as [`offload_merge`] makes it, back into the packets that its records stand for, each record
 /// in a pool of `blocks` blocks of 2048 bytes (1 to 65536). A record whose frame has n bytes needs (n + 2111) / 2048 + 2 of them.
 ///
-/// The answers are those of [`offload_merge`]; a record that isn't lawful ends the capture too.
+/// The answers are those of [`offload_merge`]; a record that isn't lawful ends the capture too. [`crate::offload_segment_bound`]
+/// bytes suffice.
 #[unsafe(no_mangle)]
 pub extern "C" fn offload_segment(
     alloc: Global,
@@ -98,6 +95,7 @@ pub extern "C" fn offload_segment(
     ensures malformed { result ≡ 3 → IsAtFault (segmenting_whole blocks capture.now).stop × Fills output.old output.new count.new (segmenting_whole blocks capture.now).output }
     ensures empty { result ≡ 4 → IsAtRound (segmenting_whole blocks capture.now).stop × Fills output.old output.new count.new (segmenting_whole blocks capture.now).output }
     ensures short { result ≡ 9 → IsShort output.old output.new count.new (segmenting_whole blocks capture.now).output }
+    ensures room { (packets : ℕ) → length (packets_cut capture.now) ≤ packets → segment_bound (length capture.now) packets ≤ length output.old → result ≢ 9 }
     ensures codes { (result ≡ 0) ⊎ ((result ≡ 2) ⊎ ((result ≡ 3) ⊎ ((result ≡ 4) ⊎ ((result ≡ 7) ⊎ (result ≡ 9))))) }
     ensures untouched { (result ≡ 2) ⊎ (result ≡ 7) → (output.new ≡ output.old) × (count.new ≡ 0) }
 {

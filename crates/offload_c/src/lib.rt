@@ -7,19 +7,25 @@
 //!
 //! - `ok`, `malformed`, `empty`: which bytes stand at the front of `output`, and that the model of the command stops nowhere, at a
 //!   fault of the capture, or at a round that needs more blocks than there are. The rest of `output` is as it was.
-//! - `flows` of `offload_merge`: segmenting the output brings back each flow of the capture, packet by packet.
-//! - `short`: `output` is as it was, and `count` is the length of the whole output.
+//! - `flows` of `offload_merge`: segmenting the output brings back each flow of the capture, packet by packet; where taps wrote windows
+//!   too, of an output of at most 2^36 bytes, whose records can be read again.
+//! - `short`: `output` is as it was, and `count` is the length of the whole output. `room`: it isn't too short where it has as many
+//!   bytes as [`offload_merge_bound`] or [`offload_segment_bound`] says.
 //! - `usage`: exactly where a number is out of its range. `untouched`: then, and where there is no memory, nothing was written.
 //! - `codes`: there are no other answers.
 //!
 //! Each call makes its own pool, works on the caller's thread alone, and keeps nothing.
 #![tactic(auto)]
 
+mod bounds;
 mod exports;
 mod memory;
 mod merging;
+mod options;
 mod segmenting;
 #[cfg(test)]
 mod tests;
 
+pub use bounds::{merged_fits, offload_merge_bound, offload_segment_bound, segmented_fits};
 pub use exports::{offload_merge, offload_queue, offload_segment};
+pub use options::MergeOptions;

@@ -1,14 +1,16 @@
 //! Merges a capture in memory.
-ghost use Rattle.std.specs.Prelude.{◌≡◌, ◌≤◌};
+ghost use Rattle.std.specs.Prelude.{◌≡◌};
 ghost use Rattle.off_io.specs.Told.{Told};
 ghost use Rattle.pcap_io.specs.declared.heads.Link.TheVariants.{Ethernet};
 ghost use Rattle.pcap_io.specs.Places.{first_place};
 ghost use Rattle.offload_model.specs.Passing.{merging, merging_whole, Passes};
 ghost use Rattle.rounds.specs.Merging.{ending_of, options_of};
-ghost use Rattle.offload_c.specs.Answers.{Gives, FlowsOf, options};
+ghost use Rattle.offload_c.specs.Answers.{Gives, FlowsOf};
+ghost use Rattle.offload_c.specs.Options.{AreInRange, model_of};
 ghost use Rattle.offload_c.specs.Ends.{IsMergeFault, IsOutcomeOf};
 
 use crate::memory::{LentSource, Outcome, grown_sink};
+use crate::options::MergeOptions;
 use off_io::{NoGate, Sink, Source, WriteFault};
 use pcap_io::{CaptureReader, FileHead, InFault, Link, take_file, write_file_head};
 use rounds::{MergeEnd, Rounds};
@@ -35,7 +37,7 @@ fn merge_from<S: Source, K: Sink>(
     ensures given { Told (S.left source.old) (S.left source.new) (Passes (merging rounds.old.blocks (options_of rounds.old) (first_place file Ethernet 0)) (K.held sink.old) (K.held sink.new) (ending_of result)) }
 {
     let mut reader = CaptureReader::after_file(source, file, Link::Ethernet);
-    rounds.merge_all(&mut reader, &file, sink, &NoGate)
+    rounds.merge_all_alone(&mut reader, &file, sink, &NoGate)
 }
 
 // Merges a whole capture.
@@ -65,14 +67,21 @@ fn outcome_of(end: MergeEnd, bytes: Vec<u8>) -> Outcome
     }
 }
 
-/// Merges a capture in memory, in rounds of `budget` records over a pool of `blocks` blocks that is made here.
-pub fn merge_bytes(alloc: Global, budget: u32, blocks: u32, capture: &[u8]) -> Outcome
-    requires budget { (1 ≤ budget) × (budget ≤ 4096) }
-    requires blocks { (1 ≤ blocks) × (blocks ≤ 65536) }
-    ensures gives { Gives (merging_whole blocks (options budget) capture.now) result }
-    ensures flows { FlowsOf capture.now result }
+/// Merges a capture in memory, over a pool of blocks that is made here.
+pub fn merge_bytes(alloc: Global, options: &MergeOptions, capture: &[u8]) -> Outcome
+    requires range { AreInRange options.now }
+    ensures gives { Gives (merging_whole options.now.blocks (model_of options.now) capture.now) result }
+    ensures flows { FlowsOf options.now.taps capture.now result }
 {
-    let Ok(mut rounds) = Rounds::make(alloc, blocks, budget) else {
+    let Ok(mut rounds) = Rounds::make(
+        alloc,
+        options.blocks,
+        options.budget,
+        options.queues,
+        options.taps,
+        options.snap,
+        false,
+    ) else {
         return Outcome::NoMemory;
     };
     let Ok(mut sink) = grown_sink(alloc, capture.len()) else {
