@@ -4,7 +4,7 @@
  * is broken the behaviour is undefined.
  *
  *  - A pointer and the length after it name that many bytes, which can be read (const) or written. The pointer isn't NULL, also at
- *    length 0; nor is `count`.
+ *    length 0; nor are `options` and `count`.
  *  - What is written (`output`, `*count`) overlaps nothing else that is passed.
  *  - While a call runs nobody else writes what was passed to it, or reads what it writes.
  *  - malloc, realloc and free are of one allocator, and malloc aligns to 16.
@@ -33,18 +33,46 @@ enum offload_status {
     OFFLOAD_NO_ROOM = 9     /* the output is longer than `output`, which is as it was; *count is the output's length */
 };
 
-/* Blocks of 2048 bytes with which no round of a lawful capture exceeds the pool: 131 for each record of it. */
-#define OFFLOAD_ENOUGH_BLOCKS 8384u /* rounds of 64 records */
+/* How much room suffices, so that no call answers OFFLOAD_NO_ROOM; SIZE_MAX where that is more than a size_t holds. */
 
-/* Merges a capture of Ethernet frames (classic pcap, link type 1) to one of link type 147, in rounds of `budget` records (1 to 4096),
- * over `blocks` blocks of 2048 bytes (1 to 65536). These are taken of malloc at each call, which costs the more time the more they are.
- * A frame of n bytes needs (n + 2111) / 2048 + 2 of them while its round lasts. Where the blocks suffice the bytes are those that
- * `offload merge --budget N` writes. They are mostly fewer than the capture's; where nothing was merged, 12 more for each record. */
-uint32_t offload_merge(uint32_t budget, uint32_t blocks, const uint8_t *capture, size_t capture_length,
+/* For offload_merge of a capture of this length with at most `records` records: 12 bytes more for each of them, and for each tap and record
+ * 28 and at most `snap`, where all windows have no more bytes than the capture. A number of records that isn't known may be too large, as
+ * SIZE_MAX: no more are counted than there is room for, which comes to 7/4 of the capture at most where there is no tap. */
+size_t offload_merge_bound(size_t capture_length, size_t records, uint32_t taps, uint32_t snap);
+
+/* For offload_segment of a capture of this length whose records stand for at most `packets` packets, as many as were merged: 216 bytes
+ * more for each of them, a record's header and the 200 bytes of headers that a frame has at most. Where the number isn't known, at most
+ * one a byte is counted. */
+size_t offload_segment_bound(size_t capture_length, size_t packets);
+
+/* How many blocks of 2048 bytes a frame of n bytes needs while its round lasts; and with how many no round of 64 records exceeds the pool,
+ * whatever the capture: 131 for each record. A call takes its blocks of malloc and clears them, some 130 ns for each, so it asks for no more
+ * than it needs: who knows that no frame is longer than n asks for budget * OFFLOAD_BLOCKS_OF(n), 192 in the place of 8384 for 64 frames of
+ * 1514. Several bursts laid out as one capture share the pool. */
+#define OFFLOAD_BLOCKS_OF(n) (((n) + 2111u) / 2048u + 2u)
+#define OFFLOAD_ENOUGH_BLOCKS 8384u
+
+/* How a capture is merged. Each number has to be within its range, also where it says nothing, as `snap` with no tap. */
+struct offload_options {
+    uint32_t budget; /* records to a round, 1 to 4096 */
+    uint32_t blocks; /* blocks of 2048 bytes for a round, 1 to 65536 */
+    uint32_t queues; /* receive queues that a round's flows are spread over, 1 to 64 */
+    uint32_t taps;   /* taps that read each frame, 0 to 8 */
+    uint32_t snap;   /* bytes of a frame that each tap reads, 1 to 2048: tap t those from t * snap on */
+};
+
+/* Rounds of 64 records in one queue, with no tap, over as many blocks as suffice: struct offload_options options = OFFLOAD_DEFAULTS; */
+#define OFFLOAD_DEFAULTS {64u, OFFLOAD_ENOUGH_BLOCKS, 1u, 0u, 64u}
+
+/* Merges a capture of Ethernet frames (classic pcap, link type 1) to one of link type 147: round by round, queue by queue the merged records,
+ * and then tap by tap the windows. Where the blocks suffice the bytes are those that `offload merge` writes with the same options. The
+ * bytes are mostly fewer than the capture's. All is done in the thread that calls. */
+uint32_t offload_merge(const struct offload_options *options, const uint8_t *capture, size_t capture_length,
                        uint8_t *output, size_t output_length, size_t *count);
 
 /* Cuts a capture of link type 147 back into the packets that its records stand for, a capture of link type 1. Each record is a round of
- * its own, over `blocks` blocks (1 to 65536): 131 suffice for every lawful one. The bytes are those that `offload segment` writes. */
+ * its own, over `blocks` blocks (1 to 65536): 131 suffice for every lawful one, and OFFLOAD_BLOCKS_OF(n) where no merged frame is longer than n.
+ * The bytes are those that `offload segment` writes. */
 uint32_t offload_segment(uint32_t blocks, const uint8_t *capture, size_t capture_length,
                          uint8_t *output, size_t output_length, size_t *count);
 
