@@ -38,6 +38,16 @@ const SECOND: [u8; 56] = [
     0x01, 0x00, 0x81, 0xab, 0x00, 0x00, 0x65, 0x66,
 ];
 
+const HEAD: OffHead = OffHead {
+    version: 1,
+    kind: 1,
+    n: 2,
+    m: 4,
+    modes: 0,
+    lane: 0,
+    number: 0,
+};
+
 // A buffer of these bytes.
 fn buffer(rt: &impl Abort, alloc: Global, bytes: &[u8]) -> Skb {
     let block = Sole::new(alloc).expect(rt, "block");
@@ -80,6 +90,26 @@ fn spend_all(rt: &impl Abort, kept: Vec<TapClone>) {
     kept.destroy_empty();
 }
 
+// The item and the packets are given back.
+fn end(rt: &impl Abort, item: Item, kept: Vec<TapClone>) {
+    let Item {
+        skb,
+        outcomes,
+        number: _,
+        sec: _,
+        frac: _,
+        original: _,
+        n: _,
+        m: _,
+        modes: _,
+    } = item;
+    spend(rt, skb);
+    let mut outcomes = outcomes;
+    while let Some(_sole) = outcomes.pop_sole() {}
+    outcomes.settle();
+    spend_all(rt, kept);
+}
+
 // In how many places the segments of the merged frame are these packets, of which the first one is right.
 fn compared(rt: &impl Abort, alloc: Global, second: &[u8], original: u32) -> u64 {
     let mut kept = Vec::with_capacity(alloc, 2).expect(rt, "places");
@@ -97,35 +127,13 @@ fn compared(rt: &impl Abort, alloc: Global, second: &[u8], original: u32) -> u64
         modes: 0,
         outcomes: Outcomes::new(alloc),
     };
-    let head = OffHead {
-        version: 1,
-        kind: 1,
-        n: 2,
-        m: 4,
-        modes: 0,
-        lane: 0,
-        number: 0,
-    };
     assert!(rt; item.skb.len().min(200) <= item.skb.head().len());
-    let Ok(plan) = check_super(&head, &item.skb, 72) else {
+    let Ok(plan) = check_super(&HEAD, &item.skb, 72) else {
         panic!(rt; "the record is lawful")
     };
     let mut at = flows.place(&FlowKey::of(&item.skb));
     let count = count_packets(&plan, &item, &kept, &flows.next, &mut at);
-    let Item {
-        skb,
-        outcomes,
-        number: _,
-        sec: _,
-        frac: _,
-        original: _,
-        n: _,
-        m: _,
-        modes: _,
-    } = item;
-    spend(rt, skb);
-    outcomes.settle();
-    spend_all(rt, kept);
+    end(rt, item, kept);
     count
 }
 
