@@ -148,7 +148,7 @@ exceeds_so_far old mid used blocks need packets bytes rest left ethernet u befor
             (
               is.4.2.0,
               (before.2 is.4.0).lengths ∙ ap (λ (l : List ℕ). map frame_length packets ++ l) is.4.2.1
-              ∙ sym (append_assoc (map frame_length packets) (len ∷ []) is.4.2.0),
+                  ∙ sym (append_assoc (map frame_length packets) (len ∷ []) is.4.2.0),
             ),
           ),
         ),

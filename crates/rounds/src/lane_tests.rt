@@ -83,6 +83,14 @@ const BY_FLOW: How = How {
     keep: false,
 };
 
+const KEPT: How = How {
+    budget: 4,
+    queues: 2,
+    taps: 0,
+    snap: 64,
+    keep: true,
+};
+
 const WATCHED: How = How {
     budget: 2,
     queues: 1,
@@ -147,5 +155,14 @@ fn windows_stand_behind_by_tap(rt: HostRuntime) -> Result<(), Fail> {
     let (end, alone, home) = merged(&rt, alloc, &TWO, WATCHED, false)?;
     assert_eq!(rt; (end, home), (MergeEnd::Done, 12));
     assert_eq!(rt; alone.as_slice(), written.as_slice());
+    Ok(())
+}
+
+#[test]
+fn clones_that_are_kept_change_nothing(rt: HostRuntime) -> Result<(), Fail> {
+    let alloc = rt.alloc();
+    let (end, written, home) = merged(&rt, alloc, &IN_TURN, KEPT, true)?;
+    assert_eq!(rt; (end, home), (MergeEnd::Done, 12));
+    assert_eq!(rt; written.as_slice(), BY_QUEUE.as_slice());
     Ok(())
 }

@@ -17,6 +17,8 @@
 //!   of each flow come to, in the order of their first packets, and then tap by tap its windows of the packets as they were read,
 //!   whatever the order in which the lanes run; of `work_round_alone` the same. `checked`: where clones are kept, all that a comparison
 //!   of the items with the packets wants to know.
+//! - `totals` of `check_round`: what is counted where each segment of the items is compared with the packet of its flow at that place, of
+//!   which a clone was kept: that all come back, byte for byte.
 //! - `ok`, `err` of `write_round`: byte for byte what is written of a round that was worked.
 //! - `home`: how many blocks are home after each call, as an equation; after `drop_round` and `end_round`, and where
 //!   `work_round` wants memory, all of the round.
@@ -50,6 +52,7 @@
 
 mod blocks;
 mod body;
+mod check;
 mod cut;
 mod home;
 mod lane_home;
