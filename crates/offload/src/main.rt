@@ -40,6 +40,7 @@ fn main(rt: HostRuntime) -> ExitCode {
     let mut sink = StdSink::new(output);
     let mut engine = None;
     let status = run(
+        &rt,
         rt.alloc(),
         &words,
         &mut source,

@@ -9,7 +9,7 @@ use Rattle.pcap_io.specs.declared.heads.Link.TheVariants.{Ethernet}
 use Rattle.pcap_io.specs.Headers.{file_head, order_of}
 use Rattle.pcap_io.specs.Capture.{Packet, reads}
 use Rattle.offload_model.specs.Laws.{InBytes}
-use Rattle.offload_model.specs.Written.{written}
+use Rattle.offload_model.specs.Written.{Options, written}
 use Rattle.offload_model.specs.Captured.{AreCaptured, AreLawful}
 use Rattle.offload_model.proofs.Captured.{number_small, captures_are_captured}
 use Rattle.offload_model.specs.Tested.{segmented_of}
@@ -17,7 +17,6 @@ use Rattle.offload_model.specs.CaptureLaws.{BringsBack}
 use Rattle.offload_model.specs.PassingLaws.{written_of}
 use Rattle.offload_model.proofs.ComesBack.{captures_come_back, records_are_few}
 use Rattle.offload_run.specs.Laws.{EveryFlowComesBack}
-use Rattle.offload_run.specs.Output.{options}
 
 small_take : (n : ℕ) (f : List ℕ) → InBytes f → InBytes (take n f)
 small_take n f s k = elim (cases_lt k n) [
@@ -29,16 +28,18 @@ small_drop : (n : ℕ) (f : List ℕ) → InBytes f → InBytes (drop n f)
 small_drop n f s k = subst (λ b. b < 256) (sym (get_or-drop n f k 0)) (s (n + k))
 
 pub every_flow_comes_back : EveryFlowComesBack
-every_flow_comes_back budget given room bytes header =
+every_flow_comes_back o given lawful bytes header few =
     let head : FileHead = file_head (take 24 given) in
     let ps : List Packet = (reads Ethernet given).packets in
     let front : InBytes (take 24 given) = small_take 24 given bytes in
     let captured : AreCaptured ps = captures_are_captured given bytes in
-    let lawful : AreLawful (options budget) = record { budget = room; some = omega arith; queues = omega arith; taps = omega arith } in
-    let is : written_of (options budget) given ≡ written head (options budget) ps
-    = ap (λ (r : Option CapKind). if is_some r then [] else written head (options budget) ps) header in
+    let is : written_of o given ≡ written head o ps
+    = ap (λ (r : Option CapKind). if is_some r then [] else written head o ps) header in
     subst (λ xs. BringsBack ps (reads Ethernet (segmented_of xs))) (sym is)
-    (captures_come_back head (options budget) ps
+    (captures_come_back head o ps
     (number_small (order_of (take 24 given)) (drop 8 (take 24 given)) (small_drop 8 (take 24 given) front))
     (number_small (order_of (take 24 given)) (drop 12 (take 24 given)) (small_drop 12 (take 24 given) front))
-    lawful captured (records_are_few (options budget) ps lawful captured refl))
+    lawful captured (elim (cases_lt 0 o.taps) [
+      | inl some ↦ few (omega (arith, some))
+      | inr none ↦ records_are_few o ps lawful captured (omega (arith, none))
+    ]))

@@ -80,12 +80,12 @@ merge_is : (o : MergeOptions) (given : List ℕ)
     → Is (refusal Ethernet given) (found_before o.budget (exceeded_at o.blocks o.budget (first_place (file_head (take 24 given)) Ethernet 0) (drop 24 given))
     (found_at (first_place (file_head (take 24 given)) Ethernet 0) (drop 24 given)))
     (exceeded_at o.blocks o.budget (first_place (file_head (take 24 given)) Ethernet 0) (drop 24 given))
-    (written (file_head (take 24 given)) (options o.budget) (found_before o.budget (exceeded_at o.blocks o.budget (first_place (file_head (take 24 given)) Ethernet 0) (drop 24 given))
+    (written (file_head (take 24 given)) (options o) (found_before o.budget (exceeded_at o.blocks o.budget (first_place (file_head (take 24 given)) Ethernet 0) (drop 24 given))
     (found_at (first_place (file_head (take 24 given)) Ethernet 0) (drop 24 given))).packets)
-    (merging_whole o.blocks (options o.budget) given)
+    (merging_whole o.blocks (options o) given)
 merge_is o given =
     let place = first_place (file_head (take 24 given)) Ethernet 0 in
-    is_behind (refusal Ethernet given) (file_bytes (file_head (take 24 given)) Offload) (passing.merging o.blocks (options o.budget) place (drop 24 given)).output
+    is_behind (refusal Ethernet given) (file_bytes (file_head (take 24 given)) Offload) (passing.merging o.blocks (options o) place (drop 24 given)).output
     (found_before o.budget (exceeded_at o.blocks o.budget place (drop 24 given)) (found_at place (drop 24 given)))
     (exceeded_at o.blocks o.budget place (drop 24 given))
 
@@ -116,14 +116,14 @@ no_round_at budget (Some kind) e found is = refl
 
 all_merged : (o : MergeOptions) (given : List ℕ) → merge_exceeds o given ≡ None
     → IsAll (found_after (refusal Ethernet given) (found_before o.budget (exceeded_at o.blocks o.budget (first_place (file_head (take 24 given)) Ethernet 0) (drop 24 given))
-    (found_at (first_place (file_head (take 24 given)) Ethernet 0) (drop 24 given)))) (reads Ethernet given) (written_before o given) (written_of (options o.budget) given)
+    (found_at (first_place (file_head (take 24 given)) Ethernet 0) (drop 24 given)))) (reads Ethernet given) (written_before o given) (written_of (options o) given)
 all_merged o given is =
     let place = first_place (file_head (take 24 given)) Ethernet 0 in
     merge_all o.budget (refusal Ethernet given) (exceeded_at o.blocks o.budget place (drop 24 given)) (found_at place (drop 24 given))
-    (written (file_head (take 24 given)) (options o.budget)) is
+    (written (file_head (take 24 given)) (options o)) is
 
 merge_says : (o : MergeOptions) (old new : Option (List ℕ)) (is_flushed : Bool) (untouched : Type 0) (status : Status) (given left : List ℕ)
-    → Ends (passing.Answers Ethernet (merging_whole o.blocks (options o.budget)) old new is_flushed untouched) (ending_of status) given left
+    → Ends (passing.Answers Ethernet (merging_whole o.blocks (options o)) old new is_flushed untouched) (ending_of status) given left
     → MergeSays o old new is_flushed untouched status given left
 merge_says o old new is_flushed untouched statuses.Ok given left a =
     let is = merge_is o given in

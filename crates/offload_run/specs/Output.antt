@@ -11,10 +11,11 @@ use Rattle.offload_model.specs.Rounds.{is_of}
 use Rattle.offload_model.specs.Written.{Options, records_of}
 use Rattle.offload_model.specs.Need.{packets_within}
 use Rattle.offload_model.specs.Captured.{IsCaptured, content}
+use Rattle.offload_words.specs.declared.merge.MergeOptions.{MergeOptions}
 
--- how a capture is merged: in rounds of `budget` records, in one queue, with no tap
-abbrev pub options : ℕ → Options
-options budget = record { budget = budget; queues = 1; taps = 0; snap = 64 }
+-- how a capture is merged: in rounds of `budget` records, spread over queues, and read by taps up to `snap` bytes each
+abbrev pub options : MergeOptions → Options
+options o = record { budget = o.budget; queues = o.queues; taps = o.taps; snap = o.snap }
 
 -- the packets of a capture before the round that exceeds the blocks, and all of them where none does; none where its file header is
 -- refused
@@ -29,7 +30,7 @@ AreCapturedWithin blocks budget place bytes = AllByRecursion IsCaptured (packets
 
 -- every flow comes back: the segments of the records that are written and whose frames have a key are the packets that
 -- have it, in order, in bytes and original length
-abbrev pub FlowsComeBack : ℕ → List Packet → Type 0
-FlowsComeBack budget packets =
+abbrev pub FlowsComeBack : Options → List Packet → Type 0
+FlowsComeBack o packets =
     (key : Option (List ℕ))
-    → map content (flat_map segments_of (filter (λ r. is_of key (packet_in r)) (records_of (options budget) packets))) ≡ map content (filter (is_of key) packets)
+    → map content (flat_map segments_of (filter (λ r. is_of key (packet_in r)) (records_of o packets))) ≡ map content (filter (is_of key) packets)

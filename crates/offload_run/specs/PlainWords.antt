@@ -38,20 +38,20 @@ merge_exceeds o given =
 abbrev pub written_before : MergeOptions → List ℕ → List ℕ
 written_before o given =
     if is_some (refusal Ethernet given) then [] else
-    written (file_head (take 24 given)) (options o.budget) (packets_within o.blocks o.budget (first_place (file_head (take 24 given)) Ethernet 0) (drop 24 given))
+    written (file_head (take 24 given)) (options o) (packets_within o.blocks o.budget (first_place (file_head (take 24 given)) Ethernet 0) (drop 24 given))
 
 abbrev pub MergeSays : MergeOptions → Option (List ℕ) → Option (List ℕ) → Bool → Type 0 → Status → List ℕ → List ℕ → Type 0
 MergeSays o old new is_flushed untouched statuses.Ok given left =
     ((reads Ethernet given).fault ≡ None) × (merge_exceeds o given ≡ None) × (left ≡ [])
-    × Appends old new (written_of (options o.budget) given) × SaysFlushed new is_flushed true
+    × Appends old new (written_of (options o) given) × SaysFlushed new is_flushed true
 MergeSays o old new is_flushed untouched statuses.Usage given left = ⊥
 MergeSays o old new is_flushed untouched (statuses.Malformed fault) given left =
     ((reads Ethernet given).fault ≡ Some fault) × (merge_exceeds o given ≡ None) × Loses given left
-    × Appends old new (written_of (options o.budget) given) × FlushedBehind (HasFileHead Ethernet given) (SaysFlushed new is_flushed true) untouched
+    × Appends old new (written_of (options o) given) × FlushedBehind (HasFileHead Ethernet given) (SaysFlushed new is_flushed true) untouched
 MergeSays o old new is_flushed untouched (statuses.PoolEmpty round need blocks) given left =
     (merge_exceeds o given ≡ Some (round, need)) × Loses given left × Appends old new (written_before o given) × SaysFlushed new is_flushed true
 MergeSays o old new is_flushed untouched statuses.ReadFault given left =
-    (gone : List ℕ) × (given ≡ gone ++ left) × (merge_exceeds o gone ≡ None) × Appends old new (written_of (options o.budget) gone)
+    (gone : List ℕ) × (given ≡ gone ++ left) × (merge_exceeds o gone ≡ None) × Appends old new (written_of (options o) gone)
     × FlushedBehind (24 + length left ≤ length given) (SaysFlushed new is_flushed true) untouched
 MergeSays o old new is_flushed untouched statuses.WriteFault given left = (gone : List ℕ) × (given ≡ gone ++ left) × AppendsFront old new (written_before o gone)
 MergeSays o old new is_flushed untouched statuses.NoMemory given left = (gone : List ℕ) × (given ≡ gone ++ left) × AppendsFront old new (written_before o gone)

@@ -13,7 +13,7 @@ use Rattle.offload_run.specs.Output.{options, merged_packets, FlowsComeBack}
 -- `untouched` says that the sink is as it was
 abbrev pub Answers : Command → Option (List ℕ) → Option (List ℕ) → Bool → Type 0 → Status → List ℕ → List ℕ → Type 0
 Answers (Merge o) old new is_flushed untouched status given left =
-    Ends (passing.Answers Ethernet (merging_whole o.blocks (options o.budget)) old new is_flushed untouched) (ending_of status) given left
+    Ends (passing.Answers Ethernet (merging_whole o.blocks (options o)) old new is_flushed untouched) (ending_of status) given left
 Answers (Segment o) old new is_flushed untouched status given left =
     Ends (passing.Answers Offload (segmenting_whole o.blocks) old new is_flushed untouched) (ending_of status) given left
 Answers (Make o) old new is_flushed untouched status given left = MakeAnswers o old new is_flushed status × (left ≡ given)
@@ -26,5 +26,5 @@ AreBlocksOf (Make o) status = ⊤
 
 -- every flow comes back of what `merge` makes of what was read
 abbrev pub FlowsBack : Command → Status → List ℕ → List ℕ → Type 0
-FlowsBack (Merge o) status given left = OfRead (λ read. FlowsComeBack o.budget (merged_packets o.blocks o.budget read)) status given left
+FlowsBack (Merge o) status given left = OfRead (λ read. FlowsComeBack (options o) (merged_packets o.blocks o.budget read)) status given left
 FlowsBack _ status given left = ⊤

@@ -74,7 +74,7 @@ fn records_are_judged_by_their_headers(rt: HostRuntime) -> Result<(), Fail> {
         ),
     ];
     for (line, input, log) in rows {
-        let ended = run_line(rt.alloc(), line, &input, 4096, &[], &[])?;
+        let ended = run_line(&rt, rt.alloc(), line, &input, 4096, &[], &[])?;
         assert_eq!(rt; ended.log.bytes(), log.as_bytes(), "at {line}");
         assert_eq!(rt; ended.sink.bytes().len(), 24, "at {line}");
     }
@@ -87,7 +87,7 @@ fn pools_with_a_block_too_few(rt: HostRuntime) -> Result<(), Fail> {
     let alloc = rt.alloc();
     let two = capture_of(alloc, &[SEGMENT, NEXT[0]])?;
     let four = capture_of(alloc, &[SEGMENT, NEXT[0], NEXT[1], NEXT[2]])?;
-    let merged = run_line(alloc, "offload merge", &two, 4096, &[], &[])?;
+    let merged = run_line(&rt, rt.alloc(), "offload merge", &two, 4096, &[], &[])?;
     let lines = (
         "pool empty: round 0 needs 6 of 3 blocks\n",
         "pool empty: round 0 needs 4 of 3 blocks\n",
@@ -120,7 +120,7 @@ fn pools_with_a_block_too_few(rt: HostRuntime) -> Result<(), Fail> {
         ),
     ];
     for (line, input, (status, log), len) in rows {
-        let ended = run_line(alloc, line, input, 4096, &[], &[])?;
+        let ended = run_line(&rt, rt.alloc(), line, input, 4096, &[], &[])?;
         assert_eq!(rt; ended.status, status, "at {line}");
         assert_eq!(rt; ended.log.bytes(), log.as_bytes(), "at {line}");
         assert_eq!(rt; ended.sink.bytes().len(), len, "at {line}");
@@ -142,10 +142,19 @@ fn told_by(engine: &Option<Engine>) -> (u32, u64) {
 fn engines_tell_their_blocks(rt: HostRuntime) -> Result<(), Fail> {
     let alloc = rt.alloc();
     let two = capture_of(alloc, &[SEGMENT, NEXT[0]])?;
-    let merged = run_line(alloc, "offload merge --blocks 7", &two, 4096, &[], &[])?;
+    let merged = run_line(
+        &rt,
+        rt.alloc(),
+        "offload merge --blocks 7",
+        &two,
+        4096,
+        &[],
+        &[],
+    )?;
     assert_eq!(rt; told_by(&merged.engine), (7, 6));
     let cut = run_line(
-        alloc,
+        &rt,
+        rt.alloc(),
         "offload segment --blocks 7",
         merged.sink.bytes(),
         4096,
@@ -153,7 +162,15 @@ fn engines_tell_their_blocks(rt: HostRuntime) -> Result<(), Fail> {
         &[],
     )?;
     assert_eq!(rt; told_by(&cut.engine), (7, 4));
-    let made = run_line(alloc, "offload make --count 1", &[], 4096, &[], &[])?;
+    let made = run_line(
+        &rt,
+        rt.alloc(),
+        "offload make --count 1",
+        &[],
+        4096,
+        &[],
+        &[],
+    )?;
     assert_eq!(rt; told_by(&made.engine), (0, 0));
     Ok(())
 }
@@ -172,7 +189,7 @@ fn the_fewest_blocks_serve_every_round(rt: HostRuntime) -> Result<(), Fail> {
     }
     let input = capture_of(alloc, &frames)?;
     let line = "offload merge --blocks 6 --budget 2";
-    let pairs = run_line(alloc, line, &input, 4096, &[], &[])?;
+    let pairs = run_line(&rt, rt.alloc(), line, &input, 4096, &[], &[])?;
     assert_eq!(rt; pairs.status, Status::Ok);
     assert_eq!(rt; pairs.sink.bytes().len(), 299024);
     assert_eq!(rt; told_by(&pairs.engine), (6, 600));
@@ -186,7 +203,7 @@ fn the_fewest_blocks_serve_every_round(rt: HostRuntime) -> Result<(), Fail> {
     }
     let input = capture_of(alloc, &frames)?;
     let line = "offload merge --blocks 3 --budget 1";
-    let singles = run_line(alloc, line, &input, 4096, &[], &[])?;
+    let singles = run_line(&rt, rt.alloc(), line, &input, 4096, &[], &[])?;
     assert_eq!(rt; singles.status, Status::Ok);
     assert_eq!(rt; singles.sink.bytes().len(), 1660024);
     assert_eq!(rt; told_by(&singles.engine), (3, 60000));

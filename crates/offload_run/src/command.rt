@@ -17,9 +17,11 @@ use crate::{Engine, Status};
 use off_io::{Gate, Sink, Source};
 use offload_words::{Command, WordsFault, parse_words};
 use std::alloc::Global;
+use std::thread::Threads;
 
 // Runs a command.
-fn run_command<S: Source, K: Sink, G: Gate>(
+fn run_command<R: Threads + Sync, S: Source, K: Sink, G: Gate + Sync>(
+    rt: &R,
     alloc: Global,
     command: Command,
     source: &mut S,
@@ -41,14 +43,15 @@ fn run_command<S: Source, K: Sink, G: Gate>(
     ensures write { result ≡ Status.WriteFault → Rose (K.faults sink.old) (K.faults sink.new) }
 {
     match command {
-        Command::Merge(options) => run_merge(alloc, options, source, sink, gate, engine),
+        Command::Merge(options) => run_merge(rt, alloc, options, source, sink, gate, engine),
         Command::Segment(options) => run_segment(alloc, options, source, sink, engine),
         Command::Make(options) => run_make(options, sink),
     }
 }
 
 // Runs the command that the words ask for, without its line in the log.
-fn run_words<S: Source, K: Sink, G: Gate>(
+fn run_words<R: Threads + Sync, S: Source, K: Sink, G: Gate + Sync>(
+    rt: &R,
     alloc: Global,
     words: &[String],
     source: &mut S,
@@ -71,7 +74,7 @@ fn run_words<S: Source, K: Sink, G: Gate>(
     ensures write { result ≡ Status.WriteFault → Rose (K.faults sink.old) (K.faults sink.new) }
 {
     match parse_words(alloc, words) {
-        Ok(command) => run_command(alloc, command, source, sink, gate, engine),
+        Ok(command) => run_command(rt, alloc, command, source, sink, gate, engine),
         Err(WordsFault::Usage) => Status::Usage,
         Err(WordsFault::NoMemory) => Status::NoMemory,
     }
@@ -79,8 +82,9 @@ fn run_words<S: Source, K: Sink, G: Gate>(
 
 /// Runs the command that the words ask for, the program's name before it, and logs how it ended. `merge` reads a capture
 /// of Ethernet frames from the source and writes its records to the sink; `segment` reads an offload capture and writes the
-/// packets that its records stand for; `make` reads nothing and writes a generated capture (clause `made`). The one worker
-/// of `merge` passes the gate.
+/// packets that its records stand for; `make` reads nothing and writes a generated capture (clause `made`). Each queue's
+/// worker and each tap of `merge` passes the gate at point 0 before its work and at point 1 after it, and each is a thread
+/// of its own but where there is one queue and no tap.
 ///
 /// `Usage` exactly where the words are none of the command set, want of memory aside: then nothing is read or written, and
 /// the counts of faults of the source and the sink stay as they are. `Ok`, `Malformed` and `PoolEmpty` exactly as the
@@ -94,7 +98,8 @@ fn run_words<S: Source, K: Sink, G: Gate>(
 ///
 /// At `Ok` of a command that reads, `engine` holds the blocks that this call made, all of them home, and its count of blocks
 /// taken is at least what the records need (clause `engine`). Else what it holds isn't said.
-pub fn run<S: Source + Send, K: Sink + Send, L: Sink, G: Gate + Sync>(
+pub fn run<R: Threads + Sync, S: Source + Send, K: Sink + Send, L: Sink, G: Gate + Sync>(
+    rt: &R,
     alloc: Global,
     words: &[String],
     source: &mut S,
@@ -120,7 +125,7 @@ pub fn run<S: Source + Send, K: Sink + Send, L: Sink, G: Gate + Sync>(
     ensures quiet { result ≡ Status.Ok → log.new ≡ log.old }
     ensures later_log { L.faults log.old ≤ L.faults log.new }
 {
-    let status = run_words(alloc, words, source, sink, gate, engine);
+    let status = run_words(rt, alloc, words, source, sink, gate, engine);
     write_log(log, &status);
     status
 }

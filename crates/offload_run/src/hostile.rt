@@ -9,6 +9,7 @@ use crate::tests::{CAPTURE, Ended, MERGED, SINGLES, refused, run_line};
 use pcap_io::CapKind;
 use std::alloc::{AllocError, Global};
 use std::test::Fail;
+use std::thread::Threads;
 
 // With blocks enough for four short frames.
 const MERGE: &str = "offload merge --blocks 12";
@@ -63,13 +64,13 @@ fn want_of_cut(len: usize, first: usize, one: usize) -> Want {
 #[test]
 fn captures_cut_at_each_place(rt: HostRuntime) -> Result<(), Fail> {
     for len in 0..170 {
-        let ended = run_line(rt.alloc(), MERGE, &CAPTURE[..len], 64, &[], &[])?;
+        let ended = run_line(&rt, rt.alloc(), MERGE, &CAPTURE[..len], 64, &[], &[])?;
         let want = want_of_cut(len, 98, 110);
         assert!(rt; is_as_wanted(&ended, want, &SINGLES), "merge, {len} bytes");
     }
     let packets = packets();
     for len in 0..113 {
-        let ended = run_line(rt.alloc(), SEGMENT, &MERGED[..len], 64, &[], &[])?;
+        let ended = run_line(&rt, rt.alloc(), SEGMENT, &MERGED[..len], 64, &[], &[])?;
         let want = want_of_cut(len, 112, 170);
         assert!(rt;
             is_as_wanted(&ended, want, &packets),
@@ -121,11 +122,11 @@ fn offload_headers_edited_by_hand(rt: HostRuntime) -> Result<(), Fail> {
     let line = "malformed: BadOffload at 24 in record 0\n";
     let want = (refused(CapKind::BadOffload, 24, 0), line, 24);
     for head in REFUSED {
-        let ended = run_line(rt.alloc(), SEGMENT, &with_head(head), 64, &[], &[])?;
+        let ended = run_line(&rt, rt.alloc(), SEGMENT, &with_head(head), 64, &[], &[])?;
         assert!(rt; is_as_wanted(&ended, want, &CAPTURE), "head {head:?}");
     }
     for (head, len, hashed) in TAKEN {
-        let ended = run_line(rt.alloc(), SEGMENT, &with_head(head), 64, &[], &[])?;
+        let ended = run_line(&rt, rt.alloc(), SEGMENT, &with_head(head), 64, &[], &[])?;
         let output = ended.sink.bytes();
         assert!(rt;
             is_as_wanted(&ended, (Status::Ok, "", len), output),
@@ -165,14 +166,14 @@ fn lengths_and_sums_edited_by_hand(rt: HostRuntime) -> Result<(), Fail> {
         if b < 112 {
             input[b] = second;
         }
-        let ended = run_line(rt.alloc(), SEGMENT, &input, 64, &[], &[])?;
+        let ended = run_line(&rt, rt.alloc(), SEGMENT, &input, 64, &[], &[])?;
         assert!(rt; is_as_wanted(&ended, want, &CAPTURE), "{first} at {a}");
     }
     // A packet whose IPv4 total length is two more than there is stays by itself.
     let (mut input, mut output) = (CAPTURE, SINGLES);
     input[57] = 0x2e;
     output[69] = 0x2e;
-    let ended = run_line(rt.alloc(), MERGE, &input, 64, &[], &[])?;
+    let ended = run_line(&rt, rt.alloc(), MERGE, &input, 64, &[], &[])?;
     assert!(rt; is_as_wanted(&ended, (Status::Ok, "", 194), &output));
     Ok(())
 }
@@ -201,6 +202,7 @@ struct Whole<'a> {
 
 // The first read that fails and isn't answered by what is written then (`lens`, of the parts of `reads`).
 fn first_wrong_read(
+    rt: &(impl Threads + Sync),
     alloc: Global,
     whole: Whole,
     step: usize,
@@ -210,7 +212,7 @@ fn first_wrong_read(
     let mut call = 0u64;
     for (count, len) in reads.into_iter().zip(lens) {
         for _ in 0..count {
-            let ended = run_line(alloc, whole.line, whole.input, step, &[call], &[])?;
+            let ended = run_line(rt, alloc, whole.line, whole.input, step, &[call], &[])?;
             let want = (Status::ReadFault, "read fault\n", len);
             if !is_as_wanted(&ended, want, whole.output) {
                 return Ok(Some(call));
@@ -223,13 +225,14 @@ fn first_wrong_read(
 
 // The first write or flush that fails and isn't answered by a front of the output, the whole of it where the flush fails.
 fn first_wrong_write(
+    rt: &(impl Threads + Sync),
     alloc: Global,
     whole: Whole,
     step: usize,
     writes: u64,
 ) -> Result<Option<u64>, AllocError> {
     for call in 0..writes {
-        let ended = run_line(alloc, whole.line, whole.input, step, &[], &[call])?;
+        let ended = run_line(rt, alloc, whole.line, whole.input, step, &[], &[call])?;
         let len = ended.sink.bytes().len();
         let is_last = call.saturating_add(1) == writes;
         let has_len = if is_last {
@@ -248,6 +251,7 @@ fn first_wrong_write(
 
 // Whether a run ends well whose failing calls lie behind the last ones.
 fn ends_well(
+    rt: &(impl Threads + Sync),
     alloc: Global,
     whole: Whole,
     step: usize,
@@ -258,7 +262,15 @@ fn ends_well(
     for own in reads {
         count = count.saturating_add(own);
     }
-    let ended = run_line(alloc, whole.line, whole.input, step, &[count], &[writes])?;
+    let ended = run_line(
+        rt,
+        alloc,
+        whole.line,
+        whole.input,
+        step,
+        &[count],
+        &[writes],
+    )?;
     let want = (Status::Ok, "", whole.output.len());
     Ok(is_as_wanted(&ended, want, whole.output))
 }
@@ -272,11 +284,11 @@ fn each_call_of_merge_fails_in_turn(rt: HostRuntime) -> Result<(), Fail> {
     };
     for (step, reads, writes) in SINGLE_CALLS {
         let lens = [0, 24, 110, 194];
-        let wrong = first_wrong_read(rt.alloc(), whole, step, reads, lens)?;
+        let wrong = first_wrong_read(&rt, rt.alloc(), whole, step, reads, lens)?;
         assert_eq!(rt; wrong, None, "reads at step {step}");
-        let wrong = first_wrong_write(rt.alloc(), whole, step, writes)?;
+        let wrong = first_wrong_write(&rt, rt.alloc(), whole, step, writes)?;
         assert_eq!(rt; wrong, None, "writes at step {step}");
-        assert!(rt; ends_well(rt.alloc(), whole, step, reads, writes)?);
+        assert!(rt; ends_well(&rt, rt.alloc(), whole, step, reads, writes)?);
     }
     Ok(())
 }
@@ -291,11 +303,11 @@ fn each_call_of_segment_fails_in_turn(rt: HostRuntime) -> Result<(), Fail> {
     };
     for (step, reads, writes) in SEGMENT_CALLS {
         let lens = [0, 24, 170, 170];
-        let wrong = first_wrong_read(rt.alloc(), whole, step, reads, lens)?;
+        let wrong = first_wrong_read(&rt, rt.alloc(), whole, step, reads, lens)?;
         assert_eq!(rt; wrong, None, "reads at step {step}");
-        let wrong = first_wrong_write(rt.alloc(), whole, step, writes)?;
+        let wrong = first_wrong_write(&rt, rt.alloc(), whole, step, writes)?;
         assert_eq!(rt; wrong, None, "writes at step {step}");
-        assert!(rt; ends_well(rt.alloc(), whole, step, reads, writes)?);
+        assert!(rt; ends_well(&rt, rt.alloc(), whole, step, reads, writes)?);
     }
     Ok(())
 }

@@ -74,7 +74,7 @@ const CUT: [u8; 534] = [
 #[test]
 fn records_of_each_kind(rt: HostRuntime) -> Result<(), Fail> {
     for step in [1, 7, 4096] {
-        let ended = run_line(rt.alloc(), "offload segment", &RECORDS, step, &[], &[])?;
+        let ended = run_line(&rt, rt.alloc(), "offload segment", &RECORDS, step, &[], &[])?;
         assert_eq!(rt; ended.status, Status::Ok, "at step {step}");
         assert_eq!(rt; ended.sink.bytes(), CUT.as_slice(), "at step {step}");
         assert!(rt; ended.sink.is_flushed());

@@ -2,20 +2,22 @@
 //!
 //! [`run`] does the command that the words ask for. `merge` reads a capture of Ethernet frames (the classic pcap layout) in
 //! rounds of as many records as `--budget` says and writes a capture of link type 147: what the maximal mergeable runs of each
-//! flow come to, each behind an offload header of 12 bytes. `segment` cuts such a capture back into the packets that its
-//! records stand for. Records are read into `--blocks` blocks of 2048 bytes, and all of these are home after each round. The log
-//! gets one line on each status but a good one.
+//! flow come to, each behind an offload header of 12 bytes. The packets of a round go by their flows to `--queues` queues, and
+//! each of `--taps` taps reads a window of `--snap` bytes of every packet: queue by queue the records are written, and then tap
+//! by tap the windows. Workers and taps run at the same time, each in a thread of its own, but where there is one queue and no
+//! tap. `segment` cuts such a capture back into the packets that its records stand for. Records are read into `--blocks` blocks
+//! of 2048 bytes, and all of these are home after each round. The log gets one line on each status but a good one.
 //!
-//! Proved, at every source, sink, log and gate (clauses of [`run`]): which words are no command, and that nothing is then read or
-//! written (`usage`, `no_command`, `untouched`); what is read and written for each answer, and when the sink is flushed
-//! (`given`, in plain words in [`answers_in_plain_words`]); of which pool an empty one is told (`blocks`); that every flow comes
-//! back of what merging makes (`flows`); which engine a good run leaves, with all blocks home, and how many it took
-//! (`engine`); that a fault is answered only where the outside failed (`read`, `write`); what the log gets (`log`, `quiet`).
-//! So do the two commands one after the other ([`every_flow_comes_back`]).
+//! Proved, at every source, sink, log and gate, and whatever the order in which workers and taps run (clauses of [`run`]):
+//! which words are no command, and that nothing is then read or written (`usage`, `no_command`, `untouched`); what is read and
+//! written for each answer, and when the sink is flushed (`given`, in plain words in [`answers_in_plain_words`]); of which pool
+//! an empty one is told (`blocks`); that every flow comes back of what merging makes (`flows`); which engine a good run leaves,
+//! with all blocks home, and how many it took (`engine`); that a fault is answered only where the outside failed (`read`,
+//! `write`); what the log gets (`log`, `quiet`). So do the two commands one after the other ([`every_flow_comes_back`]).
 //!
 //! ```text
 //! let mut engine = None;
-//! let status = run(rt.alloc(), &words, &mut source, &mut sink, &mut log, &NoGate, &mut engine);
+//! let status = run(&rt, rt.alloc(), &words, &mut source, &mut sink, &mut log, &NoGate, &mut engine);
 //! ExitCode::from(status.code())
 //! ```
 #![tactic(auto)]
@@ -29,6 +31,8 @@ mod engine;
 mod hostile;
 #[cfg(test)]
 mod kinds;
+#[cfg(test)]
+mod lanes;
 mod laws;
 mod logging;
 mod make;

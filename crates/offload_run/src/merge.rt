@@ -1,5 +1,5 @@
 //! Merges a capture, in rounds over one pool of blocks.
-ghost use Rattle.std.specs.Prelude.{◌≡◌, ◌≤◌, ◌^◌, ◌-◌, ◌+◌, Some, None, true, min};
+ghost use Rattle.std.specs.Prelude.{◌≡◌, ◌≤◌, ◌^◌, ◌-◌, ◌+◌, Some, None, true, false, min, IfOk};
 ghost use Rattle.off_io.specs.Content.{SaysFlushed};
 ghost use Rattle.off_io.specs.Faults.{Rose};
 ghost use Rattle.off_io.specs.Told.{Told};
@@ -9,7 +9,7 @@ ghost use Rattle.pcap_io.specs.Places.{first_place, found_at};
 ghost use Rattle.offload_model.specs.Need.{round_need};
 ghost use Rattle.offload_model.specs.Passing.{merging, merging_whole, Answers, Passes, flushes};
 ghost use Rattle.offload_words.specs.Merge.{IsInRange};
-ghost use Rattle.rounds.specs.Merging.{ending_of as merge_ending, HoldsCaptured};
+ghost use Rattle.rounds.specs.Merging.{ending_of as merge_ending, options_of as rounds_options, HoldsCaptured};
 ghost use Rattle.offload_run.specs.Ending.{ending_of, Ends, FlushesAt, HasBlocks, OfRead, status_by};
 ghost use Rattle.offload_run.specs.Engines.{HasMerged};
 ghost use Rattle.offload_run.specs.Output.{options as options_of, merged_packets, AreCapturedWithin, FlowsComeBack};
@@ -20,7 +20,8 @@ use off_io::{Gate, Sink, Source, WriteFault};
 use offload_words::MergeOptions;
 use pcap_io::{CaptureReader, FileHead, Link, take_file, write_file_head};
 use rounds::{MergeEnd, Rounds};
-use std::alloc::Global;
+use std::alloc::{AllocError, Global};
+use std::thread::Threads;
 
 // The status that merging ends with over this many blocks.
 fn status_of(end: MergeEnd, blocks: u32) -> Status
@@ -47,7 +48,8 @@ fn status_of(end: MergeEnd, blocks: u32) -> Status
 }
 
 // Merges the records behind a file header.
-fn merge_behind<S: Source, K: Sink, G: Gate>(
+fn merge_behind<R: Threads + Sync, S: Source, K: Sink, G: Gate + Sync>(
+    rt: &R,
     rounds: &mut Rounds,
     file: FileHead,
     source: &mut S,
@@ -55,7 +57,7 @@ fn merge_behind<S: Source, K: Sink, G: Gate>(
     gate: &G,
 ) -> MergeEnd
     requires home { rounds.old.home ≡ rounds.old.blocks }
-    ensures given { Told (S.left source.old) (S.left source.new) (Passes (merging rounds.old.blocks (options_of rounds.old.budget) (first_place file Ethernet 0)) (K.held sink.old) (K.held sink.new) (merge_ending result)) }
+    ensures given { Told (S.left source.old) (S.left source.new) (Passes (merging rounds.old.blocks (rounds_options rounds.old) (first_place file Ethernet 0)) (K.held sink.old) (K.held sink.new) (merge_ending result)) }
     ensures captured { Told (S.left source.old) (S.left source.new) (HoldsCaptured rounds.old.blocks rounds.old.budget (first_place file Ethernet 0) result) }
     ensures flushed { flushes (merge_ending result) ≡ true → SaysFlushed (K.held sink.new) (K.is_flushed sink.new) true }
     ensures home { rounds.new.home ≡ rounds.new.blocks }
@@ -67,11 +69,27 @@ fn merge_behind<S: Source, K: Sink, G: Gate>(
     ensures write { result ≡ MergeEnd.WriteFault → Rose (K.faults sink.old) (K.faults sink.new) }
 {
     let mut reader = CaptureReader::after_file(source, file, Link::Ethernet);
-    rounds.merge_all(&mut reader, &file, sink, gate)
+    rounds.merge_all(rt, &mut reader, &file, sink, gate)
+}
+
+// The pool, and memory for rounds of these options.
+fn make_rounds(alloc: Global, options: MergeOptions) -> Result<Rounds, AllocError>
+    requires range { IsInRange options }
+    ensures { IfOk result (λ rounds. rounds ≡ record { home = options.blocks; blocks = options.blocks; taken = 0; budget = options.budget; queues = options.queues; taps = options.taps; snap = options.snap; keep = false }) }
+{
+    let MergeOptions {
+        queues,
+        budget,
+        blocks,
+        taps,
+        snap,
+    } = options;
+    Rounds::make(alloc, blocks, budget, queues, taps, snap, false)
 }
 
 // Makes the pool, and merges the records behind a file header.
-fn merge_records<S: Source, K: Sink, G: Gate>(
+fn merge_records<R: Threads + Sync, S: Source, K: Sink, G: Gate + Sync>(
+    rt: &R,
     alloc: Global,
     options: MergeOptions,
     file: FileHead,
@@ -82,7 +100,7 @@ fn merge_records<S: Source, K: Sink, G: Gate>(
 ) -> Status
     requires range { IsInRange options }
     requires engine { engine.old ≡ None }
-    ensures given { Told (S.left source.old) (S.left source.new) (Ends (Passes (merging options.blocks (options_of options.budget) (first_place file Ethernet 0)) (K.held sink.old) (K.held sink.new)) (ending_of result)) }
+    ensures given { Told (S.left source.old) (S.left source.new) (Ends (Passes (merging options.blocks (options_of options) (first_place file Ethernet 0)) (K.held sink.old) (K.held sink.new)) (ending_of result)) }
     ensures captured { Told (S.left source.old) (S.left source.new) (OfRead (AreCapturedWithin options.blocks options.budget (first_place file Ethernet 0)) result) }
     ensures flushed { FlushesAt (K.held sink.new) (K.is_flushed sink.new) (ending_of result) }
     ensures blocks { HasBlocks options.blocks result }
@@ -93,17 +111,18 @@ fn merge_records<S: Source, K: Sink, G: Gate>(
     ensures read { result ≡ Status.ReadFault → Rose (S.faults source.old) (S.faults source.new) }
     ensures write { result ≡ Status.WriteFault → Rose (K.faults sink.old) (K.faults sink.new) }
 {
-    let mut rounds = match Rounds::make(alloc, options.blocks, options.budget) {
+    let mut rounds = match make_rounds(alloc, options) {
         Ok(rounds) => rounds,
         Err(_) => return Status::NoMemory,
     };
-    let end = merge_behind(&mut rounds, file, source, sink, gate);
+    let end = merge_behind(rt, &mut rounds, file, source, sink, gate);
     *engine = Some(Engine::Merge(rounds));
     status_of(end, options.blocks)
 }
 
 // Merges a whole capture of Ethernet frames. Where its file header is refused no block is made.
-pub(crate) fn run_merge<S: Source, K: Sink, G: Gate>(
+pub(crate) fn run_merge<R: Threads + Sync, S: Source, K: Sink, G: Gate + Sync>(
+    rt: &R,
     alloc: Global,
     options: MergeOptions,
     source: &mut S,
@@ -113,8 +132,8 @@ pub(crate) fn run_merge<S: Source, K: Sink, G: Gate>(
 ) -> Status
     requires range { IsInRange options }
     requires engine { engine.old ≡ None }
-    ensures given { Told (S.left source.old) (S.left source.new) (Ends (Answers Ethernet (merging_whole options.blocks (options_of options.budget)) (K.held sink.old) (K.held sink.new) (K.is_flushed sink.new) (sink.new ≡ sink.old)) (ending_of result)) }
-    ensures flows { Told (S.left source.old) (S.left source.new) (OfRead (λ read. FlowsComeBack options.budget (merged_packets options.blocks options.budget read)) result) }
+    ensures given { Told (S.left source.old) (S.left source.new) (Ends (Answers Ethernet (merging_whole options.blocks (options_of options)) (K.held sink.old) (K.held sink.new) (K.is_flushed sink.new) (sink.new ≡ sink.old)) (ending_of result)) }
+    ensures flows { Told (S.left source.old) (S.left source.new) (OfRead (λ read. FlowsComeBack (options_of options) (merged_packets options.blocks options.budget read)) result) }
     ensures blocks { HasBlocks options.blocks result }
     ensures engine { result ≡ Status.Ok → HasMerged options.blocks (λ given. round_need (reads Ethernet given).packets) engine.new (S.left source.old) (S.left source.new) }
     ensures not_usage { result ≡ Status.Usage → ⊥ }
@@ -128,7 +147,7 @@ pub(crate) fn run_merge<S: Source, K: Sink, G: Gate>(
         Err(fault) => return refused(fault),
     };
     match write_file_head(sink, &file, Link::Offload) {
-        Ok(()) => merge_records(alloc, options, file, source, sink, gate, engine),
+        Ok(()) => merge_records(rt, alloc, options, file, source, sink, gate, engine),
         Err(WriteFault) => Status::WriteFault,
     }
 }

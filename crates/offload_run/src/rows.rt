@@ -8,8 +8,10 @@ use crate::{Status, run};
 use off_io::{MemSink, MemSource, NoGate};
 use std::alloc::{AllocError, Global};
 use std::test::Fail;
+use std::thread::Threads;
+
 // What a record of the output says: number, packets, first payload, modes and frame length.
-type Said = (u32, u32, u32, u32, u32);
+pub type Said = (u32, u32, u32, u32, u32);
 
 fn number_at(bytes: &[u8], places: [usize; 4]) -> u32 {
     let mut number = 0u32;
@@ -31,7 +33,7 @@ fn said_by(record: &[u8]) -> Said {
     )
 }
 
-fn said_in(alloc: Global, output: &[u8]) -> Result<Vec<Said>, AllocError> {
+pub fn said_in(alloc: Global, output: &[u8]) -> Result<Vec<Said>, AllocError> {
     let mut said = Vec::new(alloc);
     let mut at = 24usize;
     for _ in 0..output.len() {
@@ -57,12 +59,20 @@ pub fn hash(bytes: &[u8]) -> u32 {
 }
 
 // What `merge` writes of the frames.
-fn merged(alloc: Global, frames: &[Frame]) -> Result<(Status, Vec<u8>), AllocError> {
+fn merged(
+    rt: &(impl Threads + Sync),
+    alloc: Global,
+    frames: &[Frame],
+) -> Result<(Status, Vec<u8>), AllocError> {
     let capture = capture_of(alloc, frames)?;
-    merged_capture(alloc, capture)
+    merged_capture(rt, alloc, capture)
 }
 
-fn merged_capture(alloc: Global, capture: Vec<u8>) -> Result<(Status, Vec<u8>), AllocError> {
+fn merged_capture(
+    rt: &(impl Threads + Sync),
+    alloc: Global,
+    capture: Vec<u8>,
+) -> Result<(Status, Vec<u8>), AllocError> {
     let mut words = Vec::new(alloc);
     words.push(String::from_str(alloc, "offload")?)?;
     words.push(String::from_str(alloc, "merge")?)?;
@@ -71,6 +81,7 @@ fn merged_capture(alloc: Global, capture: Vec<u8>) -> Result<(Status, Vec<u8>), 
     let mut log = MemSink::new(alloc, 64, Vec::new(alloc));
     let mut engine = None;
     let status = run(
+        rt,
         alloc,
         &words,
         &mut source,
@@ -592,7 +603,7 @@ fn rows_of_frames(rt: HostRuntime) -> Result<(), Fail> {
         ),
     ];
     for (what, frames, want, hashed) in rows {
-        let (status, output) = merged(rt.alloc(), frames)?;
+        let (status, output) = merged(&rt, rt.alloc(), frames)?;
         assert_eq!(rt; status, Status::Ok, "{what}");
         let said = said_in(rt.alloc(), &output)?;
         assert_eq!(rt; said.as_slice(), want, "{what}");
@@ -612,7 +623,7 @@ fn a_full_round(rt: HostRuntime) -> Result<(), Fail> {
             ..SEGMENT
         })?;
     }
-    let (status, output) = merged(rt.alloc(), &frames)?;
+    let (status, output) = merged(&rt, rt.alloc(), &frames)?;
     assert_eq!(rt; status, Status::Ok);
     let want = [(0, 45, 1448, 0, 65226), (45, 19, 1448, 0, 27578)];
     assert_eq!(rt; said_in(rt.alloc(), &output)?.as_slice(), want.as_slice());
@@ -631,7 +642,7 @@ fn many_flows(rt: HostRuntime) -> Result<(), Fail> {
             ..PLAIN
         })?;
     }
-    let (status, output) = merged(rt.alloc(), &frames)?;
+    let (status, output) = merged(&rt, rt.alloc(), &frames)?;
     assert_eq!(rt; status, Status::Ok);
     let said = said_in(rt.alloc(), &output)?;
     assert_eq!(rt; said.len(), 8192);
@@ -649,7 +660,7 @@ fn a_large_frame(rt: HostRuntime) -> Result<(), Fail> {
         push32(&mut bytes, n)?;
     }
     bytes.extend_from_slice(vec![in rt.alloc(); 0u8; 262144]?.as_slice())?;
-    let (status, output) = merged_capture(rt.alloc(), bytes)?;
+    let (status, output) = merged_capture(&rt, rt.alloc(), bytes)?;
     assert_eq!(rt; status, Status::Ok);
     let said = said_in(rt.alloc(), &output)?;
     assert_eq!(rt; said.as_slice(), [(0, 1, 0, 0, 262144)].as_slice());

@@ -5,10 +5,11 @@
 use crate::row_frames::{Frame, NEXT, PLAIN, capture_of};
 use crate::rows::hash;
 use crate::{Engine, Status, run};
-use off_io::{MemSink, MemSource, NoGate};
+use off_io::{Gate, MemSink, MemSource, NoGate};
 use pcap_io::{CapFault, CapKind};
 use std::alloc::{AllocError, Global};
 use std::test::Fail;
+use std::thread::Threads;
 
 // Two TCP segments, little-endian microseconds.
 pub const CAPTURE: [u8; 170] = [
@@ -143,12 +144,36 @@ pub struct Ended {
 
 // Runs a line of words, where each call takes at most `step` bytes and these calls fail.
 pub fn run_line(
+    rt: &(impl Threads + Sync),
     alloc: Global,
     line: &str,
     bytes: &[u8],
     step: usize,
     source_fails: &[u64],
     sink_fails: &[u64],
+) -> Result<Ended, AllocError> {
+    run_gated(
+        rt,
+        alloc,
+        line,
+        bytes,
+        step,
+        source_fails,
+        sink_fails,
+        &NoGate,
+    )
+}
+
+// The same, where tasks pass this gate.
+pub fn run_gated<R: Threads + Sync, G: Gate + Sync>(
+    rt: &R,
+    alloc: Global,
+    line: &str,
+    bytes: &[u8],
+    step: usize,
+    source_fails: &[u64],
+    sink_fails: &[u64],
+    gate: &G,
 ) -> Result<Ended, AllocError> {
     let step = step.max(1);
     let words = words(alloc, line)?;
@@ -157,12 +182,13 @@ pub fn run_line(
     let mut log = MemSink::new(alloc, step, Vec::new(alloc));
     let mut engine = None;
     let status = run(
+        rt,
         alloc,
         &words,
         &mut source,
         &mut sink,
         &mut log,
-        &NoGate,
+        gate,
         &mut engine,
     );
     Ok(Ended {
@@ -240,7 +266,7 @@ fn outputs_and_refusals(rt: HostRuntime) -> Result<(), Fail> {
     ];
     for (input, want, output, line) in rows {
         for step in [1, 7, 64, 4096] {
-            let ended = run_line(rt.alloc(), MERGE, input, step, &[], &[])?;
+            let ended = run_line(&rt, rt.alloc(), MERGE, input, step, &[], &[])?;
             assert_eq!(rt; ended.status, want, "at step {step}");
             assert_eq!(rt; ended.sink.bytes(), output, "at step {step}");
             assert_eq!(rt; ended.log.bytes(), line.as_bytes(), "at step {step}");
@@ -295,7 +321,7 @@ fn fields_out_of_range(rt: HostRuntime) -> Result<(), Fail> {
         if at < 170 {
             input[at] = byte;
         }
-        let ended = run_line(rt.alloc(), MERGE, &input, 64, &[], &[])?;
+        let ended = run_line(&rt, rt.alloc(), MERGE, &input, 64, &[], &[])?;
         assert_eq!(rt; ended.status, want, "at {at}");
         assert_eq!(rt; ended.log.bytes(), line.as_bytes(), "at {at}");
         assert_eq!(rt; ended.sink.bytes().len(), written, "at {at}");
@@ -316,7 +342,7 @@ fn each_read_fails_in_turn(rt: HostRuntime) -> Result<(), Fail> {
         let mut call = 0u64;
         for (count, written) in reads.into_iter().zip([0usize, 24, 110, 194, 277]) {
             for _ in 0..count {
-                let ended = run_line(rt.alloc(), MERGE, &THREE_FLOWS, step, &[call], &[])?;
+                let ended = run_line(&rt, rt.alloc(), MERGE, &THREE_FLOWS, step, &[call], &[])?;
                 assert_eq!(rt;
                     ended.status,
                     Status::ReadFault,
@@ -333,7 +359,7 @@ fn each_read_fails_in_turn(rt: HostRuntime) -> Result<(), Fail> {
                 call = call.saturating_add(1);
             }
         }
-        let ended = run_line(rt.alloc(), MERGE, &THREE_FLOWS, step, &[call], &[])?;
+        let ended = run_line(&rt, rt.alloc(), MERGE, &THREE_FLOWS, step, &[call], &[])?;
         assert_eq!(rt; ended.status, Status::Ok);
     }
     Ok(())
@@ -343,7 +369,7 @@ fn each_read_fails_in_turn(rt: HostRuntime) -> Result<(), Fail> {
 fn each_write_fails_in_turn(rt: HostRuntime) -> Result<(), Fail> {
     for (step, _, writes) in CALLS {
         for call in 0..writes {
-            let ended = run_line(rt.alloc(), MERGE, &THREE_FLOWS, step, &[], &[call])?;
+            let ended = run_line(&rt, rt.alloc(), MERGE, &THREE_FLOWS, step, &[], &[call])?;
             assert_eq!(rt;
                 ended.status,
                 Status::WriteFault,
@@ -355,12 +381,12 @@ fn each_write_fails_in_turn(rt: HostRuntime) -> Result<(), Fail> {
                 assert_eq!(rt; ended.sink.bytes().len() as u64, call);
             }
         }
-        let ended = run_line(rt.alloc(), MERGE, &THREE_FLOWS, step, &[], &[writes])?;
+        let ended = run_line(&rt, rt.alloc(), MERGE, &THREE_FLOWS, step, &[], &[writes])?;
         assert_eq!(rt; ended.status, Status::Ok);
     }
     // The body of record 1 can't be read, and the sink fails at the record before.
     for line in [MERGE, "offload merge --budget 1"] {
-        let ended = run_line(rt.alloc(), line, &THREE_FLOWS, 64, &[4], &[2])?;
+        let ended = run_line(&rt, rt.alloc(), line, &THREE_FLOWS, 64, &[4], &[2])?;
         assert_eq!(rt; ended.status, Status::WriteFault, "at {line}");
         assert_eq!(rt; ended.sink.bytes(), &THREE_SINGLES[..52], "at {line}");
     }
@@ -387,7 +413,7 @@ fn each_call_fails_within_a_merged_record(rt: HostRuntime) -> Result<(), Fail> {
         ..PLAIN
     };
     let input = capture_of(rt.alloc(), &[PLAIN, short, last])?;
-    let whole = run_line(rt.alloc(), MERGE, &input, 4096, &[], &[])?;
+    let whole = run_line(&rt, rt.alloc(), MERGE, &input, 4096, &[], &[])?;
     assert_eq!(rt; whole.status, Status::Ok);
     // The hash is that of `contrib/merge_by_definition`.
     assert_eq!(rt;
@@ -398,7 +424,7 @@ fn each_call_fails_within_a_merged_record(rt: HostRuntime) -> Result<(), Fail> {
         let mut call = 0u64;
         for (count, written) in reads.into_iter().zip([0usize, 24, 206, 266, 448]) {
             for _ in 0..count {
-                let ended = run_line(rt.alloc(), MERGE, &input, step, &[call], &[])?;
+                let ended = run_line(&rt, rt.alloc(), MERGE, &input, step, &[call], &[])?;
                 assert_eq!(rt;
                     ended.status,
                     Status::ReadFault,
@@ -413,7 +439,7 @@ fn each_call_fails_within_a_merged_record(rt: HostRuntime) -> Result<(), Fail> {
             }
         }
         for call in 0..writes {
-            let ended = run_line(rt.alloc(), MERGE, &input, step, &[], &[call])?;
+            let ended = run_line(&rt, rt.alloc(), MERGE, &input, step, &[], &[call])?;
             assert_eq!(rt;
                 ended.status,
                 Status::WriteFault,
@@ -424,7 +450,7 @@ fn each_call_fails_within_a_merged_record(rt: HostRuntime) -> Result<(), Fail> {
                 assert_eq!(rt; ended.sink.bytes().len() as u64, call);
             }
         }
-        let ended = run_line(rt.alloc(), MERGE, &input, step, &[], &[writes])?;
+        let ended = run_line(&rt, rt.alloc(), MERGE, &input, step, &[], &[writes])?;
         assert_eq!(rt; ended.status, Status::Ok);
     }
     Ok(())
@@ -443,7 +469,7 @@ fn lines_of_words(rt: HostRuntime) -> Result<(), Fail> {
         ("offload merge --budget 0", 2, &SINGLES[..0], usage),
     ];
     for (line, code, output, logged) in rows {
-        let ended = run_line(rt.alloc(), line, &CAPTURE, 64, &[], &[])?;
+        let ended = run_line(&rt, rt.alloc(), line, &CAPTURE, 64, &[], &[])?;
         assert_eq!(rt; ended.status.code(), code, "at {line}");
         assert_eq!(rt; ended.sink.bytes(), output, "at {line}");
         assert_eq!(rt; ended.log.bytes(), logged.as_bytes(), "at {line}");
@@ -464,7 +490,7 @@ fn captures_are_made(rt: HostRuntime) -> Result<(), Fail> {
     let alloc = rt.alloc();
     for (line, len, want) in MADE {
         // A read would fail, and none is made.
-        let ended = run_line(alloc, line, &CAPTURE, 4096, &[0], &[])?;
+        let ended = run_line(&rt, rt.alloc(), line, &CAPTURE, 4096, &[0], &[])?;
         assert_eq!(rt; ended.status, Status::Ok, "at {line}");
         assert_eq!(rt; ended.sink.bytes().len(), len, "at {line}");
         assert_eq!(rt; hash(ended.sink.bytes()), want, "at {line}");
@@ -473,18 +499,35 @@ fn captures_are_made(rt: HostRuntime) -> Result<(), Fail> {
     }
     // The file header, two records and the flush.
     for (call, len) in [(0, 0), (1, 24), (2, 1314), (3, 2584)] {
-        let ended = run_line(alloc, "offload make --count 2", &[], 4096, &[], &[call])?;
+        let ended = run_line(
+            &rt,
+            rt.alloc(),
+            "offload make --count 2",
+            &[],
+            4096,
+            &[],
+            &[call],
+        )?;
         assert_eq!(rt; ended.status, Status::WriteFault, "call {call}");
         assert_eq!(rt; ended.sink.bytes().len(), len, "call {call}");
         assert_eq!(rt; ended.log.bytes(), b"write fault\n".as_slice());
     }
     // All segments together have as many bytes as the capture that they were merged from.
-    let made = run_line(alloc, "offload make --count 40", &[], 4096, &[], &[])?;
-    let merged = run_line(alloc, MERGE, made.sink.bytes(), 4096, &[], &[])?;
+    let made = run_line(
+        &rt,
+        rt.alloc(),
+        "offload make --count 40",
+        &[],
+        4096,
+        &[],
+        &[],
+    )?;
+    let merged = run_line(&rt, rt.alloc(), MERGE, made.sink.bytes(), 4096, &[], &[])?;
     assert_eq!(rt; merged.status, Status::Ok);
     assert!(rt; merged.sink.bytes().len() < made.sink.bytes().len());
     let cut = run_line(
-        alloc,
+        &rt,
+        rt.alloc(),
         "offload segment",
         merged.sink.bytes(),
         4096,

@@ -1,7 +1,8 @@
 //! `offload merge` over the sample captures of `data/`: a line for each, with its status, its records in and out, how many of
 //! these are of merged packets, and a hash of all bytes written. Then `offload segment` over what was written: its status, and
-//! how many packets came back, each the next one of its flow, byte for byte and with its original length. Then a
-//! record of 65,495 segments, made by another program, and at last three runs that are refused, with their lines in the log.
+//! how many packets came back, each the next one of its flow, byte for byte and with its original length; and `offload merge` over
+//! 64 queues and with 8 taps. Then a record of 65,495 segments, made by another program, and at last three runs that are refused,
+//! with their lines in the log.
 //!
 //! It is run by the gate, which compares the lines with `stdout`. The counts and hashes of merging come from
 //! `contrib/merge_by_definition`, a slow program that was written from the definitions alone and judges all members of a run
@@ -15,8 +16,12 @@ use offload_run::{Status, run};
 use pcap_io::{CaptureReader, FileHead, Link, take_file};
 use std::alloc::{AllocError, Global};
 use std::fs;
+use std::thread::Threads;
 
 const MOST_SEGMENTS: &str = "one_byte_segments.pcap";
+
+// Over all samples some 200 rounds, whose 72 lanes run at the same time.
+const MOST_LANES: &str = "merge --queues 64 --taps 8 --budget 14";
 
 const SAMPLES: [&str; 4] = [
     "tcp_ipv4_four_flows.pcap",
@@ -172,16 +177,24 @@ struct Ended {
     log: Vec<u8>,
 }
 
-// Runs a command over these bytes.
-fn run_over(alloc: Global, command: &str, bytes: &[u8]) -> Result<Ended, AllocError> {
+// Runs a command, with its options, over these bytes.
+fn run_over(
+    rt: &(impl Threads + Sync),
+    alloc: Global,
+    command: &str,
+    bytes: &[u8],
+) -> Result<Ended, AllocError> {
     let mut words = Vec::new(alloc);
     words.push(String::from_str(alloc, "offload")?)?;
-    words.push(String::from_str(alloc, command)?)?;
+    for word in command.split(' ') {
+        words.push(String::from_str(alloc, word)?)?;
+    }
     let mut source = MemSource::new(bytes.to_vec(alloc)?, 65536, Vec::new(alloc));
     let mut sink = MemSink::new(alloc, 65536, Vec::new(alloc));
     let mut log = MemSink::new(alloc, 64, Vec::new(alloc));
     let mut engine = None;
     let status = run(
+        rt,
         alloc,
         &words,
         &mut source,
@@ -196,9 +209,7 @@ fn run_over(alloc: Global, command: &str, bytes: &[u8]) -> Result<Ended, AllocEr
 }
 
 // A line on the record of the most segments that an IPv4 length field allows, each with one byte of payload.
-fn show_most_segments(rt: &HostRuntime) -> Result<(), Error> {
-    let bytes = fs::read(rt, MOST_SEGMENTS)?;
-    let ended = run_over(rt.alloc(), "segment", &bytes)?;
+fn show_most_segments(rt: &HostRuntime, ended: &Ended) -> Result<(), Error> {
     println!(rt;
         "{MOST_SEGMENTS}: segmented: status {}, bytes {}, hash {}",
         ended.status.code(),
@@ -208,9 +219,19 @@ fn show_most_segments(rt: &HostRuntime) -> Result<(), Error> {
     Ok(())
 }
 
+// A line on a run over the most queues and taps that there may be.
+fn show_lanes(rt: &HostRuntime, name: &str, lanes: &Ended) -> Result<(), Error> {
+    println!(rt;
+        "{name}: 64 queues, 8 taps: status {}, bytes {}, hash {}",
+        lanes.status.code(),
+        lanes.bytes.len(),
+        hash(&lanes.bytes)
+    )?;
+    Ok(())
+}
+
 // A line on a run that is refused: its status and its line in the log.
-fn show_refusal(rt: &HostRuntime, what: &str, command: &str, bytes: &[u8]) -> Result<(), Error> {
-    let ended = run_over(rt.alloc(), command, bytes)?;
+fn show_refusal(rt: &HostRuntime, what: &str, ended: &Ended) -> Result<(), Error> {
     let line = str::from_utf8(&ended.log).unwrap_or("no text");
     println!(rt;
         "{what}: status {}, log: {}",
@@ -220,23 +241,13 @@ fn show_refusal(rt: &HostRuntime, what: &str, command: &str, bytes: &[u8]) -> Re
     Ok(())
 }
 
-// A usage error, and a capture that is cut one byte before its end.
-fn show_refusals(rt: &HostRuntime, sample: &[u8]) -> Result<(), Error> {
-    let cut = match sample.split_last() {
-        Some((_, front)) => front,
-        None => sample,
-    };
-    show_refusal(rt, "frobnicate", "frobnicate", sample)?;
-    show_refusal(rt, "one byte short", "merge", cut)?;
-    show_refusal(rt, "no offload capture", "segment", sample)
-}
-
 fn main(rt: HostRuntime) -> Result<(), Error> {
     let alloc = rt.alloc();
     for name in SAMPLES {
         let bytes = fs::read(&rt, name)?;
-        let merged = run_over(alloc, "merge", &bytes)?;
-        let cut = run_over(alloc, "segment", &merged.bytes)?;
+        let merged = run_over(&rt, alloc, "merge", &bytes)?;
+        let cut = run_over(&rt, alloc, "segment", &merged.bytes)?;
+        let lanes = run_over(&rt, alloc, MOST_LANES, &bytes)?;
         let code = merged.status.code();
         let hash = hash(&merged.bytes);
         let none = Vec::new(alloc);
@@ -256,8 +267,20 @@ fn main(rt: HostRuntime) -> Result<(), Error> {
             after.len(),
             count_back(alloc, &before, &after)?
         )?;
+        show_lanes(&rt, name, &lanes)?;
     }
-    show_most_segments(&rt)?;
+    let most = fs::read(&rt, MOST_SEGMENTS)?;
+    show_most_segments(&rt, &run_over(&rt, alloc, "segment", &most)?)?;
+    // A usage error, a capture that is cut one byte before its end, and one of the wrong link type.
     let sample = fs::read(&rt, SAMPLES[0])?;
-    show_refusals(&rt, &sample)
+    let cut = match sample.split_last() {
+        Some((_, front)) => front,
+        None => sample.as_slice(),
+    };
+    let usage = run_over(&rt, alloc, "frobnicate", &sample)?;
+    show_refusal(&rt, "frobnicate", &usage)?;
+    let short = run_over(&rt, alloc, "merge", cut)?;
+    show_refusal(&rt, "one byte short", &short)?;
+    let other = run_over(&rt, alloc, "segment", &sample)?;
+    show_refusal(&rt, "no offload capture", &other)
 }
