@@ -2,5 +2,5 @@ pub mod Adding
 pub mod Summing
 mod Owing
 mod Exceeding
-mod Tallying
+pub mod Tallying
 pub mod Bounds
