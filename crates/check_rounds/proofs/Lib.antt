@@ -1,0 +1,2 @@
+-- rounds that are counted, and how counting ends
+mod Counting

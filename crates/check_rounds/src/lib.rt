@@ -1,0 +1,16 @@
+//! Checks a capture, round by round: what each round came to is compared with its packets, and what is counted is added.
+//!
+//! Proved of [`check_all`]: the totals are those of the packets within the blocks, and it ends where the capture's bytes stop it, by the
+//! model that merging ends by (`given`, by `counting` of `check_totals`); after a read fault they are those of the bytes that are gone.
+//! All blocks are home again, whatever the ending (`home`).
+//!
+//! ```text
+//! let mut totals = Totals::make(alloc, queues, taps)?;
+//! let end = check_all(&rt, &mut rounds, &mut reader, &mut totals, &NoGate);
+//! write_totals(&mut sink, &totals)?;
+//! ```
+#![tactic(auto)]
+
+mod check;
+
+pub use check::{CheckEnd, check_all};
