@@ -16,11 +16,11 @@ use Rattle.offload_words.specs.Merge.{IsInRange, merge_options_in}
 use Rattle.offload_words.specs.declared.merge.MergeOptions.{MergeOptions}
 use Rattle.offload_words.specs.Commands.{HasRanges, command_by, command_named, command_of, command_unless, offload_app}
 use Rattle.offload_words.specs.declared.words.Command.{Command}
-use Rattle.offload_words.specs.declared.words.Command.TheVariants.{Merge, Segment, Make}
+use Rattle.offload_words.specs.declared.words.Command.TheVariants.{Merge, Segment, Check, Make}
 use Rattle.offload_words.specs.declared.words.WordsFault.{WordsFault}
 use Rattle.offload_words.specs.declared.words.WordsFault.TheVariants.{Usage}
 use Rattle.offload_words.proofs.OptionRows.{AllFit, Each, IsValueOrHelp, defaults_for, level_fits, level_has}
-use Rattle.offload_words.proofs.OptionNumbers.{is_ranged, number_read}
+use Rattle.offload_words.proofs.OptionNumbers.{at_most_limit, is_ranged, number_read}
 use Rattle.offload_words.proofs.Subcommands.{Gives, help_level, line_fits}
 
 -- ---- faults and commands, at any command set
@@ -136,6 +136,23 @@ segment_level s off ones has name = λ words word e no_help is.
     let blocks = number_there s words (codes "blocks") 4294967295 1 65536 (omega arith) has (level_fits s words false [] off ones e) in
     (Segment (record { blocks = blocks.0 }), segment_made s.name (rows_after s.rules [] words) blocks.0 name blocks.1, (blocks.2, blocks.3))
 
+check_made : (name : Text) (rows : List Row) (o : MergeOptions) (count : ℕ) → name ≡ codes "check" → merge_options_in rows ≡ Some o → number_in 4294967295 (codes "count") rows ≡ Some count
+    → command_named name rows ≡ Some (Check (record { merge = o; seed = number_in 18446744073709551615 (codes "seed") rows; count = count }))
+unfolding command_named
+check_made name rows o count e f g = rw (e, f, g) refl
+
+check_level : (s : Shape) → s.args_override_self ≡ false → Each IsValueOrHelp s.rules → has_merge s.rules ≡ true
+    → has_number (codes "count") 0 10000000 s.rules ≡ true → s.name ≡ codes "check" → Gives IsMade s
+check_level s off ones has has_count name = λ words word e no_help is.
+    let fit = level_fits s words false [] off ones e in
+    let rows = rows_after s.rules [] words in
+    let m = merge_there s words has fit in
+    let count = number_there s words (codes "count") 4294967295 0 10000000 (omega arith) has_count fit in (
+      Check (record { merge = m.0; seed = number_in 18446744073709551615 (codes "seed") rows; count = count.0 }),
+      check_made s.name rows m.0 count.0 name m.1 count.1,
+      (m.2, at_most_limit 18446744073709551615 (codes "seed") rows, count.3),
+    )
+
 make_made : (name : Text) (rows : List Row) (seed count : ℕ) → name ≡ codes "make" → number_in 18446744073709551615 (codes "seed") rows ≡ Some seed
     → number_in 4294967295 (codes "count") rows ≡ Some count → command_named name rows ≡ Some (Make (record { seed = seed; count = count }))
 unfolding command_named
@@ -161,8 +178,13 @@ each_gives = (
   (
     segment_level _ refl ((refl, refl, inl (refl, refl)), ((refl, refl, inr refl), tt)) refl refl,
     (
-      make_level _ refl ((refl, refl, inl (refl, refl)), ((refl, refl, inl (refl, refl)), ((refl, refl, inr refl), tt))) refl refl refl,
-      (help_level IsMade _ refl refl, tt),
+      check_level _ refl
+          ((refl, refl, inl (refl, refl)), ((refl, refl, inl (refl, refl)), ((refl, refl, inl (refl, refl)), ((refl, refl, inl (refl, refl)), ((refl, refl, inl (refl, refl)), ((refl, refl, inl (refl, refl)), ((refl, refl, inl (refl, refl)), ((refl, refl, inr refl), tt))))))))
+          refl refl refl,
+      (
+        make_level _ refl ((refl, refl, inl (refl, refl)), ((refl, refl, inl (refl, refl)), ((refl, refl, inr refl), tt))) refl refl refl,
+        (help_level IsMade _ refl refl, tt),
+      ),
     ),
   ),
 )

@@ -1,6 +1,6 @@
 -- The number at an option that takes one and has a default: there is one, in the option's range.
 use Rattle.std.proofs.Common.{◌≡◌, ◌∙◌, ◌==◌, ◌&&◌, ◌||◌, ◌<◌, ◌≤◌, ◌^◌, ℕ, Bool, eqb-true, true, false, not, true≢false, refl, sym, ap, subst, arith, List, [], ◌∷◌, Option, Some, None, ⊎_elim, if◌then◌else◌}
-use Rattle.std.specs.Prelude.{find, option_and_then}
+use Rattle.std.specs.Prelude.{find, option_and_then, IfSome}
 use Rattle.std.specs.List.{list_all}
 use Rattle.std.specs.Str.Parse.{IsNumeral, digits_value, without_leading_plus}
 use Rattle.clap.specs.ValueTests.{accepts}
@@ -73,6 +73,22 @@ value_of (a ∷ c) id low high r ranged is good = ⊎_elim here (value_of c id l
         let bound : (not a.ignore_case && is_unsigned low high a.parser) ≡ true = subst (λ (b : Bool). (not b || (not a.ignore_case && is_unsigned low high a.parser)) ≡ true) mine (both _ _ ranged).0 in
         let first : row_text r ≡ Some f.2.0 = rw (f.1, f.2.1) refl in
         (f.2.0, first, bounds_of low high a f.2.0 bound f.2.2)
+
+-- whatever stands at an option, a number that is read there is within the limit
+of_at_most : (limit : ℕ) (t : Text) → IfSome (number_of limit t) (λ n. n ≤ limit)
+unfolding number_of
+of_at_most limit t = go (accepts false (vp.Unsigned 0 limit) t) refl
+  where
+    go : (b : Bool) → accepts false (vp.Unsigned 0 limit) t ≡ b → IfSome (if b then Some (digits_value 10 (without_leading_plus t)) else None) (λ n. n ≤ limit)
+    go true e = (accepts-Accepts false (vp.Unsigned 0 limit) t e).3
+    go false e = tt
+
+pub at_most_limit : (limit : ℕ) (id : Text) (rows : List Row) → IfSome (number_in limit id rows) (λ n. n ≤ limit)
+at_most_limit limit id rows = go (one_of id rows)
+  where
+    go : (o : Option Text) → IfSome (option_and_then (number_of limit) o) (λ n. n ≤ limit)
+    go None = tt
+    go (Some t) = of_at_most limit t
 
 -- at an option with a default there is a number in its range
 pub number_read : (c : List Rule) (id : Text) (limit low high : ℕ) (rows : List Row) → high ≤ limit → list_all (is_ranged id low high) c ≡ true → AllFit c rows → has_row id rows ≡ true

@@ -7,10 +7,12 @@ use Rattle.clap.specs.declared.builder.Command.TheViews.{out-Command}
 use Rattle.offload_words.specs.Merge.{IsInRange, merge_app, merge_options_in}
 use Rattle.offload_words.specs.Segment.{segment_app, segment_options_in}
 use Rattle.offload_words.specs.Segment as segment
+use Rattle.offload_words.specs.Check.{check_app, check_options_in}
+use Rattle.offload_words.specs.Check as check
 use Rattle.offload_words.specs.Make.{make_app, make_options_in}
 use Rattle.offload_words.specs.Make as make
 use Rattle.offload_words.specs.declared.words.Command.{Command}
-use Rattle.offload_words.specs.declared.words.Command.TheVariants.{Merge, Segment, Make}
+use Rattle.offload_words.specs.declared.words.Command.TheVariants.{Merge, Segment, Check, Make}
 
 -- ---- what clap is told
 
@@ -18,9 +20,13 @@ use Rattle.offload_words.specs.declared.words.Command.TheVariants.{Merge, Segmen
 abbrev pub needs_subcommand : App → App
 needs_subcommand a = record a { top = record a.top { subcommand_required = true } }
 
--- the program, with one subcommand for each command
+-- the program, with a subcommand for each command that reads a capture
+abbrev pub reading_app : App
+reading_app = with_subcommand (with_subcommand (with_subcommand (needs_subcommand (new_app (codes "offload"))) merge_app.top) segment_app.top) check_app.top
+
+-- and with one for the command that makes a capture
 abbrev pub offload_app : App
-offload_app = with_subcommand (with_subcommand (with_subcommand (needs_subcommand (new_app (codes "offload"))) merge_app.top) segment_app.top) make_app.top
+offload_app = with_subcommand reading_app make_app.top
 
 -- whether clap's command passes options down to its subcommands
 abbrev pub has_globals_of : clap_command.Command → Bool
@@ -33,8 +39,9 @@ unfoldable pub command_named : Text → List Row → Option Command
 command_named name rows =
     if bytes_eq name (codes "merge") then option_map Merge (merge_options_in rows)
     else (if bytes_eq name (codes "segment") then option_map Segment (segment_options_in rows)
+    else (if bytes_eq name (codes "check") then option_map Check (check_options_in rows)
     else (if bytes_eq name (codes "make") then option_map Make (make_options_in rows)
-    else None))
+    else None)))
 
 abbrev pub command_unless : Kinds → Option Command → Option Command
 command_unless [] command = command
@@ -52,6 +59,7 @@ command_of words = command_by offload_app words
 abbrev pub HasRanges : Command → Type 0
 HasRanges (Merge options) = IsInRange options
 HasRanges (Segment options) = segment.IsInRange options
+HasRanges (Check options) = check.IsInRange options
 HasRanges (Make options) = make.IsInRange options
 
 -- no line is without both a fault and a command

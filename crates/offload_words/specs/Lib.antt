@@ -1,4 +1,5 @@
 pub mod Blocks
+pub mod Check
 pub mod Commands
 pub mod Make
 pub mod Merge

@@ -6,9 +6,13 @@ use Rattle.clap.specs.Words.{Row, Rule, Text, new_rule, one_of}
 use Rattle.clap.specs.declared.builder.ArgAction.TheVariants.{Set}
 use Rattle.clap.specs.declared.builder.value_parser.ValueParser.TheVariants as vp
 
--- an option --id with one value, a number from low to high; where the option isn't given, the value is the default
+-- an option --id with one value, a number from low to high
+abbrev pub plain_number_rule : Text → ℕ → ℕ → Rule
+plain_number_rule id low high = record (new_rule id) { long = Some id; action = Some Set; parser = Some (vp.Unsigned low high) }
+
+-- the same, where the value is the default if the option isn't given
 abbrev pub number_rule : Text → ℕ → ℕ → Text → Rule
-number_rule id low high default = record (new_rule id) { long = Some id; action = Some Set; parser = Some (vp.Unsigned low high); defaults = default ∷ [] }
+number_rule id low high default = record (plain_number_rule id low high) { defaults = default ∷ [] }
 
 -- the number that a text writes, where clap takes the text for a number of at most `limit`: decimal digits, with
 -- leading zeros and one plus sign as one likes

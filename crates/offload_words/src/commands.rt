@@ -2,8 +2,9 @@
 
 ghost use Rattle.std.specs.Prelude.{◌≡◌, IfOk, codes, false};
 ghost use Rattle.clap.specs.Words.{app_of, new_app, with_subcommand};
-ghost use Rattle.offload_words.specs.Commands.{offload_app, has_globals_of, needs_subcommand};
+ghost use Rattle.offload_words.specs.Commands.{has_globals_of, needs_subcommand, offload_app, reading_app};
 
+use crate::check::check_subcommand;
 use crate::make::make_subcommand;
 use crate::merge::merge_subcommand;
 use crate::segment::segment_subcommand;
@@ -27,11 +28,18 @@ fn with_command<'a>(
     app.subcommand(subcommand)
 }
 
+/// The program with the commands that read a capture.
+fn reading_commands<'a>(alloc: Global) -> Result<clap::Command<'a>, AllocError>
+    ensures { IfOk result (λ c. app_of c ≡ reading_app) }
+{
+    let merge = with_command(program(alloc), merge_subcommand(alloc)?)?;
+    let segment = with_command(merge, segment_subcommand(alloc)?)?;
+    with_command(segment, check_subcommand(alloc)?)
+}
+
 /// The whole command set.
 pub(crate) fn offload_commands<'a>(alloc: Global) -> Result<clap::Command<'a>, AllocError>
     ensures { IfOk result (λ c. app_of c ≡ offload_app) }
 {
-    let merge = with_command(program(alloc), merge_subcommand(alloc)?)?;
-    let segment = with_command(merge, segment_subcommand(alloc)?)?;
-    with_command(segment, make_subcommand(alloc)?)
+    with_command(reading_commands(alloc)?, make_subcommand(alloc)?)
 }

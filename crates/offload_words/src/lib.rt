@@ -12,6 +12,7 @@
 //! ```
 #![tactic(auto)]
 
+pub mod check;
 mod commands;
 pub mod make;
 pub mod merge;
@@ -21,6 +22,7 @@ pub mod segment;
 mod tests;
 pub mod words;
 
+pub use check::CheckOptions;
 pub use make::MakeOptions;
 pub use merge::MergeOptions;
 pub use segment::SegmentOptions;

@@ -25,7 +25,7 @@ pub struct MergeOptions {
 }
 
 /// A subcommand with the options of `merge`.
-fn with_merge_options<'a>(
+pub(crate) fn with_merge_options<'a>(
     alloc: Global,
     app: clap::Command<'a>,
 ) -> Result<clap::Command<'a>, AllocError>

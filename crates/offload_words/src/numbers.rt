@@ -3,7 +3,7 @@
 ghost use Rattle.std.specs.Prelude.{◌≡◌, IfOk, false};
 ghost use Rattle.clap.specs.Words.{app_of, found_of, rows_of, rule_of, with_rule};
 ghost use Rattle.offload_words.specs.Commands.{has_globals_of};
-ghost use Rattle.offload_words.specs.Numbers.{number_rule, number_in};
+ghost use Rattle.offload_words.specs.Numbers.{number_in, number_rule, plain_number_rule};
 ghost use Rattle.offload_words.specs.Blocks.{blocks_rule};
 
 use clap::builder::ValueParser;
@@ -11,6 +11,17 @@ use clap::{Arg, ArgAction, ArgMatches};
 use std::alloc::{AllocError, Global};
 
 /// The option `--id`, which takes a number from `low` to `high`.
+fn plain_number_option<'a>(alloc: Global, id: &'a str, low: u64, high: u64) -> Arg<'a>
+    ensures rule { rule_of result ≡ plain_number_rule id.entry.now low high }
+    ensures local { result.global ≡ false }
+{
+    Arg::new(alloc, id)
+        .long(id)
+        .action(ArgAction::Set)
+        .value_parser(ValueParser::unsigned(low, high))
+}
+
+/// The same, with a number where the option isn't given.
 pub(crate) fn number_option<'a>(
     alloc: Global,
     id: &'a str,
@@ -21,14 +32,25 @@ pub(crate) fn number_option<'a>(
     ensures rule { rule_of result ≡ number_rule id.entry.now low high default.entry.now }
     ensures local { result.global ≡ false }
 {
-    Arg::new(alloc, id)
-        .long(id)
-        .action(ArgAction::Set)
-        .value_parser(ValueParser::unsigned(low, high))
-        .default_value(default)
+    plain_number_option(alloc, id, low, high).default_value(default)
 }
 
-/// The subcommand with the option `--id` too.
+/// The subcommand with the option `--id` too, which need not be given.
+pub(crate) fn with_plain_number<'a>(
+    alloc: Global,
+    app: clap::Command<'a>,
+    id: &'a str,
+    low: u64,
+    high: u64,
+) -> Result<clap::Command<'a>, AllocError>
+    requires { has_globals_of app ≡ false }
+    ensures app { IfOk result (λ c. app_of c ≡ with_rule (app_of app.entry) (plain_number_rule id.entry.now low high)) }
+    ensures local { IfOk result (λ c. has_globals_of c ≡ false) }
+{
+    app.arg(plain_number_option(alloc, id, low, high))
+}
+
+/// The subcommand with the option `--id` too, and a number where it isn't given.
 pub(crate) fn with_number<'a>(
     alloc: Global,
     app: clap::Command<'a>,

@@ -1,7 +1,7 @@
 //! Lines of words, taken and refused.
 
 use crate::{
-    Command, MakeOptions, MergeOptions, SegmentOptions, WordsFault,
+    CheckOptions, Command, MakeOptions, MergeOptions, SegmentOptions, WordsFault,
     every_faultless_line_is_a_command, parse_words,
 };
 use std::alloc::{AllocError, Global};
@@ -164,6 +164,46 @@ fn segment_and_make(rt: HostRuntime) -> Result<(), Fail> {
 }
 
 #[test]
+fn check_and_its_options(rt: HostRuntime) -> Result<(), Fail> {
+    let alloc = rt.alloc();
+    let merge = MergeOptions {
+        queues: 4,
+        taps: 2,
+        ..DEFAULTS
+    };
+    let taken = [
+        ("check", DEFAULTS, None, 1000),
+        ("check --seed 0", DEFAULTS, Some(0), 1000),
+        (
+            "check --seed=18446744073709551615",
+            DEFAULTS,
+            Some(u64::MAX),
+            1000,
+        ),
+        ("check --count 0", DEFAULTS, None, 0),
+        (
+            "check --count 10000000 --seed 1",
+            DEFAULTS,
+            Some(1),
+            10000000,
+        ),
+        (
+            "check --queues 4 --taps 2 --seed 7 --count 5",
+            merge,
+            Some(7),
+            5,
+        ),
+    ];
+    for (line, merge, seed, count) in taken {
+        let line = format!(in alloc; "offload {line}")?;
+        let command = parse_words(alloc, &words(alloc, &line)?);
+        let want = Command::Check(CheckOptions { merge, seed, count });
+        assert!(rt; command == Ok(want), "at {line}");
+    }
+    Ok(())
+}
+
+#[test]
 fn refused_lines(rt: HostRuntime) -> Result<(), Fail> {
     let alloc = rt.alloc();
     let refused = [
@@ -210,6 +250,13 @@ fn refused_lines(rt: HostRuntime) -> Result<(), Fail> {
         "offload merge --taps 1 --taps=1",
         "offload merge --snap 64 --taps 1 --snap 64",
         "offload merge --seed 1",
+        "offload check --queues 65",
+        "offload check --snap 0",
+        "offload check --count 10000001",
+        "offload check --seed 18446744073709551616",
+        "offload check --seed",
+        "offload check --seed 1 --seed 1",
+        "offload check --help",
         "offload merge --budget 2 3",
         "offload merge -- 2",
         "offload merge merge",

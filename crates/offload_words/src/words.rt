@@ -3,10 +3,12 @@
 ghost use Rattle.std.specs.Prelude.{◌≡◌, ◌≢◌, [], IfOk, Some, None, MatchResult, map, option_and_then, option_map, string_bytes, true};
 ghost use Rattle.clap.specs.Words.{app_of, fault_of, found_of, is_simple_and_free, rows_of, subcommand_rows_of};
 ghost use Rattle.offload_words.specs.Commands.{FaultlessLinesAreCommands, command_by, command_named, command_of, HasRanges, offload_app};
+ghost use Rattle.offload_words.specs.Check.{check_options_in};
 ghost use Rattle.offload_words.specs.Make.{make_options_in};
 ghost use Rattle.offload_words.specs.Merge.{merge_options_in};
 ghost use Rattle.offload_words.specs.Segment.{segment_options_in};
 
+use crate::check::{CheckOptions, check_options};
 use crate::commands::offload_commands;
 use crate::make::{MakeOptions, make_options};
 use crate::merge::{MergeOptions, merge_options};
@@ -22,6 +24,8 @@ pub enum Command {
     Merge(MergeOptions),
     /// `segment`: cut the merged records of a capture again.
     Segment(SegmentOptions),
+    /// `check`: merge the TCP segments of a capture, cut them again and count those that come back.
+    Check(CheckOptions),
     /// `make`: write a generated capture.
     Make(MakeOptions),
 }
@@ -49,6 +53,13 @@ fn segment_command(matches: &ArgMatches<'_>) -> Option<Command>
     Some(Command::Segment(segment_options(matches)?))
 }
 
+/// `check` with the options among its matches.
+fn check_command(matches: &ArgMatches<'_>) -> Option<Command>
+    ensures { result ≡ option_map Command.Check (check_options_in (rows_of (found_of matches.now))) }
+{
+    Some(Command::Check(check_options(matches)?))
+}
+
 /// `make` with the options among its matches.
 fn make_command(matches: &ArgMatches<'_>) -> Option<Command>
     ensures { result ≡ option_map Command.Make (make_options_in (rows_of (found_of matches.now))) }
@@ -64,6 +75,7 @@ fn command_at(name: &str, matches: &ArgMatches<'_>) -> Option<Command>
     match name {
         "merge" => merge_command(matches),
         "segment" => segment_command(matches),
+        "check" => check_command(matches),
         "make" => make_command(matches),
         _ => None,
     }
