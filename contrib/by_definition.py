@@ -1,12 +1,14 @@
 """What `offload merge`, `segment` and `check` answer to a capture, slowly and by the definitions: status, line of the log and output.
 
 A list of packets is mergeable where the conditions on all its members hold, and each flow's packets of a round are cut into maximal
-mergeable runs. It shares no code and no method with the proved program, so the two can be compared. `merge_by_definition` and `fuzz`
-stand on it.
+mergeable runs. It shares no code and no method with the proved program, so the two can be compared. `merge_by_definition`,
+`check_by_definition` and `fuzz` stand on it.
 """
 import functools
 import struct
 from typing import NamedTuple, Optional
+
+from made_by_definition import capture
 
 ETHERNET, TAG, IP4, IP6, UDP, VXLAN, TCP = "ethernet", "tag", "ip4", "ip6", "udp", "vxlan", "tcp"
 
@@ -49,13 +51,29 @@ class PoolEmpty(NamedTuple):
 
 
 class Options(NamedTuple):
-    """The options of `merge` and `check`; `segment` has `blocks` alone. Without `blocks` there is no limit to them."""
+    """The options of `merge` and `check`; `segment` has `blocks` alone. Without `blocks` there is no limit to them, and without `seed` a capture is read."""
 
     budget: int = 64
     queues: int = 1
     taps: int = 0
     snap: int = 64
     blocks: Optional[int] = None
+    seed: Optional[int] = None
+    count: int = 1000
+
+
+# The numbers that scripts take behind their files, and their ranges.
+NUMBERS = (("budget", 1, 4096), ("queues", 1, 64), ("taps", 0, 8), ("snap", 1, 2048))
+
+
+def options_of(words):
+    """The options that some numbers stand for; a ValueError says what is wrong with them."""
+    options = Options()
+    for (name, least, most), word in zip(NUMBERS, words):
+        if not (word.isascii() and word.isdigit() and least <= int(word) <= most):
+            raise ValueError(f"{name} is a number from {least} to {most}, not {word}")
+        options = options._replace(**{name: int(word)})
+    return options
 
 
 class Answer(NamedTuple):
@@ -502,6 +520,10 @@ def counts_line(name, counts):
 
 
 def check(data, options=Options()):
+    lines = []
+    if options.seed is not None:
+        data = capture(options.seed, options.count)
+        lines.append(f"made: records {options.count} bytes {len(data)}\n")
     order = file_head(data, ETHERNET_LINK)
     if isinstance(order, Fault):
         return answer(order, b"")
@@ -515,7 +537,7 @@ def check(data, options=Options()):
         for tap in range(options.taps):
             read = windows(packets, options, tap)
             taps[tap] = [taps[tap][0] + len(read), taps[tap][1] + sum(len(window) for _, window in read)]
-    lines = [counts_line(f"queue {where}", counts) for where, counts in enumerate(queues)]
+    lines += [counts_line(f"queue {where}", counts) for where, counts in enumerate(queues)]
     lines += [f"tap {tap}: windows {count} bytes {size}\n" for tap, (count, size) in enumerate(taps)]
     lines.append(counts_line("total", map(sum, zip(*queues))))
     return answer(end, "".join(lines).encode())

@@ -388,9 +388,10 @@ def offload_capture(rng):
 
 # Words.
 
-RANGES = {"budget": (1, 4096), "queues": (1, 64), "taps": (0, 8), "snap": (1, 2048), "blocks": (1, 65536)}
-OF_COMMAND = {"merge": tuple(RANGES), "check": tuple(RANGES), "segment": ("blocks",)}
+RANGES = {"budget": (1, 4096), "queues": (1, 64), "taps": (0, 8), "snap": (1, 2048), "blocks": (1, 65536), "seed": (0, 2**64 - 1), "count": (0, 10**7)}
+OF_COMMAND = {"merge": tuple(RANGES)[:5], "check": tuple(RANGES), "segment": ("blocks",)}
 USUAL = {"budget": (1, 2, 3, 4, 4, 64, 65, 4096), "queues": (1, 2, 3, 64), "taps": (0, 1, 2, 8), "snap": (1, 20, 64, 2048), "blocks": (1, 3, 6, 40, 8384)}
+USUAL |= {"seed": (0, 1, 2, 2**64 - 1), "count": (0, 1, 2, 20, 100)}
 DEFAULT_BLOCKS = 8384
 
 
@@ -409,13 +410,20 @@ def wrong_words(rng, command, taken):
     return rng.choice(words)
 
 
+def chance(name, words):
+    """How often an option is given; of a seed without a count there are a thousand records, which takes the definitions long."""
+    if name != "seed":
+        return 0.5
+    return 0.2 if any(word.startswith("--count") for word in words) else 0.05
+
+
 def line(rng, command, taken):
     """The words of a command and its options; `taken` are those that the program takes."""
     if rng.random() < 0.01:
         return wrong_words(rng, command, taken), None
     words, options = [], Options(blocks=DEFAULT_BLOCKS if "blocks" in taken else None)
     for name in sorted(taken):
-        if rng.random() < 0.5:
+        if rng.random() < chance(name, words):
             value = rng.choice(USUAL[name])
             options = options._replace(**{name: value})
             words = words + option_words(rng, name, value) if rng.random() < 0.5 else option_words(rng, name, value) + words
