@@ -1,5 +1,5 @@
 -- Records one after the other.
-use Rattle.std.proofs.Common.{◌≡◌, ℕ, zero, suc, ◌+◌, ◌-◌, ◌%◌, ◌<◌, ◌++◌, List, [], refl, sym, ap, ◌∙◌, arith}
+use Rattle.std.proofs.Common.{◌≡◌, ℕ, zero, suc, ◌+◌, ◌-◌, ◌%◌, ◌<◌, ◌++◌, List, [], length, refl, sym, ap, ◌∙◌, arith, length-append}
 use Rattle.net_bytes.specs.declared.order.Order.TheVariants.{Little}
 use Rattle.pcap_io.specs.declared.heads.Link.TheVariants.{Ethernet}
 use Rattle.pcap_io.specs.Split.{spelled}
@@ -49,3 +49,12 @@ none_owed more r next e = ap (λ n. records_from n r next) e ∙ none_from r nex
 pub made_is : (seed count : ℕ) → file_bytes made_head Ethernet ++ records_from (count - 0) 0 (first_next seed) ≡ made seed count
 unfolding made
 made_is seed count = let e : count - 0 ≡ count = omega arith in ap (λ n. file_bytes made_head Ethernet ++ records_from n 0 (first_next seed)) e
+
+-- how long what is still to come is, once a record is made
+pub next_length : (count r len : ℕ) (next then_next : Next) (bytes : List ℕ) → r < count → bytes ≡ spelled Little (packet_at next r) → then_next ≡ after next
+    → len + length (records_from (count - r) r next) ≡ len + length bytes + length (records_from (count - (r + 1)) (r + 1) then_next)
+next_length count r len next then_next bytes h e f =
+    omega (arith, ap length (next_owed count r next then_next bytes h e f), length-append bytes (records_from (count - (r + 1)) (r + 1) then_next))
+
+pub none_length : (more r : ℕ) (next : Next) → more ≡ 0 → length (records_from more r next) ≡ 0
+none_length more r next e = ap length (none_owed more r next e)

@@ -6,8 +6,8 @@
 //!
 //! The definition stands in `specs/`: the draws, the headers, the frames with their sums by one division, and the capture,
 //! `made`. Proved: [`make_capture`] appends just these bytes, or a front of them at a fault (clauses `ok`, `err`, `cause`);
-//! a [`MadeSource`] gives just these bytes, takes no memory and never fails; and the capture reads to its end with as many
-//! records as were wanted ([`made_reads_back`]).
+//! a [`MadeSource`] gives just these bytes, takes no memory and never fails; [`made_len`] is their number; and the capture reads to
+//! its end with as many records as were wanted ([`made_reads_back`]).
 //!
 //! ```text
 //! make_capture(1, 1000, &mut sink)?;
@@ -20,6 +20,7 @@ pub mod draws;
 mod frame;
 mod headers;
 mod laws;
+mod len;
 mod maker;
 mod record;
 pub mod segment;
@@ -29,4 +30,5 @@ mod tests;
 
 pub use capture::make_capture;
 pub use laws::made_reads_back;
+pub use len::made_len;
 pub use source::MadeSource;
