@@ -2,7 +2,10 @@ mod Behind
 mod Segmenting
 mod Used
 mod Makings
+mod Lining
+mod Telling
 mod Numbered
 mod BackAgain
 mod PlainWords
+mod CheckedWords
 mod BothWays

@@ -23,21 +23,21 @@ use Rattle.offload_run.specs.declared.status.Status.{Status}
 use Rattle.offload_run.specs.declared.status.Status.TheVariants as statuses
 use Rattle.offload_run.specs.Ending.{ending_of, Ends}
 use Rattle.offload_run.specs.Output.{options}
-use Rattle.offload_run.specs.PlainWords.{refusal, merge_exceeds, written_before, MergeSays, tested_before, segmented_before, SegmentSays, InPlainWords}
+use Rattle.offload_run.specs.PlainWords.{refusal, merge_exceeds, written_before, MergeSays, tested_before, segmented_before, SegmentSays}
 
 -- ---- where a command stops
 
-nowhere : (fault : Option CapFault) (e : Option (ℕ × ℕ)) → stop_of fault e ≡ Nowhere → (fault ≡ None) × (e ≡ None)
+pub nowhere : (fault : Option CapFault) (e : Option (ℕ × ℕ)) → stop_of fault e ≡ Nowhere → (fault ≡ None) × (e ≡ None)
 nowhere None None is = (refl, refl)
 nowhere None (Some at) is = let no : ⊥ = (cc) in absurd no
 nowhere (Some fault) e is = let no : ⊥ = (cc) in absurd no
 
-at_fault : (fault : Option CapFault) (e : Option (ℕ × ℕ)) (f : CapFault) → stop_of fault e ≡ AtFault f → fault ≡ Some f
+pub at_fault : (fault : Option CapFault) (e : Option (ℕ × ℕ)) (f : CapFault) → stop_of fault e ≡ AtFault f → fault ≡ Some f
 at_fault None None f is = let no : ⊥ = (cc) in absurd no
 at_fault None (Some at) f is = let no : ⊥ = (cc) in absurd no
 at_fault (Some fault) e f is = let same : fault ≡ f = (cc) in ap (λ (x : CapFault). Some x) same
 
-at_round : (fault : Option CapFault) (e : Option (ℕ × ℕ)) (round need : ℕ) → stop_of fault e ≡ AtRound round need → (fault ≡ None) × (e ≡ Some (round, need))
+pub at_round : (fault : Option CapFault) (e : Option (ℕ × ℕ)) (round need : ℕ) → stop_of fault e ≡ AtRound round need → (fault ≡ None) × (e ≡ Some (round, need))
 at_round None None round need is = let no : ⊥ = (cc) in absurd no
 at_round None (Some at) round need is = (refl, at_is at is)
   where
@@ -56,21 +56,21 @@ no_round (Some fault) e is none = absurd (none-some fault (sym none))
 -- ---- behind a file header
 
 -- what a command makes of a capture, by what was read and by the round that exceeds the blocks
-record Is (r : Option CapKind) (found : Found) (e : Option (ℕ × ℕ)) (out : List ℕ) (passed : Passed) : Type 0 where
+pub record Is (r : Option CapKind) (found : Found) (e : Option (ℕ × ℕ)) (out : List ℕ) (passed : Passed) : Type 0 where
   pub output : passed.output ≡ (if is_some r then [] else out)
   pub stop : passed.stop ≡ stop_of (found_after r found).fault (if is_some r then None else e)
 
-is_behind : (r : Option CapKind) (head out : List ℕ) (found : Found) (e : Option (ℕ × ℕ))
+pub is_behind : (r : Option CapKind) (head out : List ℕ) (found : Found) (e : Option (ℕ × ℕ))
     → Is r found e (head ++ out) (behind_head r head (record { output = out; stop = stop_of found.fault e }))
 is_behind None head out found e = record { output = refl; stop = refl }
 is_behind (Some kind) head out found e = record { output = refl; stop = refl }
 
 -- a capture without a fault has a file header, and so has one that exceeds the blocks
-header_by_fault : (r : Option CapKind) (found : Found) → (found_after r found).fault ≡ None → r ≡ None
+pub header_by_fault : (r : Option CapKind) (found : Found) → (found_after r found).fault ≡ None → r ≡ None
 header_by_fault None found is = refl
 header_by_fault (Some kind) found is = let no : ⊥ = (cc) in absurd no
 
-header_by_round : (r : Option CapKind) (e : Option (ℕ × ℕ)) (at : ℕ × ℕ) → (if is_some r then None else e) ≡ Some at → r ≡ None
+pub header_by_round : (r : Option CapKind) (e : Option (ℕ × ℕ)) (at : ℕ × ℕ) → (if is_some r then None else e) ≡ Some at → r ≡ None
 header_by_round None e at is = refl
 header_by_round (Some kind) e at is = absurd (none-some at is)
 
@@ -90,11 +90,11 @@ merge_is o given =
     (exceeded_at o.blocks o.budget place (drop 24 given))
 
 -- where no round exceeds the blocks all is read and written
-record IsAll (found all : Found) (wrote out : List ℕ) : Type 0 where
+pub record IsAll (found all : Found) (wrote out : List ℕ) : Type 0 where
   pub read : found ≡ all
   pub written : wrote ≡ out
 
-merge_all : (budget : ℕ) (r : Option CapKind) (e : Option (ℕ × ℕ)) (found : Found) (out : List Packet → List ℕ) → (if is_some r then None else e) ≡ None
+pub merge_all : (budget : ℕ) (r : Option CapKind) (e : Option (ℕ × ℕ)) (found : Found) (out : List Packet → List ℕ) → (if is_some r then None else e) ≡ None
     → IsAll (found_after r (found_before budget e found)) (found_after r found) (if is_some r then [] else out (found_before budget e found).packets)
     (if is_some r then [] else out (found_after r found).packets)
 merge_all budget None None found out is = record { read = refl; written = refl }
@@ -102,13 +102,13 @@ merge_all budget None (Some at) found out is = absurd (none-some at (sym is))
 merge_all budget (Some kind) e found out is = record { read = refl; written = refl }
 
 -- a fault is found only where no round exceeds them
-fault_alone : (budget : ℕ) (r : Option CapKind) (e : Option (ℕ × ℕ)) (found : Found) (f : CapFault)
+pub fault_alone : (budget : ℕ) (r : Option CapKind) (e : Option (ℕ × ℕ)) (found : Found) (f : CapFault)
     → (found_after r (found_before budget e found)).fault ≡ Some f → (if is_some r then None else e) ≡ None
 fault_alone budget None None found f is = refl
 fault_alone budget None (Some at) found f is = absurd (none-some f is)
 fault_alone budget (Some kind) e found f is = refl
 
-no_round_at : (budget : ℕ) (r : Option CapKind) (e : Option (ℕ × ℕ)) (found : Found)
+pub no_round_at : (budget : ℕ) (r : Option CapKind) (e : Option (ℕ × ℕ)) (found : Found)
     → IsNoRound (stop_of (found_after r (found_before budget e found)).fault (if is_some r then None else e)) → (if is_some r then None else e) ≡ None
 no_round_at budget None None found is = refl
 no_round_at budget None (Some at) found is = absurd is
@@ -122,7 +122,7 @@ all_merged o given is =
     merge_all o.budget (refusal Ethernet given) (exceeded_at o.blocks o.budget place (drop 24 given)) (found_at place (drop 24 given))
     (written (file_head (take 24 given)) (options o)) is
 
-merge_says : (o : MergeOptions) (old new : Option (List ℕ)) (is_flushed : Bool) (untouched : Type 0) (status : Status) (given left : List ℕ)
+pub merge_says : (o : MergeOptions) (old new : Option (List ℕ)) (is_flushed : Bool) (untouched : Type 0) (status : Status) (given left : List ℕ)
     → Ends (passing.Answers Ethernet (merging_whole o.blocks (options o)) old new is_flushed untouched) (ending_of status) given left
     → MergeSays o old new is_flushed untouched status given left
 merge_says o old new is_flushed untouched statuses.Ok given left a =
@@ -213,7 +213,7 @@ segment_all None None found out is = record { read = refl; written = refl }
 segment_all None (Some at) found out is = absurd (none-some at (sym is))
 segment_all (Some kind) e found out is = record { read = refl; written = refl }
 
-segment_says : (o : SegmentOptions) (old new : Option (List ℕ)) (is_flushed : Bool) (untouched : Type 0) (status : Status) (given left : List ℕ)
+pub segment_says : (o : SegmentOptions) (old new : Option (List ℕ)) (is_flushed : Bool) (untouched : Type 0) (status : Status) (given left : List ℕ)
     → Ends (passing.Answers Offload (segmenting_whole o.blocks) old new is_flushed untouched) (ending_of status) given left
     → SegmentSays o old new is_flushed untouched status given left
 segment_says o old new is_flushed untouched statuses.Ok given left a =
@@ -254,9 +254,3 @@ segment_says o old new is_flushed untouched statuses.WriteFault given left a =
     (a.passes.0, a.passes.1, subst (AppendsFront old new) (output_is o a.passes.0) a.passes.2)
 segment_says o old new is_flushed untouched statuses.NoMemory given left a =
     (a.passes.0, a.passes.1, subst (AppendsFront old new) (output_is o a.passes.0) a.passes.2)
-
-pub in_plain_words : {K : Type 0} → InPlainWords K
-in_plain_words old new is_flushed before after status given left = (
-  λ o a. merge_says o old new is_flushed (after ≡ before) status given left a,
-  λ o a. segment_says o old new is_flushed (after ≡ before) status given left a,
-)

@@ -14,7 +14,7 @@ use Rattle.offload_run.specs.declared.engine.Engine.{Engine}
 use Rattle.offload_run.specs.declared.engine.Engine.TheVariants.{Merge, Segment}
 use Rattle.offload_run.specs.Engines.{HasMerged, HasSegmented}
 
-reads_is : (link : Link) (file : FileHead) (given rest : List ℕ) → GivesFile link (Ok file) given rest → reads link given ≡ found_at (first_place file link 0) rest
+pub reads_is : (link : Link) (file : FileHead) (given rest : List ℕ) → GivesFile link (Ok file) given rest → reads link given ≡ found_at (first_place file link 0) rest
 reads_is link file given rest gives =
     let all = records_from (order_of (take 24 given)) link 0 24 0 (drop 24 given) in
     ap (λ (r : Option CapKind). found_after r all) gives.1
@@ -44,3 +44,10 @@ pub segmented_whole : (link : Link) (need : List Packet → ℕ) (blocks : ℕ) 
 segmented_whole link need blocks (Some (Segment run)) a b c file told has = (has.0, has.1, took_whole link need run.taken a b c file told has.2)
 segmented_whole link need blocks (Some (Merge rounds)) a b c file told has = absurd has
 segmented_whole link need blocks None a b c file told has = absurd has
+
+-- what was left doesn't matter
+pub merged_any : (need : List ℕ → ℕ) (blocks : ℕ) (engine : Option Engine) (given left none : List ℕ)
+    → HasMerged blocks need engine (Some given) (Some left) → HasMerged blocks need engine (Some given) (Some none)
+merged_any need blocks (Some (Merge rounds)) given left none has = has
+merged_any need blocks (Some (Segment run)) given left none has = absurd has
+merged_any need blocks None given left none has = absurd has

@@ -1,12 +1,14 @@
 -- What an engine tells when a command that read a capture is done: all of its blocks are home, and it took at least as many as the
 -- bytes that were given need, or its count stands at its last value.
-use Rattle.std.specs.Prelude.{◌≡◌, ℕ, ◌-◌, ◌^◌, ◌≤◌, List, length, map, min, Option, Some, ⊤}
+use Rattle.std.specs.Prelude.{◌≡◌, ℕ, ◌-◌, ◌^◌, ◌≤◌, List, length, map, min, Option, None, Some, [], ⊤}
 use Rattle.off_io.specs.Told.{Told}
 use Rattle.pcap_io.specs.declared.heads.Link.TheVariants.{Ethernet, Offload}
 use Rattle.pcap_io.specs.Capture.{Packet, reads}
 use Rattle.offload_model.specs.Need.{needed, round_need}
+use Rattle.cap_make.specs.Capture.{made}
+use Rattle.offload_words.specs.declared.check.CheckOptions.{CheckOptions}
 use Rattle.offload_words.specs.declared.words.Command.{Command}
-use Rattle.offload_words.specs.declared.words.Command.TheVariants.{Merge, Segment, Make}
+use Rattle.offload_words.specs.declared.words.Command.TheVariants.{Merge, Segment, Check, Make}
 use Rattle.offload_run.specs.declared.engine.Engine.{Engine}
 use Rattle.offload_run.specs.declared.engine.Engine.TheVariants as engines
 
@@ -25,8 +27,15 @@ HasSegmented blocks need (Some (engines.Segment run)) old new =
     (run.blocks ≡ blocks) × (run.home ≡ blocks) × Told old new (λ given left. min (need given) (2 ^ 64 - 1) ≤ run.taken)
 HasSegmented blocks need _ old new = ⊥
 
+-- of a generated capture, which no source gives, all was read
+abbrev pub HasChecked : Option ℕ → CheckOptions → Option Engine → Option (List ℕ) → Option (List ℕ) → Type 0
+HasChecked None o engine old new = HasMerged o.merge.blocks (λ given. round_need (reads Ethernet given).packets) engine old new
+HasChecked (Some seed) o engine old new =
+    HasMerged o.merge.blocks (λ given. round_need (reads Ethernet given).packets) engine (Some (made seed o.count)) (Some [])
+
 -- the engine is that of the command
 abbrev pub HasRun : Command → Option Engine → Option (List ℕ) → Option (List ℕ) → Type 0
 HasRun (Merge o) engine old new = HasMerged o.blocks (λ given. round_need (reads Ethernet given).packets) engine old new
 HasRun (Segment o) engine old new = HasSegmented o.blocks (λ given. records_need (reads Offload given).packets) engine old new
+HasRun (Check o) engine old new = HasChecked o.seed o engine old new
 HasRun (Make o) engine old new = ⊤

@@ -1,5 +1,6 @@
 pub mod Output
 pub mod Ending
+pub mod Checking
 pub mod RunAnswers
 pub mod Engines
 pub mod Segmenting

@@ -1,22 +1,27 @@
 -- The clause `given` of `run` in plain words: what a capture reads as, where it exceeds the blocks, and what is written.
-use Rattle.std.specs.Prelude.{◌≡◌, ℕ, ◌+◌, ◌≤◌, Bool, true, is_some, if◌then◌else◌, Option, None, Some, List, [], ◌++◌, length, take, drop}
-use Rattle.std.specs.Io.KnownBytes.{Appends}
+use Rattle.std.specs.Prelude.{◌≡◌, ℕ, ◌+◌, ◌≤◌, ◌<◌, ◌^◌, Bool, true, is_some, if◌then◌else◌, Option, None, Some, List, [], ◌++◌, length, take, drop}
+use Rattle.std.specs.List.{AllByRecursion}
+use Rattle.std.specs.Io.KnownBytes.{Appends, Keeps}
 use Rattle.off_io.specs.Content.{AppendsFront, SaysFlushed}
 use Rattle.pcap_io.specs.declared.heads.Link.{Link}
 use Rattle.pcap_io.specs.declared.heads.Link.TheVariants.{Ethernet, Offload}
 use Rattle.pcap_io.specs.declared.faults.CapKind.{CapKind}
 use Rattle.pcap_io.specs.Headers.{first_that_holds, file_refusals, file_head}
-use Rattle.pcap_io.specs.Capture.{Found, reads, found_after}
+use Rattle.pcap_io.specs.Capture.{Packet, Found, reads, found_after}
 use Rattle.pcap_io.specs.Places.{first_place}
 use Rattle.pcap_io.specs.Reading.{Loses}
 use Rattle.offload_model.specs.Need.{exceeded_at, exceeded_record_at, packets_within, records_within}
 use Rattle.offload_model.specs.Passing.{HasFileHead, FlushedBehind}
 use Rattle.offload_model.specs.PassingLaws.{written_of}
 use Rattle.offload_model.specs.Tested.{tested_from, reads_tested, segmented_of}
-use Rattle.offload_model.specs.Written.{written, segmented}
+use Rattle.offload_model.specs.Written.{Options, written, segmented}
 use Rattle.offload_words.specs.declared.merge.MergeOptions.{MergeOptions}
 use Rattle.offload_words.specs.declared.segment.SegmentOptions.{SegmentOptions}
-use Rattle.offload_words.specs.declared.words.Command.TheVariants.{Merge, Segment}
+use Rattle.offload_words.specs.declared.check.CheckOptions.{CheckOptions}
+use Rattle.offload_words.specs.declared.words.Command.TheVariants.{Merge, Segment, Check}
+use Rattle.cap_make.specs.Capture.{made, made_packets}
+use Rattle.check_totals.specs.Counts.{totals_of, queue_sum}
+use Rattle.check_totals.specs.Lines.{check_lines, made_line}
 use Rattle.offload_run.specs.declared.status.Status.{Status}
 use Rattle.offload_run.specs.declared.status.Status.TheVariants as statuses
 use Rattle.offload_run.specs.Output.{options}
@@ -92,6 +97,58 @@ SegmentSays o old new is_flushed untouched statuses.ReadFault given left =
 SegmentSays o old new is_flushed untouched statuses.WriteFault given left = (gone : List ℕ) × (given ≡ gone ++ left) × AppendsFront old new (segmented_before o gone)
 SegmentSays o old new is_flushed untouched statuses.NoMemory given left = (gone : List ℕ) × (given ≡ gone ++ left) × AppendsFront old new (segmented_before o gone)
 
+-- ---- checking
+
+-- the lines of all packets; none where the file header is refused
+abbrev pub checked_of : MergeOptions → List ℕ → List ℕ
+checked_of o given = if is_some (refusal Ethernet given) then [] else check_lines (totals_of (options o) (reads Ethernet given).packets)
+
+-- of the rounds before the one that exceeds the blocks, and of all where there is none
+abbrev pub checked_before : MergeOptions → List ℕ → List ℕ
+checked_before o given =
+    if is_some (refusal Ethernet given) then [] else
+    check_lines (totals_of (options o) (packets_within o.blocks o.budget (first_place (file_head (take 24 given)) Ethernet 0) (drop 24 given)))
+
+-- of a capture that is read
+abbrev pub CheckSays : MergeOptions → Option (List ℕ) → Option (List ℕ) → Bool → Type 0 → Status → List ℕ → List ℕ → Type 0
+CheckSays o old new is_flushed untouched statuses.Ok given left =
+    ((reads Ethernet given).fault ≡ None) × (merge_exceeds o given ≡ None) × (left ≡ [])
+    × Appends old new (checked_of o given) × SaysFlushed new is_flushed true
+CheckSays o old new is_flushed untouched statuses.Usage given left = ⊥
+CheckSays o old new is_flushed untouched (statuses.Malformed fault) given left =
+    ((reads Ethernet given).fault ≡ Some fault) × (merge_exceeds o given ≡ None) × Loses given left
+    × Appends old new (checked_of o given) × FlushedBehind (HasFileHead Ethernet given) (SaysFlushed new is_flushed true) untouched
+CheckSays o old new is_flushed untouched (statuses.PoolEmpty round need blocks) given left =
+    (merge_exceeds o given ≡ Some (round, need)) × Loses given left × Appends old new (checked_before o given) × SaysFlushed new is_flushed true
+CheckSays o old new is_flushed untouched statuses.ReadFault given left =
+    (gone : List ℕ) × (given ≡ gone ++ left) × (merge_exceeds o gone ≡ None) × Appends old new (checked_of o gone)
+    × FlushedBehind (24 + length left ≤ length given) (SaysFlushed new is_flushed true) untouched
+CheckSays o old new is_flushed untouched statuses.WriteFault given left = (gone : List ℕ) × (given ≡ gone ++ left) × AppendsFront old new (checked_before o gone)
+CheckSays o old new is_flushed untouched statuses.NoMemory given left = Loses given left × Keeps old new
+
+-- the lines of a generated capture, its own first
+abbrev pub made_lines : ℕ → CheckOptions → List ℕ → List ℕ
+made_lines seed o lines = made_line o.count (length (made seed o.count)) ++ lines
+
+-- of a generated capture: nothing is read
+abbrev pub MadeSays : ℕ → CheckOptions → Option (List ℕ) → Option (List ℕ) → Bool → Status → Type 0
+MadeSays seed o old new is_flushed statuses.Ok =
+    (merge_exceeds o.merge (made seed o.count) ≡ None)
+    × Appends old new (made_lines seed o (check_lines (totals_of (options o.merge) (made_packets seed o.count)))) × SaysFlushed new is_flushed true
+MadeSays seed o old new is_flushed (statuses.PoolEmpty round need blocks) =
+    (merge_exceeds o.merge (made seed o.count) ≡ Some (round, need))
+    × Appends old new (made_lines seed o (checked_before o.merge (made seed o.count))) × SaysFlushed new is_flushed true
+MadeSays seed o old new is_flushed statuses.WriteFault = AppendsFront old new (made_lines seed o (checked_before o.merge (made seed o.count)))
+MadeSays seed o old new is_flushed statuses.NoMemory = Keeps old new
+MadeSays seed o old new is_flushed _ = ⊥
+
+-- on each line as many records returned as there are
+abbrev pub EveryRecordReturns : Type 0
+EveryRecordReturns =
+    (o : Options) (packets : List Packet)
+    → AllByRecursion (λ q. q.returned ≡ q.records) (totals_of o packets).queues
+    × ((queue_sum (totals_of o packets).queues).returned ≡ (queue_sum (totals_of o packets).queues).records)
+
 -- ---- what each answer says is this; the sink before and after is of any type
 
 abbrev pub InPlainWords : Type 0 → Type 0
@@ -99,3 +156,7 @@ InPlainWords K =
     (old new : Option (List ℕ)) (is_flushed : Bool) (before after : K) (status : Status) (given left : List ℕ)
     → ((o : MergeOptions) → Answers (Merge o) old new is_flushed (after ≡ before) status given left → MergeSays o old new is_flushed (after ≡ before) status given left)
     × ((o : SegmentOptions) → Answers (Segment o) old new is_flushed (after ≡ before) status given left → SegmentSays o old new is_flushed (after ≡ before) status given left)
+    × ((o : CheckOptions) → o.seed ≡ None → Answers (Check o) old new is_flushed (after ≡ before) status given left
+    → CheckSays o.merge old new is_flushed (after ≡ before) status given left)
+    × ((o : CheckOptions) (seed : ℕ) → o.seed ≡ Some seed → o.count < 2 ^ 32 → Answers (Check o) old new is_flushed (after ≡ before) status given left
+    → MadeSays seed o old new is_flushed status × (left ≡ given))

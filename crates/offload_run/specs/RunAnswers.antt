@@ -4,10 +4,11 @@ use Rattle.pcap_io.specs.declared.heads.Link.TheVariants.{Ethernet, Offload}
 use Rattle.offload_model.specs.Passing.{merging_whole, segmenting_whole}
 use Rattle.offload_model.specs.Passing as passing
 use Rattle.offload_words.specs.declared.words.Command.{Command}
-use Rattle.offload_words.specs.declared.words.Command.TheVariants.{Merge, Segment, Make}
+use Rattle.offload_words.specs.declared.words.Command.TheVariants.{Merge, Segment, Check, Make}
 use Rattle.offload_run.specs.declared.status.Status.{Status}
 use Rattle.offload_run.specs.Ending.{ending_of, Ends, HasBlocks, OfRead}
 use Rattle.offload_run.specs.Making.{MakeAnswers}
+use Rattle.offload_run.specs.Checking.{CheckAnswers}
 use Rattle.offload_run.specs.Output.{options, merged_packets, FlowsComeBack}
 
 -- `untouched` says that the sink is as it was
@@ -16,12 +17,14 @@ Answers (Merge o) old new is_flushed untouched status given left =
     Ends (passing.Answers Ethernet (merging_whole o.blocks (options o)) old new is_flushed untouched) (ending_of status) given left
 Answers (Segment o) old new is_flushed untouched status given left =
     Ends (passing.Answers Offload (segmenting_whole o.blocks) old new is_flushed untouched) (ending_of status) given left
+Answers (Check o) old new is_flushed untouched status given left = CheckAnswers o.seed o old new is_flushed untouched status given left
 Answers (Make o) old new is_flushed untouched status given left = MakeAnswers o old new is_flushed status × (left ≡ given)
 
 -- the blocks of a pool that is empty are those that the command asks for
 abbrev pub AreBlocksOf : Command → Status → Type 0
 AreBlocksOf (Merge o) status = HasBlocks o.blocks status
 AreBlocksOf (Segment o) status = HasBlocks o.blocks status
+AreBlocksOf (Check o) status = HasBlocks o.merge.blocks status
 AreBlocksOf (Make o) status = ⊤
 
 -- every flow comes back of what `merge` makes of what was read

@@ -9,6 +9,7 @@ ghost use Rattle.offload_run.specs.RunAnswers.{Answers, AreBlocksOf, FlowsBack};
 ghost use Rattle.offload_run.specs.Engines.{HasRun};
 ghost use Rattle.offload_run.specs.Log.{log_line};
 
+use crate::check::run_check;
 use crate::logging::write_log;
 use crate::make::run_make;
 use crate::merge::run_merge;
@@ -45,6 +46,7 @@ fn run_command<R: Threads + Sync, S: Source, K: Sink, G: Gate + Sync>(
     match command {
         Command::Merge(options) => run_merge(rt, alloc, options, source, sink, gate, engine),
         Command::Segment(options) => run_segment(alloc, options, source, sink, engine),
+        Command::Check(options) => run_check(rt, alloc, options, source, sink, gate, engine),
         Command::Make(options) => run_make(options, sink),
     }
 }
@@ -82,8 +84,9 @@ fn run_words<R: Threads + Sync, S: Source, K: Sink, G: Gate + Sync>(
 
 /// Runs the command that the words ask for, the program's name before it, and logs how it ended. `merge` reads a capture
 /// of Ethernet frames from the source and writes its records to the sink; `segment` reads an offload capture and writes the
-/// packets that its records stand for; `make` reads nothing and writes a generated capture (clause `made`). Each queue's
-/// worker and each tap of `merge` passes the gate at point 0 before its work and at point 1 after it, and each is a thread
+/// packets that its records stand for; `check` merges as `merge` does and writes lines of how many packets came back, and with a seed it
+/// reads nothing and checks a generated capture; `make` reads nothing and writes one (clause `made`). Each queue's
+/// worker and each tap of `merge` and `check` passes the gate at point 0 before its work and at point 1 after it, and each is a thread
 /// of its own but where there is one queue and no tap.
 ///
 /// `Usage` exactly where the words are none of the command set, want of memory aside: then nothing is read or written, and

@@ -6,7 +6,7 @@ use rounds::{Rounds, SegmentRun};
 /// taken. Dropping it frees them.
 #[derive(Drop)]
 pub enum Engine {
-    /// Of `merge`.
+    /// Of `merge`, and of `check`.
     Merge(Rounds),
     /// Of `segment`.
     Segment(SegmentRun),

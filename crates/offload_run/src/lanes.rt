@@ -13,7 +13,7 @@ use std::thread::{Threads, yield_now};
 const TWO_QUEUES: &str = "offload merge --queues 2 --budget 4";
 
 // A capture of the first packets of two flows in turn, of which the first one has queue 0 of two.
-fn in_turn(alloc: Global, count: u16) -> Result<Vec<u8>, AllocError> {
+pub fn in_turn(alloc: Global, count: u16) -> Result<Vec<u8>, AllocError> {
     let mut frames = Vec::new(alloc);
     for i in 0..count.min(8) {
         frames.push(Frame {

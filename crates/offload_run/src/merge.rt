@@ -72,10 +72,14 @@ fn merge_behind<R: Threads + Sync, S: Source, K: Sink, G: Gate + Sync>(
     rounds.merge_all(rt, &mut reader, &file, sink, gate)
 }
 
-// The pool, and memory for rounds of these options.
-fn make_rounds(alloc: Global, options: MergeOptions) -> Result<Rounds, AllocError>
+// The pool, and memory for rounds of these options. To be checked, rounds keep a clone of each packet.
+pub(crate) fn make_rounds(
+    alloc: Global,
+    options: MergeOptions,
+    keep: bool,
+) -> Result<Rounds, AllocError>
     requires range { IsInRange options }
-    ensures { IfOk result (λ rounds. rounds ≡ record { home = options.blocks; blocks = options.blocks; taken = 0; budget = options.budget; queues = options.queues; taps = options.taps; snap = options.snap; keep = false }) }
+    ensures { IfOk result (λ rounds. rounds ≡ record { home = options.blocks; blocks = options.blocks; taken = 0; budget = options.budget; queues = options.queues; taps = options.taps; snap = options.snap; keep = keep }) }
 {
     let MergeOptions {
         queues,
@@ -84,7 +88,7 @@ fn make_rounds(alloc: Global, options: MergeOptions) -> Result<Rounds, AllocErro
         taps,
         snap,
     } = options;
-    Rounds::make(alloc, blocks, budget, queues, taps, snap, false)
+    Rounds::make(alloc, blocks, budget, queues, taps, snap, keep)
 }
 
 // Makes the pool, and merges the records behind a file header.
@@ -111,7 +115,7 @@ fn merge_records<R: Threads + Sync, S: Source, K: Sink, G: Gate + Sync>(
     ensures read { result ≡ Status.ReadFault → Rose (S.faults source.old) (S.faults source.new) }
     ensures write { result ≡ Status.WriteFault → Rose (K.faults sink.old) (K.faults sink.new) }
 {
-    let mut rounds = match make_rounds(alloc, options) {
+    let mut rounds = match make_rounds(alloc, options, false) {
         Ok(rounds) => rounds,
         Err(_) => return Status::NoMemory,
     };
