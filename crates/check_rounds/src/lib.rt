@@ -12,5 +12,7 @@
 #![tactic(auto)]
 
 mod check;
+#[cfg(test)]
+mod tests;
 
 pub use check::{CheckEnd, check_all};
