@@ -241,6 +241,14 @@ fn show_refusal(rt: &HostRuntime, what: &str, ended: &Ended) -> Result<(), Error
     Ok(())
 }
 
+// All bytes but the last.
+fn cut_short(bytes: &[u8]) -> &[u8] {
+    match bytes.split_last() {
+        Some((_, front)) => front,
+        None => bytes,
+    }
+}
+
 fn main(rt: HostRuntime) -> Result<(), Error> {
     let alloc = rt.alloc();
     for name in SAMPLES {
@@ -270,16 +278,13 @@ fn main(rt: HostRuntime) -> Result<(), Error> {
         show_lanes(&rt, name, &lanes)?;
     }
     let most = fs::read(&rt, MOST_SEGMENTS)?;
-    show_most_segments(&rt, &run_over(&rt, alloc, "segment", &most)?)?;
+    let segmented = run_over(&rt, alloc, "segment", &most)?;
+    show_most_segments(&rt, &segmented)?;
     // A usage error, a capture that is cut one byte before its end, and one of the wrong link type.
     let sample = fs::read(&rt, SAMPLES[0])?;
-    let cut = match sample.split_last() {
-        Some((_, front)) => front,
-        None => sample.as_slice(),
-    };
     let usage = run_over(&rt, alloc, "frobnicate", &sample)?;
     show_refusal(&rt, "frobnicate", &usage)?;
-    let short = run_over(&rt, alloc, "merge", cut)?;
+    let short = run_over(&rt, alloc, "merge", cut_short(&sample))?;
     show_refusal(&rt, "one byte short", &short)?;
     let other = run_over(&rt, alloc, "segment", &sample)?;
     show_refusal(&rt, "no offload capture", &other)
