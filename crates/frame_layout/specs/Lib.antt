@@ -1,6 +1,7 @@
 pub mod Shape
 pub mod Headers
 pub mod Key
+pub mod Hashing
 pub mod Candidate
 pub mod Front
 pub mod Segment

@@ -1,12 +1,14 @@
 //! The key of a flow.
 
-ghost use Rattle.std.specs.Prelude.{◌≡◌, ◌≤◌, Option, Some, None, List, ℕ, length, nat_eq, IfSome};
-ghost use Rattle.std.specs.Option.{option_map, option_eq};
+ghost use Rattle.std.specs.Prelude.{◌≡◌, ◌≤◌, ◌∷◌, Option, Some, None, List, [], ℕ, length, IfSome};
+ghost use Rattle.std.specs.Option.{option_map, unwrap_or};
 ghost use Rattle.std.proofs.Common.{rules};
 ghost use Rattle.std.specs.Cmp.Rules.{comparing};
-ghost use Rattle.std.specs.Cmp.Lexicographic.{pointwise};
+ghost use Rattle.frame_layout.specs.Key.{key_eq};
+ghost use Rattle.frame_layout.specs.Hashing.{same_input};
 
 use arrayvec::ArrayVec;
+use std::hash::{Hash, Hasher};
 use std::marker::Model;
 
 /// What tells the flow of a frame: the addresses, ports, tags and network identifiers of its headers, of at most 120
@@ -62,7 +64,7 @@ impl Key {
 
 /// Two keys are equal where both are Other, or both have the same bytes.
 impl PartialEq for Key {
-    ghost eq = { option_eq (pointwise nat_eq) };
+    ghost eq = { key_eq };
 
     ghost laws = { Prim.search (comparing, rules) };
 
@@ -73,4 +75,15 @@ impl PartialEq for Key {
 
 impl Eq for Key {
     ghost laws = { Prim.search (comparing, rules) };
+}
+
+/// The bytes are hashed at once, and none of Other.
+impl Hash for Key {
+    ghost hash_input = { λ k. unwrap_or k [] ∷ [] };
+
+    ghost respects_eq = { same_input };
+
+    fn hash<H: Hasher>(&self, state: &mut H) {
+        state.write(self.bytes().unwrap_or(&[]));
+    }
 }
