@@ -1,5 +1,5 @@
 -- How great the numbers of a round are.
-use Rattle.std.proofs.Common.{◌≡◌, ◌≤◌, ◌<◌, ◌+◌, ◌*◌, ◌-◌, ℕ, zero, suc, Bool, true, false, cond, List, [], ◌∷◌, ◌++◌, length, map, take, drop, refl, sym, ap, ◌∙◌, subst, arith, length-append, length-take, length-drop}
+use Rattle.std.proofs.Common.{◌≡◌, ◌≤◌, ◌<◌, ◌+◌, ◌*◌, ℕ, suc, Bool, true, false, cond, List, [], ◌∷◌, ◌++◌, length, map, drop, refl, arith, length-append, length-take, length-drop}
 use Rattle.std.specs.Prelude.{◌==◌}
 use Rattle.std.specs.List.{AllByRecursion, filter, flat_map, sum_by, range_with_len}
 use Rattle.std.proofs.lemmas.Bool.{eqb-true}
@@ -15,7 +15,7 @@ use Rattle.offload_model.proofs.Items.{items_are}
 use Rattle.offload_model.proofs.Lists.{all_of}
 use Rattle.check_totals.specs.declared.totals.QueueTotals.{QueueTotals}
 use Rattle.check_totals.specs.declared.totals.TapTotals.{TapTotals}
-use Rattle.check_totals.specs.Counts.{Counts, is_merged, queued, queue_totals, window_length, tap_totals, queue_plus, tap_plus, each_plus, added, IsQueueWithin, IsTapWithin, IsWithin}
+use Rattle.check_totals.specs.Counts.{is_merged, queue_totals, window_length, tap_totals, queue_plus, tap_plus, each_plus, IsQueueWithin, IsTapWithin}
 use Rattle.check_totals.specs.Tallies.{TotalsAreFew, BoundsAdd}
 
 -- ---- filters

@@ -1,6 +1,6 @@
 -- Totals that are added, and those of rounds.
-use Rattle.std.proofs.Common.{◌≡◌, ◌≤◌, ◌<◌, ◌+◌, ◌*◌, ℕ, zero, suc, List, [], ◌∷◌, ◌++◌, length, map, take, drop, replicate, refl, sym, ap, ◌∙◌, subst, arith, length-append, append-nil, append_assoc, take-append-drop, length-drop}
-use Rattle.std.specs.List.{AllByRecursion, sum_by, range_with_len}
+use Rattle.std.proofs.Common.{◌≡◌, ◌≤◌, ◌<◌, ◌+◌, ◌*◌, ℕ, zero, suc, List, [], ◌∷◌, ◌++◌, length, map, take, drop, replicate, refl, sym, ap, ◌∙◌, arith, append_assoc, take-append-drop, length-drop}
+use Rattle.std.specs.List.{AllByRecursion, range_with_len}
 use Rattle.std.proofs.lemmas.List.{length-take-le}
 use Rattle.std.proofs.lemmas.List.FromFn.{length-map-range_with_len}
 use Rattle.std.proofs.lemmas.List.Sums.{sum_by-cons}
@@ -11,7 +11,7 @@ use Rattle.offload_model.proofs.Rounding.{rounds_full, rounds_last}
 use Rattle.check_totals.specs.declared.totals.QueueTotals.{QueueTotals}
 use Rattle.check_totals.specs.declared.totals.TapTotals.{TapTotals}
 use Rattle.check_totals.specs.Counts.{Counts, queue_totals, tap_totals, round_totals, queue_sum, tap_sum, totals_of, queue_plus, tap_plus, each_plus, added, no_lanes, IsQueueWithin}
-use Rattle.check_totals.specs.Tallies.{TotalsByRound, TotalsGoByRound, LanesStay}
+use Rattle.check_totals.specs.Tallies.{TotalsGoByRound, LanesStay}
 use Rattle.check_totals.proofs.Adding.{plus_none, plus_assoc, mapped, plus_mapped}
 
 -- ---- records of numbers

@@ -1,26 +1,23 @@
 -- How counting goes on, and what its lines say of an ending.
-use Rattle.std.proofs.Common.{◌≡◌, ◌≤◌, ◌<◌, ◌+◌, ◌*◌, ℕ, List, [], ◌∷◌, ◌++◌, length, map, take, refl, sym, ap, ◌∙◌, subst, arith, Option, None, Some, length-append, append-nil, append_assoc}
+use Rattle.std.proofs.Common.{◌≡◌, ◌≤◌, ◌<◌, ◌+◌, ℕ, List, [], ◌∷◌, ◌++◌, length, map, refl, sym, ap, ◌∙◌, subst, arith, Option, None, append-nil, append_assoc}
 use Rattle.std.specs.Io.KnownBytes.{Appends}
-use Rattle.std.proofs.lemmas.List.{length-map}
 use Rattle.off_io.specs.Content.{AppendsFront}
-use Rattle.off_io.proofs.Owing.{front_whole}
 use Rattle.pcap_io.specs.declared.place.Place.{Place}
 use Rattle.pcap_io.specs.declared.faults.CapFault.{CapFault}
 use Rattle.pcap_io.specs.Capture.{Packet, Found, ended}
 use Rattle.pcap_io.specs.Places.{found_at}
 use Rattle.pcap_io.specs.Lengths.{lengths_at}
 use Rattle.pcap_io.specs.Laws.{frame_length}
-use Rattle.offload_model.specs.Need.{need_of, needed, round_need, exceeded, exceeded_at, found_before}
-use Rattle.offload_model.specs.Passing.{Stop, Nowhere, AtFault, AtRound, Ending, Stopped, ReadFault, WriteFault, NoMemory, stop_of, IsLeft, IsNoRound, Passes}
+use Rattle.offload_model.specs.Need.{need_of, needed, round_need, exceeded_at, found_before}
+use Rattle.offload_model.specs.Passing.{Stop, AtRound, Ending, Stopped, ReadFault, WriteFault, NoMemory, stop_of, IsNoRound}
 use Rattle.offload_model.specs.Steps.{stop_behind, ending_behind, in_front}
 use Rattle.offload_model.specs.Written.{Options}
-use Rattle.offload_model.proofs.Needs.{needed_append}
-use Rattle.check_totals.specs.Counts.{Counts, round_totals, totals_of, added, no_lanes}
+use Rattle.offload_model.proofs.Behind.{stop_none, stop_more, no_round_on, left_on, shift, stop_on, made_full, made_last, made_less}
+use Rattle.check_totals.specs.Counts.{Counts, round_totals, totals_of, added}
 use Rattle.check_totals.specs.Lines.{check_lines}
 use Rattle.check_totals.specs.Checking.{Tally, counting, checking}
-use Rattle.check_totals.specs.Tallies.{tally_behind, CountsOn, AddsGone, Tallies, TotalsAddUp, CountsByRound, CountingGoesByRound, LinesTell, TotalsAreTold}
+use Rattle.check_totals.specs.Tallies.{tally_behind, CountsOn, AddsGone, Tallies, TotalsAddUp, CountingGoesByRound, TotalsAreTold}
 use Rattle.check_totals.proofs.Summing.{added_assoc, none_totals, totals_full, totals_last}
-use Rattle.check_totals.proofs.Exceeding.{shift, exceeded_on, exceeded_last, exceeded_next, found_on, stop_on}
 
 abbrev tally_of : Counts → Stop → Tally
 tally_of totals stop = record { totals = totals; stop = stop }
@@ -29,26 +26,6 @@ same_tally : (a b : Counts) (s t : Stop) → a ≡ b → s ≡ t → tally_of a 
 same_tally a b s t p q = ap (λ (x : Counts). tally_of x s) p ∙ ap (tally_of b) q
 
 -- ---- behind others
-
-stop_none : (s : Stop) → stop_behind 0 s ≡ s
-stop_none Nowhere = refl
-stop_none (AtFault fault) = refl
-stop_none (AtRound round need) = let e : 0 + round ≡ round = omega arith in ap (λ (k : ℕ). AtRound k need) e
-
-stop_more : (j k : ℕ) (s : Stop) → stop_behind j (stop_behind k s) ≡ stop_behind (j + k) s
-stop_more j k Nowhere = refl
-stop_more j k (AtFault fault) = refl
-stop_more j k (AtRound round need) = let e : j + (k + round) ≡ (j + k) + round = omega arith in ap (λ (n : ℕ). AtRound n need) e
-
-no_round_on : (k : ℕ) (s : Stop) → IsNoRound s → IsNoRound (stop_behind k s)
-no_round_on k Nowhere is = is
-no_round_on k (AtFault fault) is = is
-no_round_on k (AtRound round need) is = is
-
-left_on : (k : ℕ) (s : Stop) (gone bytes left : List ℕ) → IsLeft s bytes left → IsLeft (stop_behind k s) (gone ++ bytes) left
-left_on k Nowhere gone bytes left is = is
-left_on k (AtFault fault) gone bytes left is = (gone ++ is.0, ap (λ (l : List ℕ). gone ++ l) is.1 ∙ sym (append_assoc gone is.0 left))
-left_on k (AtRound round need) gone bytes left is = (gone ++ is.0, ap (λ (l : List ℕ). gone ++ l) is.1 ∙ sym (append_assoc gone is.0 left))
 
 count_on : (from to last : List ℕ → Tally) (k j : ℕ) (gone gone' : List ℕ) (done done' : Counts) → CountsOn from to k gone done → CountsOn to last j gone' done'
     → CountsOn from last (k + j) (gone ++ gone') (added done done')
@@ -102,29 +79,15 @@ counts_full : (blocks : ℕ) (options : Options) (place : Place) (ps : List Pack
 counts_full blocks options place ps bytes mid left room full fits found lens =
     let budget = options.budget in
     let e = exceeded_at blocks budget mid left in
-    let f = found_at mid left in
-    let e_is : exceeded_at blocks budget place bytes ≡ shift 1 e =
-    ap (exceeded blocks budget) lens
-    ∙ exceeded_on blocks budget (map frame_length ps) (lengths_at mid left) room (length-map ps frame_length ∙ full) fits in
-    let f_is : found_before budget (exceeded_at blocks budget place bytes) (found_at place bytes) ≡ in_front ps (found_before budget e f) =
-    ap (λ (o : Option (ℕ × ℕ)). found_before budget o (found_at place bytes)) e_is ∙ ap (found_before budget (shift 1 e)) found ∙ found_on budget ps e f full in
-    ap (λ (o : Option (ℕ × ℕ)). counted options o (found_before budget (exceeded_at blocks budget place bytes) (found_at place bytes))) e_is
-    ∙ ap (counted options (shift 1 e)) f_is
-    ∙ counted_on options ps e (found_before budget e f) room full
+    made_full (counted options) blocks budget place ps bytes room mid left full fits found lens
+    ∙ counted_on options ps e (found_before budget e (found_at mid left)) room full
 
 counts_last : (blocks : ℕ) (options : Options) (place : Place) (ps : List Packet) (bytes : List ℕ) (fault : Option CapFault) (more : List ℕ) → 0 < options.budget
     → length ps + length more ≤ options.budget → round_need ps + needed more ≤ blocks
     → found_at place bytes ≡ in_front ps (ended fault) → lengths_at place bytes ≡ map frame_length ps ++ more
     → counting blocks options place bytes ≡ tally_of (round_totals options ps) (stop_of fault None)
 counts_last blocks options place ps bytes fault more room le fits found lens =
-    let budget = options.budget in
-    let e_is : exceeded_at blocks budget place bytes ≡ None =
-    ap (exceeded blocks budget) lens
-    ∙ exceeded_last blocks budget (map frame_length ps ++ more) room
-    (omega (arith, le, length-append (map frame_length ps) more, length-map ps frame_length))
-    (omega (arith, fits, needed_append (map frame_length ps) more)) in
-    ap (λ (o : Option (ℕ × ℕ)). counted options o (found_before budget o (found_at place bytes))) e_is
-    ∙ ap (counted options None) found
+    made_last (counted options) blocks options.budget place ps bytes room fault more le fits found lens
     ∙ ap (λ (qs : List Packet). tally_of (totals_of options qs) (stop_of fault None)) (append-nil ps)
     ∙ ap (λ (c : Counts). tally_of c (stop_of fault None)) (totals_last options ps room (omega (arith, le)))
 
@@ -133,14 +96,7 @@ counts_less : (blocks : ℕ) (options : Options) (place : Place) (ps : List Pack
     → lengths_at place bytes ≡ map frame_length ps ++ len ∷ more
     → counting blocks options place bytes ≡ tally_of (totals_of options []) (AtRound 0 (round_need ps + need_of len))
 counts_less blocks options place ps bytes len more room lt fits ex lens =
-    let budget = options.budget in
-    let need = round_need ps + need_of len in
-    let e_is : exceeded_at blocks budget place bytes ≡ Some (0, need) =
-    ap (exceeded blocks budget) lens
-    ∙ exceeded_next blocks budget len (map frame_length ps) more room (omega (arith, lt, length-map ps frame_length)) fits ex in
-    let none : 0 * budget ≡ 0 = omega arith in
-    ap (λ (o : Option (ℕ × ℕ)). counted options o (found_before budget o (found_at place bytes))) e_is
-    ∙ ap (λ (k : ℕ). tally_of (totals_of options (take k (found_at place bytes).packets)) (AtRound 0 need)) none
+    made_less (counted options) blocks options.budget place ps bytes room len more lt fits ex lens
 
 pub counting_goes_by_round : CountingGoesByRound
 counting_goes_by_round blocks options place ps bytes room = record {

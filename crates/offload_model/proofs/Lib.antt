@@ -23,6 +23,7 @@ pub mod Rounding
 pub mod Needs
 mod Limits
 pub mod Passings
+pub mod Behind
 pub mod Steps
 pub mod Captured
 mod ReadBack

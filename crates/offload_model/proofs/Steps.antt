@@ -1,11 +1,9 @@
 -- How what a command makes of some bytes goes on: round by round, and record by record.
-use Rattle.std.proofs.Common.{◌≡◌, ◌≤◌, ◌<◌, ◌+◌, ◌-◌, ◌*◌, ℕ, List, [], ◌∷◌, ◌++◌, length, map, take, refl, sym, ap, ◌∙◌, subst, arith, Option, None, Some, Bool, true, false, length-append, append-nil, append_assoc, if◌then◌else◌}
+use Rattle.std.proofs.Common.{◌≡◌, ◌≤◌, ◌<◌, ◌+◌, ◌-◌, ℕ, List, [], ◌∷◌, ◌++◌, length, map, refl, sym, ap, ◌∙◌, subst, arith, Option, None, Some, Bool, true, false, append-nil, append_assoc, if◌then◌else◌}
 use Rattle.std.specs.List.{flat_map, range_with_len}
 use Rattle.std.specs.Io.KnownBytes.{Appends}
 use Rattle.std.proofs.KnownBytes.{Appends-trans}
-use Rattle.std.proofs.lemmas.List.{length-map}
 use Rattle.std.proofs.lemmas.Grind.{flat_map-append}
-use Rattle.std.proofs.Math.Seq.{take-append-add}
 use Rattle.off_io.specs.Content.{AppendsFront}
 use Rattle.off_io.proofs.Appending.{front_then}
 use Rattle.net_bytes.specs.declared.order.Order.{Order}
@@ -20,13 +18,13 @@ use Rattle.pcap_io.specs.Laws.{frame_length}
 use Rattle.offload_model.specs.Segments.{segments_of}
 use Rattle.offload_model.specs.Tests.{is_lawful_record}
 use Rattle.offload_model.specs.Tested.{tested_from}
-use Rattle.offload_model.specs.Rounds.{rounds_of, items_of}
+use Rattle.offload_model.specs.Rounds.{items_of}
 use Rattle.offload_model.specs.Written.{Options, record_of, round_records, records_of, record_bytes, windows_of}
-use Rattle.offload_model.specs.Need.{need_of, needed, round_need, exceeded_in, exceeded_here, first_exceeded, exceeded, exceeded_at, exceeded_record_at, found_before}
-use Rattle.offload_model.specs.Passing.{Stop, Nowhere, AtFault, AtRound, Passed, Ending, Stopped, ReadFault, WriteFault, NoMemory, stop_of, merging, segmenting, IsLeft, IsNoRound, Passes}
+use Rattle.offload_model.specs.Need.{need_of, needed, round_need, exceeded, exceeded_at, exceeded_record_at, found_before}
+use Rattle.offload_model.specs.Passing.{Stop, AtFault, AtRound, Passed, Ending, Stopped, ReadFault, WriteFault, NoMemory, stop_of, merging, segmenting, IsNoRound, Passes}
 use Rattle.offload_model.specs.Steps.{stop_behind, ending_behind, behind, GoesOn, CommandsPassOn, in_front, round_output, MergingGoesByRound, SegmentingGoesByRecord}
 use Rattle.offload_model.proofs.Rounding.{rounds_full, rounds_last}
-use Rattle.offload_model.proofs.Needs.{needed_append, none_to, exceeds_to, rounds_exceed}
+use Rattle.offload_model.proofs.Behind.{stop_none, stop_more, no_round_on, left_on, shift, exceeded_on, exceeded_last, exceeded_next, found_on, stop_on, made_full, made_last, made_less}
 
 abbrev passed : List ℕ → Stop → Passed
 passed output stop = record { output = output; stop = stop }
@@ -35,26 +33,6 @@ same_passed : (a b : List ℕ) (s t : Stop) → a ≡ b → s ≡ t → passed a
 same_passed a b s t p q = ap (λ (x : List ℕ). passed x s) p ∙ ap (passed b) q
 
 -- ---- behind others
-
-stop_none : (s : Stop) → stop_behind 0 s ≡ s
-stop_none Nowhere = refl
-stop_none (AtFault fault) = refl
-stop_none (AtRound round need) = let e : 0 + round ≡ round = omega arith in ap (λ (k : ℕ). AtRound k need) e
-
-stop_more : (j k : ℕ) (s : Stop) → stop_behind j (stop_behind k s) ≡ stop_behind (j + k) s
-stop_more j k Nowhere = refl
-stop_more j k (AtFault fault) = refl
-stop_more j k (AtRound round need) = let e : j + (k + round) ≡ (j + k) + round = omega arith in ap (λ (n : ℕ). AtRound n need) e
-
-no_round_on : (k : ℕ) (s : Stop) → IsNoRound s → IsNoRound (stop_behind k s)
-no_round_on k Nowhere is = is
-no_round_on k (AtFault fault) is = is
-no_round_on k (AtRound round need) is = is
-
-left_on : (k : ℕ) (s : Stop) (gone bytes left : List ℕ) → IsLeft s bytes left → IsLeft (stop_behind k s) (gone ++ bytes) left
-left_on k Nowhere gone bytes left is = is
-left_on k (AtFault fault) gone bytes left is = (gone ++ is.0, ap (λ (l : List ℕ). gone ++ l) is.1 ∙ sym (append_assoc gone is.0 left))
-left_on k (AtRound round need) gone bytes left is = (gone ++ is.0, ap (λ (l : List ℕ). gone ++ l) is.1 ∙ sym (append_assoc gone is.0 left))
 
 go_on : (from to last : List ℕ → Passed) (k j : ℕ) (gone done gone' done' : List ℕ) → GoesOn from to k gone done → GoesOn to last j gone' done'
     → GoesOn from last (k + j) (gone ++ gone') (done ++ done')
@@ -94,56 +72,6 @@ commands_pass_on from to k gone done = record {
   more = λ last j gone' done' p q. go_on from to last k j gone done gone' done' p q;
   passes = λ old mid new ending bytes left on wrote p. pass_on from to k gone done old mid new ending bytes left on wrote p;
 }
-
--- ---- what exceeds the blocks, behind a round that fits
-
-abbrev shift : ℕ → Option (ℕ × ℕ) → Option (ℕ × ℕ)
-shift k None = None
-shift k (Some at) = Some (k + at.0, at.1)
-
-here_shifted : (k j : ℕ) (o : Option ℕ) (x : Option (ℕ × ℕ)) → exceeded_here o (k + j) (shift k x) ≡ shift k (exceeded_here o j x)
-here_shifted k j None x = refl
-here_shifted k j (Some need) x = refl
-
-shifted : (blocks k j : ℕ) (rs : List (List ℕ)) → first_exceeded blocks (k + j) rs ≡ shift k (first_exceeded blocks j rs)
-shifted blocks k j [] = refl
-shifted blocks k j (r ∷ rs) =
-    let e : k + j + 1 ≡ k + (j + 1) = omega arith in
-    ap (exceeded_here (exceeded_in blocks 0 r) (k + j)) (ap (λ (n : ℕ). first_exceeded blocks n rs) e ∙ shifted blocks k (j + 1) rs)
-    ∙ here_shifted k j (exceeded_in blocks 0 r) (first_exceeded blocks (j + 1) rs)
-
-exceeded_on : (blocks budget : ℕ) (xs ys : List ℕ) → 0 < budget → length xs ≡ budget → needed xs ≤ blocks
-    → exceeded blocks budget (xs ++ ys) ≡ shift 1 (exceeded blocks budget ys)
-exceeded_on blocks budget xs ys room full fits =
-    (rounds_exceed blocks budget 0 xs ys room).fits full (none_to blocks 0 xs (omega (arith, fits))) ∙ shifted blocks 1 0 (rounds_of budget ys)
-
-exceeded_last : (blocks budget : ℕ) (xs : List ℕ) → 0 < budget → length xs ≤ budget → needed xs ≤ blocks → exceeded blocks budget xs ≡ None
-exceeded_last blocks budget xs room le fits = (rounds_exceed blocks budget 0 xs [] room).last le (none_to blocks 0 xs (omega (arith, fits)))
-
-exceeded_next : (blocks budget len : ℕ) (xs more : List ℕ) → 0 < budget → length xs < budget → needed xs ≤ blocks → blocks < needed xs + need_of len
-    → exceeded blocks budget (xs ++ len ∷ more) ≡ Some (0, needed xs + need_of len)
-exceeded_next blocks budget len xs more room lt fits ex =
-    let one : exceeded_in blocks 0 (xs ++ len ∷ []) ≡ Some (needed xs + need_of len) =
-    let e : 0 + needed xs + need_of len ≡ needed xs + need_of len = omega arith in
-    exceeds_to blocks 0 len xs [] (omega (arith, fits)) (omega (arith, ex)) ∙ ap (λ (k : ℕ). Some k) e in
-    ap (exceeded blocks budget) (sym (append_assoc xs (len ∷ []) more))
-    ∙ (rounds_exceed blocks budget 0 (xs ++ len ∷ []) more room).exceeds (needed xs + need_of len) (omega (arith, lt, length-append xs (len ∷ []))) one
-
--- what is read before it
-found_on : (budget : ℕ) (ps : List Packet) (e : Option (ℕ × ℕ)) (f : Found) → length ps ≡ budget
-    → found_before budget (shift 1 e) (in_front ps f) ≡ in_front ps (found_before budget e f)
-found_on budget ps None f full = refl
-found_on budget ps (Some at) f full =
-    let size : (1 + at.0) * budget ≡ length ps + at.0 * budget = omega (arith, full) in
-    let packets : take ((1 + at.0) * budget) (ps ++ f.packets) ≡ ps ++ take (at.0 * budget) f.packets =
-    ap (λ (k : ℕ). take k (ps ++ f.packets)) size ∙ take-append-add ps f.packets (at.0 * budget) in
-    let with_packets : List Packet → Found = λ qs. record { packets = qs; fault = None } in
-    ap with_packets packets
-
-stop_on : (fault : Option CapFault) (e : Option (ℕ × ℕ)) → stop_of fault (shift 1 e) ≡ stop_behind 1 (stop_of fault e)
-stop_on (Some fault) e = refl
-stop_on None None = refl
-stop_on None (Some at) = refl
 
 -- ---- merging
 
@@ -185,31 +113,18 @@ merges_full : (blocks : ℕ) (options : Options) (place : Place) (ps : List Pack
 merges_full blocks options place ps bytes mid left room full fits file found lens =
     let budget = options.budget in
     let e = exceeded_at blocks budget mid left in
-    let f = found_at mid left in
-    let e_is : exceeded_at blocks budget place bytes ≡ shift 1 e =
-    ap (exceeded blocks budget) lens
-    ∙ exceeded_on blocks budget (map frame_length ps) (lengths_at mid left) room (length-map ps frame_length ∙ full) fits in
-    let f_is : found_before budget (exceeded_at blocks budget place bytes) (found_at place bytes) ≡ in_front ps (found_before budget e f) =
-    ap (λ (o : Option (ℕ × ℕ)). found_before budget o (found_at place bytes)) e_is ∙ ap (found_before budget (shift 1 e)) found ∙ found_on budget ps e f full in
-    ap (λ (o : Option (ℕ × ℕ)). made options place.file.order o (found_before budget (exceeded_at blocks budget place bytes) (found_at place bytes))) e_is
-    ∙ ap (made options place.file.order (shift 1 e)) f_is
-    ∙ made_on options place.file.order ps e (found_before budget e f) room full
-    ∙ ap (λ (h : FileHead). behind 1 (round_output options place.file.order ps) (made options h.order e (found_before budget e f))) (sym file)
+    let f = found_before budget e (found_at mid left) in
+    made_full (made options place.file.order) blocks budget place ps bytes room mid left full fits found lens
+    ∙ made_on options place.file.order ps e f room full
+    ∙ ap (λ (h : FileHead). behind 1 (round_output options place.file.order ps) (made options h.order e f)) (sym file)
 
 merges_last : (blocks : ℕ) (options : Options) (place : Place) (ps : List Packet) (bytes : List ℕ) (fault : Option CapFault) (more : List ℕ) → 0 < options.budget
     → length ps + length more ≤ options.budget → round_need ps + needed more ≤ blocks
     → found_at place bytes ≡ in_front ps (ended fault) → lengths_at place bytes ≡ map frame_length ps ++ more
     → merging blocks options place bytes ≡ passed (round_output options place.file.order ps) (stop_of fault None)
 merges_last blocks options place ps bytes fault more room le fits found lens =
-    let budget = options.budget in
     let order = place.file.order in
-    let e_is : exceeded_at blocks budget place bytes ≡ None =
-    ap (exceeded blocks budget) lens
-    ∙ exceeded_last blocks budget (map frame_length ps ++ more) room
-    (omega (arith, le, length-append (map frame_length ps) more, length-map ps frame_length))
-    (omega (arith, fits, needed_append (map frame_length ps) more)) in
-    ap (λ (o : Option (ℕ × ℕ)). made options order o (found_before budget o (found_at place bytes))) e_is
-    ∙ ap (made options order None) found
+    made_last (made options order) blocks options.budget place ps bytes room fault more le fits found lens
     ∙ ap (λ (qs : List Packet). passed (flat_map (record_bytes order) (records_of options qs)) (stop_of fault None)) (append-nil ps)
     ∙ ap (λ (l : List ℕ). passed l (stop_of fault None)) (records_last options order ps room (omega (arith, le)))
 
@@ -218,15 +133,7 @@ merges_less : (blocks : ℕ) (options : Options) (place : Place) (ps : List Pack
     → lengths_at place bytes ≡ map frame_length ps ++ len ∷ more
     → merging blocks options place bytes ≡ passed [] (AtRound 0 (round_need ps + need_of len))
 merges_less blocks options place ps bytes len more room lt fits ex lens =
-    let budget = options.budget in
-    let order = place.file.order in
-    let need = round_need ps + need_of len in
-    let e_is : exceeded_at blocks budget place bytes ≡ Some (0, need) =
-    ap (exceeded blocks budget) lens
-    ∙ exceeded_next blocks budget len (map frame_length ps) more room (omega (arith, lt, length-map ps frame_length)) fits ex in
-    let none : 0 * budget ≡ 0 = omega arith in
-    ap (λ (o : Option (ℕ × ℕ)). made options order o (found_before budget o (found_at place bytes))) e_is
-    ∙ ap (λ (k : ℕ). passed (flat_map (record_bytes order) (records_of options (take k (found_at place bytes).packets))) (AtRound 0 need)) none
+    made_less (made options place.file.order) blocks options.budget place ps bytes room len more lt fits ex lens
 
 pub merging_goes_by_round : MergingGoesByRound
 merging_goes_by_round blocks options place ps bytes room = record {

@@ -1,4 +1,4 @@
-use Rattle.std.proofs.Common.{arith, ◌≤◌, ◌<◌, ◌*◌, ◌^◌, length, take, subst, sym, length-take}
+use Rattle.std.proofs.Common.{arith, ◌*◌, ◌^◌, length, take, subst, sym, length-take}
 use Rattle.offload_model.proofs.Lists.{all_taken}
 use Rattle.check_totals.specs.Counts.{IsQueueWithin}
 use Rattle.check_totals.proofs.Adding.{all_at}

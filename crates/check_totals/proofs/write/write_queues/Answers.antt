@@ -1,8 +1,7 @@
-use Rattle.std.proofs.Common.{arith, subst, ◌≤◌, length}
-use Rattle.std.specs.Prelude.{OnErr}
+use Rattle.std.proofs.Common.{arith}
 use Rattle.std.proofs.lemmas.Result.{err_from_is_err_and}
 use Rattle.check_totals.specs.Lines.{queue_line}
-use Rattle.check_totals.proofs.Owing.{line_written, line_failed, lines_written}
+use Rattle.check_totals.proofs.Owing.{line_written, line_failed}
 use Rattle.check_totals.proofs.write.write_queues.Goals as goal
 
 pub returns-in_err-write_queue-clause-err : goal.returns-in_err-write_queue-clause-err

@@ -1,4 +1,4 @@
-use Rattle.std.proofs.Common.{sym, ◌∙◌}
+use Rattle.std.proofs.Common.{◌∙◌}
 use Rattle.check_totals.proofs.Summing.{same_counts, made_of}
 use Rattle.check_totals.proofs.totals.Totals.make.Goals as goal
 
