@@ -1,5 +1,5 @@
 -- Segmenting what merging wrote.
-use Rattle.std.proofs.Common.{◌≡◌, ℕ, zero, suc, ◌+◌, ◌-◌, ◌*◌, ◌^◌, ◌<◌, ◌≤◌, ◌⊎◌, inl, inr, Bool, true, false, cond, Option, Some, None, List, [], ◌∷◌, ◌++◌, length, get_or, take, drop, map, refl, sym, ap, ◌∙◌, subst, arith, length-append}
+use Rattle.std.proofs.Common.{◌≡◌, ℕ, suc, ◌+◌, ◌^◌, ◌<◌, ◌≤◌, ◌⊎◌, inl, inr, Bool, true, false, cond, Option, None, List, [], ◌∷◌, ◌++◌, length, get_or, take, map, refl, sym, ap, ◌∙◌, subst, arith, length-append}
 use Rattle.std.specs.Prelude.{◌==◌, if◌then◌else◌, is_some}
 use Rattle.std.specs.List.{flat_map, filter, AllByRecursion, range_with_len}
 use Rattle.std.proofs.lemmas.List.{take_at, length-map}
@@ -7,7 +7,6 @@ use Rattle.std.proofs.lemmas.List.Elements.{filter-append}
 use Rattle.std.proofs.lemmas.Bool.{le-ltb}
 use Rattle.std.proofs.lemmas.Simd.{map-map}
 use Rattle.net_bytes.specs.declared.order.Order.{Order}
-use Rattle.net_bytes.specs.declared.order.Order.TheVariants.{Big, Little}
 use Rattle.frame_layout.specs.Key.{key_of}
 use Rattle.frame_layout.proofs.Lemmas.{same_key}
 use Rattle.maximal_runs.proofs.Pass.{all_append}
@@ -18,11 +17,11 @@ use Rattle.pcap_io.specs.declared.off_head.OffHead.{OffHead}
 use Rattle.pcap_io.specs.Capture.{Packet, Found, reads}
 use Rattle.pcap_io.specs.Headers.{first_that_holds, file_refusals, file_head, off_head}
 use Rattle.pcap_io.specs.Written.{file_bytes}
-use Rattle.pcap_io.specs.Split.{spelled, spelled_all, IsLawful, AreLawful as AreLawfulFrom}
+use Rattle.pcap_io.specs.Split.{spelled_all, AreLawful as AreLawfulFrom}
 use Rattle.pcap_io.proofs.HeadLaws.{file_head_law}
 use Rattle.pcap_io.proofs.SplitLaws.{written_law}
 use Rattle.offload_model.specs.Mergeable.{IsMergeable, IsMergeableAs}
-use Rattle.offload_model.specs.Segments.{packet_in, merged_in, with_head, with_frame, frames_of, segments_by, segments_of}
+use Rattle.offload_model.specs.Segments.{packet_in, merged_in, with_frame, frames_of, segments_of}
 use Rattle.offload_model.specs.Rounds.{is_key, is_of, is_queued, items_of, rounds_of}
 use Rattle.offload_model.specs.Written.{Options, record_of, window_of, window_record, windows_by, windows_of, round_records, records_of, record_bytes, written, segmented}
 use Rattle.offload_model.specs.Captured.{IsCaptured, AreCaptured, AreLawful, content}

@@ -1,5 +1,5 @@
 -- The laws of merging and segmenting, of a whole capture.
-use Rattle.std.specs.Prelude.{◌≡◌, ℕ, ◌+◌, ◌^◌, ◌<◌, ◌≤◌, ◌⊎◌, ◌↔◌, Option, None, List, length, map, take}
+use Rattle.std.specs.Prelude.{◌≡◌, ℕ, ◌^◌, ◌<◌, ◌≤◌, ◌⊎◌, ◌↔◌, Option, None, List, length, map, take}
 use Rattle.std.specs.List.{AllByRecursion, filter, flat_map}
 use Rattle.maximal_runs.specs.Cut.{AllNeighbours}
 use Rattle.maximal_runs.specs.Items.{AreItems}
