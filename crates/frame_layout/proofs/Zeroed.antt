@@ -1,12 +1,12 @@
 -- Sums over pieces of a frame, with a field taken as zero.
 use Rattle.std.proofs.Common.{◌≡◌, ℕ, zero, suc, ◌+◌, ◌-◌, ◌/◌, ◌%◌, ◌<◌, ◌≤◌, List, [], ◌∷◌, ◌++◌, length, length-append, take, drop, set, append_assoc, refl, sym, ap, ◌∙◌, arith}
-use Rattle.std.proofs.lemmas.List.{length-set, length-take, length-drop, get_or-take, get_or-drop, ext_get_or, take-take, drop-drop, drop-take, set-append_left}
+use Rattle.std.proofs.lemmas.List.{length-set, length-take, length-drop, drop-append-le, take-append-le, get_or-take, get_or-drop, ext_get_or, take-take, drop-drop, drop-take, set-append_left}
 use Rattle.std.proofs.lemmas.List.Folds.{drop_split}
-use Rattle.inet_sum.specs.Sum.{word_sum, folded, fold_of, joined_fold}
+use Rattle.inet_sum.specs.Sum.{word_sum, folded, fold_of, checksum_of, joined_fold}
 use Rattle.inet_sum.proofs.Folds.{even_total, joined_is}
 use Rattle.std.specs.Prelude.{◌==◌}
 use Rattle.net_bytes.specs.Bytes.{byte, put16, part, bytes16}
-use Rattle.frame_layout.specs.Candidate.{pseudo_header, pseudo}
+use Rattle.frame_layout.specs.Candidate.{pseudo_header, pseudo, ip4_sum}
 use Rattle.frame_layout.specs.declared.layout.Header.{Header}
 use Rattle.frame_layout.specs.declared.layout.Layer.{Layer}
 use Rattle.frame_layout.specs.declared.layout.Layer.TheVariants.{Ip4, Ip6}
@@ -78,6 +78,12 @@ zeroed_total h at o end a b inside fits even ea eb =
     let two : word_sum (0 ∷ 0 ∷ y) ≡ word_sum y = omega arith in
     even_total x (0 ∷ 0 ∷ y) a b (omega (arith, length-take (at + o - at) (drop at h), length-drop at h)) ea (eb ∙ ap folded (sym two))
     ∙ ap fold_of (zeroed_pieces h at o end inside fits)
+
+-- the sum of a header in the first of two lists
+pub ip4_front : (xs ys : List ℕ) (at : ℕ) → at + 20 ≤ length xs → ip4_sum xs at ≡ ip4_sum (xs ++ ys) at
+ip4_front xs ys at h =
+    ap (λ z. checksum_of (put16 z 10 0))
+    (sym (ap (take 20) (drop-append-le at xs ys (omega arith)) ∙ take-append-le 20 (drop at xs) ys (omega (arith, length-drop at xs))))
 
 -- numbers with the folds of the pseudo headers
 pub pseudo4_total : (h : List ℕ) (at protocol len a : ℕ) → at + 20 ≤ length h → folded a ≡ fold_of (take (at + 20 - (at + 12)) (drop (at + 12) h))

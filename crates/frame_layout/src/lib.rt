@@ -5,7 +5,8 @@
 //! flow, and [`queue_of`] the flow's receive queue. [`candidate`] says whether the frame is a plain TCP segment with exact
 //! lengths, right sums and a payload (`candidate`, in both directions), and what is read of it: a [`Seg`]. It needs the
 //! front of the frame and the sum of the rest alone; [`candidate_in`] takes a layout that is known, and the payload's sum.
-//! No call takes memory.
+//! No call takes memory. [`ip4_sum`] and [`carried_sum`] are the sums that headers before a payload carry, which is known by
+//! its own sum ([`Front`]): a judge compares them with the fields, and who fills in headers writes them.
 //!
 //! ```
 //! let queue = queue_of(&key(frame), 4);
@@ -29,9 +30,11 @@ mod sums;
 mod tests;
 
 pub use flow::Key;
+pub use front::Front;
 pub use judge::{candidate, candidate_in};
 pub use laws::{alike_keeps_key, alike_keeps_shape, candidates_are_short, headers_are_laid};
 pub use layout::{Header, Layer, Layout};
 pub use queue::{key, key_behind, queue_of};
 pub use read::shape;
 pub use segment::Seg;
+pub use sums::{carried_sum, ip4_sum};

@@ -16,7 +16,7 @@ use tcp_headers::udp;
 fn zeroed(head: &[u8], at: usize, field: usize, end: usize) -> u64
     requires inside { at + field + 2 ≤ end }
     requires end { end ≤ length head.now }
-    requires short { length head.now < 2 ^ 29 }
+    requires short { length head.now < 2 ^ 31 }
     requires even { field % 2 ≡ 0 }
     ensures fold { folded result ≡ fold_of (put16 (part head.now at (end - at)) field 0) }
     ensures small { result < 2 ^ 61 }
@@ -24,20 +24,21 @@ fn zeroed(head: &[u8], at: usize, field: usize, end: usize) -> u64
     unfolded(&head[at..at + field]) + unfolded(&head[at + field + 2..end])
 }
 
-/// The sum of the IPv4 header at the place.
+/// The sum of the IPv4 header at the place (RFC 791, section 3.1), whatever is behind these bytes.
 pub fn ip4_sum(head: &[u8], at: usize) -> u16
     requires there { at + 20 ≤ length head.now }
-    requires short { length head.now < 2 ^ 29 }
-    ensures { result ≡ ip4_sum_of head.now at }
+    requires short { length head.now < 2 ^ 31 }
+    ensures sum { result ≡ ip4_sum_of head.now at }
+    ensures front { (rest : List ℕ) → result ≡ ip4_sum_of (head.now ++ rest) at }
 {
     65535 - fold_number(zeroed(head, at, 10, at + 20))
 }
 
-/// A number with the fold of the pseudo header of what the IP header carries.
+/// A number with the fold of the pseudo header of what the IP header carries (RFC 9293, section 3.1; RFC 8200, section 8.1).
 #[inline(always)]
 fn pseudo(head: &[u8], ip: Header, protocol: u8, len: u32) -> u64
     requires there { AreAddressesWithin (length head.now) ip.layer ip.at }
-    requires short { length head.now < 2 ^ 29 }
+    requires short { length head.now < 2 ^ 31 }
     ensures fold { folded result ≡ fold_of (pseudo_of head.now ip protocol len) }
     ensures small { result < 2 ^ 61 }
 {
@@ -55,21 +56,22 @@ fn pseudo(head: &[u8], ip: Header, protocol: u8, len: u32) -> u64
 }
 
 /// The fold of two pieces, of a number with the first one's fold, and the second one's fold.
-pub fn joined(front: u64, is_odd: bool, behind: u16) -> u16
-    requires { front < 2 ^ 62 }
-    ensures { result ≡ joined_fold is_odd (folded front) behind }
+fn joined(front: u64, is_odd: bool, behind: u16) -> u16
+    requires small { front < 2 ^ 62 }
+    ensures fold { result ≡ joined_fold is_odd (folded front) behind }
 {
     let weight = if is_odd { 256 } else { 1 };
     fold_number(front + weight * u64::from(behind))
 }
 
-/// The sum of the header at the place and all behind it, with its sum field taken as zero.
+/// The sum of what the IP header carries, from the header at `at` on, with that header's sum field at `field` taken as zero
+/// (RFC 9293, section 3.1; RFC 768). Words are added as they are, and folded once, at the end.
 #[inline(always)]
 pub fn carried_sum(front: &Front, ip: Header, protocol: u8, at: usize, field: usize) -> u16
     requires inside { at + field + 2 ≤ front.now.end }
     requires even { field % 2 ≡ 0 }
     requires there { AreAddressesWithin (length front.now.head.now) ip.layer ip.at }
-    ensures { (f : List ℕ) → IsFrontOf front.now f → result ≡ checksum_of (pseudo_of f ip protocol (length f - at) ++ put16 (drop at f) field 0) }
+    ensures sum { (f : List ℕ) → IsFrontOf front.now f → result ≡ checksum_of (pseudo_of f ip protocol (length f - at) ++ put16 (drop at f) field 0) }
 {
     let own = pseudo(front.head, ip, protocol, (front.len - at) as u32)
         + zeroed(front.head, at, field, front.end);

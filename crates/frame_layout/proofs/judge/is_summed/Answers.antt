@@ -18,7 +18,7 @@ returns-in-Ip4 c = λ f s.
     subst (λ l. (IsTrue (nat_eq a b) → IsSumRight f c.args.ip l at) × (IsSumRight f c.args.ip l at → IsTrue (nat_eq a b))) (sym c.in-Ip4.is)
     (eqb_is a b (be16_of f (at + 10)) (ip4_sum_of f at)
     (c.header_checksum.ensures.field ∙ sym (same16 h f front.len s.long more s.begins (at + 10) (omega arith)))
-    (c.ip4_sum.ensures ∙ same_ip4_sum h f front.len s.long more s.begins at fits))
+    (c.ip4_sum.ensures.sum ∙ same_ip4_sum h f front.len s.long more s.begins at fits))
 
 pub returns-in-Udp : goal.returns-in-Udp
 returns-in-Udp c = λ f s.
