@@ -10,9 +10,10 @@ use Rattle.frags.specs.declared.holder.Holder.TheVariants.{Sole}
 use Rattle.frags.specs.declared.pieces.Piece.{Piece}
 use Rattle.frags.proofs.Keeping.{length-bytes_of}
 use Rattle.skb.specs.SkbState.{SkbState, buffer_bytes, of_buffer}
+use Rattle.skb.specs.Fronts.{IsFronted, front_of}
 use Rattle.gro.specs.declared.packet.Packet.{Packet as Held}
-use Rattle.gro.specs.Held.{IsFronted, of_packets, AreLentFrom, with_head}
-use Rattle.gro.specs.Build.{Build, build, front_of, IsSameBlock, TakesBuffer, TakesPackets, payloads}
+use Rattle.gro.specs.Held.{of_packets, AreLentFrom, with_head}
+use Rattle.gro.specs.Build.{Build, build, IsSameBlock, TakesBuffer, TakesPackets, payloads}
 use Rattle.gro.specs.Items.{HoldsAll}
 use Rattle.gro.proofs.Lent.{none_lent}
 

@@ -1,6 +1,5 @@
 mod Flowing
 mod Comes
-mod Fronts
 mod Joined
 mod Lent
 mod Packets

@@ -10,9 +10,9 @@ use Rattle.frags.specs.declared.pieces.Piece.{Piece}
 use Rattle.frags.proofs.Keeping.{count_within}
 use Rattle.skb.specs.SkbState.{SkbState, head_bytes, buffer_bytes, buffer_size, head_size, written}
 use Rattle.skb.specs.Moving.{Moves, JoinsAccount, KeepsLeast, given_back}
+use Rattle.skb.specs.Fronts.{IsFronted, front_of}
 use Rattle.skb.proofs.Buffers.{written_behind}
-use Rattle.gro.specs.Held.{IsFronted}
-use Rattle.gro.specs.Build.{build, built, front_of, IsBuild, IsSameBlock, TakesBuffer}
+use Rattle.gro.specs.Build.{build, built, IsBuild, IsSameBlock, TakesBuffer}
 
 seam : (x p c d : List ℕ) → (c ≡ []) ⊎ (p ≡ []) → (x ++ c) ++ (p ++ d) ≡ (x ++ p) ++ (c ++ d)
 seam x p c d (inl e) =

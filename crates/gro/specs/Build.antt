@@ -8,8 +8,9 @@ use Rattle.frags.specs.PieceList.{bytes_of, size_of, of_pieces, least_weight}
 use Rattle.frags.specs.declared.pieces.Piece.{Piece}
 use Rattle.skb.specs.SkbState.{SkbState, buffer_bytes, buffer_size, head_size}
 use Rattle.skb.specs.Moving.{JoinsAccount, KeepsLeast, given_back}
+use Rattle.skb.specs.Fronts.{IsFronted, front_of}
 use Rattle.gro.specs.declared.packet.Packet.{Packet as Held}
-use Rattle.gro.specs.Held.{of_packets, AreLentFrom, counts_of, IsFronted, WeighAtLeast}
+use Rattle.gro.specs.Held.{of_packets, AreLentFrom, counts_of, WeighAtLeast}
 
 -- a buffer that is put together: `filled` bytes in a block behind its headroom, and pieces
 pub record Build : Type 0 where
@@ -20,9 +21,6 @@ pub record Build : Type 0 where
 
 abbrev pub build : SoleState → ℕ → List Piece → OutcomesState → Build
 build block filled pieces out = record { block = block; filled = filled; pieces = pieces; out = out }
-
-abbrev pub front_of : SoleState → ℕ → List ℕ
-front_of s n = slice_range s.bytes 64 (64 + n)
 
 abbrev pub built : Build → List ℕ
 built b = front_of b.block b.filled ++ bytes_of b.pieces

@@ -6,15 +6,12 @@ use Rattle.frags.specs.Account.{Account, both, of_sole}
 use Rattle.frags.specs.declared.holder.Holder.{Holder}
 use Rattle.skb.specs.SkbState.{SkbState, buffer_bytes, buffer_size, head_size, buffer_least, is_sole, of_buffer}
 use Rattle.skb.specs.Moving.{HandedOn}
+use Rattle.skb.specs.Fronts.{IsFronted}
 use Rattle.gro.specs.declared.packet.Packet.{Packet as Held}
 
 -- a packet, without where its bytes lie
 abbrev pub packet_of : Held → Packet
 packet_of p = record { number = p.number; sec = p.sec; frac = p.frac; original = p.original; frame = buffer_bytes p.skb }
-
--- the first 200 bytes, or all of fewer, lie in the head
-abbrev pub IsFronted : SkbState → Type 0
-IsFronted s = min (buffer_size s) 200 ≤ head_size s
 
 -- what is known of a packet that was received
 pub record IsHeld (p : Held) : Type 0 where

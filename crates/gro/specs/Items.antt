@@ -5,11 +5,12 @@ use Rattle.frags.specs.Account.{Account, Keeps, both, of_outcomes}
 use Rattle.frags.specs.OutcomesState.{OutcomesState}
 use Rattle.skb.specs.SkbState.{SkbState, buffer_bytes, buffer_least, of_buffer}
 use Rattle.skb.specs.Moving.{given_back}
+use Rattle.skb.specs.Fronts.{IsFronted}
 use Rattle.offload_model.specs.Merged.{Merged, merged_of}
 use Rattle.gro.specs.declared.packet.Packet.{Packet as Held}
 use Rattle.gro.specs.declared.item.Item.{Item}
 use Rattle.gro.specs.declared.run.Run.{Run}
-use Rattle.gro.specs.Held.{of_packets, AreLentFrom, AreShared, counts_of, IsFronted, WeighAtLeast}
+use Rattle.gro.specs.Held.{of_packets, AreLentFrom, AreShared, counts_of, WeighAtLeast}
 use Rattle.gro.specs.Runs.{held_of, packets_of}
 
 -- an item, without where its bytes lie

@@ -6,13 +6,14 @@ use Rattle.maximal_runs.specs.Cut.{AllNeighbours}
 use Rattle.maximal_runs.specs.Items.{first_number, AreItems}
 use Rattle.pcap_io.specs.Capture.{Packet}
 use Rattle.skb.specs.SkbState.{buffer_least}
+use Rattle.skb.specs.Fronts.{IsFronted}
 use Rattle.offload_model.specs.Mergeable.{IsMergeable}
 use Rattle.offload_model.specs.Rounds.{is_of, number_of}
 use Rattle.offload_model.specs.Merged.{merged_of}
 use Rattle.gro.specs.declared.packet.Packet.{Packet as Held}
 use Rattle.gro.specs.declared.item.Item.{Item}
 use Rattle.gro.specs.declared.runs.Runs.{Runs}
-use Rattle.gro.specs.Held.{packet_of, of_packets, of_nothing, count_of, counts_of, AreLentFrom, IsFronted}
+use Rattle.gro.specs.Held.{packet_of, of_packets, of_nothing, count_of, counts_of, AreLentFrom}
 use Rattle.gro.specs.Items.{item_of, item_count, of_item, IsItemOf}
 use Rattle.gro.specs.Steps.{held_in, packets_in, AreRuns, HasPlaces}
 use Rattle.gro.specs.Totals.{totals, AreSame}

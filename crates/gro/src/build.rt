@@ -6,9 +6,9 @@ ghost use Rattle.offload_model.specs.Mergeable.{IsLengthInRange};
 ghost use Rattle.offload_model.specs.Frames.{merged_frame};
 ghost use Rattle.frame_layout.specs.Segment.{HasFlags};
 ghost use Rattle.frags.specs.PieceList.{size_of};
-ghost use Rattle.skb.specs.SkbState.{buffer_bytes, buffer_size, head_size, is_sole, written};
-ghost use Rattle.gro.specs.Held.{IsFronted};
-ghost use Rattle.gro.specs.Build.{build, IsBuild, IsSameBlock, TakesBuffer, TakesPackets, AreJoinable, sizes_behind, pieces_in, free_in, front_of, payloads};
+ghost use Rattle.skb.specs.SkbState.{buffer_bytes, buffer_size, head_size, is_sole};
+ghost use Rattle.skb.specs.Fronts.{IsFronted, front_of};
+ghost use Rattle.gro.specs.Build.{build, IsBuild, IsSameBlock, TakesBuffer, TakesPackets, AreJoinable, sizes_behind, pieces_in, free_in, payloads};
 ghost use Rattle.gro.specs.Items.{HoldsAll};
 
 use crate::Packet;
@@ -17,21 +17,8 @@ use frame_layout::Layout;
 use header_fill::merge_headers;
 use inet_sum::Partial;
 use raw_block::Sole;
-use skb::{HEADROOM, Skb};
+use skb::{FRONT, HEADROOM, Skb, write_at};
 use std::collections::VecDeque;
-
-/// A merged buffer's head has so many bytes, or all of fewer: all headers lie in them.
-const FRONT: usize = 200;
-
-// Writes over a block's bytes from a place on.
-fn write_at(block: &mut Sole, at: usize, bytes: &[u8])
-    requires { (length block.old.bytes ≡ 2048) × (at + length bytes.now ≤ 2048) }
-    ensures bytes { block.new.bytes ≡ written block.old.bytes at bytes.now }
-    ensures same { IsSameBlock block.old block.new }
-{
-    let range = block.range_mut(at, at + bytes.len());
-    range.copy_from_slice(bytes);
-}
 
 // A buffer's bytes from `at` on follow: the block has as many of them as it still wants, and the rest moves behind it.
 fn take_buffer(

@@ -1,6 +1,7 @@
 -- Items that are compared with the packets that they came of.
 use Rattle.std.specs.Prelude.{ℕ, ◌≡◌, ◌+◌, ◌^◌, ◌<◌, true, Option, List, [], ◌∷◌, length, nat_le, if◌then◌else◌}
 use Rattle.std.specs.List.{filter, flat_map, range_with_len}
+use Rattle.skb.specs.Fronts.{IsFronted}
 use Rattle.maximal_runs.specs.Items.{begins_in}
 use Rattle.pcap_io.specs.Capture.{Packet}
 use Rattle.offload_model.specs.Merged.{Merged, merged_of}
@@ -9,7 +10,6 @@ use Rattle.offload_model.specs.Segments.{segments_by}
 use Rattle.offload_model.specs.Tests.{is_lawful_by}
 use Rattle.offload_model.specs.Written.{head_of}
 use Rattle.gro.specs.declared.item.Item.{Item}
-use Rattle.gro.specs.Held.{IsFronted}
 use Rattle.gro.specs.Items.{item_of}
 use Rattle.check_totals.specs.declared.totals.QueueTotals.{QueueTotals}
 use Rattle.check_totals.specs.Counts.{is_merged}

@@ -9,10 +9,12 @@ use crate::skb::Unshared;
 use frags::{Holder, give_share};
 use raw_block::{Claimed, Part, Released, Sole};
 
-// Writes over a block's bytes from a place on.
-pub(crate) fn write_at(sole: &mut Sole, at: usize, bytes: &[u8])
+/// Writes over a block's bytes from a place on.
+pub fn write_at(sole: &mut Sole, at: usize, bytes: &[u8])
     requires { (length sole.old.bytes ≡ 2048) × (at + length bytes.now ≤ 2048) }
-    ensures { (sole.new.bytes ≡ written sole.old.bytes at bytes.now) × (sole.new.mark ≡ sole.old.mark) × (sole.new.block ≡ sole.old.block) }
+    ensures bytes { sole.new.bytes ≡ written sole.old.bytes at bytes.now }
+    ensures mark { sole.new.mark ≡ sole.old.mark }
+    ensures block { sole.new.block ≡ sole.old.block }
 {
     let range = sole.range_mut(at, at + bytes.len());
     range.copy_from_slice(bytes);

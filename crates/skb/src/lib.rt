@@ -61,5 +61,6 @@ mod skb;
 mod tests;
 
 pub use crate::copy::CopyFault;
-pub use crate::pull_up::{HEADROOM, PullFault, Returned};
+pub use crate::heads::write_at;
+pub use crate::pull_up::{FRONT, HEADROOM, PullFault, Returned};
 pub use crate::skb::{RoomFault, Skb, Unshared};

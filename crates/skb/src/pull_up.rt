@@ -16,6 +16,9 @@ use thiserror::Error;
 /// The headroom that `pull_up` and `copy` leave in front of a new head.
 pub const HEADROOM: usize = 64;
 
+/// How many first bytes of a frame hold all its headers. A buffer whose headers are read has so many in its head, or all of fewer.
+pub const FRONT: usize = 200;
+
 /// Why bytes can't be brought into a head.
 #[derive(Debug, Drop, Error)]
 pub enum PullFault {

@@ -4,7 +4,8 @@ use Rattle.frags.specs.PieceList.{AllFit, bytes_of, size_of}
 use Rattle.frags.specs.declared.holder.Holder.TheVariants.{Sole}
 use Rattle.frags.specs.declared.pieces.Piece.{Piece}
 use Rattle.skb.specs.SkbState.{SkbState, buffer_bytes, head_bytes}
-use Rattle.gro.specs.Build.{Build, build, payloads, front_of}
+use Rattle.skb.specs.Fronts.{front_of}
+use Rattle.gro.specs.Build.{Build, build, payloads}
 use Rattle.gro.specs.Items.{HoldsAll}
 use Rattle.gro.proofs.Joined.{begun, followed, size_is, bytes_are, holds}
 use Rattle.gro.proofs.Taking.{front_size}

@@ -4,7 +4,7 @@ use Rattle.frame_layout.specs.declared.layout.Header.{Header}
 use Rattle.frame_layout.specs.Headers.{AtHeaders}
 use Rattle.offload_model.specs.Frames.{merged_frame}
 use Rattle.frame_layout.specs.Segment.{HasFlags}
-use Rattle.gro.proofs.Fronts.{front_long, front_is}
+use Rattle.skb.proofs.Fronts.{front_long, front_is}
 use Rattle.gro.proofs.build.put_headers.Goals as goal
 
 pub returns-clause-size : goal.returns-clause-size
