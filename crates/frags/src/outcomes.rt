@@ -1,5 +1,5 @@
 //! What was given back: Soles and receipts, in places that were reserved before.
-ghost use Rattle.std.specs.Prelude.{◌≡◌, ℕ, ◌+◌, ◌≤◌, [], ◌∷◌, ◌++◌, OnOk, IsOk, MatchOption};
+ghost use Rattle.std.specs.Prelude.{◌≡◌, ℕ, ◌+◌, ◌≤◌, [], ◌∷◌, ◌++◌, IfOk, OnOk, IsOk, MatchOption};
 ghost use Rattle.ref_core.specs.WeightRule.{full_weight};
 ghost use Rattle.raw_block.specs.Answers.{IsReleased, IsLast};
 ghost use Rattle.frags.specs.Account.{Keeps, both, of_part, of_sole, of_receipt, of_holder, of_outcomes};
@@ -33,6 +33,21 @@ impl Outcomes {
         Outcomes {
             soles: Vec::new(alloc),
             receipts: Vec::new(alloc),
+        }
+    }
+
+    /// Holds nothing, with room for `n` Soles and `n` receipts.
+    pub fn with_room(alloc: Global, n: usize) -> Result<Outcomes, AllocError>
+        ensures empty { IfOk result (λ out. (out.soles ≡ []) × (out.receipts ≡ [])) }
+        ensures room { IfOk result (λ out. n ≤ out.spare) }
+    {
+        let mut out = Outcomes::new(alloc);
+        match out.reserve(n) {
+            Ok(()) => Ok(out),
+            Err(error) => {
+                out.settle();
+                Err(error)
+            }
         }
     }
 

@@ -39,6 +39,27 @@ pub struct Item {
     pub outcomes: Outcomes,
 }
 
+impl Item {
+    /// Its buffer and its outcomes, which are to be spent.
+    pub fn into_parts(self) -> (Skb, Outcomes)
+        ensures skb { result.0 ≡ self.skb }
+        ensures outcomes { result.1 ≡ self.outcomes }
+    {
+        let Item {
+            skb,
+            outcomes,
+            number: _,
+            sec: _,
+            frac: _,
+            original: _,
+            n: _,
+            m: _,
+            modes: _,
+        } = self;
+        (skb, outcomes)
+    }
+}
+
 impl Run {
     /// The record that the run comes to, in places that were made before. It takes no memory.
     pub(crate) fn into_item(self, places: Places) -> Item

@@ -23,7 +23,8 @@
 //!   weighs less than w where none of the packets' does, and w is at most the weight of a whole block.
 //! - `ready` of `finish`: each item's head has the first 200 bytes, or all of fewer, and one block at least is free beside it.
 //! - `back`: where memory is refused, `receive` gives the packet and `finish` the table back, and the table is as it was.
-//! - `kept`, `grows` and `places` of `release`: all that the table holds is given back, in places that were reserved before.
+//! - `kept`, `grows` and `places` of `release`: all that the table holds is given back, in places that were reserved before, and so is
+//!   what a [`Packet`] holds.
 //! - `finish_into` and `clear` say the same as `finish` and `release`, and `none`: the table holds nothing, and may be started again.
 //!
 //! Memory is taken in `make` and `start`, for all runs and flows that may come; in `receive`, where the list of a run's packets is

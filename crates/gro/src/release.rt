@@ -2,7 +2,7 @@
 ghost use Rattle.std.specs.Prelude.{◌≡◌, ◌+◌, ◌≤◌, [], map};
 ghost use Rattle.frags.specs.Account.{Keeps, both, of_outcomes};
 ghost use Rattle.frags.specs.Growth.{Grows};
-ghost use Rattle.gro.specs.Held.{of_packet, of_packets, count_of, counts_of};
+ghost use Rattle.gro.specs.Held.{of_packets, counts_of};
 ghost use Rattle.gro.specs.Runs.{held_of};
 ghost use Rattle.gro.specs.Table.{of_runs, counts_in};
 
@@ -10,26 +10,6 @@ use crate::Packet;
 use crate::run::Run;
 use frags::Outcomes;
 use std::collections::VecDeque;
-
-fn release_packet(packet: Packet, out: &mut Outcomes)
-    requires room { count_of packet ≤ out.old.spare }
-    ensures kept { Keeps (both (of_packet packet) (of_outcomes out.old)) (of_outcomes out.new) }
-    ensures grows { Grows (count_of packet) out.old out.new }
-    ensures places { out.old.spare ≤ out.new.spare + count_of packet }
-{
-    let Packet {
-        skb,
-        spare1,
-        spare2,
-        sec: _,
-        frac: _,
-        original: _,
-        number: _,
-    } = packet;
-    out.keep_sole(spare1);
-    out.keep_sole(spare2);
-    skb.release(out);
-}
 
 fn release_packets(packets: VecDeque<Packet>, out: &mut Outcomes)
     requires room { counts_of packets.items ≤ out.old.spare }
@@ -39,7 +19,7 @@ fn release_packets(packets: VecDeque<Packet>, out: &mut Outcomes)
 {
     let mut packets = packets;
     while let Some(packet) = packets.pop_front() {
-        release_packet(packet, out);
+        packet.release(out);
     }
     packets.destroy_empty();
 }
@@ -62,7 +42,7 @@ pub(crate) fn release_runs(runs: &mut VecDeque<Run>, out: &mut Outcomes)
             flags: _,
             progress: _,
         } = run;
-        release_packet(first, out);
+        first.release(out);
         release_packets(rest, out);
     }
 }

@@ -133,17 +133,7 @@ fn emptied(outcomes: &mut Outcomes) -> usize
 
 // The same of an item.
 fn home(rt: &impl Abort, item: Item) -> usize {
-    let Item {
-        skb,
-        number: _,
-        sec: _,
-        frac: _,
-        original: _,
-        n: _,
-        m: _,
-        modes: _,
-        outcomes,
-    } = item;
+    let (skb, outcomes) = item.into_parts();
     freed(rt, skb, outcomes)
 }
 

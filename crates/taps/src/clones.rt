@@ -3,14 +3,14 @@ ghost use Rattle.std.specs.Prelude.{◌≡◌, ◌+◌, ◌≤◌, length, slice
 ghost use Rattle.frags.specs.Account.{Keeps, both, of_outcomes};
 ghost use Rattle.frags.specs.Growth.{Grows};
 ghost use Rattle.offload_model.specs.Written.{window_of};
-ghost use Rattle.skb.specs.SkbState.{buffer_bytes, buffer_size};
+ghost use Rattle.skb.specs.SkbState.{buffer_bytes, buffer_size, of_buffer};
 ghost use Rattle.taps.specs.Clones.{blocks_of, of_clones};
 
 use frags::Outcomes;
 use skb::Skb;
 
 /// A clone of a packet's buffer, and what its record said. It must be spent: its buffer is given back by
-/// [`TapTask::run`](crate::TapTask::run).
+/// [`TapTask::run`](crate::TapTask::run), or by [`TapClone::release`].
 pub struct TapClone {
     /// The packet's bytes as they arrived.
     pub skb: Skb,
@@ -35,6 +35,23 @@ impl TapClone {
         let to = (from + snap as usize).min(len);
         (from, to)
     }
+
+    /// Gives its buffer back.
+    pub fn release(self, out: &mut Outcomes)
+        requires room { length self.skb.rest + 1 ≤ out.old.spare }
+        ensures kept { Keeps (both (of_buffer self.skb) (of_outcomes out.old)) (of_outcomes out.new) }
+        ensures grows { Grows (length self.skb.rest + 1) out.old out.new }
+        ensures places { out.old.spare ≤ out.new.spare + (length self.skb.rest + 1) }
+    {
+        let TapClone {
+            skb,
+            sec: _,
+            frac: _,
+            original: _,
+            number: _,
+        } = self;
+        skb.release(out);
+    }
 }
 
 /// Gives the buffers of all clones back.
@@ -46,14 +63,7 @@ pub(crate) fn release_all(clones: Vec<TapClone>, out: &mut Outcomes)
 {
     let mut clones = clones;
     while let Some(clone) = clones.pop() {
-        let TapClone {
-            skb,
-            sec: _,
-            frac: _,
-            original: _,
-            number: _,
-        } = clone;
-        skb.release(out);
+        clone.release(out);
     }
     clones.destroy_empty();
 }

@@ -276,17 +276,7 @@ fn finished_into(rt: &impl Abort, table: &mut RoundTable, items: &mut Vec<Item>)
 fn brought(rt: &impl Abort, table: &mut RoundTable, item: Item) -> usize
     ensures { table.new.runs ≡ table.old.runs }
 {
-    let Item {
-        skb,
-        number: _,
-        sec: _,
-        frac: _,
-        original: _,
-        n: _,
-        m: _,
-        modes: _,
-        mut outcomes,
-    } = item;
+    let (skb, mut outcomes) = item.into_parts();
     reserve(rt, &mut outcomes, skb.count());
     skb.release(&mut outcomes);
     let blocks = emptied(&mut outcomes);

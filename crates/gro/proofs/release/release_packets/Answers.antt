@@ -11,7 +11,7 @@ loop-packet-preserved c =
     let i = c.loop-packet.invariant in
     let e = c.in-Some.ensures.items in
     let n = ap counts_of e in
-    let r = c.release_packet in
+    let r = c.release in
     let all = counts_of c.args.packets.items in
     record {
       fewer = omega arith;

@@ -1,10 +1,10 @@
 use Rattle.std.proofs.Common.{◌+◌, length, arith}
 use Rattle.frags.proofs.Growing.{grows_trans, grows_by}
-use Rattle.gro.proofs.release.release_packet.Goals as goal
+use Rattle.gro.proofs.packet.Packet.release.Goals as goal
 
 pub returns-clause-grows : goal.returns-clause-grows
 returns-clause-grows c =
-    let p = c.args.packet in
+    let p = c.args.self in
     let o = c.args.out.now in
     let one = c.keep_sole in
     let two = c.keep_sole-2 in
