@@ -13,15 +13,16 @@ use Rattle.frame_layout.specs.Headers.{AtHeaders, all_headers}
 use Rattle.frame_layout.specs.Candidate.{IsCandidate}
 use Rattle.frame_layout.specs.declared.layout.Header.{Header}
 use Rattle.frame_layout.specs.declared.layout.Layer.{Layer}
-use Rattle.frame_layout.specs.declared.layout.Layer.TheVariants.{Ip4, Ip6}
+use Rattle.frame_layout.specs.declared.layout.Layer.TheVariants.{Ip4}
 use Rattle.frame_layout.proofs.Lemmas.{headers_map, headers_map3, decides_headers, laid}
 use Rattle.pcap_io.specs.Capture.{Packet}
 use Rattle.offload_model.specs.Each.{Each}
 use Rattle.offload_model.specs.Mergeable.{AreUdpSumsAlike, IsSequenceBehind, AreIdsInStep, IsLengthInRange, payloads_of}
-use Rattle.offload_model.specs.Merged.{is_fixed_in, modes_at, modes_of}
+use Rattle.offload_model.specs.Merged.{is_fixed_in, modes_at, modes_of, modes_behind}
 use Rattle.offload_model.proofs.Decides.{decides_udp, decides_sequence, decides_range}
+use Rattle.offload_model.proofs.Modes.{at_behind}
 use Rattle.offload_model.proofs.Grows.{Continues, AreIdsRising, AreIdsStaying, ids_rise, ids_stay, ids_before}
-use Rattle.merge_rule.specs.Next.{is_next_at, is_next_id_at, modes_behind, are_ids_next, IsNext}
+use Rattle.merge_rule.specs.Next.{is_next_at, is_next_id_at, are_ids_next, IsNext}
 use Rattle.merge_rule.specs.Runs.{IsProgress}
 
 or_right : (x y : Bool) → y ≡ true → (x || y) ≡ true
@@ -92,12 +93,6 @@ module _ (p x : Packet) (small : (k : ℕ) → byte p.frame k < 256) where
   ]
   id_at_to ps modes s _ at know i = refl
 
-  behind : (l : Layer) (b : Bool) (s : ℕ) → modes_behind l (modes_at l b s) ≡ s
-  behind Ip4 true s = omega arith
-  behind Ip4 false s = omega arith
-  behind Ip6 b s = omega arith
-  behind _ b s = refl
-
   pub ids_from : (ps : List Packet) (modes : ℕ) (hs : List Header) → (2 ≤ length (p ∷ ps) → modes ≡ modes_of (is_fixed_in (p ∷ ps)) hs)
       → AtHeaders (AreIdsInStep p.frame (p ∷ ps)) hs → are_ids_next (length (p ∷ ps)) modes p.frame x.frame hs ≡ true
       → AtHeaders (AreIdsInStep p.frame ((p ∷ ps) ++ (x ∷ []))) hs
@@ -105,7 +100,7 @@ module _ (p x : Packet) (small : (k : ℕ) → byte p.frame k < 256) where
   ids_from ps modes (h ∷ hs) know i e =
       let s : (is_next_id_at (length (p ∷ ps)) modes p.frame x.frame h.layer h.at ≡ true) × (are_ids_next (length (p ∷ ps)) (modes_behind h.layer modes) p.frame x.frame hs ≡ true) = and_parts _ _ e in (
         id_at_from ps modes (modes_of (is_fixed_in (p ∷ ps)) hs) h.layer h.at know i.0 s.0,
-        ids_from ps (modes_behind h.layer modes) hs (λ two. ap (modes_behind h.layer) (know two) ∙ behind h.layer (is_fixed_in (p ∷ ps) h.at) (modes_of (is_fixed_in (p ∷ ps)) hs)) i.1 s.1,
+        ids_from ps (modes_behind h.layer modes) hs (λ two. ap (modes_behind h.layer) (know two) ∙ at_behind h.layer (is_fixed_in (p ∷ ps) h.at) (modes_of (is_fixed_in (p ∷ ps)) hs)) i.1 s.1,
       )
 
   pub ids_to : (ps : List Packet) (modes : ℕ) (hs : List Header) → (2 ≤ length (p ∷ ps) → modes ≡ modes_of (is_fixed_in (p ∷ ps)) hs)
@@ -113,7 +108,7 @@ module _ (p x : Packet) (small : (k : ℕ) → byte p.frame k < 256) where
   ids_to ps modes [] know i = refl
   ids_to ps modes (h ∷ hs) know i =
       and_from _ _ (id_at_to ps modes (modes_of (is_fixed_in (p ∷ ps)) hs) h.layer h.at know i.0)
-      (ids_to ps (modes_behind h.layer modes) hs (λ two. ap (modes_behind h.layer) (know two) ∙ behind h.layer (is_fixed_in (p ∷ ps) h.at) (modes_of (is_fixed_in (p ∷ ps)) hs)) i.1)
+      (ids_to ps (modes_behind h.layer modes) hs (λ two. ap (modes_behind h.layer) (know two) ∙ at_behind h.layer (is_fixed_in (p ∷ ps) h.at) (modes_of (is_fixed_in (p ∷ ps)) hs)) i.1)
 
 -- ---- lengths
 

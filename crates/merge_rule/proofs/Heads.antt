@@ -10,15 +10,11 @@ use Rattle.frame_layout.specs.declared.layout.Header.{Header}
 use Rattle.frame_layout.specs.declared.layout.Layer.{Layer}
 use Rattle.frame_layout.specs.declared.layout.Layer.TheVariants.{Ip4, Ip6, Udp, Tcp}
 use Rattle.offload_model.specs.Tests.{is_length_in_range, is_ack_alone}
-use Rattle.offload_model.specs.Merged.{modes_at, modes_of}
-use Rattle.merge_rule.specs.Next.{is_next_at, is_next_id_at, modes_behind, are_ids_next, AreInside, HasHead, IsNext, IsNextBy}
+use Rattle.offload_model.specs.Merged.{modes_at, modes_of, modes_behind}
+use Rattle.merge_rule.specs.Next.{is_next_at, is_next_id_at, are_ids_next, AreInside, HasHead, IsNext, IsNextBy}
 use Rattle.merge_rule.specs.Runs.{IsPlaced, AreNextModes, IsNextProgress, IsFirstProgress}
 use Rattle.merge_rule.specs.declared.rule.Progress.{Progress}
 use Rattle.merge_rule.proofs.Headers.{inside_all}
-
--- a frame in one piece is its own head
-pub own_head : (f head : List ℕ) (n : ℕ) → head ≡ f → n ≡ length f → HasHead head n f
-own_head f head n e l = record { begins = λ k h. ap (λ z. byte z k) (sym e); long = sym l }
 
 -- the headers lie within the first n bytes, where the payload doesn't begin before
 pub headers_in : (layout : Layout) (n : ℕ) (hs : List Header) → IsPlaced layout → layout.payload_at ≤ n → hs ≡ layout.headers → AreInside n hs

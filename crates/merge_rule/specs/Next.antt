@@ -1,5 +1,5 @@
 -- What is asked of the next packet of a run, header by header.
-use Rattle.std.specs.Prelude.{◌≡◌, ℕ, ◌+◌, ◌-◌, ◌/◌, ◌%◌, ◌^◌, ◌<◌, ◌≤◌, ◌==◌, ◌↔◌, Bool, true, ◌&&◌, ◌||◌, if◌then◌else◌, Option, Some, None, List, [], ◌∷◌, ◌++◌, length, map}
+use Rattle.std.specs.Prelude.{◌≡◌, ℕ, ◌+◌, ◌-◌, ◌%◌, ◌^◌, ◌<◌, ◌≤◌, ◌==◌, ◌↔◌, Bool, true, ◌&&◌, ◌||◌, if◌then◌else◌, Option, Some, None, List, [], ◌∷◌, ◌++◌, length, map}
 use Rattle.std.specs.List.{AllByRecursion, flat_map}
 use Rattle.net_bytes.specs.Bytes.{byte}
 use Rattle.ip_headers.specs.Ip4.{identification, dont_fragment}
@@ -7,7 +7,8 @@ use Rattle.frame_layout.specs.Shape.{Layout}
 use Rattle.frame_layout.specs.Headers.{all_headers, varying, AreHeadersAlike, size}
 use Rattle.frame_layout.specs.declared.layout.Header.{Header}
 use Rattle.frame_layout.specs.declared.layout.Layer.{Layer}
-use Rattle.frame_layout.specs.declared.layout.Layer.TheVariants.{Ip4, Ip6}
+use Rattle.frame_layout.specs.declared.layout.Layer.TheVariants.{Ip4}
+use Rattle.offload_model.specs.Merged.{modes_behind}
 use Rattle.offload_model.specs.Tests.{are_udp_sums_alike, is_sequence_behind, is_length_in_range}
 
 -- a header of the next frame: it has a UDP sum where the first frame has one, its sequence number is `further` bytes behind that of
@@ -26,12 +27,6 @@ is_next_id n modes first next at =
 abbrev pub is_next_id_at : ℕ → ℕ → List ℕ → List ℕ → Layer → ℕ → Bool
 is_next_id_at n modes first next Ip4 at = is_next_id n modes first next at
 is_next_id_at n modes first next _ at = true
-
--- the modes of the headers behind this one
-abbrev pub modes_behind : Layer → ℕ → ℕ
-modes_behind Ip4 modes = modes / 2
-modes_behind Ip6 modes = modes / 2
-modes_behind _ modes = modes
 
 abbrev pub are_ids_next : ℕ → ℕ → List ℕ → List ℕ → List Header → Bool
 are_ids_next n modes first next [] = true

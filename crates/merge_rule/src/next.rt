@@ -3,8 +3,8 @@ ghost use Rattle.std.specs.Prelude.{◌≡◌, ◌==◌, ◌+◌, ◌<◌, ◌�
 ghost use Rattle.ip_headers.specs.Ip4.{identification as identification_of};
 ghost use Rattle.frame_layout.specs.Headers.{all_headers, size, ip_count};
 ghost use Rattle.offload_model.specs.Tests.{is_ack_alone as is_ack_alone_of};
-ghost use Rattle.offload_model.specs.Merged.{modes_at, modes_of as modes_of_headers};
-ghost use Rattle.merge_rule.specs.Next.{is_next_at, is_next_id_at, modes_behind as modes_behind_of, are_ids_next, AreInside};
+ghost use Rattle.offload_model.specs.Merged.{modes_at, modes_behind as modes_behind_of, modes_of as modes_of_headers};
+ghost use Rattle.merge_rule.specs.Next.{is_next_at, is_next_id_at, are_ids_next, AreInside};
 
 use frame_layout::{Header, Layer};
 use ip_headers::ip4;

@@ -9,7 +9,7 @@ pub mod Made
 pub mod Functions
 mod Whole
 mod Lawful
-mod Modes
+pub mod Modes
 mod ByRelations
 pub mod Ranges
 pub mod Decides

@@ -1,67 +1,39 @@
 -- The modes header by header say the same as the modes at each place.
-use Rattle.std.proofs.Common.{◌≡◌, ℕ, ◌+◌, ◌*◌, ◌/◌, ◌%◌, ◌<◌, ◌≤◌, Bool, true, false, List, [], ◌∷◌, refl, sym, ap, ◌∙◌, arith}
+use Rattle.std.proofs.Common.{◌≡◌, ℕ, ◌+◌, ◌*◌, ◌/◌, ◌%◌, Bool, true, false, List, [], ◌∷◌, refl, sym, ap, ◌∙◌, arith}
 use Rattle.std.specs.Prelude.{◌==◌, ◌||◌, not, if◌then◌else◌}
 use Rattle.std.proofs.lemmas.Bool.{eq-eqb, ne_eqb, eqb-true, eqb-false, and_parts, and_from}
 use Rattle.ip_headers.specs.Ip4.{dont_fragment}
 use Rattle.frame_layout.specs.Headers.{AtHeaders, size, AreLaid}
 use Rattle.frame_layout.specs.declared.layout.Header.{Header}
 use Rattle.frame_layout.specs.declared.layout.Layer.{Layer}
-use Rattle.frame_layout.specs.declared.layout.Layer.TheVariants.{Ethernet, Tag, Ip4, Ip6, Udp, Vxlan, Tcp}
-use Rattle.offload_model.specs.Merged.{modes_at, modes_of, fixed_at, is_fixed}
+use Rattle.frame_layout.specs.declared.layout.Layer.TheVariants.{Ip4, Ip6}
+use Rattle.offload_model.specs.Merged.{modes_at, modes_of, modes_behind, fixed_at, is_fixed}
 use Rattle.offload_model.specs.Segments.{IsModeLawful}
 use Rattle.frame_layout.proofs.Lemmas.{headers_map2}
-use Rattle.segment_rule.specs.Modes.{is_bit_lawful, modes_behind, are_bits_lawful}
+use Rattle.offload_model.proofs.Modes.{all_past}
+use Rattle.segment_rule.specs.Modes.{is_bit_lawful, are_bits_lawful}
 
 -- what `IsModeLawful` says, of any test of places
 abbrev LawfulAt : (ℕ → Bool) → List ℕ → Layer → ℕ → Type 0
 LawfulAt fixed f Ip4 at = fixed at ≡ true → dont_fragment f at ≡ true
 LawfulAt fixed f _ at = Unit {0}
 
--- headers behind one are seen past it
-past : (modes : ℕ) (h : Header) (hs : List Header) (at : ℕ) → h.at < at → is_fixed modes (h ∷ hs) at ≡ is_fixed (modes_behind h.layer modes) hs at
-past modes h hs at less = one h.layer
-  where
-    one : (l : Layer) → fixed_at l h.at modes at (is_fixed (modes / 2) hs at) (is_fixed modes hs at) ≡ is_fixed (modes_behind l modes) hs at
-    one Ip4 = rw (ne_eqb h.at at (λ e. omega arith)) refl
-    one Ip6 = refl
-    one _ = refl
-
-positive : (l : Layer) → 1 ≤ size l
-positive Ethernet = omega arith
-positive Tag = omega arith
-positive Ip4 = omega arith
-positive Ip6 = omega arith
-positive Udp = omega arith
-positive Vxlan = omega arith
-positive Tcp = omega arith
-
--- headers that are laid out from a place on
-behind : (n start : ℕ) (hs : List Header) (end : ℕ) → n < start → AreLaid start hs end → AtHeaders (λ l at. n < at) hs
-behind n start [] end less laid = tt
-behind n start (h ∷ hs) end less laid = (omega (arith, laid.0), behind n (h.at + size h.layer) hs end (omega (arith, laid.0, positive h.layer)) laid.1)
-
 same_modes : (fixed other : ℕ → Bool) (hs : List Header) → AtHeaders (λ l at. fixed at ≡ other at) hs → modes_of fixed hs ≡ modes_of other hs
 same_modes fixed other [] e = refl
 same_modes fixed other (h ∷ hs) e =
     ap (λ b. modes_at h.layer b (modes_of fixed hs)) e.0 ∙ ap (modes_at h.layer (other h.at)) (same_modes fixed other hs e.1)
-
-all_past : (modes : ℕ) (h : Header) (hs gs : List Header) → AtHeaders (λ l at. h.at < at) gs
-    → AtHeaders (λ l at. is_fixed modes (h ∷ hs) at ≡ is_fixed (modes_behind h.layer modes) hs at) gs
-all_past modes h hs [] less = tt
-all_past modes h hs (g ∷ gs) less = (past modes h hs g.at less.0, all_past modes h hs gs less.1)
 
 -- the modes of a list of headers are the first one's bit and those of the others
 modes_first : (modes : ℕ) (h : Header) (hs : List Header) (end : ℕ) → AreLaid (h.at + size h.layer) hs end
     → modes_of (is_fixed modes (h ∷ hs)) (h ∷ hs) ≡ modes_at h.layer (modes % 2 == 1) (modes_of (is_fixed (modes_behind h.layer modes) hs) hs)
 modes_first modes h hs end laid =
     ap (modes_at h.layer (is_fixed modes (h ∷ hs) h.at))
-    (same_modes (is_fixed modes (h ∷ hs)) (is_fixed (modes_behind h.layer modes) hs) hs (all_past modes h hs hs (behind h.at (h.at + size h.layer) hs end (omega (arith, positive h.layer)) laid)))
-    ∙ own h.layer (modes_of (is_fixed (modes_behind h.layer modes) hs) hs)
+    (same_modes (is_fixed modes (h ∷ hs)) (is_fixed (modes_behind h.layer modes) hs) hs (all_past modes h hs end laid))
+    ∙ own h.layer (is_fixed (modes_behind h.layer modes) hs h.at) (modes_of (is_fixed (modes_behind h.layer modes) hs) hs)
   where
-    own : (l : Layer) (x : ℕ) → modes_at l (fixed_at l h.at modes h.at (is_fixed (modes / 2) hs h.at) (is_fixed modes hs h.at)) x ≡ modes_at l (modes % 2 == 1) x
-    own Ip4 x = rw (eq-eqb h.at h.at refl) refl
-    own Ip6 x = refl
-    own _ x = refl
+    own : (l : Layer) (behind : Bool) (x : ℕ) → modes_at l (fixed_at l (h.at == h.at) modes behind) x ≡ modes_at l (modes % 2 == 1) x
+    own Ip4 behind x = rw (eq-eqb h.at h.at refl) refl
+    own _ behind x = refl
 
 implied : (b d : Bool) → (not b || d) ≡ true → b ≡ true → d ≡ true
 implied true d e h = e
@@ -88,7 +60,7 @@ even modes e = by (modes % 2 == 1) refl e
 
 module _ (modes : ℕ) (f : List ℕ) (h : Header) (hs : List Header) where
   abbrev fixed : Layer → ℕ → Bool
-  fixed l at = fixed_at l h.at modes at (is_fixed (modes / 2) hs at) (is_fixed modes hs at)
+  fixed l at = fixed_at l (h.at == at) modes (is_fixed (modes_behind l modes) hs at)
 
   own_from : (l : Layer) → is_bit_lawful modes f l h.at ≡ true → LawfulAt (fixed l) f l h.at
   own_from Ip4 e = rw (eq-eqb h.at h.at refl) (implied (modes % 2 == 1) (dont_fragment f h.at) e)
@@ -128,7 +100,7 @@ bits_from modes f start (h ∷ hs) end laid e =
     let i : AtHeaders (IsModeLawful next f hs) hs × (modes_of (is_fixed next hs) hs ≡ next) = bits_from next f (h.at + size h.layer) hs end laid.1 p.1 in (
       (
         own_from modes f h hs h.layer p.0,
-        headers_map2 (raise modes f h hs next) hs (all_past modes h hs hs (behind h.at (h.at + size h.layer) hs end (omega (arith, positive h.layer)) laid.1)) i.0,
+        headers_map2 (raise modes f h hs next) hs (all_past modes h hs end laid.1) i.0,
       ),
       modes_first modes h hs end laid.1 ∙ ap (modes_at h.layer (modes % 2 == 1)) i.1 ∙ whole modes f h hs h.layer p.0,
     )
@@ -143,5 +115,5 @@ bits_to modes f start (h ∷ hs) end laid q e =
     and_from (is_bit_lawful modes f h.layer h.at) (are_bits_lawful next f hs)
     (own_to modes f h hs h.layer x o q.0)
     (bits_to next f (h.at + size h.layer) hs end laid.1
-    (headers_map2 (lower modes f h hs next) hs (all_past modes h hs hs (behind h.at (h.at + size h.layer) hs end (omega (arith, positive h.layer)) laid.1)) q.1)
+    (headers_map2 (lower modes f h hs next) hs (all_past modes h hs end laid.1) q.1)
     (back modes f h hs h.layer x o))

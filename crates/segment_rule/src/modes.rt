@@ -3,7 +3,8 @@
 
 ghost use Rattle.std.specs.Prelude.{◌≡◌, ℕ, ◌+◌, ◌≤◌, ◌++◌, List, length};
 ghost use Rattle.frame_layout.specs.Headers.{AtHeaders, size};
-ghost use Rattle.segment_rule.specs.Modes.{is_bit_lawful as is_bit_lawful_in, modes_behind as modes_left_behind, are_bits_lawful};
+ghost use Rattle.offload_model.specs.Merged.{modes_behind as modes_left_behind};
+ghost use Rattle.segment_rule.specs.Modes.{is_bit_lawful as is_bit_lawful_in, are_bits_lawful};
 
 use frame_layout::{Header, Layer};
 use ip_headers::ip4;

@@ -3,7 +3,8 @@ use Rattle.std.specs.Prelude.{◌&&◌}
 use Rattle.std.proofs.lemmas.List.{drop_more}
 use Rattle.frame_layout.specs.declared.layout.Header.{Header}
 use Rattle.frame_layout.specs.declared.layout.Layer.TheVariants.{Ethernet}
-use Rattle.segment_rule.specs.Modes.{modes_behind, are_bits_lawful}
+use Rattle.offload_model.specs.Merged.{modes_behind}
+use Rattle.segment_rule.specs.Modes.{are_bits_lawful}
 use Rattle.segment_rule.proofs.modes.are_modes_lawful.Goals as goal
 
 pub returns-then-not-is_bit_lawful : goal.returns-then-not-is_bit_lawful
