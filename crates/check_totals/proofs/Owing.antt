@@ -1,12 +1,12 @@
 -- Lines that are written one after another.
-use Rattle.std.proofs.Common.{◌≡◌, ◌<◌, ◌≤◌, ◌+◌, ℕ, List, ◌++◌, length, drop, ap, subst, Option, Result, Ok, Err, get_or}
+use Rattle.std.proofs.Common.{◌≡◌, ◌<◌, ◌+◌, ℕ, List, ◌++◌, length, drop, ap, subst, Option, Result, Ok, Err, get_or}
 use Rattle.std.specs.Prelude.{OnOk, OnErr}
 use Rattle.std.specs.Io.KnownBytes.{Appends}
 use Rattle.std.proofs.KnownBytes.{Appends-trans}
-use Rattle.std.proofs.lemmas.List.{drop_more, drop_all}
+use Rattle.std.proofs.lemmas.List.{drop_more}
 use Rattle.off_io.specs.Content.{AppendsFront, Owes}
 use Rattle.off_io.proofs.Appending.{front_more, front_then}
-use Rattle.off_io.proofs.Owing.{Owes-less, Owes-none, Owes-failed, then_ok, then_err}
+use Rattle.off_io.proofs.Owing.{Owes-less, Owes-failed, then_ok, then_err}
 use Rattle.check_totals.specs.declared.totals.QueueTotals.{QueueTotals}
 use Rattle.check_totals.specs.Counts.{Counts, queue_sum}
 use Rattle.check_totals.specs.Lines.{lines_from, queue_line, tap_line, total_line, check_lines}
@@ -22,10 +22,6 @@ module _ {A : Type 0} (line : ℕ → A → List ℕ) (xs : List A) (i : ℕ) (d
   pub line_failed : (a b c : Option (List ℕ)) → i < length xs → Owes a b (lines_from line 0 xs) (lines_from line i (drop i xs)) → AppendsFront b c (line i (get_or xs i d))
       → AppendsFront a c (lines_from line 0 xs)
   line_failed a b c lt owes wrote = Owes-failed a b c _ _ _ (subst (Owes a b (lines_from line 0 xs)) (next lt) owes) wrote
-
-pub lines_written : {A : Type 0} (line : ℕ → A → List ℕ) (xs : List A) (i : ℕ) (a b : Option (List ℕ)) → length xs ≤ i
-    → Owes a b (lines_from line 0 xs) (lines_from line i (drop i xs)) → Appends a b (lines_from line 0 xs)
-lines_written line xs i a b le owes = Owes-none a b _ (subst (Owes a b (lines_from line 0 xs)) (ap (lines_from line i) (drop_all i xs le)) owes)
 
 -- ---- all lines
 

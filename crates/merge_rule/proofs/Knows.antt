@@ -24,10 +24,9 @@ use Rattle.offload_model.specs.Tests.{is_ack_alone}
 use Rattle.offload_model.proofs.Decides.{decides_acks}
 use Rattle.offload_model.proofs.Ranges.{in_range as range_bounds}
 use Rattle.offload_model.proofs.Grows.{Continues, grows, grown, each_push, each_last}
-use Rattle.merge_rule.specs.Next.{IsNext, AreInside}
-use Rattle.merge_rule.specs.Runs.{IsProgress, IsNoCandidate, IsCandidateOf, IsJudged, IsRunOf, IsRunBy, IsPlaced, IsFirstProgress, AreNextModes, IsNextProgress, IsShaped}
+use Rattle.merge_rule.specs.Next.{IsNext}
+use Rattle.merge_rule.specs.Runs.{IsProgress, IsNoCandidate, IsCandidateOf, IsJudged, IsRunOf, IsRunBy, IsPlaced, IsFirstProgress, AreNextModes, IsNextProgress}
 use Rattle.merge_rule.specs.declared.rule.Progress.{Progress}
-use Rattle.merge_rule.proofs.Headers.{inside_all}
 use Rattle.merge_rule.proofs.Decide.{continues, passes, each_one, rising_one, more_payloads}
 
 -- a run that takes one more packet is a line of the first's layout
@@ -250,13 +249,6 @@ within f layout s = (laid f layout s).1
 pub next_within : (p x : Packet) (ps : List Packet) (layout : Layout) (sum : FoldAndLength) (bits : ℕ) (state : Progress) → IsRunOf layout sum bits state p (p ∷ ps) → IsMergeable ((p ∷ ps) ++ (x ∷ []))
     → layout.payload_at ≤ length x.frame
 next_within p x ps layout sum bits state r m = within x.frame layout (continued p ps layout sum bits state r x m).shape_is
-
-pub shaped_inside : (f : List ℕ) (layout : Layout) (n : ℕ) → shape_of f ≡ Some layout → layout.payload_at ≤ n → AreInside n layout.headers
-shaped_inside f layout n s h = inside_all 0 layout.headers layout.payload_at n (laid f layout s).0 h
-
-pub shaped_by : (f : List ℕ) (original : ℕ) (found : Option Layout) (sum : FoldAndLength) (bits : ℕ) → IsJudged f original found sum bits → IsShaped found f
-shaped_by f original None sum bits j = tt
-shaped_by f original (Some layout) sum bits j = j.shape
 
 pub opened_by : (p : Packet) (found : Option Layout) (sum : FoldAndLength) (bits : ℕ) (state : Progress) → IsJudged p.frame p.original found sum bits
     → IsFirstProgress found p.frame state → IsRunBy found sum bits state p (p ∷ [])

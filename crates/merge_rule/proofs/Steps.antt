@@ -1,7 +1,7 @@
 -- One more packet, on lists of runs: a run of its flow takes it, or it opens one.
-use Rattle.std.proofs.Common.{◌≡◌, ℕ, zero, suc, ◌+◌, ◌<◌, ◌≢◌, Bool, true, false, Option, Some, None, List, [], ◌∷◌, ◌++◌, length, get_or, map, set, take, drop, refl, sym, ap, ◌∙◌, subst, arith, length-append}
+use Rattle.std.proofs.Common.{◌≡◌, ℕ, zero, suc, ◌+◌, ◌<◌, ◌≢◌, true, false, Option, Some, None, List, [], ◌∷◌, ◌++◌, length, get_or, set, take, drop, refl, sym, ap, ◌∙◌, subst, arith, length-append}
 use Rattle.std.specs.List.{AllByRecursion, filter}
-use Rattle.std.proofs.lemmas.List.{set_split, take-append-drop, drop_more, get_or-drop, length-drop, length-map, same_from_push}
+use Rattle.std.proofs.lemmas.List.{set_split, take-append-drop, drop_more, get_or-drop, length-drop, same_from_push}
 use Rattle.std.proofs.lemmas.List.Elements.{filter-append}
 use Rattle.maximal_runs.specs.Items.{begins_in, first_number, AreItems}
 use Rattle.maximal_runs.proofs.Items.{opens_item, extends_item, filter_none}
@@ -70,22 +70,6 @@ module _ (x : Packet) (key : Option (List ℕ)) (is : key_of x.frame ≡ key) wh
       let same : run ≡ get_or rs i [] = (same_from_push front (filter (begins_in (is_of k)) (take i rs)) run (get_or rs i []) (sym e ∙ kept)).1 in
       full i refl (subst (λ z. IsMergeable (z ++ (x ∷ []))) same few))
       items
-
--- an element of a mapped list
-at_map : {X Y : Type 0} (f : X → Y) (P : Y → Type 0) (xs : List X) (k : ℕ) (e : Y) → k < length xs → ((d : X) → P (f (get_or xs k d))) → P (get_or (map f xs) k e)
-at_map f P [] k e h p = absurd (omega arith)
-at_map f P (x ∷ xs) zero e h p = p x
-at_map f P (x ∷ xs) (suc k) e h p = at_map f P xs k e (omega arith) p
-
-pub last_map : {X Y : Type 0} (f : X → Y) (test : Y → Bool) (xs : List X) (o : Option ℕ)
-    → IsLastBelow (λ x. test (f x)) xs (length xs) o → IsLastBelow test (map f xs) (length (map f xs)) o
-last_map f test xs None h = λ k e l.
-    let m : k < length xs = omega (arith, length-map xs f) in at_map f (λ z. test z ≡ false) xs k e m (λ d. h k d m)
-last_map f test xs (Some i) h = (
-  omega (arith, h.0, length-map xs f),
-  λ e. at_map f (λ z. test z ≡ true) xs i e h.0 h.1,
-  λ k e a l. let m : k < length xs = omega (arith, length-map xs f) in at_map f (λ z. test z ≡ false) xs k e m (λ d. h.2 k d a m),
-)
 
 early_set : (n : ℕ) (rs : List (List Packet)) (i : ℕ) (x : Packet) → length (get_or rs i []) ≢ 0
     → AllByRecursion (λ run. first_number number_of run < n) rs → AllByRecursion (λ run. first_number number_of run < n) (set rs i (get_or rs i [] ++ (x ∷ [])))

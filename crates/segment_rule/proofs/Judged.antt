@@ -1,15 +1,14 @@
 -- Which records are lawful, and what packets a lawful one stands for.
-use Rattle.std.proofs.Common.{◌≡◌, ℕ, ◌+◌, ◌-◌, ◌*◌, ◌<◌, ◌≤◌, Bool, true, false, Some, List, [], length, map, refl, sym, ap, ◌∙◌, subst, arith}
+use Rattle.std.proofs.Common.{◌≡◌, ℕ, ◌+◌, ◌-◌, ◌*◌, ◌<◌, ◌≤◌, Bool, true, false, Some, List, [], length, map, refl, sym, ap, ◌∙◌, subst}
 use Rattle.std.specs.Prelude.{◌==◌, ◌&&◌, nat_lt, nat_le}
 use Rattle.std.specs.List.{range_with_len}
 use Rattle.std.specs.Option.{unwrap_or}
-use Rattle.std.proofs.lemmas.Bool.{and_parts, and_from, eqb-true, le-leb, leb-true, lt-ltb, ltb-true}
+use Rattle.std.proofs.lemmas.Bool.{and_parts, eqb-true, leb-true, ltb-true}
 use Rattle.std.proofs.lemmas.Simd.{map-map}
 use Rattle.frame_layout.specs.Shape.{Layout, shape_of}
-use Rattle.frame_layout.specs.Headers.{AtHeaders, size, AreLaid}
 use Rattle.frame_layout.specs.Segment.{IsSeg, IsSegOf}
 use Rattle.frame_layout.specs.declared.segment.Seg.{Seg}
-use Rattle.frame_layout.proofs.Lemmas.{headers_map, laid}
+use Rattle.frame_layout.proofs.Lemmas.{laid}
 use Rattle.pcap_io.specs.Capture.{Packet, packet}
 use Rattle.pcap_io.specs.declared.off_head.OffHead.{OffHead}
 use Rattle.offload_model.specs.Frames.{segment_frame}
@@ -21,7 +20,6 @@ use Rattle.segment_rule.specs.declared.segmentation.Segmentation.{Segmentation}
 use Rattle.segment_rule.specs.Segmentations.{HasNumbersOf, IsSegmentationOf, segment_at, segments_at, is_merged_head, is_filled}
 use Rattle.segment_rule.specs.Modes.{are_bits_lawful}
 use Rattle.segment_rule.proofs.ModeBits.{bits_from, bits_to}
-use Rattle.segment_rule.proofs.Segments.{laid_inside}
 
 -- ---- merged frames
 
@@ -45,25 +43,8 @@ cuttable_from f original s n m modes seg exact bits =
       only = q.1;
     }
 
--- the headers are within the frame
-pub within_frame : (f : List ℕ) (s : Seg) → IsSeg f s → AtHeaders (λ layer at. at + size layer ≤ length f) s.layout.headers
-within_frame f s seg =
-    let l : AreLaid 0 s.layout.headers s.layout.payload_at × (s.layout.payload_at ≤ length f) = laid f s.layout seg.shape in
-    headers_map (λ layer at h. omega (arith, h, l.1)) s.layout.headers (laid_inside 0 s.layout.headers s.layout.payload_at l.0)
-
 pub same_layout : (f : List ℕ) (s : Seg) (layout : Layout) → IsSeg f s → shape_of f ≡ Some layout → layout ≡ s.layout
 same_layout f s layout seg e = let both : Some layout ≡ Some s.layout = sym e ∙ seg.shape in cc
-
-pub exact_to : (f : List ℕ) (original : ℕ) (s : Seg) (n m modes : ℕ) (layout : Layout) → IsSeg f s
-    → IsCuttable layout (record { packet = packet 0 0 0 original f; n = n; m = m; modes = modes })
-    → is_filled n m s.payload_len ≡ true
-exact_to f original s n m modes layout seg c =
-    let p : s.payload_len ≡ length f - layout.payload_at = seg.payload_len ∙ ap (λ (l : Layout). length f - l.payload_at) (sym (same_layout f s layout seg c.shape_is)) in
-    and_from (nat_le 2 n) (nat_le 1 m && (nat_lt ((n - 1) * m) s.payload_len && nat_le s.payload_len (n * m))) (le-leb 2 n c.several)
-    (and_from (nat_le 1 m) (nat_lt ((n - 1) * m) s.payload_len && nat_le s.payload_len (n * m)) (le-leb 1 m c.full)
-    (and_from (nat_lt ((n - 1) * m) s.payload_len) (nat_le s.payload_len (n * m))
-    (lt-ltb ((n - 1) * m) s.payload_len (subst (λ p. (n - 1) * m < p) (sym p) c.above))
-    (le-leb s.payload_len (n * m) (subst (λ p. p ≤ n * m) (sym p) c.within))))
 
 pub bits_to_seg : (f : List ℕ) (original : ℕ) (s : Seg) (n m modes : ℕ) (layout : Layout) → IsSeg f s
     → IsCuttable layout (record { packet = packet 0 0 0 original f; n = n; m = m; modes = modes })
@@ -104,9 +85,6 @@ cut_is head f original cut layout same has c =
 false_where : (b : Bool) → (b ≡ true → ⊥) → b ≡ false
 false_where true n = absurd (n refl)
 false_where false n = refl
-
-pub lawful_single : (head : OffHead) (p : Packet) → is_lawful_single head ≡ true → is_lawful_by head p ≡ true
-lawful_single head p e = rw e refl
 
 pub lawful_super : (head : OffHead) (p : Packet) → is_lawful_single head ≡ false → IsLawfulSuper head p → is_lawful_by head p ≡ true
 lawful_super head p e s = rw (e, (decides_super head p).1 s) refl
