@@ -14,7 +14,7 @@ use Rattle.offload_model.specs.Mergeable.{payloads_of, IsLengthInRange}
 use Rattle.offload_model.specs.Merged.{frame_at, frame_of_run, layout_of, is_fixed_in, modes_of, merged_of}
 use Rattle.merge_rule.specs.declared.rule.Progress.{Progress}
 use Rattle.merge_rule.specs.Runs.{IsRunOf}
-use Rattle.merge_rule.proofs.Merge.{made, laid_out, in_range, payload_short, first_short, few}
+use Rattle.merge_rule.proofs.Merge.{made, made_is, laid_out, in_range, payload_short, first_short, few}
 use Rattle.skb.specs.SkbState.{buffer_bytes, buffer_size}
 use Rattle.gro.specs.declared.packet.Packet.{Packet as Held}
 use Rattle.gro.specs.Held.{packet_of, AreHeld}
@@ -45,21 +45,7 @@ module _ (p : Packet) (ps : List Packet) (layout : Layout) (sum : FoldAndLength)
       → original ≡ length frame → n ≡ length (p ∷ ps) → m ≡ length p.frame - layout.payload_at → modes ≡ state.modes
       → made p.number p.sec p.frac original n m modes frame ≡ merged_of (p ∷ ps)
   comes_to frame original n m modes several ef eo en em es =
-      let modes_are : modes ≡ modes_of (is_fixed_in (p ∷ ps)) layout.headers = es ∙ r.progress.staying (omega arith) in
-      ap (made p.number p.sec p.frac original n m modes) ef
-      ∙ ap (λ z. made p.number p.sec p.frac z n m modes (frame_of_run layout (p ∷ ps))) (eo ∙ ap length ef)
-      ∙ ap (λ z. made p.number p.sec p.frac (length (frame_of_run layout (p ∷ ps))) z m modes (frame_of_run layout (p ∷ ps))) en
-      ∙ ap (λ z. made p.number p.sec p.frac (length (frame_of_run layout (p ∷ ps))) (length (p ∷ ps)) z modes (frame_of_run layout (p ∷ ps))) em
-      ∙ ap (λ z. made p.number p.sec p.frac (length (frame_of_run layout (p ∷ ps))) (length (p ∷ ps)) (length p.frame - layout.payload_at) z (frame_of_run layout (p ∷ ps))) modes_are
-      ∙ known ps several
-    where
-      known : (qs : List Packet) → 1 ≤ length qs
-          → made p.number p.sec p.frac (length (frame_of_run layout (p ∷ qs))) (length (p ∷ qs)) (length p.frame - layout.payload_at) (modes_of (is_fixed_in (p ∷ qs)) layout.headers) (frame_of_run layout (p ∷ qs))
-          ≡ merged_of (p ∷ qs)
-      known [] h = absurd (omega arith)
-      known (q ∷ qs) h =
-          let is : layout ≡ layout_of p.frame = sym (ap (λ z. unwrap_or z (record { headers = []; payload_at = 0 })) r.shape) in
-          ap (λ (l : Layout). made p.number p.sec p.frac (length (frame_of_run l (p ∷ q ∷ qs))) (length (p ∷ q ∷ qs)) (length p.frame - l.payload_at) (modes_of (is_fixed_in (p ∷ q ∷ qs)) l.headers) (frame_of_run l (p ∷ q ∷ qs))) is
+      made_is p ps layout frame original n m modes r.shape several ef eo en em (es ∙ r.progress.staying (omega arith))
 
 module _ (first : Held) (rest : List Held) (layout : Layout) (sum : FoldAndLength) (bits : ℕ) (state : Progress)
     (r : IsRunOf layout sum bits state (packet_of first) (packet_of first ∷ map packet_of rest)) (held : AreHeld (first ∷ rest)) where

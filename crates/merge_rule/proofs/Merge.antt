@@ -1,17 +1,14 @@
 -- What a run of several packets comes to.
-use Rattle.std.proofs.Common.{suc, ◌≡◌, ℕ, suc, ◌+◌, ◌-◌, ◌<◌, ◌≤◌, List, [], ◌∷◌, ◌++◌, length, get_or, drop, refl, sym, ap, ◌∙◌, subst, arith, length-append}
+use Rattle.std.proofs.Common.{suc, ◌≡◌, ℕ, suc, ◌+◌, ◌-◌, ◌<◌, ◌≤◌, Some, List, [], ◌∷◌, length, get_or, drop, refl, sym, ap, ◌∙◌, subst, arith, length-append}
 use Rattle.std.specs.Option.{unwrap_or}
 use Rattle.std.proofs.lemmas.List.{length-drop}
-use Rattle.inet_sum.specs.Stands.{FoldAndLength, StandsFor}
-use Rattle.frame_layout.specs.Shape.{Layout}
+use Rattle.inet_sum.specs.Stands.{FoldAndLength}
+use Rattle.frame_layout.specs.Shape.{Layout, shape_of}
 use Rattle.frame_layout.specs.Headers.{AtHeaders, AreLaid}
-use Rattle.frame_layout.specs.declared.layout.Header.{Header}
 use Rattle.frame_layout.proofs.Lemmas.{laid}
 use Rattle.pcap_io.specs.Capture.{Packet}
 use Rattle.offload_model.specs.Mergeable.{IsLengthInRange, payloads_of}
-use Rattle.offload_model.specs.Frames.{merged_frame}
-use Rattle.offload_model.specs.Merged.{frame_at, frame_of_run, layout_of, is_fixed_in, modes_of, Merged, merged_of}
-use Rattle.frame_layout.specs.Segment.{HasFlags}
+use Rattle.offload_model.specs.Merged.{frame_of_run, layout_of, is_fixed_in, modes_of, Merged, merged_of}
 use Rattle.merge_rule.specs.declared.rule.Progress.{Progress}
 use Rattle.merge_rule.specs.Runs.{IsRunOf}
 use Rattle.merge_rule.proofs.Knows.{bounded}
@@ -60,63 +57,17 @@ module _ (p : Packet) (ps : List Packet) (layout : Layout) (sum : FoldAndLength)
   few =
       omega (arith, sums.1, r.progress.long, count layout.payload_at layout (p ∷ ps) refl (λ i d h. (r.progress.line.candidates.at i d h).payload))
 
-  pub rest_inside : (i : ℕ) (d : Packet) → i < length ps → layout.payload_at ≤ length (get_or ps i d).frame
-  rest_inside i d h = (laid (get_or ps i d).frame layout (r.progress.line.shapes.at (suc i) d (omega arith))).1
-
-  pub whole_long : (edited more : List ℕ) → more ≡ payloads_of layout ps → length edited ≡ length p.frame → state.total ≡ length (edited ++ more)
-  whole_long edited more emore long =
-      omega (
-        arith,
-        ap length emore,
-        length-append edited more,
-        long,
-        r.progress.long,
-        length-append (drop layout.payload_at p.frame) (payloads_of layout ps),
-        length-drop layout.payload_at p.frame,
-        within,
-      )
-
-  -- `edited` is the first frame with its headers edited
-  pub comes_to : (edited more : List ℕ) (at original n m modes : ℕ) (hs : List Header) → 1 ≤ length ps → at ≡ layout.payload_at → hs ≡ layout.headers
-      → more ≡ payloads_of layout ps → length edited ≡ length p.frame
-      → ((last bytes : List ℕ) → AtHeaders (HasFlags bits last) hs → StandsFor sum (drop at p.frame ++ bytes)
-      → edited ++ bytes ≡ merged_frame (record { headers = hs; payload_at = at }) p.frame last (drop at p.frame ++ bytes))
-      → original ≡ state.total → n ≡ length (p ∷ ps) → m ≡ length p.frame - at → modes ≡ state.modes
-      → made p.number p.sec p.frac original n m modes (edited ++ more) ≡ merged_of (p ∷ ps)
-  comes_to edited more at original n m modes hs several eat ehs emore long edits eo en em es =
-      let last : List ℕ = frame_at (p ∷ ps) (length (p ∷ ps) - 1) in
-      let same : record { headers = hs; payload_at = at } ≡ layout = ap (λ z. record { headers = z; payload_at = at }) ehs ∙ ap (λ z. record { headers = layout.headers; payload_at = z }) eat in
-      let whole : edited ++ payloads_of layout ps ≡ merged_frame (record { headers = hs; payload_at = at }) p.frame last (drop at p.frame ++ payloads_of layout ps)
-      = edits last (payloads_of layout ps) (subst (AtHeaders (HasFlags bits last)) (sym ehs) r.flags)
-      (subst (λ z. StandsFor sum (drop z p.frame ++ payloads_of layout ps)) (sym eat) r.payload) in
-      let frame : edited ++ more ≡ frame_of_run layout (p ∷ ps)
-      = ap (λ z. edited ++ z) emore ∙ whole ∙ ap (λ z. merged_frame z p.frame last (drop at p.frame ++ payloads_of layout ps)) same
-      ∙ ap (λ z. merged_frame layout p.frame last (drop z p.frame ++ payloads_of layout ps)) eat in
-      let total : original ≡ length (frame_of_run layout (p ∷ ps))
-      = omega (
-        arith,
-        eo,
-        ap length (sym frame),
-        ap length emore,
-        length-append edited more,
-        long,
-        r.progress.long,
-        length-append (drop layout.payload_at p.frame) (payloads_of layout ps),
-        length-drop layout.payload_at p.frame,
-        within,
-      ) in
-      let modes_are : modes ≡ modes_of (is_fixed_in (p ∷ ps)) layout.headers = es ∙ r.progress.staying (omega arith) in
-      ap (made p.number p.sec p.frac original n m modes) frame
-      ∙ ap (λ z. made p.number p.sec p.frac z n m modes (frame_of_run layout (p ∷ ps))) total
-      ∙ ap (λ z. made p.number p.sec p.frac (length (frame_of_run layout (p ∷ ps))) z m modes (frame_of_run layout (p ∷ ps))) en
-      ∙ ap (λ z. made p.number p.sec p.frac (length (frame_of_run layout (p ∷ ps))) (length (p ∷ ps)) z modes (frame_of_run layout (p ∷ ps))) (em ∙ ap (λ z. length p.frame - z) eat)
-      ∙ ap (λ z. made p.number p.sec p.frac (length (frame_of_run layout (p ∷ ps))) (length (p ∷ ps)) (length p.frame - layout.payload_at) z (frame_of_run layout (p ∷ ps))) modes_are
-      ∙ known ps several
-    where
-      known : (qs : List Packet) → 1 ≤ length qs
-          → made p.number p.sec p.frac (length (frame_of_run layout (p ∷ qs))) (length (p ∷ qs)) (length p.frame - layout.payload_at) (modes_of (is_fixed_in (p ∷ qs)) layout.headers) (frame_of_run layout (p ∷ qs))
-          ≡ merged_of (p ∷ qs)
-      known [] h = absurd (omega arith)
-      known (q ∷ qs) h =
-          let is : layout ≡ layout_of p.frame = sym (ap (λ z. unwrap_or z (record { headers = []; payload_at = 0 })) r.shape) in
-          ap (λ (l : Layout). made p.number p.sec p.frac (length (frame_of_run l (p ∷ q ∷ qs))) (length (p ∷ q ∷ qs)) (length p.frame - l.payload_at) (modes_of (is_fixed_in (p ∷ q ∷ qs)) l.headers) (frame_of_run l (p ∷ q ∷ qs))) is
+-- a frame that is that of a run of several packets, with the numbers of that run, is its merged packet
+pub made_is : (p : Packet) (ps : List Packet) (layout : Layout) (frame : List ℕ) (original n m modes : ℕ) → shape_of p.frame ≡ Some layout → 1 ≤ length ps
+    → frame ≡ frame_of_run layout (p ∷ ps) → original ≡ length frame → n ≡ length (p ∷ ps) → m ≡ length p.frame - layout.payload_at
+    → modes ≡ modes_of (is_fixed_in (p ∷ ps)) layout.headers → made p.number p.sec p.frac original n m modes frame ≡ merged_of (p ∷ ps)
+made_is p [] layout frame original n m modes shape several ef eo en em es = absurd (omega arith)
+made_is p (q ∷ qs) layout frame original n m modes shape several ef eo en em es =
+    let run : List Packet = p ∷ q ∷ qs in
+    let own : layout ≡ layout_of p.frame = sym (ap (λ z. unwrap_or z (record { headers = []; payload_at = 0 })) shape) in
+    ap (made p.number p.sec p.frac original n m modes) ef
+    ∙ ap (λ z. made p.number p.sec p.frac z n m modes (frame_of_run layout run)) (eo ∙ ap length ef)
+    ∙ ap (λ z. made p.number p.sec p.frac (length (frame_of_run layout run)) z m modes (frame_of_run layout run)) en
+    ∙ ap (λ z. made p.number p.sec p.frac (length (frame_of_run layout run)) (length run) z modes (frame_of_run layout run)) em
+    ∙ ap (λ z. made p.number p.sec p.frac (length (frame_of_run layout run)) (length run) (length p.frame - layout.payload_at) z (frame_of_run layout run)) es
+    ∙ ap (λ (l : Layout). made p.number p.sec p.frac (length (frame_of_run l run)) (length run) (length p.frame - l.payload_at) (modes_of (is_fixed_in run) l.headers) (frame_of_run l run)) own
