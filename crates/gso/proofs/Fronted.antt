@@ -5,8 +5,7 @@ use Rattle.inet_sum.specs.Stands.{FoldAndLength, StandsFor}
 use Rattle.frame_layout.specs.Shape.{Layout, shape_of}
 use Rattle.frame_layout.specs.Front.{IsPayloadOf}
 use Rattle.frame_layout.specs.Headers.{AtHeaders, size}
-use Rattle.frame_layout.proofs.Lemmas.{headers_map, laid, shape_of_head}
-use Rattle.segment_rule.proofs.Segments.{laid_inside}
+use Rattle.frame_layout.proofs.Lemmas.{headers_map, laid, shape_of_head, inside_all}
 use Rattle.skb.specs.Checksum.{AreBytes}
 use Rattle.gso.specs.Sums.{AreSumsOf}
 use Rattle.gso.specs.declared.sums.Sums.{Sums}
@@ -47,4 +46,4 @@ known f front at m place sums payload joined small enough within is behind sum s
 pub headers_in : (front : List ℕ) (l : Layout) → shape_of front ≡ Some l → AtHeaders (λ layer at. at + size layer ≤ length front) l.headers
 headers_in front l e =
     let k = laid front l e in
-    headers_map (λ layer at h. omega (arith, h, k.1)) l.headers (laid_inside 0 l.headers l.payload_at k.0)
+    headers_map (λ layer at h. omega (arith, h, k.1)) l.headers (inside_all 0 l.payload_at l.headers k.0)

@@ -1,15 +1,14 @@
 -- A frame that may be cut, and its segments.
-use Rattle.std.proofs.Common.{◌≡◌, ℕ, ◌+◌, ◌-◌, ◌*◌, ◌<◌, ◌≤◌, List, [], ◌∷◌, ◌++◌, length, take, drop, sym, ap, ◌∙◌, arith}
+use Rattle.std.proofs.Common.{◌≡◌, ℕ, ◌+◌, ◌-◌, ◌*◌, ◌<◌, ◌≤◌, List, [], ◌++◌, length, take, drop, sym, ap, ◌∙◌, arith}
 use Rattle.std.specs.Prelude.{◌==◌}
 use Rattle.std.specs.List.{refill}
 use Rattle.std.proofs.lemmas.List.{length-take, length-drop, drop_all, take_at}
 use Rattle.std.proofs.lemmas.Bool.{eqb-true, eqb-false}
-use Rattle.frame_layout.specs.Headers.{AtHeaders, size, AreLaid}
+use Rattle.frame_layout.specs.Headers.{AtHeaders}
 use Rattle.frame_layout.specs.Candidate.{IsLengthRight}
-use Rattle.frame_layout.specs.declared.layout.Header.{Header}
 use Rattle.frame_layout.specs.declared.layout.Layer.{Layer}
 use Rattle.frame_layout.specs.declared.layout.Layer.TheVariants.{Ip4, Ip6, Udp}
-use Rattle.frame_layout.proofs.Lemmas.{laid_end, IsPlaced, placed, headers_map}
+use Rattle.frame_layout.proofs.Lemmas.{IsPlaced, placed, headers_map}
 use Rattle.offload_model.specs.Mergeable.{IsLengthInRange}
 use Rattle.offload_model.specs.Merged.{is_fixed}
 use Rattle.offload_model.proofs.Filled.{Small}
@@ -18,11 +17,6 @@ use Rattle.offload_model.proofs.Fronts.{range_less}
 use Rattle.offload_model.proofs.Ranges.{in_range}
 use Rattle.segment_rule.specs.declared.segmentation.Segmentation.{Segmentation}
 use Rattle.segment_rule.specs.Segmentations.{IsSegmentationOf, IsSegmentAt, segment_at, payload_at}
-
--- headers that are laid out stand inside
-pub laid_inside : (start : ℕ) (hs : List Header) (end : ℕ) → AreLaid start hs end → AtHeaders (λ layer at. at + size layer ≤ end) hs
-laid_inside start [] end l = tt
-laid_inside start (h ∷ hs) end l = (laid_end (h.at + size h.layer) hs end l.1, laid_inside (h.at + size h.layer) hs end l.1)
 
 -- a right length is in range
 ranged : (f : List ℕ) → Small f → (l : Layer) (at : ℕ) → IsLengthRight f l at → IsLengthInRange (length f) l at
