@@ -18,7 +18,7 @@ pub struct BadOffload;
 
 /// Whether the header is a single packet's.
 pub fn is_single(head: &OffHead) -> bool
-    ensures { result ≡ is_lawful_single head.now }
+    ensures single { result ≡ is_lawful_single head.now }
 {
     head.version == 1
         && (head.kind == 0
@@ -27,7 +27,7 @@ pub fn is_single(head: &OffHead) -> bool
 
 /// Whether the header is a tap window's.
 pub fn is_window(head: &OffHead) -> bool
-    ensures { result ≡ is_lawful_window head.now }
+    ensures window { result ≡ is_lawful_window head.now }
 {
     head.version == 1
         && (head.kind == 2 && (head.n == 0 && (head.m == 0 && (head.modes == 0 && head.lane <= 7))))
@@ -35,14 +35,14 @@ pub fn is_window(head: &OffHead) -> bool
 
 /// Whether the header is a merged frame's, as far as it says so itself.
 pub fn is_merged(head: &OffHead) -> bool
-    ensures { result ≡ is_merged_head head.now }
+    ensures merged { result ≡ is_merged_head head.now }
 {
     head.version == 1 && (head.kind == 1 && head.lane <= 63)
 }
 
 /// Whether n segments of m bytes each but the last hold the payload, and fewer don't.
 fn is_filled(n: u16, m: u16, payload: u32) -> bool
-    ensures { result ≡ is_filled_by n m payload }
+    ensures filled { result ≡ is_filled_by n m payload }
 {
     if n < 2 {
         return false;

@@ -23,7 +23,7 @@ fn is_bit_lawful(head: &[u8], header: Header, modes: u8) -> bool
 
 /// The modes of the headers behind this one.
 fn modes_behind(layer: Layer, modes: u8) -> u8
-    ensures { result ≡ modes_left_behind layer modes }
+    ensures modes { result ≡ modes_left_behind layer modes }
 {
     match layer {
         Layer::Ip4 | Layer::Ip6 => modes / 2,

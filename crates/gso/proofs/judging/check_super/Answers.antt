@@ -8,7 +8,7 @@ use Rattle.gso.proofs.judging.check_super.Goals as goal
 pub returns-in-Some-clause-lawful : goal.returns-in-Some-clause-lawful
 returns-in-Some-clause-lawful c =
     let p : Packet = packet 0 0 0 (c.args.original - 12) (buffer_bytes c.args.skb.now) in
-    let lawful : is_lawful_by c.args.head.now p ≡ true = lawful_super c.args.head.now p (sym c.is_single.ensures ∙ c.if-is_single.false) c.in-Some.ensures.judged.0 in
+    let lawful : is_lawful_by c.args.head.now p ≡ true = lawful_super c.args.head.now p (sym c.is_single.ensures.single ∙ c.if-is_single.false) c.in-Some.ensures.judged.0 in
     (λ _. lawful, λ _. refl)
 
 pub returns-in-Some-clause-plan : goal.returns-in-Some-clause-plan
@@ -20,5 +20,5 @@ pub returns-in-None-clause-lawful : goal.returns-in-None-clause-lawful
 returns-in-None-clause-lawful c =
     let p : Packet = packet 0 0 0 (c.args.original - 12) (buffer_bytes c.args.skb.now) in
     let not : is_lawful_by c.args.head.now p ≡ false
-    = lawful_none c.args.head.now p (sym c.is_single.ensures ∙ c.if-is_single.false) (sym c.is_window.ensures ∙ c.if-is_window.false) c.in-None.ensures.refused in
+    = lawful_none c.args.head.now p (sym c.is_single.ensures.single ∙ c.if-is_single.false) (sym c.is_window.ensures.window ∙ c.if-is_window.false) c.in-None.ensures.refused in
     (λ e. absurd cc, λ t. let both : false ≡ true = sym not ∙ t in both)

@@ -21,7 +21,7 @@ returns c = record {
   judged = λ original rest seg.
       let f : List ℕ = c.args.front.now ++ rest in
       let modes : ℕ = c.args.head.now.modes in
-      let exact : is_filled c.args.head.now.n c.args.head.now.m c.args.seg.payload_len ≡ true = sym c.is_filled.ensures ∙ c.if-not-is_filled.false in
+      let exact : is_filled c.args.head.now.n c.args.head.now.m c.args.seg.payload_len ≡ true = sym c.is_filled.ensures.filled ∙ c.if-not-is_filled.false in
       let bits : are_bits_lawful modes f c.args.seg.layout.headers ≡ true
       = ap (are_bits_lawful modes f) (sym c.headers.ensures.headers) ∙ sym (c.are_modes_lawful.ensures.bits rest) ∙ c.if-not-are_modes_lawful.false in (
         super_from c.args.head.now f original c.args.seg c.requires.merged seg exact bits,
