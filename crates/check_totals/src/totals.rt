@@ -48,7 +48,7 @@ impl QueueTotals {
     /// Both together.
     pub fn plus(&self, other: &QueueTotals) -> QueueTotals
         requires within { IsQueueWithin (2 ^ 62) self.now × IsQueueWithin (2 ^ 62) other.now }
-        ensures { result ≡ queue_plus self.now other.now }
+        ensures sum { result ≡ queue_plus self.now other.now }
     {
         QueueTotals {
             records: self.records + other.records,
@@ -63,7 +63,7 @@ impl TapTotals {
     /// Both together.
     pub fn plus(&self, other: &TapTotals) -> TapTotals
         requires within { IsTapWithin (2 ^ 62) self.now × IsTapWithin (2 ^ 62) other.now }
-        ensures { result ≡ tap_plus self.now other.now }
+        ensures sum { result ≡ tap_plus self.now other.now }
     {
         TapTotals {
             windows: self.windows + other.windows,
@@ -76,7 +76,7 @@ impl TapTotals {
 fn add_queues(totals: &mut [QueueTotals], others: &[QueueTotals])
     requires alike { length totals.old ≡ length others.now }
     requires within { AllByRecursion (IsQueueWithin (2 ^ 62)) totals.old × AllByRecursion (IsQueueWithin (2 ^ 62)) others.now }
-    ensures { totals.new ≡ each_plus queue_plus totals.old others.now }
+    ensures added { totals.new ≡ each_plus queue_plus totals.old others.now }
 {
     let mut queue = 0;
     'queues: while queue < totals.len() {
@@ -88,7 +88,7 @@ fn add_queues(totals: &mut [QueueTotals], others: &[QueueTotals])
 fn add_taps(totals: &mut [TapTotals], others: &[TapTotals])
     requires alike { length totals.old ≡ length others.now }
     requires within { AllByRecursion (IsTapWithin (2 ^ 62)) totals.old × AllByRecursion (IsTapWithin (2 ^ 62)) others.now }
-    ensures { totals.new ≡ each_plus tap_plus totals.old others.now }
+    ensures added { totals.new ≡ each_plus tap_plus totals.old others.now }
 {
     let mut tap = 0;
     'taps: while tap < totals.len() {
