@@ -16,7 +16,6 @@ use frags::Outcomes;
 use gro::Packet;
 use std::alloc::{AllocError, Global};
 use std::collections::VecDeque;
-use taps::TapClone;
 
 /// The blocks and parts of all packets.
 pub(crate) fn weigh(packets: &VecDeque<Packet>) -> usize
@@ -58,26 +57,11 @@ pub(crate) fn open_queues(
     Ok(())
 }
 
-// Outcomes with room for `n`.
-fn room_for(alloc: Global, n: usize) -> Result<Outcomes, AllocError>
-    ensures bare { IfOk result (λ out. (out.soles ≡ []) × (out.receipts ≡ [])) }
-    ensures room { IfOk result (λ out. n ≤ out.spare) }
-{
-    let mut out = Outcomes::new(alloc);
-    match out.reserve(n) {
-        Ok(()) => Ok(out),
-        Err(error) => {
-            out.settle();
-            Err(error)
-        }
-    }
-}
-
 // The lane of a tap, with room for a clone of each of `packets` packets, which have `count` blocks and parts.
 fn open_tap(alloc: Global, tap: u32, packets: usize, count: usize) -> Result<TapLane, AllocError>
     ensures { IfOk result (IsEmptyTap tap packets count) }
 {
-    let outcomes = room_for(alloc, count)?;
+    let outcomes = Outcomes::with_room(alloc, count)?;
     match Vec::with_capacity(alloc, packets) {
         Ok(clones) => Ok(TapLane {
             tap,
@@ -129,14 +113,7 @@ fn give_up(lane: &mut TapLane)
     ensures none { lane.new.clones.items ≡ [] }
 {
     while let Some(clone) = lane.clones.pop() {
-        let TapClone {
-            skb,
-            sec: _,
-            frac: _,
-            original: _,
-            number: _,
-        } = clone;
-        skb.release(&mut lane.outcomes);
+        clone.release(&mut lane.outcomes);
     }
 }
 

@@ -27,6 +27,9 @@
 //!   than the packets did; `clones`: no clone is left.
 //! - `ready`, `weigh`: each item's first bytes lie in its head, a block is free beside it, and its parts have enough weight to be cut.
 //!
+//! [`merge_packets`] is the work of one queue alone, in a table that serves one round after another: `merged`, `ready`, `weigh`, `kept` and
+//! `count` say the same of its items; `back`, `none` and `places`, where memory is refused all is in the packets and the outcomes.
+//!
 //! And of `keep_packets`: `all`, the clones are those of the packets, in their order; `after`, the packets are the same and may still be
 //! worked; `kept` and `fewer`, nothing is lost.
 //!
@@ -56,5 +59,6 @@ mod work;
 
 pub use keep::keep_packets;
 pub use lanes::{Lanes, QueueLane, TapLane};
+pub use merge::merge_packets;
 pub use plan::Plan;
 pub use round::{work_packets, work_packets_alone};

@@ -3,7 +3,7 @@ ghost use Rattle.std.specs.Prelude.{◌≡◌, All};
 ghost use Rattle.round_work.specs.Lanes.{DidQueue, DidTap, EachQueueDid, EachTapDid, IsFilled, IsTapReady};
 
 use crate::lanes::{QueueLane, TapLane};
-use crate::merge::merge_packets;
+use crate::merge::merge_queue;
 use core::mem::replace;
 use frags::Outcomes;
 use off_io::{Gate, Who};
@@ -18,10 +18,14 @@ fn work<G: Gate>(gate: &G, lane: &mut QueueLane)
     let who = Who::Worker(lane.queue);
     let alloc = *lane.items.allocator();
     gate.pass(who, 0);
-    let merged = merge_packets(alloc, &mut lane.packets, &mut lane.outcomes);
+    let merged = merge_queue(
+        alloc,
+        &mut lane.packets,
+        &mut lane.items,
+        &mut lane.outcomes,
+    );
     gate.pass(who, 1);
-    if let Ok(items) = merged {
-        replace(&mut lane.items, items).destroy_empty();
+    if let Ok(()) = merged {
         lane.done = true;
     }
 }

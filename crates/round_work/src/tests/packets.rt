@@ -74,17 +74,7 @@ fn home(mut outcomes: Outcomes) -> usize {
 }
 
 fn home_of_item(rt: &impl Abort, item: Item) -> usize {
-    let Item {
-        skb,
-        number: _,
-        sec: _,
-        frac: _,
-        original: _,
-        n: _,
-        m: _,
-        modes: _,
-        mut outcomes,
-    } = item;
+    let (skb, mut outcomes) = item.into_parts();
     outcomes.reserve(skb.count()).expect(rt, "places");
     skb.release(&mut outcomes);
     home(outcomes)
