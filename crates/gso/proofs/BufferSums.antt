@@ -1,20 +1,13 @@
 -- The sums of the segments of a buffer's bytes.
-use Rattle.std.proofs.Common.{◌≡◌, ℕ, zero, suc, ◌+◌, ◌-◌, ◌≤◌, ◌<◌, ◌^◌, List, [], ◌∷◌, ◌++◌, length, get_or, take, drop, sym, ap, ◌∙◌, arith, append_assoc, length-append, length-drop}
-use Rattle.std.proofs.lemmas.List.{drop_more, drop-append-le, take_all}
+use Rattle.std.proofs.Common.{◌≡◌, ℕ, ◌+◌, ◌-◌, ◌≤◌, ◌<◌, ◌^◌, List, [], ◌∷◌, ◌++◌, length, get_or, take, drop, sym, ap, ◌∙◌, arith, append_assoc, length-append, length-drop}
+use Rattle.std.proofs.lemmas.List.{drop_more, drop-append-le}
 use Rattle.frags.specs.PieceList.{bytes_of, piece_bytes}
 use Rattle.frags.specs.declared.pieces.Piece.{Piece}
 use Rattle.skb.specs.SkbState.{SkbState, head_bytes, buffer_bytes}
 use Rattle.gso.specs.declared.sums.Sums.{Sums}
 use Rattle.gso.specs.Sums.{AreSumsOf, IsRoom}
 use Rattle.skb.specs.Checksum.{AreBytes}
-
-pub bytes_more : (a b : List ℕ) → AreBytes a → AreBytes b → AreBytes (a ++ b)
-bytes_more [] b f g k = g k
-bytes_more (x ∷ xs) b f g zero = f zero
-bytes_more (x ∷ xs) b f g (suc k) = bytes_more xs b (λ j. f (suc j)) g k
-
-pub all_behind : (f : List ℕ) (n : ℕ) → take (length f - n) (drop n f) ≡ drop n f
-all_behind f n = take_all (length f - n) (drop n f) (omega (arith, length-drop n f))
+use Rattle.skb.proofs.Summing.{bytes_more}
 
 -- the sums are of some bytes, behind which those from piece i on stand
 pub record AreBufferSums (s : SkbState) (m from i : ℕ) (sums : Sums) : Type 0 where

@@ -9,7 +9,7 @@ use Rattle.frame_layout.proofs.Lemmas.{headers_map, laid, shape_of_head, inside_
 use Rattle.skb.specs.Checksum.{AreBytes}
 use Rattle.gso.specs.Sums.{AreSumsOf}
 use Rattle.gso.specs.declared.sums.Sums.{Sums}
-use Rattle.gso.proofs.BufferSums.{bytes_more}
+use Rattle.skb.proofs.Summing.{bytes_more}
 
 bytes_behind : (f : List ℕ) (at n : ℕ) → at ≤ n → AreBytes (drop at f) → AreBytes (drop n f)
 bytes_behind f at n h b k =

@@ -1,5 +1,4 @@
 mod Weights
-mod Fronts
 mod Chunks
 mod Summing
 mod BufferSums

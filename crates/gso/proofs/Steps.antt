@@ -10,11 +10,12 @@ use Rattle.frags.specs.PieceList.{bytes_of}
 use Rattle.frags.specs.declared.pieces.Piece.{Piece}
 use Rattle.frags.specs.declared.holder.Holder.TheVariants.{Sole}
 use Rattle.skb.specs.SkbState.{SkbState, head_bytes, buffer_bytes}
+use Rattle.skb.specs.Fronts.{front_of}
 use Rattle.segment_rule.specs.declared.segmentation.Segmentation.{Segmentation}
 use Rattle.segment_rule.specs.Segmentations.{segment_at, segment_from, payload_at}
 use Rattle.segment_rule.proofs.Segments.{places, short, payload_short, segment_ranges}
 use Rattle.gso.specs.declared.sums.Sums.{Sums}
-use Rattle.gso.specs.Merged.{MergedState, IsAt, GivesSegment, front_of}
+use Rattle.gso.specs.Merged.{MergedState, IsAt, GivesSegment}
 use Rattle.gso.proofs.Weights.{elim_lt}
 
 abbrev pub state : Sums → SkbState → List Piece → Segmentation → ℕ → MergedState

@@ -1,5 +1,4 @@
 pub mod Sums
-pub mod Judging
 pub mod Planning
 pub mod Opening
 pub mod Merged

@@ -41,10 +41,6 @@ pub record IsCutting (c : MergedState) : Type 0 where
   pub within : c.i ≤ c.cut.n
   pub sums : AreSumsOf c.cut.m c.sums (drop c.cut.layout.payload_at frame)
 
--- the first n bytes behind a block's headroom
-abbrev pub front_of : SoleState → ℕ → List ℕ
-front_of s n = slice_range s.bytes 64 (64 + n)
-
 -- a segment's head is the spare's block, with the headers behind the headroom
 pub record IsHeadOf (spare : SoleState) (n : ℕ) (s : SkbState) : Type 0 where
   pub own : SoleState

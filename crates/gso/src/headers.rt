@@ -1,11 +1,11 @@
 //! A segment's headers, in the block of a spare.
 
 ghost use Rattle.std.specs.Prelude.{◌≡◌, ◌+◌, ◌<◌, ◌≤◌, ◌^◌, ◌++◌, ℕ, List, length, take};
+ghost use Rattle.skb.specs.Fronts.{front_of};
 ghost use Rattle.inet_sum.specs.Stands.{StandsFor};
 ghost use Rattle.frame_layout.specs.Headers.{AtHeaders, AreLaid};
 ghost use Rattle.offload_model.specs.Mergeable.{IsLengthInRange};
 ghost use Rattle.segment_rule.specs.Segmentations.{segment_from};
-ghost use Rattle.gso.specs.Merged.{front_of};
 
 use inet_sum::Partial;
 use raw_block::Sole;

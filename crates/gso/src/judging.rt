@@ -9,17 +9,14 @@ ghost use Rattle.offload_model.specs.Tests.{is_lawful_by};
 ghost use Rattle.segment_rule.specs.Segmentations.{IsJudged, is_merged_head};
 ghost use Rattle.gso.specs.Sums.{AreSumsOf, IsRoom};
 ghost use Rattle.skb.specs.Checksum.{AreBytes};
-ghost use Rattle.gso.specs.Judging.{IsFronted};
+ghost use Rattle.skb.specs.Fronts.{IsFronted};
 ghost use Rattle.gso.specs.Planning.{IsSegmentsReady, IsPlanOf, packets_by};
 
 use crate::sums::Sums;
 use frame_layout::{Layout, candidate_in, shape};
 use pcap_io::{OFF_HEAD_LEN, OffHead};
 use segment_rule::{BadOffload, Segmentation, is_merged, is_single, is_window, segmentation_of};
-use skb::Skb;
-
-/// How many first bytes hold all headers of every shape.
-const FRONT: usize = 200;
+use skb::{FRONT, Skb};
 
 /// What packets a record stands for.
 #[derive(Drop)]

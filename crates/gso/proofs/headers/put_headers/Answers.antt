@@ -1,7 +1,7 @@
 use Rattle.std.proofs.Common.{◌≡◌, ◌++◌, ◌∙◌, ℕ, List, length, take, ap, sym}
 use Rattle.std.proofs.lemmas.List.{length-take-le}
 use Rattle.segment_rule.specs.Segmentations.{segment_from}
-use Rattle.gso.proofs.Fronts.{front_long, front_is}
+use Rattle.skb.proofs.Fronts.{front_long, front_is}
 use Rattle.gso.proofs.headers.put_headers.Goals as goal
 
 pub returns-clause-size : goal.returns-clause-size

@@ -2,7 +2,8 @@ use Rattle.std.proofs.Common.{[], length, drop, ap, subst, arith, ◌∙◌}
 use Rattle.frags.specs.declared.pieces.Piece.{Piece}
 use Rattle.skb.specs.Checksum.{AreBytes}
 use Rattle.gso.specs.Sums.{AreSumsOf}
-use Rattle.gso.proofs.BufferSums.{all_behind, parts_front, parts_more, parts_few}
+use Rattle.skb.proofs.Summing.{all_behind}
+use Rattle.gso.proofs.BufferSums.{parts_front, parts_more, parts_few}
 use Rattle.gso.proofs.judging.sums_of.Goals as goal
 
 none : Piece
