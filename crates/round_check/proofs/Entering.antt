@@ -6,12 +6,11 @@ use Rattle.std.specs.HashMap.{get}
 use Rattle.std.proofs.lemmas.List.{drop_more, drop_all, get_or-set_same, get_or-set_other}
 use Rattle.std.proofs.lemmas.Bool.{cases_eq}
 use Rattle.std.proofs.lemmas.Slice.Eq.{bytes_eq-Decides}
-use Rattle.frame_layout.specs.Key.{key_of}
+use Rattle.frame_layout.specs.Key.{key_eq, key_of}
 use Rattle.pcap_io.specs.Capture.{Packet}
 use Rattle.offload_model.specs.Rounds.{is_key, is_of, key_in}
 use Rattle.offload_model.proofs.Items.{is_key_self, is_key_same}
 use Rattle.round_check.specs.declared.flows.Flows.{Flows}
-use Rattle.round_check.specs.Keys.{key_eq}
 use Rattle.round_check.specs.Same.{equal_in}
 use Rattle.round_check.specs.Chain.{left_at, IsOwn, Leads, IsChain, Counts}
 use Rattle.round_check.specs.Flows.{place_of, left_in, AreFlows, AreFlowsFrom, Moves, CountsIn}

@@ -5,7 +5,7 @@ use Rattle.std.specs.HashMap.{get}
 use Rattle.pcap_io.specs.Capture.{Packet}
 use Rattle.offload_model.specs.Rounds.{key_in}
 use Rattle.round_check.specs.declared.flows.Flows.{Flows}
-use Rattle.round_check.specs.Keys.{key_eq}
+use Rattle.frame_layout.specs.Key.{key_eq}
 use Rattle.round_check.specs.Same.{equal_in}
 use Rattle.round_check.specs.Chain.{left_at, IsOwn, IsChain, Leads}
 

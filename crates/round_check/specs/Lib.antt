@@ -1,6 +1,5 @@
 pub mod Bytes
 pub mod Same
-pub mod Keys
 pub mod Chain
 pub mod Segments
 pub mod Flows

@@ -14,7 +14,7 @@ ghost use Rattle.offload_model.proofs.Flows.{IsItem};
 ghost use Rattle.round_check.specs.Items.{IsToCompare, Remains, packets_in, totals_of_run, totals_of_runs};
 
 use crate::counting::count_packets;
-use crate::flow_key::FlowKey;
+use crate::flow_key::flow_of;
 use crate::flows::Flows;
 use check_totals::QueueTotals;
 use gro::Item;
@@ -48,7 +48,7 @@ fn count_item(item: &Item, kept: &[TapClone], flows: &mut Flows) -> u64
     let Ok(plan) = check_super(&header(item), &item.skb, item.original + 12) else {
         unreachable!()
     };
-    let key = FlowKey::of(&item.skb);
+    let key = flow_of(&item.skb);
     let mut at = flows.place(&key);
     let count = count_packets(&plan, item, kept, &flows.next, &mut at);
     flows.move_to(key, at);

@@ -4,7 +4,7 @@ ghost use Rattle.std.specs.Prelude.{◌≡◌, ◌≤◌, length};
 ghost use Rattle.skb.specs.SkbState.{head_size, buffer_size};
 
 use crate::counting::count_packets;
-use crate::flow_key::FlowKey;
+use crate::flow_key::flow_of;
 use crate::flows::Flows;
 use frags::{Outcomes, Pieces};
 use gro::Item;
@@ -92,19 +92,8 @@ fn spend_all(rt: &impl Abort, kept: Vec<TapClone>) {
 
 // The item and the packets are given back.
 fn end(rt: &impl Abort, item: Item, kept: Vec<TapClone>) {
-    let Item {
-        skb,
-        outcomes,
-        number: _,
-        sec: _,
-        frac: _,
-        original: _,
-        n: _,
-        m: _,
-        modes: _,
-    } = item;
+    let (skb, mut outcomes) = item.into_parts();
     spend(rt, skb);
-    let mut outcomes = outcomes;
     while let Some(_sole) = outcomes.pop_sole() {}
     outcomes.settle();
     spend_all(rt, kept);
@@ -131,7 +120,7 @@ fn compared(rt: &impl Abort, alloc: Global, second: &[u8], original: u32) -> u64
     let Ok(plan) = check_super(&HEAD, &item.skb, 72) else {
         panic!(rt; "the record is lawful")
     };
-    let mut at = flows.place(&FlowKey::of(&item.skb));
+    let mut at = flows.place(&flow_of(&item.skb));
     let count = count_packets(&plan, &item, &kept, &flows.next, &mut at);
     end(rt, item, kept);
     count

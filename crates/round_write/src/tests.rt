@@ -100,17 +100,7 @@ fn all_go_home<A: Abort>(rt: &A, mut items: Vec<Item>) {
 }
 
 fn go_home<A: Abort>(rt: &A, item: Item) {
-    let Item {
-        skb,
-        number: _,
-        sec: _,
-        frac: _,
-        original: _,
-        n: _,
-        m: _,
-        modes: _,
-        mut outcomes,
-    } = item;
+    let (skb, mut outcomes) = item.into_parts();
     assert!(rt; skb.count() <= outcomes.spare());
     skb.release(&mut outcomes);
     'soles: while let Some(_) = outcomes.pop_sole() {}

@@ -15,7 +15,7 @@ pub returns-clause-flows : goal.returns-clause-flows
 returns-clause-flows c =
     let ps = map packet_of c.args.kept.now in
     let f = c.args.flows.now in
-    let q = c.of-key.result in
+    let q = c.flow_of-key.result in
     let own = subst (IsOwn ps q) (sym c.place-at.ensures.place) (c.requires.flows.own q) in
     flows_moved ps f c.move_to.new.self q _ c.place-at.result c.count_packets-count.new.at c.count_packets-count.result c.requires.flows c.place-at.ensures.place (c.count_packets-count.ensures.counts q own) c.move_to.ensures.moves
 
@@ -23,7 +23,7 @@ pub returns-clause-counts : goal.returns-clause-counts
 returns-clause-counts c =
     let ps = map packet_of c.args.kept.now in
     let f = c.args.flows.now in
-    let q = c.of-key.result in
+    let q = c.flow_of-key.result in
     let item = c.args.item.now in
     let head = c.header.result in
     let plan = c.in-Ok.plan in
@@ -33,6 +33,6 @@ returns-clause-counts c =
     = subst (λ (o : ℕ). segments_by head (p o) ≡ packets_by plan (p o)) size (c.in-Ok.ensures.plan item.number item.sec item.frac) in
     let is : packets_by plan (item_of item).packet ≡ packets_in (item_of item) = sym cut ∙ ap (λ h. segments_by h (item_of item).packet) c.header.ensures.header in
     let own = subst (IsOwn ps q) (sym c.place-at.ensures.place) (c.requires.flows.own q) in
-    subst (λ k. CountsIn ps f k (packets_in (item_of item)) c.move_to.new.self c.count_packets-count.result) c.of-key.ensures.key
+    subst (λ k. CountsIn ps f k (packets_in (item_of item)) c.move_to.new.self c.count_packets-count.result) c.flow_of-key.ensures.key
     (counted ps f c.move_to.new.self q (packets_in (item_of item)) c.place-at.result c.count_packets-count.new.at c.count_packets-count.result c.requires.flows c.place-at.ensures.place
     (subst (λ (xs : List Packet). Counts ps q c.place-at.result xs c.count_packets-count.new.at c.count_packets-count.result) is (c.count_packets-count.ensures.counts q own)) c.move_to.ensures.moves)
