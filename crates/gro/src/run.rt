@@ -141,9 +141,10 @@ impl Run {
         let progress = self.progress_with(&next);
         let payload = self.payload.joined(candidacy.payload);
         let more = next.skb.count() + 2;
-        if let Err(refused) = self.rest.push_back(next) {
-            return Err((refused.value, AllocError));
+        if let Err(error) = self.rest.reserve(1) {
+            return Err((next, error));
         }
+        self.rest.push_back_reserved(next);
         self.count += more;
         self.payload = payload;
         self.flags = candidacy.flags;
