@@ -1,5 +1,5 @@
 //! A run of packets.
-ghost use Rattle.std.specs.Prelude.{◌≡◌, ◌+◌, ◌<◌, ◌≤◌, ◌^◌, ◌++◌, ◌∷◌, [], length, IsTrue, OnOk, OnErr, IfErr};
+ghost use Rattle.std.specs.Prelude.{◌≡◌, ◌+◌, ◌<◌, ◌≤◌, ◌^◌, ◌++◌, ◌∷◌, [], length, IsTrue, OnOk, OnErr};
 ghost use Rattle.std.specs.Bool.{Decides};
 ghost use Rattle.std.specs.VecDeque.{deque_len, deque_capacity};
 ghost use Rattle.frame_layout.specs.Key.{key_of};
@@ -119,36 +119,36 @@ impl Run {
         }
     }
 
-    /// One more packet, which the run takes. Where the list of packets is full and there is no memory it comes back, and the run is as
-    /// it was.
-    pub(crate) fn add(
-        &mut self,
-        next: Packet,
-        candidacy: &Candidacy,
-    ) -> Result<(), (Packet, AllocError)>
+    /// Room for one more packet. Where the list of packets is full and there is no memory, the run is as it was.
+    pub(crate) fn make_room(&mut self) -> Result<(), AllocError>
+        requires run { IsRun self.old }
+        ensures run { IsRun self.new }
+        ensures packets { held_of self.new ≡ held_of self.old }
+        ensures left { self.new ≡ record self.old { rest = self.new.rest } }
+        ensures room { OnOk result (deque_len self.new.rest < deque_capacity self.new.rest) }
+        ensures full { OnErr result (deque_capacity self.old.rest ≤ deque_len self.old.rest) }
+    {
+        self.rest.reserve(1)
+    }
+
+    /// One more packet, which the run takes and has room for.
+    pub(crate) fn add(&mut self, next: Packet, candidacy: &Candidacy)
         requires run { IsRun self.old }
         requires judged { IsJudged (buffer_bytes next.skb) next.original candidacy.now.layout candidacy.now.payload candidacy.now.flags }
         requires held { IsHeld next }
         requires mergeable { IsMergeable (packets_of self.old ++ (packet_of next ∷ [])) }
         requires few { self.old.count + count_of next < 2 ^ 63 }
-        ensures run { OnOk result (IsRun self.new) }
-        ensures packets { OnOk result (held_of self.new ≡ held_of self.old ++ (next ∷ [])) }
-        ensures back { IfErr result (λ e. (e.0 ≡ next) × (held_of self.new ≡ held_of self.old)) }
-        ensures same { OnErr result (IsRun self.new) }
-        ensures left { OnErr result (self.new ≡ record self.old { rest = self.new.rest }) }
-        ensures full { OnErr result (deque_capacity self.old.rest ≤ deque_len self.old.rest) }
+        requires room { deque_len self.old.rest < deque_capacity self.old.rest }
+        ensures run { IsRun self.new }
+        ensures packets { held_of self.new ≡ held_of self.old ++ (next ∷ []) }
     {
         let progress = self.progress_with(&next);
         let payload = self.payload.joined(candidacy.payload);
         let more = next.skb.count() + 2;
-        if let Err(error) = self.rest.reserve(1) {
-            return Err((next, error));
-        }
         self.rest.push_back_reserved(next);
         self.count += more;
         self.payload = payload;
         self.flags = candidacy.flags;
         self.progress = progress;
-        Ok(())
     }
 }

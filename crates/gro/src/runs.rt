@@ -128,9 +128,10 @@ impl Runs {
         ensures room { OnErr result ((n : ℕ) → HasPlaces self.old n → HasPlaces self.new n) }
     {
         let run = &mut self.list[found.place];
-        if let Err(refused) = run.add(packet, candidacy) {
-            return Err(refused);
+        if let Err(error) = run.make_room() {
+            return Err((packet, error));
         }
+        run.add(packet, candidacy);
         let is_open = run.progress.is_open;
         self.flows.keep(key, found, is_open);
         self.last = open_at(found.place, is_open);
@@ -157,9 +158,10 @@ impl Runs {
         ensures room { OnErr result ((n : ℕ) → HasPlaces self.old n → HasPlaces self.new n) }
     {
         let run = &mut self.list[place];
-        if let Err(refused) = run.add(packet, candidacy) {
-            return Err(refused);
+        if let Err(error) = run.make_room() {
+            return Err((packet, error));
         }
+        run.add(packet, candidacy);
         settle(&mut self.flows, run);
         self.last = open_at(place, run.progress.is_open);
         Ok(())

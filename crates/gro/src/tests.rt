@@ -171,13 +171,12 @@ fn adds(rt: &impl Abort, alloc: Global, run: &mut Run, packet: Packet) -> bool
         spend(rt, alloc, packet);
         return false;
     }
-    match run.add(packet, &candidacy) {
-        Ok(()) => true,
-        Err((packet, _)) => {
-            spend(rt, alloc, packet);
-            false
-        }
+    if run.make_room().is_err() {
+        spend(rt, alloc, packet);
+        return false;
     }
+    run.add(packet, &candidacy);
+    true
 }
 
 // What a run comes to.

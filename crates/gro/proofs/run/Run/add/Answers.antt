@@ -26,8 +26,7 @@ returns-clause-run c =
     let x : Packet = packet_of c.args.next in
     let ps : List Packet = map packet_of r.rest.items in
     let long : length r.rest.items ≡ length ps = sym (length-map r.rest.items packet_of) in
-    let items : c.push_back_reserved.new.self.items ≡ r.rest.items ++ c.args.next ∷ [] =
-    c.push_back_reserved.ensures.items ∙ ap (λ (z : List Held). z ++ c.args.next ∷ []) c.reserve.ensures.items in
+    let items : c.push_back_reserved.new.self.items ≡ r.rest.items ++ c.args.next ∷ [] = c.push_back_reserved.ensures.items in
     record {
       run = subst (λ z. IsRunBy r.layout c.joined-payload.result c.args.candidacy.now.flags c.progress_with-progress.result p (p ∷ z))
           (sym (ap (map packet_of) items ∙ map-append packet_of r.rest.items (c.args.next ∷ [])))
