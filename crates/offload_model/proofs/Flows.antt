@@ -119,7 +119,7 @@ module _ (key : Option (List ℕ)) where
   abbrev own : ℕ → ℕ
   own queues = queue_of key queues
 
-  own_queue : (queues : ℕ) (ps : List Packet) → filter (is_of key) (filter (is_queued queues (own queues)) ps) ≡ filter (is_of key) ps
+  pub own_queue : (queues : ℕ) (ps : List Packet) → filter (is_of key) (filter (is_queued queues (own queues)) ps) ≡ filter (is_of key) ps
   own_queue queues [] = refl
   own_queue queues (p ∷ ps) = elim (is_of key p) as (λ v. is_of key p ≡ v
       → filter (is_of key) (filter (is_queued queues (own queues)) (p ∷ ps)) ≡ cond v (p ∷ filter (is_of key) ps) (filter (is_of key) ps)) [
@@ -133,7 +133,7 @@ module _ (key : Option (List ℕ)) where
         ]
       ] refl
 
-  other_queue : (queues q : ℕ) (ps : List Packet) → (q ≡ own queues → ⊥) → filter (is_of key) (filter (is_queued queues q) ps) ≡ []
+  pub other_queue : (queues q : ℕ) (ps : List Packet) → (q ≡ own queues → ⊥) → filter (is_of key) (filter (is_queued queues q) ps) ≡ []
   other_queue queues q [] n = refl
   other_queue queues q (p ∷ ps) n = elim (is_of key p) as (λ v. is_of key p ≡ v → filter (is_of key) (filter (is_queued queues q) (p ∷ ps)) ≡ []) [
     | true ↦ λ e.
@@ -146,7 +146,7 @@ module _ (key : Option (List ℕ)) where
     ]
   ] refl
 
-  own_below : (k : Option (List ℕ)) (queues : ℕ) → 1 ≤ queues → queue_of k queues < queues
+  pub own_below : (k : Option (List ℕ)) (queues : ℕ) → 1 ≤ queues → queue_of k queues < queues
   own_below None queues h = omega arith
   own_below (Some k) queues h = omega arith
 

@@ -1,55 +1,22 @@
 -- The runs of a round's packets, flow by flow.
-use Rattle.std.proofs.Common.{◌≡◌, ℕ, zero, suc, ◌+◌, ◌-◌, ◌<◌, ◌≤◌, Bool, true, false, not, cond, Option, Some, None, List, [], ◌∷◌, ◌++◌, length, refl, sym, ap, ◌∙◌, arith, length-append, subst}
-use Rattle.std.specs.Prelude.{◌==◌}
+use Rattle.std.proofs.Common.{◌≡◌, ℕ, zero, suc, ◌+◌, ◌<◌, ◌≤◌, Bool, true, false, not, cond, Option, List, [], ◌∷◌, ◌++◌, length, refl, sym, ap, ◌∙◌, arith, length-append, subst}
 use Rattle.std.specs.List.{flat_map, filter, AllByRecursion, range_with_len}
 use Rattle.std.proofs.lemmas.List.Concat.{flat_map-append}
 use Rattle.std.proofs.lemmas.List.Elements.{filter-append}
-use Rattle.std.proofs.lemmas.Bool.{eq-eqb, ne_eqb}
 use Rattle.maximal_runs.specs.Items.{begins_in, AreItems}
 use Rattle.frame_layout.specs.Key.{key_of, queue_of}
 use Rattle.pcap_io.specs.Capture.{Packet}
 use Rattle.offload_model.specs.Mergeable.{IsMergeable}
 use Rattle.offload_model.specs.Rounds.{is_key, is_of, is_queued, number_of, items_of}
 use Rattle.offload_model.specs.Captured.{IsCaptured, AreCaptured}
-use Rattle.offload_model.proofs.Lists.{filter-flat_map, all_filtered, one_of_range}
-use Rattle.offload_model.proofs.Flows.{IsItem, all_items}
+use Rattle.offload_model.proofs.Lists.{all_filtered, one_of_range}
+use Rattle.offload_model.proofs.Flows.{IsItem, all_items, own_queue, other_queue, own_below}
 use Rattle.round_check.specs.Items.{of_flow, sizes, runs_from}
 use Rattle.offload_model.proofs.Items.{is_key_self, is_key_same, items_are}
 
 -- ---- all runs of all queues
 
 module _ (key : Option (List ℕ)) where
-  own_queue : (queues : ℕ) (ps : List Packet) → filter (is_of key) (filter (is_queued queues (queue_of key queues)) ps) ≡ filter (is_of key) ps
-  own_queue queues [] = refl
-  own_queue queues (p ∷ ps) = elim (is_of key p) as (λ v. is_of key p ≡ v
-      → filter (is_of key) (filter (is_queued queues (queue_of key queues)) (p ∷ ps)) ≡ cond v (p ∷ filter (is_of key) ps) (filter (is_of key) ps)) [
-        | true ↦ λ e.
-            let same : key ≡ key_of p.frame = is_key_same key (key_of p.frame) e in
-            let queued : is_queued queues (queue_of key queues) p ≡ true = eq-eqb (queue_of (key_of p.frame) queues) (queue_of key queues) (ap (λ k. queue_of k queues) (sym same)) in
-            rw queued (rw e (ap (λ z. p ∷ z) (own_queue queues ps)))
-        | false ↦ λ e. elim (is_queued queues (queue_of key queues) p) as (λ w. filter (is_of key) (cond w (p ∷ filter (is_queued queues (queue_of key queues)) ps) (filter (is_queued queues (queue_of key queues)) ps)) ≡ filter (is_of key) ps) [
-          | true ↦ rw e (own_queue queues ps)
-          | false ↦ own_queue queues ps
-        ]
-      ] refl
-
-  other_queue : (queues q : ℕ) (ps : List Packet) → (q ≡ queue_of key queues → ⊥) → filter (is_of key) (filter (is_queued queues q) ps) ≡ []
-  other_queue queues q [] n = refl
-  other_queue queues q (p ∷ ps) n = elim (is_of key p) as (λ v. is_of key p ≡ v → filter (is_of key) (filter (is_queued queues q) (p ∷ ps)) ≡ []) [
-    | true ↦ λ e.
-        let same : key ≡ key_of p.frame = is_key_same key (key_of p.frame) e in
-        let queued : is_queued queues q p ≡ false = ne_eqb (queue_of (key_of p.frame) queues) q (λ h. n (sym h ∙ ap (λ k. queue_of k queues) (sym same))) in
-        rw queued (other_queue queues q ps n)
-    | false ↦ λ e. elim (is_queued queues q p) as (λ w. filter (is_of key) (cond w (p ∷ filter (is_queued queues q) ps) (filter (is_queued queues q) ps)) ≡ []) [
-      | true ↦ rw e (other_queue queues q ps n)
-      | false ↦ other_queue queues q ps n
-    ]
-  ] refl
-
-  own_below : (k : Option (List ℕ)) (queues : ℕ) → 1 ≤ queues → queue_of k queues < queues
-  own_below None queues h = omega arith
-  own_below (Some k) queues h = omega arith
-
   each_queue : (queues : ℕ) (ps : List Packet) (qs : List ℕ) → AreCaptured ps
       → of_flow key (flat_map (λ q. items_of queues q ps) qs) ≡ flat_map (λ q. filter (is_of key) (filter (is_queued queues q) ps)) qs
   each_queue queues ps [] c = refl
@@ -64,8 +31,8 @@ module _ (key : Option (List ℕ)) where
   pub all_runs : (queues : ℕ) (ps : List Packet) → 1 ≤ queues → AreCaptured ps → of_flow key (runs_from queues ps 0 queues) ≡ filter (is_of key) ps
   all_runs queues ps some c =
       each_queue queues ps (range_with_len 0 queues) c
-      ∙ one_of_range (λ q. filter (is_of key) (filter (is_queued queues q) ps)) (queue_of key queues) queues (own_below key queues some) (λ q n. other_queue queues q ps n)
-      ∙ own_queue queues ps
+      ∙ one_of_range (λ q. filter (is_of key) (filter (is_queued queues q) ps)) (queue_of key queues) queues (own_below key key queues some) (λ q n. other_queue key queues q ps n)
+      ∙ own_queue key queues ps
 
 -- ---- how many packets they hold
 
