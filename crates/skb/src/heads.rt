@@ -16,6 +16,9 @@ pub fn write_at(sole: &mut Sole, at: usize, bytes: &[u8])
     ensures mark { sole.new.mark ≡ sole.old.mark }
     ensures block { sole.new.block ≡ sole.old.block }
 {
+    if bytes.is_empty() {
+        return;
+    }
     let range = sole.range_mut(at, at + bytes.len());
     range.copy_from_slice(bytes);
 }
