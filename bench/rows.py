@@ -1,5 +1,6 @@
 """The rows that `throughput` and `instructions` measure: captures that are what their names say, and the programs that read them."""
 import os
+import re
 import shutil
 import struct
 import subprocess
@@ -28,11 +29,16 @@ class Run(NamedTuple):
 
 
 class Group(NamedTuple):
-    """Runs that are measured in turn, and those that the others are divided by."""
+    """Runs that are measured in turn, and those that the others are divided by.
+
+    Of the kind "growth" the first run reads no records: its time is taken off the others', and each is divided by the second's. Of the kind
+    "short" a run is told in milliseconds, and not by its packets."""
 
     title: str
     runs: list
     over: tuple
+    kind: str = "rows"
+    main: bool = False  # of the table that is measured before each release
 
 
 # Captures.
@@ -116,9 +122,10 @@ def large_records(sample, name):
         return [(s, f, p[:100]) for s, f, p in records]
     if not is_plain(records[0][2]):
         return None
+    flows, order = re.fullmatch(r"([\d,]+) flows? (by 8|in turn)", name).groups()
     own = [record for record in records if record[2][34:38] == records[0][2][34:38]]
-    burst = own[:8] if name == "4,096 flows by 8" else own[:1]
-    return [(s, f, with_port(p, 1024 + flow)) for flow in range(4096) for s, f, p in burst]
+    burst = own[:8] if order == "by 8" else own[:1]
+    return [(s, f, with_port(p, 1024 + flow)) for flow in range(int(flows.replace(",", ""))) for s, f, p in burst]
 
 
 def small_records(name):
@@ -135,6 +142,9 @@ SMALL = ("cut", "ACKs", "one flow", "64 flows")
 def make(name, sample, size, folder):
     """Makes a capture by its name; `size` is that of 1,514-byte frames, and those of small ones have three tenths of it."""
     path = os.path.join(folder, name.replace(" ", "_").replace(",", "") + ".pcap")
+    part = re.fullmatch(r"(.*), (\d+) of 16", name)
+    if part:
+        name, size = part[1], size * int(part[2]) // 16
     if name == "no records":
         with open(path, "wb") as file:
             file.write(EMPTY)
@@ -154,6 +164,9 @@ def make(name, sample, size, folder):
 
 # Programs.
 
+# What the launcher sets for the program.
+OWN_WORDS = {"GLIBC_TUNABLES": "glibc.malloc.hugetlb=1"}
+
 
 def takes(*words):
     """Whether the program takes such a line."""
@@ -164,43 +177,74 @@ def beside(walk, capture):
     """What the program is measured beside."""
     runs = [Run("record walk in C", [walk], capture), Run("the same, bytes summed", [walk, "sum"], capture)]
     if shutil.which("tcpdump"):
-        runs.append(Run("tcpdump -r - -w -", ["tcpdump", "-r", "-", "-w", "-"], capture))
+        runs.append(Run("`tcpdump -r - -w -`", ["tcpdump", "-r", "-", "-w", "-"], capture))
     if shutil.which("editcap"):
-        runs.append(Run("editcap - -", ["editcap", "-F", "pcap", "-", "-"], capture))
+        runs.append(Run("`editcap - -`", ["editcap", "-F", "pcap", "-", "-"], capture))
     return runs
 
 
-BESIDE = ("the same, bytes summed", "tcpdump -r - -w -")
+BESIDE = ("the same, bytes summed", "`tcpdump -r - -w -`")
 
 
 def merges(name, capture, *words):
     return Run(name, [PROGRAM, "merge", *words], capture)
 
 
-def groups(walk):
-    """What is measured, in groups; options that the program doesn't take yet are left out."""
-    titles = {"1,514 bytes": "1,514-byte frames, as captured", "cut": "the same cut to 100 bytes, which can't be merged", "ACKs": "66-byte acknowledgments"}
-    titles |= {"one flow": "100-byte segments of one flow", "64 flows": "100-byte segments of 64 flows, none of which continues"}
-    found = [Group(title, beside(walk, name) + [merges("offload merge", name)], BESIDE) for name, title in titles.items()]
+def merge_lines(name, *lines):
+    """Merging a capture by each of these options that the program takes."""
+    return [merges(" ".join(("merge", *words)), name, *words) for words in lines if takes("merge", *words)]
+
+
+def merging(walk):
+    """Merging beside what else passes a capture on, and by flows and layouts."""
+    titles = {"1,514 bytes": "merging 1,514-byte frames, as captured", "cut": "merging the same cut to 100 bytes, which can't be merged", "ACKs": "merging 66-byte acknowledgments"}
+    titles |= {"one flow": "merging 100-byte segments of one flow", "64 flows": "merging 100-byte segments of 64 flows, none of which continues"}
+    found = [Group(title, beside(walk, name) + [merges("`offload merge`", name)], BESIDE, main=True) for name, title in titles.items()]
     layouts = ("1,514 bytes", "4,096 flows in turn", "4,096 flows by 8", *SAMPLES)
-    found.append(Group("merging by flows and layouts", [merges(f"merge, {name}", name) for name in layouts], ("merge, 1,514 bytes",)))
-    options = [("--budget", str(budget)) for budget in (16, 256, 1024)]
+    return found + [Group("merging by flows and layouts", [merges(f"merge, {name}", name) for name in layouts], ("merge, 1,514 bytes",), main=True)]
+
+
+def segmenting(walk):
+    for name in ("merged 1,514 bytes", "merged one flow"):
+        runs = beside(walk, name)[:2] + [Run("`offload segment`", [PROGRAM, "segment"], name)]
+        yield Group(f"segmenting what merge wrote of {name.removeprefix('merged ')}", runs, BESIDE[:1], main=True)
+
+
+def short_runs():
+    runs = [merges("merge of no records", "no records"), Run("make of 1,000 records", [PROGRAM, "make"], "no records")]
+    return Group("short runs", runs, (), kind="short", main=True)
+
+
+def by_options():
+    """Merging by budgets, blocks, queues and taps."""
     # A round of 4,096 frames needs 12,288 blocks.
-    options += [("--budget", "4096", "--blocks", "16384"), ("--blocks", "384"), ("--blocks", "65536")]
-    runs = [merges("merge", "1,514 bytes")]
-    runs += [merges(" ".join(("merge", *words)), "1,514 bytes", *words) for words in options if takes("merge", *words)]
-    found.append(Group("merging by options, 1,514-byte frames", runs, ("merge",)))
+    options = [("--budget", str(budget)) for budget in (16, 256, 1024)] + [("--budget", "4096", "--blocks", "16384"), ("--blocks", "384"), ("--blocks", "65536")]
+    found = [Group("merging by options, 1,514-byte frames", merge_lines("1,514 bytes", (), *options), ("merge",))]
     # Of four queues the sample's flows have one, and those that are made of it have all.
     lanes = {"1,514 bytes": (("--taps", "1"), ("--taps", "8"), ("--queues", "4")), "4,096 flows by 8": (("--queues", "4"),)}
     for name, own in lanes.items():
-        lines = [budget + lane for budget in ((), ("--budget", "1024")) for lane in ((), *own) if takes("merge", *lane)]
-        runs = [merges(" ".join(("merge", *words)), name, *words) for words in lines]
+        runs = merge_lines(name, *(budget + lane for budget in ((), ("--budget", "1024")) for lane in ((), *own)))
         found.append(Group(f"merging over queues and taps, {name}", runs, ("merge", "merge --budget 1024")))
-    for name in ("merged 1,514 bytes", "merged one flow"):
-        runs = beside(walk, name)[:2] + [Run("offload segment", [PROGRAM, "segment"], name)]
-        found.append(Group(f"segmenting what merge wrote of {name.removeprefix('merged ')}", runs, BESIDE[:1]))
-    runs = [merges("merge, no records", "no records"), Run("make, 1,000 records", [PROGRAM, "make"], "no records")]
-    return found + [Group("short runs, nanoseconds a run", runs, ())]
+    return found
+
+
+def growth():
+    """How the time of a packet grows with the records, the flows and the budget; what a run takes before its first record is taken off."""
+    start = merges("no records", "no records")
+    records = [merges(f"{part} of 16 parts", f"1,514 bytes, {part} of 16") for part in (1, 4, 16)]
+    flows = [merges(f"{flows} flows", f"{flows} flows by 8, 4 of 16") for flows in ("1", "16", "64", "256", "1,024", "4,096")]
+    blocks = ("--blocks", "16384")
+    budgets = [merges(f"--budget {budget}", "1,514 bytes, 4 of 16", "--budget", str(budget), *blocks) for budget in (64, 16, 256, 1024, 4096)]
+    return [
+        Group("growth over records, 1,514-byte frames", [start, *records], (), kind="growth"),
+        Group("growth over flows, 1,514-byte frames in bursts of 8", [start, *flows], (), kind="growth"),
+        Group("growth over the budget, 1,514-byte frames, --blocks 16384", [merges("no records", "no records", *blocks), *budgets], (), kind="growth"),
+    ]
+
+
+def groups(walk):
+    """What is measured, in groups; options that the program doesn't take yet are left out."""
+    return [*merging(walk), *segmenting(walk), short_runs(), *by_options(), *growth()]
 
 
 def build():
