@@ -1,5 +1,5 @@
 //! A pool of blocks.
-ghost use Rattle.std.specs.Prelude.{◌≡◌, ◌+◌, ◌-◌, ◌<◌, ◌≤◌, ◌^◌, [], ◌∷◌, ◌++◌, length, min, IfOk, MatchResult};
+ghost use Rattle.std.specs.Prelude.{◌≡◌, ◌⊎◌, ◌+◌, ◌-◌, ◌<◌, ◌≤◌, ◌^◌, [], ◌∷◌, ◌++◌, length, min, IfOk, MatchResult, MatchOption};
 ghost use Rattle.block_pool.specs.PoolState.{home};
 
 use raw_block::Sole;
@@ -49,6 +49,19 @@ impl Pool {
         })
     }
 
+    /// A pool with places for `n` blocks, none of them home. All its memory is taken here.
+    pub fn empty(alloc: Global, n: u32) -> Result<Pool, AllocError>
+        requires { n ≤ 65536 }
+        ensures { IfOk result (λ pool. (pool.blocks ≡ []) × (pool.made ≡ n) × (pool.taken ≡ 0)) }
+    {
+        let blocks = Vec::with_capacity(alloc, n as usize)?;
+        Ok(Pool {
+            blocks,
+            made: n,
+            taken: 0,
+        })
+    }
+
     /// The block that came home last, as its only holder. `Empty` exactly where no block is home.
     pub fn take(&mut self) -> Result<Sole, Empty>
         ensures block { MatchResult result (λ block. self.old.blocks ≡ self.new.blocks ++ block ∷ []) (λ _. (home self.old ≡ 0) × (self.new ≡ self.old)) }
@@ -70,6 +83,30 @@ impl Pool {
         ensures { self.new ≡ record self.old { blocks = self.old.blocks ++ block ∷ [] } }
     {
         self.blocks.push_reserved(block);
+    }
+
+    /// Blocks that are home in the other come home here, until it has none or there is no place. They aren't taken, so
+    /// neither count rises.
+    pub fn refill(&mut self, from: &mut Pool)
+        ensures sum { home self.new + home from.new ≡ home self.old + home from.old }
+        ensures all { (home from.new ≡ 0) ⊎ (home self.new ≡ self.old.made) }
+        ensures same { (self.new.made ≡ self.old.made) × (self.new.taken ≡ self.old.taken) }
+        ensures from { (from.new.made ≡ from.old.made) × (from.new.taken ≡ from.old.taken) }
+    {
+        while self.home() < self.made() {
+            match from.last() {
+                Some(block) => self.put(block),
+                None => return,
+            }
+        }
+    }
+
+    // The block that came home last.
+    fn last(&mut self) -> Option<Sole>
+        ensures block { MatchOption result ((home self.old ≡ 0) × (self.new ≡ self.old)) (λ block. self.old.blocks ≡ self.new.blocks ++ block ∷ []) }
+        ensures same { (self.new.made ≡ self.old.made) × (self.new.taken ≡ self.old.taken) }
+    {
+        self.blocks.pop()
     }
 
     /// The blocks that are home.

@@ -3,7 +3,7 @@ ghost use Rattle.std.specs.Prelude.{◌≡◌, ◌≢◌, ◌<◌, ◌≤◌};
 ghost use Rattle.ref_core.specs.WeightRule.{full_weight};
 ghost use Rattle.frags.specs.PieceList.{AsPart, less, gave};
 
-use raw_block::{Part, Sole};
+use raw_block::{Part, Released, Sole};
 
 /// A block's only holder, or one beside others.
 pub enum Holder {
@@ -22,6 +22,20 @@ impl Holder {
             Holder::Part(part) => {
                 let _ = part.weight();
                 part
+            }
+        }
+    }
+
+    /// Gives the block up, and frees it where nobody else holds it. It takes no memory, and no outcomes.
+    pub fn free(self) {
+        match self {
+            Holder::Sole(_sole) => {}
+            Holder::Part(part) => {
+                let _ = part.weight();
+                match part.release() {
+                    Released::Last(_sole) => {}
+                    Released::Left(receipt) => receipt.close(),
+                }
             }
         }
     }

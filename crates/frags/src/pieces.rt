@@ -385,6 +385,20 @@ impl Pieces {
         items.destroy_empty();
     }
 
+    /// Gives all parts back, and frees the blocks that nobody else holds. It takes no memory, and no outcomes.
+    pub fn free(self) {
+        let Pieces { mut items, size: _ } = self;
+        while let Some(piece) = items.pop_front() {
+            let Piece {
+                part,
+                from: _,
+                to: _,
+            } = piece;
+            Holder::Part(part).free();
+        }
+        items.destroy_empty();
+    }
+
     /// Gives all parts back, the first piece's first.
     pub fn release(self, out: &mut Outcomes)
         requires { length self ≤ out.old.spare }

@@ -434,4 +434,16 @@ impl Skb {
         out.give_back_holder(head);
         rest.release(out);
     }
+
+    /// Gives the head and all pieces back, and frees the blocks that nobody else holds. It takes no memory, and no outcomes.
+    pub fn free(self) {
+        let Skb {
+            head,
+            from: _,
+            to: _,
+            rest,
+        } = self;
+        head.free();
+        rest.free();
+    }
 }
