@@ -107,14 +107,17 @@ pub works_out : {E : Type 0} (options now : Options) (order : Order) (ps : List 
     → IfOk r (λ w. worked_bytes order w ≡ round_output options order ps)
 works_out options now order ps r same h = bytes_at options order ps r (subst (λ (o : Options). IfOk r (λ w. worked_records w ≡ round_records o ps)) same h)
 
-pub after_work : {E : Type 0} (r : Result WorkedState E) (old new : RoundsState) (n : ℕ) → OnOk r (new ≡ old) → OnErr r (new ≡ record old { home = old.home + n }) → new ≡ record old { home = new.home }
-after_work (Ok w) old new n same home = subst (λ (z : RoundsState). z ≡ record old { home = z.home }) (sym same) refl
-after_work (Err e) old new n same home = subst (λ (z : RoundsState). z ≡ record old { home = z.home }) (sym home) refl
+pub may_put : {E : Type 0} (r : Result WorkedState E) (old new : RoundsState) (n : ℕ) → IfOk r (λ w. w.blocks ≡ n) → OnOk r (new ≡ old) → OnErr r (new ≡ record old { home = old.home + n }) → old.home + n ≤ old.blocks
+    → IfOk r (λ w. new.home + w.blocks ≤ new.blocks)
+may_put (Ok w) old new n size same home fits = omega (arith, size, ap (λ (z : RoundsState). z.home) same, ap (λ (z : RoundsState). z.blocks) same, fits)
+may_put (Err e) old new n size same home fits = tt
 
-pub may_put : {E : Type 0} (r : Result WorkedState E) (old new : RoundsState) (n : ℕ) → IfOk r (λ w. w.blocks ≡ n) → OnOk r (new ≡ old) → OnErr r (new ≡ record old { home = old.home + n }) → old.home + n ≡ old.blocks
-    → MatchResult r (λ w. new.home + w.blocks ≡ new.blocks) (λ _. new.home ≡ new.blocks)
-may_put (Ok w) old new n size same home all = omega (arith, size, ap (λ (z : RoundsState). z.home) same, ap (λ (z : RoundsState). z.blocks) same, all)
-may_put (Err e) old new n size same home all = omega (arith, ap (λ (z : RoundsState). z.home) home, ap (λ (z : RoundsState). z.blocks) home, all)
+-- a round that was worked and put, or that there was no memory for, is home
+pub is_home : {E : Type 0} (r : Result WorkedState E) (old mid new : RoundsState) (n : ℕ) → IfOk r (λ w. w.blocks ≡ n) → OnOk r (mid ≡ old) → OnErr r (mid ≡ record old { home = old.home + n })
+    → MatchResult r (λ w. new ≡ record mid { home = mid.home + w.blocks }) (λ _. new ≡ mid) → new ≡ record old { home = old.home + n }
+is_home (Ok w) old mid new n size same home put =
+    put ∙ ap (λ (z : RoundsState). record z { home = z.home + w.blocks }) same ∙ ap (λ (k : ℕ). record old { home = old.home + k }) size
+is_home (Err e) old mid new n size same home put = put ∙ home
 
 -- ---- one thing written behind another, of lists that are borrowed
 

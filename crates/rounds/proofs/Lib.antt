@@ -23,7 +23,7 @@ mod Comparing
 -- what is written of rounds that are worked in lanes
 mod Lanes
 -- rounds that are merged
-mod Merging
+pub mod Merging
 -- the blocks of a record whose packets are given one after another
 mod Spares
 -- the packets of a record, written one after another

@@ -33,7 +33,7 @@ use Rattle.gro.specs.Held.{packet_of}
 use Rattle.rounds.specs.Record.{in_front, Passes as PassesRecords}
 use Rattle.rounds.specs.Reading.{GivesRound, PassesRound, Holds, Exceeds}
 use Rattle.rounds.specs.RoundsState.{RoundsState}
-use Rattle.rounds.specs.Merging.{ending_of, options_of, Fails, WritesLast, Puts, GivesUp, Ahead, EndsBehind, Steps, IfEnds, TakesAll, AreCapturedAt, EndsCaptured, HoldsCaptured, MovesOn}
+use Rattle.rounds.specs.Merging.{ending_of, options_of, is_worked, Fails, WritesLast, Puts, GivesUp, Ahead, EndsBehind, Steps, IfEnds, TakesAll, AreCapturedAt, EndsCaptured, HoldsCaptured, MovesOn}
 use Rattle.rounds.specs.declared.round.RoundEnd.{RoundEnd}
 use Rattle.rounds.specs.declared.round.RoundEnd.TheVariants as rounds
 use Rattle.rounds.specs.declared.merge.MergeEnd.{MergeEnd}
@@ -582,3 +582,52 @@ pub steps_as : (k : ℕ) (s s0 : RoundsState) (from to : Place) (a b h h1 : Opti
 steps_as k s s0 from to a b h h1 t t1 step blocks options told =
     subst (λ (n : ℕ). Told a b (Steps k n (options_of s0) from to h h1 t t1 step)) blocks
     (subst (λ (o : Options). Told a b (Steps k s.blocks o from to h h1 t t1 step)) options told)
+
+-- ---- a round that was read, and then put or given up
+
+by_worked : (X : Type 0) (b : Bool) → (b ≡ true → X) → (b ≡ false → X) → X
+by_worked X true is isnt = is refl
+by_worked X false is isnt = isnt refl
+
+-- what a step says, behind k rounds: of what was read and written, of the packets, of the blocks that were taken, and where the next one
+-- is read; and what a read fault shows
+pub record StepSays (k blocks : ℕ) (options : Options) (from to : Place) (a b h h1 : Option (List ℕ)) (t t1 : ℕ) (step : Step) (X : Type 0) : Type 0 where
+  pub given : Told a b (Steps k blocks options from to h h1 t t1 step)
+  pub captured : IfEnds step (λ end. Told a b (EndsCaptured k from end))
+  pub taken : IfEnds step (λ end. end ≡ ends.Done → Told a b (TakesAll t t1 from))
+  pub moves : step ≡ steps.Goes → MovesOn from to
+  pub read : IfEnds step (λ end. end ≡ ends.ReadFault → X)
+
+not_going : (end : MergeEnd) (step : Step) (X : Type 0) → step ≡ steps.Ends end → step ≡ steps.Goes → X
+not_going end step X is goes = absurd (false≢true (ap is_going (sym is ∙ goes)))
+
+module _ (blocks : ℕ) (state : RoundsState) (file : FileHead) (from to : Place) (round : List Held) (is_file : from.file ≡ file) (some : 1 ≤ state.budget) (fits : round_need (map packet_of round) ≤ blocks)
+    (k : ℕ) (a b h h1 : Option (List ℕ)) (t t1 : ℕ) (each : AllByRecursion IsCaptured (map packet_of round)) (X : Type 0) (end : RoundEnd) (step : Step)
+    (full : end ≡ rounds.Full → PassesRound from to round state.budget) (fewer : (end ≡ rounds.Full → ⊥) → (end ≡ rounds.NoMemory → ⊥) → length round < state.budget)
+    (took : min (t + round_need (map packet_of round)) (2 ^ 64 - 1) ≤ t1) (read : end ≡ rounds.ReadFault → X) (told : Told a b (GivesRound blocks from to round end)) where
+  put_says : Puts h h1 (round_output (options_of state) file.order (map packet_of round)) end step → StepSays k blocks (options_of state) from to a b h h1 t t1 step X
+  put_says puts = record {
+    given = put_given blocks state file from to round is_file some fits k a b h h1 t t1 each end step full fewer took puts told;
+    captured = put_captured blocks state file from to round is_file some fits k a b h h1 t t1 each end step puts told;
+    taken = put_taken blocks state file from to round is_file some fits k a b h h1 t t1 each end step took puts told;
+    moves = put_moves blocks state file from to round is_file some fits k a b h h1 t t1 each end step full puts;
+    read = put_reads blocks state file from to round is_file some fits k a b h h1 t t1 each X end step read puts;
+  }
+
+  up_says : (last : MergeEnd) → step ≡ steps.Ends last → GivesUp h h1 k end last → StepSays k blocks (options_of state) from to a b h h1 t t1 step X
+  up_says last is gives = record {
+    given = subst (λ (s : Step). Told a b (Steps k blocks (options_of state) from to h h1 t t1 s)) (sym is)
+        (given_up blocks state file from to round is_file some fits k a b h h1 t t1 each end last fewer gives told);
+    captured = subst (λ (s : Step). IfEnds s (λ e. Told a b (EndsCaptured k from e))) (sym is)
+        (up_captured blocks state file from to round is_file some fits k a b h h1 t t1 each end last gives told);
+    taken = subst (λ (s : Step). IfEnds s (λ e. e ≡ ends.Done → Told a b (TakesAll t t1 from))) (sym is) (λ done. up_not h h1 k end last ends.Done _ refl gives done);
+    moves = λ goes. not_going last step _ is goes;
+    read = subst (λ (s : Step). IfEnds s (λ e. e ≡ ends.ReadFault → X)) (sym is) (λ fault. up_not h h1 k end last ends.ReadFault X refl gives fault);
+  }
+
+  -- by the clauses of `read_round` and of `put_read`
+  pub step_says : (now : Options) → now ≡ options_of state → (is_worked end ≡ true → Puts h h1 (round_output now file.order (map packet_of round)) end step)
+      → (is_worked end ≡ false → (last : MergeEnd) × (step ≡ steps.Ends last) × GivesUp h h1 k end last) → StepSays k blocks (options_of state) from to a b h h1 t t1 step X
+  step_says now same puts gives =
+      by_worked _ (is_worked end) (λ is. put_says (subst (λ (o : Options). Puts h h1 (round_output o file.order (map packet_of round)) end step) same (puts is)))
+      (λ is. let g = gives is in up_says g.0 g.1 g.2)

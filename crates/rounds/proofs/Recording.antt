@@ -210,3 +210,8 @@ whole_given a b c old mid new used blocks front found head p some enters on firs
     let entered : EntersBody old mid head = subst (λ (f : Option RecHead). IfSome f (EntersBody old mid)) some enters in
     Told-then a b c (GivesHead old (Ok (Some head))) (GivesPacket mid head front (Ok p)) (GivesRecord used blocks old new front (Ok p))
     (λ bytes rest left takes gives. body_whole old mid new used blocks front head p bytes rest left entered on takes gives) at_some second
+
+-- where 131 blocks are home, or as many as there are less those in use, a record that needs no more than there are finds its own
+pub finds_blocks : (len used home made : ℕ) → len ≤ 262144 → (131 ≤ home) ⊎ (made ≤ home + used) → used + need_of len ≤ made → need_of len ≤ home
+finds_blocks len used home made small (inl many) fits = omega (arith, small, many)
+finds_blocks len used home made small (inr rest) fits = omega (arith, rest, fits)

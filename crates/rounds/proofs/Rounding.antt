@@ -3,7 +3,7 @@ use Rattle.std.proofs.Common.{◌≡◌, ◌+◌, ◌-◌, ◌≤◌, ℕ, List,
 use Rattle.std.proofs.lemmas.List.{map-append}
 use Rattle.std.specs.List.{AllByRecursion}
 use Rattle.off_io.specs.Told.{Told}
-use Rattle.off_io.proofs.Telling.{Told-then, Told-same}
+use Rattle.off_io.proofs.Telling.{Told-then, Told-same, Told-weaker}
 use Rattle.pcap_io.specs.declared.heads.Link.TheVariants.{Ethernet}
 use Rattle.pcap_io.specs.declared.place.Place.{Place}
 use Rattle.pcap_io.specs.Capture.{Packet, Found}
@@ -26,6 +26,7 @@ use Rattle.rounds.specs.Reading.{GivesRound, Holds, Exceeds, IsEndOf}
 use Rattle.rounds.specs.declared.record.Stop.{Stop}
 use Rattle.rounds.specs.declared.record.Stop.TheVariants as stops
 use Rattle.rounds.specs.declared.round.RoundEnd.{RoundEnd}
+use Rattle.rounds.specs.declared.round.RoundEnd.TheVariants as ends
 use Rattle.rounds.proofs.Taking.{Same}
 
 -- these packets stand before what is still to be read
@@ -182,6 +183,11 @@ pub round_stop_given : (a b c : Option (List ℕ)) (old mid new : Place) (used b
 round_stop_given a b c old mid new used blocks packets stop end ethernet few u is first last =
     Told-then a b c (Passes old mid (map packet_of packets)) (GivesRecord used blocks mid new [] (Err stop)) (GivesRound blocks old new packets end)
     (λ bytes rest left before l. round_stop old mid new used blocks packets stop end bytes rest left ethernet few u is before l) first last
+
+-- whatever was read of it, a round for which blocks are lacking ends
+pub round_unready : (a b : Option (List ℕ)) (old mid : Place) (blocks : ℕ) (packets : List Held) → Told a b (Passes old mid (map packet_of packets)) → Told a b (GivesRound blocks old mid packets ends.NoMemory)
+round_unready a b old mid blocks packets told =
+    Told-weaker a b (Passes old mid (map packet_of packets)) (GivesRound blocks old mid packets ends.NoMemory) (λ bytes left before. (before.0, before.1)) told
 
 pub need_last : (packets : List Held) (p : Held) → round_need (map packet_of (packets ++ p ∷ [])) ≡ round_need (map packet_of packets) + need_of (length (buffer_bytes p.skb))
 need_last [] p = omega arith

@@ -17,6 +17,13 @@ pub record RoundsState : Type 0 where
   pub snap : ℕ
   pub keep : Bool
 
+-- of the side that reads: its blocks, and how many packets a round may have
+pub record IntakeState : Type 0 where
+  pub home : ℕ
+  pub blocks : ℕ
+  pub taken : ℕ
+  pub budget : ℕ
+
 pub record RoundState : Type 0 where
   pub packets : List Packet
   pub blocks : ℕ

@@ -26,6 +26,8 @@
 //! - `given` of `merge_all` and `merge_all_alone`: what is written, and where it stops, is what the model makes of the capture's bytes
 //!   (`merging` of `offload_model`) with all options, whole rounds alone; a round that exceeds the blocks is told by its number and its need. After a fault, or want
 //!   of memory, it is that of the bytes that are gone, or a front of it. All blocks are home whatever the ending (`home`).
+//! - `sum`, `home` of [`Intake`] and of `put_read`, `hand_home`, `bring_home`, `join`: where one side reads and another works no block is
+//!   lost between them, and `given`, `puts` and `gives` say of a round on its way what `merge_all` says of it.
 //! - `captured` of `merge_all`: the packets that are merged are such as a capture may hold, since each was read into fields of 32 bits and
 //!   into bytes.
 //!
@@ -55,6 +57,8 @@ mod body;
 mod check;
 mod cut;
 mod home;
+mod homecoming;
+mod intake;
 mod lane_home;
 #[cfg(test)]
 mod lane_tests;
@@ -68,13 +72,18 @@ mod rounds;
 mod segment;
 #[cfg(test)]
 mod segment_tests;
+mod sides;
+#[cfg(test)]
+mod sides_tests;
 mod table;
 #[cfg(test)]
 mod tests;
 mod work;
 mod writing;
 
-pub use merge::MergeEnd;
+pub use homecoming::{AllHome, Homecoming};
+pub use intake::Intake;
+pub use merge::{MergeEnd, Step};
 pub use round::{Round, RoundEnd, RoundRead, Worked};
 pub use rounds::Rounds;
 pub use segment::{Moved, SegFault, SegmentRun};

@@ -1,5 +1,5 @@
 //! Merges the records of a capture, round by round.
-ghost use Rattle.std.specs.Prelude.{◌≡◌, ◌⊎◌, ℕ, ◌+◌, ◌≤◌, ◌^◌, ◌-◌, true, false, Option, List, min, IfOk, MatchResult};
+ghost use Rattle.std.specs.Prelude.{◌≡◌, ◌⊎◌, ℕ, ◌+◌, ◌≤◌, ◌^◌, ◌-◌, true, false, Option, List, map, min, IfOk, MatchResult};
 ghost use Rattle.std.specs.Io.KnownBytes.{Appends, Keeps};
 ghost use Rattle.off_io.specs.Content.{SaysFlushed};
 ghost use Rattle.off_io.specs.Faults.{Rose};
@@ -9,6 +9,8 @@ ghost use Rattle.pcap_io.specs.Places.{IsReady, found_at};
 ghost use Rattle.pcap_io.specs.Readers.{place_of, source_of, SameLoan};
 ghost use Rattle.offload_model.specs.Need.{round_need};
 ghost use Rattle.offload_model.specs.Passing.{merging, Passes, flushes};
+ghost use Rattle.offload_model.specs.Steps.{round_output};
+ghost use Rattle.gro.specs.Held.{packet_of};
 ghost use Rattle.rounds.specs.Lanes.{worked_bytes};
 ghost use Rattle.rounds.specs.Merging.{ending_of, options_of, is_worked, Puts, GivesUp, Steps, IfEnds, TakesAll, EndsCaptured, HoldsCaptured, MovesOn};
 
@@ -38,7 +40,7 @@ pub enum MergeEnd {
 
 /// What comes of a round.
 #[derive(Clone, Copy, Debug, PartialEq, Eq)]
-pub(crate) enum Step {
+pub enum Step {
     /// It was full and is written: the next one may be read.
     Goes,
     Ends(MergeEnd),
@@ -84,11 +86,11 @@ impl Rounds {
         file: &FileHead,
         sink: &mut K,
     ) -> Step
-        requires out { MatchResult worked (λ w. self.old.home + w.blocks ≡ self.old.blocks) (λ _. self.old.home ≡ self.old.blocks) }
+        requires out { IfOk worked (λ w. self.old.home + w.blocks ≤ self.old.blocks) }
         requires works { is_worked end ≡ true }
         ensures puts { (bytes : List ℕ) → IfOk worked (λ w. worked_bytes file.now.order w ≡ bytes) → Puts (K.held sink.old) (K.held sink.new) bytes end result }
         ensures flushed { IfEnds result (λ end. flushes (ending_of end) ≡ true → SaysFlushed (K.held sink.new) (K.is_flushed sink.new) true) }
-        ensures home { self.new ≡ record self.old { home = self.old.blocks } }
+        ensures home { MatchResult worked (λ w. self.new ≡ record self.old { home = self.old.home + w.blocks }) (λ _. self.new ≡ self.old) }
         ensures later { K.faults sink.old ≤ K.faults sink.new }
         ensures rose { IfEnds result (λ end. end ≡ MergeEnd.WriteFault → Rose (K.faults sink.old) (K.faults sink.new)) }
     {
@@ -112,11 +114,11 @@ impl Rounds {
         sink: &mut K,
         number: u64,
     ) -> MergeEnd
-        requires out { self.old.home + round.blocks ≡ self.old.blocks }
+        requires out { self.old.home + round.blocks ≤ self.old.blocks }
         requires ends { is_worked end ≡ false }
         ensures gives { GivesUp (K.held sink.old) (K.held sink.new) number end result }
         ensures flushed { flushes (ending_of result) ≡ true → SaysFlushed (K.held sink.new) (K.is_flushed sink.new) true }
-        ensures home { self.new ≡ record self.old { home = self.old.blocks } }
+        ensures home { self.new ≡ record self.old { home = self.old.home + round.blocks } }
         ensures later { K.faults sink.old ≤ K.faults sink.new }
         ensures rose { result ≡ MergeEnd.WriteFault → Rose (K.faults sink.old) (K.faults sink.new) }
     {
@@ -135,8 +137,60 @@ impl Rounds {
         }
     }
 
-    // Reads the next round, behind `number` others, works it and puts it. Of a round that exceeds the blocks nothing is written.
-    fn step<R: Threads + Sync, S: Source, K: Sink, G: Gate + Sync>(
+    /// Works and writes a round that was read, behind `number` others, and brings it home. One that exceeds the blocks or that there
+    /// was no memory for is given up: nothing is written of it.
+    pub fn put_read<R: Threads + Sync, K: Sink, G: Gate + Sync>(
+        &mut self,
+        rt: &R,
+        read: RoundRead,
+        file: &FileHead,
+        sink: &mut K,
+        gate: &G,
+        number: u64,
+    ) -> Step
+        requires out { self.old.home + read.round.blocks ≤ self.old.blocks }
+        ensures puts { is_worked read.end ≡ true → Puts (K.held sink.old) (K.held sink.new) (round_output (options_of self.old) file.now.order (map packet_of read.round.packets)) read.end result }
+        ensures gives { is_worked read.end ≡ false → (end : MergeEnd) × (result ≡ Step.Ends end) × GivesUp (K.held sink.old) (K.held sink.new) number read.end end }
+        ensures flushed { IfEnds result (λ end. flushes (ending_of end) ≡ true → SaysFlushed (K.held sink.new) (K.is_flushed sink.new) true) }
+        ensures home { self.new ≡ record self.old { home = self.old.home + read.round.blocks } }
+        ensures later { K.faults sink.old ≤ K.faults sink.new }
+        ensures rose { IfEnds result (λ end. end ≡ MergeEnd.WriteFault → Rose (K.faults sink.old) (K.faults sink.new)) }
+    {
+        let RoundRead { round, end } = read;
+        if !is_worked(end) {
+            return Step::Ends(self.give_up(round, end, sink, number));
+        }
+        let worked = self.work_round(rt, round, gate);
+        self.put_round(worked, end, file, sink)
+    }
+
+    // The same in the thread that calls.
+    fn put_read_alone<K: Sink, G: Gate>(
+        &mut self,
+        read: RoundRead,
+        file: &FileHead,
+        sink: &mut K,
+        gate: &G,
+        number: u64,
+    ) -> Step
+        requires out { self.old.home + read.round.blocks ≤ self.old.blocks }
+        ensures puts { is_worked read.end ≡ true → Puts (K.held sink.old) (K.held sink.new) (round_output (options_of self.old) file.now.order (map packet_of read.round.packets)) read.end result }
+        ensures gives { is_worked read.end ≡ false → (end : MergeEnd) × (result ≡ Step.Ends end) × GivesUp (K.held sink.old) (K.held sink.new) number read.end end }
+        ensures flushed { IfEnds result (λ end. flushes (ending_of end) ≡ true → SaysFlushed (K.held sink.new) (K.is_flushed sink.new) true) }
+        ensures home { self.new ≡ record self.old { home = self.old.home + read.round.blocks } }
+        ensures later { K.faults sink.old ≤ K.faults sink.new }
+        ensures rose { IfEnds result (λ end. end ≡ MergeEnd.WriteFault → Rose (K.faults sink.old) (K.faults sink.new)) }
+    {
+        let RoundRead { round, end } = read;
+        if !is_worked(end) {
+            return Step::Ends(self.give_up(round, end, sink, number));
+        }
+        let worked = self.work_round_alone(round, gate);
+        self.put_round(worked, end, file, sink)
+    }
+
+    /// Reads the next round, behind `number` others, works it and puts it. Of a round that exceeds the blocks nothing is written.
+    pub fn step<R: Threads + Sync, S: Source, K: Sink, G: Gate + Sync>(
         &mut self,
         rt: &R,
         reader: &mut CaptureReader<'_, S>,
@@ -162,12 +216,8 @@ impl Rounds {
         ensures read { IfEnds result (λ end. end ≡ MergeEnd.ReadFault → Rose (S.faults (source_of reader.old)) (S.faults (source_of reader.new))) }
         ensures write { IfEnds result (λ end. end ≡ MergeEnd.WriteFault → Rose (K.faults sink.old) (K.faults sink.new)) }
     {
-        let RoundRead { round, end } = self.read_round(reader);
-        if !is_worked(end) {
-            return Step::Ends(self.give_up(round, end, sink, number));
-        }
-        let worked = self.work_round(rt, round, gate);
-        self.put_round(worked, end, file, sink)
+        let read = self.read_round(reader);
+        self.put_read(rt, read, file, sink, gate, number)
     }
 
     // The same in the thread that calls.
@@ -196,12 +246,8 @@ impl Rounds {
         ensures read { IfEnds result (λ end. end ≡ MergeEnd.ReadFault → Rose (S.faults (source_of reader.old)) (S.faults (source_of reader.new))) }
         ensures write { IfEnds result (λ end. end ≡ MergeEnd.WriteFault → Rose (K.faults sink.old) (K.faults sink.new)) }
     {
-        let RoundRead { round, end } = self.read_round(reader);
-        if !is_worked(end) {
-            return Step::Ends(self.give_up(round, end, sink, number));
-        }
-        let worked = self.work_round_alone(round, gate);
-        self.put_round(worked, end, file, sink)
+        let read = self.read_round(reader);
+        self.put_read_alone(read, file, sink, gate, number)
     }
 
     /// Merges the records of a capture, round by round, up to its end: each round is read, worked, written and ended. The sink is

@@ -14,6 +14,7 @@ ghost use Rattle.gro.specs.Held.{packet_of, of_packets, count_of, counts_of};
 ghost use Rattle.rounds.specs.Fresh.{AreRead, IsFresh, NumberedFrom};
 ghost use Rattle.rounds.specs.Reading.{GivesRound, PassesRound};
 
+use crate::homecoming::{Homecoming, is_ready};
 use crate::record::read_record;
 use crate::round::{RoundEnd, end_of};
 use block_pool::Pool;
@@ -32,12 +33,14 @@ fn packet_blocks(packet: &Packet) -> u32
     packet.skb.count() as u32 + 2
 }
 
-/// Reads records until there are `budget` of them, or no more: the blocks that they have, and why.
-pub(crate) fn read_records<S: Source>(
+/// Reads records until there are `budget` of them, or no more: the blocks that they have, and why. Before each record blocks come
+/// home where it might lack some; `NoMemory` also where it still might.
+pub(crate) fn read_records<S: Source, H: Homecoming>(
     alloc: Global,
     pool: &mut Pool,
     hold: &mut VecDeque<Sole>,
     reader: &mut CaptureReader<'_, S>,
+    more: &mut H,
     budget: usize,
     packets: &mut VecDeque<Packet>,
 ) -> (u32, RoundEnd)
@@ -45,7 +48,6 @@ pub(crate) fn read_records<S: Source>(
     requires link { (place_of reader.old).link ≡ Ethernet }
     requires empty { hold.old.items ≡ [] }
     requires capacity { 131 ≤ deque_capacity hold.old }
-    requires home { home pool.old ≡ pool.old.made }
     requires made { pool.old.made ≤ 65536 }
     requires none { packets.old.items ≡ [] }
     requires reserved { budget ≤ deque_capacity packets.old }
@@ -60,7 +62,8 @@ pub(crate) fn read_records<S: Source>(
     ensures captured { AllByRecursion IsCaptured (map packet_of packets.new.items) }
     ensures numbers { NumberedFrom (place_of reader.old).number packets.new.items }
     ensures need { result.0 ≡ round_need (map packet_of packets.new.items) }
-    ensures home { home pool.new + result.0 ≡ pool.old.made }
+    ensures sum { home pool.new + result.0 + H.brought more.old ≡ home pool.old + H.brought more.new }
+    ensures within { result.0 ≤ pool.old.made }
     ensures made { pool.new.made ≡ pool.old.made }
     ensures taken { min (pool.old.taken + result.0) (2 ^ 64 - 1) ≤ pool.new.taken }
     ensures most { pool.new.taken ≤ pool.old.taken + pool.old.made }
@@ -71,6 +74,9 @@ pub(crate) fn read_records<S: Source>(
 {
     let mut used = 0;
     'reading: while packets.len() < budget {
+        if !is_ready(pool, more, used) {
+            return (used, RoundEnd::NoMemory);
+        }
         let packet = match read_record(alloc, pool, hold, reader, &mut [], used) {
             Ok(packet) => packet,
             Err(stop) => return (used, end_of(stop)),

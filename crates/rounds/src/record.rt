@@ -1,5 +1,5 @@
 //! Reads one record of a capture into blocks.
-ghost use Rattle.std.specs.Prelude.{◌≡◌, ◌+◌, ◌-◌, ◌≤◌, ◌^◌, [], false, min, length, IfOk, OnOk, OnErr, Err};
+ghost use Rattle.std.specs.Prelude.{◌≡◌, ◌⊎◌, ◌+◌, ◌-◌, ◌≤◌, ◌^◌, [], false, min, length, IfOk, OnOk, OnErr, Err};
 ghost use Rattle.std.specs.VecDeque.{deque_capacity};
 ghost use Rattle.block_pool.specs.PoolState.{home};
 ghost use Rattle.skb.specs.SkbState.{buffer_bytes};
@@ -63,7 +63,7 @@ fn read_packet<S: Source>(
     requires body { (place_of reader.old).body ≡ head.now.captured }
     requires empty { hold.old.items ≡ [] }
     requires capacity { 131 ≤ deque_capacity hold.old }
-    requires home { home pool.old + used ≡ pool.old.made }
+    requires home { (need_of len ≤ home pool.old) × (home pool.old ≤ pool.old.made) }
     requires room { used + need_of len ≤ pool.old.made }
     requires made { pool.old.made ≤ 65536 }
     ensures same_source { SameLoan reader.old reader.new }
@@ -121,7 +121,8 @@ pub(crate) fn read_placed<S: Source>(
     requires front { length front.old ≡ front_size (place_of reader.old).link }
     requires empty { hold.old.items ≡ [] }
     requires capacity { 131 ≤ deque_capacity hold.old }
-    requires home { home pool.old + used ≡ pool.old.made }
+    requires home { (131 ≤ home pool.old) ⊎ (pool.old.made ≤ home pool.old + used) }
+    requires few { used ≤ pool.old.made }
     requires made { pool.old.made ≤ 65536 }
     ensures same_source { SameLoan reader.old reader.new }
     ensures given { Told (S.left (source_of reader.old)) (S.left (source_of reader.new)) (GivesRecord used pool.old.made (place_of reader.old) (place_of reader.new) front.new (record_in result)) }
@@ -136,9 +137,10 @@ pub(crate) fn read_placed<S: Source>(
     ensures captured { IfOk result (λ r. (place_of reader.old).link ≡ Ethernet → IsCaptured (packet_of r.0)) }
     ensures need { IfOk result (λ r. count_of r.0 ≡ need_of (length (buffer_bytes r.0.skb))) }
     ensures home { IfOk result (λ r. home pool.new + count_of r.0 ≡ home pool.old) }
+    ensures fits { IfOk result (λ r. used + count_of r.0 ≤ pool.old.made) }
     ensures taken { IfOk result (λ r. pool.new.taken ≡ min (pool.old.taken + count_of r.0) (2 ^ 64 - 1)) }
     ensures back { OnErr result (home pool.new ≡ home pool.old) }
-    ensures most { OnErr result (pool.new.taken ≤ pool.old.taken + home pool.old) }
+    ensures most { OnErr result (pool.new.taken + used ≤ pool.old.taken + pool.old.made) }
     ensures least { pool.old.taken ≤ pool.new.taken }
     ensures made { pool.new.made ≡ pool.old.made }
     ensures empty { hold.new.items ≡ [] }
@@ -147,6 +149,7 @@ pub(crate) fn read_placed<S: Source>(
     ensures failed { result ≡ Err Stop.ReadFault → Rose (S.faults (source_of reader.old)) (S.faults (source_of reader.new)) }
 {
     let _ = pool.taken();
+    let _ = pool.home();
     let found = match reader.next_head() {
         Ok(found) => found,
         Err(fault) => return Err(stop_of(fault)),
@@ -178,7 +181,8 @@ pub(crate) fn read_record<S: Source>(
     requires front { length front.old ≡ front_size (place_of reader.old).link }
     requires empty { hold.old.items ≡ [] }
     requires capacity { 131 ≤ deque_capacity hold.old }
-    requires home { home pool.old + used ≡ pool.old.made }
+    requires home { (131 ≤ home pool.old) ⊎ (pool.old.made ≤ home pool.old + used) }
+    requires few { used ≤ pool.old.made }
     requires made { pool.old.made ≤ 65536 }
     ensures same_source { SameLoan reader.old reader.new }
     ensures given { Told (S.left (source_of reader.old)) (S.left (source_of reader.new)) (GivesRecord used pool.old.made (place_of reader.old) (place_of reader.new) front.new result) }
@@ -190,9 +194,10 @@ pub(crate) fn read_record<S: Source>(
     ensures captured { IfOk result (λ p. (place_of reader.old).link ≡ Ethernet → IsCaptured (packet_of p)) }
     ensures need { IfOk result (λ p. count_of p ≡ need_of (length (buffer_bytes p.skb))) }
     ensures home { IfOk result (λ p. home pool.new + count_of p ≡ home pool.old) }
+    ensures fits { IfOk result (λ p. used + count_of p ≤ pool.old.made) }
     ensures taken { IfOk result (λ p. pool.new.taken ≡ min (pool.old.taken + count_of p) (2 ^ 64 - 1)) }
     ensures back { OnErr result (home pool.new ≡ home pool.old) }
-    ensures most { OnErr result (pool.new.taken ≤ pool.old.taken + home pool.old) }
+    ensures most { OnErr result (pool.new.taken + used ≤ pool.old.taken + pool.old.made) }
     ensures least { pool.old.taken ≤ pool.new.taken }
     ensures made { pool.new.made ≡ pool.old.made }
     ensures empty { hold.new.items ≡ [] }

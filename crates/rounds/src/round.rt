@@ -30,6 +30,29 @@ impl Model for Round {
     ghost invariant = { λ r. IsFresh 0 r.blocks (of_packets r.packets.items) × AreRead r.packets.items × (counts_of r.packets.items ≡ r.blocks) × ((k : ℕ) × NumberedFrom k r.packets.items) };
 }
 
+impl Round {
+    /// Gives the round up outside its rounds: its blocks are freed. No memory is taken.
+    pub fn discard(self) {
+        let Round {
+            mut packets,
+            blocks: _,
+        } = self;
+        while let Some(packet) = packets.pop_front() {
+            let Packet {
+                skb,
+                spare1: _spare1,
+                spare2: _spare2,
+                sec: _,
+                frac: _,
+                original: _,
+                number: _,
+            } = packet;
+            skb.free();
+        }
+        packets.destroy_empty();
+    }
+}
+
 /// What the packets of a round come to. It must be spent: ended, by the rounds that worked it.
 pub struct Worked {
     // What merged in no lane: all of it where there is one queue and no tap, and no clone is kept.

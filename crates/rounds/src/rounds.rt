@@ -23,6 +23,7 @@ ghost use Rattle.rounds.specs.Reading.{GivesRound, PassesRound};
 ghost use Rattle.rounds.specs.RoundsState.{RoundsState};
 
 use crate::home::bring_round;
+use crate::homecoming::AllHome;
 use crate::memory::{MOST, close_places, open_places, room_for};
 use crate::reading::read_records;
 use crate::round::{Round, RoundEnd, RoundRead, Worked};
@@ -54,7 +55,7 @@ pub struct Rounds {
     pub(crate) packets: VecDeque<Packet>,
     pub(crate) items: Vec<Item>,
     pub(crate) table: RoundTable,
-    budget: u32,
+    pub(crate) budget: u32,
     pub(crate) plan: Plan,
     // Whether a clone of each packet is kept beside the work of a round.
     pub(crate) keep: bool,
@@ -220,6 +221,7 @@ impl Rounds {
             &mut self.pool,
             &mut self.hold,
             reader,
+            &mut AllHome,
             budget,
             &mut packets,
         );
@@ -319,8 +321,8 @@ pub(crate) fn no_lanes(alloc: Global) -> Lanes
     }
 }
 
-// A round of no records, for want of memory.
-fn no_round(alloc: Global) -> RoundRead
+/// A round of no records, for want of memory.
+pub(crate) fn no_round(alloc: Global) -> RoundRead
     ensures none { (result.round.packets ≡ []) × (result.round.blocks ≡ 0) }
     ensures end { result.end ≡ RoundEnd.NoMemory }
 {

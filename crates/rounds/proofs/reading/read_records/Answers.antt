@@ -8,7 +8,7 @@ use Rattle.gro.specs.Held.{packet_of, of_packets, counts_of}
 use Rattle.rounds.specs.Fresh.{AreRead, IsFresh, NumberedFrom}
 use Rattle.rounds.specs.Record.{GivesRecord}
 use Rattle.rounds.proofs.Coming.{counts_last}
-use Rattle.rounds.proofs.Rounding.{no_front, so_far_none, so_far_at, so_far_more, round_stop_given, need_last, read_last, captured_last}
+use Rattle.rounds.proofs.Rounding.{no_front, so_far_none, so_far_at, so_far_more, round_stop_given, round_unready, need_last, read_last, captured_last}
 use Rattle.rounds.proofs.Taking.{fresh_none, fresh_more, numbered_last}
 use Rattle.rounds.proofs.reading.read_records.Goals as goal
 
@@ -26,7 +26,8 @@ reading-init g c =
       numbers = subst (NumberedFrom place.number) (sym none) tt;
       count = ap counts_of none;
       need = sym (ap (λ (xs : List Packet). round_need (map packet_of xs)) none);
-      home = omega (arith, c.requires.home);
+      sum = omega arith;
+      within = omega arith;
       made = refl;
       taken = omega arith;
       most = omega arith;
@@ -41,14 +42,21 @@ returns-in-Err-clause-given g c =
     let l = c.reading in
     let i = l.invariant in
     let none = no_front c.read_record.new.front c.in-Err.ensures.front in
-    let bare = subst (λ (f : List ℕ). Told (g.S.Source.left l.reader.source.now) (g.S.Source.left c.read_record.new.reader.source.now) (GivesRecord l.used l.pool.made l.reader.place c.read_record.new.reader.place f (Err c.in-Err.stop))) none c.in-Err.ensures.given in
-    let told = subst (λ (k : ℕ). Told (g.S.Source.left l.reader.source.now) (g.S.Source.left c.read_record.new.reader.source.now) (GivesRecord l.used k l.reader.place c.read_record.new.reader.place [] (Err c.in-Err.stop))) i.made bare in
-    round_stop_given _ _ _ c.args.reader.now.place l.reader.place c.read_record.new.reader.place l.used c.args.pool.now.made l.packets.items c.in-Err.stop c.end_of.result (i.so_far.link ∙ c.requires.link) (omega (arith, i.home)) i.need c.end_of.ensures i.so_far.told told
+    let bare = subst (λ (f : List ℕ). Told (g.S.Source.left l.reader.source.now) (g.S.Source.left c.read_record.new.reader.source.now) (GivesRecord l.used c.is_ready.new.pool.made l.reader.place c.read_record.new.reader.place f (Err c.in-Err.stop))) none c.in-Err.ensures.given in
+    let made = c.is_ready.ensures.same.0 ∙ i.made in
+    let told = subst (λ (k : ℕ). Told (g.S.Source.left l.reader.source.now) (g.S.Source.left c.read_record.new.reader.source.now) (GivesRecord l.used k l.reader.place c.read_record.new.reader.place [] (Err c.in-Err.stop))) made bare in
+    round_stop_given _ _ _ c.args.reader.now.place l.reader.place c.read_record.new.reader.place l.used c.args.pool.now.made l.packets.items c.in-Err.stop c.end_of.result (i.so_far.link ∙ c.requires.link) i.within i.need c.end_of.ensures i.so_far.told told
+
+pub returns-then-not-is_ready-clause-given : goal.returns-then-not-is_ready-clause-given
+returns-then-not-is_ready-clause-given g c =
+    let l = c.reading in
+    round_unready _ _ c.args.reader.now.place l.reader.place c.args.pool.now.made l.packets.items l.invariant.so_far.told
 
 pub reading-preserved : goal.reading-preserved
 reading-preserved g c =
     let l = c.reading in
     let i = l.invariant in
+    let s = c.is_ready.ensures in
     let r = c.in-Ok.ensures in
     let p = c.in-Ok.packet in
     let ps = l.packets.items in
@@ -56,9 +64,9 @@ reading-preserved g c =
     let e : qs ≡ ps ++ p ∷ [] = c.push_back_reserved.ensures.items in
     let k = c.packet_blocks-used.ensures in
     let none = no_front c.read_record.new.front r.front in
-    let told = subst (λ (f : List ℕ). Told (g.S.Source.left l.reader.source.now) (g.S.Source.left c.read_record.new.reader.source.now) (GivesRecord l.used l.pool.made l.reader.place c.read_record.new.reader.place f (Ok p))) none r.given in
+    let told = subst (λ (f : List ℕ). Told (g.S.Source.left l.reader.source.now) (g.S.Source.left c.read_record.new.reader.source.now) (GivesRecord l.used c.is_ready.new.pool.made l.reader.place c.read_record.new.reader.place f (Ok p))) none r.given in
     record {
-      so_far = so_far_at _ _ c.args.reader.now.place c.read_record.new.reader.place (ps ++ p ∷ []) qs e (so_far_more _ _ _ c.args.reader.now.place l.reader.place c.read_record.new.reader.place l.used l.pool.made ps p i.so_far told r.next);
+      so_far = so_far_at _ _ c.args.reader.now.place c.read_record.new.reader.place (ps ++ p ∷ []) qs e (so_far_more _ _ _ c.args.reader.now.place l.reader.place c.read_record.new.reader.place l.used c.is_ready.new.pool.made ps p i.so_far told r.next);
       size = omega (arith, ap length e, length-append ps (p ∷ []), i.size, c.reading-test.true, c.len.ensures);
       reserved = omega (arith, i.reserved, c.push_back_reserved.ensures);
       fresh = subst (λ (xs : List Packet). IsFresh 0 (l.used + c.packet_blocks-used.result) (of_packets xs)) (sym e) (subst (λ (n : ℕ). IsFresh 0 (l.used + n) (of_packets (ps ++ p ∷ []))) (sym k) (fresh_more l.used _ ps p i.fresh r.fresh));
@@ -67,10 +75,11 @@ reading-preserved g c =
       numbers = subst (NumberedFrom c.args.reader.now.place.number) (sym e) (numbered_last c.args.reader.now.place.number ps p i.numbers (r.number ∙ i.so_far.number));
       count = omega (arith, ap counts_of e, counts_last ps p, i.count, k);
       need = omega (arith, ap (λ (xs : List Packet). round_need (map packet_of xs)) e, need_last ps p, i.need, k, r.need);
-      home = omega (arith, i.home, r.home, k);
-      made = omega (arith, i.made, r.made);
-      taken = omega (arith, i.taken, r.taken, k);
-      most = omega (arith, i.most, r.taken, k);
+      sum = omega (arith, i.sum, s.sum, r.home, k);
+      within = omega (arith, s.same.0, i.made, r.fits, k);
+      made = omega (arith, i.made, s.same.0, r.made);
+      taken = omega (arith, i.taken, s.same.1, r.taken, k);
+      most = omega (arith, i.most, s.same.1, r.taken, k);
       empty = r.empty;
       capacity = omega (arith, r.capacity, i.capacity);
       same = r.same_source ∙ i.same;

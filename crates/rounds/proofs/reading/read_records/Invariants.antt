@@ -20,7 +20,8 @@ invariant-reading g l = record {
   numbers : NumberedFrom l.initial.reader.place.number l.packets.items;
   count : counts_of l.packets.items ≡ l.used;
   need : l.used ≡ round_need (map packet_of l.packets.items);
-  home : home l.pool + l.used ≡ l.initial.pool.made;
+  sum : home l.pool + l.used + g.H.Homecoming.brought l.initial.more ≡ home l.initial.pool + g.H.Homecoming.brought l.more;
+  within : l.used ≤ l.initial.pool.made;
   made : l.pool.made ≡ l.initial.pool.made;
   taken : min (l.initial.pool.taken + l.used) (2 ^ 64 - 1) ≤ l.pool.taken;
   most : l.pool.taken ≤ l.initial.pool.taken + l.used;

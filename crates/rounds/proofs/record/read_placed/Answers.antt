@@ -9,7 +9,7 @@ use Rattle.rounds.proofs.record.read_placed.Goals as goal
 
 pub returns-in-Err-clause-given : goal.returns-in-Err-clause-given
 returns-in-Err-clause-given g c =
-    head_stop_given _ _ c.args.reader.now.place c.next_head.new.self.place c.args.used c.args.pool.now.made c.args.front.now c.in-Err.fault c.stop_of.result (omega (arith, c.requires.home)) c.stop_of.ensures c.in-Err.ensures.given
+    head_stop_given _ _ c.args.reader.now.place c.next_head.new.self.place c.args.used c.args.pool.now.made c.args.front.now c.in-Err.fault c.stop_of.result c.requires.few c.stop_of.ensures c.in-Err.ensures.given
 
 pub returns-in_default-clause-given : goal.returns-in_default-clause-given
 returns-in_default-clause-given g c =
