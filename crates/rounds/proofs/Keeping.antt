@@ -54,7 +54,7 @@ weigh_less v w (p ∷ ps) le h = (omega (arith, le, h.0), weigh_less v w ps le h
 pub after_none : (ps : List Held) → AreHeld ps → AreShared ps → WeighAtLeast full_weight ps → AreAfter 1 ps ps
 after_none ps held shared whole = record { same = refl; counts = refl; held = held; shared = shared; weigh = weigh_less (weight_after 1) full_weight ps (omega arith) whole }
 
-rise : (j k : ℕ) (ps : List Held) → j ≤ k → NumberedFrom k ps → RiseFrom j (map packet_of ps)
+pub rise : (j k : ℕ) (ps : List Held) → j ≤ k → NumberedFrom k ps → RiseFrom j (map packet_of ps)
 rise j k [] le h = tt
 rise j k (p ∷ ps) le h = (omega (arith, le, h.0), rise (p.number + 1) (k + 1) ps (omega (arith, h.0)) h.1)
 

@@ -424,7 +424,7 @@ is_short _ = true
 
 -- ---- a step
 
-fewer_by : (end : RoundEnd) (n m : ℕ) → is_short end ≡ true → ((end ≡ rounds.Full → ⊥) → (end ≡ rounds.NoMemory → ⊥) → n < m) → n < m
+pub fewer_by : (end : RoundEnd) (n m : ℕ) → is_short end ≡ true → ((end ≡ rounds.Full → ⊥) → (end ≡ rounds.NoMemory → ⊥) → n < m) → n < m
 fewer_by end n m short fewer = fewer (λ e. false≢true (sym (ap is_short e) ∙ short)) (λ e. false≢true (sym (ap is_short e) ∙ short))
 
 no_step : (X : Type 0) → ⊥ → X

@@ -48,18 +48,7 @@ pub(crate) fn bring_packet(
     ensures bare { IsBare out.new }
     ensures spare { out.old.spare ≤ out.new.spare + count_of packet }
 {
-    let Packet {
-        skb,
-        spare1,
-        spare2,
-        sec: _,
-        frac: _,
-        original: _,
-        number: _,
-    } = packet;
-    out.keep_sole(spare1);
-    out.keep_sole(spare2);
-    skb.release(out);
+    packet.release(out);
     sweep(pool, places, out);
 }
 

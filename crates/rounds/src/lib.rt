@@ -78,7 +78,6 @@ mod sides_tests;
 mod table;
 #[cfg(test)]
 mod tests;
-mod work;
 mod writing;
 
 pub use homecoming::{AllHome, Homecoming};

@@ -1,9 +1,8 @@
 //! Memory that is kept from round to round.
 ghost use Rattle.std.specs.Prelude.{◌≡◌, ◌≤◌, length, IfOk};
-ghost use Rattle.rounds.specs.Table.{AllOpen, IsBare};
+ghost use Rattle.rounds.specs.Table.{AllOpen};
 
 use crate::table::Place;
-use frags::Outcomes;
 use std::alloc::{AllocError, Global};
 
 /// The most blocks that a record needs.
@@ -33,19 +32,4 @@ pub(crate) fn close_places(places: Vec<Place>)
         }
     }
     places.destroy_empty();
-}
-
-/// Outcomes with room for `n`.
-pub(crate) fn room_for(alloc: Global, n: usize) -> Result<Outcomes, AllocError>
-    ensures bare { IfOk result (λ out. IsBare out) }
-    ensures room { IfOk result (λ out. n ≤ out.spare) }
-{
-    let mut out = Outcomes::new(alloc);
-    match out.reserve(n) {
-        Ok(()) => Ok(out),
-        Err(error) => {
-            out.settle();
-            Err(error)
-        }
-    }
 }

@@ -24,7 +24,7 @@ ghost use Rattle.rounds.specs.RoundsState.{RoundsState};
 
 use crate::home::bring_round;
 use crate::homecoming::AllHome;
-use crate::memory::{MOST, close_places, open_places, room_for};
+use crate::memory::{MOST, close_places, open_places};
 use crate::reading::read_records;
 use crate::round::{Round, RoundEnd, RoundRead, Worked};
 use crate::table::Place;
@@ -138,7 +138,7 @@ impl Rounds {
         let hold = VecDeque::with_capacity(alloc, MOST)?;
         let pool = Pool::make(alloc, blocks)?;
         let places = open_places(alloc, blocks)?;
-        let out = match room_for(alloc, 2 * blocks as usize) {
+        let out = match Outcomes::with_room(alloc, 2 * blocks as usize) {
             Ok(out) => out,
             Err(error) => {
                 close_places(places);

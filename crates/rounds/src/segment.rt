@@ -10,7 +10,7 @@ ghost use Rattle.rounds.specs.Record.{GoesOn};
 ghost use Rattle.rounds.specs.Segmenting.{IsFaultOf, IsMovedOf, Moves, TakesOne};
 
 use crate::cut::{Refused, cut_record};
-use crate::memory::{MOST, close_places, open_places, room_for};
+use crate::memory::{MOST, close_places, open_places};
 use crate::record::{Stop, read_placed};
 use crate::table::Place;
 use block_pool::Pool;
@@ -125,7 +125,7 @@ impl SegmentRun {
         let hold = VecDeque::with_capacity(alloc, MOST)?;
         let pool = Pool::make(alloc, blocks)?;
         let places = open_places(alloc, blocks)?;
-        match room_for(alloc, blocks as usize + CUTS) {
+        match Outcomes::with_room(alloc, blocks as usize + CUTS) {
             Ok(out) => Ok(SegmentRun {
                 alloc,
                 pool,

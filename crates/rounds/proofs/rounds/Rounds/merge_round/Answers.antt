@@ -7,13 +7,24 @@ use Rattle.round_work.specs.Lanes.{counts_of_queues, of_lanes}
 use Rattle.rounds.specs.Lanes.{of_work}
 use Rattle.rounds.specs.Merging.{options_of}
 use Rattle.rounds.specs.RoundsState.{RoundState}
-use Rattle.rounds.proofs.Keeping.{round_work, small_alone}
+use Rattle.rounds.proofs.Keeping.{are_held, rise, round_work, small_alone}
 use Rattle.rounds.proofs.LaneCounts.{lanes_empty, no_clones, spent_none, work_empty}
 use Rattle.rounds.proofs.Lanes.{records_alone}
 use Rattle.rounds.proofs.Small.{items_small}
 use Rattle.rounds.proofs.Taking.{fresh_round}
-use Rattle.rounds.proofs.Working.{round_back}
+use Rattle.rounds.proofs.Working.{are_shared, blocks_within, round_back}
 use Rattle.rounds.proofs.rounds.Rounds.merge_round.Goals as goal
+
+pub merge_packets-merged-requires-clause-held : goal.merge_packets-merged-requires-clause-held
+merge_packets-merged-requires-clause-held g c = are_held c.round.inside.packets.items c.round.invariant.1
+
+pub merge_packets-merged-requires-clause-shared : goal.merge_packets-merged-requires-clause-shared
+merge_packets-merged-requires-clause-shared g c = are_shared c.round.inside.packets.items c.round.invariant.1
+
+pub merge_packets-merged-requires-clause-rising : goal.merge_packets-merged-requires-clause-rising
+merge_packets-merged-requires-clause-rising g c =
+    let n = c.round.invariant.3 in
+    rise 0 n.0 c.round.inside.packets.items (omega arith) n.1
 
 pub invariant_of-result : goal.invariant_of-result
 invariant_of-result g c =
@@ -24,7 +35,7 @@ invariant_of-result g c =
     let kept = c.new-kept.result.items in
     let no_kept = c.new-kept.ensures.items in (
       round_work r.blocks (of_packets r.packets.items) (of_items is) (of_lanes lanes) (of_clones kept) c.in-Ok.ensures.kept (lanes_empty lanes none) (no_clones kept no_kept) (fresh_round r.blocks (of_packets r.packets.items) c.round.invariant.0),
-      omega (arith, c.in-Ok.ensures.count, c.round.invariant.2, ap counts_of_queues none.0, ap blocks_of no_kept),
+      omega (arith, c.in-Ok.ensures.count, blocks_within is, c.round.invariant.2, ap counts_of_queues none.0, ap blocks_of no_kept),
       spent_none lanes.taps.items none.1,
       small_alone is lanes (items_small r.packets.items is c.round.invariant.1 c.in-Ok.ensures.merged) none,
     )
