@@ -1,7 +1,6 @@
 -- Rounds that are counted, and how checking ends.
 use Rattle.std.proofs.Common.{◌≡◌, ◌+◌, ◌-◌, ◌^◌, ◌*◌, ◌<◌, ◌≤◌, ◌⊎◌, inl, inr, ℕ, min, List, [], ◌∷◌, ◌++◌, Bool, true, false, Option, Some, None, refl, sym, ap, ◌∙◌, subst, length, length-append, map, arith, append_assoc, append-nil}
 use Rattle.std.specs.List.{AllByRecursion}
-use Rattle.std.proofs.lemmas.Bool.{false≢true}
 use Rattle.std.proofs.lemmas.List.{length-map}
 use Rattle.off_io.specs.Told.{Told}
 use Rattle.off_io.proofs.Telling.{Told-then, Told-same, Told-weaker}
@@ -31,11 +30,12 @@ use Rattle.check_totals.proofs.Bounds.{bounds_add, totals_are_few}
 use Rattle.check_totals.proofs.Summing.{added_assoc, added_none, lanes_stay}
 use Rattle.check_totals.proofs.Tallying.{totals_add_up, counting_goes_by_round}
 use Rattle.rounds.specs.Fresh.{NumberedFrom}
+use Rattle.rounds.specs.Merging.{TakesAll}
 use Rattle.rounds.specs.Reading.{GivesRound, Holds, Exceeds}
 use Rattle.rounds.specs.Record.{Passes as PassesRecords}
 use Rattle.rounds.specs.declared.round.RoundEnd.{RoundEnd}
 use Rattle.rounds.specs.declared.round.RoundEnd.TheVariants as rounds
-use Rattle.check_rounds.specs.Checking.{ending_of, CountsLast, Ahead, EndsBehind, Steps, TakesAll, AreOf}
+use Rattle.check_rounds.specs.Checking.{ending_of, CountsLast, Ahead, EndsBehind, Steps, AreOf}
 use Rattle.check_rounds.specs.declared.check.CheckEnd.{CheckEnd}
 use Rattle.check_rounds.specs.declared.check.CheckEnd.TheVariants as ends
 use Rattle.check_rounds.specs.declared.check.Step.{Step}
@@ -264,25 +264,6 @@ module _ (blocks : ℕ) (options : Options) (from to : Place) (round : List Held
         Told-weaker a b (GivesRound blocks from to round rounds.Full) (Ahead blocks options 1 from to c c1 t t1)
         (λ bytes left gives. full_goes t t1 bytes left full took sum gives)
         (subst (λ (e : RoundEnd). Told a b (GivesRound blocks from to round e)) is told)
-
--- as many blocks were taken as the last packets need
-pub done_taken : (blocks t t1 : ℕ) (from to : Place) (round : List Held) (a b : Option (List ℕ)) (end : RoundEnd) → end ≡ rounds.End → min (t + round_need (map packet_of round)) (2 ^ 64 - 1) ≤ t1
-    → Told a b (GivesRound blocks from to round end) → Told a b (TakesAll t t1 from)
-done_taken blocks t t1 from to round a b end is took told =
-    Told-weaker a b (GivesRound blocks from to round rounds.End) (TakesAll t t1 from)
-    (λ bytes left gives.
-    let n = ap (λ (f : Found). round_need f.packets) gives.0 ∙ ap round_need (append-nil (map packet_of round)) in
-    omega (arith, took, n))
-    (subst (λ (e : RoundEnd). Told a b (GivesRound blocks from to round e)) is told)
-
--- whether a round's end tells that it has fewer packets than it may have
-abbrev pub is_short : RoundEnd → Bool
-is_short rounds.Full = false
-is_short rounds.NoMemory = false
-is_short _ = true
-
-pub fewer_by : (end : RoundEnd) (n m : ℕ) → is_short end ≡ true → ((end ≡ rounds.Full → ⊥) → (end ≡ rounds.NoMemory → ⊥) → n < m) → n < m
-fewer_by end n m short fewer = fewer (λ e. false≢true (sym (ap is_short e) ∙ short)) (λ e. false≢true (sym (ap is_short e) ∙ short))
 
 -- a step of rounds that are as they were at first
 pub steps_as : (k blocks blocks0 : ℕ) (o o0 : Options) (from to : Place) (a b : Option (List ℕ)) (c c1 : Counts) (t t1 : ℕ) (step : Step) → blocks ≡ blocks0 → o ≡ o0

@@ -54,10 +54,6 @@ abbrev pub IfEnds : Step → (CheckEnd → Type 0) → Type 0
 IfEnds steps.Goes P = Unit {0}
 IfEnds (steps.Ends end) P = P end
 
--- as many blocks were taken as all packets need
-abbrev pub TakesAll : ℕ → ℕ → Place → List ℕ → List ℕ → Type 0
-TakesAll before now place bytes left = min (before + round_need (found_at place bytes).packets) (2 ^ 64 - 1) ≤ now
-
 -- the next round may be read, behind a full one
 pub record MovesOn (budget : ℕ) (old new : Place) : Type 0 where
   pub link : new.link ≡ old.link

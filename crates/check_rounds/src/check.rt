@@ -15,8 +15,8 @@ ghost use Rattle.check_totals.specs.Checking.{counting};
 ghost use Rattle.check_totals.specs.Tallies.{Tallies};
 ghost use Rattle.rounds.specs.Lanes.{IsKeptWorkOf};
 ghost use Rattle.rounds.specs.Fresh.{NumberedFrom};
-ghost use Rattle.rounds.specs.Merging.{options_of};
-ghost use Rattle.check_rounds.specs.Checking.{ending_of, AreOf, CountsLast, IfEnds, MovesOn, Steps, TakesAll};
+ghost use Rattle.rounds.specs.Merging.{options_of, TakesAll};
+ghost use Rattle.check_rounds.specs.Checking.{ending_of, AreOf, CountsLast, IfEnds, MovesOn, Steps};
 
 use check_totals::Totals;
 use off_io::{Gate, Source};

@@ -6,7 +6,8 @@ use Rattle.gro.specs.Held.{packet_of}
 use Rattle.check_totals.specs.Counts.{added, round_totals}
 use Rattle.check_rounds.specs.declared.check.CheckEnd.TheVariants as ends
 use Rattle.check_rounds.specs.Checking.{AreOf, CountsLast}
-use Rattle.check_rounds.proofs.Counting.{full_given, failed_given, end_given, malformed_given, fault_given, empty_given, memory_given, fewer_by, is_short, of_more}
+use Rattle.rounds.proofs.Merging.{fewer_by, is_short}
+use Rattle.check_rounds.proofs.Counting.{full_given, failed_given, end_given, malformed_given, fault_given, empty_given, memory_given, of_more}
 use Rattle.check_rounds.proofs.check.count_next.Goals as goal
 
 pub returns-in-Ok-clause-given : goal.returns-in-Ok-clause-given
