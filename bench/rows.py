@@ -232,7 +232,7 @@ def growth():
     """How the time of a packet grows with the records, the flows and the budget; what a run takes before its first record is taken off."""
     start = merges("no records", "no records")
     records = [merges(f"{part} of 16 parts", f"1,514 bytes, {part} of 16") for part in (1, 4, 16)]
-    flows = [merges(f"{flows} flows", f"{flows} flows by 8, 4 of 16") for flows in ("1", "16", "64", "256", "1,024", "4,096")]
+    flows = [merges(name, f"{name} by 8, 4 of 16") for name in ("1 flow", "16 flows", "64 flows", "256 flows", "1,024 flows", "4,096 flows")]
     blocks = ("--blocks", "16384")
     budgets = [merges(f"--budget {budget}", "1,514 bytes, 4 of 16", "--budget", str(budget), *blocks) for budget in (64, 16, 256, 1024, 4096)]
     return [
