@@ -1,5 +1,5 @@
-// For `fail-alloc`: loaded before the C library, it refuses the one growth of memory whose number, from 1, stands in REFUSE_AT, and makes
-// the file REFUSE_TOLD then. The growths of all threads are counted together, as they come.
+// For `fail-alloc`: loaded before the C library, it refuses the one growth of memory whose number, from 1, stands in REFUSE_AT, and writes
+// its size into the file REFUSE_TOLD then. The growths of all threads are counted together, as they come.
 #include <errno.h>
 #include <fcntl.h>
 #include <stdatomic.h>
@@ -21,20 +21,24 @@ __attribute__((constructor)) static void begin(void) {
   left = at ? atol(at) : -1;
 }
 
-static int is_refused(void) {
+static int is_refused(size_t size) {
   if (left <= 0 || atomic_fetch_sub(&left, 1) != 1) return 0;
-  if (told) close(open(told, O_CREAT | O_WRONLY, 0600));
+  if (told) {
+    int file = open(told, O_CREAT | O_WRONLY, 0600);
+    if (write(file, &size, sizeof size) < 0) abort();
+    close(file);
+  }
   errno = ENOMEM;
   return 1;
 }
 
-void *malloc(size_t size) { return is_refused() ? NULL : __libc_malloc(size); }
-void *calloc(size_t count, size_t size) { return is_refused() ? NULL : __libc_calloc(count, size); }
-void *realloc(void *old, size_t size) { return is_refused() ? NULL : __libc_realloc(old, size); }
-void *aligned_alloc(size_t align, size_t size) { return is_refused() ? NULL : __libc_memalign(align, size); }
+void *malloc(size_t size) { return is_refused(size) ? NULL : __libc_malloc(size); }
+void *calloc(size_t count, size_t size) { return is_refused(count * size) ? NULL : __libc_calloc(count, size); }
+void *realloc(void *old, size_t size) { return is_refused(size) ? NULL : __libc_realloc(old, size); }
+void *aligned_alloc(size_t align, size_t size) { return is_refused(size) ? NULL : __libc_memalign(align, size); }
 
 int posix_memalign(void **made, size_t align, size_t size) {
-  if (is_refused()) return ENOMEM;
+  if (is_refused(size)) return ENOMEM;
   *made = __libc_memalign(align, size);
   return *made ? 0 : ENOMEM;
 }
