@@ -49,6 +49,14 @@ impl Model for Intake {
 }
 
 impl Intake {
+    /// Blocks that were out come home before a round is read.
+    pub fn bring_in<H: Homecoming>(&mut self, more: &mut H)
+        ensures sum { self.new.home + H.brought more.old ≡ self.old.home + H.brought more.new }
+        ensures same { (self.new.blocks ≡ self.old.blocks) × (self.new.taken ≡ self.old.taken) × (self.new.budget ≡ self.old.budget) }
+    {
+        more.bring(&mut self.pool);
+    }
+
     /// As `read_round` of the rounds says it, while blocks come home. `NoMemory` also where fewer are home than a record may need
     /// and no more come. A round takes memory for its packets.
     pub fn read_round<S: Source, H: Homecoming>(
