@@ -1,7 +1,7 @@
 //! The lines that `check` writes.
 
 use crate::Status;
-use crate::lanes::in_turn;
+use crate::lanes::{in_turn, pair};
 use crate::row_frames::{Frame, NEXT, PLAIN, capture_of};
 use crate::tests::{CAPTURE, run_line};
 use pcap_io::{CapFault, CapKind};
@@ -20,6 +20,10 @@ const NONE: &str =
 // By queues and taps, in two rounds.
 const LANES: &str =
     "queue 0: records 4 items 2 merged 2 returned 4\nqueue 1: records 4 items 2 merged 2 returned 4\ntap 0: windows 8 bytes 512\ntap 1: windows 8 bytes 512\ntotal: records 8 items 4 merged 4 returned 8\n";
+
+// Of a queue that no packet goes to, and of taps whose second windows are shorter.
+const IDLE: &str =
+    "queue 0: records 2 items 1 merged 1 returned 2\nqueue 1: records 0 items 0 merged 0 returned 0\ntap 0: windows 2 bytes 128\ntap 1: windows 2 bytes 72\ntotal: records 2 items 1 merged 1 returned 2\n";
 
 // Of a generated capture: a source that fails at its first call is never asked.
 const MADE: &str =
@@ -53,6 +57,7 @@ fn malformed(kind: CapKind, offset: u64, number: u64) -> Status {
 fn lines_by_row(rt: HostRuntime) -> Result<(), Fail> {
     let alloc = rt.alloc();
     let turns = in_turn(alloc, 8)?;
+    let pair = pair(alloc)?;
     let full = full_frames(alloc)?;
     let refused = malformed(CapKind::ShortHeader, 0, 0);
     let short = malformed(CapKind::ShortRecord, 98, 1);
@@ -62,9 +67,10 @@ fn lines_by_row(rt: HostRuntime) -> Result<(), Fail> {
         blocks: 3,
     };
     let lanes = "offload check --queues 2 --taps 2 --snap 64 --budget 4";
-    let rows: [(&str, &[u8], &[u64], Status, &str); 7] = [
+    let rows: [(&str, &[u8], &[u64], Status, &str); 8] = [
         ("offload check --count 5", &CAPTURE, &[], Status::Ok, BOTH),
         (lanes, &turns, &[], Status::Ok, LANES),
+        (lanes, &pair, &[], Status::Ok, IDLE),
         (
             "offload check --seed 0 --count 1",
             &CAPTURE,

@@ -4,6 +4,7 @@
 //! The numbers follow from the formats by hand: a file header of 24 bytes, a record header of 16, an offload header of 12.
 
 use crate::Status;
+use crate::lanes::{TWO_QUEUES, in_turn, written_of};
 use crate::rows::hash;
 use crate::tests::{CAPTURE, Ended, MERGED, SINGLES, refused, run_line};
 use pcap_io::CapKind;
@@ -308,6 +309,98 @@ fn each_call_of_segment_fails_in_turn(rt: HostRuntime) -> Result<(), Fail> {
         let wrong = first_wrong_write(&rt, rt.alloc(), whole, step, writes)?;
         assert_eq!(rt; wrong, None, "writes at step {step}");
         assert!(rt; ends_well(&rt, rt.alloc(), whole, step, reads, writes)?);
+    }
+    Ok(())
+}
+
+// How many calls of the sink are made by a run that is to end so while the sink takes all, if each of them that fails is answered
+// instead: by a write fault, with a front of the output. These reads fail.
+fn writes_answered_first(
+    rt: &(impl Threads + Sync),
+    alloc: Global,
+    whole: Whole,
+    step: usize,
+    reads: &[u64],
+    want: (Status, &'static str),
+) -> Result<Option<u64>, AllocError> {
+    let (status, line) = want;
+    for call in 0..1000 {
+        let ended = run_line(rt, alloc, whole.line, whole.input, step, reads, &[call])?;
+        if ended.status != Status::WriteFault {
+            let is_whole = is_as_wanted(&ended, (status, line, whole.output.len()), whole.output);
+            return Ok(if is_whole { Some(call) } else { None });
+        }
+        let is_told = ended.log.bytes() == b"write fault\n".as_slice();
+        if !is_told || !whole.output.starts_with(ended.sink.bytes()) {
+            return Ok(None);
+        }
+    }
+    Ok(None)
+}
+
+// The step, reads of record 1, and how many writes and flushes the file header and record 0 take.
+const CALLS_BEFORE: [(usize, &[u64], u64); 3] = [
+    (1, &[98, 114, 169], 111),
+    (7, &[16, 17, 18, 19, 20, 21, 22, 23, 24, 25, 26], 18),
+    (64, &[3, 4], 4),
+];
+
+// The source fails in record 1, or the capture ends there, and the sink fails as what lies before is written.
+#[test]
+fn the_sink_fails_before_record_1(rt: HostRuntime) -> Result<(), Fail> {
+    let read_fault = (Status::ReadFault, "read fault\n");
+    let line = "malformed: ShortRecord at 98 in record 1\n";
+    let short = (refused(CapKind::ShortRecord, 98, 1), line);
+    let output = &SINGLES[..110];
+    for line in [MERGE, "offload merge --budget 1 --blocks 12"] {
+        for (step, reads, writes) in CALLS_BEFORE {
+            let input = &CAPTURE[..160];
+            let whole = Whole {
+                line,
+                input,
+                output,
+            };
+            let first = writes_answered_first(&rt, rt.alloc(), whole, step, &[], short)?;
+            assert_eq!(rt; first, Some(writes), "{line} at step {step}");
+            let input = &CAPTURE;
+            let whole = Whole {
+                line,
+                input,
+                output,
+            };
+            for read in reads {
+                let first = writes_answered_first(
+                    &rt,
+                    rt.alloc(),
+                    whole,
+                    step,
+                    &[*read],
+                    read_fault,
+                )?;
+                assert_eq!(rt; first, Some(writes), "{line}, read {read} at step {step}");
+            }
+        }
+    }
+    Ok(())
+}
+
+// The same over two queues, where the packets before are a part of the first round, and of the second one.
+#[test]
+fn the_sink_fails_before_a_record_of_two_queues(rt: HostRuntime) -> Result<(), Fail> {
+    let alloc = rt.alloc();
+    let read_fault = (Status::ReadFault, "read fault\n");
+    let input = in_turn(alloc, 8)?;
+    for (packets, reads, writes) in [(1, 5..9, 6), (3, 13..17, 12), (6, 25..29, 22)] {
+        let output = written_of(&rt, alloc, packets)?;
+        let whole = Whole {
+            line: TWO_QUEUES,
+            input: &input,
+            output: &output,
+        };
+        for read in reads {
+            let first = writes_answered_first(&rt, alloc, whole, 64, &[read], read_fault)?;
+            assert_eq!(rt; first, Some(writes), "read {read}");
+        }
     }
     Ok(())
 }

@@ -10,7 +10,7 @@ use std::sync::atomic::{AtomicBool, AtomicU32, Ordering};
 use std::test::Fail;
 use std::thread::{Threads, yield_now};
 
-const TWO_QUEUES: &str = "offload merge --queues 2 --budget 4";
+pub const TWO_QUEUES: &str = "offload merge --queues 2 --budget 4";
 
 // A capture of the first packets of two flows in turn, of which the first one has queue 0 of two.
 pub fn in_turn(alloc: Global, count: u16) -> Result<Vec<u8>, AllocError> {
@@ -60,7 +60,7 @@ fn two_queues(rt: HostRuntime) -> Result<(), Fail> {
 }
 
 // What is written of the first packets, where no call fails.
-fn written_of(
+pub fn written_of(
     rt: &(impl Threads + Sync),
     alloc: Global,
     count: u16,
@@ -118,10 +118,8 @@ fn each_write_fails_over_two_queues(rt: HostRuntime) -> Result<(), Fail> {
     Ok(())
 }
 
-// Lane, number and captured length of each record: that of the merged packets, and two windows of each tap.
-#[test]
-fn two_taps(rt: HostRuntime) -> Result<(), Fail> {
-    let alloc = rt.alloc();
+// Two packets of 100 bytes, which are merged.
+pub fn pair(alloc: Global) -> Result<Vec<u8>, AllocError> {
     let first = Frame {
         payload: 46,
         ..PLAIN
@@ -131,7 +129,14 @@ fn two_taps(rt: HostRuntime) -> Result<(), Fail> {
         seq: 1046,
         ..NEXT
     };
-    let input = capture_of(alloc, &[first, second])?;
+    capture_of(alloc, &[first, second])
+}
+
+// Lane, number and captured length of each record: that of the merged packets, and two windows of each tap.
+#[test]
+fn two_taps(rt: HostRuntime) -> Result<(), Fail> {
+    let alloc = rt.alloc();
+    let input = pair(alloc)?;
     let line = "offload merge --taps 2 --snap 64";
     let ended = run_line(&rt, alloc, line, &input, 4096, &[], &[])?;
     assert_eq!(rt; ended.status, Status::Ok);

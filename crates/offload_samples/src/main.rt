@@ -20,6 +20,9 @@ use std::thread::Threads;
 
 const MOST_SEGMENTS: &str = "one_byte_segments.pcap";
 
+// With as many blocks as its frame needs, whatever the number of segments.
+const MOST_BLOCKS: &str = "segment --blocks 35";
+
 // Over all samples some 200 rounds, whose 72 lanes run at the same time.
 const MOST_LANES: &str = "merge --queues 64 --taps 8 --budget 14";
 
@@ -278,7 +281,7 @@ fn main(rt: HostRuntime) -> Result<(), Error> {
         show_lanes(&rt, name, &lanes)?;
     }
     let most = fs::read(&rt, MOST_SEGMENTS)?;
-    let segmented = run_over(&rt, alloc, "segment", &most)?;
+    let segmented = run_over(&rt, alloc, MOST_BLOCKS, &most)?;
     show_most_segments(&rt, &segmented)?;
     // A usage error, a capture that is cut one byte before its end, and one of the wrong link type.
     let sample = fs::read(&rt, SAMPLES[0])?;
