@@ -18,10 +18,11 @@ use crate::{Engine, Status};
 use off_io::{Gate, Sink, Source};
 use offload_words::{Command, WordsFault, parse_words};
 use std::alloc::Global;
+use std::sync::Wait;
 use std::thread::Threads;
 
 // Runs a command.
-fn run_command<R: Threads + Sync, S: Source, K: Sink, G: Gate + Sync>(
+fn run_command<R: Threads + Wait + Sync, S: Source + Send, K: Sink, G: Gate + Sync>(
     rt: &R,
     alloc: Global,
     command: Command,
@@ -52,7 +53,7 @@ fn run_command<R: Threads + Sync, S: Source, K: Sink, G: Gate + Sync>(
 }
 
 // Runs the command that the words ask for, without its line in the log.
-fn run_words<R: Threads + Sync, S: Source, K: Sink, G: Gate + Sync>(
+fn run_words<R: Threads + Wait + Sync, S: Source + Send, K: Sink, G: Gate + Sync>(
     rt: &R,
     alloc: Global,
     words: &[String],
@@ -101,7 +102,7 @@ fn run_words<R: Threads + Sync, S: Source, K: Sink, G: Gate + Sync>(
 ///
 /// At `Ok` of a command that reads, `engine` holds the blocks that this call made, all of them home, and its count of blocks
 /// taken is at least what the records need (clause `engine`). Else what it holds isn't said.
-pub fn run<R: Threads + Sync, S: Source + Send, K: Sink + Send, L: Sink, G: Gate + Sync>(
+pub fn run<R: Threads + Wait + Sync, S: Source + Send, K: Sink + Send, L: Sink, G: Gate + Sync>(
     rt: &R,
     alloc: Global,
     words: &[String],

@@ -9,6 +9,7 @@ use crate::rows::hash;
 use crate::tests::{CAPTURE, Ended, MERGED, SINGLES, refused, run_line};
 use pcap_io::CapKind;
 use std::alloc::{AllocError, Global};
+use std::sync::Wait;
 use std::test::Fail;
 use std::thread::Threads;
 
@@ -203,7 +204,7 @@ struct Whole<'a> {
 
 // The first read that fails and isn't answered by what is written then (`lens`, of the parts of `reads`).
 fn first_wrong_read(
-    rt: &(impl Threads + Sync),
+    rt: &(impl Threads + Wait + Sync),
     alloc: Global,
     whole: Whole,
     step: usize,
@@ -226,7 +227,7 @@ fn first_wrong_read(
 
 // The first write or flush that fails and isn't answered by a front of the output, the whole of it where the flush fails.
 fn first_wrong_write(
-    rt: &(impl Threads + Sync),
+    rt: &(impl Threads + Wait + Sync),
     alloc: Global,
     whole: Whole,
     step: usize,
@@ -252,7 +253,7 @@ fn first_wrong_write(
 
 // Whether a run ends well whose failing calls lie behind the last ones.
 fn ends_well(
-    rt: &(impl Threads + Sync),
+    rt: &(impl Threads + Wait + Sync),
     alloc: Global,
     whole: Whole,
     step: usize,
@@ -316,7 +317,7 @@ fn each_call_of_segment_fails_in_turn(rt: HostRuntime) -> Result<(), Fail> {
 // How many calls of the sink are made by a run that is to end so while the sink takes all, if each of them that fails is answered
 // instead: by a write fault, with a front of the output. These reads fail.
 fn writes_answered_first(
-    rt: &(impl Threads + Sync),
+    rt: &(impl Threads + Wait + Sync),
     alloc: Global,
     whole: Whole,
     step: usize,

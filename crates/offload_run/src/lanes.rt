@@ -6,6 +6,7 @@ use crate::rows::{Said, said_in};
 use crate::tests::{run_gated, run_line};
 use off_io::{Gate, Who};
 use std::alloc::{AllocError, Global};
+use std::sync::Wait;
 use std::sync::atomic::{AtomicBool, AtomicU32, Ordering};
 use std::test::Fail;
 use std::thread::{Threads, yield_now};
@@ -61,7 +62,7 @@ fn two_queues(rt: HostRuntime) -> Result<(), Fail> {
 
 // What is written of the first packets, where no call fails.
 pub fn written_of(
-    rt: &(impl Threads + Sync),
+    rt: &(impl Threads + Wait + Sync),
     alloc: Global,
     count: u16,
 ) -> Result<Vec<u8>, AllocError> {

@@ -5,7 +5,7 @@
 //! flow come to, each behind an offload header of 12 bytes. The packets of a round go by their flows to `--queues` queues, and
 //! each of `--taps` taps reads a window of `--snap` bytes of every packet: queue by queue the records are written, and then tap
 //! by tap the windows. Workers and taps run at the same time, each in a thread of its own, but where there is one queue and no
-//! tap. `segment` cuts such a capture back into the packets that its records stand for. `check` merges as `merge` does, compares
+//! tap, and where there is a second processor the next rounds are read beside them. `segment` cuts such a capture back into the packets that its records stand for. `check` merges as `merge` does, compares
 //! what each round comes to with its packets, and writes lines of how many came back, at the end; with `--seed` it checks a
 //! generated capture, and nothing is read. Records are read into `--blocks` blocks of 2048 bytes, and all of these are home after
 //! each round. The log gets one line on each status but a good one.
@@ -25,6 +25,8 @@
 //! ```
 #![tactic(auto)]
 
+#[cfg(test)]
+mod beside;
 #[cfg(test)]
 mod blocks;
 mod check;

@@ -19,8 +19,10 @@ use crate::{Engine, Status};
 use off_io::{Gate, Sink, Source, WriteFault};
 use offload_words::MergeOptions;
 use pcap_io::{CaptureReader, FileHead, Link, take_file, write_file_head};
+use round_pipeline::merge_beside;
 use rounds::{MergeEnd, Rounds};
 use std::alloc::{AllocError, Global};
+use std::sync::Wait;
 use std::thread::Threads;
 
 // The status that merging ends with over this many blocks.
@@ -48,8 +50,9 @@ fn status_of(end: MergeEnd, blocks: u32) -> Status
 }
 
 // Merges the records behind a file header.
-fn merge_behind<R: Threads + Sync, S: Source, K: Sink, G: Gate + Sync>(
+fn merge_behind<R: Threads + Wait + Sync, S: Source + Send, K: Sink, G: Gate + Sync>(
     rt: &R,
+    alloc: Global,
     rounds: &mut Rounds,
     file: FileHead,
     source: &mut S,
@@ -69,7 +72,7 @@ fn merge_behind<R: Threads + Sync, S: Source, K: Sink, G: Gate + Sync>(
     ensures write { result ≡ MergeEnd.WriteFault → Rose (K.faults sink.old) (K.faults sink.new) }
 {
     let mut reader = CaptureReader::after_file(source, file, Link::Ethernet);
-    rounds.merge_all(rt, &mut reader, &file, sink, gate)
+    merge_beside(rt, alloc, rounds, &mut reader, &file, sink, gate)
 }
 
 // The pool, and memory for rounds of these options. To be checked, rounds keep a clone of each packet.
@@ -92,7 +95,7 @@ pub(crate) fn make_rounds(
 }
 
 // Makes the pool, and merges the records behind a file header.
-fn merge_records<R: Threads + Sync, S: Source, K: Sink, G: Gate + Sync>(
+fn merge_records<R: Threads + Wait + Sync, S: Source + Send, K: Sink, G: Gate + Sync>(
     rt: &R,
     alloc: Global,
     options: MergeOptions,
@@ -119,13 +122,13 @@ fn merge_records<R: Threads + Sync, S: Source, K: Sink, G: Gate + Sync>(
         Ok(rounds) => rounds,
         Err(_) => return Status::NoMemory,
     };
-    let end = merge_behind(rt, &mut rounds, file, source, sink, gate);
+    let end = merge_behind(rt, alloc, &mut rounds, file, source, sink, gate);
     *engine = Some(Engine::Merge(rounds));
     status_of(end, options.blocks)
 }
 
 // Merges a whole capture of Ethernet frames. Where its file header is refused no block is made.
-pub(crate) fn run_merge<R: Threads + Sync, S: Source, K: Sink, G: Gate + Sync>(
+pub(crate) fn run_merge<R: Threads + Wait + Sync, S: Source + Send, K: Sink, G: Gate + Sync>(
     rt: &R,
     alloc: Global,
     options: MergeOptions,

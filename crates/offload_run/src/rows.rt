@@ -7,6 +7,7 @@ use crate::row_frames::{FILE_HEADER, Frame, NEXT, PLAIN, PURE_ACK, Sum, capture_
 use crate::{Status, run};
 use off_io::{MemSink, MemSource, NoGate};
 use std::alloc::{AllocError, Global};
+use std::sync::Wait;
 use std::test::Fail;
 use std::thread::Threads;
 
@@ -60,7 +61,7 @@ pub fn hash(bytes: &[u8]) -> u32 {
 
 // What `merge` writes of the frames.
 fn merged(
-    rt: &(impl Threads + Sync),
+    rt: &(impl Threads + Wait + Sync),
     alloc: Global,
     frames: &[Frame],
 ) -> Result<(Status, Vec<u8>), AllocError> {
@@ -69,7 +70,7 @@ fn merged(
 }
 
 fn merged_capture(
-    rt: &(impl Threads + Sync),
+    rt: &(impl Threads + Wait + Sync),
     alloc: Global,
     capture: Vec<u8>,
 ) -> Result<(Status, Vec<u8>), AllocError> {

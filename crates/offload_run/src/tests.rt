@@ -8,6 +8,7 @@ use crate::{Engine, Status, run};
 use off_io::{Gate, MemSink, MemSource, NoGate};
 use pcap_io::{CapFault, CapKind};
 use std::alloc::{AllocError, Global};
+use std::sync::Wait;
 use std::test::Fail;
 use std::thread::Threads;
 
@@ -125,7 +126,7 @@ const THREE_SINGLES: [u8; 277] = [
 ];
 
 // The words of a line, one space between two of them.
-fn words(alloc: Global, line: &str) -> Result<Vec<String>, AllocError> {
+pub fn words(alloc: Global, line: &str) -> Result<Vec<String>, AllocError> {
     let mut words = Vec::new(alloc);
     for word in line.split(' ') {
         words.push(String::from_str(alloc, word)?)?;
@@ -144,7 +145,7 @@ pub struct Ended {
 
 // Runs a line of words, where each call takes at most `step` bytes and these calls fail.
 pub fn run_line(
-    rt: &(impl Threads + Sync),
+    rt: &(impl Threads + Wait + Sync),
     alloc: Global,
     line: &str,
     bytes: &[u8],
@@ -165,7 +166,7 @@ pub fn run_line(
 }
 
 // The same, where tasks pass this gate.
-pub fn run_gated<R: Threads + Sync, G: Gate + Sync>(
+pub fn run_gated<R: Threads + Wait + Sync, G: Gate + Sync>(
     rt: &R,
     alloc: Global,
     line: &str,

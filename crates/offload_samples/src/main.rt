@@ -16,6 +16,7 @@ use offload_run::{Status, run};
 use pcap_io::{CaptureReader, FileHead, Link, take_file};
 use std::alloc::{AllocError, Global};
 use std::fs;
+use std::sync::Wait;
 use std::thread::Threads;
 
 const MOST_SEGMENTS: &str = "one_byte_segments.pcap";
@@ -182,7 +183,7 @@ struct Ended {
 
 // Runs a command, with its options, over these bytes.
 fn run_over(
-    rt: &(impl Threads + Sync),
+    rt: &(impl Threads + Wait + Sync),
     alloc: Global,
     command: &str,
     bytes: &[u8],

@@ -1,0 +1,3 @@
+pub mod Parcels
+pub mod Reads
+pub mod Works

@@ -1,0 +1,42 @@
+//! How the two sides wake each other, and how they know that there are two.
+use std::sync::atomic::{AtomicBool, Ordering};
+use std::thread;
+use std::thread::Parker;
+
+/// Each side sleeps by its own.
+#[derive(Drop)]
+pub(crate) struct Bells {
+    pub(crate) reader: Parker,
+    pub(crate) worker: Parker,
+    // Whoever sets it first decides: the side that reads, that it begins; the other one, that it won't.
+    begun: AtomicBool,
+}
+
+/// The times that the worker yields to a reader that hasn't begun: a third of a second, beyond any delay of a thread that was made.
+const PATIENCE: u32 = 1_000_000;
+
+impl Bells {
+    pub(crate) fn new() -> Bells {
+        Bells {
+            reader: Parker::new(),
+            worker: Parker::new(),
+            begun: AtomicBool::new(false),
+        }
+    }
+
+    /// Whether the reader may begin.
+    pub(crate) fn begin(&self) -> bool {
+        !self.begun.swap(true, Ordering::SeqCst)
+    }
+
+    /// Whether the reader has begun. Where it hasn't it never will: no thread could be made for it.
+    pub(crate) fn has_begun(&self) -> bool {
+        for _ in 0..PATIENCE {
+            if self.begun.load(Ordering::SeqCst) {
+                return true;
+            }
+            thread::yield_now();
+        }
+        self.begun.swap(true, Ordering::SeqCst)
+    }
+}

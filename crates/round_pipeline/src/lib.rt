@@ -1,0 +1,38 @@
+//! Merges a capture by two threads: one reads the next rounds while the other works and writes.
+//!
+//! ```text
+//!   reads ── Parcel: a round, its end, an empty shelf ──> works, writes
+//!     ^                                                        │
+//!     └────── Token: the shelf, with the round's blocks ───────┘
+//! ```
+//!
+//! The side that reads owns the pool and takes from it alone. What a round's work leaves comes home on the side that works, onto a shelf:
+//! a pool without blocks of its own. The shelf goes back in a token, and its blocks into the pool. There are three shelves, so reading is at
+//! most three rounds ahead. Before a record is read, where fewer than 131 blocks are home (no record needs more) while some are out, the
+//! side that reads waits for a token; so no record is left half read, and a round exceeds the blocks just where it does in one thread.
+//!
+//! Proved: [`merge_beside`] has the clauses of `Rounds::merge_all`, word for word, whatever both threads do at the same time. What was sent
+//! by a ring and what was received are known once the threads have joined; the side that reads says of its rounds what they are
+//! (`specs/Reads.antt`), the side that works says what was written of them wherever they come from (`specs/Works.antt`), and both together
+//! say what the model says. All blocks are home whatever the ending, also those of rounds that were read and that nobody worked.
+//!
+//! Not proved: that waiting ends. The side that works waits only where it has sent a token for each parcel that it received, and the side that
+//! reads only while a shelf is away and the other side hasn't stopped; so never both. Each push into a ring is followed by the bell of who may
+//! wait for it, whose ring isn't lost while nobody sleeps, and whoever wakes tries again. Where no thread can be made for the side that
+//! reads, the other one gives up after a third of a second, and does all alone. Nor is it proved in the reading thread that all blocks
+//! are in its pool once all tokens are back: if they weren't, merging would end as for want of memory.
+//!
+//! ```
+//! let end = merge_beside(&rt, alloc, &mut rounds, &mut reader, &file, &mut sink, &gate);
+//! ```
+#![tactic(auto)]
+
+mod bells;
+mod desk;
+mod gather;
+mod merge;
+mod parcel;
+mod ring;
+mod sides;
+
+pub use merge::merge_beside;

@@ -1,0 +1,243 @@
+//! The side that reads and the side that works.
+ghost use Rattle.std.specs.Prelude.{◌≡◌, ◌+◌, ◌-◌, ◌≤◌, None, true, [], IfSome, MatchOption};
+ghost use Rattle.block_pool.specs.PoolState.{home};
+ghost use Rattle.off_io.specs.Content.{SaysFlushed};
+ghost use Rattle.off_io.specs.Faults.{Rose};
+ghost use Rattle.offload_model.specs.Passing.{flushes};
+ghost use Rattle.pcap_io.specs.declared.heads.Link.TheVariants.{Ethernet};
+ghost use Rattle.pcap_io.specs.Places.{IsReady};
+ghost use Rattle.pcap_io.specs.Readers.{place_of, source_of, SameLoan};
+ghost use Rattle.rounds.specs.Merging.{ending_of, options_of};
+ghost use Rattle.rtrb.specs.Ring.{sent, received, SameProducer, SameConsumer};
+ghost use Rattle.round_pipeline.specs.Parcels.{blocks_of, homes_of, shelved, is_full as is_full_end};
+ghost use Rattle.round_pipeline.specs.Reads.{spot, Reads};
+ghost use Rattle.round_pipeline.specs.Works.{WroteLast};
+
+use crate::bells::Bells;
+use crate::desk::{Post, Supply};
+use crate::parcel::{Fits, Naming, Parcel, Token};
+use crate::ring::{receive, send};
+use block_pool::Pool;
+use off_io::{Gate, Sink, Source};
+use pcap_io::{CaptureReader, FileHead};
+use rounds::{MergeEnd, RoundEnd, RoundRead, Rounds, Step};
+use rtrb::{Consumer, Producer};
+use std::alloc::Global;
+use std::sync::Wait;
+use std::thread::{Parker, Threads, join_mut};
+
+// Whether another round may follow.
+fn is_full(end: RoundEnd) -> bool
+    ensures { result ≡ is_full_end end }
+{
+    match end {
+        RoundEnd::Full => true,
+        _ => false,
+    }
+}
+
+// Sends each round that it reads, as long as there are shelves.
+fn read_side<N: Naming, R: Wait, W: Post + Drop, S: Source>(
+    rt: &R,
+    reader: &mut CaptureReader<'_, S>,
+    supply: &mut Supply<W, N>,
+)
+    requires ready { IsReady (place_of reader.old) }
+    requires link { (place_of reader.old).link ≡ Ethernet }
+    requires named { (supply.old.intake.blocks ≡ N.blocks) × (W.blocks ≡ N.blocks) }
+    requires none { sent supply.old.out ≡ [] }
+    ensures ring { SameProducer supply.old.out supply.new.out }
+    ensures same_source { SameLoan reader.old reader.new }
+    ensures read { Reads supply.old.intake.blocks supply.old.intake.budget (spot (place_of reader.old) (S.left (source_of reader.old)) (S.faults (source_of reader.old)) supply.old.intake.taken) (sent supply.new.out) (spot (place_of reader.new) (S.left (source_of reader.new)) (S.faults (source_of reader.new)) supply.new.intake.taken) }
+    ensures sum { supply.new.intake.home + blocks_of (sent supply.new.out) + (homes_of (received supply.old.desk.tokens) - shelved supply.old.desk.shelves.items) ≡ supply.old.intake.home + (homes_of (received supply.new.desk.tokens) - shelved supply.new.desk.shelves.items) }
+    ensures same { (supply.new.intake.blocks ≡ supply.old.intake.blocks) × (supply.new.intake.budget ≡ supply.old.intake.budget) }
+    ensures later { S.faults (source_of reader.old) ≤ S.faults (source_of reader.new) }
+{
+    if !supply.desk.begin() {
+        return;
+    }
+    let mut number = 1;
+    for _ in rt.forever() {
+        supply.intake.bring_in(&mut supply.desk);
+        if supply.desk.has_stopped() {
+            return;
+        }
+        let Some(shelf) = supply.desk.pick() else {
+            send(rt, &mut supply.out, None);
+            supply.desk.wake();
+            return;
+        };
+        let RoundRead { round, end } = supply.intake.read_round(reader, &mut supply.desk);
+        let parcel = Parcel {
+            number,
+            round,
+            end,
+            shelf,
+        };
+        send(rt, &mut supply.out, Some(parcel));
+        supply.desk.wake();
+        if !is_full(end) {
+            return;
+        }
+        number += 1;
+    }
+    unreachable!()
+}
+
+// What came home goes to the other side by a shelf, in whose place `shelf` stays. False where there was no memory: then it stays
+// here, and no more rounds are wanted.
+fn send_home<R: Wait>(
+    rt: &R,
+    rounds: &mut Rounds,
+    shelf: Pool,
+    told: &mut Producer<Token>,
+    bell: &Parker,
+) -> bool
+    requires shelf { (home shelf ≡ 0) × (shelf.made ≡ rounds.old.blocks) }
+    ensures ring { SameProducer told.old told.new }
+    ensures sum { homes_of (sent told.new) + rounds.new.home ≡ homes_of (sent told.old) + rounds.old.home }
+    ensures bare { result ≡ true → rounds.new.home ≡ 0 }
+    ensures same { (rounds.new.blocks ≡ rounds.old.blocks) × (options_of rounds.new ≡ options_of rounds.old) × (rounds.new.keep ≡ rounds.old.keep) }
+{
+    match rounds.hand_home(shelf) {
+        Ok(full) => {
+            send(
+                rt,
+                told,
+                Token {
+                    shelf: full,
+                    goes: true,
+                },
+            );
+            bell.unpark();
+            true
+        }
+        Err(refused) => {
+            let (back, _) = refused;
+            send(
+                rt,
+                told,
+                Token {
+                    shelf: back,
+                    goes: false,
+                },
+            );
+            bell.unpark();
+            false
+        }
+    }
+}
+
+// Works and writes each round that comes, and sends its blocks back. `None` where no reader has begun.
+fn work_side<N: Naming, R: Threads + Wait + Sync, K: Sink, G: Gate + Sync>(
+    rt: &R,
+    rounds: &mut Rounds,
+    file: &FileHead,
+    sink: &mut K,
+    gate: &G,
+    from: &mut Consumer<Option<Parcel>, Global, Fits<N>>,
+    told: &mut Producer<Token>,
+    bells: &Bells,
+) -> Option<MergeEnd>
+    requires named { rounds.old.blocks ≡ N.blocks }
+    requires bare { rounds.old.home ≡ 0 }
+    requires none { (received from.old ≡ []) × (sent told.old ≡ []) }
+    ensures rings { SameConsumer from.old from.new × SameProducer told.old told.new }
+    ensures wrote { MatchOption result ((received from.new ≡ []) × (K.held sink.new ≡ K.held sink.old)) (λ end. WroteLast rounds.old.blocks (options_of rounds.old) file.now (K.held sink.old) (K.held sink.new) (received from.new) end) }
+    ensures each { homes_of (sent told.new) + rounds.new.home ≡ blocks_of (received from.new) }
+    ensures same { (rounds.new.blocks ≡ rounds.old.blocks) × (options_of rounds.new ≡ options_of rounds.old) × (rounds.new.keep ≡ rounds.old.keep) }
+    ensures flushed { IfSome result (λ end. flushes (ending_of end) ≡ true → SaysFlushed (K.held sink.new) (K.is_flushed sink.new) true) }
+    ensures later { K.faults sink.old ≤ K.faults sink.new }
+    ensures rose { IfSome result (λ end. end ≡ MergeEnd.WriteFault → Rose (K.faults sink.old) (K.faults sink.new)) }
+{
+    if !bells.has_begun() {
+        return None;
+    }
+    for _ in rt.forever() {
+        let Some(parcel) = receive(rt, from, &bells.worker) else {
+            return Some(MergeEnd::NoMemory);
+        };
+        let (number, read, shelf) = parcel.open();
+        match rounds.put_read(rt, read, file, sink, gate, number) {
+            Step::Ends(end) => {
+                send(rt, told, Token { shelf, goes: false });
+                bells.reader.unpark();
+                return Some(end);
+            }
+            Step::Goes => {}
+        }
+        if !send_home(rt, rounds, shelf, told, &bells.reader) {
+            return Some(MergeEnd::NoMemory);
+        }
+    }
+    unreachable!()
+}
+
+/// Both sides at once, the one that reads in a thread of its own.
+pub(crate) fn run_sides<
+    'a,
+    N: Naming + Send,
+    R: Threads + Wait + Sync,
+    W: Post + Send + Drop,
+    S: Source + Send,
+    K: Sink,
+    G: Gate + Sync,
+>(
+    rt: &'a R,
+    rounds: &'a mut Rounds,
+    reader: &'a mut CaptureReader<'_, S>,
+    file: &'a FileHead,
+    sink: &'a mut K,
+    gate: &'a G,
+    supply: &'a mut Supply<W, N>,
+    from: &'a mut Consumer<Option<Parcel>, Global, Fits<N>>,
+    told: &'a mut Producer<Token>,
+    bells: &'a Bells,
+) -> Option<MergeEnd>
+    requires ready { IsReady (place_of reader.old) }
+    requires link { (place_of reader.old).link ≡ Ethernet }
+    requires named { (supply.old.intake.blocks ≡ N.blocks) × (rounds.old.blocks ≡ N.blocks) × (W.blocks ≡ N.blocks) }
+    requires bare { rounds.old.home ≡ 0 }
+    requires none { (sent supply.old.out ≡ []) × (received from.old ≡ []) × (sent told.old ≡ []) }
+    ensures rings { SameProducer supply.old.out supply.new.out × SameConsumer from.old from.new × SameProducer told.old told.new }
+    ensures same_source { SameLoan reader.old reader.new }
+    ensures read { Reads supply.old.intake.blocks supply.old.intake.budget (spot (place_of reader.old) (S.left (source_of reader.old)) (S.faults (source_of reader.old)) supply.old.intake.taken) (sent supply.new.out) (spot (place_of reader.new) (S.left (source_of reader.new)) (S.faults (source_of reader.new)) supply.new.intake.taken) }
+    ensures sum { supply.new.intake.home + blocks_of (sent supply.new.out) + (homes_of (received supply.old.desk.tokens) - shelved supply.old.desk.shelves.items) ≡ supply.old.intake.home + (homes_of (received supply.new.desk.tokens) - shelved supply.new.desk.shelves.items) }
+    ensures same_intake { (supply.new.intake.blocks ≡ supply.old.intake.blocks) × (supply.new.intake.budget ≡ supply.old.intake.budget) }
+    ensures later { S.faults (source_of reader.old) ≤ S.faults (source_of reader.new) }
+    ensures wrote { MatchOption result ((received from.new ≡ []) × (K.held sink.new ≡ K.held sink.old)) (λ end. WroteLast rounds.old.blocks (options_of rounds.old) file.now (K.held sink.old) (K.held sink.new) (received from.new) end) }
+    ensures each { homes_of (sent told.new) + rounds.new.home ≡ blocks_of (received from.new) }
+    ensures same { (rounds.new.blocks ≡ rounds.old.blocks) × (options_of rounds.new ≡ options_of rounds.old) × (rounds.new.keep ≡ rounds.old.keep) }
+    ensures flushed { IfSome result (λ end. flushes (ending_of end) ≡ true → SaysFlushed (K.held sink.new) (K.is_flushed sink.new) true) }
+    ensures later_sink { K.faults sink.old ≤ K.faults sink.new }
+    ensures rose { IfSome result (λ end. end ≡ MergeEnd.WriteFault → Rose (K.faults sink.old) (K.faults sink.new)) }
+{
+    let ((), end) = join_mut(
+        rt,
+        &mut ||
+            requires ready { IsReady (place_of reader.now) }
+            requires link { (place_of reader.now).link ≡ Ethernet }
+            requires named { (supply.now.intake.blocks ≡ N.blocks) × (W.blocks ≡ N.blocks) }
+            requires none { sent supply.now.out ≡ [] }
+            ensures ring { SameProducer supply.entry.now.out supply.exit.now.out }
+            ensures same_source { SameLoan reader.entry.now reader.exit.now }
+            ensures read { Reads supply.entry.now.intake.blocks supply.entry.now.intake.budget (spot (place_of reader.entry.now) (S.left (source_of reader.entry.now)) (S.faults (source_of reader.entry.now)) supply.entry.now.intake.taken) (sent supply.exit.now.out) (spot (place_of reader.exit.now) (S.left (source_of reader.exit.now)) (S.faults (source_of reader.exit.now)) supply.exit.now.intake.taken) }
+            ensures sum { supply.exit.now.intake.home + blocks_of (sent supply.exit.now.out) + (homes_of (received supply.entry.now.desk.tokens) - shelved supply.entry.now.desk.shelves.items) ≡ supply.entry.now.intake.home + (homes_of (received supply.exit.now.desk.tokens) - shelved supply.exit.now.desk.shelves.items) }
+            ensures same { (supply.exit.now.intake.blocks ≡ supply.entry.now.intake.blocks) × (supply.exit.now.intake.budget ≡ supply.entry.now.intake.budget) }
+            ensures later { S.faults (source_of reader.entry.now) ≤ S.faults (source_of reader.exit.now) }
+        { read_side(rt, reader, supply) },
+        &mut || -> Option<MergeEnd>
+            requires named { rounds.now.blocks ≡ N.blocks }
+            requires bare { rounds.now.home ≡ 0 }
+            requires none { (received from.now ≡ []) × (sent told.now ≡ []) }
+            ensures rings { SameConsumer from.entry.now from.exit.now × SameProducer told.entry.now told.exit.now }
+            ensures wrote { MatchOption result ((received from.exit.now ≡ []) × (K.held sink.exit.now ≡ K.held sink.entry.now)) (λ end. WroteLast rounds.entry.now.blocks (options_of rounds.entry.now) file.entry.now (K.held sink.entry.now) (K.held sink.exit.now) (received from.exit.now) end) }
+            ensures each { homes_of (sent told.exit.now) + rounds.exit.now.home ≡ blocks_of (received from.exit.now) }
+            ensures same { (rounds.exit.now.blocks ≡ rounds.entry.now.blocks) × (options_of rounds.exit.now ≡ options_of rounds.entry.now) × (rounds.exit.now.keep ≡ rounds.entry.now.keep) }
+            ensures flushed { IfSome result (λ end. flushes (ending_of end) ≡ true → SaysFlushed (K.held sink.exit.now) (K.is_flushed sink.exit.now) true) }
+            ensures later { K.faults sink.entry.now ≤ K.faults sink.exit.now }
+            ensures rose { IfSome result (λ end. end ≡ MergeEnd.WriteFault → Rose (K.faults sink.entry.now) (K.faults sink.exit.now)) }
+        { work_side(rt, rounds, file, sink, gate, from, told, bells) },
+    );
+    end
+}
