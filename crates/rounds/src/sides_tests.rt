@@ -83,6 +83,9 @@ fn in_turn<R: Threads + Sync>(
     let mut back = handed(&mut rounds, shelves.1)?;
     let last = intake.read_round(&mut reader, &mut back);
     let third = rounds.put_read(rt, last, &file, &mut sink, &NoGate, 2);
+    if rounds.home() + intake.home() > intake.blocks() {
+        return Err(Fail::from("no block is there twice"));
+    }
     rounds.join(intake);
     let written = sink.bytes().to_vec(alloc)?;
     Ok((
