@@ -128,7 +128,7 @@ fn the_next_round_is_read_beside(rt: HostRuntime) -> Result<(), Fail> {
     assert_eq!(rt; status, Status::Ok);
     // The file header takes a read, and the end of the capture.
     let of_a_record = whole.reads.load(Ordering::SeqCst).wrapping_sub(2) / 8;
-    assert_eq!(rt; of_a_record, 4);
+    assert_eq!(rt; of_a_record, 2);
     let gate = ahead(of_a_record);
     let status = watched(&rt, alloc, EACH_ALONE, &input, &gate)?;
     assert_eq!(rt; status, Status::Ok);
