@@ -82,7 +82,7 @@ impl Gate for Ahead {
     }
 }
 
-fn watched(
+fn run_watched(
     rt: &(impl Threads + Wait + Sync),
     alloc: Global,
     line: &str,
@@ -109,7 +109,7 @@ fn watched(
     ))
 }
 
-fn ahead(of_a_record: u32) -> Ahead {
+fn gate_for(of_a_record: u32) -> Ahead {
     Ahead {
         reads: AtomicU32::new(0),
         of_a_record,
@@ -123,14 +123,14 @@ fn ahead(of_a_record: u32) -> Ahead {
 fn the_next_round_is_read_beside(rt: HostRuntime) -> Result<(), Fail> {
     let alloc = rt.alloc();
     let input = in_turn(alloc, 8)?;
-    let whole = ahead(0);
-    let status = watched(&rt, alloc, "offload merge", &input, &whole)?;
+    let whole = gate_for(0);
+    let status = run_watched(&rt, alloc, "offload merge", &input, &whole)?;
     assert_eq!(rt; status, Status::Ok);
     // The file header takes a read, and the end of the capture.
     let of_a_record = whole.reads.load(Ordering::SeqCst).wrapping_sub(2) / 8;
     assert_eq!(rt; of_a_record, 2);
-    let gate = ahead(of_a_record);
-    let status = watched(&rt, alloc, EACH_ALONE, &input, &gate)?;
+    let gate = gate_for(of_a_record);
+    let status = run_watched(&rt, alloc, EACH_ALONE, &input, &gate)?;
     assert_eq!(rt; status, Status::Ok);
     let processors = match available_parallelism(&rt) {
         Ok(count) => count.get(),
