@@ -16,7 +16,7 @@ use Rattle.rounds.specs.declared.round.RoundEnd.TheVariants as ends
 use Rattle.rounds.specs.Reading.{GivesRound}
 use Rattle.round_pipeline.specs.declared.parcel.Parcel.{Parcel}
 use Rattle.round_pipeline.specs.declared.parcel.Token.{Token}
-use Rattle.round_pipeline.specs.Parcels.{RingName, IsOfRing, goes_on, blocks_of, homes_of}
+use Rattle.round_pipeline.specs.Parcels.{RingName, IsOfRing, goes_on, is_full, blocks_of, homes_of}
 use Rattle.round_pipeline.specs.Reads.{Spot, spot, ReadRound, ReadNext, Reads}
 
 -- ---- lists
@@ -123,3 +123,11 @@ pub read_as : (b b' n n' t t' : ℕ) (place : Place) (left : Option (List ℕ)) 
 read_as b b' n n' t t' place left faults to p eb en et r =
     subst (λ (x : ℕ). ReadRound x n (spot place left faults t) to p) eb
     (subst (λ (x : ℕ). ReadRound b' x (spot place left faults t) to p) en (subst (λ (x : ℕ). ReadRound b' n' (spot place left faults x) to p) et r))
+
+pub full_end : (end : RoundEnd) → is_full end ≡ true → end ≡ ends.Full
+full_end ends.Full e = refl
+full_end ends.End e = absurd (false≢true e)
+full_end (ends.Malformed fault) e = absurd (false≢true e)
+full_end ends.ReadFault e = absurd (false≢true e)
+full_end (ends.PoolEmpty need) e = absurd (false≢true e)
+full_end ends.NoMemory e = absurd (false≢true e)
