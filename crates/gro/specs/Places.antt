@@ -1,16 +1,12 @@
 -- The places that items need, made before anything moves.
 use Rattle.std.specs.Prelude.{ℕ, ◌≡◌, ◌≤◌, List, [], ◌∷◌, length}
 use Rattle.std.specs.List.{AllByRecursion}
-use Rattle.frags.specs.OutcomesState.{OutcomesState}
+use Rattle.frags.specs.OutcomesState.{OutcomesState, IsBare}
 use Rattle.gro.specs.declared.places.Places.{Places}
 use Rattle.gro.specs.declared.places.Places.TheVariants.{Alone, Several}
 use Rattle.gro.specs.declared.run.Run.{Run}
 use Rattle.gro.specs.Build.{pieces_in, free_in}
 use Rattle.gro.specs.Runs.{held_of}
-
--- nothing was given back into it
-abbrev pub IsBare : OutcomesState → Type 0
-IsBare out = (out.soles ≡ []) × (out.receipts ≡ [])
 
 abbrev pub AreBare : List OutcomesState → Type 0
 AreBare outs = AllByRecursion IsBare outs

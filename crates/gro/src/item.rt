@@ -6,7 +6,8 @@ ghost use Rattle.merge_rule.specs.Runs.{IsRunOf};
 ghost use Rattle.gro.specs.Build.{pieces_in, free_in};
 ghost use Rattle.gro.specs.Held.{packet_of, AreHeld};
 ghost use Rattle.gro.specs.Items.{item_of, IsItemOf, AreItemsOf};
-ghost use Rattle.gro.specs.Places.{IsBare, IsPlaceOf, ArePlacesOf};
+ghost use Rattle.frags.specs.OutcomesState.{IsBare};
+ghost use Rattle.gro.specs.Places.{IsPlaceOf, ArePlacesOf};
 ghost use Rattle.gro.specs.Runs.{IsRun, held_of, packets_of};
 
 use crate::Packet;

@@ -1,7 +1,8 @@
 //! The places that items need, made before anything moves.
 ghost use Rattle.std.specs.Prelude.{◌≡◌, ◌-◌, ◌*◌, ◌≤◌, [], IfOk, OnOk, OnErr};
 ghost use Rattle.std.specs.List.{AllByRecursion};
-ghost use Rattle.gro.specs.Places.{IsBare, AreBare, IsEmpty, AreEmpty, AreSeveral, IsPlaceOf, ArePlacesOf};
+ghost use Rattle.frags.specs.OutcomesState.{IsBare};
+ghost use Rattle.gro.specs.Places.{AreBare, IsEmpty, AreEmpty, AreSeveral, IsPlaceOf, ArePlacesOf};
 ghost use Rattle.gro.specs.Runs.{IsRun};
 
 use crate::run::Run;

@@ -2,7 +2,8 @@
 ghost use Rattle.std.specs.Prelude.{◌≡◌, [], OnOk, OnErr};
 ghost use Rattle.std.specs.List.{AllByRecursion};
 ghost use Rattle.gro.specs.Items.{AreItemsOf};
-ghost use Rattle.gro.specs.Places.{IsBare, AreBare};
+ghost use Rattle.frags.specs.OutcomesState.{IsBare};
+ghost use Rattle.gro.specs.Places.{AreBare};
 ghost use Rattle.gro.specs.Runs.{IsRun};
 
 use crate::item::{Item, build_all};

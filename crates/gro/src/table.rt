@@ -11,7 +11,7 @@ ghost use Rattle.offload_model.specs.Rounds.{runs_in};
 ghost use Rattle.gro.specs.declared.packet.Packet.{Packet as Held};
 ghost use Rattle.gro.specs.Held.{packet_of, of_packets, count_of, counts_of, AreShared, WeighAtLeast, IsHeld};
 ghost use Rattle.gro.specs.Items.{item_of};
-ghost use Rattle.gro.specs.Places.{IsBare};
+ghost use Rattle.frags.specs.OutcomesState.{IsBare};
 ghost use Rattle.gro.specs.Table.{TableState, no_table, Received, of_runs, counts_in, AreItemsFrom, counts_of_items, of_items, KeepsTable, AreReady, ItemsWeighAtLeast};
 
 use crate::Packet;

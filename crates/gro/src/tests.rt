@@ -1,7 +1,7 @@
 //! Runs of packets in buffers, by what they come to.
 ghost use Rattle.std.specs.Prelude.{◌≡◌, ◌+◌, ◌<◌, ◌≤◌, length};
 ghost use Rattle.gro.specs.Held.{IsHeld};
-ghost use Rattle.gro.specs.Places.{IsBare};
+ghost use Rattle.frags.specs.OutcomesState.{IsBare};
 ghost use Rattle.gro.specs.Runs.{IsRun};
 
 mod frames;

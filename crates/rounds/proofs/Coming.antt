@@ -4,7 +4,7 @@ use Rattle.ref_core.specs.WeightRule.{full_weight}
 use Rattle.raw_block.specs.Views.{Life}
 use Rattle.block_pool.specs.PoolState.{PoolState, home}
 use Rattle.frags.specs.Account.{Account, Tests, Keeps, both, of_outcomes, receipts_held, soles_home}
-use Rattle.frags.specs.OutcomesState.{OutcomesState}
+use Rattle.frags.specs.OutcomesState.{OutcomesState, IsBare}
 use Rattle.frags.specs.RoundAccount.{of_lives}
 use Rattle.gro.specs.declared.packet.Packet.{Packet}
 use Rattle.gro.specs.declared.item.Item.{Item}
@@ -13,7 +13,7 @@ use Rattle.gro.specs.Items.{of_item}
 use Rattle.gro.specs.Table.{of_items}
 use Rattle.rounds.specs.Held.{blocks_in, blocks_in_items}
 use Rattle.rounds.specs.Marks.{all, IsMarked, IsWhole, nothing}
-use Rattle.rounds.specs.Table.{place_at, place_held, place_home, place_missing, of_places, IsOwed, missing, AllOpen, AllHome, MayCome, Comes, IsBare}
+use Rattle.rounds.specs.Table.{place_at, place_held, place_home, place_missing, of_places, IsOwed, missing, AllOpen, AllHome, MayCome, Comes}
 use Rattle.rounds.specs.declared.table.Place.{Place}
 use Rattle.rounds.specs.declared.table.Place.TheVariants.{Open, Home, Owed}
 use Rattle.rounds.proofs.Places.{marked_at}

@@ -11,7 +11,7 @@ use Rattle.pcap_io.specs.Laws.{frame_length}
 use Rattle.pcap_io.specs.Lengths.{lengths_at}
 use Rattle.pcap_io.specs.Places.{IsReady, found_at}
 use Rattle.frags.specs.Account.{Account, Tests, of_outcomes, receipts_held, soles_home}
-use Rattle.frags.specs.OutcomesState.{OutcomesState}
+use Rattle.frags.specs.OutcomesState.{OutcomesState, IsBare}
 use Rattle.frags.specs.RoundAccount.{of_lives}
 use Rattle.skb.specs.SkbState.{buffer_bytes}
 use Rattle.offload_model.specs.Need.{need_of, needed, round_need}
@@ -20,7 +20,6 @@ use Rattle.gro.specs.declared.packet.Packet.{Packet as Held}
 use Rattle.gro.specs.Held.{packet_of}
 use Rattle.rounds.specs.Marks.{all, others, IsRound}
 use Rattle.rounds.specs.Fresh.{IsRead}
-use Rattle.rounds.specs.Table.{IsBare}
 use Rattle.rounds.specs.Record.{front_size, in_front, Passes, HoldsNone, judged_at, GivesRecord, GoesOn, NeedsMore}
 use Rattle.rounds.specs.Reading.{GivesRound, Holds, Exceeds, IsEndOf}
 use Rattle.rounds.specs.declared.record.Stop.{Stop}

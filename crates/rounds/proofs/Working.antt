@@ -1,7 +1,7 @@
 -- Packets that are merged.
 use Rattle.std.proofs.Common.{◌≡◌, ℕ, ◌≤◌, List, [], ◌∷◌, arith}
 use Rattle.frags.specs.Account.{Account, Tests, Keeps, both, of_outcomes}
-use Rattle.frags.specs.OutcomesState.{OutcomesState}
+use Rattle.frags.specs.OutcomesState.{OutcomesState, IsBare}
 use Rattle.gro.specs.declared.packet.Packet.{Packet}
 use Rattle.gro.specs.declared.item.Item.{Item}
 use Rattle.gro.specs.Held.{AreShared}
@@ -10,7 +10,6 @@ use Rattle.rounds.specs.Fresh.{AreRead}
 use Rattle.rounds.specs.Held.{blocks_in_items}
 use Rattle.frags.specs.RoundAccount.{of_lives}
 use Rattle.rounds.specs.Marks.{all, IsRound}
-use Rattle.rounds.specs.Table.{IsBare}
 use Rattle.rounds.proofs.Places.{marked_less}
 use Rattle.rounds.proofs.Rounding.{no_outcomes}
 

@@ -78,7 +78,3 @@ pub record Comes (x rest : Account) (pool : PoolState) (places : List Place) (po
   pub owed : AreOwed places'
   pub made : pool'.made ≡ pool.made
   pub taken : pool'.taken ≡ pool.taken
-
--- nothing is in it
-abbrev pub IsBare : OutcomesState → Type 0
-IsBare o = (o.soles ≡ []) × (o.receipts ≡ [])

@@ -14,7 +14,8 @@ ghost use Rattle.rounds.specs.Held.{blocks_in};
 ghost use Rattle.rounds.specs.Marks.{IsRound, nothing};
 ghost use Rattle.rounds.specs.Record.{record_of};
 ghost use Rattle.rounds.specs.Cutting.{AreLeft, TakesTurn, Writes, WritesRecord, original_by, packet_behind, packets_bytes, stamped, stamped_all};
-ghost use Rattle.rounds.specs.Table.{AllOpen, Comes, IsBare, MayCome};
+ghost use Rattle.frags.specs.OutcomesState.{IsBare};
+ghost use Rattle.rounds.specs.Table.{AllOpen, Comes, MayCome};
 
 use crate::home::bring_packet;
 use crate::table::{Place, reopen, sweep};

@@ -9,7 +9,8 @@ ghost use Rattle.gro.specs.Table.{of_items};
 ghost use Rattle.rounds.specs.Held.{blocks_in, blocks_in_items};
 ghost use Rattle.rounds.specs.Lanes.{of_work, count_of_work, AreSpent};
 ghost use Rattle.rounds.specs.Marks.{IsRound, nothing};
-ghost use Rattle.rounds.specs.Table.{AllOpen, Comes, IsBare, MayCome};
+ghost use Rattle.frags.specs.OutcomesState.{IsBare};
+ghost use Rattle.rounds.specs.Table.{AllOpen, Comes, MayCome};
 
 use crate::lane_home::{bring_kept, bring_lanes};
 use crate::table::{Place, reopen, sweep};

@@ -7,7 +7,8 @@ ghost use Rattle.round_work.specs.Lanes.{of_queue, of_queues, of_tap, of_taps, o
 ghost use Rattle.rounds.specs.Held.{blocks_in_items};
 ghost use Rattle.rounds.specs.Lanes.{AreSpent};
 ghost use Rattle.rounds.specs.Marks.{nothing};
-ghost use Rattle.rounds.specs.Table.{Comes, IsBare, MayCome};
+ghost use Rattle.frags.specs.OutcomesState.{IsBare};
+ghost use Rattle.rounds.specs.Table.{Comes, MayCome};
 
 use crate::home::{bring_buffer, bring_item, bring_packets};
 use crate::table::{Place, sweep};

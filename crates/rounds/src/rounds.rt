@@ -67,7 +67,8 @@ impl Model for Rounds {
     ghost use Rattle.block_pool.specs.PoolState.{home as home_of};
     ghost use Rattle.round_work.specs.Work.{IsPlan};
     ghost use Rattle.rounds.specs.RoundsState.{RoundsState};
-    ghost use Rattle.rounds.specs.Table.{AllOpen, IsBare};
+    ghost use Rattle.frags.specs.OutcomesState.{IsBare};
+    ghost use Rattle.rounds.specs.Table.{AllOpen};
 
     ghost Value = { RoundsState };
 

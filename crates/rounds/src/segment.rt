@@ -65,7 +65,8 @@ impl Model for SegmentRun {
     ghost use Rattle.std.specs.VecDeque.{deque_capacity};
     ghost use Rattle.block_pool.specs.PoolState.{home as home_of};
     ghost use Rattle.rounds.specs.RoundsState.{SegmentState};
-    ghost use Rattle.rounds.specs.Table.{AllOpen, IsBare};
+    ghost use Rattle.frags.specs.OutcomesState.{IsBare};
+    ghost use Rattle.rounds.specs.Table.{AllOpen};
 
     ghost Value = { SegmentState };
 

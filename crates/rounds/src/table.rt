@@ -4,7 +4,8 @@ ghost use Rattle.block_pool.specs.PoolState.{home};
 ghost use Rattle.frags.specs.Account.{both, of_sole, of_receipt, of_outcomes};
 ghost use Rattle.frags.specs.RoundAccount.{Settles};
 ghost use Rattle.rounds.specs.Marks.{IsMarked, nothing};
-ghost use Rattle.rounds.specs.Table.{place_at, place_missing, of_places, AreOwed, AllHome, AllOpen, missing, IsOfLife, Receives, MayCome, Comes, IsBare};
+ghost use Rattle.frags.specs.OutcomesState.{IsBare};
+ghost use Rattle.rounds.specs.Table.{place_at, place_missing, of_places, AreOwed, AllHome, AllOpen, missing, IsOfLife, Receives, MayCome, Comes};
 
 use block_pool::Pool;
 use core::mem::{replace, replace_with};

@@ -3,7 +3,8 @@ use Rattle.frags.specs.Account.{both, of_sole}
 use Rattle.skb.specs.SkbState.{is_sole}
 use Rattle.gso.specs.Cutting.{count_of, head_of, of_work}
 use Rattle.rounds.specs.Cutting.{AreLeft}
-use Rattle.rounds.specs.Table.{Comes, IsBare}
+use Rattle.frags.specs.OutcomesState.{IsBare}
+use Rattle.rounds.specs.Table.{Comes}
 use Rattle.rounds.proofs.Packets.{IsOwing, left_of}
 use Rattle.rounds.proofs.cut.write_all.Given as goal
 

@@ -1,6 +1,7 @@
 use Rattle.std.proofs.Common.{◌+◌, ◌≤◌, length}
 use Rattle.gro.specs.Held.{of_packets, counts_of}
-use Rattle.rounds.specs.Table.{Comes, IsBare}
+use Rattle.frags.specs.OutcomesState.{IsBare}
+use Rattle.rounds.specs.Table.{Comes}
 use Rattle.rounds.proofs.home.bring_packets.Given as goal
 
 abbrev pub invariant-loop-packet : goal.invariant-loop-packet

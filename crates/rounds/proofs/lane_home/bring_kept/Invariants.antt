@@ -1,7 +1,8 @@
 use Rattle.std.proofs.Common.{◌+◌, ◌≤◌, length}
 use Rattle.taps.specs.Clones.{of_clones}
 use Rattle.taps.specs.Clones.{blocks_of}
-use Rattle.rounds.specs.Table.{Comes, IsBare}
+use Rattle.frags.specs.OutcomesState.{IsBare}
+use Rattle.rounds.specs.Table.{Comes}
 use Rattle.rounds.proofs.lane_home.bring_kept.Given as goal
 
 abbrev pub invariant-loop-clone : goal.invariant-loop-clone

@@ -1,7 +1,8 @@
 use Rattle.std.proofs.Common.{◌+◌, ◌≤◌, length}
 use Rattle.gro.specs.Table.{of_items}
 use Rattle.rounds.specs.Held.{blocks_in_items}
-use Rattle.rounds.specs.Table.{Comes, IsBare}
+use Rattle.frags.specs.OutcomesState.{IsBare}
+use Rattle.rounds.specs.Table.{Comes}
 use Rattle.rounds.proofs.lane_home.bring_lane_items.Given as goal
 
 abbrev pub invariant-loop-item : goal.invariant-loop-item

@@ -1,7 +1,8 @@
 use Rattle.std.proofs.Common.{◌+◌, ◌≤◌, length}
 use Rattle.round_work.specs.Lanes.{of_queues}
 use Rattle.round_work.specs.Lanes.{counts_of_queues}
-use Rattle.rounds.specs.Table.{Comes, IsBare}
+use Rattle.frags.specs.OutcomesState.{IsBare}
+use Rattle.rounds.specs.Table.{Comes}
 use Rattle.rounds.proofs.lane_home.bring_queues.Given as goal
 
 abbrev pub invariant-loop-lane : goal.invariant-loop-lane
