@@ -3,14 +3,7 @@ ghost use Rattle.std.specs.Prelude.{◌≡◌, ◌<◌, ◌^◌, length};
 
 use crate::{Key, candidate, candidate_in, key, queue_of, shape};
 use inet_sum::Partial;
-
-/// Ethernet, IPv4, TCP, and four bytes.
-const PLAIN: [u8; 58] = [
-    0x02, 0x00, 0x00, 0x00, 0x00, 0x02, 0x02, 0x00, 0x00, 0x00, 0x00, 0x01, 0x08, 0x00, 0x45, 0x00,
-    0x00, 0x2c, 0x00, 0x64, 0x40, 0x00, 0x40, 0x06, 0x26, 0x66, 0x0a, 0x00, 0x00, 0x01, 0x0a, 0x00,
-    0x00, 0x02, 0x9c, 0x40, 0x13, 0x89, 0x00, 0x00, 0x03, 0xe8, 0x00, 0x00, 0x00, 0x01, 0x50, 0x10,
-    0x01, 0x00, 0x22, 0x55, 0x00, 0x00, 0x61, 0x62, 0x63, 0x64,
-];
+use worked_captures::{FIRST, SECOND};
 
 /// The same without payload.
 const EMPTY: [u8; 54] = [
@@ -18,14 +11,6 @@ const EMPTY: [u8; 54] = [
     0x00, 0x28, 0x00, 0x64, 0x40, 0x00, 0x40, 0x06, 0x26, 0x6a, 0x0a, 0x00, 0x00, 0x01, 0x0a, 0x00,
     0x00, 0x02, 0x9c, 0x40, 0x13, 0x89, 0x00, 0x00, 0x03, 0xe8, 0x00, 0x00, 0x00, 0x01, 0x50, 0x10,
     0x01, 0x00, 0xe7, 0x1f, 0x00, 0x00,
-];
-
-/// The segment that follows it, with PSH and two bytes.
-const NEXT: [u8; 56] = [
-    0x02, 0x00, 0x00, 0x00, 0x00, 0x02, 0x02, 0x00, 0x00, 0x00, 0x00, 0x01, 0x08, 0x00, 0x45, 0x00,
-    0x00, 0x2a, 0x00, 0x65, 0x40, 0x00, 0x40, 0x06, 0x26, 0x67, 0x0a, 0x00, 0x00, 0x01, 0x0a, 0x00,
-    0x00, 0x02, 0x9c, 0x40, 0x13, 0x89, 0x00, 0x00, 0x03, 0xec, 0x00, 0x00, 0x00, 0x01, 0x50, 0x18,
-    0x01, 0x00, 0x81, 0xab, 0x00, 0x00, 0x65, 0x66,
 ];
 
 /// Two tags, IPv6, VXLAN, two tags, IPv6, TCP with 40 bytes of options, and three bytes: 200 bytes of headers.
@@ -57,7 +42,7 @@ const UNSUMMED: [u8; 113] = [
     0x6f,
 ];
 
-/// The key of PLAIN and NEXT; its bytes add to 416.
+/// The key of FIRST and SECOND; its bytes add to 416.
 const FLOW: [u8; 26] = [
     0x02, 0x00, 0x00, 0x00, 0x00, 0x02, 0x02, 0x00, 0x00, 0x00, 0x00, 0x01, 0x04, 0x0a, 0x00, 0x00,
     0x01, 0x0a, 0x00, 0x00, 0x02, 0x06, 0x9c, 0x40, 0x13, 0x89,
@@ -96,24 +81,24 @@ fn is_candidate(frame: &[u8]) -> bool
 
 #[test]
 fn a_worked_segment(rt: HostRuntime) {
-    let Some(layout) = shape(&PLAIN) else {
+    let Some(layout) = shape(&FIRST) else {
         panic!(rt; "no shape");
     };
     assert_eq!(rt; layout.payload_at(), 54);
     assert_eq!(rt; layout.headers().len(), 3);
-    for frame in [PLAIN.as_slice(), NEXT.as_slice()] {
+    for frame in [FIRST.as_slice(), SECOND.as_slice()] {
         let flow = key(frame);
         assert_eq!(rt; flow.bytes(), Some(FLOW.as_slice()));
         assert_eq!(rt; queue_of(&flow, 2), 0);
         assert!(rt; is_candidate(frame));
     }
-    let mut other = PLAIN;
+    let mut other = FIRST;
     change(&mut other, &[(35, 0x41)]);
     assert_eq!(rt; queue_of(&key(&other), 2), 1);
-    assert!(rt; key(&PLAIN) == key(&NEXT));
-    assert!(rt; key(&PLAIN) != key(&other));
+    assert!(rt; key(&FIRST) == key(&SECOND));
+    assert!(rt; key(&FIRST) != key(&other));
     assert!(rt; Key::other() == Key::other());
-    assert!(rt; key(&PLAIN) != Key::other());
+    assert!(rt; key(&FIRST) != Key::other());
 }
 
 #[test]
@@ -209,7 +194,7 @@ fn segments_that_are_no_candidates(rt: HostRuntime) {
         ),
     ];
     for (what, edits) in cases {
-        let mut frame = PLAIN;
+        let mut frame = FIRST;
         change(&mut frame, &edits);
         assert!(rt; shape(&frame).is_some(), "{what}");
         assert!(rt; !is_candidate(&frame), "{what}");
@@ -227,7 +212,7 @@ fn segments_that_are_no_candidates(rt: HostRuntime) {
         ),
     ];
     for (what, edits) in cases {
-        let mut frame = PLAIN;
+        let mut frame = FIRST;
         change(&mut frame, &edits);
         assert!(rt; is_candidate(&frame), "{what}");
     }
@@ -248,7 +233,7 @@ fn frames_that_have_no_shape(rt: HostRuntime) {
         ("a data offset beyond the end", 46, 0x70),
     ];
     for (what, at, byte) in cases {
-        let mut frame = PLAIN;
+        let mut frame = FIRST;
         change(&mut frame, &[(at, byte)]);
         assert!(rt; shape(&frame).is_none(), "{what}");
         assert!(rt; key(&frame).bytes().is_none(), "{what}");

@@ -7,7 +7,7 @@ mod frames;
 use cutting::{Given, buffer, counted, cut, digest, header, home_of, merged};
 use frags::{Outcomes, PieceBuilder};
 use frames::{
-    NESTED_500, PLAIN, PLAIN_2194, PLAIN_65495, PLAIN_SEGMENTS, TAGGED_500, TUNNEL, TUNNEL_SEGMENTS,
+    NESTED_500, PLAIN_2194, PLAIN_65495, PLAIN_SEGMENTS, TAGGED_500, TUNNEL, TUNNEL_SEGMENTS,
 };
 use pcap_io::OffHead;
 use raw_block::{FULL, Released, Sole};
@@ -15,6 +15,7 @@ use skb::{Returned, Skb};
 use std::alloc::Global;
 use std::process::Abort;
 use std::test::Fail;
+use worked_captures::MERGED;
 
 // Whether all frames were given, and so many blocks came home.
 fn is_whole(given: &Given, frames: usize, blocks: usize) -> bool {
@@ -24,7 +25,7 @@ fn is_whole(given: &Given, frames: usize, blocks: usize) -> bool {
 #[test]
 fn worked_records_are_cut(rt: HostRuntime) -> Result<(), Fail> {
     let alloc = rt.alloc();
-    let plain = buffer(&rt, alloc, &PLAIN, 60, 1);
+    let plain = buffer(&rt, alloc, &MERGED, 60, 1);
     let given = cut(&rt, alloc, &merged(2, 4, 0), plain, 72).expect(&rt, "lawful");
     assert_eq!(rt; given.bytes.as_slice(), PLAIN_SEGMENTS.as_slice());
     assert!(rt; is_whole(&given, 2, 3));
@@ -52,13 +53,13 @@ fn each_kind_is_cut(rt: HostRuntime) -> Result<(), Fail> {
     for (kind, n, m, modes, lane, frames, size, second) in TAKEN {
         let mut head = header(kind, n, m, modes);
         head.lane = lane;
-        let skb = buffer(&rt, alloc, &PLAIN, 60, 1);
+        let skb = buffer(&rt, alloc, &MERGED, 60, 1);
         let given = cut(&rt, alloc, &head, skb, 72).expect(&rt, "lawful");
         assert!(rt; is_whole(&given, frames, 1 + frames));
         let bytes = given.bytes.as_slice();
         assert_eq!(rt; bytes.len(), size);
         if frames == 1 {
-            assert_eq!(rt; bytes, PLAIN.as_slice());
+            assert_eq!(rt; bytes, MERGED.as_slice());
         }
         if frames == 2 && bytes.len() == 114 && m <= 5 {
             let at = 54 + usize::from(m);
@@ -105,7 +106,7 @@ fn hostile_records_are_refused(rt: HostRuntime) -> Result<(), Fail> {
             lane,
             number: 0,
         };
-        let mut frame = PLAIN;
+        let mut frame = MERGED;
         if place < 60 {
             frame[place] ^= bits;
         }
@@ -168,7 +169,7 @@ fn frames_whose_headers_lie_in_pieces_are_cut_once_pulled_up(rt: HostRuntime) ->
     let alloc = rt.alloc();
     let mut out = Outcomes::new(alloc);
     assert!(rt; out.reserve(40).is_ok());
-    let mut plain = buffer(&rt, alloc, &PLAIN, 0, 7);
+    let mut plain = buffer(&rt, alloc, &MERGED, 0, 7);
     pull_headers(&rt, alloc, &mut plain, &mut out);
     let given = cut(&rt, alloc, &merged(2, 4, 0), plain, 72).expect(&rt, "lawful");
     assert_eq!(rt; given.bytes.as_slice(), PLAIN_SEGMENTS.as_slice());

@@ -4,17 +4,7 @@ use crate::{
     offload_segment_bound,
 };
 use std::test::Fail;
-
-// One merged record of two TCP segments, little-endian microseconds.
-const MERGED: [u8; 112] = [
-    0xd4, 0xc3, 0xb2, 0xa1, 0x02, 0x00, 0x04, 0x00, 0x00, 0x00, 0x00, 0x00, 0x00, 0x00, 0x00, 0x00,
-    0x0c, 0x00, 0x04, 0x00, 0x93, 0x00, 0x00, 0x00, 0x01, 0x00, 0x00, 0x00, 0x00, 0x00, 0x00, 0x00,
-    0x48, 0x00, 0x00, 0x00, 0x48, 0x00, 0x00, 0x00, 0x01, 0x01, 0x00, 0x02, 0x00, 0x04, 0x00, 0x00,
-    0x00, 0x00, 0x00, 0x00, 0x02, 0x00, 0x00, 0x00, 0x00, 0x02, 0x02, 0x00, 0x00, 0x00, 0x00, 0x01,
-    0x08, 0x00, 0x45, 0x00, 0x00, 0x2e, 0x00, 0x64, 0x40, 0x00, 0x40, 0x06, 0x26, 0x64, 0x0a, 0x00,
-    0x00, 0x01, 0x0a, 0x00, 0x00, 0x02, 0x9c, 0x40, 0x13, 0x89, 0x00, 0x00, 0x03, 0xe8, 0x00, 0x00,
-    0x00, 0x01, 0x50, 0x18, 0x01, 0x00, 0xbc, 0xe4, 0x00, 0x00, 0x61, 0x62, 0x63, 0x64, 0x65, 0x66,
-];
+use worked_captures::MERGED_CAPTURE;
 
 // Rounds of so many records over so many blocks, in one queue, with no tap.
 fn plain(budget: u32, blocks: u32) -> MergeOptions {
@@ -31,7 +21,7 @@ fn plain(budget: u32, blocks: u32) -> MergeOptions {
 fn a_record_is_cut_and_merged_again(rt: HostRuntime) -> Result<(), Fail> {
     let mut packets = [0x55; 180];
     let mut count = 0;
-    let cut = offload_segment(rt.alloc(), 3, &MERGED, &mut packets, &mut count);
+    let cut = offload_segment(rt.alloc(), 3, &MERGED_CAPTURE, &mut packets, &mut count);
     assert_eq!(rt; (cut, count), (0, 170));
     assert_eq!(rt; &packets[169..172], [0x66, 0x55, 0x55].as_slice());
     let mut merged = [0; 112];
@@ -43,7 +33,7 @@ fn a_record_is_cut_and_merged_again(rt: HostRuntime) -> Result<(), Fail> {
         &mut count,
     );
     assert_eq!(rt; (code, count), (0, 112));
-    assert_eq!(rt; merged.as_slice(), MERGED.as_slice());
+    assert_eq!(rt; merged.as_slice(), MERGED_CAPTURE.as_slice());
     Ok(())
 }
 
@@ -52,26 +42,41 @@ fn each_other_answer(rt: HostRuntime) -> Result<(), Fail> {
     let alloc = rt.alloc();
     let mut output = [0x55; 200];
     let mut count = 0;
-    let usage = offload_segment(alloc, 65537, &MERGED, &mut output, &mut count);
+    let usage = offload_segment(alloc, 65537, &MERGED_CAPTURE, &mut output, &mut count);
     assert_eq!(rt; (usage, count), (2, 0));
-    let malformed = offload_segment(alloc, 3, &MERGED[..111], &mut output, &mut count);
+    let malformed = offload_segment(alloc, 3, &MERGED_CAPTURE[..111], &mut output, &mut count);
     assert_eq!(rt; (malformed, count), (3, 24));
-    let empty = offload_segment(alloc, 2, &MERGED, &mut output, &mut count);
+    let empty = offload_segment(alloc, 2, &MERGED_CAPTURE, &mut output, &mut count);
     assert_eq!(rt; (empty, count), (4, 24));
     let mut brief = [0x55; 169];
-    let short = offload_segment(alloc, 3, &MERGED, &mut brief, &mut count);
+    let short = offload_segment(alloc, 3, &MERGED_CAPTURE, &mut brief, &mut count);
     assert_eq!(rt; (short, count), (9, 170));
     assert_eq!(rt; brief.as_slice(), [0x55; 169].as_slice());
     assert_eq!(rt;
-        offload_merge(alloc, &plain(4097, 6), &MERGED, &mut output, &mut count),
+        offload_merge(
+            alloc,
+            &plain(4097, 6),
+            &MERGED_CAPTURE,
+            &mut output,
+            &mut count
+        ),
         2
     );
     assert_eq!(rt;
-        offload_merge(alloc, &plain(64, 6), &MERGED, &mut output, &mut count),
+        offload_merge(
+            alloc,
+            &plain(64, 6),
+            &MERGED_CAPTURE,
+            &mut output,
+            &mut count
+        ),
         3
     );
     assert_eq!(rt;
-        (offload_queue(&MERGED, 8), offload_queue(&MERGED, 0)),
+        (
+            offload_queue(&MERGED_CAPTURE, 8),
+            offload_queue(&MERGED_CAPTURE, 0)
+        ),
         (0, 0)
     );
     Ok(())
@@ -81,7 +86,7 @@ fn each_other_answer(rt: HostRuntime) -> Result<(), Fail> {
 #[test]
 fn a_bound_that_is_reached(rt: HostRuntime) -> Result<(), Fail> {
     let mut capture = [0; 40];
-    capture[..24].copy_from_slice(&MERGED[..24]);
+    capture[..24].copy_from_slice(&MERGED_CAPTURE[..24]);
     capture[20] = 1;
     let bound = offload_merge_bound(40, usize::MAX, 0, 64);
     assert_eq!(rt; (bound, offload_merge_bound(1000, 2, 0, 64)), (52, 1024));
@@ -109,7 +114,7 @@ fn taps_write_windows(rt: HostRuntime) -> Result<(), Fail> {
     let mut packets = [0; 170];
     let mut count = 0;
     assert_eq!(rt;
-        offload_segment(alloc, 3, &MERGED, &mut packets, &mut count),
+        offload_segment(alloc, 3, &MERGED_CAPTURE, &mut packets, &mut count),
         0
     );
     let options = MergeOptions {

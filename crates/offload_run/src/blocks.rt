@@ -1,10 +1,11 @@
 //! Pools that just suffice, and pools with a block too few.
 
-use crate::row_frames::{FILE_HEADER, Frame, PLAIN, capture_of};
+use crate::row_frames::{Frame, PLAIN, capture_of};
 use crate::rows::SEGMENT;
 use crate::tests::run_line;
 use crate::{Engine, Status};
 use std::test::Fail;
+use worked_captures::FILE_HEADER;
 
 // The frames that follow the first one of 1,514 bytes.
 const NEXT: [Frame; 3] = [

@@ -6,12 +6,13 @@
 use crate::Status;
 use crate::lanes::{TWO_QUEUES, in_turn, written_of};
 use crate::rows::hash;
-use crate::tests::{CAPTURE, Ended, MERGED, SINGLES, refused, run_line};
+use crate::tests::{CAPTURE, Ended, SINGLES, refused, run_line};
 use pcap_io::CapKind;
 use std::alloc::{AllocError, Global};
 use std::sync::Wait;
 use std::test::Fail;
 use std::thread::Threads;
+use worked_captures::MERGED_CAPTURE;
 
 // With blocks enough for four short frames.
 const MERGE: &str = "offload merge --blocks 12";
@@ -72,7 +73,15 @@ fn captures_cut_at_each_place(rt: HostRuntime) -> Result<(), Fail> {
     }
     let packets = packets();
     for len in 0..113 {
-        let ended = run_line(&rt, rt.alloc(), SEGMENT, &MERGED[..len], 64, &[], &[])?;
+        let ended = run_line(
+            &rt,
+            rt.alloc(),
+            SEGMENT,
+            &MERGED_CAPTURE[..len],
+            64,
+            &[],
+            &[],
+        )?;
         let want = want_of_cut(len, 112, 170);
         assert!(rt;
             is_as_wanted(&ended, want, &packets),
@@ -114,7 +123,7 @@ const TAKEN: [([u8; 8], usize, u32); 6] = [
 ];
 
 fn with_head(head: [u8; 8]) -> [u8; 112] {
-    let mut bytes = MERGED;
+    let mut bytes = MERGED_CAPTURE;
     bytes[40..48].copy_from_slice(&head);
     bytes
 }
@@ -161,7 +170,7 @@ fn lengths_and_sums_edited_by_hand(rt: HostRuntime) -> Result<(), Fail> {
         (34, 4, 32, 13, too_long),
     ];
     for (a, first, b, second, want) in rows {
-        let mut input = MERGED;
+        let mut input = MERGED_CAPTURE;
         if a < 112 {
             input[a] = first;
         }
@@ -300,7 +309,7 @@ fn each_call_of_segment_fails_in_turn(rt: HostRuntime) -> Result<(), Fail> {
     let packets = packets();
     let whole = Whole {
         line: SEGMENT,
-        input: &MERGED,
+        input: &MERGED_CAPTURE,
         output: &packets,
     };
     for (step, reads, writes) in SEGMENT_CALLS {

@@ -1,6 +1,7 @@
 //! Frames that a row decides, and captures of them, built byte by byte with sums of their own.
 
 use std::alloc::{AllocError, Global};
+use worked_captures::FILE_HEADER;
 
 // What of a frame its row decides.
 #[derive(Clone, Copy)]
@@ -237,8 +238,3 @@ pub fn capture_of(alloc: Global, frames: &[Frame]) -> Result<Vec<u8>, AllocError
     }
     Ok(bytes)
 }
-
-// A capture of Ethernet frames, little-endian, in microseconds.
-pub const FILE_HEADER: [u8; 24] = [
-    0xd4, 0xc3, 0xb2, 0xa1, 2, 0, 4, 0, 0, 0, 0, 0, 0, 0, 0, 0, 0, 0, 4, 0, 1, 0, 0, 0,
-];

@@ -3,13 +3,14 @@
 //!
 //! The numbers were worked out by hand, and the hashes are those of `contrib/merge_by_definition`.
 
-use crate::row_frames::{FILE_HEADER, Frame, NEXT, PLAIN, PURE_ACK, Sum, capture_of, push32};
+use crate::row_frames::{Frame, NEXT, PLAIN, PURE_ACK, Sum, capture_of, push32};
 use crate::{Status, run};
 use off_io::{MemSink, MemSource, NoGate};
 use std::alloc::{AllocError, Global};
 use std::sync::Wait;
 use std::test::Fail;
 use std::thread::Threads;
+use worked_captures::FILE_HEADER;
 
 // What a record of the output says: number, packets, first payload, modes and frame length.
 pub type Said = (u32, u32, u32, u32, u32);

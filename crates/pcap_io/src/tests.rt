@@ -12,14 +12,7 @@ use crate::{
 use off_io::{Feed, MemSink, MemSource};
 use std::alloc::Global;
 use std::test::Fail;
-
-// Two records of 1 and 2 bytes, little-endian microseconds.
-const TWO: [u8; 59] = [
-    0xd4, 0xc3, 0xb2, 0xa1, 0x02, 0x00, 0x04, 0x00, 0x00, 0x00, 0x00, 0x00, 0x00, 0x00, 0x00, 0x00,
-    0x00, 0x00, 0x04, 0x00, 0x01, 0x00, 0x00, 0x00, 0x01, 0x00, 0x00, 0x00, 0x02, 0x00, 0x00, 0x00,
-    0x01, 0x00, 0x00, 0x00, 0x03, 0x00, 0x00, 0x00, 0xaa, 0x01, 0x00, 0x00, 0x00, 0x05, 0x00, 0x00,
-    0x00, 0x02, 0x00, 0x00, 0x00, 0x02, 0x00, 0x00, 0x00, 0xbb, 0xcc,
-];
+use worked_captures::TWO_RECORDS;
 
 fn source(alloc: Global, bytes: &[u8]) -> Result<Feed<MemSource>, Fail> {
     Ok(Feed {
@@ -31,7 +24,7 @@ fn source(alloc: Global, bytes: &[u8]) -> Result<Feed<MemSource>, Fail> {
 fn read_two(alloc: Global, first: u64) -> Result<(u32, u64, Result<Option<u64>, InFault>), Fail>
     requires { first ≤ 2 ^ 32 }
 {
-    let mut feed = source(alloc, &TWO)?;
+    let mut feed = source(alloc, &TWO_RECORDS)?;
     let mut reader = match CaptureReader::start_numbered(&mut feed, Link::Ethernet, first) {
         Ok(reader) => reader,
         Err(_) => return Err(Fail::from("the file header is lawful")),

@@ -2,7 +2,7 @@
 ghost use Rattle.std.specs.Prelude.{◌≡◌, ◌-◌, ◌≤◌, IfOk, OnOk};
 ghost use Rattle.block_pool.specs.PoolState.{home};
 
-use crate::tests::{TWO, WRITTEN};
+use crate::tests::WRITTEN;
 use crate::{AllHome, Homecoming, MergeEnd, Round, RoundEnd, RoundRead, Rounds, Step};
 use block_pool::Pool;
 use off_io::{Feed, MemSink, MemSource, NoGate};
@@ -10,6 +10,7 @@ use pcap_io::{CaptureReader, Link};
 use std::alloc::Global;
 use std::test::Fail;
 use std::thread::Threads;
+use worked_captures::TWO_RECORDS;
 
 // A shelf of blocks, which come home at once.
 #[derive(Drop)]
@@ -60,7 +61,7 @@ fn in_turn<R: Threads + Sync>(
     alloc: Global,
 ) -> Result<([Step; 3], Vec<u8>, [u32; 4]), Fail> {
     let mut feed = Feed {
-        inner: MemSource::new(TWO.to_vec(alloc)?, 24, Vec::new(alloc)),
+        inner: MemSource::new(TWO_RECORDS.to_vec(alloc)?, 24, Vec::new(alloc)),
     };
     let mut reader = match CaptureReader::start(&mut feed, Link::Ethernet) {
         Ok(reader) => reader,
@@ -108,7 +109,7 @@ fn blocks_come_home_while_rounds_are_read(rt: HostRuntime) -> Result<(), Fail> {
 // both sides are one again and the round before was dropped.
 fn lacking(alloc: Global) -> Result<(RoundEnd, u32, u32), Fail> {
     let mut feed = Feed {
-        inner: MemSource::new(TWO.to_vec(alloc)?, 24, Vec::new(alloc)),
+        inner: MemSource::new(TWO_RECORDS.to_vec(alloc)?, 24, Vec::new(alloc)),
     };
     let mut reader = match CaptureReader::start(&mut feed, Link::Ethernet) {
         Ok(reader) => reader,

@@ -6,14 +6,7 @@ use off_io::{Feed, MemSink, MemSource, NoGate};
 use pcap_io::{CaptureReader, Link};
 use std::alloc::Global;
 use std::test::Fail;
-
-/// Two records of 1 and 2 bytes, little-endian microseconds.
-pub(crate) const TWO: [u8; 59] = [
-    0xd4, 0xc3, 0xb2, 0xa1, 0x02, 0x00, 0x04, 0x00, 0x00, 0x00, 0x00, 0x00, 0x00, 0x00, 0x00, 0x00,
-    0x00, 0x00, 0x04, 0x00, 0x01, 0x00, 0x00, 0x00, 0x01, 0x00, 0x00, 0x00, 0x02, 0x00, 0x00, 0x00,
-    0x01, 0x00, 0x00, 0x00, 0x03, 0x00, 0x00, 0x00, 0xaa, 0x01, 0x00, 0x00, 0x00, 0x05, 0x00, 0x00,
-    0x00, 0x02, 0x00, 0x00, 0x00, 0x02, 0x00, 0x00, 0x00, 0xbb, 0xcc,
-];
+use worked_captures::TWO_RECORDS;
 
 // A round of two, of a source that fails at these of its calls: the blocks that are home while the round is out and once it was
 // dropped, the blocks that were taken, and why it ended.
@@ -21,7 +14,7 @@ fn turn(alloc: Global, blocks: u32, fails: Vec<u64>) -> Result<(u32, u32, u64, R
     requires { (1 ≤ blocks) × (blocks ≤ 65536) }
 {
     let mut feed = Feed {
-        inner: MemSource::new(TWO.to_vec(alloc)?, 24, fails),
+        inner: MemSource::new(TWO_RECORDS.to_vec(alloc)?, 24, fails),
     };
     let mut reader = match CaptureReader::start(&mut feed, Link::Ethernet) {
         Ok(reader) => reader,
@@ -39,7 +32,7 @@ fn worked_turn(alloc: Global, blocks: u32) -> Result<(usize, u32, u32), Fail>
     requires { (1 ≤ blocks) × (blocks ≤ 65536) }
 {
     let mut feed = Feed {
-        inner: MemSource::new(TWO.to_vec(alloc)?, 24, Vec::new(alloc)),
+        inner: MemSource::new(TWO_RECORDS.to_vec(alloc)?, 24, Vec::new(alloc)),
     };
     let mut reader = match CaptureReader::start(&mut feed, Link::Ethernet) {
         Ok(reader) => reader,
@@ -73,7 +66,7 @@ fn merge(
     requires { (1 ≤ blocks) × (blocks ≤ 65536) }
 {
     let mut feed = Feed {
-        inner: MemSource::new(TWO.to_vec(alloc)?, 24, reads),
+        inner: MemSource::new(TWO_RECORDS.to_vec(alloc)?, 24, reads),
     };
     let mut reader = match CaptureReader::start(&mut feed, Link::Ethernet) {
         Ok(reader) => reader,
