@@ -33,6 +33,31 @@ fn blocks_of_one_record_suffice(rt: HostRuntime) -> Result<(), Fail> {
     Ok(())
 }
 
+// The first packets of two flows in turn, a hundred times over.
+fn many_in_turn(alloc: Global) -> Result<Vec<u8>, AllocError> {
+    let eight = in_turn(alloc, 8)?;
+    let mut bytes = eight.to_vec(alloc)?;
+    for _ in 1..100 {
+        bytes.extend_from_slice(eight.get(24..).unwrap_or(&[]))?;
+    }
+    Ok(bytes)
+}
+
+// Lanes of queues and taps over the blocks of two records: what is written is the same.
+#[test]
+fn blocks_of_two_records_suffice_for_lanes(rt: HostRuntime) -> Result<(), Fail> {
+    let alloc = rt.alloc();
+    let input = many_in_turn(alloc)?;
+    let lanes = "offload merge --budget 2 --queues 2 --taps 2";
+    let many = run_line(&rt, alloc, lanes, &input, 4096, &[], &[])?;
+    assert_eq!(rt; many.status, Status::Ok);
+    let few = "offload merge --budget 2 --queues 2 --taps 2 --blocks 6";
+    let ended = run_line(&rt, alloc, few, &input, 4096, &[], &[])?;
+    assert_eq!(rt; ended.status, Status::Ok);
+    assert_eq!(rt; ended.sink.bytes(), many.sink.bytes());
+    Ok(())
+}
+
 // Counts the reads.
 #[derive(Drop)]
 struct Watched<'a> {

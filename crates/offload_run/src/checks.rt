@@ -11,6 +11,10 @@ use std::test::Fail;
 const BOTH: &str =
     "queue 0: records 2 items 1 merged 1 returned 2\ntotal: records 2 items 1 merged 1 returned 2\n";
 
+// Each packet in a round of its own.
+const APART: &str =
+    "queue 0: records 2 items 2 merged 0 returned 2\ntotal: records 2 items 2 merged 0 returned 2\n";
+
 const FIRST: &str =
     "queue 0: records 1 items 1 merged 0 returned 1\ntotal: records 1 items 1 merged 0 returned 1\n";
 
@@ -67,8 +71,15 @@ fn lines_by_row(rt: HostRuntime) -> Result<(), Fail> {
         blocks: 3,
     };
     let lanes = "offload check --queues 2 --taps 2 --snap 64 --budget 4";
-    let rows: [(&str, &[u8], &[u64], Status, &str); 8] = [
+    let rows: [(&str, &[u8], &[u64], Status, &str); 9] = [
         ("offload check --count 5", &CAPTURE, &[], Status::Ok, BOTH),
+        (
+            "offload check --blocks 3 --budget 1",
+            &CAPTURE,
+            &[],
+            Status::Ok,
+            APART,
+        ),
         (lanes, &turns, &[], Status::Ok, LANES),
         (lanes, &pair, &[], Status::Ok, IDLE),
         (
