@@ -2,7 +2,7 @@
 //!
 //! A [`Source`] gives bytes and a [`Sink`] takes them. Each may tell what it has left or holds, and each counts its
 //! faults; a call answers a fault only where that count rose. So a theorem over any source and sink can say which bytes
-//! were read and written, and can blame a fault on the outside alone. A [`Gate`] is passed by tasks and changes no answer.
+//! were read and written, and can blame a fault on the outside alone. A [`Gate`] is passed by tasks and changes no answer; at a [`Meeting`] two of them wait for each other.
 //!
 //! Proved: `write_all` appends all bytes, or a front of them at a fault (clauses `ok`, `err`, `cause`); `read_full` fills
 //! its buffer but at the end of the source (`bytes`, `cause`); the sources and sinks in memory fail at exactly the calls
@@ -16,6 +16,7 @@
 
 mod feed;
 mod gate;
+mod meeting;
 mod mem_sink;
 mod mem_source;
 mod sink;
@@ -27,6 +28,7 @@ mod tests;
 
 pub use feed::Feed;
 pub use gate::{Gate, NoGate, Who};
+pub use meeting::Meeting;
 pub use mem_sink::MemSink;
 pub use mem_source::MemSource;
 pub use sink::{Sink, WriteFault, write_all};

@@ -4,12 +4,11 @@ use crate::Status;
 use crate::row_frames::{Frame, NEXT, PLAIN, capture_of};
 use crate::rows::{Said, said_in};
 use crate::tests::{run_gated, run_line};
-use off_io::{Gate, Who};
+use off_io::{Meeting, Who};
 use std::alloc::{AllocError, Global};
 use std::sync::Wait;
-use std::sync::atomic::{AtomicBool, AtomicU32, Ordering};
 use std::test::Fail;
-use std::thread::{Threads, yield_now};
+use std::thread::Threads;
 
 pub const TWO_QUEUES: &str = "offload merge --queues 2 --budget 4";
 
@@ -153,43 +152,6 @@ fn two_taps(rt: HostRuntime) -> Result<(), Fail> {
     Ok(())
 }
 
-// Each of two tasks says before its work that it is here, and waits a while for the other.
-#[derive(Drop)]
-struct Meeting {
-    one: Who,
-    other: Who,
-    one_is_here: AtomicBool,
-    other_is_here: AtomicBool,
-    met: AtomicU32,
-}
-
-impl Meeting {
-    fn turn_up(&self, mine: &AtomicBool, theirs: &AtomicBool) {
-        mine.store(true, Ordering::SeqCst);
-        for _ in 0..1_000_000u32 {
-            if theirs.load(Ordering::SeqCst) {
-                self.met.fetch_add(1, Ordering::SeqCst);
-                return;
-            }
-            yield_now();
-        }
-    }
-}
-
-impl Gate for Meeting {
-    fn pass(&self, who: Who, point: u32) {
-        if point != 0 {
-            return;
-        }
-        if who == self.one {
-            self.turn_up(&self.one_is_here, &self.other_is_here);
-        }
-        if who == self.other {
-            self.turn_up(&self.other_is_here, &self.one_is_here);
-        }
-    }
-}
-
 // Each of two tasks sees that the other one has begun.
 #[test]
 fn tasks_meet(rt: HostRuntime) -> Result<(), Fail> {
@@ -201,16 +163,10 @@ fn tasks_meet(rt: HostRuntime) -> Result<(), Fail> {
         ("offload merge --queues 2", Who::Worker(0), Who::Worker(1)),
     ];
     for (line, one, other) in rows {
-        let meeting = Meeting {
-            one,
-            other,
-            one_is_here: AtomicBool::new(false),
-            other_is_here: AtomicBool::new(false),
-            met: AtomicU32::new(0),
-        };
+        let meeting = Meeting::of(one, other);
         let ended = run_gated(&rt, alloc, line, &input, 4096, &[], &[], &meeting)?;
         assert_eq!(rt; ended.status, Status::Ok, "at {line}");
-        assert_eq!(rt; meeting.met.load(Ordering::SeqCst), 2, "at {line}");
+        assert_eq!(rt; meeting.met(), 2, "at {line}");
     }
     Ok(())
 }

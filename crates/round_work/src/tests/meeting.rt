@@ -4,58 +4,10 @@ ghost use Rattle.round_work.specs.Work.{IsPlan};
 use super::packets::all_home;
 use super::turns::lanes_of;
 use crate::Plan;
-use off_io::{Gate, Who};
+use off_io::{Meeting, Who};
 use std::alloc::Global;
 use std::process::Abort;
-use std::sync::atomic::{AtomicBool, AtomicU32, Ordering};
-use std::thread::{Threads, yield_now};
-
-// Each of two tasks says before its work that it is here, and waits a while for the other.
-#[derive(Drop)]
-struct Meeting {
-    one: Who,
-    other: Who,
-    one_is_here: AtomicBool,
-    other_is_here: AtomicBool,
-    met: AtomicU32,
-}
-
-impl Meeting {
-    fn of(one: Who, other: Who) -> Meeting {
-        Meeting {
-            one,
-            other,
-            one_is_here: AtomicBool::new(false),
-            other_is_here: AtomicBool::new(false),
-            met: AtomicU32::new(0),
-        }
-    }
-
-    fn turn_up(&self, mine: &AtomicBool, theirs: &AtomicBool) {
-        mine.store(true, Ordering::SeqCst);
-        for _ in 0..1_000_000u32 {
-            if theirs.load(Ordering::SeqCst) {
-                self.met.fetch_add(1, Ordering::SeqCst);
-                return;
-            }
-            yield_now();
-        }
-    }
-}
-
-impl Gate for Meeting {
-    fn pass(&self, who: Who, point: u32) {
-        if point != 0 {
-            return;
-        }
-        if who == self.one {
-            self.turn_up(&self.one_is_here, &self.other_is_here);
-        }
-        if who == self.other {
-            self.turn_up(&self.other_is_here, &self.one_is_here);
-        }
-    }
-}
+use std::thread::Threads;
 
 // How many of the two tasks have seen the other.
 fn seen<R: Threads + Abort + Sync>(
@@ -76,7 +28,7 @@ fn seen<R: Threads + Abort + Sync>(
     };
     let lanes = lanes_of(rt, alloc, plan, &meeting);
     assert_eq!(rt; all_home(rt, lanes), 24);
-    meeting.met.load(Ordering::SeqCst)
+    meeting.met()
 }
 
 #[test]
