@@ -7,7 +7,7 @@ use Rattle.ref_core.specs.WeightRule.{full_weight}
 use Rattle.raw_block.specs.Views.{SoleState, PartState}
 use Rattle.raw_block.specs.declared.part.Released.{Released}
 use Rattle.raw_block.specs.declared.part.Released.TheVariants.{Last, Left}
-use Rattle.raw_block.specs.Answers.{IsReleased}
+use Rattle.raw_block.specs.Releases.{IsReleased}
 use Rattle.frags.specs.OutcomesState.{OutcomesState}
 use Rattle.frags.specs.Account.{Keeps, KeepsMarks, every, both, counted, at_home, receipts_held, soles_home, of_part, of_holder, of_released, of_outcomes}
 use Rattle.frags.specs.PieceList.{of_pieces, pieces_held, bytes_of, piece_bytes, size_of, Fits, AllFit, cut_front, block, AsPart}

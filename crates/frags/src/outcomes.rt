@@ -1,7 +1,7 @@
 //! What was given back: Soles and receipts, in places that were reserved before.
 ghost use Rattle.std.specs.Prelude.{◌≡◌, ℕ, ◌+◌, ◌≤◌, [], ◌∷◌, ◌++◌, IfOk, OnOk, IsOk, MatchOption};
 ghost use Rattle.ref_core.specs.WeightRule.{full_weight};
-ghost use Rattle.raw_block.specs.Answers.{IsReleased, IsLast};
+ghost use Rattle.raw_block.specs.Releases.{IsReleased, IsLast};
 ghost use Rattle.frags.specs.Account.{Keeps, both, of_part, of_sole, of_receipt, of_holder, of_outcomes};
 ghost use Rattle.frags.specs.Growth.{Grows, Behind};
 

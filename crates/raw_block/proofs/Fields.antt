@@ -10,11 +10,11 @@ use Rattle.raw_block.specs.Views.{LifeNames}
 use Rattle.raw_block.specs.Shares.{share_owns, share_shares, released_owns, claimed_owns}
 use Rattle.raw_block.specs.Heap.{may_free, heap_owns}
 use Rattle.raw_block.specs.contracts.heap.OnHeap as on_heap
-use Rattle.raw_block.specs.contracts.share.AfterRelease as after_release
-use Rattle.raw_block.specs.contracts.share.AfterClaim as after_claim
-use Rattle.raw_block.specs.contracts.share.GivenBack as given_back
-use Rattle.raw_block.specs.contracts.share.WordSeen as word_seen
-use Rattle.raw_block.specs.contracts.share.Share as share
+use Rattle.raw_block.specs.contracts.held.AfterRelease as after_release
+use Rattle.raw_block.specs.contracts.held.AfterClaim as after_claim
+use Rattle.raw_block.specs.contracts.held.GivenBack as given_back
+use Rattle.raw_block.specs.contracts.held.WordSeen as word_seen
+use Rattle.raw_block.specs.contracts.held.Share as share
 use Rattle.raw_block.specs.contracts.name.Name as name
 use Rattle.raw_block.specs.contracts.name.NameSeen as name_seen
 

@@ -1,7 +1,7 @@
-pub mod Answers
 pub mod Heap
 pub mod Lending
 pub mod Naming
 pub mod Overwriting
+pub mod Releases
 pub mod Shares
 pub mod Views

@@ -39,7 +39,7 @@ pub(crate) struct Content {
 impl Bytes {
     /// The bytes `from..to`, for writing.
     pub(crate) fn range_mut(&mut self, from: usize, to: usize) -> &mut [u8]
-        requires { (from ≤ to) × (to ≤ 2048) }
+        requires range { (from ≤ to) × (to ≤ 2048) }
         ensures* writes_back { sem 𝓛 (lends_range self.entry from result) }
         ensures value { (result.now ≡ slice_range self.old.bytes from to) × (length result.now + from ≡ to) }
     {

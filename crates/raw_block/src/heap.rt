@@ -18,7 +18,7 @@ impl<T> Model for OnHeap<T> {
 
 impl<T: Drop> OnHeap<T> {
     pub(crate) fn of(value: Box<T, Global>) -> OnHeap<T>
-        ensures { result.value ≡ value.value }
+        ensures same { result.value ≡ value.value }
     {
         OnHeap {
             at: Box::into_raw(value),
@@ -26,7 +26,7 @@ impl<T: Drop> OnHeap<T> {
     }
 
     pub(crate) fn into_box(self, alloc: Global) -> Box<T, Global>
-        ensures { result.value ≡ self.value }
+        ensures same { result.value ≡ self.value }
     {
         let OnHeap { at } = self;
         unsafe { Box::from_raw(alloc, at) }

@@ -32,10 +32,10 @@
 
 mod block;
 mod heap;
+mod held;
 mod name;
 mod part;
 mod receipt;
-mod share;
 mod sole;
 #[cfg(test)]
 mod tests;

@@ -35,7 +35,7 @@ impl Name {
     }
 
     pub(crate) fn seen(&self) -> NameSeen
-        ensures { result.id ≡ self.now.id }
+        ensures id { result.id ≡ self.now.id }
     {
         NameSeen {}
     }

@@ -1,11 +1,11 @@
 //! A weighed part of a block that several hold.
 ghost use Rattle.std.specs.Prelude.{◌≡◌, ◌+◌, ◌<◌, ◌≤◌, ◌-◌, length};
 ghost use Rattle.ref_core.specs.WeightRule.{full_weight};
-ghost use Rattle.raw_block.specs.Answers.{IsReleased, IsLast, IsClaimed, IsSole};
+ghost use Rattle.raw_block.specs.Releases.{IsReleased, IsLast, IsClaimed, IsSole};
 
 use crate::block::Content;
+use crate::held::Share;
 use crate::receipt::{Receipt, Sight};
-use crate::share::Share;
 use crate::sole::Sole;
 use std::alloc::Global;
 use std::marker::Model;
@@ -69,7 +69,7 @@ impl Part {
 
     /// A second part of the weight `give`, which this one gives away.
     pub fn split(&mut self, give: u64) -> Part
-        requires { (0 < give) × (give < self.old.weight) }
+        requires range { (0 < give) × (give < self.old.weight) }
         ensures given { result ≡ record self.old { weight = give } }
         ensures kept { self.new ≡ record self.old { weight = self.old.weight - give } }
     {
@@ -85,7 +85,7 @@ impl Part {
 
     /// Two parts of one life become one of both weights. They have the same bytes and the same mark.
     pub fn join(&mut self, other: Part)
-        requires { other.life ≡ self.old.life }
+        requires life { other.life ≡ self.old.life }
         ensures joined { self.new ≡ record self.old { weight = self.old.weight + other.weight } }
         ensures range { self.new.weight ≤ full_weight }
         ensures agree { (other.bytes ≡ self.old.bytes) × (other.mark ≡ self.old.mark) }
@@ -172,7 +172,7 @@ impl Part {
 
     /// The block back, from a part and a receipt that weigh `FULL` together: its compare-exchange cannot miss.
     pub fn reunite(self, receipt: Receipt) -> Sole
-        requires { (receipt.life ≡ self.life) × (self.weight + receipt.weight ≡ full_weight) }
+        requires whole { (receipt.life ≡ self.life) × (self.weight + receipt.weight ≡ full_weight) }
         ensures sole { (result.block ≡ self.life.block) × (result.bytes ≡ self.bytes) × (result.mark ≡ self.mark) }
         ensures agree { receipt.mark ≡ self.mark }
     {

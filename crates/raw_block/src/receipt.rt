@@ -2,8 +2,8 @@
 ghost use Rattle.std.specs.Prelude.{◌≡◌, ◌+◌, ◌<◌};
 ghost use Rattle.ref_core.specs.WeightRule.{full_weight};
 
+use crate::held::{GivenBack, WordSeen};
 use crate::name::NameSeen;
-use crate::share::{GivenBack, WordSeen};
 use std::marker::Model;
 
 /// That so much weight of a life was given back. It must be spent: added, reunited or closed.
@@ -42,7 +42,7 @@ impl Receipt {
 
     /// Adds a receipt of the same life. Together they weigh less than the full weight, and they have the same mark.
     pub fn add(&mut self, other: Receipt)
-        requires { other.life ≡ self.old.life }
+        requires life { other.life ≡ self.old.life }
         ensures added { self.new ≡ record self.old { weight = self.old.weight + other.weight } }
         ensures range { self.new.weight < full_weight }
         ensures agree { other.mark ≡ self.old.mark }

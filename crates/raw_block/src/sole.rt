@@ -6,9 +6,9 @@ ghost use Rattle.raw_block.specs.Lending.{lends_bytes, lends_bytes_of, lends_con
 
 use crate::block::{Block, Bytes, Content};
 use crate::heap::OnHeap;
+use crate::held::Share;
 use crate::name::Name;
 use crate::part::Part;
-use crate::share::Share;
 use ref_core::{BLOCK_SIZE, FULL};
 use std::alloc::{AllocError, Global};
 use std::marker::Model;
@@ -31,7 +31,7 @@ impl Model for Sole {
 
 // The bytes `from..to` of what a block holds, for writing.
 fn range_in(content: &mut Content, from: usize, to: usize) -> &mut [u8]
-    requires { (from ≤ to) × (to ≤ 2048) }
+    requires range { (from ≤ to) × (to ≤ 2048) }
     ensures* writes_back { sem 𝓛 (lends_bytes_of content.entry from result) }
     ensures value { (result.now ≡ slice_range content.old.bytes.bytes from to) × (length result.now + from ≡ to) }
 {
@@ -40,7 +40,7 @@ fn range_in(content: &mut Content, from: usize, to: usize) -> &mut [u8]
 
 // The bytes `from..to` of a block, for writing.
 fn range_of(block: &mut Block<Content>, from: usize, to: usize) -> &mut [u8]
-    requires { (from ≤ to) × (to ≤ 2048) }
+    requires range { (from ≤ to) × (to ≤ 2048) }
     ensures* writes_back { sem 𝓛 (lends_content block.entry from result) }
     ensures value { (result.now ≡ slice_range block.old.content.bytes.bytes from to) × (length result.now + from ≡ to) }
 {
@@ -92,7 +92,7 @@ impl Sole {
 
     /// The bytes `from..to` for writing.
     pub fn range_mut(&mut self, from: usize, to: usize) -> &mut [u8]
-        requires { (from ≤ to) × (to ≤ 2048) }
+        requires range { (from ≤ to) × (to ≤ 2048) }
         ensures* writes_back { sem 𝓛 (lends_bytes self.entry from result) }
         ensures value { result.now ≡ slice_range self.old.bytes from to }
         ensures size { length result.now + from ≡ to }

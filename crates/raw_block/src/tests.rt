@@ -10,7 +10,7 @@ const QUARTER: u64 = 1 << 60;
 
 // The receipt that a part's release leaves, if it was not the last.
 fn receipt_of(part: Part) -> Option<Receipt>
-    ensures { IfSome result (λ r. r.life ≡ part.life) }
+    ensures life { IfSome result (λ r. r.life ≡ part.life) }
 {
     match part.release() {
         Released::Last(_sole) => None,
@@ -27,15 +27,15 @@ fn spend(part: Part) {
 
 // What may be handed to another thread.
 fn sent<T: Send>(value: T) -> T
-    ensures { result ≡ value }
+    ensures same { result ≡ value }
 {
     value
 }
 
 // Three quarters, and what is left of the part.
 fn quarters(part: Part) -> (Part, Part, Part, Part)
-    requires { part.weight ≡ 4611686018427387904 }
-    ensures { (result.0.life ≡ part.life) × (result.1.life ≡ part.life) × (result.2.life ≡ part.life) × (result.3.life ≡ part.life) }
+    requires whole { part.weight ≡ 4611686018427387904 }
+    ensures lives { (result.0.life ≡ part.life) × (result.1.life ≡ part.life) × (result.2.life ≡ part.life) × (result.3.life ≡ part.life) }
 {
     let mut part = part;
     let a = part.split(QUARTER);
@@ -138,7 +138,7 @@ fn receipts_add_up_to_the_rest(rt: HostRuntime) -> Result<(), Fail> {
 
 // A closure holds only what is `Drop`, so a part goes to a thread behind a `&mut`.
 fn released(slot: &mut Option<Part>) -> (Option<Sole>, Option<Receipt>)
-    ensures { IfSome slot.old (λ p. IfSome result.1 (λ r. r.life ≡ p.life)) }
+    ensures life { IfSome slot.old (λ p. IfSome result.1 (λ r. r.life ≡ p.life)) }
 {
     match slot.take() {
         Some(part) => match part.release() {
@@ -158,8 +158,8 @@ fn empty(slot: Option<Part>) {
 
 // Receipts of one life, added.
 fn both(first: Option<Receipt>, second: Option<Receipt>) -> Option<Receipt>
-    requires { IfSome first (λ r. IfSome second (λ s. s.life ≡ r.life)) }
-    ensures { (l : Life) → IfSome first (λ r. r.life ≡ l) → IfSome second (λ s. s.life ≡ l) → IfSome result (λ r. r.life ≡ l) }
+    requires life { IfSome first (λ r. IfSome second (λ s. s.life ≡ r.life)) }
+    ensures life { (l : Life) → IfSome first (λ r. r.life ≡ l) → IfSome second (λ s. s.life ≡ l) → IfSome result (λ r. r.life ≡ l) }
 {
     let Some(mut total) = first else {
         return second;

@@ -2,7 +2,7 @@
 use Rattle.std.specs.Prelude.{ℕ, ◌≡◌, ◌+◌, ◌-◌, ◌<◌, ◌≤◌, List, take, Ok, Err}
 use Rattle.std.specs.declared.result.Result.{Result}
 use Rattle.ref_core.specs.WeightRule.{full_weight}
-use Rattle.raw_block.specs.Answers.{IsReleased}
+use Rattle.raw_block.specs.Releases.{IsReleased}
 use Rattle.raw_block.specs.Views.{SoleState}
 use Rattle.raw_block.specs.declared.part.Released.{Released}
 use Rattle.raw_block.specs.declared.part.Released.TheVariants.{Last, Left}

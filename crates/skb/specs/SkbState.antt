@@ -14,7 +14,7 @@ use Rattle.frags.specs.declared.holder.Holder.{Holder}
 use Rattle.frags.specs.declared.holder.Holder.TheVariants.{Sole, Part}
 use Rattle.skb.specs.declared.skb.Unshared.{Unshared}
 use Rattle.skb.specs.declared.skb.Unshared.TheVariants.{Unused, Gave}
-use Rattle.raw_block.specs.Answers.{IsReleased}
+use Rattle.raw_block.specs.Releases.{IsReleased}
 use Rattle.skb.specs.declared.skb.RoomFault.{RoomFault}
 use Rattle.skb.specs.declared.skb.RoomFault.TheVariants.{NoRoom, Shared}
 

@@ -10,10 +10,11 @@ one_life l (Some x) None h k = tt
 one_life l None y h k = tt
 
 pub both-requires-3 : goal.both-requires-3
-both-requires-3 g c =
-    let l : Life = c.share.result.life in
-    let a : IfSome c.join-front.result.0.0.1 (λ r. r.life ≡ l) = search rules in
-    let b : IfSome c.join-front.result.0.1.1 (λ r. r.life ≡ l) = search rules in
-    let d : IfSome c.join-front.result.1.0.1 (λ r. r.life ≡ l) = search rules in
-    let e : IfSome c.join-front.result.1.1.1 (λ r. r.life ≡ l) = search rules in
-    one_life l c.both.result c.both-2.result (c.both.ensures l a b) (c.both-2.ensures l d e)
+both-requires-3 g c = record {
+  life = let l : Life = c.share.result.life in
+      let a : IfSome c.join-front.result.0.0.1 (λ r. r.life ≡ l) = search rules in
+      let b : IfSome c.join-front.result.0.1.1 (λ r. r.life ≡ l) = search rules in
+      let d : IfSome c.join-front.result.1.0.1 (λ r. r.life ≡ l) = search rules in
+      let e : IfSome c.join-front.result.1.1.1 (λ r. r.life ≡ l) = search rules in
+      one_life l c.both.result c.both-2.result (c.both.ensures.life l a b) (c.both-2.ensures.life l d e);
+}
