@@ -26,7 +26,7 @@ const LONGEST: u32 = 22 + 40 + 65535;
 fn is_plain(head: &[u8], len: usize, header: Header) -> bool
     requires there { header.at + size header.layer ≤ length head.now }
     requires long { length head.now ≤ len }
-    ensures { result ≡ is_plain_of head.now len header.layer header.at }
+    ensures plain { result ≡ is_plain_of head.now len header.layer header.at }
 {
     let at = header.at as usize;
     match header.layer {
@@ -41,7 +41,7 @@ fn is_plain(head: &[u8], len: usize, header: Header) -> bool
 /// Whether the TCP header at the place has no reserved bit, and of the flags ACK with at most PSH and FIN.
 fn is_plain_tcp(head: &[u8], at: usize) -> bool
     requires there { at + 20 ≤ length head.now }
-    ensures { result ≡ is_plain_of head.now 0 Tcp at }
+    ensures plain { result ≡ is_plain_of head.now 0 Tcp at }
 {
     head[at + 12] % 16 == 0
         && (head[at + 13] == 0x10
@@ -54,7 +54,7 @@ fn is_plain_tcp(head: &[u8], at: usize) -> bool
 fn is_summed(front: &Front, ip: Header, header: Header) -> bool
     requires inside { header.at + size header.layer ≤ front.now.end }
     requires there { AreAddressesWithin (length front.now.head.now) ip.layer ip.at }
-    ensures { (f : List ℕ) → IsFrontOf front.now f → IsTrue result ↔ IsSumRight f ip header.layer header.at }
+    ensures summed { (f : List ℕ) → IsFrontOf front.now f → IsTrue result ↔ IsSumRight f ip header.layer header.at }
 {
     let at = header.at as usize;
     match header.layer {
@@ -69,7 +69,7 @@ fn is_summed(front: &Front, ip: Header, header: Header) -> bool
 fn is_right(front: &Front, ip: Header, header: Header) -> bool
     requires inside { header.at + size header.layer ≤ front.now.end }
     requires there { AreAddressesWithin (length front.now.head.now) ip.layer ip.at }
-    ensures { (f : List ℕ) → IsFrontOf front.now f → IsTrue result ↔ IsHeaderRight f ip header.layer header.at }
+    ensures right { (f : List ℕ) → IsFrontOf front.now f → IsTrue result ↔ IsHeaderRight f ip header.layer header.at }
 {
     is_plain(front.head, front.len, header) && is_summed(front, ip, header)
 }
@@ -77,7 +77,7 @@ fn is_right(front: &Front, ip: Header, header: Header) -> bool
 /// Whether all headers' length fields, flags and sums are right.
 fn are_right(front: &Front, headers: &[Header]) -> bool
     requires inside { AtHeaders (λ layer at. at + size layer ≤ front.now.end) headers.now }
-    ensures { (f : List ℕ) → IsFrontOf front.now f → IsTrue result ↔ are_headers_right f (record { layer = Ethernet; at = 0 }) headers.now }
+    ensures right { (f : List ℕ) → IsFrontOf front.now f → IsTrue result ↔ are_headers_right f (record { layer = Ethernet; at = 0 }) headers.now }
 {
     let mut ip = Header {
         layer: Layer::Ethernet,

@@ -17,9 +17,9 @@
 //! ```
 #![tactic(auto)]
 
+mod candidates;
 pub mod flow;
 mod front;
-mod judge;
 mod laws;
 pub mod layout;
 mod queue;
@@ -29,9 +29,9 @@ mod sums;
 #[cfg(test)]
 mod tests;
 
+pub use candidates::{candidate, candidate_in};
 pub use flow::Key;
 pub use front::Front;
-pub use judge::{candidate, candidate_in};
 pub use laws::{alike_keeps_key, alike_keeps_shape, candidates_are_short, headers_are_laid};
 pub use layout::{Header, Layer, Layout};
 pub use queue::{key, key_behind, queue_of};

@@ -16,21 +16,21 @@ use vxlan::VxlanView;
 
 /// Whether an Ethernet header stands there.
 fn is_ethernet(frame: &[u8], at: usize) -> bool
-    ensures { result ≡ ethernet_there frame.now at }
+    ensures there { result ≡ ethernet_there frame.now at }
 {
     EthView::read(frame, at).is_some()
 }
 
 /// Whether a tag stands there, without the type before it.
 fn is_tag_there(frame: &[u8], at: usize) -> bool
-    ensures { result ≡ tag_there frame.now at }
+    ensures there { result ≡ tag_there frame.now at }
 {
     TagView::read(frame, at).is_some()
 }
 
 /// Whether an IPv4 header stands there, and it is of a whole datagram.
 fn is_ip4(frame: &[u8], at: usize) -> bool
-    ensures { result ≡ ip4_there frame.now at }
+    ensures there { result ≡ ip4_there frame.now at }
 {
     match Ip4View::read(frame, at) {
         Some(header) => header.flags_and_offset() % 0x4000 == 0,
@@ -40,21 +40,21 @@ fn is_ip4(frame: &[u8], at: usize) -> bool
 
 /// Whether an IPv6 header stands there.
 fn is_ip6(frame: &[u8], at: usize) -> bool
-    ensures { result ≡ ip6_there frame.now at }
+    ensures there { result ≡ ip6_there frame.now at }
 {
     Ip6View::read(frame, at).is_some()
 }
 
 /// Whether a TCP header stands there.
 fn is_tcp(frame: &[u8], at: usize) -> bool
-    ensures { result ≡ tcp_there frame.now at }
+    ensures there { result ≡ tcp_there frame.now at }
 {
     TcpView::read(frame, at).is_some()
 }
 
 /// Whether a UDP header to VXLAN's port stands there.
 fn is_udp(frame: &[u8], at: usize) -> bool
-    ensures { result ≡ udp_there frame.now at }
+    ensures there { result ≡ udp_there frame.now at }
 {
     match UdpView::read(frame, at) {
         Some(header) => header.destination_port() == vxlan::PORT,
@@ -64,7 +64,7 @@ fn is_udp(frame: &[u8], at: usize) -> bool
 
 /// Whether a VXLAN header with a valid network identifier stands there.
 fn is_vxlan(frame: &[u8], at: usize) -> bool
-    ensures { result ≡ vxlan_there frame.now at }
+    ensures there { result ≡ vxlan_there frame.now at }
 {
     match VxlanView::read(frame, at) {
         Some(header) => header.flags() / 8 % 2 == 1,
@@ -182,7 +182,7 @@ fn link(frame: &[u8], at: usize, found: &mut ArrayVec<Header, 11>) -> Option<(u8
 fn tcp(frame: &[u8], at: usize, found: &mut ArrayVec<Header, 11>) -> Option<usize>
     requires low { at < 2 ^ 8 }
     requires room { array_vec_len found.old < 11 }
-    ensures { IsFound found.old.items found.new.items result (tcp_from frame.now at) }
+    ensures found { IsFound found.old.items found.new.items result (tcp_from frame.now at) }
 {
     if !is_tcp(frame, at) {
         return None;
@@ -198,7 +198,7 @@ fn tcp(frame: &[u8], at: usize, found: &mut ArrayVec<Header, 11>) -> Option<usiz
 fn tunnel(frame: &[u8], at: usize, found: &mut ArrayVec<Header, 11>) -> Option<usize>
     requires low { at < 100 }
     requires room { array_vec_len found.old ≤ 4 }
-    ensures { IsFound found.old.items found.new.items result (vxlan_from frame.now at) }
+    ensures found { IsFound found.old.items found.new.items result (vxlan_from frame.now at) }
 {
     if !is_udp(frame, at) {
         return None;
@@ -225,8 +225,8 @@ fn tunnel(frame: &[u8], at: usize, found: &mut ArrayVec<Header, 11>) -> Option<u
 
 /// The headers of the frame, and where its payload begins.
 fn find(frame: &[u8], found: &mut ArrayVec<Header, 11>) -> Option<usize>
-    requires { found.old.items ≡ [] }
-    ensures { IsFound [] found.new.items result (shape_of frame.now) }
+    requires empty { found.old.items ≡ [] }
+    ensures found { IsFound [] found.new.items result (shape_of frame.now) }
 {
     let Some((protocol, place)) = link(frame, 0, found) else {
         return None;

@@ -62,7 +62,7 @@ const TUNNEL_FLOW: [u8; 119] = [
 
 /// Changes these bytes.
 fn change(frame: &mut [u8], edits: &[(usize, u8)])
-    ensures { length frame.new ≡ length frame.old }
+    ensures len { length frame.new ≡ length frame.old }
 {
     for (at, byte) in edits {
         if let Some(place) = frame.get_mut(*at) {
@@ -73,7 +73,7 @@ fn change(frame: &mut [u8], edits: &[(usize, u8)])
 
 /// Whether the frame is a candidate, where all of it was captured.
 fn is_candidate(frame: &[u8]) -> bool
-    requires { length frame.now < 2 ^ 29 }
+    requires few { length frame.now < 2 ^ 29 }
 {
     let len = frame.len() as u32;
     candidate(frame, &Partial::new(), len, len).is_some()

@@ -2,7 +2,7 @@ use Rattle.std.proofs.Common.{◌≡◌, ◌+◌, ◌-◌, None, Some, [], sym, 
 use Rattle.inet_sum.specs.Stands.{StandsFor}
 use Rattle.frame_layout.specs.Segment.{IsSegOf}
 use Rattle.frame_layout.proofs.Frames.{shape_of_head, payload_of}
-use Rattle.frame_layout.proofs.judge.candidate.Goals as goal
+use Rattle.frame_layout.proofs.candidates.candidate.Goals as goal
 
 pub returns-then-len-original : goal.returns-then-len-original
 returns-then-len-original c = record {

@@ -1,6 +1,6 @@
 use Rattle.std.proofs.Common.{Some, sym, subst}
 use Rattle.frame_layout.specs.Segment.{IsSegOf}
-use Rattle.frame_layout.proofs.judge.candidate_in.Goals as goal
+use Rattle.frame_layout.proofs.candidates.candidate_in.Goals as goal
 
 pub returns : goal.returns
 returns c = record {

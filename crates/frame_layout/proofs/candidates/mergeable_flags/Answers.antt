@@ -9,7 +9,7 @@ use Rattle.frame_layout.proofs.Bounds.{IsPlaced, placed}
 use Rattle.frame_layout.proofs.Frames.{judged, refused, candidate_is, is_candidate, not_longer}
 use Rattle.frame_layout.specs.Segment.{flags_of as flags_said, HasFlags}
 use Rattle.frame_layout.proofs.ControlBits.{has_flags, same_flags}
-use Rattle.frame_layout.proofs.judge.mergeable_flags.Goals as goal
+use Rattle.frame_layout.proofs.candidates.mergeable_flags.Goals as goal
 
 pub returns-then-original-len : goal.returns-then-original-len
 returns-then-original-len c = record {
@@ -55,7 +55,7 @@ returns-then-not-are_right c = record {
       subst (are_headers_right f (record { layer = Ethernet; at = 0 })) (sym c.headers.ensures.headers) (is_candidate f c.args.original c.args.layout.now k) in
       let long : length f ≡ c.payload_at-end.result + c.len.result = omega (arith, j.long, c.payload_at-end.ensures.place, c.len.ensures.len) in
       let fold : c.fold.result ≡ fold_of (drop c.payload_at-end.result f) = c.fold.ensures.is ∙ j.fold ∙ ap (λ n. fold_of (drop n f)) (sym c.payload_at-end.ensures.place) in
-      let t : c.are_right.result ≡ true = (c.are_right.ensures f (record { begins = j.begins; long = long; fold = fold })).1 r in
+      let t : c.are_right.result ≡ true = (c.are_right.ensures.right f (record { begins = j.begins; long = long; fold = fold })).1 r in
       absurd cc);
 }
 
@@ -79,11 +79,11 @@ returns c = record {
       let fold : c.fold.result ≡ fold_of (drop c.payload_at-end.result f) = c.fold.ensures.is ∙ j.fold ∙ ap (λ n. fold_of (drop n f)) (sym c.payload_at-end.ensures.place) in
       let r : are_headers_right f (record { layer = Ethernet; at = 0 }) p.headers =
       subst (are_headers_right f (record { layer = Ethernet; at = 0 })) c.headers.ensures.headers
-      ((c.are_right.ensures f (record { begins = j.begins; long = long; fold = fold })).0 c.if-not-are_right.false) in
+      ((c.are_right.ensures.right f (record { begins = j.begins; long = long; fold = fold })).0 c.if-not-are_right.false) in
       let there : AtHeaders (λ layer at. at + size layer ≤ length h) p.headers =
       within_all p.payload_at (length h) p.headers i.within (inside_all 0 p.payload_at p.headers i.laid) in
       let e : c.flags_of.result ≡ flags_said f p.headers =
-      c.flags_of.ensures ∙ ap (flags_said h) c.headers-2.ensures.headers ∙ same_flags h f j.begins p.headers there in (
+      c.flags_of.ensures.flags ∙ ap (flags_said h) c.headers-2.ensures.headers ∙ same_flags h f j.begins p.headers there in (
         candidate_is f c.args.original p (omega (arith, c.if-original-len.false, long)) (omega (arith, c.if-end-len.false, long, c.payload_at-end.ensures.place)) r,
         record {
           shape = j.shape;

@@ -28,7 +28,7 @@ returns c = record {
       let h = c.args.head.now in
       let o = c.requires.shape.1.0 in
       let e : shape_of h ≡ Some c.args.layout.now = same_shapes h c.requires.shape.0 (λ k. omega (arith, c.type_inv.head k)) o.more o.enough o.begins ∙ c.requires.shape.1.1 in
-      c.of.ensures ∙ ap Some (c.add_parts.ensures
+      c.of.ensures.bytes ∙ ap Some (c.add_parts.ensures.items
       ∙ ap (λ z. z ++ flat_map (λ x. flow_part h x.layer x.at) c.headers.result.now) c.new-own.ensures
       ∙ ap (λ z. flat_map (λ x. flow_part h x.layer x.at) z) c.headers.ensures.headers)
       ∙ key_some h c.args.layout.now (sym e) ∙ same_keys h f (λ k. omega (arith, c.type_inv.head k)) s;

@@ -5,22 +5,22 @@ use Rattle.frame_layout.proofs.read.network.Goals as goal
 
 pub returns-then-not-is_ip4-clause-found : goal.returns-then-not-is_ip4-clause-found
 returns-then-not-is_ip4-clause-found c = λ tunnel.
-    network_not_ip4 c.args.frame.now tunnel c.args.kind c.args.at c.if-kind-eq2048.true (sym c.is_ip4.ensures ∙ c.if-not-is_ip4.true)
+    network_not_ip4 c.args.frame.now tunnel c.args.kind c.args.at c.if-kind-eq2048.true (sym c.is_ip4.ensures.there ∙ c.if-not-is_ip4.true)
 
 pub returns-then-not-is_ip6-clause-found : goal.returns-then-not-is_ip6-clause-found
 returns-then-not-is_ip6-clause-found c = λ tunnel.
-    network_not_ip6 c.args.frame.now tunnel c.args.kind c.args.at c.if-kind-eq34525.true (sym c.is_ip6.ensures ∙ c.if-not-is_ip6.true)
+    network_not_ip6 c.args.frame.now tunnel c.args.kind c.args.at c.if-kind-eq34525.true (sym c.is_ip6.ensures.there ∙ c.if-not-is_ip6.true)
 
 pub returns-else-not-is_ip4-clause-found : goal.returns-else-not-is_ip4-clause-found
 returns-else-not-is_ip4-clause-found c = (
   record { layer = Ip4; at = c.args.at } ∷ [],
   c.push.ensures.items,
-  λ tunnel. network_ip4 c.args.frame.now tunnel c.args.kind c.args.at c.if-kind-eq2048.true (sym c.is_ip4.ensures ∙ c.if-not-is_ip4.false),
+  λ tunnel. network_ip4 c.args.frame.now tunnel c.args.kind c.args.at c.if-kind-eq2048.true (sym c.is_ip4.ensures.there ∙ c.if-not-is_ip4.false),
 )
 
 pub returns-else-not-is_ip6-clause-found : goal.returns-else-not-is_ip6-clause-found
 returns-else-not-is_ip6-clause-found c = (
   record { layer = Ip6; at = c.args.at } ∷ [],
   c.push-then-kind-eq34525.ensures.items,
-  λ tunnel. network_ip6 c.args.frame.now tunnel c.args.kind c.args.at c.if-kind-eq34525.true (sym c.is_ip6.ensures ∙ c.if-not-is_ip6.false),
+  λ tunnel. network_ip6 c.args.frame.now tunnel c.args.kind c.args.at c.if-kind-eq34525.true (sym c.is_ip6.ensures.there ∙ c.if-not-is_ip6.false),
 )

@@ -16,7 +16,7 @@ returns-then-not-is_tag-clause-found c =
 pub returns-then-not-is_tag_there-clause-found : goal.returns-then-not-is_tag_there-clause-found
 returns-then-not-is_tag_there-clause-found c = λ tunnel.
     typed_short c.args.frame.now tunnel 2 c.args.at (omega arith)
-    (ap is_tag_type (sym c.be16-kind.ensures.number) ∙ sym c.is_tag.ensures.tag ∙ c.if-not-is_tag.false) (sym c.is_tag_there.ensures ∙ c.if-not-is_tag_there.true)
+    (ap is_tag_type (sym c.be16-kind.ensures.number) ∙ sym c.is_tag.ensures.tag ∙ c.if-not-is_tag.false) (sym c.is_tag_there.ensures.there ∙ c.if-not-is_tag_there.true)
 
 pub returns-clause-found : goal.returns-clause-found
 returns-clause-found c =
@@ -25,5 +25,5 @@ returns-clause-found c =
     (λ tunnel. typed_from c.args.frame.now tunnel 1 (c.args.at + 4)) (λ tunnel. typed_from c.args.frame.now tunnel 2 c.args.at)
     c.push.ensures.items
     (λ tunnel. typed_tag c.args.frame.now tunnel 2 c.args.at (omega arith)
-    (ap is_tag_type (sym c.be16-kind.ensures.number) ∙ sym c.is_tag.ensures.tag ∙ c.if-not-is_tag.false) (sym c.is_tag_there.ensures ∙ c.if-not-is_tag_there.false))
+    (ap is_tag_type (sym c.be16-kind.ensures.number) ∙ sym c.is_tag.ensures.tag ∙ c.if-not-is_tag.false) (sym c.is_tag_there.ensures.there ∙ c.if-not-is_tag_there.false))
     c.one_tag.ensures.found
