@@ -34,8 +34,8 @@ pub struct Empty;
 impl Pool {
     /// A pool of `n` new blocks, all home. All its memory is taken here.
     pub fn make(alloc: Global, n: u32) -> Result<Pool, AllocError>
-        requires { n ≤ 65536 }
-        ensures { IfOk result (λ pool. (home pool ≡ n) × (pool.made ≡ n) × (pool.taken ≡ 0)) }
+        requires few { n ≤ 65536 }
+        ensures made { IfOk result (λ pool. (home pool ≡ n) × (pool.made ≡ n) × (pool.taken ≡ 0)) }
     {
         let mut blocks = Vec::with_capacity(alloc, n as usize)?;
         for _ in 0..n {
@@ -51,8 +51,8 @@ impl Pool {
 
     /// A pool with places for `n` blocks, none of them home. All its memory is taken here.
     pub fn empty(alloc: Global, n: u32) -> Result<Pool, AllocError>
-        requires { n ≤ 65536 }
-        ensures { IfOk result (λ pool. (pool.blocks ≡ []) × (pool.made ≡ n) × (pool.taken ≡ 0)) }
+        requires few { n ≤ 65536 }
+        ensures none { IfOk result (λ pool. (pool.blocks ≡ []) × (pool.made ≡ n) × (pool.taken ≡ 0)) }
     {
         let blocks = Vec::with_capacity(alloc, n as usize)?;
         Ok(Pool {
@@ -79,8 +79,8 @@ impl Pool {
 
     /// A block comes home.
     pub fn put(&mut self, block: Sole)
-        requires { home self.old < self.old.made }
-        ensures { self.new ≡ record self.old { blocks = self.old.blocks ++ block ∷ [] } }
+        requires out { home self.old < self.old.made }
+        ensures home { self.new ≡ record self.old { blocks = self.old.blocks ++ block ∷ [] } }
     {
         self.blocks.push_reserved(block);
     }
@@ -127,7 +127,7 @@ impl Pool {
 
     /// The takes that were answered with a block. It stays at `2^64 - 1`.
     pub fn taken(&self) -> u64
-        ensures { result ≡ self.now.taken }
+        ensures value { result ≡ self.now.taken }
     {
         self.taken
     }

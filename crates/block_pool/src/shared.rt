@@ -82,7 +82,7 @@ pub struct Empty {
 impl Empty {
     /// The takes of its pass up to that step.
     pub fn takes(&self) -> u64
-        ensures { result ≡ self.now.takes }
+        ensures value { result ≡ self.now.takes }
     {
         self.takes
     }
@@ -99,7 +99,7 @@ impl SharedPool {
         alloc: Global,
         n: u32,
     ) -> Result<(SharedPool, PoolPass), AllocError>
-        requires { (1 ≤ n) × (n ≤ 65536) }
+        requires few { (1 ≤ n) × (n ≤ 65536) }
         ensures made { IfOk result (λ r. (r.0.made ≡ n) × IsOpening r.0 r.1) }
         ensures blocks { IfOk result (λ r. All IsFresh r.1.made) }
     {
@@ -140,8 +140,8 @@ impl SharedPool {
 
     /// Adds the parts and the counts of `spent` to those of `kept`. Both are this pool's.
     pub fn gather<R: Wait>(&self, rt: &R, spent: PoolPass, kept: &mut PoolPass)
-        requires { IsOwn self.now kept.old × IsOwn self.now spent }
-        ensures { Gathered kept.old spent kept.new }
+        requires own { IsOwn self.now kept.old × IsOwn self.now spent }
+        ensures gathered { Gathered kept.old spent kept.new }
     {
         let PoolPass {
             pass: theirs,
@@ -166,7 +166,7 @@ impl SharedPool {
     /// The block that is home for longest, as its only holder. `Empty` only where the queue held no block at a step of this
     /// call, and never where all passes are gathered into this one and its counts show a block home.
     pub fn take<R: Wait>(&self, rt: &R, pass: &mut PoolPass) -> Result<Sole, Empty>
-        requires { IsOwn self.now pass.old }
+        requires own { IsOwn self.now pass.old }
         ensures taken { IfOk result (λ block. Took pass.old block pass.new) }
         ensures empty { IfErr result (λ e. (e.takes ≡ pass.old.takes) × FoundEmpty pass.old pass.new) }
         ensures same { IsSame pass.old pass.new }
@@ -181,7 +181,7 @@ impl SharedPool {
     /// Brings a block home, and takes no memory. `Full`, with the block, only where the queue held as many blocks as were
     /// made at a step of this call, and never where all passes are gathered into this one and its counts show fewer home.
     pub fn put<R: Wait>(&self, rt: &R, pass: &mut PoolPass, block: Sole) -> Result<(), Full>
-        requires { IsOwn self.now pass.old }
+        requires own { IsOwn self.now pass.old }
         ensures put { IfOk result (λ _. Put pass.old block pass.new) }
         ensures full { IfErr result (λ full. (full.0 ≡ block) × FoundFull pass.old pass.new) }
         ensures same { IsSame pass.old pass.new }
@@ -207,7 +207,7 @@ impl SharedPool {
 
     /// The blocks that were made.
     pub fn made(&self) -> u32
-        ensures { result ≡ self.now.made }
+        ensures value { result ≡ self.now.made }
     {
         self.made
     }
@@ -216,28 +216,28 @@ impl SharedPool {
 impl PoolPass {
     /// The takes that were answered with a block.
     pub fn takes(&self) -> u64
-        ensures { result ≡ self.now.takes }
+        ensures value { result ≡ self.now.takes }
     {
         self.takes
     }
 
     /// The puts that brought a block home.
     pub fn puts(&self) -> u64
-        ensures { result ≡ self.now.puts }
+        ensures value { result ≡ self.now.puts }
     {
         self.puts
     }
 
     /// The takes that found no block. It stays at `2^64 - 1`.
     pub fn empties(&self) -> u64
-        ensures { result ≡ self.now.empties }
+        ensures value { result ≡ self.now.empties }
     {
         self.empties
     }
 
     /// The puts that found all blocks home. It stays at `2^64 - 1`.
     pub fn fulls(&self) -> u64
-        ensures { result ≡ self.now.fulls }
+        ensures value { result ≡ self.now.fulls }
     {
         self.fulls
     }

@@ -9,7 +9,7 @@ use std::test::Fail;
 
 // What is home without the block, whether a second take is Empty, and whether the block can be taken again.
 fn turn(pool: &mut Pool) -> (u32, bool, bool)
-    requires { (home pool.old ≡ 1) × (pool.old.made ≡ 1) }
+    requires one { (home pool.old ≡ 1) × (pool.old.made ≡ 1) }
 {
     match pool.take() {
         Ok(block) => {

@@ -13,7 +13,7 @@ use std::sync::Wait;
 // Waits for ever. A count of what was done can't wrap: whoever stands at its end, after 2^64 - 1 steps, goes no further, as
 // the queue itself doesn't after 2^62 pushes.
 pub(super) fn stall<R: Wait>(rt: &R)
-    ensures { ⊥ }
+    ensures never { ⊥ }
 {
     for _ in rt.forever() {}
     unreachable!()
@@ -35,7 +35,7 @@ pub(super) fn fill_once<R: Wait>(rt: &R, queue: &Blocks, pass: &mut Pass<Sole, T
 
 /// One pop. `None` where the queue was empty at its step, which is counted.
 pub(super) fn pop_once<R: Wait>(rt: &R, queue: &Blocks, pass: &mut PoolPass) -> Option<Sole>
-    requires { (pass.old.pool ≡ queue.now.table.shared.table_id) × (pass.old.size ≡ ruled_capacity queue.now) }
+    requires own { (pass.old.pool ≡ queue.now.table.shared.table_id) × (pass.old.size ≡ ruled_capacity queue.now) }
     ensures step { MatchOption result (FoundEmpty pass.old pass.new) (λ block. Took pass.old block pass.new) }
     ensures sure { pass.old.parts ≡ 65536 → MatchOption result (pass.old.takes ≡ pass.old.size + pass.old.puts) (λ _. Unit {0}) }
 {
@@ -58,7 +58,7 @@ pub(super) fn push_once<R: Wait>(
     pass: &mut PoolPass,
     block: Sole,
 ) -> Result<(), Sole>
-    requires { (pass.old.pool ≡ queue.now.table.shared.table_id) × (pass.old.size ≡ ruled_capacity queue.now) }
+    requires own { (pass.old.pool ≡ queue.now.table.shared.table_id) × (pass.old.size ≡ ruled_capacity queue.now) }
     ensures step { MatchResult result (λ _. Put pass.old block pass.new) (λ back. (back ≡ block) × FoundFull pass.old pass.new) }
     ensures sure { pass.old.parts ≡ 65536 → OnErr result (pass.old.takes ≡ pass.old.puts) }
 {

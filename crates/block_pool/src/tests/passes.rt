@@ -24,7 +24,7 @@ fn one_block<R: Wait>(
     pass: &mut PoolPass,
     fresh: Sole,
 ) -> Option<(u64, bool)>
-    requires { IsOwn pool.now pass.old }
+    requires own { IsOwn pool.now pass.old }
 {
     let block = pool.take(rt, pass).ok()?;
     let empty = pool.take(rt, pass).err()?;
@@ -50,8 +50,8 @@ fn one_block_is_taken_and_comes_home(rt: HostRuntime) -> Result<(), Fail> {
 
 // Takes two blocks, and the takes that were done when the third was Empty.
 fn two_blocks<R: Wait>(rt: &R, pool: &SharedPool, pass: &mut PoolPass) -> Option<(Sole, Sole, u64)>
-    requires { IsOwn pool.now pass.old }
-    ensures { IsSame pass.old pass.new }
+    requires own { IsOwn pool.now pass.old }
+    ensures same { IsSame pass.old pass.new }
 {
     let first = pool.take(rt, pass).ok()?;
     let second = pool.take(rt, pass).ok()?;
@@ -61,8 +61,8 @@ fn two_blocks<R: Wait>(rt: &R, pool: &SharedPool, pass: &mut PoolPass) -> Option
 
 // How many blocks are home, where the pass has all parts.
 fn home<R: Wait>(rt: &R, pool: &SharedPool, pass: &mut PoolPass) -> Option<usize>
-    requires { IsOwn pool.now pass.old }
-    ensures { IsSame pass.old pass.new }
+    requires own { IsOwn pool.now pass.old }
+    ensures same { IsSame pass.old pass.new }
 {
     if pass.parts() < 65_536 {
         return None;
@@ -93,8 +93,8 @@ fn a_forked_pass_finds_the_pool_empty(rt: HostRuntime) -> Result<(), Fail> {
 
 // Marks the blocks from 0 on, as each goes to the back.
 fn mark_each<R: Wait>(rt: &R, pool: &SharedPool, pass: &mut PoolPass)
-    requires { IsOwn pool.now pass.old }
-    ensures { IsSame pass.old pass.new }
+    requires own { IsOwn pool.now pass.old }
+    ensures same { IsSame pass.old pass.new }
 {
     for mark in 0..pool.made() {
         if let Ok(mut block) = pool.take(rt, pass) {
@@ -113,7 +113,7 @@ fn marks<R: Wait>(
     pool: &SharedPool,
     pass: &mut PoolPass,
 ) -> Result<Vec<u32>, AllocError>
-    requires { IsOwn pool.now pass.old }
+    requires own { IsOwn pool.now pass.old }
 {
     let mut marks = Vec::new(alloc);
     for _ in 0..pool.made() {
@@ -130,7 +130,7 @@ fn forked(
     pool: &SharedPool,
     pass: &mut PoolPass,
 ) -> Result<Vec<PoolPass>, AllocError>
-    requires { IsOwn pool.now pass.old × (5 ≤ pass.old.parts) }
+    requires own { IsOwn pool.now pass.old × (5 ≤ pass.old.parts) }
     ensures own { IsOwn pool.now pass.new }
     ensures all { IfOk result (λ passes. All (IsOwn pool.now) passes.items) }
 {
@@ -143,8 +143,8 @@ fn forked(
 }
 
 fn gather_all<R: Wait>(rt: &R, pool: &SharedPool, mut passes: Vec<PoolPass>, kept: &mut PoolPass)
-    requires { IsOwn pool.now kept.old × All (IsOwn pool.now) passes.items }
-    ensures { IsOwn pool.now kept.new }
+    requires own { IsOwn pool.now kept.old × All (IsOwn pool.now) passes.items }
+    ensures own { IsOwn pool.now kept.new }
 {
     while let Some(pass) = passes.pop() {
         pool.gather(rt, pass, kept);
@@ -153,8 +153,8 @@ fn gather_all<R: Wait>(rt: &R, pool: &SharedPool, mut passes: Vec<PoolPass>, kep
 
 // A block is taken and put back, if one is home.
 fn turn<R: Wait>(rt: &R, pool: &SharedPool, pass: &mut PoolPass)
-    requires { IsOwn pool.now pass.old }
-    ensures { IsSame pass.old pass.new }
+    requires own { IsOwn pool.now pass.old }
+    ensures same { IsSame pass.old pass.new }
 {
     if let Ok(block) = pool.take(rt, pass) {
         match pool.put(rt, pass, block) {
@@ -165,8 +165,8 @@ fn turn<R: Wait>(rt: &R, pool: &SharedPool, pass: &mut PoolPass)
 }
 
 fn turns<R: Wait>(rt: &R, pool: &SharedPool, pass: &mut PoolPass)
-    requires { IsOwn pool.now pass.old }
-    ensures { IsOwn pool.now pass.new }
+    requires own { IsOwn pool.now pass.old }
+    ensures own { IsOwn pool.now pass.new }
 {
     for _ in 0..100_000 {
         turn(rt, pool, pass);
@@ -174,8 +174,8 @@ fn turns<R: Wait>(rt: &R, pool: &SharedPool, pass: &mut PoolPass)
 }
 
 fn turns_of_all<R: Threads + Wait + Sync>(rt: &R, pool: &SharedPool, passes: &mut [PoolPass])
-    requires { All (IsOwn pool.now) passes.old }
-    ensures { All (IsOwn pool.now) passes.new }
+    requires all { All (IsOwn pool.now) passes.old }
+    ensures all { All (IsOwn pool.now) passes.new }
 {
     thread::for_each_mut(rt, passes, 4, &|_, pass| turns(rt, pool, pass));
 }
@@ -211,7 +211,7 @@ fn with_blocks<R: Wait>(
     pool: &SharedPool,
     pass: &mut PoolPass,
 ) -> Result<Giver, AllocError>
-    requires { IsOwn pool.now pass.old × (2 ≤ pass.old.parts) }
+    requires own { IsOwn pool.now pass.old × (2 ≤ pass.old.parts) }
     ensures kept { IsOwn pool.now pass.new × (pass.old.parts ≤ pass.new.parts + 1) }
     ensures giver { IfOk result (λ giver. IsOwn pool.now giver.pass) }
 {
@@ -234,7 +234,7 @@ fn four_givers<R: Wait>(
     pool: &SharedPool,
     pass: &mut PoolPass,
 ) -> Result<Vec<Giver>, AllocError>
-    requires { IsOwn pool.now pass.old × (5 ≤ pass.old.parts) }
+    requires own { IsOwn pool.now pass.old × (5 ≤ pass.old.parts) }
     ensures own { IsOwn pool.now pass.new }
     ensures all { IfOk result (λ givers. All (λ giver. IsOwn pool.now giver.pass) givers.items) }
 {
@@ -248,8 +248,8 @@ fn four_givers<R: Wait>(
 }
 
 fn give<R: Wait>(rt: &R, pool: &SharedPool, giver: &mut Giver)
-    requires { IsOwn pool.now giver.old.pass }
-    ensures { IsOwn pool.now giver.new.pass }
+    requires own { IsOwn pool.now giver.old.pass }
+    ensures own { IsOwn pool.now giver.new.pass }
 {
     while let Some(block) = giver.blocks.pop() {
         match pool.put(rt, &mut giver.pass, block) {
@@ -260,8 +260,8 @@ fn give<R: Wait>(rt: &R, pool: &SharedPool, giver: &mut Giver)
 }
 
 fn give_all<R: Threads + Wait + Sync>(rt: &R, pool: &SharedPool, givers: &mut [Giver])
-    requires { All (λ giver. IsOwn pool.now giver.pass) givers.old }
-    ensures { All (λ giver. IsOwn pool.now giver.pass) givers.new }
+    requires all { All (λ giver. IsOwn pool.now giver.pass) givers.old }
+    ensures all { All (λ giver. IsOwn pool.now giver.pass) givers.new }
 {
     thread::for_each_mut(rt, givers, 4, &|_, giver| give(rt, pool, giver));
 }
@@ -273,8 +273,8 @@ fn read_all<R: Wait>(
     pool: &SharedPool,
     pass: &mut PoolPass,
 ) -> Result<Vec<u32>, AllocError>
-    requires { IsOwn pool.now pass.old }
-    ensures { IsOwn pool.now pass.new }
+    requires own { IsOwn pool.now pass.old }
+    ensures own { IsOwn pool.now pass.new }
 {
     let mut marks = Vec::with_capacity(alloc, 400)?;
     for _ in rt.forever() {
@@ -296,14 +296,14 @@ fn give_and_read<R: Threads + Wait + Sync>(
     givers: &mut [Giver],
     pass: &mut PoolPass,
 ) -> Result<Vec<u32>, AllocError>
-    requires { IsOwn pool.now pass.old × All (λ giver. IsOwn pool.now giver.pass) givers.old }
-    ensures { IsOwn pool.now pass.new × All (λ giver. IsOwn pool.now giver.pass) givers.new }
+    requires own { IsOwn pool.now pass.old × All (λ giver. IsOwn pool.now giver.pass) givers.old }
+    ensures own { IsOwn pool.now pass.new × All (λ giver. IsOwn pool.now giver.pass) givers.new }
 {
     let ((), marks) = thread::join_mut(
         rt,
         &mut ||
-            requires { All (λ giver. IsOwn pool.now giver.pass) givers.now }
-            ensures { All (λ giver. IsOwn pool.entry.now giver.pass) givers.exit.now }
+            requires all { All (λ giver. IsOwn pool.now giver.pass) givers.now }
+            ensures all { All (λ giver. IsOwn pool.entry.now giver.pass) givers.exit.now }
         { give_all(rt, pool, givers) },
         &mut || read_all(rt, alloc, pool, pass),
     );
@@ -311,8 +311,8 @@ fn give_and_read<R: Threads + Wait + Sync>(
 }
 
 fn gather_givers<R: Wait>(rt: &R, pool: &SharedPool, mut givers: Vec<Giver>, kept: &mut PoolPass)
-    requires { IsOwn pool.now kept.old × All (λ giver. IsOwn pool.now giver.pass) givers.items }
-    ensures { IsOwn pool.now kept.new }
+    requires own { IsOwn pool.now kept.old × All (λ giver. IsOwn pool.now giver.pass) givers.items }
+    ensures own { IsOwn pool.now kept.new }
 {
     while let Some(Giver { pass, blocks: _ }) = givers.pop() {
         pool.gather(rt, pass, kept);
