@@ -10,11 +10,13 @@ use Rattle.raw_block.specs.declared.part.Released.TheVariants.{Last, Left}
 use Rattle.raw_block.specs.Releases.{IsReleased}
 use Rattle.frags.specs.OutcomesState.{OutcomesState}
 use Rattle.frags.specs.Account.{Keeps, KeepsMarks, every, both, counted, at_home, receipts_held, soles_home, of_part, of_holder, of_released, of_outcomes}
-use Rattle.frags.specs.PieceList.{of_pieces, pieces_held, bytes_of, piece_bytes, size_of, Fits, AllFit, cut_front, block, AsPart}
+use Rattle.frags.specs.Holders.{block, AsPart}
+use Rattle.frags.specs.PieceList.{of_pieces, pieces_held, bytes_of, piece_bytes, size_of, Fits, AllFit, cut_front}
 use Rattle.frags.specs.declared.pieces.Piece.{Piece}
 use Rattle.frags.specs.declared.holder.Holder.{Holder}
 use Rattle.frags.specs.declared.holder.Holder.TheVariants.{Sole, Part}
-use Rattle.frags.proofs.Keeping.{counted-le, soles_home-append, pieces_held-append, size_of-append, AllFit-append}
+use Rattle.frags.proofs.Accounts.{counted-le, soles_home-append, pieces_held-append}
+use Rattle.frags.proofs.PieceBytes.{size_of-append, AllFit-append}
 
 -- a part released is its receipt, or its block's Sole
 pub released_keeps : (p : PartState) (r : Released) → p.weight ≤ full_weight → IsReleased p r → Keeps (of_part p) (of_released r)

@@ -1,8 +1,10 @@
+pub mod Accounts
 pub mod Copying
 pub mod Growing
 pub mod Joining
-pub mod Keeping
+pub mod PieceBytes
 pub mod Places
-pub mod Returning
-pub mod Settling
+mod Returning
+mod Settling
+pub mod Shares
 pub mod Splits

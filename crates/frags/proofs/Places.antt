@@ -9,7 +9,8 @@ use Rattle.frags.specs.declared.pieces.Piece.{Piece}
 use Rattle.frags.specs.Account.{Tests}
 use Rattle.frags.specs.PieceList.{bytes_of, piece_bytes, size_of, Fits, AllFit, pieces_held, keep_front, byte_in, least_weight}
 use Rattle.ref_core.specs.WeightRule.{full_weight}
-use Rattle.frags.proofs.Keeping.{length-piece, size_of-append, AllFit-append, pieces_held-append}
+use Rattle.frags.proofs.Accounts.{pieces_held-append}
+use Rattle.frags.proofs.PieceBytes.{length-piece, size_of-append, AllFit-append}
 use Rattle.frags.proofs.Splits.{halves}
 
 module _ {X : Type 0} (Q : X → Type 0) (p : Piece) (n : ℕ) (x y z : X) where

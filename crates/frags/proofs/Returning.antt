@@ -6,7 +6,7 @@ use Rattle.std.specs.Option.{option_to_list}
 use Rattle.raw_block.specs.Views.{SoleState, ReceiptState}
 use Rattle.frags.specs.OutcomesState.{OutcomesState}
 use Rattle.frags.specs.Account.{Keeps, both, receipts_held, soles_home, of_sole, of_receipt, of_outcomes}
-use Rattle.frags.proofs.Keeping.{receipts_held-append, soles_home-append}
+use Rattle.frags.proofs.Accounts.{receipts_held-append, soles_home-append}
 
 pub sole_kept : (s : SoleState) (a b : OutcomesState) → b.soles ≡ a.soles ++ s ∷ [] → b.receipts ≡ a.receipts → Keeps (both (of_sole s) (of_outcomes a)) (of_outcomes b)
 sole_kept s a b e f t m =

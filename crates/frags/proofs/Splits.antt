@@ -7,8 +7,9 @@ use borrow.Author.Tests.{ltb-true, ltb-false, eqb-true, eqb-false}
 use lib.Dec.{ltb, eqb}
 use Rattle.frags.specs.declared.pieces.Piece.{Piece}
 use Rattle.frags.specs.Account.{Tests}
-use Rattle.frags.specs.PieceList.{bytes_of, piece_bytes, size_of, AllFit, kept, given, gift, front, back, cut_worn, pieces_held}
-use Rattle.frags.proofs.Keeping.{gift-weighs, kept_given}
+use Rattle.frags.specs.Gifts.{kept, given, gift, front, back, cut_worn}
+use Rattle.frags.specs.PieceList.{bytes_of, piece_bytes, size_of, AllFit, pieces_held}
+use Rattle.frags.proofs.Shares.{gift-weighs, kept_given}
 
 by_test : (P : Bool → Type 0) (b : Bool) → (b ≡ true → P true) → (b ≡ false → P false) → P b
 by_test P true f g = f refl

@@ -41,7 +41,7 @@ impl PieceBuilder {
 
     /// The number of pieces that there is room for.
     pub fn room(&self) -> usize
-        ensures { result ≡ self.now.room }
+        ensures value { result ≡ self.now.room }
     {
         self.items.capacity() - self.items.len()
     }
@@ -81,7 +81,7 @@ impl PieceBuilder {
 
     /// The list of the pieces.
     pub fn finish(self) -> Pieces
-        ensures { result ≡ self.pieces }
+        ensures pieces { result ≡ self.pieces }
     {
         let PieceBuilder { items, size } = self;
         Pieces { items, size }

@@ -1,7 +1,8 @@
 //! Cutting pieces in two.
 ghost use Rattle.std.specs.Prelude.{◌≡◌, ◌+◌, ◌-◌, ◌≤◌, ◌++◌, [], false, length};
 ghost use Rattle.std.specs.VecDeque.{deque_len, deque_capacity};
-ghost use Rattle.frags.specs.PieceList.{AllFit, size_of, front, back, cut_worn};
+ghost use Rattle.frags.specs.Gifts.{front, back, cut_worn};
+ghost use Rattle.frags.specs.PieceList.{AllFit, size_of};
 
 use crate::{Piece, give_share};
 use std::collections::VecDeque;

@@ -1,7 +1,8 @@
 //! Who holds a block, and what a part of it gives away.
 ghost use Rattle.std.specs.Prelude.{◌≡◌, ◌≢◌, ◌<◌, ◌≤◌};
 ghost use Rattle.ref_core.specs.WeightRule.{full_weight};
-ghost use Rattle.frags.specs.PieceList.{AsPart, less, gave};
+ghost use Rattle.frags.specs.Gifts.{less, gave};
+ghost use Rattle.frags.specs.Holders.{AsPart};
 
 use raw_block::{Part, Released, Sole};
 
@@ -43,7 +44,7 @@ impl Holder {
 
 /// A second part, which gets `max(1, weight / 4096)` of a part's weight. A part of weight 1 has nothing to give.
 pub fn give_share(part: &mut Part) -> Part
-    requires { part.old.weight ≢ 1 }
+    requires fresh { part.old.weight ≢ 1 }
     ensures share { result ≡ gave part.old }
     ensures left { part.new ≡ less part.old }
 {

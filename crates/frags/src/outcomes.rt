@@ -74,7 +74,7 @@ impl Outcomes {
 
     /// The places that are reserved for more.
     pub fn spare(&self) -> usize
-        ensures { result ≡ self.now.spare }
+        ensures value { result ≡ self.now.spare }
     {
         let soles = self.soles.capacity() - self.soles.len();
         let receipts = self.receipts.capacity() - self.receipts.len();
@@ -83,7 +83,7 @@ impl Outcomes {
 
     /// Keeps a Sole behind the others, in a reserved place.
     pub fn keep_sole(&mut self, sole: Sole)
-        requires { 1 ≤ self.old.spare }
+        requires spare { 1 ≤ self.old.spare }
         ensures soles { self.new.soles ≡ self.old.soles ++ sole ∷ [] }
         ensures receipts { self.new.receipts ≡ self.old.receipts }
         ensures kept { Keeps (both (of_sole sole) (of_outcomes self.old)) (of_outcomes self.new) }
@@ -95,7 +95,7 @@ impl Outcomes {
 
     /// Keeps a receipt behind the others, in a reserved place.
     pub fn keep_receipt(&mut self, receipt: Receipt)
-        requires { 1 ≤ self.old.spare }
+        requires spare { 1 ≤ self.old.spare }
         ensures soles { self.new.soles ≡ self.old.soles }
         ensures receipts { self.new.receipts ≡ self.old.receipts ++ receipt ∷ [] }
         ensures kept { Keeps (both (of_receipt receipt) (of_outcomes self.old)) (of_outcomes self.new) }
@@ -127,7 +127,7 @@ impl Outcomes {
 
     /// Spends what holds no Sole, and closes its receipts.
     pub fn settle(self)
-        requires { self.soles ≡ [] }
+        requires empty { self.soles ≡ [] }
     {
         let Outcomes {
             soles: _,
@@ -141,7 +141,7 @@ impl Outcomes {
 
     /// Releases a part, and keeps what that leaves: its block's Sole, or a receipt of its weight.
     pub fn give_back(&mut self, part: Part)
-        requires { 1 ≤ self.old.spare }
+        requires spare { 1 ≤ self.old.spare }
         ensures gave { (r : Released) × (IsReleased part r × ((part.weight ≡ full_weight) → IsLast r) × Behind r self.old self.new) }
         ensures grows { Grows 1 self.old self.new }
         ensures kept { Keeps (both (of_part part) (of_outcomes self.old)) (of_outcomes self.new) }
@@ -156,7 +156,7 @@ impl Outcomes {
 
     /// As `give_back`, of a Sole too, which is kept as it is.
     pub fn give_back_holder(&mut self, holder: Holder)
-        requires { 1 ≤ self.old.spare }
+        requires spare { 1 ≤ self.old.spare }
         ensures grows { Grows 1 self.old self.new }
         ensures kept { Keeps (both (of_holder holder) (of_outcomes self.old)) (of_outcomes self.new) }
         ensures places { self.old.spare ≤ self.new.spare + 1 }

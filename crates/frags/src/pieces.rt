@@ -5,7 +5,9 @@ ghost use Rattle.frags.specs.declared.holder.Holder.{Holder};
 ghost use Rattle.raw_block.specs.Views.{PartState};
 ghost use Rattle.frags.specs.Account.{Tests, Keeps, KeepsMarks, both, of_part, of_holder, of_outcomes};
 ghost use Rattle.frags.specs.Growth.{Grows};
-ghost use Rattle.frags.specs.PieceList.{bytes_of, piece_bytes, pieces_held, Fits, AllFit, size_of, of_pieces, IsShare, IsSplit, IsAppend, byte_in, keep_front, least_weight, cut_front, front, cut_worn, worn};
+ghost use Rattle.frags.specs.Gifts.{IsShare, IsSplit, front, cut_worn, worn};
+ghost use Rattle.frags.specs.Holders.{IsAppend};
+ghost use Rattle.frags.specs.PieceList.{bytes_of, piece_bytes, pieces_held, Fits, AllFit, size_of, of_pieces, byte_in, keep_front, least_weight, cut_front};
 
 use crate::cuts::split_into;
 use crate::{Holder, Outcomes, give_share};
@@ -96,7 +98,7 @@ impl Pieces {
 
     /// Some part weighs 1, and has nothing to give.
     pub fn is_worn(&self) -> bool
-        ensures { result ≡ worn self.now }
+        ensures worn { result ≡ worn self.now }
     {
         for i in 0..self.items.len() {
             let piece = &self.items[i];
@@ -109,7 +111,7 @@ impl Pieces {
 
     /// The least weight of a part, `FULL` where there is none.
     pub fn least_weight(&self) -> u64
-        ensures { result ≡ least_weight self.now }
+        ensures least { result ≡ least_weight self.now }
     {
         let mut least = FULL;
         for i in 0..self.items.len() {
@@ -120,15 +122,15 @@ impl Pieces {
 
     /// The byte at a place.
     pub fn byte_at(&self, i: usize) -> u8
-        requires { i < size_of self.now }
-        ensures { (d : ℕ) → result ≡ slice_index_or (bytes_of self.now) i d }
+        requires within { i < size_of self.now }
+        ensures byte { (d : ℕ) → result ≡ slice_index_or (bytes_of self.now) i d }
     {
         self.find_byte(i)
     }
 
     /// Copies the bytes from the place `at` on over `into`, as many as it has, in one pass over the pieces.
     pub fn copy_out(&self, at: usize, into: &mut [u8])
-        requires { at + length into.old ≤ size_of self.now }
+        requires within { at + length into.old ≤ size_of self.now }
         ensures bytes { into.new ≡ slice_range (bytes_of self.now) at (at + length into.old) }
     {
         let mut skip = at;
@@ -146,8 +148,8 @@ impl Pieces {
 
     /// The bytes of the i-th piece, uncopied.
     pub fn slice(&self, i: usize) -> &[u8]
-        requires { i < length self.now }
-        ensures { (d : Piece) → result.now ≡ piece_bytes (slice_index_or self.now i d) }
+        requires within { i < length self.now }
+        ensures bytes { (d : Piece) → result.now ≡ piece_bytes (slice_index_or self.now i d) }
     {
         bytes_in(&self.items[i])
     }
@@ -222,7 +224,7 @@ impl Pieces {
 
     /// The other's pieces follow, uncopied. Where there is no memory for them the other comes back.
     pub fn join_back(&mut self, other: Pieces) -> Result<(), (Pieces, AllocError)>
-        requires { size_of self.old + size_of other < 2 ^ 32 }
+        requires small { size_of self.old + size_of other < 2 ^ 32 }
         ensures joined { MatchResult result (λ _. self.new ≡ self.old ++ other) (λ e. (self.new ≡ self.old) × (e.0 ≡ other)) }
         ensures kept { IfOk result (λ _. Keeps (both (of_pieces self.old) (of_pieces other)) (of_pieces self.new)) }
         ensures back { IfErr result (λ e. Keeps (both (of_pieces self.old) (of_pieces other)) (both (of_pieces self.new) (of_pieces e.0))) }
@@ -251,9 +253,9 @@ impl Pieces {
     }
 
     /// The first `n` bytes are gone. Pieces that are wholly cut are given back. `Short` exactly where `n > len()`.
-    #[tactic(auto, using(crate::proofs::Keeping::cut_bytes))]
+    #[tactic(auto, using(crate::proofs::PieceBytes::cut_bytes))]
     pub fn cut_front(&mut self, n: usize, out: &mut Outcomes) -> Result<(), Short>
-        requires { length self.old ≤ out.old.spare }
+        requires spare { length self.old ≤ out.old.spare }
         ensures spans { MatchResult result (λ _. (n ≤ size_of self.old) × (self.new ≡ cut_front n self.old)) (λ e. (e.have ≡ size_of self.old) × (e.need ≡ n) × (size_of self.old < n) × (self.new ≡ self.old) × (out.new ≡ out.old)) }
         ensures bytes { IfOk result (λ _. bytes_of self.new ≡ drop n (bytes_of self.old)) }
         ensures kept { Keeps (both (of_pieces self.old) (of_outcomes out.old)) (both (of_pieces self.new) (of_outcomes out.new)) }
@@ -285,7 +287,7 @@ impl Pieces {
 
     /// The last `n` bytes are gone. Pieces that are wholly cut are given back. `Short` exactly where `n > len()`.
     pub fn cut_back(&mut self, n: usize, out: &mut Outcomes) -> Result<(), Short>
-        requires { length self.old ≤ out.old.spare }
+        requires spare { length self.old ≤ out.old.spare }
         ensures cut { MatchResult result (λ _. (n ≤ size_of self.old) × (self.new ≡ keep_front (size_of self.old - n) self.old)) (λ e. (e.have ≡ size_of self.old) × (e.need ≡ n) × (size_of self.old < n) × (self.new ≡ self.old) × (out.new ≡ out.old)) }
         ensures bytes { IfOk result (λ _. bytes_of self.new ≡ take (size_of self.old - n) (bytes_of self.old)) }
         ensures kept { Keeps (both (of_pieces self.old) (of_outcomes out.old)) (both (of_pieces self.new) (of_outcomes out.new)) }
@@ -379,7 +381,7 @@ impl Pieces {
 
     /// Spends an empty list. It takes no memory, and no outcomes.
     pub fn discard(self)
-        requires { self ≡ [] }
+        requires empty { self ≡ [] }
     {
         let Pieces { items, size: _ } = self;
         items.destroy_empty();
@@ -401,7 +403,7 @@ impl Pieces {
 
     /// Gives all parts back, the first piece's first.
     pub fn release(self, out: &mut Outcomes)
-        requires { length self ≤ out.old.spare }
+        requires spare { length self ≤ out.old.spare }
         ensures kept { Keeps (both (of_pieces self) (of_outcomes out.old)) (of_outcomes out.new) }
         ensures grows { Grows (length self) out.old out.new }
         ensures places { out.old.spare ≤ out.new.spare + length self }
@@ -414,7 +416,7 @@ impl Pieces {
     }
 
     fn find_byte(&self, i: usize) -> u8
-        requires { i < size_of self.now }
+        requires within { i < size_of self.now }
         ensures byte { result ≡ byte_in i self.now }
         ensures fits { AllFit self.now }
     {
@@ -453,15 +455,15 @@ impl Pieces {
 
 // The bytes of a piece.
 fn bytes_in(piece: &Piece) -> &[u8]
-    requires { Fits piece.now }
-    ensures { result.now ≡ piece_bytes piece.now }
+    requires fits { Fits piece.now }
+    ensures bytes { result.now ≡ piece_bytes piece.now }
 {
     &piece.part.bytes()[piece.from..piece.to]
 }
 
 // Copies bytes over `into` from the place `done` on, as many as fit, and answers where they end.
 fn copy_on(into: &mut [u8], done: usize, bytes: &[u8]) -> usize
-    requires { done ≤ length into.old }
+    requires within { done ≤ length into.old }
     ensures end { result ≡ done + min (length bytes.now) (length into.old - done) }
     ensures written { take result into.new ≡ take done into.old ++ take (result - done) bytes.now }
     ensures size { length into.new ≡ length into.old }
@@ -473,7 +475,7 @@ fn copy_on(into: &mut [u8], done: usize, bytes: &[u8]) -> usize
 
 // A piece that is gone gives its part back.
 fn give_back(piece: Piece, out: &mut Outcomes)
-    requires { 1 ≤ out.old.spare }
+    requires spare { 1 ≤ out.old.spare }
     ensures grows { Grows 1 out.old out.new }
     ensures kept { Keeps (both (of_part piece.part) (of_outcomes out.old)) (of_outcomes out.new) }
     ensures places { out.old.spare ≤ out.new.spare + 1 }

@@ -8,7 +8,7 @@ use Rattle.frags.specs.OutcomesState.{OutcomesState}
 use Rattle.frags.specs.PieceList.{bytes_of, size_of, AllFit}
 use Rattle.frags.specs.declared.holder.Holder.TheVariants.{Sole}
 use Rattle.frags.specs.declared.pieces.Piece.{Piece}
-use Rattle.frags.proofs.Keeping.{length-bytes_of}
+use Rattle.frags.proofs.PieceBytes.{length-bytes_of}
 use Rattle.skb.specs.SkbState.{SkbState, buffer_bytes, of_buffer}
 use Rattle.skb.specs.Fronts.{IsFronted, front_of}
 use Rattle.gro.specs.declared.packet.Packet.{Packet as Held}

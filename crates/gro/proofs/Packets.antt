@@ -4,7 +4,7 @@ use Rattle.std.proofs.lemmas.List.{append-nil}
 use Rattle.raw_block.specs.Views.{SoleState}
 use Rattle.frags.specs.OutcomesState.{OutcomesState}
 use Rattle.frags.specs.declared.pieces.Piece.{Piece}
-use Rattle.frags.proofs.Keeping.{soles_home-append}
+use Rattle.frags.proofs.Accounts.{soles_home-append}
 use Rattle.frags.specs.Account.{soles_home, receipts_held}
 use Rattle.skb.specs.SkbState.{buffer_bytes}
 use Rattle.gro.specs.declared.packet.Packet.{Packet as Held}

@@ -7,7 +7,7 @@ use Rattle.frags.specs.OutcomesState.{OutcomesState}
 use Rattle.frags.specs.Growth.{Grows}
 use Rattle.frags.specs.PieceList.{bytes_of, size_of, of_pieces, AllFit}
 use Rattle.frags.specs.declared.pieces.Piece.{Piece}
-use Rattle.frags.proofs.Keeping.{count_within}
+use Rattle.frags.proofs.PieceBytes.{count_within}
 use Rattle.skb.specs.SkbState.{SkbState, head_bytes, buffer_bytes, buffer_size, head_size, written}
 use Rattle.skb.specs.Moving.{Moves, JoinsAccount, KeepsLeast, given_back}
 use Rattle.skb.specs.Fronts.{IsFronted, front_of}

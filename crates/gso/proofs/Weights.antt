@@ -6,11 +6,14 @@ use borrow.Author.Tests.{ltb-true, ltb-false}
 use lib.Dec.{ltb, eqb}
 use Rattle.raw_block.specs.Views.{PartState}
 use Rattle.frags.specs.Account.{Tests, counted}
-use Rattle.frags.specs.PieceList.{pieces_held, least_weight, AllFit, gift, less, kept, back, cut_worn, AsPart}
+use Rattle.frags.specs.Gifts.{gift, less, kept, back, cut_worn}
+use Rattle.frags.specs.Holders.{AsPart}
+use Rattle.frags.specs.PieceList.{pieces_held, least_weight, AllFit}
 use Rattle.frags.specs.declared.pieces.Piece.{Piece}
 use Rattle.frags.specs.declared.holder.Holder.{Holder}
 use Rattle.frags.specs.declared.holder.Holder.TheVariants.{Sole, Part}
-use Rattle.frags.proofs.Keeping.{kept_given, count_within}
+use Rattle.frags.proofs.PieceBytes.{count_within}
+use Rattle.frags.proofs.Shares.{kept_given}
 use Rattle.std.proofs.lemmas.List.{nil_from_length}
 use Rattle.frags.proofs.Splits.{by_cut}
 use Rattle.skb.specs.SkbState.{SkbState, IsLent, head_size, head_least, head_worn, buffer_least, buffer_size, of_buffer}

@@ -3,7 +3,8 @@ use Rattle.std.proofs.Common.{◌≡◌, ℕ, zero, suc, ◌+◌, ◌-◌, ◌*�
 use Rattle.std.proofs.lemmas.List.{take_all, take_at, drop_at, length-take-le}
 use Rattle.raw_block.specs.Views.{SoleState}
 use Rattle.frags.specs.declared.pieces.Piece.{Piece}
-use Rattle.frags.specs.PieceList.{bytes_of, piece_bytes, block}
+use Rattle.frags.specs.Holders.{block}
+use Rattle.frags.specs.PieceList.{bytes_of, piece_bytes}
 use Rattle.frags.specs.declared.holder.Holder.{Holder}
 use Rattle.frags.specs.declared.holder.Holder.TheVariants.{Sole, Part}
 use Rattle.skb.specs.SkbState.{IsLent}

@@ -10,11 +10,13 @@ use Rattle.ref_core.specs.WeightRule.{full_weight}
 use Rattle.raw_block.specs.Views.{SoleState, PartState}
 use Rattle.frags.specs.OutcomesState.{OutcomesState}
 use Rattle.frags.specs.Account.{Tests, Keeps, KeepsMarks, both, every, counted, at_home, of_part, of_sole, of_holder, of_outcomes}
-use Rattle.frags.specs.PieceList.{bytes_of, size_of, pieces_held, gift, less, gave, block, AsPart}
+use Rattle.frags.specs.Gifts.{gift, less, gave}
+use Rattle.frags.specs.Holders.{block, AsPart}
+use Rattle.frags.specs.PieceList.{bytes_of, size_of, pieces_held}
 use Rattle.frags.specs.declared.pieces.Piece.{Piece}
 use Rattle.frags.specs.declared.holder.Holder.{Holder}
 use Rattle.frags.specs.declared.holder.Holder.TheVariants.{Sole, Part}
-use Rattle.frags.proofs.Keeping.{counted-le, pieces_held-append}
+use Rattle.frags.proofs.Accounts.{counted-le, pieces_held-append}
 use Rattle.frags.proofs.Joining.{released_keeps, part_block, bytes_of-append}
 use Rattle.skb.specs.SkbState.{SkbState, is_sole, written, written_head, tailroom, IsPut, Owned, of_buffer, of_unshared, buffer_bytes, buffer_size, head_bytes, Attaches, IsLent, Gives}
 use Rattle.skb.specs.declared.skb.Unshared.{Unshared}

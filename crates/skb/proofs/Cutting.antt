@@ -3,7 +3,8 @@ use Rattle.std.proofs.Common.{◌≡◌, ℕ, ◌+◌, ◌-◌, ◌<◌, ◌≤�
 use Rattle.std.proofs.lemmas.Bool.{cond_both}
 use borrow.Author.Tests.{ltb-true, ltb-false}
 use lib.Dec.{ltb}
-use Rattle.frags.specs.PieceList.{bytes_of, size_of, block, cut_front}
+use Rattle.frags.specs.Holders.{block}
+use Rattle.frags.specs.PieceList.{bytes_of, size_of, cut_front}
 use Rattle.frags.specs.declared.pieces.Piece.{Piece}
 use Rattle.frags.specs.declared.holder.Holder.{Holder}
 use Rattle.frags.proofs.Joining.{part_block}

@@ -6,7 +6,8 @@ use Rattle.raw_block.specs.Views.{SoleState, PartState}
 use Rattle.frags.specs.Account.{every, counted, at_home, soles_home}
 use Rattle.frags.specs.PieceList.{bytes_of, size_of, pieces_held, least_weight}
 use Rattle.frags.specs.declared.pieces.Piece.{Piece}
-use Rattle.frags.proofs.Keeping.{soles_home-append, pieces_held-append, size_of-append}
+use Rattle.frags.proofs.Accounts.{soles_home-append, pieces_held-append}
+use Rattle.frags.proofs.PieceBytes.{size_of-append}
 use Rattle.frags.proofs.Joining.{bytes_of-append}
 use Rattle.frags.specs.declared.holder.Holder.TheVariants.{Sole}
 use Rattle.std.specs.Prelude.{Ok}

@@ -4,11 +4,13 @@ use Rattle.std.proofs.lemmas.Bool.{true≢false}
 use Rattle.raw_block.specs.Views.{PartState}
 use Rattle.frags.specs.OutcomesState.{OutcomesState}
 use Rattle.frags.specs.Account.{Account, Keeps, both, of_holder, of_outcomes}
-use Rattle.frags.specs.PieceList.{bytes_of, size_of, of_pieces, pieces_held, least_weight, block, AsPart}
+use Rattle.frags.specs.Holders.{block, AsPart}
+use Rattle.frags.specs.PieceList.{bytes_of, size_of, of_pieces, pieces_held, least_weight}
 use Rattle.frags.specs.declared.pieces.Piece.{Piece}
 use Rattle.frags.specs.declared.holder.Holder.{Holder}
 use Rattle.frags.specs.declared.holder.Holder.TheVariants.{Sole, Part}
-use Rattle.frags.proofs.Keeping.{pieces_held-append, size_of-append}
+use Rattle.frags.proofs.Accounts.{pieces_held-append}
+use Rattle.frags.proofs.PieceBytes.{size_of-append}
 use Rattle.frags.proofs.Joining.{part_block, bytes_of-append}
 use Rattle.skb.specs.SkbState.{SkbState, is_sole, buffer_bytes, buffer_size, head_least, of_buffer}
 use Rattle.skb.specs.Moving.{HandedOn, MovesRest, MovesHead, JoinsAccount, KeepsLeast}

@@ -2,7 +2,8 @@
 use Rattle.std.specs.Prelude.{ℕ, ◌≡◌, ◌+◌, ◌-◌, ◌<◌, ◌≤◌, List, [], ◌∷◌, Bool, true, false, cond, nat_lt, Ok, Err}
 use Rattle.std.specs.declared.result.Result.{Result}
 use Rattle.raw_block.specs.Views.{PartState}
-use Rattle.frags.specs.PieceList.{front, back, cut_worn, less, gave, AsPart}
+use Rattle.frags.specs.Gifts.{front, back, cut_worn, less, gave}
+use Rattle.frags.specs.Holders.{AsPart}
 use Rattle.frags.specs.declared.pieces.Piece.{Piece}
 use Rattle.frags.specs.declared.pieces.ShareFault.{ShareFault}
 use Rattle.frags.specs.declared.pieces.ShareFault.TheVariants.{Short, Worn, NoMemory}

@@ -4,7 +4,8 @@ use Rattle.raw_block.specs.Views.{PartState}
 use Rattle.frags.specs.Account.{Account, Keeps, both, of_holder, of_outcomes}
 use Rattle.frags.specs.Growth.{Grows}
 use Rattle.frags.specs.OutcomesState.{OutcomesState}
-use Rattle.frags.specs.PieceList.{AsPart, least_weight}
+use Rattle.frags.specs.Holders.{AsPart}
+use Rattle.frags.specs.PieceList.{least_weight}
 use Rattle.frags.specs.declared.pieces.Piece.{Piece}
 use Rattle.frags.specs.declared.holder.Holder.{Holder}
 use Rattle.skb.specs.SkbState.{SkbState, IsLent, of_buffer, buffer_least}

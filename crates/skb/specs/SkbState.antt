@@ -6,7 +6,9 @@ use Rattle.ref_core.specs.WeightRule.{full_weight}
 use Rattle.raw_block.specs.Views.{SoleState, PartState}
 use Rattle.frags.specs.Account.{Account, Keeps, both, of_sole, of_holder, of_released, of_outcomes}
 use Rattle.frags.specs.OutcomesState.{OutcomesState}
-use Rattle.frags.specs.PieceList.{bytes_of, size_of, of_pieces, least_weight, worn, less, gave, given, kept, block, AsPart}
+use Rattle.frags.specs.Gifts.{worn, less, gave, given, kept}
+use Rattle.frags.specs.Holders.{block, AsPart}
+use Rattle.frags.specs.PieceList.{bytes_of, size_of, of_pieces, least_weight}
 use Rattle.frags.specs.declared.pieces.Piece.{Piece}
 use Rattle.frags.specs.declared.pieces.ShareFault.{ShareFault}
 use Rattle.frags.specs.declared.pieces.ShareFault.TheVariants.{Short, Worn, NoMemory}

@@ -1,7 +1,7 @@
 //! A head's bytes, lent for writing.
 ghost use Rattle.std.specs.Prelude.{◌≡◌, ◌+◌, ◌≤◌, true, false, MatchOption, slice_range, length};
 ghost use Rattle.std.specs.Borrow.{sem};
-ghost use Rattle.frags.specs.PieceList.{block};
+ghost use Rattle.frags.specs.Holders.{block};
 ghost use Rattle.frags.specs.declared.holder.Holder.{Holder};
 ghost use Rattle.skb.specs.SkbState.{is_sole};
 ghost use Rattle.skb.specs.Lending.{lends_sole_if, lends_sole, lends_range};

@@ -5,7 +5,8 @@ ghost use Rattle.ref_core.specs.WeightRule.{full_weight};
 ghost use Rattle.raw_block.specs.Views.{SoleState};
 ghost use Rattle.frags.specs.Account.{Tests, Keeps, KeepsMarks, both, every, of_sole, of_holder, of_outcomes};
 ghost use Rattle.frags.specs.Growth.{Grows};
-ghost use Rattle.frags.specs.PieceList.{AllFit, size_of, of_pieces, piece_bytes, block, cut_front, keep_front};
+ghost use Rattle.frags.specs.Holders.{block};
+ghost use Rattle.frags.specs.PieceList.{AllFit, size_of, of_pieces, piece_bytes, cut_front, keep_front};
 ghost use Rattle.frags.specs.declared.pieces.Piece.{Piece};
 ghost use Rattle.skb.specs.Checksum.{AreBytes};
 ghost use Rattle.skb.specs.Lending.{lends_head, lends_head_if};
@@ -56,7 +57,8 @@ impl Model for Skb {
     ghost Value = { SkbState };
 
     ghost use Rattle.std.specs.Prelude.{◌≡◌, ◌≤◌, ◌<◌, ◌+◌, ◌-◌, ◌^◌, length};
-    ghost use Rattle.frags.specs.PieceList.{size_of, block};
+    ghost use Rattle.frags.specs.Holders.{block};
+    ghost use Rattle.frags.specs.PieceList.{size_of};
 
     ghost view = { λ s. record { head = s.head; from = s.from; to = s.to; rest = s.rest } };
 

@@ -13,7 +13,7 @@ pub const ALL: [u8; 25] = [
 
 /// Room for eight, if there is memory.
 pub fn outcomes(alloc: Global) -> Option<Outcomes>
-    ensures { IfSome result (λ out. 8 ≤ out.spare) }
+    ensures room { IfSome result (λ out. 8 ≤ out.spare) }
 {
     let mut out = Outcomes::new(alloc);
     if out.reserve(8).is_err() {
@@ -40,8 +40,8 @@ pub fn counted(mut out: Outcomes) -> (usize, usize) {
 
 /// Puts a part behind the others. Where there is no memory for it, it is given back.
 pub fn put(pieces: &mut Pieces, part: Part, from: usize, to: usize, out: &mut Outcomes)
-    requires { (from < to) × (to ≤ 2048) × (size_of pieces.old < 1000000) × (1 ≤ out.old.spare) }
-    ensures { (length pieces.new ≤ length pieces.old + 1) × (size_of pieces.new ≤ size_of pieces.old + 2048) × (out.old.spare ≤ out.new.spare + 1) }
+    requires fits { (from < to) × (to ≤ 2048) × (size_of pieces.old < 1000000) × (1 ≤ out.old.spare) }
+    ensures left { (length pieces.new ≤ length pieces.old + 1) × (size_of pieces.new ≤ size_of pieces.old + 2048) × (out.old.spare ≤ out.new.spare + 1) }
 {
     if let Err((part, _)) = pieces.append(part, from, to) {
         out.give_back(part);
@@ -50,8 +50,8 @@ pub fn put(pieces: &mut Pieces, part: Part, from: usize, to: usize, out: &mut Ou
 
 /// The bytes 0 to 10, 100 to 105 and 50 to 60 of a block, each with a part of its own.
 pub fn three_pieces(mut block: Sole, alloc: Global, out: &mut Outcomes) -> Pieces
-    requires { 3 ≤ out.old.spare }
-    ensures { (length result ≤ 3) × (size_of result ≤ 6144) × (out.old.spare ≤ out.new.spare + 3) }
+    requires spare { 3 ≤ out.old.spare }
+    ensures left { (length result ≤ 3) × (size_of result ≤ 6144) × (out.old.spare ≤ out.new.spare + 3) }
 {
     let bytes = block.bytes_mut();
     for i in 0..200u8 {

@@ -31,8 +31,8 @@ fn a_block_in_one_piece(rt: HostRuntime) -> Result<(), Fail> {
 
 // A part of a small weight, and the rest of its block given back.
 fn small_part(block: Sole, weight: u64, out: &mut Outcomes) -> Part
-    requires { (1 ≤ weight) × (weight ≤ 4096) × (1 ≤ out.old.spare) }
-    ensures { out.old.spare ≤ out.new.spare + 1 }
+    requires few { (1 ≤ weight) × (weight ≤ 4096) × (1 ≤ out.old.spare) }
+    ensures left { out.old.spare ≤ out.new.spare + 1 }
 {
     let mut part = block.share();
     let rest = part.split(FULL - weight);

@@ -1,6 +1,7 @@
 use Rattle.std.proofs.Common.{◌≡◌, ◌+◌, ◌≤◌, ◌++◌, false, length}
 use Rattle.std.specs.VecDeque.{deque_len, deque_capacity}
-use Rattle.frags.specs.PieceList.{AllFit, size_of, front, back, cut_worn}
+use Rattle.frags.specs.Gifts.{front, back, cut_worn}
+use Rattle.frags.specs.PieceList.{AllFit, size_of}
 use Rattle.frags.proofs.cuts.split_into.Given as goal
 
 abbrev pub invariant-loop-piece : goal.invariant-loop-piece

@@ -24,7 +24,7 @@ new-requires-clause-small c =
     let place = c.payload_at-at.ensures.place in
     let t = begun a.first.skb at c.payload_at-at.result a.pieces.pieces g q b place c.requires.empty.0 one.ensures.takes in
     let u = followed a.rest.items at c.payload_at-at.result b d place all.ensures.takes in
-    let fits : AllFit all.new.pieces.pieces = subst AllFit c.finish-rest.ensures c.len.ensures.fits in
+    let fits : AllFit all.new.pieces.pieces = subst AllFit c.finish-rest.ensures.pieces c.len.ensures.fits in
     let long = front_size g at c.put_headers.ensures.size c.requires.low in
     omega (
       arith,
@@ -32,7 +32,7 @@ new-requires-clause-small c =
           c.keep_sole.ensures.soles c.keep_sole.ensures.receipts t u fits long,
       c.requires.payload.1,
       c.requires.few,
-      ap size_of c.finish-rest.ensures,
+      ap size_of c.finish-rest.ensures.pieces,
     )
 
 pub returns-clause-bytes : goal.returns-clause-bytes
@@ -53,7 +53,7 @@ returns-clause-bytes c = λ last flags.
     let front : take at (buffer_bytes a.first.skb) ≡ take at c.head.result.now =
     take-append-le at own (bytes_of a.first.skb.rest) inside ∙ ap (take at) (sym c.head.ensures.bytes) in
     ap buffer_bytes c.new.ensures.same
-    ∙ ap (λ (z : List Piece). front_of all.new.block all.result ++ bytes_of z) c.finish-rest.ensures
+    ∙ ap (λ (z : List Piece). front_of all.new.block all.result ++ bytes_of z) c.finish-rest.ensures.pieces
     ∙ bytes_are a.first a.rest.items at g a.out q b d (c.requires.empty.1, c.requires.empty.2) c.put_headers.ensures.same
     c.keep_sole.ensures.soles c.keep_sole.ensures.receipts t u
     ∙ c.put_headers.ensures.merged (buffer_bytes a.first.skb) last (payloads at (a.first ∷ a.rest.items)) front flags c.requires.payload
@@ -72,7 +72,7 @@ returns-clause-holds c =
     let t = begun a.first.skb at c.payload_at-at.result a.pieces.pieces g q b place c.requires.empty.0 one.ensures.takes in
     let u = followed a.rest.items at c.payload_at-at.result b d place all.ensures.takes in
     let with_rest : List Piece → SkbState = λ z. record { head = Sole all.new.block; from = 64; to = 64 + all.result; rest = z } in
-    let is = ap with_rest (sym c.finish-rest.ensures) ∙ sym c.new.ensures.same in
+    let is = ap with_rest (sym c.finish-rest.ensures.pieces) ∙ sym c.new.ensures.same in
     subst (λ (z : SkbState). HoldsAll (a.first ∷ a.rest.items) z all.new.out) is
     (holds a.first a.rest.items at g a.out q b d (c.requires.empty.1, c.requires.empty.2) c.put_headers.ensures.same
     c.keep_sole.ensures.soles c.keep_sole.ensures.receipts t u)

@@ -1,5 +1,5 @@
 use Rattle.std.proofs.Common.{arith}
-use Rattle.frags.proofs.Keeping.{count_within}
+use Rattle.frags.proofs.PieceBytes.{count_within}
 use Rattle.gro.proofs.table.weigh.Goals as goal
 
 pub overflow_add-result : goal.overflow_add-result

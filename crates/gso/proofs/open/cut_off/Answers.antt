@@ -1,5 +1,5 @@
 use Rattle.std.proofs.Common.{◌≡◌, true, false, Err, sym, subst, ◌∙◌}
-use Rattle.frags.specs.PieceList.{IsSplit}
+use Rattle.frags.specs.Gifts.{IsSplit}
 use Rattle.frags.specs.declared.pieces.ShareFault.{ShareFault}
 use Rattle.gso.specs.Opening.{Enough}
 use Rattle.gso.proofs.Weights.{enough_back, never_worn}

@@ -1,7 +1,7 @@
 use Rattle.std.proofs.Common.{ℕ, List, ◌++◌, append-nil, ◌≡◌, ◌+◌, length, ◌-◌, refl, arith, ap, subst, sym, ◌∙◌, [], ◌∷◌, length-append}
 use Rattle.frags.specs.PieceList.{size_of, bytes_of}
 use Rattle.frags.specs.declared.pieces.Piece.{Piece}
-use Rattle.frags.proofs.Keeping.{size_of-append}
+use Rattle.frags.proofs.PieceBytes.{size_of-append}
 use Rattle.rounds.specs.Fresh.{MarkedFrom, WholeFrom}
 use Rattle.rounds.proofs.Taking.{whole_last, marked_at_start}
 use Rattle.rounds.proofs.Filling.{bytes_more, data_zero}
@@ -37,4 +37,4 @@ returns-clause-bytes c =
     let l = c.loop-left in
     let ps = l.builder.pieces in
     let none : l.left ≡ 0 = omega (arith, c.loop-left-test.false) in
-    ap bytes_of c.finish.ensures ∙ sym (append-nil (bytes_of ps)) ∙ ap (λ (z : List ℕ). bytes_of ps ++ z) (sym (data_zero 0 l.left l.hold.items none)) ∙ l.invariant.bytes
+    ap bytes_of c.finish.ensures.pieces ∙ sym (append-nil (bytes_of ps)) ∙ ap (λ (z : List ℕ). bytes_of ps ++ z) (sym (data_zero 0 l.left l.hold.items none)) ∙ l.invariant.bytes

@@ -1,6 +1,6 @@
 use Rattle.std.proofs.Common.{length, arith, ap, ◌∙◌, length-append}
 use Rattle.frags.specs.PieceList.{size_of}
-use Rattle.frags.proofs.Keeping.{size_of-append}
+use Rattle.frags.proofs.PieceBytes.{size_of-append}
 use Rattle.steps.proofs.segmenting.pieces_of.Goals as goal
 
 pub loop-block-preserved-then-room-gt0 : goal.loop-block-preserved-then-room-gt0

@@ -2,7 +2,8 @@ use Rattle.std.proofs.Common.{◌∷◌, [], ◌++◌, length, arith, ◌∙◌,
 use Rattle.ref_core.specs.WeightRule.{IsWeight}
 use Rattle.frags.specs.BuilderState.{BuilderState}
 use Rattle.frags.specs.PieceList.{size_of, AllFit}
-use Rattle.frags.proofs.Keeping.{size_of-append, AllFit-append, append_keeps}
+use Rattle.frags.proofs.Accounts.{append_keeps}
+use Rattle.frags.proofs.PieceBytes.{size_of-append, AllFit-append}
 use Rattle.frags.specs.declared.pieces.Piece.{Piece}
 use Rattle.frags.proofs.builder.PieceBuilder.push.Goals as goal
 

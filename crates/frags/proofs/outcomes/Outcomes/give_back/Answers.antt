@@ -1,6 +1,6 @@
 use Rattle.std.proofs.Common.{◌≤◌, arith}
 use Rattle.ref_core.specs.WeightRule.{full_weight}
-use Rattle.frags.proofs.Keeping.{gives_last, gives_left}
+use Rattle.frags.proofs.Accounts.{gives_last, gives_left}
 use Rattle.frags.proofs.outcomes.Outcomes.give_back.Goals as goal
 
 pub returns-in-Last-clause-kept : goal.returns-in-Last-clause-kept

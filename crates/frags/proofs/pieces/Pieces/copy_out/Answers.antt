@@ -4,11 +4,13 @@ use Rattle.frags.specs.PieceList.{Fits, bytes_of, size_of}
 use Rattle.frags.specs.declared.pieces.Piece.{Piece}
 use Rattle.frags.proofs.Copying.{copy_step, drop_both}
 use Rattle.frags.proofs.Joining.{AllFit-at}
-use Rattle.frags.proofs.Keeping.{length-piece}
+use Rattle.frags.proofs.PieceBytes.{length-piece}
 use Rattle.frags.proofs.pieces.Pieces.copy_out.Goals as goal
 
 pub bytes_in-bytes-requires : goal.bytes_in-bytes-requires
-bytes_in-bytes-requires c = subst Fits (sym c.index.ensures) (AllFit-at c.self.inside.items.items c.loop-i.i c.index.result.now c.self.invariant.2 (omega arith))
+bytes_in-bytes-requires c = record {
+  fits = subst Fits (sym c.index.ensures) (AllFit-at c.self.inside.items.items c.loop-i.i c.index.result.now c.self.invariant.2 (omega arith));
+}
 
 pub loop-i-preserved : goal.loop-i-preserved
 loop-i-preserved c =
@@ -22,14 +24,14 @@ loop-i-preserved c =
     let lt : i < length items = omega arith in
     let f : Fits q = subst Fits (sym c.index.ensures) (AllFit-at items i q c.self.invariant.2 lt) in
     let d : drop i items ≡ q ∷ drop (i + 1) items = rw add-one (drop-cons items i q lt ∙ ap (λ (z : Piece). z ∷ drop (suc i) items) (sym c.index.ensures)) in
-    let e : bytes_of (drop i items) ≡ b ++ bytes_of (drop (i + 1) items) = ap bytes_of d ∙ ap (λ (z : List ℕ). z ++ bytes_of (drop (i + 1) items)) (sym c.bytes_in-bytes.ensures) in
+    let e : bytes_of (drop i items) ≡ b ++ bytes_of (drop (i + 1) items) = ap bytes_of d ∙ ap (λ (z : List ℕ). z ++ bytes_of (drop (i + 1) items)) (sym c.bytes_in-bytes.ensures.bytes) in
     let g : drop c.loop-i.skip (bytes_of (drop i items)) ≡ x ++ drop (c.loop-i.skip - start) (bytes_of (drop (i + 1) items)) =
     ap (λ (z : List ℕ). drop c.loop-i.skip z) e
     ∙ drop_both c.loop-i.skip b (bytes_of (drop (i + 1) items))
     ∙ ap (λ (k : ℕ). drop k b ++ drop (c.loop-i.skip - k) (bytes_of (drop (i + 1) items))) (sym c.min-start.ensures)
     ∙ ap (λ (z : List ℕ). z ++ drop (c.loop-i.skip - start) (bytes_of (drop (i + 1) items))) (sym (take_rest b start)) in
     let h = ap (λ (z : List ℕ). take c.loop-i.done c.loop-i.into ++ take (length c.loop-i.into - c.loop-i.done) z) (sym g) ∙ j.copied in
-    let l = ap length c.bytes_in-bytes.ensures ∙ length-piece q f in
+    let l = ap length c.bytes_in-bytes.ensures.bytes ∙ length-piece q f in
     let m = ap length (take_rest b start) ∙ length-drop start b in
     let s = ap size_of d in
     let z = c.copy_on-done.ensures.end in

@@ -1,6 +1,6 @@
 use Rattle.std.proofs.Common.{length, ap, arith}
 use Rattle.frags.specs.PieceList.{size_of}
-use Rattle.frags.proofs.Keeping.{count_within}
+use Rattle.frags.proofs.PieceBytes.{count_within}
 use Rattle.frags.proofs.pieces.Pieces.count.Goals as goal
 
 pub returns-clause-within : goal.returns-clause-within

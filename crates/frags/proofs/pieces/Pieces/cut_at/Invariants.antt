@@ -1,5 +1,5 @@
 use Rattle.std.proofs.Common.{◌≡◌, ◌+◌, length, drop}
-use Rattle.frags.specs.PieceList.{front, cut_worn}
+use Rattle.frags.specs.Gifts.{front, cut_worn}
 use Rattle.frags.proofs.pieces.Pieces.cut_at.Given as goal
 
 abbrev pub invariant-loop-i : goal.invariant-loop-i

@@ -3,7 +3,7 @@ use Rattle.frags.specs.Account.{both, of_outcomes}
 use Rattle.frags.specs.PieceList.{size_of, bytes_of, keep_front, AllFit, of_pieces}
 use Rattle.frags.specs.declared.pieces.Piece.{Piece}
 use Rattle.frags.proofs.Growing.{grows_trans, grows_by}
-use Rattle.frags.proofs.Keeping.{keeps_pop_back}
+use Rattle.frags.proofs.Accounts.{keeps_pop_back}
 use Rattle.frags.proofs.Places.{last_piece, last_cut, keep_front-less, keep_front-bytes}
 use Rattle.frags.proofs.pieces.Pieces.cut_back.Goals as goal
 

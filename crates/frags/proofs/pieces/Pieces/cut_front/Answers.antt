@@ -1,7 +1,7 @@
 use Rattle.std.proofs.Common.{◌≡◌, ◌∙◌, ap, subst, arith}
 use Rattle.std.proofs.lemmas.Grind.{common_steps}
 use Rattle.frags.specs.PieceList.{bytes_of, cut_front, AllFit}
-use Rattle.frags.proofs.Keeping.{cut_bytes}
+use Rattle.frags.proofs.PieceBytes.{cut_bytes}
 use Rattle.frags.proofs.pieces.Pieces.cut_front.Goals as goal
 
 pub returns-clause-bytes : goal.returns-clause-bytes

@@ -1,5 +1,5 @@
 use Rattle.std.proofs.Common.{◌≡◌, drop}
-use Rattle.frags.specs.PieceList.{worn}
+use Rattle.frags.specs.Gifts.{worn}
 use Rattle.frags.proofs.pieces.Pieces.is_worn.Given as goal
 
 abbrev pub invariant-loop-i : goal.invariant-loop-i

@@ -1,7 +1,7 @@
 use Rattle.std.proofs.Common.{◌∙◌, ◌++◌, List, ap, arith}
 use Rattle.frags.specs.PieceList.{size_of}
 use Rattle.frags.proofs.Joining.{joins_fit}
-use Rattle.frags.proofs.Keeping.{join_keeps}
+use Rattle.frags.proofs.Accounts.{join_keeps}
 use Rattle.frags.specs.declared.pieces.Piece.{Piece}
 use Rattle.frags.proofs.pieces.Pieces.join_back.Goals as goal
 

@@ -1,7 +1,7 @@
 use Rattle.std.proofs.Common.{◌∙◌, List, length, ap, sym}
 use Rattle.frags.specs.PieceList.{bytes_of}
 use Rattle.frags.specs.declared.pieces.Piece.{Piece}
-use Rattle.frags.proofs.Keeping.{length-bytes_of}
+use Rattle.frags.proofs.PieceBytes.{length-bytes_of}
 use Rattle.frags.proofs.pieces.Pieces.len.Goals as goal
 
 pub returns-clause-bytes : goal.returns-clause-bytes

@@ -2,7 +2,7 @@ use Rattle.std.proofs.Common.{◌+◌, ◌-◌, length, arith, ap}
 use Rattle.frags.specs.Account.{both, of_outcomes}
 use Rattle.frags.specs.PieceList.{of_pieces}
 use Rattle.frags.proofs.Growing.{grows_trans, grows_by}
-use Rattle.frags.proofs.Keeping.{keeps_pop}
+use Rattle.frags.proofs.Accounts.{keeps_pop}
 use Rattle.frags.proofs.pieces.Pieces.release.Goals as goal
 
 pub loop-piece-preserved : goal.loop-piece-preserved

@@ -1,6 +1,7 @@
 use Rattle.std.proofs.Common.{◌≡◌, ◌≤◌, length}
 use Rattle.std.specs.VecDeque.{deque_len, deque_capacity}
-use Rattle.frags.specs.PieceList.{kept_first, given_first, size_of}
+use Rattle.frags.specs.Gifts.{kept_first, given_first}
+use Rattle.frags.specs.PieceList.{size_of}
 use Rattle.frags.proofs.pieces.Pieces.share.Given as goal
 
 abbrev pub invariant-loop-i : goal.invariant-loop-i

@@ -1,5 +1,6 @@
 use Rattle.std.proofs.Common.{◌≡◌, ◌≤◌, ◌++◌, ◌∙◌, List, false, length, ap, subst, sym, arith}
-use Rattle.frags.specs.PieceList.{size_of, AllFit, bytes_of, front, back, cut_worn, pieces_held}
+use Rattle.frags.specs.Gifts.{front, back, cut_worn}
+use Rattle.frags.specs.PieceList.{size_of, AllFit, bytes_of, pieces_held}
 use Rattle.frags.specs.declared.pieces.Piece.{Piece}
 use Rattle.frags.proofs.Splits.{size_of-front, size_of-back, AllFit-front, AllFit-back, split_bytes, split_sums, split_count}
 use Rattle.frags.proofs.pieces.Pieces.split_at.Goals as goal

@@ -3,7 +3,8 @@ use Rattle.std.specs.Prelude.{Ok}
 use Rattle.frags.specs.Account.{KeepsMarks, both, of_outcomes}
 use Rattle.frags.specs.PieceList.{size_of}
 use Rattle.skb.specs.SkbState.{SkbState, of_buffer, Attaches, buffer_size}
-use Rattle.frags.proofs.Keeping.{size_of-append, keeps_marks}
+use Rattle.frags.proofs.Accounts.{keeps_marks}
+use Rattle.frags.proofs.PieceBytes.{size_of-append}
 use Rattle.skb.proofs.Buffers.{attaches_joined, attaches_taken, joined_keeps, taken_marks}
 use Rattle.skb.specs.Moving.{JoinsAccount}
 use Rattle.skb.proofs.Moved.{joins_kept, joined_account, taken_account}

@@ -2,7 +2,7 @@ use Rattle.std.proofs.Common.{length, subst, sym, ◌≡◌, false, ap, ◌∙�
 use Rattle.frags.specs.PieceList.{size_of, pieces_held}
 use Rattle.frags.specs.Account.{of_holder, every}
 use Rattle.skb.specs.SkbState.{SkbState, is_sole}
-use Rattle.frags.proofs.Keeping.{size_of-kept, size_of-given}
+use Rattle.frags.proofs.Shares.{size_of-kept, size_of-given}
 use Rattle.skb.proofs.Buffers.{lent_gives, gives_sums, lent_held, lent_marks}
 use Rattle.skb.proofs.skb.Skb.clone.Goals as goal
 

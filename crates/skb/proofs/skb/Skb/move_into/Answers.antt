@@ -1,7 +1,7 @@
 use Rattle.std.proofs.Common.{◌≡◌, ◌+◌, ◌++◌, [], ◌∷◌, ◌∙◌, List, refl, ap, subst, append_assoc, arith}
 use Rattle.frags.specs.PieceList.{bytes_of, size_of, of_pieces}
 use Rattle.frags.specs.declared.pieces.Piece.{Piece}
-use Rattle.frags.proofs.Keeping.{size_of-append}
+use Rattle.frags.proofs.PieceBytes.{size_of-append}
 use Rattle.skb.specs.SkbState.{SkbState, buffer_bytes, buffer_size}
 use Rattle.skb.specs.Moving.{MovesRest, MovesHead, JoinsAccount, KeepsLeast}
 use Rattle.skb.proofs.Moved.{

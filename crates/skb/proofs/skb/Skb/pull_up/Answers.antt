@@ -1,5 +1,6 @@
 use Rattle.std.proofs.Common.{◌≡◌, ◌+◌, ◌-◌, ◌∙◌, ◌++◌, ℕ, List, length, drop, slice_range, ap, sym, arith}
-use Rattle.frags.specs.PieceList.{size_of, bytes_of, block}
+use Rattle.frags.specs.Holders.{block}
+use Rattle.frags.specs.PieceList.{size_of, bytes_of}
 use Rattle.frags.specs.declared.holder.Holder.{Holder}
 use Rattle.skb.specs.SkbState.{SkbState, head_bytes, buffer_bytes, buffer_size}
 use Rattle.skb.proofs.Buffers.{length-head}

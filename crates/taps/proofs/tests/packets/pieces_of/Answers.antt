@@ -1,6 +1,6 @@
 use Rattle.std.proofs.Common.{arith, ap, ◌∙◌}
 use Rattle.frags.specs.PieceList.{size_of}
-use Rattle.frags.proofs.Keeping.{size_of-append}
+use Rattle.frags.proofs.PieceBytes.{size_of-append}
 use Rattle.taps.proofs.tests.packets.pieces_of.Goals as goal
 
 pub loop-block-preserved-then-room-gt0 : goal.loop-block-preserved-then-room-gt0
