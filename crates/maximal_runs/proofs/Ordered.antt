@@ -59,10 +59,6 @@ filter_same : {X : Type 0} (p q : X → Bool) (xs : List X) → ((x : X) → p x
 filter_same p q [] f = refl
 filter_same p q (x ∷ xs) f = rw (f x) (ap (λ z. cond (q x) (x ∷ z) z) (filter_same p q xs f))
 
-rises_front : {X : Type 0} (number : X → ℕ) (xs ys : List X) → Rises number (xs ++ ys) → Rises number xs
-rises_front number [] ys h = tt
-rises_front number (x ∷ xs) ys h = (all_front (λ y. number x < number y) xs ys h.0, rises_front number xs ys h.1)
-
 rises_back : {X : Type 0} (number : X → ℕ) (xs ys : List X) → Rises number (xs ++ ys) → Rises number ys
 rises_back number [] ys h = h
 rises_back number (x ∷ xs) ys h = rises_back number xs ys h.1

@@ -1,5 +1,5 @@
 mod Pieces
-pub mod Bytes
+mod Bytes
 pub mod Appending
 pub mod Owing
 pub mod Telling

@@ -7,13 +7,12 @@ use Rattle.pcap_io.specs.declared.faults.CapKind.{CapKind}
 use Rattle.pcap_io.specs.Headers.{first_that_holds, file_refusals, file_head}
 use Rattle.std.proofs.Common.{inl, inr, Bool, true, false, if◌then◌else◌, length-take}
 use Rattle.std.specs.Io.KnownBytes.{Consumes, IsAtEnd}
-use Rattle.off_io.specs.Content.{LosesFewer}
 use Rattle.pcap_io.specs.declared.heads.Link.{Link}
 use Rattle.pcap_io.specs.declared.heads.FileHead.{FileHead}
 use Rattle.pcap_io.specs.declared.faults.InFault.{InFault}
 use Rattle.pcap_io.specs.declared.faults.InFault.TheVariants.{Cap, ReadFault}
 use Rattle.off_io.specs.Told.{Told}
-use Rattle.pcap_io.specs.Reading.{IsFile, IsFileFault, GivesFile, FewerGone}
+use Rattle.pcap_io.specs.Reading.{IsFile, IsFileFault, GivesFile}
 
 -- the part that was read is the front, and what is left is the rest
 pub front_read : (xs ys buf : List ℕ) (count n : ℕ) → length buf ≡ n → count ≤ n → xs ≡ take count buf ++ ys → (count < n → ys ≡ []) → (take n xs ≡ take count buf) × (ys ≡ drop n xs)
@@ -59,9 +58,3 @@ file_given (Some xs) (Some ys) link (Err (Cap fault)) count buf size le took is 
     let both = front_read xs ys buf count 24 size (omega arith) took.0 (λ lt. took.1 (omega arith)) in
     (subst (λ (head : List ℕ). IsFileFault link head fault) (sym both.0) is, both.1)
 file_given (Some xs) (Some ys) link (Err ReadFault) count buf size le took is = absurd is
-
--- a failed read took fewer bytes than were asked for
-pub fewer_gone : (old new : Option (List ℕ)) (n m : ℕ) → n ≡ m → LosesFewer old new n → Told old new (λ bytes left. FewerGone bytes left m)
-fewer_gone None new n m same lost = tt
-fewer_gone (Some xs) None n m same lost = absurd lost.1
-fewer_gone (Some xs) (Some ys) n m same lost = (lost.0, lost.1, omega (arith, lost.2))
