@@ -3,7 +3,7 @@ use Rattle.std.specs.Prelude.{◌≡◌, ℕ, ◌+◌, ◌-◌, ◌/◌, ◌%◌
 use Rattle.std.specs.List.{AllByRecursion}
 use Rattle.inet_sum.specs.Sum.{checksum_of, udp_checksum_of}
 use Rattle.net_bytes.specs.Bytes.{byte, put16, part, bytes16}
-use Rattle.ip_headers.specs.Ip4.{total_length, header_checksum, IsReservedZero}
+use Rattle.ip_headers.specs.Ip4.{total_length, header_checksum, IsReservedZero, is_reserved_zero}
 use Rattle.ip_headers.specs.Ip6.{payload_length}
 use Rattle.tcp_headers.specs.Tcp.{reserved, flags, checksum as tcp_checksum}
 use Rattle.tcp_headers.specs.Udp.{udp_length, checksum as udp_checksum}
@@ -81,7 +81,7 @@ AreFlagsPlain f Tcp at =
 AreFlagsPlain f _ at = Unit {0}
 
 abbrev pub are_flags_plain : List ℕ → Layer → ℕ → Bool
-are_flags_plain f Ip4 at = nat_lt (byte f (at + 6)) 0x80
+are_flags_plain f Ip4 at = is_reserved_zero f at
 are_flags_plain f Tcp at =
     reserved f at == 0 && (flags f at == 0x10 || (flags f at == 0x18 || (flags f at == 0x11 || flags f at == 0x19)))
 are_flags_plain f _ at = true

@@ -1,5 +1,5 @@
 -- The IPv4 header without options (RFC 791, section 3.1), of the frame `f` at the place.
-use Rattle.std.specs.Prelude.{ℕ, ◌+◌, ◌/◌, ◌%◌, ◌<◌, Bool, ◌==◌, ◌&&◌, nat_le, List, length}
+use Rattle.std.specs.Prelude.{ℕ, ◌+◌, ◌/◌, ◌%◌, ◌<◌, Bool, ◌==◌, ◌&&◌, nat_le, nat_lt, List, length}
 use Rattle.net_bytes.specs.Bytes.{byte, be16, part}
 
 -- its 20 bytes are there, and the first says version 4 and a header of five words
@@ -19,6 +19,9 @@ flags_and_offset f at = be16 f (at + 6)
 -- the reserved flag is zero, as it must be
 abbrev pub IsReservedZero : List ℕ → ℕ → Type 0
 IsReservedZero f at = byte f (at + 6) < 0x80
+
+abbrev pub is_reserved_zero : List ℕ → ℕ → Bool
+is_reserved_zero f at = nat_lt (byte f (at + 6)) 0x80
 
 -- the flag "don't fragment"
 abbrev pub dont_fragment : List ℕ → ℕ → Bool

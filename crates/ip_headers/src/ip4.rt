@@ -3,7 +3,7 @@
 ghost use Rattle.std.specs.Prelude.{◌≡◌, ◌↔◌, ℕ, ◌+◌, ◌<◌, ◌≤◌, ◌⊎◌, ◌++◌, true, List, length, IsSome, IfSome};
 ghost use Rattle.net_bytes.specs.Bytes.{byte, put16};
 ghost use Rattle.net_bytes.specs.View.{Placed};
-ghost use Rattle.ip_headers.specs.Ip4.{is_there, total_length as total_length_of, identification as identification_of, flags_and_offset as flags_and_offset_of, dont_fragment, time_to_live, protocol as protocol_of, header_checksum as header_checksum_of, source as source_of, destination as destination_of};
+ghost use Rattle.ip_headers.specs.Ip4.{is_there, total_length as total_length_of, identification as identification_of, flags_and_offset as flags_and_offset_of, is_reserved_zero as is_reserved_zero_of, dont_fragment, time_to_live, protocol as protocol_of, header_checksum as header_checksum_of, source as source_of, destination as destination_of};
 
 use net_bytes::{be16, is_inside, put_be16};
 use std::marker::Model;
@@ -72,7 +72,7 @@ impl<'a> Ip4View<'a> {
     pub fn protocol(&self) -> u8
         ensures field { result ≡ protocol_of self.now.frame self.now.at }
     {
-        self.frame[self.at + 9]
+        protocol(self.frame, self.at)
     }
 
     /// The checksum of the header.
@@ -126,6 +126,24 @@ pub fn has_dont_fragment(frame: &[u8], at: usize) -> bool
     ensures front { (rest : List ℕ) → result ≡ dont_fragment (frame.now ++ rest) at }
 {
     frame[at + 6] / 0x40 % 2 == 1
+}
+
+/// Whether the reserved flag in the IPv4 header at `at` is zero, as it must be.
+pub fn is_reserved_zero(frame: &[u8], at: usize) -> bool
+    requires there { at + 7 ≤ length frame.now }
+    ensures field { result ≡ is_reserved_zero_of frame.now at }
+    ensures front { (rest : List ℕ) → result ≡ is_reserved_zero_of (frame.now ++ rest) at }
+{
+    frame[at + 6] < 0x80
+}
+
+/// The protocol of the data in the IPv4 header at `at`: 6 is TCP, 17 is UDP.
+pub fn protocol(frame: &[u8], at: usize) -> u8
+    requires there { at + 10 ≤ length frame.now }
+    ensures field { result ≡ protocol_of frame.now at }
+    ensures front { (rest : List ℕ) → result ≡ protocol_of (frame.now ++ rest) at }
+{
+    frame[at + 9]
 }
 
 /// The header checksum in the IPv4 header at `at`.

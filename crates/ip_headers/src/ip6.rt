@@ -50,7 +50,7 @@ impl<'a> Ip6View<'a> {
     pub fn next_header(&self) -> u8
         ensures field { result ≡ next_header_of self.now.frame self.now.at }
     {
-        self.frame[self.at + 6]
+        next_header(self.frame, self.at)
     }
 
     /// How many hops are left.
@@ -77,6 +77,15 @@ impl<'a> Ip6View<'a> {
         address.copy_from_slice(&self.frame[self.at + 24..self.at + 40]);
         address
     }
+}
+
+/// What follows the IPv6 header at `at`: 6 is TCP, 17 is UDP.
+pub fn next_header(frame: &[u8], at: usize) -> u8
+    requires there { at + 7 ≤ length frame.now }
+    ensures field { result ≡ next_header_of frame.now at }
+    ensures front { (rest : List ℕ) → result ≡ next_header_of (frame.now ++ rest) at }
+{
+    frame[at + 6]
 }
 
 /// The payload length in the IPv6 header at `at`: what follows the header, in bytes.

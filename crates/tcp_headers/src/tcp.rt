@@ -72,14 +72,14 @@ impl<'a> TcpView<'a> {
     pub fn data_offset(&self) -> u8
         ensures field { result ≡ data_offset_of self.now.frame self.now.at }
     {
-        self.frame[self.at + 12] / 16
+        data_offset(self.frame, self.at)
     }
 
     /// The four reserved bits.
     pub fn reserved(&self) -> u8
         ensures field { result ≡ reserved_of self.now.frame self.now.at }
     {
-        self.frame[self.at + 12] % 16
+        reserved(self.frame, self.at)
     }
 
     /// The control bits: CWR 0x80, ECE 0x40, URG 0x20, ACK 0x10, PSH 0x08, RST 0x04, SYN 0x02, FIN 0x01.
@@ -118,6 +118,24 @@ pub fn sequence(frame: &[u8], at: usize) -> u32
     ensures front { (rest : List ℕ) → result ≡ sequence_of (frame.now ++ rest) at }
 {
     be32(frame, at + 4)
+}
+
+/// The data offset in the TCP header at `at`: the header's length in words of four bytes.
+pub fn data_offset(frame: &[u8], at: usize) -> u8
+    requires there { at + 13 ≤ length frame.now }
+    ensures field { result ≡ data_offset_of frame.now at }
+    ensures front { (rest : List ℕ) → result ≡ data_offset_of (frame.now ++ rest) at }
+{
+    frame[at + 12] / 16
+}
+
+/// The four reserved bits in the TCP header at `at`.
+pub fn reserved(frame: &[u8], at: usize) -> u8
+    requires there { at + 13 ≤ length frame.now }
+    ensures field { result ≡ reserved_of frame.now at }
+    ensures front { (rest : List ℕ) → result ≡ reserved_of (frame.now ++ rest) at }
+{
+    frame[at + 12] % 16
 }
 
 /// The control bits in the TCP header at `at`.
