@@ -24,7 +24,8 @@ abbrev made : (SoleState → ℕ) → Tally → ℕ
 made h v = sum_by h v.made
 
 -- A change of one pass leaves passes without parts idle, where the changed one has parts or is idle too.
-idle_set : (views : List Tally) (port : ℕ) (w : Tally) → (w.parts ≡ 0 → (w.taken ≡ []) × (w.put ≡ [])) → IdleIsEmpty views → IdleIsEmpty (set views port w)
+idle_set : (views : List Tally) (port : ℕ) (w : Tally) → (w.parts ≡ 0 → (w.taken ≡ []) × (w.put ≡ []))
+    → IdleIsEmpty views → IdleIsEmpty (set views port w)
 idle_set views port w mine others j u there none =
     ⊎_elim (λ (here : (j ≡ port) × (w ≡ u)).
     let m = mine (ap parts here.1 ∙ none) in
@@ -38,7 +39,8 @@ even_set : (items : List SoleState) (views : List Tally) (port : ℕ) (w : Tally
     → sum_by h items + taken_of h (set views port w) ≡ sum_by h u.made + put_of h (set views port w))
     → IsEven items (set views port w)
 even_set items views port w mine others h j u there some_part =
-    ⊎_elim (λ (here : (j ≡ port) × (w ≡ u)). let m = mine h (omega (arith, ap parts here.1, some_part)) in omega (arith, m, ap (made h) here.1))
+    ⊎_elim (λ (here : (j ≡ port) × (w ≡ u)). let m = mine h (omega (arith, ap parts here.1, some_part)) in
+    omega (arith, m, ap (made h) here.1))
     (λ (else : (j ≢ port) × (get_elem? views j ≡ some u)). others h j u else.0 else.1 some_part) (at_set views port j w u there)
 
 only : (x v : Tally) (port : ℕ) → get_elem? (x ∷ []) port ≡ some v → x ≡ v
@@ -53,7 +55,8 @@ begins = (
 )
 
 -- a push while the pool is made, by the pass that has all parts
-pub fills : (n port : ℕ) (v : Tally) (x : SoleState) → v.parts ≡ 65536 → Pushes Kept n port v x (λ w. w ≡ tally v.parts (v.made ++ x ∷ []) v.taken v.put)
+pub fills : (n port : ℕ) (v : Tally) (x : SoleState) → v.parts ≡ 65536
+    → Pushes Kept n port v x (λ w. w ≡ tally v.parts (v.made ++ x ∷ []) v.taken v.put)
 fills n port v x all items views room kept at =
     let w : Tally = tally v.parts (v.made ++ x ∷ []) v.taken v.put in
     let k = kept.0 in (
@@ -64,13 +67,29 @@ fills n port v x all items views room kept at =
         even_set (items ++ x ∷ []) views port w
             (λ h _.
             let m = kept.2 h port v at (omega (arith, all)) in
-            omega (arith, m, sum_set (taken h) views port v w at, sum_set (put h) views port v w at, sum_by_push h items x, sum_by_push h v.made x))
-            (λ h j u apart there some_part. absurd (omega (arith, others_have_none views port v at (omega (arith, k, all)) j u apart there, some_part))),
+            omega (
+              arith,
+              m,
+              sum_set (taken h) views port v w at,
+              sum_set (put h) views port v w at,
+              sum_by_push h items x,
+              sum_by_push h v.made x,
+            ))
+            (λ h j u apart there some_part. absurd (omega (
+              arith,
+              others_have_none views port v at (omega (
+                arith,
+                k,
+                all,
+              )) j u apart there,
+              some_part,
+            ))),
       ),
       refl,
     )
 
-pub puts : (n port : ℕ) (v : Tally) (x : SoleState) → 0 < v.parts → Pushes Kept n port v x (λ w. w ≡ tally v.parts v.made v.taken (v.put ++ x ∷ []))
+pub puts : (n port : ℕ) (v : Tally) (x : SoleState) → 0 < v.parts → Pushes Kept n port v x (λ w. w
+    ≡ tally v.parts v.made v.taken (v.put ++ x ∷ []))
 puts n port v x some_part items views room kept at =
     let w : Tally = tally v.parts v.made v.taken (v.put ++ x ∷ []) in
     let k = kept.0 in
@@ -95,7 +114,14 @@ takes port v some_part x items views kept at =
     let even : (h : SoleState → ℕ) (j : ℕ) (u : Tally) → get_elem? views j ≡ some u → 0 < u.parts
     → sum_by h items + taken_of h (set views port w) ≡ sum_by h u.made + put_of h (set views port w) = λ h j u there theirs.
     let m = kept.2 h j u there theirs in
-    omega (arith, m, sum_set (taken h) views port v w at, sum_set (put h) views port v w at, sum_by-append h (x ∷ []) items, sum_by-append h v.taken (x ∷ []))
+    omega (
+      arith,
+      m,
+      sum_set (taken h) views port v w at,
+      sum_set (put h) views port v w at,
+      sum_by-append h (x ∷ []) items,
+      sum_by-append h v.taken (x ∷ []),
+    )
     in (
       w,
       (
@@ -116,7 +142,14 @@ forks port v two items views kept at =
     let even : (h : SoleState → ℕ) (j : ℕ) (u : Tally) → get_elem? views j ≡ some u → 0 < u.parts
     → sum_by h items + taken_of h (vs ++ r ∷ []) ≡ sum_by h u.made + put_of h (vs ++ r ∷ []) = λ h j u there theirs.
     let m = kept.2 h j u there theirs in
-    omega (arith, m, sum_set (taken h) views port v l at, sum_set (put h) views port v l at, sum_by_push (taken h) vs r, sum_by_push (put h) vs r)
+    omega (
+      arith,
+      m,
+      sum_set (taken h) views port v l at,
+      sum_set (put h) views port v l at,
+      sum_by_push (taken h) vs r,
+      sum_by_push (put h) vs r,
+    )
     in (
       omega (arith, sum_set parts views port v l at, sum_by_push parts vs r, k, two),
       (λ j u there none. ⊎_elim (λ (old : get_elem? vs j ≡ some u). idle j u old none)
@@ -153,7 +186,8 @@ merges port v other u some_part items views kept at two at' =
     )
 
 -- where a pass has all parts, what it took and put is all that was
-whole : (items : List SoleState) (views : List Tally) (port : ℕ) (v : Tally) → Kept items views → get_elem? views port ≡ some v → v.parts ≡ 65536
+whole : (items : List SoleState) (views : List Tally) (port : ℕ) (v : Tally) → Kept items views → get_elem? views port
+    ≡ some v → v.parts ≡ 65536
     → (h : SoleState → ℕ) → sum_by h items + sum_by h v.taken ≡ sum_by h v.made + sum_by h v.put
 whole items views port v kept at all h =
     let a : parts_of views ≡ v.parts = kept.0 ∙ sym all in

@@ -73,7 +73,15 @@ IsNew p parts q = q ≡ record p { parts = parts; taken = []; takes = 0; put = [
 -- both passes' parts and counts in one
 abbrev pub Gathered : PassState → PassState → PassState → Type 0
 Gathered p spent q =
-    q ≡ record p { parts = p.parts + spent.parts; taken = p.taken ++ spent.taken; takes = p.takes + spent.takes; put = p.put ++ spent.put; puts = p.puts + spent.puts; empties = min (p.empties + spent.empties) (2 ^ 64 - 1); fulls = min (p.fulls + spent.fulls) (2 ^ 64 - 1) }
+    q ≡ record p {
+      parts = p.parts + spent.parts;
+      taken = p.taken ++ spent.taken;
+      takes = p.takes + spent.takes;
+      put = p.put ++ spent.put;
+      puts = p.puts + spent.puts;
+      empties = min (p.empties + spent.empties) (2 ^ 64 - 1);
+      fulls = min (p.fulls + spent.fulls) (2 ^ 64 - 1);
+    }
 
 -- the pass that a pool of n new blocks opens with: it has all parts
 abbrev pub IsOpening : SharedState → PassState → Type 0
@@ -81,7 +89,8 @@ IsOpening pool q = IsOwn pool q × IsNew q 65536 q × (length q.made ≡ q.size)
 
 -- n blocks are home: with all that were taken they are the blocks that were made and all that were put
 abbrev pub IsHome : PassState → ℕ → Type 0
-IsHome p n = (blocks : List SoleState) × (length blocks ≡ n) × ((h : SoleState → ℕ) → sum_by h blocks + sum_by h p.taken ≡ sum_by h p.made + sum_by h p.put)
+IsHome p n = (blocks : List SoleState) × (length blocks ≡ n) × ((h : SoleState → ℕ) → sum_by h blocks + sum_by h p.taken
+    ≡ sum_by h p.made + sum_by h p.put)
 
 -- a block of zeros with the mark 0
 abbrev pub IsFresh : SoleState → Type 0

@@ -28,7 +28,8 @@ IdleIsEmpty views = (port : ℕ) (v : Tally) → get_elem? views port ≡ some v
 
 -- what the queue holds and all that was taken is what was made and all that was put, as each pass with parts knows what was made
 abbrev pub IsEven : List SoleState → List Tally → Type 0
-IsEven items views = (h : SoleState → ℕ) (port : ℕ) (v : Tally) → get_elem? views port ≡ some v → 0 < v.parts → sum_by h items + taken_of h views ≡ sum_by h v.made + put_of h views
+IsEven items views = (h : SoleState → ℕ) (port : ℕ) (v : Tally) → get_elem? views port ≡ some v → 0 < v.parts
+    → sum_by h items + taken_of h views ≡ sum_by h v.made + put_of h views
 
 abbrev pub Kept : List SoleState → List Tally → Type 0
 Kept items views = (parts_of views ≡ 65536) × IdleIsEmpty views × IsEven items views

@@ -3,11 +3,13 @@ use Rattle.std.proofs.Common.{◌≡◌, ℕ, ◌+◌, ◌-◌, ◌*◌, ◌≤�
 use Rattle.ref_core.specs.WeightRule.{full_weight}
 use Rattle.raw_block.specs.Views.{Life, SoleState, PartState, ReceiptState}
 use Rattle.frags.specs.OutcomesState.{OutcomesState}
-use Rattle.frags.specs.Account.{Account, Tests, Keeps, KeepsMarks, every, both, counted, at_home, receipts_held, soles_home, of_part, of_outcomes}
+use Rattle.frags.specs.Account.{Account, Tests, Keeps, KeepsMarks, every, both, counted, at_home, receipts_held}
+use Rattle.frags.specs.Account.{soles_home, of_part, of_outcomes}
 use Rattle.frags.specs.PieceList.{pieces_held, of_pieces}
 use Rattle.frags.specs.declared.pieces.Piece.{Piece}
 
-pub receipts_held-append : (t : Tests) (m : ℕ) (a b : List ReceiptState) → receipts_held t m (a ++ b) ≡ receipts_held t m a + receipts_held t m b
+pub receipts_held-append : (t : Tests) (m : ℕ) (a b : List ReceiptState) → receipts_held t m (a ++ b)
+    ≡ receipts_held t m a + receipts_held t m b
 receipts_held-append t m [] b = omega arith
 receipts_held-append t m (x ∷ xs) b = omega (arith, receipts_held-append t m xs b)
 
@@ -40,7 +42,9 @@ marks_trans a b c h k bs m = let p = h bs m in let q = k bs m in omega arith
 pub marks_beside : (a b c : Account) → KeepsMarks a b → KeepsMarks (both a c) (both b c)
 marks_beside a b c h bs m = let p = h bs m in omega arith
 
-pub gives_last : (p : PartState) (s : SoleState) (a b : OutcomesState) → s.block ≡ p.life.block → s.mark ≡ p.mark → p.weight ≤ full_weight → b.receipts ≡ a.receipts → b.soles ≡ a.soles ++ s ∷ [] → Keeps (both (of_part p) (of_outcomes a)) (of_outcomes b)
+pub gives_last : (p : PartState) (s : SoleState) (a b : OutcomesState) → s.block ≡ p.life.block → s.mark ≡ p.mark
+    → p.weight ≤ full_weight → b.receipts ≡ a.receipts → b.soles ≡ a.soles ++ s ∷ []
+    → Keeps (both (of_part p) (of_outcomes a)) (of_outcomes b)
 gives_last p s a b o e h f g t m =
     let c = counted-le t m p.life p.mark p.weight h in
     let d = ap (receipts_held t m) f in
@@ -48,7 +52,9 @@ gives_last p s a b o e h f g t m =
     let i : at_home t.blocks m s.block s.mark ≡ at_home t.blocks m p.life.block p.mark = cc (o, e) in
     (omega arith, omega arith)
 
-pub gives_left : (p : PartState) (r : ReceiptState) (a b : OutcomesState) → r.weight ≡ p.weight → r.life ≡ p.life → r.mark ≡ p.mark → b.soles ≡ a.soles → b.receipts ≡ a.receipts ++ r ∷ [] → Keeps (both (of_part p) (of_outcomes a)) (of_outcomes b)
+pub gives_left : (p : PartState) (r : ReceiptState) (a b : OutcomesState) → r.weight ≡ p.weight → r.life ≡ p.life
+    → r.mark ≡ p.mark → b.soles ≡ a.soles → b.receipts ≡ a.receipts ++ r ∷ []
+    → Keeps (both (of_part p) (of_outcomes a)) (of_outcomes b)
 gives_left p r a b w l k f g t m =
     let c : counted t m r.life r.mark r.weight ≡ counted t m p.life p.mark p.weight = cc in
     let d = ap (soles_home t.blocks m) f in
@@ -56,7 +62,9 @@ gives_left p r a b w l k f g t m =
     (omega arith, omega arith)
 
 -- the first piece goes, its part to the outcomes
-pub keeps_pop : (s : Account) (x : Piece) (xs ys : List Piece) (o q : OutcomesState) → xs ≡ x ∷ ys → Keeps s (both (of_pieces xs) (of_outcomes o)) → Keeps (both (of_part x.part) (of_outcomes o)) (of_outcomes q) → Keeps s (both (of_pieces ys) (of_outcomes q))
+pub keeps_pop : (s : Account) (x : Piece) (xs ys : List Piece) (o q : OutcomesState) → xs ≡ x ∷ ys
+    → Keeps s (both (of_pieces xs) (of_outcomes o)) → Keeps (both (of_part x.part) (of_outcomes o)) (of_outcomes q)
+    → Keeps s (both (of_pieces ys) (of_outcomes q))
 keeps_pop s x xs ys o q e h k t m =
     let d = ap (pieces_held t m) e in
     let f = h t m in
@@ -70,7 +78,9 @@ pub join_keeps : (a c b : List Piece) → b ≡ a ++ c → Keeps (both (of_piece
 join_keeps a c b e t m = let f = ap (pieces_held t m) e ∙ pieces_held-append t m a c in (omega arith, omega arith)
 
 -- the last piece goes, its part to the outcomes
-pub keeps_pop_back : (s : Account) (x : Piece) (xs ys : List Piece) (o q : OutcomesState) → xs ≡ ys ++ x ∷ [] → Keeps s (both (of_pieces xs) (of_outcomes o)) → Keeps (both (of_part x.part) (of_outcomes o)) (of_outcomes q) → Keeps s (both (of_pieces ys) (of_outcomes q))
+pub keeps_pop_back : (s : Account) (x : Piece) (xs ys : List Piece) (o q : OutcomesState) → xs ≡ ys ++ x ∷ []
+    → Keeps s (both (of_pieces xs) (of_outcomes o)) → Keeps (both (of_part x.part) (of_outcomes o)) (of_outcomes q)
+    → Keeps s (both (of_pieces ys) (of_outcomes q))
 keeps_pop_back s x xs ys o q e h k t m =
     let d = ap (pieces_held t m) e ∙ pieces_held-append t m ys (x ∷ []) in
     let f = h t m in

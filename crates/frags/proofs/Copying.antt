@@ -1,5 +1,6 @@
 -- Bytes that are copied piece by piece.
-use Rattle.std.proofs.Common.{◌≡◌, ℕ, ◌+◌, ◌-◌, ◌≤◌, List, [], ◌∷◌, ◌++◌, zero, suc, ap, sym, ◌∙◌, length, take, drop, min, append_assoc, arith}
+use Rattle.std.proofs.Common.{◌≡◌, ℕ, ◌+◌, ◌-◌, ◌≤◌, List, [], ◌∷◌, ◌++◌, zero, suc, ap, sym, ◌∙◌, length, take, drop}
+use Rattle.std.proofs.Common.{min, append_assoc, arith}
 use Rattle.std.proofs.lemmas.List.{take_min}
 use Rattle.std.proofs.Math.Seq.{drop-nil}
 
@@ -19,10 +20,12 @@ drop_both zero (x ∷ xs) ys = let e : min 0 (length (x ∷ xs)) ≡ 0 = omega a
 drop_both (suc m) (x ∷ xs) ys =
     let e : min (suc m) (length (x ∷ xs)) ≡ suc (min m (length xs)) = omega arith in
     let f : suc m - suc (min m (length xs)) ≡ m - min m (length xs) = omega arith in
-    drop_both m xs ys ∙ sym (ap (λ (k : ℕ). drop (min m (length xs)) xs ++ drop k ys) f) ∙ sym (ap (λ (k : ℕ). drop k (x ∷ xs) ++ drop (suc m - k) ys) e)
+    drop_both m xs ys ∙ sym (ap (λ (k : ℕ). drop (min m (length xs)) xs ++ drop k ys) f)
+    ∙ sym (ap (λ (k : ℕ). drop k (x ∷ xs) ++ drop (suc m - k) ys) e)
 
 -- some of what was left is copied: what is done with what is left stays
-pub copy_step : (L done end : ℕ) (old new b rest T : List ℕ) → done ≤ L → end ≡ done + min (length b) (L - done) → take end new ≡ take done old ++ take (end - done) b
+pub copy_step : (L done end : ℕ) (old new b rest T : List ℕ) → done ≤ L → end ≡ done + min (length b) (L - done)
+    → take end new ≡ take done old ++ take (end - done) b
     → take done old ++ take (L - done) (b ++ rest) ≡ T → take end new ++ take (L - end) rest ≡ T
 copy_step L done end old new b rest T le e w h =
     let f : end - done ≡ min (L - done) (length b) = omega arith in

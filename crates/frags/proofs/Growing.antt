@@ -12,7 +12,8 @@ module _ {X : Type 0} where
   prefix_shorter xs ys e = let l = ap length e in omega (arith, length-take (length xs) ys)
 
   prefix_trans : (xs ys zs : List X) → take (length xs) ys ≡ xs → take (length ys) zs ≡ ys → take (length xs) zs ≡ xs
-  prefix_trans xs ys zs e f = sym (take-take (length xs) (length ys) zs (prefix_shorter xs ys e)) ∙ ap (λ (z : List X). take (length xs) z) f ∙ e
+  prefix_trans xs ys zs e f = sym (take-take (length xs) (length ys) zs (prefix_shorter xs ys e))
+      ∙ ap (λ (z : List X). take (length xs) z) f ∙ e
 
   prefix_same : (xs ys : List X) → ys ≡ xs → take (length xs) ys ≡ xs
   prefix_same xs ys e = ap (λ (z : List X). take (length xs) z) e ∙ take-length xs

@@ -1,5 +1,6 @@
 -- How many bytes pieces have, and which are left when the first ones are cut off.
-use Rattle.std.proofs.Common.{◌≡◌, ℕ, ◌+◌, ◌-◌, ◌<◌, ◌≤◌, List, [], ◌∷◌, ◌++◌, refl, ap, sym, ◌∙◌, length, take, drop, arith, length-append, length-drop}
+use Rattle.std.proofs.Common.{◌≡◌, ℕ, ◌+◌, ◌-◌, ◌<◌, ◌≤◌, List, [], ◌∷◌, ◌++◌, refl, ap, sym, ◌∙◌, length, take, drop}
+use Rattle.std.proofs.Common.{arith, length-append, length-drop}
 use Rattle.std.proofs.lemmas.List.{length-take, drop-append-le, drop-take, drop-drop}
 use Rattle.std.proofs.lemmas.Bool.{cond_both}
 use Rattle.std.proofs.Math.Seq.{drop-nil, drop-append-add}
@@ -28,18 +29,24 @@ pub cut_piece : (p : Piece) (n : ℕ) → n ≤ p.to - p.from → drop n (piece_
 cut_piece p n h =
     let m : ℕ = p.to - (p.from + n) in
     let e : p.to - p.from ≡ n + m = omega arith in
-    let a : drop n (take (p.to - p.from) (drop p.from p.part.bytes)) ≡ drop n (take (n + m) (drop p.from p.part.bytes)) = ap (λ (k : ℕ). drop n (take k (drop p.from p.part.bytes))) e in
+    let a : drop n (take (p.to - p.from) (drop p.from p.part.bytes))
+    ≡ drop n (take (n + m) (drop p.from p.part.bytes)) =
+    ap (λ (k : ℕ). drop n (take k (drop p.from p.part.bytes))) e in
     a ∙ drop-take n m (drop p.from p.part.bytes) ∙ ap (λ (z : List ℕ). take m z) (drop-drop n p.from p.part.bytes)
 
 pub cut_bytes : (n : ℕ) (ps : List Piece) → AllFit ps → bytes_of (cut_front n ps) ≡ drop n (bytes_of ps)
 cut_bytes n [] h = sym (drop-nil n)
 cut_bytes n (p ∷ ps) h =
     let l = length-piece p h.0 in
-    cond_both (ltb n (p.to - p.from)) (record p { from = p.from + n } ∷ ps) (cut_front (n - (p.to - p.from)) ps) (λ (z : List Piece). bytes_of z ≡ drop n (piece_bytes p ++ bytes_of ps))
-    (λ e. let lt : n < p.to - p.from = ltb-true n (p.to - p.from) e in let k : n ≤ p.to - p.from = omega arith in let j : n ≤ length (piece_bytes p) = omega arith in
+    cond_both (ltb n (p.to - p.from)) (record p { from = p.from + n } ∷ ps) (cut_front (n - (p.to - p.from)) ps)
+    (λ (z : List Piece). bytes_of z ≡ drop n (piece_bytes p ++ bytes_of ps))
+    (λ e. let lt : n < p.to - p.from = ltb-true n (p.to - p.from) e in let k : n ≤ p.to - p.from = omega arith in
+    let j : n ≤ length (piece_bytes p) = omega arith in
     ap (λ (z : List ℕ). z ++ bytes_of ps) (sym (cut_piece p n k)) ∙ sym (drop-append-le n (piece_bytes p) (bytes_of ps) j))
-    (λ e. let le : p.to - p.from ≤ n = ltb-false n (p.to - p.from) e in let k : n ≡ length (piece_bytes p) + (n - (p.to - p.from)) = omega arith in
-    cut_bytes (n - (p.to - p.from)) ps h.1 ∙ sym (drop-append-add (piece_bytes p) (bytes_of ps) (n - (p.to - p.from))) ∙ ap (λ (z : ℕ). drop z (piece_bytes p ++ bytes_of ps)) (sym k))
+    (λ e. let le : p.to - p.from ≤ n = ltb-false n (p.to - p.from) e in
+    let k : n ≡ length (piece_bytes p) + (n - (p.to - p.from)) = omega arith in
+    cut_bytes (n - (p.to - p.from)) ps h.1 ∙ sym (drop-append-add (piece_bytes p) (bytes_of ps) (n - (p.to - p.from)))
+    ∙ ap (λ (z : ℕ). drop z (piece_bytes p ++ bytes_of ps)) (sym k))
 
 -- a piece has a byte
 pub count_within : (ps : List Piece) → AllFit ps → length ps ≤ size_of ps

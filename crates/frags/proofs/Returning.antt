@@ -8,13 +8,15 @@ use Rattle.frags.specs.OutcomesState.{OutcomesState}
 use Rattle.frags.specs.Account.{Keeps, both, receipts_held, soles_home, of_sole, of_receipt, of_outcomes}
 use Rattle.frags.proofs.Accounts.{receipts_held-append, soles_home-append}
 
-pub sole_kept : (s : SoleState) (a b : OutcomesState) → b.soles ≡ a.soles ++ s ∷ [] → b.receipts ≡ a.receipts → Keeps (both (of_sole s) (of_outcomes a)) (of_outcomes b)
+pub sole_kept : (s : SoleState) (a b : OutcomesState) → b.soles ≡ a.soles ++ s ∷ [] → b.receipts ≡ a.receipts
+    → Keeps (both (of_sole s) (of_outcomes a)) (of_outcomes b)
 sole_kept s a b e f t m =
     let k = ap (soles_home t.blocks m) e ∙ soles_home-append t.blocks m a.soles (s ∷ []) in
     let l = ap (receipts_held t m) f in
     (omega arith, omega arith)
 
-pub receipt_kept : (r : ReceiptState) (a b : OutcomesState) → b.soles ≡ a.soles → b.receipts ≡ a.receipts ++ r ∷ [] → Keeps (both (of_receipt r) (of_outcomes a)) (of_outcomes b)
+pub receipt_kept : (r : ReceiptState) (a b : OutcomesState) → b.soles ≡ a.soles → b.receipts ≡ a.receipts ++ r ∷ []
+    → Keeps (both (of_receipt r) (of_outcomes a)) (of_outcomes b)
 receipt_kept r a b e f t m =
     let k = ap (soles_home t.blocks m) e in
     let l = ap (receipts_held t m) f ∙ receipts_held-append t m a.receipts (r ∷ []) in

@@ -17,8 +17,11 @@ settles_trans n a b c h k m =
 
 settles_beside : (n : ℕ) (a b c : Account) → Settles n a b → Settles n (both a c) (both b c)
 settles_beside n a b c h m =
-    let p = h m in
-    ((λ f. omega (arith, p.0 f)), λ lt z. let none : b.homes all_blocks m ≡ 0 = omega (arith, z) in let x = p.1 lt none in (omega (arith, z, x.0), omega (arith, x.1)))
+    let p = h m in (
+      (λ f. omega (arith, p.0 f)),
+      λ lt z. let none : b.homes all_blocks m ≡ 0 = omega (arith, z) in
+          let x = p.1 lt none in (omega (arith, z, x.0), omega (arith, x.1)),
+    )
 
 settles_keeps : (n : ℕ) (a b : Account) → Keeps a b → Settles n a b
 settles_keeps n a b h m =

@@ -1,5 +1,6 @@
 -- What the parts of a list give away and what they keep, all at once and one by one.
-use Rattle.std.proofs.Common.{◌≡◌, ℕ, ◌+◌, ◌-◌, ◌<◌, ◌≤◌, List, [], ◌∷◌, ◌++◌, false, ◌≢◌, zero, suc, add-one, refl, ap, ◌∙◌, length, get_or, set, map, arith}
+use Rattle.std.proofs.Common.{◌≡◌, ℕ, ◌+◌, ◌-◌, ◌<◌, ◌≤◌, List, [], ◌∷◌, ◌++◌, false, ◌≢◌, zero, suc, add-one, refl, ap}
+use Rattle.std.proofs.Common.{◌∙◌, length, get_or, set, map, arith}
 use Rattle.ref_core.specs.WeightRule.{IsWeight}
 use Rattle.raw_block.specs.Views.{PartState}
 use Rattle.frags.specs.Account.{Tests, both, counted}
@@ -24,11 +25,17 @@ not_worn p ps h = ((λ k. grind (arith, h)), grind (arith, h))
 
 pub AllFit-kept : (ps : List Piece) → AllFit ps → worn ps ≡ false → AllFit (map kept ps)
 AllFit-kept [] h w = tt
-AllFit-kept (p ∷ ps) h w = let n = not_worn p ps w in ((h.0.0, h.0.1, h.0.2, (gift-weighs p.part.weight h.0.3 n.0).0), AllFit-kept ps h.1 n.1)
+AllFit-kept (p ∷ ps) h w = let n = not_worn p ps w in (
+  (h.0.0, h.0.1, h.0.2, (gift-weighs p.part.weight h.0.3 n.0).0),
+  AllFit-kept ps h.1 n.1,
+)
 
 pub AllFit-given : (ps : List Piece) → AllFit ps → worn ps ≡ false → AllFit (map given ps)
 AllFit-given [] h w = tt
-AllFit-given (p ∷ ps) h w = let n = not_worn p ps w in ((h.0.0, h.0.1, h.0.2, (gift-weighs p.part.weight h.0.3 n.0).1), AllFit-given ps h.1 n.1)
+AllFit-given (p ∷ ps) h w = let n = not_worn p ps w in (
+  (h.0.0, h.0.1, h.0.2, (gift-weighs p.part.weight h.0.3 n.0).1),
+  AllFit-given ps h.1 n.1,
+)
 
 pub bytes_of-kept : (ps : List Piece) → bytes_of (map kept ps) ≡ bytes_of ps
 bytes_of-kept [] = refl
@@ -48,12 +55,14 @@ kept_first-at zero ps d = refl
 kept_first-at (suc i) [] d = refl
 kept_first-at (suc i) (p ∷ ps) d = kept_first-at i ps d
 
-pub kept_first-step : (i : ℕ) (ps : List Piece) (d : Piece) → i < length ps → set (kept_first i ps) i (kept (get_or ps i d)) ≡ kept_first (suc i) ps
+pub kept_first-step : (i : ℕ) (ps : List Piece) (d : Piece) → i < length ps
+    → set (kept_first i ps) i (kept (get_or ps i d)) ≡ kept_first (suc i) ps
 kept_first-step i [] d h = absurd (omega arith)
 kept_first-step zero (p ∷ ps) d h = refl
 kept_first-step (suc i) (p ∷ ps) d h = ap (λ z. kept p ∷ z) (kept_first-step i ps d (omega arith))
 
-pub given_first-step : (i : ℕ) (ps : List Piece) (d : Piece) → i < length ps → given_first i ps ++ given (get_or ps i d) ∷ [] ≡ given_first (suc i) ps
+pub given_first-step : (i : ℕ) (ps : List Piece) (d : Piece) → i < length ps
+    → given_first i ps ++ given (get_or ps i d) ∷ [] ≡ given_first (suc i) ps
 given_first-step i [] d h = absurd (omega arith)
 given_first-step zero (p ∷ ps) d h = refl
 given_first-step (suc i) (p ∷ ps) d h = ap (λ z. given p ∷ z) (given_first-step i ps d (omega arith))
@@ -71,27 +80,37 @@ worn-at [] i d h k = absurd (omega arith)
 worn-at (p ∷ ps) zero d h k = grind (arith, h)
 worn-at (p ∷ ps) (suc i) d h k = worn-at ps i d (grind (arith, h)) (omega arith)
 
-pub kept_given : (t : Tests) (m : ℕ) (p : Piece) → gift p.part.weight ≤ p.part.weight → counted t m p.part.life p.part.mark (p.part.weight - gift p.part.weight) + counted t m p.part.life p.part.mark (gift p.part.weight) ≡ counted t m p.part.life p.part.mark p.part.weight
+pub kept_given : (t : Tests) (m : ℕ) (p : Piece) → gift p.part.weight ≤ p.part.weight
+    → counted t m p.part.life p.part.mark (p.part.weight - gift p.part.weight) + counted t m p.part.life p.part.mark (gift p.part.weight) ≡ counted t m p.part.life p.part.mark p.part.weight
 kept_given t m p h = grind arith
 
-pub kept_step : (old items : List Piece) (i : ℕ) (q : Piece) (s : PartState) → items ≡ kept_first i old → q ≡ get_or old i q → s ≡ record q.part { weight = q.part.weight - gift q.part.weight } → i < length old → set items i (record { part = s; from = q.from; to = q.to }) ≡ kept_first (i + 1) old
+pub kept_step : (old items : List Piece) (i : ℕ) (q : Piece) (s : PartState) → items ≡ kept_first i old → q
+    ≡ get_or old i q → s ≡ record q.part { weight = q.part.weight - gift q.part.weight } → i < length old
+    → set items i (record { part = s; from = q.from; to = q.to }) ≡ kept_first (i + 1) old
 kept_step old items i q s e f g h =
     let x : Piece = record { part = s; from = q.from; to = q.to } in
     let a : set items i x ≡ set (kept_first i old) i x = ap (λ (z : List Piece). set z i x) e in
-    let b : set (kept_first i old) i x ≡ set (kept_first i old) i (kept q) = ap (λ (z : PartState). set (kept_first i old) i (record { part = z; from = q.from; to = q.to })) g in
-    let c : set (kept_first i old) i (kept q) ≡ set (kept_first i old) i (kept (get_or old i q)) = ap (λ (z : Piece). set (kept_first i old) i (kept z)) f in
+    let b : set (kept_first i old) i x ≡ set (kept_first i old) i (kept q) =
+    ap (λ (z : PartState). set (kept_first i old) i (record { part = z; from = q.from; to = q.to })) g in
+    let c : set (kept_first i old) i (kept q) ≡ set (kept_first i old) i (kept (get_or old i q)) =
+    ap (λ (z : Piece). set (kept_first i old) i (kept z)) f in
     rw add-one (a ∙ b ∙ c ∙ kept_first-step i old q h)
 
-pub given_step : (old items : List Piece) (i : ℕ) (q : Piece) (s : PartState) → items ≡ given_first i old → q ≡ get_or old i q → s ≡ record q.part { weight = gift q.part.weight } → i < length old → items ++ (record { part = s; from = q.from; to = q.to }) ∷ [] ≡ given_first (i + 1) old
+pub given_step : (old items : List Piece) (i : ℕ) (q : Piece) (s : PartState) → items ≡ given_first i old → q
+    ≡ get_or old i q → s ≡ record q.part { weight = gift q.part.weight } → i < length old
+    → items ++ (record { part = s; from = q.from; to = q.to }) ∷ [] ≡ given_first (i + 1) old
 given_step old items i q s e f g h =
     let x : Piece = record { part = s; from = q.from; to = q.to } in
     let a : items ++ x ∷ [] ≡ given_first i old ++ x ∷ [] = ap (λ (z : List Piece). z ++ x ∷ []) e in
-    let b : given_first i old ++ x ∷ [] ≡ given_first i old ++ given q ∷ [] = ap (λ (z : PartState). given_first i old ++ (record { part = z; from = q.from; to = q.to }) ∷ []) g in
-    let c : given_first i old ++ given q ∷ [] ≡ given_first i old ++ given (get_or old i q) ∷ [] = ap (λ (z : Piece). given_first i old ++ given z ∷ []) f in
+    let b : given_first i old ++ x ∷ [] ≡ given_first i old ++ given q ∷ [] =
+    ap (λ (z : PartState). given_first i old ++ (record { part = z; from = q.from; to = q.to }) ∷ []) g in
+    let c : given_first i old ++ given q ∷ [] ≡ given_first i old ++ given (get_or old i q) ∷ [] =
+    ap (λ (z : Piece). given_first i old ++ given z ∷ []) f in
     rw add-one (a ∙ b ∙ c ∙ given_first-step i old q h)
 
 -- what each part gives away and what it keeps is what it had
-pub share_sums : (t : Tests) (m : ℕ) (ps : List Piece) → AllFit ps → worn ps ≡ false → pieces_held t m (map kept ps) + pieces_held t m (map given ps) ≡ pieces_held t m ps
+pub share_sums : (t : Tests) (m : ℕ) (ps : List Piece) → AllFit ps → worn ps ≡ false
+    → pieces_held t m (map kept ps) + pieces_held t m (map given ps) ≡ pieces_held t m ps
 share_sums t m [] h w = refl
 share_sums t m (p ∷ ps) h w =
     let n = not_worn p ps w in

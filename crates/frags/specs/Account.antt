@@ -35,11 +35,13 @@ both a b = record { held = λ t m. a.held t m + b.held t m; homes = λ bs m. a.h
 
 -- no weight is made up, and what is gone has its block's Sole at home
 abbrev pub Keeps : Account → Account → Type 0
-Keeps a b = (t : Tests) (m : ℕ) → (b.held t m ≤ a.held t m) × (a.held t m + full_weight * a.homes t.blocks m ≤ b.held t m + full_weight * b.homes t.blocks m)
+Keeps a b = (t : Tests) (m : ℕ) → (b.held t m ≤ a.held t m)
+    × (a.held t m + full_weight * a.homes t.blocks m ≤ b.held t m + full_weight * b.homes t.blocks m)
 
 -- the same over all lives of a block, where a call shares a Sole and so begins a life
 abbrev pub KeepsMarks : Account → Account → Type 0
-KeepsMarks a b = (bs : ℕ → Bool) (m : ℕ) → a.held (every bs) m + full_weight * a.homes bs m ≤ b.held (every bs) m + full_weight * b.homes bs m
+KeepsMarks a b = (bs : ℕ → Bool) (m : ℕ)
+    → a.held (every bs) m + full_weight * a.homes bs m ≤ b.held (every bs) m + full_weight * b.homes bs m
 
 abbrev pub receipts_held : Tests → ℕ → List ReceiptState → ℕ
 receipts_held t m [] = 0

@@ -1,5 +1,6 @@
 -- What a share of a part gives away, and what lists of pieces answer that are shared or split.
-use Rattle.std.specs.Prelude.{ℕ, zero, suc, ◌≡◌, ◌+◌, ◌-◌, ◌/◌, ◌<◌, ◌≤◌, List, [], ◌∷◌, Bool, false, true, cond, ◌||◌, ◌==◌, nat_lt, max, map, Ok, Err}
+use Rattle.std.specs.Prelude.{ℕ, zero, suc, ◌≡◌, ◌+◌, ◌-◌, ◌/◌, ◌<◌, ◌≤◌, List, [], ◌∷◌, Bool, false, true, cond, ◌||◌}
+use Rattle.std.specs.Prelude.{◌==◌, nat_lt, max, map, Ok, Err}
 use Rattle.raw_block.specs.Views.{PartState}
 use Rattle.frags.specs.declared.pieces.Piece.{Piece}
 use Rattle.frags.specs.declared.pieces.ShareFault.{ShareFault}
@@ -52,11 +53,13 @@ given_first (suc i) (p ∷ ps) = given p ∷ given_first i ps
 -- the first n bytes, and the rest: the part that is cut leaves its gift in front
 abbrev pub front : ℕ → List Piece → List Piece
 front n [] = []
-front n (p ∷ ps) = cond (nat_lt n (p.to - p.from)) (cond (n == 0) [] (record (given p) { to = p.from + n } ∷ [])) (p ∷ front (n - (p.to - p.from)) ps)
+front n (p ∷ ps) = cond (nat_lt n (p.to - p.from)) (cond (n == 0) [] (record (given p) { to = p.from + n } ∷ []))
+    (p ∷ front (n - (p.to - p.from)) ps)
 
 abbrev pub back : ℕ → List Piece → List Piece
 back n [] = []
-back n (p ∷ ps) = cond (nat_lt n (p.to - p.from)) (cond (n == 0) (p ∷ ps) (record (kept p) { from = p.from + n } ∷ ps)) (back (n - (p.to - p.from)) ps)
+back n (p ∷ ps) = cond (nat_lt n (p.to - p.from)) (cond (n == 0) (p ∷ ps) (record (kept p) { from = p.from + n } ∷ ps))
+    (back (n - (p.to - p.from)) ps)
 
 -- the part that is cut at n has nothing to give
 abbrev pub cut_worn : ℕ → List Piece → Bool

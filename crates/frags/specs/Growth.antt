@@ -6,7 +6,8 @@ use Rattle.frags.specs.OutcomesState.{OutcomesState}
 
 -- n Soles and receipts came behind those that were there
 abbrev pub Grows : ℕ → OutcomesState → OutcomesState → Type 0
-Grows n a b = (take (length a.soles) b.soles ≡ a.soles) × (take (length a.receipts) b.receipts ≡ a.receipts) × (length b.soles + length b.receipts ≡ length a.soles + length a.receipts + n)
+Grows n a b = (take (length a.soles) b.soles ≡ a.soles) × (take (length a.receipts) b.receipts ≡ a.receipts)
+    × (length b.soles + length b.receipts ≡ length a.soles + length a.receipts + n)
 
 -- what a release left came behind those that were there
 abbrev pub Behind : Released → OutcomesState → OutcomesState → Type 0

@@ -37,7 +37,8 @@ cut_front n (p ∷ ps) = cond (nat_lt n (p.to - p.from)) (record p { from = p.fr
 -- the pieces of the first n bytes
 abbrev pub keep_front : ℕ → List Piece → List Piece
 keep_front n [] = []
-keep_front n (p ∷ ps) = cond (n == 0) [] (cond (nat_lt n (p.to - p.from)) (record p { to = p.from + n } ∷ []) (p ∷ keep_front (n - (p.to - p.from)) ps))
+keep_front n (p ∷ ps) = cond (n == 0) [] (cond (nat_lt n (p.to - p.from)) (record p { to = p.from + n } ∷ [])
+    (p ∷ keep_front (n - (p.to - p.from)) ps))
 
 -- the byte at a place of the first piece that reaches so far
 abbrev pub byte_in : ℕ → List Piece → ℕ

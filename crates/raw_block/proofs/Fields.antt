@@ -1,6 +1,8 @@
 -- The data fields of the structs that own by their address: one, or none. Assumes `Logic`.
 use Rattle.std.proofs.Common.{◌≡◌, ℕ, T, List, [], ◌∷◌, ◌++◌, refl, ap, ◌∙◌, lit<}
-use Rattle.raw_block.proofs.Walking.{Ura, ty_struct, tcons, tnil, Val, vstruct, vcons, vnil, of_list, has_ty, WT, bare, ent, emp, via, never, never_e, fst∗, Lft, fact, fact_i, Logic, sem, RattleType, Is, lone, Ptr, InBlock, block_ptr}
+use Rattle.raw_block.proofs.Walking.{Ura, ty_struct, tcons, tnil, Val, vstruct, vcons, vnil, of_list, has_ty, WT, bare}
+use Rattle.raw_block.proofs.Walking.{ent, emp, via, never, never_e, fst∗, Lft, fact, fact_i, Logic, sem, RattleType, Is}
+use Rattle.raw_block.proofs.Walking.{lone, Ptr, InBlock, block_ptr}
 use Rattle.raw_block.proofs.Walking.{null_ptr, ptr_val, RawPtr-copy, Struct, shape}
 use mir.Syntax.{ty_ptr}
 use denote.Opens.{Opens}
@@ -47,7 +49,8 @@ module _ (R : RattleType) where
   heap_told p vs is = is.1.0 ∙ ap (λ (ws : List Val). vstruct (of_list (ws ++ [])) ∷ []) is.1.1.0
 
   pub heap_made : {M : Type 1} {𝓤 : Ura M} (𝓛 : Logic 𝓤) (p : Ptr) → ent 𝓤 (emp 𝓤) (sem 𝓛 (Heap_words.own_val (p, tt) (alone p ∷ [])))
-  heap_made 𝓛 p = makes_shadow 𝓛 (Heap_words.own_val (p, tt) (alone p ∷ [])) (λ vss. (tt, (tt, tt))) ((ptr_val p ∷ [], tt), (refl, (refl, tt)))
+  heap_made 𝓛 p = makes_shadow 𝓛 (Heap_words.own_val (p, tt) (alone p ∷ [])) (λ vss. (tt, (tt, tt)))
+      ((ptr_val p ∷ [], tt), (refl, (refl, tt)))
 
 module _ {M : Type 1} {𝓤 : Ura M} (𝓛 : Logic 𝓤) (R : RattleType) where
   pub heap_placed : (p : Ptr) (x : R.Denot) → ent 𝓤 (sem 𝓛 (heap_owns R p x)) (fact 𝓤 (InBlock p))
@@ -76,18 +79,23 @@ module _ (R : RattleType) where
   pub claimed_told : (p : Ptr) (vs : List Val) → Is Claimed_words (p, tt) vs → vs ≡ alone p ∷ []
   claimed_told p vs is = is.1.0 ∙ ap (λ (ws : List Val). vstruct (of_list (ws ++ [])) ∷ []) is.1.1.0
 
-  pub released_made : {M : Type 1} {𝓤 : Ura M} (𝓛 : Logic 𝓤) (p : Ptr) → ent 𝓤 (emp 𝓤) (sem 𝓛 (Released_words.own_val (p, tt) (alone p ∷ [])))
-  released_made 𝓛 p = makes_shadow 𝓛 (Released_words.own_val (p, tt) (alone p ∷ [])) (λ vss. (tt, (tt, tt))) ((ptr_val p ∷ [], tt), (refl, (refl, tt)))
+  pub released_made : {M : Type 1} {𝓤 : Ura M} (𝓛 : Logic 𝓤) (p : Ptr)
+      → ent 𝓤 (emp 𝓤) (sem 𝓛 (Released_words.own_val (p, tt) (alone p ∷ [])))
+  released_made 𝓛 p = makes_shadow 𝓛 (Released_words.own_val (p, tt) (alone p ∷ [])) (λ vss. (tt, (tt, tt)))
+      ((ptr_val p ∷ [], tt), (refl, (refl, tt)))
 
   pub claimed_made : {M : Type 1} {𝓤 : Ura M} (𝓛 : Logic 𝓤) (p : Ptr) → ent 𝓤 (emp 𝓤) (sem 𝓛 (Claimed_words.own_val (p, tt) (alone p ∷ [])))
-  claimed_made 𝓛 p = makes_shadow 𝓛 (Claimed_words.own_val (p, tt) (alone p ∷ [])) (λ vss. (tt, (tt, tt))) ((ptr_val p ∷ [], tt), (refl, (refl, tt)))
+  claimed_made 𝓛 p = makes_shadow 𝓛 (Claimed_words.own_val (p, tt) (alone p ∷ [])) (λ vss. (tt, (tt, tt)))
+      ((ptr_val p ∷ [], tt), (refl, (refl, tt)))
 
 module _ {M : Type 1} {𝓤 : Ura M} (𝓛 : Logic 𝓤) (R : RattleType) where
-  pub released_placed : (p : Ptr) (γ : LifeNames) (x : R.Denot) (mark w n : ℕ) → ent 𝓤 (sem 𝓛 (released_owns R p γ x mark w n)) (fact 𝓤 (InBlock p))
+  pub released_placed : (p : Ptr) (γ : LifeNames) (x : R.Denot) (mark w n : ℕ)
+      → ent 𝓤 (sem 𝓛 (released_owns R p γ x mark w n)) (fact 𝓤 (InBlock p))
   released_placed (block_ptr b o) γ x mark w n = fact_i 𝓤 (Unit {0}) _ tt
   released_placed null_ptr γ x mark w n = never_e 𝓤 _
 
-  pub claimed_placed : (p : Ptr) (γ : LifeNames) (x : R.Denot) (mark w n : ℕ) → ent 𝓤 (sem 𝓛 (claimed_owns R p γ x mark w n)) (fact 𝓤 (InBlock p))
+  pub claimed_placed : (p : Ptr) (γ : LifeNames) (x : R.Denot) (mark w n : ℕ)
+      → ent 𝓤 (sem 𝓛 (claimed_owns R p γ x mark w n)) (fact 𝓤 (InBlock p))
   claimed_placed (block_ptr b o) γ x mark w n = fact_i 𝓤 (Unit {0}) _ tt
   claimed_placed null_ptr γ x mark w n = never_e 𝓤 _
 
@@ -102,14 +110,17 @@ none = vstruct vnil
 pub given_back_told : (vs : List Val) → Is (Struct (shape given_back.the_type)) tt vs → vs ≡ none ∷ []
 given_back_told vs is = is.1.0
 
-pub given_back_made : {M : Type 1} {𝓤 : Ura M} (𝓛 : Logic 𝓤) → ent 𝓤 (emp 𝓤) (sem 𝓛 ((Struct (shape given_back.the_type)).own_val tt (none ∷ [])))
+pub given_back_made : {M : Type 1} {𝓤 : Ura M} (𝓛 : Logic 𝓤) → ent 𝓤 (emp 𝓤)
+    (sem 𝓛 ((Struct (shape given_back.the_type)).own_val tt (none ∷ [])))
 given_back_made 𝓛 = makes_shadow 𝓛 ((Struct (shape given_back.the_type)).own_val tt (none ∷ [])) (λ vss. (tt, tt)) (tt, (refl, tt))
 
-pub word_seen_made : {M : Type 1} {𝓤 : Ura M} (𝓛 : Logic 𝓤) → ent 𝓤 (emp 𝓤) (sem 𝓛 ((Struct (shape word_seen.the_type)).own_val tt (none ∷ [])))
+pub word_seen_made : {M : Type 1} {𝓤 : Ura M} (𝓛 : Logic 𝓤) → ent 𝓤 (emp 𝓤)
+    (sem 𝓛 ((Struct (shape word_seen.the_type)).own_val tt (none ∷ [])))
 word_seen_made 𝓛 = makes_shadow 𝓛 ((Struct (shape word_seen.the_type)).own_val tt (none ∷ [])) (λ vss. (tt, tt)) (tt, (refl, tt))
 
 pub name_made : {M : Type 1} {𝓤 : Ura M} (𝓛 : Logic 𝓤) → ent 𝓤 (emp 𝓤) (sem 𝓛 ((Struct (shape name.the_type)).own_val tt (none ∷ [])))
 name_made 𝓛 = makes_shadow 𝓛 ((Struct (shape name.the_type)).own_val tt (none ∷ [])) (λ vss. (tt, tt)) (tt, (refl, tt))
 
-pub name_seen_made : {M : Type 1} {𝓤 : Ura M} (𝓛 : Logic 𝓤) → ent 𝓤 (emp 𝓤) (sem 𝓛 ((Struct (shape name_seen.the_type)).own_val tt (none ∷ [])))
+pub name_seen_made : {M : Type 1} {𝓤 : Ura M} (𝓛 : Logic 𝓤) → ent 𝓤 (emp 𝓤)
+    (sem 𝓛 ((Struct (shape name_seen.the_type)).own_val tt (none ∷ [])))
 name_seen_made 𝓛 = makes_shadow 𝓛 ((Struct (shape name_seen.the_type)).own_val tt (none ∷ [])) (λ vss. (tt, tt)) (tt, (refl, tt))

@@ -30,4 +30,5 @@ module _ {M : Type 1} {𝓤 : Ura M} (𝓛 : Logic 𝓤) where
   pub names_differ : (i j : ℕ) → ent 𝓤 (names i j) (fact 𝓤 (i ≢ j))
   names_differ i j = by_bool (ent 𝓤 (names i j) (fact 𝓤 (i ≢ j))) (eqb i j)
       (λ e. subst (λ (k : ℕ). ent 𝓤 (names i k) (fact 𝓤 (i ≢ j))) (eqb-true i j e) (once i (i ≢ j)))
-      (λ e. via 𝓤 (emp 𝓤) (qed 𝓛 (‵ (name_owns i) ∷ ‵ (name_owns j) ∷ []) ∵ drop ! $ drop ! $ done !) (fact_i 𝓤 (i ≢ j) (emp 𝓤) (differ_of i j e)))
+      (λ e. via 𝓤 (emp 𝓤) (qed 𝓛 (‵ (name_owns i) ∷ ‵ (name_owns j) ∷ []) ∵ drop ! $ drop ! $ done !)
+      (fact_i 𝓤 (i ≢ j) (emp 𝓤) (differ_of i j e)))

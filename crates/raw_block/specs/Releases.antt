@@ -10,7 +10,8 @@ use Rattle.raw_block.specs.declared.part.Claimed.TheVariants.{Sole, Shared}
 -- the last of its life is the block's Sole, with the bytes and the mark of the life; any other leaves a receipt of its weight
 abbrev pub IsReleased : PartState → Released → Type 0
 IsReleased part (Last sole) = (sole.block ≡ part.life.block) × (sole.bytes ≡ part.bytes) × (sole.mark ≡ part.mark)
-IsReleased part (Left receipt) = (receipt.weight ≡ part.weight) × (receipt.weight < full_weight) × (receipt.life ≡ part.life) × (receipt.mark ≡ part.mark)
+IsReleased part (Left receipt) = (receipt.weight ≡ part.weight) × (receipt.weight < full_weight)
+    × (receipt.life ≡ part.life) × (receipt.mark ≡ part.mark)
 
 -- where the part is the only holder it is the Sole; else it stays, and the word was seen above its weight
 abbrev pub IsClaimed : PartState → Claimed → Type 0

@@ -43,7 +43,8 @@ abbrev pub Entry : Type 0
 Entry = (ℕ × ℕ) × About
 
 abbrev pub Adds : Entry → Entry → Entry → Type 0
-Adds x y z = ((x.0.0 + y.0.0 ≡ z.0.0) × (x.0.1 + y.0.1 ≡ z.0.1)) × (((x.1 ≡ z.1) × (y.1 ≡ z.1)) × ((z.0.0 ≤ full_weight) × (z.0.1 + 1 ≤ full_weight)))
+Adds x y z = ((x.0.0 + y.0.0 ≡ z.0.0) × (x.0.1 + y.0.1 ≡ z.0.1)) × (((x.1 ≡ z.1) × (y.1 ≡ z.1))
+    × ((z.0.0 ≤ full_weight) × (z.0.1 + 1 ≤ full_weight)))
 
 abbrev pub coded_Gv : Coded Gv
 coded_Gv = record { code = λ g. g; inj = λ x y e. e }
@@ -58,11 +59,22 @@ abbrev pub adds : Graph Entry
 adds = record {
   set = SetCoded-set entry_coded;
   sum = Adds;
-  prop = λ x y z. ×_prop (×_prop (ℕ_set (x.0.0 + y.0.0) z.0.0) (ℕ_set (x.0.1 + y.0.1) z.0.1)) (×_prop (×_prop (SetCoded-set about_coded x.1 z.1) (SetCoded-set about_coded y.1 z.1)) (×_prop le_prop le_prop));
+  prop = λ x y z. ×_prop (×_prop (ℕ_set (x.0.0 + y.0.0) z.0.0) (ℕ_set (x.0.1 + y.0.1) z.0.1))
+      (×_prop (×_prop (SetCoded-set about_coded x.1 z.1) (SetCoded-set about_coded y.1 z.1)) (×_prop le_prop le_prop));
   one = λ x y z u h k i. (((sym h.0.0 ∙ k.0.0) i, (sym h.0.1 ∙ k.0.1) i), (sym h.1.0.0 ∙ k.1.0.0) i);
   comm = λ x y z h. let e = h.0.0 in let f = h.0.1 in ((omega arith, omega arith), ((h.1.0.1, h.1.0.0), h.1.1));
   assoc = λ x y z xy u h k. let e = h.0.0 in let f = h.0.1 in let g = k.0.0 in let l = k.0.1 in let r = k.1.1.0 in let s = k.1.1.1 in
-      ∣ (((y.0.0 + z.0.0, y.0.1 + z.0.1), u.1), ((refl, refl), ((h.1.0.1 ∙ k.1.0.0, k.1.0.1), (omega arith, omega arith))), ((omega arith, omega arith), ((h.1.0.0 ∙ k.1.0.0, refl), (r, s)))) ∣₁;
+      ∣ (
+        ((y.0.0 + z.0.0, y.0.1 + z.0.1), u.1),
+        (
+          (refl, refl),
+          (
+            (h.1.0.1 ∙ k.1.0.0, k.1.0.1),
+            (omega arith, omega arith),
+          ),
+        ),
+        ((omega arith, omega arith), ((h.1.0.0 ∙ k.1.0.0, refl), (r, s))),
+      ) ∣₁;
 }
 
 abbrev pub entries : Algebra
@@ -118,7 +130,9 @@ module _ (R : RattleType) (b o : ℕ) where
   module _ (γ : LifeNames) (x : R.Denot) (mark a : ℕ) where
     -- what lies beside the word w
     abbrev pub beside_word : ℕ → Fml
-    beside_word w = fsep (reached γ.1 w) (fsep (fact (IsBalanced w (full_weight - w))) (fsep (entry γ.0 (full_weight - w) (w - 1) (about R x mark a)) (fsep (kept a (2 ^ 63 - w)) (fsep (flent (a ∷ []) (content_at x)) (whole_with x)))))
+    beside_word w = fsep (reached γ.1 w) (fsep (fact (IsBalanced w (full_weight - w)))
+        (fsep (entry γ.0 (full_weight - w) (w - 1) (about R x mark a))
+        (fsep (kept a (2 ^ 63 - w)) (fsep (flent (a ∷ []) (content_at x)) (whole_with x)))))
 
     abbrev pub state : ℕ → Fml
     state w = fsep (word b (o + 0) w) (beside_word w)
@@ -172,7 +186,8 @@ module _ (R : RattleType) (b o : ℕ) (γ : LifeNames) (x : R.Denot) (mark w n :
   released_at = fsep (fact (IsWeight w)) (fex ℕ (λ a. tells R b o γ x mark a w (entry γ.0 0 w (about R x mark a)) n))
 
   abbrev pub claimed_at : Fml
-  claimed_at = fsep (fact (IsWeight w)) (fex ℕ (λ a. fsep (finv (Inv R b o γ x mark a)) (fsep (seen R b o x (a ∷ [])) (tells R b o γ x mark a w (fsep (held R b o γ x mark a w) (was γ.1 n)) n))))
+  claimed_at = fsep (fact (IsWeight w)) (fex ℕ (λ a. fsep (finv (Inv R b o γ x mark a))
+      (fsep (seen R b o x (a ∷ [])) (tells R b o γ x mark a w (fsep (held R b o γ x mark a w) (was γ.1 n)) n))))
 
 abbrev pub released_owns : (R : RattleType) → Ptr → LifeNames → R.Denot → ℕ → ℕ → ℕ → Fml
 released_owns R (block_ptr b o) γ x mark w n = released_at R b o γ x mark w n

@@ -17,7 +17,8 @@ pub returns-else-not-is_ip4-clause-found : goal.returns-else-not-is_ip4-clause-f
 returns-else-not-is_ip4-clause-found c = (
   record { layer = Ip4; at = c.args.at } ∷ [],
   c.push.ensures.items,
-  λ tunnel. network_ip4 c.args.frame.now tunnel c.args.kind c.args.at c.if-kind-eq2048.true (sym c.is_ip4.ensures.there ∙ c.if-not-is_ip4.false)
+  λ tunnel. network_ip4 c.args.frame.now tunnel c.args.kind c.args.at
+          c.if-kind-eq2048.true (sym c.is_ip4.ensures.there ∙ c.if-not-is_ip4.false)
       ∙ ap (λ (p : ℕ). then_layout Ip4 c.args.at (carried_from c.args.frame.now tunnel p (c.args.at + 20))) (sym c.protocol.ensures.field),
 )
 
@@ -25,6 +26,7 @@ pub returns-else-not-is_ip6-clause-found : goal.returns-else-not-is_ip6-clause-f
 returns-else-not-is_ip6-clause-found c = (
   record { layer = Ip6; at = c.args.at } ∷ [],
   c.push-then-kind-eq34525.ensures.items,
-  λ tunnel. network_ip6 c.args.frame.now tunnel c.args.kind c.args.at c.if-kind-eq34525.true (sym c.is_ip6.ensures.there ∙ c.if-not-is_ip6.false)
+  λ tunnel. network_ip6 c.args.frame.now tunnel c.args.kind c.args.at
+          c.if-kind-eq34525.true (sym c.is_ip6.ensures.there ∙ c.if-not-is_ip6.false)
       ∙ ap (λ (p : ℕ). then_layout Ip6 c.args.at (carried_from c.args.frame.now tunnel p (c.args.at + 40))) (sym c.next_header.ensures.field),
 )

@@ -4,7 +4,8 @@ use Rattle.core.specs.declared.option.Option.TheVariants.{Some, None}
 use Rattle.raw_block.specs.Views.{Life, ReceiptState}
 use Rattle.raw_block.proofs.tests.release_at_once.Goals as goal
 
-one_life : (l : Life) (x y : Option ReceiptState) → IfSome x (λ r. r.life ≡ l) → IfSome y (λ s. s.life ≡ l) → IfSome x (λ r. IfSome y (λ s. s.life ≡ r.life))
+one_life : (l : Life) (x y : Option ReceiptState) → IfSome x (λ r. r.life ≡ l) → IfSome y (λ s. s.life ≡ l)
+    → IfSome x (λ r. IfSome y (λ s. s.life ≡ r.life))
 one_life l (Some x) (Some y) h k = k ∙ sym h
 one_life l (Some x) None h k = tt
 one_life l None y h k = tt

@@ -11,12 +11,28 @@ pub invariant_of-self : goal.invariant_of-self
 invariant_of-self c =
     let i = c.self.invariant in
     let e = c.push_back_reserved.ensures.items in
-    let s = ap size_of e ∙ size_of-append c.self.inside.items.items (record { part = c.args.part; from = c.args.from; to = c.args.to } ∷ []) in
+    let s = ap size_of e ∙ size_of-append c.self.inside.items.items (record {
+      part = c.args.part;
+      from = c.args.from;
+      to = c.args.to;
+    } ∷ []) in
     let v = ap (λ (b : BuilderState). size_of b.pieces) c.self.view_is in
-    let l = ap length c.bytes.ensures.value in
-    (omega arith, omega arith, subst AllFit (sym e) (AllFit-append _ _ i.2 ((c.requires.range.0, c.requires.range.1, sym l ∙ c.bytes.ensures.size, subst IsWeight c.weight.ensures.value c.weight.ensures.range), tt)))
+    let l = ap length c.bytes.ensures.value in (
+      omega arith,
+      omega arith,
+      subst AllFit (sym e) (AllFit-append _ _ i.2 (
+        (
+          c.requires.range.0,
+          c.requires.range.1,
+          sym l ∙ c.bytes.ensures.size,
+          subst IsWeight c.weight.ensures.value c.weight.ensures.range,
+        ),
+        tt,
+      )),
+    )
 
 pub returns-clause-kept : goal.returns-clause-kept
 returns-clause-kept c =
     let x : Piece = record { part = c.args.part; from = c.args.from; to = c.args.to } in
-    append_keeps c.args.self.now.pieces c.push_back_reserved.new.self.items x (c.push_back_reserved.ensures.items ∙ ap (λ (b : BuilderState). b.pieces ++ x ∷ []) c.self.view_is)
+    append_keeps c.args.self.now.pieces c.push_back_reserved.new.self.items x (c.push_back_reserved.ensures.items
+    ∙ ap (λ (b : BuilderState). b.pieces ++ x ∷ []) c.self.view_is)

@@ -2,4 +2,5 @@ use Rattle.frags.proofs.Joining.{sole_keeps}
 use Rattle.frags.proofs.outcomes.Outcomes.give_back_holder.Goals as goal
 
 pub returns-in-Sole-clause-kept : goal.returns-in-Sole-clause-kept
-returns-in-Sole-clause-kept c = sole_keeps c.args.holder c.in-Sole.sole c.args.self.now c.keep_sole.new.self c.in-Sole.is c.keep_sole.ensures.soles c.keep_sole.ensures.receipts
+returns-in-Sole-clause-kept c = sole_keeps c.args.holder c.in-Sole.sole c.args.self.now c.keep_sole.new.self
+    c.in-Sole.is c.keep_sole.ensures.soles c.keep_sole.ensures.receipts

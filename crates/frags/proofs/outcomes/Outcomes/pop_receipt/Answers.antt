@@ -6,4 +6,5 @@ use Rattle.frags.proofs.outcomes.Outcomes.pop_receipt.Goals as goal
 pub returns-clause-kept : goal.returns-clause-kept
 returns-clause-kept c =
     let b : OutcomesState = record { soles = c.self.inside.soles.items; receipts = c.pop.new.self.items; spare = 0 } in
-    receipt_taken c.pop.result c.args.self.now b (ap (λ (o : OutcomesState). o.soles) c.self.view_is) (sym (ap (λ (o : OutcomesState). o.receipts) c.self.view_is) ∙ c.pop.ensures.items)
+    receipt_taken c.pop.result c.args.self.now b (ap (λ (o : OutcomesState). o.soles) c.self.view_is)
+    (sym (ap (λ (o : OutcomesState). o.receipts) c.self.view_is) ∙ c.pop.ensures.items)

@@ -10,10 +10,25 @@ pub invariant_of-self : goal.invariant_of-self
 invariant_of-self c =
     let i = c.self.invariant in
     let e = c.in-Ok.ensures.items in
-    let s = ap size_of e ∙ size_of-append c.self.inside.items.items (record { part = c.args.part; from = c.args.from; to = c.args.to } ∷ []) in
+    let s = ap size_of e ∙ size_of-append c.self.inside.items.items (record {
+      part = c.args.part;
+      from = c.args.from;
+      to = c.args.to;
+    } ∷ []) in
     let v = ap size_of c.self.view_is in
-    let l = ap length c.bytes.ensures.value in
-    (omega arith, omega arith, subst AllFit (sym e) (AllFit-append _ _ i.2 ((c.requires.range.0, c.requires.range.1, sym l ∙ c.bytes.ensures.size, subst IsWeight c.weight.ensures.value c.weight.ensures.range), tt)))
+    let l = ap length c.bytes.ensures.value in (
+      omega arith,
+      omega arith,
+      subst AllFit (sym e) (AllFit-append _ _ i.2 (
+        (
+          c.requires.range.0,
+          c.requires.range.1,
+          sym l ∙ c.bytes.ensures.size,
+          subst IsWeight c.weight.ensures.value c.weight.ensures.range,
+        ),
+        tt,
+      )),
+    )
 
 pub returns-in-Ok-clause-kept : goal.returns-in-Ok-clause-kept
 returns-in-Ok-clause-kept c =

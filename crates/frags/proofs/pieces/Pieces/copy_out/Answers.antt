@@ -1,4 +1,5 @@
-use Rattle.std.proofs.Common.{◌≡◌, ℕ, suc, ◌+◌, ◌-◌, ◌<◌, ◌∷◌, ◌++◌, List, length, drop, take, ap, subst, sym, ◌∙◌, drop-cons, length-drop, add-one, arith}
+use Rattle.std.proofs.Common.{◌≡◌, ℕ, suc, ◌+◌, ◌-◌, ◌<◌, ◌∷◌, ◌++◌, List, length, drop, take, ap, subst, sym, ◌∙◌}
+use Rattle.std.proofs.Common.{drop-cons, length-drop, add-one, arith}
 use Rattle.std.proofs.lemmas.List.{take_rest}
 use Rattle.frags.specs.PieceList.{Fits, bytes_of, size_of}
 use Rattle.frags.specs.declared.pieces.Piece.{Piece}
@@ -9,7 +10,8 @@ use Rattle.frags.proofs.pieces.Pieces.copy_out.Goals as goal
 
 pub bytes_in-bytes-requires : goal.bytes_in-bytes-requires
 bytes_in-bytes-requires c = record {
-  fits = subst Fits (sym c.index.ensures) (AllFit-at c.self.inside.items.items c.loop-i.i c.index.result.now c.self.invariant.2 (omega arith));
+  fits = subst Fits (sym c.index.ensures) (AllFit-at c.self.inside.items.items c.loop-i.i c.index.result.now
+      c.self.invariant.2 (omega arith));
 }
 
 pub loop-i-preserved : goal.loop-i-preserved
@@ -23,8 +25,10 @@ loop-i-preserved c =
     let x : List ℕ = take (length b - start) (drop start b) in
     let lt : i < length items = omega arith in
     let f : Fits q = subst Fits (sym c.index.ensures) (AllFit-at items i q c.self.invariant.2 lt) in
-    let d : drop i items ≡ q ∷ drop (i + 1) items = rw add-one (drop-cons items i q lt ∙ ap (λ (z : Piece). z ∷ drop (suc i) items) (sym c.index.ensures)) in
-    let e : bytes_of (drop i items) ≡ b ++ bytes_of (drop (i + 1) items) = ap bytes_of d ∙ ap (λ (z : List ℕ). z ++ bytes_of (drop (i + 1) items)) (sym c.bytes_in-bytes.ensures.bytes) in
+    let d : drop i items ≡ q ∷ drop (i + 1) items = rw add-one (drop-cons items i q lt
+    ∙ ap (λ (z : Piece). z ∷ drop (suc i) items) (sym c.index.ensures)) in
+    let e : bytes_of (drop i items) ≡ b ++ bytes_of (drop (i + 1) items) = ap bytes_of d
+    ∙ ap (λ (z : List ℕ). z ++ bytes_of (drop (i + 1) items)) (sym c.bytes_in-bytes.ensures.bytes) in
     let g : drop c.loop-i.skip (bytes_of (drop i items)) ≡ x ++ drop (c.loop-i.skip - start) (bytes_of (drop (i + 1) items)) =
     ap (λ (z : List ℕ). drop c.loop-i.skip z) e
     ∙ drop_both c.loop-i.skip b (bytes_of (drop (i + 1) items))
@@ -36,9 +40,12 @@ loop-i-preserved c =
     let s = ap size_of d in
     let z = c.copy_on-done.ensures.end in
     let y = c.copy_on-done.ensures.size in
-    let a = copy_step (length c.loop-i.into) c.loop-i.done c.copy_on-done.result c.loop-i.into c.copy_on-done.new.into x (drop (c.loop-i.skip - start) (bytes_of (drop (i + 1) items))) (take (length c.args.into.now) (drop c.args.at (bytes_of items))) j.most z c.copy_on-done.ensures.written h in
+    let a = copy_step (length c.loop-i.into) c.loop-i.done c.copy_on-done.result c.loop-i.into
+    c.copy_on-done.new.into x (drop (c.loop-i.skip - start) (bytes_of (drop (i + 1) items)))
+    (take (length c.args.into.now) (drop c.args.at (bytes_of items))) j.most z c.copy_on-done.ensures.written h in
     record {
-      copied = ap (λ (k : ℕ). take c.copy_on-done.result c.copy_on-done.new.into ++ take (k - c.copy_on-done.result) (drop (c.loop-i.skip - start) (bytes_of (drop (i + 1) items)))) y ∙ a;
+      copied = ap (λ (k : ℕ). take c.copy_on-done.result c.copy_on-done.new.into
+          ++ take (k - c.copy_on-done.result) (drop (c.loop-i.skip - start) (bytes_of (drop (i + 1) items)))) y ∙ a;
       within = omega arith;
       most = omega arith;
       same = y ∙ j.same;

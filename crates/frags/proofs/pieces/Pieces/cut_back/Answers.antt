@@ -30,7 +30,9 @@ invariant_of-self c =
     let z = g.2 in
     let keep : ℕ = c.self.inside.size - c.args.n in
     let start : ℕ = c.loop-piece.self-inside.size - (c.in-Some.piece.to - c.in-Some.piece.from) in
-    let l = last_cut keep start c.loop-piece.self-inside.items.items c.pop_back.new.self.items c.push_back_reserved.new.self.items c.in-Some.piece c.in-Some.ensures.items c.push_back_reserved.ensures.items (omega arith) c.if-start-keep.true (omega arith) i.fits in
+    let l = last_cut keep start c.loop-piece.self-inside.items.items c.pop_back.new.self.items
+    c.push_back_reserved.new.self.items c.in-Some.piece c.in-Some.ensures.items
+    c.push_back_reserved.ensures.items (omega arith) c.if-start-keep.true (omega arith) i.fits in
     let y = c.self.invariant.1 in
     (sym l.1, omega arith, l.2)
 
@@ -42,9 +44,12 @@ returns-then-start-keep-clause-cut c =
     let z = g.2 in
     let keep : ℕ = c.self.inside.size - c.args.n in
     let start : ℕ = c.loop-piece.self-inside.size - (c.in-Some.piece.to - c.in-Some.piece.from) in
-    let l = last_cut keep start c.loop-piece.self-inside.items.items c.pop_back.new.self.items c.push_back_reserved.new.self.items c.in-Some.piece c.in-Some.ensures.items c.push_back_reserved.ensures.items (omega arith) c.if-start-keep.true (omega arith) i.fits in
+    let l = last_cut keep start c.loop-piece.self-inside.items.items c.pop_back.new.self.items
+    c.push_back_reserved.new.self.items c.in-Some.piece c.in-Some.ensures.items
+    c.push_back_reserved.ensures.items (omega arith) c.if-start-keep.true (omega arith) i.fits in
     let u = ap size_of c.self.view_is in
-    let e : c.push_back_reserved.new.self.items ≡ keep_front (size_of c.args.self.now - c.args.n) c.args.self.now = l.0 ∙ i.rest ∙ ap (λ (k : ℕ). keep_front k c.args.self.now) i.kept_size in
+    let e : c.push_back_reserved.new.self.items ≡ keep_front (size_of c.args.self.now - c.args.n) c.args.self.now = l.0
+    ∙ i.rest ∙ ap (λ (k : ℕ). keep_front k c.args.self.now) i.kept_size in
     let y = c.self.invariant.0 in
     (omega arith, e)
 
@@ -56,9 +61,12 @@ returns-then-start-keep-clause-bytes c =
     let z = g.2 in
     let keep : ℕ = c.self.inside.size - c.args.n in
     let start : ℕ = c.loop-piece.self-inside.size - (c.in-Some.piece.to - c.in-Some.piece.from) in
-    let l = last_cut keep start c.loop-piece.self-inside.items.items c.pop_back.new.self.items c.push_back_reserved.new.self.items c.in-Some.piece c.in-Some.ensures.items c.push_back_reserved.ensures.items (omega arith) c.if-start-keep.true (omega arith) i.fits in
+    let l = last_cut keep start c.loop-piece.self-inside.items.items c.pop_back.new.self.items
+    c.push_back_reserved.new.self.items c.in-Some.piece c.in-Some.ensures.items
+    c.push_back_reserved.ensures.items (omega arith) c.if-start-keep.true (omega arith) i.fits in
     let u = ap size_of c.self.view_is in
-    let e : c.push_back_reserved.new.self.items ≡ keep_front (size_of c.args.self.now - c.args.n) c.args.self.now = l.0 ∙ i.rest ∙ ap (λ (k : ℕ). keep_front k c.args.self.now) i.kept_size in
+    let e : c.push_back_reserved.new.self.items ≡ keep_front (size_of c.args.self.now - c.args.n) c.args.self.now = l.0
+    ∙ i.rest ∙ ap (λ (k : ℕ). keep_front k c.args.self.now) i.kept_size in
     ap bytes_of e ∙ keep_front-bytes (size_of c.args.self.now - c.args.n) c.args.self.now (subst AllFit c.self.view_is c.self.invariant.2)
 
 pub returns-then-start-keep-clause-kept : goal.returns-then-start-keep-clause-kept
@@ -69,7 +77,9 @@ returns-then-start-keep-clause-kept c = λ t m.
     let z = g.2 in
     let keep : ℕ = c.self.inside.size - c.args.n in
     let start : ℕ = c.loop-piece.self-inside.size - (c.in-Some.piece.to - c.in-Some.piece.from) in
-    let l = last_cut keep start c.loop-piece.self-inside.items.items c.pop_back.new.self.items c.push_back_reserved.new.self.items c.in-Some.piece c.in-Some.ensures.items c.push_back_reserved.ensures.items (omega arith) c.if-start-keep.true (omega arith) i.fits in
+    let l = last_cut keep start c.loop-piece.self-inside.items.items c.pop_back.new.self.items
+    c.push_back_reserved.new.self.items c.in-Some.piece c.in-Some.ensures.items
+    c.push_back_reserved.ensures.items (omega arith) c.if-start-keep.true (omega arith) i.fits in
     let h = l.3 t m in
     let k = i.kept t m in
     (omega arith, omega arith)
@@ -85,7 +95,8 @@ loop-piece-preserved c =
     let keep : ℕ = c.self.inside.size - c.args.n in
     let lt : keep ≤ size_of c.pop_back.new.self.items = omega arith in
     record {
-      rest = sym (keep_front-less keep c.pop_back.new.self.items (c.in-Some.piece ∷ []) lt) ∙ ap (λ (v : List Piece). keep_front keep v) (sym c.in-Some.ensures.items) ∙ i.rest;
+      rest = sym (keep_front-less keep c.pop_back.new.self.items (c.in-Some.piece ∷ []) lt)
+          ∙ ap (λ (v : List Piece). keep_front keep v) (sym c.in-Some.ensures.items) ∙ i.rest;
       kept_size = i.kept_size;
       size = omega arith;
       small = omega arith;
@@ -93,6 +104,11 @@ loop-piece-preserved c =
       enough = omega arith;
       fewer = omega arith;
       places = omega arith;
-      grows = grows_by (length c.args.self.now - length c.loop-piece.self-inside.items.items + 1) (length c.args.self.now - length c.pop_back.new.self.items) c.args.out.now c.give_back.new.out (grows_trans (length c.args.self.now - length c.loop-piece.self-inside.items.items) 1 c.args.out.now c.loop-piece.out c.give_back.new.out i.grows c.give_back.ensures.grows) (omega arith);
-      kept = keeps_pop_back (both (of_pieces c.args.self.now) (of_outcomes c.args.out.now)) c.in-Some.piece c.loop-piece.self-inside.items.items c.pop_back.new.self.items c.loop-piece.out c.give_back.new.out c.in-Some.ensures.items i.kept c.give_back.ensures.kept;
+      grows = grows_by (length c.args.self.now - length c.loop-piece.self-inside.items.items + 1)
+          (length c.args.self.now - length c.pop_back.new.self.items) c.args.out.now
+          c.give_back.new.out (grows_trans (length c.args.self.now - length c.loop-piece.self-inside.items.items) 1
+          c.args.out.now c.loop-piece.out c.give_back.new.out i.grows c.give_back.ensures.grows) (omega arith);
+      kept = keeps_pop_back (both (of_pieces c.args.self.now) (of_outcomes c.args.out.now)) c.in-Some.piece
+          c.loop-piece.self-inside.items.items c.pop_back.new.self.items c.loop-piece.out c.give_back.new.out
+          c.in-Some.ensures.items i.kept c.give_back.ensures.kept;
     }

@@ -12,7 +12,12 @@ loop-piece-preserved c =
     let i = c.loop-piece.invariant in
     record {
       fewer = omega arith;
-      grows = grows_by (length c.args.self - length c.loop-piece.items.items + 1) (length c.args.self - length c.pop_front.new.self.items) c.args.out.now c.give_back.new.out (grows_trans (length c.args.self - length c.loop-piece.items.items) 1 c.args.out.now c.loop-piece.out c.give_back.new.out i.grows c.give_back.ensures.grows) (omega arith);
+      grows = grows_by (length c.args.self - length c.loop-piece.items.items + 1)
+          (length c.args.self - length c.pop_front.new.self.items) c.args.out.now
+          c.give_back.new.out (grows_trans (length c.args.self - length c.loop-piece.items.items) 1 c.args.out.now
+          c.loop-piece.out c.give_back.new.out i.grows c.give_back.ensures.grows) (omega arith);
       places = omega arith;
-      kept = keeps_pop (both (of_pieces c.args.self) (of_outcomes c.args.out.now)) c.in-Some.piece c.loop-piece.items.items c.pop_front.new.self.items c.loop-piece.out c.give_back.new.out e i.kept c.give_back.ensures.kept;
+      kept = keeps_pop (both (of_pieces c.args.self) (of_outcomes c.args.out.now)) c.in-Some.piece
+          c.loop-piece.items.items c.pop_front.new.self.items c.loop-piece.out c.give_back.new.out e i.kept
+          c.give_back.ensures.kept;
     }
