@@ -19,8 +19,8 @@ use Rattle.frags.specs.declared.holder.Holder.TheVariants.{Sole, Part}
 use Rattle.frags.proofs.Accounts.{counted-le, pieces_held-append}
 use Rattle.frags.proofs.Joining.{released_keeps, part_block, bytes_of-append}
 use Rattle.skb.specs.SkbState.{SkbState, is_sole, written, written_head, tailroom, IsPut, Owned, of_buffer, of_unshared, buffer_bytes, buffer_size, head_bytes, Attaches, IsLent, Gives}
-use Rattle.skb.specs.declared.skb.Unshared.{Unshared}
-use Rattle.skb.specs.declared.skb.Unshared.TheVariants.{Unused, Gave}
+use Rattle.skb.specs.declared.sharing.Unshared.{Unshared}
+use Rattle.skb.specs.declared.sharing.Unshared.TheVariants.{Unused, Gave}
 
 pub owned_keeps : (a : Holder) (s : SoleState) (h : Holder) (u : Unshared) → Owned a s h u → Keeps (both (of_holder a) (of_sole s)) (both (of_holder h) (of_unshared u))
 owned_keeps (Sole b) s (Sole x) (Unused u) k t m =

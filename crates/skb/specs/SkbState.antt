@@ -14,11 +14,11 @@ use Rattle.frags.specs.declared.pieces.ShareFault.{ShareFault}
 use Rattle.frags.specs.declared.pieces.ShareFault.TheVariants.{Short, Worn, NoMemory}
 use Rattle.frags.specs.declared.holder.Holder.{Holder}
 use Rattle.frags.specs.declared.holder.Holder.TheVariants.{Sole, Part}
-use Rattle.skb.specs.declared.skb.Unshared.{Unshared}
-use Rattle.skb.specs.declared.skb.Unshared.TheVariants.{Unused, Gave}
+use Rattle.skb.specs.declared.sharing.Unshared.{Unshared}
+use Rattle.skb.specs.declared.sharing.Unshared.TheVariants.{Unused, Gave}
 use Rattle.raw_block.specs.Releases.{IsReleased}
-use Rattle.skb.specs.declared.skb.RoomFault.{RoomFault}
-use Rattle.skb.specs.declared.skb.RoomFault.TheVariants.{NoRoom, Shared}
+use Rattle.skb.specs.declared.ends.RoomFault.{RoomFault}
+use Rattle.skb.specs.declared.ends.RoomFault.TheVariants.{NoRoom, Shared}
 
 -- the bytes `from` to `to` of a block, and pieces after them
 pub record SkbState : Type 0 where

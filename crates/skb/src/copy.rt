@@ -23,8 +23,8 @@ pub enum CopyFault {
 
 // The blocks that so many bytes fill.
 fn blocks_for(bytes: usize) -> usize
-    requires { bytes < 2 ^ 33 }
-    ensures { result ≡ blocks_for bytes }
+    requires few { bytes < 2 ^ 33 }
+    ensures blocks { result ≡ blocks_for bytes }
 {
     (bytes + (BLOCK_SIZE - 1)) / BLOCK_SIZE
 }

@@ -37,7 +37,7 @@ impl Skb {
 
     // Cuts the head. All pieces go with what follows the cut.
     fn split_head(&mut self, at: usize) -> Result<Pieces, ShareFault>
-        requires { at < head_size self.old }
+        requires within { at < head_size self.old }
         ensures split { IsCut at self.old self.new result }
         ensures bytes { IfOk result (λ c. buffer_bytes self.old ≡ buffer_bytes self.new ++ bytes_of c) }
         ensures sums { is_sole self.old.head ≡ false → IfOk result (λ c. (t : Tests) (m : ℕ) → (of_buffer self.new).held t m + pieces_held t m c ≡ (of_buffer self.old).held t m) }

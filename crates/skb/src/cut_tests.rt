@@ -22,7 +22,7 @@ fn counting(mut block: Sole) -> Sole {
 
 // 100 bytes from the place 64 of one block, and 100 from the place 200 of another behind them.
 fn two_blocks(first: Sole, second: Sole, alloc: Global, out: &mut Outcomes) -> Option<Skb>
-    requires { 2 ≤ out.old.spare }
+    requires spare { 2 ≤ out.old.spare }
     ensures buffer { MatchOption result (0 ≤ 1) (λ s. (length s.rest ≡ 1) × (buffer_size s ≡ 200)) }
     ensures places { out.old.spare ≤ out.new.spare + 2 }
 {
@@ -38,7 +38,7 @@ fn two_blocks(first: Sole, second: Sole, alloc: Global, out: &mut Outcomes) -> O
 
 // The byte that stands at a place of these 200.
 fn expected(place: usize) -> u8
-    requires { place < 1000 }
+    requires near { place < 1000 }
 {
     let at = if place < 100 { 64 + place } else { 100 + place };
     (at % 251) as u8
@@ -46,7 +46,7 @@ fn expected(place: usize) -> u8
 
 // Whether a buffer has the bytes from a place on.
 fn has_bytes(skb: &Skb, from: usize) -> bool
-    requires { from ≤ 200 }
+    requires near { from ≤ 200 }
 {
     let len = skb.len();
     if len > 200 {
@@ -62,7 +62,7 @@ fn has_bytes(skb: &Skb, from: usize) -> bool
 
 // The same of pieces.
 fn pieces_have_bytes(pieces: &Pieces, from: usize) -> bool
-    requires { from ≤ 200 }
+    requires near { from ≤ 200 }
 {
     let len = pieces.len();
     if len > 200 {
@@ -78,8 +78,8 @@ fn pieces_have_bytes(pieces: &Pieces, from: usize) -> bool
 
 // Length and blocks of both buffers of a cut, and whether their bytes are right.
 fn cut_at(mut skb: Skb, at: usize, out: &mut Outcomes) -> ([usize; 4], bool)
-    requires { (length skb.rest ≡ 1) × (at ≤ 200) × (4 ≤ out.old.spare) }
-    ensures { out.old.spare ≤ out.new.spare + 4 }
+    requires spare { (length skb.rest ≡ 1) × (at ≤ 200) × (4 ≤ out.old.spare) }
+    ensures spare { out.old.spare ≤ out.new.spare + 4 }
 {
     match skb.split_at(at) {
         Ok(back) => {
@@ -98,8 +98,8 @@ fn cut_at(mut skb: Skb, at: usize, out: &mut Outcomes) -> ([usize; 4], bool)
 
 // Length, headroom, head and blocks after the first and the last bytes are gone, and whether the others are right.
 fn cut_off(mut skb: Skb, first: usize, last: usize, out: &mut Outcomes) -> ([usize; 4], bool)
-    requires { (length skb.rest ≡ 1) × (first ≤ 200) × (4 ≤ out.old.spare) }
-    ensures { out.old.spare ≤ out.new.spare + 4 }
+    requires spare { (length skb.rest ≡ 1) × (first ≤ 200) × (4 ≤ out.old.spare) }
+    ensures spare { out.old.spare ≤ out.new.spare + 4 }
 {
     let pulled = skb.pull(first, out).is_ok();
     let trimmed = skb.trim(last, out).is_ok();
@@ -117,7 +117,7 @@ fn moved<A: Abort>(
     alloc: Global,
     out: &mut Outcomes,
 ) -> ([usize; 2], bool)
-    requires { (length skb.rest ≡ 1) × (buffer_size skb ≤ 200) × (from ≤ 200) × (4 ≤ out.old.spare) }
+    requires spare { (length skb.rest ≡ 1) × (buffer_size skb ≤ 200) × (from ≤ 200) × (4 ≤ out.old.spare) }
 {
     let Ok(mut pieces) = PieceBuilder::with_room(alloc, 4) else {
         skb.release(out);
@@ -145,8 +145,8 @@ fn gave(returned: Returned) -> bool {
 
 // Headroom, head and blocks after bytes were pulled up, whether a spare served for it, and whether the bytes are right.
 fn pulled_up(mut skb: Skb, n: usize, spare: Sole, out: &mut Outcomes) -> ([usize; 3], bool, bool)
-    requires { (length skb.rest ≡ 1) × (4 ≤ out.old.spare) }
-    ensures { out.old.spare ≤ out.new.spare + 4 }
+    requires spare { (length skb.rest ≡ 1) × (4 ≤ out.old.spare) }
+    ensures spare { out.old.spare ≤ out.new.spare + 4 }
 {
     let served = match skb.pull_up(n, spare, out) {
         Ok(returned) => gave(returned),
@@ -160,8 +160,8 @@ fn pulled_up(mut skb: Skb, n: usize, spare: Sole, out: &mut Outcomes) -> ([usize
 
 // The clone of a buffer, which is gone.
 fn thinned(mut skb: Skb, out: &mut Outcomes) -> Skb
-    requires { (skb.rest ≡ []) × (1 ≤ out.old.spare) }
-    ensures { (result.rest ≡ []) × (out.old.spare ≤ out.new.spare + 1) }
+    requires spare { (skb.rest ≡ []) × (1 ≤ out.old.spare) }
+    ensures rest { (result.rest ≡ []) × (out.old.spare ≤ out.new.spare + 1) }
 {
     match skb.clone() {
         Ok(clone) => {
@@ -174,8 +174,8 @@ fn thinned(mut skb: Skb, out: &mut Outcomes) -> Skb
 
 // The length of what is behind a cut.
 fn behind(skb: &mut Skb, at: usize, out: &mut Outcomes) -> Result<usize, ShareFault>
-    requires { (length skb.old.rest ≤ 1) × (2 ≤ out.old.spare) }
-    ensures { (length skb.new.rest ≤ length skb.old.rest + 1) × (out.old.spare ≤ out.new.spare + 2) }
+    requires spare { (length skb.old.rest ≤ 1) × (2 ≤ out.old.spare) }
+    ensures rest { (length skb.new.rest ≤ length skb.old.rest + 1) × (out.old.spare ≤ out.new.spare + 2) }
 {
     let back = skb.split_at(at)?;
     let len = back.len();
@@ -185,7 +185,7 @@ fn behind(skb: &mut Skb, at: usize, out: &mut Outcomes) -> Result<usize, ShareFa
 
 // Of a clone's clone, six times: its weight, whether a cut inside its head is Worn, and what is behind one at its end.
 fn of_weight_one(skb: Skb, out: &mut Outcomes) -> (u64, bool, usize)
-    requires { (skb.rest ≡ []) × (13 ≤ out.old.spare) }
+    requires spare { (skb.rest ≡ []) × (13 ≤ out.old.spare) }
 {
     let skb = thinned(skb, out);
     let skb = thinned(skb, out);
@@ -206,7 +206,7 @@ fn of_weight_one(skb: Skb, out: &mut Outcomes) -> (u64, bool, usize)
 
 // Whether the sum from an odd place on is that of the bytes copied out.
 fn is_summed(skb: &Skb) -> bool
-    requires { buffer_size skb.now ≡ 200 }
+    requires size { buffer_size skb.now ≡ 200 }
 {
     let at = skb.head().len().min(33);
     let mut bytes = [0; 200];
@@ -219,7 +219,7 @@ fn is_summed(skb: &Skb) -> bool
 // The length of a piece, whether bytes of head and piece are summed and copied out, and whether the head's are lent for
 // writing until it is shared.
 fn read_and_written(rt: &impl Abort, mut skb: Skb, out: &mut Outcomes) -> (usize, bool, bool)
-    requires { (length skb.rest ≡ 1) × (buffer_size skb ≡ 200) }
+    requires size { (length skb.rest ≡ 1) × (buffer_size skb ≡ 200) }
 {
     let piece = skb.slice(0).len();
     let mut bytes = [0; 10];
@@ -242,7 +242,7 @@ fn read_and_written(rt: &impl Abort, mut skb: Skb, out: &mut Outcomes) -> (usize
 
 // Whether a shared head is lent for writing.
 fn is_lent_beside_a_clone(rt: &impl Abort, mut skb: Skb, out: &mut Outcomes) -> bool
-    requires { (skb.rest ≡ []) × (2 ≤ out.old.spare) }
+    requires spare { (skb.rest ≡ []) × (2 ≤ out.old.spare) }
 {
     let lent = match skb.clone() {
         Ok(clone) => {

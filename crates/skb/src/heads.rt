@@ -5,13 +5,13 @@ ghost use Rattle.skb.specs.Cut.{KeepsGift};
 ghost use Rattle.skb.specs.PullUp.{HeadReleased};
 ghost use Rattle.skb.specs.SkbState.{written, Owned, IsLent, Gives, head_worn};
 
-use crate::skb::Unshared;
+use crate::sharing::Unshared;
 use frags::{Holder, give_share};
 use raw_block::{Claimed, Part, Released, Sole};
 
 /// Writes over a block's bytes from a place on.
 pub fn write_at(sole: &mut Sole, at: usize, bytes: &[u8])
-    requires { (length sole.old.bytes ≡ 2048) × (at + length bytes.now ≤ 2048) }
+    requires within { (length sole.old.bytes ≡ 2048) × (at + length bytes.now ≤ 2048) }
     ensures bytes { sole.new.bytes ≡ written sole.old.bytes at bytes.now }
     ensures mark { sole.new.mark ≡ sole.old.mark }
     ensures block { sole.new.block ≡ sole.old.block }
@@ -24,8 +24,8 @@ pub fn write_at(sole: &mut Sole, at: usize, bytes: &[u8])
 }
 
 // A head that is a Sole, and what became of the spare.
-pub(crate) fn owned(head: Holder, spare: Sole) -> (Holder, Unshared)
-    ensures { Owned head spare result.0 result.1 }
+pub(crate) fn unshared(head: Holder, spare: Sole) -> (Holder, Unshared)
+    ensures owned { Owned head spare result.0 result.1 }
 {
     match head {
         Holder::Sole(sole) => (Holder::Sole(sole), Unshared::Unused(spare)),
@@ -44,8 +44,8 @@ pub(crate) fn owned(head: Holder, spare: Sole) -> (Holder, Unshared)
 }
 
 fn copy_block(sole: &mut Sole, bytes: &[u8])
-    requires { length bytes.now ≡ 2048 }
-    ensures { (sole.new.bytes ≡ bytes.now) × (sole.new.mark ≡ sole.old.mark) × (sole.new.block ≡ sole.old.block) }
+    requires whole { length bytes.now ≡ 2048 }
+    ensures copied { (sole.new.bytes ≡ bytes.now) × (sole.new.mark ≡ sole.old.mark) × (sole.new.block ≡ sole.old.block) }
 {
     let all = sole.bytes_mut();
     all.copy_from_slice(bytes);
@@ -53,7 +53,7 @@ fn copy_block(sole: &mut Sole, bytes: &[u8])
 
 // Another block's Sole becomes the head, and the old one is released.
 pub(crate) fn replaced(head: Holder, other: Sole) -> (Holder, Released)
-    ensures { (result.0 ≡ Holder.Sole other) × HeadReleased head result.1 }
+    ensures released { (result.0 ≡ Holder.Sole other) × HeadReleased head result.1 }
 {
     let released = match head {
         Holder::Sole(sole) => Released::Last(sole),
@@ -66,16 +66,16 @@ pub(crate) fn replaced(head: Holder, other: Sole) -> (Holder, Released)
 }
 
 // A Sole head becomes a part.
-pub(crate) fn lent(head: Holder, none: ()) -> (Holder, ())
-    ensures { IsLent head result.0 }
+pub(crate) fn shared(head: Holder, none: ()) -> (Holder, ())
+    ensures shared { IsLent head result.0 }
 {
     (Holder::Part(head.into_part()), none)
 }
 
 // The head gives a part away.
-pub(crate) fn gives(head: Holder, none: ()) -> (Holder, Part)
-    requires { head_worn head ≡ false }
-    ensures { Gives head result.0 result.1 }
+pub(crate) fn shared_off(head: Holder, none: ()) -> (Holder, Part)
+    requires fresh { head_worn head ≡ false }
+    ensures gift { Gives head result.0 result.1 }
 {
     let _ = none;
     let mut part = head.into_part();
@@ -85,8 +85,8 @@ pub(crate) fn gives(head: Holder, none: ()) -> (Holder, Part)
 
 // The head keeps its gift, and the rest of it is another part.
 pub(crate) fn keeps_gift(head: Holder, none: ()) -> (Holder, Part)
-    requires { head_worn head ≡ false }
-    ensures { KeepsGift head result.0 result.1 }
+    requires fresh { head_worn head ≡ false }
+    ensures kept { KeepsGift head result.0 result.1 }
 {
     let _ = none;
     let mut part = head.into_part();
@@ -96,7 +96,7 @@ pub(crate) fn keeps_gift(head: Holder, none: ()) -> (Holder, Part)
 
 // A part of weight 1 has nothing to give.
 pub(crate) fn is_worn(head: &Holder) -> bool
-    ensures { result ≡ head_worn head.now }
+    ensures worn { result ≡ head_worn head.now }
 {
     match head {
         Holder::Sole(_) => false,

@@ -20,7 +20,7 @@ fn as_sole(head: &mut Holder) -> Option<&mut Sole>
 }
 
 fn sole_of(head: &mut Holder) -> &mut Sole
-    requires { is_sole head.old ≡ true }
+    requires sole { is_sole head.old ≡ true }
     ensures* writes_back { sem 𝓛 (lends_sole head.entry result) }
     ensures value { head.old ≡ Holder.Sole result.now }
 {
@@ -30,7 +30,7 @@ fn sole_of(head: &mut Holder) -> &mut Sole
 
 // The bytes `from..to` of a head that is a Sole.
 pub(crate) fn range_of(head: &mut Holder, from: usize, to: usize) -> &mut [u8]
-    requires { (is_sole head.old ≡ true) × (from ≤ to) × (to ≤ 2048) }
+    requires sole { (is_sole head.old ≡ true) × (from ≤ to) × (to ≤ 2048) }
     ensures* writes_back { sem 𝓛 (lends_range head.entry from result) }
     ensures value { result.now ≡ slice_range (block head.old) from to }
 {

@@ -45,22 +45,27 @@
 //! ```
 #![tactic(auto)]
 
+mod attach;
 mod checksum;
 mod copy;
 mod cut;
 #[cfg(test)]
 mod cut_tests;
+mod ends;
 mod heads;
 mod lend;
 mod moving;
 mod pull_up;
 #[cfg(test)]
 mod reader_tests;
+mod sharing;
 mod skb;
 #[cfg(test)]
 mod tests;
 
 pub use crate::copy::CopyFault;
+pub use crate::ends::RoomFault;
 pub use crate::heads::write_at;
 pub use crate::pull_up::{FRONT, HEADROOM, PullFault, Returned};
-pub use crate::skb::{RoomFault, Skb, Unshared};
+pub use crate::sharing::Unshared;
+pub use crate::skb::Skb;

@@ -48,7 +48,7 @@ impl Skb {
         spare: Sole,
         out: &mut Outcomes,
     ) -> Result<Returned, (PullFault, Sole)>
-        requires { length self.old.rest ≤ out.old.spare }
+        requires spare { length self.old.rest ≤ out.old.spare }
         ensures pull_up { IsPullUp n self.old spare out.old self.new out.new result }
         ensures bytes { buffer_bytes self.new ≡ buffer_bytes self.old }
         ensures head { IfOk result (λ _. n ≤ head_size self.new) }
@@ -81,7 +81,7 @@ impl Skb {
 
     // Copies `n` bytes from a place on over those of a block.
     pub(crate) fn copy_into(&self, at: usize, block: &mut Sole, to: usize, n: usize)
-        requires { (to + n ≤ 2048) × (at + n ≤ buffer_size self.now) }
+        requires within { (to + n ≤ 2048) × (at + n ≤ buffer_size self.now) }
         ensures written { block.new ≡ record block.old { bytes = written block.old.bytes to (slice_range (buffer_bytes self.now) at (at + n)) } }
         ensures copied { (length (slice_range (buffer_bytes self.now) at (at + n)) ≡ n) × (slice_range block.new.bytes to (to + n) ≡ slice_range (buffer_bytes self.now) at (at + n)) }
         ensures size { length block.new.bytes ≡ 2048 }

@@ -59,8 +59,8 @@ fn changes_of(skb: &Skb, meeting: &Meeting) -> u32 {
 
 // The changes that were seen, 1 where there was no clone.
 fn read_and_release(reader: &mut Reader, meeting: &Meeting) -> u32
-    requires { IfSome reader.old.clone (λ s. length s.rest + 1 ≤ reader.old.out.spare) }
-    ensures { reader.new.clone ≡ None }
+    requires spare { IfSome reader.old.clone (λ s. length s.rest + 1 ≤ reader.old.out.spare) }
+    ensures none { reader.new.clone ≡ None }
 {
     match reader.clone.take() {
         Some(skb) => {
@@ -74,7 +74,7 @@ fn read_and_release(reader: &mut Reader, meeting: &Meeting) -> u32
 }
 
 fn push_one(skb: &mut Skb) -> Result<(), RoomFault>
-    ensures { skb.new.rest ≡ skb.old.rest }
+    ensures rest { skb.new.rest ≡ skb.old.rest }
 {
     if skb.len() > 4000 {
         return Err(RoomFault::NoRoom { have: 0, need: 1 });
@@ -83,8 +83,8 @@ fn push_one(skb: &mut Skb) -> Result<(), RoomFault>
 }
 
 fn own(skb: &mut Skb, spare: Sole, out: &mut Outcomes)
-    requires { 1 ≤ out.old.spare }
-    ensures { (skb.new.rest ≡ skb.old.rest) × (out.old.spare ≤ out.new.spare + 1) }
+    requires spare { 1 ≤ out.old.spare }
+    ensures rest { (skb.new.rest ≡ skb.old.rest) × (out.old.spare ≤ out.new.spare + 1) }
 {
     match skb.unshare(spare) {
         Unshared::Unused(spare) => out.keep_sole(spare),
@@ -95,8 +95,8 @@ fn own(skb: &mut Skb, spare: Sole, out: &mut Outcomes)
 
 // Whether a push was Shared at first, and whether one went once the head was a Sole.
 fn change(skb: &mut Skb, spare: Option<Sole>, out: &mut Outcomes) -> (bool, bool)
-    requires { length skb.old.rest + 2 ≤ out.old.spare }
-    ensures { length skb.new.rest + 1 ≤ out.new.spare }
+    requires spare { length skb.old.rest + 2 ≤ out.old.spare }
+    ensures spare { length skb.new.rest + 1 ≤ out.new.spare }
 {
     let shared = matches!(push_one(skb), Err(RoomFault::Shared));
     let _ = skb.trim(SIZE, out);
@@ -108,8 +108,8 @@ fn change(skb: &mut Skb, spare: Option<Sole>, out: &mut Outcomes) -> (bool, bool
 }
 
 fn change_and_release(writer: &mut Writer, meeting: &Meeting) -> (bool, bool)
-    requires { IfSome writer.old.skb (λ s. length s.rest + 2 ≤ writer.old.out.spare) }
-    ensures { writer.new.skb ≡ None }
+    requires spare { IfSome writer.old.skb (λ s. length s.rest + 2 ≤ writer.old.out.spare) }
+    ensures none { writer.new.skb ≡ None }
 {
     match writer.skb.take() {
         Some(mut skb) => {
@@ -130,17 +130,17 @@ fn read_both<R: Threads + Sync>(
 ) -> u32
     requires first { IfSome first.old.clone (λ s. length s.rest + 1 ≤ first.old.out.spare) }
     requires second { IfSome second.old.clone (λ s. length s.rest + 1 ≤ second.old.out.spare) }
-    ensures { (first.new.clone ≡ None) × (second.new.clone ≡ None) }
+    ensures none { (first.new.clone ≡ None) × (second.new.clone ≡ None) }
 {
     let (a, b) = join_mut(
         rt,
         &mut ||
-            requires { IfSome first.now.clone (λ s. length s.rest + 1 ≤ first.now.out.spare) }
-            ensures { first.exit.now.clone ≡ None }
+            requires spare { IfSome first.now.clone (λ s. length s.rest + 1 ≤ first.now.out.spare) }
+            ensures none { first.exit.now.clone ≡ None }
         { read_and_release(first, meeting) },
         &mut ||
-            requires { IfSome second.now.clone (λ s. length s.rest + 1 ≤ second.now.out.spare) }
-            ensures { second.exit.now.clone ≡ None }
+            requires spare { IfSome second.now.clone (λ s. length s.rest + 1 ≤ second.now.out.spare) }
+            ensures none { second.exit.now.clone ≡ None }
         { read_and_release(second, meeting) },
     );
     a.wrapping_add(b)
@@ -156,17 +156,17 @@ fn read_beside<R: Threads + Sync>(
     requires writer { IfSome writer.old.skb (λ s. length s.rest + 2 ≤ writer.old.out.spare) }
     requires first { IfSome first.old.clone (λ s. length s.rest + 1 ≤ first.old.out.spare) }
     requires second { IfSome second.old.clone (λ s. length s.rest + 1 ≤ second.old.out.spare) }
-    ensures { (writer.new.skb ≡ None) × (first.new.clone ≡ None) × (second.new.clone ≡ None) }
+    ensures none { (writer.new.skb ≡ None) × (first.new.clone ≡ None) × (second.new.clone ≡ None) }
 {
     join_mut(
         rt,
         &mut ||
-            requires { (IfSome first.now.clone (λ s. length s.rest + 1 ≤ first.now.out.spare)) × (IfSome second.now.clone (λ s. length s.rest + 1 ≤ second.now.out.spare)) }
-            ensures { (first.exit.now.clone ≡ None) × (second.exit.now.clone ≡ None) }
+            requires spare { (IfSome first.now.clone (λ s. length s.rest + 1 ≤ first.now.out.spare)) × (IfSome second.now.clone (λ s. length s.rest + 1 ≤ second.now.out.spare)) }
+            ensures none { (first.exit.now.clone ≡ None) × (second.exit.now.clone ≡ None) }
         { read_both(rt, first, second, meeting) },
         &mut ||
-            requires { IfSome writer.now.skb (λ s. length s.rest + 2 ≤ writer.now.out.spare) }
-            ensures { writer.exit.now.skb ≡ None }
+            requires spare { IfSome writer.now.skb (λ s. length s.rest + 2 ≤ writer.now.out.spare) }
+            ensures none { writer.exit.now.skb ≡ None }
         { change_and_release(writer, meeting) },
     )
 }
@@ -179,8 +179,8 @@ fn filled(alloc: Global) -> Result<Sole, AllocError> {
 
 // A head and a piece of a second block.
 fn buffer_of(head: Sole, second: Sole, alloc: Global, out: &mut Outcomes) -> Skb
-    requires { 2 ≤ out.old.spare }
-    ensures { (length result.rest ≤ 1) × (out.old.spare ≤ out.new.spare + 1) }
+    requires spare { 2 ≤ out.old.spare }
+    ensures rest { (length result.rest ≤ 1) × (out.old.spare ≤ out.new.spare + 1) }
 {
     let mut skb = Skb::new(head, 64, 64 + SIZE, Pieces::new(alloc));
     let other = Skb::new(second, 0, SIZE, Pieces::new(alloc));
@@ -191,7 +191,7 @@ fn buffer_of(head: Sole, second: Sole, alloc: Global, out: &mut Outcomes) -> Skb
 }
 
 fn reader_of(skb: &mut Skb, out: Outcomes) -> Reader
-    requires { (length skb.old.rest ≤ 1) × (2 ≤ out.spare) }
+    requires spare { (length skb.old.rest ≤ 1) × (2 ≤ out.spare) }
     ensures same { length skb.new.rest ≡ length skb.old.rest }
     ensures ready { IfSome result.clone (λ s. length s.rest + 1 ≤ result.out.spare) }
 {
@@ -215,7 +215,7 @@ fn spend(mut out: Outcomes) -> u32 {
 }
 
 fn home_of(reader: Reader) -> u32
-    requires { reader.clone ≡ None }
+    requires none { reader.clone ≡ None }
 {
     let Reader { clone, out } = reader;
     match clone {
@@ -225,7 +225,7 @@ fn home_of(reader: Reader) -> u32
 }
 
 fn home_of_writer(writer: Writer) -> u32
-    requires { writer.skb ≡ None }
+    requires none { writer.skb ≡ None }
 {
     let Writer { skb, spare: _, out } = writer;
     match skb {
@@ -236,7 +236,7 @@ fn home_of_writer(writer: Writer) -> u32
 
 // Room for eight returns in each.
 fn rooms(alloc: Global) -> Result<(Outcomes, Outcomes, Outcomes), AllocError>
-    ensures { IfOk result (λ o. (8 ≤ o.0.spare) × (8 ≤ o.1.spare) × (8 ≤ o.2.spare)) }
+    ensures room { IfOk result (λ o. (8 ≤ o.0.spare) × (8 ≤ o.1.spare) × (8 ≤ o.2.spare)) }
 {
     let mut a = Outcomes::new(alloc);
     let mut b = Outcomes::new(alloc);

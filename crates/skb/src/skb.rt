@@ -1,46 +1,21 @@
-//! A packet buffer.
-ghost use Rattle.std.specs.Prelude.{◌≡◌, ℕ, ◌+◌, ◌-◌, ◌<◌, ◌≤◌, ◌^◌, ◌*◌, [], ◌∷◌, ◌++◌, length, MatchResult, MatchOption, IfOk, drop, take, min, slice_index_or, slice_range, Bool, false, true, Some, None};
+//! A packet buffer: what it is, and what is read of it.
+ghost use Rattle.std.specs.Prelude.{◌≡◌, ℕ, ◌+◌, ◌-◌, ◌<◌, ◌≤◌, ◌^◌, ◌*◌, length, MatchOption, take, min, slice_index_or, slice_range, false, true, Some, None};
 ghost use Rattle.std.specs.Borrow.{sem};
-ghost use Rattle.ref_core.specs.WeightRule.{full_weight};
-ghost use Rattle.raw_block.specs.Views.{SoleState};
-ghost use Rattle.frags.specs.Account.{Tests, Keeps, KeepsMarks, both, every, of_sole, of_holder, of_outcomes};
+ghost use Rattle.frags.specs.Account.{Keeps, both, of_sole, of_outcomes};
 ghost use Rattle.frags.specs.Growth.{Grows};
 ghost use Rattle.frags.specs.Holders.{block};
-ghost use Rattle.frags.specs.PieceList.{AllFit, size_of, of_pieces, piece_bytes, cut_front, keep_front};
+ghost use Rattle.frags.specs.PieceList.{AllFit, size_of, of_pieces, piece_bytes};
 ghost use Rattle.frags.specs.declared.pieces.Piece.{Piece};
 ghost use Rattle.skb.specs.Checksum.{AreBytes};
 ghost use Rattle.skb.specs.Lending.{lends_head, lends_head_if};
-ghost use Rattle.skb.specs.Moving.{JoinsAccount};
-ghost use Rattle.skb.specs.SkbState.{SkbState, head_size, buffer_least, buffer_bytes, buffer_size, head_bytes, headroom, tailroom, is_sole, written, IsPush, IsPut, Owned, IsClone, IsLent, Gives, head_worn, buffer_worn, of_buffer, of_unshared, Attaches};
+ghost use Rattle.skb.specs.SkbState.{SkbState, head_size, buffer_least, buffer_bytes, buffer_size, head_bytes, headroom, tailroom, is_sole, written, Gives, of_buffer};
 
 use crate::checksum::in_bytes;
-use crate::heads::{gives, is_worn, lent, owned, write_at};
 use crate::lend::range_of;
-use core::mem::replace_with;
-use frags::{Holder, Outcomes, Pieces, ShareFault, Short};
-use raw_block::{BLOCK_SIZE, FULL, Released, Sight, Sole};
-use std::alloc::{AllocError, Global};
+use frags::{Holder, Outcomes, Pieces};
+use raw_block::{BLOCK_SIZE, FULL, Sole};
+use std::alloc::Global;
 use std::marker::Model;
-use thiserror::Error;
-
-/// Why bytes can't be put into a head.
-#[derive(Debug, Drop, Error)]
-pub enum RoomFault {
-    /// The room that is there, and what was asked for.
-    #[error("{need} bytes have no room in {have}")]
-    NoRoom { have: usize, need: usize },
-    /// Others hold the head's block.
-    #[error("others hold the head's block")]
-    Shared,
-}
-
-/// What `unshare` gives back.
-pub enum Unshared {
-    /// The spare: the head was a Sole, or its claim was granted.
-    Unused(Sole),
-    /// What the old head's release left, and what its failed claim saw.
-    Gave(Released, Sight),
-}
 
 /// A packet buffer: the bytes `from..to` of a head block, and pieces of other blocks after them. It must be spent:
 /// attached or released.
@@ -114,7 +89,7 @@ impl Skb {
 
     /// Nobody else holds the head's block, so it may be written.
     pub fn head_is_sole(&self) -> bool
-        ensures { result ≡ is_sole self.now.head }
+        ensures sole { result ≡ is_sole self.now.head }
     {
         match &self.head {
             Holder::Sole(_) => true,
@@ -124,7 +99,7 @@ impl Skb {
 
     /// The number of blocks: the head's, and one for each piece.
     pub fn count(&self) -> usize
-        ensures { result ≡ length self.now.rest + 1 }
+        ensures value { result ≡ length self.now.rest + 1 }
     {
         self.rest.count() + 1
     }
@@ -164,7 +139,7 @@ impl Skb {
 
     /// The head's bytes, for writing. The condition is `head_is_sole()`.
     pub fn head_bytes_mut(&mut self) -> &mut [u8]
-        requires { is_sole self.old.head ≡ true }
+        requires sole { is_sole self.old.head ≡ true }
         ensures* writes_back { sem 𝓛 (lends_head self.entry result) }
         ensures value { result.now ≡ head_bytes self.old }
     {
@@ -175,8 +150,8 @@ impl Skb {
 
     /// The byte at a place.
     pub fn byte_at(&self, i: usize) -> u8
-        requires { i < buffer_size self.now }
-        ensures { (d : ℕ) → result ≡ slice_index_or (buffer_bytes self.now) i d }
+        requires within { i < buffer_size self.now }
+        ensures byte { (d : ℕ) → result ≡ slice_index_or (buffer_bytes self.now) i d }
     {
         let head = self.head();
         if i < head.len() {
@@ -187,7 +162,7 @@ impl Skb {
 
     /// Copies the bytes from the place `at` on over `into`, as many as it has.
     pub fn copy_out(&self, at: usize, into: &mut [u8])
-        requires { at + length into.old ≤ buffer_size self.now }
+        requires within { at + length into.old ≤ buffer_size self.now }
         ensures bytes { into.new ≡ slice_range (buffer_bytes self.now) at (at + length into.old) }
     {
         let head = self.head();
@@ -200,7 +175,7 @@ impl Skb {
 
     /// The least weight of a part, `FULL` where there is none.
     pub fn least_weight(&self) -> u64
-        ensures { result ≡ buffer_least self.now }
+        ensures least { result ≡ buffer_least self.now }
     {
         let head = match &self.head {
             Holder::Sole(_) => FULL,
@@ -211,208 +186,10 @@ impl Skb {
 
     /// The bytes of the i-th piece behind the head, uncopied. `count` has the head too.
     pub fn slice(&self, i: usize) -> &[u8]
-        requires { i < length self.now.rest }
-        ensures { (d : Piece) → result.now ≡ piece_bytes (slice_index_or self.now.rest i d) }
+        requires within { i < length self.now.rest }
+        ensures bytes { (d : Piece) → result.now ≡ piece_bytes (slice_index_or self.now.rest i d) }
     {
         self.rest.slice(i)
-    }
-
-    /// The bytes stand in front. `NoRoom` exactly where there are more of them than `headroom()`; else `Shared` exactly
-    /// where not `head_is_sole()`.
-    pub fn push(&mut self, bytes: &[u8]) -> Result<(), RoomFault>
-        requires small { length bytes.now ≤ headroom self.old → buffer_size self.old + length bytes.now < 2 ^ 32 }
-        ensures push { IsPush self.old bytes.now self.new result }
-        ensures account { of_buffer self.new ≡ of_buffer self.old }
-    {
-        if self.from < bytes.len() {
-            return Err(RoomFault::NoRoom {
-                have: self.from,
-                need: bytes.len(),
-            });
-        }
-        let start = self.from - bytes.len();
-        match &mut self.head {
-            Holder::Part(_) => Err(RoomFault::Shared),
-            Holder::Sole(sole) => {
-                write_at(sole, start, bytes);
-                self.from = start;
-                Ok(())
-            }
-        }
-    }
-
-    /// The bytes stand at the end. `NoRoom` exactly where there are more of them than `tailroom()`; else `Shared` exactly
-    /// where not `head_is_sole()`.
-    pub fn put_tail(&mut self, bytes: &[u8]) -> Result<(), RoomFault>
-        requires small { length bytes.now ≤ tailroom self.old → buffer_size self.old + length bytes.now < 2 ^ 32 }
-        ensures put { IsPut self.old bytes.now self.new result }
-        ensures account { of_buffer self.new ≡ of_buffer self.old }
-    {
-        let room = self.tailroom();
-        if room < bytes.len() {
-            return Err(RoomFault::NoRoom {
-                have: room,
-                need: bytes.len(),
-            });
-        }
-        let end = self.to;
-        match &mut self.head {
-            Holder::Part(_) => Err(RoomFault::Shared),
-            Holder::Sole(sole) => {
-                write_at(sole, end, bytes);
-                self.to = end + bytes.len();
-                Ok(())
-            }
-        }
-    }
-
-    /// The first `n` bytes are gone. Pieces that are wholly gone are given back, and a head left empty stays. `Short`
-    /// exactly where `n > len()`.
-    pub fn pull(&mut self, n: usize, out: &mut Outcomes) -> Result<(), Short>
-        requires { head_size self.old < n → length self.old.rest ≤ out.old.spare }
-        ensures bytes { MatchResult result (λ _. buffer_bytes self.new ≡ drop n (buffer_bytes self.old)) (λ e. (buffer_size self.old < n) × (e.have ≡ buffer_size self.old) × (e.need ≡ n) × (self.new ≡ self.old) × (out.new ≡ out.old)) }
-        ensures head { (self.new.head ≡ self.old.head) × (self.new.to ≡ self.old.to) }
-        ensures room { IfOk result (λ _. self.new.from ≡ min (self.old.from + n) self.old.to) }
-        ensures rest { IfOk result (λ _. self.new.rest ≡ cut_front (n - head_size self.old) self.old.rest) }
-        ensures within { n ≤ head_size self.old → (self.new ≡ record self.old { from = self.old.from + n }) × (out.new ≡ out.old) }
-        ensures bare { self.old.rest ≡ [] → self.new.rest ≡ [] }
-        ensures kept { Keeps (both (of_buffer self.old) (of_outcomes out.old)) (both (of_buffer self.new) (of_outcomes out.new)) }
-        ensures fewer { length self.new.rest ≤ length self.old.rest }
-        ensures grows { Grows (length self.old.rest - length self.new.rest) out.old out.new }
-        ensures places { out.old.spare + length self.new.rest ≤ out.new.spare + length self.old.rest }
-    {
-        let have = self.len();
-        if have < n {
-            return Err(Short { have, need: n });
-        }
-        let of_head = self.to - self.from;
-        if n <= of_head {
-            self.from += n;
-            return Ok(());
-        }
-        self.rest.cut_front(n - of_head, out)?;
-        self.from = self.to;
-        Ok(())
-    }
-
-    /// The last `n` bytes are gone; Linux's `skb_trim` is told how many stay. Pieces that are wholly gone are given back, and a
-    /// head left empty stays. `Short` exactly where `n > len()`.
-    pub fn trim(&mut self, n: usize, out: &mut Outcomes) -> Result<(), Short>
-        requires { length self.old.rest ≤ out.old.spare }
-        ensures bytes { MatchResult result (λ _. buffer_bytes self.new ≡ take (buffer_size self.old - n) (buffer_bytes self.old)) (λ e. (buffer_size self.old < n) × (e.have ≡ buffer_size self.old) × (e.need ≡ n) × (self.new ≡ self.old) × (out.new ≡ out.old)) }
-        ensures head { (self.new.head ≡ self.old.head) × (self.new.from ≡ self.old.from) }
-        ensures room { IfOk result (λ _. self.new.to ≡ self.old.to - (n - size_of self.old.rest)) }
-        ensures rest { IfOk result (λ _. self.new.rest ≡ keep_front (size_of self.old.rest - n) self.old.rest) }
-        ensures bare { self.old.rest ≡ [] → self.new.rest ≡ [] }
-        ensures kept { Keeps (both (of_buffer self.old) (of_outcomes out.old)) (both (of_buffer self.new) (of_outcomes out.new)) }
-        ensures fewer { length self.new.rest ≤ length self.old.rest }
-        ensures grows { Grows (length self.old.rest - length self.new.rest) out.old out.new }
-        ensures places { out.old.spare + length self.new.rest ≤ out.new.spare + length self.old.rest }
-    {
-        let have = self.len();
-        if have < n {
-            return Err(Short { have, need: n });
-        }
-        let of_rest = n.min(self.rest.len());
-        self.rest.cut_back(of_rest, out)?;
-        self.to -= n - of_rest;
-        Ok(())
-    }
-
-    /// A second buffer of the same bytes, headroom and pieces, uncopied. Each part gives `max(1, weight / 4096)` away and
-    /// keeps its life. A Sole head becomes a part first, also where memory is refused. `Worn` exactly where a part weighs
-    /// 1, which is judged before all else.
-    pub fn clone(&mut self) -> Result<Skb, ShareFault>
-        ensures clone { IsClone self.old self.new result }
-        ensures bytes { MatchResult result (λ c. (buffer_bytes self.new ≡ buffer_bytes self.old) × (buffer_bytes c ≡ buffer_bytes self.old)) (λ _. buffer_bytes self.new ≡ buffer_bytes self.old) }
-        ensures count { MatchResult result (λ c. (length self.new.rest ≡ length self.old.rest) × (length c.rest ≡ length self.old.rest)) (λ _. length self.new.rest ≡ length self.old.rest) }
-        ensures sums { is_sole self.old.head ≡ false → IfOk result (λ c. (t : Tests) (m : ℕ) → (of_buffer self.new).held t m + (of_buffer c).held t m ≡ (of_buffer self.old).held t m) }
-        ensures marks { MatchResult result (λ c. (bs : ℕ → Bool) (m : ℕ) → (of_buffer self.new).held (every bs) m + (of_buffer c).held (every bs) m ≡ (of_buffer self.old).held (every bs) m + full_weight * (of_buffer self.old).homes bs m) (λ _. KeepsMarks (of_buffer self.old) (of_buffer self.new)) }
-    {
-        if self.is_worn() {
-            return Err(ShareFault::Worn);
-        }
-        replace_with(&mut self.head, (), lent);
-        let rest = self.rest.share()?;
-        let part = replace_with(&mut self.head, (), gives);
-        Ok(Skb {
-            head: Holder::Part(part),
-            from: self.from,
-            to: self.to,
-            rest,
-        })
-    }
-
-    // A part weighs 1, and has nothing to give.
-    fn is_worn(&self) -> bool
-        ensures { result ≡ buffer_worn self.now }
-    {
-        is_worn(&self.head) || self.rest.is_worn()
-    }
-
-    /// A Sole head becomes a part, with the same bytes and room: its life begins here, and no later call begins one.
-    pub fn share_head(&mut self)
-        ensures head { IsLent self.old.head self.new.head }
-        ensures rest { (self.new.from ≡ self.old.from) × (self.new.to ≡ self.old.to) × (self.new.rest ≡ self.old.rest) }
-        ensures bytes { buffer_bytes self.new ≡ buffer_bytes self.old }
-        ensures marks { KeepsMarks (of_buffer self.old) (of_buffer self.new) }
-    {
-        replace_with(&mut self.head, (), lent);
-    }
-
-    /// The head becomes a Sole, with the same bytes and room. `Unused` exactly where it was one, or its claim was granted;
-    /// else its bytes were copied into the spare, and `Gave` has what its release left and what the claim saw.
-    pub fn unshare(&mut self, spare: Sole) -> Unshared
-        ensures head { Owned self.old.head spare self.new.head result }
-        ensures room { (self.new.from ≡ self.old.from) × (self.new.to ≡ self.old.to) × (self.new.rest ≡ self.old.rest) }
-        ensures bytes { buffer_bytes self.new ≡ buffer_bytes self.old }
-        ensures kept { Keeps (both (of_buffer self.old) (of_sole spare)) (both (of_buffer self.new) (of_unshared result)) }
-    {
-        let _ = spare.bytes();
-        replace_with(&mut self.head, spare, owned)
-    }
-
-    /// The other's bytes follow, uncopied. A Sole head of the other becomes a part, and an empty head is given back.
-    pub fn attach(&mut self, other: Skb, out: &mut Outcomes) -> Result<(), (Skb, AllocError)>
-        requires small { buffer_size self.old + buffer_size other < 2 ^ 32 }
-        requires room { 1 ≤ out.old.spare }
-        ensures attached { Attaches self.old other out.old self.new out.new result }
-        ensures count { IfOk result (λ _. length self.new.rest ≤ length self.old.rest + (length other.rest + 1)) }
-        ensures grows { IfOk result (λ _. Grows (length other.rest + 1 - (length self.new.rest - length self.old.rest)) out.old out.new) }
-        ensures places { out.old.spare ≤ out.new.spare + 1 }
-        ensures account { IfOk result (λ _. JoinsAccount other (of_buffer self.old) out.old (of_buffer self.new) out.new) }
-        ensures kept { is_sole other.head ≡ false → IfOk result (λ _. Keeps (both (of_buffer self.old) (both (of_buffer other) (of_outcomes out.old))) (both (of_buffer self.new) (of_outcomes out.new))) }
-        ensures marks { IfOk result (λ _. KeepsMarks (both (of_buffer self.old) (both (of_buffer other) (of_outcomes out.old))) (both (of_buffer self.new) (of_outcomes out.new))) }
-    {
-        let Skb {
-            head,
-            from,
-            to,
-            rest,
-        } = other;
-        if from == to {
-            if let Err((rest, error)) = self.rest.join_back(rest) {
-                let other = Skb {
-                    head,
-                    from,
-                    to,
-                    rest,
-                };
-                return Err((other, error));
-            }
-            out.give_back_holder(head);
-            return Ok(());
-        }
-        if let Err((head, rest, error)) = self.rest.append_all(head, from, to, rest) {
-            let other = Skb {
-                head,
-                from,
-                to,
-                rest,
-            };
-            return Err((other, error));
-        }
-        Ok(())
     }
 
     /// The allocator that the list of pieces takes its places from.
@@ -422,7 +199,7 @@ impl Skb {
 
     /// Gives the head and all pieces back.
     pub fn release(self, out: &mut Outcomes)
-        requires { length self.rest + 1 ≤ out.old.spare }
+        requires spare { length self.rest + 1 ≤ out.old.spare }
         ensures kept { Keeps (both (of_buffer self) (of_outcomes out.old)) (of_outcomes out.new) }
         ensures grows { Grows (length self.rest + 1) out.old out.new }
         ensures places { out.old.spare ≤ out.new.spare + (length self.rest + 1) }

@@ -17,7 +17,7 @@ fn numbers(answer: Result<(), RoomFault>) -> (usize, usize) {
 
 // What `push` answers, and the headroom after it.
 fn pushed(skb: &mut Skb, bytes: &[u8]) -> ((usize, usize), usize)
-    ensures { skb.new.rest ≡ skb.old.rest }
+    ensures rest { skb.new.rest ≡ skb.old.rest }
 {
     if skb.len() > 4000 || bytes.len() > 4000 {
         return ((9, 9), 0);
@@ -28,7 +28,7 @@ fn pushed(skb: &mut Skb, bytes: &[u8]) -> ((usize, usize), usize)
 
 // What `put_tail` answers, and the length after it.
 fn put(skb: &mut Skb, bytes: &[u8]) -> ((usize, usize), usize)
-    ensures { skb.new.rest ≡ skb.old.rest }
+    ensures rest { skb.new.rest ≡ skb.old.rest }
 {
     if skb.len() > 4000 || bytes.len() > 4000 {
         return ((9, 9), 0);
@@ -39,8 +39,8 @@ fn put(skb: &mut Skb, bytes: &[u8]) -> ((usize, usize), usize)
 
 // Whether a push beside a clone is Shared, and one after the clone's release and an `unshare` goes; and the clone's weight.
 fn beside_a_clone(skb: &mut Skb, spare: Sole, out: &mut Outcomes) -> (bool, bool, bool, u64)
-    requires { (skb.old.rest ≡ []) × (2 ≤ out.old.spare) }
-    ensures { (skb.new.rest ≡ []) × (out.old.spare ≤ out.new.spare + 1) }
+    requires spare { (skb.old.rest ≡ []) × (2 ≤ out.old.spare) }
+    ensures rest { (skb.new.rest ≡ []) × (out.old.spare ≤ out.new.spare + 1) }
 {
     match skb.clone() {
         Ok(clone) => {
@@ -63,8 +63,8 @@ fn beside_a_clone(skb: &mut Skb, spare: Sole, out: &mut Outcomes) -> (bool, bool
 
 // Whether more than a block has room for is too big to be pulled up.
 fn too_big(skb: &mut Skb, n: usize, spare: Sole, out: &mut Outcomes) -> bool
-    requires { skb.old.rest ≡ [] }
-    ensures { (skb.new.rest ≡ []) × (out.old.spare ≤ out.new.spare) }
+    requires bare { skb.old.rest ≡ [] }
+    ensures rest { (skb.new.rest ≡ []) × (out.old.spare ≤ out.new.spare) }
 {
     match skb.pull_up(n, spare, out) {
         Ok(Returned::Unused(_)) => false,
@@ -104,8 +104,8 @@ fn copied(
     spares: &mut Vec<Sole>,
     out: &mut Outcomes,
 ) -> ((usize, usize), bool, usize, usize)
-    requires { 2 ≤ out.old.spare }
-    ensures { out.old.spare ≤ out.new.spare + 2 }
+    requires spare { 2 ≤ out.old.spare }
+    ensures spare { out.old.spare ≤ out.new.spare + 2 }
 {
     if skb.len() > 4000 {
         return ((9, 9), false, 0, 0);
@@ -142,7 +142,7 @@ fn over_one_block(
     two: &mut Vec<Sole>,
     out: &mut Outcomes,
 ) -> Seen
-    requires { (skb.rest ≡ []) × (8 ≤ out.old.spare) }
+    requires spare { (skb.rest ≡ []) × (8 ≤ out.old.spare) }
 {
     let answers = [
         pushed(&mut skb, &[1; 14]),

@@ -6,10 +6,10 @@ use Rattle.round_write.proofs.buffer.write_pieces.Goals as goal
 pub returns-in_err-write_all-clause-err : goal.returns-in_err-write_all-clause-err
 returns-in_err-write_all-clause-err g c =
     let p = err_from_is_err_and c.from_residual.result c.from_residual.ensures.1 in
-    rw p.1 (one_failed c.args.frame.now.rest c.loop-i.i c.slice.result.now _ _ _ (omega arith) c.slice.ensures c.loop-i.invariant.0 c.in_err-write_all.ensures.err)
+    rw p.1 (one_failed c.args.frame.now.rest c.loop-i.i c.slice.result.now _ _ _ (omega arith) c.slice.ensures.bytes c.loop-i.invariant.0 c.in_err-write_all.ensures.err)
 
 pub loop-i-preserved : goal.loop-i-preserved
 loop-i-preserved g c = (
-  one_more c.args.frame.now.rest c.loop-i.i c.slice.result.now _ _ _ (omega arith) c.slice.ensures c.loop-i.invariant.0 c.in_ok-write_all.ensures.ok,
+  one_more c.args.frame.now.rest c.loop-i.i c.slice.result.now _ _ _ (omega arith) c.slice.ensures.bytes c.loop-i.invariant.0 c.in_ok-write_all.ensures.ok,
   omega (arith, c.in_ok-write_all.ensures.cause.later),
 )

@@ -34,5 +34,5 @@ returns-clause-run c =
           c.args.candidacy.now.flags r.progress c.progress_with-progress.result (length r.rest.items) long c.requires.run.run c.requires.mergeable c.joined-payload.ensures.sum c.requires.judged c.progress_with-progress.ensures.progress);
       held = subst (λ (z : List Held). AreHeld (r.first ∷ z)) (sym items)
           (all_append IsHeld (held_of r) (c.args.next ∷ []) c.requires.run.held (c.requires.held, tt));
-      count = omega (arith, c.requires.run.count, c.count-more.ensures, ap counts_of items, counts_more r.rest.items c.args.next);
+      count = omega (arith, c.requires.run.count, c.count-more.ensures.value, ap counts_of items, counts_more r.rest.items c.args.next);
     }

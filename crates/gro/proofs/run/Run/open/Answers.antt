@@ -14,5 +14,5 @@ returns-clause-run c =
           (opened_by (packet_of first) c.args.candidacy.layout c.args.candidacy.payload c.args.candidacy.flags
           c.progress_of-progress.result c.requires.judged c.progress_of-progress.ensures.progress);
       held = subst (λ (z : List Held). AreHeld (first ∷ z)) (sym c.new.ensures.items) (c.requires.held, tt);
-      count = omega (arith, c.count-count.ensures, ap counts_of c.new.ensures.items);
+      count = omega (arith, c.count-count.ensures.value, ap counts_of c.new.ensures.items);
     }

@@ -9,7 +9,9 @@ use Rattle.skb.proofs.Cutting.{size_of-cut}
 use Rattle.skb.proofs.skb.Skb.pull_up.Goals as goal
 
 pub copy_into-requires : goal.copy_into-requires
-copy_into-requires c = (omega arith, omega arith)
+copy_into-requires c = record {
+  within = (omega arith, omega arith);
+}
 
 pub invariant_of-self : goal.invariant_of-self
 invariant_of-self c =
