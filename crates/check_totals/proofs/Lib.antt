@@ -1,4 +1,4 @@
-pub mod Adding
+mod Adding
 pub mod Summing
 mod Owing
 pub mod Tallying

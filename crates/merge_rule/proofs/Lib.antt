@@ -1,6 +1,6 @@
 mod Headers
 mod Decide
-pub mod Heads
+mod Heads
 pub mod Knows
 pub mod Steps
 pub mod Merge
