@@ -1,5 +1,6 @@
 -- The bytes of a buffer whose ends are cut.
-use Rattle.std.proofs.Common.{◌≡◌, ℕ, ◌+◌, ◌-◌, ◌<◌, ◌≤◌, List, [], ◌∷◌, ◌++◌, Bool, true, false, length, min, take, slice_range, append_assoc, append-nil, refl, sym, ap, ◌∙◌, arith}
+use Rattle.std.proofs.Common.{◌≡◌, ℕ, ◌+◌, ◌-◌, ◌<◌, ◌≤◌, List, [], ◌∷◌, ◌++◌, Bool, true, false, length, min, take}
+use Rattle.std.proofs.Common.{slice_range, append_assoc, append-nil, refl, sym, ap, ◌∙◌, arith}
 use Rattle.std.proofs.lemmas.Bool.{cond_both}
 use borrow.Author.Tests.{ltb-true, ltb-false}
 use lib.Dec.{ltb}
@@ -21,7 +22,9 @@ by_bool P false f g = g refl
 pub by_le : (P : Type 0) (a b : ℕ) → (a ≤ b → P) → (b ≤ a → P) → P
 by_le P a b f g = by_bool P (ltb a b) (λ e. let h = ltb-true a b e in f (omega arith)) (λ e. g (ltb-false a b e))
 
-pub trimmed : (f : SkbState) (r : List Piece) (n k : ℕ) → length (block f.head) ≡ 2048 → f.to ≤ 2048 → f.from ≤ f.to → k ≡ min n (size_of f.rest) → n ≤ buffer_size f → bytes_of r ≡ take (size_of f.rest - k) (bytes_of f.rest) → buffer_bytes (record f { to = f.to - (n - k); rest = r }) ≡ take (buffer_size f - n) (buffer_bytes f)
+pub trimmed : (f : SkbState) (r : List Piece) (n k : ℕ) → length (block f.head) ≡ 2048 → f.to ≤ 2048 → f.from ≤ f.to → k
+    ≡ min n (size_of f.rest) → n ≤ buffer_size f → bytes_of r ≡ take (size_of f.rest - k) (bytes_of f.rest)
+    → buffer_bytes (record f { to = f.to - (n - k); rest = r }) ≡ take (buffer_size f - n) (buffer_bytes f)
 trimmed f r n k h t o e s g =
     let P : Type 0 = buffer_bytes (record f { to = f.to - (n - k); rest = r }) ≡ take (buffer_size f - n) (buffer_bytes f) in
     by_le P n (size_of f.rest)
@@ -41,7 +44,8 @@ size_of-cut n (p ∷ ps) h =
     (λ e. let l = ltb-false n s e in let i = size_of-cut (n - s) ps (omega arith) in omega arith)
 
 -- both halves of a head that is cut, and the pieces after it
-pub cut_head : (f : SkbState) (n : ℕ) (k : Holder) (r : PartState) (rest c : List Piece) → KeepsGift f.head k r → n < head_size f → rest ≡ [] → c ≡ (record { part = r; from = f.from + n; to = f.to }) ∷ f.rest
+pub cut_head : (f : SkbState) (n : ℕ) (k : Holder) (r : PartState) (rest c : List Piece) → KeepsGift f.head k r
+    → n < head_size f → rest ≡ [] → c ≡ (record { part = r; from = f.from + n; to = f.to }) ∷ f.rest
     → buffer_bytes f ≡ buffer_bytes (record { head = k; from = f.from; to = f.from + n; rest = rest }) ++ bytes_of c
 cut_head f n k r rest c w lt er ec =
     let p : PartState = w.0 in
@@ -53,6 +57,9 @@ cut_head f n k r rest c w lt er ec =
     let ek : slice_range (block k) f.from (f.from + n) ≡ a = ap (λ (z : Holder). slice_range (block z) f.from (f.from + n)) w.1.2 in
     let eb : bytes_of c ≡ b ++ after = ap bytes_of ec ∙ ap (λ (z : PartState). slice_range z.bytes (f.from + n) f.to ++ after) w.1.3 in
     let en : bytes_of rest ≡ [] = ap bytes_of er in
-    let front : slice_range (block k) f.from (f.from + n) ++ bytes_of rest ≡ a = ap (λ (z : List ℕ). slice_range (block k) f.from (f.from + n) ++ z) en ∙ append-nil (slice_range (block k) f.from (f.from + n)) ∙ ek in
-    ap (λ (z : List ℕ). slice_range z f.from f.to ++ after) (sym pb) ∙ ap (λ (z : List ℕ). z ++ after) (halves x n lt) ∙ append_assoc a b after
+    let front : slice_range (block k) f.from (f.from + n) ++ bytes_of rest
+    ≡ a = ap (λ (z : List ℕ). slice_range (block k) f.from (f.from + n) ++ z) en
+    ∙ append-nil (slice_range (block k) f.from (f.from + n)) ∙ ek in
+    ap (λ (z : List ℕ). slice_range z f.from f.to ++ after) (sym pb) ∙ ap (λ (z : List ℕ). z ++ after) (halves x n lt)
+    ∙ append_assoc a b after
     ∙ ap (λ (z : List ℕ). a ++ z) (sym eb) ∙ ap (λ (z : List ℕ). z ++ bytes_of c) (sym front)

@@ -1,5 +1,6 @@
 -- What follows from how a buffer comes to stand behind pieces.
-use Rattle.std.proofs.Common.{◌≡◌, ℕ, ◌+◌, ◌-◌, ◌≤◌, List, [], ◌∷◌, ◌++◌, false, take, drop, slice_range, refl, ap, sym, ◌∙◌, subst, inl, inr, arith}
+use Rattle.std.proofs.Common.{◌≡◌, ℕ, ◌+◌, ◌-◌, ◌≤◌, List, [], ◌∷◌, ◌++◌, false, take, drop, slice_range, refl, ap, sym}
+use Rattle.std.proofs.Common.{◌∙◌, subst, inl, inr, arith}
 use Rattle.std.proofs.lemmas.Bool.{true≢false}
 use Rattle.raw_block.specs.Views.{PartState}
 use Rattle.frags.specs.OutcomesState.{OutcomesState}
@@ -36,7 +37,8 @@ module _ (c : SkbState) (a b : List Piece) (o q : OutcomesState) where
   head_bytes_moved m =
       let p : PartState = m.1.0 in
       let x : Piece = record { part = p; from = c.from; to = c.to } in
-      let g : bytes_of (x ∷ c.rest) ≡ buffer_bytes c = ap (λ (z : List ℕ). slice_range z c.from c.to ++ bytes_of c.rest) (part_block c.head p m.1.1.0) in
+      let g : bytes_of (x ∷ c.rest) ≡ buffer_bytes c = ap (λ (z : List ℕ). slice_range z c.from c.to ++ bytes_of c.rest)
+      (part_block c.head p m.1.1.0) in
       ap bytes_of m.1.1.1 ∙ bytes_of-append a (x ∷ c.rest) ∙ ap (λ (z : List ℕ). bytes_of a ++ z) g
 
   pub rest_size_moved : c.from ≡ c.to → MovesRest c a o b q → size_of b ≡ size_of a + buffer_size c
@@ -95,13 +97,16 @@ handed_part (Part p) (Sole s) e k = elim k [ inl l ↦ l | inr l ↦ absurd l ]
 handed_part (Part p) (Part r) e k = elim k [ inl l ↦ l | inr l ↦ ap Part l ]
 
 -- no life begins where the head is a part
-pub joins_kept : (c : SkbState) (a : Account) (o : OutcomesState) (b : Account) (q : OutcomesState) → is_sole c.head ≡ false → JoinsAccount c a o b q
+pub joins_kept : (c : SkbState) (a : Account) (o : OutcomesState) (b : Account) (q : OutcomesState) → is_sole c.head
+    ≡ false → JoinsAccount c a o b q
     → Keeps (both a (both (of_buffer c) (of_outcomes o))) (both b (of_outcomes q))
-joins_kept c a o b q e k = subst (λ h. Keeps (both a (both (of_buffer (record c { head = h })) (of_outcomes o))) (both b (of_outcomes q))) (handed_part c.head k.0 e k.1.0) k.1.1
+joins_kept c a o b q e k = subst (λ h. Keeps (both a (both (of_buffer (record c { head = h })) (of_outcomes o)))
+    (both b (of_outcomes q))) (handed_part c.head k.0 e k.1.0) k.1.1
 
 -- the same of a buffer that stands behind another's pieces
 module _ (a c : SkbState) (r : List Piece) (o q : OutcomesState) where
-  pub joined_account : r ≡ a.rest ++ c.rest → Keeps (both (of_holder c.head) (of_outcomes o)) (of_outcomes q) → JoinsAccount c (of_buffer a) o (of_buffer (record a { rest = r })) q
+  pub joined_account : r ≡ a.rest ++ c.rest → Keeps (both (of_holder c.head) (of_outcomes o)) (of_outcomes q)
+      → JoinsAccount c (of_buffer a) o (of_buffer (record a { rest = r })) q
   joined_account e m = (
     c.head,
     (
@@ -113,7 +118,8 @@ module _ (a c : SkbState) (r : List Piece) (o q : OutcomesState) where
     ),
   )
 
-  pub taken_account : (p : PartState) → AsPart c.head p → r ≡ a.rest ++ (record { part = p; from = c.from; to = c.to }) ∷ c.rest → JoinsAccount c (of_buffer a) o (of_buffer (record a { rest = r })) o
+  pub taken_account : (p : PartState) → AsPart c.head p → r ≡ a.rest ++ (record { part = p; from = c.from; to = c.to })
+      ∷ c.rest → JoinsAccount c (of_buffer a) o (of_buffer (record a { rest = r })) o
   taken_account p k e =
       let x : Piece = record { part = p; from = c.from; to = c.to } in (
         Part p,

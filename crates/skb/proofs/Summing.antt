@@ -1,5 +1,6 @@
 -- The sum of a buffer's bytes.
-use Rattle.std.proofs.Common.{◌≡◌, ℕ, zero, suc, ◌+◌, ◌-◌, ◌≤◌, ◌<◌, ◌^◌, List, [], ◌∷◌, ◌++◌, length, get_or, take, drop, sym, ap, ◌∙◌, arith, append_assoc, length-append, length-drop}
+use Rattle.std.proofs.Common.{◌≡◌, ℕ, zero, suc, ◌+◌, ◌-◌, ◌≤◌, ◌<◌, ◌^◌, List, [], ◌∷◌, ◌++◌, length, get_or, take}
+use Rattle.std.proofs.Common.{drop, sym, ap, ◌∙◌, arith, append_assoc, length-append, length-drop}
 use Rattle.std.proofs.lemmas.List.{drop_more, drop-append-le, take_all}
 use Rattle.inet_sum.specs.Stands.{FoldAndLength, StandsFor}
 use Rattle.frags.specs.PieceList.{bytes_of, piece_bytes}
@@ -15,14 +16,23 @@ bytes_more (x ∷ xs) b f g (suc k) = bytes_more xs b (λ j. f (suc j)) g k
 pub all_behind : (f : List ℕ) (n : ℕ) → take (length f - n) (drop n f) ≡ drop n f
 all_behind f n = take_all (length f - n) (drop n f) (omega (arith, length-drop n f))
 
-pub summed_front : (s : SkbState) (at : ℕ) (sum : FoldAndLength) → at ≤ length (head_bytes s) → StandsFor sum (drop at (head_bytes s)) → AreBytes (drop at (head_bytes s)) → IsSummed s at 0 sum
-summed_front s at sum h st b = record { done = drop at (head_bytes s); stands = st; whole = sym (drop-append-le at (head_bytes s) (bytes_of s.rest) h); in_bytes = b }
+pub summed_front : (s : SkbState) (at : ℕ) (sum : FoldAndLength) → at ≤ length (head_bytes s)
+    → StandsFor sum (drop at (head_bytes s)) → AreBytes (drop at (head_bytes s)) → IsSummed s at 0 sum
+summed_front s at sum h st b = record {
+  done = drop at (head_bytes s);
+  stands = st;
+  whole = sym (drop-append-le at (head_bytes s) (bytes_of s.rest) h);
+  in_bytes = b;
+}
 
-pub piece_first : (ps : List Piece) (i : ℕ) (p : List ℕ) → i < length ps → ((d : Piece) → p ≡ piece_bytes (get_or ps i d)) → bytes_of (drop i ps) ≡ p ++ bytes_of (drop (i + 1) ps)
+pub piece_first : (ps : List Piece) (i : ℕ) (p : List ℕ) → i < length ps
+    → ((d : Piece) → p ≡ piece_bytes (get_or ps i d)) → bytes_of (drop i ps) ≡ p ++ bytes_of (drop (i + 1) ps)
 piece_first [] i p h is = absurd (omega arith)
-piece_first (x ∷ xs) i p h is = ap bytes_of (drop_more (x ∷ xs) i x h) ∙ ap (λ (z : List ℕ). z ++ bytes_of (drop (i + 1) (x ∷ xs))) (sym (is x))
+piece_first (x ∷ xs) i p h is = ap bytes_of (drop_more (x ∷ xs) i x h)
+    ∙ ap (λ (z : List ℕ). z ++ bytes_of (drop (i + 1) (x ∷ xs))) (sym (is x))
 
-module _ (s : SkbState) (at i : ℕ) (old : FoldAndLength) (p : List ℕ) (h : i < length s.rest) (was : IsSummed s at i old) (is : (d : Piece) → p ≡ piece_bytes (get_or s.rest i d)) where
+module _ (s : SkbState) (at i : ℕ) (old : FoldAndLength) (p : List ℕ) (h : i < length s.rest)
+    (was : IsSummed s at i old) (is : (d : Piece) → p ≡ piece_bytes (get_or s.rest i d)) where
   more : bytes_of (drop i s.rest) ≡ p ++ bytes_of (drop (i + 1) s.rest)
   more = piece_first s.rest i p h is
 

@@ -33,7 +33,8 @@ given_back o = length o.soles + length o.receipts
 -- of the buffer, and what it joins before and after: nothing is lost, block by block and life by life, and no life begins but one with
 -- the buffer's own head, where that was a Sole
 abbrev pub JoinsAccount : SkbState → Account → OutcomesState → Account → OutcomesState → Type 0
-JoinsAccount c a o b q = (h : Holder) × (HandedOn c.head h × Keeps (both a (both (of_buffer (record c { head = h })) (of_outcomes o))) (both b (of_outcomes q)))
+JoinsAccount c a o b q = (h : Holder) × (HandedOn c.head h × Keeps (both a (both (of_buffer (record c { head = h }))
+    (of_outcomes o))) (both b (of_outcomes q)))
 
 -- no part is lighter than the lightest was
 abbrev pub KeepsLeast : SkbState → List Piece → List Piece → Type 0

@@ -29,7 +29,12 @@ behind_headroom s xs = record s { bytes = written s.bytes 64 xs }
 
 -- the buffer whose first n bytes lie in a new head
 abbrev pub pulled_up : ℕ → SkbState → SoleState → SkbState
-pulled_up n a s = record { head = Sole (behind_headroom s (take n (buffer_bytes a))); from = 64; to = 64 + n; rest = cut_front (n - head_size a) a.rest }
+pulled_up n a s = record {
+  head = Sole (behind_headroom s (take n (buffer_bytes a)));
+  from = 64;
+  to = 64 + n;
+  rest = cut_front (n - head_size a) a.rest;
+}
 
 abbrev pub IsPullFault : ℕ → SkbState → PullFault → Type 0
 IsPullFault n a (Short h k) = (buffer_size a < n) × (h ≡ buffer_size a) × (k ≡ n)

@@ -1,5 +1,6 @@
 -- A buffer: a head block and pieces after it, as one run of bytes.
-use Rattle.std.specs.Prelude.{ℕ, ◌≡◌, ◌≢◌, ◌+◌, ◌-◌, ◌<◌, ◌≤◌, List, ◌∷◌, ◌++◌, Bool, false, true, ◌||◌, ◌==◌, cond, length, take, drop, slice_range, min, map, Ok, Err}
+use Rattle.std.specs.Prelude.{ℕ, ◌≡◌, ◌≢◌, ◌+◌, ◌-◌, ◌<◌, ◌≤◌, List, ◌∷◌, ◌++◌, Bool, false, true, ◌||◌, ◌==◌, cond}
+use Rattle.std.specs.Prelude.{length, take, drop, slice_range, min, map, Ok, Err}
 use Rattle.std.specs.declared.result.Result.{Result}
 use Rattle.std.specs.declared.alloc.AllocError.{AllocError}
 use Rattle.ref_core.specs.WeightRule.{full_weight}
@@ -60,7 +61,9 @@ written_head (Part p) i ys = Part p
 
 -- what `push` answers: where the bytes are written in front, and else why not
 abbrev pub IsPush : SkbState → List ℕ → SkbState → Result Unit RoomFault → Type 0
-IsPush a xs b (Ok _) = (length xs ≤ a.from) × (is_sole a.head ≡ true) × (b ≡ record a { head = written_head a.head (a.from - length xs) xs; from = a.from - length xs }) × (buffer_bytes b ≡ xs ++ buffer_bytes a)
+IsPush a xs b (Ok _) = (length xs ≤ a.from) × (is_sole a.head ≡ true)
+    × (b ≡ record a { head = written_head a.head (a.from - length xs) xs; from = a.from - length xs })
+    × (buffer_bytes b ≡ xs ++ buffer_bytes a)
 IsPush a xs b (Err (NoRoom h n)) = (a.from < length xs) × (h ≡ a.from) × (n ≡ length xs) × (b ≡ a)
 IsPush a xs b (Err Shared) = (length xs ≤ a.from) × (is_sole a.head ≡ false) × (b ≡ a)
 
@@ -70,15 +73,19 @@ tailroom f = cond (length f.rest == 0) (2048 - f.to) 0
 
 -- what `put_tail` answers
 abbrev pub IsPut : SkbState → List ℕ → SkbState → Result Unit RoomFault → Type 0
-IsPut a xs b (Ok _) = (length xs ≤ tailroom a) × (is_sole a.head ≡ true) × (b ≡ record a { head = written_head a.head a.to xs; to = a.to + length xs }) × (buffer_bytes b ≡ buffer_bytes a ++ xs)
+IsPut a xs b (Ok _) = (length xs ≤ tailroom a) × (is_sole a.head ≡ true)
+    × (b ≡ record a { head = written_head a.head a.to xs; to = a.to + length xs })
+    × (buffer_bytes b ≡ buffer_bytes a ++ xs)
 IsPut a xs b (Err (NoRoom h n)) = (tailroom a < length xs) × (h ≡ tailroom a) × (n ≡ length xs) × (b ≡ a)
 IsPut a xs b (Err Shared) = (length xs ≤ tailroom a) × (is_sole a.head ≡ false) × (b ≡ a)
 
 -- a head made a Sole: it was one, or its claim was granted, or its bytes were copied into the spare
 abbrev pub Owned : Holder → SoleState → Holder → Unshared → Type 0
 Owned (Sole s) spare (Sole x) (Unused u) = (x ≡ s) × (u ≡ spare)
-Owned (Part p) spare (Sole x) (Unused u) = (x.bytes ≡ p.bytes) × (x.mark ≡ p.mark) × (u ≡ spare) × (p.weight ≤ full_weight) × (x.block ≡ p.life.block)
-Owned (Part p) spare (Sole x) (Gave r t) = (x.bytes ≡ p.bytes) × (x.mark ≡ spare.mark) × IsReleased p r × (t.life ≡ p.life) × (p.weight < t.total) × (t.total ≤ full_weight) × (x.block ≡ spare.block)
+Owned (Part p) spare (Sole x) (Unused u) = (x.bytes ≡ p.bytes) × (x.mark ≡ p.mark) × (u ≡ spare)
+    × (p.weight ≤ full_weight) × (x.block ≡ p.life.block)
+Owned (Part p) spare (Sole x) (Gave r t) = (x.bytes ≡ p.bytes) × (x.mark ≡ spare.mark) × IsReleased p r
+    × (t.life ≡ p.life) × (p.weight < t.total) × (t.total ≤ full_weight) × (x.block ≡ spare.block)
 Owned _ _ _ _ = ⊥
 
 abbrev pub of_unshared : Unshared → Account
@@ -102,7 +109,9 @@ buffer_least f = min (head_least f.head) (least_weight f.rest)
 
 -- what `clone` answers, of the buffer before and after
 abbrev pub IsClone : SkbState → SkbState → Result SkbState ShareFault → Type 0
-IsClone a b (Ok c) = (buffer_worn a ≡ false) × ((p : PartState) × (AsPart a.head p × (b ≡ record a { head = Part (less p); rest = map kept a.rest }) × (c ≡ record a { head = Part (gave p); rest = map given a.rest })))
+IsClone a b (Ok c) = (buffer_worn a ≡ false) × ((p : PartState) × (AsPart a.head p
+    × (b ≡ record a { head = Part (less p); rest = map kept a.rest })
+    × (c ≡ record a { head = Part (gave p); rest = map given a.rest })))
 IsClone a b (Err (Short h n)) = ⊥
 IsClone a b (Err Worn) = (buffer_worn a ≡ true) × (b ≡ a)
 IsClone a b (Err NoMemory) = (buffer_worn a ≡ false) × ((p : PartState) × (AsPart a.head p × (b ≡ record a { head = Part p })))
@@ -118,13 +127,16 @@ Gives (Sole s) h g = Unit {0}
 
 -- the other's head has no bytes: it is given back, and the other's pieces follow
 abbrev pub JoinsRest : SkbState → SkbState → OutcomesState → SkbState → OutcomesState → Type 0
-JoinsRest a c o b q = (b.rest ≡ a.rest ++ c.rest) × Keeps (both (of_buffer a) (both (of_buffer c) (of_outcomes o))) (both (of_buffer b) (of_outcomes q))
+JoinsRest a c o b q = (b.rest ≡ a.rest ++ c.rest) × Keeps (both (of_buffer a) (both (of_buffer c) (of_outcomes o)))
+    (both (of_buffer b) (of_outcomes q))
 
 -- the other's head follows as a piece, and its pieces after it
 abbrev pub TakesHead : SkbState → SkbState → OutcomesState → SkbState → OutcomesState → Type 0
-TakesHead a c o b q = (q ≡ o) × ((p : PartState) × (AsPart c.head p × (b.rest ≡ a.rest ++ (record { part = p; from = c.from; to = c.to }) ∷ c.rest)))
+TakesHead a c o b q = (q ≡ o) × ((p : PartState) × (AsPart c.head p
+    × (b.rest ≡ a.rest ++ (record { part = p; from = c.from; to = c.to }) ∷ c.rest)))
 
 -- what `attach` answers: the other's bytes follow, or nothing has changed
 abbrev pub Attaches : SkbState → SkbState → OutcomesState → SkbState → OutcomesState → Result Unit (SkbState × AllocError) → Type 0
-Attaches a c o b q (Ok _) = (buffer_bytes b ≡ buffer_bytes a ++ buffer_bytes c) × (b.head ≡ a.head) × (b.from ≡ a.from) × (b.to ≡ a.to) × (c.from ≡ c.to → JoinsRest a c o b q) × (c.from ≢ c.to → TakesHead a c o b q)
+Attaches a c o b q (Ok _) = (buffer_bytes b ≡ buffer_bytes a ++ buffer_bytes c) × (b.head ≡ a.head) × (b.from ≡ a.from)
+    × (b.to ≡ a.to) × (c.from ≡ c.to → JoinsRest a c o b q) × (c.from ≢ c.to → TakesHead a c o b q)
 Attaches a c o b q (Err e) = (e.0 ≡ c) × (b ≡ a) × (q ≡ o)

@@ -2,7 +2,6 @@
 ghost use Rattle.std.specs.Prelude.{◌≡◌, ◌+◌, ◌-◌, ◌<◌, ◌≤◌, ◌^◌, [], length, MatchResult, IfOk, drop, take, min};
 ghost use Rattle.frags.specs.Account.{Keeps, both, of_outcomes};
 ghost use Rattle.frags.specs.Growth.{Grows};
-ghost use Rattle.frags.specs.Holders.{block};
 ghost use Rattle.frags.specs.PieceList.{size_of, cut_front, keep_front};
 ghost use Rattle.skb.specs.SkbState.{head_size, buffer_bytes, buffer_size, headroom, tailroom, IsPush, IsPut, of_buffer};
 

@@ -1,6 +1,5 @@
 //! What becomes of a buffer's head.
 ghost use Rattle.std.specs.Prelude.{◌≡◌, ◌+◌, ◌≤◌, length, false};
-ghost use Rattle.frags.specs.Holders.{AsPart};
 ghost use Rattle.skb.specs.Cut.{KeepsGift};
 ghost use Rattle.skb.specs.PullUp.{HeadReleased};
 ghost use Rattle.skb.specs.SkbState.{written, Owned, IsLent, Gives, head_worn};

@@ -1,5 +1,5 @@
 //! A head's bytes, lent for writing.
-ghost use Rattle.std.specs.Prelude.{◌≡◌, ◌+◌, ◌≤◌, true, false, MatchOption, slice_range, length};
+ghost use Rattle.std.specs.Prelude.{◌≡◌, ◌≤◌, true, false, MatchOption, slice_range};
 ghost use Rattle.std.specs.Borrow.{sem};
 ghost use Rattle.frags.specs.Holders.{block};
 ghost use Rattle.frags.specs.declared.holder.Holder.{Holder};

@@ -1,8 +1,8 @@
 //! A second buffer of the same bytes, and a head that is made a part or a Sole.
-ghost use Rattle.std.specs.Prelude.{◌≡◌, ℕ, ◌+◌, ◌-◌, ◌<◌, ◌*◌, length, MatchResult, IfOk, Bool, false};
+ghost use Rattle.std.specs.Prelude.{◌≡◌, ℕ, ◌+◌, ◌*◌, length, MatchResult, IfOk, Bool, false};
 ghost use Rattle.ref_core.specs.WeightRule.{full_weight};
 ghost use Rattle.frags.specs.Account.{Tests, Keeps, KeepsMarks, both, every, of_sole};
-ghost use Rattle.skb.specs.SkbState.{buffer_bytes, headroom, is_sole, Owned, IsClone, IsLent, buffer_worn, of_buffer, of_unshared};
+ghost use Rattle.skb.specs.SkbState.{buffer_bytes, is_sole, Owned, IsClone, IsLent, buffer_worn, of_buffer, of_unshared};
 
 use crate::Skb;
 use crate::heads::{is_worn, shared, shared_off, unshared};

@@ -1,14 +1,13 @@
 //! A packet buffer: what it is, and what is read of it.
-ghost use Rattle.std.specs.Prelude.{◌≡◌, ℕ, ◌+◌, ◌-◌, ◌<◌, ◌≤◌, ◌^◌, ◌*◌, length, MatchOption, take, min, slice_index_or, slice_range, false, true, Some, None};
+ghost use Rattle.std.specs.Prelude.{◌≡◌, ℕ, ◌+◌, ◌-◌, ◌<◌, ◌≤◌, ◌^◌, ◌*◌, length, MatchOption, slice_index_or, slice_range, false, true};
 ghost use Rattle.std.specs.Borrow.{sem};
 ghost use Rattle.frags.specs.Account.{Keeps, both, of_sole, of_outcomes};
 ghost use Rattle.frags.specs.Growth.{Grows};
-ghost use Rattle.frags.specs.Holders.{block};
 ghost use Rattle.frags.specs.PieceList.{AllFit, size_of, of_pieces, piece_bytes};
 ghost use Rattle.frags.specs.declared.pieces.Piece.{Piece};
 ghost use Rattle.skb.specs.Checksum.{AreBytes};
 ghost use Rattle.skb.specs.Lending.{lends_head, lends_head_if};
-ghost use Rattle.skb.specs.SkbState.{SkbState, head_size, buffer_least, buffer_bytes, buffer_size, head_bytes, headroom, tailroom, is_sole, written, Gives, of_buffer};
+ghost use Rattle.skb.specs.SkbState.{head_size, buffer_least, buffer_bytes, buffer_size, head_bytes, headroom, tailroom, is_sole, of_buffer};
 
 use crate::checksum::in_bytes;
 use crate::lend::range_of;

@@ -10,7 +10,8 @@ pub invariant_of-result : goal.invariant_of-result
 invariant_of-result c =
     let i = c.self.invariant in
     let j = c.in_ok-rest.ensures.share in
-    let e = lent_gives c.self.inside.head c.replace_with.new.dest c.replace_with-part.new.dest c.replace_with-part.result c.replace_with.ensures c.replace_with-part.ensures in
+    let e = lent_gives c.self.inside.head c.replace_with.new.dest c.replace_with-part.new.dest
+    c.replace_with-part.result c.replace_with.ensures c.replace_with-part.ensures in
     let s = ap size_of j.2 ∙ size_of-given c.self.inside.rest in
     (i.0, i.1, ap length e.1 ∙ i.2, omega arith)
 
@@ -18,14 +19,16 @@ pub invariant_of-self-2 : goal.invariant_of-self-2
 invariant_of-self-2 c =
     let i = c.self.invariant in
     let j = c.in_ok-rest.ensures.share in
-    let e = lent_gives c.self.inside.head c.replace_with.new.dest c.replace_with-part.new.dest c.replace_with-part.result c.replace_with.ensures c.replace_with-part.ensures in
+    let e = lent_gives c.self.inside.head c.replace_with.new.dest c.replace_with-part.new.dest
+    c.replace_with-part.result c.replace_with.ensures c.replace_with-part.ensures in
     let s = ap size_of j.1 ∙ size_of-kept c.self.inside.rest in
     (i.0, i.1, ap length e.0 ∙ i.2, omega arith)
 
 pub returns-clause-marks : goal.returns-clause-marks
 returns-clause-marks c = λ bs m.
     let h = c.self.inside.head in
-    let a = gives_sums (every bs) m h c.replace_with.new.dest c.replace_with-part.new.dest c.replace_with-part.result c.replace_with.ensures c.replace_with-part.ensures in
+    let a = gives_sums (every bs) m h c.replace_with.new.dest c.replace_with-part.new.dest c.replace_with-part.result
+    c.replace_with.ensures c.replace_with-part.ensures in
     let l = lent_marks bs m h c.replace_with.new.dest c.replace_with.ensures in
     let s = c.in_ok-rest.ensures.sums (every bs) m in
     let u = ap (λ (z : SkbState). pieces_held (every bs) m z.rest) c.self.view_is in
@@ -37,7 +40,8 @@ pub returns-clause-sums : goal.returns-clause-sums
 returns-clause-sums c = λ e t m.
     let h = c.self.inside.head in
     let p : is_sole h ≡ false = subst (λ (z : SkbState). is_sole z.head ≡ false) (sym c.self.view_is) e in
-    let a = gives_sums t m h c.replace_with.new.dest c.replace_with-part.new.dest c.replace_with-part.result c.replace_with.ensures c.replace_with-part.ensures in
+    let a = gives_sums t m h c.replace_with.new.dest c.replace_with-part.new.dest c.replace_with-part.result
+    c.replace_with.ensures c.replace_with-part.ensures in
     let l = lent_held t m h c.replace_with.new.dest p c.replace_with.ensures in
     let s = c.in_ok-rest.ensures.sums t m in
     let u = ap (λ (z : SkbState). pieces_held t m z.rest) c.self.view_is in

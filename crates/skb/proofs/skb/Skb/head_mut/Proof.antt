@@ -66,7 +66,8 @@ head_mut_spec 𝓤 𝓛 𝓜 𝓡 wired =
     let 𝓣 = tables 𝓤 𝓛.H 𝓜 𝓡 𝓡.env in let c = F.clauses 𝓛 𝓜.mem 𝓡.returns in
     proved 𝓛 F.ended stayed c 𝓜 𝓡 (Goes-spent_ref 𝓛 1 (0 ∷ []) tt (plain (λ _. R)), tt) #self code.function (code.unfolded 𝓤 𝓛.H 𝓜 𝓡 wired)
     (λ κs. (mut_vals, tt)) (λ κs. (mut_Tells (named 0) κs.0 R, tt)) (λ κs qs bounds a gh are.
-    let κ = κs.0 in let q = qs.0 in let s = a.0 in let b = s.ref_ptr.0 in let o = s.ref_ptr.1 in let d : R.Denot = s.now in let vs = mut_vals s in
+    let κ = κs.0 in let q = qs.0 in let s = a.0 in let b = s.ref_ptr.0 in let o = s.ref_ptr.1 in
+    let d : R.Denot = s.now in let vs = mut_vals s in
     let Ref = λ (κ' : List ℕ) (x : MutBor R.Denot). (MutRef (named 0) κ' R).own_val x vs in
     let Slice : RattleType = MutSlice (named 0) κ u8 in
     let y : (walk_of 𝓛 F.ended stayed c).Ghost = ((κs, qs, bounds, a, (vs, tt)), gh) in
@@ -87,10 +88,12 @@ head_mut_spec 𝓤 𝓛 𝓜 𝓡 wired =
     calls_at ! (framed 𝓤 𝓛.H 𝓜 (tables 𝓤 𝓛.H 𝓜 𝓡 𝓡.env)) A (asks_met.met 𝓤 𝓛 𝓜 𝓡 (code.calls-skb::skb::Skb::has_sole_head 𝓡.env wired)) z
     (and_then ! (get ! refl) (no_more !)) (λ v.
     use1 𝓛 (later (some (λ (u : Bool). ((‵ (flft (α ∷ []) full_share) ⊛ ‵ ftrue) ⊛ ‵ (bool.own_val u (v ∷ []))) ⊛
-    some (λ (ws : R.Denot × Unit {0}). ‵ (lasts asks.ended z.0.0 z.0.3 ws) ⊛ raw (fact 𝓤 (u ≡ is_sole d.head)) ⊛ raw (fact 𝓤 (ws.0 ≡ d)))))) (id⊢ 𝓤 _) $
+    some (λ (ws : R.Denot × Unit {0}). ‵ (lasts asks.ended z.0.0 z.0.3 ws) ⊛ raw (fact 𝓤 (u
+    ≡ is_sole d.head)) ⊛ raw (fact 𝓤 (ws.0 ≡ d)))))) (id⊢ 𝓤 _) $
     await ! tt $ pick ! (λ u. split ! $ split ! $ split ! $ lft_end ! tt $ move ! (2 ∷ []) $ feq_l ! (λ is_bool.
     lands_as ! (ap only is_bool) refl (tt, tt) $
-    move ! (2 ∷ []) $ pick ! (λ ws. split3 ! $ move ! (1 ∷ []) $ heard ! _ (λ answer. move ! (1 ∷ []) $ heard ! _ (λ same. fsplit ! $ fsplit ! $
+    move ! (2 ∷ []) $ pick ! (λ ws. split3 ! $ move ! (1 ∷ []) $ heard ! _ (λ answer. move ! (1 ∷ []) $
+    heard ! _ (λ same. fsplit ! $ fsplit ! $
     rewrite ! 0 (λ (m : R.Denot). ‵ (fres δ (R.coded.code m))) same refl $
     -- [the loan's last value; its borrow; nothing; α is over; nothing; what the lender keeps]
     move ! (3 ∷ 5 ∷ 0 ∷ []) $ use3 𝓛 (later (‵ (Ref κ s) ⊛ ‵ (flft κ q)))
@@ -102,7 +105,8 @@ head_mut_spec 𝓤 𝓛 𝓜 𝓡 wired =
     let L = triple_of 𝓛 lends.signature (lends.spec 𝓛 𝓜.mem 𝓡.returns) in
     let z' : L.Ghost = ((κs, qs, bounds, (s, tt), (vs, tt)), tt) in
     nothing ! $ move ! (1 ∷ 0 ∷ []) $ join ! $ nothing ! $ move ! (2 ∷ 0 ∷ []) $ join ! $ join ! $
-    use0 𝓛 (raw (fact 𝓤 (is_sole d.head ≡ true))) (fact_i 𝓤 (is_sole d.head ≡ true) (emp 𝓤) on) $ move ! (1 ∷ 0 ∷ []) $ use2 𝓛 (raw (L.pre z')) (id⊢ 𝓤 _) $
+    use0 𝓛 (raw (fact 𝓤 (is_sole d.head ≡ true))) (fact_i 𝓤 (is_sole d.head ≡ true) (emp 𝓤) on) $ move ! (1 ∷ 0 ∷ []) $
+    use2 𝓛 (raw (L.pre z')) (id⊢ 𝓤 _) $
     calls_at ! (framed 𝓤 𝓛.H 𝓜 (tables 𝓤 𝓛.H 𝓜 𝓡 𝓡.env)) L (lends_met.met 𝓤 𝓛 𝓜 𝓡 (code.calls-skb::skb::Skb::head_bytes_mut 𝓡.env wired)) z'
     (and_then ! (get ! refl) (no_more !)) (λ w.
     use1 𝓛 (later (some (λ (x : MutBor (List ℕ)). ((‵ (flft κ q) ⊛ ‵ ftrue) ⊛ ‵ (Slice.own_val x (w ∷ []))) ⊛
@@ -115,20 +119,25 @@ head_mut_spec 𝓤 𝓛 𝓜 𝓡 wired =
     let e : w ≡ slice_val x.ref_ptr (length x.now) = ap only is.0.0 in
     rewrite ! 0 (λ (u' : Val). ‵ (Slice.own_val x (u' ∷ []))) e refl $
     lands_as ! e refl (tt, (tt, (record { fits = is.0.1.0 }, tt))) $
-    sets_last ! (agg ! (and_then ! (lit ! tt) (and_then ! (get ! refl) (no_more !)))) refl (tt, (record { fits = lit< tt }, ((tt, (record { fits = is.0.1.0 }, tt)), tt))) $
+    sets_last ! (agg ! (and_then ! (lit ! tt) (and_then ! (get ! refl) (no_more !)))) refl (
+      tt,
+      (record { fits = lit< tt }, ((tt, (record { fits = is.0.1.0 }, tt)), tt)),
+    ) $
     exec ! 𝓣.C 𝓣.Λ (env code.Mir.locals l) code.Mir.t-4 (at_ret _ Post) $
     sets ! (of_opd ! (get ! refl)) refl (tt, (record { fits = lit< tt }, ((tt, (record { fits = is.0.1.0 }, tt)), tt))) $
     returns ! (look_at ! 0 refl) $ free_all ! refl $ keep ! (0 ∷ 2 ∷ 1 ∷ []) $
     let v' : Val = slice_val x.ref_ptr (length x.now) in
     use1 𝓛 (‵ ((option.the_row Slice).own_val (Some x) (live 1 (of_list (v' ∷ [])) ∷ []))) (Some-of 𝓛 Slice x v') $
     suffices ! _ (ends_at 𝓛 F.ended stayed c y (live 1 (of_list (v' ∷ []))) (Some x) (tt, tt) (tt, tt)) $
-    nothing ! $ nothing ! $ fjoin ! $ join ! $ nothing ! $ move ! (2 ∷ 0 ∷ []) $ join ! $ join ! $ frame ! $ says ! (on, value) $ done !))))))
+    nothing ! $ nothing ! $ fjoin ! $ join ! $ nothing ! $ move ! (2 ∷ 0 ∷ []) $ join ! $ join ! $ frame ! $
+    says ! (on, value) $ done !))))))
     (λ t. let off : is_sole d.head ≡ false = sym answer ∙ is_off u t in
     sets_last ! (agg ! (and_then ! (lit ! tt) (no_more !))) refl (tt, (record { fits = lit< tt }, tt)) $
     exec ! 𝓣.C 𝓣.Λ (env code.Mir.locals l) code.Mir.t-4 (at_ret _ Post) $
     sets ! (of_opd ! (get ! refl)) refl (tt, (record { fits = lit< tt }, tt)) $
     returns ! (look_at ! 0 refl) $ free_all ! refl $ keep ! (0 ∷ 1 ∷ []) $
-    fsplit3 ! $ keep ! (1 ∷ 3 ∷ []) $ use1 𝓛 (‵ (fres s.ghost_name (R.coded.code d))) (𝓛.names.obs-res s.ghost_name (R.coded.code d)) $ move ! (1 ∷ []) $
+    fsplit3 ! $ keep ! (1 ∷ 3 ∷ []) $ use1 𝓛 (‵ (fres s.ghost_name (R.coded.code d)))
+    (𝓛.names.obs-res s.ghost_name (R.coded.code d)) $ move ! (1 ∷ []) $
     use0 𝓛 (‵ ((option.the_row Slice).own_val None (live 0 (of_list []) ∷ []))) (none_of 𝓛 Slice) $
     suffices ! _ (ends_at 𝓛 F.ended stayed c y (live 0 (of_list [])) None (tt, tt) (tt, tt)) $
     nothing ! $ nothing ! $ fjoin ! $ join ! $ nothing ! $ move ! (2 ∷ 0 ∷ []) $ join ! $ join ! $ frame ! $ says ! off $ done !)))))))))))

@@ -22,31 +22,38 @@ returns-then-from-to-clause-bytes c =
     let a = c.args.pieces.now.pieces in
     let b = c.append.new.self.pieces in
     let d : SkbState = record { head = c.self.inside.head; from = c.self.inside.from; to = c.self.inside.to; rest = c.self.inside.rest } in
-    let m : MovesRest d a c.args.out.now b c.give_back_holder.new.self = (c.append.ensures.appended, c.give_back_holder.ensures.grows, c.give_back_holder.ensures.kept) in
-    subst (λ (z : SkbState). bytes_of b ≡ bytes_of a ++ buffer_bytes z) c.self.view_is (rest_bytes_moved d a b c.args.out.now c.give_back_holder.new.self c.if-from-to.true m)
+    let m : MovesRest d a c.args.out.now b c.give_back_holder.new.self =
+    (c.append.ensures.appended, c.give_back_holder.ensures.grows, c.give_back_holder.ensures.kept) in
+    subst (λ (z : SkbState). bytes_of b ≡ bytes_of a ++ buffer_bytes z)
+    c.self.view_is (rest_bytes_moved d a b c.args.out.now c.give_back_holder.new.self c.if-from-to.true m)
 
 pub returns-then-from-to-clause-size : goal.returns-then-from-to-clause-size
 returns-then-from-to-clause-size c =
     let a = c.args.pieces.now.pieces in
     let b = c.append.new.self.pieces in
     let d : SkbState = record { head = c.self.inside.head; from = c.self.inside.from; to = c.self.inside.to; rest = c.self.inside.rest } in
-    let m : MovesRest d a c.args.out.now b c.give_back_holder.new.self = (c.append.ensures.appended, c.give_back_holder.ensures.grows, c.give_back_holder.ensures.kept) in
-    subst (λ (z : SkbState). size_of b ≡ size_of a + buffer_size z) c.self.view_is (rest_size_moved d a b c.args.out.now c.give_back_holder.new.self c.if-from-to.true m)
+    let m : MovesRest d a c.args.out.now b c.give_back_holder.new.self =
+    (c.append.ensures.appended, c.give_back_holder.ensures.grows, c.give_back_holder.ensures.kept) in
+    subst (λ (z : SkbState). size_of b ≡ size_of a + buffer_size z)
+    c.self.view_is (rest_size_moved d a b c.args.out.now c.give_back_holder.new.self c.if-from-to.true m)
 
 pub returns-then-from-to-clause-account : goal.returns-then-from-to-clause-account
 returns-then-from-to-clause-account c =
     let a = c.args.pieces.now.pieces in
     let b = c.append.new.self.pieces in
     let d : SkbState = record { head = c.self.inside.head; from = c.self.inside.from; to = c.self.inside.to; rest = c.self.inside.rest } in
-    let m : MovesRest d a c.args.out.now b c.give_back_holder.new.self = (c.append.ensures.appended, c.give_back_holder.ensures.grows, c.give_back_holder.ensures.kept) in
-    subst (λ (z : SkbState). JoinsAccount z (of_pieces a) c.args.out.now (of_pieces b) c.give_back_holder.new.self) c.self.view_is (rest_account d a b c.args.out.now c.give_back_holder.new.self m)
+    let m : MovesRest d a c.args.out.now b c.give_back_holder.new.self =
+    (c.append.ensures.appended, c.give_back_holder.ensures.grows, c.give_back_holder.ensures.kept) in
+    subst (λ (z : SkbState). JoinsAccount z (of_pieces a) c.args.out.now (of_pieces b) c.give_back_holder.new.self)
+    c.self.view_is (rest_account d a b c.args.out.now c.give_back_holder.new.self m)
 
 pub returns-then-from-to-clause-least : goal.returns-then-from-to-clause-least
 returns-then-from-to-clause-least c =
     let a = c.args.pieces.now.pieces in
     let b = c.append.new.self.pieces in
     let d : SkbState = record { head = c.self.inside.head; from = c.self.inside.from; to = c.self.inside.to; rest = c.self.inside.rest } in
-    let m : MovesRest d a c.args.out.now b c.give_back_holder.new.self = (c.append.ensures.appended, c.give_back_holder.ensures.grows, c.give_back_holder.ensures.kept) in
+    let m : MovesRest d a c.args.out.now b c.give_back_holder.new.self =
+    (c.append.ensures.appended, c.give_back_holder.ensures.grows, c.give_back_holder.ensures.kept) in
     subst (λ (z : SkbState). KeepsLeast z a b) c.self.view_is (rest_least d a b c.args.out.now c.give_back_holder.new.self m)
 
 pub append-requires-2-clause-small : goal.append-requires-2-clause-small
@@ -64,7 +71,8 @@ returns-clause-bytes c =
     let o = c.args.out.now in
     let d : SkbState = record { head = c.self.inside.head; from = c.self.inside.from; to = c.self.inside.to; rest = c.self.inside.rest } in
     let x : Piece = record { part = c.into_part.result; from = d.from; to = d.to } in
-    let e : b ≡ a ++ x ∷ d.rest = c.append-2.ensures.appended ∙ ap (λ (z : List Piece). z ++ d.rest) c.push.ensures.pushed ∙ append_assoc a (x ∷ []) d.rest in
+    let e : b ≡ a ++ x ∷ d.rest = c.append-2.ensures.appended ∙ ap (λ (z : List Piece). z ++ d.rest)
+    c.push.ensures.pushed ∙ append_assoc a (x ∷ []) d.rest in
     let m : MovesHead d a o b o = (refl, (c.into_part.result, (c.into_part.ensures.part, e))) in
     subst (λ (z : SkbState). bytes_of b ≡ bytes_of a ++ buffer_bytes z) c.self.view_is (head_bytes_moved d a b o o m)
 
@@ -75,7 +83,8 @@ returns-clause-size c =
     let o = c.args.out.now in
     let d : SkbState = record { head = c.self.inside.head; from = c.self.inside.from; to = c.self.inside.to; rest = c.self.inside.rest } in
     let x : Piece = record { part = c.into_part.result; from = d.from; to = d.to } in
-    let e : b ≡ a ++ x ∷ d.rest = c.append-2.ensures.appended ∙ ap (λ (z : List Piece). z ++ d.rest) c.push.ensures.pushed ∙ append_assoc a (x ∷ []) d.rest in
+    let e : b ≡ a ++ x ∷ d.rest = c.append-2.ensures.appended ∙ ap (λ (z : List Piece). z ++ d.rest)
+    c.push.ensures.pushed ∙ append_assoc a (x ∷ []) d.rest in
     let m : MovesHead d a o b o = (refl, (c.into_part.result, (c.into_part.ensures.part, e))) in
     subst (λ (z : SkbState). size_of b ≡ size_of a + buffer_size z) c.self.view_is (head_size_moved d a b o o m)
 
@@ -86,7 +95,8 @@ returns-clause-account c =
     let o = c.args.out.now in
     let d : SkbState = record { head = c.self.inside.head; from = c.self.inside.from; to = c.self.inside.to; rest = c.self.inside.rest } in
     let x : Piece = record { part = c.into_part.result; from = d.from; to = d.to } in
-    let e : b ≡ a ++ x ∷ d.rest = c.append-2.ensures.appended ∙ ap (λ (z : List Piece). z ++ d.rest) c.push.ensures.pushed ∙ append_assoc a (x ∷ []) d.rest in
+    let e : b ≡ a ++ x ∷ d.rest = c.append-2.ensures.appended ∙ ap (λ (z : List Piece). z ++ d.rest)
+    c.push.ensures.pushed ∙ append_assoc a (x ∷ []) d.rest in
     let m : MovesHead d a o b o = (refl, (c.into_part.result, (c.into_part.ensures.part, e))) in
     subst (λ (z : SkbState). JoinsAccount z (of_pieces a) o (of_pieces b) o) c.self.view_is (head_account d a b o o m)
 
@@ -97,12 +107,14 @@ returns-clause-least c =
     let o = c.args.out.now in
     let d : SkbState = record { head = c.self.inside.head; from = c.self.inside.from; to = c.self.inside.to; rest = c.self.inside.rest } in
     let x : Piece = record { part = c.into_part.result; from = d.from; to = d.to } in
-    let e : b ≡ a ++ x ∷ d.rest = c.append-2.ensures.appended ∙ ap (λ (z : List Piece). z ++ d.rest) c.push.ensures.pushed ∙ append_assoc a (x ∷ []) d.rest in
+    let e : b ≡ a ++ x ∷ d.rest = c.append-2.ensures.appended ∙ ap (λ (z : List Piece). z ++ d.rest)
+    c.push.ensures.pushed ∙ append_assoc a (x ∷ []) d.rest in
     let m : MovesHead d a o b o = (refl, (c.into_part.result, (c.into_part.ensures.part, e))) in
     subst (λ (z : SkbState). KeepsLeast z a b) c.self.view_is (head_least_moved d a b o o m)
 
 pub returns-then-from-to-clause-kept : goal.returns-then-from-to-clause-kept
-returns-then-from-to-clause-kept c = λ e. joins_kept c.args.self _ c.args.out.now _ c.give_back_holder.new.self e (returns-then-from-to-clause-account c)
+returns-then-from-to-clause-kept c = λ e. joins_kept c.args.self _ c.args.out.now _
+    c.give_back_holder.new.self e (returns-then-from-to-clause-account c)
 
 pub returns-clause-kept : goal.returns-clause-kept
 returns-clause-kept c = λ e. joins_kept c.args.self _ c.args.out.now _ c.args.out.now e (returns-clause-account c)

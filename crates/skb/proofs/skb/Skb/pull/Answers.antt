@@ -18,7 +18,8 @@ returns-then-n-of_head-clause-rest c =
     let a = c.args.self.now in
     let h = ap head_size c.self.view_is in
     let n : c.args.n - head_size a ≡ 0 = omega arith in
-    ap (λ (z : SkbState). z.rest) c.self.view_is ∙ sym (cut_front-none a.rest c.len-have.ensures.fits) ∙ ap (λ (k : ℕ). cut_front k a.rest) (sym n)
+    ap (λ (z : SkbState). z.rest) c.self.view_is ∙ sym (cut_front-none a.rest c.len-have.ensures.fits)
+    ∙ ap (λ (k : ℕ). cut_front k a.rest) (sym n)
 
 pub invariant_of-self-2 : goal.invariant_of-self-2
 invariant_of-self-2 c =
@@ -33,4 +34,5 @@ returns-clause-bytes c =
     let f : SkbState = record { head = s.head; from = s.from; to = s.to; rest = s.rest } in
     let i = c.self.invariant in
     let n : s.to - s.from ≤ c.args.n = omega arith in
-    pull_rest f c.cut_front.new.self c.args.n i.2 i.1 n c.in_ok-cut_front.ensures.bytes ∙ ap (λ (z : SkbState). drop c.args.n (buffer_bytes z)) c.self.view_is
+    pull_rest f c.cut_front.new.self c.args.n i.2 i.1 n c.in_ok-cut_front.ensures.bytes
+    ∙ ap (λ (z : SkbState). drop c.args.n (buffer_bytes z)) c.self.view_is

@@ -21,8 +21,13 @@ invariant_of-self c =
     let k : ℕ = c.args.n - (s.to - s.from) in
     let w = c.in-Ok.ensures.spans in
     let e = ap size_of w.1 in
-    let g = size_of-cut k s.rest w.0 in
-    (omega arith, omega arith, ap (λ (z : Holder). length (block z)) c.replace_with-released.ensures.0 ∙ c.copy_into.ensures.size, omega arith)
+    let g = size_of-cut k s.rest w.0 in (
+      omega arith,
+      omega arith,
+      ap (λ (z : Holder). length (block z)) c.replace_with-released.ensures.0
+          ∙ c.copy_into.ensures.size,
+      omega arith,
+    )
 
 pub returns-clause-bytes : goal.returns-clause-bytes
 returns-clause-bytes c =
@@ -36,7 +41,9 @@ returns-clause-bytes c =
     let l : length h ≡ s.to - s.from = length-head f i.2 i.1 in
     let u : n - (s.to - s.from) ≡ n - length h = omega arith in
     let v : buffer_bytes f ≡ buffer_bytes c.args.self.now = ap buffer_bytes c.self.view_is in
-    let x : slice_range (block c.replace_with-released.new.dest) 64 (64 + n) ≡ xs = ap (λ (z : Holder). slice_range (block z) 64 (64 + n)) c.replace_with-released.ensures.0 ∙ c.copy_into.ensures.copied.1 in
+    let x : slice_range (block c.replace_with-released.new.dest) 64 (64 + n)
+    ≡ xs = ap (λ (z : Holder). slice_range (block z) 64 (64 + n)) c.replace_with-released.ensures.0
+    ∙ c.copy_into.ensures.copied.1 in
     let y : bytes_of c.cut_front.new.self ≡ drop (n - length h) r = c.in-Ok.ensures.bytes ∙ ap (λ (j : ℕ). drop j r) u in
     let b = brought h r xs n (omega arith) (ap (λ (z : List ℕ). slice_range z 0 (0 + n)) (sym v)) in
     ap (λ (z : List ℕ). z ++ bytes_of c.cut_front.new.self) x ∙ ap (λ (z : List ℕ). xs ++ z) y ∙ b ∙ v

@@ -14,4 +14,5 @@ returns-in-Sole-clause-put c =
     let r : length c.args.bytes.now ≤ tailroom c.args.self.now = omega arith in
     let q : length c.args.bytes.now ≤ tailroom a = subst (λ (z : SkbState). length c.args.bytes.now ≤ tailroom z) (sym c.self.view_is) r in
     subst (λ (z : SkbState). IsPut z c.args.bytes.now b (Ok tt)) c.self.view_is
-    (puts a c.in-Sole.sole c.write_at.new.sole c.args.bytes.now c.in-Sole.is c.write_at.ensures.bytes c.write_at.ensures.mark c.write_at.ensures.block i.2 i.0 i.1 q)
+    (puts a c.in-Sole.sole c.write_at.new.sole c.args.bytes.now c.in-Sole.is c.write_at.ensures.bytes
+    c.write_at.ensures.mark c.write_at.ensures.block i.2 i.0 i.1 q)

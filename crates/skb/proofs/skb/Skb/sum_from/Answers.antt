@@ -8,19 +8,28 @@ pub loop-i-init : goal.loop-i-init
 loop-i-init c =
     let e = all_behind c.head.result.now c.args.at ∙ ap (drop c.args.at) c.head.ensures.bytes in
     record {
-      summed = summed_front c.args.self.now c.args.at c.add.new.sum (omega (arith, c.requires.inside, c.head.ensures.size, ap length c.head.ensures.bytes))
+      summed = summed_front c.args.self.now c.args.at c.add.new.sum (omega (
+        arith,
+        c.requires.inside,
+        c.head.ensures.size,
+        ap length c.head.ensures.bytes,
+      ))
           (subst (StandsFor c.add.new.sum) e (c.add.ensures.sum [] c.new-sum.ensures.sum)) (subst AreBytes e c.add.ensures.in_bytes);
     }
 
 pub add-requires-in-loop-i : goal.add-requires-in-loop-i
 add-requires-in-loop-i c = record {
-  few = summed_few c.args.self.now c.args.at c.loop-i.i c.loop-i.sum c.slice.result.now (omega (arith, c.count-i-end.ensures.value, c.loop-i-test.true)) c.loop-i.invariant.summed c.slice.ensures.bytes (omega (arith, c.len.ensures.bytes, c.len.ensures.small));
+  few = summed_few c.args.self.now c.args.at c.loop-i.i c.loop-i.sum
+      c.slice.result.now (omega (arith, c.count-i-end.ensures.value, c.loop-i-test.true)) c.loop-i.invariant.summed
+      c.slice.ensures.bytes (omega (arith, c.len.ensures.bytes, c.len.ensures.small));
 }
 
 pub loop-i-preserved : goal.loop-i-preserved
 loop-i-preserved c =
     let i = c.loop-i.invariant in
     record {
-      summed = summed_more c.args.self.now c.args.at c.loop-i.i c.loop-i.sum c.slice.result.now (omega (arith, c.count-i-end.ensures.value, c.loop-i-test.true)) i.summed c.slice.ensures.bytes c.add-in-loop-i.new.sum
+      summed = summed_more c.args.self.now c.args.at c.loop-i.i c.loop-i.sum
+          c.slice.result.now (omega (arith, c.count-i-end.ensures.value, c.loop-i-test.true)) i.summed
+          c.slice.ensures.bytes c.add-in-loop-i.new.sum
           (c.add-in-loop-i.ensures.sum i.summed.done i.summed.stands) c.add-in-loop-i.ensures.in_bytes;
     }

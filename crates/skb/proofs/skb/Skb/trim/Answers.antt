@@ -23,4 +23,6 @@ returns-clause-bytes c =
     let u = ap buffer_size c.self.view_is in
     let l : c.len.result ≡ size_of s.rest = c.len.ensures.size in
     let m : c.min-of_rest.result ≡ min c.args.n (size_of s.rest) = c.min-of_rest.ensures ∙ ap (λ (z : ℕ). min c.args.n z) l in
-    trimmed f c.cut_back.new.self c.args.n c.min-of_rest.result i.2 i.1 i.0 m (omega arith) c.in_ok-cut_back.ensures.bytes ∙ ap (λ (z : SkbState). take (buffer_size z - c.args.n) (buffer_bytes z)) c.self.view_is
+    trimmed f c.cut_back.new.self c.args.n c.min-of_rest.result i.2 i.1 i.0 m (omega arith)
+    c.in_ok-cut_back.ensures.bytes ∙ ap (λ (z : SkbState). take (buffer_size z - c.args.n) (buffer_bytes z))
+    c.self.view_is

@@ -9,4 +9,6 @@ returns-clause-kept c =
     let s = c.self.inside in
     let a : SkbState = record { head = s.head; from = s.from; to = s.to; rest = s.rest } in
     let b : SkbState = record { head = c.replace_with.new.dest; from = s.from; to = s.to; rest = s.rest } in
-    subst (λ (z : SkbState). Keeps (both (of_buffer z) (of_sole c.args.spare)) (both (of_buffer b) (of_unshared c.replace_with.result))) c.self.view_is (unshared_keeps a b c.args.spare c.replace_with.result c.replace_with.ensures refl)
+    subst (λ (z : SkbState). Keeps (both (of_buffer z) (of_sole c.args.spare))
+    (both (of_buffer b) (of_unshared c.replace_with.result))) c.self.view_is (unshared_keeps a b c.args.spare
+    c.replace_with.result c.replace_with.ensures refl)
