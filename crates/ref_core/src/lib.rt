@@ -40,10 +40,10 @@ pub const BLOCK_SIZE: usize = 2048;
 /// The law of the two machines: over every list of events at which the weight machine answers no `BadGive`, both give
 /// the same answers.
 pub fn machines_agree()
-    ensures { MachinesAgree }
+    ensures law { MachinesAgree }
 {}
 
 /// The rule of weights, which each step on a shared block's word keeps.
 pub fn weights_balance()
-    ensures { WeightRule }
+    ensures law { WeightRule }
 {}

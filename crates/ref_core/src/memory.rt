@@ -21,7 +21,7 @@ impl Model for Memory {
 
 impl Memory {
     pub(crate) fn zeroed(alloc: Global, blocks: usize) -> Result<Memory, AllocError>
-        ensures { IfOk result (λ m. m ≡ zeroed blocks) }
+        ensures zeros { IfOk result (λ m. m ≡ zeroed blocks) }
     {
         let mut zeros = Vec::with_capacity(alloc, blocks)?;
         for made in 0..blocks {
@@ -31,21 +31,21 @@ impl Memory {
     }
 
     pub(crate) fn len(&self) -> usize
-        ensures { result ≡ length self.now }
+        ensures len { result ≡ length self.now }
     {
         self.blocks.len()
     }
 
     pub(crate) fn byte(&self, block: usize, place: usize) -> u8
-        requires { (block < length self.now) × (place < block_size) }
-        ensures { result ≡ byte_at self.now block place }
+        requires inside { (block < length self.now) × (place < block_size) }
+        ensures value { result ≡ byte_at self.now block place }
     {
         self.blocks[block][place]
     }
 
     pub(crate) fn set_byte(&mut self, block: usize, place: usize, byte: u8)
-        requires { (block < length self.old) × (place < block_size) }
-        ensures { self.new ≡ with_byte self.old block place byte }
+        requires inside { (block < length self.old) × (place < block_size) }
+        ensures written { self.new ≡ with_byte self.old block place byte }
     {
         self.blocks[block][place] = byte;
     }

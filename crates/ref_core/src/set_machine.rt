@@ -29,7 +29,7 @@ impl Model for SetMachine {
 
 // The block of a live holder.
 fn block_of(pairs: &[(u32, u32)], holder: u32) -> Option<u32>
-    ensures { result ≡ block_of holder pairs.now }
+    ensures found { result ≡ block_of holder pairs.now }
 {
     for pair in pairs {
         if holder == pair.0 {
@@ -41,7 +41,7 @@ fn block_of(pairs: &[(u32, u32)], holder: u32) -> Option<u32>
 
 // How many hold a block.
 fn holder_count(pairs: &[(u32, u32)], block: u32) -> usize
-    ensures { result ≡ holder_count block pairs.now }
+    ensures count { result ≡ holder_count block pairs.now }
 {
     let mut count = 0;
     for pair in pairs {
@@ -54,7 +54,7 @@ fn holder_count(pairs: &[(u32, u32)], block: u32) -> usize
 
 // Takes a holder's pair out.
 fn remove_pair(pairs: &mut Vec<(u32, u32)>, holder: u32)
-    ensures { pairs.new.items ≡ without holder pairs.old.items }
+    ensures removed { pairs.new.items ≡ without holder pairs.old.items }
 {
     let mut i = 0;
     while i < pairs.len() {
@@ -69,7 +69,7 @@ fn remove_pair(pairs: &mut Vec<(u32, u32)>, holder: u32)
 impl SetMachine {
     /// A machine of so many blocks of zeros, which nobody holds.
     pub fn make(alloc: Global, blocks: u32) -> Result<SetMachine, AllocError>
-        ensures { IfOk result (λ m. m ≡ first_sets blocks) }
+        ensures first { IfOk result (λ m. m ≡ first_sets blocks) }
     {
         let memory = Memory::zeroed(alloc, blocks as usize)?;
         Ok(SetMachine {
@@ -131,7 +131,7 @@ impl SetMachine {
     }
 
     fn read(&self, holder: u32, place: u32) -> Answer
-        ensures { (self.now, result) ≡ read self.now (block_of holder self.now.pairs) place }
+        ensures step { (self.now, result) ≡ read self.now (block_of holder self.now.pairs) place }
     {
         let place = place as usize;
         match block_of(&self.pairs, holder) {
@@ -143,7 +143,7 @@ impl SetMachine {
     }
 
     fn write(&mut self, holder: u32, place: u32, byte: u8) -> Answer
-        ensures { (self.new, result) ≡ written self.old (block_of holder self.old.pairs) place byte }
+        ensures step { (self.new, result) ≡ written self.old (block_of holder self.old.pairs) place byte }
     {
         let place = place as usize;
         if let Some(block) = block_of(&self.pairs, holder) {
@@ -156,7 +156,7 @@ impl SetMachine {
     }
 
     fn give_back(&mut self, holder: u32) -> Answer
-        ensures { (self.new, result) ≡ given_back self.old (block_of holder self.old.pairs) holder }
+        ensures step { (self.new, result) ≡ given_back self.old (block_of holder self.old.pairs) holder }
     {
         let Some(block) = block_of(&self.pairs, holder) else {
             return Answer::Unlawful;
@@ -170,7 +170,7 @@ impl SetMachine {
     }
 
     fn claim(&self, holder: u32) -> Answer
-        ensures { (self.now, result) ≡ claimed self.now (block_of holder self.now.pairs) }
+        ensures step { (self.now, result) ≡ claimed self.now (block_of holder self.now.pairs) }
     {
         match block_of(&self.pairs, holder) {
             Some(block) if holder_count(&self.pairs, block) == 1 => Answer::Yes,
@@ -180,7 +180,7 @@ impl SetMachine {
     }
 
     fn join(&mut self, holder: u32, other: u32) -> Answer
-        ensures { (self.new, result) ≡ joined self.old holder other }
+        ensures step { (self.new, result) ≡ joined self.old holder other }
     {
         if holder == other {
             return Answer::Unlawful;

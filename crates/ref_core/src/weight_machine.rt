@@ -37,14 +37,14 @@ impl Model for WeightMachine {
 }
 
 fn zero_words(alloc: Global, blocks: usize) -> Result<Vec<u64>, AllocError>
-    ensures { IfOk result (λ words. words.items ≡ replicate blocks 0) }
+    ensures zeros { IfOk result (λ words. words.items ≡ replicate blocks 0) }
 {
     vec![in alloc; 0; blocks]
 }
 
 // Puts a holding where there is room.
 fn put_reserved(holdings: &mut IndexMap<u32, Holding>, holder: u32, holding: Holding)
-    requires { 0 < spare holdings.old }
+    requires room { 0 < spare holdings.old }
     ensures entries { holdings.new.entries ≡ with_holding holder holding.block holding.weight holdings.old.entries }
     ensures room { spare holdings.old ≤ spare holdings.new + 1 }
 {
@@ -55,8 +55,8 @@ fn put_reserved(holdings: &mut IndexMap<u32, Holding>, holder: u32, holding: Hol
 
 // Puts a holding in the place of the holder's last one.
 fn put_again(holdings: &mut IndexMap<u32, Holding>, holder: u32, holding: Holding)
-    requires { IsSome (holding_of holder holdings.old.entries) }
-    ensures { holdings.new.entries ≡ with_holding holder holding.block holding.weight holdings.old.entries }
+    requires there { IsSome (holding_of holder holdings.old.entries) }
+    ensures entries { holdings.new.entries ≡ with_holding holder holding.block holding.weight holdings.old.entries }
 {
     if holdings.insert(holder, holding).is_err() {
         unreachable!();
@@ -79,7 +79,7 @@ impl WeightMachine {
 
     /// The word of a block: what its holders weigh together.
     pub fn word(&self, block: u32) -> u64
-        requires { block < length self.now.words }
+        requires inside { block < length self.now.words }
         ensures value { result ≡ word_of self.now block }
         ensures weighed { IsWeighed self.now }
     {
@@ -167,7 +167,7 @@ impl WeightMachine {
     }
 
     fn read(&self, holder: u32, place: u32) -> Answer
-        ensures { (self.now, result) ≡ read self.now (holding_of holder self.now.holdings) place }
+        ensures step { (self.now, result) ≡ read self.now (holding_of holder self.now.holdings) place }
     {
         let place = place as usize;
         match self.holding_of(holder) {
@@ -179,7 +179,7 @@ impl WeightMachine {
     }
 
     fn write(&mut self, holder: u32, place: u32, byte: u8) -> Answer
-        ensures { (self.new, result) ≡ written self.old (holding_of holder self.old.holdings) place byte }
+        ensures step { (self.new, result) ≡ written self.old (holding_of holder self.old.holdings) place byte }
     {
         let place = place as usize;
         if let Some(held) = self.holding_of(holder) {
@@ -193,7 +193,7 @@ impl WeightMachine {
     }
 
     fn give_back(&mut self, holder: u32) -> Answer
-        ensures { (self.new, result) ≡ given_back self.old (holding_of holder self.old.holdings) holder }
+        ensures step { (self.new, result) ≡ given_back self.old (holding_of holder self.old.holdings) holder }
     {
         let Some(held) = self.holding_of(holder) else {
             return Answer::Unlawful;
@@ -210,7 +210,7 @@ impl WeightMachine {
     }
 
     fn claim(&mut self, holder: u32) -> Answer
-        ensures { (self.new, result) ≡ claimed self.old (holding_of holder self.old.holdings) holder }
+        ensures step { (self.new, result) ≡ claimed self.old (holding_of holder self.old.holdings) holder }
     {
         let Some(held) = self.holding_of(holder) else {
             return Answer::Unlawful;
@@ -232,7 +232,7 @@ impl WeightMachine {
     }
 
     fn join(&mut self, holder: u32, other: u32) -> Answer
-        ensures { (self.new, result) ≡ joined self.old (holding_of holder self.old.holdings) (holding_of other self.old.holdings) holder other }
+        ensures step { (self.new, result) ≡ joined self.old (holding_of holder self.old.holdings) (holding_of other self.old.holdings) holder other }
     {
         if holder == other {
             return Answer::Unlawful;

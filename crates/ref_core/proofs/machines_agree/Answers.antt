@@ -2,4 +2,4 @@ use Rattle.ref_core.proofs.Agreeing.{machines_agree}
 use Rattle.ref_core.proofs.machines_agree.Goals as goal
 
 pub returns : goal.returns
-returns c = machines_agree
+returns c = record { law = machines_agree }

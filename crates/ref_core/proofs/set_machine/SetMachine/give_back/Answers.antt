@@ -4,4 +4,4 @@ use Rattle.ref_core.proofs.Placing.{placed_without}
 use Rattle.ref_core.proofs.set_machine.SetMachine.give_back.Goals as goal
 
 pub invariant_of-self : goal.invariant_of-self
-invariant_of-self c = let n = length c.self.inside.memory in subst (AllPlaced n) (sym c.remove_pair.ensures) (placed_without n _ c.self.inside.pairs.items c.self.invariant)
+invariant_of-self c = let n = length c.self.inside.memory in subst (AllPlaced n) (sym c.remove_pair.ensures.removed) (placed_without n _ c.self.inside.pairs.items c.self.invariant)

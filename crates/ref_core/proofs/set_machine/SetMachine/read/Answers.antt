@@ -5,4 +5,4 @@ use Rattle.ref_core.proofs.set_machine.SetMachine.read.Goals as goal
 
 pub byte-requires : goal.byte-requires
 byte-requires c = let e : block_of c.args.holder c.self.inside.pairs.items ≡ Some c.in-Some.block = cc in
-    (placed_found (length c.self.inside.memory) c.args.holder c.self.inside.pairs.items c.in-Some.block c.self.invariant e, omega arith)
+    record { inside = (placed_found (length c.self.inside.memory) c.args.holder c.self.inside.pairs.items c.in-Some.block c.self.invariant e, omega arith) }

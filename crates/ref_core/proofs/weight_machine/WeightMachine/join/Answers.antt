@@ -10,4 +10,4 @@ invariant_of-self c = let x = c.in-Some.held in let y = c.in-Some-holding_of.end
     let f : holding_of k w.holdings ≡ Some y = subst (λ (s : WeightState). holding_of k s.holdings ≡ Some y) (sym c.self.view_is) (sym c.in-Some-holding_of.ensures.value) in
     let apart : h ≢ k = c.if-holder-other.false in let same : x.block ≡ y.block = omega arith in
     subst (λ hs. IsWeighed (record { holdings = hs; words = old.words.items; memory = old.memory }))
-    (sym (c.put_again.ensures ∙ ap (with_holding h x.block (x.weight + y.weight)) c.shift_remove.ensures.entries)) (joined_weighed w c.self.invariant h k x y e f apart same)
+    (sym (c.put_again.ensures.entries ∙ ap (with_holding h x.block (x.weight + y.weight)) c.shift_remove.ensures.entries)) (joined_weighed w c.self.invariant h k x y e f apart same)
