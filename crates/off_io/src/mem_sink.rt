@@ -37,8 +37,8 @@ impl Model for MemSink {
 
 impl MemSink {
     pub fn new(alloc: Global, step: usize, fails: Vec<u64>) -> Self
-        requires { 0 < step }
-        ensures { result ≡ record { bytes = []; is_flushed = true; step = step; fails = fails.items; calls = 0; faults = 0; refused = 0 } }
+        requires some { 0 < step }
+        ensures made { result ≡ record { bytes = []; is_flushed = true; step = step; fails = fails.items; calls = 0; faults = 0; refused = 0 } }
     {
         MemSink {
             bytes: Vec::new(alloc),
@@ -53,21 +53,21 @@ impl MemSink {
 
     /// What was written so far.
     pub fn bytes(&self) -> &[u8]
-        ensures { result.now ≡ self.now.bytes }
+        ensures bytes { result.now ≡ self.now.bytes }
     {
         &self.bytes
     }
 
     /// Whether all that was written is flushed.
     pub fn is_flushed(&self) -> bool
-        ensures { result ≡ self.now.is_flushed }
+        ensures value { result ≡ self.now.is_flushed }
     {
         self.is_flushed
     }
 
     /// How many writes were given up for want of memory.
     pub fn refused(&self) -> u64
-        ensures { result ≡ self.now.refused }
+        ensures value { result ≡ self.now.refused }
     {
         self.refused
     }

@@ -33,8 +33,8 @@ impl Model for MemSource {
 
 impl MemSource {
     pub fn new(bytes: Vec<u8>, step: usize, fails: Vec<u64>) -> Self
-        requires { 0 < step }
-        ensures { result ≡ record { rest = bytes.items; step = step; fails = fails.items; calls = 0; faults = 0 } }
+        requires some { 0 < step }
+        ensures made { result ≡ record { rest = bytes.items; step = step; fails = fails.items; calls = 0; faults = 0 } }
     {
         MemSource {
             bytes,

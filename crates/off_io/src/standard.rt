@@ -22,7 +22,7 @@ impl<R> Model for StdSource<R> {
 
 impl<R: Read> StdSource<R> {
     pub fn new(inner: R) -> Self
-        ensures { result ≡ record { inner = inner; faults = 0 } }
+        ensures made { result ≡ record { inner = inner; faults = 0 } }
     {
         StdSource { inner, faults: 0 }
     }
@@ -61,7 +61,7 @@ impl<W> Model for StdSink<W> {
 
 impl<W: Write> StdSink<W> {
     pub fn new(inner: W) -> Self
-        ensures { result ≡ record { inner = inner; faults = 0 } }
+        ensures made { result ≡ record { inner = inner; faults = 0 } }
     {
         StdSink { inner, faults: 0 }
     }

@@ -28,7 +28,7 @@ impl Model for SureSource {
 
 impl SureSource {
     pub fn new(bytes: Vec<u8>) -> Self
-        ensures { result ≡ bytes.items }
+        ensures made { result ≡ bytes.items }
     {
         SureSource { bytes, at: 0 }
     }
