@@ -1,6 +1,5 @@
 -- What a run of packets in buffers comes to.
 use Rattle.std.proofs.Common.{suc, ◌≡◌, ℕ, ◌+◌, ◌-◌, ◌<◌, ◌≤◌, ◌^◌, List, [], ◌∷◌, ◌++◌, length, get_or, map, drop, refl, sym, ap, ◌∙◌, subst, arith, length-append, length-drop}
-use Rattle.std.specs.Option.{unwrap_or}
 use Rattle.inet_sum.specs.Stands.{FoldAndLength, StandsFor}
 use Rattle.frame_layout.specs.Shape.{Layout}
 use Rattle.frame_layout.specs.Headers.{AtHeaders, AreLaid}
@@ -11,7 +10,7 @@ use Rattle.merge_rule.proofs.Knows.{bounded}
 use Rattle.frame_layout.proofs.Lemmas.{laid}
 use Rattle.pcap_io.specs.Capture.{Packet}
 use Rattle.offload_model.specs.Mergeable.{payloads_of, IsLengthInRange}
-use Rattle.offload_model.specs.Merged.{frame_at, frame_of_run, layout_of, is_fixed_in, modes_of, merged_of}
+use Rattle.offload_model.specs.Merged.{frame_at, frame_of_run, merged_of}
 use Rattle.merge_rule.specs.declared.rule.Progress.{Progress}
 use Rattle.merge_rule.specs.Runs.{IsRunOf}
 use Rattle.merge_rule.proofs.Merge.{made, made_is, laid_out, in_range, payload_short, first_short, few}

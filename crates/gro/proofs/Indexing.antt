@@ -1,23 +1,22 @@
 -- The open runs, as runs grow, are closed and are opened.
 use Rattle.std.proofs.Common.{◌≡◌, ◌≢◌, ℕ, ◌<◌, ◌≤◌, inl, inr, Bool, true, false, Option, Some, None, List, [], ◌∷◌, ◌++◌, length, get_or, set, refl, sym, ap, ◌∙◌, subst, arith, length-append}
 use Rattle.std.specs.Prelude.{if◌then◌else◌}
-use Rattle.std.specs.Str.{bytes_eq}
 use Rattle.std.proofs.lemmas.Bool.{cases_eq, cases_Bool}
 use Rattle.std.proofs.lemmas.List.{length-set, get_or-set_same, get_or-set_other, get_or_append_left, get_or_push, get_or_default}
-use Rattle.std.proofs.lemmas.Slice.Eq.{bytes_eq-Decides}
 use Rattle.maximal_runs.specs.Items.{begins_in}
 use Rattle.pcap_io.specs.Capture.{Packet}
-use Rattle.frame_layout.specs.Key.{key_of}
+use Rattle.frame_layout.specs.Key.{key_eq, key_of}
 use Rattle.offload_model.specs.Mergeable.{IsMergeable}
 use Rattle.offload_model.specs.Rounds.{is_key, is_of}
 use Rattle.offload_model.proofs.Items.{is_key_same, is_key_self}
 use Rattle.merge_rule.specs.Steps.{IsLastBelow, TakesPacket}
 use Rattle.merge_rule.proofs.Steps.{run_grows, run_opens}
 use Rattle.gro.specs.Index.{IsShut, IsFound, IsIndexOf, IsLatest}
+use Rattle.gro.proofs.Keys.{keys_equiv, key_eq_is, same_key}
 
 -- the run's first packet is of the flow with this key
-abbrev pub is_run_of : List ℕ → List Packet → Bool
-is_run_of q run = begins_in (is_of (Some q)) run
+abbrev pub is_run_of : Option (List ℕ) → List Packet → Bool
+is_run_of q run = begins_in (is_of q) run
 
 picks : {A : Type 0} (b : Bool) (x y : A) → b ≡ true → (if b then x else y) ≡ x
 picks true x y e = refl
@@ -35,18 +34,18 @@ same_last test xs ys None n same h = λ k d l. let m : k < length xs = omega ari
 same_last test xs ys (Some i) n same h =
     (omega (arith, h.0), λ d. same i d h.0 ∙ h.1 d, λ k d a l. let m : k < length xs = omega arith in same k d m ∙ h.2 k d a m)
 
-begins_same : (q : List ℕ) (run : List Packet) (x : Packet) → 1 ≤ length run → is_run_of q (run ++ (x ∷ [])) ≡ is_run_of q run
+begins_same : (q : Option (List ℕ)) (run : List Packet) (x : Packet) → 1 ≤ length run → is_run_of q (run ++ (x ∷ [])) ≡ is_run_of q run
 begins_same q [] x h = absurd (omega arith)
 begins_same q (y ∷ run) x h = refl
 
 -- a run is of one flow
-one_flow : (q r : List ℕ) (run : List Packet) → is_run_of q run ≡ true → is_run_of r run ≡ true → q ≡ r
+one_flow : (q r : Option (List ℕ)) (run : List Packet) → is_run_of q run ≡ true → is_run_of r run ≡ true → q ≡ r
 one_flow q r [] e f = absurd cc
 one_flow q r (y ∷ run) e f =
-    let s : Some q ≡ Some r = is_key_same (Some q) (key_of y.frame) e ∙ sym (is_key_same (Some r) (key_of y.frame) f) in cc
+    is_key_same q (key_of y.frame) e ∙ sym (is_key_same r (key_of y.frame) f)
 
 -- a run that is found is its flow's last
-pub found_last : (look : List ℕ → Option ℕ) (rs : List (List Packet)) (q : List ℕ) (i : ℕ) → IsIndexOf look rs → look q ≡ Some i
+pub found_last : (look : Option (List ℕ) → Option ℕ) (rs : List (List Packet)) (q : Option (List ℕ)) (i : ℕ) → IsIndexOf look rs → look q ≡ Some i
     → IsLastBelow (is_run_of q) rs (length rs) (Some i)
 found_last look rs q i index e = at (index q).0 (index q).1.0 (index q).1.1
   where
@@ -57,7 +56,7 @@ found_last look rs q i index e = at (index q).0 (index q).1.0 (index q).1.1
 
 -- ---- a run takes a packet
 
-module _ (look : List ℕ → Option ℕ) (rs : List (List Packet)) (key : List ℕ) (i : ℕ) (run : List Packet) (x : Packet)
+module _ (look : Option (List ℕ) → Option ℕ) (rs : List (List Packet)) (key : Option (List ℕ)) (i : ℕ) (run : List Packet) (x : Packet)
     (index : IsIndexOf look rs) (found : look key ≡ Some i) (is : run ≡ get_or rs i []) where
   abbrev grown : List (List Packet)
   grown = set rs i (run ++ (x ∷ []))
@@ -72,7 +71,7 @@ module _ (look : List ℕ → Option ℕ) (rs : List (List Packet)) (key : List 
       at [] e = absurd cc
       at (y ∷ r) e = omega arith
 
-  last_stays : (q : List ℕ) (o : Option ℕ) → IsLastBelow (is_run_of q) rs (length rs) o → IsLastBelow (is_run_of q) grown (length grown) o
+  last_stays : (q : Option (List ℕ)) (o : Option ℕ) → IsLastBelow (is_run_of q) rs (length rs) o → IsLastBelow (is_run_of q) grown (length grown) o
   last_stays q o l =
       same_last (is_run_of q) rs grown o (length-set rs i (run ++ (x ∷ []))) (λ k d h. elim (cases_eq k i) [
         | inl same ↦ rw same (
@@ -81,7 +80,7 @@ module _ (look : List ℕ → Option ℕ) (rs : List (List Packet)) (key : List 
         | inr other ↦ ap (is_run_of q) (get_or-set_other rs i k (run ++ (x ∷ [])) d other)
       ]) l
 
-  found_stays : (q : List ℕ) (o : Option ℕ) → IsLastBelow (is_run_of q) rs (length rs) o → IsFound rs o (look q) → IsFound grown o (look q)
+  found_stays : (q : Option (List ℕ)) (o : Option ℕ) → IsLastBelow (is_run_of q) rs (length rs) o → IsFound rs o (look q) → IsFound grown o (look q)
   found_stays q None l f = f
   found_stays q (Some j) l (inl e) = inl e
   found_stays q (Some j) l (inr e) =
@@ -91,15 +90,15 @@ module _ (look : List ℕ → Option ℕ) (rs : List (List Packet)) (key : List 
       inr (e.0, subst IsShut (sym (get_or-set_other rs i j (run ++ (x ∷ [])) [] other)) e.1)
 
   -- the run is found as long as it is open
-  pub index_grows : (next : List ℕ → Option ℕ) (is_open : Bool) → ((q : List ℕ) → next q ≡ (if bytes_eq key q then (if is_open then Some i else None) else look q))
+  pub index_grows : (next : Option (List ℕ) → Option ℕ) (is_open : Bool) → ((q : Option (List ℕ)) → next q ≡ (if key_eq key q then (if is_open then Some i else None) else look q))
       → (is_open ≡ false → IsShut (run ++ (x ∷ []))) → IsIndexOf next grown
-  index_grows next is_open puts shut = λ q. elim (cases_Bool (bytes_eq key q)) [
+  index_grows next is_open puts shut = λ q. elim (cases_Bool (key_eq key q)) [
     | inl e ↦
-        let same : key ≡ q = (bytes_eq-Decides key q).0 e in (
+        let same : key ≡ q = same_key key q e in (
           Some i,
           (
             last_stays q (Some i) (subst (λ z. IsLastBelow (is_run_of z) rs (length rs) (Some i)) same own),
-            subst (IsFound grown (Some i)) (sym (puts q ∙ picks (bytes_eq key q) (if is_open then Some i else None) (look q) e)) (at is_open shut),
+            subst (IsFound grown (Some i)) (sym (puts q ∙ picks (key_eq key q) (if is_open then Some i else None) (look q) e)) (at is_open shut),
           ),
         )
     | inr e ↦
@@ -107,7 +106,7 @@ module _ (look : List ℕ → Option ℕ) (rs : List (List Packet)) (key : List 
           o,
           (
             last_stays q o (index q).1.0,
-            subst (IsFound grown o) (sym (puts q ∙ skips (bytes_eq key q) (if is_open then Some i else None) (look q) e)) (found_stays q o (index q).1.0 (index q).1.1),
+            subst (IsFound grown o) (sym (puts q ∙ skips (key_eq key q) (if is_open then Some i else None) (look q) e)) (found_stays q o (index q).1.0 (index q).1.1),
           ),
         )
   ]
@@ -116,8 +115,8 @@ module _ (look : List ℕ → Option ℕ) (rs : List (List Packet)) (key : List 
       at true shut = inl refl
       at false shut = inr (refl, subst IsShut (sym (get_or-set_same rs i (run ++ (x ∷ [])) [] own.0)) (shut refl))
 
-  pub takes_grows : key_of x.frame ≡ Some key → IsMergeable (run ++ (x ∷ [])) → TakesPacket rs x grown
-  takes_grows k m = run_grows x (Some key) k rs i run is own m
+  pub takes_grows : key_of x.frame ≡ key → IsMergeable (run ++ (x ∷ [])) → TakesPacket rs x grown
+  takes_grows k m = run_grows x key k rs i run is own m
 
 -- ---- a packet opens a run
 
@@ -150,30 +149,21 @@ found_more rs r test None found l f = f
 found_more rs r test (Some i) found l (inl e) = inl e
 found_more rs r test (Some i) found l (inr e) = inr (e.0, subst IsShut (sym (get_or_append_left rs (r ∷ []) [] i l.0)) e.1)
 
-bytes_eq_swap : (a b : List ℕ) → bytes_eq a b ≡ bytes_eq b a
-bytes_eq_swap a b = elim (cases_Bool (bytes_eq a b)) [
-  | inl t ↦ t ∙ sym ((bytes_eq-Decides b a).1 (sym ((bytes_eq-Decides a b).0 t)))
-  | inr f ↦ elim (cases_Bool (bytes_eq b a)) [
-    | inl t ↦ absurd (let u : false ≡ true = sym f ∙ (bytes_eq-Decides a b).1 (sym ((bytes_eq-Decides b a).0 t)) in cc)
-    | inr g ↦ f ∙ sym g
-  ]
-]
-
-module _ (look next : List ℕ → Option ℕ) (rs : List (List Packet)) (x : Packet) (key : List ℕ) (index : IsIndexOf look rs) (is : key_of x.frame ≡ Some key) where
+module _ (look next : Option (List ℕ) → Option ℕ) (rs : List (List Packet)) (x : Packet) (key : Option (List ℕ)) (index : IsIndexOf look rs) (is : key_of x.frame ≡ key) where
   abbrev opened : List (List Packet)
   opened = rs ++ ((x ∷ []) ∷ [])
 
-  of_key : (q : List ℕ) → is_run_of q (x ∷ []) ≡ bytes_eq key q
-  of_key q = ap (is_key (Some q)) is ∙ bytes_eq_swap q key
+  of_key : (q : Option (List ℕ)) → is_run_of q (x ∷ []) ≡ key_eq key q
+  of_key q = ap (is_key q) is ∙ sym (key_eq_is q key) ∙ keys_equiv.symm q key
 
   -- what the flow with this key finds is `place`; another finds what it found
-  opens : (place : Option ℕ) → ((q : List ℕ) → next q ≡ (if bytes_eq key q then place else look q)) → IsFound opened (Some (length rs)) place → IsIndexOf next opened
-  opens place puts f = λ q. elim (cases_Bool (bytes_eq key q)) [
+  opens : (place : Option ℕ) → ((q : Option (List ℕ)) → next q ≡ (if key_eq key q then place else look q)) → IsFound opened (Some (length rs)) place → IsIndexOf next opened
+  opens place puts f = λ q. elim (cases_Bool (key_eq key q)) [
     | inl e ↦ (
       Some (length rs),
       (
         one_more_own (is_run_of q) rs (x ∷ []) (of_key q ∙ e),
-        subst (IsFound opened (Some (length rs))) (sym (puts q ∙ picks (bytes_eq key q) place (look q) e)) f,
+        subst (IsFound opened (Some (length rs))) (sym (puts q ∙ picks (key_eq key q) place (look q) e)) f,
       ),
     )
     | inr e ↦
@@ -181,12 +171,12 @@ module _ (look next : List ℕ → Option ℕ) (rs : List (List Packet)) (x : Pa
           o,
           (
             one_more_other (is_run_of q) rs (x ∷ []) o (of_key q ∙ e) (index q).1.0,
-            subst (IsFound opened o) (sym (puts q ∙ skips (bytes_eq key q) place (look q) e)) (found_more rs (x ∷ []) (is_run_of q) o (look q) (index q).1.0 (index q).1.1),
+            subst (IsFound opened o) (sym (puts q ∙ skips (key_eq key q) place (look q) e)) (found_more rs (x ∷ []) (is_run_of q) o (look q) (index q).1.0 (index q).1.1),
           ),
         )
   ]
 
-  pub index_opens : (i : ℕ) (is_open : Bool) → i ≡ length rs → ((q : List ℕ) → next q ≡ (if bytes_eq key q then (if is_open then Some i else None) else look q))
+  pub index_opens : (i : ℕ) (is_open : Bool) → i ≡ length rs → ((q : Option (List ℕ)) → next q ≡ (if key_eq key q then (if is_open then Some i else None) else look q))
       → (is_open ≡ false → IsShut (x ∷ [])) → IsIndexOf next opened
   index_opens i is_open e puts shut = opens (if is_open then Some i else None) puts (at is_open shut)
     where
@@ -196,7 +186,7 @@ module _ (look next : List ℕ → Option ℕ) (rs : List (List Packet)) (x : Pa
 
   -- where the flow finds no run that takes the packet
   pub takes_opens : ((i : ℕ) → look key ≡ Some i → IsMergeable (get_or rs i [] ++ (x ∷ [])) → ⊥) → TakesPacket rs x opened
-  takes_opens not = run_opens x (Some key) is rs (index key).0 (index key).1.0 (λ i e m. at (index key).0 (index key).1.1 i e m)
+  takes_opens not = run_opens x key is rs (index key).0 (index key).1.0 (λ i e m. at (index key).0 (index key).1.1 i e m)
     where
       at : (o : Option ℕ) → IsFound rs o (look key) → (i : ℕ) → o ≡ Some i → IsMergeable (get_or rs i [] ++ (x ∷ [])) → ⊥
       at None f i e m = absurd cc
@@ -205,29 +195,20 @@ module _ (look next : List ℕ → Option ℕ) (rs : List (List Packet)) (x : Pa
           let s : j ≡ i = cc in
           f.1 x (subst (λ z. IsMergeable (get_or rs z [] ++ (x ∷ []))) (sym s) m)
 
--- a packet that has no key
-pub index_other : (look : List ℕ → Option ℕ) (rs : List (List Packet)) (x : Packet) → IsIndexOf look rs → key_of x.frame ≡ None → IsIndexOf look (rs ++ ((x ∷ []) ∷ []))
-index_other look rs x index is = λ q.
-    let o : Option ℕ = (index q).0 in (
-      o,
-      (
-        one_more_other (is_run_of q) rs (x ∷ []) o (ap (is_key (Some q)) is) (index q).1.0,
-        found_more rs (x ∷ []) (is_run_of q) o (look q) (index q).1.0 (index q).1.1,
-      ),
-    )
-
 -- no runs yet
-pub index_none : (look : List ℕ → Option ℕ) → ((q : List ℕ) → look q ≡ None) → IsIndexOf look []
+pub index_none : (look : Option (List ℕ) → Option ℕ) → ((q : Option (List ℕ)) → look q ≡ None) → IsIndexOf look []
 index_none look none = λ q. (None, ((λ k d h. absurd (omega arith)), none q))
 
 -- ---- the run that the last packet is in
 
-pub latest_of : (look : List ℕ → Option ℕ) (rs : List (List Packet)) (key : List ℕ) (i : ℕ) (is_open : Bool) → i < length rs → is_run_of key (get_or rs i []) ≡ true
+pub latest_of : (look : Option (List ℕ) → Option ℕ) (rs : List (List Packet)) (key : Option (List ℕ)) (i : ℕ) (is_open : Bool) → i < length rs → is_run_of key (get_or rs i []) ≡ true
     → look key ≡ (if is_open then Some i else None) → IsLatest look rs (if is_open then Some i else None)
 latest_of look rs key i true h b e = (h, λ q t. ap look (one_flow q key (get_or rs i []) t b) ∙ e)
 latest_of look rs key i false h b e = tt
 
 -- the packet that it takes finds it
-pub latest_found : (look : List ℕ → Option ℕ) (rs : List (List Packet)) (i : ℕ) (first x : Packet) (rest : List Packet) → IsLatest look rs (Some i) → get_or rs i [] ≡ first ∷ rest
-    → key_of x.frame ≡ key_of first.frame → (q : List ℕ) → key_of first.frame ≡ Some q → look q ≡ Some i
-latest_found look rs i first x rest l e k q s = l.1 q (ap (is_run_of q) e ∙ ap (is_key (Some q)) s ∙ is_key_self (Some q))
+pub latest_found : (look : Option (List ℕ) → Option ℕ) (rs : List (List Packet)) (i : ℕ) (first x : Packet) (rest : List Packet) → IsLatest look rs (Some i) → get_or rs i [] ≡ first ∷ rest
+    → key_of x.frame ≡ key_of first.frame → look (key_of x.frame) ≡ Some i
+latest_found look rs i first x rest l e k =
+    let key : Option (List ℕ) = key_of x.frame in
+    l.1 key (ap (is_run_of key) e ∙ ap (is_key key) (sym k) ∙ is_key_self key)

@@ -1,4 +1,5 @@
 mod Flowing
+mod Keys
 mod Comes
 mod Joined
 mod Lent

@@ -6,13 +6,11 @@ use Rattle.std.proofs.lemmas.List.{map-append, map-set, get_or-map, length-map, 
 use Rattle.std.proofs.Math.Seq.{map-set_same}
 use Rattle.maximal_runs.specs.Items.{begins_in, first_number}
 use Rattle.maximal_runs.proofs.Pass.{all_append}
-use Rattle.std.specs.Str.{bytes_eq}
 use Rattle.std.proofs.lemmas.Bool.{cases_Bool}
-use Rattle.std.proofs.lemmas.Slice.Eq.{bytes_eq-Decides}
 use Rattle.inet_sum.specs.Stands.{FoldAndLength}
 use Rattle.frame_layout.specs.Shape.{Layout}
 use Rattle.pcap_io.specs.Capture.{Packet}
-use Rattle.frame_layout.specs.Key.{key_of}
+use Rattle.frame_layout.specs.Key.{key_eq, key_of}
 use Rattle.skb.specs.SkbState.{buffer_bytes}
 use Rattle.offload_model.specs.Mergeable.{IsMergeable}
 use Rattle.offload_model.specs.Rounds.{is_key, is_of, number_of}
@@ -20,7 +18,7 @@ use Rattle.offload_model.proofs.Items.{is_key_self, is_key_same}
 use Rattle.merge_rule.specs.Steps.{IsLastBelow, TakesPacket, KeepsEarly}
 use Rattle.merge_rule.specs.Runs.{IsJudged}
 use Rattle.merge_rule.proofs.Knows.{shut_by, no_first}
-use Rattle.merge_rule.proofs.Steps.{early_grows, other_opens, never}
+use Rattle.merge_rule.proofs.Steps.{early_grows}
 use Rattle.gro.specs.declared.packet.Packet.{Packet as Held}
 use Rattle.gro.specs.declared.run.Run.{Run}
 use Rattle.gro.specs.declared.runs.Runs.{Runs}
@@ -30,7 +28,8 @@ use Rattle.gro.specs.Flows.{place_of, AreFlows, Puts}
 use Rattle.gro.specs.Index.{IsShut, IsFound, IsIndexOf, IsLatest}
 use Rattle.gro.specs.Totals.{total, totals}
 use Rattle.gro.specs.Steps.{held_in, packets_in, AreRuns, HasPlaces, Takes}
-use Rattle.gro.proofs.Indexing.{found_last, index_grows, takes_grows, index_opens, takes_opens, index_other, index_none, latest_of, latest_found}
+use Rattle.gro.proofs.Indexing.{found_last, index_grows, takes_grows, index_opens, takes_opens, index_none, latest_of, latest_found}
+use Rattle.gro.proofs.Keys.{keys_equiv, same_key}
 
 -- ---- lists
 
@@ -77,9 +76,9 @@ run_shut : (r : Run) → IsRun r → r.progress.is_open ≡ false → IsShut (pa
 run_shut r is e = λ x m. shut_by r.layout r.payload r.flags r.progress (packet_of r.first) x (map packet_of r.rest.items) is.run e m
 
 -- what finds nothing finds nothing else
-keeps_none : (look : List ℕ → Option ℕ) (key q : List ℕ) → look key ≡ None → look q ≡ (if bytes_eq key q then None else look q)
-keeps_none look key q e = elim (cases_Bool (bytes_eq key q)) [
-  | inl t ↦ ap look (sym ((bytes_eq-Decides key q).0 t)) ∙ e ∙ sym (ap (λ (b : Bool). if b then None else look q) t)
+keeps_none : (look : Option (List ℕ) → Option ℕ) (key q : Option (List ℕ)) → look key ≡ None → look q ≡ (if key_eq key q then None else look q)
+keeps_none look key q e = elim (cases_Bool (key_eq key q)) [
+  | inl t ↦ ap look (sym (same_key key q t)) ∙ e ∙ sym (ap (λ (b : Bool). if b then None else look q) t)
   | inr f ↦ sym (ap (λ (b : Bool). if b then None else look q) f)
 ]
 
@@ -114,7 +113,7 @@ module _ (a b : Runs) (p : Held) (r : Run) (runs : AreRuns a) (items : b.list.it
     places = places;
   }
 
-  opens_at : (key : List ℕ) (i : ℕ) (is_open : Bool) → key_of (buffer_bytes p.skb) ≡ Some key → i ≡ length a.list.items → AreFlows b.flows
+  opens_at : (key : Option (List ℕ)) (i : ℕ) (is_open : Bool) → key_of (buffer_bytes p.skb) ≡ key → i ≡ length a.list.items → AreFlows b.flows
       → Puts a.flows key (if is_open then Some i else None) b.flows → (is_open ≡ false → IsShut (packet_of p ∷ []))
       → ((j : ℕ) → place_of a.flows key ≡ Some j → IsMergeable (get_or (packets_in a) j [] ++ (packet_of p ∷ [])) → ⊥)
       → IsLatest (place_of b.flows) (packets_in a ++ ((packet_of p ∷ []) ∷ [])) b.last → Takes a p b
@@ -123,16 +122,16 @@ module _ (a b : Runs) (p : Held) (r : Run) (runs : AreRuns a) (items : b.list.it
       (takes_opens (place_of a.flows) (place_of b.flows) (packets_in a) (packet_of p) key runs.index k not)
       latest
 
-  latest_opened : (key : List ℕ) (i : ℕ) (is_open : Bool) → key_of (buffer_bytes p.skb) ≡ Some key → i ≡ length a.list.items → Puts a.flows key (if is_open then Some i else None) b.flows
+  latest_opened : (key : Option (List ℕ)) (i : ℕ) (is_open : Bool) → key_of (buffer_bytes p.skb) ≡ key → i ≡ length a.list.items → Puts a.flows key (if is_open then Some i else None) b.flows
       → b.last ≡ (if is_open then Some i else None) → IsLatest (place_of b.flows) (packets_in a ++ ((packet_of p ∷ []) ∷ [])) b.last
   latest_opened key i is_open k e puts last =
       let n : i ≡ length (packets_in a) = e ∙ sym (length-map a.list.items packets_of) in
       subst (IsLatest (place_of b.flows) (packets_in a ++ ((packet_of p ∷ []) ∷ []))) (sym last)
       (latest_of (place_of b.flows) (packets_in a ++ ((packet_of p ∷ []) ∷ [])) key i is_open (omega (arith, n, length-append (packets_in a) ((packet_of p ∷ []) ∷ [])))
-      (ap (begins_in (is_of (Some key))) (get_or_push (packets_in a) (packet_of p ∷ []) [] i (sym n)) ∙ ap (is_key (Some key)) k ∙ is_key_self (Some key))
-      (puts key ∙ ap (λ (b : Bool). if b then (if is_open then Some i else None) else place_of a.flows key) ((bytes_eq-Decides key key).1 refl)))
+      (ap (begins_in (is_of key)) (get_or_push (packets_in a) (packet_of p ∷ []) [] i (sym n)) ∙ ap (is_key key) k ∙ is_key_self key)
+      (puts key ∙ ap (λ (b : Bool). if b then (if is_open then Some i else None) else place_of a.flows key) (keys_equiv.refl key)))
 
-  pub opens_run : (key : List ℕ) (i : ℕ) → key_of (buffer_bytes p.skb) ≡ Some key → i ≡ length a.list.items → AreFlows b.flows
+  pub opens_run : (key : Option (List ℕ)) (i : ℕ) → key_of (buffer_bytes p.skb) ≡ key → i ≡ length a.list.items → AreFlows b.flows
       → Puts a.flows key (if r.progress.is_open then Some i else None) b.flows
       → ((j : ℕ) → place_of a.flows key ≡ Some j → IsMergeable (get_or (packets_in a) j [] ++ (packet_of p ∷ [])) → ⊥)
       → b.last ≡ (if r.progress.is_open then Some i else None) → Takes a p b
@@ -142,25 +141,15 @@ module _ (a b : Runs) (p : Held) (r : Run) (runs : AreRuns a) (items : b.list.it
   latest_none : b.last ≡ None → IsLatest (place_of b.flows) (packets_in a ++ ((packet_of p ∷ []) ∷ [])) b.last
   latest_none e = subst (IsLatest (place_of b.flows) (packets_in a ++ ((packet_of p ∷ []) ∷ []))) (sym e) tt
 
-  opens_other : key_of (buffer_bytes p.skb) ≡ None → b.flows ≡ a.flows → b.last ≡ None → Takes a p b
-  opens_other k e last = opened_by (subst AreFlows (sym e) runs.flows)
-      (subst (λ z. IsIndexOf (place_of z) (packets_in a ++ ((packet_of p ∷ []) ∷ []))) (sym e) (index_other (place_of a.flows) (packets_in a) (packet_of p) runs.index k))
-      (other_opens (packet_of p) k (packets_in a))
+  -- a packet that no other joins, of a flow that finds nothing
+  pub opens_alone : place_of a.flows (key_of (buffer_bytes p.skb)) ≡ None → IsShut (packet_of p ∷ []) → b.flows ≡ a.flows → b.last ≡ None → Takes a p b
+  opens_alone none shut e last =
+      let key : Option (List ℕ) = key_of (buffer_bytes p.skb) in
+      opens_at key (length a.list.items) false refl refl (subst AreFlows (sym e) runs.flows)
+      (λ q. ap (λ z. place_of z q) e ∙ keeps_none (place_of a.flows) key q none)
+      (λ s. shut)
+      (λ j g m. let t : None ≡ Some j = sym none ∙ g in absurd cc)
       (latest_none last)
-
-  -- a packet of no flow, or of a flow that finds nothing, that no other joins
-  pub opens_alone : ((q : List ℕ) → key_of (buffer_bytes p.skb) ≡ Some q → (place_of a.flows q ≡ None) × IsShut (packet_of p ∷ [])) → b.flows ≡ a.flows → b.last ≡ None → Takes a p b
-  opens_alone alone e last = at (key_of (buffer_bytes p.skb)) refl
-    where
-      at : (k : Option (List ℕ)) → key_of (buffer_bytes p.skb) ≡ k → Takes a p b
-      at None k = opens_other k e last
-      at (Some key) k =
-          let f = alone key k in
-          opens_at key (length a.list.items) false k refl (subst AreFlows (sym e) runs.flows)
-          (λ q. ap (λ z. place_of z q) e ∙ keeps_none (place_of a.flows) key q f.0)
-          (λ s. f.1)
-          (λ j g m. let t : None ≡ Some j = sym f.0 ∙ g in absurd cc)
-          (latest_none last)
 
 -- the run at a place: what it holds is within what all hold
 module _ (a : Runs) (i : ℕ) (old : Run) (runs : AreRuns a) (h : i < length a.list.items) (was : old ≡ get_or a.list.items i old) where
@@ -171,8 +160,8 @@ module _ (a : Runs) (i : ℕ) (old : Run) (runs : AreRuns a) (h : i < length a.l
   few_at = omega (arith, run_in.count, counts_total (held_of old), ap (λ z. total count_of (held_of z)) was, one_of_all count_of a.list.items i old h)
 
 -- the run that is found
-module _ (a : Runs) (key : List ℕ) (i : ℕ) (runs : AreRuns a) (found : place_of a.flows key ≡ Some i) where
-  last : IsLastBelow (begins_in (is_of (Some key))) (packets_in a) (length (packets_in a)) (Some i)
+module _ (a : Runs) (key : Option (List ℕ)) (i : ℕ) (runs : AreRuns a) (found : place_of a.flows key ≡ Some i) where
+  last : IsLastBelow (begins_in (is_of key)) (packets_in a) (length (packets_in a)) (Some i)
   last = found_last (place_of a.flows) (packets_in a) key i runs.index found
 
   pub inside : i < length a.list.items
@@ -189,7 +178,7 @@ module _ (a : Runs) (key : List ℕ) (i : ℕ) (runs : AreRuns a) (found : place
   few_more old was = few_at a i old runs inside was
 
 -- a run takes a packet
-module _ (a b : Runs) (p : Held) (key : List ℕ) (i : ℕ) (old new : Run) (runs : AreRuns a) (found : place_of a.flows key ≡ Some i) (was : old ≡ get_or a.list.items i old)
+module _ (a b : Runs) (p : Held) (key : Option (List ℕ)) (i : ℕ) (old new : Run) (runs : AreRuns a) (found : place_of a.flows key ≡ Some i) (was : old ≡ get_or a.list.items i old)
     (items : b.list.items ≡ set a.list.items i new) (is : IsRun new) (more : held_of new ≡ held_of old ++ (p ∷ [])) where
   within : i < length a.list.items
   within = inside a key i runs found
@@ -207,10 +196,10 @@ module _ (a b : Runs) (p : Held) (key : List ℕ) (i : ℕ) (old new : Run) (run
   now_there = ap (λ (z : List (List Packet)). get_or z i []) (ap (map packets_of) items ∙ map-set packets_of a.list.items i new)
       ∙ get_or-set_same (packets_in a) i (packets_of new) [] (omega (arith, within, length-map a.list.items packets_of))
 
-  new_key : begins_in (is_of (Some key)) (packets_of new) ≡ true
-  new_key = ap (begins_in (is_of (Some key))) grown ∙ ap (begins_in (is_of (Some key))) there ∙ (last a key i runs found).1 []
+  new_key : begins_in (is_of key) (packets_of new) ≡ true
+  new_key = ap (begins_in (is_of key)) grown ∙ ap (begins_in (is_of key)) there ∙ (last a key i runs found).1 []
 
-  pub grows_run : key_of (buffer_bytes p.skb) ≡ Some key → AreFlows b.flows → Puts a.flows key (if new.progress.is_open then Some i else None) b.flows
+  pub grows_run : key_of (buffer_bytes p.skb) ≡ key → AreFlows b.flows → Puts a.flows key (if new.progress.is_open then Some i else None) b.flows
       → IsMergeable (get_or (packets_in a) i [] ++ (packet_of p ∷ [])) → ((n : ℕ) → HasPlaces a (n + 1) → HasPlaces b n)
       → b.last ≡ (if new.progress.is_open then Some i else None) → Takes a p b
   grows_run k flows puts m places latest = record {
@@ -222,12 +211,12 @@ module _ (a b : Runs) (p : Held) (key : List ℕ) (i : ℕ) (old new : Run) (run
           (λ s. subst IsShut grown (run_shut new is s)));
       latest = subst (IsLatest (place_of b.flows) (packets_in b)) (sym latest)
           (latest_of (place_of b.flows) (packets_in b) key i new.progress.is_open (omega (arith, within, ap length items, length-set a.list.items i new, length-map b.list.items packets_of))
-          (ap (begins_in (is_of (Some key))) now_there ∙ new_key)
-          (puts key ∙ ap (λ (b : Bool). if b then (if new.progress.is_open then Some i else None) else place_of a.flows key) ((bytes_eq-Decides key key).1 refl)));
+          (ap (begins_in (is_of key)) now_there ∙ new_key)
+          (puts key ∙ ap (λ (b : Bool). if b then (if new.progress.is_open then Some i else None) else place_of a.flows key) (keys_equiv.refl key)));
     };
     takes = subst (TakesPacket (packets_in a) (packet_of p)) (sym all_packets)
         (takes_grows (place_of a.flows) (packets_in a) key i (packets_of old) (packet_of p) runs.index found there k (subst (λ z. IsMergeable (z ++ (packet_of p ∷ []))) (sym there) m));
-    early = subst (KeepsEarly (packets_in a) (packet_of p)) (sym all_packets) (early_grows (packets_in a) (Some key) i (packet_of p) (packets_of old) there (last a key i runs found));
+    early = subst (KeepsEarly (packets_in a) (packet_of p)) (sym all_packets) (early_grows (packets_in a) key i (packet_of p) (packets_of old) there (last a key i runs found));
     same = λ f. ap (λ z. totals f (map held_of z)) items ∙ totals_set f a.list.items i old new p within was more;
     places = places;
   }
@@ -251,7 +240,7 @@ module _ (a b : Runs) (i : ℕ) (old new : Run) (was : old ≡ get_or a.list.ite
   }
 
 -- no runs yet
-pub no_runs : (a : Runs) → a.list.items ≡ [] → AreFlows a.flows → ((q : List ℕ) → place_of a.flows q ≡ None) → a.last ≡ None → AreRuns a
+pub no_runs : (a : Runs) → a.list.items ≡ [] → AreFlows a.flows → ((q : Option (List ℕ)) → place_of a.flows q ≡ None) → a.last ≡ None → AreRuns a
 no_runs a e flows none last = record {
   each = subst (AllByRecursion IsRun) (sym e) tt;
   flows = flows;
@@ -259,15 +248,15 @@ no_runs a e flows none last = record {
   latest = subst (IsLatest (place_of a.flows) (packets_in a)) (sym last) tt;
 }
 
-index_again : (look again : List ℕ → Option ℕ) (rs : List (List Packet)) → ((q : List ℕ) → again q ≡ look q) → IsIndexOf look rs → IsIndexOf again rs
+index_again : (look again : Option (List ℕ) → Option ℕ) (rs : List (List Packet)) → ((q : Option (List ℕ)) → again q ≡ look q) → IsIndexOf look rs → IsIndexOf again rs
 index_again look again rs same i = λ q. let x = i q in (x.0, (x.1.0, subst (IsFound rs x.0) (sym (same q)) x.1.1))
 
-latest_again : (look again : List ℕ → Option ℕ) (rs : List (List Packet)) (last : Option ℕ) → ((q : List ℕ) → again q ≡ look q) → IsLatest look rs last → IsLatest again rs last
+latest_again : (look again : Option (List ℕ) → Option ℕ) (rs : List (List Packet)) (last : Option ℕ) → ((q : Option (List ℕ)) → again q ≡ look q) → IsLatest look rs last → IsLatest again rs last
 latest_again look again rs None same l = tt
 latest_again look again rs (Some i) same l = (l.0, λ q b. same q ∙ l.1 q b)
 
 -- the same runs, where each key finds what it did
-pub runs_again : (a b : Runs) → b.list.items ≡ a.list.items → AreFlows b.flows → ((q : List ℕ) → place_of b.flows q ≡ place_of a.flows q) → b.last ≡ a.last → AreRuns a → AreRuns b
+pub runs_again : (a b : Runs) → b.list.items ≡ a.list.items → AreFlows b.flows → ((q : Option (List ℕ)) → place_of b.flows q ≡ place_of a.flows q) → b.last ≡ a.last → AreRuns a → AreRuns b
 runs_again a b items flows same last runs = record {
   each = subst (AllByRecursion IsRun) (sym items) runs.each;
   flows = flows;
@@ -277,32 +266,34 @@ runs_again a b items flows same last runs = record {
 }
 
 -- the last packet's run takes a packet, and its flow is told by its first packet
-module _ (a b : Runs) (p : Held) (i : ℕ) (old new : Run) (runs : AreRuns a) (found : (q : List ℕ) → key_of (buffer_bytes p.skb) ≡ Some q → place_of a.flows q ≡ Some i)
+module _ (a b : Runs) (p : Held) (i : ℕ) (old new : Run) (runs : AreRuns a) (found : place_of a.flows (key_of (buffer_bytes p.skb)) ≡ Some i)
     (was : old ≡ get_or a.list.items i old) (items : b.list.items ≡ set a.list.items i new) (is : IsRun new) (more : held_of new ≡ held_of old ++ (p ∷ [])) where
-  first_key : (q : List ℕ) → place_of a.flows q ≡ Some i → key_of (buffer_bytes new.first.skb) ≡ Some q
-  first_key q f = sym (is_key_same (Some q) (key_of (buffer_bytes new.first.skb)) (new_key a b p q i old new runs f was items is more))
+  abbrev own_key : Option (List ℕ)
+  own_key = key_of (buffer_bytes p.skb)
 
-  pub extends_run : AreFlows b.flows
-      → ((q : List ℕ) → key_of (buffer_bytes new.first.skb) ≡ Some q → Puts a.flows q (if new.progress.is_open then place_of a.flows q else None) b.flows)
+  abbrev first_key : Option (List ℕ)
+  first_key = key_of (buffer_bytes new.first.skb)
+
+  one_key : own_key ≡ first_key
+  one_key = is_key_same own_key first_key (new_key a b p own_key i old new runs found was items is more)
+
+  pub extends_run : AreFlows b.flows → Puts a.flows first_key (if new.progress.is_open then place_of a.flows first_key else None) b.flows
       → IsMergeable (get_or (packets_in a) i [] ++ (packet_of p ∷ [])) → ((n : ℕ) → HasPlaces a (n + 1) → HasPlaces b n)
       → b.last ≡ (if new.progress.is_open then Some i else None) → Takes a p b
-  extends_run flows puts m places latest = at (key_of (buffer_bytes p.skb)) refl
-    where
-      at : (k : Option (List ℕ)) → key_of (buffer_bytes p.skb) ≡ k → Takes a p b
-      at None k = absurd (never (packet_of p) k (get_or (packets_in a) i []) m)
-      at (Some q) k =
-          let f : place_of a.flows q ≡ Some i = found q k in
-          grows_run a b p q i old new runs f was items is more k flows
-          (λ r. puts q (first_key q f) r ∙ ap (λ (o : Option ℕ). if bytes_eq q r then (if new.progress.is_open then o else None) else place_of a.flows r) f)
-          m places latest
+  extends_run flows puts m places latest =
+      let there : place_of a.flows first_key ≡ Some i = ap (place_of a.flows) (sym one_key) ∙ found in
+      grows_run a b p own_key i old new runs found was items is more refl flows
+      (λ r. puts r ∙ ap (λ (o : Option ℕ). if key_eq first_key r then (if new.progress.is_open then o else None) else place_of a.flows r) there
+      ∙ ap (λ z. if key_eq z r then (if new.progress.is_open then Some i else None) else place_of a.flows r) (sym one_key))
+      m places latest
 
 -- what the last packet's run takes finds it
-pub last_finds : (a : Runs) (i : ℕ) (run : Run) (x : Held) → AreRuns a → a.last ≡ Some i → run ≡ get_or a.list.items i run → key_of (buffer_bytes x.skb) ≡ key_of (buffer_bytes run.first.skb)
-    → (q : List ℕ) → key_of (buffer_bytes x.skb) ≡ Some q → place_of a.flows q ≡ Some i
-last_finds a i run x runs last was k q s =
+pub last_finds : (a : Runs) (i : ℕ) (run : Run) (x : Held) → AreRuns a → a.last ≡ Some i → run ≡ get_or a.list.items i run
+    → key_of (buffer_bytes x.skb) ≡ key_of (buffer_bytes run.first.skb) → place_of a.flows (key_of (buffer_bytes x.skb)) ≡ Some i
+last_finds a i run x runs last was k =
     let l : IsLatest (place_of a.flows) (packets_in a) (Some i) = subst (IsLatest (place_of a.flows) (packets_in a)) last runs.latest in
     latest_found (place_of a.flows) (packets_in a) i (packet_of run.first) (packet_of x) (map packet_of run.rest.items) l
-    (get_or-map packets_of a.list.items i run [] (omega (arith, l.0, length-map a.list.items packets_of)) ∙ ap packets_of (sym was)) k q (sym k ∙ s)
+    (get_or-map packets_of a.list.items i run [] (omega (arith, l.0, length-map a.list.items packets_of)) ∙ ap packets_of (sym was)) k
 
 pub last_inside : (a : Runs) (i : ℕ) → AreRuns a → a.last ≡ Some i → i < length a.list.items
 last_inside a i runs last =

@@ -1,5 +1,5 @@
 -- How buffers are joined: their first bytes in one block, and the rest behind it, uncopied.
-use Rattle.std.specs.Prelude.{ℕ, ◌≡◌, ◌+◌, ◌-◌, ◌*◌, ◌<◌, ◌≤◌, List, [], ◌∷◌, ◌++◌, length, drop, slice_range}
+use Rattle.std.specs.Prelude.{ℕ, ◌≡◌, ◌+◌, ◌-◌, ◌*◌, ◌<◌, ◌≤◌, List, [], ◌∷◌, ◌++◌, length, drop}
 use Rattle.std.specs.List.{AllByRecursion, flat_map}
 use Rattle.raw_block.specs.Views.{SoleState}
 use Rattle.frags.specs.Account.{Keeps, both, of_outcomes}

@@ -1,10 +1,10 @@
 -- Packets in buffers, and what they hold.
-use Rattle.std.specs.Prelude.{ℕ, ◌≡◌, ◌+◌, ◌≤◌, List, [], ◌∷◌, length, min, false}
+use Rattle.std.specs.Prelude.{ℕ, ◌≡◌, ◌+◌, ◌≤◌, List, [], ◌∷◌, length, false}
 use Rattle.std.specs.List.{AllByRecursion}
 use Rattle.pcap_io.specs.Capture.{Packet}
 use Rattle.frags.specs.Account.{Account, both, of_sole}
 use Rattle.frags.specs.declared.holder.Holder.{Holder}
-use Rattle.skb.specs.SkbState.{SkbState, buffer_bytes, buffer_size, head_size, buffer_least, is_sole, of_buffer}
+use Rattle.skb.specs.SkbState.{buffer_bytes, buffer_size, buffer_least, is_sole, of_buffer}
 use Rattle.skb.specs.Moving.{HandedOn}
 use Rattle.skb.specs.Fronts.{IsFronted}
 use Rattle.gro.specs.declared.packet.Packet.{Packet as Held}

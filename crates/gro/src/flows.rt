@@ -2,7 +2,7 @@
 ghost use Rattle.std.specs.Prelude.{◌≡◌, ◌+◌, ◌≤◌, Option, Some, None, IsSome, List, ℕ, length, IfOk, OnOk, IfSome, IfNone, true, if◌then◌else◌};
 ghost use Rattle.gro.specs.Flows.{slot_of, place_of, AreFlows, Puts, HasRoom};
 
-use crate::flow_key::FlowKey;
+use frame_layout::Key;
 use slab::Slab;
 use std::alloc::{AllocError, Global};
 use std::collections::HashMap;
@@ -12,7 +12,7 @@ use std::collections::HashMap;
 #[derive(Drop)]
 pub(crate) struct Flows {
     pub open: Slab<usize>,
-    pub slots: HashMap<FlowKey, usize>,
+    pub slots: HashMap<Key, usize>,
 }
 
 /// The slot and the place of a flow's open run.
@@ -26,7 +26,7 @@ impl Flows {
     /// No flow has an open run yet. The memory for n is taken.
     pub(crate) fn with_capacity(alloc: Global, n: usize) -> Result<Flows, AllocError>
         ensures flows { IfOk result AreFlows }
-        ensures none { IfOk result (λ f. (q : List ℕ) → place_of f q ≡ None) }
+        ensures none { IfOk result (λ f. (q : Option (List ℕ)) → place_of f q ≡ None) }
         ensures room { IfOk result (λ f. HasRoom f n) }
     {
         let open = Slab::with_capacity(alloc, n)?;
@@ -38,7 +38,7 @@ impl Flows {
     pub(crate) fn reserve(&mut self, n: usize) -> Result<(), AllocError>
         requires flows { AreFlows self.old }
         ensures flows { AreFlows self.new }
-        ensures same { (q : List ℕ) → place_of self.new q ≡ place_of self.old q }
+        ensures same { (q : Option (List ℕ)) → place_of self.new q ≡ place_of self.old q }
         ensures room { OnOk result (HasRoom self.new n) }
         ensures later { (k : ℕ) → HasRoom self.old k → HasRoom self.new k }
     {
@@ -49,7 +49,7 @@ impl Flows {
     /// No flow has an open run any more. The memory stays.
     pub(crate) fn clear(&mut self)
         ensures flows { AreFlows self.new }
-        ensures none { (q : List ℕ) → place_of self.new q ≡ None }
+        ensures none { (q : Option (List ℕ)) → place_of self.new q ≡ None }
         ensures room { HasRoom self.new 0 }
     {
         self.open.clear();
@@ -58,13 +58,13 @@ impl Flows {
 
     /// Whether no flow has an open run.
     pub(crate) fn is_empty(&self) -> bool
-        ensures none { result ≡ true → (q : List ℕ) → place_of self.now q ≡ None }
+        ensures none { result ≡ true → (q : Option (List ℕ)) → place_of self.now q ≡ None }
     {
         self.slots.is_empty()
     }
 
     /// The open run of the flow with this key.
-    pub(crate) fn find(&self, key: &FlowKey) -> Option<Found>
+    pub(crate) fn find(&self, key: &Key) -> Option<Found>
         requires flows { AreFlows self.now }
         ensures none { IfNone result (place_of self.now key.now ≡ None) }
         ensures slot { IfSome result (λ f. slot_of self.now key.now ≡ Some f.slot) }
@@ -76,7 +76,7 @@ impl Flows {
     }
 
     // A flow that had no open run has one.
-    fn enter(&mut self, key: FlowKey, place: usize)
+    fn enter(&mut self, key: Key, place: usize)
         requires flows { AreFlows self.old }
         requires fresh { place_of self.old key ≡ None }
         requires room { HasRoom self.old 1 }
@@ -89,7 +89,7 @@ impl Flows {
     }
 
     // The flow's open run is another: the closed one leaves its slot, and this one takes it.
-    fn replace(&mut self, key: &FlowKey, slot: usize, place: usize)
+    fn replace(&mut self, key: &Key, slot: usize, place: usize)
         requires flows { AreFlows self.old }
         requires found { slot_of self.old key.now ≡ Some slot }
         ensures flows { AreFlows self.new }
@@ -103,7 +103,7 @@ impl Flows {
     }
 
     // The flow has no open run any more.
-    fn leave(&mut self, key: &FlowKey, slot: usize)
+    fn leave(&mut self, key: &Key, slot: usize)
         requires flows { AreFlows self.old }
         requires found { slot_of self.old key.now ≡ Some slot }
         ensures flows { AreFlows self.new }
@@ -115,7 +115,7 @@ impl Flows {
     }
 
     /// A flow of which none is found has a new run at this place. It is found where it is open.
-    pub(crate) fn begin(&mut self, key: FlowKey, place: usize, is_open: bool)
+    pub(crate) fn begin(&mut self, key: Key, place: usize, is_open: bool)
         requires flows { AreFlows self.old }
         requires none { place_of self.old key ≡ None }
         requires room { HasRoom self.old 1 }
@@ -129,7 +129,7 @@ impl Flows {
     }
 
     /// A flow of which a run was found has a new run at this place, which is found in the other's stead where it is open.
-    pub(crate) fn follow(&mut self, key: &FlowKey, slot: usize, place: usize, is_open: bool)
+    pub(crate) fn follow(&mut self, key: &Key, slot: usize, place: usize, is_open: bool)
         requires flows { AreFlows self.old }
         requires found { slot_of self.old key.now ≡ Some slot }
         ensures flows { AreFlows self.new }
@@ -144,7 +144,7 @@ impl Flows {
     }
 
     /// The run that was found of a flow has one more packet. It is found as long as it is open.
-    pub(crate) fn keep(&mut self, key: &FlowKey, found: Found, is_open: bool)
+    pub(crate) fn keep(&mut self, key: &Key, found: Found, is_open: bool)
         requires flows { AreFlows self.old }
         requires slot { slot_of self.old key.now ≡ Some found.slot }
         requires place { place_of self.old key.now ≡ Some found.place }
@@ -158,7 +158,7 @@ impl Flows {
     }
 
     /// Nothing is found of the flow any more.
-    pub(crate) fn forget(&mut self, key: &FlowKey)
+    pub(crate) fn forget(&mut self, key: &Key)
         requires flows { AreFlows self.old }
         ensures flows { AreFlows self.new }
         ensures puts { Puts self.old key.now None self.new }

@@ -54,7 +54,6 @@ mod build;
 mod candidacy;
 #[cfg(test)]
 mod candidacy_tests;
-mod flow_key;
 mod flows;
 mod item;
 mod packet;

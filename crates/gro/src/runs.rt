@@ -1,5 +1,5 @@
 //! The runs of a round, as packets come.
-ghost use Rattle.std.specs.Prelude.{◌≡◌, ◌+◌, ◌<◌, ◌≤◌, ◌^◌, ◌++◌, ◌∷◌, [], Some, None, ℕ, List, length, IsTrue, map, OnOk, OnErr, IfOk, IfErr, slice_index_or, if◌then◌else◌};
+ghost use Rattle.std.specs.Prelude.{◌≡◌, ◌+◌, ◌<◌, ◌≤◌, ◌^◌, ◌++◌, ◌∷◌, [], Option, Some, None, ℕ, List, length, IsTrue, map, OnOk, OnErr, IfOk, IfErr, slice_index_or, if◌then◌else◌};
 ghost use Rattle.frame_layout.specs.Key.{key_of};
 ghost use Rattle.offload_model.specs.Mergeable.{IsMergeable};
 ghost use Rattle.merge_rule.specs.Runs.{IsJudged};
@@ -12,9 +12,9 @@ ghost use Rattle.gro.specs.Steps.{held_in, packets_in, AreRuns, HasPlaces, Takes
 
 use crate::Packet;
 use crate::candidacy::{flow_key, judge};
-use crate::flow_key::FlowKey;
 use crate::flows::{Flows, Found};
 use crate::run::Run;
+use frame_layout::Key;
 use merge_rule::Candidacy;
 use std::alloc::{AllocError, Global};
 use std::collections::VecDeque;
@@ -39,16 +39,14 @@ fn settle(flows: &mut Flows, run: &Run)
     requires flows { AreFlows flows.old }
     requires run { IsRun run.now }
     ensures flows { AreFlows flows.new }
-    ensures puts { (q : List ℕ) → key_of (buffer_bytes run.now.first.skb) ≡ Some q → Puts flows.old q (if run.now.progress.is_open then place_of flows.old q else None) flows.new }
+    ensures puts { let key = key_of (buffer_bytes run.now.first.skb) in Puts flows.old key (if run.now.progress.is_open then place_of flows.old key else None) flows.new }
     ensures room { (n : ℕ) → HasRoom flows.old n → HasRoom flows.new n }
 {
     if run.progress.is_open {
         return;
     }
     let key = flow_key(&run.first.skb, &Candidacy::none());
-    if let Some(bytes) = key.bytes() {
-        flows.forget(&FlowKey::of(bytes));
-    }
+    flows.forget(&key);
 }
 
 impl Runs {
@@ -69,12 +67,12 @@ impl Runs {
     }
 
     /// A packet of a flow of which no run is found: it opens one.
-    fn begin(&mut self, key: FlowKey, packet: Packet, candidacy: Candidacy)
+    fn begin(&mut self, key: Key, packet: Packet, candidacy: Candidacy)
         requires runs { AreRuns self.old }
         requires places { HasPlaces self.old 1 }
         requires judged { IsJudged (buffer_bytes packet.skb) packet.original candidacy.layout candidacy.payload candidacy.flags }
         requires held { IsHeld packet }
-        requires key { key_of (buffer_bytes packet.skb) ≡ Some key }
+        requires key { key_of (buffer_bytes packet.skb) ≡ key }
         requires none { place_of self.old.flows key ≡ None }
         ensures takes { Takes self.old packet self.new }
     {
@@ -87,12 +85,12 @@ impl Runs {
     }
 
     /// A packet that its flow's run at `found` doesn't take: it opens the next one.
-    fn follow(&mut self, key: &FlowKey, found: Found, packet: Packet, candidacy: Candidacy)
+    fn follow(&mut self, key: &Key, found: Found, packet: Packet, candidacy: Candidacy)
         requires runs { AreRuns self.old }
         requires places { HasPlaces self.old 1 }
         requires judged { IsJudged (buffer_bytes packet.skb) packet.original candidacy.layout candidacy.payload candidacy.flags }
         requires held { IsHeld packet }
-        requires key { key_of (buffer_bytes packet.skb) ≡ Some key.now }
+        requires key { key_of (buffer_bytes packet.skb) ≡ key.now }
         requires slot { slot_of self.old.flows key.now ≡ Some found.slot }
         requires place { place_of self.old.flows key.now ≡ Some found.place }
         requires apart { IsMergeable (slice_index_or (packets_in self.old) found.place [] ++ (packet_of packet ∷ [])) → ⊥ }
@@ -109,7 +107,7 @@ impl Runs {
     /// A packet that its flow's run at `found` takes.
     fn grow(
         &mut self,
-        key: &FlowKey,
+        key: &Key,
         found: Found,
         packet: Packet,
         candidacy: &Candidacy,
@@ -117,7 +115,7 @@ impl Runs {
         requires runs { AreRuns self.old }
         requires judged { IsJudged (buffer_bytes packet.skb) packet.original candidacy.now.layout candidacy.now.payload candidacy.now.flags }
         requires held { IsHeld packet }
-        requires key { key_of (buffer_bytes packet.skb) ≡ Some key.now }
+        requires key { key_of (buffer_bytes packet.skb) ≡ key.now }
         requires slot { slot_of self.old.flows key.now ≡ Some found.slot }
         requires place { place_of self.old.flows key.now ≡ Some found.place }
         requires mergeable { IsMergeable (slice_index_or (packets_in self.old) found.place [] ++ (packet_of packet ∷ [])) }
@@ -149,7 +147,7 @@ impl Runs {
         requires judged { IsJudged (buffer_bytes packet.skb) packet.original candidacy.now.layout candidacy.now.payload candidacy.now.flags }
         requires held { IsHeld packet }
         requires inside { place < length self.old.list.items }
-        requires found { (q : List ℕ) → key_of (buffer_bytes packet.skb) ≡ Some q → place_of self.old.flows q ≡ Some place }
+        requires found { place_of self.old.flows (key_of (buffer_bytes packet.skb)) ≡ Some place }
         requires mergeable { IsMergeable (slice_index_or (packets_in self.old) place [] ++ (packet_of packet ∷ [])) }
         requires few { totals count_of (held_in self.old) + count_of packet < 2 ^ 63 }
         ensures takes { OnOk result (Takes self.old packet self.new) }
@@ -170,7 +168,7 @@ impl Runs {
     /// A packet of the flow with this key: its flow's run takes it, or it opens one.
     fn place(
         &mut self,
-        key: FlowKey,
+        key: Key,
         packet: Packet,
         candidacy: Candidacy,
     ) -> Result<(), (Packet, AllocError)>
@@ -178,7 +176,7 @@ impl Runs {
         requires places { HasPlaces self.old 1 }
         requires judged { IsJudged (buffer_bytes packet.skb) packet.original candidacy.layout candidacy.payload candidacy.flags }
         requires held { IsHeld packet }
-        requires key { key_of (buffer_bytes packet.skb) ≡ Some key }
+        requires key { key_of (buffer_bytes packet.skb) ≡ key }
         requires few { totals count_of (held_in self.old) + count_of packet < 2 ^ 63 }
         ensures takes { OnOk result (Takes self.old packet self.new) }
         ensures back { IfErr result (λ e. (e.0 ≡ packet) × (held_in self.new ≡ held_in self.old)) }
@@ -196,13 +194,14 @@ impl Runs {
         Ok(())
     }
 
-    /// A packet that no run takes, of a flow of which no run is found, or of no flow: it opens a run, which no other joins.
+    /// A packet that may not be merged, of a flow of which no run is found: it opens a run, which no other joins.
     fn stand_alone(&mut self, packet: Packet, candidacy: Candidacy)
         requires runs { AreRuns self.old }
         requires places { HasPlaces self.old 1 }
         requires judged { IsJudged (buffer_bytes packet.skb) packet.original candidacy.layout candidacy.payload candidacy.flags }
         requires held { IsHeld packet }
-        requires alone { (q : List ℕ) → key_of (buffer_bytes packet.skb) ≡ Some q → (place_of self.old.flows q ≡ None) × (candidacy.layout ≡ None) }
+        requires none { place_of self.old.flows (key_of (buffer_bytes packet.skb)) ≡ None }
+        requires alone { candidacy.layout ≡ None }
         ensures takes { Takes self.old packet self.new }
     {
         let run = Run::open(self.alloc, packet, candidacy);
@@ -213,7 +212,7 @@ impl Runs {
     /// Whether a packet can neither be merged nor end a run, whatever its flow is.
     fn is_apart(&self, candidacy: &Candidacy) -> bool
         ensures layout { IsTrue result → candidacy.now.layout ≡ None }
-        ensures none { IsTrue result → (q : List ℕ) → place_of self.now.flows q ≡ None }
+        ensures none { IsTrue result → (q : Option (List ℕ)) → place_of self.now.flows q ≡ None }
     {
         candidacy.layout.is_none() && self.flows.is_empty()
     }
@@ -259,13 +258,7 @@ impl Runs {
             return Ok(());
         }
         let key = flow_key(&packet.skb, &candidacy);
-        match key.bytes() {
-            Some(bytes) => self.place(FlowKey::of(bytes), packet, candidacy),
-            None => {
-                self.stand_alone(packet, candidacy);
-                Ok(())
-            }
-        }
+        self.place(key, packet, candidacy)
     }
 
     /// Room for n runs more.
