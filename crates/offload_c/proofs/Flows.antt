@@ -10,7 +10,7 @@ use Rattle.pcap_io.specs.Capture.{Packet, Found, reads}
 use Rattle.pcap_io.specs.Headers.{first_that_holds, file_refusals, file_head, file_place, order_of}
 use Rattle.pcap_io.specs.Places.{first_place, found_at}
 use Rattle.pcap_io.specs.Written.{file_bytes}
-use Rattle.offload_model.specs.Captured.{AreCaptured, AreLawful}
+use Rattle.offload_model.specs.Captured.{AreCaptured, AreOptions}
 use Rattle.offload_model.specs.CaptureLaws.{BringsBack}
 use Rattle.offload_model.specs.Laws.{InBytes}
 use Rattle.offload_model.specs.Need.{exceeded_at, found_before}
@@ -47,7 +47,7 @@ headers_less : (rs : List Packet) → length rs * 16 ≤ total size rs
 headers_less [] = omega arith
 headers_less (r ∷ rs) = omega (arith, headers_less rs)
 
-few_records : (head : FileHead) (o : Options) (ps : List Packet) (output : List ℕ) → AreLawful o → AreCaptured ps → output ≡ written head o ps
+few_records : (head : FileHead) (o : Options) (ps : List Packet) (output : List ℕ) → AreOptions o → AreCaptured ps → output ≡ written head o ps
     → (o.taps ≡ 0) ⊎ (length output ≤ 2 ^ 36) → length (records_of o ps) ≤ 2 ^ 32
 few_records head o ps output lawful captured is (inl taps) = records_are_few o ps lawful captured taps
 few_records head o ps output lawful captured is (inr short) =
@@ -56,7 +56,7 @@ few_records head o ps output lawful captured is (inr short) =
     = ap length is ∙ length-append (file_bytes head Offload) (flat_map (record_bytes head.order) rs) in
     omega (arith, short, long, records_long head.order rs, headers_less rs)
 
-flows : (blocks : ℕ) (o : Options) (given : List ℕ) → AreLawful o → InBytes given → (merging_whole blocks o given).stop ≡ Nowhere
+flows : (blocks : ℕ) (o : Options) (given : List ℕ) → AreOptions o → InBytes given → (merging_whole blocks o given).stop ≡ Nowhere
     → (o.taps ≡ 0) ⊎ (length (merging_whole blocks o given).output ≤ 2 ^ 36)
     → BringsBack (reads Ethernet given).packets (reads Ethernet (segmented_of (merging_whole blocks o given).output))
 flows blocks o given options_are bytes nowhere few =
@@ -74,7 +74,7 @@ flows blocks o given options_are bytes nowhere few =
     (captures_come_back head o ps (number_small (order_of front) (drop 8 front) (drop_small 8 front small)) (number_small (order_of front) (drop 12 front) (drop_small 12 front small))
     options_are captured (few_records head o ps (merging_whole blocks o given).output options_are captured whole few))
 
-pub flows_of : (blocks : ℕ) (o : Options) (given : List ℕ) (outcome : Outcome) → AreLawful o → InBytes given → Gives (merging_whole blocks o given) outcome → FlowsOf o.taps given outcome
+pub flows_of : (blocks : ℕ) (o : Options) (given : List ℕ) (outcome : Outcome) → AreOptions o → InBytes given → Gives (merging_whole blocks o given) outcome → FlowsOf o.taps given outcome
 flows_of blocks o given (Whole bytes) lawful small gives = λ few.
     subst (λ xs. BringsBack (reads Ethernet given).packets (reads Ethernet (segmented_of xs))) (sym gives.1)
     (flows blocks o given lawful small gives.0 (subst (λ (xs : List ℕ). (o.taps ≡ 0) ⊎ (length xs ≤ 2 ^ 36)) gives.1 few))

@@ -17,14 +17,14 @@ use Rattle.pcap_io.specs.declared.off_head.OffHead.{OffHead}
 use Rattle.pcap_io.specs.Capture.{Packet, Found, reads}
 use Rattle.pcap_io.specs.Headers.{first_that_holds, file_refusals, file_head, off_head}
 use Rattle.pcap_io.specs.Written.{file_bytes}
-use Rattle.pcap_io.specs.Split.{spelled_all, AreLawful as AreLawfulFrom}
+use Rattle.pcap_io.specs.Split.{spelled_all, AreLawful}
 use Rattle.pcap_io.proofs.HeadLaws.{file_head_law}
 use Rattle.pcap_io.proofs.SplitLaws.{written_law}
 use Rattle.offload_model.specs.Mergeable.{IsMergeable, IsMergeableAs}
 use Rattle.offload_model.specs.Segments.{packet_in, merged_in, with_frame, frames_of, segments_of}
 use Rattle.offload_model.specs.Rounds.{is_key, is_of, is_queued, items_of, rounds_of}
 use Rattle.offload_model.specs.Written.{Options, record_of, window_of, window_record, windows_by, windows_of, round_records, records_of, record_bytes, written, segmented}
-use Rattle.offload_model.specs.Captured.{IsCaptured, AreCaptured, AreLawful, content}
+use Rattle.offload_model.specs.Captured.{IsCaptured, AreCaptured, AreOptions, content}
 use Rattle.offload_model.specs.Tested.{numbered, reads_tested, segmented_of}
 use Rattle.offload_model.proofs.Flows.{IsItem, all_items, rounds_captured, back, flows_come_back}
 use Rattle.offload_model.proofs.Items.{items_are}
@@ -234,7 +234,7 @@ spelled_is : (order : Order) (n : ℕ) (ps : List Packet) → flat_map (record_b
 spelled_is order n [] = refl
 spelled_is order n (p ∷ ps) = ap (λ z. record_bytes order p ++ z) (spelled_is order (n + 1) ps)
 
-lawful_from : (n : ℕ) (ps : List Packet) → n + length ps ≤ 4294967296 → AllByRecursion IsHeld ps → AreLawfulFrom Ethernet n (numbered n ps)
+lawful_from : (n : ℕ) (ps : List Packet) → n + length ps ≤ 4294967296 → AllByRecursion IsHeld ps → AreLawful Ethernet n (numbered n ps)
 lawful_from n [] few h = tt
 lawful_from n (p ∷ ps) few h = (
   record {
@@ -260,7 +260,7 @@ numbered_flow key n (p ∷ ps) = by (is_of key p) (numbered_flow key (n + 1) ps)
     by false i = i
 
 -- what is written of a merged capture
-output_is : (head : FileHead) (o : Options) (ps : List Packet) → head.zone < 2 ^ 32 → head.sigfigs < 2 ^ 32 → AreLawful o → AreCaptured ps → length (records_of o ps) ≤ 2 ^ 32
+output_is : (head : FileHead) (o : Options) (ps : List Packet) → head.zone < 2 ^ 32 → head.sigfigs < 2 ^ 32 → AreOptions o → AreCaptured ps → length (records_of o ps) ≤ 2 ^ 32
     → segmented_of (written head o ps) ≡ segmented head (numbered 0 (records_of o ps))
 output_is head o ps zone sigfigs lawful c few =
     let bytes : List ℕ = written head o ps in
@@ -279,7 +279,7 @@ captures_come_back head o ps zone sigfigs lawful c few_records =
     = λ key. ap (map content) (flow_by_flow key rs (all_flows 0 (records_of o ps) sound))
     ∙ sym (ap (λ (f : Found). back key f.packets) (reads_back head o ps lawful c few_records).1) ∙ written_comes_back head o ps lawful c few_records key in
     let count : length qs ≤ 4294967296 = omega (arith, same_number qs ps flows, few ps c.each c.rising) in
-    let lawful_qs : AreLawfulFrom Ethernet 0 (numbered 0 qs) = lawful_from 0 qs (omega arith) (all_held 0 (records_of o ps) (all_written o ps lawful c) sound) in
+    let lawful_qs : AreLawful Ethernet 0 (numbered 0 qs) = lawful_from 0 qs (omega arith) (all_held 0 (records_of o ps) (all_written o ps lawful c) sound) in
     let read : reads Ethernet (segmented_of (written head o ps)) ≡ record { packets = numbered 0 qs; fault = None }
     = ap (reads Ethernet) (output_is head o ps zone sigfigs lawful c few_records ∙ ap (λ z. file_bytes head Ethernet ++ z) (spelled_is head.order 0 qs))
     ∙ written_law 0 head Ethernet (numbered 0 qs) zone sigfigs lawful_qs in

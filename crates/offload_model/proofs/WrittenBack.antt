@@ -15,7 +15,7 @@ use Rattle.offload_model.specs.Segments.{packet_in, merged_in, with_frame, frame
 use Rattle.offload_model.specs.Tests.{is_lawful_record}
 use Rattle.offload_model.specs.Rounds.{is_of, is_queued, items_of, rounds_of}
 use Rattle.offload_model.specs.Written.{Options, head_of, record_of, window_of, window_record, windows_by, windows_of, round_records, records_of, record_bytes, written}
-use Rattle.offload_model.specs.Captured.{IsCaptured, AreCaptured, AreLawful, content}
+use Rattle.offload_model.specs.Captured.{IsCaptured, AreCaptured, AreOptions, content}
 use Rattle.offload_model.specs.Tested.{numbered, tested_from}
 use Rattle.offload_model.specs.CaptureLaws.{ReadsBack, HeadReadsBack, WrittenComesBack}
 use Rattle.offload_model.proofs.Decides.{decides_record}
@@ -96,7 +96,7 @@ windows_written t p (b ∷ bytes) lane c short = (window_written t p (b ∷ byte
 window_short : (snap t : ℕ) (p : Packet) → IsCaptured p → length (window_of snap t p.frame) ≤ 262144
 window_short snap t p c = omega (arith, length-take snap (drop (t * snap) p.frame), length-drop (t * snap) p.frame, c.short)
 
-round_written : (o : Options) (ps : List Packet) → AreLawful o → AreCaptured ps → AllByRecursion IsWritten (round_records o ps)
+round_written : (o : Options) (ps : List Packet) → AreOptions o → AreCaptured ps → AllByRecursion IsWritten (round_records o ps)
 round_written o ps lawful c =
     all_append IsWritten (flat_map (λ q. map (record_of q) (items_of o.queues q ps)) (range_with_len 0 o.queues)) (flat_map (λ t. windows_of o.snap t ps) (range_with_len 0 o.taps))
     (all_joined IsWritten (λ q. map (record_of q) (items_of o.queues q ps)) (range_with_len 0 o.queues)
@@ -109,7 +109,7 @@ round_written o ps lawful c =
     (all_of IsCaptured (λ p. AllByRecursion IsWritten (windows_by t p (window_of o.snap t p.frame))) ps
     (λ p k. windows_written t p (window_of o.snap t p.frame) (omega (arith, lawful.taps)) k (window_short o.snap t p k)) c.each))))
 
-pub all_written : (o : Options) (ps : List Packet) → AreLawful o → AreCaptured ps → AllByRecursion IsWritten (records_of o ps)
+pub all_written : (o : Options) (ps : List Packet) → AreOptions o → AreCaptured ps → AllByRecursion IsWritten (records_of o ps)
 all_written o ps lawful c =
     all_joined IsWritten (round_records o) (rounds_of o.budget ps)
     (all_of AreCaptured (λ round. AllByRecursion IsWritten (round_records o round)) (rounds_of o.budget ps) (λ round k. round_written o round lawful k) (rounds_captured o.budget ps c))

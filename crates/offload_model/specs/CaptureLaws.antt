@@ -12,7 +12,7 @@ use Rattle.offload_model.specs.Merged.{merged_of}
 use Rattle.offload_model.specs.Segments.{packet_in, segments_of, IsLawfulSuper}
 use Rattle.offload_model.specs.Rounds.{is_of, is_queued, number_of, items_of, runs_in}
 use Rattle.offload_model.specs.Written.{Options, record_of, records_of, written}
-use Rattle.offload_model.specs.Captured.{IsCaptured, AreCaptured, AreLawful, content}
+use Rattle.offload_model.specs.Captured.{IsCaptured, AreCaptured, AreOptions, content}
 use Rattle.offload_model.specs.Tested.{numbered, reads_tested, segmented_of}
 use Rattle.offload_model.specs.Laws.{InBytes}
 
@@ -58,7 +58,7 @@ OneQueueHasAll = (packets : List Packet) → items_of 1 0 packets ≡ runs_in pa
 abbrev pub FlowsComeBack : Type 0
 FlowsComeBack =
     (o : Options) (ps : List Packet)
-    → AreLawful o
+    → AreOptions o
     → AreCaptured ps
     → (key : Option (List ℕ))
     → map content (flat_map segments_of (filter (λ r. is_of key (packet_in r)) (records_of o ps))) ≡ map content (filter (is_of key) ps)
@@ -70,7 +70,7 @@ FlowsComeBack =
 abbrev pub ReadsBack : Type 0
 ReadsBack =
     (head : FileHead) (o : Options) (ps : List Packet)
-    → AreLawful o
+    → AreOptions o
     → AreCaptured ps
     → length (records_of o ps) ≤ 2 ^ 32
     → (reads Offload (written head o ps) ≡ record { packets = numbered 0 (records_of o ps); fault = None })
@@ -87,7 +87,7 @@ HeadReadsBack =
 abbrev pub WrittenComesBack : Type 0
 WrittenComesBack =
     (head : FileHead) (o : Options) (ps : List Packet)
-    → AreLawful o
+    → AreOptions o
     → AreCaptured ps
     → length (records_of o ps) ≤ 2 ^ 32
     → (key : Option (List ℕ))
@@ -107,11 +107,11 @@ CapturesComeBack =
     (head : FileHead) (o : Options) (ps : List Packet)
     → head.zone < 2 ^ 32
     → head.sigfigs < 2 ^ 32
-    → AreLawful o
+    → AreOptions o
     → AreCaptured ps
     → length (records_of o ps) ≤ 2 ^ 32
     → BringsBack ps (reads Ethernet (segmented_of (written head o ps)))
 
 -- without taps there are no more records than packets, and these have numbers of 32 bits
 abbrev pub RecordsAreFew : Type 0
-RecordsAreFew = (o : Options) (ps : List Packet) → AreLawful o → AreCaptured ps → o.taps ≡ 0 → length (records_of o ps) ≤ 2 ^ 32
+RecordsAreFew = (o : Options) (ps : List Packet) → AreOptions o → AreCaptured ps → o.taps ≡ 0 → length (records_of o ps) ≤ 2 ^ 32

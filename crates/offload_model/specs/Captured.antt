@@ -18,7 +18,8 @@ pub record AreCaptured (ps : List Packet) : Type 0 where
   pub each : AllByRecursion IsCaptured ps
   pub rising : AllNeighbours (λ p q. p.number < q.number) ps
 
-pub record AreLawful (o : Options) : Type 0 where
+-- the ranges that the command line allows
+pub record AreOptions (o : Options) : Type 0 where
   pub budget : 1 ≤ o.budget
   pub some : 1 ≤ o.queues
   pub queues : o.queues ≤ 64

@@ -19,7 +19,7 @@ use Rattle.pcap_io.specs.Headers.{first_that_holds, file_refusals, file_head}
 use Rattle.pcap_io.specs.Capture.{Packet, Found}
 use Rattle.pcap_io.specs.Places.{first_place, found_at}
 use Rattle.pcap_io.specs.Reading.{GivesFile}
-use Rattle.offload_model.specs.Captured.{IsCaptured, AreLawful}
+use Rattle.offload_model.specs.Captured.{IsCaptured, AreOptions}
 use Rattle.offload_model.specs.Written.{Options}
 use Rattle.offload_model.specs.Need.{exceeded_at, found_before, packets_within}
 use Rattle.offload_model.proofs.Lists.{near_taken}
@@ -58,22 +58,22 @@ merged_rising None blocks budget given =
     rising_before budget (exceeded_at blocks budget place (drop 24 given)) (found_at place (drop 24 given)) (records_rising place.file place.offset (drop 24 given))
 
 -- options in their ranges
-pub lawful_options : (o : MergeOptions) → IsInRange o → AreLawful (options o)
+pub lawful_options : (o : MergeOptions) → IsInRange o → AreOptions (options o)
 lawful_options o range = record { budget = range.2; some = range.0; queues = range.1; taps = range.5 }
 
 -- packets that are captured each come back
-flows_back : (blocks : ℕ) (o : Options) → AreLawful o → (given : List ℕ) → AllByRecursion IsCaptured (merged_packets blocks o.budget given) → FlowsComeBack o (merged_packets blocks o.budget given)
+flows_back : (blocks : ℕ) (o : Options) → AreOptions o → (given : List ℕ) → AllByRecursion IsCaptured (merged_packets blocks o.budget given) → FlowsComeBack o (merged_packets blocks o.budget given)
 flows_back blocks o lawful given each =
     flows_come_back o (merged_packets blocks o.budget given) lawful
     (record { each = each; rising = merged_rising (first_that_holds (file_refusals Ethernet (take 24 given))) blocks o.budget given })
 
 -- where the file header is refused there are none
-none_merged : (blocks : ℕ) (o : Options) → AreLawful o → (given : List ℕ) (kind : CapKind) → first_that_holds (file_refusals Ethernet (take 24 given)) ≡ Some kind → FlowsComeBack o (merged_packets blocks o.budget given)
+none_merged : (blocks : ℕ) (o : Options) → AreOptions o → (given : List ℕ) (kind : CapKind) → first_that_holds (file_refusals Ethernet (take 24 given)) ≡ Some kind → FlowsComeBack o (merged_packets blocks o.budget given)
 none_merged blocks o lawful given kind refused =
     flows_back blocks o lawful given (subst (λ (r : Option CapKind). AllByRecursion IsCaptured (merged_at r blocks o.budget given)) (sym refused) tt)
 
 -- behind a lawful one stand those that were read
-behind_merged : (blocks : ℕ) (o : Options) → AreLawful o → (file : FileHead) (given rest : List ℕ) → GivesFile Ethernet (Ok file) given rest → AreCapturedWithin blocks o.budget (first_place file Ethernet 0) rest
+behind_merged : (blocks : ℕ) (o : Options) → AreOptions o → (file : FileHead) (given rest : List ℕ) → GivesFile Ethernet (Ok file) given rest → AreCapturedWithin blocks o.budget (first_place file Ethernet 0) rest
     → FlowsComeBack o (merged_packets blocks o.budget given)
 behind_merged blocks o lawful file given rest gives each =
     flows_back blocks o lawful given
@@ -95,7 +95,7 @@ file_again file given rest more gives =
 
 -- ---- by what was read
 
-module _ (blocks : ℕ) (o : Options) (lawful : AreLawful o) where
+module _ (blocks : ℕ) (o : Options) (lawful : AreOptions o) where
   abbrev Back : List ℕ → Type 0
   Back read = FlowsComeBack o (merged_packets blocks o.budget read)
 

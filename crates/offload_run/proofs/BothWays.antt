@@ -10,7 +10,7 @@ use Rattle.pcap_io.specs.Headers.{file_head, order_of}
 use Rattle.pcap_io.specs.Capture.{Packet, reads}
 use Rattle.offload_model.specs.Laws.{InBytes}
 use Rattle.offload_model.specs.Written.{Options, written}
-use Rattle.offload_model.specs.Captured.{AreCaptured, AreLawful}
+use Rattle.offload_model.specs.Captured.{AreCaptured, AreOptions}
 use Rattle.offload_model.proofs.Captured.{number_small, captures_are_captured}
 use Rattle.offload_model.specs.Tested.{segmented_of}
 use Rattle.offload_model.specs.CaptureLaws.{BringsBack}

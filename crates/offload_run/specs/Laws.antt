@@ -5,7 +5,7 @@ use Rattle.pcap_io.specs.Capture.{reads}
 use Rattle.offload_model.specs.Laws.{InBytes}
 use Rattle.offload_model.specs.Tested.{segmented_of}
 use Rattle.offload_model.specs.CaptureLaws.{BringsBack}
-use Rattle.offload_model.specs.Captured.{AreLawful}
+use Rattle.offload_model.specs.Captured.{AreOptions}
 use Rattle.offload_model.specs.Passing.{HasFileHead}
 use Rattle.offload_model.specs.PassingLaws.{written_of}
 use Rattle.offload_model.specs.Written.{Options, records_of}
@@ -16,7 +16,7 @@ use Rattle.offload_model.specs.Written.{Options, records_of}
 abbrev pub EveryFlowComesBack : Type 0
 EveryFlowComesBack =
     (o : Options) (given : List ℕ)
-    → AreLawful o
+    → AreOptions o
     → InBytes given
     → HasFileHead Ethernet given
     → (1 ≤ o.taps → length (records_of o (reads Ethernet given).packets) ≤ 2 ^ 32)
