@@ -3,7 +3,7 @@ use Rattle.std.proofs.Common.{◌≡◌, ℕ, ◌+◌, ◌-◌, ◌<◌, ◌≤�
 use Rattle.std.proofs.Common.{◌∙◌, length, get_or, set, map, arith}
 use Rattle.ref_core.specs.WeightRule.{IsWeight}
 use Rattle.raw_block.specs.Views.{PartState}
-use Rattle.frags.specs.Account.{Tests, both, counted}
+use Rattle.frags.specs.Account.{Tests, counted}
 use Rattle.frags.specs.Gifts.{kept, given, gift, kept_first, given_first, worn}
 use Rattle.frags.specs.PieceList.{bytes_of, piece_bytes, size_of, AllFit, pieces_held}
 use Rattle.frags.specs.declared.pieces.Piece.{Piece}
