@@ -3,4 +3,4 @@ mod Slices
 -- headers and the frame behind them
 mod Heads
 -- the items of a queue are its runs
-pub mod Runs
+mod Runs
