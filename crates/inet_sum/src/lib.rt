@@ -95,14 +95,14 @@ pub fn fold_number(number: u64) -> u16
 
 /// The big-endian number in four bytes.
 fn number(quad: [u8; 4]) -> u32
-    ensures { result ≡ number_of quad }
+    ensures value { result ≡ number_of quad }
 {
     u32::from_be_bytes(quad)
 }
 
 /// What the words of at most three bytes add to.
 fn short_sum(bytes: &[u8]) -> u64
-    requires { length bytes.now ≤ 3 }
+    requires short { length bytes.now ≤ 3 }
     ensures sum { result ≡ word_sum bytes.now }
     ensures small { result ≤ 2 ^ 16 * length bytes.now }
 {

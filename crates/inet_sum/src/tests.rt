@@ -45,14 +45,14 @@ fn sums_of_pieces(rt: HostRuntime) {
 
 // Bytes ff, some more than a million.
 fn all_ones(alloc: Global, count: usize) -> Result<Vec<u8>, Fail>
-    requires { count < 2 ^ 20 }
-    ensures { IfOk result (λ bytes. vec_len bytes < 2 ^ 20) }
+    requires few { count < 2 ^ 20 }
+    ensures few { IfOk result (λ bytes. vec_len bytes < 2 ^ 20) }
 {
     Ok(vec![in alloc; 0xff; count]?)
 }
 
 fn sum_in_pieces(bytes: &[u8], size: usize) -> Partial
-    requires { 0 < size }
+    requires some { 0 < size }
 {
     let mut sum = Partial::new();
     for piece in bytes.chunks(size) {

@@ -8,7 +8,7 @@ loop-i-preserved c =
     let xs = c.args.bytes.now in
     let i = c.loop-i.i in
     record {
-      fold = ap (λ n. folded (c.loop-i.sum + n + word_sum (drop (4 * (i + 1)) xs))) (c.from-sum.ensures ∙ c.number.ensures)
+      fold = ap (λ n. folded (c.loop-i.sum + n + word_sum (drop (4 * (i + 1)) xs))) (c.from-sum.ensures ∙ c.number.ensures.value)
           ∙ words_more xs i c.loop-i.sum (omega (arith, c.loop-i-test.true)) ∙ c.loop-i.invariant.fold;
       small = omega (arith, c.from-sum.ensures, c.number.type_inv, c.loop-i.invariant.small);
     }
