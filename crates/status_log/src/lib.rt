@@ -36,7 +36,7 @@ fn log_line<L: Sink>(log: &mut L, line: &str)
 
 /// Appends the number in decimal, at most 20 digits.
 fn push_number(line: &mut Line, number: u64)
-    requires { array_string_len line.old + 20 ≤ 128 }
+    requires room { array_string_len line.old + 20 ≤ 128 }
     ensures bytes { line.new.bytes ≡ line.old.bytes ++ decimal number }
     ensures len { array_string_len line.new ≤ array_string_len line.old + 20 }
 {
@@ -46,8 +46,8 @@ fn push_number(line: &mut Line, number: u64)
 
 #[tactic(auto, unfolding(crate::specs::Lines::malformed_line))]
 fn malformed_text(kind: &str, offset: u64, number: u64) -> Line
-    requires { length kind.now ≤ 32 }
-    ensures { result.bytes ≡ malformed_line kind.now offset number }
+    requires short { length kind.now ≤ 32 }
+    ensures line { result.bytes ≡ malformed_line kind.now offset number }
 {
     let mut line = Line::new();
     line.push_str("malformed: ");
@@ -75,7 +75,7 @@ pub fn log_usage<L: Sink>(log: &mut L)
 /// Logs that a capture is malformed: the name of the kind, at most 32 bytes, the fault's place in the file, and the record's
 /// number.
 pub fn log_malformed<L: Sink>(log: &mut L, kind: &str, offset: u64, number: u64)
-    requires { length kind.now ≤ 32 }
+    requires short { length kind.now ≤ 32 }
     ensures line { Logs (L.held log.old) (L.held log.new) (L.faults log.old) (L.faults log.new) (malformed_line kind.now offset number) }
     ensures front { AppendsFront (L.held log.old) (L.held log.new) (malformed_line kind.now offset number) }
     ensures later { L.faults log.old ≤ L.faults log.new }
@@ -86,7 +86,7 @@ pub fn log_malformed<L: Sink>(log: &mut L, kind: &str, offset: u64, number: u64)
 
 #[tactic(auto, unfolding(crate::specs::Lines::pool_empty_line))]
 fn pool_empty_text(round: u64, need: u32, blocks: u32) -> Line
-    ensures { result.bytes ≡ pool_empty_line round need blocks }
+    ensures line { result.bytes ≡ pool_empty_line round need blocks }
 {
     let mut line = Line::new();
     line.push_str("pool empty: round ");
