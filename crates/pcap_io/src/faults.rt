@@ -47,7 +47,7 @@ impl CapKind {
 
     // Where in a file header a fault of this kind lies.
     pub(crate) fn file_place(self) -> u64
-        ensures { result ≡ file_place self }
+        ensures place { result ≡ file_place self }
     {
         match self {
             CapKind::BadVersion => 4,

@@ -41,8 +41,8 @@ pub(crate) const NANOS: u32 = 0xa1b23c4d;
 
 // The byte order and the unit of time (true: nanoseconds) that a capture's first four bytes name.
 pub(crate) fn spelling(bytes: &[u8]) -> Option<(Order, bool)>
-    requires { 4 ≤ length bytes.now }
-    ensures { result ≡ spelling_of bytes.now }
+    requires long { 4 ≤ length bytes.now }
+    ensures value { result ≡ spelling_of bytes.now }
 {
     match BigEndian::read_u32(bytes) {
         MICROS => return Some((Order::Big, false)),

@@ -10,7 +10,7 @@ const VERSION: (u16, u16) = (2, 4);
 
 impl Link {
     pub(crate) fn number(self) -> u32
-        ensures { result ≡ link_number self }
+        ensures value { result ≡ link_number self }
     {
         match self {
             Link::Ethernet => 1,
@@ -19,7 +19,7 @@ impl Link {
     }
 
     pub(crate) fn captured_limit(self) -> u32
-        ensures { result ≡ captured_limit self }
+        ensures value { result ≡ captured_limit self }
     {
         match self {
             Link::Ethernet => 262144,
@@ -30,8 +30,8 @@ impl Link {
 
 // Why the first bytes are no file header.
 pub(crate) fn refuse_file(link: Link, head: &[u8]) -> Option<CapKind>
-    requires { length head.now ≤ 24 }
-    ensures { result ≡ first_that_holds (file_refusals link head.now) }
+    requires short { length head.now ≤ 24 }
+    ensures refused { result ≡ first_that_holds (file_refusals link head.now) }
 {
     if head.len() < 24 {
         return Some(CapKind::ShortHeader);
@@ -50,8 +50,8 @@ pub(crate) fn refuse_file(link: Link, head: &[u8]) -> Option<CapKind>
 
 // Why the next bytes are no lawful record header.
 pub(crate) fn refuse_head(order: Order, link: Link, number: u64, head: &[u8]) -> Option<CapKind>
-    requires { length head.now ≤ 16 }
-    ensures { result ≡ first_that_holds (head_refusals order link number head.now) }
+    requires short { length head.now ≤ 16 }
+    ensures refused { result ≡ first_that_holds (head_refusals order link number head.now) }
 {
     if head.len() < 16 {
         return Some(CapKind::ShortRecordHeader);
@@ -74,7 +74,7 @@ pub(crate) fn refuse_head(order: Order, link: Link, number: u64, head: &[u8]) ->
 }
 
 fn is_bad_original(link: Link, original: u32) -> bool
-    ensures { result ≡ is_bad_original link original }
+    ensures value { result ≡ is_bad_original link original }
 {
     match link {
         Link::Ethernet => original > (1 << 31) - 1,

@@ -26,7 +26,7 @@ pub struct Place {
 impl Place {
     // Before the first record, which gets this number.
     pub(crate) fn first(file: FileHead, link: Link, number: u64) -> Place
-        ensures { result ≡ first_place file link number }
+        ensures first { result ≡ first_place file link number }
     {
         Place {
             file,

@@ -45,8 +45,8 @@ pub fn take_file<S: Source>(source: &mut S, link: Link) -> Result<FileHead, InFa
 
 // What a file header says, or why it is refused.
 fn file_of(link: Link, head: &[u8]) -> Result<FileHead, InFault>
-    requires { length head.now ≤ 24 }
-    ensures { IsFile link result head.now }
+    requires short { length head.now ≤ 24 }
+    ensures file { IsFile link result head.now }
 {
     match refuse_file(link, head) {
         Some(kind) => Err(InFault::Cap(CapFault {

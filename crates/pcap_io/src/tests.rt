@@ -22,7 +22,7 @@ fn source(alloc: Global, bytes: &[u8]) -> Result<Feed<MemSource>, Fail> {
 
 // What the first record's header says, and why the second one is refused, where the first one has this number.
 fn read_two(alloc: Global, first: u64) -> Result<(u32, u64, Result<Option<u64>, InFault>), Fail>
-    requires { first ≤ 2 ^ 32 }
+    requires few { first ≤ 2 ^ 32 }
 {
     let mut feed = source(alloc, &TWO_RECORDS)?;
     let mut reader = match CaptureReader::start_numbered(&mut feed, Link::Ethernet, first) {

@@ -24,7 +24,7 @@ pub fn record_header(order: Order, sec: u32, frac: u32, captured: u32, original:
 }
 
 fn file_header(head: &FileHead, link: Link) -> [u8; 24]
-    ensures { result ≡ file_bytes head.now link }
+    ensures bytes { result ≡ file_bytes head.now link }
 {
     let order = head.order;
     let mut out = [0u8; 24];
@@ -40,7 +40,7 @@ fn file_header(head: &FileHead, link: Link) -> [u8; 24]
 
 impl FileHead {
     fn magic(&self) -> u32
-        ensures { result ≡ magic_of self.now.nanos }
+        ensures value { result ≡ magic_of self.now.nanos }
     {
         if self.nanos { NANOS } else { MICROS }
     }
