@@ -47,8 +47,8 @@ fn has_all(read: TapResult) -> (bool, usize) {
 }
 
 fn read(tap: &mut Tap)
-    requires { IfSome tap.old.task (λ task. blocks_of task.clones.items ≤ task.outcomes.spare) }
-    ensures { tap.new.task ≡ None }
+    requires places { IfSome tap.old.task (λ task. blocks_of task.clones.items ≤ task.outcomes.spare) }
+    ensures none { tap.new.task ≡ None }
 {
     if let Some(task) = tap.task.take() {
         let (has_read, blocks) = has_all(task.run(&NoGate));
@@ -58,8 +58,8 @@ fn read(tap: &mut Tap)
 }
 
 fn change(own: &mut Own)
-    requires { IfSome own.old.skb (λ skb. length skb.rest + 3 ≤ own.old.out.spare) }
-    ensures { own.new.skb ≡ None }
+    requires places { IfSome own.old.skb (λ skb. length skb.rest + 3 ≤ own.old.out.spare) }
+    ensures none { own.new.skb ≡ None }
 {
     if let Some(mut skb) = own.skb.take() {
         let _ = skb.pull(20, &mut own.out);
@@ -82,23 +82,23 @@ fn change(own: &mut Own)
 fn change_beside<R: Threads + Sync>(rt: &R, tap: &mut Tap, own: &mut Own)
     requires tap { IfSome tap.old.task (λ task. blocks_of task.clones.items ≤ task.outcomes.spare) }
     requires own { IfSome own.old.skb (λ skb. length skb.rest + 3 ≤ own.old.out.spare) }
-    ensures { (tap.new.task ≡ None) × (own.new.skb ≡ None) }
+    ensures none { (tap.new.task ≡ None) × (own.new.skb ≡ None) }
 {
     join_mut(
         rt,
         &mut ||
-            requires { IfSome tap.now.task (λ task. blocks_of task.clones.items ≤ task.outcomes.spare) }
-            ensures { tap.exit.now.task ≡ None }
+            requires places { IfSome tap.now.task (λ task. blocks_of task.clones.items ≤ task.outcomes.spare) }
+            ensures none { tap.exit.now.task ≡ None }
         { read(tap) },
         &mut ||
-            requires { IfSome own.now.skb (λ skb. length skb.rest + 3 ≤ own.now.out.spare) }
-            ensures { own.exit.now.skb ≡ None }
+            requires places { IfSome own.now.skb (λ skb. length skb.rest + 3 ≤ own.now.out.spare) }
+            ensures none { own.exit.now.skb ≡ None }
         { change(own) },
     );
 }
 
 fn sides<A: Abort>(rt: &A, alloc: Global) -> (Tap, Own)
-    ensures { (IfSome result.0.task (λ task. blocks_of task.clones.items ≤ task.outcomes.spare)) × (IfSome result.1.skb (λ skb. length skb.rest + 3 ≤ result.1.out.spare)) }
+    ensures places { (IfSome result.0.task (λ task. blocks_of task.clones.items ≤ task.outcomes.spare)) × (IfSome result.1.skb (λ skb. length skb.rest + 3 ≤ result.1.out.spare)) }
 {
     let mut skb = packet(alloc, LEN, 100, 90).expect(rt, "no memory");
     let clone = skb.clone().expect(rt, "no clone");
@@ -139,7 +139,7 @@ fn sides<A: Abort>(rt: &A, alloc: Global) -> (Tap, Own)
 
 // Whether the tap read the packet as it was, and the blocks that came home on both sides.
 fn ended(tap: Tap, own: Own) -> (bool, usize)
-    requires { (tap.task ≡ None) × (own.skb ≡ None) }
+    requires none { (tap.task ≡ None) × (own.skb ≡ None) }
 {
     let Tap {
         task,

@@ -17,7 +17,7 @@ pub fn byte_of(i: usize) -> u8 {
 
 // A block with the bytes of a packet from `from` on, `size` of them, from its place `place` on.
 fn filled(alloc: Global, from: usize, place: usize, size: usize) -> Result<Sole, AllocError>
-    requires { (from ≤ 300000) × (place + size ≤ 2048) }
+    requires inside { (from ≤ 300000) × (place + size ≤ 2048) }
 {
     let mut block = Sole::new(alloc)?;
     let bytes = block.bytes_mut();
@@ -29,7 +29,7 @@ fn filled(alloc: Global, from: usize, place: usize, size: usize) -> Result<Sole,
 
 // Pieces of these blocks, each from its place 5 on.
 fn pieces_of(alloc: Global, blocks: Vec<(Sole, usize)>) -> Result<Pieces, AllocError>
-    ensures { IfOk result (λ pieces. size_of pieces ≤ 1002048) }
+    ensures small { IfOk result (λ pieces. size_of pieces ≤ 1002048) }
 {
     let mut builder = PieceBuilder::with_room(alloc, blocks.len())?;
     let mut total = 0usize;
@@ -44,7 +44,7 @@ fn pieces_of(alloc: Global, blocks: Vec<(Sole, usize)>) -> Result<Pieces, AllocE
 
 /// A packet of `len` bytes: at most `head` in the head, the others `piece` a block.
 pub fn packet(alloc: Global, len: usize, head: usize, piece: usize) -> Result<Skb, AllocError>
-    requires { (len ≤ 300000) × (head ≤ 1984) × (0 < piece) × (piece ≤ 2000) }
+    requires sizes { (len ≤ 300000) × (head ≤ 1984) × (0 < piece) × (piece ≤ 2000) }
 {
     let of_head = len.min(head);
     let first = filled(alloc, 0, 64, of_head)?;
@@ -68,8 +68,8 @@ pub fn task_over<A: Abort>(
     sizes: (usize, usize),
     lengths: &[usize],
 ) -> TapTask
-    requires { (sizes.0 ≤ 1984) × (0 < sizes.1) × (sizes.1 ≤ 2000) }
-    ensures { blocks_of result.clones.items ≤ result.outcomes.spare }
+    requires sizes { (sizes.0 ≤ 1984) × (0 < sizes.1) × (sizes.1 ≤ 2000) }
+    ensures places { blocks_of result.clones.items ≤ result.outcomes.spare }
 {
     let (tap, snap) = reads;
     let (head, piece) = sizes;
