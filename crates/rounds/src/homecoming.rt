@@ -2,7 +2,7 @@
 ghost use Rattle.std.specs.Prelude.{◌≡◌, ◌⊎◌, ℕ, ◌+◌, ◌≤◌, true};
 ghost use Rattle.block_pool.specs.PoolState.{home};
 
-use crate::memory::MOST;
+use crate::memory::RECORD_BLOCKS;
 use block_pool::Pool;
 
 /// Who brings blocks home while a round is read.
@@ -37,7 +37,7 @@ fn is_short(pool: &Pool, used: u32) -> bool
     ensures long { (result ≡ true) ⊎ ((131 ≤ home pool.now) ⊎ (pool.now.made ≤ home pool.now + used)) }
 {
     let (home, made) = (pool.home(), pool.made());
-    home < MOST as u32 && home + used < made
+    home < RECORD_BLOCKS as u32 && home + used < made
 }
 
 /// Whether the next record, whatever it needs, finds its blocks home, or more than there are. Blocks that are out and not of the

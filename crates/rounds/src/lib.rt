@@ -82,6 +82,7 @@ mod writing;
 
 pub use homecoming::{AllHome, Homecoming};
 pub use intake::Intake;
+pub use memory::RECORD_BLOCKS;
 pub use merge::{MergeEnd, Step};
 pub use round::{Round, RoundEnd, RoundRead, Worked};
 pub use rounds::Rounds;

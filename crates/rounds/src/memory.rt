@@ -5,8 +5,11 @@ ghost use Rattle.rounds.specs.Table.{AllOpen};
 use crate::table::Place;
 use std::alloc::{AllocError, Global};
 
-/// The most blocks that a record needs.
-pub(crate) const MOST: usize = 131;
+/// No record needs more blocks. Where as many are home the next one finds its own, whatever it is.
+pub const RECORD_BLOCKS: usize = 131;
+
+/// The same, by a short name.
+pub(crate) const MOST: usize = RECORD_BLOCKS;
 
 /// A table with an open place for each of `n` marks.
 pub(crate) fn open_places(alloc: Global, n: u32) -> Result<Vec<Place>, AllocError>

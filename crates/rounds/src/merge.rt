@@ -210,6 +210,7 @@ impl Rounds {
         ensures home { self.new.home ≡ self.new.blocks }
         ensures same { (self.new.blocks ≡ self.old.blocks) × (options_of self.new ≡ options_of self.old) × (self.new.keep ≡ self.old.keep) }
         ensures taken { IfEnds result (λ end. end ≡ MergeEnd.Done → Told (S.left (source_of reader.old)) (S.left (source_of reader.new)) (TakesAll self.old.taken self.new.taken (place_of reader.old))) }
+        ensures least { self.old.taken ≤ self.new.taken }
         ensures captured { IfEnds result (λ end. Told (S.left (source_of reader.old)) (S.left (source_of reader.new)) (EndsCaptured number (place_of reader.old) end)) }
         ensures later { S.faults (source_of reader.old) ≤ S.faults (source_of reader.new) }
         ensures later_sink { K.faults sink.old ≤ K.faults sink.new }
@@ -240,6 +241,7 @@ impl Rounds {
         ensures home { self.new.home ≡ self.new.blocks }
         ensures same { (self.new.blocks ≡ self.old.blocks) × (options_of self.new ≡ options_of self.old) × (self.new.keep ≡ self.old.keep) }
         ensures taken { IfEnds result (λ end. end ≡ MergeEnd.Done → Told (S.left (source_of reader.old)) (S.left (source_of reader.new)) (TakesAll self.old.taken self.new.taken (place_of reader.old))) }
+        ensures least { self.old.taken ≤ self.new.taken }
         ensures captured { IfEnds result (λ end. Told (S.left (source_of reader.old)) (S.left (source_of reader.new)) (EndsCaptured number (place_of reader.old) end)) }
         ensures later { S.faults (source_of reader.old) ≤ S.faults (source_of reader.new) }
         ensures later_sink { K.faults sink.old ≤ K.faults sink.new }
@@ -273,6 +275,7 @@ impl Rounds {
         ensures home { self.new.home ≡ self.new.blocks }
         ensures same { (self.new.blocks ≡ self.old.blocks) × (options_of self.new ≡ options_of self.old) × (self.new.keep ≡ self.old.keep) }
         ensures taken { result ≡ MergeEnd.Done → Told (S.left (source_of reader.old)) (S.left (source_of reader.new)) (λ bytes left. min (self.old.taken + round_need (found_at (place_of reader.old) bytes).packets) (2 ^ 64 - 1) ≤ self.new.taken) }
+        ensures least { self.old.taken ≤ self.new.taken }
         ensures captured { Told (S.left (source_of reader.old)) (S.left (source_of reader.new)) (HoldsCaptured self.old.blocks self.old.budget (place_of reader.old) result) }
         ensures later { S.faults (source_of reader.old) ≤ S.faults (source_of reader.new) }
         ensures later_sink { K.faults sink.old ≤ K.faults sink.new }
@@ -306,6 +309,7 @@ impl Rounds {
         ensures home { self.new.home ≡ self.new.blocks }
         ensures same { (self.new.blocks ≡ self.old.blocks) × (options_of self.new ≡ options_of self.old) × (self.new.keep ≡ self.old.keep) }
         ensures taken { result ≡ MergeEnd.Done → Told (S.left (source_of reader.old)) (S.left (source_of reader.new)) (λ bytes left. min (self.old.taken + round_need (found_at (place_of reader.old) bytes).packets) (2 ^ 64 - 1) ≤ self.new.taken) }
+        ensures least { self.old.taken ≤ self.new.taken }
         ensures captured { Told (S.left (source_of reader.old)) (S.left (source_of reader.new)) (HoldsCaptured self.old.blocks self.old.budget (place_of reader.old) result) }
         ensures later { S.faults (source_of reader.old) ≤ S.faults (source_of reader.new) }
         ensures later_sink { K.faults sink.old ≤ K.faults sink.new }

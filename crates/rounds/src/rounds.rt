@@ -203,6 +203,7 @@ impl Rounds {
         ensures same { (self.new.blocks ≡ self.old.blocks) × (options_of self.new ≡ options_of self.old) × (self.new.keep ≡ self.old.keep) }
         ensures budget { (1 ≤ self.old.budget) × (self.old.budget ≤ 4096) }
         ensures taken { min (self.old.taken + result.round.blocks) (2 ^ 64 - 1) ≤ self.new.taken }
+        ensures least { self.old.taken ≤ self.new.taken }
         ensures most { self.new.taken ≤ self.old.taken + self.old.blocks }
         ensures later { S.faults (source_of reader.old) ≤ S.faults (source_of reader.new) }
         ensures failed { result.end ≡ RoundEnd.ReadFault → Rose (S.faults (source_of reader.old)) (S.faults (source_of reader.new)) }

@@ -10,7 +10,7 @@ ghost use Rattle.rounds.specs.Record.{GoesOn};
 ghost use Rattle.rounds.specs.Segmenting.{IsFaultOf, IsMovedOf, Moves, TakesOne};
 
 use crate::cut::{Refused, cut_record};
-use crate::memory::{MOST, close_places, open_places};
+use crate::memory::{RECORD_BLOCKS, close_places, open_places};
 use crate::record::{Stop, read_placed};
 use crate::table::Place;
 use block_pool::Pool;
@@ -123,7 +123,7 @@ impl SegmentRun {
         requires { (1 ≤ blocks) × (blocks ≤ 65536) }
         ensures { IfOk result (λ run. run ≡ record { home = blocks; blocks = blocks; taken = 0 }) }
     {
-        let hold = VecDeque::with_capacity(alloc, MOST)?;
+        let hold = VecDeque::with_capacity(alloc, RECORD_BLOCKS)?;
         let pool = Pool::make(alloc, blocks)?;
         let places = open_places(alloc, blocks)?;
         match Outcomes::with_room(alloc, blocks as usize + CUTS) {

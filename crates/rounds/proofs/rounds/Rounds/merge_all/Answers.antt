@@ -16,6 +16,7 @@ rounds-init g c = record {
   keep = refl;
   counted = omega arith;
   same = refl;
+  least = omega arith;
   later = omega arith;
   later_sink = omega arith;
 }
@@ -40,6 +41,7 @@ rounds-preserved g c =
       keep = s.same.2 ∙ i.keep;
       counted = omega (arith, i.counted, m.number);
       same = s.same_source ∙ i.same;
+      least = omega (arith, s.least, i.least);
       later = omega (arith, s.later, i.later);
       later_sink = omega (arith, s.later_sink, i.later_sink);
     }

@@ -18,6 +18,7 @@ invariant-rounds g l = record {
   keep : l.self.keep ≡ l.initial.self.keep;
   counted : l.number ≤ l.reader.place.number;
   same : l.reader.source.ghost_name ≡ l.initial.reader.source.ghost_name;
+  least : l.initial.self.taken ≤ l.self.taken;
   later : g.S.Source.faults l.initial.reader.source.now ≤ g.S.Source.faults l.reader.source.now;
   later_sink : g.K.Sink.faults l.initial.sink ≤ g.K.Sink.faults l.sink;
 }
