@@ -19,29 +19,29 @@ use Rattle.offload_model.specs.Captured.{IsCaptured}
 use Rattle.gro.specs.declared.packet.Packet.{Packet as Held}
 use Rattle.gro.specs.Held.{packet_of}
 use Rattle.rounds.specs.Marks.{all, others, IsRound}
-use Rattle.rounds.specs.Fresh.{IsRead}
+use Rattle.rounds.specs.Fresh.{IsRead, NumberedFrom}
 use Rattle.rounds.specs.Record.{front_size, in_front, Passes, HoldsNone, judged_at, GivesRecord, GoesOn, NeedsMore}
-use Rattle.rounds.specs.Reading.{GivesRound, Holds, Exceeds, IsEndOf}
+use Rattle.rounds.specs.Reading.{GivesRound, GivesRest, PassesOver, PassesRound, GoesOver, FillsRound, NumbersOn, Holds, Exceeds, IsEndOf}
 use Rattle.rounds.specs.declared.record.Stop.{Stop}
 use Rattle.rounds.specs.declared.record.Stop.TheVariants as stops
 use Rattle.rounds.specs.declared.round.RoundEnd.{RoundEnd}
 use Rattle.rounds.specs.declared.round.RoundEnd.TheVariants as ends
-use Rattle.rounds.proofs.Taking.{Same}
+use Rattle.rounds.proofs.Taking.{Same, numbered_last}
 
--- these packets stand before what is still to be read
-pub record ReadSoFar (before now : Option (List ℕ)) (old new : Place) (packets : List Held) : Type 0 where
-  pub told : Told before now (Passes old new (map packet_of packets))
+-- behind the first packets these stand before what is still to be read
+pub record ReadSoFar (before now : Option (List ℕ)) (old new : Place) (first packets : List Held) : Type 0 where
+  pub told : Told before now (PassesOver old new first packets)
   pub file : new.file ≡ old.file
   pub link : new.link ≡ old.link
-  pub number : new.number ≡ old.number + length packets
+  pub number : new.number + length first ≡ old.number + length packets
   pub ready : IsReady new
 
-pub so_far_none : (a : Option (List ℕ)) (place : Place) → IsReady place → ReadSoFar a a place place []
-so_far_none a place ready = record {
-  told = Told-same a (Passes place place []) (λ bytes. ([], refl, λ tail. record { found = refl; lengths = refl }));
+pub so_far_none : (a : Option (List ℕ)) (place : Place) (first : List Held) → IsReady place → ReadSoFar a a place place first first
+so_far_none a place first ready = record {
+  told = Told-same a (PassesOver place place first first) (λ bytes from before passes. passes);
   file = refl;
   link = refl;
-  number = omega arith;
+  number = refl;
   ready = ready;
 }
 
@@ -68,11 +68,11 @@ precede_more old mid new used blocks packets p bytes rest left so_far one =
     subst (λ (qs : List Packet). Passes old new qs bytes left) (sym (map-append packet_of packets (p ∷ [])))
     (passes_then old mid new (map packet_of packets) (packet_of p ∷ []) bytes rest left so_far one)
 
-pub so_far_more : (a b c : Option (List ℕ)) (old mid new : Place) (used blocks : ℕ) (packets : List Held) (p : Held)
-    → ReadSoFar a b old mid packets → Told b c (GivesRecord used blocks mid new [] (Ok p)) → GoesOn mid new → ReadSoFar a c old new (packets ++ p ∷ [])
-so_far_more a b c old mid new used blocks packets p so_far told goes = record {
-  told = Told-then a b c (Passes old mid (map packet_of packets)) (GivesRecord used blocks mid new [] (Ok p)) (Passes old new (map packet_of (packets ++ p ∷ [])))
-      (λ bytes rest left before one. precede_more old mid new used blocks packets p bytes rest left before one) so_far.told told;
+pub so_far_more : (a b c : Option (List ℕ)) (old mid new : Place) (used blocks : ℕ) (first packets : List Held) (p : Held)
+    → ReadSoFar a b old mid first packets → Told b c (GivesRecord used blocks mid new [] (Ok p)) → GoesOn mid new → ReadSoFar a c old new first (packets ++ p ∷ [])
+so_far_more a b c old mid new used blocks first packets p so_far told goes = record {
+  told = Told-then a b c (PassesOver old mid first packets) (GivesRecord used blocks mid new [] (Ok p)) (PassesOver old new first (packets ++ p ∷ []))
+      (λ bytes rest left over one. λ from before passes. precede_more from mid new used blocks packets p before rest left (over from before passes) one) so_far.told told;
   file = goes.file ∙ so_far.file;
   link = goes.link ∙ so_far.link;
   number = omega (arith, goes.number, so_far.number, length-append packets (p ∷ []));
@@ -177,16 +177,73 @@ round_stop old mid new used blocks packets stops.ReadFault end bytes rest left e
 round_stop old mid new used blocks packets stops.NoMemory end bytes rest left ethernet few u is before last =
     rw is (before.0 ++ last.0, before.1 ∙ ap (λ (l : List ℕ). before.0 ++ l) last.1 ∙ sym (append_assoc before.0 last.0 left))
 
-pub round_stop_given : (a b c : Option (List ℕ)) (old mid new : Place) (used blocks : ℕ) (packets : List Held) (stop : Stop) (end : RoundEnd) → mid.link ≡ Ethernet → used ≤ blocks → used ≡ round_need (map packet_of packets) → IsEndOf stop end
-    → Told a b (Passes old mid (map packet_of packets)) → Told b c (GivesRecord used blocks mid new [] (Err stop)) → Told a c (GivesRound blocks old new packets end)
-round_stop_given a b c old mid new used blocks packets stop end ethernet few u is first last =
-    Told-then a b c (Passes old mid (map packet_of packets)) (GivesRecord used blocks mid new [] (Err stop)) (GivesRound blocks old new packets end)
-    (λ bytes rest left before l. round_stop old mid new used blocks packets stop end bytes rest left ethernet few u is before l) first last
+pub round_stop_given : (a b c : Option (List ℕ)) (old mid new : Place) (used blocks : ℕ) (first packets : List Held) (stop : Stop) (end : RoundEnd) → mid.link ≡ Ethernet → used ≤ blocks → used ≡ round_need (map packet_of packets) → IsEndOf stop end
+    → Told a b (PassesOver old mid first packets) → Told b c (GivesRecord used blocks mid new [] (Err stop)) → Told a c (GivesRest blocks old new first packets end)
+round_stop_given a b c old mid new used blocks first packets stop end ethernet few u is so_far last =
+    Told-then a b c (PassesOver old mid first packets) (GivesRecord used blocks mid new [] (Err stop)) (GivesRest blocks old new first packets end)
+    (λ bytes rest left over l. λ from before passes. round_stop from mid new used blocks packets stop end before rest left ethernet few u is (over from before passes) l) so_far last
 
--- whatever was read of it, a round for which blocks are lacking ends
-pub round_unready : (a b : Option (List ℕ)) (old mid : Place) (blocks : ℕ) (packets : List Held) → Told a b (Passes old mid (map packet_of packets)) → Told a b (GivesRound blocks old mid packets ends.NoMemory)
-round_unready a b old mid blocks packets told =
-    Told-weaker a b (Passes old mid (map packet_of packets)) (GivesRound blocks old mid packets ends.NoMemory) (λ bytes left before. (before.0, before.1)) told
+-- whatever was read of it, a round for which there is no memory ends
+pub rest_unready : (a b : Option (List ℕ)) (old mid : Place) (blocks : ℕ) (first packets : List Held) → Told a b (PassesOver old mid first packets) → Told a b (GivesRest blocks old mid first packets ends.NoMemory)
+rest_unready a b old mid blocks first packets told =
+    Told-weaker a b (PassesOver old mid first packets) (GivesRest blocks old mid first packets ends.NoMemory)
+    (λ bytes left over. λ from before passes. let all = over from before passes in (all.0, all.1)) told
+
+-- no packets are read from anywhere
+passes_none : (place : Place) (bytes : List ℕ) → Passes place place [] bytes bytes
+passes_none place bytes = ([], refl, λ tail. record { found = refl; lengths = refl })
+
+-- a round of which no packet was there is read from its own place
+pub whole_given : (a b : Option (List ℕ)) (old new : Place) (blocks : ℕ) (first packets : List Held) (end : RoundEnd) → first ≡ [] → Told a b (GivesRest blocks old new first packets end) → Told a b (GivesRound blocks old new packets end)
+whole_given a b old new blocks first packets end none told =
+    Told-weaker a b (GivesRest blocks old new [] packets end) (GivesRound blocks old new packets end) (λ bytes left rest. rest old bytes (passes_none old bytes))
+    (subst (λ (xs : List Held). Told a b (GivesRest blocks old new xs packets end)) none told)
+
+pub whole_passes : (a b : Option (List ℕ)) (old new : Place) (first packets : List Held) → first ≡ [] → Told a b (PassesOver old new first packets) → Told a b (Passes old new (map packet_of packets))
+whole_passes a b old new first packets none told =
+    Told-weaker a b (PassesOver old new [] packets) (Passes old new (map packet_of packets)) (λ bytes left over. over old bytes (passes_none old bytes))
+    (subst (λ (xs : List Held). Told a b (PassesOver old new xs packets)) none told)
+
+pub whole_unready : (a b : Option (List ℕ)) (old mid : Place) (blocks : ℕ) (first packets : List Held) → first ≡ [] → Told a b (PassesOver old mid first packets) → Told a b (GivesRound blocks old mid packets ends.NoMemory)
+whole_unready a b old mid blocks first packets none told = whole_given a b old mid blocks first packets ends.NoMemory none (rest_unready a b old mid blocks first packets told)
+
+-- what is between two places, by what was in front of the first
+pub goes_over : (a b : Option (List ℕ)) (old new : Place) (first packets : List Held) → ReadSoFar a b old new first packets → GoesOver old new first packets
+goes_over a b old new first packets so_far = λ from began. record {
+  full = refl;
+  file = so_far.file ∙ began.file;
+  link = so_far.link ∙ began.link;
+  number = omega (arith, so_far.number, began.number);
+  ready = so_far.ready;
+}
+
+pub fills_round : (a b : Option (List ℕ)) (old new : Place) (first packets : List Held) (budget : ℕ) → length packets ≡ budget → ReadSoFar a b old new first packets → FillsRound old new first packets budget
+fills_round a b old new first packets budget full so_far = λ from began. record {
+  full = full;
+  file = so_far.file ∙ began.file;
+  link = so_far.link ∙ began.link;
+  number = omega (arith, so_far.number, began.number, full);
+  ready = so_far.ready;
+}
+
+-- of a place that no packet was read behind
+began : (place : Place) → IsReady place → PassesRound place place [] 0
+began place ready = record { full = refl; file = refl; link = refl; number = omega arith; ready = ready }
+
+pub whole_fills : (old new : Place) (first packets : List Held) (budget : ℕ) → IsReady old → first ≡ [] → FillsRound old new first packets budget → PassesRound old new packets budget
+whole_fills old new first packets budget ready none fills = subst (λ (xs : List Held). FillsRound old new xs packets budget) none fills old (began old ready)
+
+pub whole_goes : (old new : Place) (first packets : List Held) → IsReady old → first ≡ [] → GoesOver old new first packets → PassesRound old new packets (length packets)
+whole_goes old new first packets ready none goes = subst (λ (xs : List Held). GoesOver old new xs packets) none goes old (began old ready)
+
+pub whole_numbered : (n : ℕ) (first packets : List Held) → first ≡ [] → NumbersOn n first packets → NumberedFrom n packets
+whole_numbered n first packets none on = subst (λ (xs : List Held). NumbersOn n xs packets) none on n tt (omega arith)
+
+pub numbers_none : (n : ℕ) (first : List Held) → NumbersOn n first first
+numbers_none n first = λ k from is. from
+
+pub numbers_more : (n : ℕ) (mid : ℕ) (first packets : List Held) (p : Held) → NumbersOn n first packets → mid + length first ≡ n + length packets → p.number ≡ mid → NumbersOn n first (packets ++ p ∷ [])
+numbers_more n mid first packets p on at is = λ k from run. numbered_last k packets p (on k from run) (omega (arith, at, is, run))
 
 pub need_last : (packets : List Held) (p : Held) → round_need (map packet_of (packets ++ p ∷ [])) ≡ round_need (map packet_of packets) + need_of (length (buffer_bytes p.skb))
 need_last [] p = omega arith
@@ -200,8 +257,8 @@ pub captured_last : (xs : List Held) (p : Held) → AllByRecursion IsCaptured (m
 captured_last [] p h r = (r, tt)
 captured_last (x ∷ xs) p h r = (h.0, captured_last xs p h.1 r)
 
-pub so_far_at : (a b : Option (List ℕ)) (old new : Place) (xs ys : List Held) → ys ≡ xs → ReadSoFar a b old new xs → ReadSoFar a b old new ys
-so_far_at a b old new xs ys e h = subst (ReadSoFar a b old new) (sym e) h
+pub so_far_at : (a b : Option (List ℕ)) (old new : Place) (first xs ys : List Held) → ys ≡ xs → ReadSoFar a b old new first xs → ReadSoFar a b old new first ys
+so_far_at a b old new first xs ys e h = subst (ReadSoFar a b old new first) (sym e) h
 
 -- nothing else is of the round
 pub round_same : (n : ℕ) (x y : Account) → Same x y → IsRound n x → IsRound n y

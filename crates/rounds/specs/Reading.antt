@@ -9,7 +9,10 @@ use Rattle.pcap_io.specs.Reading.{Loses}
 use Rattle.offload_model.specs.Need.{need_of, needed, round_need}
 use Rattle.gro.specs.declared.packet.Packet.{Packet as Held}
 use Rattle.gro.specs.Held.{packet_of}
+use Rattle.rounds.specs.Fresh.{NumberedFrom}
 use Rattle.rounds.specs.Record.{in_front, Passes, Announces}
+use Rattle.rounds.specs.declared.reading.Halt.{Halt}
+use Rattle.rounds.specs.declared.reading.Halt.TheVariants as halts
 use Rattle.rounds.specs.declared.record.Stop.{Stop}
 use Rattle.rounds.specs.declared.record.Stop.TheVariants as stops
 use Rattle.rounds.specs.declared.round.RoundEnd.{RoundEnd}
@@ -50,3 +53,35 @@ pub record PassesRound (old new : Place) (round : List Held) (budget : ℕ) : Ty
   pub link : new.link ≡ old.link
   pub number : new.number ≡ old.number + budget
   pub ready : IsReady new
+
+-- ---- a round of which some packets are there already, that were read up to the place `mid`
+
+-- from wherever the first packets were read, these stand between
+abbrev pub PassesOver : Place → Place → List Held → List Held → List ℕ → List ℕ → Type 0
+PassesOver mid new first round bytes left =
+    (from : Place) → (before : List ℕ) → Passes from mid (map packet_of first) before bytes → Passes from new (map packet_of round) before left
+
+-- and from there the whole round is what its end says
+abbrev pub GivesRest : ℕ → Place → Place → List Held → List Held → RoundEnd → List ℕ → List ℕ → Type 0
+GivesRest blocks mid new first round end bytes left =
+    (from : Place) → (before : List ℕ) → Passes from mid (map packet_of first) before bytes → GivesRound blocks from new round end before left
+
+abbrev pub GivesMore : ℕ → Place → Place → List Held → List Held → Halt → List ℕ → List ℕ → Type 0
+GivesMore blocks mid new first round (halts.Ended end) bytes left = GivesRest blocks mid new first round end bytes left
+GivesMore blocks mid new first round halts.Lacking bytes left = PassesOver mid new first round bytes left
+
+-- from wherever the first packets were taken, these were, and the next one may be
+abbrev pub GoesOver : Place → Place → List Held → List Held → Type 0
+GoesOver mid new first round = (from : Place) → PassesRound from mid first (length first) → PassesRound from new round (length round)
+
+-- the same of a whole round
+abbrev pub FillsRound : Place → Place → List Held → List Held → ℕ → Type 0
+FillsRound mid new first round budget = (from : Place) → PassesRound from mid first (length first) → PassesRound from new round budget
+
+-- packets with numbers in turn, up to this one
+abbrev pub NumberedTo : ℕ → List Held → Type 0
+NumberedTo n round = (k : ℕ) × NumberedFrom k round × (k + length round ≡ n)
+
+-- with whatever number the first packets begin
+abbrev pub NumbersOn : ℕ → List Held → List Held → Type 0
+NumbersOn n first round = (k : ℕ) → NumberedFrom k first → k + length first ≡ n → NumberedFrom k round

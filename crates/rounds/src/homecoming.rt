@@ -1,5 +1,5 @@
 //! Blocks that come home while a round is read.
-ghost use Rattle.std.specs.Prelude.{◌≡◌, ◌⊎◌, ℕ, ◌+◌, ◌≤◌, true};
+ghost use Rattle.std.specs.Prelude.{◌≡◌, ◌⊎◌, ℕ, ◌+◌, ◌<◌, ◌≤◌, true, false};
 ghost use Rattle.block_pool.specs.PoolState.{home};
 
 use crate::memory::RECORD_BLOCKS;
@@ -35,6 +35,7 @@ impl Homecoming for AllHome {
 fn is_short(pool: &Pool, used: u32) -> bool
     requires { used ≤ pool.now.made }
     ensures long { (result ≡ true) ⊎ ((131 ≤ home pool.now) ⊎ (pool.now.made ≤ home pool.now + used)) }
+    ensures short { result ≡ true → (home pool.now < 131) × (home pool.now + used < pool.now.made) }
 {
     let (home, made) = (pool.home(), pool.made());
     home < RECORD_BLOCKS as u32 && home + used < made
@@ -45,6 +46,7 @@ fn is_short(pool: &Pool, used: u32) -> bool
 pub(crate) fn is_ready<H: Homecoming>(pool: &mut Pool, more: &mut H, used: u32) -> bool
     requires { used ≤ pool.old.made }
     ensures ready { result ≡ true → (131 ≤ home pool.new) ⊎ (pool.new.made ≤ home pool.new + used) }
+    ensures lacking { result ≡ false → (home pool.new < 131) × (home pool.new + used < pool.new.made) }
     ensures sum { home pool.new + H.brought more.old ≡ home pool.old + H.brought more.new }
     ensures same { (pool.new.made ≡ pool.old.made) × (pool.new.taken ≡ pool.old.taken) }
 {

@@ -79,6 +79,7 @@ impl Intake {
         ensures same { (self.new.blocks ≡ self.old.blocks) × (self.new.budget ≡ self.old.budget) }
         ensures budget { (1 ≤ self.old.budget) × (self.old.budget ≤ 4096) }
         ensures taken { min (self.old.taken + result.round.blocks) (2 ^ 64 - 1) ≤ self.new.taken }
+        ensures least { self.old.taken ≤ self.new.taken }
         ensures later { S.faults (source_of reader.old) ≤ S.faults (source_of reader.new) }
         ensures failed { result.end ≡ RoundEnd.ReadFault → Rose (S.faults (source_of reader.old)) (S.faults (source_of reader.new)) }
     {

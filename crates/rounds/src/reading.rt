@@ -12,7 +12,7 @@ ghost use Rattle.offload_model.specs.Need.{round_need};
 ghost use Rattle.offload_model.specs.Captured.{IsCaptured};
 ghost use Rattle.gro.specs.Held.{packet_of, of_packets, count_of, counts_of};
 ghost use Rattle.rounds.specs.Fresh.{AreRead, IsFresh, NumberedFrom};
-ghost use Rattle.rounds.specs.Reading.{GivesRound, PassesRound};
+ghost use Rattle.rounds.specs.Reading.{FillsRound, GivesMore, GivesRound, GoesOver, NumbersOn, PassesRound};
 
 use crate::homecoming::{Homecoming, is_ready};
 use crate::record::read_record;
@@ -33,8 +33,82 @@ fn packet_blocks(packet: &Packet) -> u32
     packet.skb.count() as u32 + 2
 }
 
-/// Reads records until there are `budget` of them, or no more: the blocks that they have, and why. Before each record blocks come
-/// home where it might lack some; `NoMemory` also where it still might.
+/// Why no more records of a round are read.
+#[derive(Clone, Copy, Debug, PartialEq, Eq)]
+pub(crate) enum Halt {
+    /// It has no more, for this.
+    Ended(RoundEnd),
+    /// Before the next record blocks are wanted that are out and not its own.
+    Lacking,
+}
+
+/// Reads on behind the packets that a round has already, with `used` blocks, until there are `budget` of them, or no more: the blocks
+/// that they then have, and why. Before each record blocks come home where it might lack some; `Lacking` where it still might.
+pub(crate) fn read_more<S: Source, H: Homecoming>(
+    alloc: Global,
+    pool: &mut Pool,
+    hold: &mut VecDeque<Sole>,
+    reader: &mut CaptureReader<'_, S>,
+    more: &mut H,
+    budget: usize,
+    packets: &mut VecDeque<Packet>,
+    used: u32,
+) -> (u32, Halt)
+    requires ready { IsReady (place_of reader.old) }
+    requires link { (place_of reader.old).link ≡ Ethernet }
+    requires empty { hold.old.items ≡ [] }
+    requires capacity { 131 ≤ deque_capacity hold.old }
+    requires made { pool.old.made ≤ 65536 }
+    requires size { length packets.old.items ≤ budget }
+    requires reserved { budget ≤ deque_capacity packets.old }
+    requires fresh { IsFresh 0 used (of_packets packets.old.items) }
+    requires count { counts_of packets.old.items ≡ used }
+    requires read { AreRead packets.old.items }
+    requires captured { AllByRecursion IsCaptured (map packet_of packets.old.items) }
+    requires need { used ≡ round_need (map packet_of packets.old.items) }
+    requires within { used ≤ pool.old.made }
+    ensures same_source { SameLoan reader.old reader.new }
+    ensures given { Told (S.left (source_of reader.old)) (S.left (source_of reader.new)) (GivesMore pool.old.made (place_of reader.old) (place_of reader.new) packets.old.items packets.new.items result.1) }
+    ensures size { length packets.new.items ≤ budget }
+    ensures fewer { result.1 ≢ Halt.Ended RoundEnd.Full → length packets.new.items < budget }
+    ensures full { result.1 ≡ Halt.Ended RoundEnd.Full → FillsRound (place_of reader.old) (place_of reader.new) packets.old.items packets.new.items budget }
+    ensures lacking { result.1 ≡ Halt.Lacking → GoesOver (place_of reader.old) (place_of reader.new) packets.old.items packets.new.items }
+    ensures wanted { result.1 ≡ Halt.Lacking → (home pool.new < 131) × (home pool.new + result.0 < pool.old.made) }
+    ensures fresh { IsFresh 0 result.0 (of_packets packets.new.items) }
+    ensures count { counts_of packets.new.items ≡ result.0 }
+    ensures read { AreRead packets.new.items }
+    ensures captured { AllByRecursion IsCaptured (map packet_of packets.new.items) }
+    ensures numbers { NumbersOn (place_of reader.old).number packets.old.items packets.new.items }
+    ensures need { result.0 ≡ round_need (map packet_of packets.new.items) }
+    ensures sum { home pool.new + result.0 + H.brought more.old ≡ home pool.old + used + H.brought more.new }
+    ensures within { result.0 ≤ pool.old.made }
+    ensures made { pool.new.made ≡ pool.old.made }
+    ensures taken { min (pool.old.taken + (result.0 - used)) (2 ^ 64 - 1) ≤ pool.new.taken }
+    ensures least { (used ≤ result.0) × (pool.old.taken ≤ pool.new.taken) }
+    ensures most { pool.new.taken + used ≤ pool.old.taken + pool.old.made }
+    ensures so_far { result.1 ≡ Halt.Lacking → pool.new.taken + used ≤ pool.old.taken + result.0 }
+    ensures empty { hold.new.items ≡ [] }
+    ensures capacity { deque_capacity hold.new ≡ deque_capacity hold.old }
+    ensures later { S.faults (source_of reader.old) ≤ S.faults (source_of reader.new) }
+    ensures failed { result.1 ≡ Halt.Ended RoundEnd.ReadFault → Rose (S.faults (source_of reader.old)) (S.faults (source_of reader.new)) }
+{
+    let mut used = used;
+    'reading: while packets.len() < budget {
+        if !is_ready(pool, more, used) {
+            return (used, Halt::Lacking);
+        }
+        let packet = match read_record(alloc, pool, hold, reader, &mut [], used) {
+            Ok(packet) => packet,
+            Err(stop) => return (used, Halt::Ended(end_of(stop))),
+        };
+        used += packet_blocks(&packet);
+        packets.push_back_reserved(packet);
+    }
+    (used, Halt::Ended(RoundEnd::Full))
+}
+
+/// Reads the records of a round, up to `budget` of them: the blocks that they have, and why there are no more. `NoMemory` also where
+/// blocks are wanted that are out.
 pub(crate) fn read_records<S: Source, H: Homecoming>(
     alloc: Global,
     pool: &mut Pool,
@@ -66,23 +140,16 @@ pub(crate) fn read_records<S: Source, H: Homecoming>(
     ensures within { result.0 ≤ pool.old.made }
     ensures made { pool.new.made ≡ pool.old.made }
     ensures taken { min (pool.old.taken + result.0) (2 ^ 64 - 1) ≤ pool.new.taken }
+    ensures least { pool.old.taken ≤ pool.new.taken }
     ensures most { pool.new.taken ≤ pool.old.taken + pool.old.made }
     ensures empty { hold.new.items ≡ [] }
     ensures capacity { deque_capacity hold.new ≡ deque_capacity hold.old }
     ensures later { S.faults (source_of reader.old) ≤ S.faults (source_of reader.new) }
     ensures failed { result.1 ≡ RoundEnd.ReadFault → Rose (S.faults (source_of reader.old)) (S.faults (source_of reader.new)) }
 {
-    let mut used = 0;
-    'reading: while packets.len() < budget {
-        if !is_ready(pool, more, used) {
-            return (used, RoundEnd::NoMemory);
-        }
-        let packet = match read_record(alloc, pool, hold, reader, &mut [], used) {
-            Ok(packet) => packet,
-            Err(stop) => return (used, end_of(stop)),
-        };
-        used += packet_blocks(&packet);
-        packets.push_back_reserved(packet);
+    let (blocks, halt) = read_more(alloc, pool, hold, reader, more, budget, packets, 0);
+    match halt {
+        Halt::Ended(end) => (blocks, end),
+        Halt::Lacking => (blocks, RoundEnd::NoMemory),
     }
-    (used, RoundEnd::Full)
 }

@@ -18,8 +18,11 @@ pub struct Round {
 }
 
 impl Model for Round {
-    ghost use Rattle.std.specs.Prelude.{◌≡◌, ℕ};
-    ghost use Rattle.gro.specs.Held.{of_packets, counts_of};
+    ghost use Rattle.std.specs.Prelude.{◌≡◌, ℕ, map};
+    ghost use Rattle.std.specs.List.{AllByRecursion};
+    ghost use Rattle.offload_model.specs.Captured.{IsCaptured};
+    ghost use Rattle.offload_model.specs.Need.{round_need};
+    ghost use Rattle.gro.specs.Held.{packet_of, of_packets, counts_of};
     ghost use Rattle.rounds.specs.Fresh.{AreRead, IsFresh, NumberedFrom};
     ghost use Rattle.rounds.specs.RoundsState.{RoundState};
 
@@ -27,7 +30,7 @@ impl Model for Round {
 
     ghost view = { λ r. record { packets = r.packets.items; blocks = r.blocks } };
 
-    ghost invariant = { λ r. IsFresh 0 r.blocks (of_packets r.packets.items) × AreRead r.packets.items × (counts_of r.packets.items ≡ r.blocks) × ((k : ℕ) × NumberedFrom k r.packets.items) };
+    ghost invariant = { λ r. IsFresh 0 r.blocks (of_packets r.packets.items) × AreRead r.packets.items × (counts_of r.packets.items ≡ r.blocks) × ((k : ℕ) × NumberedFrom k r.packets.items) × AllByRecursion IsCaptured (map packet_of r.packets.items) × (r.blocks ≡ round_need (map packet_of r.packets.items)) };
 }
 
 impl Round {

@@ -177,6 +177,7 @@ impl SegmentRun {
         ensures same { self.new.blocks ≡ self.old.blocks }
         ensures taken { result ≡ Ok Moved.One → Told (S.left (source_of reader.old)) (S.left (source_of reader.new)) (TakesOne self.old.taken self.new.taken (place_of reader.old) (place_of reader.new)) }
         ensures least { self.old.taken ≤ self.new.taken }
+        ensures most { self.new.taken ≤ self.old.taken + self.old.blocks }
         ensures later { S.faults (source_of reader.old) ≤ S.faults (source_of reader.new) }
         ensures later_sink { K.faults sink.old ≤ K.faults sink.new }
         ensures read { result ≡ Err SegFault.ReadFault → Rose (S.faults (source_of reader.old)) (S.faults (source_of reader.new)) }

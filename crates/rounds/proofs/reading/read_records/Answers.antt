@@ -1,87 +1,30 @@
-use Rattle.std.proofs.Common.{◌≡◌, ◌+◌, ◌++◌, ◌∷◌, [], List, ℕ, Ok, Err, ap, sym, subst, ◌∙◌, arith, refl, length, length-append, map}
+use Rattle.std.proofs.Common.{List, sym, subst, ap, ◌∙◌}
 use Rattle.off_io.specs.Told.{Told}
-use Rattle.std.specs.List.{AllByRecursion}
-use Rattle.offload_model.specs.Need.{round_need}
-use Rattle.offload_model.specs.Captured.{IsCaptured}
 use Rattle.gro.specs.declared.packet.Packet.{Packet}
-use Rattle.gro.specs.Held.{packet_of, of_packets, counts_of}
-use Rattle.rounds.specs.Fresh.{AreRead, IsFresh, NumberedFrom}
-use Rattle.rounds.specs.Record.{GivesRecord}
-use Rattle.rounds.proofs.Coming.{counts_last}
-use Rattle.rounds.proofs.Rounding.{no_front, so_far_none, so_far_at, so_far_more, round_stop_given, round_unready, need_last, read_last, captured_last}
-use Rattle.rounds.proofs.Taking.{fresh_none, fresh_more, numbered_last}
+use Rattle.gro.specs.Held.{of_packets}
+use Rattle.rounds.specs.declared.reading.Halt.{Halt}
+use Rattle.rounds.specs.declared.reading.Halt.TheVariants.{Ended}
+use Rattle.rounds.specs.Fresh.{IsFresh}
+use Rattle.rounds.specs.Reading.{GivesMore}
+use Rattle.rounds.proofs.Rounding.{whole_unready, whole_fills}
+use Rattle.rounds.proofs.Taking.{fresh_none}
 use Rattle.rounds.proofs.reading.read_records.Goals as goal
 
-pub reading-init : goal.reading-init
-reading-init g c =
-    let none = c.requires.none in
-    let place = c.args.reader.now.place in
-    record {
-      so_far = so_far_at _ _ place place [] c.args.packets.now.items none (so_far_none (g.S.Source.left c.args.reader.now.source.now) place c.requires.ready);
-      size = omega (arith, ap length none);
-      reserved = c.requires.reserved;
-      fresh = subst (λ (xs : List Packet). IsFresh 0 0 (of_packets xs)) (sym none) (fresh_none 0);
-      read = subst AreRead (sym none) tt;
-      captured = subst (λ (xs : List Packet). AllByRecursion IsCaptured (map packet_of xs)) (sym none) tt;
-      numbers = subst (NumberedFrom place.number) (sym none) tt;
-      count = ap counts_of none;
-      need = sym (ap (λ (xs : List Packet). round_need (map packet_of xs)) none);
-      sum = omega arith;
-      within = omega arith;
-      made = refl;
-      taken = omega arith;
-      most = omega arith;
-      empty = c.requires.empty;
-      capacity = refl;
-      same = refl;
-      later = omega arith;
-    }
+pub read_more-blocks-requires-clause-fresh : goal.read_more-blocks-requires-clause-fresh
+read_more-blocks-requires-clause-fresh g c = subst (λ (xs : List Packet). IsFresh 0 0 (of_packets xs)) (sym c.requires.none) (fresh_none 0)
 
-pub returns-in-Err-clause-given : goal.returns-in-Err-clause-given
-returns-in-Err-clause-given g c =
-    let l = c.reading in
-    let i = l.invariant in
-    let none = no_front c.read_record.new.front c.in-Err.ensures.front in
-    let bare = subst (λ (f : List ℕ). Told (g.S.Source.left l.reader.source.now) (g.S.Source.left c.read_record.new.reader.source.now) (GivesRecord l.used c.is_ready.new.pool.made l.reader.place c.read_record.new.reader.place f (Err c.in-Err.stop))) none c.in-Err.ensures.given in
-    let made = c.is_ready.ensures.same.0 ∙ i.made in
-    let told = subst (λ (k : ℕ). Told (g.S.Source.left l.reader.source.now) (g.S.Source.left c.read_record.new.reader.source.now) (GivesRecord l.used k l.reader.place c.read_record.new.reader.place [] (Err c.in-Err.stop))) made bare in
-    round_stop_given _ _ _ c.args.reader.now.place l.reader.place c.read_record.new.reader.place l.used c.args.pool.now.made l.packets.items c.in-Err.stop c.end_of.result (i.so_far.link ∙ c.requires.link) i.within i.need c.end_of.ensures i.so_far.told told
+pub returns-in-Ended-clause-full : goal.returns-in-Ended-clause-full
+returns-in-Ended-clause-full g c = λ full.
+    let r = c.read_more-blocks in
+    whole_fills c.args.reader.now.place r.new.reader.place c.args.packets.now.items r.new.packets.items c.args.budget c.requires.ready c.requires.none (r.ensures.full (c.in-Ended.is ∙ ap Ended full))
 
-pub returns-then-not-is_ready-clause-given : goal.returns-then-not-is_ready-clause-given
-returns-then-not-is_ready-clause-given g c =
-    let l = c.reading in
-    round_unready _ _ c.args.reader.now.place l.reader.place c.args.pool.now.made l.packets.items l.invariant.so_far.told
-
-pub reading-preserved : goal.reading-preserved
-reading-preserved g c =
-    let l = c.reading in
-    let i = l.invariant in
-    let s = c.is_ready.ensures in
-    let r = c.in-Ok.ensures in
-    let p = c.in-Ok.packet in
-    let ps = l.packets.items in
-    let qs = c.push_back_reserved.new.self.items in
-    let e : qs ≡ ps ++ p ∷ [] = c.push_back_reserved.ensures.items in
-    let k = c.packet_blocks-used.ensures in
-    let none = no_front c.read_record.new.front r.front in
-    let told = subst (λ (f : List ℕ). Told (g.S.Source.left l.reader.source.now) (g.S.Source.left c.read_record.new.reader.source.now) (GivesRecord l.used c.is_ready.new.pool.made l.reader.place c.read_record.new.reader.place f (Ok p))) none r.given in
-    record {
-      so_far = so_far_at _ _ c.args.reader.now.place c.read_record.new.reader.place (ps ++ p ∷ []) qs e (so_far_more _ _ _ c.args.reader.now.place l.reader.place c.read_record.new.reader.place l.used c.is_ready.new.pool.made ps p i.so_far told r.next);
-      size = omega (arith, ap length e, length-append ps (p ∷ []), i.size, c.reading-test.true, c.len.ensures);
-      reserved = omega (arith, i.reserved, c.push_back_reserved.ensures);
-      fresh = subst (λ (xs : List Packet). IsFresh 0 (l.used + c.packet_blocks-used.result) (of_packets xs)) (sym e) (subst (λ (n : ℕ). IsFresh 0 (l.used + n) (of_packets (ps ++ p ∷ []))) (sym k) (fresh_more l.used _ ps p i.fresh r.fresh));
-      read = subst AreRead (sym e) (read_last ps p i.read r.read);
-      captured = subst (λ (xs : List Packet). AllByRecursion IsCaptured (map packet_of xs)) (sym e) (captured_last ps p i.captured (r.captured (i.so_far.link ∙ c.requires.link)));
-      numbers = subst (NumberedFrom c.args.reader.now.place.number) (sym e) (numbered_last c.args.reader.now.place.number ps p i.numbers (r.number ∙ i.so_far.number));
-      count = omega (arith, ap counts_of e, counts_last ps p, i.count, k);
-      need = omega (arith, ap (λ (xs : List Packet). round_need (map packet_of xs)) e, need_last ps p, i.need, k, r.need);
-      sum = omega (arith, i.sum, s.sum, r.home, k);
-      within = omega (arith, s.same.0, i.made, r.fits, k);
-      made = omega (arith, i.made, s.same.0, r.made);
-      taken = omega (arith, i.taken, s.same.1, r.taken, k);
-      most = omega (arith, i.most, s.same.1, r.taken, k);
-      empty = r.empty;
-      capacity = omega (arith, r.capacity, i.capacity);
-      same = r.same_source ∙ i.same;
-      later = omega (arith, r.later, i.later);
-    }
+pub returns-in-Lacking-clause-given : goal.returns-in-Lacking-clause-given
+returns-in-Lacking-clause-given g c =
+    let r = c.read_more-blocks in
+    let a = g.S.Source.left c.args.reader.now.source.now in
+    let b = g.S.Source.left r.new.reader.source.now in
+    let old = c.args.reader.now.place in
+    let new = r.new.reader.place in
+    let first = c.args.packets.now.items in
+    whole_unready a b old new c.args.pool.now.made first r.new.packets.items c.requires.none
+    (subst (λ (h : Halt). Told a b (GivesMore c.args.pool.now.made old new first r.new.packets.items h)) c.in-Lacking.is r.ensures.given)

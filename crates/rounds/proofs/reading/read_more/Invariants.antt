@@ -5,26 +5,29 @@ use Rattle.std.specs.List.{AllByRecursion}
 use Rattle.offload_model.specs.Need.{round_need}
 use Rattle.offload_model.specs.Captured.{IsCaptured}
 use Rattle.gro.specs.Held.{packet_of, of_packets, counts_of}
-use Rattle.rounds.specs.Fresh.{AreRead, IsFresh, NumberedFrom}
+use Rattle.rounds.specs.Fresh.{AreRead, IsFresh}
+use Rattle.rounds.specs.Reading.{NumbersOn}
 use Rattle.rounds.proofs.Rounding.{ReadSoFar}
-use Rattle.rounds.proofs.reading.read_records.Given as goal
+use Rattle.rounds.proofs.reading.read_more.Given as goal
 
 abbrev pub invariant-reading : goal.invariant-reading
 invariant-reading g l = record {
-  so_far : ReadSoFar (g.S.Source.left l.initial.reader.source.now) (g.S.Source.left l.reader.source.now) l.initial.reader.place l.reader.place l.packets.items;
+  so_far : ReadSoFar (g.S.Source.left l.initial.reader.source.now) (g.S.Source.left l.reader.source.now) l.initial.reader.place l.reader.place l.initial.packets.items l.packets.items;
   size : length l.packets.items ≤ l.budget;
   reserved : l.budget ≤ deque_capacity l.packets;
   fresh : IsFresh 0 l.used (of_packets l.packets.items);
   read : AreRead l.packets.items;
   captured : AllByRecursion IsCaptured (map packet_of l.packets.items);
-  numbers : NumberedFrom l.initial.reader.place.number l.packets.items;
+  numbers : NumbersOn l.initial.reader.place.number l.initial.packets.items l.packets.items;
   count : counts_of l.packets.items ≡ l.used;
   need : l.used ≡ round_need (map packet_of l.packets.items);
-  sum : home l.pool + l.used + g.H.Homecoming.brought l.initial.more ≡ home l.initial.pool + g.H.Homecoming.brought l.more;
+  sum : home l.pool + l.used + g.H.Homecoming.brought l.initial.more ≡ home l.initial.pool + l.initial.used + g.H.Homecoming.brought l.more;
   within : l.used ≤ l.initial.pool.made;
   made : l.pool.made ≡ l.initial.pool.made;
-  taken : min (l.initial.pool.taken + l.used) (2 ^ 64 - 1) ≤ l.pool.taken;
-  most : l.pool.taken ≤ l.initial.pool.taken + l.used;
+  more : l.initial.used ≤ l.used;
+  taken : min (l.initial.pool.taken + (l.used - l.initial.used)) (2 ^ 64 - 1) ≤ l.pool.taken;
+  least : l.initial.pool.taken ≤ l.pool.taken;
+  most : l.pool.taken + l.initial.used ≤ l.initial.pool.taken + l.used;
   empty : l.hold.items ≡ [];
   capacity : deque_capacity l.hold ≡ deque_capacity l.initial.hold;
   same : l.reader.source.ghost_name ≡ l.initial.reader.source.ghost_name;

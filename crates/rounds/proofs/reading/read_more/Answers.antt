@@ -1,0 +1,102 @@
+use Rattle.std.proofs.Common.{◌≡◌, ◌+◌, ◌++◌, ◌∷◌, [], List, ℕ, Ok, Err, ap, sym, subst, ◌∙◌, arith, refl, length, length-append, map}
+use Rattle.off_io.specs.Told.{Told}
+use Rattle.std.specs.List.{AllByRecursion}
+use Rattle.offload_model.specs.Need.{round_need}
+use Rattle.offload_model.specs.Captured.{IsCaptured}
+use Rattle.gro.specs.declared.packet.Packet.{Packet}
+use Rattle.gro.specs.Held.{packet_of, of_packets, counts_of}
+use Rattle.rounds.specs.Fresh.{AreRead, IsFresh}
+use Rattle.rounds.specs.Reading.{NumbersOn}
+use Rattle.rounds.specs.Record.{GivesRecord}
+use Rattle.rounds.proofs.Coming.{counts_last}
+use Rattle.rounds.proofs.Rounding.{no_front, so_far_none, so_far_at, so_far_more, round_stop_given, need_last, read_last, captured_last, goes_over, fills_round, numbers_none, numbers_more}
+use Rattle.rounds.proofs.Taking.{fresh_more}
+use Rattle.rounds.proofs.reading.read_more.Goals as goal
+
+pub reading-init : goal.reading-init
+reading-init g c =
+    let place = c.args.reader.now.place in
+    let first = c.args.packets.now.items in
+    record {
+      so_far = so_far_none (g.S.Source.left c.args.reader.now.source.now) place first c.requires.ready;
+      size = c.requires.size;
+      reserved = c.requires.reserved;
+      fresh = c.requires.fresh;
+      read = c.requires.read;
+      captured = c.requires.captured;
+      numbers = numbers_none place.number first;
+      count = c.requires.count;
+      need = c.requires.need;
+      sum = omega arith;
+      within = c.requires.within;
+      made = refl;
+      more = omega arith;
+      taken = omega arith;
+      least = omega arith;
+      most = omega arith;
+      empty = c.requires.empty;
+      capacity = refl;
+      same = refl;
+      later = omega arith;
+    }
+
+pub returns-in-Err-clause-given : goal.returns-in-Err-clause-given
+returns-in-Err-clause-given g c =
+    let l = c.reading in
+    let i = l.invariant in
+    let none = no_front c.read_record.new.front c.in-Err.ensures.front in
+    let bare = subst (λ (f : List ℕ). Told (g.S.Source.left l.reader.source.now) (g.S.Source.left c.read_record.new.reader.source.now) (GivesRecord l.used c.is_ready.new.pool.made l.reader.place c.read_record.new.reader.place f (Err c.in-Err.stop))) none c.in-Err.ensures.given in
+    let made = c.is_ready.ensures.same.0 ∙ i.made in
+    let told = subst (λ (k : ℕ). Told (g.S.Source.left l.reader.source.now) (g.S.Source.left c.read_record.new.reader.source.now) (GivesRecord l.used k l.reader.place c.read_record.new.reader.place [] (Err c.in-Err.stop))) made bare in
+    round_stop_given _ _ _ c.args.reader.now.place l.reader.place c.read_record.new.reader.place l.used c.args.pool.now.made c.args.packets.now.items l.packets.items c.in-Err.stop c.end_of.result (i.so_far.link ∙ c.requires.link) i.within i.need c.end_of.ensures i.so_far.told told
+
+pub returns-then-not-is_ready-clause-given : goal.returns-then-not-is_ready-clause-given
+returns-then-not-is_ready-clause-given g c = c.reading.invariant.so_far.told
+
+pub returns-then-not-is_ready-clause-lacking : goal.returns-then-not-is_ready-clause-lacking
+returns-then-not-is_ready-clause-lacking g c = λ is.
+    let l = c.reading in
+    goes_over _ _ c.args.reader.now.place l.reader.place c.args.packets.now.items l.packets.items l.invariant.so_far
+
+pub returns-clause-full : goal.returns-clause-full
+returns-clause-full g c = λ is.
+    let l = c.reading in
+    fills_round _ _ c.args.reader.now.place l.reader.place c.args.packets.now.items l.packets.items c.args.budget (omega (arith, l.invariant.size, c.reading-test.false, c.len.ensures)) l.invariant.so_far
+
+pub reading-preserved : goal.reading-preserved
+reading-preserved g c =
+    let l = c.reading in
+    let i = l.invariant in
+    let s = c.is_ready.ensures in
+    let r = c.in-Ok.ensures in
+    let p = c.in-Ok.packet in
+    let ps = l.packets.items in
+    let first = c.args.packets.now.items in
+    let start = c.args.reader.now.place.number in
+    let qs = c.push_back_reserved.new.self.items in
+    let e : qs ≡ ps ++ p ∷ [] = c.push_back_reserved.ensures.items in
+    let k = c.packet_blocks-used.ensures in
+    let none = no_front c.read_record.new.front r.front in
+    let told = subst (λ (f : List ℕ). Told (g.S.Source.left l.reader.source.now) (g.S.Source.left c.read_record.new.reader.source.now) (GivesRecord l.used c.is_ready.new.pool.made l.reader.place c.read_record.new.reader.place f (Ok p))) none r.given in
+    record {
+      so_far = so_far_at _ _ c.args.reader.now.place c.read_record.new.reader.place first (ps ++ p ∷ []) qs e (so_far_more _ _ _ c.args.reader.now.place l.reader.place c.read_record.new.reader.place l.used c.is_ready.new.pool.made first ps p i.so_far told r.next);
+      size = omega (arith, ap length e, length-append ps (p ∷ []), i.size, c.reading-test.true, c.len.ensures);
+      reserved = omega (arith, i.reserved, c.push_back_reserved.ensures);
+      fresh = subst (λ (xs : List Packet). IsFresh 0 (l.used + c.packet_blocks-used.result) (of_packets xs)) (sym e) (subst (λ (n : ℕ). IsFresh 0 (l.used + n) (of_packets (ps ++ p ∷ []))) (sym k) (fresh_more l.used _ ps p i.fresh r.fresh));
+      read = subst AreRead (sym e) (read_last ps p i.read r.read);
+      captured = subst (λ (xs : List Packet). AllByRecursion IsCaptured (map packet_of xs)) (sym e) (captured_last ps p i.captured (r.captured (i.so_far.link ∙ c.requires.link)));
+      numbers = subst (NumbersOn start first) (sym e) (numbers_more start l.reader.place.number first ps p i.numbers i.so_far.number r.number);
+      count = omega (arith, ap counts_of e, counts_last ps p, i.count, k);
+      need = omega (arith, ap (λ (xs : List Packet). round_need (map packet_of xs)) e, need_last ps p, i.need, k, r.need);
+      sum = omega (arith, i.sum, s.sum, r.home, k);
+      within = omega (arith, s.same.0, i.made, r.fits, k);
+      made = omega (arith, i.made, s.same.0, r.made);
+      more = omega (arith, i.more);
+      taken = omega (arith, i.more, i.taken, s.same.1, r.taken, k);
+      least = omega (arith, i.least, s.same.1, r.least);
+      most = omega (arith, i.most, s.same.1, r.taken, k);
+      empty = r.empty;
+      capacity = omega (arith, r.capacity, i.capacity);
+      same = r.same_source ∙ i.same;
+      later = omega (arith, r.later, i.later);
+    }
