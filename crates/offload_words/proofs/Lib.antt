@@ -1,4 +1,4 @@
-pub mod CommandSet
+mod CommandSet
 mod NumberReads
 mod OptionNumbers
 mod OptionRows
