@@ -33,7 +33,7 @@ pub(crate) fn check_subcommand<'a>(alloc: Global) -> Result<clap::Command<'a>, A
 
 /// The options among the matches of `check`.
 pub(crate) fn check_options(matches: &ArgMatches<'_>) -> Option<CheckOptions>
-    ensures { result ≡ check_options_in (rows_of (found_of matches.now)) }
+    ensures options { result ≡ check_options_in (rows_of (found_of matches.now)) }
 {
     let merge = merge_options(matches)?;
     let count = number_at(matches, "count")?;

@@ -12,7 +12,7 @@ use std::alloc::{AllocError, Global};
 
 /// The program's own level: one subcommand is required.
 fn program<'a>(alloc: Global) -> clap::Command<'a>
-    ensures { app_of result ≡ needs_subcommand (new_app (codes "offload")) }
+    ensures app { app_of result ≡ needs_subcommand (new_app (codes "offload")) }
 {
     clap::Command::new(alloc, "offload").subcommand_required(true)
 }
@@ -22,15 +22,15 @@ fn with_command<'a>(
     app: clap::Command<'a>,
     subcommand: clap::Command<'a>,
 ) -> Result<clap::Command<'a>, AllocError>
-    requires { has_globals_of subcommand ≡ false }
-    ensures { IfOk result (λ c. app_of c ≡ with_subcommand (app_of app.entry) (app_of subcommand.entry).top) }
+    requires local { has_globals_of subcommand ≡ false }
+    ensures app { IfOk result (λ c. app_of c ≡ with_subcommand (app_of app.entry) (app_of subcommand.entry).top) }
 {
     app.subcommand(subcommand)
 }
 
 /// The program with the commands that read a capture.
 fn reading_commands<'a>(alloc: Global) -> Result<clap::Command<'a>, AllocError>
-    ensures { IfOk result (λ c. app_of c ≡ reading_app) }
+    ensures app { IfOk result (λ c. app_of c ≡ reading_app) }
 {
     let merge = with_command(program(alloc), merge_subcommand(alloc)?)?;
     let segment = with_command(merge, segment_subcommand(alloc)?)?;
@@ -39,7 +39,7 @@ fn reading_commands<'a>(alloc: Global) -> Result<clap::Command<'a>, AllocError>
 
 /// The whole command set.
 pub(crate) fn offload_commands<'a>(alloc: Global) -> Result<clap::Command<'a>, AllocError>
-    ensures { IfOk result (λ c. app_of c ≡ offload_app) }
+    ensures app { IfOk result (λ c. app_of c ≡ offload_app) }
 {
     with_command(reading_commands(alloc)?, make_subcommand(alloc)?)
 }

@@ -30,7 +30,7 @@ pub(crate) fn make_subcommand<'a>(alloc: Global) -> Result<clap::Command<'a>, Al
 
 /// The options among the matches of `make`.
 pub(crate) fn make_options(matches: &ArgMatches<'_>) -> Option<MakeOptions>
-    ensures { result ≡ make_options_in (rows_of (found_of matches.now)) }
+    ensures options { result ≡ make_options_in (rows_of (found_of matches.now)) }
 {
     let seed = wide_number_at(matches, "seed")?;
     let count = number_at(matches, "count")?;

@@ -29,7 +29,7 @@ pub(crate) fn with_merge_options<'a>(
     alloc: Global,
     app: clap::Command<'a>,
 ) -> Result<clap::Command<'a>, AllocError>
-    requires { has_globals_of app ≡ false }
+    requires local { has_globals_of app ≡ false }
     ensures app { IfOk result (λ c. app_of c ≡ with_merge_rules (app_of app.entry)) }
     ensures local { IfOk result (λ c. has_globals_of c ≡ false) }
 {
@@ -50,7 +50,7 @@ pub(crate) fn merge_subcommand<'a>(alloc: Global) -> Result<clap::Command<'a>, A
 
 /// The options among the matches of `merge`.
 pub(crate) fn merge_options(matches: &ArgMatches<'_>) -> Option<MergeOptions>
-    ensures { result ≡ merge_options_in (rows_of (found_of matches.now)) }
+    ensures options { result ≡ merge_options_in (rows_of (found_of matches.now)) }
 {
     let queues = number_at(matches, "queues")?;
     let budget = number_at(matches, "budget")?;

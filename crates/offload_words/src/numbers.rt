@@ -43,7 +43,7 @@ pub(crate) fn with_plain_number<'a>(
     low: u64,
     high: u64,
 ) -> Result<clap::Command<'a>, AllocError>
-    requires { has_globals_of app ≡ false }
+    requires local { has_globals_of app ≡ false }
     ensures app { IfOk result (λ c. app_of c ≡ with_rule (app_of app.entry) (plain_number_rule id.entry.now low high)) }
     ensures local { IfOk result (λ c. has_globals_of c ≡ false) }
 {
@@ -59,7 +59,7 @@ pub(crate) fn with_number<'a>(
     high: u64,
     default: &'a str,
 ) -> Result<clap::Command<'a>, AllocError>
-    requires { has_globals_of app ≡ false }
+    requires local { has_globals_of app ≡ false }
     ensures app { IfOk result (λ c. app_of c ≡ with_rule (app_of app.entry) (number_rule id.entry.now low high default.entry.now)) }
     ensures local { IfOk result (λ c. has_globals_of c ≡ false) }
 {
@@ -71,7 +71,7 @@ pub(crate) fn with_blocks<'a>(
     alloc: Global,
     app: clap::Command<'a>,
 ) -> Result<clap::Command<'a>, AllocError>
-    requires { has_globals_of app ≡ false }
+    requires local { has_globals_of app ≡ false }
     ensures app { IfOk result (λ c. app_of c ≡ with_rule (app_of app.entry) blocks_rule) }
     ensures local { IfOk result (λ c. has_globals_of c ≡ false) }
 {
@@ -80,14 +80,14 @@ pub(crate) fn with_blocks<'a>(
 
 /// The number at the option `--id`, of 64 bits.
 pub(crate) fn wide_number_at(matches: &ArgMatches<'_>, id: &str) -> Option<u64>
-    ensures { result ≡ number_in 18446744073709551615 id.now (rows_of (found_of matches.now)) }
+    ensures number { result ≡ number_in 18446744073709551615 id.now (rows_of (found_of matches.now)) }
 {
     matches.get_one::<u64>(id)
 }
 
 /// The number at the option `--id`.
 pub(crate) fn number_at(matches: &ArgMatches<'_>, id: &str) -> Option<u32>
-    ensures { result ≡ number_in 4294967295 id.now (rows_of (found_of matches.now)) }
+    ensures number { result ≡ number_in 4294967295 id.now (rows_of (found_of matches.now)) }
 {
     matches.get_one::<u32>(id)
 }

@@ -26,7 +26,7 @@ pub(crate) fn segment_subcommand<'a>(alloc: Global) -> Result<clap::Command<'a>,
 
 /// The options among the matches of `segment`.
 pub(crate) fn segment_options(matches: &ArgMatches<'_>) -> Option<SegmentOptions>
-    ensures { result ≡ segment_options_in (rows_of (found_of matches.now)) }
+    ensures options { result ≡ segment_options_in (rows_of (found_of matches.now)) }
 {
     let blocks = number_at(matches, "blocks")?;
     Some(SegmentOptions { blocks })

@@ -41,28 +41,28 @@ pub enum WordsFault {
 
 /// `merge` with the options among its matches.
 fn merge_command(matches: &ArgMatches<'_>) -> Option<Command>
-    ensures { result ≡ option_map Command.Merge (merge_options_in (rows_of (found_of matches.now))) }
+    ensures command { result ≡ option_map Command.Merge (merge_options_in (rows_of (found_of matches.now))) }
 {
     Some(Command::Merge(merge_options(matches)?))
 }
 
 /// `segment` with the options among its matches.
 fn segment_command(matches: &ArgMatches<'_>) -> Option<Command>
-    ensures { result ≡ option_map Command.Segment (segment_options_in (rows_of (found_of matches.now))) }
+    ensures command { result ≡ option_map Command.Segment (segment_options_in (rows_of (found_of matches.now))) }
 {
     Some(Command::Segment(segment_options(matches)?))
 }
 
 /// `check` with the options among its matches.
 fn check_command(matches: &ArgMatches<'_>) -> Option<Command>
-    ensures { result ≡ option_map Command.Check (check_options_in (rows_of (found_of matches.now))) }
+    ensures command { result ≡ option_map Command.Check (check_options_in (rows_of (found_of matches.now))) }
 {
     Some(Command::Check(check_options(matches)?))
 }
 
 /// `make` with the options among its matches.
 fn make_command(matches: &ArgMatches<'_>) -> Option<Command>
-    ensures { result ≡ option_map Command.Make (make_options_in (rows_of (found_of matches.now))) }
+    ensures command { result ≡ option_map Command.Make (make_options_in (rows_of (found_of matches.now))) }
 {
     Some(Command::Make(make_options(matches)?))
 }
@@ -70,7 +70,7 @@ fn make_command(matches: &ArgMatches<'_>) -> Option<Command>
 /// The command of a subcommand's name and its matches.
 #[tactic(auto, unfolding(crate::specs::Commands::command_named))]
 fn command_at(name: &str, matches: &ArgMatches<'_>) -> Option<Command>
-    ensures { result ≡ command_named name.now (rows_of (found_of matches.now)) }
+    ensures command { result ≡ command_named name.now (rows_of (found_of matches.now)) }
 {
     match name {
         "merge" => merge_command(matches),
@@ -83,7 +83,7 @@ fn command_at(name: &str, matches: &ArgMatches<'_>) -> Option<Command>
 
 /// The command among the matches of a whole line.
 fn command_in(matches: &ArgMatches<'_>) -> Option<Command>
-    ensures { result ≡ option_and_then (λ p. command_named p.0 p.1) (subcommand_rows_of matches.now) }
+    ensures command { result ≡ option_and_then (λ p. command_named p.0 p.1) (subcommand_rows_of matches.now) }
 {
     let (name, options) = matches.subcommand()?;
     command_at(name, options)
@@ -91,8 +91,8 @@ fn command_in(matches: &ArgMatches<'_>) -> Option<Command>
 
 /// The command of `words` by a command set that clap is told of.
 fn parse_by<'a>(app: clap::Command<'a>, words: &'a [String]) -> Result<Command, WordsFault>
-    requires { is_simple_and_free (app_of app) ≡ true }
-    ensures { MatchResult result (λ c. command_by (app_of app.entry) (map string_bytes words.entry.now) ≡ Some c)
+    requires simple { is_simple_and_free (app_of app) ≡ true }
+    ensures command { MatchResult result (λ c. command_by (app_of app.entry) (map string_bytes words.entry.now) ≡ Some c)
         (λ e. e ≡ WordsFault.Usage → command_by (app_of app.entry) (map string_bytes words.entry.now) ≡ None) }
 {
     match app.try_get_matches_from(words) {
@@ -126,5 +126,5 @@ pub fn parse_words(alloc: Global, words: &[String]) -> Result<Command, WordsFaul
 
 /// The law that a line in which clap finds no fault asks for a command: each line has a fault or is a command.
 pub fn every_faultless_line_is_a_command()
-    ensures { FaultlessLinesAreCommands }
+    ensures law { FaultlessLinesAreCommands }
 {}

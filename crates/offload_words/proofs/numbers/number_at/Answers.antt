@@ -10,6 +10,8 @@ use Rattle.offload_words.proofs.numbers.number_at.Goals as goal
 pub returns : goal.returns
 returns c =
     let f = found_of c.args.matches.now in
-    one_number 32 4294967295 (λ bs r. ParsesUnsigned 32 10 bs r × ExplainsUnsignedError 10 bs r × HasUnsignedDigitsIfOk bs r) (one_text f c.args.id.now) c.get_one.result
-    refl (lit< tt) (λ u x g. g.0) c.get_one.ensures.none c.get_one.ensures.value
-    ∙ ap (option_and_then (number_of 4294967295)) (one_text-rows f c.args.id.now)
+    record {
+      number = one_number 32 4294967295 (λ bs r. ParsesUnsigned 32 10 bs r × ExplainsUnsignedError 10 bs r × HasUnsignedDigitsIfOk bs r) (one_text f c.args.id.now) c.get_one.result
+          refl (lit< tt) (λ u x g. g.0) c.get_one.ensures.none c.get_one.ensures.value
+          ∙ ap (option_and_then (number_of 4294967295)) (one_text-rows f c.args.id.now);
+    }
