@@ -24,7 +24,7 @@ const FULL: u16 = 1200;
 
 // The next state of a linear congruential generator.
 fn next_state(state: u64) -> u64
-    ensures { result ≡ next_state_of state }
+    ensures next { result ≡ next_state_of state }
 {
     state
         .wrapping_mul(6364136223846793005)
@@ -33,7 +33,7 @@ fn next_state(state: u64) -> u64
 
 // The number below `limit` that a state gives, by its high bits.
 fn drawn(state: u64, limit: u64) -> u64
-    requires { 0 < limit }
+    requires some { 0 < limit }
     ensures number { result ≡ drawn_of state limit }
     ensures below { result < limit }
 {

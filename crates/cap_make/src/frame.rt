@@ -18,7 +18,7 @@ fn checksum(addresses: &[u8], pseudo: &[u8], header: &[u8], payload: &[u8]) -> u
     requires pseudo { length pseudo.now ≤ 32 }
     requires header { length header.now ≤ 32 }
     requires payload { length payload.now ≤ 1320 }
-    ensures { result ≡ checksum_of (addresses.now ++ (pseudo.now ++ (header.now ++ payload.now))) }
+    ensures sum { result ≡ checksum_of (addresses.now ++ (pseudo.now ++ (header.now ++ payload.now))) }
 {
     let mut sum = Partial::new();
     sum.add(addresses);

@@ -23,20 +23,20 @@ const WINDOW: u16 = 1024;
 
 #[inline(always)]
 fn high(n: u16) -> u8
-    ensures { result ≡ n / 256 }
+    ensures value { result ≡ n / 256 }
 {
     (n / 256) as u8
 }
 
 #[inline(always)]
 fn low(n: u16) -> u8
-    ensures { result ≡ n % 256 }
+    ensures value { result ≡ n % 256 }
 {
     (n % 256) as u8
 }
 
 pub(crate) fn ethernet(flow: u8, kind: u16) -> [u8; 14]
-    ensures { result ≡ ethernet_of flow kind }
+    ensures bytes { result ≡ ethernet_of flow kind }
 {
     [
         2,
@@ -57,14 +57,14 @@ pub(crate) fn ethernet(flow: u8, kind: u16) -> [u8; 14]
 }
 
 pub(crate) fn tag(flow: u8, kind: u16) -> [u8; 4]
-    ensures { result ≡ tag_of flow kind }
+    ensures bytes { result ≡ tag_of flow kind }
 {
     let control = 100 + u16::from(flow);
     [high(control), low(control), high(kind), low(kind)]
 }
 
 pub(crate) fn ip4_front(len: u16, identification: u16, protocol: u8, sum: u16) -> [u8; 12]
-    ensures { result ≡ ip4_front_of len identification protocol sum }
+    ensures bytes { result ≡ ip4_front_of len identification protocol sum }
 {
     [
         0x45,
@@ -83,25 +83,25 @@ pub(crate) fn ip4_front(len: u16, identification: u16, protocol: u8, sum: u16) -
 }
 
 pub(crate) fn ip4_ends(flow: u8) -> [u8; 8]
-    ensures { result ≡ ip4_ends_of flow }
+    ensures bytes { result ≡ ip4_ends_of flow }
 {
     [10, 0, 0, flow, 10, 0, 1, flow]
 }
 
 pub(crate) fn tunnel_ends(flow: u8) -> [u8; 8]
-    ensures { result ≡ tunnel_ends_of flow }
+    ensures bytes { result ≡ tunnel_ends_of flow }
 {
     [192, 0, 2, flow, 192, 0, 2, 100]
 }
 
 pub(crate) fn ip6_front(len: u16) -> [u8; 8]
-    ensures { result ≡ ip6_front_of len }
+    ensures bytes { result ≡ ip6_front_of len }
 {
     [0x60, 0, 0, 0, high(len), low(len), PROTOCOL_TCP, 64]
 }
 
 pub(crate) fn ip6_ends(flow: u8) -> [u8; 32]
-    ensures { result ≡ ip6_ends_of flow }
+    ensures bytes { result ≡ ip6_ends_of flow }
 {
     [
         0x20, 0x01, 0x0d, 0xb8, 0, 0, 0, 0, 0, 0, 0, 0, 0, 0, 0, flow, 0x20, 0x01, 0x0d, 0xb8, 0,
@@ -110,19 +110,19 @@ pub(crate) fn ip6_ends(flow: u8) -> [u8; 32]
 }
 
 pub(crate) fn ip4_pseudo(len: u16) -> [u8; 4]
-    ensures { result ≡ ip4_pseudo_of len }
+    ensures bytes { result ≡ ip4_pseudo_of len }
 {
     [0, PROTOCOL_TCP, high(len), low(len)]
 }
 
 pub(crate) fn ip6_pseudo(len: u16) -> [u8; 8]
-    ensures { result ≡ ip6_pseudo_of len }
+    ensures bytes { result ≡ ip6_pseudo_of len }
 {
     [0, 0, high(len), low(len), 0, 0, 0, PROTOCOL_TCP]
 }
 
 pub(crate) fn tcp_header(segment: &Segment, sum: u16) -> [u8; 20]
-    ensures { result ≡ tcp_header_of segment.now sum }
+    ensures bytes { result ≡ tcp_header_of segment.now sum }
 {
     let port = 40000 + u16::from(segment.flow);
     let first = (segment.sequence / 65536) as u16;
@@ -152,7 +152,7 @@ pub(crate) fn tcp_header(segment: &Segment, sum: u16) -> [u8; 20]
 }
 
 pub(crate) fn udp_header(flow: u8, len: u16) -> [u8; 8]
-    ensures { result ≡ udp_header_of flow len }
+    ensures bytes { result ≡ udp_header_of flow len }
 {
     let port = 50000 + u16::from(flow);
     [
@@ -168,7 +168,7 @@ pub(crate) fn udp_header(flow: u8, len: u16) -> [u8; 8]
 }
 
 pub(crate) fn vxlan_header(flow: u8) -> [u8; 8]
-    ensures { result ≡ vxlan_header_of flow }
+    ensures bytes { result ≡ vxlan_header_of flow }
 {
     let network = 4096 + u16::from(flow);
     [8, 0, 0, 0, 0, high(network), low(network), 0]

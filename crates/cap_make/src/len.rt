@@ -7,7 +7,7 @@ use crate::record::RecordBytes;
 
 /// The number of bytes of the capture of this seed, of `count` records. It takes the time of making them.
 pub fn made_len(seed: u64, count: u32) -> u64
-    ensures { result ≡ length (made seed count) }
+    ensures len { result ≡ length (made seed count) }
 {
     let mut maker = Maker::new(seed);
     let mut buffer = RecordBytes::of_file_header();

@@ -35,7 +35,7 @@ impl Model for Maker {
 
 impl Maker {
     pub fn new(seed: u64) -> Self
-        ensures { result ≡ first_next seed }
+        ensures first { result ≡ first_next seed }
     {
         Maker {
             state: seed,
@@ -46,8 +46,8 @@ impl Maker {
 
     #[tactic(auto, unfolding(crate::specs::Capture::segment_by))]
     fn segment(&self, drawn: &RecordDraws) -> Segment
-        requires { drawn.now.flow < 8 }
-        ensures { result ≡ segment_by drawn.now self.now }
+        requires flow { drawn.now.flow < 8 }
+        ensures segment { result ≡ segment_by drawn.now self.now }
     {
         let flow = drawn.flow as usize;
         let jump = if drawn.event == JUMPING { 7 } else { 0 };
@@ -61,8 +61,8 @@ impl Maker {
     }
 
     fn pass(&mut self, drawn: &RecordDraws, segment: &Segment)
-        requires { drawn.now.flow < 8 }
-        ensures { self.new ≡ after_by drawn.now segment.now self.old }
+        requires flow { drawn.now.flow < 8 }
+        ensures next { self.new ≡ after_by drawn.now segment.now self.old }
     {
         let flow = drawn.flow as usize;
         let payload_len = u32::from(drawn.payload_len);
@@ -89,8 +89,8 @@ impl Maker {
 
 // Pushes the record's header before its frame.
 fn push_header(buffer: &mut RecordBytes, number: u32)
-    requires { length buffer.old ≤ 1304 }
-    ensures { buffer.new ≡ spelled Little (packet_of buffer.old number) }
+    requires room { length buffer.old ≤ 1304 }
+    ensures bytes { buffer.new ≡ spelled Little (packet_of buffer.old number) }
 {
     let len = buffer.bytes().len() as u32;
     // Back to front, so that each call's clause is the concatenation so far.

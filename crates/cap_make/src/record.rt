@@ -30,7 +30,7 @@ impl Model for RecordBytes {
 impl RecordBytes {
     /// The file header of a generated capture, in a record's place.
     pub fn of_file_header() -> Self
-        ensures { result ≡ file_bytes made_head Ethernet }
+        ensures bytes { result ≡ file_bytes made_head Ethernet }
     {
         let mut buffer = RecordBytes {
             bytes: [0; SIZE],
@@ -41,7 +41,7 @@ impl RecordBytes {
     }
 
     pub fn is_empty(&self) -> bool
-        ensures { IsTrue result ↔ self.now ≡ [] }
+        ensures empty { IsTrue result ↔ self.now ≡ [] }
     {
         self.bytes().is_empty()
     }
@@ -55,7 +55,7 @@ impl RecordBytes {
 
     /// Begins a record, by its payload: `len` bytes that count up from `first`.
     pub fn start(&mut self, first: u32, len: usize)
-        requires { len ≤ 1320 }
+        requires room { len ≤ 1320 }
         ensures bytes { self.new ≡ counting first len }
         ensures len { length self.new ≡ len }
     {
@@ -66,8 +66,8 @@ impl RecordBytes {
     /// Pushes a header.
     #[inline(always)]
     pub fn push(&mut self, header: &[u8])
-        requires { length header.now + length self.old ≤ 1320 }
-        ensures { self.new ≡ header.now ++ self.old }
+        requires room { length header.now + length self.old ≤ 1320 }
+        ensures bytes { self.new ≡ header.now ++ self.old }
     {
         let end = self.from;
         self.from = end - header.len();
@@ -88,7 +88,7 @@ impl RecordBytes {
 }
 
 fn count_up(bytes: &mut [u8], first: u8)
-    ensures { bytes.new ≡ counting first (length bytes.old) }
+    ensures bytes { bytes.new ≡ counting first (length bytes.old) }
 {
     let mut next = first;
     for byte in bytes.iter_mut() {
@@ -99,7 +99,7 @@ fn count_up(bytes: &mut [u8], first: u8)
 
 // Little-endian, microseconds, version 2.4, the greatest captured length as snaplen, Ethernet (pcap file format, section 4).
 fn file_header() -> [u8; 24]
-    ensures { result ≡ file_bytes made_head Ethernet }
+    ensures bytes { result ≡ file_bytes made_head Ethernet }
 {
     [
         0xd4, 0xc3, 0xb2, 0xa1, 2, 0, 4, 0, 0, 0, 0, 0, 0, 0, 0, 0, 0, 0, 4, 0, 1, 0, 0, 0,

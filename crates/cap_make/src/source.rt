@@ -31,7 +31,7 @@ impl MadeSource {
     /// The capture of this seed, of `count` records.
     #[tactic(auto, unfolding(crate::specs::Capture::made))]
     pub fn new(seed: u64, count: u32) -> Self
-        ensures { result ≡ made seed count }
+        ensures made { result ≡ made seed count }
     {
         MadeSource {
             maker: Maker::new(seed),
@@ -44,7 +44,7 @@ impl MadeSource {
 
 // Makes the next record where there is one and the bytes of the one before are gone.
 fn refill(maker: &mut Maker, buffer: &mut RecordBytes, number: u32, count: u32) -> u32
-    requires { number ≤ count }
+    requires within { number ≤ count }
     ensures same { buffer.new ++ records_from (count - result) result maker.new ≡ buffer.old ++ records_from (count - number) number maker.old }
     ensures within { result ≤ count }
     ensures all { buffer.new ≡ [] → result ≡ count }

@@ -11,15 +11,15 @@ pub returns-in_err-write_all-clause-err : goal.returns-in_err-write_all-clause-e
 returns-in_err-write_all-clause-err g c =
     let p = err_from_is_err_and c.from_residual.result c.from_residual.ensures.1 in
     let seed = c.args.seed in let count = c.args.count in
-    let head = c.bytes.ensures.bytes ∙ c.of_file_header-buffer.ensures in
+    let head = c.bytes.ensures.bytes ∙ c.of_file_header-buffer.ensures.bytes in
     rw p.1 (subst (AppendsFront _ _) (ap (λ z. z ++ records_from (count - 0) 0 (first_next seed)) head ∙ made_is seed count)
     (front_more _ _ c.bytes.result.now (records_from (count - 0) 0 (first_next seed)) c.in_err-write_all.ensures.err))
 
 pub loop-number-init : goal.loop-number-init
 loop-number-init g c =
     let seed = c.args.seed in let count = c.args.count in
-    let head = c.bytes.ensures.bytes ∙ c.of_file_header-buffer.ensures in (
-      (c.bytes.result.now, c.in_ok-write_all.ensures.ok, ap (λ z. c.bytes.result.now ++ records_from (count - 0) 0 z) c.new-maker.ensures ∙ ap (λ z. z ++ records_from (count - 0) 0 (first_next seed)) head ∙ made_is seed count),
+    let head = c.bytes.ensures.bytes ∙ c.of_file_header-buffer.ensures.bytes in (
+      (c.bytes.result.now, c.in_ok-write_all.ensures.ok, ap (λ z. c.bytes.result.now ++ records_from (count - 0) 0 z) c.new-maker.ensures.first ∙ ap (λ z. z ++ records_from (count - 0) 0 (first_next seed)) head ∙ made_is seed count),
       c.in_ok-write_all.ensures.cause.later,
     )
 

@@ -8,4 +8,4 @@ stepped x a b m = mod-add-mod (x * a) m b ∙ ap (λ z. (z + b) % m) (mul_comm x
 
 pub returns : goal.returns
 unfolding next_state
-returns c = stepped c.args.state 6364136223846793005 1442695040888963407 18446744073709551616
+returns c = record { next = stepped c.args.state 6364136223846793005 1442695040888963407 18446744073709551616 }
