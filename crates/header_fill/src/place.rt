@@ -25,7 +25,7 @@ pub fn put_places(head: &mut [u8], headers: &[Header], modes: u8, i: u16, n: u32
 
 /// Whether the identification of the IPv4 header at the place stays.
 fn is_fixed(modes: u8, headers: &[Header], at: usize) -> bool
-    ensures { result ≡ is_fixed_by modes headers.now at }
+    ensures fixed { result ≡ is_fixed_by modes headers.now at }
 {
     let mut left = modes;
     for header in headers {
