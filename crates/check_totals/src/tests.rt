@@ -140,7 +140,7 @@ fn of_lanes(
     queues: &[QueueTotals; 2],
     taps: &[TapTotals; 2],
 ) -> Result<Totals, AllocError>
-    ensures { IfOk result (λ totals. totals ≡ record { queues = queues.now; taps = taps.now }) }
+    ensures same { IfOk result (λ totals. totals ≡ record { queues = queues.now; taps = taps.now }) }
 {
     Ok(Totals {
         queues: queues.to_vec(alloc)?,

@@ -100,7 +100,7 @@ fn add_taps(totals: &mut [TapTotals], others: &[TapTotals])
 impl Totals {
     /// The totals of no packet, of this many queues and taps.
     pub fn make(alloc: Global, queues: u32, taps: u32) -> Result<Totals, AllocError>
-        ensures { IfOk result (λ totals. (options : Options) → options.queues ≡ queues → options.taps ≡ taps → totals ≡ totals_of options []) }
+        ensures made { IfOk result (λ totals. (options : Options) → options.queues ≡ queues → options.taps ≡ taps → totals ≡ totals_of options []) }
     {
         let queue = QueueTotals {
             records: 0,
@@ -122,7 +122,7 @@ impl Totals {
     pub fn add(&mut self, other: &Totals)
         requires alike { HasSameLanes self.old other.now }
         requires within { IsWithin (2 ^ 62) (2 ^ 62) self.old × IsWithin (2 ^ 62) (2 ^ 62) other.now }
-        ensures { self.new ≡ added self.old other.now }
+        ensures added { self.new ≡ added self.old other.now }
     {
         add_queues(&mut self.queues, &other.queues);
         add_taps(&mut self.taps, &other.taps);

@@ -18,7 +18,7 @@ type Line = ArrayString<160>;
 
 /// Appends the number in decimal, at most 20 digits.
 fn push_number(line: &mut Line, number: u64)
-    requires { array_string_len line.old + 20 ≤ 160 }
+    requires room { array_string_len line.old + 20 ≤ 160 }
     ensures bytes { line.new.bytes ≡ line.old.bytes ++ decimal number }
     ensures len { array_string_len line.new ≤ array_string_len line.old + 20 }
 {
@@ -29,7 +29,7 @@ fn push_number(line: &mut Line, number: u64)
 /// Appends the four numbers of a queue, or of all, and the line feed: at most 114 bytes.
 #[tactic(auto, unfolding(crate::specs::Lines::numbers_of))]
 fn push_numbers(line: &mut Line, totals: &QueueTotals)
-    requires { array_string_len line.old ≤ 40 }
+    requires room { array_string_len line.old ≤ 40 }
     ensures bytes { line.new.bytes ≡ line.old.bytes ++ numbers_of totals.now }
 {
     line.push_str("records ");
@@ -45,7 +45,7 @@ fn push_numbers(line: &mut Line, totals: &QueueTotals)
 
 #[tactic(auto, unfolding(crate::specs::Lines::queue_line))]
 fn queue_text(queue: u64, totals: &QueueTotals) -> Line
-    ensures { result.bytes ≡ queue_line queue totals.now }
+    ensures line { result.bytes ≡ queue_line queue totals.now }
 {
     let mut line = Line::new();
     line.push_str("queue ");
@@ -57,7 +57,7 @@ fn queue_text(queue: u64, totals: &QueueTotals) -> Line
 
 #[tactic(auto, unfolding(crate::specs::Lines::tap_line))]
 fn tap_text(tap: u64, totals: &TapTotals) -> Line
-    ensures { result.bytes ≡ tap_line tap totals.now }
+    ensures line { result.bytes ≡ tap_line tap totals.now }
 {
     let mut line = Line::new();
     line.push_str("tap ");
@@ -72,7 +72,7 @@ fn tap_text(tap: u64, totals: &TapTotals) -> Line
 
 #[tactic(auto, unfolding(crate::specs::Lines::total_line))]
 fn total_text(totals: &QueueTotals) -> Line
-    ensures { result.bytes ≡ total_line totals.now }
+    ensures line { result.bytes ≡ total_line totals.now }
 {
     let mut line = Line::new();
     line.push_str("total: ");
@@ -82,7 +82,7 @@ fn total_text(totals: &QueueTotals) -> Line
 
 #[tactic(auto, unfolding(crate::specs::Lines::made_line))]
 fn made_text(count: u32, bytes: u64) -> Line
-    ensures { result.bytes ≡ made_line count bytes }
+    ensures line { result.bytes ≡ made_line count bytes }
 {
     let mut line = Line::new();
     line.push_str("made: records ");
@@ -147,7 +147,7 @@ fn write_taps<K: Sink>(sink: &mut K, taps: &[TapTotals]) -> Result<(), WriteFaul
 fn sum_of(queues: &[QueueTotals]) -> QueueTotals
     requires lanes { length queues.now ≤ 2 ^ 12 }
     requires within { AllByRecursion (IsQueueWithin (2 ^ 50)) queues.now }
-    ensures { result ≡ queue_sum queues.now }
+    ensures sum { result ≡ queue_sum queues.now }
 {
     let mut sum = QueueTotals {
         records: 0,

@@ -35,7 +35,7 @@ returns-clause-lanes g c =
     let same : options_of c.work_round.new.self ≡ first = ap options_of c.in_ok-worked.ensures.same in
     let kept = subst (λ (o : Options). IsKeptWorkOf o (map packet_of packets) c.in_ok-worked.worked) (sym same) (c.in_ok-worked.ensures.checked c.requires.keep) in
     let is = c.in_ok-counted.ensures.totals (map packet_of packets) kept ∙ ap (λ (o : Options). round_totals o (map packet_of packets)) same in
-    more_lanes first packets c.args.totals.now c.add.new.self c.requires.lanes (c.add.ensures ∙ ap (added c.args.totals.now) is)
+    more_lanes first packets c.args.totals.now c.add.new.self c.requires.lanes (c.add.ensures.added ∙ ap (added c.args.totals.now) is)
 
 pub returns-clause-within : goal.returns-clause-within
 returns-clause-within g c =
@@ -45,4 +45,4 @@ returns-clause-within g c =
     let kept = subst (λ (o : Options). IsKeptWorkOf o (map packet_of packets) c.in_ok-worked.worked) (sym same) (c.in_ok-worked.ensures.checked c.requires.keep) in
     let is = c.in_ok-counted.ensures.totals (map packet_of packets) kept ∙ ap (λ (o : Options). round_totals o (map packet_of packets)) same in
     let captured : AreCaptured (map packet_of packets) = captured_of c.requires.numbers.0 packets c.requires.captured c.requires.numbers.1 in
-    λ n w. more_within first n packets c.args.totals.now c.add.new.self captured (c.add.ensures ∙ ap (added c.args.totals.now) is) w
+    λ n w. more_within first n packets c.args.totals.now c.add.new.self captured (c.add.ensures.added ∙ ap (added c.args.totals.now) is) w

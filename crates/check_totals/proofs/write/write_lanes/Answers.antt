@@ -15,9 +15,9 @@ returns-in_err-write_taps-clause-err g c =
 pub returns-clause-ok : goal.returns-clause-ok
 returns-clause-ok g c =
     let counts : Counts = record { queues = c.args.queues.now; taps = c.args.taps.now } in
-    lanes_ok c.write_total.result counts c.sum_of.result c.sum_of.ensures _ _ _ _ c.in_ok-write_queues.ensures.ok c.in_ok-write_taps.ensures.ok c.write_total.ensures.ok
+    lanes_ok c.write_total.result counts c.sum_of.result c.sum_of.ensures.sum _ _ _ _ c.in_ok-write_queues.ensures.ok c.in_ok-write_taps.ensures.ok c.write_total.ensures.ok
 
 pub returns-clause-err : goal.returns-clause-err
 returns-clause-err g c =
     let counts : Counts = record { queues = c.args.queues.now; taps = c.args.taps.now } in
-    lanes_err c.write_total.result counts c.sum_of.result c.sum_of.ensures _ _ _ _ c.in_ok-write_queues.ensures.ok c.in_ok-write_taps.ensures.ok c.write_total.ensures.err
+    lanes_err c.write_total.result counts c.sum_of.result c.sum_of.ensures.sum _ _ _ _ c.in_ok-write_queues.ensures.ok c.in_ok-write_taps.ensures.ok c.write_total.ensures.err
