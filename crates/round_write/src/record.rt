@@ -22,7 +22,7 @@ pub struct Time {
 
 // Both headers of a record, in one row.
 fn both_heads(header: &[u8; 16], offload: &[u8; 12]) -> [u8; 28]
-    ensures { result ≡ header.now ++ offload.now }
+    ensures bytes { result ≡ header.now ++ offload.now }
 {
     let mut heads = [0u8; 28];
     heads[..16].copy_from_slice(header);

@@ -41,7 +41,7 @@ fn frame(alloc: Global) -> Result<Skb, AllocError> {
 }
 
 fn write(sink: &mut MemSink, items: &[Item]) -> Result<(), WriteFault>
-    requires { All FitsItem items.now }
+    requires fit { All FitsItem items.now }
 {
     write_items(sink, &FILE, 4, items)?;
     let time = Time { sec: 1, frac: 2 };
