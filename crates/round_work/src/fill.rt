@@ -59,7 +59,7 @@ pub(crate) fn open_queues(
 
 // The lane of a tap, with room for a clone of each of `packets` packets, which have `count` blocks and parts.
 fn open_tap(alloc: Global, tap: u32, packets: usize, count: usize) -> Result<TapLane, AllocError>
-    ensures { IfOk result (IsEmptyTap tap packets count) }
+    ensures empty { IfOk result (IsEmptyTap tap packets count) }
 {
     let outcomes = Outcomes::with_room(alloc, count)?;
     match Vec::with_capacity(alloc, packets) {

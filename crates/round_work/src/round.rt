@@ -55,7 +55,7 @@ fn fill(
 
 // Whether the packets of each queue are merged.
 fn are_merged(lanes: &[QueueLane]) -> bool
-    ensures { result ≡ true → All (λ q. q.done ≡ true) lanes.now }
+    ensures merged { result ≡ true → All (λ q. q.done ≡ true) lanes.now }
 {
     for lane in lanes {
         if !lane.done {
@@ -67,7 +67,7 @@ fn are_merged(lanes: &[QueueLane]) -> bool
 
 // Whether each tap has read its windows.
 fn are_read(lanes: &[TapLane]) -> bool
-    ensures { result ≡ true → All (λ t. IsSome t.texts) lanes.now }
+    ensures read { result ≡ true → All (λ t. IsSome t.texts) lanes.now }
 {
     for lane in lanes {
         if lane.texts.is_none() {
@@ -117,7 +117,7 @@ fn begin(
 
 // The lanes after their work: all of it is done, or one was refused memory.
 fn finish(lanes: Lanes) -> Result<Lanes, (Lanes, AllocError)>
-    ensures { (plan : Plan) (old : List Held) (before : Lanes) → AreFilled plan old before → Did plan.snap before lanes → MatchResult result (IsDone plan old) (λ e. IsRefused old [] e.0) }
+    ensures ended { (plan : Plan) (old : List Held) (before : Lanes) → AreFilled plan old before → Did plan.snap before lanes → MatchResult result (IsDone plan old) (λ e. IsRefused old [] e.0) }
 {
     if are_done(&lanes) {
         Ok(lanes)

@@ -17,7 +17,7 @@ fn seen<R: Threads + Abort + Sync>(
     one: Who,
     other: Who,
 ) -> u32
-    requires { IsPlan (record { queues = lanes.0; taps = lanes.1; snap = 64 }) }
+    requires plan { IsPlan (record { queues = lanes.0; taps = lanes.1; snap = 64 }) }
 {
     let (queues, taps) = lanes;
     let meeting = Meeting::of(one, other);

@@ -20,7 +20,7 @@ pub(crate) fn lanes_of<R: Threads + Abort + Sync, G: Gate + Sync>(
     plan: Plan,
     gate: &G,
 ) -> Lanes
-    requires { IsPlan plan }
+    requires plan { IsPlan plan }
 {
     let mut packets = in_turn(rt, alloc);
     match work_packets(rt, alloc, &mut packets, &plan, gate) {
