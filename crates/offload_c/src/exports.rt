@@ -27,7 +27,7 @@ const NO_ROOM: u32 = 9;
 
 // Copies an output to where it goes, or says how long it is.
 fn deliver(bytes: &[u8], code: u32, output: &mut [u8], count: &mut usize) -> u32
-    requires { code < 9 }
+    requires code { code < 9 }
     ensures answer { (result ≡ code) ⊎ (result ≡ 9) }
     ensures fills { result ≡ code → Fills output.old output.new count.new bytes.now }
     ensures short { result ≡ 9 → IsShort output.old output.new count.new bytes.now }

@@ -71,7 +71,7 @@ pub enum Outcome {
 
 /// An empty sink, with room for this many bytes.
 pub fn grown_sink(alloc: Global, room: usize) -> Result<GrownSink, AllocError>
-    ensures { IfOk result (λ sink. sink.bytes.items ≡ []) }
+    ensures empty { IfOk result (λ sink. sink.bytes.items ≡ []) }
 {
     Ok(GrownSink {
         bytes: Vec::with_capacity(alloc, room)?,

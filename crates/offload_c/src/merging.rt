@@ -18,7 +18,7 @@ use std::alloc::Global;
 
 // The end for a fault of the file header.
 fn end_of(fault: InFault) -> MergeEnd
-    ensures { IsMergeFault fault result }
+    ensures fault { IsMergeFault fault result }
 {
     match fault {
         InFault::Cap(fault) => MergeEnd::Malformed(fault),
@@ -57,7 +57,7 @@ fn merge_capture<S: Source, K: Sink>(rounds: &mut Rounds, source: &mut S, sink: 
 
 // What the end of merging and what was written come to.
 fn outcome_of(end: MergeEnd, bytes: Vec<u8>) -> Outcome
-    ensures { IsOutcomeOf end bytes result }
+    ensures outcome { IsOutcomeOf end bytes result }
 {
     match end {
         MergeEnd::Done => Outcome::Whole(bytes),

@@ -16,7 +16,7 @@ pub struct MergeOptions {
 
 // Whether a number lies in a range, both ends included.
 fn is_within(number: u32, least: u32, most: u32) -> bool
-    ensures { result ≡ true ↔ ((least ≤ number) × (number ≤ most)) }
+    ensures within { result ≡ true ↔ ((least ≤ number) × (number ≤ most)) }
 {
     least <= number && number <= most
 }
@@ -24,7 +24,7 @@ fn is_within(number: u32, least: u32, most: u32) -> bool
 impl MergeOptions {
     /// Whether each number is in its range.
     pub fn are_in_range(&self) -> bool
-        ensures { result ≡ true ↔ AreInRange self.now }
+        ensures range { result ≡ true ↔ AreInRange self.now }
     {
         let has_rounds = is_within(self.budget, 1, 4096) && is_within(self.blocks, 1, 65536);
         let has_queues = is_within(self.queues, 1, 64);

@@ -16,7 +16,7 @@ use std::alloc::Global;
 
 // Why a capture without a lawful file header isn't segmented.
 fn fault_of(fault: InFault) -> SegFault
-    ensures { IsSegFault fault result }
+    ensures fault { IsSegFault fault result }
 {
     match fault {
         InFault::Cap(fault) => SegFault::Malformed(fault),
@@ -83,7 +83,7 @@ fn segment_capture<S: Source, K: Sink>(
 
 // What the end of segmenting and what was written come to.
 fn outcome_of(end: Result<(), SegFault>, bytes: Vec<u8>) -> Outcome
-    ensures { IsSegOutcome end bytes result }
+    ensures outcome { IsSegOutcome end bytes result }
 {
     match end {
         Ok(()) => Outcome::Whole(bytes),

@@ -13,14 +13,14 @@ returns-in-Whole-clause-flows c = λ ok.
 pub returns-in-Whole-clause-room : goal.returns-in-Whole-clause-room
 returns-in-Whole-clause-room c = λ records few room.
     not_short _ _ _ _ _ _ _ c.deliver.ensures.short (c.deref.ensures.value ∙ c.in-Whole.ensures.gives.1)
-    (merged_fits c.args.options.now.blocks (model_of c.args.options.now) c.args.capture.now records (c.are_in_range.ensures.0 c.if-not-are_in_range.false).budget.0 (λ k. omega (arith, c.type_inv.capture k)) few) room
+    (merged_fits c.args.options.now.blocks (model_of c.args.options.now) c.args.capture.now records (c.are_in_range.ensures.range.0 c.if-not-are_in_range.false).budget.0 (λ k. omega (arith, c.type_inv.capture k)) few) room
 
 pub returns-in-Refused-clause-room : goal.returns-in-Refused-clause-room
 returns-in-Refused-clause-room c = λ records few room.
     not_short _ _ _ _ _ _ _ c.deliver-in-Refused.ensures.short (c.deref-in-Refused.ensures.value ∙ c.in-Refused.ensures.gives.1)
-    (merged_fits c.args.options.now.blocks (model_of c.args.options.now) c.args.capture.now records (c.are_in_range.ensures.0 c.if-not-are_in_range.false).budget.0 (λ k. omega (arith, c.type_inv.capture k)) few) room
+    (merged_fits c.args.options.now.blocks (model_of c.args.options.now) c.args.capture.now records (c.are_in_range.ensures.range.0 c.if-not-are_in_range.false).budget.0 (λ k. omega (arith, c.type_inv.capture k)) few) room
 
 pub returns-in-Empty-clause-room : goal.returns-in-Empty-clause-room
 returns-in-Empty-clause-room c = λ records few room.
     not_short _ _ _ _ _ _ _ c.deliver-in-Empty.ensures.short (c.deref-in-Empty.ensures.value ∙ c.in-Empty.ensures.gives.1)
-    (merged_fits c.args.options.now.blocks (model_of c.args.options.now) c.args.capture.now records (c.are_in_range.ensures.0 c.if-not-are_in_range.false).budget.0 (λ k. omega (arith, c.type_inv.capture k)) few) room
+    (merged_fits c.args.options.now.blocks (model_of c.args.options.now) c.args.capture.now records (c.are_in_range.ensures.range.0 c.if-not-are_in_range.false).budget.0 (λ k. omega (arith, c.type_inv.capture k)) few) room

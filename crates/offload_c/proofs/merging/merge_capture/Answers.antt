@@ -13,7 +13,7 @@ returns-in-Err g c =
     let h = g.K.Sink.held c.args.sink.now in
     record {
       given = subst (λ (e : Ending). Told (g.S.Source.left c.args.source.now) (g.S.Source.left c.take_file.new.source) (Passes (merging_whole rounds.blocks (options_of rounds)) h h e))
-          (merge_fault c.in-Err.fault c.end_of.result c.end_of.ensures) (no_file Ethernet Offload (merging rounds.blocks (options_of rounds)) _ _ h c.in-Err.fault c.in-Err.ensures.given);
+          (merge_fault c.in-Err.fault c.end_of.result c.end_of.ensures.fault) (no_file Ethernet Offload (merging rounds.blocks (options_of rounds)) _ _ h c.in-Err.fault c.in-Err.ensures.given);
     }
 
 pub returns-in-Ok-write_file_head : goal.returns-in-Ok-write_file_head

@@ -2,7 +2,7 @@ use Rattle.offload_c.proofs.Records.{not_taken_given, not_written_given, ends_gi
 use Rattle.offload_c.proofs.segmenting.segment_capture.Goals as goal
 
 pub returns-in-Err : goal.returns-in-Err
-returns-in-Err g c = record { given = not_taken_given c.args.run.now.blocks _ _ _ c.in-Err.fault c.fault_of.result c.fault_of.ensures c.in-Err.ensures.given }
+returns-in-Err g c = record { given = not_taken_given c.args.run.now.blocks _ _ _ c.in-Err.fault c.fault_of.result c.fault_of.ensures.fault c.in-Err.ensures.given }
 
 pub returns-in-Ok-write_file_head : goal.returns-in-Ok-write_file_head
 returns-in-Ok-write_file_head g c =
