@@ -50,8 +50,8 @@ impl Lines<'_> {
 
 // The payload goes behind, and the header in front: neither moves the bytes that are there.
 fn fill(skb: &mut Skb, lines: &mut Lines) -> Result<(), Error>
-    requires { buffer_size skb.old ≡ 0 }
-    ensures { (skb.new.rest ≡ skb.old.rest) × (buffer_size skb.new ≤ 1014) }
+    requires empty { buffer_size skb.old ≡ 0 }
+    ensures short { (skb.new.rest ≡ skb.old.rest) × (buffer_size skb.new ≤ 1014) }
 {
     skb.put_tail(&PAYLOAD)?;
     lines.show("put_tail: the payload", skb);
@@ -62,8 +62,8 @@ fn fill(skb: &mut Skb, lines: &mut Lines) -> Result<(), Error>
 
 // A second reader gets the same bytes, uncopied. As long as it holds them nobody may write in front of them.
 fn lend(skb: &mut Skb, out: &mut Outcomes, lines: &mut Lines) -> Result<(), Error>
-    requires { (skb.old.rest ≡ []) × (buffer_size skb.old ≤ 1014) × (2 ≤ out.old.spare) }
-    ensures { (skb.new.rest ≡ []) × (buffer_size skb.new ≤ 1014) × (out.old.spare ≤ out.new.spare + 1) }
+    requires short { (skb.old.rest ≡ []) × (buffer_size skb.old ≤ 1014) × (2 ≤ out.old.spare) }
+    ensures short { (skb.new.rest ≡ []) × (buffer_size skb.new ≤ 1014) × (out.old.spare ≤ out.new.spare + 1) }
 {
     let mut clone = skb.clone()?;
     lines.show("clone: for a second reader", &clone);
@@ -83,8 +83,8 @@ fn lend(skb: &mut Skb, out: &mut Outcomes, lines: &mut Lines) -> Result<(), Erro
 
 // The head may be written again. Where others still held its block, its bytes would be copied into the spare.
 fn own(skb: &mut Skb, spare: Sole, out: &mut Outcomes, lines: &mut Lines)
-    requires { 1 ≤ out.old.spare }
-    ensures { (skb.new.rest ≡ skb.old.rest) × (buffer_size skb.new ≡ buffer_size skb.old) × (out.old.spare ≤ out.new.spare + 1) }
+    requires room { 1 ≤ out.old.spare }
+    ensures same { (skb.new.rest ≡ skb.old.rest) × (buffer_size skb.new ≡ buffer_size skb.old) × (out.old.spare ≤ out.new.spare + 1) }
 {
     match skb.unshare(spare) {
         Unshared::Unused(spare) => out.keep_sole(spare),
@@ -98,7 +98,7 @@ fn own(skb: &mut Skb, spare: Sole, out: &mut Outcomes, lines: &mut Lines)
 fn lengthen(skb: &mut Skb, other: Skb, out: &mut Outcomes, lines: &mut Lines) -> Result<(), Error>
     requires blocks { (skb.old.rest ≡ []) × (other.rest ≡ []) × (other.from < other.to) }
     requires room { (buffer_size skb.old + buffer_size other ≤ 2048) × (2 ≤ out.old.spare) }
-    ensures { (length skb.new.rest ≤ 1) × (out.old.spare ≤ out.new.spare + 1) }
+    ensures room { (length skb.new.rest ≤ 1) × (out.old.spare ≤ out.new.spare + 1) }
 {
     if let Err((other, error)) = skb.attach(other, out) {
         other.release(out);
@@ -128,8 +128,8 @@ fn read(skb: &Skb, lines: &mut Lines) {
 
 // The last bytes go, and one of the head's is written over.
 fn change(skb: &mut Skb, out: &mut Outcomes, lines: &mut Lines) -> Result<(), Error>
-    requires { length skb.old.rest ≤ out.old.spare }
-    ensures { (length skb.new.rest ≤ length skb.old.rest) × (out.old.spare + length skb.new.rest ≤ out.new.spare + length skb.old.rest) }
+    requires room { length skb.old.rest ≤ out.old.spare }
+    ensures room { (length skb.new.rest ≤ length skb.old.rest) × (out.old.spare + length skb.new.rest ≤ out.new.spare + length skb.old.rest) }
 {
     skb.trim(14, out)?;
     lines.show("trim: the last 14 bytes", skb);
@@ -142,7 +142,7 @@ fn change(skb: &mut Skb, out: &mut Outcomes, lines: &mut Lines) -> Result<(), Er
 
 // `head_mut` lends the same bytes as an `Option`, and a caller is told less of the buffer then.
 fn write_over(skb: &mut Skb)
-    ensures { skb.new.rest ≡ skb.old.rest }
+    ensures rest { skb.new.rest ≡ skb.old.rest }
 {
     if skb.head_is_sole() {
         let bytes = skb.head_bytes_mut();
@@ -154,8 +154,8 @@ fn write_over(skb: &mut Skb)
 
 // More of the first bytes lie in one block: the spare is the head now.
 fn gather(skb: &mut Skb, spare: Sole, out: &mut Outcomes, lines: &mut Lines) -> Result<(), Error>
-    requires { length skb.old.rest + 1 ≤ out.old.spare }
-    ensures { (length skb.new.rest ≤ length skb.old.rest) × (out.old.spare + length skb.new.rest ≤ out.new.spare + length skb.old.rest + 1) }
+    requires room { length skb.old.rest + 1 ≤ out.old.spare }
+    ensures room { (length skb.new.rest ≤ length skb.old.rest) × (out.old.spare + length skb.new.rest ≤ out.new.spare + length skb.old.rest + 1) }
 {
     match skb.pull_up(1030, spare, out) {
         Ok(returned) => keep_returned(returned, out),
@@ -169,8 +169,8 @@ fn gather(skb: &mut Skb, spare: Sole, out: &mut Outcomes, lines: &mut Lines) -> 
 }
 
 fn keep_returned(returned: Returned, out: &mut Outcomes)
-    requires { 1 ≤ out.old.spare }
-    ensures { out.old.spare ≤ out.new.spare + 1 }
+    requires room { 1 ≤ out.old.spare }
+    ensures room { out.old.spare ≤ out.new.spare + 1 }
 {
     match returned {
         Returned::Unused(spare) => out.keep_sole(spare),
@@ -186,8 +186,8 @@ fn duplicate(
     out: &mut Outcomes,
     lines: &mut Lines,
 ) -> Result<(), Error>
-    requires { (length spares.old.items ≤ 1) × (2 ≤ out.old.spare) }
-    ensures { (length spares.new.items ≤ 1) × (out.old.spare ≤ out.new.spare + 1) }
+    requires room { (length spares.old.items ≤ 1) × (2 ≤ out.old.spare) }
+    ensures room { (length spares.new.items ≤ 1) × (out.old.spare ≤ out.new.spare + 1) }
 {
     let copy = skb.copy(spares)?;
     lines.show("copy: the bytes in an own block", &copy);
@@ -202,8 +202,8 @@ fn duplicate_into(
     out: &mut Outcomes,
     lines: &mut Lines,
 ) -> Result<(), Error>
-    requires { 2 ≤ out.old.spare }
-    ensures { out.old.spare ≤ out.new.spare + 2 }
+    requires room { 2 ≤ out.old.spare }
+    ensures room { out.old.spare ≤ out.new.spare + 2 }
 {
     let mut spares = match Vec::with_capacity(alloc, 1) {
         Ok(spares) => spares,
@@ -222,8 +222,8 @@ fn duplicate_into(
 
 // The bytes from a place on move out, uncopied, and are given back.
 fn divide(skb: &mut Skb, out: &mut Outcomes, lines: &mut Lines) -> Result<(), Error>
-    requires { length skb.old.rest + 1 ≤ out.old.spare }
-    ensures { out.old.spare + length skb.new.rest ≤ out.new.spare + length skb.old.rest + 1 }
+    requires room { length skb.old.rest + 1 ≤ out.old.spare }
+    ensures room { out.old.spare + length skb.new.rest ≤ out.new.spare + length skb.old.rest + 1 }
 {
     let back = skb.split_at(500)?;
     lines.show("split_at: the first 500 bytes stay", skb);
@@ -252,7 +252,7 @@ fn take_blocks(pool: &mut Pool) -> Result<Blocks, Error> {
 }
 
 fn tour(pool: &mut Pool, alloc: Global, out: &mut Outcomes, lines: &mut Lines) -> Result<(), Error>
-    requires { 16 ≤ out.old.spare }
+    requires room { 16 ≤ out.old.spare }
 {
     let Blocks {
         head,

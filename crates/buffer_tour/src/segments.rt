@@ -42,8 +42,8 @@ fn give(
     out: &mut Outcomes,
     lines: &mut Lines,
 ) -> Result<(), Error>
-    requires { count_of cutter.old + 3 ≤ out.old.spare }
-    ensures { out.old.spare + count_of cutter.new ≤ out.new.spare + count_of cutter.old + 3 }
+    requires room { count_of cutter.old + 3 ≤ out.old.spare }
+    ensures room { out.old.spare + count_of cutter.new ≤ out.new.spare + count_of cutter.old + 3 }
 {
     match cutter.next(spare) {
         Ok(Cut::Segment(segment)) => {
@@ -109,7 +109,7 @@ fn cut_blocks(
     out: &mut Outcomes,
     lines: &mut Lines,
 ) -> Result<(), Error>
-    requires { 16 ≤ out.old.spare }
+    requires room { 16 ≤ out.old.spare }
 {
     let block = pool.take()?;
     let spares = (pool.take()?, pool.take()?, pool.take()?);
