@@ -19,7 +19,7 @@ const MOST_CLONES: u64 = 100_000;
 
 // Room for `n` returns.
 pub fn places(alloc: Global, n: usize) -> Result<Outcomes, AllocError>
-    ensures { IfOk result (λ out. (n ≤ out.spare) × (out.soles ≡ [])) }
+    ensures room { IfOk result (λ out. (n ≤ out.spare) × (out.soles ≡ [])) }
 {
     let mut out = Outcomes::new(alloc);
     match out.reserve(n) {
@@ -33,7 +33,7 @@ pub fn places(alloc: Global, n: usize) -> Result<Outcomes, AllocError>
 
 // Gives up what came back, so that its places are free again.
 pub fn empty(out: &mut Outcomes)
-    ensures { out.new.soles ≡ [] }
+    ensures empty { out.new.soles ≡ [] }
 {
     while let Some(_) = out.pop_sole() {}
     while let Some(receipt) = out.pop_receipt() {
@@ -43,7 +43,7 @@ pub fn empty(out: &mut Outcomes)
 
 // The first 1,500 bytes of a block follow.
 fn add_piece(rest: &mut Pieces, block: Sole)
-    ensures { length rest.new ≤ length rest.old + 1 }
+    ensures few { length rest.new ≤ length rest.old + 1 }
 {
     if rest.len() > 65536 {
         return;
@@ -55,7 +55,7 @@ fn add_piece(rest: &mut Pieces, block: Sole)
 
 // A piece of each block that is home.
 fn pieces_of(alloc: Global, mut pool: Pool) -> Pieces
-    ensures { length result ≤ home pool }
+    ensures few { length result ≤ home pool }
 {
     let mut rest = Pieces::new(alloc);
     while let Ok(block) = pool.take() {
@@ -66,8 +66,8 @@ fn pieces_of(alloc: Global, mut pool: Pool) -> Pieces
 
 // A buffer over this many blocks, of 1,500 bytes each.
 fn buffer_of(alloc: Global, blocks: u32) -> Result<Skb, Error>
-    requires { blocks ≤ 16 }
-    ensures { IfOk result (λ skb. length skb.rest + 1 ≤ 16) }
+    requires few { blocks ≤ 16 }
+    ensures few { IfOk result (λ skb. length skb.rest + 1 ≤ 16) }
 {
     let mut pool = Pool::make(alloc, blocks)?;
     let Ok(head) = pool.take() else {
@@ -81,7 +81,7 @@ fn buffer_of(alloc: Global, blocks: u32) -> Result<Skb, Error>
 }
 
 fn fill_head(skb: &mut Skb)
-    ensures { length skb.new.rest ≡ length skb.old.rest }
+    ensures rest { length skb.new.rest ≡ length skb.old.rest }
 {
     if skb.len() <= 65536 {
         let _ = skb.push(&[1; 1500]);
@@ -90,7 +90,7 @@ fn fill_head(skb: &mut Skb)
 
 // Whether a clone was made, and released.
 fn clone_and_release(skb: &mut Skb, out: &mut Outcomes) -> bool
-    ensures { length skb.new.rest ≡ length skb.old.rest }
+    ensures rest { length skb.new.rest ≡ length skb.old.rest }
 {
     if out.spare() < skb.count() {
         return false;
@@ -107,8 +107,8 @@ fn clone_and_release(skb: &mut Skb, out: &mut Outcomes) -> bool
 
 // Whether a header was put in front, and taken off again.
 fn push_and_pull(skb: &mut Skb, out: &mut Outcomes) -> bool
-    requires { length skb.old.rest + 1 ≤ out.old.spare }
-    ensures { length skb.new.rest + 1 ≤ out.new.spare }
+    requires room { length skb.old.rest + 1 ≤ out.old.spare }
+    ensures room { length skb.new.rest + 1 ≤ out.new.spare }
 {
     if skb.len() > 65536 || skb.push(&HEADER).is_err() {
         return false;
@@ -118,7 +118,7 @@ fn push_and_pull(skb: &mut Skb, out: &mut Outcomes) -> bool
 
 // The clones that were made.
 fn clone_often(skb: &mut Skb, turns: u64, out: &mut Outcomes) -> u64
-    ensures { length skb.new.rest ≡ length skb.old.rest }
+    ensures rest { length skb.new.rest ≡ length skb.old.rest }
 {
     let mut made = 0u64;
     for _ in 0..turns {
@@ -131,8 +131,8 @@ fn clone_often(skb: &mut Skb, turns: u64, out: &mut Outcomes) -> u64
 
 // The headers that were put on and taken off.
 fn push_often(skb: &mut Skb, turns: u64, out: &mut Outcomes) -> u64
-    requires { length skb.old.rest + 1 ≤ out.old.spare }
-    ensures { length skb.new.rest + 1 ≤ out.new.spare }
+    requires room { length skb.old.rest + 1 ≤ out.old.spare }
+    ensures room { length skb.new.rest + 1 ≤ out.new.spare }
 {
     let mut made = 0u64;
     for _ in 0..turns {
@@ -151,7 +151,7 @@ fn clone_batch(
     out: &mut Outcomes,
     home: &mut Outcomes,
 ) -> Result<Duration, Error>
-    requires { (blocks ≤ 16) × (16 ≤ home.old.spare) }
+    requires room { (blocks ≤ 16) × (16 ≤ home.old.spare) }
 {
     let start = Instant::now(rt)?;
     let mut skb = buffer_of(rt.alloc(), blocks)?;
@@ -165,7 +165,7 @@ fn clone_batch(
 }
 
 fn time_clone_batch(rt: &HostRuntime, blocks: u32, turns: u64) -> Result<Duration, Error>
-    requires { blocks ≤ 16 }
+    requires few { blocks ≤ 16 }
 {
     let mut home = places(rt.alloc(), 16)?;
     let taken = match places(rt.alloc(), 16) {
@@ -183,7 +183,7 @@ fn time_clone_batch(rt: &HostRuntime, blocks: u32, turns: u64) -> Result<Duratio
 }
 
 fn time_clones(rt: &HostRuntime, blocks: u32, turns: u64) -> Result<Duration, Error>
-    requires { blocks ≤ 16 }
+    requires few { blocks ≤ 16 }
 {
     let mut taken = Duration::ZERO;
     let mut left = turns;
@@ -196,7 +196,7 @@ fn time_clones(rt: &HostRuntime, blocks: u32, turns: u64) -> Result<Duration, Er
 }
 
 fn push_batch(rt: &HostRuntime, turns: u64, out: &mut Outcomes) -> Result<Duration, Error>
-    requires { 16 ≤ out.old.spare }
+    requires room { 16 ≤ out.old.spare }
 {
     let start = Instant::now(rt)?;
     let mut skb = buffer_of(rt.alloc(), 1)?;

@@ -17,8 +17,8 @@ use std::time::{Duration, Instant};
 const THREADS: u32 = 4;
 
 fn take_and_put<R: Wait>(rt: &R, pool: &SharedPool, pass: &mut PoolPass)
-    requires { IsOwn pool.now pass.old }
-    ensures { IsSame pass.old pass.new }
+    requires own { IsOwn pool.now pass.old }
+    ensures same { IsSame pass.old pass.new }
 {
     if let Ok(block) = pool.take(rt, pass) {
         match pool.put(rt, pass, block) {
@@ -29,8 +29,8 @@ fn take_and_put<R: Wait>(rt: &R, pool: &SharedPool, pass: &mut PoolPass)
 }
 
 fn fill_and_put<R: Wait>(rt: &R, pool: &SharedPool, pass: &mut PoolPass, byte: u8)
-    requires { IsOwn pool.now pass.old }
-    ensures { IsSame pass.old pass.new }
+    requires own { IsOwn pool.now pass.old }
+    ensures same { IsSame pass.old pass.new }
 {
     if let Ok(mut block) = pool.take(rt, pass) {
         block.bytes_mut().fill(byte);
@@ -42,8 +42,8 @@ fn fill_and_put<R: Wait>(rt: &R, pool: &SharedPool, pass: &mut PoolPass, byte: u
 }
 
 fn turns_of<R: Wait>(rt: &R, pool: &SharedPool, pass: &mut PoolPass, turns: u64)
-    requires { IsOwn pool.now pass.old }
-    ensures { IsOwn pool.now pass.new }
+    requires own { IsOwn pool.now pass.old }
+    ensures own { IsOwn pool.now pass.new }
 {
     for _ in 0..turns {
         take_and_put(rt, pool, pass);
@@ -51,8 +51,8 @@ fn turns_of<R: Wait>(rt: &R, pool: &SharedPool, pass: &mut PoolPass, turns: u64)
 }
 
 fn filling_turns_of<R: Wait>(rt: &R, pool: &SharedPool, pass: &mut PoolPass, turns: u64)
-    requires { IsOwn pool.now pass.old }
-    ensures { IsOwn pool.now pass.new }
+    requires own { IsOwn pool.now pass.old }
+    ensures own { IsOwn pool.now pass.new }
 {
     for turn in 0..turns {
         fill_and_put(rt, pool, pass, (turn % 256) as u8);
@@ -64,8 +64,8 @@ fn forked(
     pool: &SharedPool,
     pass: &mut PoolPass,
 ) -> Result<Vec<PoolPass>, AllocError>
-    requires { IsOwn pool.now pass.old × (5 ≤ pass.old.parts) }
-    ensures { IfOk result (λ passes. All (IsOwn pool.now) passes.items) }
+    requires own { IsOwn pool.now pass.old × (5 ≤ pass.old.parts) }
+    ensures own { IfOk result (λ passes. All (IsOwn pool.now) passes.items) }
 {
     let mut passes = Vec::new(alloc);
     for turn in 0..THREADS {
@@ -82,14 +82,14 @@ fn turns_of_all<R: Threads + Wait + Sync>(
     passes: &mut [PoolPass],
     turns: u64,
 )
-    requires { All (IsOwn pool.now) passes.old }
+    requires own { All (IsOwn pool.now) passes.old }
 {
     thread::for_each_mut(rt, passes, 4, &|_, pass| turns_of(rt, pool, pass, turns));
 }
 
 fn fill_and_put_plain(pool: &mut Pool, byte: u8)
-    requires { home pool.old ≤ pool.old.made }
-    ensures { (home pool.new ≡ home pool.old) × (pool.new.made ≡ pool.old.made) }
+    requires few { home pool.old ≤ pool.old.made }
+    ensures same { (home pool.new ≡ home pool.old) × (pool.new.made ≡ pool.old.made) }
 {
     if let Ok(mut block) = pool.take() {
         block.bytes_mut().fill(byte);
@@ -98,7 +98,7 @@ fn fill_and_put_plain(pool: &mut Pool, byte: u8)
 }
 
 fn time_plain<R: Clock + AllocGlobal>(rt: &R, blocks: u32, turns: u64) -> Result<Duration, Error>
-    requires { blocks ≤ 65536 }
+    requires few { blocks ≤ 65536 }
 {
     let mut pool = Pool::make(rt.alloc(), blocks)?;
     let start = Instant::now(rt)?;
@@ -114,7 +114,7 @@ fn time<R: Clock + Print + AllocGlobal + Threads + Wait + Sync>(
     blocks: u32,
     turns: u64,
 ) -> Result<(), Error>
-    requires { (1 ≤ blocks) × (blocks ≤ 65536) }
+    requires few { (1 ≤ blocks) × (blocks ≤ 65536) }
 {
     let plain = time_plain(rt, blocks, turns)?;
     println!(rt;

@@ -64,7 +64,7 @@ const RECORDS: [Record; 3] = [
 
 // A block with these headers behind its headroom, or none, and payload from byte `from` on behind them.
 fn filled(alloc: Global, headers: &[u8], from: usize, size: usize) -> Result<Sole, AllocError>
-    requires { (from ≤ 70000) × (length headers.now + size ≤ 1984) }
+    requires fit { (from ≤ 70000) × (length headers.now + size ≤ 1984) }
 {
     let mut block = Sole::new(alloc)?;
     let end = headers.len();
@@ -78,7 +78,7 @@ fn filled(alloc: Global, headers: &[u8], from: usize, size: usize) -> Result<Sol
 
 // Pieces of these blocks, which have so many bytes each.
 fn pieces_of(alloc: Global, blocks: Vec<(Sole, usize)>) -> Result<Pieces, AllocError>
-    ensures { IfOk result (λ pieces. (size_of pieces ≤ 79360) × (length pieces ≤ 40)) }
+    ensures few { IfOk result (λ pieces. (size_of pieces ≤ 79360) × (length pieces ≤ 40)) }
 {
     let mut builder = PieceBuilder::with_room(alloc, blocks.len())?;
     let mut count = 0usize;
@@ -93,7 +93,7 @@ fn pieces_of(alloc: Global, blocks: Vec<(Sole, usize)>) -> Result<Pieces, AllocE
 
 // The frame in blocks of its own.
 fn buffer_of(alloc: Global, record: &Record) -> Result<Skb, Error>
-    ensures { IfOk result (λ skb. length skb.rest + 1 ≤ 41) }
+    ensures few { IfOk result (λ skb. length skb.rest + 1 ≤ 41) }
 {
     let size = usize::from(record.n) * usize::from(record.m);
     if size > 65_495 {
@@ -114,7 +114,7 @@ fn buffer_of(alloc: Global, record: &Record) -> Result<Skb, Error>
 
 // A block comes home.
 fn put(pool: &mut Pool, block: Sole)
-    ensures { pool.new.made ≡ pool.old.made }
+    ensures made { pool.new.made ≡ pool.old.made }
 {
     if pool.home() < pool.made() {
         pool.put(block);
@@ -136,8 +136,8 @@ fn send_home(out: &mut Outcomes, pool: &mut Pool)
 
 // Whether a segment was given, and its blocks have gone home.
 fn give(cutter: &mut Cutter, pool: &mut Pool, out: &mut Outcomes) -> bool
-    requires { count_of cutter.old ≤ out.old.spare }
-    ensures { count_of cutter.new ≤ out.new.spare }
+    requires room { count_of cutter.old ≤ out.old.spare }
+    ensures room { count_of cutter.new ≤ out.new.spare }
 {
     if out.spare() < 3 || out.spare() - 3 < cutter.count() {
         return false;
@@ -173,7 +173,7 @@ fn is_ready(skb: &Skb) -> bool
 
 // The segments of a record, once it is tested.
 fn cut(head: &OffHead, skb: Skb, pool: &mut Pool, out: &mut Outcomes) -> u64
-    requires { length skb.rest + 1 ≤ out.old.spare }
+    requires room { length skb.rest + 1 ≤ out.old.spare }
 {
     let mut given = 0u64;
     if !is_ready(&skb) {
@@ -203,7 +203,7 @@ fn time_clones(
     out: &mut Outcomes,
     turns: u64,
 ) -> Result<(Duration, u64), Error>
-    ensures { length skb.new.rest ≡ length skb.old.rest }
+    ensures rest { length skb.new.rest ≡ length skb.old.rest }
 {
     let mut pool = Pool::make(rt.alloc(), 4)?;
     let mut taken = Duration::ZERO;
@@ -229,7 +229,7 @@ fn time_record(
     skb: &mut Skb,
     turns: u64,
 ) -> Result<(Duration, u64), Error>
-    ensures { length skb.new.rest ≡ length skb.old.rest }
+    ensures rest { length skb.new.rest ≡ length skb.old.rest }
 {
     let head = OffHead {
         version: 1,

@@ -19,7 +19,7 @@ const WINDOW: usize = 64;
 
 // A clone of a packet of 100 bytes. The packet itself is given back.
 fn tap_clone(alloc: Global, out: &mut Outcomes) -> Option<TapClone>
-    requires { 1 ≤ out.old.spare }
+    requires room { 1 ≤ out.old.spare }
     ensures bare { IfSome result (λ clone. clone.skb.rest ≡ []) }
     ensures places { out.old.spare ≤ out.new.spare + 1 }
 {
@@ -39,8 +39,8 @@ fn tap_clone(alloc: Global, out: &mut Outcomes) -> Option<TapClone>
 
 // A task over up to 64 packets, as many as there is memory for.
 fn task_over(clones: Vec<TapClone>, alloc: Global, outcomes: Outcomes) -> TapTask
-    requires { (128 ≤ outcomes.spare) × (clones.items ≡ []) }
-    ensures { blocks_of result.clones.items ≤ result.outcomes.spare }
+    requires room { (128 ≤ outcomes.spare) × (clones.items ≡ []) }
+    ensures room { blocks_of result.clones.items ≤ result.outcomes.spare }
 {
     let mut task = TapTask {
         tap: 0,
@@ -63,7 +63,7 @@ fn time_task(
     rt: &HostRuntime,
     task: TapTask,
 ) -> (Result<usize, AllocError>, Result<Duration, Error>)
-    requires { blocks_of task.clones.items ≤ task.outcomes.spare }
+    requires room { blocks_of task.clones.items ≤ task.outcomes.spare }
 {
     let start = Instant::now(rt);
     let TapResult {
