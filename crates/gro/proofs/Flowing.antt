@@ -18,7 +18,8 @@ on_ok (Ok x) p h = p
 on_ok (Err e) p h = absurd (let t : false ≡ true = h in cc)
 
 -- each key leads where it did, and all that had a run have one
-pub flows_kept : (f g : Flows) → AreFlows f → ((q : Option (List ℕ)) → slot_of g q ≡ slot_of f q) → ((k : ℕ) → IsSome (get f.open k) → IsSome (get g.open k)) → AreFlows g
+pub flows_kept : (f g : Flows) → AreFlows f → ((q : Option (List ℕ)) → slot_of g q ≡ slot_of f q)
+    → ((k : ℕ) → IsSome (get f.open k) → IsSome (get g.open k)) → AreFlows g
 flows_kept f g flows slots runs = record {
   live = λ q k e. runs k (flows.live q k (sym (slots q) ∙ e));
   own = λ q r k d e. flows.own q r k (sym (slots q) ∙ d) (sym (slots r) ∙ e);
@@ -45,7 +46,8 @@ module _ (f g : Flows) (key : Option (List ℕ)) (slot : ℕ) (flows : AreFlows 
   other_slot : (q : Option (List ℕ)) (k : ℕ) → slot_of g q ≡ Some k → k ≢ slot
   other_slot q k e s =
       let own : key ≡ q = flows.own key q slot found (old_slot q k e ∙ ap Some s) in
-      let u : None ≡ Some k = sym (slots q ∙ ap (λ b. cond b None (slot_of f q)) (subst (λ z. key_eq key z ≡ true) own (keys_equiv.refl key))) ∙ e in
+      let u : None ≡ Some k = sym (slots q ∙ ap (λ b. cond b None (slot_of f q))
+      (subst (λ z. key_eq key z ≡ true) own (keys_equiv.refl key))) ∙ e in
       absurd cc
 
   pub flows_left : AreFlows g
@@ -98,5 +100,6 @@ module _ (f g : Flows) (key : Option (List ℕ)) (slot place : ℕ) (flows : Are
   pub puts_entered : Puts f key (Some place) g
   puts_entered q = elim (cases_Bool (key_eq key q)) [
     | inl t ↦ ap (place_at g.open) (is_new q t) ∙ new ∙ sym (ap (λ (b : Bool). if b then Some place else place_of f q) t)
-    | inr n ↦ ap (place_at g.open) (is_old q n) ∙ same_place (slot_of f q) (not_there q) ∙ sym (ap (λ (b : Bool). if b then Some place else place_of f q) n)
+    | inr n ↦ ap (place_at g.open) (is_old q n) ∙ same_place (slot_of f q) (not_there q)
+        ∙ sym (ap (λ (b : Bool). if b then Some place else place_of f q) n)
   ]

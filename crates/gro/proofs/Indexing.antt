@@ -45,11 +45,13 @@ one_flow q r (y ∷ run) e f =
     is_key_same q (key_of y.frame) e ∙ sym (is_key_same r (key_of y.frame) f)
 
 -- a run that is found is its flow's last
-pub found_last : (look : Option (List ℕ) → Option ℕ) (rs : List (List Packet)) (q : Option (List ℕ)) (i : ℕ) → IsIndexOf look rs → look q ≡ Some i
+pub found_last : (look : Option (List ℕ) → Option ℕ) (rs : List (List Packet)) (q : Option (List ℕ)) (i : ℕ)
+    → IsIndexOf look rs → look q ≡ Some i
     → IsLastBelow (is_run_of q) rs (length rs) (Some i)
 found_last look rs q i index e = at (index q).0 (index q).1.0 (index q).1.1
   where
-    at : (o : Option ℕ) → IsLastBelow (is_run_of q) rs (length rs) o → IsFound rs o (look q) → IsLastBelow (is_run_of q) rs (length rs) (Some i)
+    at : (o : Option ℕ) → IsLastBelow (is_run_of q) rs (length rs) o → IsFound rs o (look q)
+        → IsLastBelow (is_run_of q) rs (length rs) (Some i)
     at None l f = absurd (let t : None ≡ Some i = sym f ∙ e in cc)
     at (Some j) l (inl f) = let t : Some j ≡ Some i = sym f ∙ e in subst (λ z. IsLastBelow (is_run_of q) rs (length rs) z) t l
     at (Some j) l (inr f) = absurd (let t : None ≡ Some i = sym f.0 ∙ e in cc)
@@ -71,7 +73,8 @@ module _ (look : Option (List ℕ) → Option ℕ) (rs : List (List Packet)) (ke
       at [] e = absurd cc
       at (y ∷ r) e = omega arith
 
-  last_stays : (q : Option (List ℕ)) (o : Option ℕ) → IsLastBelow (is_run_of q) rs (length rs) o → IsLastBelow (is_run_of q) grown (length grown) o
+  last_stays : (q : Option (List ℕ)) (o : Option ℕ) → IsLastBelow (is_run_of q) rs (length rs) o
+      → IsLastBelow (is_run_of q) grown (length grown) o
   last_stays q o l =
       same_last (is_run_of q) rs grown o (length-set rs i (run ++ (x ∷ []))) (λ k d h. elim (cases_eq k i) [
         | inl same ↦ rw same (
@@ -80,7 +83,8 @@ module _ (look : Option (List ℕ) → Option ℕ) (rs : List (List Packet)) (ke
         | inr other ↦ ap (is_run_of q) (get_or-set_other rs i k (run ++ (x ∷ [])) d other)
       ]) l
 
-  found_stays : (q : Option (List ℕ)) (o : Option ℕ) → IsLastBelow (is_run_of q) rs (length rs) o → IsFound rs o (look q) → IsFound grown o (look q)
+  found_stays : (q : Option (List ℕ)) (o : Option ℕ) → IsLastBelow (is_run_of q) rs (length rs) o
+      → IsFound rs o (look q) → IsFound grown o (look q)
   found_stays q None l f = f
   found_stays q (Some j) l (inl e) = inl e
   found_stays q (Some j) l (inr e) =
@@ -90,7 +94,8 @@ module _ (look : Option (List ℕ) → Option ℕ) (rs : List (List Packet)) (ke
       inr (e.0, subst IsShut (sym (get_or-set_other rs i j (run ++ (x ∷ [])) [] other)) e.1)
 
   -- the run is found as long as it is open
-  pub index_grows : (next : Option (List ℕ) → Option ℕ) (is_open : Bool) → ((q : Option (List ℕ)) → next q ≡ (if key_eq key q then (if is_open then Some i else None) else look q))
+  pub index_grows : (next : Option (List ℕ) → Option ℕ) (is_open : Bool)
+      → ((q : Option (List ℕ)) → next q ≡ (if key_eq key q then (if is_open then Some i else None) else look q))
       → (is_open ≡ false → IsShut (run ++ (x ∷ []))) → IsIndexOf next grown
   index_grows next is_open puts shut = λ q. elim (cases_Bool (key_eq key q)) [
     | inl e ↦
@@ -98,7 +103,8 @@ module _ (look : Option (List ℕ) → Option ℕ) (rs : List (List Packet)) (ke
           Some i,
           (
             last_stays q (Some i) (subst (λ z. IsLastBelow (is_run_of z) rs (length rs) (Some i)) same own),
-            subst (IsFound grown (Some i)) (sym (puts q ∙ picks (key_eq key q) (if is_open then Some i else None) (look q) e)) (at is_open shut),
+            subst (IsFound grown (Some i)) (sym (puts q ∙ picks (key_eq key q) (if is_open then Some i else None)
+                (look q) e)) (at is_open shut),
           ),
         )
     | inr e ↦
@@ -106,7 +112,8 @@ module _ (look : Option (List ℕ) → Option ℕ) (rs : List (List Packet)) (ke
           o,
           (
             last_stays q o (index q).1.0,
-            subst (IsFound grown o) (sym (puts q ∙ skips (key_eq key q) (if is_open then Some i else None) (look q) e)) (found_stays q o (index q).1.0 (index q).1.1),
+            subst (IsFound grown o) (sym (puts q ∙ skips (key_eq key q) (if is_open then Some i else None) (look q) e))
+                (found_stays q o (index q).1.0 (index q).1.1),
           ),
         )
   ]
@@ -131,7 +138,8 @@ one_more_other test rs r (Some i) e h = (
   λ d. ap test (get_or_append_left rs (r ∷ []) d i h.0) ∙ h.1 d,
   λ k d a l. elim (cases_eq k (length rs)) [
     | inl same ↦ rw (same, get_or_push rs r d (length rs) refl) e
-    | inr other ↦ let m : k < length rs = omega (arith, length-append rs (r ∷ [])) in ap test (get_or_append_left rs (r ∷ []) d k m) ∙ h.2 k d a m
+    | inr other ↦ let m : k < length rs = omega (arith, length-append rs (r ∷ [])) in ap test
+        (get_or_append_left rs (r ∷ []) d k m) ∙ h.2 k d a m
   ],
 )
 
@@ -143,13 +151,15 @@ one_more_own test rs r e = (
   λ k d a l. absurd (omega (arith, length-append rs (r ∷ []))),
 )
 
-found_more : (rs : List (List Packet)) (r : List Packet) (test : List Packet → Bool) (o found : Option ℕ) → IsLastBelow test rs (length rs) o → IsFound rs o found
+found_more : (rs : List (List Packet)) (r : List Packet) (test : List Packet → Bool) (o found : Option ℕ)
+    → IsLastBelow test rs (length rs) o → IsFound rs o found
     → IsFound (rs ++ (r ∷ [])) o found
 found_more rs r test None found l f = f
 found_more rs r test (Some i) found l (inl e) = inl e
 found_more rs r test (Some i) found l (inr e) = inr (e.0, subst IsShut (sym (get_or_append_left rs (r ∷ []) [] i l.0)) e.1)
 
-module _ (look next : Option (List ℕ) → Option ℕ) (rs : List (List Packet)) (x : Packet) (key : Option (List ℕ)) (index : IsIndexOf look rs) (is : key_of x.frame ≡ key) where
+module _ (look next : Option (List ℕ) → Option ℕ) (rs : List (List Packet)) (x : Packet) (key : Option (List ℕ))
+    (index : IsIndexOf look rs) (is : key_of x.frame ≡ key) where
   abbrev opened : List (List Packet)
   opened = rs ++ ((x ∷ []) ∷ [])
 
@@ -157,7 +167,8 @@ module _ (look next : Option (List ℕ) → Option ℕ) (rs : List (List Packet)
   of_key q = ap (is_key q) is ∙ sym (key_eq_is q key) ∙ keys_equiv.symm q key
 
   -- what the flow with this key finds is `place`; another finds what it found
-  opens : (place : Option ℕ) → ((q : Option (List ℕ)) → next q ≡ (if key_eq key q then place else look q)) → IsFound opened (Some (length rs)) place → IsIndexOf next opened
+  opens : (place : Option ℕ) → ((q : Option (List ℕ)) → next q ≡ (if key_eq key q then place else look q))
+      → IsFound opened (Some (length rs)) place → IsIndexOf next opened
   opens place puts f = λ q. elim (cases_Bool (key_eq key q)) [
     | inl e ↦ (
       Some (length rs),
@@ -171,12 +182,14 @@ module _ (look next : Option (List ℕ) → Option ℕ) (rs : List (List Packet)
           o,
           (
             one_more_other (is_run_of q) rs (x ∷ []) o (of_key q ∙ e) (index q).1.0,
-            subst (IsFound opened o) (sym (puts q ∙ skips (key_eq key q) place (look q) e)) (found_more rs (x ∷ []) (is_run_of q) o (look q) (index q).1.0 (index q).1.1),
+            subst (IsFound opened o) (sym (puts q ∙ skips (key_eq key q) place (look q) e))
+                (found_more rs (x ∷ []) (is_run_of q) o (look q) (index q).1.0 (index q).1.1),
           ),
         )
   ]
 
-  pub index_opens : (i : ℕ) (is_open : Bool) → i ≡ length rs → ((q : Option (List ℕ)) → next q ≡ (if key_eq key q then (if is_open then Some i else None) else look q))
+  pub index_opens : (i : ℕ) (is_open : Bool) → i ≡ length rs
+      → ((q : Option (List ℕ)) → next q ≡ (if key_eq key q then (if is_open then Some i else None) else look q))
       → (is_open ≡ false → IsShut (x ∷ [])) → IsIndexOf next opened
   index_opens i is_open e puts shut = opens (if is_open then Some i else None) puts (at is_open shut)
     where
@@ -201,13 +214,15 @@ index_none look none = λ q. (None, ((λ k d h. absurd (omega arith)), none q))
 
 -- ---- the run that the last packet is in
 
-pub latest_of : (look : Option (List ℕ) → Option ℕ) (rs : List (List Packet)) (key : Option (List ℕ)) (i : ℕ) (is_open : Bool) → i < length rs → is_run_of key (get_or rs i []) ≡ true
+pub latest_of : (look : Option (List ℕ) → Option ℕ) (rs : List (List Packet)) (key : Option (List ℕ)) (i : ℕ)
+    (is_open : Bool) → i < length rs → is_run_of key (get_or rs i []) ≡ true
     → look key ≡ (if is_open then Some i else None) → IsLatest look rs (if is_open then Some i else None)
 latest_of look rs key i true h b e = (h, λ q t. ap look (one_flow q key (get_or rs i []) t b) ∙ e)
 latest_of look rs key i false h b e = tt
 
 -- the packet that it takes finds it
-pub latest_found : (look : Option (List ℕ) → Option ℕ) (rs : List (List Packet)) (i : ℕ) (first x : Packet) (rest : List Packet) → IsLatest look rs (Some i) → get_or rs i [] ≡ first ∷ rest
+pub latest_found : (look : Option (List ℕ) → Option ℕ) (rs : List (List Packet)) (i : ℕ) (first x : Packet)
+    (rest : List Packet) → IsLatest look rs (Some i) → get_or rs i [] ≡ first ∷ rest
     → key_of x.frame ≡ key_of first.frame → look (key_of x.frame) ≡ Some i
 latest_found look rs i first x rest l e k =
     let key : Option (List ℕ) = key_of x.frame in

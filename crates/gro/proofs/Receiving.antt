@@ -47,18 +47,21 @@ pub total_push : (f : Held → ℕ) (ps : List Held) (p : Held) → total f (ps 
 total_push f [] p = omega arith
 total_push f (q ∷ ps) p = omega (arith, total_push f ps p)
 
-totals_push : (f : Held → ℕ) (rs : List Run) (r : Run) (p : Held) → held_of r ≡ p ∷ [] → totals f (map held_of (rs ++ (r ∷ []))) ≡ totals f (map held_of rs) + f p
+totals_push : (f : Held → ℕ) (rs : List Run) (r : Run) (p : Held) → held_of r ≡ p ∷ []
+    → totals f (map held_of (rs ++ (r ∷ []))) ≡ totals f (map held_of rs) + f p
 totals_push f [] r p e = omega (arith, ap (total f) e)
 totals_push f (s ∷ rs) r p e = omega (arith, totals_push f rs r p e)
 
-totals_set : (f : Held → ℕ) (rs : List Run) (i : ℕ) (old new : Run) (p : Held) → i < length rs → old ≡ get_or rs i old → held_of new ≡ held_of old ++ (p ∷ [])
+totals_set : (f : Held → ℕ) (rs : List Run) (i : ℕ) (old new : Run) (p : Held) → i < length rs → old ≡ get_or rs i old
+    → held_of new ≡ held_of old ++ (p ∷ [])
     → totals f (map held_of (set rs i new)) ≡ totals f (map held_of rs) + f p
 totals_set f [] i old new p h e g = absurd (omega arith)
 totals_set f (s ∷ rs) zero old new p h e g = omega (arith, ap (total f) g, total_push f (held_of old) p, ap (λ z. total f (held_of z)) e)
 totals_set f (s ∷ rs) (suc i) old new p h e g = omega (arith, totals_set f rs i old new p (omega arith) e g)
 
 -- a run holds no more than all
-pub one_of_all : (f : Held → ℕ) (rs : List Run) (i : ℕ) (d : Run) → i < length rs → total f (held_of (get_or rs i d)) ≤ totals f (map held_of rs)
+pub one_of_all : (f : Held → ℕ) (rs : List Run) (i : ℕ) (d : Run) → i < length rs
+    → total f (held_of (get_or rs i d)) ≤ totals f (map held_of rs)
 one_of_all f [] i d h = absurd (omega arith)
 one_of_all f (r ∷ rs) zero d h = omega arith
 one_of_all f (r ∷ rs) (suc i) d h = omega (arith, one_of_all f rs i d (omega arith))
@@ -76,18 +79,22 @@ run_shut : (r : Run) → IsRun r → r.progress.is_open ≡ false → IsShut (pa
 run_shut r is e = λ x m. shut_by r.layout r.payload r.flags r.progress (packet_of r.first) x (map packet_of r.rest.items) is.run e m
 
 -- what finds nothing finds nothing else
-keeps_none : (look : Option (List ℕ) → Option ℕ) (key q : Option (List ℕ)) → look key ≡ None → look q ≡ (if key_eq key q then None else look q)
+keeps_none : (look : Option (List ℕ) → Option ℕ) (key q : Option (List ℕ)) → look key ≡ None
+    → look q ≡ (if key_eq key q then None else look q)
 keeps_none look key q e = elim (cases_Bool (key_eq key q)) [
   | inl t ↦ ap look (sym (same_key key q t)) ∙ e ∙ sym (ap (λ (b : Bool). if b then None else look q) t)
   | inr f ↦ sym (ap (λ (b : Bool). if b then None else look q) f)
 ]
 
 -- a packet that is no candidate is followed by none
-pub alone_shut : (p : Held) (found : Option Layout) (sum : FoldAndLength) (bits : ℕ) → IsJudged (buffer_bytes p.skb) p.original found sum bits → found ≡ None → IsShut (packet_of p ∷ [])
-alone_shut p found sum bits j e = λ x m. no_first (packet_of p) x [] (subst (λ z. IsJudged (buffer_bytes p.skb) p.original z sum bits) e j) m
+pub alone_shut : (p : Held) (found : Option Layout) (sum : FoldAndLength) (bits : ℕ)
+    → IsJudged (buffer_bytes p.skb) p.original found sum bits → found ≡ None → IsShut (packet_of p ∷ [])
+alone_shut p found sum bits j e = λ x m. no_first (packet_of p) x []
+    (subst (λ z. IsJudged (buffer_bytes p.skb) p.original z sum bits) e j) m
 
 -- a packet opens a run
-module _ (a b : Runs) (p : Held) (r : Run) (runs : AreRuns a) (items : b.list.items ≡ a.list.items ++ (r ∷ [])) (is : IsRun r) (one : held_of r ≡ p ∷ [])
+module _ (a b : Runs) (p : Held) (r : Run) (runs : AreRuns a) (items : b.list.items ≡ a.list.items ++ (r ∷ []))
+    (is : IsRun r) (one : held_of r ≡ p ∷ [])
     (places : (n : ℕ) → HasPlaces a (n + 1) → HasPlaces b n) where
   one_packet : packets_of r ≡ packet_of p ∷ []
   one_packet = ap (map packet_of) one
@@ -98,7 +105,8 @@ module _ (a b : Runs) (p : Held) (r : Run) (runs : AreRuns a) (items : b.list.it
   each : AllByRecursion IsRun b.list.items
   each = subst (AllByRecursion IsRun) (sym items) (all_append IsRun a.list.items (r ∷ []) runs.each (is, tt))
 
-  opened_by : AreFlows b.flows → IsIndexOf (place_of b.flows) (packets_in a ++ ((packet_of p ∷ []) ∷ [])) → TakesPacket (packets_in a) (packet_of p) (packets_in a ++ ((packet_of p ∷ []) ∷ []))
+  opened_by : AreFlows b.flows → IsIndexOf (place_of b.flows) (packets_in a ++ ((packet_of p ∷ []) ∷ []))
+      → TakesPacket (packets_in a) (packet_of p) (packets_in a ++ ((packet_of p ∷ []) ∷ []))
       → IsLatest (place_of b.flows) (packets_in a ++ ((packet_of p ∷ []) ∷ [])) b.last → Takes a p b
   opened_by flows index takes latest = record {
     runs = record {
@@ -113,21 +121,25 @@ module _ (a b : Runs) (p : Held) (r : Run) (runs : AreRuns a) (items : b.list.it
     places = places;
   }
 
-  opens_at : (key : Option (List ℕ)) (i : ℕ) (is_open : Bool) → key_of (buffer_bytes p.skb) ≡ key → i ≡ length a.list.items → AreFlows b.flows
+  opens_at : (key : Option (List ℕ)) (i : ℕ) (is_open : Bool) → key_of (buffer_bytes p.skb) ≡ key
+      → i ≡ length a.list.items → AreFlows b.flows
       → Puts a.flows key (if is_open then Some i else None) b.flows → (is_open ≡ false → IsShut (packet_of p ∷ []))
       → ((j : ℕ) → place_of a.flows key ≡ Some j → IsMergeable (get_or (packets_in a) j [] ++ (packet_of p ∷ [])) → ⊥)
       → IsLatest (place_of b.flows) (packets_in a ++ ((packet_of p ∷ []) ∷ [])) b.last → Takes a p b
   opens_at key i is_open k e flows puts shut not latest = opened_by flows
-      (index_opens (place_of a.flows) (place_of b.flows) (packets_in a) (packet_of p) key runs.index k i is_open (e ∙ sym (length-map a.list.items packets_of)) puts shut)
+      (index_opens (place_of a.flows) (place_of b.flows) (packets_in a) (packet_of p) key runs.index k i is_open
+      (e ∙ sym (length-map a.list.items packets_of)) puts shut)
       (takes_opens (place_of a.flows) (place_of b.flows) (packets_in a) (packet_of p) key runs.index k not)
       latest
 
-  latest_opened : (key : Option (List ℕ)) (i : ℕ) (is_open : Bool) → key_of (buffer_bytes p.skb) ≡ key → i ≡ length a.list.items → Puts a.flows key (if is_open then Some i else None) b.flows
+  latest_opened : (key : Option (List ℕ)) (i : ℕ) (is_open : Bool) → key_of (buffer_bytes p.skb) ≡ key
+      → i ≡ length a.list.items → Puts a.flows key (if is_open then Some i else None) b.flows
       → b.last ≡ (if is_open then Some i else None) → IsLatest (place_of b.flows) (packets_in a ++ ((packet_of p ∷ []) ∷ [])) b.last
   latest_opened key i is_open k e puts last =
       let n : i ≡ length (packets_in a) = e ∙ sym (length-map a.list.items packets_of) in
       subst (IsLatest (place_of b.flows) (packets_in a ++ ((packet_of p ∷ []) ∷ []))) (sym last)
-      (latest_of (place_of b.flows) (packets_in a ++ ((packet_of p ∷ []) ∷ [])) key i is_open (omega (arith, n, length-append (packets_in a) ((packet_of p ∷ []) ∷ [])))
+      (latest_of (place_of b.flows) (packets_in a ++ ((packet_of p ∷ []) ∷ [])) key i is_open
+      (omega (arith, n, length-append (packets_in a) ((packet_of p ∷ []) ∷ [])))
       (ap (begins_in (is_of key)) (get_or_push (packets_in a) (packet_of p ∷ []) [] i (sym n)) ∙ ap (is_key key) k ∙ is_key_self key)
       (puts key ∙ ap (λ (b : Bool). if b then (if is_open then Some i else None) else place_of a.flows key) (keys_equiv.refl key)))
 
@@ -136,13 +148,15 @@ module _ (a b : Runs) (p : Held) (r : Run) (runs : AreRuns a) (items : b.list.it
       → ((j : ℕ) → place_of a.flows key ≡ Some j → IsMergeable (get_or (packets_in a) j [] ++ (packet_of p ∷ [])) → ⊥)
       → b.last ≡ (if r.progress.is_open then Some i else None) → Takes a p b
   opens_run key i k e flows puts not last =
-      opens_at key i r.progress.is_open k e flows puts (λ s. subst IsShut one_packet (run_shut r is s)) not (latest_opened key i r.progress.is_open k e puts last)
+      opens_at key i r.progress.is_open k e flows puts (λ s. subst IsShut one_packet (run_shut r is s)) not
+      (latest_opened key i r.progress.is_open k e puts last)
 
   latest_none : b.last ≡ None → IsLatest (place_of b.flows) (packets_in a ++ ((packet_of p ∷ []) ∷ [])) b.last
   latest_none e = subst (IsLatest (place_of b.flows) (packets_in a ++ ((packet_of p ∷ []) ∷ []))) (sym e) tt
 
   -- a packet that no other joins, of a flow that finds nothing
-  pub opens_alone : place_of a.flows (key_of (buffer_bytes p.skb)) ≡ None → IsShut (packet_of p ∷ []) → b.flows ≡ a.flows → b.last ≡ None → Takes a p b
+  pub opens_alone : place_of a.flows (key_of (buffer_bytes p.skb)) ≡ None → IsShut (packet_of p ∷ [])
+      → b.flows ≡ a.flows → b.last ≡ None → Takes a p b
   opens_alone none shut e last =
       let key : Option (List ℕ) = key_of (buffer_bytes p.skb) in
       opens_at key (length a.list.items) false refl refl (subst AreFlows (sym e) runs.flows)
@@ -157,7 +171,14 @@ module _ (a : Runs) (i : ℕ) (old : Run) (runs : AreRuns a) (h : i < length a.l
   run_in = subst IsRun (sym was) (all_at IsRun a.list.items i old runs.each h)
 
   pub few_at : old.count ≤ totals count_of (held_in a)
-  few_at = omega (arith, run_in.count, counts_total (held_of old), ap (λ z. total count_of (held_of z)) was, one_of_all count_of a.list.items i old h)
+  few_at = omega (
+    arith,
+    run_in.count,
+    counts_total (held_of old),
+    ap
+        (λ z. total count_of (held_of z)) was,
+    one_of_all count_of a.list.items i old h,
+  )
 
 -- the run that is found
 module _ (a : Runs) (key : Option (List ℕ)) (i : ℕ) (runs : AreRuns a) (found : place_of a.flows key ≡ Some i) where
@@ -178,7 +199,8 @@ module _ (a : Runs) (key : Option (List ℕ)) (i : ℕ) (runs : AreRuns a) (foun
   few_more old was = few_at a i old runs inside was
 
 -- a run takes a packet
-module _ (a b : Runs) (p : Held) (key : Option (List ℕ)) (i : ℕ) (old new : Run) (runs : AreRuns a) (found : place_of a.flows key ≡ Some i) (was : old ≡ get_or a.list.items i old)
+module _ (a b : Runs) (p : Held) (key : Option (List ℕ)) (i : ℕ) (old new : Run) (runs : AreRuns a)
+    (found : place_of a.flows key ≡ Some i) (was : old ≡ get_or a.list.items i old)
     (items : b.list.items ≡ set a.list.items i new) (is : IsRun new) (more : held_of new ≡ held_of old ++ (p ∷ [])) where
   within : i < length a.list.items
   within = inside a key i runs found
@@ -199,7 +221,8 @@ module _ (a b : Runs) (p : Held) (key : Option (List ℕ)) (i : ℕ) (old new : 
   new_key : begins_in (is_of key) (packets_of new) ≡ true
   new_key = ap (begins_in (is_of key)) grown ∙ ap (begins_in (is_of key)) there ∙ (last a key i runs found).1 []
 
-  pub grows_run : key_of (buffer_bytes p.skb) ≡ key → AreFlows b.flows → Puts a.flows key (if new.progress.is_open then Some i else None) b.flows
+  pub grows_run : key_of (buffer_bytes p.skb) ≡ key → AreFlows b.flows
+      → Puts a.flows key (if new.progress.is_open then Some i else None) b.flows
       → IsMergeable (get_or (packets_in a) i [] ++ (packet_of p ∷ [])) → ((n : ℕ) → HasPlaces a (n + 1) → HasPlaces b n)
       → b.last ≡ (if new.progress.is_open then Some i else None) → Takes a p b
   grows_run k flows puts m places latest = record {
@@ -207,16 +230,21 @@ module _ (a b : Runs) (p : Held) (key : Option (List ℕ)) (i : ℕ) (old new : 
       each = subst (AllByRecursion IsRun) (sym items) (all_set IsRun a.list.items i new runs.each is);
       flows = flows;
       index = subst (IsIndexOf (place_of b.flows)) (sym all_packets)
-          (index_grows (place_of a.flows) (packets_in a) key i (packets_of old) (packet_of p) runs.index found there (place_of b.flows) new.progress.is_open puts
+          (index_grows (place_of a.flows) (packets_in a) key i (packets_of old) (packet_of p) runs.index found there
+          (place_of b.flows) new.progress.is_open puts
           (λ s. subst IsShut grown (run_shut new is s)));
       latest = subst (IsLatest (place_of b.flows) (packets_in b)) (sym latest)
-          (latest_of (place_of b.flows) (packets_in b) key i new.progress.is_open (omega (arith, within, ap length items, length-set a.list.items i new, length-map b.list.items packets_of))
+          (latest_of (place_of b.flows) (packets_in b) key i new.progress.is_open
+          (omega (arith, within, ap length items, length-set a.list.items i new, length-map b.list.items packets_of))
           (ap (begins_in (is_of key)) now_there ∙ new_key)
-          (puts key ∙ ap (λ (b : Bool). if b then (if new.progress.is_open then Some i else None) else place_of a.flows key) (keys_equiv.refl key)));
+          (puts key ∙ ap (λ (b : Bool). if b then
+          (if new.progress.is_open then Some i else None) else place_of a.flows key) (keys_equiv.refl key)));
     };
     takes = subst (TakesPacket (packets_in a) (packet_of p)) (sym all_packets)
-        (takes_grows (place_of a.flows) (packets_in a) key i (packets_of old) (packet_of p) runs.index found there k (subst (λ z. IsMergeable (z ++ (packet_of p ∷ []))) (sym there) m));
-    early = subst (KeepsEarly (packets_in a) (packet_of p)) (sym all_packets) (early_grows (packets_in a) key i (packet_of p) (packets_of old) there (last a key i runs found));
+        (takes_grows (place_of a.flows) (packets_in a) key i (packets_of old) (packet_of p) runs.index found there k
+        (subst (λ z. IsMergeable (z ++ (packet_of p ∷ []))) (sym there) m));
+    early = subst (KeepsEarly (packets_in a) (packet_of p)) (sym all_packets)
+        (early_grows (packets_in a) key i (packet_of p) (packets_of old) there (last a key i runs found));
     same = λ f. ap (λ z. totals f (map held_of z)) items ∙ totals_set f a.list.items i old new p within was more;
     places = places;
   }
@@ -236,11 +264,13 @@ module _ (a b : Runs) (i : ℕ) (old new : Run) (was : old ≡ get_or a.list.ite
     flows = subst AreFlows (sym e) runs.flows;
     index = subst (λ z. IsIndexOf (place_of z) (packets_in b)) (sym e) (subst (IsIndexOf (place_of a.flows)) (sym packets_kept) runs.index);
     latest = subst (λ z. IsLatest (place_of z) (packets_in b) b.last) (sym e)
-        (subst (λ (z : List (List Packet)). IsLatest (place_of a.flows) z b.last) (sym packets_kept) (subst (IsLatest (place_of a.flows) (packets_in a)) (sym l) runs.latest));
+        (subst (λ (z : List (List Packet)). IsLatest (place_of a.flows) z b.last) (sym packets_kept)
+        (subst (IsLatest (place_of a.flows) (packets_in a)) (sym l) runs.latest));
   }
 
 -- no runs yet
-pub no_runs : (a : Runs) → a.list.items ≡ [] → AreFlows a.flows → ((q : Option (List ℕ)) → place_of a.flows q ≡ None) → a.last ≡ None → AreRuns a
+pub no_runs : (a : Runs) → a.list.items ≡ [] → AreFlows a.flows → ((q : Option (List ℕ)) → place_of a.flows q ≡ None)
+    → a.last ≡ None → AreRuns a
 no_runs a e flows none last = record {
   each = subst (AllByRecursion IsRun) (sym e) tt;
   flows = flows;
@@ -248,26 +278,33 @@ no_runs a e flows none last = record {
   latest = subst (IsLatest (place_of a.flows) (packets_in a)) (sym last) tt;
 }
 
-index_again : (look again : Option (List ℕ) → Option ℕ) (rs : List (List Packet)) → ((q : Option (List ℕ)) → again q ≡ look q) → IsIndexOf look rs → IsIndexOf again rs
+index_again : (look again : Option (List ℕ) → Option ℕ) (rs : List (List Packet))
+    → ((q : Option (List ℕ)) → again q ≡ look q) → IsIndexOf look rs → IsIndexOf again rs
 index_again look again rs same i = λ q. let x = i q in (x.0, (x.1.0, subst (IsFound rs x.0) (sym (same q)) x.1.1))
 
-latest_again : (look again : Option (List ℕ) → Option ℕ) (rs : List (List Packet)) (last : Option ℕ) → ((q : Option (List ℕ)) → again q ≡ look q) → IsLatest look rs last → IsLatest again rs last
+latest_again : (look again : Option (List ℕ) → Option ℕ) (rs : List (List Packet)) (last : Option ℕ)
+    → ((q : Option (List ℕ)) → again q ≡ look q) → IsLatest look rs last → IsLatest again rs last
 latest_again look again rs None same l = tt
 latest_again look again rs (Some i) same l = (l.0, λ q b. same q ∙ l.1 q b)
 
 -- the same runs, where each key finds what it did
-pub runs_again : (a b : Runs) → b.list.items ≡ a.list.items → AreFlows b.flows → ((q : Option (List ℕ)) → place_of b.flows q ≡ place_of a.flows q) → b.last ≡ a.last → AreRuns a → AreRuns b
+pub runs_again : (a b : Runs) → b.list.items ≡ a.list.items → AreFlows b.flows
+    → ((q : Option (List ℕ)) → place_of b.flows q ≡ place_of a.flows q) → b.last ≡ a.last → AreRuns a → AreRuns b
 runs_again a b items flows same last runs = record {
   each = subst (AllByRecursion IsRun) (sym items) runs.each;
   flows = flows;
-  index = subst (λ (z : List Run). IsIndexOf (place_of b.flows) (map packets_of z)) (sym items) (index_again (place_of a.flows) (place_of b.flows) (packets_in a) same runs.index);
+  index = subst (λ (z : List Run). IsIndexOf (place_of b.flows) (map packets_of z)) (sym items)
+      (index_again (place_of a.flows) (place_of b.flows) (packets_in a) same runs.index);
   latest = subst (λ (z : List Run). IsLatest (place_of b.flows) (map packets_of z) b.last) (sym items)
-      (subst (IsLatest (place_of b.flows) (packets_in a)) (sym last) (latest_again (place_of a.flows) (place_of b.flows) (packets_in a) a.last same runs.latest));
+      (subst (IsLatest (place_of b.flows) (packets_in a)) (sym last)
+      (latest_again (place_of a.flows) (place_of b.flows) (packets_in a) a.last same runs.latest));
 }
 
 -- the last packet's run takes a packet, and its flow is told by its first packet
-module _ (a b : Runs) (p : Held) (i : ℕ) (old new : Run) (runs : AreRuns a) (found : place_of a.flows (key_of (buffer_bytes p.skb)) ≡ Some i)
-    (was : old ≡ get_or a.list.items i old) (items : b.list.items ≡ set a.list.items i new) (is : IsRun new) (more : held_of new ≡ held_of old ++ (p ∷ [])) where
+module _ (a b : Runs) (p : Held) (i : ℕ) (old new : Run) (runs : AreRuns a)
+    (found : place_of a.flows (key_of (buffer_bytes p.skb)) ≡ Some i)
+    (was : old ≡ get_or a.list.items i old) (items : b.list.items ≡ set a.list.items i new) (is : IsRun new)
+    (more : held_of new ≡ held_of old ++ (p ∷ [])) where
   abbrev own_key : Option (List ℕ)
   own_key = key_of (buffer_bytes p.skb)
 
@@ -283,7 +320,8 @@ module _ (a b : Runs) (p : Held) (i : ℕ) (old new : Run) (runs : AreRuns a) (f
   extends_run flows puts m places latest =
       let there : place_of a.flows first_key ≡ Some i = ap (place_of a.flows) (sym one_key) ∙ found in
       grows_run a b p own_key i old new runs found was items is more refl flows
-      (λ r. puts r ∙ ap (λ (o : Option ℕ). if key_eq first_key r then (if new.progress.is_open then o else None) else place_of a.flows r) there
+      (λ r. puts r ∙ ap (λ (o : Option ℕ). if key_eq first_key r then
+      (if new.progress.is_open then o else None) else place_of a.flows r) there
       ∙ ap (λ z. if key_eq z r then (if new.progress.is_open then Some i else None) else place_of a.flows r) (sym one_key))
       m places latest
 
@@ -299,5 +337,6 @@ pub last_inside : (a : Runs) (i : ℕ) → AreRuns a → a.last ≡ Some i → i
 last_inside a i runs last =
     omega (arith, (subst (IsLatest (place_of a.flows) (packets_in a)) last runs.latest).0, length-map a.list.items packets_of)
 
-pub last_packets : (a : Runs) (i : ℕ) (run : Run) → i < length a.list.items → run ≡ get_or a.list.items i run → packets_of run ≡ get_or (packets_in a) i []
+pub last_packets : (a : Runs) (i : ℕ) (run : Run) → i < length a.list.items → run ≡ get_or a.list.items i run
+    → packets_of run ≡ get_or (packets_in a) i []
 last_packets a i run h was = ap packets_of was ∙ sym (get_or-map packets_of a.list.items i run [] h)

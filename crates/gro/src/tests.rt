@@ -37,14 +37,14 @@ fn checksum(sum: u32) -> u16 {
 }
 
 fn put16(head: &mut [u8; 54], at: usize, value: u16)
-    requires { at + 2 ≤ 54 }
+    requires inside { at + 2 ≤ 54 }
 {
     head[at..at + 2].copy_from_slice(&value.to_be_bytes());
 }
 
 // The headers of packet `index` of a flow, Ethernet, IPv4 and TCP, whose payload stands behind `before` bytes of that flow.
 fn plain(index: u16, before: u32, flags: u8, payload: &[u8]) -> [u8; 54]
-    requires { length payload.now ≤ 1000 }
+    requires short { length payload.now ≤ 1000 }
 {
     let mut head = frames::PLAIN_FIRST;
     let long = payload.len() as u16;
@@ -110,7 +110,7 @@ fn freed(rt: &impl Abort, skb: Skb, mut outcomes: Outcomes) -> usize {
 
 // Room for n more. Where one call is refused memory, the next one isn't.
 fn reserve(rt: &impl Abort, outcomes: &mut Outcomes, n: usize)
-    ensures { n ≤ outcomes.new.spare }
+    ensures room { n ≤ outcomes.new.spare }
 {
     if outcomes.reserve(n).is_err() {
         outcomes.reserve(n).expect(rt, "places");
@@ -119,7 +119,7 @@ fn reserve(rt: &impl Abort, outcomes: &mut Outcomes, n: usize)
 
 // The Soles that were given back are dropped, and the receipts closed: how many Soles there were.
 fn emptied(outcomes: &mut Outcomes) -> usize
-    ensures { IsBare outcomes.new }
+    ensures bare { IsBare outcomes.new }
 {
     let mut blocks: usize = 0;
     while let Some(_sole) = outcomes.pop_sole() {
@@ -201,7 +201,7 @@ fn item_of(rt: &impl Abort, alloc: Global, run: Run) -> Item
 
 // Whether a buffer has these bytes from a place on.
 fn has_bytes(skb: &Skb, at: usize, bytes: &[u8]) -> bool
-    requires { (at < 10000) × (length bytes.now < 10000) }
+    requires short { (at < 10000) × (length bytes.now < 10000) }
 {
     if skb.len() < at + bytes.len() {
         return false;

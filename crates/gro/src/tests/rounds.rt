@@ -21,7 +21,7 @@ fn in_flow(head: [u8; 54], flow: u16) -> [u8; 54] {
 
 // A table for so many packets. Where one call is refused memory, the next one isn't.
 fn table_for(rt: &impl Abort, alloc: Global, limit: u32) -> RoundTable
-    ensures { result.runs ≡ [] }
+    ensures none { result.runs ≡ [] }
 {
     match RoundTable::make(alloc, limit) {
         Ok(table) => table,
@@ -97,7 +97,7 @@ fn spent(rt: &impl Abort, items: Vec<Item>, rows: &[Said]) -> usize {
 
 // Packets of these headers and one payload come to items that say this.
 fn come_to(rt: &impl Abort, alloc: Global, heads: &[[u8; 54]], payload: &[u8], rows: &[Said])
-    requires { length heads.now ≤ 128 }
+    requires few { length heads.now ≤ 128 }
 {
     let mut table = table_for(rt, alloc, heads.len() as u32);
     for i in 0..heads.len() {
@@ -169,7 +169,7 @@ fn two_flows_and_an_ack(rt: HostRuntime) {
 
 // So many flows in turn, so many packets of each: an item for each flow, in the order of the first packets.
 fn flows_in_turn(rt: &impl Abort, alloc: Global, flows: u16, turns: u16)
-    requires { (flows ≤ 4096) × (turns ≤ 16) }
+    requires few { (flows ≤ 4096) × (turns ≤ 16) }
 {
     let all = flows as u32 * turns as u32;
     let mut table = table_for(rt, alloc, all);
@@ -230,8 +230,8 @@ fn a_sum_of_ffff(rt: HostRuntime) {
 
 // The next round of the table: two packets of a run and one that is alone. The memory of their outcomes serves the one after.
 fn serve(rt: &impl Abort, alloc: Global, table: &mut RoundTable)
-    requires { table.old.runs ≡ [] }
-    ensures { table.new.runs ≡ [] }
+    requires none { table.old.runs ≡ [] }
+    ensures none { table.new.runs ≡ [] }
 {
     started(rt, table, 3);
     put(rt, alloc, table, 0, &plain(0, 0, 0x10, &[7; 4]), &[7; 4]);
@@ -250,7 +250,7 @@ fn serve(rt: &impl Abort, alloc: Global, table: &mut RoundTable)
 
 // The table's next round. Where one call is refused memory, the next one isn't.
 fn started(rt: &impl Abort, table: &mut RoundTable, limit: u32)
-    requires { table.old.runs ≡ [] }
+    requires none { table.old.runs ≡ [] }
 {
     if table.start(limit).is_err() {
         table.start(limit).expect(rt, "room");
@@ -259,8 +259,8 @@ fn started(rt: &impl Abort, table: &mut RoundTable, limit: u32)
 
 // The table's items. Where they are refused, nothing has changed.
 fn finished_into(rt: &impl Abort, table: &mut RoundTable, items: &mut Vec<Item>)
-    requires { items.old.items ≡ [] }
-    ensures { table.new.runs ≡ [] }
+    requires empty { items.old.items ≡ [] }
+    ensures none { table.new.runs ≡ [] }
 {
     let before = table.count();
     match table.finish_into(items) {
@@ -274,7 +274,7 @@ fn finished_into(rt: &impl Abort, table: &mut RoundTable, items: &mut Vec<Item>)
 
 // How many blocks are home once an item is spent. The table keeps the memory of its outcomes.
 fn brought(rt: &impl Abort, table: &mut RoundTable, item: Item) -> usize
-    ensures { table.new.runs ≡ table.old.runs }
+    ensures same { table.new.runs ≡ table.old.runs }
 {
     let (skb, mut outcomes) = item.into_parts();
     reserve(rt, &mut outcomes, skb.count());

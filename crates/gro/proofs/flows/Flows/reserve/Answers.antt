@@ -13,5 +13,9 @@ returns-in_err-reserve-clause-flows c =
 
 pub returns-clause-flows : goal.returns-clause-flows
 returns-clause-flows c =
-    flows_kept c.args.self.now (record { «open» = c.reserve.new.self; slots = c.reserve-2.new.self }) c.requires.flows c.reserve-2.ensures.entries.2
+    flows_kept c.args.self.now (record {
+      «open» = c.reserve.new.self;
+      slots
+          = c.reserve-2.new.self;
+    }) c.requires.flows c.reserve-2.ensures.entries.2
     (λ k s. subst IsSome (sym (ap (λ (o : Slab ℕ). get o k) c.reserve.ensures.rest_kept)) s)
