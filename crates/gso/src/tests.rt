@@ -186,7 +186,7 @@ fn frames_whose_headers_lie_in_pieces_are_cut_once_pulled_up(rt: HostRuntime) ->
 
 // This frame: 200 bytes in the head, and 2,048 in a part that weighs no more, as little as `start` takes.
 fn thin<A: Abort>(rt: &A, alloc: Global, frame: &[u8], out: &mut Outcomes) -> Skb
-    requires { 1 ≤ out.old.spare }
+    requires places { 1 ≤ out.old.spare }
 {
     assert!(rt; frame.len() == 2248);
     let (first, behind) = frame.split_at(200);

@@ -30,7 +30,7 @@ pub fn header(kind: u8, n: u16, m: u16, modes: u8) -> OffHead {
 
 // A block with these bytes from the place 64 on.
 fn block_of(alloc: Global, bytes: &[u8]) -> Result<Sole, AllocError>
-    requires { length bytes.now ≤ 1984 }
+    requires room { length bytes.now ≤ 1984 }
 {
     let mut block = Sole::new(alloc)?;
     block.range_mut(64, 64 + bytes.len()).copy_from_slice(bytes);
@@ -39,8 +39,8 @@ fn block_of(alloc: Global, bytes: &[u8]) -> Result<Sole, AllocError>
 
 // The bytes as pieces of `size` bytes, each in a block of its own.
 fn pieces_of<A: Abort>(rt: &A, alloc: Global, bytes: &[u8], size: usize) -> Pieces
-    requires { (0 < size) × (size ≤ 1984) }
-    ensures { size_of result ≤ 72000 }
+    requires sizes { (0 < size) × (size ≤ 1984) }
+    ensures small { size_of result ≤ 72000 }
 {
     let mut builder = PieceBuilder::with_room(alloc, bytes.len()).expect(rt, "no memory");
     let mut total = 0usize;
@@ -56,7 +56,7 @@ fn pieces_of<A: Abort>(rt: &A, alloc: Global, bytes: &[u8], size: usize) -> Piec
 
 /// A buffer with these bytes: the first `head` of them in its head, the others in pieces of `size` bytes.
 pub fn buffer<A: Abort>(rt: &A, alloc: Global, bytes: &[u8], head: usize, size: usize) -> Skb
-    requires { (head ≤ 1984) × (0 < size) × (size ≤ 1984) }
+    requires sizes { (head ≤ 1984) × (0 < size) × (size ≤ 1984) }
 {
     let of_head = bytes.len().min(head);
     let (first, behind) = bytes.split_at(of_head);
