@@ -25,11 +25,11 @@ flows_kept f g flows slots runs = record {
   own = λ q r k d e. flows.own q r k (sym (slots q) ∙ d) (sym (slots r) ∙ e);
 }
 
--- the run in a slot is another
-pub flows_moved : (f g : Flows) (slot place : ℕ) → AreFlows f → ((q : Option (List ℕ)) → slot_of g q ≡ slot_of f q)
-    → get g.open slot ≡ Some place → ((k : ℕ) → k ≢ slot → get g.open k ≡ get f.open k) → AreFlows g
-flows_moved f g slot place flows slots new others = flows_kept f g flows slots (λ k s. elim (cases_eq k slot) [
-  | inl same ↦ subst IsSome (sym (ap (get g.open) same ∙ new)) refl
+-- a slot that had a run has a run, maybe another
+pub flows_moved : (f g : Flows) (slot : ℕ) → AreFlows f → ((q : Option (List ℕ)) → slot_of g q ≡ slot_of f q)
+    → IsSome (get g.open slot) → ((k : ℕ) → k ≢ slot → get g.open k ≡ get f.open k) → AreFlows g
+flows_moved f g slot flows slots new others = flows_kept f g flows slots (λ k s. elim (cases_eq k slot) [
+  | inl same ↦ subst (λ z. IsSome (get g.open z)) (sym same) new
   | inr other ↦ subst IsSome (sym (others k other)) s
 ])
 

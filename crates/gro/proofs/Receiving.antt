@@ -175,8 +175,7 @@ module _ (a : Runs) (i : ℕ) (old : Run) (runs : AreRuns a) (h : i < length a.l
     arith,
     run_in.count,
     counts_total (held_of old),
-    ap
-        (λ z. total count_of (held_of z)) was,
+    ap (λ z. total count_of (held_of z)) was,
     one_of_all count_of a.list.items i old h,
   )
 
