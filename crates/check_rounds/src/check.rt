@@ -140,6 +140,7 @@ fn count_next<R: Threads + Sync, S: Source, G: Gate + Sync>(
     ensures within { AreOf ((place_of reader.old).number + rounds.old.budget) totals.new }
     ensures budget { rounds.old.budget ≤ 4096 }
     ensures taken { IfEnds result (λ end. end ≡ CheckEnd.Done → Told (S.left (source_of reader.old)) (S.left (source_of reader.new)) (TakesAll rounds.old.taken rounds.new.taken (place_of reader.old))) }
+    ensures least { rounds.old.taken ≤ rounds.new.taken }
     ensures later { S.faults (source_of reader.old) ≤ S.faults (source_of reader.new) }
     ensures read { IfEnds result (λ end. end ≡ CheckEnd.ReadFault → Rose (S.faults (source_of reader.old)) (S.faults (source_of reader.new))) }
 {
@@ -197,6 +198,7 @@ pub fn check_all<R: Threads + Sync, S: Source, G: Gate + Sync>(
     ensures home { rounds.new.home ≡ rounds.new.blocks }
     ensures same { (rounds.new.blocks ≡ rounds.old.blocks) × (options_of rounds.new ≡ options_of rounds.old) × (rounds.new.keep ≡ rounds.old.keep) }
     ensures taken { result ≡ CheckEnd.Done → Told (S.left (source_of reader.old)) (S.left (source_of reader.new)) (λ bytes left. min (rounds.old.taken + round_need (found_at (place_of reader.old) bytes).packets) (2 ^ 64 - 1) ≤ rounds.new.taken) }
+    ensures least { rounds.old.taken ≤ rounds.new.taken }
     ensures later { S.faults (source_of reader.old) ≤ S.faults (source_of reader.new) }
     ensures read { result ≡ CheckEnd.ReadFault → Rose (S.faults (source_of reader.old)) (S.faults (source_of reader.new)) }
 {

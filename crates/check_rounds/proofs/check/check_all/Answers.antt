@@ -22,6 +22,7 @@ rounds-init g c =
       within = start_within (options_of first) c.args.reader.now.place.number c.args.totals.now c.requires.start;
       counted = omega arith;
       same = refl;
+      least = omega arith;
       later = omega arith;
     }
 
@@ -46,6 +47,7 @@ rounds-preserved g c =
       within = subst (λ (n : ℕ). AreOf n new.totals) (sym m.number) s.within;
       counted = omega (arith, i.counted, m.more);
       same = s.same_source ∙ i.same;
+      least = omega (arith, s.least, i.least);
       later = omega (arith, s.later, i.later);
     }
 

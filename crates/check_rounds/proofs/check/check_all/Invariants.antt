@@ -21,6 +21,7 @@ invariant-rounds g l = record {
   within : AreOf l.reader.place.number l.totals;
   counted : l.number ≤ l.reader.place.number;
   same : l.reader.source.ghost_name ≡ l.initial.reader.source.ghost_name;
+  least : l.initial.rounds.taken ≤ l.rounds.taken;
   later : g.S.Source.faults l.initial.reader.source.now ≤ g.S.Source.faults l.reader.source.now;
 }
 
