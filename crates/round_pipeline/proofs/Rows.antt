@@ -1,5 +1,5 @@
 -- Rounds that were read one after another.
-use Rattle.std.proofs.Common.{◌≡◌, ◌+◌, ◌≤◌, ◌⊎◌, inl, inr, ℕ, List, [], ◌∷◌, ◌++◌, true, Option, Some, None, MatchOption, refl, sym, ap, ◌∙◌, subst, length, arith, append_assoc, append-nil}
+use Rattle.std.proofs.Common.{◌≡◌, ◌+◌, ◌-◌, ◌^◌, ◌≤◌, ◌⊎◌, inl, inr, ℕ, List, [], ◌∷◌, ◌++◌, true, Option, Some, None, MatchOption, refl, sym, ap, ◌∙◌, subst, length, min, arith, append_assoc, append-nil}
 use Rattle.std.specs.List.{AllByRecursion}
 use Rattle.std.proofs.lemmas.Bool.{false≢true}
 use Rattle.off_io.specs.Told.{Told}
@@ -90,6 +90,15 @@ module _ (blocks budget : ℕ) where
   pub reads_later : (from to : Spot) (xs : List (Option Parcel)) → Reads blocks budget from xs to → from.faults ≤ to.faults
   reads_later from to [] reads = omega (arith, ap (λ (s : Spot). s.faults) reads)
   reads_later from to (x ∷ xs) reads = omega (arith, faults_next from reads.0 x reads.1, reads_later reads.0 to xs reads.3)
+
+  least_next : (from to : Spot) (x : Option Parcel) → ReadNext blocks budget from to x → min from.taken (2 ^ 64 - 1) ≤ to.taken
+  least_next from to None next = omega (arith, ap (λ (s : Spot). s.taken) next)
+  least_next from to (Some p) next = omega (arith, next.took)
+
+  -- blocks are only taken
+  pub reads_least : (from to : Spot) (xs : List (Option Parcel)) → Reads blocks budget from xs to → min from.taken (2 ^ 64 - 1) ≤ to.taken
+  reads_least from to [] reads = omega (arith, ap (λ (s : Spot). s.taken) reads)
+  reads_least from to (x ∷ xs) reads = omega (arith, least_next from reads.0 x reads.1, reads_least reads.0 to xs reads.3)
 
   -- bytes are only lost
   round_loses : (from to : Place) (round : List Held) (end : RoundEnd) (bytes left : List ℕ) → GivesRound blocks from to round end bytes left → Loses bytes left

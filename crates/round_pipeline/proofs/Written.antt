@@ -63,7 +63,7 @@ short_captured k place (ends.Malformed fault) bytes left e = absurd (false≢tru
 short_captured k place (ends.PoolEmpty round need) bytes left e = absurd (false≢true e)
 short_captured k place ends.ReadFault bytes left e = absurd (false≢true e)
 
-rose_from : (a b c : ℕ) → a ≤ b → Rose b c → Rose a c
+pub rose_from : (a b c : ℕ) → a ≤ b → Rose b c → Rose a c
 rose_from a b c le rose = omega (arith, le, rose)
 
 -- a round that is known to be worked, or not

@@ -4,6 +4,8 @@ use Rattle.std.specs.List.{AllByRecursion}
 use Rattle.off_io.specs.Faults.{Rose}
 use Rattle.off_io.specs.Told.{Told}
 use Rattle.pcap_io.specs.declared.place.Place.{Place}
+use Rattle.pcap_io.specs.declared.reader.CaptureReader.{CaptureReader}
+use Rattle.pcap_io.specs.Readers.{place_of, source_of}
 use Rattle.offload_model.specs.Captured.{IsCaptured}
 use Rattle.offload_model.specs.Need.{round_need}
 use Rattle.gro.specs.Held.{packet_of}
@@ -21,6 +23,10 @@ pub record Spot : Type 0 where
 
 abbrev pub spot : Place → Option (List ℕ) → ℕ → ℕ → Spot
 spot place left faults taken = record { place = place; left = left; faults = faults; taken = taken }
+
+-- where a reader stands, of which the source tells what it has left and its faults
+abbrev pub reader_at : {S : Type 0} → (S → Option (List ℕ)) → (S → ℕ) → CaptureReader S → ℕ → Spot
+reader_at left faults reader taken = spot (place_of reader) (left (source_of reader)) (faults (source_of reader)) taken
 
 -- a round was read
 pub record ReadRound (blocks budget : ℕ) (from to : Spot) (p : Parcel) : Type 0 where

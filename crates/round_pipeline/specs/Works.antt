@@ -1,10 +1,13 @@
 -- What the side that works says of the rounds that it received, whatever the side that reads says of them.
-use Rattle.std.specs.Prelude.{ℕ, ◌≡◌, ◌+◌, true, false, Option, List, ◌++◌, length, map}
+use Rattle.std.specs.Prelude.{ℕ, ◌≡◌, ◌+◌, ◌≤◌, Bool, true, false, Option, None, Some, List, ◌++◌, length, map}
+use Rattle.off_io.specs.Content.{SaysFlushed}
 use Rattle.off_io.specs.Faults.{Rose}
 use Rattle.off_io.specs.Told.{Told}
 use Rattle.pcap_io.specs.declared.heads.FileHead.{FileHead}
+use Rattle.pcap_io.specs.declared.heads.Link.TheVariants.{Ethernet}
 use Rattle.pcap_io.specs.declared.place.Place.{Place}
-use Rattle.offload_model.specs.Passing.{merging, Passes}
+use Rattle.pcap_io.specs.Places.{IsReady}
+use Rattle.offload_model.specs.Passing.{merging, Passes, flushes}
 use Rattle.offload_model.specs.Steps.{round_output}
 use Rattle.offload_model.specs.Written.{Options}
 use Rattle.gro.specs.Held.{packet_of}
@@ -12,7 +15,8 @@ use Rattle.rounds.specs.declared.merge.MergeEnd.{MergeEnd}
 use Rattle.rounds.specs.declared.merge.MergeEnd.TheVariants as ends
 use Rattle.rounds.specs.declared.merge.Step.{Step}
 use Rattle.rounds.specs.declared.merge.Step.TheVariants as steps
-use Rattle.rounds.specs.Merging.{ending_of, is_worked, Puts, GivesUp, Ahead, TakesAll, HoldsCaptured}
+use Rattle.rounds.specs.Merging.{ending_of, options_of, is_worked, Puts, GivesUp, Ahead, TakesAll, HoldsCaptured}
+use Rattle.rounds.specs.RoundsState.{RoundsState}
 use Rattle.round_pipeline.specs.declared.parcel.Parcel.{Parcel}
 use Rattle.round_pipeline.specs.Reads.{Spot, Reads}
 
@@ -54,3 +58,47 @@ WroteLast blocks options file old new xs end =
 -- from a place on, behind k rounds
 abbrev pub EndsFrom : ℕ → Options → FileHead → ℕ → Spot → Spot → Option (List ℕ) → Option (List ℕ) → MergeEnd → Type 0
 EndsFrom blocks options file k from to old new end = (start : Start) → Behind blocks options file start k from old → Ended blocks options start from to new end
+
+-- ---- what is left behind the first round
+
+-- what a sink holds where it tells, whether that is flushed, and its faults
+pub record Sunk : Type 0 where
+  pub held : Option (List ℕ)
+  pub flushed : Bool
+  pub faults : ℕ
+
+abbrev pub sink_at : {K : Type 0} → (K → Option (List ℕ)) → (K → Bool) → (K → ℕ) → K → Sunk
+sink_at held is_flushed faults sink = record { held = held sink; flushed = is_flushed sink; faults = faults sink }
+
+-- merging may go on here: all blocks are home, and a record was read
+pub record MayGoOn (head : FileHead) (rounds : RoundsState) (place : Place) : Type 0 where
+  pub ready : IsReady place
+  pub link : place.link ≡ Ethernet
+  pub file : place.file ≡ head
+  pub home : rounds.home ≡ rounds.blocks
+  pub counted : 1 ≤ place.number
+
+-- nothing was read or written, and all blocks are home
+pub record Idle (old new : RoundsState) (from to : Spot) (before after : Sunk) : Type 0 where
+  pub home : new.home ≡ new.blocks
+  pub same : (new.blocks ≡ old.blocks) × (options_of new ≡ options_of old) × (new.keep ≡ old.keep)
+  pub taken : new.taken ≡ old.taken
+  pub stands : to ≡ from
+  pub held : after.held ≡ before.held
+  pub later : before.faults ≤ after.faults
+
+-- merging went on from here, and ended so with all blocks home
+pub record WentOn (head : FileHead) (old new : RoundsState) (from to : Spot) (before after : Sunk) (end : MergeEnd) : Type 0 where
+  pub ended : EndsFrom old.blocks (options_of old) head 1 from to before.held after.held end
+  pub flushed : flushes (ending_of end) ≡ true → SaysFlushed after.held after.flushed true
+  pub home : new.home ≡ new.blocks
+  pub same : (new.blocks ≡ old.blocks) × (options_of new ≡ options_of old) × (new.keep ≡ old.keep)
+  pub least : old.taken ≤ new.taken
+  pub later : from.faults ≤ to.faults
+  pub later_sink : before.faults ≤ after.faults
+  pub write : end ≡ ends.WriteFault → Rose before.faults after.faults
+
+-- or there was no memory or no thread for a second side
+abbrev pub MayHaveGoneOn : FileHead → RoundsState → RoundsState → Spot → Spot → Sunk → Sunk → Option MergeEnd → Type 0
+MayHaveGoneOn head old new from to before after None = Idle old new from to before after
+MayHaveGoneOn head old new from to before after (Some end) = WentOn head old new from to before after end

@@ -8,7 +8,7 @@ use crate::bells::Bells;
 use crate::parcel::{Fits, Naming, Parcel, Token};
 use crate::ring::{receive, receive_within};
 use block_pool::Pool;
-use rounds::{Homecoming, Intake};
+use rounds::{Homecoming, Intake, RECORD_BLOCKS};
 use rtrb::{Consumer, Producer};
 use std::alloc::{AllocError, Global};
 use std::collections::VecDeque;
@@ -17,9 +17,6 @@ use std::sync::Wait;
 
 /// As many rounds may be read before the first of them is back.
 pub(crate) const SHELVES: usize = 3;
-
-/// No record needs more blocks.
-const MOST: u32 = 131;
 
 /// Who waits for tokens: of which ring, and on shelves for how many blocks.
 pub(crate) trait Post {
@@ -233,7 +230,7 @@ impl<W: Post + Drop> Homecoming for Desk<W> {
 
     fn bring(&mut self, pool: &mut Pool) {
         for _ in 0..=SHELVES {
-            let waits = self.waits(pool.home() < MOST);
+            let waits = self.waits(pool.home() < RECORD_BLOCKS as u32);
             if !self.meet(pool, waits) {
                 return;
             }

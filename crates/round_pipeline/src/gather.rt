@@ -5,7 +5,7 @@ ghost use Rattle.round_pipeline.specs.Parcels.{blocks_of, homes_of, shelved};
 
 use crate::parcel::{Fits, Naming, Parcel, Token};
 use block_pool::Pool;
-use rounds::{RoundRead, Rounds};
+use rounds::{Intake, RoundRead, Rounds};
 use rtrb::Consumer;
 use std::alloc::Global;
 use std::collections::VecDeque;
@@ -37,17 +37,20 @@ fn bring_tokens(rounds: &mut Rounds, tokens: &mut Consumer<Token>)
     }
 }
 
-/// All blocks that lie between the sides, or on shelves, come home.
+/// The side that reads comes back, and all blocks that lie between the sides, or on shelves, come home.
 pub(crate) fn gather<N: Naming>(
     rounds: &mut Rounds,
+    intake: Intake,
     from: &mut Consumer<Option<Parcel>, Global, Fits<N>>,
     tokens: &mut Consumer<Token>,
     shelves: VecDeque<Pool>,
 )
-    requires sum { rounds.old.home + blocks_of (known_items from.old) + homes_of (known_items tokens.old) + shelved shelves.items ≡ rounds.old.blocks }
-    ensures home { rounds.new ≡ record rounds.old { home = rounds.old.blocks } }
+    requires blocks { intake.blocks ≡ rounds.old.blocks }
+    requires sum { rounds.old.home + intake.home + blocks_of (known_items from.old) + homes_of (known_items tokens.old) + shelved shelves.items ≡ rounds.old.blocks }
+    ensures home { rounds.new ≡ record rounds.old { home = rounds.old.blocks; taken = intake.taken } }
 {
     let mut shelves = shelves;
+    rounds.join(intake);
     drop_parcels(rounds, from);
     bring_tokens(rounds, tokens);
     while let Some(shelf) = shelves.pop_front() {

@@ -8,8 +8,9 @@
 //!
 //! The side that reads owns the pool and takes from it alone. What a round's work leaves comes home on the side that works, onto a shelf:
 //! a pool without blocks of its own. The shelf goes back in a token, and its blocks into the pool. There are three shelves, so reading is at
-//! most three rounds ahead. Before a record is read, where fewer than 131 blocks are home (no record needs more) while some are out, the
-//! side that reads waits for a token; so no record is left half read, and a round exceeds the blocks just where it does in one thread.
+//! most three rounds ahead. Before a record is read, where fewer blocks than `rounds::RECORD_BLOCKS` are home (no record needs more) while
+//! some are out, the side that reads waits for a token; so no record is left half read, and a round exceeds the blocks just where it does
+//! in one thread.
 //!
 //! Proved: [`merge_beside`] has the clauses of `Rounds::merge_all`, word for word, whatever both threads do at the same time. What was sent
 //! by a ring and what was received are known once the threads have joined; the side that reads says of its rounds what they are

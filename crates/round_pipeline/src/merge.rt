@@ -1,5 +1,5 @@
 //! Merges a capture by two sides.
-ghost use Rattle.std.specs.Prelude.{◌≡◌, ◌+◌, ◌-◌, ◌≤◌, ◌^◌, true, [], ◌++◌, min, IfOk, OnOk, OnErr};
+ghost use Rattle.std.specs.Prelude.{◌≡◌, ◌⊎◌, ◌+◌, ◌-◌, ◌≤◌, ◌^◌, true, None, Some, [], ◌++◌, min, IfSome, IfOk, OnOk, OnErr};
 ghost use Rattle.off_io.specs.Content.{SaysFlushed};
 ghost use Rattle.off_io.specs.Faults.{Rose};
 ghost use Rattle.off_io.specs.Told.{Told};
@@ -11,8 +11,8 @@ ghost use Rattle.pcap_io.specs.Readers.{place_of, source_of, SameLoan};
 ghost use Rattle.rounds.specs.Merging.{ending_of, options_of, HoldsCaptured};
 ghost use Rattle.rtrb.specs.Ring.{sent, received, known_items, IsPair};
 ghost use Rattle.round_pipeline.specs.Parcels.{IsOfRing, blocks_of, homes_of, shelved};
-ghost use Rattle.round_pipeline.specs.Reads.{spot};
-ghost use Rattle.round_pipeline.specs.Works.{EndsFrom};
+ghost use Rattle.round_pipeline.specs.Reads.{reader_at};
+ghost use Rattle.round_pipeline.specs.Works.{MayGoOn, MayHaveGoneOn, WentOn, sink_at};
 
 use crate::bells::Bells;
 use crate::desk::{Desk, SHELVES, Sleeper, Supply, new_shelves};
@@ -31,7 +31,7 @@ use std::sync::Wait;
 use std::thread;
 use std::thread::Threads;
 
-// Merges what is left, behind `number` rounds, in this thread.
+// Merges what is left behind the first round, in this thread.
 fn merge_rest<R: Threads + Sync, S: Source, K: Sink, G: Gate + Sync>(
     rt: &R,
     rounds: &mut Rounds,
@@ -40,19 +40,9 @@ fn merge_rest<R: Threads + Sync, S: Source, K: Sink, G: Gate + Sync>(
     sink: &mut K,
     gate: &G,
 ) -> MergeEnd
-    requires ready { IsReady (place_of reader.old) }
-    requires link { (place_of reader.old).link ≡ Ethernet }
-    requires file { (place_of reader.old).file ≡ file.now }
-    requires home { rounds.old.home ≡ rounds.old.blocks }
-    requires counted { 1 ≤ (place_of reader.old).number }
+    requires may { MayGoOn file.now rounds.old (place_of reader.old) }
     ensures same_source { SameLoan reader.old reader.new }
-    ensures ends { EndsFrom rounds.old.blocks (options_of rounds.old) file.now 1 (spot (place_of reader.old) (S.left (source_of reader.old)) (S.faults (source_of reader.old)) rounds.old.taken) (spot (place_of reader.new) (S.left (source_of reader.new)) (S.faults (source_of reader.new)) rounds.new.taken) (K.held sink.old) (K.held sink.new) result }
-    ensures flushed { flushes (ending_of result) ≡ true → SaysFlushed (K.held sink.new) (K.is_flushed sink.new) true }
-    ensures home { rounds.new.home ≡ rounds.new.blocks }
-    ensures same { (rounds.new.blocks ≡ rounds.old.blocks) × (options_of rounds.new ≡ options_of rounds.old) × (rounds.new.keep ≡ rounds.old.keep) }
-    ensures later { S.faults (source_of reader.old) ≤ S.faults (source_of reader.new) }
-    ensures later_sink { K.faults sink.old ≤ K.faults sink.new }
-    ensures write { result ≡ MergeEnd.WriteFault → Rose (K.faults sink.old) (K.faults sink.new) }
+    ensures went { WentOn file.now rounds.old rounds.new (reader_at S.left S.faults reader.old rounds.old.taken) (reader_at S.left S.faults reader.new rounds.new.taken) (sink_at K.held K.is_flushed K.faults sink.old) (sink_at K.held K.is_flushed K.faults sink.new) result }
 {
     let mut number = 1;
     'rounds: loop {
@@ -93,7 +83,20 @@ fn prepare<N: Naming>(
     Ok((out, from, shelves, intake))
 }
 
-// Merges what is left by two sides, of which tokens come back by this ring.
+// How merging ended where a side worked. Where none did, rounds that were read and that nobody received are lost.
+fn ending(end: Option<MergeEnd>, waiting: usize) -> Option<MergeEnd>
+    ensures some { IfSome end (λ e. result ≡ Some e) }
+    ensures none { end ≡ None → (result ≡ Some MergeEnd.NoMemory) ⊎ ((result ≡ None) × (waiting ≡ 0)) }
+{
+    match end {
+        Some(end) => Some(end),
+        None if waiting > 0 => Some(MergeEnd::NoMemory),
+        None => None,
+    }
+}
+
+// Merges what is left by two sides, of which tokens come back by this ring. `None` where there is no memory or no thread for two: then
+// nothing was read or written.
 fn merge_named<
     N: Naming + Send,
     R: Threads + Wait + Sync,
@@ -110,27 +113,18 @@ fn merge_named<
     gate: &G,
     told: Producer<Token>,
     tokens: Consumer<Token>,
-) -> MergeEnd
-    requires ready { IsReady (place_of reader.old) }
-    requires link { (place_of reader.old).link ≡ Ethernet }
-    requires file { (place_of reader.old).file ≡ file.now }
-    requires home { rounds.old.home ≡ rounds.old.blocks }
-    requires counted { 1 ≤ (place_of reader.old).number }
+) -> Option<MergeEnd>
+    requires may { MayGoOn file.now rounds.old (place_of reader.old) }
     requires named { rounds.old.blocks ≡ N.blocks }
     requires ring { IsPair told tokens × IsOfRing N.ring tokens }
     requires none { (sent told ≡ []) × (received tokens ≡ []) }
     ensures same_source { SameLoan reader.old reader.new }
-    ensures ends { EndsFrom rounds.old.blocks (options_of rounds.old) file.now 1 (spot (place_of reader.old) (S.left (source_of reader.old)) (S.faults (source_of reader.old)) rounds.old.taken) (spot (place_of reader.new) (S.left (source_of reader.new)) (S.faults (source_of reader.new)) rounds.new.taken) (K.held sink.old) (K.held sink.new) result }
-    ensures flushed { flushes (ending_of result) ≡ true → SaysFlushed (K.held sink.new) (K.is_flushed sink.new) true }
-    ensures home { rounds.new.home ≡ rounds.new.blocks }
-    ensures same { (rounds.new.blocks ≡ rounds.old.blocks) × (options_of rounds.new ≡ options_of rounds.old) × (rounds.new.keep ≡ rounds.old.keep) }
-    ensures later { S.faults (source_of reader.old) ≤ S.faults (source_of reader.new) }
-    ensures later_sink { K.faults sink.old ≤ K.faults sink.new }
-    ensures write { result ≡ MergeEnd.WriteFault → Rose (K.faults sink.old) (K.faults sink.new) }
+    ensures went { MayHaveGoneOn file.now rounds.old rounds.new (reader_at S.left S.faults reader.old rounds.old.taken) (reader_at S.left S.faults reader.new rounds.new.taken) (sink_at K.held K.is_flushed K.faults sink.old) (sink_at K.held K.is_flushed K.faults sink.new) result }
 {
     let blocks = rounds.home();
+    let _ = rounds.taken();
     let Ok((out, mut from, shelves, intake)) = prepare::<N>(alloc, rounds) else {
-        return merge_rest(rt, rounds, reader, file, sink, gate);
+        return None;
     };
     let mut told = told;
     let bells = Bells::new();
@@ -160,17 +154,8 @@ fn merge_named<
     let waiting = from.slots_beside(&mut out);
     let (mut tokens, shelves) = desk.close();
     tokens.slots_beside(&mut told);
-    rounds.join(intake);
-    gather(rounds, &mut from, &mut tokens, shelves);
-    match end {
-        Some(end) => end,
-        None => {
-            if waiting > 0 {
-                return MergeEnd::NoMemory;
-            }
-            merge_rest(rt, rounds, reader, file, sink, gate)
-        }
-    }
+    gather(rounds, intake, &mut from, &mut tokens, shelves);
+    ending(end, waiting)
 }
 
 // The same, by a call that picks how many blocks there are and which ring it is.
@@ -184,27 +169,17 @@ fn merge_ringed<R: Threads + Wait + Sync, S: Source + Send, K: Sink, G: Gate + S
     gate: &G,
     told: Producer<Token>,
     tokens: Consumer<Token>,
-) -> MergeEnd
-    requires ready { IsReady (place_of reader.old) }
-    requires link { (place_of reader.old).link ≡ Ethernet }
-    requires file { (place_of reader.old).file ≡ file.now }
-    requires home { rounds.old.home ≡ rounds.old.blocks }
-    requires counted { 1 ≤ (place_of reader.old).number }
+) -> Option<MergeEnd>
+    requires may { MayGoOn file.now rounds.old (place_of reader.old) }
     requires ring { IsPair told tokens }
     requires none { (sent told ≡ []) × (received tokens ≡ []) }
     ensures same_source { SameLoan reader.old reader.new }
-    ensures ends { EndsFrom rounds.old.blocks (options_of rounds.old) file.now 1 (spot (place_of reader.old) (S.left (source_of reader.old)) (S.faults (source_of reader.old)) rounds.old.taken) (spot (place_of reader.new) (S.left (source_of reader.new)) (S.faults (source_of reader.new)) rounds.new.taken) (K.held sink.old) (K.held sink.new) result }
-    ensures flushed { flushes (ending_of result) ≡ true → SaysFlushed (K.held sink.new) (K.is_flushed sink.new) true }
-    ensures home { rounds.new.home ≡ rounds.new.blocks }
-    ensures same { (rounds.new.blocks ≡ rounds.old.blocks) × (options_of rounds.new ≡ options_of rounds.old) × (rounds.new.keep ≡ rounds.old.keep) }
-    ensures later { S.faults (source_of reader.old) ≤ S.faults (source_of reader.new) }
-    ensures later_sink { K.faults sink.old ≤ K.faults sink.new }
-    ensures write { result ≡ MergeEnd.WriteFault → Rose (K.faults sink.old) (K.faults sink.new) }
+    ensures went { MayHaveGoneOn file.now rounds.old rounds.new (reader_at S.left S.faults reader.old rounds.old.taken) (reader_at S.left S.faults reader.new rounds.new.taken) (sink_at K.held K.is_flushed K.faults sink.old) (sink_at K.held K.is_flushed K.faults sink.new) result }
 {
     merge_named::<Brand, R, S, K, G>(rt, alloc, rounds, reader, file, sink, gate, told, tokens)
 }
 
-// Merges what is left behind the first round by two sides, or in this thread where there is no memory for two.
+// Merges what is left behind the first round by two sides, or in this thread where there is no memory or no thread for two.
 fn merge_on<R: Threads + Wait + Sync, S: Source + Send, K: Sink, G: Gate + Sync>(
     rt: &R,
     alloc: Global,
@@ -214,23 +189,16 @@ fn merge_on<R: Threads + Wait + Sync, S: Source + Send, K: Sink, G: Gate + Sync>
     sink: &mut K,
     gate: &G,
 ) -> MergeEnd
-    requires ready { IsReady (place_of reader.old) }
-    requires link { (place_of reader.old).link ≡ Ethernet }
-    requires file { (place_of reader.old).file ≡ file.now }
-    requires home { rounds.old.home ≡ rounds.old.blocks }
-    requires counted { 1 ≤ (place_of reader.old).number }
+    requires may { MayGoOn file.now rounds.old (place_of reader.old) }
     ensures same_source { SameLoan reader.old reader.new }
-    ensures ends { EndsFrom rounds.old.blocks (options_of rounds.old) file.now 1 (spot (place_of reader.old) (S.left (source_of reader.old)) (S.faults (source_of reader.old)) rounds.old.taken) (spot (place_of reader.new) (S.left (source_of reader.new)) (S.faults (source_of reader.new)) rounds.new.taken) (K.held sink.old) (K.held sink.new) result }
-    ensures flushed { flushes (ending_of result) ≡ true → SaysFlushed (K.held sink.new) (K.is_flushed sink.new) true }
-    ensures home { rounds.new.home ≡ rounds.new.blocks }
-    ensures same { (rounds.new.blocks ≡ rounds.old.blocks) × (options_of rounds.new ≡ options_of rounds.old) × (rounds.new.keep ≡ rounds.old.keep) }
-    ensures later { S.faults (source_of reader.old) ≤ S.faults (source_of reader.new) }
-    ensures later_sink { K.faults sink.old ≤ K.faults sink.new }
-    ensures write { result ≡ MergeEnd.WriteFault → Rose (K.faults sink.old) (K.faults sink.new) }
+    ensures went { WentOn file.now rounds.old rounds.new (reader_at S.left S.faults reader.old rounds.old.taken) (reader_at S.left S.faults reader.new rounds.new.taken) (sink_at K.held K.is_flushed K.faults sink.old) (sink_at K.held K.is_flushed K.faults sink.new) result }
 {
     match RingBuffer::new(alloc, SHELVES + 1) {
         Ok((told, tokens)) => {
-            merge_ringed(rt, alloc, rounds, reader, file, sink, gate, told, tokens)
+            match merge_ringed(rt, alloc, rounds, reader, file, sink, gate, told, tokens) {
+                Some(end) => end,
+                None => merge_rest(rt, rounds, reader, file, sink, gate),
+            }
         }
         Err(_) => merge_rest(rt, rounds, reader, file, sink, gate),
     }
@@ -266,6 +234,7 @@ pub fn merge_beside<R: Threads + Wait + Sync, S: Source + Send, K: Sink, G: Gate
     ensures home { rounds.new.home ≡ rounds.new.blocks }
     ensures same { (rounds.new.blocks ≡ rounds.old.blocks) × (options_of rounds.new ≡ options_of rounds.old) × (rounds.new.keep ≡ rounds.old.keep) }
     ensures taken { result ≡ MergeEnd.Done → Told (S.left (source_of reader.old)) (S.left (source_of reader.new)) (λ bytes left. min (rounds.old.taken + round_need (found_at (place_of reader.old) bytes).packets) (2 ^ 64 - 1) ≤ rounds.new.taken) }
+    ensures least { rounds.old.taken ≤ rounds.new.taken }
     ensures captured { Told (S.left (source_of reader.old)) (S.left (source_of reader.new)) (HoldsCaptured rounds.old.blocks rounds.old.budget (place_of reader.old) result) }
     ensures later { S.faults (source_of reader.old) ≤ S.faults (source_of reader.new) }
     ensures later_sink { K.faults sink.old ≤ K.faults sink.new }

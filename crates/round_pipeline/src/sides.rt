@@ -10,7 +10,7 @@ ghost use Rattle.pcap_io.specs.Readers.{place_of, source_of, SameLoan};
 ghost use Rattle.rounds.specs.Merging.{ending_of, options_of};
 ghost use Rattle.rtrb.specs.Ring.{sent, received, SameProducer, SameConsumer};
 ghost use Rattle.round_pipeline.specs.Parcels.{blocks_of, homes_of, shelved, is_full as is_full_end};
-ghost use Rattle.round_pipeline.specs.Reads.{spot, Reads};
+ghost use Rattle.round_pipeline.specs.Reads.{reader_at, Reads};
 ghost use Rattle.round_pipeline.specs.Works.{WroteLast};
 
 use crate::bells::Bells;
@@ -48,7 +48,7 @@ fn read_side<N: Naming, R: Wait, W: Post + Drop, S: Source>(
     requires none { sent supply.old.out ≡ [] }
     ensures ring { SameProducer supply.old.out supply.new.out }
     ensures same_source { SameLoan reader.old reader.new }
-    ensures read { Reads supply.old.intake.blocks supply.old.intake.budget (spot (place_of reader.old) (S.left (source_of reader.old)) (S.faults (source_of reader.old)) supply.old.intake.taken) (sent supply.new.out) (spot (place_of reader.new) (S.left (source_of reader.new)) (S.faults (source_of reader.new)) supply.new.intake.taken) }
+    ensures read { Reads supply.old.intake.blocks supply.old.intake.budget (reader_at S.left S.faults reader.old supply.old.intake.taken) (sent supply.new.out) (reader_at S.left S.faults reader.new supply.new.intake.taken) }
     ensures sum { supply.new.intake.home + blocks_of (sent supply.new.out) + (homes_of (received supply.old.desk.tokens) - shelved supply.old.desk.shelves.items) ≡ supply.old.intake.home + (homes_of (received supply.new.desk.tokens) - shelved supply.new.desk.shelves.items) }
     ensures same { (supply.new.intake.blocks ≡ supply.old.intake.blocks) × (supply.new.intake.budget ≡ supply.old.intake.budget) }
     ensures later { S.faults (source_of reader.old) ≤ S.faults (source_of reader.new) }
@@ -201,7 +201,7 @@ pub(crate) fn run_sides<
     requires none { (sent supply.old.out ≡ []) × (received from.old ≡ []) × (sent told.old ≡ []) }
     ensures rings { SameProducer supply.old.out supply.new.out × SameConsumer from.old from.new × SameProducer told.old told.new }
     ensures same_source { SameLoan reader.old reader.new }
-    ensures read { Reads supply.old.intake.blocks supply.old.intake.budget (spot (place_of reader.old) (S.left (source_of reader.old)) (S.faults (source_of reader.old)) supply.old.intake.taken) (sent supply.new.out) (spot (place_of reader.new) (S.left (source_of reader.new)) (S.faults (source_of reader.new)) supply.new.intake.taken) }
+    ensures read { Reads supply.old.intake.blocks supply.old.intake.budget (reader_at S.left S.faults reader.old supply.old.intake.taken) (sent supply.new.out) (reader_at S.left S.faults reader.new supply.new.intake.taken) }
     ensures sum { supply.new.intake.home + blocks_of (sent supply.new.out) + (homes_of (received supply.old.desk.tokens) - shelved supply.old.desk.shelves.items) ≡ supply.old.intake.home + (homes_of (received supply.new.desk.tokens) - shelved supply.new.desk.shelves.items) }
     ensures same_intake { (supply.new.intake.blocks ≡ supply.old.intake.blocks) × (supply.new.intake.budget ≡ supply.old.intake.budget) }
     ensures later { S.faults (source_of reader.old) ≤ S.faults (source_of reader.new) }
@@ -221,7 +221,7 @@ pub(crate) fn run_sides<
             requires none { sent supply.now.out ≡ [] }
             ensures ring { SameProducer supply.entry.now.out supply.exit.now.out }
             ensures same_source { SameLoan reader.entry.now reader.exit.now }
-            ensures read { Reads supply.entry.now.intake.blocks supply.entry.now.intake.budget (spot (place_of reader.entry.now) (S.left (source_of reader.entry.now)) (S.faults (source_of reader.entry.now)) supply.entry.now.intake.taken) (sent supply.exit.now.out) (spot (place_of reader.exit.now) (S.left (source_of reader.exit.now)) (S.faults (source_of reader.exit.now)) supply.exit.now.intake.taken) }
+            ensures read { Reads supply.entry.now.intake.blocks supply.entry.now.intake.budget (reader_at S.left S.faults reader.entry.now supply.entry.now.intake.taken) (sent supply.exit.now.out) (reader_at S.left S.faults reader.exit.now supply.exit.now.intake.taken) }
             ensures sum { supply.exit.now.intake.home + blocks_of (sent supply.exit.now.out) + (homes_of (received supply.entry.now.desk.tokens) - shelved supply.entry.now.desk.shelves.items) ≡ supply.entry.now.intake.home + (homes_of (received supply.exit.now.desk.tokens) - shelved supply.exit.now.desk.shelves.items) }
             ensures same { (supply.exit.now.intake.blocks ≡ supply.entry.now.intake.blocks) × (supply.exit.now.intake.budget ≡ supply.entry.now.intake.budget) }
             ensures later { S.faults (source_of reader.entry.now) ≤ S.faults (source_of reader.exit.now) }
