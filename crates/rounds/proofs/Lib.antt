@@ -10,6 +10,8 @@ mod Filling
 mod Recording
 -- a round that is read
 mod Rounding
+-- a round that is read beside the work of another
+mod Pausing
 -- packets that are merged
 mod Working
 -- what lanes hold, the last one apart

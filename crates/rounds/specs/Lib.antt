@@ -1,3 +1,4 @@
+pub mod Ahead
 pub mod Cutting
 pub mod Data
 pub mod Fresh

@@ -28,6 +28,9 @@
 //!   of memory, it is that of the bytes that are gone, or a front of it. All blocks are home whatever the ending (`home`).
 //! - `sum`, `home` of [`Intake`] and of `put_read`, `hand_home`, `bring_home`, `join`: where one side reads and another works no block is
 //!   lost between them, and `given`, `puts` and `gives` say of a round on its way what `merge_all` says of it.
+//! - `given`, `reads`, `paused` of `work_and_read`: where the next round is read beside the work of one, what is said of both is the same; the
+//!   read pauses only between records, and only where blocks of the other round were wanted; `given` of `read_rest`: what such a round comes
+//!   to in the end, over all of its records. That both run at the same time isn't proved.
 //! - `captured` of `merge_all`: the packets that are merged are such as a capture may hold, since each was read into fields of 32 bits and
 //!   into bytes.
 //!
@@ -52,6 +55,7 @@
 //! ```
 #![tactic(auto)]
 
+mod ahead;
 mod blocks;
 mod body;
 mod check;
@@ -84,6 +88,6 @@ pub use homecoming::{AllHome, Homecoming};
 pub use intake::Intake;
 pub use memory::RECORD_BLOCKS;
 pub use merge::{MergeEnd, Step};
-pub use round::{Round, RoundEnd, RoundRead, Worked};
+pub use round::{ReadAhead, Round, RoundEnd, RoundRead, Worked};
 pub use rounds::Rounds;
 pub use segment::{Moved, SegFault, SegmentRun};

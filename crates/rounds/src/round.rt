@@ -99,6 +99,13 @@ pub struct RoundRead {
     pub end: RoundEnd,
 }
 
+/// What was read beside the work of another round.
+pub enum ReadAhead {
+    Read(RoundRead),
+    /// Blocks of the other round were wanted. The reader stands behind the last record of this one, and [`Rounds::read_rest`](crate::Rounds::read_rest) goes on.
+    Paused(Round),
+}
+
 /// Whether a round that ended so is worked: there was memory for it, and it doesn't exceed the blocks.
 pub(crate) fn is_worked(end: RoundEnd) -> bool
     ensures { result ≡ is_worked_end end }

@@ -47,7 +47,7 @@ pub struct Rounds {
     pub(crate) alloc: Global,
     pub(crate) pool: Pool,
     // The blocks of the record that is being read.
-    hold: VecDeque<Sole>,
+    pub(crate) hold: VecDeque<Sole>,
     // What came back, and where: used as a round ends. There is room for all blocks and for a clone's part of each.
     pub(crate) places: Vec<Place>,
     pub(crate) out: Outcomes,

@@ -18,6 +18,15 @@ impl Rounds {
         ensures ok { OnOk result (self.new ≡ record self.old { home = 0; taken = 0 }) }
         ensures err { OnErr result (self.new ≡ self.old) }
     {
+        self.split()
+    }
+
+    // The same, of the blocks that are home: others may be out.
+    pub(crate) fn split(&mut self) -> Result<Intake, AllocError>
+        ensures intake { IfOk result (λ i. i ≡ record { home = self.old.home; blocks = self.old.blocks; taken = self.old.taken; budget = self.old.budget }) }
+        ensures ok { OnOk result (self.new ≡ record self.old { home = 0; taken = 0 }) }
+        ensures err { OnErr result (self.new ≡ self.old) }
+    {
         let blocks = self.pool.made();
         let hold = VecDeque::with_capacity(self.alloc, MOST)?;
         let none = Pool::empty(self.alloc, blocks)?;
