@@ -6,11 +6,9 @@ use Rattle.std.proofs.lemmas.List.Elements.{filter-append}
 use Rattle.maximal_runs.specs.Items.{begins_in, first_number, AreItems}
 use Rattle.maximal_runs.proofs.Items.{opens_item, extends_item, filter_none}
 use Rattle.pcap_io.specs.Capture.{Packet}
-use Rattle.frame_layout.specs.Shape.{Layout, shape_of}
 use Rattle.frame_layout.specs.Key.{key_of}
 use Rattle.offload_model.specs.Mergeable.{IsMergeable}
 use Rattle.offload_model.specs.Rounds.{is_key, is_of, number_of}
-use Rattle.offload_model.proofs.Grows.{Continues, grown}
 use Rattle.offload_model.proofs.Items.{is_key_same}
 use Rattle.merge_rule.specs.Steps.{IsLastBelow, TakesPacket, KeepsEarly}
 
@@ -90,19 +88,3 @@ pub early_grows : (rs : List (List Packet)) (key : Option (List ℕ)) (i : ℕ) 
 early_grows rs key i x run e last = λ n a b.
     subst (λ z. AllByRecursion (λ run. first_number number_of run < n) (set rs i (z ++ (x ∷ [])))) (sym e)
     (early_set n rs i x (filled_run rs i key (last.1 [])) a)
-
--- ---- a packet that has no key
-
-no_key : (f : List ℕ) (layout : Layout) → key_of f ≡ None → shape_of f ≡ Some layout → ⊥
-unfolding key_of
-no_key f layout n s = absurd (let e = rw s at n in cc)
-
-pub never : (x : Packet) → key_of x.frame ≡ None → (run : List Packet) → IsMergeable (run ++ (x ∷ [])) → ⊥
-never x n [] m = omega (arith, m.1.several)
-never x n (p ∷ ps) m =
-    let k : Continues m.0 p.frame (p ∷ ps) x = grown m.0 p.frame (p ∷ ps) x m.1.line in
-    no_key x.frame m.0 n k.shape_is
-
-pub other_opens : (x : Packet) → key_of x.frame ≡ None → (rs : List (List Packet)) → TakesPacket rs x (rs ++ ((x ∷ []) ∷ []))
-other_opens x n rs = λ packets later items.
-    opens_item IsMergeable is_of number_of packets x rs later (λ k t front run e few. never x n run few) items

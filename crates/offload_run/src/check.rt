@@ -48,7 +48,7 @@ pub(crate) struct MadeLine {
 
 // The status that checking ends with over this many blocks; none for want of memory, where nothing is written.
 fn status_of(end: CheckEnd, blocks: u32) -> Option<Status>
-    ensures { result ≡ status_if end blocks }
+    ensures status { result ≡ status_if end blocks }
 {
     let status = match end {
         CheckEnd::Done => Status::Ok,

@@ -11,7 +11,7 @@ use pcap_io::InFault;
 
 // The status for a fault of the file header.
 pub(crate) fn refused(fault: InFault) -> Status
-    ensures { IsStatusFor fault result }
+    ensures status { IsStatusFor fault result }
 {
     match fault {
         InFault::Cap(fault) => Status::Malformed(fault),

@@ -82,7 +82,7 @@ pub(crate) fn make_rounds(
     keep: bool,
 ) -> Result<Rounds, AllocError>
     requires range { IsInRange options }
-    ensures { IfOk result (λ rounds. rounds ≡ record { home = options.blocks; blocks = options.blocks; taken = 0; budget = options.budget; queues = options.queues; taps = options.taps; snap = options.snap; keep = keep }) }
+    ensures made { IfOk result (λ rounds. rounds ≡ record { home = options.blocks; blocks = options.blocks; taken = 0; budget = options.budget; queues = options.queues; taps = options.taps; snap = options.snap; keep = keep }) }
 {
     let MergeOptions {
         queues,

@@ -96,8 +96,8 @@ pub(crate) struct Supply<W: Post + Drop, N: Naming> {
 
 /// Empty shelves for so many blocks.
 pub(crate) fn new_shelves(alloc: Global, blocks: u32) -> Result<VecDeque<Pool>, AllocError>
-    requires { blocks ≤ 65536 }
-    ensures { IfOk result (λ shelves. shelved shelves.items ≡ 0) }
+    requires few { blocks ≤ 65536 }
+    ensures empty { IfOk result (λ shelves. shelved shelves.items ≡ 0) }
 {
     let mut shelves = VecDeque::with_capacity(alloc, SHELVES)?;
     for i in 0..SHELVES {
@@ -110,7 +110,7 @@ pub(crate) fn new_shelves(alloc: Global, blocks: u32) -> Result<VecDeque<Pool>, 
 
 // Whether a round may be read for this shelf.
 fn is_ready(shelf: &Pool, blocks: u32) -> bool
-    ensures { IsTrue result → (home shelf.now ≡ 0) × (shelf.now.made ≡ blocks) }
+    ensures ready { IsTrue result → (home shelf.now ≡ 0) × (shelf.now.made ≡ blocks) }
 {
     shelf.home() == 0 && shelf.made() == blocks
 }
@@ -125,7 +125,7 @@ impl<W: Post + Drop> Desk<W> {
         requires named { blocks ≡ W.blocks }
         requires ringed { IsOfRing W.ring tokens }
         requires none { (received tokens ≡ []) × (shelved shelves.items ≡ 0) }
-        ensures { (result.tokens ≡ tokens) × (result.shelves ≡ shelves) }
+        ensures same { (result.tokens ≡ tokens) × (result.shelves ≡ shelves) }
     {
         Desk {
             post,
@@ -139,7 +139,7 @@ impl<W: Post + Drop> Desk<W> {
 
     /// What is here.
     pub(crate) fn close(self) -> (Consumer<Token>, VecDeque<Pool>)
-        ensures { (result.0 ≡ self.tokens) × (result.1 ≡ self.shelves) }
+        ensures same { (result.0 ≡ self.tokens) × (result.1 ≡ self.shelves) }
     {
         let Desk {
             post: _post,

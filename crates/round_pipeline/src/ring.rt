@@ -13,7 +13,7 @@ const TRIES: u32 = 256;
 
 /// Puts an item into the ring.
 pub(crate) fn send<T, P: Protocol<T>, R: Wait>(rt: &R, ring: &mut Producer<T, Global, P>, item: T)
-    requires { P.allows (sent ring.old) item }
+    requires allowed { P.allows (sent ring.old) item }
     ensures ring { SameProducer ring.old ring.new }
     ensures sent { sent ring.new ≡ sent ring.old ++ item ∷ [] }
 {

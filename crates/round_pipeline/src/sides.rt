@@ -28,7 +28,7 @@ use std::thread::{Parker, Threads, join_mut};
 
 // Whether another round may follow.
 fn is_full(end: RoundEnd) -> bool
-    ensures { result ≡ is_full_end end }
+    ensures full { result ≡ is_full_end end }
 {
     match end {
         RoundEnd::Full => true,

@@ -19,8 +19,8 @@ use std::collections::VecDeque;
 
 /// How many blocks hold `len` bytes behind their headroom.
 pub(crate) fn blocks_of(len: u32) -> u32
-    requires { len ≤ 262144 }
-    ensures { result ≡ data_blocks len }
+    requires few { len ≤ 262144 }
+    ensures blocks { result ≡ data_blocks len }
 {
     (len + 2111) / 2048
 }
@@ -66,7 +66,7 @@ pub(crate) fn put_back(pool: &mut Pool, hold: &mut VecDeque<Sole>)
 
 // The next of the blocks.
 fn next_block(hold: &mut VecDeque<Sole>) -> Sole
-    requires { 1 ≤ length hold.old.items }
+    requires some { 1 ≤ length hold.old.items }
     ensures next { hold.old.items ≡ result ∷ hold.new.items }
     ensures capacity { deque_capacity hold.new ≡ deque_capacity hold.old }
 {

@@ -20,7 +20,7 @@ use std::collections::VecDeque;
 
 // What a slice of bytes holds are bytes.
 fn in_bytes(bytes: &[u8])
-    ensures { InBytes bytes.now }
+    ensures bytes { InBytes bytes.now }
 {}
 
 // Fills the bytes `from..to` of a block with the next bytes of the record's body.

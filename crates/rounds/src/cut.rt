@@ -57,7 +57,7 @@ pub(crate) struct Stamp {
 
 // A plan's packet has an original length of its own where it is the one behind the offload header.
 fn single_original(plan: &Plan, original: u32) -> Option<u32>
-    requires { 12 ≤ original }
+    requires long { 12 ≤ original }
     ensures by { result ≡ original_by plan.now (original - 12) }
     ensures few { IfSome result (λ n. n + 12 < 2 ^ 32) }
 {

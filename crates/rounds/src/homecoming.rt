@@ -33,7 +33,7 @@ impl Homecoming for AllHome {
 
 // Fewer blocks are home than a record may need, and others are out that aren't the round's own.
 fn is_short(pool: &Pool, used: u32) -> bool
-    requires { used ≤ pool.now.made }
+    requires few { used ≤ pool.now.made }
     ensures long { (result ≡ true) ⊎ ((131 ≤ home pool.now) ⊎ (pool.now.made ≤ home pool.now + used)) }
     ensures short { result ≡ true → (home pool.now < 131) × (home pool.now + used < pool.now.made) }
 {
@@ -44,7 +44,7 @@ fn is_short(pool: &Pool, used: u32) -> bool
 /// Whether the next record, whatever it needs, finds its blocks home, or more than there are. Blocks that are out and not of the
 /// round, which has `used`, come home before this is answered.
 pub(crate) fn is_ready<H: Homecoming>(pool: &mut Pool, more: &mut H, used: u32) -> bool
-    requires { used ≤ pool.old.made }
+    requires few { used ≤ pool.old.made }
     ensures ready { result ≡ true → (131 ≤ home pool.new) ⊎ (pool.new.made ≤ home pool.new + used) }
     ensures lacking { result ≡ false → (home pool.new < 131) × (home pool.new + used < pool.new.made) }
     ensures sum { home pool.new + H.brought more.old ≡ home pool.old + H.brought more.new }

@@ -8,9 +8,6 @@ use std::alloc::{AllocError, Global};
 /// No record needs more blocks. Where as many are home the next one finds its own, whatever it is.
 pub const RECORD_BLOCKS: usize = 131;
 
-/// The same, by a short name.
-pub(crate) const MOST: usize = RECORD_BLOCKS;
-
 /// A table with an open place for each of `n` marks.
 pub(crate) fn open_places(alloc: Global, n: u32) -> Result<Vec<Place>, AllocError>
     ensures open { IfOk result (λ places. AllOpen places.items) }
@@ -25,7 +22,7 @@ pub(crate) fn open_places(alloc: Global, n: u32) -> Result<Vec<Place>, AllocErro
 
 /// A table whose places are all open is given up.
 pub(crate) fn close_places(places: Vec<Place>)
-    requires { AllOpen places.items }
+    requires open { AllOpen places.items }
 {
     let mut places = places;
     while let Some(place) = places.pop() {

@@ -27,8 +27,8 @@ use std::collections::VecDeque;
 
 // The blocks of a packet.
 fn packet_blocks(packet: &Packet) -> u32
-    requires { count_of packet.now ≤ 65536 }
-    ensures { result ≡ count_of packet.now }
+    requires few { count_of packet.now ≤ 65536 }
+    ensures blocks { result ≡ count_of packet.now }
 {
     packet.skb.count() as u32 + 2
 }

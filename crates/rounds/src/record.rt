@@ -38,7 +38,7 @@ pub(crate) enum Stop {
 }
 
 fn stop_of(fault: InFault) -> Stop
-    ensures { IsStopOf fault result }
+    ensures stop { IsStopOf fault result }
 {
     match fault {
         InFault::Cap(fault) => Stop::Malformed(fault),

@@ -108,7 +108,7 @@ pub enum ReadAhead {
 
 /// Whether a round that ended so is worked: there was memory for it, and it doesn't exceed the blocks.
 pub(crate) fn is_worked(end: RoundEnd) -> bool
-    ensures { result ≡ is_worked_end end }
+    ensures worked { result ≡ is_worked_end end }
 {
     match end {
         RoundEnd::PoolEmpty { need: _ } | RoundEnd::NoMemory => false,
@@ -117,7 +117,7 @@ pub(crate) fn is_worked(end: RoundEnd) -> bool
 }
 
 pub(crate) fn end_of(stop: Stop) -> RoundEnd
-    ensures { IsEndOf stop result }
+    ensures end { IsEndOf stop result }
 {
     match stop {
         Stop::End => RoundEnd::End,

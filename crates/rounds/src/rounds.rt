@@ -24,7 +24,7 @@ ghost use Rattle.rounds.specs.RoundsState.{RoundsState};
 
 use crate::home::bring_round;
 use crate::homecoming::AllHome;
-use crate::memory::{MOST, close_places, open_places};
+use crate::memory::{RECORD_BLOCKS, close_places, open_places};
 use crate::reading::read_records;
 use crate::round::{Round, RoundEnd, RoundRead, Worked};
 use crate::table::Place;
@@ -134,9 +134,9 @@ impl Rounds {
         requires queues { (1 ≤ queues) × (queues ≤ 64) }
         requires taps { taps ≤ 8 }
         requires snap { (1 ≤ snap) × (snap ≤ 2048) }
-        ensures { IfOk result (λ rounds. rounds ≡ record { home = blocks; blocks = blocks; taken = 0; budget = budget; queues = queues; taps = taps; snap = snap; keep = keep }) }
+        ensures made { IfOk result (λ rounds. rounds ≡ record { home = blocks; blocks = blocks; taken = 0; budget = budget; queues = queues; taps = taps; snap = snap; keep = keep }) }
     {
-        let hold = VecDeque::with_capacity(alloc, MOST)?;
+        let hold = VecDeque::with_capacity(alloc, RECORD_BLOCKS)?;
         let pool = Pool::make(alloc, blocks)?;
         let places = open_places(alloc, blocks)?;
         let out = match Outcomes::with_room(alloc, 2 * blocks as usize) {
@@ -180,7 +180,7 @@ impl Rounds {
 
     /// The blocks that were taken, from the first round on. It stays at `2^64 - 1`.
     pub fn taken(&self) -> u64
-        ensures { result ≡ self.now.taken }
+        ensures value { result ≡ self.now.taken }
     {
         self.pool.taken()
     }

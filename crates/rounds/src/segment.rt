@@ -91,7 +91,7 @@ impl Drop for SegmentRun {
 
 // What no record to segment comes to.
 fn stopped(stop: Stop) -> Result<Moved, SegFault>
-    ensures { IsMovedOf stop result }
+    ensures moved { IsMovedOf stop result }
 {
     match stop {
         Stop::End => Ok(Moved::End),
@@ -104,7 +104,7 @@ fn stopped(stop: Stop) -> Result<Moved, SegFault>
 
 // Why the record with this number, whose header lies at this offset, isn't segmented.
 fn fault_of(refused: Refused, offset: u64, number: u32) -> SegFault
-    ensures { IsFaultOf refused offset number result }
+    ensures fault { IsFaultOf refused offset number result }
 {
     match refused {
         Refused::BadOffload => SegFault::Malformed(CapFault {
@@ -120,8 +120,8 @@ fn fault_of(refused: Refused, offset: u64, number: u32) -> SegFault
 impl SegmentRun {
     /// A pool of `blocks` blocks. All memory for blocks and for what comes back of them is taken here.
     pub fn make(alloc: Global, blocks: u32) -> Result<SegmentRun, AllocError>
-        requires { (1 ≤ blocks) × (blocks ≤ 65536) }
-        ensures { IfOk result (λ run. run ≡ record { home = blocks; blocks = blocks; taken = 0 }) }
+        requires blocks { (1 ≤ blocks) × (blocks ≤ 65536) }
+        ensures made { IfOk result (λ run. run ≡ record { home = blocks; blocks = blocks; taken = 0 }) }
     {
         let hold = VecDeque::with_capacity(alloc, RECORD_BLOCKS)?;
         let pool = Pool::make(alloc, blocks)?;
@@ -151,7 +151,7 @@ impl SegmentRun {
 
     /// The blocks that were taken, from the first record on. It stays at `2^64 - 1`.
     pub fn taken(&self) -> u64
-        ensures { result ≡ self.now.taken }
+        ensures value { result ≡ self.now.taken }
     {
         self.pool.taken()
     }

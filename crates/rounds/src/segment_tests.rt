@@ -39,7 +39,7 @@ fn segmented(
     byte: u8,
     sink_fails: &[u64],
 ) -> Result<Ended, Fail>
-    requires { (1 ≤ blocks) × (blocks ≤ 65536) }
+    requires blocks { (1 ≤ blocks) × (blocks ≤ 65536) }
 {
     let mut bytes = MERGED_CAPTURE.to_vec(alloc)?;
     if place < bytes.len() {

@@ -4,7 +4,7 @@ ghost use Rattle.block_pool.specs.PoolState.{home};
 
 use crate::Rounds;
 use crate::intake::Intake;
-use crate::memory::MOST;
+use crate::memory::RECORD_BLOCKS;
 use block_pool::Pool;
 use core::mem::replace;
 use std::alloc::AllocError;
@@ -28,7 +28,7 @@ impl Rounds {
         ensures err { OnErr result (self.new ≡ self.old) }
     {
         let blocks = self.pool.made();
-        let hold = VecDeque::with_capacity(self.alloc, MOST)?;
+        let hold = VecDeque::with_capacity(self.alloc, RECORD_BLOCKS)?;
         let none = Pool::empty(self.alloc, blocks)?;
         self.out.reserve(2 * blocks as usize)?;
         Ok(Intake {
@@ -43,7 +43,7 @@ impl Rounds {
     pub fn join(&mut self, intake: Intake)
         requires blocks { intake.blocks ≡ self.old.blocks }
         requires room { self.old.home + intake.home ≤ self.old.blocks }
-        ensures { self.new ≡ record self.old { home = self.old.home + intake.home; taken = intake.taken } }
+        ensures joined { self.new ≡ record self.old { home = self.old.home + intake.home; taken = intake.taken } }
     {
         let Intake {
             alloc: _,
@@ -72,7 +72,7 @@ impl Rounds {
     /// The blocks of a shelf come home.
     pub fn bring_home(&mut self, shelf: Pool)
         requires room { self.old.home + home shelf ≤ self.old.blocks }
-        ensures { self.new ≡ record self.old { home = self.old.home + home shelf } }
+        ensures home { self.new ≡ record self.old { home = self.old.home + home shelf } }
     {
         let mut shelf = shelf;
         self.pool.refill(&mut shelf);

@@ -30,7 +30,7 @@ impl Homecoming for Shelf {
 
 // A round that is full.
 fn full(read: RoundRead) -> Result<Round, Fail>
-    ensures { IfOk result (λ round. (read.end ≡ RoundEnd.Full) × (round ≡ read.round)) }
+    ensures full { IfOk result (λ round. (read.end ≡ RoundEnd.Full) × (round ≡ read.round)) }
 {
     let RoundRead { round, end } = read;
     match end {
@@ -44,7 +44,7 @@ fn full(read: RoundRead) -> Result<Round, Fail>
 
 // What came home since the last time, for the side that reads.
 fn handed(rounds: &mut Rounds, shelf: Pool) -> Result<Shelf, Fail>
-    requires { (home shelf ≡ 0) × (shelf.made ≡ rounds.old.blocks) }
+    requires shelf { (home shelf ≡ 0) × (shelf.made ≡ rounds.old.blocks) }
     ensures shelf { IfOk result (λ s. (home s.pool ≡ rounds.old.home) × (s.pool.made ≡ rounds.old.blocks)) }
     ensures rounds { OnOk result (rounds.new ≡ record rounds.old { home = 0; taken = shelf.taken }) }
 {

@@ -42,7 +42,7 @@ fn bring(pool: &mut Pool, place: &mut Place, sole: Sole)
 // What stands at a place once a receipt came back.
 fn received(place: Place, receipt: Receipt) -> (Place, ())
     requires life { IsOfLife place receipt }
-    ensures { Receives place receipt result.0 }
+    ensures receives { Receives place receipt result.0 }
 {
     let _ = receipt.weight();
     let next = match place {
@@ -62,7 +62,7 @@ fn received(place: Place, receipt: Receipt) -> (Place, ())
 // A receipt came back.
 fn receive(place: &mut Place, receipt: Receipt)
     requires life { IsOfLife place.old receipt }
-    ensures { Receives place.old receipt place.new }
+    ensures receives { Receives place.old receipt place.new }
 {
     replace_with(place, receipt, received);
 }
@@ -144,7 +144,7 @@ pub(crate) fn sweep(pool: &mut Pool, places: &mut [Place], out: &mut Outcomes)
 
 /// The places of a table whose blocks are all home are open again.
 pub(crate) fn reopen(places: &mut [Place])
-    requires { AllHome places.old }
+    requires home { AllHome places.old }
     ensures open { AllOpen places.new }
     ensures size { length places.new ≡ length places.old }
 {

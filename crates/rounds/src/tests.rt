@@ -11,7 +11,7 @@ use worked_captures::TWO_RECORDS;
 // A round of two, of a source that fails at these of its calls: the blocks that are home while the round is out and once it was
 // dropped, the blocks that were taken, and why it ended.
 fn turn(alloc: Global, blocks: u32, fails: Vec<u64>) -> Result<(u32, u32, u64, RoundEnd), Fail>
-    requires { (1 ≤ blocks) × (blocks ≤ 65536) }
+    requires blocks { (1 ≤ blocks) × (blocks ≤ 65536) }
 {
     let mut feed = Feed {
         inner: MemSource::new(TWO_RECORDS.to_vec(alloc)?, 24, fails),
@@ -29,7 +29,7 @@ fn turn(alloc: Global, blocks: u32, fails: Vec<u64>) -> Result<(u32, u32, u64, R
 
 // The same round worked and ended: how many items there are, and the blocks that are home before the end and after it.
 fn worked_turn(alloc: Global, blocks: u32) -> Result<(usize, u32, u32), Fail>
-    requires { (1 ≤ blocks) × (blocks ≤ 65536) }
+    requires blocks { (1 ≤ blocks) × (blocks ≤ 65536) }
 {
     let mut feed = Feed {
         inner: MemSource::new(TWO_RECORDS.to_vec(alloc)?, 24, Vec::new(alloc)),
@@ -63,7 +63,7 @@ fn merge(
     reads: Vec<u64>,
     writes: Vec<u64>,
 ) -> Result<(MergeEnd, Vec<u8>, bool, u32), Fail>
-    requires { (1 ≤ blocks) × (blocks ≤ 65536) }
+    requires blocks { (1 ≤ blocks) × (blocks ≤ 65536) }
 {
     let mut feed = Feed {
         inner: MemSource::new(TWO_RECORDS.to_vec(alloc)?, 24, reads),

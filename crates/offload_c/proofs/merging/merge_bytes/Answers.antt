@@ -8,7 +8,7 @@ pub returns-clause-gives : goal.returns-clause-gives
 returns-clause-gives c =
     let run = c.merge_capture-end in
     merged_gives c.args.options.now c.in-Ok.rounds c.in-Ok-grown_sink.sink.bytes.items run.new.sink.bytes c.outcome_of.result c.args.capture.now _ run.result
-    c.in-Ok.ensures c.in-Ok-grown_sink.ensures.empty c.outcome_of.ensures.outcome run.ensures.given
+    c.in-Ok.ensures.made c.in-Ok-grown_sink.ensures.empty c.outcome_of.ensures.outcome run.ensures.given
 
 pub returns-clause-flows : goal.returns-clause-flows
 returns-clause-flows c =
@@ -18,4 +18,4 @@ returns-clause-flows c =
     flows_of o.blocks (model_of o) c.args.capture.now c.outcome_of.result
     (record { budget = range.budget.0; some = range.queues.0; queues = range.queues.1; taps = range.taps }) (λ k. omega (arith, c.type_inv.capture k))
     (merged_gives o c.in-Ok.rounds c.in-Ok-grown_sink.sink.bytes.items run.new.sink.bytes c.outcome_of.result c.args.capture.now _ run.result
-    c.in-Ok.ensures c.in-Ok-grown_sink.ensures.empty c.outcome_of.ensures.outcome run.ensures.given)
+    c.in-Ok.ensures.made c.in-Ok-grown_sink.ensures.empty c.outcome_of.ensures.outcome run.ensures.given)

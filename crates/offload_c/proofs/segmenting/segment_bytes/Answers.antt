@@ -6,5 +6,5 @@ returns c =
     let run = c.segment_capture-end in
     record {
       gives = segmented_gives c.args.blocks c.in-Ok.run' c.in-Ok-grown_sink.sink.bytes.items run.new.sink.bytes c.outcome_of.result c.args.capture.now _ run.result
-          c.in-Ok.ensures c.in-Ok-grown_sink.ensures.empty c.outcome_of.ensures.outcome run.ensures.given;
+          c.in-Ok.ensures.made c.in-Ok-grown_sink.ensures.empty c.outcome_of.ensures.outcome run.ensures.given;
     }

@@ -3,7 +3,7 @@ use Rattle.offload_run.proofs.Telling.{read_given, refused_given}
 use Rattle.offload_run.proofs.check.check_read.Goals as goal
 
 pub returns-in-Err-clause-given : goal.returns-in-Err-clause-given
-returns-in-Err-clause-given g c = refused_given c.args.options _ _ _ _ _ c.in-Err.fault c.refused.result refl c.refused.ensures c.in-Err.ensures.given
+returns-in-Err-clause-given g c = refused_given c.args.options _ _ _ _ _ c.in-Err.fault c.refused.result refl c.refused.ensures.status c.in-Err.ensures.given
 
 pub returns-clause-given : goal.returns-clause-given
 returns-clause-given g c =

@@ -18,12 +18,12 @@ returns-in-Err-make-clause-given g c =
 
 pub count_behind-end-requires-clause-start : goal.count_behind-end-requires-clause-start
 count_behind-end-requires-clause-start g c =
-    let e : c.in-Ok-make.totals ≡ totals_of (rounds_options c.in-Ok.rounds) [] = from_nothing c.args.options c.in-Ok.rounds c.in-Ok-make.totals c.in-Ok.ensures c.in-Ok-make.ensures.made in
+    let e : c.in-Ok-make.totals ≡ totals_of (rounds_options c.in-Ok.rounds) [] = from_nothing c.args.options c.in-Ok.rounds c.in-Ok-make.totals c.in-Ok.ensures.made c.in-Ok-make.ensures.made in
     search rules
 
 pub returns-clause-given : goal.returns-clause-given
 returns-clause-given g c =
     all_checked (first_line c.args.made) c.args.options c.in-Ok.rounds (first_place c.args.file Ethernet 0) c.in-Ok-make.totals c.count_behind-end.new.totals _ _ _ _ _ _
-    c.count_behind-end.result c.tell.result c.in-Ok.ensures
-    (from_nothing c.args.options c.in-Ok.rounds c.in-Ok-make.totals c.in-Ok.ensures c.in-Ok-make.ensures.made)
+    c.count_behind-end.result c.tell.result c.in-Ok.ensures.made
+    (from_nothing c.args.options c.in-Ok.rounds c.in-Ok-make.totals c.in-Ok.ensures.made c.in-Ok-make.ensures.made)
     c.count_behind-end.ensures.given c.tell.ensures.told c.count_behind-end.ensures.read

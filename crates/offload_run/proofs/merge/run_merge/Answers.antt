@@ -10,7 +10,7 @@ use Rattle.offload_run.proofs.merge.run_merge.Goals as goal
 pub returns-in-Err-clause-given : goal.returns-in-Err-clause-given
 returns-in-Err-clause-given g c =
     no_file Ethernet Offload (merging c.args.options.blocks (options c.args.options)) _ _ _ (g.K.Sink.is_flushed c.args.sink.now) c.args.sink.now c.args.sink.now
-    c.in-Err.fault c.refused.result refl c.refused.ensures c.in-Err.ensures.given
+    c.in-Err.fault c.refused.result refl c.refused.ensures.status c.in-Err.ensures.given
 
 pub returns-in-Err-write_file_head-clause-given : goal.returns-in-Err-write_file_head-clause-given
 returns-in-Err-write_file_head-clause-given g c =
@@ -23,7 +23,7 @@ returns-in-Ok-write_file_head-clause-given g c =
     c.in-Ok.file (ending_of c.merge_records.result) c.in-Ok.ensures.given c.in-Ok-write_file_head.ensures.ok c.merge_records.ensures.given c.merge_records.ensures.flushed
 
 pub returns-in-Err-clause-flows : goal.returns-in-Err-clause-flows
-returns-in-Err-clause-flows g c = no_file_back c.args.options.blocks (options c.args.options) (lawful_options c.args.options c.requires.range) _ _ c.in-Err.fault c.refused.result c.refused.ensures c.in-Err.ensures.given
+returns-in-Err-clause-flows g c = no_file_back c.args.options.blocks (options c.args.options) (lawful_options c.args.options c.requires.range) _ _ c.in-Err.fault c.refused.result c.refused.ensures.status c.in-Err.ensures.given
 
 pub returns-in-Err-write_file_head-clause-flows : goal.returns-in-Err-write_file_head-clause-flows
 returns-in-Err-write_file_head-clause-flows g c = head_failed_back c.args.options.blocks (options c.args.options) (lawful_options c.args.options c.requires.range) _ _ c.in-Ok.file c.in-Ok.ensures.given

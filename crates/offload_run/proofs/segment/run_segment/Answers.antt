@@ -8,7 +8,7 @@ use Rattle.offload_run.proofs.segment.run_segment.Goals as goal
 pub returns-in-Err-clause-given : goal.returns-in-Err-clause-given
 returns-in-Err-clause-given g c =
     no_file Offload Ethernet (segmenting c.args.options.blocks) _ _ _ (g.K.Sink.is_flushed c.args.sink.now) c.args.sink.now c.args.sink.now
-    c.in-Err.fault c.refused.result refl c.refused.ensures c.in-Err.ensures.given
+    c.in-Err.fault c.refused.result refl c.refused.ensures.status c.in-Err.ensures.given
 
 pub returns-in-Err-write_file_head-clause-given : goal.returns-in-Err-write_file_head-clause-given
 returns-in-Err-write_file_head-clause-given g c =

@@ -37,7 +37,7 @@ returns-in-Err-read_block-clause-given g c =
 pub returns-in-Err-read_block-clause-marks : goal.returns-in-Err-read_block-clause-marks
 returns-in-Err-read_block-clause-marks g c = λ k h.
     let l = c.loop-i in
-    marked_set l.i k l.hold.items c.read_block.new.block c.index_mut.result.now (omega (arith, l.invariant.size, c.loop-i-test.true, c.requires.blocks, c.blocks_of-i-end.ensures)) (c.in-Err-read_block.ensures.mark ∙ ap (λ (x : SoleState). x.mark) c.index_mut.ensures.value) (l.invariant.marks k h)
+    marked_set l.i k l.hold.items c.read_block.new.block c.index_mut.result.now (omega (arith, l.invariant.size, c.loop-i-test.true, c.requires.blocks, c.blocks_of-i-end.ensures.blocks)) (c.in-Err-read_block.ensures.mark ∙ ap (λ (x : SoleState). x.mark) c.index_mut.ensures.value) (l.invariant.marks k h)
 
 pub loop-i-preserved : goal.loop-i-preserved
 loop-i-preserved g c =
@@ -47,8 +47,8 @@ loop-i-preserved g c =
     let n : ℕ = c.args.len - l.left in
     let size : ℕ = c.min-size.result in
     let n' : ℕ = c.args.len - (l.left - size) in
-    let at : l.i < length l.hold.items = omega (arith, i.size, c.loop-i-test.true, c.requires.blocks, c.blocks_of-i-end.ensures) in
-    let step = data_step l.i 64 n size l.from l.hold.items s at (omega arith) (omega (arith, i.left, c.loop-i-test.true, c.blocks_of-i-end.ensures)) i.from_first i.from_later (omega (arith, c.min-size.ensures, i.from_low)) in
+    let at : l.i < length l.hold.items = omega (arith, i.size, c.loop-i-test.true, c.requires.blocks, c.blocks_of-i-end.ensures.blocks) in
+    let step = data_step l.i 64 n size l.from l.hold.items s at (omega arith) (omega (arith, i.left, c.loop-i-test.true, c.blocks_of-i-end.ensures.blocks)) i.from_first i.from_later (omega (arith, c.min-size.ensures, i.from_low)) in
     let whole : n' ≡ n + size = omega (arith, i.left, c.min-size.ensures) in
     let on = c.in-Ok-read_block.ensures.place in
     let step' : data_of 64 n' (set l.hold.items l.i s) ≡ data_of 64 n l.hold.items ++ slice_range s.bytes l.from (l.from + size) = ap (λ (k : ℕ). data_of 64 k (set l.hold.items l.i s)) whole ∙ step in
@@ -73,11 +73,11 @@ loop-i-preserved g c =
 pub returns-clause-long : goal.returns-clause-long
 returns-clause-long g c =
     let l = c.loop-i in
-    let all : c.args.len - l.left ≡ c.args.len = omega (arith, l.invariant.left, c.loop-i-test.false, c.blocks_of-i-end.ensures) in
+    let all : c.args.len - l.left ≡ c.args.len = omega (arith, l.invariant.left, c.loop-i-test.false, c.blocks_of-i-end.ensures.blocks) in
     ap (λ (k : ℕ). length (data_of 64 k l.hold.items)) (sym all) ∙ l.invariant.long ∙ all
 
 pub returns-clause-in_bytes : goal.returns-clause-in_bytes
 returns-clause-in_bytes g c =
     let l = c.loop-i in
-    let all : c.args.len - l.left ≡ c.args.len = omega (arith, l.invariant.left, c.loop-i-test.false, c.blocks_of-i-end.ensures) in
+    let all : c.args.len - l.left ≡ c.args.len = omega (arith, l.invariant.left, c.loop-i-test.false, c.blocks_of-i-end.ensures.blocks) in
     subst (λ (k : ℕ). InBytes (data_of 64 k l.hold.items)) all l.invariant.in_bytes

@@ -48,7 +48,7 @@ returns-in-Err-clause-given g c =
     let bare = subst (λ (f : List ℕ). Told (g.S.Source.left l.reader.source.now) (g.S.Source.left c.read_record.new.reader.source.now) (GivesRecord l.used c.is_ready.new.pool.made l.reader.place c.read_record.new.reader.place f (Err c.in-Err.stop))) none c.in-Err.ensures.given in
     let made = c.is_ready.ensures.same.0 ∙ i.made in
     let told = subst (λ (k : ℕ). Told (g.S.Source.left l.reader.source.now) (g.S.Source.left c.read_record.new.reader.source.now) (GivesRecord l.used k l.reader.place c.read_record.new.reader.place [] (Err c.in-Err.stop))) made bare in
-    round_stop_given _ _ _ c.args.reader.now.place l.reader.place c.read_record.new.reader.place l.used c.args.pool.now.made c.args.packets.now.items l.packets.items c.in-Err.stop c.end_of.result (i.so_far.link ∙ c.requires.link) i.within i.need c.end_of.ensures i.so_far.told told
+    round_stop_given _ _ _ c.args.reader.now.place l.reader.place c.read_record.new.reader.place l.used c.args.pool.now.made c.args.packets.now.items l.packets.items c.in-Err.stop c.end_of.result (i.so_far.link ∙ c.requires.link) i.within i.need c.end_of.ensures.end i.so_far.told told
 
 pub returns-then-not-is_ready-clause-given : goal.returns-then-not-is_ready-clause-given
 returns-then-not-is_ready-clause-given g c = c.reading.invariant.so_far.told
@@ -75,7 +75,7 @@ reading-preserved g c =
     let start = c.args.reader.now.place.number in
     let qs = c.push_back_reserved.new.self.items in
     let e : qs ≡ ps ++ p ∷ [] = c.push_back_reserved.ensures.items in
-    let k = c.packet_blocks-used.ensures in
+    let k = c.packet_blocks-used.ensures.blocks in
     let none = no_front c.read_record.new.front r.front in
     let told = subst (λ (f : List ℕ). Told (g.S.Source.left l.reader.source.now) (g.S.Source.left c.read_record.new.reader.source.now) (GivesRecord l.used c.is_ready.new.pool.made l.reader.place c.read_record.new.reader.place f (Ok p))) none r.given in
     record {

@@ -9,7 +9,7 @@ use Rattle.rounds.proofs.record.read_placed.Goals as goal
 
 pub returns-in-Err-clause-given : goal.returns-in-Err-clause-given
 returns-in-Err-clause-given g c =
-    head_stop_given _ _ c.args.reader.now.place c.next_head.new.self.place c.args.used c.args.pool.now.made c.args.front.now c.in-Err.fault c.stop_of.result c.requires.few c.stop_of.ensures c.in-Err.ensures.given
+    head_stop_given _ _ c.args.reader.now.place c.next_head.new.self.place c.args.used c.args.pool.now.made c.args.front.now c.in-Err.fault c.stop_of.result c.requires.few c.stop_of.ensures.stop c.in-Err.ensures.given
 
 pub returns-in_default-clause-given : goal.returns-in_default-clause-given
 returns-in_default-clause-given g c =
@@ -18,7 +18,7 @@ returns-in_default-clause-given g c =
 pub returns-then-need-made-clause-given : goal.returns-then-need-made-clause-given
 returns-then-need-made-clause-given g c =
     empty_given _ _ c.args.reader.now.place c.next_head.new.self.place c.args.used c.args.pool.now.made _ c.args.front.now c.in-Ok.found c.in-Some.head c.in-Some.is c.in-Ok.ensures.enters
-    (omega (arith, c.blocks_of.ensures, c.requires.front)) (omega (arith, c.if-need-made.true, c.made.ensures.made)) c.in-Ok.ensures.given
+    (omega (arith, c.blocks_of.ensures.blocks, c.requires.front)) (omega (arith, c.if-need-made.true, c.made.ensures.made)) c.in-Ok.ensures.given
 
 pub returns-in-Ok-read_packet-clause-given : goal.returns-in-Ok-read_packet-clause-given
 returns-in-Ok-read_packet-clause-given g c =
@@ -29,7 +29,7 @@ pub returns-in-Err-read_packet-clause-given : goal.returns-in-Err-read_packet-cl
 returns-in-Err-read_packet-clause-given g c =
     let r = c.in-Err-read_packet in
     cut_given _ _ _ c.args.reader.now.place c.next_head.new.self.place c.read_packet.new.reader.place c.args.used c.args.pool.now.made c.read_packet.new.front c.in-Ok.found c.in-Some.head r.stop
-    (omega (arith, c.blocks_of.ensures, c.requires.front, c.if-need-made.false, c.made.ensures.made)) c.in-Some.is c.in-Ok.ensures.enters c.in-Ok.ensures.given r.ensures.given
+    (omega (arith, c.blocks_of.ensures.blocks, c.requires.front, c.if-need-made.false, c.made.ensures.made)) c.in-Some.is c.in-Ok.ensures.enters c.in-Ok.ensures.given r.ensures.given
 
 pub read_packet-requires-clause-original : goal.read_packet-requires-clause-original
 read_packet-requires-clause-original g c = original_of c.args.reader.now.place.link c.in-Ok.found c.in-Some.head c.in-Some.is c.in-Ok.ensures.original

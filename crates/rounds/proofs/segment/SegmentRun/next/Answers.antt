@@ -20,7 +20,7 @@ returns-in-Err-clause-given g c =
     let blocks = ap (λ (s : SegmentState). s.blocks) c.self.view_is in
     let h = g.K.Sink.held c.args.sink.now in
     subst (λ (k : ℕ). Told (g.S.Source.left c.args.reader.now.source.now) (g.S.Source.left r.new.reader.source.now) (Moves k c.args.reader.now.place r.new.reader.place h h c.stopped.result)) blocks
-    (unmoved_given _ _ h c.self.inside.pool.made c.args.reader.now.place r.new.reader.place r.new.front c.in-Err.stop c.stopped.result c.requires.link c.stopped.ensures c.in-Err.ensures.given)
+    (unmoved_given _ _ h c.self.inside.pool.made c.args.reader.now.place r.new.reader.place r.new.front c.in-Err.stop c.stopped.result c.requires.link c.stopped.ensures.moved c.in-Err.ensures.given)
 
 pub invariant_of-self-2 : goal.invariant_of-self-2
 invariant_of-self-2 g c =
@@ -63,7 +63,7 @@ returns-clause-given g c =
       | in-Err-wrote b ↦
           subst (λ z. Told (g.S.Source.left c.args.reader.now.source.now) (g.S.Source.left r.new.reader.source.now) (Moves c.args.self.now.blocks old new h k z)) (sym b.result-is)
           (subst (λ (n : ℕ). Told (g.S.Source.left c.args.reader.now.source.now) (g.S.Source.left r.new.reader.source.now) (Moves n old new h k (Err b.fault_of.result))) blocks
-          (not_moved_given _ _ h k made 0 c.in-Ok.read.1 p.number old new front p b.in-Err-wrote.refused b.fault_of.result next c.in-Ok.ensures.offset refl b.fault_of.ensures c.in-Ok.ensures.given
+          (not_moved_given _ _ h k made 0 c.in-Ok.read.1 p.number old new front p b.in-Err-wrote.refused b.fault_of.result next c.in-Ok.ensures.offset refl b.fault_of.ensures.fault c.in-Ok.ensures.given
           (subst (WritesRecord old.file.order (record_of front p) h k) b.in-Err-wrote.is wrote)))
     ]
 
