@@ -56,6 +56,8 @@
 #![tactic(auto)]
 
 mod ahead;
+#[cfg(test)]
+mod ahead_tests;
 mod blocks;
 mod body;
 mod check;
