@@ -1,5 +1,5 @@
 //! What comes home once both sides have ended.
-ghost use Rattle.std.specs.Prelude.{◌≡◌, ◌+◌, ◌-◌, ◌≤◌};
+ghost use Rattle.std.specs.Prelude.{◌≡◌, ◌+◌, ◌≤◌};
 ghost use Rattle.rtrb.specs.Ring.{known_items};
 ghost use Rattle.round_pipeline.specs.Parcels.{blocks_of, homes_of, shelved};
 

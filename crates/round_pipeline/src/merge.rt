@@ -1,5 +1,5 @@
 //! Merges a capture by two sides.
-ghost use Rattle.std.specs.Prelude.{◌≡◌, ◌⊎◌, ◌+◌, ◌-◌, ◌≤◌, ◌^◌, true, None, Some, [], ◌++◌, min, IfSome, IfOk, OnOk, OnErr};
+ghost use Rattle.std.specs.Prelude.{◌≡◌, ◌⊎◌, ◌+◌, ◌-◌, ◌≤◌, ◌^◌, true, None, Some, [], min, IfSome, IfOk, OnOk, OnErr};
 ghost use Rattle.off_io.specs.Content.{SaysFlushed};
 ghost use Rattle.off_io.specs.Faults.{Rose};
 ghost use Rattle.off_io.specs.Told.{Told};
@@ -9,8 +9,8 @@ ghost use Rattle.pcap_io.specs.declared.heads.Link.TheVariants.{Ethernet};
 ghost use Rattle.pcap_io.specs.Places.{IsReady, found_at};
 ghost use Rattle.pcap_io.specs.Readers.{place_of, source_of, SameLoan};
 ghost use Rattle.rounds.specs.Merging.{ending_of, options_of, HoldsCaptured};
-ghost use Rattle.rtrb.specs.Ring.{sent, received, known_items, IsPair};
-ghost use Rattle.round_pipeline.specs.Parcels.{IsOfRing, blocks_of, homes_of, shelved};
+ghost use Rattle.rtrb.specs.Ring.{sent, received, IsPair};
+ghost use Rattle.round_pipeline.specs.Parcels.{IsOfRing, shelved};
 ghost use Rattle.round_pipeline.specs.Reads.{reader_at};
 ghost use Rattle.round_pipeline.specs.Works.{MayGoOn, MayHaveGoneOn, WentOn, sink_at};
 

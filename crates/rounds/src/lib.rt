@@ -22,7 +22,8 @@
 //! - `ok`, `err` of `write_round`: byte for byte what is written of a round that was worked.
 //! - `home`: how many blocks are home after each call, as an equation; after `drop_round` and `end_round`, and where
 //!   `work_round` wants memory, all of the round.
-//! - `need`, `taken`, `most`: the blocks that are out are what the packets need, and `taken` rises by at least as many.
+//! - `need`, `taken`, `most`: the blocks that are out are what the packets need, and `taken` rises by at least as many; it
+//!   never falls, however merging ends (`least`).
 //! - `given` of `merge_all` and `merge_all_alone`: what is written, and where it stops, is what the model makes of the capture's bytes
 //!   (`merging` of `offload_model`) with all options, whole rounds alone; a round that exceeds the blocks is told by its number and its need. After a fault, or want
 //!   of memory, it is that of the bytes that are gone, or a front of it. All blocks are home whatever the ending (`home`).

@@ -1,4 +1,4 @@
-use Rattle.std.proofs.Common.{◌≡◌, ◌∙◌, ◌∷◌, [], None, Some, ap, sym, arith, rules, length, length-append}
+use Rattle.std.proofs.Common.{◌∙◌, ◌∷◌, [], None, Some, ap, sym, arith, rules, length, length-append}
 use Rattle.rtrb.specs.Ring.{sent, received}
 use Rattle.round_pipeline.specs.declared.parcel.Parcel.{Parcel}
 use Rattle.round_pipeline.specs.Parcels.{blocks_of, homes_of}
