@@ -257,6 +257,46 @@ fn ends_of_a_read_beside(rt: HostRuntime) -> Result<(), Fail> {
     Ok(())
 }
 
+// A capture that is cut off within its last record.
+#[test]
+fn a_rest_that_is_refused(rt: HostRuntime) -> Result<(), Fail> {
+    let alloc = rt.alloc();
+    let none = Vec::new(alloc);
+    let (step, written, pauses, home) = of_bytes(&rt, alloc, &TWO_RECORDS[..58], none, EACH_ALONE)?;
+    assert!(rt; matches!(step, Step::Ends(MergeEnd::Malformed(_))));
+    assert_eq!(rt; (pauses, home), (1, 3));
+    assert_eq!(rt; written.as_slice(), &WRITTEN[..29]);
+    Ok(())
+}
+
+// Whether a round exceeds the blocks is told by all of them, and not by those that the round beside it has: the last record needs five.
+#[test]
+fn lent_blocks_count(rt: HostRuntime) -> Result<(), Fail> {
+    let alloc = rt.alloc();
+    let mut bytes = TWO_RECORDS.to_vec(alloc)?;
+    bytes.extend_from_slice(&TWO_RECORDS[24..32])?;
+    bytes.extend_from_slice(&5000u32.to_le_bytes())?;
+    bytes.extend_from_slice(&5000u32.to_le_bytes())?;
+    bytes.extend_from_slice(&[0; 5000])?;
+    let enough = How {
+        blocks: 5,
+        ..EACH_ALONE
+    };
+    let none = Vec::new(alloc);
+    let (step, _, pauses, home) = of_bytes(&rt, alloc, &bytes, none, enough)?;
+    assert_eq!(rt; (step, pauses, home), (DONE, 3, 5));
+    let fewer = How {
+        blocks: 4,
+        ..EACH_ALONE
+    };
+    let none = Vec::new(alloc);
+    let (step, written, pauses, home) = of_bytes(&rt, alloc, &bytes, none, fewer)?;
+    let exceeds = Step::Ends(MergeEnd::PoolEmpty { round: 4, need: 5 });
+    assert_eq!(rt; (step, pauses, home), (exceeds, 2, 4));
+    assert_eq!(rt; written.as_slice(), WRITTEN.as_slice());
+    Ok(())
+}
+
 // Where the source and a worker meet.
 #[derive(Drop)]
 struct Meeting {
