@@ -25,9 +25,9 @@ gather-requires-clause-sum g c =
       ap (λ i. i.home) c.in-Ok.ensures.intake,
       ap (λ s. s.blocks) c.in-Ok.ensures.ok,
       r.same.0,
-      ap (λ t. homes_of (received t)) c.new.ensures.0,
+      ap (λ t. homes_of (received t)) c.new.ensures.same.0,
       ap homes_of c.requires.none.1,
-      ap (λ s. shelved s.items) c.new.ensures.1,
+      ap (λ s. shelved s.items) c.new.ensures.same.1,
       c.in-Ok.ensures.shelves,
       ap blocks_of a.fifo,
       blocks_append (received c.slots_beside-waiting.new.self) (known_items c.slots_beside-waiting.new.self),
@@ -37,8 +37,8 @@ gather-requires-clause-sum g c =
       homes_append (received c.slots_beside.new.self) (known_items c.slots_beside.new.self),
       ap homes_of b.looked.1,
       ap homes_of b.producer.1,
-      ap (λ t. homes_of (received t)) c.close-tokens.ensures.0,
-      ap (λ t. shelved t.items) c.close-tokens.ensures.1,
+      ap (λ t. homes_of (received t)) c.close-tokens.ensures.same.0,
+      ap (λ t. shelved t.items) c.close-tokens.ensures.same.1,
     )
 
 pub returns-in_default-clause-went : goal.returns-in_default-clause-went
@@ -54,4 +54,4 @@ returns-clause-went g c =
     (reader_at g.S.Source.left g.S.Source.faults c.args.reader.now c.args.rounds.now.taken) (reader_at g.S.Source.left g.S.Source.faults c.run_sides-end.new.reader c.gather.new.rounds.taken)
     (record { given = c.in-Ok.ensures.intake; left = c.in-Ok.ensures.ok; same = r.same; joined = c.gather.ensures.home })
     (sink_at g.K.Sink.held g.K.Sink.is_flushed g.K.Sink.faults c.args.sink.now) (sink_at g.K.Sink.held g.K.Sink.is_flushed g.K.Sink.faults c.run_sides-end.new.sink) (sent c.run_sides-end.new.supply.out) (received c.run_sides-end.new.from) known c.run_sides-end.result c.ending.result c.slots_beside-waiting.result
-    (omega (arith, c.taken.ensures)) (ap (λ (l : List (Option Parcel)). l ++ known) (sym a.looked.1) ∙ a.fifo ∙ a.producer.1) a.value r.read r.later r.wrote r.flushed r.later_sink r.rose c.ending.ensures.some c.ending.ensures.none
+    (omega (arith, c.taken.ensures.value)) (ap (λ (l : List (Option Parcel)). l ++ known) (sym a.looked.1) ∙ a.fifo ∙ a.producer.1) a.value r.read r.later r.wrote r.flushed r.later_sink r.rose c.ending.ensures.some c.ending.ensures.none

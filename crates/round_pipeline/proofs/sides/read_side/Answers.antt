@@ -40,7 +40,7 @@ loop-preserved g c =
     let i = l.invariant in
     let r = c.read_round-round.ensures in
     let p : Parcel = record { number = l.number; round = c.read_round-round.result.round; end = c.read_round-round.result.end; shelf = c.in-Some-pick.shelf } in
-    let on = sym c.is_full.ensures ∙ c.if-not-is_full.false in
+    let on = sym c.is_full.ensures.full ∙ c.if-not-is_full.false in
     let full = full_end p.end on in
     let passes = r.full full in
     record {

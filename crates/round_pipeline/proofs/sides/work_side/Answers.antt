@@ -30,7 +30,7 @@ returns-in-Ends-clause-wrote g c =
     let l = c.loop in
     let st = c.args.rounds.now in
     let p = c.in-Some-receive.parcel in
-    let o = c.open-number.ensures in
+    let o = c.open-number.ensures.same in
     let w = c.in-Ends.ensures in
     subst (λ (xs : List (Option Parcel)). WroteLast st.blocks (options_of st) c.args.file.now (g.K.Sink.held c.args.sink.now) (g.K.Sink.held c.put_read.new.sink) xs c.in-Ends.end) (sym c.in-Some-receive.ensures.item)
     (wrote_last st.blocks st c.args.file.now (g.K.Sink.held c.args.sink.now) (g.K.Sink.held l.sink) (g.K.Sink.held c.put_read.new.sink) (received l.from) p c.in-Ends.end l.invariant.wrote c.in-Some-receive.ensures.allowed.number
@@ -48,10 +48,10 @@ returns-in-Ends-clause-each g c =
       l.invariant.bare,
       ap homes_of c.send.ensures.sent,
       homes_last (sent l.told) t,
-      ap home c.open-number.ensures.3,
+      ap home c.open-number.ensures.same.3,
       c.in-Some-receive.ensures.allowed.empty,
       ap (λ s. s.home) c.put_read.ensures.home,
-      ap (λ r. r.blocks) c.open-number.ensures.1,
+      ap (λ r. r.blocks) c.open-number.ensures.same.1,
       ap blocks_of c.in-Some-receive.ensures.item,
       blocks_last (received l.from) (Some p),
     )
@@ -61,7 +61,7 @@ returns-then-not-send_home-clause-wrote g c =
     let l = c.loop in
     let st = c.args.rounds.now in
     let p = c.in-Some-receive.parcel in
-    let o = c.open-number.ensures in
+    let o = c.open-number.ensures.same in
     let w = c.in-Goes.ensures in
     let h0 = g.K.Sink.held c.args.sink.now in
     let h1 = g.K.Sink.held c.put_read.new.sink in
@@ -81,7 +81,7 @@ returns-then-not-send_home-clause-each g c =
       l.invariant.bare,
       c.send_home.ensures.sum,
       ap (λ s. s.home) c.put_read.ensures.home,
-      ap (λ r. r.blocks) c.open-number.ensures.1,
+      ap (λ r. r.blocks) c.open-number.ensures.same.1,
       ap blocks_of c.in-Some-receive.ensures.item,
       blocks_last (received l.from) (Some p),
     )
@@ -92,7 +92,7 @@ loop-preserved g c =
     let i = l.invariant in
     let st = c.args.rounds.now in
     let p = c.in-Some-receive.parcel in
-    let o = c.open-number.ensures in
+    let o = c.open-number.ensures.same in
     let w = c.in-Goes.ensures in
     let s = c.send_home.ensures in
     let h0 = g.K.Sink.held c.args.sink.now in

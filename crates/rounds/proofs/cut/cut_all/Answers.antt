@@ -8,7 +8,9 @@ write_judged-wrote-requires-clause-may g c = may_open (of_packet c.args.packet) 
 pub reopen-requires : goal.reopen-requires
 reopen-requires g c =
     let w = c.write_judged-wrote in
-    comes_home (of_packet c.args.packet) c.args.pool.now w.new.pool c.args.places.now w.new.places c.requires.open c.requires.round.whole w.ensures.comes
+    record {
+      home = comes_home (of_packet c.args.packet) c.args.pool.now w.new.pool c.args.places.now w.new.places c.requires.open c.requires.round.whole w.ensures.comes;
+    }
 
 pub returns-clause-home : goal.returns-clause-home
 returns-clause-home g c =

@@ -40,8 +40,10 @@ reopen-requires c =
     let may = may_open (both o (both ps w)) c.args.pool.now c.args.places.now c.requires.open c.requires.room c.requires.round.marked in
     let rest = and_rest o (both ps w) c.args.pool.now s.new.pool c.args.places.now s.new.places may s.ensures.comes in
     let came = and_comes ps w s.new.pool b.new.pool e.new.pool s.new.places b.new.places e.new.places rest b.ensures.comes e.ensures.comes in
-    comes_home (both o (both ps w)) c.args.pool.now e.new.pool c.args.places.now e.new.places c.requires.open c.requires.round.whole
-    (and_comes o (both ps w) c.args.pool.now s.new.pool e.new.pool c.args.places.now s.new.places e.new.places may s.ensures.comes came)
+    record {
+      home = comes_home (both o (both ps w)) c.args.pool.now e.new.pool c.args.places.now e.new.places c.requires.open c.requires.round.whole
+          (and_comes o (both ps w) c.args.pool.now s.new.pool e.new.pool c.args.places.now s.new.places e.new.places may s.ensures.comes came);
+    }
 
 pub returns-clause-home : goal.returns-clause-home
 returns-clause-home c =
