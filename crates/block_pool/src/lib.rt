@@ -18,8 +18,6 @@
 
 mod pool;
 pub mod shared;
-#[cfg(test)]
-mod tests;
 
 pub use pool::{Empty, Pool};
 pub use shared::{PoolPass, SharedPool};

@@ -25,8 +25,6 @@ mod maker;
 mod record;
 pub mod segment;
 mod source;
-#[cfg(test)]
-mod tests;
 
 pub use capture::make_capture;
 pub use laws::made_reads_back;

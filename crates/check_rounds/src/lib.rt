@@ -12,7 +12,5 @@
 #![tactic(auto)]
 
 mod check;
-#[cfg(test)]
-mod tests;
 
 pub use check::{CheckEnd, check_all};

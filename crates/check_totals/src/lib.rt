@@ -14,8 +14,6 @@
 #![tactic(auto)]
 
 mod laws;
-#[cfg(test)]
-mod tests;
 mod totals;
 mod write;
 

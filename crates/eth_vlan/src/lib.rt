@@ -14,8 +14,6 @@
 
 mod ethernet;
 mod tag;
-#[cfg(test)]
-mod tests;
 
 pub use ethernet::EthView;
 pub use tag::{TagView, is_tag};

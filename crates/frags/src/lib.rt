@@ -31,8 +31,6 @@ mod holder;
 mod laws;
 mod outcomes;
 mod pieces;
-#[cfg(test)]
-mod tests;
 
 pub use builder::PieceBuilder;
 pub use holder::{Holder, give_share};

@@ -26,8 +26,6 @@ mod queue;
 mod read;
 pub mod segment;
 mod sums;
-#[cfg(test)]
-mod tests;
 
 pub use candidates::{candidate, candidate_in};
 pub use flow::Key;

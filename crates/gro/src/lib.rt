@@ -52,8 +52,6 @@
 
 mod build;
 mod candidacy;
-#[cfg(test)]
-mod candidacy_tests;
 mod flows;
 mod item;
 mod packet;
@@ -63,8 +61,6 @@ mod run;
 mod runs;
 mod shelf;
 mod table;
-#[cfg(test)]
-mod tests;
 
 pub use item::Item;
 pub use packet::Packet;

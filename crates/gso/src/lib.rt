@@ -28,8 +28,6 @@ mod judging;
 mod merged;
 mod open;
 mod sums;
-#[cfg(test)]
-mod tests;
 mod whole;
 
 pub use cutter::{Cut, Cutter};

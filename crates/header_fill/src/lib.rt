@@ -28,8 +28,6 @@ ghost use Rattle.header_fill.specs.Filled.{IsFilled};
 mod fields;
 mod place;
 mod sums;
-#[cfg(test)]
-mod tests;
 
 use crate::fields::put_lengths;
 use crate::sums::put_sums;

@@ -20,8 +20,6 @@ ghost use Rattle.inet_sum.specs.Sum.{word_sum, folded, fold_of as fold_of_bytes,
 
 mod lanes;
 pub mod partial;
-#[cfg(test)]
-mod tests;
 
 use lanes::{STEP, lanes_sum};
 pub use partial::Partial;

@@ -17,8 +17,6 @@
 
 pub mod ip4;
 pub mod ip6;
-#[cfg(test)]
-mod tests;
 
 pub use ip4::{Ip4View, set_header_sum, set_id, set_total};
 pub use ip6::{Ip6View, set_payload_len};

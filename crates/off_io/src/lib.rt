@@ -23,8 +23,6 @@ mod sink;
 mod source;
 mod standard;
 mod sure;
-#[cfg(test)]
-mod tests;
 
 pub use feed::Feed;
 pub use gate::{Gate, NoGate, Who};

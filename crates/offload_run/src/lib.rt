@@ -25,34 +25,16 @@
 //! ```
 #![tactic(auto)]
 
-#[cfg(test)]
-mod beside;
-#[cfg(test)]
-mod blocks;
 mod check;
-#[cfg(test)]
-mod checks;
 mod command;
 mod ending;
 mod engine;
-#[cfg(test)]
-mod hostile;
-#[cfg(test)]
-mod kinds;
-#[cfg(test)]
-mod lanes;
 mod laws;
 mod logging;
 mod make;
 mod merge;
-#[cfg(test)]
-mod row_frames;
-#[cfg(test)]
-mod rows;
 mod segment;
 mod status;
-#[cfg(test)]
-mod tests;
 
 pub use command::run;
 pub use engine::Engine;

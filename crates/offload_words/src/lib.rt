@@ -18,8 +18,6 @@ pub mod make;
 pub mod merge;
 mod numbers;
 pub mod segment;
-#[cfg(test)]
-mod tests;
 pub mod words;
 
 pub use check::CheckOptions;

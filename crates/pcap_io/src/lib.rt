@@ -25,8 +25,6 @@ mod laws;
 mod off_head;
 mod place;
 mod reader;
-#[cfg(test)]
-mod tests;
 mod writer;
 
 pub use faults::{CapFault, CapKind, InFault};

@@ -37,8 +37,6 @@ mod name;
 mod part;
 mod receipt;
 mod sole;
-#[cfg(test)]
-mod tests;
 
 pub use part::{Claimed, Part, Released};
 pub use receipt::{Receipt, Sight};

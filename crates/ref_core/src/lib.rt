@@ -23,8 +23,6 @@ ghost use Rattle.ref_core.specs.WeightRule.{WeightRule};
 mod event;
 mod memory;
 mod set_machine;
-#[cfg(test)]
-mod tests;
 mod weight_machine;
 
 pub use event::{Answer, Event};

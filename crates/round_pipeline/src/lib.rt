@@ -31,13 +31,9 @@
 mod bells;
 mod desk;
 mod gather;
-#[cfg(test)]
-mod halting;
 mod merge;
 mod parcel;
 mod ring;
 mod sides;
-#[cfg(test)]
-mod tests;
 
 pub use merge::merge_beside;

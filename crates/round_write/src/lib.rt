@@ -15,8 +15,6 @@
 mod buffer;
 mod items;
 mod record;
-#[cfg(test)]
-mod tests;
 
 pub use buffer::write_buffer;
 pub use items::{write_item, write_items};

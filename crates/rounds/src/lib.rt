@@ -57,8 +57,6 @@
 #![tactic(auto)]
 
 mod ahead;
-#[cfg(test)]
-mod ahead_tests;
 mod blocks;
 mod body;
 mod check;
@@ -67,8 +65,6 @@ mod home;
 mod homecoming;
 mod intake;
 mod lane_home;
-#[cfg(test)]
-mod lane_tests;
 mod lane_work;
 mod memory;
 mod merge;
@@ -77,14 +73,8 @@ mod record;
 mod round;
 mod rounds;
 mod segment;
-#[cfg(test)]
-mod segment_tests;
 mod sides;
-#[cfg(test)]
-mod sides_tests;
 mod table;
-#[cfg(test)]
-mod tests;
 mod writing;
 
 pub use homecoming::{AllHome, Homecoming};

@@ -49,19 +49,13 @@ mod attach;
 mod checksum;
 mod copy;
 mod cut;
-#[cfg(test)]
-mod cut_tests;
 mod ends;
 mod heads;
 mod lend;
 mod moving;
 mod pull_up;
-#[cfg(test)]
-mod reader_tests;
 mod sharing;
 mod skb;
-#[cfg(test)]
-mod tests;
 
 pub use crate::copy::CopyFault;
 pub use crate::ends::RoomFault;

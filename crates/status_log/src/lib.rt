@@ -15,9 +15,6 @@ ghost use Rattle.arrayvec.specs.ArrayString.{array_string_len};
 ghost use Rattle.off_io.specs.Content.{AppendsFront};
 ghost use Rattle.status_log.specs.Lines.{Logs, malformed_line, no_memory_line, pool_empty_line, read_fault_line, usage_line, write_fault_line};
 
-#[cfg(test)]
-mod tests;
-
 use arrayvec::ArrayString;
 use itoa::Buffer;
 use off_io::{Sink, write_all};

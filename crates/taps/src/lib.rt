@@ -30,8 +30,6 @@ ghost use Rattle.taps.specs.Texts.{TextsAreWindows};
 
 mod clones;
 mod task;
-#[cfg(test)]
-mod tests;
 mod texts;
 
 pub use clones::TapClone;

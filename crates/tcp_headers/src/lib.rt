@@ -15,8 +15,6 @@
 #![tactic(auto)]
 
 pub mod tcp;
-#[cfg(test)]
-mod tests;
 pub mod udp;
 
 pub use tcp::{TcpView, set_flags, set_seq, set_tcp_sum};

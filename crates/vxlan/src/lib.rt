@@ -15,9 +15,6 @@ ghost use Rattle.std.specs.Prelude.{◌≡◌, ◌↔◌, ◌+◌, ◌≤◌, tr
 ghost use Rattle.net_bytes.specs.View.{Placed};
 ghost use Rattle.vxlan.specs.Vxlan.{is_there, flags as flags_of, network_identifier};
 
-#[cfg(test)]
-mod tests;
-
 use net_bytes::{be16, is_inside};
 use std::marker::Model;
 

@@ -1,0 +1,205 @@
+//! A buffer over one block, by the numbers of its room, its clone, its copy and its faults.
+ghost use Rattle.std.specs.Prelude.{◌≡◌, ◌≤◌, ◌+◌, [], length};
+
+use frags::{Outcomes, Pieces};
+use raw_block::{FULL, Released, Sole};
+use skb::{CopyFault, PullFault, Returned, RoomFault, Skb, Unshared};
+use std::test::Fail;
+
+// A fault's numbers, and (0, 0) for none. (1, 0) is Shared.
+fn numbers(answer: Result<(), RoomFault>) -> (usize, usize) {
+    match answer {
+        Ok(()) => (0, 0),
+        Err(RoomFault::NoRoom { have, need }) => (have, need),
+        Err(RoomFault::Shared) => (1, 0),
+    }
+}
+
+// What `push` answers, and the headroom after it.
+fn pushed(skb: &mut Skb, bytes: &[u8]) -> ((usize, usize), usize)
+    ensures rest { skb.new.rest ≡ skb.old.rest }
+{
+    if skb.len() > 4000 || bytes.len() > 4000 {
+        return ((9, 9), 0);
+    }
+    let answer = skb.push(bytes);
+    (numbers(answer), skb.headroom())
+}
+
+// What `put_tail` answers, and the length after it.
+fn put(skb: &mut Skb, bytes: &[u8]) -> ((usize, usize), usize)
+    ensures rest { skb.new.rest ≡ skb.old.rest }
+{
+    if skb.len() > 4000 || bytes.len() > 4000 {
+        return ((9, 9), 0);
+    }
+    let answer = skb.put_tail(bytes);
+    (numbers(answer), skb.len())
+}
+
+// Whether a push beside a clone is Shared, and one after the clone's release and an `unshare` goes; and the clone's weight.
+fn beside_a_clone(skb: &mut Skb, spare: Sole, out: &mut Outcomes) -> (bool, bool, bool, u64)
+    requires spare { (skb.old.rest ≡ []) × (2 ≤ out.old.spare) }
+    ensures rest { (skb.new.rest ≡ []) × (out.old.spare ≤ out.new.spare + 1) }
+{
+    match skb.clone() {
+        Ok(clone) => {
+            let refused = pushed(skb, &[7]);
+            let weight = clone.least_weight();
+            clone.release(out);
+            let unused = match skb.unshare(spare) {
+                Unshared::Unused(_) => true,
+                Unshared::Gave(released, _) => {
+                    spend_released(released);
+                    false
+                }
+            };
+            let taken = pushed(skb, &[7]);
+            (refused.0 == (1, 0), unused, taken.0 == (0, 0), weight)
+        }
+        Err(_) => (false, false, false, 0),
+    }
+}
+
+// Whether more than a block has room for is too big to be pulled up.
+fn too_big(skb: &mut Skb, n: usize, spare: Sole, out: &mut Outcomes) -> bool
+    requires bare { skb.old.rest ≡ [] }
+    ensures rest { (skb.new.rest ≡ []) × (out.old.spare ≤ out.new.spare) }
+{
+    match skb.pull_up(n, spare, out) {
+        Ok(Returned::Unused(_)) => false,
+        Ok(Returned::Gave(released)) => {
+            spend_released(released);
+            false
+        }
+        Err((fault, _)) => matches!(fault, PullFault::TooBig),
+    }
+}
+
+pub(crate) fn spend_released(released: Released) {
+    match released {
+        Released::Last(_) => {}
+        Released::Left(receipt) => receipt.close(),
+    }
+}
+
+// Whether two buffers have the same bytes.
+pub(crate) fn same_bytes(one: &Skb, other: &Skb) -> bool {
+    let len = one.len();
+    if other.len() != len {
+        return false;
+    }
+    for i in 0..len {
+        if one.byte_at(i) != other.byte_at(i) {
+            return false;
+        }
+    }
+    true
+}
+
+// What `copy` answers of a buffer of two blocks' bytes at most: the numbers of too few spares, whether the copy has the same
+// bytes and shares nothing, and its headroom and blocks.
+fn copied(
+    skb: &Skb,
+    spares: &mut Vec<Sole>,
+    out: &mut Outcomes,
+) -> ((usize, usize), bool, usize, usize)
+    requires spare { 2 ≤ out.old.spare }
+    ensures spare { out.old.spare ≤ out.new.spare + 2 }
+{
+    if skb.len() > 4000 {
+        return ((9, 9), false, 0, 0);
+    }
+    match skb.copy(spares) {
+        Ok(copy) => {
+            let owned = copy.head_is_sole() && copy.least_weight() == FULL;
+            let same = same_bytes(skb, &copy) && owned;
+            let headroom = copy.headroom();
+            let blocks = copy.count();
+            copy.release(out);
+            ((0, 0), same, headroom, blocks)
+        }
+        Err(CopyFault::Empty { have, need }) => ((have, need), false, 0, 0),
+        Err(CopyFault::NoMemory) => ((0, 0), false, 0, 0),
+    }
+}
+
+// What is seen of a buffer over one block.
+#[derive(Drop)]
+struct Seen {
+    answers: [((usize, usize), usize); 4],
+    short: (usize, usize),
+    too_big: bool,
+    shared: (bool, bool, bool, u64),
+    copies: [((usize, usize), bool, usize, usize); 2],
+}
+
+// The answers of a buffer that begins empty, from 64 to 64.
+fn over_one_block(
+    mut skb: Skb,
+    spares: (Sole, Sole),
+    none: &mut Vec<Sole>,
+    two: &mut Vec<Sole>,
+    out: &mut Outcomes,
+) -> Seen
+    requires spare { (skb.rest ≡ []) × (8 ≤ out.old.spare) }
+{
+    let answers = [
+        pushed(&mut skb, &[1; 14]),
+        pushed(&mut skb, &[1; 51]),
+        put(&mut skb, &[2; 1984]),
+        put(&mut skb, &[3; 1]),
+    ];
+    let short = match skb.pull(1999, out) {
+        Ok(()) => (0, 0),
+        Err(short) => (short.have, short.need),
+    };
+    let too_big = too_big(&mut skb, 1985, spares.0, out);
+    let shared = beside_a_clone(&mut skb, spares.1, out);
+    let copies = [copied(&skb, none, out), copied(&skb, two, out)];
+    skb.release(out);
+    Seen {
+        answers,
+        short,
+        too_big,
+        shared,
+        copies,
+    }
+}
+
+pub(crate) fn spend(mut out: Outcomes) -> usize {
+    let mut soles = 0usize;
+    while let Some(_) = out.pop_sole() {
+        soles = soles.wrapping_add(1);
+    }
+    out.settle();
+    soles
+}
+
+#[test]
+fn one_block_has_room_as_its_numbers_say(rt: HostRuntime) -> Result<(), Fail> {
+    let block = Sole::new(rt.alloc())?;
+    let spares = (Sole::new(rt.alloc())?, Sole::new(rt.alloc())?);
+    let mut two = Vec::new(rt.alloc());
+    two.push(Sole::new(rt.alloc())?)?;
+    two.push(Sole::new(rt.alloc())?)?;
+    let mut none = Vec::new(rt.alloc());
+    let mut out = Outcomes::new(rt.alloc());
+    if out.reserve(8).is_err() {
+        out.settle();
+        return Ok(());
+    }
+    let skb = Skb::new(block, 64, 64, Pieces::new(rt.alloc()));
+    let seen = over_one_block(skb, spares, &mut none, &mut two, &mut out);
+    let soles = spend(out);
+    assert_eq!(rt;
+        seen.answers,
+        [((0, 0), 50), ((50, 51), 50), ((0, 0), 1998), ((0, 1), 1998)]
+    );
+    assert_eq!(rt; seen.short, (1998, 1999));
+    assert!(rt; seen.too_big);
+    assert_eq!(rt; seen.shared, (true, true, true, 1125899906842624));
+    assert_eq!(rt; seen.copies, [((0, 2), false, 0, 0), ((0, 0), true, 64, 2)]);
+    assert_eq!(rt; soles, 3);
+    Ok(())
+}

@@ -1,0 +1,20 @@
+//! Tests of the crates that hold packets: the two machines ([`ref_core`]), blocks and their weights ([`raw_block`]), pools of them
+//! ([`block_pool`]), pieces of blocks ([`frags`]) and buffers ([`skb`]).
+//!
+//! A crate of their own, since one with tests is proved twice, with them and without.
+#![tactic(auto)]
+
+#[cfg(test)]
+mod blocks;
+#[cfg(test)]
+mod buffers;
+#[cfg(test)]
+mod cuts;
+#[cfg(test)]
+mod machines;
+#[cfg(test)]
+mod pieces;
+#[cfg(test)]
+mod pools;
+#[cfg(test)]
+mod readers;

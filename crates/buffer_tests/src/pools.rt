@@ -1,0 +1,32 @@
+//! A pool of one block; the shared pool's tests stand in `passes`.
+ghost use Rattle.std.specs.Prelude.{◌≡◌};
+ghost use Rattle.block_pool.specs.PoolState.{home};
+
+mod passes;
+
+use block_pool::Pool;
+use std::test::Fail;
+
+// What is home without the block, whether a second take is Empty, and whether the block can be taken again.
+fn turn(pool: &mut Pool) -> (u32, bool, bool)
+    requires one { (home pool.old ≡ 1) × (pool.old.made ≡ 1) }
+{
+    match pool.take() {
+        Ok(block) => {
+            let home = pool.home();
+            let empty = pool.take().is_err();
+            pool.put(block);
+            (home, empty, pool.take().is_ok())
+        }
+        Err(_) => (1, false, false),
+    }
+}
+
+#[test]
+fn one_block_is_taken_and_comes_home(rt: HostRuntime) -> Result<(), Fail> {
+    let mut pool = Pool::make(rt.alloc(), 1)?;
+    assert_eq!(rt; (pool.home(), pool.made(), pool.taken()), (1, 1, 0));
+    assert_eq!(rt; turn(&mut pool), (0, true, true));
+    assert_eq!(rt; (pool.made(), pool.taken()), (1, 2));
+    Ok(())
+}

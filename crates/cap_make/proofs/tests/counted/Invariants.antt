@@ -1,5 +1,0 @@
-use Rattle.pcap_io.specs.Places.{IsReady}
-use Rattle.cap_make.proofs.tests.counted.Given as goal
-
-abbrev pub invariant-loop : goal.invariant-loop
-invariant-loop l = IsReady l.reader.place

@@ -1,5 +1,0 @@
-use Rattle.std.proofs.Common.{length}
-use Rattle.gso.proofs.tests.cutting.home_of.Given as goal
-
-abbrev pub decreases-loop-blocks : goal.decreases-loop-blocks
-decreases-loop-blocks l = length l.out.soles

@@ -1,0 +1,102 @@
+//! Headers at the limits, numbers at the end of their range, and headers that are written.
+//!
+//! The bytes come from a program that was written from the format alone.
+
+ghost use Rattle.std.specs.Prelude.{◌≤◌, ◌^◌};
+
+use off_io::{Feed, MemSink, MemSource};
+use pcap_io::{
+    CapFault, CapKind, CaptureReader, FileHead, InFault, Link, OffHead, Order, capture_reads_back,
+    capture_splits, file_head_reads_back, off_head_reads_back, off_head_writes_back,
+    rec_head_reads_back, rec_head_writes_back, split_is_unique, write_file_head, write_rec_head,
+};
+use std::alloc::Global;
+use std::test::Fail;
+use worked_captures::TWO_RECORDS;
+
+fn source(alloc: Global, bytes: &[u8]) -> Result<Feed<MemSource>, Fail> {
+    Ok(Feed {
+        inner: MemSource::new(bytes.to_vec(alloc)?, 5, Vec::new(alloc)),
+    })
+}
+
+// What the first record's header says, and why the second one is refused, where the first one has this number.
+fn read_two(alloc: Global, first: u64) -> Result<(u32, u64, Result<Option<u64>, InFault>), Fail>
+    requires few { first ≤ 2 ^ 32 }
+{
+    let mut feed = source(alloc, &TWO_RECORDS)?;
+    let mut reader = match CaptureReader::start_numbered(&mut feed, Link::Ethernet, first) {
+        Ok(reader) => reader,
+        Err(_) => return Err(Fail::from("the file header is lawful")),
+    };
+    let head = match reader.next_head() {
+        Ok(Some(head)) => head,
+        _ => return Err(Fail::from("there is a record")),
+    };
+    let mut body = vec![in alloc; 0u8; head.captured as usize]?;
+    if reader.read_body(&mut body).is_err() {
+        return Err(Fail::from("its body is there"));
+    }
+    let next = match reader.next_head() {
+        Ok(Some(found)) => Ok(Some(found.offset)),
+        Ok(None) => Ok(None),
+        Err(fault) => Err(fault),
+    };
+    Ok((head.number, head.offset, next))
+}
+
+#[test]
+fn numbers_end(rt: HostRuntime) -> Result<(), Fail> {
+    let too_many = InFault::Cap(CapFault {
+        kind: CapKind::TooMany,
+        offset: 41,
+        number: 4294967296,
+    });
+    assert_eq!(rt; read_two(rt.alloc(), 0)?, (0, 24, Ok(Some(41))));
+    assert_eq!(rt;
+        read_two(rt.alloc(), 4294967295)?,
+        (4294967295, 24, Err(too_many))
+    );
+    Ok(())
+}
+
+#[test]
+fn headers_are_written(rt: HostRuntime) -> Result<(), Fail> {
+    let alloc = rt.alloc();
+    let head = FileHead {
+        order: Order::Big,
+        nanos: true,
+        zone: 7,
+        sigfigs: 9,
+    };
+    let mut sink = MemSink::new(alloc, 5, Vec::new(alloc));
+    assert_eq!(rt; write_file_head(&mut sink, &head, Link::Offload), Ok(()));
+    assert_eq!(rt; write_rec_head(&mut sink, &head, 1, 2, 15, 17), Ok(()));
+    let want = [
+        0xa1, 0xb2, 0x3c, 0x4d, 0x00, 0x02, 0x00, 0x04, 0x00, 0x00, 0x00, 0x07, 0x00, 0x00, 0x00,
+        0x09, 0x00, 0x04, 0x00, 0x0c, 0x00, 0x00, 0x00, 0x93, 0x00, 0x00, 0x00, 0x01, 0x00, 0x00,
+        0x00, 0x02, 0x00, 0x00, 0x00, 0x0f, 0x00, 0x00, 0x00, 0x11,
+    ];
+    assert_eq!(rt; sink.bytes(), want.as_slice());
+    let bytes = [1, 1, 0, 2, 0, 4, 3, 5, 0, 1, 2, 3];
+    let merged = OffHead::read(&bytes);
+    assert_eq!(rt;
+        (merged.n, merged.m, merged.modes, merged.lane),
+        (2, 4, 3, 5)
+    );
+    assert_eq!(rt; (merged.version, merged.kind, merged.number), (1, 1, 66051));
+    assert_eq!(rt; merged.bytes(), bytes);
+    Ok(())
+}
+
+#[test]
+fn laws_are_called() {
+    off_head_reads_back();
+    off_head_writes_back();
+    rec_head_reads_back();
+    rec_head_writes_back();
+    file_head_reads_back();
+    capture_splits();
+    split_is_unique();
+    capture_reads_back();
+}

@@ -1,0 +1,13 @@
+//! Tests of merging packets in buffers ([`gro`]), of cutting them again ([`gso`]), and of reading them as they arrived ([`taps`]).
+//!
+//! A crate of their own, since one with tests is proved twice, with them and without.
+#![tactic(auto)]
+
+#[cfg(test)]
+mod home;
+#[cfg(test)]
+mod merging;
+#[cfg(test)]
+mod segmenting;
+#[cfg(test)]
+mod tapping;

@@ -1,0 +1,299 @@
+//! Rounds of packets: which runs they come to, and that nothing is lost. Each call that is refused memory is called again.
+ghost use Rattle.std.specs.Prelude.{◌≡◌, ◌≤◌, [], length};
+
+use super::{
+    Said, emptied, finished, given_up, home, packet, plain, put, put16, receive, reserve, spent,
+    table_for,
+};
+use gro::{Item, RoundTable};
+use std::alloc::Global;
+use std::process::Abort;
+use std::test::Fail;
+
+// The same headers in another flow. Both ports change, and their sum stays.
+fn in_flow(head: [u8; 54], flow: u16) -> [u8; 54] {
+    let mut other = head;
+    put16(&mut other, 34, 40000u16.wrapping_add(flow));
+    put16(&mut other, 36, 5001u16.wrapping_sub(flow));
+    other
+}
+
+// Packets of these headers and one payload come to items that say this.
+fn come_to(rt: &impl Abort, alloc: Global, heads: &[[u8; 54]], payload: &[u8], rows: &[Said])
+    requires few { length heads.now ≤ 128 }
+{
+    let mut table = table_for(rt, alloc, heads.len() as u32);
+    for i in 0..heads.len() {
+        put(rt, alloc, &mut table, i as u32, &heads[i], payload);
+    }
+    assert!(rt; !table.may_receive(heads.len() as u32));
+    let items = finished(rt, alloc, table);
+    assert_eq!(rt; spent(rt, items, rows), heads.len().wrapping_mul(3));
+}
+
+/// What lets a run go on, and what ends it.
+#[test]
+fn rows_of_packets(rt: HostRuntime) {
+    let alloc = rt.alloc();
+    let payload = [9; 100];
+    let first = plain(0, 0, 0x10, &payload);
+    // Identifications 65535 and 0, and sequence numbers from 50 below zero to 50.
+    let wrapping = [
+        plain(65435, 0xfffffbe6, 0x10, &payload),
+        plain(65436, 0xfffffc4a, 0x10, &payload),
+    ];
+    come_to(&rt, alloc, &wrapping, &payload, &[(0, 2, 100, 0)]);
+    // An identification that stays, and then rises.
+    let fixed = [
+        first,
+        plain(0, 100, 0x10, &payload),
+        plain(1, 200, 0x10, &payload),
+    ];
+    let rows = [(0, 2, 100, 1), (2, 1, 0, 0)];
+    come_to(&rt, alloc, &fixed, &payload, &rows);
+    // PSH, which ends a run.
+    let pushed = [
+        first,
+        plain(1, 100, 0x18, &payload),
+        plain(2, 200, 0x10, &payload),
+    ];
+    let rows = [(0, 2, 100, 0), (2, 1, 0, 0)];
+    come_to(&rt, alloc, &pushed, &payload, &rows);
+    // Two bytes behind the payload, which no frame may have that is merged.
+    let padded = [first, plain(1, 100, 0x10, &payload[..98])];
+    let rows = [(0, 1, 0, 0), (1, 1, 0, 0)];
+    come_to(&rt, alloc, &padded, &payload, &rows);
+}
+
+/// A packet that was captured in part is alone, and ends its flow's run.
+#[test]
+fn captured_in_part(rt: HostRuntime) {
+    let alloc = rt.alloc();
+    let payload = [9; 100];
+    let mut table = table_for(&rt, alloc, 3);
+    for i in 0..3u16 {
+        let head = plain(i, i as u32 * 100, 0x10, &payload);
+        let mut packet = packet(&rt, alloc, i as u32, &head, &payload);
+        if i == 1 {
+            packet.original = 155;
+        }
+        receive(&rt, alloc, &mut table, packet);
+    }
+    let rows = [(0, 1, 0, 0), (1, 1, 0, 0), (2, 1, 0, 0)];
+    assert_eq!(rt; spent(&rt, finished(&rt, alloc, table), &rows), 9);
+}
+
+// The first 33 bytes of these headers, which end within the IP header.
+fn within_ip(head: [u8; 54]) -> [u8; 33] {
+    let mut front = [0; 33];
+    for i in 0..33 {
+        front[i] = head[i];
+    }
+    front
+}
+
+/// A frame that ends within its IP header is of no flow, and ends no run.
+#[test]
+fn of_no_flow(rt: HostRuntime) {
+    let alloc = rt.alloc();
+    let payload = [9; 100];
+    let cut = within_ip(plain(1, 100, 0x10, &[]));
+    let mut table = table_for(&rt, alloc, 3);
+    put(
+        &rt,
+        alloc,
+        &mut table,
+        0,
+        &plain(0, 0, 0x10, &payload),
+        &payload,
+    );
+    put(&rt, alloc, &mut table, 1, &cut, &[]);
+    put(
+        &rt,
+        alloc,
+        &mut table,
+        2,
+        &plain(1, 100, 0x10, &payload),
+        &payload,
+    );
+    let rows = [(0, 2, 100, 0), (1, 1, 0, 0)];
+    assert_eq!(rt; spent(&rt, finished(&rt, alloc, table), &rows), 9);
+}
+
+/// Two flows in turn, and a pure ACK of the first, which ends its run and joins none; a packet behind it opens the next run.
+#[test]
+fn two_flows_and_an_ack(rt: HostRuntime) {
+    let alloc = rt.alloc();
+    let payload = [9; 100];
+    let mut table = table_for(&rt, alloc, 6);
+    let heads = [
+        plain(0, 0, 0x10, &payload),
+        in_flow(plain(0, 0, 0x10, &payload), 1),
+        plain(1, 100, 0x10, &payload),
+        plain(2, 200, 0x10, &[]),
+        in_flow(plain(1, 100, 0x18, &payload), 1),
+        plain(3, 200, 0x10, &payload),
+    ];
+    for i in 0..6 {
+        let own: &[u8] = if i == 3 { &[] } else { &payload };
+        put(&rt, alloc, &mut table, i as u32, &heads[i], own);
+    }
+    assert!(rt; !table.may_receive(6));
+    assert_eq!(rt; table.count(), 18);
+    let items = finished(&rt, alloc, table);
+    let rows = [(0, 2, 100, 0), (1, 2, 100, 0), (3, 1, 0, 0), (5, 1, 0, 0)];
+    assert_eq!(rt; spent(&rt, items, &rows), 18);
+}
+
+// So many flows in turn, so many packets of each: an item for each flow, in the order of the first packets.
+fn flows_in_turn(rt: &impl Abort, alloc: Global, flows: u16, turns: u16)
+    requires few { (flows ≤ 4096) × (turns ≤ 16) }
+{
+    let all = flows as u32 * turns as u32;
+    let mut table = table_for(rt, alloc, all);
+    for turn in 0..turns {
+        for flow in 0..flows {
+            let head = in_flow(plain(turn, turn as u32 * 4, 0x10, &[7; 4]), flow);
+            let number = turn as u32 * flows as u32 + flow as u32;
+            put(rt, alloc, &mut table, number, &head, &[7; 4]);
+        }
+    }
+    assert!(rt; !table.may_receive(all));
+    let mut items = finished(rt, alloc, table);
+    assert_eq!(rt; items.len(), flows as usize);
+    let mut blocks: usize = 0;
+    while let Some(item) = items.pop() {
+        assert_eq!(rt; (item.number as usize, item.n), (items.len(), turns));
+        blocks = blocks.wrapping_add(home(rt, item));
+    }
+    items.destroy_empty();
+    assert_eq!(rt; blocks, (all as usize).wrapping_mul(3));
+}
+
+/// 2,048 flows in turn, two packets of each, and 4,096 packets of as many flows.
+#[test]
+fn many_flows_in_turn(rt: HostRuntime) {
+    flows_in_turn(&rt, rt.alloc(), 2048, 2);
+    flows_in_turn(&rt, rt.alloc(), 4096, 1);
+}
+
+// Two packets, of which the second has a payload that makes 0 the value of its TCP sum, and this in its place.
+fn summed(rt: &impl Abort, alloc: Global, sum: u16, rows: &[Said]) {
+    let payload = [9; 100];
+    let mut other = payload;
+    other[..2].copy_from_slice(&[0, 0]);
+    let mut next = plain(1, 100, 0x10, &other);
+    other[..2].copy_from_slice(&next[50..52]);
+    put16(&mut next, 50, sum);
+    let mut table = table_for(rt, alloc, 2);
+    put(
+        rt,
+        alloc,
+        &mut table,
+        0,
+        &plain(0, 0, 0x10, &payload),
+        &payload,
+    );
+    put(rt, alloc, &mut table, 1, &next, &other);
+    let items = finished(rt, alloc, table);
+    assert_eq!(rt; spent(rt, items, rows), 6);
+}
+
+/// A packet whose TCP sum is ffff where 0 is the value is alone: no frame that is put together has such a sum.
+#[test]
+fn a_sum_of_ffff(rt: HostRuntime) {
+    summed(&rt, rt.alloc(), 0, &[(0, 2, 100, 0)]);
+    summed(&rt, rt.alloc(), 0xffff, &[(0, 1, 0, 0), (1, 1, 0, 0)]);
+}
+
+// The next round of the table: two packets of a run and one that is alone. The memory of their outcomes serves the one after.
+fn serve(rt: &impl Abort, alloc: Global, table: &mut RoundTable)
+    requires none { table.old.runs ≡ [] }
+    ensures none { table.new.runs ≡ [] }
+{
+    started(rt, table, 3);
+    put(rt, alloc, table, 0, &plain(0, 0, 0x10, &[7; 4]), &[7; 4]);
+    put(rt, alloc, table, 1, &plain(1, 4, 0x10, &[7; 4]), &[7; 4]);
+    put(rt, alloc, table, 2, &plain(0, 0, 0x10, &[7; 5]), &[7; 5]);
+    let mut items = Vec::new(alloc);
+    finished_into(rt, table, &mut items);
+    assert_eq!(rt; items.len(), 2);
+    let mut blocks: usize = 0;
+    while let Some(item) = items.pop() {
+        blocks = blocks.wrapping_add(brought(rt, table, item));
+    }
+    items.destroy_empty();
+    assert_eq!(rt; blocks, 9);
+}
+
+// The table's next round. Where one call is refused memory, the next one isn't.
+fn started(rt: &impl Abort, table: &mut RoundTable, limit: u32)
+    requires none { table.old.runs ≡ [] }
+{
+    if table.start(limit).is_err() {
+        table.start(limit).expect(rt, "room");
+    }
+}
+
+// The table's items. Where they are refused, nothing has changed.
+fn finished_into(rt: &impl Abort, table: &mut RoundTable, items: &mut Vec<Item>)
+    requires empty { items.old.items ≡ [] }
+    ensures none { table.new.runs ≡ [] }
+{
+    let before = table.count();
+    match table.finish_into(items) {
+        Ok(()) => {}
+        Err(_) => {
+            assert_eq!(rt; table.count(), before);
+            table.finish_into(items).expect(rt, "items");
+        }
+    }
+}
+
+// How many blocks are home once an item is spent. The table keeps the memory of its outcomes.
+fn brought(rt: &impl Abort, table: &mut RoundTable, item: Item) -> usize
+    ensures same { table.new.runs ≡ table.old.runs }
+{
+    let (skb, mut outcomes) = item.into_parts();
+    reserve(rt, &mut outcomes, skb.count());
+    skb.release(&mut outcomes);
+    let blocks = emptied(&mut outcomes);
+    table.keep(outcomes);
+    blocks
+}
+
+/// One table serves three rounds.
+#[test]
+fn a_table_lives_on(rt: HostRuntime) {
+    let alloc = rt.alloc();
+    let mut table = table_for(&rt, alloc, 2);
+    serve(&rt, alloc, &mut table);
+    serve(&rt, alloc, &mut table);
+    serve(&rt, alloc, &mut table);
+    table.discard();
+}
+
+/// 70 packets of 1,000 bytes: 65 have room in one frame's length field, and five follow.
+#[test]
+fn a_frame_is_full(rt: HostRuntime) {
+    let alloc = rt.alloc();
+    let payload = [0xff; 1000];
+    let mut heads = [[0u8; 54]; 70];
+    for i in 0..70 {
+        heads[i] = plain(i as u16, i as u32 * 1000, 0x10, &payload);
+    }
+    let rows = [(0, 65, 1000, 0), (65, 5, 1000, 0)];
+    come_to(&rt, alloc, &heads, &payload, &rows);
+}
+
+/// A table that is given up gives all blocks back.
+#[test]
+fn given_back(rt: HostRuntime) {
+    let alloc = rt.alloc();
+    let mut table = table_for(&rt, alloc, 2);
+    for i in 0..2u32 {
+        let head = plain(i as u16, i * 4, 0x10, &[1; 4]);
+        put(&rt, alloc, &mut table, i, &head, &[1; 4]);
+    }
+    assert_eq!(rt; given_up(&rt, alloc, table), 6);
+}

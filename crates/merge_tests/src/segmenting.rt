@@ -1,0 +1,251 @@
+//! Records of each kind, cut: by the bytes of the segments, which come from outside, and by what comes home.
+ghost use Rattle.std.specs.Prelude.{◌≤◌};
+
+mod cutting;
+mod frames;
+
+use crate::home::home_of;
+use cutting::{Given, buffer, counted, cut, digest, header, merged};
+use frags::{Outcomes, PieceBuilder};
+use frames::{
+    NESTED_500, PLAIN_2194, PLAIN_65495, PLAIN_SEGMENTS, TAGGED_500, TUNNEL, TUNNEL_SEGMENTS,
+};
+use pcap_io::OffHead;
+use raw_block::{FULL, Released, Sole};
+use skb::{Returned, Skb};
+use std::alloc::Global;
+use std::process::Abort;
+use std::test::Fail;
+use worked_captures::MERGED;
+
+// Whether all frames were given, and so many blocks came home.
+fn is_whole(given: &Given, frames: usize, blocks: usize) -> bool {
+    given.is_done && given.weights.len() == frames && given.blocks == blocks
+}
+
+#[test]
+fn worked_records_are_cut(rt: HostRuntime) -> Result<(), Fail> {
+    let alloc = rt.alloc();
+    let plain = buffer(&rt, alloc, &MERGED, 60, 1);
+    let given = cut(&rt, alloc, &merged(2, 4, 0), plain, 72).expect(&rt, "lawful");
+    assert_eq!(rt; given.bytes.as_slice(), PLAIN_SEGMENTS.as_slice());
+    assert!(rt; is_whole(&given, 2, 3));
+    let tunnel = buffer(&rt, alloc, &TUNNEL, 109, 1);
+    let given = cut(&rt, alloc, &merged(2, 3, 1), tunnel, 121).expect(&rt, "lawful");
+    assert_eq!(rt; given.bytes.as_slice(), TUNNEL_SEGMENTS.as_slice());
+    assert!(rt; is_whole(&given, 2, 3));
+    Ok(())
+}
+
+// Kind, n, m, modes, lane; how many frames are given, how many bytes in all, and the bytes 18 and 19 and 38 to 41 of the second: its
+// identification and sequence number.
+const TAKEN: [(u8, u16, u16, u8, u8, usize, usize, [u8; 6]); 6] = [
+    (1, 2, 4, 0, 63, 2, 114, [0, 0x65, 0, 0, 3, 0xec]),
+    (1, 2, 5, 0, 0, 2, 114, [0, 0x65, 0, 0, 3, 0xed]),
+    (1, 2, 3, 0, 0, 2, 114, [0, 0x65, 0, 0, 3, 0xeb]),
+    (1, 2, 4, 1, 0, 2, 114, [0, 0x64, 0, 0, 3, 0xec]),
+    (0, 1, 0, 0, 63, 1, 60, [0; 6]),
+    (2, 0, 0, 0, 7, 0, 0, [0; 6]),
+];
+
+#[test]
+fn each_kind_is_cut(rt: HostRuntime) -> Result<(), Fail> {
+    let alloc = rt.alloc();
+    for (kind, n, m, modes, lane, frames, size, second) in TAKEN {
+        let mut head = header(kind, n, m, modes);
+        head.lane = lane;
+        let skb = buffer(&rt, alloc, &MERGED, 60, 1);
+        let given = cut(&rt, alloc, &head, skb, 72).expect(&rt, "lawful");
+        assert!(rt; is_whole(&given, frames, 1 + frames));
+        let bytes = given.bytes.as_slice();
+        assert_eq!(rt; bytes.len(), size);
+        if frames == 1 {
+            assert_eq!(rt; bytes, MERGED.as_slice());
+        }
+        if frames == 2 && bytes.len() == 114 && m <= 5 {
+            let at = 54 + usize::from(m);
+            assert_eq!(rt; &bytes[at + 18..at + 20], &second[..2]);
+            assert_eq!(rt; &bytes[at + 38..at + 42], &second[2..]);
+        }
+    }
+    Ok(())
+}
+
+// Version, kind, n, m, modes, lane, original length, and a place of the frame where these bits are turned.
+const REFUSED: [(u8, u8, u16, u16, u8, u8, u32, usize, u8); 19] = [
+    (0, 1, 2, 4, 0, 0, 72, 0, 0),
+    (2, 1, 2, 4, 0, 0, 72, 0, 0),
+    (1, 3, 2, 4, 0, 0, 72, 0, 0),
+    (1, 1, 2, 4, 0, 64, 72, 0, 0),
+    (1, 1, 1, 4, 0, 0, 72, 0, 0),
+    (1, 1, 3, 4, 0, 0, 72, 0, 0),
+    (1, 1, 2, 0, 0, 0, 72, 0, 0),
+    (1, 1, 2, 2, 0, 0, 72, 0, 0),
+    (1, 1, 2, 6, 0, 0, 72, 0, 0),
+    (1, 1, 2, 4, 2, 0, 72, 0, 0),
+    (1, 1, 2, 4, 4, 0, 72, 0, 0),
+    (1, 1, 2, 4, 0, 0, 71, 0, 0),
+    (1, 1, 2, 4, 0, 0, 72, 17, 1),
+    (1, 1, 2, 4, 0, 0, 72, 51, 1),
+    (1, 1, 2, 4, 0, 0, 72, 59, 1),
+    (1, 1, 2, 4, 0, 0, 72, 12, 1),
+    (1, 0, 1, 0, 0, 64, 72, 0, 0),
+    (1, 0, 2, 0, 0, 0, 72, 0, 0),
+    (1, 2, 0, 0, 0, 8, 72, 0, 0),
+];
+
+#[test]
+fn hostile_records_are_refused(rt: HostRuntime) -> Result<(), Fail> {
+    let alloc = rt.alloc();
+    for (version, kind, n, m, modes, lane, original, place, bits) in REFUSED {
+        let head = OffHead {
+            version,
+            kind,
+            n,
+            m,
+            modes,
+            lane,
+            number: 0,
+        };
+        let mut frame = MERGED;
+        if place < 60 {
+            frame[place] ^= bits;
+        }
+        let skb = buffer(&rt, alloc, &frame, 60, 1);
+        assert!(rt; original >= 12);
+        assert!(rt; cut(&rt, alloc, &head, skb, original).is_none());
+    }
+    Ok(())
+}
+
+// m, n, how many bytes the head has and each piece, the blocks, and the digest of all frames. From segment 65 on sums aren't kept.
+type Row = (u16, u16, usize, usize, usize, u32);
+
+const TAGGED: [Row; 3] = [
+    (7, 72, 200, 33, 86, 2_051_142_430),
+    (250, 2, 622, 1, 3, 355_341_419),
+    (499, 2, 300, 200, 5, 2_352_762_784),
+];
+
+const NESTED: [Row; 3] = [
+    (7, 72, 200, 33, 89, 2_783_449_920),
+    (100, 5, 200, 200, 9, 3_270_548_043),
+    (201, 3, 700, 1, 4, 4_206_346_562),
+];
+
+fn check_rows<A: Abort>(rt: &A, alloc: Global, frame: &[u8], original: u32, rows: [Row; 3]) {
+    for (m, n, of_head, of_piece, blocks, sum) in rows {
+        assert!(rt; of_head <= 1984 && 0 < of_piece && of_piece <= 1984);
+        let skb = buffer(rt, alloc, frame, of_head, of_piece);
+        let given = cut(rt, alloc, &merged(n, m, 0), skb, original).expect(rt, "lawful");
+        assert!(rt; is_whole(&given, usize::from(n), blocks));
+        assert_eq!(rt; digest(given.bytes.as_slice()), sum);
+    }
+}
+
+#[test]
+fn frames_in_pieces_are_cut(rt: HostRuntime) -> Result<(), Fail> {
+    let alloc = rt.alloc();
+    let tagged = counted(&rt, alloc, &TAGGED_500, 500);
+    check_rows(&rt, alloc, tagged.as_slice(), 634, TAGGED);
+    let nested = counted(&rt, alloc, &NESTED_500, 500);
+    check_rows(&rt, alloc, nested.as_slice(), 712, NESTED);
+    Ok(())
+}
+
+// The first 200 bytes, or all of fewer, are brought into a fresh head.
+fn pull_headers<A: Abort>(rt: &A, alloc: Global, skb: &mut Skb, out: &mut Outcomes) {
+    let spare = Sole::new(alloc).expect(rt, "no memory");
+    assert!(rt; skb.count() <= out.spare());
+    match skb.pull_up(skb.len().min(200), spare, out) {
+        Ok(Returned::Gave(Released::Left(receipt))) => out.keep_receipt(receipt),
+        Ok(Returned::Gave(Released::Last(block))) => out.keep_sole(block),
+        Ok(Returned::Unused(spare)) => out.keep_sole(spare),
+        Err((_, spare)) => out.keep_sole(spare),
+    }
+}
+
+#[test]
+fn frames_whose_headers_lie_in_pieces_are_cut_once_pulled_up(rt: HostRuntime) -> Result<(), Fail> {
+    let alloc = rt.alloc();
+    let mut out = Outcomes::new(alloc);
+    assert!(rt; out.reserve(40).is_ok());
+    let mut plain = buffer(&rt, alloc, &MERGED, 0, 7);
+    pull_headers(&rt, alloc, &mut plain, &mut out);
+    let given = cut(&rt, alloc, &merged(2, 4, 0), plain, 72).expect(&rt, "lawful");
+    assert_eq!(rt; given.bytes.as_slice(), PLAIN_SEGMENTS.as_slice());
+    assert!(rt; is_whole(&given, 2, 3));
+    let frame = counted(&rt, alloc, &NESTED_500, 500);
+    let mut nested = buffer(&rt, alloc, frame.as_slice(), 20, 33);
+    pull_headers(&rt, alloc, &mut nested, &mut out);
+    let given = cut(&rt, alloc, &merged(5, 100, 0), nested, 712).expect(&rt, "lawful");
+    assert_eq!(rt; digest(given.bytes.as_slice()), 3_270_548_043);
+    assert!(rt; is_whole(&given, 5, 22));
+    assert_eq!(rt; home_of(out), 16);
+    Ok(())
+}
+
+// This frame: 200 bytes in the head, and 2,048 in a part that weighs no more, as little as `start` takes.
+fn thin<A: Abort>(rt: &A, alloc: Global, frame: &[u8], out: &mut Outcomes) -> Skb
+    requires places { 1 ≤ out.old.spare }
+{
+    assert!(rt; frame.len() == 2248);
+    let (first, behind) = frame.split_at(200);
+    let mut head = Sole::new(alloc).expect(rt, "no memory");
+    head.range_mut(64, 264).copy_from_slice(first);
+    let mut block = Sole::new(alloc).expect(rt, "no memory");
+    block.bytes_mut().copy_from_slice(behind);
+    let mut heavy = block.share();
+    assert!(rt; heavy.weight() > 2048);
+    let light = heavy.split(2048);
+    out.give_back(heavy);
+    let mut pieces = PieceBuilder::with_room(alloc, 1).expect(rt, "no memory");
+    assert!(rt; pieces.room() > 0);
+    pieces.push(light, 0, 2048);
+    Skb::new(head, 64, 264, pieces.finish())
+}
+
+// The weight of each of the 146 bytes of payload that lie in the head, as they are cut off.
+fn is_of_head(weights: &[u64]) -> bool {
+    let mut left = FULL - FULL / 4096;
+    for (i, weight) in weights.iter().enumerate() {
+        let gift = if i == 145 { left } else { left / 4096 };
+        if *weight != gift {
+            return false;
+        }
+        left -= gift;
+    }
+    true
+}
+
+#[test]
+fn a_part_no_heavier_than_its_bytes_is_cut_everywhere(rt: HostRuntime) -> Result<(), Fail> {
+    let alloc = rt.alloc();
+    let mut out = Outcomes::new(alloc);
+    assert!(rt; out.reserve(1).is_ok());
+    let frame = counted(&rt, alloc, &PLAIN_2194, 2194);
+    let skb = thin(&rt, alloc, frame.as_slice(), &mut out);
+    let given = cut(&rt, alloc, &merged(2194, 1, 0), skb, 2260).expect(&rt, "lawful");
+    assert_eq!(rt; home_of(out), 0);
+    assert!(rt; is_whole(&given, 2194, 2196));
+    assert_eq!(rt; digest(given.bytes.as_slice()), 3_625_064_795);
+    let weights = given.weights.as_slice();
+    assert!(rt; weights.len() == 2194);
+    let (of_head, of_part) = weights.split_at(146);
+    assert!(rt; is_of_head(of_head));
+    for weight in of_part {
+        assert_eq!(rt; *weight, 1);
+    }
+    Ok(())
+}
+
+#[test]
+fn a_frame_as_long_as_may_be_is_cut_byte_by_byte(rt: HostRuntime) -> Result<(), Fail> {
+    let alloc = rt.alloc();
+    let frame = counted(&rt, alloc, &PLAIN_65495, 65_495);
+    let skb = buffer(&rt, alloc, frame.as_slice(), 1984, 1984);
+    let given = cut(&rt, alloc, &merged(65_495, 1, 1), skb, 65_561).expect(&rt, "lawful");
+    assert!(rt; is_whole(&given, 65_495, 65_529));
+    assert_eq!(rt; digest(given.bytes.as_slice()), 1_200_039_238);
+    Ok(())
+}

@@ -1,0 +1,132 @@
+//! What taps read of packets of many lengths, the gate, and the blocks that come home.
+use super::packets::{byte_of, task_over};
+use crate::home::home_of;
+use off_io::{Gate, NoGate, Who};
+use std::process::Abort;
+use std::sync::atomic::{AtomicU32, Ordering};
+use std::test::Fail;
+use taps::{TapResult, TapText, TapTexts};
+
+const LENGTHS: [usize; 7] = [0, 1, 63, 64, 65, 128, 262_144];
+
+// Whether a text is the window of this packet from `from` on.
+fn is_window(text: &TapText<'_>, number: usize, from: usize) -> bool {
+    let mut place = from;
+    for byte in text.bytes {
+        if *byte != byte_of(place) {
+            return false;
+        }
+        place = place.wrapping_add(1);
+    }
+    text.number as usize == number && (text.sec, text.frac, text.original) == (1000, 7, 70_000)
+}
+
+// Whether these are the windows of the packets, by the rule as it is told: from `tap * snap` on, at most `snap`, never empty.
+fn are_windows(texts: &TapTexts, tap: usize, snap: usize) -> bool {
+    let mut next = 0usize;
+    for (number, len) in LENGTHS.iter().enumerate() {
+        let from = tap.wrapping_mul(snap);
+        if from >= *len {
+            continue;
+        }
+        if next >= texts.len() {
+            return false;
+        }
+        let text = texts.get(next);
+        if text.bytes.len() != (*len - from).min(snap) || !is_window(&text, number, from) {
+            return false;
+        }
+        next = next.wrapping_add(1);
+    }
+    next == texts.len()
+}
+
+// Blocks of the packets, where the head takes `head` bytes and each piece `piece`.
+fn blocks(head: usize, piece: usize) -> usize {
+    let mut blocks = 0usize;
+    for len in LENGTHS {
+        let behind = len - len.min(head);
+        if 0 < piece {
+            blocks = blocks.wrapping_add(behind.div_ceil(piece)).wrapping_add(1);
+        }
+    }
+    blocks
+}
+
+#[test]
+fn windows_are_those_of_the_packets(rt: HostRuntime) -> Result<(), Fail> {
+    for (tap, snap) in [
+        (0, 1),
+        (7, 1),
+        (0, 64),
+        (1, 64),
+        (2, 64),
+        (7, 64),
+        (0, 2048),
+        (1, 2048),
+        (7, 2048),
+    ] {
+        for (head, piece) in [(1984, 2000), (0, 1999), (63, 1000)] {
+            let task = task_over(&rt, rt.alloc(), (tap, snap), (head, piece), &LENGTHS);
+            let TapResult { texts, outcomes } = task.run(&NoGate);
+            let home = home_of(outcomes);
+            let texts = texts?;
+            assert!(rt;
+                are_windows(&texts, tap as usize, snap as usize),
+                "tap {tap}, snap {snap}, head {head}"
+            );
+            assert_eq!(rt; home, blocks(head, piece));
+            assert_eq!(rt; texts.is_empty(), texts.len() == 0);
+        }
+    }
+    Ok(())
+}
+
+// The example of the crate's face.
+#[test]
+fn example(rt: HostRuntime) -> Result<(), Fail> {
+    let task = task_over(&rt, rt.alloc(), (0, 64), (100, 100), &[60, 300]);
+    let mut read = 0usize;
+    let TapResult { texts, outcomes } = task.run(&NoGate);
+    let _ = home_of(outcomes);
+    let texts = texts?;
+    for i in 0..texts.len() {
+        read = read.wrapping_add(texts.get(i).bytes.len());
+    }
+    assert_eq!(rt; read, 124);
+    Ok(())
+}
+
+// Where the task is told to have been, a digit a pass: 1 for point 0, 2 for point 1, and 9 for another task.
+#[derive(Drop)]
+struct Passes {
+    seen: AtomicU32,
+}
+
+impl Gate for Passes {
+    fn pass(&self, who: Who, point: u32) {
+        let digit = if who == Who::Tap(3) {
+            point.wrapping_add(1)
+        } else {
+            9
+        };
+        let before = self.seen.load(Ordering::SeqCst);
+        self.seen.store(
+            before.wrapping_mul(10).wrapping_add(digit),
+            Ordering::SeqCst,
+        );
+    }
+}
+
+#[test]
+fn the_gate_is_passed_before_and_after(rt: HostRuntime) -> Result<(), Fail> {
+    let gate = Passes {
+        seen: AtomicU32::new(0),
+    };
+    let task = task_over(&rt, rt.alloc(), (3, 64), (100, 100), &[300]);
+    let TapResult { texts, outcomes } = task.run(&gate);
+    let _ = home_of(outcomes);
+    assert_eq!(rt; texts?.len(), 1);
+    assert_eq!(rt; gate.seen.load(Ordering::SeqCst), 12);
+    Ok(())
+}

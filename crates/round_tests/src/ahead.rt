@@ -1,0 +1,346 @@
+//! Rounds that are driven one by one, each next one read beside the work.
+ghost use Rattle.std.specs.Prelude.{◌≡◌, ◌+◌, ◌≤◌, IfOk};
+ghost use Rattle.pcap_io.specs.declared.heads.Link.TheVariants.{Ethernet};
+ghost use Rattle.pcap_io.specs.Places.{IsReady};
+ghost use Rattle.pcap_io.specs.Readers.{place_of};
+
+use crate::lanes::{BY_QUEUE, WITH_WINDOWS};
+use crate::merging::WRITTEN;
+use off_io::{Failed, Feed, Gate, Meeting, MemSink, MemSource, NoGate, Source, Who};
+use pcap_io::{CaptureReader, FileHead, Link};
+use rounds::{MergeEnd, ReadAhead, RoundEnd, RoundRead, Rounds, Step};
+use std::alloc::Global;
+use std::test::Fail;
+use std::thread::Threads;
+use worked_captures::{TWO_FLOWS, TWO_RECORDS};
+
+// How a capture is merged.
+#[derive(Clone, Copy, Debug)]
+struct How {
+    blocks: u32,
+    budget: u32,
+    queues: u32,
+    taps: u32,
+}
+
+// A full round is worked and written while the next one is read, and where that pauses it is read to its end. Any other is handed on.
+fn turn<R: Threads + Sync, S: Source + Send, G: Gate + Sync>(
+    rt: &R,
+    rounds: &mut Rounds,
+    read: RoundRead,
+    reader: &mut CaptureReader<'_, S>,
+    file: &FileHead,
+    sink: &mut MemSink,
+    gate: &G,
+    pauses: &mut u32,
+) -> Result<RoundRead, Fail>
+    requires ready { read.end ≡ RoundEnd.Full → IsReady (place_of reader.old) × ((place_of reader.old).link ≡ Ethernet) }
+    requires out { rounds.old.home + read.round.blocks ≡ rounds.old.blocks }
+    ensures ready { IfOk result (λ next. next.end ≡ RoundEnd.Full → IsReady (place_of reader.new) × ((place_of reader.new).link ≡ Ethernet)) }
+    ensures out { IfOk result (λ next. rounds.new.home + next.round.blocks ≡ rounds.new.blocks) }
+{
+    let RoundRead { round, end } = read;
+    match end {
+        RoundEnd::Full => {}
+        _ => return Ok(RoundRead { round, end }),
+    }
+    let (worked, next) = rounds.work_and_read(rt, round, reader, gate);
+    let worked = match worked {
+        Ok(worked) => worked,
+        Err(_) => {
+            give_up(next);
+            return Err(Fail::from("there is memory"));
+        }
+    };
+    let written = rounds.write_round(&worked, file, sink);
+    rounds.end_round(worked);
+    if written.is_err() {
+        give_up(next);
+        return Err(Fail::from("all is written"));
+    }
+    match next {
+        ReadAhead::Read(read) => Ok(read),
+        ReadAhead::Paused(round) => {
+            *pauses = pauses.wrapping_add(1);
+            Ok(rounds.read_rest(round, reader))
+        }
+    }
+}
+
+fn two_turns<R: Threads + Sync, S: Source + Send, G: Gate + Sync>(
+    rt: &R,
+    rounds: &mut Rounds,
+    read: RoundRead,
+    reader: &mut CaptureReader<'_, S>,
+    file: &FileHead,
+    sink: &mut MemSink,
+    gate: &G,
+    pauses: &mut u32,
+) -> Result<RoundRead, Fail>
+    requires ready { read.end ≡ RoundEnd.Full → IsReady (place_of reader.old) × ((place_of reader.old).link ≡ Ethernet) }
+    requires out { rounds.old.home + read.round.blocks ≡ rounds.old.blocks }
+    ensures ready { IfOk result (λ next. next.end ≡ RoundEnd.Full → IsReady (place_of reader.new) × ((place_of reader.new).link ≡ Ethernet)) }
+    ensures out { IfOk result (λ next. rounds.new.home + next.round.blocks ≡ rounds.new.blocks) }
+{
+    let next = turn(rt, rounds, read, reader, file, sink, gate, pauses)?;
+    turn(rt, rounds, next, reader, file, sink, gate, pauses)
+}
+
+fn give_up(next: ReadAhead) {
+    match next {
+        ReadAhead::Read(RoundRead { round, end: _ }) => round.discard(),
+        ReadAhead::Paused(round) => round.discard(),
+    }
+}
+
+// Up to five rounds of a capture: how merging ended, what was written, how many reads paused, and the blocks that are home.
+fn driven<R: Threads + Sync, S: Source + Send + Drop, G: Gate + Sync>(
+    rt: &R,
+    alloc: Global,
+    source: S,
+    how: How,
+    gate: &G,
+) -> Result<(Step, Vec<u8>, u32, u32), Fail>
+    requires blocks { (1 ≤ how.blocks) × (how.blocks ≤ 65536) }
+    requires budget { (1 ≤ how.budget) × (how.budget ≤ 4096) }
+    requires queues { (1 ≤ how.queues) × (how.queues ≤ 64) }
+    requires taps { how.taps ≤ 8 }
+{
+    let mut feed = Feed { inner: source };
+    let mut reader = match CaptureReader::start(&mut feed, Link::Ethernet) {
+        Ok(reader) => reader,
+        Err(_) => return Err(Fail::from("the file header is lawful")),
+    };
+    let file = reader.file();
+    let mut sink = MemSink::new(alloc, 64, Vec::new(alloc));
+    let mut rounds = Rounds::make(
+        alloc, how.blocks, how.budget, how.queues, how.taps, 1, false,
+    )?;
+    let mut pauses = 0;
+    let first = rounds.read_round(&mut reader);
+    let third = two_turns(
+        rt,
+        &mut rounds,
+        first,
+        &mut reader,
+        &file,
+        &mut sink,
+        gate,
+        &mut pauses,
+    )?;
+    let last = two_turns(
+        rt,
+        &mut rounds,
+        third,
+        &mut reader,
+        &file,
+        &mut sink,
+        gate,
+        &mut pauses,
+    )?;
+    let step = rounds.put_read(rt, last, &file, &mut sink, gate, 4);
+    let written = sink.bytes().to_vec(alloc)?;
+    Ok((step, written, pauses, rounds.home()))
+}
+
+// The same of these bytes, from a source that fails at these of its calls.
+fn of_bytes<R: Threads + Sync>(
+    rt: &R,
+    alloc: Global,
+    bytes: &[u8],
+    fails: Vec<u64>,
+    how: How,
+) -> Result<(Step, Vec<u8>, u32, u32), Fail>
+    requires blocks { (1 ≤ how.blocks) × (how.blocks ≤ 65536) }
+    requires budget { (1 ≤ how.budget) × (how.budget ≤ 4096) }
+    requires queues { (1 ≤ how.queues) × (how.queues ≤ 64) }
+    requires taps { how.taps ≤ 8 }
+{
+    let source = MemSource::new(bytes.to_vec(alloc)?, 4096, fails);
+    driven(rt, alloc, source, how, &NoGate)
+}
+
+const BY_FLOW: How = How {
+    blocks: 24,
+    budget: 4,
+    queues: 2,
+    taps: 0,
+};
+
+const EACH_ALONE: How = How {
+    blocks: 3,
+    budget: 1,
+    queues: 1,
+    taps: 0,
+};
+
+const DONE: Step = Step::Ends(MergeEnd::Done);
+
+// Over as many blocks as two rounds need, over as many as one needs, and over so many that no read pauses.
+#[test]
+fn a_round_beside_its_rest_is_written_as_ever(rt: HostRuntime) -> Result<(), Fail> {
+    let alloc = rt.alloc();
+    let none = Vec::new(alloc);
+    let (step, written, pauses, home) = of_bytes(&rt, alloc, &TWO_FLOWS, none, BY_FLOW)?;
+    assert_eq!(rt; (step, pauses, home), (DONE, 1, 24));
+    assert_eq!(rt; written.as_slice(), BY_QUEUE.as_slice());
+    let how = How {
+        blocks: 200,
+        ..BY_FLOW
+    };
+    let none = Vec::new(alloc);
+    let (step, written, pauses, home) = of_bytes(&rt, alloc, &TWO_FLOWS, none, how)?;
+    assert_eq!(rt; (step, pauses, home), (DONE, 0, 200));
+    assert_eq!(rt; written.as_slice(), BY_QUEUE.as_slice());
+    Ok(())
+}
+
+// Each read pauses before its first record.
+#[test]
+fn blocks_of_one_record_suffice(rt: HostRuntime) -> Result<(), Fail> {
+    let alloc = rt.alloc();
+    let none = Vec::new(alloc);
+    let (step, written, pauses, home) = of_bytes(&rt, alloc, &TWO_RECORDS, none, EACH_ALONE)?;
+    assert_eq!(rt; (step, pauses, home), (DONE, 2, 3));
+    assert_eq!(rt; written.as_slice(), WRITTEN.as_slice());
+    Ok(())
+}
+
+// The windows of two taps. And of four records in rounds of two the second round pauses behind its first record: before it 131 blocks are home.
+#[test]
+fn windows_are_written_as_ever(rt: HostRuntime) -> Result<(), Fail> {
+    let alloc = rt.alloc();
+    let how = How {
+        blocks: 137,
+        budget: 2,
+        queues: 1,
+        taps: 2,
+    };
+    let none = Vec::new(alloc);
+    let (step, written, pauses, home) = of_bytes(&rt, alloc, &TWO_RECORDS, none, how)?;
+    assert_eq!(rt; (step, pauses, home), (DONE, 0, 137));
+    assert_eq!(rt; written.as_slice(), WITH_WINDOWS.as_slice());
+    let how = How {
+        blocks: 137,
+        ..BY_FLOW
+    };
+    let two = How { budget: 2, ..how };
+    let none = Vec::new(alloc);
+    let (step, _, pauses, home) = of_bytes(&rt, alloc, &TWO_FLOWS, none, two)?;
+    assert_eq!(rt; (step, pauses, home), (DONE, 1, 137));
+    Ok(())
+}
+
+// The source fails in the read beside, and in the rest of a round that paused.
+#[test]
+fn ends_of_a_read_beside(rt: HostRuntime) -> Result<(), Fail> {
+    let alloc = rt.alloc();
+    let many = How {
+        blocks: 200,
+        ..EACH_ALONE
+    };
+    let fails = vec![in alloc; 4]?;
+    let (step, written, pauses, home) = of_bytes(&rt, alloc, &TWO_RECORDS, fails, many)?;
+    assert_eq!(rt;
+        (step, pauses, home),
+        (Step::Ends(MergeEnd::ReadFault), 0, 200)
+    );
+    assert_eq!(rt; written.as_slice(), &WRITTEN[..29]);
+    let fails = vec![in alloc; 4]?;
+    let (step, written, pauses, home) = of_bytes(&rt, alloc, &TWO_RECORDS, fails, EACH_ALONE)?;
+    assert_eq!(rt;
+        (step, pauses, home),
+        (Step::Ends(MergeEnd::ReadFault), 1, 3)
+    );
+    assert_eq!(rt; written.as_slice(), &WRITTEN[..29]);
+    Ok(())
+}
+
+// A capture that is cut off within its last record.
+#[test]
+fn a_rest_that_is_refused(rt: HostRuntime) -> Result<(), Fail> {
+    let alloc = rt.alloc();
+    let none = Vec::new(alloc);
+    let (step, written, pauses, home) = of_bytes(&rt, alloc, &TWO_RECORDS[..58], none, EACH_ALONE)?;
+    assert!(rt; matches!(step, Step::Ends(MergeEnd::Malformed(_))));
+    assert_eq!(rt; (pauses, home), (1, 3));
+    assert_eq!(rt; written.as_slice(), &WRITTEN[..29]);
+    Ok(())
+}
+
+// Whether a round exceeds the blocks is told by all of them, and not by those that the round beside it has: the last record needs five.
+#[test]
+fn lent_blocks_count(rt: HostRuntime) -> Result<(), Fail> {
+    let alloc = rt.alloc();
+    let mut bytes = TWO_RECORDS.to_vec(alloc)?;
+    bytes.extend_from_slice(&TWO_RECORDS[24..32])?;
+    bytes.extend_from_slice(&5000u32.to_le_bytes())?;
+    bytes.extend_from_slice(&5000u32.to_le_bytes())?;
+    bytes.extend_from_slice(&[0; 5000])?;
+    let enough = How {
+        blocks: 5,
+        ..EACH_ALONE
+    };
+    let none = Vec::new(alloc);
+    let (step, _, pauses, home) = of_bytes(&rt, alloc, &bytes, none, enough)?;
+    assert_eq!(rt; (step, pauses, home), (DONE, 3, 5));
+    let fewer = How {
+        blocks: 4,
+        ..EACH_ALONE
+    };
+    let none = Vec::new(alloc);
+    let (step, written, pauses, home) = of_bytes(&rt, alloc, &bytes, none, fewer)?;
+    let exceeds = Step::Ends(MergeEnd::PoolEmpty { round: 4, need: 5 });
+    assert_eq!(rt; (step, pauses, home), (exceeds, 2, 4));
+    assert_eq!(rt; written.as_slice(), WRITTEN.as_slice());
+    Ok(())
+}
+
+// The reader's part of the meeting.
+const READER: Who = Who::Tap(0);
+
+// Call 0 gives the file header, and a record takes two: so the fourth read is the first one beside the work.
+#[derive(Drop)]
+struct Met<'a> {
+    source: MemSource,
+    reads: u32,
+    meeting: &'a Meeting,
+}
+
+impl Source for Met<'_> {
+    ghost use Rattle.std.specs.Prelude.{Some};
+
+    ghost left = { λ s. Some s.source.rest };
+
+    ghost faults = { λ s. s.source.faults };
+
+    fn read(&mut self, into: &mut [u8]) -> Result<usize, Failed> {
+        self.reads = self.reads.wrapping_add(1);
+        if self.reads == 4 {
+            self.meeting.pass(READER, 0);
+        }
+        self.source.read(into)
+    }
+}
+
+// Both meet beside the first round; before the second one, and the empty one behind it, the worker finds the reader's sign again. If
+// they took turns, the one that comes first would wait in vain.
+#[test]
+fn reader_and_worker_meet(rt: HostRuntime) -> Result<(), Fail> {
+    let alloc = rt.alloc();
+    let meeting = Meeting::of(Who::Worker(0), READER);
+    let source = Met {
+        source: MemSource::new(TWO_RECORDS.to_vec(alloc)?, 4096, Vec::new(alloc)),
+        reads: 0,
+        meeting: &meeting,
+    };
+    let how = How {
+        blocks: 200,
+        ..EACH_ALONE
+    };
+    let (step, written, _, _) = driven(&rt, alloc, source, how, &meeting)?;
+    assert_eq!(rt; step, DONE);
+    assert_eq!(rt; written.as_slice(), WRITTEN.as_slice());
+    assert_eq!(rt; meeting.met(), 4);
+    Ok(())
+}

@@ -1,0 +1,26 @@
+//! Tests of rounds: the work of their lanes ([`round_work`]), the records that are written ([`round_write`]), rounds that are read,
+//! merged and segmented ([`rounds`]), checked ([`check_rounds`]), and read beside the work ([`round_pipeline`]).
+//!
+//! A crate of their own, since one with tests is proved twice, with them and without.
+#![tactic(auto)]
+
+#[cfg(test)]
+mod ahead;
+#[cfg(test)]
+mod checking;
+#[cfg(test)]
+mod halting;
+#[cfg(test)]
+mod lanes;
+#[cfg(test)]
+mod merging;
+#[cfg(test)]
+mod pipeline;
+#[cfg(test)]
+mod segments;
+#[cfg(test)]
+mod sides;
+#[cfg(test)]
+mod working;
+#[cfg(test)]
+mod writing;

@@ -1,0 +1,182 @@
+//! The packets of two flows in turn, and what comes home of lanes.
+ghost use Rattle.std.specs.Prelude.{◌≡◌, ◌≤◌, false, map};
+ghost use Rattle.ref_core.specs.WeightRule.{full_weight};
+ghost use Rattle.skb.specs.SkbState.{buffer_least, is_sole};
+ghost use Rattle.gro.specs.Held.{packet_of, count_of, counts_of, IsHeld, AreHeld, AreShared, WeighAtLeast};
+ghost use Rattle.round_work.specs.Clones.{weight_after};
+ghost use Rattle.round_work.specs.Packets.{RiseFrom};
+
+use super::frames::IN_TURN;
+use frags::{Outcomes, Pieces};
+use gro::{Item, Packet};
+use raw_block::Sole;
+use round_work::{Lanes, QueueLane, TapLane};
+use skb::Skb;
+use std::alloc::Global;
+use std::collections::VecDeque;
+use std::process::Abort;
+use taps::TapClone;
+
+// A packet whose head is a part of the whole weight.
+fn packet(rt: &impl Abort, alloc: Global, number: u32, frame: &[u8]) -> Packet
+    ensures held { IsHeld result }
+    ensures shared { is_sole result.skb.head ≡ false }
+    ensures whole { full_weight ≤ buffer_least result.skb }
+    ensures weighs { weight_after 1 ≤ buffer_least result.skb }
+    ensures count { count_of result ≡ 3 }
+    ensures number { result.number ≡ number }
+{
+    let block = Sole::new(alloc).expect(rt, "block");
+    let mut skb = Skb::new(block, 64, 64, Pieces::new(alloc));
+    skb.put_tail(frame).expect(rt, "room");
+    skb.share_head();
+    let len = skb.len();
+    assert!(rt; len <= 2000 && skb.head().len() == len && !skb.head_is_sole());
+    assert!(rt; skb.least_weight() == 1 << 62 && skb.count() == 1);
+    Packet {
+        skb,
+        spare1: Sole::new(alloc).expect(rt, "block"),
+        spare2: Sole::new(alloc).expect(rt, "block"),
+        sec: 1,
+        frac: 2,
+        original: len as u32,
+        number,
+    }
+}
+
+/// The packets of both flows, numbered from 0.
+pub(crate) fn in_turn(rt: &impl Abort, alloc: Global) -> VecDeque<Packet>
+    ensures held { AreHeld result.items }
+    ensures shared { AreShared result.items }
+    ensures whole { WeighAtLeast full_weight result.items }
+    ensures weighs { WeighAtLeast (weight_after 1) result.items }
+    ensures rising { RiseFrom 0 (map packet_of result.items) }
+    ensures few { counts_of result.items ≤ 24 }
+{
+    let mut packets = VecDeque::with_capacity(alloc, 8).expect(rt, "places");
+    let mut number = 8u32;
+    while 0 < number {
+        number -= 1;
+        let frame = &IN_TURN[number as usize];
+        packets.push_front_reserved(packet(rt, alloc, number, frame));
+    }
+    packets
+}
+
+// The blocks among what was given back.
+fn home(mut outcomes: Outcomes) -> usize {
+    let mut blocks = 0usize;
+    while let Some(_sole) = outcomes.pop_sole() {
+        blocks = blocks.wrapping_add(1);
+    }
+    outcomes.settle();
+    blocks
+}
+
+fn home_of_item(rt: &impl Abort, item: Item) -> usize {
+    let (skb, mut outcomes) = item.into_parts();
+    outcomes.reserve(skb.count()).expect(rt, "places");
+    skb.release(&mut outcomes);
+    home(outcomes)
+}
+
+fn home_of_packet(rt: &impl Abort, packet: Packet) -> usize {
+    let Packet {
+        skb,
+        spare1: _,
+        spare2: _,
+        sec: _,
+        frac: _,
+        original: _,
+        number: _,
+    } = packet;
+    let mut outcomes = Outcomes::new(skb.allocator());
+    outcomes.reserve(skb.count()).expect(rt, "places");
+    skb.release(&mut outcomes);
+    home(outcomes).wrapping_add(2)
+}
+
+fn home_of_packets(rt: &impl Abort, packets: VecDeque<Packet>) -> usize {
+    let mut packets = packets;
+    let mut blocks = 0usize;
+    while let Some(packet) = packets.pop_front() {
+        blocks = blocks.wrapping_add(home_of_packet(rt, packet));
+    }
+    packets.destroy_empty();
+    blocks
+}
+
+fn home_of_queue(rt: &impl Abort, lane: QueueLane) -> usize {
+    let QueueLane {
+        queue: _,
+        packets,
+        mut items,
+        outcomes,
+        done: _,
+        count: _,
+    } = lane;
+    let mut blocks = home(outcomes).wrapping_add(home_of_packets(rt, packets));
+    while let Some(item) = items.pop() {
+        blocks = blocks.wrapping_add(home_of_item(rt, item));
+    }
+    items.destroy_empty();
+    blocks
+}
+
+fn home_of_tap(rt: &impl Abort, lane: TapLane) -> usize {
+    let TapLane {
+        tap: _,
+        clones,
+        texts: _,
+        outcomes,
+    } = lane;
+    assert!(rt; clones.is_empty());
+    clones.destroy_empty();
+    home(outcomes)
+}
+
+/// All blocks of the lanes come home: so many.
+pub(crate) fn all_home(rt: &impl Abort, lanes: Lanes) -> usize {
+    let Lanes {
+        mut queues,
+        mut taps,
+    } = lanes;
+    let mut blocks = 0usize;
+    while let Some(lane) = queues.pop() {
+        blocks = blocks.wrapping_add(home_of_queue(rt, lane));
+    }
+    while let Some(lane) = taps.pop() {
+        blocks = blocks.wrapping_add(home_of_tap(rt, lane));
+    }
+    queues.destroy_empty();
+    taps.destroy_empty();
+    blocks
+}
+
+/// The same of packets that aren't in lanes, and of lanes.
+pub(crate) fn rest_home(rt: &impl Abort, packets: VecDeque<Packet>, lanes: Lanes) -> usize {
+    home_of_packets(rt, packets).wrapping_add(all_home(rt, lanes))
+}
+
+/// The same of clones that were kept, which are those of both flows' packets.
+pub(crate) fn kept_home(rt: &impl Abort, kept: Vec<TapClone>) -> usize {
+    let mut kept = kept;
+    let mut blocks = 0usize;
+    while let Some(clone) = kept.pop() {
+        let TapClone {
+            skb,
+            sec: _,
+            frac: _,
+            original: _,
+            number,
+        } = clone;
+        assert!(rt; number < 8 && kept.len() == number as usize);
+        assert_eq!(rt; skb.head(), IN_TURN[number as usize].as_slice());
+        let mut outcomes = Outcomes::new(skb.allocator());
+        outcomes.reserve(skb.count()).expect(rt, "places");
+        skb.release(&mut outcomes);
+        blocks = blocks.wrapping_add(home(outcomes));
+    }
+    kept.destroy_empty();
+    blocks
+}

@@ -1,0 +1,157 @@
+//! What the lanes of two flows in turn come to.
+ghost use Rattle.round_work.specs.Work.{IsPlan};
+
+use super::frames::IN_TURN;
+use super::packets::{all_home, in_turn, kept_home, rest_home};
+use off_io::{Gate, NoGate, Who};
+use round_work::{Lanes, Plan, QueueLane, TapLane, keep_packets, work_packets, work_packets_alone};
+use std::alloc::Global;
+use std::process::Abort;
+use std::sync::atomic::{AtomicU32, Ordering};
+use std::thread::Threads;
+
+// Number, packets and first payload of an item.
+type Said = (u32, u16, u16);
+
+/// The lanes of both flows after their work.
+pub(crate) fn lanes_of<R: Threads + Abort + Sync, G: Gate + Sync>(
+    rt: &R,
+    alloc: Global,
+    plan: Plan,
+    gate: &G,
+) -> Lanes
+    requires plan { IsPlan plan }
+{
+    let mut packets = in_turn(rt, alloc);
+    match work_packets(rt, alloc, &mut packets, &plan, gate) {
+        Ok(lanes) => {
+            packets.destroy_empty();
+            lanes
+        }
+        Err((lanes, _)) => {
+            rest_home(rt, packets, lanes);
+            panic!(rt; "there is memory");
+        }
+    }
+}
+
+fn says(rt: &impl Abort, lane: &QueueLane, rows: &[Said]) {
+    assert!(rt; lane.items.len() == rows.len());
+    for i in 0..rows.len() {
+        let item = &lane.items[i];
+        assert_eq!(rt; (item.number, item.n, item.m), rows[i]);
+    }
+}
+
+// A tap has read these bytes of each packet.
+fn has_read(rt: &impl Abort, lane: &TapLane, from: usize, to: usize) {
+    let texts = lane.texts.as_ref().expect(rt, "windows");
+    assert!(rt; texts.len() == 8 && from <= to && to <= 70);
+    for i in 0..8 {
+        let text = texts.get(i);
+        assert_eq!(rt; text.number as usize, i);
+        assert_eq!(rt; text.bytes, &IN_TURN[i][from..to]);
+    }
+}
+
+/// A queue for each flow, and two taps: the second one's windows are the ends of the packets.
+#[test]
+fn two_queues_and_two_taps(rt: HostRuntime) {
+    let plan = Plan {
+        queues: 2,
+        taps: 2,
+        snap: 64,
+    };
+    let lanes = lanes_of(&rt, rt.alloc(), plan, &NoGate);
+    assert!(rt; lanes.queues.len() == 2 && lanes.taps.len() == 2);
+    says(&rt, &lanes.queues[0], &[(0, 4, 16)]);
+    says(&rt, &lanes.queues[1], &[(1, 4, 16)]);
+    has_read(&rt, &lanes.taps[0], 0, 64);
+    has_read(&rt, &lanes.taps[1], 64, 70);
+    assert_eq!(rt; all_home(&rt, lanes), 24);
+}
+
+/// Both flows in one queue, and no tap.
+#[test]
+fn one_queue(rt: HostRuntime) {
+    let plan = Plan {
+        queues: 1,
+        taps: 0,
+        snap: 64,
+    };
+    let lanes = lanes_of(&rt, rt.alloc(), plan, &NoGate);
+    assert!(rt; lanes.queues.len() == 1 && lanes.taps.is_empty());
+    says(&rt, &lanes.queues[0], &[(0, 4, 16), (1, 4, 16)]);
+    assert_eq!(rt; all_home(&rt, lanes), 24);
+}
+
+/// The most queues and taps that there may be: two queues have a flow each, and six taps find all windows empty.
+#[test]
+fn many_lanes(rt: HostRuntime) {
+    let plan = Plan {
+        queues: 64,
+        taps: 8,
+        snap: 40,
+    };
+    let lanes = lanes_of(&rt, rt.alloc(), plan, &NoGate);
+    assert!(rt; lanes.queues.len() == 64 && lanes.taps.len() == 8);
+    says(&rt, &lanes.queues[0], &[]);
+    says(&rt, &lanes.queues[44], &[(0, 4, 16)]);
+    says(&rt, &lanes.queues[45], &[(1, 4, 16)]);
+    has_read(&rt, &lanes.taps[1], 40, 70);
+    assert!(rt;
+        lanes.taps[7]
+            .texts
+            .as_ref()
+            .expect(&rt, "windows")
+            .is_empty()
+    );
+    assert_eq!(rt; all_home(&rt, lanes), 24);
+}
+
+// How often it was passed.
+#[derive(Drop)]
+struct Count {
+    passes: AtomicU32,
+}
+
+impl Gate for Count {
+    fn pass(&self, _: Who, _: u32) {
+        self.passes.fetch_add(1, Ordering::SeqCst);
+    }
+}
+
+/// All lanes in one thread, each passing the gate twice, over packets of which a clone is kept: each is cloned nine times.
+#[test]
+fn kept_and_alone(rt: HostRuntime) {
+    let alloc = rt.alloc();
+    let plan = Plan {
+        queues: 2,
+        taps: 8,
+        snap: 64,
+    };
+    let mut packets = in_turn(&rt, alloc);
+    let mut kept = Vec::new(alloc);
+    keep_packets(&mut packets, &mut kept).expect(&rt, "there is memory");
+    let gate = Count {
+        passes: AtomicU32::new(0),
+    };
+    match work_packets_alone(alloc, &mut packets, &plan, &gate) {
+        Ok(lanes) => {
+            assert!(rt; lanes.queues.len() == 2 && lanes.taps.len() == 8);
+            says(&rt, &lanes.queues[0], &[(0, 4, 16)]);
+            says(&rt, &lanes.queues[1], &[(1, 4, 16)]);
+            has_read(&rt, &lanes.taps[1], 64, 70);
+            assert_eq!(rt; gate.passes.load(Ordering::SeqCst), 20);
+            assert_eq!(rt; kept.len(), 8);
+            let blocks = all_home(&rt, lanes);
+            assert_eq!(rt; kept_home(&rt, kept).wrapping_add(blocks), 24);
+            packets.destroy_empty();
+        }
+        Err((lanes, _)) => {
+            kept_home(&rt, kept);
+            rest_home(&rt, packets, lanes);
+            panic!(rt; "there is memory");
+        }
+    }
+}

@@ -1,0 +1,108 @@
+//! Records of a frame in two blocks, byte for byte, and at a sink whose calls fail in turn.
+
+ghost use Rattle.std.specs.Prelude.{All};
+ghost use Rattle.round_write.specs.Records.{FitsItem};
+
+use frags::{Outcomes, PieceBuilder};
+use gro::Item;
+use off_io::{MemSink, WriteFault};
+use pcap_io::{FileHead, OffHead, Order};
+use raw_block::Sole;
+use round_write::{Time, write_items, write_record, write_window};
+use skb::Skb;
+use std::alloc::{AllocError, Global};
+use std::process::Abort;
+use std::test::Fail;
+
+const FILE: FileHead = FileHead {
+    order: Order::Little,
+    nanos: false,
+    zone: 0,
+    sigfigs: 0,
+};
+
+// An item, its frame alone, and a window of it.
+const WRITTEN: [u8; 85] = [
+    1, 0, 0, 0, 2, 0, 0, 0, 17, 0, 0, 0, 17, 0, 0, 0, 1, 1, 0, 2, 0, 3, 1, 4, 0, 0, 0, 7, b'a',
+    b'b', b'c', b'd', b'e', 1, 0, 0, 0, 2, 0, 0, 0, 5, 0, 0, 0, 9, 0, 0, 0, b'a', b'b', b'c', b'd',
+    b'e', 1, 0, 0, 0, 2, 0, 0, 0, 15, 0, 0, 0, 15, 0, 0, 0, 1, 2, 0, 0, 0, 0, 0, 5, 0, 0, 0, 7,
+    b'a', b'b', b'c',
+];
+
+// "abc" in the head, and "de" in a piece behind it.
+fn frame(alloc: Global) -> Result<Skb, AllocError> {
+    let mut head = Sole::new(alloc)?;
+    head.range_mut(64, 67).copy_from_slice(b"abc");
+    let mut block = Sole::new(alloc)?;
+    block.range_mut(5, 7).copy_from_slice(b"de");
+    let mut builder = PieceBuilder::with_room(alloc, 1)?;
+    builder.push(block.share(), 5, 7);
+    Ok(Skb::new(head, 64, 67, builder.finish()))
+}
+
+fn write(sink: &mut MemSink, items: &[Item]) -> Result<(), WriteFault>
+    requires fit { All FitsItem items.now }
+{
+    write_items(sink, &FILE, 4, items)?;
+    let time = Time { sec: 1, frac: 2 };
+    for item in items {
+        write_record(sink, &FILE, time, 9, None, &item.skb)?;
+    }
+    let head = OffHead {
+        version: 1,
+        kind: 2,
+        n: 0,
+        m: 0,
+        modes: 0,
+        lane: 5,
+        number: 7,
+    };
+    write_window(sink, &FILE, time, 3, Some(head), b"abc")
+}
+
+#[test]
+fn records_are_headers_and_slices(rt: HostRuntime) -> Result<(), Fail> {
+    let alloc = rt.alloc();
+    let mut outcomes = Outcomes::new(alloc);
+    assert!(rt; outcomes.reserve(2).is_ok());
+    let mut items = Vec::with_capacity(alloc, 1).expect(&rt, "no memory");
+    let skb = frame(alloc).expect(&rt, "no memory");
+    assert!(rt; skb.len() == 5 && skb.count() == 2 && items.len() < items.capacity());
+    items.push_reserved(Item {
+        skb,
+        number: 7,
+        sec: 1,
+        frac: 2,
+        original: 5,
+        n: 2,
+        m: 3,
+        modes: 1,
+        outcomes,
+    });
+    let mut sink = MemSink::new(alloc, 16, Vec::new(alloc));
+    assert_eq!(rt; write(&mut sink, &items), Ok(()));
+    assert_eq!(rt; sink.bytes(), WRITTEN.as_slice());
+    for call in 0..9 {
+        let fails = [call].to_vec(alloc).expect(&rt, "no memory");
+        let mut sink = MemSink::new(alloc, 16, fails);
+        assert_eq!(rt; write(&mut sink, &items), Err(WriteFault));
+        assert!(rt; WRITTEN.starts_with(sink.bytes()));
+    }
+    all_go_home(&rt, items);
+    Ok(())
+}
+
+fn all_go_home<A: Abort>(rt: &A, mut items: Vec<Item>) {
+    'items: while let Some(item) = items.pop() {
+        go_home(rt, item);
+    }
+    items.destroy_empty();
+}
+
+fn go_home<A: Abort>(rt: &A, item: Item) {
+    let (skb, mut outcomes) = item.into_parts();
+    assert!(rt; skb.count() <= outcomes.spare());
+    skb.release(&mut outcomes);
+    'soles: while let Some(_) = outcomes.pop_sole() {}
+    outcomes.settle();
+}

@@ -1,5 +1,0 @@
-use Rattle.std.proofs.Common.{length}
-use Rattle.skb.proofs.tests.spend.Given as goal
-
-abbrev pub decreases-loop-soles : goal.decreases-loop-soles
-decreases-loop-soles l = length l.out.soles
