@@ -6,6 +6,10 @@ use Rattle.net_bytes.specs.Bytes.{byte, be16}
 abbrev pub port : ℕ
 port = 4789
 
+-- the one that Linux took before one was assigned
+abbrev pub old_port : ℕ
+old_port = 8472
+
 -- its bytes are there
 abbrev pub is_there : List ℕ → ℕ → Bool
 is_there f at = nat_le (at + 8) (length f)

@@ -15,11 +15,17 @@ ghost use Rattle.std.specs.Prelude.{◌≡◌, ◌↔◌, ◌+◌, ◌≤◌, tr
 ghost use Rattle.net_bytes.specs.View.{Placed};
 ghost use Rattle.vxlan.specs.Vxlan.{is_there, flags as flags_of, network_identifier};
 
+pub mod gre;
+
+pub use gre::GreView;
 use net_bytes::{be16, is_inside};
 use std::marker::Model;
 
 /// The UDP port that is assigned to VXLAN.
 pub const PORT: u16 = 4789;
+
+/// The UDP port that Linux took for VXLAN before one was assigned.
+pub const OLD_PORT: u16 = 8472;
 
 /// A VXLAN header in a frame.
 #[derive(Drop)]
