@@ -9,10 +9,11 @@ use Rattle.pcap_io.specs.declared.heads.Link.{Link}
 use Rattle.pcap_io.specs.declared.heads.Link.TheVariants as links
 use Rattle.pcap_io.specs.declared.heads.FileHead.{FileHead}
 use Rattle.pcap_io.specs.declared.off_head.OffHead.{OffHead}
+use Rattle.pcap_io.specs.declared.off_head.OffHead2.{OffHead2}
 use Rattle.pcap_io.specs.Headers.{first_that_holds, file_refusals, file_head, captured_limit, link_number}
 use Rattle.pcap_io.specs.Written.{file_bytes}
 use Rattle.pcap_io.specs.Split.{AreBytes}
-use Rattle.pcap_io.specs.Laws.{OffHeadReadsBack, OffHeadWritesBack, RecHeadReadsBack, RecHeadWritesBack, FileHeadReadsBack}
+use Rattle.pcap_io.specs.Laws.{OffHeadReadsBack, OffHeadWritesBack, OffHead2ReadsBack, OffHead2WritesBack, RecHeadReadsBack, RecHeadWritesBack, FileHeadReadsBack}
 
 -- the highest and the lowest byte of a number of two bytes, and a number of four bytes as its halves
 two_back : (n : ℕ) → n < 2 ^ 16 → 256 * (n / 256 % 256) + n % 256 ≡ n
@@ -81,6 +82,61 @@ off_bytes_law (a ∷ b ∷ c ∷ d ∷ e ∷ f ∷ g ∷ h ∷ i ∷ j ∷ k ∷
     same_twelve a b g h _ _ _ _ _ _ _ _ c d e f i j k l (two_high c d ci di) (two_low c d ci di) (two_high e f ei fi) (two_low e f ei fi)
     (four_0 i j k l ii ji ki li) (four_1 i j k l ii ji ki li) (four_2 i j k l ii ji ki li) (four_3 i j k l ii ji ki li)
 off_bytes_law (a ∷ b ∷ c ∷ d ∷ e ∷ f ∷ g ∷ h ∷ i ∷ j ∷ k ∷ l ∷ m ∷ more) size are = absurd (omega (arith, size))
+
+same_off_head2 : (version kind modes lane n n' m m' number number' : ℕ) → n ≡ n' → m ≡ m' → number ≡ number'
+    → let a : OffHead2 = record { version = version; kind = kind; modes = modes; lane = lane; n = n; m = m; number = number } in
+    let b : OffHead2 = record { version = version; kind = kind; modes = modes; lane = lane; n = n'; m = m'; number = number' } in
+    a ≡ b
+same_off_head2 version kind modes lane n n' m m' number number' p q r = rw (p, q, r) refl
+
+pub off_head2_law : OffHead2ReadsBack
+off_head2_law head fits =
+    same_off_head2 head.version head.kind head.modes head.lane _ _ _ _ _ _ (four_back head.n fits.n) (four_back head.m fits.m) (four_back head.number fits.number)
+
+same_sixteen : (version kind modes lane a b c d e f g h i j k l a' b' c' d' e' f' g' h' i' j' k' l' : ℕ)
+    → a ≡ a' → b ≡ b' → c ≡ c' → d ≡ d' → e ≡ e' → f ≡ f' → g ≡ g' → h ≡ h' → i ≡ i' → j ≡ j' → k ≡ k' → l ≡ l'
+    → version ∷ kind ∷ modes ∷ lane ∷ a ∷ b ∷ c ∷ d ∷ e ∷ f ∷ g ∷ h ∷ i ∷ j ∷ k ∷ l ∷ []
+    ≡ version ∷ kind ∷ modes ∷ lane ∷ a' ∷ b' ∷ c' ∷ d' ∷ e' ∷ f' ∷ g' ∷ h' ∷ i' ∷ j' ∷ k' ∷ l' ∷ []
+same_sixteen version kind modes lane a b c d e f g h i j k l a' b' c' d' e' f' g' h' i' j' k' l' p q r s t u v w x y z o = rw (p, q, r, s, t, u, v, w, x, y, z, o) refl
+
+pub off_bytes2_law : OffHead2WritesBack
+off_bytes2_law [] size are = absurd (omega (arith, size))
+off_bytes2_law (a ∷ []) size are = absurd (omega (arith, size))
+off_bytes2_law (a ∷ b ∷ []) size are = absurd (omega (arith, size))
+off_bytes2_law (a ∷ b ∷ c ∷ []) size are = absurd (omega (arith, size))
+off_bytes2_law (a ∷ b ∷ c ∷ d ∷ []) size are = absurd (omega (arith, size))
+off_bytes2_law (a ∷ b ∷ c ∷ d ∷ e ∷ []) size are = absurd (omega (arith, size))
+off_bytes2_law (a ∷ b ∷ c ∷ d ∷ e ∷ f ∷ []) size are = absurd (omega (arith, size))
+off_bytes2_law (a ∷ b ∷ c ∷ d ∷ e ∷ f ∷ g ∷ []) size are = absurd (omega (arith, size))
+off_bytes2_law (a ∷ b ∷ c ∷ d ∷ e ∷ f ∷ g ∷ h ∷ []) size are = absurd (omega (arith, size))
+off_bytes2_law (a ∷ b ∷ c ∷ d ∷ e ∷ f ∷ g ∷ h ∷ i ∷ []) size are = absurd (omega (arith, size))
+off_bytes2_law (a ∷ b ∷ c ∷ d ∷ e ∷ f ∷ g ∷ h ∷ i ∷ j ∷ []) size are = absurd (omega (arith, size))
+off_bytes2_law (a ∷ b ∷ c ∷ d ∷ e ∷ f ∷ g ∷ h ∷ i ∷ j ∷ k ∷ []) size are = absurd (omega (arith, size))
+off_bytes2_law (a ∷ b ∷ c ∷ d ∷ e ∷ f ∷ g ∷ h ∷ i ∷ j ∷ k ∷ l ∷ []) size are = absurd (omega (arith, size))
+off_bytes2_law (a ∷ b ∷ c ∷ d ∷ e ∷ f ∷ g ∷ h ∷ i ∷ j ∷ k ∷ l ∷ m ∷ []) size are = absurd (omega (arith, size))
+off_bytes2_law (a ∷ b ∷ c ∷ d ∷ e ∷ f ∷ g ∷ h ∷ i ∷ j ∷ k ∷ l ∷ m ∷ n ∷ []) size are = absurd (omega (arith, size))
+off_bytes2_law (a ∷ b ∷ c ∷ d ∷ e ∷ f ∷ g ∷ h ∷ i ∷ j ∷ k ∷ l ∷ m ∷ n ∷ o ∷ []) size are = absurd (omega (arith, size))
+off_bytes2_law (a ∷ b ∷ c ∷ d ∷ e ∷ f ∷ g ∷ h ∷ i ∷ j ∷ k ∷ l ∷ m ∷ n ∷ o ∷ p ∷ []) size are =
+    let q = are.1.1.1.1 in
+    let r = q.1.1.1.1 in
+    let s = r.1.1.1.1 in
+    let ei = q.0 in
+    let fi = q.1.0 in
+    let gi = q.1.1.0 in
+    let hi = q.1.1.1.0 in
+    let ii = r.0 in
+    let ji = r.1.0 in
+    let ki = r.1.1.0 in
+    let li = r.1.1.1.0 in
+    let mi = s.0 in
+    let ni = s.1.0 in
+    let oi = s.1.1.0 in
+    let pi = s.1.1.1.0 in
+    same_sixteen a b c d _ _ _ _ _ _ _ _ _ _ _ _ e f g h i j k l m n o p
+    (four_0 e f g h ei fi gi hi) (four_1 e f g h ei fi gi hi) (four_2 e f g h ei fi gi hi) (four_3 e f g h ei fi gi hi)
+    (four_0 i j k l ii ji ki li) (four_1 i j k l ii ji ki li) (four_2 i j k l ii ji ki li) (four_3 i j k l ii ji ki li)
+    (four_0 m n o p mi ni oi pi) (four_1 m n o p mi ni oi pi) (four_2 m n o p mi ni oi pi) (four_3 m n o p mi ni oi pi)
+off_bytes2_law (a ∷ b ∷ c ∷ d ∷ e ∷ f ∷ g ∷ h ∷ i ∷ j ∷ k ∷ l ∷ m ∷ n ∷ o ∷ p ∷ q ∷ more) size are = absurd (omega (arith, size))
 
 pub rec_head_law : RecHeadReadsBack
 rec_head_law Big sec frac captured original p q r s = record {

@@ -4,10 +4,14 @@ use Rattle.net_bytes.specs.declared.order.Order.{Order}
 use Rattle.net_bytes.specs.declared.order.Order.TheVariants.{Big, Little}
 use Rattle.net_bytes.specs.Order.{number}
 use Rattle.net_bytes.specs.Bytes.{byte, be16, be32}
+use Rattle.pcap_io.specs.Limits.{most_frame, most_record, off_head_size, off_head2_size}
 use Rattle.pcap_io.specs.declared.heads.Link.{Link}
 use Rattle.pcap_io.specs.declared.heads.Link.TheVariants as links
 use Rattle.pcap_io.specs.declared.heads.FileHead.{FileHead}
 use Rattle.pcap_io.specs.declared.off_head.OffHead.{OffHead}
+use Rattle.pcap_io.specs.declared.off_head.OffHead2.{OffHead2}
+use Rattle.pcap_io.specs.declared.off_head.AnyHead.{AnyHead}
+use Rattle.pcap_io.specs.declared.off_head.AnyHead.TheVariants.{V1, V2}
 use Rattle.pcap_io.specs.declared.faults.CapKind.{CapKind}
 use Rattle.pcap_io.specs.declared.faults.CapKind.TheVariants.{ShortHeader, BadMagic, BadVersion, BadLinkType, ShortRecordHeader, TooMany, TooLong, BadOriginal, BadOffload, ShortRecord}
 
@@ -63,18 +67,18 @@ captured_length order head = number order 4 (drop 8 head)
 abbrev pub original_length : Order → List ℕ → ℕ
 original_length order head = number order 4 (drop 12 head)
 
--- a frame of at most 2^18 bytes, behind an offload header of 12 bytes or alone
+-- a frame, or one behind an offload header
 abbrev pub captured_limit : Link → ℕ
-captured_limit links.Ethernet = 262144
-captured_limit links.Offload = 262156
+captured_limit links.Ethernet = most_frame
+captured_limit links.Offload = most_record
 
 abbrev pub is_bad_original : Link → ℕ → Bool
 is_bad_original links.Ethernet n = nat_lt (2 ^ 31 - 1) n
-is_bad_original links.Offload n = nat_lt (2 ^ 31 + 11) n || nat_lt n 12
+is_bad_original links.Offload n = nat_lt (2 ^ 31 - 1 + off_head2_size) n || nat_lt n off_head_size
 
 abbrev pub lacks_off_head : Link → ℕ → Bool
 lacks_off_head links.Ethernet n = false
-lacks_off_head links.Offload n = nat_lt n 12
+lacks_off_head links.Offload n = nat_lt n off_head_size
 
 -- what refuses the next 16 bytes as the header of record n, in order
 abbrev pub head_refusals : Order → Link → ℕ → List ℕ → List (Bool × CapKind)
@@ -95,7 +99,7 @@ abbrev pub record_refusals : Order → Link → ℕ → List ℕ → List (Bool 
 record_refusals order link n bytes =
     head_refusals order link n (take 16 bytes) ++ body_refusals order (take 16 bytes) (drop 16 bytes)
 
--- the fields of an offload header, big-endian whatever the file's order is
+-- the fields of an offload header of version 1, big-endian whatever the file's order is
 abbrev pub off_head : List ℕ → OffHead
 off_head bytes = record {
   version = byte bytes 0;
@@ -106,3 +110,34 @@ off_head bytes = record {
   lane = byte bytes 7;
   number = be32 bytes 8;
 }
+
+-- and of version 2
+abbrev pub off_head2 : List ℕ → OffHead2
+off_head2 bytes = record {
+  version = byte bytes 0;
+  kind = byte bytes 1;
+  modes = byte bytes 2;
+  lane = byte bytes 3;
+  n = be32 bytes 4;
+  m = be32 bytes 8;
+  number = be32 bytes 12;
+}
+
+-- the first byte tells the version; what is neither is read as version 1, which refuses it
+abbrev pub any_head : List ℕ → AnyHead
+any_head bytes = if byte bytes 0 == 2 then V2 (off_head2 bytes) else V1 (off_head bytes)
+
+-- how many bytes the header has
+abbrev pub head_size : AnyHead → ℕ
+head_size (V1 h) = off_head_size
+head_size (V2 h) = off_head2_size
+
+-- its fields, of either version in those of version 2
+abbrev pub fields_in : AnyHead → OffHead2
+fields_in (V1 h) = record { version = h.version; kind = h.kind; modes = h.modes; lane = h.lane; n = h.n; m = h.m; number = h.number }
+fields_in (V2 h) = h
+
+-- the version that it says is its own
+abbrev pub says_version : AnyHead → Bool
+says_version (V1 h) = h.version == 1
+says_version (V2 h) = h.version == 2

@@ -8,12 +8,13 @@ use Rattle.pcap_io.specs.declared.heads.RecHead.{RecHead}
 use Rattle.pcap_io.specs.declared.place.Place.{Place}
 use Rattle.pcap_io.specs.declared.faults.CapFault.{CapFault}
 use Rattle.pcap_io.specs.declared.off_head.OffHead.{OffHead}
-use Rattle.pcap_io.specs.Headers.{first_that_holds, file_refusals, file_head, captured_length, original_length, off_head}
+use Rattle.pcap_io.specs.declared.off_head.OffHead2.{OffHead2}
+use Rattle.pcap_io.specs.Headers.{first_that_holds, file_refusals, file_head, captured_length, original_length, off_head, off_head2}
 use Rattle.pcap_io.specs.Capture.{Packet, Found, reads_numbered}
 use Rattle.pcap_io.specs.Places.{found_at, EntersBody}
 use Rattle.pcap_io.specs.Lengths.{lengths_at}
 use Rattle.pcap_io.specs.Reading.{TakesHead, RefusesHead}
-use Rattle.pcap_io.specs.Written.{file_bytes, rec_bytes, off_bytes}
+use Rattle.pcap_io.specs.Written.{file_bytes, rec_bytes, off_bytes, off_bytes2}
 use Rattle.pcap_io.specs.Split.{AreBytes, AreLawful, spelled_all, IsSplit}
 
 -- the fields fit their bytes
@@ -29,6 +30,18 @@ OffHeadReadsBack = (head : OffHead) → FitsOffHead head → off_head (off_bytes
 -- and one that is read is written back
 abbrev pub OffHeadWritesBack : Type 0
 OffHeadWritesBack = (bytes : List ℕ) → length bytes ≡ 12 → AreBytes bytes → off_bytes (off_head bytes) ≡ bytes
+
+pub record FitsOffHead2 (head : OffHead2) : Type 0 where
+  pub n : head.n < 2 ^ 32
+  pub m : head.m < 2 ^ 32
+  pub number : head.number < 2 ^ 32
+
+-- the same of version 2
+abbrev pub OffHead2ReadsBack : Type 0
+OffHead2ReadsBack = (head : OffHead2) → FitsOffHead2 head → off_head2 (off_bytes2 head) ≡ head
+
+abbrev pub OffHead2WritesBack : Type 0
+OffHead2WritesBack = (bytes : List ℕ) → length bytes ≡ 16 → AreBytes bytes → off_bytes2 (off_head2 bytes) ≡ bytes
 
 -- what a record header's bytes say
 pub record SaysRecord (order : Order) (head : List ℕ) (s f c o : ℕ) : Type 0 where

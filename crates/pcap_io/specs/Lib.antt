@@ -2,6 +2,7 @@ pub mod Headers
 pub mod Capture
 pub mod Places
 pub mod Lengths
+pub mod Limits
 pub mod Reading
 pub mod Readers
 pub mod Written

@@ -8,6 +8,7 @@ use Rattle.pcap_io.specs.declared.place.Place.{Place}
 use Rattle.pcap_io.specs.declared.faults.CapFault.{CapFault}
 use Rattle.pcap_io.specs.declared.faults.CapKind.{CapKind}
 use Rattle.pcap_io.specs.declared.faults.CapKind.TheVariants.{ShortRecord}
+use Rattle.pcap_io.specs.Limits.{most_record}
 use Rattle.pcap_io.specs.Headers.{first_that_holds, captured_length, original_length}
 use Rattle.pcap_io.specs.Capture.{Found, records_from}
 
@@ -22,7 +23,7 @@ found_at place bytes = records_from place.file.order place.link place.number pla
 -- the counts of a place are those of at most 2^32 records
 pub record Counted (place : Place) : Type 0 where
   pub few : place.number ≤ 2 ^ 32
-  pub within : place.offset ≤ 24 + 262172 * place.number
+  pub within : place.offset ≤ 24 + (16 + most_record) * place.number
 
 -- no body is open, and neither the end nor a refusal was answered
 pub record IsReady (place : Place) : Type 0 where

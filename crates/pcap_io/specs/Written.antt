@@ -6,6 +6,7 @@ use Rattle.net_bytes.specs.Order.{bytes_of}
 use Rattle.pcap_io.specs.declared.heads.Link.{Link}
 use Rattle.pcap_io.specs.declared.heads.FileHead.{FileHead}
 use Rattle.pcap_io.specs.declared.off_head.OffHead.{OffHead}
+use Rattle.pcap_io.specs.declared.off_head.OffHead2.{OffHead2}
 use Rattle.pcap_io.specs.Headers.{link_number, captured_limit}
 
 -- the number that names the unit of time: nanoseconds, or microseconds
@@ -23,7 +24,12 @@ file_bytes head link =
 abbrev pub rec_bytes : Order → ℕ → ℕ → ℕ → ℕ → List ℕ
 rec_bytes order sec frac captured original = bytes_of order 4 sec ++ bytes_of order 4 frac ++ bytes_of order 4 captured ++ bytes_of order 4 original
 
--- an offload header
+-- an offload header of version 1
 abbrev pub off_bytes : OffHead → List ℕ
 off_bytes head =
     head.version ∷ head.kind ∷ (bytes_of Big 2 head.n ++ bytes_of Big 2 head.m ++ head.modes ∷ head.lane ∷ bytes_of Big 4 head.number)
+
+-- and of version 2
+abbrev pub off_bytes2 : OffHead2 → List ℕ
+off_bytes2 head =
+    head.version ∷ head.kind ∷ head.modes ∷ head.lane ∷ (bytes_of Big 4 head.n ++ bytes_of Big 4 head.m ++ bytes_of Big 4 head.number)

@@ -16,9 +16,9 @@ pub enum CapKind {
     ShortRecordHeader,
     /// A record header follows whose number would be 2^32.
     TooMany,
-    /// The captured length is above 262,144 (262,156 in link type 147).
+    /// The captured length is above 262,144 (262,160 in link type 147).
     TooLong,
-    /// The original length is above 2^31 - 1 (in link type 147 above 2^31 + 11, or below 12).
+    /// The original length is above 2^31 - 1 (in link type 147 above 2^31 + 15, or below 12).
     BadOriginal,
     /// In link type 147, the captured length is below 12.
     BadOffload,

@@ -10,7 +10,7 @@ use net_bytes::Order;
 pub enum Link {
     /// Number 1: Ethernet frames.
     Ethernet,
-    /// Number 147, the first one for private use: a 12-byte offload header before each frame.
+    /// Number 147, the first one for private use: an offload header of 12 or 16 bytes before each frame.
     Offload,
 }
 

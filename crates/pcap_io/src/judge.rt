@@ -3,7 +3,7 @@ ghost use Rattle.std.specs.Prelude.{◌≡◌, ◌≤◌, length};
 ghost use Rattle.pcap_io.specs.Headers.{first_that_holds, head_refusals, file_refusals, captured_limit, link_number, is_bad_original};
 
 use crate::heads::spelling;
-use crate::{CapKind, Link};
+use crate::{CapKind, FRAME_LIMIT, Link, OFF_HEAD_LEN, OFF_HEAD2_LEN};
 use net_bytes::Order;
 
 const VERSION: (u16, u16) = (2, 4);
@@ -22,8 +22,8 @@ impl Link {
         ensures value { result ≡ captured_limit self }
     {
         match self {
-            Link::Ethernet => 262144,
-            Link::Offload => 262156,
+            Link::Ethernet => FRAME_LIMIT,
+            Link::Offload => FRAME_LIMIT + OFF_HEAD2_LEN as u32,
         }
     }
 }
@@ -67,7 +67,7 @@ pub(crate) fn refuse_head(order: Order, link: Link, number: u64, head: &[u8]) ->
     if is_bad_original(link, original) {
         return Some(CapKind::BadOriginal);
     }
-    if matches!(link, Link::Offload) && captured < 12 {
+    if matches!(link, Link::Offload) && captured < OFF_HEAD_LEN as u32 {
         return Some(CapKind::BadOffload);
     }
     None
@@ -78,6 +78,8 @@ fn is_bad_original(link: Link, original: u32) -> bool
 {
     match link {
         Link::Ethernet => original > (1 << 31) - 1,
-        Link::Offload => original > (1 << 31) + 11 || original < 12,
+        Link::Offload => {
+            original > (1 << 31) - 1 + OFF_HEAD2_LEN as u32 || original < OFF_HEAD_LEN as u32
+        },
     }
 }

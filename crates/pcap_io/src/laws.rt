@@ -1,5 +1,5 @@
 //! Laws of the definitions, each carried by a function that does nothing.
-ghost use Rattle.pcap_io.specs.Laws.{OffHeadReadsBack, OffHeadWritesBack, RecHeadReadsBack, RecHeadWritesBack, FileHeadReadsBack, CaptureSplits, SplitIsUnique, CaptureReadsBack, LengthsByRecord, LengthsOfPackets};
+ghost use Rattle.pcap_io.specs.Laws.{OffHeadReadsBack, OffHeadWritesBack, OffHead2ReadsBack, OffHead2WritesBack, RecHeadReadsBack, RecHeadWritesBack, FileHeadReadsBack, CaptureSplits, SplitIsUnique, CaptureReadsBack, LengthsByRecord, LengthsOfPackets};
 
 /// An offload header that is written is read back.
 pub fn off_head_reads_back()
@@ -9,6 +9,16 @@ pub fn off_head_reads_back()
 /// An offload header that is read is written back.
 pub fn off_head_writes_back()
     ensures law { OffHeadWritesBack }
+{}
+
+/// The same of a header of version 2: read back,
+pub fn off_head2_reads_back()
+    ensures law { OffHead2ReadsBack }
+{}
+
+/// and written back.
+pub fn off_head2_writes_back()
+    ensures law { OffHead2WritesBack }
 {}
 
 /// A record header that is written is read back.

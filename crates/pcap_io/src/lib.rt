@@ -3,7 +3,8 @@
 //! The layout is that of the pcap file format ("PCAP Capture File Format", draft-ietf-opsawg-pcap, sections 4 and 5; in
 //! short pcap-savefile(5)). A capture is a file header and records. [`CaptureReader`] gives the records one by one from a
 //! source and takes no byte beyond what it asks for; [`write_file_head`] and [`write_rec_head`] write the headers, and
-//! [`OffHead`] is the 12-byte header of this project's own that stands before each frame in a capture of link type 147.
+//! [`OffHead2`] is the 16-byte header of this project's own that stands before each frame in a capture of link type 147, and
+//! [`OffHead`] the 12-byte header that stood there before.
 //!
 //! Proved: what the reader gives, what it refuses, why and where, and what is left of the source is what `reads` in
 //! `specs/Capture.antt` says of the bytes (clauses `given`); each header written is its fields (`ok`, `err`). Laws of the
@@ -31,11 +32,11 @@ pub use faults::{CapFault, CapKind, InFault};
 pub use heads::{FileHead, Link, RecHead};
 pub use laws::{
     capture_reads_back, capture_splits, file_head_reads_back, lengths_are_of_packets,
-    lengths_go_by_record, off_head_reads_back, off_head_writes_back, rec_head_reads_back,
-    rec_head_writes_back, split_is_unique,
+    lengths_go_by_record, off_head_reads_back, off_head_writes_back, off_head2_reads_back,
+    off_head2_writes_back, rec_head_reads_back, rec_head_writes_back, split_is_unique,
 };
 pub use net_bytes::Order;
-pub use off_head::{OFF_HEAD_LEN, OffHead};
+pub use off_head::{AnyHead, FRAME_LIMIT, OFF_HEAD_LEN, OFF_HEAD2_LEN, OffHead, OffHead2};
 pub use place::Place;
 pub use reader::{CaptureReader, take_file};
 pub use writer::{record_header, write_file_head, write_rec_head};
