@@ -1,5 +1,6 @@
 //! Laws of the definitions, each carried by a function that does nothing.
 
+ghost use Rattle.frame_layout.specs.Rss.{RssIsOfLayers};
 ghost use Rattle.frame_layout.specs.Laws.{HeadersAreLaid, AlikeKeepsShape, AlikeKeepsKey, CandidatesAreShort};
 
 /// The headers of a shape lie one behind the other, within the frame and within its first 200 bytes.
@@ -18,7 +19,13 @@ pub fn alike_keeps_key()
     ensures law { AlikeKeepsKey }
 {}
 
-/// A candidate has at most 65,597 bytes.
+/// The payload of a candidate of at most 262,144 bytes has at most 262,070.
 pub fn candidates_are_short()
     ensures law { CandidatesAreShort }
+{}
+
+/// What receive side scaling reads of a frame's key is what the frame's layers say: the addresses of the first IP header, and the
+/// ports of a TCP or UDP header directly behind it.
+pub fn rss_is_of_layers()
+    ensures law { RssIsOfLayers }
 {}

@@ -18,21 +18,31 @@
 #![tactic(auto)]
 
 mod candidates;
+pub mod choice;
 pub mod flow;
 mod front;
+pub mod hash_key;
 mod laws;
 pub mod layout;
 mod queue;
 mod read;
+mod rss;
 pub mod segment;
 mod sums;
+mod toeplitz_hash;
 
-pub use candidates::{candidate, candidate_in};
+pub use candidates::{candidate, candidate_in, ip6_length};
+pub use choice::{Choice, even_table, queue_by};
 pub use flow::Key;
 pub use front::Front;
-pub use laws::{alike_keeps_key, alike_keeps_shape, candidates_are_short, headers_are_laid};
+pub use hash_key::HashKey;
+pub use laws::{
+    alike_keeps_key, alike_keeps_shape, candidates_are_short, headers_are_laid, rss_is_of_layers,
+};
 pub use layout::{Header, Layer, Layout};
 pub use queue::{key, key_behind, queue_of};
 pub use read::shape;
-pub use segment::Seg;
+pub use rss::rss_input;
+pub use segment::{Leaf, Seg};
 pub use sums::{carried_sum, ip4_sum};
+pub use toeplitz_hash::{hash_has_bits, hash_is_linear, toeplitz};
