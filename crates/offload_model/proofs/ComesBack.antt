@@ -13,9 +13,9 @@ use Rattle.maximal_runs.proofs.Pass.{all_append}
 use Rattle.pcap_io.specs.declared.faults.CapKind.{CapKind}
 use Rattle.pcap_io.specs.declared.heads.FileHead.{FileHead}
 use Rattle.pcap_io.specs.declared.heads.Link.TheVariants.{Ethernet, Offload}
-use Rattle.pcap_io.specs.declared.off_head.OffHead.{OffHead}
+use Rattle.pcap_io.specs.declared.off_head.OffHead2.{OffHead2}
 use Rattle.pcap_io.specs.Capture.{Packet, Found, reads}
-use Rattle.pcap_io.specs.Headers.{first_that_holds, file_refusals, file_head, off_head}
+use Rattle.pcap_io.specs.Headers.{first_that_holds, file_refusals, file_head, any_head, fields_in}
 use Rattle.pcap_io.specs.Written.{file_bytes}
 use Rattle.pcap_io.specs.Split.{spelled_all, AreLawful}
 use Rattle.pcap_io.proofs.HeadLaws.{file_head_law}
@@ -23,7 +23,8 @@ use Rattle.pcap_io.proofs.SplitLaws.{written_law}
 use Rattle.offload_model.specs.Mergeable.{IsMergeable, IsMergeableAs}
 use Rattle.offload_model.specs.Segments.{packet_in, merged_in, with_frame, frames_of, segments_of}
 use Rattle.offload_model.specs.Rounds.{is_key, is_of, is_queued, items_of, rounds_of}
-use Rattle.offload_model.specs.Written.{Options, record_of, window_of, window_record, windows_by, windows_of, round_records, records_of, record_bytes, written, segmented}
+use Rattle.offload_model.proofs.Shown.{all_shown}
+use Rattle.offload_model.specs.Written.{Options, record_of, shown_of, window_of, window_record, windows_by, windows_of, round_records, records_of, record_bytes, written, segmented}
 use Rattle.offload_model.specs.Captured.{IsCaptured, AreCaptured, AreOptions, content}
 use Rattle.offload_model.specs.Tested.{numbered, reads_tested, segmented_of}
 use Rattle.offload_model.proofs.Flows.{IsItem, all_items, rounds_captured, back, flows_come_back}
@@ -93,8 +94,8 @@ run_sound q (p ∷ ps) i =
 
 window_sound : (t : ℕ) (p : Packet) (window : List ℕ) → IsCaptured p → IsSound (window_record t p window)
 window_sound t p window c =
-    let head : OffHead = record { version = 1; kind = 2; n = 0; m = 0; modes = 0; lane = t; number = p.number } in
-    let none : segments_of (window_record t p window) ≡ [] = segments_are head (with_frame p window) (record { n = omega arith; m = omega arith; number = c.number }) in
+    let head : OffHead2 = record { version = 2; kind = 2; modes = 0; lane = t; n = 0; m = 0; number = p.number } in
+    let none : segments_of (window_record t p window) ≡ [] = segments_are head (with_frame p window) (record { version = refl; n = omega arith; m = omega arith; number = c.number }) in
     record {
       fits = subst (AllByRecursion (λ p. Fits (content p))) (sym none) tt;
       flow = subst (AllByRecursion (λ x. IsOf (key_of (packet_in (window_record t p window)).frame) (content x))) (sym none) tt;
@@ -106,15 +107,15 @@ windows_sound t p (b ∷ bytes) c = (window_sound t p (b ∷ bytes) c, tt)
 
 round_sound : (o : Options) (ps : List Packet) → AreCaptured ps → AllByRecursion IsSound (round_records o ps)
 round_sound o ps c =
-    all_append IsSound (flat_map (λ q. map (record_of q) (items_of o.queues q ps)) (range_with_len 0 o.queues)) (flat_map (λ t. windows_of o.snap t ps) (range_with_len 0 o.taps))
-    (all_joined IsSound (λ q. map (record_of q) (items_of o.queues q ps)) (range_with_len 0 o.queues)
-    (all_range (λ q. AllByRecursion IsSound (map (record_of q) (items_of o.queues q ps))) o.queues (λ q l.
-    all_mapped IsItem IsSound (record_of q) (items_of o.queues q ps) (λ run i. run_sound q run i)
-    (all_items (filter (is_queued o.queues q) ps) (items_of o.queues q ps) (all_filtered IsCaptured (is_queued o.queues q) ps c.each) (items_are o.queues q ps c.rising)))))
-    (all_joined IsSound (λ t. windows_of o.snap t ps) (range_with_len 0 o.taps)
-    (all_range (λ t. AllByRecursion IsSound (windows_of o.snap t ps)) o.taps (λ t l.
-    all_joined IsSound (λ p. windows_by t p (window_of o.snap t p.frame)) ps
-    (all_of IsCaptured (λ p. AllByRecursion IsSound (windows_by t p (window_of o.snap t p.frame))) ps (λ p k. windows_sound t p (window_of o.snap t p.frame) k) c.each))))
+    all_append IsSound (flat_map (λ q. map (record_of q) (items_of o.segs o.spread q ps)) (range_with_len 0 o.queues)) (flat_map (λ t. windows_of o.snap t (map (shown_of o.filter) ps)) (range_with_len 0 o.taps))
+    (all_joined IsSound (λ q. map (record_of q) (items_of o.segs o.spread q ps)) (range_with_len 0 o.queues)
+    (all_range (λ q. AllByRecursion IsSound (map (record_of q) (items_of o.segs o.spread q ps))) o.queues (λ q l.
+    all_mapped IsItem IsSound (record_of q) (items_of o.segs o.spread q ps) (λ run i. run_sound q run i)
+    (all_items (filter (is_queued o.spread q) ps) (items_of o.segs o.spread q ps) (all_filtered IsCaptured (is_queued o.spread q) ps c.each) (items_are o.segs o.spread q ps c.rising)))))
+    (all_joined IsSound (λ t. windows_of o.snap t (map (shown_of o.filter) ps)) (range_with_len 0 o.taps)
+    (all_range (λ t. AllByRecursion IsSound (windows_of o.snap t (map (shown_of o.filter) ps))) o.taps (λ t l.
+    all_joined IsSound (λ p. windows_by t p (window_of o.snap t p.frame)) (map (shown_of o.filter) ps)
+    (all_of IsCaptured (λ p. AllByRecursion IsSound (windows_by t p (window_of o.snap t p.frame))) (map (shown_of o.filter) ps) (λ p k. windows_sound t p (window_of o.snap t p.frame) k) (all_shown o.filter ps c.each)))))
 
 all_sound : (o : Options) (ps : List Packet) → AreCaptured ps → AllByRecursion IsSound (records_of o ps)
 all_sound o ps c =
@@ -127,7 +128,7 @@ abbrev HasTime : ℕ → ℕ → Packet → Type 0
 HasTime sec frac p = (p.sec ≡ sec) × (p.frac ≡ frac)
 
 times : (r : Packet) → AllByRecursion (HasTime r.sec r.frac) (segments_of r)
-times r = by_kind (off_head r.frame).kind (frames_of (merged_in (off_head r.frame) (packet_in r)))
+times r = by_kind (fields_in (any_head r.frame)).kind (frames_of (merged_in (fields_in (any_head r.frame)) (packet_in r)))
   where
     each : (fs : List (List ℕ)) → AllByRecursion (HasTime r.sec r.frac) (map (with_frame (packet_in r)) fs)
     each [] = tt
@@ -148,7 +149,7 @@ abbrev renumbered : ℕ → Packet → Packet
 renumbered n r = record { number = n; sec = r.sec; frac = r.frac; original = r.original; frame = r.frame }
 
 renumbered_segments : (n : ℕ) (r : Packet) → segments_of (renumbered n r) ≡ map (renumbered n) (segments_of r)
-renumbered_segments n r = by_kind (off_head r.frame).kind (frames_of (merged_in (off_head r.frame) (packet_in r)))
+renumbered_segments n r = by_kind (fields_in (any_head r.frame)).kind (frames_of (merged_in (fields_in (any_head r.frame)) (packet_in r)))
   where
     by_kind : (k : ℕ) (fs : List (List ℕ))
         → (if k == 0 then packet_in (renumbered n r) ∷ [] else (if k == 1 then map (with_frame (packet_in (renumbered n r))) fs else []))
@@ -296,12 +297,12 @@ run_some q run i =
 
 round_some : (o : Options) (ps : List Packet) → o.taps ≡ 0 → AreCaptured ps → AllByRecursion IsSome (round_records o ps)
 round_some o ps taps c =
-    all_append IsSome (flat_map (λ q. map (record_of q) (items_of o.queues q ps)) (range_with_len 0 o.queues)) (flat_map (λ t. windows_of o.snap t ps) (range_with_len 0 o.taps))
-    (all_joined IsSome (λ q. map (record_of q) (items_of o.queues q ps)) (range_with_len 0 o.queues)
-    (all_range (λ q. AllByRecursion IsSome (map (record_of q) (items_of o.queues q ps))) o.queues (λ q l.
-    all_mapped IsItem IsSome (record_of q) (items_of o.queues q ps) (λ run i. run_some q run i)
-    (all_items (filter (is_queued o.queues q) ps) (items_of o.queues q ps) (all_filtered IsCaptured (is_queued o.queues q) ps c.each) (items_are o.queues q ps c.rising)))))
-    (subst (λ n. AllByRecursion IsSome (flat_map (λ t. windows_of o.snap t ps) (range_with_len 0 n))) (sym taps) tt)
+    all_append IsSome (flat_map (λ q. map (record_of q) (items_of o.segs o.spread q ps)) (range_with_len 0 o.queues)) (flat_map (λ t. windows_of o.snap t (map (shown_of o.filter) ps)) (range_with_len 0 o.taps))
+    (all_joined IsSome (λ q. map (record_of q) (items_of o.segs o.spread q ps)) (range_with_len 0 o.queues)
+    (all_range (λ q. AllByRecursion IsSome (map (record_of q) (items_of o.segs o.spread q ps))) o.queues (λ q l.
+    all_mapped IsItem IsSome (record_of q) (items_of o.segs o.spread q ps) (λ run i. run_some q run i)
+    (all_items (filter (is_queued o.spread q) ps) (items_of o.segs o.spread q ps) (all_filtered IsCaptured (is_queued o.spread q) ps c.each) (items_are o.segs o.spread q ps c.rising)))))
+    (subst (λ n. AllByRecursion IsSome (flat_map (λ t. windows_of o.snap t (map (shown_of o.filter) ps)) (range_with_len 0 n))) (sym taps) tt)
 
 no_more : (rs : List Packet) → AllByRecursion IsSome rs → length rs ≤ length (flat_map segments_of rs)
 no_more [] a = omega arith

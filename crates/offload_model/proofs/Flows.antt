@@ -1,5 +1,5 @@
 -- Over a whole capture every flow comes back.
-use Rattle.std.proofs.Common.{◌≡◌, ℕ, ◌<◌, ◌≤◌, ◌⊎◌, Bool, true, false, cond, Option, Some, None, List, [], ◌∷◌, ◌++◌, length, map, take, refl, sym, ap, ◌∙◌, subst, arith}
+use Rattle.std.proofs.Common.{◌≡◌, ℕ, ◌<◌, ◌⊎◌, inl, inr, Bool, true, false, cond, Option, List, [], ◌∷◌, ◌++◌, length, map, take, refl, sym, ap, ◌∙◌, subst, arith}
 use Rattle.std.specs.List.{flat_map, filter, AllByRecursion, range_with_len}
 use Rattle.std.proofs.lemmas.List.{map-append, append-nil}
 use Rattle.std.proofs.lemmas.List.Concat.{flat_map-append}
@@ -7,12 +7,13 @@ use Rattle.std.proofs.lemmas.List.Elements.{filter-append}
 use Rattle.std.proofs.lemmas.Bool.{eq-eqb, ne_eqb}
 use Rattle.maximal_runs.specs.Items.{begins_in, AreItems}
 use Rattle.maximal_runs.proofs.Pass.{all_front, all_back}
-use Rattle.frame_layout.specs.Key.{key_of, queue_of}
+use Rattle.frame_layout.specs.Key.{key_of}
 use Rattle.pcap_io.specs.Capture.{Packet}
-use Rattle.offload_model.specs.Mergeable.{IsMergeable}
+use Rattle.offload_model.specs.Mergeable.{IsMergeable, IsMergeableWithin}
 use Rattle.offload_model.specs.Segments.{packet_in, with_frame, segments_of}
-use Rattle.offload_model.specs.Rounds.{is_key, is_of, is_queued, number_of, items_of, rounds_of}
-use Rattle.offload_model.specs.Written.{Options, record_of, window_of, windows_by, windows_of, round_records}
+use Rattle.offload_model.specs.Rounds.{Spread, is_key, is_of, is_queued, number_of, items_of, rounds_of}
+use Rattle.offload_model.proofs.Shown.{all_shown}
+use Rattle.offload_model.specs.Written.{Options, record_of, shown_of, window_of, windows_by, windows_of, round_records}
 use Rattle.offload_model.specs.Captured.{IsCaptured, AreCaptured, content}
 use Rattle.offload_model.specs.CaptureLaws.{FlowsComeBack}
 use Rattle.offload_model.proofs.Lists.{filter-flat_map, flat_map_none, all_filtered, all_of, all_joined, all_range, one_of_range, rounds_are, all_rounds, all_taken, near_taken, near_behind}
@@ -49,15 +50,15 @@ zip : (P Q R : List Packet → Type 0) (runs : List (List Packet)) → AllByRecu
 zip P Q R [] a b c f = tt
 zip P Q R (run ∷ runs) a b c f = (f run a.0 b.0 c.0, zip P Q R runs a.1 b.1 c.1 f)
 
-pub all_items : (xs : List Packet) (items : List (List Packet)) → AllByRecursion IsCaptured xs → AreItems IsMergeable is_of number_of xs items → AllByRecursion IsItem items
-all_items xs items captured i =
-    zip (λ run. 0 < length run) (λ run. (length run ≡ 1) ⊎ IsMergeable run) (λ run. AllByRecursion IsCaptured run) items
+pub all_items : {segs : ℕ} (xs : List Packet) (items : List (List Packet)) → AllByRecursion IsCaptured xs → AreItems (IsMergeableWithin segs) is_of number_of xs items → AllByRecursion IsItem items
+all_items {segs} xs items captured i =
+    zip (λ run. 0 < length run) (λ run. (length run ≡ 1) ⊎ IsMergeableWithin segs run) (λ run. AllByRecursion IsCaptured run) items
     i.full
-    (of_all (λ run. (length run ≡ 1) ⊎ IsMergeable run) items i.full (λ key. (i.flows key).each))
+    (of_all (λ run. (length run ≡ 1) ⊎ IsMergeableWithin segs run) items i.full (λ key. (i.flows key).each))
     (of_all (λ run. AllByRecursion IsCaptured run) items i.full (λ key.
     each_run IsCaptured (filter (begins_in (is_of key)) items)
     (subst (λ z. AllByRecursion IsCaptured z) (sym (i.flows key).joined) (all_filtered IsCaptured (is_of key) xs captured))))
-    (λ run a b c. record { full = a; allowed = b; captured = c })
+    (λ run a b c. record { full = a; allowed = elim b [ inl one ↦ inl one | inr m ↦ inr m.0 ]; captured = c })
 
 module _ (key : Option (List ℕ)) where
   abbrev pub has : Packet → Bool
@@ -108,63 +109,59 @@ module _ (key : Option (List ℕ)) where
             ap (λ v. map content (flat_map segments_of (cond v (r ∷ filter has (map (record_of q) items)) (filter has (map (record_of q) items))))) e ∙ rest
       ] same
 
-  back_queue : (queues q : ℕ) (ps : List Packet) → AreCaptured ps → back (map (record_of q) (items_of queues q ps)) ≡ map content (filter (is_of key) (filter (is_queued queues q) ps))
-  back_queue queues q ps c =
-      let i : AreItems IsMergeable is_of number_of (filter (is_queued queues q) ps) (items_of queues q ps) = items_are queues q ps c.rising in
-      back_items q (items_of queues q ps) (all_items (filter (is_queued queues q) ps) (items_of queues q ps) (all_filtered IsCaptured (is_queued queues q) ps c.each) i)
+  back_queue : (segs : ℕ) (spread : Spread) (q : ℕ) (ps : List Packet) → AreCaptured ps → back (map (record_of q) (items_of segs spread q ps)) ≡ map content (filter (is_of key) (filter (is_queued spread q) ps))
+  back_queue segs spread q ps c =
+      let i : AreItems (IsMergeableWithin segs) is_of number_of (filter (is_queued spread q) ps) (items_of segs spread q ps) = items_are segs spread q ps c.rising in
+      back_items q (items_of segs spread q ps) (all_items (filter (is_queued spread q) ps) (items_of segs spread q ps) (all_filtered IsCaptured (is_queued spread q) ps c.each) i)
       ∙ ap (map content) (i.flows key).joined
 
   -- ---- the flow's packets are all in its queue
 
-  abbrev own : ℕ → ℕ
-  own queues = queue_of key queues
+  abbrev own : Spread → ℕ
+  own spread = spread key
 
-  pub own_queue : (queues : ℕ) (ps : List Packet) → filter (is_of key) (filter (is_queued queues (own queues)) ps) ≡ filter (is_of key) ps
-  own_queue queues [] = refl
-  own_queue queues (p ∷ ps) = elim (is_of key p) as (λ v. is_of key p ≡ v
-      → filter (is_of key) (filter (is_queued queues (own queues)) (p ∷ ps)) ≡ cond v (p ∷ filter (is_of key) ps) (filter (is_of key) ps)) [
+  pub own_queue : (spread : Spread) (ps : List Packet) → filter (is_of key) (filter (is_queued spread (own spread)) ps) ≡ filter (is_of key) ps
+  own_queue spread [] = refl
+  own_queue spread (p ∷ ps) = elim (is_of key p) as (λ v. is_of key p ≡ v
+      → filter (is_of key) (filter (is_queued spread (own spread)) (p ∷ ps)) ≡ cond v (p ∷ filter (is_of key) ps) (filter (is_of key) ps)) [
         | true ↦ λ e.
             let same : key ≡ key_of p.frame = is_key_same key (key_of p.frame) e in
-            let queued : is_queued queues (own queues) p ≡ true = eq-eqb (queue_of (key_of p.frame) queues) (queue_of key queues) (ap (λ k. queue_of k queues) (sym same)) in
-            rw queued (rw e (ap (λ z. p ∷ z) (own_queue queues ps)))
-        | false ↦ λ e. elim (is_queued queues (own queues) p) as (λ w. filter (is_of key) (cond w (p ∷ filter (is_queued queues (own queues)) ps) (filter (is_queued queues (own queues)) ps)) ≡ filter (is_of key) ps) [
-          | true ↦ rw e (own_queue queues ps)
-          | false ↦ own_queue queues ps
+            let queued : is_queued spread (own spread) p ≡ true = eq-eqb (spread (key_of p.frame)) (spread key) (ap spread (sym same)) in
+            rw queued (rw e (ap (λ z. p ∷ z) (own_queue spread ps)))
+        | false ↦ λ e. elim (is_queued spread (own spread) p) as (λ w. filter (is_of key) (cond w (p ∷ filter (is_queued spread (own spread)) ps) (filter (is_queued spread (own spread)) ps)) ≡ filter (is_of key) ps) [
+          | true ↦ rw e (own_queue spread ps)
+          | false ↦ own_queue spread ps
         ]
       ] refl
 
-  pub other_queue : (queues q : ℕ) (ps : List Packet) → (q ≡ own queues → ⊥) → filter (is_of key) (filter (is_queued queues q) ps) ≡ []
-  other_queue queues q [] n = refl
-  other_queue queues q (p ∷ ps) n = elim (is_of key p) as (λ v. is_of key p ≡ v → filter (is_of key) (filter (is_queued queues q) (p ∷ ps)) ≡ []) [
+  pub other_queue : (spread : Spread) (q : ℕ) (ps : List Packet) → (q ≡ own spread → ⊥) → filter (is_of key) (filter (is_queued spread q) ps) ≡ []
+  other_queue spread q [] n = refl
+  other_queue spread q (p ∷ ps) n = elim (is_of key p) as (λ v. is_of key p ≡ v → filter (is_of key) (filter (is_queued spread q) (p ∷ ps)) ≡ []) [
     | true ↦ λ e.
         let same : key ≡ key_of p.frame = is_key_same key (key_of p.frame) e in
-        let queued : is_queued queues q p ≡ false = ne_eqb (queue_of (key_of p.frame) queues) q (λ h. n (sym h ∙ ap (λ k. queue_of k queues) (sym same))) in
-        rw queued (other_queue queues q ps n)
-    | false ↦ λ e. elim (is_queued queues q p) as (λ w. filter (is_of key) (cond w (p ∷ filter (is_queued queues q) ps) (filter (is_queued queues q) ps)) ≡ []) [
-      | true ↦ rw e (other_queue queues q ps n)
-      | false ↦ other_queue queues q ps n
+        let queued : is_queued spread q p ≡ false = ne_eqb (spread (key_of p.frame)) q (λ h. n (sym h ∙ ap spread (sym same))) in
+        rw queued (other_queue spread q ps n)
+    | false ↦ λ e. elim (is_queued spread q p) as (λ w. filter (is_of key) (cond w (p ∷ filter (is_queued spread q) ps) (filter (is_queued spread q) ps)) ≡ []) [
+      | true ↦ rw e (other_queue spread q ps n)
+      | false ↦ other_queue spread q ps n
     ]
   ] refl
 
-  pub own_below : (k : Option (List ℕ)) (queues : ℕ) → 1 ≤ queues → queue_of k queues < queues
-  own_below None queues h = omega arith
-  own_below (Some k) queues h = omega arith
-
-  back_queues : (queues : ℕ) (ps : List Packet) → 1 ≤ queues → AreCaptured ps
-      → back (flat_map (λ q. map (record_of q) (items_of queues q ps)) (range_with_len 0 queues)) ≡ map content (filter (is_of key) ps)
-  back_queues queues ps some c =
-      back-flat_map (λ q. map (record_of q) (items_of queues q ps)) (λ q. filter (is_of key) (filter (is_queued queues q) ps)) (range_with_len 0 queues)
-      (all_range (λ q. back (map (record_of q) (items_of queues q ps)) ≡ map content (filter (is_of key) (filter (is_queued queues q) ps))) queues (λ q l. back_queue queues q ps c))
+  back_queues : (segs : ℕ) (spread : Spread) (queues : ℕ) (ps : List Packet) → spread key < queues → AreCaptured ps
+      → back (flat_map (λ q. map (record_of q) (items_of segs spread q ps)) (range_with_len 0 queues)) ≡ map content (filter (is_of key) ps)
+  back_queues segs spread queues ps below c =
+      back-flat_map (λ q. map (record_of q) (items_of segs spread q ps)) (λ q. filter (is_of key) (filter (is_queued spread q) ps)) (range_with_len 0 queues)
+      (all_range (λ q. back (map (record_of q) (items_of segs spread q ps)) ≡ map content (filter (is_of key) (filter (is_queued spread q) ps))) queues (λ q l. back_queue segs spread q ps c))
       ∙ ap (map content)
-      (one_of_range (λ q. filter (is_of key) (filter (is_queued queues q) ps)) (own queues) queues (own_below key queues some) (λ q n. other_queue queues q ps n)
-      ∙ own_queue queues ps)
+      (one_of_range (λ q. filter (is_of key) (filter (is_queued spread q) ps)) (own spread) queues below (λ q n. other_queue spread q ps n)
+      ∙ own_queue spread ps)
 
   -- ---- windows
 
   window_none : (t : ℕ) (p : Packet) (window : List ℕ) → IsCaptured p → AllByRecursion (λ r. segments_of r ≡ []) (windows_by t p window)
   window_none t p [] c = tt
   window_none t p (b ∷ bytes) c = (
-    segments_are (record { version = 1; kind = 2; n = 0; m = 0; modes = 0; lane = t; number = p.number }) (with_frame p (b ∷ bytes)) (record { n = omega arith; m = omega arith; number = c.number }),
+    segments_are (record { version = 2; kind = 2; modes = 0; lane = t; n = 0; m = 0; number = p.number }) (with_frame p (b ∷ bytes)) (record { version = refl; n = omega arith; m = omega arith; number = c.number }),
     tt,
   )
 
@@ -176,12 +173,12 @@ module _ (key : Option (List ℕ)) where
       all_joined (λ r. segments_of r ≡ []) (λ p. windows_by t p (window_of snap t p.frame)) ps
       (all_of IsCaptured (λ p. AllByRecursion (λ r. segments_of r ≡ []) (windows_by t p (window_of snap t p.frame))) ps (λ p k. window_none t p (window_of snap t p.frame) k) c))))
 
-  back_round : (o : Options) (ps : List Packet) → 1 ≤ o.queues → AreCaptured ps → back (round_records o ps) ≡ map content (filter (is_of key) ps)
-  back_round o ps some c =
-      back-append (flat_map (λ q. map (record_of q) (items_of o.queues q ps)) (range_with_len 0 o.queues)) (flat_map (λ t. windows_of o.snap t ps) (range_with_len 0 o.taps))
-      ∙ ap (λ z. back (flat_map (λ q. map (record_of q) (items_of o.queues q ps)) (range_with_len 0 o.queues)) ++ z) (back_windows o.snap o.taps ps c.each)
-      ∙ append-nil (back (flat_map (λ q. map (record_of q) (items_of o.queues q ps)) (range_with_len 0 o.queues)))
-      ∙ back_queues o.queues ps some c
+  back_round : (o : Options) (ps : List Packet) → o.spread key < o.queues → AreCaptured ps → back (round_records o ps) ≡ map content (filter (is_of key) ps)
+  back_round o ps below c =
+      back-append (flat_map (λ q. map (record_of q) (items_of o.segs o.spread q ps)) (range_with_len 0 o.queues)) (flat_map (λ t. windows_of o.snap t (map (shown_of o.filter) ps)) (range_with_len 0 o.taps))
+      ∙ ap (λ z. back (flat_map (λ q. map (record_of q) (items_of o.segs o.spread q ps)) (range_with_len 0 o.queues)) ++ z) (back_windows o.snap o.taps (map (shown_of o.filter) ps) (all_shown o.filter ps c.each))
+      ∙ append-nil (back (flat_map (λ q. map (record_of q) (items_of o.segs o.spread q ps)) (range_with_len 0 o.queues)))
+      ∙ back_queues o.segs o.spread o.queues ps below c
 
 pub front_captured : (n : ℕ) (ps : List Packet) → AreCaptured ps → AreCaptured (take n ps)
 front_captured n ps c = record { each = all_taken IsCaptured n ps c.each; rising = near_taken (λ p q. p.number < q.number) n ps c.rising }
@@ -195,5 +192,5 @@ rounds_captured budget ps c = all_rounds AreCaptured front_captured behind_captu
 pub flows_come_back : FlowsComeBack
 flows_come_back o ps lawful c key =
     back-flat_map key (round_records o) (λ round. filter (is_of key) round) (rounds_of o.budget ps)
-    (all_of AreCaptured (λ round. back key (round_records o round) ≡ map content (filter (is_of key) round)) (rounds_of o.budget ps) (λ round k. back_round key o round lawful.some k) (rounds_captured o.budget ps c))
+    (all_of AreCaptured (λ round. back key (round_records o round) ≡ map content (filter (is_of key) round)) (rounds_of o.budget ps) (λ round k. back_round key o round (lawful.below key) k) (rounds_captured o.budget ps c))
     ∙ ap (map content) (sym (filter-flat_map (is_of key) (λ round. round) (rounds_of o.budget ps)) ∙ ap (filter (is_of key)) (rounds_are o.budget ps lawful.budget))

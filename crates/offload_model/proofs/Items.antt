@@ -12,12 +12,12 @@ use Rattle.offload_model.proofs.Fronts.{fronts_too}
 use Rattle.offload_model.specs.Laws.{HasOneCut}
 use Rattle.frame_layout.specs.Key.{key_of}
 use Rattle.pcap_io.specs.Capture.{Packet}
-use Rattle.offload_model.specs.Mergeable.{IsMergeable}
-use Rattle.offload_model.specs.Tests.{is_mergeable}
-use Rattle.offload_model.specs.Rounds.{is_key, key_in, is_of, is_queued, number_of, items_of}
+use Rattle.offload_model.specs.Mergeable.{IsMergeableWithin}
+use Rattle.offload_model.specs.Tests.{is_mergeable_within}
+use Rattle.offload_model.specs.Rounds.{Spread, is_key, key_in, is_of, is_queued, number_of, items_of}
 use Rattle.offload_model.specs.CaptureLaws.{ItemsAreRuns}
 use Rattle.offload_model.proofs.Lists.{all_of, rising_filtered}
-use Rattle.offload_model.proofs.Decides.{decides_mergeable}
+use Rattle.offload_model.proofs.Decides.{decides_within}
 
 pub is_key_self : (key : Option (List ℕ)) → is_key key key ≡ true
 is_key_self None = refl
@@ -49,25 +49,27 @@ same_cut M N to from xs runs c = record {
   maximal = near_of (λ run next. M (run ++ take 1 next) → ⊥) (λ run next. N (run ++ take 1 next) → ⊥) runs (λ run next f m. f (from (run ++ take 1 next) m)) c.maximal;
 }
 
-pub items_are : (queues q : ℕ) (ps : List Packet) → AllNeighbours (λ p q. p.number < q.number) ps
-    → AreItems IsMergeable is_of number_of (filter (is_queued queues q) ps) (items_of queues q ps)
-items_are queues q ps rising =
-    let xs : List Packet = filter (is_queued queues q) ps in
-    let i : AreItems (λ run. is_mergeable run ≡ true) is_of number_of xs (items_of queues q ps) =
-    items_are_runs is_mergeable is_of key_in number_of xs are_flows (rising_filtered number_of (is_queued queues q) ps rising) in
+pub items_are : (segs : ℕ) (spread : Spread) (q : ℕ) (ps : List Packet) → AllNeighbours (λ p q. p.number < q.number) ps
+    → AreItems (IsMergeableWithin segs) is_of number_of (filter (is_queued spread q) ps) (items_of segs spread q ps)
+items_are segs spread q ps rising =
+    let xs : List Packet = filter (is_queued spread q) ps in
+    let i : AreItems (λ run. is_mergeable_within segs run ≡ true) is_of number_of xs (items_of segs spread q ps) =
+    items_are_runs (is_mergeable_within segs) is_of key_in number_of xs are_flows (rising_filtered number_of (is_queued spread q) ps rising) in
     record {
       full = i.full;
-      flows = λ key. same_cut (λ run. is_mergeable run ≡ true) IsMergeable (λ r. (decides_mergeable r).0) (λ r. (decides_mergeable r).1) (filter (is_of key) xs) (filter (begins_in (is_of key)) (items_of queues q ps)) (i.flows key);
+      flows = λ key. same_cut (λ run. is_mergeable_within segs run ≡ true) (IsMergeableWithin segs) (λ r. (decides_within segs r).0) (λ r. (decides_within segs r).1)
+          (filter (is_of key) xs) (filter (begins_in (is_of key)) (items_of segs spread q ps)) (i.flows key);
       ordered = i.ordered;
     }
 
 pub items_are_runs_alone : ItemsAreRuns
-items_are_runs_alone queues q ps items rising = (
-  λ i. unique_items is_of number_of key_in (λ p. is_key_self (key_of p.frame)) IsMergeable fronts_too (filter (is_queued queues q) ps) items (items_of queues q ps) i (items_are queues q ps rising),
-  λ e. subst (AreItems IsMergeable is_of number_of (filter (is_queued queues q) ps)) (sym e) (items_are queues q ps rising),
+items_are_runs_alone segs spread q ps items rising = (
+  λ i. unique_items is_of number_of key_in (λ p. is_key_self (key_of p.frame)) (IsMergeableWithin segs) (fronts_too segs) (filter (is_queued spread q) ps) items
+      (items_of segs spread q ps) i (items_are segs spread q ps rising),
+  λ e. subst (AreItems (IsMergeableWithin segs) is_of number_of (filter (is_queued spread q) ps)) (sym e) (items_are segs spread q ps rising),
 )
 
 pub one_cut : HasOneCut
-one_cut ps runs =
-    let own : IsCut IsMergeable ps (cut_of is_mergeable ps) = one_pass IsMergeable is_mergeable decides_mergeable ps in
-    (λ c. unique IsMergeable fronts_too ps runs (cut_of is_mergeable ps) c own, λ e. subst (IsCut IsMergeable ps) (sym e) own)
+one_cut segs ps runs =
+    let own : IsCut (IsMergeableWithin segs) ps (cut_of (is_mergeable_within segs) ps) = one_pass (IsMergeableWithin segs) (is_mergeable_within segs) (decides_within segs) ps in
+    (λ c. unique (IsMergeableWithin segs) (fronts_too segs) ps runs (cut_of (is_mergeable_within segs) ps) c own, λ e. subst (IsCut (IsMergeableWithin segs) ps) (sym e) own)

@@ -16,6 +16,7 @@ pub mod Decides
 pub mod Opened
 pub mod Records
 pub mod Lists
+pub mod Shown
 mod RunRecords
 pub mod Items
 pub mod Flows
@@ -25,9 +26,12 @@ mod Limits
 pub mod Passings
 pub mod Behind
 pub mod Steps
+mod Growing
 pub mod Captured
 mod ReadBack
 mod WrittenBack
 pub mod OneQueue
+mod Choices
 mod FlowLists
 pub mod ComesBack
+mod Tunnels

@@ -5,7 +5,7 @@ use Rattle.std.specs.Io.KnownBytes.{Appends}
 use Rattle.std.proofs.KnownBytes.{Appends-trans}
 use Rattle.std.proofs.lemmas.Grind.{flat_map-append}
 use Rattle.off_io.specs.Content.{AppendsFront}
-use Rattle.off_io.proofs.Appending.{front_then}
+use Rattle.off_io.proofs.Appending.{front_then, front_more}
 use Rattle.net_bytes.specs.declared.order.Order.{Order}
 use Rattle.pcap_io.specs.declared.heads.FileHead.{FileHead}
 use Rattle.pcap_io.specs.declared.place.Place.{Place}
@@ -22,7 +22,7 @@ use Rattle.offload_model.specs.Rounds.{items_of}
 use Rattle.offload_model.specs.Written.{Options, record_of, round_records, records_of, record_bytes, windows_of}
 use Rattle.offload_model.specs.Need.{need_of, needed, round_need, exceeded, exceeded_at, exceeded_record_at, found_before}
 use Rattle.offload_model.specs.Passing.{Stop, AtFault, AtRound, Passed, Ending, Stopped, ReadFault, WriteFault, NoMemory, stop_of, merging, segmenting, IsNoRound, Passes}
-use Rattle.offload_model.specs.Steps.{stop_behind, ending_behind, behind, GoesOn, CommandsPassOn, in_front, round_output, MergingGoesByRound, SegmentingGoesByRecord}
+use Rattle.offload_model.specs.Steps.{stop_behind, ending_behind, behind, GoesOn, CommandsPassOn, FrontsPassOn, in_front, round_output, MergingGoesByRound, SegmentingGoesByRecord}
 use Rattle.offload_model.proofs.Rounding.{rounds_full, rounds_last}
 use Rattle.offload_model.proofs.Behind.{stop_none, stop_more, no_round_on, left_on, shift, exceeded_on, exceeded_last, exceeded_next, found_on, stop_on, made_full, made_last, made_less}
 
@@ -73,6 +73,14 @@ commands_pass_on from to k gone done = record {
   passes = λ old mid new ending bytes left on wrote p. pass_on from to k gone done old mid new ending bytes left on wrote p;
 }
 
+pub fronts_pass_on : FrontsPassOn
+fronts_pass_on from to k gone done = record {
+  after = λ old mid new bytes left on wrote p.
+      subst (AppendsFront old new) (sym (ap (λ (x : Passed). x.output) (on bytes))) (front_then old mid new done (to bytes).output wrote p);
+  within = λ old new bytes left on p.
+      subst (AppendsFront old new) (sym (ap (λ (x : Passed). x.output) (on bytes))) (front_more old new done (to bytes).output p);
+}
+
 -- ---- merging
 
 abbrev made : Options → Order → Option (ℕ × ℕ) → Found → Passed
@@ -92,7 +100,7 @@ each_none f (x ∷ xs) h = ap (λ l. l ++ flat_map f xs) (h x) ∙ each_none f x
 no_records : (options : Options) → round_records options [] ≡ []
 no_records options =
     ap (λ (l : List Packet). l ++ flat_map (λ t. windows_of options.snap t []) (range_with_len 0 options.taps))
-    (each_none (λ q. map (record_of q) (items_of options.queues q [])) (range_with_len 0 options.queues) (λ q. refl))
+    (each_none (λ q. map (record_of q) (items_of options.segs options.spread q [])) (range_with_len 0 options.queues) (λ q. refl))
     ∙ each_none (λ t. windows_of options.snap t []) (range_with_len 0 options.taps) (λ t. refl)
 
 records_last : (options : Options) (order : Order) (ps : List Packet) → 0 < options.budget → length ps ≤ options.budget

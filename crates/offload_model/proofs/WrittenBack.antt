@@ -5,8 +5,8 @@ use Rattle.std.proofs.lemmas.List.{append-nil}
 use Rattle.std.specs.List.{flat_map, AllByRecursion, range_with_len, filter}
 use Rattle.maximal_runs.proofs.Pass.{all_append}
 use Rattle.pcap_io.specs.Capture.{Packet, Found, reads, one_more}
-use Rattle.pcap_io.specs.Headers.{off_head}
-use Rattle.pcap_io.specs.declared.off_head.OffHead.{OffHead}
+use Rattle.pcap_io.specs.Headers.{any_head, fields_in}
+use Rattle.pcap_io.specs.declared.off_head.OffHead2.{OffHead2}
 use Rattle.pcap_io.specs.declared.heads.Link.TheVariants.{Offload}
 use Rattle.frame_layout.specs.Shape.{Layout}
 use Rattle.offload_model.specs.Mergeable.{IsMergeable}
@@ -14,14 +14,15 @@ use Rattle.offload_model.specs.Merged.{Merged, merged_of}
 use Rattle.offload_model.specs.Segments.{packet_in, merged_in, with_frame, frames_of, segments_of, IsCuttable, IsLawfulWindow, IsLawfulRecord}
 use Rattle.offload_model.specs.Tests.{is_lawful_record}
 use Rattle.offload_model.specs.Rounds.{is_of, is_queued, items_of, rounds_of}
-use Rattle.offload_model.specs.Written.{Options, head_of, record_of, window_of, window_record, windows_by, windows_of, round_records, records_of, record_bytes, written}
+use Rattle.offload_model.proofs.Shown.{all_shown}
+use Rattle.offload_model.specs.Written.{Options, head_of, record_of, shown_of, window_of, window_record, windows_by, windows_of, round_records, records_of, record_bytes, written}
 use Rattle.offload_model.specs.Captured.{IsCaptured, AreCaptured, AreOptions, content}
 use Rattle.offload_model.specs.Tested.{numbered, tested_from}
 use Rattle.offload_model.specs.CaptureLaws.{ReadsBack, HeadReadsBack, WrittenComesBack}
 use Rattle.offload_model.proofs.Decides.{decides_record}
 use Rattle.offload_model.proofs.Lists.{all_filtered, all_of, all_mapped, all_joined, all_range}
-use Rattle.offload_model.proofs.Opened.{opened_head, length-off_bytes}
-use Rattle.offload_model.proofs.RunRecords.{IsRunRecord, run_record, super_record, single_record, in_bytes}
+use Rattle.offload_model.proofs.Opened.{Fits, opened_head, length-off_bytes2}
+use Rattle.offload_model.proofs.RunRecords.{IsRunRecord, run_record, super_record, single_record, in_bytes, opened_by}
 use Rattle.offload_model.proofs.Items.{items_are}
 use Rattle.offload_model.proofs.Flows.{IsItem, all_items, rounds_captured, back, back-append, flows_come_back}
 use Rattle.offload_model.proofs.ReadBack.{IsWritable, capture_back, capture_head_back}
@@ -35,7 +36,7 @@ run_written : (q : ℕ) (run : List Packet) → q ≤ 63 → IsItem run → IsWr
 run_written q [] lane i = absurd (omega (arith, i.full))
 run_written q (p ∷ []) lane i =
     let c : IsCaptured p = i.captured.0 in
-    let size : length (record_of q (p ∷ [])).frame ≡ 12 + length p.frame = length-off_bytes (head_of q (merged_of (p ∷ []))) p.frame in
+    let size : length (record_of q (p ∷ [])).frame ≡ 16 + length p.frame = length-off_bytes2 (head_of q (merged_of (p ∷ []))) p.frame in
     record {
       fits = record {
         sec = c.sec;
@@ -45,7 +46,10 @@ run_written q (p ∷ []) lane i =
         above = omega arith;
         within = omega (arith, c.original);
       };
-      lawful = inl (single_record q p lane c);
+      lawful = (
+        opened_by (head_of q (merged_of (p ∷ []))) p (record { version = refl; n = omega arith; m = omega arith; number = c.number }) c.short c.original,
+        inl (single_record q p lane c),
+      );
     }
 run_written q (p ∷ x ∷ ps) lane i = several (one_or_more i.allowed)
   where
@@ -59,7 +63,7 @@ run_written q (p ∷ x ∷ ps) lane i = several (one_or_more i.allowed)
         let r : Merged = merged_of run in
         let k : IsRunRecord m.0 p run r = run_record p x ps m (in_bytes run i.captured) in
         let c : IsCaptured p = i.captured.0 in
-        let size : length (record_of q run).frame ≡ 12 + length r.packet.frame = length-off_bytes (head_of q r) r.packet.frame in
+        let size : length (record_of q run).frame ≡ 16 + length r.packet.frame = length-off_bytes2 (head_of q r) r.packet.frame in
         record {
           fits = record {
             sec = subst (λ n. n < 2 ^ 32) (sym k.sec) c.sec;
@@ -69,13 +73,18 @@ run_written q (p ∷ x ∷ ps) lane i = several (one_or_more i.allowed)
             above = omega arith;
             within = omega (arith, k.original, k.short);
           };
-          lawful = inr (inl (super_record q p x ps lane i.captured m));
+          lawful = (
+            opened_by (head_of q r) r.packet (record { version = refl; n = omega (arith, k.n); m = omega (arith, k.m); number = c.number })
+                k.short (omega (arith, k.original, k.short)),
+            inr (inl (super_record q p x ps lane i.captured m)),
+          );
         }
 
 window_written : (t : ℕ) (p : Packet) (window : List ℕ) → t ≤ 7 → IsCaptured p → length window ≤ 262144 → IsWritten (window_record t p window)
 window_written t p window lane c short =
-    let head : OffHead = record { version = 1; kind = 2; n = 0; m = 0; modes = 0; lane = t; number = p.number } in
-    let size : length (window_record t p window).frame ≡ 12 + length window = length-off_bytes head window in
+    let head : OffHead2 = record { version = 2; kind = 2; modes = 0; lane = t; n = 0; m = 0; number = p.number } in
+    let fits : Fits head = record { version = refl; n = omega arith; m = omega arith; number = c.number } in
+    let size : length (window_record t p window).frame ≡ 16 + length window = length-off_bytes2 head window in
     record {
       fits = record {
         sec = c.sec;
@@ -85,8 +94,11 @@ window_written t p window lane c short =
         above = omega arith;
         within = omega arith;
       };
-      lawful = inr (inr (subst IsLawfulWindow (sym (opened_head head window (record { n = omega arith; m = omega arith; number = c.number })))
-          (record { version = refl; kind = refl; n = refl; m = refl; modes = refl; lane = lane })));
+      lawful = (
+        opened_by head (with_frame p window) fits short (omega (arith, short)),
+        inr (inr (subst (λ h. IsLawfulWindow (fields_in h)) (sym (opened_head head window fits))
+            (record { kind = refl; n = refl; m = refl; modes = refl; lane = lane }))),
+      );
     }
 
 windows_written : (t : ℕ) (p : Packet) (window : List ℕ) → t ≤ 7 → IsCaptured p → length window ≤ 262144 → AllByRecursion IsWritten (windows_by t p window)
@@ -98,16 +110,16 @@ window_short snap t p c = omega (arith, length-take snap (drop (t * snap) p.fram
 
 round_written : (o : Options) (ps : List Packet) → AreOptions o → AreCaptured ps → AllByRecursion IsWritten (round_records o ps)
 round_written o ps lawful c =
-    all_append IsWritten (flat_map (λ q. map (record_of q) (items_of o.queues q ps)) (range_with_len 0 o.queues)) (flat_map (λ t. windows_of o.snap t ps) (range_with_len 0 o.taps))
-    (all_joined IsWritten (λ q. map (record_of q) (items_of o.queues q ps)) (range_with_len 0 o.queues)
-    (all_range (λ q. AllByRecursion IsWritten (map (record_of q) (items_of o.queues q ps))) o.queues (λ q l.
-    all_mapped IsItem IsWritten (record_of q) (items_of o.queues q ps) (λ run i. run_written q run (omega (arith, lawful.queues)) i)
-    (all_items (filter (is_queued o.queues q) ps) (items_of o.queues q ps) (all_filtered IsCaptured (is_queued o.queues q) ps c.each) (items_are o.queues q ps c.rising)))))
-    (all_joined IsWritten (λ t. windows_of o.snap t ps) (range_with_len 0 o.taps)
-    (all_range (λ t. AllByRecursion IsWritten (windows_of o.snap t ps)) o.taps (λ t l.
-    all_joined IsWritten (λ p. windows_by t p (window_of o.snap t p.frame)) ps
-    (all_of IsCaptured (λ p. AllByRecursion IsWritten (windows_by t p (window_of o.snap t p.frame))) ps
-    (λ p k. windows_written t p (window_of o.snap t p.frame) (omega (arith, lawful.taps)) k (window_short o.snap t p k)) c.each))))
+    all_append IsWritten (flat_map (λ q. map (record_of q) (items_of o.segs o.spread q ps)) (range_with_len 0 o.queues)) (flat_map (λ t. windows_of o.snap t (map (shown_of o.filter) ps)) (range_with_len 0 o.taps))
+    (all_joined IsWritten (λ q. map (record_of q) (items_of o.segs o.spread q ps)) (range_with_len 0 o.queues)
+    (all_range (λ q. AllByRecursion IsWritten (map (record_of q) (items_of o.segs o.spread q ps))) o.queues (λ q l.
+    all_mapped IsItem IsWritten (record_of q) (items_of o.segs o.spread q ps) (λ run i. run_written q run (omega (arith, lawful.queues)) i)
+    (all_items (filter (is_queued o.spread q) ps) (items_of o.segs o.spread q ps) (all_filtered IsCaptured (is_queued o.spread q) ps c.each) (items_are o.segs o.spread q ps c.rising)))))
+    (all_joined IsWritten (λ t. windows_of o.snap t (map (shown_of o.filter) ps)) (range_with_len 0 o.taps)
+    (all_range (λ t. AllByRecursion IsWritten (windows_of o.snap t (map (shown_of o.filter) ps))) o.taps (λ t l.
+    all_joined IsWritten (λ p. windows_by t p (window_of o.snap t p.frame)) (map (shown_of o.filter) ps)
+    (all_of IsCaptured (λ p. AllByRecursion IsWritten (windows_by t p (window_of o.snap t p.frame))) (map (shown_of o.filter) ps)
+    (λ p k. windows_written t p (window_of o.snap t p.frame) (omega (arith, lawful.taps)) k (window_short o.snap t p k)) (all_shown o.filter ps c.each)))))
 
 pub all_written : (o : Options) (ps : List Packet) → AreOptions o → AreCaptured ps → AllByRecursion IsWritten (records_of o ps)
 all_written o ps lawful c =
@@ -119,7 +131,7 @@ all_written o ps lawful c =
 abbrev renumbered : ℕ → Packet → Packet
 renumbered n r = record { number = n; sec = r.sec; frac = r.frac; original = r.original; frame = r.frame }
 
-same_cuttable : (layout : Layout) (n : ℕ) (r : Packet) (head : OffHead) → IsCuttable layout (merged_in head (packet_in r)) → IsCuttable layout (merged_in head (packet_in (renumbered n r)))
+same_cuttable : (layout : Layout) (n : ℕ) (r : Packet) (head : OffHead2) → IsCuttable layout (merged_in head (packet_in r)) → IsCuttable layout (merged_in head (packet_in (renumbered n r)))
 same_cuttable layout n r head c = record {
   shape_is = c.shape_is;
   candidate = c.candidate;
@@ -132,9 +144,12 @@ same_cuttable layout n r head c = record {
 }
 
 same_lawful : (n : ℕ) (r : Packet) → IsLawfulRecord r → IsLawfulRecord (renumbered n r)
-same_lawful n r (inl single) = inl single
-same_lawful n r (inr (inl s)) = inr (inl (record { version = s.version; kind = s.kind; lane = s.lane; layout = s.layout; cuttable = same_cuttable s.layout n r (off_head r.frame) s.cuttable }))
-same_lawful n r (inr (inr window)) = inr (inr window)
+same_lawful n r (opened, inl single) = (opened, inl single)
+same_lawful n r (opened, inr (inl s)) = (
+  opened,
+  inr (inl (record { kind = s.kind; lane = s.lane; layout = s.layout; cuttable = same_cuttable s.layout n r (fields_in (any_head r.frame)) s.cuttable })),
+)
+same_lawful n r (opened, inr (inr window)) = (opened, inr (inr window))
 
 -- lawful records pass the test
 pub tested_all : (n offset : ℕ) (rs : List Packet) → AllByRecursion IsLawfulRecord rs → tested_from offset (numbered n rs) None ≡ record { packets = numbered n rs; fault = None }
@@ -160,7 +175,7 @@ head_reads_back head o ps a b = capture_head_back head (flat_map (record_bytes h
 
 -- what comes back of a record doesn't depend on its number
 same_content : (n : ℕ) (r : Packet) → map content (segments_of (renumbered n r)) ≡ map content (segments_of r)
-same_content n r = by_kind (off_head r.frame).kind (frames_of (merged_in (off_head r.frame) (packet_in r)))
+same_content n r = by_kind (fields_in (any_head r.frame)).kind (frames_of (merged_in (fields_in (any_head r.frame)) (packet_in r)))
   where
     contents : (p q : Packet) (fs : List (List ℕ)) → map content (map (with_frame p) fs) ≡ map content (map (with_frame q) fs)
     contents p q [] = refl

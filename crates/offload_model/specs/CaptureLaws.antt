@@ -1,16 +1,17 @@
 -- The laws of merging and segmenting, of a whole capture.
 use Rattle.std.specs.Prelude.{◌≡◌, ℕ, ◌^◌, ◌<◌, ◌≤◌, ◌⊎◌, ◌↔◌, Option, None, List, length, map, take}
-use Rattle.std.specs.List.{AllByRecursion, filter, flat_map}
+use Rattle.std.specs.List.{AllByRecursion, filter, flat_map, range_with_len}
+use Rattle.std.specs.List.Sorted.{IsPermutation}
 use Rattle.maximal_runs.specs.Cut.{AllNeighbours}
-use Rattle.maximal_runs.specs.Items.{AreItems}
+use Rattle.maximal_runs.specs.Items.{begins_in, AreItems}
 use Rattle.pcap_io.specs.Capture.{Packet, Found, reads}
-use Rattle.pcap_io.specs.Headers.{off_head, file_head}
+use Rattle.pcap_io.specs.Headers.{any_head, fields_in, file_head}
 use Rattle.pcap_io.specs.declared.heads.FileHead.{FileHead}
 use Rattle.pcap_io.specs.declared.heads.Link.TheVariants.{Ethernet, Offload}
-use Rattle.offload_model.specs.Mergeable.{IsMergeable}
+use Rattle.offload_model.specs.Mergeable.{IsMergeable, IsMergeableWithin}
 use Rattle.offload_model.specs.Merged.{merged_of}
 use Rattle.offload_model.specs.Segments.{packet_in, segments_of, IsLawfulSuper}
-use Rattle.offload_model.specs.Rounds.{is_of, is_queued, number_of, items_of, runs_in}
+use Rattle.offload_model.specs.Rounds.{Spread, is_of, is_queued, number_of, items_of, runs_in}
 use Rattle.offload_model.specs.Written.{Options, record_of, records_of, written}
 use Rattle.offload_model.specs.Captured.{IsCaptured, AreCaptured, AreOptions, content}
 use Rattle.offload_model.specs.Tested.{numbered, reads_tested, segmented_of}
@@ -30,28 +31,60 @@ RunsComeBack =
     → (length run ≡ 1) ⊎ IsMergeable run
     → map content (segments_of (record_of q run)) ≡ map content run
 
--- the record of mergeable packets is a lawful super-packet, and its numbers fit their fields
+-- the record of mergeable packets is a lawful super-packet; it has as many segments as there were packets, and no more than a frame of
+-- a capture can have bytes of payload
 abbrev pub RunsAreLawful : Type 0
 RunsAreLawful =
     (q : ℕ) (run : List Packet)
     → q ≤ 63
     → AllByRecursion IsCaptured run
     → IsMergeable run
-    → IsLawfulSuper (off_head (record_of q run).frame) (packet_in (record_of q run))
-    × ((merged_of run).n < 2 ^ 16) × ((merged_of run).m < 2 ^ 16)
+    → IsLawfulSuper (fields_in (any_head (record_of q run).frame)) (packet_in (record_of q run))
+    × ((merged_of run).n ≡ length run) × ((merged_of run).n ≤ 262070) × ((merged_of run).m ≤ 262069)
+
+-- the lengths of the packets of a run can be told from its record: two runs with the same merged frame, the same numbers and the same modes
+-- are one, packet by packet. So datagrams keep their boundaries
+abbrev pub BoundariesAreKept : Type 0
+BoundariesAreKept =
+    (ps qs : List Packet)
+    → AllByRecursion IsCaptured ps
+    → AllByRecursion IsCaptured qs
+    → IsMergeable ps
+    → IsMergeable qs
+    → (merged_of ps).packet.frame ≡ (merged_of qs).packet.frame
+    → (merged_of ps).n ≡ (merged_of qs).n
+    → (merged_of ps).m ≡ (merged_of qs).m
+    → (merged_of ps).modes ≡ (merged_of qs).modes
+    → map content ps ≡ map content qs
 
 -- ---- rounds
 
 -- the items of a queue are the cuts of all its flows, in the order of their first packets' numbers, and nothing else is
 abbrev pub ItemsAreRuns : Type 0
 ItemsAreRuns =
-    (queues q : ℕ) (ps : List Packet) (items : List (List Packet))
+    (segs : ℕ) (spread : Spread) (q : ℕ) (ps : List Packet) (items : List (List Packet))
     → AllNeighbours (λ p q. p.number < q.number) ps
-    → AreItems IsMergeable is_of number_of (filter (is_queued queues q) ps) items ↔ (items ≡ items_of queues q ps)
+    → AreItems (IsMergeableWithin segs) is_of number_of (filter (is_queued spread q) ps) items ↔ (items ≡ items_of segs spread q ps)
+
+-- the runs of a round are what they are whatever the queues: a queue's items are those of them that begin in it, in their order
+abbrev pub QueuesKeepRuns : Type 0
+QueuesKeepRuns =
+    (segs : ℕ) (spread : Spread) (q : ℕ) (ps : List Packet)
+    → AllNeighbours (λ p q. p.number < q.number) ps
+    → items_of segs spread q ps ≡ filter (begins_in (is_queued spread q)) (runs_in segs ps)
+
+-- so by any two choices the items of a round are the same but for queue and order
+abbrev pub ChoicesKeepItems : Type 0
+ChoicesKeepItems =
+    (segs : ℕ) (spread other : Spread) (queues others : ℕ) (ps : List Packet)
+    → AllNeighbours (λ p q. p.number < q.number) ps
+    → ((key : Option (List ℕ)) → spread key < queues)
+    → ((key : Option (List ℕ)) → other key < others)
+    → IsPermutation (flat_map (λ q. items_of segs spread q ps) (range_with_len 0 queues)) (flat_map (λ q. items_of segs other q ps) (range_with_len 0 others))
 
 -- where there is one queue, it has all flows
 abbrev pub OneQueueHasAll : Type 0
-OneQueueHasAll = (packets : List Packet) → items_of 1 0 packets ≡ runs_in packets
+OneQueueHasAll = (segs : ℕ) (spread : Spread) (packets : List Packet) → ((key : Option (List ℕ)) → spread key < 1) → items_of segs spread 0 packets ≡ runs_in segs packets
 
 -- over a whole capture every flow comes back: the segments of the records whose frames have a key are the packets that have
 -- it, in order

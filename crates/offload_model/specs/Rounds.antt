@@ -3,9 +3,9 @@ use Rattle.std.specs.Prelude.{ℕ, zero, suc, ◌-◌, Bool, true, false, ◌==�
 use Rattle.std.specs.List.{filter}
 use Rattle.std.specs.Str.{bytes_eq}
 use Rattle.maximal_runs.specs.Items.{items_of as runs_of}
-use Rattle.frame_layout.specs.Key.{key_of, queue_of}
+use Rattle.frame_layout.specs.Key.{key_of}
 use Rattle.pcap_io.specs.Capture.{Packet}
-use Rattle.offload_model.specs.Tests.{is_mergeable}
+use Rattle.offload_model.specs.Tests.{is_mergeable_within}
 
 -- from here on, where `more` elements still belong to the round that was begun before
 abbrev pub rounds_from : {A : Type 0} → ℕ → ℕ → List A → List (List A)
@@ -31,16 +31,20 @@ key_in p = key_of p.frame
 abbrev pub is_of : Option (List ℕ) → Packet → Bool
 is_of key p = is_key key (key_of p.frame)
 
-abbrev pub is_queued : ℕ → ℕ → Packet → Bool
-is_queued queues q p = queue_of (key_of p.frame) queues == q
+-- how flows go to queues: any function of their keys
+abbrev pub Spread : Type 0
+Spread = Option (List ℕ) → ℕ
+
+abbrev pub is_queued : Spread → ℕ → Packet → Bool
+is_queued spread q p = spread (key_of p.frame) == q
 
 abbrev pub number_of : Packet → ℕ
 number_of p = p.number
 
--- the runs of all flows of some packets, in the order of their first packets' numbers
-abbrev pub runs_in : List Packet → List (List Packet)
-runs_in ps = runs_of is_mergeable is_of key_in number_of ps
+-- the runs of all flows of some packets, of at most `segs` packets each, in the order of their first packets' numbers
+abbrev pub runs_in : ℕ → List Packet → List (List Packet)
+runs_in segs ps = runs_of (is_mergeable_within segs) is_of key_in number_of ps
 
 -- those of queue q
-abbrev pub items_of : ℕ → ℕ → List Packet → List (List Packet)
-items_of queues q ps = runs_in (filter (is_queued queues q) ps)
+abbrev pub items_of : ℕ → Spread → ℕ → List Packet → List (List Packet)
+items_of segs spread q ps = runs_in segs (filter (is_queued spread q) ps)

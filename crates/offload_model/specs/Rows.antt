@@ -1,8 +1,12 @@
 -- Worked rows: captures whose sums were computed by another program, and what merging them gives.
-use Rattle.std.specs.Prelude.{◌≡◌, ℕ, ◌+◌, ◌-◌, ◌*◌, ◌/◌, ◌%◌, true, false, List, [], ◌∷◌, ◌++◌, length, map, take, replicate}
+use Rattle.std.specs.Prelude.{◌≡◌, ℕ, ◌+◌, ◌-◌, ◌*◌, ◌/◌, ◌%◌, true, false, None, List, [], ◌∷◌, ◌++◌, length, map, take, drop, replicate}
 use Rattle.std.specs.List.{flat_map, range_with_len}
 use Rattle.net_bytes.specs.Bytes.{bytes16}
 use Rattle.ip_headers.specs.Ip4.{total_length}
+use Rattle.tcp_headers.specs.Udp.{udp_length}
+use Rattle.frame_layout.specs.Key.{key_of}
+use Rattle.pcap_io.specs.Written.{off_bytes}
+use Rattle.pcap_io.specs.declared.off_head.OffHead.{OffHead}
 use Rattle.net_bytes.specs.declared.order.Order.TheVariants.{Little}
 use Rattle.pcap_io.specs.Capture.{Packet}
 use Rattle.maximal_runs.specs.Cut.{IsCut}
@@ -10,6 +14,7 @@ use Rattle.offload_model.specs.Mergeable.{IsMergeable}
 use Rattle.offload_model.specs.Merged.{merged_of}
 use Rattle.offload_model.specs.Segments.{with_head, segments_of}
 use Rattle.offload_model.specs.Tests.{is_lawful_record}
+use Rattle.frame_layout.specs.Key.{queue_of}
 use Rattle.offload_model.specs.Rounds.{items_of}
 use Rattle.offload_model.specs.Written.{Options, records_of, written}
 use Rattle.offload_model.specs.Captured.{content}
@@ -56,6 +61,20 @@ vxlan6 udp_sum inner =
     ethernet 0x86dd
     ++ (0x60 ∷ 0 ∷ 0 ∷ 0 ∷ (bytes16 (16 + length inner) ++ (17 ∷ 64 ∷ (0x20 ∷ 1 ∷ 0xd ∷ 0xb8 ∷ (replicate 11 0 ++ (1 ∷ (0x20 ∷ 1 ∷ 0xd ∷ 0xb8 ∷ (replicate 9 0 ++ (1 ∷ 0 ∷ 1 ∷ tunnel udp_sum inner)))))))))
 
+-- a datagram over IPv4 from 10.0.0.1, port 40000, to 10.0.0.2
+abbrev pub udp4 : ℕ → ℕ → ℕ → ℕ → List ℕ → List ℕ
+udp4 port id ip_sum sum payload =
+    ethernet 0x0800
+    ++ (ip4 (28 + length payload) id 0x4000 17 ip_sum (10 ∷ 0 ∷ 0 ∷ 1 ∷ 10 ∷ 0 ∷ 0 ∷ 2 ∷ [])
+    ++ (bytes16 40000 ++ (bytes16 port ++ (bytes16 (8 + length payload) ++ (bytes16 sum ++ payload)))))
+
+-- GRE over IPv4 from 192.0.2.1 to 192.0.2.100, with these first two bytes and this key or none, before an inner IPv4 header
+abbrev pub gre4 : ℕ → ℕ → ℕ → List ℕ → List ℕ → List ℕ
+gre4 flags id ip_sum key inner =
+    ethernet 0x0800
+    ++ (ip4 (10 + length key + length inner) id 0x4000 47 ip_sum (192 ∷ 0 ∷ 2 ∷ 1 ∷ 192 ∷ 0 ∷ 2 ∷ 100 ∷ [])
+    ++ (bytes16 flags ++ (bytes16 0x0800 ++ (key ++ drop 14 inner))))
+
 -- ---- captures
 
 -- two packets of four and two bytes of payload, the second with PSH
@@ -74,14 +93,40 @@ worked_1 =
 abbrev pub worked : List Packet
 worked = packet 0 worked_0 ∷ record { number = 1; sec = 1; frac = 5; original = 56; frame = worked_1 } ∷ []
 
--- and the capture that merging them writes: one record of 72 bytes
+-- and the capture that merging them writes: one record of 76 bytes
 abbrev pub worked_written : List ℕ
 worked_written =
-    212 ∷ 195 ∷ 178 ∷ 161 ∷ 2 ∷ 0 ∷ 4 ∷ 0 ∷ 0 ∷ 0 ∷ 0 ∷ 0 ∷ 0 ∷ 0 ∷ 0 ∷ 0 ∷ 12 ∷ 0 ∷ 4 ∷ 0 ∷ 147 ∷ 0 ∷ 0 ∷ 0 ∷ 1 ∷ 0 ∷
-    0 ∷ 0 ∷ 0 ∷ 0 ∷ 0 ∷ 0 ∷ 72 ∷ 0 ∷ 0 ∷ 0 ∷ 72 ∷ 0 ∷ 0 ∷ 0 ∷ 1 ∷ 1 ∷ 0 ∷ 2 ∷ 0 ∷ 4 ∷ 0 ∷ 0 ∷ 0 ∷ 0 ∷ 0 ∷ 0 ∷ 2 ∷ 0 ∷
-    0 ∷ 0 ∷ 0 ∷ 2 ∷ 2 ∷ 0 ∷ 0 ∷ 0 ∷ 0 ∷ 1 ∷ 8 ∷ 0 ∷ 69 ∷ 0 ∷ 0 ∷ 46 ∷ 0 ∷ 100 ∷ 64 ∷ 0 ∷ 64 ∷ 6 ∷ 38 ∷ 100 ∷ 10 ∷ 0 ∷
-    0 ∷ 1 ∷ 10 ∷ 0 ∷ 0 ∷ 2 ∷ 156 ∷ 64 ∷ 19 ∷ 137 ∷ 0 ∷ 0 ∷ 3 ∷ 232 ∷ 0 ∷ 0 ∷ 0 ∷ 1 ∷ 80 ∷ 24 ∷ 1 ∷ 0 ∷ 188 ∷ 228 ∷ 0 ∷
-    0 ∷ 97 ∷ 98 ∷ 99 ∷ 100 ∷ 101 ∷ 102 ∷ []
+    212 ∷ 195 ∷ 178 ∷ 161 ∷ 2 ∷ 0 ∷ 4 ∷ 0 ∷ 0 ∷ 0 ∷ 0 ∷ 0 ∷ 0 ∷ 0 ∷ 0 ∷ 0 ∷ 16 ∷ 0 ∷ 4 ∷ 0 ∷ 147 ∷ 0 ∷ 0 ∷ 0 ∷ 1 ∷
+    0 ∷ 0 ∷ 0 ∷ 0 ∷ 0 ∷ 0 ∷ 0 ∷ 76 ∷ 0 ∷ 0 ∷ 0 ∷ 76 ∷ 0 ∷ 0 ∷ 0 ∷ 2 ∷ 1 ∷ 0 ∷ 0 ∷ 0 ∷ 0 ∷ 0 ∷ 2 ∷ 0 ∷ 0 ∷ 0 ∷ 4 ∷ 0 ∷
+    0 ∷ 0 ∷ 0 ∷ 2 ∷ 0 ∷ 0 ∷ 0 ∷ 0 ∷ 2 ∷ 2 ∷ 0 ∷ 0 ∷ 0 ∷ 0 ∷ 1 ∷ 8 ∷ 0 ∷ 69 ∷ 0 ∷ 0 ∷ 46 ∷ 0 ∷ 100 ∷ 64 ∷ 0 ∷ 64 ∷ 6 ∷
+    38 ∷ 100 ∷ 10 ∷ 0 ∷ 0 ∷ 1 ∷ 10 ∷ 0 ∷ 0 ∷ 2 ∷ 156 ∷ 64 ∷ 19 ∷ 137 ∷ 0 ∷ 0 ∷ 3 ∷ 232 ∷ 0 ∷ 0 ∷ 0 ∷ 1 ∷ 80 ∷ 24 ∷
+    1 ∷ 0 ∷ 188 ∷ 228 ∷ 0 ∷ 0 ∷ 97 ∷ 98 ∷ 99 ∷ 100 ∷ 101 ∷ 102 ∷ []
+
+-- datagrams of 500, 500 and 200 bytes
+abbrev pub datagrams : List Packet
+datagrams =
+    packet 0 (udp4 5001 1 0x24da 0x1f11 (replicate 500 97))
+    ∷ packet 1 (udp4 5001 2 0x24d9 0x1f11 (replicate 500 97))
+    ∷ packet 2 (udp4 5001 3 0x2604 0x3078 (replicate 200 97))
+    ∷ []
+
+-- the first without a sum
+abbrev pub unsummed : List Packet
+unsummed =
+    packet 0 (udp4 5001 1 0x24da 0x0000 (replicate 500 97))
+    ∷ packet 1 (udp4 5001 2 0x24d9 0x1f11 (replicate 500 97))
+    ∷ []
+
+-- to the port that Linux took for VXLAN
+abbrev pub old_port : List Packet
+old_port = packet 0 (udp4 8472 1 0x266a 0x28b6 (replicate 100 97)) ∷ []
+
+-- through GRE without a key, with the keys 7 and 7, and with 7 and 8
+abbrev pub in_gre : ℕ → ℕ → ℕ → List ℕ → List ℕ → List Packet
+in_gre flags first second key other =
+    packet 0 (gre4 flags 500 first key (tcp4 40000 100 0x4000 0x2606 1000 0x10 0xe1b6 (replicate 100 97)))
+    ∷ packet 1 (gre4 flags 501 second other (tcp4 40000 101 0x4000 0x2605 1100 0x10 0xe152 (replicate 100 97)))
+    ∷ []
 
 -- identifications 65535 and 0, sequence numbers 4294967196 and 0
 abbrev pub wrapped : List Packet
@@ -202,11 +247,11 @@ segments_from i n = map segment_at (range_with_len i n)
 -- ---- what comes of them
 
 abbrev pub plain : Options
-plain = record { budget = 64; queues = 1; taps = 0; snap = 64 }
+plain = record { budget = 64; queues = 1; spread = λ key. queue_of key 1; taps = 0; snap = 64; segs = 4096; filter = None }
 
 -- the runs of the one queue, by their packets' numbers
 abbrev pub runs_of : List Packet → List (List ℕ)
-runs_of ps = map (map (λ p. p.number)) (items_of 1 0 ps)
+runs_of ps = map (map (λ p. p.number)) (items_of 4096 (λ key. queue_of key 1) 0 ps)
 
 -- one run with these modes, whose record comes back as its packets
 abbrev pub MergesTo : ℕ → List Packet → Type 0
@@ -221,7 +266,14 @@ IsSplit ps = runs_of ps ≡ map (λ p. p.number ∷ []) ps
 -- the record of the worked run, said to have n packets
 abbrev pub worked_super : ℕ → Packet
 worked_super n =
-    with_head (record { version = 1; kind = 1; n = n; m = 4; modes = 0; lane = 0; number = 0 }) (merged_of worked).packet
+    with_head (record { version = 2; kind = 1; modes = 0; lane = 0; n = n; m = 4; number = 0 }) (merged_of worked).packet
+
+-- the same behind a header of version 1
+abbrev pub old_super : ℕ → Packet
+old_super n =
+    let p : Packet = (merged_of worked).packet in
+    let head : OffHead = record { version = 1; kind = 1; n = n; m = 4; modes = 0; lane = 0; number = 0 } in
+    record { number = 0; sec = p.sec; frac = p.frac; original = 12 + p.original; frame = off_bytes head ++ p.frame }
 
 -- numbers of the first packets, and how many packets there are
 abbrev pub starts_of : Options → List Packet → List (ℕ × ℕ)
@@ -246,9 +298,22 @@ pub record RowsHold : Type 0 where
   pub inner_fixed_merges : MergesTo 2 inner_fixed
   pub outer_ip6_merges : MergesTo 2 outer_ip6
   pub one_sum_splits : IsSplit one_sum
-  pub by_four : starts_of (record plain { budget = 4; queues = 2 }) two_flows ≡ (0, 2) ∷ (1, 2) ∷ (4, 2) ∷ (5, 2) ∷ []
-  pub by_three : starts_of (record plain { budget = 3; queues = 2 }) two_flows ≡ (0, 2) ∷ (1, 1) ∷ (4, 1) ∷ (3, 2) ∷ (6, 1) ∷ (7, 1) ∷ []
-  pub tapped_lengths : map (λ r. length r.frame) (records_of (record plain { taps = 2 }) tapped) ≡ 158 ∷ 76 ∷ 76 ∷ 48 ∷ 48 ∷ []
+  pub by_four : starts_of (record plain { budget = 4; queues = 2; spread = λ key. queue_of key 2 }) two_flows ≡ (0, 2) ∷ (1, 2) ∷ (4, 2) ∷ (5, 2) ∷ []
+  pub by_three : starts_of (record plain { budget = 3; queues = 2; spread = λ key. queue_of key 2 }) two_flows ≡ (0, 2) ∷ (1, 1) ∷ (4, 1) ∷ (3, 2) ∷ (6, 1) ∷ (7, 1) ∷ []
+  pub tapped_lengths : map (λ r. length r.frame) (records_of (record plain { taps = 2 }) tapped) ≡ 162 ∷ 80 ∷ 80 ∷ 52 ∷ 52 ∷ []
+  pub old_is_lawful : is_lawful_record (old_super 2) ≡ true
+  pub old_comes_back : map content (segments_of (old_super 2)) ≡ map content worked
+  pub cut_header : is_lawful_record (record { number = 0; sec = 1; frac = 0; original = 14; frame = 2 ∷ replicate 13 0 }) ≡ false
+  pub datagrams_merge : MergesTo 0 datagrams
+  pub datagrams_size : (merged_of datagrams).m ≡ 500
+  pub datagrams_lengths : (total_length (merged_of datagrams).packet.frame 14 ≡ 1228) × (udp_length (merged_of datagrams).packet.frame 34 ≡ 1208)
+  pub unsummed_splits : IsSplit unsummed
+  pub old_port_is_other : map (λ p. key_of p.frame) old_port ≡ None ∷ []
+  pub gre_merges : MergesTo 0 (in_gre 0 0xb3d1 0xb3d0 [] [])
+  pub keyed_merges : MergesTo 0 (in_gre 0x2000 0xb3cd 0xb3cc (0 ∷ 0 ∷ 0 ∷ 7 ∷ []) (0 ∷ 0 ∷ 0 ∷ 7 ∷ []))
+  pub keys_split : IsSplit (in_gre 0x2000 0xb3cd 0xb3cc (0 ∷ 0 ∷ 0 ∷ 7 ∷ []) (0 ∷ 0 ∷ 0 ∷ 8 ∷ []))
+  pub summed_gre_is_other : map (λ p. key_of p.frame) (in_gre 0x8000 0xb3cd 0xb3cc (0 ∷ 0 ∷ 0 ∷ 0 ∷ []) (0 ∷ 0 ∷ 0 ∷ 0 ∷ [])) ≡ None ∷ None ∷ []
+  pub two_alone : starts_of (record plain { segs = 1 }) worked ≡ (0, 1) ∷ (1, 1) ∷ []
   pub fullest : IsCut IsMergeable (segments_from 0 64) (segments_from 0 45 ∷ segments_from 45 19 ∷ [])
   pub front_length : total_length (merged_of (segments_from 0 45)).packet.frame 14 ≡ 65212
   pub rest_length : total_length (merged_of (segments_from 45 19)).packet.frame 14 ≡ 27564

@@ -1,5 +1,5 @@
 //! A whole capture: its rounds, the records that are written, and what comes back of them.
-ghost use Rattle.offload_model.specs.CaptureLaws.{CapturesAreCaptured, RunsComeBack, RunsAreLawful, ItemsAreRuns, FlowsComeBack, ReadsBack, HeadReadsBack, WrittenComesBack, OneQueueHasAll, CapturesComeBack, RecordsAreFew};
+ghost use Rattle.offload_model.specs.CaptureLaws.{CapturesAreCaptured, BoundariesAreKept, RunsComeBack, RunsAreLawful, ItemsAreRuns, QueuesKeepRuns, ChoicesKeepItems, FlowsComeBack, ReadsBack, HeadReadsBack, WrittenComesBack, OneQueueHasAll, CapturesComeBack, RecordsAreFew};
 
 /// The packets of a capture of Ethernet frames meet what the laws below ask of packets.
 pub fn captures_are_captured()
@@ -16,10 +16,26 @@ pub fn runs_are_lawful()
     ensures law { RunsAreLawful }
 {}
 
+/// Two runs whose records have the same merged frame, numbers and modes are one, packet by packet, so that datagrams keep their
+/// boundaries.
+pub fn boundaries_are_kept()
+    ensures law { BoundariesAreKept }
+{}
+
 /// A queue's items are the cuts of all its flows into maximal runs, in the order of their first packets, and nothing else
 /// is, where the packets' numbers rise.
 pub fn items_are_runs()
     ensures law { ItemsAreRuns }
+{}
+
+/// The runs of a round don't depend on how flows go to queues: each queue has those that begin in it, in their order.
+pub fn queues_keep_runs()
+    ensures law { QueuesKeepRuns }
+{}
+
+/// By any two choices of queues the items of a round are the same, but for queue and order.
+pub fn choices_keep_items()
+    ensures law { ChoicesKeepItems }
 {}
 
 /// Over a whole capture, the segments of the records whose frames have a key are the packets that have it, in order, in

@@ -25,9 +25,9 @@ mod rows;
 mod runs;
 
 pub use captures::{
-    captures_are_captured, captures_come_back, flows_come_back, head_reads_back, items_are_runs,
-    one_queue_has_all, reads_back, records_are_few, runs_are_lawful, runs_come_back,
-    written_comes_back,
+    boundaries_are_kept, captures_are_captured, captures_come_back, choices_keep_items,
+    flows_come_back, head_reads_back, items_are_runs, one_queue_has_all, queues_keep_runs,
+    reads_back, records_are_few, runs_are_lawful, runs_come_back, written_comes_back,
 };
 pub use frames::{
     merged_frames_are_merged, merged_is_lawful, segment_frames_are_segments,
@@ -35,8 +35,9 @@ pub use frames::{
 };
 pub use need::{defaults_suffice, needs_add, needs_exceed, rounds_exceed};
 pub use passing::{
-    blocks_suffice, commands_pass_on, commands_stop, fronts_are_written, merging_goes_by_round,
-    records_to_whole, segmenting_goes_by_record, stops_are_one,
+    blocks_suffice, commands_pass_on, commands_stop, fronts_are_written, fronts_pass_on,
+    fronts_to_whole, merging_goes_by_round, records_to_whole, segmenting_goes_by_record,
+    segments_grow, stops_are_one, stops_write_fronts,
 };
 pub use rows::{need_rows_hold, rows_hold};
-pub use runs::{fronts_are_mergeable, grows_by_one, has_one_cut, tests_decide};
+pub use runs::{fronts_are_mergeable, grows_by_one, has_one_cut, tests_decide, tunnels_are_one};
