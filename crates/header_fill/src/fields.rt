@@ -6,7 +6,7 @@ ghost use Rattle.offload_model.specs.Mergeable.{IsLengthInRange};
 ghost use Rattle.offload_model.specs.Edits.{with_edits, put_length as with_length, put_flags as with_flags};
 ghost use Rattle.header_fill.specs.Filled.{IsInside};
 
-use frame_layout::{Header, Layer};
+use frame_layout::{Header, Layer, ip6_length};
 use ip_headers::{set_payload_len, set_total};
 use tcp_headers::{set_flags, set_udp_len};
 
@@ -63,7 +63,7 @@ fn put_length(head: &mut [u8], header: Header, total: usize)
     let at = header.at as usize;
     match header.layer {
         Layer::Ip4 => set_total(head, at, (total - at) as u16),
-        Layer::Ip6 => set_payload_len(head, at, (total - at - 40) as u16),
+        Layer::Ip6 => set_payload_len(head, at, ip6_length(total - at - 40)),
         Layer::Udp => set_udp_len(head, at, (total - at) as u16),
         _ => {}
     }

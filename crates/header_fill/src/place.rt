@@ -11,7 +11,7 @@ use ip_headers::{ip4, set_id};
 use tcp_headers::{set_seq, tcp};
 
 /// Identifications and sequence numbers, `i` packets and `n` bytes further on; `modes` says which identifications stay.
-pub fn put_places(head: &mut [u8], headers: &[Header], modes: u8, i: u16, n: u32)
+pub fn put_places(head: &mut [u8], headers: &[Header], modes: u8, i: u32, n: u32)
     requires inside { AtHeaders (IsInside (length head.old)) headers.now }
     ensures edited { (rest : List ℕ)
         → head.new ++ rest ≡ with_edits (with_place (is_fixed_by modes headers.now) i n) headers.now (head.old ++ rest) }
@@ -44,7 +44,7 @@ fn is_fixed(modes: u8, headers: &[Header], at: usize) -> bool
 }
 
 /// One header's identification or sequence number.
-fn put_place(head: &mut [u8], headers: &[Header], header: Header, modes: u8, i: u16, n: u32)
+fn put_place(head: &mut [u8], headers: &[Header], header: Header, modes: u8, i: u32, n: u32)
     requires inside { IsInside (length head.old) header.layer header.at }
     ensures edited { (rest : List ℕ)
         → head.new ++ rest ≡ with_place (is_fixed_by modes headers.now) i n header.layer header.at (head.old ++ rest) }
@@ -53,7 +53,7 @@ fn put_place(head: &mut [u8], headers: &[Header], header: Header, modes: u8, i: 
     match header.layer {
         Layer::Ip4 => {
             if !is_fixed(modes, headers, at) {
-                let identification = ip4::identification(head, at).wrapping_add(i);
+                let identification = ip4::identification(head, at).wrapping_add((i % 65536) as u16);
                 set_id(head, at, identification);
             }
         }

@@ -169,6 +169,7 @@ module _ (layout : Layout) (p : Packet) (ps : List Packet) (x : Packet) (total m
         sequence = subst (λ n. AtHeaders (IsSequenceBehind p.frame x.frame n) layout.headers) n (headers_map (λ l at h. h.1.0) layout.headers next);
         ids = ids_from p x small ps modes layout.headers r.staying r.line.ids t.ids;
         fits = subst (λ n. AtHeaders (IsLengthInRange n) layout.headers) len (headers_map (λ l at h. h.1.1) layout.headers next);
+        short = omega (arith, len, t.room);
       }
 
   pub passes : (o : Bool) → IsProgress layout p.frame (p ∷ ps) o total modes → Continues layout p.frame (p ∷ ps) x
@@ -188,6 +189,7 @@ module _ (layout : Layout) (p : Packet) (ps : List Packet) (x : Packet) (total m
               (headers_map3 (λ l at u q r. (u, (q, r))) layout.headers c.udp_sums
               (subst (λ n. AtHeaders (IsSequenceBehind p.frame x.frame n) layout.headers) n c.sequence)
               (subst (λ n. AtHeaders (IsLengthInRange n) layout.headers) len c.fits));
+          room = omega (arith, len, c.short);
           ids = ids_to p x small ps modes layout.headers r.staying c.ids;
         },
       )

@@ -125,6 +125,7 @@ module _ (layout : Layout) (placed : IsPlaced layout) where
                 alike = λ i l u. fb i l ∙ x.alike i l u ∙ sym (gb i l);
                 numbers = ap (λ z. all_headers (is_next_at f g (total - at) (total + (z - at))) layout.headers) kg.long
                     ∙ all_next_same at f g h k fb gb (total - at) (total + (o - at)) layout.headers inside ∙ x.numbers;
+                room = omega (arith, kg.long, x.room);
                 ids = ids_same at f g h k fb gb count modes layout.headers inside ∙ x.ids;
               }),
           (λ x.
@@ -136,6 +137,7 @@ module _ (layout : Layout) (placed : IsPlaced layout) where
                 alike = λ i l u. sym (fb i l) ∙ x.alike i l u ∙ gb i l;
                 numbers = sym (all_next_same at f g h k fb gb (total - at) (total + (o - at)) layout.headers inside)
                     ∙ ap (λ z. all_headers (is_next_at f g (total - at) (total + (z - at))) layout.headers) (sym kg.long) ∙ x.numbers;
+                room = omega (arith, kg.long, x.room);
                 ids = sym (ids_same at f g h k fb gb count modes layout.headers inside) ∙ x.ids;
               })),
         )

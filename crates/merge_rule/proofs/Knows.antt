@@ -14,7 +14,7 @@ use Rattle.frame_layout.specs.Key.{key_of}
 use Rattle.frame_layout.specs.Candidate.{IsCandidate, IsLengthRight}
 use Rattle.frame_layout.specs.declared.layout.Header.{Header}
 use Rattle.frame_layout.specs.declared.layout.Layer.{Layer}
-use Rattle.frame_layout.specs.declared.layout.Layer.TheVariants.{Ip4, Ip6, Udp, Tcp}
+use Rattle.frame_layout.specs.declared.layout.Layer.TheVariants.{Ip4, Udp, Tcp}
 use Rattle.frame_layout.proofs.Lemmas.{laid, same_shape, same_key, bounds, counts, headers_all, headers_map}
 use Rattle.pcap_io.specs.Capture.{Packet}
 use Rattle.offload_model.specs.Mergeable.{AreUdpSumsAlike, IsAckAlone, IsSequenceBehind, AreIdsInStep, IsLengthInRange, AreConsecutive, IsMergeable, payloads_of}
@@ -60,11 +60,11 @@ module _ (p : Packet) (ps : List Packet) (layout : Layout) (sum : FoldAndLength)
       let u : false ≡ true = sym o ∙ t in cc
 
   -- the merged frame of a run is not long
-  pub bounded : (layout.payload_at ≤ state.total) × (state.total ≤ layout.payload_at + 65535) × (layout.payload_at ≤ 200)
+  pub bounded : (layout.payload_at ≤ state.total) × (state.total ≤ layout.payload_at + 262070) × (layout.payload_at ≤ 200)
   bounded =
       let q : IsProgress layout p.frame (p ∷ ps) state.is_open state.total state.modes = r.progress in (
         omega (arith, q.long),
-        omega (arith, q.long, (range_bounds p.frame layout (layout.payload_at + length (payloads_of layout (p ∷ ps))) r.shape q.line.fits).1),
+        omega (arith, q.long, range_bounds p.frame layout (layout.payload_at + length (payloads_of layout (p ∷ ps))) r.shape q.line.fits q.line.short),
         (bounds p.frame r.in_bytes layout r.shape).0,
       )
 
@@ -93,11 +93,10 @@ last_of ps x =
 
 in_range : (f : List ℕ) → ((k : ℕ) → byte f k < 256) → (n : ℕ) → n ≡ length f → (l : Layer) (at : ℕ) → IsLengthRight f l at → IsLengthInRange n l at
 in_range f small n e Ip4 at h = omega (arith, h, small (at + 2), small (at + 2 + 1))
-in_range f small n e Ip6 at h = omega (arith, h, small (at + 4), small (at + 4 + 1))
 in_range f small n e Udp at h = omega (arith, h, small (at + 4), small (at + 4 + 1))
 in_range f small n e _ at h = tt
 
-module _ (p : Packet) (l : Layout) (small : (k : ℕ) → byte p.frame k < 256) (s : shape_of p.frame ≡ Some l) (c : IsCandidate p.frame p.original l) where
+module _ (p : Packet) (l : Layout) (small : (k : ℕ) → byte p.frame k < 256) (s : shape_of p.frame ≡ Some l) (c : IsCandidate p.frame p.original l) (short : length p.frame ≤ 262144) where
   own_sequence : (ly : Layer) (at : ℕ) → IsSequenceBehind p.frame p.frame (0 * (length p.frame - l.payload_at)) ly at
   own_sequence Tcp at =
       let z : 0 * (length p.frame - l.payload_at) ≡ 0 = omega arith in
@@ -128,6 +127,7 @@ module _ (p : Packet) (l : Layout) (small : (k : ℕ) → byte p.frame k < 256) 
         (headers_all own_sequence l.headers);
     ids = headers_all own_ids l.headers;
     fits = headers_map (in_range p.frame small (l.payload_at + length (payloads_of l (p ∷ []))) one_long) l.headers c.lengths;
+    short = omega (arith, one_long, short);
   }
 
   pub one_progress : (modes : ℕ) → IsProgress l p.frame (p ∷ []) (all_headers (is_ack_alone p.frame) l.headers) (length p.frame) modes
@@ -151,7 +151,7 @@ opened p layout sum bits o n c eo en = record {
   payload = subst (StandsFor sum) (sym (append-nil (drop layout.payload_at p.frame))) c.payload;
   flags = c.flags;
   progress = subst (λ z. IsProgress layout p.frame (p ∷ []) z n 0) (sym eo)
-      (subst (λ z. IsProgress layout p.frame (p ∷ []) (all_headers (is_ack_alone p.frame) layout.headers) z 0) (sym en) (one_progress p layout c.in_bytes c.shape c.candidate 0));
+      (subst (λ z. IsProgress layout p.frame (p ∷ []) (all_headers (is_ack_alone p.frame) layout.headers) z 0) (sym en) (one_progress p layout c.in_bytes c.shape c.candidate c.short 0));
 }
 
 modes_one : (p : Packet) (ps : List Packet) (x : Packet) (hs : List Header) (m : ℕ) → length ps ≡ 0

@@ -40,20 +40,20 @@ module _ (p : Packet) (ps : List Packet) (layout : Layout) (sum : FoldAndLength)
   pub in_range : (n : ℕ) → n ≡ layout.payload_at + sum.len → AtHeaders (IsLengthInRange n) layout.headers
   in_range n e = subst (λ z. AtHeaders (IsLengthInRange z) layout.headers) (ap (λ z. layout.payload_at + z) (sym r.payload.1) ∙ sym e) r.progress.line.fits
 
-  sums : (layout.payload_at ≤ state.total) × (state.total ≤ layout.payload_at + 65535) × (layout.payload_at ≤ 200)
+  sums : (layout.payload_at ≤ state.total) × (state.total ≤ layout.payload_at + 262070) × (layout.payload_at ≤ 200)
   sums = bounded p ps layout sum bits state r
 
-  pub total_short : state.total ≤ 65735
-  total_short = omega (arith, sums.1, sums.2)
+  pub total_short : state.total ≤ 262144
+  total_short = omega (arith, r.progress.long, r.progress.line.short)
 
-  pub payload_short : layout.payload_at + sum.len ≤ 65735
+  pub payload_short : layout.payload_at + sum.len ≤ 262144
   payload_short = omega (arith, total_short, r.progress.long, r.payload.1)
 
-  pub first_short : length p.frame - layout.payload_at ≤ 65535
+  pub first_short : length p.frame - layout.payload_at ≤ 262070
   first_short =
       omega (arith, sums.1, r.progress.long, length-append (drop layout.payload_at p.frame) (payloads_of layout ps), length-drop layout.payload_at p.frame)
 
-  pub few : length (p ∷ ps) ≤ 65535
+  pub few : length (p ∷ ps) ≤ 262070
   few =
       omega (arith, sums.1, r.progress.long, count layout.payload_at layout (p ∷ ps) refl (λ i d h. (r.progress.line.candidates.at i d h).payload))
 

@@ -1,6 +1,7 @@
 -- What is asked of the next packet of a run, header by header.
 use Rattle.std.specs.Prelude.{◌≡◌, ℕ, ◌+◌, ◌-◌, ◌%◌, ◌^◌, ◌<◌, ◌≤◌, ◌==◌, ◌↔◌, Bool, true, ◌&&◌, ◌||◌, if◌then◌else◌, Option, Some, None, List, [], ◌∷◌, ◌++◌, length, map}
 use Rattle.std.specs.List.{AllByRecursion, flat_map}
+use Rattle.pcap_io.specs.Limits.{most_frame}
 use Rattle.net_bytes.specs.Bytes.{byte}
 use Rattle.ip_headers.specs.Ip4.{identification, dont_fragment}
 use Rattle.frame_layout.specs.Shape.{Layout}
@@ -74,6 +75,7 @@ pub record IsNextBy (layout : Layout) (first : List ℕ) (n count total modes : 
   pub there : layout.payload_at ≤ m
   pub alike : AreHeadersAlike layout first next
   pub numbers : all_headers (is_next_at first next (total - layout.payload_at) (total + (m - layout.payload_at))) layout.headers ≡ true
+  pub room : total + (m - layout.payload_at) ≤ most_frame
   pub ids : are_ids_next count modes first next layout.headers ≡ true
 
 -- the frame `next` does

@@ -1,5 +1,6 @@
 -- What merging knows of a run of packets.
 use Rattle.std.specs.Prelude.{◌≡◌, ◌==◌, ◌&&◌, ◌⊎◌, ℕ, ◌+◌, ◌-◌, ◌<◌, ◌≤◌, Bool, true, false, Option, Some, None, List, length, drop}
+use Rattle.pcap_io.specs.Limits.{most_frame}
 use Rattle.net_bytes.specs.Bytes.{byte}
 use Rattle.inet_sum.specs.Stands.{FoldAndLength, StandsFor}
 use Rattle.pcap_io.specs.Capture.{Packet}
@@ -30,10 +31,11 @@ pub record IsProgress (layout : Layout) (first : List ℕ) (run : List Packet) (
 abbrev pub IsNoCandidate : List ℕ → ℕ → Type 0
 IsNoCandidate f original = (layout : Layout) → shape_of f ≡ Some layout → IsCandidate f original layout → ⊥
 
--- a candidate of this layout, the sum of its payload, and its control bits
+-- a candidate of this layout, no longer than a frame of a capture, the sum of its payload, and its control bits
 pub record IsCandidateOf (f : List ℕ) (original : ℕ) (layout : Layout) (sum : FoldAndLength) (bits : ℕ) : Type 0 where
   pub shape : shape_of f ≡ Some layout
   pub candidate : IsCandidate f original layout
+  pub short : length f ≤ most_frame
   pub payload : StandsFor sum (drop layout.payload_at f)
   pub flags : AtHeaders (HasFlags bits f) layout.headers
   pub in_bytes : (k : ℕ) → byte f k < 256

@@ -3,7 +3,7 @@ use Rattle.std.specs.Prelude.{◌≡◌, ℕ, ◌<◌, Bool, true, false, Option
 use Rattle.std.specs.List.{AllByRecursion}
 use Rattle.maximal_runs.specs.Items.{first_number, AreItems}
 use Rattle.pcap_io.specs.Capture.{Packet}
-use Rattle.offload_model.specs.Mergeable.{IsMergeable}
+use Rattle.offload_model.specs.Mergeable.{IsMergeableWithin}
 use Rattle.offload_model.specs.Rounds.{is_of, number_of}
 
 -- the last of the first n elements that pass the test
@@ -12,14 +12,14 @@ IsLastBelow {X} test xs n None = (k : ℕ) (d : X) → k < n → test (slice_ind
 IsLastBelow {X} test xs n (Some i) =
     (i < n) × ((d : X) → test (slice_index_or xs i d) ≡ true) × ((k : ℕ) (d : X) → i < k → k < n → test (slice_index_or xs k d) ≡ false)
 
--- the runs are those of the packets so far, whatever these are, with one more packet, whose number is above those that begin a
--- run
-abbrev pub TakesPacket : List (List Packet) → Packet → List (List Packet) → Type 0
-TakesPacket old x new =
+-- the runs, of at most `segs` packets each, are those of the packets so far, whatever these are, with one more packet, whose number is
+-- above those that begin a run
+abbrev pub TakesPacket : ℕ → List (List Packet) → Packet → List (List Packet) → Type 0
+TakesPacket segs old x new =
     (packets : List Packet)
     → AllByRecursion (λ run. first_number number_of run < x.number) old
-    → AreItems IsMergeable is_of number_of packets old
-    → AreItems IsMergeable is_of number_of (packets ++ (x ∷ [])) new
+    → AreItems (IsMergeableWithin segs) is_of number_of packets old
+    → AreItems (IsMergeableWithin segs) is_of number_of (packets ++ (x ∷ [])) new
 
 -- runs that began before n still do, and so does the new packet's
 abbrev pub KeepsEarly : List (List Packet) → Packet → List (List Packet) → Type 0

@@ -11,7 +11,7 @@ use ip_headers::ip4;
 use tcp_headers::{tcp, udp};
 
 /// A header of the next frame: its sequence number is `further` bytes behind the first frame's, it has a UDP sum where that
-/// has one, and there is room for the length of a merged frame of `total` bytes.
+/// has one, and its 16 bits of length, where it has these, hold the length of a merged frame of `total` bytes.
 fn is_next_header(first: &[u8], next: &[u8], further: u32, total: usize, header: Header) -> bool
     requires first { header.at + size header.layer ≤ length first.now }
     requires next { header.at + size header.layer ≤ length next.now }
@@ -20,7 +20,6 @@ fn is_next_header(first: &[u8], next: &[u8], further: u32, total: usize, header:
     let at = header.at as usize;
     match header.layer {
         Layer::Ip4 => total.saturating_sub(at) <= 65535,
-        Layer::Ip6 => total.saturating_sub(at).saturating_sub(40) <= 65535,
         Layer::Udp => {
             (udp::checksum(first, at) == 0) == (udp::checksum(next, at) == 0)
                 && total.saturating_sub(at) <= 65535

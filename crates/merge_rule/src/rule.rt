@@ -9,6 +9,7 @@ ghost use Rattle.merge_rule.specs.Runs.{IsPlaced, IsFirstProgress, IsNextProgres
 use crate::alike::are_alike;
 use crate::next::{are_next, are_next_ids, is_ack_alone, modes_of};
 use frame_layout::{Header, Layout};
+use pcap_io::FRAME_LIMIT;
 
 /// What a run has come to: whether it may take one more packet, the length of its merged frame, and a bit for each IP header
 /// whose identification stays, the lowest for the first.
@@ -53,7 +54,8 @@ fn continues(
     }
     let further = (progress.total - at) as u32;
     let total = progress.total + (next_len - at);
-    are_headers_alike(layout, first, next)
+    total <= FRAME_LIMIT as usize
+        && are_headers_alike(layout, first, next)
         && are_next(first, next, further, total, layout.headers())
         && are_next_ids(first, next, count, progress.modes, layout.headers())
 }

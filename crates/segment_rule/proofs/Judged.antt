@@ -10,7 +10,7 @@ use Rattle.frame_layout.specs.Segment.{IsSeg, IsSegOf}
 use Rattle.frame_layout.specs.declared.segment.Seg.{Seg}
 use Rattle.frame_layout.proofs.Lemmas.{laid}
 use Rattle.pcap_io.specs.Capture.{Packet, packet}
-use Rattle.pcap_io.specs.declared.off_head.OffHead.{OffHead}
+use Rattle.pcap_io.specs.declared.off_head.OffHead2.{OffHead2}
 use Rattle.offload_model.specs.Frames.{segment_frame}
 use Rattle.offload_model.specs.Merged.{layout_of, is_fixed}
 use Rattle.offload_model.specs.Segments.{with_frame, merged_in, segments_by, IsCuttable, IsLawfulSuper}
@@ -53,14 +53,12 @@ bits_to_seg f original s n m modes layout seg c =
     subst (λ (l : Layout). are_bits_lawful modes f l.headers ≡ true) (same_layout f s layout seg c.shape_is)
     (bits_to modes f 0 layout.headers layout.payload_at (laid f layout c.shape_is).0 c.modes c.only)
 
-pub super_from : (head : OffHead) (f : List ℕ) (original : ℕ) (s : Seg) → is_merged_head head ≡ true → IsSegOf f original (Some s)
+pub super_from : (head : OffHead2) (f : List ℕ) (original : ℕ) (s : Seg) → is_merged_head head ≡ true → IsSegOf f original (Some s)
     → is_filled head.n head.m s.payload_len ≡ true → are_bits_lawful head.modes f s.layout.headers ≡ true
     → IsLawfulSuper head (packet 0 0 0 original f)
 super_from head f original s e seg exact bits =
-    let a : (head.version == 1 ≡ true) × ((head.kind == 1 && nat_le head.lane 63) ≡ true) = and_parts (head.version == 1) (head.kind == 1 && nat_le head.lane 63) e in
-    let b : (head.kind == 1 ≡ true) × (nat_le head.lane 63 ≡ true) = and_parts (head.kind == 1) (nat_le head.lane 63) a.1 in
+    let b : (head.kind == 1 ≡ true) × (nat_le head.lane 63 ≡ true) = and_parts (head.kind == 1) (nat_le head.lane 63) e in
     record {
-      version = eqb-true head.version 1 a.0;
       kind = eqb-true head.kind 1 b.0;
       lane = leb-true head.lane 63 b.1;
       layout = s.layout;
@@ -71,7 +69,7 @@ abbrev IsCuttableBy : List ℕ → Layout → ℕ → ℕ → ℕ → ℕ → Ty
 IsCuttableBy f layout original n m modes = IsCuttable layout (record { packet = packet 0 0 0 original f; n = n; m = m; modes = modes })
 
 -- a lawful super-packet's cut
-pub cut_is : (head : OffHead) (f : List ℕ) (original : ℕ) (cut : Segmentation) (layout : Layout) → cut.layout ≡ layout → HasNumbersOf head cut
+pub cut_is : (head : OffHead2) (f : List ℕ) (original : ℕ) (cut : Segmentation) (layout : Layout) → cut.layout ≡ layout → HasNumbersOf head cut
     → IsCuttable layout (merged_in head (packet 0 0 0 original f)) → IsSegmentationOf cut f
 cut_is head f original cut layout same has c =
     subst (λ l. IsCuttableBy f l (length f) cut.n cut.m cut.modes) (sym same)
@@ -86,10 +84,10 @@ false_where : (b : Bool) → (b ≡ true → ⊥) → b ≡ false
 false_where true n = absurd (n refl)
 false_where false n = refl
 
-pub lawful_super : (head : OffHead) (p : Packet) → is_lawful_single head ≡ false → IsLawfulSuper head p → is_lawful_by head p ≡ true
+pub lawful_super : (head : OffHead2) (p : Packet) → is_lawful_single head ≡ false → IsLawfulSuper head p → is_lawful_by head p ≡ true
 lawful_super head p e s = rw (e, (decides_super head p).1 s) refl
 
-pub lawful_none : (head : OffHead) (p : Packet) → is_lawful_single head ≡ false → is_lawful_window head ≡ false → (IsLawfulSuper head p → ⊥)
+pub lawful_none : (head : OffHead2) (p : Packet) → is_lawful_single head ≡ false → is_lawful_window head ≡ false → (IsLawfulSuper head p → ⊥)
     → is_lawful_by head p ≡ false
 lawful_none head p single window super = rw (single, false_where (is_lawful_super head p) (λ e. super ((decides_super head p).0 e)), window) refl
 
@@ -99,7 +97,7 @@ abbrev frames_with : Layout → ℕ → ℕ → ℕ → List ℕ → List (List 
 frames_with layout n m modes f = map (λ i. segment_frame layout (is_fixed modes layout.headers) m (i + 1 == n) f i) (range_with_len 0 n)
 
 -- the segments of a merged record are those of its cut
-pub segments_are : (head : OffHead) (p : Packet) (cut : Segmentation) → head.kind ≡ 1 → HasNumbersOf head cut → shape_of p.frame ≡ Some cut.layout
+pub segments_are : (head : OffHead2) (p : Packet) (cut : Segmentation) → head.kind ≡ 1 → HasNumbersOf head cut → shape_of p.frame ≡ Some cut.layout
     → segments_by head p ≡ segments_at cut p
 segments_are head p cut kind has shape =
     let none : Layout = record { headers = []; payload_at = 0 } in

@@ -2,7 +2,7 @@
 use Rattle.std.specs.Prelude.{◌≡◌, ℕ, ◌+◌, ◌-◌, ◌*◌, ◌==◌, ◌&&◌, nat_lt, nat_le, if◌then◌else◌, Bool, Option, Some, None, List, length, map, take, drop}
 use Rattle.std.specs.List.{range_with_len}
 use Rattle.pcap_io.specs.Capture.{Packet}
-use Rattle.pcap_io.specs.declared.off_head.OffHead.{OffHead}
+use Rattle.pcap_io.specs.declared.off_head.OffHead2.{OffHead2}
 use Rattle.offload_model.specs.Edits.{with_edits, with_lengths_and_sums, put_flags, put_place}
 use Rattle.offload_model.specs.Frames.{segment_frame, IsSegment}
 use Rattle.offload_model.specs.Merged.{Merged, is_fixed}
@@ -10,7 +10,7 @@ use Rattle.offload_model.specs.Segments.{with_frame, IsCuttable, IsLawfulSuper}
 use Rattle.segment_rule.specs.declared.segmentation.Segmentation.{Segmentation}
 
 -- the cut has the numbers of the offload header
-pub record HasNumbersOf (head : OffHead) (cut : Segmentation) : Type 0 where
+pub record HasNumbersOf (head : OffHead2) (cut : Segmentation) : Type 0 where
   pub n : cut.n ≡ head.n
   pub m : cut.m ≡ head.m
   pub modes : cut.modes ≡ head.modes
@@ -53,14 +53,14 @@ segments_at cut p = map (λ i. with_frame p (segment_at cut p.frame i)) (range_w
 -- ---- the test of a record
 
 -- a merged frame's header, as far as it says so itself
-abbrev pub is_merged_head : OffHead → Bool
-is_merged_head head = head.version == 1 && (head.kind == 1 && nat_le head.lane 63)
+abbrev pub is_merged_head : OffHead2 → Bool
+is_merged_head head = head.kind == 1 && nat_le head.lane 63
 
 -- n segments of m bytes each but the last hold the payload, and fewer don't
 abbrev pub is_filled : ℕ → ℕ → ℕ → Bool
 is_filled n m payload = nat_le 2 n && (nat_le 1 m && (nat_lt ((n - 1) * m) payload && nat_le payload (n * m)))
 
 -- how the record of a merged frame is segmented, where it is a lawful one
-abbrev pub IsJudged : OffHead → Packet → Option Segmentation → Type 0
+abbrev pub IsJudged : OffHead2 → Packet → Option Segmentation → Type 0
 IsJudged head p None = IsLawfulSuper head p → ⊥
 IsJudged head p (Some cut) = IsLawfulSuper head p × IsSegmentationOf cut p.frame × HasNumbersOf head cut

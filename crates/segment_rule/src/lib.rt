@@ -22,5 +22,5 @@ mod lawful;
 mod modes;
 mod segmentation;
 
-pub use lawful::{BadOffload, is_merged, is_single, is_window, segmentation_of};
+pub use lawful::{BadOffload, is_merged, is_opened, is_single, is_window, segmentation_of};
 pub use segmentation::Segmentation;
