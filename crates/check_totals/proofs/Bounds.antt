@@ -1,5 +1,6 @@
 -- How great the numbers of a round are.
 use Rattle.std.proofs.Common.{◌≡◌, ◌≤◌, ◌<◌, ◌+◌, ◌*◌, ℕ, suc, Bool, true, false, cond, List, [], ◌∷◌, ◌++◌, length, map, drop, refl, arith, length-append, length-take, length-drop}
+use Rattle.std.proofs.lemmas.List.{length-map}
 use Rattle.std.specs.Prelude.{◌==◌}
 use Rattle.std.specs.List.{AllByRecursion, filter, flat_map, sum_by, range_with_len}
 use Rattle.std.proofs.lemmas.Bool.{eqb-true}
@@ -8,15 +9,17 @@ use Rattle.maximal_runs.specs.Cut.{AllNeighbours, cut_of}
 use Rattle.maximal_runs.specs.Items.{first_number}
 use Rattle.pcap_io.specs.Capture.{Packet}
 use Rattle.offload_model.specs.Captured.{IsCaptured}
-use Rattle.offload_model.specs.Rounds.{is_queued, is_of, key_in, number_of, items_of}
-use Rattle.offload_model.specs.Tests.{is_mergeable}
-use Rattle.offload_model.specs.Written.{Options, window_of, windows_of, windows_by}
+use Rattle.offload_model.specs.Rounds.{Spread, is_queued, is_of, key_in, number_of, items_of}
+use Rattle.offload_model.specs.Tests.{is_mergeable_within}
+use Rattle.offload_model.specs.Written.{Options, shown_of, window_of, windows_of, windows_by}
 use Rattle.offload_model.proofs.Items.{items_are}
 use Rattle.offload_model.proofs.Lists.{all_of}
+use Rattle.offload_model.proofs.Shown.{all_shown}
 use Rattle.check_totals.specs.declared.totals.QueueTotals.{QueueTotals}
 use Rattle.check_totals.specs.declared.totals.TapTotals.{TapTotals}
-use Rattle.check_totals.specs.Counts.{is_merged, queue_totals, window_length, tap_totals, queue_plus, tap_plus, each_plus, IsQueueWithin, IsTapWithin}
+use Rattle.check_totals.specs.Counts.{is_merged, shown, queue_totals, window_length, tap_totals, queue_plus, tap_plus, each_plus, IsQueueWithin, IsTapWithin}
 use Rattle.check_totals.specs.Tallies.{TotalsAreFew, BoundsAdd}
+use Rattle.check_totals.proofs.Returning.{queue_returns}
 
 -- ---- filters
 
@@ -57,11 +60,11 @@ begins_at : (n : ℕ) (runs : List (List Packet)) → AllByRecursion (λ run. fi
 begins_at n runs = all_of (λ run. (first_number number_of run == n) ≡ true) (λ run. first_number number_of run ≡ n) (filter (λ run. first_number number_of run == n) runs)
     (λ run e. eqb-true (first_number number_of run) n e) (all_pass (λ run. first_number number_of run == n) runs)
 
-few_items : (queues q : ℕ) (ps : List Packet) → AllNeighbours (λ p q. p.number < q.number) ps → length (items_of queues q ps) ≤ length (filter (is_queued queues q) ps)
-few_items queues q ps rising =
-    let xs = filter (is_queued queues q) ps in
-    few_pieces (λ x. filter (λ run. first_number number_of run == number_of x) (cut_of is_mergeable (filter (is_of (key_in x)) xs))) (first_number number_of) number_of xs
-    (λ x. begins_at (number_of x) (cut_of is_mergeable (filter (is_of (key_in x)) xs))) (items_are queues q ps rising).ordered
+few_items : (segs : ℕ) (spread : Spread) (q : ℕ) (ps : List Packet) → AllNeighbours (λ p q. p.number < q.number) ps → length (items_of segs spread q ps) ≤ length (filter (is_queued spread q) ps)
+few_items segs spread q ps rising =
+    let xs = filter (is_queued spread q) ps in
+    few_pieces (λ x. filter (λ run. first_number number_of run == number_of x) (cut_of (is_mergeable_within segs) (filter (is_of (key_in x)) xs))) (first_number number_of) number_of xs
+    (λ x. begins_at (number_of x) (cut_of (is_mergeable_within segs) (filter (is_of (key_in x)) xs))) (items_are segs spread q ps rising).ordered
 
 -- ---- windows
 
@@ -88,17 +91,17 @@ totals_are_few o ps captured =
     let n = length ps in
     record {
       queues = all_lanes (IsQueueWithin n) (λ q. queue_totals o q ps) (λ q.
-          let few = length_filter (is_queued o.queues q) ps in
-          let items = few_items o.queues q ps captured.rising in
+          let few = length_filter (is_queued o.spread q) ps in
+          let items = few_items o.segs o.spread q ps captured.rising in
           record {
             records = omega (arith, few);
             items = omega (arith, few, items);
-            merged = omega (arith, few, items, length_filter is_merged (items_of o.queues q ps));
-            returned = omega (arith, few);
+            merged = omega (arith, few, items, length_filter is_merged (items_of o.segs o.spread q ps));
+            returned = omega (arith, few, queue_returns o.segs o.spread q ps captured);
           }) (range_with_len 0 o.queues);
       taps = all_lanes (IsTapWithin (262144 * n)) (λ t. tap_totals o t ps) (λ t. record {
-        windows = omega (arith, few_windows o.snap t ps);
-        bytes = few_bytes o t ps captured.each;
+        windows = omega (arith, few_windows o.snap t (shown o ps), length-map ps (shown_of o.filter));
+        bytes = omega (arith, few_bytes o t (shown o ps) (all_shown o.filter ps captured.each), length-map ps (shown_of o.filter));
       }) (range_with_len 0 o.taps);
     }
   where

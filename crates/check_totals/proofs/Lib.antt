@@ -1,4 +1,7 @@
 mod Adding
+pub mod RunItems
+pub mod Flowing
+pub mod Returning
 pub mod Summing
 mod Owing
 pub mod Tallying

@@ -2,10 +2,12 @@
 use Rattle.std.specs.Prelude.{◌≡◌, ℕ, ◌+◌, ◌≤◌, nat_le, Bool, List, [], ◌∷◌, length, map}
 use Rattle.std.specs.List.{AllByRecursion, filter, range_with_len, sum_by}
 use Rattle.pcap_io.specs.Capture.{Packet}
+use Rattle.offload_model.specs.Merged.{merged_of}
 use Rattle.offload_model.specs.Rounds.{rounds_of, items_of, is_queued}
-use Rattle.offload_model.specs.Written.{Options, window_of, windows_of}
+use Rattle.offload_model.specs.Written.{Options, shown_of, window_of, windows_of}
 use Rattle.check_totals.specs.declared.totals.QueueTotals.{QueueTotals}
 use Rattle.check_totals.specs.declared.totals.TapTotals.{TapTotals}
+use Rattle.check_totals.specs.Returned.{flows_of, returned_in}
 
 pub record Counts : Type 0 where
   pub queues : List QueueTotals
@@ -18,25 +20,28 @@ abbrev pub is_merged : List Packet → Bool
 is_merged run = nat_le 2 (length run)
 
 abbrev pub queued : Options → ℕ → List Packet → List Packet
-queued o q ps = filter (is_queued o.queues q) ps
+queued o q ps = filter (is_queued o.spread q) ps
 
--- The records of queue q, what they come to, and how much of that was merged. Each record comes back: the segments of an item are the
--- packets of its run, byte for byte and in original length, as the model's law of the flows that come back says. So this many are
--- found where the segments are compared with the packets.
+-- The records of queue q, what they come to, how much of that was merged, and how many of the packets that this stands for are those
+-- that went in, byte for byte and in original length.
 abbrev pub queue_totals : Options → ℕ → List Packet → QueueTotals
 queue_totals o q ps = record {
   records = length (queued o q ps);
-  items = length (items_of o.queues q ps);
-  merged = length (filter is_merged (items_of o.queues q ps));
-  returned = length (queued o q ps);
+  items = length (items_of o.segs o.spread q ps);
+  merged = length (filter is_merged (items_of o.segs o.spread q ps));
+  returned = returned_in (flows_of ps) (map merged_of (items_of o.segs o.spread q ps));
 }
 
 abbrev pub window_length : Options → ℕ → Packet → ℕ
 window_length o t p = length (window_of o.snap t p.frame)
 
+-- what taps are shown of the packets
+abbrev pub shown : Options → List Packet → List Packet
+shown o ps = map (shown_of o.filter) ps
+
 -- the windows of tap t that aren't empty, and their bytes, without any header
 abbrev pub tap_totals : Options → ℕ → List Packet → TapTotals
-tap_totals o t ps = record { windows = length (windows_of o.snap t ps); bytes = sum_by (window_length o t) ps }
+tap_totals o t ps = record { windows = length (windows_of o.snap t (shown o ps)); bytes = sum_by (window_length o t) (shown o ps) }
 
 abbrev pub round_totals : Options → List Packet → Counts
 round_totals o ps = record {

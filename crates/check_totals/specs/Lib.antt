@@ -1,3 +1,4 @@
+pub mod Returned
 pub mod Counts
 pub mod Lines
 pub mod Checking

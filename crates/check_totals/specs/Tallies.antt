@@ -1,6 +1,7 @@
 -- How counting goes on, round by round, and what an ending says of the totals.
 use Rattle.std.specs.Prelude.{◌≡◌, ℕ, ◌+◌, ◌*◌, ◌<◌, ◌≤◌, None, Option, List, [], ◌∷◌, ◌++◌, length, map}
 use Rattle.std.specs.Io.KnownBytes.{Appends}
+use Rattle.pcap_io.specs.Limits.{most_frame}
 use Rattle.off_io.specs.Content.{AppendsFront}
 use Rattle.pcap_io.specs.declared.place.Place.{Place}
 use Rattle.pcap_io.specs.declared.faults.CapFault.{CapFault}
@@ -13,7 +14,7 @@ use Rattle.offload_model.specs.Need.{need_of, needed, round_need}
 use Rattle.offload_model.specs.Passing.{Stop, AtRound, Ending, Stopped, ReadFault, WriteFault, NoMemory, stop_of, IsLeft, IsNoRound, Passes}
 use Rattle.offload_model.specs.Steps.{stop_behind, ending_behind, in_front}
 use Rattle.offload_model.specs.Written.{Options}
-use Rattle.check_totals.specs.Counts.{Counts, round_totals, totals_of, added, no_lanes, IsWithin, HasLanes}
+use Rattle.check_totals.specs.Counts.{Counts, queue_totals, round_totals, totals_of, added, no_lanes, IsWithin, HasLanes}
 use Rattle.check_totals.specs.Lines.{check_lines}
 use Rattle.check_totals.specs.Checking.{Tally, counting, checking}
 
@@ -88,7 +89,11 @@ TotalsGoByRound = (options : Options) (ps : List Packet) → 0 < options.budget 
 
 -- A round has no more items than packets, nor more windows of a tap; and no tap reads more bytes than the packets have.
 abbrev pub TotalsAreFew : Type 0
-TotalsAreFew = (options : Options) (ps : List Packet) → AreCaptured ps → IsWithin (length ps) (262144 * length ps) (round_totals options ps)
+TotalsAreFew = (options : Options) (ps : List Packet) → AreCaptured ps → IsWithin (length ps) (most_frame * length ps) (round_totals options ps)
+
+-- Each record of a queue comes back: the segments of its items are the packets of their runs.
+abbrev pub RecordsReturn : Type 0
+RecordsReturn = (options : Options) (q : ℕ) (ps : List Packet) → AreCaptured ps → (queue_totals options q ps).returned ≡ (queue_totals options q ps).records
 
 -- numbers that are added add their bounds
 abbrev pub BoundsAdd : Type 0

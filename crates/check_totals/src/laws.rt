@@ -1,5 +1,5 @@
 //! How counting goes on, and that the lines tell what was counted.
-ghost use Rattle.check_totals.specs.Tallies.{BoundsAdd, CountingGoesByRound, LanesStay, TotalsAddUp, TotalsAreFew, TotalsAreTold, TotalsGoByRound};
+ghost use Rattle.check_totals.specs.Tallies.{BoundsAdd, CountingGoesByRound, LanesStay, RecordsReturn, TotalsAddUp, TotalsAreFew, TotalsAreTold, TotalsGoByRound};
 
 /// Counting goes round by round: one that is full and fits is counted before the others, and the last one is counted as the capture
 /// ends, where no record exceeds the blocks.
@@ -25,6 +25,11 @@ pub fn totals_are_told()
 /// A round's numbers don't exceed its packets, and those of taps not the bytes that these may have.
 pub fn totals_are_few()
     ensures law { TotalsAreFew }
+{}
+
+/// Each record of a queue comes back, byte for byte and in original length.
+pub fn records_return()
+    ensures law { RecordsReturn }
 {}
 
 /// Where totals are added, their bounds are.

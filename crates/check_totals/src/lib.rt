@@ -1,7 +1,7 @@
 //! What checking a capture counts: records, items and windows, queue by queue and tap by tap, and the lines that tell them.
 //!
-//! The definitions stand in `specs/`: what is counted of a round's packets (`Counts`), the lines (`Lines`), and what checking makes of a
-//! capture's bytes over a number of blocks (`Checking`). Totals are added round by round, and each addition is exact.
+//! The definitions stand in `specs/`: what is counted of a round's packets (`Counts`), of these the ones that come back, found by comparing
+//! (`Returned`), the lines (`Lines`), and what checking makes of a capture's bytes over a number of blocks (`Checking`). Totals are added round by round, and each addition is exact.
 //!
 //! Proved: totals start at those of no packet ([`Totals::make`]) and add lane by lane ([`Totals::add`]); [`write_totals`] appends just
 //! the lines, or a front of them where the sink failed (clauses `ok`, `err`, `cause`); and counting goes round by round
@@ -18,8 +18,8 @@ mod totals;
 mod write;
 
 pub use laws::{
-    bounds_add, counting_goes_by_round, lanes_stay, totals_add_up, totals_are_few, totals_are_told,
-    totals_go_by_round,
+    bounds_add, counting_goes_by_round, lanes_stay, records_return, totals_add_up, totals_are_few,
+    totals_are_told, totals_go_by_round,
 };
 pub use totals::{QueueTotals, TapTotals, Totals};
 pub use write::{write_made, write_totals};

@@ -1,12 +1,12 @@
 mod Passing
 mod Pieces
-mod Runs
 mod Flowing
 mod Chains
 mod Segmenting
+mod Runs
 mod Turning
 mod Entering
 mod Comparing
 mod Adding
 mod Totalling
-mod Laning
+pub mod Laning

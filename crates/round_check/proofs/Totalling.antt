@@ -9,7 +9,7 @@ use Rattle.maximal_runs.specs.Cut.{AllNeighbours}
 use Rattle.pcap_io.specs.Capture.{Packet}
 use Rattle.offload_model.specs.Captured.{IsCaptured, AreCaptured}
 use Rattle.offload_model.specs.Merged.{Merged, merged_of}
-use Rattle.offload_model.specs.Rounds.{is_queued, items_of}
+use Rattle.offload_model.specs.Rounds.{Spread, is_queued, items_of}
 use Rattle.offload_model.specs.Written.{Options, window_of, windows_by, windows_of}
 use Rattle.gro.specs.Items.{item_of}
 use Rattle.taps.specs.Texts.{text_by, texts_of}
@@ -19,11 +19,12 @@ use Rattle.round_work.specs.Packets.{RiseFrom}
 use Rattle.round_work.specs.Work.{AreMerged, AreWatched, merged_in}
 use Rattle.check_totals.specs.declared.totals.QueueTotals.{QueueTotals}
 use Rattle.check_totals.specs.declared.totals.TapTotals.{TapTotals}
-use Rattle.check_totals.specs.Counts.{queue_totals, tap_totals, is_merged}
-use Rattle.round_check.specs.Items.{sizes, runs_from, totals_of_runs}
+use Rattle.check_totals.specs.Counts.{shown, queue_totals, tap_totals, is_merged}
 use Rattle.round_check.specs.Texts.{text_bytes, IsShort, totals_of_texts}
-use Rattle.round_check.proofs.Flowing.{queue_size}
-use Rattle.round_check.proofs.Comparing.{totals}
+use Rattle.check_totals.specs.Returned.{flows_of, returned_in}
+use Rattle.check_totals.proofs.Flowing.{sizes, queue_size}
+use Rattle.check_totals.proofs.Returning.{queue_returns}
+use Rattle.round_check.proofs.Comparing.{totals, totals_of_runs}
 
 pub range_more : (a n : ℕ) → range_with_len a (suc n) ≡ range_with_len a n ++ (a + n) ∷ []
 range_more a zero = ap (λ k. k ∷ []) (omega arith)
@@ -45,14 +46,11 @@ map_same f g (x ∷ xs) e = ap (λ z. z ∷ map f xs) (e x) ∙ ap (λ z. g x �
 -- ---- queues
 
 -- what the i-th queue came to
-pub lane_at : (queues : ℕ) (ps : List Packet) (ls : List QueueLane) (i : ℕ) (d : QueueLane) → AreMerged queues ps ls → i < length ls → i < queues
-    → map item_of (get_or ls i d).items.items ≡ map merged_of (items_of queues i ps)
-lane_at queues ps ls i d m l k =
+pub lane_at : (segs : ℕ) (spread : Spread) (queues : ℕ) (ps : List Packet) (ls : List QueueLane) (i : ℕ) (d : QueueLane) → AreMerged segs spread queues ps ls → i < length ls → i < queues
+    → map item_of (get_or ls i d).items.items ≡ map merged_of (items_of segs spread i ps)
+lane_at segs spread queues ps ls i d m l k =
     sym (get_or-map merged_in ls i d [] l) ∙ ap (λ z. get_or z i []) m.items
-    ∙ get_or-map-range_with_len (λ q. map merged_of (items_of queues q ps)) 0 queues i i [] k (omega arith)
-
-pub next_queue : (queues : ℕ) (ps : List Packet) (i n : ℕ) → i < n → runs_from queues ps i (n - i) ≡ items_of queues i ps ++ runs_from queues ps (i + 1) (n - (i + 1))
-next_queue queues ps i n l = ap (runs_from queues ps i) (let k : n - i ≡ suc (n - (i + 1)) = omega arith in k)
+    ∙ get_or-map-range_with_len (λ q. map merged_of (items_of segs spread q ps)) 0 queues i i [] k (omega arith)
 
 filter_short : (p : Packet → Bool) (ps : List Packet) → length (filter p ps) ≤ length ps
 filter_short p [] = omega arith
@@ -65,10 +63,11 @@ no_more : (runs : List (List Packet)) → AllByRecursion (λ run. 0 < length run
 no_more [] a = omega arith
 no_more (run ∷ runs) a = omega (arith, a.0, no_more runs a.1)
 
-pub totals_are : (o : Options) (queues q : ℕ) (ps : List Packet) → o.queues ≡ queues → AreCaptured ps → totals_of_runs (items_of queues q ps) ≡ queue_totals o q ps
-totals_are o queues q ps e c =
-    ap (λ n. totals n (length (items_of queues q ps)) (length (filter is_merged (items_of queues q ps))) n) (queue_size queues q ps c)
-    ∙ ap (λ k. totals (length (filter (is_queued k q) ps)) (length (items_of k q ps)) (length (filter is_merged (items_of k q ps))) (length (filter (is_queued k q) ps))) (sym e)
+pub totals_are : (o : Options) (q : ℕ) (ps : List Packet) → AreCaptured ps → totals_of_runs (items_of o.segs o.spread q ps) ≡ queue_totals o q ps
+totals_are o q ps c =
+    let items = items_of o.segs o.spread q ps in
+    ap (λ n. totals n (length items) (length (filter is_merged items)) n) (queue_size o.segs o.spread q ps c)
+    ∙ ap (totals (length (filter (is_queued o.spread q) ps)) (length items) (length (filter is_merged items))) (sym (queue_returns o.segs o.spread q ps c))
 
 -- ---- taps
 
@@ -99,10 +98,10 @@ bytes_are snap t (p ∷ ps) = omega (arith, sum_by-cons (λ (p : Packet). length
 abbrev windows : ℕ → ℕ → TapTotals
 windows n bytes = record { windows = n; bytes = bytes }
 
-tap_is : (o : Options) (t : ℕ) (ps : List Packet) → totals_of_texts (Some (texts_of o.snap t ps)) ≡ tap_totals o t ps
+tap_is : (o : Options) (t : ℕ) (ps : List Packet) → totals_of_texts (Some (texts_of o.snap t (shown o ps))) ≡ tap_totals o t ps
 tap_is o t ps =
-    ap (λ n. windows n (text_bytes (texts_of o.snap t ps))) (windows_are o.snap t ps)
-    ∙ ap (λ n. windows (length (windows_of o.snap t ps)) n) (bytes_are o.snap t ps)
+    ap (λ n. windows n (text_bytes (texts_of o.snap t (shown o ps)))) (windows_are o.snap t (shown o ps))
+    ∙ ap (λ n. windows (length (windows_of o.snap t (shown o ps))) n) (bytes_are o.snap t (shown o ps))
 
 map_map : (f : Option (List Packet) → TapTotals) (ls : List TapLane) → map (λ (l : TapLane). f l.texts) ls ≡ map f (map (λ (l : TapLane). l.texts) ls)
 map_map f [] = refl
@@ -112,11 +111,11 @@ map_of : (f : Option (List Packet) → TapTotals) (g : ℕ → Option (List Pack
 map_of f g [] = refl
 map_of f g (x ∷ xs) = ap (λ z. f (g x) ∷ z) (map_of f g xs)
 
-pub taps_are : (o : Options) (taps : ℕ) (ps : List Packet) (ls : List TapLane) → o.taps ≡ taps → AreWatched o.snap taps ps ls
+pub taps_are : (o : Options) (taps : ℕ) (ps : List Packet) (ls : List TapLane) → o.taps ≡ taps → AreWatched o.snap taps (shown o ps) ls
     → map (λ (l : TapLane). totals_of_texts l.texts) ls ≡ map (λ t. tap_totals o t ps) (range_with_len 0 o.taps)
 taps_are o taps ps ls e w =
-    map_map totals_of_texts ls ∙ ap (map totals_of_texts) w.texts ∙ map_of totals_of_texts (λ t. Some (texts_of o.snap t ps)) (range_with_len 0 taps)
-    ∙ map_same (λ t. totals_of_texts (Some (texts_of o.snap t ps))) (λ t. tap_totals o t ps) (range_with_len 0 taps) (λ t. tap_is o t ps)
+    map_map totals_of_texts ls ∙ ap (map totals_of_texts) w.texts ∙ map_of totals_of_texts (λ t. Some (texts_of o.snap t (shown o ps))) (range_with_len 0 taps)
+    ∙ map_same (λ t. totals_of_texts (Some (texts_of o.snap t (shown o ps)))) (λ t. tap_totals o t ps) (range_with_len 0 taps) (λ t. tap_is o t ps)
     ∙ ap (λ n. map (λ t. tap_totals o t ps) (range_with_len 0 n)) (sym e)
 
 -- ---- how long windows are
@@ -148,5 +147,5 @@ rising k (p ∷ []) r = tt
 rising k (p ∷ q ∷ ps) r = (omega (arith, r.1.0), rising (p.number + 1) (q ∷ ps) r.1)
 
 -- a queue has no more items than there are packets
-pub items_few : (queues q : ℕ) (ps : List Packet) → AreCaptured ps → AllByRecursion (λ run. 0 < length run) (items_of queues q ps) → length (items_of queues q ps) ≤ length ps
-items_few queues q ps c full = omega (arith, no_more (items_of queues q ps) full, queue_size queues q ps c, filter_short (is_queued queues q) ps)
+pub items_few : (segs : ℕ) (queues : Spread) (q : ℕ) (ps : List Packet) → AreCaptured ps → AllByRecursion (λ run. 0 < length run) (items_of segs queues q ps) → length (items_of segs queues q ps) ≤ length ps
+items_few segs queues q ps c full = omega (arith, no_more (items_of segs queues q ps) full, queue_size segs queues q ps c, filter_short (is_queued queues q) ps)

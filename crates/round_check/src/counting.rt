@@ -1,5 +1,6 @@
 //! Items compared with the packets of their flow.
 ghost use Rattle.std.specs.Prelude.{◌≡◌, ◌+◌, ◌<◌, ◌≤◌, ◌^◌, ◌∷◌, [], ℕ, Option, List, length, map};
+ghost use Rattle.pcap_io.specs.Limits.{most_frame};
 ghost use Rattle.pcap_io.specs.Capture.{Packet};
 ghost use Rattle.skb.specs.SkbState.{buffer_bytes, head_size};
 ghost use Rattle.skb.specs.Checksum.{AreBytes};
@@ -7,7 +8,7 @@ ghost use Rattle.segment_rule.specs.Segmentations.{IsSegmentationOf, segments_at
 ghost use Rattle.gso.specs.Planning.{IsPlanOf, packets_by};
 ghost use Rattle.gro.specs.Items.{item_of};
 ghost use Rattle.taps.specs.Clones.{packet_of};
-ghost use Rattle.round_check.specs.Same.{is_same as is_same_packet};
+ghost use Rattle.check_totals.specs.Returned.{is_same as is_same_packet};
 ghost use Rattle.round_check.specs.Chain.{IsChain, IsOwn, Counts};
 
 use crate::bytes::Bytes;
@@ -29,11 +30,12 @@ fn count_segments(
 ) -> u64
     requires of { IsSegmentationOf cut.now (buffer_bytes skb.now) }
     requires in_bytes { AreBytes (buffer_bytes skb.now) }
+    requires short { length (buffer_bytes skb.now) ≤ most_frame }
     requires front { cut.now.layout.payload_at ≤ head_size skb.now }
     requires chain { IsChain (map packet_of kept.now) next.now }
     ensures counts { (q : Option (List ℕ)) (p : Packet) → p.frame ≡ buffer_bytes skb.now → IsOwn (map packet_of kept.now) q at.old
         → Counts (map packet_of kept.now) q at.old (segments_at cut.now p) at.new result }
-    ensures few { result < 2 ^ 16 }
+    ensures few { result < 2 ^ 32 }
 {
     let place = cut.layout.payload_at();
     let headers = &skb.head()[..place];
@@ -87,7 +89,7 @@ pub(crate) fn count_packets(
     requires chain { IsChain (map packet_of kept.now) next.now }
     ensures counts { (q : Option (List ℕ)) → IsOwn (map packet_of kept.now) q at.old
         → Counts (map packet_of kept.now) q at.old (packets_by plan.now (item_of item.now).packet) at.new result }
-    ensures few { result < 2 ^ 16 }
+    ensures few { result < 2 ^ 32 }
 {
     match plan {
         Plan::Nothing => 0,

@@ -2,16 +2,13 @@
 ghost use Rattle.std.specs.Prelude.{◌≡◌, ◌+◌, ◌<◌, ◌≤◌, ◌*◌, ◌^◌, ◌∷◌, ◌++◌, ℕ, List, Option, true, length, map};
 ghost use Rattle.std.specs.List.{AllByRecursion};
 ghost use Rattle.frame_layout.specs.Key.{key_of};
-ghost use Rattle.pcap_io.specs.Capture.{Packet};
-ghost use Rattle.offload_model.specs.Merged.{merged_of};
-ghost use Rattle.offload_model.specs.Written.{head_of as header_of};
 ghost use Rattle.skb.specs.SkbState.{buffer_bytes};
 ghost use Rattle.gro.specs.Items.{item_of};
 ghost use Rattle.taps.specs.Clones.{packet_of};
 ghost use Rattle.check_totals.specs.Counts.{queue_plus};
 ghost use Rattle.round_check.specs.Flows.{AreFlows, CountsIn};
-ghost use Rattle.offload_model.proofs.Flows.{IsItem};
-ghost use Rattle.round_check.specs.Items.{IsToCompare, Remains, packets_in, totals_of_run, totals_of_runs};
+ghost use Rattle.check_totals.specs.Returned.{Lefts, packets_in, behind_item, behind_items};
+ghost use Rattle.round_check.specs.Items.{IsToCompare, AreLeft, totals_of_item, totals_of_items};
 
 use crate::counting::count_packets;
 use crate::flow_key::flow_of;
@@ -19,23 +16,8 @@ use crate::flows::Flows;
 use check_totals::QueueTotals;
 use gro::Item;
 use gso::check_super;
-use pcap_io::OffHead;
+use pcap_io::{AnyHead, OFF_HEAD2_LEN};
 use taps::TapClone;
-
-// The offload header that an item's record has, in whatever queue.
-fn header(item: &Item) -> OffHead
-    ensures header { result ≡ header_of 0 (item_of item.now) }
-{
-    OffHead {
-        version: 1,
-        kind: if item.n == 1 { 0 } else { 1 },
-        n: item.n,
-        m: item.m,
-        modes: item.modes,
-        lane: 0,
-        number: item.number,
-    }
-}
 
 // In how many places the packets that an item stands for are the next ones of its flow.
 fn count_item(item: &Item, kept: &[TapClone], flows: &mut Flows) -> u64
@@ -43,9 +25,13 @@ fn count_item(item: &Item, kept: &[TapClone], flows: &mut Flows) -> u64
     requires flows { AreFlows (map packet_of kept.now) flows.old }
     ensures flows { AreFlows (map packet_of kept.now) flows.new }
     ensures counts { CountsIn (map packet_of kept.now) flows.old (key_of (buffer_bytes item.now.skb)) (packets_in (item_of item.now)) flows.new result }
-    ensures few { result < 2 ^ 16 }
+    ensures few { result < 2 ^ 32 }
 {
-    let Ok(plan) = check_super(&header(item), &item.skb, item.original + 12) else {
+    let Ok(plan) = check_super(
+        &AnyHead::V2(item.head(0)),
+        &item.skb,
+        item.original + OFF_HEAD2_LEN as u32,
+    ) else {
         unreachable!()
     };
     let key = flow_of(&item.skb);
@@ -61,9 +47,9 @@ fn add_item(totals: &mut QueueTotals, item: &Item, kept: &[TapClone], flows: &mu
     requires flows { AreFlows (map packet_of kept.now) flows.old }
     requires room { (totals.old.records < 2 ^ 62) × (totals.old.items < 2 ^ 62) × (totals.old.merged < 2 ^ 62) × (totals.old.returned < 2 ^ 62) }
     ensures flows { AreFlows (map packet_of kept.now) flows.new }
-    ensures added { (run : List Packet) (runs : List (List Packet)) → item_of item.now ≡ merged_of run → IsItem run → Remains (map packet_of kept.now) flows.old (run ∷ runs)
-        → (totals.new ≡ queue_plus totals.old (totals_of_run run)) × Remains (map packet_of kept.now) flows.new runs }
-    ensures few { (totals.new.records < totals.old.records + 2 ^ 16) × (totals.new.items ≡ totals.old.items + 1) × (totals.new.merged ≤ totals.old.merged + 1) × (totals.new.returned < totals.old.returned + 2 ^ 16) }
+    ensures added { (left : Lefts) → AreLeft (map packet_of kept.now) flows.old left
+        → (totals.new ≡ queue_plus totals.old (totals_of_item left (item_of item.now))) × AreLeft (map packet_of kept.now) flows.new (behind_item left (item_of item.now)) }
+    ensures few { (totals.new.records < totals.old.records + 2 ^ 32) × (totals.new.items ≡ totals.old.items + 1) × (totals.new.merged ≤ totals.old.merged + 1) × (totals.new.returned < totals.old.returned + 2 ^ 32) }
 {
     totals.returned += count_item(item, kept, flows);
     totals.records += item.n as u64;
@@ -74,11 +60,11 @@ fn add_item(totals: &mut QueueTotals, item: &Item, kept: &[TapClone], flows: &mu
 /// The totals of a queue's items, each of which is compared with the next packets of its flow.
 pub(crate) fn check_items(items: &[Item], kept: &[TapClone], flows: &mut Flows) -> QueueTotals
     requires items { AllByRecursion IsToCompare items.now }
-    requires few { length items.now ≤ 2 ^ 40 }
+    requires few { length items.now ≤ 2 ^ 28 }
     requires flows { AreFlows (map packet_of kept.now) flows.old }
     ensures flows { AreFlows (map packet_of kept.now) flows.new }
-    ensures totals { (runs more : List (List Packet)) → map item_of items.now ≡ map merged_of runs → AllByRecursion IsItem runs → Remains (map packet_of kept.now) flows.old (runs ++ more)
-        → (result ≡ totals_of_runs runs) × Remains (map packet_of kept.now) flows.new more }
+    ensures totals { (left : Lefts) → AreLeft (map packet_of kept.now) flows.old left
+        → (result ≡ totals_of_items left (map item_of items.now)) × AreLeft (map packet_of kept.now) flows.new (behind_items left (map item_of items.now)) }
 {
     let mut totals = QueueTotals {
         records: 0,

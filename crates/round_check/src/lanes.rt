@@ -1,16 +1,16 @@
 //! All lanes of a round.
-ghost use Rattle.std.specs.Prelude.{◌≡◌, ◌<◌, ◌≤◌, ◌^◌, ℕ, length, map, IfOk, IfSome};
-ghost use Rattle.std.specs.List.{AllByRecursion, range_with_len};
-ghost use Rattle.offload_model.specs.Captured.{IsCaptured, AreCaptured};
-ghost use Rattle.offload_model.specs.Rounds.{items_of};
-ghost use Rattle.offload_model.specs.Written.{Options};
-ghost use Rattle.gro.specs.Table.{AreReady};
+ghost use Rattle.std.specs.Prelude.{◌≡◌, ◌<◌, ◌≤◌, ◌^◌, ℕ, List, Option, length, map, IfOk, IfSome};
+ghost use Rattle.std.specs.List.{AllByRecursion};
+ghost use Rattle.tap_filter.specs.declared.instr.Instr.{Instr};
+ghost use Rattle.offload_model.specs.Captured.{IsCaptured};
+ghost use Rattle.offload_model.specs.Written.{Options, shown_of};
 ghost use Rattle.taps.specs.Clones.{packet_of};
 ghost use Rattle.round_work.specs.Packets.{RiseFrom};
 ghost use Rattle.round_work.specs.Work.{AreMerged, AreWatched};
 ghost use Rattle.check_totals.specs.Counts.{round_totals};
 ghost use Rattle.round_check.specs.Flows.{AreFlows};
-ghost use Rattle.round_check.specs.Items.{Remains, runs_from, totals_of_runs};
+ghost use Rattle.check_totals.specs.Returned.{flows_of};
+ghost use Rattle.round_check.specs.Items.{AreLeft, MayCompare, items_in, totals_by};
 ghost use Rattle.round_check.specs.Texts.{text_bytes, IsShort, tap_totals_of, totals_of_texts};
 
 use crate::flows::Flows;
@@ -27,13 +27,10 @@ fn check_queues(
     kept: &[TapClone],
     flows: &mut Flows,
 ) -> Result<Vec<QueueTotals>, AllocError>
-    requires captured { AreCaptured (map packet_of kept.now) }
-    requires few { length kept.now ≤ 4096 }
-    requires merged { AreMerged (length lanes.now) (map packet_of kept.now) lanes.now }
-    requires ready { AllByRecursion (λ l. AreReady l.items.items) lanes.now }
+    requires lanes { AllByRecursion MayCompare lanes.now }
     requires flows { AreFlows (map packet_of kept.now) flows.old }
-    requires left { Remains (map packet_of kept.now) flows.old (runs_from (length lanes.now) (map packet_of kept.now) 0 (length lanes.now)) }
-    ensures totals { IfOk result (λ totals. totals.items ≡ map (λ q. totals_of_runs (items_of (length lanes.now) q (map packet_of kept.now))) (range_with_len 0 (length lanes.now))) }
+    requires left { AreLeft (map packet_of kept.now) flows.old (flows_of (map packet_of kept.now)) }
+    ensures totals { IfOk result (λ totals. totals.items ≡ totals_by (flows_of (map packet_of kept.now)) (map items_in lanes.now)) }
 {
     let mut totals = Vec::with_capacity(alloc, lanes.len())?;
     for i in 0..lanes.len() {
@@ -93,11 +90,12 @@ pub fn check_lanes(alloc: Global, lanes: &Lanes, kept: &[TapClone]) -> Result<To
     requires rising { (k : ℕ) × RiseFrom k (map packet_of kept.now) }
     requires few { length kept.now ≤ 4096 }
     requires queues { (1 ≤ length lanes.now.queues.items) × (length lanes.now.queues.items ≤ 64) }
-    requires merged { AreMerged (length lanes.now.queues.items) (map packet_of kept.now) lanes.now.queues.items }
-    requires ready { AllByRecursion (λ l. AreReady l.items.items) lanes.now.queues.items }
-    requires windows { (snap : ℕ) × AreWatched snap (length lanes.now.taps.items) (map packet_of kept.now) lanes.now.taps.items }
-    ensures totals { (o : Options) → o.queues ≡ length lanes.now.queues.items → o.taps ≡ length lanes.now.taps.items
-        → AreWatched o.snap (length lanes.now.taps.items) (map packet_of kept.now) lanes.now.taps.items
+    requires lanes { AllByRecursion MayCompare lanes.now.queues.items }
+    requires windows { (snap : ℕ) × ((filter : Option (List Instr)) × AreWatched snap (length lanes.now.taps.items) (map (shown_of filter) (map packet_of kept.now)) lanes.now.taps.items) }
+    ensures compared { IfOk result (λ totals. totals.queues ≡ totals_by (flows_of (map packet_of kept.now)) (map items_in lanes.now.queues.items)) }
+    ensures totals { (o : Options) → ((key : Option (List ℕ)) → o.spread key < o.queues) → o.queues ≡ length lanes.now.queues.items → o.taps ≡ length lanes.now.taps.items
+        → AreMerged o.segs o.spread (length lanes.now.queues.items) (map packet_of kept.now) lanes.now.queues.items
+        → AreWatched o.snap (length lanes.now.taps.items) (map (shown_of o.filter) (map packet_of kept.now)) lanes.now.taps.items
         → IfOk result (λ totals. totals ≡ round_totals o (map packet_of kept.now)) }
 {
     let mut flows = Flows::of(alloc, kept)?;

@@ -1,10 +1,20 @@
-use Rattle.std.proofs.Common.{◌≡◌, ◌∙◌, ◌+◌, ◌++◌, List, [], length, map, get_or, drop, refl, sym, ap, subst, arith}
-use Rattle.pcap_io.specs.Capture.{Packet}
+use Rattle.std.proofs.Common.{map, refl, arith}
+use Rattle.gro.specs.Items.{item_of}
 use Rattle.taps.specs.Clones.{packet_of}
-use Rattle.check_totals.specs.Counts.{queue_plus}
-use Rattle.round_check.specs.Items.{Remains, totals_of_runs}
-use Rattle.round_check.proofs.Adding.{next_item, totals_next, all_gone, none_behind}
+use Rattle.round_check.specs.Items.{totals_of_items}
+use Rattle.round_check.proofs.Comparing.{none_before}
+use Rattle.round_check.proofs.Adding.{so_next, so_all, mapped_next, mapped_gone}
 use Rattle.round_check.proofs.items.check_items.Goals as goal
+
+pub loop-i-init : goal.loop-i-init
+loop-i-init c = record {
+  records = omega arith;
+  items = omega arith;
+  merged = omega arith;
+  returned = omega arith;
+  flows = c.requires.flows;
+  so_far = λ left are. record { now = left; are = are; totals = none_before (totals_of_items left (map item_of c.args.items.now)); behind = refl };
+}
 
 pub loop-i-preserved : goal.loop-i-preserved
 loop-i-preserved c =
@@ -17,18 +27,13 @@ loop-i-preserved c =
       merged = omega (arith, l.invariant.merged, few.2);
       returned = omega (arith, l.invariant.returned, few.3);
       flows = c.add_item.ensures.flows;
-      so_far = λ runs more e own left.
-          let before = l.invariant.so_far runs more e own left in
-          let n = next_item (map packet_of c.args.kept.now) l.flows items runs more l.i c.index-items-i.result (omega arith) c.index-items-i.is e own before.1 in
-          let a = c.add_item.ensures.added (get_or runs l.i []) (drop (l.i + 1) runs ++ more) n.is n.own n.left in
-          (totals_next items runs l.i l.totals c.add_item.new.totals (omega arith) e a.0 before.0, a.1);
+      so_far = λ left are.
+          let before = l.invariant.so_far left are in
+          so_next (map packet_of c.args.kept.now) left (map item_of items) l.i (item_of c.index-items-i.result) l.flows c.add_item.new.flows l.totals c.add_item.new.totals before
+          (mapped_next item_of items l.i c.index-items-i.result (omega arith) c.index-items-i.is) (c.add_item.ensures.added before.now before.are);
     }
 
 pub returns-clause-totals : goal.returns-clause-totals
-returns-clause-totals c = λ runs more e own left.
+returns-clause-totals c = λ left are.
     let l = c.loop-i in
-    let before = l.invariant.so_far runs more e own left in
-    let none = all_gone c.args.items.now runs l.i (omega arith) e in (
-      none_behind l.totals ∙ ap (λ (z : List (List Packet)). queue_plus l.totals (totals_of_runs z)) (sym none) ∙ before.0,
-      subst (λ (z : List (List Packet)). Remains (map packet_of c.args.kept.now) l.flows (z ++ more)) none before.1,
-    )
+    so_all (map packet_of c.args.kept.now) left (map item_of c.args.items.now) l.i l.flows l.totals (mapped_gone item_of c.args.items.now l.i (omega arith)) (l.invariant.so_far left are)
