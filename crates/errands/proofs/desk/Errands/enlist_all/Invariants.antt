@@ -1,0 +1,8 @@
+use Rattle.std.proofs.Common.{◌≡◌, All}
+use Rattle.errands.proofs.desk.Errands.enlist_all.Given as goal
+
+abbrev pub invariant-loop : goal.invariant-loop
+invariant-loop g l = record {
+  same : l.asker ≡ l.fn.asker;
+  own : All (λ r. r ≡ l.self) l.runners.items;
+}
