@@ -75,10 +75,10 @@ module _ (first : Held) (rest : List Held) (layout : Layout) (sum : FoldAndLengt
   pub is_small : layout.payload_at + sizes_behind layout.payload_at (first ∷ rest) < 2 ^ 31
   is_small = omega (arith, sizes_are layout.payload_at (first ∷ rest) held, is_payload.1, is_few)
 
-  pub fits_m : buffer_size first.skb - layout.payload_at ≤ 65535
+  pub fits_m : buffer_size first.skb - layout.payload_at ≤ 262070
   fits_m = omega (arith, first_short p ps layout sum bits state r, held.0.size)
 
-  pub fits_n : length rest + 1 ≤ 65535
+  pub fits_n : length rest + 1 ≤ 262070
   fits_n = omega (arith, few p ps layout sum bits state r, length-map rest packet_of)
 
   pub item_is : (frame : List ℕ) (original n m modes : ℕ) → 1 ≤ length rest

@@ -1,5 +1,5 @@
 -- What all items of a table come to, and what they hold together.
-use Rattle.std.proofs.Common.{◌≡◌, ℕ, ◌-◌, ◌<◌, ◌≤◌, Bool, true, false, List, [], ◌∷◌, map, ◌∙◌, refl, sym, ap, subst, arith}
+use Rattle.std.proofs.Common.{◌≡◌, ℕ, ◌-◌, ◌<◌, ◌≤◌, Bool, true, false, Option, List, [], ◌∷◌, map, ◌∙◌, refl, sym, ap, subst, arith}
 use Rattle.std.specs.List.{AllByRecursion}
 use Rattle.maximal_runs.specs.Cut.{AllNeighbours}
 use Rattle.maximal_runs.specs.Items.{AreItems}
@@ -8,9 +8,9 @@ use Rattle.pcap_io.specs.Capture.{Packet}
 use Rattle.frame_layout.specs.Key.{key_of}
 use Rattle.ref_core.specs.WeightRule.{full_weight}
 use Rattle.skb.specs.SkbState.{buffer_least, is_sole}
-use Rattle.offload_model.specs.Mergeable.{IsMergeable}
+use Rattle.offload_model.specs.Mergeable.{IsMergeableWithin}
 use Rattle.offload_model.specs.Merged.{merged_of}
-use Rattle.offload_model.specs.Rounds.{is_of, key_in, number_of, items_of, runs_in}
+use Rattle.offload_model.specs.Rounds.{Spread, is_of, key_in, number_of, items_of, runs_in}
 use Rattle.offload_model.proofs.Fronts.{fronts_too}
 use Rattle.offload_model.proofs.Items.{items_are, is_key_self}
 use Rattle.offload_model.proofs.OneQueue.{all_queued, one_queue}
@@ -149,15 +149,17 @@ received_least ps w t is r f s a = runs_least w t.runs is f (least_too w ps t.ru
 
 -- ---- the records
 
-all_runs : (ps : List Packet) (runs : List (List Packet)) → AllNeighbours (λ (p q : Packet). p.number < q.number) ps → AreItems IsMergeable is_of number_of ps runs → runs ≡ runs_in ps
-all_runs ps runs r items =
-    let own : AreItems IsMergeable is_of number_of ps (items_of 1 0 ps) = subst (λ z. AreItems IsMergeable is_of number_of z (items_of 1 0 ps)) (all_queued ps) (items_are 1 0 ps r) in
-    unique_items is_of number_of key_in (λ p. is_key_self (key_of p.frame)) IsMergeable fronts_too ps runs (items_of 1 0 ps) items own ∙ one_queue ps
+all_runs : (segs : ℕ) (ps : List Packet) (runs : List (List Packet)) → AllNeighbours (λ (p q : Packet). p.number < q.number) ps → AreItems (IsMergeableWithin segs) is_of number_of ps runs → runs ≡ runs_in segs ps
+all_runs segs ps runs r items =
+    let alone : Spread = λ key. 0 in
+    let none : (key : Option (List ℕ)) → alone key < 1 = λ key. omega arith in
+    let own : AreItems (IsMergeableWithin segs) is_of number_of ps (items_of segs alone 0 ps) = subst (λ z. AreItems (IsMergeableWithin segs) is_of number_of z (items_of segs alone 0 ps)) (all_queued alone ps none) (items_are segs alone 0 ps r) in
+    unique_items is_of number_of key_in (λ p. is_key_self (key_of p.frame)) (IsMergeableWithin segs) (fronts_too segs) ps runs (items_of segs alone 0 ps) items own ∙ one_queue segs alone ps none
 
 items_model : (rs : List (List Held)) (is : List Item) → AreItemsFrom rs is → map item_of is ≡ map merged_of (map (λ (r : List Held). map packet_of r) rs)
 items_model [] is a = ap (map item_of) a
 items_model (r ∷ rs) [] a = absurd a
 items_model (r ∷ rs) (i ∷ is) a = ap (λ z. z ∷ map item_of is) a.0.0 ∙ ap (λ z. merged_of (map packet_of r) ∷ z) (items_model rs is a.1)
 
-pub received_merged : (ps : List Held) (t : TableState) (is : List Item) → Received ps t → AreItemsFrom t.runs is → map item_of is ≡ map merged_of (runs_in (map packet_of ps))
-received_merged ps t is r a = items_model t.runs is a ∙ ap (map merged_of) (all_runs (map packet_of ps) (map (λ (r : List Held). map packet_of r) t.runs) r.are.rising r.are.runs)
+pub received_merged : (ps : List Held) (t : TableState) (is : List Item) → Received ps t → AreItemsFrom t.runs is → map item_of is ≡ map merged_of (runs_in t.segs (map packet_of ps))
+received_merged ps t is r a = items_model t.runs is a ∙ ap (map merged_of) (all_runs t.segs (map packet_of ps) (map (λ (r : List Held). map packet_of r) t.runs) r.are.rising r.are.runs)

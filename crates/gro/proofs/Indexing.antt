@@ -6,7 +6,7 @@ use Rattle.std.proofs.lemmas.List.{length-set, get_or-set_same, get_or-set_other
 use Rattle.maximal_runs.specs.Items.{begins_in}
 use Rattle.pcap_io.specs.Capture.{Packet}
 use Rattle.frame_layout.specs.Key.{key_eq, key_of}
-use Rattle.offload_model.specs.Mergeable.{IsMergeable}
+use Rattle.offload_model.specs.Mergeable.{IsMergeable, IsMergeableWithin}
 use Rattle.offload_model.specs.Rounds.{is_key, is_of}
 use Rattle.offload_model.proofs.Items.{is_key_same, is_key_self}
 use Rattle.merge_rule.specs.Steps.{IsLastBelow, TakesPacket}
@@ -122,8 +122,8 @@ module _ (look : Option (List ℕ) → Option ℕ) (rs : List (List Packet)) (ke
       at true shut = inl refl
       at false shut = inr (refl, subst IsShut (sym (get_or-set_same rs i (run ++ (x ∷ [])) [] own.0)) (shut refl))
 
-  pub takes_grows : key_of x.frame ≡ key → IsMergeable (run ++ (x ∷ [])) → TakesPacket rs x grown
-  takes_grows k m = run_grows x key k rs i run is own m
+  pub takes_grows : (segs : ℕ) → key_of x.frame ≡ key → IsMergeableWithin segs (run ++ (x ∷ [])) → TakesPacket segs rs x grown
+  takes_grows segs k m = run_grows segs x key k rs i run is own m
 
 -- ---- a packet opens a run
 
@@ -198,15 +198,15 @@ module _ (look next : Option (List ℕ) → Option ℕ) (rs : List (List Packet)
       at false shut = inr (refl, subst IsShut (sym (get_or_push rs (x ∷ []) [] (length rs) refl)) (shut refl))
 
   -- where the flow finds no run that takes the packet
-  pub takes_opens : ((i : ℕ) → look key ≡ Some i → IsMergeable (get_or rs i [] ++ (x ∷ [])) → ⊥) → TakesPacket rs x opened
-  takes_opens not = run_opens x key is rs (index key).0 (index key).1.0 (λ i e m. at (index key).0 (index key).1.1 i e m)
+  pub takes_opens : (segs : ℕ) → ((i : ℕ) → look key ≡ Some i → IsMergeableWithin segs (get_or rs i [] ++ (x ∷ [])) → ⊥) → TakesPacket segs rs x opened
+  takes_opens segs not = run_opens segs x key is rs (index key).0 (index key).1.0 (λ i e m. at (index key).0 (index key).1.1 i e m)
     where
-      at : (o : Option ℕ) → IsFound rs o (look key) → (i : ℕ) → o ≡ Some i → IsMergeable (get_or rs i [] ++ (x ∷ [])) → ⊥
+      at : (o : Option ℕ) → IsFound rs o (look key) → (i : ℕ) → o ≡ Some i → IsMergeableWithin segs (get_or rs i [] ++ (x ∷ [])) → ⊥
       at None f i e m = absurd cc
       at (Some j) (inl f) i e m = not i (f ∙ e) m
       at (Some j) (inr f) i e m =
           let s : j ≡ i = cc in
-          f.1 x (subst (λ z. IsMergeable (get_or rs z [] ++ (x ∷ []))) (sym s) m)
+          f.1 x (subst (λ z. IsMergeable (get_or rs z [] ++ (x ∷ []))) (sym s) m.0)
 
 -- no runs yet
 pub index_none : (look : Option (List ℕ) → Option ℕ) → ((q : Option (List ℕ)) → look q ≡ None) → IsIndexOf look []

@@ -1,6 +1,7 @@
 -- A packet comes: a run takes it, or it opens one.
 use Rattle.std.proofs.Common.{◌≡◌, ℕ, zero, suc, ◌+◌, ◌<◌, ◌≤◌, inl, inr, Bool, true, false, Option, Some, None, List, [], ◌∷◌, ◌++◌, length, get_or, map, set, refl, sym, ap, ◌∙◌, subst, arith, length-append}
-use Rattle.std.specs.Prelude.{if◌then◌else◌}
+use Rattle.std.specs.Prelude.{if◌then◌else◌, OnOk, Ok, Err}
+use Rattle.std.specs.declared.result.Result.{Result}
 use Rattle.std.specs.List.{AllByRecursion}
 use Rattle.std.proofs.lemmas.List.{map-append, map-set, get_or-map, length-map, length-set, get_or-set_same, get_or_push}
 use Rattle.std.proofs.Math.Seq.{map-set_same}
@@ -12,7 +13,7 @@ use Rattle.frame_layout.specs.Shape.{Layout}
 use Rattle.pcap_io.specs.Capture.{Packet}
 use Rattle.frame_layout.specs.Key.{key_eq, key_of}
 use Rattle.skb.specs.SkbState.{buffer_bytes}
-use Rattle.offload_model.specs.Mergeable.{IsMergeable}
+use Rattle.offload_model.specs.Mergeable.{IsMergeableWithin}
 use Rattle.offload_model.specs.Rounds.{is_key, is_of, number_of}
 use Rattle.offload_model.proofs.Items.{is_key_self, is_key_same}
 use Rattle.merge_rule.specs.Steps.{IsLastBelow, TakesPacket, KeepsEarly}
@@ -30,6 +31,11 @@ use Rattle.gro.specs.Totals.{total, totals}
 use Rattle.gro.specs.Steps.{held_in, packets_in, AreRuns, HasPlaces, Takes}
 use Rattle.gro.proofs.Indexing.{found_last, index_grows, takes_grows, index_opens, takes_opens, index_none, latest_of, latest_found}
 use Rattle.gro.proofs.Keys.{keys_equiv, same_key}
+
+-- what an Ok says, said otherwise
+pub on_ok : {A E X Y : Type 0} (r : Result A E) → (X → Y) → OnOk r X → OnOk r Y
+on_ok (Ok a) f x = f x
+on_ok (Err e) f x = x
 
 -- ---- lists
 
@@ -105,31 +111,31 @@ module _ (a b : Runs) (p : Held) (r : Run) (runs : AreRuns a) (items : b.list.it
   each : AllByRecursion IsRun b.list.items
   each = subst (AllByRecursion IsRun) (sym items) (all_append IsRun a.list.items (r ∷ []) runs.each (is, tt))
 
-  opened_by : AreFlows b.flows → IsIndexOf (place_of b.flows) (packets_in a ++ ((packet_of p ∷ []) ∷ []))
-      → TakesPacket (packets_in a) (packet_of p) (packets_in a ++ ((packet_of p ∷ []) ∷ []))
-      → IsLatest (place_of b.flows) (packets_in a ++ ((packet_of p ∷ []) ∷ [])) b.last → Takes a p b
-  opened_by flows index takes latest = record {
+  opened_by : (segs : ℕ) → AreFlows b.flows → IsIndexOf (place_of b.flows) (packets_in a ++ ((packet_of p ∷ []) ∷ []))
+      → TakesPacket segs (packets_in a) (packet_of p) (packets_in a ++ ((packet_of p ∷ []) ∷ []))
+      → IsLatest (place_of b.flows) (packets_in a ++ ((packet_of p ∷ []) ∷ [])) b.last → Takes segs a p b
+  opened_by segs flows index takes latest = record {
     runs = record {
       each = each;
       flows = flows;
       index = subst (IsIndexOf (place_of b.flows)) (sym packets) index;
       latest = subst (λ (z : List (List Packet)). IsLatest (place_of b.flows) z b.last) (sym packets) latest;
     };
-    takes = subst (TakesPacket (packets_in a) (packet_of p)) (sym packets) takes;
+    takes = subst (TakesPacket segs (packets_in a) (packet_of p)) (sym packets) takes;
     early = subst (KeepsEarly (packets_in a) (packet_of p)) (sym packets) (early_opens (packets_in a) (packet_of p));
     same = λ f. ap (λ z. totals f (map held_of z)) items ∙ totals_push f a.list.items r p one;
     places = places;
   }
 
-  opens_at : (key : Option (List ℕ)) (i : ℕ) (is_open : Bool) → key_of (buffer_bytes p.skb) ≡ key
+  opens_at : (segs : ℕ) (key : Option (List ℕ)) (i : ℕ) (is_open : Bool) → key_of (buffer_bytes p.skb) ≡ key
       → i ≡ length a.list.items → AreFlows b.flows
       → Puts a.flows key (if is_open then Some i else None) b.flows → (is_open ≡ false → IsShut (packet_of p ∷ []))
-      → ((j : ℕ) → place_of a.flows key ≡ Some j → IsMergeable (get_or (packets_in a) j [] ++ (packet_of p ∷ [])) → ⊥)
-      → IsLatest (place_of b.flows) (packets_in a ++ ((packet_of p ∷ []) ∷ [])) b.last → Takes a p b
-  opens_at key i is_open k e flows puts shut not latest = opened_by flows
+      → ((j : ℕ) → place_of a.flows key ≡ Some j → IsMergeableWithin segs (get_or (packets_in a) j [] ++ (packet_of p ∷ [])) → ⊥)
+      → IsLatest (place_of b.flows) (packets_in a ++ ((packet_of p ∷ []) ∷ [])) b.last → Takes segs a p b
+  opens_at segs key i is_open k e flows puts shut not latest = opened_by segs flows
       (index_opens (place_of a.flows) (place_of b.flows) (packets_in a) (packet_of p) key runs.index k i is_open
       (e ∙ sym (length-map a.list.items packets_of)) puts shut)
-      (takes_opens (place_of a.flows) (place_of b.flows) (packets_in a) (packet_of p) key runs.index k not)
+      (takes_opens (place_of a.flows) (place_of b.flows) (packets_in a) (packet_of p) key runs.index k segs not)
       latest
 
   latest_opened : (key : Option (List ℕ)) (i : ℕ) (is_open : Bool) → key_of (buffer_bytes p.skb) ≡ key
@@ -143,23 +149,23 @@ module _ (a b : Runs) (p : Held) (r : Run) (runs : AreRuns a) (items : b.list.it
       (ap (begins_in (is_of key)) (get_or_push (packets_in a) (packet_of p ∷ []) [] i (sym n)) ∙ ap (is_key key) k ∙ is_key_self key)
       (puts key ∙ ap (λ (b : Bool). if b then (if is_open then Some i else None) else place_of a.flows key) (keys_equiv.refl key)))
 
-  pub opens_run : (key : Option (List ℕ)) (i : ℕ) → key_of (buffer_bytes p.skb) ≡ key → i ≡ length a.list.items → AreFlows b.flows
+  pub opens_run : (segs : ℕ) (key : Option (List ℕ)) (i : ℕ) → key_of (buffer_bytes p.skb) ≡ key → i ≡ length a.list.items → AreFlows b.flows
       → Puts a.flows key (if r.progress.is_open then Some i else None) b.flows
-      → ((j : ℕ) → place_of a.flows key ≡ Some j → IsMergeable (get_or (packets_in a) j [] ++ (packet_of p ∷ [])) → ⊥)
-      → b.last ≡ (if r.progress.is_open then Some i else None) → Takes a p b
-  opens_run key i k e flows puts not last =
-      opens_at key i r.progress.is_open k e flows puts (λ s. subst IsShut one_packet (run_shut r is s)) not
+      → ((j : ℕ) → place_of a.flows key ≡ Some j → IsMergeableWithin segs (get_or (packets_in a) j [] ++ (packet_of p ∷ [])) → ⊥)
+      → b.last ≡ (if r.progress.is_open then Some i else None) → Takes segs a p b
+  opens_run segs key i k e flows puts not last =
+      opens_at segs key i r.progress.is_open k e flows puts (λ s. subst IsShut one_packet (run_shut r is s)) not
       (latest_opened key i r.progress.is_open k e puts last)
 
   latest_none : b.last ≡ None → IsLatest (place_of b.flows) (packets_in a ++ ((packet_of p ∷ []) ∷ [])) b.last
   latest_none e = subst (IsLatest (place_of b.flows) (packets_in a ++ ((packet_of p ∷ []) ∷ []))) (sym e) tt
 
   -- a packet that no other joins, of a flow that finds nothing
-  pub opens_alone : place_of a.flows (key_of (buffer_bytes p.skb)) ≡ None → IsShut (packet_of p ∷ [])
-      → b.flows ≡ a.flows → b.last ≡ None → Takes a p b
-  opens_alone none shut e last =
+  pub opens_alone : (segs : ℕ) → place_of a.flows (key_of (buffer_bytes p.skb)) ≡ None → IsShut (packet_of p ∷ [])
+      → b.flows ≡ a.flows → b.last ≡ None → Takes segs a p b
+  opens_alone segs none shut e last =
       let key : Option (List ℕ) = key_of (buffer_bytes p.skb) in
-      opens_at key (length a.list.items) false refl refl (subst AreFlows (sym e) runs.flows)
+      opens_at segs key (length a.list.items) false refl refl (subst AreFlows (sym e) runs.flows)
       (λ q. ap (λ z. place_of z q) e ∙ keeps_none (place_of a.flows) key q none)
       (λ s. shut)
       (λ j g m. let t : None ≡ Some j = sym none ∙ g in absurd cc)
@@ -220,11 +226,11 @@ module _ (a b : Runs) (p : Held) (key : Option (List ℕ)) (i : ℕ) (old new : 
   new_key : begins_in (is_of key) (packets_of new) ≡ true
   new_key = ap (begins_in (is_of key)) grown ∙ ap (begins_in (is_of key)) there ∙ (last a key i runs found).1 []
 
-  pub grows_run : key_of (buffer_bytes p.skb) ≡ key → AreFlows b.flows
+  pub grows_run : (segs : ℕ) → key_of (buffer_bytes p.skb) ≡ key → AreFlows b.flows
       → Puts a.flows key (if new.progress.is_open then Some i else None) b.flows
-      → IsMergeable (get_or (packets_in a) i [] ++ (packet_of p ∷ [])) → ((n : ℕ) → HasPlaces a (n + 1) → HasPlaces b n)
-      → b.last ≡ (if new.progress.is_open then Some i else None) → Takes a p b
-  grows_run k flows puts m places latest = record {
+      → IsMergeableWithin segs (get_or (packets_in a) i [] ++ (packet_of p ∷ [])) → ((n : ℕ) → HasPlaces a (n + 1) → HasPlaces b n)
+      → b.last ≡ (if new.progress.is_open then Some i else None) → Takes segs a p b
+  grows_run segs k flows puts m places latest = record {
     runs = record {
       each = subst (AllByRecursion IsRun) (sym items) (all_set IsRun a.list.items i new runs.each is);
       flows = flows;
@@ -239,9 +245,9 @@ module _ (a b : Runs) (p : Held) (key : Option (List ℕ)) (i : ℕ) (old new : 
           (puts key ∙ ap (λ (b : Bool). if b then
           (if new.progress.is_open then Some i else None) else place_of a.flows key) (keys_equiv.refl key)));
     };
-    takes = subst (TakesPacket (packets_in a) (packet_of p)) (sym all_packets)
-        (takes_grows (place_of a.flows) (packets_in a) key i (packets_of old) (packet_of p) runs.index found there k
-        (subst (λ z. IsMergeable (z ++ (packet_of p ∷ []))) (sym there) m));
+    takes = subst (TakesPacket segs (packets_in a) (packet_of p)) (sym all_packets)
+        (takes_grows (place_of a.flows) (packets_in a) key i (packets_of old) (packet_of p) runs.index found there segs k
+        (subst (λ z. IsMergeableWithin segs (z ++ (packet_of p ∷ []))) (sym there) m));
     early = subst (KeepsEarly (packets_in a) (packet_of p)) (sym all_packets)
         (early_grows (packets_in a) key i (packet_of p) (packets_of old) there (last a key i runs found));
     same = λ f. ap (λ z. totals f (map held_of z)) items ∙ totals_set f a.list.items i old new p within was more;
@@ -313,12 +319,12 @@ module _ (a b : Runs) (p : Held) (i : ℕ) (old new : Run) (runs : AreRuns a)
   one_key : own_key ≡ first_key
   one_key = is_key_same own_key first_key (new_key a b p own_key i old new runs found was items is more)
 
-  pub extends_run : AreFlows b.flows → Puts a.flows first_key (if new.progress.is_open then place_of a.flows first_key else None) b.flows
-      → IsMergeable (get_or (packets_in a) i [] ++ (packet_of p ∷ [])) → ((n : ℕ) → HasPlaces a (n + 1) → HasPlaces b n)
-      → b.last ≡ (if new.progress.is_open then Some i else None) → Takes a p b
-  extends_run flows puts m places latest =
+  pub extends_run : (segs : ℕ) → AreFlows b.flows → Puts a.flows first_key (if new.progress.is_open then place_of a.flows first_key else None) b.flows
+      → IsMergeableWithin segs (get_or (packets_in a) i [] ++ (packet_of p ∷ [])) → ((n : ℕ) → HasPlaces a (n + 1) → HasPlaces b n)
+      → b.last ≡ (if new.progress.is_open then Some i else None) → Takes segs a p b
+  extends_run segs flows puts m places latest =
       let there : place_of a.flows first_key ≡ Some i = ap (place_of a.flows) (sym one_key) ∙ found in
-      grows_run a b p own_key i old new runs found was items is more refl flows
+      grows_run a b p own_key i old new runs found was items is more segs refl flows
       (λ r. puts r ∙ ap (λ (o : Option ℕ). if key_eq first_key r then
       (if new.progress.is_open then o else None) else place_of a.flows r) there
       ∙ ap (λ z. if key_eq z r then (if new.progress.is_open then Some i else None) else place_of a.flows r) (sym one_key))

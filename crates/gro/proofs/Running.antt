@@ -35,7 +35,7 @@ module _ (run : Run) (layout : Layout) (is : run.layout ≡ Some layout) (own : 
   pub placed : IsPlaced layout
   placed = placed_by (buffer_bytes run.first.skb) layout known.shape
 
-  pub sums : (layout.payload_at ≤ run.progress.total) × (run.progress.total ≤ layout.payload_at + 65535) × (layout.payload_at ≤ 200)
+  pub sums : (layout.payload_at ≤ run.progress.total) × (run.progress.total ≤ layout.payload_at + 262070) × (layout.payload_at ≤ 200)
   sums = bounded (packet_of run.first) (map packet_of run.rest.items) layout run.payload run.flags run.progress known
 
   pub first_in_head : (n : ℕ) → n ≡ head_size run.first.skb → layout.payload_at ≤ n

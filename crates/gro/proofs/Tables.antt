@@ -6,7 +6,7 @@ use Rattle.maximal_runs.specs.Cut.{AllNeighbours}
 use Rattle.maximal_runs.specs.Items.{first_number, AreItems}
 use Rattle.maximal_runs.proofs.Pass.{all_append}
 use Rattle.pcap_io.specs.Capture.{Packet}
-use Rattle.offload_model.specs.Mergeable.{IsMergeable}
+use Rattle.offload_model.specs.Mergeable.{IsMergeableWithin}
 use Rattle.offload_model.specs.Rounds.{is_of, number_of}
 use Rattle.gro.specs.declared.packet.Packet.{Packet as Held}
 use Rattle.gro.specs.declared.run.Run.{Run}
@@ -15,7 +15,7 @@ use Rattle.gro.specs.Held.{packet_of, count_of}
 use Rattle.gro.specs.Runs.{held_of, packets_of}
 use Rattle.gro.specs.Totals.{totals}
 use Rattle.gro.specs.Steps.{held_in, packets_in, AreRuns, HasPlaces, Takes}
-use Rattle.gro.specs.Table.{TableState, IsTable, Received, counts_in}
+use Rattle.gro.specs.Table.{TableState, IsTable, AreRunsOf, Received, counts_in}
 use Rattle.gro.proofs.Receiving.{total_push, counts_total}
 
 pub counts_totals : (rs : List (List Held)) → counts_in rs ≡ totals count_of rs
@@ -42,7 +42,7 @@ early_more [] m n h a = tt
 early_more (r ∷ rs) m n h a = (omega (arith, a.0), early_more rs m n h a.1)
 
 -- one more packet
-module _ (a b : Runs) (x : Held) (limit received above count : ℕ) (t : IsTable a limit received above count) (takes : Takes a x b) (rising : above ≤ x.number) where
+module _ (segs : ℕ) (a b : Runs) (x : Held) (limit received above count : ℕ) (t : IsTable a limit received above count) (takes : Takes segs a x b) (rising : above ≤ x.number) where
   pub table_more : (more : ℕ) → more ≡ count_of x → more ≤ 262147 → received < limit → IsTable b limit (received + 1) (x.number + 1) (count + more)
   table_more more e f h = record {
     are = takes.runs;
@@ -53,20 +53,21 @@ module _ (a b : Runs) (x : Held) (limit received above count : ℕ) (t : IsTable
     few = omega (arith, t.few, f);
   }
 
-  pub received_more : (old new : TableState) → old.runs ≡ held_in a → new.runs ≡ held_in b → old.above ≡ above → new.above ≡ x.number + 1 → new.received ≡ old.received + 1
+  pub received_more : (old new : TableState) → old.runs ≡ held_in a → new.runs ≡ held_in b → old.above ≡ above → new.above ≡ x.number + 1 → new.received ≡ old.received + 1 → old.segs ≡ segs → new.segs ≡ segs
       → (ps : List Held) → Received ps old → Received (ps ++ (x ∷ [])) new
-  received_more old new ea eb eo en er ps r =
+  received_more old new ea eb eo en er es en2 ps r =
       let low : AllByRecursion (λ (p : Held). p.number < x.number) ps = below_more ps old.above x.number (omega (arith, eo, rising)) r.below in
       let was : map (λ (r : List Held). map packet_of r) old.runs ≡ packets_in a = ap (map (λ (r : List Held). map packet_of r)) ea ∙ same_packets a.list.items in
       let is : map (λ (r : List Held). map packet_of r) new.runs ≡ packets_in b = ap (map (λ (r : List Held). map packet_of r)) eb ∙ same_packets b.list.items in
-      let items : AreItems IsMergeable is_of number_of (map packet_of ps ++ (packet_of x ∷ [])) (packets_in b)
-      = takes.takes (map packet_of ps) (early_more (packets_in a) above x.number rising t.early) (subst (AreItems IsMergeable is_of number_of (map packet_of ps)) was r.are.runs) in
+      let before : AreRunsOf segs (map packet_of ps) old.runs = subst (λ n. AreRunsOf n (map packet_of ps) old.runs) es r.are in
+      let items : AreItems (IsMergeableWithin segs) is_of number_of (map packet_of ps ++ (packet_of x ∷ [])) (packets_in b)
+      = takes.takes (map packet_of ps) (early_more (packets_in a) above x.number rising t.early) (subst (AreItems (IsMergeableWithin segs) is_of number_of (map packet_of ps)) was before.runs) in
       record {
-        are = record {
+        are = subst (λ n. AreRunsOf n (map packet_of (ps ++ (x ∷ []))) new.runs) (sym en2) (record {
           rising = rising_push ps x r.are.rising low;
-          runs = subst (AreItems IsMergeable is_of number_of (map packet_of (ps ++ (x ∷ [])))) (sym is)
-              (subst (λ (z : List Packet). AreItems IsMergeable is_of number_of z (packets_in b)) (sym (map-append packet_of ps (x ∷ []))) items);
-        };
+          runs = subst (AreItems (IsMergeableWithin segs) is_of number_of (map packet_of (ps ++ (x ∷ [])))) (sym is)
+              (subst (λ (z : List Packet). AreItems (IsMergeableWithin segs) is_of number_of z (packets_in b)) (sym (map-append packet_of ps (x ∷ []))) items);
+        });
         same = λ f. total_push f ps x ∙ ap (λ (z : ℕ). z + f x) (r.same f ∙ ap (totals f) ea) ∙ sym (takes.same f) ∙ ap (totals f) (sym eb);
         many = omega (arith, length-append ps (x ∷ []), r.many, er);
         below = all_append (λ (p : Held). p.number < new.above) ps (x ∷ []) (below_more ps x.number new.above (omega (arith, en)) low) (omega (arith, en), tt);
@@ -86,12 +87,12 @@ table_left a b limit received above count t are places same = record {
 }
 
 -- none yet
-pub none_yet : AreItems IsMergeable is_of number_of [] []
-none_yet = record { full = tt; flows = λ k. record { filled = tt; joined = refl; each = tt; maximal = tt }; ordered = tt }
+pub none_yet : (segs : ℕ) → AreItems (IsMergeableWithin segs) is_of number_of [] []
+none_yet segs = record { full = tt; flows = λ k. record { filled = tt; joined = refl; each = tt; maximal = tt }; ordered = tt }
 
 pub none_received : (t : TableState) → t.runs ≡ [] → t.received ≡ 0 → Received [] t
 none_received t e f = record {
-  are = record { rising = tt; runs = subst (λ (z : List (List Held)). AreItems IsMergeable is_of number_of [] (map (λ (r : List Held). map packet_of r) z)) (sym e) none_yet };
+  are = record { rising = tt; runs = subst (λ (z : List (List Held)). AreItems (IsMergeableWithin t.segs) is_of number_of [] (map (λ (r : List Held). map packet_of r) z)) (sym e) (none_yet t.segs) };
   same = λ f. sym (ap (totals f) e);
   many = sym f;
   below = tt;

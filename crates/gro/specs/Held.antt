@@ -1,6 +1,7 @@
 -- Packets in buffers, and what they hold.
 use Rattle.std.specs.Prelude.{ℕ, ◌≡◌, ◌+◌, ◌≤◌, List, [], ◌∷◌, length, false}
 use Rattle.std.specs.List.{AllByRecursion}
+use Rattle.pcap_io.specs.Limits.{most_frame}
 use Rattle.pcap_io.specs.Capture.{Packet}
 use Rattle.frags.specs.Account.{Account, both, of_sole}
 use Rattle.frags.specs.declared.holder.Holder.{Holder}
@@ -17,7 +18,7 @@ packet_of p = record { number = p.number; sec = p.sec; frac = p.frac; original =
 pub record IsHeld (p : Held) : Type 0 where
   pub size : buffer_size p.skb ≡ length (buffer_bytes p.skb)
   pub front : IsFronted p.skb
-  pub short : length (buffer_bytes p.skb) ≤ 262144
+  pub short : length (buffer_bytes p.skb) ≤ most_frame
 
 abbrev pub AreHeld : List Held → Type 0
 AreHeld ps = AllByRecursion IsHeld ps

@@ -7,7 +7,7 @@ use Rattle.maximal_runs.specs.Items.{first_number, AreItems}
 use Rattle.pcap_io.specs.Capture.{Packet}
 use Rattle.skb.specs.SkbState.{buffer_least}
 use Rattle.skb.specs.Fronts.{IsFronted}
-use Rattle.offload_model.specs.Mergeable.{IsMergeable}
+use Rattle.offload_model.specs.Mergeable.{IsMergeableWithin}
 use Rattle.offload_model.specs.Rounds.{is_of, number_of}
 use Rattle.offload_model.specs.Merged.{merged_of}
 use Rattle.gro.specs.declared.packet.Packet.{Packet as Held}
@@ -18,17 +18,18 @@ use Rattle.gro.specs.Items.{item_of, item_count, of_item, IsItemOf}
 use Rattle.gro.specs.Steps.{held_in, packets_in, AreRuns, HasPlaces}
 use Rattle.gro.specs.Totals.{totals, AreSame}
 
--- the runs so far, in the order of their first packets; how many packets may come, and how many have; and what the next one's
--- number has to reach
+-- the runs so far, in the order of their first packets; how many packets may come, and how many have; what the next one's number has to
+-- reach; and how many packets a run may have
 pub record TableState : Type 0 where
   pub runs : List (List Held)
   pub limit : ℕ
   pub received : ℕ
   pub above : ℕ
+  pub segs : ℕ
 
 -- a table that holds nothing, between two rounds
-abbrev pub no_table : TableState
-no_table = record { runs = []; limit = 0; received = 0; above = 0 }
+abbrev pub no_table : ℕ → TableState
+no_table segs = record { runs = []; limit = 0; received = 0; above = 0; segs = segs }
 
 -- what is known of a table's runs, and how many blocks and parts they hold
 pub record IsTable (runs : Runs) (limit received above count : ℕ) : Type 0 where
@@ -39,14 +40,14 @@ pub record IsTable (runs : Runs) (limit received above count : ℕ) : Type 0 whe
   pub counted : count ≡ totals count_of (held_in runs)
   pub few : count ≤ received * 262147
 
--- the runs of all flows of these packets, which stand in the order of their numbers
-pub record AreRunsOf (ps : List Packet) (rs : List (List Held)) : Type 0 where
+-- the runs of all flows of these packets, of at most `segs` packets each, which stand in the order of their numbers
+pub record AreRunsOf (segs : ℕ) (ps : List Packet) (rs : List (List Held)) : Type 0 where
   pub rising : AllNeighbours (λ (p q : Packet). p.number < q.number) ps
-  pub runs : AreItems IsMergeable is_of number_of ps (map (λ (r : List Held). map packet_of r) rs)
+  pub runs : AreItems (IsMergeableWithin segs) is_of number_of ps (map (λ (r : List Held). map packet_of r) rs)
 
 -- the table has received these packets: its runs are theirs, and hold them and nothing else
 pub record Received (ps : List Held) (t : TableState) : Type 0 where
-  pub are : AreRunsOf (map packet_of ps) t.runs
+  pub are : AreRunsOf t.segs (map packet_of ps) t.runs
   pub same : AreSame ps t.runs
   pub many : length ps ≡ t.received
   pub below : AllByRecursion (λ (p : Held). p.number < t.above) ps

@@ -2,6 +2,7 @@
 ghost use Rattle.std.specs.Prelude.{◌≡◌, ◌+◌, ◌≤◌, ◌∷◌, [], length, map, vec_len, vec_capacity};
 ghost use Rattle.std.specs.List.{AllByRecursion};
 ghost use Rattle.offload_model.specs.Merged.{merged_of};
+ghost use Rattle.offload_model.specs.Written.{head_of};
 ghost use Rattle.merge_rule.specs.Runs.{IsRunOf};
 ghost use Rattle.gro.specs.Build.{pieces_in, free_in};
 ghost use Rattle.gro.specs.Held.{packet_of, AreHeld};
@@ -18,6 +19,7 @@ use frags::{Outcomes, PieceBuilder};
 use frame_layout::Layout;
 use inet_sum::Partial;
 use merge_rule::Progress;
+use pcap_io::OffHead2;
 use skb::Skb;
 use std::collections::VecDeque;
 
@@ -30,9 +32,9 @@ pub struct Item {
     pub frac: u32,
     pub original: u32,
     /// How many packets there are.
-    pub n: u16,
+    pub n: u32,
     /// The length of the first payload; 0 of a packet that is alone.
-    pub m: u16,
+    pub m: u32,
     /// A bit for each IP header, the lowest for the first, set where that is an IPv4 header whose identification stays the
     /// same; 0 of a packet that is alone.
     pub modes: u8,
@@ -41,6 +43,21 @@ pub struct Item {
 }
 
 impl Item {
+    /// The offload header that its record has where it is one of this queue.
+    pub fn head(&self, queue: u8) -> OffHead2
+        ensures head { result ≡ head_of queue (item_of self.now) }
+    {
+        OffHead2 {
+            version: 2,
+            kind: if self.n == 1 { 0 } else { 1 },
+            modes: self.modes,
+            lane: queue,
+            n: self.n,
+            m: self.m,
+            number: self.number,
+        }
+    }
+
     /// Its buffer and its outcomes, which are to be spent.
     pub fn into_parts(self) -> (Skb, Outcomes)
         ensures skb { result.0 ≡ self.skb }
@@ -149,8 +166,8 @@ fn merged(
     let number = first.number;
     let sec = first.sec;
     let frac = first.frac;
-    let m = (first.skb.len() - layout.payload_at()) as u16;
-    let n = (rest.len() + 1) as u16;
+    let m = (first.skb.len() - layout.payload_at()) as u32;
+    let n = (rest.len() + 1) as u32;
     let (skb, outcomes) = join(first, rest, layout, flags, payload, pieces, outcomes);
     let original = skb.len() as u32;
     Item {

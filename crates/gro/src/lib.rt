@@ -33,7 +33,7 @@
 //! clause says.
 //!
 //! ```
-//! let mut table = RoundTable::make(alloc, 64)?;
+//! let mut table = RoundTable::make(alloc, 64, 4096)?;
 //! for round in rounds {
 //!     table.start(64)?;
 //!     for packet in round {

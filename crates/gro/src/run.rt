@@ -3,7 +3,7 @@ ghost use Rattle.std.specs.Prelude.{◌≡◌, ◌+◌, ◌<◌, ◌≤◌, ◌^
 ghost use Rattle.std.specs.Bool.{Decides};
 ghost use Rattle.std.specs.VecDeque.{deque_len, deque_capacity};
 ghost use Rattle.frame_layout.specs.Key.{key_of};
-ghost use Rattle.offload_model.specs.Mergeable.{IsMergeable};
+ghost use Rattle.offload_model.specs.Mergeable.{IsMergeable, IsMergeableWithin};
 ghost use Rattle.merge_rule.specs.Runs.{IsJudged, IsFirstProgress, IsNextProgress};
 ghost use Rattle.skb.specs.SkbState.{buffer_bytes};
 ghost use Rattle.gro.specs.Held.{packet_of, count_of, IsHeld};
@@ -94,6 +94,20 @@ impl Run {
             ),
             None => false,
         }
+    }
+
+    /// Whether the run takes one more packet, and has with it at most `segs`.
+    pub(crate) fn takes_within(&self, next: &Packet, candidacy: &Candidacy, segs: u32) -> bool
+        requires run { IsRun self.now }
+        requires judged { IsJudged (buffer_bytes next.now.skb) next.now.original candidacy.now.layout candidacy.now.payload candidacy.now.flags }
+        requires held { IsHeld next.now }
+        ensures takes { Decides result (IsMergeableWithin segs (packets_of self.now ++ (packet_of next.now ∷ []))) }
+        ensures flow { IsTrue result → key_of (buffer_bytes next.now.skb) ≡ key_of (buffer_bytes self.now.first.skb) }
+    {
+        if self.rest.len() + 2 > segs as usize {
+            return false;
+        }
+        self.takes(next, candidacy)
     }
 
     /// What the run comes to with one more packet.

@@ -1,7 +1,7 @@
 //! The runs of a round, as packets come.
 ghost use Rattle.std.specs.Prelude.{◌≡◌, ◌+◌, ◌<◌, ◌≤◌, ◌^◌, ◌++◌, ◌∷◌, [], Option, Some, None, ℕ, List, length, IsTrue, map, OnOk, OnErr, IfOk, IfErr, slice_index_or, if◌then◌else◌};
 ghost use Rattle.frame_layout.specs.Key.{key_of};
-ghost use Rattle.offload_model.specs.Mergeable.{IsMergeable};
+ghost use Rattle.offload_model.specs.Mergeable.{IsMergeable, IsMergeableWithin};
 ghost use Rattle.merge_rule.specs.Runs.{IsJudged};
 ghost use Rattle.skb.specs.SkbState.{buffer_bytes};
 ghost use Rattle.gro.specs.Held.{packet_of, count_of, IsHeld};
@@ -74,7 +74,7 @@ impl Runs {
         requires held { IsHeld packet }
         requires key { key_of (buffer_bytes packet.skb) ≡ key }
         requires none { place_of self.old.flows key ≡ None }
-        ensures takes { Takes self.old packet self.new }
+        ensures takes { (segs : ℕ) → Takes segs self.old packet self.new }
     {
         let run = Run::open(self.alloc, packet, candidacy);
         let place = self.list.len();
@@ -93,8 +93,7 @@ impl Runs {
         requires key { key_of (buffer_bytes packet.skb) ≡ key.now }
         requires slot { slot_of self.old.flows key.now ≡ Some found.slot }
         requires place { place_of self.old.flows key.now ≡ Some found.place }
-        requires apart { IsMergeable (slice_index_or (packets_in self.old) found.place [] ++ (packet_of packet ∷ [])) → ⊥ }
-        ensures takes { Takes self.old packet self.new }
+        ensures takes { (segs : ℕ) → (IsMergeableWithin segs (slice_index_or (packets_in self.old) found.place [] ++ (packet_of packet ∷ [])) → ⊥) → Takes segs self.old packet self.new }
     {
         let run = Run::open(self.alloc, packet, candidacy);
         let is_open = run.progress.is_open;
@@ -120,7 +119,7 @@ impl Runs {
         requires place { place_of self.old.flows key.now ≡ Some found.place }
         requires mergeable { IsMergeable (slice_index_or (packets_in self.old) found.place [] ++ (packet_of packet ∷ [])) }
         requires few { totals count_of (held_in self.old) + count_of packet < 2 ^ 63 }
-        ensures takes { OnOk result (Takes self.old packet self.new) }
+        ensures takes { OnOk result ((segs : ℕ) → IsMergeableWithin segs (slice_index_or (packets_in self.old) found.place [] ++ (packet_of packet ∷ [])) → Takes segs self.old packet self.new) }
         ensures back { IfErr result (λ e. (e.0 ≡ packet) × (held_in self.new ≡ held_in self.old)) }
         ensures left { OnErr result (AreRuns self.new) }
         ensures room { OnErr result ((n : ℕ) → HasPlaces self.old n → HasPlaces self.new n) }
@@ -150,7 +149,7 @@ impl Runs {
         requires found { place_of self.old.flows (key_of (buffer_bytes packet.skb)) ≡ Some place }
         requires mergeable { IsMergeable (slice_index_or (packets_in self.old) place [] ++ (packet_of packet ∷ [])) }
         requires few { totals count_of (held_in self.old) + count_of packet < 2 ^ 63 }
-        ensures takes { OnOk result (Takes self.old packet self.new) }
+        ensures takes { OnOk result ((segs : ℕ) → IsMergeableWithin segs (slice_index_or (packets_in self.old) place [] ++ (packet_of packet ∷ [])) → Takes segs self.old packet self.new) }
         ensures back { IfErr result (λ e. (e.0 ≡ packet) × (held_in self.new ≡ held_in self.old)) }
         ensures left { OnErr result (AreRuns self.new) }
         ensures room { OnErr result ((n : ℕ) → HasPlaces self.old n → HasPlaces self.new n) }
@@ -171,6 +170,7 @@ impl Runs {
         key: Key,
         packet: Packet,
         candidacy: Candidacy,
+        segs: u32,
     ) -> Result<(), (Packet, AllocError)>
         requires runs { AreRuns self.old }
         requires places { HasPlaces self.old 1 }
@@ -178,7 +178,7 @@ impl Runs {
         requires held { IsHeld packet }
         requires key { key_of (buffer_bytes packet.skb) ≡ key }
         requires few { totals count_of (held_in self.old) + count_of packet < 2 ^ 63 }
-        ensures takes { OnOk result (Takes self.old packet self.new) }
+        ensures takes { OnOk result (Takes segs self.old packet self.new) }
         ensures back { IfErr result (λ e. (e.0 ≡ packet) × (held_in self.new ≡ held_in self.old)) }
         ensures left { OnErr result (AreRuns self.new) }
         ensures room { OnErr result ((n : ℕ) → HasPlaces self.old n → HasPlaces self.new n) }
@@ -187,7 +187,7 @@ impl Runs {
             self.begin(key, packet, candidacy);
             return Ok(());
         };
-        if self.list[found.place].takes(&packet, &candidacy) {
+        if self.list[found.place].takes_within(&packet, &candidacy, segs) {
             return self.grow(&key, found, packet, &candidacy);
         }
         self.follow(&key, found, packet, candidacy);
@@ -202,7 +202,7 @@ impl Runs {
         requires held { IsHeld packet }
         requires none { place_of self.old.flows (key_of (buffer_bytes packet.skb)) ≡ None }
         requires alone { candidacy.layout ≡ None }
-        ensures takes { Takes self.old packet self.new }
+        ensures takes { (segs : ℕ) → Takes segs self.old packet self.new }
     {
         let run = Run::open(self.alloc, packet, candidacy);
         self.last = None;
@@ -218,23 +218,23 @@ impl Runs {
     }
 
     /// One more packet: the last run of its flow takes it, or it opens the next one.
-    pub(crate) fn receive(&mut self, packet: Packet) -> Result<(), (Packet, AllocError)>
+    pub(crate) fn receive(&mut self, packet: Packet, segs: u32) -> Result<(), (Packet, AllocError)>
         requires runs { AreRuns self.old }
         requires places { HasPlaces self.old 1 }
         requires held { IsHeld packet }
         requires few { totals count_of (held_in self.old) + count_of packet < 2 ^ 63 }
-        ensures takes { OnOk result (Takes self.old packet self.new) }
+        ensures takes { OnOk result (Takes segs self.old packet self.new) }
         ensures back { IfErr result (λ e. (e.0 ≡ packet) × (held_in self.new ≡ held_in self.old)) }
         ensures left { OnErr result (AreRuns self.new) }
         ensures room { OnErr result ((n : ℕ) → HasPlaces self.old n → HasPlaces self.new n) }
     {
         let candidacy = judge(&packet.skb, packet.original);
         if let Some(place) = self.last {
-            if self.list[place].takes(&packet, &candidacy) {
+            if self.list[place].takes_within(&packet, &candidacy, segs) {
                 return self.extend(place, packet, &candidacy);
             }
         }
-        self.find_place(packet, candidacy)
+        self.find_place(packet, candidacy, segs)
     }
 
     /// A packet that the last packet's run doesn't take.
@@ -242,13 +242,14 @@ impl Runs {
         &mut self,
         packet: Packet,
         candidacy: Candidacy,
+        segs: u32,
     ) -> Result<(), (Packet, AllocError)>
         requires runs { AreRuns self.old }
         requires places { HasPlaces self.old 1 }
         requires judged { IsJudged (buffer_bytes packet.skb) packet.original candidacy.layout candidacy.payload candidacy.flags }
         requires held { IsHeld packet }
         requires few { totals count_of (held_in self.old) + count_of packet < 2 ^ 63 }
-        ensures takes { OnOk result (Takes self.old packet self.new) }
+        ensures takes { OnOk result (Takes segs self.old packet self.new) }
         ensures back { IfErr result (λ e. (e.0 ≡ packet) × (held_in self.new ≡ held_in self.old)) }
         ensures left { OnErr result (AreRuns self.new) }
         ensures room { OnErr result ((n : ℕ) → HasPlaces self.old n → HasPlaces self.new n) }
@@ -258,7 +259,7 @@ impl Runs {
             return Ok(());
         }
         let key = flow_key(&packet.skb, &candidacy);
-        self.place(key, packet, candidacy)
+        self.place(key, packet, candidacy, segs)
     }
 
     /// Room for n runs more.

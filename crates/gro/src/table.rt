@@ -1,6 +1,7 @@
 //! A round's packets, run by run.
 ghost use Rattle.std.specs.Prelude.{◌≡◌, ◌+◌, ◌<◌, ◌≤◌, ◌++◌, ◌∷◌, [], List, ℕ, length, map, OnOk, OnErr, IfOk, IfErr};
 ghost use Rattle.std.specs.Bool.{Decides};
+ghost use Rattle.pcap_io.specs.Limits.{most_frame};
 ghost use Rattle.frags.specs.Account.{Keeps, both, of_outcomes};
 ghost use Rattle.frags.specs.Growth.{Grows};
 ghost use Rattle.ref_core.specs.WeightRule.{full_weight};
@@ -30,6 +31,7 @@ pub struct RoundTable {
     runs: Runs,
     shelf: Shelf,
     limit: u32,
+    segs: u32,
     received: u32,
     above: u64,
     count: usize,
@@ -42,7 +44,7 @@ impl Model for RoundTable {
 
     ghost Value = { TableState };
 
-    ghost view = { λ t. record { runs = held_in t.runs; limit = t.limit; received = t.received; above = t.above } };
+    ghost view = { λ t. record { runs = held_in t.runs; limit = t.limit; received = t.received; above = t.above; segs = t.segs } };
 
     ghost invariant = { λ t. IsTable t.runs t.limit t.received t.above t.count };
 }
@@ -50,7 +52,7 @@ impl Model for RoundTable {
 /// How many blocks and parts a packet holds.
 fn weigh(packet: &Packet) -> usize
     requires front { IsFronted packet.now.skb }
-    requires short { buffer_size packet.now.skb ≤ 262144 }
+    requires short { buffer_size packet.now.skb ≤ most_frame }
     ensures count { result ≡ count_of packet.now }
     ensures held { IsHeld packet.now }
     ensures few { result ≤ 262147 }
@@ -60,11 +62,12 @@ fn weigh(packet: &Packet) -> usize
 }
 
 impl RoundTable {
-    /// An empty table for at most `limit` packets. The memory for so many runs and flows is taken here.
-    pub fn make(alloc: Global, limit: u32) -> Result<RoundTable, AllocError>
+    /// An empty table for at most `limit` packets, in runs of at most `segs`. The memory for so many runs and flows is taken here.
+    pub fn make(alloc: Global, limit: u32, segs: u32) -> Result<RoundTable, AllocError>
         ensures received { IfOk result (λ t. Received [] t) }
         ensures none { IfOk result (λ t. t.runs ≡ []) }
         ensures limit { IfOk result (λ t. t.limit ≡ limit) }
+        ensures segs { IfOk result (λ t. t.segs ≡ segs) }
         ensures above { IfOk result (λ t. t.above ≡ 0) }
     {
         let runs = Runs::with_capacity(alloc, limit as usize)?;
@@ -72,6 +75,7 @@ impl RoundTable {
             runs,
             shelf: Shelf::new(alloc),
             limit,
+            segs,
             received: 0,
             above: 0,
             count: 0,
@@ -85,6 +89,7 @@ impl RoundTable {
         ensures received { Received [] self.new }
         ensures none { self.new.runs ≡ [] }
         ensures limit { OnOk result (self.new.limit ≡ limit) }
+        ensures segs { self.new.segs ≡ self.old.segs }
         ensures above { self.new.above ≡ 0 }
     {
         self.limit = 0;
@@ -116,17 +121,18 @@ impl RoundTable {
         requires room { self.old.received < self.old.limit }
         requires rising { self.old.above ≤ packet.number }
         requires front { IsFronted packet.skb }
-        requires short { buffer_size packet.skb ≤ 262144 }
+        requires short { buffer_size packet.skb ≤ most_frame }
         ensures received { OnOk result ((ps : List Held) → Received ps self.old → Received (ps ++ (packet ∷ [])) self.new) }
         ensures count { OnOk result (counts_in self.new.runs ≡ counts_in self.old.runs + count_of packet) }
         ensures many { OnOk result (self.new.received ≡ self.old.received + 1) }
         ensures above { OnOk result (self.new.above ≡ packet.number + 1) }
         ensures limit { self.new.limit ≡ self.old.limit }
+        ensures segs { self.new.segs ≡ self.old.segs }
         ensures back { IfErr result (λ e. (e.0 ≡ packet) × (self.new ≡ self.old)) }
     {
         let above = packet.number as u64 + 1;
         let count = weigh(&packet);
-        if let Err(refused) = self.runs.receive(packet) {
+        if let Err(refused) = self.runs.receive(packet, self.segs) {
             return Err(refused);
         }
         self.count += count;
@@ -141,13 +147,13 @@ impl RoundTable {
     pub fn finish_into(&mut self, items: &mut Vec<Item>) -> Result<(), AllocError>
         requires empty { items.old.items ≡ [] }
         ensures items { OnOk result (AreItemsFrom self.old.runs items.new.items) }
-        ensures merged { (ps : List Held) → Received ps self.old → OnOk result (map item_of items.new.items ≡ map merged_of (runs_in (map packet_of ps))) }
+        ensures merged { (ps : List Held) → Received ps self.old → OnOk result (map item_of items.new.items ≡ map merged_of (runs_in self.old.segs (map packet_of ps))) }
         ensures count { (ps : List Held) → Received ps self.old → OnOk result (counts_of_items items.new.items ≡ counts_of ps) }
         ensures account { OnOk result (KeepsTable self.old.runs items.new.items) }
         ensures shared { (ps : List Held) → Received ps self.old → AreShared ps → OnOk result (Keeps (of_packets ps) (of_items items.new.items)) }
         ensures least { (ps : List Held) (w : ℕ) → Received ps self.old → w ≤ full_weight → WeighAtLeast w ps → OnOk result (ItemsWeighAtLeast w items.new.items) }
         ensures ready { OnOk result (AreReady items.new.items) }
-        ensures none { OnOk result (self.new ≡ no_table) }
+        ensures none { OnOk result (self.new ≡ no_table self.old.segs) }
         ensures back { OnErr result ((self.new ≡ self.old) × (items.new.items ≡ [])) }
     {
         self.shelf
@@ -164,7 +170,7 @@ impl RoundTable {
     /// it was.
     pub fn finish(self) -> Result<Vec<Item>, (RoundTable, AllocError)>
         ensures items { IfOk result (λ items. AreItemsFrom self.runs items.items) }
-        ensures merged { (ps : List Held) → Received ps self → IfOk result (λ items. map item_of items.items ≡ map merged_of (runs_in (map packet_of ps))) }
+        ensures merged { (ps : List Held) → Received ps self → IfOk result (λ items. map item_of items.items ≡ map merged_of (runs_in self.segs (map packet_of ps))) }
         ensures count { (ps : List Held) → Received ps self → IfOk result (λ items. counts_of_items items.items ≡ counts_of ps) }
         ensures account { IfOk result (λ items. KeepsTable self.runs items.items) }
         ensures shared { (ps : List Held) → Received ps self → AreShared ps → IfOk result (λ items. Keeps (of_packets ps) (of_items items.items)) }
@@ -200,7 +206,7 @@ impl RoundTable {
         ensures kept { Keeps (both (of_runs self.old.runs) (of_outcomes out.old)) (of_outcomes out.new) }
         ensures grows { Grows (counts_in self.old.runs) out.old out.new }
         ensures places { out.old.spare ≤ out.new.spare + counts_in self.old.runs }
-        ensures none { self.new ≡ no_table }
+        ensures none { self.new ≡ no_table self.old.segs }
     {
         release_runs(&mut self.runs.list, out);
         self.runs.clear();
@@ -230,6 +236,7 @@ impl RoundTable {
             runs,
             shelf: _,
             limit: _,
+            segs: _,
             received: _,
             above: _,
             count: _,

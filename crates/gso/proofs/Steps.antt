@@ -13,7 +13,7 @@ use Rattle.skb.specs.SkbState.{SkbState, head_bytes, buffer_bytes}
 use Rattle.skb.specs.Fronts.{front_of}
 use Rattle.segment_rule.specs.declared.segmentation.Segmentation.{Segmentation}
 use Rattle.segment_rule.specs.Segmentations.{segment_at, segment_from, payload_at}
-use Rattle.segment_rule.proofs.Segments.{places, short, payload_short, segment_ranges}
+use Rattle.segment_rule.proofs.Segments.{places, payload_short, segment_ranges}
 use Rattle.gso.specs.declared.sums.Sums.{Sums}
 use Rattle.gso.specs.Merged.{MergedState, IsAt, GivesSegment}
 use Rattle.gso.proofs.Weights.{elim_lt}
@@ -38,7 +38,7 @@ behind_n x m n e =
 module _ (u : Sums) (s t : SkbState) (p q r front : List Piece) (cut : Segmentation) (i n : ℕ) (f : List ℕ) (is : IsAt f (state u s p cut i))
     (opened : buffer_bytes t ++ bytes_of q ≡ buffer_bytes s ++ bytes_of p) where
   pub at_open : IsAt f (state u t q cut i)
-  at_open = record { in_bytes = is.in_bytes; of = is.of; bytes = opened ∙ is.bytes }
+  at_open = record { in_bytes = is.in_bytes; short = is.short; of = is.of; bytes = opened ∙ is.bytes }
 
   abbrev at : ℕ
   at = cut.layout.payload_at
@@ -87,14 +87,14 @@ module _ (u : Sums) (s t : SkbState) (p q r front : List Piece) (cut : Segmentat
           ∙ drop-drop cut.m (i * cut.m) (drop at f) ∙ ap (λ (z : ℕ). drop z (drop at f)) next_place
 
       pub at_next : IsAt f (state u t r cut (i + 1))
-      at_next = record { in_bytes = is.in_bytes; of = is.of; bytes = ap (λ (z : List ℕ). z ++ bytes_of r) headers ∙ ap (λ (z : List ℕ). take at f ++ z) rest }
+      at_next = record { in_bytes = is.in_bytes; short = is.short; of = is.of; bytes = ap (λ (z : List ℕ). z ++ bytes_of r) headers ∙ ap (λ (z : List ℕ). take at f ++ z) rest }
 
       module _ (sum : FoldAndLength) (len : sum.len ≡ length (bytes_of front)) where
         pub ranges : AtHeaders (IsLengthInRange (at + sum.len)) cut.layout.headers
         ranges = subst (λ (z : ℕ). AtHeaders (IsLengthInRange (at + z)) cut.layout.headers) (sym (len ∙ ap length own)) (segment_ranges cut f i is.in_bytes is.of)
 
         pub few : at + sum.len < 2 ^ 31
-        few = omega (arith, len, ap length own, payload_short cut f i, short cut f is.in_bytes is.of, placed.low, placed.within)
+        few = omega (arith, len, ap length own, payload_short cut f i, is.short, placed.low, placed.within)
 
       module _ (spare block : SoleState) (seg : SkbState) (less : i < cut.n)
           (written : front_of block at ++ bytes_of front ≡ segment_from cut i (take at (head_bytes t) ++ bytes_of front))

@@ -1,7 +1,8 @@
 -- A merged frame of which some segments were given.
-use Rattle.std.specs.Prelude.{ℕ, ◌≡◌, ◌≢◌, ◌+◌, ◌*◌, ◌<◌, ◌≤◌, List, [], ◌++◌, take, drop, slice_range, Ok, Err}
+use Rattle.std.specs.Prelude.{ℕ, ◌≡◌, ◌≢◌, ◌+◌, ◌*◌, ◌<◌, ◌≤◌, List, [], ◌++◌, length, take, drop, Ok, Err}
 use Rattle.std.specs.declared.result.Result.{Result}
 use Rattle.std.specs.declared.alloc.AllocError.{AllocError}
+use Rattle.pcap_io.specs.Limits.{most_frame}
 use Rattle.raw_block.specs.Views.{SoleState}
 use Rattle.frags.specs.PieceList.{bytes_of}
 use Rattle.frags.specs.declared.pieces.Piece.{Piece}
@@ -28,6 +29,7 @@ pub record MergedState : Type 0 where
 -- i segments of the frame f were given: its headers and the rest of its payload are here
 pub record IsAt (f : List ℕ) (c : MergedState) : Type 0 where
   pub in_bytes : AreBytes f
+  pub short : length f ≤ most_frame
   pub of : IsSegmentationOf c.cut f
   pub bytes : buffer_bytes c.skb ++ bytes_of c.pieces ≡ take c.cut.layout.payload_at f ++ drop (c.i * c.cut.m) (drop c.cut.layout.payload_at f)
 

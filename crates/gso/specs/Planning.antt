@@ -1,6 +1,10 @@
 -- What a plan says of its record, and of the buffer that is to be cut.
-use Rattle.std.specs.Prelude.{◌≤◌, List, [], ◌∷◌, drop}
-use Rattle.pcap_io.specs.Capture.{Packet}
+use Rattle.std.specs.Prelude.{◌≡◌, ◌≤◌, ◌+◌, ◌-◌, ◌&&◌, true, ℕ, List, [], ◌∷◌, length, drop}
+use Rattle.pcap_io.specs.Limits.{most_frame}
+use Rattle.pcap_io.specs.Capture.{Packet, packet}
+use Rattle.pcap_io.specs.Headers.{head_size as size_of, fields_in}
+use Rattle.pcap_io.specs.declared.off_head.AnyHead.{AnyHead}
+use Rattle.offload_model.specs.Tests.{is_opened_by, is_lawful_by}
 use Rattle.segment_rule.specs.declared.segmentation.Segmentation.{Segmentation}
 use Rattle.segment_rule.specs.Segmentations.{IsSegmentationOf, segments_at}
 use Rattle.skb.specs.SkbState.{SkbState, buffer_bytes, head_size}
@@ -20,6 +24,7 @@ packets_by (Segments cut sums) p = segments_at cut p
 pub record IsSegmentsReady (s : SkbState) (cut : Segmentation) (sums : Sums) : Type 0 where
   pub of : IsSegmentationOf cut (buffer_bytes s)
   pub in_bytes : AreBytes (buffer_bytes s)
+  pub short : length (buffer_bytes s) ≤ most_frame
   pub front : cut.layout.payload_at ≤ head_size s
   pub known : AreSumsOf cut.m sums (drop cut.layout.payload_at (buffer_bytes s))
 
@@ -27,3 +32,8 @@ pub record IsSegmentsReady (s : SkbState) (cut : Segmentation) (sums : Sums) : T
 abbrev pub IsPlanOf : SkbState → Plan → Type 0
 IsPlanOf s (Segments cut sums) = IsSegmentsReady s cut sums
 IsPlanOf s _ = Unit {0}
+
+-- a record is lawful that has this header, this original length, and the frame behind the header
+abbrev pub IsLawfulBehind : AnyHead → ℕ → List ℕ → Type 0
+IsLawfulBehind head original f =
+    (is_opened_by head (size_of head + length f) original && is_lawful_by (fields_in head) (packet 0 0 0 (original - size_of head) f)) ≡ true

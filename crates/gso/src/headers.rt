@@ -1,6 +1,6 @@
 //! A segment's headers, in the block of a spare.
 
-ghost use Rattle.std.specs.Prelude.{◌≡◌, ◌+◌, ◌<◌, ◌≤◌, ◌^◌, ◌++◌, ℕ, List, length, take};
+ghost use Rattle.std.specs.Prelude.{◌≡◌, ◌+◌, ◌*◌, ◌<◌, ◌≤◌, ◌^◌, ◌++◌, ℕ, List, length, take};
 ghost use Rattle.skb.specs.Fronts.{front_of};
 ghost use Rattle.inet_sum.specs.Stands.{StandsFor};
 ghost use Rattle.frame_layout.specs.Headers.{AtHeaders, AreLaid};
@@ -17,7 +17,7 @@ pub(crate) fn put_headers(
     block: &mut Sole,
     head: &[u8],
     cut: &Segmentation,
-    i: u16,
+    i: u32,
     payload: Partial,
 )
     requires there { i < cut.now.n }
@@ -26,6 +26,7 @@ pub(crate) fn put_headers(
     requires inside { cut.now.layout.payload_at ≤ length head.now }
     requires ranges { AtHeaders (IsLengthInRange (cut.now.layout.payload_at + payload.len)) cut.now.layout.headers }
     requires few { cut.now.layout.payload_at + payload.len < 2 ^ 31 }
+    requires near { i * cut.now.m < 2 ^ 32 }
     ensures segment { (bytes : List ℕ)
         → StandsFor payload bytes
         → front_of block.new cut.now.layout.payload_at ++ bytes ≡ segment_from cut.now i (take cut.now.layout.payload_at head.now ++ bytes) }

@@ -1,6 +1,7 @@
 //! The test of a record whose frame lies in a buffer.
 
 ghost use Rattle.std.specs.Prelude.{◌≡◌, ◌+◌, ◌-◌, ◌≤◌, ◌<◌, ◌^◌, ◌++◌, ◌↔◌, ℕ, List, length, take, drop, min, IsOk, IfOk, IfSome, IfNone, Some, true};
+ghost use Rattle.pcap_io.specs.Limits.{most_frame};
 ghost use Rattle.skb.specs.SkbState.{buffer_bytes, buffer_size, head_bytes, head_size};
 ghost use Rattle.pcap_io.specs.Capture.{packet};
 ghost use Rattle.frame_layout.specs.Shape.{shape_of};
@@ -10,12 +11,15 @@ ghost use Rattle.segment_rule.specs.Segmentations.{IsJudged, is_merged_head};
 ghost use Rattle.gso.specs.Sums.{AreSumsOf, IsRoom};
 ghost use Rattle.skb.specs.Checksum.{AreBytes};
 ghost use Rattle.skb.specs.Fronts.{IsFronted};
-ghost use Rattle.gso.specs.Planning.{IsSegmentsReady, IsPlanOf, packets_by};
+ghost use Rattle.gso.specs.Planning.{IsSegmentsReady, IsPlanOf, packets_by, IsLawfulBehind};
+ghost use Rattle.pcap_io.specs.Headers.{fields_in, head_size as head_size_of};
 
 use crate::sums::Sums;
 use frame_layout::{Layout, candidate_in, shape};
-use pcap_io::{OFF_HEAD_LEN, OffHead};
-use segment_rule::{BadOffload, Segmentation, is_merged, is_single, is_window, segmentation_of};
+use pcap_io::{AnyHead, OffHead2};
+use segment_rule::{
+    BadOffload, Segmentation, is_merged, is_opened, is_single, is_window, segmentation_of,
+};
 use skb::{FRONT, Skb};
 
 /// What packets a record stands for.
@@ -30,7 +34,7 @@ pub enum Plan {
 }
 
 /// Adds bytes to the sums of segments.
-fn add(sums: &mut Sums, bytes: &[u8], m: u16)
+fn add(sums: &mut Sums, bytes: &[u8], m: u32)
     requires room { IsRoom m sums.old }
     requires few { sums.old.rest.len + length bytes.now < 2 ^ 32 }
     ensures sums { (f : List ℕ) → AreSumsOf m sums.old f → AreSumsOf m sums.new (f ++ bytes.now) }
@@ -42,7 +46,7 @@ fn add(sums: &mut Sums, bytes: &[u8], m: u16)
 }
 
 /// The sums of the segments of a buffer's bytes from a place of its head on: each byte is read once, where it lies.
-fn sums_of(skb: &Skb, from: usize, m: u16) -> Sums
+fn sums_of(skb: &Skb, from: usize, m: u32) -> Sums
     requires inside { from ≤ length (head_bytes skb.now) }
     requires some { 1 ≤ m }
     ensures sums { AreSumsOf m result (drop from (buffer_bytes skb.now)) }
@@ -82,7 +86,7 @@ fn front_bytes(skb: &Skb) -> &[u8]
 
 /// How a frame of this layout is segmented, where the record is a lawful one of a merged frame, and the sums of its segments.
 fn segmented(
-    head: &OffHead,
+    head: &OffHead2,
     skb: &Skb,
     front: &[u8],
     layout: Layout,
@@ -116,8 +120,9 @@ fn segmented(
 }
 
 /// The same where the layout isn't known.
-fn merged(head: &OffHead, skb: &Skb, original: u32) -> Option<(Segmentation, Sums)>
+fn merged(head: &OffHead2, skb: &Skb, original: u32) -> Option<(Segmentation, Sums)>
     requires front { IsFronted skb.now }
+    requires short { length (buffer_bytes skb.now) ≤ most_frame }
     ensures refused { IfNone result (IsLawfulSuper head.now (packet 0 0 0 original (buffer_bytes skb.now)) → ⊥) }
     ensures judged { IfSome result (λ r. IsJudged head.now (packet 0 0 0 original (buffer_bytes skb.now)) (Some r.0)) }
     ensures ready { IfSome result (λ r. IsSegmentsReady skb.now r.0 r.1) }
@@ -135,17 +140,12 @@ fn merged(head: &OffHead, skb: &Skb, original: u32) -> Option<(Segmentation, Sum
     segmented(head, skb, front, layout, original)
 }
 
-/// Tests a whole record by its offload header, by the frame behind it, and by the record's original length, of which the offload
-/// header is 12 bytes; and says what packets it stands for. It takes no memory.
-///
-/// `BadOffload` exactly where the record isn't lawful: its version is another than 1, or the header is none of a single packet's
-/// (kind 0), a merged frame's (kind 1) and a tap window's (kind 2), or the merged frame can't be cut as the header says. Each byte
-/// of the payload is read once.
-pub fn check_super(head: &OffHead, skb: &Skb, original: u32) -> Result<Plan, BadOffload>
-    requires original { 12 ≤ original }
+/// Tests what stands behind an offload header that may begin the record.
+fn check_behind(head: &OffHead2, skb: &Skb, original: u32) -> Result<Plan, BadOffload>
     requires front { IsFronted skb.now }
-    ensures lawful { IsOk result ↔ (is_lawful_by head.now (packet 0 0 0 (original - 12) (buffer_bytes skb.now)) ≡ true) }
-    ensures plan { (number sec frac : ℕ) → IfOk result (λ plan. segments_by head.now (packet number sec frac (original - 12) (buffer_bytes skb.now)) ≡ packets_by plan (packet number sec frac (original - 12) (buffer_bytes skb.now))) }
+    requires short { length (buffer_bytes skb.now) ≤ most_frame }
+    ensures lawful { IsOk result ↔ (is_lawful_by head.now (packet 0 0 0 original (buffer_bytes skb.now)) ≡ true) }
+    ensures plan { (number sec frac : ℕ) → IfOk result (λ plan. segments_by head.now (packet number sec frac original (buffer_bytes skb.now)) ≡ packets_by plan (packet number sec frac original (buffer_bytes skb.now))) }
     ensures ready { IfOk result (λ plan. IsPlanOf skb.now plan) }
 {
     if is_single(head) {
@@ -154,8 +154,27 @@ pub fn check_super(head: &OffHead, skb: &Skb, original: u32) -> Result<Plan, Bad
     if is_window(head) {
         return Ok(Plan::Nothing);
     }
-    match merged(head, skb, original - OFF_HEAD_LEN as u32) {
+    match merged(head, skb, original) {
         Some((cut, sums)) => Ok(Plan::Segments(cut, sums)),
         None => Err(BadOffload),
     }
+}
+
+/// Tests a whole record by its offload header, by the frame behind it, and by the record's original length, of which the offload
+/// header is 12 bytes, or 16 in version 2; and says what packets it stands for. It takes no memory.
+///
+/// `BadOffload` exactly where the record isn't lawful: its version is neither 1 nor 2, the frame has more than 262,144 bytes, the
+/// original length doesn't hold the header or is too great, or the header is none of a single packet's (kind 0), a merged frame's
+/// (kind 1) and a tap window's (kind 2), or the merged frame can't be cut as the header says. Each byte of the payload is read once.
+pub fn check_super(head: &AnyHead, skb: &Skb, original: u32) -> Result<Plan, BadOffload>
+    requires original { 12 ≤ original }
+    requires front { IsFronted skb.now }
+    ensures lawful { IsOk result ↔ IsLawfulBehind head.now original (buffer_bytes skb.now) }
+    ensures plan { (number sec frac : ℕ) → IfOk result (λ plan. segments_by (fields_in head.now) (packet number sec frac (original - head_size_of head.now) (buffer_bytes skb.now)) ≡ packets_by plan (packet number sec frac (original - head_size_of head.now) (buffer_bytes skb.now))) }
+    ensures ready { IfOk result (λ plan. IsPlanOf skb.now plan) }
+{
+    if !is_opened(head, skb.len() as u32, original) {
+        return Err(BadOffload);
+    }
+    check_behind(&head.fields(), skb, original - head.size())
 }

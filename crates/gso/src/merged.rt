@@ -27,7 +27,7 @@ pub(crate) struct Merged {
     pieces: Pieces,
     cut: Segmentation,
     sums: Sums,
-    i: u16,
+    i: u32,
 }
 
 impl Model for Merged {
@@ -71,7 +71,7 @@ impl Merged {
         let Ok(()) = open(&mut self.skb, &mut self.pieces, at) else {
             return Err((spare, AllocError));
         };
-        let n = usize::from(self.cut.m).min(self.pieces.len());
+        let n = (self.cut.m as usize).min(self.pieces.len());
         let Ok(front) = cut_off(&mut self.pieces, n) else {
             return Err((spare, AllocError));
         };

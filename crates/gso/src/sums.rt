@@ -34,7 +34,7 @@ impl Sums {
     }
 
     /// How many bytes more go to the open sum.
-    fn room(&self, m: u16) -> usize
+    fn room(&self, m: u32) -> usize
         requires room { IsRoom m self.now }
         ensures some { 1 ≤ result }
         ensures fits { length self.now.parts.items < 64 → self.now.rest.len + result ≤ m }
@@ -42,12 +42,12 @@ impl Sums {
         if self.parts.len() == KEPT {
             usize::MAX
         } else {
-            usize::from(m) - self.rest.len() as usize
+            (m - self.rest.len()) as usize
         }
     }
 
     /// Bytes for which there is room follow.
-    fn take_in(&mut self, bytes: &[u8], m: u16)
+    fn take_in(&mut self, bytes: &[u8], m: u32)
         requires room { IsRoom m self.old }
         requires fits { length self.old.parts.items < 64 → self.old.rest.len + length bytes.now ≤ m }
         requires few { self.old.rest.len + length bytes.now < 2 ^ 32 }
@@ -56,14 +56,14 @@ impl Sums {
         ensures len { self.new.rest.len ≤ self.old.rest.len + length bytes.now }
     {
         self.rest.add(bytes);
-        if self.parts.len() < KEPT && self.rest.len() == u32::from(m) {
+        if self.parts.len() < KEPT && self.rest.len() == m {
             self.parts.push(self.rest);
             self.rest = Partial::new();
         }
     }
 
     /// Bytes follow, of segments of `m` bytes.
-    pub(crate) fn add(&mut self, bytes: &[u8], m: u16)
+    pub(crate) fn add(&mut self, bytes: &[u8], m: u32)
         requires room { IsRoom m self.old }
         requires few { self.old.rest.len + length bytes.now < 2 ^ 32 }
         ensures sums { (f : List ℕ) → AreSumsOf m self.old f → AreSumsOf m self.new (f ++ bytes.now) }
@@ -79,7 +79,7 @@ impl Sums {
     }
 
     /// The sum of all bytes, with nothing read again.
-    pub(crate) fn whole(&self, m: u16) -> Partial
+    pub(crate) fn whole(&self, m: u32) -> Partial
         requires of { (f : List ℕ) × (AreSumsOf m self.now f × (length f < 2 ^ 32)) }
         ensures whole { (f : List ℕ) → AreSumsOf m self.now f → StandsFor result f }
     {
@@ -91,11 +91,11 @@ impl Sums {
     }
 
     /// The sum of segment `i`, from 0, where it is known. The last one's is that of all that follows.
-    fn part(&self, m: u16, i: u16, is_last: bool) -> Option<Partial>
+    fn part(&self, m: u32, i: u32, is_last: bool) -> Option<Partial>
         ensures part { (f : List ℕ) → AreSumsOf m self.now f → (is_last ≡ true → length f ≤ (i + 1) * m)
             → IfSome result (λ s. StandsFor s (take m (drop (i * m) f))) }
     {
-        let at = usize::from(i);
+        let at = i as usize;
         let parts = self.parts.as_slice();
         if at < parts.len() {
             Some(parts[at])
@@ -107,7 +107,7 @@ impl Sums {
     }
 
     /// The sum of segment `i`, from 0, whose bytes are `own`: where it isn't known they are read.
-    pub(crate) fn of_segment(&self, cut: &Segmentation, i: u16, own: &Pieces) -> Partial
+    pub(crate) fn of_segment(&self, cut: &Segmentation, i: u32, own: &Pieces) -> Partial
         requires there { i < cut.now.n }
         requires of { IsSummedSegment self.now cut.now i (bytes_of own.now) }
         ensures sum { StandsFor result (bytes_of own.now) }

@@ -1,14 +1,14 @@
 -- Windows as places in one run of bytes that grows at its end.
-use Rattle.std.proofs.Common.{◌≡◌, ℕ, zero, suc, ◌+◌, ◌-◌, ◌<◌, ◌≤◌, List, [], ◌∷◌, ◌++◌, length, map, take, drop, get_or, refl, ap, sym, ◌∙◌, arith, length-append, length-drop}
+use Rattle.std.proofs.Common.{◌≡◌, ℕ, zero, suc, ◌+◌, ◌-◌, ◌*◌, ◌<◌, ◌≤◌, min, List, [], ◌∷◌, ◌++◌, length, map, take, drop, get_or, refl, ap, sym, ◌∙◌, arith, length-append, length-drop, length-take, inl, inr}
 use Rattle.std.specs.List.{slice_range, slice_index_or}
 use Rattle.std.proofs.Math.Seq.{take-suc, take-length, drop-append_seam}
 use Rattle.std.proofs.lemmas.Grind.{flat_map-append}
-use Rattle.std.proofs.lemmas.List.{map-append, append-nil, drop-append-le, take-append-le, length-take-le}
+use Rattle.std.proofs.lemmas.Bool.Decides.{leb_tells}
+use Rattle.std.proofs.lemmas.List.{map-append, append-nil, drop-append-le, drop-take, drop_all, take-append-le, take-take, take_all, length-take-le}
 use Rattle.pcap_io.specs.Capture.{Packet}
 use Rattle.offload_model.specs.Written.{window_of}
 use Rattle.taps.specs.declared.clones.TapClone.{TapClone}
 use Rattle.taps.specs.declared.texts.Span.{Span}
-use Rattle.taps.specs.Clones.{packet_of}
 use Rattle.taps.specs.Texts.{text_by, text_of, texts_of, text_at, IsWithin}
 
 -- each place lies in the bytes
@@ -61,16 +61,16 @@ texts_more xs ys zs ss s e h f t =
 
 -- ---- the clones so far
 
-one_more : (snap t : ℕ) (cs : List TapClone) (i : ℕ) (c : TapClone) → i < length cs → c ≡ get_or cs i c
-    → texts_of snap t (map packet_of (take (i + 1) cs)) ≡ texts_of snap t (map packet_of (take i cs)) ++ text_of snap t (packet_of c)
-one_more snap t cs i c l e =
+one_more : (v : TapClone → Packet) (snap t : ℕ) (cs : List TapClone) (i : ℕ) (c : TapClone) → i < length cs → c ≡ get_or cs i c
+    → texts_of snap t (map v (take (i + 1) cs)) ≡ texts_of snap t (map v (take i cs)) ++ text_of snap t (v c)
+one_more v snap t cs i c l e =
     let n : i + 1 ≡ suc i = omega arith in
-    ap (λ z. texts_of snap t (map packet_of (take z cs))) n
-    ∙ ap (λ z. texts_of snap t (map packet_of z)) (take-suc cs i c l)
-    ∙ ap (λ z. texts_of snap t (map packet_of (take i cs ++ z ∷ []))) (sym e)
-    ∙ ap (texts_of snap t) (map-append packet_of (take i cs) (c ∷ []))
-    ∙ flat_map-append (text_of snap t) (map packet_of (take i cs)) (packet_of c ∷ [])
-    ∙ ap (λ z. texts_of snap t (map packet_of (take i cs)) ++ z) (append-nil (text_of snap t (packet_of c)))
+    ap (λ z. texts_of snap t (map v (take z cs))) n
+    ∙ ap (λ z. texts_of snap t (map v z)) (take-suc cs i c l)
+    ∙ ap (λ z. texts_of snap t (map v (take i cs ++ z ∷ []))) (sym e)
+    ∙ ap (texts_of snap t) (map-append v (take i cs) (c ∷ []))
+    ∙ flat_map-append (text_of snap t) (map v (take i cs)) (v c ∷ [])
+    ∙ ap (λ z. texts_of snap t (map v (take i cs)) ++ z) (append-nil (text_of snap t (v c)))
 
 text_some : (p : Packet) (w : List ℕ) → 0 < length w → text_by p w ≡ record p { frame = w } ∷ []
 text_some p [] h = absurd (omega (arith, h))
@@ -81,21 +81,61 @@ text_none p [] h = refl
 text_none p (b ∷ bytes) h = absurd (omega (arith, h))
 
 -- the window of the i-th clone is taken
-pub taken_one : (snap t : ℕ) (cs : List TapClone) (i : ℕ) (c : TapClone) (ts us : List Packet) (w : List ℕ) → i < length cs → c ≡ get_or cs i c
-    → w ≡ window_of snap t (packet_of c).frame → 0 < length w
-    → ts ≡ texts_of snap t (map packet_of (take i cs)) → us ≡ ts ++ record (packet_of c) { frame = w } ∷ []
-    → us ≡ texts_of snap t (map packet_of (take (i + 1) cs))
-taken_one snap t cs i c ts us w l e f n g h =
-    h ∙ ap (λ z. z ++ record (packet_of c) { frame = w } ∷ []) g
-    ∙ ap (λ z. texts_of snap t (map packet_of (take i cs)) ++ z) (sym (text_some (packet_of c) w n) ∙ ap (text_by (packet_of c)) f)
-    ∙ sym (one_more snap t cs i c l e)
+pub taken_one : (v : TapClone → Packet) (snap t : ℕ) (cs : List TapClone) (i : ℕ) (c : TapClone) (ts us : List Packet) (w : List ℕ) → i < length cs → c ≡ get_or cs i c
+    → w ≡ window_of snap t (v c).frame → 0 < length w
+    → ts ≡ texts_of snap t (map v (take i cs)) → us ≡ ts ++ record (v c) { frame = w } ∷ []
+    → us ≡ texts_of snap t (map v (take (i + 1) cs))
+taken_one v snap t cs i c ts us w l e f n g h =
+    h ∙ ap (λ z. z ++ record (v c) { frame = w } ∷ []) g
+    ∙ ap (λ z. texts_of snap t (map v (take i cs)) ++ z) (sym (text_some (v c) w n) ∙ ap (text_by (v c)) f)
+    ∙ sym (one_more v snap t cs i c l e)
 
 -- or it is empty
-pub left_one : (snap t : ℕ) (cs : List TapClone) (i : ℕ) (c : TapClone) (ts : List Packet) (w : List ℕ) → i < length cs → c ≡ get_or cs i c
-    → w ≡ window_of snap t (packet_of c).frame → length w ≡ 0
-    → ts ≡ texts_of snap t (map packet_of (take i cs))
-    → ts ≡ texts_of snap t (map packet_of (take (i + 1) cs))
-left_one snap t cs i c ts w l e f n g =
-    g ∙ sym (append-nil (texts_of snap t (map packet_of (take i cs))))
-    ∙ ap (λ z. texts_of snap t (map packet_of (take i cs)) ++ z) (sym (text_none (packet_of c) w n) ∙ ap (text_by (packet_of c)) f)
-    ∙ sym (one_more snap t cs i c l e)
+pub left_one : (v : TapClone → Packet) (snap t : ℕ) (cs : List TapClone) (i : ℕ) (c : TapClone) (ts : List Packet) (w : List ℕ) → i < length cs → c ≡ get_or cs i c
+    → w ≡ window_of snap t (v c).frame → length w ≡ 0
+    → ts ≡ texts_of snap t (map v (take i cs))
+    → ts ≡ texts_of snap t (map v (take (i + 1) cs))
+left_one v snap t cs i c ts w l e f n g =
+    g ∙ sym (append-nil (texts_of snap t (map v (take i cs))))
+    ∙ ap (λ z. texts_of snap t (map v (take i cs)) ++ z) (sym (text_none (v c) w n) ∙ ap (text_by (v c)) f)
+    ∙ sym (one_more v snap t cs i c l e)
+
+two_takes : (k p q : ℕ) (ys : List ℕ) → k ≡ min p q → take k ys ≡ take p (take q ys)
+two_takes k p q ys e =
+    elim (leb_tells p q) [
+      | inl a ↦ let same : k ≡ p = omega (arith, a.1) in ap (λ z. take z ys) same ∙ sym (take-take p q ys a.1)
+      | inr a ↦
+          let same : k ≡ q = omega (arith, a.1) in
+          ap (λ z. take z ys) same ∙ sym (take_all p (take q ys) (omega (arith, length-take q ys, a.1)))
+    ]
+
+shown_inside : (bytes : List ℕ) (a n snap : ℕ) → a ≤ n → take (min (a + snap) n - a) (drop a bytes) ≡ take snap (drop a (take n bytes))
+shown_inside bytes a n snap h =
+    let whole : n ≡ a + (n - a) = omega arith in
+    let rest : drop a (take n bytes) ≡ take (n - a) (drop a bytes) = ap (λ z. drop a (take z bytes)) whole ∙ drop-take a (n - a) bytes in
+    two_takes (min (a + snap) n - a) snap (n - a) (drop a bytes) (omega arith) ∙ ap (take snap) (sym rest)
+
+shown_outside : (bytes : List ℕ) (a n snap : ℕ) → n ≤ a → [] ≡ take snap (drop a (take n bytes))
+shown_outside bytes a n snap h =
+    let none : drop a (take n bytes) ≡ [] = drop_all a (take n bytes) (omega (arith, length-take n bytes)) in
+    sym (take_all snap [] (omega arith)) ∙ ap (take snap) (sym none)
+
+shown_at : (bytes shown : List ℕ) (n snap t : ℕ) → shown ≡ take n bytes
+    → slice_range bytes (min (t * snap) n) (min (min (t * snap) n + snap) n) ≡ window_of snap t shown
+shown_at bytes shown n snap t e =
+    elim (leb_tells (t * snap) n) [
+      | inl a ↦
+          let from : min (t * snap) n ≡ t * snap = omega (arith, a.1) in
+          ap (λ z. slice_range bytes z (min (z + snap) n)) from ∙ shown_inside bytes (t * snap) n snap a.1 ∙ ap (λ z. take snap (drop (t * snap) z)) (sym e)
+      | inr a ↦
+          let from : min (t * snap) n ≡ n = omega (arith, a.1) in
+          let empty : min (n + snap) n - n ≡ 0 = omega arith in
+          ap (λ z. slice_range bytes z (min (z + snap) n)) from ∙ ap (λ z. take z (drop n bytes)) empty ∙ shown_outside bytes (t * snap) n snap (omega (arith, a.1))
+          ∙ ap (λ z. take snap (drop (t * snap) z)) (sym e)
+    ]
+
+-- the window of what is shown, of which all bytes are the first of the packet
+pub shown_window : (bytes shown : List ℕ) (n snap t from to : ℕ) → shown ≡ take n bytes → from ≡ min (t * snap) n → to ≡ min (from + snap) n
+    → slice_range bytes from to ≡ window_of snap t shown
+shown_window bytes shown n snap t from to e f g =
+    ap (λ z. slice_range bytes from z) (g ∙ ap (λ z. min (z + snap) n) f) ∙ ap (λ z. slice_range bytes z (min (min (t * snap) n + snap) n)) f ∙ shown_at bytes shown n snap t e

@@ -29,6 +29,7 @@
 ghost use Rattle.taps.specs.Texts.{TextsAreWindows};
 
 mod clones;
+mod frame;
 mod task;
 mod texts;
 

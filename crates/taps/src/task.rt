@@ -1,9 +1,9 @@
 //! A tap's work in one round.
-ghost use Rattle.std.specs.Prelude.{◌≡◌, ◌<◌, ◌≤◌, ◌+◌, map, IfOk, true, false};
+ghost use Rattle.std.specs.Prelude.{◌≡◌, ◌<◌, ◌≤◌, ◌+◌, map, IfOk, option_map, true, false};
 ghost use Rattle.frags.specs.Account.{Keeps, both, of_outcomes};
 ghost use Rattle.frags.specs.Growth.{Grows};
 ghost use Rattle.offload_model.specs.Written.{windows_of};
-ghost use Rattle.taps.specs.Clones.{packet_of, blocks_of, of_clones};
+ghost use Rattle.taps.specs.Clones.{shown_packet, blocks_of, of_clones};
 ghost use Rattle.taps.specs.Texts.{texts_of, record_of_text};
 
 use crate::clones::{TapClone, release_all};
@@ -11,13 +11,16 @@ use crate::texts::TapTexts;
 use frags::Outcomes;
 use off_io::{Gate, Who};
 use std::alloc::{AllocError, Global};
+use tap_filter::Program;
 
 /// What one tap is to read of a round. It must be spent: run.
-pub struct TapTask {
+pub struct TapTask<'a> {
     /// The tap's number, from 0. It reads window `tap` of each packet.
     pub tap: u32,
     /// The bytes of a window.
     pub snap: u32,
+    /// What is shown of each packet: as many bytes as its value. All where there is none.
+    pub filter: Option<&'a Program>,
     /// A clone of each packet, by record number.
     pub clones: Vec<TapClone>,
     /// Takes what the clones leave, in places that were reserved before.
@@ -31,7 +34,7 @@ pub struct TapResult {
     pub outcomes: Outcomes,
 }
 
-impl TapTask {
+impl<'a> TapTask<'a> {
     /// Whether the outcomes have room for all that the clones leave, as `run` wants it.
     pub fn has_room(&self) -> bool
         ensures room { result ≡ true → blocks_of self.now.clones.items ≤ self.now.outcomes.spare }
@@ -46,20 +49,21 @@ impl TapTask {
     /// runs out; nothing is claimed, and nothing waits.
     pub fn run<G: Gate>(self, gate: &G) -> TapResult
         requires room { blocks_of self.clones.items ≤ self.outcomes.spare }
-        ensures texts { IfOk result.texts (λ texts. texts ≡ texts_of self.snap self.tap (map packet_of self.clones.items)) }
-        ensures windows { IfOk result.texts (λ texts. map (record_of_text self.tap) texts ≡ windows_of self.snap self.tap (map packet_of self.clones.items)) }
-        ensures kept { Keeps (both (of_clones self.clones.items) (of_outcomes self.outcomes)) (of_outcomes result.outcomes) }
-        ensures grows { Grows (blocks_of self.clones.items) self.outcomes result.outcomes }
-        ensures places { self.outcomes.spare ≤ result.outcomes.spare + blocks_of self.clones.items }
+        ensures texts { IfOk result.texts (λ texts. texts ≡ texts_of self.entry.snap self.entry.tap (map (shown_packet (option_map (λ p. p.now) self.entry.filter)) self.entry.clones.items)) }
+        ensures windows { IfOk result.texts (λ texts. map (record_of_text self.entry.tap) texts ≡ windows_of self.entry.snap self.entry.tap (map (shown_packet (option_map (λ p. p.now) self.entry.filter)) self.entry.clones.items)) }
+        ensures kept { Keeps (both (of_clones self.entry.clones.items) (of_outcomes self.entry.outcomes)) (of_outcomes result.outcomes) }
+        ensures grows { Grows (blocks_of self.entry.clones.items) self.entry.outcomes result.outcomes }
+        ensures places { self.entry.outcomes.spare ≤ result.outcomes.spare + blocks_of self.entry.clones.items }
     {
         let TapTask {
             tap,
             snap,
+            filter,
             clones,
             mut outcomes,
         } = self;
         gate.pass(Who::Tap(tap), 0);
-        let texts = read_texts(*clones.allocator(), tap, snap, &clones);
+        let texts = read_texts(*clones.allocator(), tap, snap, filter, &clones);
         release_all(clones, &mut outcomes);
         gate.pass(Who::Tap(tap), 1);
         TapResult { texts, outcomes }
@@ -82,11 +86,11 @@ fn has_room(places: usize, clones: &[TapClone]) -> bool
     true
 }
 
-// The bytes of all windows together. A sum that is too large stays at the largest number, for which there is no memory.
+// The bytes of all windows together, at most: as if there were no filter, which is then run once for each packet. A sum that is too large stays at the largest number, for which there is no memory.
 fn bytes_of_windows(tap: u32, snap: u32, clones: &[TapClone]) -> usize {
     let mut bytes = 0usize;
     for clone in clones {
-        let (from, to) = clone.window(tap, snap);
+        let (from, to) = clone.window(tap, snap, None);
         bytes = bytes.saturating_add(to - from);
     }
     bytes
@@ -97,14 +101,15 @@ fn read_texts(
     alloc: Global,
     tap: u32,
     snap: u32,
+    filter: Option<&Program>,
     clones: &[TapClone],
 ) -> Result<TapTexts, AllocError>
-    ensures texts { IfOk result (λ texts. texts ≡ texts_of snap tap (map packet_of clones.now)) }
+    ensures texts { IfOk result (λ texts. texts ≡ texts_of snap tap (map (shown_packet (option_map (λ p. p.now) filter.entry)) clones.now)) }
 {
     let bytes = bytes_of_windows(tap, snap, clones);
     let mut texts = TapTexts::with_room(alloc, clones.len(), bytes)?;
     for clone in clones {
-        let (from, to) = clone.window(tap, snap);
+        let (from, to) = clone.window(tap, snap, filter);
         if from < to {
             texts.push(clone, from, to)?;
         }

@@ -1,11 +1,13 @@
 //! The windows that a tap read.
 ghost use Rattle.std.specs.Prelude.{◌≡◌, ◌==◌, ◌<◌, ◌≤◌, [], ◌∷◌, ◌++◌, length, IfOk, OnOk, OnErr, slice_index_or, slice_range};
 ghost use Rattle.pcap_io.specs.Capture.{Packet};
+ghost use Rattle.offload_model.specs.Written.{window_head};
 ghost use Rattle.skb.specs.SkbState.{buffer_bytes, buffer_size};
 ghost use Rattle.taps.specs.Clones.{packet_of};
 ghost use Rattle.taps.specs.Shown.{shown_text};
 
 use crate::TapClone;
+use pcap_io::OffHead2;
 use skb::Skb;
 use std::alloc::{AllocError, Global};
 use std::marker::Model;
@@ -33,6 +35,23 @@ pub struct TapText<'a> {
     pub original: u32,
     /// The window's bytes, at least one.
     pub bytes: &'a [u8],
+}
+
+impl TapText<'_> {
+    /// The offload header that its record has where it is one of this tap.
+    pub fn head(&self, tap: u8) -> OffHead2
+        ensures head { result ≡ window_head tap self.now.number }
+    {
+        OffHead2 {
+            version: 2,
+            kind: 2,
+            modes: 0,
+            lane: tap,
+            n: 0,
+            m: 0,
+            number: self.number,
+        }
+    }
 }
 
 /// The windows that a tap read, in the order of its clones. All their bytes stand in one vector.

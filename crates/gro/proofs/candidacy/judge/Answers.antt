@@ -1,4 +1,4 @@
-use Rattle.std.proofs.Common.{◌≡◌, ℕ, List, None, Some, drop, sym, ap, ◌∙◌, subst}
+use Rattle.std.proofs.Common.{◌≡◌, ℕ, List, None, Some, drop, sym, ap, ◌∙◌, subst, arith}
 use Rattle.inet_sum.specs.Stands.{StandsFor}
 use Rattle.frame_layout.specs.Front.{IsPayloadOf}
 use Rattle.frame_layout.specs.Segment.{IsSegOf}
@@ -31,6 +31,7 @@ returns-in-Some-candidate_in c =
       judged = record {
         shape = j.1.shape;
         candidate = j.0;
+        short = omega (arith, c.requires.short, c.len.ensures.size, c.len.ensures.bytes);
         payload = subst (λ z. StandsFor c.sum_from-payload.result (drop z f)) (ap (λ z. z.payload_at) same) sum;
         flags = j.1.flags;
         in_bytes = is.in_bytes;

@@ -1,24 +1,27 @@
-use Rattle.std.proofs.Common.{◌≡◌, ◌-◌, true, false, sym, ◌∙◌, refl}
-use Rattle.pcap_io.specs.Capture.{Packet, packet}
+use Rattle.std.proofs.Common.{◌≡◌, ◌-◌, ◌+◌, sym, ◌∙◌, subst, arith}
+use Rattle.std.specs.Prelude.{IfOk, nat_le}
+use Rattle.std.proofs.lemmas.Bool.{and_parts, leb-true}
+use Rattle.pcap_io.specs.Capture.{packet}
+use Rattle.pcap_io.specs.Headers.{head_size as head_size_of, says_version}
 use Rattle.skb.specs.SkbState.{buffer_bytes}
-use Rattle.offload_model.specs.Tests.{is_lawful_by}
-use Rattle.segment_rule.proofs.Judged.{lawful_super, lawful_none, segments_are}
+use Rattle.offload_model.specs.Segments.{segments_by}
+use Rattle.gso.specs.Planning.{packets_by}
 use Rattle.gso.proofs.judging.check_super.Goals as goal
 
-pub returns-in-Some-clause-lawful : goal.returns-in-Some-clause-lawful
-returns-in-Some-clause-lawful c =
-    let p : Packet = packet 0 0 0 (c.args.original - 12) (buffer_bytes c.args.skb.now) in
-    let lawful : is_lawful_by c.args.head.now p ≡ true = lawful_super c.args.head.now p (sym c.is_single.ensures.single ∙ c.if-is_single.false) c.in-Some.ensures.judged.0 in
-    (λ _. lawful, λ _. refl)
+pub check_behind-requires-clause-short : goal.check_behind-requires-clause-short
+check_behind-requires-clause-short c =
+    let n = head_size_of c.args.head.now in
+    let all = n + c.len.result in
+    let p = and_parts (says_version c.args.head.now) _ (sym c.is_opened.ensures.opened ∙ c.if-not-is_opened.false) in
+    let q = and_parts (nat_le n all) _ p.1 in
+    let r = and_parts (nat_le all (n + 262144)) _ q.1 in
+    omega (arith, leb-true all (n + 262144) r.0, c.len.ensures.size, c.len.ensures.bytes)
 
-pub returns-in-Some-clause-plan : goal.returns-in-Some-clause-plan
-returns-in-Some-clause-plan c = λ number sec frac.
-    let j = c.in-Some.ensures.judged in
-    segments_are c.args.head.now (packet number sec frac (c.args.original - 12) (buffer_bytes c.args.skb.now)) c.in-Some.cut j.0.kind j.2 j.1.shape_is
-
-pub returns-in-None-clause-lawful : goal.returns-in-None-clause-lawful
-returns-in-None-clause-lawful c =
-    let p : Packet = packet 0 0 0 (c.args.original - 12) (buffer_bytes c.args.skb.now) in
-    let not : is_lawful_by c.args.head.now p ≡ false
-    = lawful_none c.args.head.now p (sym c.is_single.ensures.single ∙ c.if-is_single.false) (sym c.is_window.ensures.window ∙ c.if-is_window.false) c.in-None.ensures.refused in
-    (λ e. absurd cc, λ t. let both : false ≡ true = sym not ∙ t in both)
+pub returns-clause-plan : goal.returns-clause-plan
+returns-clause-plan c = λ number sec frac.
+    let f = buffer_bytes c.args.skb.now in
+    subst (λ h. IfOk c.check_behind.result (λ plan. segments_by h (packet number sec frac (c.args.original - head_size_of c.args.head.now) f)
+    ≡ packets_by plan (packet number sec frac (c.args.original - head_size_of c.args.head.now) f))) c.fields.ensures.fields
+    (subst (λ n. IfOk c.check_behind.result (λ plan. segments_by c.fields.result (packet number sec frac (c.args.original - n) f)
+    ≡ packets_by plan (packet number sec frac (c.args.original - n) f))) c.size.ensures.size
+    (c.check_behind.ensures.plan number sec frac))

@@ -44,6 +44,6 @@ pub returns-clause-takes : goal.returns-clause-takes
 returns-clause-takes c =
     let a : Runs = c.args.self.now in
     let b : Runs = record { list = deque_with_item a.list c.args.place c.add.new.self; flows = c.settle.new.flows; last = c.open_at-self.result; alloc = a.alloc } in
-    extends_run a b c.args.packet c.args.place c.index_mut-run.result.now c.add.new.self c.requires.runs c.requires.found c.index_mut-run.ensures.value refl
-    c.add.ensures.run (c.add.ensures.packets ∙ ap (λ z. z ++ (c.args.packet ∷ [])) c.make_room.ensures.packets) c.settle.ensures.flows c.settle.ensures.puts c.requires.mergeable
+    λ segs m. extends_run a b c.args.packet c.args.place c.index_mut-run.result.now c.add.new.self c.requires.runs c.requires.found c.index_mut-run.ensures.value refl
+    c.add.ensures.run (c.add.ensures.packets ∙ ap (λ z. z ++ (c.args.packet ∷ [])) c.make_room.ensures.packets) segs c.settle.ensures.flows c.settle.ensures.puts m
     (λ n h. (omega (arith, h.0), c.settle.ensures.room n (omega (arith, h.1.0), omega (arith, h.1.1)))) c.open_at-self.ensures.place

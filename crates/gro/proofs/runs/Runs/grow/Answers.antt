@@ -51,6 +51,6 @@ returns-clause-takes c =
     let a : Runs = c.args.self.now in
     let old : Run = c.index_mut-run.result.now in
     let b : Runs = record { list = deque_with_item a.list c.args.found.place c.add.new.self; flows = c.keep.new.self; last = c.open_at-self.result; alloc = a.alloc } in
-    grows_run a b c.args.packet c.args.key.now c.args.found.place old c.add.new.self c.requires.runs c.requires.place c.index_mut-run.ensures.value refl
-    c.add.ensures.run (c.add.ensures.packets ∙ ap (λ z. z ++ (c.args.packet ∷ [])) c.make_room.ensures.packets) c.requires.key c.keep.ensures.flows c.keep.ensures.puts c.requires.mergeable
+    λ segs m. grows_run a b c.args.packet c.args.key.now c.args.found.place old c.add.new.self c.requires.runs c.requires.place c.index_mut-run.ensures.value refl
+    c.add.ensures.run (c.add.ensures.packets ∙ ap (λ z. z ++ (c.args.packet ∷ [])) c.make_room.ensures.packets) segs c.requires.key c.keep.ensures.flows c.keep.ensures.puts m
     (λ n h. (omega (arith, h.0), c.keep.ensures.room n (omega (arith, h.1.0), omega (arith, h.1.1)))) c.open_at-self.ensures.place

@@ -16,6 +16,7 @@ invariant_of-result c =
       frame = f;
       at = record {
         in_bytes = c.requires.ready.in_bytes;
+        short = c.requires.ready.short;
         of = c.requires.ready.of;
         bytes = ap (λ (z : List Piece). f ++ bytes_of z) none ∙ append-nil f ∙ sym (take-append-drop at f) ∙ ap (λ (z : ℕ). take at f ++ drop z (drop at f)) (sym zero);
       };

@@ -39,7 +39,7 @@ of_segment-sum-requires-clause-of c =
     let n : ℕ = c.min-n.result in
     let place = c.payload_at-at.ensures.place in
     let long : length (buffer_bytes c.open.new.skb) ≡ s.cut.layout.payload_at = c.in-Ok.ensures.long ∙ place in
-    let some : n ≡ min s.cut.m (length (bytes_of c.open.new.pieces)) = omega (arith, c.min-n.ensures, c.from.ensures, c.len.ensures.bytes) in
+    let some : n ≡ min s.cut.m (length (bytes_of c.open.new.pieces)) = omega (arith, c.min-n.ensures, c.len.ensures.bytes) in
     let size : length (bytes_of front) ≡ n = c.in-Ok-cut_off.ensures.bytes.2 in
     record {
       payload = drop s.cut.layout.payload_at k.frame;
@@ -56,7 +56,7 @@ put_headers-requires-clause-laid c =
     let n : ℕ = c.min-n.result in
     let place = c.payload_at-at.ensures.place in
     let long : length (buffer_bytes c.open.new.skb) ≡ s.cut.layout.payload_at = c.in-Ok.ensures.long ∙ place in
-    let some : n ≡ min s.cut.m (length (bytes_of c.open.new.pieces)) = omega (arith, c.min-n.ensures, c.from.ensures, c.len.ensures.bytes) in
+    let some : n ≡ min s.cut.m (length (bytes_of c.open.new.pieces)) = omega (arith, c.min-n.ensures, c.len.ensures.bytes) in
     let size : length (bytes_of front) ≡ n = c.in-Ok-cut_off.ensures.bytes.2 in
     (placed s.sums s.skb c.open.new.skb s.pieces c.open.new.pieces c.cut_off.new.pieces front s.cut s.i n k.frame k.at c.open.ensures.bytes).laid
 
@@ -68,7 +68,7 @@ put_headers-requires-clause-low c =
     let n : ℕ = c.min-n.result in
     let place = c.payload_at-at.ensures.place in
     let long : length (buffer_bytes c.open.new.skb) ≡ s.cut.layout.payload_at = c.in-Ok.ensures.long ∙ place in
-    let some : n ≡ min s.cut.m (length (bytes_of c.open.new.pieces)) = omega (arith, c.min-n.ensures, c.from.ensures, c.len.ensures.bytes) in
+    let some : n ≡ min s.cut.m (length (bytes_of c.open.new.pieces)) = omega (arith, c.min-n.ensures, c.len.ensures.bytes) in
     let size : length (bytes_of front) ≡ n = c.in-Ok-cut_off.ensures.bytes.2 in
     (placed s.sums s.skb c.open.new.skb s.pieces c.open.new.pieces c.cut_off.new.pieces front s.cut s.i n k.frame k.at c.open.ensures.bytes).low
 
@@ -80,7 +80,7 @@ put_headers-requires-clause-ranges c =
     let n : ℕ = c.min-n.result in
     let place = c.payload_at-at.ensures.place in
     let long : length (buffer_bytes c.open.new.skb) ≡ s.cut.layout.payload_at = c.in-Ok.ensures.long ∙ place in
-    let some : n ≡ min s.cut.m (length (bytes_of c.open.new.pieces)) = omega (arith, c.min-n.ensures, c.from.ensures, c.len.ensures.bytes) in
+    let some : n ≡ min s.cut.m (length (bytes_of c.open.new.pieces)) = omega (arith, c.min-n.ensures, c.len.ensures.bytes) in
     let size : length (bytes_of front) ≡ n = c.in-Ok-cut_off.ensures.bytes.2 in
     ranges s.sums s.skb c.open.new.skb s.pieces c.open.new.pieces c.cut_off.new.pieces front s.cut s.i n k.frame k.at c.open.ensures.bytes long c.in-Ok.ensures.bare some c.in-Ok-cut_off.ensures.bytes.0 size c.of_segment-sum.result c.of_segment-sum.ensures.len
 
@@ -92,7 +92,7 @@ put_headers-requires-clause-few c =
     let n : ℕ = c.min-n.result in
     let place = c.payload_at-at.ensures.place in
     let long : length (buffer_bytes c.open.new.skb) ≡ s.cut.layout.payload_at = c.in-Ok.ensures.long ∙ place in
-    let some : n ≡ min s.cut.m (length (bytes_of c.open.new.pieces)) = omega (arith, c.min-n.ensures, c.from.ensures, c.len.ensures.bytes) in
+    let some : n ≡ min s.cut.m (length (bytes_of c.open.new.pieces)) = omega (arith, c.min-n.ensures, c.len.ensures.bytes) in
     let size : length (bytes_of front) ≡ n = c.in-Ok-cut_off.ensures.bytes.2 in
     few s.sums s.skb c.open.new.skb s.pieces c.open.new.pieces c.cut_off.new.pieces front s.cut s.i n k.frame k.at c.open.ensures.bytes long c.in-Ok.ensures.bare some c.in-Ok-cut_off.ensures.bytes.0 size c.of_segment-sum.result c.of_segment-sum.ensures.len
 
@@ -104,7 +104,7 @@ new-requires-clause-range c =
     let n : ℕ = c.min-n.result in
     let place = c.payload_at-at.ensures.place in
     let long : length (buffer_bytes c.open.new.skb) ≡ s.cut.layout.payload_at = c.in-Ok.ensures.long ∙ place in
-    let some : n ≡ min s.cut.m (length (bytes_of c.open.new.pieces)) = omega (arith, c.min-n.ensures, c.from.ensures, c.len.ensures.bytes) in
+    let some : n ≡ min s.cut.m (length (bytes_of c.open.new.pieces)) = omega (arith, c.min-n.ensures, c.len.ensures.bytes) in
     let size : length (bytes_of front) ≡ n = c.in-Ok-cut_off.ensures.bytes.2 in
     let low = (placed s.sums s.skb c.open.new.skb s.pieces c.open.new.pieces c.cut_off.new.pieces front s.cut s.i n k.frame k.at c.open.ensures.bytes).low in
     (omega arith, omega arith)
@@ -117,10 +117,19 @@ new-requires-clause-small c =
     let n : ℕ = c.min-n.result in
     let place = c.payload_at-at.ensures.place in
     let long : length (buffer_bytes c.open.new.skb) ≡ s.cut.layout.payload_at = c.in-Ok.ensures.long ∙ place in
-    let some : n ≡ min s.cut.m (length (bytes_of c.open.new.pieces)) = omega (arith, c.min-n.ensures, c.from.ensures, c.len.ensures.bytes) in
+    let some : n ≡ min s.cut.m (length (bytes_of c.open.new.pieces)) = omega (arith, c.min-n.ensures, c.len.ensures.bytes) in
     let size : length (bytes_of front) ≡ n = c.in-Ok-cut_off.ensures.bytes.2 in
     let low = (placed s.sums s.skb c.open.new.skb s.pieces c.open.new.pieces c.cut_off.new.pieces front s.cut s.i n k.frame k.at c.open.ensures.bytes).low in
-    omega (arith, c.in-Ok-cut_off.ensures.bytes.1, c.min-n.ensures, c.len.ensures.small, c.from.ensures, place)
+    omega (
+      arith,
+      c.in-Ok-cut_off.ensures.bytes.1,
+      c.min-n.ensures,
+      c.len.ensures.small,
+      place,
+      size,
+      c.of_segment-sum.ensures.len,
+      few s.sums s.skb c.open.new.skb s.pieces c.open.new.pieces c.cut_off.new.pieces front s.cut s.i n k.frame k.at c.open.ensures.bytes long c.in-Ok.ensures.bare some c.in-Ok-cut_off.ensures.bytes.0 size c.of_segment-sum.result c.of_segment-sum.ensures.len,
+    )
 
 pub invariant_of-self-2 : goal.invariant_of-self-2
 invariant_of-self-2 c =
@@ -130,7 +139,7 @@ invariant_of-self-2 c =
     let n : ℕ = c.min-n.result in
     let place = c.payload_at-at.ensures.place in
     let long : length (buffer_bytes c.open.new.skb) ≡ s.cut.layout.payload_at = c.in-Ok.ensures.long ∙ place in
-    let some : n ≡ min s.cut.m (length (bytes_of c.open.new.pieces)) = omega (arith, c.min-n.ensures, c.from.ensures, c.len.ensures.bytes) in
+    let some : n ≡ min s.cut.m (length (bytes_of c.open.new.pieces)) = omega (arith, c.min-n.ensures, c.len.ensures.bytes) in
     let size : length (bytes_of front) ≡ n = c.in-Ok-cut_off.ensures.bytes.2 in
     record {
       frame = k.frame;
@@ -150,7 +159,7 @@ returns-clause-next c = λ f is.
     let n : ℕ = c.min-n.result in
     let place = c.payload_at-at.ensures.place in
     let long : length (buffer_bytes c.open.new.skb) ≡ s.cut.layout.payload_at = c.in-Ok.ensures.long ∙ place in
-    let some : n ≡ min s.cut.m (length (bytes_of c.open.new.pieces)) = omega (arith, c.min-n.ensures, c.from.ensures, c.len.ensures.bytes) in
+    let some : n ≡ min s.cut.m (length (bytes_of c.open.new.pieces)) = omega (arith, c.min-n.ensures, c.len.ensures.bytes) in
     let size : length (bytes_of front) ≡ n = c.in-Ok-cut_off.ensures.bytes.2 in
     let less : s.i < s.cut.n = omega (arith, k.within, c.if-self.false) in
     let h : c.head.result.now ≡ head_bytes c.open.new.skb = c.head.ensures.bytes in
