@@ -5,9 +5,11 @@ use Rattle.std.specs.declared.result.Result.{Result}
 use Rattle.std.specs.List.{flat_map, range_with_len}
 use Rattle.pcap_io.specs.Capture.{Packet}
 use Rattle.frags.specs.Account.{Account, Keeps, both}
+use Rattle.tap_filter.specs.declared.instr.Instr.{Instr}
+use Rattle.std.specs.Prelude.{Option}
 use Rattle.offload_model.specs.Merged.{merged_of}
-use Rattle.offload_model.specs.Rounds.{items_of}
-use Rattle.offload_model.specs.Written.{record_of, round_records, windows_of, Options}
+use Rattle.offload_model.specs.Rounds.{Spread, items_of}
+use Rattle.offload_model.specs.Written.{record_of, shown_of, round_records, windows_of, Options}
 use Rattle.gro.specs.declared.packet.Packet.{Packet as Held}
 use Rattle.gro.specs.Held.{packet_of, of_packets, counts_of}
 use Rattle.gro.specs.Table.{AreReady, ItemsWeighAtLeast}
@@ -18,20 +20,23 @@ use Rattle.round_work.specs.declared.lanes.Lanes.{Lanes}
 use Rattle.round_work.specs.declared.plan.Plan.{Plan}
 use Rattle.round_work.specs.Lanes.{of_queues, of_taps, of_lanes, counts_of_queues, EachTapDid, IsFilled}
 use Rattle.round_work.specs.Sharing.{EachFrom, IsSharing, IsSum}
-use Rattle.round_work.specs.Work.{AreFilled, Did, IsDone, IsRefused, IsToWork, IsWorked, IsWatched, AreMerged, AreWatched, merged_in, lane_records, records_of_tap}
+use Rattle.round_work.specs.Work.{spread_of, options_by, shown_by, AreFilled, Did, IsDone, IsRefused, IsToWork, IsWorked, IsWatched, AreMerged, AreWatched, merged_in, lane_records, records_of_tap}
 use Rattle.round_work.proofs.Listing.{all_from, each_map, each_equal}
 use Rattle.round_work.proofs.Sharing.{empty_account}
 use Rattle.round_work.proofs.Worked.{all_worked, all_watched, queues_fewer, queues_kept, taps_kept, queue_records, tap_records}
 
 -- ---- what is held while lanes are filled
 
-pub fill_taps : (p q : Account) (ls : List QueueLane) (ts : List TapLane) → EachFrom (IsSharing 1 [] []) 0 ls → Keeps p (both q (of_taps ts)) → Keeps p (both q (both (of_queues ls) (of_taps ts)))
+abbrev pub nowhere : Spread
+nowhere key = 0
+
+pub fill_taps : (p q : Account) (ls : List QueueLane) (ts : List TapLane) → EachFrom (IsSharing nowhere [] []) 0 ls → Keeps p (both q (of_taps ts)) → Keeps p (both q (both (of_queues ls) (of_taps ts)))
 fill_taps p q ls ts empty k t m =
     let x = k t m in
-    let z = empty_account 1 [] 0 ls empty t m in
+    let z = empty_account nowhere [] 0 ls empty t m in
     (omega (arith, x.0, z.0), omega (arith, x.1, z.0, z.1))
 
-pub fill_none : (p : Account) (ls : List QueueLane) (ts : List TapLane) → EachFrom (IsSharing 1 [] []) 0 ls → ts ≡ [] → Keeps p (both p (both (of_queues ls) (of_taps ts)))
+pub fill_none : (p : Account) (ls : List QueueLane) (ts : List TapLane) → EachFrom (IsSharing nowhere [] []) 0 ls → ts ≡ [] → Keeps p (both p (both (of_queues ls) (of_taps ts)))
 fill_none p ls ts empty e =
     fill_taps p p ls ts empty (subst (λ (z : List TapLane). Keeps p (both p (of_taps z))) (sym e) (λ t m. (omega arith, omega arith)))
 
@@ -49,14 +54,14 @@ numbers g k (x ∷ xs) h =
     let e : suc k ≡ k + 1 = omega arith in
     ap (λ z. z ∷ map g xs) h.0 ∙ ap (λ z. k ∷ z) (numbers g (suc k) xs h.1 ∙ ap (λ z. range_with_len z (length xs)) e)
 
-pub are_merged : (n : ℕ) (ps : List Packet) (ls : List QueueLane) → length ls ≡ n → EachFrom (IsWorked n ps) 0 ls → AreMerged n ps ls
-are_merged n ps ls e h = record {
+pub are_merged : (segs : ℕ) (s : Spread) (n : ℕ) (ps : List Packet) (ls : List QueueLane) → length ls ≡ n → EachFrom (IsWorked segs s ps) 0 ls → AreMerged segs s n ps ls
+are_merged segs s n ps ls e h = record {
   numbers =
-      numbers (λ (l : QueueLane). l.queue) 0 ls (each_map (IsWorked n ps) (λ q l. l.queue ≡ q) 0 ls (λ q l w. w.queue) h)
+      numbers (λ (l : QueueLane). l.queue) 0 ls (each_map (IsWorked segs s ps) (λ q l. l.queue ≡ q) 0 ls (λ q l w. w.queue) h)
       ∙ ap (range_with_len 0) e;
   items =
-      each_equal merged_in (λ q. map merged_of (items_of n q ps)) 0 ls (each_map (IsWorked n ps) (λ q l. merged_in l ≡ map merged_of (items_of n q ps)) 0 ls (λ q l w. w.merged) h)
-      ∙ ap (λ z. map (λ q. map merged_of (items_of n q ps)) (range_with_len 0 z)) e;
+      each_equal merged_in (λ q. map merged_of (items_of segs s q ps)) 0 ls (each_map (IsWorked segs s ps) (λ q l. merged_in l ≡ map merged_of (items_of segs s q ps)) 0 ls (λ q l w. w.merged) h)
+      ∙ ap (λ z. map (λ q. map merged_of (items_of segs s q ps)) (range_with_len 0 z)) e;
 }
 
 pub are_watched : (snap n : ℕ) (ps : List Packet) (ls : List TapLane) → length ls ≡ n → EachFrom (IsWatched snap ps) 0 ls → AreWatched snap n ps ls
@@ -69,59 +74,59 @@ are_watched snap n ps ls e h = record {
       ∙ ap (λ z. map (λ t. Some (texts_of snap t ps)) (range_with_len 0 z)) e;
 }
 
-pub are_records : (o : Options) (ps : List Packet) (l : Lanes) → length l.queues.items ≡ o.queues → length l.taps.items ≡ o.taps → EachFrom (IsWorked o.queues ps) 0 l.queues.items → EachFrom (IsWatched o.snap ps) 0 l.taps.items
+pub are_records : (o : Options) (ps : List Packet) (l : Lanes) → length l.queues.items ≡ o.queues → length l.taps.items ≡ o.taps → EachFrom (IsWorked o.segs o.spread ps) 0 l.queues.items → EachFrom (IsWatched o.snap (map (shown_of o.filter) ps)) 0 l.taps.items
     → lane_records l ≡ round_records o ps
 are_records o ps l e f h g =
     ap (λ z. z ++ flat_map records_of_tap l.taps.items)
-    (queue_records o.queues ps 0 l.queues.items h ∙ ap (λ n. flat_map (λ q. map (record_of q) (items_of o.queues q ps)) (range_with_len 0 n)) e)
-    ∙ ap (λ z. flat_map (λ q. map (record_of q) (items_of o.queues q ps)) (range_with_len 0 o.queues) ++ z)
-    (tap_records o.snap ps 0 l.taps.items g ∙ ap (λ n. flat_map (λ t. windows_of o.snap t ps) (range_with_len 0 n)) f)
+    (queue_records o.segs o.spread ps 0 l.queues.items h ∙ ap (λ n. flat_map (λ q. map (record_of q) (items_of o.segs o.spread q ps)) (range_with_len 0 n)) e)
+    ∙ ap (λ z. flat_map (λ q. map (record_of q) (items_of o.segs o.spread q ps)) (range_with_len 0 o.queues) ++ z)
+    (tap_records o.snap (map (shown_of o.filter) ps) 0 l.taps.items g ∙ ap (λ n. flat_map (λ t. windows_of o.snap t (map (shown_of o.filter) ps)) (range_with_len 0 n)) f)
 
 -- where a call is answered Ok, what follows of it there
 pub on_ok : {A E : Type 0} (r : Result A E) (P Q : Type 0) → (P → Q) → OnOk r P → OnOk r Q
 on_ok (Ok x) P Q f h = f h
 on_ok (Err e) P Q f h = tt
 
-pub all_filled : (n : ℕ) (ps : List Packet) (ls : List QueueLane) → EachFrom (IsToWork n ps) 0 ls → All IsFilled ls
+pub all_filled : (n : Spread) (ps : List Packet) (ls : List QueueLane) → EachFrom (IsToWork n ps) 0 ls → All IsFilled ls
 all_filled n ps ls h = all_from (IsToWork n ps) IsFilled 0 ls (λ q l w. w.filled) h
 
 -- ---- a round that is done
 
-keeps_lanes : (p : Account) (snap : ℕ) (l m : Lanes) → Keeps p (of_lanes l) → Did snap l m → Keeps p (of_lanes m)
-keeps_lanes p snap l m k d t i =
+keeps_lanes : (p : Account) (plan : Plan) (l m : Lanes) → Keeps p (of_lanes l) → Did plan l m → Keeps p (of_lanes m)
+keeps_lanes p plan l m k d t i =
     let x = k t i in
-    let y = queues_kept l.queues.items m.queues.items d.sizes.0 d.queues t i in
-    let z = taps_kept snap l.taps.items m.taps.items d.sizes.1 d.taps t i in
+    let y = queues_kept plan.segs l.queues.items m.queues.items d.sizes.0 d.queues t i in
+    let z = taps_kept plan.filter plan.snap l.taps.items m.taps.items d.sizes.1 d.taps t i in
     (omega (arith, x.0, y.0, z.0), omega (arith, x.1, y.1, z.1))
 
-no_clones : (snap : ℕ) (ls ms : List TapLane) → length ms ≡ length ls → EachTapDid snap ls ms → All (λ (t : TapLane). t.clones.items ≡ []) ms
-no_clones snap ls ms e h i d lt = (h i d (omega (arith, e, lt))).none
+no_clones : (filter : Option (List Instr)) (snap : ℕ) (ls ms : List TapLane) → length ms ≡ length ls → EachTapDid filter snap ls ms → All (λ (t : TapLane). t.clones.items ≡ []) ms
+no_clones filter snap ls ms e h i d lt = (h i d (omega (arith, e, lt))).none
 
-fewer_lanes : (plan : Plan) (old : List Held) (l m : Lanes) → AreFilled plan old l → Did plan.snap l m → counts_of_queues m.queues.items ≤ counts_of old
-fewer_lanes plan old l m f d = let n = queues_fewer l.queues.items m.queues.items d.sizes.0 d.queues in omega (arith, f.count, n)
+fewer_lanes : (plan : Plan) (old : List Held) (l m : Lanes) → AreFilled plan old l → Did plan l m → counts_of_queues m.queues.items ≤ counts_of old
+fewer_lanes plan old l m f d = let n = queues_fewer plan.segs l.queues.items m.queues.items d.sizes.0 d.queues in omega (arith, f.count, n)
 
-pub is_done : (plan : Plan) (old : List Held) (l m : Lanes) → AreFilled plan old l → Did plan.snap l m → All (λ (q : QueueLane). q.done ≡ true) m.queues.items → All (λ (t : TapLane). IsSome t.texts) m.taps.items → IsDone plan old m
+pub is_done : (plan : Plan) (old : List Held) (l m : Lanes) → AreFilled plan old l → Did plan l m → All (λ (q : QueueLane). q.done ≡ true) m.queues.items → All (λ (t : TapLane). IsSome t.texts) m.taps.items → IsDone plan old m
 is_done plan old l m f d done read =
     let ps = map packet_of old in
-    let qs = all_worked plan.queues ps l.queues.items m.queues.items d.sizes.0 f.queues d.queues done in
-    let ts = all_watched plan.snap ps l.taps.items m.taps.items d.sizes.1 f.taps d.taps read in
+    let qs = all_worked plan.segs (spread_of plan) ps l.queues.items m.queues.items d.sizes.0 f.queues d.queues done in
+    let ts = all_watched plan.filter plan.snap ps l.taps.items m.taps.items d.sizes.1 f.taps d.taps read in
     let a : length m.queues.items ≡ plan.queues = d.sizes.0 ∙ f.sizes.0 in
     let b : length m.taps.items ≡ plan.taps = d.sizes.1 ∙ f.sizes.1 in
     record {
-      lanes = are_merged plan.queues ps m.queues.items a qs;
-      windows = are_watched plan.snap plan.taps ps m.taps.items b ts;
-      records = λ budget. are_records (record { budget = budget; queues = plan.queues; taps = plan.taps; snap = plan.snap }) ps m a b qs ts;
-      ready = all_from (IsWorked plan.queues ps) (λ (q : QueueLane). AreReady q.items.items) 0 m.queues.items (λ i q w. w.ready) qs;
-      weigh = all_from (IsWorked plan.queues ps) (λ (q : QueueLane). ItemsWeighAtLeast 2048 q.items.items) 0 m.queues.items (λ i q w. w.weigh) qs;
-      all = all_from (IsWorked plan.queues ps) (λ (q : QueueLane). q.packets.items ≡ []) 0 m.queues.items (λ i q w. w.all) qs;
-      kept = keeps_lanes (of_packets old) plan.snap l m f.kept d;
+      lanes = are_merged plan.segs (spread_of plan) plan.queues ps m.queues.items a qs;
+      windows = are_watched plan.snap plan.taps (shown_by plan ps) m.taps.items b ts;
+      records = λ budget. are_records (options_by plan budget) ps m a b qs ts;
+      ready = all_from (IsWorked plan.segs (spread_of plan) ps) (λ (q : QueueLane). AreReady q.items.items) 0 m.queues.items (λ i q w. w.ready) qs;
+      weigh = all_from (IsWorked plan.segs (spread_of plan) ps) (λ (q : QueueLane). ItemsWeighAtLeast 2048 q.items.items) 0 m.queues.items (λ i q w. w.weigh) qs;
+      all = all_from (IsWorked plan.segs (spread_of plan) ps) (λ (q : QueueLane). q.packets.items ≡ []) 0 m.queues.items (λ i q w. w.all) qs;
+      kept = keeps_lanes (of_packets old) plan l m f.kept d;
       count = fewer_lanes plan old l m f d;
-      clones = no_clones plan.snap l.taps.items m.taps.items d.sizes.1 d.taps;
+      clones = no_clones plan.filter plan.snap l.taps.items m.taps.items d.sizes.1 d.taps;
     }
 
-pub is_refused : (plan : Plan) (old : List Held) (l m : Lanes) → AreFilled plan old l → Did plan.snap l m → IsRefused old [] m
+pub is_refused : (plan : Plan) (old : List Held) (l m : Lanes) → AreFilled plan old l → Did plan l m → IsRefused old [] m
 is_refused plan old l m f d = record {
-  kept = λ t i. let x = keeps_lanes (of_packets old) plan.snap l m f.kept d t i in (omega (arith, x.0), omega (arith, x.1));
+  kept = λ t i. let x = keeps_lanes (of_packets old) plan l m f.kept d t i in (omega (arith, x.0), omega (arith, x.1));
   count = omega (arith, fewer_lanes plan old l m f d);
-  clones = no_clones plan.snap l.taps.items m.taps.items d.sizes.1 d.taps;
+  clones = no_clones plan.filter plan.snap l.taps.items m.taps.items d.sizes.1 d.taps;
 }

@@ -5,13 +5,15 @@ use Rattle.std.specs.List.{filter, flat_map, range_with_len}
 use Rattle.pcap_io.specs.Capture.{Packet}
 use Rattle.frags.specs.Account.{Keeps}
 use Rattle.skb.specs.SkbState.{buffer_least, is_sole}
+use Rattle.tap_filter.specs.declared.instr.Instr.{Instr}
 use Rattle.offload_model.specs.Merged.{Merged, merged_of}
-use Rattle.offload_model.specs.Rounds.{is_queued, items_of, runs_in}
+use Rattle.offload_model.specs.Rounds.{Spread, is_queued, items_of, runs_in}
 use Rattle.offload_model.specs.Segments.{with_head}
-use Rattle.offload_model.specs.Written.{head_of, record_of, windows_of}
+use Rattle.offload_model.specs.Written.{head_of, record_of, shown_of, windows_of}
 use Rattle.gro.specs.declared.packet.Packet.{Packet as Held}
 use Rattle.gro.specs.Held.{packet_of, counts_of, IsHeld, AreHeld, AreShared, WeighAtLeast}
-use Rattle.taps.specs.Clones.{packet_of as packet_of_clone}
+use Rattle.taps.specs.Clones.{packet_of as packet_of_clone, shown_packet}
+use Rattle.taps.specs.declared.clones.TapClone.{TapClone}
 use Rattle.taps.specs.Texts.{texts_of, record_of_text}
 use Rattle.round_work.specs.declared.lanes.QueueLane.{QueueLane}
 use Rattle.round_work.specs.declared.lanes.TapLane.{TapLane}
@@ -30,7 +32,7 @@ weigh_less : (v w : ℕ) (ps : List Held) → v ≤ w → WeighAtLeast w ps → 
 weigh_less v w [] le h = tt
 weigh_less v w (p ∷ ps) le h = (omega (arith, le, h.0), weigh_less v w ps le h.1)
 
-pub to_work : (n : ℕ) (old now : List Held) (q : ℕ) (l : QueueLane) → AreAfter 9 old now → RiseFrom 0 (map packet_of old) → counts_of old ≤ 65536
+pub to_work : (n : Spread) (old now : List Held) (q : ℕ) (l : QueueLane) → AreAfter 9 old now → RiseFrom 0 (map packet_of old) → counts_of old ≤ 65536
     → IsSharing n now [] q l → IsToWork n (map packet_of old) q l
 to_work n old now q l a rise few h =
     let f : Held → Bool = λ (p : Held). is_queued n q (packet_of p) in
@@ -54,10 +56,10 @@ to_work n old now q l a rise few h =
 
 -- ---- what was done
 
-worked : (n : ℕ) (ps : List Packet) (q : ℕ) (l m : QueueLane) → IsToWork n ps q l → DidQueue l m → m.done ≡ true → IsWorked n ps q m
-worked n ps q l m h d e = record {
+worked : (segs : ℕ) (n : Spread) (ps : List Packet) (q : ℕ) (l m : QueueLane) → IsToWork n ps q l → DidQueue segs l m → m.done ≡ true → IsWorked segs n ps q m
+worked segs n ps q l m h d e = record {
   queue = d.queue ∙ h.queue;
-  merged = d.merged e ∙ ap (λ z. map merged_of (runs_in z)) h.packets;
+  merged = d.merged e ∙ ap (λ z. map merged_of (runs_in segs z)) h.packets;
   all = d.all e;
   ready = d.ready;
   weigh = d.weigh;
@@ -71,57 +73,65 @@ records_some : (t : ℕ) (o : Option (List Packet)) (rs : List Packet) → IsSom
 records_some t None rs s h = absurd (grind (arith, s))
 records_some t (Some texts) rs s h = h
 
-watched : (snap : ℕ) (ps : List Packet) (t : ℕ) (l m : TapLane) → HasClones ps t l → DidTap snap l m → IsSome m.texts → IsWatched snap ps t m
-watched snap ps t l m h d s = record {
-  tap = d.tap ∙ h.tap;
-  texts = texts_some m.texts (texts_of snap l.tap (map packet_of_clone l.clones.items)) s d.read ∙ ap (λ z. Some (texts_of snap z (map packet_of_clone l.clones.items))) h.tap ∙ ap (λ z. Some (texts_of snap t z)) h.clones;
-  windows =
-      ap (λ z. records_of_texts z m.texts) d.tap
-      ∙ records_some l.tap m.texts (windows_of snap l.tap (map packet_of_clone l.clones.items)) s d.windows
-      ∙ ap (λ z. windows_of snap z (map packet_of_clone l.clones.items)) h.tap
-      ∙ ap (windows_of snap t) h.clones;
-}
+-- clones as they are shown are what is shown of their packets
+shown_clones : (filter : Option (List Instr)) (cs : List TapClone) → map (shown_packet filter) cs ≡ map (shown_of filter) (map packet_of_clone cs)
+shown_clones filter [] = refl
+shown_clones filter (c ∷ cs) = ap (λ (z : List Packet). shown_packet filter c ∷ z) (shown_clones filter cs)
+
+watched : (filter : Option (List Instr)) (snap : ℕ) (ps : List Packet) (t : ℕ) (l m : TapLane) → HasClones ps t l → DidTap filter snap l m → IsSome m.texts
+    → IsWatched snap (map (shown_of filter) ps) t m
+watched filter snap ps t l m h d s =
+    let shown : map (shown_packet filter) l.clones.items ≡ map (shown_of filter) ps = shown_clones filter l.clones.items ∙ ap (map (shown_of filter)) h.clones in
+    record {
+      tap = d.tap ∙ h.tap;
+      texts = texts_some m.texts (texts_of snap l.tap (map (shown_packet filter) l.clones.items)) s d.read ∙ ap (λ z. Some (texts_of snap z (map (shown_packet filter) l.clones.items))) h.tap ∙ ap (λ z. Some (texts_of snap t z)) shown;
+      windows =
+          ap (λ z. records_of_texts z m.texts) d.tap
+          ∙ records_some l.tap m.texts (windows_of snap l.tap (map (shown_packet filter) l.clones.items)) s d.windows
+          ∙ ap (λ z. windows_of snap z (map (shown_packet filter) l.clones.items)) h.tap
+          ∙ ap (windows_of snap t) shown;
+    }
 
 -- of each lane what holds where it is done, and each is done
 if_done : {A : Type 0} (C : A → Type 0) (Q : ℕ → A → Type 0) (k : ℕ) (xs : List A) → EachFrom (λ i x. C x → Q i x) k xs → All C xs → EachFrom Q k xs
 if_done C Q k [] h a = tt
 if_done C Q k (x ∷ xs) h a = (h.0 (a zero x (omega arith)), if_done C Q (suc k) xs h.1 (λ i d lt. a (suc i) d (omega (arith, lt))))
 
-pub all_worked : (n : ℕ) (ps : List Packet) (ls ms : List QueueLane) → length ms ≡ length ls → EachFrom (IsToWork n ps) 0 ls → EachQueueDid ls ms → All (λ (m : QueueLane). m.done ≡ true) ms → EachFrom (IsWorked n ps) 0 ms
-all_worked n ps ls ms e h did done =
-    if_done (λ (m : QueueLane). m.done ≡ true) (IsWorked n ps) 0 ms (each_did (IsToWork n ps) (λ q m. m.done ≡ true → IsWorked n ps q m) DidQueue 0 ls ms (λ q l m a d. worked n ps q l m a d) e h did) done
+pub all_worked : (segs : ℕ) (n : Spread) (ps : List Packet) (ls ms : List QueueLane) → length ms ≡ length ls → EachFrom (IsToWork n ps) 0 ls → EachQueueDid segs ls ms → All (λ (m : QueueLane). m.done ≡ true) ms → EachFrom (IsWorked segs n ps) 0 ms
+all_worked segs n ps ls ms e h did done =
+    if_done (λ (m : QueueLane). m.done ≡ true) (IsWorked segs n ps) 0 ms (each_did (IsToWork n ps) (λ q m. m.done ≡ true → IsWorked segs n ps q m) (DidQueue segs) 0 ls ms (λ q l m a d. worked segs n ps q l m a d) e h did) done
 
-pub all_watched : (snap : ℕ) (ps : List Packet) (ls ms : List TapLane) → length ms ≡ length ls → EachFrom (HasClones ps) 0 ls → EachTapDid snap ls ms → All (λ (m : TapLane). IsSome m.texts) ms → EachFrom (IsWatched snap ps) 0 ms
-all_watched snap ps ls ms e h did done =
-    if_done (λ (m : TapLane). IsSome m.texts) (IsWatched snap ps) 0 ms (each_did (HasClones ps) (λ t m. IsSome m.texts → IsWatched snap ps t m) (DidTap snap) 0 ls ms (λ t l m a d. watched snap ps t l m a d) e h did) done
+pub all_watched : (filter : Option (List Instr)) (snap : ℕ) (ps : List Packet) (ls ms : List TapLane) → length ms ≡ length ls → EachFrom (HasClones ps) 0 ls → EachTapDid filter snap ls ms → All (λ (m : TapLane). IsSome m.texts) ms → EachFrom (IsWatched snap (map (shown_of filter) ps)) 0 ms
+all_watched filter snap ps ls ms e h did done =
+    if_done (λ (m : TapLane). IsSome m.texts) (IsWatched snap (map (shown_of filter) ps)) 0 ms (each_did (HasClones ps) (λ t m. IsSome m.texts → IsWatched snap (map (shown_of filter) ps) t m) (DidTap filter snap) 0 ls ms (λ t l m a d. watched filter snap ps t l m a d) e h did) done
 
 -- ---- what all lanes hold
 
-pub queues_kept : (ls ms : List QueueLane) → length ms ≡ length ls → EachQueueDid ls ms → Keeps (of_queues ls) (of_queues ms)
-queues_kept [] [] e h t i = (omega arith, omega arith)
-queues_kept [] (m ∷ ms) e h t i = absurd (omega (arith, e))
-queues_kept (l ∷ ls) [] e h t i = absurd (omega (arith, e))
-queues_kept (l ∷ ls) (m ∷ ms) e h t i =
+pub queues_kept : (segs : ℕ) (ls ms : List QueueLane) → length ms ≡ length ls → EachQueueDid segs ls ms → Keeps (of_queues ls) (of_queues ms)
+queues_kept segs [] [] e h t i = (omega arith, omega arith)
+queues_kept segs [] (m ∷ ms) e h t i = absurd (omega (arith, e))
+queues_kept segs (l ∷ ls) [] e h t i = absurd (omega (arith, e))
+queues_kept segs (l ∷ ls) (m ∷ ms) e h t i =
     let a = (h zero l (omega arith)).kept t i in
-    let b = queues_kept ls ms (omega (arith, e)) (λ j d lt. h (suc j) d (omega (arith, lt))) t i in
+    let b = queues_kept segs ls ms (omega (arith, e)) (λ j d lt. h (suc j) d (omega (arith, lt))) t i in
     (omega (arith, a.0, b.0), omega (arith, a.1, b.1))
 
-pub queues_fewer : (ls ms : List QueueLane) → length ms ≡ length ls → EachQueueDid ls ms → counts_of_queues ms ≤ counts_of_queues ls
-queues_fewer [] [] e h = omega arith
-queues_fewer [] (m ∷ ms) e h = absurd (omega (arith, e))
-queues_fewer (l ∷ ls) [] e h = absurd (omega (arith, e))
-queues_fewer (l ∷ ls) (m ∷ ms) e h =
+pub queues_fewer : (segs : ℕ) (ls ms : List QueueLane) → length ms ≡ length ls → EachQueueDid segs ls ms → counts_of_queues ms ≤ counts_of_queues ls
+queues_fewer segs [] [] e h = omega arith
+queues_fewer segs [] (m ∷ ms) e h = absurd (omega (arith, e))
+queues_fewer segs (l ∷ ls) [] e h = absurd (omega (arith, e))
+queues_fewer segs (l ∷ ls) (m ∷ ms) e h =
     let a = (h zero l (omega arith)).fewer in
-    let b = queues_fewer ls ms (omega (arith, e)) (λ j d lt. h (suc j) d (omega (arith, lt))) in
+    let b = queues_fewer segs ls ms (omega (arith, e)) (λ j d lt. h (suc j) d (omega (arith, lt))) in
     omega (arith, a, b)
 
-pub taps_kept : (snap : ℕ) (ls ms : List TapLane) → length ms ≡ length ls → EachTapDid snap ls ms → Keeps (of_taps ls) (of_taps ms)
-taps_kept snap [] [] e h t i = (omega arith, omega arith)
-taps_kept snap [] (m ∷ ms) e h t i = absurd (omega (arith, e))
-taps_kept snap (l ∷ ls) [] e h t i = absurd (omega (arith, e))
-taps_kept snap (l ∷ ls) (m ∷ ms) e h t i =
+pub taps_kept : (filter : Option (List Instr)) (snap : ℕ) (ls ms : List TapLane) → length ms ≡ length ls → EachTapDid filter snap ls ms → Keeps (of_taps ls) (of_taps ms)
+taps_kept filter snap [] [] e h t i = (omega arith, omega arith)
+taps_kept filter snap [] (m ∷ ms) e h t i = absurd (omega (arith, e))
+taps_kept filter snap (l ∷ ls) [] e h t i = absurd (omega (arith, e))
+taps_kept filter snap (l ∷ ls) (m ∷ ms) e h t i =
     let a = (h zero l (omega arith)).kept t i in
-    let b = taps_kept snap ls ms (omega (arith, e)) (λ j d lt. h (suc j) d (omega (arith, lt))) t i in
+    let b = taps_kept filter snap ls ms (omega (arith, e)) (λ j d lt. h (suc j) d (omega (arith, lt))) t i in
     (omega (arith, a.0, b.0), omega (arith, a.1, b.1))
 
 -- ---- the records
@@ -130,17 +140,17 @@ map_merged : (q : ℕ) (runs : List (List Packet)) → map (λ (m : Merged). wit
 map_merged q [] = refl
 map_merged q (r ∷ rs) = ap (λ z. record_of q r ∷ z) (map_merged q rs)
 
-pub queue_records : (n : ℕ) (ps : List Packet) (k : ℕ) (ls : List QueueLane) → EachFrom (IsWorked n ps) k ls
-    → flat_map records_of_queue ls ≡ flat_map (λ q. map (record_of q) (items_of n q ps)) (range_with_len k (length ls))
-queue_records n ps k [] h = refl
-queue_records n ps k (l ∷ ls) h =
+pub queue_records : (segs : ℕ) (n : Spread) (ps : List Packet) (k : ℕ) (ls : List QueueLane) → EachFrom (IsWorked segs n ps) k ls
+    → flat_map records_of_queue ls ≡ flat_map (λ q. map (record_of q) (items_of segs n q ps)) (range_with_len k (length ls))
+queue_records segs n ps k [] h = refl
+queue_records segs n ps k (l ∷ ls) h =
     let s : suc k ≡ k + 1 = omega arith in
-    let e : records_of_queue l ≡ map (record_of k) (items_of n k ps) =
+    let e : records_of_queue l ≡ map (record_of k) (items_of segs n k ps) =
     ap (λ z. map (λ (m : Merged). with_head (head_of z m) m.packet) (merged_in l)) h.0.queue
     ∙ ap (map (λ (m : Merged). with_head (head_of k m) m.packet)) h.0.merged
-    ∙ map_merged k (items_of n k ps) in
+    ∙ map_merged k (items_of segs n k ps) in
     ap (λ z. z ++ flat_map records_of_queue ls) e
-    ∙ ap (λ z. map (record_of k) (items_of n k ps) ++ z) (queue_records n ps (suc k) ls h.1 ∙ ap (λ z. flat_map (λ q. map (record_of q) (items_of n q ps)) (range_with_len z (length ls))) s)
+    ∙ ap (λ z. map (record_of k) (items_of segs n k ps) ++ z) (queue_records segs n ps (suc k) ls h.1 ∙ ap (λ z. flat_map (λ q. map (record_of q) (items_of segs n q ps)) (range_with_len z (length ls))) s)
 
 pub tap_records : (snap : ℕ) (ps : List Packet) (k : ℕ) (ls : List TapLane) → EachFrom (IsWatched snap ps) k ls
     → flat_map records_of_tap ls ≡ flat_map (λ t. windows_of snap t ps) (range_with_len k (length ls))

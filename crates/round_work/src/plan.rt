@@ -1,7 +1,10 @@
 //! How the work of a round is divided.
 
+use frame_layout::Choice;
+use tap_filter::Program;
+
 /// How many lanes there are, and how far a tap reads.
-#[derive(Clone, Copy, Debug, PartialEq, Eq)]
+#[derive(Drop)]
 pub struct Plan {
     /// The receive queues, from 1 to 64.
     pub queues: u32,
@@ -9,4 +12,10 @@ pub struct Plan {
     pub taps: u32,
     /// The bytes of a tap's window, from 1 to 2,048.
     pub snap: u32,
+    /// How flows go to the queues.
+    pub choice: Choice,
+    /// The packets of a run, at most.
+    pub segs: u32,
+    /// What taps are shown of each packet: as many bytes as its value. All where there is none.
+    pub filter: Option<Program>,
 }

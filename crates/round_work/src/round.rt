@@ -11,7 +11,7 @@ ghost use Rattle.round_work.specs.Lanes.{of_lanes, counts_of_queues, IsFilled, I
 ghost use Rattle.round_work.specs.Packets.{RiseFrom};
 ghost use Rattle.round_work.specs.Sharing.{EachFrom};
 ghost use Rattle.round_work.specs.Taps.{HasClones};
-ghost use Rattle.round_work.specs.Work.{IsPlan, IsToWork, AreFilled, AreMerged, AreWatched, Did, IsDone, IsRefused, lane_records};
+ghost use Rattle.round_work.specs.Work.{spread_of, options_by, shown_by, IsPlan, IsToWork, AreFilled, AreMerged, AreWatched, Did, IsDone, IsRefused, lane_records};
 
 use crate::fill::{add_taps, give_all_up, open_queues, weigh};
 use crate::lanes::{Lanes, QueueLane, TapLane};
@@ -42,7 +42,7 @@ fn fill(
     ensures kept { Keeps (of_packets packets.old.items) (both (of_packets packets.new.items) (of_lanes lanes.new)) }
     ensures count { counts_of packets.new.items + counts_of_queues lanes.new.queues.items ≡ counts_of packets.old.items }
     ensures ready { All IsTapReady lanes.new.taps.items }
-    ensures queues { OnOk result (EachFrom (IsToWork plan.now.queues (map packet_of packets.old.items)) 0 lanes.new.queues.items) }
+    ensures queues { OnOk result (EachFrom (IsToWork (spread_of plan.now) (map packet_of packets.old.items)) 0 lanes.new.queues.items) }
     ensures taps { OnOk result (EachFrom (HasClones (map packet_of packets.old.items)) 0 lanes.new.taps.items) }
     ensures size { OnOk result ((length lanes.new.queues.items ≡ plan.now.queues) × (length lanes.new.taps.items ≡ plan.now.taps)) }
     ensures all { OnOk result (packets.new.items ≡ []) }
@@ -50,7 +50,7 @@ fn fill(
     let count = weigh(packets);
     open_queues(alloc, plan.queues, packets.len(), &mut lanes.queues)?;
     add_taps(alloc, plan, count, packets, &mut lanes.taps)?;
-    share_out(packets, &mut lanes.queues)
+    share_out(packets, plan, &mut lanes.queues)
 }
 
 // Whether the packets of each queue are merged.
@@ -117,7 +117,7 @@ fn begin(
 
 // The lanes after their work: all of it is done, or one was refused memory.
 fn finish(lanes: Lanes) -> Result<Lanes, (Lanes, AllocError)>
-    ensures ended { (plan : Plan) (old : List Held) (before : Lanes) → AreFilled plan old before → Did plan.snap before lanes → MatchResult result (IsDone plan old) (λ e. IsRefused old [] e.0) }
+    ensures ended { (plan : Plan) (old : List Held) (before : Lanes) → AreFilled plan old before → Did plan before lanes → MatchResult result (IsDone plan old) (λ e. IsRefused old [] e.0) }
 {
     if are_done(&lanes) {
         Ok(lanes)
@@ -145,9 +145,9 @@ pub fn work_packets<R: Threads + Sync, G: Gate + Sync>(
     requires weighs { WeighAtLeast (weight_after 1) packets.old.items }
     requires rising { RiseFrom 0 (map packet_of packets.old.items) }
     requires few { counts_of packets.old.items ≤ 65536 }
-    ensures lanes { IfOk result (λ l. AreMerged plan.now.queues (map packet_of packets.old.items) l.queues.items) }
-    ensures windows { IfOk result (λ l. AreWatched plan.now.snap plan.now.taps (map packet_of packets.old.items) l.taps.items) }
-    ensures records { IfOk result (λ l. (budget : ℕ) → lane_records l ≡ round_records (record { budget = budget; queues = plan.now.queues; taps = plan.now.taps; snap = plan.now.snap }) (map packet_of packets.old.items)) }
+    ensures lanes { IfOk result (λ l. AreMerged plan.now.segs (spread_of plan.now) plan.now.queues (map packet_of packets.old.items) l.queues.items) }
+    ensures windows { IfOk result (λ l. AreWatched plan.now.snap plan.now.taps (shown_by plan.now (map packet_of packets.old.items)) l.taps.items) }
+    ensures records { IfOk result (λ l. (budget : ℕ) → lane_records l ≡ round_records (options_by plan.now budget) (map packet_of packets.old.items)) }
     ensures ready { IfOk result (λ l. All (λ q. AreReady q.items.items) l.queues.items) }
     ensures weigh { IfOk result (λ l. All (λ q. ItemsWeighAtLeast 2048 q.items.items) l.queues.items) }
     ensures all { IfOk result (λ l. (packets.new.items ≡ []) × All (λ q. q.packets.items ≡ []) l.queues.items) }
@@ -156,7 +156,7 @@ pub fn work_packets<R: Threads + Sync, G: Gate + Sync>(
     ensures clones { MatchResult result (λ l. All (λ t. t.clones.items ≡ []) l.taps.items) (λ e. All (λ t. t.clones.items ≡ []) e.0.taps.items) }
 {
     let mut lanes = begin(alloc, packets, plan)?;
-    run_all(rt, gate, plan.snap, &mut lanes.queues, &mut lanes.taps);
+    run_all(rt, gate, plan, &mut lanes.queues, &mut lanes.taps);
     finish(lanes)
 }
 
@@ -174,9 +174,9 @@ pub fn work_packets_alone<G: Gate>(
     requires weighs { WeighAtLeast (weight_after 1) packets.old.items }
     requires rising { RiseFrom 0 (map packet_of packets.old.items) }
     requires few { counts_of packets.old.items ≤ 65536 }
-    ensures lanes { IfOk result (λ l. AreMerged plan.now.queues (map packet_of packets.old.items) l.queues.items) }
-    ensures windows { IfOk result (λ l. AreWatched plan.now.snap plan.now.taps (map packet_of packets.old.items) l.taps.items) }
-    ensures records { IfOk result (λ l. (budget : ℕ) → lane_records l ≡ round_records (record { budget = budget; queues = plan.now.queues; taps = plan.now.taps; snap = plan.now.snap }) (map packet_of packets.old.items)) }
+    ensures lanes { IfOk result (λ l. AreMerged plan.now.segs (spread_of plan.now) plan.now.queues (map packet_of packets.old.items) l.queues.items) }
+    ensures windows { IfOk result (λ l. AreWatched plan.now.snap plan.now.taps (shown_by plan.now (map packet_of packets.old.items)) l.taps.items) }
+    ensures records { IfOk result (λ l. (budget : ℕ) → lane_records l ≡ round_records (options_by plan.now budget) (map packet_of packets.old.items)) }
     ensures ready { IfOk result (λ l. All (λ q. AreReady q.items.items) l.queues.items) }
     ensures weigh { IfOk result (λ l. All (λ q. ItemsWeighAtLeast 2048 q.items.items) l.queues.items) }
     ensures all { IfOk result (λ l. (packets.new.items ≡ []) × All (λ q. q.packets.items ≡ []) l.queues.items) }
@@ -185,6 +185,6 @@ pub fn work_packets_alone<G: Gate>(
     ensures clones { MatchResult result (λ l. All (λ t. t.clones.items ≡ []) l.taps.items) (λ e. All (λ t. t.clones.items ≡ []) e.0.taps.items) }
 {
     let mut lanes = begin(alloc, packets, plan)?;
-    run_in_turn(gate, plan.snap, &mut lanes.queues, &mut lanes.taps);
+    run_in_turn(gate, plan, &mut lanes.queues, &mut lanes.taps);
     finish(lanes)
 }

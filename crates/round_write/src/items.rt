@@ -4,29 +4,13 @@ ghost use Rattle.std.specs.List.{flat_map};
 ghost use Rattle.std.specs.Io.KnownBytes.{Appends};
 ghost use Rattle.off_io.specs.Faults.{HasCause};
 ghost use Rattle.off_io.specs.Content.{AppendsFront};
-ghost use Rattle.offload_model.specs.Written.{head_of as head_of_merged};
 ghost use Rattle.gro.specs.Items.{item_of};
 ghost use Rattle.round_write.specs.Records.{item_bytes, FitsItem};
 
 use crate::{Time, write_record};
 use gro::Item;
 use off_io::{Sink, WriteFault};
-use pcap_io::{FileHead, OffHead};
-
-// The offload header of an item of this queue.
-fn head_of(lane: u8, item: &Item) -> OffHead
-    ensures head { result ≡ head_of_merged lane (item_of item.now) }
-{
-    OffHead {
-        version: 1,
-        kind: if item.n == 1 { 0 } else { 1 },
-        n: item.n,
-        m: item.m,
-        modes: item.modes,
-        lane,
-        number: item.number,
-    }
-}
+use pcap_io::FileHead;
 
 /// Writes an item of a queue as a record.
 ///
@@ -44,7 +28,7 @@ pub fn write_item<K: Sink>(
         (item_bytes file.now.order lane (item_of item.now))) }
     ensures cause { HasCause (K.faults sink.old) (K.faults sink.new) result }
 {
-    let head = head_of(lane, item);
+    let head = item.head(lane);
     let time = Time {
         sec: item.sec,
         frac: item.frac,

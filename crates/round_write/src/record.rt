@@ -1,6 +1,7 @@
 //! Writes a record.
 ghost use Rattle.std.specs.Prelude.{◌≡◌, ◌+◌, ◌<◌, ◌^◌, ◌++◌, OnOk, OnErr, length};
 ghost use Rattle.std.specs.Io.KnownBytes.{Appends};
+ghost use Rattle.pcap_io.specs.Limits.{off_head2_size};
 ghost use Rattle.off_io.specs.Faults.{HasCause};
 ghost use Rattle.off_io.specs.Content.{AppendsFront};
 ghost use Rattle.pcap_io.specs.Capture.{packet};
@@ -10,7 +11,7 @@ ghost use Rattle.round_write.specs.Records.{headed, heads_of};
 
 use crate::write_buffer;
 use off_io::{Sink, WriteFault, write_all};
-use pcap_io::{FileHead, OFF_HEAD_LEN, OffHead, record_header, write_rec_head};
+use pcap_io::{FileHead, OFF_HEAD2_LEN, OffHead2, record_header, write_rec_head};
 use skb::Skb;
 
 /// A record's time: seconds, and micro- or nanoseconds as the capture has them.
@@ -21,10 +22,10 @@ pub struct Time {
 }
 
 // Both headers of a record, in one row.
-fn both_heads(header: &[u8; 16], offload: &[u8; 12]) -> [u8; 28]
+fn both_heads(header: &[u8; 16], offload: &[u8; OFF_HEAD2_LEN]) -> [u8; 32]
     ensures bytes { result ≡ header.now ++ offload.now }
 {
-    let mut heads = [0u8; 28];
+    let mut heads = [0u8; 32];
     heads[..16].copy_from_slice(header);
     heads[16..].copy_from_slice(offload);
     heads
@@ -37,9 +38,9 @@ fn write_heads<K: Sink>(
     time: Time,
     len: u32,
     original: u32,
-    head: Option<OffHead>,
+    head: Option<OffHead2>,
 ) -> Result<(), WriteFault>
-    requires few { (len + 12 < 2 ^ 32) × (original + 12 < 2 ^ 32) }
+    requires few { (len + off_head2_size < 2 ^ 32) × (original + off_head2_size < 2 ^ 32) }
     ensures ok { OnOk result (Appends (K.held sink.old) (K.held sink.new)
         (heads_of file.now.order time.sec time.frac len original head)) }
     ensures err { OnErr result (AppendsFront (K.held sink.old) (K.held sink.new)
@@ -49,8 +50,8 @@ fn write_heads<K: Sink>(
     let Some(head) = head else {
         return write_rec_head(sink, file, time.sec, time.frac, len, original);
     };
-    let captured = len + OFF_HEAD_LEN as u32;
-    let original = original + OFF_HEAD_LEN as u32;
+    let captured = len + OFF_HEAD2_LEN as u32;
+    let original = original + OFF_HEAD2_LEN as u32;
     let header = record_header(file.order, time.sec, time.frac, captured, original);
     write_all(sink, &both_heads(&header, &head.bytes()))
 }
@@ -64,10 +65,10 @@ pub fn write_record<K: Sink>(
     file: &FileHead,
     time: Time,
     original: u32,
-    head: Option<OffHead>,
+    head: Option<OffHead2>,
     frame: &Skb,
 ) -> Result<(), WriteFault>
-    requires few { (buffer_size frame.now + 12 < 2 ^ 32) × (original + 12 < 2 ^ 32) }
+    requires few { (buffer_size frame.now + off_head2_size < 2 ^ 32) × (original + off_head2_size < 2 ^ 32) }
     ensures ok { OnOk result (Appends (K.held sink.old) (K.held sink.new)
         (record_bytes file.now.order (headed head (packet 0 time.sec time.frac original (buffer_bytes frame.now))))) }
     ensures err { OnErr result (AppendsFront (K.held sink.old) (K.held sink.new)
@@ -84,10 +85,10 @@ pub fn write_window<K: Sink>(
     file: &FileHead,
     time: Time,
     original: u32,
-    head: Option<OffHead>,
+    head: Option<OffHead2>,
     frame: &[u8],
 ) -> Result<(), WriteFault>
-    requires few { (length frame.now + 12 < 2 ^ 32) × (original + 12 < 2 ^ 32) }
+    requires few { (length frame.now + off_head2_size < 2 ^ 32) × (original + off_head2_size < 2 ^ 32) }
     ensures ok { OnOk result (Appends (K.held sink.old) (K.held sink.new)
         (record_bytes file.now.order (headed head (packet 0 time.sec time.frac original frame.now)))) }
     ensures err { OnErr result (AppendsFront (K.held sink.old) (K.held sink.new)

@@ -1,14 +1,15 @@
-use Rattle.std.proofs.Common.{◌≡◌, ℕ, List, ◌∷◌, length, length-set, set, ap, sym, subst, ◌∙◌, refl, arith}
+use Rattle.std.proofs.Common.{◌≡◌, ℕ, List, ◌∷◌, length-set, set, ap, sym, subst, ◌∙◌, refl, arith}
 use Rattle.frags.specs.Account.{Tests}
 use Rattle.gro.specs.declared.packet.Packet.{Packet as Held}
 use Rattle.gro.specs.Held.{of_packets, counts_of, AreHeld}
 use Rattle.round_work.specs.Sharing.{EachFrom, IsSharing}
+use Rattle.round_work.specs.Work.{spread_of}
 use Rattle.round_work.proofs.Sharing.{empty_account, empty_counts, lane_count, share_stop, share_turn, stop_account, stop_counts, turn_account, turn_counts}
 use Rattle.round_work.proofs.share.share_out.Goals as goal
 
 pub loop-packet-init : goal.loop-packet-init
 loop-packet-init c =
-    let n = length c.args.lanes.now in
+    let n = spread_of c.args.plan.now in
     let every = c.args.packets.now.items in
     record {
       size = refl;
@@ -21,13 +22,13 @@ loop-packet-init c =
 pub take_in-requires : goal.take_in-requires
 take_in-requires c =
     let l = c.loop-packet in
-    let k = lane_count (length c.args.lanes.now) c.args.packets.now.items l.packets.items 0 c.queue_for-queue.result l.lanes c.index-lanes-queue.result (omega arith) l.invariant.shared in
+    let k = lane_count (spread_of c.args.plan.now) c.args.packets.now.items l.packets.items 0 c.queue_for-queue.result l.lanes c.index-lanes-queue.result (omega arith) l.invariant.shared in
     record { few = omega (arith, k, ap counts_of c.in-Some.ensures.items, l.invariant.counts, c.requires.few) }
 
 pub returns-in-Err-clause-shared : goal.returns-in-Err-clause-shared
 returns-in-Err-clause-shared c =
     let l = c.loop-packet in
-    let n = length c.args.lanes.now in
+    let n = spread_of c.args.plan.now in
     let every = c.args.packets.now.items in
     let lanes = set l.lanes c.queue_for-queue.result c.take_in.new.lane in
     let back = c.in-Err.ensures.back in
@@ -63,7 +64,7 @@ returns-in-Err-clause-counts c =
 pub loop-packet-preserved : goal.loop-packet-preserved
 loop-packet-preserved c =
     let l = c.loop-packet in
-    let n = length c.args.lanes.now in
+    let n = spread_of c.args.plan.now in
     let every = c.args.packets.now.items in
     let p = c.in-Some.packet in
     let rest = c.pop_front.new.self.items in
