@@ -4,6 +4,7 @@ use Rattle.std.specs.List.{AllByRecursion}
 use Rattle.std.proofs.lemmas.List.{length-map}
 use Rattle.off_io.specs.Told.{Told}
 use Rattle.off_io.proofs.Telling.{Told-then, Told-same, Told-weaker}
+use Rattle.pcap_io.specs.Limits.{most_frame}
 use Rattle.pcap_io.specs.declared.place.Place.{Place}
 use Rattle.pcap_io.specs.declared.faults.CapFault.{CapFault}
 use Rattle.pcap_io.specs.Capture.{Packet, Found, ended}
@@ -298,7 +299,7 @@ pub wider : (m n j k : ℕ) (c : Counts) → m ≤ n → j ≤ k → IsWithin m 
 wider m n j k c le le' w = record { queues = queue_wider m n le c.queues w.queues; taps = tap_wider j k le' c.taps w.taps }
 
 pub of_more : (m n : ℕ) (c : Counts) → m ≤ n → AreOf m c → AreOf n c
-of_more m n c le w = wider m n (262144 * m) (262144 * n) c le (omega (arith, le)) w
+of_more m n c le w = wider m n (most_frame * m) (most_frame * n) c le (omega (arith, le)) w
 
 -- the packets of a round are such as a capture may hold
 pub captured_of : (k : ℕ) (ps : List Held) → AllByRecursion IsCaptured (map packet_of ps) → NumberedFrom k ps → AreCaptured (map packet_of ps)
@@ -313,26 +314,26 @@ start_lanes o c start = subst (HasLanes o) (sym start) ((lanes_stay o).of_all []
 
 -- at the end, behind no more than 2^32 packets and a round
 pub end_within : (n b : ℕ) (c : Counts) → n ≤ 2 ^ 32 → b ≤ 4096 → AreOf (n + b) c → IsWithin (2 ^ 50) (2 ^ 62) c
-end_within n b c few round w = wider (n + b) (2 ^ 50) (262144 * (n + b)) (2 ^ 62) c (omega (arith, few, round)) (omega (arith, few, round)) w
+end_within n b c few round w = wider (n + b) (2 ^ 50) (most_frame * (n + b)) (2 ^ 62) c (omega (arith, few, round)) (omega (arith, few, round)) w
 
 -- a round's totals are added
 pub more_within : (o : Options) (n : ℕ) (ps : List Held) (c c1 : Counts) → AreCaptured (map packet_of ps) → c1 ≡ added c (round_totals o (map packet_of ps)) → AreOf n c → AreOf (n + length ps) c1
 more_within o n ps c c1 captured sum w =
     let size : length (map packet_of ps) ≡ length ps = length-map ps packet_of in
     let m = length (map packet_of ps) in
-    let times : 262144 * n + 262144 * m ≡ 262144 * (n + length ps) = omega (arith, size) in
+    let times : most_frame * n + most_frame * m ≡ most_frame * (n + length ps) = omega (arith, size) in
     subst (AreOf (n + length ps)) (sym sum)
-    (wider (n + m) (n + length ps) (262144 * n + 262144 * m) (262144 * (n + length ps)) (added c (round_totals o (map packet_of ps))) (omega (arith, size)) (omega (arith, times))
-    (bounds_add c (round_totals o (map packet_of ps)) n (262144 * n) m (262144 * m) w (totals_are_few o (map packet_of ps) captured)))
+    (wider (n + m) (n + length ps) (most_frame * n + most_frame * m) (most_frame * (n + length ps)) (added c (round_totals o (map packet_of ps))) (omega (arith, size)) (omega (arith, times))
+    (bounds_add c (round_totals o (map packet_of ps)) n (most_frame * n) m (most_frame * m) w (totals_are_few o (map packet_of ps) captured)))
 
 -- what may be added to
 pub room : (n : ℕ) (c : Counts) → n ≤ 2 ^ 32 → AreOf n c → IsWithin (2 ^ 62) (2 ^ 62) c
-room n c few w = wider n (2 ^ 62) (262144 * n) (2 ^ 62) c (omega (arith, few)) (omega (arith, few)) w
+room n c few w = wider n (2 ^ 62) (most_frame * n) (2 ^ 62) c (omega (arith, few)) (omega (arith, few)) w
 
 pub room_of_round : (o : Options) (ps : List Held) (r : Counts) → AreCaptured (map packet_of ps) → length ps ≤ 4096 → r ≡ round_totals o (map packet_of ps) → IsWithin (2 ^ 62) (2 ^ 62) r
 room_of_round o ps r captured few is =
     subst (IsWithin (2 ^ 62) (2 ^ 62)) (sym is)
-    (wider (length (map packet_of ps)) (2 ^ 62) (262144 * length (map packet_of ps)) (2 ^ 62) (round_totals o (map packet_of ps))
+    (wider (length (map packet_of ps)) (2 ^ 62) (most_frame * length (map packet_of ps)) (2 ^ 62) (round_totals o (map packet_of ps))
     (omega (arith, few, length-map ps packet_of)) (omega (arith, few, length-map ps packet_of)) (totals_are_few o (map packet_of ps) captured))
 
 pub alike : (o : Options) (ps : List Held) (c r : Counts) → HasLanes o c → r ≡ round_totals o (map packet_of ps) → HasSameLanes c r

@@ -2,6 +2,7 @@
 use Rattle.std.specs.Prelude.{◌≡◌, ◌⊎◌, ℕ, ◌+◌, ◌*◌, ◌-◌, ◌^◌, ◌<◌, ◌≤◌, min, List, ◌++◌}
 use Rattle.pcap_io.specs.declared.place.Place.{Place}
 use Rattle.pcap_io.specs.Capture.{Packet}
+use Rattle.pcap_io.specs.Limits.{most_frame}
 use Rattle.pcap_io.specs.Places.{IsReady, found_at}
 use Rattle.offload_model.specs.Need.{round_need}
 use Rattle.offload_model.specs.Passing.{Ending, Stopped, Nowhere, AtFault, AtRound, ReadFault, NoMemory}
@@ -63,4 +64,4 @@ pub record MovesOn (budget : ℕ) (old new : Place) : Type 0 where
 
 -- none of the numbers of n packets exceeds n, and none of a tap's the bytes that these may have
 abbrev pub AreOf : ℕ → Counts → Type 0
-AreOf n counts = IsWithin n (262144 * n) counts
+AreOf n counts = IsWithin n (most_frame * n) counts

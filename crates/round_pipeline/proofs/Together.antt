@@ -7,7 +7,7 @@ use Rattle.off_io.specs.Told.{Told}
 use Rattle.pcap_io.specs.declared.place.Place.{Place}
 use Rattle.pcap_io.specs.declared.heads.FileHead.{FileHead}
 use Rattle.pcap_io.specs.Places.{IsReady}
-use Rattle.offload_model.specs.Passing.{flushes}
+use Rattle.offload_model.specs.Passing.{Passed, merging, FrontUnless, flushes}
 use Rattle.offload_model.specs.Written.{Options}
 use Rattle.rounds.specs.declared.merge.MergeEnd.{MergeEnd}
 use Rattle.rounds.specs.declared.merge.MergeEnd.TheVariants as ends
@@ -201,10 +201,14 @@ start_at from held = record { place = from.place; left = from.left; held = held;
 -- merging ended with the first round
 pub ended_first : (state : RoundsState) (from to : Spot) (h h1 : Option (List ℕ)) (end : MergeEnd) → Told from.left to.left (EndsBehind 0 state.blocks (options_of state) from.place h h1 end)
     → Told from.left to.left (EndsCaptured 0 from.place end) → (end ≡ ends.Done → Told from.left to.left (TakesAll from.taken to.taken from.place)) → (end ≡ ends.ReadFault → Rose from.faults to.faults)
-    → Ended state.blocks (options_of state) (start_at from h) from to h1 end
-ended_first state from to h h1 end told captured taken read =
+    → FrontUnless (Rose from.faults to.faults) (merging state.blocks (options_of state) from.place) from.left to.left h h1 → Ended state.blocks (options_of state) (start_at from h) from to h1 end
+ended_first state from to h h1 end told captured taken read front =
     ended_so state.blocks state from.place.file (start_at from h) 0 from from to h h1 end
-    (record { told = ahead_none state.blocks (options_of state) from.place from.left h from.taken; same = refl }) (omega arith) told captured taken read
+    (record { told = ahead_none state.blocks (options_of state) from.place from.left h from.taken; same = refl }) (omega arith) told captured taken read front
+
+front_from : (X Y : Type 0) (passing : List ℕ → Passed) (a b h h1 : Option (List ℕ)) → (X → Y) → FrontUnless X passing a b h h1 → FrontUnless Y passing a b h h1
+front_from X Y passing a b h h1 later (inl failed) = inl (later failed)
+front_from X Y passing a b h h1 later (inr told) = inr told
 
 -- it was full and is written, and merging went on behind it
 pub ended_behind : (state state1 new : RoundsState) (file : FileHead) (from at to : Spot) (before mid after : Sunk) (end : MergeEnd) → at.place.file ≡ file → from.faults ≤ at.faults
@@ -214,4 +218,11 @@ ended_behind state state1 new file from at to before mid after end same later eb
     let here : EndsFrom state.blocks (options_of state) file 1 at to mid.held after.held end =
     subst (λ (o : Options). EndsFrom state.blocks o file 1 at to mid.held after.held end) eo (subst (λ (n : ℕ). EndsFrom n (options_of state1) file 1 at to mid.held after.held end) eb went.ended) in
     let ended = here (start_at from before.held) (record { told = gone; same = same }) in
-    record { given = ended.given; captured = ended.captured; taken = ended.taken; read = λ fault. rose_from from.faults at.faults to.faults later (ended.read fault) }
+    record {
+      given = ended.given;
+      captured = ended.captured;
+      taken = ended.taken;
+      read = λ fault. rose_from from.faults at.faults to.faults later (ended.read fault);
+      front = front_from (Rose at.faults to.faults) (Rose from.faults to.faults) (merging state.blocks (options_of state) from.place) from.left to.left before.held after.held
+          (λ rose. rose_from from.faults at.faults to.faults later rose) ended.front;
+    }

@@ -11,9 +11,10 @@ use Rattle.pcap_io.specs.declared.heads.FileHead.{FileHead}
 use Rattle.pcap_io.specs.declared.place.Place.{Place}
 use Rattle.pcap_io.specs.Reading.{Loses}
 use Rattle.offload_model.specs.Need.{round_need}
-use Rattle.offload_model.specs.Passing.{Passed, WriteFault, NoMemory, merging}
+use Rattle.offload_model.specs.Passing.{Passed, WriteFault, NoMemory, merging, WritesFront, FrontUnless}
 use Rattle.offload_model.specs.Steps.{round_output}
 use Rattle.offload_model.specs.Written.{Options}
+use Rattle.offload_model.proofs.Steps.{fronts_pass_on}
 use Rattle.gro.specs.Held.{packet_of}
 use Rattle.rounds.specs.declared.round.RoundEnd.{RoundEnd}
 use Rattle.rounds.specs.declared.round.RoundEnd.TheVariants as rounds
@@ -23,7 +24,7 @@ use Rattle.rounds.specs.declared.merge.Step.{Step}
 use Rattle.rounds.specs.declared.merge.Step.TheVariants as steps
 use Rattle.rounds.specs.Merging.{ending_of, options_of, is_worked, Fails, Puts, GivesUp, Ahead, EndsBehind, Steps, IfEnds, TakesAll, EndsCaptured}
 use Rattle.rounds.specs.RoundsState.{RoundsState, RoundState}
-use Rattle.rounds.proofs.Merging.{put_given, put_captured, put_taken, put_reads, given_up, up_captured, up_not, full_given, goes_then, ends_then, captured_then, taken_then}
+use Rattle.rounds.proofs.Merging.{put_given, put_captured, put_taken, put_reads, given_up, up_captured, put_front, up_front, up_not, full_given, goes_then, ends_then, captured_then, taken_then, fronts_then}
 use Rattle.round_pipeline.specs.declared.parcel.Parcel.{Parcel}
 use Rattle.round_pipeline.specs.Parcels.{is_full}
 use Rattle.round_pipeline.specs.Reads.{Spot, ReadRound, Reads}
@@ -115,6 +116,13 @@ module _ (blocks : ℕ) (state : RoundsState) (file : FileHead) where
         (λ e. let g = w.gives e in subst (λ (s : Step). IfEnds s (λ end. end ≡ ends.ReadFault → Rose from.faults to.faults)) (sym g.1)
         (λ fault. up_not h h1 k p.end g.0 ends.ReadFault (Rose from.faults to.faults) refl (up g.0 g.2) fault))
 
+    front_at : (step : Step) → WroteRound (options_of state) file h h1 p step → IfEnds step (λ end. FrontUnless (Rose from.faults to.faults) (merging blocks (options_of state) from.place) from.left to.left h h1)
+    front_at step w =
+        worked_or (is_worked p.end) (IfEnds step (λ end. FrontUnless (Rose from.faults to.faults) (merging blocks (options_of state) from.place) from.left to.left h h1))
+        (λ e. put_front blocks state file from.place to.place p.round.packets is_file r.some fits k from.left to.left h h1 from.taken to.taken r.captured (Rose from.faults to.faults) p.end step r.full r.fewer r.failed (w.puts e) r.given)
+        (λ e. let g = w.gives e in subst (λ (s : Step). IfEnds s (λ end. FrontUnless (Rose from.faults to.faults) (merging blocks (options_of state) from.place) from.left to.left h h1)) (sym g.1)
+        (up_front blocks state file from.place to.place p.round.packets is_file r.some fits k from.left to.left h h1 from.taken to.taken r.captured (Rose from.faults to.faults) p.end g.0 (up g.0 g.2) r.given))
+
     goes_full : WroteRound (options_of state) file h h1 p steps.Goes → p.end ≡ rounds.Full
     goes_full w =
         worked_or (is_worked p.end) (p.end ≡ rounds.Full)
@@ -145,28 +153,50 @@ module _ (blocks : ℕ) (state : RoundsState) (file : FileHead) where
         λ f. subst (AppendsFront h h1) (sym is) (front_more h h1 x.done (merging blocks (options_of state) to.place y.0).output (subst (AppendsFront h h1) x.wrote f)) in
         fails_ends end fails gone bytes left split wrote) first lost
 
+    -- a front of it is one of what comes of all the bytes, whatever follows
+    fails_front : (end : MergeEnd) → Fails h h1 (round_output (options_of state) file.order (map packet_of p.round.packets)) end → AppendsFront h h1 (round_output (options_of state) file.order (map packet_of p.round.packets))
+    fails_front end (inl f) = f.1
+    fails_front end (inr f) = (0, Appends-kept h h h1 [] (Appends-nil h) f.1)
+
+    front_on : (end : MergeEnd) (last : Spot) → p.end ≡ rounds.Full → Fails h h1 (round_output (options_of state) file.order (map packet_of p.round.packets)) end → Told to.left last.left Loses
+        → FrontUnless (Rose from.faults last.faults) (merging blocks (options_of state) from.place) from.left last.left h h1
+    front_on end last full fails lost =
+        let out = round_output (options_of state) file.order (map packet_of p.round.packets) in
+        let passes = r.full full in
+        let first = full_given blocks state file from.place to.place p.round.packets is_file r.some fits k from.left to.left (Some []) (Some out) p.end from.taken to.taken full passes.full passes.file took refl r.captured r.given in
+        inr (Told-then from.left to.left last.left (Ahead blocks (options_of state) 1 from.place to.place (Some []) (Some out) from.taken to.taken) Loses (WritesFront (merging blocks (options_of state) from.place) h h1)
+        (λ bytes mid left x y.
+        subst (λ (l : List ℕ). WritesFront (merging blocks (options_of state) from.place) h h1 l left) (sym x.split)
+        ((fronts_pass_on (merging blocks (options_of state) from.place) (merging blocks (options_of state) to.place) 1 x.gone x.done).within h h1 mid left x.goes
+        (subst (AppendsFront h h1) x.wrote (fails_front end fails)))) first lost)
+
   -- ---- merging that ends
 
   -- behind what is gone
   pub ended_so : (start : Start) (k : ℕ) (first at to : Spot) (h h1 : Option (List ℕ)) (end : MergeEnd) → Behind blocks (options_of state) file start k at h → first.faults ≤ at.faults
       → Told at.left to.left (EndsBehind k blocks (options_of state) at.place h h1 end) → Told at.left to.left (EndsCaptured k at.place end)
       → (end ≡ ends.Done → Told at.left to.left (TakesAll at.taken to.taken at.place)) → (end ≡ ends.ReadFault → Rose at.faults to.faults)
+      → FrontUnless (Rose at.faults to.faults) (merging blocks (options_of state) at.place) at.left to.left h h1
       → Ended blocks (options_of state) start first to h1 end
-  ended_so start k first at to h h1 end gone later told captured taken read = record {
+  ended_so start k first at to h h1 end gone later told captured taken read front = record {
     given = ends_then blocks (options_of state) k start.place at.place to.place start.left at.left to.left start.held h h1 start.taken at.taken to.taken end gone.told told;
     captured = captured_then blocks (options_of state) k start.place at.place to.place start.left at.left to.left start.held h h1 start.taken at.taken to.taken end gone.told told captured;
     taken = λ done. taken_then blocks (options_of state) k start.place at.place to.place start.left at.left to.left start.held h h1 start.taken at.taken to.taken gone.told (taken done);
     read = λ fault. rose_from first.faults at.faults to.faults later (read fault);
+    front = fronts_then blocks (options_of state) k start.place at.place to.place start.left at.left to.left start.held h h1 start.taken at.taken to.taken
+        (Rose at.faults to.faults) (Rose first.faults to.faults) (λ rose. rose_from first.faults at.faults to.faults later rose) gone.told front;
   }
 
   -- by a failed write or want of memory
   ended_short : (start : Start) (k : ℕ) (first at to : Spot) (h h1 : Option (List ℕ)) (end : MergeEnd) → is_short end ≡ true → Behind blocks (options_of state) file start k at h → first.faults ≤ at.faults
-      → Told at.left to.left (EndsBehind k blocks (options_of state) at.place h h1 end) → Ended blocks (options_of state) start first to h1 end
-  ended_short start k first at to h h1 end short gone later told =
+      → Told at.left to.left (EndsBehind k blocks (options_of state) at.place h h1 end) → FrontUnless (Rose at.faults to.faults) (merging blocks (options_of state) at.place) at.left to.left h h1
+      → Ended blocks (options_of state) start first to h1 end
+  ended_short start k first at to h h1 end short gone later told front =
       ended_so start k first at to h h1 end gone later told
       (Told-weaker at.left to.left (EndsBehind k blocks (options_of state) at.place h h1 end) (EndsCaptured k at.place end) (λ bytes left _. short_captured k at.place end bytes left short) told)
       (λ done. absurd (false≢true (ap is_short (sym done) ∙ short)))
       (λ fault. absurd (false≢true (ap is_short (sym fault) ∙ short)))
+      front
 
   -- the rounds that were read behind it are given up
   pub stopped : (start : Start) (k : ℕ) (first at to : Spot) (h : Option (List ℕ)) (xs : List (Option Parcel)) → Behind blocks (options_of state) file start k at h → first.faults ≤ at.faults
@@ -174,6 +204,7 @@ module _ (blocks : ℕ) (state : RoundsState) (file : FileHead) where
   stopped start k first at to h xs gone later reads =
       ended_short start k first at to h h ends.NoMemory refl gone later
       (Told-weaker at.left to.left Loses (EndsBehind k blocks (options_of state) at.place h h ends.NoMemory) (λ bytes left lost. (NoMemory, refl, (lost.0, lost.1, (0, Appends-nil h)))) (reads_lose blocks state.budget at to xs reads))
+      (inr (Told-weaker at.left to.left Loses (WritesFront (merging blocks (options_of state) at.place) h h) (λ bytes left lost. (0, Appends-nil h)) (reads_lose blocks state.budget at to xs reads)))
 
   -- ---- the rounds so far
 
@@ -230,12 +261,13 @@ module _ (blocks : ℕ) (state : RoundsState) (file : FileHead) where
       let out = round_output (options_of state) file.order (map packet_of p.round.packets) in
       let fails = full_fails h h1 out p.end end full (w.puts (ap is_worked full)) in
       ended_short start k first at to h h1 end (fails_short h h1 out end fails) gone later
-      (fails_on k at mid h h1 p gone.same r number end to full fails (reads_lose blocks state.budget mid to ys reads)))
+      (fails_on k at mid h h1 p gone.same r number end to full fails (reads_lose blocks state.budget mid to ys reads))
+      (front_on k at mid h h1 p gone.same r number end to full fails (reads_lose blocks state.budget mid to ys reads)))
       (λ e.
       let same : to ≡ mid = subst (λ (l : List (Option Parcel)). Reads blocks state.budget mid l to) (closes e) reads in
       subst (λ (z : Spot). Ended blocks (options_of state) start first z h1 end) (sym same)
       (ended_so start k first at mid h h1 end gone later (step_at k at mid h h1 p gone.same r number (steps.Ends end) w) (captured_at k at mid h h1 p gone.same r number (steps.Ends end) w)
-      (taken_at k at mid h h1 p gone.same r number (steps.Ends end) w) (fault_at k at mid h h1 p gone.same r number (steps.Ends end) w)))
+      (taken_at k at mid h h1 p gone.same r number (steps.Ends end) w) (fault_at k at mid h h1 p gone.same r number (steps.Ends end) w) (front_at k at mid h h1 p gone.same r number (steps.Ends end) w)))
 
   pub wrote_last : (old mid new : Option (List ℕ)) (xs : List (Option Parcel)) (p : Parcel) (end : MergeEnd) → Wrote blocks (options_of state) file old mid xs → p.number ≡ length xs + 1
       → WroteRound (options_of state) file mid new p (steps.Ends end) → WroteLast blocks (options_of state) file old new (xs ++ Some p ∷ []) end

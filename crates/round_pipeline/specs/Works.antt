@@ -7,7 +7,7 @@ use Rattle.pcap_io.specs.declared.heads.FileHead.{FileHead}
 use Rattle.pcap_io.specs.declared.heads.Link.TheVariants.{Ethernet}
 use Rattle.pcap_io.specs.declared.place.Place.{Place}
 use Rattle.pcap_io.specs.Places.{IsReady}
-use Rattle.offload_model.specs.Passing.{merging, Passes, flushes}
+use Rattle.offload_model.specs.Passing.{merging, Passes, FrontUnless, flushes}
 use Rattle.offload_model.specs.Steps.{round_output}
 use Rattle.offload_model.specs.Written.{Options}
 use Rattle.gro.specs.Held.{packet_of}
@@ -38,6 +38,7 @@ pub record Ended (blocks : ℕ) (options : Options) (start : Start) (from to : S
   pub captured : Told start.left to.left (HoldsCaptured blocks options.budget start.place end)
   pub taken : end ≡ ends.Done → Told start.left to.left (TakesAll start.taken to.taken start.place)
   pub read : end ≡ ends.ReadFault → Rose from.faults to.faults
+  pub front : FrontUnless (Rose from.faults to.faults) (merging blocks options start.place) start.left to.left start.held held
 
 -- a round was worked and written, or given up
 pub record WroteRound (options : Options) (file : FileHead) (old new : Option (List ℕ)) (p : Parcel) (step : Step) : Type 0 where

@@ -1,5 +1,5 @@
 -- Packets that are worked in lanes, with a clone of each beside them: that they may be, and that what comes of them fits.
-use Rattle.std.proofs.Common.{◌≡◌, ℕ, suc, zero, ◌+◌, ◌*◌, ◌<◌, ◌≤◌, Bool, true, false, Option, None, Some, List, [], ◌∷◌, ◌++◌, map, length, get_or, take, drop, refl, sym, ap, ◌∙◌, subst, arith}
+use Rattle.std.proofs.Common.{◌≡◌, ℕ, suc, zero, ◌+◌, ◌*◌, ◌<◌, ◌≤◌, Bool, true, Some, List, [], ◌∷◌, map, length, get_or, drop, refl, sym, ap, ◌∙◌, subst, arith}
 use Rattle.std.specs.Prelude.{All, IfOk, Ok, Err, MatchResult}
 use Rattle.std.specs.declared.result.Result.{Result}
 use Rattle.std.specs.List.{AllByRecursion, filter, range_with_len}
@@ -9,12 +9,14 @@ use Rattle.ref_core.specs.WeightRule.{full_weight}
 use Rattle.maximal_runs.proofs.Pass.{all_append}
 use Rattle.frags.specs.Account.{Account, Tests, Keeps, both}
 use Rattle.offload_model.specs.Merged.{Merged, merged_of}
-use Rattle.offload_model.specs.Rounds.{is_queued, items_of}
+use Rattle.offload_model.specs.Captured.{IsCaptured}
+use Rattle.offload_model.specs.Rounds.{Spread, is_queued, items_of}
 use Rattle.offload_model.specs.Written.{window_of}
 use Rattle.offload_model.proofs.Lists.{all_filtered}
 use Rattle.gro.specs.declared.packet.Packet.{Packet as Held}
 use Rattle.gro.specs.declared.item.Item.{Item}
-use Rattle.gro.specs.Held.{packet_of, of_packets, counts_of, AreHeld, AreShared, WeighAtLeast}
+use Rattle.gro.specs.Table.{AreReady, ItemsWeighAtLeast}
+use Rattle.gro.specs.Held.{packet_of, of_packets, counts_of, AreHeld, AreShared, IsHeld, WeighAtLeast}
 use Rattle.taps.specs.declared.clones.TapClone.{TapClone}
 use Rattle.taps.specs.Clones.{packet_of as packet_of_clone, blocks_of, of_clones}
 use Rattle.taps.specs.Texts.{text_by, text_of, texts_of}
@@ -25,22 +27,26 @@ use Rattle.round_work.specs.declared.plan.Plan.{Plan}
 use Rattle.round_work.specs.Clones.{weight_after, AreAfter}
 use Rattle.round_work.specs.Lanes.{of_lanes, counts_of_queues}
 use Rattle.round_work.specs.Packets.{RiseFrom}
-use Rattle.round_work.specs.Work.{IsPlan, AreMerged, AreWatched, merged_in}
-use Rattle.rounds.specs.Fresh.{AreRead, IsFresh, NumberedFrom}
+use Rattle.round_work.specs.Work.{IsPlan, options_by, spread_of, shown_by, AreMerged, AreWatched, merged_in}
+use Rattle.rounds.specs.Fresh.{AreRead, IsRead, IsFresh, NumberedFrom}
 use Rattle.rounds.specs.Held.{AreSmall}
-use Rattle.rounds.specs.Kept.{Fits, IsKept, IsDone, IsLeft}
-use Rattle.rounds.specs.Lanes.{AreSpent, AreShortTexts, IsShortText, IsSmallQueue, IsSmallTap, IsSmallWork}
+use Rattle.rounds.specs.Kept.{Fits, IsKept, IsDone, IsLeft, IsOfLanes}
+use Rattle.rounds.specs.Lanes.{AreSpent, AreShortTexts, IsKeptWorkOf, IsShortText, IsSmallQueue, IsSmallTap, IsSmallWork}
 use Rattle.rounds.specs.Marks.{IsRound}
+use Rattle.rounds.specs.RoundsState.{WorkedState}
 use Rattle.rounds.specs.declared.lane_work.Kept.{Kept}
-use Rattle.rounds.proofs.Small.{read_fit, items_fit, runs_merge_fit}
+use Rattle.rounds.proofs.Small.{captured_fit, items_fit, runs_merge_fit}
 use Rattle.rounds.proofs.Taking.{fresh_round}
-use Rattle.rounds.proofs.Working.{are_shared, round_keeps}
+use Rattle.rounds.proofs.Working.{round_keeps}
 
 -- ---- packets as they were read
 
-pub are_held : (ps : List Held) → AreRead ps → AreHeld ps
-are_held [] r = tt
-are_held (p ∷ ps) r = (r.0.held, are_held ps r.1)
+is_held : (p : Held) → IsRead p → IsCaptured (packet_of p) → IsHeld p
+is_held p r c = record { size = r.size; front = omega (arith, r.front); short = c.short }
+
+pub are_held : (ps : List Held) → AreRead ps → AllByRecursion IsCaptured (map packet_of ps) → AreHeld ps
+are_held [] r c = tt
+are_held (p ∷ ps) r c = (is_held p r.0 c.0, are_held ps r.1 c.1)
 
 pub weigh_full : (ps : List Held) → AreRead ps → WeighAtLeast full_weight ps
 weigh_full [] r = tt
@@ -61,17 +67,17 @@ rise j k (p ∷ ps) le h = (omega (arith, le, h.0), rise (p.number + 1) (k + 1) 
 beside : (n : ℕ) (a b c : Account) → Keeps a b → IsRound n (both a c) → IsRound n (both b c)
 beside n a b c k r = round_keeps n (both a c) (both b c) (λ t m. let x = k t m in (omega (arith, x.0), omega (arith, x.0, x.1))) r
 
-pub are_kept : (keep : Bool) (n : ℕ) (ps : List Held) (k : Kept) → k.blocks ≡ n → IsFresh 0 n (of_packets ps) → AreRead ps → counts_of ps ≡ n → (j : ℕ) × NumberedFrom j ps → n ≤ 65536
+pub are_kept : (keep : Bool) (n : ℕ) (ps : List Held) (k : Kept) → k.blocks ≡ n → IsFresh 0 n (of_packets ps) → AllByRecursion IsCaptured (map packet_of ps) → counts_of ps ≡ n → (j : ℕ) × NumberedFrom j ps → n ≤ 65536
     → AreAfter 1 ps k.packets.items → Keeps (of_packets ps) (both (of_packets k.packets.items) (of_clones k.kept.items)) → blocks_of k.kept.items ≤ counts_of ps → (keep ≡ true → map packet_of_clone k.kept.items ≡ map packet_of ps)
     → IsKept keep (map packet_of ps) n k
-are_kept keep n ps k size fresh read counts numbers few after keeps fewer clones = record {
+are_kept keep n ps k size fresh captured counts numbers few after keeps fewer clones = record {
   same = after.same;
   size = size;
   held = after.held;
   shared = after.shared;
   weighs = after.weigh;
   rising = subst (RiseFrom 0) (sym after.same) (rise 0 numbers.0 ps (omega arith) numbers.1);
-  fit = subst (AllByRecursion Fits) (sym after.same) (read_fit ps read);
+  fit = subst (AllByRecursion Fits) (sym after.same) (captured_fit (map packet_of ps) captured);
   few = omega (arith, after.counts, counts, few);
   counts = omega (arith, after.counts, counts, fewer, size);
   round = subst (λ (m : ℕ). IsRound m (both (of_packets k.packets.items) (of_clones k.kept.items))) (sym size)
@@ -92,9 +98,10 @@ below f k (suc n) m (x ∷ xs) le e =
 abbrev AreFit : List Merged → Type 0
 AreFit ms = AllByRecursion (λ (m : Merged). Fits m.packet) ms
 
-merged_fit : (n : ℕ) (ps : List Packet) (qs : List ℕ) → AllByRecursion Fits ps → AllByRecursion AreFit (map (λ q. map merged_of (items_of n q ps)) qs)
-merged_fit n ps [] fit = tt
-merged_fit n ps (q ∷ qs) fit = (runs_merge_fit (filter (is_queued n q) ps) (all_filtered Fits (is_queued n q) ps fit), merged_fit n ps qs fit)
+merged_fit : (segs : ℕ) (spread : Spread) (ps : List Packet) (qs : List ℕ) → AllByRecursion Fits ps → AllByRecursion AreFit (map (λ q. map merged_of (items_of segs spread q ps)) qs)
+merged_fit segs spread ps [] fit = tt
+merged_fit segs spread ps (q ∷ qs) fit =
+    (runs_merge_fit segs (filter (is_queued spread q) ps) (all_filtered Fits (is_queued spread q) ps fit), merged_fit segs spread ps qs fit)
 
 small_queues : (ls : List QueueLane) → AllByRecursion (λ (l : QueueLane). l.queue < 64) ls → AllByRecursion AreFit (map merged_in ls) → AllByRecursion IsSmallQueue ls
 small_queues [] number fit = tt
@@ -117,13 +124,13 @@ small_taps : (ls : List TapLane) → AllByRecursion (λ (l : TapLane). l.tap < 8
 small_taps [] number short = tt
 small_taps (l ∷ ls) number short = ((omega (arith, number.0), short.0), small_taps ls number.1 short.1)
 
-small_lanes : (plan : Plan) (ps : List Packet) (lanes : Lanes) → IsPlan plan → AllByRecursion Fits ps → AreMerged plan.queues ps lanes.queues.items → AreWatched plan.snap plan.taps ps lanes.taps.items → IsSmallWork [] lanes
+small_lanes : (plan : Plan) (ps : List Packet) (lanes : Lanes) → IsPlan plan → AllByRecursion Fits ps → AreMerged plan.segs (spread_of plan) plan.queues ps lanes.queues.items → AreWatched plan.snap plan.taps (shown_by plan ps) lanes.taps.items → IsSmallWork [] lanes
 small_lanes plan ps lanes is fit merged watched = record {
   small = tt;
   queues = small_queues lanes.queues.items (below (λ (l : QueueLane). l.queue) 0 plan.queues 64 lanes.queues.items (omega (arith, is.0.1)) merged.numbers)
-      (subst (AllByRecursion AreFit) (sym merged.items) (merged_fit plan.queues ps (range_with_len 0 plan.queues) fit));
+      (subst (AllByRecursion AreFit) (sym merged.items) (merged_fit plan.segs (spread_of plan) ps (range_with_len 0 plan.queues) fit));
   taps = small_taps lanes.taps.items (below (λ (l : TapLane). l.tap) 0 plan.taps 8 lanes.taps.items (omega (arith, is.1)) watched.numbers)
-      (subst (AllByRecursion AreShortTexts) (sym watched.texts) (all_short plan.snap ps (range_with_len 0 plan.taps) is.2.1));
+      (subst (AllByRecursion AreShortTexts) (sym watched.texts) (all_short plan.snap (shown_by plan ps) (range_with_len 0 plan.taps) is.2.1));
 }
 
 pub small_alone : (items : List Item) (lanes : Lanes) → AreSmall items → (lanes.queues.items ≡ []) × (lanes.taps.items ≡ []) → IsSmallWork items lanes
@@ -142,7 +149,7 @@ round_now x k j same size round keeps =
     (subst (λ (z : List TapClone). IsRound k.blocks (both x (of_clones z))) (sym same) (beside k.blocks (of_packets k.packets.items) x (of_clones k.kept.items) keeps round))
 
 module _ {E : Type 0} (keep : Bool) (ps : List Packet) (n : ℕ) (plan : Plan) (k j : Kept) (is : IsPlan plan) (kept : IsKept keep ps n k) (same : j.kept.items ≡ k.kept.items) (size : j.blocks ≡ k.blocks) where
-  pub settles : (r : Result Lanes (Lanes × E)) → IfOk r (λ l. AreMerged plan.queues (map packet_of k.packets.items) l.queues.items) → IfOk r (λ l. AreWatched plan.snap plan.taps (map packet_of k.packets.items) l.taps.items)
+  pub settles : (r : Result Lanes (Lanes × E)) → IfOk r (λ l. AreMerged plan.segs (spread_of plan) plan.queues (map packet_of k.packets.items) l.queues.items) → IfOk r (λ l. AreWatched plan.snap plan.taps (shown_by plan (map packet_of k.packets.items)) l.taps.items)
       → IfOk r (λ l. (j.packets.items ≡ []) × All (λ (q : QueueLane). q.packets.items ≡ []) l.queues.items)
       → MatchResult r (λ l. Keeps (of_packets k.packets.items) (of_lanes l)) (λ e. Keeps (of_packets k.packets.items) (both (of_packets j.packets.items) (of_lanes e.0)))
       → MatchResult r (λ l. counts_of_queues l.queues.items ≤ counts_of k.packets.items) (λ e. counts_of j.packets.items + counts_of_queues e.0.queues.items ≤ counts_of k.packets.items)
@@ -161,6 +168,24 @@ module _ {E : Type 0} (keep : Bool) (ps : List Packet) (n : ℕ) (plan : Plan) (
     counts = omega (arith, counts, kept.counts, size, ap blocks_of same);
     spent = spent;
   }
+
+-- all that a comparison wants to know of what the lanes came to
+pub kept_work : {E X : Type 0} (plan : Plan) (budget n : ℕ) (keep : Bool) (ps : List Packet) (k : Kept) (lanes : Result Lanes (Lanes × E)) (r : Result WorkedState X) → keep ≡ true → IsKept keep ps n k
+    → IfOk lanes (λ l. AreMerged plan.segs (spread_of plan) plan.queues (map packet_of k.packets.items) l.queues.items) → IfOk lanes (λ l. AreWatched plan.snap plan.taps (shown_by plan (map packet_of k.packets.items)) l.taps.items)
+    → IfOk lanes (λ l. All (λ (q : QueueLane). AreReady q.items.items) l.queues.items) → IfOk lanes (λ l. All (λ (q : QueueLane). ItemsWeighAtLeast 2048 q.items.items) l.queues.items)
+    → IfOk r (IsOfLanes lanes k.kept.items k.blocks) → IfOk r (IsKeptWorkOf (options_by plan budget) ps)
+kept_work plan budget n keep ps k lanes (Err e) on is merged watched ready weigh of = tt
+kept_work plan budget n keep ps k lanes (Ok w) on is merged watched ready weigh of = record {
+  none = of.1;
+  merged = subst (λ (z : List Packet). AreMerged plan.segs (spread_of plan) plan.queues z w.lanes.queues.items) is.same
+      (subst (λ z. IfOk z (λ l. AreMerged plan.segs (spread_of plan) plan.queues (map packet_of k.packets.items) l.queues.items)) of.0 merged);
+  watched = subst (λ (z : List Packet). AreWatched plan.snap plan.taps (shown_by plan z) w.lanes.taps.items) is.same
+      (subst (λ z. IfOk z (λ l. AreWatched plan.snap plan.taps (shown_by plan (map packet_of k.packets.items)) l.taps.items)) of.0 watched);
+  ready = subst (λ z. IfOk z (λ l. All (λ (q : QueueLane). AreReady q.items.items) l.queues.items)) of.0 ready;
+  weigh = subst (λ z. IfOk z (λ l. All (λ (q : QueueLane). ItemsWeighAtLeast 2048 q.items.items) l.queues.items)) of.0 weigh;
+  kept = ap (map packet_of_clone) of.2 ∙ is.clones on;
+  rising = subst (RiseFrom 0) is.same is.rising;
+}
 
 -- ---- a round that goes home
 

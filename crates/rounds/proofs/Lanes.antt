@@ -1,5 +1,5 @@
 -- Rounds that are worked in lanes: what is written of them.
-use Rattle.std.proofs.Common.{◌≡◌, ℕ, ◌+◌, ◌≤◌, Option, None, Some, List, [], ◌∷◌, ◌++◌, map, refl, sym, ap, ◌∙◌, subst, append-nil, arith}
+use Rattle.std.proofs.Common.{◌≡◌, ℕ, ◌+◌, ◌≤◌, Option, None, Some, List, [], ◌∷◌, ◌++◌, map, refl, sym, ap, ◌∙◌, subst, append-nil, arith, ◌<◌}
 use Rattle.std.specs.Prelude.{All, IfOk, OnOk, OnErr, MatchResult, Ok, Err}
 use Rattle.std.specs.declared.result.Result.{Result}
 use Rattle.std.specs.List.{AllByRecursion, flat_map, range_with_len}
@@ -12,10 +12,10 @@ use Rattle.off_io.proofs.Owing.{then_ok, then_err}
 use Rattle.net_bytes.specs.declared.order.Order.{Order}
 use Rattle.pcap_io.specs.Capture.{Packet}
 use Rattle.offload_model.specs.Merged.{Merged, merged_of}
-use Rattle.offload_model.specs.Rounds.{runs_in, items_of}
+use Rattle.offload_model.specs.Rounds.{Spread, runs_in, items_of}
 use Rattle.offload_model.specs.Segments.{with_head}
 use Rattle.offload_model.specs.Steps.{round_output}
-use Rattle.offload_model.specs.Written.{Options, head_of, record_of, record_bytes, round_records, windows_of}
+use Rattle.offload_model.specs.Written.{Options, head_of, record_of, record_bytes, round_records, shown_of, windows_of}
 use Rattle.offload_model.proofs.OneQueue.{one_queue}
 use Rattle.gro.specs.declared.item.Item.{Item}
 use Rattle.gro.specs.Items.{item_of}
@@ -81,18 +81,24 @@ no_records : (lanes : Lanes) → (lanes.queues.items ≡ []) × (lanes.taps.item
 no_records lanes none =
     ap (λ (z : List QueueLane). flat_map records_of_queue z ++ flat_map records_of_tap lanes.taps.items) none.0 ∙ ap (λ (z : List TapLane). flat_map records_of_tap z) none.1
 
-one_queue_records : (options : Options) (ps : List Packet) → options.queues ≡ 1 → options.taps ≡ 0 → round_records options ps ≡ map (record_of 0) (runs_in ps)
-one_queue_records options ps queues taps =
-    let records = map (record_of 0) (items_of 1 0 ps) in
-    ap (λ (n : ℕ). flat_map (λ q. map (record_of q) (items_of n q ps)) (range_with_len 0 n) ++ flat_map (λ t. windows_of options.snap t ps) (range_with_len 0 options.taps)) queues
-    ∙ ap (λ (n : ℕ). flat_map (λ q. map (record_of q) (items_of 1 q ps)) (range_with_len 0 1) ++ flat_map (λ t. windows_of options.snap t ps) (range_with_len 0 n)) taps
-    ∙ append-nil (records ++ []) ∙ append-nil records ∙ ap (λ (runs : List (List Packet)). map (record_of 0) runs) (one_queue ps)
+-- whatever the one queue's flows are, it has all of them
+one_queue_records : (options : Options) (ps : List Packet) → ((key : Option (List ℕ)) → options.spread key < options.queues) → options.queues ≡ 1 → options.taps ≡ 0 → round_records options ps ≡ map (record_of 0) (runs_in options.segs ps)
+one_queue_records options ps below queues taps =
+    let segs : ℕ = options.segs in
+    let s : Spread = options.spread in
+    let shown : List Packet = map (shown_of options.filter) ps in
+    let records = map (record_of 0) (items_of segs s 0 ps) in
+    ap (λ (n : ℕ). flat_map (λ q. map (record_of q) (items_of segs s q ps)) (range_with_len 0 n) ++ flat_map (λ t. windows_of options.snap t shown) (range_with_len 0 options.taps)) queues
+    ∙ ap (λ (n : ℕ). flat_map (λ q. map (record_of q) (items_of segs s q ps)) (range_with_len 0 1) ++ flat_map (λ t. windows_of options.snap t shown) (range_with_len 0 n)) taps
+    ∙ append-nil (records ++ []) ∙ append-nil records ∙ ap (λ (runs : List (List Packet)). map (record_of 0) runs) (one_queue segs s ps (λ key. omega (arith, below key, queues)))
 
-pub records_alone : (options : Options) (ps : List Packet) (items : List Item) (lanes : Lanes) → options.queues ≡ 1 → options.taps ≡ 0 → map item_of items ≡ map merged_of (runs_in ps)
+pub records_alone : (options : Options) (segs : ℕ) (ps : List Packet) (items : List Item) (lanes : Lanes) → ((key : Option (List ℕ)) → options.spread key < options.queues) → options.queues ≡ 1 → options.taps ≡ 0 → segs ≡ options.segs
+    → map item_of items ≡ map merged_of (runs_in segs ps)
     → (lanes.queues.items ≡ []) × (lanes.taps.items ≡ []) → records_of_items 0 items ++ lane_records lanes ≡ round_records options ps
-records_alone options ps items lanes queues taps are none =
+records_alone options segs ps items lanes below queues taps same are none =
     ap (λ z. records_of_items 0 items ++ z) (no_records lanes none) ∙ append-nil (records_of_items 0 items)
-    ∙ ap (λ (ms : List Merged). map (λ (m : Merged). with_head (head_of 0 m) m.packet) ms) are ∙ runs_are 0 (runs_in ps) ∙ sym (one_queue_records options ps queues taps)
+    ∙ ap (λ (ms : List Merged). map (λ (m : Merged). with_head (head_of 0 m) m.packet) ms) are ∙ runs_are 0 (runs_in segs ps)
+    ∙ ap (λ (n : ℕ). map (record_of 0) (runs_in n ps)) same ∙ sym (one_queue_records options ps below queues taps)
 
 pub none_ready : (lanes : Lanes) → (lanes.queues.items ≡ []) × (lanes.taps.items ≡ []) → All (λ (l : QueueLane). AreReady l.items.items) lanes.queues.items
 none_ready lanes none = All-from_recursion (λ (l : QueueLane). AreReady l.items.items) lanes.queues.items (subst (AllByRecursion (λ (l : QueueLane). AreReady l.items.items)) (sym none.0) tt)

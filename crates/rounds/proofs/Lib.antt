@@ -28,6 +28,8 @@ mod Lanes
 pub mod Merging
 -- the blocks of a record whose packets are given one after another
 mod Spares
+-- an offload header whose last bytes lie in blocks
+mod Heads
 -- the packets of a record, written one after another
 mod Packets
 -- what segmenting one record shows

@@ -7,6 +7,7 @@ use Rattle.std.specs.Io.KnownBytes.{Appends, Keeps}
 use Rattle.std.proofs.KnownBytes.{Appends-nil, Appends-trans, Appends-kept}
 use Rattle.off_io.specs.Content.{AppendsFront}
 use Rattle.off_io.specs.Told.{Told}
+use Rattle.off_io.proofs.Appending.{front_more}
 use Rattle.off_io.proofs.Owing.{front_whole}
 use Rattle.off_io.proofs.Telling.{Told-then, Told-same, Told-weaker}
 use Rattle.pcap_io.specs.declared.heads.FileHead.{FileHead}
@@ -22,12 +23,12 @@ use Rattle.pcap_io.proofs.RecordLaws.{records_none}
 use Rattle.maximal_runs.proofs.Pass.{all_append}
 use Rattle.offload_model.specs.Captured.{IsCaptured}
 use Rattle.offload_model.specs.Need.{needed, round_need, exceeded_at, found_before}
-use Rattle.offload_model.specs.Passing.{Stop, Ending, Stopped, Nowhere, AtFault, AtRound, Passed, ReadFault, WriteFault, NoMemory, merging, Passes, IsNoRound, stop_of, flushes}
+use Rattle.offload_model.specs.Passing.{Stop, Ending, Stopped, Nowhere, AtFault, AtRound, Passed, ReadFault, WriteFault, NoMemory, merging, Passes, WritesFront, FrontUnless, IsNoRound, stop_of, flushes}
 use Rattle.offload_model.specs.Steps.{ending_behind, behind, round_output}
 use Rattle.offload_model.specs.Written.{Options}
 use Rattle.offload_model.proofs.Lists.{all_taken}
 use Rattle.offload_model.proofs.Needs.{needed_append, needs_add}
-use Rattle.offload_model.proofs.Steps.{commands_pass_on, merging_goes_by_round}
+use Rattle.offload_model.proofs.Steps.{commands_pass_on, fronts_pass_on, merging_goes_by_round}
 use Rattle.gro.specs.declared.packet.Packet.{Packet as Held}
 use Rattle.gro.specs.Held.{packet_of}
 use Rattle.rounds.specs.Record.{in_front, Passes as PassesRecords}
@@ -103,6 +104,18 @@ module _ (blocks : ℕ) (options : Options) (k : ℕ) (p0 p1 p2 : Place) (a b c 
   ends_then end first more =
       Told-then a b c (Ahead blocks options k p0 p1 h h1 t0 t1) (EndsBehind k blocks options p1 h1 h2 end) (Passes (merging blocks options p0) h h2 (ending_of end))
       (λ bytes rest left x y. one_end end bytes rest left x y) first more
+
+  one_front : (bytes rest left : List ℕ) → Ahead blocks options k p0 p1 h h1 t0 t1 bytes rest → WritesFront (merging blocks options p1) h1 h2 rest left → WritesFront (merging blocks options p0) h h2 bytes left
+  one_front bytes rest left x y =
+      subst (λ (l : List ℕ). WritesFront (merging blocks options p0) h h2 l left) (sym x.split)
+      ((fronts_pass_on (merging blocks options p0) (merging blocks options p1) k x.gone x.done).after h h1 h2 rest left x.goes x.wrote y)
+
+  -- a front of what comes of what follows is one of what comes of all
+  pub fronts_then : (X Y : Type 0) → (X → Y) → Told a b (Ahead blocks options k p0 p1 h h1 t0 t1) → FrontUnless X (merging blocks options p1) b c h1 h2 → FrontUnless Y (merging blocks options p0) a c h h2
+  fronts_then X Y later first (inl failed) = inl (later failed)
+  fronts_then X Y later first (inr told) =
+      inr (Told-then a b c (Ahead blocks options k p0 p1 h h1 t0 t1) (WritesFront (merging blocks options p1) h1 h2) (WritesFront (merging blocks options p0) h h2)
+      (λ bytes rest left x y. one_front bytes rest left x y) first told)
 
   one_taken : (bytes rest left : List ℕ) → Ahead blocks options k p0 p1 h h1 t0 t1 bytes rest → TakesAll t1 t2 p1 rest left → TakesAll t0 t2 p0 bytes left
   one_taken bytes rest left x y =
@@ -302,6 +315,30 @@ module _ (blocks : ℕ) (state : RoundsState) (file : FileHead) (from to : Place
   end_comes bytes left is none = comes_to bytes left bytes None (sym (append-nil bytes) ∙ ap (λ (l : List ℕ). bytes ++ l) (sym none)) is
 
   module _ (k : ℕ) (a b h h1 : Option (List ℕ)) where
+    fails_front : (end : MergeEnd) → Fails h h1 out end → AppendsFront h h1 out
+    fails_front end (inl f) = f.1
+    fails_front end (inr f) = (0, Appends-kept h h h1 [] (Appends-nil h) f.1)
+
+    last_front : (end result : MergeEnd) → WritesLast h h1 out end result → AppendsFront h h1 out
+    last_front end result (inl w) = front_whole h h1 out w.1
+    last_front end result (inr f) = fails_front result f
+
+    -- a front of the last round, whose end was read
+    pub ended_front : (end result : MergeEnd) (bytes left : List ℕ) (fault : Option CapFault) → length round < state.budget → needed (lengths_at from bytes) ≤ blocks → found_at from bytes ≡ in_front packets (ended fault)
+        → WritesLast h h1 out end result → WritesFront passing h h1 bytes left
+    ended_front end result bytes left fault fewer room found wrote =
+        subst (AppendsFront h h1) (sym (ap (λ (x : Passed). x.output) (last_is bytes fault fewer room found))) (last_front end result wrote)
+
+    -- a front of a full round, whatever follows it
+    pub full_front : (result : MergeEnd) (bytes left : List ℕ) → length round ≡ state.budget → to.file ≡ from.file → Fails h h1 out result → PassesRecords from to packets bytes left → WritesFront passing h h1 bytes left
+    full_front result bytes left full same fails passes =
+        subst (λ (l : List ℕ). WritesFront passing h h1 l left) (sym passes.1)
+        ((fronts_pass_on passing (merging blocks (options_of state) to) 1 passes.0 out).within h h1 left left
+        (λ tail.
+        (merging_goes_by_round blocks (options_of state) from packets (passes.0 ++ tail) (omega (arith, some))).full to tail (omega (arith, full, length-map round packet_of)) fits same (passes.2 tail).found (passes.2 tail).lengths
+        ∙ ap (λ (l : List ℕ). behind 1 l (merging blocks (options_of state) to tail)) out_is)
+        (fails_front result fails))
+
     fails_end : (end : MergeEnd) (bytes left : List ℕ) → Fails h h1 out end → ComesTo passing out bytes left → EndsBehind k blocks (options_of state) from h h1 end bytes left
     fails_end end bytes left (inl f) comes = (WriteFault, ap ending_of f.0, (comes.0, comes.1, subst (AppendsFront h h1) (sym comes.3) f.1))
     fails_end end bytes left (inr f) comes = (NoMemory, ap ending_of f.0, (comes.0, comes.1, (0, Appends-kept h h h1 [] (Appends-nil h) f.1)))
@@ -484,6 +521,44 @@ module _ (blocks : ℕ) (state : RoundsState) (file : FileHead) (from to : Place
   put_given (rounds.PoolEmpty need) step full fewer took puts told = no_step _ puts
   put_given rounds.NoMemory step full fewer took puts told = no_step _ puts
 
+  -- what was written is a front of what comes of all the bytes, unless the source failed
+  abbrev Front : Type 0 → Type 0
+  Front X = FrontUnless X (merging blocks (options_of state) from) a b h h1
+
+  -- where nothing was written
+  kept_front : (X : Type 0) (end : RoundEnd) → AppendsFront h h1 [] → Told a b (GivesRound blocks from to round end) → Front X
+  kept_front X end none told =
+      inr (Told-weaker a b (GivesRound blocks from to round end) (WritesFront (merging blocks (options_of state) from) h h1)
+      (λ bytes left gives. front_more h h1 [] (merging blocks (options_of state) from bytes).output none) told)
+
+  pub put_front : (X : Type 0) (end : RoundEnd) (step : Step) → (end ≡ rounds.Full → PassesRound from to round state.budget) → ((end ≡ rounds.Full → ⊥) → (end ≡ rounds.NoMemory → ⊥) → length round < state.budget)
+      → (end ≡ rounds.ReadFault → X) → Puts h h1 output end step → Told a b (GivesRound blocks from to round end) → IfEnds step (λ result. Front X)
+  put_front X rounds.Full steps.Goes full fewer read puts told = tt
+  put_front X rounds.Full (steps.Ends result) full fewer read puts told =
+      inr (Told-weaker a b (GivesRound blocks from to round rounds.Full) (WritesFront (merging blocks (options_of state) from) h h1)
+      (λ bytes left gives. full_front blocks state file from to round is_file some fits k a b h h1 result bytes left (full refl).full (full refl).file puts gives) told)
+  put_front X rounds.End (steps.Ends result) full fewer read puts told =
+      inr (Told-weaker a b (GivesRound blocks from to round rounds.End) (WritesFront (merging blocks (options_of state) from) h h1)
+      (λ bytes left gives. ended_front blocks state file from to round is_file some fits k a b h h1 ends.Done result bytes left None (fewer_by rounds.End (length round) state.budget refl fewer) gives.1 gives.0 puts) told)
+  put_front X (rounds.Malformed fault) (steps.Ends result) full fewer read puts told =
+      inr (Told-weaker a b (GivesRound blocks from to round (rounds.Malformed fault)) (WritesFront (merging blocks (options_of state) from) h h1)
+      (λ bytes left gives.
+      ended_front blocks state file from to round is_file some fits k a b h h1 (ends.Malformed fault) result bytes left (Some fault) (fewer_by (rounds.Malformed fault) (length round) state.budget refl fewer) gives.1 gives.0 puts) told)
+  put_front X rounds.ReadFault (steps.Ends result) full fewer read puts told = inl (read refl)
+  put_front X rounds.End steps.Goes full fewer read puts told = tt
+  put_front X (rounds.Malformed fault) steps.Goes full fewer read puts told = tt
+  put_front X rounds.ReadFault steps.Goes full fewer read puts told = tt
+  put_front X (rounds.PoolEmpty need) step full fewer read puts told = no_step _ puts
+  put_front X rounds.NoMemory step full fewer read puts told = no_step _ puts
+
+  pub up_front : (X : Type 0) (end : RoundEnd) (result : MergeEnd) → GivesUp h h1 k end result → Told a b (GivesRound blocks from to round end) → Front X
+  up_front X (rounds.PoolEmpty need) result gives told = kept_front X (rounds.PoolEmpty need) (0, Appends-kept h h h1 [] (Appends-nil h) gives.1) told
+  up_front X rounds.NoMemory result gives told = kept_front X rounds.NoMemory (0, subst (λ (z : Option (List ℕ)). Appends h z []) (sym gives.1) (Appends-nil h)) told
+  up_front X rounds.Full result gives told = no_step _ gives
+  up_front X rounds.End result gives told = no_step _ gives
+  up_front X (rounds.Malformed fault) result gives told = no_step _ gives
+  up_front X rounds.ReadFault result gives told = no_step _ gives
+
   -- and one that is given up
   pub given_up : (end : RoundEnd) (result : MergeEnd) → ((end ≡ rounds.Full → ⊥) → (end ≡ rounds.NoMemory → ⊥) → length round < state.budget) → GivesUp h h1 k end result → Told a b (GivesRound blocks from to round end)
       → Told a b (EndsBehind k blocks (options_of state) from h h1 result)
@@ -583,6 +658,12 @@ steps_as k s s0 from to a b h h1 t t1 step blocks options told =
     subst (λ (n : ℕ). Told a b (Steps k n (options_of s0) from to h h1 t t1 step)) blocks
     (subst (λ (o : Options). Told a b (Steps k s.blocks o from to h h1 t t1 step)) options told)
 
+pub fronts_as : (s s0 : RoundsState) (place : Place) (a b h h1 : Option (List ℕ)) (X : Type 0) → s.blocks ≡ s0.blocks → options_of s ≡ options_of s0
+    → FrontUnless X (merging s.blocks (options_of s) place) a b h h1 → FrontUnless X (merging s0.blocks (options_of s0) place) a b h h1
+fronts_as s s0 place a b h h1 X blocks options front =
+    subst (λ (n : ℕ). FrontUnless X (merging n (options_of s0) place) a b h h1) blocks
+    (subst (λ (o : Options). FrontUnless X (merging s.blocks o place) a b h h1) options front)
+
 -- ---- a round that was read, and then put or given up
 
 by_worked : (X : Type 0) (b : Bool) → (b ≡ true → X) → (b ≡ false → X) → X
@@ -597,6 +678,7 @@ pub record StepSays (k blocks : ℕ) (options : Options) (from to : Place) (a b 
   pub taken : IfEnds step (λ end. end ≡ ends.Done → Told a b (TakesAll t t1 from))
   pub moves : step ≡ steps.Goes → MovesOn from to
   pub read : IfEnds step (λ end. end ≡ ends.ReadFault → X)
+  pub front : IfEnds step (λ end. FrontUnless X (merging blocks options from) a b h h1)
 
 not_going : (end : MergeEnd) (step : Step) (X : Type 0) → step ≡ steps.Ends end → step ≡ steps.Goes → X
 not_going end step X is goes = absurd (false≢true (ap is_going (sym is ∙ goes)))
@@ -612,6 +694,7 @@ module _ (blocks : ℕ) (state : RoundsState) (file : FileHead) (from to : Place
     taken = put_taken blocks state file from to round is_file some fits k a b h h1 t t1 each end step took puts told;
     moves = put_moves blocks state file from to round is_file some fits k a b h h1 t t1 each end step full puts;
     read = put_reads blocks state file from to round is_file some fits k a b h h1 t t1 each X end step read puts;
+    front = put_front blocks state file from to round is_file some fits k a b h h1 t t1 each X end step full fewer read puts told;
   }
 
   up_says : (last : MergeEnd) → step ≡ steps.Ends last → GivesUp h h1 k end last → StepSays k blocks (options_of state) from to a b h h1 t t1 step X
@@ -623,6 +706,8 @@ module _ (blocks : ℕ) (state : RoundsState) (file : FileHead) (from to : Place
     taken = subst (λ (s : Step). IfEnds s (λ e. e ≡ ends.Done → Told a b (TakesAll t t1 from))) (sym is) (λ done. up_not h h1 k end last ends.Done _ refl gives done);
     moves = λ goes. not_going last step _ is goes;
     read = subst (λ (s : Step). IfEnds s (λ e. e ≡ ends.ReadFault → X)) (sym is) (λ fault. up_not h h1 k end last ends.ReadFault X refl gives fault);
+    front = subst (λ (s : Step). IfEnds s (λ e. FrontUnless X (merging blocks (options_of state) from) a b h h1)) (sym is)
+        (up_front blocks state file from to round is_file some fits k a b h h1 t t1 each X end last gives told);
   }
 
   -- by the clauses of `read_round` and of `put_read`

@@ -1,6 +1,6 @@
 -- What segmenting one record shows of the records of a capture.
 use Rattle.std.proofs.Common.{◌≡◌, ℕ, ◌+◌, ◌-◌, ◌^◌, ◌≤◌, true, false, List, [], ◌∷◌, ◌++◌, length, map, min, refl, sym, ap, ◌∙◌, subst, arith, append-nil, length-append, Option, None, Some, Result, Ok, Err}
-use Rattle.std.specs.Io.KnownBytes.{Appends, Keeps}
+use Rattle.std.specs.Io.KnownBytes.{Appends}
 use Rattle.std.proofs.KnownBytes.{Appends-nil, Appends-kept, Keeps-refl}
 use Rattle.off_io.specs.Content.{AppendsFront}
 use Rattle.off_io.specs.Told.{Told}
@@ -12,14 +12,15 @@ use Rattle.pcap_io.specs.Headers.{is_bad_original}
 use Rattle.pcap_io.specs.declared.place.Place.{Place}
 use Rattle.pcap_io.specs.declared.faults.CapFault.{CapFault}
 use Rattle.pcap_io.specs.declared.faults.CapKind.TheVariants.{BadOffload}
-use Rattle.pcap_io.specs.Capture.{Packet, Found, ended, one_more}
+use Rattle.pcap_io.specs.Capture.{Packet, Found, ended}
 use Rattle.pcap_io.specs.Laws.{frame_length}
+use Rattle.pcap_io.specs.Limits.{off_head_size}
 use Rattle.pcap_io.specs.Lengths.{lengths_at}
 use Rattle.pcap_io.specs.Places.{found_at}
 use Rattle.pcap_io.proofs.LengthLaws.{lengths_of_packets}
 use Rattle.offload_model.specs.Need.{need_of, needed}
 use Rattle.offload_model.specs.Segments.{segments_of}
-use Rattle.offload_model.specs.Passing.{Stop, Nowhere, AtFault, AtRound, Passed, IsNoRound, stop_of, segmenting}
+use Rattle.offload_model.specs.Passing.{Stop, AtFault, AtRound, Passed, IsNoRound, stop_of, segmenting}
 use Rattle.offload_model.specs.Steps.{behind}
 use Rattle.offload_model.specs.Tests.{is_lawful_record}
 use Rattle.offload_model.proofs.Steps.{segmenting_goes_by_record}
@@ -30,11 +31,11 @@ use Rattle.rounds.specs.declared.cut.Refused.TheVariants as refusals
 use Rattle.rounds.specs.declared.record.Stop.{Stop as Unread}
 use Rattle.rounds.specs.declared.record.Stop.TheVariants as stops
 use Rattle.rounds.specs.declared.segment.Moved.{Moved}
-use Rattle.rounds.specs.declared.segment.Moved.TheVariants.{One, End}
+use Rattle.rounds.specs.declared.segment.Moved.TheVariants.{One}
 use Rattle.rounds.specs.declared.segment.SegFault.{SegFault}
 use Rattle.rounds.specs.declared.segment.SegFault.TheVariants as faults
 use Rattle.rounds.specs.Cutting.{WritesRecord, packets_bytes}
-use Rattle.rounds.specs.Record.{front_size, judged_at, record_of, Passes, GivesRecord, HoldsNone}
+use Rattle.rounds.specs.Record.{front_size, judged_at, record_of, Passes, GivesRecord}
 use Rattle.rounds.specs.Segmenting.{IsFaultOf, IsMovedOf, Moves, TakesOne}
 
 abbrev passed : List ℕ → Stop → Passed
@@ -43,7 +44,7 @@ passed output stop = record { output = output; stop = stop }
 -- ---- no record
 
 by_lengths : (blocks : ℕ) (place : Place) (bytes more : List ℕ) (fault : Option CapFault) → found_at place bytes ≡ ended fault → lengths_at place bytes ≡ more → length more ≤ 1
-    → needed (map (λ len. len - 12) more) ≤ blocks → segmenting blocks place bytes ≡ passed [] (stop_of fault None)
+    → needed (map (λ len. len - off_head_size) more) ≤ blocks → segmenting blocks place bytes ≡ passed [] (stop_of fault None)
 by_lengths blocks place bytes [] fault found lens few fits = (segmenting_goes_by_record blocks place bytes).none fault found lens
 by_lengths blocks place bytes (len ∷ []) fault found lens few fits = (segmenting_goes_by_record blocks place bytes).cut len fault (omega (arith, fits)) found lens
 by_lengths blocks place bytes (len ∷ k ∷ more) fault found lens few fits = absurd (omega (arith, few))
@@ -53,9 +54,9 @@ none_there : (blocks : ℕ) (place : Place) (bytes : List ℕ) (fault : Option C
 none_there blocks place bytes fault link found fits =
     let l = lengths_of_packets place bytes in
     let lens : lengths_at place bytes ≡ l.0 = l.1 ∙ ap (λ (f : Found). map frame_length f.packets ++ l.0) found in
-    let front : front_size place.link ≡ 12 = ap front_size link in
-    let judged : needed (judged_at place bytes) ≡ needed (map (λ len. len - 12) l.0) =
-    ap (λ (k : ℕ). needed (map (λ len. len - k) (lengths_at place bytes))) front ∙ ap (λ (ls : List ℕ). needed (map (λ len. len - 12) ls)) lens in
+    let front : front_size place.link ≡ off_head_size = ap front_size link in
+    let judged : needed (judged_at place bytes) ≡ needed (map (λ len. len - off_head_size) l.0) =
+    ap (λ (k : ℕ). needed (map (λ len. len - k) (lengths_at place bytes))) front ∙ ap (λ (ls : List ℕ). needed (map (λ len. len - off_head_size) ls)) lens in
     by_lengths blocks place bytes l.0 fault found lens l.2 (omega (arith, judged, fits))
 
 no_packets : (f : Found) → f.packets ≡ [] → f ≡ ended f.fault
@@ -84,9 +85,9 @@ unmoved h blocks old new front (stops.PoolEmpty need) result bytes left link is 
     let len = gives.0 in
     let more = gives.1.0 in
     let k = gives.1.1 in
-    let front_is : front_size old.link ≡ 12 = ap front_size link in
-    let less : len - front_size old.link ≡ len - 12 = ap (λ (z : ℕ). len - z) front_is in
-    let needs : need ≡ need_of (len - 12) = omega (arith, k.1, ap need_of less) in
+    let front_is : front_size old.link ≡ off_head_size = ap front_size link in
+    let less : len - front_size old.link ≡ len - off_head_size = ap (λ (z : ℕ). len - z) front_is in
+    let needs : need ≡ need_of (len - off_head_size) = omega (arith, k.1, ap need_of less) in
     let e = (segmenting_goes_by_record blocks old bytes).exceeds len more (omega (arith, k.2, needs)) k.0 in
     rw is ((ap (λ (p : Passed). p.stop) e ∙ ap (λ (z : ℕ). AtRound 0 z) (sym needs), k.3, nothing_more h _ _ e), Keeps-refl h)
 unmoved h blocks old new front stops.ReadFault result bytes left link is gives =
@@ -107,18 +108,18 @@ unread_given a h blocks old new = Told-same a (Moves blocks old new h h (Err fau
 
 -- a record fits, and ends where the next one begins
 pub record IsNext (blocks : ℕ) (old new : Place) (r : Packet) : Type 0 where
-  pub fits : need_of (length r.frame - 12) ≤ blocks
+  pub fits : need_of (length r.frame - off_head_size) ≤ blocks
   pub file : new.file ≡ old.file
   pub offset : new.offset ≡ old.offset + 16 + length r.frame
 
 -- the frame behind an offload header
-frame_is : (front : List ℕ) (p : Held) → length front ≡ 12 → length (record_of front p).frame - 12 ≡ length (buffer_bytes p.skb)
+frame_is : (front : List ℕ) (p : Held) → length front ≡ off_head_size → length (record_of front p).frame - off_head_size ≡ length (buffer_bytes p.skb)
 frame_is front p long = omega (arith, length-append front (buffer_bytes p.skb), long)
 
-pub need_is : (front : List ℕ) (p : Held) → length front ≡ 12 → need_of (length (record_of front p).frame - 12) ≡ need_of (length (buffer_bytes p.skb))
+pub need_is : (front : List ℕ) (p : Held) → length front ≡ off_head_size → need_of (length (record_of front p).frame - off_head_size) ≡ need_of (length (buffer_bytes p.skb))
 need_is front p long = ap need_of (frame_is front p long)
 
-pub next_is : (blocks : ℕ) (old new : Place) (front : List ℕ) (p : Held) → length front ≡ 12 → need_of (length (buffer_bytes p.skb)) ≤ blocks → new.file ≡ old.file
+pub next_is : (blocks : ℕ) (old new : Place) (front : List ℕ) (p : Held) → length front ≡ off_head_size → need_of (length (buffer_bytes p.skb)) ≤ blocks → new.file ≡ old.file
     → new.offset ≡ old.offset + 16 + (length front + length (buffer_bytes p.skb)) → IsNext blocks old new (record_of front p)
 next_is blocks old new front p long fits file offset = record {
   fits = omega (arith, need_is front p long, fits);
@@ -127,7 +128,7 @@ next_is blocks old new front p long fits file offset = record {
 }
 
 -- an original length counts the offload header
-pub original_counts : (link : Link) (n : ℕ) → link ≡ Offload → is_bad_original link n ≡ false → 12 ≤ n
+pub original_counts : (link : Link) (n : ℕ) → link ≡ Offload → is_bad_original link n ≡ false → off_head_size ≤ n
 original_counts link n e lawful =
     let h : is_bad_original Offload n ≡ false = subst (λ (l : Link). is_bad_original l n ≡ false) e lawful in
     grind (arith, h)
@@ -184,7 +185,7 @@ not_moved_given a b h k blocks used offset number old new front p refused fault 
     (λ bytes left passes. not_moved h k blocks offset old new (record_of front p) refused fault bytes left next at (subst (λ (z : ℕ). IsFaultOf refused offset z fault) numbered is) passes wrote) told
 
 -- a record and the blocks that were taken for it
-pub takes_one : (a b : Option (List ℕ)) (blocks used before now : ℕ) (old new : Place) (front : List ℕ) (p : Held) → min (before + need_of (length (record_of front p).frame - 12)) (2 ^ 64 - 1) ≤ now
+pub takes_one : (a b : Option (List ℕ)) (blocks used before now : ℕ) (old new : Place) (front : List ℕ) (p : Held) → min (before + need_of (length (record_of front p).frame - off_head_size)) (2 ^ 64 - 1) ≤ now
     → Told a b (GivesRecord used blocks old new front (Ok p)) → Told a b (TakesOne before now old new)
 takes_one a b blocks used before now old new front p enough told =
     Told-weaker a b (GivesRecord used blocks old new front (Ok p)) (TakesOne before now old new)

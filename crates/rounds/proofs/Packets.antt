@@ -1,32 +1,34 @@
 -- The packets of a record, written one after another.
-use Rattle.std.proofs.Common.{◌≡◌, ℕ, zero, suc, ◌+◌, ◌-◌, ◌*◌, ◌<◌, ◌≤◌, Bool, true, false, List, [], ◌∷◌, ◌++◌, length, take, drop, map, refl, sym, ap, ◌∙◌, subst, arith, append-nil, Option, None, Some, Result, Ok, Err}
+use Rattle.std.proofs.Common.{◌≡◌, ℕ, zero, suc, ◌+◌, ◌-◌, ◌<◌, ◌≤◌, Bool, true, false, List, [], ◌∷◌, ◌++◌, length, map, refl, sym, ap, ◌∙◌, subst, arith, append-nil, Option, None, Some, Result, Ok, Err}
 use Rattle.std.specs.Prelude.{cond, OnOk, OnErr, ◌==◌, ◌&&◌, ◌||◌, ◌↔◌, nat_le, IsOk, is_ok}
 use Rattle.std.specs.List.{flat_map, range_with_len}
 use Rattle.std.specs.Io.KnownBytes.{Appends, Keeps}
 use Rattle.std.proofs.KnownBytes.{Appends-nil, Appends-kept}
-use Rattle.std.proofs.lemmas.List.{take_at, drop_at, get_or_append_left}
+use Rattle.std.proofs.lemmas.Bool.{and_parts}
 use Rattle.std.proofs.lemmas.List.FromFn.{length-map-range_with_len}
 use Rattle.off_io.specs.Content.{AppendsFront, Owes}
-use Rattle.off_io.proofs.Owing.{Owes-less, Owes-none, Owes-front, Owes-failed}
+use Rattle.off_io.proofs.Owing.{Owes-less, Owes-none, Owes-failed}
 use Rattle.off_io.proofs.Appending.{front_more}
-use Rattle.net_bytes.specs.Bytes.{byte}
 use Rattle.net_bytes.specs.declared.order.Order.{Order}
 use Rattle.pcap_io.specs.Capture.{Packet, packet}
-use Rattle.pcap_io.specs.Headers.{off_head}
-use Rattle.pcap_io.specs.declared.off_head.OffHead.{OffHead}
+use Rattle.pcap_io.specs.Headers.{fields_in, head_size}
+use Rattle.pcap_io.specs.Limits.{most_frame}
+use Rattle.pcap_io.specs.declared.off_head.AnyHead.{AnyHead}
+use Rattle.pcap_io.specs.declared.off_head.OffHead2.{OffHead2}
 use Rattle.frame_layout.specs.Shape.{Layout, shape_of}
-use Rattle.offload_model.specs.Segments.{merged_in, segments_by, segments_of, with_frame}
-use Rattle.offload_model.specs.Tests.{is_cuttable_as, is_lawful_single, is_lawful_window, is_lawful_by, is_lawful_record}
+use Rattle.offload_model.specs.Segments.{IsOpenedBy, merged_in, packet_in, segments_by, segments_of, with_frame}
+use Rattle.offload_model.specs.Tests.{is_cuttable_as, is_lawful_single, is_lawful_window, is_lawful_by, is_lawful_record, is_opened_by}
+use Rattle.offload_model.proofs.Decides.{decides_opened}
 use Rattle.offload_model.specs.Written.{record_bytes}
 use Rattle.off_io.specs.declared.sink.WriteFault.{WriteFault}
 use Rattle.raw_block.specs.Views.{SoleState}
 use Rattle.skb.specs.SkbState.{SkbState, buffer_bytes, is_sole}
 use Rattle.skb.specs.Checksum.{AreBytes}
 use Rattle.segment_rule.specs.declared.segmentation.Segmentation.{Segmentation}
-use Rattle.segment_rule.specs.Segmentations.{IsSegmentationOf, segment_at, segments_at}
-use Rattle.segment_rule.proofs.Segments.{places, short, payload_short, segment_holds}
+use Rattle.segment_rule.specs.Segmentations.{IsSegmentationOf, segment_at}
+use Rattle.segment_rule.proofs.Segments.{places, payload_short, segment_holds}
 use Rattle.gro.specs.declared.packet.Packet.{Packet as Held}
-use Rattle.gso.specs.Planning.{IsPlanOf, packets_by}
+use Rattle.gso.specs.Planning.{IsLawfulBehind, IsPlanOf, packets_by}
 use Rattle.gso.specs.Cutting.{IsLeft, Gives}
 use Rattle.gso.specs.declared.cutter.Work.{Work}
 use Rattle.gso.specs.declared.cutter.Work.TheVariants.{Whole, Merged}
@@ -36,9 +38,8 @@ use Rattle.rounds.specs.declared.cut.Refused.{Refused}
 use Rattle.rounds.specs.declared.cut.Refused.TheVariants as refusals
 use Rattle.rounds.specs.declared.cut.Stamp.{Stamp}
 use Rattle.rounds.specs.declared.cut.Turn.{Turn}
-use Rattle.rounds.specs.declared.cut.Turn.TheVariants.{Wrote, Done}
-use Rattle.rounds.specs.Record.{record_of}
-use Rattle.rounds.specs.Cutting.{AreLeft, AreShort, TakesTurn, Writes, WritesRecord, original_by, packet_behind, packets_bytes, stamped, stamped_all}
+use Rattle.rounds.specs.declared.cut.Turn.TheVariants.{Wrote}
+use Rattle.rounds.specs.Cutting.{AreLeft, AreShort, IsBehind, TakesTurn, Writes, WritesRecord, original_by, packet_behind, packets_bytes, stamped, stamped_all}
 
 -- ---- how many frames are still to be given
 
@@ -89,11 +90,11 @@ none_written a xs = (0, Appends-nil a)
 -- ---- a turn
 
 -- the first frame, and those behind it
-first_short : (frames left : List (List ℕ)) (f : List ℕ) → frames ≡ f ∷ left → AreShort frames → (length f ≤ 262144) × AreShort left
+first_short : (frames left : List (List ℕ)) (f : List ℕ) → frames ≡ f ∷ left → AreShort frames → (length f ≤ most_frame) × AreShort left
 first_short frames left f e short = subst AreShort e short
 
 module _ (st : Stamp) (frames : List (List ℕ)) (a b : Work) (spare : SoleState) (s : SkbState) (h k : Option (List ℕ)) (left : AreLeft frames a) (gives : Gives frames a spare b s) where
-  pub given_short : length (buffer_bytes s) ≤ 262144
+  pub given_short : length (buffer_bytes s) ≤ most_frame
   given_short = (first_short frames gives.left (buffer_bytes s) gives.first left.1).0
 
   pub given_own : is_sole s.head ≡ true
@@ -116,21 +117,21 @@ owing_stopped s frames now work refusals.NoMemory a b c owes turn = owing_failed
 
 -- ---- the packets of a plan, and their frames
 
-segment_short : (cut : Segmentation) (f : List ℕ) (i : ℕ) → AreBytes f → IsSegmentationOf cut f → i < cut.n → length (segment_at cut f i) ≤ 262144
-segment_short cut f i small is less =
-    omega (arith, (segment_holds cut f i small is less).like.long, payload_short cut f i, (places cut f small is).within, short cut f small is)
+segment_short : (cut : Segmentation) (f : List ℕ) (i : ℕ) → length f ≤ most_frame → AreBytes f → IsSegmentationOf cut f → i < cut.n → length (segment_at cut f i) ≤ most_frame
+segment_short cut f i few small is less =
+    omega (arith, (segment_holds cut f i small is less).like.long, payload_short cut f i, (places cut f small is).within, few)
 
-segments_short : (cut : Segmentation) (p : Packet) (i k : ℕ) → AreBytes p.frame → IsSegmentationOf cut p.frame → i + k ≤ cut.n
+segments_short : (cut : Segmentation) (p : Packet) (i k : ℕ) → length p.frame ≤ most_frame → AreBytes p.frame → IsSegmentationOf cut p.frame → i + k ≤ cut.n
     → AreShort (map (λ (q : Packet). q.frame) (map (λ j. with_frame p (segment_at cut p.frame j)) (range_with_len i k)))
-segments_short cut p i zero small is within = tt
-segments_short cut p i (suc k) small is within =
-    (segment_short cut p.frame i small is (omega (arith, within)), segments_short cut p (i + 1) k small is (omega (arith, within)))
+segments_short cut p i zero few small is within = tt
+segments_short cut p i (suc k) few small is within =
+    (segment_short cut p.frame i few small is (omega (arith, within)), segments_short cut p (i + 1) k few small is (omega (arith, within)))
 
-pub plan_short : (s : SkbState) (plan : Plan) (p : Packet) → p.frame ≡ buffer_bytes s → length (buffer_bytes s) ≤ 262144 → IsPlanOf s plan → AreShort (map (λ (q : Packet). q.frame) (packets_by plan p))
+pub plan_short : (s : SkbState) (plan : Plan) (p : Packet) → p.frame ≡ buffer_bytes s → length (buffer_bytes s) ≤ most_frame → IsPlanOf s plan → AreShort (map (λ (q : Packet). q.frame) (packets_by plan p))
 plan_short s Nothing p e few is = tt
 plan_short s Single p e few is = (omega (arith, ap length e, few), tt)
 plan_short s (Segments cut sums) p e few is =
-    segments_short cut p 0 cut.n (subst AreBytes (sym e) is.in_bytes) (subst (IsSegmentationOf cut) (sym e) is.of) (omega arith)
+    segments_short cut p 0 cut.n (omega (arith, ap length e, few)) (subst AreBytes (sym e) is.in_bytes) (subst (IsSegmentationOf cut) (sym e) is.of) (omega arith)
 
 segments_bytes : (s : Stamp) (p : Packet) (cut : Segmentation) (is : List ℕ) → s.time.sec ≡ p.sec → s.time.frac ≡ p.frac → s.original ≡ None
     → flat_map (record_bytes s.file.order) (map (λ j. with_frame p (segment_at cut p.frame j)) is) ≡ stamped_all s (map (λ (q : Packet). q.frame) (map (λ j. with_frame p (segment_at cut p.frame j)) is))
@@ -152,52 +153,37 @@ writes_at xs ys a b r e w = subst (λ (z : List ℕ). Writes z a b r) (sym e) w
 
 -- ---- a record and its offload header
 
-off_head_by : (f g : List ℕ) → ((k : ℕ) → k < 12 → byte f k ≡ byte g k) → off_head f ≡ off_head g
-off_head_by f g same =
-    rw (
-      same 0 (omega arith),
-      same 1 (omega arith),
-      same 2 (omega arith),
-      same 3 (omega arith),
-      same 4 (omega arith),
-      same 5 (omega arith),
-      same 6 (omega arith),
-      same 7 (omega arith),
-      same 8 (omega arith),
-      same 9 (omega arith),
-      same 10 (omega arith),
-      same 11 (omega arith),
-    ) refl
-
-cuttable_alike : (o : Option Layout) (number sec frac n : ℕ) (f : List ℕ) (h : OffHead)
+cuttable_alike : (o : Option Layout) (number sec frac n : ℕ) (f : List ℕ) (h : OffHead2)
     → is_cuttable_as o (merged_in h (packet number sec frac n f)) ≡ is_cuttable_as o (merged_in h (packet 0 0 0 n f))
 cuttable_alike None number sec frac n f h = refl
 cuttable_alike (Some layout) number sec frac n f h = refl
 
 -- number and time don't make a record lawful
-lawful_alike : (number sec frac n : ℕ) (f : List ℕ) (h : OffHead) → is_lawful_by h (packet number sec frac n f) ≡ is_lawful_by h (packet 0 0 0 n f)
+lawful_alike : (number sec frac n : ℕ) (f : List ℕ) (h : OffHead2) → is_lawful_by h (packet number sec frac n f) ≡ is_lawful_by h (packet 0 0 0 n f)
 lawful_alike number sec frac n f h =
-    ap (λ (v : Bool). is_lawful_single h || ((h.version == 1 && (h.kind == 1 && (nat_le h.lane 63 && v))) || is_lawful_window h)) (cuttable_alike (shape_of f) number sec frac n f h)
+    ap (λ (v : Bool). is_lawful_single h || ((h.kind == 1 && (nat_le h.lane 63 && v)) || is_lawful_window h)) (cuttable_alike (shape_of f) number sec frac n f h)
 
-module _ (front : List ℕ) (p : Held) (long : length front ≡ 12) where
-  -- what stands behind the offload header
-  behind : drop 12 (front ++ buffer_bytes p.skb) ≡ buffer_bytes p.skb
-  behind = drop_at front (buffer_bytes p.skb) 12 long
+-- whether a record is lawful whose header is this, and whose packet is behind it
+abbrev is_lawful_behind : AnyHead → ℕ → List ℕ → Bool
+is_lawful_behind head original f =
+    is_opened_by head (head_size head + length f) original && is_lawful_by (fields_in head) (packet 0 0 0 (original - head_size head) f)
 
-  -- an offload header is read in the first 12 bytes
-  head_is : off_head (front ++ buffer_bytes p.skb) ≡ off_head front
-  head_is = off_head_by (front ++ buffer_bytes p.skb) front (λ k lt. get_or_append_left front (buffer_bytes p.skb) 0 k (omega (arith, lt, long)))
+pub opened : (head : AnyHead) (original : ℕ) (f : List ℕ) → IsLawfulBehind head original f → IsOpenedBy head (head_size head + length f) original
+opened head original f lawful =
+    (decides_opened head (head_size head + length f) original).0 (and_parts (is_opened_by head (head_size head + length f) original) _ lawful).0
 
-  pub lawful_is : is_lawful_record (record_of front p) ≡ is_lawful_by (off_head front) (packet 0 0 0 (p.original - 12) (buffer_bytes p.skb))
+module _ (r : Packet) (head : AnyHead) (p : Held) (is : IsBehind r head p) where
+  pub lawful_is : is_lawful_record r ≡ is_lawful_behind head p.original (buffer_bytes p.skb)
   lawful_is =
-      ap (λ (z : List ℕ). is_lawful_by (off_head (front ++ buffer_bytes p.skb)) (packet p.number p.sec p.frac (p.original - 12) z)) behind
-      ∙ ap (λ (h : OffHead). is_lawful_by h (packet_behind p)) head_is
-      ∙ lawful_alike p.number p.sec p.frac (p.original - 12) (buffer_bytes p.skb) (off_head front)
+      ap (λ (h : AnyHead). is_opened_by h (length r.frame) r.original && is_lawful_by (fields_in h) (packet_in r)) is.head_is
+      ∙ ap (λ (n : ℕ). is_opened_by head n r.original && is_lawful_by (fields_in head) (packet_in r)) is.size
+      ∙ ap (λ (n : ℕ). is_opened_by head (head_size head + length (buffer_bytes p.skb)) n && is_lawful_by (fields_in head) (packet_in r)) is.original
+      ∙ ap (λ (q : Packet). is_opened_by head (head_size head + length (buffer_bytes p.skb)) p.original && is_lawful_by (fields_in head) q) is.behind
+      ∙ ap (λ (b : Bool). is_opened_by head (head_size head + length (buffer_bytes p.skb)) p.original && b)
+      (lawful_alike p.number p.sec p.frac (p.original - head_size head) (buffer_bytes p.skb) (fields_in head))
 
-  pub segments_are : segments_of (record_of front p) ≡ segments_by (off_head front) (packet_behind p)
-  segments_are =
-      ap (λ (z : List ℕ). segments_by (off_head (front ++ buffer_bytes p.skb)) (packet p.number p.sec p.frac (p.original - 12) z)) behind
-      ∙ ap (λ (h : OffHead). segments_by h (packet_behind p)) head_is
+  pub segments_are : segments_of r ≡ segments_by (fields_in head) (packet_behind (head_size head) p)
+  segments_are = ap (λ (h : AnyHead). segments_by (fields_in h) (packet_in r)) is.head_is ∙ ap (segments_by (fields_in head)) is.behind
 
 -- a test that answers as another is true
 pub taken_by : {T E : Type 0} (r : Result T E) (own : Bool) (x : T) {all : Bool} → r ≡ Ok x → (IsOk r ↔ (own ≡ true)) → all ≡ own → all ≡ true

@@ -26,6 +26,7 @@ use Rattle.gro.specs.declared.packet.Packet.{Packet as Held}
 use Rattle.rounds.proofs.Taking.{below_or}
 use Rattle.rounds.specs.declared.record.Stop.{Stop}
 use Rattle.rounds.specs.declared.record.Stop.TheVariants.{End, Malformed, PoolEmpty, ReadFault, NoMemory}
+use Rattle.rounds.specs.Fresh.{most_read}
 use Rattle.rounds.specs.Record.{front_size, HasHead, GivesPacket, GivesRecord, NeedsMore, IsStopOf, judged_at}
 
 pub packet_given : (a b : Option (List ℕ)) (place : Place) (head : RecHead) (front : List ℕ) (len : ℕ) (soles : List SoleState) (p : Held) → buffer_bytes p.skb ≡ data_of 64 len soles → HasHead head front p
@@ -212,6 +213,6 @@ whole_given a b c old mid new used blocks front found head p some enters on firs
     (λ bytes rest left takes gives. body_whole old mid new used blocks front head p bytes rest left entered on takes gives) at_some second
 
 -- where 131 blocks are home, or as many as there are less those in use, a record that needs no more than there are finds its own
-pub finds_blocks : (len used home made : ℕ) → len ≤ 262144 → (131 ≤ home) ⊎ (made ≤ home + used) → used + need_of len ≤ made → need_of len ≤ home
+pub finds_blocks : (len used home made : ℕ) → len ≤ most_read → (131 ≤ home) ⊎ (made ≤ home + used) → used + need_of len ≤ made → need_of len ≤ home
 finds_blocks len used home made small (inl many) fits = omega (arith, small, many)
 finds_blocks len used home made small (inr rest) fits = omega (arith, rest, fits)

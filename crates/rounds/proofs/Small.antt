@@ -4,7 +4,8 @@ use Rattle.std.specs.Prelude.{IfSome, Option, ◌==◌, ◌||◌}
 use Rattle.std.specs.List.{AllByRecursion, filter, flat_map}
 use Rattle.std.proofs.lemmas.Bool.{ltb-false}
 use Rattle.pcap_io.specs.Capture.{Packet}
-use Rattle.pcap_io.specs.Headers.{is_bad_original}
+use Rattle.pcap_io.specs.Headers.{captured_limit, is_bad_original}
+use Rattle.pcap_io.specs.Limits.{most_frame}
 use Rattle.pcap_io.specs.declared.heads.Link.{Link}
 use Rattle.pcap_io.specs.declared.heads.Link.TheVariants.{Ethernet as EthernetLink, Offload}
 use Rattle.pcap_io.specs.declared.heads.RecHead.{RecHead}
@@ -17,23 +18,23 @@ use Rattle.frame_layout.specs.declared.layout.Layer.TheVariants.{Ethernet}
 use Rattle.offload_model.specs.Captured.{IsCaptured}
 use Rattle.offload_model.specs.Edits.{with_edits, put_length, put_flags_of}
 use Rattle.offload_model.specs.Frames.{merged_frame}
-use Rattle.offload_model.specs.Mergeable.{IsMergeable, payloads_of}
+use Rattle.offload_model.specs.Mergeable.{IsMergeable, IsMergeableWithin, payloads_of}
 use Rattle.offload_model.specs.Merged.{Merged, merged_of, frame_at, frame_of_run}
 use Rattle.offload_model.specs.Rounds.{is_of, key_in, number_of, runs_in}
-use Rattle.offload_model.specs.Tests.{is_mergeable}
-use Rattle.offload_model.proofs.Decides.{decides_mergeable}
+use Rattle.offload_model.specs.Tests.{is_mergeable_within}
+use Rattle.offload_model.proofs.Decides.{decides_within}
 use Rattle.offload_model.proofs.Edits.{with_edits-long}
 use Rattle.offload_model.proofs.Filled.{lengths_are_edits, with_sums-long}
 use Rattle.offload_model.proofs.Functions.{copying_flags}
 use Rattle.offload_model.proofs.Lists.{all_filtered, all_mapped}
 use Rattle.offload_model.proofs.Made.{flag_bits}
-use Rattle.offload_model.proofs.Ranges.{in_range}
 use Rattle.offload_model.proofs.Records.{merged_of_is}
+use Rattle.skb.specs.SkbState.{buffer_bytes}
 use Rattle.gro.specs.declared.packet.Packet.{Packet as Held}
 use Rattle.gro.specs.declared.item.Item.{Item}
 use Rattle.gro.specs.Held.{packet_of}
 use Rattle.gro.specs.Items.{item_of}
-use Rattle.rounds.specs.Fresh.{AreRead, IsRead, IsInFields}
+use Rattle.rounds.specs.Fresh.{IsInFields, most_original}
 use Rattle.rounds.specs.Held.{IsSmall, AreSmall}
 use Rattle.rounds.specs.Kept.{Fits}
 
@@ -43,11 +44,11 @@ or_left : (a b : Bool) → (a || b) ≡ false → a ≡ false
 or_left false b e = refl
 or_left true b e = absurd cc
 
-original_within : (link : Link) (n : ℕ) → is_bad_original link n ≡ false → n ≤ 2 ^ 31 + 11
+original_within : (link : Link) (n : ℕ) → is_bad_original link n ≡ false → n ≤ most_original
 original_within EthernetLink n e = omega (arith, ltb-false (2 ^ 31 - 1) n e)
-original_within Offload n e = ltb-false (2 ^ 31 + 11) n (or_left _ _ e)
+original_within Offload n e = ltb-false most_original n (or_left _ _ e)
 
-pub original_of : (link : Link) (found : Option RecHead) (head : RecHead) → found ≡ Some head → IfSome found (λ (it : RecHead). is_bad_original link it.original ≡ false) → head.original ≤ 2 ^ 31 + 11
+pub original_of : (link : Link) (found : Option RecHead) (head : RecHead) → found ≡ Some head → IfSome found (λ (it : RecHead). is_bad_original link it.original ≡ false) → head.original ≤ most_original
 original_of link found head e h = original_within link head.original (subst (λ (f : Option RecHead). IfSome f (λ (it : RecHead). is_bad_original link it.original ≡ false)) e h)
 
 -- of a record of Ethernet
@@ -55,13 +56,16 @@ pub original_below : (found : Option RecHead) (head : RecHead) → found ≡ Som
 original_below found head e h =
     omega (arith, ltb-false (2 ^ 31 - 1) head.original (subst (λ (f : Option RecHead). IfSome f (λ (it : RecHead). is_bad_original EthernetLink it.original ≡ false)) e h))
 
-pub captured_of : (p : Held) → p.original < 2 ^ 31 → IsRead p → IsInFields p → IsCaptured (packet_of p)
-captured_of p original read fields = record {
+pub captured_within : (found : Option RecHead) (head : RecHead) → found ≡ Some head → IfSome found (λ (it : RecHead). it.captured ≤ captured_limit EthernetLink) → head.captured ≤ most_frame
+captured_within found head e h = subst (λ (f : Option RecHead). IfSome f (λ (it : RecHead). it.captured ≤ captured_limit EthernetLink)) e h
+
+pub captured_of : (p : Held) → p.original < 2 ^ 31 → length (buffer_bytes p.skb) ≤ most_frame → IsInFields p → IsCaptured (packet_of p)
+captured_of p original short fields = record {
   number = fields.number;
   sec = fields.sec;
   frac = fields.frac;
   original = original;
-  short = read.held.short;
+  short = short;
   in_bytes = fields.in_bytes;
 }
 
@@ -79,22 +83,32 @@ both_each : {A : Type 0} (P Q : A → Type 0) (xs : List A) → AllByRecursion P
 both_each P Q [] a b = tt
 both_each P Q (x ∷ xs) a b = ((a.0, b.0), both_each P Q xs a.1 b.1)
 
-cut_fits : (xs : List Packet) → AllByRecursion Fits xs → AllByRecursion IsRun (cut_of is_mergeable xs)
-cut_fits xs a =
-    let c = one_pass IsMergeable is_mergeable decides_mergeable xs in
-    both_each (λ (run : List Packet). (length run ≡ 1) ⊎ IsMergeable run) (λ (run : List Packet). AllByRecursion Fits run) (cut_of is_mergeable xs) c.each
-    (each_run Fits (cut_of is_mergeable xs) (subst (AllByRecursion Fits) (sym c.joined) a))
+-- of at most `segs` packets, or of one
+is_run : (segs : ℕ) (runs : List (List Packet)) → AllByRecursion (λ (run : List Packet). (length run ≡ 1) ⊎ IsMergeableWithin segs run) runs → AllByRecursion (λ (run : List Packet). (length run ≡ 1) ⊎ IsMergeable run) runs
+is_run segs [] a = tt
+is_run segs (run ∷ runs) a = (one a.0, is_run segs runs a.1)
+  where
+    one : (length run ≡ 1) ⊎ IsMergeableWithin segs run → (length run ≡ 1) ⊎ IsMergeable run
+    one (inl e) = inl e
+    one (inr m) = inr m.0
 
-abbrev runs_of : List Packet → Packet → List (List Packet)
-runs_of ps x = filter (λ (run : List Packet). first_number number_of run == number_of x) (cut_of is_mergeable (filter (is_of (key_in x)) ps))
+cut_fits : (segs : ℕ) (xs : List Packet) → AllByRecursion Fits xs → AllByRecursion IsRun (cut_of (is_mergeable_within segs) xs)
+cut_fits segs xs a =
+    let c = one_pass (IsMergeableWithin segs) (is_mergeable_within segs) (decides_within segs) xs in
+    let runs = cut_of (is_mergeable_within segs) xs in
+    both_each (λ (run : List Packet). (length run ≡ 1) ⊎ IsMergeable run) (λ (run : List Packet). AllByRecursion Fits run) runs (is_run segs runs c.each)
+    (each_run Fits runs (subst (AllByRecursion Fits) (sym c.joined) a))
 
-runs_fit : (ps qs : List Packet) → AllByRecursion Fits ps → AllByRecursion IsRun (flat_map (runs_of ps) qs)
-runs_fit ps [] a = tt
-runs_fit ps (q ∷ qs) a =
-    all_append IsRun (runs_of ps q) (flat_map (runs_of ps) qs)
-    (all_filtered IsRun (λ (run : List Packet). first_number number_of run == number_of q) (cut_of is_mergeable (filter (is_of (key_in q)) ps))
-    (cut_fits (filter (is_of (key_in q)) ps) (all_filtered Fits (is_of (key_in q)) ps a)))
-    (runs_fit ps qs a)
+abbrev runs_of : ℕ → List Packet → Packet → List (List Packet)
+runs_of segs ps x = filter (λ (run : List Packet). first_number number_of run == number_of x) (cut_of (is_mergeable_within segs) (filter (is_of (key_in x)) ps))
+
+runs_fit : (segs : ℕ) (ps qs : List Packet) → AllByRecursion Fits ps → AllByRecursion IsRun (flat_map (runs_of segs ps) qs)
+runs_fit segs ps [] a = tt
+runs_fit segs ps (q ∷ qs) a =
+    all_append IsRun (runs_of segs ps q) (flat_map (runs_of segs ps) qs)
+    (all_filtered IsRun (λ (run : List Packet). first_number number_of run == number_of q) (cut_of (is_mergeable_within segs) (filter (is_of (key_in q)) ps))
+    (cut_fits segs (filter (is_of (key_in q)) ps) (all_filtered Fits (is_of (key_in q)) ps a)))
+    (runs_fit segs ps qs a)
 
 merged_long : (layout : Layout) (first last payload : List ℕ) → length (merged_frame layout first last payload) ≤ layout.payload_at + length payload
 merged_long layout first last payload =
@@ -111,9 +125,8 @@ several_fit p q ps m =
     let run : List Packet = p ∷ q ∷ ps in
     let layout : Layout = m.0 in
     let shape : shape_of p.frame ≡ Some layout = m.1.shapes.at 0 p (omega arith) in
-    let range = in_range p.frame layout (layout.payload_at + length (payloads_of layout run)) shape m.1.fits in
     let long : length (frame_of_run layout run) ≤ layout.payload_at + length (payloads_of layout run) = merged_long layout (frame_at run 0) (frame_at run (length run - 1)) (payloads_of layout run) in
-    subst (λ (r : Merged). Fits r.packet) (sym (merged_of_is p q ps layout shape)) (omega (arith, long, range.0), omega (arith, long, range.0))
+    subst (λ (r : Merged). Fits r.packet) (sym (merged_of_is p q ps layout shape)) (omega (arith, long, m.1.short), omega (arith, long, m.1.short))
 
 merged_fits : (run : List Packet) → IsRun run → Fits (merged_of run).packet
 merged_fits [] r = (omega arith, omega arith)
@@ -123,22 +136,22 @@ merged_fits (p ∷ q ∷ ps) (inr m, fit) = several_fit p q ps m
 
 -- ---- items
 
-pub read_fit : (ps : List Held) → AreRead ps → AllByRecursion Fits (map packet_of ps)
-read_fit [] r = tt
-read_fit (p ∷ ps) r = ((r.0.held.short, r.0.original), read_fit ps r.1)
+pub captured_fit : (ps : List Packet) → AllByRecursion IsCaptured ps → AllByRecursion Fits ps
+captured_fit [] c = tt
+captured_fit (p ∷ ps) c = ((c.0.short, c.0.original), captured_fit ps c.1)
 
 pub items_fit : (items : List Item) → AllByRecursion (λ (m : Merged). Fits m.packet) (map item_of items) → AreSmall items
 items_fit [] a = tt
 items_fit (i ∷ items) a = (a.0, items_fit items a.1)
 
 -- what the runs of packets come to
-pub runs_merge_fit : (ps : List Packet) → AllByRecursion Fits ps → AllByRecursion (λ (m : Merged). Fits m.packet) (map merged_of (runs_in ps))
-runs_merge_fit ps fit = all_mapped IsRun (λ (m : Merged). Fits m.packet) merged_of (runs_in ps) merged_fits (runs_fit ps ps fit)
+pub runs_merge_fit : (segs : ℕ) (ps : List Packet) → AllByRecursion Fits ps → AllByRecursion (λ (m : Merged). Fits m.packet) (map merged_of (runs_in segs ps))
+runs_merge_fit segs ps fit = all_mapped IsRun (λ (m : Merged). Fits m.packet) merged_of (runs_in segs ps) merged_fits (runs_fit segs ps ps fit)
 
--- what packets that were read come to has the lengths of records
-pub items_small : (ps : List Held) (items : List Item) → AreRead ps → map item_of items ≡ map merged_of (runs_in (map packet_of ps)) → AreSmall items
-items_small ps items read are =
-    items_fit items (subst (AllByRecursion (λ (m : Merged). Fits m.packet)) (sym are) (runs_merge_fit (map packet_of ps) (read_fit ps read)))
+-- what packets of a capture come to has the lengths of such packets
+pub items_small : (segs : ℕ) (ps : List Packet) (items : List Item) → AllByRecursion IsCaptured ps → map item_of items ≡ map merged_of (runs_in segs ps) → AreSmall items
+items_small segs ps items captured are =
+    items_fit items (subst (AllByRecursion (λ (m : Merged). Fits m.packet)) (sym are) (runs_merge_fit segs ps (captured_fit ps captured)))
 
 pub small_at : (items : List Item) (i : ℕ) (d : Item) → i < length items → AreSmall items → IsSmall (get_or items i d)
 small_at [] i d lt a = absurd (omega (arith, lt))

@@ -1,12 +1,15 @@
 -- What is written of one record of an offload capture.
-use Rattle.std.specs.Prelude.{ℕ, ◌≡◌, ◌-◌, ◌≤◌, true, false, Option, None, Some, List, [], ◌∷◌, length, Result, Ok, Err}
+use Rattle.std.specs.Prelude.{ℕ, ◌≡◌, ◌+◌, ◌-◌, ◌≤◌, true, false, Option, None, Some, List, [], ◌∷◌, length, Result, Ok, Err}
 use Rattle.std.specs.List.{AllByRecursion, flat_map}
 use Rattle.std.specs.Io.KnownBytes.{Appends, Keeps}
 use Rattle.off_io.specs.Content.{AppendsFront}
 use Rattle.net_bytes.specs.declared.order.Order.{Order}
 use Rattle.pcap_io.specs.Capture.{Packet, packet}
+use Rattle.pcap_io.specs.Headers.{any_head, head_size}
+use Rattle.pcap_io.specs.Limits.{most_frame}
+use Rattle.pcap_io.specs.declared.off_head.AnyHead.{AnyHead}
 use Rattle.skb.specs.SkbState.{buffer_bytes}
-use Rattle.offload_model.specs.Segments.{segments_of}
+use Rattle.offload_model.specs.Segments.{packet_in, segments_of}
 use Rattle.offload_model.specs.Tests.{is_lawful_record}
 use Rattle.offload_model.specs.Written.{record_bytes}
 use Rattle.gro.specs.declared.packet.Packet.{Packet as Held}
@@ -24,9 +27,16 @@ use Rattle.rounds.specs.declared.cut.Refused.TheVariants.{BadOffload, WriteFault
 abbrev pub packets_bytes : Order → List Packet → List ℕ
 packets_bytes order ps = flat_map (record_bytes order) ps
 
--- the packet behind a record's offload header
-abbrev pub packet_behind : Held → Packet
-packet_behind p = packet p.number p.sec p.frac (p.original - 12) (buffer_bytes p.skb)
+-- the packet behind a record's offload header of n bytes, of which none is in the buffer any more
+abbrev pub packet_behind : ℕ → Held → Packet
+packet_behind n p = packet p.number p.sec p.frac (p.original - n) (buffer_bytes p.skb)
+
+-- a record whose offload header is this, and whose packet's bytes are all that is in the buffer
+pub record IsBehind (r : Packet) (head : AnyHead) (p : Held) : Type 0 where
+  pub head_is : any_head r.frame ≡ head
+  pub size : length r.frame ≡ head_size head + length (buffer_bytes p.skb)
+  pub original : r.original ≡ p.original
+  pub behind : packet_in r ≡ packet_behind (head_size head) p
 
 -- the original length of a plan's packets, where it isn't their own length
 abbrev pub original_by : Plan → ℕ → Option ℕ
@@ -47,7 +57,7 @@ stamped_all s frames = flat_map (stamped s) frames
 
 -- these frames are still to be given, and none is longer than a record's may be
 abbrev pub AreShort : List (List ℕ) → Type 0
-AreShort frames = AllByRecursion (λ f. length f ≤ 262144) frames
+AreShort frames = AllByRecursion (λ f. length f ≤ most_frame) frames
 
 abbrev pub AreLeft : List (List ℕ) → Work → Type 0
 AreLeft frames work = IsLeft frames work × AreShort frames

@@ -1,15 +1,15 @@
 -- Blocks as they were taken for a round: each is there once, and with all of its weight.
-use Rattle.std.specs.Prelude.{ℕ, ◌≡◌, ◌+◌, ◌*◌, ◌^◌, ◌<◌, ◌≤◌, List, [], ◌∷◌, Bool, false}
+use Rattle.std.specs.Prelude.{ℕ, ◌≡◌, ◌+◌, ◌-◌, ◌*◌, ◌^◌, ◌<◌, ◌≤◌, List, [], ◌∷◌, Bool, false, length, min}
 use Rattle.std.specs.List.{AllByRecursion}
 use Rattle.ref_core.specs.WeightRule.{full_weight}
 use Rattle.raw_block.specs.Views.{Life, SoleState}
 use Rattle.frags.specs.Account.{Account}
 use Rattle.frags.specs.RoundAccount.{all_blocks, of_lives}
 use Rattle.frags.specs.declared.pieces.Piece.{Piece}
-use Rattle.skb.specs.SkbState.{buffer_bytes, buffer_least, is_sole}
+use Rattle.skb.specs.SkbState.{buffer_bytes, buffer_size, buffer_least, head_size, is_sole}
 use Rattle.offload_model.specs.Laws.{InBytes}
 use Rattle.gro.specs.declared.packet.Packet.{Packet as Held}
-use Rattle.gro.specs.Held.{IsHeld}
+use Rattle.pcap_io.specs.Limits.{most_record, off_head_size, off_head2_size}
 use Rattle.rounds.specs.Marks.{all, OneLife}
 
 -- what is held of a mark, and what is home of it
@@ -34,13 +34,24 @@ abbrev pub WholeFrom : ℕ → List Piece → Type 0
 WholeFrom k [] = Unit {0}
 WholeFrom k (p ∷ ps) = (p.part.weight ≡ full_weight) × (p.part.mark ≡ k) × WholeFrom (k + 1) ps
 
--- a packet that was read: its head is shared already, behind headroom, no part has given anything away, and its header was lawful
+-- what is read of a record into blocks: a frame, or what stands behind the bytes that every offload header has
+abbrev pub most_read : ℕ
+most_read = most_record - off_head_size
+
+-- the original length of a record, with an offload header or without
+abbrev pub most_original : ℕ
+most_original = 2 ^ 31 - 1 + off_head2_size
+
+-- a packet that was read: its first block is full or has all of it, its head is shared already, behind headroom, no part
+-- has given anything away, and its header was lawful
 pub record IsRead (p : Held) : Type 0 where
-  pub held : IsHeld p
+  pub size : buffer_size p.skb ≡ length (buffer_bytes p.skb)
+  pub front : min (buffer_size p.skb) (2048 - 64) ≤ head_size p.skb
+  pub short : length (buffer_bytes p.skb) ≤ most_read
   pub shared : is_sole p.skb.head ≡ false
   pub least : buffer_least p.skb ≡ full_weight
   pub headroom : p.skb.from ≡ 64
-  pub original : p.original ≤ 2 ^ 31 + 11
+  pub original : p.original ≤ most_original
 
 -- and what was read is held in fields of 32 bits and in bytes
 pub record IsInFields (p : Held) : Type 0 where

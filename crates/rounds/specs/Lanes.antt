@@ -6,7 +6,7 @@ use Rattle.pcap_io.specs.Capture.{Packet}
 use Rattle.frags.specs.Account.{Account, both}
 use Rattle.offload_model.specs.Merged.{Merged}
 use Rattle.offload_model.specs.Segments.{with_head}
-use Rattle.offload_model.specs.Written.{Options, head_of, record_bytes}
+use Rattle.offload_model.specs.Written.{Options, head_of, record_bytes, shown_of}
 use Rattle.gro.specs.declared.item.Item.{Item}
 use Rattle.gro.specs.Items.{item_of}
 use Rattle.gro.specs.Table.{of_items, AreReady, ItemsWeighAtLeast}
@@ -95,8 +95,8 @@ pub record IsSmallWork (items : List Item) (lanes : Lanes) : Type 0 where
 -- All merged in lanes, each item may be cut, and beside them stands a clone of each packet.
 pub record IsKeptWorkOf (options : Options) (ps : List Packet) (w : WorkedState) : Type 0 where
   pub none : w.items ≡ []
-  pub merged : AreMerged options.queues ps w.lanes.queues.items
-  pub watched : AreWatched options.snap options.taps ps w.lanes.taps.items
+  pub merged : AreMerged options.segs options.spread options.queues ps w.lanes.queues.items
+  pub watched : AreWatched options.snap options.taps (map (shown_of options.filter) ps) w.lanes.taps.items
   pub ready : All (λ (l : QueueLane). AreReady l.items.items) w.lanes.queues.items
   pub weigh : All (λ (l : QueueLane). ItemsWeighAtLeast 2048 l.items.items) w.lanes.queues.items
   pub kept : map packet_of_clone w.kept ≡ ps

@@ -11,6 +11,7 @@ use Rattle.offload_model.specs.Need.{packets_within, round_need}
 use Rattle.offload_model.specs.Passing.{Ending, Stopped, Nowhere, AtFault, AtRound, ReadFault, WriteFault, NoMemory, merging, Passes}
 use Rattle.offload_model.specs.Steps.{GoesOn, ending_behind}
 use Rattle.offload_model.specs.Written.{Options}
+use Rattle.round_work.specs.Work.{options_by}
 use Rattle.rounds.specs.Record.{in_front}
 use Rattle.rounds.specs.RoundsState.{RoundsState}
 use Rattle.rounds.specs.declared.round.RoundEnd.{RoundEnd}
@@ -29,7 +30,7 @@ ending_of ends.WriteFault = WriteFault
 ending_of ends.NoMemory = NoMemory
 
 abbrev pub options_of : RoundsState → Options
-options_of rounds = record { budget = rounds.budget; queues = rounds.queues; taps = rounds.taps; snap = rounds.snap }
+options_of rounds = options_by rounds.plan rounds.budget
 
 -- ---- a round that is written
 

@@ -9,6 +9,7 @@ use Rattle.pcap_io.specs.declared.faults.InFault.{InFault}
 use Rattle.pcap_io.specs.declared.faults.InFault.TheVariants as faults
 use Rattle.pcap_io.specs.Capture.{Packet, Found, packet, ended}
 use Rattle.pcap_io.specs.Laws.{frame_length}
+use Rattle.pcap_io.specs.Limits.{off_head_size}
 use Rattle.pcap_io.specs.Lengths.{lengths_at}
 use Rattle.pcap_io.specs.Places.{found_at, IsReady, short_record}
 use Rattle.pcap_io.specs.Reading.{FewerGone, Loses}
@@ -17,10 +18,10 @@ use Rattle.offload_model.specs.Need.{need_of, needed}
 use Rattle.rounds.specs.declared.record.Stop.{Stop}
 use Rattle.rounds.specs.declared.record.Stop.TheVariants.{End, Malformed, PoolEmpty, ReadFault, NoMemory}
 
--- how many bytes stand in front of a record's frame: of link type 147 the offload header
+-- how many bytes of a record are read in front of its blocks: of link type 147 those that every offload header has
 abbrev pub front_size : Link → ℕ
 front_size links.Ethernet = 0
-front_size links.Offload = 12
+front_size links.Offload = off_head_size
 
 -- the record of a packet that was read behind these bytes
 abbrev pub record_of : List ℕ → Held → Packet

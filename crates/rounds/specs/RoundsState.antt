@@ -4,17 +4,15 @@ use Rattle.gro.specs.declared.packet.Packet.{Packet}
 use Rattle.gro.specs.declared.item.Item.{Item}
 use Rattle.taps.specs.declared.clones.TapClone.{TapClone}
 use Rattle.round_work.specs.declared.lanes.Lanes.{Lanes}
+use Rattle.round_work.specs.declared.plan.Plan.{Plan}
 
--- and how many packets a round may have, how many queues and taps there are, how many bytes a tap reads of a packet, and whether
--- a clone of each packet is kept
+-- and how many packets a round may have, how its work is divided, and whether a clone of each packet is kept
 pub record RoundsState : Type 0 where
   pub home : ℕ
   pub blocks : ℕ
   pub taken : ℕ
   pub budget : ℕ
-  pub queues : ℕ
-  pub taps : ℕ
-  pub snap : ℕ
+  pub plan : Plan
   pub keep : Bool
 
 -- of the side that reads: its blocks, and how many packets a round may have

@@ -4,6 +4,7 @@ use Rattle.std.specs.Io.KnownBytes.{Appends, Keeps}
 use Rattle.pcap_io.specs.declared.place.Place.{Place}
 use Rattle.pcap_io.specs.declared.faults.CapKind.TheVariants.{BadOffload}
 use Rattle.pcap_io.specs.Capture.{Packet, one_more}
+use Rattle.pcap_io.specs.Limits.{off_head_size}
 use Rattle.pcap_io.specs.Places.{found_at}
 use Rattle.offload_model.specs.Need.{need_of}
 use Rattle.offload_model.specs.Passing.{Ending, Stopped, AtFault, AtRound, ReadFault, WriteFault, NoMemory, segmenting, Passes}
@@ -42,7 +43,7 @@ Moves blocks from to old new (Err fault) bytes left = Passes (segmenting blocks 
 abbrev pub TakesOne : ℕ → ℕ → Place → Place → List ℕ → List ℕ → Type 0
 TakesOne old new from to bytes left =
     (gone : List ℕ) × ((r : Packet) × ((bytes ≡ gone ++ left) × ((tail : List ℕ) → found_at from (gone ++ tail) ≡ one_more r (found_at to tail))
-    × (min (old + need_of (length r.frame - 12)) (2 ^ 64 - 1) ≤ new)))
+    × (min (old + need_of (length r.frame - off_head_size)) (2 ^ 64 - 1) ≤ new)))
 
 -- what a stop comes to
 abbrev pub IsMovedOf : Stop → Result Moved SegFault → Type 0

@@ -4,7 +4,6 @@ use Rattle.ref_core.specs.WeightRule.{full_weight}
 use Rattle.raw_block.specs.Views.{ReceiptState}
 use Rattle.block_pool.specs.PoolState.{PoolState, home}
 use Rattle.frags.specs.Account.{Account, Tests, counted, both}
-use Rattle.frags.specs.OutcomesState.{OutcomesState}
 use Rattle.frags.specs.RoundAccount.{Settles}
 use Rattle.rounds.specs.Marks.{IsMarked}
 use Rattle.rounds.specs.declared.table.Place.{Place}

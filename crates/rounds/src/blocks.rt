@@ -6,7 +6,7 @@ ghost use Rattle.frags.specs.PieceList.{size_of, bytes_of};
 ghost use Rattle.skb.specs.SkbState.{buffer_bytes};
 ghost use Rattle.gro.specs.Held.{of_packet, count_of};
 ghost use Rattle.rounds.specs.Data.{data_of};
-ghost use Rattle.rounds.specs.Fresh.{IsFresh, IsRead, MarkedFrom, WholeFrom};
+ghost use Rattle.rounds.specs.Fresh.{IsFresh, IsRead, MarkedFrom, WholeFrom, most_original, most_read};
 ghost use Rattle.offload_model.specs.Need.{data_blocks, need_of};
 
 use block_pool::{Empty, Pool};
@@ -19,7 +19,7 @@ use std::collections::VecDeque;
 
 /// How many blocks hold `len` bytes behind their headroom.
 pub(crate) fn blocks_of(len: u32) -> u32
-    requires few { len ≤ 262144 }
+    requires few { len ≤ most_read }
     ensures blocks { result ≡ data_blocks len }
 {
     (len + 2111) / 2048
@@ -111,13 +111,13 @@ pub(crate) fn make_packet(
     len: u32,
     first: u32,
 ) -> Packet
-    requires len { len ≤ 262144 }
+    requires len { len ≤ most_read }
     requires empty { builder.pieces ≡ [] }
     requires room { data_blocks len ≤ builder.room + 1 }
     requires marks { MarkedFrom first hold.old.items }
     requires count { length hold.old.items ≡ need_of len }
     requires range { first + 1 < 2 ^ 32 }
-    requires original { head.now.original ≤ 2 ^ 31 + 11 }
+    requires original { head.now.original ≤ most_original }
     ensures fresh { IsFresh first (need_of len) (of_packet result) }
     ensures count { count_of result ≡ need_of len }
     ensures read { IsRead result }

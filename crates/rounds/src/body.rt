@@ -7,7 +7,7 @@ ghost use Rattle.pcap_io.specs.Places.{ReadsOn};
 ghost use Rattle.pcap_io.specs.Reading.{GivesBody};
 ghost use Rattle.pcap_io.specs.Readers.{place_of, source_of, SameLoan};
 ghost use Rattle.rounds.specs.Data.{GivesFrame, data_of};
-ghost use Rattle.rounds.specs.Fresh.{MarkedFrom};
+ghost use Rattle.rounds.specs.Fresh.{MarkedFrom, most_read};
 ghost use Rattle.offload_model.specs.Need.{data_blocks};
 ghost use Rattle.offload_model.specs.Laws.{InBytes};
 
@@ -56,7 +56,7 @@ pub(crate) fn read_frame<S: Source>(
     hold: &mut VecDeque<Sole>,
     len: u32,
 ) -> Result<(), InFault>
-    requires len { len ≤ 262144 }
+    requires len { len ≤ most_read }
     requires body { (place_of reader.old).body ≡ length front.old + len }
     requires blocks { data_blocks len ≤ length hold.old.items }
     ensures same_source { SameLoan reader.old reader.new }

@@ -5,26 +5,30 @@ ghost use Rattle.off_io.specs.Faults.{HasCause, Rose};
 ghost use Rattle.off_io.specs.Content.{AppendsFront};
 ghost use Rattle.block_pool.specs.PoolState.{home};
 ghost use Rattle.frags.specs.Account.{both, of_sole};
-ghost use Rattle.skb.specs.SkbState.{is_sole, buffer_bytes, of_buffer};
-ghost use Rattle.gro.specs.Held.{of_packet, count_of};
+ghost use Rattle.skb.specs.SkbState.{is_sole, buffer_bytes, buffer_least, of_buffer};
+ghost use Rattle.pcap_io.specs.Capture.{Packet as Record};
+ghost use Rattle.pcap_io.specs.Limits.{most_frame, off_head_size, off_head2_size};
+ghost use Rattle.skb.specs.Fronts.{IsFronted};
+ghost use Rattle.gro.specs.Held.{of_packet, count_of, packet_of};
 ghost use Rattle.gso.specs.Cutting.{count_of as cutter_count, head_of, of_work};
 ghost use Rattle.gso.specs.Planning.{IsPlanOf, packets_by};
 ghost use Rattle.rounds.specs.Fresh.{IsRead};
 ghost use Rattle.rounds.specs.Held.{blocks_in};
 ghost use Rattle.rounds.specs.Marks.{IsRound, nothing};
 ghost use Rattle.rounds.specs.Record.{record_of};
-ghost use Rattle.rounds.specs.Cutting.{AreLeft, TakesTurn, Writes, WritesRecord, original_by, packet_behind, packets_bytes, stamped, stamped_all};
+ghost use Rattle.rounds.specs.Cutting.{AreLeft, IsBehind, TakesTurn, Writes, WritesRecord, original_by, packets_bytes, stamped, stamped_all};
 ghost use Rattle.frags.specs.OutcomesState.{IsBare};
 ghost use Rattle.rounds.specs.Table.{AllOpen, Comes, MayCome};
 
 use crate::home::bring_packet;
+use crate::opening::take_head;
 use crate::table::{Place, reopen, sweep};
 use block_pool::Pool;
 use frags::Outcomes;
 use gro::Packet;
 use gso::{BadOffload, Cut, Cutter, Plan, check_super};
 use off_io::{Sink, WriteFault};
-use pcap_io::{FileHead, OFF_HEAD_LEN, OffHead};
+use pcap_io::{AnyHead, FileHead, OFF_HEAD_LEN};
 use raw_block::Sole;
 use round_write::{Time, write_record};
 use skb::Skb;
@@ -57,12 +61,12 @@ pub(crate) struct Stamp {
 
 // A plan's packet has an original length of its own where it is the one behind the offload header.
 fn single_original(plan: &Plan, original: u32) -> Option<u32>
-    requires long { 12 ≤ original }
-    ensures by { result ≡ original_by plan.now (original - 12) }
-    ensures few { IfSome result (λ n. n + 12 < 2 ^ 32) }
+    requires within { original < 2 ^ 31 }
+    ensures by { result ≡ original_by plan.now original }
+    ensures few { IfSome result (λ n. n + off_head2_size < 2 ^ 32) }
 {
     match plan {
-        Plan::Single => Some(original - OFF_HEAD_LEN as u32),
+        Plan::Single => Some(original),
         Plan::Nothing => None,
         Plan::Segments(_, _) => None,
     }
@@ -70,8 +74,8 @@ fn single_original(plan: &Plan, original: u32) -> Option<u32>
 
 // Writes a packet.
 fn write_packet<K: Sink>(sink: &mut K, stamp: &Stamp, segment: &Skb) -> Result<(), WriteFault>
-    requires short { length (buffer_bytes segment.now) ≤ 262144 }
-    requires few { IfSome stamp.now.original (λ n. n + 12 < 2 ^ 32) }
+    requires short { length (buffer_bytes segment.now) ≤ most_frame }
+    requires few { IfSome stamp.now.original (λ n. n + off_head2_size < 2 ^ 32) }
     ensures ok { OnOk result (Appends (K.held sink.old) (K.held sink.new) (stamped stamp.now (buffer_bytes segment.now))) }
     ensures err { OnErr result (AppendsFront (K.held sink.old) (K.held sink.new) (stamped stamp.now (buffer_bytes segment.now))) }
     ensures cause { HasCause (K.faults sink.old) (K.faults sink.new) result }
@@ -136,7 +140,7 @@ fn write_next<K: Sink>(
     out: &mut Outcomes,
 ) -> (Sole, Result<Turn, Refused>)
     requires left { (frames : List (List ℕ)) × AreLeft frames cutter.old }
-    requires few { IfSome stamp.now.original (λ n. n + 12 < 2 ^ 32) }
+    requires few { IfSome stamp.now.original (λ n. n + off_head2_size < 2 ^ 32) }
     requires shared { is_sole (head_of cutter.old) ≡ false }
     requires may { MayCome (both (of_work cutter.old) (of_sole spare)) pool.old places.old }
     requires bare { IsBare out.old }
@@ -173,7 +177,7 @@ fn write_all<K: Sink>(
     out: &mut Outcomes,
 ) -> (Sole, Result<(), Refused>)
     requires left { (frames : List (List ℕ)) × AreLeft frames cutter.old }
-    requires few { IfSome stamp.now.original (λ n. n + 12 < 2 ^ 32) }
+    requires few { IfSome stamp.now.original (λ n. n + off_head2_size < 2 ^ 32) }
     requires shared { is_sole (head_of cutter.old) ≡ false }
     requires may { MayCome (both (of_work cutter.old) (of_sole spare)) pool.old places.old }
     requires bare { IsBare out.old }
@@ -218,7 +222,7 @@ fn bring_rest(
     sweep(pool, places, out);
 }
 
-// Writes the packets of a record's plan, and brings its blocks home.
+// Writes the packets of a record's plan, and brings its blocks home. The packet has no offload header any more.
 fn write_plan<K: Sink>(
     sink: &mut K,
     file: &FileHead,
@@ -228,13 +232,15 @@ fn write_plan<K: Sink>(
     places: &mut [Place],
     out: &mut Outcomes,
 ) -> Result<(), Refused>
-    requires read { IsRead packet }
-    requires original { 12 ≤ packet.original }
+    requires shared { is_sole packet.skb.head ≡ false }
+    requires least { 2048 ≤ buffer_least packet.skb }
+    requires short { length (buffer_bytes packet.skb) ≤ most_frame }
+    requires original { packet.original < 2 ^ 31 }
     requires plan { IsPlanOf packet.skb plan }
     requires may { MayCome (of_packet packet) pool.old places.old }
     requires bare { IsBare out.old }
     requires spare { count_of packet ≤ out.old.spare }
-    ensures writes { Writes (packets_bytes file.now.order (packets_by plan (packet_behind packet))) (K.held sink.old) (K.held sink.new) result }
+    ensures writes { Writes (packets_bytes file.now.order (packets_by plan (packet_of packet))) (K.held sink.old) (K.held sink.new) result }
     ensures comes { Comes (of_packet packet) nothing pool.old places.old pool.new places.new }
     ensures bare { IsBare out.new }
     ensures later { K.faults sink.old ≤ K.faults sink.new }
@@ -260,19 +266,56 @@ fn write_plan<K: Sink>(
     wrote
 }
 
-// Judges a record as a whole, writes its packets, and brings its blocks home.
+// Judges a record as a whole, writes its packets, and brings its blocks home. The buffer has what stands behind the
+// offload header; the original length counts the header all the same.
 fn write_judged<K: Sink>(
     sink: &mut K,
     file: &FileHead,
-    front: &[u8; 12],
+    head: &AnyHead,
     packet: Packet,
     pool: &mut Pool,
     places: &mut [Place],
     out: &mut Outcomes,
 ) -> Result<(), Refused>
-    requires long { length front.now ≡ 12 }
+    requires shared { is_sole packet.skb.head ≡ false }
+    requires least { 2048 ≤ buffer_least packet.skb }
+    requires front { IsFronted packet.skb }
+    requires original { off_head_size ≤ packet.original }
+    requires may { MayCome (of_packet packet) pool.old places.old }
+    requires bare { IsBare out.old }
+    requires spare { count_of packet ≤ out.old.spare }
+    ensures writes { (r : Record) → IsBehind r head.now packet → WritesRecord file.now.order r (K.held sink.old) (K.held sink.new) result }
+    ensures comes { Comes (of_packet packet) nothing pool.old places.old pool.new places.new }
+    ensures bare { IsBare out.new }
+    ensures later { K.faults sink.old ≤ K.faults sink.new }
+    ensures failed { result ≡ Err Refused.WriteFault → Rose (K.faults sink.old) (K.faults sink.new) }
+{
+    match check_super(head, &packet.skb, packet.original) {
+        Ok(plan) => {
+            let mut packet = packet;
+            packet.original -= head.size();
+            write_plan(sink, file, packet, plan, pool, places, out)
+        }
+        Err(BadOffload) => {
+            bring_packet(pool, places, out, packet);
+            Err(Refused::BadOffload)
+        }
+    }
+}
+
+// Takes the offload header off a record, judges it, writes its packets, and brings its blocks home.
+fn write_opened<K: Sink>(
+    sink: &mut K,
+    file: &FileHead,
+    front: &[u8; OFF_HEAD_LEN],
+    packet: Packet,
+    pool: &mut Pool,
+    places: &mut [Place],
+    out: &mut Outcomes,
+) -> Result<(), Refused>
+    requires long { length front.now ≡ off_head_size }
     requires read { IsRead packet }
-    requires original { 12 ≤ packet.original }
+    requires original { off_head_size ≤ packet.original }
     requires may { MayCome (of_packet packet) pool.old places.old }
     requires bare { IsBare out.old }
     requires spare { count_of packet ≤ out.old.spare }
@@ -282,10 +325,10 @@ fn write_judged<K: Sink>(
     ensures later { K.faults sink.old ≤ K.faults sink.new }
     ensures failed { result ≡ Err Refused.WriteFault → Rose (K.faults sink.old) (K.faults sink.new) }
 {
-    let head = OffHead::read(front);
-    match check_super(&head, &packet.skb, packet.original) {
-        Ok(plan) => write_plan(sink, file, packet, plan, pool, places, out),
-        Err(BadOffload) => {
+    let mut packet = packet;
+    match take_head(front, &mut packet.skb, out) {
+        Some(head) => write_judged(sink, file, &head, packet, pool, places, out),
+        None => {
             bring_packet(pool, places, out, packet);
             Err(Refused::BadOffload)
         }
@@ -296,15 +339,15 @@ fn write_judged<K: Sink>(
 fn cut_all<K: Sink>(
     sink: &mut K,
     file: &FileHead,
-    front: &[u8; 12],
+    front: &[u8; OFF_HEAD_LEN],
     packet: Packet,
     pool: &mut Pool,
     places: &mut [Place],
     out: &mut Outcomes,
 ) -> Result<(), Refused>
-    requires long { length front.now ≡ 12 }
+    requires long { length front.now ≡ off_head_size }
     requires read { IsRead packet }
-    requires original { 12 ≤ packet.original }
+    requires original { off_head_size ≤ packet.original }
     requires round { IsRound (length places.old) (of_packet packet) }
     requires room { home pool.old + length places.old ≤ pool.old.made }
     requires open { AllOpen places.old }
@@ -319,25 +362,25 @@ fn cut_all<K: Sink>(
     ensures later { K.faults sink.old ≤ K.faults sink.new }
     ensures failed { result ≡ Err Refused.WriteFault → Rose (K.faults sink.old) (K.faults sink.new) }
 {
-    let wrote = write_judged(sink, file, front, packet, pool, places, out);
+    let wrote = write_opened(sink, file, front, packet, pool, places, out);
     reopen(places);
     wrote
 }
 
-/// Writes the packets that a record stands for, whose offload header is `front`, where the record is lawful, and brings all of its
-/// blocks home, whatever the answer.
+/// Writes the packets that a record stands for, whose first bytes are `front`, where the record is lawful, and brings all
+/// of its blocks home, whatever the answer.
 pub(crate) fn cut_record<K: Sink>(
     sink: &mut K,
     file: &FileHead,
-    front: &[u8; 12],
+    front: &[u8; OFF_HEAD_LEN],
     packet: Packet,
     pool: &mut Pool,
     table: &mut [Place],
     out: &mut Outcomes,
 ) -> Result<(), Refused>
-    requires long { length front.now ≡ 12 }
+    requires long { length front.now ≡ off_head_size }
     requires read { IsRead packet }
-    requires original { 12 ≤ packet.original }
+    requires original { off_head_size ≤ packet.original }
     requires round { IsRound (count_of packet) (of_packet packet) }
     requires few { (count_of packet ≤ length table.old) × (length table.old ≤ 65536) }
     requires room { home pool.old + count_of packet ≤ pool.old.made }

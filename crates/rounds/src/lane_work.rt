@@ -54,7 +54,7 @@ fn keep_if(
 impl Rounds {
     // Whether one queue is all there is, so that no lane is made.
     fn is_plain(&self) -> bool
-        ensures plain { result ≡ true → (self.now.queues ≡ 1) × (self.now.taps ≡ 0) × (self.now.keep ≡ false) }
+        ensures plain { result ≡ true → (self.now.plan.queues ≡ 1) × (self.now.plan.taps ≡ 0) × (self.now.keep ≡ false) }
     {
         self.plan.queues == 1 && self.plan.taps == 0 && !self.keep
     }
@@ -62,7 +62,7 @@ impl Rounds {
     // Merges the packets of a round in one queue.
     fn merge_round<G: Gate>(&mut self, round: Round, gate: &G) -> Result<Worked, AllocError>
         requires out { self.old.home + round.blocks ≤ self.old.blocks }
-        requires plain { (self.old.queues ≡ 1) × (self.old.taps ≡ 0) }
+        requires plain { (self.old.plan.queues ≡ 1) × (self.old.plan.taps ≡ 0) }
         ensures records { IfOk result (λ worked. worked_records worked ≡ round_records (options_of self.old) (map packet_of round.packets)) }
         ensures ready { IfOk result (λ worked. AreReady worked.items × All (λ lane. AreReady lane.items.items) worked.lanes.queues.items) }
         ensures worked { IfOk result (λ worked. worked.blocks ≡ round.blocks) }
@@ -167,10 +167,10 @@ impl Rounds {
         }
     }
 
-    /// Works a round: queue by queue what the runs of its flows come to, in the order of their first packets, and tap by tap the
-    /// windows of the packets as they were read. Each queue and each tap is a leaf of one tree of joins, which passes the gate at
-    /// point 0 before its work and at point 1 after it; one queue alone is worked in the thread that calls. For want of memory all
-    /// blocks of the round are home.
+    /// Works a round: queue by queue what the runs of its flows come to, in the order of their first packets, and tap by tap
+    /// the windows of what is shown of the packets as they were read. Each queue and each tap is a leaf of one tree of
+    /// joins, which passes the gate at point 0 before its work and at point 1 after it; one queue alone is worked in the
+    /// thread that calls. For want of memory all blocks of the round are home.
     pub fn work_round<R: Threads + Sync, G: Gate + Sync>(
         &mut self,
         rt: &R,
@@ -188,9 +188,8 @@ impl Rounds {
         if self.is_plain() {
             return self.merge_round(round, gate);
         }
-        let plan = self.plan;
         let mut kept = self.keep_round(round)?;
-        let lanes = work_packets(rt, self.alloc, &mut kept.packets, &plan, gate);
+        let lanes = work_packets(rt, self.alloc, &mut kept.packets, &self.plan, gate);
         self.settle(kept, lanes)
     }
 
@@ -211,9 +210,8 @@ impl Rounds {
         if self.is_plain() {
             return self.merge_round(round, gate);
         }
-        let plan = self.plan;
         let mut kept = self.keep_round(round)?;
-        let lanes = work_packets_alone(self.alloc, &mut kept.packets, &plan, gate);
+        let lanes = work_packets_alone(self.alloc, &mut kept.packets, &self.plan, gate);
         self.settle(kept, lanes)
     }
 }

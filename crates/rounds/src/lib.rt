@@ -9,14 +9,18 @@
 //! A record is judged in this order: its header, whether the round then needs more blocks than there are, its body. So a
 //! record that is too big for the pool takes no block, and one that is cut short or whose source fails leaves none out.
 //!
+//! Of a record of link type 147 the first 12 bytes are read apart, as every offload header has them, and the need is that
+//! of the bytes behind them. The last 4 bytes of a header of version 2 so stand in the first block, in front of the frame,
+//! until the header is taken off.
+//!
 //! Proved, by the names of the clauses of [`Rounds`]:
 //!
 //! - `given` of `read_round`: the packets are the next ones of the capture, and the end is told by its bytes alone; `PoolEmpty` exactly
 //!   where the round's need first exceeds the blocks, with that need, judged by the record's header.
-//! - `records` of `work_round`: the records that are written of the round are those of the model, queue by queue what the maximal runs
-//!   of each flow come to, in the order of their first packets, and then tap by tap its windows of the packets as they were read,
-//!   whatever the order in which the lanes run; of `work_round_alone` the same. `checked`: where clones are kept, all that a comparison
-//!   of the items with the packets wants to know.
+//! - `records` of `work_round`: the records that are written of the round are those of the model, queue by queue what the
+//!   maximal runs of each flow come to, in the order of their first packets, and then tap by tap its windows of what is
+//!   shown of the packets as they were read, whatever the order in which the lanes run; of `work_round_alone` the same.
+//!   `checked`: where clones are kept, all that a comparison of the items with the packets wants to know.
 //! - `totals` of `check_round`: what is counted where each segment of the items is compared with the packet of its flow at that place, of
 //!   which a clone was kept: that all come back, byte for byte.
 //! - `ok`, `err` of `write_round`: byte for byte what is written of a round that was worked.
@@ -51,7 +55,8 @@
 //! lanes, and for the clones that are kept.
 //!
 //! ```
-//! let mut rounds = Rounds::make(alloc, blocks, 64, 4, 1, 64, false)?;
+//! let plan = Plan { queues: 4, taps: 1, snap: 64, choice: Choice::Fold, segs: 4096, filter: None };
+//! let mut rounds = Rounds::make(alloc, blocks, 64, plan, false)?;
 //! let end = rounds.merge_all(&rt, &mut reader, &file, &mut sink, &gate);
 //! ```
 #![tactic(auto)]
@@ -68,6 +73,7 @@ mod lane_home;
 mod lane_work;
 mod memory;
 mod merge;
+mod opening;
 mod reading;
 mod record;
 mod round;

@@ -8,7 +8,7 @@ ghost use Rattle.pcap_io.specs.declared.heads.Link.TheVariants.{Ethernet};
 ghost use Rattle.pcap_io.specs.Places.{IsReady, found_at};
 ghost use Rattle.pcap_io.specs.Readers.{place_of, source_of, SameLoan};
 ghost use Rattle.offload_model.specs.Need.{round_need};
-ghost use Rattle.offload_model.specs.Passing.{merging, Passes, flushes};
+ghost use Rattle.offload_model.specs.Passing.{merging, Passes, FrontUnless, flushes};
 ghost use Rattle.offload_model.specs.Steps.{round_output};
 ghost use Rattle.gro.specs.Held.{packet_of};
 ghost use Rattle.rounds.specs.Lanes.{worked_bytes};
@@ -205,6 +205,7 @@ impl Rounds {
         requires home { self.old.home ≡ self.old.blocks }
         ensures same_source { SameLoan reader.old reader.new }
         ensures given { Told (S.left (source_of reader.old)) (S.left (source_of reader.new)) (Steps number self.old.blocks (options_of self.old) (place_of reader.old) (place_of reader.new) (K.held sink.old) (K.held sink.new) self.old.taken self.new.taken result) }
+        ensures front { IfEnds result (λ _. FrontUnless (Rose (S.faults (source_of reader.old)) (S.faults (source_of reader.new))) (merging self.old.blocks (options_of self.old) (place_of reader.old)) (S.left (source_of reader.old)) (S.left (source_of reader.new)) (K.held sink.old) (K.held sink.new)) }
         ensures moves { result ≡ Step.Goes → MovesOn (place_of reader.old) (place_of reader.new) }
         ensures flushed { IfEnds result (λ end. flushes (ending_of end) ≡ true → SaysFlushed (K.held sink.new) (K.is_flushed sink.new) true) }
         ensures home { self.new.home ≡ self.new.blocks }
@@ -236,6 +237,7 @@ impl Rounds {
         requires home { self.old.home ≡ self.old.blocks }
         ensures same_source { SameLoan reader.old reader.new }
         ensures given { Told (S.left (source_of reader.old)) (S.left (source_of reader.new)) (Steps number self.old.blocks (options_of self.old) (place_of reader.old) (place_of reader.new) (K.held sink.old) (K.held sink.new) self.old.taken self.new.taken result) }
+        ensures front { IfEnds result (λ _. FrontUnless (Rose (S.faults (source_of reader.old)) (S.faults (source_of reader.new))) (merging self.old.blocks (options_of self.old) (place_of reader.old)) (S.left (source_of reader.old)) (S.left (source_of reader.new)) (K.held sink.old) (K.held sink.new)) }
         ensures moves { result ≡ Step.Goes → MovesOn (place_of reader.old) (place_of reader.new) }
         ensures flushed { IfEnds result (λ end. flushes (ending_of end) ≡ true → SaysFlushed (K.held sink.new) (K.is_flushed sink.new) true) }
         ensures home { self.new.home ≡ self.new.blocks }
@@ -255,7 +257,8 @@ impl Rounds {
     /// Merges the records of a capture, round by round, up to its end: each round is read, worked, written and ended. The sink is
     /// flushed once, after the last write.
     ///
-    /// `given` says of each ending what was read and written, and `captured` that the packets are such as a capture may hold. A read
+    /// `given` says of each ending what was read and written, `front` that this is a front of what comes of all the bytes that were
+    /// given, unless the source failed, and `captured` that the packets are such as a capture may hold. A read
     /// fault or a write fault only where the count of the source or the sink rose. All blocks are home again, whatever the ending.
     pub fn merge_all<R: Threads + Sync, S: Source, K: Sink, G: Gate + Sync>(
         &mut self,
@@ -271,6 +274,7 @@ impl Rounds {
         requires home { self.old.home ≡ self.old.blocks }
         ensures same_source { SameLoan reader.old reader.new }
         ensures given { Told (S.left (source_of reader.old)) (S.left (source_of reader.new)) (Passes (merging self.old.blocks (options_of self.old) (place_of reader.old)) (K.held sink.old) (K.held sink.new) (ending_of result)) }
+        ensures front { FrontUnless (Rose (S.faults (source_of reader.old)) (S.faults (source_of reader.new))) (merging self.old.blocks (options_of self.old) (place_of reader.old)) (S.left (source_of reader.old)) (S.left (source_of reader.new)) (K.held sink.old) (K.held sink.new) }
         ensures flushed { flushes (ending_of result) ≡ true → SaysFlushed (K.held sink.new) (K.is_flushed sink.new) true }
         ensures home { self.new.home ≡ self.new.blocks }
         ensures same { (self.new.blocks ≡ self.old.blocks) × (options_of self.new ≡ options_of self.old) × (self.new.keep ≡ self.old.keep) }
@@ -305,6 +309,7 @@ impl Rounds {
         requires home { self.old.home ≡ self.old.blocks }
         ensures same_source { SameLoan reader.old reader.new }
         ensures given { Told (S.left (source_of reader.old)) (S.left (source_of reader.new)) (Passes (merging self.old.blocks (options_of self.old) (place_of reader.old)) (K.held sink.old) (K.held sink.new) (ending_of result)) }
+        ensures front { FrontUnless (Rose (S.faults (source_of reader.old)) (S.faults (source_of reader.new))) (merging self.old.blocks (options_of self.old) (place_of reader.old)) (S.left (source_of reader.old)) (S.left (source_of reader.new)) (K.held sink.old) (K.held sink.new) }
         ensures flushed { flushes (ending_of result) ≡ true → SaysFlushed (K.held sink.new) (K.is_flushed sink.new) true }
         ensures home { self.new.home ≡ self.new.blocks }
         ensures same { (self.new.blocks ≡ self.old.blocks) × (options_of self.new ≡ options_of self.old) × (self.new.keep ≡ self.old.keep) }

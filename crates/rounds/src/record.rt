@@ -10,7 +10,7 @@ ghost use Rattle.pcap_io.specs.Headers.{is_bad_original};
 ghost use Rattle.pcap_io.specs.Places.{IsReady, ReadsOn};
 ghost use Rattle.pcap_io.specs.Readers.{place_of, source_of, SameLoan};
 ghost use Rattle.gro.specs.Held.{of_packet, packet_of, count_of};
-ghost use Rattle.rounds.specs.Fresh.{IsFresh, IsInFields, IsRead};
+ghost use Rattle.rounds.specs.Fresh.{IsFresh, IsInFields, IsRead, most_original, most_read};
 ghost use Rattle.rounds.specs.Record.{front_size, GivesPacket, GivesRecord, GoesOn, IsStopOf, record_in};
 ghost use Rattle.offload_model.specs.Need.{need_of};
 ghost use Rattle.offload_model.specs.Captured.{IsCaptured};
@@ -57,9 +57,9 @@ fn read_packet<S: Source>(
     len: u32,
     used: u32,
 ) -> Result<Packet, Stop>
-    requires len { len ≤ 262144 }
+    requires len { len ≤ most_read }
     requires whole { head.now.captured ≡ length front.old + len }
-    requires original { head.now.original ≤ 2 ^ 31 + 11 }
+    requires original { head.now.original ≤ most_original }
     requires body { (place_of reader.old).body ≡ head.now.captured }
     requires empty { hold.old.items ≡ [] }
     requires capacity { 131 ≤ deque_capacity hold.old }

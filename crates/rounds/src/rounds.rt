@@ -15,6 +15,7 @@ ghost use Rattle.frags.specs.Account.{both};
 ghost use Rattle.gro.specs.Held.{packet_of, of_packets, counts_of};
 ghost use Rattle.taps.specs.Clones.{blocks_of, of_clones};
 ghost use Rattle.round_work.specs.Lanes.{of_lanes, counts_of_queues};
+ghost use Rattle.round_work.specs.Work.{IsPlan};
 ghost use Rattle.rounds.specs.Fresh.{NumberedFrom};
 ghost use Rattle.rounds.specs.Lanes.{worked_bytes, AreSpent};
 ghost use Rattle.rounds.specs.Marks.{IsRound};
@@ -72,9 +73,9 @@ impl Model for Rounds {
 
     ghost Value = { RoundsState };
 
-    ghost view = { λ r. record { home = home_of r.pool; blocks = r.pool.made; taken = r.pool.taken; budget = r.budget; queues = r.plan.queues; taps = r.plan.taps; snap = r.plan.snap; keep = r.keep } };
+    ghost view = { λ r. record { home = home_of r.pool; blocks = r.pool.made; taken = r.pool.taken; budget = r.budget; plan = r.plan; keep = r.keep } };
 
-    ghost invariant = { λ r. (r.pool.made ≤ 65536) × (r.hold.items ≡ []) × (131 ≤ deque_capacity r.hold) × AllOpen r.places.items × (length r.places.items ≡ r.pool.made) × IsBare r.out × (r.pool.made + r.pool.made ≤ r.out.spare + (home_of r.pool + home_of r.pool)) × (r.packets.items ≡ []) × (r.items.items ≡ []) × (r.table.runs ≡ []) × (1 ≤ r.budget) × (r.budget ≤ 4096) × IsPlan r.plan };
+    ghost invariant = { λ r. (r.pool.made ≤ 65536) × (r.hold.items ≡ []) × (131 ≤ deque_capacity r.hold) × AllOpen r.places.items × (length r.places.items ≡ r.pool.made) × IsBare r.out × (r.pool.made + r.pool.made ≤ r.out.spare + (home_of r.pool + home_of r.pool)) × (r.packets.items ≡ []) × (r.items.items ≡ []) × (r.table.runs ≡ []) × (1 ≤ r.budget) × (r.budget ≤ 4096) × IsPlan r.plan × (r.table.segs ≡ r.plan.segs) };
 }
 
 impl Drop for Rounds {
@@ -89,7 +90,7 @@ impl Drop for Rounds {
             items,
             table,
             budget: _,
-            plan: _,
+            plan: _plan,
             keep: _,
         } = self;
         close_places(places);
@@ -100,13 +101,18 @@ impl Drop for Rounds {
     }
 }
 
-// The packets of a round of `budget`, and the table that merges them.
-fn round_lists(alloc: Global, budget: u32) -> Result<(VecDeque<Packet>, RoundTable), AllocError>
+// The packets of a round of `budget`, and the table that merges them in runs of at most `segs`.
+fn round_lists(
+    alloc: Global,
+    budget: u32,
+    segs: u32,
+) -> Result<(VecDeque<Packet>, RoundTable), AllocError>
     ensures packets { IfOk result (λ lists. lists.0.items ≡ []) }
     ensures table { IfOk result (λ lists. lists.1.runs ≡ []) }
+    ensures segs { IfOk result (λ lists. lists.1.segs ≡ segs) }
 {
     let packets = VecDeque::with_capacity(alloc, budget as usize)?;
-    match RoundTable::make(alloc, budget) {
+    match RoundTable::make(alloc, budget, segs) {
         Ok(table) => Ok((packets, table)),
         Err(error) => {
             packets.destroy_empty();
@@ -116,25 +122,21 @@ fn round_lists(alloc: Global, budget: u32) -> Result<(VecDeque<Packet>, RoundTab
 }
 
 impl Rounds {
-    /// Rounds of up to `budget` records over `blocks` blocks, worked in `queues` receive queues, beside which each of `taps` taps
-    /// reads windows of `snap` bytes. Where `keep`, a clone of each packet stands beside the work of its round, for [`Rounds::check_round`].
-    /// All memory for blocks, for what comes back of them and for the packets of a round is taken here; the lanes of several queues or
-    /// of taps, and clones that are kept, take more in each round.
+    /// Rounds of up to `budget` records over `blocks` blocks, whose work is divided by `plan`. Where `keep`, a clone of
+    /// each packet stands beside the work of its round, for [`Rounds::check_round`]. All memory for blocks, for what comes
+    /// back of them and for the packets of a round is taken here; the lanes of several queues or of taps, and clones that
+    /// are kept, take more in each round.
     pub fn make(
         alloc: Global,
         blocks: u32,
         budget: u32,
-        queues: u32,
-        taps: u32,
-        snap: u32,
+        plan: Plan,
         keep: bool,
     ) -> Result<Rounds, AllocError>
         requires blocks { (1 ≤ blocks) × (blocks ≤ 65536) }
         requires budget { (1 ≤ budget) × (budget ≤ 4096) }
-        requires queues { (1 ≤ queues) × (queues ≤ 64) }
-        requires taps { taps ≤ 8 }
-        requires snap { (1 ≤ snap) × (snap ≤ 2048) }
-        ensures made { IfOk result (λ rounds. rounds ≡ record { home = blocks; blocks = blocks; taken = 0; budget = budget; queues = queues; taps = taps; snap = snap; keep = keep }) }
+        requires plan { IsPlan plan }
+        ensures made { IfOk result (λ rounds. rounds ≡ record { home = blocks; blocks = blocks; taken = 0; budget = budget; plan = plan; keep = keep }) }
     {
         let hold = VecDeque::with_capacity(alloc, RECORD_BLOCKS)?;
         let pool = Pool::make(alloc, blocks)?;
@@ -146,7 +148,7 @@ impl Rounds {
                 return Err(error);
             }
         };
-        let lists = match round_lists(alloc, budget) {
+        let lists = match round_lists(alloc, budget, plan.segs) {
             Ok(lists) => lists,
             Err(error) => {
                 close_places(places);
@@ -165,7 +167,7 @@ impl Rounds {
             items: Vec::new(alloc),
             table,
             budget,
-            plan: Plan { queues, taps, snap },
+            plan,
             keep,
         })
     }

@@ -10,7 +10,7 @@ ghost use Rattle.rounds.specs.Lanes.{bytes_of_items, queue_bytes, text_bytes, ta
 
 use gro::Item;
 use off_io::{Sink, WriteFault};
-use pcap_io::{FileHead, OffHead};
+use pcap_io::FileHead;
 use round_work::{Lanes, QueueLane, TapLane};
 use round_write::{Time, write_item, write_window};
 use taps::{TapText, TapTexts};
@@ -72,15 +72,6 @@ fn write_text<K: Sink>(
     ensures err { OnErr result (AppendsFront (K.held sink.old) (K.held sink.new) (text_bytes file.now.order tap (shown_text text.now))) }
     ensures cause { HasCause (K.faults sink.old) (K.faults sink.new) result }
 {
-    let head = OffHead {
-        version: 1,
-        kind: 2,
-        n: 0,
-        m: 0,
-        modes: 0,
-        lane: tap,
-        number: text.number,
-    };
     let time = Time {
         sec: text.sec,
         frac: text.frac,
@@ -90,7 +81,7 @@ fn write_text<K: Sink>(
         file,
         time,
         text.bytes.len() as u32,
-        Some(head),
+        Some(text.head(tap)),
         text.bytes,
     )
 }

@@ -14,7 +14,7 @@ with_first : (g : given.Over) (c : In-Ends g)
     (reader_at g.S.Source.left g.S.Source.faults c.step.new.reader c.step.new.self.taken) (g.K.Sink.held c.step.new.sink) c.in-Ends.end
 with_first g c =
     let s = c.in-Ends.ensures in
-    ended_first c.args.rounds.now _ _ _ _ _ s.given s.captured s.taken s.read
+    ended_first c.args.rounds.now _ _ _ _ _ s.given s.captured s.taken s.read s.front
 
 pub returns-in-Ends-clause-given : goal.returns-in-Ends-clause-given
 returns-in-Ends-clause-given g c = (with_first g c).given
@@ -24,6 +24,9 @@ returns-in-Ends-clause-taken g c = (with_first g c).taken
 
 pub returns-in-Ends-clause-captured : goal.returns-in-Ends-clause-captured
 returns-in-Ends-clause-captured g c = (with_first g c).captured
+
+pub returns-in-Ends-clause-front : goal.returns-in-Ends-clause-front
+returns-in-Ends-clause-front g c = (with_first g c).front
 
 pub merge_on-requires-clause-may : goal.merge_on-requires-clause-may
 merge_on-requires-clause-may g c κs within =
@@ -50,6 +53,9 @@ returns-in-Goes-clause-captured g c = (behind_first g c).captured
 
 pub returns-in-Goes-clause-read : goal.returns-in-Goes-clause-read
 returns-in-Goes-clause-read g c = (behind_first g c).read
+
+pub returns-in-Goes-clause-front : goal.returns-in-Goes-clause-front
+returns-in-Goes-clause-front g c = (behind_first g c).front
 
 pub returns-in-Goes-clause-flushed : goal.returns-in-Goes-clause-flushed
 returns-in-Goes-clause-flushed g c = c.merge_on.ensures.went.flushed

@@ -1,7 +1,7 @@
 use Rattle.std.proofs.Common.{◌∙◌, refl, arith}
 use Rattle.rounds.specs.Merging.{options_of}
 use Rattle.rounds.specs.declared.merge.Step.TheVariants.{Goes, Ends}
-use Rattle.rounds.proofs.Merging.{goes_then, steps_as}
+use Rattle.rounds.proofs.Merging.{goes_then, fronts_as, steps_as}
 use Rattle.round_pipeline.specs.Reads.{reader_at}
 use Rattle.round_pipeline.proofs.Written.{ended_so}
 use Rattle.round_pipeline.proofs.merge.merge_rest.Goals as goal
@@ -62,7 +62,8 @@ returns-in-Ends-clause-went g c =
     let new = c.step.new in
     record {
       ended = λ start b. ended_so first.blocks first c.args.file.now start l.number _ (reader_at g.S.Source.left g.S.Source.faults l.reader l.rounds.taken) _ (g.K.Sink.held l.sink) (g.K.Sink.held new.sink) c.in-Ends.end (i.gone start b) i.later
-          (steps_as l.number l.rounds first l.reader.place new.reader.place _ _ _ _ l.rounds.taken new.self.taken (Ends c.in-Ends.end) i.blocks i.options s.given) s.captured s.taken s.read;
+          (steps_as l.number l.rounds first l.reader.place new.reader.place _ _ _ _ l.rounds.taken new.self.taken (Ends c.in-Ends.end) i.blocks i.options s.given) s.captured s.taken s.read
+          (fronts_as l.rounds first l.reader.place _ _ _ _ _ i.blocks i.options s.front);
       flushed = s.flushed;
       home = s.home;
       same = (s.same.0 ∙ i.blocks, s.same.1 ∙ i.options, s.same.2 ∙ i.keep);

@@ -39,11 +39,9 @@ returns-clause-read c =
     let size = ap size_of is_rest in
     let least = ap least_weight is_rest ∙ whole_least (c.args.first + 1) rest.result rest.ensures.whole in
     record {
-      held = record {
-        size = omega (arith, c.len.ensures.size, c.len.ensures.bytes);
-        front = omega (arith, from, to, size, rest.ensures.size, c.min-in_head.ensures);
-        short = omega (arith, c.len.ensures.size, c.len.ensures.bytes, from, to, size, rest.ensures.size, c.min-in_head.ensures, c.requires.len);
-      };
+      size = omega (arith, c.len.ensures.size, c.len.ensures.bytes);
+      front = omega (arith, from, to, size, rest.ensures.size, c.min-in_head.ensures);
+      short = omega (arith, c.len.ensures.size, c.len.ensures.bytes, from, to, size, rest.ensures.size, c.min-in_head.ensures, c.requires.len);
       shared = lent_is_part s b.head head;
       least = omega (arith, least, lent_weighs s b.head head);
       headroom = from;

@@ -2,11 +2,11 @@ use Rattle.std.proofs.Common.{ℕ, List, map, refl, sym, ap, ◌∙◌, subst}
 use Rattle.frags.specs.Account.{Account, both, of_sole}
 use Rattle.skb.specs.SkbState.{is_sole, of_buffer}
 use Rattle.pcap_io.specs.Capture.{Packet}
-use Rattle.gro.specs.Held.{of_packet}
+use Rattle.gro.specs.Held.{of_packet, packet_of}
 use Rattle.gso.specs.Cutting.{of_work}
 use Rattle.gso.specs.Planning.{packets_by}
 use Rattle.rounds.specs.declared.cut.Stamp.{Stamp}
-use Rattle.rounds.specs.Cutting.{packet_behind, packets_bytes, stamped_all}
+use Rattle.rounds.specs.Cutting.{packets_bytes, stamped_all}
 use Rattle.rounds.specs.Table.{Comes, MayCome}
 use Rattle.rounds.proofs.Coming.{comes_last, may_rest}
 use Rattle.rounds.proofs.Packets.{plan_bytes, plan_short, writes_at}
@@ -16,13 +16,13 @@ use Rattle.rounds.proofs.cut.write_plan.Goals as goal
 pub write_all-spare1-requires-clause-left : goal.write_all-spare1-requires-clause-left
 write_all-spare1-requires-clause-left g c =
     let k = c.args.packet in
-    let p = packet_behind k in (
+    let p = packet_of k in (
       map (λ (q : Packet). q.frame) (packets_by c.args.plan p),
-      (c.start-cutter.ensures.left p refl, plan_short k.skb c.args.plan p refl c.requires.read.held.short c.requires.plan),
+      (c.start-cutter.ensures.left p refl, plan_short k.skb c.args.plan p refl c.requires.short c.requires.plan),
     )
 
 pub write_all-spare1-requires-clause-shared : goal.write_all-spare1-requires-clause-shared
-write_all-spare1-requires-clause-shared g c = ap is_sole c.start-cutter.ensures.head ∙ c.requires.read.shared
+write_all-spare1-requires-clause-shared g c = ap is_sole c.start-cutter.ensures.head ∙ c.requires.shared
 
 pub write_all-spare1-requires-clause-may : goal.write_all-spare1-requires-clause-may
 write_all-spare1-requires-clause-may g c =
@@ -52,8 +52,8 @@ returns-clause-comes g c =
 pub returns-clause-writes : goal.returns-clause-writes
 returns-clause-writes g c =
     let k = c.args.packet in
-    let p = packet_behind k in
+    let p = packet_of k in
     let frames : List (List ℕ) = map (λ (q : Packet). q.frame) (packets_by c.args.plan p) in
     let stamp : Stamp = record { file = c.args.file.now; time = record { sec = k.sec; frac = k.frac }; original = c.single_original.result } in
     writes_at (packets_bytes c.args.file.now.order (packets_by c.args.plan p)) (stamped_all stamp frames) _ _ c.write_all-spare1.result.1 (plan_bytes stamp c.args.plan p refl refl c.single_original.ensures.by)
-    (c.write_all-spare1.ensures.writes frames (c.start-cutter.ensures.left p refl, plan_short k.skb c.args.plan p refl c.requires.read.held.short c.requires.plan))
+    (c.write_all-spare1.ensures.writes frames (c.start-cutter.ensures.left p refl, plan_short k.skb c.args.plan p refl c.requires.short c.requires.plan))

@@ -1,6 +1,4 @@
-use Rattle.std.proofs.Common.{List, sym, subst, ap, arith}
-use Rattle.gro.specs.Held.{counts_of}
-use Rattle.taps.specs.declared.clones.TapClone.{TapClone}
+use Rattle.std.proofs.Common.{ap, arith}
 use Rattle.taps.specs.Clones.{blocks_of}
 use Rattle.rounds.proofs.Keeping.{after_none}
 use Rattle.rounds.proofs.LaneCounts.{no_clones}

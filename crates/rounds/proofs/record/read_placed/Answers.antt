@@ -1,10 +1,10 @@
-use Rattle.std.proofs.Common.{◌≡◌, arith, subst, false}
+use Rattle.std.proofs.Common.{◌≡◌, ◌≤◌, arith, subst, false}
 use Rattle.std.specs.Prelude.{IfSome}
 use Rattle.pcap_io.specs.declared.heads.Link.{Link}
 use Rattle.pcap_io.specs.declared.heads.RecHead.{RecHead}
-use Rattle.pcap_io.specs.Headers.{is_bad_original}
+use Rattle.pcap_io.specs.Headers.{captured_limit, is_bad_original}
 use Rattle.rounds.proofs.Recording.{head_stop_given, end_given, empty_given, cut_given, whole_given, none_from}
-use Rattle.rounds.proofs.Small.{original_of, original_below, captured_of}
+use Rattle.rounds.proofs.Small.{original_of, original_below, captured_of, captured_within}
 use Rattle.rounds.proofs.record.read_placed.Goals as goal
 
 pub returns-in-Err-clause-given : goal.returns-in-Err-clause-given
@@ -37,4 +37,7 @@ read_packet-requires-clause-original g c = original_of c.args.reader.now.place.l
 pub returns-in-Ok-read_packet-clause-captured : goal.returns-in-Ok-read_packet-clause-captured
 returns-in-Ok-read_packet-clause-captured g c =
     let r = c.in-Ok-read_packet in
-    λ ethernet. captured_of r.packet (omega (arith, r.ensures.original, original_below c.in-Ok.found c.in-Some.head c.in-Some.is (subst (λ (link : Link). IfSome c.in-Ok.found (λ (it : RecHead). is_bad_original link it.original ≡ false)) ethernet c.in-Ok.ensures.original))) r.ensures.read r.ensures.in_fields
+    let found = c.in-Ok.found in
+    λ ethernet. captured_of r.packet
+    (omega (arith, r.ensures.original, original_below found c.in-Some.head c.in-Some.is (subst (λ (link : Link). IfSome found (λ (it : RecHead). is_bad_original link it.original ≡ false)) ethernet c.in-Ok.ensures.original)))
+    (omega (arith, r.ensures.size, captured_within found c.in-Some.head c.in-Some.is (subst (λ (link : Link). IfSome found (λ (it : RecHead). it.captured ≤ captured_limit link)) ethernet c.in-Ok.ensures.limit))) r.ensures.in_fields

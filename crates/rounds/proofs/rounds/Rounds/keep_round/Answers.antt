@@ -5,10 +5,20 @@ use Rattle.round_work.specs.Lanes.{of_lanes}
 use Rattle.rounds.specs.Kept.{IsKept}
 use Rattle.rounds.specs.RoundsState.{RoundsState, RoundState}
 use Rattle.rounds.specs.declared.lane_work.Kept.{Kept}
-use Rattle.rounds.proofs.Keeping.{are_kept, round_kept}
+use Rattle.rounds.proofs.Keeping.{are_held, are_kept, round_kept, weigh_full}
 use Rattle.rounds.proofs.LaneCounts.{lanes_empty}
 use Rattle.rounds.proofs.Taking.{fresh_round}
+use Rattle.rounds.proofs.Working.{are_shared}
 use Rattle.rounds.proofs.rounds.Rounds.keep_round.Goals as goal
+
+pub keep_if-requires-clause-held : goal.keep_if-requires-clause-held
+keep_if-requires-clause-held c = are_held c.round.inside.packets.items c.round.invariant.1 c.round.invariant.4
+
+pub keep_if-requires-clause-shared : goal.keep_if-requires-clause-shared
+keep_if-requires-clause-shared c = are_shared c.round.inside.packets.items c.round.invariant.1
+
+pub keep_if-requires-clause-whole : goal.keep_if-requires-clause-whole
+keep_if-requires-clause-whole c = weigh_full c.round.inside.packets.items c.round.invariant.1
 
 pub bring_back-requires-clause-round : goal.bring_back-requires-clause-round
 bring_back-requires-clause-round c =
@@ -23,4 +33,4 @@ returns-in-Ok-clause-kept c =
     let e = c.in-Ok.ensures in
     let k : Kept = record { packets = c.keep_if.new.packets; kept = c.keep_if.new.kept; blocks = r.blocks } in
     subst (λ (z : RoundState). IsKept c.args.self.now.keep (map packet_of z.packets) z.blocks k) c.round.view_is
-    (are_kept c.args.self.now.keep r.blocks r.packets.items k refl c.round.invariant.0 c.round.invariant.1 c.round.invariant.2 c.round.invariant.3 (omega (arith, c.requires.out, c.self.invariant.0, ap (λ (s : RoundsState). s.blocks) c.self.view_is, ap (λ (r : RoundState). r.blocks) c.round.view_is)) e.after e.kept e.fewer (λ keep. e.all (ap (λ (s : RoundsState). s.keep) c.self.view_is ∙ keep)))
+    (are_kept c.args.self.now.keep r.blocks r.packets.items k refl c.round.invariant.0 c.round.invariant.4 c.round.invariant.2 c.round.invariant.3 (omega (arith, c.requires.out, c.self.invariant.0, ap (λ (s : RoundsState). s.blocks) c.self.view_is, ap (λ (r : RoundState). r.blocks) c.round.view_is)) e.after e.kept e.fewer (λ keep. e.all (ap (λ (s : RoundsState). s.keep) c.self.view_is ∙ keep)))

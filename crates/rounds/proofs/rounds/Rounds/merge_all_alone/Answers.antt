@@ -1,7 +1,8 @@
 use Rattle.std.proofs.Common.{◌∙◌, refl, arith}
+use Rattle.off_io.specs.Faults.{Rose}
 use Rattle.rounds.specs.Merging.{options_of}
 use Rattle.rounds.specs.declared.merge.Step.TheVariants.{Goes, Ends}
-use Rattle.rounds.proofs.Merging.{ahead_none, goes_then, ends_then, taken_then, captured_then, steps_as}
+use Rattle.rounds.proofs.Merging.{ahead_none, goes_then, ends_then, taken_then, captured_then, fronts_then, fronts_as, steps_as}
 use Rattle.rounds.proofs.rounds.Rounds.merge_all_alone.Goals as goal
 
 pub rounds-init : goal.rounds-init
@@ -70,3 +71,13 @@ returns-in-Ends-clause-captured g c =
     let new = c.step_alone.new in
     captured_then first.blocks (options_of first) l.number c.args.reader.now.place l.reader.place new.reader.place _ _ _ _ _ _ first.taken l.self.taken new.self.taken c.in-Ends.end i.told
     (steps_as l.number l.self first l.reader.place new.reader.place _ _ _ _ l.self.taken new.self.taken (Ends c.in-Ends.end) i.blocks i.options c.in-Ends.ensures.given) c.in-Ends.ensures.captured
+
+pub returns-in-Ends-clause-front : goal.returns-in-Ends-clause-front
+returns-in-Ends-clause-front g c =
+    let l = c.rounds in
+    let i = l.invariant in
+    let first = c.args.self.now in
+    let new = c.step_alone.new in
+    fronts_then first.blocks (options_of first) l.number c.args.reader.now.place l.reader.place new.reader.place _ _ _ _ _ _ first.taken l.self.taken new.self.taken
+    (Rose (g.S.Source.faults l.reader.source.now) (g.S.Source.faults new.reader.source.now)) _ (λ rose. omega (arith, i.later, rose)) i.told
+    (fronts_as l.self first l.reader.place _ _ _ _ _ i.blocks i.options c.in-Ends.ensures.front)

@@ -66,3 +66,15 @@ returns-clause-read g c =
     (step_says first.blocks first c.args.file.now c.args.reader.now.place mid.reader.place read.round.packets c.requires.file r.budget.0 (omega (arith, r.need, r.home)) c.args.number
     (g.S.Source.left c.args.reader.now.source.now) (g.S.Source.left mid.reader.source.now) (g.K.Sink.held c.args.sink.now) (g.K.Sink.held p.new.sink) first.taken p.new.self.taken r.captured
     (Rose (g.S.Source.faults c.args.reader.now.source.now) (g.S.Source.faults mid.reader.source.now)) read.end p.result r.full r.fewer took r.failed r.given (options_of mid.self) r.same.1 p.ensures.puts p.ensures.gives).read
+
+pub returns-clause-front : goal.returns-clause-front
+returns-clause-front g c =
+    let first = c.args.self.now in
+    let mid = c.read_round-read.new in
+    let r = c.read_round-read.ensures in
+    let read = c.read_round-read.result in
+    let p = c.put_read_alone in
+    let took : min (first.taken + round_need (map packet_of read.round.packets)) (2 ^ 64 - 1) ≤ p.new.self.taken = omega (arith, r.taken, r.need, ap (λ (s : RoundsState). s.taken) p.ensures.home) in
+    (step_says first.blocks first c.args.file.now c.args.reader.now.place mid.reader.place read.round.packets c.requires.file r.budget.0 (omega (arith, r.need, r.home)) c.args.number
+    (g.S.Source.left c.args.reader.now.source.now) (g.S.Source.left mid.reader.source.now) (g.K.Sink.held c.args.sink.now) (g.K.Sink.held p.new.sink) first.taken p.new.self.taken r.captured
+    (Rose (g.S.Source.faults c.args.reader.now.source.now) (g.S.Source.faults mid.reader.source.now)) read.end p.result r.full r.fewer took r.failed r.given (options_of mid.self) r.same.1 p.ensures.puts p.ensures.gives).front

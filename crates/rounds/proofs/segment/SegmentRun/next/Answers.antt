@@ -1,6 +1,7 @@
 use Rattle.std.proofs.Common.{◌≡◌, ℕ, ◌++◌, ◌≤◌, length, take, drop, refl, sym, ap, ◌∙◌, subst, arith, Ok, Err}
 use Rattle.skb.specs.SkbState.{buffer_bytes}
 use Rattle.off_io.specs.Told.{Told}
+use Rattle.pcap_io.specs.Limits.{off_head_size}
 use Rattle.pcap_io.specs.declared.heads.FileHead.{FileHead}
 use Rattle.offload_model.specs.Need.{need_of}
 use Rattle.rounds.specs.declared.segment.Moved.TheVariants.{One}
@@ -51,7 +52,7 @@ returns-clause-given g c =
     let homes = ap (λ (s : SegmentState). s.home) c.self.view_is in
     let h = g.K.Sink.held c.args.sink.now in
     let k = g.K.Sink.held w.new.sink in
-    let long : length front ≡ 12 = r.ensures.front in
+    let long : length front ≡ off_head_size = r.ensures.front in
     let fits : need_of (length (buffer_bytes p.skb)) ≤ made = omega (arith, c.in-Ok.ensures.need, c.in-Ok.ensures.home, c.requires.home, blocks, homes) in
     let next = next_is made old new front p long fits c.in-Ok.ensures.next.file c.in-Ok.ensures.behind in
     let wrote = subst (λ (f : FileHead). WritesRecord f.order (record_of front p) h k w.result) c.file-file.ensures.file w.ensures.writes in
@@ -73,7 +74,7 @@ returns-clause-taken g c = λ one.
     let w = c.cut_record-wrote in
     let front = r.new.front in
     let p = c.in-Ok.read.0 in
-    let long : length front ≡ 12 = r.ensures.front in
+    let long : length front ≡ off_head_size = r.ensures.front in
     let before = ap (λ (s : SegmentState). s.taken) c.self.view_is in
     takes_one _ _ c.self.inside.pool.made 0 c.args.self.now.taken w.new.pool.taken c.args.reader.now.place r.new.reader.place front p
     (omega (arith, need_is front p long, before, c.in-Ok.ensures.need, c.in-Ok.ensures.taken, w.ensures.made.1)) c.in-Ok.ensures.given
