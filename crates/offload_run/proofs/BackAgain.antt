@@ -1,5 +1,5 @@
 -- Every flow comes back of what merging makes of some bytes; and what is said where nothing was read.
-use Rattle.std.proofs.Common.{◌≡◌, ℕ, ◌*◌, ◌<◌, ◌≤◌, List, [], ◌++◌, length, length-append, length-take, take, drop, refl, sym, ap, ◌∙◌, subst, arith, append_assoc, take-append-drop, Option, Some, None, Ok, Err, Bool, true, if◌then◌else◌}
+use Rattle.std.proofs.Common.{◌≡◌, ℕ, ◌*◌, ◌<◌, List, [], ◌++◌, length, length-append, length-take, take, drop, refl, sym, ap, ◌∙◌, subst, arith, append_assoc, take-append-drop, Option, Some, None, Ok, Err, Bool, true, if◌then◌else◌}
 use Rattle.std.specs.Prelude.{is_some, nat_lt, IfSome}
 use Rattle.std.specs.List.{AllByRecursion}
 use Rattle.std.proofs.KnownBytes.{Appends-nil, Keeps-refl}
@@ -19,6 +19,7 @@ use Rattle.pcap_io.specs.Headers.{first_that_holds, file_refusals, file_head}
 use Rattle.pcap_io.specs.Capture.{Packet, Found}
 use Rattle.pcap_io.specs.Places.{first_place, found_at}
 use Rattle.pcap_io.specs.Reading.{GivesFile}
+use Rattle.frame_layout.proofs.Choices.{queue_below}
 use Rattle.offload_model.specs.Captured.{IsCaptured, AreOptions}
 use Rattle.offload_model.specs.Written.{Options}
 use Rattle.offload_model.specs.Need.{exceeded_at, found_before, packets_within}
@@ -59,7 +60,7 @@ merged_rising None blocks budget given =
 
 -- options in their ranges
 pub lawful_options : (o : MergeOptions) → IsInRange o → AreOptions (options o)
-lawful_options o range = record { budget = range.2; some = range.0; queues = range.1; taps = range.5 }
+lawful_options o range = record { budget = range.2; some = range.0; queues = range.1; below = λ key. queue_below o.choice o.queues key range.0 range.10; taps = range.5 }
 
 -- packets that are captured each come back
 flows_back : (blocks : ℕ) (o : Options) → AreOptions o → (given : List ℕ) → AllByRecursion IsCaptured (merged_packets blocks o.budget given) → FlowsComeBack o (merged_packets blocks o.budget given)

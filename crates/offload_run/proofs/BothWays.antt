@@ -1,5 +1,5 @@
 -- Merging and then segmenting brings every flow back.
-use Rattle.std.proofs.Common.{◌≡◌, ℕ, ◌+◌, ◌<◌, inl, inr, Option, List, [], take, drop, refl, sym, ap, subst, arith, if◌then◌else◌}
+use Rattle.std.proofs.Common.{◌≡◌, ℕ, ◌+◌, ◌<◌, inl, inr, Option, List, [], take, drop, sym, ap, subst, arith, if◌then◌else◌}
 use Rattle.std.specs.Prelude.{is_some}
 use Rattle.std.proofs.lemmas.List.{get_or-take, get_or_past, get_or-drop, length-take}
 use Rattle.std.proofs.lemmas.Bool.{cases_lt}
@@ -9,8 +9,8 @@ use Rattle.pcap_io.specs.declared.heads.Link.TheVariants.{Ethernet}
 use Rattle.pcap_io.specs.Headers.{file_head, order_of}
 use Rattle.pcap_io.specs.Capture.{Packet, reads}
 use Rattle.offload_model.specs.Laws.{InBytes}
-use Rattle.offload_model.specs.Written.{Options, written}
-use Rattle.offload_model.specs.Captured.{AreCaptured, AreOptions}
+use Rattle.offload_model.specs.Written.{written}
+use Rattle.offload_model.specs.Captured.{AreCaptured}
 use Rattle.offload_model.proofs.Captured.{number_small, captures_are_captured}
 use Rattle.offload_model.specs.Tested.{segmented_of}
 use Rattle.offload_model.specs.CaptureLaws.{BringsBack}

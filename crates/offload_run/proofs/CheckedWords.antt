@@ -1,12 +1,11 @@
 -- What `check` answers, in plain words.
-use Rattle.std.proofs.Common.{◌≡◌, ◌<◌, ◌^◌, ◌+◌, ℕ, zero, suc, List, [], ◌∷◌, ◌++◌, length, map, take, drop, refl, sym, ap, ◌∙◌, subst, Option, Some, None, Bool, if◌then◌else◌}
+use Rattle.std.proofs.Common.{◌≡◌, ◌<◌, ◌^◌, ◌+◌, ℕ, List, [], ◌∷◌, map, take, drop, refl, sym, ap, ◌∙◌, subst, Option, None, Bool, if◌then◌else◌}
 use Rattle.std.specs.Prelude.{is_some}
 use Rattle.std.specs.List.{AllByRecursion, range_with_len, sum_by}
 use Rattle.std.proofs.lemmas.List.Sums.{sum_by-cons}
-use Rattle.std.specs.Io.KnownBytes.{Appends, Keeps}
+use Rattle.std.specs.Io.KnownBytes.{Appends}
 use Rattle.off_io.specs.Content.{AppendsFront}
 use Rattle.pcap_io.specs.declared.heads.Link.TheVariants.{Ethernet}
-use Rattle.pcap_io.specs.declared.faults.CapFault.{CapFault}
 use Rattle.pcap_io.specs.Headers.{file_head}
 use Rattle.pcap_io.specs.Capture.{Packet, Found, found_after, reads}
 use Rattle.pcap_io.specs.Places.{found_at, first_place}
@@ -14,18 +13,19 @@ use Rattle.cap_make.specs.Capture.{made, made_packets}
 use Rattle.cap_make.specs.Laws.{MadeReadsBack}
 use Rattle.offload_model.specs.Need.{exceeded_at, found_before}
 use Rattle.offload_model.specs.Rounds.{rounds_of}
-use Rattle.offload_model.specs.Passing.{Stop, IsNoRound}
-use Rattle.offload_model.specs.Passing as passing
+use Rattle.offload_model.specs.Passing.{IsNoRound}
 use Rattle.offload_model.specs.Written.{Options}
 use Rattle.offload_words.specs.declared.merge.MergeOptions.{MergeOptions}
 use Rattle.offload_words.specs.declared.check.CheckOptions.{CheckOptions}
 use Rattle.check_totals.specs.declared.totals.QueueTotals.{QueueTotals}
-use Rattle.check_totals.specs.Counts.{Counts, totals_of, queue_totals, queue_sum}
+use Rattle.offload_model.specs.Captured.{AreCaptured}
+use Rattle.offload_model.proofs.Flows.{rounds_captured}
+use Rattle.check_totals.proofs.Returning.{records_return}
+use Rattle.check_totals.specs.Counts.{totals_of, queue_totals, queue_sum}
 use Rattle.check_totals.specs.Lines.{check_lines}
 use Rattle.check_totals.specs.Checking.{checking, checking_whole}
 use Rattle.offload_run.specs.declared.status.Status.{Status}
 use Rattle.offload_run.specs.declared.status.Status.TheVariants as statuses
-use Rattle.offload_run.specs.Ending.{ending_of, Ends}
 use Rattle.offload_run.specs.Output.{options}
 use Rattle.offload_run.specs.Checking.{ReadAnswers, CheckAnswers, ChecksTo, checking_made}
 use Rattle.offload_run.specs.PlainWords.{refusal, merge_exceeds, checked_of, checked_before, CheckSays, made_lines, MadeSays, EveryRecordReturns, InPlainWords}
@@ -42,7 +42,7 @@ check_found given = found_at (first_place (file_head (take 24 given)) Ethernet 0
 abbrev lines_of : MergeOptions → List Packet → List ℕ
 lines_of o packets = check_lines (totals_of (options o) packets)
 
-check_is : (o : MergeOptions) (given : List ℕ)
+pub check_is : (o : MergeOptions) (given : List ℕ)
     → Is (refusal Ethernet given) (found_before o.budget (check_e o given) (check_found given)) (check_e o given)
     (lines_of o (found_before o.budget (check_e o given) (check_found given)).packets) (checking_whole o.blocks (options o) given)
 check_is o given =
@@ -163,15 +163,15 @@ same_sum (q ∷ qs) all =
     ∙ ap (λ n. q.records + n) (same_sum qs all.1)
     ∙ sym (sum_by-cons (λ (x : QueueTotals). x.records) q qs)
 
-of_rounds : (o : Options) (q : ℕ) (rounds : List (List Packet)) → AllByRecursion Returns (map (queue_totals o q) rounds)
-of_rounds o q [] = tt
-of_rounds o q (ps ∷ rounds) = (refl, of_rounds o q rounds)
+of_rounds : (o : Options) (q : ℕ) (rounds : List (List Packet)) → AllByRecursion AreCaptured rounds → AllByRecursion Returns (map (queue_totals o q) rounds)
+of_rounds o q [] each = tt
+of_rounds o q (ps ∷ rounds) each = (records_return o q ps each.0, of_rounds o q rounds each.1)
 
-of_queues : (o : Options) (rounds : List (List Packet)) (qs : List ℕ) → AllByRecursion Returns (map (λ q. queue_sum (map (queue_totals o q) rounds)) qs)
-of_queues o rounds [] = tt
-of_queues o rounds (q ∷ qs) = (same_sum (map (queue_totals o q) rounds) (of_rounds o q rounds), of_queues o rounds qs)
+of_queues : (o : Options) (rounds : List (List Packet)) (qs : List ℕ) → AllByRecursion AreCaptured rounds → AllByRecursion Returns (map (λ q. queue_sum (map (queue_totals o q) rounds)) qs)
+of_queues o rounds [] each = tt
+of_queues o rounds (q ∷ qs) each = (same_sum (map (queue_totals o q) rounds) (of_rounds o q rounds each), of_queues o rounds qs each)
 
 pub every_record_returns : EveryRecordReturns
-every_record_returns o packets =
-    let all = of_queues o (rounds_of o.budget packets) (range_with_len 0 o.queues) in
+every_record_returns o packets captured =
+    let all = of_queues o (rounds_of o.budget packets) (range_with_len 0 o.queues) (rounds_captured o.budget packets captured) in
     (all, same_sum (totals_of o packets).queues all)

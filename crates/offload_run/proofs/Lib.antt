@@ -4,8 +4,10 @@ mod Used
 mod Makings
 mod Lining
 mod Telling
+mod Fronting
 mod Numbered
 mod BackAgain
 mod PlainWords
+mod PrefixWords
 mod CheckedWords
 mod BothWays

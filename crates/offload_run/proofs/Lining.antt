@@ -1,10 +1,10 @@
 -- Lines that are written of a whole capture, where it has a file header.
-use Rattle.std.proofs.Common.{◌≡◌, ◌≤◌, ◌<◌, ◌+◌, ℕ, List, [], ◌++◌, length, take, drop, refl, sym, ap, ◌∙◌, subst, arith, Option, None, Some, Ok, Err, Bool, true, false, length-append, length-take, length-drop, take-append-drop, append_assoc, if◌then◌else◌}
+use Rattle.std.proofs.Common.{◌≡◌, ◌≤◌, ◌<◌, ℕ, List, [], ◌++◌, length, take, drop, sym, ap, ◌∙◌, subst, arith, Option, None, Some, Ok, Err, Bool, true, false, length-append, length-take, length-drop, take-append-drop, append_assoc, if◌then◌else◌}
 use Rattle.std.specs.Prelude.{nat_lt}
 use Rattle.std.specs.Io.KnownBytes.{Appends}
 use Rattle.std.proofs.KnownBytes.{Appends-nil}
 use Rattle.std.proofs.lemmas.List.{take_at, drop_at, length-take-le}
-use Rattle.std.proofs.lemmas.Bool.{lt-ltb, ltb-false, false≢true}
+use Rattle.std.proofs.lemmas.Bool.{lt-ltb, ltb-false}
 use Rattle.std.proofs.lemmas.Option.{none-some}
 use Rattle.off_io.specs.Content.{AppendsFront, SaysFlushed}
 use Rattle.off_io.specs.Told.{Told}
@@ -19,7 +19,7 @@ use Rattle.pcap_io.specs.declared.faults.InFault.{InFault}
 use Rattle.pcap_io.specs.declared.faults.InFault.TheVariants as faults
 use Rattle.pcap_io.specs.Headers.{first_that_holds, file_refusals, file_place, file_head}
 use Rattle.pcap_io.specs.Places.{first_place}
-use Rattle.pcap_io.specs.Reading.{GivesFile, FewerGone, Loses}
+use Rattle.pcap_io.specs.Reading.{GivesFile}
 use Rattle.pcap_io.proofs.Fronts.{not_first}
 use Rattle.offload_model.specs.Passing.{Stop, Nowhere, AtFault, AtRound, Passed, Ending, Stopped, ReadFault, WriteFault, NoMemory, behind_head, HasFileHead, IsLeft, IsNoRound, Passes, IsBehindHead, Answers, flushes}
 use Rattle.offload_run.specs.declared.status.Status.{Status}

@@ -76,7 +76,7 @@ header_by_round (Some kind) e at is = absurd (none-some at is)
 
 -- ---- merging
 
-merge_is : (o : MergeOptions) (given : List ℕ)
+pub merge_is : (o : MergeOptions) (given : List ℕ)
     → Is (refusal Ethernet given) (found_before o.budget (exceeded_at o.blocks o.budget (first_place (file_head (take 24 given)) Ethernet 0) (drop 24 given))
     (found_at (first_place (file_head (take 24 given)) Ethernet 0) (drop 24 given)))
     (exceeded_at o.blocks o.budget (first_place (file_head (take 24 given)) Ethernet 0) (drop 24 given))
@@ -200,7 +200,7 @@ before_is : (r : Option CapKind) (found : Found) (out : List Packet → List ℕ
 before_is None found out = refl
 before_is (Some kind) found out = refl
 
-output_is : (o : SegmentOptions) (given : List ℕ) → (segmenting_whole o.blocks given).output ≡ segmented_before o given
+pub output_is : (o : SegmentOptions) (given : List ℕ) → (segmenting_whole o.blocks given).output ≡ segmented_before o given
 output_is o given =
     (segment_is o given).output
     ∙ before_is (refusal Offload given) (tested_found (segment_e o given) (segment_found given)) (segmented (file_head (take 24 given)))

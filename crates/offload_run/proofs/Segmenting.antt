@@ -13,6 +13,7 @@ use Rattle.pcap_io.specs.declared.place.Place.{Place}
 use Rattle.pcap_io.specs.declared.faults.CapFault.{CapFault}
 use Rattle.pcap_io.specs.Capture.{Packet, Found, ended, one_more, records_from}
 use Rattle.pcap_io.specs.Lengths.{lengths_from}
+use Rattle.pcap_io.specs.Limits.{off_head_size}
 use Rattle.pcap_io.specs.Places.{found_at}
 use Rattle.pcap_io.specs.Reading.{Loses}
 use Rattle.offload_model.specs.Need.{need_of, needed}
@@ -183,14 +184,14 @@ fault_given blocks k from to next a b c h h1 h2 h3 fault status before last kept
 pub took_none : (a : Option (List ℕ)) (taken : ℕ) (place : Place) → Told a a (TookThem taken taken place place)
 took_none a taken place = Told-same a (TookThem taken taken place place) (λ bytes. ([], [], refl, λ tail. refl, omega arith))
 
-need_more : (rs : List Packet) (r : Packet) → records_need (rs ++ r ∷ []) ≡ records_need rs + need_of (length r.frame - 12)
+need_more : (rs : List Packet) (r : Packet) → records_need (rs ++ r ∷ []) ≡ records_need rs + need_of (length r.frame - off_head_size)
 need_more rs r =
-    let parts = ap needed (map-append (λ (p : Packet). length p.frame - 12) rs (r ∷ []))
-    ∙ needed_append (map (λ (p : Packet). length p.frame - 12) rs) (need_list r) in
+    let parts = ap needed (map-append (λ (p : Packet). length p.frame - off_head_size) rs (r ∷ []))
+    ∙ needed_append (map (λ (p : Packet). length p.frame - off_head_size) rs) (need_list r) in
     omega (arith, parts)
   where
     need_list : Packet → List ℕ
-    need_list p = (length p.frame - 12) ∷ []
+    need_list p = (length p.frame - off_head_size) ∷ []
 
 abbrev found_of : List Packet → Option CapFault → Found
 found_of packets fault = record { packets = packets; fault = fault }

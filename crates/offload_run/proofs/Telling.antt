@@ -1,5 +1,5 @@
 -- What `check` writes, by what was counted.
-use Rattle.std.proofs.Common.{◌≡◌, ◌<◌, ◌≤◌, ◌^◌, ◌+◌, ℕ, List, [], ◌++◌, length, take, drop, refl, sym, ap, ◌∙◌, subst, arith, Option, None, Some, Ok, Err, Bool, true, ◌⊎◌, ⊎_elim, inl, inr}
+use Rattle.std.proofs.Common.{◌≡◌, ◌<◌, ◌^◌, ℕ, List, [], ◌++◌, length, take, drop, refl, sym, ap, ◌∙◌, subst, Option, None, Some, Ok, Err, Bool, true, ◌⊎◌, ⊎_elim, inl, inr}
 use Rattle.std.specs.Io.KnownBytes.{Appends, Keeps}
 use Rattle.std.proofs.KnownBytes.{Appends-nil, Appends-kept, Keeps-refl}
 use Rattle.std.proofs.lemmas.Bool.{false≢true}
@@ -15,7 +15,7 @@ use Rattle.pcap_io.specs.declared.faults.CapFault.{CapFault}
 use Rattle.pcap_io.specs.declared.faults.CapKind.{CapKind}
 use Rattle.pcap_io.specs.declared.faults.InFault.{InFault}
 use Rattle.pcap_io.specs.declared.faults.InFault.TheVariants as faults
-use Rattle.pcap_io.specs.Headers.{first_that_holds, file_refusals, file_head, order_of}
+use Rattle.pcap_io.specs.Headers.{first_that_holds, file_refusals, order_of}
 use Rattle.pcap_io.specs.Capture.{Found, reads, found_after, records_from}
 use Rattle.pcap_io.specs.Places.{first_place, found_at}
 use Rattle.pcap_io.specs.Reading.{GivesFile}
@@ -38,9 +38,9 @@ use Rattle.check_rounds.specs.Checking.{ending_of as check_ending}
 use Rattle.offload_run.specs.declared.status.Status.{Status}
 use Rattle.offload_run.specs.declared.status.Status.TheVariants as statuses
 use Rattle.offload_run.specs.Ending.{ending_of, Ends, FlushesAt, IsStatusFor}
-use Rattle.offload_run.specs.Output.{options}
+use Rattle.offload_run.specs.Output.{options, plan_of}
 use Rattle.offload_run.specs.Checking.{KeepsAt, ReadAnswers, checking_made, ChecksTo, status_if, LinesEnd, Tells, Checked}
-use Rattle.offload_run.proofs.Lining.{lined, lined_of, whole_lined, no_lines}
+use Rattle.offload_run.proofs.Lining.{lined_of, whole_lined, no_lines}
 use Rattle.offload_run.proofs.Used.{reads_is}
 
 -- ---- a capture that is read
@@ -158,15 +158,13 @@ fresh o = record {
   blocks = o.blocks;
   taken = 0;
   budget = o.budget;
-  queues = o.queues;
-  taps = o.taps;
-  snap = o.snap;
+  plan = plan_of o;
   keep = true;
 }
 
 pub from_nothing : (o : MergeOptions) (rounds : RoundsState) (totals : Counts) → rounds ≡ fresh o
     → ((p : Options) → p.queues ≡ o.queues → p.taps ≡ o.taps → totals ≡ totals_of p []) → totals ≡ totals_of (rounds_options rounds) []
-from_nothing o rounds totals is none = none (rounds_options rounds) (ap (λ (r : RoundsState). r.queues) is) (ap (λ (r : RoundsState). r.taps) is)
+from_nothing o rounds totals is none = none (rounds_options rounds) (ap (λ (r : RoundsState). r.plan.queues) is) (ap (λ (r : RoundsState). r.plan.taps) is)
 
 -- all was counted from nothing, and what was counted is told
 pub all_checked : (first : List ℕ) (o : MergeOptions) (rounds : RoundsState) (place : Place) (start totals : Counts) (a b old new : Option (List ℕ)) (is_flushed : Bool)
@@ -189,7 +187,7 @@ all_checked first o rounds place start totals a b old new is_flushed rose end st
 
 -- ---- a generated capture
 
-lines_are : TotalsAreTold → (blocks : ℕ) (o : Options) (place : Place) (totals : Counts) (bytes left : List ℕ) (stop : Stop)
+pub lines_are : TotalsAreTold → (blocks : ℕ) (o : Options) (place : Place) (totals : Counts) (bytes left : List ℕ) (stop : Stop)
     → Tallies (counting blocks o place) (totals_of o []) totals (Stopped stop) bytes left → check_lines totals ≡ (checking blocks o place bytes).output
 lines_are law blocks o place totals bytes left stop counted =
     ((law blocks o place totals (Some []) (Some (check_lines totals)) bytes left).stopped stop counted refl).2

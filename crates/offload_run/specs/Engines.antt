@@ -1,9 +1,10 @@
--- What an engine tells when a command that read a capture is done: all of its blocks are home, and it took at least as many as the
--- bytes that were given need, or its count stands at its last value.
+-- What an engine tells when a command that read a capture is done: all of its blocks are home, and it took at least as
+-- many as the bytes that were given need, or its count stands at its last value.
 use Rattle.std.specs.Prelude.{◌≡◌, ℕ, ◌-◌, ◌^◌, ◌≤◌, List, length, map, min, Option, None, Some, [], ⊤}
 use Rattle.off_io.specs.Told.{Told}
 use Rattle.pcap_io.specs.declared.heads.Link.TheVariants.{Ethernet, Offload}
 use Rattle.pcap_io.specs.Capture.{Packet, reads}
+use Rattle.pcap_io.specs.Limits.{off_head_size}
 use Rattle.offload_model.specs.Need.{needed, round_need}
 use Rattle.cap_make.specs.Capture.{made}
 use Rattle.offload_words.specs.declared.check.CheckOptions.{CheckOptions}
@@ -12,9 +13,10 @@ use Rattle.offload_words.specs.declared.words.Command.TheVariants.{Merge, Segmen
 use Rattle.offload_run.specs.declared.engine.Engine.{Engine}
 use Rattle.offload_run.specs.declared.engine.Engine.TheVariants as engines
 
--- the need of all records, each a round of its own: an offload header of 12 bytes isn't read into blocks
+-- the need of all records, each a round of its own: the bytes that each offload header has, of either version, aren't
+-- read into blocks
 abbrev pub records_need : List Packet → ℕ
-records_need rs = needed (map (λ r. length r.frame - 12) rs)
+records_need rs = needed (map (λ r. length r.frame - off_head_size) rs)
 
 -- what is left of the source before and after
 abbrev pub HasMerged : ℕ → (List ℕ → ℕ) → Option Engine → Option (List ℕ) → Option (List ℕ) → Type 0

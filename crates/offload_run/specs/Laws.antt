@@ -10,9 +10,9 @@ use Rattle.offload_model.specs.Passing.{HasFileHead}
 use Rattle.offload_model.specs.PassingLaws.{written_of}
 use Rattle.offload_model.specs.Written.{Options, records_of}
 
--- What `merge` writes of a capture is given to `segment`: what that writes is read to its end, and holds each flow's packets of
--- the first capture, in order, with their bytes and original lengths. A capture has 2^32 records at most, which the windows of
--- taps could exceed.
+-- What `merge` writes of a capture is given to `segment`: what that writes is read to its end, and holds each flow's
+-- packets of the first capture, in order, with their bytes and original lengths. A capture has 2^32 records at most,
+-- which the windows of taps could exceed.
 abbrev pub EveryFlowComesBack : Type 0
 EveryFlowComesBack =
     (o : Options) (given : List ℕ)

@@ -6,19 +6,41 @@ use Rattle.pcap_io.specs.Headers.{first_that_holds, file_refusals, file_head}
 use Rattle.pcap_io.specs.Capture.{Packet}
 use Rattle.pcap_io.specs.declared.place.Place.{Place}
 use Rattle.pcap_io.specs.Places.{first_place}
+use Rattle.frame_layout.specs.Choice.{spread_by}
 use Rattle.offload_model.specs.Segments.{packet_in, segments_of}
 use Rattle.offload_model.specs.Rounds.{is_of}
 use Rattle.offload_model.specs.Written.{Options, records_of}
 use Rattle.offload_model.specs.Need.{packets_within}
 use Rattle.offload_model.specs.Captured.{IsCaptured, content}
 use Rattle.offload_words.specs.declared.merge.MergeOptions.{MergeOptions}
+use Rattle.round_work.specs.declared.plan.Plan.{Plan}
 
--- how a capture is merged: in rounds of `budget` records, spread over queues, and read by taps up to `snap` bytes each
+-- how a capture is merged: in rounds of `budget` records, whose flows go to queues by a choice, at most `segs` packets
+-- in a record, and by taps, each of which reads up to `snap` bytes of what a filter shows of a packet
 abbrev pub options : MergeOptions → Options
-options o = record { budget = o.budget; queues = o.queues; taps = o.taps; snap = o.snap }
+options o = record {
+  budget = o.budget;
+  queues = o.queues;
+  spread = spread_by o.choice o.queues;
+  taps = o.taps;
+  snap = o.snap;
+  segs = o.segs;
+  filter = o.filter;
+}
 
--- the packets of a capture before the round that exceeds the blocks, and all of them where none does; none where its file header is
--- refused
+-- how the work of a round is divided
+abbrev pub plan_of : MergeOptions → Plan
+plan_of o = record {
+  queues = o.queues;
+  taps = o.taps;
+  snap = o.snap;
+  choice = o.choice;
+  segs = o.segs;
+  filter = o.filter;
+}
+
+-- the packets of a capture before the round that exceeds the blocks, and all of them where none does; none where its
+-- file header is refused
 abbrev pub merged_packets : ℕ → ℕ → List ℕ → List Packet
 merged_packets blocks budget given =
     if is_some (first_that_holds (file_refusals Ethernet (take 24 given))) then [] else

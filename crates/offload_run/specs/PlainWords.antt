@@ -1,8 +1,10 @@
 -- The clause `given` of `run` in plain words: what a capture reads as, where it exceeds the blocks, and what is written.
-use Rattle.std.specs.Prelude.{◌≡◌, ℕ, ◌+◌, ◌≤◌, ◌<◌, ◌^◌, Bool, true, is_some, if◌then◌else◌, Option, None, Some, List, [], ◌++◌, length, take, drop}
+use Rattle.std.specs.Prelude.{◌≡◌, ◌⊎◌, ℕ, ◌+◌, ◌≤◌, ◌<◌, ◌^◌, Bool, true, is_some, if◌then◌else◌, Option, None, Some, List, [], ◌++◌, length, take, drop}
 use Rattle.std.specs.List.{AllByRecursion}
 use Rattle.std.specs.Io.KnownBytes.{Appends, Keeps}
 use Rattle.off_io.specs.Content.{AppendsFront, SaysFlushed}
+use Rattle.off_io.specs.Faults.{Rose}
+use Rattle.off_io.specs.Told.{Told}
 use Rattle.pcap_io.specs.declared.heads.Link.{Link}
 use Rattle.pcap_io.specs.declared.heads.Link.TheVariants.{Ethernet, Offload}
 use Rattle.pcap_io.specs.declared.faults.CapKind.{CapKind}
@@ -10,6 +12,7 @@ use Rattle.pcap_io.specs.Headers.{first_that_holds, file_refusals, file_head}
 use Rattle.pcap_io.specs.Capture.{Packet, Found, reads, found_after}
 use Rattle.pcap_io.specs.Places.{first_place}
 use Rattle.pcap_io.specs.Reading.{Loses}
+use Rattle.offload_model.specs.Captured.{AreCaptured}
 use Rattle.offload_model.specs.Need.{exceeded_at, exceeded_record_at, packets_within, records_within}
 use Rattle.offload_model.specs.Passing.{HasFileHead, FlushedBehind}
 use Rattle.offload_model.specs.PassingLaws.{written_of}
@@ -25,7 +28,7 @@ use Rattle.check_totals.specs.Lines.{check_lines, made_line}
 use Rattle.offload_run.specs.declared.status.Status.{Status}
 use Rattle.offload_run.specs.declared.status.Status.TheVariants as statuses
 use Rattle.offload_run.specs.Output.{options}
-use Rattle.offload_run.specs.RunAnswers.{Answers}
+use Rattle.offload_run.specs.RunAnswers.{Answers, Fronts}
 
 -- why a file header is refused, if it is
 abbrev pub refusal : Link → List ℕ → Option CapKind
@@ -145,9 +148,23 @@ MadeSays seed o old new is_flushed _ = ⊥
 -- on each line as many records returned as there are
 abbrev pub EveryRecordReturns : Type 0
 EveryRecordReturns =
-    (o : Options) (packets : List Packet)
+    (o : Options) (packets : List Packet) → AreCaptured packets
     → AllByRecursion (λ q. q.returned ≡ q.records) (totals_of o packets).queues
     × ((queue_sum (totals_of o packets).queues).returned ≡ (queue_sum (totals_of o packets).queues).records)
+
+-- ---- what was written whatever the status
+
+-- Unless the source's count of faults rose, a prefix of the output that would have come of all that was given, however little of it was
+-- read. `segment` says it also where that rose.
+abbrev pub PrefixesInPlainWords : Type 0
+PrefixesInPlainWords =
+    (faults more : ℕ) (before after old new : Option (List ℕ))
+    → ((o : MergeOptions) → Fronts (Merge o) (Rose faults more) before after old new
+    → Rose faults more ⊎ Told before after (λ given left. AppendsFront old new (written_before o given)))
+    × ((o : SegmentOptions) → Fronts (Segment o) (Rose faults more) before after old new
+    → Told before after (λ given left. AppendsFront old new (segmented_before o given)))
+    × ((o : CheckOptions) → o.seed ≡ None → Fronts (Check o) (Rose faults more) before after old new
+    → Rose faults more ⊎ Told before after (λ given left. AppendsFront old new (checked_before o.merge given)))
 
 -- ---- what each answer says is this; the sink before and after is of any type
 

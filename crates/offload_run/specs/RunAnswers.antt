@@ -1,7 +1,8 @@
 -- What each answer of the whole program says, by the command that the words ask for.
-use Rattle.std.specs.Prelude.{◌≡◌, ℕ, List, Bool, Option, ⊤}
+use Rattle.std.specs.Prelude.{◌≡◌, ℕ, List, Bool, Option, None, Some, ⊤}
 use Rattle.pcap_io.specs.declared.heads.Link.TheVariants.{Ethernet, Offload}
-use Rattle.offload_model.specs.Passing.{merging_whole, segmenting_whole}
+use Rattle.offload_model.specs.Passing.{merging_whole, segmenting_whole, FrontUnless}
+use Rattle.check_totals.specs.Checking.{checking_whole}
 use Rattle.offload_model.specs.Passing as passing
 use Rattle.offload_words.specs.declared.words.Command.{Command}
 use Rattle.offload_words.specs.declared.words.Command.TheVariants.{Merge, Segment, Check, Make}
@@ -19,6 +20,19 @@ Answers (Segment o) old new is_flushed untouched status given left =
     Ends (passing.Answers Offload (segmenting_whole o.blocks) old new is_flushed untouched) (ending_of status) given left
 Answers (Check o) old new is_flushed untouched status given left = CheckAnswers o.seed o old new is_flushed untouched status given left
 Answers (Make o) old new is_flushed untouched status given left = MakeAnswers o old new is_flushed status × (left ≡ given)
+
+-- what is said of a capture that is read; with a seed none is
+abbrev pub unless_made : Option ℕ → Type 0 → Type 0
+unless_made None told = told
+unless_made (Some seed) told = ⊤
+
+-- A prefix of what the command writes of all that was given, however little of it was read; where the source failed nothing more is said
+-- than by the ending. What is generated is told apart.
+abbrev pub Fronts : Command → Type 0 → Option (List ℕ) → Option (List ℕ) → Option (List ℕ) → Option (List ℕ) → Type 0
+Fronts (Merge o) failed before after old new = FrontUnless failed (merging_whole o.blocks (options o)) before after old new
+Fronts (Segment o) failed before after old new = FrontUnless ⊥ (segmenting_whole o.blocks) before after old new
+Fronts (Check o) failed before after old new = unless_made o.seed (FrontUnless failed (checking_whole o.merge.blocks (options o.merge)) before after old new)
+Fronts (Make o) failed before after old new = ⊤
 
 -- the blocks of a pool that is empty are those that the command asks for
 abbrev pub AreBlocksOf : Command → Status → Type 0

@@ -11,11 +11,12 @@ ghost use Rattle.pcap_io.specs.Capture.{reads};
 ghost use Rattle.pcap_io.specs.Places.{first_place, found_at};
 ghost use Rattle.cap_make.specs.Capture.{made as made_capture};
 ghost use Rattle.offload_model.specs.Need.{round_need};
+ghost use Rattle.offload_model.specs.Passing.{FrontUnless};
 ghost use Rattle.offload_words.specs.Check.{IsInRange as IsCheckInRange};
 ghost use Rattle.offload_words.specs.Merge.{IsInRange};
 ghost use Rattle.check_totals.specs.Counts.{totals_of, HasLanes, IsQueueWithin, IsWithin};
 ghost use Rattle.check_totals.specs.Lines.{check_lines};
-ghost use Rattle.check_totals.specs.Checking.{counting};
+ghost use Rattle.check_totals.specs.Checking.{counting, checking_whole};
 ghost use Rattle.check_totals.specs.Tallies.{Tallies};
 ghost use Rattle.rounds.specs.Merging.{options_of as rounds_options};
 ghost use Rattle.check_rounds.specs.Checking.{ending_of as check_ending};
@@ -23,6 +24,7 @@ ghost use Rattle.offload_run.specs.Checking.{checking_made, first_line, status_i
 ghost use Rattle.offload_run.specs.Ending.{HasBlocks};
 ghost use Rattle.offload_run.specs.Engines.{HasChecked, HasMerged};
 ghost use Rattle.offload_run.specs.Output.{options as options_of};
+ghost use Rattle.offload_run.specs.RunAnswers.{unless_made};
 
 use crate::ending::{finish, refused};
 use crate::merge::make_rounds;
@@ -184,17 +186,18 @@ fn check_records<R: Threads + Sync, S: Source, K: Sink, G: Gate + Sync>(
     ensures read { result ≡ Status.ReadFault → Rose (S.faults source.old) (S.faults source.new) }
     ensures write { result ≡ Status.WriteFault → Rose (K.faults sink.old) (K.faults sink.new) }
 {
+    let (blocks, queues, taps) = (options.blocks, options.queues, options.taps);
     let mut rounds = match make_rounds(alloc, options, true) {
         Ok(rounds) => rounds,
         Err(_) => return Status::NoMemory,
     };
-    let mut totals = match Totals::make(alloc, options.queues, options.taps) {
+    let mut totals = match Totals::make(alloc, queues, taps) {
         Ok(totals) => totals,
         Err(_) => return Status::NoMemory,
     };
     let end = count_behind(rt, &mut rounds, file, source, &mut totals, gate);
     *engine = Some(Engine::Merge(rounds));
-    tell(sink, made, &totals, end, options.blocks)
+    tell(sink, made, &totals, end, blocks)
 }
 
 // ---- whole captures
@@ -212,6 +215,7 @@ fn check_read<R: Threads + Sync, S: Source, K: Sink, G: Gate + Sync>(
     requires range { IsInRange options }
     requires engine { engine.old ≡ None }
     ensures given { Told (S.left source.old) (S.left source.new) (ReadAnswers options (K.held sink.old) (K.held sink.new) (K.is_flushed sink.new) (sink.new ≡ sink.old) result) }
+    ensures front { FrontUnless (Rose (S.faults source.old) (S.faults source.new)) (checking_whole options.blocks (options_of options)) (S.left source.old) (S.left source.new) (K.held sink.old) (K.held sink.new) }
     ensures blocks { HasBlocks options.blocks result }
     ensures engine { result ≡ Status.Ok → HasMerged options.blocks (λ given. round_need (reads Ethernet given).packets) engine.new (S.left source.old) (S.left source.new) }
     ensures not_usage { result ≡ Status.Usage → ⊥ }
@@ -286,6 +290,7 @@ pub(crate) fn run_check<R: Threads + Sync, S: Source, K: Sink, G: Gate + Sync>(
     requires range { IsCheckInRange options }
     requires engine { engine.old ≡ None }
     ensures given { Told (S.left source.old) (S.left source.new) (CheckAnswers options.seed options (K.held sink.old) (K.held sink.new) (K.is_flushed sink.new) (sink.new ≡ sink.old) result) }
+    ensures front { unless_made options.seed (FrontUnless (Rose (S.faults source.old) (S.faults source.new)) (checking_whole options.merge.blocks (options_of options.merge)) (S.left source.old) (S.left source.new) (K.held sink.old) (K.held sink.new)) }
     ensures made { ChecksMade options.seed options (K.held sink.old) (K.held sink.new) (K.is_flushed sink.new) (source.new ≡ source.old) result }
     ensures blocks { HasBlocks options.merge.blocks result }
     ensures engine { result ≡ Status.Ok → HasChecked options.seed options engine.new (S.left source.old) (S.left source.new) }

@@ -5,7 +5,7 @@ ghost use Rattle.off_io.specs.Told.{Told};
 ghost use Rattle.offload_words.specs.Commands.{command_of, HasRanges};
 ghost use Rattle.status_log.specs.Lines.{Logs};
 ghost use Rattle.offload_run.specs.Making.{Makes};
-ghost use Rattle.offload_run.specs.RunAnswers.{Answers, AreBlocksOf, FlowsBack};
+ghost use Rattle.offload_run.specs.RunAnswers.{Answers, AreBlocksOf, FlowsBack, Fronts};
 ghost use Rattle.offload_run.specs.Engines.{HasRun};
 ghost use Rattle.offload_run.specs.Log.{log_line};
 
@@ -34,6 +34,7 @@ fn run_command<R: Threads + Wait + Sync, S: Source + Send, K: Sink, G: Gate + Sy
     requires ranges { HasRanges command }
     requires engine { engine.old ≡ None }
     ensures given { Told (S.left source.old) (S.left source.new) (Answers command (K.held sink.old) (K.held sink.new) (K.is_flushed sink.new) (sink.new ≡ sink.old) result) }
+    ensures front { Fronts command (Rose (S.faults source.old) (S.faults source.new)) (S.left source.old) (S.left source.new) (K.held sink.old) (K.held sink.new) }
     ensures made { Makes command (K.held sink.old) (K.held sink.new) (K.is_flushed sink.new) (source.new ≡ source.old) result }
     ensures blocks { AreBlocksOf command result }
     ensures flows { Told (S.left source.old) (S.left source.new) (FlowsBack command result) }
@@ -67,6 +68,7 @@ fn run_words<R: Threads + Wait + Sync, S: Source + Send, K: Sink, G: Gate + Sync
     ensures no_command { command_of (map string_bytes words.now) ≡ None → (result ≡ Status.Usage) ⊎ (result ≡ Status.NoMemory) }
     ensures untouched { command_of (map string_bytes words.now) ≡ None → (source.new ≡ source.old) × (sink.new ≡ sink.old) }
     ensures given { IfSome (command_of (map string_bytes words.now)) (λ command. Told (S.left source.old) (S.left source.new) (Answers command (K.held sink.old) (K.held sink.new) (K.is_flushed sink.new) (sink.new ≡ sink.old) result)) }
+    ensures front { IfSome (command_of (map string_bytes words.now)) (λ command. Fronts command (Rose (S.faults source.old) (S.faults source.new)) (S.left source.old) (S.left source.new) (K.held sink.old) (K.held sink.new)) }
     ensures made { IfSome (command_of (map string_bytes words.now)) (λ command. Makes command (K.held sink.old) (K.held sink.new) (K.is_flushed sink.new) (source.new ≡ source.old) result) }
     ensures blocks { IfSome (command_of (map string_bytes words.now)) (λ command. AreBlocksOf command result) }
     ensures flows { IfSome (command_of (map string_bytes words.now)) (λ command. Told (S.left source.old) (S.left source.new) (FlowsBack command result)) }
@@ -83,25 +85,25 @@ fn run_words<R: Threads + Wait + Sync, S: Source + Send, K: Sink, G: Gate + Sync
     }
 }
 
-/// Runs the command that the words ask for, the program's name before it, and logs how it ended. `merge` reads a capture
-/// of Ethernet frames from the source and writes its records to the sink; `segment` reads an offload capture and writes the
-/// packets that its records stand for; `check` merges as `merge` does and writes lines of how many packets came back, and with a seed it
-/// reads nothing and checks a generated capture; `make` reads nothing and writes one (clause `made`). Each queue's
-/// worker and each tap of `merge` and `check` passes the gate at point 0 before its work and at point 1 after it, and each is a thread
-/// of its own but where there is one queue and no tap.
+/// Runs the command that the words ask for, the program's name before it, and logs how it ended. `merge` reads a
+/// capture of Ethernet frames from the source and writes its records to the sink; `segment` reads an offload capture
+/// and writes the packets that its records stand for; `check` merges as `merge` does and writes lines of how many
+/// packets came back, and with a seed it reads nothing and checks a generated capture; `make` reads nothing and writes
+/// one (clause `made`). Each queue's worker and each tap of `merge` and `check` passes the gate at point 0 before its
+/// work and at point 1 after it, and each is a thread of its own but where there is one queue and no tap.
 ///
-/// `Usage` exactly where the words are none of the command set, want of memory aside: then nothing is read or written, and
-/// the counts of faults of the source and the sink stay as they are. `Ok`, `Malformed` and `PoolEmpty` exactly as the
-/// capture ends or a round first needs more blocks than `--blocks` says, where neither the source nor the sink fails and
-/// memory suffices. `ReadFault` and `WriteFault` only where the count of faults of the source, of the sink, rose in this
-/// call. At `Malformed`, `PoolEmpty` and `ReadFault` the output of all whole records (of all rounds) before is in the sink, so a
-/// sink that fails before that is answered first, by `WriteFault`.
+/// `Usage` exactly where the words are none of the command set, want of memory aside: then nothing is read or written,
+/// and the counts of faults of the source and the sink stay as they are. `Ok`, `Malformed` and `PoolEmpty` exactly as
+/// the capture ends or a round first needs more blocks than `--blocks` says, where neither the source nor the sink
+/// fails and memory suffices. `ReadFault` and `WriteFault` only where the count of faults of the source, of the sink,
+/// rose in this call. At `Malformed`, `PoolEmpty` and `ReadFault` the output of all whole records (of all rounds)
+/// before is in the sink, so a sink that fails before that is answered first, by `WriteFault`.
 ///
 /// The sink is flushed once, after the last write, and stays as it was where there is no lawful file header. On each
 /// status but `Ok` the log gets one line. A log that fails is ignored.
 ///
-/// At `Ok` of a command that reads, `engine` holds the blocks that this call made, all of them home, and its count of blocks
-/// taken is at least what the records need (clause `engine`). Else what it holds isn't said.
+/// At `Ok` of a command that reads, `engine` holds the blocks that this call made, all of them home, and its count of
+/// blocks taken is at least what the records need (clause `engine`). Else what it holds isn't said.
 pub fn run<R: Threads + Wait + Sync, S: Source + Send, K: Sink + Send, L: Sink, G: Gate + Sync>(
     rt: &R,
     alloc: Global,
@@ -117,6 +119,7 @@ pub fn run<R: Threads + Wait + Sync, S: Source + Send, K: Sink + Send, L: Sink, 
     ensures no_command { command_of (map string_bytes words.now) ≡ None → (result ≡ Status.Usage) ⊎ (result ≡ Status.NoMemory) }
     ensures untouched { command_of (map string_bytes words.now) ≡ None → (source.new ≡ source.old) × (sink.new ≡ sink.old) }
     ensures given { IfSome (command_of (map string_bytes words.now)) (λ command. Told (S.left source.old) (S.left source.new) (Answers command (K.held sink.old) (K.held sink.new) (K.is_flushed sink.new) (sink.new ≡ sink.old) result)) }
+    ensures front { IfSome (command_of (map string_bytes words.now)) (λ command. Fronts command (Rose (S.faults source.old) (S.faults source.new)) (S.left source.old) (S.left source.new) (K.held sink.old) (K.held sink.new)) }
     ensures made { IfSome (command_of (map string_bytes words.now)) (λ command. Makes command (K.held sink.old) (K.held sink.new) (K.is_flushed sink.new) (source.new ≡ source.old) result) }
     ensures blocks { IfSome (command_of (map string_bytes words.now)) (λ command. AreBlocksOf command result) }
     ensures flows { IfSome (command_of (map string_bytes words.now)) (λ command. Told (S.left source.old) (S.left source.new) (FlowsBack command result)) }

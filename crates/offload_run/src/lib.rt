@@ -1,22 +1,27 @@
 //! The program over any source and any sink: words, a capture in, a capture out.
 //!
-//! [`run`] does the command that the words ask for. `merge` reads a capture of Ethernet frames (the classic pcap layout) in
-//! rounds of as many records as `--budget` says and writes a capture of link type 147: what the maximal mergeable runs of each
-//! flow come to, each behind an offload header of 12 bytes. The packets of a round go by their flows to `--queues` queues, and
-//! each of `--taps` taps reads a window of `--snap` bytes of every packet: queue by queue the records are written, and then tap
-//! by tap the windows. Workers and taps run at the same time, each in a thread of its own, but where there is one queue and no
-//! tap, and where there is a second processor the next rounds are read beside them. `segment` cuts such a capture back into the packets that its records stand for. `check` merges as `merge` does, compares
-//! what each round comes to with its packets, and writes lines of how many came back, at the end; with `--seed` it checks a
-//! generated capture, and nothing is read. Records are read into `--blocks` blocks of 2048 bytes, and all of these are home after
-//! each round. The log gets one line on each status but a good one.
+//! [`run`] does the command that the words ask for. `merge` reads a capture of Ethernet frames (the classic pcap
+//! layout) in rounds of as many records as `--budget` says and writes a capture of link type 147: what the maximal
+//! mergeable runs of each flow come to, of at most `--segs` packets, each behind an offload header of version 2, of 16
+//! bytes. The packets of a round go by their flows to `--queues` queues, by a fold of the flow's key or by the Toeplitz
+//! hash of `--rss` and the table of `--table`, and each of `--taps` taps reads a window of `--snap` bytes of what
+//! `--filter` shows of every packet: queue by queue the records are written, and then tap by tap the windows. Workers
+//! and taps run at the same time, each in a thread of its own, but where there is one queue and no tap, and where there
+//! is a second processor the next rounds are read beside them. `segment` cuts such a capture, or one with headers of
+//! version 1, back into the packets that its records stand for. `check` merges as `merge` does, compares what each
+//! round comes to with its packets, and writes lines of how many came back, at the end; with `--seed` it checks a
+//! generated capture, and nothing is read. Records are read into `--blocks` blocks of 2048 bytes; those of a round are
+//! home as it ends, and all of them at the end. The log gets one line on each status but a good one.
 //!
-//! Proved, at every source, sink, log and gate, and whatever the order in which workers and taps run (clauses of [`run`]):
-//! which words are no command, and that nothing is then read or written (`usage`, `no_command`, `untouched`); what is read and
-//! written for each answer, and when the sink is flushed (`given`, in plain words in [`answers_in_plain_words`]); of which pool
-//! an empty one is told (`blocks`); that every flow comes back of what merging makes (`flows`); which engine a good run leaves,
-//! with all blocks home, and how many it took (`engine`); that a fault is answered only where the outside failed (`read`,
-//! `write`); what the log gets (`log`, `quiet`). So do the two commands one after the other ([`every_flow_comes_back`]), and each
-//! line of `check` tells as many records that came back as there are ([`every_record_returns`]).
+//! Proved, at every source, sink, log and gate, with whatever options, and whatever the order in which workers and taps
+//! run (clauses of [`run`]): which words are no command, and that nothing is then read or written (`usage`,
+//! `no_command`, `untouched`); what is read and written for each answer, and when the sink is flushed (`given`, in
+//! plain words in [`answers_in_plain_words`]); that it is, whatever the answer, a prefix of what comes of all that was
+//! given, unless the source failed (`front`, [`prefixes_in_plain_words`]); of which pool an empty one is told
+//! (`blocks`); that every flow comes back of what merging makes (`flows`); which engine a good run leaves, with all
+//! blocks home, and how many it took (`engine`); that a fault is answered only where the outside failed (`read`,
+//! `write`); what the log gets (`log`, `quiet`). So do the two commands one after the other ([`every_flow_comes_back`]),
+//! and each line of `check` tells as many records that came back as there are ([`every_record_returns`]).
 //!
 //! ```text
 //! let mut engine = None;
@@ -38,7 +43,9 @@ mod status;
 
 pub use command::run;
 pub use engine::Engine;
-pub use laws::{answers_in_plain_words, every_flow_comes_back, every_record_returns};
+pub use laws::{
+    answers_in_plain_words, every_flow_comes_back, every_record_returns, prefixes_in_plain_words,
+};
 pub use logging::write_log;
 pub use offload_words::{
     CheckOptions, Command, MakeOptions, MergeOptions, SegmentOptions, WordsFault, parse_words,

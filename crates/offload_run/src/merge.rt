@@ -7,12 +7,12 @@ ghost use Rattle.pcap_io.specs.declared.heads.Link.TheVariants.{Ethernet, Offloa
 ghost use Rattle.pcap_io.specs.Capture.{reads};
 ghost use Rattle.pcap_io.specs.Places.{first_place, found_at};
 ghost use Rattle.offload_model.specs.Need.{round_need};
-ghost use Rattle.offload_model.specs.Passing.{merging, merging_whole, Answers, Passes, flushes};
+ghost use Rattle.offload_model.specs.Passing.{merging, merging_whole, Answers, Passes, FrontUnless, flushes};
 ghost use Rattle.offload_words.specs.Merge.{IsInRange};
 ghost use Rattle.rounds.specs.Merging.{ending_of as merge_ending, options_of as rounds_options, HoldsCaptured};
 ghost use Rattle.offload_run.specs.Ending.{ending_of, Ends, FlushesAt, HasBlocks, OfRead, status_by};
 ghost use Rattle.offload_run.specs.Engines.{HasMerged};
-ghost use Rattle.offload_run.specs.Output.{options as options_of, merged_packets, AreCapturedWithin, FlowsComeBack};
+ghost use Rattle.offload_run.specs.Output.{options as options_of, plan_of, merged_packets, AreCapturedWithin, FlowsComeBack};
 
 use crate::ending::refused;
 use crate::{Engine, Status};
@@ -20,6 +20,7 @@ use off_io::{Gate, Sink, Source, WriteFault};
 use offload_words::MergeOptions;
 use pcap_io::{CaptureReader, FileHead, Link, take_file, write_file_head};
 use round_pipeline::merge_beside;
+use round_work::Plan;
 use rounds::{MergeEnd, Rounds};
 use std::alloc::{AllocError, Global};
 use std::sync::Wait;
@@ -61,6 +62,7 @@ fn merge_behind<R: Threads + Wait + Sync, S: Source + Send, K: Sink, G: Gate + S
 ) -> MergeEnd
     requires home { rounds.old.home ≡ rounds.old.blocks }
     ensures given { Told (S.left source.old) (S.left source.new) (Passes (merging rounds.old.blocks (rounds_options rounds.old) (first_place file Ethernet 0)) (K.held sink.old) (K.held sink.new) (merge_ending result)) }
+    ensures front { FrontUnless (Rose (S.faults source.old) (S.faults source.new)) (merging rounds.old.blocks (rounds_options rounds.old) (first_place file Ethernet 0)) (S.left source.old) (S.left source.new) (K.held sink.old) (K.held sink.new) }
     ensures captured { Told (S.left source.old) (S.left source.new) (HoldsCaptured rounds.old.blocks rounds.old.budget (first_place file Ethernet 0) result) }
     ensures flushed { flushes (merge_ending result) ≡ true → SaysFlushed (K.held sink.new) (K.is_flushed sink.new) true }
     ensures home { rounds.new.home ≡ rounds.new.blocks }
@@ -82,7 +84,7 @@ pub(crate) fn make_rounds(
     keep: bool,
 ) -> Result<Rounds, AllocError>
     requires range { IsInRange options }
-    ensures made { IfOk result (λ rounds. rounds ≡ record { home = options.blocks; blocks = options.blocks; taken = 0; budget = options.budget; queues = options.queues; taps = options.taps; snap = options.snap; keep = keep }) }
+    ensures made { IfOk result (λ rounds. rounds ≡ record { home = options.blocks; blocks = options.blocks; taken = 0; budget = options.budget; plan = plan_of options; keep = keep }) }
 {
     let MergeOptions {
         queues,
@@ -90,8 +92,19 @@ pub(crate) fn make_rounds(
         blocks,
         taps,
         snap,
+        segs,
+        choice,
+        filter,
     } = options;
-    Rounds::make(alloc, blocks, budget, queues, taps, snap, keep)
+    let plan = Plan {
+        queues,
+        taps,
+        snap,
+        choice,
+        segs,
+        filter,
+    };
+    Rounds::make(alloc, blocks, budget, plan, keep)
 }
 
 // Makes the pool, and merges the records behind a file header.
@@ -108,6 +121,7 @@ fn merge_records<R: Threads + Wait + Sync, S: Source + Send, K: Sink, G: Gate + 
     requires range { IsInRange options }
     requires engine { engine.old ≡ None }
     ensures given { Told (S.left source.old) (S.left source.new) (Ends (Passes (merging options.blocks (options_of options) (first_place file Ethernet 0)) (K.held sink.old) (K.held sink.new)) (ending_of result)) }
+    ensures front { FrontUnless (Rose (S.faults source.old) (S.faults source.new)) (merging options.blocks (options_of options) (first_place file Ethernet 0)) (S.left source.old) (S.left source.new) (K.held sink.old) (K.held sink.new) }
     ensures captured { Told (S.left source.old) (S.left source.new) (OfRead (AreCapturedWithin options.blocks options.budget (first_place file Ethernet 0)) result) }
     ensures flushed { FlushesAt (K.held sink.new) (K.is_flushed sink.new) (ending_of result) }
     ensures blocks { HasBlocks options.blocks result }
@@ -118,13 +132,14 @@ fn merge_records<R: Threads + Wait + Sync, S: Source + Send, K: Sink, G: Gate + 
     ensures read { result ≡ Status.ReadFault → Rose (S.faults source.old) (S.faults source.new) }
     ensures write { result ≡ Status.WriteFault → Rose (K.faults sink.old) (K.faults sink.new) }
 {
+    let blocks = options.blocks;
     let mut rounds = match make_rounds(alloc, options, false) {
         Ok(rounds) => rounds,
         Err(_) => return Status::NoMemory,
     };
     let end = merge_behind(rt, alloc, &mut rounds, file, source, sink, gate);
     *engine = Some(Engine::Merge(rounds));
-    status_of(end, options.blocks)
+    status_of(end, blocks)
 }
 
 // Merges a whole capture of Ethernet frames. Where its file header is refused no block is made.
@@ -140,6 +155,7 @@ pub(crate) fn run_merge<R: Threads + Wait + Sync, S: Source + Send, K: Sink, G: 
     requires range { IsInRange options }
     requires engine { engine.old ≡ None }
     ensures given { Told (S.left source.old) (S.left source.new) (Ends (Answers Ethernet (merging_whole options.blocks (options_of options)) (K.held sink.old) (K.held sink.new) (K.is_flushed sink.new) (sink.new ≡ sink.old)) (ending_of result)) }
+    ensures front { FrontUnless (Rose (S.faults source.old) (S.faults source.new)) (merging_whole options.blocks (options_of options)) (S.left source.old) (S.left source.new) (K.held sink.old) (K.held sink.new) }
     ensures flows { Told (S.left source.old) (S.left source.new) (OfRead (λ read. FlowsComeBack (options_of options) (merged_packets options.blocks options.budget read)) result) }
     ensures blocks { HasBlocks options.blocks result }
     ensures engine { result ≡ Status.Ok → HasMerged options.blocks (λ given. round_need (reads Ethernet given).packets) engine.new (S.left source.old) (S.left source.new) }

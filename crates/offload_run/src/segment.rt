@@ -7,7 +7,7 @@ ghost use Rattle.pcap_io.specs.declared.heads.Link.TheVariants.{Ethernet, Offloa
 ghost use Rattle.pcap_io.specs.Capture.{reads};
 ghost use Rattle.pcap_io.specs.Places.{IsReady, first_place, found_at};
 ghost use Rattle.pcap_io.specs.Readers.{place_of, source_of, SameLoan};
-ghost use Rattle.offload_model.specs.Passing.{segmenting, segmenting_whole, Answers, Passes};
+ghost use Rattle.offload_model.specs.Passing.{segmenting, segmenting_whole, Answers, Passes, FrontUnless};
 ghost use Rattle.offload_words.specs.Segment.{IsInRange};
 ghost use Rattle.offload_run.specs.Ending.{ending_of, Ends, FlushesAt, HasBlocks};
 ghost use Rattle.offload_run.specs.Engines.{HasSegmented, records_need};
@@ -16,6 +16,7 @@ ghost use Rattle.offload_run.specs.Segmenting.{GivesUp};
 use crate::ending::{finish, refused};
 use crate::{Engine, Status};
 use off_io::{Sink, Source, WriteFault};
+use offload_model::segments_grow;
 use offload_words::SegmentOptions;
 use pcap_io::{CaptureReader, FileHead, Link, take_file, write_file_head};
 use rounds::{Moved, SegFault, SegmentRun};
@@ -122,6 +123,7 @@ fn segment_records<S: Source, K: Sink>(
     requires range { (1 ≤ blocks) × (blocks ≤ 65536) }
     requires engine { engine.old ≡ None }
     ensures given { Told (S.left source.old) (S.left source.new) (Ends (Passes (segmenting blocks (first_place file Offload 0)) (K.held sink.old) (K.held sink.new)) (ending_of result)) }
+    ensures front { FrontUnless ⊥ (segmenting blocks (first_place file Offload 0)) (S.left source.old) (S.left source.new) (K.held sink.old) (K.held sink.new) }
     ensures flushed { FlushesAt (K.held sink.new) (K.is_flushed sink.new) (ending_of result) }
     ensures blocks { HasBlocks blocks result }
     ensures engine { result ≡ Status.Ok → HasSegmented blocks (λ rest. records_need (found_at (first_place file Offload 0) rest).packets) engine.new (S.left source.old) (S.left source.new) }
@@ -131,6 +133,7 @@ fn segment_records<S: Source, K: Sink>(
     ensures read { result ≡ Status.ReadFault → Rose (S.faults source.old) (S.faults source.new) }
     ensures write { result ≡ Status.WriteFault → Rose (K.faults sink.old) (K.faults sink.new) }
 {
+    segments_grow();
     let mut run = match SegmentRun::make(alloc, blocks) {
         Ok(run) => run,
         Err(_) => return Status::NoMemory,
@@ -151,6 +154,7 @@ pub(crate) fn run_segment<S: Source, K: Sink>(
     requires range { IsInRange options }
     requires engine { engine.old ≡ None }
     ensures given { Told (S.left source.old) (S.left source.new) (Ends (Answers Offload (segmenting_whole options.blocks) (K.held sink.old) (K.held sink.new) (K.is_flushed sink.new) (sink.new ≡ sink.old)) (ending_of result)) }
+    ensures front { FrontUnless ⊥ (segmenting_whole options.blocks) (S.left source.old) (S.left source.new) (K.held sink.old) (K.held sink.new) }
     ensures blocks { HasBlocks options.blocks result }
     ensures engine { result ≡ Status.Ok → HasSegmented options.blocks (λ given. records_need (reads Offload given).packets) engine.new (S.left source.old) (S.left source.new) }
     ensures not_usage { result ≡ Status.Usage → ⊥ }

@@ -1,5 +1,9 @@
+mod Chosen
 mod CommandSet
+mod HashKeys
 mod NumberReads
 mod OptionNumbers
 mod OptionRows
+mod Readings
 mod Subcommands
+mod Tables

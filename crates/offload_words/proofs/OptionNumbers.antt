@@ -104,3 +104,7 @@ number_read c id limit low high rows within ranged fit has =
     let all : accepts false (vp.Unsigned 0 limit) v.0 ≡ true = Accepts-accepts false (vp.Unsigned 0 limit) v.0 (b.0, b.1, omega arith, omega (arith, most, within)) in
     let is : number_of limit v.0 ≡ Some n = rw all refl in
     (n, ap (option_and_then (number_of limit)) text ∙ is, b.2, b.3)
+
+-- and where no text stands there is none
+pub no_number : (limit : ℕ) (id : Text) (rows : List Row) → one_of id rows ≡ None → number_in limit id rows ≡ None
+no_number limit id rows e = ap (option_and_then (number_of limit)) e

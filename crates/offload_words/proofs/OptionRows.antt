@@ -1,8 +1,8 @@
 -- What a level of a parse without a fault leaves, where each argument is an option with one value or a call for help:
 -- each row is of an option, and has a first value that this option takes.
-use Rattle.std.proofs.Common.{◌≡◌, ◌∙◌, ◌⊎◌, ◌==◌, ◌&&◌, ◌||◌, ℕ, Bool, Decides, ne_eqb, true, false, not, zero, suc, true≢false, refl, sym, ap, subst, arith, List, [], ◌∷◌, ◌++◌, length, drop, Option, Some, None, is_some, inl, inr, ⊎_elim, unwrap_or, if◌then◌else◌, append-nil, codes}
+use Rattle.std.proofs.Common.{◌≡◌, ◌∙◌, ◌⊎◌, ◌==◌, ◌&&◌, ◌||◌, ℕ, Bool, Decides, ne_eqb, true, false, not, zero, suc, true≢false, refl, sym, ap, subst, arith, List, [], ◌∷◌, ◌++◌, length, drop, Option, Some, None, is_some, inl, inr, ⊎_elim, unwrap_or, if◌then◌else◌, append-nil, codes, option_and_then}
 use Rattle.std.specs.Prelude.{encode_utf8, slice_get, find, fold, IfSome, ⊤}
-use Rattle.std.specs.List.{list_any}
+use Rattle.std.specs.List.{list_all, list_any}
 use Rattle.std.proofs.lemmas.Slice.Eq.{bytes_eq-Decides}
 use Rattle.clap.specs.Values.{refused_kind}
 use Rattle.clap.proofs.WalkLemmas.{both}
@@ -10,7 +10,7 @@ use Rattle.std.specs.Option.{option_map_or}
 use Rattle.std.specs.Str.{bytes_eq, chars}
 use Rattle.clap.specs.Lexer.{long_of, short_of}
 use Rattle.clap.specs.Facts.{parser_of_value, unwrap_or_range}
-use Rattle.clap.specs.Walk.{Held, Names, Outcome, Row, Rule, Step, Text, Waiting, Walk, action_of, after_flag, after_step, arg_by_id, arg_by_index, arg_by_long, arg_by_short, at_row, attached_value, bundle, bundle_met, bundle_step, default_rows, done, flag_met, has_row, idle, is_empty, long_met, long_or_other, more_values, next, nothing_held, option, option_met, option_word, plain, plain_word, positional, reacted, reading_by, refused, rows_after, settled, settled_rows, short_met, short_or_plain, subcommand, subcommand_met, subcommand_or_other, takes_values, trailing, used, used_as, used_by_id, value, values_or_missing, waits, walk, walk_from, walked, walked_from, with_default, with_values, without, word_met}
+use Rattle.clap.specs.Walk.{Held, Names, Outcome, Row, Rule, Step, Text, Waiting, Walk, action_of, after_flag, after_step, arg_by_id, arg_by_index, arg_by_long, arg_by_short, at_row, attached_value, bundle, bundle_met, bundle_step, default_rows, done, first_of, flag_met, has_row, idle, is_empty, long_met, long_or_other, more_values, next, nothing_held, one_of, option, option_met, option_word, plain, plain_word, positional, reacted, reading_by, refused, row_text, rows_after, settled, settled_rows, short_met, short_or_plain, subcommand, subcommand_met, subcommand_or_other, takes_values, trailing, used, used_as, used_by_id, value, values_or_missing, waits, walk, walk_from, walked, walked_from, with_default, with_values, without, word_met}
 use Rattle.clap.specs.Simple.{Shape}
 use Rattle.clap.specs.Takes.{value_passes}
 use Rattle.clap.specs.Kinds.{Kinds, or_else, range_kinds, request_kinds, value_kinds}
@@ -462,3 +462,27 @@ level_fits s words has below off ones e =
 
 pub level_has : (s : Shape) (words : List Text) (id : Text) → defaults_for id s.rules ≡ true → has_row id (rows_after s.rules [] words) ≡ true
 level_has s words id e = defaults_have id s.rules (settled s.rules (walk s.rules [] nothing_held words).held).rows e
+
+-- ---- an option that there isn't
+
+-- no argument has this id
+abbrev pub lacks : Text → List Rule → Bool
+lacks id c = list_all (λ a. not (bytes_eq a.id id)) c
+
+other_id : (c : List Rule) (id : Text) (r : Row) → lacks id c ≡ true → FitsOne c r → bytes_eq r.id id ≡ false
+other_id [] id r lacking fits = absurd fits
+other_id (a ∷ c) id r lacking fits = ⊎_elim here (other_id c id r (both _ _ lacking).1) fits
+  where
+    negated : (b : Bool) → not b ≡ true → b ≡ false
+    negated true e = sym e
+    negated false e = refl
+
+    here : Fits a r → bytes_eq r.id id ≡ false
+    here f = negated (bytes_eq r.id id) (subst (λ (t : Text). not (bytes_eq t id) ≡ true) (sym f.0) (both _ _ lacking).0)
+
+-- then no text stands at it
+pub no_text : (c : List Rule) (id : Text) (rows : List Row) → lacks id c ≡ true → AllFit c rows → (one_of id rows ≡ None) × (first_of id rows ≡ None)
+no_text c id rows lacking fit =
+    let none : find (λ (r : Row). bytes_eq r.id id) rows ≡ None = none_found (λ (r : Row). bytes_eq r.id id) rows
+    (weaker (FitsOne c) (λ r. bytes_eq r.id id ≡ false) (λ r fits. other_id c id r lacking fits) rows fit) in
+    (ap (option_and_then row_text) none, ap (option_and_then (λ (r : Row). slice_get r.values 0)) none)

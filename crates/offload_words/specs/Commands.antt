@@ -1,10 +1,11 @@
 -- The command set of offload, as clap's own functions read it.
-use Rattle.std.specs.Prelude.{◌≡◌, Bool, true, List, [], ◌∷◌, Option, None, IsSome, codes, if◌then◌else◌, option_and_then, option_map}
+use Rattle.std.specs.Prelude.{◌≡◌, ◌↔◌, Bool, true, List, [], ◌∷◌, Option, None, IsSome, codes, if◌then◌else◌, option_and_then, option_map}
+use Rattle.std.specs.Option.{option_map_or}
 use Rattle.std.specs.Str.{bytes_eq}
 use Rattle.clap.specs.Words.{App, Kinds, Row, Text, fault_of, new_app, subcommand_of, with_subcommand}
 use Rattle.clap.specs.declared.builder.Command as clap_command
 use Rattle.clap.specs.declared.builder.Command.TheViews.{out-Command}
-use Rattle.offload_words.specs.Merge.{IsInRange, merge_app, merge_options_in}
+use Rattle.offload_words.specs.Merge.{IsInRange, are_right_texts, merge_app, merge_options_in}
 use Rattle.offload_words.specs.Segment.{segment_app, segment_options_in}
 use Rattle.offload_words.specs.Segment as segment
 use Rattle.offload_words.specs.Check.{check_app, check_options_in}
@@ -62,6 +63,11 @@ HasRanges (Segment options) = segment.IsInRange options
 HasRanges (Check options) = check.IsInRange options
 HasRanges (Make options) = make.IsInRange options
 
--- no line is without both a fault and a command
+-- whether the texts of a line are as they must be, at the subcommand that it names
+abbrev pub has_right_texts : List Text → Bool
+has_right_texts words = option_map_or (λ p. are_right_texts p.1) (subcommand_of offload_app words) true
+
+-- a line without a fault asks for a command exactly where its texts are as they must be
 abbrev pub FaultlessLinesAreCommands : Type 0
-FaultlessLinesAreCommands = (words : List Text) → fault_of offload_app words ≡ [] → IsSome (command_of words)
+FaultlessLinesAreCommands =
+    (words : List Text) → fault_of offload_app words ≡ [] → (has_right_texts words ≡ true) ↔ IsSome (command_of words)

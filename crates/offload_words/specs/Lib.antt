@@ -1,7 +1,11 @@
 pub mod Blocks
 pub mod Check
 pub mod Commands
+pub mod Filter
 pub mod Make
 pub mod Merge
 pub mod Numbers
+pub mod Reading
+pub mod Rss
 pub mod Segment
+pub mod Texts

@@ -4,14 +4,17 @@ ghost use Rattle.std.specs.Prelude.{◌≡◌, IfOk, false};
 ghost use Rattle.clap.specs.Words.{app_of, found_of, rows_of};
 ghost use Rattle.offload_words.specs.Commands.{has_globals_of};
 ghost use Rattle.offload_words.specs.Check.{check_app, check_options_in};
+ghost use Rattle.offload_words.specs.Merge.{AreQueuesIn};
+ghost use Rattle.offload_words.specs.Reading.{Reads};
 
+use crate::fault::WordsFault;
 use crate::merge::{MergeOptions, merge_options, with_merge_options};
 use crate::numbers::{number_at, wide_number_at, with_number, with_plain_number};
 use clap::ArgMatches;
 use std::alloc::{AllocError, Global};
 
 /// The options of `check`.
-#[derive(Clone, Copy, Debug, PartialEq, Eq)]
+#[derive(Drop)]
 pub struct CheckOptions {
     /// What it merges with.
     pub merge: MergeOptions,
@@ -32,11 +35,15 @@ pub(crate) fn check_subcommand<'a>(alloc: Global) -> Result<clap::Command<'a>, A
 }
 
 /// The options among the matches of `check`.
-pub(crate) fn check_options(matches: &ArgMatches<'_>) -> Option<CheckOptions>
-    ensures options { result ≡ check_options_in (rows_of (found_of matches.now)) }
+pub(crate) fn check_options(
+    alloc: Global,
+    matches: &ArgMatches<'_>,
+) -> Result<CheckOptions, WordsFault>
+    requires queues { AreQueuesIn (rows_of (found_of matches.now)) }
+    ensures options { Reads result (check_options_in (rows_of (found_of matches.now))) }
 {
-    let merge = merge_options(matches)?;
-    let count = number_at(matches, "count")?;
+    let merge = merge_options(alloc, matches)?;
+    let count = number_at(matches, "count").ok_or(WordsFault::Usage)?;
     let seed = wide_number_at(matches, "seed");
-    Some(CheckOptions { merge, seed, count })
+    Ok(CheckOptions { merge, seed, count })
 }

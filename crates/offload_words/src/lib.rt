@@ -1,27 +1,36 @@
 //! The command line of `offload`: from words to a command.
 //!
 //! The command set is one description for `clap`, and clap's own functions of such a description say which lines of
-//! words are commands (`fault_of`) and which values they give (`subcommand_of`). `command_of` in `specs/Commands.antt` reads
-//! these out, and `parse_words` computes it. Proved there: `Ok` exactly for a line in which clap finds no fault, with
-//! the values of its matches (`command`, `faultless`), each in its range (`range`), and `Usage` only for a line with a
-//! fault (`usage`, `no_command`). `every_faultless_line_is_a_command` carries the law that there is no third kind of line.
+//! words it takes (`fault_of`) and which values these give (`subcommand_of`). Three options take a text that clap knows
+//! nothing of: a filter of taps as [`tap_filter`] reads it, and a hash key and a table of queues, of which
+//! [`frame_layout`] makes a choice of queues. `command_of` in `specs/Commands.antt` reads the values out, and
+//! `parse_words` computes it. Proved there: `Ok` exactly for a line in which clap finds no fault and whose texts are as
+//! they must be, with the values of its matches (`command`, `faultless`, `texts`), each in its range (`range`), and
+//! `Usage` only for a line with a fault or a text that is refused (`usage`, `no_command`).
+//! `every_faultless_line_is_a_command` carries the law that there is no other kind of line.
 //!
 //! ```text
-//! let command = parse_words(alloc, words)?;   // offload merge --budget 16
-//! // Command::Merge(MergeOptions { queues: 1, budget: 16, blocks: 8384, taps: 0, snap: 64 })
+//! let command = parse_words(alloc, words)?;   // offload merge --budget 16 --filter "1,6 0 0 40"
+//! // Command::Merge(MergeOptions { queues: 1, budget: 16, blocks: 8384, taps: 0, snap: 64, segs: 4096, choice: Choice::Fold,
+//! //     filter: the program of one instruction, whose value is 40 })
 //! ```
 #![tactic(auto)]
 
 pub mod check;
 mod commands;
+mod fault;
+mod filter;
 pub mod make;
 pub mod merge;
 mod numbers;
+mod rss;
 pub mod segment;
+mod texts;
 pub mod words;
 
 pub use check::CheckOptions;
+pub use fault::WordsFault;
 pub use make::MakeOptions;
 pub use merge::MergeOptions;
 pub use segment::SegmentOptions;
-pub use words::{Command, WordsFault, every_faultless_line_is_a_command, parse_words};
+pub use words::{Command, every_faultless_line_is_a_command, parse_words};

@@ -3,14 +3,21 @@
 ghost use Rattle.std.specs.Prelude.{◌≡◌, IfOk, false};
 ghost use Rattle.clap.specs.Words.{app_of, found_of, rows_of};
 ghost use Rattle.offload_words.specs.Commands.{has_globals_of};
-ghost use Rattle.offload_words.specs.Merge.{merge_app, merge_options_in, with_merge_rules};
+ghost use Rattle.offload_words.specs.Merge.{AreQueuesIn, merge_app, merge_numbers_in, merge_options_in, with_merge_numbers as with_merge_numbers_of, with_merge_rules};
+ghost use Rattle.offload_words.specs.Reading.{Reads};
 
+use crate::fault::WordsFault;
+use crate::filter::filter_at;
 use crate::numbers::{number_at, with_blocks, with_number};
+use crate::rss::choice_at;
+use crate::texts::with_text;
 use clap::ArgMatches;
+use frame_layout::Choice;
 use std::alloc::{AllocError, Global};
+use tap_filter::Program;
 
 /// The options of `merge`.
-#[derive(Clone, Copy, Debug, PartialEq, Eq)]
+#[derive(Drop)]
 pub struct MergeOptions {
     /// The queues that packets go to by their flow keys, each worked on its own: 1 to 64.
     pub queues: u32,
@@ -22,6 +29,29 @@ pub struct MergeOptions {
     pub taps: u32,
     /// The most bytes of a window: 1 to 2048.
     pub snap: u32,
+    /// The most packets of a merged record: 1 to 4096.
+    pub segs: u32,
+    /// How flows go to the queues.
+    pub choice: Choice,
+    /// What taps are shown of a record: as many of its bytes as the program's value, and all where there is none.
+    pub filter: Option<Program>,
+}
+
+/// A subcommand with the options of `merge` that take a number.
+fn with_merge_numbers<'a>(
+    alloc: Global,
+    app: clap::Command<'a>,
+) -> Result<clap::Command<'a>, AllocError>
+    requires local { has_globals_of app ≡ false }
+    ensures app { IfOk result (λ c. app_of c ≡ with_merge_numbers_of (app_of app.entry)) }
+    ensures local { IfOk result (λ c. has_globals_of c ≡ false) }
+{
+    let queues = with_number(alloc, app, "queues", 1, 64, "1")?;
+    let budget = with_number(alloc, queues, "budget", 1, 4096, "64")?;
+    let blocks = with_blocks(alloc, budget)?;
+    let taps = with_number(alloc, blocks, "taps", 0, 8, "0")?;
+    let snap = with_number(alloc, taps, "snap", 1, 2048, "64")?;
+    with_number(alloc, snap, "segs", 1, 4096, "4096")
 }
 
 /// A subcommand with the options of `merge`.
@@ -33,11 +63,10 @@ pub(crate) fn with_merge_options<'a>(
     ensures app { IfOk result (λ c. app_of c ≡ with_merge_rules (app_of app.entry)) }
     ensures local { IfOk result (λ c. has_globals_of c ≡ false) }
 {
-    let queues = with_number(alloc, app, "queues", 1, 64, "1")?;
-    let budget = with_number(alloc, queues, "budget", 1, 4096, "64")?;
-    let blocks = with_blocks(alloc, budget)?;
-    let taps = with_number(alloc, blocks, "taps", 0, 8, "0")?;
-    with_number(alloc, taps, "snap", 1, 2048, "64")
+    let numbers = with_merge_numbers(alloc, app)?;
+    let filter = with_text(alloc, numbers, "filter")?;
+    let rss = with_text(alloc, filter, "rss")?;
+    with_text(alloc, rss, "table")
 }
 
 /// What clap is told of `merge`.
@@ -48,20 +77,42 @@ pub(crate) fn merge_subcommand<'a>(alloc: Global) -> Result<clap::Command<'a>, A
     with_merge_options(alloc, clap::Command::new(alloc, "merge"))
 }
 
-/// The options among the matches of `merge`.
-pub(crate) fn merge_options(matches: &ArgMatches<'_>) -> Option<MergeOptions>
-    ensures options { result ≡ merge_options_in (rows_of (found_of matches.now)) }
+/// The options among the matches of `merge`, over these queues and with this choice and this filter.
+fn merge_numbers(
+    matches: &ArgMatches<'_>,
+    queues: u32,
+    choice: Choice,
+    filter: Option<Program>,
+) -> Option<MergeOptions>
+    ensures options { result ≡ merge_numbers_in (rows_of (found_of matches.now)) queues choice filter }
 {
-    let queues = number_at(matches, "queues")?;
     let budget = number_at(matches, "budget")?;
     let blocks = number_at(matches, "blocks")?;
     let taps = number_at(matches, "taps")?;
     let snap = number_at(matches, "snap")?;
+    let segs = number_at(matches, "segs")?;
     Some(MergeOptions {
         queues,
         budget,
         blocks,
         taps,
         snap,
+        segs,
+        choice,
+        filter,
     })
+}
+
+/// The options among the matches of `merge`.
+pub(crate) fn merge_options(
+    alloc: Global,
+    matches: &ArgMatches<'_>,
+) -> Result<MergeOptions, WordsFault>
+    requires queues { AreQueuesIn (rows_of (found_of matches.now)) }
+    ensures options { Reads result (merge_options_in (rows_of (found_of matches.now))) }
+{
+    let queues = number_at(matches, "queues").ok_or(WordsFault::Usage)?;
+    let choice = choice_at(matches, queues).ok_or(WordsFault::Usage)?;
+    let filter = filter_at(alloc, matches)?;
+    merge_numbers(matches, queues, choice, filter).ok_or(WordsFault::Usage)
 }

@@ -66,7 +66,8 @@ pub(crate) fn with_number<'a>(
     app.arg(number_option(alloc, id, low, high, default))
 }
 
-/// The subcommand with the option `--blocks` too. By default there are as many as 64 records of the greatest length need.
+/// The subcommand with the option `--blocks` too. By default there are as many as 64 records of the greatest length
+/// need.
 pub(crate) fn with_blocks<'a>(
     alloc: Global,
     app: clap::Command<'a>,

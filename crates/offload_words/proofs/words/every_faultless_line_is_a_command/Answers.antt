@@ -1,6 +1,5 @@
-use Rattle.std.proofs.Common.{ap, is_some}
-use Rattle.offload_words.proofs.CommandSet.{made}
+use Rattle.offload_words.proofs.CommandSet.{command_there, texts_right}
 use Rattle.offload_words.proofs.words.every_faultless_line_is_a_command.Goals as goal
 
 pub returns : goal.returns
-returns c = record { law = λ words e. ap is_some (made words e).1 }
+returns c = record { law = λ words e. (command_there words e, texts_right words e) }
