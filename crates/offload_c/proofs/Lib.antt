@@ -2,6 +2,7 @@ mod Headers
 mod Records
 mod Flows
 mod Outcomes
+mod Texts
 mod Totals
 mod Sizes
 mod MergedBound

@@ -5,6 +5,8 @@ use Rattle.std.specs.declared.alloc.Global.{Global}
 use Rattle.pcap_io.specs.declared.faults.InFault.{InFault}
 use Rattle.pcap_io.specs.declared.faults.InFault.TheVariants as faults
 use Rattle.offload_model.specs.Passing.{Ending, Passed, Passes, merging_whole, segmenting_whole}
+use Rattle.round_work.specs.Work.{options_by}
+use Rattle.round_work.specs.declared.plan.Plan.{Plan}
 use Rattle.rounds.specs.declared.merge.MergeEnd.{MergeEnd}
 use Rattle.rounds.specs.declared.merge.MergeEnd.TheVariants as merges
 use Rattle.rounds.specs.declared.segment.SegFault.{SegFault}
@@ -12,8 +14,6 @@ use Rattle.rounds.specs.declared.segment.SegFault.TheVariants as segments
 use Rattle.rounds.specs.Merging.{ending_of, options_of}
 use Rattle.rounds.specs.RoundsState.{RoundsState, SegmentState}
 use Rattle.offload_c.specs.Answers.{Gives}
-use Rattle.offload_c.specs.Options.{model_of}
-use Rattle.offload_c.specs.declared.options.MergeOptions.{MergeOptions}
 use Rattle.offload_c.specs.Ends.{IsMergeFault, IsOutcomeOf, IsEndingFor, EndsAs, IsSegOutcome}
 use Rattle.offload_c.specs.declared.memory.Outcome.{Outcome}
 use Rattle.offload_c.proofs.Headers.{fault_ending}
@@ -45,13 +45,13 @@ module _ (passing : List ℕ → Passed) (bytes : Vec ℕ Global) (outcome : Out
 
 -- ---- over the blocks that were made
 
-pub merged_gives : (m : MergeOptions) (rounds : RoundsState) (start : List ℕ) (bytes : Vec ℕ Global) (outcome : Outcome) (given left : List ℕ) (end : MergeEnd)
-    → rounds ≡ record { home = m.blocks; blocks = m.blocks; taken = 0; budget = m.budget; queues = m.queues; taps = m.taps; snap = m.snap; keep = false } → start ≡ [] → IsOutcomeOf end bytes outcome
-    → Passes (merging_whole rounds.blocks (options_of rounds)) (Some start) (Some bytes.items) (ending_of end) given left → Gives (merging_whole m.blocks (model_of m) given) outcome
-merged_gives m rounds start bytes outcome given left end made none is p =
+pub merged_gives : (blocks budget : ℕ) (plan : Plan) (rounds : RoundsState) (start : List ℕ) (bytes : Vec ℕ Global) (outcome : Outcome) (given left : List ℕ) (end : MergeEnd)
+    → rounds ≡ record { home = blocks; blocks = blocks; taken = 0; budget = budget; plan = plan; keep = false } → start ≡ [] → IsOutcomeOf end bytes outcome
+    → Passes (merging_whole rounds.blocks (options_of rounds)) (Some start) (Some bytes.items) (ending_of end) given left → Gives (merging_whole blocks (options_by plan budget) given) outcome
+merged_gives blocks budget plan rounds start bytes outcome given left end made none is p =
     let made_p = subst (λ (s : RoundsState). Passes (merging_whole s.blocks (options_of s)) (Some start) (Some bytes.items) (ending_of end) given left) made p in
-    merge_gives (merging_whole m.blocks (model_of m)) bytes outcome given left end is
-    (subst (λ (xs : List ℕ). Passes (merging_whole m.blocks (model_of m)) (Some xs) (Some bytes.items) (ending_of end) given left) none made_p)
+    merge_gives (merging_whole blocks (options_by plan budget)) bytes outcome given left end is
+    (subst (λ (xs : List ℕ). Passes (merging_whole blocks (options_by plan budget)) (Some xs) (Some bytes.items) (ending_of end) given left) none made_p)
 
 pub segmented_gives : (blocks : ℕ) (run : SegmentState) (start : List ℕ) (bytes : Vec ℕ Global) (outcome : Outcome) (given left : List ℕ) (end : Result (Unit {0}) SegFault)
     → run ≡ record { home = blocks; blocks = blocks; taken = 0 } → start ≡ [] → IsSegOutcome end bytes outcome

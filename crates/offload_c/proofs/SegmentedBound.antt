@@ -14,9 +14,9 @@ use Rattle.pcap_io.specs.declared.faults.CapKind.TheVariants.{BadOffload}
 use Rattle.pcap_io.specs.declared.heads.FileHead.{FileHead}
 use Rattle.pcap_io.specs.declared.heads.Link.{Link}
 use Rattle.pcap_io.specs.declared.heads.Link.TheVariants.{Ethernet, Offload}
-use Rattle.pcap_io.specs.declared.off_head.OffHead.{OffHead}
+use Rattle.pcap_io.specs.declared.off_head.OffHead2.{OffHead2}
 use Rattle.pcap_io.specs.Capture.{Packet, Found, packet_at, judged, found_after, reads, records_from, one_more, ended}
-use Rattle.pcap_io.specs.Headers.{first_that_holds, file_refusals, record_refusals, file_head, captured_length, off_head}
+use Rattle.pcap_io.specs.Headers.{first_that_holds, file_refusals, record_refusals, file_head, captured_length, any_head, head_size, fields_in}
 use Rattle.pcap_io.specs.Places.{first_place}
 use Rattle.pcap_io.specs.Written.{file_bytes}
 use Rattle.pcap_io.proofs.Fronts.{file_whole}
@@ -69,7 +69,7 @@ frames_size : (p : Packet) (fs : List (List ℕ)) → total size (map (with_fram
 frames_size p [] = refl
 frames_size p (f ∷ fs) = ap (λ k. (16 + length f) + k) (frames_size p fs)
 
-super_fits : (head : OffHead) (p : Packet) → InBytes p.frame → total size (map (with_frame p) (frames_of (merged_in head p))) ≤ head.n * 216 + length p.frame
+super_fits : (head : OffHead2) (p : Packet) → InBytes p.frame → total size (map (with_frame p) (frames_of (merged_in head p))) ≤ head.n * 216 + length p.frame
 super_fits head p bytes =
     let layout : Layout = layout_of p.frame in
     omega (
@@ -80,14 +80,14 @@ super_fits head p bytes =
       length-drop layout.payload_at p.frame,
     )
 
-frames_count : (head : OffHead) (p : Packet) → length (map (with_frame p) (frames_of (merged_in head p))) ≡ head.n
+frames_count : (head : OffHead2) (p : Packet) → length (map (with_frame p) (frames_of (merged_in head p))) ≡ head.n
 frames_count head p =
     length-map (frames_of (merged_in head p)) (with_frame p) ∙ length-map (range_with_len 0 head.n) _ ∙ length-range_with_len 0 head.n
 
-abbrev segments_if : Bool → Bool → OffHead → Packet → List Packet
+abbrev segments_if : Bool → Bool → OffHead2 → Packet → List Packet
 segments_if single super head p = if single then p ∷ [] else (if super then map (with_frame p) (frames_of (merged_in head p)) else [])
 
-by_fits : (single super : Bool) (head : OffHead) (p : Packet) (len : ℕ) → InBytes p.frame → length p.frame ≤ len
+by_fits : (single super : Bool) (head : OffHead2) (p : Packet) (len : ℕ) → InBytes p.frame → length p.frame ≤ len
     → total size (segments_if single super head p) ≤ (16 + len) + 216 * length (segments_if single super head p)
 by_fits true super head p len bytes le = omega (arith, le)
 by_fits false true head p len bytes le = omega (arith, le, super_fits head p bytes, frames_count head p)
@@ -95,12 +95,13 @@ by_fits false false head p len bytes le = omega arith
 
 segments_fit : (r : Packet) → InBytes r.frame → total size (segments_of r) ≤ size r + 216 * length (segments_of r)
 segments_fit r bytes =
-    let head : OffHead = off_head r.frame in
-    by_fits (head.kind == 0) (head.kind == 1) head (packet_in r) (length r.frame) (drop_small 12 r.frame bytes) (omega (arith, length-drop 12 r.frame))
+    let head : OffHead2 = fields_in (any_head r.frame) in
+    let behind : ℕ = head_size (any_head r.frame) in
+    by_fits (head.kind == 0) (head.kind == 1) head (packet_in r) (length r.frame) (drop_small behind r.frame bytes) (omega (arith, length-drop behind r.frame))
 
 -- ---- how many segments a lawful record has
 
-few_by : (head : OffHead) (p : Packet) (len : ℕ) → length p.frame ≤ len → IsLawfulBy head p → length (segments_by head p) ≤ 16 + len
+few_by : (head : OffHead2) (p : Packet) (len : ℕ) → length p.frame ≤ len → IsLawfulBy head p → length (segments_by head p) ≤ 16 + len
 few_by head p len le (inl single) = omega (arith, ap (λ k. length (segments_if (k == 0) (k == 1) head p)) single.kind)
 few_by head p len le (inr (inl super)) =
     let c = super.cuttable in
@@ -113,7 +114,8 @@ few_by head p len le (inr (inl super)) =
 few_by head p len le (inr (inr window)) = omega (arith, ap (λ k. length (segments_if (k == 0) (k == 1) head p)) window.kind)
 
 few_segments : (r : Packet) → is_lawful_record r ≡ true → length (segments_of r) ≤ size r
-few_segments r test = few_by (off_head r.frame) (packet_in r) (length r.frame) (omega (arith, length-drop 12 r.frame)) ((decides_record r).0 test)
+few_segments r test =
+    few_by (fields_in (any_head r.frame)) (packet_in r) (length r.frame) (omega (arith, length-drop (head_size (any_head r.frame)) r.frame)) ((decides_record r).0 test).1
 
 -- ---- the records that are read
 

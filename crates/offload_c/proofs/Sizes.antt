@@ -1,11 +1,13 @@
 -- How many bytes records have: those that are read, the record of a run, the windows of taps, the segments of a record.
-use Rattle.std.proofs.Common.{◌≡◌, ℕ, zero, suc, ◌+◌, ◌-◌, ◌*◌, ◌<◌, ◌≤◌, Bool, true, false, Option, None, Some, List, [], ◌∷◌, ◌++◌, length, take, drop, refl, ap, ◌∙◌, arith, length-append, length-drop, length-take}
-use Rattle.std.specs.Prelude.{if◌then◌else◌}
+use Rattle.std.proofs.Common.{◌≡◌, ℕ, zero, suc, ◌+◌, ◌-◌, ◌*◌, ◌<◌, ◌≤◌, Bool, true, false, Option, None, Some, List, [], ◌∷◌, ◌++◌, length, map, take, drop, refl, ap, ◌∙◌, arith, length-append, length-drop, length-take}
+use Rattle.std.specs.Prelude.{if◌then◌else◌, unwrap_or}
 use Rattle.std.specs.List.{flat_map, range_with_len}
 use Rattle.std.proofs.lemmas.List.{length-set}
 use Rattle.net_bytes.specs.Bytes.{put16, put32}
 use Rattle.net_bytes.specs.declared.order.Order.{Order}
 use Rattle.net_bytes.specs.declared.order.Order.TheVariants.{Big, Little}
+use Rattle.tap_filter.specs.declared.instr.Instr.{Instr}
+use Rattle.tap_filter.specs.Meaning.{value_of}
 use Rattle.frame_layout.specs.Shape.{Layout}
 use Rattle.frame_layout.specs.declared.layout.Header.{Header}
 use Rattle.frame_layout.specs.declared.layout.Layer.{Layer}
@@ -21,9 +23,10 @@ use Rattle.offload_model.specs.Edits.{with_edits, put_flags, put_flags_of, put_p
 use Rattle.offload_model.specs.Frames.{merged_frame, segment_frame}
 use Rattle.offload_model.specs.Merged.{merged_of, frame_at, layout_of}
 use Rattle.offload_model.specs.Mergeable.{payloads_of}
-use Rattle.offload_model.specs.Written.{record_of, record_bytes, head_of, window_of, windows_by, windows_of}
+use Rattle.offload_model.specs.Written.{record_of, record_bytes, head_of, shown_bytes, shown_of, window_head, window_of, windows_by, windows_of}
 use Rattle.offload_model.proofs.Made.{with_lengths_and_sums-long}
-use Rattle.offload_model.proofs.Opened.{length-off_bytes}
+use Rattle.offload_model.proofs.Opened.{length-off_bytes2}
+use Rattle.offload_c.specs.Bounds.{both_heads}
 use Rattle.offload_c.proofs.Totals.{total, total_append}
 
 -- a record: its header and its body
@@ -117,9 +120,9 @@ payloads_fit layout [] = omega arith
 payloads_fit layout (p ∷ ps) =
     omega (arith, length-append (drop layout.payload_at p.frame) (payloads_of layout ps), length-drop layout.payload_at p.frame, payloads_fit layout ps)
 
--- with two headers of records and one of the offload header
+-- behind the header of a record, with the offload header between the two
 abbrev pub run_size : Packet → ℕ
-run_size p = 28 + length p.frame
+run_size p = both_heads + length p.frame
 
 frames_less : (ps : List Packet) → total frame_size ps ≤ total run_size ps
 frames_less [] = omega arith
@@ -127,13 +130,13 @@ frames_less (p ∷ ps) = omega (arith, frames_less ps)
 
 pub run_fits : (q : ℕ) (run : List Packet) → 0 < length run → size (record_of q run) ≤ total run_size run
 run_fits q [] some = absurd (omega arith)
-run_fits q (p ∷ []) some = omega (arith, length-off_bytes (head_of q (merged_of (p ∷ []))) p.frame)
+run_fits q (p ∷ []) some = omega (arith, length-off_bytes2 (head_of q (merged_of (p ∷ []))) p.frame)
 run_fits q (p ∷ x ∷ ps) some =
     let run : List Packet = p ∷ x ∷ ps in
     let layout : Layout = layout_of p.frame in
     omega (
       arith,
-      length-off_bytes (head_of q (merged_of run)) (merged_of run).packet.frame,
+      length-off_bytes2 (head_of q (merged_of run)) (merged_of run).packet.frame,
       merged_long layout p.frame (frame_at run (length run - 1)) (payloads_of layout run),
       length-append (drop layout.payload_at p.frame) (payloads_of layout (x ∷ ps)),
       length-take layout.payload_at p.frame,
@@ -160,9 +163,9 @@ segment_long layout fixed m is_last f i =
 
 -- ---- windows
 
-window_fits : (t : ℕ) (p : Packet) (window : List ℕ) → total size (windows_by t p window) ≤ 28 + length window
+window_fits : (t : ℕ) (p : Packet) (window : List ℕ) → total size (windows_by t p window) ≤ both_heads + length window
 window_fits t p [] = omega arith
-window_fits t p (b ∷ bytes) = omega (arith, length-off_bytes (record { version = 1; kind = 2; n = 0; m = 0; modes = 0; lane = t; number = p.number }) (b ∷ bytes))
+window_fits t p (b ∷ bytes) = omega (arith, length-off_bytes2 (window_head t p.number) (b ∷ bytes))
 
 -- what stands behind a place of the frames
 abbrev behind : ℕ → List Packet → ℕ
@@ -171,7 +174,7 @@ behind at ps = total (λ p. length (drop at p.frame)) ps
 window_long : (snap at next : ℕ) (f : List ℕ) → next ≡ at + snap → length (take snap (drop at f)) + length (drop next f) ≡ length (drop at f)
 window_long snap at next f e = omega (arith, e, length-take snap (drop at f), length-drop at f, length-drop next f)
 
-one_tap : (snap t next : ℕ) (ps : List Packet) → next ≡ t * snap + snap → total size (windows_of snap t ps) + behind next ps ≤ 28 * length ps + behind (t * snap) ps
+one_tap : (snap t next : ℕ) (ps : List Packet) → next ≡ t * snap + snap → total size (windows_of snap t ps) + behind next ps ≤ both_heads * length ps + behind (t * snap) ps
 one_tap snap t next [] e = omega arith
 one_tap snap t next (p ∷ ps) e =
     omega (
@@ -182,7 +185,7 @@ one_tap snap t next (p ∷ ps) e =
       one_tap snap t next ps e,
     )
 
-short_tap : (snap t : ℕ) (ps : List Packet) → total size (windows_of snap t ps) ≤ length ps * (28 + snap)
+short_tap : (snap t : ℕ) (ps : List Packet) → total size (windows_of snap t ps) ≤ length ps * (both_heads + snap)
 short_tap snap t [] = omega arith
 short_tap snap t (p ∷ ps) =
     omega (
@@ -196,7 +199,7 @@ short_tap snap t (p ∷ ps) =
 abbrev pub from_tap : ℕ → List Packet → ℕ → ℕ → List Packet
 from_tap snap ps t taps = flat_map (λ t. windows_of snap t ps) (range_with_len t taps)
 
-taps_behind : (snap t taps : ℕ) (ps : List Packet) → total size (from_tap snap ps t taps) ≤ length ps * (28 * taps) + behind (t * snap) ps
+taps_behind : (snap t taps : ℕ) (ps : List Packet) → total size (from_tap snap ps t taps) ≤ length ps * (both_heads * taps) + behind (t * snap) ps
 taps_behind snap t zero ps = omega arith
 taps_behind snap t (suc taps) ps =
     omega (
@@ -210,12 +213,22 @@ behind_all : (ps : List Packet) → behind 0 ps ≡ total frame_size ps
 behind_all [] = refl
 behind_all (p ∷ ps) = ap (λ n. length p.frame + n) (behind_all ps)
 
--- all bytes of the frames at most, behind 28 bytes for each tap and frame
-pub taps_in_frames : (snap taps : ℕ) (ps : List Packet) → total size (from_tap snap ps 0 taps) ≤ length ps * (28 * taps) + total frame_size ps
+-- all bytes of the frames at most, behind both headers for each tap and frame
+pub taps_in_frames : (snap taps : ℕ) (ps : List Packet) → total size (from_tap snap ps 0 taps) ≤ length ps * (both_heads * taps) + total frame_size ps
 taps_in_frames snap taps ps = let none : 0 * snap ≡ 0 = omega arith in omega (arith, taps_behind snap 0 taps ps, ap (λ at. behind at ps) none, behind_all ps)
 
 -- and at most `snap` bytes for each
-pub taps_in_snaps : (snap t taps : ℕ) (ps : List Packet) → total size (from_tap snap ps t taps) ≤ length ps * (28 * taps) + length ps * (taps * snap)
+pub taps_in_snaps : (snap t taps : ℕ) (ps : List Packet) → total size (from_tap snap ps t taps) ≤ length ps * (both_heads * taps) + length ps * (taps * snap)
 taps_in_snaps snap t zero ps = omega arith
 taps_in_snaps snap t (suc taps) ps =
     omega (arith, total_append size (windows_of snap t ps) (from_tap snap ps (t + 1) taps), short_tap snap t ps, taps_in_snaps snap (t + 1) taps ps)
+
+-- ---- what taps are shown
+
+shown_less : (filter : Option (List Instr)) (f : List ℕ) → length (shown_bytes filter f) ≤ length f
+shown_less None f = omega arith
+shown_less (Some code) f = omega (arith, length-take (unwrap_or (value_of code f) 0) f)
+
+pub shown_frames : (filter : Option (List Instr)) (ps : List Packet) → total frame_size (map (shown_of filter) ps) ≤ total frame_size ps
+shown_frames filter [] = omega arith
+shown_frames filter (p ∷ ps) = omega (arith, shown_less filter p.frame, shown_frames filter ps)

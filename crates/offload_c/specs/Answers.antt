@@ -39,8 +39,8 @@ Gives passed (Refused bytes) = IsAtFault passed.stop × (bytes.items ≡ passed.
 Gives passed (Empty bytes) = IsAtRound passed.stop × (bytes.items ≡ passed.output)
 Gives passed NoMemory = ⊤
 
--- Segmented again the output brings every flow back. With taps its records may be more than can be read again, and no output of this
--- length has so many.
+-- Segmented again the output brings every flow back. With taps its records may be more than can be read again, and no
+-- output of this length has so many.
 abbrev pub FlowsBack : ℕ → List ℕ → List ℕ → Type 0
 FlowsBack taps given output =
     (taps ≡ 0) ⊎ (length output ≤ 2 ^ 36) → BringsBack (reads Ethernet given).packets (reads Ethernet (segmented_of output))

@@ -3,11 +3,16 @@ use Rattle.std.specs.Prelude.{ℕ, ◌+◌, ◌-◌, ◌*◌, ◌/◌, ◌≤◌
 use Rattle.std.specs.List.{flat_map}
 use Rattle.pcap_io.specs.declared.heads.Link.TheVariants.{Ethernet}
 use Rattle.pcap_io.specs.Capture.{Packet, reads}
+use Rattle.pcap_io.specs.Limits.{off_head2_size}
 use Rattle.offload_model.specs.Laws.{InBytes}
 use Rattle.offload_model.specs.Passing.{merging_whole, segmenting_whole}
 use Rattle.offload_model.specs.Segments.{segments_of}
 use Rattle.offload_model.specs.Tested.{reads_tested}
 use Rattle.offload_model.specs.Written.{Options}
+
+-- the header of a record, and the offload header behind it
+abbrev pub both_heads : ℕ
+both_heads = 16 + off_head2_size
 
 -- ---- merging
 
@@ -15,11 +20,12 @@ use Rattle.offload_model.specs.Written.{Options}
 abbrev pub most_records : ℕ → ℕ → ℕ
 most_records len records = min records ((len - 24) / 16)
 
--- A capture of `len` bytes and at most this many records, merged: a record has 12 bytes more; and each tap writes a window of
--- it, at most `snap` bytes behind 28 bytes of headers, which all together aren't more than the frames' bytes.
+-- A capture of `len` bytes and at most this many records, merged: a record has an offload header more; and each tap
+-- writes a window of it, at most `snap` bytes behind both headers, which all together aren't more than the frames'
+-- bytes.
 abbrev pub merge_bound : ℕ → ℕ → ℕ → ℕ → ℕ
 merge_bound len records taps snap =
-    let n = most_records len records in len + n * (12 + 28 * taps) + min len (n * (taps * snap))
+    let n = most_records len records in len + n * (off_head2_size + both_heads * taps) + min len (n * (taps * snap))
 
 abbrev pub packets_read : List ℕ → List Packet
 packets_read given = (reads Ethernet given).packets
@@ -32,8 +38,8 @@ MergedFits =
 
 -- ---- segmenting
 
--- The packets of a capture of `len` bytes, at most this many and no more than it has bytes: each has a header of 16 bytes and the
--- 200 bytes of headers, at most, that a merged frame's segments share.
+-- The packets of a capture of `len` bytes, at most this many and no more than it has bytes: each has a header of 16
+-- bytes and the 200 bytes of headers, at most, that a merged frame's segments share.
 abbrev pub segment_bound : ℕ → ℕ → ℕ
 segment_bound len packets = len + 216 * min packets len
 

@@ -1,16 +1,14 @@
 //! What C calls.
 ghost use Rattle.std.specs.Prelude.{◌≡◌, ◌≢◌, ℕ, ◌≤◌, ◌<◌, ◌⊎◌, ◌↔◌, length, take};
-ghost use Rattle.frame_layout.specs.Key.{key_of, queue_of as queue_of_key};
 ghost use Rattle.offload_model.specs.Passing.{Nowhere, merging_whole, segmenting_whole};
 ghost use Rattle.offload_c.specs.Bounds.{packets_read, packets_cut, merge_bound, segment_bound};
 ghost use Rattle.offload_c.specs.Answers.{Fills, IsShort, IsAtFault, IsAtRound, FlowsBack};
-ghost use Rattle.offload_c.specs.Options.{AreInRange, model_of};
+ghost use Rattle.offload_c.specs.Options.{AreLawful, AreAllButFilter, model_of};
 
 use crate::memory::Outcome;
-use crate::merging::merge_bytes;
-use crate::options::MergeOptions;
+use crate::merging::merge_by;
+use crate::options::{MergeOptions, Refused};
 use crate::segmenting::segment_bytes;
-use frame_layout::{key, queue_of};
 use std::alloc::Global;
 
 const OK: u32 = 0;
@@ -40,13 +38,13 @@ fn deliver(bytes: &[u8], code: u32, output: &mut [u8], count: &mut usize) -> u32
     code
 }
 
-/// Merges a capture of Ethernet frames (classic pcap) in memory. A frame of n bytes needs (n + 2111) / 2048 + 2 of the blocks while its
-/// round lasts. All queues and taps are worked in the thread that calls.
+/// Merges a capture of Ethernet frames (classic pcap) in memory. A frame of n bytes needs (n + 2111) / 2048 + 2 of the
+/// blocks while its round lasts. All queues and taps are worked in the thread that calls.
 ///
-/// `*count` is the length of the output, which stands at the front of `output` where it has room. 0: the capture was read to its
-/// end. 2: a number is out of its range. 3: the capture is refused; the output of the records before stands there. 4: a round needs
-/// more blocks than there are; the output of the rounds before stands there. 7: there was no memory. 9: the output is longer than
-/// `output`, which can't be where that has [`crate::offload_merge_bound`] bytes.
+/// `*count` is the length of the output, which stands at the front of `output` where it has room. 0: the capture was
+/// read to its end. 2: the options aren't lawful. 3: the capture is refused; the output of the records before stands
+/// there. 4: a round needs more blocks than there are; the output of the rounds before stands there. 7: there was no
+/// memory. 9: the output is longer than `output`, which can't be where that has [`crate::offload_merge_bound`] bytes.
 #[unsafe(no_mangle)]
 pub extern "C" fn offload_merge(
     alloc: Global,
@@ -55,7 +53,8 @@ pub extern "C" fn offload_merge(
     output: &mut [u8],
     count: &mut usize,
 ) -> u32
-    ensures usage { result ≡ 2 ↔ (AreInRange options.now → ⊥) }
+    ensures usage { result ≡ 2 → AreLawful options.now → ⊥ }
+    ensures refused { (AreLawful options.now → ⊥) → (result ≡ 2) ⊎ ((result ≡ 7) × AreAllButFilter options.now) }
     ensures ok { result ≡ 0 → ((merging_whole options.now.blocks (model_of options.now) capture.now).stop ≡ Nowhere) × Fills output.old output.new count.new (merging_whole options.now.blocks (model_of options.now) capture.now).output }
     ensures malformed { result ≡ 3 → IsAtFault (merging_whole options.now.blocks (model_of options.now) capture.now).stop × Fills output.old output.new count.new (merging_whole options.now.blocks (model_of options.now) capture.now).output }
     ensures empty { result ≡ 4 → IsAtRound (merging_whole options.now.blocks (model_of options.now) capture.now).stop × Fills output.old output.new count.new (merging_whole options.now.blocks (model_of options.now) capture.now).output }
@@ -66,10 +65,12 @@ pub extern "C" fn offload_merge(
     ensures untouched { (result ≡ 2) ⊎ (result ≡ 7) → (output.new ≡ output.old) × (count.new ≡ 0) }
 {
     *count = 0;
-    if !options.are_in_range() {
-        return USAGE;
-    }
-    match merge_bytes(alloc, options, capture) {
+    let outcome = match merge_by(alloc, options, capture) {
+        Ok(outcome) => outcome,
+        Err(Refused::Usage) => return USAGE,
+        Err(Refused::NoMemory) => return NO_MEMORY,
+    };
+    match outcome {
         Outcome::Whole(bytes) => deliver(&bytes, OK, output, count),
         Outcome::Refused(bytes) => deliver(&bytes, MALFORMED, output, count),
         Outcome::Empty(bytes) => deliver(&bytes, POOL_EMPTY, output, count),
@@ -77,11 +78,12 @@ pub extern "C" fn offload_merge(
     }
 }
 
-/// Cuts an offload capture in memory, as [`offload_merge`] makes it, back into the packets that its records stand for, each record
-/// in a pool of `blocks` blocks of 2048 bytes (1 to 65536). A record whose frame has n bytes needs (n + 2111) / 2048 + 2 of them.
+/// Cuts an offload capture in memory, as [`offload_merge`] makes it, back into the packets that its records stand for,
+/// each record in a pool of `blocks` blocks of 2048 bytes (1 to 65536). A record of n bytes with its offload header needs
+/// (n + 2099) / 2048 + 2 of them: of a header of version 2 the last four bytes are counted with the frame.
 ///
-/// The answers are those of [`offload_merge`]; a record that isn't lawful ends the capture too. [`crate::offload_segment_bound`]
-/// bytes suffice.
+/// The answers are those of [`offload_merge`], where `blocks` is the only option; a record that isn't lawful ends the
+/// capture too. [`crate::offload_segment_bound`] bytes suffice.
 #[unsafe(no_mangle)]
 pub extern "C" fn offload_segment(
     alloc: Global,
@@ -109,16 +111,4 @@ pub extern "C" fn offload_segment(
         Outcome::Empty(bytes) => deliver(&bytes, POOL_EMPTY, output, count),
         Outcome::NoMemory => NO_MEMORY,
     }
-}
-
-/// The queue of a frame's flow among 1 to 64 queues. With another number of queues, that number.
-#[unsafe(no_mangle)]
-pub extern "C" fn offload_queue(frame: &[u8], queues: u32) -> u32
-    ensures queue { 1 ≤ queues → queues ≤ 64 → (result ≡ queue_of_key (key_of frame.now) queues) × (result < queues) }
-    ensures refused { (queues ≡ 0) ⊎ (64 < queues) → result ≡ queues }
-{
-    if queues == 0 || queues > 64 {
-        return queues;
-    }
-    queue_of(&key(frame), queues)
 }

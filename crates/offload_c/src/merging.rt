@@ -1,18 +1,20 @@
 //! Merges a capture in memory.
-ghost use Rattle.std.specs.Prelude.{◌≡◌};
+ghost use Rattle.std.specs.Prelude.{◌≡◌, ◌≤◌, IfOk, IfErr};
 ghost use Rattle.off_io.specs.Told.{Told};
 ghost use Rattle.pcap_io.specs.declared.heads.Link.TheVariants.{Ethernet};
 ghost use Rattle.pcap_io.specs.Places.{first_place};
 ghost use Rattle.offload_model.specs.Passing.{merging, merging_whole, Passes};
+ghost use Rattle.round_work.specs.Work.{IsPlan, options_by};
 ghost use Rattle.rounds.specs.Merging.{ending_of, options_of};
 ghost use Rattle.offload_c.specs.Answers.{Gives, FlowsOf};
-ghost use Rattle.offload_c.specs.Options.{AreInRange, model_of};
 ghost use Rattle.offload_c.specs.Ends.{IsMergeFault, IsOutcomeOf};
+ghost use Rattle.offload_c.specs.Options.{AreLawful, WhyRefused, model_of};
 
 use crate::memory::{LentSource, Outcome, grown_sink};
-use crate::options::MergeOptions;
+use crate::options::{MergeOptions, Refused};
 use off_io::{NoGate, Sink, Source, WriteFault};
 use pcap_io::{CaptureReader, FileHead, InFault, Link, take_file, write_file_head};
+use round_work::Plan;
 use rounds::{MergeEnd, Rounds};
 use std::alloc::Global;
 
@@ -67,21 +69,15 @@ fn outcome_of(end: MergeEnd, bytes: Vec<u8>) -> Outcome
     }
 }
 
-/// Merges a capture in memory, over a pool of blocks that is made here.
-pub fn merge_bytes(alloc: Global, options: &MergeOptions, capture: &[u8]) -> Outcome
-    requires range { AreInRange options.now }
-    ensures gives { Gives (merging_whole options.now.blocks (model_of options.now) capture.now) result }
-    ensures flows { FlowsOf options.now.taps capture.now result }
+// Merges a capture in memory, over a pool of blocks that is made here.
+fn merge_bytes(alloc: Global, blocks: u32, budget: u32, plan: Plan, capture: &[u8]) -> Outcome
+    requires blocks { (1 ≤ blocks) × (blocks ≤ 65536) }
+    requires budget { (1 ≤ budget) × (budget ≤ 4096) }
+    requires plan { IsPlan plan }
+    ensures gives { Gives (merging_whole blocks (options_by plan budget) capture.now) result }
+    ensures flows { FlowsOf plan.taps capture.now result }
 {
-    let Ok(mut rounds) = Rounds::make(
-        alloc,
-        options.blocks,
-        options.budget,
-        options.queues,
-        options.taps,
-        options.snap,
-        false,
-    ) else {
+    let Ok(mut rounds) = Rounds::make(alloc, blocks, budget, plan, false) else {
         return Outcome::NoMemory;
     };
     let Ok(mut sink) = grown_sink(alloc, capture.len()) else {
@@ -90,4 +86,25 @@ pub fn merge_bytes(alloc: Global, options: &MergeOptions, capture: &[u8]) -> Out
     let mut source = LentSource { bytes: capture };
     let end = merge_capture(&mut rounds, &mut source, &mut sink);
     outcome_of(end, sink.bytes)
+}
+
+/// Merges a capture in memory by these options.
+///
+/// # Errors
+///
+/// `Usage` where they aren't lawful. `NoMemory` where memory runs out while the filter is read.
+pub fn merge_by(
+    alloc: Global,
+    options: &MergeOptions<'_>,
+    capture: &[u8],
+) -> Result<Outcome, Refused>
+    ensures gives { IfOk result (Gives (merging_whole options.now.blocks (model_of options.now) capture.now)) }
+    ensures flows { IfOk result (FlowsOf options.now.taps capture.now) }
+    ensures lawful { IfOk result (λ _. AreLawful options.now) }
+    ensures refused { IfErr result (WhyRefused options.now) }
+{
+    match options.plan(alloc) {
+        Ok(plan) => Ok(merge_bytes(alloc, options.blocks, options.budget, plan, capture)),
+        Err(fault) => Err(fault),
+    }
 }
