@@ -6,9 +6,10 @@ ghost use Rattle.std.specs.Prelude.{◌≤◌, ◌^◌};
 
 use off_io::{Feed, MemSink, MemSource};
 use pcap_io::{
-    CapFault, CapKind, CaptureReader, FileHead, InFault, Link, OffHead, Order, capture_reads_back,
-    capture_splits, file_head_reads_back, off_head_reads_back, off_head_writes_back,
-    rec_head_reads_back, rec_head_writes_back, split_is_unique, write_file_head, write_rec_head,
+    AnyHead, CapFault, CapKind, CaptureReader, FRAME_LIMIT, FileHead, InFault, Link, OffHead,
+    OffHead2, Order, capture_reads_back, capture_splits, file_head_reads_back, off_head_reads_back,
+    off_head_writes_back, off_head2_reads_back, off_head2_writes_back, rec_head_reads_back,
+    rec_head_writes_back, split_is_unique, write_file_head, write_rec_head,
 };
 use std::alloc::Global;
 use std::test::Fail;
@@ -74,25 +75,68 @@ fn headers_are_written(rt: HostRuntime) -> Result<(), Fail> {
     assert_eq!(rt; write_rec_head(&mut sink, &head, 1, 2, 15, 17), Ok(()));
     let want = [
         0xa1, 0xb2, 0x3c, 0x4d, 0x00, 0x02, 0x00, 0x04, 0x00, 0x00, 0x00, 0x07, 0x00, 0x00, 0x00,
-        0x09, 0x00, 0x04, 0x00, 0x0c, 0x00, 0x00, 0x00, 0x93, 0x00, 0x00, 0x00, 0x01, 0x00, 0x00,
+        0x09, 0x00, 0x04, 0x00, 0x10, 0x00, 0x00, 0x00, 0x93, 0x00, 0x00, 0x00, 0x01, 0x00, 0x00,
         0x00, 0x02, 0x00, 0x00, 0x00, 0x0f, 0x00, 0x00, 0x00, 0x11,
     ];
     assert_eq!(rt; sink.bytes(), want.as_slice());
-    let bytes = [1, 1, 0, 2, 0, 4, 3, 5, 0, 1, 2, 3];
-    let merged = OffHead::read(&bytes);
-    assert_eq!(rt;
-        (merged.n, merged.m, merged.modes, merged.lane),
-        (2, 4, 3, 5)
-    );
-    assert_eq!(rt; (merged.version, merged.kind, merged.number), (1, 1, 66051));
-    assert_eq!(rt; merged.bytes(), bytes);
     Ok(())
+}
+
+/// The fields of an offload header of version 2: 70,000 packets of at most 131,072 bytes.
+const FIELDS: OffHead2 = OffHead2 {
+    version: 2,
+    kind: 1,
+    modes: 3,
+    lane: 5,
+    n: 70_000,
+    m: 131_072,
+    number: 66_051,
+};
+
+#[test]
+fn offload_headers_of_both_versions(rt: HostRuntime) {
+    let first = [1, 1, 0, 2, 0, 4, 3, 5, 0, 1, 2, 3];
+    let head = OffHead::read(&first);
+    let fields = OffHead2 {
+        version: 1,
+        n: 2,
+        m: 4,
+        ..FIELDS
+    };
+    assert_eq!(rt; AnyHead::V1(head).fields(), fields);
+    assert_eq!(rt; head.bytes(), first);
+    let second = [2, 1, 3, 5, 0, 1, 0x11, 0x70, 0, 2, 0, 0, 0, 1, 2, 3];
+    assert_eq!(rt; OffHead2::read(&second), FIELDS);
+    assert_eq!(rt; FIELDS.bytes(), second);
+    assert_eq!(rt; AnyHead::V2(FIELDS).fields(), FIELDS);
+    assert_eq!(rt; FRAME_LIMIT, 262_144);
+}
+
+/// Length and version of the header that a record begins with, and whether it says that version.
+fn version_of(body: &[u8]) -> Option<(u32, u8, bool)> {
+    let head = AnyHead::read(body)?;
+    Some((head.size(), head.fields().version, head.says_version()))
+}
+
+/// The first byte tells the version. All but 2 are read as version 1.
+#[test]
+fn versions_by_the_first_byte(rt: HostRuntime) {
+    let mut body = [0u8; 17];
+    for (version, size, says) in [(0, 12, false), (1, 12, true), (2, 16, true), (3, 12, false)] {
+        body[0] = version;
+        let want = Some((size as u32, version, says));
+        assert!(rt; version_of(&body) == want && version_of(&body[..size]) == want);
+        assert!(rt; version_of(&body[..size - 1]).is_none());
+    }
+    assert!(rt; version_of(&[]).is_none());
 }
 
 #[test]
 fn laws_are_called() {
     off_head_reads_back();
     off_head_writes_back();
+    off_head2_reads_back();
+    off_head2_writes_back();
     rec_head_reads_back();
     rec_head_writes_back();
     file_head_reads_back();

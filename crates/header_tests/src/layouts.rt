@@ -1,8 +1,10 @@
 //! Frames, sums and keys that a separate program computed from the RFCs.
-ghost use Rattle.std.specs.Prelude.{◌≡◌, ◌<◌, ◌^◌, length};
+ghost use Rattle.std.specs.Prelude.{◌≡◌, ◌<◌, ◌^◌, IfOk, length};
 
-use frame_layout::{Key, candidate, candidate_in, key, queue_of, shape};
+use frame_layout::{Key, candidate, candidate_in, ip6_length, key, queue_of, shape};
 use inet_sum::Partial;
+use std::alloc::Global;
+use std::test::Fail;
 use worked_captures::{FIRST, SECOND};
 
 /// The same without payload.
@@ -14,7 +16,7 @@ const EMPTY: [u8; 54] = [
 ];
 
 /// Two tags, IPv6, VXLAN, two tags, IPv6, TCP with 40 bytes of options, and three bytes: 200 bytes of headers.
-const TUNNEL: [u8; 203] = [
+pub const TUNNEL: [u8; 203] = [
     0x02, 0x00, 0x00, 0x00, 0x00, 0x02, 0x02, 0x00, 0x00, 0x00, 0x00, 0x01, 0x88, 0xa8, 0x00, 0x05,
     0x81, 0x00, 0x00, 0x06, 0x86, 0xdd, 0x60, 0x00, 0x00, 0x00, 0x00, 0x8d, 0x11, 0x40, 0x20, 0x01,
     0x0d, 0xb8, 0x00, 0x00, 0x00, 0x00, 0x00, 0x00, 0x00, 0x00, 0x00, 0x00, 0x00, 0x01, 0x20, 0x01,
@@ -61,7 +63,7 @@ const TUNNEL_FLOW: [u8; 119] = [
 ];
 
 /// Changes these bytes.
-fn change(frame: &mut [u8], edits: &[(usize, u8)])
+pub fn change(frame: &mut [u8], edits: &[(usize, u8)])
     ensures len { length frame.new ≡ length frame.old }
 {
     for (at, byte) in edits {
@@ -71,8 +73,16 @@ fn change(frame: &mut [u8], edits: &[(usize, u8)])
     }
 }
 
+/// Whether the frame has a shape of so many headers, with the payload at this place; none where there are 0.
+pub fn has_shape(frame: &[u8], headers: usize, payload_at: usize) -> bool {
+    match shape(frame) {
+        Some(layout) => layout.headers().len() == headers && layout.payload_at() == payload_at,
+        None => headers == 0,
+    }
+}
+
 /// Whether the frame is a candidate, where all of it was captured.
-fn is_candidate(frame: &[u8]) -> bool
+pub fn is_candidate(frame: &[u8]) -> bool
     requires few { length frame.now < 2 ^ 29 }
 {
     let len = frame.len() as u32;
@@ -226,8 +236,8 @@ fn frames_that_have_no_shape(rt: HostRuntime) {
         ("options", 14, 0x46),
         ("more fragments", 20, 0x60),
         ("an offset", 21, 0x01),
-        ("UDP to another port", 23, 17),
         ("ICMP", 23, 1),
+        ("GRE with a sum, a key and more", 23, 47),
         ("ARP", 13, 0x06),
         ("a short data offset", 46, 0x40),
         ("a data offset beyond the end", 46, 0x70),
@@ -254,4 +264,60 @@ fn frames_that_have_no_shape(rt: HostRuntime) {
         change(&mut frame, &edits);
         assert!(rt; shape(&frame).is_none(), "{what}");
     }
+}
+
+/// Ethernet, IPv6 and TCP, before 65,515 bytes of zeros.
+const LONG: [u8; 74] = [
+    0x02, 0x00, 0x00, 0x00, 0x00, 0x02, 0x02, 0x00, 0x00, 0x00, 0x00, 0x01, 0x86, 0xdd, 0x60, 0x00,
+    0x00, 0x00, 0xff, 0xff, 0x06, 0x40, 0x20, 0x01, 0x0d, 0xb8, 0x00, 0x00, 0x00, 0x00, 0x00, 0x00,
+    0x00, 0x00, 0x00, 0x00, 0x00, 0x01, 0x20, 0x01, 0x0d, 0xb8, 0x00, 0x00, 0x00, 0x00, 0x00, 0x00,
+    0x00, 0x00, 0x00, 0x00, 0x00, 0x02, 0x9c, 0x40, 0x13, 0x89, 0x00, 0x00, 0x03, 0xe8, 0x00, 0x00,
+    0x00, 0x01, 0x50, 0x10, 0x01, 0x00, 0x9f, 0xc1, 0x00, 0x00,
+];
+
+/// The first 200 bytes of such a frame, with this payload length and this sum.
+fn long_head(field: [u8; 2], sum: [u8; 2]) -> [u8; 200] {
+    let mut head = [0u8; 200];
+    head[..74].copy_from_slice(&LONG);
+    head[18..20].copy_from_slice(&field);
+    head[70..72].copy_from_slice(&sum);
+    head
+}
+
+/// The sum of so many zeros.
+fn zeros(alloc: Global, count: usize) -> Result<Partial, Fail>
+    requires few { count < 2 ^ 20 }
+    ensures few { IfOk result (λ sum. sum.len < 2 ^ 20) }
+{
+    let bytes = vec![in alloc; 0u8; count]?;
+    let mut sum = Partial::new();
+    sum.add(&bytes);
+    Ok(sum)
+}
+
+/// Whether a frame of these headers and so many zeros, 126 or more, with this length and this sum, is a candidate.
+fn is_long_candidate(alloc: Global, size: usize, field: [u8; 2], sum: [u8; 2]) -> Result<bool, Fail>
+    requires few { size < 2 ^ 20 }
+{
+    let head = long_head(field, sum);
+    let rest = zeros(alloc, size.saturating_sub(126))?;
+    let len = 200 + rest.len();
+    Ok(candidate(&head, &rest, len, len).is_some())
+}
+
+/// From 65,536 on the payload length is 0, and the sum takes in all 32 bits of it (RFC 8200, sections 3 and 8.1).
+#[test]
+fn lengths_over_ip6(rt: HostRuntime) -> Result<(), Fail> {
+    let alloc = rt.alloc();
+    let (short, long) = ([0x9f, 0xc1], [0x9f, 0xc0]);
+    assert!(rt; is_long_candidate(alloc, 65_515, [0xff, 0xff], short)?);
+    assert!(rt; !is_long_candidate(alloc, 65_515, [0x00, 0x00], short)?);
+    assert!(rt; is_long_candidate(alloc, 65_516, [0x00, 0x00], long)?);
+    assert!(rt; !is_long_candidate(alloc, 65_516, [0xff, 0xff], long)?);
+    assert!(rt; !is_long_candidate(alloc, 65_516, [0x00, 0x00], short)?);
+    assert_eq!(rt;
+        (ip6_length(65_535), ip6_length(65_536), ip6_length(262_104)),
+        (65_535, 0, 0)
+    );
+    Ok(())
 }

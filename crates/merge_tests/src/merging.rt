@@ -5,6 +5,8 @@ ghost use Rattle.frags.specs.OutcomesState.{IsBare};
 
 mod frames;
 mod joins;
+mod layers;
+mod long;
 mod rounds;
 
 use frags::{Outcomes, Pieces};
@@ -85,12 +87,12 @@ fn packet(rt: &impl Abort, alloc: Global, number: u32, head: &[u8], payload: &[u
     checked(rt, packet)
 }
 
-// A packet whose frame lies in its head.
+// A packet whose frame is no longer than may be, with its headers in its head.
 fn checked(rt: &impl Abort, packet: Packet) -> Packet
     ensures held { IsHeld result }
 {
     let len = packet.skb.len();
-    assert!(rt; len <= 2000 && packet.skb.head().len() == len);
+    assert!(rt; len <= 262_144 && len.min(200) <= packet.skb.head().len());
     packet
 }
 
@@ -145,13 +147,20 @@ fn spend(rt: &impl Abort, alloc: Global, packet: Packet) {
     freed(rt, skb, Outcomes::new(alloc));
 }
 
-// A table for so many packets. Where one call is refused memory, the next one isn't.
+// A table for so many packets, in runs of as many.
 fn table_for(rt: &impl Abort, alloc: Global, limit: u32) -> RoundTable
     ensures none { result.runs ≡ [] }
 {
-    match RoundTable::make(alloc, limit) {
+    table_in_runs(rt, alloc, limit, 4096)
+}
+
+// A table for so many packets, in runs of so many. Where one call is refused memory, the next one isn't.
+fn table_in_runs(rt: &impl Abort, alloc: Global, limit: u32, segs: u32) -> RoundTable
+    ensures none { result.runs ≡ [] }
+{
+    match RoundTable::make(alloc, limit, segs) {
         Ok(table) => table,
-        Err(_) => RoundTable::make(alloc, limit).expect(rt, "table"),
+        Err(_) => RoundTable::make(alloc, limit, segs).expect(rt, "table"),
     }
 }
 
@@ -211,7 +220,7 @@ fn finished(rt: &impl Abort, alloc: Global, table: RoundTable) -> Vec<Item> {
 }
 
 // Number, packets, first payload and modes of an item.
-type Said = (u32, u16, u16, u8);
+type Said = (u32, u32, u32, u8);
 
 // The items say this: how many blocks are home once they are spent.
 fn spent(rt: &impl Abort, items: Vec<Item>, rows: &[Said]) -> usize {

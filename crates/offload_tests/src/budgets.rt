@@ -105,7 +105,7 @@ fn pools_with_a_block_too_few(rt: HostRuntime) -> Result<(), Fail> {
             "offload merge --blocks 6 --budget 2",
             four.as_slice(),
             good,
-            6004,
+            6012,
         ),
         (
             "offload segment --blocks 3",
@@ -189,7 +189,7 @@ fn the_fewest_blocks_serve_every_round(rt: HostRuntime) -> Result<(), Fail> {
     let input = capture_of(alloc, &frames)?;
     let line = "offload merge --blocks 6 --budget 2";
     let pairs = run_line(&rt, rt.alloc(), line, &input, 4096, &[], &[])?;
-    assert!(rt; pairs.status == Status::Ok && pairs.sink.bytes().len() == 299024);
+    assert!(rt; pairs.status == Status::Ok && pairs.sink.bytes().len() == 299424);
     assert_eq!(rt; told_by(&pairs.engine), (6, 600));
     let mut frames = Vec::new(alloc);
     for port in 0..20000u16 {
@@ -202,7 +202,7 @@ fn the_fewest_blocks_serve_every_round(rt: HostRuntime) -> Result<(), Fail> {
     let input = capture_of(alloc, &frames)?;
     let line = "offload merge --blocks 3 --budget 1";
     let singles = run_line(&rt, rt.alloc(), line, &input, 4096, &[], &[])?;
-    assert!(rt; singles.status == Status::Ok && singles.sink.bytes().len() == 1660024);
+    assert!(rt; singles.status == Status::Ok && singles.sink.bytes().len() == 1740024);
     assert_eq!(rt; told_by(&singles.engine), (3, 60000));
     Ok(())
 }

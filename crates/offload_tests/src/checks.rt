@@ -3,6 +3,7 @@
 use crate::lines::{CAPTURE, run_line};
 use crate::queues::{in_turn, pair};
 use crate::row_frames::{Frame, NEXT, PLAIN, capture_of};
+use crate::words::KEY;
 use offload_run::Status;
 use pcap_io::{CapFault, CapKind};
 use std::alloc::{AllocError, Global};
@@ -28,6 +29,14 @@ const LANES: &str =
 // Of a queue that no packet goes to, and of taps whose second windows are shorter.
 const IDLE: &str =
     "queue 0: records 2 items 1 merged 1 returned 2\nqueue 1: records 0 items 0 merged 0 returned 0\ntap 0: windows 2 bytes 128\ntap 1: windows 2 bytes 72\ntotal: records 2 items 1 merged 1 returned 2\n";
+
+// Of taps that are shown 40 bytes of each packet.
+const SHOWN: &str =
+    "queue 0: records 2 items 1 merged 1 returned 2\ntap 0: windows 2 bytes 80\ntap 1: windows 0 bytes 0\ntotal: records 2 items 1 merged 1 returned 2\n";
+
+// Of a table that has the second queue alone.
+const SECOND: &str =
+    "queue 0: records 0 items 0 merged 0 returned 0\nqueue 1: records 2 items 1 merged 1 returned 2\ntotal: records 2 items 1 merged 1 returned 2\n";
 
 // Of a generated capture: a source that fails at its first call is never asked.
 const MADE: &str =
@@ -71,7 +80,9 @@ fn lines_by_row(rt: HostRuntime) -> Result<(), Fail> {
         blocks: 3,
     };
     let lanes = "offload check --queues 2 --taps 2 --snap 64 --budget 4";
-    let rows: [(&str, &[u8], &[u64], Status, &str); 9] = [
+    let shown = "offload check --taps 2 --snap 64 --filter 1,6~0~0~40";
+    let second = format!(in alloc; "offload check --queues 2 --rss {KEY} --table 1")?;
+    let rows: [(&str, &[u8], &[u64], Status, &str); 12] = [
         ("offload check --count 5", &CAPTURE, &[], Status::Ok, BOTH),
         (
             "offload check --blocks 3 --budget 1",
@@ -82,6 +93,9 @@ fn lines_by_row(rt: HostRuntime) -> Result<(), Fail> {
         ),
         (lanes, &turns, &[], Status::Ok, LANES),
         (lanes, &pair, &[], Status::Ok, IDLE),
+        (shown, &pair, &[], Status::Ok, SHOWN),
+        (&second, &pair, &[], Status::Ok, SECOND),
+        ("offload check --segs 1", &pair, &[], Status::Ok, APART),
         (
             "offload check --seed 0 --count 1",
             &CAPTURE,

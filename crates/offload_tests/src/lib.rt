@@ -11,6 +11,8 @@ mod budgets;
 #[cfg(test)]
 mod checks;
 #[cfg(test)]
+mod datagrams;
+#[cfg(test)]
 mod failing;
 #[cfg(test)]
 mod hostile;
@@ -22,6 +24,8 @@ mod lines;
 mod logged;
 #[cfg(test)]
 mod made;
+#[cfg(test)]
+mod options;
 #[cfg(test)]
 mod queues;
 #[cfg(test)]

@@ -74,8 +74,8 @@ pub fn written_of(
     ended.sink.bytes().to_vec(alloc)
 }
 
-// Of each read that fails the packets before are written as two queues have them. The file header takes a read, each record four,
-// and the end one.
+// Of each read that fails the packets before are written as two queues have them. The file header takes a read, each
+// record four, and the end one.
 #[test]
 fn each_read_fails_over_two_queues(rt: HostRuntime) -> Result<(), Fail> {
     let alloc = rt.alloc();
@@ -139,11 +139,11 @@ fn two_taps(rt: HostRuntime) -> Result<(), Fail> {
     let output = ended.sink.bytes();
     let mut lens = Vec::new(alloc);
     for said in said_in(alloc, output)? {
-        lens.push((said.0, said.4.saturating_add(12)))?;
+        lens.push((said.0, said.4.saturating_add(16)))?;
     }
     assert_eq!(rt;
         lens.as_slice(),
-        [(0, 158), (0, 76), (1, 76), (0, 48), (1, 48)].as_slice()
+        [(0, 162), (0, 80), (1, 80), (0, 52), (1, 52)].as_slice()
     );
     Ok(())
 }

@@ -13,13 +13,18 @@ pub struct Frame {
     // How many tunnels there are, one in the other, where there is one.
     pub tunnels: u8,
     pub outer_id: u16,
+    // Of a tunnel's UDP header, and of a datagram's own.
     pub has_udp_sum: bool,
-    // The version of the IP header below TCP.
+    // What stands, with an IPv4 header before it, around the packet.
+    pub gre: Gre,
+    // The version of the IP header below TCP or UDP.
     pub ip: u8,
     pub id: u16,
     pub has_df: bool,
     pub hops: u8,
     pub port: u16,
+    // The destination port of a UDP datagram; 0 where there is a TCP segment.
+    pub datagram_to: u16,
     // 32-bit words of TCP options.
     pub options: u8,
     pub seq: u32,
@@ -39,17 +44,28 @@ pub enum Sum {
     Ffff,
 }
 
+// A GRE header: none, one of four bytes, one with a key, or one with a sum.
+#[derive(Clone, Copy, PartialEq, Eq)]
+pub enum Gre {
+    None,
+    Plain,
+    Keyed(u8),
+    Summed,
+}
+
 pub const PLAIN: Frame = Frame {
     tags: 0,
     tunnel: 0,
     tunnels: 1,
     outer_id: 7,
     has_udp_sum: false,
+    gre: Gre::None,
     ip: 4,
     id: 100,
     has_df: true,
     hops: 64,
     port: 40000,
+    datagram_to: 0,
     options: 0,
     seq: 1000,
     flags: 0x10,
@@ -74,6 +90,12 @@ pub const PURE_ACK: Frame = Frame {
     padding: 6,
     ..PLAIN
 };
+
+// Source and destination of each IPv6 header: 2001:db8::1 and 2001:db8::2.
+const ADDRESSES: [u8; 32] = [
+    0x20, 1, 0x0d, 0xb8, 0, 0, 0, 0, 0, 0, 0, 0, 0, 0, 0, 1, 0x20, 1, 0x0d, 0xb8, 0, 0, 0, 0, 0, 0,
+    0, 0, 0, 0, 0, 2,
+];
 
 fn push16(bytes: &mut Vec<u8>, n: u16) -> Result<(), AllocError> {
     bytes.extend_from_slice(&n.to_be_bytes())
@@ -110,7 +132,7 @@ fn pseudo(alloc: Global, ip: u8, protocol: u8, len: usize) -> Result<Vec<u8>, Al
         bytes.extend_from_slice(&[10, 0, 0, 1, 10, 0, 0, 2, 0, protocol])?;
         push16(&mut bytes, len)?;
     } else {
-        bytes.extend_from_slice(&[0xaa; 32])?;
+        bytes.extend_from_slice(&ADDRESSES)?;
         push16(&mut bytes, 0)?;
         push16(&mut bytes, len)?;
         bytes.extend_from_slice(&[0, 0, 0, protocol])?;
@@ -150,6 +172,22 @@ fn segment(alloc: Global, frame: &Frame) -> Result<Vec<u8>, AllocError> {
     Ok(bytes)
 }
 
+fn datagram(alloc: Global, frame: &Frame) -> Result<Vec<u8>, AllocError> {
+    let mut bytes = Vec::new(alloc);
+    push16(&mut bytes, frame.port)?;
+    push16(&mut bytes, frame.datagram_to)?;
+    push16(&mut bytes, 8 + frame.payload % 60000)?;
+    push16(&mut bytes, 0)?;
+    for i in 0..frame.payload % 60000 {
+        bytes.push((i % 251) as u8)?;
+    }
+    if frame.has_udp_sum {
+        let sum = carried_sum(alloc, frame.ip, 17, &bytes)?;
+        set16(&mut bytes, 6, if sum == 0 { 0xffff } else { sum });
+    }
+    Ok(bytes)
+}
+
 fn with_ip(
     alloc: Global,
     frame: &Frame,
@@ -172,7 +210,7 @@ fn with_ip(
         bytes.extend_from_slice(&[0x60, 0, 0, 0])?;
         push16(&mut bytes, len)?;
         bytes.extend_from_slice(&[protocol, frame.hops])?;
-        bytes.extend_from_slice(&[0xaa; 32])?;
+        bytes.extend_from_slice(&ADDRESSES)?;
     }
     bytes.extend_from_slice(body)?;
     Ok(bytes)
@@ -206,10 +244,42 @@ fn with_tunnel(alloc: Global, frame: &Frame, inner: &[u8]) -> Result<Vec<u8>, Al
     with_ethernet(alloc, frame.tags, frame.tunnel, &packet)
 }
 
+fn packet_of(alloc: Global, frame: &Frame) -> Result<Vec<u8>, AllocError> {
+    if frame.datagram_to == 0 {
+        let segment = segment(alloc, frame)?;
+        return with_ip(alloc, frame, frame.ip, frame.id, 6, &segment);
+    }
+    let datagram = datagram(alloc, frame)?;
+    with_ip(alloc, frame, frame.ip, frame.id, 17, &datagram)
+}
+
+// A packet behind a GRE header.
+fn with_gre(alloc: Global, frame: &Frame, packet: &[u8]) -> Result<Vec<u8>, AllocError> {
+    let mut bytes = Vec::new(alloc);
+    let flags = match frame.gre {
+        Gre::Keyed(_) => 0x20,
+        Gre::Summed => 0x80,
+        _ => 0,
+    };
+    bytes.extend_from_slice(&[flags, 0])?;
+    push16(&mut bytes, if frame.ip == 4 { 0x0800 } else { 0x86dd })?;
+    match frame.gre {
+        Gre::Keyed(key) => bytes.extend_from_slice(&[0, 0, 0, key])?,
+        Gre::Summed => bytes.extend_from_slice(&[0; 4])?,
+        _ => {}
+    }
+    bytes.extend_from_slice(packet)?;
+    with_ip(alloc, frame, 4, frame.outer_id, 47, &bytes)
+}
+
 fn bytes_of(alloc: Global, frame: &Frame) -> Result<Vec<u8>, AllocError> {
-    let segment = segment(alloc, frame)?;
-    let packet = with_ip(alloc, frame, frame.ip, frame.id, 6, &segment)?;
-    let mut bytes = with_ethernet(alloc, frame.tags, frame.ip, &packet)?;
+    let packet = packet_of(alloc, frame)?;
+    let mut bytes = if frame.gre == Gre::None {
+        with_ethernet(alloc, frame.tags, frame.ip, &packet)?
+    } else {
+        let outer = with_gre(alloc, frame, &packet)?;
+        with_ethernet(alloc, frame.tags, 4, &outer)?
+    };
     if frame.tunnel != 0 {
         for _ in 0..frame.tunnels {
             bytes = with_tunnel(alloc, frame, &bytes)?;

@@ -1,5 +1,5 @@
-//! Rows of frames, and the records that `merge` writes of them: number, packets, first payload, modes and frame length, and a hash
-//! of the whole output.
+//! Rows of frames, and the records that `merge` writes of them: number, packets, first payload, modes and frame length,
+//! and a hash of the whole output.
 //!
 //! The numbers were worked out by hand, and the hashes are those of `contrib/merge_by_definition`.
 
@@ -27,11 +27,11 @@ fn number_at(bytes: &[u8], places: [usize; 4]) -> u32 {
 fn said_by(record: &[u8]) -> Said {
     let none = usize::MAX;
     (
+        number_at(record, [28, 29, 30, 31]),
+        number_at(record, [20, 21, 22, 23]),
         number_at(record, [24, 25, 26, 27]),
-        number_at(record, [none, none, 18, 19]),
-        number_at(record, [none, none, 20, 21]),
-        number_at(record, [none, none, none, 22]),
-        number_at(record, [11, 10, 9, 8]).saturating_sub(12),
+        number_at(record, [none, none, none, 18]),
+        number_at(record, [11, 10, 9, 8]).saturating_sub(16),
     )
 }
 
@@ -47,9 +47,21 @@ pub fn said_in(alloc: Global, output: &[u8]) -> Result<Vec<Said>, AllocError> {
         }
         let own = said_by(record);
         said.push(own)?;
-        at = at.saturating_add(28).saturating_add(own.4 as usize);
+        at = at.saturating_add(32).saturating_add(own.4 as usize);
     }
     Ok(said)
+}
+
+// Queue or tap of each record of the output, in order.
+pub fn lanes_in(alloc: Global, output: &[u8]) -> Result<Vec<u8>, AllocError> {
+    let mut lanes = Vec::new(alloc);
+    let mut at = 24usize;
+    for said in said_in(alloc, output)? {
+        let lane = output.get(at.saturating_add(19)).copied();
+        lanes.push(lane.unwrap_or(255))?;
+        at = at.saturating_add(32).saturating_add(said.4 as usize);
+    }
+    Ok(lanes)
 }
 
 pub fn hash(bytes: &[u8]) -> u32 {
@@ -121,7 +133,7 @@ fn rows_of_frames(rt: HostRuntime) -> Result<(), Fail> {
             ]
             .as_slice(),
             [(0, 2, 1448, 0, 2962)].as_slice(),
-            1616673736,
+            1057078683,
         ),
         (
             "wrapping identifications and sequences",
@@ -139,13 +151,13 @@ fn rows_of_frames(rt: HostRuntime) -> Result<(), Fail> {
             ]
             .as_slice(),
             [(0, 2, 100, 0, 254)].as_slice(),
-            4279634204,
+            36299183,
         ),
         (
             "equal identifications under DF",
             [PLAIN, Frame { id: 100, ..NEXT }].as_slice(),
             [(0, 2, 100, 1, 254)].as_slice(),
-            4197208999,
+            2563647546,
         ),
         (
             "equal identifications without DF",
@@ -162,7 +174,7 @@ fn rows_of_frames(rt: HostRuntime) -> Result<(), Fail> {
             ]
             .as_slice(),
             [(0, 1, 0, 0, 154), (1, 1, 0, 0, 154)].as_slice(),
-            1171292478,
+            52968616,
         ),
         (
             "rising identifications without DF",
@@ -178,25 +190,25 @@ fn rows_of_frames(rt: HostRuntime) -> Result<(), Fail> {
             ]
             .as_slice(),
             [(0, 2, 100, 0, 254)].as_slice(),
-            3897532232,
+            2271232731,
         ),
         (
             "identifications that jump",
             [PLAIN, Frame { id: 107, ..NEXT }].as_slice(),
             [(0, 1, 0, 0, 154), (1, 1, 0, 0, 154)].as_slice(),
-            4107620575,
+            2518486089,
         ),
         (
             "a third that neither stays nor rises",
             [PLAIN, NEXT, Frame { seq: 1200, ..NEXT }].as_slice(),
             [(0, 2, 100, 0, 254), (2, 1, 0, 0, 154)].as_slice(),
-            2301394552,
+            795788130,
         ),
         (
             "a sequence that jumps",
             [PLAIN, Frame { seq: 1101, ..NEXT }].as_slice(),
             [(0, 1, 0, 0, 154), (1, 1, 0, 0, 154)].as_slice(),
-            1849437661,
+            2957869511,
         ),
         (
             "a TCP sum of 0",
@@ -212,7 +224,7 @@ fn rows_of_frames(rt: HostRuntime) -> Result<(), Fail> {
             ]
             .as_slice(),
             [(0, 2, 100, 0, 254)].as_slice(),
-            148818089,
+            2817485884,
         ),
         (
             "ffff for a TCP sum of 0",
@@ -229,7 +241,7 @@ fn rows_of_frames(rt: HostRuntime) -> Result<(), Fail> {
             ]
             .as_slice(),
             [(0, 1, 0, 0, 154), (1, 1, 0, 0, 154)].as_slice(),
-            2330705854,
+            2020059944,
         ),
         (
             "no sums",
@@ -245,7 +257,7 @@ fn rows_of_frames(rt: HostRuntime) -> Result<(), Fail> {
             ]
             .as_slice(),
             [(0, 1, 0, 0, 154), (1, 1, 0, 0, 154)].as_slice(),
-            4197755096,
+            212188866,
         ),
         (
             "a short segment in the middle",
@@ -263,7 +275,7 @@ fn rows_of_frames(rt: HostRuntime) -> Result<(), Fail> {
             ]
             .as_slice(),
             [(0, 2, 100, 0, 214), (2, 1, 0, 0, 154)].as_slice(),
-            232015797,
+            2033450527,
         ),
         (
             "an odd payload",
@@ -286,7 +298,7 @@ fn rows_of_frames(rt: HostRuntime) -> Result<(), Fail> {
             ]
             .as_slice(),
             [(0, 3, 99, 0, 259)].as_slice(),
-            4009672360,
+            217452085,
         ),
         (
             "a longer segment",
@@ -299,7 +311,7 @@ fn rows_of_frames(rt: HostRuntime) -> Result<(), Fail> {
             ]
             .as_slice(),
             [(0, 1, 0, 0, 154), (1, 1, 0, 0, 155)].as_slice(),
-            3095649414,
+            2492284252,
         ),
         (
             "PSH first",
@@ -312,7 +324,7 @@ fn rows_of_frames(rt: HostRuntime) -> Result<(), Fail> {
             ]
             .as_slice(),
             [(0, 1, 0, 0, 154), (1, 1, 0, 0, 154)].as_slice(),
-            2065021054,
+            3869209576,
         ),
         (
             "PSH and FIN last",
@@ -325,19 +337,19 @@ fn rows_of_frames(rt: HostRuntime) -> Result<(), Fail> {
             ]
             .as_slice(),
             [(0, 2, 100, 0, 254)].as_slice(),
-            3196990152,
+            1570690651,
         ),
         (
             "a padded pure ACK between",
             [PLAIN, PURE_ACK, NEXT].as_slice(),
             [(0, 1, 0, 0, 154), (1, 1, 0, 0, 60), (2, 1, 0, 0, 154)].as_slice(),
-            866220785,
+            2110726130,
         ),
         (
             "a padded segment",
             [PLAIN, Frame { padding: 2, ..NEXT }].as_slice(),
             [(0, 1, 0, 0, 154), (1, 1, 0, 0, 156)].as_slice(),
-            3205770106,
+            2601719396,
         ),
         (
             "SYN between",
@@ -351,7 +363,7 @@ fn rows_of_frames(rt: HostRuntime) -> Result<(), Fail> {
             ]
             .as_slice(),
             [(0, 1, 0, 0, 154), (1, 1, 0, 0, 154), (2, 1, 0, 0, 154)].as_slice(),
-            2630810898,
+            3355296275,
         ),
         (
             "two flows in turn",
@@ -369,7 +381,7 @@ fn rows_of_frames(rt: HostRuntime) -> Result<(), Fail> {
             ]
             .as_slice(),
             [(0, 2, 100, 0, 254), (1, 2, 100, 0, 254)].as_slice(),
-            2894947452,
+            3167380582,
         ),
         (
             "a tunnel without outer sums",
@@ -388,7 +400,7 @@ fn rows_of_frames(rt: HostRuntime) -> Result<(), Fail> {
             ]
             .as_slice(),
             [(0, 2, 1000, 0, 2104)].as_slice(),
-            753366430,
+            1153139377,
         ),
         (
             "outer sums, the first left out",
@@ -408,7 +420,7 @@ fn rows_of_frames(rt: HostRuntime) -> Result<(), Fail> {
             ]
             .as_slice(),
             [(0, 1, 0, 0, 1104), (1, 1, 0, 0, 1104)].as_slice(),
-            853440207,
+            150515065,
         ),
         (
             "outer sums",
@@ -429,7 +441,7 @@ fn rows_of_frames(rt: HostRuntime) -> Result<(), Fail> {
             ]
             .as_slice(),
             [(0, 2, 1000, 0, 2104)].as_slice(),
-            802301829,
+            1202074776,
         ),
         (
             "outer identifications fixed, inner rising",
@@ -449,7 +461,7 @@ fn rows_of_frames(rt: HostRuntime) -> Result<(), Fail> {
             ]
             .as_slice(),
             [(0, 2, 1000, 1, 2104)].as_slice(),
-            597091645,
+            3742163792,
         ),
         (
             "outer identifications rising, inner fixed",
@@ -469,7 +481,7 @@ fn rows_of_frames(rt: HostRuntime) -> Result<(), Fail> {
             ]
             .as_slice(),
             [(0, 2, 1000, 2, 2104)].as_slice(),
-            440816860,
+            2036220911,
         ),
         (
             "both fixed",
@@ -488,7 +500,7 @@ fn rows_of_frames(rt: HostRuntime) -> Result<(), Fail> {
             ]
             .as_slice(),
             [(0, 2, 1000, 3, 2104)].as_slice(),
-            284542075,
+            330278030,
         ),
         (
             "IPv4 in IPv6, fixed",
@@ -508,13 +520,51 @@ fn rows_of_frames(rt: HostRuntime) -> Result<(), Fail> {
             ]
             .as_slice(),
             [(0, 2, 1000, 2, 2124)].as_slice(),
-            279334064,
+            314438622,
         ),
         (
             "IPv6",
             [Frame { ip: 6, ..PLAIN }, Frame { ip: 6, ..NEXT }].as_slice(),
             [(0, 2, 100, 0, 274)].as_slice(),
-            495477027,
+            595168983,
+        ),
+        (
+            "the greatest payload length of IPv6",
+            [
+                Frame {
+                    ip: 6,
+                    payload: 32758,
+                    ..PLAIN
+                },
+                Frame {
+                    ip: 6,
+                    seq: 33758,
+                    payload: 32757,
+                    ..PLAIN
+                },
+            ]
+            .as_slice(),
+            [(0, 2, 32758, 0, 65589)].as_slice(),
+            4178742562,
+        ),
+        (
+            "a payload length of 0 where it would be 65,536",
+            [
+                Frame {
+                    ip: 6,
+                    payload: 32758,
+                    ..PLAIN
+                },
+                Frame {
+                    ip: 6,
+                    seq: 33758,
+                    payload: 32758,
+                    ..PLAIN
+                },
+            ]
+            .as_slice(),
+            [(0, 2, 32758, 0, 65590)].as_slice(),
+            50282780,
         ),
         (
             "two tags",
@@ -532,7 +582,7 @@ fn rows_of_frames(rt: HostRuntime) -> Result<(), Fail> {
             ]
             .as_slice(),
             [(0, 2, 100, 0, 282)].as_slice(),
-            769620890,
+            3961024078,
         ),
         (
             "three tags",
@@ -550,7 +600,7 @@ fn rows_of_frames(rt: HostRuntime) -> Result<(), Fail> {
             ]
             .as_slice(),
             [(0, 1, 0, 0, 186), (1, 1, 0, 0, 186)].as_slice(),
-            3474308083,
+            105432192,
         ),
         (
             "other hop limits",
@@ -564,7 +614,7 @@ fn rows_of_frames(rt: HostRuntime) -> Result<(), Fail> {
             ]
             .as_slice(),
             [(0, 1, 0, 0, 174), (1, 1, 0, 0, 174)].as_slice(),
-            652577484,
+            3347923801,
         ),
         (
             "a tunnel in a tunnel, of no flow, between two segments",
@@ -579,7 +629,7 @@ fn rows_of_frames(rt: HostRuntime) -> Result<(), Fail> {
             ]
             .as_slice(),
             [(0, 2, 100, 0, 254), (1, 1, 0, 0, 254)].as_slice(),
-            2884561502,
+            3296528840,
         ),
         (
             "the deepest layout",
@@ -601,7 +651,7 @@ fn rows_of_frames(rt: HostRuntime) -> Result<(), Fail> {
             ]
             .as_slice(),
             [(0, 2, 100, 0, 400)].as_slice(),
-            1034782707,
+            1221231073,
         ),
     ];
     for (what, frames, want, hashed) in rows {
@@ -629,7 +679,27 @@ fn a_full_round(rt: HostRuntime) -> Result<(), Fail> {
     assert_eq!(rt; status, Status::Ok);
     let want = [(0, 45, 1448, 0, 65226), (45, 19, 1448, 0, 27578)];
     assert_eq!(rt; said_in(rt.alloc(), &output)?.as_slice(), want.as_slice());
-    assert_eq!(rt; hash(&output), 441489034);
+    assert_eq!(rt; hash(&output), 946463092);
+    Ok(())
+}
+
+// The same over IPv6, whose payload length is 0 in the merged frame of 92,758 bytes.
+#[test]
+fn a_full_round_over_ipv6(rt: HostRuntime) -> Result<(), Fail> {
+    let mut frames = Vec::new(rt.alloc());
+    for i in 0..64u16 {
+        frames.push(Frame {
+            ip: 6,
+            seq: 1000 + 1448 * u32::from(i),
+            ..SEGMENT
+        })?;
+    }
+    let (status, output) = merged(&rt, rt.alloc(), &frames)?;
+    assert_eq!(rt; status, Status::Ok);
+    let want = [(0, 64, 1448, 0, 92758)];
+    assert_eq!(rt; said_in(rt.alloc(), &output)?.as_slice(), want.as_slice());
+    assert_eq!(rt; output.get(74..76).unwrap_or(&[]), [0, 0].as_slice());
+    assert_eq!(rt; hash(&output), 2354196861);
     Ok(())
 }
 

@@ -1,89 +1,105 @@
 //! Lines of words, taken and refused.
 
+use crate::lines::words;
+use frame_layout::Choice;
 use offload_words::{
-    CheckOptions, Command, MakeOptions, MergeOptions, SegmentOptions, WordsFault,
-    every_faultless_line_is_a_command, parse_words,
+    Command, MergeOptions, SegmentOptions, WordsFault, every_faultless_line_is_a_command,
+    parse_words,
 };
-use std::alloc::{AllocError, Global};
+use std::alloc::Global;
 use std::test::Fail;
+use tap_filter::Instr;
+
+/// The options of `merge` that take a number.
+#[derive(Clone, Copy, Debug, PartialEq, Eq)]
+struct Numbers {
+    queues: u32,
+    budget: u32,
+    blocks: u32,
+    taps: u32,
+    snap: u32,
+    segs: u32,
+}
 
 /// What `merge` has where no option is given.
-const DEFAULTS: MergeOptions = MergeOptions {
+const DEFAULTS: Numbers = Numbers {
     queues: 1,
     budget: 64,
     blocks: 8384,
     taps: 0,
     snap: 64,
+    segs: 4096,
 };
 
-/// The words of a line, one space between two of them; at a space at the end the last word is empty.
-fn words(alloc: Global, line: &str) -> Result<Vec<String>, AllocError> {
-    let mut words = Vec::new(alloc);
-    for word in line.split(' ') {
-        words.push(String::from_str(alloc, word)?)?;
+/// Whether these are the numbers, flows go to queues by a fold, and taps are shown all.
+fn has_numbers(options: &MergeOptions, want: Numbers) -> bool {
+    let numbers = Numbers {
+        queues: options.queues,
+        budget: options.budget,
+        blocks: options.blocks,
+        taps: options.taps,
+        snap: options.snap,
+        segs: options.segs,
+    };
+    let is_fold = match &options.choice {
+        Choice::Fold => true,
+        Choice::Toeplitz { .. } => false,
+    };
+    numbers == want && is_fold && options.filter.is_none()
+}
+
+fn is_merge(command: &Result<Command, WordsFault>, want: Numbers) -> bool {
+    match command {
+        Ok(Command::Merge(options)) => has_numbers(options, want),
+        _ => false,
     }
-    Ok(words)
+}
+
+fn is_usage(command: &Result<Command, WordsFault>) -> bool {
+    match command {
+        Err(fault) => *fault == WordsFault::Usage,
+        Ok(_) => false,
+    }
 }
 
 #[test]
-fn merge_and_its_options(rt: HostRuntime) -> Result<(), Fail> {
+fn merge_and_its_numbers(rt: HostRuntime) -> Result<(), Fail> {
     let alloc = rt.alloc();
-    let all = MergeOptions {
+    let all = Numbers {
         queues: 3,
         budget: 5,
         blocks: 7,
         taps: 2,
         snap: 9,
+        segs: 11,
     };
+    let budget = |budget| Numbers { budget, ..DEFAULTS };
+    let segs = |segs| Numbers { segs, ..DEFAULTS };
     let taken = [
         ("merge", DEFAULTS),
         ("merge --queues 1", DEFAULTS),
         (
             "merge --queues 64",
-            MergeOptions {
+            Numbers {
                 queues: 64,
                 ..DEFAULTS
             },
         ),
-        (
-            "merge --budget 1",
-            MergeOptions {
-                budget: 1,
-                ..DEFAULTS
-            },
-        ),
-        (
-            "merge --budget 4096",
-            MergeOptions {
-                budget: 4096,
-                ..DEFAULTS
-            },
-        ),
+        ("merge --budget 1", budget(1)),
+        ("merge --budget 4096", budget(4096)),
         ("merge --budget=64", DEFAULTS),
-        (
-            "merge --budget +7",
-            MergeOptions {
-                budget: 7,
-                ..DEFAULTS
-            },
-        ),
-        (
-            "merge --budget 007",
-            MergeOptions {
-                budget: 7,
-                ..DEFAULTS
-            },
-        ),
+        ("merge --budget +7", budget(7)),
+        ("merge --budget 007", budget(7)),
         (
             "merge --blocks 1",
-            MergeOptions {
+            Numbers {
                 blocks: 1,
                 ..DEFAULTS
             },
         ),
         (
             "merge --blocks=65536",
-            MergeOptions {
+            Numbers {
                 blocks: 65536,
                 ..DEFAULTS
             },
@@ -91,44 +107,54 @@ fn merge_and_its_options(rt: HostRuntime) -> Result<(), Fail> {
         ("merge --taps 0", DEFAULTS),
         (
             "merge --taps 8",
-            MergeOptions {
+            Numbers {
                 taps: 8,
                 ..DEFAULTS
             },
         ),
         (
             "merge --snap 1",
-            MergeOptions {
+            Numbers {
                 snap: 1,
                 ..DEFAULTS
             },
         ),
         (
             "merge --snap 2048",
-            MergeOptions {
+            Numbers {
                 snap: 2048,
                 ..DEFAULTS
             },
         ),
+        ("merge --segs 1", segs(1)),
+        ("merge --segs=4096", DEFAULTS),
         ("merge --", DEFAULTS),
+        ("merge --budget 2 --", budget(2)),
         (
-            "merge --budget 2 --",
-            MergeOptions {
-                budget: 2,
-                ..DEFAULTS
-            },
-        ),
-        (
-            "merge --snap 9 --taps 2 --blocks 7 --budget 5 --queues 3",
+            "merge --segs 11 --snap 9 --taps 2 --blocks 7 --budget 5 --queues 3",
             all,
         ),
     ];
-    for (line, options) in taken {
+    for (line, numbers) in taken {
         let line = format!(in alloc; "offload {line}")?;
         let command = parse_words(alloc, &words(alloc, &line)?);
-        assert!(rt; command == Ok(Command::Merge(options)), "at {line}");
+        assert!(rt; is_merge(&command, numbers), "at {line}");
     }
     Ok(())
+}
+
+fn is_segment(command: &Result<Command, WordsFault>, want: u32) -> bool {
+    match command {
+        Ok(Command::Segment(SegmentOptions { blocks })) => *blocks == want,
+        _ => false,
+    }
+}
+
+fn is_make(command: &Result<Command, WordsFault>, seed: u64, count: u32) -> bool {
+    match command {
+        Ok(Command::Make(options)) => options.seed == seed && options.count == count,
+        _ => false,
+    }
 }
 
 #[test]
@@ -141,10 +167,7 @@ fn segment_and_make(rt: HostRuntime) -> Result<(), Fail> {
     ];
     for (line, blocks) in segmented {
         let command = parse_words(alloc, &words(alloc, line)?);
-        assert!(rt;
-            command == Ok(Command::Segment(SegmentOptions { blocks })),
-            "at {line}"
-        );
+        assert!(rt; is_segment(&command, blocks), "at {line}");
     }
     let made = [
         ("offload make", 1, 1000),
@@ -155,20 +178,32 @@ fn segment_and_make(rt: HostRuntime) -> Result<(), Fail> {
     ];
     for (line, seed, count) in made {
         let command = parse_words(alloc, &words(alloc, line)?);
-        assert!(rt;
-            command == Ok(Command::Make(MakeOptions { seed, count })),
-            "at {line}"
-        );
+        assert!(rt; is_make(&command, seed, count), "at {line}");
     }
     Ok(())
 }
 
+fn is_check(
+    command: &Result<Command, WordsFault>,
+    want: Numbers,
+    seed: Option<u64>,
+    count: u32,
+) -> bool {
+    match command {
+        Ok(Command::Check(options)) => {
+            has_numbers(&options.merge, want) && options.seed == seed && options.count == count
+        }
+        _ => false,
+    }
+}
+
 #[test]
-fn check_and_its_options(rt: HostRuntime) -> Result<(), Fail> {
+fn check_and_its_numbers(rt: HostRuntime) -> Result<(), Fail> {
     let alloc = rt.alloc();
-    let merge = MergeOptions {
+    let lanes = Numbers {
         queues: 4,
         taps: 2,
+        segs: 17,
         ..DEFAULTS
     };
     let taken = [
@@ -188,17 +223,235 @@ fn check_and_its_options(rt: HostRuntime) -> Result<(), Fail> {
             10000000,
         ),
         (
-            "check --queues 4 --taps 2 --seed 7 --count 5",
-            merge,
+            "check --queues 4 --taps 2 --segs 17 --seed 7 --count 5",
+            lanes,
             Some(7),
             5,
         ),
     ];
-    for (line, merge, seed, count) in taken {
+    for (line, numbers, seed, count) in taken {
         let line = format!(in alloc; "offload {line}")?;
         let command = parse_words(alloc, &words(alloc, &line)?);
-        let want = Command::Check(CheckOptions { merge, seed, count });
-        assert!(rt; command == Ok(want), "at {line}");
+        assert!(rt; is_check(&command, numbers, seed, count), "at {line}");
+    }
+    Ok(())
+}
+
+/// The key with which the Toeplitz hash is shown in most descriptions.
+pub const KEY: &str =
+    "6d5a56da255b0ec24167253d43a38fb0d0ca2bcbae7b30b477cb2da38030f20c6a42b73bbeac01fa";
+
+/// The options of `merge`, or of the merging of `check`.
+fn merging(command: &Result<Command, WordsFault>) -> Option<&MergeOptions> {
+    match command {
+        Ok(Command::Merge(options)) => Some(options),
+        Ok(Command::Check(options)) => Some(&options.merge),
+        _ => None,
+    }
+}
+
+/// Whether flows go to queues by this key, and by a table of so many entries that begins with these.
+fn has_table(command: &Result<Command, WordsFault>, len: usize, front: &[u8]) -> bool {
+    let Some(options) = merging(command) else {
+        return false;
+    };
+    match &options.choice {
+        Choice::Fold => false,
+        Choice::Toeplitz { key, table } => {
+            let has_key = key.hash(&[1, 0, 0, 0, 0, 0, 0, 0, 0, 0, 0, 0]) == 0xad2b6d12;
+            has_key && table.len() == len && table.as_slice().starts_with(front)
+        }
+    }
+}
+
+/// A line, and its table's length and first entries.
+const TABLES: [(&str, usize, &[u8]); 7] = [
+    ("merge --rss KEY", 128, &[0; 128]),
+    ("merge --rss KEY --queues 3", 128, &[0, 1, 2, 0, 1, 2, 0]),
+    ("check --queues=64 --rss=KEY", 128, &[0, 1, 2, 3, 4, 5, 6]),
+    ("merge --table 0 --rss KEY", 1, &[0]),
+    (
+        "check --queues 4 --rss KEY --table 3,0,003,1",
+        4,
+        &[3, 0, 3, 1],
+    ),
+    (
+        "merge --queues 64 --rss KEY --table=63,00,1",
+        3,
+        &[63, 0, 1],
+    ),
+    ("merge --table LONG --rss KEY", 128, &[0; 128]),
+];
+
+/// A line in which KEY, LONG and TOO stand for the key and for tables of 128 and of 129 entries.
+fn rss_line(alloc: Global, line: &str) -> Result<String, Fail> {
+    let mut whole = String::from_str(alloc, "offload")?;
+    for word in line.split(' ') {
+        whole.push(' ')?;
+        match word {
+            "KEY" => whole.push_str(KEY)?,
+            "--rss=KEY" => {
+                whole.push_str("--rss=")?;
+                whole.push_str(KEY)?;
+            }
+            "LONG" | "TOO" => {
+                for _ in 0..if word == "LONG" { 127 } else { 128 } {
+                    whole.push_str("0,")?;
+                }
+                whole.push('0')?;
+            }
+            _ => whole.push_str(word)?,
+        }
+    }
+    Ok(whole)
+}
+
+#[test]
+fn keys_and_tables(rt: HostRuntime) -> Result<(), Fail> {
+    let alloc = rt.alloc();
+    for (line, len, front) in TABLES {
+        let line = rss_line(alloc, line)?;
+        let command = parse_words(alloc, &words(alloc, &line)?);
+        assert!(rt; has_table(&command, len, front), "at {line}");
+    }
+    Ok(())
+}
+
+/// Keys and tables that are none, and tables without a key.
+const REFUSED_KEYS: [&str; 22] = [
+    "merge --table 0",
+    "check --queues 2 --table 0,1",
+    "merge --rss KEY --table 1",
+    "merge --queues 2 --rss KEY --table 2",
+    "merge --queues 64 --rss KEY --table 64",
+    "merge --queues 64 --rss KEY --table 1,2,256",
+    "merge --rss KEY --table TOO",
+    "merge --rss KEY --table ",
+    "merge --rss KEY --table=",
+    "merge --rss KEY --table 0,",
+    "merge --rss KEY --table ,0",
+    "merge --rss KEY --table 0,,0",
+    "merge --rss KEY --table 0000",
+    "merge --rss KEY --table +0",
+    "merge --rss KEY --table 0,~0",
+    "merge --rss KEY --table 0x0",
+    "merge --rss KEY --rss KEY",
+    "merge --rss KEY --table 0 --table 0",
+    "merge --rss",
+    "merge --rss ",
+    "segment --rss KEY",
+    "make --rss KEY",
+];
+
+/// What stands in the place of the key: it is a digit short, a digit too long, has a capital, a letter behind f, and a
+/// character of two bytes.
+const NO_KEYS: [&str; 5] = [
+    "6d5a56da255b0ec24167253d43a38fb0d0ca2bcbae7b30b477cb2da38030f20c6a42b73bbeac01f",
+    "6d5a56da255b0ec24167253d43a38fb0d0ca2bcbae7b30b477cb2da38030f20c6a42b73bbeac01fa0",
+    "6D5a56da255b0ec24167253d43a38fb0d0ca2bcbae7b30b477cb2da38030f20c6a42b73bbeac01fa",
+    "6d5a56da255b0ec24167253d43a38fb0d0ca2bcbae7b30b477cb2da38030f20c6a42b73bbeac01fg",
+    "6d5a56da255b0ec24167253d43a38fb0d0ca2bcbae7b30b477cb2da38030f20c6a42b73bbeac01é",
+];
+
+#[test]
+fn refused_keys_and_tables(rt: HostRuntime) -> Result<(), Fail> {
+    let alloc = rt.alloc();
+    for line in REFUSED_KEYS {
+        let line = rss_line(alloc, line)?;
+        let command = parse_words(alloc, &words(alloc, &line)?);
+        assert!(rt; is_usage(&command), "at {line}");
+    }
+    for key in NO_KEYS {
+        let line = format!(in alloc; "offload merge --rss {key}")?;
+        let command = parse_words(alloc, &words(alloc, &line)?);
+        assert!(rt; is_usage(&command), "at {key}");
+    }
+    Ok(())
+}
+
+fn has_filter(command: &Result<Command, WordsFault>, want: &[Instr]) -> bool {
+    let Some(options) = merging(command) else {
+        return false;
+    };
+    match &options.filter {
+        Some(program) => program.code() == want,
+        None => false,
+    }
+}
+
+const FORTY: [Instr; 1] = [Instr {
+    code: 6,
+    jt: 0,
+    jf: 0,
+    k: 40,
+}];
+
+/// Whether byte 23 of a frame is 6, as in a TCP segment over IPv4: then 262,144, else 0.
+const TCP: [Instr; 4] = [
+    Instr {
+        code: 48,
+        jt: 0,
+        jf: 0,
+        k: 23,
+    },
+    Instr {
+        code: 21,
+        jt: 0,
+        jf: 1,
+        k: 6,
+    },
+    Instr {
+        code: 6,
+        jt: 0,
+        jf: 0,
+        k: 262144,
+    },
+    Instr {
+        code: 6,
+        jt: 0,
+        jf: 0,
+        k: 0,
+    },
+];
+
+#[test]
+fn filters(rt: HostRuntime) -> Result<(), Fail> {
+    let alloc = rt.alloc();
+    let taken = [
+        ("offload merge --filter 1,6~0~0~40", FORTY.as_slice()),
+        (
+            "offload check --filter=1,6~0~0~40 --taps 1",
+            FORTY.as_slice(),
+        ),
+        (
+            "offload merge --filter 4,48~0~0~23,21~0~1~6,6~0~0~262144,6~0~0~0",
+            TCP.as_slice(),
+        ),
+    ];
+    for (line, want) in taken {
+        let command = parse_words(alloc, &words(alloc, line)?);
+        assert!(rt; has_filter(&command, want), "at {line}");
+    }
+    let refused = [
+        "merge --filter 0",
+        "merge --filter 1,255~0~0~0",
+        "merge --filter 1,21~0~0~6",
+        "merge --filter 1,52~0~0~0",
+        "merge --filter 1,2~0~0~16",
+        "merge --filter 1,135~0~0~0",
+        "merge --filter 1,6~0~0",
+        "check --filter 2,6~0~0~40",
+        "check --filter ",
+        "check --filter tcp",
+        "merge --filter",
+        "merge --filter 1,6~0~0~40 --filter 1,6~0~0~40",
+        "segment --filter 1,6~0~0~40",
+        "make --filter 1,6~0~0~40",
+    ];
+    for line in refused {
+        let line = format!(in alloc; "offload {line}")?;
+        let command = parse_words(alloc, &words(alloc, &line)?);
+        assert!(rt; is_usage(&command), "at {line}");
     }
     Ok(())
 }
@@ -237,6 +490,12 @@ fn refused_lines(rt: HostRuntime) -> Result<(), Fail> {
         "offload merge --taps -1",
         "offload merge --snap 0",
         "offload merge --snap 2049",
+        "offload merge --segs 0",
+        "offload merge --segs 4097",
+        "offload merge --segs -1",
+        "offload merge --segs 2 --segs 2",
+        "offload segment --segs 2",
+        "offload make --segs 2",
         "offload merge --budget 18446744073709551616",
         "offload merge --budget -0",
         "offload merge --budget",
@@ -265,10 +524,10 @@ fn refused_lines(rt: HostRuntime) -> Result<(), Fail> {
     ];
     for line in refused {
         let command = parse_words(alloc, &words(alloc, line)?);
-        assert!(rt; command == Err(WordsFault::Usage), "at {line}");
+        assert!(rt; is_usage(&command), "at {line}");
     }
     let none: Vec<String> = Vec::new(alloc);
-    assert_eq!(rt; parse_words(alloc, &none), Err(WordsFault::Usage));
+    assert!(rt; is_usage(&parse_words(alloc, &none)));
     every_faultless_line_is_a_command();
     Ok(())
 }

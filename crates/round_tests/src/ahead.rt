@@ -6,6 +6,7 @@ ghost use Rattle.pcap_io.specs.Readers.{place_of};
 
 use crate::lanes::{BY_QUEUE, WITH_WINDOWS};
 use crate::merging::WRITTEN;
+use crate::plans::plain;
 use off_io::{Failed, Feed, Gate, Meeting, MemSink, MemSource, NoGate, Source, Who};
 use pcap_io::{CaptureReader, FileHead, Link};
 use rounds::{MergeEnd, ReadAhead, RoundEnd, RoundRead, Rounds, Step};
@@ -23,7 +24,8 @@ struct How {
     taps: u32,
 }
 
-// A full round is worked and written while the next one is read, and where that pauses it is read to its end. Any other is handed on.
+// A full round is worked and written while the next one is read, and where that pauses it is read to its end. Any other
+// is handed on.
 fn turn<R: Threads + Sync, S: Source + Send, G: Gate + Sync>(
     rt: &R,
     rounds: &mut Rounds,
@@ -93,7 +95,8 @@ fn give_up(next: ReadAhead) {
     }
 }
 
-// Up to five rounds of a capture: how merging ended, what was written, how many reads paused, and the blocks that are home.
+// Up to five rounds of a capture: how merging ended, what was written, how many reads paused, and the blocks that are
+// home.
 fn driven<R: Threads + Sync, S: Source + Send + Drop, G: Gate + Sync>(
     rt: &R,
     alloc: Global,
@@ -113,9 +116,8 @@ fn driven<R: Threads + Sync, S: Source + Send + Drop, G: Gate + Sync>(
     };
     let file = reader.file();
     let mut sink = MemSink::new(alloc, 64, Vec::new(alloc));
-    let mut rounds = Rounds::make(
-        alloc, how.blocks, how.budget, how.queues, how.taps, 1, false,
-    )?;
+    let plan = plain(how.queues, how.taps, 1);
+    let mut rounds = Rounds::make(alloc, how.blocks, how.budget, plan, false)?;
     let mut pauses = 0;
     let first = rounds.read_round(&mut reader);
     let third = two_turns(
@@ -206,7 +208,8 @@ fn blocks_of_one_record_suffice(rt: HostRuntime) -> Result<(), Fail> {
     Ok(())
 }
 
-// The windows of two taps. And of four records in rounds of two the second round pauses behind its first record: before it 131 blocks are home.
+// The windows of two taps. And of four records in rounds of two the second round pauses behind its first record: before
+// it 131 blocks are home.
 #[test]
 fn windows_are_written_as_ever(rt: HostRuntime) -> Result<(), Fail> {
     let alloc = rt.alloc();
@@ -245,14 +248,14 @@ fn ends_of_a_read_beside(rt: HostRuntime) -> Result<(), Fail> {
         (step, pauses, home),
         (Step::Ends(MergeEnd::ReadFault), 0, 200)
     );
-    assert_eq!(rt; written.as_slice(), &WRITTEN[..29]);
+    assert_eq!(rt; written.as_slice(), &WRITTEN[..33]);
     let fails = vec![in alloc; 4]?;
     let (step, written, pauses, home) = of_bytes(&rt, alloc, &TWO_RECORDS, fails, EACH_ALONE)?;
     assert_eq!(rt;
         (step, pauses, home),
         (Step::Ends(MergeEnd::ReadFault), 1, 3)
     );
-    assert_eq!(rt; written.as_slice(), &WRITTEN[..29]);
+    assert_eq!(rt; written.as_slice(), &WRITTEN[..33]);
     Ok(())
 }
 
@@ -264,11 +267,12 @@ fn a_rest_that_is_refused(rt: HostRuntime) -> Result<(), Fail> {
     let (step, written, pauses, home) = of_bytes(&rt, alloc, &TWO_RECORDS[..58], none, EACH_ALONE)?;
     assert!(rt; matches!(step, Step::Ends(MergeEnd::Malformed(_))));
     assert_eq!(rt; (pauses, home), (1, 3));
-    assert_eq!(rt; written.as_slice(), &WRITTEN[..29]);
+    assert_eq!(rt; written.as_slice(), &WRITTEN[..33]);
     Ok(())
 }
 
-// Whether a round exceeds the blocks is told by all of them, and not by those that the round beside it has: the last record needs five.
+// Whether a round exceeds the blocks is told by all of them, and not by those that the round beside it has: the last
+// record needs five.
 #[test]
 fn lent_blocks_count(rt: HostRuntime) -> Result<(), Fail> {
     let alloc = rt.alloc();
@@ -323,8 +327,8 @@ impl Source for Met<'_> {
     }
 }
 
-// Both meet beside the first round; before the second one, and the empty one behind it, the worker finds the reader's sign again. If
-// they took turns, the one that comes first would wait in vain.
+// Both meet beside the first round; before the second one, and the empty one behind it, the worker finds the reader's
+// sign again. If they took turns, the one that comes first would wait in vain.
 #[test]
 fn reader_and_worker_meet(rt: HostRuntime) -> Result<(), Fail> {
     let alloc = rt.alloc();

@@ -1,7 +1,8 @@
-//! Captures are checked, round by round, over enough blocks and too few, and where a source fails. The expected lines were worked out
-//! by hand.
+//! Captures are checked, round by round, over enough blocks and too few, and where a source fails. The expected lines
+//! were worked out by hand.
 ghost use Rattle.std.specs.Prelude.{◌≤◌};
 
+use crate::plans::plain;
 use check_rounds::{CheckEnd, check_all};
 use check_totals::{Totals, write_totals};
 use off_io::{Feed, MemSink, MemSource, NoGate};
@@ -18,8 +19,8 @@ const NONE: &str = "queue 0: records 0 items 0 merged 0 returned 0\n\
     tap 1: windows 0 bytes 0\n\
     total: records 0 items 0 merged 0 returned 0\n";
 
-// The first bytes of the capture checked in rounds of these many records, over two queues and two taps of 64 bytes, from a source that
-// fails at these of its calls: how it ended, the lines, and the blocks that are home.
+// The first bytes of the capture checked in rounds of these many records, over two queues and two taps of 64 bytes,
+// from a source that fails at these of its calls: how it ended, the lines, and the blocks that are home.
 fn check<R: Threads + Sync>(
     rt: &R,
     alloc: Global,
@@ -39,7 +40,7 @@ fn check<R: Threads + Sync>(
         Ok(reader) => reader,
         Err(_) => return Err(Fail::from("the file header is lawful")),
     };
-    let mut rounds = Rounds::make(alloc, blocks, budget, 2, 2, 64, true)?;
+    let mut rounds = Rounds::make(alloc, blocks, budget, plain(2, 2, 64), true)?;
     let mut totals = Totals::make(alloc, 2, 2)?;
     let end = check_all(rt, &mut rounds, &mut reader, &mut totals, &NoGate);
     let mut sink = MemSink::new(alloc, 4096, Vec::new(alloc));

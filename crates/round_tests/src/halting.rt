@@ -10,7 +10,8 @@ fn next_number(number: u32) -> u32 {
     number.wrapping_mul(1_664_525).wrapping_add(1_013_904_223)
 }
 
-// Spins, at most about twice as long as a side tries before it sleeps; one time of 16 it gives way to another thread too.
+// Spins, at most about twice as long as a side tries before it sleeps; one time of 16 it gives way to another thread
+// too.
 fn halts_by(number: u32) {
     if number >> 28 == 0 {
         yield_now();

@@ -1,5 +1,6 @@
-//! Tests of rounds: the work of their lanes ([`round_work`]), the records that are written ([`round_write`]), rounds that are read,
-//! merged and segmented ([`rounds`]), checked ([`check_rounds`]), and read beside the work ([`round_pipeline`]).
+//! Tests of rounds: the work of their lanes ([`round_work`]), the records that are written ([`round_write`]), rounds
+//! that are read, merged and segmented ([`rounds`]), checked ([`check_rounds`]), and read beside the work
+//! ([`round_pipeline`]).
 //!
 //! A crate of their own, since one with tests is proved twice, with them and without.
 #![tactic(auto)]
@@ -13,9 +14,13 @@ mod halting;
 #[cfg(test)]
 mod lanes;
 #[cfg(test)]
+mod long_runs;
+#[cfg(test)]
 mod merging;
 #[cfg(test)]
 mod pipeline;
+#[cfg(test)]
+mod plans;
 #[cfg(test)]
 mod segments;
 #[cfg(test)]

@@ -1,6 +1,7 @@
 //! Rounds are read, dropped, ended and merged, and all blocks are home again.
 ghost use Rattle.std.specs.Prelude.{◌≤◌};
 
+use crate::plans::plain;
 use off_io::{Feed, MemSink, MemSource, NoGate};
 use pcap_io::{CaptureReader, Link};
 use rounds::{MergeEnd, RoundEnd, RoundRead, Rounds};
@@ -8,8 +9,8 @@ use std::alloc::Global;
 use std::test::Fail;
 use worked_captures::TWO_RECORDS;
 
-// A round of two, of a source that fails at these of its calls: the blocks that are home while the round is out and once it was
-// dropped, the blocks that were taken, and why it ended.
+// A round of two, of a source that fails at these of its calls: the blocks that are home while the round is out and
+// once it was dropped, the blocks that were taken, and why it ended.
 fn turn(alloc: Global, blocks: u32, fails: Vec<u64>) -> Result<(u32, u32, u64, RoundEnd), Fail>
     requires blocks { (1 ≤ blocks) × (blocks ≤ 65536) }
 {
@@ -20,7 +21,7 @@ fn turn(alloc: Global, blocks: u32, fails: Vec<u64>) -> Result<(u32, u32, u64, R
         Ok(reader) => reader,
         Err(_) => return Err(Fail::from("the file header is lawful")),
     };
-    let mut rounds = Rounds::make(alloc, blocks, 2, 1, 0, 64, false)?;
+    let mut rounds = Rounds::make(alloc, blocks, 2, plain(1, 0, 64), false)?;
     let RoundRead { round, end } = rounds.read_round(&mut reader);
     let home = rounds.home();
     rounds.drop_round(round);
@@ -40,7 +41,7 @@ fn worked_turn(alloc: Global, blocks: u32) -> Result<(Vec<u8>, u32, u32), Fail>
     };
     let file = reader.file();
     let mut sink = MemSink::new(alloc, 64, Vec::new(alloc));
-    let mut rounds = Rounds::make(alloc, blocks, 2, 1, 0, 64, false)?;
+    let mut rounds = Rounds::make(alloc, blocks, 2, plain(1, 0, 64), false)?;
     let RoundRead { round, end: _ } = rounds.read_round(&mut reader);
     let worked = rounds.work_round_alone(round, &NoGate)?;
     let written = rounds.write_round(&worked, &file, &mut sink);
@@ -53,15 +54,16 @@ fn worked_turn(alloc: Global, blocks: u32) -> Result<(Vec<u8>, u32, u32), Fail>
 }
 
 // What merging both writes: each alone in its record.
-pub(crate) const WRITTEN: [u8; 59] = [
-    0x01, 0x00, 0x00, 0x00, 0x02, 0x00, 0x00, 0x00, 0x0d, 0x00, 0x00, 0x00, 0x0f, 0x00, 0x00, 0x00,
-    0x01, 0x00, 0x00, 0x01, 0x00, 0x00, 0x00, 0x00, 0x00, 0x00, 0x00, 0x00, 0xaa, 0x01, 0x00, 0x00,
-    0x00, 0x05, 0x00, 0x00, 0x00, 0x0e, 0x00, 0x00, 0x00, 0x0e, 0x00, 0x00, 0x00, 0x01, 0x00, 0x00,
-    0x01, 0x00, 0x00, 0x00, 0x00, 0x00, 0x00, 0x00, 0x01, 0xbb, 0xcc,
+pub(crate) const WRITTEN: [u8; 67] = [
+    0x01, 0x00, 0x00, 0x00, 0x02, 0x00, 0x00, 0x00, 0x11, 0x00, 0x00, 0x00, 0x13, 0x00, 0x00, 0x00,
+    0x02, 0x00, 0x00, 0x00, 0x00, 0x00, 0x00, 0x01, 0x00, 0x00, 0x00, 0x00, 0x00, 0x00, 0x00, 0x00,
+    0xaa, 0x01, 0x00, 0x00, 0x00, 0x05, 0x00, 0x00, 0x00, 0x12, 0x00, 0x00, 0x00, 0x12, 0x00, 0x00,
+    0x00, 0x02, 0x00, 0x00, 0x00, 0x00, 0x00, 0x00, 0x01, 0x00, 0x00, 0x00, 0x00, 0x00, 0x00, 0x00,
+    0x01, 0xbb, 0xcc,
 ];
 
-// Both merged in rounds of two, from a source and to a sink that fail at these of their calls: how it ended, what was written and
-// whether it is flushed, and the blocks that are home.
+// Both merged in rounds of two, from a source and to a sink that fail at these of their calls: how it ended, what was
+// written and whether it is flushed, and the blocks that are home.
 fn merge(
     alloc: Global,
     blocks: u32,
@@ -79,7 +81,7 @@ fn merge(
     };
     let file = reader.file();
     let mut sink = MemSink::new(alloc, 64, writes);
-    let mut rounds = Rounds::make(alloc, blocks, 2, 1, 0, 64, false)?;
+    let mut rounds = Rounds::make(alloc, blocks, 2, plain(1, 0, 64), false)?;
     let end = rounds.merge_all_alone(&mut reader, &file, &mut sink, &NoGate);
     let written = sink.bytes().to_vec(alloc)?;
     Ok((end, written, sink.is_flushed(), rounds.home()))
@@ -109,7 +111,7 @@ fn a_failing_source_and_sink(rt: HostRuntime) -> Result<(), Fail> {
     let alloc = rt.alloc();
     let (end, written, flushed, home) = merge(alloc, 7, vec![in alloc; 4]?, Vec::new(alloc))?;
     assert_eq!(rt; (end, flushed, home), (MergeEnd::ReadFault, true, 7));
-    assert_eq!(rt; written.as_slice(), &WRITTEN[..29]);
+    assert_eq!(rt; written.as_slice(), &WRITTEN[..33]);
     let (end, written, _, home) = merge(alloc, 7, Vec::new(alloc), vec![in alloc; 0]?)?;
     assert_eq!(rt; (end, home), (MergeEnd::WriteFault, 7));
     assert_eq!(rt; written.len(), 0);
@@ -124,7 +126,7 @@ fn a_worked_round_comes_home(rt: HostRuntime) -> Result<(), Fail> {
     assert_eq!(rt; written.as_slice(), WRITTEN.as_slice());
     let (written, before, after) = worked_turn(alloc, 5)?;
     assert_eq!(rt; (before, after), (2, 5));
-    assert_eq!(rt; written.as_slice(), &WRITTEN[..29]);
+    assert_eq!(rt; written.as_slice(), &WRITTEN[..33]);
     Ok(())
 }
 

@@ -1,8 +1,9 @@
-//! Two sides write what one writes, end as it does, and all blocks are home. Where there is one processor alone there are no two
-//! sides, and these tests say nothing of them.
+//! Two sides write what one writes, end as it does, and all blocks are home. Where there is one processor alone there
+//! are no two sides, and these tests say nothing of them.
 ghost use Rattle.std.specs.Prelude.{◌≤◌};
 
 use crate::halting::{Dice, Halting, HaltingGate};
+use crate::plans::plain;
 use off_io::{Feed, Gate, MemSink, MemSource, NoGate, Sink, Source};
 use pcap_io::{CaptureReader, Link};
 use round_pipeline::merge_beside;
@@ -71,9 +72,8 @@ fn merged<S: Source + Send + Drop, K: Sink, G: Gate + Sync>(
         Err(_) => return Err(Fail::from("the file header is lawful")),
     };
     let file = reader.file();
-    let mut rounds = Rounds::make(
-        alloc, how.blocks, how.budget, how.queues, how.taps, 64, false,
-    )?;
+    let plan = plain(how.queues, how.taps, 64);
+    let mut rounds = Rounds::make(alloc, how.blocks, how.budget, plan, false)?;
     let end = if beside {
         merge_beside(rt, alloc, &mut rounds, &mut reader, &file, sink, gate)
     } else {
@@ -133,7 +133,8 @@ fn two_sides_write_what_one_writes(rt: HostRuntime) -> Result<(), Fail> {
     Ok(())
 }
 
-// A capture that is cut off within its last record, and one of which a record, behind 16 others, needs more blocks than there are.
+// A capture that is cut off within its last record, and one of which a record, behind 16 others, needs more blocks than
+// there are.
 #[test]
 fn two_sides_end_as_one_does(rt: HostRuntime) -> Result<(), Fail> {
     let alloc = rt.alloc();
@@ -153,8 +154,9 @@ fn two_sides_end_as_one_does(rt: HostRuntime) -> Result<(), Fail> {
     Ok(())
 }
 
-// Merges by two sides that halt, each of them by its own numbers: as in one thread, from a source and to a sink that fail at these of
-// their calls, if any. Blocks that were taken for rounds that nobody worked count too, so behind a failed write there may be more.
+// Merges by two sides that halt, each of them by its own numbers: as in one thread, from a source and to a sink that
+// fail at these of their calls, if any. Blocks that were taken for rounds that nobody worked count too, so behind a
+// failed write there may be more.
 fn halting_ends_as(
     rt: &(impl Threads + Wait + Sync),
     alloc: Global,

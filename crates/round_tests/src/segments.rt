@@ -6,7 +6,7 @@ use pcap_io::{CapFault, CapKind, CaptureReader, Link};
 use rounds::{Moved, SegFault, SegmentRun};
 use std::alloc::Global;
 use std::test::Fail;
-use worked_captures::MERGED_CAPTURE;
+use worked_captures::{MERGED_CAPTURE, MERGED_CAPTURE_2};
 
 // The two behind their record headers, both with the time of the first.
 const PACKETS: [u8; 146] = [
@@ -31,19 +31,20 @@ struct Ended {
     sink: MemSink,
 }
 
-// Segments the record with one of its bytes changed, where these calls of the sink fail.
+// Segments a capture with other bytes at a place, where these calls of the sink fail.
 fn segmented(
     alloc: Global,
     blocks: u32,
+    capture: &[u8],
     place: usize,
-    byte: u8,
+    with: &[u8],
     sink_fails: &[u64],
 ) -> Result<Ended, Fail>
     requires blocks { (1 ≤ blocks) × (blocks ≤ 65536) }
 {
-    let mut bytes = MERGED_CAPTURE.to_vec(alloc)?;
-    if place < bytes.len() {
-        bytes[place] = byte;
+    let mut bytes = capture.to_vec(alloc)?;
+    for (byte, other) in bytes.iter_mut().skip(place).zip(with) {
+        *byte = *other;
     }
     let mut feed = Feed {
         inner: MemSource::new(bytes, 4096, Vec::new(alloc)),
@@ -79,7 +80,7 @@ fn segmented(
 #[test]
 fn the_worked_record(rt: HostRuntime) -> Result<(), Fail> {
     for blocks in [3, 4, 200] {
-        let ended = segmented(rt.alloc(), blocks, 112, 0, &[])?;
+        let ended = segmented(rt.alloc(), blocks, &MERGED_CAPTURE, 0, &[], &[])?;
         assert_eq!(rt; ended.first, Ok(Moved::One));
         assert_eq!(rt; ended.second, Ok(Moved::End));
         assert_eq!(rt; ended.home, (blocks, blocks));
@@ -88,26 +89,70 @@ fn the_worked_record(rt: HostRuntime) -> Result<(), Fail> {
     Ok(())
 }
 
+// Offload headers of both versions in one capture, in either order.
+#[test]
+fn versions_are_mixed(rt: HostRuntime) -> Result<(), Fail> {
+    let alloc = rt.alloc();
+    let mut twice = PACKETS.to_vec(alloc)?;
+    twice.extend_from_slice(&PACKETS)?;
+    let mut rising = MERGED_CAPTURE.to_vec(alloc)?;
+    rising.extend_from_slice(&MERGED_CAPTURE_2[24..])?;
+    let mut falling = MERGED_CAPTURE_2.to_vec(alloc)?;
+    falling.extend_from_slice(&MERGED_CAPTURE[24..])?;
+    for capture in [rising, falling] {
+        let ended = segmented(alloc, 3, &capture, 0, &[], &[])?;
+        assert_eq!(rt;
+            (ended.first, ended.second),
+            (Ok(Moved::One), Ok(Moved::One))
+        );
+        assert_eq!(rt; ended.sink.bytes(), twice.as_slice());
+    }
+    Ok(())
+}
+
 #[test]
 fn more_than_there_are_blocks(rt: HostRuntime) -> Result<(), Fail> {
-    let ended = segmented(rt.alloc(), 2, 112, 0, &[])?;
+    let ended = segmented(rt.alloc(), 2, &MERGED_CAPTURE, 0, &[], &[])?;
     assert_eq!(rt; ended.first, Err(SegFault::PoolEmpty { need: 3 }));
     assert_eq!(rt; ended.home, (2, 2));
     assert_eq!(rt; ended.sink.bytes().len(), 0);
     Ok(())
 }
 
-#[test]
-fn a_record_that_is_not_lawful(rt: HostRuntime) -> Result<(), Fail> {
-    let ended = segmented(rt.alloc(), 3, 40, 0, &[])?;
+// The first record is refused, all blocks are home, and nothing is written.
+fn is_refused(ended: &Ended) -> bool {
     let fault = CapFault {
         kind: CapKind::BadOffload,
         offset: 24,
         number: 0,
     };
-    assert_eq!(rt; ended.first, Err(SegFault::Malformed(fault)));
-    assert_eq!(rt; ended.home, (3, 3));
-    assert_eq!(rt; ended.sink.bytes().len(), 0);
+    ended.first == Err(SegFault::Malformed(fault))
+        && ended.home == (3, 3)
+        && ended.sink.bytes().is_empty()
+}
+
+// Other bytes in the record behind a header of version 1: of no version, and of version 2, which has other fields
+// there. And behind one of version 2: captured lengths of 12 to 15, which hold no such header, and the greatest n, m
+// and both.
+#[test]
+fn records_that_are_not_lawful(rt: HostRuntime) -> Result<(), Fail> {
+    let most = [0xff; 8];
+    let rows: [(&[u8], usize, &[u8]); 10] = [
+        (&MERGED_CAPTURE, 40, &[0]),
+        (&MERGED_CAPTURE, 40, &[3]),
+        (&MERGED_CAPTURE, 40, &[2]),
+        (&MERGED_CAPTURE_2, 32, &[12]),
+        (&MERGED_CAPTURE_2, 32, &[13]),
+        (&MERGED_CAPTURE_2, 32, &[14]),
+        (&MERGED_CAPTURE_2, 32, &[15]),
+        (&MERGED_CAPTURE_2, 44, &most[..4]),
+        (&MERGED_CAPTURE_2, 48, &most[..4]),
+        (&MERGED_CAPTURE_2, 44, &most),
+    ];
+    for (capture, place, with) in rows {
+        let ended = segmented(rt.alloc(), 3, capture, place, with, &[])?;
+        assert!(rt; is_refused(&ended), "{with:?} at {place}");
+    }
     Ok(())
 }
 
@@ -115,7 +160,7 @@ fn a_record_that_is_not_lawful(rt: HostRuntime) -> Result<(), Fail> {
 #[test]
 fn a_sink_that_fails(rt: HostRuntime) -> Result<(), Fail> {
     for (call, size) in [(0, 0), (2, 70), (3, 74), (5, 144)] {
-        let ended = segmented(rt.alloc(), 3, 112, 0, &[call])?;
+        let ended = segmented(rt.alloc(), 3, &MERGED_CAPTURE, 0, &[], &[call])?;
         assert_eq!(rt; ended.first, Err(SegFault::WriteFault));
         assert_eq!(rt; ended.home, (3, 3));
         assert_eq!(rt; ended.sink.bytes(), &PACKETS[..size]);

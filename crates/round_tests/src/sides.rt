@@ -3,6 +3,7 @@ ghost use Rattle.std.specs.Prelude.{◌≡◌, ◌-◌, ◌≤◌, IfOk, OnOk};
 ghost use Rattle.block_pool.specs.PoolState.{home};
 
 use crate::merging::WRITTEN;
+use crate::plans::plain;
 use block_pool::Pool;
 use off_io::{Feed, MemSink, MemSource, NoGate};
 use pcap_io::{CaptureReader, Link};
@@ -54,8 +55,9 @@ fn handed(rounds: &mut Rounds, shelf: Pool) -> Result<Shelf, Fail>
     }
 }
 
-// Both records in rounds of one, over blocks for one: what came of the rounds, and what was written; the blocks that are home on
-// the side that works once a round was put and once it was handed home, and on the other once the next one was read; and at last.
+// Both records in rounds of one, over blocks for one: what came of the rounds, and what was written; the blocks that
+// are home on the side that works once a round was put and once it was handed home, and on the other once the next one
+// was read; and at last.
 fn in_turn<R: Threads + Sync>(
     rt: &R,
     alloc: Global,
@@ -69,7 +71,7 @@ fn in_turn<R: Threads + Sync>(
     };
     let file = reader.file();
     let mut sink = MemSink::new(alloc, 64, Vec::new(alloc));
-    let mut rounds = Rounds::make(alloc, 3, 1, 1, 0, 64, false)?;
+    let mut rounds = Rounds::make(alloc, 3, 1, plain(1, 0, 64), false)?;
     let shelves = (Pool::empty(alloc, 3)?, Pool::empty(alloc, 3)?);
     let mut intake = rounds.part()?;
     let round = full(intake.read_round(&mut reader, &mut AllHome))?;
@@ -105,8 +107,8 @@ fn blocks_come_home_while_rounds_are_read(rt: HostRuntime) -> Result<(), Fail> {
     Ok(())
 }
 
-// A round is read while all blocks are out, of which none comes home: why it has no more records, and the blocks that are home once
-// both sides are one again and the round before was dropped.
+// A round is read while all blocks are out, of which none comes home: why it has no more records, and the blocks that
+// are home once both sides are one again and the round before was dropped.
 fn lacking(alloc: Global) -> Result<(RoundEnd, u32, u32), Fail> {
     let mut feed = Feed {
         inner: MemSource::new(TWO_RECORDS.to_vec(alloc)?, 24, Vec::new(alloc)),
@@ -115,7 +117,7 @@ fn lacking(alloc: Global) -> Result<(RoundEnd, u32, u32), Fail> {
         Ok(reader) => reader,
         Err(_) => return Err(Fail::from("the file header is lawful")),
     };
-    let mut rounds = Rounds::make(alloc, 3, 1, 1, 0, 64, false)?;
+    let mut rounds = Rounds::make(alloc, 3, 1, plain(1, 0, 64), false)?;
     let mut intake = rounds.part()?;
     let first = full(intake.read_round(&mut reader, &mut AllHome))?;
     let RoundRead { round, end } = intake.read_round(&mut reader, &mut AllHome);

@@ -6,7 +6,7 @@ ghost use Rattle.round_write.specs.Records.{FitsItem};
 use frags::{Outcomes, PieceBuilder};
 use gro::Item;
 use off_io::{MemSink, WriteFault};
-use pcap_io::{FileHead, OffHead, Order};
+use pcap_io::{FileHead, OffHead2, Order};
 use raw_block::Sole;
 use round_write::{Time, write_items, write_record, write_window};
 use skb::Skb;
@@ -22,11 +22,11 @@ const FILE: FileHead = FileHead {
 };
 
 // An item, its frame alone, and a window of it.
-const WRITTEN: [u8; 85] = [
-    1, 0, 0, 0, 2, 0, 0, 0, 17, 0, 0, 0, 17, 0, 0, 0, 1, 1, 0, 2, 0, 3, 1, 4, 0, 0, 0, 7, b'a',
-    b'b', b'c', b'd', b'e', 1, 0, 0, 0, 2, 0, 0, 0, 5, 0, 0, 0, 9, 0, 0, 0, b'a', b'b', b'c', b'd',
-    b'e', 1, 0, 0, 0, 2, 0, 0, 0, 15, 0, 0, 0, 15, 0, 0, 0, 1, 2, 0, 0, 0, 0, 0, 5, 0, 0, 0, 7,
-    b'a', b'b', b'c',
+const WRITTEN: [u8; 93] = [
+    1, 0, 0, 0, 2, 0, 0, 0, 21, 0, 0, 0, 21, 0, 0, 0, 2, 1, 1, 4, 0, 0, 0, 2, 0, 0, 0, 3, 0, 0, 0,
+    7, b'a', b'b', b'c', b'd', b'e', 1, 0, 0, 0, 2, 0, 0, 0, 5, 0, 0, 0, 9, 0, 0, 0, b'a', b'b',
+    b'c', b'd', b'e', 1, 0, 0, 0, 2, 0, 0, 0, 19, 0, 0, 0, 19, 0, 0, 0, 2, 2, 0, 5, 0, 0, 0, 0, 0,
+    0, 0, 0, 0, 0, 0, 7, b'a', b'b', b'c',
 ];
 
 // "abc" in the head, and "de" in a piece behind it.
@@ -48,13 +48,13 @@ fn write(sink: &mut MemSink, items: &[Item]) -> Result<(), WriteFault>
     for item in items {
         write_record(sink, &FILE, time, 9, None, &item.skb)?;
     }
-    let head = OffHead {
-        version: 1,
+    let head = OffHead2 {
+        version: 2,
         kind: 2,
-        n: 0,
-        m: 0,
         modes: 0,
         lane: 5,
+        n: 0,
+        m: 0,
         number: 7,
     };
     write_window(sink, &FILE, time, 3, Some(head), b"abc")

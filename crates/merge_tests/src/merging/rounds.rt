@@ -3,7 +3,7 @@ ghost use Rattle.std.specs.Prelude.{◌≡◌, ◌≤◌, [], length};
 
 use super::{
     Said, emptied, finished, given_up, home, packet, plain, put, put16, receive, reserve, spent,
-    table_for,
+    table_for, table_in_runs,
 };
 use gro::{Item, RoundTable};
 use std::alloc::Global;
@@ -22,7 +22,21 @@ fn in_flow(head: [u8; 54], flow: u16) -> [u8; 54] {
 fn come_to(rt: &impl Abort, alloc: Global, heads: &[[u8; 54]], payload: &[u8], rows: &[Said])
     requires few { length heads.now ≤ 128 }
 {
-    let mut table = table_for(rt, alloc, heads.len() as u32);
+    come_to_runs(rt, alloc, 4096, heads, payload, rows);
+}
+
+// The same in runs of at most so many.
+fn come_to_runs(
+    rt: &impl Abort,
+    alloc: Global,
+    segs: u32,
+    heads: &[[u8; 54]],
+    payload: &[u8],
+    rows: &[Said],
+)
+    requires few { length heads.now ≤ 128 }
+{
+    let mut table = table_in_runs(rt, alloc, heads.len() as u32, segs);
     for i in 0..heads.len() {
         put(rt, alloc, &mut table, i as u32, &heads[i], payload);
     }
@@ -163,7 +177,10 @@ fn flows_in_turn(rt: &impl Abort, alloc: Global, flows: u16, turns: u16)
     assert_eq!(rt; items.len(), flows as usize);
     let mut blocks: usize = 0;
     while let Some(item) = items.pop() {
-        assert_eq!(rt; (item.number as usize, item.n), (items.len(), turns));
+        assert_eq!(rt;
+            (item.number as usize, item.n),
+            (items.len(), u32::from(turns))
+        );
         blocks = blocks.wrapping_add(home(rt, item));
     }
     items.destroy_empty();
@@ -284,6 +301,26 @@ fn a_frame_is_full(rt: HostRuntime) {
     }
     let rows = [(0, 65, 1000, 0), (65, 5, 1000, 0)];
     come_to(&rt, alloc, &heads, &payload, &rows);
+}
+
+/// 64 packets that would be one run, in runs of 17 and of one.
+#[test]
+fn runs_of_at_most_so_many(rt: HostRuntime) {
+    let alloc = rt.alloc();
+    let payload = [9; 100];
+    let mut heads = [[0u8; 54]; 64];
+    for i in 0..64 {
+        heads[i] = plain(i as u16, i as u32 * 100, 0x10, &payload);
+    }
+    let rows = [
+        (0, 17, 100, 0),
+        (17, 17, 100, 0),
+        (34, 17, 100, 0),
+        (51, 13, 100, 0),
+    ];
+    come_to_runs(&rt, alloc, 17, &heads, &payload, &rows);
+    let rows = [(0, 1, 0, 0), (1, 1, 0, 0)];
+    come_to_runs(&rt, alloc, 1, &heads[..2], &payload, &rows);
 }
 
 /// A table that is given up gives all blocks back.

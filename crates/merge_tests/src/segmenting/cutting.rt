@@ -6,27 +6,41 @@ ghost use Rattle.skb.specs.SkbState.{buffer_size};
 use crate::home::home_of;
 use frags::{Outcomes, PieceBuilder, Pieces};
 use gso::{Cut, Cutter, check_super};
-use pcap_io::OffHead;
+use pcap_io::{AnyHead, OffHead, OffHead2};
 use raw_block::Sole;
 use skb::Skb;
 use std::alloc::{AllocError, Global};
 use std::process::Abort;
 
-/// The offload header of a merged frame.
-pub fn merged(n: u16, m: u16, modes: u8) -> OffHead {
-    header(1, n, m, modes)
+/// The offload header of a merged frame, in version 2.
+pub fn merged(n: u32, m: u32, modes: u8) -> AnyHead {
+    AnyHead::V2(OffHead2 {
+        version: 2,
+        kind: 1,
+        modes,
+        lane: 0,
+        n,
+        m,
+        number: 0,
+    })
 }
 
-pub fn header(kind: u8, n: u16, m: u16, modes: u8) -> OffHead {
-    OffHead {
+/// The same of a record of any kind, in both versions.
+pub fn headers(kind: u8, n: u16, m: u16, modes: u8, lane: u8) -> [AnyHead; 2] {
+    let first = AnyHead::V1(OffHead {
         version: 1,
         kind,
         n,
         m,
         modes,
-        lane: 0,
+        lane,
         number: 0,
-    }
+    });
+    let second = OffHead2 {
+        version: 2,
+        ..first.fields()
+    };
+    [first, AnyHead::V2(second)]
 }
 
 // A block with these bytes from the place 64 on.
@@ -41,13 +55,13 @@ fn block_of(alloc: Global, bytes: &[u8]) -> Result<Sole, AllocError>
 // The bytes as pieces of `size` bytes, each in a block of its own.
 fn pieces_of<A: Abort>(rt: &A, alloc: Global, bytes: &[u8], size: usize) -> Pieces
     requires sizes { (0 < size) × (size ≤ 1984) }
-    ensures small { size_of result ≤ 72000 }
+    ensures small { size_of result ≤ 272000 }
 {
     let mut builder = PieceBuilder::with_room(alloc, bytes.len()).expect(rt, "no memory");
     let mut total = 0usize;
     for piece in bytes.chunks(size) {
         let block = block_of(alloc, piece).expect(rt, "no memory");
-        assert!(rt; builder.room() > 0 && total <= 70_000);
+        assert!(rt; builder.room() > 0 && total <= 270_000);
         assert!(rt; piece.len() <= 1984);
         builder.push(block.share(), 64, 64 + piece.len());
         total += piece.len();
@@ -105,16 +119,16 @@ fn is_done<A: Abort>(
     }
 }
 
-/// Checks and cuts a record. None where it isn't lawful.
+/// Checks and cuts a record, with the original length in its record header. None where it isn't lawful.
 pub fn cut<A: Abort>(
     rt: &A,
     alloc: Global,
-    head: &OffHead,
+    head: &AnyHead,
     skb: Skb,
     original: u32,
 ) -> Option<Given> {
     let mut out = Outcomes::new(alloc);
-    assert!(rt; out.reserve(usize::from(head.n) * 3 + 200).is_ok());
+    assert!(rt; out.reserve(300).is_ok());
     assert!(rt; original >= 12 && skb.len().min(200) <= skb.head().len());
     assert!(rt; skb.least_weight() >= 2048 && skb.count() <= out.spare());
     let Ok(plan) = check_super(head, &skb, original) else {
@@ -122,6 +136,8 @@ pub fn cut<A: Abort>(
         let _ = home_of(out);
         return None;
     };
+    let n = head.fields().n;
+    assert!(rt; out.reserve(n as usize * 3 + 300).is_ok());
     let mut given = Given {
         bytes: Vec::new(alloc),
         weights: Vec::new(alloc),
@@ -129,7 +145,7 @@ pub fn cut<A: Abort>(
         blocks: 0,
     };
     let mut cutter = Cutter::start(skb, plan);
-    for _ in 0..u32::from(head.n) + 8 {
+    for _ in 0..n.saturating_add(8) {
         let spare = Sole::new(alloc).expect(rt, "no memory");
         if is_done(rt, &mut cutter, spare, &mut given, &mut out) {
             given.is_done = true;
@@ -140,6 +156,13 @@ pub fn cut<A: Abort>(
     cutter.release(&mut out);
     given.blocks = home_of(out);
     Some(given)
+}
+
+/// The same of a record that was captured whole.
+pub fn cut_whole<A: Abort>(rt: &A, alloc: Global, head: &AnyHead, skb: Skb) -> Option<Given> {
+    let len = skb.len();
+    assert!(rt; len <= 300_000);
+    cut(rt, alloc, head, skb, len as u32 + head.size())
 }
 
 /// Headers, and a payload of `size` bytes that count.

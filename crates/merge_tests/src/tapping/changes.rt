@@ -24,8 +24,8 @@ struct Own {
 }
 
 // The task, whose clone has all bytes in one window; and whether it read them, once it has run.
-struct Tap {
-    task: Option<TapTask>,
+struct Tap<'a> {
+    task: Option<TapTask<'a>>,
     has_read: bool,
     blocks: usize,
 }
@@ -47,7 +47,7 @@ fn has_all(read: TapResult) -> (bool, usize) {
     (true, blocks)
 }
 
-fn read(tap: &mut Tap)
+fn read(tap: &mut Tap<'_>)
     requires places { IfSome tap.old.task (λ task. blocks_of task.clones.items ≤ task.outcomes.spare) }
     ensures none { tap.new.task ≡ None }
 {
@@ -80,7 +80,7 @@ fn change(own: &mut Own)
     }
 }
 
-fn change_beside<R: Threads + Sync>(rt: &R, tap: &mut Tap, own: &mut Own)
+fn change_beside<R: Threads + Sync>(rt: &R, tap: &mut Tap<'_>, own: &mut Own)
     requires tap { IfSome tap.old.task (λ task. blocks_of task.clones.items ≤ task.outcomes.spare) }
     requires own { IfSome own.old.skb (λ skb. length skb.rest + 3 ≤ own.old.out.spare) }
     ensures none { (tap.new.task ≡ None) × (own.new.skb ≡ None) }
@@ -98,7 +98,7 @@ fn change_beside<R: Threads + Sync>(rt: &R, tap: &mut Tap, own: &mut Own)
     );
 }
 
-fn sides<A: Abort>(rt: &A, alloc: Global) -> (Tap, Own)
+fn sides<'a, A: Abort>(rt: &A, alloc: Global) -> (Tap<'a>, Own)
     ensures places { (IfSome result.0.task (λ task. blocks_of task.clones.items ≤ task.outcomes.spare)) × (IfSome result.1.skb (λ skb. length skb.rest + 3 ≤ result.1.out.spare)) }
 {
     let mut skb = packet(alloc, LEN, 100, 90).expect(rt, "no memory");
@@ -121,6 +121,7 @@ fn sides<A: Abort>(rt: &A, alloc: Global) -> (Tap, Own)
     let task = TapTask {
         tap: 0,
         snap: 2048,
+        filter: None,
         clones,
         outcomes,
     };
@@ -139,7 +140,7 @@ fn sides<A: Abort>(rt: &A, alloc: Global) -> (Tap, Own)
 }
 
 // Whether the tap read the packet as it was, and the blocks that came home on both sides.
-fn ended(tap: Tap, own: Own) -> (bool, usize)
+fn ended(tap: Tap<'_>, own: Own) -> (bool, usize)
     requires none { (tap.task ≡ None) × (own.skb ≡ None) }
 {
     let Tap {

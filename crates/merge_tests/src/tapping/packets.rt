@@ -8,6 +8,7 @@ use raw_block::Sole;
 use skb::Skb;
 use std::alloc::{AllocError, Global};
 use std::process::Abort;
+use tap_filter::Program;
 use taps::{TapClone, TapTask};
 
 /// Byte `i` of each packet.
@@ -60,14 +61,16 @@ pub fn packet(alloc: Global, len: usize, head: usize, piece: usize) -> Result<Sk
     Ok(Skb::new(first, 64, 64 + of_head, rest))
 }
 
-/// The task of a tap with its snap over a packet of each length, numbered from 0, of these sizes of head and pieces. The packets themselves are given back before.
-pub fn task_over<A: Abort>(
+/// The task of a tap with its snap and its filter over a packet of each length, numbered from 0, of these sizes of head
+/// and pieces. The packets themselves are given back before.
+pub fn task_over<'a, A: Abort>(
     rt: &A,
     alloc: Global,
     reads: (u32, u32),
+    filter: Option<&'a Program>,
     sizes: (usize, usize),
     lengths: &[usize],
-) -> TapTask
+) -> TapTask<'a>
     requires sizes { (sizes.0 ≤ 1984) × (0 < sizes.1) × (sizes.1 ≤ 2000) }
     ensures places { blocks_of result.clones.items ≤ result.outcomes.spare }
 {
@@ -93,6 +96,7 @@ pub fn task_over<A: Abort>(
     let task = TapTask {
         tap,
         snap,
+        filter,
         clones,
         outcomes,
     };

@@ -1,10 +1,11 @@
-//! What taps read of packets of many lengths, the gate, and the blocks that come home.
+//! What taps read of packets of many lengths, with filters and without, the gate, and the blocks that come home.
 use super::packets::{byte_of, task_over};
 use crate::home::home_of;
 use off_io::{Gate, NoGate, Who};
 use std::process::Abort;
 use std::sync::atomic::{AtomicU32, Ordering};
 use std::test::Fail;
+use tap_filter::Program;
 use taps::{TapResult, TapText, TapTexts};
 
 const LENGTHS: [usize; 7] = [0, 1, 63, 64, 65, 128, 262_144];
@@ -21,19 +22,43 @@ fn is_window(text: &TapText<'_>, number: usize, from: usize) -> bool {
     text.number as usize == number && (text.sec, text.frac, text.original) == (1000, 7, 70_000)
 }
 
-// Whether these are the windows of the packets, by the rule as it is told: from `tap * snap` on, at most `snap`, never empty.
-fn are_windows(texts: &TapTexts, tap: usize, snap: usize) -> bool {
+// Of a packet of so many bytes as many are shown: none of one that is shorter than the least length.
+#[derive(Clone, Copy)]
+struct Shown {
+    least: usize,
+    most: usize,
+}
+
+const ALL: Shown = Shown {
+    least: 0,
+    most: usize::MAX,
+};
+
+impl Shown {
+    fn of(self, len: usize) -> usize {
+        if len < self.least {
+            0
+        } else {
+            len.min(self.most)
+        }
+    }
+}
+
+// Whether these are the windows of the packets, by the rule as it is told: of what is shown from `tap * snap` on, at
+// most `snap`, never empty.
+fn are_windows(texts: &TapTexts, tap: usize, snap: usize, shown: Shown) -> bool {
     let mut next = 0usize;
     for (number, len) in LENGTHS.iter().enumerate() {
         let from = tap.wrapping_mul(snap);
-        if from >= *len {
+        let end = shown.of(*len);
+        if from >= end {
             continue;
         }
         if next >= texts.len() {
             return false;
         }
         let text = texts.get(next);
-        if text.bytes.len() != (*len - from).min(snap) || !is_window(&text, number, from) {
+        if text.bytes.len() != (end - from).min(snap) || !is_window(&text, number, from) {
             return false;
         }
         next = next.wrapping_add(1);
@@ -67,12 +92,12 @@ fn windows_are_those_of_the_packets(rt: HostRuntime) -> Result<(), Fail> {
         (7, 2048),
     ] {
         for (head, piece) in [(1984, 2000), (0, 1999), (63, 1000)] {
-            let task = task_over(&rt, rt.alloc(), (tap, snap), (head, piece), &LENGTHS);
+            let task = task_over(&rt, rt.alloc(), (tap, snap), None, (head, piece), &LENGTHS);
             let TapResult { texts, outcomes } = task.run(&NoGate);
             let home = home_of(outcomes);
             let texts = texts?;
             assert!(rt;
-                are_windows(&texts, tap as usize, snap as usize),
+                are_windows(&texts, tap as usize, snap as usize, ALL),
                 "tap {tap}, snap {snap}, head {head}"
             );
             assert_eq!(rt; home, blocks(head, piece));
@@ -82,10 +107,60 @@ fn windows_are_those_of_the_packets(rt: HostRuntime) -> Result<(), Fail> {
     Ok(())
 }
 
+// The texts of filters, and what they show: 40 bytes; 100 of those whose word at 61, which may lie in the head and a
+// piece, has the bytes 61 to 64; all of those that are longer than 128; and none.
+const FILTERS: [(&str, Shown); 4] = [
+    ("1,6 0 0 40", Shown { least: 0, most: 40 }),
+    (
+        "4,32 0 0 61,21 0 1 1027489600,6 0 0 100,6 0 0 0",
+        Shown {
+            least: 65,
+            most: 100,
+        },
+    ),
+    (
+        "4,128 0 0 0,37 0 1 128,6 0 0 4294967295,6 0 0 0",
+        Shown {
+            least: 129,
+            most: usize::MAX,
+        },
+    ),
+    ("1,22 0 0 0", Shown { least: 0, most: 0 }),
+];
+
+#[test]
+fn windows_are_those_of_what_a_filter_shows(rt: HostRuntime) -> Result<(), Fail> {
+    let alloc = rt.alloc();
+    for (text, shown) in FILTERS {
+        let filter = Program::of_text(alloc, text).map_err(|_| "a filter")?;
+        for (tap, snap) in [(0, 64), (1, 64), (0, 2048), (7, 10)] {
+            for (head, piece) in [(1984, 2000), (0, 1999), (63, 1000)] {
+                let task = task_over(
+                    &rt,
+                    alloc,
+                    (tap, snap),
+                    Some(&filter),
+                    (head, piece),
+                    &LENGTHS,
+                );
+                let TapResult { texts, outcomes } = task.run(&NoGate);
+                let home = home_of(outcomes);
+                let texts = texts?;
+                assert!(rt;
+                    home == blocks(head, piece)
+                        && are_windows(&texts, tap as usize, snap as usize, shown),
+                    "{text}, tap {tap}"
+                );
+            }
+        }
+    }
+    Ok(())
+}
+
 // The example of the crate's face.
 #[test]
 fn example(rt: HostRuntime) -> Result<(), Fail> {
-    let task = task_over(&rt, rt.alloc(), (0, 64), (100, 100), &[60, 300]);
+    let task = task_over(&rt, rt.alloc(), (0, 64), None, (100, 100), &[60, 300]);
     let mut read = 0usize;
     let TapResult { texts, outcomes } = task.run(&NoGate);
     let _ = home_of(outcomes);
@@ -123,7 +198,7 @@ fn the_gate_is_passed_before_and_after(rt: HostRuntime) -> Result<(), Fail> {
     let gate = Passes {
         seen: AtomicU32::new(0),
     };
-    let task = task_over(&rt, rt.alloc(), (3, 64), (100, 100), &[300]);
+    let task = task_over(&rt, rt.alloc(), (3, 64), None, (100, 100), &[300]);
     let TapResult { texts, outcomes } = task.run(&gate);
     let _ = home_of(outcomes);
     assert_eq!(rt; texts?.len(), 1);

@@ -1,10 +1,10 @@
 //! Tasks that wait for one another: they meet, whichever the lanes are.
-ghost use Rattle.round_work.specs.Work.{IsPlan};
+ghost use Rattle.std.specs.Prelude.{◌≤◌};
 
 use super::packets::all_home;
 use super::turns::lanes_of;
+use crate::plans::plain;
 use off_io::{Meeting, Who};
-use round_work::Plan;
 use std::alloc::Global;
 use std::process::Abort;
 use std::thread::Threads;
@@ -17,16 +17,12 @@ fn seen<R: Threads + Abort + Sync>(
     one: Who,
     other: Who,
 ) -> u32
-    requires plan { IsPlan (record { queues = lanes.0; taps = lanes.1; snap = 64 }) }
+    requires queues { (1 ≤ lanes.0) × (lanes.0 ≤ 64) }
+    requires taps { lanes.1 ≤ 8 }
 {
     let (queues, taps) = lanes;
     let meeting = Meeting::of(one, other);
-    let plan = Plan {
-        queues,
-        taps,
-        snap: 64,
-    };
-    let lanes = lanes_of(rt, alloc, plan, &meeting);
+    let lanes = lanes_of(rt, alloc, plain(queues, taps, 64), &meeting);
     assert_eq!(rt; all_home(rt, lanes), 24);
     meeting.met()
 }

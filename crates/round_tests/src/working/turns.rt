@@ -3,15 +3,17 @@ ghost use Rattle.round_work.specs.Work.{IsPlan};
 
 use super::frames::IN_TURN;
 use super::packets::{all_home, in_turn, kept_home, rest_home};
+use crate::plans::{chosen, plain};
 use off_io::{Gate, NoGate, Who};
 use round_work::{Lanes, Plan, QueueLane, TapLane, keep_packets, work_packets, work_packets_alone};
 use std::alloc::Global;
 use std::process::Abort;
 use std::sync::atomic::{AtomicU32, Ordering};
+use std::test::Fail;
 use std::thread::Threads;
 
 // Number, packets and first payload of an item.
-type Said = (u32, u16, u16);
+type Said = (u32, u32, u32);
 
 /// The lanes of both flows after their work.
 pub(crate) fn lanes_of<R: Threads + Abort + Sync, G: Gate + Sync>(
@@ -57,11 +59,7 @@ fn has_read(rt: &impl Abort, lane: &TapLane, from: usize, to: usize) {
 /// A queue for each flow, and two taps: the second one's windows are the ends of the packets.
 #[test]
 fn two_queues_and_two_taps(rt: HostRuntime) {
-    let plan = Plan {
-        queues: 2,
-        taps: 2,
-        snap: 64,
-    };
+    let plan = plain(2, 2, 64);
     let lanes = lanes_of(&rt, rt.alloc(), plan, &NoGate);
     assert!(rt; lanes.queues.len() == 2 && lanes.taps.len() == 2);
     says(&rt, &lanes.queues[0], &[(0, 4, 16)]);
@@ -74,11 +72,7 @@ fn two_queues_and_two_taps(rt: HostRuntime) {
 /// Both flows in one queue, and no tap.
 #[test]
 fn one_queue(rt: HostRuntime) {
-    let plan = Plan {
-        queues: 1,
-        taps: 0,
-        snap: 64,
-    };
+    let plan = plain(1, 0, 64);
     let lanes = lanes_of(&rt, rt.alloc(), plan, &NoGate);
     assert!(rt; lanes.queues.len() == 1 && lanes.taps.is_empty());
     says(&rt, &lanes.queues[0], &[(0, 4, 16), (1, 4, 16)]);
@@ -88,11 +82,7 @@ fn one_queue(rt: HostRuntime) {
 /// The most queues and taps that there may be: two queues have a flow each, and six taps find all windows empty.
 #[test]
 fn many_lanes(rt: HostRuntime) {
-    let plan = Plan {
-        queues: 64,
-        taps: 8,
-        snap: 40,
-    };
+    let plan = plain(64, 8, 40);
     let lanes = lanes_of(&rt, rt.alloc(), plan, &NoGate);
     assert!(rt; lanes.queues.len() == 64 && lanes.taps.len() == 8);
     says(&rt, &lanes.queues[0], &[]);
@@ -109,6 +99,34 @@ fn many_lanes(rt: HostRuntime) {
     assert_eq!(rt; all_home(&rt, lanes), 24);
 }
 
+/// By the hash the flows have other queues of four, and the same items. Runs are of two packets, and two taps of 32
+/// bytes are shown 40.
+#[test]
+fn by_choice(rt: HostRuntime) -> Result<(), Fail> {
+    let alloc = rt.alloc();
+    let lanes = lanes_of(&rt, alloc, chosen(alloc, 4, 4096, "1,6 0 0 40")?, &NoGate);
+    assert!(rt; lanes.queues.len() == 4 && lanes.taps.len() == 2);
+    says(&rt, &lanes.queues[0], &[(1, 4, 16)]);
+    says(&rt, &lanes.queues[1], &[(0, 4, 16)]);
+    has_read(&rt, &lanes.taps[0], 0, 32);
+    has_read(&rt, &lanes.taps[1], 32, 40);
+    assert_eq!(rt; all_home(&rt, lanes), 24);
+    Ok(())
+}
+
+/// Runs of at most two packets; and what a filter shows nothing of has no windows.
+#[test]
+fn runs_of_two(rt: HostRuntime) -> Result<(), Fail> {
+    let alloc = rt.alloc();
+    let lanes = lanes_of(&rt, alloc, chosen(alloc, 1, 2, "1,6 0 0 0")?, &NoGate);
+    assert!(rt; lanes.queues.len() == 1 && lanes.taps.len() == 2);
+    let items = [(0, 2, 16), (1, 2, 16), (4, 2, 16), (5, 2, 16)];
+    says(&rt, &lanes.queues[0], &items);
+    let windows = lanes.taps[0].texts.as_ref().expect(&rt, "windows").len();
+    assert_eq!(rt; (windows, all_home(&rt, lanes)), (0, 24));
+    Ok(())
+}
+
 // How often it was passed.
 #[derive(Drop)]
 struct Count {
@@ -121,15 +139,12 @@ impl Gate for Count {
     }
 }
 
-/// All lanes in one thread, each passing the gate twice, over packets of which a clone is kept: each is cloned nine times.
+/// All lanes in one thread, each passing the gate twice, over packets of which a clone is kept: each is cloned nine
+/// times.
 #[test]
 fn kept_and_alone(rt: HostRuntime) {
     let alloc = rt.alloc();
-    let plan = Plan {
-        queues: 2,
-        taps: 8,
-        snap: 64,
-    };
+    let plan = plain(2, 8, 64);
     let mut packets = in_turn(&rt, alloc);
     let mut kept = Vec::new(alloc);
     keep_packets(&mut packets, &mut kept).expect(&rt, "there is memory");

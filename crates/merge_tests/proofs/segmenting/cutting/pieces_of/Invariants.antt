@@ -5,5 +5,5 @@ use Rattle.merge_tests.proofs.segmenting.cutting.pieces_of.Given as goal
 abbrev pub invariant-loop-piece : goal.invariant-loop-piece
 invariant-loop-piece g l = record {
   same : l.total ≡ size_of l.builder.pieces;
-  most : l.total ≤ 71984;
+  most : l.total ≤ 271984;
 }
