@@ -9,21 +9,21 @@ use anyhow::{Error, bail};
 use block_pool::Pool;
 use frags::{Outcomes, Pieces};
 use gso::{Cut, Cutter, check_super};
-use pcap_io::OffHead;
+use pcap_io::{AnyHead, OffHead2};
 use raw_block::Sole;
 use skb::Skb;
 use std::alloc::Global;
 use worked_captures::MERGED;
 
-const HEAD: OffHead = OffHead {
-    version: 1,
+const HEAD: AnyHead = AnyHead::V2(OffHead2 {
+    version: 2,
     kind: 1,
-    n: 2,
-    m: 4,
     modes: 0,
     lane: 0,
+    n: 2,
+    m: 4,
     number: 0,
-};
+});
 
 // The merged frame in a block.
 fn merged(mut block: Sole, alloc: Global) -> Skb
@@ -74,7 +74,7 @@ fn cut(
     requires least { 2048 ≤ buffer_least skb }
 {
     let (first, second, third) = spares;
-    let Ok(plan) = check_super(&HEAD, &skb, 72) else {
+    let Ok(plan) = check_super(&HEAD, &skb, 76) else {
         skb.release(out);
         out.keep_sole(first);
         out.keep_sole(second);

@@ -1,12 +1,13 @@
-//! `offload merge` over the sample captures of `data/`: a line for each, with its status, its records in and out, how many of
-//! these are of merged packets, and a hash of all bytes written. Then `offload segment` over what was written: its status, and
-//! how many packets came back, each the next one of its flow, byte for byte and with its original length; and `offload merge` over
-//! 64 queues and with 8 taps. Then a record of 65,495 segments, made by another program, and at last three runs that are refused,
-//! with their lines in the log.
+//! `offload merge` over the sample captures of `data/`: a line for each, with its status, its records in and out, how
+//! many of these are of merged packets, and a hash of all bytes written. Then `offload segment` over what was written:
+//! its status, and how many packets came back, each the next one of its flow, byte for byte and with its original
+//! length; `offload merge` over 64 queues and with 8 taps, and over 4 queues by a hash, with at most 17 packets to a
+//! run. Then a record of 65,495 segments, made by another program, and at last three runs that are refused, with their
+//! lines in the log.
 //!
 //! It is run by the gate, which compares the lines with `stdout`. The counts and hashes of merging come from
-//! `contrib/merge_by_definition`, a slow program that was written from the definitions alone and judges all members of a run
-//! at once.
+//! `contrib/merge_by_definition`, a slow program that was written from the definitions alone and judges all members of
+//! a run at once.
 #![tactic(auto)]
 
 use anyhow::Error;
@@ -19,6 +20,7 @@ use std::fs;
 use std::sync::Wait;
 use std::thread::Threads;
 
+// A record of the most segments that an IPv4 length field allows, each with one byte of payload.
 const MOST_SEGMENTS: &str = "one_byte_segments.pcap";
 
 // With as many blocks as its frame needs, whatever the number of segments.
@@ -27,11 +29,17 @@ const MOST_BLOCKS: &str = "segment --blocks 35";
 // Over all samples some 200 rounds, whose 72 lanes run at the same time.
 const MOST_LANES: &str = "merge --queues 64 --taps 8 --budget 14";
 
-const SAMPLES: [&str; 4] = [
+// By the key of Microsoft's suite of tests for receive side scaling.
+const BY_HASH: &str = "merge --queues 4 --segs 17 --rss \
+    6d5a56da255b0ec24167253d43a38fb0d0ca2bcbae7b30b477cb2da38030f20c6a42b73bbeac01fa";
+
+const SAMPLES: [&str; 6] = [
     "tcp_ipv4_four_flows.pcap",
     "tcp_ipv6_four_flows.pcap",
     "tcp_two_tags.pcap",
     "tcp_vxlan.pcap",
+    "tcp_gre.pcap",
+    "udp_six_flows.pcap",
 ];
 
 // How many records a capture has, and in how many of them packets were merged.
@@ -212,24 +220,13 @@ fn run_over(
     Ok(Ended { status, bytes, log })
 }
 
-// A line on the record of the most segments that an IPv4 length field allows, each with one byte of payload.
-fn show_most_segments(rt: &HostRuntime, ended: &Ended) -> Result<(), Error> {
+// A line on a run with options.
+fn show_run(rt: &HostRuntime, name: &str, what: &str, ended: &Ended) -> Result<(), Error> {
     println!(rt;
-        "{MOST_SEGMENTS}: segmented: status {}, bytes {}, hash {}",
+        "{name}: {what}: status {}, bytes {}, hash {}",
         ended.status.code(),
         ended.bytes.len(),
         hash(&ended.bytes)
-    )?;
-    Ok(())
-}
-
-// A line on a run over the most queues and taps that there may be.
-fn show_lanes(rt: &HostRuntime, name: &str, lanes: &Ended) -> Result<(), Error> {
-    println!(rt;
-        "{name}: 64 queues, 8 taps: status {}, bytes {}, hash {}",
-        lanes.status.code(),
-        lanes.bytes.len(),
-        hash(&lanes.bytes)
     )?;
     Ok(())
 }
@@ -260,6 +257,7 @@ fn main(rt: HostRuntime) -> Result<(), Error> {
         let merged = run_over(&rt, alloc, "merge", &bytes)?;
         let cut = run_over(&rt, alloc, "segment", &merged.bytes)?;
         let lanes = run_over(&rt, alloc, MOST_LANES, &bytes)?;
+        let hashed = run_over(&rt, alloc, BY_HASH, &bytes)?;
         let code = merged.status.code();
         let hash = hash(&merged.bytes);
         let none = Vec::new(alloc);
@@ -279,11 +277,12 @@ fn main(rt: HostRuntime) -> Result<(), Error> {
             after.len(),
             count_back(alloc, &before, &after)?
         )?;
-        show_lanes(&rt, name, &lanes)?;
+        show_run(&rt, name, "64 queues, 8 taps", &lanes)?;
+        show_run(&rt, name, "4 queues by a hash, runs of 17", &hashed)?;
     }
     let most = fs::read(&rt, MOST_SEGMENTS)?;
     let segmented = run_over(&rt, alloc, MOST_BLOCKS, &most)?;
-    show_most_segments(&rt, &segmented)?;
+    show_run(&rt, MOST_SEGMENTS, "segmented", &segmented)?;
     // A usage error, a capture that is cut one byte before its end, and one of the wrong link type.
     let sample = fs::read(&rt, SAMPLES[0])?;
     let usage = run_over(&rt, alloc, "frobnicate", &sample)?;

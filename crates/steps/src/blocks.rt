@@ -1,4 +1,5 @@
-//! The calls on a block, each pair as it follows in use. `bench/block-steps` sets them beside the same turns of Rust's `Arc`.
+//! The calls on a block, each pair as it follows in use. `bench/block-steps` sets them beside the same turns of Rust's
+//! `Arc`.
 
 use anyhow::Error;
 use raw_block::{Claimed, Part, Released, Sole};

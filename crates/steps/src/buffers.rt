@@ -1,4 +1,5 @@
-//! The calls on a packet buffer. `bench/buffer-steps` sets them beside the same turns of Rust's `bytes::Bytes` and `Arc`.
+//! The calls on a packet buffer. `bench/buffer-steps` sets them beside the same turns of Rust's `bytes::Bytes` and
+//! `Arc`.
 
 ghost use Rattle.std.specs.Prelude.{◌≡◌, ◌+◌, ◌≤◌, [], length, IfOk};
 ghost use Rattle.block_pool.specs.PoolState.{home};

@@ -1,10 +1,10 @@
-//! Judging a frame, beside summing its bytes.
+//! Judging a frame, beside summing its bytes, and hashing what receive side scaling reads of it.
 //!
-//! The frame is a TCP segment of 1,514 bytes over IPv4 that may be merged, so that every sum of it is taken: once from its
-//! first 200 bytes and the sum of the others, and once from all its bytes.
+//! The frame is a TCP segment of 1,514 bytes over IPv4 that may be merged, so that every sum of it is taken: once from
+//! its first 200 bytes and the sum of the others, and once from all its bytes. The hash is of its addresses and ports.
 
 use anyhow::Error;
-use frame_layout::candidate;
+use frame_layout::{HashKey, candidate};
 use inet_sum::{Partial, fold_of};
 use std::time::{Duration, Instant};
 
@@ -69,6 +69,19 @@ fn time_summing(rt: &HostRuntime, turns: u64) -> Result<(Duration, u64), Error> 
     Ok((start.elapsed(rt)?, total))
 }
 
+fn time_hashing(rt: &HostRuntime, turns: u64) -> Result<(Duration, u64), Error> {
+    let mut input = [0; 12];
+    input.copy_from_slice(&HEADERS[26..38]);
+    let inputs = [input; 4];
+    let key = HashKey::of(&[0x6d; 40]);
+    let start = Instant::now(rt)?;
+    let mut total = 0u64;
+    for turn in 0..turns {
+        total = total.wrapping_add(u64::from(key.hash(&inputs[(turn % 4) as usize])));
+    }
+    Ok((start.elapsed(rt)?, total))
+}
+
 pub fn measure(rt: &HostRuntime, turns: u64) -> Result<(), Error> {
     let (summing, total) = time_summing(rt, turns)?;
     println!(rt; "bytes summed: {} ns, total {total}", summing.as_nanos())?;
@@ -81,6 +94,11 @@ pub fn measure(rt: &HostRuntime, turns: u64) -> Result<(), Error> {
     println!(rt;
         "shape and candidate, whole frame: {} ns, {found} candidates",
         judging.as_nanos()
+    )?;
+    let (hashing, total) = time_hashing(rt, turns)?;
+    println!(rt;
+        "Toeplitz hash of 12 bytes: {} ns, total {total}",
+        hashing.as_nanos()
     )?;
     Ok(())
 }

@@ -1,5 +1,5 @@
-//! Nanoseconds that calls take, a line for each: `steps frames 1000000`, and so with `blocks`, `buffers`, `merging`, `pools`,
-//! `segmenting` and `taps`; `steps sums 1000000 1460` sums lists of that many bytes.
+//! Nanoseconds that calls take, a line for each: `steps frames 1000000`, and so with `blocks`, `buffers`, `merging`,
+//! `pools`, `segmenting` and `taps`; `steps sums 1000000 1460` sums lists of that many bytes.
 //!
 //! The scripts of `bench/` build and run it. With no such word, or no number of turns, it prints how it is called.
 #![tactic(auto)]

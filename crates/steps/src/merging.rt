@@ -1,5 +1,5 @@
-//! Merging the packets of a round that lie in blocks: each is judged and received, and the round finished, without reading and
-//! writing. A round has 64 packets, whose blocks go home before the next one is read.
+//! Merging the packets of a round that lie in blocks: each is judged and received, and the round finished, without
+//! reading and writing. A round has 64 packets, whose blocks go home before the next one is read.
 
 ghost use Rattle.std.specs.Prelude.{◌≡◌, ◌+◌, ◌≤◌, length, IfOk, IfSome};
 ghost use Rattle.pcap_io.specs.Places.{IsReady};
@@ -7,9 +7,11 @@ ghost use Rattle.pcap_io.specs.Readers.{place_of};
 ghost use Rattle.pcap_io.specs.declared.heads.Link.TheVariants.{Ethernet};
 
 use anyhow::{Error, bail};
+use frame_layout::Choice;
 use inet_sum::{Partial, checksum};
 use off_io::{Feed, MemSource, NoGate};
 use pcap_io::{CaptureReader, Link};
+use round_work::Plan;
 use rounds::{RoundEnd, RoundRead, Rounds};
 use std::alloc::{AllocError, Global};
 use std::time::{Duration, Instant};
@@ -25,7 +27,8 @@ const BLOCKS: u32 = 192;
 // The rounds of a capture.
 const PASS: u64 = 16;
 
-/// The packets of a capture: of how many flows in turn, with how much TCP payload, and how many bytes of each were captured.
+/// The packets of a capture: of how many flows in turn, with how much TCP payload, and how many bytes of each were
+/// captured.
 struct Row {
     name: &'static str,
     flows: u16,
@@ -186,7 +189,15 @@ fn time_pass(
 // How long the work on the row's packets took, and how many there were.
 fn time_row(rt: &HostRuntime, row: &Row, turns: u64) -> Result<(Duration, u64), Error> {
     let bytes = capture_of(rt.alloc(), row, PASS)?;
-    let mut rounds = Rounds::make(rt.alloc(), BLOCKS, ROUND as u32, 1, 0, 64, false)?;
+    let plan = Plan {
+        queues: 1,
+        taps: 0,
+        snap: 64,
+        choice: Choice::Fold,
+        segs: 4096,
+        filter: None,
+    };
+    let mut rounds = Rounds::make(rt.alloc(), BLOCKS, ROUND as u32, plan, false)?;
     let mut taken = Duration::ZERO;
     let mut packets = 0u64;
     for _ in 0..turns.div_ceil(PASS * ROUND as u64) {

@@ -1,5 +1,5 @@
-//! Nanoseconds of the turns of pools: a block is taken and put back, with its bytes as they are or filled. A pool that threads
-//! share is measured with one pass, and with four on four threads that share the turns.
+//! Nanoseconds of the turns of pools: a block is taken and put back, with its bytes as they are or filled. A pool that
+//! threads share is measured with one pass, and with four on four threads that share the turns.
 ghost use Rattle.std.specs.Prelude.{◌≡◌, ◌+◌, ◌<◌, ◌≤◌, All, IfOk};
 ghost use Rattle.block_pool.specs.PassState.{IsOwn, IsSame};
 ghost use Rattle.block_pool.specs.PoolState.{home};

@@ -1,5 +1,5 @@
-//! Cutting a merged frame that lies in a buffer: the test of its record, with all sums, and each segment's header bytes, while its
-//! payload stays where it is. A segment's blocks go home before the next one is cut.
+//! Cutting a merged frame that lies in a buffer: the test of its record, with all sums, and each segment's header
+//! bytes, while its payload stays where it is. A segment's blocks go home before the next one is cut.
 
 ghost use Rattle.std.specs.Prelude.{◌≡◌, ◌+◌, ◌≤◌, [], length, min, true, IfOk};
 ghost use Rattle.frags.specs.PieceList.{size_of};
@@ -12,7 +12,7 @@ use anyhow::{Error, bail};
 use block_pool::Pool;
 use frags::{Outcomes, PieceBuilder, Pieces};
 use gso::{Cut, Cutter, check_super};
-use pcap_io::OffHead;
+use pcap_io::{AnyHead, OffHead2};
 use raw_block::Sole;
 use skb::{HEADROOM, Skb};
 use std::alloc::{AllocError, Global};
@@ -21,12 +21,12 @@ use std::time::{Duration, Instant};
 // The head holds the headers and so many bytes of payload.
 const OF_HEAD: usize = 1930;
 
-/// A merged frame over IPv4 and TCP: its 54 bytes of headers, the number of its segments, and the payload of each. Payload byte k is
-/// k modulo 251.
+/// A merged frame over IPv4 and TCP: its 54 bytes of headers, the number of its segments, and the payload of each.
+/// Payload byte k is k modulo 251.
 struct Record {
     headers: [u8; 54],
-    n: u16,
-    m: u16,
+    n: u32,
+    m: u32,
 }
 
 const RECORDS: [Record; 3] = [
@@ -95,10 +95,11 @@ fn pieces_of(alloc: Global, blocks: Vec<(Sole, usize)>) -> Result<Pieces, AllocE
 fn buffer_of(alloc: Global, record: &Record) -> Result<Skb, Error>
     ensures few { IfOk result (λ skb. length skb.rest + 1 ≤ 41) }
 {
-    let size = usize::from(record.n) * usize::from(record.m);
+    let size = u64::from(record.n) * u64::from(record.m);
     if size > 65_495 {
         bail!("no frame has so much payload");
     }
+    let size = size as usize;
     let mut from = size.min(OF_HEAD);
     let head = filled(alloc, &record.headers, 0, from)?;
     let end = HEADROOM + 54 + from;
@@ -172,7 +173,7 @@ fn is_ready(skb: &Skb) -> bool
 }
 
 // The segments of a record, once it is tested.
-fn cut(head: &OffHead, skb: Skb, pool: &mut Pool, out: &mut Outcomes) -> u64
+fn cut(head: &AnyHead, skb: Skb, pool: &mut Pool, out: &mut Outcomes) -> u64
     requires room { length skb.rest + 1 ≤ out.old.spare }
 {
     let mut given = 0u64;
@@ -180,13 +181,13 @@ fn cut(head: &OffHead, skb: Skb, pool: &mut Pool, out: &mut Outcomes) -> u64
         skb.release(out);
         return given;
     }
-    let original = skb.len() as u32 + 12;
+    let original = skb.len() as u32 + head.size();
     let Ok(plan) = check_super(head, &skb, original) else {
         skb.release(out);
         return given;
     };
     let mut cutter = Cutter::start(skb, plan);
-    for _ in 0..head.n {
+    for _ in 0..head.fields().n {
         if give(&mut cutter, pool, out) {
             given = given.wrapping_add(1);
         }
@@ -198,7 +199,7 @@ fn cut(head: &OffHead, skb: Skb, pool: &mut Pool, out: &mut Outcomes) -> u64
 // The segments that were cut of clones of a record's buffer, and how long that took without the making of the clones.
 fn time_clones(
     rt: &HostRuntime,
-    head: &OffHead,
+    head: &AnyHead,
     skb: &mut Skb,
     out: &mut Outcomes,
     turns: u64,
@@ -231,15 +232,15 @@ fn time_record(
 ) -> Result<(Duration, u64), Error>
     ensures rest { length skb.new.rest ≡ length skb.old.rest }
 {
-    let head = OffHead {
-        version: 1,
+    let head = AnyHead::V2(OffHead2 {
+        version: 2,
         kind: 1,
-        n: record.n,
-        m: record.m,
         modes: 0,
         lane: 0,
+        n: record.n,
+        m: record.m,
         number: 0,
-    };
+    });
     let mut out = places(rt.alloc(), 300)?;
     let timed = time_clones(rt, &head, skb, &mut out, turns);
     empty(&mut out);
