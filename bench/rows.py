@@ -95,6 +95,55 @@ def segment(port, sequence, acknowledgment, identification, payload):
     return ethernet + ip4(checksum(ip4(0))) + tcp(checksum(hosts + struct.pack(">BBH", 0, 6, size) + tcp(0)))
 
 
+def ip4(protocol, identification, carried):
+    """An IPv4 datagram that may not be fragmented."""
+    head = struct.pack(">BBHHHBB", 0x45, 0, 20 + len(carried), identification % 65536, 0x4000, 64, protocol)
+    hosts = bytes((10, 77, 0, 1, 10, 77, 0, 2))
+    return head + struct.pack(">H", checksum(head + hosts)) + hosts + carried
+
+
+def datagram(port, identification, payload):
+    """A UDP datagram over IPv4: 42 bytes and its payload."""
+    size = 8 + len(payload)
+    head = struct.pack(">HHH", port, 5201, size)
+    total = checksum(bytes((10, 77, 0, 1, 10, 77, 0, 2)) + struct.pack(">BBH", 0, 17, size) + head + payload) or 65535
+    return segment(0, 0, 0, 0, b"")[:14] + ip4(17, identification, head + struct.pack(">H", total) + payload)
+
+
+def in_gre(frame, identification):
+    """An untagged IPv4 frame's datagram behind GRE without a key."""
+    return frame[:14] + ip4(47, identification, b"\0\0\x08\0" + frame[14:])
+
+
+def segment6(port, sequence, payload):
+    """A segment over IPv6 with twelve bytes of options: 86 bytes and its payload."""
+    hosts = bytes.fromhex("fd00") + bytes(13) + b"\1" + bytes.fromhex("fd00") + bytes(13) + b"\2"
+    size = 32 + len(payload)
+
+    def tcp(total):
+        return struct.pack(">HHIIBBHHH", port, 5201, sequence % 2**32, 1, 0x80, 0x10, 1000, total, 0) + b"\1\1\x08\x0a\0\0\0\1\0\0\0\2" + payload
+
+    ethernet = bytes((2, 0, 0, 0, 0, 2, 2, 0, 0, 0, 0, 1, 0x86, 0xDD))
+    return ethernet + struct.pack(">IHBB", 6 << 28, size, 6, 64) + hosts + tcp(checksum(hosts + struct.pack(">II", size, 6) + tcp(0)))
+
+
+def full_records(name):
+    """Frames of 1,514 bytes, all of one flow, 256 of them."""
+    def payload(i, size):
+        return bytes((7 * i + j) % 256 for j in range(size))
+
+    if name == "datagrams":
+        return [(1, 0, datagram(40000, 100 + i, payload(i, 1472))) for i in range(256)]
+    if name == "GRE":
+        return [(1, 0, in_gre(segment(40000, 1000 + 1424 * i, 1, 100 + i, payload(i, 1424)), 100 + i)) for i in range(256)]
+    if name == "IPv6 segments":
+        return [(1, 0, segment6(40000, 1000 + 1428 * i, payload(i, 1428))) for i in range(256)]
+    return [(1, 0, segment(40000, 1000 + 1448 * i, 1, 100 + i, payload(i, 1448))) for i in range(256)]
+
+
+FULL = ("segments", "datagrams", "GRE", "IPv6 segments")
+
+
 def small_payload(i):
     return bytes((7 * i + j) % 256 for j in range(34))
 
@@ -157,6 +206,8 @@ def make(name, sample, size, folder):
         return Capture(path, source.packets)
     if name in SAMPLES:
         records = records_of(os.path.join(ROOT, "samples", SAMPLES[name] + ".pcap"))
+    elif name in FULL:
+        records = full_records(name)
     else:
         records = small_records(name) if name in SMALL[1:] else large_records(sample, name)
     return write_capture(path, records, size * 3 // 10 if name in SMALL else size) if records else None
@@ -201,7 +252,11 @@ def merging(walk):
     titles |= {"one flow": "merging 100-byte segments of one flow", "64 flows": "merging 100-byte segments of 64 flows, none of which continues"}
     found = [Group(title, beside(walk, name) + [merges("`offload merge`", name)], BESIDE, main=True) for name, title in titles.items()]
     layouts = ("1,514 bytes", "4,096 flows in turn", "4,096 flows by 8", *SAMPLES)
-    return found + [Group("merging by flows and layouts", [merges(f"merge, {name}", name) for name in layouts], ("merge, 1,514 bytes",), main=True)]
+    found.append(Group("merging by flows and layouts", [merges(f"merge, {name}", name) for name in layouts], ("merge, 1,514 bytes",), main=True))
+    kinds = [merges(f"merge, {name}", name) for name in FULL]
+    # Of 45 segments a merged frame has 65,535 bytes at most, of 180 almost 262,144.
+    long = [merges(f"merge --budget 180 --segs {segs}, IPv6 segments", "IPv6 segments", "--budget", "180", "--segs", str(segs)) for segs in (45, 180)]
+    return [*found, Group("merging one flow of full frames by what they carry", [*kinds, *long], ("merge, segments",))]
 
 
 def segmenting(walk):

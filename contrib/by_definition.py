@@ -2,19 +2,25 @@
 
 A list of packets is mergeable where the conditions on all its members hold, and each flow's packets of a round are cut into maximal
 mergeable runs. It shares no code and no method with the proved program, so the two can be compared. `merge_by_definition`,
-`check_by_definition` and `fuzz` stand on it.
+`check_by_definition` and `fuzz` stand on it; what a filter is stands in filter_by_definition.py.
 """
 import functools
+import re
 import struct
 from typing import NamedTuple, Optional
 
+from filter_by_definition import filter_of, value
 from made_by_definition import capture
 
-ETHERNET, TAG, IP4, IP6, UDP, VXLAN, TCP = "ethernet", "tag", "ip4", "ip6", "udp", "vxlan", "tcp"
+ETHERNET, TAG, IP4, IP6, UDP, VXLAN, GRE, TCP = "ethernet", "tag", "ip4", "ip6", "udp", "vxlan", "gre", "tcp"
 
 ETHERNET_LINK, OFFLOAD_LINK = 1, 147
 ORDERS = {b"\xd4\xc3\xb2\xa1": "<", b"\x4d\x3c\xb2\xa1": "<", b"\xa1\xb2\xc3\xd4": ">", b"\xa1\xb2\x3c\x4d": ">"}
 SINGLE, MERGED, WINDOW = 0, 1, 2
+VXLAN_PORT, OLD_VXLAN_PORT = 4789, 8472
+MOST_FIELD, MOST_FRAME, MOST_ORIGINAL = 65535, 262144, 2**31 - 1
+ORIGINAL_HEAD, LONGEST_HEAD = 12, 16  # bytes of the offload header in version 1, and in version 2
+RSS_KEY, RSS_TABLE = re.compile("[0-9a-f]{80}"), re.compile("[0-9]{1,3}(?:,[0-9]{1,3}){0,127}")
 
 
 class Packet(NamedTuple):
@@ -51,28 +57,65 @@ class PoolEmpty(NamedTuple):
 
 
 class Options(NamedTuple):
-    """The options of `merge` and `check`; `segment` has `blocks` alone. Without `blocks` there is no limit to them, and without `seed` a capture is read."""
+    """The options of `merge` and `check`; `segment` has `blocks` alone. Without `blocks` there is no limit to them, and without `seed` a capture is read.
+    A filter is a program, and a queue follows from the hash by `rss`, the key, and the table, where there is a key."""
 
     budget: int = 64
     queues: int = 1
     taps: int = 0
     snap: int = 64
+    segs: int = 4096
+    filter: Optional[tuple] = None
+    rss: Optional[bytes] = None
+    table: Optional[tuple] = None
     blocks: Optional[int] = None
     seed: Optional[int] = None
     count: int = 1000
 
 
-# The numbers that scripts take behind their files, and their ranges.
-NUMBERS = (("budget", 1, 4096), ("queues", 1, 64), ("taps", 0, 8), ("snap", 1, 2048))
+RANGES = {"budget": (1, 4096), "queues": (1, 64), "taps": (0, 8), "snap": (1, 2048), "segs": (1, 4096), "blocks": (1, 65536)}
+RANGES |= {"seed": (0, 2**64 - 1), "count": (0, 10**7)}
+OPTIONS_OF_MERGE = ("budget", "queues", "taps", "snap", "segs", "filter", "rss", "table", "blocks")
+OPTIONS_OF_CHECK = (*OPTIONS_OF_MERGE, "seed", "count")
 
 
-def options_of(words):
-    """The options that some numbers stand for; a ValueError says what is wrong with them."""
-    options = Options()
-    for (name, least, most), word in zip(NUMBERS, words):
-        if not (word.isascii() and word.isdigit() and least <= int(word) <= most):
-            raise ValueError(f"{name} is a number from {least} to {most}, not {word}")
-        options = options._replace(**{name: int(word)})
+def rss_key_of(text):
+    if not RSS_KEY.fullmatch(text):
+        raise ValueError("no key of 80 lower-case hexadecimal digits")
+    return bytes.fromhex(text)
+
+
+def table_of(text):
+    """The numbers of a table; that each is below the queues is judged with the other options."""
+    if not RSS_TABLE.fullmatch(text):
+        raise ValueError("no table of 1 to 128 numbers of at most three digits, with commas between")
+    return tuple(map(int, text.split(",")))
+
+
+def number_of(name, text):
+    least, most = RANGES[name]
+    if not re.fullmatch("[0-9]{1,20}", text) or not least <= int(text) <= most:
+        raise ValueError(f"no number from {least} to {most}")
+    return int(text)
+
+
+def options_of(words, names):
+    """The options that words like `--queues 4` or `--queues=4` stand for, of those with these names; a ValueError says what is wrong with them."""
+    readers = {"filter": filter_of, "rss": rss_key_of, "table": table_of}
+    words, found = list(words), {}
+    while words:
+        name, has_value, text = words.pop(0).partition("=")
+        name = name.removeprefix("--") if name.startswith("--") else None
+        if name not in names or name in found or not (has_value or words):
+            raise ValueError("options are " + ", ".join(f"--{name}" for name in names) + ", each with a value, and once")
+        text = text if has_value else words.pop(0)
+        try:
+            found[name] = readers[name](text) if name in readers else number_of(name, text)
+        except ValueError as error:
+            raise ValueError(f"--{name} {text}: {error}") from error
+    options = Options(**found)
+    if options.table is not None and (options.rss is None or max(options.table) >= options.queues):
+        raise ValueError("--table stands with --rss alone, and its numbers are below --queues")
     return options
 
 
@@ -96,6 +139,10 @@ def be32(frame, at):
 # Frames: headers, flows, sums.
 
 
+def gre_size(frame, at):
+    return 8 if frame[at] & 0x20 else 4
+
+
 @functools.lru_cache(maxsize=4096)
 def shape(frame):
     """The headers as (kind, place), and where the payload begins; None where there is no shape."""
@@ -114,6 +161,9 @@ def shape(frame):
                 return None
             headers.append((TAG, at))
             kind, at, tags = be16(frame, at + 2), at + 4, tags + 1
+        return network(kind, at, in_tunnel)
+
+    def network(kind, at, in_tunnel):
         if kind == 0x0800:
             if not is_there(at, 20) or frame[at] != 0x45 or be16(frame, at + 6) & 0x3FFF:
                 return None
@@ -128,17 +178,34 @@ def shape(frame):
 
     def carried(protocol, at, in_tunnel):
         if protocol == 6:
-            if not is_there(at, 20) or frame[at + 12] >> 4 < 5 or not is_there(at, 4 * (frame[at + 12] >> 4)):
-                return None
-            headers.append((TCP, at))
-            return at + 4 * (frame[at + 12] >> 4)
-        if protocol == 17 and not in_tunnel:
-            if not is_there(at, 16) or be16(frame, at + 2) != 4789 or not frame[at + 8] & 8:
-                return None
+            return tcp(at)
+        if protocol == 17 and is_there(at, 8):
+            return datagram(at, be16(frame, at + 2), in_tunnel)
+        return gre(at) if protocol == 47 and not in_tunnel else None
+
+    def tcp(at):
+        if not is_there(at, 20) or frame[at + 12] >> 4 < 5 or not is_there(at, 4 * (frame[at + 12] >> 4)):
+            return None
+        headers.append((TCP, at))
+        return at + 4 * (frame[at + 12] >> 4)
+
+    def datagram(at, port, in_tunnel):
+        """A VXLAN tunnel goes to one port and is in no tunnel; every other datagram is one where it goes to no port of tunnels."""
+        if port == VXLAN_PORT and not in_tunnel and is_there(at, 16) and frame[at + 8] & 8:
             headers.append((UDP, at))
             headers.append((VXLAN, at + 8))
             return ethernet(at + 16, True)
-        return None
+        if port in (VXLAN_PORT, OLD_VXLAN_PORT):
+            return None
+        headers.append((UDP, at))
+        return at + 8
+
+    def gre(at):
+        """RFC 2784 without a sum, or with the key of RFC 2890 alone."""
+        if not is_there(at, 4) or frame[at : at + 2] not in (b"\0\0", b"\x20\0") or not is_there(at, gre_size(frame, at)):
+            return None
+        headers.append((GRE, at))
+        return network(be16(frame, at + 2), at + gre_size(frame, at), True)
 
     payload_at = ethernet(0, False)
     return None if payload_at is None else (tuple(headers), payload_at)
@@ -156,17 +223,41 @@ def key(frame):
         IP6: lambda at: b"\x06" + frame[at + 8 : at + 40],
         UDP: lambda at: b"\x11" + frame[at : at + 4],
         VXLAN: lambda at: frame[at + 4 : at + 7],
+        GRE: lambda at: b"\x2f" + frame[at + 2 : at + gre_size(frame, at)],
         TCP: lambda at: b"\x06" + frame[at : at + 4],
     }
     return b"".join(parts[kind](at) for kind, at in found[0])
 
 
-def queue(frame, queues):
+def toeplitz(rss, data):
+    """Bit j of the hash, from the most significant, is the parity of the i for which bit i of the data and bit i + j of the key are set."""
+    bits, number, hashed = 8 * len(data), int.from_bytes(data, "big"), 0
+    for j in range(32):
+        own = int.from_bytes(rss, "big") >> (8 * len(rss) - j - bits) & (1 << bits) - 1
+        hashed = hashed << 1 | (own & number).bit_count() & 1
+    return hashed
+
+
+def rss_input(frame):
+    """The outermost IP layer's addresses, and the ports where TCP or UDP follows it directly."""
+    headers = shape(frame)[0]
+    i = next(i for i, (kind, _) in enumerate(headers) if kind in (IP4, IP6))
+    (ip, ip_at), (kind, at) = headers[i], headers[i + 1]
+    ends = frame[ip_at + 12 : ip_at + 20] if ip == IP4 else frame[ip_at + 8 : ip_at + 40]
+    return ends + (frame[at : at + 4] if kind in (TCP, UDP) else b"")
+
+
+def queue(frame, options):
     """The queue that a frame's flow has; frames without a shape have queue 0."""
+    if key(frame) is None:
+        return 0
+    if options.rss is not None:
+        table = options.table or [i % options.queues for i in range(128)]
+        return table[toeplitz(options.rss, rss_input(frame)) % len(table)]
     hashed = 0
-    for byte in key(frame) or b"":
+    for byte in key(frame):
         hashed = (hashed * 31 + byte) % 2**32
-    return hashed % queues
+    return hashed % options.queues
 
 
 def checksum(data):
@@ -193,8 +284,8 @@ def sum_of(frame, headers, i):
         pseudo = frame[ip_at + 12 : ip_at + 20] + struct.pack(">BBH", 0, protocol, length % 65536)
     else:
         pseudo = frame[ip_at + 8 : ip_at + 40] + struct.pack(">IBBBB", length, 0, 0, 0, protocol)
-    value = checksum(pseudo + zeroed(frame[at:], SUM_FIELD[kind]))
-    return value or 65535 if kind == UDP else value
+    total = checksum(pseudo + zeroed(frame[at:], SUM_FIELD[kind]))
+    return total or 65535 if kind == UDP else total
 
 
 def length_field(kind, at, size):
@@ -202,7 +293,7 @@ def length_field(kind, at, size):
     if kind == IP4:
         return at + 2, size - at
     if kind == IP6:
-        return at + 4, size - at - 40
+        return at + 4, size - at - 40 if size - at - 40 <= MOST_FIELD else 0
     return (at + 4, size - at) if kind == UDP else None
 
 
@@ -240,8 +331,8 @@ def without_named(frame, headers, payload_at):
     return bytes(out)
 
 
-def is_mergeable(packets):
-    if len(packets) < 2 or not all(is_candidate(packet.frame, packet.original) for packet in packets):
+def is_mergeable(packets, segs):
+    if not 2 <= len(packets) <= segs or not all(is_candidate(packet.frame, packet.original) for packet in packets):
         return False
     frames = [packet.frame for packet in packets]
     first = frames[0]
@@ -252,16 +343,17 @@ def is_mergeable(packets):
         return False
     payloads = [len(frame) - payload_at for frame in frames]
     m = payloads[0]
-    if any(length != m for length in payloads[:-1]) or not 1 <= payloads[-1] <= m:
+    size = payload_at + sum(payloads)
+    if any(length != m for length in payloads[:-1]) or not 1 <= payloads[-1] <= m or size > MOST_FRAME:
         return False
-    return all(fields_continue(frames, kind, at, m, payload_at + sum(payloads)) for kind, at in headers)
+    return all(fields_continue(frames, kind, at, m, size) for kind, at in headers)
 
 
 def fields_continue(frames, kind, at, m, size):
     """Whether the fields of one header go on from frame to frame, and the length of all of them fits."""
     first = frames[0]
     length = length_field(kind, at, size)
-    if length and length[1] > 65535:
+    if length and length[1] > MOST_FIELD:
         return False
     if kind == UDP:
         return len({be16(frame, at + 6) == 0 for frame in frames}) == 1
@@ -275,21 +367,17 @@ def fields_continue(frames, kind, at, m, size):
     return True
 
 
-def fill(out, headers, has_udp_sum):
-    """Writes the lengths and the sums of a frame."""
+def fill(out, headers, like):
+    """Writes the lengths and the sums of a frame, but no UDP sum where that of the other frame is 0."""
     for kind, at in headers:
         length = length_field(kind, at, len(out))
         if length:
             out[length[0] : length[0] + 2] = struct.pack(">H", length[1])
     for i in reversed(range(len(headers))):
         kind, at = headers[i]
-        if kind in SUM_FIELD and (kind != UDP or has_udp_sum):
+        if kind in SUM_FIELD and not (kind == UDP and be16(like, at + 6) == 0):
             place = at + SUM_FIELD[kind]
             out[place : place + 2] = struct.pack(">H", sum_of(bytes(out), headers, i))
-
-
-def has_udp_sum(frame):
-    return any(kind == UDP and be16(frame, at + 6) != 0 for kind, at in shape(frame)[0])
 
 
 def ip_layers(frame):
@@ -307,14 +395,15 @@ def merged(run):
     for i, (kind, at) in enumerate(ip_layers(frames[0])):
         if kind == IP4 and be16(frames[1], at + 4) == be16(frames[0], at + 4):
             modes |= 1 << i
-    tcp_at = headers[-1][1]
-    out[tcp_at + 13] = frames[-1][tcp_at + 13]
-    fill(out, headers, has_udp_sum(frames[0]))
+    last, last_at = headers[-1]
+    if last == TCP:
+        out[last_at + 13] = frames[-1][last_at + 13]
+    fill(out, headers, frames[0])
     packet = run[0]._replace(frame=bytes(out), original=len(out))
     return Item(packet, len(run), len(frames[0]) - payload_at, modes)
 
 
-def runs(packets):
+def runs(packets, segs):
     """The maximal runs of each flow, by their first packets' numbers."""
     flows = {}
     for packet in packets:
@@ -323,7 +412,7 @@ def runs(packets):
     for flow in flows.values():
         run = [flow[0]]
         for packet in flow[1:]:
-            if is_mergeable(run + [packet]):
+            if is_mergeable(run + [packet], segs):
                 run.append(packet)
             else:
                 found.append(run)
@@ -335,10 +424,40 @@ def runs(packets):
 # Records of link type 147.
 
 
+class Head(NamedTuple):
+    """The fields of an offload header; `where` is a queue or a tap."""
+
+    version: int
+    kind: int
+    n: int
+    m: int
+    modes: int
+    where: int
+    number: int
+
+
+def head_bytes(head):
+    if head.version == 1:
+        return struct.pack(">BBHHBBI", *head)
+    return struct.pack(">BBBBIII", head.version, head.kind, head.modes, head.where, head.n, head.m, head.number)
+
+
+def read_head(body):
+    """The offload header before a frame, and its size; None where there is none of a version that is known."""
+    if body[0] == 1 and len(body) >= ORIGINAL_HEAD:
+        return Head(*struct.unpack_from(">BBHHBBI", body)), ORIGINAL_HEAD
+    if body[0] == 2 and len(body) >= LONGEST_HEAD:
+        version, kind, modes, where, n, m, number = struct.unpack_from(">BBBBIII", body)
+        return Head(version, kind, n, m, modes, where, number), LONGEST_HEAD
+    return None
+
+
 def is_lawful(head, frame, original):
-    """The test of a record that was read whole; `original` is that of its frame."""
-    version, kind, n, m, modes, where, _ = head
-    if version != 1 or kind > WINDOW or where > (7 if kind == WINDOW else 63):
+    """The test of a record that was read whole and has an offload header; `original` is that of its frame."""
+    if len(frame) > MOST_FRAME or not 0 <= original <= MOST_ORIGINAL:
+        return False
+    _, kind, n, m, modes, where, _ = head
+    if kind > WINDOW or where > (7 if kind == WINDOW else 63):
         return False
     if kind != MERGED:
         return (n, m, modes) == (1 if kind == SINGLE else 0, 0, 0)
@@ -353,26 +472,22 @@ def is_lawful(head, frame, original):
 
 def segments(head, frame, original):
     """The packets that a lawful record stands for, as (frame, original length)."""
-    _, kind, n, m, modes, _, _ = head
-    if kind != MERGED:
-        return [(frame, original)] if kind == SINGLE else []
+    if head.kind != MERGED:
+        return [(frame, original)] if head.kind == SINGLE else []
     headers, payload_at = shape(frame)
-    tcp_at, layers, found = headers[-1][1], ip_layers(frame), []
-    for i in range(n):
-        out = bytearray(frame[:payload_at] + frame[payload_at:][i * m : (i + 1) * m])
+    (last, last_at), layers, payload, found = headers[-1], ip_layers(frame), frame[payload_at:], []
+    for i in range(head.n):
+        out = bytearray(frame[:payload_at] + payload[i * head.m : (i + 1) * head.m])
         for bit, (layer, at) in enumerate(layers):
-            if layer == IP4 and not modes >> bit & 1:
+            if layer == IP4 and not head.modes >> bit & 1:
                 out[at + 4 : at + 6] = struct.pack(">H", (be16(frame, at + 4) + i) % 65536)
-        out[tcp_at + 4 : tcp_at + 8] = struct.pack(">I", (be32(frame, tcp_at + 4) + i * m) % 2**32)
-        if i < n - 1:
-            out[tcp_at + 13] = 0x10
-        fill(out, headers, has_udp_sum(frame))
+        if last == TCP:
+            out[last_at + 4 : last_at + 8] = struct.pack(">I", (be32(frame, last_at + 4) + i * head.m) % 2**32)
+            if i < head.n - 1:
+                out[last_at + 13] = 0x10
+        fill(out, headers, frame)
         found.append((bytes(out), len(out)))
     return found
-
-
-def offload_head(kind, n, m, modes, where, number):
-    return struct.pack(">BBHHBBI", 1, kind, n, m, modes, where, number)
 
 
 # Captures.
@@ -404,17 +519,17 @@ def next_record(data, at, number, link, needed, blocks):
     if len(data) - at < 16:
         return Fault("ShortRecordHeader", at, number)
     seconds, fraction, captured, original = struct.unpack_from(ORDERS[data[:4]] + "IIII", data, at)
-    more = 12 if link == OFFLOAD_LINK else 0
+    least, more = (ORIGINAL_HEAD, LONGEST_HEAD) if link == OFFLOAD_LINK else (0, 0)
     if number == 2**32:
         return Fault("TooMany", at, number)
-    if captured > 262144 + more:
+    if captured > MOST_FRAME + more:
         return Fault("TooLong", at, number)
-    if not more <= original <= 2**31 - 1 + more:
+    if not least <= original <= MOST_ORIGINAL + more:
         return Fault("BadOriginal", at, number)
-    if captured < more:
+    if captured < least:
         return Fault("BadOffload", at, number)
-    if blocks is not None and needed + need(captured - more) > blocks:
-        return needed + need(captured - more)
+    if blocks is not None and needed + need(captured - least) > blocks:
+        return needed + need(captured - least)
     if len(data) - at - 16 < captured:
         return Fault("ShortRecord", at, number)
     return Packet(number, seconds, fraction, original, data[at + 16 : at + 16 + captured])
@@ -424,14 +539,14 @@ def rounds(data, options):
     """The rounds of a capture of Ethernet frames, and how it ends: None where it ends well."""
     found, packets, needed, at, number = [], [], 0, 24, 0
     while True:
-        record = next_record(data, at, number, ETHERNET_LINK, needed, options.blocks)
-        if isinstance(record, int):
-            return found, PoolEmpty(len(found), record, options.blocks)
-        if not isinstance(record, Packet):
-            return found + [packets] if packets else found, record
-        packets.append(record)
-        needed += need(len(record.frame))
-        at, number = at + 16 + len(record.frame), number + 1
+        packet = next_record(data, at, number, ETHERNET_LINK, needed, options.blocks)
+        if isinstance(packet, int):
+            return found, PoolEmpty(len(found), packet, options.blocks)
+        if not isinstance(packet, Packet):
+            return found + [packets] if packets else found, packet
+        packets.append(packet)
+        needed += need(len(packet.frame))
+        at, number = at + 16 + len(packet.frame), number + 1
         if len(packets) == options.budget:
             found, packets, needed = found + [packets], [], 0
 
@@ -447,70 +562,86 @@ def answer(end, output):
 
 def by_queue(packets, options):
     """A round's packets, queue by queue."""
-    return [[packet for packet in packets if queue(packet.frame, options.queues) == own] for own in range(options.queues)]
+    queues = [queue(packet.frame, options) for packet in packets]
+    return [[packet for packet, where in zip(packets, queues) if where == own] for own in range(options.queues)]
 
 
 def windows(packets, options, tap):
     """What a tap reads of a round, as (packet, bytes), without the empty windows."""
-    start = tap * options.snap
-    found = ((packet, packet.frame[start : start + options.snap]) for packet in packets)
-    return [(packet, window) for packet, window in found if window]
+    found = ((packet, window(packet.frame, options, tap)) for packet in packets)
+    return [(packet, own) for packet, own in found if own]
 
 
-def record_head(order, packet, captured, original):
-    return struct.pack(order + "IIII", packet.seconds, packet.fraction, captured, original)
+def window(frame, options, tap):
+    """The tap's part of what the filter shows of a frame, which is all of it where there is no filter."""
+    shown = frame if options.filter is None else frame[: value(options.filter, frame)]
+    return shown[tap * options.snap : (tap + 1) * options.snap]
+
+
+def record(order, packet, original, head, frame):
+    """A record of link type 147."""
+    body = head_bytes(head) + frame
+    return struct.pack(order + "IIII", packet.seconds, packet.fraction, len(body), len(body) - len(frame) + original) + body
 
 
 def item_record(order, item, where):
-    kind = SINGLE if item.n == 1 else MERGED
     packet = item.packet
-    head = record_head(order, packet, 12 + len(packet.frame), 12 + packet.original)
-    return head + offload_head(kind, item.n, item.m, item.modes, where, packet.number) + packet.frame
+    head = Head(2, SINGLE if item.n == 1 else MERGED, item.n, item.m, item.modes, where, packet.number)
+    return record(order, packet, packet.original, head, packet.frame)
 
 
-def window_record(order, packet, window, tap):
-    head = record_head(order, packet, 12 + len(window), 12 + len(window))
-    return head + offload_head(WINDOW, 0, 0, 0, tap, packet.number) + window
+def window_record(order, packet, own, tap):
+    return record(order, packet, len(own), Head(2, WINDOW, 0, 0, 0, tap, packet.number), own)
 
 
 def merge(data, options=Options()):
     order = file_head(data, ETHERNET_LINK)
     if isinstance(order, Fault):
         return answer(order, b"")
-    out = [data[:4], struct.pack(order + "HH", 2, 4), data[8:16], struct.pack(order + "II", 262156, OFFLOAD_LINK)]
+    out = [data[:4], struct.pack(order + "HH", 2, 4), data[8:16], struct.pack(order + "II", MOST_FRAME + LONGEST_HEAD, OFFLOAD_LINK)]
     found, end = rounds(data, options)
     for packets in found:
         for where, own in enumerate(by_queue(packets, options)):
-            out.extend(item_record(order, merged(run), where) for run in runs(own))
+            out.extend(item_record(order, merged(run), where) for run in runs(own, options.segs))
         for tap in range(options.taps):
-            out.extend(window_record(order, packet, window, tap) for packet, window in windows(packets, options, tap))
+            out.extend(window_record(order, packet, own, tap) for packet, own in windows(packets, options, tap))
     return answer(end, b"".join(out))
+
+
+def packets_of(found):
+    """The packets that a record of link type 147 stands for; None where it fails the test."""
+    known = read_head(found.frame)
+    if known is None:
+        return None
+    head, size = known
+    frame, original = found.frame[size:], found.original - size
+    return segments(head, frame, original) if is_lawful(head, frame, original) else None
 
 
 def segment(data, options=Options()):
     order = file_head(data, OFFLOAD_LINK)
     if isinstance(order, Fault):
         return answer(order, b"")
-    out = [data[:4], struct.pack(order + "HH", 2, 4), data[8:16], struct.pack(order + "II", 262144, ETHERNET_LINK)]
+    out = [data[:4], struct.pack(order + "HH", 2, 4), data[8:16], struct.pack(order + "II", MOST_FRAME, ETHERNET_LINK)]
     at, number = 24, 0
     while True:
-        record = next_record(data, at, number, OFFLOAD_LINK, 0, options.blocks)
-        if isinstance(record, int):
-            return answer(PoolEmpty(number, record, options.blocks), b"".join(out))
-        if not isinstance(record, Packet):
-            return answer(record, b"".join(out))
-        head, frame = struct.unpack(">BBHHBBI", record.frame[:12]), record.frame[12:]
-        if not is_lawful(head, frame, record.original - 12):
+        found = next_record(data, at, number, OFFLOAD_LINK, 0, options.blocks)
+        if isinstance(found, int):
+            return answer(PoolEmpty(number, found, options.blocks), b"".join(out))
+        if not isinstance(found, Packet):
+            return answer(found, b"".join(out))
+        packets = packets_of(found)
+        if packets is None:
             return answer(Fault("BadOffload", at, number), b"".join(out))
-        for own, original in segments(head, frame, record.original - 12):
-            out.append(record_head(order, record, len(own), original) + own)
-        at, number = at + 16 + len(record.frame), number + 1
+        for frame, original in packets:
+            out.append(struct.pack(order + "IIII", found.seconds, found.fraction, len(frame), original) + frame)
+        at, number = at + 16 + len(found.frame), number + 1
 
 
 def returned(run):
     """How many segments of a run's record are the run's packets."""
     item = merged(run)
-    head = (1, SINGLE if item.n == 1 else MERGED, item.n, item.m, item.modes, 0, 0)
+    head = Head(2, SINGLE if item.n == 1 else MERGED, item.n, item.m, item.modes, 0, 0)
     came = segments(head, item.packet.frame, item.packet.original)
     return sum((packet.frame, packet.original) == own for packet, own in zip(run, came))
 
@@ -531,12 +662,12 @@ def check(data, options=Options()):
     queues, taps = [[0] * 4 for _ in range(options.queues)], [[0] * 2 for _ in range(options.taps)]
     for packets in found:
         for where, own in enumerate(by_queue(packets, options)):
-            cut = runs(own)
+            cut = runs(own, options.segs)
             more = len(own), len(cut), sum(len(run) > 1 for run in cut), sum(map(returned, cut))
             queues[where] = [a + b for a, b in zip(queues[where], more)]
         for tap in range(options.taps):
             read = windows(packets, options, tap)
-            taps[tap] = [taps[tap][0] + len(read), taps[tap][1] + sum(len(window) for _, window in read)]
+            taps[tap] = [taps[tap][0] + len(read), taps[tap][1] + sum(len(own) for _, own in read)]
     lines += [counts_line(f"queue {where}", counts) for where, counts in enumerate(queues)]
     lines += [f"tap {tap}: windows {count} bytes {size}\n" for tap, (count, size) in enumerate(taps)]
     lines.append(counts_line("total", map(sum, zip(*queues))))

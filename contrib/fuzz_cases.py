@@ -5,7 +5,8 @@ import struct
 from typing import NamedTuple, Optional
 
 import by_definition as defined
-from by_definition import IP4, IP6, TAG, TCP, UDP, VXLAN, Options
+from by_definition import GRE, IP4, IP6, TAG, TCP, UDP, VXLAN, Options
+from fuzz_options import options_line
 
 
 class Case(NamedTuple):
@@ -25,14 +26,20 @@ class Flow:
     def __init__(self, rng):
         self.tags = [(rng.choice((0x8100, 0x88A8)), rng.randrange(4)) for _ in range(rng.choice((0, 0, 0, 1, 2)))]
         self.inner_tags = [(0x8100, rng.randrange(4)) for _ in range(rng.choice((0, 0, 1, 2)))]
-        self.tunnel, self.tunnel_port = rng.choice((0, 0, 0, 4, 6)), mostly(rng, 4789, 4790, 8472)
-        self.vxlan_flags, self.vni = mostly(rng, 8, 0, 0x0C, 0xFF), rng.randrange(2)
+        self.tunnel, self.is_gre = rng.choice((0, 0, 0, 4, 6)), rng.random() < 0.4
+        self.tunnels = mostly(rng, 1, 2)
+        self.tunnel_port, self.vxlan_flags = mostly(rng, 4789, 4790, 8472), mostly(rng, 8, 0, 0x0C, 0xFF)
+        self.gre_start = rng.choice((0, 0x2000)) if rng.random() < 0.85 else rng.choice((0x8000, 0x8000, 0x1000, 0xA000, 0x3000, 0x0001, 0x2001))
+        self.gre_kind, self.has_gre_fields = mostly(rng, 0, 0x6558, 0x8100), rng.random() < 0.5
+        self.vni = rng.randrange(2)
         self.has_udp_sum, self.has_udp_sum_of_zero = rng.random() < 0.5, rng.random() < 0.1
         self.ip, self.ip_start = rng.choice((4, 4, 6)), mostly(rng, 0x45, 0x44, 0x46, 0x55)
         self.fragment = mostly(rng, 0, 0x80, 0x20, 0x01) << 8 | (0x4000 if rng.random() < 0.7 else 0)
         self.id_step = [rng.choice((1, 1, 1, 0)) for _ in range(2)]
         self.ids = [rng.choice((0, 100, 65534, 65535)) for _ in range(2)]
         self.hosts, self.port = rng.randrange(3), 40000 + rng.randrange(3)
+        self.is_datagram, self.datagram_port = rng.random() < 0.3, rng.choice((5001, 5001, 5001, 4789, 8472))
+        self.has_datagram_sum = rng.random() < 0.6
         self.options, self.reserved = rng.randbytes(4 * rng.choice((0, 0, 3, 3, 10))), mostly(rng, 0, 1, 8)
         self.sequence = rng.choice((1000, 2**32 - 60, 2**32 - 1))
         self.size = rng.choice((1, 2, 3, 4, 7, 48, 99, 100))
@@ -44,8 +51,9 @@ class Flow:
         """A flow that differs in one place of the key, or in none that belongs to it."""
         other = copy.copy(self)
         other.ids = list(self.ids)
-        name, value = rng.choice((("vni", self.vni + 1), ("port", self.port + 1), ("hosts", self.hosts + 1), ("has_udp_sum", not self.has_udp_sum)))
-        setattr(other, name, value)
+        sums = [("has_udp_sum", not self.has_udp_sum), ("has_datagram_sum", not self.has_datagram_sum)]
+        name, other_value = rng.choice([("vni", self.vni + 1), ("port", self.port + 1), ("hosts", self.hosts + 1), *sums])
+        setattr(other, name, other_value)
         if other.tags and rng.random() < 0.3:
             other.tags = [(kind, control + 1) for kind, control in other.tags]
         return other
@@ -62,7 +70,8 @@ class Flow:
 
     def with_ip(self, ip, protocol, identification, body):
         if ip == 6:
-            return b"\x60\0\0\0" + struct.pack(">HBB", len(body) % 65536, protocol, 64) + self.addresses(6) + body
+            size = len(body) if len(body) <= 65535 else 0
+            return b"\x60\0\0\0" + struct.pack(">HBB", size, protocol, 64) + self.addresses(6) + body
         fields = (self.ip_start, 0, (20 + len(body)) % 65536, identification, self.fragment, 64, protocol)
         head = struct.pack(">BBHHHBBH", *fields, 0) + self.addresses(4)
         return struct.pack(">BBHHHBBH", *fields, defined.checksum(head)) + self.addresses(4) + body
@@ -81,25 +90,43 @@ class Flow:
             payload, value = struct.pack(">H", value) + payload[2:], self.zero_as
         return struct.pack(">HHIIBBHHH", *fields, value, 0) + self.options + payload
 
-    def datagram(self, body):
-        """The body in a UDP datagram, whose sum is 0, right, or ffff for 0 by a source port that makes it so."""
+    def datagram(self, payload):
+        """A datagram of its own, whose sum is 0, right, or ffff for 0 by a payload that makes it so."""
+        fields = (self.port, self.datagram_port, (8 + len(payload)) % 65536)
+        total = defined.checksum(self.pseudo(self.ip, 17, 8 + len(payload)) + struct.pack(">HHHH", *fields, 0) + payload)
+        if self.has_sum_of_zero and payload[:2] == b"\0\0":
+            payload, total = struct.pack(">H", total) + payload[2:], 0
+        return struct.pack(">HHHH", *fields, (total or 65535) if self.has_datagram_sum else 0) + payload
+
+    def in_udp(self, body):
+        """The tunnel's datagram, whose sum is 0, right, or ffff for 0 by a source port that makes it so."""
         size = 8 + len(body)
 
         def head(port, total):
             return struct.pack(">HHHH", port, self.tunnel_port, size % 65536, total)
 
-        def value(port):
+        def total_of(port):
             return defined.checksum(self.pseudo(self.tunnel, 17, size) + head(port, 0) + body)
 
-        port = (50000 + value(50000) - 1) % 65535 + 1 if self.has_udp_sum_of_zero else 50000
-        return head(port, (value(port) or 65535) if self.has_udp_sum else 0) + body
+        port = (50000 + total_of(50000) - 1) % 65535 + 1 if self.has_udp_sum_of_zero else 50000
+        return head(port, (total_of(port) or 65535) if self.has_udp_sum else 0) + body
+
+    def in_tunnel(self, ip, packet, is_gre):
+        """The packet of the tunnel that an IP packet is in."""
+        if is_gre:
+            has_fields = self.has_gre_fields or self.gre_start == 0x2000
+            more = b"".join(struct.pack(">I", self.vni) for bit in (0x8000, 0x2000, 0x1000) if has_fields and self.gre_start & bit)
+            head = struct.pack(">HH", self.gre_start, self.gre_kind or (0x0800 if ip == 4 else 0x86DD))
+            return self.with_ip(self.tunnel, 47, self.ids[1], head + more + packet)
+        head = struct.pack(">II", self.vxlan_flags << 24, self.vni << 8)
+        return self.with_ip(self.tunnel, 17, self.ids[1], self.in_udp(head + self.with_ethernet(self.inner_tags, ip, packet)))
 
     def frame(self, flags, payload):
-        packet = self.with_ip(self.ip, 6, self.ids[0], self.segment(flags, payload))
-        if not self.tunnel:
-            return self.with_ethernet(self.tags, self.ip, packet)
-        body = struct.pack(">II", self.vxlan_flags << 24, self.vni << 8) + self.with_ethernet(self.inner_tags, self.ip, packet)
-        return self.with_ethernet(self.tags, self.tunnel, self.with_ip(self.tunnel, 17, self.ids[1], self.datagram(body)))
+        protocol, body = (17, self.datagram(payload)) if self.is_datagram else (6, self.segment(flags, payload))
+        ip, packet = self.ip, self.with_ip(self.ip, protocol, self.ids[0], body)
+        for i in range(self.tunnels if self.tunnel else 0):
+            ip, packet = self.tunnel, self.in_tunnel(ip, packet, self.is_gre ^ (i == 1 and self.port == 40000))
+        return self.with_ethernet(self.tags, ip, packet)
 
     def next(self, rng):
         size, flags, jumps = self.size, 0x10, [0, 0, 0]
@@ -125,6 +152,7 @@ FIELDS = {
     TCP: ((0, 2), (2, 2), (4, 4), (8, 4), (12, 1), (13, 1), (14, 2), (16, 2), (18, 2)),
     UDP: ((0, 2), (2, 2), (4, 2), (6, 2)),
     VXLAN: ((0, 1), (4, 4)),
+    GRE: ((0, 1), (1, 1), (2, 2), (4, 4)),
     TAG: ((0, 2), (2, 2)),
     defined.ETHERNET: ((0, 4), (6, 4), (12, 2)),
 }
@@ -230,12 +258,23 @@ def edit_sum(rng, frame):
 def repair(rng, frame):
     """Lengths and sums as they ought to be; a UDP sum of 0 mostly stays."""
     found = defined.shape(bytes(frame))
-    if found is not None and len(frame) <= 65535:
-        defined.fill(frame, found[0], defined.has_udp_sum(bytes(frame)) or rng.random() < 0.1)
+    lengths = [defined.length_field(kind, at, len(frame)) for kind, at in found[0]] if found else []
+    if found is not None and all(length is None or length[1] <= 65535 for length in lengths):
+        defined.fill(frame, found[0], b"\xff" * len(frame) if rng.random() < 0.1 else bytes(frame))
     return frame
 
 
-EDITS = (flip, flip_near_front, edit_field, edit_field, edit_fragment, cut_end, pad, swap_headers, drop_or_double, add_tag, add_options, edit_sum)
+def cut_in_header(rng, frame):
+    """The frame ends within a header, or just behind it."""
+    found = defined.shape(bytes(frame))
+    if found is None:
+        return cut_end(rng, frame)
+    places = [at for _, at in found[0]] + [found[1]]
+    i = rng.randrange(len(places) - 1)
+    return frame[: rng.randint(places[i], places[i + 1])]
+
+
+EDITS = (flip, flip_near_front, edit_field, edit_field, edit_fragment, cut_end, cut_in_header, pad, swap_headers, drop_or_double, add_tag, add_options, edit_sum)
 
 
 def edited(rng, frame):
@@ -281,7 +320,7 @@ def edit_records(rng, records, most):
         elif act == 3:
             records[i][3] += rng.choice((1, -1, 2, 1000))
         else:
-            edges = (0, 11, 12, 13, most - 1, most, most + 1, 2**31 - 1, 2**31, 2**31 + 11, 2**31 + 12, 2**32 - 1)
+            edges = [0, most - 1, most, most + 1, *range(11, 17), *(2**31 + more for more in (-1, 0, 11, 12, 15, 16)), 2**32 - 1]
             records[i][2 if act == 4 else 3] = rng.choice(edges)
 
 
@@ -321,118 +360,139 @@ def some_frames(rng, is_wrong):
         yield edited(rng, frame) if rng.random() < chance else frame
 
 
+# Payload lengths whose sum over IPv6 is at the edge of 16 bits, or of the longest frame.
+LONG = ((32758, 32757), (32758, 32758), (65515, 20), (65515, 21), (52414,) * 5, (52415,) * 5, (1448,) * 64, (32758,) * 9)
+
+
+def long_frames(rng):
+    """Frames of one flow over IPv6, plain or in GRE, that merge to more than 65,535 bytes, or nearly."""
+    flow = Flow(rng)
+    flow.ip, flow.tunnel, flow.is_gre, flow.is_datagram = 6, rng.choice((0, 0, 0, 4, 6)), True, rng.random() < 0.1
+    flow.has_sum_of_zero, flow.options = False, bytes(4 * rng.choice((0, 0, 3)))
+    flow.is_steady = True
+    if rng.random() < 0.7:
+        flow.tags = []
+    for size in rng.choice(LONG):
+        flow.size = size
+        yield flow.next(rng)
+
+
+def frames_of(rng, is_wrong):
+    return long_frames(rng) if rng.random() < 0.003 else some_frames(rng, is_wrong)
+
+
 def frames_capture(rng):
-    records = [record(rng, frame) for frame in some_frames(rng, True)]
-    if rng.random() < 0.002:
-        records.append(record(rng, rng.randbytes(rng.choice((262143, 262144, 262145)))))
+    records = [record(rng, frame) for frame in frames_of(rng, True)]
+    records += [record(rng, data) for data in some_bytes(rng, 262144)]
     edit_records(rng, records, 262144)
     return edit_file(rng, written(rng, defined.ETHERNET_LINK, records))
 
 
+def some_bytes(rng, most):
+    """Sometimes a record's bytes of a length at an edge: of what some blocks hold, or of the longest record."""
+    if rng.random() < 0.04:
+        size = rng.choice((0, 1, *range(1980, 1986), *range(4028, 4034)))
+        return [rng.randbytes(size + most - 262144)]
+    return [rng.randbytes(most + rng.choice((-1, 0, 1)))] if rng.random() < 0.004 else []
+
+
+class Merged:
+    """A record of link type 147: the times and the original length of its frame, its offload header and its frame."""
+
+    def __init__(self, seconds, fraction, original, body):
+        head, size = defined.read_head(body)
+        self.times, self.original, self.frame = [seconds, fraction], original - size, body[size:]
+        self.fields = head._asdict()
+        self.first_byte, self.front = None, None
+
+    def payload(self):
+        found = defined.shape(self.frame)
+        return max(1, len(self.frame) - found[1] if found else len(self.frame))
+
+    def as_record(self):
+        head = defined.Head(**self.fields)
+        if head.version == 1:
+            head = head._replace(n=head.n % 65536, m=head.m % 65536)
+        body = defined.head_bytes(head)
+        original = len(body) + self.original
+        if self.first_byte is not None:
+            body = bytes([self.first_byte]) + body[1:]
+        body = (body + self.frame)[: self.front]
+        return [*self.times, len(body), original if self.front is None else len(body), body]
+
+
 def merged_records(rng):
-    """The records that merging gives, as [seconds, fraction, captured, original, head, frame]."""
-    records = [record(rng, frame) for frame in some_frames(rng, rng.random() < 0.3)]
-    options = Options(queues=rng.choice((1, 2, 64)), taps=rng.choice((0, 0, 1)), snap=rng.choice((1, 64)))
+    """The records that merging gives, of one version or of both."""
+    records = [record(rng, frame) for frame in frames_of(rng, rng.random() < 0.3)]
+    options = Options(queues=rng.choice((1, 2, 64)), taps=rng.choice((0, 0, 1)), snap=rng.choice((1, 64)), segs=rng.choice((2, 3, 4096, 4096)))
     data = b"\xd4\xc3\xb2\xa1" + struct.pack("<HHIIII", 2, 4, 0, 0, 0, defined.ETHERNET_LINK)
     data += b"".join(struct.pack("<IIII", *own[:4]) + own[4] for own in records)
-    out, at, found = defined.merge(data, options).output, 24, []
+    out, at, found, of_first = defined.merge(data, options).output, 24, [], rng.choice((0, 0.5, 0.5, 1))
     while at < len(out):
         seconds, fraction, captured, original = struct.unpack_from("<IIII", out, at)
-        body = out[at + 16 : at + 16 + captured]
-        found.append([seconds, fraction, captured, original, list(struct.unpack(">BBHHBBI", body[:12])), body[12:]])
+        found.append(Merged(seconds, fraction, original, out[at + 16 : at + 16 + captured]))
+        if rng.random() < of_first and max(found[-1].fields["n"], found[-1].fields["m"]) < 65536:
+            found[-1].fields["version"] = 1
         at += 16 + captured
     return found
 
 
-def payload_of(frame):
-    found = defined.shape(frame)
-    return len(frame) - found[1] if found else len(frame)
+def edit_numbers(rng, head, payload):
+    """n or m is another, or both are: of the same payload, at their ends, or such that (n - 1) m is 2^32 and more."""
+    act = rng.randrange(8)
+    if act < 3:
+        head["n"] = rng.choice((head["n"] + 1, max(0, head["n"] - 1), 0, 1, 2, 65535, 65536, 65536 + head["n"], 2**32 - 1)) % 2**32
+    elif act < 5:
+        head["m"] = rng.choice((head["m"] + 1, max(0, head["m"] - 1), 0, 1, payload, payload - 1, 65535, 65536, 2**32 - 1)) % 2**32
+    elif act < 7:
+        few = max(1, payload // 3000)  # so that the definitions don't take long
+        head["m"] = rng.randint(few, payload) if payload < 300 or rng.random() < 0.1 else max(1, payload // 3)
+        head["n"] = -(-payload // head["m"]) + (rng.random() < 0.1)
+    else:
+        pairs = ((2**32 - 1, 2**32 - 1), (2**16 + 1, 2**16), (2**31 + 1, 2), (2, 2**32 - 1), (2**32 - 1, 1), (2**32 - 1, payload))
+        head["n"], head["m"] = rng.choice(pairs)
 
 
 def edit_merged(rng, own):
-    """A field of the offload header is another, n and m together too, or the frame is."""
-    head, payload = own[4], max(1, payload_of(own[5]))
-    act = rng.choice((0, 1, 2, 3, 4, 4, 4, 5, 6, 7, 8, 8)) if head[1] == defined.MERGED else rng.randrange(9)
+    """A field of the offload header is another, or the frame is; or the record ends within its header."""
+    head = own.fields
+    act = rng.choice((0, 0, 0, 0, 1, 1, 1, 2, 2, 3, 4, 5, 5, 6)) if head["kind"] == defined.MERGED else rng.randrange(7)
     if act == 0:
-        head[2] = rng.choice((head[2] + 1, max(0, head[2] - 1), 0, 1, 2, 65535)) % 65536
+        edit_numbers(rng, head, own.payload())
     elif act == 1:
-        head[3] = rng.choice((head[3] + 1, max(0, head[3] - 1), 0, 1, payload, payload - 1, 65535)) % 65536
-    elif act in (2, 3):
-        head[3] = rng.randint(1, min(payload, 65535)) if payload < 300 or rng.random() < 0.1 else max(1, payload // 3)
-        head[2] = min(-(-payload // head[3]) + (rng.random() < 0.1), 65535)
-    elif act == 4:
-        head[4] = rng.choice((head[4] ^ 1, head[4] ^ 1, head[4] ^ 2, 3, 4, 128, rng.randrange(256)))
-    elif act == 5:
-        head[0], head[1] = rng.choice((0, 1, 1, 1, 2)), rng.choice((0, 1, 2, 2, 3, 255))
-        if head[1] in (0, 2) and rng.random() < 0.7:
-            head[2:5] = [1 - head[1] // 2, 0, 0]
+        head["modes"] = rng.choice((head["modes"] ^ 1, head["modes"] ^ 1, head["modes"] ^ 2, 3, 4, 128, rng.randrange(256)))
+    elif act == 2:
+        own.first_byte, head["kind"] = rng.choice((None, None, None, 0, 1, 2, 3, 255)), rng.choice((0, 1, 2, 2, 3, 255))
+        if head["kind"] in (0, 2) and rng.random() < 0.7:
+            head.update(n=1 - head["kind"] // 2, m=0, modes=0)
+    elif act == 3:
+        head.update(where=rng.choice((0, 7, 8, 63, 64, 255)), number=rng.randrange(2**32))
     elif act == 6:
-        head[5], head[6] = rng.choice((0, 7, 8, 63, 64, 255)), rng.randrange(2**32)
+        own.front = rng.choice((11, 12, 13, 14, 15, 16, 17)) if rng.random() < 0.3 else None
     else:
         edit = rng.choice((edit_field, edit_field, edit_fragment))
-        own[5] = edited(rng, own[5]) if act == 7 else bytes(repair(rng, edit(rng, bytearray(own[5]))))
-        own[2] = own[3] = 12 + len(own[5])
+        own.frame = edited(rng, own.frame) if act == 4 else bytes(repair(rng, edit(rng, bytearray(own.frame))))
+        own.original = len(own.frame)
 
 
 def offload_capture(rng):
     found = merged_records(rng)
     chance = rng.choice((0, 0.1, 0.1, 0.5))
     for own in found:
-        while rng.random() < (2 * chance if own[4][1] == defined.MERGED and chance < 0.5 else chance):
+        while rng.random() < (2 * chance if own.fields["kind"] == defined.MERGED and chance < 0.5 else chance):
             edit_merged(rng, own)
-    records = [own[:4] + [struct.pack(">BBHHBBI", *own[4]) + own[5]] for own in found]
+    records = [own.as_record() for own in found]
+    for data in some_bytes(rng, 262160):
+        head = defined.Head(rng.choice((1, 2)), 0, 1, 0, 0, 0, 0)
+        records.append(record(rng, defined.head_bytes(head) + data[12 if head.version == 1 else 16 :]))
     if rng.random() < 0.3:
-        edit_records(rng, records, 262156)
+        edit_records(rng, records, 262160)
     return edit_file(rng, written(rng, defined.OFFLOAD_LINK, records))
-
-
-# Words.
-
-RANGES = {"budget": (1, 4096), "queues": (1, 64), "taps": (0, 8), "snap": (1, 2048), "blocks": (1, 65536), "seed": (0, 2**64 - 1), "count": (0, 10**7)}
-OF_COMMAND = {"merge": tuple(RANGES)[:5], "check": tuple(RANGES), "segment": ("blocks",)}
-USUAL = {"budget": (1, 2, 3, 4, 4, 64, 65, 4096), "queues": (1, 2, 3, 64), "taps": (0, 1, 2, 8), "snap": (1, 20, 64, 2048), "blocks": (1, 3, 6, 40, 8384)}
-USUAL |= {"seed": (0, 1, 2, 2**64 - 1), "count": (0, 1, 2, 20, 100)}
-DEFAULT_BLOCKS = 8384
-
-
-def option_words(rng, name, value):
-    text = rng.choice(("", "", "", "+", "0", "00")) + str(value)
-    return [f"--{name}={text}"] if rng.random() < 0.3 else [f"--{name}", text]
-
-
-def wrong_words(rng, command, taken):
-    """A line that is no command."""
-    words = [[], ["--help"], [command.title()], [command, command], [command, "--frob", "1"], [command, "--help"], [command, "x"]]
-    for name in sorted(taken):
-        least, most = RANGES[name]
-        bad = rng.choice((str(least - 1), str(most + 1), "", "x", "0x1", "1_0", " 1", "-0", "1.0", str(2**64)))
-        words += [[command, f"--{name}", bad], [command, f"--{name}"], [command, f"--{name}", "1", f"--{name}", "1"]]
-    return rng.choice(words)
-
-
-def chance(name, words):
-    """How often an option is given; of a seed without a count there are a thousand records, which takes the definitions long."""
-    if name != "seed":
-        return 0.5
-    return 0.2 if any(word.startswith("--count") for word in words) else 0.05
-
-
-def line(rng, command, taken):
-    """The words of a command and its options; `taken` are those that the program takes."""
-    if rng.random() < 0.01:
-        return wrong_words(rng, command, taken), None
-    words, options = [], Options(blocks=DEFAULT_BLOCKS if "blocks" in taken else None)
-    for name in sorted(taken):
-        if rng.random() < chance(name, words):
-            value = rng.choice(USUAL[name])
-            options = options._replace(**{name: value})
-            words = words + option_words(rng, name, value) if rng.random() < 0.5 else option_words(rng, name, value) + words
-    return [command] + words + ["--"] * (rng.random() < 0.02), options
 
 
 def case(seed, taken):
     """The case of a seed; `taken` has for each command of the program the options that it takes."""
     rng = random.Random(seed)
     command = rng.choice(sorted(taken))
-    words, options = line(rng, command, taken[command])
+    words, options = options_line(rng, command, taken[command])
     return Case(words, options, (offload_capture if command == "segment" else frames_capture)(rng))

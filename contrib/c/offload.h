@@ -1,4 +1,4 @@
-/* offload.h: captures of TCP packets in memory, merged and cut back. Linked from liboffload.a.
+/* offload.h: captures of TCP segments and UDP datagrams in memory, merged and cut back. Linked from liboffload.a.
  *
  * Each call is proved for callers that keep the rules below, and docs/PROVED.md says what of it. Nothing checks a C caller: where a rule
  * is broken the behaviour is undefined.
@@ -19,6 +19,10 @@
 #include <stddef.h>
 #include <stdint.h>
 
+/* Of this header. In version 1 `struct offload_options` had neither `size` nor what stands behind `snap`, and there was no
+ * offload_queue_rss. */
+#define OFFLOAD_VERSION 2
+
 #ifdef __cplusplus
 extern "C" {
 #endif
@@ -26,7 +30,7 @@ extern "C" {
 /* What a call answers, and no other number. */
 enum offload_status {
     OFFLOAD_OK = 0,         /* all was read; the output stands at the front of `output`, *count bytes of it */
-    OFFLOAD_USAGE = 2,      /* a number is out of its range; `output` is as it was, *count is 0 */
+    OFFLOAD_USAGE = 2,      /* an option isn't as it has to be; `output` is as it was, *count is 0 */
     OFFLOAD_MALFORMED = 3,  /* the capture is refused at a record; as OFFLOAD_OK, of the records before it */
     OFFLOAD_POOL_EMPTY = 4, /* a round needs more than `blocks` blocks; as OFFLOAD_OK, of the rounds before it */
     OFFLOAD_NO_MEMORY = 7,  /* malloc refused; `output` is as it was, *count is 0 */
@@ -35,9 +39,9 @@ enum offload_status {
 
 /* How much room suffices, so that no call answers OFFLOAD_NO_ROOM; SIZE_MAX where that is more than a size_t holds. */
 
-/* For offload_merge of a capture of this length with at most `records` records: 12 bytes more for each of them, and for each tap and record
- * 28 and at most `snap`, where all windows have no more bytes than the capture. A number of records that isn't known may be too large, as
- * SIZE_MAX: no more are counted than there is room for, which comes to 7/4 of the capture at most where there is no tap. */
+/* For offload_merge of a capture of this length with at most `records` records: 16 bytes more for each of them, and for each tap and record
+ * 32 and at most `snap`, where all windows have no more bytes than the capture. A number of records that isn't known may be too large, as
+ * SIZE_MAX: no more are counted than there is room for, which comes to twice the capture at most where there is no tap. */
 size_t offload_merge_bound(size_t capture_length, size_t records, uint32_t taps, uint32_t snap);
 
 /* For offload_segment of a capture of this length whose records stand for at most `packets` packets, as many as were merged: 216 bytes
@@ -52,32 +56,51 @@ size_t offload_segment_bound(size_t capture_length, size_t packets);
 #define OFFLOAD_BLOCKS_OF(n) (((n) + 2111u) / 2048u + 2u)
 #define OFFLOAD_ENOUGH_BLOCKS 8384u
 
-/* How a capture is merged. Each number has to be within its range, also where it says nothing, as `snap` with no tap. */
+/* How a capture is merged. Each option has to be as it is said here, also where it says nothing, as `snap` with no tap; begin with
+ * OFFLOAD_DEFAULTS, and change what is to be another. No pointer is NULL: where there is nothing, its length is 0. */
 struct offload_options {
-    uint32_t budget; /* records to a round, 1 to 4096 */
-    uint32_t blocks; /* blocks of 2048 bytes for a round, 1 to 65536 */
-    uint32_t queues; /* receive queues that a round's flows are spread over, 1 to 64 */
-    uint32_t taps;   /* taps that read each frame, 0 to 8 */
-    uint32_t snap;   /* bytes of a frame that each tap reads, 1 to 2048: tap t those from t * snap on */
+    size_t size;              /* sizeof(struct offload_options), which tells a caller whose header is of another version */
+    uint32_t budget;          /* records to a round, 1 to 4096 */
+    uint32_t blocks;          /* blocks of 2048 bytes for a round, 1 to 65536 */
+    uint32_t queues;          /* receive queues that a round's flows are spread over, 1 to 64 */
+    uint32_t taps;            /* taps that read each frame, 0 to 8 */
+    uint32_t snap;            /* bytes of a frame that each tap reads, 1 to 2048: tap t those from t * snap on */
+    uint32_t segs;            /* packets that are merged into one record, at most, 1 to 4096 */
+    const char *filter;       /* of a frame taps are shown as many bytes as this program's value: what `tcpdump -y EN10MB -ddd EXPRESSION */
+    size_t filter_length;     /* | paste -sd,` prints, without the line feed at its end. 0: taps are shown all bytes */
+    const uint8_t *rss_key;   /* the key of the Toeplitz hash of a flow's addresses and ports, by which its queue is told */
+    size_t rss_key_length;    /* 40; or 0: a fold of all that names the flow tells its queue, as offload_queue does */
+    const uint8_t *rss_table; /* queues, each below `queues`: a flow has the one at its hash modulo the table's length */
+    size_t rss_table_length;  /* 1 to 128; or 0: the queues in turn, over 128 places. Without a key it is 0 */
 };
 
-/* Rounds of 64 records in one queue, with no tap, over as many blocks as suffice: struct offload_options options = OFFLOAD_DEFAULTS; */
-#define OFFLOAD_DEFAULTS {64u, OFFLOAD_ENOUGH_BLOCKS, 1u, 0u, 64u}
+/* Rounds of 64 records in one queue, with no tap, over as many blocks as suffice, and runs of any number of packets:
+ * struct offload_options options = OFFLOAD_DEFAULTS; */
+#define OFFLOAD_DEFAULTS                                                                                                  \
+    {sizeof(struct offload_options), 64u, OFFLOAD_ENOUGH_BLOCKS, 1u, 0u, 64u, 4096u, "", 0, OFFLOAD_NO_BYTES, 0, OFFLOAD_NO_BYTES, 0}
+#define OFFLOAD_NO_BYTES ((const uint8_t *)"")
 
 /* Merges a capture of Ethernet frames (classic pcap, link type 1) to one of link type 147: round by round, queue by queue the merged records,
  * and then tap by tap the windows. Where the blocks suffice the bytes are those that `offload merge` writes with the same options. The
- * bytes are mostly fewer than the capture's. All is done in the thread that calls. */
+ * bytes are mostly fewer than the capture's. All is done in the thread that calls. An option that isn't as it has to be is answered
+ * OFFLOAD_USAGE; where a filter is refused and malloc refuses what reading it takes, OFFLOAD_NO_MEMORY may be answered. */
 uint32_t offload_merge(const struct offload_options *options, const uint8_t *capture, size_t capture_length,
                        uint8_t *output, size_t output_length, size_t *count);
 
 /* Cuts a capture of link type 147 back into the packets that its records stand for, a capture of link type 1. Each record is a round of
- * its own, over `blocks` blocks (1 to 65536): 131 suffice for every lawful one, and OFFLOAD_BLOCKS_OF(n) where no merged frame is longer than n.
+ * its own, over `blocks` blocks (1 to 65536): 131 suffice for every lawful one, and OFFLOAD_BLOCKS_OF(n + 4) where no merged frame is
+ * longer than n: four bytes of an offload header are counted with the frame.
  * The bytes are those that `offload segment` writes. */
 uint32_t offload_segment(uint32_t blocks, const uint8_t *capture, size_t capture_length,
                          uint8_t *output, size_t output_length, size_t *count);
 
 /* The receive queue of the frame's flow, below `queues`, which is 1 to 64; with another number of queues, that number. */
 uint32_t offload_queue(const uint8_t *frame, size_t frame_length, uint32_t queues);
+
+/* The same by a hash key of 40 bytes and a table, as offload_merge has it with `rss_key` and `rss_table`; with another number of queues, or
+ * a table that isn't as it has to be, that number. */
+uint32_t offload_queue_rss(const uint8_t *frame, size_t frame_length, const uint8_t *rss_key, const uint8_t *rss_table,
+                           size_t rss_table_length, uint32_t queues);
 
 #ifdef __cplusplus
 }

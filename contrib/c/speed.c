@@ -26,9 +26,11 @@ static int by_time(const void *a, const void *b) {
 }
 
 static uint32_t refused(uint32_t records) {
+    struct offload_options options = OFFLOAD_DEFAULTS;
     size_t count;
     (void)records;
-    return offload_merge(&(struct offload_options){0, 1, 1, 0, 64}, in, 0, out, 0, &count);
+    options.budget = 0;
+    return offload_merge(&options, in, 0, out, 0, &count);
 }
 
 static uint32_t queue(uint32_t records) {
@@ -36,8 +38,20 @@ static uint32_t queue(uint32_t records) {
     return offload_queue(in + 40, FRAME, 64);
 }
 
+/* By the hash key that Microsoft's suite of tests for receive side scaling has. */
+static uint32_t queue_by_hash(uint32_t records) {
+    static const uint8_t key[40] = {0x6d, 0x5a, 0x56, 0xda, 0x25, 0x5b, 0x0e, 0xc2, 0x41, 0x67, 0x25, 0x3d, 0x43, 0xa3,
+                                    0x8f, 0xb0, 0xd0, 0xca, 0x2b, 0xcb, 0xae, 0x7b, 0x30, 0xb4, 0x77, 0xcb, 0x2d, 0xa3,
+                                    0x80, 0x30, 0xf2, 0x0c, 0x6a, 0x42, 0xb7, 0x3b, 0xbe, 0xac, 0x01, 0xfa};
+    static const uint8_t table[4] = {0, 1, 2, 3};
+    (void)records;
+    return offload_queue_rss(in + 40, FRAME, key, table, sizeof table, 64);
+}
+
 static uint32_t merged_over(uint32_t budget, uint32_t blocks, uint32_t records) {
-    struct offload_options options = {budget, blocks, 1, 0, 64};
+    struct offload_options options = OFFLOAD_DEFAULTS;
+    options.budget = budget;
+    options.blocks = blocks;
     return offload_merge(&options, in, 24 + (size_t)records * RECORD, merged, sizeof merged, &merged_length);
 }
 
@@ -59,7 +73,7 @@ static uint32_t cut_over(uint32_t blocks) {
 }
 
 static uint32_t cut(uint32_t records) {
-    return cut_over(OFFLOAD_BLOCKS_OF(records * FRAME < LONGEST ? records * FRAME : LONGEST));
+    return cut_over(OFFLOAD_BLOCKS_OF((records * FRAME < LONGEST ? records * FRAME : LONGEST) + 4));
 }
 
 static uint32_t cut_over_enough(uint32_t records) {
@@ -106,6 +120,7 @@ int main(int argc, char **argv) {
     if (all < 64) return 5;
     row("a call that is refused", refused, 1, OFFLOAD_USAGE);
     row("offload_queue", queue, 1, queue(1));
+    row("offload_queue_rss", queue_by_hash, 1, queue_by_hash(1));
     for (int i = 0; i < 3; i++) {
         row("offload_merge of a burst", merge, bursts[i], OFFLOAD_OK);
         row("offload_segment of that", cut, bursts[i], OFFLOAD_OK);
