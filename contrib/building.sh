@@ -4,7 +4,9 @@
 #   crate    the crate of the product
 #   product  the file that is built
 #   teller   who speaks on the standard error
-# and that has a function `make_product`, which proves and builds the crate itself, over its lower crates, and says what it does on stream 3.
+#   refused  the status where it can't be built
+# and that has two functions: `make_product` proves and builds the crate itself, over its lower crates, and what it says goes to stream 3;
+# `is_made` tells whether that made the product.
 # shellcheck shell=bash disable=SC2154
 
 built=$product.built # the names and checksums of the sources, and of the product that was built from them
@@ -16,7 +18,7 @@ say() {
 
 refuse() {
   say "$1"
-  exit 127
+  exit "$refused"
 }
 
 # The lines of crates.txt of the crate and of all that it stands on, lowest first.
@@ -87,8 +89,8 @@ announce() {
   local count bytes by
   read -r count bytes < <(to_prove "$1" | awk '{ bytes += $2 } END { print NR, bytes + 0 }')
   by=$(rt version 2>/dev/null </dev/null | head -n 1)
-  say "proving and building ${product##*/} by ${by:-rt}: $count of $(lines_below | wc -l) crates are new, changed, or stand on one that is"
-  say "from nothing that is some $((bytes * 15 / 1000000 + 1)) minutes of processor time, of $(side_by_side) at a time here; what this machine proved before is taken over"
+  say "proving and building ${product##*/} with ${by:-rt}: $count of $(lines_below | wc -l) crates are new, changed, or stand on one that is"
+  say "from nothing that takes some $((bytes * 15 / 1000000 + 1)) minutes of processor time, $(side_by_side) at a time here; what this machine proved before is taken over"
 }
 
 # Keeps what is read in the log, and says how far the proving is: rt prints a crate's lines together, once it is done.
