@@ -1,4 +1,5 @@
-/* offload.h: captures of TCP segments and UDP datagrams in memory, merged and cut back. Linked from liboffload.a.
+/* offload.h: captures of TCP segments and UDP datagrams in memory, merged and cut back. Linked from liboffload.a, or
+ * from the shared object liboffload.so.2.
  *
  * Each call is proved for callers that keep the rules below, and docs/PROVED.md says what of it. Nothing checks a C caller: where a rule
  * is broken the behaviour is undefined.
@@ -19,7 +20,8 @@
 #include <stddef.h>
 #include <stdint.h>
 
-/* Of this header. In version 1 `struct offload_options` had neither `size` nor what stands behind `snap`, and there was no
+/* Of this header, and the number of the shared object, whose names are the six calls below. A change after which a program has to be compiled
+ * again raises it. In version 1 `struct offload_options` had neither `size` nor what stands behind `snap`, and there was no
  * offload_queue_rss. */
 #define OFFLOAD_VERSION 2
 
