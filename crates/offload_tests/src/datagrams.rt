@@ -12,6 +12,9 @@ use std::sync::Wait;
 use std::test::Fail;
 use std::thread::Threads;
 
+// What is tried, the frames, the records that `merge` writes of them, and a hash of its output.
+type Row = (&'static str, &'static [Frame], &'static [Said], u32);
+
 const DATAGRAM: Frame = Frame {
     datagram_to: 5001,
     has_udp_sum: true,
@@ -22,6 +25,172 @@ const DATAGRAM: Frame = Frame {
 
 // The next datagram, all of the same time.
 const NEXT_DATAGRAM: Frame = Frame { id: 2, ..DATAGRAM };
+
+const LAST_DATAGRAM: Frame = Frame {
+    id: 3,
+    payload: 200,
+    ..DATAGRAM
+};
+
+const SHORT_DATAGRAM: Frame = Frame {
+    payload: 200,
+    ..DATAGRAM
+};
+
+const UNFILLED: Frame = Frame {
+    has_udp_sum: false,
+    ..DATAGRAM
+};
+
+const NEXT_UNFILLED: Frame = Frame { id: 2, ..UNFILLED };
+
+// To the port that VXLAN had before its own.
+const OLD_PORT: Frame = Frame {
+    datagram_to: 8472,
+    ..DATAGRAM
+};
+
+const NEXT_OLD_PORT: Frame = Frame { id: 2, ..OLD_PORT };
+
+const OVER_IPV6: Frame = Frame { ip: 6, ..DATAGRAM };
+
+const ONE_BYTE: Frame = Frame {
+    payload: 1,
+    ..OVER_IPV6
+};
+
+const TUNNELLED: Frame = Frame {
+    tags: 2,
+    tunnel: 6,
+    ..OVER_IPV6
+};
+
+const IN_GRE: Frame = Frame {
+    gre: Gre::Plain,
+    payload: 100,
+    ..OVER_IPV6
+};
+
+const NEXT_IN_GRE: Frame = Frame {
+    outer_id: 8,
+    ..IN_GRE
+};
+
+const DATAGRAMS: [Row; 8] = [
+    (
+        "of 500, 500 and 200 bytes",
+        &[DATAGRAM, NEXT_DATAGRAM, LAST_DATAGRAM],
+        &[(0, 3, 500, 0, 1242)],
+        898_165_749,
+    ),
+    (
+        "without sums",
+        &[UNFILLED, NEXT_UNFILLED],
+        &[(0, 2, 500, 0, 1042)],
+        4_094_139_963,
+    ),
+    (
+        "sums, the first left out",
+        &[UNFILLED, NEXT_DATAGRAM],
+        &[(0, 1, 0, 0, 542), (1, 1, 0, 0, 542)],
+        2_778_540_693,
+    ),
+    (
+        "to the old port of VXLAN",
+        &[OLD_PORT, NEXT_OLD_PORT],
+        &[(0, 1, 0, 0, 542), (1, 1, 0, 0, 542)],
+        832_650_184,
+    ),
+    (
+        "over IPv6, the last of one byte",
+        &[OVER_IPV6, ONE_BYTE],
+        &[(0, 2, 500, 0, 563)],
+        938_062_736,
+    ),
+    (
+        "the second longer",
+        &[SHORT_DATAGRAM, NEXT_DATAGRAM],
+        &[(0, 1, 0, 0, 242), (1, 1, 0, 0, 542)],
+        1_248_809_353,
+    ),
+    (
+        "in a tunnel",
+        &[TUNNELLED, TUNNELLED],
+        &[(0, 2, 500, 0, 1148)],
+        2_278_878_251,
+    ),
+    (
+        "in GRE, over IPv6",
+        &[IN_GRE, NEXT_IN_GRE],
+        &[(0, 2, 100, 0, 286)],
+        3_152_931_361,
+    ),
+];
+
+const ENCAPSULATED: Frame = Frame {
+    gre: Gre::Plain,
+    payload: 1000,
+    ..PLAIN
+};
+
+const NEXT_ENCAPSULATED: Frame = Frame {
+    gre: Gre::Plain,
+    seq: 2000,
+    payload: 1000,
+    ..NEXT
+};
+
+const KEYED: Frame = Frame {
+    gre: Gre::Keyed(7),
+    ..ENCAPSULATED
+};
+
+const NEXT_KEYED: Frame = Frame {
+    gre: Gre::Keyed(7),
+    ..NEXT_ENCAPSULATED
+};
+
+const OTHERWISE_KEYED: Frame = Frame {
+    gre: Gre::Keyed(8),
+    ..NEXT_ENCAPSULATED
+};
+
+const SUMMED: Frame = Frame {
+    gre: Gre::Summed,
+    ..ENCAPSULATED
+};
+
+const NEXT_SUMMED: Frame = Frame {
+    gre: Gre::Summed,
+    ..NEXT_ENCAPSULATED
+};
+
+const TUNNELS_OF_GRE: [Row; 4] = [
+    (
+        "of four bytes",
+        &[ENCAPSULATED, NEXT_ENCAPSULATED],
+        &[(0, 2, 1000, 0, 2078)],
+        2_122_868_608,
+    ),
+    (
+        "with one key",
+        &[KEYED, NEXT_KEYED],
+        &[(0, 2, 1000, 0, 2082)],
+        4_110_894_431,
+    ),
+    (
+        "with two keys",
+        &[KEYED, OTHERWISE_KEYED],
+        &[(0, 1, 0, 0, 1082), (1, 1, 0, 0, 1082)],
+        2_504_917_523,
+    ),
+    (
+        "with a sum",
+        &[SUMMED, NEXT_SUMMED],
+        &[(0, 1, 0, 0, 1082), (1, 1, 0, 0, 1082)],
+        40_149_508,
+    ),
+];
 
 // Whether `merge` writes these records, with this hash.
 fn is_merged(
@@ -53,112 +222,7 @@ fn is_back(
 #[test]
 fn datagrams(rt: HostRuntime) -> Result<(), Fail> {
     let alloc = rt.alloc();
-    let last = Frame {
-        id: 3,
-        payload: 200,
-        ..DATAGRAM
-    };
-    let unfilled = Frame {
-        has_udp_sum: false,
-        ..DATAGRAM
-    };
-    let old_port = Frame {
-        datagram_to: 8472,
-        ..DATAGRAM
-    };
-    let over_ipv6 = Frame { ip: 6, ..DATAGRAM };
-    let short = Frame {
-        payload: 200,
-        ..DATAGRAM
-    };
-    let tunnelled = Frame {
-        tags: 2,
-        tunnel: 6,
-        ..over_ipv6
-    };
-    let next_unfilled = Frame {
-        has_udp_sum: false,
-        ..NEXT_DATAGRAM
-    };
-    let next_to_old_port = Frame {
-        datagram_to: 8472,
-        ..NEXT_DATAGRAM
-    };
-    let one_byte = Frame {
-        payload: 1,
-        ..over_ipv6
-    };
-    let in_gre = Frame {
-        gre: Gre::Plain,
-        payload: 100,
-        ..over_ipv6
-    };
-    let next_in_gre = Frame {
-        outer_id: 8,
-        ..in_gre
-    };
-    let alone = |number| (number, 1, 0, 0, 542);
-    let both_alone = [alone(0), alone(1)];
-    let shorter_first = [(0, 1, 0, 0, 242), alone(1)];
-    let three = [DATAGRAM, NEXT_DATAGRAM, last];
-    let without_sums = [unfilled, next_unfilled];
-    let one_sum = [unfilled, NEXT_DATAGRAM];
-    let to_old_port = [old_port, next_to_old_port];
-    let ending_in_a_byte = [over_ipv6, one_byte];
-    let longer = [short, NEXT_DATAGRAM];
-    let in_tunnels = [tunnelled, tunnelled];
-    let both_in_gre = [in_gre, next_in_gre];
-    let rows = [
-        (
-            "of 500, 500 and 200 bytes",
-            three.as_slice(),
-            [(0, 3, 500, 0, 1242)].as_slice(),
-            898165749,
-        ),
-        (
-            "without sums",
-            without_sums.as_slice(),
-            [(0, 2, 500, 0, 1042)].as_slice(),
-            4094139963,
-        ),
-        (
-            "sums, the first left out",
-            one_sum.as_slice(),
-            both_alone.as_slice(),
-            2778540693,
-        ),
-        (
-            "to the old port of VXLAN",
-            to_old_port.as_slice(),
-            both_alone.as_slice(),
-            832650184,
-        ),
-        (
-            "over IPv6, the last of one byte",
-            ending_in_a_byte.as_slice(),
-            [(0, 2, 500, 0, 563)].as_slice(),
-            938062736,
-        ),
-        (
-            "the second longer",
-            longer.as_slice(),
-            shorter_first.as_slice(),
-            1248809353,
-        ),
-        (
-            "in a tunnel",
-            in_tunnels.as_slice(),
-            [(0, 2, 500, 0, 1148)].as_slice(),
-            2278878251,
-        ),
-        (
-            "in GRE, over IPv6",
-            both_in_gre.as_slice(),
-            [(0, 2, 100, 0, 286)].as_slice(),
-            3152931361,
-        ),
-    ];
-    for (what, frames, want, hashed) in rows {
+    for (what, frames, want, hashed) in DATAGRAMS {
         let input = capture_of(alloc, frames)?;
         let is_so = is_merged(&rt, alloc, &input, want, hashed)?;
         assert!(rt; is_so && is_back(&rt, alloc, &input)?, "{what}");
@@ -166,69 +230,11 @@ fn datagrams(rt: HostRuntime) -> Result<(), Fail> {
     Ok(())
 }
 
-const ENCAPSULATED: Frame = Frame {
-    gre: Gre::Plain,
-    payload: 1000,
-    ..PLAIN
-};
-
-const NEXT_ENCAPSULATED: Frame = Frame {
-    gre: Gre::Plain,
-    seq: 2000,
-    payload: 1000,
-    ..NEXT
-};
-
 #[test]
 fn tunnels_of_gre(rt: HostRuntime) -> Result<(), Fail> {
     let alloc = rt.alloc();
-    let keyed = |key| Frame {
-        gre: Gre::Keyed(key),
-        ..ENCAPSULATED
-    };
-    let next_keyed = |key| Frame {
-        gre: Gre::Keyed(key),
-        ..NEXT_ENCAPSULATED
-    };
-    let alone = |number| (number, 1, 0, 0, 1082);
-    let both_alone = [alone(0), alone(1)];
-    let rows = [
-        (
-            "of four bytes",
-            [ENCAPSULATED, NEXT_ENCAPSULATED],
-            [(0, 2, 1000, 0, 2078)].as_slice(),
-            2122868608,
-        ),
-        (
-            "with one key",
-            [keyed(7), next_keyed(7)],
-            [(0, 2, 1000, 0, 2082)].as_slice(),
-            4110894431,
-        ),
-        (
-            "with two keys",
-            [keyed(7), next_keyed(8)],
-            both_alone.as_slice(),
-            2504917523,
-        ),
-        (
-            "with a sum",
-            [
-                Frame {
-                    gre: Gre::Summed,
-                    ..ENCAPSULATED
-                },
-                Frame {
-                    gre: Gre::Summed,
-                    ..NEXT_ENCAPSULATED
-                },
-            ],
-            both_alone.as_slice(),
-            40149508,
-        ),
-    ];
-    for (what, frames, want, hashed) in rows {
-        let input = capture_of(alloc, &frames)?;
+    for (what, frames, want, hashed) in TUNNELS_OF_GRE {
+        let input = capture_of(alloc, frames)?;
         assert!(rt; is_merged(&rt, alloc, &input, want, hashed)?, "{what}");
     }
     Ok(())

@@ -62,16 +62,23 @@ fn captures_cut_at_each_place(rt: HostRuntime) -> Result<(), Fail> {
         assert!(rt; is_as_wanted(&ended, want, &SINGLES), "merge, {len} bytes");
     }
     let packets = packets();
-    for whole in [MERGED_CAPTURE.as_slice(), MERGED_CAPTURE_2.as_slice()] {
-        for len in 0..=whole.len() {
-            let input = whole.get(..len).unwrap_or(whole);
-            let ended = run_line(&rt, rt.alloc(), SEGMENT, input, 64, &[], &[])?;
-            let want = want_of_cut(len, whole.len(), 170);
-            assert!(rt;
-                is_as_wanted(&ended, want, &packets),
-                "segment, {len} bytes"
-            );
-        }
+    for len in 0..113 {
+        let input = &MERGED_CAPTURE[..len];
+        let ended = run_line(&rt, rt.alloc(), SEGMENT, input, 64, &[], &[])?;
+        let want = want_of_cut(len, 112, 170);
+        assert!(rt;
+            is_as_wanted(&ended, want, &packets),
+            "segment, {len} bytes"
+        );
+    }
+    for len in 0..117 {
+        let input = &MERGED_CAPTURE_2[..len];
+        let ended = run_line(&rt, rt.alloc(), SEGMENT, input, 64, &[], &[])?;
+        let want = want_of_cut(len, 116, 170);
+        assert!(rt;
+            is_as_wanted(&ended, want, &packets),
+            "segment, version 2, {len} bytes"
+        );
     }
     Ok(())
 }
