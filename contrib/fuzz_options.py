@@ -212,13 +212,14 @@ def wrong_words(rng, command, taken):
     return rng.choice(words)
 
 
-def chance(name, words):
-    """How often an option is given; of a seed without a count there are a thousand records, which takes the definitions long."""
-    if name in ("filter", "rss", "table"):
-        return 0.3
+def chance(name, options, has_count):
+    """How often an option is given. Of a seed without a count there are a thousand records, which takes the definitions long, and the program
+    too where each round has few records and many queues, and so many threads that begin and end."""
     if name != "seed":
-        return 0.5
-    return 0.2 if any(word.startswith("--count") for word in words) else 0.05
+        return 0.3 if name in ("filter", "rss", "table") else 0.5
+    if has_count:
+        return 0.2
+    return 0.05 if options.queues <= 4 * options.budget else 0
 
 
 def shuffled(rng, groups):
@@ -230,14 +231,14 @@ def shuffled(rng, groups):
 def text_options(rng, taken, options):
     """Words of the filter, the key and the table, and the options with them; None where one of them is refused."""
     groups, is_taken = [], True
-    if "filter" in taken and rng.random() < chance("filter", []):
+    if "filter" in taken and rng.random() < chance("filter", options, False):
         text = filter_text(rng)
         groups.append(value_words(rng, "filter", text))
         try:
             options = options._replace(filter=filter_of(text))
         except ValueError:
             is_taken = False
-    if "rss" in taken and rng.random() < chance("rss", []):
+    if "rss" in taken and rng.random() < chance("rss", options, False):
         text = rss_text(rng)
         groups.append(value_words(rng, "rss", text))
         try:
@@ -258,7 +259,7 @@ def options_line(rng, command, taken):
         return wrong_words(rng, command, taken), None
     groups, options = [], Options(blocks=DEFAULT_BLOCKS if "blocks" in taken else None)
     for name in sorted(set(taken) & set(RANGES)):
-        if rng.random() < chance(name, [word for group in groups for word in group]):
+        if rng.random() < chance(name, options, any(group[0].startswith("--count") for group in groups)):
             value = rng.choice(USUAL[name])
             options = options._replace(**{name: value})
             groups.append(option_words(rng, name, value))
