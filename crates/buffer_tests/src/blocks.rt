@@ -35,7 +35,8 @@ fn sent<T: Send>(value: T) -> T
 // Three quarters, and what is left of the part.
 fn quarters(part: Part) -> (Part, Part, Part, Part)
     requires whole { part.weight ≡ 4611686018427387904 }
-    ensures lives { (result.0.life ≡ part.life) × (result.1.life ≡ part.life) × (result.2.life ≡ part.life) × (result.3.life ≡ part.life) }
+    ensures lives { (result.0.life ≡ part.life) × (result.1.life ≡ part.life) × (result.2.life ≡ part.life)
+        × (result.3.life ≡ part.life) }
 {
     let mut part = part;
     let a = part.split(QUARTER);
@@ -159,7 +160,8 @@ fn empty(slot: Option<Part>) {
 // Receipts of one life, added.
 fn both(first: Option<Receipt>, second: Option<Receipt>) -> Option<Receipt>
     requires life { IfSome first (λ r. IfSome second (λ s. s.life ≡ r.life)) }
-    ensures life { (l : Life) → IfSome first (λ r. r.life ≡ l) → IfSome second (λ s. s.life ≡ l) → IfSome result (λ r. r.life ≡ l) }
+    ensures life { (l : Life) → IfSome first (λ r. r.life ≡ l) → IfSome second (λ s. s.life ≡ l)
+        → IfSome result (λ r. r.life ≡ l) }
 {
     let Some(mut total) = first else {
         return second;

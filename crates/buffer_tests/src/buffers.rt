@@ -37,7 +37,8 @@ fn put(skb: &mut Skb, bytes: &[u8]) -> ((usize, usize), usize)
     (numbers(answer), skb.len())
 }
 
-// Whether a push beside a clone is Shared, and one after the clone's release and an `unshare` goes; and the clone's weight.
+// Whether a push beside a clone is Shared, and one after the clone's release and an `unshare` goes; and the clone's
+// weight.
 fn beside_a_clone(skb: &mut Skb, spare: Sole, out: &mut Outcomes) -> (bool, bool, bool, u64)
     requires spare { (skb.old.rest ≡ []) × (2 ≤ out.old.spare) }
     ensures rest { (skb.new.rest ≡ []) × (out.old.spare ≤ out.new.spare + 1) }
@@ -97,8 +98,8 @@ pub(crate) fn same_bytes(one: &Skb, other: &Skb) -> bool {
     true
 }
 
-// What `copy` answers of a buffer of two blocks' bytes at most: the numbers of too few spares, whether the copy has the same
-// bytes and shares nothing, and its headroom and blocks.
+// What `copy` answers of a buffer of two blocks' bytes at most: the numbers of too few spares, whether the copy has the
+// same bytes and shares nothing, and its headroom and blocks.
 fn copied(
     skb: &Skb,
     spares: &mut Vec<Sole>,

@@ -1,7 +1,7 @@
 //! Tasks of a desk, done by one thread and by several.
 //!
-//! - 300 rounds of seven tasks: each answer is its task's, in the order of the tasks, by the thread that asks alone, with three who run
-//!   tasks beside it, and without a desk
+//! - 300 rounds of seven tasks: each answer is its task's, in the order of the tasks, by the thread that asks alone,
+//!   with three who run tasks beside it, and without a desk
 //! - two tasks that wait for each other meet, where one runs beside the thread that asks
 ghost use Rattle.std.specs.Prelude.{◌≡◌, ◌<◌, [], All, length};
 

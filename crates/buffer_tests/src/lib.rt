@@ -1,5 +1,6 @@
-//! Tests of the crates that hold packets: the two machines ([`ref_core`]), blocks and their weights ([`raw_block`]), pools of them
-//! ([`block_pool`]), pieces of blocks ([`frags`]) and buffers ([`skb`]); and of the desk of tasks ([`errands`]).
+//! Tests of the crates that hold packets: the two machines ([`ref_core`]), blocks and their weights ([`raw_block`]),
+//! pools of them ([`block_pool`]), pieces of blocks ([`frags`]) and buffers ([`skb`]); and of the desk of tasks
+//! ([`errands`]).
 //!
 //! A crate of their own, since one with tests is proved twice, with them and without.
 #![tactic(auto)]

@@ -1,4 +1,5 @@
-//! Readers on other threads, each with a clone, while the buffer itself is pushed, trimmed, pulled, unshared and released.
+//! Readers on other threads, each with a clone, while the buffer itself is pushed, trimmed, pulled, unshared and
+//! released.
 ghost use Rattle.std.specs.Prelude.{◌≡◌, ◌+◌, ◌≤◌, length, IfSome, IfOk, None};
 
 use crate::buffers::spend;
@@ -33,7 +34,8 @@ struct Meeting {
     here: AtomicU32,
 }
 
-// Waits for the others, so that all work at once. Where no thread can be made there is nobody to wait for, so it gives up.
+// Waits for the others, so that all work at once. Where no thread can be made there is nobody to wait for, so it gives
+// up.
 fn meet(meeting: &Meeting) {
     meeting.here.fetch_add(1, Ordering::SeqCst);
     for _ in 0..10_000u32 {
@@ -162,7 +164,8 @@ fn read_beside<R: Threads + Sync>(
     join_mut(
         rt,
         &mut ||
-            requires spare { (IfSome first.now.clone (λ s. length s.rest + 1 ≤ first.now.out.spare)) × (IfSome second.now.clone (λ s. length s.rest + 1 ≤ second.now.out.spare)) }
+            requires spare { (IfSome first.now.clone (λ s. length s.rest + 1 ≤ first.now.out.spare))
+                × (IfSome second.now.clone (λ s. length s.rest + 1 ≤ second.now.out.spare)) }
             ensures none { (first.exit.now.clone ≡ None) × (second.exit.now.clone ≡ None) }
         { read_both(rt, first, second, meeting) },
         &mut ||

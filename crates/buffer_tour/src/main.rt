@@ -1,8 +1,9 @@
-//! A tour of a packet buffer's calls, and of a merged frame that is cut into its packets: `rt run` in this folder prints a line for
-//! each step.
+//! A tour of a packet buffer's calls, and of a merged frame that is cut into its packets: `rt run` in this folder
+//! prints a line for each step.
 //!
-//! The buffer is over blocks of a pool, and each of them has to come home. A buffer can't be dropped, and the check refuses a
-//! function that forgets one. So no function leaves by `?` with a buffer of its own in hand: it gives the buffer back first.
+//! The buffer is over blocks of a pool, and each of them has to come home. A buffer can't be dropped, and the check
+//! refuses a function that forgets one. So no function leaves by `?` with a buffer of its own in hand: it gives the
+//! buffer back first.
 #![tactic(auto)]
 
 ghost use Rattle.std.specs.Prelude.{◌≡◌, ◌+◌, ◌<◌, ◌≤◌, [], length};
@@ -84,7 +85,8 @@ fn lend(skb: &mut Skb, out: &mut Outcomes, lines: &mut Lines) -> Result<(), Erro
 // The head may be written again. Where others still held its block, its bytes would be copied into the spare.
 fn own(skb: &mut Skb, spare: Sole, out: &mut Outcomes, lines: &mut Lines)
     requires room { 1 ≤ out.old.spare }
-    ensures same { (skb.new.rest ≡ skb.old.rest) × (buffer_size skb.new ≡ buffer_size skb.old) × (out.old.spare ≤ out.new.spare + 1) }
+    ensures same { (skb.new.rest ≡ skb.old.rest) × (buffer_size skb.new ≡ buffer_size skb.old)
+        × (out.old.spare ≤ out.new.spare + 1) }
 {
     match skb.unshare(spare) {
         Unshared::Unused(spare) => out.keep_sole(spare),
@@ -129,7 +131,8 @@ fn read(skb: &Skb, lines: &mut Lines) {
 // The last bytes go, and one of the head's is written over.
 fn change(skb: &mut Skb, out: &mut Outcomes, lines: &mut Lines) -> Result<(), Error>
     requires room { length skb.old.rest ≤ out.old.spare }
-    ensures room { (length skb.new.rest ≤ length skb.old.rest) × (out.old.spare + length skb.new.rest ≤ out.new.spare + length skb.old.rest) }
+    ensures room { (length skb.new.rest ≤ length skb.old.rest)
+        × (out.old.spare + length skb.new.rest ≤ out.new.spare + length skb.old.rest) }
 {
     skb.trim(14, out)?;
     lines.show("trim: the last 14 bytes", skb);
@@ -155,7 +158,8 @@ fn write_over(skb: &mut Skb)
 // More of the first bytes lie in one block: the spare is the head now.
 fn gather(skb: &mut Skb, spare: Sole, out: &mut Outcomes, lines: &mut Lines) -> Result<(), Error>
     requires room { length skb.old.rest + 1 ≤ out.old.spare }
-    ensures room { (length skb.new.rest ≤ length skb.old.rest) × (out.old.spare + length skb.new.rest ≤ out.new.spare + length skb.old.rest + 1) }
+    ensures room { (length skb.new.rest ≤ length skb.old.rest)
+        × (out.old.spare + length skb.new.rest ≤ out.new.spare + length skb.old.rest + 1) }
 {
     match skb.pull_up(1030, spare, out) {
         Ok(returned) => keep_returned(returned, out),

@@ -1,5 +1,6 @@
 -- A generated capture: as many records as are wanted, of eight flows, all of it following from the seed.
-use Rattle.std.specs.Prelude.{ℕ, zero, suc, ◌+◌, ◌*◌, ◌/◌, ◌%◌, ◌^◌, ◌==◌, false, List, [], ◌∷◌, ◌++◌, length, if◌then◌else◌, slice_index, slice_set}
+use Rattle.std.specs.Prelude.{ℕ, zero, suc, ◌+◌, ◌*◌, ◌/◌, ◌%◌, ◌^◌, ◌==◌, false, List, [], ◌∷◌, ◌++◌, length}
+use Rattle.std.specs.Prelude.{if◌then◌else◌, slice_index, slice_set}
 use Rattle.net_bytes.specs.declared.order.Order.TheVariants.{Little}
 use Rattle.pcap_io.specs.declared.heads.FileHead.{FileHead}
 use Rattle.pcap_io.specs.declared.heads.Link.TheVariants.{Ethernet}
@@ -43,7 +44,14 @@ frame_from d s r = frame_of s (counting (d.flow + r) d.payload_len)
 
 -- a thousand records a second
 abbrev pub packet_of : List ℕ → ℕ → Packet
-packet_of frame r = record { number = r; sec = r / 1000; frac = r % 1000 * 1000; original = length frame; frame = frame }
+packet_of frame r = record {
+  number = r;
+  sec = r / 1000;
+  frac = r % 1000
+      * 1000;
+  original = length frame;
+  frame = frame;
+}
 
 -- what is next behind this segment
 abbrev pub after_by : RecordDraws → Segment → Next → Next

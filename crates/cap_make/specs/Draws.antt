@@ -1,4 +1,5 @@
--- Numbers that look random and follow from a seed: a linear congruential generator of 64 bits, of whose states the high bits are taken.
+-- Numbers that look random and follow from a seed: a linear congruential generator of 64 bits, of whose states the high
+-- bits are taken.
 use Rattle.std.specs.Prelude.{ℕ, ◌+◌, ◌*◌, ◌/◌, ◌%◌, ◌^◌, ◌==◌, if◌then◌else◌}
 use Rattle.cap_make.specs.declared.draws.RecordDraws.{RecordDraws}
 

@@ -16,7 +16,8 @@ tag flow kind = bytes16 (100 + flow) ++ bytes16 kind
 
 -- the first 12 bytes of an IPv4 header without options, DF set, 64 hops (RFC 791, section 3.1)
 abbrev pub ip4_front : ℕ → ℕ → ℕ → ℕ → List ℕ
-ip4_front len identification protocol sum = 0x45 ∷ 0 ∷ (bytes16 len ++ (bytes16 identification ++ (0x40 ∷ 0 ∷ 64 ∷ protocol ∷ bytes16 sum)))
+ip4_front len identification protocol sum = 0x45 ∷ 0 ∷ (bytes16 len
+    ++ (bytes16 identification ++ (0x40 ∷ 0 ∷ 64 ∷ protocol ∷ bytes16 sum)))
 
 -- its source and destination
 abbrev pub ip4_ends : ℕ → List ℕ
@@ -35,10 +36,12 @@ ip6_ends flow =
     0x20 ∷ 0x01 ∷ 0x0d ∷ 0xb8 ∷ 0 ∷ 0 ∷ 0 ∷ 0 ∷ 0 ∷ 0 ∷ 0 ∷ 0 ∷ 0 ∷ 0 ∷ 0 ∷ flow
     ∷ 0x20 ∷ 0x01 ∷ 0x0d ∷ 0xb8 ∷ 0 ∷ 0 ∷ 0 ∷ 0 ∷ 0 ∷ 0 ∷ 0 ∷ 0 ∷ 0 ∷ 0 ∷ 1 ∷ flow ∷ []
 
--- ports, sequence and acknowledgment number, data offset, control bits, window, checksum, urgent pointer (RFC 9293, section 3.1)
+-- ports, sequence and acknowledgment number, data offset, control bits, window, checksum, urgent pointer (RFC 9293,
+-- section 3.1)
 abbrev pub tcp_header : Segment → ℕ → List ℕ
 tcp_header s sum =
-    bytes16 (40000 + s.flow) ++ (bytes16 5001 ++ (bytes32 s.sequence ++ (bytes32 1 ++ (0x50 ∷ s.flags ∷ (bytes16 1024 ++ (bytes16 sum ++ bytes16 0))))))
+    bytes16 (40000 + s.flow) ++ (bytes16 5001 ++ (bytes32 s.sequence
+    ++ (bytes32 1 ++ (0x50 ∷ s.flags ∷ (bytes16 1024 ++ (bytes16 sum ++ bytes16 0))))))
 
 -- ports, length, no checksum (RFC 768)
 abbrev pub udp_header : ℕ → ℕ → List ℕ

@@ -8,4 +8,5 @@ use Rattle.cap_make.specs.Capture.{made, made_packets}
 abbrev pub MadeReadsBack : Type 0
 MadeReadsBack =
     (seed count : ℕ) → count < 2 ^ 32
-    → (reads Ethernet (made seed count) ≡ record { packets = made_packets seed count; fault = None }) × (length (made_packets seed count) ≡ count)
+    → (reads Ethernet (made seed count) ≡ record { packets = made_packets seed count; fault = None })
+    × (length (made_packets seed count) ≡ count)

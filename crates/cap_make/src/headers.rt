@@ -1,6 +1,10 @@
 //! The headers of a generated frame, each as the array of its bytes.
 ghost use Rattle.std.specs.Prelude.{◌≡◌, ◌/◌, ◌%◌};
-ghost use Rattle.cap_make.specs.Headers.{ethernet as ethernet_of, tag as tag_of, ip4_front as ip4_front_of, ip4_ends as ip4_ends_of, tunnel_ends as tunnel_ends_of, ip6_front as ip6_front_of, ip6_ends as ip6_ends_of, tcp_header as tcp_header_of, udp_header as udp_header_of, vxlan_header as vxlan_header_of};
+ghost use Rattle.cap_make.specs.Headers.{ethernet as ethernet_of, tag as tag_of, ip4_front as ip4_front_of};
+ghost use Rattle.cap_make.specs.Headers.{ip4_ends as ip4_ends_of, tunnel_ends as tunnel_ends_of};
+ghost use Rattle.cap_make.specs.Headers.{ip6_front as ip6_front_of, ip6_ends as ip6_ends_of};
+ghost use Rattle.cap_make.specs.Headers.{tcp_header as tcp_header_of, udp_header as udp_header_of};
+ghost use Rattle.cap_make.specs.Headers.{vxlan_header as vxlan_header_of};
 ghost use Rattle.cap_make.specs.Frames.{ip4_pseudo as ip4_pseudo_of, ip6_pseudo as ip6_pseudo_of};
 
 use crate::segment::Segment;

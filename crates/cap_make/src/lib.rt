@@ -1,13 +1,14 @@
 //! Generated captures: large valid input with no file.
 //!
-//! A capture is given by a seed and a number of records. Its frames are TCP segments of eight flows over IPv4 and IPv6, with
-//! a tag (IEEE 802.1Q) and in a VXLAN tunnel (RFC 7348), in the classic pcap layout. Most segments are full and follow one
-//! another, so that they merge; draws from the seed make some short, empty, pushed, or with a jump of the identification.
+//! A capture is given by a seed and a number of records. Its frames are TCP segments of eight flows over IPv4 and IPv6,
+//! with a tag (IEEE 802.1Q) and in a VXLAN tunnel (RFC 7348), in the classic pcap layout. Most segments are full and
+//! follow one another, so that they merge; draws from the seed make some short, empty, pushed, or with a jump of the
+//! identification.
 //!
-//! The definition stands in `specs/`: the draws, the headers, the frames with their sums by one division, and the capture,
-//! `made`. Proved: [`make_capture`] appends just these bytes, or a front of them at a fault (clauses `ok`, `err`, `cause`);
-//! a [`MadeSource`] gives just these bytes, takes no memory and never fails; [`made_len`] is their number; and the capture reads to
-//! its end with as many records as were wanted ([`made_reads_back`]).
+//! The definition stands in `specs/`: the draws, the headers, the frames with their sums by one division, and the
+//! capture, `made`. Proved: [`make_capture`] appends just these bytes, or a front of them at a fault (clauses `ok`,
+//! `err`, `cause`); a [`MadeSource`] gives just these bytes, takes no memory and never fails; [`made_len`] is their
+//! number; and the capture reads to its end with as many records as were wanted ([`made_reads_back`]).
 //!
 //! ```text
 //! make_capture(1, 1000, &mut sink)?;

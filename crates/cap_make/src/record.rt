@@ -97,7 +97,8 @@ fn count_up(bytes: &mut [u8], first: u8)
     }
 }
 
-// Little-endian, microseconds, version 2.4, the greatest captured length as snaplen, Ethernet (pcap file format, section 4).
+// Little-endian, microseconds, version 2.4, the greatest captured length as snaplen, Ethernet (pcap file format,
+// section 4).
 fn file_header() -> [u8; 24]
     ensures bytes { result ≡ file_bytes made_head Ethernet }
 {

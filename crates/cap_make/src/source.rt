@@ -45,7 +45,8 @@ impl MadeSource {
 // Makes the next record where there is one and the bytes of the one before are gone.
 fn refill(maker: &mut Maker, buffer: &mut RecordBytes, number: u32, count: u32) -> u32
     requires within { number ≤ count }
-    ensures same { buffer.new ++ records_from (count - result) result maker.new ≡ buffer.old ++ records_from (count - number) number maker.old }
+    ensures same { buffer.new ++ records_from (count - result) result maker.new ≡ buffer.old
+        ++ records_from (count - number) number maker.old }
     ensures within { result ≤ count }
     ensures all { buffer.new ≡ [] → result ≡ count }
 {

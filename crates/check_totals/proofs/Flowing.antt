@@ -78,7 +78,8 @@ same_size fuel [] ([] ∷ runs) l full same = absurd (omega (arith, full.0))
 same_size fuel [] ((p ∷ run) ∷ runs) l full same =
     let own : is_of (key_of p.frame) p ≡ true = is_key_self (key_of p.frame) in
     let has : p ∷ (run ++ of_flow (key_of p.frame) runs) ≡ []
-    = sym (ap (λ v. flat_map (λ (r : List Packet). r) (cond v ((p ∷ run) ∷ filter (begins_in (is_of (key_of p.frame))) runs) (filter (begins_in (is_of (key_of p.frame))) runs))) own) ∙ same (key_of p.frame) in
+    = sym (ap (λ v. flat_map (λ (r : List Packet). r) (cond v ((p ∷ run) ∷ filter (begins_in (is_of (key_of p.frame))) runs) (filter (begins_in (is_of (key_of p.frame))) runs))) own) ∙ same
+    (key_of p.frame) in
     absurd cc
 same_size zero (y ∷ ys) runs l full same = absurd (omega arith)
 same_size (suc fuel) (y ∷ ys) runs l full same =

@@ -116,7 +116,8 @@ queue_left segs spread q ps c k = by (spread k == q) refl
     by : (v : Bool) → (spread k == q) ≡ v → flows_of ps k ≡ of_flow k (items_of segs spread q ps) ++ elsewhere spread q ps k
     by true e =
         let same : spread k ≡ q = eqb-true (spread k) q e in
-        let own : filter (is_of k) (filter (is_queued spread q) ps) ≡ filter (is_of k) ps = subst (λ n. filter (is_of k) (filter (is_queued spread n) ps) ≡ filter (is_of k) ps) same (own_queue k spread ps) in
+        let own : filter (is_of k) (filter (is_queued spread q) ps) ≡ filter (is_of k) ps = subst (λ n. filter (is_of k) (filter (is_queued spread n) ps) ≡ filter (is_of k) ps) same
+        (own_queue k spread ps) in
         sym (append-nil (filter (is_of k) ps)) ∙ ap (λ z. z ++ []) (sym (joined ∙ own))
         ∙ ap (λ v. of_flow k (items_of segs spread q ps) ++ (if v then [] else filter (is_of k) ps)) (sym e)
     by false e =
@@ -124,7 +125,8 @@ queue_left segs spread q ps c k = by (spread k == q) refl
         ap (λ z. z ++ filter (is_of k) ps) (sym (joined ∙ other_queue k spread q ps apart))
         ∙ ap (λ v. of_flow k (items_of segs spread q ps) ++ (if v then [] else filter (is_of k) ps)) (sym e)
 
-pub queue_returns : (segs : ℕ) (spread : Spread) (q : ℕ) (ps : List Packet) → AreCaptured ps → returned_in (flows_of ps) (map merged_of (items_of segs spread q ps)) ≡ length (filter (is_queued spread q) ps)
+pub queue_returns : (segs : ℕ) (spread : Spread) (q : ℕ) (ps : List Packet) → AreCaptured ps → returned_in (flows_of ps) (map merged_of (items_of segs spread q ps))
+    ≡ length (filter (is_queued spread q) ps)
 queue_returns segs spread q ps c =
     returned_runs (items_of segs spread q ps) (flows_of ps) (elsewhere spread q ps) (queue_items segs spread q ps c) (queue_left segs spread q ps c) ∙ queue_size segs spread q ps c
 

@@ -22,8 +22,8 @@ is_merged run = nat_le 2 (length run)
 abbrev pub queued : Options → ℕ → List Packet → List Packet
 queued o q ps = filter (is_queued o.spread q) ps
 
--- The records of queue q, what they come to, how much of that was merged, and how many of the packets that this stands for are those
--- that went in, byte for byte and in original length.
+-- The records of queue q, what they come to, how much of that was merged, and how many of the packets that this stands
+-- for are those that went in, byte for byte and in original length.
 abbrev pub queue_totals : Options → ℕ → List Packet → QueueTotals
 queue_totals o q ps = record {
   records = length (queued o q ps);
@@ -41,7 +41,11 @@ shown o ps = map (shown_of o.filter) ps
 
 -- the windows of tap t that aren't empty, and their bytes, without any header
 abbrev pub tap_totals : Options → ℕ → List Packet → TapTotals
-tap_totals o t ps = record { windows = length (windows_of o.snap t (shown o ps)); bytes = sum_by (window_length o t) (shown o ps) }
+tap_totals o t ps = record {
+  windows = length (windows_of o.snap t (shown o ps));
+  bytes = sum_by (window_length o t)
+      (shown o ps);
+}
 
 abbrev pub round_totals : Options → List Packet → Counts
 round_totals o ps = record {

@@ -14,7 +14,8 @@ unfoldable pub queue_line : ℕ → QueueTotals → List ℕ
 queue_line q x = codes "queue " ++ decimal q ++ codes ": " ++ numbers_of x
 
 unfoldable pub tap_line : ℕ → TapTotals → List ℕ
-tap_line t x = codes "tap " ++ decimal t ++ codes ": windows " ++ decimal x.windows ++ codes " bytes " ++ decimal x.bytes ++ codes "\n"
+tap_line t x = codes "tap " ++ decimal t ++ codes ": windows " ++ decimal x.windows ++ codes " bytes "
+    ++ decimal x.bytes ++ codes "\n"
 
 unfoldable pub total_line : QueueTotals → List ℕ
 total_line x = codes "total: " ++ numbers_of x

@@ -1,4 +1,5 @@
--- Which packets come back: those that items stand for, compared one by one with the packets of their flows in their places.
+-- Which packets come back: those that items stand for, compared one by one with the packets of their flows in their
+-- places.
 use Rattle.std.specs.Prelude.{ℕ, ◌+◌, ◌==◌, ◌&&◌, Bool, if◌then◌else◌, Option, List, [], ◌∷◌, length, drop}
 use Rattle.std.specs.List.{filter}
 use Rattle.std.specs.Str.{bytes_eq}
@@ -42,7 +43,8 @@ abbrev pub behind_items : Lefts → List Merged → Lefts
 behind_items left [] = left
 behind_items left (r ∷ rs) = behind_items (behind_item left r) rs
 
--- How many of the packets that items stand for equal, byte for byte and in original length, the packet of their flow in that place.
+-- How many of the packets that items stand for equal, byte for byte and in original length, the packet of their flow in
+-- that place.
 abbrev pub returned_in : Lefts → List Merged → ℕ
 returned_in left [] = 0
 returned_in left (r ∷ rs) = equal_in (packets_in r) (left (flow_in r)) + returned_in (behind_item left r) rs

@@ -1,8 +1,9 @@
 //! How counting goes on, and that the lines tell what was counted.
-ghost use Rattle.check_totals.specs.Tallies.{BoundsAdd, CountingGoesByRound, LanesStay, RecordsReturn, TotalsAddUp, TotalsAreFew, TotalsAreTold, TotalsGoByRound};
+ghost use Rattle.check_totals.specs.Tallies.{BoundsAdd, CountingGoesByRound, LanesStay, RecordsReturn, TotalsAddUp};
+ghost use Rattle.check_totals.specs.Tallies.{TotalsAreFew, TotalsAreTold, TotalsGoByRound};
 
-/// Counting goes round by round: one that is full and fits is counted before the others, and the last one is counted as the capture
-/// ends, where no record exceeds the blocks.
+/// Counting goes round by round: one that is full and fits is counted before the others, and the last one is counted as
+/// the capture ends, where no record exceeds the blocks.
 pub fn counting_goes_by_round()
     ensures law { CountingGoesByRound }
 {}

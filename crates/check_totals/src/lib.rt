@@ -1,11 +1,13 @@
-//! What checking a capture counts: records, items and windows, queue by queue and tap by tap, and the lines that tell them.
+//! What checking a capture counts: records, items and windows, queue by queue and tap by tap, and the lines that tell
+//! them.
 //!
-//! The definitions stand in `specs/`: what is counted of a round's packets (`Counts`), of these the ones that come back, found by comparing
-//! (`Returned`), the lines (`Lines`), and what checking makes of a capture's bytes over a number of blocks (`Checking`). Totals are added round by round, and each addition is exact.
+//! The definitions stand in `specs/`: what is counted of a round's packets (`Counts`), of these the ones that come
+//! back, found by comparing (`Returned`), the lines (`Lines`), and what checking makes of a capture's bytes over a
+//! number of blocks (`Checking`). Totals are added round by round, and each addition is exact.
 //!
-//! Proved: totals start at those of no packet ([`Totals::make`]) and add lane by lane ([`Totals::add`]); [`write_totals`] appends just
-//! the lines, or a front of them where the sink failed (clauses `ok`, `err`, `cause`); and counting goes round by round
-//! ([`counting_goes_by_round`], [`totals_add_up`]).
+//! Proved: totals start at those of no packet ([`Totals::make`]) and add lane by lane ([`Totals::add`]);
+//! [`write_totals`] appends just the lines, or a front of them where the sink failed (clauses `ok`, `err`, `cause`);
+//! and counting goes round by round ([`counting_goes_by_round`], [`totals_add_up`]).
 //!
 //! ```text
 //! queue 0: records 2 items 1 merged 1 returned 2

@@ -2,7 +2,8 @@
 ghost use Rattle.std.specs.Prelude.{◌≡◌, ◌^◌, [], length, IfOk};
 ghost use Rattle.std.specs.List.{AllByRecursion};
 ghost use Rattle.offload_model.specs.Written.{Options};
-ghost use Rattle.check_totals.specs.Counts.{added, each_plus, queue_plus, tap_plus, totals_of, HasSameLanes, IsQueueWithin, IsTapWithin, IsWithin};
+ghost use Rattle.check_totals.specs.Counts.{added, each_plus, queue_plus, tap_plus, totals_of, HasSameLanes};
+ghost use Rattle.check_totals.specs.Counts.{IsQueueWithin, IsTapWithin, IsWithin};
 
 use std::alloc::{AllocError, Global};
 use std::marker::Model;
@@ -75,7 +76,8 @@ impl TapTotals {
 // Adds to each element the one beside it.
 fn add_queues(totals: &mut [QueueTotals], others: &[QueueTotals])
     requires alike { length totals.old ≡ length others.now }
-    requires within { AllByRecursion (IsQueueWithin (2 ^ 62)) totals.old × AllByRecursion (IsQueueWithin (2 ^ 62)) others.now }
+    requires within { AllByRecursion (IsQueueWithin (2 ^ 62)) totals.old
+        × AllByRecursion (IsQueueWithin (2 ^ 62)) others.now }
     ensures added { totals.new ≡ each_plus queue_plus totals.old others.now }
 {
     let mut queue = 0;
@@ -87,7 +89,8 @@ fn add_queues(totals: &mut [QueueTotals], others: &[QueueTotals])
 
 fn add_taps(totals: &mut [TapTotals], others: &[TapTotals])
     requires alike { length totals.old ≡ length others.now }
-    requires within { AllByRecursion (IsTapWithin (2 ^ 62)) totals.old × AllByRecursion (IsTapWithin (2 ^ 62)) others.now }
+    requires within { AllByRecursion (IsTapWithin (2 ^ 62)) totals.old
+        × AllByRecursion (IsTapWithin (2 ^ 62)) others.now }
     ensures added { totals.new ≡ each_plus tap_plus totals.old others.now }
 {
     let mut tap = 0;
@@ -100,7 +103,8 @@ fn add_taps(totals: &mut [TapTotals], others: &[TapTotals])
 impl Totals {
     /// The totals of no packet, of this many queues and taps.
     pub fn make(alloc: Global, queues: u32, taps: u32) -> Result<Totals, AllocError>
-        ensures made { IfOk result (λ totals. (options : Options) → options.queues ≡ queues → options.taps ≡ taps → totals ≡ totals_of options []) }
+        ensures made { IfOk result (λ totals. (options : Options) → options.queues ≡ queues → options.taps ≡ taps
+            → totals ≡ totals_of options []) }
     {
         let queue = QueueTotals {
             records: 0,

@@ -6,7 +6,8 @@ ghost use Rattle.arrayvec.specs.ArrayString.{array_string_len};
 ghost use Rattle.off_io.specs.Content.{AppendsFront};
 ghost use Rattle.off_io.specs.Faults.{HasCause};
 ghost use Rattle.check_totals.specs.Counts.{queue_sum, IsQueueWithin};
-ghost use Rattle.check_totals.specs.Lines.{check_lines, lines_from, made_line, numbers_of, queue_line, tap_line, total_line};
+ghost use Rattle.check_totals.specs.Lines.{check_lines, lines_from, made_line, numbers_of, queue_line, tap_line};
+ghost use Rattle.check_totals.specs.Lines.{total_line};
 
 use crate::{QueueTotals, TapTotals, Totals};
 use arrayvec::ArrayString;
@@ -168,8 +169,10 @@ fn write_lanes<K: Sink>(
 ) -> Result<(), WriteFault>
     requires lanes { length queues.now ≤ 2 ^ 12 }
     requires within { AllByRecursion (IsQueueWithin (2 ^ 50)) queues.now }
-    ensures ok { OnOk result (Appends (K.held sink.old) (K.held sink.new) (check_lines (record { queues = queues.now; taps = taps.now }))) }
-    ensures err { OnErr result (AppendsFront (K.held sink.old) (K.held sink.new) (check_lines (record { queues = queues.now; taps = taps.now }))) }
+    ensures ok { OnOk result (Appends (K.held sink.old) (K.held sink.new)
+        (check_lines (record { queues = queues.now; taps = taps.now }))) }
+    ensures err { OnErr result (AppendsFront (K.held sink.old) (K.held sink.new)
+        (check_lines (record { queues = queues.now; taps = taps.now }))) }
     ensures cause { HasCause (K.faults sink.old) (K.faults sink.new) result }
 {
     write_queues(sink, queues)?;

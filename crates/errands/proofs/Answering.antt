@@ -1,5 +1,6 @@
 -- An answer comes to its place.
-use Rattle.std.proofs.Common.{◌≡◌, ◌≢◌, ℕ, zero, suc, ◌+◌, ◌-◌, ◌≤◌, ◌<◌, ◌⊎◌, inl, inr, Option, None, Some, List, [], ◌∷◌, ◌++◌, length, set, get_or, sym, refl, ap, ◌∙◌, subst, arith, append_assoc, length-append}
+use Rattle.std.proofs.Common.{◌≡◌, ◌≢◌, ℕ, zero, suc, ◌+◌, ◌-◌, ◌≤◌, ◌<◌, ◌⊎◌, inl, inr, Option, None, Some, List, [], ◌∷◌, ◌++◌, length, set, get_or, sym, refl, ap, ◌∙◌, subst, arith, append_assoc}
+use Rattle.std.proofs.Common.{length-append}
 use Rattle.std.specs.Prelude.{map}
 use Rattle.std.specs.List.{sum_by, AllByRecursion}
 use Rattle.std.proofs.lemmas.List.Sums.{sum_by-cons}
@@ -40,7 +41,8 @@ module _ {T D : Type 0} (did : T → D → Type 0) where
       let m = times_more k n back in
       (omega (arith, m, h.0), h.1, places_else log back n (suc k) ps (omega (arith, lt)) h.2)
 
-  pub places_set : (log : List T) (back : List ℕ) (k i n : ℕ) (ps : List (Option D)) (d : D) → n ≡ k + i → i < length ps → Answers did log n d → Places did log back k ps → Places did log (n ∷ back) k (set ps i (Some d))
+  pub places_set : (log : List T) (back : List ℕ) (k i n : ℕ) (ps : List (Option D)) (d : D) → n ≡ k + i → i < length ps → Answers did log n d → Places did log back k ps
+      → Places did log (n ∷ back) k (set ps i (Some d))
   places_set log back k i n [] d e lt a h = absurd (omega (arith, lt))
   places_set log back k zero n (None ∷ ps) d e lt a h =
       let here : n ≡ k = omega (arith, e) in
@@ -58,7 +60,8 @@ module _ {T D : Type 0} (did : T → D → Type 0) where
       (omega (arith, m, h.0), h.1, places_set log back (suc k) i n ps d (omega (arith, e)) (omega (arith, lt)) a h.2)
 
   -- the place of a number that was never answered is open
-  pub missing_set : (log : List T) (back : List ℕ) (k i n : ℕ) (ps : List (Option D)) (d : D) → n ≡ k + i → i < length ps → times n back ≡ 0 → Places did log back k ps → missing (set ps i (Some d)) + 1 ≡ missing ps
+  pub missing_set : (log : List T) (back : List ℕ) (k i n : ℕ) (ps : List (Option D)) (d : D) → n ≡ k + i → i < length ps → times n back ≡ 0 → Places did log back k ps
+      → missing (set ps i (Some d)) + 1 ≡ missing ps
   missing_set log back k i n [] d e lt none h = absurd (omega (arith, lt))
   missing_set log back k zero n (None ∷ ps) d e lt none h = omega arith
   missing_set log back k zero n (Some x ∷ ps) d e lt none h =

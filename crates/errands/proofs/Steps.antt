@@ -1,5 +1,6 @@
 -- Each kind of step keeps the rule of the desk.
-use Rattle.std.proofs.Common.{◌≡◌, ◌≢◌, ℕ, zero, suc, ◌+◌, ◌≤◌, ◌<◌, ◌⊎◌, inl, inr, Bool, true, false, true≢false, List, [], ◌∷◌, ◌++◌, length, set, sym, refl, ap, ◌∙◌, subst, ⊎_elim, arith, length-append, cond}
+use Rattle.std.proofs.Common.{◌≡◌, ◌≢◌, ℕ, zero, suc, ◌+◌, ◌≤◌, ◌<◌, ◌⊎◌, inl, inr, Bool, true, false, true≢false, List, [], ◌∷◌, ◌++◌, length, set, sym, refl, ap, ◌∙◌, subst, ⊎_elim, arith}
+use Rattle.std.proofs.Common.{length-append, cond}
 use Rattle.std.specs.Prelude.{◌==◌}
 use Rattle.std.specs.List.{sum_by, AllByRecursion}
 use Rattle.std.proofs.lemmas.List.Sums.{sum_by-cons, sum_by-append, sum_by_push}
@@ -87,7 +88,8 @@ module _ {T : Type 0} where
               let s = sums k in
               let before = kept.4 k in
               let none : length kept.1 ≤ k → used k items views ≡ 0 = kept.5 k in
-              few k (length kept.1) (used k items views) (used k (items ++ x ∷ []) (set views port w)) (one k x.number) s before (one_few k x.number) none (λ lt. one_else k x.number (λ e. absurd (omega (arith, lt, e, number, len))))),
+              few k (length kept.1) (used k items views) (used k (items ++ x ∷ []) (set views port w)) (one k x.number) s before (one_few k x.number) none
+              (λ lt. one_else k x.number (λ e. absurd (omega (arith, lt, e, number, len))))),
           (λ k le.
               let s = sums k in
               let long : length log ≡ length v.log + 1 = length-append v.log (x.task ∷ []) in
@@ -125,7 +127,8 @@ module _ {T : Type 0} where
       )
 
   -- a pass is cut in two: each half has no more than the whole
-  cuts : (port : ℕ) (v l r : Slip T) → (l.gives ≡ true → (v.gives ≡ true) × (l.log ≡ v.log)) → r.gives ≡ false → ((log : List T) → ClaimIn log v.number v.task → ClaimIn log l.number l.task × ClaimIn log r.number r.task)
+  cuts : (port : ℕ) (v l r : Slip T) → (l.gives ≡ true → (v.gives ≡ true) × (l.log ≡ v.log)) → r.gives ≡ false → ((log : List T) → ClaimIn log v.number v.task
+      → ClaimIn log l.number l.task × ClaimIn log r.number r.task)
       → ((k : ℕ) → uses k l + uses k r ≤ uses k v) → Forks Kept port v l r
   cuts port v l r gives plain claim less items views kept at =
       let mine = kept.3 port v at in
@@ -164,7 +167,8 @@ module _ {T : Type 0} where
       let both : Slip T = slip v.gives v.log v.back u.number u.task in
       let mine = kept.3 port v at in
       let vs = set views port both in
-      let was : get_elem? views other ≡ some u = ⊎_elim (λ (t : (other ≡ port) × (both ≡ u)). absurd (apart t.0)) (λ (t : (other ≢ port) × (get_elem? views other ≡ some u)). t.1) (at_set views port other both u there) in
+      let was : get_elem? views other ≡ some u = ⊎_elim (λ (t : (other ≡ port) × (both ≡ u)). absurd (apart t.0)) (λ (t : (other ≢ port) × (get_elem? views other ≡ some u)). t.1)
+      (at_set views port other both u there) in
       let theirs = kept.3 other u was in
       let none : (k : ℕ) → claims k v.number v.task ≡ 0 = λ k. ap (λ (t : List T). claims k v.number t) bare in
       let sums : (k : ℕ) → used k items (set vs other blank) ≤ used k items views = λ k.

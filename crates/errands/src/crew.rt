@@ -331,7 +331,8 @@ pub fn do_all<T: Drop, D: Drop, J: Job<T, D>, N: Naming, R: Wait>(
     requires own { (asker.old.desk ≡ errands.now) × (runner.old ≡ errands.now) × (errands.now ≡ N.desk) }
     requires before { AllBack (length asker.old.log) asker.old.back }
     requires none { (places.old.items ≡ []) × (done.old.items ≡ []) }
-    requires room { (length tasks.old.items ≤ vec_capacity places.old) × (length tasks.old.items ≤ deque_capacity done.old) }
+    requires room { (length tasks.old.items ≤ vec_capacity places.old)
+        × (length tasks.old.items ≤ deque_capacity done.old) }
     ensures own { (asker.new.desk ≡ asker.old.desk) × (runner.new ≡ runner.old) }
     ensures before { AllBack (length asker.new.log) asker.new.back }
     ensures none { (tasks.new.items ≡ []) × (places.new.items ≡ []) }

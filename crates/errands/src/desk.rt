@@ -44,7 +44,8 @@ impl<T> Model for Asker<T> {
 
     ghost view = { λ a. record { desk = a.pass.table_id; log = (known a.pass).log; back = (known a.pass).back } };
 
-    ghost invariant = { λ a. IsAsking a.pass × (length (known a.pass).log ≡ a.asked) × ((k : ℕ) → a.asked ≤ k → times k (known a.pass).back ≡ 0) };
+    ghost invariant = { λ a. IsAsking a.pass × (length (known a.pass).log ≡ a.asked)
+        × ((k : ℕ) → a.asked ≤ k → times k (known a.pass).back ≡ 0) };
 }
 
 /// Who takes tasks.
@@ -184,7 +185,8 @@ fn push_task<T: Drop, R: Wait>(
     requires gives { (view pass.old).gives ≡ true }
     requires number { item.number ≡ length (view pass.old).log }
     ensures own { IsSamePass pass.old pass.new }
-    ensures view { view pass.new ≡ slip (view pass.old).gives ((view pass.old).log ++ item.task ∷ []) (view pass.old).back (view pass.old).number (view pass.old).task }
+    ensures view { view pass.new ≡ slip (view pass.old).gives ((view pass.old).log ++ item.task ∷ [])
+        (view pass.old).back (view pass.old).number (view pass.old).task }
 {
     let mut waiting = item;
     for _ in rt.forever() {

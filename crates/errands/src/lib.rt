@@ -6,10 +6,10 @@
 //!      └────────────── the answer, and the note: "task 7 of all that were asked" ─────┘
 //! ```
 //!
-//! Threads that live for a whole run do the tasks of its rounds, and no thread is started in a round. What such a thread did is known before it
-//! ends, and so before any join: a task leaves the desk with a *note*, which claims that this task is the one of its number among all that were
-//! asked, and the queue's rule (`specs/Rule`) keeps each claim true. Who asked takes the note in with the answer, and learns that its own list
-//! has just that task there.
+//! Threads that live for a whole run do the tasks of its rounds, and no thread is started in a round. What such a
+//! thread did is known before it ends, and so before any join: a task leaves the desk with a *note*, which claims that
+//! this task is the one of its number among all that were asked, and the queue's rule (`specs/Rule`) keeps each claim
+//! true. Who asked takes the note in with the answer, and learns that its own list has just that task there.
 //!
 //! | | |
 //! |---|---|
@@ -19,10 +19,10 @@
 //! | [`Job`] | what is done of a task |
 //! | [`Works`] | all tasks of a list, done by the thread that calls ([`Alone`]) or by a crew ([`Crew`]) |
 //!
-//! Proved: `task`, `first` of `Errands::redeem`: a note's task is the one of its number, and no note of that number came before. `did` of
-//! `do_all` and of `Works::do_tasks`: each answer is one of its task, in the order of the tasks, whoever did it and in whatever order. Only
-//! tested: that several run at once. Not said: that a thread runs or is woken; who asks runs tasks itself while it waits, so a run ends
-//! without any runner.
+//! Proved: `task`, `first` of `Errands::redeem`: a note's task is the one of its number, and no note of that number
+//! came before. `did` of `do_all` and of `Works::do_tasks`: each answer is one of its task, in the order of the tasks,
+//! whoever did it and in whatever order. Only tested: that several run at once. Not said: that a thread runs or is
+//! woken; who asks runs tasks itself while it waits, so a run ends without any runner.
 #![tactic(auto)]
 
 mod crew;

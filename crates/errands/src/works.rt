@@ -10,7 +10,8 @@ use std::collections::VecDeque;
 use std::marker::Model;
 use std::sync::Wait;
 
-/// Who does tasks. A body over this trait serves a thread that works alone and a crew, since asking a crew starts no thread.
+/// Who does tasks. A body over this trait serves a thread that works alone and a crew, since asking a crew starts no
+/// thread.
 pub trait Works<T, D> {
     ghost did: { T → D → Type 0 };
 
@@ -72,7 +73,8 @@ impl<'a, T: Drop, D: Drop, J: Job<T, D>, N: Naming, R> Model for Crew<'a, T, D, 
 
     ghost view = { λ c. c.asker.desk };
 
-    ghost invariant = { λ c. (c.asker.desk ≡ N.desk) × (c.runner ≡ N.desk) × (c.errands.now ≡ N.desk) × AllBack (length c.asker.log) c.asker.back × (c.places.items ≡ []) };
+    ghost invariant = { λ c. (c.asker.desk ≡ N.desk) × (c.runner ≡ N.desk) × (c.errands.now ≡ N.desk)
+        × AllBack (length c.asker.log) c.asker.back × (c.places.items ≡ []) };
 }
 
 impl<'a, T: Drop, D: Drop, J: Job<T, D>, N: Naming, R> Crew<'a, T, D, J, N, R> {

@@ -2,7 +2,8 @@
 
 ghost use Rattle.std.specs.Prelude.{◌≡◌, ◌↔◌, ◌+◌, ◌≤◌, true, length, IsSome, IfSome};
 ghost use Rattle.net_bytes.specs.View.{Placed};
-ghost use Rattle.eth_vlan.specs.Ethernet.{is_there, destination as destination_of, source as source_of, ether_type as ether_type_of};
+ghost use Rattle.eth_vlan.specs.Ethernet.{is_there, destination as destination_of, source as source_of};
+ghost use Rattle.eth_vlan.specs.Ethernet.{ether_type as ether_type_of};
 
 use net_bytes::{be16, is_inside};
 use std::marker::Model;

@@ -1,8 +1,8 @@
 //! The header of an Ethernet frame (IEEE 802.3, clause 3.2) and the VLAN tags behind it (IEEE 802.1Q, clause 9.6).
 //!
-//! [`EthView`] and [`TagView`] read the fields of a header that stands in a frame. `read` gives a view exactly where the
-//! header's bytes are there (`found`), and each reader gives the number or the address in the field's bytes (`field`).
-//! Whether a tag follows is said by the type before it: [`is_tag`].
+//! [`EthView`] and [`TagView`] read the fields of a header that stands in a frame. `read` gives a view exactly where
+//! the header's bytes are there (`found`), and each reader gives the number or the address in the field's bytes
+//! (`field`). Whether a tag follows is said by the type before it: [`is_tag`].
 //!
 //! ```
 //! let Some(ethernet) = EthView::read(frame, 0) else { return None; };

@@ -64,7 +64,8 @@ back n (p ∷ ps) = cond (nat_lt n (p.to - p.from)) (cond (n == 0) (p ∷ ps) (r
 -- the part that is cut at n has nothing to give
 abbrev pub cut_worn : ℕ → List Piece → Bool
 cut_worn n [] = false
-cut_worn n (p ∷ ps) = cond (nat_lt n (p.to - p.from)) (cond (n == 0) false (p.part.weight == 1)) (cut_worn (n - (p.to - p.from)) ps)
+cut_worn n (p ∷ ps) = cond (nat_lt n (p.to - p.from)) (cond (n == 0) false (p.part.weight == 1))
+    (cut_worn (n - (p.to - p.from)) ps)
 
 -- what `split_at` answers, of the pieces before and after
 abbrev pub IsSplit : ℕ → List Piece → List Piece → Result (List Piece) ShareFault → Type 0

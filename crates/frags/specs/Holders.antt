@@ -19,6 +19,8 @@ AsPart (Sole s) p = (p.weight ≡ full_weight) × (p.life.block ≡ s.block) × 
 AsPart (Part q) p = p ≡ q
 
 -- what `append_all` answers, of the pieces before and after
-abbrev pub IsAppend : List Piece → Holder → ℕ → ℕ → List Piece → List Piece → Result Unit (Holder × List Piece × AllocError) → Type 0
-IsAppend a h from to others b (Ok _) = (p : PartState) × (AsPart h p × (b ≡ a ++ (record { part = p; from = from; to = to }) ∷ others))
+abbrev pub IsAppend : List Piece → Holder → ℕ → ℕ → List Piece → List Piece
+    → Result Unit (Holder × List Piece × AllocError) → Type 0
+IsAppend a h from to others b (Ok _) = (p : PartState) × (AsPart h p
+    × (b ≡ a ++ (record { part = p; from = from; to = to }) ∷ others))
 IsAppend a h from to others b (Err e) = (e.0 ≡ h) × (e.1 ≡ others) × (b ≡ a)

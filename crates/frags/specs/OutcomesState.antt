@@ -1,4 +1,5 @@
--- What a contract sees of what was given back: Soles and receipts in order of return, and the places that are reserved for more.
+-- What a contract sees of what was given back: Soles and receipts in order of return, and the places that are reserved
+-- for more.
 use Rattle.std.specs.Prelude.{ℕ, ◌≡◌, List, []}
 use Rattle.raw_block.specs.Views.{SoleState, ReceiptState}
 

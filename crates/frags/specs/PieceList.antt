@@ -1,5 +1,6 @@
 -- Pieces of shared blocks, as a list of bytes.
-use Rattle.std.specs.Prelude.{ℕ, ◌≡◌, ◌+◌, ◌-◌, ◌<◌, ◌≤◌, List, [], ◌∷◌, ◌++◌, cond, ◌==◌, nat_lt, length, slice_range, slice_index_or, min}
+use Rattle.std.specs.Prelude.{ℕ, ◌≡◌, ◌+◌, ◌-◌, ◌<◌, ◌≤◌, List, [], ◌∷◌, ◌++◌, cond, ◌==◌, nat_lt, length, slice_range}
+use Rattle.std.specs.Prelude.{slice_index_or, min}
 use Rattle.ref_core.specs.WeightRule.{full_weight, IsWeight}
 use Rattle.frags.specs.Account.{Account, Tests, counted}
 use Rattle.frags.specs.declared.pieces.Piece.{Piece}
@@ -32,7 +33,8 @@ of_pieces ps = record { held = λ t m. pieces_held t m ps; homes = λ bs m. 0 }
 -- the pieces without their first n bytes
 abbrev pub cut_front : ℕ → List Piece → List Piece
 cut_front n [] = []
-cut_front n (p ∷ ps) = cond (nat_lt n (p.to - p.from)) (record p { from = p.from + n } ∷ ps) (cut_front (n - (p.to - p.from)) ps)
+cut_front n (p ∷ ps) = cond (nat_lt n (p.to - p.from)) (record p { from = p.from + n } ∷ ps)
+    (cut_front (n - (p.to - p.from)) ps)
 
 -- the pieces of the first n bytes
 abbrev pub keep_front : ℕ → List Piece → List Piece
@@ -43,7 +45,8 @@ keep_front n (p ∷ ps) = cond (n == 0) [] (cond (nat_lt n (p.to - p.from)) (rec
 -- the byte at a place of the first piece that reaches so far
 abbrev pub byte_in : ℕ → List Piece → ℕ
 byte_in n [] = 0
-byte_in n (p ∷ ps) = cond (nat_lt n (p.to - p.from)) (slice_index_or p.part.bytes (p.from + n) 0) (byte_in (n - (p.to - p.from)) ps)
+byte_in n (p ∷ ps) = cond (nat_lt n (p.to - p.from)) (slice_index_or p.part.bytes (p.from + n) 0)
+    (byte_in (n - (p.to - p.from)) ps)
 
 -- the least weight of a part, the full weight where there is none
 abbrev pub least_weight : List Piece → ℕ

@@ -14,9 +14,11 @@ of_lives f = record { blocks = all_blocks; lives = f }
 -- the account by marks, whichever the blocks that bear them
 abbrev pub KeepsSums : Account → Account → Type 0
 KeepsSums a b = (f : Life → Bool) (m : ℕ) → (b.held (of_lives f) m ≤ a.held (of_lives f) m)
-    × (a.held (of_lives f) m + full_weight * a.homes all_blocks m ≤ b.held (of_lives f) m + full_weight * b.homes all_blocks m)
+    × (a.held (of_lives f) m + full_weight * a.homes all_blocks m ≤ b.held (of_lives f) m + full_weight
+    * b.homes all_blocks m)
 
--- No weight is made up. At each of the first n marks where no Sole is at home, none was, and all that was held still is.
+-- No weight is made up. At each of the first n marks where no Sole is at home, none was, and all that was held still
+-- is.
 abbrev pub Settles : ℕ → Account → Account → Type 0
 Settles n a b = (m : ℕ) → ((f : Life → Bool) → b.held (of_lives f) m ≤ a.held (of_lives f) m)
     × (m < n → b.homes all_blocks m ≡ 0 → (a.homes all_blocks m ≡ 0)

@@ -1,21 +1,22 @@
-//! Lists of pieces of shared blocks, as the field knows them from the fragments of Linux's `struct sk_buff`, and what is
-//! left of them when they are given back.
+//! Lists of pieces of shared blocks, as the field knows them from the fragments of Linux's `struct sk_buff`, and what
+//! is left of them when they are given back.
 //!
-//! `Pieces` is a list of parts of blocks, each with the range of its bytes that counts. Contracts see the list, and of it
-//! the bytes (`bytes_of`), the number of pieces and the weights (`specs/PieceList.antt`). Each call is an operation on that
-//! list: `append` and `join_back` put at the end, `cut_front` drops, `split_at` takes and drops, `share` gives every part's
-//! `max(1, weight / 4096)` to a second list. No byte is copied but by `copy_out`, which fills the caller's slice.
+//! `Pieces` is a list of parts of blocks, each with the range of its bytes that counts. Contracts see the list, and of
+//! it the bytes (`bytes_of`), the number of pieces and the weights (`specs/PieceList.antt`). Each call is an operation
+//! on that list: `append` and `join_back` put at the end, `cut_front` drops, `split_at` takes and drops, `share` gives
+//! every part's `max(1, weight / 4096)` to a second list. No byte is copied but by `copy_out`, which fills the caller's
+//! slice.
 //!
-//! `PieceBuilder` puts such a list together in places that `with_room` reserved, so that a caller has its memory before it
-//! moves anything.
+//! `PieceBuilder` puts such a list together in places that `with_room` reserved, so that a caller has its memory before
+//! it moves anything.
 //!
-//! `Outcomes` keeps what releases leave: a Sole or a receipt, in places that `reserve` made, so that giving back takes no
-//! memory. They come in order of return, and the clause `grows` says how many (`specs/Growth.antt`).
+//! `Outcomes` keeps what releases leave: a Sole or a receipt, in places that `reserve` made, so that giving back takes
+//! no memory. They come in order of return, and the clause `grows` says how many (`specs/Growth.antt`).
 //!
-//! Nothing is lost: `specs/Account.antt` counts by blocks, lives and marks what an object holds, and the clauses `kept` and
-//! `sums` say that it stays or that its own block's Sole is at home, `back` that a refused call hands it back, and `marks` the
-//! same over all lives of a block, where a Sole is shared and a life begins. `Keeps` adds up over calls by arithmetic alone.
-//! What follows over a round is in `specs/RoundAccount.antt`.
+//! Nothing is lost: `specs/Account.antt` counts by blocks, lives and marks what an object holds, and the clauses `kept`
+//! and `sums` say that it stays or that its own block's Sole is at home, `back` that a refused call hands it back, and
+//! `marks` the same over all lives of a block, where a Sole is shared and a life begins. `Keeps` adds up over calls by
+//! arithmetic alone. What follows over a round is in `specs/RoundAccount.antt`.
 //!
 //! ```
 //! let mut pieces = Pieces::new(alloc);

@@ -10,7 +10,8 @@ use raw_block::{Part, Receipt, Released, Sole};
 use std::alloc::{AllocError, Global};
 use std::marker::Model;
 
-/// The Soles and receipts that were given back, in order of return. It must be spent: by `settle`, once no Sole is in it.
+/// The Soles and receipts that were given back, in order of return. It must be spent: by `settle`, once no Sole is in
+/// it.
 pub struct Outcomes {
     soles: Vec<Sole>,
     receipts: Vec<Receipt>,
@@ -22,7 +23,12 @@ impl Model for Outcomes {
 
     ghost Value = { OutcomesState };
 
-    ghost view = { λ o. record { soles = o.soles.items; receipts = o.receipts.items; spare = min (vec_capacity o.soles - vec_len o.soles) (vec_capacity o.receipts - vec_len o.receipts) } };
+    ghost view = { λ o. record {
+      soles = o.soles.items;
+      receipts = o.receipts.items;
+      spare = min
+          (vec_capacity o.soles - vec_len o.soles) (vec_capacity o.receipts - vec_len o.receipts);
+    } };
 }
 
 impl Outcomes {
@@ -51,7 +57,8 @@ impl Outcomes {
         }
     }
 
-    /// Holds these Soles, with no place for a receipt: for a caller that has none, and so saves the memory of their list.
+    /// Holds these Soles, with no place for a receipt: for a caller that has none, and so saves the memory of their
+    /// list.
     pub fn of_soles(soles: Vec<Sole>) -> Outcomes
         ensures soles { result.soles ≡ soles.items }
         ensures receipts { result.receipts ≡ [] }
@@ -60,8 +67,8 @@ impl Outcomes {
         Outcomes { soles, receipts }
     }
 
-    /// Room for `n` Soles and `n` receipts more, so that giving them back takes no memory. What is reserved stays so, also where
-    /// there is no memory for more.
+    /// Room for `n` Soles and `n` receipts more, so that giving them back takes no memory. What is reserved stays so,
+    /// also where there is no memory for more.
     pub fn reserve(&mut self, n: usize) -> Result<(), AllocError>
         ensures same { (self.new.soles ≡ self.old.soles) × (self.new.receipts ≡ self.old.receipts) }
         ensures room { OnOk result (n ≤ self.new.spare) }
@@ -108,8 +115,10 @@ impl Outcomes {
     /// The Sole that came last. None exactly where there is none.
     pub fn pop_sole(&mut self) -> Option<Sole>
         ensures receipts { self.new.receipts ≡ self.old.receipts }
-        ensures soles { MatchOption result ((self.old.soles ≡ []) × (self.new.soles ≡ [])) (λ s. self.old.soles ≡ self.new.soles ++ s ∷ []) }
-        ensures kept { MatchOption result (Keeps (of_outcomes self.old) (of_outcomes self.new)) (λ s. Keeps (of_outcomes self.old) (both (of_sole s) (of_outcomes self.new))) }
+        ensures soles { MatchOption result ((self.old.soles ≡ []) × (self.new.soles ≡ []))
+            (λ s. self.old.soles ≡ self.new.soles ++ s ∷ []) }
+        ensures kept { MatchOption result (Keeps (of_outcomes self.old) (of_outcomes self.new))
+            (λ s. Keeps (of_outcomes self.old) (both (of_sole s) (of_outcomes self.new))) }
         ensures places { self.old.spare ≤ self.new.spare }
     {
         self.soles.pop()
@@ -118,8 +127,10 @@ impl Outcomes {
     /// The receipt that came last. None exactly where there is none.
     pub fn pop_receipt(&mut self) -> Option<Receipt>
         ensures soles { self.new.soles ≡ self.old.soles }
-        ensures receipts { MatchOption result ((self.old.receipts ≡ []) × (self.new.receipts ≡ [])) (λ r. self.old.receipts ≡ self.new.receipts ++ r ∷ []) }
-        ensures kept { MatchOption result (Keeps (of_outcomes self.old) (of_outcomes self.new)) (λ r. Keeps (of_outcomes self.old) (both (of_receipt r) (of_outcomes self.new))) }
+        ensures receipts { MatchOption result ((self.old.receipts ≡ []) × (self.new.receipts ≡ []))
+            (λ r. self.old.receipts ≡ self.new.receipts ++ r ∷ []) }
+        ensures kept { MatchOption result (Keeps (of_outcomes self.old) (of_outcomes self.new))
+            (λ r. Keeps (of_outcomes self.old) (both (of_receipt r) (of_outcomes self.new))) }
         ensures places { self.old.spare ≤ self.new.spare }
     {
         self.receipts.pop()
@@ -142,7 +153,8 @@ impl Outcomes {
     /// Releases a part, and keeps what that leaves: its block's Sole, or a receipt of its weight.
     pub fn give_back(&mut self, part: Part)
         requires spare { 1 ≤ self.old.spare }
-        ensures gave { (r : Released) × (IsReleased part r × ((part.weight ≡ full_weight) → IsLast r) × Behind r self.old self.new) }
+        ensures gave { (r : Released) × (IsReleased part r × ((part.weight ≡ full_weight) → IsLast r)
+            × Behind r self.old self.new) }
         ensures grows { Grows 1 self.old self.new }
         ensures kept { Keeps (both (of_part part) (of_outcomes self.old)) (of_outcomes self.new) }
         ensures places { self.old.spare ≤ self.new.spare + 1 }

@@ -1,5 +1,6 @@
 //! Pieces of shared blocks, as one run of bytes.
-ghost use Rattle.std.specs.Prelude.{◌≡◌, ℕ, ◌+◌, ◌-◌, ◌<◌, ◌≤◌, ◌^◌, [], ◌∷◌, ◌++◌, length, MatchResult, MatchOption, IfOk, IfErr, drop, take, min, slice_index_or, slice_range, Bool, false};
+ghost use Rattle.std.specs.Prelude.{◌≡◌, ℕ, ◌+◌, ◌-◌, ◌<◌, ◌≤◌, ◌^◌, [], ◌∷◌, ◌++◌, length, MatchResult, MatchOption};
+ghost use Rattle.std.specs.Prelude.{IfOk, IfErr, drop, take, min, slice_index_or, slice_range, Bool, false};
 ghost use Rattle.frags.specs.declared.pieces.Piece.{Piece};
 ghost use Rattle.frags.specs.declared.holder.Holder.{Holder};
 ghost use Rattle.raw_block.specs.Views.{PartState};
@@ -7,7 +8,8 @@ ghost use Rattle.frags.specs.Account.{Tests, Keeps, KeepsMarks, both, of_part, o
 ghost use Rattle.frags.specs.Growth.{Grows};
 ghost use Rattle.frags.specs.Gifts.{IsShare, IsSplit, front, cut_worn, worn};
 ghost use Rattle.frags.specs.Holders.{IsAppend};
-ghost use Rattle.frags.specs.PieceList.{bytes_of, piece_bytes, pieces_held, Fits, AllFit, size_of, of_pieces, byte_in, keep_front, least_weight, cut_front};
+ghost use Rattle.frags.specs.PieceList.{bytes_of, piece_bytes, pieces_held, Fits, AllFit, size_of, of_pieces, byte_in};
+ghost use Rattle.frags.specs.PieceList.{keep_front, least_weight, cut_front};
 
 use crate::cuts::split_into;
 use crate::{Holder, Outcomes, give_share};
@@ -25,7 +27,8 @@ pub struct Piece {
     pub to: usize,
 }
 
-/// A list of pieces of blocks that others may hold too, as one run of fewer than 2^32 bytes. It must be spent: released.
+/// A list of pieces of blocks that others may hold too, as one run of fewer than 2^32 bytes. It must be spent:
+/// released.
 pub struct Pieces {
     pub(crate) items: VecDeque<Piece>,
     pub(crate) size: usize,
@@ -163,9 +166,11 @@ impl Pieces {
     pub fn append(&mut self, part: Part, from: usize, to: usize) -> Result<(), (Part, AllocError)>
         requires range { (from < to) × (to ≤ 2048) }
         requires small { size_of self.old + (to - from) < 2 ^ 32 }
-        ensures appended { MatchResult result (λ _. self.new ≡ self.old ++ (record { part = part; from = from; to = to }) ∷ []) (λ e. (self.new ≡ self.old) × (e.0 ≡ part)) }
+        ensures appended { MatchResult result (λ _. self.new ≡ self.old
+            ++ (record { part = part; from = from; to = to }) ∷ []) (λ e. (self.new ≡ self.old) × (e.0 ≡ part)) }
         ensures kept { IfOk result (λ _. Keeps (both (of_pieces self.old) (of_part part)) (of_pieces self.new)) }
-        ensures back { IfErr result (λ e. Keeps (both (of_pieces self.old) (of_part part)) (both (of_pieces self.new) (of_part e.0))) }
+        ensures back { IfErr result (λ e. Keeps (both (of_pieces self.old) (of_part part))
+            (both (of_pieces self.new) (of_part e.0))) }
     {
         let _ = part.bytes();
         let _ = part.weight();
@@ -185,8 +190,8 @@ impl Pieces {
         }
     }
 
-    /// A holder's bytes `from..to` follow, and other pieces after them, uncopied. A Sole becomes a part, once there is memory;
-    /// where there is none both come back as they were.
+    /// A holder's bytes `from..to` follow, and other pieces after them, uncopied. A Sole becomes a part, once there is
+    /// memory; where there is none both come back as they were.
     pub fn append_all(
         &mut self,
         holder: Holder,
@@ -197,9 +202,12 @@ impl Pieces {
         requires range { (from < to) × (to ≤ 2048) }
         requires small { size_of self.old + (to - from) + size_of others < 2 ^ 32 }
         ensures appended { IsAppend self.old holder from to others self.new result }
-        ensures kept { IfOk result (λ _. (p : PartState) → holder ≡ Holder.Part p → Keeps (both (of_pieces self.old) (both (of_part p) (of_pieces others))) (of_pieces self.new)) }
-        ensures marks { IfOk result (λ _. KeepsMarks (both (of_pieces self.old) (both (of_holder holder) (of_pieces others))) (of_pieces self.new)) }
-        ensures back { IfErr result (λ e. Keeps (both (of_pieces self.old) (both (of_holder holder) (of_pieces others))) (both (of_pieces self.new) (both (of_holder e.0) (of_pieces e.1)))) }
+        ensures kept { IfOk result (λ _. (p : PartState) → holder ≡ Holder.Part p
+            → Keeps (both (of_pieces self.old) (both (of_part p) (of_pieces others))) (of_pieces self.new)) }
+        ensures marks { IfOk result (λ _. KeepsMarks (both (of_pieces self.old)
+            (both (of_holder holder) (of_pieces others))) (of_pieces self.new)) }
+        ensures back { IfErr result (λ e. Keeps (both (of_pieces self.old) (both (of_holder holder) (of_pieces others)))
+            (both (of_pieces self.new) (both (of_holder e.0) (of_pieces e.1)))) }
     {
         if self.items.reserve(others.items.len() + 1).is_err() {
             return Err((holder, others, AllocError));
@@ -225,9 +233,11 @@ impl Pieces {
     /// The other's pieces follow, uncopied. Where there is no memory for them the other comes back.
     pub fn join_back(&mut self, other: Pieces) -> Result<(), (Pieces, AllocError)>
         requires small { size_of self.old + size_of other < 2 ^ 32 }
-        ensures joined { MatchResult result (λ _. self.new ≡ self.old ++ other) (λ e. (self.new ≡ self.old) × (e.0 ≡ other)) }
+        ensures joined { MatchResult result (λ _. self.new ≡ self.old ++ other)
+            (λ e. (self.new ≡ self.old) × (e.0 ≡ other)) }
         ensures kept { IfOk result (λ _. Keeps (both (of_pieces self.old) (of_pieces other)) (of_pieces self.new)) }
-        ensures back { IfErr result (λ e. Keeps (both (of_pieces self.old) (of_pieces other)) (both (of_pieces self.new) (of_pieces e.0))) }
+        ensures back { IfErr result (λ e. Keeps (both (of_pieces self.old) (of_pieces other))
+            (both (of_pieces self.new) (of_pieces e.0))) }
     {
         let Pieces { mut items, size } = other;
         match self.items.append(&mut items) {
@@ -256,9 +266,12 @@ impl Pieces {
     #[tactic(auto, using(crate::proofs::PieceBytes::cut_bytes))]
     pub fn cut_front(&mut self, n: usize, out: &mut Outcomes) -> Result<(), Short>
         requires spare { length self.old ≤ out.old.spare }
-        ensures spans { MatchResult result (λ _. (n ≤ size_of self.old) × (self.new ≡ cut_front n self.old)) (λ e. (e.have ≡ size_of self.old) × (e.need ≡ n) × (size_of self.old < n) × (self.new ≡ self.old) × (out.new ≡ out.old)) }
+        ensures spans { MatchResult result (λ _. (n ≤ size_of self.old) × (self.new ≡ cut_front n self.old))
+            (λ e. (e.have ≡ size_of self.old) × (e.need ≡ n) × (size_of self.old < n) × (self.new ≡ self.old)
+            × (out.new ≡ out.old)) }
         ensures bytes { IfOk result (λ _. bytes_of self.new ≡ drop n (bytes_of self.old)) }
-        ensures kept { Keeps (both (of_pieces self.old) (of_outcomes out.old)) (both (of_pieces self.new) (of_outcomes out.new)) }
+        ensures kept { Keeps (both (of_pieces self.old) (of_outcomes out.old))
+            (both (of_pieces self.new) (of_outcomes out.new)) }
         ensures fewer { length self.new ≤ length self.old }
         ensures grows { Grows (length self.old - length self.new) out.old out.new }
         ensures places { out.old.spare + length self.new ≤ out.new.spare + length self.old }
@@ -288,9 +301,13 @@ impl Pieces {
     /// The last `n` bytes are gone. Pieces that are wholly cut are given back. `Short` exactly where `n > len()`.
     pub fn cut_back(&mut self, n: usize, out: &mut Outcomes) -> Result<(), Short>
         requires spare { length self.old ≤ out.old.spare }
-        ensures cut { MatchResult result (λ _. (n ≤ size_of self.old) × (self.new ≡ keep_front (size_of self.old - n) self.old)) (λ e. (e.have ≡ size_of self.old) × (e.need ≡ n) × (size_of self.old < n) × (self.new ≡ self.old) × (out.new ≡ out.old)) }
+        ensures cut { MatchResult result (λ _. (n ≤ size_of self.old)
+            × (self.new ≡ keep_front (size_of self.old - n) self.old))
+            (λ e. (e.have ≡ size_of self.old) × (e.need ≡ n) × (size_of self.old < n) × (self.new ≡ self.old)
+            × (out.new ≡ out.old)) }
         ensures bytes { IfOk result (λ _. bytes_of self.new ≡ take (size_of self.old - n) (bytes_of self.old)) }
-        ensures kept { Keeps (both (of_pieces self.old) (of_outcomes out.old)) (both (of_pieces self.new) (of_outcomes out.new)) }
+        ensures kept { Keeps (both (of_pieces self.old) (of_outcomes out.old))
+            (both (of_pieces self.new) (of_outcomes out.new)) }
         ensures fewer { length self.new ≤ length self.old }
         ensures grows { Grows (length self.old - length self.new) out.old out.new }
         ensures places { out.old.spare + length self.new ≤ out.new.spare + length self.old }
@@ -316,15 +333,16 @@ impl Pieces {
         Ok(())
     }
 
-    /// A second list of the same bytes, uncopied. Each part gives `max(1, weight / 4096)` away and keeps its life. `Worn`
-    /// exactly where some part weighs 1, which is judged before memory. A refusal changes nothing.
+    /// A second list of the same bytes, uncopied. Each part gives `max(1, weight / 4096)` away and keeps its life.
+    /// `Worn` exactly where some part weighs 1, which is judged before memory. A refusal changes nothing.
     pub fn share(&mut self) -> Result<Pieces, ShareFault>
         ensures share { IsShare self.old self.new result }
         ensures same { IfErr result (λ _. self.new ≡ self.old) }
         ensures count { IfOk result (λ c. (length self.new ≡ length self.old) × (length c ≡ length self.old)) }
         ensures sizes { IfOk result (λ c. (size_of self.new ≡ size_of self.old) × (size_of c ≡ size_of self.old)) }
         ensures bytes { IfOk result (λ c. (bytes_of self.new ≡ bytes_of self.old) × (bytes_of c ≡ bytes_of self.old)) }
-        ensures sums { IfOk result (λ c. (t : Tests) (m : ℕ) → pieces_held t m self.new + pieces_held t m c ≡ pieces_held t m self.old) }
+        ensures sums { IfOk result (λ c. (t : Tests) (m : ℕ)
+            → pieces_held t m self.new + pieces_held t m c ≡ pieces_held t m self.old) }
     {
         if self.is_worn() {
             return Err(ShareFault::Worn);
@@ -348,16 +366,18 @@ impl Pieces {
         })
     }
 
-    /// Keeps the first `at` bytes, and answers the rest, as std's `split_off` does. `Short` exactly where `at > len()`; then
-    /// `Worn` exactly where `at` falls inside a piece whose part weighs 1; then memory. Of a part that is cut the front keeps
-    /// `max(1, weight / 4096)`, and the rest what remains. A refusal changes nothing.
+    /// Keeps the first `at` bytes, and answers the rest, as std's `split_off` does. `Short` exactly where `at > len()`;
+    /// then `Worn` exactly where `at` falls inside a piece whose part weighs 1; then memory. Of a part that is cut the
+    /// front keeps `max(1, weight / 4096)`, and the rest what remains. A refusal changes nothing.
     pub fn split_at(&mut self, at: usize) -> Result<Pieces, ShareFault>
         ensures split { IsSplit at self.old self.new result }
         ensures same { IfErr result (λ _. self.new ≡ self.old) }
         ensures count { IfOk result (λ c. length self.new + length c ≤ length self.old + 1) }
         ensures sizes { IfOk result (λ c. size_of self.new + size_of c ≡ size_of self.old) }
-        ensures bytes { IfOk result (λ c. (bytes_of self.old ≡ bytes_of self.new ++ bytes_of c) × (size_of self.new ≡ at)) }
-        ensures sums { IfOk result (λ c. (t : Tests) (m : ℕ) → pieces_held t m self.new + pieces_held t m c ≡ pieces_held t m self.old) }
+        ensures bytes { IfOk result (λ c. (bytes_of self.old ≡ bytes_of self.new ++ bytes_of c)
+            × (size_of self.new ≡ at)) }
+        ensures sums { IfOk result (λ c. (t : Tests) (m : ℕ)
+            → pieces_held t m self.new + pieces_held t m c ≡ pieces_held t m self.old) }
     {
         if self.size < at {
             return Err(ShareFault::Short {

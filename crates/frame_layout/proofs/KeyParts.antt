@@ -1,5 +1,6 @@
 -- What receive side scaling reads of a frame's key is what its layers say.
-use Rattle.std.proofs.Common.{◌≡◌, ℕ, zero, suc, ◌+◌, ◌-◌, ◌*◌, ◌<◌, ◌≤◌, inl, inr, Bool, true, false, Option, Some, None, List, [], ◌∷◌, ◌++◌, length, take, drop, refl, sym, ap, ◌∙◌, subst, arith, length-drop}
+use Rattle.std.proofs.Common.{◌≡◌, ℕ, zero, suc, ◌+◌, ◌-◌, ◌*◌, ◌<◌, ◌≤◌, inl, inr, Bool, true, false, Option, Some, None, List, [], ◌∷◌, ◌++◌, length, take, drop, refl, sym, ap, ◌∙◌, subst, arith}
+use Rattle.std.proofs.Common.{length-drop}
 use Rattle.std.specs.Prelude.{◌==◌, ◌||◌, if◌then◌else◌, slice_index}
 use Rattle.std.specs.List.{flat_map}
 use Rattle.std.proofs.lemmas.List.{length-take, drop_more}
@@ -11,7 +12,8 @@ use Rattle.ip_headers.specs.Ip6.{next_header}
 use Rattle.tcp_headers.specs.Udp.{destination_port}
 use Rattle.vxlan.specs.Vxlan.{port}
 use Rattle.vxlan.specs.Gre.{flags as gre_flags}
-use Rattle.frame_layout.specs.Shape.{Layout, header, ip4_there, ip6_there, tcp_from, udp_from, carried_from, ip4_from, ip6_from, network_from, typed_from, ethernet_from, vxlan_from, gre_from, outer_from, shape_of}
+use Rattle.frame_layout.specs.Shape.{Layout, header, ip4_there, ip6_there, tcp_from, udp_from, carried_from, ip4_from, ip6_from, network_from, typed_from, ethernet_from, vxlan_from, gre_from}
+use Rattle.frame_layout.specs.Shape.{outer_from, shape_of}
 use Rattle.frame_layout.specs.Key.{flow_part, key_of}
 use Rattle.frame_layout.specs.Headers.{AtHeaders, IsThere}
 use Rattle.frame_layout.specs.Rss.{has_ports, ports_in, addresses_in, behind_ip, is_tag_mark, behind_tag, from_ip, rss_of, ports_of, rss_in, RssIsOfLayers}
@@ -153,8 +155,10 @@ module _ (f : List ℕ) (bytes : (k : ℕ) → byte f k < 256) where
 
     read_network : (kind at : ℕ) → IsRead (network_from f others kind at)
     read_network kind at =
-        read_if (kind == 0x0800) (ip4_from f others at) (if kind == 0x86dd then ip6_from f others at else None) (read_ip4 at (ip4_there f at) (carried_from f others (protocol f at) (at + 20)) (ports_carried (protocol f at) (at + 20)))
-        (read_if (kind == 0x86dd) (ip6_from f others at) None (read_ip6 at (ip6_there f at) (carried_from f others (next_header f at) (at + 40)) (ports_carried (next_header f at) (at + 40))) read_none)
+        read_if (kind == 0x0800) (ip4_from f others at) (if kind == 0x86dd then ip6_from f others at else None) (read_ip4 at (ip4_there f at) (carried_from f others (protocol f at) (at + 20))
+        (ports_carried (protocol f at) (at + 20)))
+        (read_if (kind == 0x86dd) (ip6_from f others at) None (read_ip6 at (ip6_there f at) (carried_from f others (next_header f at) (at + 40)) (ports_carried (next_header f at) (at + 40)))
+        read_none)
 
     -- the first byte of a tag's type is its mark
     marked : (at : ℕ) → is_tag (be16 f at) ≡ true → is_tag_mark (byte f at) ≡ true

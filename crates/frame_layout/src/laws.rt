@@ -24,8 +24,8 @@ pub fn candidates_are_short()
     ensures law { CandidatesAreShort }
 {}
 
-/// What receive side scaling reads of a frame's key is what the frame's layers say: the addresses of the first IP header, and the
-/// ports of a TCP or UDP header directly behind it.
+/// What receive side scaling reads of a frame's key is what the frame's layers say: the addresses of the first IP
+/// header, and the ports of a TCP or UDP header directly behind it.
 pub fn rss_is_of_layers()
     ensures law { RssIsOfLayers }
 {}

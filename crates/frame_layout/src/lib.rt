@@ -2,11 +2,12 @@
 //!
 //! A frame of Ethernet (with up to two VLAN tags), IPv4 or IPv6, and TCP, or of these behind UDP and VXLAN, has a
 //! [`Layout`]: [`shape`] finds it in the first 200 bytes (clauses `shape` and `front`). [`key`] gives what tells its
-//! flow, and [`queue_of`] the flow's receive queue. [`candidate`] says whether the frame is a plain TCP segment with exact
-//! lengths, right sums and a payload (`candidate`, in both directions), and what is read of it: a [`Seg`]. It needs the
-//! front of the frame and the sum of the rest alone; [`candidate_in`] takes a layout that is known, and the payload's sum.
-//! No call takes memory. [`ip4_sum`] and [`carried_sum`] are the sums that headers before a payload carry, which is known by
-//! its own sum ([`Front`]): a judge compares them with the fields, and who fills in headers writes them.
+//! flow, and [`queue_of`] the flow's receive queue. [`candidate`] says whether the frame is a plain TCP segment with
+//! exact lengths, right sums and a payload (`candidate`, in both directions), and what is read of it: a [`Seg`]. It
+//! needs the front of the frame and the sum of the rest alone; [`candidate_in`] takes a layout that is known, and the
+//! payload's sum. No call takes memory. [`ip4_sum`] and [`carried_sum`] are the sums that headers before a payload
+//! carry, which is known by its own sum ([`Front`]): a judge compares them with the fields, and who fills in headers
+//! writes them.
 //!
 //! ```
 //! let queue = queue_of(&key(frame), 4);

@@ -1,7 +1,9 @@
 //! What receive side scaling reads of a flow's key.
 
 ghost use Rattle.std.specs.Prelude.{◌≡◌, ℕ, ◌+◌, ◌<◌, ◌≤◌, ◌++◌, Some, length, take, drop, slice_index};
-ghost use Rattle.frame_layout.specs.Rss.{has_ports as has_ports_of, is_tag_mark as is_tag_mark_of, ports_in, addresses_in, behind_ip as behind_ip_of, behind_tag as behind_tag_of, from_ip as from_ip_of, rss_of};
+ghost use Rattle.frame_layout.specs.Rss.{has_ports as has_ports_of, is_tag_mark as is_tag_mark_of, ports_in};
+ghost use Rattle.frame_layout.specs.Rss.{addresses_in, behind_ip as behind_ip_of, behind_tag as behind_tag_of};
+ghost use Rattle.frame_layout.specs.Rss.{from_ip as from_ip_of, rss_of};
 
 use crate::flow::Key;
 
@@ -118,8 +120,9 @@ fn read_key(key: &[u8], into: &mut [u8; 36]) -> u32
     (addresses.len() + ports.len()) as u32
 }
 
-/// Writes what receive side scaling hashes of the flow, and says how many bytes that is: none of the key Other, else the addresses of
-/// the outermost IP header, source and destination, and both ports where a TCP or UDP header follows it directly.
+/// Writes what receive side scaling hashes of the flow, and says how many bytes that is: none of the key Other, else
+/// the addresses of the outermost IP header, source and destination, and both ports where a TCP or UDP header follows
+/// it directly.
 pub fn rss_input(key: &Key, into: &mut [u8; 36]) -> u32
     ensures length { result ≡ length (rss_of key.now) }
     ensures few { result ≤ 36 }

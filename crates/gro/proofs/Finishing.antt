@@ -127,7 +127,8 @@ pub counts_received : (ps : List Held) (t : TableState) → Received ps t → co
 counts_received ps t r = counts_totals t.runs ∙ sym (r.same count_of) ∙ sym (counts_total ps)
 
 -- what the packets hold is what the table does
-pub received_held : (ps : List Held) (t : TableState) → Received ps t → (u : Tests) (m : ℕ) → ((of_runs t.runs).held u m ≡ (of_packets ps).held u m) × ((of_runs t.runs).homes u.blocks m ≡ (of_packets ps).homes u.blocks m)
+pub received_held : (ps : List Held) (t : TableState) → Received ps t → (u : Tests) (m : ℕ) → ((of_runs t.runs).held u m ≡ (of_packets ps).held u m)
+    × ((of_runs t.runs).homes u.blocks m ≡ (of_packets ps).homes u.blocks m)
 received_held ps t r u m = (
   runs_held u m t.runs ∙ sym (r.same (λ p. (of_packet p).held u m)) ∙ sym (packets_held u m ps),
   runs_home u.blocks m t.runs ∙ sym (r.same (λ p. (of_packet p).homes u.blocks m)) ∙ sym (packets_home u.blocks m ps),
@@ -149,11 +150,13 @@ received_least ps w t is r f s a = runs_least w t.runs is f (least_too w ps t.ru
 
 -- ---- the records
 
-all_runs : (segs : ℕ) (ps : List Packet) (runs : List (List Packet)) → AllNeighbours (λ (p q : Packet). p.number < q.number) ps → AreItems (IsMergeableWithin segs) is_of number_of ps runs → runs ≡ runs_in segs ps
+all_runs : (segs : ℕ) (ps : List Packet) (runs : List (List Packet)) → AllNeighbours (λ (p q : Packet). p.number < q.number) ps → AreItems (IsMergeableWithin segs) is_of number_of ps runs
+    → runs ≡ runs_in segs ps
 all_runs segs ps runs r items =
     let alone : Spread = λ key. 0 in
     let none : (key : Option (List ℕ)) → alone key < 1 = λ key. omega arith in
-    let own : AreItems (IsMergeableWithin segs) is_of number_of ps (items_of segs alone 0 ps) = subst (λ z. AreItems (IsMergeableWithin segs) is_of number_of z (items_of segs alone 0 ps)) (all_queued alone ps none) (items_are segs alone 0 ps r) in
+    let own : AreItems (IsMergeableWithin segs) is_of number_of ps (items_of segs alone 0 ps) = subst (λ z. AreItems (IsMergeableWithin segs) is_of number_of z (items_of segs alone 0 ps))
+    (all_queued alone ps none) (items_are segs alone 0 ps r) in
     unique_items is_of number_of key_in (λ p. is_key_self (key_of p.frame)) (IsMergeableWithin segs) (fronts_too segs) ps runs (items_of segs alone 0 ps) items own ∙ one_queue segs alone ps none
 
 items_model : (rs : List (List Held)) (is : List Item) → AreItemsFrom rs is → map item_of is ≡ map merged_of (map (λ (r : List Held). map packet_of r) rs)

@@ -53,7 +53,8 @@ module _ (segs : ℕ) (a b : Runs) (x : Held) (limit received above count : ℕ)
     few = omega (arith, t.few, f);
   }
 
-  pub received_more : (old new : TableState) → old.runs ≡ held_in a → new.runs ≡ held_in b → old.above ≡ above → new.above ≡ x.number + 1 → new.received ≡ old.received + 1 → old.segs ≡ segs → new.segs ≡ segs
+  pub received_more : (old new : TableState) → old.runs ≡ held_in a → new.runs ≡ held_in b → old.above ≡ above → new.above ≡ x.number + 1 → new.received ≡ old.received + 1 → old.segs ≡ segs
+      → new.segs ≡ segs
       → (ps : List Held) → Received ps old → Received (ps ++ (x ∷ [])) new
   received_more old new ea eb eo en er es en2 ps r =
       let low : AllByRecursion (λ (p : Held). p.number < x.number) ps = below_more ps old.above x.number (omega (arith, eo, rising)) r.below in

@@ -48,7 +48,9 @@ pub record TakesBuffer (s : SkbState) (at : ℕ) (a b : Build) : Type 0 where
 
 -- nothing of packets is lost
 abbrev pub TakesAccount : List Held → Build → Build → Type 0
-TakesAccount ps a b = (qs : List Held) × (AreLentFrom ps qs × Keeps (both (of_packets qs) (both (of_pieces a.pieces) (of_outcomes a.out))) (both (of_pieces b.pieces) (of_outcomes b.out)))
+TakesAccount ps a b = (qs : List Held) × (AreLentFrom ps qs
+    × Keeps (both (of_packets qs) (both (of_pieces a.pieces) (of_outcomes a.out)))
+    (both (of_pieces b.pieces) (of_outcomes b.out)))
 
 abbrev pub payloads : ℕ → List Held → List ℕ
 payloads at ps = flat_map (λ (p : Held). drop at (buffer_bytes p.skb)) ps

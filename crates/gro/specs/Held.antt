@@ -12,7 +12,14 @@ use Rattle.gro.specs.declared.packet.Packet.{Packet as Held}
 
 -- a packet, without where its bytes lie
 abbrev pub packet_of : Held → Packet
-packet_of p = record { number = p.number; sec = p.sec; frac = p.frac; original = p.original; frame = buffer_bytes p.skb }
+packet_of p = record {
+  number = p.number;
+  sec = p.sec;
+  frac = p.frac;
+  original = p.original;
+  frame = buffer_bytes
+      p.skb;
+}
 
 -- what is known of a packet that was received
 pub record IsHeld (p : Held) : Type 0 where
@@ -47,7 +54,8 @@ with_head p h = record p { skb = record p.skb { head = h } }
 -- the same packets, but that some heads that were Soles are parts: a life begins at each of these
 abbrev pub AreLentFrom : List Held → List Held → Type 0
 AreLentFrom [] qs = qs ≡ []
-AreLentFrom (p ∷ ps) qs = (h : Holder) × ((rs : List Held) × (HandedOn p.skb.head h × (qs ≡ with_head p h ∷ rs) × AreLentFrom ps rs))
+AreLentFrom (p ∷ ps) qs = (h : Holder) × ((rs : List Held)
+    × (HandedOn p.skb.head h × (qs ≡ with_head p h ∷ rs) × AreLentFrom ps rs))
 
 -- each head is a part beside others
 abbrev pub AreShared : List Held → Type 0

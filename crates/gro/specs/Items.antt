@@ -16,7 +16,13 @@ use Rattle.gro.specs.Runs.{held_of, packets_of}
 -- an item, without where its bytes lie
 abbrev pub item_of : Item → Merged
 item_of item = record {
-  packet = record { number = item.number; sec = item.sec; frac = item.frac; original = item.original; frame = buffer_bytes item.skb };
+  packet = record {
+    number = item.number;
+    sec = item.sec;
+    frac = item.frac;
+    original = item.original;
+    frame = buffer_bytes item.skb;
+  };
   n = item.n;
   m = item.m;
   modes = item.modes;
@@ -32,8 +38,9 @@ item_count item = count_with item.skb item.outcomes
 abbrev pub of_item : Item → Account
 of_item item = both (of_buffer item.skb) (of_outcomes item.outcomes)
 
--- what a buffer of packets and the outcomes beside it hold: the first 200 bytes, or all of fewer, in the head, one free block at
--- least, and all that the packets held. A life begins at most with a head's Sole; where each head is a part, none does.
+-- what a buffer of packets and the outcomes beside it hold: the first 200 bytes, or all of fewer, in the head, one free
+-- block at least, and all that the packets held. A life begins at most with a head's Sole; where each head is a part,
+-- none does.
 pub record HoldsAll (ps : List Held) (s : SkbState) (o : OutcomesState) : Type 0 where
   pub front : IsFronted s
   pub count : count_with s o ≡ counts_of ps

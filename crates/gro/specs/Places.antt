@@ -26,7 +26,8 @@ AreSeveral count free (Several pieces out) = IsEmpty (Several pieces out) × (co
 -- empty, with the places that the run's item needs
 abbrev pub IsPlaceOf : Run → Places → Type 0
 IsPlaceOf r (Alone out) = (r.rest.items ≡ []) × IsBare out × (2 ≤ out.spare)
-IsPlaceOf r (Several pieces out) = (1 ≤ length r.rest.items) × AreSeveral (pieces_in (held_of r)) (free_in (held_of r)) (Several pieces out)
+IsPlaceOf r (Several pieces out) = (1 ≤ length r.rest.items)
+    × AreSeveral (pieces_in (held_of r)) (free_in (held_of r)) (Several pieces out)
 
 abbrev pub ArePlacesOf : List Run → List Places → Type 0
 ArePlacesOf [] ps = ps ≡ []

@@ -28,7 +28,8 @@ pub record AreRuns (a : Runs) : Type 0 where
 abbrev pub HasPlaces : Runs → ℕ → Type 0
 HasPlaces a n = (deque_len a.list + n ≤ deque_capacity a.list) × HasRoom a.flows n
 
--- the runs, of at most `segs` packets each, are those of the packets so far, whatever these are, with one more packet, and hold all of it
+-- the runs, of at most `segs` packets each, are those of the packets so far, whatever these are, with one more packet,
+-- and hold all of it
 pub record Takes (segs : ℕ) (a : Runs) (p : Held) (b : Runs) : Type 0 where
   pub runs : AreRuns b
   pub takes : TakesPacket segs (packets_in a) (packet_of p) (packets_in b)

@@ -18,8 +18,8 @@ use Rattle.gro.specs.Items.{item_of, item_count, of_item, IsItemOf}
 use Rattle.gro.specs.Steps.{held_in, packets_in, AreRuns, HasPlaces}
 use Rattle.gro.specs.Totals.{totals, AreSame}
 
--- the runs so far, in the order of their first packets; how many packets may come, and how many have; what the next one's number has to
--- reach; and how many packets a run may have
+-- the runs so far, in the order of their first packets; how many packets may come, and how many have; what the next
+-- one's number has to reach; and how many packets a run may have
 pub record TableState : Type 0 where
   pub runs : List (List Held)
   pub limit : ℕ
@@ -76,7 +76,8 @@ of_items (i ∷ is) = both (of_item i) (of_items is)
 
 abbrev pub AreRunsLentFrom : List (List Held) → List (List Held) → Type 0
 AreRunsLentFrom [] qs = qs ≡ []
-AreRunsLentFrom (r ∷ rs) qs = (q : List Held) × ((ss : List (List Held)) × (AreLentFrom r q × (qs ≡ q ∷ ss) × AreRunsLentFrom rs ss))
+AreRunsLentFrom (r ∷ rs) qs = (q : List Held) × ((ss : List (List Held))
+    × (AreLentFrom r q × (qs ≡ q ∷ ss) × AreRunsLentFrom rs ss))
 
 -- nothing of the table is lost, and a life begins at most with a head's Sole
 abbrev pub KeepsTable : List (List Held) → List Item → Type 0

@@ -8,7 +8,8 @@ ghost use Rattle.frame_layout.specs.Segment.{HasFlags};
 ghost use Rattle.frags.specs.PieceList.{size_of};
 ghost use Rattle.skb.specs.SkbState.{buffer_bytes, buffer_size, head_size, is_sole};
 ghost use Rattle.skb.specs.Fronts.{IsFronted, front_of};
-ghost use Rattle.gro.specs.Build.{build, IsBuild, IsSameBlock, TakesBuffer, TakesPackets, AreJoinable, sizes_behind, pieces_in, free_in, payloads};
+ghost use Rattle.gro.specs.Build.{build, IsBuild, IsSameBlock, TakesBuffer, TakesPackets, AreJoinable, sizes_behind};
+ghost use Rattle.gro.specs.Build.{pieces_in, free_in, payloads};
 ghost use Rattle.gro.specs.Items.{HoldsAll};
 
 use crate::Packet;
@@ -36,7 +37,8 @@ fn take_buffer(
     requires reserved { length skb.rest + 1 ≤ pieces.old.room }
     requires places { 1 ≤ out.old.spare }
     requires small { size_of pieces.old.pieces + buffer_size skb < 2 ^ 32 }
-    ensures takes { TakesBuffer skb at (build block.old filled pieces.old.pieces out.old) (build block.new result pieces.new.pieces out.new) }
+    ensures takes { TakesBuffer skb at (build block.old filled pieces.old.pieces out.old)
+        (build block.new result pieces.new.pieces out.new) }
     ensures more { filled ≤ result }
     ensures room { pieces.old.room ≤ pieces.new.room + (length skb.rest + 1) }
     ensures left { out.old.spare ≤ out.new.spare + 1 }
@@ -69,8 +71,10 @@ fn take_packet(
     requires reserved { length packet.skb.rest + 1 ≤ pieces.old.room }
     requires places { 3 ≤ out.old.spare }
     requires small { size_of pieces.old.pieces + buffer_size packet.skb < 2 ^ 32 }
-    ensures takes { TakesPackets (packet ∷ []) at (build block.old filled pieces.old.pieces out.old) (build block.new result pieces.new.pieces out.new) }
-    ensures size { result + size_of pieces.new.pieces + at ≡ filled + size_of pieces.old.pieces + buffer_size packet.skb }
+    ensures takes { TakesPackets (packet ∷ []) at (build block.old filled pieces.old.pieces out.old)
+        (build block.new result pieces.new.pieces out.new) }
+    ensures size { result + size_of pieces.new.pieces + at ≡ filled + size_of pieces.old.pieces
+        + buffer_size packet.skb }
     ensures more { filled ≤ result }
     ensures room { pieces.old.room ≤ pieces.new.room + (length packet.skb.rest + 1) }
     ensures left { out.old.spare ≤ out.new.spare + 3 }
@@ -104,7 +108,8 @@ fn take_packets(
     requires reserved { pieces_in packets.items ≤ pieces.old.room }
     requires places { free_in packets.items ≤ out.old.spare }
     requires small { filled + size_of pieces.old.pieces + sizes_behind at packets.items < 2 ^ 31 }
-    ensures takes { TakesPackets packets.items at (build block.old filled pieces.old.pieces out.old) (build block.new result pieces.new.pieces out.new) }
+    ensures takes { TakesPackets packets.items at (build block.old filled pieces.old.pieces out.old)
+        (build block.new result pieces.new.pieces out.new) }
 {
     let mut packets = packets;
     let mut end = filled;
@@ -137,8 +142,8 @@ fn put_headers(block: &mut Sole, head: &[u8], layout: &Layout, flags: u8, payloa
     merge_headers(range, layout.headers(), flags, payload);
 }
 
-/// Packets of one layout as one buffer: the first one's headers, merged, and all payloads. Nothing is copied but what the
-/// head must have, and no packet's head is written. `pieces` and `out` are empty and have their places.
+/// Packets of one layout as one buffer: the first one's headers, merged, and all payloads. Nothing is copied but what
+/// the head must have, and no packet's head is written. `pieces` and `out` are empty and have their places.
 pub(crate) fn join(
     first: Packet,
     rest: VecDeque<Packet>,
@@ -160,7 +165,8 @@ pub(crate) fn join(
     requires places { free_in (first ∷ rest.items) ≤ out.spare }
     ensures bytes { (last : List ℕ)
         → AtHeaders (HasFlags flags last) layout.now.headers
-        → buffer_bytes result.0 ≡ merged_frame layout.now (buffer_bytes first.skb) last (payloads layout.now.payload_at (first ∷ rest.items)) }
+        → buffer_bytes result.0 ≡ merged_frame layout.now (buffer_bytes first.skb) last
+        (payloads layout.now.payload_at (first ∷ rest.items)) }
     ensures holds { HoldsAll (first ∷ rest.items) result.0 result.1 }
     ensures head { (is_sole result.0.head ≡ true) × (result.0.from ≡ 64) }
 {

@@ -1,5 +1,6 @@
 //! The open run of each flow.
-ghost use Rattle.std.specs.Prelude.{◌≡◌, ◌+◌, ◌≤◌, Option, Some, None, IsSome, List, ℕ, length, IfOk, OnOk, IfSome, IfNone, true, if◌then◌else◌};
+ghost use Rattle.std.specs.Prelude.{◌≡◌, ◌+◌, ◌≤◌, Option, Some, None, IsSome, List, ℕ, length, IfOk, OnOk, IfSome};
+ghost use Rattle.std.specs.Prelude.{IfNone, true, if◌then◌else◌};
 ghost use Rattle.gro.specs.Flows.{slot_of, place_of, AreFlows, Puts, HasRoom};
 
 use frame_layout::Key;
@@ -7,8 +8,8 @@ use slab::Slab;
 use std::alloc::{AllocError, Global};
 use std::collections::HashMap;
 
-/// Where the open run of each flow stands in the list of runs. A flow's key leads to its place in a slab, so that the next run of
-/// the flow takes the place of a closed one without a look at the keys.
+/// Where the open run of each flow stands in the list of runs. A flow's key leads to its place in a slab, so that the
+/// next run of the flow takes the place of a closed one without a look at the keys.
 #[derive(Drop)]
 pub(crate) struct Flows {
     pub open: Slab<usize>,
@@ -128,7 +129,8 @@ impl Flows {
         }
     }
 
-    /// A flow of which a run was found has a new run at this place, which is found in the other's stead where it is open.
+    /// A flow of which a run was found has a new run at this place, which is found in the other's stead where it is
+    /// open.
     pub(crate) fn follow(&mut self, key: &Key, slot: usize, place: usize, is_open: bool)
         requires flows { AreFlows self.old }
         requires found { slot_of self.old key.now ≡ Some slot }

@@ -23,8 +23,8 @@ use pcap_io::OffHead2;
 use skb::Skb;
 use std::collections::VecDeque;
 
-/// What a run of packets comes to: a record that is to be written, with the number and the time of the run's first packet. It
-/// must be spent: its buffer and its outcomes.
+/// What a run of packets comes to: a record that is to be written, with the number and the time of the run's first
+/// packet. It must be spent: its buffer and its outcomes.
 pub struct Item {
     pub skb: Skb,
     pub number: u32,
@@ -35,8 +35,8 @@ pub struct Item {
     pub n: u32,
     /// The length of the first payload; 0 of a packet that is alone.
     pub m: u32,
-    /// A bit for each IP header, the lowest for the first, set where that is an IPv4 header whose identification stays the
-    /// same; 0 of a packet that is alone.
+    /// A bit for each IP header, the lowest for the first, set where that is an IPv4 header whose identification stays
+    /// the same; 0 of a packet that is alone.
     pub modes: u8,
     /// The blocks that merging has left: one at least.
     pub outcomes: Outcomes,
@@ -154,7 +154,8 @@ fn merged(
     pieces: PieceBuilder,
     outcomes: Outcomes,
 ) -> Item
-    requires run { IsRunOf layout.now payload flags progress (packet_of first) (packet_of first ∷ map packet_of rest.items) }
+    requires run { IsRunOf layout.now payload flags progress (packet_of first)
+        (packet_of first ∷ map packet_of rest.items) }
     requires several { 1 ≤ length rest.items }
     requires held { AreHeld (first ∷ rest.items) }
     requires empty { (pieces.pieces ≡ []) × (outcomes.soles ≡ []) × (outcomes.receipts ≡ []) }

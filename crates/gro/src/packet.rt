@@ -8,8 +8,8 @@ use frags::Outcomes;
 use raw_block::Sole;
 use skb::Skb;
 
-/// A packet in a buffer, its time and its original length, and two spare blocks that merging may need. It must be spent:
-/// received or released.
+/// A packet in a buffer, its time and its original length, and two spare blocks that merging may need. It must be
+/// spent: received or released.
 pub struct Packet {
     pub skb: Skb,
     pub spare1: Sole,

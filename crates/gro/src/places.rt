@@ -116,8 +116,8 @@ fn places_of(alloc: Global, shelf: &mut VecDeque<Outcomes>, run: &Run) -> Result
     several(alloc, shelf, count, free)
 }
 
-/// The places that all runs' items need, in outcomes off the shelf where there are any. Where there is no memory for some, all are
-/// given up.
+/// The places that all runs' items need, in outcomes off the shelf where there are any. Where there is no memory for
+/// some, all are given up.
 pub(crate) fn all_places(
     alloc: Global,
     shelf: &mut VecDeque<Outcomes>,

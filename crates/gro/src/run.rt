@@ -16,8 +16,8 @@ use merge_rule::{Candidacy, Progress, first_progress, is_next, next_progress};
 use std::alloc::{AllocError, Global};
 use std::collections::VecDeque;
 
-/// A run of packets of one layout, the sum of their payloads, the last one's control bits, what the run has come to, and how many
-/// blocks and parts its packets hold. A packet that may not be merged is alone and has no layout.
+/// A run of packets of one layout, the sum of their payloads, the last one's control bits, what the run has come to,
+/// and how many blocks and parts its packets hold. A packet that may not be merged is alone and has no layout.
 pub(crate) struct Run {
     pub first: Packet,
     pub rest: VecDeque<Packet>,
@@ -30,7 +30,8 @@ pub(crate) struct Run {
 
 /// What a run of one packet has come to.
 fn progress_of(first: &Packet, candidacy: &Candidacy) -> Progress
-    requires judged { IsJudged (buffer_bytes first.now.skb) first.now.original candidacy.now.layout candidacy.now.payload candidacy.now.flags }
+    requires judged { IsJudged (buffer_bytes first.now.skb) first.now.original candidacy.now.layout
+        candidacy.now.payload candidacy.now.flags }
     requires held { IsHeld first.now }
     ensures progress { IsFirstProgress candidacy.now.layout (buffer_bytes first.now.skb) result }
 {
@@ -48,7 +49,8 @@ fn progress_of(first: &Packet, candidacy: &Candidacy) -> Progress
 impl Run {
     /// The run of one packet.
     pub(crate) fn open(alloc: Global, first: Packet, candidacy: Candidacy) -> Run
-        requires judged { IsJudged (buffer_bytes first.skb) first.original candidacy.layout candidacy.payload candidacy.flags }
+        requires judged { IsJudged (buffer_bytes first.skb) first.original candidacy.layout candidacy.payload
+            candidacy.flags }
         requires held { IsHeld first }
         ensures run { IsRun result }
         ensures packets { held_of result ≡ first ∷ [] }
@@ -69,7 +71,8 @@ impl Run {
     /// Whether the run takes one more packet. If so, that is of the run's flow.
     pub(crate) fn takes(&self, next: &Packet, candidacy: &Candidacy) -> bool
         requires run { IsRun self.now }
-        requires judged { IsJudged (buffer_bytes next.now.skb) next.now.original candidacy.now.layout candidacy.now.payload candidacy.now.flags }
+        requires judged { IsJudged (buffer_bytes next.now.skb) next.now.original candidacy.now.layout
+            candidacy.now.payload candidacy.now.flags }
         requires held { IsHeld next.now }
         ensures takes { Decides result (IsMergeable (packets_of self.now ++ (packet_of next.now ∷ []))) }
         ensures flow { IsTrue result → key_of (buffer_bytes next.now.skb) ≡ key_of (buffer_bytes self.now.first.skb) }
@@ -99,7 +102,8 @@ impl Run {
     /// Whether the run takes one more packet, and has with it at most `segs`.
     pub(crate) fn takes_within(&self, next: &Packet, candidacy: &Candidacy, segs: u32) -> bool
         requires run { IsRun self.now }
-        requires judged { IsJudged (buffer_bytes next.now.skb) next.now.original candidacy.now.layout candidacy.now.payload candidacy.now.flags }
+        requires judged { IsJudged (buffer_bytes next.now.skb) next.now.original candidacy.now.layout
+            candidacy.now.payload candidacy.now.flags }
         requires held { IsHeld next.now }
         ensures takes { Decides result (IsMergeableWithin segs (packets_of self.now ++ (packet_of next.now ∷ []))) }
         ensures flow { IsTrue result → key_of (buffer_bytes next.now.skb) ≡ key_of (buffer_bytes self.now.first.skb) }
@@ -115,7 +119,8 @@ impl Run {
         requires run { IsRun self.now }
         requires held { IsHeld next.now }
         requires mergeable { IsMergeable (packets_of self.now ++ (packet_of next.now ∷ [])) }
-        ensures progress { IsNextProgress self.now.layout (buffer_bytes self.now.first.skb) (length self.now.rest.items) (buffer_bytes next.now.skb) self.now.progress result }
+        ensures progress { IsNextProgress self.now.layout (buffer_bytes self.now.first.skb) (length self.now.rest.items)
+            (buffer_bytes next.now.skb) self.now.progress result }
     {
         let first_len = self.first.skb.len();
         let next_len = next.skb.len();
@@ -148,7 +153,8 @@ impl Run {
     /// One more packet, which the run takes and has room for.
     pub(crate) fn add(&mut self, next: Packet, candidacy: &Candidacy)
         requires run { IsRun self.old }
-        requires judged { IsJudged (buffer_bytes next.skb) next.original candidacy.now.layout candidacy.now.payload candidacy.now.flags }
+        requires judged { IsJudged (buffer_bytes next.skb) next.original candidacy.now.layout candidacy.now.payload
+            candidacy.now.flags }
         requires held { IsHeld next }
         requires mergeable { IsMergeable (packets_of self.old ++ (packet_of next ∷ [])) }
         requires few { self.old.count + count_of next < 2 ^ 63 }

@@ -1,5 +1,6 @@
 //! The runs of a round, as packets come.
-ghost use Rattle.std.specs.Prelude.{◌≡◌, ◌+◌, ◌<◌, ◌≤◌, ◌^◌, ◌++◌, ◌∷◌, [], Option, Some, None, ℕ, List, length, IsTrue, map, OnOk, OnErr, IfOk, IfErr, slice_index_or, if◌then◌else◌};
+ghost use Rattle.std.specs.Prelude.{◌≡◌, ◌+◌, ◌<◌, ◌≤◌, ◌^◌, ◌++◌, ◌∷◌, [], Option, Some, None, ℕ, List, length};
+ghost use Rattle.std.specs.Prelude.{IsTrue, map, OnOk, OnErr, IfOk, IfErr, slice_index_or, if◌then◌else◌};
 ghost use Rattle.frame_layout.specs.Key.{key_of};
 ghost use Rattle.offload_model.specs.Mergeable.{IsMergeable, IsMergeableWithin};
 ghost use Rattle.merge_rule.specs.Runs.{IsJudged};
@@ -19,8 +20,8 @@ use merge_rule::Candidacy;
 use std::alloc::{AllocError, Global};
 use std::collections::VecDeque;
 
-/// The runs of a round in the order of their first packets, the open one of each flow, and the place of the run that the last
-/// packet is in, where that is open.
+/// The runs of a round in the order of their first packets, the open one of each flow, and the place of the run that
+/// the last packet is in, where that is open.
 pub(crate) struct Runs {
     pub list: VecDeque<Run>,
     pub flows: Flows,
@@ -39,7 +40,8 @@ fn settle(flows: &mut Flows, run: &Run)
     requires flows { AreFlows flows.old }
     requires run { IsRun run.now }
     ensures flows { AreFlows flows.new }
-    ensures puts { let key = key_of (buffer_bytes run.now.first.skb) in Puts flows.old key (if run.now.progress.is_open then place_of flows.old key else None) flows.new }
+    ensures puts { let key = key_of (buffer_bytes run.now.first.skb) in Puts flows.old key
+        (if run.now.progress.is_open then place_of flows.old key else None) flows.new }
     ensures room { (n : ℕ) → HasRoom flows.old n → HasRoom flows.new n }
 {
     if run.progress.is_open {
@@ -70,7 +72,8 @@ impl Runs {
     fn begin(&mut self, key: Key, packet: Packet, candidacy: Candidacy)
         requires runs { AreRuns self.old }
         requires places { HasPlaces self.old 1 }
-        requires judged { IsJudged (buffer_bytes packet.skb) packet.original candidacy.layout candidacy.payload candidacy.flags }
+        requires judged { IsJudged (buffer_bytes packet.skb) packet.original candidacy.layout candidacy.payload
+            candidacy.flags }
         requires held { IsHeld packet }
         requires key { key_of (buffer_bytes packet.skb) ≡ key }
         requires none { place_of self.old.flows key ≡ None }
@@ -88,12 +91,15 @@ impl Runs {
     fn follow(&mut self, key: &Key, found: Found, packet: Packet, candidacy: Candidacy)
         requires runs { AreRuns self.old }
         requires places { HasPlaces self.old 1 }
-        requires judged { IsJudged (buffer_bytes packet.skb) packet.original candidacy.layout candidacy.payload candidacy.flags }
+        requires judged { IsJudged (buffer_bytes packet.skb) packet.original candidacy.layout candidacy.payload
+            candidacy.flags }
         requires held { IsHeld packet }
         requires key { key_of (buffer_bytes packet.skb) ≡ key.now }
         requires slot { slot_of self.old.flows key.now ≡ Some found.slot }
         requires place { place_of self.old.flows key.now ≡ Some found.place }
-        ensures takes { (segs : ℕ) → (IsMergeableWithin segs (slice_index_or (packets_in self.old) found.place [] ++ (packet_of packet ∷ [])) → ⊥) → Takes segs self.old packet self.new }
+        ensures takes { (segs : ℕ) → (IsMergeableWithin segs
+            (slice_index_or (packets_in self.old) found.place [] ++ (packet_of packet ∷ [])) → ⊥)
+            → Takes segs self.old packet self.new }
     {
         let run = Run::open(self.alloc, packet, candidacy);
         let is_open = run.progress.is_open;
@@ -112,14 +118,18 @@ impl Runs {
         candidacy: &Candidacy,
     ) -> Result<(), (Packet, AllocError)>
         requires runs { AreRuns self.old }
-        requires judged { IsJudged (buffer_bytes packet.skb) packet.original candidacy.now.layout candidacy.now.payload candidacy.now.flags }
+        requires judged { IsJudged (buffer_bytes packet.skb) packet.original candidacy.now.layout candidacy.now.payload
+            candidacy.now.flags }
         requires held { IsHeld packet }
         requires key { key_of (buffer_bytes packet.skb) ≡ key.now }
         requires slot { slot_of self.old.flows key.now ≡ Some found.slot }
         requires place { place_of self.old.flows key.now ≡ Some found.place }
-        requires mergeable { IsMergeable (slice_index_or (packets_in self.old) found.place [] ++ (packet_of packet ∷ [])) }
+        requires mergeable { IsMergeable (slice_index_or (packets_in self.old) found.place []
+            ++ (packet_of packet ∷ [])) }
         requires few { totals count_of (held_in self.old) + count_of packet < 2 ^ 63 }
-        ensures takes { OnOk result ((segs : ℕ) → IsMergeableWithin segs (slice_index_or (packets_in self.old) found.place [] ++ (packet_of packet ∷ [])) → Takes segs self.old packet self.new) }
+        ensures takes { OnOk result ((segs : ℕ) → IsMergeableWithin segs
+            (slice_index_or (packets_in self.old) found.place [] ++ (packet_of packet ∷ []))
+            → Takes segs self.old packet self.new) }
         ensures back { IfErr result (λ e. (e.0 ≡ packet) × (held_in self.new ≡ held_in self.old)) }
         ensures left { OnErr result (AreRuns self.new) }
         ensures room { OnErr result ((n : ℕ) → HasPlaces self.old n → HasPlaces self.new n) }
@@ -143,13 +153,16 @@ impl Runs {
         candidacy: &Candidacy,
     ) -> Result<(), (Packet, AllocError)>
         requires runs { AreRuns self.old }
-        requires judged { IsJudged (buffer_bytes packet.skb) packet.original candidacy.now.layout candidacy.now.payload candidacy.now.flags }
+        requires judged { IsJudged (buffer_bytes packet.skb) packet.original candidacy.now.layout candidacy.now.payload
+            candidacy.now.flags }
         requires held { IsHeld packet }
         requires inside { place < length self.old.list.items }
         requires found { place_of self.old.flows (key_of (buffer_bytes packet.skb)) ≡ Some place }
         requires mergeable { IsMergeable (slice_index_or (packets_in self.old) place [] ++ (packet_of packet ∷ [])) }
         requires few { totals count_of (held_in self.old) + count_of packet < 2 ^ 63 }
-        ensures takes { OnOk result ((segs : ℕ) → IsMergeableWithin segs (slice_index_or (packets_in self.old) place [] ++ (packet_of packet ∷ [])) → Takes segs self.old packet self.new) }
+        ensures takes { OnOk result ((segs : ℕ) → IsMergeableWithin segs
+            (slice_index_or (packets_in self.old) place [] ++ (packet_of packet ∷ []))
+            → Takes segs self.old packet self.new) }
         ensures back { IfErr result (λ e. (e.0 ≡ packet) × (held_in self.new ≡ held_in self.old)) }
         ensures left { OnErr result (AreRuns self.new) }
         ensures room { OnErr result ((n : ℕ) → HasPlaces self.old n → HasPlaces self.new n) }
@@ -174,7 +187,8 @@ impl Runs {
     ) -> Result<(), (Packet, AllocError)>
         requires runs { AreRuns self.old }
         requires places { HasPlaces self.old 1 }
-        requires judged { IsJudged (buffer_bytes packet.skb) packet.original candidacy.layout candidacy.payload candidacy.flags }
+        requires judged { IsJudged (buffer_bytes packet.skb) packet.original candidacy.layout candidacy.payload
+            candidacy.flags }
         requires held { IsHeld packet }
         requires key { key_of (buffer_bytes packet.skb) ≡ key }
         requires few { totals count_of (held_in self.old) + count_of packet < 2 ^ 63 }
@@ -198,7 +212,8 @@ impl Runs {
     fn stand_alone(&mut self, packet: Packet, candidacy: Candidacy)
         requires runs { AreRuns self.old }
         requires places { HasPlaces self.old 1 }
-        requires judged { IsJudged (buffer_bytes packet.skb) packet.original candidacy.layout candidacy.payload candidacy.flags }
+        requires judged { IsJudged (buffer_bytes packet.skb) packet.original candidacy.layout candidacy.payload
+            candidacy.flags }
         requires held { IsHeld packet }
         requires none { place_of self.old.flows (key_of (buffer_bytes packet.skb)) ≡ None }
         requires alone { candidacy.layout ≡ None }
@@ -246,7 +261,8 @@ impl Runs {
     ) -> Result<(), (Packet, AllocError)>
         requires runs { AreRuns self.old }
         requires places { HasPlaces self.old 1 }
-        requires judged { IsJudged (buffer_bytes packet.skb) packet.original candidacy.layout candidacy.payload candidacy.flags }
+        requires judged { IsJudged (buffer_bytes packet.skb) packet.original candidacy.layout candidacy.payload
+            candidacy.flags }
         requires held { IsHeld packet }
         requires few { totals count_of (held_in self.old) + count_of packet < 2 ^ 63 }
         ensures takes { OnOk result (Takes segs self.old packet self.new) }

@@ -14,7 +14,8 @@ use std::alloc::{AllocError, Global};
 use std::collections::VecDeque;
 use std::marker::Model;
 
-/// The list of places that each round's items are built in, which is memory alone between rounds, and outcomes that hold nothing.
+/// The list of places that each round's items are built in, which is memory alone between rounds, and outcomes that
+/// hold nothing.
 pub(crate) struct Shelf {
     places: VecDeque<Places>,
     outcomes: VecDeque<Outcomes>,
@@ -67,8 +68,8 @@ impl Shelf {
         }
     }
 
-    /// The items of all runs. Their list stays, empty. All places are made before anything moves: where there is no memory for
-    /// them, nothing has changed.
+    /// The items of all runs. Their list stays, empty. All places are made before anything moves: where there is no
+    /// memory for them, nothing has changed.
     pub(crate) fn build_items(
         &mut self,
         alloc: Global,

@@ -13,7 +13,8 @@ ghost use Rattle.gro.specs.declared.packet.Packet.{Packet as Held};
 ghost use Rattle.gro.specs.Held.{packet_of, of_packets, count_of, counts_of, AreShared, WeighAtLeast, IsHeld};
 ghost use Rattle.gro.specs.Items.{item_of};
 ghost use Rattle.frags.specs.OutcomesState.{IsBare};
-ghost use Rattle.gro.specs.Table.{TableState, no_table, Received, of_runs, counts_in, AreItemsFrom, counts_of_items, of_items, KeepsTable, AreReady, ItemsWeighAtLeast};
+ghost use Rattle.gro.specs.Table.{TableState, no_table, Received, of_runs, counts_in, AreItemsFrom, counts_of_items};
+ghost use Rattle.gro.specs.Table.{of_items, KeepsTable, AreReady, ItemsWeighAtLeast};
 
 use crate::Packet;
 use crate::item::Item;
@@ -24,9 +25,11 @@ use frags::Outcomes;
 use std::alloc::{AllocError, Global};
 use std::marker::Model;
 
-/// The packets of a round, run by run: one pass over them, in the order of their numbers. It must be spent: finished or released.
+/// The packets of a round, run by run: one pass over them, in the order of their numbers. It must be spent: finished or
+/// released.
 ///
-/// What it has received is told by a fact of every list of packets (`Received`): its runs are theirs, and hold all of them.
+/// What it has received is told by a fact of every list of packets (`Received`): its runs are theirs, and hold all of
+/// them.
 pub struct RoundTable {
     runs: Runs,
     shelf: Shelf,
@@ -44,7 +47,13 @@ impl Model for RoundTable {
 
     ghost Value = { TableState };
 
-    ghost view = { λ t. record { runs = held_in t.runs; limit = t.limit; received = t.received; above = t.above; segs = t.segs } };
+    ghost view = { λ t. record {
+      runs = held_in t.runs;
+      limit = t.limit;
+      received = t.received;
+      above = t.above;
+      segs = t.segs;
+    } };
 
     ghost invariant = { λ t. IsTable t.runs t.limit t.received t.above t.count };
 }
@@ -62,7 +71,8 @@ fn weigh(packet: &Packet) -> usize
 }
 
 impl RoundTable {
-    /// An empty table for at most `limit` packets, in runs of at most `segs`. The memory for so many runs and flows is taken here.
+    /// An empty table for at most `limit` packets, in runs of at most `segs`. The memory for so many runs and flows is
+    /// taken here.
     pub fn make(alloc: Global, limit: u32, segs: u32) -> Result<RoundTable, AllocError>
         ensures received { IfOk result (λ t. Received [] t) }
         ensures none { IfOk result (λ t. t.runs ≡ []) }
@@ -82,8 +92,8 @@ impl RoundTable {
         })
     }
 
-    /// The next round, of at most `limit` packets, in a table that holds nothing. Where one before was for as many, that takes no
-    /// memory.
+    /// The next round, of at most `limit` packets, in a table that holds nothing. Where one before was for as many,
+    /// that takes no memory.
     pub fn start(&mut self, limit: u32) -> Result<(), AllocError>
         requires none { self.old.runs ≡ [] }
         ensures received { Received [] self.new }
@@ -115,14 +125,15 @@ impl RoundTable {
         self.received < self.limit && self.above <= number as u64
     }
 
-    /// One more packet, with a number above those before: its flow's open run takes it, or it opens one. Where memory is refused
-    /// it comes back, and the table is as it was.
+    /// One more packet, with a number above those before: its flow's open run takes it, or it opens one. Where memory
+    /// is refused it comes back, and the table is as it was.
     pub fn receive(&mut self, packet: Packet) -> Result<(), (Packet, AllocError)>
         requires room { self.old.received < self.old.limit }
         requires rising { self.old.above ≤ packet.number }
         requires front { IsFronted packet.skb }
         requires short { buffer_size packet.skb ≤ most_frame }
-        ensures received { OnOk result ((ps : List Held) → Received ps self.old → Received (ps ++ (packet ∷ [])) self.new) }
+        ensures received { OnOk result ((ps : List Held) → Received ps self.old
+            → Received (ps ++ (packet ∷ [])) self.new) }
         ensures count { OnOk result (counts_in self.new.runs ≡ counts_in self.old.runs + count_of packet) }
         ensures many { OnOk result (self.new.received ≡ self.old.received + 1) }
         ensures above { OnOk result (self.new.above ≡ packet.number + 1) }
@@ -141,17 +152,21 @@ impl RoundTable {
         Ok(())
     }
 
-    /// The items of all runs, in the order of their first packets, into a list that is empty. The table is empty again, and its
-    /// memory serves the next round, once that is started. Where there is no memory for the items nothing has changed: all
-    /// places are made before anything moves.
+    /// The items of all runs, in the order of their first packets, into a list that is empty. The table is empty again,
+    /// and its memory serves the next round, once that is started. Where there is no memory for the items nothing has
+    /// changed: all places are made before anything moves.
     pub fn finish_into(&mut self, items: &mut Vec<Item>) -> Result<(), AllocError>
         requires empty { items.old.items ≡ [] }
         ensures items { OnOk result (AreItemsFrom self.old.runs items.new.items) }
-        ensures merged { (ps : List Held) → Received ps self.old → OnOk result (map item_of items.new.items ≡ map merged_of (runs_in self.old.segs (map packet_of ps))) }
-        ensures count { (ps : List Held) → Received ps self.old → OnOk result (counts_of_items items.new.items ≡ counts_of ps) }
+        ensures merged { (ps : List Held) → Received ps self.old
+            → OnOk result (map item_of items.new.items ≡ map merged_of (runs_in self.old.segs (map packet_of ps))) }
+        ensures count { (ps : List Held) → Received ps self.old
+            → OnOk result (counts_of_items items.new.items ≡ counts_of ps) }
         ensures account { OnOk result (KeepsTable self.old.runs items.new.items) }
-        ensures shared { (ps : List Held) → Received ps self.old → AreShared ps → OnOk result (Keeps (of_packets ps) (of_items items.new.items)) }
-        ensures least { (ps : List Held) (w : ℕ) → Received ps self.old → w ≤ full_weight → WeighAtLeast w ps → OnOk result (ItemsWeighAtLeast w items.new.items) }
+        ensures shared { (ps : List Held) → Received ps self.old → AreShared ps
+            → OnOk result (Keeps (of_packets ps) (of_items items.new.items)) }
+        ensures least { (ps : List Held) (w : ℕ) → Received ps self.old → w ≤ full_weight → WeighAtLeast w ps
+            → OnOk result (ItemsWeighAtLeast w items.new.items) }
         ensures ready { OnOk result (AreReady items.new.items) }
         ensures none { OnOk result (self.new ≡ no_table self.old.segs) }
         ensures back { OnErr result ((self.new ≡ self.old) × (items.new.items ≡ [])) }
@@ -166,15 +181,19 @@ impl RoundTable {
         Ok(())
     }
 
-    /// The items of all runs, in the order of their first packets. Where there is no memory for them the table comes back as
-    /// it was.
+    /// The items of all runs, in the order of their first packets. Where there is no memory for them the table comes
+    /// back as it was.
     pub fn finish(self) -> Result<Vec<Item>, (RoundTable, AllocError)>
         ensures items { IfOk result (λ items. AreItemsFrom self.runs items.items) }
-        ensures merged { (ps : List Held) → Received ps self → IfOk result (λ items. map item_of items.items ≡ map merged_of (runs_in self.segs (map packet_of ps))) }
-        ensures count { (ps : List Held) → Received ps self → IfOk result (λ items. counts_of_items items.items ≡ counts_of ps) }
+        ensures merged { (ps : List Held) → Received ps self
+            → IfOk result (λ items. map item_of items.items ≡ map merged_of (runs_in self.segs (map packet_of ps))) }
+        ensures count { (ps : List Held) → Received ps self
+            → IfOk result (λ items. counts_of_items items.items ≡ counts_of ps) }
         ensures account { IfOk result (λ items. KeepsTable self.runs items.items) }
-        ensures shared { (ps : List Held) → Received ps self → AreShared ps → IfOk result (λ items. Keeps (of_packets ps) (of_items items.items)) }
-        ensures least { (ps : List Held) (w : ℕ) → Received ps self → w ≤ full_weight → WeighAtLeast w ps → IfOk result (λ items. ItemsWeighAtLeast w items.items) }
+        ensures shared { (ps : List Held) → Received ps self → AreShared ps
+            → IfOk result (λ items. Keeps (of_packets ps) (of_items items.items)) }
+        ensures least { (ps : List Held) (w : ℕ) → Received ps self → w ≤ full_weight → WeighAtLeast w ps
+            → IfOk result (λ items. ItemsWeighAtLeast w items.items) }
         ensures ready { IfOk result (λ items. AreReady items.items) }
         ensures back { IfErr result (λ e. e.0 ≡ self) }
     {

@@ -20,7 +20,14 @@ pub record AreBufferSums (s : SkbState) (m from i : ℕ) (sums : Sums) : Type 0 
 
 pub parts_front : (s : SkbState) (m from : ℕ) (sums : Sums) → from ≤ length (head_bytes s) → AreSumsOf m sums (drop from (head_bytes s)) → AreBytes (drop from (head_bytes s)) → IsRoom m sums
     → sums.rest.len ≤ length (drop from (head_bytes s)) → AreBufferSums s m from 0 sums
-parts_front s m from sums h st b room short = record { done = drop from (head_bytes s); known = st; whole = sym (drop-append-le from (head_bytes s) (bytes_of s.rest) h); in_bytes = b; room = room; short = short }
+parts_front s m from sums h st b room short = record {
+  done = drop from (head_bytes s);
+  known = st;
+  whole = sym (drop-append-le from (head_bytes s) (bytes_of s.rest) h);
+  in_bytes = b;
+  room = room;
+  short = short;
+}
 
 module _ (s : SkbState) (m from i : ℕ) (d : Piece) (old : Sums) (p : List ℕ) (h : i < length s.rest) (was : AreBufferSums s m from i old) (is : p ≡ piece_bytes (get_or s.rest i d)) where
   more : bytes_of (drop i s.rest) ≡ p ++ bytes_of (drop (i + 1) s.rest)
@@ -38,4 +45,14 @@ module _ (s : SkbState) (m from i : ℕ) (d : Piece) (old : Sums) (p : List ℕ)
 
   pub parts_few : length (buffer_bytes s) < 2 ^ 32 → old.rest.len + length p < 2 ^ 32
   parts_few k =
-      omega (arith, was.short, ap length was.whole, ap length more, length-append was.done (bytes_of (drop i s.rest)), length-append p (bytes_of (drop (i + 1) s.rest)), length-drop from (buffer_bytes s), k)
+      omega (
+        arith,
+        was.short,
+        ap length was.whole,
+        ap length more,
+        length-append was.done (bytes_of (drop i s.rest)),
+        length-append p (bytes_of (drop (i + 1) s.rest)),
+        length-drop from
+            (buffer_bytes s),
+        k,
+      )

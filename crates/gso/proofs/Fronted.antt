@@ -29,7 +29,8 @@ pub record IsKnown (f front : List ℕ) (at m : ℕ) (sums : Sums) (payload : Fo
   pub payload_is : IsPayloadOf front at payload f
   pub same : shape_of front ≡ shape_of f
 
-pub known : (f front : List ℕ) (at m place : ℕ) (sums : Sums) (payload : FoldAndLength) → f ≡ front ++ drop (length front) f → AreBytes front → min (length f) 200 ≤ length front → at ≤ length front → place ≡ at
+pub known : (f front : List ℕ) (at m place : ℕ) (sums : Sums) (payload : FoldAndLength) → f ≡ front ++ drop (length front) f → AreBytes front → min (length f) 200 ≤ length front → at ≤ length front
+    → place ≡ at
     → AreBytes (drop place f) → AreSumsOf m sums (drop place f) → ((g : List ℕ) → AreSumsOf m sums g → StandsFor payload g) → IsKnown f front at m sums payload
 known f front at m place sums payload joined small enough within is behind sum stands =
     let b : AreBytes (drop at f) = subst (λ (z : ℕ). AreBytes (drop z f)) is behind in

@@ -54,7 +54,8 @@ moved frames a x b y spare r q e f g h =
     subst (λ (z : Work). IsNext frames z spare y q) e (subst (λ (z : Work). IsNext frames a spare z q) f (subst (IsNext frames a spare b) g h))
 
 -- a plan, and what its record is cut as
-pub started : (plan q : Plan) (p : Packet) (work x : Work) → plan ≡ q → x ≡ work → IsLeft (map (λ (r : Packet). r.frame) (packets_by q p)) x → IsLeft (map (λ (r : Packet). r.frame) (packets_by plan p)) work
+pub started : (plan q : Plan) (p : Packet) (work x : Work) → plan ≡ q → x ≡ work → IsLeft (map (λ (r : Packet). r.frame) (packets_by q p)) x
+    → IsLeft (map (λ (r : Packet). r.frame) (packets_by plan p)) work
 started plan q p work x e f l = subst (IsLeft (map (λ (r : Packet). r.frame) (packets_by plan p))) f (subst (λ (z : Plan). IsLeft (map (λ (r : Packet). r.frame) (packets_by z p)) x) (sym e) l)
 
 -- the frames of the packets of a merged frame

@@ -86,7 +86,8 @@ module _ (s t : SkbState) (at : ℕ) (c : List Piece) (some : 1 ≤ at) (fits : 
 as_part_lent : (h : Holder) (p : PartState) → AsPart h p → IsLent h (Part p)
 as_part_lent h p e = e
 
-weights : (t : Tests) (m : ℕ) (p : PartState) → gift p.weight ≤ p.weight → counted t m p.life p.mark (p.weight - gift p.weight) + counted t m p.life p.mark (gift p.weight) ≡ counted t m p.life p.mark p.weight
+weights : (t : Tests) (m : ℕ) (p : PartState) → gift p.weight ≤ p.weight → counted t m p.life p.mark (p.weight - gift p.weight) + counted t m p.life p.mark (gift p.weight)
+    ≡ counted t m p.life p.mark p.weight
 weights t m p h = kept_given t m (record { part = p; from = 0; to = 0 }) h
 
 pub open_nothing : (s : SkbState) (a : List Piece) → OpensAccount s a s a
@@ -109,7 +110,8 @@ open_head s t at a c none least k =
       ),
     )
 
-pub open_rest : (s t : SkbState) (at : ℕ) (a c : List Piece) → a ≡ [] → IsRestCut at s t c → ((l : Tests) (m : ℕ) → (of_buffer t).held l m + pieces_held l m c ≡ (of_buffer s).held l m) → OpensAccount s a t c
+pub open_rest : (s t : SkbState) (at : ℕ) (a c : List Piece) → a ≡ [] → IsRestCut at s t c → ((l : Tests) (m : ℕ) → (of_buffer t).held l m + pieces_held l m c ≡ (of_buffer s).held l m)
+    → OpensAccount s a t c
 open_rest s t at a c none k sums = (
   s.head,
   (

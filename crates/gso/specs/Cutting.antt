@@ -84,4 +84,5 @@ of_work_with (Merged c) h = of_merged (with_merged_head c h)
 
 -- nothing is lost, and a life begins at most with the head's Sole
 abbrev pub NextAccount : Work → SoleState → Work → Result Cut (SoleState × AllocError) → Type 0
-NextAccount a spare b r = (h : Holder) × (HandedOn (head_of a) h × Keeps (both (of_work_with a h) (of_sole spare)) (both (of_work b) (of_next r)))
+NextAccount a spare b r = (h : Holder) × (HandedOn (head_of a) h
+    × Keeps (both (of_work_with a h) (of_sole spare)) (both (of_work b) (of_next r)))

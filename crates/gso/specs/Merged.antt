@@ -17,8 +17,8 @@ use Rattle.gso.specs.declared.sums.Sums.{Sums}
 use Rattle.gso.specs.declared.cutter.Cut.{Cut}
 use Rattle.gso.specs.declared.cutter.Cut.TheVariants.{Segment, Done}
 
--- a buffer, of which the payload is gone once the first segment was cut off; the pieces of the payload that is left; how the frame
--- is cut, with the sums of its segments; and how many segments were given
+-- a buffer, of which the payload is gone once the first segment was cut off; the pieces of the payload that is left;
+-- how the frame is cut, with the sums of its segments; and how many segments were given
 pub record MergedState : Type 0 where
   pub skb : SkbState
   pub pieces : List Piece
@@ -31,7 +31,8 @@ pub record IsAt (f : List ℕ) (c : MergedState) : Type 0 where
   pub in_bytes : AreBytes f
   pub short : length f ≤ most_frame
   pub of : IsSegmentationOf c.cut f
-  pub bytes : buffer_bytes c.skb ++ bytes_of c.pieces ≡ take c.cut.layout.payload_at f ++ drop (c.i * c.cut.m) (drop c.cut.layout.payload_at f)
+  pub bytes : buffer_bytes c.skb ++ bytes_of c.pieces ≡ take c.cut.layout.payload_at f
+      ++ drop (c.i * c.cut.m) (drop c.cut.layout.payload_at f)
 
 -- what holds of it at all times: no piece is lighter than its bytes, so no cut finds a part worn
 pub record IsCutting (c : MergedState) : Type 0 where
@@ -53,7 +54,8 @@ pub record IsHeadOf (spare : SoleState) (n : ℕ) (s : SkbState) : Type 0 where
   pub to : s.to ≡ 64 + n
 
 -- segment i of the frame f was given
-pub record GivesSegment (f : List ℕ) (a : MergedState) (spare : SoleState) (b : MergedState) (s : SkbState) : Type 0 where
+pub record GivesSegment (f : List ℕ) (a : MergedState) (spare : SoleState) (b : MergedState)
+    (s : SkbState) : Type 0 where
   pub there : a.i < a.cut.n
   pub bytes : buffer_bytes s ≡ segment_at a.cut f a.i
   pub head : IsHeadOf spare a.cut.layout.payload_at s

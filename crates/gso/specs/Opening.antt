@@ -17,7 +17,8 @@ with_head s h = record { head = h; from = s.from; to = s.to; rest = s.rest }
 
 -- nothing is lost when pieces a move out of a buffer, and a life begins at most with the head's Sole
 abbrev pub OpensAccount : SkbState → List Piece → SkbState → List Piece → Type 0
-OpensAccount s a t b = (h : Holder) × (HandedOn s.head h × Keeps (both (of_buffer (with_head s h)) (of_pieces a)) (both (of_buffer t) (of_pieces b)))
+OpensAccount s a t b = (h : Holder) × (HandedOn s.head h
+    × Keeps (both (of_buffer (with_head s h)) (of_pieces a)) (both (of_buffer t) (of_pieces b)))
 
 -- nothing of pieces is lost when some of them move out
 abbrev pub KeepsPieces : List Piece → List Piece → List Piece → Type 0

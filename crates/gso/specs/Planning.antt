@@ -36,4 +36,5 @@ IsPlanOf s _ = Unit {0}
 -- a record is lawful that has this header, this original length, and the frame behind the header
 abbrev pub IsLawfulBehind : AnyHead → ℕ → List ℕ → Type 0
 IsLawfulBehind head original f =
-    (is_opened_by head (size_of head + length f) original && is_lawful_by (fields_in head) (packet 0 0 0 (original - size_of head) f)) ≡ true
+    (is_opened_by head (size_of head + length f) original
+    && is_lawful_by (fields_in head) (packet 0 0 0 (original - size_of head) f)) ≡ true

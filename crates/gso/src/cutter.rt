@@ -51,7 +51,8 @@ impl Cutter {
     pub fn start(skb: Skb, plan: Plan) -> Cutter
         requires plan { IsPlanOf skb plan }
         requires least { 2048 ≤ buffer_least skb }
-        ensures left { (p : Packet) → p.frame ≡ buffer_bytes skb → IsLeft (map (λ q. q.frame) (packets_by plan p)) result }
+        ensures left { (p : Packet) → p.frame ≡ buffer_bytes skb
+            → IsLeft (map (λ q. q.frame) (packets_by plan p)) result }
         ensures count { count_of result ≡ length skb.rest + 1 }
         ensures account { of_work result ≡ of_buffer skb }
         ensures head { head_of result ≡ skb.head }
@@ -64,15 +65,18 @@ impl Cutter {
         Cutter { work }
     }
 
-    /// The next packet's frame, in the spare's block, or the spare where all were given. Where memory is refused the spare comes
-    /// back, and the same frames are still to come.
+    /// The next packet's frame, in the spare's block, or the spare where all were given. Where memory is refused the
+    /// spare comes back, and the same frames are still to come.
     pub fn next(&mut self, spare: Sole) -> Result<Cut, (Sole, AllocError)>
-        ensures next { (frames : List (List ℕ)) → IsLeft frames self.old → IsNext frames self.old spare self.new result }
+        ensures next { (frames : List (List ℕ)) → IsLeft frames self.old
+            → IsNext frames self.old spare self.new result }
         ensures count { NextCount self.old self.new result }
         ensures account { NextAccount self.old spare self.new result }
-        ensures parts { is_sole (head_of self.old) ≡ false → Keeps (both (of_work self.old) (of_sole spare)) (both (of_work self.new) (of_next result)) }
+        ensures parts { is_sole (head_of self.old) ≡ false
+            → Keeps (both (of_work self.old) (of_sole spare)) (both (of_work self.new) (of_next result)) }
         ensures shared { is_sole (head_of self.old) ≡ false → is_sole (head_of self.new) ≡ false }
-        ensures marks { KeepsMarks (both (of_work self.old) (of_sole spare)) (both (of_work self.new) (of_next result)) }
+        ensures marks { KeepsMarks (both (of_work self.old) (of_sole spare))
+            (both (of_work self.new) (of_next result)) }
     {
         match &mut self.work {
             Work::Whole(whole) => whole.next(spare),

@@ -29,7 +29,8 @@ pub(crate) fn put_headers(
     requires near { i * cut.now.m < 2 ^ 32 }
     ensures segment { (bytes : List ℕ)
         → StandsFor payload bytes
-        → front_of block.new cut.now.layout.payload_at ++ bytes ≡ segment_from cut.now i (take cut.now.layout.payload_at head.now ++ bytes) }
+        → front_of block.new cut.now.layout.payload_at ++ bytes
+        ≡ segment_from cut.now i (take cut.now.layout.payload_at head.now ++ bytes) }
     ensures size { length block.new.bytes ≡ 2048 }
     ensures mark { block.new.mark ≡ block.old.mark }
     ensures block { block.new.block ≡ block.old.block }

@@ -1,6 +1,7 @@
 //! The test of a record whose frame lies in a buffer.
 
-ghost use Rattle.std.specs.Prelude.{◌≡◌, ◌+◌, ◌-◌, ◌≤◌, ◌<◌, ◌^◌, ◌++◌, ◌↔◌, ℕ, List, length, take, drop, min, IsOk, IfOk, IfSome, IfNone, Some, true};
+ghost use Rattle.std.specs.Prelude.{◌≡◌, ◌+◌, ◌-◌, ◌≤◌, ◌<◌, ◌^◌, ◌++◌, ◌↔◌, ℕ, List, length, take, drop, min, IsOk};
+ghost use Rattle.std.specs.Prelude.{IfOk, IfSome, IfNone, Some, true};
 ghost use Rattle.pcap_io.specs.Limits.{most_frame};
 ghost use Rattle.skb.specs.SkbState.{buffer_bytes, buffer_size, head_bytes, head_size};
 ghost use Rattle.pcap_io.specs.Capture.{packet};
@@ -84,7 +85,8 @@ fn front_bytes(skb: &Skb) -> &[u8]
     in_bytes(&bytes[..bytes.len().min(FRONT)])
 }
 
-/// How a frame of this layout is segmented, where the record is a lawful one of a merged frame, and the sums of its segments.
+/// How a frame of this layout is segmented, where the record is a lawful one of a merged frame, and the sums of its
+/// segments.
 fn segmented(
     head: &OffHead2,
     skb: &Skb,
@@ -145,7 +147,9 @@ fn check_behind(head: &OffHead2, skb: &Skb, original: u32) -> Result<Plan, BadOf
     requires front { IsFronted skb.now }
     requires short { length (buffer_bytes skb.now) ≤ most_frame }
     ensures lawful { IsOk result ↔ (is_lawful_by head.now (packet 0 0 0 original (buffer_bytes skb.now)) ≡ true) }
-    ensures plan { (number sec frac : ℕ) → IfOk result (λ plan. segments_by head.now (packet number sec frac original (buffer_bytes skb.now)) ≡ packets_by plan (packet number sec frac original (buffer_bytes skb.now))) }
+    ensures plan { (number sec frac : ℕ) → IfOk result (λ plan. segments_by head.now
+        (packet number sec frac original (buffer_bytes skb.now))
+        ≡ packets_by plan (packet number sec frac original (buffer_bytes skb.now))) }
     ensures ready { IfOk result (λ plan. IsPlanOf skb.now plan) }
 {
     if is_single(head) {
@@ -160,17 +164,20 @@ fn check_behind(head: &OffHead2, skb: &Skb, original: u32) -> Result<Plan, BadOf
     }
 }
 
-/// Tests a whole record by its offload header, by the frame behind it, and by the record's original length, of which the offload
-/// header is 12 bytes, or 16 in version 2; and says what packets it stands for. It takes no memory.
+/// Tests a whole record by its offload header, by the frame behind it, and by the record's original length, of which
+/// the offload header is 12 bytes, or 16 in version 2; and says what packets it stands for. It takes no memory.
 ///
-/// `BadOffload` exactly where the record isn't lawful: its version is neither 1 nor 2, the frame has more than 262,144 bytes, the
-/// original length doesn't hold the header or is too great, or the header is none of a single packet's (kind 0), a merged frame's
-/// (kind 1) and a tap window's (kind 2), or the merged frame can't be cut as the header says. Each byte of the payload is read once.
+/// `BadOffload` exactly where the record isn't lawful: its version is neither 1 nor 2, the frame has more than 262,144
+/// bytes, the original length doesn't hold the header or is too great, or the header is none of a single packet's (kind
+/// 0), a merged frame's (kind 1) and a tap window's (kind 2), or the merged frame can't be cut as the header says. Each
+/// byte of the payload is read once.
 pub fn check_super(head: &AnyHead, skb: &Skb, original: u32) -> Result<Plan, BadOffload>
     requires original { 12 ≤ original }
     requires front { IsFronted skb.now }
     ensures lawful { IsOk result ↔ IsLawfulBehind head.now original (buffer_bytes skb.now) }
-    ensures plan { (number sec frac : ℕ) → IfOk result (λ plan. segments_by (fields_in head.now) (packet number sec frac (original - head_size_of head.now) (buffer_bytes skb.now)) ≡ packets_by plan (packet number sec frac (original - head_size_of head.now) (buffer_bytes skb.now))) }
+    ensures plan { (number sec frac : ℕ) → IfOk result (λ plan. segments_by (fields_in head.now)
+        (packet number sec frac (original - head_size_of head.now) (buffer_bytes skb.now))
+        ≡ packets_by plan (packet number sec frac (original - head_size_of head.now) (buffer_bytes skb.now))) }
     ensures ready { IfOk result (λ plan. IsPlanOf skb.now plan) }
 {
     if !is_opened(head, skb.len() as u32, original) {

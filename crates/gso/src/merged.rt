@@ -20,8 +20,8 @@ use skb::{HEADROOM, Skb};
 use std::alloc::AllocError;
 use std::marker::Model;
 
-/// A merged frame of which `i` segments were given. The buffer has its headers, and the rest of its payload too until the first
-/// segment was cut off; `pieces` then have that.
+/// A merged frame of which `i` segments were given. The buffer has its headers, and the rest of its payload too until
+/// the first segment was cut off; `pieces` then have that.
 pub(crate) struct Merged {
     skb: Skb,
     pieces: Pieces,
@@ -37,7 +37,13 @@ impl Model for Merged {
 
     ghost view = { λ c. record { skb = c.skb; pieces = c.pieces; cut = c.cut; sums = c.sums; i = c.i } };
 
-    ghost invariant = { λ c. IsCutting (record { skb = c.skb; pieces = c.pieces; cut = c.cut; sums = c.sums; i = c.i }) };
+    ghost invariant = { λ c. IsCutting (record {
+      skb = c.skb;
+      pieces = c.pieces;
+      cut = c.cut;
+      sums = c.sums;
+      i = c.i;
+    }) };
 }
 
 impl Merged {
@@ -57,7 +63,8 @@ impl Merged {
         }
     }
 
-    /// The next segment. Where memory is refused, at the opening of the buffer or at the cut of the payload, the same one is next.
+    /// The next segment. Where memory is refused, at the opening of the buffer or at the cut of the payload, the same
+    /// one is next.
     pub(crate) fn next(&mut self, spare: Sole) -> Result<Cut, (Sole, AllocError)>
         ensures next { (f : List ℕ) → IsAt f self.old → IsGiven f self.old spare self.new result }
         ensures count { NextCount (MergedWork self.old) (MergedWork self.new) result }

@@ -66,7 +66,8 @@ pub(crate) fn open(skb: &mut Skb, pieces: &mut Pieces, at: usize) -> Result<(), 
 pub(crate) fn cut_off(pieces: &mut Pieces, n: usize) -> Result<Pieces, AllocError>
     requires within { n ≤ size_of pieces.old }
     requires enough { Enough pieces.old }
-    ensures bytes { IfOk result (λ front. (bytes_of pieces.old ≡ bytes_of front ++ bytes_of pieces.new) × (size_of front ≡ n) × (length (bytes_of front) ≡ n)) }
+    ensures bytes { IfOk result (λ front. (bytes_of pieces.old ≡ bytes_of front ++ bytes_of pieces.new)
+        × (size_of front ≡ n) × (length (bytes_of front) ≡ n)) }
     ensures enough { Enough pieces.new }
     ensures same { IfErr result (λ _. pieces.new ≡ pieces.old) }
     ensures count { IfOk result (λ front. length front + length pieces.new ≤ length pieces.old + 1) }

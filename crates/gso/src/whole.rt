@@ -42,7 +42,8 @@ impl Whole {
 
     /// The frame, where it is still to be given.
     pub(crate) fn next(&mut self, spare: Sole) -> Result<Cut, (Sole, AllocError)>
-        ensures next { (frames : List (List ℕ)) → IsLeft frames (WholeWork self.old) → IsNext frames (WholeWork self.old) spare (WholeWork self.new) result }
+        ensures next { (frames : List (List ℕ)) → IsLeft frames (WholeWork self.old)
+            → IsNext frames (WholeWork self.old) spare (WholeWork self.new) result }
         ensures count { NextCount (WholeWork self.old) (WholeWork self.new) result }
         ensures account { NextAccount (WholeWork self.old) spare (WholeWork self.new) result }
         ensures shared { is_sole self.old.skb.head ≡ false → is_sole self.new.skb.head ≡ false }

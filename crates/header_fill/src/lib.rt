@@ -1,12 +1,12 @@
 //! The headers of a merged frame, written in place.
 //!
-//! A merged frame is the first packet's headers with the last packet's control bits, followed by all payloads, with right
-//! lengths (RFC 791, section 3.1; RFC 8200, section 3; RFC 768) and right sums (RFC 1071). [`merge_headers`] makes these
-//! headers from the first packet's (`merged`: by the function of the model; `frame`: by what holds of the frame). It
-//! rests on [`fill`], which writes the lengths and sums of any headers before a payload (`filled`, `right`). No payload
-//! byte is read: what is known of the payload is its sum, which is joined from the sums of its pieces. What a segment's
-//! place in its stream decides is written before that: identifications and sequence numbers by [`put_places`], control
-//! bits by [`put_flags`] (`edited`, whatever follows the headers).
+//! A merged frame is the first packet's headers with the last packet's control bits, followed by all payloads, with
+//! right lengths (RFC 791, section 3.1; RFC 8200, section 3; RFC 768) and right sums (RFC 1071). [`merge_headers`]
+//! makes these headers from the first packet's (`merged`: by the function of the model; `frame`: by what holds of the
+//! frame). It rests on [`fill`], which writes the lengths and sums of any headers before a payload (`filled`, `right`).
+//! No payload byte is read: what is known of the payload is its sum, which is joined from the sums of its pieces. What
+//! a segment's place in its stream decides is written before that: identifications and sequence numbers by
+//! [`put_places`], control bits by [`put_flags`] (`edited`, whatever follows the headers).
 //!
 //! ```
 //! let payload = first_payload.joined(second_payload);
@@ -38,8 +38,8 @@ pub use place::put_places;
 
 /// Makes the first frame's header bytes those of the merged frame.
 ///
-/// `headers` are the headers of the layout, and `head` ends where the payload begins. `flags` is the last frame's byte of
-/// control bits, and `payload` the sum of all payloads, one behind the other.
+/// `headers` are the headers of the layout, and `head` ends where the payload begins. `flags` is the last frame's byte
+/// of control bits, and `payload` the sum of all payloads, one behind the other.
 pub fn merge_headers(head: &mut [u8], headers: &[Header], flags: u8, payload: Partial)
     requires laid { AreLaid 0 headers.now (length head.old) }
     requires ranges { AtHeaders (IsLengthInRange (length head.old + payload.len)) headers.now }

@@ -14,7 +14,8 @@ use tcp_headers::{set_seq, tcp};
 pub fn put_places(head: &mut [u8], headers: &[Header], modes: u8, i: u32, n: u32)
     requires inside { AtHeaders (IsInside (length head.old)) headers.now }
     ensures edited { (rest : List ℕ)
-        → head.new ++ rest ≡ with_edits (with_place (is_fixed_by modes headers.now) i n) headers.now (head.old ++ rest) }
+        → head.new ++ rest ≡ with_edits (with_place (is_fixed_by modes headers.now) i n) headers.now
+        (head.old ++ rest) }
 {
     let mut k = headers.len();
     while k > 0 {

@@ -1,5 +1,5 @@
-//! Sums, from the innermost header outward. Behind a header stand the headers within and the payload, and of the payload
-//! its sum is enough (RFC 1071, section 2: partial sums).
+//! Sums, from the innermost header outward. Behind a header stand the headers within and the payload, and of the
+//! payload its sum is enough (RFC 1071, section 2: partial sums).
 
 ghost use Rattle.std.specs.Prelude.{◌≡◌, ℕ, ◌+◌, ◌-◌, ◌%◌, ◌<◌, ◌≤◌, ◌^◌, ◌++◌, List, length, drop};
 ghost use Rattle.net_bytes.specs.Bytes.{put16};
@@ -81,8 +81,8 @@ fn put_sum(head: &mut [u8], ip: Header, header: Header, payload: Partial)
     }
 }
 
-/// The sum of what an IP header carries, from the header at `at` on, with that header's sum field at `field` taken as zero
-/// (RFC 9293, section 3.1; RFC 768).
+/// The sum of what an IP header carries, from the header at `at` on, with that header's sum field at `field` taken as
+/// zero (RFC 9293, section 3.1; RFC 768).
 #[inline(always)]
 fn sum_over(head: &[u8], ip: Header, protocol: u8, at: usize, field: usize, payload: Partial) -> u16
     requires field { at + field + 2 ≤ length head.now }

@@ -54,8 +54,8 @@ fn plain(rt: HostRuntime) {
     );
 }
 
-/// Ethernet, IPv4, UDP, VXLAN, Ethernet, tag, IPv6, TCP with options; payloads of three and of two bytes. With an outer UDP
-/// sum, and without one.
+/// Ethernet, IPv4, UDP, VXLAN, Ethernet, tag, IPv6, TCP with options; payloads of three and of two bytes. With an outer
+/// UDP sum, and without one.
 #[test]
 fn tunnelled(rt: HostRuntime) {
     let headers = [

@@ -83,7 +83,8 @@ more xs i totals highs pair inside few below is held =
 
 -- less the high halves the totals are what the low halves add to, and all of it fits one number
 pub closed : (i : ℕ) (totals highs added : List ℕ) → i < 2 ^ 28 → Held i totals highs added
-    → folded (256 * fold_l (λ a b. (a + b) % 2 ^ 64) 0 (zip2 (λ a b. (a + b) % 2 ^ 64) (zip2 (λ a b. (a + (2 ^ 64 - b)) % 2 ^ 64) totals (zip2 (λ a b. a * 2 ^ b % 2 ^ 64) highs (32 ∷ 32 ∷ []))) highs)) ≡ fold_of added
+    → folded (256 * fold_l (λ a b. (a + b) % 2 ^ 64) 0 (zip2 (λ a b. (a + b) % 2 ^ 64) (zip2 (λ a b. (a + (2 ^ 64 - b)) % 2 ^ 64) totals (zip2 (λ a b. a * 2 ^ b % 2 ^ 64) highs (32 ∷ 32 ∷ [])))
+    highs)) ≡ fold_of added
 closed i totals highs added few held =
     let first : ((held.low + 2 ^ 32 * held.high) % 2 ^ 64 + (2 ^ 64 - held.high * 2 ^ 32 % 2 ^ 64)) % 2 ^ 64 ≡ held.low = omega (arith, held.low_fits) in
     let next : ((held.next_low + 2 ^ 32 * held.next_high) % 2 ^ 64 + (2 ^ 64 - held.next_high * 2 ^ 32 % 2 ^ 64)) % 2 ^ 64 ≡ held.next_low = omega (arith, held.next_low_fits) in

@@ -27,7 +27,8 @@ pub(crate) fn lanes_sum(bytes: &[u8]) -> u64
         totals = totals + pair;
         highs = highs + (pair >> half);
     }
-    // The totals wrap. Less the high halves they are what the low halves add to, which fits a lane, so no carry is lost.
+    // The totals wrap. Less the high halves they are what the low halves add to, which fits a lane, so no carry is
+    // lost.
     let lows = totals - (highs << half);
     turned((lows + highs).reduce_sum())
 }

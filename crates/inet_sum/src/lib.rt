@@ -1,10 +1,10 @@
 //! The Internet sum: the one's complement sum of 16-bit words that IPv4, TCP and UDP carry (RFC 1071, section 1; RFC
 //! 791, section 3.1; RFC 9293, section 3.1; RFC 768).
 //!
-//! [`fold_of`] gives the sum of bytes folded into 16 bits, and [`checksum`] and [`udp_checksum`] what stands in a header
-//! (clauses `fold` and `checksum`). Bytes that come in pieces are summed by a [`Partial`], however they were cut, at odd
-//! places too: its clauses speak of every list of bytes that it stands for. The definition in `specs/` has one division
-//! in place of the carries.
+//! [`fold_of`] gives the sum of bytes folded into 16 bits, and [`checksum`] and [`udp_checksum`] what stands in a
+//! header (clauses `fold` and `checksum`). Bytes that come in pieces are summed by a [`Partial`], however they were
+//! cut, at odd places too: its clauses speak of every list of bytes that it stands for. The definition in `specs/` has
+//! one division in place of the carries.
 //!
 //! ```
 //! let mut sum = Partial::new();
@@ -16,7 +16,8 @@
 
 ghost use Rattle.std.specs.Prelude.{◌≡◌, ℕ, ◌+◌, ◌*◌, ◌/◌, ◌%◌, ◌^◌, ◌<◌, ◌≤◌, List, [], ◌∷◌, ◌++◌, length};
 ghost use Rattle.inet_sum.specs.Words.{number_of};
-ghost use Rattle.inet_sum.specs.Sum.{word_sum, folded, fold_of as fold_of_bytes, checksum_of, not_zero as not_zero_of, udp_checksum_of, joined_fold};
+ghost use Rattle.inet_sum.specs.Sum.{word_sum, folded, fold_of as fold_of_bytes, checksum_of, not_zero as not_zero_of};
+ghost use Rattle.inet_sum.specs.Sum.{udp_checksum_of, joined_fold};
 
 mod lanes;
 pub mod partial;
@@ -50,8 +51,8 @@ pub fn unfolded(bytes: &[u8]) -> u64
     }
 }
 
-/// The sum by lanes, and by the plain loop for the rest alone. It isn't inlined, since at a length that the compiler knows
-/// it takes less of the loop's turns together, which is slower.
+/// The sum by lanes, and by the plain loop for the rest alone. It isn't inlined, since at a length that the compiler
+/// knows it takes less of the loop's turns together, which is slower.
 #[inline(never)]
 fn long_sum(bytes: &[u8]) -> u64
     requires long { 16 ≤ length bytes.now }

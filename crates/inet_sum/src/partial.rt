@@ -2,7 +2,8 @@
 
 ghost use Rattle.std.specs.Prelude.{◌≡◌, ℕ, ◌+◌, ◌*◌, ◌/◌, ◌%◌, ◌^◌, ◌<◌, ◌≤◌, List, [], ◌∷◌, ◌++◌, length};
 ghost use Rattle.inet_sum.specs.Stands.{FoldAndLength, StandsFor};
-ghost use Rattle.inet_sum.specs.Sum.{folded, fold_of as fold_of_bytes, checksum_of, udp_checksum_of, joined_fold as joined_fold_of};
+ghost use Rattle.inet_sum.specs.Sum.{folded, fold_of as fold_of_bytes, checksum_of, udp_checksum_of};
+ghost use Rattle.inet_sum.specs.Sum.{joined_fold as joined_fold_of};
 
 use crate::{fold_number, fold_of};
 use std::marker::Model;
@@ -47,7 +48,8 @@ impl Partial {
     /// Adds the two bytes of a number, high byte first; the first of them may be above 255.
     pub fn add_number(&mut self, n: u32)
         requires few { self.old.len + 2 < 2 ^ 32 }
-        ensures sum { (front : List ℕ) → StandsFor self.old front → StandsFor self.new (front ++ (n / 256 ∷ n % 256 ∷ [])) }
+        ensures sum { (front : List ℕ) → StandsFor self.old front
+            → StandsFor self.new (front ++ (n / 256 ∷ n % 256 ∷ [])) }
         ensures len { self.new.len ≡ self.old.len + 2 }
     {
         let other = Partial {
@@ -60,7 +62,8 @@ impl Partial {
     /// The sum of these bytes followed by the other's.
     pub fn joined(self, other: Partial) -> Partial
         requires few { self.len + other.len < 2 ^ 32 }
-        ensures sum { (front back : List ℕ) → StandsFor self front → StandsFor other back → StandsFor result (front ++ back) }
+        ensures sum { (front back : List ℕ) → StandsFor self front → StandsFor other back
+            → StandsFor result (front ++ back) }
         ensures len { result.len ≡ self.len + other.len }
     {
         Partial {

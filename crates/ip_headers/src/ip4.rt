@@ -3,7 +3,11 @@
 ghost use Rattle.std.specs.Prelude.{◌≡◌, ◌↔◌, ℕ, ◌+◌, ◌<◌, ◌≤◌, ◌⊎◌, ◌++◌, true, List, length, IsSome, IfSome};
 ghost use Rattle.net_bytes.specs.Bytes.{byte, put16};
 ghost use Rattle.net_bytes.specs.View.{Placed};
-ghost use Rattle.ip_headers.specs.Ip4.{is_there, total_length as total_length_of, identification as identification_of, flags_and_offset as flags_and_offset_of, is_reserved_zero as is_reserved_zero_of, dont_fragment, time_to_live, protocol as protocol_of, header_checksum as header_checksum_of, source as source_of, destination as destination_of};
+ghost use Rattle.ip_headers.specs.Ip4.{is_there, total_length as total_length_of, identification as identification_of};
+ghost use Rattle.ip_headers.specs.Ip4.{flags_and_offset as flags_and_offset_of};
+ghost use Rattle.ip_headers.specs.Ip4.{is_reserved_zero as is_reserved_zero_of, dont_fragment, time_to_live};
+ghost use Rattle.ip_headers.specs.Ip4.{protocol as protocol_of, header_checksum as header_checksum_of};
+ghost use Rattle.ip_headers.specs.Ip4.{source as source_of, destination as destination_of};
 
 use net_bytes::{be16, is_inside, put_be16};
 use std::marker::Model;

@@ -3,7 +3,8 @@
 ghost use Rattle.std.specs.Prelude.{◌≡◌, ◌↔◌, ℕ, ◌+◌, ◌<◌, ◌≤◌, ◌⊎◌, ◌++◌, true, List, length, IsSome, IfSome};
 ghost use Rattle.net_bytes.specs.Bytes.{byte, put16};
 ghost use Rattle.net_bytes.specs.View.{Placed};
-ghost use Rattle.ip_headers.specs.Ip6.{is_there, payload_length as payload_length_of, next_header as next_header_of, hop_limit as hop_limit_of, source as source_of, destination as destination_of};
+ghost use Rattle.ip_headers.specs.Ip6.{is_there, payload_length as payload_length_of, next_header as next_header_of};
+ghost use Rattle.ip_headers.specs.Ip6.{hop_limit as hop_limit_of, source as source_of, destination as destination_of};
 
 use net_bytes::{be16, is_inside, put_be16};
 use std::marker::Model;

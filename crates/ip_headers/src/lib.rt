@@ -1,10 +1,10 @@
 //! The headers of IPv4 (RFC 791, section 3.1) and IPv6 (RFC 8200, section 3).
 //!
-//! [`Ip4View`] and [`Ip6View`] read the fields of a header that stands in a frame. `read` gives a view exactly where the
-//! header is there (`found`), and each reader gives the number or the address in the field's bytes (`field`). Where a
-//! caller knows that the header is there, the readers of [`ip4`] and [`ip6`] do without the view; the first bytes of a
-//! frame are enough (`front`). The writers [`set_total`], [`set_id`], [`set_header_sum`] and [`set_payload_len`] write
-//! the number's bytes into the field (`written`): its reader then gives it (`field`), and all other bytes stay
+//! [`Ip4View`] and [`Ip6View`] read the fields of a header that stands in a frame. `read` gives a view exactly where
+//! the header is there (`found`), and each reader gives the number or the address in the field's bytes (`field`). Where
+//! a caller knows that the header is there, the readers of [`ip4`] and [`ip6`] do without the view; the first bytes of
+//! a frame are enough (`front`). The writers [`set_total`], [`set_id`], [`set_header_sum`] and [`set_payload_len`]
+//! write the number's bytes into the field (`written`): its reader then gives it (`field`), and all other bytes stay
 //! (`others`).
 //!
 //! ```

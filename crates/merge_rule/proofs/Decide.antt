@@ -1,5 +1,6 @@
 -- What the tests of the next packet say of the run.
-use Rattle.std.proofs.Common.{◌≡◌, ℕ, suc, ◌+◌, ◌-◌, ◌*◌, ◌%◌, ◌^◌, ◌<◌, ◌≤◌, inl, inr, Bool, true, false, Some, List, [], ◌∷◌, ◌++◌, length, get_or, drop, refl, sym, ap, ◌∙◌, subst, arith, length-append}
+use Rattle.std.proofs.Common.{◌≡◌, ℕ, suc, ◌+◌, ◌-◌, ◌*◌, ◌%◌, ◌^◌, ◌<◌, ◌≤◌, inl, inr, Bool, true, false, Some, List, [], ◌∷◌, ◌++◌, length, get_or, drop, refl, sym, ap, ◌∙◌, subst, arith}
+use Rattle.std.proofs.Common.{length-append}
 use Rattle.std.specs.Prelude.{◌==◌, ◌||◌}
 use Rattle.std.specs.Bool.{Decides}
 use Rattle.std.proofs.lemmas.Bool.Decides.{Decides-and}
@@ -98,7 +99,8 @@ module _ (p x : Packet) (small : (k : ℕ) → byte p.frame k < 256) where
       → AtHeaders (AreIdsInStep p.frame ((p ∷ ps) ++ (x ∷ []))) hs
   ids_from ps modes [] know i e = tt
   ids_from ps modes (h ∷ hs) know i e =
-      let s : (is_next_id_at (length (p ∷ ps)) modes p.frame x.frame h.layer h.at ≡ true) × (are_ids_next (length (p ∷ ps)) (modes_behind h.layer modes) p.frame x.frame hs ≡ true) = and_parts _ _ e in (
+      let s : (is_next_id_at (length (p ∷ ps)) modes p.frame x.frame h.layer h.at ≡ true) × (are_ids_next (length (p ∷ ps)) (modes_behind h.layer modes) p.frame x.frame hs
+      ≡ true) = and_parts _ _ e in (
         id_at_from ps modes (modes_of (is_fixed_in (p ∷ ps)) hs) h.layer h.at know i.0 s.0,
         ids_from ps (modes_behind h.layer modes) hs (λ two. ap (modes_behind h.layer) (know two) ∙ at_behind h.layer (is_fixed_in (p ∷ ps) h.at) (modes_of (is_fixed_in (p ∷ ps)) hs)) i.1 s.1,
       )

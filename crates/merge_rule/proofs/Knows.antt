@@ -1,5 +1,6 @@
 -- What a run knows decides whether it takes one more packet.
-use Rattle.std.proofs.Common.{◌≡◌, ℕ, ◌+◌, ◌-◌, ◌*◌, ◌^◌, ◌<◌, ◌≤◌, inl, inr, Bool, true, false, Option, Some, None, List, [], ◌∷◌, ◌++◌, length, get_or, map, drop, refl, sym, ap, ◌∙◌, subst, arith, length-append}
+use Rattle.std.proofs.Common.{◌≡◌, ℕ, ◌+◌, ◌-◌, ◌*◌, ◌^◌, ◌<◌, ◌≤◌, inl, inr, Bool, true, false, Option, Some, None, List, [], ◌∷◌, ◌++◌, length, get_or, map, drop, refl, sym, ap, ◌∙◌, subst, arith}
+use Rattle.std.proofs.Common.{length-append}
 use Rattle.std.specs.Prelude.{◌==◌, ◌&&◌}
 use Rattle.std.specs.Bool.{Decides}
 use Rattle.std.proofs.lemmas.Bool.{and_parts, and_from, eqb-true, eq-eqb}
@@ -246,7 +247,8 @@ placed_by f layout s = record { laid = (laid f layout s).0; few = (counts f layo
 pub within : (f : List ℕ) (layout : Layout) → shape_of f ≡ Some layout → layout.payload_at ≤ length f
 within f layout s = (laid f layout s).1
 
-pub next_within : (p x : Packet) (ps : List Packet) (layout : Layout) (sum : FoldAndLength) (bits : ℕ) (state : Progress) → IsRunOf layout sum bits state p (p ∷ ps) → IsMergeable ((p ∷ ps) ++ (x ∷ []))
+pub next_within : (p x : Packet) (ps : List Packet) (layout : Layout) (sum : FoldAndLength) (bits : ℕ) (state : Progress) → IsRunOf layout sum bits state p (p ∷ ps)
+    → IsMergeable ((p ∷ ps) ++ (x ∷ []))
     → layout.payload_at ≤ length x.frame
 next_within p x ps layout sum bits state r m = within x.frame layout (continued p ps layout sum bits state r x m).shape_is
 

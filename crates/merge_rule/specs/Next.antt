@@ -1,5 +1,6 @@
 -- What is asked of the next packet of a run, header by header.
-use Rattle.std.specs.Prelude.{◌≡◌, ℕ, ◌+◌, ◌-◌, ◌%◌, ◌^◌, ◌<◌, ◌≤◌, ◌==◌, ◌↔◌, Bool, true, ◌&&◌, ◌||◌, if◌then◌else◌, Option, Some, None, List, [], ◌∷◌, ◌++◌, length, map}
+use Rattle.std.specs.Prelude.{◌≡◌, ℕ, ◌+◌, ◌-◌, ◌%◌, ◌^◌, ◌<◌, ◌≤◌, ◌==◌, ◌↔◌, Bool, true, ◌&&◌, ◌||◌, if◌then◌else◌}
+use Rattle.std.specs.Prelude.{Option, Some, None, List, [], ◌∷◌, ◌++◌, length, map}
 use Rattle.std.specs.List.{AllByRecursion, flat_map}
 use Rattle.pcap_io.specs.Limits.{most_frame}
 use Rattle.net_bytes.specs.Bytes.{byte}
@@ -12,18 +13,22 @@ use Rattle.frame_layout.specs.declared.layout.Layer.TheVariants.{Ip4}
 use Rattle.offload_model.specs.Merged.{modes_behind}
 use Rattle.offload_model.specs.Tests.{are_udp_sums_alike, is_sequence_behind, is_length_in_range}
 
--- a header of the next frame: it has a UDP sum where the first frame has one, its sequence number is `further` bytes behind that of
--- the first frame, and its length field has room in a merged frame of `total` bytes
+-- a header of the next frame: it has a UDP sum where the first frame has one, its sequence number is `further` bytes
+-- behind that of the first frame, and its length field has room in a merged frame of `total` bytes
 abbrev pub is_next_at : List ℕ → List ℕ → ℕ → ℕ → Layer → ℕ → Bool
 is_next_at first next further total layer at =
-    are_udp_sums_alike next first layer at && (is_sequence_behind first next further layer at && is_length_in_range total layer at)
+    are_udp_sums_alike next first layer at && (is_sequence_behind first next further layer at
+    && is_length_in_range total layer at)
 
--- the identification of packet n, from 0: packet 1 settles whether it stays or rises, and the lowest bit of `modes` keeps that
+-- the identification of packet n, from 0: packet 1 settles whether it stays or rises, and the lowest bit of `modes`
+-- keeps that
 abbrev pub is_next_id : ℕ → ℕ → List ℕ → List ℕ → ℕ → Bool
 is_next_id n modes first next at =
     if n == 1
-    then identification next at == (identification first at + n) % 2 ^ 16 || (dont_fragment first at && identification next at == identification first at)
-    else (if modes % 2 == 1 then identification next at == identification first at else identification next at == (identification first at + n) % 2 ^ 16)
+    then identification next at == (identification first at + n) % 2 ^ 16
+    || (dont_fragment first at && identification next at == identification first at)
+    else (if modes % 2 == 1 then identification next at == identification first at
+    else identification next at == (identification first at + n) % 2 ^ 16)
 
 abbrev pub is_next_id_at : ℕ → ℕ → List ℕ → List ℕ → Layer → ℕ → Bool
 is_next_id_at n modes first next Ip4 at = is_next_id n modes first next at
@@ -31,7 +36,8 @@ is_next_id_at n modes first next _ at = true
 
 abbrev pub are_ids_next : ℕ → ℕ → List ℕ → List ℕ → List Header → Bool
 are_ids_next n modes first next [] = true
-are_ids_next n modes first next (h ∷ hs) = is_next_id_at n modes first next h.layer h.at && are_ids_next n (modes_behind h.layer modes) first next hs
+are_ids_next n modes first next (h ∷ hs) = is_next_id_at n modes first next h.layer h.at
+    && are_ids_next n (modes_behind h.layer modes) first next hs
 
 -- the bytes from one place to another are the same
 abbrev pub AreSame : List ℕ → List ℕ → ℕ → ℕ → Type 0
@@ -68,13 +74,14 @@ pub record HasHead (head : List ℕ) (n : ℕ) (f : List ℕ) : Type 0 where
   pub begins : (k : ℕ) → k < length head → byte f k ≡ byte head k
   pub long : length f ≡ n
 
--- a frame of m bytes that begins with `next` continues an open run of `count` packets, whose first has n bytes and begins with
--- `first`: its merged frame has `total` bytes so far, and `modes` say which identifications stay
+-- a frame of m bytes that begins with `next` continues an open run of `count` packets, whose first has n bytes and
+-- begins with `first`: its merged frame has `total` bytes so far, and `modes` say which identifications stay
 pub record IsNextBy (layout : Layout) (first : List ℕ) (n count total modes : ℕ) (next : List ℕ) (m : ℕ) : Type 0 where
   pub shorter : m ≤ n
   pub there : layout.payload_at ≤ m
   pub alike : AreHeadersAlike layout first next
-  pub numbers : all_headers (is_next_at first next (total - layout.payload_at) (total + (m - layout.payload_at))) layout.headers ≡ true
+  pub numbers : all_headers (is_next_at first next (total - layout.payload_at) (total + (m - layout.payload_at)))
+      layout.headers ≡ true
   pub room : total + (m - layout.payload_at) ≤ most_frame
   pub ids : are_ids_next count modes first next layout.headers ≡ true
 

@@ -1,5 +1,6 @@
 -- What merging knows of a run of packets.
-use Rattle.std.specs.Prelude.{◌≡◌, ◌==◌, ◌&&◌, ◌⊎◌, ℕ, ◌+◌, ◌-◌, ◌<◌, ◌≤◌, Bool, true, false, Option, Some, None, List, length, drop}
+use Rattle.std.specs.Prelude.{◌≡◌, ◌==◌, ◌&&◌, ◌⊎◌, ℕ, ◌+◌, ◌-◌, ◌<◌, ◌≤◌, Bool, true, false, Option, Some, None, List}
+use Rattle.std.specs.Prelude.{length, drop}
 use Rattle.pcap_io.specs.Limits.{most_frame}
 use Rattle.net_bytes.specs.Bytes.{byte}
 use Rattle.inet_sum.specs.Stands.{FoldAndLength, StandsFor}
@@ -16,14 +17,16 @@ use Rattle.offload_model.specs.Merged.{frame_at, is_fixed_in, modes_of}
 use Rattle.frame_layout.specs.Segment.{HasFlags}
 use Rattle.merge_rule.specs.declared.rule.Progress.{Progress}
 
--- what a run of this layout, whose first frame is `first`, has come to: `is_open` where each packet is as long as the first and
--- has ACK alone, so that there may be one more, and `total` is the length of the merged frame. From the second packet on
--- `modes` say which identifications stay.
-pub record IsProgress (layout : Layout) (first : List ℕ) (run : List Packet) (is_open : Bool) (total modes : ℕ) : Type 0 where
+-- what a run of this layout, whose first frame is `first`, has come to: `is_open` where each packet is as long as the
+-- first and has ACK alone, so that there may be one more, and `total` is the length of the merged frame. From the
+-- second packet on `modes` say which identifications stay.
+pub record IsProgress (layout : Layout) (first : List ℕ) (run : List Packet) (is_open : Bool)
+    (total modes : ℕ) : Type 0 where
   pub line : AreConsecutive layout first run
   pub full : is_open ≡ true → Each (λ i p. length p.frame ≡ length first) run
   pub flags : is_open ≡ true → Each (λ i p. AtHeaders (IsAckAlone p.frame) layout.headers) run
-  pub shut : is_open ≡ false → Each (λ i p. length p.frame ≡ length first) run → Each (λ i p. AtHeaders (IsAckAlone p.frame) layout.headers) run → ⊥
+  pub shut : is_open ≡ false → Each (λ i p. length p.frame ≡ length first) run
+      → Each (λ i p. AtHeaders (IsAckAlone p.frame) layout.headers) run → ⊥
   pub long : total ≡ layout.payload_at + length (payloads_of layout run)
   pub staying : 2 ≤ length run → modes ≡ modes_of (is_fixed_in run) layout.headers
 
@@ -50,9 +53,10 @@ abbrev pub IsShaped : Option Layout → List ℕ → Type 0
 IsShaped None f = Unit {0}
 IsShaped (Some layout) f = shape_of f ≡ Some layout
 
--- a run that begins with a candidate of this layout, the sum of its payloads, its last packet's control bits, and what it has come
--- to
-pub record IsRunOf (layout : Layout) (sum : FoldAndLength) (bits : ℕ) (state : Progress) (first : Packet) (run : List Packet) : Type 0 where
+-- a run that begins with a candidate of this layout, the sum of its payloads, its last packet's control bits, and what
+-- it has come to
+pub record IsRunOf (layout : Layout) (sum : FoldAndLength) (bits : ℕ) (state : Progress) (first : Packet)
+    (run : List Packet) : Type 0 where
   pub shape : shape_of first.frame ≡ Some layout
   pub candidate : IsCandidate first.frame first.original layout
   pub in_bytes : (k : ℕ) → byte first.frame k < 256
@@ -79,7 +83,8 @@ IsFirstProgress (Some layout) f state =
 -- either the second packet settles the modes, or they stay
 abbrev pub AreNextModes : List ℕ → ℕ → List ℕ → List Header → ℕ → ℕ → Type 0
 AreNextModes first more next hs old new =
-    ((more ≡ 0) × (new ≡ modes_of (λ at. identification next at == identification first at) hs)) ⊎ ((1 ≤ more) × (new ≡ old))
+    ((more ≡ 0) × (new ≡ modes_of (λ at. identification next at == identification first at) hs))
+    ⊎ ((1 ≤ more) × (new ≡ old))
 
 -- what a run of a first packet and `more` others comes to with the frame `next`
 abbrev pub IsNextProgress : Option Layout → List ℕ → ℕ → List ℕ → Progress → Progress → Type 0

@@ -10,10 +10,11 @@ use Rattle.offload_model.specs.Rounds.{is_of, number_of}
 abbrev pub IsLastBelow : {X : Type 0} → (X → Bool) → List X → ℕ → Option ℕ → Type 0
 IsLastBelow {X} test xs n None = (k : ℕ) (d : X) → k < n → test (slice_index_or xs k d) ≡ false
 IsLastBelow {X} test xs n (Some i) =
-    (i < n) × ((d : X) → test (slice_index_or xs i d) ≡ true) × ((k : ℕ) (d : X) → i < k → k < n → test (slice_index_or xs k d) ≡ false)
+    (i < n) × ((d : X) → test (slice_index_or xs i d) ≡ true)
+    × ((k : ℕ) (d : X) → i < k → k < n → test (slice_index_or xs k d) ≡ false)
 
--- the runs, of at most `segs` packets each, are those of the packets so far, whatever these are, with one more packet, whose number is
--- above those that begin a run
+-- the runs, of at most `segs` packets each, are those of the packets so far, whatever these are, with one more packet,
+-- whose number is above those that begin a run
 abbrev pub TakesPacket : ℕ → List (List Packet) → Packet → List (List Packet) → Type 0
 TakesPacket segs old x new =
     (packets : List Packet)

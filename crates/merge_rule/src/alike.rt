@@ -29,8 +29,8 @@ fn varying(layer: Layer) -> &'static [(usize, usize)]
     }
 }
 
-/// Whether two frames have the same bytes from a place on between these fields of a header at `at`; if so, the end of the last
-/// field. The payload begins at `end`.
+/// Whether two frames have the same bytes from a place on between these fields of a header at `at`; if so, the end of
+/// the last field. The payload begins at `end`.
 fn alike_to(
     first: &[u8],
     next: &[u8],

@@ -1,13 +1,13 @@
 //! The rule of merging: which packet continues a run, and what a run has come to.
 //!
-//! A run is judged by what its first packet's headers say and by its [`Progress`]: whether all its packets are full, how long
-//! its merged frame is, and which IPv4 identifications stay. What is read of a frame are its first bytes, with all headers
-//! among them, and its length, so the rule is the same for frames in one piece and for frames that lie in buffers: each clause
-//! speaks of every frame that has these first bytes and this length.
+//! A run is judged by what its first packet's headers say and by its [`Progress`]: whether all its packets are full,
+//! how long its merged frame is, and which IPv4 identifications stay. What is read of a frame are its first bytes, with
+//! all headers among them, and its length, so the rule is the same for frames in one piece and for frames that lie in
+//! buffers: each clause speaks of every frame that has these first bytes and this length.
 //!
-//! Proved: [`is_next`] is true exactly where the frame continues the run (`next`), and the progress is that of the run with
-//! it (`progress`). The lemmas of `proofs/Knows` tie both to the definition of mergeable packets, `proofs/Merge` to the
-//! merged frame, and `proofs/Steps` to the runs of all flows.
+//! Proved: [`is_next`] is true exactly where the frame continues the run (`next`), and the progress is that of the run
+//! with it (`progress`). The lemmas of `proofs/Knows` tie both to the definition of mergeable packets, `proofs/Merge`
+//! to the merged frame, and `proofs/Steps` to the runs of all flows.
 //!
 //! ```
 //! if progress.is_open && is_next(layout, first, first_len, count, &progress, next, next_len) {

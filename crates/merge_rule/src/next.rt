@@ -10,8 +10,8 @@ use frame_layout::{Header, Layer};
 use ip_headers::ip4;
 use tcp_headers::{tcp, udp};
 
-/// A header of the next frame: its sequence number is `further` bytes behind the first frame's, it has a UDP sum where that
-/// has one, and its 16 bits of length, where it has these, hold the length of a merged frame of `total` bytes.
+/// A header of the next frame: its sequence number is `further` bytes behind the first frame's, it has a UDP sum where
+/// that has one, and its 16 bits of length, where it has these, hold the length of a merged frame of `total` bytes.
 fn is_next_header(first: &[u8], next: &[u8], further: u32, total: usize, header: Header) -> bool
     requires first { header.at + size header.layer ≤ length first.now }
     requires next { header.at + size header.layer ≤ length next.now }
@@ -71,8 +71,8 @@ pub(crate) fn is_ack_alone(frame: &[u8], headers: &[Header]) -> bool
     true
 }
 
-/// The identification of packet `count`, from 0, of a run. With packet 1 it is settled whether it stays or rises, which the
-/// lowest bit of `modes` keeps.
+/// The identification of packet `count`, from 0, of a run. With packet 1 it is settled whether it stays or rises, which
+/// the lowest bit of `modes` keeps.
 fn is_next_id(first: &[u8], next: &[u8], count: usize, modes: u8, header: Header) -> bool
     requires first { header.at + size header.layer ≤ length first.now }
     requires next { header.at + size header.layer ≤ length next.now }
@@ -131,7 +131,8 @@ fn mode_before(first: &[u8], next: &[u8], header: Header, behind: u8) -> u8
     requires first { header.at + size header.layer ≤ length first.now }
     requires next { header.at + size header.layer ≤ length next.now }
     requires few { behind < 2 ^ 6 }
-    ensures modes { result ≡ modes_at header.layer (identification_of next.now header.at == identification_of first.now header.at) behind }
+    ensures modes { result ≡ modes_at header.layer (identification_of next.now header.at
+        == identification_of first.now header.at) behind }
 {
     match header.layer {
         Layer::Ip4 => {
@@ -144,12 +145,14 @@ fn mode_before(first: &[u8], next: &[u8], header: Header, behind: u8) -> u8
     }
 }
 
-/// A bit for each IP header, the lowest for the first, set where the identification stays from the first frame to the next.
+/// A bit for each IP header, the lowest for the first, set where the identification stays from the first frame to the
+/// next.
 pub(crate) fn modes_of(first: &[u8], next: &[u8], headers: &[Header]) -> u8
     requires first { AreInside (length first.now) headers.now }
     requires next { AreInside (length next.now) headers.now }
     requires few { ip_count headers.now ≤ 2 }
-    ensures modes { result ≡ modes_of_headers (λ at. identification_of next.now at == identification_of first.now at) headers.now }
+    ensures modes { result ≡ modes_of_headers (λ at. identification_of next.now at
+        == identification_of first.now at) headers.now }
 {
     let mut modes: u8 = 0;
     let mut i = headers.len();

@@ -11,8 +11,8 @@ use crate::next::{are_next, are_next_ids, is_ack_alone, modes_of};
 use frame_layout::{Header, Layout};
 use pcap_io::FRAME_LIMIT;
 
-/// What a run has come to: whether it may take one more packet, the length of its merged frame, and a bit for each IP header
-/// whose identification stays, the lowest for the first.
+/// What a run has come to: whether it may take one more packet, the length of its merged frame, and a bit for each IP
+/// header whose identification stays, the lowest for the first.
 #[derive(Clone, Copy)]
 pub struct Progress {
     pub is_open: bool,
@@ -46,7 +46,8 @@ fn continues(
     requires behind { layout.now.payload_at ≤ progress.now.total }
     requires total { progress.now.total < 2 ^ 31 }
     requires few { next_len < 2 ^ 31 }
-    ensures next { Decides result (IsNextBy layout.now first.now first_len count progress.now.total progress.now.modes next.now next_len) }
+    ensures next { Decides result (IsNextBy layout.now first.now first_len count progress.now.total progress.now.modes
+        next.now next_len) }
 {
     let at = layout.payload_at();
     if next_len > first_len || next_len < at {
@@ -60,8 +61,8 @@ fn continues(
         && are_next_ids(first, next, count, progress.modes, layout.headers())
 }
 
-/// Whether a frame of `next_len` bytes that begins with `next` continues an open run of `count` packets, the first of which has
-/// `first_len` bytes and begins with `first`. The headers are among these first bytes.
+/// Whether a frame of `next_len` bytes that begins with `next` continues an open run of `count` packets, the first of
+/// which has `first_len` bytes and begins with `first`. The headers are among these first bytes.
 pub fn is_next(
     layout: &Layout,
     first: &[u8],
@@ -83,7 +84,8 @@ pub fn is_next(
     continues(layout, first, first_len, count, progress, next, next_len)
 }
 
-/// Whether there may be a packet behind a frame that begins with `next`, in a run whose first packet has `first_len` bytes.
+/// Whether there may be a packet behind a frame that begins with `next`, in a run whose first packet has `first_len`
+/// bytes.
 fn stays_open(first_len: usize, next: &[u8], next_len: usize, headers: &[Header]) -> bool
     requires there { AreInside (length next.now) headers.now }
     ensures open { result ≡ (next_len == first_len && all_headers (is_ack_alone_of next.now) headers.now) }

@@ -39,7 +39,8 @@ fn put16(head: &mut [u8; 54], at: usize, value: u16)
     head[at..at + 2].copy_from_slice(&value.to_be_bytes());
 }
 
-// The headers of packet `index` of a flow, Ethernet, IPv4 and TCP, whose payload stands behind `before` bytes of that flow.
+// The headers of packet `index` of a flow, Ethernet, IPv4 and TCP, whose payload stands behind `before` bytes of that
+// flow.
 fn plain(index: u16, before: u32, flags: u8, payload: &[u8]) -> [u8; 54]
     requires short { length payload.now ≤ 1000 }
 {

@@ -38,8 +38,8 @@ fn worked_records_are_cut(rt: HostRuntime) -> Result<(), Fail> {
     Ok(())
 }
 
-// Kind, n, m, modes, lane; how many frames are given, how many bytes in all, and the bytes 18 and 19 and 38 to 41 of the second: its
-// identification and sequence number.
+// Kind, n, m, modes, lane; how many frames are given, how many bytes in all, and the bytes 18 and 19 and 38 to 41 of
+// the second: its identification and sequence number.
 const TAKEN: [(u8, u16, u16, u8, u8, usize, usize, [u8; 6]); 6] = [
     (1, 2, 4, 0, 63, 2, 114, [0, 0x65, 0, 0, 3, 0xec]),
     (1, 2, 5, 0, 0, 2, 114, [0, 0x65, 0, 0, 3, 0xed]),
@@ -78,7 +78,8 @@ fn each_kind_is_cut_in_both_versions(rt: HostRuntime) -> Result<(), Fail> {
     Ok(())
 }
 
-// m, n, how many bytes the head has and each piece, the blocks, and the digest of all frames. From segment 65 on sums aren't kept.
+// m, n, how many bytes the head has and each piece, the blocks, and the digest of all frames. From segment 65 on sums
+// aren't kept.
 type Row = (u32, u32, usize, usize, usize, u32);
 
 const TAGGED: [Row; 3] = [

@@ -33,7 +33,8 @@ filled_take into piece at n le room =
     let post = post_of at (length into - at) into in
     let len : length (take at into) ≡ at = length-take-le at into le in
     let e : take (length (take at into) + n) (take at into ++ (piece ++ post)) ≡ take at into ++ take n (piece ++ post) = take-append-add (take at into) (piece ++ post) n in
-    let e2 : take (at + n) (take at into ++ (piece ++ post)) ≡ take at into ++ take n (piece ++ post) = subst (λ k. take (k + n) (take at into ++ (piece ++ post)) ≡ take at into ++ take n (piece ++ post)) len e in
+    let e2 : take (at + n) (take at into ++ (piece ++ post)) ≡ take at into ++ take n (piece ++ post) = subst (λ k. take (k + n) (take at into ++ (piece ++ post)) ≡ take at into
+    ++ take n (piece ++ post)) len e in
     e2 ∙ ap (λ l. take at into ++ l) (take-append-le n piece post room)
 
 pub filled_more : (a b c : Option (List ℕ)) (into piece : List ℕ) (at n : ℕ) → at ≤ length into → n ≤ length piece

@@ -1,5 +1,6 @@
 -- What calls do to the bytes that a source has left and a sink holds, where these tell.
-use Rattle.std.specs.Prelude.{◌≡◌, ℕ, ◌<◌, List, ◌++◌, length, take, slice_index, Bool, IfSome, Option, Result, MatchResult}
+use Rattle.std.specs.Prelude.{◌≡◌, ℕ, ◌<◌, List, ◌++◌, length, take, slice_index, Bool, IfSome, Option, Result}
+use Rattle.std.specs.Prelude.{MatchResult}
 use Rattle.std.specs.Io.KnownBytes.{Appends, Consumes, IsAtEnd}
 
 -- of a piece the first bytes were appended, maybe none and maybe all
@@ -22,7 +23,8 @@ InBytes bytes = (k : ℕ) → slice_index bytes k < 256
 abbrev pub LosesFewer : Option (List ℕ) → Option (List ℕ) → ℕ → Type 0
 LosesFewer old new n = (bytes : List ℕ) × Consumes old new bytes × (length bytes < n) × InBytes bytes
 
--- at `Ok(n)` the first n bytes of the buffer were the next ones of the source, and fewer than all only at its end; at `Err` fewer bytes are gone
+-- at `Ok(n)` the first n bytes of the buffer were the next ones of the source, and fewer than all only at its end; at
+-- `Err` fewer bytes are gone
 abbrev pub FillsFront : {E : Type 0} → Option (List ℕ) → Option (List ℕ) → Result ℕ E → List ℕ → Type 0
 FillsFront old new r into = MatchResult r
     (λ n. Consumes old new (take n into) × (n < length into → IsAtEnd new))

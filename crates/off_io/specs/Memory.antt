@@ -33,4 +33,5 @@ pub record SameScript (old new : SinkState) : Type 0 where
 
 -- a call whose number isn't listed fails only where an append was given up for want of memory
 abbrev pub FailsAsListed : {T E : Type 0} → SinkState → SinkState → Result T E → Type 0
-FailsAsListed old new result = is_listed old.fails old.calls ≡ false → OnErr result (new.refused ≡ next_count old.refused)
+FailsAsListed old new result = is_listed old.fails old.calls ≡ false
+    → OnErr result (new.refused ≡ next_count old.refused)

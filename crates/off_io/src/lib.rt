@@ -2,11 +2,13 @@
 //!
 //! A [`Source`] gives bytes and a [`Sink`] takes them. Each may tell what it has left or holds, and each counts its
 //! faults; a call answers a fault only where that count rose. So a theorem over any source and sink can say which bytes
-//! were read and written, and can blame a fault on the outside alone. A [`Gate`] is passed by tasks and changes no answer; at a [`Meeting`] two of them wait for each other.
+//! were read and written, and can blame a fault on the outside alone. A [`Gate`] is passed by tasks and changes no
+//! answer; at a [`Meeting`] two of them wait for each other.
 //!
-//! Proved: `write_all` appends all bytes, or a front of them at a fault (clauses `ok`, `err`, `cause`); `read_full` fills
-//! its buffer but at the end of the source (`bytes`, `cause`); the sources and sinks in memory fail at exactly the calls
-//! that they were told (`fails`). Trusted: that std's readers and writers behind [`StdSource`] and [`StdSink`] do as they say.
+//! Proved: `write_all` appends all bytes, or a front of them at a fault (clauses `ok`, `err`, `cause`); `read_full`
+//! fills its buffer but at the end of the source (`bytes`, `cause`); the sources and sinks in memory fail at exactly
+//! the calls that they were told (`fails`). Trusted: that std's readers and writers behind [`StdSource`] and
+//! [`StdSink`] do as they say.
 //!
 //! ```text
 //! let mut source = StdSource::new(rt.stdin());

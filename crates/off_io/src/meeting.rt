@@ -7,8 +7,8 @@ use std::thread::yield_now;
 /// The times that a task yields to one that hasn't come: some tenths of a second.
 const PATIENCE: u32 = 1_000_000;
 
-/// Each of two tasks says before its work that it is here, and waits a while for the other. Only tasks that run at the same time
-/// both meet the other: for tests that threads are threads.
+/// Each of two tasks says before its work that it is here, and waits a while for the other. Only tasks that run at the
+/// same time both meet the other: for tests that threads are threads.
 #[derive(Drop)]
 pub struct Meeting {
     one: Who,

@@ -1,5 +1,6 @@
 //! A sink in memory that fails at chosen calls.
-ghost use Rattle.std.specs.Prelude.{◌≡◌, ◌<◌, ◌≤◌, ◌+◌, ◌↔◌, min, Some, [], true, false, length, IsErr, IfOk, OnOk, OnErr, IsTrue};
+ghost use Rattle.std.specs.Prelude.{◌≡◌, ◌<◌, ◌≤◌, ◌+◌, ◌↔◌, min, Some, [], true, false, length, IsErr, IfOk, OnOk};
+ghost use Rattle.std.specs.Prelude.{OnErr, IsTrue};
 ghost use Rattle.std.specs.Io.{WritesAtMost};
 ghost use Rattle.std.specs.Io.KnownBytes.{WriteAppends, Keeps};
 ghost use Rattle.off_io.specs.Faults.{HasCause, CountsFault, next_count};
@@ -30,7 +31,15 @@ impl Model for MemSink {
 
     ghost Value = { SinkState };
 
-    ghost view = { λ s. record { bytes = s.bytes.items; is_flushed = s.is_flushed; step = s.step; fails = s.fails.items; calls = s.calls; faults = s.faults; refused = s.refused } };
+    ghost view = { λ s. record {
+      bytes = s.bytes.items;
+      is_flushed = s.is_flushed;
+      step = s.step;
+      fails = s.fails.items;
+      calls = s.calls;
+      faults = s.faults;
+      refused = s.refused;
+    } };
 
     ghost invariant = { λ s. 0 < s.step };
 }
@@ -38,7 +47,15 @@ impl Model for MemSink {
 impl MemSink {
     pub fn new(alloc: Global, step: usize, fails: Vec<u64>) -> Self
         requires some { 0 < step }
-        ensures made { result ≡ record { bytes = []; is_flushed = true; step = step; fails = fails.items; calls = 0; faults = 0; refused = 0 } }
+        ensures made { result ≡ record {
+          bytes = [];
+          is_flushed = true;
+          step = step;
+          fails = fails.items;
+          calls = 0;
+          faults = 0;
+          refused = 0;
+        } }
     {
         MemSink {
             bytes: Vec::new(alloc),

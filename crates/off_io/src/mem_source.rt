@@ -8,8 +8,8 @@ ghost use Rattle.off_io.specs.Memory.{is_listed};
 use crate::{Failed, Source};
 use std::marker::Model;
 
-/// Gives the bytes that it was made with, at most `step` at a call. Exactly the calls whose numbers, counted from 0, are
-/// in the list `fails` answer `Failed`, and each of these raises the count of faults.
+/// Gives the bytes that it was made with, at most `step` at a call. Exactly the calls whose numbers, counted from 0,
+/// are in the list `fails` answer `Failed`, and each of these raises the count of faults.
 #[derive(Drop)]
 pub struct MemSource {
     bytes: Vec<u8>,
@@ -26,7 +26,13 @@ impl Model for MemSource {
 
     ghost Value = { SourceState };
 
-    ghost view = { λ s. record { rest = drop s.at s.bytes.items; step = s.step; fails = s.fails.items; calls = s.calls; faults = s.faults } };
+    ghost view = { λ s. record {
+      rest = drop s.at s.bytes.items;
+      step = s.step;
+      fails = s.fails.items;
+      calls = s.calls;
+      faults = s.faults;
+    } };
 
     ghost invariant = { λ s. (s.at ≤ vec_len s.bytes) × (0 < s.step) };
 }

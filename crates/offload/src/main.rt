@@ -1,10 +1,10 @@
 //! `offload` over standard input, output and error: `offload merge < capture.pcap > merged.pcap`.
 //!
 //! The whole program is `offload_run::run`, and its clauses say what it does. `main` has no clause of its own: what is
-//! proved of it is that it is safe, and that it ends but where `merge` waits: for its thread that reads, or that thread for it.
-//! It ends with the status of a run; with 7 where the buffers can't be had, which
-//! is logged as a run logs it; and with 8 where the system doesn't give the words as text. The buffers of 64 KiB keep a
-//! record from costing a system call for each header.
+//! proved of it is that it is safe, and that it ends but where `merge` waits: for its thread that reads, or that thread
+//! for it. It ends with the status of a run; with 7 where the buffers can't be had, which is logged as a run logs it;
+//! and with 8 where the system doesn't give the words as text. The buffers of 64 KiB keep a record from costing a
+//! system call for each header.
 #![tactic(auto)]
 
 use off_io::{NoGate, Sink, StdSink, StdSource};

@@ -26,9 +26,11 @@ all_runs segs ps rising =
 
 pub queues_keep_runs : QueuesKeepRuns
 queues_keep_runs segs spread q ps rising =
-    unique_items is_of number_of key_in (λ p. is_key_self (key_of p.frame)) (IsMergeableWithin segs) (fronts_too segs) (filter (is_queued spread q) ps) (items_of segs spread q ps) (filter (begins_in (is_queued spread q)) (runs_in segs ps))
+    unique_items is_of number_of key_in (λ p. is_key_self (key_of p.frame)) (IsMergeableWithin segs) (fronts_too segs) (filter (is_queued spread q) ps) (items_of segs spread q ps)
+    (filter (begins_in (is_queued spread q)) (runs_in segs ps))
     (items_are segs spread q ps rising)
-    (part_items (IsMergeableWithin segs) is_of key_in number_of (is_queued spread q) are_flows (λ x y e. ap (λ (k : Option (List ℕ)). spread k == q) (is_key_same (key_of x.frame) (key_of y.frame) e)) ps (runs_in segs ps) (all_runs segs ps rising))
+    (part_items (IsMergeableWithin segs) is_of key_in number_of (is_queued spread q) are_flows (λ x y e. ap (λ (k : Option (List ℕ)). spread k == q) (is_key_same (key_of x.frame) (key_of y.frame) e))
+    ps (runs_in segs ps) (all_runs segs ps rising))
 
 -- ---- a list that is parted by a number below n
 

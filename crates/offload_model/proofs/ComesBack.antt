@@ -1,5 +1,6 @@
 -- Segmenting what merging wrote.
-use Rattle.std.proofs.Common.{◌≡◌, ℕ, suc, ◌+◌, ◌^◌, ◌<◌, ◌≤◌, ◌⊎◌, inl, inr, Bool, true, false, cond, Option, None, List, [], ◌∷◌, ◌++◌, length, get_or, take, map, refl, sym, ap, ◌∙◌, subst, arith, length-append}
+use Rattle.std.proofs.Common.{◌≡◌, ℕ, suc, ◌+◌, ◌^◌, ◌<◌, ◌≤◌, ◌⊎◌, inl, inr, Bool, true, false, cond, Option, None, List, [], ◌∷◌, ◌++◌, length, get_or, take, map, refl, sym, ap, ◌∙◌, subst, arith}
+use Rattle.std.proofs.Common.{length-append}
 use Rattle.std.specs.Prelude.{◌==◌, if◌then◌else◌, is_some}
 use Rattle.std.specs.List.{flat_map, filter, AllByRecursion, range_with_len}
 use Rattle.std.proofs.lemmas.List.{take_at, length-map}
@@ -107,7 +108,8 @@ windows_sound t p (b ∷ bytes) c = (window_sound t p (b ∷ bytes) c, tt)
 
 round_sound : (o : Options) (ps : List Packet) → AreCaptured ps → AllByRecursion IsSound (round_records o ps)
 round_sound o ps c =
-    all_append IsSound (flat_map (λ q. map (record_of q) (items_of o.segs o.spread q ps)) (range_with_len 0 o.queues)) (flat_map (λ t. windows_of o.snap t (map (shown_of o.filter) ps)) (range_with_len 0 o.taps))
+    all_append IsSound (flat_map (λ q. map (record_of q) (items_of o.segs o.spread q ps)) (range_with_len 0 o.queues)) (flat_map (λ t. windows_of o.snap t (map (shown_of o.filter) ps))
+    (range_with_len 0 o.taps))
     (all_joined IsSound (λ q. map (record_of q) (items_of o.segs o.spread q ps)) (range_with_len 0 o.queues)
     (all_range (λ q. AllByRecursion IsSound (map (record_of q) (items_of o.segs o.spread q ps))) o.queues (λ q l.
     all_mapped IsItem IsSound (record_of q) (items_of o.segs o.spread q ps) (λ run i. run_sound q run i)
@@ -115,7 +117,8 @@ round_sound o ps c =
     (all_joined IsSound (λ t. windows_of o.snap t (map (shown_of o.filter) ps)) (range_with_len 0 o.taps)
     (all_range (λ t. AllByRecursion IsSound (windows_of o.snap t (map (shown_of o.filter) ps))) o.taps (λ t l.
     all_joined IsSound (λ p. windows_by t p (window_of o.snap t p.frame)) (map (shown_of o.filter) ps)
-    (all_of IsCaptured (λ p. AllByRecursion IsSound (windows_by t p (window_of o.snap t p.frame))) (map (shown_of o.filter) ps) (λ p k. windows_sound t p (window_of o.snap t p.frame) k) (all_shown o.filter ps c.each)))))
+    (all_of IsCaptured (λ p. AllByRecursion IsSound (windows_by t p (window_of o.snap t p.frame))) (map (shown_of o.filter) ps) (λ p k. windows_sound t p (window_of o.snap t p.frame) k)
+    (all_shown o.filter ps c.each)))))
 
 all_sound : (o : Options) (ps : List Packet) → AreCaptured ps → AllByRecursion IsSound (records_of o ps)
 all_sound o ps c =
@@ -255,7 +258,8 @@ numbered_flow : (key : Option (List ℕ)) (n : ℕ) (ps : List Packet) → map c
 numbered_flow key n [] = refl
 numbered_flow key n (p ∷ ps) = by (is_of key p) (numbered_flow key (n + 1) ps)
   where
-    by : (v : Bool) → map content (filter (is_of key) (numbered (n + 1) ps)) ≡ map content (filter (is_of key) ps) → map content (cond v (renumbered n p ∷ filter (is_of key) (numbered (n + 1) ps)) (filter (is_of key) (numbered (n + 1) ps)))
+    by : (v : Bool) → map content (filter (is_of key) (numbered (n + 1) ps)) ≡ map content (filter (is_of key) ps) → map content (cond v (renumbered n p ∷ filter (is_of key) (numbered (n + 1) ps))
+        (filter (is_of key) (numbered (n + 1) ps)))
         ≡ map content (cond v (p ∷ filter (is_of key) ps) (filter (is_of key) ps))
     by true i = ap (λ z. content p ∷ z) i
     by false i = i
@@ -265,7 +269,8 @@ output_is : (head : FileHead) (o : Options) (ps : List Packet) → head.zone < 2
     → segmented_of (written head o ps) ≡ segmented head (numbered 0 (records_of o ps))
 output_is head o ps zone sigfigs lawful c few =
     let bytes : List ℕ = written head o ps in
-    let front : take 24 bytes ≡ file_bytes head Offload = take_at (file_bytes head Offload) (flat_map (record_bytes head.order) (records_of o ps)) 24 (length-file_bytes head.order head.nanos head.zone head.sigfigs) in
+    let front : take 24 bytes ≡ file_bytes head Offload = take_at (file_bytes head Offload) (flat_map (record_bytes head.order) (records_of o ps)) 24
+    (length-file_bytes head.order head.nanos head.zone head.sigfigs) in
     let taken : first_that_holds (file_refusals Offload (take 24 bytes)) ≡ None = ap (λ xs. first_that_holds (file_refusals Offload xs)) front ∙ (file_head_law head Offload zone sigfigs).0 in
     ap (λ (r : Option CapKind). if is_some r then [] else segmented (file_head (take 24 bytes)) (reads_tested bytes).packets) taken
     ∙ ap (λ h. segmented h (reads_tested bytes).packets) (head_reads_back head o ps zone sigfigs)
@@ -297,7 +302,8 @@ run_some q run i =
 
 round_some : (o : Options) (ps : List Packet) → o.taps ≡ 0 → AreCaptured ps → AllByRecursion IsSome (round_records o ps)
 round_some o ps taps c =
-    all_append IsSome (flat_map (λ q. map (record_of q) (items_of o.segs o.spread q ps)) (range_with_len 0 o.queues)) (flat_map (λ t. windows_of o.snap t (map (shown_of o.filter) ps)) (range_with_len 0 o.taps))
+    all_append IsSome (flat_map (λ q. map (record_of q) (items_of o.segs o.spread q ps)) (range_with_len 0 o.queues)) (flat_map (λ t. windows_of o.snap t (map (shown_of o.filter) ps))
+    (range_with_len 0 o.taps))
     (all_joined IsSome (λ q. map (record_of q) (items_of o.segs o.spread q ps)) (range_with_len 0 o.queues)
     (all_range (λ q. AllByRecursion IsSome (map (record_of q) (items_of o.segs o.spread q ps))) o.queues (λ q l.
     all_mapped IsItem IsSome (record_of q) (items_of o.segs o.spread q ps) (λ run i. run_some q run i)

@@ -27,7 +27,8 @@ of_all : (Q : List Packet → Type 0) (items : List (List Packet))
 of_all Q [] full q = tt
 of_all Q ([] ∷ items) full q = absurd (omega (arith, full.0))
 of_all Q ((p ∷ run) ∷ items) full q = (
-  (subst (λ v. AllByRecursion Q (cond v ((p ∷ run) ∷ filter (begins_in (is_of (key_of p.frame))) items) (filter (begins_in (is_of (key_of p.frame))) items))) (is_key_self (key_of p.frame)) (q (key_of p.frame))).0,
+  (subst (λ v. AllByRecursion Q (cond v ((p ∷ run) ∷ filter (begins_in (is_of (key_of p.frame))) items) (filter (begins_in (is_of (key_of p.frame))) items))) (is_key_self (key_of p.frame))
+      (q (key_of p.frame))).0,
   of_all Q items full.1 (λ key. rest (is_of key p) (filter (begins_in (is_of key)) items) (q key)),
 )
   where
@@ -109,7 +110,8 @@ module _ (key : Option (List ℕ)) where
             ap (λ v. map content (flat_map segments_of (cond v (r ∷ filter has (map (record_of q) items)) (filter has (map (record_of q) items))))) e ∙ rest
       ] same
 
-  back_queue : (segs : ℕ) (spread : Spread) (q : ℕ) (ps : List Packet) → AreCaptured ps → back (map (record_of q) (items_of segs spread q ps)) ≡ map content (filter (is_of key) (filter (is_queued spread q) ps))
+  back_queue : (segs : ℕ) (spread : Spread) (q : ℕ) (ps : List Packet) → AreCaptured ps → back (map (record_of q) (items_of segs spread q ps))
+      ≡ map content (filter (is_of key) (filter (is_queued spread q) ps))
   back_queue segs spread q ps c =
       let i : AreItems (IsMergeableWithin segs) is_of number_of (filter (is_queued spread q) ps) (items_of segs spread q ps) = items_are segs spread q ps c.rising in
       back_items q (items_of segs spread q ps) (all_items (filter (is_queued spread q) ps) (items_of segs spread q ps) (all_filtered IsCaptured (is_queued spread q) ps c.each) i)
@@ -128,10 +130,11 @@ module _ (key : Option (List ℕ)) where
             let same : key ≡ key_of p.frame = is_key_same key (key_of p.frame) e in
             let queued : is_queued spread (own spread) p ≡ true = eq-eqb (spread (key_of p.frame)) (spread key) (ap spread (sym same)) in
             rw queued (rw e (ap (λ z. p ∷ z) (own_queue spread ps)))
-        | false ↦ λ e. elim (is_queued spread (own spread) p) as (λ w. filter (is_of key) (cond w (p ∷ filter (is_queued spread (own spread)) ps) (filter (is_queued spread (own spread)) ps)) ≡ filter (is_of key) ps) [
-          | true ↦ rw e (own_queue spread ps)
-          | false ↦ own_queue spread ps
-        ]
+        | false ↦ λ e. elim (is_queued spread (own spread) p) as (λ w. filter (is_of key) (cond w (p ∷ filter (is_queued spread (own spread)) ps) (filter (is_queued spread (own spread)) ps))
+            ≡ filter (is_of key) ps) [
+              | true ↦ rw e (own_queue spread ps)
+              | false ↦ own_queue spread ps
+            ]
       ] refl
 
   pub other_queue : (spread : Spread) (q : ℕ) (ps : List Packet) → (q ≡ own spread → ⊥) → filter (is_of key) (filter (is_queued spread q) ps) ≡ []
@@ -161,7 +164,12 @@ module _ (key : Option (List ℕ)) where
   window_none : (t : ℕ) (p : Packet) (window : List ℕ) → IsCaptured p → AllByRecursion (λ r. segments_of r ≡ []) (windows_by t p window)
   window_none t p [] c = tt
   window_none t p (b ∷ bytes) c = (
-    segments_are (record { version = 2; kind = 2; modes = 0; lane = t; n = 0; m = 0; number = p.number }) (with_frame p (b ∷ bytes)) (record { version = refl; n = omega arith; m = omega arith; number = c.number }),
+    segments_are (record { version = 2; kind = 2; modes = 0; lane = t; n = 0; m = 0; number = p.number }) (with_frame p (b ∷ bytes)) (record {
+      version = refl;
+      n = omega arith;
+      m = omega arith;
+      number = c.number;
+    }),
     tt,
   )
 
@@ -175,8 +183,10 @@ module _ (key : Option (List ℕ)) where
 
   back_round : (o : Options) (ps : List Packet) → o.spread key < o.queues → AreCaptured ps → back (round_records o ps) ≡ map content (filter (is_of key) ps)
   back_round o ps below c =
-      back-append (flat_map (λ q. map (record_of q) (items_of o.segs o.spread q ps)) (range_with_len 0 o.queues)) (flat_map (λ t. windows_of o.snap t (map (shown_of o.filter) ps)) (range_with_len 0 o.taps))
-      ∙ ap (λ z. back (flat_map (λ q. map (record_of q) (items_of o.segs o.spread q ps)) (range_with_len 0 o.queues)) ++ z) (back_windows o.snap o.taps (map (shown_of o.filter) ps) (all_shown o.filter ps c.each))
+      back-append (flat_map (λ q. map (record_of q) (items_of o.segs o.spread q ps)) (range_with_len 0 o.queues)) (flat_map (λ t. windows_of o.snap t (map (shown_of o.filter) ps))
+      (range_with_len 0 o.taps))
+      ∙ ap (λ z. back (flat_map (λ q. map (record_of q) (items_of o.segs o.spread q ps)) (range_with_len 0 o.queues)) ++ z) (back_windows o.snap o.taps (map (shown_of o.filter) ps)
+      (all_shown o.filter ps c.each))
       ∙ append-nil (back (flat_map (λ q. map (record_of q) (items_of o.segs o.spread q ps)) (range_with_len 0 o.queues)))
       ∙ back_queues o.segs o.spread o.queues ps below c
 
@@ -192,5 +202,6 @@ rounds_captured budget ps c = all_rounds AreCaptured front_captured behind_captu
 pub flows_come_back : FlowsComeBack
 flows_come_back o ps lawful c key =
     back-flat_map key (round_records o) (λ round. filter (is_of key) round) (rounds_of o.budget ps)
-    (all_of AreCaptured (λ round. back key (round_records o round) ≡ map content (filter (is_of key) round)) (rounds_of o.budget ps) (λ round k. back_round key o round (lawful.below key) k) (rounds_captured o.budget ps c))
+    (all_of AreCaptured (λ round. back key (round_records o round) ≡ map content (filter (is_of key) round)) (rounds_of o.budget ps) (λ round k. back_round key o round (lawful.below key) k)
+    (rounds_captured o.budget ps c))
     ∙ ap (map content) (sym (filter-flat_map (is_of key) (λ round. round) (rounds_of o.budget ps)) ∙ ap (filter (is_of key)) (rounds_are o.budget ps lawful.budget))

@@ -1,5 +1,6 @@
 -- More bytes make no segment less: what segmenting writes of the first bytes is a front of what it writes of all.
-use Rattle.std.proofs.Common.{◌≡◌, ◌≤◌, ◌<◌, ◌+◌, ◌-◌, ◌*◌, ℕ, zero, suc, List, [], ◌∷◌, ◌++◌, length, take, drop, refl, sym, ap, ◌∙◌, arith, Option, None, Some, Bool, true, false, length-drop, take-append-drop, append_assoc}
+use Rattle.std.proofs.Common.{◌≡◌, ◌≤◌, ◌<◌, ◌+◌, ◌-◌, ◌*◌, ℕ, zero, suc, List, [], ◌∷◌, ◌++◌, length, take, drop, refl, sym, ap, ◌∙◌, arith, Option, None, Some, Bool, true, false, length-drop}
+use Rattle.std.proofs.Common.{take-append-drop, append_assoc}
 use Rattle.std.specs.Prelude.{nat_le}
 use Rattle.std.specs.List.{flat_map}
 use Rattle.std.proofs.lemmas.List.{length-take-le}
@@ -130,7 +131,8 @@ module _ (blocks : ℕ) (place : Place) (xs : List ℕ) (lawful : first_that_hol
   cut_front ys fits good rest =
       let done = flat_map (record_bytes place.file.order) (segments_of r) in
       let one : (tail : List ℕ) → (segmenting blocks place (at tail)).output ≡ done ++ (segmenting blocks mid tail).output =
-      λ tail. ap (λ (x : Passed). x.output) ((segmenting_goes_by_record blocks place (at tail)).lawful r mid tail fits good refl (ap (λ (n : ℕ). place.offset + 16 + n) (sym long)) (found tail) (lens tail)) in
+      λ tail. ap (λ (x : Passed). x.output) ((segmenting_goes_by_record blocks place (at tail)).lawful r mid tail fits good refl (ap (λ (n : ℕ). place.offset + 16 + n) (sym long)) (found tail)
+      (lens tail)) in
       let f = front_behind done _ _ rest in
       (f.0, ap (λ z. (segmenting blocks place z).output) (whole_more ys) ∙ one (left ++ ys) ∙ f.1 ∙ ap (λ z. z ++ f.0) (sym (ap (λ z. (segmenting blocks place z).output) whole ∙ one left)))
 

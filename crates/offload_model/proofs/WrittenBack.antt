@@ -1,5 +1,6 @@
 -- All records that are written are lawful, and their bytes read as these records.
-use Rattle.std.proofs.Common.{◌≡◌, ℕ, ◌+◌, ◌*◌, ◌^◌, ◌<◌, ◌≤◌, ◌⊎◌, inl, inr, true, false, cond, Option, None, List, [], ◌∷◌, ◌++◌, length, map, drop, refl, sym, ap, ◌∙◌, subst, arith, length-take, length-drop}
+use Rattle.std.proofs.Common.{◌≡◌, ℕ, ◌+◌, ◌*◌, ◌^◌, ◌<◌, ◌≤◌, ◌⊎◌, inl, inr, true, false, cond, Option, None, List, [], ◌∷◌, ◌++◌, length, map, drop, refl, sym, ap, ◌∙◌, subst, arith, length-take}
+use Rattle.std.proofs.Common.{length-drop}
 use Rattle.std.specs.Prelude.{◌==◌, if◌then◌else◌}
 use Rattle.std.proofs.lemmas.List.{append-nil}
 use Rattle.std.specs.List.{flat_map, AllByRecursion, range_with_len, filter}
@@ -110,7 +111,8 @@ window_short snap t p c = omega (arith, length-take snap (drop (t * snap) p.fram
 
 round_written : (o : Options) (ps : List Packet) → AreOptions o → AreCaptured ps → AllByRecursion IsWritten (round_records o ps)
 round_written o ps lawful c =
-    all_append IsWritten (flat_map (λ q. map (record_of q) (items_of o.segs o.spread q ps)) (range_with_len 0 o.queues)) (flat_map (λ t. windows_of o.snap t (map (shown_of o.filter) ps)) (range_with_len 0 o.taps))
+    all_append IsWritten (flat_map (λ q. map (record_of q) (items_of o.segs o.spread q ps)) (range_with_len 0 o.queues)) (flat_map (λ t. windows_of o.snap t (map (shown_of o.filter) ps))
+    (range_with_len 0 o.taps))
     (all_joined IsWritten (λ q. map (record_of q) (items_of o.segs o.spread q ps)) (range_with_len 0 o.queues)
     (all_range (λ q. AllByRecursion IsWritten (map (record_of q) (items_of o.segs o.spread q ps))) o.queues (λ q l.
     all_mapped IsItem IsWritten (record_of q) (items_of o.segs o.spread q ps) (λ run i. run_written q run (omega (arith, lawful.queues)) i)

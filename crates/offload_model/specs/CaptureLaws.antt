@@ -31,8 +31,8 @@ RunsComeBack =
     → (length run ≡ 1) ⊎ IsMergeable run
     → map content (segments_of (record_of q run)) ≡ map content run
 
--- the record of mergeable packets is a lawful super-packet; it has as many segments as there were packets, and no more than a frame of
--- a capture can have bytes of payload
+-- the record of mergeable packets is a lawful super-packet; it has as many segments as there were packets, and no more
+-- than a frame of a capture can have bytes of payload
 abbrev pub RunsAreLawful : Type 0
 RunsAreLawful =
     (q : ℕ) (run : List Packet)
@@ -42,8 +42,8 @@ RunsAreLawful =
     → IsLawfulSuper (fields_in (any_head (record_of q run).frame)) (packet_in (record_of q run))
     × ((merged_of run).n ≡ length run) × ((merged_of run).n ≤ 262070) × ((merged_of run).m ≤ 262069)
 
--- the lengths of the packets of a run can be told from its record: two runs with the same merged frame, the same numbers and the same modes
--- are one, packet by packet. So datagrams keep their boundaries
+-- the lengths of the packets of a run can be told from its record: two runs with the same merged frame, the same
+-- numbers and the same modes are one, packet by packet. So datagrams keep their boundaries
 abbrev pub BoundariesAreKept : Type 0
 BoundariesAreKept =
     (ps qs : List Packet)
@@ -64,9 +64,11 @@ abbrev pub ItemsAreRuns : Type 0
 ItemsAreRuns =
     (segs : ℕ) (spread : Spread) (q : ℕ) (ps : List Packet) (items : List (List Packet))
     → AllNeighbours (λ p q. p.number < q.number) ps
-    → AreItems (IsMergeableWithin segs) is_of number_of (filter (is_queued spread q) ps) items ↔ (items ≡ items_of segs spread q ps)
+    → AreItems (IsMergeableWithin segs) is_of number_of (filter (is_queued spread q) ps) items
+    ↔ (items ≡ items_of segs spread q ps)
 
--- the runs of a round are what they are whatever the queues: a queue's items are those of them that begin in it, in their order
+-- the runs of a round are what they are whatever the queues: a queue's items are those of them that begin in it, in
+-- their order
 abbrev pub QueuesKeepRuns : Type 0
 QueuesKeepRuns =
     (segs : ℕ) (spread : Spread) (q : ℕ) (ps : List Packet)
@@ -80,26 +82,29 @@ ChoicesKeepItems =
     → AllNeighbours (λ p q. p.number < q.number) ps
     → ((key : Option (List ℕ)) → spread key < queues)
     → ((key : Option (List ℕ)) → other key < others)
-    → IsPermutation (flat_map (λ q. items_of segs spread q ps) (range_with_len 0 queues)) (flat_map (λ q. items_of segs other q ps) (range_with_len 0 others))
+    → IsPermutation (flat_map (λ q. items_of segs spread q ps) (range_with_len 0 queues))
+    (flat_map (λ q. items_of segs other q ps) (range_with_len 0 others))
 
 -- where there is one queue, it has all flows
 abbrev pub OneQueueHasAll : Type 0
-OneQueueHasAll = (segs : ℕ) (spread : Spread) (packets : List Packet) → ((key : Option (List ℕ)) → spread key < 1) → items_of segs spread 0 packets ≡ runs_in segs packets
+OneQueueHasAll = (segs : ℕ) (spread : Spread) (packets : List Packet) → ((key : Option (List ℕ)) → spread key < 1)
+    → items_of segs spread 0 packets ≡ runs_in segs packets
 
--- over a whole capture every flow comes back: the segments of the records whose frames have a key are the packets that have
--- it, in order
+-- over a whole capture every flow comes back: the segments of the records whose frames have a key are the packets that
+-- have it, in order
 abbrev pub FlowsComeBack : Type 0
 FlowsComeBack =
     (o : Options) (ps : List Packet)
     → AreOptions o
     → AreCaptured ps
     → (key : Option (List ℕ))
-    → map content (flat_map segments_of (filter (λ r. is_of key (packet_in r)) (records_of o ps))) ≡ map content (filter (is_of key) ps)
+    → map content (flat_map segments_of (filter (λ r. is_of key (packet_in r)) (records_of o ps)))
+    ≡ map content (filter (is_of key) ps)
 
 -- ---- the bytes that are written
 
--- the bytes that are written read as the records that they were written from, to the end, and each record is lawful. The fields
--- of the file header are passed on
+-- the bytes that are written read as the records that they were written from, to the end, and each record is lawful.
+-- The fields of the file header are passed on
 abbrev pub ReadsBack : Type 0
 ReadsBack =
     (head : FileHead) (o : Options) (ps : List Packet)
@@ -124,17 +129,20 @@ WrittenComesBack =
     → AreCaptured ps
     → length (records_of o ps) ≤ 2 ^ 32
     → (key : Option (List ℕ))
-    → map content (flat_map segments_of (filter (λ r. is_of key (packet_in r)) (reads_tested (written head o ps)).packets)) ≡ map content (filter (is_of key) ps)
+    → map content (flat_map segments_of (filter (λ r. is_of key (packet_in r))
+    (reads_tested (written head o ps)).packets)) ≡ map content (filter (is_of key) ps)
 
 -- ---- segmenting what merging wrote, in bytes
 
--- a capture of packets of which each flow's are the given ones, in order, with their bytes and original lengths; and it has
--- its end
+-- a capture of packets of which each flow's are the given ones, in order, with their bytes and original lengths; and it
+-- has its end
 pub record BringsBack (ps : List Packet) (back : Found) : Type 0 where
   pub whole : back.fault ≡ None
-  pub flows : (key : Option (List ℕ)) → map content (filter (is_of key) back.packets) ≡ map content (filter (is_of key) ps)
+  pub flows : (key : Option (List ℕ)) → map content (filter (is_of key) back.packets)
+      ≡ map content (filter (is_of key) ps)
 
--- the bytes that merging writes of packets are cut back into bytes that read as a capture of these packets, flow by flow
+-- the bytes that merging writes of packets are cut back into bytes that read as a capture of these packets, flow by
+-- flow
 abbrev pub CapturesComeBack : Type 0
 CapturesComeBack =
     (head : FileHead) (o : Options) (ps : List Packet)
@@ -147,4 +155,5 @@ CapturesComeBack =
 
 -- without taps there are no more records than packets, and these have numbers of 32 bits
 abbrev pub RecordsAreFew : Type 0
-RecordsAreFew = (o : Options) (ps : List Packet) → AreOptions o → AreCaptured ps → o.taps ≡ 0 → length (records_of o ps) ≤ 2 ^ 32
+RecordsAreFew = (o : Options) (ps : List Packet) → AreOptions o → AreCaptured ps → o.taps ≡ 0
+    → length (records_of o ps) ≤ 2 ^ 32

@@ -1,5 +1,6 @@
 -- Worked rows: captures whose sums were computed by another program, and what merging them gives.
-use Rattle.std.specs.Prelude.{◌≡◌, ℕ, ◌+◌, ◌-◌, ◌*◌, ◌/◌, ◌%◌, true, false, None, List, [], ◌∷◌, ◌++◌, length, map, take, drop, replicate}
+use Rattle.std.specs.Prelude.{◌≡◌, ℕ, ◌+◌, ◌-◌, ◌*◌, ◌/◌, ◌%◌, true, false, None, List, [], ◌∷◌, ◌++◌, length, map}
+use Rattle.std.specs.Prelude.{take, drop, replicate}
 use Rattle.std.specs.List.{flat_map, range_with_len}
 use Rattle.net_bytes.specs.Bytes.{bytes16}
 use Rattle.ip_headers.specs.Ip4.{total_length}
@@ -41,25 +42,32 @@ abbrev pub tcp4_with : List ℕ → ℕ → ℕ → ℕ → ℕ → ℕ → ℕ 
 tcp4_with options port id flags ip_sum sequence control tcp_sum payload =
     ethernet 0x0800
     ++ (ip4 (40 + length options + length payload) id flags 6 ip_sum (10 ∷ 0 ∷ 0 ∷ 1 ∷ 10 ∷ 0 ∷ 0 ∷ 2 ∷ [])
-    ++ (bytes16 port ++ (bytes16 5001 ++ (bytes32 sequence ++ (bytes32 1 ++ ((80 + 4 * length options) ∷ control ∷ 1 ∷ 0 ∷ (bytes16 tcp_sum ++ (0 ∷ 0 ∷ (options ++ payload)))))))))
+    ++ (bytes16 port ++ (bytes16 5001 ++ (bytes32 sequence
+    ++ (bytes32 1 ++ ((80 + 4 * length options) ∷ control ∷ 1 ∷ 0
+    ∷ (bytes16 tcp_sum ++ (0 ∷ 0 ∷ (options ++ payload)))))))))
 
 abbrev pub tcp4 : ℕ → ℕ → ℕ → ℕ → ℕ → ℕ → ℕ → List ℕ → List ℕ
-tcp4 port id flags ip_sum sequence control tcp_sum payload = tcp4_with [] port id flags ip_sum sequence control tcp_sum payload
+tcp4 port id flags ip_sum sequence control tcp_sum payload = tcp4_with
+    [] port id flags ip_sum sequence control tcp_sum payload
 
 -- UDP to VXLAN's port, and a VXLAN header of network 4096, before an inner frame
 abbrev pub tunnel : ℕ → List ℕ → List ℕ
-tunnel sum inner = bytes16 50000 ++ (bytes16 4789 ++ (bytes16 (16 + length inner) ++ (bytes16 sum ++ (8 ∷ 0 ∷ 0 ∷ 0 ∷ 0 ∷ 16 ∷ 0 ∷ 0 ∷ inner))))
+tunnel sum inner = bytes16 50000 ++ (bytes16 4789 ++ (bytes16 (16 + length inner)
+    ++ (bytes16 sum ++ (8 ∷ 0 ∷ 0 ∷ 0 ∷ 0 ∷ 16 ∷ 0 ∷ 0 ∷ inner))))
 
 -- over IPv4 from 192.0.2.1 to 192.0.2.100 with "don't fragment"
 abbrev pub vxlan4 : ℕ → ℕ → ℕ → List ℕ → List ℕ
 vxlan4 id ip_sum udp_sum inner =
-    ethernet 0x0800 ++ (ip4 (36 + length inner) id 0x4000 17 ip_sum (192 ∷ 0 ∷ 2 ∷ 1 ∷ 192 ∷ 0 ∷ 2 ∷ 100 ∷ []) ++ tunnel udp_sum inner)
+    ethernet 0x0800 ++ (ip4 (36 + length inner) id 0x4000 17 ip_sum (192 ∷ 0 ∷ 2 ∷ 1 ∷ 192 ∷ 0 ∷ 2 ∷ 100 ∷ [])
+    ++ tunnel udp_sum inner)
 
 -- over IPv6 from 2001:db8::1 to 2001:db8::1:1
 abbrev pub vxlan6 : ℕ → List ℕ → List ℕ
 vxlan6 udp_sum inner =
     ethernet 0x86dd
-    ++ (0x60 ∷ 0 ∷ 0 ∷ 0 ∷ (bytes16 (16 + length inner) ++ (17 ∷ 64 ∷ (0x20 ∷ 1 ∷ 0xd ∷ 0xb8 ∷ (replicate 11 0 ++ (1 ∷ (0x20 ∷ 1 ∷ 0xd ∷ 0xb8 ∷ (replicate 9 0 ++ (1 ∷ 0 ∷ 1 ∷ tunnel udp_sum inner)))))))))
+    ++ (0x60 ∷ 0 ∷ 0 ∷ 0 ∷ (bytes16 (16 + length inner)
+    ++ (17 ∷ 64 ∷ (0x20 ∷ 1 ∷ 0xd ∷ 0xb8 ∷ (replicate 11 0
+    ++ (1 ∷ (0x20 ∷ 1 ∷ 0xd ∷ 0xb8 ∷ (replicate 9 0 ++ (1 ∷ 0 ∷ 1 ∷ tunnel udp_sum inner)))))))))
 
 -- a datagram over IPv4 from 10.0.0.1, port 40000, to 10.0.0.2
 abbrev pub udp4 : ℕ → ℕ → ℕ → ℕ → List ℕ → List ℕ
@@ -68,7 +76,8 @@ udp4 port id ip_sum sum payload =
     ++ (ip4 (28 + length payload) id 0x4000 17 ip_sum (10 ∷ 0 ∷ 0 ∷ 1 ∷ 10 ∷ 0 ∷ 0 ∷ 2 ∷ [])
     ++ (bytes16 40000 ++ (bytes16 port ++ (bytes16 (8 + length payload) ++ (bytes16 sum ++ payload)))))
 
--- GRE over IPv4 from 192.0.2.1 to 192.0.2.100, with these first two bytes and this key or none, before an inner IPv4 header
+-- GRE over IPv4 from 192.0.2.1 to 192.0.2.100, with these first two bytes and this key or none, before an inner IPv4
+-- header
 abbrev pub gre4 : ℕ → ℕ → ℕ → List ℕ → List ℕ → List ℕ
 gre4 flags id ip_sum key inner =
     ethernet 0x0800
@@ -237,7 +246,8 @@ tapped =
 -- number k of segments of 1,448 bytes with 12 bytes of TCP options
 abbrev pub segment_at : ℕ → Packet
 segment_at k =
-    packet k (tcp4_with (1 ∷ 1 ∷ 8 ∷ 10 ∷ 0 ∷ 0 ∷ 0 ∷ 1 ∷ 0 ∷ 0 ∷ 0 ∷ 2 ∷ []) 40000 (100 + k) 0x4000 (8374 - k) (1000 + 1448 * k) 0x10
+    packet k (tcp4_with (1 ∷ 1 ∷ 8 ∷ 10 ∷ 0 ∷ 0 ∷ 0 ∷ 1 ∷ 0 ∷ 0 ∷ 0 ∷ 2 ∷ []) 40000 (100 + k) 0x4000 (8374 - k)
+    (1000 + 1448 * k) 0x10
     ((147700 - 1448 * k) % 65535) (replicate 1448 97))
 
 -- n of them, from number i on
@@ -247,7 +257,15 @@ segments_from i n = map segment_at (range_with_len i n)
 -- ---- what comes of them
 
 abbrev pub plain : Options
-plain = record { budget = 64; queues = 1; spread = λ key. queue_of key 1; taps = 0; snap = 64; segs = 4096; filter = None }
+plain = record {
+  budget = 64;
+  queues = 1;
+  spread = λ key. queue_of key 1;
+  taps = 0;
+  snap = 64;
+  segs = 4096;
+  filter = None;
+}
 
 -- the runs of the one queue, by their packets' numbers
 abbrev pub runs_of : List Packet → List (List ℕ)
@@ -266,7 +284,8 @@ IsSplit ps = runs_of ps ≡ map (λ p. p.number ∷ []) ps
 -- the record of the worked run, said to have n packets
 abbrev pub worked_super : ℕ → Packet
 worked_super n =
-    with_head (record { version = 2; kind = 1; modes = 0; lane = 0; n = n; m = 4; number = 0 }) (merged_of worked).packet
+    with_head (record { version = 2; kind = 1; modes = 0; lane = 0; n = n; m = 4; number = 0 })
+    (merged_of worked).packet
 
 -- the same behind a header of version 1
 abbrev pub old_super : ℕ → Packet
@@ -280,7 +299,8 @@ abbrev pub starts_of : Options → List Packet → List (ℕ × ℕ)
 starts_of o ps = map (λ r. (r.number, length (segments_of r))) (records_of o ps)
 
 pub record RowsHold : Type 0 where
-  pub worked_is_written : written (record { order = Little; nanos = false; zone = 0; sigfigs = 0 }) plain worked ≡ worked_written
+  pub worked_is_written : written (record { order = Little; nanos = false; zone = 0; sigfigs = 0 }) plain worked
+      ≡ worked_written
   pub worked_merges : MergesTo 0 worked
   pub worked_is_lawful : is_lawful_record (worked_super 2) ≡ true
   pub third_segment_has_no_byte : is_lawful_record (worked_super 3) ≡ false
@@ -298,21 +318,33 @@ pub record RowsHold : Type 0 where
   pub inner_fixed_merges : MergesTo 2 inner_fixed
   pub outer_ip6_merges : MergesTo 2 outer_ip6
   pub one_sum_splits : IsSplit one_sum
-  pub by_four : starts_of (record plain { budget = 4; queues = 2; spread = λ key. queue_of key 2 }) two_flows ≡ (0, 2) ∷ (1, 2) ∷ (4, 2) ∷ (5, 2) ∷ []
-  pub by_three : starts_of (record plain { budget = 3; queues = 2; spread = λ key. queue_of key 2 }) two_flows ≡ (0, 2) ∷ (1, 1) ∷ (4, 1) ∷ (3, 2) ∷ (6, 1) ∷ (7, 1) ∷ []
-  pub tapped_lengths : map (λ r. length r.frame) (records_of (record plain { taps = 2 }) tapped) ≡ 162 ∷ 80 ∷ 80 ∷ 52 ∷ 52 ∷ []
+  pub by_four : starts_of (record plain { budget = 4; queues = 2; spread = λ key. queue_of key 2 }) two_flows ≡ (0, 2)
+      ∷ (1, 2) ∷ (4, 2) ∷ (5, 2) ∷ []
+  pub by_three : starts_of (record plain { budget = 3; queues = 2; spread = λ key. queue_of key 2 }) two_flows ≡ (0, 2)
+      ∷ (1, 1) ∷ (4, 1) ∷ (3, 2) ∷ (6, 1) ∷ (7, 1) ∷ []
+  pub tapped_lengths : map (λ r. length r.frame) (records_of (record plain { taps = 2 }) tapped) ≡ 162 ∷ 80 ∷ 80 ∷ 52
+      ∷ 52 ∷ []
   pub old_is_lawful : is_lawful_record (old_super 2) ≡ true
   pub old_comes_back : map content (segments_of (old_super 2)) ≡ map content worked
-  pub cut_header : is_lawful_record (record { number = 0; sec = 1; frac = 0; original = 14; frame = 2 ∷ replicate 13 0 }) ≡ false
+  pub cut_header : is_lawful_record (record {
+    number = 0;
+    sec = 1;
+    frac = 0;
+    original = 14;
+    frame = 2
+        ∷ replicate 13 0;
+  }) ≡ false
   pub datagrams_merge : MergesTo 0 datagrams
   pub datagrams_size : (merged_of datagrams).m ≡ 500
-  pub datagrams_lengths : (total_length (merged_of datagrams).packet.frame 14 ≡ 1228) × (udp_length (merged_of datagrams).packet.frame 34 ≡ 1208)
+  pub datagrams_lengths : (total_length (merged_of datagrams).packet.frame 14 ≡ 1228)
+      × (udp_length (merged_of datagrams).packet.frame 34 ≡ 1208)
   pub unsummed_splits : IsSplit unsummed
   pub old_port_is_other : map (λ p. key_of p.frame) old_port ≡ None ∷ []
   pub gre_merges : MergesTo 0 (in_gre 0 0xb3d1 0xb3d0 [] [])
   pub keyed_merges : MergesTo 0 (in_gre 0x2000 0xb3cd 0xb3cc (0 ∷ 0 ∷ 0 ∷ 7 ∷ []) (0 ∷ 0 ∷ 0 ∷ 7 ∷ []))
   pub keys_split : IsSplit (in_gre 0x2000 0xb3cd 0xb3cc (0 ∷ 0 ∷ 0 ∷ 7 ∷ []) (0 ∷ 0 ∷ 0 ∷ 8 ∷ []))
-  pub summed_gre_is_other : map (λ p. key_of p.frame) (in_gre 0x8000 0xb3cd 0xb3cc (0 ∷ 0 ∷ 0 ∷ 0 ∷ []) (0 ∷ 0 ∷ 0 ∷ 0 ∷ [])) ≡ None ∷ None ∷ []
+  pub summed_gre_is_other : map (λ p. key_of p.frame) (in_gre 0x8000 0xb3cd 0xb3cc (0 ∷ 0 ∷ 0 ∷ 0 ∷ [])
+      (0 ∷ 0 ∷ 0 ∷ 0 ∷ [])) ≡ None ∷ None ∷ []
   pub two_alone : starts_of (record plain { segs = 1 }) worked ≡ (0, 1) ∷ (1, 1) ∷ []
   pub fullest : IsCut IsMergeable (segments_from 0 64) (segments_from 0 45 ∷ segments_from 45 19 ∷ [])
   pub front_length : total_length (merged_of (segments_from 0 45)).packet.frame 14 ≡ 65212

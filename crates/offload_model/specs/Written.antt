@@ -1,5 +1,6 @@
 -- The capture of link type 147 that merging writes, and the one of link type 1 that segmenting writes.
-use Rattle.std.specs.Prelude.{ℕ, ◌*◌, ◌==◌, if◌then◌else◌, List, [], ◌∷◌, ◌++◌, length, map, take, drop, Option, Some, None, unwrap_or}
+use Rattle.std.specs.Prelude.{ℕ, ◌*◌, ◌==◌, if◌then◌else◌, List, [], ◌∷◌, ◌++◌, length, map, take, drop, Option, Some}
+use Rattle.std.specs.Prelude.{None, unwrap_or}
 use Rattle.std.specs.List.{flat_map, range_with_len}
 use Rattle.net_bytes.specs.declared.order.Order.{Order}
 use Rattle.tap_filter.specs.declared.instr.Instr.{Instr}
@@ -13,8 +14,9 @@ use Rattle.offload_model.specs.Merged.{Merged, merged_of}
 use Rattle.offload_model.specs.Segments.{with_head, with_frame, segments_of}
 use Rattle.offload_model.specs.Rounds.{Spread, rounds_of, items_of}
 
--- how a capture is merged: rounds of `budget` packets, the number of queues and the one of each flow, the number of taps, how many
--- bytes of a frame each tap reads, how many packets a run may have, and the filter of what taps are shown
+-- how a capture is merged: rounds of `budget` packets, the number of queues and the one of each flow, the number of
+-- taps, how many bytes of a frame each tap reads, how many packets a run may have, and the filter of what taps are
+-- shown
 pub record Options : Type 0 where
   pub budget : ℕ
   pub queues : ℕ
@@ -72,7 +74,8 @@ windows_of snap t ps = flat_map (λ p. windows_by t p (window_of snap t p.frame)
 
 -- ---- all of them
 
--- of a round: queue by queue the records of its runs, and then tap by tap the windows of what is shown of the packets as they were read
+-- of a round: queue by queue the records of its runs, and then tap by tap the windows of what is shown of the packets
+-- as they were read
 abbrev pub round_records : Options → List Packet → List Packet
 round_records o ps =
     flat_map (λ q. map (record_of q) (items_of o.segs o.spread q ps)) (range_with_len 0 o.queues)

@@ -1,5 +1,8 @@
 //! A whole capture: its rounds, the records that are written, and what comes back of them.
-ghost use Rattle.offload_model.specs.CaptureLaws.{CapturesAreCaptured, BoundariesAreKept, RunsComeBack, RunsAreLawful, ItemsAreRuns, QueuesKeepRuns, ChoicesKeepItems, FlowsComeBack, ReadsBack, HeadReadsBack, WrittenComesBack, OneQueueHasAll, CapturesComeBack, RecordsAreFew};
+ghost use Rattle.offload_model.specs.CaptureLaws.{CapturesAreCaptured, BoundariesAreKept, RunsComeBack, RunsAreLawful};
+ghost use Rattle.offload_model.specs.CaptureLaws.{ItemsAreRuns, QueuesKeepRuns, ChoicesKeepItems, FlowsComeBack};
+ghost use Rattle.offload_model.specs.CaptureLaws.{ReadsBack, HeadReadsBack, WrittenComesBack, OneQueueHasAll};
+ghost use Rattle.offload_model.specs.CaptureLaws.{CapturesComeBack, RecordsAreFew};
 
 /// The packets of a capture of Ethernet frames meet what the laws below ask of packets.
 pub fn captures_are_captured()
@@ -16,14 +19,14 @@ pub fn runs_are_lawful()
     ensures law { RunsAreLawful }
 {}
 
-/// Two runs whose records have the same merged frame, numbers and modes are one, packet by packet, so that datagrams keep their
-/// boundaries.
+/// Two runs whose records have the same merged frame, numbers and modes are one, packet by packet, so that datagrams
+/// keep their boundaries.
 pub fn boundaries_are_kept()
     ensures law { BoundariesAreKept }
 {}
 
-/// A queue's items are the cuts of all its flows into maximal runs, in the order of their first packets, and nothing else
-/// is, where the packets' numbers rise.
+/// A queue's items are the cuts of all its flows into maximal runs, in the order of their first packets, and nothing
+/// else is, where the packets' numbers rise.
 pub fn items_are_runs()
     ensures law { ItemsAreRuns }
 {}
@@ -65,8 +68,8 @@ pub fn one_queue_has_all()
     ensures law { OneQueueHasAll }
 {}
 
-/// Whatever merging writes of a capture's packets, segmenting it gives a capture in which each flow's packets are those of
-/// the first one, in order, byte for byte and with their original lengths.
+/// Whatever merging writes of a capture's packets, segmenting it gives a capture in which each flow's packets are those
+/// of the first one, in order, byte for byte and with their original lengths.
 pub fn captures_come_back()
     ensures law { CapturesComeBack }
 {}

@@ -1,20 +1,20 @@
 //! The merge model: what merging and segmenting captured packets means, and the laws that this meaning keeps.
 //!
-//! Receive offload merges TCP segments of one flow that follow one another into one packet, and segmentation offload cuts
-//! such a packet again (RFC 9293, section 3.1; RFC 791, section 3.1; RFC 8200; RFC 768; RFC 7348). The definitions stand in
-//! `specs/`: mergeable packets (`Mergeable`), the merged frame and its segments (`Edits`, `Frames`, `Merged`), records of
-//! link type 147 and which of them are lawful (`Segments`, `Tests`), rounds and their items (`Rounds`), the capture that is
-//! written (`Written`), and what an offload capture reads as (`Tested`). They speak of all packets of a run at once, and of a sum by one division; the code that merges
-//! makes one pass and is proved against them.
+//! Receive offload merges TCP segments of one flow that follow one another into one packet, and segmentation offload
+//! cuts such a packet again (RFC 9293, section 3.1; RFC 791, section 3.1; RFC 8200; RFC 768; RFC 7348). The definitions
+//! stand in `specs/`: mergeable packets (`Mergeable`), the merged frame and its segments (`Edits`, `Frames`, `Merged`),
+//! records of link type 147 and which of them are lawful (`Segments`, `Tests`), rounds and their items (`Rounds`), the
+//! capture that is written (`Written`), and what an offload capture reads as (`Tested`). They speak of all packets of a
+//! run at once, and of a sum by one division; the code that merges makes one pass and is proved against them.
 //!
-//! There is no code here that runs. Each public function has an empty body, and its clause `law` is proved: a flow's packets
-//! have one cut (`has_one_cut`), a run's segments are its packets (`runs_come_back`), its record is lawful
-//! (`runs_are_lawful`), over a whole capture every flow comes back (`flows_come_back`), the bytes that are written read as
-//! the records that they were written from (`reads_back`), and segmenting what merging wrote gives a capture that holds each
-//! flow's packets again (`captures_come_back`).
+//! There is no code here that runs. Each public function has an empty body, and its clause `law` is proved: a flow's
+//! packets have one cut (`has_one_cut`), a run's segments are its packets (`runs_come_back`), its record is lawful
+//! (`runs_are_lawful`), over a whole capture every flow comes back (`flows_come_back`), the bytes that are written read
+//! as the records that they were written from (`reads_back`), and segmenting what merging wrote gives a capture that
+//! holds each flow's packets again (`captures_come_back`).
 //!
-//! Example: two packets with payloads `abcd` and `ef`, sequence numbers 1000 and 1004 and identifications 100 and 101 become
-//! one record of n 2, m 4 and modes 0, whose frame carries `abcdef` (`rows_hold`).
+//! Example: two packets with payloads `abcd` and `ef`, sequence numbers 1000 and 1004 and identifications 100 and 101
+//! become one record of n 2, m 4 and modes 0, whose frame carries `abcdef` (`rows_hold`).
 #![tactic(auto)]
 
 mod captures;

@@ -1,5 +1,6 @@
 -- A line of offload that has no fault, and whose texts are as they must be, asks for a command, with a number in its range at each option.
-use Rattle.std.proofs.Common.{◌≡◌, ◌≢◌, ◌∙◌, ◌≤◌, ◌&&◌, ℕ, Bool, true, false, true≢false, refl, sym, ap, subst, arith, List, [], ◌∷◌, Option, Some, None, is_some, ◌⊎◌, inl, inr, ⊎_elim, codes, option_and_then, unwrap_or, Result, Ok, Err, IfOk}
+use Rattle.std.proofs.Common.{◌≡◌, ◌≢◌, ◌∙◌, ◌≤◌, ◌&&◌, ℕ, Bool, true, false, true≢false, refl, sym, ap, subst, arith, List, [], ◌∷◌, Option, Some, None, is_some, ◌⊎◌, inl, inr, ⊎_elim, codes}
+use Rattle.std.proofs.Common.{option_and_then, unwrap_or, Result, Ok, Err, IfOk}
 use Rattle.std.specs.Prelude.{IfSome, option_map}
 use Rattle.std.specs.List.{list_all}
 use Rattle.std.specs.Option.{option_map_or}
@@ -299,7 +300,19 @@ each_gives = (
                 (refl, refl, inl (refl, refl)),
                 (
                   (refl, refl, inl (refl, refl)),
-                  ((refl, refl, inl (refl, refl)), ((refl, refl, inl (refl, refl)), ((refl, refl, inl (refl, refl)), ((refl, refl, inl (refl, refl)), ((refl, refl, inl (refl, refl)), ((refl, refl, inr refl), tt)))))),
+                  (
+                    (refl, refl, inl (refl, refl)),
+                    (
+                      (refl, refl, inl (refl, refl)),
+                      (
+                        (refl, refl, inl (refl, refl)),
+                        (
+                          (refl, refl, inl (refl, refl)),
+                          ((refl, refl, inl (refl, refl)), ((refl, refl, inr refl), tt)),
+                        ),
+                      ),
+                    ),
+                  ),
                 ),
               ),
             ),

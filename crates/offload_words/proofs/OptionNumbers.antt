@@ -1,5 +1,6 @@
 -- The number at an option that takes one and has a default: there is one, in the option's range.
-use Rattle.std.proofs.Common.{◌≡◌, ◌∙◌, ◌==◌, ◌&&◌, ◌||◌, ◌<◌, ◌≤◌, ◌^◌, ℕ, Bool, eqb-true, true, false, not, true≢false, refl, sym, ap, subst, arith, List, [], ◌∷◌, Option, Some, None, ⊎_elim, if◌then◌else◌}
+use Rattle.std.proofs.Common.{◌≡◌, ◌∙◌, ◌==◌, ◌&&◌, ◌||◌, ◌<◌, ◌≤◌, ◌^◌, ℕ, Bool, eqb-true, true, false, not, true≢false, refl, sym, ap, subst, arith, List, [], ◌∷◌, Option, Some, None, ⊎_elim}
+use Rattle.std.proofs.Common.{if◌then◌else◌}
 use Rattle.std.specs.Prelude.{find, option_and_then, IfSome}
 use Rattle.std.specs.List.{list_all}
 use Rattle.std.specs.Str.Parse.{IsNumeral, digits_value, without_leading_plus}
@@ -70,7 +71,8 @@ value_of (a ∷ c) id low high r ranged is good = ⊎_elim here (value_of c id l
     here : Fits a r → (v : Text) × (row_text r ≡ Some v) × InBounds low high v
     here f =
         let mine : bytes_eq a.id id ≡ true = subst (λ (t : Text). bytes_eq t id ≡ true) f.0 is in
-        let bound : (not a.ignore_case && is_unsigned low high a.parser) ≡ true = subst (λ (b : Bool). (not b || (not a.ignore_case && is_unsigned low high a.parser)) ≡ true) mine (both _ _ ranged).0 in
+        let bound : (not a.ignore_case && is_unsigned low high a.parser) ≡ true = subst (λ (b : Bool). (not b || (not a.ignore_case && is_unsigned low high a.parser)) ≡ true) mine
+        (both _ _ ranged).0 in
         let first : row_text r ≡ Some f.2.0 = rw (f.1, f.2.1) refl in
         (f.2.0, first, bounds_of low high a f.2.0 bound f.2.2)
 

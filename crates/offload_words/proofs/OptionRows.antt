@@ -1,6 +1,7 @@
 -- What a level of a parse without a fault leaves, where each argument is an option with one value or a call for help:
 -- each row is of an option, and has a first value that this option takes.
-use Rattle.std.proofs.Common.{◌≡◌, ◌∙◌, ◌⊎◌, ◌==◌, ◌&&◌, ◌||◌, ℕ, Bool, Decides, ne_eqb, true, false, not, zero, suc, true≢false, refl, sym, ap, subst, arith, List, [], ◌∷◌, ◌++◌, length, drop, Option, Some, None, is_some, inl, inr, ⊎_elim, unwrap_or, if◌then◌else◌, append-nil, codes, option_and_then}
+use Rattle.std.proofs.Common.{◌≡◌, ◌∙◌, ◌⊎◌, ◌==◌, ◌&&◌, ◌||◌, ℕ, Bool, Decides, ne_eqb, true, false, not, zero, suc, true≢false, refl, sym, ap, subst, arith, List, [], ◌∷◌, ◌++◌, length, drop}
+use Rattle.std.proofs.Common.{Option, Some, None, is_some, inl, inr, ⊎_elim, unwrap_or, if◌then◌else◌, append-nil, codes, option_and_then}
 use Rattle.std.specs.Prelude.{encode_utf8, slice_get, find, fold, IfSome, ⊤}
 use Rattle.std.specs.List.{list_all, list_any}
 use Rattle.std.proofs.lemmas.Slice.Eq.{bytes_eq-Decides}
@@ -10,11 +11,16 @@ use Rattle.std.specs.Option.{option_map_or}
 use Rattle.std.specs.Str.{bytes_eq, chars}
 use Rattle.clap.specs.Lexer.{long_of, short_of}
 use Rattle.clap.specs.Facts.{parser_of_value, unwrap_or_range}
-use Rattle.clap.specs.Walk.{Held, Names, Outcome, Row, Rule, Step, Text, Waiting, Walk, action_of, after_flag, after_step, arg_by_id, arg_by_index, arg_by_long, arg_by_short, at_row, attached_value, bundle, bundle_met, bundle_step, default_rows, done, first_of, flag_met, has_row, idle, is_empty, long_met, long_or_other, more_values, next, nothing_held, one_of, option, option_met, option_word, plain, plain_word, positional, reacted, reading_by, refused, row_text, rows_after, settled, settled_rows, short_met, short_or_plain, subcommand, subcommand_met, subcommand_or_other, takes_values, trailing, used, used_as, used_by_id, value, values_or_missing, waits, walk, walk_from, walked, walked_from, with_default, with_values, without, word_met}
+use Rattle.clap.specs.Walk.{Held, Names, Outcome, Row, Rule, Step, Text, Waiting, Walk, action_of, after_flag, after_step, arg_by_id, arg_by_index, arg_by_long, arg_by_short, at_row, attached_value}
+use Rattle.clap.specs.Walk.{bundle, bundle_met, bundle_step, default_rows, done, first_of, flag_met, has_row, idle, is_empty, long_met, long_or_other, more_values, next, nothing_held, one_of, option}
+use Rattle.clap.specs.Walk.{option_met, option_word, plain, plain_word, positional, reacted, reading_by, refused, row_text, rows_after, settled, settled_rows, short_met, short_or_plain, subcommand}
+use Rattle.clap.specs.Walk.{subcommand_met, subcommand_or_other, takes_values, trailing, used, used_as, used_by_id, value, values_or_missing, waits, walk, walk_from, walked, walked_from, with_default}
+use Rattle.clap.specs.Walk.{with_values, without, word_met}
 use Rattle.clap.specs.Simple.{Shape}
 use Rattle.clap.specs.Takes.{value_passes}
 use Rattle.clap.specs.Kinds.{Kinds, or_else, range_kinds, request_kinds, value_kinds}
-use Rattle.clap.specs.Faults.{action_fault, bundle_fault, bundle_step_fault, default_fault, defaults_fault, flag_word_fault, flags_fault, given_default_fault, level_fault, long_fault, option_fault, other_fault, positional_fault, react_fault, settle_fault, short_fault, step_fault, stray_fault, turn_fault, use_fault, values_fault, walk_fault, word_fault}
+use Rattle.clap.specs.Faults.{action_fault, bundle_fault, bundle_step_fault, default_fault, defaults_fault, flag_word_fault, flags_fault, given_default_fault, level_fault, long_fault, option_fault}
+use Rattle.clap.specs.Faults.{other_fault, positional_fault, react_fault, settle_fault, short_fault, step_fault, stray_fault, turn_fault, use_fault, values_fault, walk_fault, word_fault}
 use Rattle.clap.specs.declared.builder.action.ArgAction.{ArgAction}
 use Rattle.clap.specs.declared.builder.action.ArgAction.TheVariants.{Set, Help}
 use Rattle.clap.specs.declared.builder.range.ValueRange.{ValueRange}
@@ -323,7 +329,8 @@ module _ (s : Shape) (names : Names) (off : s.args_override_self ≡ false) (law
 
     other_names : (o : Option Text) (waiting : Waiting) (position : ℕ) (word : Text) (h : Held) → other_fault s o word h ≡ []
         → NamesNoHelp (subcommand_or_other s.rules o waiting position word h).1
-    other_names (Some name) waiting position word h e = not_again s.disable_help_subcommand (bytes_eq name (codes "help")) DisplayHelp helps (shorter (bytes_eq name (codes "help") && not s.disable_help_subcommand) e)
+    other_names (Some name) waiting position word h e = not_again s.disable_help_subcommand (bytes_eq name (codes "help")) DisplayHelp helps
+        (shorter (bytes_eq name (codes "help") && not s.disable_help_subcommand) e)
       where
         shorter : (b : Bool) → (if b then DisplayHelp ∷ InvalidSubcommand ∷ [] else []) ≡ [] → (if b then DisplayHelp ∷ [] else []) ≡ []
         shorter true e = no_kinds _ _ e
@@ -416,7 +423,8 @@ default_has rows a wants = go (has_row a.id rows) refl a.defaults wants
     go true is d wants = is
     go false is [] wants = absurd (true≢false (sym wants))
     go false is (v ∷ vs) wants =
-        subst (λ (xs : List Row). has_row a.id xs ≡ true) (sym (with_new a.id (reading_by a) DefaultValue (v ∷ vs) rows is)) (has_last a.id rows (row_for a.id (reading_by a) DefaultValue (v ∷ vs)) (same_text a.id))
+        subst (λ (xs : List Row). has_row a.id xs ≡ true) (sym (with_new a.id (reading_by a) DefaultValue (v ∷ vs) rows is)) (has_last a.id rows (row_for a.id (reading_by a) DefaultValue (v ∷ vs))
+        (same_text a.id))
 
 default_keeps : (id : Text) (rows : List Row) (a : Rule) → has_row id rows ≡ true → has_row id (with_default rows a) ≡ true
 default_keeps id rows a has = go (has_row a.id rows) refl a.defaults

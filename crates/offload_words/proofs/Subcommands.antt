@@ -64,7 +64,8 @@ line_fits Q a ws off ones helps required gives e =
 -- a call for help is a fault
 pub help_level : (Q : Text × List Row → Type 0) (s : Shape) → s.name ≡ codes "help" → s.aliases ≡ [] → Gives Q s
 help_level Q s name aliases = λ ws word e no_help is.
-    let here : (bytes_eq (codes "help") word || false) ≡ true = subst (λ (t : Text). (bytes_eq t word || false) ≡ true) name (subst (λ (ts : List Text). (bytes_eq s.name word || list_any (λ t. bytes_eq t word) ts) ≡ true) aliases is) in
+    let here : (bytes_eq (codes "help") word || false) ≡ true = subst (λ (t : Text). (bytes_eq t word || false) ≡ true) name (subst (λ (ts : List Text).
+    (bytes_eq s.name word || list_any (λ t. bytes_eq t word) ts) ≡ true) aliases is) in
     let same : codes "help" ≡ word = (bytes_eq-Decides (codes "help") word).0 (either (bytes_eq (codes "help") word) here) in
     absurd (true≢false (sym ((bytes_eq-Decides word (codes "help")).1 (sym same)) ∙ no_help))
   where

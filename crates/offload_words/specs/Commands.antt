@@ -1,5 +1,6 @@
 -- The command set of offload, as clap's own functions read it.
-use Rattle.std.specs.Prelude.{◌≡◌, ◌↔◌, Bool, true, List, [], ◌∷◌, Option, None, IsSome, codes, if◌then◌else◌, option_and_then, option_map}
+use Rattle.std.specs.Prelude.{◌≡◌, ◌↔◌, Bool, true, List, [], ◌∷◌, Option, None, IsSome, codes, if◌then◌else◌}
+use Rattle.std.specs.Prelude.{option_and_then, option_map}
 use Rattle.std.specs.Option.{option_map_or}
 use Rattle.std.specs.Str.{bytes_eq}
 use Rattle.clap.specs.Words.{App, Kinds, Row, Text, fault_of, new_app, subcommand_of, with_subcommand}
@@ -23,7 +24,8 @@ needs_subcommand a = record a { top = record a.top { subcommand_required = true 
 
 -- the program, with a subcommand for each command that reads a capture
 abbrev pub reading_app : App
-reading_app = with_subcommand (with_subcommand (with_subcommand (needs_subcommand (new_app (codes "offload"))) merge_app.top) segment_app.top) check_app.top
+reading_app = with_subcommand (with_subcommand (with_subcommand
+    (needs_subcommand (new_app (codes "offload"))) merge_app.top) segment_app.top) check_app.top
 
 -- and with one for the command that makes a capture
 abbrev pub offload_app : App
@@ -50,7 +52,8 @@ command_unless (fault ∷ faults) command = None
 
 -- the command of a line by a command set: none where clap finds a fault, else that of the subcommand and its matches
 unfoldable pub command_by : App → List Text → Option Command
-command_by a words = command_unless (fault_of a words) (option_and_then (λ p. command_named p.0 p.1) (subcommand_of a words))
+command_by a words = command_unless (fault_of a words) (option_and_then (λ p. command_named p.0 p.1)
+    (subcommand_of a words))
 
 -- the command of a line of offload
 abbrev pub command_of : List Text → Option Command

@@ -6,12 +6,14 @@ use Rattle.offload_words.specs.declared.make.MakeOptions.{MakeOptions}
 
 abbrev pub make_app : App
 make_app =
-    with_rule (with_rule (new_app (codes "make")) (number_rule (codes "seed") 0 18446744073709551615 (codes "1"))) (number_rule (codes "count") 0 10000000 (codes "1000"))
+    with_rule (with_rule (new_app (codes "make")) (number_rule (codes "seed") 0 18446744073709551615 (codes "1")))
+    (number_rule (codes "count") 0 10000000 (codes "1000"))
 
 -- the options among its matches
 abbrev pub make_options_in : List Row → Option MakeOptions
 make_options_in rows =
-    option_and_then (λ seed. option_map (λ count. record { seed = seed; count = count }) (number_in 4294967295 (codes "count") rows))
+    option_and_then (λ seed. option_map (λ count. record { seed = seed; count = count })
+    (number_in 4294967295 (codes "count") rows))
     (number_in 18446744073709551615 (codes "seed") rows)
 
 abbrev pub IsInRange : MakeOptions → Type 0

@@ -1,5 +1,6 @@
 -- The subcommand merge.
-use Rattle.std.specs.Prelude.{ℕ, ◌≤◌, Bool, true, ◌&&◌, is_some, List, Option, IfSome, codes, option_and_then, option_map}
+use Rattle.std.specs.Prelude.{ℕ, ◌≤◌, Bool, true, ◌&&◌, is_some, List, Option, IfSome, codes, option_and_then}
+use Rattle.std.specs.Prelude.{option_map}
 use Rattle.std.specs.Option.{option_map_or}
 use Rattle.clap.specs.Words.{App, Row, new_app, with_rule}
 use Rattle.frame_layout.specs.Choice.{IsChoice}

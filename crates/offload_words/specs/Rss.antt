@@ -1,6 +1,7 @@
 -- The options --rss and --table: how flows go to queues. As receive-side scaling has it, a Toeplitz hash under a key is
 -- a place in a table of queues.
-use Rattle.std.specs.Prelude.{◌≡◌, ◌<◌, ◌++◌, ℕ, ◌+◌, ◌-◌, ◌*◌, Bool, ◌&&◌, ◌==◌, nat_le, nat_lt, if◌then◌else◌, Option, Some, None, option_and_then, option_map, List, [], ◌∷◌, length, codes}
+use Rattle.std.specs.Prelude.{◌≡◌, ◌<◌, ◌++◌, ℕ, ◌+◌, ◌-◌, ◌*◌, Bool, ◌&&◌, ◌==◌, nat_le, nat_lt, if◌then◌else◌, Option}
+use Rattle.std.specs.Prelude.{Some, None, option_and_then, option_map, List, [], ◌∷◌, length, codes}
 use Rattle.std.specs.List.{fold, list_all, slice_split}
 use Rattle.clap.specs.Words.{Row, Text, first_of}
 use Rattle.frame_layout.specs.Choice.{even_table_of}
@@ -43,7 +44,8 @@ entry_in queues text =
 
 abbrev pub entries_in : ℕ → List Text → Option (List ℕ)
 entries_in queues [] = Some []
-entries_in queues (text ∷ texts) = option_and_then (λ n. option_map (λ ns. n ∷ ns) (entries_in queues texts)) (entry_in queues text)
+entries_in queues (text ∷ texts) = option_and_then (λ n. option_map (λ ns. n ∷ ns) (entries_in queues texts))
+    (entry_in queues text)
 
 abbrev pub at_most : ℕ → List ℕ → Option (List ℕ)
 at_most most entries = if nat_le (length entries) most then Some entries else None

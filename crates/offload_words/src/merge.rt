@@ -3,7 +3,8 @@
 ghost use Rattle.std.specs.Prelude.{◌≡◌, IfOk, false};
 ghost use Rattle.clap.specs.Words.{app_of, found_of, rows_of};
 ghost use Rattle.offload_words.specs.Commands.{has_globals_of};
-ghost use Rattle.offload_words.specs.Merge.{AreQueuesIn, merge_app, merge_numbers_in, merge_options_in, with_merge_numbers as with_merge_numbers_of, with_merge_rules};
+ghost use Rattle.offload_words.specs.Merge.{AreQueuesIn, merge_app, merge_numbers_in, merge_options_in};
+ghost use Rattle.offload_words.specs.Merge.{with_merge_numbers as with_merge_numbers_of, with_merge_rules};
 ghost use Rattle.offload_words.specs.Reading.{Reads};
 
 use crate::fault::WordsFault;

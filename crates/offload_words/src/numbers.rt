@@ -60,7 +60,8 @@ pub(crate) fn with_number<'a>(
     default: &'a str,
 ) -> Result<clap::Command<'a>, AllocError>
     requires local { has_globals_of app ≡ false }
-    ensures app { IfOk result (λ c. app_of c ≡ with_rule (app_of app.entry) (number_rule id.entry.now low high default.entry.now)) }
+    ensures app { IfOk result (λ c. app_of c ≡ with_rule (app_of app.entry)
+        (number_rule id.entry.now low high default.entry.now)) }
     ensures local { IfOk result (λ c. has_globals_of c ≡ false) }
 {
     app.arg(number_option(alloc, id, low, high, default))

@@ -2,7 +2,8 @@
 
 ghost use Rattle.std.specs.Prelude.{◌≡◌, ◌≤◌, ◌<◌, ◌⊎◌, IfSome, MatchOption, Some, None, length, option_map};
 ghost use Rattle.clap.specs.Words.{found_of, rows_of};
-ghost use Rattle.offload_words.specs.Rss.{Adds, choice_by, choice_in, entry_in, hash_key_in, hex_byte as hex_byte_of, hex_digit as hex_digit_of, is_digit as is_digit_of, table_by, table_in};
+ghost use Rattle.offload_words.specs.Rss.{Adds, choice_by, choice_in, entry_in, hash_key_in, hex_byte as hex_byte_of};
+ghost use Rattle.offload_words.specs.Rss.{hex_digit as hex_digit_of, is_digit as is_digit_of, table_by, table_in};
 
 use crate::texts::text_at;
 use arrayvec::ArrayVec;
@@ -77,7 +78,8 @@ fn entry_of(text: &str, queues: u32) -> Option<u8>
 /// One entry more. None where its text is no queue's number, or the table is full.
 fn push_entry(table: &mut ArrayVec<u8, 128>, text: &str, queues: u32) -> Option<()>
     requires few { queues ≤ 64 }
-    ensures entry { MatchOption result ((entry_in queues text.now ≡ None) ⊎ (128 ≤ length table.old.items)) (λ _. Adds queues text.now table.old.items table.new.items) }
+    ensures entry { MatchOption result ((entry_in queues text.now ≡ None) ⊎ (128 ≤ length table.old.items))
+        (λ _. Adds queues text.now table.old.items table.new.items) }
 {
     let entry = entry_of(text, queues)?;
     table.try_push(entry).ok()

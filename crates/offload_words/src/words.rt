@@ -1,8 +1,10 @@
 //! From the words to the command.
 
-ghost use Rattle.std.specs.Prelude.{◌≡◌, ◌≢◌, ◌⊎◌, [], IfOk, IfSome, Some, None, false, map, option_and_then, option_map, string_bytes, true};
+ghost use Rattle.std.specs.Prelude.{◌≡◌, ◌≢◌, ◌⊎◌, [], IfOk, IfSome, Some, None, false, map, option_and_then};
+ghost use Rattle.std.specs.Prelude.{option_map, string_bytes, true};
 ghost use Rattle.clap.specs.Words.{app_of, fault_of, found_of, rows_of, subcommand_rows_of};
-ghost use Rattle.offload_words.specs.Commands.{FaultlessLinesAreCommands, HasRanges, command_named, command_of, has_right_texts, offload_app};
+ghost use Rattle.offload_words.specs.Commands.{FaultlessLinesAreCommands, HasRanges, command_named, command_of};
+ghost use Rattle.offload_words.specs.Commands.{has_right_texts, offload_app};
 ghost use Rattle.offload_words.specs.Check.{check_options_in};
 ghost use Rattle.offload_words.specs.Make.{make_options_in};
 ghost use Rattle.offload_words.specs.Merge.{AreQueuesIn, merge_options_in};
@@ -119,7 +121,8 @@ pub fn parse_words(alloc: Global, words: &[String]) -> Result<Command, WordsFaul
     ensures texts { IfOk result (λ _. has_right_texts (map string_bytes words.now) ≡ true) }
     ensures range { IfOk result HasRanges }
 
-    ensures usage { result ≡ Err WordsFault.Usage → (fault_of offload_app (map string_bytes words.now) ≢ []) ⊎ (has_right_texts (map string_bytes words.now) ≡ false) }
+    ensures usage { result ≡ Err WordsFault.Usage → (fault_of offload_app (map string_bytes words.now) ≢ [])
+        ⊎ (has_right_texts (map string_bytes words.now) ≡ false) }
     ensures no_command { result ≡ Err WordsFault.Usage → command_of (map string_bytes words.now) ≡ None }
 {
     match offload_commands(alloc) {

@@ -1,5 +1,6 @@
 -- What a capture's bytes read as, record by record.
-use Rattle.std.proofs.Common.{◌≡◌, ◌<◌, ◌≤◌, ◌+◌, ℕ, zero, suc, List, [], ◌∷◌, ◌++◌, length, take, drop, refl, sym, ap, ◌∙◌, arith, Option, None, Some, Err, subst, length-append, length-drop, length-take, Bool, true, false, if◌then◌else◌}
+use Rattle.std.proofs.Common.{◌≡◌, ◌<◌, ◌≤◌, ◌+◌, ℕ, zero, suc, List, [], ◌∷◌, ◌++◌, length, take, drop, refl, sym, ap, ◌∙◌, arith, Option, None, Some, Err, subst, length-append, length-drop}
+use Rattle.std.proofs.Common.{length-take, Bool, true, false, if◌then◌else◌}
 use Rattle.std.proofs.lemmas.Option.{none-some}
 use Rattle.std.specs.Prelude.{nat_lt}
 use Rattle.std.proofs.lemmas.List.{take_all, take_at, drop_at, length-take-le, drop-drop}
@@ -21,7 +22,8 @@ use Rattle.std.specs.Io.KnownBytes.{Consumes, IsAtEnd}
 use Rattle.pcap_io.proofs.Fronts.{not_first, front_read}
 
 -- bytes that belong to the record before are passed over
-pub records_skip : (order : Order) (link : Link) (n offset skip : ℕ) (bytes : List ℕ) → skip ≤ length bytes → records_from order link n offset skip bytes ≡ records_from order link n offset 0 (drop skip bytes)
+pub records_skip : (order : Order) (link : Link) (n offset skip : ℕ) (bytes : List ℕ) → skip ≤ length bytes → records_from order link n offset skip bytes
+    ≡ records_from order link n offset 0 (drop skip bytes)
 unfolding records_from
 records_skip order link n offset zero [] le = refl
 records_skip order link n offset (suc skip) [] le = absurd (omega (arith, le))
@@ -40,8 +42,10 @@ records_fault order link n offset (b ∷ bytes) kind some e =
     let size = captured_length order (take 16 (b ∷ bytes)) in
     ap (λ (r : Option CapKind). judged r n offset (packet_at order n (b ∷ bytes)) (records_from order link (n + 1) (offset + 16 + size) (15 + size) bytes)) e
 
-pub records_whole : (order : Order) (link : Link) (n offset : ℕ) (bytes : List ℕ) → 16 + captured_length order (take 16 bytes) ≤ length bytes → first_that_holds (record_refusals order link n bytes) ≡ None
-    → records_from order link n offset 0 bytes ≡ one_more (packet_at order n bytes) (records_from order link (n + 1) (offset + 16 + captured_length order (take 16 bytes)) 0 (drop (16 + captured_length order (take 16 bytes)) bytes))
+pub records_whole : (order : Order) (link : Link) (n offset : ℕ) (bytes : List ℕ) → 16 + captured_length order (take 16 bytes) ≤ length bytes
+    → first_that_holds (record_refusals order link n bytes) ≡ None
+    → records_from order link n offset 0 bytes ≡ one_more (packet_at order n bytes) (records_from order link (n + 1) (offset + 16 + captured_length order (take 16 bytes)) 0
+    (drop (16 + captured_length order (take 16 bytes)) bytes))
 unfolding records_from
 records_whole order link n offset [] long e = absurd (omega (arith, long))
 records_whole order link n offset (b ∷ bytes) long e =
@@ -81,7 +85,8 @@ head_refused (Some xs) (Some ys) place fault count buf size le some took is =
     let both = front_read xs ys buf count 16 size (omega arith) took.0 (λ lt. took.1 (omega arith)) in
     let order = place.file.order in
     let refused : first_that_holds (head_refusals order place.link place.number (take 16 xs)) ≡ Some fault.kind = rw both.0 is.0 in
-    let all : first_that_holds (record_refusals order place.link place.number xs) ≡ Some fault.kind = first_append_some (head_refusals order place.link place.number (take 16 xs)) (body_refusals order (take 16 xs) (drop 16 xs)) fault.kind refused in
+    let all : first_that_holds (record_refusals order place.link place.number xs) ≡ Some fault.kind = first_append_some (head_refusals order place.link place.number (take 16 xs))
+    (body_refusals order (take 16 xs) (drop 16 xs)) fault.kind refused in
     let long : 0 < length xs = omega (arith, ap length took.0, length-append (take count buf) ys, length-take-le count buf le) in
     record {
       some = long;
@@ -91,7 +96,8 @@ head_refused (Some xs) (Some ys) place fault count buf size le some took is =
     }
 
 -- what the last test says
-pub body_test : (order : Order) (link : Link) (n : ℕ) (bytes : List ℕ) (b : Bool) → first_that_holds (head_refusals order link n (take 16 bytes)) ≡ None → nat_lt (length (drop 16 bytes)) (captured_length order (take 16 bytes)) ≡ b
+pub body_test : (order : Order) (link : Link) (n : ℕ) (bytes : List ℕ) (b : Bool) → first_that_holds (head_refusals order link n (take 16 bytes)) ≡ None
+    → nat_lt (length (drop 16 bytes)) (captured_length order (take 16 bytes)) ≡ b
     → first_that_holds (record_refusals order link n bytes) ≡ (if b then Some ShortRecord else None)
 body_test order link n bytes b lawful test =
     first_append_none (head_refusals order link n (take 16 bytes)) (body_refusals order (take 16 bytes) (drop 16 bytes)) lawful

@@ -1,5 +1,6 @@
 -- The split of a capture into its records.
-use Rattle.std.proofs.Common.{arith, ◌≡◌, refl, sym, ap, ◌∙◌, subst, ℕ, zero, suc, ◌+◌, ◌*◌, ◌^◌, ◌<◌, ◌≤◌, List, [], ◌∷◌, ◌++◌, length, take, drop, Bool, false, Option, None, Some, length-drop, length-take, length-append, take-append-drop, append_assoc, append-nil}
+use Rattle.std.proofs.Common.{arith, ◌≡◌, refl, sym, ap, ◌∙◌, subst, ℕ, zero, suc, ◌+◌, ◌*◌, ◌^◌, ◌<◌, ◌≤◌, List, [], ◌∷◌, ◌++◌, length, take, drop, Bool, false, Option, None, Some, length-drop}
+use Rattle.std.proofs.Common.{length-take, length-append, take-append-drop, append_assoc, append-nil}
 use Rattle.std.proofs.lemmas.List.{take_at, drop_at, drop-drop, length-take-le}
 use Rattle.std.proofs.lemmas.Bool.{ltb-false, le-ltb, lt-leb, leb-false}
 use Rattle.std.specs.Prelude.{nat_lt}
@@ -77,7 +78,8 @@ pub ends_reads : (order : Order) (link : Link) (n offset : ℕ) (rest : List ℕ
 ends_reads order link n offset [] fault end = records_none order link n offset ∙ ap ended (sym end)
 ends_reads order link n offset (b ∷ bytes) fault end = records_fault order link n offset (b ∷ bytes) end.0 (omega arith) end.1 ∙ ap ended (sym end.2)
 
-ends_at : (order : Order) (link : Link) (n n' offset offset' : ℕ) (rest : List ℕ) (fault : Option CapFault) → n ≡ n' → offset ≡ offset' → EndsAs order link n offset rest fault → EndsAs order link n' offset' rest fault
+ends_at : (order : Order) (link : Link) (n n' offset offset' : ℕ) (rest : List ℕ) (fault : Option CapFault) → n ≡ n' → offset ≡ offset' → EndsAs order link n offset rest fault
+    → EndsAs order link n' offset' rest fault
 ends_at order link n n' offset offset' rest fault p q end =
     subst (λ k. EndsAs order link k offset' rest fault) p (subst (λ k. EndsAs order link n k rest fault) q end)
 

@@ -5,7 +5,8 @@ use Rattle.net_bytes.specs.Order.{number}
 use Rattle.pcap_io.specs.declared.heads.Link.{Link}
 use Rattle.pcap_io.specs.declared.faults.CapKind.{CapKind}
 use Rattle.pcap_io.specs.declared.faults.CapFault.{CapFault}
-use Rattle.pcap_io.specs.Headers.{first_that_holds, file_refusals, file_place, order_of, captured_length, original_length, record_refusals}
+use Rattle.pcap_io.specs.Headers.{first_that_holds, file_refusals, file_place, order_of, captured_length}
+use Rattle.pcap_io.specs.Headers.{original_length, record_refusals}
 
 -- a record's packet: its number in the capture, its time, its length on the wire, and the bytes that were captured
 pub record Packet : Type 0 where
@@ -48,7 +49,8 @@ abbrev pub judged : Option CapKind → ℕ → ℕ → Packet → Found → Foun
 judged None n offset packet rest = one_more packet rest
 judged (Some kind) n offset packet rest = ended (Some (record { kind = kind; offset = offset; number = n }))
 
--- From record n on, which begins at this offset after `skip` bytes that belong to the one before. No byte where a record may begin is the end.
+-- From record n on, which begins at this offset after `skip` bytes that belong to the one before. No byte where a
+-- record may begin is the end.
 unfoldable pub records_from : Order → Link → ℕ → ℕ → ℕ → List ℕ → Found
 records_from order link n offset skip [] = ended None
 records_from order link n offset (suc skip) (b ∷ bytes) = records_from order link n offset skip bytes
@@ -65,7 +67,8 @@ found_after (Some kind) found = ended (Some (record { kind = kind; offset = file
 abbrev pub reads_numbered : ℕ → Link → List ℕ → Found
 reads_numbered first link bytes =
     let head = take 24 bytes in
-    found_after (first_that_holds (file_refusals link head)) (records_from (order_of head) link first 24 0 (drop 24 bytes))
+    found_after (first_that_holds (file_refusals link head))
+    (records_from (order_of head) link first 24 0 (drop 24 bytes))
 
 abbrev pub reads : Link → List ℕ → Found
 reads link bytes = reads_numbered 0 link bytes

@@ -1,5 +1,6 @@
 -- The fields of a capture's headers, and the order in which they are judged (pcap file format, sections 4 and 5).
-use Rattle.std.specs.Prelude.{ℕ, ◌+◌, ◌-◌, ◌^◌, nat_lt, nat_le, ◌==◌, ◌&&◌, ◌||◌, not, Bool, true, false, List, [], ◌∷◌, ◌++◌, length, take, drop, Option, None, Some, if◌then◌else◌, is_none, unwrap_or}
+use Rattle.std.specs.Prelude.{ℕ, ◌+◌, ◌-◌, ◌^◌, nat_lt, nat_le, ◌==◌, ◌&&◌, ◌||◌, not, Bool, true, false, List, [], ◌∷◌}
+use Rattle.std.specs.Prelude.{◌++◌, length, take, drop, Option, None, Some, if◌then◌else◌, is_none, unwrap_or}
 use Rattle.net_bytes.specs.declared.order.Order.{Order}
 use Rattle.net_bytes.specs.declared.order.Order.TheVariants.{Big, Little}
 use Rattle.net_bytes.specs.Order.{number}
@@ -13,9 +14,12 @@ use Rattle.pcap_io.specs.declared.off_head.OffHead2.{OffHead2}
 use Rattle.pcap_io.specs.declared.off_head.AnyHead.{AnyHead}
 use Rattle.pcap_io.specs.declared.off_head.AnyHead.TheVariants.{V1, V2}
 use Rattle.pcap_io.specs.declared.faults.CapKind.{CapKind}
-use Rattle.pcap_io.specs.declared.faults.CapKind.TheVariants.{ShortHeader, BadMagic, BadVersion, BadLinkType, ShortRecordHeader, TooMany, TooLong, BadOriginal, BadOffload, ShortRecord}
+use Rattle.pcap_io.specs.declared.faults.CapKind.TheVariants.{ShortHeader, BadMagic, BadVersion, BadLinkType}
+use Rattle.pcap_io.specs.declared.faults.CapKind.TheVariants.{ShortRecordHeader, TooMany, TooLong, BadOriginal}
+use Rattle.pcap_io.specs.declared.faults.CapKind.TheVariants.{BadOffload, ShortRecord}
 
--- The magic number names the byte order by how it is spelled, and the unit of time by its value: 0xa1b2c3d4 for microseconds, 0xa1b23c4d for nanoseconds (true).
+-- The magic number names the byte order by how it is spelled, and the unit of time by its value: 0xa1b2c3d4 for
+-- microseconds, 0xa1b23c4d for nanoseconds (true).
 abbrev pub spelling_of : List ℕ → Option (Order × Bool)
 spelling_of bytes =
     if number Big 4 bytes == 2712847316 then Some (Big, false) else
@@ -134,7 +138,15 @@ head_size (V2 h) = off_head2_size
 
 -- its fields, of either version in those of version 2
 abbrev pub fields_in : AnyHead → OffHead2
-fields_in (V1 h) = record { version = h.version; kind = h.kind; modes = h.modes; lane = h.lane; n = h.n; m = h.m; number = h.number }
+fields_in (V1 h) = record {
+  version = h.version;
+  kind = h.kind;
+  modes = h.modes;
+  lane = h.lane;
+  n = h.n;
+  m = h.m;
+  number = h.number;
+}
 fields_in (V2 h) = h
 
 -- the version that it says is its own

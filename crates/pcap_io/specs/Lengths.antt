@@ -1,5 +1,5 @@
--- The captured lengths that a capture's lawful record headers say: those of the whole records, and that of one more whose body is
--- cut short (pcap file format, section 5). Of a refused header there is none.
+-- The captured lengths that a capture's lawful record headers say: those of the whole records, and that of one more
+-- whose body is cut short (pcap file format, section 5). Of a refused header there is none.
 use Rattle.std.specs.Prelude.{ℕ, zero, suc, ◌+◌, List, [], ◌∷◌, take, Option, None, Some}
 use Rattle.net_bytes.specs.declared.order.Order.{Order}
 use Rattle.pcap_io.specs.declared.heads.Link.{Link}
@@ -20,7 +20,8 @@ lengths_from order link n skip [] = []
 lengths_from order link n (suc skip) (b ∷ bytes) = lengths_from order link n skip bytes
 lengths_from order link n zero (b ∷ bytes) =
     let size = captured_length order (take 16 (b ∷ bytes)) in
-    lengths_by (first_that_holds (record_refusals order link n (b ∷ bytes))) size (lengths_from order link (n + 1) (15 + size) bytes)
+    lengths_by (first_that_holds (record_refusals order link n (b ∷ bytes))) size
+    (lengths_from order link (n + 1) (15 + size) bytes)
 
 -- of these bytes, read from a place between two records on
 abbrev pub lengths_at : Place → List ℕ → List ℕ

@@ -14,7 +14,15 @@ use Rattle.pcap_io.specs.Capture.{Found, records_from}
 
 -- before the first record, which gets this number
 abbrev pub first_place : FileHead → Link → ℕ → Place
-first_place file link first = record { file = file; link = link; number = first; offset = 24; current = 24; body = 0; is_done = false }
+first_place file link first = record {
+  file = file;
+  link = link;
+  number = first;
+  offset = 24;
+  current = 24;
+  body = 0;
+  is_done = false;
+}
 
 -- these bytes, read from a place between two records on
 abbrev pub found_at : Place → List ℕ → Found
@@ -33,7 +41,8 @@ pub record IsReady (place : Place) : Type 0 where
 
 -- the fault that stands in a list of refusals, at this place
 abbrev pub IsRefusal : Place → List (Bool × CapKind) → CapFault → Type 0
-IsRefusal place rows fault = (first_that_holds rows ≡ Some fault.kind) × (fault.offset ≡ place.offset) × (fault.number ≡ place.number)
+IsRefusal place rows fault = (first_that_holds rows ≡ Some fault.kind) × (fault.offset ≡ place.offset)
+    × (fault.number ≡ place.number)
 
 -- the fields of a header
 pub record IsHead (place : Place) (bytes : List ℕ) (head : RecHead) : Type 0 where

@@ -1,5 +1,6 @@
 -- What each answer of a reader says of the bytes that its source had left before the call and has left after it.
-use Rattle.std.specs.Prelude.{◌≡◌, ℕ, ◌<◌, ◌≤◌, List, [], ◌++◌, length, take, drop, Option, None, Some, Result, Ok, Err, IfErr}
+use Rattle.std.specs.Prelude.{◌≡◌, ℕ, ◌<◌, ◌≤◌, List, [], ◌++◌, length, take, drop, Option, None, Some, Result, Ok, Err}
+use Rattle.std.specs.Prelude.{IfErr}
 use Rattle.off_io.specs.Faults.{Rose}
 use Rattle.off_io.specs.Told.{Told}
 use Rattle.pcap_io.specs.declared.heads.RecHead.{RecHead}
@@ -43,17 +44,20 @@ GivesHead place (Err ReadFault) bytes left = FewerGone bytes left 16
 
 abbrev pub GivesBody : Place → Result (Unit {0}) InFault → List ℕ → List ℕ → List ℕ → Type 0
 GivesBody place (Ok _) into bytes left = bytes ≡ into ++ left
-GivesBody place (Err (Cap fault)) into bytes left = (length bytes < length into) × (fault ≡ short_record place) × (left ≡ [])
+GivesBody place (Err (Cap fault)) into bytes left = (length bytes < length into) × (fault ≡ short_record place)
+    × (left ≡ [])
 GivesBody place (Err ReadFault) into bytes left = FewerGone bytes left (length into)
 
 -- the fault of a file header's kind
 abbrev pub IsFileFault : Link → List ℕ → CapFault → Type 0
 IsFileFault link head fault =
-    (first_that_holds (file_refusals link head) ≡ Some fault.kind) × (fault ≡ record { kind = fault.kind; offset = file_place fault.kind; number = 0 })
+    (first_that_holds (file_refusals link head) ≡ Some fault.kind)
+    × (fault ≡ record { kind = fault.kind; offset = file_place fault.kind; number = 0 })
 
 abbrev pub GivesFile : Link → Result FileHead InFault → List ℕ → List ℕ → Type 0
 GivesFile link (Ok file) bytes left =
-    (24 ≤ length bytes) × (first_that_holds (file_refusals link (take 24 bytes)) ≡ None) × (file ≡ file_head (take 24 bytes)) × (left ≡ drop 24 bytes)
+    (24 ≤ length bytes) × (first_that_holds (file_refusals link (take 24 bytes)) ≡ None)
+    × (file ≡ file_head (take 24 bytes)) × (left ≡ drop 24 bytes)
 GivesFile link (Err (Cap fault)) bytes left = IsFileFault link (take 24 bytes) fault × (left ≡ drop 24 bytes)
 GivesFile link (Err ReadFault) bytes left = FewerGone bytes left 24
 

@@ -14,8 +14,8 @@ pub enum Link {
     Offload,
 }
 
-/// A file header's fields that a reader passes on: byte order, whether fractions are nanoseconds (else microseconds), and
-/// the two fields after the version, unjudged.
+/// A file header's fields that a reader passes on: byte order, whether fractions are nanoseconds (else microseconds),
+/// and the two fields after the version, unjudged.
 #[derive(Clone, Copy, Debug, PartialEq, Eq)]
 pub struct FileHead {
     pub order: Order,

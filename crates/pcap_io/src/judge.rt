@@ -1,6 +1,7 @@
 //! What refuses a header.
 ghost use Rattle.std.specs.Prelude.{◌≡◌, ◌≤◌, length};
-ghost use Rattle.pcap_io.specs.Headers.{first_that_holds, head_refusals, file_refusals, captured_limit, link_number, is_bad_original};
+ghost use Rattle.pcap_io.specs.Headers.{first_that_holds, head_refusals, file_refusals, captured_limit, link_number};
+ghost use Rattle.pcap_io.specs.Headers.{is_bad_original};
 
 use crate::heads::spelling;
 use crate::{CapKind, FRAME_LIMIT, Link, OFF_HEAD_LEN, OFF_HEAD2_LEN};

@@ -1,5 +1,7 @@
 //! Laws of the definitions, each carried by a function that does nothing.
-ghost use Rattle.pcap_io.specs.Laws.{OffHeadReadsBack, OffHeadWritesBack, OffHead2ReadsBack, OffHead2WritesBack, RecHeadReadsBack, RecHeadWritesBack, FileHeadReadsBack, CaptureSplits, SplitIsUnique, CaptureReadsBack, LengthsByRecord, LengthsOfPackets};
+ghost use Rattle.pcap_io.specs.Laws.{OffHeadReadsBack, OffHeadWritesBack, OffHead2ReadsBack, OffHead2WritesBack};
+ghost use Rattle.pcap_io.specs.Laws.{RecHeadReadsBack, RecHeadWritesBack, FileHeadReadsBack, CaptureSplits};
+ghost use Rattle.pcap_io.specs.Laws.{SplitIsUnique, CaptureReadsBack, LengthsByRecord, LengthsOfPackets};
 
 /// An offload header that is written is read back.
 pub fn off_head_reads_back()

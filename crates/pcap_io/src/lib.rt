@@ -1,15 +1,15 @@
 //! Captures in the classic pcap layout, version 2.4: reading and writing.
 //!
 //! The layout is that of the pcap file format ("PCAP Capture File Format", draft-ietf-opsawg-pcap, sections 4 and 5; in
-//! short pcap-savefile(5)). A capture is a file header and records. [`CaptureReader`] gives the records one by one from a
-//! source and takes no byte beyond what it asks for; [`write_file_head`] and [`write_rec_head`] write the headers, and
-//! [`OffHead2`] is the 16-byte header of this project's own that stands before each frame in a capture of link type 147, and
-//! [`OffHead`] the 12-byte header that stood there before.
+//! short pcap-savefile(5)). A capture is a file header and records. [`CaptureReader`] gives the records one by one from
+//! a source and takes no byte beyond what it asks for; [`write_file_head`] and [`write_rec_head`] write the headers,
+//! and [`OffHead2`] is the 16-byte header of this project's own that stands before each frame in a capture of link type
+//! 147, and [`OffHead`] the 12-byte header that stood there before.
 //!
 //! Proved: what the reader gives, what it refuses, why and where, and what is left of the source is what `reads` in
-//! `specs/Capture.antt` says of the bytes (clauses `given`); each header written is its fields (`ok`, `err`). Laws of the
-//! definitions, each on a function: what is written is read back, and a capture is the longest list of its whole lawful
-//! records, spelled out, in one way alone ([`capture_splits`], [`split_is_unique`]).
+//! `specs/Capture.antt` says of the bytes (clauses `given`); each header written is its fields (`ok`, `err`). Laws of
+//! the definitions, each on a function: what is written is read back, and a capture is the longest list of its whole
+//! lawful records, spelled out, in one way alone ([`capture_splits`], [`split_is_unique`]).
 //!
 //! ```text
 //! let mut reader = CaptureReader::start(&mut feed, Link::Ethernet)?;

@@ -1,7 +1,8 @@
 //! The offload header, in two versions: what a record of link type 147 is.
 ghost use Rattle.std.specs.Prelude.{◌≡◌, ◌≤◌, ◌↔◌, length, IsSome, IfSome};
 ghost use Rattle.pcap_io.specs.Written.{off_bytes, off_bytes2};
-ghost use Rattle.pcap_io.specs.Headers.{off_head, off_head2, any_head, head_size, fields_in, says_version as says_version_of};
+ghost use Rattle.pcap_io.specs.Headers.{off_head, off_head2, any_head, head_size, fields_in};
+ghost use Rattle.pcap_io.specs.Headers.{says_version as says_version_of};
 
 use net_bytes::{Order, be16, be32};
 
@@ -11,8 +12,8 @@ pub const FRAME_LIMIT: u32 = 262_144;
 /// The bytes of an offload header of version 1.
 pub const OFF_HEAD_LEN: usize = 12;
 
-/// The 12 bytes before each frame in a capture of link type 147, its fields as they stand, unjudged. Numbers are big-endian
-/// whatever the file's order is.
+/// The 12 bytes before each frame in a capture of link type 147, its fields as they stand, unjudged. Numbers are
+/// big-endian whatever the file's order is.
 ///
 /// | place | field | single (kind 0) | merged (kind 1) | tap window (kind 2) |
 /// |---|---|---|---|---|
@@ -130,8 +131,8 @@ pub enum AnyHead {
 }
 
 impl AnyHead {
-    /// The header that these bytes begin with: of version 2 where the first is 2, and else of version 1, whatever it says. `None` where
-    /// fewer bytes are there than that version has.
+    /// The header that these bytes begin with: of version 2 where the first is 2, and else of version 1, whatever it
+    /// says. `None` where fewer bytes are there than that version has.
     pub fn read(bytes: &[u8]) -> Option<AnyHead>
         ensures fields { IfSome result (λ head. head ≡ any_head bytes.now) }
         ensures there { IsSome result ↔ (head_size (any_head bytes.now) ≤ length bytes.now) }

@@ -1,6 +1,7 @@
 //! Where in a capture a reader stands.
 ghost use Rattle.std.specs.Prelude.{◌≡◌, false, ◌≤◌, ◌^◌, length, IfOk, OnOk, IfErr, None};
-ghost use Rattle.pcap_io.specs.Headers.{first_that_holds, head_refusals, captured_limit, is_bad_original, lacks_off_head};
+ghost use Rattle.pcap_io.specs.Headers.{first_that_holds, head_refusals, captured_limit, is_bad_original};
+ghost use Rattle.pcap_io.specs.Headers.{lacks_off_head};
 ghost use Rattle.pcap_io.specs.Places.{Counted, EntersBody, first_place, IsHead, IsRefusal};
 
 use crate::judge::refuse_head;

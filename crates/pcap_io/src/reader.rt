@@ -1,5 +1,6 @@
 //! Reads a capture from a source, header by header and body by body.
-ghost use Rattle.std.specs.Prelude.{◌≡◌, ◌≤◌, ◌<◌, ◌^◌, length, false, true, IfOk, OnOk, OnErr, IfSome, IfNone, Ok, Err};
+ghost use Rattle.std.specs.Prelude.{◌≡◌, ◌≤◌, ◌<◌, ◌^◌, length, false, true, IfOk, OnOk, OnErr, IfSome, IfNone, Ok};
+ghost use Rattle.std.specs.Prelude.{Err};
 ghost use Rattle.std.specs.Borrow.{sem, RestsIfErr};
 ghost use Rattle.off_io.specs.contracts.feed.Feed.{the_row};
 ghost use Rattle.off_io.specs.Faults.{Rose};
@@ -15,9 +16,9 @@ use crate::{CapFault, CapKind, FileHead, InFault, Link, Place, RecHead};
 use net_bytes::Order;
 use off_io::{Failed, Feed, Source, read_full};
 
-/// Reads the records of a capture, one after the other: `next_head`, then `read_body` until `body_left` is 0. It takes no
-/// byte past the header or body bytes that it is asked for. After the end or a refusal it reads no more, and its source
-/// can be used again.
+/// Reads the records of a capture, one after the other: `next_head`, then `read_body` until `body_left` is 0. It takes
+/// no byte past the header or body bytes that it is asked for. After the end or a refusal it reads no more, and its
+/// source can be used again.
 #[derive(Drop)]
 pub struct CaptureReader<'s, S> {
     source: &'s mut S,
@@ -26,9 +27,9 @@ pub struct CaptureReader<'s, S> {
 
 /// Takes the file header, 24 bytes (pcap file format, section 4).
 ///
-/// Refused as `Cap` exactly where the bytes are no file header of this link type, version 2.4; the bytes that were there,
-/// at most 24, are then gone from the source. `ReadFault` only where the source's count of faults rose; fewer than 24
-/// bytes are then gone.
+/// Refused as `Cap` exactly where the bytes are no file header of this link type, version 2.4; the bytes that were
+/// there, at most 24, are then gone from the source. `ReadFault` only where the source's count of faults rose; fewer
+/// than 24 bytes are then gone.
 pub fn take_file<S: Source>(source: &mut S, link: Link) -> Result<FileHead, InFault>
     ensures given { Told (S.left source.old) (S.left source.new) (GivesFile link result) }
     ensures later { S.faults source.old ≤ S.faults source.new }
@@ -159,9 +160,9 @@ impl<'s, S: Source> CaptureReader<'s, S> {
     /// Takes the header of the next record (pcap file format, section 5); `None` exactly where nothing follows the last
     /// whole record.
     ///
-    /// Refused as `Cap` exactly where the next bytes are no lawful record header; the bytes that were there, at most 16,
-    /// are then gone from the source. `ReadFault` only where the source's count of faults rose; fewer than 16 bytes are
-    /// then gone. After the end or a refusal the reader isn't ready.
+    /// Refused as `Cap` exactly where the next bytes are no lawful record header; the bytes that were there, at most
+    /// 16, are then gone from the source. `ReadFault` only where the source's count of faults rose; fewer than 16 bytes
+    /// are then gone. After the end or a refusal the reader isn't ready.
     pub fn next_head(&mut self) -> Result<Option<RecHead>, InFault>
         requires ready { IsReady (place_of self.old) }
         ensures same_source { SameLoan self.old self.new }
@@ -205,8 +206,8 @@ impl<'s, S: Source> CaptureReader<'s, S> {
 
     /// Fills `into` with the next bytes of the record's body.
     ///
-    /// Refused as `Cap` exactly where the input ends before `into` is full; what was left is then gone. `ReadFault` only
-    /// where the source's count of faults rose; fewer bytes than `into` has are then gone.
+    /// Refused as `Cap` exactly where the input ends before `into` is full; what was left is then gone. `ReadFault`
+    /// only where the source's count of faults rose; fewer bytes than `into` has are then gone.
     pub fn read_body(&mut self, into: &mut [u8]) -> Result<(), InFault>
         requires room { length into.old ≤ (place_of self.old).body }
         ensures same_source { SameLoan self.old self.new }

@@ -1,10 +1,9 @@
--- What the shares of a block own, by their weights.
--- A life of a block has a name. Under it stand entries (what is held, what was given back), which add up: all that is
--- held is at most the full weight, and all that was given back is below it. The entries of one life agree on what the
--- life is about: its lifetime, its mark and its content.
--- While the life lasts its word w is what is held, and the life's invariant has what is left of both sums, that is
--- full_weight - w and w - 1, and 2 ^ 63 - w of the 2 ^ 63 parts of the lifetime's token. A share of weight k has the entry
--- (k, 0) and k parts of the token; what a release left has (0, k).
+-- What the shares of a block own, by their weights. A life of a block has a name. Under it stand entries (what is held,
+-- what was given back), which add up: all that is held is at most the full weight, and all that was given back is below
+-- it. The entries of one life agree on what the life is about: its lifetime, its mark and its content. While the life
+-- lasts its word w is what is held, and the life's invariant has what is left of both sums, that is full_weight - w and
+-- w - 1, and 2 ^ 63 - w of the 2 ^ 63 parts of the lifetime's token. A share of weight k has the entry (k, 0) and k
+-- parts of the token; what a release left has (0, k).
 use Rattle.std.specs.Prelude.{◌≡◌, ℕ, ◌+◌, ◌-◌, ◌^◌, ◌<◌, ◌≤◌, List, [], ◌∷◌, ◌++◌}
 use mathlib.Core.Path.{refl, sym, ◌∙◌}
 use mathlib.Core.Bool.{Bool, true, false}
@@ -63,7 +62,8 @@ adds = record {
       (×_prop (×_prop (SetCoded-set about_coded x.1 z.1) (SetCoded-set about_coded y.1 z.1)) (×_prop le_prop le_prop));
   one = λ x y z u h k i. (((sym h.0.0 ∙ k.0.0) i, (sym h.0.1 ∙ k.0.1) i), (sym h.1.0.0 ∙ k.1.0.0) i);
   comm = λ x y z h. let e = h.0.0 in let f = h.0.1 in ((omega arith, omega arith), ((h.1.0.1, h.1.0.0), h.1.1));
-  assoc = λ x y z xy u h k. let e = h.0.0 in let f = h.0.1 in let g = k.0.0 in let l = k.0.1 in let r = k.1.1.0 in let s = k.1.1.1 in
+  assoc = λ x y z xy u h k. let e = h.0.0 in let f = h.0.1 in let g = k.0.0 in let l = k.0.1 in let r = k.1.1.0
+      in let s = k.1.1.1 in
       ∣ (
         ((y.0.0 + z.0.0, y.0.1 + z.0.1), u.1),
         (
@@ -166,13 +166,15 @@ share_shares R null_ptr x = said ffalse
 
 -- that r was given back in the life γ with this mark, by one release or by several
 abbrev pub given_back_owns : LifeNames → ℕ → ℕ → Fml
-given_back_owns γ mark r = fsep (fact ((0 < r) × (r + 1 ≤ full_weight))) (fex (ℕ × Gv) (λ f. entry γ.0 0 r ((f.0, mark), f.1)))
+given_back_owns γ mark r = fsep (fact ((0 < r) × (r + 1 ≤ full_weight)))
+    (fex (ℕ × Gv) (λ f. entry γ.0 0 r ((f.0, mark), f.1)))
 
 -- ---- what a step leaves its caller: where it found the caller's own weight w the life has ended, and else `back`
 
 module _ (R : RattleType) (b o : ℕ) (γ : LifeNames) (x : R.Denot) (mark a w : ℕ) where
   abbrev pub freed : Fml
-  freed = fsep (word b (o + 0) 0) (fsep (fdead (a ∷ [])) (fsep (flent (a ∷ []) (content_at R b o x)) (whole_with R b o x)))
+  freed = fsep (word b (o + 0) 0) (fsep (fdead (a ∷ []))
+      (fsep (flent (a ∷ []) (content_at R b o x)) (whole_with R b o x)))
 
   abbrev pub told : Fml → ℕ → Bool → Fml
   told back n true = fsep (fact (n ≡ w)) freed

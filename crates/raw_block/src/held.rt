@@ -1,12 +1,14 @@
 //! A weighed share of a block, and what each step on the block's word leaves of it.
 //!
-//! The structs of this module hold nothing but an address. What they own stands in `specs/Shares.antt`, and the functions
-//! here are proved by hand against it. Three of them step the word, once each: `release`, `claim` and `reunite`. The steps are
-//! `SeqCst`, the one order that the toolchain has; on x86 a weaker one would be the same instruction.
+//! The structs of this module hold nothing but an address. What they own stands in `specs/Shares.antt`, and the
+//! functions here are proved by hand against it. Three of them step the word, once each: `release`, `claim` and
+//! `reunite`. The steps are `SeqCst`, the one order that the toolchain has; on x86 a weaker one would be the same
+//! instruction.
 ghost use Rattle.std.specs.Prelude.{◌≡◌, ◌≢◌, ℕ, ◌+◌, ◌<◌, ◌≤◌};
 ghost use Rattle.ref_core.specs.WeightRule.{full_weight};
 ghost use Rattle.raw_block.specs.Views.{LifeNames};
-ghost use Rattle.raw_block.specs.Shares.{share_owns, share_shares, given_back_owns, released_owns, claimed_owns, seen_owns};
+ghost use Rattle.raw_block.specs.Shares.{share_owns, share_shares, given_back_owns, released_owns, claimed_owns};
+ghost use Rattle.raw_block.specs.Shares.{seen_owns};
 
 use crate::block::Block;
 use crate::heap::OnHeap;
@@ -100,8 +102,10 @@ impl<T> Share<T> {
 
     pub(crate) fn split(&mut self, give: u64) -> Share<T>
         requires range { (0 < give) × (give < self.old.weight) }
-        ensures given { (result.weight ≡ give) × (result.life ≡ self.old.life) × (result.mark ≡ self.old.mark) × (result.content ≡ self.old.content) }
-        ensures kept { (self.new.weight + give ≡ self.old.weight) × (self.new.life ≡ self.old.life) × (self.new.mark ≡ self.old.mark) × (self.new.content ≡ self.old.content) }
+        ensures given { (result.weight ≡ give) × (result.life ≡ self.old.life) × (result.mark ≡ self.old.mark)
+            × (result.content ≡ self.old.content) }
+        ensures kept { (self.new.weight + give ≡ self.old.weight) × (self.new.life ≡ self.old.life)
+            × (self.new.mark ≡ self.old.mark) × (self.new.content ≡ self.old.content) }
     {
         let _ = give;
         Share { at: self.at }
@@ -110,7 +114,9 @@ impl<T> Share<T> {
     /// The weights add. That two shares of one life agree on its mark and its content is told of the other.
     pub(crate) fn join(&mut self, other: Share<T>)
         requires life { other.life ≡ self.old.life }
-        ensures joined { (self.new.weight ≡ self.old.weight + other.weight) × (self.new.weight ≤ full_weight) × (self.new.life ≡ self.old.life) × (self.new.mark ≡ self.old.mark) × (self.new.content ≡ self.old.content) }
+        ensures joined { (self.new.weight ≡ self.old.weight + other.weight) × (self.new.weight ≤ full_weight)
+            × (self.new.life ≡ self.old.life) × (self.new.mark ≡ self.old.mark)
+            × (self.new.content ≡ self.old.content) }
         ensures agree { (other.mark ≡ self.old.mark) × (other.content ≡ self.old.content) }
     {
         let Share { at: _ } = other;
@@ -119,7 +125,8 @@ impl<T> Share<T> {
     /// One fetch-sub. The number that it answers decides what is left.
     pub(crate) fn release(self, weight: u64) -> (u64, AfterRelease<T>)
         requires own { weight ≡ self.weight }
-        ensures found { (result.1.found ≡ result.0) × (result.1.weight ≡ self.weight) × (result.1.life ≡ self.life) × (result.1.mark ≡ self.mark) × (result.1.content ≡ self.content) }
+        ensures found { (result.1.found ≡ result.0) × (result.1.weight ≡ self.weight) × (result.1.life ≡ self.life)
+            × (result.1.mark ≡ self.mark) × (result.1.content ≡ self.content) }
     {
         let Share { at } = self;
         let found = unsafe { raw::fetch_sub::<Brand>(&raw const (*at).word, weight, SeqCst) };
@@ -129,7 +136,8 @@ impl<T> Share<T> {
     /// One compare-exchange of the weight for 0. The number that it answers decides what is left.
     pub(crate) fn claim(self, weight: u64) -> (u64, AfterClaim<T>)
         requires own { weight ≡ self.weight }
-        ensures found { (result.1.found ≡ result.0) × (result.1.weight ≡ self.weight) × (result.1.life ≡ self.life) × (result.1.mark ≡ self.mark) × (result.1.content ≡ self.content) }
+        ensures found { (result.1.found ≡ result.0) × (result.1.weight ≡ self.weight) × (result.1.life ≡ self.life)
+            × (result.1.mark ≡ self.mark) × (result.1.content ≡ self.content) }
     {
         let Share { at } = self;
         let found = unsafe { exchange::<Brand>(&raw const (*at).word, weight, 0) };
@@ -138,8 +146,10 @@ impl<T> Share<T> {
 
     /// One compare-exchange, which cannot miss: with what was given back the share has all the weight.
     pub(crate) fn reunite(self, given_back: GivenBack, weight: u64) -> AfterRelease<T>
-        requires whole { (weight ≡ self.weight) × (given_back.life ≡ self.life) × (self.weight + given_back.weight ≡ full_weight) }
-        ensures block { (result.found ≡ self.weight) × (result.weight ≡ self.weight) × (result.life ≡ self.life) × (result.mark ≡ self.mark) × (result.content ≡ self.content) }
+        requires whole { (weight ≡ self.weight) × (given_back.life ≡ self.life)
+            × (self.weight + given_back.weight ≡ full_weight) }
+        ensures block { (result.found ≡ self.weight) × (result.weight ≡ self.weight) × (result.life ≡ self.life)
+            × (result.mark ≡ self.mark) × (result.content ≡ self.content) }
         ensures agree { given_back.mark ≡ self.mark }
     {
         let Share { at } = self;
@@ -162,7 +172,8 @@ impl<T> AfterRelease<T> {
     /// That the weight was given back, where the step found another number.
     pub(crate) fn left(self) -> GivenBack
         requires found { self.found ≢ self.weight }
-        ensures receipt { (result.weight ≡ self.weight) × (result.life ≡ self.life) × (result.mark ≡ self.mark) × (self.weight < self.found) × (self.found ≤ full_weight) }
+        ensures receipt { (result.weight ≡ self.weight) × (result.life ≡ self.life) × (result.mark ≡ self.mark)
+            × (self.weight < self.found) × (self.found ≤ full_weight) }
     {
         let AfterRelease { at: _ } = self;
         GivenBack {}
@@ -182,8 +193,10 @@ impl<T> AfterClaim<T> {
     /// The share again, and what the step saw, where it found another number.
     pub(crate) fn lost(self) -> (Share<T>, WordSeen)
         requires found { self.found ≢ self.weight }
-        ensures share { (result.0.weight ≡ self.weight) × (result.0.life ≡ self.life) × (result.0.mark ≡ self.mark) × (result.0.content ≡ self.content) }
-        ensures seen { (result.1.life ≡ self.life) × (result.1.total ≡ self.found) × (self.weight < self.found) × (self.found ≤ full_weight) }
+        ensures share { (result.0.weight ≡ self.weight) × (result.0.life ≡ self.life) × (result.0.mark ≡ self.mark)
+            × (result.0.content ≡ self.content) }
+        ensures seen { (result.1.life ≡ self.life) × (result.1.total ≡ self.found) × (self.weight < self.found)
+            × (self.found ≤ full_weight) }
     {
         let AfterClaim { at } = self;
         (Share { at }, WordSeen {})
@@ -194,7 +207,8 @@ impl GivenBack {
     /// The weights add, and stay below the full weight. That both are of one mark is told of the other.
     pub(crate) fn add(&mut self, other: GivenBack)
         requires life { other.life ≡ self.old.life }
-        ensures added { (self.new.weight ≡ self.old.weight + other.weight) × (self.new.weight < full_weight) × (self.new.life ≡ self.old.life) × (self.new.mark ≡ self.old.mark) }
+        ensures added { (self.new.weight ≡ self.old.weight + other.weight) × (self.new.weight < full_weight)
+            × (self.new.life ≡ self.old.life) × (self.new.mark ≡ self.old.mark) }
         ensures agree { other.mark ≡ self.old.mark }
     {
         let GivenBack {} = other;

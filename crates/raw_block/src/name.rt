@@ -3,8 +3,8 @@ ghost use Rattle.std.specs.Prelude.{◌≡◌, ◌≢◌, ℕ};
 
 use std::marker::Model;
 
-/// A block's name, which lies in the block through all of its lives. Of each name there is only one that is owned, so no two
-/// live blocks have the same.
+/// A block's name, which lies in the block through all of its lives. Of each name there is only one that is owned, so
+/// no two live blocks have the same.
 #[derive(Drop)]
 pub(crate) struct Name {
     ghost id: { ℕ },

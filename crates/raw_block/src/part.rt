@@ -25,7 +25,12 @@ impl Model for Part {
 
     ghost Value = { PartState };
 
-    ghost view = { λ p. record { life = record { names = p.share.life; block = p.share.content.name.id }; weight = p.weight; bytes = p.share.content.bytes.bytes; mark = p.mark } };
+    ghost view = { λ p. record {
+      life = record { names = p.share.life; block = p.share.content.name.id };
+      weight = p.weight;
+      bytes = p.share.content.bytes.bytes;
+      mark = p.mark;
+    } };
 
     ghost invariant = { λ p. (p.share.weight ≡ p.weight) × (p.share.mark ≡ p.mark) × IsWeight p.weight };
 }
@@ -101,8 +106,8 @@ impl Part {
     }
 
     /// Ends this part, by one fetch-sub of its weight. The number that the step answers decides: `Last` exactly where
-    /// the word held this part's weight, since the block has no other holder then, and else `Left`. A part that weighs all of
-    /// its life is the last.
+    /// the word held this part's weight, since the block has no other holder then, and else `Left`. A part that weighs
+    /// all of its life is the last.
     pub fn release(self) -> Released
         ensures answer { IsReleased self result }
         ensures whole { (self.weight ≡ full_weight) → IsLast result }
@@ -132,8 +137,8 @@ impl Part {
     }
 
     /// Asks for the block back, by one compare-exchange of the part's weight for 0. The number that the step answers
-    /// decides: `Sole` exactly where the word held this part's weight, and else `Shared`, with what it held. A part that
-    /// weighs all of its life is never refused.
+    /// decides: `Sole` exactly where the word held this part's weight, and else `Shared`, with what it held. A part
+    /// that weighs all of its life is never refused.
     pub fn claim(self) -> Claimed
         ensures answer { IsClaimed self result }
         ensures whole { (self.weight ≡ full_weight) → IsSole result }

@@ -21,9 +21,14 @@ impl Model for Receipt {
 
     ghost Value = { ReceiptState };
 
-    ghost view = { λ r. record { life = record { names = r.given_back.life; block = r.name.id }; weight = r.weight; mark = r.mark } };
+    ghost view = { λ r. record {
+      life = record { names = r.given_back.life; block = r.name.id };
+      weight = r.weight;
+      mark = r.mark;
+    } };
 
-    ghost invariant = { λ r. (r.given_back.weight ≡ r.weight) × (r.given_back.mark ≡ r.mark) × (0 < r.weight) × (r.weight < full_weight) };
+    ghost invariant = { λ r. (r.given_back.weight ≡ r.weight) × (r.given_back.mark ≡ r.mark) × (0 < r.weight)
+        × (r.weight < full_weight) };
 }
 
 impl Receipt {

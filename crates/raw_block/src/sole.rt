@@ -26,7 +26,11 @@ impl Model for Sole {
 
     ghost Value = { SoleState };
 
-    ghost view = { λ s. record { block = s.block.value.content.name.id; bytes = s.block.value.content.bytes.bytes; mark = s.mark } };
+    ghost view = { λ s. record {
+      block = s.block.value.content.name.id;
+      bytes = s.block.value.content.bytes.bytes;
+      mark = s.mark;
+    } };
 }
 
 // The bytes `from..to` of what a block holds, for writing.

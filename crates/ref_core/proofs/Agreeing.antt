@@ -15,7 +15,8 @@ use Rattle.ref_core.specs.declared.event.Event.{Event}
 use Rattle.ref_core.specs.declared.event.Event.TheVariants.{Take, Share, Read, Write, GiveBack, Claim, Join}
 use Rattle.ref_core.specs.declared.event.Answer.{Answer}
 use Rattle.ref_core.specs.declared.event.Answer.TheVariants.{Done, Byte, Last, Left, Yes, No, BadGive, Unlawful}
-use Rattle.ref_core.proofs.Holdings.{by_eqb, by_test, same_test, itself, pairs_of, block_if, part, part_if, one_if, block_is, fresh_is, dropped_is, kept_is, added_is, total-dropped, count-without, live_dropped, zero_is}
+use Rattle.ref_core.proofs.Holdings.{by_eqb, by_test, same_test, itself, pairs_of, block_if, part, part_if, one_if, block_is, fresh_is, dropped_is, kept_is, added_is, total-dropped, count-without}
+use Rattle.ref_core.proofs.Holdings.{live_dropped, zero_is}
 use Rattle.ref_core.proofs.Weighing.{lowered, lowered_fresh, step_weighed, first_weighed}
 
 abbrev forget : WeightState → SetState
@@ -57,11 +58,13 @@ module _ (w : WeightState) (i : IsWeighed w) where
         same_test (holder_count b (without h (pairs_of ws))) 0 (word_of w b - x.weight) 0 (λ f. let r = z.1 (omega arith) in omega arith) (λ f. let r = z.0 (omega arith) in omega arith)
 
   open_is : (b : ℕ) → eqb (holder_count b (pairs_of ws)) 0 ≡ eqb (word_of w b) 0
-  open_is b = let z = zero_is (length w.words) b ws i.live in let sum = i.sums b in same_test (holder_count b (pairs_of ws)) 0 (word_of w b) 0 (λ f. let r = z.1 f in omega arith) (λ f. z.0 (omega arith))
+  open_is b = let z = zero_is (length w.words) b ws i.live in let sum = i.sums b in same_test (holder_count b (pairs_of ws)) 0 (word_of w b) 0 (λ f. let r = z.1 f in omega arith)
+      (λ f. z.0 (omega arith))
 
   -- a step that turns on one test
   on_test : (c d : Bool) (p : SetState × Answer) (q : WeightState × Answer) → c ≡ d → (d ≡ true → Same p q) → Same (cond c p (s, Unlawful)) (cond d q (w, Unlawful))
-  on_test c d p q same k = subst (λ y. Same (cond y p (s, Unlawful)) (cond d q (w, Unlawful))) (sym same) (by_test (λ y. Same (cond y p (s, Unlawful)) (cond y q (w, Unlawful))) d k (λ _. stays Unlawful))
+  on_test c d p q same k = subst (λ y. Same (cond y p (s, Unlawful)) (cond d q (w, Unlawful))) (sym same) (by_test (λ y. Same (cond y p (s, Unlawful)) (cond y q (w, Unlawful))) d k
+      (λ _. stays Unlawful))
 
   and_true : (a b : Bool) → (a && b) ≡ true → b ≡ true
   and_true true b e = e
@@ -77,7 +80,14 @@ module _ (w : WeightState) (i : IsWeighed w) where
   gives_if : (x : Holding) (h k g : ℕ) → holding_of h ws ≡ Some x → is_none (holding_of k ws) ≡ true → (c : Bool)
       → IsNotBadGive (Gives x h k g c).1 → Same (record s { pairs = pairs_of ws ++ (k, x.block) ∷ [] }, Done) (Gives x h k g c)
   gives_if x h k g e fresh false good = absurd good
-  gives_if x h k g e fresh true good = ((λ j. record { pairs = sym (added_is k x.block g (lowered w i h x g) (lowered_fresh w i h k g x e fresh) ∙ ap (λ ps. ps ++ (k, x.block) ∷ []) (kept_is h (x.weight - g) ws x e)) j; memory = w.memory }), refl)
+  gives_if x h k g e fresh true good = (
+    (λ j. record {
+      pairs = sym (added_is k x.block g (lowered w i h x g) (lowered_fresh w i h k g x e fresh) ∙ ap (λ ps. ps ++ (k, x.block) ∷ [])
+          (kept_is h (x.weight - g) ws x e)) j;
+      memory = w.memory;
+    }),
+    refl,
+  )
 
   abbrev If_fresh : {S : Type 0} → Bool → S × Answer → S × Answer → S × Answer
   If_fresh c p q = cond c p q
@@ -85,7 +95,8 @@ module _ (w : WeightState) (i : IsWeighed w) where
   shares : (o : Option Holding) (h k g : ℕ) → holding_of h ws ≡ o → IsNotBadGive (weights.shared w o h k g).1 → Same (sets.shared s (block_if o) k) (weights.shared w o h k g)
   shares None h k g e good = stays Unlawful
   shares (Some x) h k g e good = subst (λ y. Same (cond y (record s { pairs = pairs_of ws ++ (k, x.block) ∷ [] }, Done) (s, Unlawful)) (weights.shared w (Some x) h k g)) (sym (fresh_is k ws))
-      (by_test (λ y. IsNotBadGive (cond y (Gives x h k g (can_give w x.weight g)) (w, Unlawful)).1 → Same (cond y (record s { pairs = pairs_of ws ++ (k, x.block) ∷ [] }, Done) (s, Unlawful)) (cond y (Gives x h k g (can_give w x.weight g)) (w, Unlawful)))
+      (by_test (λ y. IsNotBadGive (cond y (Gives x h k g (can_give w x.weight g)) (w, Unlawful)).1 → Same (cond y (record s { pairs = pairs_of ws ++ (k, x.block) ∷ [] }, Done) (s, Unlawful))
+      (cond y (Gives x h k g (can_give w x.weight g)) (w, Unlawful)))
       (weights.is_fresh w k) (λ t d. gives_if x h k g e t (can_give w x.weight g) d) (λ _ d. stays Unlawful) good)
 
   reads : (o : Option Holding) (p : ℕ) → Same (sets.read s (block_if o) p) (weights.read w o p)
@@ -94,7 +105,8 @@ module _ (w : WeightState) (i : IsWeighed w) where
 
   writes : (o : Option Holding) (h p v : ℕ) → holding_of h ws ≡ o → Same (sets.written s (block_if o) p v) (weights.written w o p v)
   writes None h p v e = stays Unlawful
-  writes (Some x) h p v e = on_test (ltb p block_size && eqb (holder_count x.block (pairs_of ws)) 1) (ltb p block_size && eqb x.weight (word_of w x.block)) _ _ (ap (λ y. ltb p block_size && y) (alone h x e)) (λ _. (refl, refl))
+  writes (Some x) h p v e = on_test (ltb p block_size && eqb (holder_count x.block (pairs_of ws)) 1) (ltb p block_size && eqb x.weight (word_of w x.block)) _ _
+      (ap (λ y. ltb p block_size && y) (alone h x e)) (λ _. (refl, refl))
 
   gives_back : (o : Option Holding) (h : ℕ) → holding_of h ws ≡ o → Same (sets.given_back s (block_if o) h) (weights.given_back w o h)
   gives_back None h e = stays Unlawful
@@ -103,7 +115,8 @@ module _ (w : WeightState) (i : IsWeighed w) where
   claims : (o : Option Holding) (h : ℕ) → holding_of h ws ≡ o → Same (sets.claimed s (block_if o)) (weights.claimed w o h)
   claims None h e = stays Unlawful
   claims (Some x) h e = subst (λ y. Same (s, cond y Yes No) (weights.claimed w (Some x) h)) (sym (alone h x e))
-      (by_test (λ y. Same (s, cond y Yes No) (cond y (record w { holdings = with_holding h x.block full_weight ws; words = slice_set w.words x.block full_weight }, Yes) (w, No))) (eqb x.weight (word_of w x.block))
+      (by_test (λ y. Same (s, cond y Yes No) (cond y (record w { holdings = with_holding h x.block full_weight ws; words = slice_set w.words x.block full_weight }, Yes) (w, No)))
+      (eqb x.weight (word_of w x.block))
       (λ _. ((λ j. record { pairs = sym (kept_is h full_weight ws x e) j; memory = w.memory }), refl)) (λ _. stays No))
 
   found_other : (h k : ℕ) (x : Holding) → h ≢ k → holding_of h ws ≡ Some x → holding_of h (dropped k ws) ≡ Some x
@@ -127,7 +140,14 @@ module _ (w : WeightState) (i : IsWeighed w) where
   joins None y h k e f = subst (λ c. Same (Joins k c) (w, Unlawful)) (sym (none_both (not (eqb h k)))) (stays Unlawful)
   joins (Some x) None h k e f = subst (λ c. Same (Joins k c) (w, Unlawful)) (sym (none_both (not (eqb h k)))) (stays Unlawful)
   joins (Some x) (Some y) h k e f = on_test (not (eqb h k) && eqb x.block y.block) (not (eqb h k) && eqb x.block y.block) _ _ refl
-      (λ t. let apart = apart_of h k (and_first (not (eqb h k)) (eqb x.block y.block) t) in ((λ j. record { pairs = sym (kept_is h (x.weight + y.weight) (dropped k ws) x (found_other h k x apart e) ∙ dropped_is k ws) j; memory = w.memory }), refl))
+      (λ t. let apart = apart_of h k (and_first (not (eqb h k)) (eqb x.block y.block) t) in (
+        (λ j. record {
+          pairs = sym (kept_is h (x.weight + y.weight) (dropped k ws) x
+              (found_other h k x apart e) ∙ dropped_is k ws) j;
+          memory = w.memory;
+        }),
+        refl,
+      ))
 
   steps : (event : Event) → IsNotBadGive (weight_step w event).1 → Same (set_step s event) (weight_step w event)
   steps (Take b h) good = takes b h
@@ -137,7 +157,8 @@ module _ (w : WeightState) (i : IsWeighed w) where
   steps (GiveBack h) good = subst (λ o. Same (sets.given_back s o h) (weight_step w (GiveBack h))) (sym (block_is h ws)) (gives_back (holding_of h ws) h refl)
   steps (Claim h) good = subst (λ o. Same (sets.claimed s o) (weight_step w (Claim h))) (sym (block_is h ws)) (claims (holding_of h ws) h refl)
   steps (Join h k) good = subst (λ o. Same (Joins k (not (eqb h k) && same_block o (block_of k (pairs_of ws)))) (weight_step w (Join h k))) (sym (block_is h ws))
-      (subst (λ o. Same (Joins k (not (eqb h k) && same_block (block_if (holding_of h ws)) o)) (weight_step w (Join h k))) (sym (block_is k ws)) (joins (holding_of h ws) (holding_of k ws) h k refl refl))
+      (subst (λ o. Same (Joins k (not (eqb h k) && same_block (block_if (holding_of h ws)) o)) (weight_step w (Join h k))) (sym (block_is k ws))
+      (joins (holding_of h ws) (holding_of k ws) h k refl refl))
 
 -- whole runs
 runs : (w : WeightState) → IsWeighed w → (events : List Event) → NoBadGive (answers_of weight_step w events) → answers_of set_step (forget w) events ≡ answers_of weight_step w events

@@ -71,18 +71,21 @@ fresh_is h ws = ap is_none (block_is h ws) ∙ none_is (holding_of h ws)
 
 pub dropped_is : (h : ℕ) (ws : Holdings) → pairs_of (dropped h ws) ≡ without h (pairs_of ws)
 dropped_is h [] = refl
-dropped_is h (e ∷ ws) = by_eqb (λ y. pairs_of (cond y ws (e ∷ dropped h ws)) ≡ cond y (pairs_of ws) (pair_of e ∷ without h (pairs_of ws))) h e.0 (λ _. refl) (λ _. ap (λ ps. pair_of e ∷ ps) (dropped_is h ws))
+dropped_is h (e ∷ ws) = by_eqb (λ y. pairs_of (cond y ws (e ∷ dropped h ws)) ≡ cond y (pairs_of ws) (pair_of e ∷ without h (pairs_of ws))) h e.0 (λ _. refl)
+    (λ _. ap (λ ps. pair_of e ∷ ps) (dropped_is h ws))
 
 -- a new weight leaves the pairs
 pub kept_is : (h v : ℕ) (ws : Holdings) (x : Holding) → holding_of h ws ≡ Some x → pairs_of (with_holding h x.block v ws) ≡ pairs_of ws
 kept_is h v [] x e = absurd (subst (λ (o : Option Holding). T (is_none o)) e tt)
-kept_is h v (z ∷ ws) x e = by_eqb (λ y. cond y (Some z.1) (holding_of h ws) ≡ Some x → pairs_of (cond y ((z.0, record { block = x.block; weight = v }) ∷ ws) (z ∷ with_holding h x.block v ws)) ≡ pair_of z ∷ pairs_of ws) h z.0
+kept_is h v (z ∷ ws) x e = by_eqb (λ y. cond y (Some z.1) (holding_of h ws) ≡ Some x → pairs_of (cond y ((z.0, record { block = x.block; weight = v }) ∷ ws) (z ∷ with_holding h x.block v ws))
+    ≡ pair_of z ∷ pairs_of ws) h z.0
     (λ _ f. ap (λ (t : Holding). (z.0, t.block) ∷ pairs_of ws) (sym (some_is f))) (λ _ f. ap (λ ps. pair_of z ∷ ps) (kept_is h v ws x f)) e
 
 -- a new holder comes last
 pub added_is : (h b v : ℕ) (ws : Holdings) → is_none (holding_of h ws) ≡ true → pairs_of (with_holding h b v ws) ≡ pairs_of ws ++ (h, b) ∷ []
 added_is h b v [] e = refl
-added_is h b v (z ∷ ws) e = by_eqb (λ y. is_none (cond y (Some z.1) (holding_of h ws)) ≡ true → pairs_of (cond y ((z.0, record { block = b; weight = v }) ∷ ws) (z ∷ with_holding h b v ws)) ≡ pair_of z ∷ (pairs_of ws ++ (h, b) ∷ [])) h z.0
+added_is h b v (z ∷ ws) e = by_eqb (λ y. is_none (cond y (Some z.1) (holding_of h ws)) ≡ true → pairs_of (cond y ((z.0, record { block = b; weight = v }) ∷ ws) (z ∷ with_holding h b v ws)) ≡ pair_of z
+    ∷ (pairs_of ws ++ (h, b) ∷ [])) h z.0
     (λ _ f. absurd (subst (λ y. T (not y)) f tt)) (λ _ f. ap (λ ps. pair_of z ∷ ps) (added_is h b v ws f)) e
 
 -- ---- the sums
@@ -93,7 +96,8 @@ total-dropped b h (z ∷ ws) = by_eqb (λ y. part b z.1.block z.1.weight + total
 
 pub total-with_holding : (b h c v : ℕ) (ws : Holdings) → total_weight b (with_holding h c v ws) ≡ part b c v + total_weight b (dropped h ws)
 total-with_holding b h c v [] = refl
-total-with_holding b h c v (z ∷ ws) = by_eqb (λ y. total_weight b (cond y ((z.0, record { block = c; weight = v }) ∷ ws) (z ∷ with_holding h c v ws)) ≡ part b c v + total_weight b (cond y ws (z ∷ dropped h ws))) h z.0
+total-with_holding b h c v (z ∷ ws) = by_eqb (λ y. total_weight b (cond y ((z.0, record { block = c; weight = v }) ∷ ws) (z ∷ with_holding h c v ws)) ≡ part b c v
+    + total_weight b (cond y ws (z ∷ dropped h ws))) h z.0
     (λ _. refl) (λ _. let r = total-with_holding b h c v ws in omega arith)
 
 pub count-without : (b h : ℕ) (ps : Pairs) → holder_count b ps ≡ one_if b (block_of h ps) + holder_count b (without h ps)
@@ -115,7 +119,8 @@ live_dropped n h (z ∷ ws) p = by_eqb (λ y. AllLive n (cond y ws (z ∷ droppe
 
 pub live_with : (n h c v : ℕ) (ws : Holdings) → c < n → 0 < v → AllLive n ws → AllLive n (with_holding h c v ws)
 live_with n h c v [] lt pos p = (pos, lt, tt)
-live_with n h c v (z ∷ ws) lt pos p = by_eqb (λ y. AllLive n (cond y ((z.0, record { block = c; weight = v }) ∷ ws) (z ∷ with_holding h c v ws))) h z.0 (λ _. (pos, lt, p.2)) (λ _. (p.0, p.1, live_with n h c v ws lt pos p.2))
+live_with n h c v (z ∷ ws) lt pos p = by_eqb (λ y. AllLive n (cond y ((z.0, record { block = c; weight = v }) ∷ ws) (z ∷ with_holding h c v ws))) h z.0 (λ _. (pos, lt, p.2))
+    (λ _. (p.0, p.1, live_with n h c v ws lt pos p.2))
 
 -- where all weights are positive, a sum is 0 exactly where nothing is counted
 abbrev ones : Bool → ℕ

@@ -19,4 +19,5 @@ module _ {S : Type 0} (step : S → Event → S × Answer) where
     run_state lt at is = ap (λ r. r.0) is ∙ (λ j. (step (at j) (get_or xs i d)).0) ∙ sym (after_more s (take i xs) (get_or xs i d)) ∙ sym (ap (after step s) (take_more xs i d lt))
 
     pub run_answers : i < length xs → here ≡ after step s (take i xs) → (next, answer) ≡ step here (get_or xs i d) → answers_of step s (take i xs) ++ answer ∷ [] ≡ answers_of step s (take (i + 1) xs)
-    run_answers lt at is = (λ j. answers_of step s (take i xs) ++ (ap (λ r. r.1) is ∙ (λ j. (step (at j) (get_or xs i d)).1)) j ∷ []) ∙ sym (answers_more s (take i xs) (get_or xs i d)) ∙ sym (ap (answers_of step s) (take_more xs i d lt))
+    run_answers lt at is = (λ j. answers_of step s (take i xs) ++ (ap (λ r. r.1) is ∙ (λ j. (step (at j) (get_or xs i d)).1)) j ∷ []) ∙ sym (answers_more s (take i xs) (get_or xs i d)) ∙ sym
+        (ap (answers_of step s) (take_more xs i d lt))

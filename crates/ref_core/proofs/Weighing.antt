@@ -12,7 +12,8 @@ use Rattle.ref_core.specs.declared.event.Event.TheVariants.{Take, Share, Read, W
 use Rattle.ref_core.specs.declared.event.Answer.{Answer}
 use Rattle.ref_core.specs.declared.event.Answer.TheVariants.{Done, Byte, Yes, No, BadGive, Unlawful}
 use Rattle.ref_core.specs.WeightRule.{full_weight}
-use Rattle.ref_core.specs.WeightMachine.{Holdings, WeightState, IsWeighed, IsHoldingIn, AllLive, holding_of, dropped, with_holding, total_weight, word_of, can_take, can_give, is_fresh, taken, shared, read, written, given_back, claimed, joined, weight_step, first_weights}
+use Rattle.ref_core.specs.WeightMachine.{Holdings, WeightState, IsWeighed, IsHoldingIn, AllLive, holding_of, dropped, with_holding, total_weight, word_of, can_take, can_give, is_fresh, taken, shared}
+use Rattle.ref_core.specs.WeightMachine.{read, written, given_back, claimed, joined, weight_step, first_weights}
 use Rattle.ref_core.specs.declared.weight_machine.Holding.{Holding}
 use Rattle.ref_core.proofs.Holdings.{by_eqb, by_test, itself, part, part_if, total-dropped, total-with_holding, live_found, live_dropped, live_with, found_dropped, none_of, fresh_is, kept_is}
 
@@ -65,7 +66,11 @@ module _ (w : WeightState) (i : IsWeighed w) where
   part_fresh : (c h : ℕ) (us : Holdings) → is_none (holding_of h us) ≡ true → part_if c (holding_of h us) ≡ 0
   part_fresh c h us e = ap (part_if c) (none_of (holding_of h us) e)
 
-  pub taken_weighed : (b h : ℕ) → b < n → word_of w b ≡ 0 → is_none (holding_of h ws) ≡ true → IsWeighed (record w { holdings = with_holding h b full_weight ws; words = slice_set w.words b full_weight })
+  pub taken_weighed : (b h : ℕ) → b < n → word_of w b ≡ 0 → is_none (holding_of h ws) ≡ true → IsWeighed (record w {
+    holdings = with_holding h b full_weight ws;
+    words = slice_set w.words b
+        full_weight;
+  })
   taken_weighed b h lt none fresh =
       new_words b full_weight (with_holding h b full_weight ws) lt (omega arith)
       (let s = i.sums b in let t = total-dropped b h ws in let u = total-with_holding b h b full_weight ws in let p = part_own b full_weight in omega arith)
@@ -82,7 +87,8 @@ module _ (w : WeightState) (i : IsWeighed w) where
       same_words (with_holding k x.block g (lowered h x g))
       (λ c. let a = total-with_holding c k x.block g (lowered h x g) in let b = total-dropped c k (lowered h x g) in let z = part_fresh c k (lowered h x g) fresh in
       let d = total-with_holding c h x.block (x.weight - g) ws in let f = total-dropped c h ws in let p = part_found c h x e in
-      let sum : part c x.block g + part c x.block (x.weight - g) ≡ part c x.block x.weight = by_test (λ y. cond y g 0 + cond y (x.weight - g) 0 ≡ cond y x.weight 0) (eqb c x.block) (λ _. omega arith) (λ _. refl) in omega arith)
+      let sum : part c x.block g + part c x.block (x.weight - g) ≡ part c x.block x.weight = by_test (λ y. cond y g 0 + cond y (x.weight - g) 0 ≡ cond y x.weight 0) (eqb c x.block) (λ _. omega arith)
+      (λ _. refl) in omega arith)
       (live_with n k x.block g (lowered h x g) l₁ lo (live_with n h x.block (x.weight - g) ws l₁ (omega arith) i.live))
 
   pub given_back_weighed : (h : ℕ) (x : Holding) → holding_of h ws ≡ Some x → IsWeighed (record w { holdings = dropped h ws; words = slice_set w.words x.block (word_of w x.block - x.weight) })
@@ -96,8 +102,10 @@ module _ (w : WeightState) (i : IsWeighed w) where
       → IsWeighed (record w { holdings = with_holding h x.block full_weight ws; words = slice_set w.words x.block full_weight })
   claimed_weighed h x e same = let l = live_found n h ws x i.live e in
       new_words x.block full_weight (with_holding h x.block full_weight ws) l.1 (omega arith)
-      (let s = i.sums x.block in let t = total-dropped x.block h ws in let u = total-with_holding x.block h x.block full_weight ws in let p = part_found x.block h x e in let q = part_own x.block x.weight in let r = part_own x.block full_weight in omega arith)
-      (λ c d. let t = total-dropped c h ws in let u = total-with_holding c h x.block full_weight ws in let p = part_found c h x e in let q = part_other c x.block x.weight d in let r = part_other c x.block full_weight d in omega arith)
+      (let s = i.sums x.block in let t = total-dropped x.block h ws in let u = total-with_holding x.block h x.block full_weight ws in let p = part_found x.block h x e in let q = part_own x.block
+      x.weight in let r = part_own x.block full_weight in omega arith)
+      (λ c d. let t = total-dropped c h ws in let u = total-with_holding c h x.block full_weight ws in let p = part_found c h x e in let q = part_other c x.block x.weight d in let r = part_other c
+      x.block full_weight d in omega arith)
       (live_with n h x.block full_weight ws l.1 (omega arith) i.live)
 
   pub joined_weighed : (h k : ℕ) (x y : Holding) → holding_of h ws ≡ Some x → holding_of k ws ≡ Some y → h ≢ k → x.block ≡ y.block
@@ -108,7 +116,8 @@ module _ (w : WeightState) (i : IsWeighed w) where
       (λ c. let a = total-with_holding c h x.block (x.weight + y.weight) us in let b = total-dropped c h us in let p : part_if c (holding_of h us) ≡ part c x.block x.weight = ap (part_if c) e' in
       let d = total-dropped c k ws in let q = part_found c k y f in
       let r : part c y.block y.weight ≡ part c x.block y.weight = ap (λ z. part c z y.weight) (sym same) in
-      let sum : part c x.block (x.weight + y.weight) ≡ part c x.block x.weight + part c x.block y.weight = by_test (λ z. cond z (x.weight + y.weight) 0 ≡ cond z x.weight 0 + cond z y.weight 0) (eqb c x.block) (λ _. refl) (λ _. refl) in omega arith)
+      let sum : part c x.block (x.weight + y.weight) ≡ part c x.block x.weight + part c x.block y.weight = by_test (λ z. cond z (x.weight + y.weight) 0 ≡ cond z x.weight 0 + cond z y.weight 0)
+      (eqb c x.block) (λ _. refl) (λ _. refl) in omega arith)
       (live_with n h x.block (x.weight + y.weight) us l.1 (omega arith) (live_dropped n k ws i.live))
 
   -- the map in which the holder has given some of its weight has the same live holders
@@ -144,7 +153,8 @@ module _ (w : WeightState) (i : IsWeighed w) where
 
   writes_weighed : (p v : ℕ) (o : Option Holding) → IsWeighed (written w o p v).0
   writes_weighed p v None = i
-  writes_weighed p v (Some x) = by_out (ltb p block_size && eqb x.weight (word_of w x.block)) (record w { memory = with_byte w.memory x.block p v }, Done) (w, Unlawful) (λ _. written_weighed x.block p v) (λ _. i)
+  writes_weighed p v (Some x) = by_out (ltb p block_size && eqb x.weight (word_of w x.block)) (record w { memory = with_byte w.memory x.block p v }, Done) (w, Unlawful)
+      (λ _. written_weighed x.block p v) (λ _. i)
 
   gives_back_weighed : (h : ℕ) (o : Option Holding) → holding_of h ws ≡ o → IsWeighed (given_back w o h).0
   gives_back_weighed h None e = i

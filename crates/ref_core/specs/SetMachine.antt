@@ -1,6 +1,7 @@
 -- The set machine: a set of pairs says who holds which block. An event that is not lawful is answered
 -- `Unlawful` and changes nothing. The bytes of a block stay from holder to holder.
-use Rattle.std.specs.Prelude.{ℕ, ◌+◌, ◌<◌, Bool, false, ◌&&◌, not, nat_eq, nat_lt, ◌==◌, if◌then◌else◌, List, [], ◌∷◌, ◌++◌, length, Option, Some, None, is_none}
+use Rattle.std.specs.Prelude.{ℕ, ◌+◌, ◌<◌, Bool, false, ◌&&◌, not, nat_eq, nat_lt, ◌==◌, if◌then◌else◌, List, [], ◌∷◌}
+use Rattle.std.specs.Prelude.{◌++◌, length, Option, Some, None, is_none}
 use Rattle.std.specs.Map.{lookup, remove_entry}
 use Rattle.ref_core.specs.Memory.{Memory, block_size, zeroed, byte_at, with_byte}
 use Rattle.ref_core.specs.declared.event.Event.{Event}
@@ -54,12 +55,14 @@ module _ (s : SetState) where
   can_take block holder = nat_lt block (length s.memory) && (holder_count block s.pairs == 0) && is_fresh holder
 
   abbrev pub taken : ℕ → ℕ → SetState × Answer
-  taken block holder = if can_take block holder then (record s { pairs = s.pairs ++ (holder, block) ∷ [] }, Done) else refused
+  taken block holder = if can_take block holder then (record s { pairs = s.pairs ++ (holder, block) ∷ [] }, Done)
+      else refused
 
   -- the next five are told the block that the holder holds
   abbrev pub shared : Option ℕ → ℕ → SetState × Answer
   shared None fresh = refused
-  shared (Some block) fresh = if is_fresh fresh then (record s { pairs = s.pairs ++ (fresh, block) ∷ [] }, Done) else refused
+  shared (Some block) fresh = if is_fresh fresh then (record s { pairs = s.pairs ++ (fresh, block) ∷ [] }, Done)
+      else refused
 
   abbrev pub read : Option ℕ → ℕ → SetState × Answer
   read None place = refused
@@ -74,7 +77,11 @@ module _ (s : SetState) where
   -- `Last` exactly where no holder of the block is left
   abbrev pub given_back : Option ℕ → ℕ → SetState × Answer
   given_back None holder = refused
-  given_back (Some block) holder = (record s { pairs = without holder s.pairs }, if holder_count block (without holder s.pairs) == 0 then Last else Left)
+  given_back (Some block) holder = (
+    record s { pairs = without holder s.pairs },
+    if holder_count block
+        (without holder s.pairs) == 0 then Last else Left,
+  )
 
   -- `Yes` exactly where the holder is the block's only one
   abbrev pub claimed : Option ℕ → SetState × Answer

@@ -1,6 +1,7 @@
 -- The weight machine: each holder has its block and a weight, and each block has a word. Nothing lists a
 -- block's holders: the word is what they weigh together.
-use Rattle.std.specs.Prelude.{◌≡◌, ℕ, ◌+◌, ◌-◌, ◌<◌, ◌≤◌, Bool, ◌&&◌, not, nat_eq, nat_lt, ◌==◌, if◌then◌else◌, List, [], ◌∷◌, length, replicate, slice_index, slice_set, Option, Some, None, is_none}
+use Rattle.std.specs.Prelude.{◌≡◌, ℕ, ◌+◌, ◌-◌, ◌<◌, ◌≤◌, Bool, ◌&&◌, not, nat_eq, nat_lt, ◌==◌, if◌then◌else◌, List}
+use Rattle.std.specs.Prelude.{[], ◌∷◌, length, replicate, slice_index, slice_set, Option, Some, None, is_none}
 use Rattle.std.specs.Map.{lookup, remove_entry}
 use Rattle.indexmap.specs.IndexMap.{insert_entry}
 use Rattle.ref_core.specs.Memory.{Memory, block_size, zeroed, byte_at, with_byte}
@@ -23,12 +24,14 @@ dropped holder holdings = remove_entry (nat_eq holder) holdings
 
 -- with this block and weight for the holder
 abbrev pub with_holding : ℕ → ℕ → ℕ → Holdings → Holdings
-with_holding holder block weight holdings = insert_entry nat_eq holdings holder (record { block = block; weight = weight })
+with_holding holder block weight holdings = insert_entry nat_eq holdings holder
+    (record { block = block; weight = weight })
 
 -- what the block's holders weigh together
 abbrev pub total_weight : ℕ → Holdings → ℕ
 total_weight block [] = 0
-total_weight block (entry ∷ holdings) = (if block == entry.1.block then entry.1.weight else 0) + total_weight block holdings
+total_weight block (entry ∷ holdings) = (if block == entry.1.block then entry.1.weight else 0)
+    + total_weight block holdings
 
 pub record WeightState : Type 0 where
   pub holdings : Holdings
@@ -69,7 +72,14 @@ module _ (w : WeightState) where
 
   abbrev pub taken : ℕ → ℕ → WeightState × Answer
   taken block holder = if can_take block holder
-      then (record w { holdings = with_holding holder block full_weight w.holdings; words = slice_set w.words block full_weight }, Done) else refused
+      then (
+        record w {
+          holdings = with_holding holder block full_weight w.holdings;
+          words = slice_set w.words block
+              full_weight;
+        },
+        Done,
+      ) else refused
 
   abbrev pub can_give : ℕ → ℕ → Bool
   can_give weight give = nat_lt 0 give && nat_lt give weight
@@ -79,7 +89,13 @@ module _ (w : WeightState) where
   shared None holder fresh give = refused
   shared (Some h) holder fresh give = if is_fresh fresh
       then (if can_give h.weight give
-      then (record w { holdings = with_holding fresh h.block give (with_holding holder h.block (h.weight - give) w.holdings) }, Done) else (w, BadGive)) else refused
+      then (
+        record w {
+          holdings = with_holding fresh h.block give
+              (with_holding holder h.block (h.weight - give) w.holdings);
+        },
+        Done,
+      ) else (w, BadGive)) else refused
 
   abbrev pub read : Option Holding → ℕ → WeightState × Answer
   read None place = refused
@@ -100,13 +116,21 @@ module _ (w : WeightState) where
   abbrev pub claimed : Option Holding → ℕ → WeightState × Answer
   claimed None holder = refused
   claimed (Some h) holder = if h.weight == word_of h.block
-      then (record w { holdings = with_holding holder h.block full_weight w.holdings; words = slice_set w.words h.block full_weight }, Yes) else (w, No)
+      then (
+        record w {
+          holdings = with_holding holder h.block full_weight w.holdings;
+          words = slice_set w.words h.block
+              full_weight;
+        },
+        Yes,
+      ) else (w, No)
 
   abbrev pub joined : Option Holding → Option Holding → ℕ → ℕ → WeightState × Answer
   joined None o holder other = refused
   joined (Some h) None holder other = refused
   joined (Some h) (Some o) holder other = if not (holder == other) && (h.block == o.block)
-      then (record w { holdings = with_holding holder h.block (h.weight + o.weight) (dropped other w.holdings) }, Done) else refused
+      then (record w { holdings = with_holding holder h.block (h.weight + o.weight) (dropped other w.holdings) }, Done)
+      else refused
 
 -- one step: the state after an event, and the answer
 abbrev pub weight_step : WeightState → Event → WeightState × Answer

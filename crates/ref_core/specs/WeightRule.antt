@@ -19,5 +19,6 @@ IsWeight weight = (0 < weight) × (weight ≤ full_weight)
 -- back.
 pub record WeightRule : Type 0 where
   pub begins : IsBalanced full_weight 0
-  pub keeps : (word given_back weight : ℕ) → IsBalanced word given_back → 0 < weight → weight < word → IsBalanced (word - weight) (given_back + weight)
+  pub keeps : (word given_back weight : ℕ) → IsBalanced word given_back → 0 < weight → weight < word
+      → IsBalanced (word - weight) (given_back + weight)
   pub bounds : (word given_back : ℕ) → IsBalanced word given_back → IsWeight word × (given_back < full_weight)

@@ -1,13 +1,14 @@
 //! Who holds which block, twice over: as a set of pairs, and as weights.
 //!
-//! A block of 2048 bytes has holders, which come and go by events: take, share, read, write, give back, claim, join. The
-//! set machine keeps the pairs of holder and block, and so knows who is the only holder, and who is the last. The weight
-//! machine knows no more than each holder's weight and a word for each block, which is what a count word in memory
-//! can be. `specs/SetMachine.antt` and `specs/WeightMachine.antt` say what one step of each answers, and `step` and
-//! `run_events` of both machines are proved to answer just that.
+//! A block of 2048 bytes has holders, which come and go by events: take, share, read, write, give back, claim, join.
+//! The set machine keeps the pairs of holder and block, and so knows who is the only holder, and who is the last. The
+//! weight machine knows no more than each holder's weight and a word for each block, which is what a count word in
+//! memory can be. `specs/SetMachine.antt` and `specs/WeightMachine.antt` say what one step of each answers, and `step`
+//! and `run_events` of both machines are proved to answer just that.
 //!
-//! `machines_agree` is the law: over every list of events, and so over every interleaving of holders, the weights answer
-//! as the pairs do. `weights_balance` is the rule by which a word and what was given back add up to the full weight.
+//! `machines_agree` is the law: over every list of events, and so over every interleaving of holders, the weights
+//! answer as the pairs do. `weights_balance` is the rule by which a word and what was given back add up to the full
+//! weight.
 //!
 //! ```
 //! let mut machine = WeightMachine::make(alloc, 1)?;

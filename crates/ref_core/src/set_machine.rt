@@ -1,6 +1,7 @@
 //! The machine that keeps who holds which block as a list of pairs.
 ghost use Rattle.std.specs.Prelude.{◌≡◌, ℕ, ◌+◌, ◌<◌, ◌≤◌, ◌++◌, List, length, take, IfOk, OnOk, OnErr};
-ghost use Rattle.ref_core.specs.SetMachine.{block_of, holder_count, without, first_sets, set_step, taken, shared, read, written, given_back, claimed, joined};
+ghost use Rattle.ref_core.specs.SetMachine.{block_of, holder_count, without, first_sets, set_step, taken, shared, read};
+ghost use Rattle.ref_core.specs.SetMachine.{written, given_back, claimed, joined};
 ghost use Rattle.ref_core.specs.Agreement.{answers_of, after};
 
 use crate::BLOCK_SIZE;
@@ -118,7 +119,8 @@ impl SetMachine {
     }
 
     fn share(&mut self, holder: u32, fresh: u32) -> Result<Answer, AllocError>
-        ensures ok { IfOk result (λ answer. (self.new, answer) ≡ shared self.old (block_of holder self.old.pairs) fresh) }
+        ensures ok { IfOk result (λ answer. (self.new, answer)
+            ≡ shared self.old (block_of holder self.old.pairs) fresh) }
         ensures err { OnErr result (self.new ≡ self.old) }
     {
         if let Some(block) = block_of(&self.pairs, holder) {
@@ -202,8 +204,11 @@ impl SetMachine {
         answers: &mut Vec<Answer>,
     ) -> Result<(), AllocError>
         ensures machine { OnOk result (self.new ≡ after set_step self.old events.now) }
-        ensures answers { OnOk result (answers.new.items ≡ answers.old.items ++ answers_of set_step self.old events.now) }
-        ensures err { OnErr result ((n : ℕ) × (n < length events.now) × (self.new ≡ after set_step self.old (take n events.now)) × (answers.new.items ≡ answers.old.items ++ answers_of set_step self.old (take n events.now))) }
+        ensures answers { OnOk result (answers.new.items ≡ answers.old.items
+            ++ answers_of set_step self.old events.now) }
+        ensures err { OnErr result ((n : ℕ) × (n < length events.now)
+            × (self.new ≡ after set_step self.old (take n events.now))
+            × (answers.new.items ≡ answers.old.items ++ answers_of set_step self.old (take n events.now))) }
     {
         for event in events {
             answers.reserve(1)?;

@@ -1,7 +1,10 @@
 //! The machine that keeps weights: a count word for each block, and no list of a block's holders.
-ghost use Rattle.std.specs.Prelude.{◌≡◌, ℕ, ◌+◌, ◌<◌, ◌≤◌, ◌++◌, List, length, take, replicate, IfOk, IfSome, IsSome, OnOk, OnErr};
+ghost use Rattle.std.specs.Prelude.{◌≡◌, ℕ, ◌+◌, ◌<◌, ◌≤◌, ◌++◌, List, length, take, replicate, IfOk, IfSome, IsSome};
+ghost use Rattle.std.specs.Prelude.{OnOk, OnErr};
 ghost use Rattle.indexmap.specs.IndexMap.{spare};
-ghost use Rattle.ref_core.specs.WeightMachine.{IsWeighed, IsHoldingIn, word_of, holding_of, with_holding, first_weights, weight_step, taken, shared, read, written, given_back, claimed, joined};
+ghost use Rattle.ref_core.specs.WeightMachine.{IsWeighed, IsHoldingIn, word_of, holding_of, with_holding};
+ghost use Rattle.ref_core.specs.WeightMachine.{first_weights, weight_step, taken, shared, read, written, given_back};
+ghost use Rattle.ref_core.specs.WeightMachine.{claimed, joined};
 ghost use Rattle.ref_core.specs.Agreement.{answers_of, after};
 
 use crate::event::{Answer, Event};
@@ -33,7 +36,11 @@ impl Model for WeightMachine {
 
     ghost view = { λ m. record { holdings = m.holdings.entries; words = m.words.items; memory = m.memory } };
 
-    ghost invariant = { λ m. IsWeighed (record { holdings = m.holdings.entries; words = m.words.items; memory = m.memory }) };
+    ghost invariant = { λ m. IsWeighed (record {
+      holdings = m.holdings.entries;
+      words = m.words.items;
+      memory = m.memory;
+    }) };
 }
 
 fn zero_words(alloc: Global, blocks: usize) -> Result<Vec<u64>, AllocError>
@@ -138,7 +145,8 @@ impl WeightMachine {
     }
 
     fn share(&mut self, holder: u32, fresh: u32, give: u64) -> Result<Answer, AllocError>
-        ensures ok { IfOk result (λ answer. (self.new, answer) ≡ shared self.old (holding_of holder self.old.holdings) holder fresh give) }
+        ensures ok { IfOk result (λ answer. (self.new, answer)
+            ≡ shared self.old (holding_of holder self.old.holdings) holder fresh give) }
         ensures err { OnErr result (self.new ≡ self.old) }
     {
         let Some(held) = self.holding_of(holder) else {
@@ -232,7 +240,8 @@ impl WeightMachine {
     }
 
     fn join(&mut self, holder: u32, other: u32) -> Answer
-        ensures step { (self.new, result) ≡ joined self.old (holding_of holder self.old.holdings) (holding_of other self.old.holdings) holder other }
+        ensures step { (self.new, result) ≡ joined self.old (holding_of holder self.old.holdings)
+            (holding_of other self.old.holdings) holder other }
     {
         if holder == other {
             return Answer::Unlawful;
@@ -267,8 +276,11 @@ impl WeightMachine {
         answers: &mut Vec<Answer>,
     ) -> Result<(), AllocError>
         ensures machine { OnOk result (self.new ≡ after weight_step self.old events.now) }
-        ensures answers { OnOk result (answers.new.items ≡ answers.old.items ++ answers_of weight_step self.old events.now) }
-        ensures err { OnErr result ((n : ℕ) × (n < length events.now) × (self.new ≡ after weight_step self.old (take n events.now)) × (answers.new.items ≡ answers.old.items ++ answers_of weight_step self.old (take n events.now))) }
+        ensures answers { OnOk result (answers.new.items ≡ answers.old.items
+            ++ answers_of weight_step self.old events.now) }
+        ensures err { OnErr result ((n : ℕ) × (n < length events.now)
+            × (self.new ≡ after weight_step self.old (take n events.now))
+            × (answers.new.items ≡ answers.old.items ++ answers_of weight_step self.old (take n events.now))) }
     {
         for event in events {
             answers.reserve(1)?;

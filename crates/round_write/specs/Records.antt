@@ -19,7 +19,8 @@ headed (Some head) p = with_head head p
 -- the headers before a frame of this length and original length
 abbrev pub heads_of : Order → ℕ → ℕ → ℕ → ℕ → Option OffHead2 → List ℕ
 heads_of order sec frac len original None = rec_bytes order sec frac len original
-heads_of order sec frac len original (Some head) = rec_bytes order sec frac (len + off_head2_size) (original + off_head2_size) ++ off_bytes2 head
+heads_of order sec frac len original (Some head) = rec_bytes order sec frac (len + off_head2_size)
+    (original + off_head2_size) ++ off_bytes2 head
 
 -- ---- what runs come to
 

@@ -56,8 +56,8 @@ fn write_heads<K: Sink>(
     write_all(sink, &both_heads(&header, &head.bytes()))
 }
 
-/// Writes a frame as a record, behind an offload header where one is given. `original` is the frame's own original length,
-/// in bytes.
+/// Writes a frame as a record, behind an offload header where one is given. `original` is the frame's own original
+/// length, in bytes.
 ///
 /// `WriteFault` only where the sink's count of faults rose; a front of the record was then written.
 pub fn write_record<K: Sink>(

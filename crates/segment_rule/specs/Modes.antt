@@ -1,5 +1,5 @@
--- The modes of a merged record, header by header: their lowest bit is the first IP header's, and each further IP header has the
--- next one.
+-- The modes of a merged record, header by header: their lowest bit is the first IP header's, and each further IP header
+-- has the next one.
 use Rattle.std.specs.Prelude.{ℕ, ◌%◌, Bool, true, not, ◌==◌, ◌&&◌, ◌||◌, List, [], ◌∷◌}
 use Rattle.ip_headers.specs.Ip4.{dont_fragment}
 use Rattle.frame_layout.specs.declared.layout.Header.{Header}
@@ -16,4 +16,5 @@ is_bit_lawful modes f _ at = true
 -- each header's bit is lawful, and there is no bit beyond theirs
 abbrev pub are_bits_lawful : ℕ → List ℕ → List Header → Bool
 are_bits_lawful modes f [] = modes == 0
-are_bits_lawful modes f (h ∷ hs) = is_bit_lawful modes f h.layer h.at && are_bits_lawful (modes_behind h.layer modes) f hs
+are_bits_lawful modes f (h ∷ hs) = is_bit_lawful modes f h.layer h.at
+    && are_bits_lawful (modes_behind h.layer modes) f hs

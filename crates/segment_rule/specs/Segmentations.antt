@@ -1,5 +1,6 @@
 -- How the frame of a merged record is cut into segments, and which records are.
-use Rattle.std.specs.Prelude.{◌≡◌, ℕ, ◌+◌, ◌-◌, ◌*◌, ◌==◌, ◌&&◌, nat_lt, nat_le, if◌then◌else◌, Bool, Option, Some, None, List, length, map, take, drop}
+use Rattle.std.specs.Prelude.{◌≡◌, ℕ, ◌+◌, ◌-◌, ◌*◌, ◌==◌, ◌&&◌, nat_lt, nat_le, if◌then◌else◌, Bool, Option, Some}
+use Rattle.std.specs.Prelude.{None, List, length, map, take, drop}
 use Rattle.std.specs.List.{range_with_len}
 use Rattle.pcap_io.specs.Capture.{Packet}
 use Rattle.pcap_io.specs.declared.off_head.OffHead2.{OffHead2}
@@ -24,8 +25,8 @@ merged_by cut f = record {
   modes = cut.modes;
 }
 
--- the frame may be cut so: it is a candidate of this layout, n segments of m bytes hold its payload and fewer don't, and the
--- modes have no bit but of IPv4 headers with "don't fragment"
+-- the frame may be cut so: it is a candidate of this layout, n segments of m bytes hold its payload and fewer don't,
+-- and the modes have no bit but of IPv4 headers with "don't fragment"
 abbrev pub IsSegmentationOf : Segmentation → List ℕ → Type 0
 IsSegmentationOf cut f = IsCuttable cut.layout (merged_by cut f)
 
@@ -39,8 +40,8 @@ payload_at cut f i = take cut.m (drop (i * cut.m) (drop cut.layout.payload_at f)
 abbrev pub IsSegmentAt : Segmentation → List ℕ → ℕ → List ℕ → Type 0
 IsSegmentAt cut f i s = IsSegment cut.layout (is_fixed cut.modes cut.layout.headers) cut.n cut.m f i s
 
--- segment i from the frame's headers and its own payload: identifications, sequence number and control bits by its place, and then
--- lengths and sums
+-- segment i from the frame's headers and its own payload: identifications, sequence number and control bits by its
+-- place, and then lengths and sums
 abbrev pub segment_from : Segmentation → ℕ → List ℕ → List ℕ
 segment_from cut i f =
     let headers = cut.layout.headers in

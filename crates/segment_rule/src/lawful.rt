@@ -17,8 +17,8 @@ use pcap_io::{AnyHead, FRAME_LIMIT, OffHead2};
 #[derive(Clone, Copy, Debug, PartialEq, Eq)]
 pub struct BadOffload;
 
-/// Whether a record may begin with the header, which has this original length, and behind its header a frame of `len` bytes: its version
-/// is 1 or 2, and the frame is no longer than one of a capture.
+/// Whether a record may begin with the header, which has this original length, and behind its header a frame of `len`
+/// bytes: its version is 1 or 2, and the frame is no longer than one of a capture.
 pub fn is_opened(head: &AnyHead, len: u32, original: u32) -> bool
     ensures opened { result ≡ is_opened_by head.now (head_size head.now + len) original }
 {
@@ -65,8 +65,8 @@ fn is_filled(n: u32, m: u32, payload: u32) -> bool
 
 /// How a candidate is segmented as its offload header says, whose first bytes are `front`, at least all headers.
 ///
-/// None where the header's numbers don't suit it: fewer than n segments of m bytes hold its payload or more are wanted, n is below 2,
-/// or the modes have a bit for another header than IPv4's with "don't fragment".
+/// None where the header's numbers don't suit it: fewer than n segments of m bytes hold its payload or more are wanted,
+/// n is below 2, or the modes have a bit for another header than IPv4's with "don't fragment".
 pub fn segmentation_of(head: &OffHead2, front: &[u8], seg: Seg) -> Option<Segmentation>
     requires merged { is_merged_head head.now ≡ true }
     requires there { AtHeaders (λ layer at. at + size layer ≤ length front.now) seg.layout.headers }

@@ -1,9 +1,9 @@
 //! How the frame of a merged record is segmented: the test of the record, and the header bytes of each segment.
 //!
-//! A record of an offload capture (link type 147) is lawful where [`is_single`] or [`is_window`] holds of its header, or where
-//! [`is_merged`] holds, its frame is a candidate for merging, and [`segmentation_of`] finds that the header's numbers suit that. The
-//! [`Segmentation`] then makes the frame's header bytes those of each segment, from the sum of the segment's payload. No payload byte
-//! is read here, so it is all the same where it lies.
+//! A record of an offload capture (link type 147) is lawful where [`is_single`] or [`is_window`] holds of its header,
+//! or where [`is_merged`] holds, its frame is a candidate for merging, and [`segmentation_of`] finds that the header's
+//! numbers suit that. The [`Segmentation`] then makes the frame's header bytes those of each segment, from the sum of
+//! the segment's payload. No payload byte is read here, so it is all the same where it lies.
 //!
 //! Proved: there is a segmentation exactly where the record is lawful, and it is the definition's (clause `judged` of
 //! [`segmentation_of`]); header bytes and payload are the segment (`segment` of [`Segmentation::put_headers`]).

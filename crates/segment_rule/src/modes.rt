@@ -1,5 +1,5 @@
-//! The modes of a merged record: a bit for each IP header, set where the identification stays. The headers tell them, so
-//! `head` are the first bytes of a frame, at least as far as its payload.
+//! The modes of a merged record: a bit for each IP header, set where the identification stays. The headers tell them,
+//! so `head` are the first bytes of a frame, at least as far as its payload.
 
 ghost use Rattle.std.specs.Prelude.{◌≡◌, ℕ, ◌+◌, ◌≤◌, ◌++◌, List, length};
 ghost use Rattle.frame_layout.specs.Headers.{AtHeaders, size};

@@ -1,5 +1,6 @@
 -- What `copy` answers.
-use Rattle.std.specs.Prelude.{ℕ, ◌≡◌, ◌+◌, ◌-◌, ◌/◌, ◌<◌, ◌≤◌, List, [], ◌∷◌, ◌++◌, true, length, min, take, slice_range, Ok, Err}
+use Rattle.std.specs.Prelude.{ℕ, ◌≡◌, ◌+◌, ◌-◌, ◌/◌, ◌<◌, ◌≤◌, List, [], ◌∷◌, ◌++◌, true, length, min, take}
+use Rattle.std.specs.Prelude.{slice_range, Ok, Err}
 use Rattle.std.specs.declared.result.Result.{Result}
 use Rattle.ref_core.specs.WeightRule.{full_weight}
 use Rattle.raw_block.specs.Views.{SoleState, PartState}
@@ -17,7 +18,8 @@ blocks_for n = (n + 2047) / 2048
 abbrev pub copy_need : SkbState → ℕ
 copy_need a = blocks_for (buffer_size a + 64)
 
--- of the buffer, and the spares before and after: the copy's head is a Sole, and each of its other blocks has all its weight in one part
+-- of the buffer, and the spares before and after: the copy's head is a Sole, and each of its other blocks has all its
+-- weight in one part
 abbrev pub IsCopy : SkbState → List SoleState → List SoleState → Result SkbState CopyFault → Type 0
 IsCopy a s t (Ok c) = (copy_need a ≤ length s) × (t ≡ take (length s - copy_need a) s)
     × (buffer_bytes c ≡ buffer_bytes a) × (c.from ≡ 64) × (c.to ≡ 64 + min (buffer_size a) 1984)

@@ -20,7 +20,8 @@ MovesRest c a o b q = (b ≡ a ++ c.rest) × Grows 1 o q × Keeps (both (of_hold
 
 -- the head follows as a piece, and its pieces after it
 abbrev pub MovesHead : SkbState → List Piece → OutcomesState → List Piece → OutcomesState → Type 0
-MovesHead c a o b q = (q ≡ o) × ((p : PartState) × (AsPart c.head p × (b ≡ a ++ (record { part = p; from = c.from; to = c.to }) ∷ c.rest)))
+MovesHead c a o b q = (q ≡ o) × ((p : PartState) × (AsPart c.head p
+    × (b ≡ a ++ (record { part = p; from = c.from; to = c.to }) ∷ c.rest)))
 
 -- of the buffer, and the pieces and the outcomes before and after
 abbrev pub Moves : SkbState → List Piece → OutcomesState → List Piece → OutcomesState → Type 0
@@ -30,8 +31,8 @@ Moves c a o b q = (c.from ≡ c.to → MovesRest c a o b q) × (c.from ≢ c.to 
 abbrev pub given_back : OutcomesState → ℕ
 given_back o = length o.soles + length o.receipts
 
--- of the buffer, and what it joins before and after: nothing is lost, block by block and life by life, and no life begins but one with
--- the buffer's own head, where that was a Sole
+-- of the buffer, and what it joins before and after: nothing is lost, block by block and life by life, and no life
+-- begins but one with the buffer's own head, where that was a Sole
 abbrev pub JoinsAccount : SkbState → Account → OutcomesState → Account → OutcomesState → Type 0
 JoinsAccount c a o b q = (h : Holder) × (HandedOn c.head h × Keeps (both a (both (of_buffer (record c { head = h }))
     (of_outcomes o))) (both b (of_outcomes q)))

@@ -41,9 +41,11 @@ IsPullFault n a (Short h k) = (buffer_size a < n) × (h ≡ buffer_size a) × (k
 IsPullFault n a TooBig = (n ≤ buffer_size a) × (1984 < n)
 
 -- of the buffer and the outcomes before and after
-abbrev pub IsPullUp : ℕ → SkbState → SoleState → OutcomesState → SkbState → OutcomesState → Result Returned (PullFault × SoleState) → Type 0
+abbrev pub IsPullUp : ℕ → SkbState → SoleState → OutcomesState → SkbState → OutcomesState
+    → Result Returned (PullFault × SoleState) → Type 0
 IsPullUp n a s o b q (Ok (Unused u)) = (n ≤ 1984) × (n ≤ head_size a) × (u ≡ s) × (b ≡ a) × (q ≡ o)
-IsPullUp n a s o b q (Ok (Gave r)) = (n ≤ 1984) × (n ≤ buffer_size a) × (head_size a < n) × (b ≡ pulled_up n a s) × HeadReleased a.head r
+IsPullUp n a s o b q (Ok (Gave r)) = (n ≤ 1984) × (n ≤ buffer_size a) × (head_size a < n) × (b ≡ pulled_up n a s)
+    × HeadReleased a.head r
 IsPullUp n a s o b q (Err e) = IsPullFault n a e.0 × (e.1 ≡ s) × (b ≡ a) × (q ≡ o)
 
 -- what it gives back

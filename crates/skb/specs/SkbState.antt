@@ -114,7 +114,8 @@ IsClone a b (Ok c) = (buffer_worn a ≡ false) × ((p : PartState) × (AsPart a.
     × (c ≡ record a { head = Part (gave p); rest = map given a.rest })))
 IsClone a b (Err (Short h n)) = ⊥
 IsClone a b (Err Worn) = (buffer_worn a ≡ true) × (b ≡ a)
-IsClone a b (Err NoMemory) = (buffer_worn a ≡ false) × ((p : PartState) × (AsPart a.head p × (b ≡ record a { head = Part p })))
+IsClone a b (Err NoMemory) = (buffer_worn a ≡ false) × ((p : PartState)
+    × (AsPart a.head p × (b ≡ record a { head = Part p })))
 
 abbrev pub IsLent : Holder → Holder → Type 0
 IsLent h (Part p) = AsPart h p
@@ -136,7 +137,8 @@ TakesHead a c o b q = (q ≡ o) × ((p : PartState) × (AsPart c.head p
     × (b.rest ≡ a.rest ++ (record { part = p; from = c.from; to = c.to }) ∷ c.rest)))
 
 -- what `attach` answers: the other's bytes follow, or nothing has changed
-abbrev pub Attaches : SkbState → SkbState → OutcomesState → SkbState → OutcomesState → Result Unit (SkbState × AllocError) → Type 0
+abbrev pub Attaches : SkbState → SkbState → OutcomesState → SkbState → OutcomesState
+    → Result Unit (SkbState × AllocError) → Type 0
 Attaches a c o b q (Ok _) = (buffer_bytes b ≡ buffer_bytes a ++ buffer_bytes c) × (b.head ≡ a.head) × (b.from ≡ a.from)
     × (b.to ≡ a.to) × (c.from ≡ c.to → JoinsRest a c o b q) × (c.from ≢ c.to → TakesHead a c o b q)
 Attaches a c o b q (Err e) = (e.0 ≡ c) × (b ≡ a) × (q ≡ o)

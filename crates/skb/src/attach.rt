@@ -16,11 +16,16 @@ impl Skb {
         requires room { 1 ≤ out.old.spare }
         ensures attached { Attaches self.old other out.old self.new out.new result }
         ensures count { IfOk result (λ _. length self.new.rest ≤ length self.old.rest + (length other.rest + 1)) }
-        ensures grows { IfOk result (λ _. Grows (length other.rest + 1 - (length self.new.rest - length self.old.rest)) out.old out.new) }
+        ensures grows { IfOk result (λ _. Grows (length other.rest + 1
+            - (length self.new.rest - length self.old.rest)) out.old out.new) }
         ensures places { out.old.spare ≤ out.new.spare + 1 }
-        ensures account { IfOk result (λ _. JoinsAccount other (of_buffer self.old) out.old (of_buffer self.new) out.new) }
-        ensures kept { is_sole other.head ≡ false → IfOk result (λ _. Keeps (both (of_buffer self.old) (both (of_buffer other) (of_outcomes out.old))) (both (of_buffer self.new) (of_outcomes out.new))) }
-        ensures marks { IfOk result (λ _. KeepsMarks (both (of_buffer self.old) (both (of_buffer other) (of_outcomes out.old))) (both (of_buffer self.new) (of_outcomes out.new))) }
+        ensures account { IfOk result (λ _. JoinsAccount other (of_buffer self.old) out.old
+            (of_buffer self.new) out.new) }
+        ensures kept { is_sole other.head ≡ false → IfOk result
+            (λ _. Keeps (both (of_buffer self.old) (both (of_buffer other) (of_outcomes out.old)))
+            (both (of_buffer self.new) (of_outcomes out.new))) }
+        ensures marks { IfOk result (λ _. KeepsMarks (both (of_buffer self.old)
+            (both (of_buffer other) (of_outcomes out.old))) (both (of_buffer self.new) (of_outcomes out.new))) }
     {
         let Skb {
             head,

@@ -8,8 +8,8 @@ use crate::Skb;
 use inet_sum::Partial;
 
 impl Skb {
-    /// The sum of the bytes from the place `at` on, in the manner of Linux's `skb_checksum`: each is read once, where it
-    /// lies.
+    /// The sum of the bytes from the place `at` on, in the manner of Linux's `skb_checksum`: each is read once, where
+    /// it lies.
     pub fn sum_from(&self, at: usize) -> Partial
         requires inside { at ≤ head_size self.now }
         ensures sum { StandsFor result (drop at (buffer_bytes self.now)) }

@@ -1,5 +1,6 @@
 //! A buffer copied into blocks of its own.
-ghost use Rattle.std.specs.Prelude.{◌≡◌, ◌<◌, ◌≤◌, ◌+◌, ◌-◌, ◌*◌, ◌^◌, ◌++◌, [], ℕ, Bool, length, min, take, drop, IfOk};
+ghost use Rattle.std.specs.Prelude.{◌≡◌, ◌<◌, ◌≤◌, ◌+◌, ◌-◌, ◌*◌, ◌^◌, ◌++◌, [], ℕ, Bool, length, min, take, drop};
+ghost use Rattle.std.specs.Prelude.{IfOk};
 ghost use Rattle.ref_core.specs.WeightRule.{full_weight};
 ghost use Rattle.frags.specs.Account.{every, soles_home};
 ghost use Rattle.frags.specs.PieceList.{bytes_of, size_of, pieces_held, least_weight};
@@ -30,12 +31,15 @@ fn blocks_for(bytes: usize) -> usize
 }
 
 impl Skb {
-    /// A buffer of the same bytes that shares nothing, with headroom 64. Its blocks are the last of `spares`: one for the head
-    /// and the first 1984 bytes, and one for each 2048 that follow. `Empty` exactly where `spares` has fewer than these,
-    /// `ceil((len() + 64) / 2048)`; then memory. A refused call takes none of them.
+    /// A buffer of the same bytes that shares nothing, with headroom 64. Its blocks are the last of `spares`: one for
+    /// the head and the first 1984 bytes, and one for each 2048 that follow. `Empty` exactly where `spares` has fewer
+    /// than these, `ceil((len() + 64) / 2048)`; then memory. A refused call takes none of them.
     pub fn copy(&self, spares: &mut Vec<Sole>) -> Result<Skb, CopyFault>
         ensures copy { IsCopy self.now spares.old.items spares.new.items result }
-        ensures marks { IfOk result (λ c. (bs : ℕ → Bool) (m : ℕ) → (of_buffer c).held (every bs) m + full_weight * ((of_buffer c).homes bs m + soles_home bs m spares.new.items) ≡ full_weight * soles_home bs m spares.old.items) }
+        ensures marks { IfOk result (λ c. (bs : ℕ → Bool) (m : ℕ)
+            → (of_buffer c).held (every bs) m + full_weight
+            * ((of_buffer c).homes bs m + soles_home bs m spares.new.items) ≡ full_weight
+            * soles_home bs m spares.old.items) }
     {
         let len = self.len();
         let need = blocks_for(len + HEADROOM);
@@ -67,8 +71,10 @@ impl Skb {
         ensures size { size_of result ≡ buffer_size self.now - from }
         ensures count { length result ≡ blocks_for (buffer_size self.now - from) }
         ensures whole { least_weight result ≡ full_weight }
-        ensures spares { spares.new.items ≡ take (length spares.old.items - blocks_for (buffer_size self.now - from)) spares.old.items }
-        ensures marks { (bs : ℕ → Bool) (m : ℕ) → pieces_held (every bs) m result + full_weight * soles_home bs m spares.new.items ≡ full_weight * soles_home bs m spares.old.items }
+        ensures spares { spares.new.items ≡ take (length spares.old.items
+            - blocks_for (buffer_size self.now - from)) spares.old.items }
+        ensures marks { (bs : ℕ → Bool) (m : ℕ) → pieces_held (every bs) m result + full_weight
+            * soles_home bs m spares.new.items ≡ full_weight * soles_home bs m spares.old.items }
     {
         let len = self.len();
         let mut copied = none;

@@ -12,17 +12,23 @@ use core::mem::replace_with;
 use frags::{PieceBuilder, Pieces, ShareFault};
 
 impl Skb {
-    /// Keeps the first `at` bytes, and answers the rest, uncopied, as std's `split_off` does. A head is cut at each place below
-    /// its length, 0 too, and a Sole becomes a part for that; of a part that is cut the buffer keeps `max(1, weight / 4096)`.
-    /// `Short` exactly where `at > len()`; then `Worn` exactly where the part that is cut weighs 1; then memory. A refused call
-    /// changes nothing.
+    /// Keeps the first `at` bytes, and answers the rest, uncopied, as std's `split_off` does. A head is cut at each
+    /// place below its length, 0 too, and a Sole becomes a part for that; of a part that is cut the buffer keeps
+    /// `max(1, weight / 4096)`. `Short` exactly where `at > len()`; then `Worn` exactly where the part that is cut
+    /// weighs 1; then memory. A refused call changes nothing.
     pub fn split_at(&mut self, at: usize) -> Result<Pieces, ShareFault>
         ensures split { IsCut at self.old self.new result }
         ensures same { IfErr result (λ _. self.new ≡ self.old) }
-        ensures bytes { IfOk result (λ c. (buffer_bytes self.old ≡ buffer_bytes self.new ++ bytes_of c) × (buffer_size self.new ≡ at)) }
+        ensures bytes { IfOk result (λ c. (buffer_bytes self.old ≡ buffer_bytes self.new ++ bytes_of c)
+            × (buffer_size self.new ≡ at)) }
         ensures count { IfOk result (λ c. length self.new.rest + length c ≤ length self.old.rest + 1) }
-        ensures sums { (at < head_size self.old → is_sole self.old.head ≡ false) → IfOk result (λ c. (t : Tests) (m : ℕ) → (of_buffer self.new).held t m + pieces_held t m c ≡ (of_buffer self.old).held t m) }
-        ensures marks { IfOk result (λ c. (bs : ℕ → Bool) (m : ℕ) → (of_buffer self.new).held (every bs) m + full_weight * (of_buffer self.new).homes bs m + pieces_held (every bs) m c ≡ (of_buffer self.old).held (every bs) m + full_weight * (of_buffer self.old).homes bs m) }
+        ensures sums { (at < head_size self.old → is_sole self.old.head ≡ false)
+            → IfOk result (λ c. (t : Tests) (m : ℕ) → (of_buffer self.new).held t m + pieces_held t m c
+            ≡ (of_buffer self.old).held t m) }
+        ensures marks { IfOk result (λ c. (bs : ℕ → Bool) (m : ℕ)
+            → (of_buffer self.new).held (every bs) m + full_weight * (of_buffer self.new).homes bs m
+            + pieces_held (every bs) m c ≡ (of_buffer self.old).held (every bs) m + full_weight
+            * (of_buffer self.old).homes bs m) }
     {
         let have = self.len();
         if have < at {
@@ -40,8 +46,13 @@ impl Skb {
         requires within { at < head_size self.old }
         ensures split { IsCut at self.old self.new result }
         ensures bytes { IfOk result (λ c. buffer_bytes self.old ≡ buffer_bytes self.new ++ bytes_of c) }
-        ensures sums { is_sole self.old.head ≡ false → IfOk result (λ c. (t : Tests) (m : ℕ) → (of_buffer self.new).held t m + pieces_held t m c ≡ (of_buffer self.old).held t m) }
-        ensures marks { IfOk result (λ c. (bs : ℕ → Bool) (m : ℕ) → (of_buffer self.new).held (every bs) m + full_weight * (of_buffer self.new).homes bs m + pieces_held (every bs) m c ≡ (of_buffer self.old).held (every bs) m + full_weight * (of_buffer self.old).homes bs m) }
+        ensures sums { is_sole self.old.head ≡ false → IfOk result
+            (λ c. (t : Tests) (m : ℕ) → (of_buffer self.new).held t m + pieces_held t m c
+            ≡ (of_buffer self.old).held t m) }
+        ensures marks { IfOk result (λ c. (bs : ℕ → Bool) (m : ℕ)
+            → (of_buffer self.new).held (every bs) m + full_weight * (of_buffer self.new).homes bs m
+            + pieces_held (every bs) m c ≡ (of_buffer self.old).held (every bs) m + full_weight
+            * (of_buffer self.old).homes bs m) }
     {
         if is_worn(&self.head) {
             return Err(ShareFault::Worn);

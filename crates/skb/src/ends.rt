@@ -3,7 +3,8 @@ ghost use Rattle.std.specs.Prelude.{◌≡◌, ◌+◌, ◌-◌, ◌<◌, ◌≤
 ghost use Rattle.frags.specs.Account.{Keeps, both, of_outcomes};
 ghost use Rattle.frags.specs.Growth.{Grows};
 ghost use Rattle.frags.specs.PieceList.{size_of, cut_front, keep_front};
-ghost use Rattle.skb.specs.SkbState.{head_size, buffer_bytes, buffer_size, headroom, tailroom, IsPush, IsPut, of_buffer};
+ghost use Rattle.skb.specs.SkbState.{head_size, buffer_bytes, buffer_size, headroom, tailroom, IsPush, IsPut};
+ghost use Rattle.skb.specs.SkbState.{of_buffer};
 
 use crate::Skb;
 use crate::heads::write_at;
@@ -46,8 +47,8 @@ impl Skb {
         }
     }
 
-    /// The bytes stand at the end. `NoRoom` exactly where there are more of them than `tailroom()`; else `Shared` exactly
-    /// where not `head_is_sole()`.
+    /// The bytes stand at the end. `NoRoom` exactly where there are more of them than `tailroom()`; else `Shared`
+    /// exactly where not `head_is_sole()`.
     pub fn put_tail(&mut self, bytes: &[u8]) -> Result<(), RoomFault>
         requires small { length bytes.now ≤ tailroom self.old → buffer_size self.old + length bytes.now < 2 ^ 32 }
         ensures put { IsPut self.old bytes.now self.new result }
@@ -75,13 +76,17 @@ impl Skb {
     /// exactly where `n > len()`.
     pub fn pull(&mut self, n: usize, out: &mut Outcomes) -> Result<(), Short>
         requires spare { head_size self.old < n → length self.old.rest ≤ out.old.spare }
-        ensures bytes { MatchResult result (λ _. buffer_bytes self.new ≡ drop n (buffer_bytes self.old)) (λ e. (buffer_size self.old < n) × (e.have ≡ buffer_size self.old) × (e.need ≡ n) × (self.new ≡ self.old) × (out.new ≡ out.old)) }
+        ensures bytes { MatchResult result (λ _. buffer_bytes self.new ≡ drop n (buffer_bytes self.old))
+            (λ e. (buffer_size self.old < n) × (e.have ≡ buffer_size self.old) × (e.need ≡ n) × (self.new ≡ self.old)
+            × (out.new ≡ out.old)) }
         ensures head { (self.new.head ≡ self.old.head) × (self.new.to ≡ self.old.to) }
         ensures room { IfOk result (λ _. self.new.from ≡ min (self.old.from + n) self.old.to) }
         ensures rest { IfOk result (λ _. self.new.rest ≡ cut_front (n - head_size self.old) self.old.rest) }
-        ensures within { n ≤ head_size self.old → (self.new ≡ record self.old { from = self.old.from + n }) × (out.new ≡ out.old) }
+        ensures within { n ≤ head_size self.old → (self.new ≡ record self.old { from = self.old.from + n })
+            × (out.new ≡ out.old) }
         ensures bare { self.old.rest ≡ [] → self.new.rest ≡ [] }
-        ensures kept { Keeps (both (of_buffer self.old) (of_outcomes out.old)) (both (of_buffer self.new) (of_outcomes out.new)) }
+        ensures kept { Keeps (both (of_buffer self.old) (of_outcomes out.old))
+            (both (of_buffer self.new) (of_outcomes out.new)) }
         ensures fewer { length self.new.rest ≤ length self.old.rest }
         ensures grows { Grows (length self.old.rest - length self.new.rest) out.old out.new }
         ensures places { out.old.spare + length self.new.rest ≤ out.new.spare + length self.old.rest }
@@ -100,16 +105,20 @@ impl Skb {
         Ok(())
     }
 
-    /// The last `n` bytes are gone; Linux's `skb_trim` is told how many stay. Pieces that are wholly gone are given back, and a
-    /// head left empty stays. `Short` exactly where `n > len()`.
+    /// The last `n` bytes are gone; Linux's `skb_trim` is told how many stay. Pieces that are wholly gone are given
+    /// back, and a head left empty stays. `Short` exactly where `n > len()`.
     pub fn trim(&mut self, n: usize, out: &mut Outcomes) -> Result<(), Short>
         requires spare { length self.old.rest ≤ out.old.spare }
-        ensures bytes { MatchResult result (λ _. buffer_bytes self.new ≡ take (buffer_size self.old - n) (buffer_bytes self.old)) (λ e. (buffer_size self.old < n) × (e.have ≡ buffer_size self.old) × (e.need ≡ n) × (self.new ≡ self.old) × (out.new ≡ out.old)) }
+        ensures bytes { MatchResult result (λ _. buffer_bytes self.new
+            ≡ take (buffer_size self.old - n) (buffer_bytes self.old))
+            (λ e. (buffer_size self.old < n) × (e.have ≡ buffer_size self.old) × (e.need ≡ n) × (self.new ≡ self.old)
+            × (out.new ≡ out.old)) }
         ensures head { (self.new.head ≡ self.old.head) × (self.new.from ≡ self.old.from) }
         ensures room { IfOk result (λ _. self.new.to ≡ self.old.to - (n - size_of self.old.rest)) }
         ensures rest { IfOk result (λ _. self.new.rest ≡ keep_front (size_of self.old.rest - n) self.old.rest) }
         ensures bare { self.old.rest ≡ [] → self.new.rest ≡ [] }
-        ensures kept { Keeps (both (of_buffer self.old) (of_outcomes out.old)) (both (of_buffer self.new) (of_outcomes out.new)) }
+        ensures kept { Keeps (both (of_buffer self.old) (of_outcomes out.old))
+            (both (of_buffer self.new) (of_outcomes out.new)) }
         ensures fewer { length self.new.rest ≤ length self.old.rest }
         ensures grows { Grows (length self.old.rest - length self.new.rest) out.old out.new }
         ensures places { out.old.spare + length self.new.rest ≤ out.new.spare + length self.old.rest }

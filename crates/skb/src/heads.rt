@@ -44,7 +44,8 @@ pub(crate) fn unshared(head: Holder, spare: Sole) -> (Holder, Unshared)
 
 fn copy_block(sole: &mut Sole, bytes: &[u8])
     requires whole { length bytes.now ≡ 2048 }
-    ensures copied { (sole.new.bytes ≡ bytes.now) × (sole.new.mark ≡ sole.old.mark) × (sole.new.block ≡ sole.old.block) }
+    ensures copied { (sole.new.bytes ≡ bytes.now) × (sole.new.mark ≡ sole.old.mark)
+        × (sole.new.block ≡ sole.old.block) }
 {
     let all = sole.bytes_mut();
     all.copy_from_slice(bytes);

@@ -8,32 +8,33 @@
 //! 0         from                         to       2048
 //! ```
 //!
-//! Contracts see the head with its range and the list of pieces (`SkbState`), and of it the bytes (`buffer_bytes`). `push`
-//! and `pull` move `from`, `put_tail` and `trim` move `to`, and a head left empty stays. There is tailroom only where no piece
-//! follows the head.
+//! Contracts see the head with its range and the list of pieces (`SkbState`), and of it the bytes (`buffer_bytes`).
+//! `push` and `pull` move `from`, `put_tail` and `trim` move `to`, and a head left empty stays. There is tailroom only
+//! where no piece follows the head.
 //!
-//! Sharing: a head that is a Sole is the only one that is written, so `push` and `put_tail` of a shared one are refused, and
-//! `head_mut` has none. `clone` makes the head a Part and gives `max(1, weight / 4096)` of each part away; no byte is copied.
-//! `unshare` asks for the head's block back, and copies it into a spare where others hold it. `attach` puts another buffer
-//! behind, uncopied, and `move_into` puts a buffer behind the pieces of a list whose memory was taken before. `split_at` cuts
-//! one in two, uncopied: of the part that is cut the front keeps what `clone` would give. `pull_up` copies the first bytes
-//! into a spare, which becomes the head, and `copy` copies all into spares, which share nothing. `share_head` makes a Sole head
-//! a Part at once, so that no later call does. `sum_from` is the Internet sum of the bytes, where they lie. Blocks come from
-//! the caller; memory is taken for lists of pieces alone.
+//! Sharing: a head that is a Sole is the only one that is written, so `push` and `put_tail` of a shared one are
+//! refused, and `head_mut` has none. `clone` makes the head a Part and gives `max(1, weight / 4096)` of each part away;
+//! no byte is copied. `unshare` asks for the head's block back, and copies it into a spare where others hold it.
+//! `attach` puts another buffer behind, uncopied, and `move_into` puts a buffer behind the pieces of a list whose
+//! memory was taken before. `split_at` cuts one in two, uncopied: of the part that is cut the front keeps what `clone`
+//! would give. `pull_up` copies the first bytes into a spare, which becomes the head, and `copy` copies all into
+//! spares, which share nothing. `share_head` makes a Sole head a Part at once, so that no later call does. `sum_from`
+//! is the Internet sum of the bytes, where they lie. Blocks come from the caller; memory is taken for lists of pieces
+//! alone.
 //!
 //! Proved, by the names of the clauses:
 //!
 //! - `bytes`: each call is that operation on the list of bytes, and so are `copy_out` and `byte_at`.
-//! - `push`, `put`, `clone`, `attached`, `split`, `pull_up`, `copy`: the exact buffer afterwards, and each refusal exactly where
-//!   its definition says (`IsPush`, `IsPut`, `IsClone`, `Attaches`, `IsCut`, `IsPullUp`, `IsCopy`). It leaves the buffer as it
-//!   was, but that a clone refused for memory has made a Sole head a part. `pull` and `trim` say the same by `bytes`, `head`,
-//!   `room` and `rest`, and `unshare` by `head` and `room`.
-//! - `account`, `kept`, `sums`, `marks`: nothing is lost (see `frags`). A call that begins a life, since it shares a Sole,
-//!   says it by marks; where the head is a Part, none begins.
+//! - `push`, `put`, `clone`, `attached`, `split`, `pull_up`, `copy`: the exact buffer afterwards, and each refusal
+//!   exactly where its definition says (`IsPush`, `IsPut`, `IsClone`, `Attaches`, `IsCut`, `IsPullUp`, `IsCopy`). It
+//!   leaves the buffer as it was, but that a clone refused for memory has made a Sole head a part. `pull` and `trim`
+//!   say the same by `bytes`, `head`, `room` and `rest`, and `unshare` by `head` and `room`.
+//! - `account`, `kept`, `sums`, `marks`: nothing is lost (see `frags`). A call that begins a life, since it shares a
+//!   Sole, says it by marks; where the head is a Part, none begins.
 //! - `sum`, `in_bytes`: the sum stands for the bytes from that place on, and each is below 256.
 //! - `grows`, `fewer`, `places`: outcomes grow only at their end, by how many, and what room is left in them.
-//! - `writes_back`: after `head_mut` the head's bytes are what was written, and all else is as it was; at None nothing has
-//!   changed.
+//! - `writes_back`: after `head_mut` the head's bytes are what was written, and all else is as it was; at None nothing
+//!   has changed.
 //!
 //! ```
 //! let mut skb = Skb::new(pool.take()?, 64, 64, Pieces::new(alloc));

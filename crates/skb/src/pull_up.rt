@@ -16,7 +16,8 @@ use thiserror::Error;
 /// The headroom that `pull_up` and `copy` leave in front of a new head.
 pub const HEADROOM: usize = 64;
 
-/// How many first bytes of a frame hold all its headers. A buffer whose headers are read has so many in its head, or all of fewer.
+/// How many first bytes of a frame hold all its headers. A buffer whose headers are read has so many in its head, or
+/// all of fewer.
 pub const FRONT: usize = 200;
 
 /// Why bytes can't be brought into a head.
@@ -39,9 +40,10 @@ pub enum Returned {
 }
 
 impl Skb {
-    /// The first `n` bytes lie in the head, and all bytes are as before. `Unused` exactly where they lay there already, and
-    /// nothing changes; else the spare is the new head, with headroom 64, and the pieces give up the bytes that it took.
-    /// `Short` exactly where `n > len()`, then `TooBig` exactly where `n > 1984`; the spare comes back then. No memory is taken.
+    /// The first `n` bytes lie in the head, and all bytes are as before. `Unused` exactly where they lay there already,
+    /// and nothing changes; else the spare is the new head, with headroom 64, and the pieces give up the bytes that it
+    /// took. `Short` exactly where `n > len()`, then `TooBig` exactly where `n > 1984`; the spare comes back then. No
+    /// memory is taken.
     pub fn pull_up(
         &mut self,
         n: usize,
@@ -52,7 +54,8 @@ impl Skb {
         ensures pull_up { IsPullUp n self.old spare out.old self.new out.new result }
         ensures bytes { buffer_bytes self.new ≡ buffer_bytes self.old }
         ensures head { IfOk result (λ _. n ≤ head_size self.new) }
-        ensures kept { Keeps (both (of_buffer self.old) (both (of_sole spare) (of_outcomes out.old))) (both (of_buffer self.new) (both (of_pulled result) (of_outcomes out.new))) }
+        ensures kept { Keeps (both (of_buffer self.old) (both (of_sole spare) (of_outcomes out.old)))
+            (both (of_buffer self.new) (both (of_pulled result) (of_outcomes out.new))) }
         ensures fewer { length self.new.rest ≤ length self.old.rest }
         ensures grows { Grows (length self.old.rest - length self.new.rest) out.old out.new }
         ensures places { out.old.spare + length self.new.rest ≤ out.new.spare + length self.old.rest }
@@ -82,8 +85,12 @@ impl Skb {
     // Copies `n` bytes from a place on over those of a block.
     pub(crate) fn copy_into(&self, at: usize, block: &mut Sole, to: usize, n: usize)
         requires within { (to + n ≤ 2048) × (at + n ≤ buffer_size self.now) }
-        ensures written { block.new ≡ record block.old { bytes = written block.old.bytes to (slice_range (buffer_bytes self.now) at (at + n)) } }
-        ensures copied { (length (slice_range (buffer_bytes self.now) at (at + n)) ≡ n) × (slice_range block.new.bytes to (to + n) ≡ slice_range (buffer_bytes self.now) at (at + n)) }
+        ensures written { block.new ≡ record block.old {
+          bytes = written block.old.bytes to
+              (slice_range (buffer_bytes self.now) at (at + n));
+        } }
+        ensures copied { (length (slice_range (buffer_bytes self.now) at (at + n)) ≡ n)
+            × (slice_range block.new.bytes to (to + n) ≡ slice_range (buffer_bytes self.now) at (at + n)) }
         ensures size { length block.new.bytes ≡ 2048 }
     {
         let _ = block.bytes();

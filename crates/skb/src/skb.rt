@@ -1,5 +1,6 @@
 //! A packet buffer: what it is, and what is read of it.
-ghost use Rattle.std.specs.Prelude.{◌≡◌, ℕ, ◌+◌, ◌-◌, ◌<◌, ◌≤◌, ◌^◌, ◌*◌, length, MatchOption, slice_index_or, slice_range, false, true};
+ghost use Rattle.std.specs.Prelude.{◌≡◌, ℕ, ◌+◌, ◌-◌, ◌<◌, ◌≤◌, ◌^◌, ◌*◌, length, MatchOption, slice_index_or};
+ghost use Rattle.std.specs.Prelude.{slice_range, false, true};
 ghost use Rattle.std.specs.Borrow.{sem};
 ghost use Rattle.frags.specs.Account.{Keeps, both, of_sole, of_outcomes};
 ghost use Rattle.frags.specs.Growth.{Grows};
@@ -7,7 +8,8 @@ ghost use Rattle.frags.specs.PieceList.{AllFit, size_of, of_pieces, piece_bytes}
 ghost use Rattle.frags.specs.declared.pieces.Piece.{Piece};
 ghost use Rattle.skb.specs.Checksum.{AreBytes};
 ghost use Rattle.skb.specs.Lending.{lends_head, lends_head_if};
-ghost use Rattle.skb.specs.SkbState.{head_size, buffer_least, buffer_bytes, buffer_size, head_bytes, headroom, tailroom, is_sole, of_buffer};
+ghost use Rattle.skb.specs.SkbState.{head_size, buffer_least, buffer_bytes, buffer_size, head_bytes, headroom};
+ghost use Rattle.skb.specs.SkbState.{tailroom, is_sole, of_buffer};
 
 use crate::checksum::in_bytes;
 use crate::lend::range_of;
@@ -36,7 +38,8 @@ impl Model for Skb {
 
     ghost view = { λ s. record { head = s.head; from = s.from; to = s.to; rest = s.rest } };
 
-    ghost invariant = { λ s. (s.from ≤ s.to) × (s.to ≤ 2048) × (length (block s.head) ≡ 2048) × ((s.to - s.from) + size_of s.rest < 2 ^ 32) };
+    ghost invariant = { λ s. (s.from ≤ s.to) × (s.to ≤ 2048) × (length (block s.head) ≡ 2048)
+        × ((s.to - s.from) + size_of s.rest < 2 ^ 32) };
 }
 
 impl Skb {
@@ -119,7 +122,8 @@ impl Skb {
     /// The head's bytes, for writing. None exactly where not `head_is_sole()`, and then nothing has changed.
     pub fn head_mut(&mut self) -> Option<&mut [u8]>
         ensures* writes_back { sem 𝓛 (lends_head_if self.entry result) }
-        ensures value { MatchOption result (is_sole self.old.head ≡ false) (λ r. (is_sole self.old.head ≡ true) × (r.now ≡ head_bytes self.old)) }
+        ensures value { MatchOption result (is_sole self.old.head ≡ false)
+            (λ r. (is_sole self.old.head ≡ true) × (r.now ≡ head_bytes self.old)) }
     {
         if self.has_sole_head() {
             Some(self.head_bytes_mut())
@@ -213,7 +217,8 @@ impl Skb {
         rest.release(out);
     }
 
-    /// Gives the head and all pieces back, and frees the blocks that nobody else holds. It takes no memory, and no outcomes.
+    /// Gives the head and all pieces back, and frees the blocks that nobody else holds. It takes no memory, and no
+    /// outcomes.
     pub fn free(self) {
         let Skb {
             head,

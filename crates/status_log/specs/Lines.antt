@@ -8,11 +8,13 @@ usage_line = codes "usage: offload merge, segment, check or make, with options\n
 
 -- of the kind's name, the fault's place in the file, and the record's number
 unfoldable pub malformed_line : List ℕ → ℕ → ℕ → List ℕ
-malformed_line kind offset number = codes "malformed: " ++ kind ++ codes " at " ++ decimal offset ++ codes " in record " ++ decimal number ++ codes "\n"
+malformed_line kind offset number = codes "malformed: " ++ kind ++ codes " at " ++ decimal offset ++ codes " in record "
+    ++ decimal number ++ codes "\n"
 
 -- of the round's number, its need, and the blocks that there are
 unfoldable pub pool_empty_line : ℕ → ℕ → ℕ → List ℕ
-pool_empty_line round need blocks = codes "pool empty: round " ++ decimal round ++ codes " needs " ++ decimal need ++ codes " of " ++ decimal blocks ++ codes " blocks\n"
+pool_empty_line round need blocks = codes "pool empty: round " ++ decimal round ++ codes " needs " ++ decimal need
+    ++ codes " of " ++ decimal blocks ++ codes " blocks\n"
 
 abbrev pub read_fault_line : List ℕ
 read_fault_line = codes "read fault\n"

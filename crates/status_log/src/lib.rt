@@ -1,9 +1,9 @@
 //! The log: one line for each way in which a run can end, but for a good one.
 //!
-//! A line is put together in place, without memory, and then written whole. The texts stand in `specs/Lines.antt`, each with
-//! its line feed. Proved of each call: where the log tells what it holds, and its count of faults didn't rise, it holds its
-//! old content followed by the line (`line`); whatever happens, a front of the line was appended (`front`), and the count
-//! of faults hasn't fallen (`later`). So a log that fails is ignored.
+//! A line is put together in place, without memory, and then written whole. The texts stand in `specs/Lines.antt`, each
+//! with its line feed. Proved of each call: where the log tells what it holds, and its count of faults didn't rise, it
+//! holds its old content followed by the line (`line`); whatever happens, a front of the line was appended (`front`),
+//! and the count of faults hasn't fallen (`later`). So a log that fails is ignored.
 //!
 //! ```text
 //! log_malformed(&mut log, "ShortRecord", 24, 0);   // malformed: ShortRecord at 24 in record 0
@@ -13,7 +13,8 @@
 ghost use Rattle.std.specs.Prelude.{◌≡◌, ◌++◌, ◌+◌, ◌≤◌, codes, decimal, length};
 ghost use Rattle.arrayvec.specs.ArrayString.{array_string_len};
 ghost use Rattle.off_io.specs.Content.{AppendsFront};
-ghost use Rattle.status_log.specs.Lines.{Logs, malformed_line, no_memory_line, pool_empty_line, read_fault_line, usage_line, write_fault_line};
+ghost use Rattle.status_log.specs.Lines.{Logs, malformed_line, no_memory_line, pool_empty_line, read_fault_line};
+ghost use Rattle.status_log.specs.Lines.{usage_line, write_fault_line};
 
 use arrayvec::ArrayString;
 use itoa::Buffer;
@@ -69,11 +70,12 @@ pub fn log_usage<L: Sink>(log: &mut L)
     );
 }
 
-/// Logs that a capture is malformed: the name of the kind, at most 32 bytes, the fault's place in the file, and the record's
-/// number.
+/// Logs that a capture is malformed: the name of the kind, at most 32 bytes, the fault's place in the file, and the
+/// record's number.
 pub fn log_malformed<L: Sink>(log: &mut L, kind: &str, offset: u64, number: u64)
     requires short { length kind.now ≤ 32 }
-    ensures line { Logs (L.held log.old) (L.held log.new) (L.faults log.old) (L.faults log.new) (malformed_line kind.now offset number) }
+    ensures line { Logs (L.held log.old) (L.held log.new) (L.faults log.old) (L.faults log.new)
+        (malformed_line kind.now offset number) }
     ensures front { AppendsFront (L.held log.old) (L.held log.new) (malformed_line kind.now offset number) }
     ensures later { L.faults log.old ≤ L.faults log.new }
 {
@@ -98,7 +100,8 @@ fn pool_empty_text(round: u64, need: u32, blocks: u32) -> Line
 
 /// Logs that a round needs more blocks than there are: its number, its need, and the blocks.
 pub fn log_pool_empty<L: Sink>(log: &mut L, round: u64, need: u32, blocks: u32)
-    ensures line { Logs (L.held log.old) (L.held log.new) (L.faults log.old) (L.faults log.new) (pool_empty_line round need blocks) }
+    ensures line { Logs (L.held log.old) (L.held log.new) (L.faults log.old) (L.faults log.new)
+        (pool_empty_line round need blocks) }
     ensures front { AppendsFront (L.held log.old) (L.held log.new) (pool_empty_line round need blocks) }
     ensures later { L.faults log.old ≤ L.faults log.new }
 {

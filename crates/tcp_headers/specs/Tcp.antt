@@ -8,7 +8,8 @@ data_offset f at = byte f (at + 12) / 16
 
 -- its first 20 bytes are there, its data offset counts at least these, and all that it counts is there
 abbrev pub is_there : List ℕ → ℕ → Bool
-is_there f at = nat_le (at + 20) (length f) && nat_le 5 (data_offset f at) && nat_le (at + 4 * data_offset f at) (length f)
+is_there f at = nat_le (at + 20) (length f) && nat_le 5 (data_offset f at)
+    && nat_le (at + 4 * data_offset f at) (length f)
 
 abbrev pub source_port : List ℕ → ℕ → ℕ
 source_port f at = be16 f at

@@ -1,9 +1,14 @@
 //! The TCP header (RFC 9293, section 3.1).
 
-ghost use Rattle.std.specs.Prelude.{◌≡◌, ◌↔◌, ℕ, ◌+◌, ◌<◌, ◌≤◌, ◌≢◌, ◌⊎◌, ◌++◌, true, List, length, slice_set, IsSome, IfSome};
+ghost use Rattle.std.specs.Prelude.{◌≡◌, ◌↔◌, ℕ, ◌+◌, ◌<◌, ◌≤◌, ◌≢◌, ◌⊎◌, ◌++◌, true, List, length, slice_set, IsSome};
+ghost use Rattle.std.specs.Prelude.{IfSome};
 ghost use Rattle.net_bytes.specs.Bytes.{byte, put16, put32};
 ghost use Rattle.net_bytes.specs.View.{Placed};
-ghost use Rattle.tcp_headers.specs.Tcp.{is_there, data_offset as data_offset_of, source_port as source_port_of, destination_port as destination_port_of, sequence as sequence_of, acknowledgment as acknowledgment_of, reserved as reserved_of, flags as flags_of, window as window_of, checksum as checksum_of, urgent_pointer};
+ghost use Rattle.tcp_headers.specs.Tcp.{is_there, data_offset as data_offset_of, source_port as source_port_of};
+ghost use Rattle.tcp_headers.specs.Tcp.{destination_port as destination_port_of, sequence as sequence_of};
+ghost use Rattle.tcp_headers.specs.Tcp.{acknowledgment as acknowledgment_of, reserved as reserved_of};
+ghost use Rattle.tcp_headers.specs.Tcp.{flags as flags_of, window as window_of, checksum as checksum_of};
+ghost use Rattle.tcp_headers.specs.Tcp.{urgent_pointer};
 
 use net_bytes::{be16, be32, is_inside, put_be16, put_be32};
 use std::marker::Model;
@@ -24,8 +29,8 @@ impl<'a> Model for TcpView<'a> {
 }
 
 impl<'a> TcpView<'a> {
-    /// The header at `at`. There is none where its first 20 bytes aren't there, its data offset is below 5, or the bytes
-    /// that the data offset counts aren't all there.
+    /// The header at `at`. There is none where its first 20 bytes aren't there, its data offset is below 5, or the
+    /// bytes that the data offset counts aren't all there.
     pub fn read(frame: &'a [u8], at: usize) -> Option<TcpView<'a>>
         ensures found { IsSome result ↔ (is_there frame.now at ≡ true) }
         ensures view { IfSome result (λ v. v ≡ record { frame = frame.now; at = at }) }

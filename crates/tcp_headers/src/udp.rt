@@ -3,7 +3,8 @@
 ghost use Rattle.std.specs.Prelude.{◌≡◌, ◌↔◌, ℕ, ◌+◌, ◌<◌, ◌≤◌, ◌⊎◌, ◌++◌, true, List, length, IsSome, IfSome};
 ghost use Rattle.net_bytes.specs.Bytes.{byte, put16};
 ghost use Rattle.net_bytes.specs.View.{Placed};
-ghost use Rattle.tcp_headers.specs.Udp.{is_there, source_port as source_port_of, destination_port as destination_port_of, udp_length, checksum as checksum_of};
+ghost use Rattle.tcp_headers.specs.Udp.{is_there, source_port as source_port_of};
+ghost use Rattle.tcp_headers.specs.Udp.{destination_port as destination_port_of, udp_length, checksum as checksum_of};
 
 use net_bytes::{be16, is_inside, put_be16};
 use std::marker::Model;

@@ -1,5 +1,5 @@
--- The header of generic routing encapsulation (RFC 2784, section 2) with a key (RFC 2890, section 2.1) or without one, and with neither
--- checksum nor sequence number, of the frame `f` at the place.
+-- The header of generic routing encapsulation (RFC 2784, section 2) with a key (RFC 2890, section 2.1) or without one,
+-- and with neither checksum nor sequence number, of the frame `f` at the place.
 use Rattle.std.specs.Prelude.{ℕ, ◌+◌, Bool, ◌==◌, ◌&&◌, ◌||◌, nat_le, List, length}
 use Rattle.net_bytes.specs.Bytes.{be16, be32}
 

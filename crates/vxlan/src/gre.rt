@@ -1,8 +1,10 @@
 //! The header of generic routing encapsulation (RFC 2784), with a key (RFC 2890) or without one.
 
-ghost use Rattle.std.specs.Prelude.{◌≡◌, ◌↔◌, ◌+◌, ◌≤◌, ◌&&◌, Option, Some, None, true, false, if◌then◌else◌, length, IsSome, IfSome};
+ghost use Rattle.std.specs.Prelude.{◌≡◌, ◌↔◌, ◌+◌, ◌≤◌, ◌&&◌, Option, Some, None, true, false, if◌then◌else◌, length};
+ghost use Rattle.std.specs.Prelude.{IsSome, IfSome};
 ghost use Rattle.net_bytes.specs.View.{Placed};
-ghost use Rattle.vxlan.specs.Gre.{is_there, is_plain as is_plain_there, is_keyed as is_keyed_there, protocol as protocol_of, key as key_of};
+ghost use Rattle.vxlan.specs.Gre.{is_there, is_plain as is_plain_there, is_keyed as is_keyed_there};
+ghost use Rattle.vxlan.specs.Gre.{protocol as protocol_of, key as key_of};
 
 use net_bytes::{be16, be32, is_inside};
 use std::marker::Model;
@@ -10,7 +12,8 @@ use std::marker::Model;
 /// The IP protocol number that is assigned to GRE.
 pub const PROTOCOL: u8 = 47;
 
-/// Whether a header of four bytes stands at `at`: its first two are 0, so it has neither checksum nor key nor sequence number.
+/// Whether a header of four bytes stands at `at`: its first two are 0, so it has neither checksum nor key nor sequence
+/// number.
 pub fn is_plain(frame: &[u8], at: usize) -> bool
     ensures there { result ≡ is_plain_there frame.now at }
 {
@@ -82,7 +85,8 @@ impl<'a> GreView<'a> {
 
     /// The key; None of a header of four bytes.
     pub fn key(&self) -> Option<u32>
-        ensures field { result ≡ (if is_keyed_there self.now.frame self.now.at then Some (key_of self.now.frame self.now.at) else None) }
+        ensures field { result ≡ (if is_keyed_there self.now.frame self.now.at
+            then Some (key_of self.now.frame self.now.at) else None) }
     {
         if self.is_keyed() {
             Some(be32(self.frame, self.at + 4))

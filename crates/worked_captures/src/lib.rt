@@ -1,5 +1,5 @@
-//! Frames and captures that were worked out by hand, or by a program that was written from the formats alone: what the tests of several
-//! crates read. See RFC 791 and RFC 9293 for the headers, and the pcap format for the files.
+//! Frames and captures that were worked out by hand, or by a program that was written from the formats alone: what the
+//! tests of several crates read. See RFC 791 and RFC 9293 for the headers, and the pcap format for the files.
 #![tactic(auto)]
 
 /// A TCP segment: Ethernet, IPv4, TCP (54 bytes of headers), and four bytes.
@@ -26,7 +26,8 @@ pub const MERGED: [u8; 60] = [
     0x01, 0x00, 0xbc, 0xe4, 0x00, 0x00, 0x61, 0x62, 0x63, 0x64, 0x65, 0x66,
 ];
 
-/// A capture of one record with an offload header of version 1, little-endian, in microseconds: [`MERGED`], of two segments.
+/// A capture of one record with an offload header of version 1, little-endian, in microseconds: [`MERGED`], of two
+/// segments.
 pub const MERGED_CAPTURE: [u8; 112] = [
     0xd4, 0xc3, 0xb2, 0xa1, 0x02, 0x00, 0x04, 0x00, 0x00, 0x00, 0x00, 0x00, 0x00, 0x00, 0x00, 0x00,
     0x0c, 0x00, 0x04, 0x00, 0x93, 0x00, 0x00, 0x00, 0x01, 0x00, 0x00, 0x00, 0x00, 0x00, 0x00, 0x00,

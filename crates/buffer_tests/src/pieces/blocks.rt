@@ -41,7 +41,8 @@ pub fn counted(mut out: Outcomes) -> (usize, usize) {
 /// Puts a part behind the others. Where there is no memory for it, it is given back.
 pub fn put(pieces: &mut Pieces, part: Part, from: usize, to: usize, out: &mut Outcomes)
     requires fits { (from < to) × (to ≤ 2048) × (size_of pieces.old < 1000000) × (1 ≤ out.old.spare) }
-    ensures left { (length pieces.new ≤ length pieces.old + 1) × (size_of pieces.new ≤ size_of pieces.old + 2048) × (out.old.spare ≤ out.new.spare + 1) }
+    ensures left { (length pieces.new ≤ length pieces.old + 1) × (size_of pieces.new ≤ size_of pieces.old + 2048)
+        × (out.old.spare ≤ out.new.spare + 1) }
 {
     if let Err((part, _)) = pieces.append(part, from, to) {
         out.give_back(part);

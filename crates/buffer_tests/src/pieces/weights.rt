@@ -90,8 +90,8 @@ fn a_weight_of_three_is_shared_twice(rt: HostRuntime) -> Result<(), Fail> {
     Ok(())
 }
 
-// Whether a piece of weight 1 is Worn where it is shared and where it is cut inside, and the lengths of both lists of a cut
-// at its end.
+// Whether a piece of weight 1 is Worn where it is shared and where it is cut inside, and the lengths of both lists of a
+// cut at its end.
 fn of_weight_one(block: Sole, alloc: Global) -> Option<(bool, bool, (usize, usize))> {
     let mut out = outcomes(alloc)?;
     let part = small_part(block, 1, &mut out);

@@ -12,7 +12,8 @@ const PAYLOAD: [u8; 1000] = [9; 1000];
 
 const SINGLES: [Said; 2] = [(0, 1, 0, 0), (1, 1, 0, 0)];
 
-// Packets of these headers, each with so much payload, come to items that say this, of which the first has these headers.
+// Packets of these headers, each with so much payload, come to items that say this, of which the first has these
+// headers.
 fn come_to(
     rt: &impl Abort,
     alloc: Global,

@@ -1,4 +1,5 @@
-//! Rounds of packets: which runs they come to, and that nothing is lost. Each call that is refused memory is called again.
+//! Rounds of packets: which runs they come to, and that nothing is lost. Each call that is refused memory is called
+//! again.
 ghost use Rattle.std.specs.Prelude.{◌≡◌, ◌≤◌, [], length};
 
 use super::{
@@ -134,7 +135,8 @@ fn of_no_flow(rt: HostRuntime) {
     assert_eq!(rt; spent(&rt, finished(&rt, alloc, table), &rows), 9);
 }
 
-/// Two flows in turn, and a pure ACK of the first, which ends its run and joins none; a packet behind it opens the next run.
+/// Two flows in turn, and a pure ACK of the first, which ends its run and joins none; a packet behind it opens the next
+/// run.
 #[test]
 fn two_flows_and_an_ack(rt: HostRuntime) {
     let alloc = rt.alloc();
@@ -223,7 +225,8 @@ fn a_sum_of_ffff(rt: HostRuntime) {
     summed(&rt, rt.alloc(), 0xffff, &[(0, 1, 0, 0), (1, 1, 0, 0)]);
 }
 
-// The next round of the table: two packets of a run and one that is alone. The memory of their outcomes serves the one after.
+// The next round of the table: two packets of a run and one that is alone. The memory of their outcomes serves the one
+// after.
 fn serve(rt: &impl Abort, alloc: Global, table: &mut RoundTable)
     requires none { table.old.runs ≡ [] }
     ensures none { table.new.runs ≡ [] }

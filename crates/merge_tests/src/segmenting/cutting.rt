@@ -80,8 +80,8 @@ pub fn buffer<A: Abort>(rt: &A, alloc: Global, bytes: &[u8], head: usize, size: 
     Skb::new(block, 64, 64 + of_head, rest)
 }
 
-/// What a cutter gave: the frames one behind the other, how many, and the least weight of each; whether it ended, and the blocks that
-/// came home.
+/// What a cutter gave: the frames one behind the other, how many, and the least weight of each; whether it ended, and
+/// the blocks that came home.
 #[derive(Drop)]
 pub struct Given {
     pub bytes: Vec<u8>,

@@ -99,7 +99,8 @@ fn change_beside<R: Threads + Sync>(rt: &R, tap: &mut Tap<'_>, own: &mut Own)
 }
 
 fn sides<'a, A: Abort>(rt: &A, alloc: Global) -> (Tap<'a>, Own)
-    ensures places { (IfSome result.0.task (λ task. blocks_of task.clones.items ≤ task.outcomes.spare)) × (IfSome result.1.skb (λ skb. length skb.rest + 3 ≤ result.1.out.spare)) }
+    ensures places { (IfSome result.0.task (λ task. blocks_of task.clones.items ≤ task.outcomes.spare))
+        × (IfSome result.1.skb (λ skb. length skb.rest + 3 ≤ result.1.out.spare)) }
 {
     let mut skb = packet(alloc, LEN, 100, 90).expect(rt, "no memory");
     let clone = skb.clone().expect(rt, "no clone");

@@ -19,13 +19,19 @@ pub loop-number-init : goal.loop-number-init
 loop-number-init g c =
     let seed = c.args.seed in let count = c.args.count in
     let head = c.bytes.ensures.bytes ∙ c.of_file_header-buffer.ensures.bytes in (
-      (c.bytes.result.now, c.in_ok-write_all.ensures.ok, ap (λ z. c.bytes.result.now ++ records_from (count - 0) 0 z) c.new-maker.ensures.first ∙ ap (λ z. z ++ records_from (count - 0) 0 (first_next seed)) head ∙ made_is seed count),
+      (
+        c.bytes.result.now,
+        c.in_ok-write_all.ensures.ok,
+        ap (λ z. c.bytes.result.now ++ records_from (count - 0) 0 z) c.new-maker.ensures.first ∙ ap
+            (λ z. z ++ records_from (count - 0) 0 (first_next seed)) head ∙ made_is seed count,
+      ),
       c.in_ok-write_all.ensures.cause.later,
     )
 
 pub loop-number-preserved : goal.loop-number-preserved
 loop-number-preserved g c =
-    let owed = next_owed c.args.count c.loop-number.number c.loop-number.maker c.next_record.new.self c.bytes-in-loop-number.result.now (omega arith) (c.bytes-in-loop-number.ensures.bytes ∙ c.next_record.ensures.bytes) c.next_record.ensures.next in
+    let owed = next_owed c.args.count c.loop-number.number c.loop-number.maker c.next_record.new.self c.bytes-in-loop-number.result.now (omega arith)
+    (c.bytes-in-loop-number.ensures.bytes ∙ c.next_record.ensures.bytes) c.next_record.ensures.next in
     let owes = subst (Owes (g.K.Sink.held c.args.sink.now) (g.K.Sink.held c.loop-number.sink) (made c.args.seed c.args.count)) owed c.loop-number.invariant.0 in (
       Owes-less _ _ _ _ _ _ owes c.in_ok-write_all-2.ensures.ok,
       omega (arith, c.in_ok-write_all-2.ensures.cause.later),
@@ -34,7 +40,8 @@ loop-number-preserved g c =
 pub returns-in_err-write_all-2-clause-err : goal.returns-in_err-write_all-2-clause-err
 returns-in_err-write_all-2-clause-err g c =
     let p = err_from_is_err_and c.from_residual-in_err-write_all-2.result c.from_residual-in_err-write_all-2.ensures.1 in
-    let owed = next_owed c.args.count c.loop-number.number c.loop-number.maker c.next_record.new.self c.bytes-in-loop-number.result.now (omega arith) (c.bytes-in-loop-number.ensures.bytes ∙ c.next_record.ensures.bytes) c.next_record.ensures.next in
+    let owed = next_owed c.args.count c.loop-number.number c.loop-number.maker c.next_record.new.self c.bytes-in-loop-number.result.now (omega arith)
+    (c.bytes-in-loop-number.ensures.bytes ∙ c.next_record.ensures.bytes) c.next_record.ensures.next in
     let owes = subst (Owes (g.K.Sink.held c.args.sink.now) (g.K.Sink.held c.loop-number.sink) (made c.args.seed c.args.count)) owed c.loop-number.invariant.0 in
     rw p.1 (Owes-failed _ _ _ _ _ _ owes c.in_err-write_all-2.ensures.err)
 

@@ -15,7 +15,8 @@ loop-number-init c =
 pub loop-number-preserved : goal.loop-number-preserved
 loop-number-preserved c =
     let size = ap length c.bytes-in-loop-number.ensures.bytes in
-    let more = next_length c.args.count c.loop-number.number c.loop-number.len c.loop-number.maker c.next_record.new.self c.bytes-in-loop-number.result.now (omega arith) (c.bytes-in-loop-number.ensures.bytes ∙ c.next_record.ensures.bytes) c.next_record.ensures.next in (
+    let more = next_length c.args.count c.loop-number.number c.loop-number.len c.loop-number.maker c.next_record.new.self c.bytes-in-loop-number.result.now (omega arith)
+    (c.bytes-in-loop-number.ensures.bytes ∙ c.next_record.ensures.bytes) c.next_record.ensures.next in (
       sym more ∙ c.loop-number.invariant.0,
       omega (arith, size, c.bytes-in-loop-number.ensures.short, c.loop-number.invariant.1),
     )

@@ -13,7 +13,8 @@ plus-sum-requires c =
     record {
       within = (
         subst (IsQueueWithin (2 ^ 62)) (sym c.queues.invariant)
-            (within_more (length front * n) (2 ^ 62) _ (omega (arith, length-take c.queues.queue-index xs, c.requires.lanes)) (sum_within n front (all_taken (IsQueueWithin n) c.queues.queue-index xs c.requires.within))),
+            (within_more (length front * n) (2 ^ 62) _ (omega (arith, length-take c.queues.queue-index xs, c.requires.lanes)) (sum_within n front
+            (all_taken (IsQueueWithin n) c.queues.queue-index xs c.requires.within))),
         within_more n (2 ^ 62) _ (omega arith) (all_at (IsQueueWithin n) xs c.queues.queue-index _ c.requires.within c.queues-test.true),
       );
     }

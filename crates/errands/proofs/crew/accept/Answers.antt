@@ -7,7 +7,8 @@ use Rattle.errands.proofs.Answering.{back_more, not_before, places_set, missing_
 use Rattle.errands.proofs.crew.accept.Goals as goal
 
 -- an answer to the task that is noted
-answers_to : {T D : Type 0} (did : T → D → Type 0) (log : List T) (n : ℕ) (task : List T) (d : D) → IsAnswer did task d → ((x : T) → task ≡ x ∷ [] → get_elem? log n ≡ some x) → length task ≡ 1 → Answers did log n d
+answers_to : {T D : Type 0} (did : T → D → Type 0) (log : List T) (n : ℕ) (task : List T) (d : D) → IsAnswer did task d → ((x : T) → task ≡ x ∷ [] → get_elem? log n ≡ some x) → length task ≡ 1
+    → Answers did log n d
 answers_to did log n [] d a at size = absurd a
 answers_to did log n (x ∷ []) d a at size = (x, at x refl, a)
 answers_to did log n (x ∷ y ∷ ys) d a at size = absurd (omega (arith, size))

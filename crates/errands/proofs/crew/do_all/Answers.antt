@@ -47,4 +47,5 @@ returns-clause-did g c =
     subst (λ (ps : List (Option g.row.D.Denot)). Places g.J.Job.did (c.args.asker.now.log ++ c.args.tasks.now.items) c.collect.new.asker.back (length c.args.asker.now.log) ps) (sym out)
     (subst (λ (n : ℕ). Places g.J.Job.did (c.args.asker.now.log ++ c.args.tasks.now.items) c.collect.new.asker.back n c.collect.new.places.items) a.count
     (subst (λ (l : List g.row.T.Denot). Places g.J.Job.did l c.collect.new.asker.back c.asked-first.result c.collect.new.places.items) c.ask_all.ensures.log e.places)) in
-    each_did g.J.Job.did c.args.asker.now.log c.args.tasks.now.items c.collect.new.asker.back c.give_out.new.done.items (sizes (length c.args.tasks.now.items) c.give_out.new.done.items c.collect.new.places.items out (omega (arith, e.size, c.ask_all.ensures.size))) places
+    each_did g.J.Job.did c.args.asker.now.log c.args.tasks.now.items c.collect.new.asker.back c.give_out.new.done.items (sizes (length c.args.tasks.now.items) c.give_out.new.done.items
+    c.collect.new.places.items out (omega (arith, e.size, c.ask_all.ensures.size))) places

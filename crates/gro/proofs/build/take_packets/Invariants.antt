@@ -11,7 +11,8 @@ invariant-loop-packet l = record {
   reserved : pieces_in l.packets.items ≤ l.pieces.room;
   places : free_in l.packets.items ≤ l.out.spare;
   small : l.end + size_of l.pieces.pieces + sizes_behind l.at l.packets.items < 2 ^ 31;
-  rest : (b : Build) → TakesPackets l.packets.items l.at (build l.block l.end l.pieces.pieces l.out) b → TakesPackets l.fn.packets.items l.at (build l.fn.block l.fn.filled l.fn.pieces.pieces l.fn.out) b;
+  rest : (b : Build) → TakesPackets l.packets.items l.at (build l.block l.end l.pieces.pieces l.out) b → TakesPackets l.fn.packets.items l.at
+      (build l.fn.block l.fn.filled l.fn.pieces.pieces l.fn.out) b;
 }
 
 abbrev pub decreases-loop-packet : goal.decreases-loop-packet

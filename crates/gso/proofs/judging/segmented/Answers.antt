@@ -36,7 +36,8 @@ returns-in_default-segmentation_of-clause-refused c =
     let k = known f c.args.front.now c.args.layout.payload_at c.args.head.now.m c.payload_at.result u.result c.whole-payload.result r.joined r.in_bytes r.enough r.within c.payload_at.ensures.place
     u.ensures.in_bytes u.ensures.sums c.whole-payload.ensures.whole in
     let tail : List ℕ = drop (length c.args.front.now) f in
-    let seg : IsSegOf (c.args.front.now ++ tail) c.args.original (Some c.in-Some.seg) = subst (λ (z : List ℕ). IsSegOf z c.args.original (Some c.in-Some.seg)) r.joined (c.in-Some.ensures.candidate f k.payload_is) in
+    let seg : IsSegOf (c.args.front.now ++ tail) c.args.original (Some c.in-Some.seg) = subst (λ (z : List ℕ). IsSegOf z c.args.original (Some c.in-Some.seg)) r.joined
+    (c.in-Some.ensures.candidate f k.payload_is) in
     λ s. c.in_default-segmentation_of.ensures.judged c.args.original tail seg (subst (λ (z : List ℕ). IsLawfulSuper c.args.head.now (packet 0 0 0 c.args.original z)) r.joined s)
 
 pub returns-clause-judged : goal.returns-clause-judged
@@ -47,7 +48,8 @@ returns-clause-judged c =
     let k = known f c.args.front.now c.args.layout.payload_at c.args.head.now.m c.payload_at.result u.result c.whole-payload.result r.joined r.in_bytes r.enough r.within c.payload_at.ensures.place
     u.ensures.in_bytes u.ensures.sums c.whole-payload.ensures.whole in
     let tail : List ℕ = drop (length c.args.front.now) f in
-    let seg : IsSegOf (c.args.front.now ++ tail) c.args.original (Some c.in-Some.seg) = subst (λ (z : List ℕ). IsSegOf z c.args.original (Some c.in-Some.seg)) r.joined (c.in-Some.ensures.candidate f k.payload_is) in
+    let seg : IsSegOf (c.args.front.now ++ tail) c.args.original (Some c.in-Some.seg) = subst (λ (z : List ℕ). IsSegOf z c.args.original (Some c.in-Some.seg)) r.joined
+    (c.in-Some.ensures.candidate f k.payload_is) in
     subst (λ (z : List ℕ). IsJudged c.args.head.now (packet 0 0 0 c.args.original z) (Some c.in-Some-segmentation_of.cut)) (sym r.joined)
     (c.in-Some-segmentation_of.ensures.judged c.args.original tail seg)
 
@@ -59,7 +61,8 @@ returns-clause-known c =
     let k = known f c.args.front.now c.args.layout.payload_at c.args.head.now.m c.payload_at.result u.result c.whole-payload.result r.joined r.in_bytes r.enough r.within c.payload_at.ensures.place
     u.ensures.in_bytes u.ensures.sums c.whole-payload.ensures.whole in
     let tail : List ℕ = drop (length c.args.front.now) f in
-    let seg : IsSegOf (c.args.front.now ++ tail) c.args.original (Some c.in-Some.seg) = subst (λ (z : List ℕ). IsSegOf z c.args.original (Some c.in-Some.seg)) r.joined (c.in-Some.ensures.candidate f k.payload_is) in
+    let seg : IsSegOf (c.args.front.now ++ tail) c.args.original (Some c.in-Some.seg) = subst (λ (z : List ℕ). IsSegOf z c.args.original (Some c.in-Some.seg)) r.joined
+    (c.in-Some.ensures.candidate f k.payload_is) in
     let judged : IsJudged c.args.head.now (packet 0 0 0 c.args.original f) (Some c.in-Some-segmentation_of.cut)
     = subst (λ (z : List ℕ). IsJudged c.args.head.now (packet 0 0 0 c.args.original z) (Some c.in-Some-segmentation_of.cut)) (sym r.joined)
     (c.in-Some-segmentation_of.ensures.judged c.args.original tail seg) in
@@ -75,7 +78,8 @@ returns-clause-front c =
     let k = known f c.args.front.now c.args.layout.payload_at c.args.head.now.m c.payload_at.result u.result c.whole-payload.result r.joined r.in_bytes r.enough r.within c.payload_at.ensures.place
     u.ensures.in_bytes u.ensures.sums c.whole-payload.ensures.whole in
     let tail : List ℕ = drop (length c.args.front.now) f in
-    let seg : IsSegOf (c.args.front.now ++ tail) c.args.original (Some c.in-Some.seg) = subst (λ (z : List ℕ). IsSegOf z c.args.original (Some c.in-Some.seg)) r.joined (c.in-Some.ensures.candidate f k.payload_is) in
+    let seg : IsSegOf (c.args.front.now ++ tail) c.args.original (Some c.in-Some.seg) = subst (λ (z : List ℕ). IsSegOf z c.args.original (Some c.in-Some.seg)) r.joined
+    (c.in-Some.ensures.candidate f k.payload_is) in
     let judged : IsJudged c.args.head.now (packet 0 0 0 c.args.original f) (Some c.in-Some-segmentation_of.cut)
     = subst (λ (z : List ℕ). IsJudged c.args.head.now (packet 0 0 0 c.args.original z) (Some c.in-Some-segmentation_of.cut)) (sym r.joined)
     (c.in-Some-segmentation_of.ensures.judged c.args.original tail seg) in

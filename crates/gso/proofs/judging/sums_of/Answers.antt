@@ -24,7 +24,8 @@ loop-i-init c =
 
 pub add-requires-in-loop-i-clause-few : goal.add-requires-in-loop-i-clause-few
 add-requires-in-loop-i-clause-few c =
-    parts_few c.args.skb.now c.args.m c.args.from c.loop-i.i none c.loop-i.sums c.slice.result.now (omega (arith, c.loop-i.invariant.end, c.loop-i-test.true)) c.loop-i.invariant.summed (c.slice.ensures.bytes none) (omega (arith, c.len.ensures.bytes, c.len.ensures.small))
+    parts_few c.args.skb.now c.args.m c.args.from c.loop-i.i none c.loop-i.sums c.slice.result.now (omega (arith, c.loop-i.invariant.end, c.loop-i-test.true)) c.loop-i.invariant.summed
+    (c.slice.ensures.bytes none) (omega (arith, c.len.ensures.bytes, c.len.ensures.small))
 
 pub loop-i-preserved : goal.loop-i-preserved
 loop-i-preserved c =
@@ -32,7 +33,8 @@ loop-i-preserved c =
     let a = c.add-in-loop-i in
     record {
       end = i.end;
-      summed = parts_more c.args.skb.now c.args.m c.args.from c.loop-i.i none c.loop-i.sums c.slice.result.now (omega (arith, i.end, c.loop-i-test.true)) i.summed (c.slice.ensures.bytes none) a.new.sums
+      summed = parts_more c.args.skb.now c.args.m c.args.from c.loop-i.i none c.loop-i.sums c.slice.result.now (omega (arith, i.end, c.loop-i-test.true)) i.summed
+          (c.slice.ensures.bytes none) a.new.sums
           (a.ensures.sums i.summed.done i.summed.known) a.ensures.in_bytes a.ensures.room a.ensures.len;
       within = omega (arith, c.loop-i-test.true);
     }

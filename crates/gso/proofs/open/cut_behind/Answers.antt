@@ -23,11 +23,13 @@ returns-in-Ok-clause-account c =
 pub unreachable-requires : goal.unreachable-requires
 unreachable-requires c =
     let s = c.args.skb.now in
-    let e : false ≡ true = sym (buffer_not_worn c.args.at s c.requires.least (enough_least s.rest c.len.ensures.fits (omega (arith, c.requires.least)))) ∙ (subst (λ (e : ShareFault). IsCut c.args.at s c.split_at.new.self (Err e)) c.in-Err-Worn.field-0-is c.in-Err-Worn.ensures.split).1 in
+    let e : false ≡ true = sym (buffer_not_worn c.args.at s c.requires.least (enough_least s.rest c.len.ensures.fits (omega (arith, c.requires.least)))) ∙
+    (subst (λ (e : ShareFault). IsCut c.args.at s c.split_at.new.self (Err e)) c.in-Err-Worn.field-0-is c.in-Err-Worn.ensures.split).1 in
     cc
 
 pub returns-in-Ok-clause-bare : goal.returns-in-Ok-clause-bare
-returns-in-Ok-clause-bare c = bare c.split_at.new.self c.args.at c.len-in-Ok-2.ensures.fits c.in-Ok.ensures.bytes.1 (front_kept c.args.skb.now c.split_at.new.self c.args.at c.in-Ok.cut c.requires.front c.in-Ok.ensures.split.2 c.in-Ok.ensures.split.3)
+returns-in-Ok-clause-bare c = bare c.split_at.new.self c.args.at c.len-in-Ok-2.ensures.fits c.in-Ok.ensures.bytes.1 (front_kept c.args.skb.now c.split_at.new.self c.args.at c.in-Ok.cut
+    c.requires.front c.in-Ok.ensures.split.2 c.in-Ok.ensures.split.3)
 
 pub returns-in-Ok-clause-shared : goal.returns-in-Ok-clause-shared
 returns-in-Ok-clause-shared c = λ part.

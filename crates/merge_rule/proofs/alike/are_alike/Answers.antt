@@ -18,7 +18,8 @@ returns-in_default c =
       alike = (
         λ e. absurd cc,
         λ a. absurd (c.in_default.ensures.alike (varying_in (drop (i + 1) hs))
-            (subst (λ z. AreAlikeFrom c.args.first.now c.args.next.now c.args.end c.loop-header.from (fields_at (get_or hs i d).at z ++ varying_in (drop (i + 1) hs))) (sym c.varying-fields.ensures.fields)
+            (subst (λ z. AreAlikeFrom c.args.first.now c.args.next.now c.args.end c.loop-header.from (fields_at (get_or hs i d).at z ++ varying_in (drop (i + 1) hs)))
+            (sym c.varying-fields.ensures.fields)
             (subst (λ z. AreAlikeFrom c.args.first.now c.args.next.now c.args.end c.loop-header.from (varying_in z)) (drop_more hs i d c.loop-header-test.true) (c.loop-header.invariant.1.1 a)))),
       );
     }

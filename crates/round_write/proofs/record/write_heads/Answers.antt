@@ -15,7 +15,8 @@ returns-clause-ok g c =
     let bytes_are = joined_is c.both_heads.result c.record_header-header.result c.bytes.result
     (rec_bytes order t.sec t.frac (c.args.len + 16) (c.args.original + 16)) (off_bytes2 c.in-Some.head)
     c.both_heads.ensures.bytes c.record_header-header.ensures.bytes c.bytes.ensures.bytes in
-    subst (λ (h : Option OffHead2). OnOk c.write_all.result (Appends (g.K.Sink.held c.args.sink.now) (g.K.Sink.held c.write_all.new.sink) (heads_of order t.sec t.frac c.args.len c.args.original h))) (sym c.in-Some.is)
+    subst (λ (h : Option OffHead2). OnOk c.write_all.result (Appends (g.K.Sink.held c.args.sink.now) (g.K.Sink.held c.write_all.new.sink) (heads_of order t.sec t.frac c.args.len c.args.original h)))
+    (sym c.in-Some.is)
     (subst (λ (z : List ℕ). OnOk c.write_all.result (Appends (g.K.Sink.held c.args.sink.now) (g.K.Sink.held c.write_all.new.sink) z)) bytes_are c.write_all.ensures.ok)
 
 pub returns-clause-err : goal.returns-clause-err
@@ -25,5 +26,6 @@ returns-clause-err g c =
     let bytes_are = joined_is c.both_heads.result c.record_header-header.result c.bytes.result
     (rec_bytes order t.sec t.frac (c.args.len + 16) (c.args.original + 16)) (off_bytes2 c.in-Some.head)
     c.both_heads.ensures.bytes c.record_header-header.ensures.bytes c.bytes.ensures.bytes in
-    subst (λ (h : Option OffHead2). OnErr c.write_all.result (AppendsFront (g.K.Sink.held c.args.sink.now) (g.K.Sink.held c.write_all.new.sink) (heads_of order t.sec t.frac c.args.len c.args.original h))) (sym c.in-Some.is)
+    subst (λ (h : Option OffHead2). OnErr c.write_all.result (AppendsFront (g.K.Sink.held c.args.sink.now) (g.K.Sink.held c.write_all.new.sink)
+    (heads_of order t.sec t.frac c.args.len c.args.original h))) (sym c.in-Some.is)
     (subst (λ (z : List ℕ). OnErr c.write_all.result (AppendsFront (g.K.Sink.held c.args.sink.now) (g.K.Sink.held c.write_all.new.sink) z)) bytes_are c.write_all.ensures.err)

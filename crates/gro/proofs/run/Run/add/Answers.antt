@@ -31,7 +31,8 @@ returns-clause-run c =
       run = subst (λ z. IsRunBy r.layout c.joined-payload.result c.args.candidacy.now.flags c.progress_with-progress.result p (p ∷ z))
           (sym (ap (map packet_of) items ∙ map-append packet_of r.rest.items (c.args.next ∷ [])))
           (grown_by p x ps r.layout c.args.candidacy.now.layout r.payload c.args.candidacy.now.payload c.joined-payload.result r.flags
-          c.args.candidacy.now.flags r.progress c.progress_with-progress.result (length r.rest.items) long c.requires.run.run c.requires.mergeable c.joined-payload.ensures.sum c.requires.judged c.progress_with-progress.ensures.progress);
+          c.args.candidacy.now.flags r.progress c.progress_with-progress.result (length r.rest.items) long c.requires.run.run c.requires.mergeable c.joined-payload.ensures.sum c.requires.judged
+          c.progress_with-progress.ensures.progress);
       held = subst (λ (z : List Held). AreHeld (r.first ∷ z)) (sym items)
           (all_append IsHeld (held_of r) (c.args.next ∷ []) c.requires.run.held (c.requires.held, tt));
       count = omega (arith, c.requires.run.count, c.count-more.ensures.value, ap counts_of items, counts_more r.rest.items c.args.next);

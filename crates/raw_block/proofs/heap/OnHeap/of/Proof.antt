@@ -38,7 +38,11 @@ of_spec {M} 𝓤 𝓛 𝓜 𝓡 wired T L dx glue =
     let H = 𝓛.H in let 𝓣 = tables 𝓤 H 𝓜 𝓡 𝓡.env in let G : RattleType = heap.the_row in
     let Z : RattleType = arg (bare (layout G)) no G in let LZ : Laws Z =
     arg_laws (bare (layout G)) no G heap_laws.the_row_laws refl in let R : RattleType = param 0 T in
-    let dd : Dict = impl ("raw_block::Destruct++none::drop" ∷ []) (tcons (layout Z) tnil) dnil in let E : box.Bx = record { row = T; laws = L; al = record { row = Z; laws = LZ; g = ghosts; d = dict; drops = dd } } in
+    let dd : Dict = impl ("raw_block::Destruct++none::drop" ∷ []) (tcons (layout Z) tnil) dnil in let E : box.Bx = record {
+      row = T;
+      laws = L;
+      al = record { row = Z; laws = LZ; g = ghosts; d = dict; drops = dd };
+    } in
     let Br : RattleType = boxes.the_row R G ghosts in let Or : RattleType = on_heap.the_row R in let En = ended T dx in
     let c = clauses T dx 𝓛 𝓜.mem 𝓡.returns in
     let inst = bounded (a_type ∷ []) (T, tt) (dcons dx dnil) in let fn = inst_fn inst code.function in

@@ -25,7 +25,8 @@ differ_spec 𝓤 𝓛 𝓜 𝓡 wired =
     let b' : ℕ = a.1.0.ref_ptr.0 in let o' : ℕ = a.1.0.ref_ptr.1 in let h' : Nr.Denot = a.1.0.now in let vs' = mut_vals a.1.0 in
     let y : (walk_of 𝓛 En hs c).Ghost = ((κs, qs, bounds, a, (vs, (vs', tt))), gh) in
     let Post : Val → SProp 𝓤 = (walk_of 𝓛 En hs c).post y in
-    qed 𝓛 (((‵ (flft κs.0 qs.0) ⊛ ‵ (flft κs.1.0 qs.1.0) ⊛ ‵ ftrue) ⊛ ‵ ((MutRef (named 0) κs.0 Nr).own_val a.0 vs) ⊛ ‵ (fsep ((MutRef (named 1) κs.1.0 Nr).own_val a.1.0 vs') ftrue)) ∷ raw ((c κs a).requires gh) ∷ []) ∵
+    qed 𝓛 (((‵ (flft κs.0 qs.0) ⊛ ‵ (flft κs.1.0 qs.1.0) ⊛ ‵ ftrue) ⊛ ‵ ((MutRef (named 0) κs.0 Nr).own_val a.0 vs) ⊛ ‵ (fsep ((MutRef (named 1) κs.1.0 Nr).own_val a.1.0 vs') ftrue))
+    ∷ raw ((c κs a).requires gh) ∷ []) ∵
     keep ! (0 ∷ []) $ split ! $ split ! $ move ! (1 ∷ []) $ split ! $ move ! (3 ∷ []) $ split ! $ move ! (1 ∷ []) $ fsplit ! $
     -- [theirs; true; mine; their token; true; my token]
     keep ! (2 ∷ 0 ∷ 5 ∷ 3 ∷ 4 ∷ []) $

@@ -10,4 +10,5 @@ invariant_of-self c = let x = c.in-Some.held in let h = c.args.holder in let old
     let e : holding_of h w.holdings ≡ Some x = subst (λ (s : WeightState). holding_of h s.holdings ≡ Some x) (sym c.self.view_is) (sym c.in-Some.ensures.value) in
     let word : c.word.result ≡ word_of w x.block = c.word.ensures.value ∙ ap (λ (s : WeightState). word_of s x.block) (sym c.self.view_is) in
     let same : x.weight ≡ word_of w x.block = omega arith in
-    subst (λ hs. IsWeighed (record { holdings = hs; words = slice_set old.words.items x.block full_weight; memory = old.memory })) (sym c.put_again.ensures.entries) (claimed_weighed w c.self.invariant h x e same)
+    subst (λ hs. IsWeighed (record { holdings = hs; words = slice_set old.words.items x.block full_weight; memory = old.memory })) (sym c.put_again.ensures.entries)
+    (claimed_weighed w c.self.invariant h x e same)

@@ -16,4 +16,5 @@ loop-at-preserved c =
     let l = c.loop-at in
     let n = c.copy_block-at in
     filled_next c.args.self.now c.args.from
-    c.args.spares.now.items l.at l.copied.room n.result n.new.copied.room l.spares.items n.new.spares.items l.copied.pieces n.new.copied.pieces l.invariant (omega arith) n.ensures.end n.ensures.room n.ensures.block
+    c.args.spares.now.items l.at l.copied.room n.result n.new.copied.room l.spares.items n.new.spares.items l.copied.pieces n.new.copied.pieces l.invariant
+    (omega arith) n.ensures.end n.ensures.room n.ensures.block

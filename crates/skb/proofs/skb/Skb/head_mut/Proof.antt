@@ -110,7 +110,8 @@ head_mut_spec 𝓤 𝓛 𝓜 𝓡 wired =
     calls_at ! (framed 𝓤 𝓛.H 𝓜 (tables 𝓤 𝓛.H 𝓜 𝓡 𝓡.env)) L (lends_met.met 𝓤 𝓛 𝓜 𝓡 (code.calls-skb::skb::Skb::head_bytes_mut 𝓡.env wired)) z'
     (and_then ! (get ! refl) (no_more !)) (λ w.
     use1 𝓛 (later (some (λ (x : MutBor (List ℕ)). ((‵ (flft κ q) ⊛ ‵ ftrue) ⊛ ‵ (Slice.own_val x (w ∷ []))) ⊛
-    some (λ (ws' : Unit {0} × Unit {0}). ‵ (lasts lends.ended z'.0.0 z'.0.3 ws') ⊛ ‵ (follows R (Array u8 0) s.ghost_name x.ghost_name (with_head d)) ⊛ raw (fact 𝓤 (x.now ≡ head_bytes d)))))) (id⊢ 𝓤 _) $
+    some (λ (ws' : Unit {0} × Unit {0}). ‵ (lasts lends.ended z'.0.0 z'.0.3 ws') ⊛ ‵ (follows R (Array u8 0) s.ghost_name x.ghost_name (with_head d)) ⊛ raw (fact 𝓤 (x.now ≡ head_bytes d))))))
+    (id⊢ 𝓤 _) $
     await ! tt $ pick ! (λ x. split ! $ split ! $ split ! $
     -- [the token; nothing; the bytes; what they say; ..]
     move ! (3 ∷ []) $ pick ! (λ ws'. split3 ! $ drop ! $ move ! (1 ∷ []) $ heard ! _ (λ value. move ! (3 ∷ []) $
