@@ -14,10 +14,12 @@ pub struct RecordDraws {
 /// Events of a record; at all others it is full, and follows the one before.
 const SHORT: u8 = 12;
 
+/// The event of a full record with PSH set.
 pub const PUSHED: u8 = 13;
 
 const EMPTY: u8 = 14;
 
+/// The event of a full record whose sequence number leaves a gap before it.
 pub const JUMPING: u8 = 15;
 
 const FULL: u16 = 1200;

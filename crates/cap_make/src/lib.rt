@@ -14,6 +14,16 @@
 //! make_capture(1, 1000, &mut sink)?;
 //! let mut source = MadeSource::new(1, 1000);
 //! ```
+//!
+//! Tests: `offload_tests`, module `made`.
+//!
+//! Why so:
+//!
+//! - `make` takes at most 10,000,000 records, and `make_capture` and `MadeSource` any number of 32 bits: no clause
+//!   wants the limit.
+//! - **A generated frame is built from its end**, each header as the array of its bytes before what it carries: the
+//!   clauses are concatenations, and no place is counted. A full payload's sum is taken of its bytes, which is fast
+//!   enough.
 #![tactic(auto)]
 
 mod capture;

@@ -34,6 +34,7 @@ impl Model for Maker {
 }
 
 impl Maker {
+    /// Before the first record of this seed.
     pub fn new(seed: u64) -> Self
         ensures first { result ≡ first_next seed }
     {

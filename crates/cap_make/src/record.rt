@@ -40,12 +40,14 @@ impl RecordBytes {
         buffer
     }
 
+    /// Whether it holds no byte.
     pub fn is_empty(&self) -> bool
         ensures empty { IsTrue result ↔ self.now ≡ [] }
     {
         self.bytes().is_empty()
     }
 
+    /// The bytes of the record, at most 1,320.
     pub fn bytes(&self) -> &[u8]
         ensures bytes { result.now ≡ self.now }
         ensures short { length self.now ≤ 1320 }

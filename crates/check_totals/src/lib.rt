@@ -13,6 +13,14 @@
 //! queue 0: records 2 items 1 merged 1 returned 2
 //! total: records 2 items 1 merged 1 returned 2
 //! ```
+//!
+//! Tests: `offload_tests`, module `totals`.
+//!
+//! Why so:
+//!
+//! - **That as many come back as went in is a law, and no evidence** (`returned` of `check_totals` is the packets of
+//!   the queue): the number alone doesn't show that bytes were compared. The clauses `counts` of `round_check`'s inner
+//!   calls do, whatever the packets are, and its tests.
 #![tactic(auto)]
 
 mod laws;

@@ -23,6 +23,14 @@
 //! came before. `did` of `do_all` and of `Works::do_tasks`: each answer is one of its task, in the order of the tasks,
 //! whoever did it and in whatever order. Only tested: that several run at once. Not said: that a thread runs or is
 //! woken; who asks runs tasks itself while it waits, so a run ends without any runner.
+//!
+//! Tests: `buffer_tests`, module `desk`.
+//!
+//! Why so:
+//!
+//! - **What another thread did is known before it ends** (`errands`): by a note that is split off a pass of the ruled
+//!   queue as the task is taken, and joined to the asker's as it comes back. A ring's own rule can't say it: it speaks
+//!   of names that are chosen before the run, and blocks are made while it goes.
 #![tactic(auto)]
 
 mod crew;

@@ -10,6 +10,8 @@
 //!     return TagView::read(frame, 14);
 //! }
 //! ```
+//!
+//! Tests: `header_tests`, module `ethernet`.
 #![tactic(auto)]
 
 mod ethernet;

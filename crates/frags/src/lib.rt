@@ -24,6 +24,22 @@
 //! let mut clone = pieces.share()?;
 //! clone.cut_front(14, &mut outcomes)?;
 //! ```
+//!
+//! Tests: `buffer_tests`, modules `pieces` and `cuts`.
+//!
+//! Why so:
+//!
+//! - **Memory first**: a call that may be refused for memory has it before it moves anything, so that a refusal changes
+//!   nothing. `Pieces::append_all` puts a holder's bytes and other pieces behind at once, and `PieceBuilder` reserves
+//!   its places when it is made; `attach`, `split_at` and `copy` stand on them. `clone` alone leaves a Sole head a part
+//!   of the whole weight when it is refused.
+//! - **The invariant of pieces has each part's weight from 1 to FULL**, so that a part that isn't worn has something to
+//!   give, and both results of a share add up.
+//! - **What was given back stands behind what was there** (`Grows`): of a call's outcomes a caller knows the old ones
+//!   and the number of new ones, and which they are by the account.
+//! - **The account is two functions**, of tests on blocks and lives and of marks, and not a finite map: every sum of it
+//!   is arithmetic. A Sole has no life and counts the whole weight at its block and mark. A call that begins a life
+//!   says it over all lives of a block.
 #![tactic(auto)]
 
 mod builder;

@@ -16,6 +16,37 @@
 //!     let payload = &frame[segment.layout.payload_at()..];
 //! }
 //! ```
+//!
+//! Tests: `header_tests`, modules `layouts`, `datagrams`, `encapsulated` and `queues`.
+//!
+//! Why so:
+//!
+//! - **What `candidate` asks of its caller**: the first bytes and what the partial sum stands for have `len` bytes
+//!   together, the first bytes are the first 200 or all, and bytes are bytes. There is no bound on `len` but that of
+//!   its type: an IPv6 frame of any length may say a payload length of 0, so a candidate has no greatest length. What
+//!   bounds a run and a record is the frame's limit, 262,144 bytes, which stands in the rule of a run and in the
+//!   opening of the record's test. `candidate_in` judges by a layout that is known and the sum of the payload, and
+//!   `candidate` is that: who sums the payload for another reason reads its bytes once. Both read the layout by a
+//!   reference and put it into the description at the end (`mergeable_leaf`): a layout of 40 bytes that is handed from
+//!   call to call is copied at each, and each copy's room is set to zero first, since it has padding. `candidate_in`
+//!   itself is inlined, so that the layout goes from its caller straight into the description.
+//! - **The first 200 bytes tell the flow** (`front` of `key`), and `key_behind` takes a layout that is known, so that
+//!   the headers of a packet that may be merged are walked once.
+//! - **The fields that may differ are one table**, `varying`, as the pictures of the headers have them: what lies
+//!   outside them, the tests, and the code's comparison of the bytes between them follow from it. What two such tables
+//!   have to do with each other (no byte in common, one within the other) is computed.
+//! - **What holds of the headers of every shape is computed** over the 132 lists of headers that there are
+//!   (`all_shapes`): at most two IP headers, the first by place 22, a key of at most 119 bytes, at most one TCP header.
+//! - **A GRE header is one of two layers**, of 4 bytes and of 8 with a key, so that a layer's size is a function of it
+//!   alone. Headers with a sum or a sequence number give no shape: neither could be written again for a merged frame.
+//!   Nor does a protocol type other than IPv4's and IPv6's, a tag's among them.
+//! - **The Toeplitz hash stands twice**: bit by bit, as the definition's parities say, and by two tables of half bytes
+//!   that a key makes once (`HashKey`), 576 numbers each: a third of the time. Both have the same clause.
+//! - **What is hashed is read of the flow's key and not of the frame**, so it is total: for bytes that are no frame's
+//!   key it is what the definition computes. That it is the addresses of the outermost IP header, and the ports of a
+//!   TCP or UDP header directly behind it, is a law over a frame's layers (`rss_is_of_layers`).
+//! - **What isn't read needs no premise.** Neither shape nor key asks that the bytes behind the first 200 are bytes
+//!   (`IsHeadOf`), so a packet that was cut short or has no shape is judged without a look at its payload.
 #![tactic(auto)]
 
 mod candidates;

@@ -21,6 +21,24 @@
 //! }
 //! cutter.release(&mut outcomes);
 //! ```
+//!
+//! Tests: `merge_tests`, module `segmenting`.
+//!
+//! Why so:
+//!
+//! - **What a cutter still gives is a list of frames, and a clause over every such list.** `start` says that the frames
+//!   of the plan's packets are left, `next` that the first of them was given and the others are left. A caller counts
+//!   nothing, and a refusal is one line: the same frames are left.
+//! - **A record's payload is summed once, in the pieces that its segments will have.** The sums of the first 64
+//!   segments and one of all behind them are kept in the plan, 520 bytes and no memory of the heap; the whole sum is
+//!   joined from these. 64 hold each run whose segments have 1,024 bytes or more. Segments beyond are summed again as
+//!   they are cut, so no byte is read more than twice; a vector of all sums would want memory in `check_super`, for
+//!   frames of small segments alone.
+//! - **Each piece weighs at least as much as it has bytes**: that holds at the start, by a least weight of 2,048, and
+//!   each cut inside a piece keeps it, since it takes a byte or more and gives away a 4096th. So no cut ever finds a
+//!   part worn, and the count of earlier cuts comes in nowhere.
+//! - **A frame that is given as it is gets an empty head in the spare's block**, with the record's own head as its
+//!   first piece. So what a cutter gives has one form, and a spare is used up by each frame.
 #![tactic(auto)]
 
 mod cutter;

@@ -12,6 +12,13 @@
 //! let payload = first_payload.joined(second_payload);
 //! merge_headers(&mut headers, layout.headers(), last_flags, payload);
 //! ```
+//!
+//! Tests: `header_tests`, module `filling`.
+//!
+//! Why so:
+//!
+//! - **The merged frame's length isn't an argument** of the call that writes its headers: a partial sum says how many
+//!   bytes it stands for, and the headers end where the payload begins.
 #![tactic(auto)]
 
 ghost use Rattle.std.specs.Prelude.{◌≡◌, ℕ, ◌+◌, ◌<◌, ◌≤◌, ◌^◌, ◌++◌, List, length, take};

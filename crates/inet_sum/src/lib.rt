@@ -12,6 +12,17 @@
 //! sum.add(&[0x03, 0xf4, 0xf5, 0xf6, 0xf7]);
 //! let field = sum.checksum(); // 0x220d
 //! ```
+//!
+//! Tests: `header_tests`, module `checksums`.
+//!
+//! Why so:
+//!
+//! - **Lists of 128 bytes and more are summed by lanes**, sixteen bytes a step, and shorter ones by the plain loop
+//!   alone, which is done before lanes are set up and added together. A lane adds whole numbers of 64 bits and wraps;
+//!   beside it the high halves are added, which tells the low halves from the total, so no carry is lost. Adding both
+//!   halves apart takes a third longer, words swapped into big-endian lanes nearly twice as long, and numbers of 128
+//!   bits in the place of lanes a seventh longer, each at 1,460 bytes. The loop over lanes isn't inlined: where the
+//!   compiler knows the length it unrolls it less.
 #![tactic(auto)]
 
 ghost use Rattle.std.specs.Prelude.{◌≡◌, ℕ, ◌+◌, ◌*◌, ◌/◌, ◌%◌, ◌^◌, ◌<◌, ◌≤◌, List, [], ◌∷◌, ◌++◌, length};

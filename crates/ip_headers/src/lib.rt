@@ -13,6 +13,13 @@
 //!     set_id(copy, 14, next);
 //! }
 //! ```
+//!
+//! Tests: `header_tests`, module `internet`.
+//!
+//! Why so:
+//!
+//! - **A field reader has the short name of the header table** (`ttl`, `tci`, `vni`, `header_sum`), its definition the
+//!   standard's (`time_to_live`, `control`, `network_identifier`, `header_checksum`).
 #![tactic(auto)]
 
 pub mod ip4;

@@ -14,6 +14,15 @@
 //!     progress = next_progress(layout, first, first_len, count - 1, &progress, next, next_len);
 //! }
 //! ```
+//!
+//! Tests: `merge_tests`, module `merging`.
+//!
+//! Why so:
+//!
+//! - **The rule of merging reads first bytes and lengths** (`merge_rule`), and each of its clauses speaks of every
+//!   frame that has these. So frames in one slice and in buffers stand on one rule, and the definition stays one of
+//!   whole frames: `IsNext` is `IsNextBy` at the frames' own lengths, and one lemma, `next_by_head`, carries what was
+//!   judged of heads to all frames.
 #![tactic(auto)]
 
 mod alike;

@@ -14,6 +14,17 @@
 //! let mut source = StdSource::new(rt.stdin());
 //! let count = read_full(&mut source, &mut header)?;
 //! ```
+//!
+//! Tests: `header_tests`, module `sources`.
+//!
+//! Why so:
+//!
+//! - **A fault is answered only where a count rose.** Sources and sinks count their faults, and each clause that speaks
+//!   of a fault says that the count rose in this call. Generic code can't raise it, so a body that gives up is refused.
+//!   A counter that stands at its last value, 2^64 - 1, is read as risen.
+//! - **A listed call of a memory sink** whose write is also refused memory fails by the list, and `refused` stays.
+//! - **Want of memory is std's `AllocError`** in every call below `offload_run` that has no other refusal; beside
+//!   others it is a variant `NoMemory`.
 #![tactic(auto)]
 
 mod feed;

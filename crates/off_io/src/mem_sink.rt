@@ -45,6 +45,7 @@ impl Model for MemSink {
 }
 
 impl MemSink {
+    /// A sink that holds nothing and takes `step` bytes a call; the calls with these numbers, from 0, fail.
     pub fn new(alloc: Global, step: usize, fails: Vec<u64>) -> Self
         requires some { 0 < step }
         ensures made { result ≡ record {

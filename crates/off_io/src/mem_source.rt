@@ -38,6 +38,7 @@ impl Model for MemSource {
 }
 
 impl MemSource {
+    /// A source of these bytes, `step` at most a call; the calls with these numbers, from 0, fail.
     pub fn new(bytes: Vec<u8>, step: usize, fails: Vec<u64>) -> Self
         requires some { 0 < step }
         ensures made { result ≡ record { rest = bytes.items; step = step; fails = fails.items; calls = 0; faults = 0 } }
@@ -53,7 +54,7 @@ impl MemSource {
     }
 }
 
-// Copies a front of `rest`, as much as there is, as fits and as `most` allows.
+/// Copies a front of `rest`, as much as there is, as fits and as `most` allows.
 pub fn copy_front(into: &mut [u8], rest: &[u8], most: usize) -> usize
     ensures count { result ≡ min (min (length rest.now) (length into.new)) most }
     ensures front { take result into.new ≡ take result rest.now }

@@ -21,6 +21,7 @@ impl<R> Model for StdSource<R> {
 }
 
 impl<R: Read> StdSource<R> {
+    /// A source over a reader, with no fault yet.
     pub fn new(inner: R) -> Self
         ensures made { result ≡ record { inner = inner; faults = 0 } }
     {
@@ -60,6 +61,7 @@ impl<W> Model for StdSink<W> {
 }
 
 impl<W: Write> StdSink<W> {
+    /// A sink over a writer, with no fault yet.
     pub fn new(inner: W) -> Self
         ensures made { result ≡ record { inner = inner; faults = 0 } }
     {

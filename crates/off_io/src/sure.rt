@@ -27,6 +27,7 @@ impl Model for SureSource {
 }
 
 impl SureSource {
+    /// A source of these bytes, which never fails.
     pub fn new(bytes: Vec<u8>) -> Self
         ensures made { result ≡ bytes.items }
     {
@@ -51,6 +52,7 @@ impl Source for SureSource {
 pub struct SureSink;
 
 impl SureSink {
+    /// A sink that takes whatever comes, and holds none of it.
     pub fn new() -> Self {
         SureSink
     }

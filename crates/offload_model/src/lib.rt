@@ -15,6 +15,32 @@
 //!
 //! Example: two packets with payloads `abcd` and `ef`, sequence numbers 1000 and 1004 and identifications 100 and 101
 //! become one record of n 2, m 4 and modes 0, whose frame carries `abcdef` (`rows_hold`).
+//!
+//! Tests: rows by computation in `specs/Rows`; `merge_tests` and `round_tests` compare the calls with it.
+//!
+//! Why so:
+//!
+//! - **A write fault and want of memory name the bytes that are gone from the source**: what is written is a front of
+//!   what the command writes of just these bytes.
+//! - **The test of a whole offload record stands above the capture crate.** It needs shapes and sums. `reads_tested` in
+//!   `offload_model` is what a capture of link type 147 reads as with that test among its refusals, and the reader of
+//!   `segment` is proved against it.
+//! - **The model takes any spread of flows over queues**, a function of the key, and not a choice: so the laws hold for
+//!   each choice there may be, and one says that the runs of a round are the same whatever the queues
+//!   (`queues_keep_runs`, `choices_keep_items`).
+//! - **The items of a queue are defined without a loop**: each packet in turn gives the run of its flow's cut that it
+//!   begins, if it does.
+//! - **A run's bound on packets is a condition of its own** (`IsMergeableWithin segs`), beside those on all members
+//!   (`IsMergeable`). What is said of one run (it comes back, it is lawful, its boundaries are kept, it goes through
+//!   one tunnel) needs none. A run that the bound has filled stays the flow's last one in the table, refuses the next
+//!   packet, and that opens the next run.
+//! - **Definitions that must not pass**: `must-fail/` of `maximal_runs` and `offload_model` edits definitions, since
+//!   there is no code in them.
+//! - **One table for all commands**: `Passes` has a row for each of four endings (stopped, read fault, write fault,
+//!   want of memory), over what the command makes of some bytes. A command says that alone (`merging`, `segmenting`);
+//!   the file headers before it are put in front by one law, `records_to_whole`.
+//! - **What is still to come, with the rounds counted on**: `GoesOn from to k gone done` says that the bytes that are
+//!   gone are k rounds, whatever follows. A loop over rounds keeps that and nothing else of the definitions.
 #![tactic(auto)]
 
 mod captures;

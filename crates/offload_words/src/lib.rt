@@ -14,6 +14,12 @@
 //! // Command::Merge(MergeOptions { queues: 1, budget: 16, blocks: 8384, taps: 0, snap: 64, segs: 4096, choice: Choice::Fold,
 //! //     filter: the program of one instruction, whose value is 40 })
 //! ```
+//!
+//! Tests: `offload_tests`, modules `words` and `options`.
+//!
+//! Why so:
+//!
+//! - The command line has a crate of its own, `offload_words`, which `offload_run` offers again.
 #![tactic(auto)]
 
 pub mod check;

@@ -17,6 +17,13 @@
 //!     reader.read_body(&mut frame[..head.captured as usize])?;
 //! }
 //! ```
+//!
+//! Tests: `header_tests`, module `captures`.
+//!
+//! Why so:
+//!
+//! - **What is left at a refused capture** is said as a rest of what was given, and not to the byte: how far a refused
+//!   record was read is the reader's own matter.
 #![tactic(auto)]
 
 mod faults;

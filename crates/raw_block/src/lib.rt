@@ -30,6 +30,21 @@
 //!     Released::Last(_) => ..
 //! }
 //! ```
+//!
+//! Tests: `buffer_tests`, modules `blocks` and `readers`.
+//!
+//! Why so:
+//!
+//! - **Blocks come from the C heap.** `Sole::new` takes the allocator `Global`: a part's last holder frees the block,
+//!   so each part must have the allocator, and a clone of a general allocator may fail. `Global` has no bytes.
+//! - **A block has a name**, a ghost number that lies in it beside its bytes and is owned there, so that two blocks
+//!   have two. Each Sole, part, receipt and sight shows it, and the account counts by it: a Sole that merely has the
+//!   same mark isn't its block's. Receipts and sights hold the number alone; each clause that makes one says that it is
+//!   their part's.
+//! - **Agreement is a clause.** That two parts, or a part and a receipt, of one life have one mark (and parts the same
+//!   bytes) is told where two of them meet: `join`, `add`, `reunite`.
+//! - **The release and the claim don't answer the number that the word held**, but what follows from it. The number is
+//!   in the contract of the private functions that step the word.
 #![tactic(auto)]
 
 mod block;

@@ -59,6 +59,7 @@ impl Part {
         &self.share.content().bytes.bytes
     }
 
+    /// Its weight, from 1 to `FULL`.
     pub fn weight(&self) -> u64
         ensures value { result ≡ self.now.weight }
         ensures range { (0 < result) × (result ≤ full_weight) }
@@ -66,6 +67,7 @@ impl Part {
         self.weight
     }
 
+    /// The mark that its block had as the life began.
     pub fn mark(&self) -> u32
         ensures value { result ≡ self.now.mark }
     {

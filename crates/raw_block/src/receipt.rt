@@ -32,6 +32,7 @@ impl Model for Receipt {
 }
 
 impl Receipt {
+    /// The weight that was given back.
     pub fn weight(&self) -> u64
         ensures value { result ≡ self.now.weight }
         ensures range { (0 < result) × (result < full_weight) }
@@ -39,6 +40,7 @@ impl Receipt {
         self.weight
     }
 
+    /// The mark of the part that was given back.
     pub fn mark(&self) -> u32
         ensures value { result ≡ self.now.mark }
     {

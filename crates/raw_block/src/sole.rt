@@ -111,6 +111,7 @@ impl Sole {
         self.mark = mark;
     }
 
+    /// The number that [`Sole::set_mark`] set.
     pub fn mark(&self) -> u32
         ensures value { result ≡ self.now.mark }
     {

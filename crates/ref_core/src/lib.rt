@@ -16,6 +16,16 @@
 //! machine.step(Event::Share { holder: 1, fresh: 2, give: 5 })?; // Done
 //! machine.step(Event::GiveBack { holder: 2 })?; // Left
 //! ```
+//!
+//! Tests: `buffer_tests`, module `machines`.
+//!
+//! Why so:
+//!
+//! - **The weight machine keeps its holders in a map in insertion order**, whose contract is an equation of lists. So
+//!   the definition stays a list, and a step looks its holder up in constant time. The set machine keeps a plain list
+//!   of pairs, as it is the model.
+//! - **An event's numbers**: blocks, holders and places are `u32`, a given weight is `u64`. A place of 2048 or more and
+//!   a block that the machine doesn't have aren't lawful.
 #![tactic(auto)]
 
 ghost use Rattle.ref_core.specs.Agreement.{MachinesAgree};

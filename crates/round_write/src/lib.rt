@@ -10,6 +10,8 @@
 //! write_record(&mut sink, &file, time, original, None, &segment)?;
 //! write_items(&mut sink, &file, lane, &items)?;
 //! ```
+//!
+//! Tests: `round_tests`, module `writing`.
 #![tactic(auto)]
 
 mod buffer;

@@ -16,6 +16,8 @@
 //!     cut.put_headers(header_bytes, 0, payload_sum);
 //! }
 //! ```
+//!
+//! Tests: `merge_tests`, module `segmenting`.
 #![tactic(auto)]
 
 mod lawful;

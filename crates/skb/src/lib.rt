@@ -44,6 +44,20 @@
 //! clone.pull(14, &mut outcomes)?;
 //! let payload = clone.split_at(1460)?;
 //! ```
+//!
+//! Tests: `buffer_tests`, modules `buffers` and `readers`.
+//!
+//! Why so:
+//!
+//! - **A buffer's value is its head, its range and the list of its pieces**, and not its bytes alone: one equation of
+//!   lists gives bytes, sizes, weights and the account.
+//! - **`copy` takes the last spares in turn**: the last one is the head, with 64 bytes of headroom and up to 1984 of
+//!   the bytes, and each further block has up to 2048.
+//! - **`pull_up` judges by the head alone**: where the first n bytes lie there already the spare comes back, and the
+//!   head may be shared.
+//! - **What drops a buffer may have no outcomes and no memory**: `Skb::free`, `Pieces::free` and `Round::discard`
+//!   release part by part, and free each block whose last holder they were. A round that is given up among its rounds
+//!   goes home instead.
 #![tactic(auto)]
 
 mod attach;

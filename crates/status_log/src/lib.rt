@@ -8,6 +8,13 @@
 //! ```text
 //! log_malformed(&mut log, "ShortRecord", 24, 0);   // malformed: ShortRecord at 24 in record 0
 //! ```
+//!
+//! Tests: `offload_tests`, module `logged`.
+//!
+//! Why so:
+//!
+//! - The log isn't flushed: standard error is unbuffered. A line is put together first and written by one call, so that
+//!   it isn't torn.
 #![tactic(auto)]
 
 ghost use Rattle.std.specs.Prelude.{◌≡◌, ◌++◌, ◌+◌, ◌≤◌, codes, decimal, length};

@@ -13,6 +13,8 @@
 //!     set_seq(copy, 34, next);
 //! }
 //! ```
+//!
+//! Tests: `header_tests`, module `transport`.
 #![tactic(auto)]
 
 pub mod tcp;

@@ -9,6 +9,8 @@
 //!     return Some(tunnel.vni());
 //! }
 //! ```
+//!
+//! Tests: `header_tests`, modules `tunnels` and `encapsulated`.
 #![tactic(auto)]
 
 ghost use Rattle.std.specs.Prelude.{◌≡◌, ◌↔◌, ◌+◌, ◌≤◌, true, length, IsSome, IfSome};
