@@ -15,6 +15,10 @@
 //! let mut source = MadeSource::new(1, 1000);
 //! ```
 //!
+//! Its parts: `draws` (what of a record is drawn), `headers` (each header as the array of its bytes), `record` (a
+//! buffer that is filled from its end, each header pushed before what it carries), `frame`, `maker` (one record after
+//! the other), and on these `capture` and `source`.
+//!
 //! Tests: `offload_tests`, module `made`.
 //!
 //! Why so:

@@ -17,6 +17,12 @@
 //! }
 //! ```
 //!
+//! Its parts: `layout` (the type), `read` (shape), `flow` (the key), `queue` (key and queue of a frame), `front` and
+//! `sums` (a frame known by its first bytes and a sum), `candidates` (candidate), `segment` (what is read of a
+//! candidate), `choice` (the queue by a choice), `rss`, `toeplitz_hash` and `hash_key` (what receive side scaling
+//! hashes, and its hash bit by bit and by tables), `laws`. Its proofs stand on two tables that compute: `Clear` (which
+//! bytes lie outside which fields of a header) and `Listed` (the 132 lists of headers that a shape may have).
+//!
 //! Tests: `header_tests`, modules `layouts`, `datagrams`, `encapsulated` and `queues`.
 //!
 //! Why so:

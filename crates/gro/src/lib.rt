@@ -56,6 +56,13 @@
 //! table.discard();
 //! ```
 //!
+//! Its parts: `candidacy` (a packet judged by its head and its payload's sum), `flows` (the open run of each flow,
+//! under `frame_layout`'s `Key`), `run` (a run, and whether it takes one more packet), `runs` (those of a round, in the
+//! order of their first packets), `table` (`RoundTable`); `places` (the lists that items need, made before anything
+//! moves), `build` (the join into one buffer), `item` (what a run comes to), `shelf` (emptied outcomes that serve items
+//! to come), `release`. `specs/Table.antt` says what a contract sees of a table, `specs/Steps.antt` what one more
+//! packet does, `specs/Index.antt` what is found of a flow, `specs/Items.antt` what an item holds.
+//!
 //! Tests: `merge_tests`, modules `merging` and `home`.
 //!
 //! Why so:

@@ -22,6 +22,10 @@
 //! cutter.release(&mut outcomes);
 //! ```
 //!
+//! Its parts: `sums` (the sums of a payload's segments, taken as its bytes come in pieces), `judging` (`check_super`),
+//! `open` (bytes cut off, with no part worn), `headers` (a segment's headers in a spare), `merged` and `whole` (the two
+//! ways in which a record's frames are given), and on these `cutter`.
+//!
 //! Tests: `merge_tests`, module `segmenting`.
 //!
 //! Why so:

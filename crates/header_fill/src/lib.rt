@@ -13,6 +13,10 @@
 //! merge_headers(&mut headers, layout.headers(), last_flags, payload);
 //! ```
 //!
+//! Its parts: `fill` is the one rule for lengths and sums. Payload bytes are never read: the sum of what is behind a
+//! header is joined from the pseudo header, the header bytes (with the inner headers' new sums) and the payload's sum,
+//! odd pieces swapped.
+//!
 //! Tests: `header_tests`, module `filling`.
 //!
 //! Why so:

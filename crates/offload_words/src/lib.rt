@@ -15,6 +15,10 @@
 //! //     filter: the program of one instruction, whose value is 40 })
 //! ```
 //!
+//! Its parts: `commands` tells clap the command set, `merge`, `segment`, `check` and `make` have a subcommand each,
+//! `numbers` the options with one number, `words` the top call. `OptionRows`, `OptionNumbers` and `Subcommands` in
+//! `proofs/` hold for any command set whose arguments are options with one value.
+//!
 //! Tests: `offload_tests`, modules `words` and `options`.
 //!
 //! Why so:

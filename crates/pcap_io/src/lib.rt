@@ -18,6 +18,10 @@
 //! }
 //! ```
 //!
+//! Its parts: the definition of a capture is one function by recursion on the bytes (`records_from`), and each test
+//! that may refuse a header or a record is a row of a table, read by the first row that holds. A reader is a source
+//! that it borrows and a place; what is still to be read from here is `found_at place bytes`.
+//!
 //! Tests: `header_tests`, module `captures`.
 //!
 //! Why so:

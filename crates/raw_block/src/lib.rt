@@ -31,6 +31,9 @@
 //! }
 //! ```
 //!
+//! Its parts: `block` (layout), `name` (a ghost number that only one block owns), `heap` (a box as its address), `held`
+//! (the core that is proved by hand), and on top of them, in safe code, `sole`, `part`, `receipt`.
+//!
 //! Tests: `buffer_tests`, modules `blocks` and `readers`.
 //!
 //! Why so:

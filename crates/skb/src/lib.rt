@@ -45,6 +45,12 @@
 //! let payload = clone.split_at(1460)?;
 //! ```
 //!
+//! Its parts: a buffer is seen as its head, its range and the list of its pieces; bytes, sizes, weights and the account
+//! follow from one equation of lists. `skb` (the type, and what is read of it), `ends` (`push`, `put_tail`, `pull`,
+//! `trim`), `sharing` (`clone`, `unshare`), `attach`, `heads` and `lend` (what becomes of a head), `pull_up`, `cut`
+//! (`split_at`), `moving` (`move_into`), `copy`, `checksum` (`sum_from`). `specs/Fronts.antt` says what merging and
+//! segmenting ask of first bytes and write as such.
+//!
 //! Tests: `buffer_tests`, modules `buffers` and `readers`.
 //!
 //! Why so:
