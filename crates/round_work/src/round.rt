@@ -17,12 +17,10 @@ use crate::fill::{add_taps, give_all_up, open_queues, weigh};
 use crate::lanes::{Lanes, QueueLane, TapLane};
 use crate::plan::Plan;
 use crate::share::share_out;
-use crate::work::{run_all, run_in_turn};
+use crate::works::Works;
 use gro::Packet;
-use off_io::Gate;
 use std::alloc::{AllocError, Global};
 use std::collections::VecDeque;
-use std::thread::Threads;
 
 // The lanes get what they have to do: first the memory, then the clones, then the packets. Where memory is refused, what isn't in
 // `packets` any more is in the lanes.
@@ -126,18 +124,16 @@ fn finish(lanes: Lanes) -> Result<Lanes, (Lanes, AllocError)>
     }
 }
 
-/// The work of a round. Each packet goes to the queue of its flow; each tap is given a clone of every packet before any worker
-/// starts; and each worker and each tap is a leaf of one tree of joins, which passes the gate at point 0 before its work and at
-/// point 1 after it. Where there is one queue and no tap, no thread is started. One clone of each packet may have been kept before,
-/// by [`keep_packets`](crate::keep_packets).
+/// The work of a round, by whoever works its lanes. Each packet goes to the queue of its flow; each tap is given a clone of every
+/// packet before any worker starts; and each worker and each tap passes the gate at point 0 before its work and at point 1 after it.
+/// One clone of each packet may have been kept before, by [`keep_packets`](crate::keep_packets).
 ///
 /// For want of memory the lanes come back as far as they got, and what isn't in `packets` any more is in them.
-pub fn work_packets<R: Threads + Sync, G: Gate + Sync>(
-    rt: &R,
+pub fn work_packets<W: Works>(
+    works: &mut W,
     alloc: Global,
     packets: &mut VecDeque<Packet>,
     plan: &Plan,
-    gate: &G,
 ) -> Result<Lanes, (Lanes, AllocError)>
     requires plan { IsPlan plan.now }
     requires held { AreHeld packets.old.items }
@@ -156,35 +152,6 @@ pub fn work_packets<R: Threads + Sync, G: Gate + Sync>(
     ensures clones { MatchResult result (λ l. All (λ t. t.clones.items ≡ []) l.taps.items) (λ e. All (λ t. t.clones.items ≡ []) e.0.taps.items) }
 {
     let mut lanes = begin(alloc, packets, plan)?;
-    run_all(rt, gate, plan, &mut lanes.queues, &mut lanes.taps);
-    finish(lanes)
-}
-
-/// The work of a round as [`work_packets`] does it, with every lane in the thread that calls, queue after queue and then tap after
-/// tap: for callers that may start no thread. Each lane passes the gate at the same points.
-pub fn work_packets_alone<G: Gate>(
-    alloc: Global,
-    packets: &mut VecDeque<Packet>,
-    plan: &Plan,
-    gate: &G,
-) -> Result<Lanes, (Lanes, AllocError)>
-    requires plan { IsPlan plan.now }
-    requires held { AreHeld packets.old.items }
-    requires shared { AreShared packets.old.items }
-    requires weighs { WeighAtLeast (weight_after 1) packets.old.items }
-    requires rising { RiseFrom 0 (map packet_of packets.old.items) }
-    requires few { counts_of packets.old.items ≤ 65536 }
-    ensures lanes { IfOk result (λ l. AreMerged plan.now.segs (spread_of plan.now) plan.now.queues (map packet_of packets.old.items) l.queues.items) }
-    ensures windows { IfOk result (λ l. AreWatched plan.now.snap plan.now.taps (shown_by plan.now (map packet_of packets.old.items)) l.taps.items) }
-    ensures records { IfOk result (λ l. (budget : ℕ) → lane_records l ≡ round_records (options_by plan.now budget) (map packet_of packets.old.items)) }
-    ensures ready { IfOk result (λ l. All (λ q. AreReady q.items.items) l.queues.items) }
-    ensures weigh { IfOk result (λ l. All (λ q. ItemsWeighAtLeast 2048 q.items.items) l.queues.items) }
-    ensures all { IfOk result (λ l. (packets.new.items ≡ []) × All (λ q. q.packets.items ≡ []) l.queues.items) }
-    ensures kept { MatchResult result (λ l. Keeps (of_packets packets.old.items) (of_lanes l)) (λ e. Keeps (of_packets packets.old.items) (both (of_packets packets.new.items) (of_lanes e.0))) }
-    ensures count { MatchResult result (λ l. counts_of_queues l.queues.items ≤ counts_of packets.old.items) (λ e. counts_of packets.new.items + counts_of_queues e.0.queues.items ≤ counts_of packets.old.items) }
-    ensures clones { MatchResult result (λ l. All (λ t. t.clones.items ≡ []) l.taps.items) (λ e. All (λ t. t.clones.items ≡ []) e.0.taps.items) }
-{
-    let mut lanes = begin(alloc, packets, plan)?;
-    run_in_turn(gate, plan, &mut lanes.queues, &mut lanes.taps);
+    works.run_lanes(plan, &mut lanes);
     finish(lanes)
 }
