@@ -93,6 +93,13 @@ impl Pool {
         ensures same { (self.new.made ≡ self.old.made) × (self.new.taken ≡ self.old.taken) }
         ensures from { (from.new.made ≡ from.old.made) × (from.new.taken ≡ from.old.taken) }
     {
+        // Where all have a place, they come by one move of memory.
+        if self.home() + from.home() <= self.made() {
+            let Ok(()) = self.blocks.append(&mut from.blocks) else {
+                unreachable!()
+            };
+            return;
+        }
         while self.home() < self.made() {
             match from.last() {
                 Some(block) => self.put(block),
