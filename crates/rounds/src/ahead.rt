@@ -22,8 +22,9 @@ use crate::reading::{Halt, read_more};
 use crate::round::{ReadAhead, Round, RoundEnd, RoundRead, Worked};
 use crate::rounds::{Rounds, no_round};
 use core::mem::replace;
-use off_io::{Gate, Source};
+use off_io::Source;
 use pcap_io::CaptureReader;
+use round_work::Works;
 use std::alloc::AllocError;
 use std::collections::VecDeque;
 use std::thread::{Threads, join_mut};
@@ -73,12 +74,12 @@ fn read_apart<R: Sync, S: Source>(
     }
 }
 
-// Works the round that lies there.
-fn work_apart<R: Threads + Sync, G: Gate + Sync>(
-    rt: &R,
+// Works the round that lies there. The runtime goes with it as with the side that reads.
+fn work_apart<R: Sync, W: Works>(
+    _rt: &R,
+    works: &mut W,
     rounds: &mut Rounds,
     round: &mut Round,
-    gate: &G,
 ) -> Result<Worked, AllocError>
     requires out { rounds.old.home + round.old.blocks ≤ rounds.old.blocks }
     ensures records { IfOk result (λ worked. worked_records worked ≡ round_records (options_of rounds.old) (map packet_of round.old.packets)) }
@@ -94,17 +95,17 @@ fn work_apart<R: Threads + Sync, G: Gate + Sync>(
         end: _,
     } = no_round(rounds.alloc);
     let taken = replace(round, none);
-    rounds.work_round(rt, taken, gate)
+    rounds.work_round(works, taken)
 }
 
-// One side reads, in a thread of its own, and the other works.
-fn work_beside<'a, R: Threads + Sync, S: Source + Send, G: Gate + Sync>(
+// One side reads, in a thread of its own, and the other works here.
+fn work_beside<'a, R: Threads + Sync, W: Works, S: Source + Send>(
     rt: &'a R,
+    works: &'a mut W,
     rounds: &'a mut Rounds,
     round: &'a mut Round,
     intake: &'a mut Intake,
     reader: &'a mut CaptureReader<'_, S>,
-    gate: &'a G,
 ) -> (ReadAhead, Result<Worked, AllocError>)
     requires ready { IsReady (place_of reader.old) }
     requires link { (place_of reader.old).link ≡ Ethernet }
@@ -156,7 +157,7 @@ fn work_beside<'a, R: Threads + Sync, S: Source + Send, G: Gate + Sync>(
             ensures spent { round.exit.now.packets ≡ [] }
             ensures home { rounds.exit.now.home + blocks_out result ≡ rounds.entry.now.home + round.entry.now.blocks }
             ensures same { (rounds.exit.now.blocks ≡ rounds.entry.now.blocks) × (options_of rounds.exit.now ≡ options_of rounds.entry.now) × (rounds.exit.now.keep ≡ rounds.entry.now.keep) }
-        { work_apart(rt, rounds, round, gate) },
+        { work_apart(rt, works, rounds, round) },
     )
 }
 
@@ -164,12 +165,12 @@ impl Rounds {
     /// Works a round, and reads the next one beside it: `work_round` and `read_round` at once, the reading in a thread of its own. The
     /// blocks of the round that is worked stay out, so the next one may have to wait for them: it is then paused between two records. For
     /// want of memory for two sides the round is worked all the same, and of the next one nothing is read.
-    pub fn work_and_read<R: Threads + Sync, S: Source + Send, G: Gate + Sync>(
+    pub fn work_and_read<R: Threads + Sync, W: Works, S: Source + Send>(
         &mut self,
         rt: &R,
+        works: &mut W,
         round: Round,
         reader: &mut CaptureReader<'_, S>,
-        gate: &G,
     ) -> (Result<Worked, AllocError>, ReadAhead)
         requires ready { IsReady (place_of reader.old) }
         requires link { (place_of reader.old).link ≡ Ethernet }
@@ -196,12 +197,12 @@ impl Rounds {
         let mut intake = match self.split() {
             Ok(intake) => intake,
             Err(_) => return (
-                self.work_round(rt, round, gate),
+                self.work_round(works, round),
                 ReadAhead::Read(no_round(self.alloc)),
             ),
         };
         let mut round = round;
-        let (read, worked) = work_beside(rt, self, &mut round, &mut intake, reader, gate);
+        let (read, worked) = work_beside(rt, works, self, &mut round, &mut intake, reader);
         let Round { packets, blocks: _ } = round;
         packets.destroy_empty();
         self.join(intake);

@@ -16,11 +16,10 @@ use crate::round::{Round, Worked};
 use crate::rounds::{Rounds, no_lanes};
 use core::mem::replace;
 use gro::Packet;
-use off_io::{Gate, Who};
-use round_work::{Lanes, keep_packets, merge_packets, work_packets, work_packets_alone};
+use off_io::Who;
+use round_work::{Lanes, Works, keep_packets, merge_packets, work_packets};
 use std::alloc::AllocError;
 use std::collections::VecDeque;
-use std::thread::Threads;
 use taps::TapClone;
 
 // A round before the work of its lanes: its packets, and a clone of each where they are kept.
@@ -60,7 +59,7 @@ impl Rounds {
     }
 
     // Merges the packets of a round in one queue.
-    fn merge_round<G: Gate>(&mut self, round: Round, gate: &G) -> Result<Worked, AllocError>
+    fn merge_round<W: Works>(&mut self, works: &W, round: Round) -> Result<Worked, AllocError>
         requires out { self.old.home + round.blocks ≤ self.old.blocks }
         requires plain { (self.old.plan.queues ≡ 1) × (self.old.plan.taps ≡ 0) }
         ensures records { IfOk result (λ worked. worked_records worked ≡ round_records (options_of self.old) (map packet_of round.packets)) }
@@ -73,10 +72,10 @@ impl Rounds {
             mut packets,
             blocks,
         } = round;
-        gate.pass(Who::Worker(0), 0);
+        works.pass(Who::Worker(0), 0);
         let mut items = replace(&mut self.items, Vec::new(self.alloc));
         let merged = merge_packets(&mut self.table, &mut packets, &mut items, &mut self.out);
-        gate.pass(Who::Worker(0), 1);
+        works.pass(Who::Worker(0), 1);
         let lanes = no_lanes(self.alloc);
         let kept = Vec::new(self.alloc);
         match merged {
@@ -168,14 +167,13 @@ impl Rounds {
     }
 
     /// Works a round: queue by queue what the runs of its flows come to, in the order of their first packets, and tap by tap
-    /// the windows of what is shown of the packets as they were read. Each queue and each tap is a leaf of one tree of
-    /// joins, which passes the gate at point 0 before its work and at point 1 after it; one queue alone is worked in the
-    /// thread that calls. For want of memory all blocks of the round are home.
-    pub fn work_round<R: Threads + Sync, G: Gate + Sync>(
+    /// the windows of what is shown of the packets as they were read. Whoever works runs the lanes, and each lane passes its
+    /// gate at point 0 before its work and at point 1 after it; one queue alone is worked here. For want of memory all blocks
+    /// of the round are home.
+    pub fn work_round<W: Works>(
         &mut self,
-        rt: &R,
+        works: &mut W,
         round: Round,
-        gate: &G,
     ) -> Result<Worked, AllocError>
         requires out { self.old.home + round.blocks ≤ self.old.blocks }
         ensures records { IfOk result (λ worked. worked_records worked ≡ round_records (options_of self.old) (map packet_of round.packets)) }
@@ -186,32 +184,10 @@ impl Rounds {
         ensures home { OnErr result (self.new ≡ record self.old { home = self.old.home + round.blocks }) }
     {
         if self.is_plain() {
-            return self.merge_round(round, gate);
+            return self.merge_round(works, round);
         }
         let mut kept = self.keep_round(round)?;
-        let lanes = work_packets(rt, self.alloc, &mut kept.packets, &self.plan, gate);
-        self.settle(kept, lanes)
-    }
-
-    /// The same, with the work of every queue and tap in the thread that calls.
-    pub fn work_round_alone<G: Gate>(
-        &mut self,
-        round: Round,
-        gate: &G,
-    ) -> Result<Worked, AllocError>
-        requires out { self.old.home + round.blocks ≤ self.old.blocks }
-        ensures records { IfOk result (λ worked. worked_records worked ≡ round_records (options_of self.old) (map packet_of round.packets)) }
-        ensures checked { self.old.keep ≡ true → IfOk result (λ worked. IsKeptWorkOf (options_of self.old) (map packet_of round.packets) worked) }
-        ensures ready { IfOk result (λ worked. AreReady worked.items × All (λ lane. AreReady lane.items.items) worked.lanes.queues.items) }
-        ensures worked { IfOk result (λ worked. worked.blocks ≡ round.blocks) }
-        ensures same { OnOk result (self.new ≡ self.old) }
-        ensures home { OnErr result (self.new ≡ record self.old { home = self.old.home + round.blocks }) }
-    {
-        if self.is_plain() {
-            return self.merge_round(round, gate);
-        }
-        let mut kept = self.keep_round(round)?;
-        let lanes = work_packets_alone(self.alloc, &mut kept.packets, &self.plan, gate);
+        let lanes = work_packets(works, self.alloc, &mut kept.packets, &self.plan);
         self.settle(kept, lanes)
     }
 }

@@ -13,13 +13,16 @@
 //! of the bytes behind them. The last 4 bytes of a header of version 2 so stand in the first block, in front of the frame,
 //! until the header is taken off.
 //!
+//! Who works the lanes of a round, the thread that calls or others with it, is told by [`Works`](round_work::Works): each call that
+//! works a round is one over whoever works.
+//!
 //! Proved, by the names of the clauses of [`Rounds`]:
 //!
 //! - `given` of `read_round`: the packets are the next ones of the capture, and the end is told by its bytes alone; `PoolEmpty` exactly
 //!   where the round's need first exceeds the blocks, with that need, judged by the record's header.
 //! - `records` of `work_round`: the records that are written of the round are those of the model, queue by queue what the
 //!   maximal runs of each flow come to, in the order of their first packets, and then tap by tap its windows of what is
-//!   shown of the packets as they were read, whatever the order in which the lanes run; of `work_round_alone` the same.
+//!   shown of the packets as they were read, whoever works the lanes and whatever the order in which they run.
 //!   `checked`: where clones are kept, all that a comparison of the items with the packets wants to know.
 //! - `totals` of `check_round`: what is counted where each segment of the items is compared with the packet of its flow at that place, of
 //!   which a clone was kept: that all come back, byte for byte.
@@ -28,7 +31,7 @@
 //!   `work_round` wants memory, all of the round.
 //! - `need`, `taken`, `most`: the blocks that are out are what the packets need, and `taken` rises by at least as many; it
 //!   never falls, however merging ends (`least`).
-//! - `given` of `merge_all` and `merge_all_alone`: what is written, and where it stops, is what the model makes of the capture's bytes
+//! - `given` of `merge_all`: what is written, and where it stops, is what the model makes of the capture's bytes
 //!   (`merging` of `offload_model`) with all options, whole rounds alone; a round that exceeds the blocks is told by its number and its need. After a fault, or want
 //!   of memory, it is that of the bytes that are gone, or a front of it. All blocks are home whatever the ending (`home`).
 //! - `sum`, `home` of [`Intake`] and of `put_read`, `hand_home`, `bring_home`, `join`: where one side reads and another works no block is
@@ -51,13 +54,13 @@
 //! less than the whole. So where a mark's Sole isn't home something would still be held, and nothing is.
 //!
 //! Memory is taken in [`Rounds::make`] and [`SegmentRun::make`], and for lists of pieces: by a record of more than 1,984 bytes, and by
-//! each segment of a merged one. Where one queue is all there is, no thread and no lane is made; else each round takes memory for its
+//! each segment of a merged one. Where one queue is all there is, no lane is made; else each round takes memory for its
 //! lanes, and for the clones that are kept.
 //!
 //! ```
 //! let plan = Plan { queues: 4, taps: 1, snap: 64, choice: Choice::Fold, segs: 4096, filter: None };
 //! let mut rounds = Rounds::make(alloc, blocks, 64, plan, false)?;
-//! let end = rounds.merge_all(&rt, &mut reader, &file, &mut sink, &gate);
+//! let end = rounds.merge_all(&mut Alone { gate: &NoGate }, &mut reader, &file, &mut sink);
 //! ```
 #![tactic(auto)]
 

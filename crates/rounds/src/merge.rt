@@ -16,10 +16,10 @@ ghost use Rattle.rounds.specs.Merging.{ending_of, options_of, is_worked, Puts, G
 
 use crate::Rounds;
 use crate::round::{Round, RoundEnd, RoundRead, Worked, is_worked};
-use off_io::{Failed, Gate, Sink, Source, WriteFault};
+use off_io::{Failed, Sink, Source, WriteFault};
 use pcap_io::{CapFault, CaptureReader, FileHead};
+use round_work::Works;
 use std::alloc::AllocError;
-use std::thread::Threads;
 
 /// How merging ended.
 #[derive(Clone, Copy, Debug, PartialEq, Eq)]
@@ -139,13 +139,12 @@ impl Rounds {
 
     /// Works and writes a round that was read, behind `number` others, and brings it home. One that exceeds the blocks or that there
     /// was no memory for is given up: nothing is written of it.
-    pub fn put_read<R: Threads + Sync, K: Sink, G: Gate + Sync>(
+    pub fn put_read<W: Works, K: Sink>(
         &mut self,
-        rt: &R,
+        works: &mut W,
         read: RoundRead,
         file: &FileHead,
         sink: &mut K,
-        gate: &G,
         number: u64,
     ) -> Step
         requires out { self.old.home + read.round.blocks ≤ self.old.blocks }
@@ -160,43 +159,17 @@ impl Rounds {
         if !is_worked(end) {
             return Step::Ends(self.give_up(round, end, sink, number));
         }
-        let worked = self.work_round(rt, round, gate);
-        self.put_round(worked, end, file, sink)
-    }
-
-    // The same in the thread that calls.
-    fn put_read_alone<K: Sink, G: Gate>(
-        &mut self,
-        read: RoundRead,
-        file: &FileHead,
-        sink: &mut K,
-        gate: &G,
-        number: u64,
-    ) -> Step
-        requires out { self.old.home + read.round.blocks ≤ self.old.blocks }
-        ensures puts { is_worked read.end ≡ true → Puts (K.held sink.old) (K.held sink.new) (round_output (options_of self.old) file.now.order (map packet_of read.round.packets)) read.end result }
-        ensures gives { is_worked read.end ≡ false → (end : MergeEnd) × (result ≡ Step.Ends end) × GivesUp (K.held sink.old) (K.held sink.new) number read.end end }
-        ensures flushed { IfEnds result (λ end. flushes (ending_of end) ≡ true → SaysFlushed (K.held sink.new) (K.is_flushed sink.new) true) }
-        ensures home { self.new ≡ record self.old { home = self.old.home + read.round.blocks } }
-        ensures later { K.faults sink.old ≤ K.faults sink.new }
-        ensures rose { IfEnds result (λ end. end ≡ MergeEnd.WriteFault → Rose (K.faults sink.old) (K.faults sink.new)) }
-    {
-        let RoundRead { round, end } = read;
-        if !is_worked(end) {
-            return Step::Ends(self.give_up(round, end, sink, number));
-        }
-        let worked = self.work_round_alone(round, gate);
+        let worked = self.work_round(works, round);
         self.put_round(worked, end, file, sink)
     }
 
     /// Reads the next round, behind `number` others, works it and puts it. Of a round that exceeds the blocks nothing is written.
-    pub fn step<R: Threads + Sync, S: Source, K: Sink, G: Gate + Sync>(
+    pub fn step<W: Works, S: Source, K: Sink>(
         &mut self,
-        rt: &R,
+        works: &mut W,
         reader: &mut CaptureReader<'_, S>,
         file: &FileHead,
         sink: &mut K,
-        gate: &G,
         number: u64,
     ) -> Step
         requires ready { IsReady (place_of reader.old) }
@@ -219,39 +192,7 @@ impl Rounds {
         ensures write { IfEnds result (λ end. end ≡ MergeEnd.WriteFault → Rose (K.faults sink.old) (K.faults sink.new)) }
     {
         let read = self.read_round(reader);
-        self.put_read(rt, read, file, sink, gate, number)
-    }
-
-    // The same in the thread that calls.
-    fn step_alone<S: Source, K: Sink, G: Gate>(
-        &mut self,
-        reader: &mut CaptureReader<'_, S>,
-        file: &FileHead,
-        sink: &mut K,
-        gate: &G,
-        number: u64,
-    ) -> Step
-        requires ready { IsReady (place_of reader.old) }
-        requires link { (place_of reader.old).link ≡ Ethernet }
-        requires file { (place_of reader.old).file ≡ file.now }
-        requires home { self.old.home ≡ self.old.blocks }
-        ensures same_source { SameLoan reader.old reader.new }
-        ensures given { Told (S.left (source_of reader.old)) (S.left (source_of reader.new)) (Steps number self.old.blocks (options_of self.old) (place_of reader.old) (place_of reader.new) (K.held sink.old) (K.held sink.new) self.old.taken self.new.taken result) }
-        ensures front { IfEnds result (λ _. FrontUnless (Rose (S.faults (source_of reader.old)) (S.faults (source_of reader.new))) (merging self.old.blocks (options_of self.old) (place_of reader.old)) (S.left (source_of reader.old)) (S.left (source_of reader.new)) (K.held sink.old) (K.held sink.new)) }
-        ensures moves { result ≡ Step.Goes → MovesOn (place_of reader.old) (place_of reader.new) }
-        ensures flushed { IfEnds result (λ end. flushes (ending_of end) ≡ true → SaysFlushed (K.held sink.new) (K.is_flushed sink.new) true) }
-        ensures home { self.new.home ≡ self.new.blocks }
-        ensures same { (self.new.blocks ≡ self.old.blocks) × (options_of self.new ≡ options_of self.old) × (self.new.keep ≡ self.old.keep) }
-        ensures taken { IfEnds result (λ end. end ≡ MergeEnd.Done → Told (S.left (source_of reader.old)) (S.left (source_of reader.new)) (TakesAll self.old.taken self.new.taken (place_of reader.old))) }
-        ensures least { self.old.taken ≤ self.new.taken }
-        ensures captured { IfEnds result (λ end. Told (S.left (source_of reader.old)) (S.left (source_of reader.new)) (EndsCaptured number (place_of reader.old) end)) }
-        ensures later { S.faults (source_of reader.old) ≤ S.faults (source_of reader.new) }
-        ensures later_sink { K.faults sink.old ≤ K.faults sink.new }
-        ensures read { IfEnds result (λ end. end ≡ MergeEnd.ReadFault → Rose (S.faults (source_of reader.old)) (S.faults (source_of reader.new))) }
-        ensures write { IfEnds result (λ end. end ≡ MergeEnd.WriteFault → Rose (K.faults sink.old) (K.faults sink.new)) }
-    {
-        let read = self.read_round(reader);
-        self.put_read_alone(read, file, sink, gate, number)
+        self.put_read(works, read, file, sink, number)
     }
 
     /// Merges the records of a capture, round by round, up to its end: each round is read, worked, written and ended. The sink is
@@ -260,13 +201,12 @@ impl Rounds {
     /// `given` says of each ending what was read and written, `front` that this is a front of what comes of all the bytes that were
     /// given, unless the source failed, and `captured` that the packets are such as a capture may hold. A read
     /// fault or a write fault only where the count of the source or the sink rose. All blocks are home again, whatever the ending.
-    pub fn merge_all<R: Threads + Sync, S: Source, K: Sink, G: Gate + Sync>(
+    pub fn merge_all<W: Works, S: Source, K: Sink>(
         &mut self,
-        rt: &R,
+        works: &mut W,
         reader: &mut CaptureReader<'_, S>,
         file: &FileHead,
         sink: &mut K,
-        gate: &G,
     ) -> MergeEnd
         requires ready { IsReady (place_of reader.old) }
         requires link { (place_of reader.old).link ≡ Ethernet }
@@ -288,42 +228,7 @@ impl Rounds {
     {
         let mut number = 0;
         'rounds: loop {
-            match self.step(rt, reader, file, sink, gate, number) {
-                Step::Goes => number += 1,
-                Step::Ends(end) => return end,
-            }
-        }
-    }
-
-    /// The same, with the work of every queue and tap in the thread that calls.
-    pub fn merge_all_alone<S: Source, K: Sink, G: Gate>(
-        &mut self,
-        reader: &mut CaptureReader<'_, S>,
-        file: &FileHead,
-        sink: &mut K,
-        gate: &G,
-    ) -> MergeEnd
-        requires ready { IsReady (place_of reader.old) }
-        requires link { (place_of reader.old).link ≡ Ethernet }
-        requires file { (place_of reader.old).file ≡ file.now }
-        requires home { self.old.home ≡ self.old.blocks }
-        ensures same_source { SameLoan reader.old reader.new }
-        ensures given { Told (S.left (source_of reader.old)) (S.left (source_of reader.new)) (Passes (merging self.old.blocks (options_of self.old) (place_of reader.old)) (K.held sink.old) (K.held sink.new) (ending_of result)) }
-        ensures front { FrontUnless (Rose (S.faults (source_of reader.old)) (S.faults (source_of reader.new))) (merging self.old.blocks (options_of self.old) (place_of reader.old)) (S.left (source_of reader.old)) (S.left (source_of reader.new)) (K.held sink.old) (K.held sink.new) }
-        ensures flushed { flushes (ending_of result) ≡ true → SaysFlushed (K.held sink.new) (K.is_flushed sink.new) true }
-        ensures home { self.new.home ≡ self.new.blocks }
-        ensures same { (self.new.blocks ≡ self.old.blocks) × (options_of self.new ≡ options_of self.old) × (self.new.keep ≡ self.old.keep) }
-        ensures taken { result ≡ MergeEnd.Done → Told (S.left (source_of reader.old)) (S.left (source_of reader.new)) (λ bytes left. min (self.old.taken + round_need (found_at (place_of reader.old) bytes).packets) (2 ^ 64 - 1) ≤ self.new.taken) }
-        ensures least { self.old.taken ≤ self.new.taken }
-        ensures captured { Told (S.left (source_of reader.old)) (S.left (source_of reader.new)) (HoldsCaptured self.old.blocks self.old.budget (place_of reader.old) result) }
-        ensures later { S.faults (source_of reader.old) ≤ S.faults (source_of reader.new) }
-        ensures later_sink { K.faults sink.old ≤ K.faults sink.new }
-        ensures read { result ≡ MergeEnd.ReadFault → Rose (S.faults (source_of reader.old)) (S.faults (source_of reader.new)) }
-        ensures write { result ≡ MergeEnd.WriteFault → Rose (K.faults sink.old) (K.faults sink.new) }
-    {
-        let mut number = 0;
-        'rounds: loop {
-            match self.step_alone(reader, file, sink, gate, number) {
+            match self.step(works, reader, file, sink, number) {
                 Step::Goes => number += 1,
                 Step::Ends(end) => return end,
             }
