@@ -6,7 +6,7 @@ ghost use Rattle.offload_model.specs.Written.{shown_bytes, window_of};
 ghost use Rattle.skb.specs.SkbState.{buffer_bytes, buffer_size, of_buffer};
 ghost use Rattle.taps.specs.Clones.{blocks_of, of_clones};
 
-use crate::frame::SkbFrame;
+use crate::frame::value_on;
 use frags::Outcomes;
 use skb::Skb;
 use tap_filter::Program;
@@ -35,10 +35,7 @@ impl TapClone {
         let len = self.skb.len();
         match filter {
             None => len,
-            Some(program) => {
-                let frame = SkbFrame::new(&self.skb);
-                (program.value(&frame) as usize).min(len)
-            }
+            Some(program) => (value_on(program, &self.skb) as usize).min(len),
         }
     }
 

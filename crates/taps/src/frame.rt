@@ -1,14 +1,35 @@
 //! A buffer's bytes, as a filter reads them.
-ghost use Rattle.std.specs.Prelude.{◌≡◌, ◌<◌, ◌^◌, length};
+ghost use Rattle.std.specs.Prelude.{◌≡◌, ◌<◌, ◌^◌, length, Some};
 ghost use Rattle.skb.specs.SkbState.{buffer_bytes, buffer_size, head_bytes};
+ghost use Rattle.tap_filter.specs.Meaning.{value_of};
 
 use net_bytes::{be16, be32};
 use skb::Skb;
-use tap_filter::Bytes;
+use tap_filter::{Bytes, Program};
+
+/// A program's value on a buffer's bytes. Most frames lie whole in the head, and loads there are the cheapest.
+pub(crate) fn value_on(program: &Program, skb: &Skb) -> u32
+    ensures value { value_of program.now (buffer_bytes skb.now) ≡ Some result }
+{
+    let head = skb.head();
+    if head.len() == skb.len() {
+        program.value(&head)
+    } else {
+        value_in_pieces(program, skb)
+    }
+}
+
+#[cold]
+#[inline(never)]
+fn value_in_pieces(program: &Program, skb: &Skb) -> u32
+    ensures value { value_of program.now (buffer_bytes skb.now) ≡ Some result }
+{
+    program.value(&SkbFrame::new(skb))
+}
 
 /// A buffer, with its head at hand: headers mostly lie there, and other bytes are asked for one by one.
 #[derive(Drop)]
-pub(crate) struct SkbFrame<'a> {
+struct SkbFrame<'a> {
     skb: &'a Skb,
     head: &'a [u8],
     len: usize,
@@ -18,7 +39,7 @@ pub(crate) struct SkbFrame<'a> {
 }
 
 impl<'a> SkbFrame<'a> {
-    pub(crate) fn new(skb: &'a Skb) -> SkbFrame<'a>
+    fn new(skb: &'a Skb) -> SkbFrame<'a>
         ensures skb { result.skb.now ≡ skb.entry.now }
         ensures small { length (buffer_bytes result.skb.now) < 2 ^ 32 }
     {
