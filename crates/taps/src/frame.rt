@@ -8,6 +8,7 @@ use skb::Skb;
 use tap_filter::{Bytes, Program};
 
 /// A program's value on a buffer's bytes. Most frames lie whole in the head, and loads there are the cheapest.
+#[inline(never)]
 pub(crate) fn value_on(program: &Program, skb: &Skb) -> u32
     ensures value { value_of program.now (buffer_bytes skb.now) ≡ Some result }
 {
