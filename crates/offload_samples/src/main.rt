@@ -6,7 +6,7 @@
 //! lines in the log.
 //!
 //! It is run by the gate, which compares the lines with `stdout`. The counts and hashes of merging come from
-//! `contrib/merge_by_definition`, a slow program that was written from the definitions alone and judges all members of
+//! `contrib/by_definition`, a slow program that was written from the definitions alone and judges all members of
 //! a run at once.
 #![tactic(auto)]
 

@@ -1,7 +1,7 @@
 //! Rows of UDP datagrams and of GRE tunnels: the records that `merge` writes of them, as in [`crate::rows`], and what
 //! comes back.
 //!
-//! The numbers were worked out by hand, and the hashes are those of `contrib/merge_by_definition`.
+//! The numbers were worked out by hand, and the hashes are those of `contrib/by_definition`.
 
 use crate::lines::{is_as_wanted, run_line};
 use crate::row_frames::{Frame, Gre, NEXT, PLAIN, capture_of};

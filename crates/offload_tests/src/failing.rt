@@ -250,7 +250,7 @@ fn each_call_within_a_merged_record_fails_in_turn(rt: HostRuntime) -> Result<(),
     let input = three_segments(alloc)?;
     let merged = run_line(&rt, alloc, MERGE, &input, 4096, &[], &[])?;
     let out = merged.sink.bytes();
-    // The hash is that of `contrib/merge_by_definition`.
+    // The hash is that of `contrib/by_definition`.
     assert!(rt; out.len() == 456 && hash(out) == 2033450527);
     // Of the first packet alone, which is a single where the second one can't be read.
     let alone = run_line(&rt, alloc, MERGE, first(&input, 194), 4096, &[], &[])?;

@@ -104,7 +104,7 @@ const REFUSED: [[u8; 8]; 16] = [
     [1, 2, 0, 0, 0, 0, 0, 8],
 ];
 
-// Those that are taken, how much is written, and its hash by `contrib/by_definition.py`.
+// Those that are taken, how much is written, and its hash by `contrib/by_definition`.
 const TAKEN: [([u8; 8], usize, u32); 6] = [
     ([1, 1, 0, 2, 0, 4, 0, 63], 170, 2226559973),
     ([1, 1, 0, 2, 0, 5, 0, 0], 170, 3048609287),

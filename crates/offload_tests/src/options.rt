@@ -1,6 +1,6 @@
 //! What `--segs`, `--filter`, `--rss` and `--table` change.
 //!
-//! The numbers were worked out by hand; the queues of flows under a hash are those of `contrib/by_definition.py`.
+//! The numbers were worked out by hand; the queues of flows under a hash are those of `contrib/by_definition`.
 
 use crate::lines::run_line;
 use crate::queues::{in_turn, pair};

@@ -1,7 +1,7 @@
 //! Rows of frames, and the records that `merge` writes of them: number, packets, first payload, modes and frame length,
 //! and a hash of the whole output.
 //!
-//! The numbers were worked out by hand, and the hashes are those of `contrib/merge_by_definition`.
+//! The numbers were worked out by hand, and the hashes are those of `contrib/by_definition`.
 
 use crate::row_frames::{Frame, NEXT, PLAIN, PURE_ACK, Sum, capture_of, push32};
 use off_io::{MemSink, MemSource, NoGate};

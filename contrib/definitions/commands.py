@@ -1,16 +1,16 @@
 """What `offload merge`, `segment` and `check` answer to a capture, slowly and by the definitions: status, line of the log and output.
 
 A list of packets is mergeable where the conditions on all its members hold, and each flow's packets of a round are cut into maximal
-mergeable runs. It shares no code and no method with the proved program, so the two can be compared. `merge_by_definition`,
-`check_by_definition` and `fuzz` stand on it; what a filter is stands in filter_by_definition.py.
+mergeable runs. It shares no code and no method with the proved program, so the two can be compared. `contrib/by_definition` and
+`contrib/fuzz` stand on it; what a filter is stands in filters.py.
 """
 import functools
 import re
 import struct
 from typing import NamedTuple, Optional
 
-from filter_by_definition import filter_of, value
-from made_by_definition import capture
+from filters import filter_of, value
+from made import capture
 
 ETHERNET, TAG, IP4, IP6, UDP, VXLAN, GRE, TCP = "ethernet", "tag", "ip4", "ip6", "udp", "vxlan", "gre", "tcp"
 

@@ -4,9 +4,9 @@ import random
 import struct
 from typing import NamedTuple, Optional
 
-import by_definition as defined
-from by_definition import GRE, IP4, IP6, TAG, TCP, UDP, VXLAN, Options
-from fuzz_options import options_line
+import commands as defined
+from commands import GRE, IP4, IP6, TAG, TCP, UDP, VXLAN, Options
+from options import options_line
 
 
 class Case(NamedTuple):

@@ -1,6 +1,6 @@
 """Words for the cases of `fuzz`: a command's options at and over their edges, filters, keys and tables, and lines that are no command."""
-from by_definition import OPTIONS_OF_CHECK, OPTIONS_OF_MERGE, RANGES, Options, rss_key_of, table_of
-from filter_by_definition import (
+from commands import OPTIONS_OF_CHECK, OPTIONS_OF_MERGE, RANGES, Options, rss_key_of, table_of
+from filters import (
     ARITHMETIC,
     CODES,
     COMPARISONS,
