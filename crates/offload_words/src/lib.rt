@@ -11,8 +11,8 @@
 //!
 //! ```text
 //! let command = parse_words(alloc, words)?;   // offload merge --budget 16 --filter "1,6 0 0 40"
-//! // Command::Merge(MergeOptions { queues: 1, budget: 16, blocks: 8384, taps: 0, snap: 64, segs: 4096, choice: Choice::Fold,
-//! //     filter: the program of one instruction, whose value is 40 })
+//! // Command::Merge(MergeOptions { queues: 1, budget: 16, blocks: 8384, taps: 0, snap: 64, segs: 4096,
+//! //     choice: Choice::Fold, filter: the program of one instruction, whose value is 40 })
 //! ```
 //!
 //! Its parts: `commands` tells clap the command set, `merge`, `segment`, `check` and `make` have a subcommand each,
