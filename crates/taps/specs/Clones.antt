@@ -9,7 +9,14 @@ use Rattle.taps.specs.declared.clones.TapClone.{TapClone}
 
 -- the packet of which this is a clone
 abbrev pub packet_of : TapClone → Packet
-packet_of c = record { number = c.number; sec = c.sec; frac = c.frac; original = c.original; frame = buffer_bytes c.skb }
+packet_of c = record {
+  number = c.number;
+  sec = c.sec;
+  frac = c.frac;
+  original = c.original;
+  frame = buffer_bytes
+      c.skb;
+}
 
 -- and as a filter shows it to taps
 abbrev pub shown_packet : Option (List Instr) → TapClone → Packet

@@ -25,7 +25,14 @@ record_of_text t x = window_record t x x.frame
 -- ---- in memory: all windows stand in one run of bytes
 
 abbrev pub text_at : List ℕ → Span → Packet
-text_at bytes s = record { number = s.number; sec = s.sec; frac = s.frac; original = s.original; frame = slice_range bytes s.from s.to }
+text_at bytes s = record {
+  number = s.number;
+  sec = s.sec;
+  frac = s.frac;
+  original = s.original;
+  frame = slice_range
+      bytes s.from s.to;
+}
 
 abbrev pub IsWithin : List ℕ → Span → Type 0
 IsWithin bytes s = (s.from < s.to) × (s.to ≤ length bytes)

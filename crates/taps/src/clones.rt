@@ -30,7 +30,8 @@ impl TapClone {
     pub(crate) fn shown_len(&self, filter: Option<&Program>) -> usize
         ensures within { result ≤ length (buffer_bytes self.now.skb) }
         ensures size { result ≤ buffer_size self.now.skb }
-        ensures shown { shown_bytes (option_map (λ p. p.now) filter.entry) (buffer_bytes self.now.skb) ≡ take result (buffer_bytes self.now.skb) }
+        ensures shown { shown_bytes (option_map (λ p. p.now) filter.entry) (buffer_bytes self.now.skb)
+            ≡ take result (buffer_bytes self.now.skb) }
     {
         let len = self.skb.len();
         match filter {
@@ -43,7 +44,8 @@ impl TapClone {
     pub(crate) fn window(&self, tap: u32, snap: u32, filter: Option<&Program>) -> (usize, usize)
         ensures range { (result.0 ≤ result.1) × (result.1 ≤ buffer_size self.now.skb) }
         ensures bytes { result.1 ≤ length (buffer_bytes self.now.skb) }
-        ensures window { slice_range (buffer_bytes self.now.skb) result.0 result.1 ≡ window_of snap tap (shown_bytes (option_map (λ p. p.now) filter.entry) (buffer_bytes self.now.skb)) }
+        ensures window { slice_range (buffer_bytes self.now.skb) result.0 result.1
+            ≡ window_of snap tap (shown_bytes (option_map (λ p. p.now) filter.entry) (buffer_bytes self.now.skb)) }
     {
         let shown = self.shown_len(filter);
         let from = (tap as usize * snap as usize).min(shown);

@@ -5,8 +5,8 @@
 //!   tap      0        1        2        3            tap 4 reads nothing of it
 //! ```
 //!
-//! A [`TapTask`] holds a clone of each packet, so its bytes stay while others push, pull, merge or release theirs. [`TapTask::run`]
-//! copies the windows out, into one vector for all of them, and gives every clone back.
+//! A [`TapTask`] holds a clone of each packet, so its bytes stay while others push, pull, merge or release theirs.
+//! [`TapTask::run`] copies the windows out, into one vector for all of them, and gives every clone back.
 //!
 //! Proved, by the names of the clauses of `run`:
 //!
@@ -24,6 +24,13 @@
 //!     read = read.wrapping_add(texts.get(i).bytes.len());
 //! }
 //! ```
+//!
+//! Tests: `merge_tests`, module `tapping`.
+//!
+//! Why so:
+//!
+//! - **A tap's windows stand in one vector of bytes**: memory is taken once for a task, and `get` lends each window. A
+//!   window keeps the packet's original length; the record that is written of it has the window's.
 #![tactic(auto)]
 
 ghost use Rattle.taps.specs.Texts.{TextsAreWindows};

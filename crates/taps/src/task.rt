@@ -45,13 +45,18 @@ impl<'a> TapTask<'a> {
 
     /// Reads window `tap` of each clone: its bytes from `tap * snap` on, at most `snap`. Empty windows are left out.
     ///
-    /// The gate is passed at point 0 before the work and at point 1 after it. Each clone is given back, also where memory
-    /// runs out; nothing is claimed, and nothing waits.
+    /// The gate is passed at point 0 before the work and at point 1 after it. Each clone is given back, also where
+    /// memory runs out; nothing is claimed, and nothing waits.
     pub fn run<G: Gate>(self, gate: &G) -> TapResult
         requires room { blocks_of self.clones.items ≤ self.outcomes.spare }
-        ensures texts { IfOk result.texts (λ texts. texts ≡ texts_of self.entry.snap self.entry.tap (map (shown_packet (option_map (λ p. p.now) self.entry.filter)) self.entry.clones.items)) }
-        ensures windows { IfOk result.texts (λ texts. map (record_of_text self.entry.tap) texts ≡ windows_of self.entry.snap self.entry.tap (map (shown_packet (option_map (λ p. p.now) self.entry.filter)) self.entry.clones.items)) }
-        ensures kept { Keeps (both (of_clones self.entry.clones.items) (of_outcomes self.entry.outcomes)) (of_outcomes result.outcomes) }
+        ensures texts { IfOk result.texts (λ texts. texts
+            ≡ texts_of self.entry.snap self.entry.tap (map
+            (shown_packet (option_map (λ p. p.now) self.entry.filter)) self.entry.clones.items)) }
+        ensures windows { IfOk result.texts (λ texts. map (record_of_text self.entry.tap) texts
+            ≡ windows_of self.entry.snap self.entry.tap
+            (map (shown_packet (option_map (λ p. p.now) self.entry.filter)) self.entry.clones.items)) }
+        ensures kept { Keeps (both (of_clones self.entry.clones.items) (of_outcomes self.entry.outcomes))
+            (of_outcomes result.outcomes) }
         ensures grows { Grows (blocks_of self.entry.clones.items) self.entry.outcomes result.outcomes }
         ensures places { self.entry.outcomes.spare ≤ result.outcomes.spare + blocks_of self.entry.clones.items }
     {
@@ -86,7 +91,8 @@ fn has_room(places: usize, clones: &[TapClone]) -> bool
     true
 }
 
-// The bytes of all windows together, at most: as if there were no filter, which is then run once for each packet. A sum that is too large stays at the largest number, for which there is no memory.
+// The bytes of all windows together, at most: as if there were no filter, which is then run once for each packet. A sum
+// that is too large stays at the largest number, for which there is no memory.
 fn bytes_of_windows(tap: u32, snap: u32, clones: &[TapClone]) -> usize {
     let mut bytes = 0usize;
     for clone in clones {
@@ -104,7 +110,8 @@ fn read_texts(
     filter: Option<&Program>,
     clones: &[TapClone],
 ) -> Result<TapTexts, AllocError>
-    ensures texts { IfOk result (λ texts. texts ≡ texts_of snap tap (map (shown_packet (option_map (λ p. p.now) filter.entry)) clones.now)) }
+    ensures texts { IfOk result (λ texts. texts ≡ texts_of snap tap
+        (map (shown_packet (option_map (λ p. p.now) filter.entry)) clones.now)) }
 {
     let bytes = bytes_of_windows(tap, snap, clones);
     let mut texts = TapTexts::with_room(alloc, clones.len(), bytes)?;

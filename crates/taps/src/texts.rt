@@ -1,5 +1,6 @@
 //! The windows that a tap read.
-ghost use Rattle.std.specs.Prelude.{◌≡◌, ◌==◌, ◌<◌, ◌≤◌, [], ◌∷◌, ◌++◌, length, IfOk, OnOk, OnErr, slice_index_or, slice_range};
+ghost use Rattle.std.specs.Prelude.{◌≡◌, ◌==◌, ◌<◌, ◌≤◌, [], ◌∷◌, ◌++◌, length, IfOk, OnOk, OnErr, slice_index_or};
+ghost use Rattle.std.specs.Prelude.{slice_range};
 ghost use Rattle.pcap_io.specs.Capture.{Packet};
 ghost use Rattle.offload_model.specs.Written.{window_head};
 ghost use Rattle.skb.specs.SkbState.{buffer_bytes, buffer_size};
@@ -96,7 +97,8 @@ impl TapTexts {
         to: usize,
     ) -> Result<(), AllocError>
         requires range { (from < to) × (to ≤ buffer_size clone.now.skb) }
-        ensures pushed { OnOk result (self.new ≡ self.old ++ record (packet_of clone.now) { frame = slice_range (buffer_bytes clone.now.skb) from to } ∷ []) }
+        ensures pushed { OnOk result (self.new ≡ self.old
+            ++ record (packet_of clone.now) { frame = slice_range (buffer_bytes clone.now.skb) from to } ∷ []) }
     {
         let start = self.bytes.len();
         append(&mut self.bytes, &clone.skb, from, to)?;

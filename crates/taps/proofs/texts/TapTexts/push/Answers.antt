@@ -19,8 +19,10 @@ invariant_of-self-2 c =
       to = c.len.result;
     } in
     subst (AreWithin c.append.new.bytes.items) (sym {A = List Span} c.in_ok-push.ensures.items)
-    (within_more c.self.inside.bytes.items ys c.append.new.bytes.items c.self.inside.spans.items s e c.self.invariant
-    ((omega (arith, ap length e, length-append c.self.inside.bytes.items ys, c.in_ok-append.ensures.more, c.self.inside.bytes.ok, c.append.new.bytes.ok, c.len-start.ensures, c.len.ensures)), (omega (arith, c.len.ensures, c.append.new.bytes.ok))))
+    (within_more c.self.inside.bytes.items ys c.append.new.bytes.items c.self.inside.spans.items s e c.self.invariant (
+      (omega (arith, ap length e, length-append c.self.inside.bytes.items ys, c.in_ok-append.ensures.more, c.self.inside.bytes.ok, c.append.new.bytes.ok, c.len-start.ensures, c.len.ensures)),
+      (omega (arith, c.len.ensures, c.append.new.bytes.ok)),
+    ))
 
 pub returns : goal.returns
 returns c =
