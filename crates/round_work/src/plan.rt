@@ -1,7 +1,7 @@
 //! How the work of a round is divided.
 
+use crate::shared::SharedProgram;
 use frame_layout::Choice;
-use tap_filter::Program;
 
 /// How many lanes there are, and how far a tap reads.
 #[derive(Drop)]
@@ -17,5 +17,5 @@ pub struct Plan {
     /// The packets of a run, at most.
     pub segs: u32,
     /// What taps are shown of each packet: as many bytes as its value. All where there is none.
-    pub filter: Option<Program>,
+    pub filter: Option<SharedProgram>,
 }
