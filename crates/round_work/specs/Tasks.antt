@@ -10,7 +10,6 @@ use Rattle.round_work.specs.declared.tasks.LaneTask.TheVariants as asked
 use Rattle.round_work.specs.declared.tasks.LaneDone.{LaneDone}
 use Rattle.round_work.specs.declared.tasks.LaneDone.TheVariants as answered
 use Rattle.round_work.specs.Lanes.{DidQueue, DidTap}
-use Rattle.round_work.specs.LaneWork.{QueueWork, TapWork}
 
 -- what the lane of a task comes to
 abbrev pub DidLane : LaneTask → LaneDone → Type 0

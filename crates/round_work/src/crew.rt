@@ -52,8 +52,8 @@ pub fn open_desk(alloc: Global, runners: u32) -> Result<LaneDesk, AllocError>
     })
 }
 
-/// Who asks at a desk, with all who run its tasks. While it waits it runs tasks itself, so it needs no one else. Its rounds take no
-/// memory.
+/// Who asks at a desk, with all who run its tasks. While it waits it runs tasks itself, so it needs no one else. Places for a round are
+/// reserved before.
 #[derive(Drop)]
 pub struct LaneCrew<'a, 'g, G: Gate, N: Naming, R> {
     crew: Crew<'a, LaneTask, LaneDone, LaneJob<'g, G>, N, R>,

@@ -1,4 +1,4 @@
-use Rattle.std.proofs.Common.{rules, ◌≡◌, List, [], ◌∷◌, subst}
+use Rattle.std.proofs.Common.{rules, ◌≡◌, [], ◌∷◌, subst}
 use Rattle.std.specs.List.{AllByRecursion}
 use Rattle.round_work.specs.Tasks.{HasPlace}
 use Rattle.round_work.proofs.Returning.{Answered, brought_next, all_answered, have_places}

@@ -1,4 +1,4 @@
-use Rattle.std.proofs.Common.{◌≡◌, length, subst, arith}
+use Rattle.std.proofs.Common.{length, subst, arith}
 use Rattle.std.specs.Vec.{with_items}
 use Rattle.round_work.specs.Tasks.{SentQueues, SentTaps}
 use Rattle.round_work.proofs.Listing.{refilled}

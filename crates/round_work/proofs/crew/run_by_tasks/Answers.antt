@@ -1,4 +1,4 @@
-use Rattle.std.proofs.Common.{◌≡◌, sym, subst}
+use Rattle.std.proofs.Common.{sym, subst}
 use Rattle.std.specs.List.{AllByRecursion}
 use Rattle.round_work.specs.Tasks.{Away, IsPlaced}
 use Rattle.round_work.proofs.Returning.{places_did, placed_away}
