@@ -3,7 +3,7 @@ ghost use Rattle.std.specs.Prelude.{◌≡◌, ◌≤◌, IfOk};
 ghost use Rattle.round_work.specs.Work.{IsPlan};
 
 use frame_layout::{Choice, HashKey, even_table};
-use round_work::Plan;
+use round_work::{Plan, SharedProgram};
 use std::alloc::Global;
 use std::test::Fail;
 use tap_filter::Program;
@@ -53,7 +53,7 @@ pub(crate) fn chosen(alloc: Global, queues: u32, segs: u32, filter: &str) -> Res
             table: even_table(queues),
         },
         segs,
-        filter: Some(filter),
+        filter: Some(SharedProgram::new(alloc, filter)?),
     })
 }
 

@@ -5,27 +5,26 @@ use super::frames::IN_TURN;
 use super::packets::{all_home, in_turn, kept_home, rest_home};
 use crate::plans::{chosen, plain};
 use off_io::{Gate, NoGate, Who};
-use round_work::{Lanes, Plan, QueueLane, TapLane, keep_packets, work_packets, work_packets_alone};
+use round_work::{Alone, Lanes, Plan, QueueLane, TapLane, Works, keep_packets, work_packets};
 use std::alloc::Global;
 use std::process::Abort;
 use std::sync::atomic::{AtomicU32, Ordering};
 use std::test::Fail;
-use std::thread::Threads;
 
 // Number, packets and first payload of an item.
 type Said = (u32, u32, u32);
 
 /// The lanes of both flows after their work.
-pub(crate) fn lanes_of<R: Threads + Abort + Sync, G: Gate + Sync>(
-    rt: &R,
+pub(crate) fn lanes_of<W: Works>(
+    rt: &impl Abort,
     alloc: Global,
-    plan: Plan,
-    gate: &G,
+    plan: &Plan,
+    works: &mut W,
 ) -> Lanes
-    requires plan { IsPlan plan }
+    requires plan { IsPlan plan.now }
 {
     let mut packets = in_turn(rt, alloc);
-    match work_packets(rt, alloc, &mut packets, &plan, gate) {
+    match work_packets(works, alloc, &mut packets, plan) {
         Ok(lanes) => {
             packets.destroy_empty();
             lanes
@@ -35,6 +34,13 @@ pub(crate) fn lanes_of<R: Threads + Abort + Sync, G: Gate + Sync>(
             panic!(rt; "there is memory");
         }
     }
+}
+
+// The same by the thread that calls.
+fn alone(rt: &impl Abort, alloc: Global, plan: &Plan) -> Lanes
+    requires plan { IsPlan plan.now }
+{
+    lanes_of(rt, alloc, plan, &mut Alone { gate: &NoGate })
 }
 
 fn says(rt: &impl Abort, lane: &QueueLane, rows: &[Said]) {
@@ -56,24 +62,26 @@ fn has_read(rt: &impl Abort, lane: &TapLane, from: usize, to: usize) {
     }
 }
 
-/// A queue for each flow, and two taps: the second one's windows are the ends of the packets.
+/// A queue for each flow, and two taps of 64 bytes: the second one's windows are the ends of the packets.
+pub(crate) fn are_two_and_two(rt: &impl Abort, lanes: &Lanes) {
+    assert!(rt; lanes.queues.len() == 2 && lanes.taps.len() == 2);
+    says(rt, &lanes.queues[0], &[(0, 4, 16)]);
+    says(rt, &lanes.queues[1], &[(1, 4, 16)]);
+    has_read(rt, &lanes.taps[0], 0, 64);
+    has_read(rt, &lanes.taps[1], 64, 70);
+}
+
 #[test]
 fn two_queues_and_two_taps(rt: HostRuntime) {
-    let plan = plain(2, 2, 64);
-    let lanes = lanes_of(&rt, rt.alloc(), plan, &NoGate);
-    assert!(rt; lanes.queues.len() == 2 && lanes.taps.len() == 2);
-    says(&rt, &lanes.queues[0], &[(0, 4, 16)]);
-    says(&rt, &lanes.queues[1], &[(1, 4, 16)]);
-    has_read(&rt, &lanes.taps[0], 0, 64);
-    has_read(&rt, &lanes.taps[1], 64, 70);
+    let lanes = alone(&rt, rt.alloc(), &plain(2, 2, 64));
+    are_two_and_two(&rt, &lanes);
     assert_eq!(rt; all_home(&rt, lanes), 24);
 }
 
 /// Both flows in one queue, and no tap.
 #[test]
 fn one_queue(rt: HostRuntime) {
-    let plan = plain(1, 0, 64);
-    let lanes = lanes_of(&rt, rt.alloc(), plan, &NoGate);
+    let lanes = alone(&rt, rt.alloc(), &plain(1, 0, 64));
     assert!(rt; lanes.queues.len() == 1 && lanes.taps.is_empty());
     says(&rt, &lanes.queues[0], &[(0, 4, 16), (1, 4, 16)]);
     assert_eq!(rt; all_home(&rt, lanes), 24);
@@ -82,8 +90,7 @@ fn one_queue(rt: HostRuntime) {
 /// The most queues and taps that there may be: two queues have a flow each, and six taps find all windows empty.
 #[test]
 fn many_lanes(rt: HostRuntime) {
-    let plan = plain(64, 8, 40);
-    let lanes = lanes_of(&rt, rt.alloc(), plan, &NoGate);
+    let lanes = alone(&rt, rt.alloc(), &plain(64, 8, 40));
     assert!(rt; lanes.queues.len() == 64 && lanes.taps.len() == 8);
     says(&rt, &lanes.queues[0], &[]);
     says(&rt, &lanes.queues[44], &[(0, 4, 16)]);
@@ -104,7 +111,7 @@ fn many_lanes(rt: HostRuntime) {
 #[test]
 fn by_choice(rt: HostRuntime) -> Result<(), Fail> {
     let alloc = rt.alloc();
-    let lanes = lanes_of(&rt, alloc, chosen(alloc, 4, 4096, "1,6 0 0 40")?, &NoGate);
+    let lanes = alone(&rt, alloc, &chosen(alloc, 4, 4096, "1,6 0 0 40")?);
     assert!(rt; lanes.queues.len() == 4 && lanes.taps.len() == 2);
     says(&rt, &lanes.queues[0], &[(1, 4, 16)]);
     says(&rt, &lanes.queues[1], &[(0, 4, 16)]);
@@ -118,7 +125,7 @@ fn by_choice(rt: HostRuntime) -> Result<(), Fail> {
 #[test]
 fn runs_of_two(rt: HostRuntime) -> Result<(), Fail> {
     let alloc = rt.alloc();
-    let lanes = lanes_of(&rt, alloc, chosen(alloc, 1, 2, "1,6 0 0 0")?, &NoGate);
+    let lanes = alone(&rt, alloc, &chosen(alloc, 1, 2, "1,6 0 0 0")?);
     assert!(rt; lanes.queues.len() == 1 && lanes.taps.len() == 2);
     let items = [(0, 2, 16), (1, 2, 16), (4, 2, 16), (5, 2, 16)];
     says(&rt, &lanes.queues[0], &items);
@@ -151,7 +158,7 @@ fn kept_and_alone(rt: HostRuntime) {
     let gate = Count {
         passes: AtomicU32::new(0),
     };
-    match work_packets_alone(alloc, &mut packets, &plan, &gate) {
+    match work_packets(&mut Alone { gate: &gate }, alloc, &mut packets, &plan) {
         Ok(lanes) => {
             assert!(rt; lanes.queues.len() == 2 && lanes.taps.len() == 8);
             says(&rt, &lanes.queues[0], &[(0, 4, 16)]);

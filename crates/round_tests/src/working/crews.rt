@@ -1,0 +1,196 @@
+//! Lanes by a crew, which lives for many rounds: with nobody beside who asks, and with some.
+ghost use Rattle.std.specs.Prelude.{◌≡◌, ◌≤◌, [], All};
+ghost use Rattle.round_work.specs.Work.{IsPlan};
+
+use super::packets::all_home;
+use super::turns::{are_two_and_two, lanes_of};
+use crate::plans::{chosen, plain};
+use crossbeam_queue::ArrayQueue;
+use errands::{Asker, Bells, Errands, Job, Naming, Reply, Runner};
+use off_io::{Gate, Meeting, NoGate, Who};
+use round_work::{
+    LANES, LaneCrew, LaneDesk, LaneDone, LaneJob, LaneTask, Plan, Works, open_desk, serve_lanes,
+};
+use std::alloc::{AllocError, Global};
+use std::marker::Brand;
+use std::process::Abort;
+use std::sync::Wait;
+use std::test::Fail;
+use std::thread::{Threads, join_mut};
+
+// The blocks of so many rounds that came home.
+fn rounds_by<R: Abort, W: Works>(
+    rt: &R,
+    alloc: Global,
+    plan: &Plan,
+    works: &mut W,
+    rounds: u32,
+) -> usize
+    requires plan { IsPlan plan.now }
+{
+    let mut blocks = 0usize;
+    for _ in 0..rounds {
+        let lanes = lanes_of(rt, alloc, plan, works);
+        if plan.queues == 2 && plan.taps == 2 && plan.snap == 64 {
+            are_two_and_two(rt, &lanes);
+        }
+        blocks = blocks.wrapping_add(all_home(rt, lanes));
+    }
+    blocks
+}
+
+// The same beside all who run tasks.
+fn beside<
+    'a,
+    J: Job<LaneTask, LaneDone> + Send + Sync,
+    N: Naming + Send + Sync,
+    R: Threads + Wait + Abort + Sync,
+    W: Works,
+>(
+    rt: &'a R,
+    alloc: Global,
+    plan: &'a Plan,
+    errands: &'a Errands<LaneTask>,
+    replies: &'a ArrayQueue<Reply<LaneTask, LaneDone, J, N>>,
+    job: &'a J,
+    bells: &'a Bells,
+    runners: &'a mut [Runner<LaneTask>],
+    works: &'a mut W,
+    rounds: u32,
+) -> usize
+    requires plan { IsPlan plan.now }
+    requires own { errands.now ≡ N.desk }
+    requires runners { All (λ r. r ≡ errands.now) runners.old }
+{
+    let ((), blocks) = join_mut(
+        rt,
+        &mut ||
+            requires own { errands.now ≡ N.desk }
+            requires runners { All (λ r. r ≡ errands.now) runners.now }
+        { serve_lanes(rt, errands, runners, replies, job, bells) },
+        &mut || -> usize
+            requires plan { IsPlan plan.now }
+        {
+            let blocks = rounds_by(rt, alloc, plan, works, rounds);
+            bells.close();
+            blocks
+        },
+    );
+    blocks
+}
+
+fn by_crew_named<N: Naming + Send + Sync, R: Threads + Wait + Abort + Sync, G: Gate + Sync>(
+    rt: &R,
+    alloc: Global,
+    plan: &Plan,
+    gate: &G,
+    errands: &Errands<LaneTask>,
+    asker: Asker<LaneTask>,
+    own: Runner<LaneTask>,
+    bells: &Bells,
+    runners: &mut [Runner<LaneTask>],
+    rounds: u32,
+) -> Result<usize, AllocError>
+    requires plan { IsPlan plan.now }
+    requires own { (asker.desk ≡ errands.now) × (own ≡ errands.now) × (errands.now ≡ N.desk) }
+    requires none { asker.log ≡ [] }
+    requires runners { All (λ r. r ≡ errands.now) runners.old }
+{
+    let job = LaneJob { gate };
+    let replies = ArrayQueue::new(alloc, LANES)?;
+    let mut crew = LaneCrew::new(rt, alloc, errands, &replies, &job, bells, asker, own)?;
+    Ok(beside::<LaneJob<'_, G>, N, R, LaneCrew<'_, '_, G, N, R>>(
+        rt, alloc, plan, errands, &replies, &job, bells, runners, &mut crew, rounds,
+    ))
+}
+
+// The blocks of so many rounds, by a crew with so many beside who asks.
+fn by_crew<R: Threads + Wait + Abort + Sync, G: Gate + Sync>(
+    rt: &R,
+    alloc: Global,
+    plan: &Plan,
+    gate: &G,
+    beside_it: u32,
+    rounds: u32,
+) -> Result<usize, AllocError>
+    requires plan { IsPlan plan.now }
+{
+    let LaneDesk {
+        errands,
+        asker,
+        own,
+        mut runners,
+        bells,
+    } = open_desk(alloc, beside_it)?;
+    by_crew_named::<Brand, R, G>(
+        rt,
+        alloc,
+        plan,
+        gate,
+        &errands,
+        asker,
+        own,
+        &bells,
+        &mut runners,
+        rounds,
+    )
+}
+
+/// With nobody beside who asks, and with one and five: each round's lanes are those of one thread.
+#[test]
+fn rounds_by_crews(rt: HostRuntime) -> Result<(), Fail> {
+    let alloc = rt.alloc();
+    let plan = plain(2, 2, 64);
+    assert_eq!(rt; by_crew(&rt, alloc, &plan, &NoGate, 0, 100)?, 2_400);
+    assert_eq!(rt; by_crew(&rt, alloc, &plan, &NoGate, 1, 1_000)?, 24_000);
+    assert_eq!(rt; by_crew(&rt, alloc, &plan, &NoGate, 5, 1_000)?, 24_000);
+    Ok(())
+}
+
+/// One lane alone, which is no task; 72 lanes, of which most have nothing to do; and taps that share a filter.
+#[test]
+fn few_lanes_and_many(rt: HostRuntime) -> Result<(), Fail> {
+    let alloc = rt.alloc();
+    assert_eq!(rt; by_crew(&rt, alloc, &plain(1, 0, 64), &NoGate, 1, 10)?, 240);
+    assert_eq!(rt;
+        by_crew(&rt, alloc, &plain(64, 8, 40), &NoGate, 3, 10)?,
+        240
+    );
+    let shown = chosen(alloc, 4, 4096, "1,6 0 0 40")?;
+    assert_eq!(rt; by_crew(&rt, alloc, &shown, &NoGate, 3, 10)?, 240);
+    Ok(())
+}
+
+// How many of two tasks of a round have seen the other, with one beside who asks.
+fn seen<R: Threads + Wait + Abort + Sync>(
+    rt: &R,
+    alloc: Global,
+    lanes: (u32, u32),
+    one: Who,
+    other: Who,
+) -> Result<u32, AllocError>
+    requires queues { (1 ≤ lanes.0) × (lanes.0 ≤ 64) }
+    requires taps { lanes.1 ≤ 8 }
+{
+    let (queues, taps) = lanes;
+    let meeting = Meeting::of(one, other);
+    assert_eq!(rt;
+        by_crew(rt, alloc, &plain(queues, taps, 64), &meeting, 1, 1)?,
+        24
+    );
+    Ok(meeting.met())
+}
+
+/// Tasks that wait for one another meet, whichever the lanes are: one of them is done by who asks.
+#[test]
+fn tasks_meet(rt: HostRuntime) -> Result<(), Fail> {
+    let alloc = rt.alloc();
+    assert_eq!(rt; seen(&rt, alloc, (1, 1), Who::Worker(0), Who::Tap(0))?, 2);
+    assert_eq!(rt; seen(&rt, alloc, (1, 2), Who::Tap(0), Who::Tap(1))?, 2);
+    assert_eq!(rt;
+        seen(&rt, alloc, (2, 0), Who::Worker(0), Who::Worker(1))?,
+        2
+    );
+    assert_eq!(rt; seen(&rt, alloc, (2, 2), Who::Worker(1), Who::Tap(0))?, 2);
+    Ok(())
+}
