@@ -21,12 +21,16 @@ DidLane _ _ = ⊥
 
 -- a task has the lane at its place
 abbrev pub IsOfQueues : ℕ → List QueueLane → LaneTask → Type 0
-IsOfQueues segs ls (asked.Queue t) = (t.at < length ls) × (t.segs ≡ segs) × ((d : QueueLane) → t.lane ≡ slice_index_or ls t.at d)
+IsOfQueues segs ls (asked.Queue t) =
+    (t.at < length ls) × (t.segs ≡ segs)
+    × ((d : QueueLane) → t.lane ≡ slice_index_or ls t.at d)
 IsOfQueues segs ls (asked.Tap t) = ⊥
 
 abbrev pub IsOfTaps : Plan → List TapLane → LaneTask → Type 0
 IsOfTaps plan ls (asked.Queue t) = ⊥
-IsOfTaps plan ls (asked.Tap t) = (t.at < length ls) × (t.snap ≡ plan.snap) × (t.filter ≡ plan.filter) × ((d : TapLane) → t.lane ≡ slice_index_or ls t.at d)
+IsOfTaps plan ls (asked.Tap t) =
+    (t.at < length ls) × (t.snap ≡ plan.snap) × (t.filter ≡ plan.filter)
+    × ((d : TapLane) → t.lane ≡ slice_index_or ls t.at d)
 
 abbrev pub IsOf : Plan → Lanes → LaneTask → Type 0
 IsOf plan l (asked.Queue t) = IsOfQueues plan.segs l.queues.items (asked.Queue t)
@@ -42,19 +46,23 @@ IsElseTap i (asked.Queue t) = Unit {0}
 IsElseTap i (asked.Tap t) = t.at ≢ i
 
 -- of the first n lanes each one that no task has is worked, and the others are as they were
-pub record Parted {L : Type 0} (D : L → L → Type 0) (IsElse : ℕ → LaneTask → Type 0) (n : ℕ) (old new : List L) (ts : List LaneTask) : Type 0 where
-  pub did : (i : ℕ) (d : L) → i < n → i < length old → AllByRecursion (IsElse i) ts → D (slice_index_or old i d) (slice_index_or new i d)
+pub record Parted {L : Type 0} (D : L → L → Type 0) (IsElse : ℕ → LaneTask → Type 0) (n : ℕ) (old new : List L)
+    (ts : List LaneTask) : Type 0 where
+  pub did : (i : ℕ) (d : L) → i < n → i < length old → AllByRecursion (IsElse i) ts
+      → D (slice_index_or old i d) (slice_index_or new i d)
   pub rest : (i : ℕ) (d : L) → n ≤ i → slice_index_or new i d ≡ slice_index_or old i d
   pub size : length new ≡ length old
 
 -- tasks came behind others, for those of the first n lanes that aren't worked
 abbrev pub SentQueues : ℕ → ℕ → List QueueLane → List QueueLane → List LaneTask → List LaneTask → Type 0
 SentQueues segs n old new before after =
-    (more : List LaneTask) × (after ≡ before ++ more) × AllByRecursion (IsOfQueues segs old) more × Parted (DidQueue segs) IsElseQueue n old new more
+    (more : List LaneTask) × (after ≡ before ++ more) × AllByRecursion (IsOfQueues segs old) more
+    × Parted (DidQueue segs) IsElseQueue n old new more
 
 abbrev pub SentTaps : Plan → ℕ → List TapLane → List TapLane → List LaneTask → List LaneTask → Type 0
 SentTaps plan n old new before after =
-    (more : List LaneTask) × (after ≡ before ++ more) × AllByRecursion (IsOfTaps plan old) more × Parted (DidTap plan.filter plan.snap) IsElseTap n old new more
+    (more : List LaneTask) × (after ≡ before ++ more) × AllByRecursion (IsOfTaps plan old) more
+    × Parted (DidTap plan.filter plan.snap) IsElseTap n old new more
 
 -- each lane is worked, but those that these tasks have
 pub record Away (plan : Plan) (old new : Lanes) (ts : List LaneTask) : Type 0 where
@@ -74,5 +82,7 @@ IsPlaced l (asked.Tap t) = t.at < length l.taps.items
 
 -- the lane stands at its place
 abbrev pub IsPut : LaneDone → Lanes → Lanes → Type 0
-IsPut (answered.Queue d) old new = (new.queues.items ≡ slice_set old.queues.items d.at d.lane) × (new.taps.items ≡ old.taps.items)
-IsPut (answered.Tap d) old new = (new.queues.items ≡ old.queues.items) × (new.taps.items ≡ slice_set old.taps.items d.at d.lane)
+IsPut (answered.Queue d) old new =
+    (new.queues.items ≡ slice_set old.queues.items d.at d.lane) × (new.taps.items ≡ old.taps.items)
+IsPut (answered.Tap d) old new =
+    (new.queues.items ≡ old.queues.items) × (new.taps.items ≡ slice_set old.taps.items d.at d.lane)

@@ -157,7 +157,8 @@ fn put_back(lanes: &mut Lanes, done: LaneDone)
 /// All lanes come back.
 pub(crate) fn bring_back(lanes: &mut Lanes, done: &mut VecDeque<LaneDone>)
     requires places { AllByRecursion (HasPlace lanes.old) done.old.items }
-    ensures did { (plan : Plan) (old : Lanes) (ts : List LaneTask) → EachDid DidLane ts done.old.items → Away plan old lanes.old ts → Did plan old lanes.new }
+    ensures did { (plan : Plan) (old : Lanes) (ts : List LaneTask)
+        → EachDid DidLane ts done.old.items → Away plan old lanes.old ts → Did plan old lanes.new }
     ensures none { done.new.items ≡ [] }
 {
     while let Some(answer) = done.pop_front() {

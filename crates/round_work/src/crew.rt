@@ -23,7 +23,7 @@ use std::thread::{Threads, for_each_mut};
 /// The lanes of a round, at most: 64 queues and 8 taps.
 pub const LANES: usize = 72;
 
-/// A desk for the tasks of lanes, before the call that names it: who asks, who runs tasks beside it, and who wakes whom.
+/// A desk for the tasks of lanes, before the call that names it: who asks, who runs tasks, and who wakes whom.
 #[derive(Drop)]
 pub struct LaneDesk {
     pub errands: Errands<LaneTask>,
@@ -52,8 +52,8 @@ pub fn open_desk(alloc: Global, runners: u32) -> Result<LaneDesk, AllocError>
     })
 }
 
-/// Who asks at a desk, with all who run its tasks. While it waits it runs tasks itself, so it needs no one else. Places for a round are
-/// reserved before.
+/// Who asks at a desk, with all who run its tasks. While it waits it runs tasks itself, so it needs no one else.
+/// Places for a round are reserved before.
 #[derive(Drop)]
 pub struct LaneCrew<'a, 'g, G: Gate, N: Naming, R> {
     crew: Crew<'a, LaneTask, LaneDone, LaneJob<'g, G>, N, R>,

@@ -124,9 +124,10 @@ fn finish(lanes: Lanes) -> Result<Lanes, (Lanes, AllocError)>
     }
 }
 
-/// The work of a round, by whoever works its lanes. Each packet goes to the queue of its flow; each tap is given a clone of every
-/// packet before any worker starts; and each worker and each tap passes the gate at point 0 before its work and at point 1 after it.
-/// One clone of each packet may have been kept before, by [`keep_packets`](crate::keep_packets).
+/// The work of a round, by whoever works its lanes. Each packet goes to the queue of its flow; each tap is given a
+/// clone of every packet before any worker starts; and each worker and each tap passes the gate at point 0 before its
+/// work and at point 1 after it. One clone of each packet may have been kept before, by
+/// [`keep_packets`](crate::keep_packets).
 ///
 /// For want of memory the lanes come back as far as they got, and what isn't in `packets` any more is in them.
 pub fn work_packets<W: Works>(
