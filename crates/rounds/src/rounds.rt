@@ -187,6 +187,14 @@ impl Rounds {
         self.pool.taken()
     }
 
+    /// The queues and taps that a round's work is divided by.
+    pub fn lanes(&self) -> u32
+        ensures count { result ≡ self.now.plan.queues + self.now.plan.taps }
+        ensures few { result ≤ 72 }
+    {
+        self.plan.queues + self.plan.taps
+    }
+
     /// Reads the next `budget` records, or fewer where the capture ends, is refused or its source fails, where the round would
     /// need more blocks than there are, or for want of memory. A record that isn't given leaves no block out.
     pub fn read_round<S: Source>(&mut self, reader: &mut CaptureReader<'_, S>) -> RoundRead
