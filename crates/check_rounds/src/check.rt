@@ -19,11 +19,11 @@ ghost use Rattle.rounds.specs.Merging.{options_of, TakesAll};
 ghost use Rattle.check_rounds.specs.Checking.{ending_of, AreOf, CountsLast, IfEnds, MovesOn, Steps};
 
 use check_totals::Totals;
-use off_io::{Gate, Source};
+use off_io::Source;
 use pcap_io::{CapFault, CaptureReader};
+use round_work::Works;
 use rounds::{Round, RoundEnd, RoundRead, Rounds, Worked};
 use std::alloc::AllocError;
-use std::thread::Threads;
 
 /// How checking ended.
 #[derive(Clone, Copy, Debug, PartialEq, Eq)]
@@ -62,12 +62,11 @@ fn compare_round(rounds: &mut Rounds, worked: Worked) -> Result<Totals, AllocErr
 
 // Works a round, compares it with its packets and ends it; what it counts is added. For want of memory its blocks are home all the
 // same.
-fn count_round<R: Threads + Sync, G: Gate + Sync>(
-    rt: &R,
+fn count_round<W: Works>(
+    works: &mut W,
     rounds: &mut Rounds,
     round: Round,
     totals: &mut Totals,
-    gate: &G,
 ) -> Result<(), AllocError>
     requires out { rounds.old.home + round.blocks ≡ rounds.old.blocks }
     requires keep { rounds.old.keep ≡ true }
@@ -81,19 +80,18 @@ fn count_round<R: Threads + Sync, G: Gate + Sync>(
     ensures within { (n : ℕ) → AreOf n totals.old → AreOf (n + length round.packets) totals.new }
     ensures home { rounds.new ≡ record rounds.old { home = rounds.old.blocks } }
 {
-    let worked = rounds.work_round(rt, round, gate)?;
+    let worked = rounds.work_round(works, round)?;
     let counted = compare_round(rounds, worked)?;
     totals.add(&counted);
     Ok(())
 }
 
 // The last round, behind which checking ends so.
-fn last_round<R: Threads + Sync, G: Gate + Sync>(
-    rt: &R,
+fn last_round<W: Works>(
+    works: &mut W,
     rounds: &mut Rounds,
     round: Round,
     totals: &mut Totals,
-    gate: &G,
     end: CheckEnd,
 ) -> CheckEnd
     requires out { rounds.old.home + round.blocks ≡ rounds.old.blocks }
@@ -110,19 +108,18 @@ fn last_round<R: Threads + Sync, G: Gate + Sync>(
     ensures read { result ≡ CheckEnd.ReadFault → end ≡ CheckEnd.ReadFault }
     ensures done { result ≡ CheckEnd.Done → end ≡ CheckEnd.Done }
 {
-    match count_round(rt, rounds, round, totals, gate) {
+    match count_round(works, rounds, round, totals) {
         Ok(()) => end,
         Err(_) => CheckEnd::NoMemory,
     }
 }
 
 // Reads the next round, behind `number` others, and counts it. Of a round that exceeds the blocks nothing is counted.
-fn count_next<R: Threads + Sync, S: Source, G: Gate + Sync>(
-    rt: &R,
+fn count_next<W: Works, S: Source>(
+    works: &mut W,
     rounds: &mut Rounds,
     reader: &mut CaptureReader<'_, S>,
     totals: &mut Totals,
-    gate: &G,
     number: u64,
 ) -> Step
     requires ready { IsReady (place_of reader.old) }
@@ -146,18 +143,18 @@ fn count_next<R: Threads + Sync, S: Source, G: Gate + Sync>(
 {
     let RoundRead { round, end } = rounds.read_round(reader);
     match end {
-        RoundEnd::Full => match count_round(rt, rounds, round, totals, gate) {
+        RoundEnd::Full => match count_round(works, rounds, round, totals) {
             Ok(()) => Step::Goes,
             Err(_) => Step::Ends(CheckEnd::NoMemory),
         },
-        RoundEnd::End => { Step::Ends(last_round(rt, rounds, round, totals, gate, CheckEnd::Done)) }
+        RoundEnd::End => { Step::Ends(last_round(works, rounds, round, totals, CheckEnd::Done)) }
         RoundEnd::Malformed(fault) => {
             let end = CheckEnd::Malformed(fault);
-            Step::Ends(last_round(rt, rounds, round, totals, gate, end))
+            Step::Ends(last_round(works, rounds, round, totals, end))
         }
         RoundEnd::ReadFault => {
             let end = CheckEnd::ReadFault;
-            Step::Ends(last_round(rt, rounds, round, totals, gate, end))
+            Step::Ends(last_round(works, rounds, round, totals, end))
         }
         RoundEnd::PoolEmpty { need } => {
             rounds.drop_round(round);
@@ -179,12 +176,11 @@ fn count_next<R: Threads + Sync, S: Source, G: Gate + Sync>(
 /// The rounds keep a clone of each packet, and the totals begin with those of no packet, of as many queues and taps. `given` says of
 /// each ending what was read and counted. A read fault only where the source's count of faults rose. All blocks are home again,
 /// whatever the ending.
-pub fn check_all<R: Threads + Sync, S: Source, G: Gate + Sync>(
-    rt: &R,
+pub fn check_all<W: Works, S: Source>(
+    works: &mut W,
     rounds: &mut Rounds,
     reader: &mut CaptureReader<'_, S>,
     totals: &mut Totals,
-    gate: &G,
 ) -> CheckEnd
     requires ready { IsReady (place_of reader.old) }
     requires link { (place_of reader.old).link ≡ Ethernet }
@@ -204,7 +200,7 @@ pub fn check_all<R: Threads + Sync, S: Source, G: Gate + Sync>(
 {
     let mut number = 0;
     'rounds: loop {
-        match count_next(rt, rounds, reader, totals, gate, number) {
+        match count_next(works, rounds, reader, totals, number) {
             Step::Goes => number += 1,
             Step::Ends(end) => return end,
         }

@@ -6,7 +6,7 @@
 //!
 //! ```text
 //! let mut totals = Totals::make(alloc, queues, taps)?;
-//! let end = check_all(&rt, &mut rounds, &mut reader, &mut totals, &NoGate);
+//! let end = check_all(&mut Alone { gate: &NoGate }, &mut rounds, &mut reader, &mut totals);
 //! write_totals(&mut sink, &totals)?;
 //! ```
 #![tactic(auto)]
