@@ -9,6 +9,7 @@ use crate::merging::WRITTEN;
 use crate::plans::plain;
 use off_io::{Failed, Feed, Gate, Meeting, MemSink, MemSource, NoGate, Source, Who};
 use pcap_io::{CaptureReader, FileHead, Link};
+use round_work::{Alone, Works};
 use rounds::{MergeEnd, ReadAhead, RoundEnd, RoundRead, Rounds, Step};
 use std::alloc::Global;
 use std::test::Fail;
@@ -26,14 +27,14 @@ struct How {
 
 // A full round is worked and written while the next one is read, and where that pauses it is read to its end. Any other
 // is handed on.
-fn turn<R: Threads + Sync, S: Source + Send, G: Gate + Sync>(
+fn turn<R: Threads + Sync, W: Works, S: Source + Send>(
     rt: &R,
+    works: &mut W,
     rounds: &mut Rounds,
     read: RoundRead,
     reader: &mut CaptureReader<'_, S>,
     file: &FileHead,
     sink: &mut MemSink,
-    gate: &G,
     pauses: &mut u32,
 ) -> Result<RoundRead, Fail>
     requires ready { read.end ≡ RoundEnd.Full → IsReady (place_of reader.old) × ((place_of reader.old).link ≡ Ethernet) }
@@ -46,7 +47,7 @@ fn turn<R: Threads + Sync, S: Source + Send, G: Gate + Sync>(
         RoundEnd::Full => {}
         _ => return Ok(RoundRead { round, end }),
     }
-    let (worked, next) = rounds.work_and_read(rt, round, reader, gate);
+    let (worked, next) = rounds.work_and_read(rt, works, round, reader);
     let worked = match worked {
         Ok(worked) => worked,
         Err(_) => {
@@ -69,14 +70,14 @@ fn turn<R: Threads + Sync, S: Source + Send, G: Gate + Sync>(
     }
 }
 
-fn two_turns<R: Threads + Sync, S: Source + Send, G: Gate + Sync>(
+fn two_turns<R: Threads + Sync, W: Works, S: Source + Send>(
     rt: &R,
+    works: &mut W,
     rounds: &mut Rounds,
     read: RoundRead,
     reader: &mut CaptureReader<'_, S>,
     file: &FileHead,
     sink: &mut MemSink,
-    gate: &G,
     pauses: &mut u32,
 ) -> Result<RoundRead, Fail>
     requires ready { read.end ≡ RoundEnd.Full → IsReady (place_of reader.old) × ((place_of reader.old).link ≡ Ethernet) }
@@ -84,8 +85,8 @@ fn two_turns<R: Threads + Sync, S: Source + Send, G: Gate + Sync>(
     ensures ready { IfOk result (λ next. next.end ≡ RoundEnd.Full → IsReady (place_of reader.new) × ((place_of reader.new).link ≡ Ethernet)) }
     ensures out { IfOk result (λ next. rounds.new.home + next.round.blocks ≡ rounds.new.blocks) }
 {
-    let next = turn(rt, rounds, read, reader, file, sink, gate, pauses)?;
-    turn(rt, rounds, next, reader, file, sink, gate, pauses)
+    let next = turn(rt, works, rounds, read, reader, file, sink, pauses)?;
+    turn(rt, works, rounds, next, reader, file, sink, pauses)
 }
 
 fn give_up(next: ReadAhead) {
@@ -97,12 +98,12 @@ fn give_up(next: ReadAhead) {
 
 // Up to five rounds of a capture: how merging ended, what was written, how many reads paused, and the blocks that are
 // home.
-fn driven<R: Threads + Sync, S: Source + Send + Drop, G: Gate + Sync>(
+fn driven<R: Threads + Sync, W: Works, S: Source + Send + Drop>(
     rt: &R,
     alloc: Global,
+    works: &mut W,
     source: S,
     how: How,
-    gate: &G,
 ) -> Result<(Step, Vec<u8>, u32, u32), Fail>
     requires blocks { (1 ≤ how.blocks) × (how.blocks ≤ 65536) }
     requires budget { (1 ≤ how.budget) × (how.budget ≤ 4096) }
@@ -122,25 +123,25 @@ fn driven<R: Threads + Sync, S: Source + Send + Drop, G: Gate + Sync>(
     let first = rounds.read_round(&mut reader);
     let third = two_turns(
         rt,
+        works,
         &mut rounds,
         first,
         &mut reader,
         &file,
         &mut sink,
-        gate,
         &mut pauses,
     )?;
     let last = two_turns(
         rt,
+        works,
         &mut rounds,
         third,
         &mut reader,
         &file,
         &mut sink,
-        gate,
         &mut pauses,
     )?;
-    let step = rounds.put_read(rt, last, &file, &mut sink, gate, 4);
+    let step = rounds.put_read(works, last, &file, &mut sink, 4);
     let written = sink.bytes().to_vec(alloc)?;
     Ok((step, written, pauses, rounds.home()))
 }
@@ -159,7 +160,7 @@ fn of_bytes<R: Threads + Sync>(
     requires taps { how.taps ≤ 8 }
 {
     let source = MemSource::new(bytes.to_vec(alloc)?, 4096, fails);
-    driven(rt, alloc, source, how, &NoGate)
+    driven(rt, alloc, &mut Alone { gate: &NoGate }, source, how)
 }
 
 const BY_FLOW: How = How {
@@ -342,7 +343,7 @@ fn reader_and_worker_meet(rt: HostRuntime) -> Result<(), Fail> {
         blocks: 200,
         ..EACH_ALONE
     };
-    let (step, written, _, _) = driven(&rt, alloc, source, how, &meeting)?;
+    let (step, written, _, _) = driven(&rt, alloc, &mut Alone { gate: &meeting }, source, how)?;
     assert_eq!(rt; step, DONE);
     assert_eq!(rt; written.as_slice(), WRITTEN.as_slice());
     assert_eq!(rt; meeting.met(), 4);

@@ -7,10 +7,10 @@ use check_rounds::{CheckEnd, check_all};
 use check_totals::{Totals, write_totals};
 use off_io::{Feed, MemSink, MemSource, NoGate};
 use pcap_io::{CaptureReader, Link};
+use round_work::Alone;
 use rounds::Rounds;
 use std::alloc::Global;
 use std::test::Fail;
-use std::thread::Threads;
 use worked_captures::TWO_FLOWS;
 
 const NONE: &str = "queue 0: records 0 items 0 merged 0 returned 0\n\
@@ -21,8 +21,7 @@ const NONE: &str = "queue 0: records 0 items 0 merged 0 returned 0\n\
 
 // The first bytes of the capture checked in rounds of these many records, over two queues and two taps of 64 bytes,
 // from a source that fails at these of its calls: how it ended, the lines, and the blocks that are home.
-fn check<R: Threads + Sync>(
-    rt: &R,
+fn check(
     alloc: Global,
     size: usize,
     blocks: u32,
@@ -42,7 +41,12 @@ fn check<R: Threads + Sync>(
     };
     let mut rounds = Rounds::make(alloc, blocks, budget, plain(2, 2, 64), true)?;
     let mut totals = Totals::make(alloc, 2, 2)?;
-    let end = check_all(rt, &mut rounds, &mut reader, &mut totals, &NoGate);
+    let end = check_all(
+        &mut Alone { gate: &NoGate },
+        &mut rounds,
+        &mut reader,
+        &mut totals,
+    );
     let mut sink = MemSink::new(alloc, 4096, Vec::new(alloc));
     match write_totals(&mut sink, &totals) {
         Ok(()) => Ok((end, sink.bytes().to_vec(alloc)?, rounds.home())),
@@ -53,7 +57,7 @@ fn check<R: Threads + Sync>(
 #[test]
 fn two_queues_and_two_taps(rt: HostRuntime) -> Result<(), Fail> {
     let alloc = rt.alloc();
-    let (end, lines, home) = check(&rt, alloc, 368, 12, 4, Vec::new(alloc))?;
+    let (end, lines, home) = check(alloc, 368, 12, 4, Vec::new(alloc))?;
     let want = "queue 0: records 2 items 1 merged 1 returned 2\n\
         queue 1: records 2 items 1 merged 1 returned 2\n\
         tap 0: windows 4 bytes 256\n\
@@ -68,7 +72,7 @@ fn two_queues_and_two_taps(rt: HostRuntime) -> Result<(), Fail> {
 #[test]
 fn rounds_add_up(rt: HostRuntime) -> Result<(), Fail> {
     let alloc = rt.alloc();
-    let (end, lines, home) = check(&rt, alloc, 368, 9, 3, Vec::new(alloc))?;
+    let (end, lines, home) = check(alloc, 368, 9, 3, Vec::new(alloc))?;
     let want = "queue 0: records 2 items 1 merged 1 returned 2\n\
         queue 1: records 2 items 2 merged 0 returned 2\n\
         tap 0: windows 4 bytes 256\n\
@@ -83,11 +87,11 @@ fn rounds_add_up(rt: HostRuntime) -> Result<(), Fail> {
 #[test]
 fn each_way_to_end(rt: HostRuntime) -> Result<(), Fail> {
     let alloc = rt.alloc();
-    let (end, lines, home) = check(&rt, alloc, 368, 8, 4, Vec::new(alloc))?;
+    let (end, lines, home) = check(alloc, 368, 8, 4, Vec::new(alloc))?;
     assert_eq!(rt; end, CheckEnd::PoolEmpty { round: 0, need: 9 });
     assert_eq!(rt; lines.as_slice(), NONE.as_bytes());
     assert_eq!(rt; home, 8);
-    let (end, lines, _) = check(&rt, alloc, 360, 12, 4, Vec::new(alloc))?;
+    let (end, lines, _) = check(alloc, 360, 12, 4, Vec::new(alloc))?;
     let want = "queue 0: records 2 items 1 merged 1 returned 2\n\
         queue 1: records 1 items 1 merged 0 returned 1\n\
         tap 0: windows 3 bytes 192\n\
@@ -96,7 +100,7 @@ fn each_way_to_end(rt: HostRuntime) -> Result<(), Fail> {
     let cut = matches!(&end, CheckEnd::Malformed(_));
     assert_eq!(rt; cut, true);
     assert_eq!(rt; lines.as_slice(), want.as_bytes());
-    let (end, lines, home) = check(&rt, alloc, 368, 12, 4, vec![in alloc; 1]?)?;
+    let (end, lines, home) = check(alloc, 368, 12, 4, vec![in alloc; 1]?)?;
     assert_eq!(rt; end, CheckEnd::ReadFault);
     assert_eq!(rt; lines.as_slice(), NONE.as_bytes());
     assert_eq!(rt; home, 12);

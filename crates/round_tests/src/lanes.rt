@@ -7,9 +7,11 @@ use crate::plans::{chosen, hash, plain};
 use crate::working::frames::IN_TURN;
 use off_io::{Feed, MemSink, MemSource, NoGate};
 use pcap_io::{CaptureReader, Link};
-use round_work::Plan;
+use round_pipeline::merge_beside;
+use round_work::{Alone, Plan};
 use rounds::{MergeEnd, Rounds};
 use std::alloc::{AllocError, Global};
+use std::sync::Wait;
 use std::test::Fail;
 use std::thread::Threads;
 use worked_captures::{FILE_HEADER, TWO_FLOWS, TWO_RECORDS};
@@ -49,7 +51,7 @@ pub(crate) const WITH_WINDOWS: [u8; 166] = [
 ];
 
 // Merged over fifteen blocks, by threads or not: how it ended, what was written, and the blocks that are home.
-fn merged<R: Threads + Sync>(
+fn merged<R: Threads + Wait + Sync>(
     rt: &R,
     alloc: Global,
     capture: &[u8],
@@ -72,9 +74,17 @@ fn merged<R: Threads + Sync>(
     let mut sink = MemSink::new(alloc, 64, Vec::new(alloc));
     let mut rounds = Rounds::make(alloc, 15, budget, plan, keep)?;
     let end = if threads {
-        rounds.merge_all(rt, &mut reader, &file, &mut sink, &NoGate)
+        merge_beside(
+            rt,
+            alloc,
+            &mut rounds,
+            &mut reader,
+            &file,
+            &mut sink,
+            &NoGate,
+        )
     } else {
-        rounds.merge_all_alone(&mut reader, &file, &mut sink, &NoGate)
+        rounds.merge_all(&mut Alone { gate: &NoGate }, &mut reader, &file, &mut sink)
     };
     let written = sink.bytes().to_vec(alloc)?;
     Ok((end, written, rounds.home()))

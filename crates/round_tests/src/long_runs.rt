@@ -4,6 +4,7 @@
 use crate::plans::{hash, plain};
 use off_io::{Feed, MemSink, MemSource, NoGate};
 use pcap_io::{CaptureReader, Link};
+use round_work::Alone;
 use rounds::{MergeEnd, Moved, Rounds, SegmentRun};
 use std::alloc::{AllocError, Global};
 use std::test::Fail;
@@ -89,7 +90,7 @@ fn merged(alloc: Global, capture: &[u8]) -> Result<(MergeEnd, Vec<u8>), Fail> {
     let file = reader.file();
     let mut sink = MemSink::new(alloc, 65_536, Vec::new(alloc));
     let mut rounds = Rounds::make(alloc, 40, 2, plain(1, 0, 64), false)?;
-    let end = rounds.merge_all_alone(&mut reader, &file, &mut sink, &NoGate);
+    let end = rounds.merge_all(&mut Alone { gate: &NoGate }, &mut reader, &file, &mut sink);
     Ok((end, sink.bytes().to_vec(alloc)?))
 }
 

@@ -4,6 +4,7 @@ ghost use Rattle.std.specs.Prelude.{◌≤◌};
 use crate::plans::plain;
 use off_io::{Feed, MemSink, MemSource, NoGate};
 use pcap_io::{CaptureReader, Link};
+use round_work::Alone;
 use rounds::{MergeEnd, RoundEnd, RoundRead, Rounds};
 use std::alloc::Global;
 use std::test::Fail;
@@ -43,7 +44,7 @@ fn worked_turn(alloc: Global, blocks: u32) -> Result<(Vec<u8>, u32, u32), Fail>
     let mut sink = MemSink::new(alloc, 64, Vec::new(alloc));
     let mut rounds = Rounds::make(alloc, blocks, 2, plain(1, 0, 64), false)?;
     let RoundRead { round, end: _ } = rounds.read_round(&mut reader);
-    let worked = rounds.work_round_alone(round, &NoGate)?;
+    let worked = rounds.work_round(&mut Alone { gate: &NoGate }, round)?;
     let written = rounds.write_round(&worked, &file, &mut sink);
     let home = rounds.home();
     rounds.end_round(worked);
@@ -82,7 +83,7 @@ fn merge(
     let file = reader.file();
     let mut sink = MemSink::new(alloc, 64, writes);
     let mut rounds = Rounds::make(alloc, blocks, 2, plain(1, 0, 64), false)?;
-    let end = rounds.merge_all_alone(&mut reader, &file, &mut sink, &NoGate);
+    let end = rounds.merge_all(&mut Alone { gate: &NoGate }, &mut reader, &file, &mut sink);
     let written = sink.bytes().to_vec(alloc)?;
     Ok((end, written, sink.is_flushed(), rounds.home()))
 }

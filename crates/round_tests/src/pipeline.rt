@@ -7,6 +7,7 @@ use crate::plans::plain;
 use off_io::{Feed, Gate, MemSink, MemSource, NoGate, Sink, Source};
 use pcap_io::{CaptureReader, Link};
 use round_pipeline::merge_beside;
+use round_work::Alone;
 use rounds::{MergeEnd, Rounds};
 use std::alloc::{AllocError, Global};
 use std::sync::Wait;
@@ -77,7 +78,7 @@ fn merged<S: Source + Send + Drop, K: Sink, G: Gate + Sync>(
     let end = if beside {
         merge_beside(rt, alloc, &mut rounds, &mut reader, &file, sink, gate)
     } else {
-        rounds.merge_all(rt, &mut reader, &file, sink, gate)
+        rounds.merge_all(&mut Alone { gate }, &mut reader, &file, sink)
     };
     Ok((end, rounds.home(), rounds.taken()))
 }

@@ -7,10 +7,10 @@ use crate::plans::plain;
 use block_pool::Pool;
 use off_io::{Feed, MemSink, MemSource, NoGate};
 use pcap_io::{CaptureReader, Link};
+use round_work::Alone;
 use rounds::{AllHome, Homecoming, MergeEnd, Round, RoundEnd, RoundRead, Rounds, Step};
 use std::alloc::Global;
 use std::test::Fail;
-use std::thread::Threads;
 use worked_captures::TWO_RECORDS;
 
 // A shelf of blocks, which come home at once.
@@ -58,10 +58,7 @@ fn handed(rounds: &mut Rounds, shelf: Pool) -> Result<Shelf, Fail>
 // Both records in rounds of one, over blocks for one: what came of the rounds, and what was written; the blocks that
 // are home on the side that works once a round was put and once it was handed home, and on the other once the next one
 // was read; and at last.
-fn in_turn<R: Threads + Sync>(
-    rt: &R,
-    alloc: Global,
-) -> Result<([Step; 3], Vec<u8>, [u32; 4]), Fail> {
+fn in_turn(alloc: Global) -> Result<([Step; 3], Vec<u8>, [u32; 4]), Fail> {
     let mut feed = Feed {
         inner: MemSource::new(TWO_RECORDS.to_vec(alloc)?, 24, Vec::new(alloc)),
     };
@@ -73,19 +70,20 @@ fn in_turn<R: Threads + Sync>(
     let mut sink = MemSink::new(alloc, 64, Vec::new(alloc));
     let mut rounds = Rounds::make(alloc, 3, 1, plain(1, 0, 64), false)?;
     let shelves = (Pool::empty(alloc, 3)?, Pool::empty(alloc, 3)?);
+    let mut works = Alone { gate: &NoGate };
     let mut intake = rounds.part()?;
     let round = full(intake.read_round(&mut reader, &mut AllHome))?;
     let end = RoundEnd::Full;
-    let first = rounds.put_read(rt, RoundRead { round, end }, &file, &mut sink, &NoGate, 0);
+    let first = rounds.put_read(&mut works, RoundRead { round, end }, &file, &mut sink, 0);
     let put = rounds.home();
     let mut back = handed(&mut rounds, shelves.0)?;
     let given = rounds.home();
     let round = full(intake.read_round(&mut reader, &mut back))?;
     let read = intake.home();
-    let second = rounds.put_read(rt, RoundRead { round, end }, &file, &mut sink, &NoGate, 1);
+    let second = rounds.put_read(&mut works, RoundRead { round, end }, &file, &mut sink, 1);
     let mut back = handed(&mut rounds, shelves.1)?;
     let last = intake.read_round(&mut reader, &mut back);
-    let third = rounds.put_read(rt, last, &file, &mut sink, &NoGate, 2);
+    let third = rounds.put_read(&mut works, last, &file, &mut sink, 2);
     if rounds.home() + intake.home() > intake.blocks() {
         return Err(Fail::from("no block is there twice"));
     }
@@ -100,7 +98,7 @@ fn in_turn<R: Threads + Sync>(
 
 #[test]
 fn blocks_come_home_while_rounds_are_read(rt: HostRuntime) -> Result<(), Fail> {
-    let (steps, written, homes) = in_turn(&rt, rt.alloc())?;
+    let (steps, written, homes) = in_turn(rt.alloc())?;
     assert_eq!(rt; steps, [Step::Goes, Step::Goes, Step::Ends(MergeEnd::Done)]);
     assert_eq!(rt; written.as_slice(), WRITTEN.as_slice());
     assert_eq!(rt; homes, [3, 0, 0, 3]);
