@@ -14,7 +14,7 @@ use crate::memory::{LentSource, Outcome, grown_sink};
 use crate::options::{MergeOptions, Refused};
 use off_io::{NoGate, Sink, Source, WriteFault};
 use pcap_io::{CaptureReader, FileHead, InFault, Link, take_file, write_file_head};
-use round_work::Plan;
+use round_work::{Alone, Plan};
 use rounds::{MergeEnd, Rounds};
 use std::alloc::Global;
 
@@ -39,7 +39,7 @@ fn merge_from<S: Source, K: Sink>(
     ensures given { Told (S.left source.old) (S.left source.new) (Passes (merging rounds.old.blocks (options_of rounds.old) (first_place file Ethernet 0)) (K.held sink.old) (K.held sink.new) (ending_of result)) }
 {
     let mut reader = CaptureReader::after_file(source, file, Link::Ethernet);
-    rounds.merge_all_alone(&mut reader, &file, sink, &NoGate)
+    rounds.merge_all(&mut Alone { gate: &NoGate }, &mut reader, &file, sink)
 }
 
 // Merges a whole capture.

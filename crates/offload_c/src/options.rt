@@ -6,7 +6,7 @@ ghost use Rattle.offload_c.specs.Options.{AreInRange, IsHash, IsTableOrNone, IsF
 
 use arrayvec::ArrayVec;
 use frame_layout::{Choice, HashKey, even_table};
-use round_work::Plan;
+use round_work::{Plan, SharedProgram};
 use std::alloc::Global;
 use std::mem::size_of;
 use tap_filter::{FilterFault, Program};
@@ -83,7 +83,7 @@ fn hash_key(key: &[u8]) -> HashKey
 }
 
 // What taps are shown.
-fn filter_of(alloc: Global, text: &[u8]) -> Result<Option<Program>, Refused>
+fn filter_of(alloc: Global, text: &[u8]) -> Result<Option<SharedProgram>, Refused>
     ensures filter { MatchResult result (λ filter. (filter ≡ filter_by text.now) × IsFilter text.now) (WhyNoFilter text.now) }
 {
     if text.is_empty() {
@@ -93,7 +93,10 @@ fn filter_of(alloc: Global, text: &[u8]) -> Result<Option<Program>, Refused>
         return Err(Refused::Usage);
     };
     match Program::of_text(alloc, text) {
-        Ok(program) => Ok(Some(program)),
+        Ok(program) => match SharedProgram::new(alloc, program) {
+            Ok(program) => Ok(Some(program)),
+            Err(_) => Err(Refused::NoMemory),
+        },
         Err(FilterFault::NoMemory) => Err(Refused::NoMemory),
         Err(_) => Err(Refused::Usage),
     }
