@@ -18,6 +18,7 @@ use std::alloc::{AllocError, Global};
 use std::collections::VecDeque;
 use std::marker::Model;
 use std::sync::Wait;
+use std::thread;
 use std::thread::{Threads, for_each_mut};
 
 /// The lanes of a round, at most: 64 queues and 8 taps.
@@ -33,6 +34,16 @@ pub struct LaneDesk {
     /// Those beside it.
     pub runners: Vec<Runner<LaneTask>>,
     pub bells: Bells,
+}
+
+/// How many run tasks beside who asks, so that as many lanes are at work as there are processors for; one at least, so that two lanes
+/// may wait for each other.
+pub fn count_runners(rt: &impl Threads, lanes: u32) -> u32 {
+    let threads = match thread::available_parallelism(rt) {
+        Ok(count) => count.get().min(lanes as usize) as u32,
+        Err(_) => 1,
+    };
+    threads.saturating_sub(1).max(1)
 }
 
 /// A desk with so many who run tasks beside who asks.
