@@ -11,8 +11,8 @@ pub record SharedState : Type 0 where
   pub id : TableId
   pub made : ℕ
 
--- which pool's pass it is; the blocks that the pool was made with, and their number; its parts of the whole; the blocks that it took and put, and
--- their numbers; how often it found the pool empty and full
+-- which pool's pass it is; the blocks that the pool was made with, and their number; its parts of the whole; the blocks
+-- that it took and put, and their numbers; how often it found the pool empty and full
 pub record PassState : Type 0 where
   pub pool : TableId
   pub made : List SoleState

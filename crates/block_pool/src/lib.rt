@@ -1,12 +1,13 @@
 //! Pools of blocks, whose memory is taken when they are made.
 //!
-//! `Pool` is one thread's. It holds Soles, so each block that is home or that `take` answers has no other holder. `take` answers
-//! the one that came home last and is `Empty` exactly where none is home (clause `block`); `put` brings one back into a place
-//! that `make` reserved, and takes no memory. `taken` counts the blocks that were taken.
+//! `Pool` is one thread's. It holds Soles, so each block that is home or that `take` answers has no other holder.
+//! `take` answers the one that came home last and is `Empty` exactly where none is home (clause `block`); `put` brings
+//! one back into a place that `make` reserved, and takes no memory. `taken` counts the blocks that were taken.
 //!
-//! `SharedPool` is shared by threads, each with a `PoolPass` of its own. Nothing is lost: what is home and all that was taken is
-//! what was made and all that was put, block by block (clauses `taken` of `take`, `put` of `put`, `blocks` of `home`). A refusal
-//! is counted, and there is none where the pass that has all parts shows a block home, or fewer home than were made (`sure`).
+//! `SharedPool` is shared by threads, each with a `PoolPass` of its own. Nothing is lost: what is home and all that was
+//! taken is what was made and all that was put, block by block (clauses `taken` of `take`, `put` of `put`, `blocks` of
+//! `home`). A refusal is counted, and there is none where the pass that has all parts shows a block home, or fewer home
+//! than were made (`sure`).
 //!
 //! ```
 //! let mut pool = Pool::make(alloc, 64)?;
@@ -14,6 +15,20 @@
 //!     pool.put(block);
 //! }
 //! ```
+//!
+//! Tests: `buffer_tests`, module `pools`.
+//!
+//! Why so:
+//!
+//! - **The shared pool's rule is over blocks, and not over their numbers alone.** Two lists that weigh the same under
+//!   every weight of a block have the same blocks, so a sum says "block by block" and stays arithmetic. With numbers
+//!   alone a `put` that writes on the block, or swaps it, would be let through.
+//! - **Seven kinds of step and no others.** A look at the queue that changes nothing (`home`, and `gather`'s check that
+//!   parts stay below 65,536) is none.
+//! - **A pass is a `requires`**: each call wants a pass of its own pool, by the queue's name and the number of blocks.
+//!   A pass that is dropped takes its parts with it.
+//! - **`fork` takes no handle** and returns always. `gather`, `take` and `put` wait for ever where a count of 64 bits
+//!   would wrap, as the queue itself does after 2^62 pushes; so no caller carries a bound.
 #![tactic(auto)]
 
 mod pool;

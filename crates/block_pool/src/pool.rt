@@ -1,5 +1,6 @@
 //! A pool of blocks.
-ghost use Rattle.std.specs.Prelude.{◌≡◌, ◌⊎◌, ◌+◌, ◌-◌, ◌<◌, ◌≤◌, ◌^◌, [], ◌∷◌, ◌++◌, length, min, IfOk, MatchResult, MatchOption};
+ghost use Rattle.std.specs.Prelude.{◌≡◌, ◌⊎◌, ◌+◌, ◌-◌, ◌<◌, ◌≤◌, ◌^◌, [], ◌∷◌, ◌++◌, length, min, IfOk, MatchResult};
+ghost use Rattle.std.specs.Prelude.{MatchOption};
 ghost use Rattle.block_pool.specs.PoolState.{home};
 
 use raw_block::Sole;
@@ -64,7 +65,8 @@ impl Pool {
 
     /// The block that came home last, as its only holder. `Empty` exactly where no block is home.
     pub fn take(&mut self) -> Result<Sole, Empty>
-        ensures block { MatchResult result (λ block. self.old.blocks ≡ self.new.blocks ++ block ∷ []) (λ _. (home self.old ≡ 0) × (self.new ≡ self.old)) }
+        ensures block { MatchResult result (λ block. self.old.blocks ≡ self.new.blocks ++ block ∷ [])
+            (λ _. (home self.old ≡ 0) × (self.new ≡ self.old)) }
         ensures taken { IfOk result (λ _. self.new.taken ≡ min (self.old.taken + 1) (2 ^ 64 - 1)) }
         ensures made { self.new.made ≡ self.old.made }
     {
@@ -110,7 +112,8 @@ impl Pool {
 
     // The block that came home last.
     fn last(&mut self) -> Option<Sole>
-        ensures block { MatchOption result ((home self.old ≡ 0) × (self.new ≡ self.old)) (λ block. self.old.blocks ≡ self.new.blocks ++ block ∷ []) }
+        ensures block { MatchOption result ((home self.old ≡ 0) × (self.new ≡ self.old))
+            (λ block. self.old.blocks ≡ self.new.blocks ++ block ∷ []) }
         ensures same { (self.new.made ≡ self.old.made) × (self.new.taken ≡ self.old.taken) }
     {
         self.blocks.pop()

@@ -1,9 +1,9 @@
 //! A pool of blocks that several threads take from and put back to at once.
 //!
-//! Its blocks wait in a queue without a lock, first in, first out. Whoever takes or puts holds a `PoolPass`, which counts
-//! what it did. The opening pass has 65,536 parts; `fork` moves one of them to a new pass for another thread, and `gather`
-//! adds a pass to another again. The pass that has all parts knows the pool whole: the blocks that are home are those that
-//! were made and those that were put, without those that were taken.
+//! Its blocks wait in a queue without a lock, first in, first out. Whoever takes or puts holds a `PoolPass`, which
+//! counts what it did. The opening pass has 65,536 parts; `fork` moves one of them to a new pass for another thread,
+//! and `gather` adds a pass to another again. The pass that has all parts knows the pool whole: the blocks that are
+//! home are those that were made and those that were put, without those that were taken.
 //!
 //! ```
 //! let (pool, mut pass) = SharedPool::make(&rt, alloc, 64)?;
@@ -13,7 +13,8 @@
 //! pool.home(&rt, &mut pass);
 //! ```
 ghost use Rattle.std.specs.Prelude.{◌≡◌, ℕ, ◌+◌, ◌<◌, ◌≤◌, length, All, IfOk, IfErr, IsOk};
-ghost use Rattle.block_pool.specs.PassState.{IsOwn, IsOpening, IsNew, IsFresh, IsHome, IsSame, LostPart, Took, Put, FoundEmpty, FoundFull, Gathered};
+ghost use Rattle.block_pool.specs.PassState.{IsOwn, IsOpening, IsNew, IsFresh, IsHome, IsSame, LostPart, Took, Put};
+ghost use Rattle.block_pool.specs.PassState.{FoundEmpty, FoundFull, Gathered};
 
 use crossbeam_queue::Pass;
 use raw_block::Sole;
@@ -49,8 +50,8 @@ impl Model for SharedPool {
     ghost invariant = { λ p. p.made ≡ ruled_capacity p.queue };
 }
 
-/// The right to take from one pool and to put back to it, with the counts of what was done. One that is dropped takes its
-/// parts with it, and no pass knows the pool whole from then on.
+/// The right to take from one pool and to put back to it, with the counts of what was done. One that is dropped takes
+/// its parts with it, and no pass knows the pool whole from then on.
 #[derive(Drop)]
 pub struct PoolPass {
     pass: Pass<Sole, Tally>,
@@ -67,7 +68,19 @@ impl Model for PoolPass {
 
     ghost Value = { PassState };
 
-    ghost view = { λ p. record { pool = p.pass.table_id; made = (known p.pass).made; size = length (known p.pass).made; parts = p.parts; taken = (known p.pass).taken; takes = p.takes; put = (known p.pass).put; puts = p.puts; empties = p.empties; fulls = p.fulls } };
+    ghost view = { λ p. record {
+      pool = p.pass.table_id;
+      made = (known p.pass).made;
+      size = length
+          (known p.pass).made;
+      parts = p.parts;
+      taken = (known p.pass).taken;
+      takes = p.takes;
+      put = (known p.pass).put;
+      puts = p.puts;
+      empties = p.empties;
+      fulls = p.fulls;
+    } };
 
     ghost invariant = { λ p. IsTied p.pass p.parts p.takes p.puts };
 }
@@ -163,8 +176,8 @@ impl SharedPool {
         kept.fulls = kept.fulls.saturating_add(fulls);
     }
 
-    /// The block that is home for longest, as its only holder. `Empty` only where the queue held no block at a step of this
-    /// call, and never where all passes are gathered into this one and its counts show a block home.
+    /// The block that is home for longest, as its only holder. `Empty` only where the queue held no block at a step of
+    /// this call, and never where all passes are gathered into this one and its counts show a block home.
     pub fn take<R: Wait>(&self, rt: &R, pass: &mut PoolPass) -> Result<Sole, Empty>
         requires own { IsOwn self.now pass.old }
         ensures taken { IfOk result (λ block. Took pass.old block pass.new) }
@@ -178,8 +191,9 @@ impl SharedPool {
         }
     }
 
-    /// Brings a block home, and takes no memory. `Full`, with the block, only where the queue held as many blocks as were
-    /// made at a step of this call, and never where all passes are gathered into this one and its counts show fewer home.
+    /// Brings a block home, and takes no memory. `Full`, with the block, only where the queue held as many blocks as
+    /// were made at a step of this call, and never where all passes are gathered into this one and its counts show
+    /// fewer home.
     pub fn put<R: Wait>(&self, rt: &R, pass: &mut PoolPass, block: Sole) -> Result<(), Full>
         requires own { IsOwn self.now pass.old }
         ensures put { IfOk result (λ _. Put pass.old block pass.new) }
@@ -193,8 +207,8 @@ impl SharedPool {
         }
     }
 
-    /// The blocks that are home, where all passes are gathered into this one: those that were made and those that were put,
-    /// without those that were taken.
+    /// The blocks that are home, where all passes are gathered into this one: those that were made and those that were
+    /// put, without those that were taken.
     pub fn home<R: Wait>(&self, rt: &R, pass: &mut PoolPass) -> usize
         requires own { IsOwn self.now pass.old }
         requires all { pass.old.parts ≡ 65536 }

@@ -41,7 +41,8 @@ module _ (from to : Link) (passing : Place → List ℕ → Passed) where
   no_file a b h fault told =
       Told-weaker a b (GivesFile from (Err fault)) (Passes (whole from to passing) h h (fault_ending fault)) (λ given left gives. not_taken h fault given left gives) told
 
-  pub head_failed : (a b h h1 : Option (List ℕ)) (file : FileHead) → AppendsFront h h1 (file_bytes file to) → Told a b (GivesFile from (Ok file)) → Told a b (Passes (whole from to passing) h h1 WriteFault)
+  pub head_failed : (a b h h1 : Option (List ℕ)) (file : FileHead) → AppendsFront h h1 (file_bytes file to) → Told a b (GivesFile from (Ok file))
+      → Told a b (Passes (whole from to passing) h h1 WriteFault)
   head_failed a b h h1 file wrote told =
       Told-weaker a b (GivesFile from (Ok file)) (Passes (whole from to passing) h h1 WriteFault)
       (λ given left gives.

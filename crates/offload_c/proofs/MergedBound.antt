@@ -1,5 +1,6 @@
 -- How long what merging writes is at most.
-use Rattle.std.proofs.Common.{◌≡◌, ℕ, zero, suc, ◌+◌, ◌*◌, ◌<◌, ◌≤◌, Bool, true, false, cond, Option, None, Some, List, [], ◌∷◌, length, map, take, drop, refl, ap, subst, arith, length-append, length-drop, length-take}
+use Rattle.std.proofs.Common.{◌≡◌, ℕ, zero, suc, ◌+◌, ◌*◌, ◌<◌, ◌≤◌, Bool, true, false, cond, Option, None, Some, List, [], ◌∷◌, length, map, take, drop, refl, ap, subst, arith, length-append}
+use Rattle.std.proofs.Common.{length-drop, length-take}
 use Rattle.std.specs.Prelude.{◌==◌}
 use Rattle.std.specs.List.{flat_map, filter, range_with_len, AllByRecursion}
 use Rattle.std.proofs.Math.Nat.{mul-le-mul_right}
@@ -183,13 +184,15 @@ frames_and_headers (p ∷ ps) = (omega (arith, (frames_and_headers ps).0), omega
 
 -- of packets that `left` bytes hold
 adds_up : (left records n taps snap frames sizes out : ℕ) → sizes ≡ frames + n * 16 → sizes ≤ left → n ≤ records
-    → out ≤ (sizes + n * off_head2_size) + (n * (both_heads * taps) + frames) → out ≤ (sizes + n * off_head2_size) + (n * (both_heads * taps) + n * (taps * snap)) → 24 + out ≤ merge_bound (24 + left) records taps snap
+    → out ≤ (sizes + n * off_head2_size) + (n * (both_heads * taps) + frames) → out ≤ (sizes + n * off_head2_size) + (n * (both_heads * taps) + n * (taps * snap))
+    → 24 + out ≤ merge_bound (24 + left) records taps snap
 adds_up left records n taps snap frames sizes out split within few by_frames by_snaps =
     let most : ℕ = most_records (24 + left) records in
     let le : n ≤ most = omega (arith, split, within, few) in
     omega (arith, split, within, by_frames, by_snaps, mul-le-mul_right (off_head2_size + both_heads * taps) le, mul-le-mul_right (taps * snap) le)
 
-merged_fits_by : (refused : Option CapKind) (blocks : ℕ) (o : Options) (given : List ℕ) (records : ℕ) → first_that_holds (file_refusals Ethernet (take 24 given)) ≡ refused → 1 ≤ o.budget → InBytes given
+merged_fits_by : (refused : Option CapKind) (blocks : ℕ) (o : Options) (given : List ℕ) (records : ℕ) → first_that_holds (file_refusals Ethernet (take 24 given)) ≡ refused → 1 ≤ o.budget
+    → InBytes given
     → length (packets_read given) ≤ records
     → length (behind_head refused (file_bytes (file_head (take 24 given)) Offload) (merging blocks o (first_place (file_head (take 24 given)) Ethernet 0) (drop 24 given))).output
     ≤ merge_bound (length given) records o.taps o.snap

@@ -41,7 +41,8 @@ ahead_none blocks place a h =
     Told-same a (Ahead blocks place place h h)
     (λ bytes. record { k = 0; gone = []; done = []; split = refl; goes = (commands_pass_on passing passing 0 [] []).none; wrote = Appends-nil h })
 
-pub moves_is : (n blocks : ℕ) (b c h1 h2 : Option (List ℕ)) (p1 p2 : Place) (x y : Result Moved SegFault) → n ≡ blocks → x ≡ y → Told b c (Moves n p1 p2 h1 h2 x) → Told b c (Moves blocks p1 p2 h1 h2 y)
+pub moves_is : (n blocks : ℕ) (b c h1 h2 : Option (List ℕ)) (p1 p2 : Place) (x y : Result Moved SegFault) → n ≡ blocks → x ≡ y → Told b c (Moves n p1 p2 h1 h2 x)
+    → Told b c (Moves blocks p1 p2 h1 h2 y)
 moves_is n blocks b c h1 h2 p1 p2 x y same is told =
     subst (λ (k : ℕ). Told b c (Moves k p1 p2 h1 h2 y)) same (subst (λ (r : Result Moved SegFault). Told b c (Moves n p1 p2 h1 h2 r)) is told)
 
@@ -85,7 +86,8 @@ module _ (blocks : ℕ) (p0 p1 p2 : Place) (a b c h h1 h2 : Option (List ℕ)) w
   end_then first more =
       Told-then a b c (Ahead blocks p0 p1 h h1) (Moves blocks p1 p2 h1 h2 (Ok End)) (EndsAs (segmenting blocks p0) h h2 (Ok tt)) (λ bytes rest left x y. one_end bytes rest left x y) first more
 
-  one_stop : (fault : SegFault) (bytes rest left : List ℕ) → Ahead blocks p0 p1 h h1 bytes rest → Moves blocks p1 p2 h1 h2 (Err fault) rest left → EndsAs (segmenting blocks p0) h h2 (Err fault) bytes left
+  one_stop : (fault : SegFault) (bytes rest left : List ℕ) → Ahead blocks p0 p1 h h1 bytes rest → Moves blocks p1 p2 h1 h2 (Err fault) rest left
+      → EndsAs (segmenting blocks p0) h h2 (Err fault) bytes left
   one_stop (segments.Malformed fault) bytes rest left x y = (Stopped (AtFault fault), refl, behind (Stopped (AtFault fault)) bytes rest left x y.0)
   one_stop (segments.PoolEmpty need) bytes rest left x y = (Stopped (AtRound (x.k + 0) need), (x.k + 0, refl), behind (Stopped (AtRound 0 need)) bytes rest left x y.0)
   one_stop segments.ReadFault bytes rest left x y = (ReadFault, refl, behind ReadFault bytes rest left x y.0)
@@ -94,11 +96,13 @@ module _ (blocks : ℕ) (p0 p1 p2 : Place) (a b c h h1 h2 : Option (List ℕ)) w
 
   pub stop_then : (fault : SegFault) → Told a b (Ahead blocks p0 p1 h h1) → Told b c (Moves blocks p1 p2 h1 h2 (Err fault)) → Told a c (EndsAs (segmenting blocks p0) h h2 (Err fault))
   stop_then fault first more =
-      Told-then a b c (Ahead blocks p0 p1 h h1) (Moves blocks p1 p2 h1 h2 (Err fault)) (EndsAs (segmenting blocks p0) h h2 (Err fault)) (λ bytes rest left x y. one_stop fault bytes rest left x y) first more
+      Told-then a b c (Ahead blocks p0 p1 h h1) (Moves blocks p1 p2 h1 h2 (Err fault)) (EndsAs (segmenting blocks p0) h h2 (Err fault))
+      (λ bytes rest left x y. one_stop fault bytes rest left x y) first more
 
 -- ---- with the file header
 
-pub not_taken_given : (blocks : ℕ) (a b h : Option (List ℕ)) (fault : InFault) (end : SegFault) → IsSegFault fault end → Told a b (GivesFile Offload (Err fault)) → Told a b (EndsAs (segmenting_whole blocks) h h (Err end))
+pub not_taken_given : (blocks : ℕ) (a b h : Option (List ℕ)) (fault : InFault) (end : SegFault) → IsSegFault fault end → Told a b (GivesFile Offload (Err fault))
+    → Told a b (EndsAs (segmenting_whole blocks) h h (Err end))
 not_taken_given blocks a b h (faults.Cap fault) end is told =
     Told-weaker a b (Passes (segmenting_whole blocks) h h (Stopped (AtFault fault))) (EndsAs (segmenting_whole blocks) h h (Err end))
     (λ given left p. rw is (Stopped (AtFault fault), refl, p)) (no_file Offload Ethernet (segmenting blocks) a b h (faults.Cap fault) told)

@@ -1,5 +1,6 @@
 -- How long what segmenting writes is at most.
-use Rattle.std.proofs.Common.{◌≡◌, ℕ, zero, suc, ◌+◌, ◌-◌, ◌*◌, ◌≤◌, inl, inr, Bool, true, false, Option, None, Some, List, [], ◌∷◌, length, map, take, drop, refl, ap, ◌∙◌, arith, length-append, length-drop, length-take}
+use Rattle.std.proofs.Common.{◌≡◌, ℕ, zero, suc, ◌+◌, ◌-◌, ◌*◌, ◌≤◌, inl, inr, Bool, true, false, Option, None, Some, List, [], ◌∷◌, length, map, take, drop, refl, ap, ◌∙◌, arith, length-append}
+use Rattle.std.proofs.Common.{length-drop, length-take}
 use Rattle.std.specs.Prelude.{◌==◌, if◌then◌else◌}
 use Rattle.std.specs.List.{flat_map, range_with_len, AllByRecursion}
 use Rattle.std.specs.Option.{unwrap_or}
@@ -130,7 +131,8 @@ read_bytes order link n offset zero (b ∷ bytes) small =
     (take_small captured (drop 16 (b ∷ bytes)) (drop_small 16 (b ∷ bytes) small))
     (read_bytes order link (n + 1) (offset + 16 + captured) (15 + captured) bytes (λ k. small (suc k)))
   where
-    by : (refused : Option CapKind) (p : Packet) (rest : Found) → InBytes p.frame → AllByRecursion (λ p. InBytes p.frame) rest.packets → AllByRecursion (λ p. InBytes p.frame) (judged refused n offset p rest).packets
+    by : (refused : Option CapKind) (p : Packet) (rest : Found) → InBytes p.frame → AllByRecursion (λ p. InBytes p.frame) rest.packets → AllByRecursion (λ p. InBytes p.frame)
+        (judged refused n offset p rest).packets
     by None p rest first are = (first, are)
     by (Some kind) p rest first are = tt
 

@@ -43,7 +43,8 @@ Gives passed NoMemory = ⊤
 -- output of this length has so many.
 abbrev pub FlowsBack : ℕ → List ℕ → List ℕ → Type 0
 FlowsBack taps given output =
-    (taps ≡ 0) ⊎ (length output ≤ 2 ^ 36) → BringsBack (reads Ethernet given).packets (reads Ethernet (segmented_of output))
+    (taps ≡ 0) ⊎ (length output ≤ 2 ^ 36) → BringsBack (reads Ethernet given).packets
+    (reads Ethernet (segmented_of output))
 
 abbrev pub FlowsOf : ℕ → List ℕ → Outcome → Type 0
 FlowsOf taps given (Whole bytes) = FlowsBack taps given bytes.items

@@ -33,7 +33,8 @@ packets_read given = (reads Ethernet given).packets
 -- whatever the blocks
 abbrev pub MergedFits : Type 0
 MergedFits =
-    (blocks : ℕ) (o : Options) (given : List ℕ) (records : ℕ) → 1 ≤ o.budget → InBytes given → length (packets_read given) ≤ records
+    (blocks : ℕ) (o : Options) (given : List ℕ) (records : ℕ) → 1 ≤ o.budget → InBytes given
+    → length (packets_read given) ≤ records
     → length (merging_whole blocks o given).output ≤ merge_bound (length given) records o.taps o.snap
 
 -- ---- segmenting

@@ -3,7 +3,8 @@ use Rattle.std.specs.declared.alloc.Global.{Global}
 use Rattle.std.specs.Prelude.{◌≡◌, ℕ, List, Option, Result, Ok, Err, Vec}
 use Rattle.pcap_io.specs.declared.faults.InFault.{InFault}
 use Rattle.pcap_io.specs.declared.faults.InFault.TheVariants as faults
-use Rattle.offload_model.specs.Passing.{Ending, Stopped, Nowhere, AtFault, AtRound, Passed, ReadFault, WriteFault, NoMemory, Passes}
+use Rattle.offload_model.specs.Passing.{Ending, Stopped, Nowhere, AtFault, AtRound, Passed, ReadFault, WriteFault}
+use Rattle.offload_model.specs.Passing.{NoMemory, Passes}
 use Rattle.rounds.specs.declared.merge.MergeEnd.{MergeEnd}
 use Rattle.rounds.specs.declared.merge.MergeEnd.TheVariants as merges
 use Rattle.rounds.specs.declared.segment.SegFault.{SegFault}
@@ -40,8 +41,10 @@ IsEndingFor (Err segments.WriteFault) ending = ending ≡ WriteFault
 IsEndingFor (Err segments.NoMemory) ending = ending ≡ NoMemory
 
 -- segmenting ends so
-abbrev pub EndsAs : (List ℕ → Passed) → Option (List ℕ) → Option (List ℕ) → Result (Unit {0}) SegFault → List ℕ → List ℕ → Type 0
-EndsAs passing old new result bytes left = (ending : Ending) × IsEndingFor result ending × Passes passing old new ending bytes left
+abbrev pub EndsAs : (List ℕ → Passed) → Option (List ℕ) → Option (List ℕ) → Result (Unit {0}) SegFault → List ℕ → List ℕ
+    → Type 0
+EndsAs passing old new result bytes left = (ending : Ending) × IsEndingFor result ending
+    × Passes passing old new ending bytes left
 
 abbrev pub IsSegOutcome : Result (Unit {0}) SegFault → Vec ℕ Global → Outcome → Type 0
 IsSegOutcome (Ok _) bytes outcome = outcome ≡ outcomes.Whole bytes

@@ -55,12 +55,20 @@ pub extern "C" fn offload_merge(
 ) -> u32
     ensures usage { result ≡ 2 → AreLawful options.now → ⊥ }
     ensures refused { (AreLawful options.now → ⊥) → (result ≡ 2) ⊎ ((result ≡ 7) × AreAllButFilter options.now) }
-    ensures ok { result ≡ 0 → ((merging_whole options.now.blocks (model_of options.now) capture.now).stop ≡ Nowhere) × Fills output.old output.new count.new (merging_whole options.now.blocks (model_of options.now) capture.now).output }
-    ensures malformed { result ≡ 3 → IsAtFault (merging_whole options.now.blocks (model_of options.now) capture.now).stop × Fills output.old output.new count.new (merging_whole options.now.blocks (model_of options.now) capture.now).output }
-    ensures empty { result ≡ 4 → IsAtRound (merging_whole options.now.blocks (model_of options.now) capture.now).stop × Fills output.old output.new count.new (merging_whole options.now.blocks (model_of options.now) capture.now).output }
+    ensures ok { result ≡ 0 → ((merging_whole options.now.blocks (model_of options.now) capture.now).stop ≡ Nowhere)
+        × Fills output.old output.new count.new (merging_whole options.now.blocks
+        (model_of options.now) capture.now).output }
+    ensures malformed { result ≡ 3 → IsAtFault (merging_whole options.now.blocks
+        (model_of options.now) capture.now).stop × Fills output.old output.new count.new
+        (merging_whole options.now.blocks (model_of options.now) capture.now).output }
+    ensures empty { result ≡ 4 → IsAtRound (merging_whole options.now.blocks (model_of options.now) capture.now).stop
+        × Fills output.old output.new count.new (merging_whole options.now.blocks
+        (model_of options.now) capture.now).output }
     ensures flows { result ≡ 0 → FlowsBack options.now.taps capture.now (take count.new output.new) }
-    ensures short { result ≡ 9 → IsShort output.old output.new count.new (merging_whole options.now.blocks (model_of options.now) capture.now).output }
-    ensures room { (records : ℕ) → length (packets_read capture.now) ≤ records → merge_bound (length capture.now) records options.now.taps options.now.snap ≤ length output.old → result ≢ 9 }
+    ensures short { result ≡ 9 → IsShort output.old output.new count.new
+        (merging_whole options.now.blocks (model_of options.now) capture.now).output }
+    ensures room { (records : ℕ) → length (packets_read capture.now) ≤ records
+        → merge_bound (length capture.now) records options.now.taps options.now.snap ≤ length output.old → result ≢ 9 }
     ensures codes { (result ≡ 0) ⊎ ((result ≡ 2) ⊎ ((result ≡ 3) ⊎ ((result ≡ 4) ⊎ ((result ≡ 7) ⊎ (result ≡ 9))))) }
     ensures untouched { (result ≡ 2) ⊎ (result ≡ 7) → (output.new ≡ output.old) × (count.new ≡ 0) }
 {
@@ -79,8 +87,8 @@ pub extern "C" fn offload_merge(
 }
 
 /// Cuts an offload capture in memory, as [`offload_merge`] makes it, back into the packets that its records stand for,
-/// each record in a pool of `blocks` blocks of 2048 bytes (1 to 65536). A record of n bytes with its offload header needs
-/// (n + 2099) / 2048 + 2 of them: of a header of version 2 the last four bytes are counted with the frame.
+/// each record in a pool of `blocks` blocks of 2048 bytes (1 to 65536). A record of n bytes with its offload header
+/// needs (n + 2099) / 2048 + 2 of them: of a header of version 2 the last four bytes are counted with the frame.
 ///
 /// The answers are those of [`offload_merge`], where `blocks` is the only option; a record that isn't lawful ends the
 /// capture too. [`crate::offload_segment_bound`] bytes suffice.
@@ -93,11 +101,15 @@ pub extern "C" fn offload_segment(
     count: &mut usize,
 ) -> u32
     ensures usage { result ≡ 2 ↔ ((blocks ≡ 0) ⊎ (65536 < blocks)) }
-    ensures ok { result ≡ 0 → ((segmenting_whole blocks capture.now).stop ≡ Nowhere) × Fills output.old output.new count.new (segmenting_whole blocks capture.now).output }
-    ensures malformed { result ≡ 3 → IsAtFault (segmenting_whole blocks capture.now).stop × Fills output.old output.new count.new (segmenting_whole blocks capture.now).output }
-    ensures empty { result ≡ 4 → IsAtRound (segmenting_whole blocks capture.now).stop × Fills output.old output.new count.new (segmenting_whole blocks capture.now).output }
+    ensures ok { result ≡ 0 → ((segmenting_whole blocks capture.now).stop ≡ Nowhere)
+        × Fills output.old output.new count.new (segmenting_whole blocks capture.now).output }
+    ensures malformed { result ≡ 3 → IsAtFault (segmenting_whole blocks capture.now).stop
+        × Fills output.old output.new count.new (segmenting_whole blocks capture.now).output }
+    ensures empty { result ≡ 4 → IsAtRound (segmenting_whole blocks capture.now).stop
+        × Fills output.old output.new count.new (segmenting_whole blocks capture.now).output }
     ensures short { result ≡ 9 → IsShort output.old output.new count.new (segmenting_whole blocks capture.now).output }
-    ensures room { (packets : ℕ) → length (packets_cut capture.now) ≤ packets → segment_bound (length capture.now) packets ≤ length output.old → result ≢ 9 }
+    ensures room { (packets : ℕ) → length (packets_cut capture.now) ≤ packets
+        → segment_bound (length capture.now) packets ≤ length output.old → result ≢ 9 }
     ensures codes { (result ≡ 0) ⊎ ((result ≡ 2) ⊎ ((result ≡ 3) ⊎ ((result ≡ 4) ⊎ ((result ≡ 7) ⊎ (result ≡ 9))))) }
     ensures untouched { (result ≡ 2) ⊎ (result ≡ 7) → (output.new ≡ output.old) × (count.new ≡ 0) }
 {

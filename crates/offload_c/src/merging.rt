@@ -36,7 +36,9 @@ fn merge_from<S: Source, K: Sink>(
     sink: &mut K,
 ) -> MergeEnd
     requires home { rounds.old.home ≡ rounds.old.blocks }
-    ensures given { Told (S.left source.old) (S.left source.new) (Passes (merging rounds.old.blocks (options_of rounds.old) (first_place file Ethernet 0)) (K.held sink.old) (K.held sink.new) (ending_of result)) }
+    ensures given { Told (S.left source.old) (S.left source.new)
+        (Passes (merging rounds.old.blocks (options_of rounds.old) (first_place file Ethernet 0)) (K.held sink.old)
+        (K.held sink.new) (ending_of result)) }
 {
     let mut reader = CaptureReader::after_file(source, file, Link::Ethernet);
     rounds.merge_all(&mut Alone { gate: &NoGate }, &mut reader, &file, sink)
@@ -45,7 +47,9 @@ fn merge_from<S: Source, K: Sink>(
 // Merges a whole capture.
 fn merge_capture<S: Source, K: Sink>(rounds: &mut Rounds, source: &mut S, sink: &mut K) -> MergeEnd
     requires home { rounds.old.home ≡ rounds.old.blocks }
-    ensures given { Told (S.left source.old) (S.left source.new) (Passes (merging_whole rounds.old.blocks (options_of rounds.old)) (K.held sink.old) (K.held sink.new) (ending_of result)) }
+    ensures given { Told (S.left source.old) (S.left source.new)
+        (Passes (merging_whole rounds.old.blocks (options_of rounds.old)) (K.held sink.old) (K.held sink.new)
+        (ending_of result)) }
 {
     let file = match take_file(source, Link::Ethernet) {
         Ok(file) => file,

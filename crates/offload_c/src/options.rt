@@ -1,8 +1,10 @@
 //! How a capture is merged.
-ghost use Rattle.std.specs.Prelude.{◌≡◌, ◌≤◌, ◌<◌, ◌↔◌, true, ℕ, [], length, slice_index, MatchOption, MatchResult, IfOk, IfErr};
+ghost use Rattle.std.specs.Prelude.{◌≡◌, ◌≤◌, ◌<◌, ◌↔◌, true, ℕ, [], length, slice_index, MatchOption, MatchResult};
+ghost use Rattle.std.specs.Prelude.{IfOk, IfErr};
 ghost use Rattle.frame_layout.specs.Choice.{IsTable, IsChoice};
 ghost use Rattle.round_work.specs.Work.{IsPlan};
-ghost use Rattle.offload_c.specs.Options.{AreInRange, IsHash, IsTableOrNone, IsFilter, AreLawful, table_by, choice_by, filter_by, plan_of, WhyRefused, WhyNoFilter};
+ghost use Rattle.offload_c.specs.Options.{AreInRange, IsHash, IsTableOrNone, IsFilter, AreLawful, table_by, choice_by};
+ghost use Rattle.offload_c.specs.Options.{filter_by, plan_of, WhyRefused, WhyNoFilter};
 
 use arrayvec::ArrayVec;
 use frame_layout::{Choice, HashKey, even_table};
@@ -58,8 +60,10 @@ fn are_queues(table: &[u8], queues: u32) -> bool
 pub fn table_of(table: &[u8], queues: u32) -> Option<ArrayVec<u8, 128>>
     requires some { 1 ≤ queues }
     requires few { queues ≤ 64 }
-    ensures table { MatchOption result (IsTableOrNone queues table.now → ⊥) (λ entries. entries.items ≡ table_by queues table.now) }
-    ensures lawful { MatchOption result (Unit {0}) (λ entries. IsTable queues entries.items × IsTableOrNone queues table.now) }
+    ensures table { MatchOption result (IsTableOrNone queues table.now → ⊥)
+        (λ entries. entries.items ≡ table_by queues table.now) }
+    ensures lawful { MatchOption result (Unit {0}) (λ entries. IsTable queues entries.items
+        × IsTableOrNone queues table.now) }
 {
     if table.is_empty() {
         return Some(even_table(queues));
@@ -84,7 +88,8 @@ fn hash_key(key: &[u8]) -> HashKey
 
 // What taps are shown.
 fn filter_of(alloc: Global, text: &[u8]) -> Result<Option<SharedProgram>, Refused>
-    ensures filter { MatchResult result (λ filter. (filter ≡ filter_by text.now) × IsFilter text.now) (WhyNoFilter text.now) }
+    ensures filter { MatchResult result (λ filter. (filter ≡ filter_by text.now) × IsFilter text.now)
+        (WhyNoFilter text.now) }
 {
     if text.is_empty() {
         return Ok(None);
@@ -119,7 +124,8 @@ impl MergeOptions<'_> {
         requires few { self.now.queues ≤ 64 }
         ensures choice { MatchOption result (IsHash self.now.queues self.now.rss_key.now self.now.rss_table.now → ⊥)
             (λ choice. choice ≡ choice_by self.now.queues self.now.rss_key.now self.now.rss_table.now) }
-        ensures lawful { MatchOption result (Unit {0}) (λ choice. IsChoice self.now.queues choice × IsHash self.now.queues self.now.rss_key.now self.now.rss_table.now) }
+        ensures lawful { MatchOption result (Unit {0}) (λ choice. IsChoice self.now.queues choice
+            × IsHash self.now.queues self.now.rss_key.now self.now.rss_table.now) }
     {
         if self.rss_key.is_empty() {
             return if self.rss_table.is_empty() {

@@ -46,7 +46,8 @@ pub extern "C" fn offload_queue_rss(
     table: &[u8],
     queues: u32,
 ) -> u32
-    ensures queue { 1 ≤ queues → queues ≤ 64 → IsTableOrNone queues table.now → (result ≡ queue_in hash_key.now (table_by queues table.now) (key_of frame.now)) × (result < queues) }
+    ensures queue { 1 ≤ queues → queues ≤ 64 → IsTableOrNone queues table.now
+        → (result ≡ queue_in hash_key.now (table_by queues table.now) (key_of frame.now)) × (result < queues) }
     ensures refused { (queues ≡ 0) ⊎ ((64 < queues) ⊎ (IsTableOrNone queues table.now → ⊥)) → result ≡ queues }
 {
     if queues == 0 || queues > 64 {

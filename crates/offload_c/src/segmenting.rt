@@ -34,7 +34,8 @@ fn segment_records<S: Source, K: Sink>(
     requires link { (place_of reader.old).link ≡ Offload }
     requires home { run.old.home ≡ run.old.blocks }
     ensures same_source { SameLoan reader.old reader.new }
-    ensures given { Told (S.left (source_of reader.old)) (S.left (source_of reader.new)) (EndsAs (segmenting run.old.blocks (place_of reader.old)) (K.held sink.old) (K.held sink.new) result) }
+    ensures given { Told (S.left (source_of reader.old)) (S.left (source_of reader.new))
+        (EndsAs (segmenting run.old.blocks (place_of reader.old)) (K.held sink.old) (K.held sink.new) result) }
 {
     'records: loop {
         let moved = match run.next(reader, sink) {
@@ -56,7 +57,8 @@ fn segment_from<S: Source, K: Sink>(
     sink: &mut K,
 ) -> Result<(), SegFault>
     requires home { run.old.home ≡ run.old.blocks }
-    ensures given { Told (S.left source.old) (S.left source.new) (EndsAs (segmenting run.old.blocks (first_place file Offload 0)) (K.held sink.old) (K.held sink.new) result) }
+    ensures given { Told (S.left source.old) (S.left source.new)
+        (EndsAs (segmenting run.old.blocks (first_place file Offload 0)) (K.held sink.old) (K.held sink.new) result) }
 {
     let mut reader = CaptureReader::after_file(source, file, Link::Offload);
     segment_records(run, &mut reader, sink)
@@ -69,7 +71,8 @@ fn segment_capture<S: Source, K: Sink>(
     sink: &mut K,
 ) -> Result<(), SegFault>
     requires home { run.old.home ≡ run.old.blocks }
-    ensures given { Told (S.left source.old) (S.left source.new) (EndsAs (segmenting_whole run.old.blocks) (K.held sink.old) (K.held sink.new) result) }
+    ensures given { Told (S.left source.old) (S.left source.new)
+        (EndsAs (segmenting_whole run.old.blocks) (K.held sink.old) (K.held sink.new) result) }
 {
     let file = match take_file(source, Link::Offload) {
         Ok(file) => file,

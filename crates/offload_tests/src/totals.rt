@@ -1,4 +1,5 @@
-//! The lines, byte for byte, in sinks that take them whole, byte by byte, or fail at each call; and totals that are added.
+//! The lines, byte for byte, in sinks that take them whole, byte by byte, or fail at each call; and totals that are
+//! added.
 
 ghost use Rattle.std.specs.Prelude.{◌≡◌, ◌≤◌, ◌^◌, length, IfOk};
 ghost use Rattle.std.specs.List.{AllByRecursion};

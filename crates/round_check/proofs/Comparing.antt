@@ -90,7 +90,8 @@ plus_more t a b =
 abbrev pub totals_of_runs : List (List Packet) → QueueTotals
 totals_of_runs runs = record { records = sizes runs; items = length runs; merged = length (filter is_merged runs); returned = sizes runs }
 
-run_totals : (left : Lefts) (p : Packet) (ps : List Packet) (runs : List (List Packet)) → (merged_of (p ∷ ps)).n ≡ length (p ∷ ps) → equal_in (packets_in (merged_of (p ∷ ps))) (left (flow_in (merged_of (p ∷ ps)))) ≡ length (p ∷ ps)
+run_totals : (left : Lefts) (p : Packet) (ps : List Packet) (runs : List (List Packet)) → (merged_of (p ∷ ps)).n ≡ length (p ∷ ps) → equal_in (packets_in (merged_of (p ∷ ps)))
+    (left (flow_in (merged_of (p ∷ ps)))) ≡ length (p ∷ ps)
     → queue_plus (totals_of_item left (merged_of (p ∷ ps))) (totals_of_runs runs) ≡ totals_of_runs ((p ∷ ps) ∷ runs)
 run_totals left p ps runs count back =
     let r : Merged = merged_of (p ∷ ps) in

@@ -55,7 +55,8 @@ all_by P [] f = tt
 all_by P (x ∷ xs) f = (f 0 x (omega arith) refl, all_by P xs (λ i d l e. f (suc i) d (omega (arith, l)) e))
 
 -- so what a round's work came to may be compared
-pub lanes_known : (segs : ℕ) (spread : Spread) (ps : List Packet) (ls : List QueueLane) → AreCaptured ps → length ps ≤ 4096 → AreMerged segs spread (length ls) ps ls → AllByRecursion (λ (l : QueueLane). AreReady l.items.items) ls → AllByRecursion MayCompare ls
+pub lanes_known : (segs : ℕ) (spread : Spread) (ps : List Packet) (ls : List QueueLane) → AreCaptured ps → length ps ≤ 4096 → AreMerged segs spread (length ls) ps ls
+    → AllByRecursion (λ (l : QueueLane). AreReady l.items.items) ls → AllByRecursion MayCompare ls
 lanes_known segs spread ps ls c few m ready = all_by MayCompare ls (λ i l less is. lane_known segs spread ps ls i l c few m ready less is)
 
 -- ---- lane by lane
@@ -66,7 +67,8 @@ pub record LanesSoFar (ps : List Packet) (all todo : List (List Merged)) (f : Fl
   pub are : AreLeft ps f now
   pub totals : done ++ totals_by now todo ≡ totals_by (flows_of ps) all
 
-pub lanes_next : (ps : List Packet) (all : List (List Merged)) (i : ℕ) (rs : List Merged) (f g : Flows) (old new : List QueueTotals) (t : QueueTotals) (x : LanesSoFar ps all (drop i all) f old) → drop i all ≡ rs ∷ drop (i + 1) all
+pub lanes_next : (ps : List Packet) (all : List (List Merged)) (i : ℕ) (rs : List Merged) (f g : Flows) (old new : List QueueTotals) (t : QueueTotals) (x : LanesSoFar ps all (drop i all) f old)
+    → drop i all ≡ rs ∷ drop (i + 1) all
     → new ≡ old ++ t ∷ [] → (t ≡ totals_of_items x.now rs) × AreLeft ps g (behind_items x.now rs) → LanesSoFar ps all (drop (i + 1) all) g new
 lanes_next ps all i rs f g old new t x e grown a = record {
   now = behind_items x.now rs;
@@ -77,7 +79,8 @@ lanes_next ps all i rs f g old new t x e grown a = record {
       ∙ ap (λ z. old ++ totals_by x.now z) (sym e) ∙ x.totals;
 }
 
-pub lanes_all : (ps : List Packet) (all : List (List Merged)) (i : ℕ) (f : Flows) (done : List QueueTotals) → drop i all ≡ [] → LanesSoFar ps all (drop i all) f done → done ≡ totals_by (flows_of ps) all
+pub lanes_all : (ps : List Packet) (all : List (List Merged)) (i : ℕ) (f : Flows) (done : List QueueTotals) → drop i all ≡ [] → LanesSoFar ps all (drop i all) f done
+    → done ≡ totals_by (flows_of ps) all
 lanes_all ps all i f done e x = sym (append-nil done) ∙ ap (λ z. done ++ totals_by x.now z) (sym e) ∙ x.totals
 
 -- ---- where they hold what the runs of their queues come to

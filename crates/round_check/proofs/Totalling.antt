@@ -1,5 +1,6 @@
 -- The totals of queues and taps, as the definition has them.
-use Rattle.std.proofs.Common.{◌≡◌, ℕ, zero, suc, ◌+◌, ◌-◌, ◌*◌, ◌^◌, ◌<◌, ◌≤◌, Bool, true, false, cond, Option, None, Some, List, [], ◌∷◌, ◌++◌, length, map, get_or, take, drop, refl, sym, ap, ◌∙◌, subst, arith, length-append, length-drop}
+use Rattle.std.proofs.Common.{◌≡◌, ℕ, zero, suc, ◌+◌, ◌-◌, ◌*◌, ◌^◌, ◌<◌, ◌≤◌, Bool, true, false, cond, Option, None, Some, List, [], ◌∷◌, ◌++◌, length, map, get_or, take, drop, refl, sym, ap, ◌∙◌}
+use Rattle.std.proofs.Common.{subst, arith, length-append, length-drop}
 use Rattle.std.specs.Prelude.{IfSome}
 use Rattle.std.specs.List.{flat_map, filter, AllByRecursion, range_with_len, sum_by}
 use Rattle.std.proofs.lemmas.List.{get_or-map, length-take}
@@ -89,11 +90,25 @@ bytes_append (x ∷ xs) ys = omega (arith, sum_by-cons frame_size x (xs ++ ys), 
 windows_are : (snap t : ℕ) (ps : List Packet) → length (texts_of snap t ps) ≡ length (windows_of snap t ps)
 windows_are snap t [] = refl
 windows_are snap t (p ∷ ps) =
-    omega (arith, text_count t p (window_of snap t p.frame), windows_are snap t ps, length-append (text_by p (window_of snap t p.frame)) (texts_of snap t ps), length-append (windows_by t p (window_of snap t p.frame)) (windows_of snap t ps))
+    omega (
+      arith,
+      text_count t p (window_of snap t p.frame),
+      windows_are snap t ps,
+      length-append (text_by p (window_of snap t p.frame)) (texts_of snap t ps),
+      length-append
+          (windows_by t p (window_of snap t p.frame)) (windows_of snap t ps),
+    )
 
 bytes_are : (snap t : ℕ) (ps : List Packet) → text_bytes (texts_of snap t ps) ≡ sum_by (λ p. length (window_of snap t p.frame)) ps
 bytes_are snap t [] = refl
-bytes_are snap t (p ∷ ps) = omega (arith, sum_by-cons (λ (p : Packet). length (window_of snap t p.frame)) p ps, text_size p (window_of snap t p.frame), bytes_are snap t ps, bytes_append (text_by p (window_of snap t p.frame)) (texts_of snap t ps))
+bytes_are snap t (p ∷ ps) = omega (
+  arith,
+  sum_by-cons (λ (p : Packet). length (window_of snap t p.frame)) p ps,
+  text_size p (window_of snap t p.frame),
+  bytes_are snap t ps,
+  bytes_append
+      (text_by p (window_of snap t p.frame)) (texts_of snap t ps),
+)
 
 abbrev windows : ℕ → ℕ → TapTotals
 windows n bytes = record { windows = n; bytes = bytes }
@@ -123,7 +138,15 @@ taps_are o taps ps ls e w =
 windows_short : (snap t : ℕ) (ps : List Packet) → AllByRecursion IsCaptured ps → sum_by (λ p. length (window_of snap t p.frame)) ps ≤ length ps * 262144
 windows_short snap t [] c = omega arith
 windows_short snap t (p ∷ ps) c =
-    omega (arith, sum_by-cons (λ (p : Packet). length (window_of snap t p.frame)) p ps, windows_short snap t ps c.1, c.0.short, length-take snap (drop (t * snap) p.frame), length-drop (t * snap) p.frame)
+    omega (
+      arith,
+      sum_by-cons (λ (p : Packet). length (window_of snap t p.frame)) p ps,
+      windows_short snap t ps c.1,
+      c.0.short,
+      length-take snap (drop (t * snap) p.frame),
+      length-drop
+          (t * snap) p.frame,
+    )
 
 short_texts : (snap : ℕ) (ps : List Packet) (ls : List TapLane) (ts : List ℕ) → AllByRecursion IsCaptured ps → length ps ≤ 4096
     → map (λ (l : TapLane). l.texts) ls ≡ map (λ t. Some (texts_of snap t ps)) ts → AllByRecursion (λ (l : TapLane). IfSome l.texts IsShort) ls
@@ -136,7 +159,8 @@ short_texts snap ps (l ∷ ls) (t ∷ ts) c few e =
     let short : text_bytes (texts_of snap t ps) < 2 ^ 62 = omega (arith, bytes_are snap t ps, windows_short snap t ps c, few) in
     (subst (λ z. IfSome z IsShort) (sym first) short, short_texts snap ps ls ts c few rest)
 
-pub watched_short : (snap taps : ℕ) (ps : List Packet) (ls : List TapLane) → AllByRecursion IsCaptured ps → length ps ≤ 4096 → AreWatched snap taps ps ls → AllByRecursion (λ (l : TapLane). IfSome l.texts IsShort) ls
+pub watched_short : (snap taps : ℕ) (ps : List Packet) (ls : List TapLane) → AllByRecursion IsCaptured ps → length ps ≤ 4096 → AreWatched snap taps ps ls
+    → AllByRecursion (λ (l : TapLane). IfSome l.texts IsShort) ls
 watched_short snap taps ps ls c few w = short_texts snap ps ls (range_with_len 0 taps) c few w.texts
 
 -- ---- numbers that rise
@@ -147,5 +171,6 @@ rising k (p ∷ []) r = tt
 rising k (p ∷ q ∷ ps) r = (omega (arith, r.1.0), rising (p.number + 1) (q ∷ ps) r.1)
 
 -- a queue has no more items than there are packets
-pub items_few : (segs : ℕ) (queues : Spread) (q : ℕ) (ps : List Packet) → AreCaptured ps → AllByRecursion (λ run. 0 < length run) (items_of segs queues q ps) → length (items_of segs queues q ps) ≤ length ps
+pub items_few : (segs : ℕ) (queues : Spread) (q : ℕ) (ps : List Packet) → AreCaptured ps → AllByRecursion (λ run. 0 < length run) (items_of segs queues q ps)
+    → length (items_of segs queues q ps) ≤ length ps
 items_few segs queues q ps c full = omega (arith, no_more (items_of segs queues q ps) full, queue_size segs queues q ps c, filter_short (is_queued queues q) ps)

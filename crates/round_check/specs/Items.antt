@@ -1,5 +1,6 @@
 -- Items that are compared with the packets that went in.
-use Rattle.std.specs.Prelude.{ℕ, ◌≡◌, ◌+◌, ◌^◌, ◌<◌, ◌≤◌, true, Option, List, [], ◌∷◌, length, map, nat_le, if◌then◌else◌}
+use Rattle.std.specs.Prelude.{ℕ, ◌≡◌, ◌+◌, ◌^◌, ◌<◌, ◌≤◌, true, Option, List, [], ◌∷◌, length, map, nat_le}
+use Rattle.std.specs.Prelude.{if◌then◌else◌}
 use Rattle.std.specs.List.{AllByRecursion}
 use Rattle.pcap_io.specs.Limits.{most_frame}
 use Rattle.skb.specs.Fronts.{IsFronted}
@@ -28,9 +29,16 @@ pub record IsToCompare (item : Item) : Type 0 where
 pub record AreLeft (ps : List Packet) (f : Flows) (lefts : Lefts) : Type 0 where
   pub are : (q : Option (List ℕ)) → left_in ps f q ≡ lefts q
 
--- What is counted of an item, whatever it is: the packets that it says it is, and those of them that are the next ones of its flow.
+-- What is counted of an item, whatever it is: the packets that it says it is, and those of them that are the next ones
+-- of its flow.
 abbrev pub totals_of_item : Lefts → Merged → QueueTotals
-totals_of_item left r = record { records = r.n; items = 1; merged = if nat_le 2 r.n then 1 else 0; returned = equal_in (packets_in r) (left (flow_in r)) }
+totals_of_item left r = record {
+  records = r.n;
+  items = 1;
+  merged = if nat_le 2 r.n then 1
+      else 0;
+  returned = equal_in (packets_in r) (left (flow_in r));
+}
 
 abbrev pub no_totals : QueueTotals
 no_totals = record { records = 0; items = 0; merged = 0; returned = 0 }

@@ -33,7 +33,8 @@ fn count_segments(
     requires short { length (buffer_bytes skb.now) ≤ most_frame }
     requires front { cut.now.layout.payload_at ≤ head_size skb.now }
     requires chain { IsChain (map packet_of kept.now) next.now }
-    ensures counts { (q : Option (List ℕ)) (p : Packet) → p.frame ≡ buffer_bytes skb.now → IsOwn (map packet_of kept.now) q at.old
+    ensures counts { (q : Option (List ℕ)) (p : Packet) → p.frame ≡ buffer_bytes skb.now
+        → IsOwn (map packet_of kept.now) q at.old
         → Counts (map packet_of kept.now) q at.old (segments_at cut.now p) at.new result }
     ensures few { result < 2 ^ 32 }
 {
@@ -77,7 +78,8 @@ fn count_packet(item: &Item, kept: &[TapClone], next: &[usize], at: &mut usize) 
     u64::from(is_same)
 }
 
-/// In how many places the packets that an item stands for are the flow's packets from a place on, which goes on behind them.
+/// In how many places the packets that an item stands for are the flow's packets from a place on, which goes on behind
+/// them.
 pub(crate) fn count_packets(
     plan: &Plan,
     item: &Item,

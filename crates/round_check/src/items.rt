@@ -24,7 +24,8 @@ fn count_item(item: &Item, kept: &[TapClone], flows: &mut Flows) -> u64
     requires item { IsToCompare item.now }
     requires flows { AreFlows (map packet_of kept.now) flows.old }
     ensures flows { AreFlows (map packet_of kept.now) flows.new }
-    ensures counts { CountsIn (map packet_of kept.now) flows.old (key_of (buffer_bytes item.now.skb)) (packets_in (item_of item.now)) flows.new result }
+    ensures counts { CountsIn (map packet_of kept.now) flows.old (key_of (buffer_bytes item.now.skb))
+        (packets_in (item_of item.now)) flows.new result }
     ensures few { result < 2 ^ 32 }
 {
     let Ok(plan) = check_super(
@@ -45,11 +46,14 @@ fn count_item(item: &Item, kept: &[TapClone], flows: &mut Flows) -> u64
 fn add_item(totals: &mut QueueTotals, item: &Item, kept: &[TapClone], flows: &mut Flows)
     requires item { IsToCompare item.now }
     requires flows { AreFlows (map packet_of kept.now) flows.old }
-    requires room { (totals.old.records < 2 ^ 62) × (totals.old.items < 2 ^ 62) × (totals.old.merged < 2 ^ 62) × (totals.old.returned < 2 ^ 62) }
+    requires room { (totals.old.records < 2 ^ 62) × (totals.old.items < 2 ^ 62) × (totals.old.merged < 2 ^ 62)
+        × (totals.old.returned < 2 ^ 62) }
     ensures flows { AreFlows (map packet_of kept.now) flows.new }
     ensures added { (left : Lefts) → AreLeft (map packet_of kept.now) flows.old left
-        → (totals.new ≡ queue_plus totals.old (totals_of_item left (item_of item.now))) × AreLeft (map packet_of kept.now) flows.new (behind_item left (item_of item.now)) }
-    ensures few { (totals.new.records < totals.old.records + 2 ^ 32) × (totals.new.items ≡ totals.old.items + 1) × (totals.new.merged ≤ totals.old.merged + 1) × (totals.new.returned < totals.old.returned + 2 ^ 32) }
+        → (totals.new ≡ queue_plus totals.old (totals_of_item left (item_of item.now)))
+        × AreLeft (map packet_of kept.now) flows.new (behind_item left (item_of item.now)) }
+    ensures few { (totals.new.records < totals.old.records + 2 ^ 32) × (totals.new.items ≡ totals.old.items + 1)
+        × (totals.new.merged ≤ totals.old.merged + 1) × (totals.new.returned < totals.old.returned + 2 ^ 32) }
 {
     totals.returned += count_item(item, kept, flows);
     totals.records += item.n as u64;
@@ -64,7 +68,8 @@ pub(crate) fn check_items(items: &[Item], kept: &[TapClone], flows: &mut Flows) 
     requires flows { AreFlows (map packet_of kept.now) flows.old }
     ensures flows { AreFlows (map packet_of kept.now) flows.new }
     ensures totals { (left : Lefts) → AreLeft (map packet_of kept.now) flows.old left
-        → (result ≡ totals_of_items left (map item_of items.now)) × AreLeft (map packet_of kept.now) flows.new (behind_items left (map item_of items.now)) }
+        → (result ≡ totals_of_items left (map item_of items.now))
+        × AreLeft (map packet_of kept.now) flows.new (behind_items left (map item_of items.now)) }
 {
     let mut totals = QueueTotals {
         records: 0,

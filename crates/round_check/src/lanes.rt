@@ -30,7 +30,8 @@ fn check_queues(
     requires lanes { AllByRecursion MayCompare lanes.now }
     requires flows { AreFlows (map packet_of kept.now) flows.old }
     requires left { AreLeft (map packet_of kept.now) flows.old (flows_of (map packet_of kept.now)) }
-    ensures totals { IfOk result (λ totals. totals.items ≡ totals_by (flows_of (map packet_of kept.now)) (map items_in lanes.now)) }
+    ensures totals { IfOk result (λ totals. totals.items
+        ≡ totals_by (flows_of (map packet_of kept.now)) (map items_in lanes.now)) }
 {
     let mut totals = Vec::with_capacity(alloc, lanes.len())?;
     for i in 0..lanes.len() {
@@ -82,20 +83,26 @@ fn check_taps(alloc: Global, lanes: &[TapLane]) -> Result<Vec<TapTotals>, AllocE
 
 /// Compares what the lanes of a round came to with the packets that went in, of which `kept` are clones.
 ///
-/// The packets that an item stands for, its own or its segments, are compared one by one with the packets of its flow in their
-/// places, byte for byte and in original length: an item is cut by its headers and by the places of its payload alone, so no
-/// buffer changes and no payload is copied. `AllocError` where there is no memory for the totals or for the places of the flows.
+/// The packets that an item stands for, its own or its segments, are compared one by one with the packets of its flow
+/// in their places, byte for byte and in original length: an item is cut by its headers and by the places of its
+/// payload alone, so no buffer changes and no payload is copied. `AllocError` where there is no memory for the totals
+/// or for the places of the flows.
 pub fn check_lanes(alloc: Global, lanes: &Lanes, kept: &[TapClone]) -> Result<Totals, AllocError>
     requires captured { AllByRecursion IsCaptured (map packet_of kept.now) }
     requires rising { (k : ℕ) × RiseFrom k (map packet_of kept.now) }
     requires few { length kept.now ≤ 4096 }
     requires queues { (1 ≤ length lanes.now.queues.items) × (length lanes.now.queues.items ≤ 64) }
     requires lanes { AllByRecursion MayCompare lanes.now.queues.items }
-    requires windows { (snap : ℕ) × ((filter : Option (List Instr)) × AreWatched snap (length lanes.now.taps.items) (map (shown_of filter) (map packet_of kept.now)) lanes.now.taps.items) }
-    ensures compared { IfOk result (λ totals. totals.queues ≡ totals_by (flows_of (map packet_of kept.now)) (map items_in lanes.now.queues.items)) }
-    ensures totals { (o : Options) → ((key : Option (List ℕ)) → o.spread key < o.queues) → o.queues ≡ length lanes.now.queues.items → o.taps ≡ length lanes.now.taps.items
+    requires windows { (snap : ℕ) × ((filter : Option (List Instr))
+        × AreWatched snap (length lanes.now.taps.items)
+        (map (shown_of filter) (map packet_of kept.now)) lanes.now.taps.items) }
+    ensures compared { IfOk result (λ totals. totals.queues
+        ≡ totals_by (flows_of (map packet_of kept.now)) (map items_in lanes.now.queues.items)) }
+    ensures totals { (o : Options) → ((key : Option (List ℕ)) → o.spread key < o.queues)
+        → o.queues ≡ length lanes.now.queues.items → o.taps ≡ length lanes.now.taps.items
         → AreMerged o.segs o.spread (length lanes.now.queues.items) (map packet_of kept.now) lanes.now.queues.items
-        → AreWatched o.snap (length lanes.now.taps.items) (map (shown_of o.filter) (map packet_of kept.now)) lanes.now.taps.items
+        → AreWatched o.snap (length lanes.now.taps.items)
+        (map (shown_of o.filter) (map packet_of kept.now)) lanes.now.taps.items
         → IfOk result (λ totals. totals ≡ round_totals o (map packet_of kept.now)) }
 {
     let mut flows = Flows::of(alloc, kept)?;

@@ -113,10 +113,12 @@ turned_taps plan l (asked.Queue t) h = absurd h
 turned_taps plan l (asked.Tap t) h = h
 
 -- the lane at a place went away
-pub own_queue : (segs at : ℕ) (old now : List QueueLane) (x lane : QueueLane) (t : QueueWork) → t ≡ queue_work at lane segs → lane ≡ get_or now at x → get_or now at x ≡ get_or old at x → at < length old → IsOfQueues segs old (asked.Queue t)
+pub own_queue : (segs at : ℕ) (old now : List QueueLane) (x lane : QueueLane) (t : QueueWork) → t ≡ queue_work at lane segs → lane ≡ get_or now at x → get_or now at x ≡ get_or old at x
+    → at < length old → IsOfQueues segs old (asked.Queue t)
 own_queue segs at old now x lane t e is same lt = subst (λ z. IsOfQueues segs old (asked.Queue z)) (sym e) (lt, refl, λ d. is ∙ same ∙ any_other old at x d lt)
 
-pub own_tap : (plan : Plan) (at : ℕ) (old now : List TapLane) (x lane : TapLane) (filter : Option (List Instr)) (t : TapWork) → t ≡ tap_work at lane plan.snap filter → filter ≡ plan.filter → lane ≡ get_or now at x
+pub own_tap : (plan : Plan) (at : ℕ) (old now : List TapLane) (x lane : TapLane) (filter : Option (List Instr)) (t : TapWork) → t ≡ tap_work at lane plan.snap filter → filter ≡ plan.filter
+    → lane ≡ get_or now at x
     → get_or now at x ≡ get_or old at x → at < length old → IsOfTaps plan old (asked.Tap t)
 own_tap plan at old now x lane filter t e shown is same lt = subst (λ z. IsOfTaps plan old (asked.Tap z)) (sym e) (lt, refl, shown, λ d. is ∙ same ∙ any_other old at x d lt)
 
@@ -126,7 +128,8 @@ pub all_away : (plan : Plan) (old new : Lanes) (qs : List QueueLane) (ls : List 
 all_away plan old new qs ls before mid after none is_q is_t q t =
     let e : after ≡ q.0 ++ t.0 = t.1 ∙ ap (λ z. z ++ t.0) (q.1 ∙ ap (λ z. z ++ q.0) none) in
     subst (Away plan old new) (sym e) (record {
-      own = all_behind (IsOf plan old) q.0 t.0 (all_turned (IsOfQueues plan.segs old.queues.items) (IsOf plan old) q.0 (turned_queues plan old) q.2) (all_turned (IsOfTaps plan old.taps.items) (IsOf plan old) t.0 (turned_taps plan old) t.2);
+      own = all_behind (IsOf plan old) q.0 t.0 (all_turned (IsOfQueues plan.segs old.queues.items) (IsOf plan old) q.0 (turned_queues plan old) q.2)
+          (all_turned (IsOfTaps plan old.taps.items) (IsOf plan old) t.0 (turned_taps plan old) t.2);
       queues = subst (λ z. Parted (DidQueue plan.segs) IsElseQueue (length old.queues.items) old.queues.items z (q.0 ++ t.0)) (sym is_q)
           (parted_front (DidQueue plan.segs) IsElseQueue (length old.queues.items) old.queues.items qs q.0 t.0 q.3);
       taps = subst (λ z. Parted (DidTap plan.filter plan.snap) IsElseTap (length old.taps.items) old.taps.items z (q.0 ++ t.0)) (sym is_t)

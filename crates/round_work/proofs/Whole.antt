@@ -30,7 +30,8 @@ use Rattle.round_work.proofs.Worked.{all_worked, all_watched, queues_fewer, queu
 abbrev pub nowhere : Spread
 nowhere key = 0
 
-pub fill_taps : (p q : Account) (ls : List QueueLane) (ts : List TapLane) → EachFrom (IsSharing nowhere [] []) 0 ls → Keeps p (both q (of_taps ts)) → Keeps p (both q (both (of_queues ls) (of_taps ts)))
+pub fill_taps : (p q : Account) (ls : List QueueLane) (ts : List TapLane) → EachFrom (IsSharing nowhere [] []) 0 ls → Keeps p (both q (of_taps ts))
+    → Keeps p (both q (both (of_queues ls) (of_taps ts)))
 fill_taps p q ls ts empty k t m =
     let x = k t m in
     let z = empty_account nowhere [] 0 ls empty t m in
@@ -74,7 +75,8 @@ are_watched snap n ps ls e h = record {
       ∙ ap (λ z. map (λ t. Some (texts_of snap t ps)) (range_with_len 0 z)) e;
 }
 
-pub are_records : (o : Options) (ps : List Packet) (l : Lanes) → length l.queues.items ≡ o.queues → length l.taps.items ≡ o.taps → EachFrom (IsWorked o.segs o.spread ps) 0 l.queues.items → EachFrom (IsWatched o.snap (map (shown_of o.filter) ps)) 0 l.taps.items
+pub are_records : (o : Options) (ps : List Packet) (l : Lanes) → length l.queues.items ≡ o.queues → length l.taps.items ≡ o.taps → EachFrom (IsWorked o.segs o.spread ps) 0 l.queues.items
+    → EachFrom (IsWatched o.snap (map (shown_of o.filter) ps)) 0 l.taps.items
     → lane_records l ≡ round_records o ps
 are_records o ps l e f h g =
     ap (λ z. z ++ flat_map records_of_tap l.taps.items)
@@ -105,7 +107,8 @@ no_clones filter snap ls ms e h i d lt = (h i d (omega (arith, e, lt))).none
 fewer_lanes : (plan : Plan) (old : List Held) (l m : Lanes) → AreFilled plan old l → Did plan l m → counts_of_queues m.queues.items ≤ counts_of old
 fewer_lanes plan old l m f d = let n = queues_fewer plan.segs l.queues.items m.queues.items d.sizes.0 d.queues in omega (arith, f.count, n)
 
-pub is_done : (plan : Plan) (old : List Held) (l m : Lanes) → AreFilled plan old l → Did plan l m → All (λ (q : QueueLane). q.done ≡ true) m.queues.items → All (λ (t : TapLane). IsSome t.texts) m.taps.items → IsDone plan old m
+pub is_done : (plan : Plan) (old : List Held) (l m : Lanes) → AreFilled plan old l → Did plan l m → All (λ (q : QueueLane). q.done ≡ true) m.queues.items
+    → All (λ (t : TapLane). IsSome t.texts) m.taps.items → IsDone plan old m
 is_done plan old l m f d done read =
     let ps = map packet_of old in
     let qs = all_worked plan.segs (spread_of plan) ps l.queues.items m.queues.items d.sizes.0 f.queues d.queues done in

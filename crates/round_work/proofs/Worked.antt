@@ -84,7 +84,8 @@ watched filter snap ps t l m h d s =
     let shown : map (shown_packet filter) l.clones.items ≡ map (shown_of filter) ps = shown_clones filter l.clones.items ∙ ap (map (shown_of filter)) h.clones in
     record {
       tap = d.tap ∙ h.tap;
-      texts = texts_some m.texts (texts_of snap l.tap (map (shown_packet filter) l.clones.items)) s d.read ∙ ap (λ z. Some (texts_of snap z (map (shown_packet filter) l.clones.items))) h.tap ∙ ap (λ z. Some (texts_of snap t z)) shown;
+      texts = texts_some m.texts (texts_of snap l.tap (map (shown_packet filter) l.clones.items)) s d.read ∙ ap (λ z. Some (texts_of snap z (map (shown_packet filter) l.clones.items))) h.tap ∙ ap
+          (λ z. Some (texts_of snap t z)) shown;
       windows =
           ap (λ z. records_of_texts z m.texts) d.tap
           ∙ records_some l.tap m.texts (windows_of snap l.tap (map (shown_packet filter) l.clones.items)) s d.windows
@@ -97,13 +98,17 @@ if_done : {A : Type 0} (C : A → Type 0) (Q : ℕ → A → Type 0) (k : ℕ) (
 if_done C Q k [] h a = tt
 if_done C Q k (x ∷ xs) h a = (h.0 (a zero x (omega arith)), if_done C Q (suc k) xs h.1 (λ i d lt. a (suc i) d (omega (arith, lt))))
 
-pub all_worked : (segs : ℕ) (n : Spread) (ps : List Packet) (ls ms : List QueueLane) → length ms ≡ length ls → EachFrom (IsToWork n ps) 0 ls → EachQueueDid segs ls ms → All (λ (m : QueueLane). m.done ≡ true) ms → EachFrom (IsWorked segs n ps) 0 ms
+pub all_worked : (segs : ℕ) (n : Spread) (ps : List Packet) (ls ms : List QueueLane) → length ms ≡ length ls → EachFrom (IsToWork n ps) 0 ls → EachQueueDid segs ls ms
+    → All (λ (m : QueueLane). m.done ≡ true) ms → EachFrom (IsWorked segs n ps) 0 ms
 all_worked segs n ps ls ms e h did done =
-    if_done (λ (m : QueueLane). m.done ≡ true) (IsWorked segs n ps) 0 ms (each_did (IsToWork n ps) (λ q m. m.done ≡ true → IsWorked segs n ps q m) (DidQueue segs) 0 ls ms (λ q l m a d. worked segs n ps q l m a d) e h did) done
+    if_done (λ (m : QueueLane). m.done ≡ true) (IsWorked segs n ps) 0 ms (each_did (IsToWork n ps) (λ q m. m.done ≡ true → IsWorked segs n ps q m) (DidQueue segs) 0 ls ms
+    (λ q l m a d. worked segs n ps q l m a d) e h did) done
 
-pub all_watched : (filter : Option (List Instr)) (snap : ℕ) (ps : List Packet) (ls ms : List TapLane) → length ms ≡ length ls → EachFrom (HasClones ps) 0 ls → EachTapDid filter snap ls ms → All (λ (m : TapLane). IsSome m.texts) ms → EachFrom (IsWatched snap (map (shown_of filter) ps)) 0 ms
+pub all_watched : (filter : Option (List Instr)) (snap : ℕ) (ps : List Packet) (ls ms : List TapLane) → length ms ≡ length ls → EachFrom (HasClones ps) 0 ls → EachTapDid filter snap ls ms
+    → All (λ (m : TapLane). IsSome m.texts) ms → EachFrom (IsWatched snap (map (shown_of filter) ps)) 0 ms
 all_watched filter snap ps ls ms e h did done =
-    if_done (λ (m : TapLane). IsSome m.texts) (IsWatched snap (map (shown_of filter) ps)) 0 ms (each_did (HasClones ps) (λ t m. IsSome m.texts → IsWatched snap (map (shown_of filter) ps) t m) (DidTap filter snap) 0 ls ms (λ t l m a d. watched filter snap ps t l m a d) e h did) done
+    if_done (λ (m : TapLane). IsSome m.texts) (IsWatched snap (map (shown_of filter) ps)) 0 ms (each_did (HasClones ps) (λ t m. IsSome m.texts → IsWatched snap (map (shown_of filter) ps) t m)
+    (DidTap filter snap) 0 ls ms (λ t l m a d. watched filter snap ps t l m a d) e h did) done
 
 -- ---- what all lanes hold
 
@@ -150,7 +155,8 @@ queue_records segs n ps k (l ∷ ls) h =
     ∙ ap (map (λ (m : Merged). with_head (head_of k m) m.packet)) h.0.merged
     ∙ map_merged k (items_of segs n k ps) in
     ap (λ z. z ++ flat_map records_of_queue ls) e
-    ∙ ap (λ z. map (record_of k) (items_of segs n k ps) ++ z) (queue_records segs n ps (suc k) ls h.1 ∙ ap (λ z. flat_map (λ q. map (record_of q) (items_of segs n q ps)) (range_with_len z (length ls))) s)
+    ∙ ap (λ z. map (record_of k) (items_of segs n k ps) ++ z) (queue_records segs n ps (suc k) ls h.1 ∙ ap (λ z. flat_map (λ q. map (record_of q) (items_of segs n q ps))
+    (range_with_len z (length ls))) s)
 
 pub tap_records : (snap : ℕ) (ps : List Packet) (k : ℕ) (ls : List TapLane) → EachFrom (IsWatched snap ps) k ls
     → flat_map records_of_tap ls ≡ flat_map (λ t. windows_of snap t ps) (range_with_len k (length ls))

@@ -23,7 +23,8 @@ use Rattle.round_work.specs.Taps.{HasClones}
 
 -- how many lanes there may be, how far a tap may read, and how many packets a run may have
 abbrev pub IsPlan : Plan → Type 0
-IsPlan p = ((1 ≤ p.queues) × (p.queues ≤ 64)) × (p.taps ≤ 8) × ((1 ≤ p.snap) × (p.snap ≤ 2048)) × IsChoice p.queues p.choice × ((1 ≤ p.segs) × (p.segs ≤ 4096))
+IsPlan p = ((1 ≤ p.queues) × (p.queues ≤ 64)) × (p.taps ≤ 8) × ((1 ≤ p.snap) × (p.snap ≤ 2048))
+    × IsChoice p.queues p.choice × ((1 ≤ p.segs) × (p.segs ≤ 4096))
 
 -- the queue of each flow
 abbrev pub spread_of : Plan → Spread

@@ -36,8 +36,8 @@ pub struct LaneDesk {
     pub bells: Bells,
 }
 
-/// How many run tasks beside who asks, so that as many lanes are at work as there are processors for; one at least, so that two lanes
-/// may wait for each other.
+/// How many run tasks beside who asks, so that as many lanes are at work as there are processors for; one at least, so
+/// that two lanes may wait for each other.
 pub fn count_runners(rt: &impl Threads, lanes: u32) -> u32 {
     let threads = match thread::available_parallelism(rt) {
         Ok(count) => count.get().min(lanes as usize) as u32,

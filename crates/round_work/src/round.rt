@@ -1,5 +1,6 @@
 //! The work of a round, over all its lanes.
-ghost use Rattle.std.specs.Prelude.{◌≡◌, ℕ, ◌+◌, ◌≤◌, true, List, [], length, map, All, IfOk, IfErr, OnOk, MatchResult, IsSome};
+ghost use Rattle.std.specs.Prelude.{◌≡◌, ℕ, ◌+◌, ◌≤◌, true, List, [], length, map, All, IfOk, IfErr, OnOk, MatchResult};
+ghost use Rattle.std.specs.Prelude.{IsSome};
 ghost use Rattle.std.specs.List.{range_with_len};
 ghost use Rattle.frags.specs.Account.{Keeps, both};
 ghost use Rattle.offload_model.specs.Written.{round_records};
@@ -11,7 +12,8 @@ ghost use Rattle.round_work.specs.Lanes.{of_lanes, counts_of_queues, IsFilled, I
 ghost use Rattle.round_work.specs.Packets.{RiseFrom};
 ghost use Rattle.round_work.specs.Sharing.{EachFrom};
 ghost use Rattle.round_work.specs.Taps.{HasClones};
-ghost use Rattle.round_work.specs.Work.{spread_of, options_by, shown_by, IsPlan, IsToWork, AreFilled, AreMerged, AreWatched, Did, IsDone, IsRefused, lane_records};
+ghost use Rattle.round_work.specs.Work.{spread_of, options_by, shown_by, IsPlan, IsToWork, AreFilled, AreMerged};
+ghost use Rattle.round_work.specs.Work.{AreWatched, Did, IsDone, IsRefused, lane_records};
 
 use crate::fill::{add_taps, give_all_up, open_queues, weigh};
 use crate::lanes::{Lanes, QueueLane, TapLane};
@@ -22,8 +24,8 @@ use gro::Packet;
 use std::alloc::{AllocError, Global};
 use std::collections::VecDeque;
 
-// The lanes get what they have to do: first the memory, then the clones, then the packets. Where memory is refused, what isn't in
-// `packets` any more is in the lanes.
+// The lanes get what they have to do: first the memory, then the clones, then the packets. Where memory is refused,
+// what isn't in `packets` any more is in the lanes.
 fn fill(
     alloc: Global,
     plan: &Plan,
@@ -38,11 +40,14 @@ fn fill(
     requires few { counts_of packets.old.items ≤ 65536 }
     requires none { (lanes.old.queues.items ≡ []) × (lanes.old.taps.items ≡ []) }
     ensures kept { Keeps (of_packets packets.old.items) (both (of_packets packets.new.items) (of_lanes lanes.new)) }
-    ensures count { counts_of packets.new.items + counts_of_queues lanes.new.queues.items ≡ counts_of packets.old.items }
+    ensures count { counts_of packets.new.items + counts_of_queues lanes.new.queues.items
+        ≡ counts_of packets.old.items }
     ensures ready { All IsTapReady lanes.new.taps.items }
-    ensures queues { OnOk result (EachFrom (IsToWork (spread_of plan.now) (map packet_of packets.old.items)) 0 lanes.new.queues.items) }
+    ensures queues { OnOk result (EachFrom (IsToWork (spread_of plan.now) (map packet_of packets.old.items)) 0
+        lanes.new.queues.items) }
     ensures taps { OnOk result (EachFrom (HasClones (map packet_of packets.old.items)) 0 lanes.new.taps.items) }
-    ensures size { OnOk result ((length lanes.new.queues.items ≡ plan.now.queues) × (length lanes.new.taps.items ≡ plan.now.taps)) }
+    ensures size { OnOk result ((length lanes.new.queues.items ≡ plan.now.queues)
+        × (length lanes.new.taps.items ≡ plan.now.taps)) }
     ensures all { OnOk result (packets.new.items ≡ []) }
 {
     let count = weigh(packets);
@@ -115,7 +120,8 @@ fn begin(
 
 // The lanes after their work: all of it is done, or one was refused memory.
 fn finish(lanes: Lanes) -> Result<Lanes, (Lanes, AllocError)>
-    ensures ended { (plan : Plan) (old : List Held) (before : Lanes) → AreFilled plan old before → Did plan before lanes → MatchResult result (IsDone plan old) (λ e. IsRefused old [] e.0) }
+    ensures ended { (plan : Plan) (old : List Held) (before : Lanes) → AreFilled plan old before → Did plan before lanes
+        → MatchResult result (IsDone plan old) (λ e. IsRefused old [] e.0) }
 {
     if are_done(&lanes) {
         Ok(lanes)
@@ -142,15 +148,21 @@ pub fn work_packets<W: Works>(
     requires weighs { WeighAtLeast (weight_after 1) packets.old.items }
     requires rising { RiseFrom 0 (map packet_of packets.old.items) }
     requires few { counts_of packets.old.items ≤ 65536 }
-    ensures lanes { IfOk result (λ l. AreMerged plan.now.segs (spread_of plan.now) plan.now.queues (map packet_of packets.old.items) l.queues.items) }
-    ensures windows { IfOk result (λ l. AreWatched plan.now.snap plan.now.taps (shown_by plan.now (map packet_of packets.old.items)) l.taps.items) }
-    ensures records { IfOk result (λ l. (budget : ℕ) → lane_records l ≡ round_records (options_by plan.now budget) (map packet_of packets.old.items)) }
+    ensures lanes { IfOk result (λ l. AreMerged plan.now.segs (spread_of plan.now) plan.now.queues
+        (map packet_of packets.old.items) l.queues.items) }
+    ensures windows { IfOk result (λ l. AreWatched plan.now.snap plan.now.taps
+        (shown_by plan.now (map packet_of packets.old.items)) l.taps.items) }
+    ensures records { IfOk result (λ l. (budget : ℕ) → lane_records l
+        ≡ round_records (options_by plan.now budget) (map packet_of packets.old.items)) }
     ensures ready { IfOk result (λ l. All (λ q. AreReady q.items.items) l.queues.items) }
     ensures weigh { IfOk result (λ l. All (λ q. ItemsWeighAtLeast 2048 q.items.items) l.queues.items) }
     ensures all { IfOk result (λ l. (packets.new.items ≡ []) × All (λ q. q.packets.items ≡ []) l.queues.items) }
-    ensures kept { MatchResult result (λ l. Keeps (of_packets packets.old.items) (of_lanes l)) (λ e. Keeps (of_packets packets.old.items) (both (of_packets packets.new.items) (of_lanes e.0))) }
-    ensures count { MatchResult result (λ l. counts_of_queues l.queues.items ≤ counts_of packets.old.items) (λ e. counts_of packets.new.items + counts_of_queues e.0.queues.items ≤ counts_of packets.old.items) }
-    ensures clones { MatchResult result (λ l. All (λ t. t.clones.items ≡ []) l.taps.items) (λ e. All (λ t. t.clones.items ≡ []) e.0.taps.items) }
+    ensures kept { MatchResult result (λ l. Keeps (of_packets packets.old.items) (of_lanes l))
+        (λ e. Keeps (of_packets packets.old.items) (both (of_packets packets.new.items) (of_lanes e.0))) }
+    ensures count { MatchResult result (λ l. counts_of_queues l.queues.items ≤ counts_of packets.old.items)
+        (λ e. counts_of packets.new.items + counts_of_queues e.0.queues.items ≤ counts_of packets.old.items) }
+    ensures clones { MatchResult result (λ l. All (λ t. t.clones.items ≡ []) l.taps.items)
+        (λ e. All (λ t. t.clones.items ≡ []) e.0.taps.items) }
 {
     let mut lanes = begin(alloc, packets, plan)?;
     works.run_lanes(plan, &mut lanes);

@@ -28,7 +28,8 @@ fn queue_for(packet: &Packet, plan: &Plan) -> u32
     queue_by(&key(packet.skb.head()), &plan.choice, plan.queues)
 }
 
-// A packet comes behind those of its lane, and all that they may leave has a place. Where memory is refused it comes back.
+// A packet comes behind those of its lane, and all that they may leave has a place. Where memory is refused it comes
+// back.
 fn take_in(lane: &mut QueueLane, packet: Packet) -> Result<(), (Packet, AllocError)>
     requires few { lane.old.count + count_of packet ≤ 65536 }
     ensures taken { OnOk result (TakesIn lane.old packet lane.new) }
@@ -47,7 +48,8 @@ fn take_in(lane: &mut QueueLane, packet: Packet) -> Result<(), (Packet, AllocErr
     }
 }
 
-/// Each packet goes to the queue of its flow, in order. One that there is no memory for stands in front of the others again.
+/// Each packet goes to the queue of its flow, in order. One that there is no memory for stands in front of the others
+/// again.
 pub(crate) fn share_out(
     packets: &mut VecDeque<Packet>,
     plan: &Plan,

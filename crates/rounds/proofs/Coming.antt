@@ -190,7 +190,8 @@ pub home_count : (x : Account) (p0 p : PoolState) (t0 t : List Place) → AllOpe
 home_count x p0 p t0 t opened all_home h = omega (arith, h.count, missing_open t0 opened, missing_home t all_home)
 
 -- two spares and a buffer are given back in turn
-pub gives_packet : (b s1 s2 : Account) (o0 o1 o2 o3 : OutcomesState) → IsBare o0 → Keeps (both s1 (of_outcomes o0)) (of_outcomes o1) → Keeps (both s2 (of_outcomes o1)) (of_outcomes o2) → Keeps (both b (of_outcomes o2)) (of_outcomes o3)
+pub gives_packet : (b s1 s2 : Account) (o0 o1 o2 o3 : OutcomesState) → IsBare o0 → Keeps (both s1 (of_outcomes o0)) (of_outcomes o1) → Keeps (both s2 (of_outcomes o1)) (of_outcomes o2)
+    → Keeps (both b (of_outcomes o2)) (of_outcomes o3)
     → Keeps (both b (both s1 s2)) (of_outcomes o3)
 gives_packet b s1 s2 o0 o1 o2 o3 bare h g k t m =
     let x = h t m in
@@ -212,7 +213,8 @@ and_came x y p0 p1 t0 t1 may first =
 pub and_rest : (x y : Account) (p0 p1 : PoolState) (t0 t1 : List Place) → MayCome (both x y) p0 t0 → Comes x nothing p0 t0 p1 t1 → MayCome y p1 t1
 and_rest x y p0 p1 t0 t1 may first = may_rest (both x y) y p0 p1 t0 t1 may (and_came x y p0 p1 t0 t1 may first)
 
-pub and_comes : (x y : Account) (p0 p1 p2 : PoolState) (t0 t1 t2 : List Place) → MayCome (both x y) p0 t0 → Comes x nothing p0 t0 p1 t1 → Comes y nothing p1 t1 p2 t2 → Comes (both x y) nothing p0 t0 p2 t2
+pub and_comes : (x y : Account) (p0 p1 p2 : PoolState) (t0 t1 t2 : List Place) → MayCome (both x y) p0 t0 → Comes x nothing p0 t0 p1 t1 → Comes y nothing p1 t1 p2 t2
+    → Comes (both x y) nothing p0 t0 p2 t2
 and_comes x y p0 p1 p2 t0 t1 t2 may first last = comes_last (both x y) y p0 p1 p2 t0 t1 t2 (and_came x y p0 p1 t0 t1 may first) last
 
 -- an account that holds nothing comes by itself

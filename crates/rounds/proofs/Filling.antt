@@ -1,5 +1,6 @@
 -- Blocks that are filled one after the other.
-use Rattle.std.proofs.Common.{◌≡◌, ℕ, zero, suc, ◌+◌, ◌-◌, ◌*◌, ◌<◌, ◌≤◌, min, List, [], ◌∷◌, ◌++◌, Option, Ok, Err, refl, sym, ap, subst, ◌∙◌, length, get_or, set, take, drop, slice_range, append-nil, append_assoc, length-append, length-drop, arith}
+use Rattle.std.proofs.Common.{◌≡◌, ℕ, zero, suc, ◌+◌, ◌-◌, ◌*◌, ◌<◌, ◌≤◌, min, List, [], ◌∷◌, ◌++◌, Option, Ok, Err, refl, sym, ap, subst, ◌∙◌, length, get_or, set, take, drop, slice_range}
+use Rattle.std.proofs.Common.{append-nil, append_assoc, length-append, length-drop, arith}
 use Rattle.std.proofs.lemmas.List.{take_all, take_at, drop_at, length-take-le}
 use Rattle.raw_block.specs.Views.{SoleState}
 use Rattle.frags.specs.declared.pieces.Piece.{Piece}
@@ -70,7 +71,8 @@ filled_more a b c place front n n' ss ts into step before gives =
     p ∙ ap (λ (z : List ℕ). (front ++ data_of 64 n ss) ++ z) q ∙ sym (append_assoc (front ++ data_of 64 n ss) into left)
     ∙ ap (λ (z : List ℕ). z ++ left) (append_assoc front (data_of 64 n ss) into ∙ ap (λ (z : List ℕ). front ++ z) (sym step))) before gives
 
-stop_body : (old now : Place) (fault : InFault) (front : List ℕ) (n len : ℕ) (ss ts : List SoleState) (into bytes rest left : List ℕ) → length (data_of 64 n ss) ≡ n → n + length into ≤ len → short_record now ≡ short_record old
+stop_body : (old now : Place) (fault : InFault) (front : List ℕ) (n len : ℕ) (ss ts : List SoleState) (into bytes rest left : List ℕ) → length (data_of 64 n ss) ≡ n → n + length into ≤ len
+    → short_record now ≡ short_record old
     → Filled front n ss bytes rest → GivesBody now (Err fault) into rest left → GivesFrame old front len (Err fault) ts bytes left
 stop_body old now (Cap fault) front n len ss ts into bytes rest left long within same p q =
     let size = ap length p in
@@ -83,18 +85,21 @@ stop_body old now ReadFault front n len ss ts into bytes rest left long within s
     let apart = length-append front (data_of 64 n ss) in
     (xs ++ q.0, p ∙ ap (λ (z : List ℕ). xs ++ z) q.1 ∙ sym (append_assoc xs q.0 left), omega (arith, sum, apart, long, q.2, within))
 
-pub filled_stop : (a b c : Option (List ℕ)) (old now : Place) (fault : InFault) (front : List ℕ) (n len : ℕ) (ss ts : List SoleState) (into : List ℕ) → length (data_of 64 n ss) ≡ n → n + length into ≤ len → short_record now ≡ short_record old
+pub filled_stop : (a b c : Option (List ℕ)) (old now : Place) (fault : InFault) (front : List ℕ) (n len : ℕ) (ss ts : List SoleState) (into : List ℕ) → length (data_of 64 n ss) ≡ n
+    → n + length into ≤ len → short_record now ≡ short_record old
     → Told a b (Filled front n ss) → Told b c (GivesBody now (Err fault) into) → Told a c (GivesFrame old front len (Err fault) ts)
 filled_stop a b c old now fault front n len ss ts into long within same before gives =
     Told-then a b c (Filled front n ss) (GivesBody now (Err fault) into) (GivesFrame old front len (Err fault) ts)
     (λ bytes rest left p q. stop_body old now fault front n len ss ts into bytes rest left long within same p q) before gives
 
-front_cut : (place : Place) (fault : InFault) (front : List ℕ) (len : ℕ) (ss : List SoleState) (bytes left : List ℕ) → GivesBody place (Err fault) front bytes left → GivesFrame place front len (Err fault) ss bytes left
+front_cut : (place : Place) (fault : InFault) (front : List ℕ) (len : ℕ) (ss : List SoleState) (bytes left : List ℕ) → GivesBody place (Err fault) front bytes left
+    → GivesFrame place front len (Err fault) ss bytes left
 front_cut place (Cap fault) front len ss bytes left q = (omega (arith, q.0), q.1, q.2)
 front_cut place ReadFault front len ss bytes left q = (q.0, q.1, omega (arith, q.2))
 
 -- the input ended, or the source failed, in front of the frame
-pub front_stop : (a b : Option (List ℕ)) (place : Place) (fault : InFault) (front : List ℕ) (len : ℕ) (ss : List SoleState) → Told a b (GivesBody place (Err fault) front) → Told a b (GivesFrame place front len (Err fault) ss)
+pub front_stop : (a b : Option (List ℕ)) (place : Place) (fault : InFault) (front : List ℕ) (len : ℕ) (ss : List SoleState) → Told a b (GivesBody place (Err fault) front)
+    → Told a b (GivesFrame place front len (Err fault) ss)
 front_stop a b place fault front len ss told =
     Told-weaker a b (GivesBody place (Err fault) front) (GivesFrame place front len (Err fault) ss) (λ bytes left q. front_cut place fault front len ss bytes left q) told
 
@@ -106,7 +111,8 @@ bytes_of-append [] b = refl
 bytes_of-append (p ∷ ps) b = ap (λ (z : List ℕ). piece_bytes p ++ z) (bytes_of-append ps b) ∙ sym (append_assoc (piece_bytes p) (bytes_of ps) (bytes_of b))
 
 -- the next block's bytes move to the pieces
-pub bytes_more : (ps qs : List Piece) (p : Piece) (xs ys : List SoleState) (s : SoleState) (left count left' : ℕ) → xs ≡ s ∷ ys → qs ≡ ps ++ p ∷ [] → p.part.bytes ≡ s.bytes → p.from ≡ 0 → p.to ≡ count → count ≡ min left 2048 → left' ≡ left - 2048
+pub bytes_more : (ps qs : List Piece) (p : Piece) (xs ys : List SoleState) (s : SoleState) (left count left' : ℕ) → xs ≡ s ∷ ys → qs ≡ ps ++ p ∷ [] → p.part.bytes ≡ s.bytes → p.from ≡ 0 → p.to ≡ count
+    → count ≡ min left 2048 → left' ≡ left - 2048
     → bytes_of qs ++ data_of 0 left' ys ≡ bytes_of ps ++ data_of 0 left xs
 bytes_more ps qs p xs ys s left count left' e f g from to c l =
     let z : 0 + min left 2048 ≡ min left 2048 = omega arith in

@@ -106,7 +106,8 @@ not_there xs ys some long less =
 -- ---- of a record
 
 -- as many bytes as the header has behind the first ones are in the buffer
-pub is_there : (front b : List ℕ) (head : AnyHead) → length front ≡ off_head_size → head ≡ any_head (front ++ b) → head_size (any_head (front ++ b)) ≤ length (front ++ b) → head_size head - off_head_size ≤ length b
+pub is_there : (front b : List ℕ) (head : AnyHead) → length front ≡ off_head_size → head ≡ any_head (front ++ b) → head_size (any_head (front ++ b)) ≤ length (front ++ b)
+    → head_size head - off_head_size ≤ length b
 is_there front b head long is le = omega (arith, ap head_size is, le, length-append front b, long)
 
 pub behind_front : (front b : List ℕ) (n : ℕ) → length front ≡ off_head_size → off_head_size ≤ n → drop n (front ++ b) ≡ drop (n - off_head_size) b
@@ -114,7 +115,8 @@ behind_front front b n long le =
     let e : n ≡ length front + (n - off_head_size) = omega (arith, long, le) in
     ap (λ (k : ℕ). drop k (front ++ b)) e ∙ drop-append-add front b (n - off_head_size)
 
-pub behind_is : (front : List ℕ) (p : Held) (skb : SkbState) (head : AnyHead) → head ≡ any_head (front ++ buffer_bytes p.skb) → head_size head + length (buffer_bytes skb) ≡ length (front ++ buffer_bytes p.skb)
+pub behind_is : (front : List ℕ) (p : Held) (skb : SkbState) (head : AnyHead) → head ≡ any_head (front ++ buffer_bytes p.skb) → head_size head + length (buffer_bytes skb)
+    ≡ length (front ++ buffer_bytes p.skb)
     → buffer_bytes skb ≡ drop (head_size head) (front ++ buffer_bytes p.skb) → IsBehind (record_of front p) head (record p { skb = skb })
 behind_is front p skb head is size behind = record {
   head_is = sym is;

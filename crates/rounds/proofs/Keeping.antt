@@ -67,8 +67,10 @@ rise j k (p ∷ ps) le h = (omega (arith, le, h.0), rise (p.number + 1) (k + 1) 
 beside : (n : ℕ) (a b c : Account) → Keeps a b → IsRound n (both a c) → IsRound n (both b c)
 beside n a b c k r = round_keeps n (both a c) (both b c) (λ t m. let x = k t m in (omega (arith, x.0), omega (arith, x.0, x.1))) r
 
-pub are_kept : (keep : Bool) (n : ℕ) (ps : List Held) (k : Kept) → k.blocks ≡ n → IsFresh 0 n (of_packets ps) → AllByRecursion IsCaptured (map packet_of ps) → counts_of ps ≡ n → (j : ℕ) × NumberedFrom j ps → n ≤ 65536
-    → AreAfter 1 ps k.packets.items → Keeps (of_packets ps) (both (of_packets k.packets.items) (of_clones k.kept.items)) → blocks_of k.kept.items ≤ counts_of ps → (keep ≡ true → map packet_of_clone k.kept.items ≡ map packet_of ps)
+pub are_kept : (keep : Bool) (n : ℕ) (ps : List Held) (k : Kept) → k.blocks ≡ n → IsFresh 0 n (of_packets ps) → AllByRecursion IsCaptured (map packet_of ps) → counts_of ps ≡ n
+    → (j : ℕ) × NumberedFrom j ps → n ≤ 65536
+    → AreAfter 1 ps k.packets.items → Keeps (of_packets ps) (both (of_packets k.packets.items) (of_clones k.kept.items)) → blocks_of k.kept.items ≤ counts_of ps
+    → (keep ≡ true → map packet_of_clone k.kept.items ≡ map packet_of ps)
     → IsKept keep (map packet_of ps) n k
 are_kept keep n ps k size fresh captured counts numbers few after keeps fewer clones = record {
   same = after.same;
@@ -124,7 +126,8 @@ small_taps : (ls : List TapLane) → AllByRecursion (λ (l : TapLane). l.tap < 8
 small_taps [] number short = tt
 small_taps (l ∷ ls) number short = ((omega (arith, number.0), short.0), small_taps ls number.1 short.1)
 
-small_lanes : (plan : Plan) (ps : List Packet) (lanes : Lanes) → IsPlan plan → AllByRecursion Fits ps → AreMerged plan.segs (spread_of plan) plan.queues ps lanes.queues.items → AreWatched plan.snap plan.taps (shown_by plan ps) lanes.taps.items → IsSmallWork [] lanes
+small_lanes : (plan : Plan) (ps : List Packet) (lanes : Lanes) → IsPlan plan → AllByRecursion Fits ps → AreMerged plan.segs (spread_of plan) plan.queues ps lanes.queues.items
+    → AreWatched plan.snap plan.taps (shown_by plan ps) lanes.taps.items → IsSmallWork [] lanes
 small_lanes plan ps lanes is fit merged watched = record {
   small = tt;
   queues = small_queues lanes.queues.items (below (λ (l : QueueLane). l.queue) 0 plan.queues 64 lanes.queues.items (omega (arith, is.0.1)) merged.numbers)
@@ -142,14 +145,17 @@ small_alone items lanes small none = record {
 
 -- ---- what the lanes have done, or not
 
-round_now : (x : Account) (k j : Kept) → j.kept.items ≡ k.kept.items → j.blocks ≡ k.blocks → IsRound k.blocks (both (of_packets k.packets.items) (of_clones k.kept.items)) → Keeps (of_packets k.packets.items) x
+round_now : (x : Account) (k j : Kept) → j.kept.items ≡ k.kept.items → j.blocks ≡ k.blocks → IsRound k.blocks (both (of_packets k.packets.items) (of_clones k.kept.items))
+    → Keeps (of_packets k.packets.items) x
     → IsRound j.blocks (both x (of_clones j.kept.items))
 round_now x k j same size round keeps =
     subst (λ (m : ℕ). IsRound m (both x (of_clones j.kept.items))) (sym size)
     (subst (λ (z : List TapClone). IsRound k.blocks (both x (of_clones z))) (sym same) (beside k.blocks (of_packets k.packets.items) x (of_clones k.kept.items) keeps round))
 
-module _ {E : Type 0} (keep : Bool) (ps : List Packet) (n : ℕ) (plan : Plan) (k j : Kept) (is : IsPlan plan) (kept : IsKept keep ps n k) (same : j.kept.items ≡ k.kept.items) (size : j.blocks ≡ k.blocks) where
-  pub settles : (r : Result Lanes (Lanes × E)) → IfOk r (λ l. AreMerged plan.segs (spread_of plan) plan.queues (map packet_of k.packets.items) l.queues.items) → IfOk r (λ l. AreWatched plan.snap plan.taps (shown_by plan (map packet_of k.packets.items)) l.taps.items)
+module _ {E : Type 0} (keep : Bool) (ps : List Packet) (n : ℕ) (plan : Plan) (k j : Kept) (is : IsPlan plan) (kept : IsKept keep ps n k) (same : j.kept.items ≡ k.kept.items)
+    (size : j.blocks ≡ k.blocks) where
+  pub settles : (r : Result Lanes (Lanes × E)) → IfOk r (λ l. AreMerged plan.segs (spread_of plan) plan.queues (map packet_of k.packets.items) l.queues.items)
+      → IfOk r (λ l. AreWatched plan.snap plan.taps (shown_by plan (map packet_of k.packets.items)) l.taps.items)
       → IfOk r (λ l. (j.packets.items ≡ []) × All (λ (q : QueueLane). q.packets.items ≡ []) l.queues.items)
       → MatchResult r (λ l. Keeps (of_packets k.packets.items) (of_lanes l)) (λ e. Keeps (of_packets k.packets.items) (both (of_packets j.packets.items) (of_lanes e.0)))
       → MatchResult r (λ l. counts_of_queues l.queues.items ≤ counts_of k.packets.items) (λ e. counts_of j.packets.items + counts_of_queues e.0.queues.items ≤ counts_of k.packets.items)
@@ -171,7 +177,8 @@ module _ {E : Type 0} (keep : Bool) (ps : List Packet) (n : ℕ) (plan : Plan) (
 
 -- all that a comparison wants to know of what the lanes came to
 pub kept_work : {E X : Type 0} (plan : Plan) (budget n : ℕ) (keep : Bool) (ps : List Packet) (k : Kept) (lanes : Result Lanes (Lanes × E)) (r : Result WorkedState X) → keep ≡ true → IsKept keep ps n k
-    → IfOk lanes (λ l. AreMerged plan.segs (spread_of plan) plan.queues (map packet_of k.packets.items) l.queues.items) → IfOk lanes (λ l. AreWatched plan.snap plan.taps (shown_by plan (map packet_of k.packets.items)) l.taps.items)
+    → IfOk lanes (λ l. AreMerged plan.segs (spread_of plan) plan.queues (map packet_of k.packets.items) l.queues.items) → IfOk lanes (λ l. AreWatched plan.snap plan.taps
+    (shown_by plan (map packet_of k.packets.items)) l.taps.items)
     → IfOk lanes (λ l. All (λ (q : QueueLane). AreReady q.items.items) l.queues.items) → IfOk lanes (λ l. All (λ (q : QueueLane). ItemsWeighAtLeast 2048 q.items.items) l.queues.items)
     → IfOk r (IsOfLanes lanes k.kept.items k.blocks) → IfOk r (IsKeptWorkOf (options_by plan budget) ps)
 kept_work plan budget n keep ps k lanes (Err e) on is merged watched ready weigh of = tt
@@ -190,18 +197,21 @@ kept_work plan budget n keep ps k lanes (Ok w) on is merged watched ready weigh 
 -- ---- a round that goes home
 
 -- packets alone, without lanes or clones
-pub round_alone : (n : ℕ) (ps ls ks : Account) → ((t : Tests) (m : ℕ) → (ls.held t m ≡ 0) × (ls.homes t.blocks m ≡ 0)) → ((t : Tests) (m : ℕ) → (ks.held t m ≡ 0) × (ks.homes t.blocks m ≡ 0)) → IsRound n ps → IsRound n (both ps (both ls ks))
+pub round_alone : (n : ℕ) (ps ls ks : Account) → ((t : Tests) (m : ℕ) → (ls.held t m ≡ 0) × (ls.homes t.blocks m ≡ 0)) → ((t : Tests) (m : ℕ) → (ks.held t m ≡ 0) × (ks.homes t.blocks m ≡ 0))
+    → IsRound n ps → IsRound n (both ps (both ls ks))
 round_alone n ps ls ks none no_kept r =
     round_keeps n ps (both ps (both ls ks)) (λ t m. let a = none t m in let b = no_kept t m in (omega (arith, a.0, b.0), omega (arith, a.0, b.0, a.1, b.1))) r
 
 -- the same beside outcomes and items that hold nothing
-pub round_left : (n : ℕ) (os ps is ls ks : Account) → ((t : Tests) (m : ℕ) → (os.held t m ≡ 0) × (os.homes t.blocks m ≡ 0)) → ((t : Tests) (m : ℕ) → (is.held t m ≡ 0) × (is.homes t.blocks m ≡ 0)) → IsRound n (both ps (both ls ks))
+pub round_left : (n : ℕ) (os ps is ls ks : Account) → ((t : Tests) (m : ℕ) → (os.held t m ≡ 0) × (os.homes t.blocks m ≡ 0)) → ((t : Tests) (m : ℕ) → (is.held t m ≡ 0) × (is.homes t.blocks m ≡ 0))
+    → IsRound n (both ps (both ls ks))
     → IsRound n (both os (both ps (both is (both ls ks))))
 round_left n os ps is ls ks no_out no_item r =
     round_keeps n (both ps (both ls ks)) (both os (both ps (both is (both ls ks)))) (λ t m. let a = no_out t m in let b = no_item t m in (omega (arith, a.0, b.0), omega (arith, a.0, b.0, a.1, b.1))) r
 
 -- what merged in no lane, beside lanes and clones that hold nothing
-pub round_work : (n : ℕ) (ps is ls ks : Account) → Keeps ps is → ((t : Tests) (m : ℕ) → (ls.held t m ≡ 0) × (ls.homes t.blocks m ≡ 0)) → ((t : Tests) (m : ℕ) → (ks.held t m ≡ 0) × (ks.homes t.blocks m ≡ 0)) → IsRound n ps
+pub round_work : (n : ℕ) (ps is ls ks : Account) → Keeps ps is → ((t : Tests) (m : ℕ) → (ls.held t m ≡ 0) × (ls.homes t.blocks m ≡ 0)) → ((t : Tests) (m : ℕ)
+    → (ks.held t m ≡ 0) × (ks.homes t.blocks m ≡ 0)) → IsRound n ps
     → IsRound n (both is (both ls ks))
 round_work n ps is ls ks keeps none no_kept r =
     round_keeps n ps (both is (both ls ks)) (λ t m. let x = keeps t m in let a = none t m in let b = no_kept t m in (omega (arith, x.0, a.0, b.0), omega (arith, x.1, a.0, b.0, a.1, b.1))) r

@@ -68,7 +68,8 @@ work_is order worked =
     (items_are order 0 worked.items) (lanes_are order worked.lanes)
 
 -- what is written of a round that was worked is what merging writes of it
-pub worked_is : (options : Options) (order : Order) (ps : List Packet) (worked : WorkedState) → worked_records worked ≡ round_records options ps → worked_bytes order worked ≡ round_output options order ps
+pub worked_is : (options : Options) (order : Order) (ps : List Packet) (worked : WorkedState) → worked_records worked ≡ round_records options ps
+    → worked_bytes order worked ≡ round_output options order ps
 worked_is options order ps worked e = sym (work_is order worked) ∙ ap (flat_map (record_bytes order)) e
 
 -- ---- in one queue, with no lane
@@ -82,7 +83,8 @@ no_records lanes none =
     ap (λ (z : List QueueLane). flat_map records_of_queue z ++ flat_map records_of_tap lanes.taps.items) none.0 ∙ ap (λ (z : List TapLane). flat_map records_of_tap z) none.1
 
 -- whatever the one queue's flows are, it has all of them
-one_queue_records : (options : Options) (ps : List Packet) → ((key : Option (List ℕ)) → options.spread key < options.queues) → options.queues ≡ 1 → options.taps ≡ 0 → round_records options ps ≡ map (record_of 0) (runs_in options.segs ps)
+one_queue_records : (options : Options) (ps : List Packet) → ((key : Option (List ℕ)) → options.spread key < options.queues) → options.queues ≡ 1 → options.taps ≡ 0
+    → round_records options ps ≡ map (record_of 0) (runs_in options.segs ps)
 one_queue_records options ps below queues taps =
     let segs : ℕ = options.segs in
     let s : Spread = options.spread in
@@ -92,7 +94,8 @@ one_queue_records options ps below queues taps =
     ∙ ap (λ (n : ℕ). flat_map (λ q. map (record_of q) (items_of segs s q ps)) (range_with_len 0 1) ++ flat_map (λ t. windows_of options.snap t shown) (range_with_len 0 n)) taps
     ∙ append-nil (records ++ []) ∙ append-nil records ∙ ap (λ (runs : List (List Packet)). map (record_of 0) runs) (one_queue segs s ps (λ key. omega (arith, below key, queues)))
 
-pub records_alone : (options : Options) (segs : ℕ) (ps : List Packet) (items : List Item) (lanes : Lanes) → ((key : Option (List ℕ)) → options.spread key < options.queues) → options.queues ≡ 1 → options.taps ≡ 0 → segs ≡ options.segs
+pub records_alone : (options : Options) (segs : ℕ) (ps : List Packet) (items : List Item) (lanes : Lanes) → ((key : Option (List ℕ)) → options.spread key < options.queues) → options.queues ≡ 1
+    → options.taps ≡ 0 → segs ≡ options.segs
     → map item_of items ≡ map merged_of (runs_in segs ps)
     → (lanes.queues.items ≡ []) × (lanes.taps.items ≡ []) → records_of_items 0 items ++ lane_records lanes ≡ round_records options ps
 records_alone options segs ps items lanes below queues taps same are none =
@@ -105,7 +108,8 @@ none_ready lanes none = All-from_recursion (λ (l : QueueLane). AreReady l.items
 
 -- ---- a round that was worked, or not
 
-bytes_at : {E : Type 0} (options : Options) (order : Order) (ps : List Packet) (r : Result WorkedState E) → IfOk r (λ w. worked_records w ≡ round_records options ps) → IfOk r (λ w. worked_bytes order w ≡ round_output options order ps)
+bytes_at : {E : Type 0} (options : Options) (order : Order) (ps : List Packet) (r : Result WorkedState E) → IfOk r (λ w. worked_records w ≡ round_records options ps)
+    → IfOk r (λ w. worked_bytes order w ≡ round_output options order ps)
 bytes_at options order ps (Ok w) h = worked_is options order ps w h
 bytes_at options order ps (Err e) h = tt
 
@@ -113,7 +117,8 @@ pub works_out : {E : Type 0} (options now : Options) (order : Order) (ps : List 
     → IfOk r (λ w. worked_bytes order w ≡ round_output options order ps)
 works_out options now order ps r same h = bytes_at options order ps r (subst (λ (o : Options). IfOk r (λ w. worked_records w ≡ round_records o ps)) same h)
 
-pub may_put : {E : Type 0} (r : Result WorkedState E) (old new : RoundsState) (n : ℕ) → IfOk r (λ w. w.blocks ≡ n) → OnOk r (new ≡ old) → OnErr r (new ≡ record old { home = old.home + n }) → old.home + n ≤ old.blocks
+pub may_put : {E : Type 0} (r : Result WorkedState E) (old new : RoundsState) (n : ℕ) → IfOk r (λ w. w.blocks ≡ n) → OnOk r (new ≡ old) → OnErr r (new ≡ record old { home = old.home + n })
+    → old.home + n ≤ old.blocks
     → IfOk r (λ w. new.home + w.blocks ≤ new.blocks)
 may_put (Ok w) old new n size same home fits = omega (arith, size, ap (λ (z : RoundsState). z.home) same, ap (λ (z : RoundsState). z.blocks) same, fits)
 may_put (Err e) old new n size same home fits = tt
@@ -130,7 +135,8 @@ is_home (Err e) old mid new n size same home put = put ∙ home
 pub ok_at : {T E : Type 0} (r : Result T E) (a b c : Option (List ℕ)) (xs ys vs ws : List ℕ) → xs ≡ vs → ys ≡ ws → Appends a b xs → OnOk r (Appends b c ys) → OnOk r (Appends a c (vs ++ ws))
 ok_at r a b c xs ys vs ws e f p q = subst (λ (z : List ℕ). OnOk r (Appends a c (z ++ ws))) e (subst (λ (z : List ℕ). OnOk r (Appends a c (xs ++ z))) f (then_ok r a b c xs ys p q))
 
-pub err_at : {T E : Type 0} (r : Result T E) (a b c : Option (List ℕ)) (xs ys vs ws : List ℕ) → xs ≡ vs → ys ≡ ws → Appends a b xs → OnErr r (AppendsFront b c ys) → OnErr r (AppendsFront a c (vs ++ ws))
+pub err_at : {T E : Type 0} (r : Result T E) (a b c : Option (List ℕ)) (xs ys vs ws : List ℕ) → xs ≡ vs → ys ≡ ws → Appends a b xs → OnErr r (AppendsFront b c ys)
+    → OnErr r (AppendsFront a c (vs ++ ws))
 err_at r a b c xs ys vs ws e f p q = subst (λ (z : List ℕ). OnErr r (AppendsFront a c (z ++ ws))) e (subst (λ (z : List ℕ). OnErr r (AppendsFront a c (xs ++ z))) f (then_err r a b c xs ys p q))
 
 pub front_at : (a b : Option (List ℕ)) (xs vs ws : List ℕ) → xs ≡ vs → AppendsFront a b xs → AppendsFront a b (vs ++ ws)

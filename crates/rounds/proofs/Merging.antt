@@ -1,5 +1,6 @@
 -- Rounds that are merged, and how merging ends.
-use Rattle.std.proofs.Common.{◌≡◌, ◌+◌, ◌-◌, ◌^◌, ◌*◌, ◌<◌, ◌≤◌, ◌⊎◌, inl, inr, ℕ, min, List, [], ◌++◌, Bool, true, false, Option, Some, None, refl, sym, ap, ◌∙◌, subst, length, length-append, map, take, arith, append_assoc, append-nil}
+use Rattle.std.proofs.Common.{◌≡◌, ◌+◌, ◌-◌, ◌^◌, ◌*◌, ◌<◌, ◌≤◌, ◌⊎◌, inl, inr, ℕ, min, List, [], ◌++◌, Bool, true, false, Option, Some, None, refl, sym, ap, ◌∙◌, subst, length, length-append, map}
+use Rattle.std.proofs.Common.{take, arith, append_assoc, append-nil}
 use Rattle.std.specs.List.{AllByRecursion}
 use Rattle.std.proofs.lemmas.Bool.{false≢true}
 use Rattle.std.proofs.lemmas.List.{length-map, take_at}
@@ -23,7 +24,8 @@ use Rattle.pcap_io.proofs.RecordLaws.{records_none}
 use Rattle.maximal_runs.proofs.Pass.{all_append}
 use Rattle.offload_model.specs.Captured.{IsCaptured}
 use Rattle.offload_model.specs.Need.{needed, round_need, exceeded_at, found_before}
-use Rattle.offload_model.specs.Passing.{Stop, Ending, Stopped, Nowhere, AtFault, AtRound, Passed, ReadFault, WriteFault, NoMemory, merging, Passes, WritesFront, FrontUnless, IsNoRound, stop_of, flushes}
+use Rattle.offload_model.specs.Passing.{Stop, Ending, Stopped, Nowhere, AtFault, AtRound, Passed, ReadFault, WriteFault, NoMemory, merging, Passes, WritesFront, FrontUnless, IsNoRound, stop_of}
+use Rattle.offload_model.specs.Passing.{flushes}
 use Rattle.offload_model.specs.Steps.{ending_behind, behind, round_output}
 use Rattle.offload_model.specs.Written.{Options}
 use Rattle.offload_model.proofs.Lists.{all_taken}
@@ -73,7 +75,8 @@ ahead_none blocks options place a h taken =
     })
 
 module _ (blocks : ℕ) (options : Options) (k : ℕ) (p0 p1 p2 : Place) (a b c h h1 h2 : Option (List ℕ)) (t0 t1 t2 : ℕ) where
-  one_ahead : (bytes rest left : List ℕ) → Ahead blocks options k p0 p1 h h1 t0 t1 bytes rest → Ahead blocks options 1 p1 p2 h1 h2 t1 t2 rest left → Ahead blocks options (k + 1) p0 p2 h h2 t0 t2 bytes left
+  one_ahead : (bytes rest left : List ℕ) → Ahead blocks options k p0 p1 h h1 t0 t1 bytes rest → Ahead blocks options 1 p1 p2 h1 h2 t1 t2 rest left
+      → Ahead blocks options (k + 1) p0 p2 h h2 t0 t2 bytes left
   one_ahead bytes rest left x y = record {
     gone = x.gone ++ y.gone;
     done = x.done ++ y.done;
@@ -93,25 +96,29 @@ module _ (blocks : ℕ) (options : Options) (k : ℕ) (p0 p1 p2 : Place) (a b c 
       Told-then a b c (Ahead blocks options k p0 p1 h h1 t0 t1) (Ahead blocks options 1 p1 p2 h1 h2 t1 t2) (Ahead blocks options (k + 1) p0 p2 h h2 t0 t2)
       (λ bytes rest left x y. one_ahead bytes rest left x y) first more
 
-  one_end : (end : MergeEnd) (bytes rest left : List ℕ) → Ahead blocks options k p0 p1 h h1 t0 t1 bytes rest → EndsBehind k blocks options p1 h1 h2 end rest left → Passes (merging blocks options p0) h h2 (ending_of end) bytes left
+  one_end : (end : MergeEnd) (bytes rest left : List ℕ) → Ahead blocks options k p0 p1 h h1 t0 t1 bytes rest → EndsBehind k blocks options p1 h1 h2 end rest left
+      → Passes (merging blocks options p0) h h2 (ending_of end) bytes left
   one_end end bytes rest left x y =
       let from = merging blocks options p0 in
       let all = (commands_pass_on from (merging blocks options p1) k x.gone x.done).passes h h1 h2 y.0 rest left x.goes x.wrote y.2 in
       subst (λ (l : List ℕ). Passes from h h2 (ending_of end) l left) (sym x.split) (subst (λ (e : Ending). Passes from h h2 e (x.gone ++ rest) left) (sym y.1) all)
 
   -- and the end
-  pub ends_then : (end : MergeEnd) → Told a b (Ahead blocks options k p0 p1 h h1 t0 t1) → Told b c (Steps k blocks options p1 p2 h1 h2 t1 t2 (steps.Ends end)) → Told a c (Passes (merging blocks options p0) h h2 (ending_of end))
+  pub ends_then : (end : MergeEnd) → Told a b (Ahead blocks options k p0 p1 h h1 t0 t1) → Told b c (Steps k blocks options p1 p2 h1 h2 t1 t2 (steps.Ends end))
+      → Told a c (Passes (merging blocks options p0) h h2 (ending_of end))
   ends_then end first more =
       Told-then a b c (Ahead blocks options k p0 p1 h h1 t0 t1) (EndsBehind k blocks options p1 h1 h2 end) (Passes (merging blocks options p0) h h2 (ending_of end))
       (λ bytes rest left x y. one_end end bytes rest left x y) first more
 
-  one_front : (bytes rest left : List ℕ) → Ahead blocks options k p0 p1 h h1 t0 t1 bytes rest → WritesFront (merging blocks options p1) h1 h2 rest left → WritesFront (merging blocks options p0) h h2 bytes left
+  one_front : (bytes rest left : List ℕ) → Ahead blocks options k p0 p1 h h1 t0 t1 bytes rest → WritesFront (merging blocks options p1) h1 h2 rest left
+      → WritesFront (merging blocks options p0) h h2 bytes left
   one_front bytes rest left x y =
       subst (λ (l : List ℕ). WritesFront (merging blocks options p0) h h2 l left) (sym x.split)
       ((fronts_pass_on (merging blocks options p0) (merging blocks options p1) k x.gone x.done).after h h1 h2 rest left x.goes x.wrote y)
 
   -- a front of what comes of what follows is one of what comes of all
-  pub fronts_then : (X Y : Type 0) → (X → Y) → Told a b (Ahead blocks options k p0 p1 h h1 t0 t1) → FrontUnless X (merging blocks options p1) b c h1 h2 → FrontUnless Y (merging blocks options p0) a c h h2
+  pub fronts_then : (X Y : Type 0) → (X → Y) → Told a b (Ahead blocks options k p0 p1 h h1 t0 t1) → FrontUnless X (merging blocks options p1) b c h1 h2
+      → FrontUnless Y (merging blocks options p0) a c h h2
   fronts_then X Y later first (inl failed) = inl (later failed)
   fronts_then X Y later first (inr told) =
       inr (Told-then a b c (Ahead blocks options k p0 p1 h h1 t0 t1) (WritesFront (merging blocks options p1) h1 h2) (WritesFront (merging blocks options p0) h h2)
@@ -154,7 +161,8 @@ not_round None round need X e = absurd (false≢true (ap is_round e))
 not_round (Some fault) round need X e = absurd (false≢true (ap is_round e))
 
 -- the packets before the round that exceeds the blocks are those of the rounds before
-rounds_before : (budget k round need : ℕ) (packets : List Packet) (exceeded : Option (ℕ × ℕ)) (found rest : Found) → stop_of (found_before budget exceeded found).fault exceeded ≡ AtRound round need → round ≡ k
+rounds_before : (budget k round need : ℕ) (packets : List Packet) (exceeded : Option (ℕ × ℕ)) (found rest : Found) → stop_of (found_before budget exceeded found).fault exceeded ≡ AtRound round need
+    → round ≡ k
     → found ≡ in_front packets rest → length packets ≡ k * budget → AllByRecursion IsCaptured packets → AllByRecursion IsCaptured (found_before budget exceeded found).packets
 rounds_before budget k round need packets None found rest stops is e size each = not_round found.fault round need _ stops
 rounds_before budget k round need packets (Some at) found rest stops is e size each =
@@ -183,7 +191,8 @@ module _ (blocks : ℕ) (options : Options) (k : ℕ) (p0 p1 p2 : Place) (a b c 
   one_captured (ends.Malformed fault) bytes rest left x y = captured_whole bytes rest x y.1
   one_captured (ends.PoolEmpty round need) bytes rest left x y =
       let passes = one_end blocks options k p0 p1 p2 a b c h h1 h2 t0 t1 t2 (ends.PoolEmpty round need) bytes rest left x y.0 in
-      rounds_before options.budget k round need x.packets (exceeded_at blocks options.budget p0 bytes) (found_at p0 bytes) (found_at p1 rest) passes.0 y.1 (ap (found_at p0) x.split ∙ x.found rest) x.size x.each
+      rounds_before options.budget k round need x.packets (exceeded_at blocks options.budget p0 bytes) (found_at p0 bytes) (found_at p1 rest) passes.0 y.1
+      (ap (found_at p0) x.split ∙ x.found rest) x.size x.each
   one_captured ends.ReadFault bytes rest left x y = (
     x.gone ++ y.1.0,
     x.split ∙ ap (λ (l : List ℕ). x.gone ++ l) y.1.1 ∙ sym (append_assoc x.gone y.1.0 left),
@@ -196,7 +205,8 @@ module _ (blocks : ℕ) (options : Options) (k : ℕ) (p0 p1 p2 : Place) (a b c 
   pub captured_then : (end : MergeEnd) → Told a b (Ahead blocks options k p0 p1 h h1 t0 t1) → Told b c (Steps k blocks options p1 p2 h1 h2 t1 t2 (steps.Ends end)) → Told b c (EndsCaptured k p1 end)
       → Told a c (HoldsCaptured blocks options.budget p0 end)
   captured_then end first more here =
-      Told-then a b c (Ahead blocks options k p0 p1 h h1 t0 t1) (λ rest left. EndsBehind k blocks options p1 h1 h2 end rest left × EndsCaptured k p1 end rest left) (HoldsCaptured blocks options.budget p0 end)
+      Told-then a b c (Ahead blocks options k p0 p1 h h1 t0 t1) (λ rest left. EndsBehind k blocks options p1 h1 h2 end rest left × EndsCaptured k p1 end rest left)
+      (HoldsCaptured blocks options.budget p0 end)
       (λ bytes rest left x y. one_captured end bytes rest left x y) first (both_told b c (EndsBehind k blocks options p1 h1 h2 end) (EndsCaptured k p1 end) more here)
 
 -- of a round that wasn't written whole nothing is said
@@ -204,7 +214,8 @@ fails_captured : (k : ℕ) (place : Place) (h h1 : Option (List ℕ)) (out : Lis
 fails_captured k place h h1 out end bytes left (inl f) = subst (λ (e : MergeEnd). EndsCaptured k place e bytes left) (sym f.0) tt
 fails_captured k place h h1 out end bytes left (inr f) = subst (λ (e : MergeEnd). EndsCaptured k place e bytes left) (sym f.0) tt
 
-last_captured : (k : ℕ) (place : Place) (h h1 : Option (List ℕ)) (out : List ℕ) (end result : MergeEnd) (bytes left : List ℕ) → WritesLast h h1 out end result → EndsCaptured k place end bytes left → EndsCaptured k place result bytes left
+last_captured : (k : ℕ) (place : Place) (h h1 : Option (List ℕ)) (out : List ℕ) (end result : MergeEnd) (bytes left : List ℕ) → WritesLast h h1 out end result → EndsCaptured k place end bytes left
+    → EndsCaptured k place result bytes left
 last_captured k place h h1 out end result bytes left (inl w) here = subst (λ (e : MergeEnd). EndsCaptured k place e bytes left) (sym w.0) here
 last_captured k place h h1 out end result bytes left (inr f) here = fails_captured k place h h1 out result bytes left f
 
@@ -212,20 +223,23 @@ module _ (k blocks : ℕ) (from to : Place) (round : List Held) (a b h h1 : Opti
   here_by : (bytes : List ℕ) (fault : Option CapFault) → found_at from bytes ≡ in_front (map packet_of round) (ended fault) → AreCapturedAt from bytes
   here_by bytes fault found = subst (λ (f : Found). AllByRecursion IsCaptured f.packets) (sym found) (subst (AllByRecursion IsCaptured) (sym (append-nil (map packet_of round))) each)
 
-  pub end_captured : (end : RoundEnd) (result : MergeEnd) → end ≡ rounds.End → WritesLast h h1 out ends.Done result → Told a b (GivesRound blocks from to round end) → Told a b (EndsCaptured k from result)
+  pub end_captured : (end : RoundEnd) (result : MergeEnd) → end ≡ rounds.End → WritesLast h h1 out ends.Done result → Told a b (GivesRound blocks from to round end)
+      → Told a b (EndsCaptured k from result)
   end_captured end result is wrote told =
       Told-weaker a b (GivesRound blocks from to round rounds.End) (EndsCaptured k from result)
       (λ bytes left gives. last_captured k from h h1 out ends.Done result bytes left wrote (here_by bytes None gives.0))
       (subst (λ (e : RoundEnd). Told a b (GivesRound blocks from to round e)) is told)
 
-  pub malformed_captured : (end : RoundEnd) (fault : CapFault) (result : MergeEnd) → end ≡ rounds.Malformed fault → WritesLast h h1 out (ends.Malformed fault) result → Told a b (GivesRound blocks from to round end)
+  pub malformed_captured : (end : RoundEnd) (fault : CapFault) (result : MergeEnd) → end ≡ rounds.Malformed fault → WritesLast h h1 out (ends.Malformed fault) result
+      → Told a b (GivesRound blocks from to round end)
       → Told a b (EndsCaptured k from result)
   malformed_captured end fault result is wrote told =
       Told-weaker a b (GivesRound blocks from to round (rounds.Malformed fault)) (EndsCaptured k from result)
       (λ bytes left gives. last_captured k from h h1 out (ends.Malformed fault) result bytes left wrote (here_by bytes (Some fault) gives.0))
       (subst (λ (e : RoundEnd). Told a b (GivesRound blocks from to round e)) is told)
 
-  pub fault_captured : (end : RoundEnd) (result : MergeEnd) → end ≡ rounds.ReadFault → WritesLast h h1 out ends.ReadFault result → Told a b (GivesRound blocks from to round end) → Told a b (EndsCaptured k from result)
+  pub fault_captured : (end : RoundEnd) (result : MergeEnd) → end ≡ rounds.ReadFault → WritesLast h h1 out ends.ReadFault result → Told a b (GivesRound blocks from to round end)
+      → Told a b (EndsCaptured k from result)
   fault_captured end result is wrote told =
       Told-weaker a b (GivesRound blocks from to round rounds.ReadFault) (EndsCaptured k from result)
       (λ bytes left gives. last_captured k from h h1 out ends.ReadFault result bytes left wrote (gives.0, gives.1, subst (AllByRecursion IsCaptured) (sym gives.2) each))
@@ -240,7 +254,8 @@ module _ (k blocks : ℕ) (from to : Place) (round : List Held) (a b h h1 : Opti
   empty_here need result bytes left (inl e) = subst (λ (x : MergeEnd). EndsCaptured k from x bytes left) (sym e) refl
   empty_here need result bytes left (inr e) = subst (λ (x : MergeEnd). EndsCaptured k from x bytes left) (sym e) tt
 
-  pub empty_captured : (end : RoundEnd) (need : ℕ) (result : MergeEnd) → end ≡ rounds.PoolEmpty need → (result ≡ ends.PoolEmpty k need) ⊎ (result ≡ ends.WriteFault) → Told a b (GivesRound blocks from to round end)
+  pub empty_captured : (end : RoundEnd) (need : ℕ) (result : MergeEnd) → end ≡ rounds.PoolEmpty need → (result ≡ ends.PoolEmpty k need) ⊎ (result ≡ ends.WriteFault)
+      → Told a b (GivesRound blocks from to round end)
       → Told a b (EndsCaptured k from result)
   empty_captured end need result is answer told =
       Told-weaker a b (GivesRound blocks from to round (rounds.PoolEmpty need)) (EndsCaptured k from result) (λ bytes left gives. empty_here need result bytes left answer)
@@ -261,7 +276,8 @@ no_round : (fault : Option CapFault) → IsNoRound (stop_of fault None)
 no_round None = tt
 no_round (Some fault) = tt
 
-module _ (blocks : ℕ) (state : RoundsState) (file : FileHead) (from to : Place) (round : List Held) (is_file : from.file ≡ file) (some : 1 ≤ state.budget) (fits : round_need (map packet_of round) ≤ blocks) where
+module _ (blocks : ℕ) (state : RoundsState) (file : FileHead) (from to : Place) (round : List Held) (is_file : from.file ≡ file) (some : 1 ≤ state.budget)
+    (fits : round_need (map packet_of round) ≤ blocks) where
   abbrev passing : List ℕ → Passed
   passing = merging blocks (options_of state) from
 
@@ -324,18 +340,21 @@ module _ (blocks : ℕ) (state : RoundsState) (file : FileHead) (from to : Place
     last_front end result (inr f) = fails_front result f
 
     -- a front of the last round, whose end was read
-    pub ended_front : (end result : MergeEnd) (bytes left : List ℕ) (fault : Option CapFault) → length round < state.budget → needed (lengths_at from bytes) ≤ blocks → found_at from bytes ≡ in_front packets (ended fault)
+    pub ended_front : (end result : MergeEnd) (bytes left : List ℕ) (fault : Option CapFault) → length round < state.budget → needed (lengths_at from bytes) ≤ blocks
+        → found_at from bytes ≡ in_front packets (ended fault)
         → WritesLast h h1 out end result → WritesFront passing h h1 bytes left
     ended_front end result bytes left fault fewer room found wrote =
         subst (AppendsFront h h1) (sym (ap (λ (x : Passed). x.output) (last_is bytes fault fewer room found))) (last_front end result wrote)
 
     -- a front of a full round, whatever follows it
-    pub full_front : (result : MergeEnd) (bytes left : List ℕ) → length round ≡ state.budget → to.file ≡ from.file → Fails h h1 out result → PassesRecords from to packets bytes left → WritesFront passing h h1 bytes left
+    pub full_front : (result : MergeEnd) (bytes left : List ℕ) → length round ≡ state.budget → to.file ≡ from.file → Fails h h1 out result → PassesRecords from to packets bytes left
+        → WritesFront passing h h1 bytes left
     full_front result bytes left full same fails passes =
         subst (λ (l : List ℕ). WritesFront passing h h1 l left) (sym passes.1)
         ((fronts_pass_on passing (merging blocks (options_of state) to) 1 passes.0 out).within h h1 left left
         (λ tail.
-        (merging_goes_by_round blocks (options_of state) from packets (passes.0 ++ tail) (omega (arith, some))).full to tail (omega (arith, full, length-map round packet_of)) fits same (passes.2 tail).found (passes.2 tail).lengths
+        (merging_goes_by_round blocks (options_of state) from packets (passes.0 ++ tail) (omega (arith, some))).full to tail (omega (arith, full, length-map round packet_of)) fits same
+        (passes.2 tail).found (passes.2 tail).lengths
         ∙ ap (λ (l : List ℕ). behind 1 l (merging blocks (options_of state) to tail)) out_is)
         (fails_front result fails))
 
@@ -344,7 +363,8 @@ module _ (blocks : ℕ) (state : RoundsState) (file : FileHead) (from to : Place
     fails_end end bytes left (inr f) comes = (NoMemory, ap ending_of f.0, (comes.0, comes.1, (0, Appends-kept h h h1 [] (Appends-nil h) f.1)))
 
     -- the last round ended as it was to, or it failed
-    last_end : (end result : MergeEnd) (ending : Ending) (bytes left : List ℕ) → ending_of end ≡ ending_behind k ending → (Appends h h1 out → Passes passing h h1 ending bytes left) → ComesTo passing out bytes left
+    last_end : (end result : MergeEnd) (ending : Ending) (bytes left : List ℕ) → ending_of end ≡ ending_behind k ending → (Appends h h1 out → Passes passing h h1 ending bytes left)
+        → ComesTo passing out bytes left
         → WritesLast h h1 out end result → EndsBehind k blocks (options_of state) from h h1 result bytes left
     last_end end result ending bytes left is passes comes (inl w) = (ending, ap ending_of w.0 ∙ is, passes w.1)
     last_end end result ending bytes left is passes comes (inr f) = fails_end result bytes left f comes
@@ -387,15 +407,18 @@ module _ (blocks : ℕ) (state : RoundsState) (file : FileHead) (from to : Place
         (λ bytes left gives. fails_end result bytes left fails (full_comes bytes left full gives))
         (subst (λ (e : RoundEnd). Told a b (GivesRound blocks from to round e)) is told)
 
-    exceeds_end : (need : ℕ) (bytes left : List ℕ) → length round < state.budget → Exceeds blocks need from packets bytes left → (passing bytes ≡ record { output = []; stop = AtRound 0 need }) × Loses bytes left
+    exceeds_end : (need : ℕ) (bytes left : List ℕ) → length round < state.budget → Exceeds blocks need from packets bytes left → (passing bytes ≡ record { output = []; stop = AtRound 0 need })
+        × Loses bytes left
     exceeds_end need bytes left fewer ex =
         let len = ex.0 in
         let more = ex.1.0 in
         let is = ex.1.1 in
-        let stops = (merging_goes_by_round blocks (options_of state) from packets bytes (omega (arith, some))).exceeds len more (omega (arith, fewer, length-map round packet_of)) fits (omega (arith, is.1, is.2)) is.0 in
+        let stops = (merging_goes_by_round blocks (options_of state) from packets bytes (omega (arith, some))).exceeds len more (omega (arith, fewer, length-map round packet_of)) fits
+        (omega (arith, is.1, is.2)) is.0 in
         (stops ∙ ap (λ (n : ℕ). record { output = []; stop = AtRound 0 n }) (sym is.1), is.3)
 
-    empty_by : (need : ℕ) (result : MergeEnd) (bytes left : List ℕ) → (result ≡ ends.PoolEmpty k need) ⊎ (result ≡ ends.WriteFault) → Keeps h h1 → (passing bytes ≡ record { output = []; stop = AtRound 0 need }) × Loses bytes left
+    empty_by : (need : ℕ) (result : MergeEnd) (bytes left : List ℕ) → (result ≡ ends.PoolEmpty k need) ⊎ (result ≡ ends.WriteFault) → Keeps h h1
+        → (passing bytes ≡ record { output = []; stop = AtRound 0 need }) × Loses bytes left
         → EndsBehind k blocks (options_of state) from h h1 result bytes left
     empty_by need result bytes left (inl e) kept ex =
         let same : k ≡ k + 0 = omega arith in (
@@ -405,7 +428,8 @@ module _ (blocks : ℕ) (state : RoundsState) (file : FileHead) (from to : Place
         )
     empty_by need result bytes left (inr e) kept ex = (WriteFault, ap ending_of e, (ex.1.0, ex.1.1, (0, Appends-kept h h h1 [] (Appends-nil h) kept)))
 
-    pub empty_given : (end : RoundEnd) (need : ℕ) (result : MergeEnd) → end ≡ rounds.PoolEmpty need → length round < state.budget → (result ≡ ends.PoolEmpty k need) ⊎ (result ≡ ends.WriteFault) → Keeps h h1
+    pub empty_given : (end : RoundEnd) (need : ℕ) (result : MergeEnd) → end ≡ rounds.PoolEmpty need → length round < state.budget → (result ≡ ends.PoolEmpty k need) ⊎ (result ≡ ends.WriteFault)
+        → Keeps h h1
         → Told a b (GivesRound blocks from to round end) → Told a b (EndsBehind k blocks (options_of state) from h h1 result)
     empty_given end need result is fewer answer kept told =
         Told-weaker a b (GivesRound blocks from to round (rounds.PoolEmpty need)) (EndsBehind k blocks (options_of state) from h h1 result)
@@ -413,7 +437,8 @@ module _ (blocks : ℕ) (state : RoundsState) (file : FileHead) (from to : Place
         (subst (λ (e : RoundEnd). Told a b (GivesRound blocks from to round e)) is told)
 
     -- a full round was written
-    full_goes : (t t1 : ℕ) (bytes left : List ℕ) → length round ≡ state.budget → to.file ≡ from.file → min (t + round_need packets) (2 ^ 64 - 1) ≤ t1 → Appends h h1 out → AllByRecursion IsCaptured packets → PassesRecords from to packets bytes left
+    full_goes : (t t1 : ℕ) (bytes left : List ℕ) → length round ≡ state.budget → to.file ≡ from.file → min (t + round_need packets) (2 ^ 64 - 1) ≤ t1 → Appends h h1 out
+        → AllByRecursion IsCaptured packets → PassesRecords from to packets bytes left
         → Ahead blocks (options_of state) 1 from to h h1 t t1 bytes left
     full_goes t t1 bytes left full same took wrote each passes = record {
       gone = passes.0;
@@ -421,7 +446,8 @@ module _ (blocks : ℕ) (state : RoundsState) (file : FileHead) (from to : Place
       packets = packets;
       split = passes.1;
       goes = λ tail.
-          (merging_goes_by_round blocks (options_of state) from packets (passes.0 ++ tail) (omega (arith, some))).full to tail (omega (arith, full, length-map round packet_of)) fits same (passes.2 tail).found (passes.2 tail).lengths
+          (merging_goes_by_round blocks (options_of state) from packets (passes.0 ++ tail) (omega (arith, some))).full to tail (omega (arith, full, length-map round packet_of)) fits same
+          (passes.2 tail).found (passes.2 tail).lengths
           ∙ ap (λ (l : List ℕ). behind 1 l (merging blocks (options_of state) to tail)) out_is;
       found = λ tail. (passes.2 tail).found;
       wrote = wrote;
@@ -430,7 +456,8 @@ module _ (blocks : ℕ) (state : RoundsState) (file : FileHead) (from to : Place
       each = each;
     }
 
-    pub full_given : (end : RoundEnd) (t t1 : ℕ) → end ≡ rounds.Full → length round ≡ state.budget → to.file ≡ from.file → min (t + round_need packets) (2 ^ 64 - 1) ≤ t1 → Appends h h1 out → AllByRecursion IsCaptured packets
+    pub full_given : (end : RoundEnd) (t t1 : ℕ) → end ≡ rounds.Full → length round ≡ state.budget → to.file ≡ from.file → min (t + round_need packets) (2 ^ 64 - 1) ≤ t1 → Appends h h1 out
+        → AllByRecursion IsCaptured packets
         → Told a b (GivesRound blocks from to round end) → Told a b (Ahead blocks (options_of state) 1 from to h h1 t t1)
     full_given end t t1 is full same took wrote each told =
         Told-weaker a b (GivesRound blocks from to round rounds.Full) (Ahead blocks (options_of state) 1 from to h h1 t t1)
@@ -438,7 +465,8 @@ module _ (blocks : ℕ) (state : RoundsState) (file : FileHead) (from to : Place
         (subst (λ (e : RoundEnd). Told a b (GivesRound blocks from to round e)) is told)
 
 -- there was no memory for a round
-pub memory_given : (k blocks : ℕ) (options : Options) (from to : Place) (round : List Held) (a b h : Option (List ℕ)) (end : RoundEnd) → end ≡ rounds.NoMemory → Told a b (GivesRound blocks from to round end) → Told a b (EndsBehind k blocks options from h h ends.NoMemory)
+pub memory_given : (k blocks : ℕ) (options : Options) (from to : Place) (round : List Held) (a b h : Option (List ℕ)) (end : RoundEnd) → end ≡ rounds.NoMemory
+    → Told a b (GivesRound blocks from to round end) → Told a b (EndsBehind k blocks options from h h ends.NoMemory)
 memory_given k blocks options from to round a b h end is told =
     Told-weaker a b Loses (EndsBehind k blocks options from h h ends.NoMemory) (λ bytes left loses. (NoMemory, refl, (loses.0, loses.1, (0, Appends-nil h))))
     (subst (λ (e : RoundEnd). Told a b (GivesRound blocks from to round e)) is told)
@@ -497,14 +525,16 @@ is_quiet _ = false
 pub puts_full : (h h1 h2 : Option (List ℕ)) (bytes : List ℕ) → h2 ≡ h1 → Appends h h1 bytes → Puts h h2 bytes rounds.Full steps.Goes
 puts_full h h1 h2 bytes same wrote = subst (λ (z : Option (List ℕ)). Appends h z bytes) (sym same) wrote
 
-module _ (blocks : ℕ) (state : RoundsState) (file : FileHead) (from to : Place) (round : List Held) (is_file : from.file ≡ file) (some : 1 ≤ state.budget) (fits : round_need (map packet_of round) ≤ blocks)
+module _ (blocks : ℕ) (state : RoundsState) (file : FileHead) (from to : Place) (round : List Held) (is_file : from.file ≡ file) (some : 1 ≤ state.budget)
+    (fits : round_need (map packet_of round) ≤ blocks)
     (k : ℕ) (a b h h1 : Option (List ℕ)) (t t1 : ℕ) (each : AllByRecursion IsCaptured (map packet_of round)) where
   abbrev output : List ℕ
   output = round_output (options_of state) file.order (map packet_of round)
 
   -- what a round that was put says
   pub put_given : (end : RoundEnd) (step : Step) → (end ≡ rounds.Full → PassesRound from to round state.budget) → ((end ≡ rounds.Full → ⊥) → (end ≡ rounds.NoMemory → ⊥) → length round < state.budget)
-      → min (t + round_need (map packet_of round)) (2 ^ 64 - 1) ≤ t1 → Puts h h1 output end step → Told a b (GivesRound blocks from to round end) → Told a b (Steps k blocks (options_of state) from to h h1 t t1 step)
+      → min (t + round_need (map packet_of round)) (2 ^ 64 - 1) ≤ t1 → Puts h h1 output end step → Told a b (GivesRound blocks from to round end)
+      → Told a b (Steps k blocks (options_of state) from to h h1 t t1 step)
   put_given rounds.Full steps.Goes full fewer took puts told =
       full_given blocks state file from to round is_file some fits k a b h h1 rounds.Full t t1 refl (full refl).full (full refl).file took puts each told
   put_given rounds.Full (steps.Ends result) full fewer took puts told =
@@ -512,7 +542,8 @@ module _ (blocks : ℕ) (state : RoundsState) (file : FileHead) (from to : Place
   put_given rounds.End (steps.Ends result) full fewer took puts told =
       end_given blocks state file from to round is_file some fits k a b h h1 rounds.End result refl (fewer_by rounds.End (length round) state.budget refl fewer) puts told
   put_given (rounds.Malformed fault) (steps.Ends result) full fewer took puts told =
-      malformed_given blocks state file from to round is_file some fits k a b h h1 (rounds.Malformed fault) fault result refl (fewer_by (rounds.Malformed fault) (length round) state.budget refl fewer) puts told
+      malformed_given blocks state file from to round is_file some fits k a b h h1 (rounds.Malformed fault) fault result refl (fewer_by (rounds.Malformed fault) (length round) state.budget refl fewer)
+      puts told
   put_given rounds.ReadFault (steps.Ends result) full fewer took puts told =
       fault_given blocks state file from to round is_file some fits k a b h h1 rounds.ReadFault result refl (fewer_by rounds.ReadFault (length round) state.budget refl fewer) puts told
   put_given rounds.End steps.Goes full fewer took puts told = no_step _ puts
@@ -531,7 +562,8 @@ module _ (blocks : ℕ) (state : RoundsState) (file : FileHead) (from to : Place
       inr (Told-weaker a b (GivesRound blocks from to round end) (WritesFront (merging blocks (options_of state) from) h h1)
       (λ bytes left gives. front_more h h1 [] (merging blocks (options_of state) from bytes).output none) told)
 
-  pub put_front : (X : Type 0) (end : RoundEnd) (step : Step) → (end ≡ rounds.Full → PassesRound from to round state.budget) → ((end ≡ rounds.Full → ⊥) → (end ≡ rounds.NoMemory → ⊥) → length round < state.budget)
+  pub put_front : (X : Type 0) (end : RoundEnd) (step : Step) → (end ≡ rounds.Full → PassesRound from to round state.budget) → ((end ≡ rounds.Full → ⊥) → (end ≡ rounds.NoMemory → ⊥)
+      → length round < state.budget)
       → (end ≡ rounds.ReadFault → X) → Puts h h1 output end step → Told a b (GivesRound blocks from to round end) → IfEnds step (λ result. Front X)
   put_front X rounds.Full steps.Goes full fewer read puts told = tt
   put_front X rounds.Full (steps.Ends result) full fewer read puts told =
@@ -539,11 +571,13 @@ module _ (blocks : ℕ) (state : RoundsState) (file : FileHead) (from to : Place
       (λ bytes left gives. full_front blocks state file from to round is_file some fits k a b h h1 result bytes left (full refl).full (full refl).file puts gives) told)
   put_front X rounds.End (steps.Ends result) full fewer read puts told =
       inr (Told-weaker a b (GivesRound blocks from to round rounds.End) (WritesFront (merging blocks (options_of state) from) h h1)
-      (λ bytes left gives. ended_front blocks state file from to round is_file some fits k a b h h1 ends.Done result bytes left None (fewer_by rounds.End (length round) state.budget refl fewer) gives.1 gives.0 puts) told)
+      (λ bytes left gives. ended_front blocks state file from to round is_file some fits k a b h h1 ends.Done result bytes left None (fewer_by rounds.End (length round) state.budget refl fewer)
+      gives.1 gives.0 puts) told)
   put_front X (rounds.Malformed fault) (steps.Ends result) full fewer read puts told =
       inr (Told-weaker a b (GivesRound blocks from to round (rounds.Malformed fault)) (WritesFront (merging blocks (options_of state) from) h h1)
       (λ bytes left gives.
-      ended_front blocks state file from to round is_file some fits k a b h h1 (ends.Malformed fault) result bytes left (Some fault) (fewer_by (rounds.Malformed fault) (length round) state.budget refl fewer) gives.1 gives.0 puts) told)
+      ended_front blocks state file from to round is_file some fits k a b h h1 (ends.Malformed fault) result bytes left (Some fault) (fewer_by (rounds.Malformed fault)
+      (length round) state.budget refl fewer) gives.1 gives.0 puts) told)
   put_front X rounds.ReadFault (steps.Ends result) full fewer read puts told = inl (read refl)
   put_front X rounds.End steps.Goes full fewer read puts told = tt
   put_front X (rounds.Malformed fault) steps.Goes full fewer read puts told = tt
@@ -560,10 +594,12 @@ module _ (blocks : ℕ) (state : RoundsState) (file : FileHead) (from to : Place
   up_front X rounds.ReadFault result gives told = no_step _ gives
 
   -- and one that is given up
-  pub given_up : (end : RoundEnd) (result : MergeEnd) → ((end ≡ rounds.Full → ⊥) → (end ≡ rounds.NoMemory → ⊥) → length round < state.budget) → GivesUp h h1 k end result → Told a b (GivesRound blocks from to round end)
+  pub given_up : (end : RoundEnd) (result : MergeEnd) → ((end ≡ rounds.Full → ⊥) → (end ≡ rounds.NoMemory → ⊥) → length round < state.budget) → GivesUp h h1 k end result
+      → Told a b (GivesRound blocks from to round end)
       → Told a b (EndsBehind k blocks (options_of state) from h h1 result)
   given_up (rounds.PoolEmpty need) result fewer gives told =
-      empty_given blocks state file from to round is_file some fits k a b h h1 (rounds.PoolEmpty need) need result refl (fewer_by (rounds.PoolEmpty need) (length round) state.budget refl fewer) gives.0 gives.1 told
+      empty_given blocks state file from to round is_file some fits k a b h h1 (rounds.PoolEmpty need) need result refl (fewer_by (rounds.PoolEmpty need) (length round) state.budget refl fewer)
+      gives.0 gives.1 told
   given_up rounds.NoMemory result fewer gives told =
       subst (λ (z : Option (List ℕ)). Told a b (EndsBehind k blocks (options_of state) from h z result)) (sym gives.1)
       (subst (λ (e : MergeEnd). Told a b (EndsBehind k blocks (options_of state) from h h e)) (sym gives.0) (memory_given k blocks (options_of state) from to round a b h rounds.NoMemory refl told))
@@ -683,7 +719,8 @@ pub record StepSays (k blocks : ℕ) (options : Options) (from to : Place) (a b 
 not_going : (end : MergeEnd) (step : Step) (X : Type 0) → step ≡ steps.Ends end → step ≡ steps.Goes → X
 not_going end step X is goes = absurd (false≢true (ap is_going (sym is ∙ goes)))
 
-module _ (blocks : ℕ) (state : RoundsState) (file : FileHead) (from to : Place) (round : List Held) (is_file : from.file ≡ file) (some : 1 ≤ state.budget) (fits : round_need (map packet_of round) ≤ blocks)
+module _ (blocks : ℕ) (state : RoundsState) (file : FileHead) (from to : Place) (round : List Held) (is_file : from.file ≡ file) (some : 1 ≤ state.budget)
+    (fits : round_need (map packet_of round) ≤ blocks)
     (k : ℕ) (a b h h1 : Option (List ℕ)) (t t1 : ℕ) (each : AllByRecursion IsCaptured (map packet_of round)) (X : Type 0) (end : RoundEnd) (step : Step)
     (full : end ≡ rounds.Full → PassesRound from to round state.budget) (fewer : (end ≡ rounds.Full → ⊥) → (end ≡ rounds.NoMemory → ⊥) → length round < state.budget)
     (took : min (t + round_need (map packet_of round)) (2 ^ 64 - 1) ≤ t1) (read : end ≡ rounds.ReadFault → X) (told : Told a b (GivesRound blocks from to round end)) where

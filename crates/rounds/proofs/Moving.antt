@@ -1,5 +1,6 @@
 -- What segmenting one record shows of the records of a capture.
-use Rattle.std.proofs.Common.{◌≡◌, ℕ, ◌+◌, ◌-◌, ◌^◌, ◌≤◌, true, false, List, [], ◌∷◌, ◌++◌, length, map, min, refl, sym, ap, ◌∙◌, subst, arith, append-nil, length-append, Option, None, Some, Result, Ok, Err}
+use Rattle.std.proofs.Common.{◌≡◌, ℕ, ◌+◌, ◌-◌, ◌^◌, ◌≤◌, true, false, List, [], ◌∷◌, ◌++◌, length, map, min, refl, sym, ap, ◌∙◌, subst, arith, append-nil, length-append, Option, None, Some, Result}
+use Rattle.std.proofs.Common.{Ok, Err}
 use Rattle.std.specs.Io.KnownBytes.{Appends}
 use Rattle.std.proofs.KnownBytes.{Appends-nil, Appends-kept, Keeps-refl}
 use Rattle.off_io.specs.Content.{AppendsFront}
@@ -143,7 +144,8 @@ goes_on blocks old new r bytes left next lawful passes tail =
     (segmenting_goes_by_record blocks old (passes.0 ++ tail)).lawful r new tail next.fits lawful next.file next.offset b.found b.lengths
 
 -- a front of what it comes to
-front_of : (h k : Option (List ℕ)) (blocks : ℕ) (old new : Place) (r : Packet) (bytes left : List ℕ) → IsNext blocks old new r → is_lawful_record r ≡ true → (passes : Passes old new (r ∷ []) bytes left)
+front_of : (h k : Option (List ℕ)) (blocks : ℕ) (old new : Place) (r : Packet) (bytes left : List ℕ) → IsNext blocks old new r → is_lawful_record r ≡ true
+    → (passes : Passes old new (r ∷ []) bytes left)
     → AppendsFront h k (written old r) → AppendsFront h k (segmenting blocks old passes.0).output
 front_of h k blocks old new r bytes left next lawful passes front =
     let e = goes_on blocks old new r bytes left next lawful passes [] in
@@ -176,16 +178,20 @@ not_moved h k blocks offset old new r refusals.NoMemory fault bytes left next at
 pub moved_given : (a b h k : Option (List ℕ)) (blocks used : ℕ) (old new : Place) (front : List ℕ) (p : Held) → IsNext blocks old new (record_of front p)
     → Told a b (GivesRecord used blocks old new front (Ok p)) → WritesRecord old.file.order (record_of front p) h k (Ok tt) → Told a b (Moves blocks old new h k (Ok One))
 moved_given a b h k blocks used old new front p next told wrote =
-    Told-weaker a b (GivesRecord used blocks old new front (Ok p)) (Moves blocks old new h k (Ok One)) (λ bytes left passes. moved_one h k blocks old new (record_of front p) bytes left next passes wrote) told
+    Told-weaker a b (GivesRecord used blocks old new front (Ok p)) (Moves blocks old new h k (Ok One)) (λ bytes left passes. moved_one h k blocks old new
+    (record_of front p) bytes left next passes wrote) told
 
-pub not_moved_given : (a b h k : Option (List ℕ)) (blocks used offset number : ℕ) (old new : Place) (front : List ℕ) (p : Held) (refused : Refused) (fault : SegFault) → IsNext blocks old new (record_of front p) → offset ≡ old.offset → number ≡ p.number
-    → IsFaultOf refused offset number fault → Told a b (GivesRecord used blocks old new front (Ok p)) → WritesRecord old.file.order (record_of front p) h k (Err refused) → Told a b (Moves blocks old new h k (Err fault))
+pub not_moved_given : (a b h k : Option (List ℕ)) (blocks used offset number : ℕ) (old new : Place) (front : List ℕ) (p : Held) (refused : Refused) (fault : SegFault)
+    → IsNext blocks old new (record_of front p) → offset ≡ old.offset → number ≡ p.number
+    → IsFaultOf refused offset number fault → Told a b (GivesRecord used blocks old new front (Ok p)) → WritesRecord old.file.order (record_of front p) h k (Err refused)
+    → Told a b (Moves blocks old new h k (Err fault))
 not_moved_given a b h k blocks used offset number old new front p refused fault next at numbered is told wrote =
     Told-weaker a b (GivesRecord used blocks old new front (Ok p)) (Moves blocks old new h k (Err fault))
     (λ bytes left passes. not_moved h k blocks offset old new (record_of front p) refused fault bytes left next at (subst (λ (z : ℕ). IsFaultOf refused offset z fault) numbered is) passes wrote) told
 
 -- a record and the blocks that were taken for it
-pub takes_one : (a b : Option (List ℕ)) (blocks used before now : ℕ) (old new : Place) (front : List ℕ) (p : Held) → min (before + need_of (length (record_of front p).frame - off_head_size)) (2 ^ 64 - 1) ≤ now
+pub takes_one : (a b : Option (List ℕ)) (blocks used before now : ℕ) (old new : Place) (front : List ℕ) (p : Held) → min (before + need_of (length (record_of front p).frame - off_head_size))
+    (2 ^ 64 - 1) ≤ now
     → Told a b (GivesRecord used blocks old new front (Ok p)) → Told a b (TakesOne before now old new)
 takes_one a b blocks used before now old new front p enough told =
     Told-weaker a b (GivesRecord used blocks old new front (Ok p)) (TakesOne before now old new)

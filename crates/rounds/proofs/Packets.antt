@@ -1,5 +1,6 @@
 -- The packets of a record, written one after another.
-use Rattle.std.proofs.Common.{◌≡◌, ℕ, zero, suc, ◌+◌, ◌-◌, ◌<◌, ◌≤◌, Bool, true, false, List, [], ◌∷◌, ◌++◌, length, map, refl, sym, ap, ◌∙◌, subst, arith, append-nil, Option, None, Some, Result, Ok, Err}
+use Rattle.std.proofs.Common.{◌≡◌, ℕ, zero, suc, ◌+◌, ◌-◌, ◌<◌, ◌≤◌, Bool, true, false, List, [], ◌∷◌, ◌++◌, length, map, refl, sym, ap, ◌∙◌, subst, arith, append-nil, Option, None, Some, Result, Ok}
+use Rattle.std.proofs.Common.{Err}
 use Rattle.std.specs.Prelude.{cond, OnOk, OnErr, ◌==◌, ◌&&◌, ◌||◌, ◌↔◌, nat_le, IsOk, is_ok}
 use Rattle.std.specs.List.{flat_map, range_with_len}
 use Rattle.std.specs.Io.KnownBytes.{Appends, Keeps}
@@ -65,7 +66,8 @@ one_less frames left f a b e l m = omega (arith, ap length e, left_size frames a
 abbrev pub IsOwing : Stamp → List (List ℕ) → Work → Option (List ℕ) → Option (List ℕ) → Type 0
 IsOwing s frames work old new = (left : List (List ℕ)) × (AreLeft left work × Owes old new (stamped_all s frames) (stamped_all s left))
 
-pub owing_less : (s : Stamp) (frames now left : List (List ℕ)) (f : List ℕ) (work : Work) (a b c : Option (List ℕ)) → Owes a b (stamped_all s frames) (stamped_all s now) → now ≡ f ∷ left → AreLeft left work → Appends b c (stamped s f)
+pub owing_less : (s : Stamp) (frames now left : List (List ℕ)) (f : List ℕ) (work : Work) (a b c : Option (List ℕ)) → Owes a b (stamped_all s frames) (stamped_all s now) → now ≡ f ∷ left
+    → AreLeft left work → Appends b c (stamped s f)
     → IsOwing s frames work a c
 owing_less s frames now left f work a b c owes e still wrote =
     (left, (still, Owes-less a b c (stamped_all s frames) (stamped s f) (stamped_all s left) (subst (λ (z : List (List ℕ)). Owes a b (stamped_all s frames) (stamped_all s z)) e owes) wrote))
@@ -75,7 +77,8 @@ owing_none s frames now a b c owes e keeps =
     let all = Owes-none a b (stamped_all s frames) (subst (λ (z : List (List ℕ)). Owes a b (stamped_all s frames) (stamped_all s z)) e owes) in
     Appends-kept a b c (stamped_all s frames) all keeps
 
-pub owing_failed : (s : Stamp) (frames now : List (List ℕ)) (a b c : Option (List ℕ)) → Owes a b (stamped_all s frames) (stamped_all s now) → AppendsFront b c (stamped_all s now) → AppendsFront a c (stamped_all s frames)
+pub owing_failed : (s : Stamp) (frames now : List (List ℕ)) (a b c : Option (List ℕ)) → Owes a b (stamped_all s frames) (stamped_all s now) → AppendsFront b c (stamped_all s now)
+    → AppendsFront a c (stamped_all s frames)
 owing_failed s frames now a b c owes front =
     Owes-failed a b c (stamped_all s frames) (stamped_all s now) [] (subst (λ (z : List ℕ). Owes a b (stamped_all s frames) z) (sym (append-nil (stamped_all s now))) owes) front
 
@@ -101,7 +104,8 @@ module _ (st : Stamp) (frames : List (List ℕ)) (a b : Work) (spare : SoleState
   given_own = ap is_sole gives.head.head
 
   -- the packet was written, or a front of it
-  pub turn_by : (r : Result (Unit {0}) WriteFault) (t : Result Turn Refused) → OnOk r (t ≡ Ok Wrote) → OnErr r (t ≡ Err refusals.WriteFault) → OnOk r (Appends h k (stamped st (buffer_bytes s))) → OnErr r (AppendsFront h k (stamped st (buffer_bytes s)))
+  pub turn_by : (r : Result (Unit {0}) WriteFault) (t : Result Turn Refused) → OnOk r (t ≡ Ok Wrote) → OnErr r (t ≡ Err refusals.WriteFault) → OnOk r (Appends h k (stamped st (buffer_bytes s)))
+      → OnErr r (AppendsFront h k (stamped st (buffer_bytes s)))
       → TakesTurn st frames b h k t
   turn_by (Ok u) t e f w x = rw e (buffer_bytes s, (gives.left, (gives.first, (gives.still, (first_short frames gives.left (buffer_bytes s) gives.first left.1).1), w)))
   turn_by (Err u) t e f w x = rw f (first_failed st frames gives.left (buffer_bytes s) h k gives.first x)
@@ -110,7 +114,8 @@ pub wrote_at : (st : Stamp) (frames : List (List ℕ)) (b : Work) (h k : Option 
 wrote_at st frames b h k r e t = subst (TakesTurn st frames b h k) e t
 
 -- the writing ended here
-pub owing_stopped : (s : Stamp) (frames now : List (List ℕ)) (work : Work) (r : Refused) (a b c : Option (List ℕ)) → Owes a b (stamped_all s frames) (stamped_all s now) → TakesTurn s now work b c (Err r) → Writes (stamped_all s frames) a c (Err r)
+pub owing_stopped : (s : Stamp) (frames now : List (List ℕ)) (work : Work) (r : Refused) (a b c : Option (List ℕ)) → Owes a b (stamped_all s frames) (stamped_all s now)
+    → TakesTurn s now work b c (Err r) → Writes (stamped_all s frames) a c (Err r)
 owing_stopped s frames now work refusals.BadOffload a b c owes turn = absurd turn
 owing_stopped s frames now work refusals.WriteFault a b c owes turn = owing_failed s frames now a b c owes turn
 owing_stopped s frames now work refusals.NoMemory a b c owes turn = owing_failed s frames now a b c owes turn
@@ -127,14 +132,16 @@ segments_short cut p i zero few small is within = tt
 segments_short cut p i (suc k) few small is within =
     (segment_short cut p.frame i few small is (omega (arith, within)), segments_short cut p (i + 1) k few small is (omega (arith, within)))
 
-pub plan_short : (s : SkbState) (plan : Plan) (p : Packet) → p.frame ≡ buffer_bytes s → length (buffer_bytes s) ≤ most_frame → IsPlanOf s plan → AreShort (map (λ (q : Packet). q.frame) (packets_by plan p))
+pub plan_short : (s : SkbState) (plan : Plan) (p : Packet) → p.frame ≡ buffer_bytes s → length (buffer_bytes s) ≤ most_frame → IsPlanOf s plan
+    → AreShort (map (λ (q : Packet). q.frame) (packets_by plan p))
 plan_short s Nothing p e few is = tt
 plan_short s Single p e few is = (omega (arith, ap length e, few), tt)
 plan_short s (Segments cut sums) p e few is =
     segments_short cut p 0 cut.n (omega (arith, ap length e, few)) (subst AreBytes (sym e) is.in_bytes) (subst (IsSegmentationOf cut) (sym e) is.of) (omega arith)
 
 segments_bytes : (s : Stamp) (p : Packet) (cut : Segmentation) (is : List ℕ) → s.time.sec ≡ p.sec → s.time.frac ≡ p.frac → s.original ≡ None
-    → flat_map (record_bytes s.file.order) (map (λ j. with_frame p (segment_at cut p.frame j)) is) ≡ stamped_all s (map (λ (q : Packet). q.frame) (map (λ j. with_frame p (segment_at cut p.frame j)) is))
+    → flat_map (record_bytes s.file.order) (map (λ j. with_frame p (segment_at cut p.frame j)) is) ≡ stamped_all s (map (λ (q : Packet). q.frame)
+    (map (λ j. with_frame p (segment_at cut p.frame j)) is))
 segments_bytes s p cut [] sec frac none = refl
 segments_bytes s p cut (i ∷ is) sec frac none =
     let f = segment_at cut p.frame i in
@@ -197,7 +204,8 @@ refused_by r own x is answers same = same ∙ not_true own (λ e. let both : fal
     not_true false n = refl
 
 -- a lawful record's packets were written, as far as they were
-pub writes_record : (order : Order) (r : Packet) (ps : List Packet) (a b : Option (List ℕ)) (x : Result (Unit {0}) Refused) → is_lawful_record r ≡ true → segments_of r ≡ ps → Writes (packets_bytes order ps) a b x
+pub writes_record : (order : Order) (r : Packet) (ps : List Packet) (a b : Option (List ℕ)) (x : Result (Unit {0}) Refused) → is_lawful_record r ≡ true → segments_of r ≡ ps
+    → Writes (packets_bytes order ps) a b x
     → WritesRecord order r a b x
 writes_record order r ps a b (Ok u) lawful e w = (lawful, subst (λ (z : List Packet). Appends a b (packets_bytes order z)) (sym e) w)
 writes_record order r ps a b (Err refusals.BadOffload) lawful e w = absurd w

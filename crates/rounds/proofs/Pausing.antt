@@ -40,7 +40,8 @@ pub record Sofar (budget : ℕ) (old new : Place) (first : List Held) (halt : Ha
   pub numbers : NumbersOn old.number first round.packets
   pub need : round.blocks ≡ round_need (map packet_of round.packets)
 
-pub ends_ahead : (budget : ℕ) (old new : Place) (first : List Held) (halt : Halt) (round : RoundState) (end : RoundEnd) → halt ≡ Ended end → Sofar budget old new first halt round → ReadsAhead budget old new (aheads.Read (record { round = round; end = end }))
+pub ends_ahead : (budget : ℕ) (old new : Place) (first : List Held) (halt : Halt) (round : RoundState) (end : RoundEnd) → halt ≡ Ended end → Sofar budget old new first halt round
+    → ReadsAhead budget old new (aheads.Read (record { round = round; end = end }))
 ends_ahead budget old new first halt round end is s = record {
   size = s.size;
   fewer = λ not_full memory. s.fewer (λ full. not_full (ap end_in (sym is ∙ full)));
@@ -51,7 +52,8 @@ ends_ahead budget old new first halt round end is s = record {
   need = s.need;
 }
 
-pub waits_ahead : (budget : ℕ) (old new : Place) (first : List Held) (halt : Halt) (round : RoundState) → halt ≡ Lacking → Sofar budget old new first halt round → ReadsAhead budget old new (aheads.Paused round)
+pub waits_ahead : (budget : ℕ) (old new : Place) (first : List Held) (halt : Halt) (round : RoundState) → halt ≡ Lacking → Sofar budget old new first halt round
+    → ReadsAhead budget old new (aheads.Paused round)
 waits_ahead budget old new first halt round is s =
     let goes = whole_goes old new first round.packets s.ready s.none (s.lacking is) in
     let numbers = whole_numbered old.number first round.packets s.none s.numbers in
@@ -70,7 +72,8 @@ pub rest_unread : (a : Option (List ℕ)) (place : Place) (blocks : ℕ) (round 
 rest_unread a place blocks round = rest_unready a a place place blocks round round (Told-same a (PassesOver place place round round) (λ bytes. λ from before passes. passes))
 
 -- a round for which blocks are lacking ends
-pub rest_lacking : (a b : Option (List ℕ)) (old new : Place) (blocks : ℕ) (first round : List Held) (halt : Halt) → halt ≡ Lacking → Told a b (GivesMore blocks old new first round halt) → Told a b (GivesRest blocks old new first round ends.NoMemory)
+pub rest_lacking : (a b : Option (List ℕ)) (old new : Place) (blocks : ℕ) (first round : List Held) (halt : Halt) → halt ≡ Lacking → Told a b (GivesMore blocks old new first round halt)
+    → Told a b (GivesRest blocks old new first round ends.NoMemory)
 rest_lacking a b old new blocks first round halt is told = rest_unready a b old new blocks first round (subst (λ (h : Halt). Told a b (GivesMore blocks old new first round h)) is told)
 
 abbrev is_full : RoundEnd → Bool

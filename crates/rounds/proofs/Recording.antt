@@ -1,5 +1,6 @@
 -- What reading one record into blocks shows of the records of a capture.
-use Rattle.std.proofs.Common.{◌≡◌, ◌+◌, ◌-◌, ◌<◌, ◌≤◌, ℕ, List, [], ◌∷◌, ◌++◌, ◌⊎◌, inl, inr, length, refl, sym, ap, ◌∙◌, arith, Option, None, Some, Ok, Err, subst, map, take, drop, append_assoc, append-nil, take-append-drop, length-take, Bool, true, if◌then◌else◌}
+use Rattle.std.proofs.Common.{◌≡◌, ◌+◌, ◌-◌, ◌<◌, ◌≤◌, ℕ, List, [], ◌∷◌, ◌++◌, ◌⊎◌, inl, inr, length, refl, sym, ap, ◌∙◌, arith, Option, None, Some, Ok, Err, subst, map, take, drop, append_assoc}
+use Rattle.std.proofs.Common.{append-nil, take-append-drop, length-take, Bool, true, if◌then◌else◌}
 use Rattle.std.proofs.lemmas.List.{drop_all, take_all, length-take-le}
 use Rattle.std.proofs.lemmas.Bool.{lt-ltb}
 use Rattle.std.specs.Prelude.{IfSome, nat_lt}
@@ -29,24 +30,29 @@ use Rattle.rounds.specs.declared.record.Stop.TheVariants.{End, Malformed, PoolEm
 use Rattle.rounds.specs.Fresh.{most_read}
 use Rattle.rounds.specs.Record.{front_size, HasHead, GivesPacket, GivesRecord, NeedsMore, IsStopOf, judged_at}
 
-pub packet_given : (a b : Option (List ℕ)) (place : Place) (head : RecHead) (front : List ℕ) (len : ℕ) (soles : List SoleState) (p : Held) → buffer_bytes p.skb ≡ data_of 64 len soles → HasHead head front p
+pub packet_given : (a b : Option (List ℕ)) (place : Place) (head : RecHead) (front : List ℕ) (len : ℕ) (soles : List SoleState) (p : Held) → buffer_bytes p.skb ≡ data_of 64 len soles
+    → HasHead head front p
     → Told a b (GivesFrame place front len (Ok tt) soles) → Told a b (GivesPacket place head front (Ok p))
 packet_given a b place head front len soles p same has told =
     Told-weaker a b (GivesFrame place front len (Ok tt) soles) (GivesPacket place head front (Ok p)) (λ bytes left gives. (gives ∙ ap (λ (z : List ℕ). (front ++ z) ++ left) (sym same), has)) told
 
 -- the body's fault is the packet's
-frame_stop : (place : Place) (head : RecHead) (front : List ℕ) (len : ℕ) (soles : List SoleState) (fault : InFault) (stop : Stop) (bytes left : List ℕ) → IsStopOf fault stop → head.captured ≡ length front + len
+frame_stop : (place : Place) (head : RecHead) (front : List ℕ) (len : ℕ) (soles : List SoleState) (fault : InFault) (stop : Stop) (bytes left : List ℕ) → IsStopOf fault stop
+    → head.captured ≡ length front + len
     → GivesFrame place front len (Err fault) soles bytes left → GivesPacket place head front (Err stop) bytes left
 frame_stop place head front len soles (faults.Cap fault) stop bytes left is whole gives = rw is (omega (arith, gives.0, whole), gives.1, gives.2)
 frame_stop place head front len soles faults.ReadFault stop bytes left is whole gives = rw is (gives.0, gives.1, omega (arith, gives.2, whole))
 
-pub frame_stop_given : (a b : Option (List ℕ)) (place : Place) (head : RecHead) (front : List ℕ) (len : ℕ) (soles : List SoleState) (fault : InFault) (stop : Stop) → IsStopOf fault stop → head.captured ≡ length front + len
+pub frame_stop_given : (a b : Option (List ℕ)) (place : Place) (head : RecHead) (front : List ℕ) (len : ℕ) (soles : List SoleState) (fault : InFault) (stop : Stop) → IsStopOf fault stop
+    → head.captured ≡ length front + len
     → Told a b (GivesFrame place front len (Err fault) soles) → Told a b (GivesPacket place head front (Err stop))
 frame_stop_given a b place head front len soles fault stop is whole told =
-    Told-weaker a b (GivesFrame place front len (Err fault) soles) (GivesPacket place head front (Err stop)) (λ bytes left gives. frame_stop place head front len soles fault stop bytes left is whole gives) told
+    Told-weaker a b (GivesFrame place front len (Err fault) soles) (GivesPacket place head front (Err stop)) (λ bytes left gives. frame_stop place head front len soles fault stop bytes left is whole
+    gives) told
 
 -- whatever was gone of it, want of memory ends it too
-pub memory_given : (a b : Option (List ℕ)) (place : Place) (head : RecHead) (front : List ℕ) (len : ℕ) (soles : List SoleState) → Told a b (GivesFrame place front len (Ok tt) soles) → Told a b (GivesPacket place head front (Err NoMemory))
+pub memory_given : (a b : Option (List ℕ)) (place : Place) (head : RecHead) (front : List ℕ) (len : ℕ) (soles : List SoleState) → Told a b (GivesFrame place front len (Ok tt) soles)
+    → Told a b (GivesPacket place head front (Err NoMemory))
 memory_given a b place head front len soles told =
     Told-weaker a b (GivesFrame place front len (Ok tt) soles) (GivesPacket place head front (Err NoMemory)) (λ bytes left gives. (front ++ data_of 64 len soles, gives)) told
 
@@ -77,7 +83,8 @@ announces old mid bytes rest head takes enters (inr long) =
     )
 
 -- where the record that is cut short fits
-cut_fits : (old : Place) (bytes rest : List ℕ) (used blocks : ℕ) (head : RecHead) → TakesHead old bytes rest head → length rest < head.captured → used + need_of (head.captured - front_size old.link) ≤ blocks
+cut_fits : (old : Place) (bytes rest : List ℕ) (used blocks : ℕ) (head : RecHead) → TakesHead old bytes rest head → length rest < head.captured
+    → used + need_of (head.captured - front_size old.link) ≤ blocks
     → used + needed (judged_at old bytes) ≤ blocks
 cut_fits old bytes rest used blocks head takes short fits =
     let n = ap (λ (ls : List ℕ). needed (map (λ (k : ℕ). k - front_size old.link) ls)) ((lengths_by_record old).cut bytes rest head takes short) in
@@ -113,7 +120,8 @@ body_whole old mid new used blocks front head p bytes rest left enters on takes 
     let has = gives.1 in
     let apart = λ (tail : List ℕ). append_assoc (take 16 bytes) xs tail in
     let again = λ (tail : List ℕ). takes_again old bytes rest (xs ++ tail) head takes in
-    let one : (tail : List ℕ) → found_at old ((take 16 bytes ++ xs) ++ tail) ≡ one_more (packet old.number head.sec head.frac head.original xs) (records_from old.file.order old.link mid.number mid.offset 0 tail) =
+    let one : (tail : List ℕ) → found_at old ((take 16 bytes ++ xs) ++ tail) ≡ one_more (packet old.number head.sec head.frac head.original xs)
+    (records_from old.file.order old.link mid.number mid.offset 0 tail) =
     λ tail. ap (found_at old) (apart tail) ∙ whole_record old mid (take 16 bytes ++ (xs ++ tail)) (xs ++ tail) xs tail head (again tail) enters refl has.4 in
     let lengths : (tail : List ℕ) → lengths_at old ((take 16 bytes ++ xs) ++ tail) ≡ head.captured ∷ lengths_at mid tail =
     λ tail. ap (lengths_at old) (apart tail) ∙ (lengths_by_record old).whole mid (take 16 bytes ++ (xs ++ tail)) (xs ++ tail) xs tail head (again tail) enters refl has.4 in (
@@ -148,7 +156,8 @@ head_stop old new used blocks front (faults.Cap fault) stop bytes left fits is g
 head_stop old new used blocks front faults.ReadFault stop bytes left fits is gives =
     rw is (gives.0, gives.1, no_record old gives.0 gives.2, none_fits old gives.0 used blocks (no_length old gives.0 gives.2) fits)
 
-pub head_stop_given : (a b : Option (List ℕ)) (old new : Place) (used blocks : ℕ) (front : List ℕ) (fault : InFault) (stop : Stop) → used ≤ blocks → IsStopOf fault stop → Told a b (GivesHead old (Err fault))
+pub head_stop_given : (a b : Option (List ℕ)) (old new : Place) (used blocks : ℕ) (front : List ℕ) (fault : InFault) (stop : Stop) → used ≤ blocks → IsStopOf fault stop
+    → Told a b (GivesHead old (Err fault))
     → Told a b (GivesRecord used blocks old new front (Err stop))
 head_stop_given a b old new used blocks front fault stop fits is told =
     Told-weaker a b (GivesHead old (Err fault)) (GivesRecord used blocks old new front (Err stop)) (λ bytes left gives. head_stop old new used blocks front fault stop bytes left fits is gives) told
@@ -157,7 +166,8 @@ pub none_from : {X : Type 0} (o : Option X) → ((x : X) → o ≡ Some x → �
 none_from None h = refl
 none_from (Some x) h = absurd (h x refl)
 
-pub end_given : (a b : Option (List ℕ)) (old new : Place) (used blocks : ℕ) (front : List ℕ) (found : Option RecHead) → found ≡ None → Told a b (GivesHead old (Ok found)) → Told a b (GivesRecord used blocks old new front (Err End))
+pub end_given : (a b : Option (List ℕ)) (old new : Place) (used blocks : ℕ) (front : List ℕ) (found : Option RecHead) → found ≡ None → Told a b (GivesHead old (Ok found))
+    → Told a b (GivesRecord used blocks old new front (Err End))
 end_given a b old new used blocks front found none told =
     let at_none : Told a b (GivesHead old (Ok None)) = subst (λ (f : Option RecHead). Told a b (GivesHead old (Ok f))) none told in
     Told-weaker a b (GivesHead old (Ok None)) (GivesRecord used blocks old new front (Err End))

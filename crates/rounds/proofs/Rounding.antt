@@ -62,7 +62,8 @@ passes_then old mid new ps qs bytes rest left first more =
           },
     )
 
-precede_more : (old mid new : Place) (used blocks : ℕ) (packets : List Held) (p : Held) (bytes rest left : List ℕ) → Passes old mid (map packet_of packets) bytes rest → GivesRecord used blocks mid new [] (Ok p) rest left
+precede_more : (old mid new : Place) (used blocks : ℕ) (packets : List Held) (p : Held) (bytes rest left : List ℕ) → Passes old mid (map packet_of packets) bytes rest
+    → GivesRecord used blocks mid new [] (Ok p) rest left
     → Passes old new (map packet_of (packets ++ p ∷ [])) bytes left
 precede_more old mid new used blocks packets p bytes rest left so_far one =
     subst (λ (qs : List Packet). Passes old new qs bytes left) (sym (map-append packet_of packets (p ∷ [])))
@@ -100,7 +101,8 @@ judged_whole place bytes ethernet =
     ap (λ (k : ℕ). map (λ n. n - k) (lengths_at place bytes)) none ∙ less_none (lengths_at place bytes)
 
 -- what is needed of bytes that packets and others are
-needed_behind : (old mid : Place) (used blocks : ℕ) (packets : List Packet) (bytes more : List ℕ) → mid.link ≡ Ethernet → used ≡ round_need packets → lengths_at old bytes ≡ map frame_length packets ++ lengths_at mid more
+needed_behind : (old mid : Place) (used blocks : ℕ) (packets : List Packet) (bytes more : List ℕ) → mid.link ≡ Ethernet → used ≡ round_need packets
+    → lengths_at old bytes ≡ map frame_length packets ++ lengths_at mid more
     → used + needed (judged_at mid more) ≤ blocks → needed (lengths_at old bytes) ≤ blocks
 needed_behind old mid used blocks packets bytes more ethernet u lengths fits =
     let a = ap needed lengths ∙ needed_append (map frame_length packets) (lengths_at mid more) in
@@ -108,7 +110,8 @@ needed_behind old mid used blocks packets bytes more ethernet u lengths fits =
     omega (arith, a, b, u, fits)
 
 -- a round's whole records, where the bytes that were read last hold none
-holds_so_far : (old mid : Place) (used blocks : ℕ) (packets : List Packet) (bytes rest left : List ℕ) → mid.link ≡ Ethernet → used ≡ round_need packets → Passes old mid packets bytes rest → HoldsNone used blocks mid rest left
+holds_so_far : (old mid : Place) (used blocks : ℕ) (packets : List Packet) (bytes rest left : List ℕ) → mid.link ≡ Ethernet → used ≡ round_need packets → Passes old mid packets bytes rest
+    → HoldsNone used blocks mid rest left
     → Holds blocks old packets bytes left
 holds_so_far old mid used blocks packets bytes rest left ethernet u before last =
     let between = before.2 last.0 in (
@@ -119,13 +122,15 @@ holds_so_far old mid used blocks packets bytes rest left ethernet u before last 
     )
 
 -- what is found, and what its headers announce, behind the packets so far
-found_so_far : (old mid : Place) (packets : List Packet) (bytes rest : List ℕ) (found : Found) → Passes old mid packets bytes rest → found_at mid rest ≡ found → found_at old bytes ≡ in_front packets found
+found_so_far : (old mid : Place) (packets : List Packet) (bytes rest : List ℕ) (found : Found) → Passes old mid packets bytes rest → found_at mid rest ≡ found
+    → found_at old bytes ≡ in_front packets found
 found_so_far old mid packets bytes rest found before last = ap (found_at old) before.1 ∙ (before.2 rest).found ∙ ap (in_front packets) last
 
 lengths_so_far : (old mid : Place) (packets : List Packet) (bytes rest : List ℕ) → Passes old mid packets bytes rest → lengths_at old bytes ≡ map frame_length packets ++ lengths_at mid rest
 lengths_so_far old mid packets bytes rest before = ap (lengths_at old) before.1 ∙ (before.2 rest).lengths
 
-exceeds_so_far : (old mid : Place) (used blocks need : ℕ) (packets : List Packet) (bytes rest left : List ℕ) → mid.link ≡ Ethernet → used ≡ round_need packets → Passes old mid packets bytes rest → NeedsMore used blocks need mid rest left
+exceeds_so_far : (old mid : Place) (used blocks need : ℕ) (packets : List Packet) (bytes rest left : List ℕ) → mid.link ≡ Ethernet → used ≡ round_need packets → Passes old mid packets bytes rest
+    → NeedsMore used blocks need mid rest left
     → Exceeds blocks need old packets bytes left
 exceeds_so_far old mid used blocks need packets bytes rest left ethernet u before last =
     let len = last.0 in
@@ -155,7 +160,8 @@ exceeds_so_far old mid used blocks need packets bytes rest left ethernet u befor
       ),
     )
 
-round_stop : (old mid new : Place) (used blocks : ℕ) (packets : List Held) (stop : Stop) (end : RoundEnd) (bytes rest left : List ℕ) → mid.link ≡ Ethernet → used ≤ blocks → used ≡ round_need (map packet_of packets) → IsEndOf stop end
+round_stop : (old mid new : Place) (used blocks : ℕ) (packets : List Held) (stop : Stop) (end : RoundEnd) (bytes rest left : List ℕ) → mid.link ≡ Ethernet → used ≤ blocks
+    → used ≡ round_need (map packet_of packets) → IsEndOf stop end
     → Passes old mid (map packet_of packets) bytes rest → GivesRecord used blocks mid new [] (Err stop) rest left → GivesRound blocks old new packets end bytes left
 round_stop old mid new used blocks packets stops.End end bytes rest left ethernet few u is before last =
     let n = ap (λ (l : List ℕ). needed (map (λ (k : ℕ). k - front_size mid.link) l)) last.1 in
@@ -177,14 +183,16 @@ round_stop old mid new used blocks packets stops.ReadFault end bytes rest left e
 round_stop old mid new used blocks packets stops.NoMemory end bytes rest left ethernet few u is before last =
     rw is (before.0 ++ last.0, before.1 ∙ ap (λ (l : List ℕ). before.0 ++ l) last.1 ∙ sym (append_assoc before.0 last.0 left))
 
-pub round_stop_given : (a b c : Option (List ℕ)) (old mid new : Place) (used blocks : ℕ) (first packets : List Held) (stop : Stop) (end : RoundEnd) → mid.link ≡ Ethernet → used ≤ blocks → used ≡ round_need (map packet_of packets) → IsEndOf stop end
+pub round_stop_given : (a b c : Option (List ℕ)) (old mid new : Place) (used blocks : ℕ) (first packets : List Held) (stop : Stop) (end : RoundEnd) → mid.link ≡ Ethernet → used ≤ blocks
+    → used ≡ round_need (map packet_of packets) → IsEndOf stop end
     → Told a b (PassesOver old mid first packets) → Told b c (GivesRecord used blocks mid new [] (Err stop)) → Told a c (GivesRest blocks old new first packets end)
 round_stop_given a b c old mid new used blocks first packets stop end ethernet few u is so_far last =
     Told-then a b c (PassesOver old mid first packets) (GivesRecord used blocks mid new [] (Err stop)) (GivesRest blocks old new first packets end)
     (λ bytes rest left over l. λ from before passes. round_stop from mid new used blocks packets stop end before rest left ethernet few u is (over from before passes) l) so_far last
 
 -- whatever was read of it, a round for which there is no memory ends
-pub rest_unready : (a b : Option (List ℕ)) (old mid : Place) (blocks : ℕ) (first packets : List Held) → Told a b (PassesOver old mid first packets) → Told a b (GivesRest blocks old mid first packets ends.NoMemory)
+pub rest_unready : (a b : Option (List ℕ)) (old mid : Place) (blocks : ℕ) (first packets : List Held) → Told a b (PassesOver old mid first packets)
+    → Told a b (GivesRest blocks old mid first packets ends.NoMemory)
 rest_unready a b old mid blocks first packets told =
     Told-weaker a b (PassesOver old mid first packets) (GivesRest blocks old mid first packets ends.NoMemory)
     (λ bytes left over. λ from before passes. let all = over from before passes in (all.0, all.1)) told
@@ -194,7 +202,8 @@ passes_none : (place : Place) (bytes : List ℕ) → Passes place place [] bytes
 passes_none place bytes = ([], refl, λ tail. record { found = refl; lengths = refl })
 
 -- a round of which no packet was there is read from its own place
-pub whole_given : (a b : Option (List ℕ)) (old new : Place) (blocks : ℕ) (first packets : List Held) (end : RoundEnd) → first ≡ [] → Told a b (GivesRest blocks old new first packets end) → Told a b (GivesRound blocks old new packets end)
+pub whole_given : (a b : Option (List ℕ)) (old new : Place) (blocks : ℕ) (first packets : List Held) (end : RoundEnd) → first ≡ [] → Told a b (GivesRest blocks old new first packets end)
+    → Told a b (GivesRound blocks old new packets end)
 whole_given a b old new blocks first packets end none told =
     Told-weaker a b (GivesRest blocks old new [] packets end) (GivesRound blocks old new packets end) (λ bytes left rest. rest old bytes (passes_none old bytes))
     (subst (λ (xs : List Held). Told a b (GivesRest blocks old new xs packets end)) none told)
@@ -204,7 +213,8 @@ whole_passes a b old new first packets none told =
     Told-weaker a b (PassesOver old new [] packets) (Passes old new (map packet_of packets)) (λ bytes left over. over old bytes (passes_none old bytes))
     (subst (λ (xs : List Held). Told a b (PassesOver old new xs packets)) none told)
 
-pub whole_unready : (a b : Option (List ℕ)) (old mid : Place) (blocks : ℕ) (first packets : List Held) → first ≡ [] → Told a b (PassesOver old mid first packets) → Told a b (GivesRound blocks old mid packets ends.NoMemory)
+pub whole_unready : (a b : Option (List ℕ)) (old mid : Place) (blocks : ℕ) (first packets : List Held) → first ≡ [] → Told a b (PassesOver old mid first packets)
+    → Told a b (GivesRound blocks old mid packets ends.NoMemory)
 whole_unready a b old mid blocks first packets none told = whole_given a b old mid blocks first packets ends.NoMemory none (rest_unready a b old mid blocks first packets told)
 
 -- what is between two places, by what was in front of the first
@@ -217,7 +227,8 @@ goes_over a b old new first packets so_far = λ from began. record {
   ready = so_far.ready;
 }
 
-pub fills_round : (a b : Option (List ℕ)) (old new : Place) (first packets : List Held) (budget : ℕ) → length packets ≡ budget → ReadSoFar a b old new first packets → FillsRound old new first packets budget
+pub fills_round : (a b : Option (List ℕ)) (old new : Place) (first packets : List Held) (budget : ℕ) → length packets ≡ budget → ReadSoFar a b old new first packets
+    → FillsRound old new first packets budget
 fills_round a b old new first packets budget full so_far = λ from began. record {
   full = full;
   file = so_far.file ∙ began.file;
@@ -242,7 +253,8 @@ whole_numbered n first packets none on = subst (λ (xs : List Held). NumbersOn n
 pub numbers_none : (n : ℕ) (first : List Held) → NumbersOn n first first
 numbers_none n first = λ k from is. from
 
-pub numbers_more : (n : ℕ) (mid : ℕ) (first packets : List Held) (p : Held) → NumbersOn n first packets → mid + length first ≡ n + length packets → p.number ≡ mid → NumbersOn n first (packets ++ p ∷ [])
+pub numbers_more : (n : ℕ) (mid : ℕ) (first packets : List Held) (p : Held) → NumbersOn n first packets → mid + length first ≡ n + length packets → p.number ≡ mid
+    → NumbersOn n first (packets ++ p ∷ [])
 numbers_more n mid first packets p on at is = λ k from run. numbered_last k packets p (on k from run) (omega (arith, at, is, run))
 
 pub need_last : (packets : List Held) (p : Held) → round_need (map packet_of (packets ++ p ∷ [])) ≡ round_need (map packet_of packets) + need_of (length (buffer_bytes p.skb))

@@ -1,5 +1,6 @@
 -- What a round comes to is short enough to be written.
-use Rattle.std.proofs.Common.{◌≡◌, ◌+◌, ◌-◌, ◌^◌, ◌<◌, ◌≤◌, ◌⊎◌, inl, inr, ℕ, suc, zero, List, [], ◌∷◌, ◌++◌, Bool, true, false, Some, refl, sym, ◌∙◌, subst, length, take, map, get_or, arith, length-append, length-take}
+use Rattle.std.proofs.Common.{◌≡◌, ◌+◌, ◌-◌, ◌^◌, ◌<◌, ◌≤◌, ◌⊎◌, inl, inr, ℕ, suc, zero, List, [], ◌∷◌, ◌++◌, Bool, true, false, Some, refl, sym, ◌∙◌, subst, length, take, map, get_or, arith}
+use Rattle.std.proofs.Common.{length-append, length-take}
 use Rattle.std.specs.Prelude.{IfSome, Option, ◌==◌, ◌||◌}
 use Rattle.std.specs.List.{AllByRecursion, filter, flat_map}
 use Rattle.std.proofs.lemmas.Bool.{ltb-false}
@@ -48,7 +49,8 @@ original_within : (link : Link) (n : ℕ) → is_bad_original link n ≡ false �
 original_within EthernetLink n e = omega (arith, ltb-false (2 ^ 31 - 1) n e)
 original_within Offload n e = ltb-false most_original n (or_left _ _ e)
 
-pub original_of : (link : Link) (found : Option RecHead) (head : RecHead) → found ≡ Some head → IfSome found (λ (it : RecHead). is_bad_original link it.original ≡ false) → head.original ≤ most_original
+pub original_of : (link : Link) (found : Option RecHead) (head : RecHead) → found ≡ Some head → IfSome found (λ (it : RecHead). is_bad_original link it.original ≡ false)
+    → head.original ≤ most_original
 original_of link found head e h = original_within link head.original (subst (λ (f : Option RecHead). IfSome f (λ (it : RecHead). is_bad_original link it.original ≡ false)) e h)
 
 -- of a record of Ethernet
@@ -84,7 +86,8 @@ both_each P Q [] a b = tt
 both_each P Q (x ∷ xs) a b = ((a.0, b.0), both_each P Q xs a.1 b.1)
 
 -- of at most `segs` packets, or of one
-is_run : (segs : ℕ) (runs : List (List Packet)) → AllByRecursion (λ (run : List Packet). (length run ≡ 1) ⊎ IsMergeableWithin segs run) runs → AllByRecursion (λ (run : List Packet). (length run ≡ 1) ⊎ IsMergeable run) runs
+is_run : (segs : ℕ) (runs : List (List Packet)) → AllByRecursion (λ (run : List Packet). (length run ≡ 1) ⊎ IsMergeableWithin segs run) runs
+    → AllByRecursion (λ (run : List Packet). (length run ≡ 1) ⊎ IsMergeable run) runs
 is_run segs [] a = tt
 is_run segs (run ∷ runs) a = (one a.0, is_run segs runs a.1)
   where

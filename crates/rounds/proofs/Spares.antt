@@ -62,7 +62,8 @@ leaves_sole s o q own k none =
     absurd (omega (arith, c.1, e.0, e.1, n))
 
 -- what a release leaves, of which a Sole is taken
-pub keeps_spare : (b : Account) (s : SoleState) (o q r : OutcomesState) → Keeps b (of_outcomes q) → Keeps (of_outcomes q) (both (of_sole s) (of_outcomes r)) → Keeps b (both (of_sole s) (of_outcomes r))
+pub keeps_spare : (b : Account) (s : SoleState) (o q r : OutcomesState) → Keeps b (of_outcomes q) → Keeps (of_outcomes q) (both (of_sole s) (of_outcomes r))
+    → Keeps b (both (of_sole s) (of_outcomes r))
 keeps_spare b s o q r k l t m = let x = k t m in let y = l t m in (omega (arith, x.0, y.0), omega (arith, x.1, y.1))
 
 -- and the others came
@@ -74,7 +75,8 @@ pub may_others : (b s o : Account) (p : PoolState) (t : List Place) → MayCome 
 may_others b s o p t may kept = may_first (both s o) o s p t (λ u m. (omega arith, omega arith)) (may_kept b (both s o) p t kept may)
 
 -- a packet was cut off, and of its blocks the next spare is left
-pub packet_came : (w s w' b s' : Account) (p p' : PoolState) (t t' : List Place) → MayCome (both w s) p t → Keeps (both w s) (both w' b) → Comes b s' p t p' t' → Comes (both w s) (both w' s') p t p' t'
+pub packet_came : (w s w' b s' : Account) (p p' : PoolState) (t t' : List Place) → MayCome (both w s) p t → Keeps (both w s) (both w' b) → Comes b s' p t p' t'
+    → Comes (both w s) (both w' s') p t p' t'
 packet_came w s w' b s' p p' t t' may kept came =
     comes_part (both w s) (both w' b) b s' (both w' s') w' p p p' t t t' (λ u m. (omega arith, omega arith)) (λ u m. (omega arith, omega arith)) (comes_keeps (both w s) (both w' b) p t kept may) came
 
@@ -87,9 +89,11 @@ comes_then s x y p0 p1 p2 t0 t1 t2 h g =
     comes_part s x x y y nothing p0 p1 p2 t0 t1 t2 (λ u m. (omega arith, omega arith)) (λ u m. (omega arith, omega arith)) h g
 
 -- all of a packet's blocks, but its second spare, stand for what is left of them
-pub rest_came : (b s1 s2 w s : Account) (p p' : PoolState) (t t' : List Place) → MayCome (both b (both s1 s2)) p t → Comes (both b s1) (both w s) p t p' t' → Comes (both b (both s1 s2)) (both w (both s s2)) p t p' t'
+pub rest_came : (b s1 s2 w s : Account) (p p' : PoolState) (t t' : List Place) → MayCome (both b (both s1 s2)) p t → Comes (both b s1) (both w s) p t p' t'
+    → Comes (both b (both s1 s2)) (both w (both s s2)) p t p' t'
 rest_came b s1 s2 w s p p' t t' may came =
-    comes_part (both b (both s1 s2)) (both b (both s1 s2)) (both b s1) (both w s) (both w (both s s2)) s2 p p p' t t t' (λ u m. (omega arith, omega arith)) (λ u m. (omega arith, omega arith)) (comes_none (both b (both s1 s2)) p t may) came
+    comes_part (both b (both s1 s2)) (both b (both s1 s2)) (both b s1) (both w s) (both w (both s s2)) s2 p p p' t t t' (λ u m. (omega arith, omega arith)) (λ u m. (omega arith, omega arith))
+    (comes_none (both b (both s1 s2)) p t may) came
 
 pub may_front : (b s1 s2 : Account) (p : PoolState) (t : List Place) → MayCome (both b (both s1 s2)) p t → MayCome (both b s1) p t
 may_front b s1 s2 p t may = may_first (both b (both s1 s2)) (both b s1) s2 p t (λ u m. (omega arith, omega arith)) may

@@ -163,12 +163,14 @@ fresh_head : (k : ℕ) (s : SoleState) (h : Holder) → s.mark ≡ k → IsLent 
 fresh_head k s (Sole x) e h = absurd h
 fresh_head k s (Part p) e h = fresh_part k p h.0 (h.3 ∙ e)
 
-pub fresh_packet : (k : ℕ) (s s1 s2 : SoleState) (p : Held) → s.mark ≡ k → IsLent (Sole s) p.skb.head → WholeFrom (k + 1) p.skb.rest → p.spare1.mark ≡ k + 1 + length p.skb.rest → p.spare2.mark ≡ k + 2 + length p.skb.rest
+pub fresh_packet : (k : ℕ) (s s1 s2 : SoleState) (p : Held) → s.mark ≡ k → IsLent (Sole s) p.skb.head → WholeFrom (k + 1) p.skb.rest → p.spare1.mark ≡ k + 1 + length p.skb.rest
+    → p.spare2.mark ≡ k + 2 + length p.skb.rest
     → IsFresh k (length p.skb.rest + 3) (of_packet p)
 fresh_packet k s s1 s2 p e head rest m1 m2 =
     let n = length p.skb.rest in
     let buffer = fresh_join k 1 n (of_holder p.skb.head) (of_pieces p.skb.rest) (fresh_head k s p.skb.head e head) (fresh_pieces (k + 1) p.skb.rest rest) in
-    let spares = fresh_join (k + (1 + n)) 1 1 (of_sole p.spare1) (of_sole p.spare2) (fresh_sole (k + (1 + n)) p.spare1 (omega (arith, m1))) (fresh_sole (k + (1 + n) + 1) p.spare2 (omega (arith, m2))) in
+    let spares = fresh_join (k + (1 + n)) 1 1 (of_sole p.spare1) (of_sole p.spare2) (fresh_sole (k + (1 + n)) p.spare1 (omega (arith, m1)))
+    (fresh_sole (k + (1 + n) + 1) p.spare2 (omega (arith, m2))) in
     fresh_same k (1 + n + (1 + 1)) k (n + 3) (of_packet p) (of_packet p) refl (omega arith) (λ t m. (refl, refl))
     (fresh_join k (1 + n) (1 + 1) (of_buffer p.skb) (both (of_sole p.spare1) (of_sole p.spare2)) buffer spares)
 

@@ -32,7 +32,8 @@ round_keeps n a b k r = record {
 }
 
 -- a round whose merging was given up
-pub round_back : (n : ℕ) (ps qs is : Account) (o q : OutcomesState) → IsBare o → ((t : Tests) (m : ℕ) → (is.held t m ≡ 0) × (is.homes t.blocks m ≡ 0)) → Keeps (both ps (of_outcomes o)) (both qs (of_outcomes q)) → IsRound n ps
+pub round_back : (n : ℕ) (ps qs is : Account) (o q : OutcomesState) → IsBare o → ((t : Tests) (m : ℕ) → (is.held t m ≡ 0) × (is.homes t.blocks m ≡ 0))
+    → Keeps (both ps (of_outcomes o)) (both qs (of_outcomes q)) → IsRound n ps
     → IsRound n (both (of_outcomes q) (both qs is))
 round_back n ps qs is o q bare none k r =
     round_keeps n ps (both (of_outcomes q) (both qs is))

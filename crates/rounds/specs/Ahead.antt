@@ -30,7 +30,8 @@ IfPaused (aheads.Read read) P = Unit {0}
 IfPaused (aheads.Paused round) P = P round
 
 abbrev pub GivesAhead : ℕ → Place → Place → ReadAhead → List ℕ → List ℕ → Type 0
-GivesAhead blocks old new (aheads.Read read) bytes left = GivesRound blocks old new read.round.packets read.end bytes left
+GivesAhead blocks old new (aheads.Read read) bytes left = GivesRound blocks old new read.round.packets read.end bytes
+    left
 GivesAhead blocks old new (aheads.Paused round) bytes left = Passes old new (map packet_of round.packets) bytes left
 
 -- the reader stands behind a round that goes on

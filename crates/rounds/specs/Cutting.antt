@@ -1,5 +1,6 @@
 -- What is written of one record of an offload capture.
-use Rattle.std.specs.Prelude.{ℕ, ◌≡◌, ◌+◌, ◌-◌, ◌≤◌, true, false, Option, None, Some, List, [], ◌∷◌, length, Result, Ok, Err}
+use Rattle.std.specs.Prelude.{ℕ, ◌≡◌, ◌+◌, ◌-◌, ◌≤◌, true, false, Option, None, Some, List, [], ◌∷◌, length, Result, Ok}
+use Rattle.std.specs.Prelude.{Err}
 use Rattle.std.specs.List.{AllByRecursion, flat_map}
 use Rattle.std.specs.Io.KnownBytes.{Appends, Keeps}
 use Rattle.off_io.specs.Content.{AppendsFront}
@@ -64,7 +65,8 @@ AreLeft frames work = IsLeft frames work × AreShort frames
 
 -- the first of the frames was written, or there is none, or a front of it was written
 abbrev pub TakesTurn : Stamp → List (List ℕ) → Work → Option (List ℕ) → Option (List ℕ) → Result Turn Refused → Type 0
-TakesTurn s frames work old new (Ok Wrote) = (f : List ℕ) × ((left : List (List ℕ)) × ((frames ≡ f ∷ left) × AreLeft left work × Appends old new (stamped s f)))
+TakesTurn s frames work old new (Ok Wrote) = (f : List ℕ)
+    × ((left : List (List ℕ)) × ((frames ≡ f ∷ left) × AreLeft left work × Appends old new (stamped s f)))
 TakesTurn s frames work old new (Ok Done) = (frames ≡ []) × Keeps old new
 TakesTurn s frames work old new (Err BadOffload) = ⊥
 TakesTurn s frames work old new (Err WriteFault) = AppendsFront old new (stamped_all s frames)
@@ -79,7 +81,10 @@ Writes all old new (Err NoMemory) = AppendsFront old new all
 
 -- what is written of one record: nothing where it isn't lawful
 abbrev pub WritesRecord : Order → Packet → Option (List ℕ) → Option (List ℕ) → Result (Unit {0}) Refused → Type 0
-WritesRecord order r old new (Ok _) = (is_lawful_record r ≡ true) × Appends old new (packets_bytes order (segments_of r))
+WritesRecord order r old new (Ok _) = (is_lawful_record r ≡ true)
+    × Appends old new (packets_bytes order (segments_of r))
 WritesRecord order r old new (Err BadOffload) = (is_lawful_record r ≡ false) × Keeps old new
-WritesRecord order r old new (Err WriteFault) = (is_lawful_record r ≡ true) × AppendsFront old new (packets_bytes order (segments_of r))
-WritesRecord order r old new (Err NoMemory) = (is_lawful_record r ≡ true) × AppendsFront old new (packets_bytes order (segments_of r))
+WritesRecord order r old new (Err WriteFault) = (is_lawful_record r ≡ true)
+    × AppendsFront old new (packets_bytes order (segments_of r))
+WritesRecord order r old new (Err NoMemory) = (is_lawful_record r ≡ true)
+    × AppendsFront old new (packets_bytes order (segments_of r))

@@ -42,8 +42,8 @@ most_read = most_record - off_head_size
 abbrev pub most_original : ℕ
 most_original = 2 ^ 31 - 1 + off_head2_size
 
--- a packet that was read: its first block is full or has all of it, its head is shared already, behind headroom, no part
--- has given anything away, and its header was lawful
+-- a packet that was read: its first block is full or has all of it, its head is shared already, behind headroom, no
+-- part has given anything away, and its header was lawful
 pub record IsRead (p : Held) : Type 0 where
   pub size : buffer_size p.skb ≡ length (buffer_bytes p.skb)
   pub front : min (buffer_size p.skb) (2048 - 64) ≤ head_size p.skb

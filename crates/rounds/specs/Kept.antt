@@ -45,7 +45,8 @@ pub record IsDone (k : Kept) (l : Lanes) : Type 0 where
 -- they haven't: what isn't in the packets any more is in the lanes
 pub record IsLeft (k : Kept) (l : Lanes) : Type 0 where
   pub round : IsRound k.blocks (both (of_packets k.packets.items) (both (of_lanes l) (of_clones k.kept.items)))
-  pub counts : counts_of k.packets.items + (counts_of_queues l.queues.items + blocks_of k.kept.items) ≤ k.blocks + k.blocks
+  pub counts : counts_of k.packets.items + (counts_of_queues l.queues.items + blocks_of k.kept.items) ≤ k.blocks
+      + k.blocks
   pub spent : AreSpent l.taps.items
 
 -- the lanes of a round are those that did the work, and no item stands outside them

@@ -1,5 +1,6 @@
 -- How merging ends, what is written of a round, and what a round or a row of them says of the bytes that are gone.
-use Rattle.std.specs.Prelude.{◌≡◌, ◌⊎◌, ℕ, ◌+◌, ◌-◌, ◌<◌, ◌≤◌, ◌^◌, ◌*◌, ⊤, Bool, true, false, min, length, Option, List, ◌++◌}
+use Rattle.std.specs.Prelude.{◌≡◌, ◌⊎◌, ℕ, ◌+◌, ◌-◌, ◌<◌, ◌≤◌, ◌^◌, ◌*◌, ⊤, Bool, true, false, min, length, Option}
+use Rattle.std.specs.Prelude.{List, ◌++◌}
 use Rattle.std.specs.List.{AllByRecursion}
 use Rattle.std.specs.Io.KnownBytes.{Appends, Keeps}
 use Rattle.off_io.specs.Content.{AppendsFront}
@@ -8,7 +9,8 @@ use Rattle.pcap_io.specs.Capture.{Packet}
 use Rattle.pcap_io.specs.Places.{IsReady, found_at}
 use Rattle.offload_model.specs.Captured.{IsCaptured}
 use Rattle.offload_model.specs.Need.{packets_within, round_need}
-use Rattle.offload_model.specs.Passing.{Ending, Stopped, Nowhere, AtFault, AtRound, ReadFault, WriteFault, NoMemory, merging, Passes}
+use Rattle.offload_model.specs.Passing.{Ending, Stopped, Nowhere, AtFault, AtRound, ReadFault, WriteFault, NoMemory}
+use Rattle.offload_model.specs.Passing.{merging, Passes}
 use Rattle.offload_model.specs.Steps.{GoesOn, ending_behind}
 use Rattle.offload_model.specs.Written.{Options}
 use Rattle.round_work.specs.Work.{options_by}
@@ -36,7 +38,8 @@ options_of rounds = options_by rounds.plan rounds.budget
 
 -- a round wasn't written whole: the sink failed, or there was no memory
 abbrev pub Fails : Option (List ℕ) → Option (List ℕ) → List ℕ → MergeEnd → Type 0
-Fails old new bytes end = ((end ≡ ends.WriteFault) × AppendsFront old new bytes) ⊎ ((end ≡ ends.NoMemory) × Keeps old new)
+Fails old new bytes end = ((end ≡ ends.WriteFault) × AppendsFront old new bytes)
+    ⊎ ((end ≡ ends.NoMemory) × Keeps old new)
 
 -- the last round: it was written, and merging ends as it is to, or it wasn't
 abbrev pub WritesLast : Option (List ℕ) → Option (List ℕ) → List ℕ → MergeEnd → MergeEnd → Type 0
@@ -53,21 +56,25 @@ abbrev pub Puts : Option (List ℕ) → Option (List ℕ) → List ℕ → Round
 Puts old new bytes read_ends.Full steps.Goes = Appends old new bytes
 Puts old new bytes read_ends.Full (steps.Ends result) = Fails old new bytes result
 Puts old new bytes read_ends.End (steps.Ends result) = WritesLast old new bytes ends.Done result
-Puts old new bytes (read_ends.Malformed fault) (steps.Ends result) = WritesLast old new bytes (ends.Malformed fault) result
+Puts old new bytes (read_ends.Malformed fault) (steps.Ends result) = WritesLast old new bytes
+    (ends.Malformed fault) result
 Puts old new bytes read_ends.ReadFault (steps.Ends result) = WritesLast old new bytes ends.ReadFault result
 Puts old new bytes _ _ = ⊥
 
 -- of a round that is given up, behind k others, nothing is written
 abbrev pub GivesUp : Option (List ℕ) → Option (List ℕ) → ℕ → RoundEnd → MergeEnd → Type 0
-GivesUp old new k (read_ends.PoolEmpty need) result = ((result ≡ ends.PoolEmpty k need) ⊎ (result ≡ ends.WriteFault)) × Keeps old new
+GivesUp old new k (read_ends.PoolEmpty need) result = ((result ≡ ends.PoolEmpty k need) ⊎ (result ≡ ends.WriteFault))
+    × Keeps old new
 GivesUp old new k read_ends.NoMemory result = (result ≡ ends.NoMemory) × (new ≡ old)
 GivesUp old new k _ result = ⊥
 
 -- ---- rounds
 
--- The bytes that are gone are k rounds, whatever follows them: this was written of them, and as many blocks were taken as they need.
--- Their packets are such as a capture may hold, since they were read into fields of 32 bits and into bytes.
-pub record Ahead (blocks : ℕ) (options : Options) (k : ℕ) (from to : Place) (old new : Option (List ℕ)) (before now : ℕ) (bytes left : List ℕ) : Type 0 where
+-- The bytes that are gone are k rounds, whatever follows them: this was written of them, and as many blocks were taken
+-- as they need. Their packets are such as a capture may hold, since they were read into fields of 32 bits and into
+-- bytes.
+pub record Ahead (blocks : ℕ) (options : Options) (k : ℕ) (from to : Place) (old new : Option (List ℕ)) (before now : ℕ)
+    (bytes left : List ℕ) : Type 0 where
   pub gone : List ℕ
   pub done : List ℕ
   pub packets : List Packet
@@ -80,14 +87,19 @@ pub record Ahead (blocks : ℕ) (options : Options) (k : ℕ) (from to : Place) 
   pub each : AllByRecursion IsCaptured packets
 
 -- from here on merging ends so, behind k rounds
-abbrev pub EndsBehind : ℕ → ℕ → Options → Place → Option (List ℕ) → Option (List ℕ) → MergeEnd → List ℕ → List ℕ → Type 0
+abbrev pub EndsBehind : ℕ → ℕ → Options → Place → Option (List ℕ) → Option (List ℕ) → MergeEnd → List ℕ → List ℕ
+    → Type 0
 EndsBehind k blocks options from old new end bytes left =
-    (ending : Ending) × (ending_of end ≡ ending_behind k ending) × Passes (merging blocks options from) old new ending bytes left
+    (ending : Ending) × (ending_of end ≡ ending_behind k ending)
+    × Passes (merging blocks options from) old new ending bytes left
 
 -- what a step says, behind k rounds
-abbrev pub Steps : ℕ → ℕ → Options → Place → Place → Option (List ℕ) → Option (List ℕ) → ℕ → ℕ → Step → List ℕ → List ℕ → Type 0
-Steps k blocks options from to old new before now steps.Goes bytes left = Ahead blocks options 1 from to old new before now bytes left
-Steps k blocks options from to old new before now (steps.Ends end) bytes left = EndsBehind k blocks options from old new end bytes left
+abbrev pub Steps : ℕ → ℕ → Options → Place → Place → Option (List ℕ) → Option (List ℕ) → ℕ → ℕ → Step → List ℕ → List ℕ
+    → Type 0
+Steps k blocks options from to old new before now steps.Goes bytes left = Ahead blocks options 1 from to old new before
+    now bytes left
+Steps k blocks options from to old new before now (steps.Ends end) bytes left = EndsBehind k blocks options from old new
+    end bytes left
 
 -- of the end that a step comes to
 abbrev pub IfEnds : Step → (MergeEnd → Type 0) → Type 0
@@ -102,8 +114,8 @@ TakesAll before now place bytes left = min (before + round_need (found_at place 
 abbrev pub AreCapturedAt : Place → List ℕ → Type 0
 AreCapturedAt place bytes = AllByRecursion IsCaptured (found_at place bytes).packets
 
--- What a step that ends merging says, behind k rounds, of the packets that were read: of those before a round that exceeds the
--- blocks only how many rounds they are.
+-- What a step that ends merging says, behind k rounds, of the packets that were read: of those before a round that
+-- exceeds the blocks only how many rounds they are.
 abbrev pub EndsCaptured : ℕ → Place → MergeEnd → List ℕ → List ℕ → Type 0
 EndsCaptured k place ends.Done bytes left = AreCapturedAt place bytes
 EndsCaptured k place (ends.Malformed fault) bytes left = AreCapturedAt place bytes
@@ -114,9 +126,12 @@ EndsCaptured k place ends.NoMemory bytes left = ⊤
 
 -- the packets that are merged are such as a capture may hold; of a source that failed those of the bytes that are gone
 abbrev pub HoldsCaptured : ℕ → ℕ → Place → MergeEnd → List ℕ → List ℕ → Type 0
-HoldsCaptured blocks budget place ends.Done bytes left = AllByRecursion IsCaptured (packets_within blocks budget place bytes)
-HoldsCaptured blocks budget place (ends.Malformed fault) bytes left = AllByRecursion IsCaptured (packets_within blocks budget place bytes)
-HoldsCaptured blocks budget place (ends.PoolEmpty round need) bytes left = AllByRecursion IsCaptured (packets_within blocks budget place bytes)
+HoldsCaptured blocks budget place ends.Done bytes left = AllByRecursion IsCaptured
+    (packets_within blocks budget place bytes)
+HoldsCaptured blocks budget place (ends.Malformed fault) bytes left = AllByRecursion IsCaptured
+    (packets_within blocks budget place bytes)
+HoldsCaptured blocks budget place (ends.PoolEmpty round need) bytes left = AllByRecursion IsCaptured
+    (packets_within blocks budget place bytes)
 HoldsCaptured blocks budget place ends.ReadFault bytes left =
     (gone : List ℕ) × (bytes ≡ gone ++ left) × AllByRecursion IsCaptured (packets_within blocks budget place gone)
 HoldsCaptured blocks budget place ends.WriteFault bytes left = ⊤

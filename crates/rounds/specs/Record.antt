@@ -28,13 +28,15 @@ abbrev pub record_of : List ℕ → Held → Packet
 record_of front p = packet p.number p.sec p.frac p.original (front ++ buffer_bytes p.skb)
 
 abbrev pub HasHead : RecHead → List ℕ → Held → Type 0
-HasHead head front p = (p.number ≡ head.number) × (p.sec ≡ head.sec) × (p.frac ≡ head.frac) × (p.original ≡ head.original) × (length (front ++ buffer_bytes p.skb) ≡ head.captured)
+HasHead head front p = (p.number ≡ head.number) × (p.sec ≡ head.sec) × (p.frac ≡ head.frac)
+    × (p.original ≡ head.original) × (length (front ++ buffer_bytes p.skb) ≡ head.captured)
 
 -- the body of the record whose header was taken
 abbrev pub GivesPacket : Place → RecHead → List ℕ → Result Held Stop → List ℕ → List ℕ → Type 0
 GivesPacket place head front (Ok p) bytes left = (bytes ≡ (front ++ buffer_bytes p.skb) ++ left) × HasHead head front p
 GivesPacket place head front (Err End) bytes left = ⊥
-GivesPacket place head front (Err (Malformed fault)) bytes left = (length bytes < head.captured) × (fault ≡ short_record place) × (left ≡ [])
+GivesPacket place head front (Err (Malformed fault)) bytes left = (length bytes < head.captured)
+    × (fault ≡ short_record place) × (left ≡ [])
 GivesPacket place head front (Err (PoolEmpty need)) bytes left = ⊥
 GivesPacket place head front (Err ReadFault) bytes left = FewerGone bytes left head.captured
 GivesPacket place head front (Err NoMemory) bytes left = Loses bytes left
@@ -50,32 +52,40 @@ pub record Between (old new : Place) (packets : List Packet) (gone tail : List �
 
 -- the bytes that are gone stand, whatever follows them, for these packets in front of those that follow
 abbrev pub Passes : Place → Place → List Packet → List ℕ → List ℕ → Type 0
-Passes old new packets bytes left = (gone : List ℕ) × (bytes ≡ gone ++ left) × ((tail : List ℕ) → Between old new packets gone tail)
+Passes old new packets bytes left = (gone : List ℕ) × (bytes ≡ gone ++ left)
+    × ((tail : List ℕ) → Between old new packets gone tail)
 
 -- the lengths of the frames whose record headers are lawful: by these the need is judged
 abbrev pub judged_at : Place → List ℕ → List ℕ
 judged_at place bytes = map (λ len. len - front_size place.link) (lengths_at place bytes)
 
--- the bytes that are gone hold no whole record, and what they begin fits the blocks, of which `used` are the round's already
+-- the bytes that are gone hold no whole record, and what they begin fits the blocks, of which `used` are the round's
+-- already
 abbrev pub HoldsNone : ℕ → ℕ → Place → List ℕ → List ℕ → Type 0
-HoldsNone used blocks old bytes left = (gone : List ℕ) × (bytes ≡ gone ++ left) × ((found_at old gone).packets ≡ []) × (used + needed (judged_at old gone) ≤ blocks)
+HoldsNone used blocks old bytes left = (gone : List ℕ) × (bytes ≡ gone ++ left) × ((found_at old gone).packets ≡ [])
+    × (used + needed (judged_at old gone) ≤ blocks)
 
 -- the bytes that are gone hold these lengths, and maybe others behind them
 abbrev pub Announces : Place → List ℕ → List ℕ → List ℕ → Type 0
-Announces place lens bytes left = (gone : List ℕ) × (bytes ≡ gone ++ left) × ((more : List ℕ) × (lengths_at place gone ≡ lens ++ more))
+Announces place lens bytes left = (gone : List ℕ) × (bytes ≡ gone ++ left)
+    × ((more : List ℕ) × (lengths_at place gone ≡ lens ++ more))
 
--- The header of a record is lawful, and with it the round needs more than there are blocks. The bytes that are gone say so.
+-- The header of a record is lawful, and with it the round needs more than there are blocks. The bytes that are gone say
+-- so.
 abbrev pub NeedsMore : ℕ → ℕ → ℕ → Place → List ℕ → List ℕ → Type 0
 NeedsMore used blocks need place bytes left =
-    (len : ℕ) × ((more : List ℕ) × ((lengths_at place bytes ≡ len ∷ more) × (need ≡ used + need_of (len - front_size place.link)) × (blocks < need) × Loses bytes left
+    (len : ℕ) × ((more : List ℕ) × ((lengths_at place bytes ≡ len ∷ more)
+    × (need ≡ used + need_of (len - front_size place.link)) × (blocks < need) × Loses bytes left
     × Announces place (len ∷ []) bytes left))
 
 -- one record, where `used` blocks are the round's already
 abbrev pub GivesRecord : ℕ → ℕ → Place → Place → List ℕ → Result Held Stop → List ℕ → List ℕ → Type 0
 GivesRecord used blocks old new front (Ok p) bytes left = Passes old new (record_of front p ∷ []) bytes left
-GivesRecord used blocks old new front (Err End) bytes left = (found_at old bytes ≡ ended None) × (lengths_at old bytes ≡ []) × (left ≡ []) × (bytes ≡ [])
+GivesRecord used blocks old new front (Err End) bytes left = (found_at old bytes ≡ ended None)
+    × (lengths_at old bytes ≡ []) × (left ≡ []) × (bytes ≡ [])
 GivesRecord used blocks old new front (Err (Malformed fault)) bytes left =
-    (found_at old bytes ≡ ended (Some fault)) × (used + needed (judged_at old bytes) ≤ blocks) × HoldsNone used blocks old bytes left
+    (found_at old bytes ≡ ended (Some fault)) × (used + needed (judged_at old bytes) ≤ blocks)
+    × HoldsNone used blocks old bytes left
 GivesRecord used blocks old new front (Err (PoolEmpty need)) bytes left = NeedsMore used blocks need old bytes left
 GivesRecord used blocks old new front (Err ReadFault) bytes left = HoldsNone used blocks old bytes left
 GivesRecord used blocks old new front (Err NoMemory) bytes left = Loses bytes left

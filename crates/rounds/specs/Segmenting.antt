@@ -7,7 +7,8 @@ use Rattle.pcap_io.specs.Capture.{Packet, one_more}
 use Rattle.pcap_io.specs.Limits.{off_head_size}
 use Rattle.pcap_io.specs.Places.{found_at}
 use Rattle.offload_model.specs.Need.{need_of}
-use Rattle.offload_model.specs.Passing.{Ending, Stopped, AtFault, AtRound, ReadFault, WriteFault, NoMemory, segmenting, Passes}
+use Rattle.offload_model.specs.Passing.{Ending, Stopped, AtFault, AtRound, ReadFault, WriteFault, NoMemory, segmenting}
+use Rattle.offload_model.specs.Passing.{Passes}
 use Rattle.offload_model.specs.Steps.{GoesOn}
 use Rattle.rounds.specs.declared.cut.Refused.{Refused}
 use Rattle.rounds.specs.declared.cut.Refused.TheVariants as refusals
@@ -33,16 +34,20 @@ WritesNone faults.NoMemory old new = Unit {0}
 WritesNone _ old new = Keeps old new
 
 -- One record is gone and its segments were written; or there is none; or it is at fault.
-abbrev pub Moves : ℕ → Place → Place → Option (List ℕ) → Option (List ℕ) → Result Moved SegFault → List ℕ → List ℕ → Type 0
+abbrev pub Moves : ℕ → Place → Place → Option (List ℕ) → Option (List ℕ) → Result Moved SegFault → List ℕ → List ℕ
+    → Type 0
 Moves blocks from to old new (Ok One) bytes left =
-    (gone : List ℕ) × ((done : List ℕ) × ((bytes ≡ gone ++ left) × GoesOn (segmenting blocks from) (segmenting blocks to) 1 gone done × Appends old new done))
+    (gone : List ℕ) × ((done : List ℕ) × ((bytes ≡ gone ++ left)
+    × GoesOn (segmenting blocks from) (segmenting blocks to) 1 gone done × Appends old new done))
 Moves blocks from to old new (Ok End) bytes left = (bytes ≡ []) × (left ≡ []) × Keeps old new
-Moves blocks from to old new (Err fault) bytes left = Passes (segmenting blocks from) old new (ending_of fault) bytes left × WritesNone fault old new
+Moves blocks from to old new (Err fault) bytes left = Passes (segmenting blocks from) old new
+    (ending_of fault) bytes left × WritesNone fault old new
 
 -- the record that is gone took at least as many blocks as it needs
 abbrev pub TakesOne : ℕ → ℕ → Place → Place → List ℕ → List ℕ → Type 0
 TakesOne old new from to bytes left =
-    (gone : List ℕ) × ((r : Packet) × ((bytes ≡ gone ++ left) × ((tail : List ℕ) → found_at from (gone ++ tail) ≡ one_more r (found_at to tail))
+    (gone : List ℕ) × ((r : Packet) × ((bytes ≡ gone ++ left)
+    × ((tail : List ℕ) → found_at from (gone ++ tail) ≡ one_more r (found_at to tail))
     × (min (old + need_of (length r.frame - off_head_size)) (2 ^ 64 - 1) ≤ new)))
 
 -- what a stop comes to
@@ -55,6 +60,7 @@ IsMovedOf stops.NoMemory result = result ≡ Err faults.NoMemory
 
 -- why a record isn't segmented
 abbrev pub IsFaultOf : Refused → ℕ → ℕ → SegFault → Type 0
-IsFaultOf refusals.BadOffload offset number fault = fault ≡ faults.Malformed (record { kind = BadOffload; offset = offset; number = number })
+IsFaultOf refusals.BadOffload offset number fault = fault
+    ≡ faults.Malformed (record { kind = BadOffload; offset = offset; number = number })
 IsFaultOf refusals.WriteFault offset number fault = fault ≡ faults.WriteFault
 IsFaultOf refusals.NoMemory offset number fault = fault ≡ faults.NoMemory

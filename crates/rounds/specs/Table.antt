@@ -25,7 +25,11 @@ place_at places m = slice_index_or places m Open
 
 -- by marks: a Sole that is home is told by its mark alone
 abbrev pub of_places : List Place → Account
-of_places places = record { held = λ t m. place_held t m (place_at places m); homes = λ bs m. place_home (place_at places m) }
+of_places places = record {
+  held = λ t m. place_held t m (place_at places m);
+  homes = λ bs m. place_home
+      (place_at places m);
+}
 
 -- what is owed at a place is of its mark, and no whole
 abbrev pub IsOwed : ℕ → Place → Type 0
@@ -61,7 +65,8 @@ IsOfLife _ r = Unit {0}
 abbrev pub Receives : Place → ReceiptState → Place → Type 0
 Receives Open r p = (p ≡ Owed r) × (0 < r.weight) × (r.weight < full_weight)
 Receives Home r p = p ≡ Home
-Receives (Owed q) r p = (p ≡ Owed (record q { weight = q.weight + r.weight })) × (0 < r.weight) × (q.weight + r.weight < full_weight)
+Receives (Owed q) r p = (p ≡ Owed (record q { weight = q.weight + r.weight })) × (0 < r.weight)
+    × (q.weight + r.weight < full_weight)
 
 -- there is room in the pool for what hasn't come home, and `x`, which is to come, has marks of the table
 pub record MayCome (x : Account) (pool : PoolState) (places : List Place) : Type 0 where
@@ -70,7 +75,8 @@ pub record MayCome (x : Account) (pool : PoolState) (places : List Place) : Type
   pub owed : AreOwed places
 
 -- Of `x` all but `rest` came: what of it isn't home is owed, and a block is home for each place that is Home.
-pub record Comes (x rest : Account) (pool : PoolState) (places : List Place) (pool' : PoolState) (places' : List Place) : Type 0 where
+pub record Comes (x rest : Account) (pool : PoolState) (places : List Place) (pool' : PoolState)
+    (places' : List Place) : Type 0 where
   pub settles : Settles (length places) (both (of_places places) x) (both (of_places places') rest)
   pub count : home pool' + missing places' ≡ home pool + missing places
   pub size : length places' ≡ length places

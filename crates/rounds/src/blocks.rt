@@ -102,8 +102,8 @@ fn build_pieces(hold: &mut VecDeque<Sole>, builder: PieceBuilder, size: usize, f
     builder.finish()
 }
 
-/// A record's packet, of the blocks that were taken for it: `len` bytes behind the headroom of the first, and two spares. Each
-/// block with bytes is shared, so that no later call begins a life.
+/// A record's packet, of the blocks that were taken for it: `len` bytes behind the headroom of the first, and two
+/// spares. Each block with bytes is shared, so that no later call begins a life.
 pub(crate) fn make_packet(
     hold: &mut VecDeque<Sole>,
     builder: PieceBuilder,
@@ -123,7 +123,8 @@ pub(crate) fn make_packet(
     ensures read { IsRead result }
     ensures range { (result.number < 2 ^ 32) × (result.sec < 2 ^ 32) × (result.frac < 2 ^ 32) }
     ensures bytes { buffer_bytes result.skb ≡ data_of 64 len hold.old.items }
-    ensures fields { (result.number ≡ head.now.number) × (result.sec ≡ head.now.sec) × (result.frac ≡ head.now.frac) × (result.original ≡ head.now.original) }
+    ensures fields { (result.number ≡ head.now.number) × (result.sec ≡ head.now.sec) × (result.frac ≡ head.now.frac)
+        × (result.original ≡ head.now.original) }
     ensures none { hold.new.items ≡ [] }
     ensures capacity { deque_capacity hold.new ≡ deque_capacity hold.old }
 {

@@ -33,13 +33,15 @@ fn read_block<S: Source>(
     requires range { (from ≤ to) × (to ≤ 2048) }
     requires room { to ≤ from + (place_of reader.old).body }
     ensures same_source { SameLoan reader.old reader.new }
-    ensures given { Told (S.left (source_of reader.old)) (S.left (source_of reader.new)) (GivesBody (place_of reader.old) result (slice_range block.new.bytes from to)) }
+    ensures given { Told (S.left (source_of reader.old)) (S.left (source_of reader.new))
+        (GivesBody (place_of reader.old) result (slice_range block.new.bytes from to)) }
     ensures size { length (slice_range block.new.bytes from to) + from ≡ to }
     ensures in_bytes { InBytes (slice_range block.new.bytes from to) }
     ensures mark { block.new.mark ≡ block.old.mark }
     ensures place { OnOk result (ReadsOn (place_of reader.old) (place_of reader.new) (to - from)) }
     ensures later { S.faults (source_of reader.old) ≤ S.faults (source_of reader.new) }
-    ensures failed { result ≡ Err InFault.ReadFault → Rose (S.faults (source_of reader.old)) (S.faults (source_of reader.new)) }
+    ensures failed { result ≡ Err InFault.ReadFault → Rose (S.faults (source_of reader.old))
+        (S.faults (source_of reader.new)) }
 {
     let _ = block.bytes();
     let range = block.range_mut(from, to);
@@ -48,8 +50,8 @@ fn read_block<S: Source>(
     read
 }
 
-/// Reads the body of the record that was begun: first `front`, and then `len` bytes into the first of the blocks that were taken
-/// for it, behind their headroom.
+/// Reads the body of the record that was begun: first `front`, and then `len` bytes into the first of the blocks that
+/// were taken for it, behind their headroom.
 pub(crate) fn read_frame<S: Source>(
     reader: &mut CaptureReader<'_, S>,
     front: &mut [u8],
@@ -60,7 +62,8 @@ pub(crate) fn read_frame<S: Source>(
     requires body { (place_of reader.old).body ≡ length front.old + len }
     requires blocks { data_blocks len ≤ length hold.old.items }
     ensures same_source { SameLoan reader.old reader.new }
-    ensures given { Told (S.left (source_of reader.old)) (S.left (source_of reader.new)) (GivesFrame (place_of reader.old) front.new len result hold.new.items) }
+    ensures given { Told (S.left (source_of reader.old)) (S.left (source_of reader.new))
+        (GivesFrame (place_of reader.old) front.new len result hold.new.items) }
     ensures long { OnOk result (length (data_of 64 len hold.new.items) ≡ len) }
     ensures in_bytes { OnOk result (InBytes (data_of 64 len hold.new.items)) }
     ensures front { length front.new ≡ length front.old }
@@ -69,7 +72,8 @@ pub(crate) fn read_frame<S: Source>(
     ensures capacity { deque_capacity hold.new ≡ deque_capacity hold.old }
     ensures place { OnOk result (ReadsOn (place_of reader.old) (place_of reader.new) (length front.old + len)) }
     ensures later { S.faults (source_of reader.old) ≤ S.faults (source_of reader.new) }
-    ensures failed { result ≡ Err InFault.ReadFault → Rose (S.faults (source_of reader.old)) (S.faults (source_of reader.new)) }
+    ensures failed { result ≡ Err InFault.ReadFault → Rose (S.faults (source_of reader.old))
+        (S.faults (source_of reader.new)) }
 {
     match reader.read_body(front) {
         Ok(()) => {}

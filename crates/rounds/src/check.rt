@@ -14,12 +14,14 @@ use round_check::check_lanes;
 use std::alloc::AllocError;
 
 impl Rounds {
-    /// Compares what a round came to with the clones that were kept of its packets: each segment of an item, where it lies, is compared
-    /// with the packet of its flow at that place, byte for byte and in original length. What is counted, queue by queue and
-    /// tap by tap; or the want of memory for that.
+    /// Compares what a round came to with the clones that were kept of its packets: each segment of an item, where it
+    /// lies, is compared with the packet of its flow at that place, byte for byte and in original length. What is
+    /// counted, queue by queue and tap by tap; or the want of memory for that.
     pub fn check_round(&self, worked: &Worked) -> Result<Totals, AllocError>
-        requires worked { (ps : List Packet) × (IsKeptWorkOf (options_of self.now) ps worked.now × AllByRecursion IsCaptured ps × (length ps ≤ 4096)) }
-        ensures totals { (ps : List Packet) → IsKeptWorkOf (options_of self.now) ps worked.now → IfOk result (λ totals. totals ≡ round_totals (options_of self.now) ps) }
+        requires worked { (ps : List Packet) × (IsKeptWorkOf (options_of self.now) ps worked.now
+            × AllByRecursion IsCaptured ps × (length ps ≤ 4096)) }
+        ensures totals { (ps : List Packet) → IsKeptWorkOf (options_of self.now) ps worked.now
+            → IfOk result (λ totals. totals ≡ round_totals (options_of self.now) ps) }
     {
         check_lanes(self.alloc, &worked.lanes, &worked.kept)
     }

@@ -1,5 +1,6 @@
 //! Writes the packets that a record stands for, and brings its blocks home.
-ghost use Rattle.std.specs.Prelude.{◌≡◌, ℕ, ◌+◌, ◌-◌, ◌<◌, ◌≤◌, ◌^◌, List, Err, IfSome, OnOk, OnErr, false, true, length};
+ghost use Rattle.std.specs.Prelude.{◌≡◌, ℕ, ◌+◌, ◌-◌, ◌<◌, ◌≤◌, ◌^◌, List, Err, IfSome, OnOk, OnErr, false, true};
+ghost use Rattle.std.specs.Prelude.{length};
 ghost use Rattle.std.specs.Io.KnownBytes.{Appends};
 ghost use Rattle.off_io.specs.Faults.{HasCause, Rose};
 ghost use Rattle.off_io.specs.Content.{AppendsFront};
@@ -16,7 +17,8 @@ ghost use Rattle.rounds.specs.Fresh.{IsRead};
 ghost use Rattle.rounds.specs.Held.{blocks_in};
 ghost use Rattle.rounds.specs.Marks.{IsRound, nothing};
 ghost use Rattle.rounds.specs.Record.{record_of};
-ghost use Rattle.rounds.specs.Cutting.{AreLeft, IsBehind, TakesTurn, Writes, WritesRecord, original_by, packets_bytes, stamped, stamped_all};
+ghost use Rattle.rounds.specs.Cutting.{AreLeft, IsBehind, TakesTurn, Writes, WritesRecord, original_by, packets_bytes};
+ghost use Rattle.rounds.specs.Cutting.{stamped, stamped_all};
 ghost use Rattle.frags.specs.OutcomesState.{IsBare};
 ghost use Rattle.rounds.specs.Table.{AllOpen, Comes, MayCome};
 
@@ -76,8 +78,10 @@ fn single_original(plan: &Plan, original: u32) -> Option<u32>
 fn write_packet<K: Sink>(sink: &mut K, stamp: &Stamp, segment: &Skb) -> Result<(), WriteFault>
     requires short { length (buffer_bytes segment.now) ≤ most_frame }
     requires few { IfSome stamp.now.original (λ n. n + off_head2_size < 2 ^ 32) }
-    ensures ok { OnOk result (Appends (K.held sink.old) (K.held sink.new) (stamped stamp.now (buffer_bytes segment.now))) }
-    ensures err { OnErr result (AppendsFront (K.held sink.old) (K.held sink.new) (stamped stamp.now (buffer_bytes segment.now))) }
+    ensures ok { OnOk result (Appends (K.held sink.old) (K.held sink.new)
+        (stamped stamp.now (buffer_bytes segment.now))) }
+    ensures err { OnErr result (AppendsFront (K.held sink.old) (K.held sink.new)
+        (stamped stamp.now (buffer_bytes segment.now))) }
     ensures cause { HasCause (K.faults sink.old) (K.faults sink.new) result }
 {
     let len = segment.len() as u32;
@@ -145,9 +149,11 @@ fn write_next<K: Sink>(
     requires may { MayCome (both (of_work cutter.old) (of_sole spare)) pool.old places.old }
     requires bare { IsBare out.old }
     requires spare { cutter_count cutter.old + 2 ≤ out.old.spare }
-    ensures turn { (frames : List (List ℕ)) → AreLeft frames cutter.old → TakesTurn stamp.now frames cutter.new (K.held sink.old) (K.held sink.new) result.1 }
+    ensures turn { (frames : List (List ℕ)) → AreLeft frames cutter.old
+        → TakesTurn stamp.now frames cutter.new (K.held sink.old) (K.held sink.new) result.1 }
     ensures shared { is_sole (head_of cutter.new) ≡ false }
-    ensures comes { Comes (both (of_work cutter.old) (of_sole spare)) (both (of_work cutter.new) (of_sole result.0)) pool.old places.old pool.new places.new }
+    ensures comes { Comes (both (of_work cutter.old) (of_sole spare))
+        (both (of_work cutter.new) (of_sole result.0)) pool.old places.old pool.new places.new }
     ensures bare { IsBare out.new }
     ensures spare { cutter_count cutter.new + 2 ≤ out.new.spare }
     ensures later { K.faults sink.old ≤ K.faults sink.new }
@@ -182,8 +188,10 @@ fn write_all<K: Sink>(
     requires may { MayCome (both (of_work cutter.old) (of_sole spare)) pool.old places.old }
     requires bare { IsBare out.old }
     requires spare { cutter_count cutter.old + 2 ≤ out.old.spare }
-    ensures writes { (frames : List (List ℕ)) → AreLeft frames cutter.old → Writes (stamped_all stamp.now frames) (K.held sink.old) (K.held sink.new) result.1 }
-    ensures comes { Comes (both (of_work cutter.old) (of_sole spare)) (both (of_work cutter.new) (of_sole result.0)) pool.old places.old pool.new places.new }
+    ensures writes { (frames : List (List ℕ)) → AreLeft frames cutter.old
+        → Writes (stamped_all stamp.now frames) (K.held sink.old) (K.held sink.new) result.1 }
+    ensures comes { Comes (both (of_work cutter.old) (of_sole spare))
+        (both (of_work cutter.new) (of_sole result.0)) pool.old places.old pool.new places.new }
     ensures bare { IsBare out.new }
     ensures spare { cutter_count cutter.new + 2 ≤ out.new.spare }
     ensures later { K.faults sink.old ≤ K.faults sink.new }
@@ -213,7 +221,8 @@ fn bring_rest(
     requires may { MayCome (both (of_work cutter) (both (of_sole spare1) (of_sole spare2))) pool.old places.old }
     requires bare { IsBare out.old }
     requires spare { cutter_count cutter + 2 ≤ out.old.spare }
-    ensures comes { Comes (both (of_work cutter) (both (of_sole spare1) (of_sole spare2))) nothing pool.old places.old pool.new places.new }
+    ensures comes { Comes (both (of_work cutter) (both (of_sole spare1) (of_sole spare2))) nothing pool.old places.old
+        pool.new places.new }
     ensures bare { IsBare out.new }
 {
     out.keep_sole(spare1);
@@ -240,7 +249,8 @@ fn write_plan<K: Sink>(
     requires may { MayCome (of_packet packet) pool.old places.old }
     requires bare { IsBare out.old }
     requires spare { count_of packet ≤ out.old.spare }
-    ensures writes { Writes (packets_bytes file.now.order (packets_by plan (packet_of packet))) (K.held sink.old) (K.held sink.new) result }
+    ensures writes { Writes (packets_bytes file.now.order (packets_by plan (packet_of packet))) (K.held sink.old)
+        (K.held sink.new) result }
     ensures comes { Comes (of_packet packet) nothing pool.old places.old pool.new places.new }
     ensures bare { IsBare out.new }
     ensures later { K.faults sink.old ≤ K.faults sink.new }
@@ -284,7 +294,8 @@ fn write_judged<K: Sink>(
     requires may { MayCome (of_packet packet) pool.old places.old }
     requires bare { IsBare out.old }
     requires spare { count_of packet ≤ out.old.spare }
-    ensures writes { (r : Record) → IsBehind r head.now packet → WritesRecord file.now.order r (K.held sink.old) (K.held sink.new) result }
+    ensures writes { (r : Record) → IsBehind r head.now packet
+        → WritesRecord file.now.order r (K.held sink.old) (K.held sink.new) result }
     ensures comes { Comes (of_packet packet) nothing pool.old places.old pool.new places.new }
     ensures bare { IsBare out.new }
     ensures later { K.faults sink.old ≤ K.faults sink.new }
@@ -319,7 +330,8 @@ fn write_opened<K: Sink>(
     requires may { MayCome (of_packet packet) pool.old places.old }
     requires bare { IsBare out.old }
     requires spare { count_of packet ≤ out.old.spare }
-    ensures writes { WritesRecord file.now.order (record_of front.now packet) (K.held sink.old) (K.held sink.new) result }
+    ensures writes { WritesRecord file.now.order (record_of front.now packet) (K.held sink.old)
+        (K.held sink.new) result }
     ensures comes { Comes (of_packet packet) nothing pool.old places.old pool.new places.new }
     ensures bare { IsBare out.new }
     ensures later { K.faults sink.old ≤ K.faults sink.new }
@@ -353,7 +365,8 @@ fn cut_all<K: Sink>(
     requires open { AllOpen places.old }
     requires bare { IsBare out.old }
     requires spare { count_of packet ≤ out.old.spare }
-    ensures writes { WritesRecord file.now.order (record_of front.now packet) (K.held sink.old) (K.held sink.new) result }
+    ensures writes { WritesRecord file.now.order (record_of front.now packet) (K.held sink.old)
+        (K.held sink.new) result }
     ensures home { home pool.new ≡ home pool.old + length places.old }
     ensures made { (pool.new.made ≡ pool.old.made) × (pool.new.taken ≡ pool.old.taken) }
     ensures open { AllOpen places.new }
@@ -367,8 +380,8 @@ fn cut_all<K: Sink>(
     wrote
 }
 
-/// Writes the packets that a record stands for, whose first bytes are `front`, where the record is lawful, and brings all
-/// of its blocks home, whatever the answer.
+/// Writes the packets that a record stands for, whose first bytes are `front`, where the record is lawful, and brings
+/// all of its blocks home, whatever the answer.
 pub(crate) fn cut_record<K: Sink>(
     sink: &mut K,
     file: &FileHead,
@@ -387,7 +400,8 @@ pub(crate) fn cut_record<K: Sink>(
     requires open { AllOpen table.old }
     requires bare { IsBare out.old }
     requires spare { count_of packet ≤ out.old.spare }
-    ensures writes { WritesRecord file.now.order (record_of front.now packet) (K.held sink.old) (K.held sink.new) result }
+    ensures writes { WritesRecord file.now.order (record_of front.now packet) (K.held sink.old)
+        (K.held sink.new) result }
     ensures home { home pool.new ≡ home pool.old + count_of packet }
     ensures made { (pool.new.made ≡ pool.old.made) × (pool.new.taken ≡ pool.old.taken) }
     ensures open { AllOpen table.new }

@@ -162,7 +162,8 @@ fn bring_all(
     lanes: Lanes,
     kept: Vec<TapClone>,
 )
-    requires round { IsRound (length places.old) (both (of_outcomes out.old) (both (of_packets packets.old.items) (of_work items.old.items lanes kept.items))) }
+    requires round { IsRound (length places.old) (both (of_outcomes out.old)
+        (both (of_packets packets.old.items) (of_work items.old.items lanes kept.items))) }
     requires room { home pool.old + length places.old ≤ pool.old.made }
     requires open { AllOpen places.old }
     requires spare { counts_of packets.old.items + count_of_work items.old.items lanes kept.items ≤ out.old.spare }
@@ -172,7 +173,8 @@ fn bring_all(
     ensures open { AllOpen places.new }
     ensures size { length places.new ≡ length places.old }
     ensures bare { IsBare out.new }
-    ensures spare { out.old.spare ≤ out.new.spare + (counts_of packets.old.items + count_of_work items.old.items lanes kept.items) }
+    ensures spare { out.old.spare ≤ out.new.spare + (counts_of packets.old.items
+        + count_of_work items.old.items lanes kept.items) }
     ensures none { (packets.new.items ≡ []) × (items.new.items ≡ []) }
     ensures merging { merging.new ≡ merging.old }
 {
@@ -182,9 +184,9 @@ fn bring_all(
     reopen(places);
 }
 
-/// All blocks of a round go home, `blocks` of them, at whichever point it is ended or given up: what was given back so far, the
-/// packets that aren't merged, the items, what the lanes hold, and the clones that were kept. The lists of items that merged in no
-/// lane serve the next round's merging.
+/// All blocks of a round go home, `blocks` of them, at whichever point it is ended or given up: what was given back so
+/// far, the packets that aren't merged, the items, what the lanes hold, and the clones that were kept. The lists of
+/// items that merged in no lane serve the next round's merging.
 pub(crate) fn bring_round(
     pool: &mut Pool,
     table: &mut [Place],
@@ -196,7 +198,8 @@ pub(crate) fn bring_round(
     lanes: Lanes,
     kept: Vec<TapClone>,
 )
-    requires round { IsRound blocks (both (of_outcomes out.old) (both (of_packets packets.old.items) (of_work items.old.items lanes kept.items))) }
+    requires round { IsRound blocks (both (of_outcomes out.old)
+        (both (of_packets packets.old.items) (of_work items.old.items lanes kept.items))) }
     requires few { blocks ≤ length table.old }
     requires room { home pool.old + blocks ≤ pool.old.made }
     requires open { AllOpen table.old }
@@ -207,7 +210,8 @@ pub(crate) fn bring_round(
     ensures open { AllOpen table.new }
     ensures size { length table.new ≡ length table.old }
     ensures bare { IsBare out.new }
-    ensures spare { out.old.spare ≤ out.new.spare + (counts_of packets.old.items + count_of_work items.old.items lanes kept.items) }
+    ensures spare { out.old.spare ≤ out.new.spare + (counts_of packets.old.items
+        + count_of_work items.old.items lanes kept.items) }
     ensures none { (packets.new.items ≡ []) × (items.new.items ≡ []) }
     ensures merging { merging.new ≡ merging.old }
 {

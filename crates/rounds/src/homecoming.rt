@@ -10,8 +10,8 @@ pub trait Homecoming {
     /// How many blocks it has brought home.
     ghost brought: { Self → ℕ };
 
-    /// Blocks that were out come home: those that it has, and where fewer than 131 are home then, it waits for more as long as any
-    /// are out.
+    /// Blocks that were out come home: those that it has, and where fewer than 131 are home then, it waits for more as
+    /// long as any are out.
     fn bring(&mut self, pool: &mut Pool)
         ensures sum { home pool.new + brought self.old ≡ home pool.old + brought self.new }
         ensures same { (pool.new.made ≡ pool.old.made) × (pool.new.taken ≡ pool.old.taken) };
@@ -41,8 +41,8 @@ fn is_short(pool: &Pool, used: u32) -> bool
     home < RECORD_BLOCKS as u32 && home + used < made
 }
 
-/// Whether the next record, whatever it needs, finds its blocks home, or more than there are. Blocks that are out and not of the
-/// round, which has `used`, come home before this is answered.
+/// Whether the next record, whatever it needs, finds its blocks home, or more than there are. Blocks that are out and
+/// not of the round, which has `used`, come home before this is answered.
 pub(crate) fn is_ready<H: Homecoming>(pool: &mut Pool, more: &mut H, used: u32) -> bool
     requires few { used ≤ pool.old.made }
     ensures ready { result ≡ true → (131 ≤ home pool.new) ⊎ (pool.new.made ≤ home pool.new + used) }

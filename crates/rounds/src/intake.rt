@@ -43,22 +43,29 @@ impl Model for Intake {
 
     ghost Value = { IntakeState };
 
-    ghost view = { λ i. record { home = home_of i.pool; blocks = i.pool.made; taken = i.pool.taken; budget = i.budget } };
+    ghost view = { λ i. record {
+      home = home_of i.pool;
+      blocks = i.pool.made;
+      taken = i.pool.taken;
+      budget = i.budget;
+    } };
 
-    ghost invariant = { λ i. (i.pool.made ≤ 65536) × (i.hold.items ≡ []) × (131 ≤ deque_capacity i.hold) × (1 ≤ i.budget) × (i.budget ≤ 4096) };
+    ghost invariant = { λ i. (i.pool.made ≤ 65536) × (i.hold.items ≡ []) × (131 ≤ deque_capacity i.hold)
+        × (1 ≤ i.budget) × (i.budget ≤ 4096) };
 }
 
 impl Intake {
     /// Blocks that were out come home before a round is read.
     pub fn bring_in<H: Homecoming>(&mut self, more: &mut H)
         ensures sum { self.new.home + H.brought more.old ≡ self.old.home + H.brought more.new }
-        ensures same { (self.new.blocks ≡ self.old.blocks) × (self.new.taken ≡ self.old.taken) × (self.new.budget ≡ self.old.budget) }
+        ensures same { (self.new.blocks ≡ self.old.blocks) × (self.new.taken ≡ self.old.taken)
+            × (self.new.budget ≡ self.old.budget) }
     {
         more.bring(&mut self.pool);
     }
 
-    /// As `read_round` of the rounds says it, while blocks come home. `NoMemory` also where fewer are home than a record may need
-    /// and no more come. A round takes memory for its packets.
+    /// As `read_round` of the rounds says it, while blocks come home. `NoMemory` also where fewer are home than a
+    /// record may need and no more come. A round takes memory for its packets.
     pub fn read_round<S: Source, H: Homecoming>(
         &mut self,
         reader: &mut CaptureReader<'_, S>,
@@ -67,10 +74,13 @@ impl Intake {
         requires ready { IsReady (place_of reader.old) }
         requires link { (place_of reader.old).link ≡ Ethernet }
         ensures same_source { SameLoan reader.old reader.new }
-        ensures given { Told (S.left (source_of reader.old)) (S.left (source_of reader.new)) (GivesRound self.old.blocks (place_of reader.old) (place_of reader.new) result.round.packets result.end) }
+        ensures given { Told (S.left (source_of reader.old)) (S.left (source_of reader.new))
+            (GivesRound self.old.blocks (place_of reader.old) (place_of reader.new) result.round.packets result.end) }
         ensures size { length result.round.packets ≤ self.old.budget }
-        ensures fewer { (result.end ≢ RoundEnd.Full) → (result.end ≢ RoundEnd.NoMemory) → length result.round.packets < self.old.budget }
-        ensures full { result.end ≡ RoundEnd.Full → PassesRound (place_of reader.old) (place_of reader.new) result.round.packets self.old.budget }
+        ensures fewer { (result.end ≢ RoundEnd.Full) → (result.end ≢ RoundEnd.NoMemory)
+            → length result.round.packets < self.old.budget }
+        ensures full { result.end ≡ RoundEnd.Full → PassesRound (place_of reader.old)
+            (place_of reader.new) result.round.packets self.old.budget }
         ensures captured { AllByRecursion IsCaptured (map packet_of result.round.packets) }
         ensures numbers { NumberedFrom (place_of reader.old).number result.round.packets }
         ensures need { result.round.blocks ≡ round_need (map packet_of result.round.packets) }
@@ -81,7 +91,8 @@ impl Intake {
         ensures taken { min (self.old.taken + result.round.blocks) (2 ^ 64 - 1) ≤ self.new.taken }
         ensures least { self.old.taken ≤ self.new.taken }
         ensures later { S.faults (source_of reader.old) ≤ S.faults (source_of reader.new) }
-        ensures failed { result.end ≡ RoundEnd.ReadFault → Rose (S.faults (source_of reader.old)) (S.faults (source_of reader.new)) }
+        ensures failed { result.end ≡ RoundEnd.ReadFault
+            → Rose (S.faults (source_of reader.old)) (S.faults (source_of reader.new)) }
     {
         let _ = self.pool.taken();
         let budget = self.budget as usize;
@@ -124,7 +135,8 @@ impl Intake {
     pub fn bring_home(&mut self, shelf: &mut Pool)
         ensures sum { self.new.home + home shelf.new ≡ self.old.home + home shelf.old }
         ensures all { (home shelf.new ≡ 0) ⊎ (self.new.home ≡ self.old.blocks) }
-        ensures same { (self.new.blocks ≡ self.old.blocks) × (self.new.taken ≡ self.old.taken) × (self.new.budget ≡ self.old.budget) }
+        ensures same { (self.new.blocks ≡ self.old.blocks) × (self.new.taken ≡ self.old.taken)
+            × (self.new.budget ≡ self.old.budget) }
         ensures shelf { (shelf.new.made ≡ shelf.old.made) × (shelf.new.taken ≡ shelf.old.taken) }
     {
         self.pool.refill(shelf);

@@ -40,7 +40,8 @@ fn keep_if(
     requires whole { WeighAtLeast full_weight packets.old.items }
     requires none { kept.old.items ≡ [] }
     ensures after { AreAfter 1 packets.old.items packets.new.items }
-    ensures kept { Keeps (of_packets packets.old.items) (both (of_packets packets.new.items) (of_clones kept.new.items)) }
+    ensures kept { Keeps (of_packets packets.old.items)
+        (both (of_packets packets.new.items) (of_clones kept.new.items)) }
     ensures fewer { blocks_of kept.new.items ≤ counts_of packets.old.items }
     ensures all { OnOk result (keep ≡ true → map packet_of_clone kept.new.items ≡ map packet_of packets.old.items) }
 {
@@ -53,7 +54,8 @@ fn keep_if(
 impl Rounds {
     // Whether one queue is all there is, so that no lane is made.
     fn is_plain(&self) -> bool
-        ensures plain { result ≡ true → (self.now.plan.queues ≡ 1) × (self.now.plan.taps ≡ 0) × (self.now.keep ≡ false) }
+        ensures plain { result ≡ true → (self.now.plan.queues ≡ 1) × (self.now.plan.taps ≡ 0)
+            × (self.now.keep ≡ false) }
     {
         self.plan.queues == 1 && self.plan.taps == 0 && !self.keep
     }
@@ -62,8 +64,10 @@ impl Rounds {
     fn merge_round<W: Works>(&mut self, works: &W, round: Round) -> Result<Worked, AllocError>
         requires out { self.old.home + round.blocks ≤ self.old.blocks }
         requires plain { (self.old.plan.queues ≡ 1) × (self.old.plan.taps ≡ 0) }
-        ensures records { IfOk result (λ worked. worked_records worked ≡ round_records (options_of self.old) (map packet_of round.packets)) }
-        ensures ready { IfOk result (λ worked. AreReady worked.items × All (λ lane. AreReady lane.items.items) worked.lanes.queues.items) }
+        ensures records { IfOk result (λ worked. worked_records worked
+            ≡ round_records (options_of self.old) (map packet_of round.packets)) }
+        ensures ready { IfOk result (λ worked. AreReady worked.items
+            × All (λ lane. AreReady lane.items.items) worked.lanes.queues.items) }
         ensures worked { IfOk result (λ worked. worked.blocks ≡ round.blocks) }
         ensures same { OnOk result (self.new ≡ self.old) }
         ensures home { OnErr result (self.new ≡ record self.old { home = self.old.home + round.blocks }) }
@@ -166,19 +170,22 @@ impl Rounds {
         }
     }
 
-    /// Works a round: queue by queue what the runs of its flows come to, in the order of their first packets, and tap by tap
-    /// the windows of what is shown of the packets as they were read. Whoever works runs the lanes, and each lane passes its
-    /// gate at point 0 before its work and at point 1 after it; one queue alone is worked here. For want of memory all blocks
-    /// of the round are home.
+    /// Works a round: queue by queue what the runs of its flows come to, in the order of their first packets, and tap
+    /// by tap the windows of what is shown of the packets as they were read. Whoever works runs the lanes, and each
+    /// lane passes its gate at point 0 before its work and at point 1 after it; one queue alone is worked here. For
+    /// want of memory all blocks of the round are home.
     pub fn work_round<W: Works>(
         &mut self,
         works: &mut W,
         round: Round,
     ) -> Result<Worked, AllocError>
         requires out { self.old.home + round.blocks ≤ self.old.blocks }
-        ensures records { IfOk result (λ worked. worked_records worked ≡ round_records (options_of self.old) (map packet_of round.packets)) }
-        ensures checked { self.old.keep ≡ true → IfOk result (λ worked. IsKeptWorkOf (options_of self.old) (map packet_of round.packets) worked) }
-        ensures ready { IfOk result (λ worked. AreReady worked.items × All (λ lane. AreReady lane.items.items) worked.lanes.queues.items) }
+        ensures records { IfOk result (λ worked. worked_records worked
+            ≡ round_records (options_of self.old) (map packet_of round.packets)) }
+        ensures checked { self.old.keep ≡ true → IfOk result
+            (λ worked. IsKeptWorkOf (options_of self.old) (map packet_of round.packets) worked) }
+        ensures ready { IfOk result (λ worked. AreReady worked.items
+            × All (λ lane. AreReady lane.items.items) worked.lanes.queues.items) }
         ensures worked { IfOk result (λ worked. worked.blocks ≡ round.blocks) }
         ensures same { OnOk result (self.new ≡ self.old) }
         ensures home { OnErr result (self.new ≡ record self.old { home = self.old.home + round.blocks }) }

@@ -6,62 +6,127 @@
 //!    └── a place for each mark: the Sole that comes back goes home, a receipt waits for its Sole or is closed
 //! ```
 //!
-//! A record is judged in this order: its header, whether the round then needs more blocks than there are, its body. So a
-//! record that is too big for the pool takes no block, and one that is cut short or whose source fails leaves none out.
+//! A record is judged in this order: its header, whether the round then needs more blocks than there are, its body. So
+//! a record that is too big for the pool takes no block, and one that is cut short or whose source fails leaves none
+//! out.
 //!
-//! Of a record of link type 147 the first 12 bytes are read apart, as every offload header has them, and the need is that
-//! of the bytes behind them. The last 4 bytes of a header of version 2 so stand in the first block, in front of the frame,
-//! until the header is taken off.
+//! Of a record of link type 147 the first 12 bytes are read apart, as every offload header has them, and the need is
+//! that of the bytes behind them. The last 4 bytes of a header of version 2 so stand in the first block, in front of
+//! the frame, until the header is taken off.
 //!
-//! Who works the lanes of a round, the thread that calls or others with it, is told by [`Works`](round_work::Works): each call that
-//! works a round is one over whoever works.
+//! Who works the lanes of a round, the thread that calls or others with it, is told by [`Works`](round_work::Works):
+//! each call that works a round is one over whoever works.
 //!
 //! Proved, by the names of the clauses of [`Rounds`]:
 //!
-//! - `given` of `read_round`: the packets are the next ones of the capture, and the end is told by its bytes alone; `PoolEmpty` exactly
-//!   where the round's need first exceeds the blocks, with that need, judged by the record's header.
-//! - `records` of `work_round`: the records that are written of the round are those of the model, queue by queue what the
-//!   maximal runs of each flow come to, in the order of their first packets, and then tap by tap its windows of what is
-//!   shown of the packets as they were read, whoever works the lanes and whatever the order in which they run.
+//! - `given` of `read_round`: the packets are the next ones of the capture, and the end is told by its bytes alone;
+//!   `PoolEmpty` exactly where the round's need first exceeds the blocks, with that need, judged by the record's
+//!   header.
+//! - `records` of `work_round`: the records that are written of the round are those of the model, queue by queue what
+//!   the maximal runs of each flow come to, in the order of their first packets, and then tap by tap its windows of
+//!   what is shown of the packets as they were read, whoever works the lanes and whatever the order in which they run.
 //!   `checked`: where clones are kept, all that a comparison of the items with the packets wants to know.
-//! - `totals` of `check_round`: what is counted where each segment of the items is compared with the packet of its flow at that place, of
-//!   which a clone was kept: that all come back, byte for byte.
+//! - `totals` of `check_round`: what is counted where each segment of the items is compared with the packet of its flow
+//!   at that place, of which a clone was kept: that all come back, byte for byte.
 //! - `ok`, `err` of `write_round`: byte for byte what is written of a round that was worked.
 //! - `home`: how many blocks are home after each call, as an equation; after `drop_round` and `end_round`, and where
 //!   `work_round` wants memory, all of the round.
-//! - `need`, `taken`, `most`: the blocks that are out are what the packets need, and `taken` rises by at least as many; it
-//!   never falls, however merging ends (`least`).
+//! - `need`, `taken`, `most`: the blocks that are out are what the packets need, and `taken` rises by at least as many;
+//!   it never falls, however merging ends (`least`).
 //! - `given` of `merge_all`: what is written, and where it stops, is what the model makes of the capture's bytes
-//!   (`merging` of `offload_model`) with all options, whole rounds alone; a round that exceeds the blocks is told by its number and its need. After a fault, or want
-//!   of memory, it is that of the bytes that are gone, or a front of it. All blocks are home whatever the ending (`home`).
-//! - `sum`, `home` of [`Intake`] and of `put_read`, `hand_home`, `bring_home`, `join`: where one side reads and another works no block is
-//!   lost between them, and `given`, `puts` and `gives` say of a round on its way what `merge_all` says of it.
-//! - `given`, `reads`, `paused` of `work_and_read`: where the next round is read beside the work of one, what is said of both is the same; the
-//!   read pauses only between records, and only where blocks of the other round were wanted; `given` of `read_rest`: what such a round comes
-//!   to in the end, over all of its records. That both run at the same time isn't proved.
-//! - `captured` of `merge_all`: the packets that are merged are such as a capture may hold, since each was read into fields of 32 bits and
-//!   into bytes.
+//!   (`merging` of `offload_model`) with all options, whole rounds alone; a round that exceeds the blocks is told by
+//!   its number and its need. After a fault, or want of memory, it is that of the bytes that are gone, or a front of
+//!   it. All blocks are home whatever the ending (`home`).
+//! - `sum`, `home` of [`Intake`] and of `put_read`, `hand_home`, `bring_home`, `join`: where one side reads and another
+//!   works no block is lost between them, and `given`, `puts` and `gives` say of a round on its way what `merge_all`
+//!   says of it.
+//! - `given`, `reads`, `paused` of `work_and_read`: where the next round is read beside the work of one, what is said
+//!   of both is the same; the read pauses only between records, and only where blocks of the other round were wanted;
+//!   `given` of `read_rest`: what such a round comes to in the end, over all of its records. That both run at the same
+//!   time isn't proved.
+//! - `captured` of `merge_all`: the packets that are merged are such as a capture may hold, since each was read into
+//!   fields of 32 bits and into bytes.
 //!
 //! And of [`SegmentRun`], where each record is a round:
 //!
-//! - `given` of `next`: what is written is the next record's segments, by the definition of the whole capture's; and for each fault
-//!   how much of the source is gone, and that nothing is written for a record that isn't whole, lawful and within the blocks.
+//! - `given` of `next`: what is written is the next record's segments, by the definition of the whole capture's; and
+//!   for each fault how much of the source is gone, and that nothing is written for a record that isn't whole, lawful
+//!   and within the blocks.
 //! - `home`: all blocks are home after every answer.
 //! - `taken`: a record that was segmented took as many blocks as it needs.
 //!
-//! That they are home follows from the account alone (`specs/Marks.antt`): the blocks of a round are marked 0, 1, ..; of each mark one
-//! life is held, with all of its weight (`specs/Fresh.antt`), and no call makes weight up or loses it. All receipts of a life weigh
-//! less than the whole. So where a mark's Sole isn't home something would still be held, and nothing is.
+//! That they are home follows from the account alone (`specs/Marks.antt`): the blocks of a round are marked 0, 1, ..;
+//! of each mark one life is held, with all of its weight (`specs/Fresh.antt`), and no call makes weight up or loses it.
+//! All receipts of a life weigh less than the whole. So where a mark's Sole isn't home something would still be held,
+//! and nothing is.
 //!
-//! Memory is taken in [`Rounds::make`] and [`SegmentRun::make`], and for lists of pieces: by a record of more than 1,984 bytes, and by
-//! each segment of a merged one. Where one queue is all there is, no lane is made; else each round takes memory for its
-//! lanes, and for the clones that are kept.
+//! Memory is taken in [`Rounds::make`] and [`SegmentRun::make`], and for lists of pieces: by a record of more than
+//! 1,984 bytes, and by each segment of a merged one. Where one queue is all there is, no lane is made; else each round
+//! takes memory for its lanes, and for the clones that are kept.
 //!
 //! ```
 //! let plan = Plan { queues: 4, taps: 1, snap: 64, choice: Choice::Fold, segs: 4096, filter: None };
 //! let mut rounds = Rounds::make(alloc, blocks, 64, plan, false)?;
 //! let end = rounds.merge_all(&mut Alone { gate: &NoGate }, &mut reader, &file, &mut sink);
 //! ```
+//!
+//! Its parts: `record` (one record of either link type: header, need, blocks, body), on `body` and `blocks`; `reading`
+//! (a round of them); `table` and `home` (what comes back, by marks, and all of a round given up at whichever point);
+//! `lane_work` (a round in one queue, by `round_work::merge_packets`, or over lanes), `lane_home` (what lanes hold,
+//! home); `writing` (what they come to); `rounds` (the type that keeps pool, table and memory); `merge` (round by round
+//! to the end of a capture); `ahead` (a round read beside the work of another, and its rest), `sides` (rounds parted in
+//! two, and one again), `intake` (the side that reads) and `homecoming` (who brings blocks home while a round is read);
+//! `segment` (the type that segments, record by record) on `cut` (a record's packets written one by one, its blocks
+//! brought home) and `memory` (what both types keep). `specs/Marks.antt` says what is a round's account,
+//! `specs/Fresh.antt` what it is as blocks are taken, `specs/Reading.antt` what each end of a round says of the
+//! capture's bytes.
+//!
+//! Tests: `round_tests`, modules `ahead`, `lanes`, `long_runs`, `merging`, `segments` and `sides`.
+//!
+//! Why so:
+//!
+//! - **Every block with bytes is shared as it is read**, so no later call of the round begins a life, and what gro,
+//!   gso, taps and rounds keep is kept for every test of lives. Else only all lives of a block together are told of,
+//!   and receipts of one mark couldn't be added. It costs one fetch-sub a block.
+//! - **What came back is kept by marks**, a place for each block of the pool: open, home, or what is owed. A round
+//!   whose Soles aren't home would owe all of some block's weight, and receipts of a life never weigh that much, so
+//!   nothing has to be reunited. In fact a receipt meets a place that is home already, and is closed.
+//! - **A second Sole of a mark is dropped.** The account says what is held at most and what is home at least, so it
+//!   doesn't exclude one; that two Soles never are of one block is known only where both are in hand.
+//! - **`Rounds` keeps the memory of a round's packets, items and outcomes** while no round has it, and its table is
+//!   open between the calls. These hold parts or receipts by their types, so it is dropped by an `impl Drop` of its
+//!   own, which spends them empty: its invariant says that they are.
+//! - **One function gives up a round** at whichever point (`bring_round`): what was given back so far, the packets that
+//!   aren't merged, and the items.
+//! - **What a round is told is one argument**, a `Plan`: queues and how flows go to them, taps, their window and their
+//!   filter, and how many packets a run may have. The model's options follow from it (`options_by`), so a further
+//!   option is a field there and a body. It isn't copied: a hash key has tables of 4.6 KB, and a filter its program.
+//! - **Packets are kept in a deque**, since merging takes them from the front and reading puts them at the end.
+//! - **A round is ended before a fault of its writing is answered**, so its blocks are home whatever the ending.
+//! - **A step says what it did in the words of the loop**: `Ahead 1` where it goes on, and else an ending behind the
+//!   rounds before (`EndsBehind`). The loop over steps then has three lemmas, one for each clause.
+//! - **Rounds part into two sides** (`part`, `join`): one reads and has the pool, the other has all that working wants.
+//!   Each has places for all blocks, and what is home on both, with what is out, is one sum that their caller keeps.
+//!   Blocks go back by the pool: `hand_home` gives away the one in which they came home and takes an empty one, a
+//!   shelf, so no block is moved by itself.
+//! - **Whoever drives rounds one by one reads the next one beside the work** by `work_and_read`: one join, in which a
+//!   side reads with all blocks that are home while the other works over none. No block comes home before both have
+//!   ended, so blocks aren't shared, and taking one costs no locked step. A read that wants blocks of the round beside
+//!   it pauses between two records, by the same rule (`is_ready`): no header is kept and nothing is half read, and
+//!   whether a round exceeds the blocks is judged by all of them in `read_rest` too.
+//! - **What `read_rest` says is over the whole round** (`GivesRest`): of every place and bytes from which the first
+//!   packets were read. So it has the ends of `read_round` with no ghost data in a round, and `read_round` is the case
+//!   of no packets.
+//! - **A record is segmented with one spare.** Once a segment is written it is given back, and a Sole that this leaves
+//!   is the next spare; all else of it goes home at once. So 65,495 segments want no block beside the record's own, and
+//!   what a segment leaves never waits for the record's end.
+//! - **Room for what comes back is asked for before each segment**, for what the cutter has and five more, while all
+//!   that is out still has its place. A cutter's counts bound one segment against the one before and not all of a
+//!   record's; in fact the room is there since `make`, and asking costs a comparison.
+//! - **A record is judged before it is taken apart**, so one that isn't lawful goes home whole, as a packet that is
+//!   given up does.
+//! - **Outcomes have room for each block twice** (`Rounds`): once for its packet, and once for the clone that is kept
+//!   of it.
 #![tactic(auto)]
 
 mod ahead;

@@ -1,5 +1,6 @@
 //! Merges the records of a capture, round by round.
-ghost use Rattle.std.specs.Prelude.{◌≡◌, ◌⊎◌, ℕ, ◌+◌, ◌≤◌, ◌^◌, ◌-◌, true, false, Option, List, map, min, IfOk, MatchResult};
+ghost use Rattle.std.specs.Prelude.{◌≡◌, ◌⊎◌, ℕ, ◌+◌, ◌≤◌, ◌^◌, ◌-◌, true, false, Option, List, map, min, IfOk};
+ghost use Rattle.std.specs.Prelude.{MatchResult};
 ghost use Rattle.std.specs.Io.KnownBytes.{Appends, Keeps};
 ghost use Rattle.off_io.specs.Content.{SaysFlushed};
 ghost use Rattle.off_io.specs.Faults.{Rose};
@@ -12,7 +13,8 @@ ghost use Rattle.offload_model.specs.Passing.{merging, Passes, FrontUnless, flus
 ghost use Rattle.offload_model.specs.Steps.{round_output};
 ghost use Rattle.gro.specs.Held.{packet_of};
 ghost use Rattle.rounds.specs.Lanes.{worked_bytes};
-ghost use Rattle.rounds.specs.Merging.{ending_of, options_of, is_worked, Puts, GivesUp, Steps, IfEnds, TakesAll, EndsCaptured, HoldsCaptured, MovesOn};
+ghost use Rattle.rounds.specs.Merging.{ending_of, options_of, is_worked, Puts, GivesUp, Steps, IfEnds, TakesAll};
+ghost use Rattle.rounds.specs.Merging.{EndsCaptured, HoldsCaptured, MovesOn};
 
 use crate::Rounds;
 use crate::round::{Round, RoundEnd, RoundRead, Worked, is_worked};
@@ -28,7 +30,8 @@ pub enum MergeEnd {
     Done,
     /// The capture is refused; the output of the records before is written.
     Malformed(CapFault),
-    /// A round, counted from 0, needs this many blocks, and there are fewer; the output of the rounds before is written.
+    /// A round, counted from 0, needs this many blocks, and there are fewer; the output of the rounds before is
+    /// written.
     PoolEmpty { round: u64, need: u32 },
     /// The source failed; the output of the whole records before is written.
     ReadFault,
@@ -52,7 +55,8 @@ fn finish<K: Sink>(sink: &mut K, end: MergeEnd) -> MergeEnd
     ensures content { Keeps (K.held sink.old) (K.held sink.new) }
     ensures flushed { (result ≡ MergeEnd.WriteFault) ⊎ SaysFlushed (K.held sink.new) (K.is_flushed sink.new) true }
     ensures later { K.faults sink.old ≤ K.faults sink.new }
-    ensures failed { result ≡ MergeEnd.WriteFault → (end ≡ MergeEnd.WriteFault) ⊎ Rose (K.faults sink.old) (K.faults sink.new) }
+    ensures failed { result ≡ MergeEnd.WriteFault → (end ≡ MergeEnd.WriteFault)
+        ⊎ Rose (K.faults sink.old) (K.faults sink.new) }
 {
     match sink.flush() {
         Ok(()) => end,
@@ -63,8 +67,10 @@ fn finish<K: Sink>(sink: &mut K, end: MergeEnd) -> MergeEnd
 // What follows a round that was written, by why it has no more records.
 fn close_round<K: Sink>(sink: &mut K, end: RoundEnd) -> Step
     requires works { is_worked end ≡ true }
-    ensures puts { (held : Option (List ℕ)) → (bytes : List ℕ) → Appends held (K.held sink.old) bytes → Puts held (K.held sink.new) bytes end result }
-    ensures flushed { IfEnds result (λ end. flushes (ending_of end) ≡ true → SaysFlushed (K.held sink.new) (K.is_flushed sink.new) true) }
+    ensures puts { (held : Option (List ℕ)) → (bytes : List ℕ) → Appends held (K.held sink.old) bytes
+        → Puts held (K.held sink.new) bytes end result }
+    ensures flushed { IfEnds result (λ end. flushes (ending_of end) ≡ true
+        → SaysFlushed (K.held sink.new) (K.is_flushed sink.new) true) }
     ensures later { K.faults sink.old ≤ K.faults sink.new }
     ensures rose { IfEnds result (λ end. end ≡ MergeEnd.WriteFault → Rose (K.faults sink.old) (K.faults sink.new)) }
 {
@@ -78,7 +84,8 @@ fn close_round<K: Sink>(sink: &mut K, end: RoundEnd) -> Step
 }
 
 impl Rounds {
-    // Writes a round that was worked and ends it. Where that fails merging ends so; the round's blocks are home all the same.
+    // Writes a round that was worked and ends it. Where that fails merging ends so; the round's blocks are home all the
+    // same.
     fn put_round<K: Sink>(
         &mut self,
         worked: Result<Worked, AllocError>,
@@ -88,9 +95,12 @@ impl Rounds {
     ) -> Step
         requires out { IfOk worked (λ w. self.old.home + w.blocks ≤ self.old.blocks) }
         requires works { is_worked end ≡ true }
-        ensures puts { (bytes : List ℕ) → IfOk worked (λ w. worked_bytes file.now.order w ≡ bytes) → Puts (K.held sink.old) (K.held sink.new) bytes end result }
-        ensures flushed { IfEnds result (λ end. flushes (ending_of end) ≡ true → SaysFlushed (K.held sink.new) (K.is_flushed sink.new) true) }
-        ensures home { MatchResult worked (λ w. self.new ≡ record self.old { home = self.old.home + w.blocks }) (λ _. self.new ≡ self.old) }
+        ensures puts { (bytes : List ℕ) → IfOk worked (λ w. worked_bytes file.now.order w ≡ bytes)
+            → Puts (K.held sink.old) (K.held sink.new) bytes end result }
+        ensures flushed { IfEnds result (λ end. flushes (ending_of end) ≡ true
+            → SaysFlushed (K.held sink.new) (K.is_flushed sink.new) true) }
+        ensures home { MatchResult worked (λ w. self.new ≡ record self.old { home = self.old.home + w.blocks })
+            (λ _. self.new ≡ self.old) }
         ensures later { K.faults sink.old ≤ K.faults sink.new }
         ensures rose { IfEnds result (λ end. end ≡ MergeEnd.WriteFault → Rose (K.faults sink.old) (K.faults sink.new)) }
     {
@@ -106,7 +116,8 @@ impl Rounds {
         }
     }
 
-    // Gives up a round, behind `number` others, that exceeds the blocks or that there was no memory for. Nothing is written of it.
+    // Gives up a round, behind `number` others, that exceeds the blocks or that there was no memory for. Nothing is
+    // written of it.
     fn give_up<K: Sink>(
         &mut self,
         round: Round,
@@ -117,7 +128,8 @@ impl Rounds {
         requires out { self.old.home + round.blocks ≤ self.old.blocks }
         requires ends { is_worked end ≡ false }
         ensures gives { GivesUp (K.held sink.old) (K.held sink.new) number end result }
-        ensures flushed { flushes (ending_of result) ≡ true → SaysFlushed (K.held sink.new) (K.is_flushed sink.new) true }
+        ensures flushed { flushes (ending_of result) ≡ true
+            → SaysFlushed (K.held sink.new) (K.is_flushed sink.new) true }
         ensures home { self.new ≡ record self.old { home = self.old.home + round.blocks } }
         ensures later { K.faults sink.old ≤ K.faults sink.new }
         ensures rose { result ≡ MergeEnd.WriteFault → Rose (K.faults sink.old) (K.faults sink.new) }
@@ -137,8 +149,8 @@ impl Rounds {
         }
     }
 
-    /// Works and writes a round that was read, behind `number` others, and brings it home. One that exceeds the blocks or that there
-    /// was no memory for is given up: nothing is written of it.
+    /// Works and writes a round that was read, behind `number` others, and brings it home. One that exceeds the blocks
+    /// or that there was no memory for is given up: nothing is written of it.
     pub fn put_read<W: Works, K: Sink>(
         &mut self,
         works: &mut W,
@@ -148,9 +160,12 @@ impl Rounds {
         number: u64,
     ) -> Step
         requires out { self.old.home + read.round.blocks ≤ self.old.blocks }
-        ensures puts { is_worked read.end ≡ true → Puts (K.held sink.old) (K.held sink.new) (round_output (options_of self.old) file.now.order (map packet_of read.round.packets)) read.end result }
-        ensures gives { is_worked read.end ≡ false → (end : MergeEnd) × (result ≡ Step.Ends end) × GivesUp (K.held sink.old) (K.held sink.new) number read.end end }
-        ensures flushed { IfEnds result (λ end. flushes (ending_of end) ≡ true → SaysFlushed (K.held sink.new) (K.is_flushed sink.new) true) }
+        ensures puts { is_worked read.end ≡ true → Puts (K.held sink.old) (K.held sink.new)
+            (round_output (options_of self.old) file.now.order (map packet_of read.round.packets)) read.end result }
+        ensures gives { is_worked read.end ≡ false → (end : MergeEnd) × (result ≡ Step.Ends end)
+            × GivesUp (K.held sink.old) (K.held sink.new) number read.end end }
+        ensures flushed { IfEnds result (λ end. flushes (ending_of end) ≡ true
+            → SaysFlushed (K.held sink.new) (K.is_flushed sink.new) true) }
         ensures home { self.new ≡ record self.old { home = self.old.home + read.round.blocks } }
         ensures later { K.faults sink.old ≤ K.faults sink.new }
         ensures rose { IfEnds result (λ end. end ≡ MergeEnd.WriteFault → Rose (K.faults sink.old) (K.faults sink.new)) }
@@ -163,7 +178,8 @@ impl Rounds {
         self.put_round(worked, end, file, sink)
     }
 
-    /// Reads the next round, behind `number` others, works it and puts it. Of a round that exceeds the blocks nothing is written.
+    /// Reads the next round, behind `number` others, works it and puts it. Of a round that exceeds the blocks nothing
+    /// is written.
     pub fn step<W: Works, S: Source, K: Sink>(
         &mut self,
         works: &mut W,
@@ -177,30 +193,43 @@ impl Rounds {
         requires file { (place_of reader.old).file ≡ file.now }
         requires home { self.old.home ≡ self.old.blocks }
         ensures same_source { SameLoan reader.old reader.new }
-        ensures given { Told (S.left (source_of reader.old)) (S.left (source_of reader.new)) (Steps number self.old.blocks (options_of self.old) (place_of reader.old) (place_of reader.new) (K.held sink.old) (K.held sink.new) self.old.taken self.new.taken result) }
-        ensures front { IfEnds result (λ _. FrontUnless (Rose (S.faults (source_of reader.old)) (S.faults (source_of reader.new))) (merging self.old.blocks (options_of self.old) (place_of reader.old)) (S.left (source_of reader.old)) (S.left (source_of reader.new)) (K.held sink.old) (K.held sink.new)) }
+        ensures given { Told (S.left (source_of reader.old)) (S.left (source_of reader.new))
+            (Steps number self.old.blocks (options_of self.old) (place_of reader.old) (place_of reader.new)
+            (K.held sink.old) (K.held sink.new) self.old.taken self.new.taken result) }
+        ensures front { IfEnds result (λ _. FrontUnless
+            (Rose (S.faults (source_of reader.old)) (S.faults (source_of reader.new)))
+            (merging self.old.blocks (options_of self.old) (place_of reader.old)) (S.left (source_of reader.old))
+            (S.left (source_of reader.new)) (K.held sink.old) (K.held sink.new)) }
         ensures moves { result ≡ Step.Goes → MovesOn (place_of reader.old) (place_of reader.new) }
-        ensures flushed { IfEnds result (λ end. flushes (ending_of end) ≡ true → SaysFlushed (K.held sink.new) (K.is_flushed sink.new) true) }
+        ensures flushed { IfEnds result (λ end. flushes (ending_of end) ≡ true
+            → SaysFlushed (K.held sink.new) (K.is_flushed sink.new) true) }
         ensures home { self.new.home ≡ self.new.blocks }
-        ensures same { (self.new.blocks ≡ self.old.blocks) × (options_of self.new ≡ options_of self.old) × (self.new.keep ≡ self.old.keep) }
-        ensures taken { IfEnds result (λ end. end ≡ MergeEnd.Done → Told (S.left (source_of reader.old)) (S.left (source_of reader.new)) (TakesAll self.old.taken self.new.taken (place_of reader.old))) }
+        ensures same { (self.new.blocks ≡ self.old.blocks) × (options_of self.new ≡ options_of self.old)
+            × (self.new.keep ≡ self.old.keep) }
+        ensures taken { IfEnds result (λ end. end ≡ MergeEnd.Done
+            → Told (S.left (source_of reader.old)) (S.left (source_of reader.new))
+            (TakesAll self.old.taken self.new.taken (place_of reader.old))) }
         ensures least { self.old.taken ≤ self.new.taken }
-        ensures captured { IfEnds result (λ end. Told (S.left (source_of reader.old)) (S.left (source_of reader.new)) (EndsCaptured number (place_of reader.old) end)) }
+        ensures captured { IfEnds result (λ end. Told (S.left (source_of reader.old)) (S.left (source_of reader.new))
+            (EndsCaptured number (place_of reader.old) end)) }
         ensures later { S.faults (source_of reader.old) ≤ S.faults (source_of reader.new) }
         ensures later_sink { K.faults sink.old ≤ K.faults sink.new }
-        ensures read { IfEnds result (λ end. end ≡ MergeEnd.ReadFault → Rose (S.faults (source_of reader.old)) (S.faults (source_of reader.new))) }
-        ensures write { IfEnds result (λ end. end ≡ MergeEnd.WriteFault → Rose (K.faults sink.old) (K.faults sink.new)) }
+        ensures read { IfEnds result (λ end. end ≡ MergeEnd.ReadFault
+            → Rose (S.faults (source_of reader.old)) (S.faults (source_of reader.new))) }
+        ensures write { IfEnds result (λ end. end ≡ MergeEnd.WriteFault
+            → Rose (K.faults sink.old) (K.faults sink.new)) }
     {
         let read = self.read_round(reader);
         self.put_read(works, read, file, sink, number)
     }
 
-    /// Merges the records of a capture, round by round, up to its end: each round is read, worked, written and ended. The sink is
-    /// flushed once, after the last write.
+    /// Merges the records of a capture, round by round, up to its end: each round is read, worked, written and ended.
+    /// The sink is flushed once, after the last write.
     ///
-    /// `given` says of each ending what was read and written, `front` that this is a front of what comes of all the bytes that were
-    /// given, unless the source failed, and `captured` that the packets are such as a capture may hold. A read
-    /// fault or a write fault only where the count of the source or the sink rose. All blocks are home again, whatever the ending.
+    /// `given` says of each ending what was read and written, `front` that this is a front of what comes of all the
+    /// bytes that were given, unless the source failed, and `captured` that the packets are such as a capture may hold.
+    /// A read fault or a write fault only where the count of the source or the sink rose. All blocks are home again,
+    /// whatever the ending.
     pub fn merge_all<W: Works, S: Source, K: Sink>(
         &mut self,
         works: &mut W,
@@ -213,17 +242,27 @@ impl Rounds {
         requires file { (place_of reader.old).file ≡ file.now }
         requires home { self.old.home ≡ self.old.blocks }
         ensures same_source { SameLoan reader.old reader.new }
-        ensures given { Told (S.left (source_of reader.old)) (S.left (source_of reader.new)) (Passes (merging self.old.blocks (options_of self.old) (place_of reader.old)) (K.held sink.old) (K.held sink.new) (ending_of result)) }
-        ensures front { FrontUnless (Rose (S.faults (source_of reader.old)) (S.faults (source_of reader.new))) (merging self.old.blocks (options_of self.old) (place_of reader.old)) (S.left (source_of reader.old)) (S.left (source_of reader.new)) (K.held sink.old) (K.held sink.new) }
-        ensures flushed { flushes (ending_of result) ≡ true → SaysFlushed (K.held sink.new) (K.is_flushed sink.new) true }
+        ensures given { Told (S.left (source_of reader.old)) (S.left (source_of reader.new))
+            (Passes (merging self.old.blocks (options_of self.old) (place_of reader.old)) (K.held sink.old)
+            (K.held sink.new) (ending_of result)) }
+        ensures front { FrontUnless (Rose (S.faults (source_of reader.old)) (S.faults (source_of reader.new)))
+            (merging self.old.blocks (options_of self.old) (place_of reader.old)) (S.left (source_of reader.old))
+            (S.left (source_of reader.new)) (K.held sink.old) (K.held sink.new) }
+        ensures flushed { flushes (ending_of result) ≡ true
+            → SaysFlushed (K.held sink.new) (K.is_flushed sink.new) true }
         ensures home { self.new.home ≡ self.new.blocks }
-        ensures same { (self.new.blocks ≡ self.old.blocks) × (options_of self.new ≡ options_of self.old) × (self.new.keep ≡ self.old.keep) }
-        ensures taken { result ≡ MergeEnd.Done → Told (S.left (source_of reader.old)) (S.left (source_of reader.new)) (λ bytes left. min (self.old.taken + round_need (found_at (place_of reader.old) bytes).packets) (2 ^ 64 - 1) ≤ self.new.taken) }
+        ensures same { (self.new.blocks ≡ self.old.blocks) × (options_of self.new ≡ options_of self.old)
+            × (self.new.keep ≡ self.old.keep) }
+        ensures taken { result ≡ MergeEnd.Done → Told (S.left (source_of reader.old)) (S.left (source_of reader.new))
+            (λ bytes left. min (self.old.taken + round_need (found_at (place_of reader.old) bytes).packets) (2 ^ 64 - 1)
+            ≤ self.new.taken) }
         ensures least { self.old.taken ≤ self.new.taken }
-        ensures captured { Told (S.left (source_of reader.old)) (S.left (source_of reader.new)) (HoldsCaptured self.old.blocks self.old.budget (place_of reader.old) result) }
+        ensures captured { Told (S.left (source_of reader.old)) (S.left (source_of reader.new))
+            (HoldsCaptured self.old.blocks self.old.budget (place_of reader.old) result) }
         ensures later { S.faults (source_of reader.old) ≤ S.faults (source_of reader.new) }
         ensures later_sink { K.faults sink.old ≤ K.faults sink.new }
-        ensures read { result ≡ MergeEnd.ReadFault → Rose (S.faults (source_of reader.old)) (S.faults (source_of reader.new)) }
+        ensures read { result ≡ MergeEnd.ReadFault → Rose (S.faults (source_of reader.old))
+            (S.faults (source_of reader.new)) }
         ensures write { result ≡ MergeEnd.WriteFault → Rose (K.faults sink.old) (K.faults sink.new) }
     {
         let mut number = 0;

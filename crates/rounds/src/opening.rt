@@ -9,7 +9,8 @@ use frags::Outcomes;
 use pcap_io::{AnyHead, OFF_HEAD_LEN, OFF_HEAD2_LEN};
 use skb::Skb;
 
-// The bytes of an offload header of version 2 that version 1 doesn't have: they lie in the blocks, in front of the frame.
+// The bytes of an offload header of version 2 that version 1 doesn't have: they lie in the blocks, in front of the
+// frame.
 const BEHIND_FRONT: usize = OFF_HEAD2_LEN - OFF_HEAD_LEN;
 
 // All bytes of an offload header of version 2.
@@ -22,7 +23,8 @@ fn joined(front: &[u8; OFF_HEAD_LEN], rest: &[u8; BEHIND_FRONT]) -> [u8; OFF_HEA
     bytes
 }
 
-// The offload header of a record whose first bytes are `front`, and the others the buffer's. `None` where it isn't there.
+// The offload header of a record whose first bytes are `front`, and the others the buffer's. `None` where it isn't
+// there.
 fn read_head(front: &[u8; OFF_HEAD_LEN], skb: &Skb) -> Option<AnyHead>
     requires long { length front.now ≡ off_head_size }
     requires front { min (buffer_size skb.now) (2048 - 64) ≤ head_size skb.now }

@@ -42,8 +42,9 @@ pub(crate) enum Halt {
     Lacking,
 }
 
-/// Reads on behind the packets that a round has already, with `used` blocks, until there are `budget` of them, or no more: the blocks
-/// that they then have, and why. Before each record blocks come home where it might lack some; `Lacking` where it still might.
+/// Reads on behind the packets that a round has already, with `used` blocks, until there are `budget` of them, or no
+/// more: the blocks that they then have, and why. Before each record blocks come home where it might lack some;
+/// `Lacking` where it still might.
 pub(crate) fn read_more<S: Source, H: Homecoming>(
     alloc: Global,
     pool: &mut Pool,
@@ -68,11 +69,15 @@ pub(crate) fn read_more<S: Source, H: Homecoming>(
     requires need { used ≡ round_need (map packet_of packets.old.items) }
     requires within { used ≤ pool.old.made }
     ensures same_source { SameLoan reader.old reader.new }
-    ensures given { Told (S.left (source_of reader.old)) (S.left (source_of reader.new)) (GivesMore pool.old.made (place_of reader.old) (place_of reader.new) packets.old.items packets.new.items result.1) }
+    ensures given { Told (S.left (source_of reader.old)) (S.left (source_of reader.new))
+        (GivesMore pool.old.made (place_of reader.old) (place_of reader.new) packets.old.items packets.new.items
+        result.1) }
     ensures size { length packets.new.items ≤ budget }
     ensures fewer { result.1 ≢ Halt.Ended RoundEnd.Full → length packets.new.items < budget }
-    ensures full { result.1 ≡ Halt.Ended RoundEnd.Full → FillsRound (place_of reader.old) (place_of reader.new) packets.old.items packets.new.items budget }
-    ensures lacking { result.1 ≡ Halt.Lacking → GoesOver (place_of reader.old) (place_of reader.new) packets.old.items packets.new.items }
+    ensures full { result.1 ≡ Halt.Ended RoundEnd.Full → FillsRound (place_of reader.old)
+        (place_of reader.new) packets.old.items packets.new.items budget }
+    ensures lacking { result.1 ≡ Halt.Lacking → GoesOver (place_of reader.old)
+        (place_of reader.new) packets.old.items packets.new.items }
     ensures wanted { result.1 ≡ Halt.Lacking → (home pool.new < 131) × (home pool.new + result.0 < pool.old.made) }
     ensures fresh { IsFresh 0 result.0 (of_packets packets.new.items) }
     ensures count { counts_of packets.new.items ≡ result.0 }
@@ -90,7 +95,8 @@ pub(crate) fn read_more<S: Source, H: Homecoming>(
     ensures empty { hold.new.items ≡ [] }
     ensures capacity { deque_capacity hold.new ≡ deque_capacity hold.old }
     ensures later { S.faults (source_of reader.old) ≤ S.faults (source_of reader.new) }
-    ensures failed { result.1 ≡ Halt.Ended RoundEnd.ReadFault → Rose (S.faults (source_of reader.old)) (S.faults (source_of reader.new)) }
+    ensures failed { result.1 ≡ Halt.Ended RoundEnd.ReadFault
+        → Rose (S.faults (source_of reader.old)) (S.faults (source_of reader.new)) }
 {
     let mut used = used;
     'reading: while packets.len() < budget {
@@ -107,8 +113,8 @@ pub(crate) fn read_more<S: Source, H: Homecoming>(
     (used, Halt::Ended(RoundEnd::Full))
 }
 
-/// Reads the records of a round, up to `budget` of them: the blocks that they have, and why there are no more. `NoMemory` also where
-/// blocks are wanted that are out.
+/// Reads the records of a round, up to `budget` of them: the blocks that they have, and why there are no more.
+/// `NoMemory` also where blocks are wanted that are out.
 pub(crate) fn read_records<S: Source, H: Homecoming>(
     alloc: Global,
     pool: &mut Pool,
@@ -126,10 +132,12 @@ pub(crate) fn read_records<S: Source, H: Homecoming>(
     requires none { packets.old.items ≡ [] }
     requires reserved { budget ≤ deque_capacity packets.old }
     ensures same_source { SameLoan reader.old reader.new }
-    ensures given { Told (S.left (source_of reader.old)) (S.left (source_of reader.new)) (GivesRound pool.old.made (place_of reader.old) (place_of reader.new) packets.new.items result.1) }
+    ensures given { Told (S.left (source_of reader.old)) (S.left (source_of reader.new))
+        (GivesRound pool.old.made (place_of reader.old) (place_of reader.new) packets.new.items result.1) }
     ensures size { length packets.new.items ≤ budget }
     ensures fewer { result.1 ≢ RoundEnd.Full → length packets.new.items < budget }
-    ensures full { result.1 ≡ RoundEnd.Full → PassesRound (place_of reader.old) (place_of reader.new) packets.new.items budget }
+    ensures full { result.1 ≡ RoundEnd.Full → PassesRound (place_of reader.old)
+        (place_of reader.new) packets.new.items budget }
     ensures fresh { IsFresh 0 result.0 (of_packets packets.new.items) }
     ensures count { counts_of packets.new.items ≡ result.0 }
     ensures read { AreRead packets.new.items }
@@ -145,7 +153,8 @@ pub(crate) fn read_records<S: Source, H: Homecoming>(
     ensures empty { hold.new.items ≡ [] }
     ensures capacity { deque_capacity hold.new ≡ deque_capacity hold.old }
     ensures later { S.faults (source_of reader.old) ≤ S.faults (source_of reader.new) }
-    ensures failed { result.1 ≡ RoundEnd.ReadFault → Rose (S.faults (source_of reader.old)) (S.faults (source_of reader.new)) }
+    ensures failed { result.1 ≡ RoundEnd.ReadFault → Rose (S.faults (source_of reader.old))
+        (S.faults (source_of reader.new)) }
 {
     let (blocks, halt) = read_more(alloc, pool, hold, reader, more, budget, packets, 0);
     match halt {

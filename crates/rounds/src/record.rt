@@ -67,7 +67,8 @@ fn read_packet<S: Source>(
     requires room { used + need_of len ≤ pool.old.made }
     requires made { pool.old.made ≤ 65536 }
     ensures same_source { SameLoan reader.old reader.new }
-    ensures given { Told (S.left (source_of reader.old)) (S.left (source_of reader.new)) (GivesPacket (place_of reader.old) head.now front.new result) }
+    ensures given { Told (S.left (source_of reader.old)) (S.left (source_of reader.new))
+        (GivesPacket (place_of reader.old) head.now front.new result) }
     ensures place { OnOk result (ReadsOn (place_of reader.old) (place_of reader.new) head.now.captured) }
     ensures front { length front.new ≡ length front.old }
     ensures fresh { IfOk result (λ p. IsFresh used (need_of len) (of_packet p)) }
@@ -84,7 +85,8 @@ fn read_packet<S: Source>(
     ensures empty { hold.new.items ≡ [] }
     ensures capacity { deque_capacity hold.new ≡ deque_capacity hold.old }
     ensures later { S.faults (source_of reader.old) ≤ S.faults (source_of reader.new) }
-    ensures failed { result ≡ Err Stop.ReadFault → Rose (S.faults (source_of reader.old)) (S.faults (source_of reader.new)) }
+    ensures failed { result ≡ Err Stop.ReadFault → Rose (S.faults (source_of reader.old))
+        (S.faults (source_of reader.new)) }
 {
     let data = blocks_of(len);
     take_blocks(pool, hold, data + 2, used);
@@ -104,11 +106,11 @@ fn read_packet<S: Source>(
     }
 }
 
-/// Reads the next record: `front`, where its link type has bytes in front of a frame, and the frame into blocks with marks from
-/// `used` on; and says where in the capture its header lies.
+/// Reads the next record: `front`, where its link type has bytes in front of a frame, and the frame into blocks with
+/// marks from `used` on; and says where in the capture its header lies.
 ///
-/// It is judged in this order: its header, whether the round then needs more blocks than there are, its body. A record that
-/// isn't given leaves all blocks home that were.
+/// It is judged in this order: its header, whether the round then needs more blocks than there are, its body. A record
+/// that isn't given leaves all blocks home that were.
 pub(crate) fn read_placed<S: Source>(
     alloc: Global,
     pool: &mut Pool,
@@ -125,13 +127,15 @@ pub(crate) fn read_placed<S: Source>(
     requires few { used ≤ pool.old.made }
     requires made { pool.old.made ≤ 65536 }
     ensures same_source { SameLoan reader.old reader.new }
-    ensures given { Told (S.left (source_of reader.old)) (S.left (source_of reader.new)) (GivesRecord used pool.old.made (place_of reader.old) (place_of reader.new) front.new (record_in result)) }
+    ensures given { Told (S.left (source_of reader.old)) (S.left (source_of reader.new))
+        (GivesRecord used pool.old.made (place_of reader.old) (place_of reader.new) front.new (record_in result)) }
     ensures next { OnOk result (GoesOn (place_of reader.old) (place_of reader.new)) }
     ensures front { length front.new ≡ length front.old }
     ensures number { IfOk result (λ r. r.0.number ≡ (place_of reader.old).number) }
     ensures original { IfOk result (λ r. is_bad_original (place_of reader.old).link r.0.original ≡ false) }
     ensures offset { IfOk result (λ r. r.1 ≡ (place_of reader.old).offset) }
-    ensures behind { IfOk result (λ r. (place_of reader.new).offset ≡ (place_of reader.old).offset + 16 + (length front.new + length (buffer_bytes r.0.skb))) }
+    ensures behind { IfOk result (λ r. (place_of reader.new).offset ≡ (place_of reader.old).offset + 16
+        + (length front.new + length (buffer_bytes r.0.skb))) }
     ensures fresh { IfOk result (λ r. IsFresh used (count_of r.0) (of_packet r.0)) }
     ensures read { IfOk result (λ r. IsRead r.0) }
     ensures captured { IfOk result (λ r. (place_of reader.old).link ≡ Ethernet → IsCaptured (packet_of r.0)) }
@@ -146,7 +150,8 @@ pub(crate) fn read_placed<S: Source>(
     ensures empty { hold.new.items ≡ [] }
     ensures capacity { deque_capacity hold.new ≡ deque_capacity hold.old }
     ensures later { S.faults (source_of reader.old) ≤ S.faults (source_of reader.new) }
-    ensures failed { result ≡ Err Stop.ReadFault → Rose (S.faults (source_of reader.old)) (S.faults (source_of reader.new)) }
+    ensures failed { result ≡ Err Stop.ReadFault → Rose (S.faults (source_of reader.old))
+        (S.faults (source_of reader.new)) }
 {
     let _ = pool.taken();
     let _ = pool.home();
@@ -185,7 +190,8 @@ pub(crate) fn read_record<S: Source>(
     requires few { used ≤ pool.old.made }
     requires made { pool.old.made ≤ 65536 }
     ensures same_source { SameLoan reader.old reader.new }
-    ensures given { Told (S.left (source_of reader.old)) (S.left (source_of reader.new)) (GivesRecord used pool.old.made (place_of reader.old) (place_of reader.new) front.new result) }
+    ensures given { Told (S.left (source_of reader.old)) (S.left (source_of reader.new))
+        (GivesRecord used pool.old.made (place_of reader.old) (place_of reader.new) front.new result) }
     ensures next { OnOk result (GoesOn (place_of reader.old) (place_of reader.new)) }
     ensures front { length front.new ≡ length front.old }
     ensures number { IfOk result (λ p. p.number ≡ (place_of reader.old).number) }
@@ -203,7 +209,8 @@ pub(crate) fn read_record<S: Source>(
     ensures empty { hold.new.items ≡ [] }
     ensures capacity { deque_capacity hold.new ≡ deque_capacity hold.old }
     ensures later { S.faults (source_of reader.old) ≤ S.faults (source_of reader.new) }
-    ensures failed { result ≡ Err Stop.ReadFault → Rose (S.faults (source_of reader.old)) (S.faults (source_of reader.new)) }
+    ensures failed { result ≡ Err Stop.ReadFault → Rose (S.faults (source_of reader.old))
+        (S.faults (source_of reader.new)) }
 {
     match read_placed(alloc, pool, hold, reader, front, used) {
         Ok((packet, _)) => Ok(packet),

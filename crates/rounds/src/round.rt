@@ -30,7 +30,10 @@ impl Model for Round {
 
     ghost view = { λ r. record { packets = r.packets.items; blocks = r.blocks } };
 
-    ghost invariant = { λ r. IsFresh 0 r.blocks (of_packets r.packets.items) × AreRead r.packets.items × (counts_of r.packets.items ≡ r.blocks) × ((k : ℕ) × NumberedFrom k r.packets.items) × AllByRecursion IsCaptured (map packet_of r.packets.items) × (r.blocks ≡ round_need (map packet_of r.packets.items)) };
+    ghost invariant = { λ r. IsFresh 0 r.blocks (of_packets r.packets.items) × AreRead r.packets.items
+        × (counts_of r.packets.items ≡ r.blocks) × ((k : ℕ) × NumberedFrom k r.packets.items)
+        × AllByRecursion IsCaptured (map packet_of r.packets.items)
+        × (r.blocks ≡ round_need (map packet_of r.packets.items)) };
 }
 
 impl Round {
@@ -76,7 +79,9 @@ impl Model for Worked {
 
     ghost view = { λ w. record { items = w.items.items; lanes = w.lanes; kept = w.kept.items; blocks = w.blocks } };
 
-    ghost invariant = { λ w. IsRound w.blocks (of_work w.items.items w.lanes w.kept.items) × (count_of_work w.items.items w.lanes w.kept.items ≤ w.blocks + w.blocks) × AreSpent w.lanes.taps.items × IsSmallWork w.items.items w.lanes };
+    ghost invariant = { λ w. IsRound w.blocks (of_work w.items.items w.lanes w.kept.items)
+        × (count_of_work w.items.items w.lanes w.kept.items ≤ w.blocks + w.blocks) × AreSpent w.lanes.taps.items
+        × IsSmallWork w.items.items w.lanes };
 }
 
 /// Why a round has no more records.
@@ -102,7 +107,8 @@ pub struct RoundRead {
 /// What was read beside the work of another round.
 pub enum ReadAhead {
     Read(RoundRead),
-    /// Blocks of the other round were wanted. The reader stands behind the last record of this one, and [`Rounds::read_rest`](crate::Rounds::read_rest) goes on.
+    /// Blocks of the other round were wanted. The reader stands behind the last record of this one, and
+    /// [`Rounds::read_rest`](crate::Rounds::read_rest) goes on.
     Paused(Round),
 }
 

@@ -73,9 +73,20 @@ impl Model for Rounds {
 
     ghost Value = { RoundsState };
 
-    ghost view = { λ r. record { home = home_of r.pool; blocks = r.pool.made; taken = r.pool.taken; budget = r.budget; plan = r.plan; keep = r.keep } };
+    ghost view = { λ r. record {
+      home = home_of r.pool;
+      blocks = r.pool.made;
+      taken = r.pool.taken;
+      budget = r.budget;
+      plan = r.plan;
+      keep = r.keep;
+    } };
 
-    ghost invariant = { λ r. (r.pool.made ≤ 65536) × (r.hold.items ≡ []) × (131 ≤ deque_capacity r.hold) × AllOpen r.places.items × (length r.places.items ≡ r.pool.made) × IsBare r.out × (r.pool.made + r.pool.made ≤ r.out.spare + (home_of r.pool + home_of r.pool)) × (r.packets.items ≡ []) × (r.items.items ≡ []) × (r.table.runs ≡ []) × (1 ≤ r.budget) × (r.budget ≤ 4096) × IsPlan r.plan × (r.table.segs ≡ r.plan.segs) };
+    ghost invariant = { λ r. (r.pool.made ≤ 65536) × (r.hold.items ≡ []) × (131 ≤ deque_capacity r.hold)
+        × AllOpen r.places.items × (length r.places.items ≡ r.pool.made) × IsBare r.out
+        × (r.pool.made + r.pool.made ≤ r.out.spare + (home_of r.pool + home_of r.pool)) × (r.packets.items ≡ [])
+        × (r.items.items ≡ []) × (r.table.runs ≡ []) × (1 ≤ r.budget) × (r.budget ≤ 4096) × IsPlan r.plan
+        × (r.table.segs ≡ r.plan.segs) };
 }
 
 impl Drop for Rounds {
@@ -123,9 +134,9 @@ fn round_lists(
 
 impl Rounds {
     /// Rounds of up to `budget` records over `blocks` blocks, whose work is divided by `plan`. Where `keep`, a clone of
-    /// each packet stands beside the work of its round, for [`Rounds::check_round`]. All memory for blocks, for what comes
-    /// back of them and for the packets of a round is taken here; the lanes of several queues or of taps, and clones that
-    /// are kept, take more in each round.
+    /// each packet stands beside the work of its round, for [`Rounds::check_round`]. All memory for blocks, for what
+    /// comes back of them and for the packets of a round is taken here; the lanes of several queues or of taps, and
+    /// clones that are kept, take more in each round.
     pub fn make(
         alloc: Global,
         blocks: u32,
@@ -136,7 +147,14 @@ impl Rounds {
         requires blocks { (1 ≤ blocks) × (blocks ≤ 65536) }
         requires budget { (1 ≤ budget) × (budget ≤ 4096) }
         requires plan { IsPlan plan }
-        ensures made { IfOk result (λ rounds. rounds ≡ record { home = blocks; blocks = blocks; taken = 0; budget = budget; plan = plan; keep = keep }) }
+        ensures made { IfOk result (λ rounds. rounds ≡ record {
+          home = blocks;
+          blocks = blocks;
+          taken = 0;
+          budget = budget;
+          plan = plan;
+          keep = keep;
+        }) }
     {
         let hold = VecDeque::with_capacity(alloc, RECORD_BLOCKS)?;
         let pool = Pool::make(alloc, blocks)?;
@@ -195,28 +213,34 @@ impl Rounds {
         self.plan.queues + self.plan.taps
     }
 
-    /// Reads the next `budget` records, or fewer where the capture ends, is refused or its source fails, where the round would
-    /// need more blocks than there are, or for want of memory. A record that isn't given leaves no block out.
+    /// Reads the next `budget` records, or fewer where the capture ends, is refused or its source fails, where the
+    /// round would need more blocks than there are, or for want of memory. A record that isn't given leaves no block
+    /// out.
     pub fn read_round<S: Source>(&mut self, reader: &mut CaptureReader<'_, S>) -> RoundRead
         requires ready { IsReady (place_of reader.old) }
         requires link { (place_of reader.old).link ≡ Ethernet }
         requires home { self.old.home ≡ self.old.blocks }
         ensures same_source { SameLoan reader.old reader.new }
-        ensures given { Told (S.left (source_of reader.old)) (S.left (source_of reader.new)) (GivesRound self.old.blocks (place_of reader.old) (place_of reader.new) result.round.packets result.end) }
+        ensures given { Told (S.left (source_of reader.old)) (S.left (source_of reader.new))
+            (GivesRound self.old.blocks (place_of reader.old) (place_of reader.new) result.round.packets result.end) }
         ensures size { length result.round.packets ≤ self.old.budget }
-        ensures fewer { (result.end ≢ RoundEnd.Full) → (result.end ≢ RoundEnd.NoMemory) → length result.round.packets < self.old.budget }
-        ensures full { result.end ≡ RoundEnd.Full → PassesRound (place_of reader.old) (place_of reader.new) result.round.packets self.old.budget }
+        ensures fewer { (result.end ≢ RoundEnd.Full) → (result.end ≢ RoundEnd.NoMemory)
+            → length result.round.packets < self.old.budget }
+        ensures full { result.end ≡ RoundEnd.Full → PassesRound (place_of reader.old)
+            (place_of reader.new) result.round.packets self.old.budget }
         ensures captured { AllByRecursion IsCaptured (map packet_of result.round.packets) }
         ensures numbers { NumberedFrom (place_of reader.old).number result.round.packets }
         ensures need { result.round.blocks ≡ round_need (map packet_of result.round.packets) }
         ensures home { self.new.home + result.round.blocks ≡ self.old.blocks }
-        ensures same { (self.new.blocks ≡ self.old.blocks) × (options_of self.new ≡ options_of self.old) × (self.new.keep ≡ self.old.keep) }
+        ensures same { (self.new.blocks ≡ self.old.blocks) × (options_of self.new ≡ options_of self.old)
+            × (self.new.keep ≡ self.old.keep) }
         ensures budget { (1 ≤ self.old.budget) × (self.old.budget ≤ 4096) }
         ensures taken { min (self.old.taken + result.round.blocks) (2 ^ 64 - 1) ≤ self.new.taken }
         ensures least { self.old.taken ≤ self.new.taken }
         ensures most { self.new.taken ≤ self.old.taken + self.old.blocks }
         ensures later { S.faults (source_of reader.old) ≤ S.faults (source_of reader.new) }
-        ensures failed { result.end ≡ RoundEnd.ReadFault → Rose (S.faults (source_of reader.old)) (S.faults (source_of reader.new)) }
+        ensures failed { result.end ≡ RoundEnd.ReadFault
+            → Rose (S.faults (source_of reader.old)) (S.faults (source_of reader.new)) }
     {
         let _ = self.pool.taken();
         let most = 2 * self.pool.made() as usize;
@@ -243,7 +267,8 @@ impl Rounds {
         }
     }
 
-    /// Writes what a round came to: queue by queue each item as a record, and then tap by tap its windows. The sink isn't flushed.
+    /// Writes what a round came to: queue by queue each item as a record, and then tap by tap its windows. The sink
+    /// isn't flushed.
     ///
     /// `WriteFault` only where the sink's count of faults rose; a front of the round's output was then written.
     pub fn write_round<K: Sink>(
@@ -252,8 +277,10 @@ impl Rounds {
         file: &FileHead,
         sink: &mut K,
     ) -> Result<(), WriteFault>
-        ensures ok { OnOk result (Appends (K.held sink.old) (K.held sink.new) (worked_bytes file.now.order worked.now)) }
-        ensures err { OnErr result (AppendsFront (K.held sink.old) (K.held sink.new) (worked_bytes file.now.order worked.now)) }
+        ensures ok { OnOk result (Appends (K.held sink.old) (K.held sink.new)
+            (worked_bytes file.now.order worked.now)) }
+        ensures err { OnErr result (AppendsFront (K.held sink.old) (K.held sink.new)
+            (worked_bytes file.now.order worked.now)) }
         ensures cause { HasCause (K.faults sink.old) (K.faults sink.new) result }
     {
         write_work(sink, file, &worked.items, &worked.lanes)
@@ -277,8 +304,10 @@ impl Rounds {
         blocks: u32,
     )
         requires out { self.old.home + blocks ≤ self.old.blocks }
-        requires round { IsRound blocks (both (of_packets packets.items) (both (of_lanes lanes) (of_clones kept.items))) }
-        requires counts { counts_of packets.items + (counts_of_queues lanes.queues.items + blocks_of kept.items) ≤ blocks + blocks }
+        requires round { IsRound blocks (both (of_packets packets.items)
+            (both (of_lanes lanes) (of_clones kept.items))) }
+        requires counts { counts_of packets.items + (counts_of_queues lanes.queues.items + blocks_of kept.items)
+            ≤ blocks + blocks }
         requires spent { AreSpent lanes.taps.items }
         ensures home { self.new ≡ record self.old { home = self.old.home + blocks } }
     {

@@ -72,7 +72,8 @@ impl Model for SegmentRun {
 
     ghost view = { λ r. record { home = home_of r.pool; blocks = r.pool.made; taken = r.pool.taken } };
 
-    ghost invariant = { λ r. (r.pool.made ≤ 65536) × (r.hold.items ≡ []) × (131 ≤ deque_capacity r.hold) × AllOpen r.places.items × (length r.places.items ≡ r.pool.made) × IsBare r.out };
+    ghost invariant = { λ r. (r.pool.made ≤ 65536) × (r.hold.items ≡ []) × (131 ≤ deque_capacity r.hold)
+        × AllOpen r.places.items × (length r.places.items ≡ r.pool.made) × IsBare r.out };
 }
 
 impl Drop for SegmentRun {
@@ -156,12 +157,12 @@ impl SegmentRun {
         self.pool.taken()
     }
 
-    /// Segments the next record: it is read into blocks, judged as a whole, and its segments are written, each behind its record
-    /// header. The sink isn't flushed.
+    /// Segments the next record: it is read into blocks, judged as a whole, and its segments are written, each behind
+    /// its record header. The sink isn't flushed.
     ///
-    /// A record is judged in this order: its header, whether it needs more blocks than there are, its body, its offload header and
-    /// frame. A read fault or a write fault only where the count of the source or the sink rose. All blocks are home again,
-    /// whatever the answer.
+    /// A record is judged in this order: its header, whether it needs more blocks than there are, its body, its offload
+    /// header and frame. A read fault or a write fault only where the count of the source or the sink rose. All blocks
+    /// are home again, whatever the answer.
     pub fn next<S: Source, K: Sink>(
         &mut self,
         reader: &mut CaptureReader<'_, S>,
@@ -171,16 +172,20 @@ impl SegmentRun {
         requires link { (place_of reader.old).link ≡ Offload }
         requires home { self.old.home ≡ self.old.blocks }
         ensures same_source { SameLoan reader.old reader.new }
-        ensures given { Told (S.left (source_of reader.old)) (S.left (source_of reader.new)) (Moves self.old.blocks (place_of reader.old) (place_of reader.new) (K.held sink.old) (K.held sink.new) result) }
+        ensures given { Told (S.left (source_of reader.old)) (S.left (source_of reader.new))
+            (Moves self.old.blocks (place_of reader.old) (place_of reader.new) (K.held sink.old)
+            (K.held sink.new) result) }
         ensures next { result ≡ Ok Moved.One → GoesOn (place_of reader.old) (place_of reader.new) }
         ensures home { self.new.home ≡ self.new.blocks }
         ensures same { self.new.blocks ≡ self.old.blocks }
-        ensures taken { result ≡ Ok Moved.One → Told (S.left (source_of reader.old)) (S.left (source_of reader.new)) (TakesOne self.old.taken self.new.taken (place_of reader.old) (place_of reader.new)) }
+        ensures taken { result ≡ Ok Moved.One → Told (S.left (source_of reader.old)) (S.left (source_of reader.new))
+            (TakesOne self.old.taken self.new.taken (place_of reader.old) (place_of reader.new)) }
         ensures least { self.old.taken ≤ self.new.taken }
         ensures most { self.new.taken ≤ self.old.taken + self.old.blocks }
         ensures later { S.faults (source_of reader.old) ≤ S.faults (source_of reader.new) }
         ensures later_sink { K.faults sink.old ≤ K.faults sink.new }
-        ensures read { result ≡ Err SegFault.ReadFault → Rose (S.faults (source_of reader.old)) (S.faults (source_of reader.new)) }
+        ensures read { result ≡ Err SegFault.ReadFault → Rose (S.faults (source_of reader.old))
+            (S.faults (source_of reader.new)) }
         ensures write { result ≡ Err SegFault.WriteFault → Rose (K.faults sink.old) (K.faults sink.new) }
     {
         let _ = self.pool.taken();

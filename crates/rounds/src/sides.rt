@@ -11,10 +11,16 @@ use std::alloc::AllocError;
 use std::collections::VecDeque;
 
 impl Rounds {
-    /// Parts the side that reads from the side that works: all blocks go with it. Neither has them where there is no memory.
+    /// Parts the side that reads from the side that works: all blocks go with it. Neither has them where there is no
+    /// memory.
     pub fn part(&mut self) -> Result<Intake, AllocError>
         requires home { self.old.home ≡ self.old.blocks }
-        ensures intake { IfOk result (λ i. i ≡ record { home = self.old.blocks; blocks = self.old.blocks; taken = self.old.taken; budget = self.old.budget }) }
+        ensures intake { IfOk result (λ i. i ≡ record {
+          home = self.old.blocks;
+          blocks = self.old.blocks;
+          taken = self.old.taken;
+          budget = self.old.budget;
+        }) }
         ensures ok { OnOk result (self.new ≡ record self.old { home = 0; taken = 0 }) }
         ensures err { OnErr result (self.new ≡ self.old) }
     {
@@ -23,7 +29,12 @@ impl Rounds {
 
     // The same, of the blocks that are home: others may be out.
     pub(crate) fn split(&mut self) -> Result<Intake, AllocError>
-        ensures intake { IfOk result (λ i. i ≡ record { home = self.old.home; blocks = self.old.blocks; taken = self.old.taken; budget = self.old.budget }) }
+        ensures intake { IfOk result (λ i. i ≡ record {
+          home = self.old.home;
+          blocks = self.old.blocks;
+          taken = self.old.taken;
+          budget = self.old.budget;
+        }) }
         ensures ok { OnOk result (self.new ≡ record self.old { home = 0; taken = 0 }) }
         ensures err { OnErr result (self.new ≡ self.old) }
     {
@@ -55,11 +66,12 @@ impl Rounds {
         self.pool.refill(&mut here);
     }
 
-    /// What came home since the last call, for the side that reads; what comes home from now on lies in `shelf`. Where there is no
-    /// memory for what may be given back of all blocks the shelf comes back.
+    /// What came home since the last call, for the side that reads; what comes home from now on lies in `shelf`. Where
+    /// there is no memory for what may be given back of all blocks the shelf comes back.
     pub fn hand_home(&mut self, shelf: Pool) -> Result<Pool, (Pool, AllocError)>
         requires shelf { (home shelf ≡ 0) × (shelf.made ≡ self.old.blocks) }
-        ensures home { MatchResult result (λ p. (home p ≡ self.old.home) × (p.made ≡ self.old.blocks) × (p.taken ≡ self.old.taken)) (λ e. e.0 ≡ shelf) }
+        ensures home { MatchResult result (λ p. (home p ≡ self.old.home) × (p.made ≡ self.old.blocks)
+            × (p.taken ≡ self.old.taken)) (λ e. e.0 ≡ shelf) }
         ensures ok { OnOk result (self.new ≡ record self.old { home = 0; taken = shelf.taken }) }
         ensures err { OnErr result (self.new ≡ self.old) }
     {

@@ -5,7 +5,8 @@ ghost use Rattle.frags.specs.Account.{both, of_sole, of_receipt, of_outcomes};
 ghost use Rattle.frags.specs.RoundAccount.{Settles};
 ghost use Rattle.rounds.specs.Marks.{IsMarked, nothing};
 ghost use Rattle.frags.specs.OutcomesState.{IsBare};
-ghost use Rattle.rounds.specs.Table.{place_at, place_missing, of_places, AreOwed, AllHome, AllOpen, missing, IsOfLife, Receives, MayCome, Comes};
+ghost use Rattle.rounds.specs.Table.{place_at, place_missing, of_places, AreOwed, AllHome, AllOpen, missing, IsOfLife};
+ghost use Rattle.rounds.specs.Table.{Receives, MayCome, Comes};
 
 use block_pool::Pool;
 use core::mem::{replace, replace_with};
@@ -22,7 +23,8 @@ pub(crate) enum Place {
     Owed(Receipt),
 }
 
-// A Sole goes home. Where its block is there already it is dropped: the account doesn't exclude this, and nothing lacks it.
+// A Sole goes home. Where its block is there already it is dropped: the account doesn't exclude this, and nothing lacks
+// it.
 fn bring(pool: &mut Pool, place: &mut Place, sole: Sole)
     requires room { home pool.old + place_missing place.old ≤ pool.old.made }
     ensures place { place.new ≡ Place.Home }
@@ -87,7 +89,8 @@ fn receive_one(places: &mut [Place], receipt: Receipt)
     requires range { receipt.mark < length places.old }
     requires life { IsOfLife (place_at places.old receipt.mark) receipt }
     requires owed { AreOwed places.old }
-    ensures settles { Settles (length places.old) (both (of_places places.old) (of_receipt receipt)) (of_places places.new) }
+    ensures settles { Settles (length places.old) (both (of_places places.old) (of_receipt receipt))
+        (of_places places.new) }
     ensures count { missing places.new ≡ missing places.old }
     ensures size { length places.new ≡ length places.old }
     ensures owed { AreOwed places.new }
@@ -99,7 +102,8 @@ fn receive_one(places: &mut [Place], receipt: Receipt)
 // The Soles of what was given back go home.
 fn sweep_soles(pool: &mut Pool, places: &mut [Place], out: &mut Outcomes)
     requires room { home pool.old + missing places.old ≤ pool.old.made }
-    ensures settles { Settles (length places.old) (both (of_places places.old) (of_outcomes out.old)) (both (of_places places.new) (of_outcomes out.new)) }
+    ensures settles { Settles (length places.old) (both (of_places places.old) (of_outcomes out.old))
+        (both (of_places places.new) (of_outcomes out.new)) }
     ensures count { home pool.new + missing places.new ≡ home pool.old + missing places.old }
     ensures size { length places.new ≡ length places.old }
     ensures owed { AreOwed places.old → AreOwed places.new }
@@ -117,7 +121,8 @@ fn sweep_soles(pool: &mut Pool, places: &mut [Place], out: &mut Outcomes)
 fn sweep_receipts(places: &mut [Place], out: &mut Outcomes)
     requires marked { IsMarked (length places.old) (both (of_places places.old) (of_outcomes out.old)) }
     requires owed { AreOwed places.old }
-    ensures settles { Settles (length places.old) (both (of_places places.old) (of_outcomes out.old)) (both (of_places places.new) (of_outcomes out.new)) }
+    ensures settles { Settles (length places.old) (both (of_places places.old) (of_outcomes out.old))
+        (both (of_places places.new) (of_outcomes out.new)) }
     ensures count { missing places.new ≡ missing places.old }
     ensures size { length places.new ≡ length places.old }
     ensures owed { AreOwed places.new }

@@ -6,7 +6,8 @@ ghost use Rattle.off_io.specs.Faults.{HasCause};
 ghost use Rattle.off_io.specs.Content.{AppendsFront};
 ghost use Rattle.taps.specs.Shown.{shown_text};
 ghost use Rattle.rounds.specs.Held.{AreSmall};
-ghost use Rattle.rounds.specs.Lanes.{bytes_of_items, queue_bytes, text_bytes, tap_bytes, lanes_bytes, IsShortText, IsSmallQueue, IsSmallTap, IsSmallWork};
+ghost use Rattle.rounds.specs.Lanes.{bytes_of_items, queue_bytes, text_bytes, tap_bytes, lanes_bytes, IsShortText};
+ghost use Rattle.rounds.specs.Lanes.{IsSmallQueue, IsSmallTap, IsSmallWork};
 
 use gro::Item;
 use off_io::{Sink, WriteFault};
@@ -23,8 +24,10 @@ fn write_all_items<K: Sink>(
     items: &[Item],
 ) -> Result<(), WriteFault>
     requires small { AreSmall items.now }
-    ensures ok { OnOk result (Appends (K.held sink.old) (K.held sink.new) (bytes_of_items file.now.order queue items.now)) }
-    ensures err { OnErr result (AppendsFront (K.held sink.old) (K.held sink.new) (bytes_of_items file.now.order queue items.now)) }
+    ensures ok { OnOk result (Appends (K.held sink.old) (K.held sink.new)
+        (bytes_of_items file.now.order queue items.now)) }
+    ensures err { OnErr result (AppendsFront (K.held sink.old) (K.held sink.new)
+        (bytes_of_items file.now.order queue items.now)) }
     ensures cause { HasCause (K.faults sink.old) (K.faults sink.new) result }
 {
     for item in items {
@@ -38,7 +41,8 @@ fn write_all_items<K: Sink>(
 fn write_queue<K: Sink>(sink: &mut K, file: &FileHead, lane: &QueueLane) -> Result<(), WriteFault>
     requires small { IsSmallQueue lane.now }
     ensures ok { OnOk result (Appends (K.held sink.old) (K.held sink.new) (queue_bytes file.now.order lane.now)) }
-    ensures err { OnErr result (AppendsFront (K.held sink.old) (K.held sink.new) (queue_bytes file.now.order lane.now)) }
+    ensures err { OnErr result (AppendsFront (K.held sink.old) (K.held sink.new)
+        (queue_bytes file.now.order lane.now)) }
     ensures cause { HasCause (K.faults sink.old) (K.faults sink.new) result }
 {
     write_all_items(sink, file, lane.queue as u8, &lane.items)
@@ -50,8 +54,10 @@ fn write_queues<K: Sink>(
     lanes: &[QueueLane],
 ) -> Result<(), WriteFault>
     requires small { AllByRecursion IsSmallQueue lanes.now }
-    ensures ok { OnOk result (Appends (K.held sink.old) (K.held sink.new) (flat_map (queue_bytes file.now.order) lanes.now)) }
-    ensures err { OnErr result (AppendsFront (K.held sink.old) (K.held sink.new) (flat_map (queue_bytes file.now.order) lanes.now)) }
+    ensures ok { OnOk result (Appends (K.held sink.old) (K.held sink.new)
+        (flat_map (queue_bytes file.now.order) lanes.now)) }
+    ensures err { OnErr result (AppendsFront (K.held sink.old) (K.held sink.new)
+        (flat_map (queue_bytes file.now.order) lanes.now)) }
     ensures cause { HasCause (K.faults sink.old) (K.faults sink.new) result }
 {
     for lane in lanes {
@@ -68,8 +74,10 @@ fn write_text<K: Sink>(
     text: &TapText<'_>,
 ) -> Result<(), WriteFault>
     requires short { IsShortText (shown_text text.now) }
-    ensures ok { OnOk result (Appends (K.held sink.old) (K.held sink.new) (text_bytes file.now.order tap (shown_text text.now))) }
-    ensures err { OnErr result (AppendsFront (K.held sink.old) (K.held sink.new) (text_bytes file.now.order tap (shown_text text.now))) }
+    ensures ok { OnOk result (Appends (K.held sink.old) (K.held sink.new)
+        (text_bytes file.now.order tap (shown_text text.now))) }
+    ensures err { OnErr result (AppendsFront (K.held sink.old) (K.held sink.new)
+        (text_bytes file.now.order tap (shown_text text.now))) }
     ensures cause { HasCause (K.faults sink.old) (K.faults sink.new) result }
 {
     let time = Time {
@@ -93,8 +101,10 @@ fn write_texts<K: Sink>(
     texts: &TapTexts,
 ) -> Result<(), WriteFault>
     requires short { AllByRecursion IsShortText texts.now }
-    ensures ok { OnOk result (Appends (K.held sink.old) (K.held sink.new) (flat_map (text_bytes file.now.order tap) texts.now)) }
-    ensures err { OnErr result (AppendsFront (K.held sink.old) (K.held sink.new) (flat_map (text_bytes file.now.order tap) texts.now)) }
+    ensures ok { OnOk result (Appends (K.held sink.old) (K.held sink.new)
+        (flat_map (text_bytes file.now.order tap) texts.now)) }
+    ensures err { OnErr result (AppendsFront (K.held sink.old) (K.held sink.new)
+        (flat_map (text_bytes file.now.order tap) texts.now)) }
     ensures cause { HasCause (K.faults sink.old) (K.faults sink.new) result }
 {
     for i in 0..texts.len() {
@@ -117,8 +127,10 @@ fn write_tap<K: Sink>(sink: &mut K, file: &FileHead, lane: &TapLane) -> Result<(
 
 fn write_taps<K: Sink>(sink: &mut K, file: &FileHead, lanes: &[TapLane]) -> Result<(), WriteFault>
     requires small { AllByRecursion IsSmallTap lanes.now }
-    ensures ok { OnOk result (Appends (K.held sink.old) (K.held sink.new) (flat_map (tap_bytes file.now.order) lanes.now)) }
-    ensures err { OnErr result (AppendsFront (K.held sink.old) (K.held sink.new) (flat_map (tap_bytes file.now.order) lanes.now)) }
+    ensures ok { OnOk result (Appends (K.held sink.old) (K.held sink.new)
+        (flat_map (tap_bytes file.now.order) lanes.now)) }
+    ensures err { OnErr result (AppendsFront (K.held sink.old) (K.held sink.new)
+        (flat_map (tap_bytes file.now.order) lanes.now)) }
     ensures cause { HasCause (K.faults sink.old) (K.faults sink.new) result }
 {
     for lane in lanes {
@@ -132,7 +144,8 @@ fn write_lanes<K: Sink>(sink: &mut K, file: &FileHead, lanes: &Lanes) -> Result<
     requires queues { AllByRecursion IsSmallQueue lanes.now.queues.items }
     requires taps { AllByRecursion IsSmallTap lanes.now.taps.items }
     ensures ok { OnOk result (Appends (K.held sink.old) (K.held sink.new) (lanes_bytes file.now.order lanes.now)) }
-    ensures err { OnErr result (AppendsFront (K.held sink.old) (K.held sink.new) (lanes_bytes file.now.order lanes.now)) }
+    ensures err { OnErr result (AppendsFront (K.held sink.old) (K.held sink.new)
+        (lanes_bytes file.now.order lanes.now)) }
     ensures cause { HasCause (K.faults sink.old) (K.faults sink.new) result }
 {
     write_queues(sink, file, &lanes.queues)?;
@@ -147,8 +160,10 @@ pub(crate) fn write_work<K: Sink>(
     lanes: &Lanes,
 ) -> Result<(), WriteFault>
     requires small { IsSmallWork items.now lanes.now }
-    ensures ok { OnOk result (Appends (K.held sink.old) (K.held sink.new) (bytes_of_items file.now.order 0 items.now ++ lanes_bytes file.now.order lanes.now)) }
-    ensures err { OnErr result (AppendsFront (K.held sink.old) (K.held sink.new) (bytes_of_items file.now.order 0 items.now ++ lanes_bytes file.now.order lanes.now)) }
+    ensures ok { OnOk result (Appends (K.held sink.old) (K.held sink.new)
+        (bytes_of_items file.now.order 0 items.now ++ lanes_bytes file.now.order lanes.now)) }
+    ensures err { OnErr result (AppendsFront (K.held sink.old) (K.held sink.new)
+        (bytes_of_items file.now.order 0 items.now ++ lanes_bytes file.now.order lanes.now)) }
     ensures cause { HasCause (K.faults sink.old) (K.faults sink.new) result }
 {
     write_all_items(sink, file, 0, items)?;

@@ -10,8 +10,8 @@ use crossbeam_queue::Pass;
 use raw_block::Sole;
 use std::sync::Wait;
 
-// Waits for ever. A count of what was done can't wrap: whoever stands at its end, after 2^64 - 1 steps, goes no further, as
-// the queue itself doesn't after 2^62 pushes.
+// Waits for ever. A count of what was done can't wrap: whoever stands at its end, after 2^64 - 1 steps, goes no
+// further, as the queue itself doesn't after 2^62 pushes.
 pub(super) fn stall<R: Wait>(rt: &R)
     ensures never { ⊥ }
 {
@@ -37,7 +37,8 @@ pub(super) fn fill_once<R: Wait>(rt: &R, queue: &Blocks, pass: &mut Pass<Sole, T
 pub(super) fn pop_once<R: Wait>(rt: &R, queue: &Blocks, pass: &mut PoolPass) -> Option<Sole>
     requires own { (pass.old.pool ≡ queue.now.table.shared.table_id) × (pass.old.size ≡ ruled_capacity queue.now) }
     ensures step { MatchOption result (FoundEmpty pass.old pass.new) (λ block. Took pass.old block pass.new) }
-    ensures sure { pass.old.parts ≡ 65536 → MatchOption result (pass.old.takes ≡ pass.old.size + pass.old.puts) (λ _. Unit {0}) }
+    ensures sure { pass.old.parts ≡ 65536 → MatchOption result (pass.old.takes ≡ pass.old.size + pass.old.puts)
+        (λ _. Unit {0}) }
 {
     if pass.takes == u64::MAX {
         stall(rt);
@@ -59,7 +60,8 @@ pub(super) fn push_once<R: Wait>(
     block: Sole,
 ) -> Result<(), Sole>
     requires own { (pass.old.pool ≡ queue.now.table.shared.table_id) × (pass.old.size ≡ ruled_capacity queue.now) }
-    ensures step { MatchResult result (λ _. Put pass.old block pass.new) (λ back. (back ≡ block) × FoundFull pass.old pass.new) }
+    ensures step { MatchResult result (λ _. Put pass.old block pass.new)
+        (λ back. (back ≡ block) × FoundFull pass.old pass.new) }
     ensures sure { pass.old.parts ≡ 65536 → OnErr result (pass.old.takes ≡ pass.old.puts) }
 {
     if pass.puts == u64::MAX {

@@ -20,7 +20,8 @@ pub returns-in-Ok-write_file_head : goal.returns-in-Ok-write_file_head
 returns-in-Ok-write_file_head g c =
     let rounds = c.args.rounds.now in
     record {
-      given = run_given Ethernet Offload (merging rounds.blocks (options_of rounds)) _ _ _ _ _ _ c.in-Ok.file (ending_of c.merge_from.result) c.in-Ok-write_file_head.ensures.ok c.in-Ok.ensures.given c.merge_from.ensures.given;
+      given = run_given Ethernet Offload (merging rounds.blocks (options_of rounds)) _ _ _ _ _ _ c.in-Ok.file (ending_of c.merge_from.result) c.in-Ok-write_file_head.ensures.ok c.in-Ok.ensures.given
+          c.merge_from.ensures.given;
     }
 
 pub returns-in-Err-write_file_head : goal.returns-in-Err-write_file_head

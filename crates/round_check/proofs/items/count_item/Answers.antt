@@ -25,7 +25,8 @@ returns-clause-flows c =
     let f = c.args.flows.now in
     let q = c.flow_of-key.result in
     let own = subst (IsOwn ps q) (sym c.place-at.ensures.place) (c.requires.flows.own q) in
-    flows_moved ps f c.move_to.new.self q _ c.place-at.result c.count_packets-count.new.at c.count_packets-count.result c.requires.flows c.place-at.ensures.place (c.count_packets-count.ensures.counts q own) c.move_to.ensures.moves
+    flows_moved ps f c.move_to.new.self q _ c.place-at.result c.count_packets-count.new.at c.count_packets-count.result c.requires.flows c.place-at.ensures.place
+    (c.count_packets-count.ensures.counts q own) c.move_to.ensures.moves
 
 pub returns-clause-counts : goal.returns-clause-counts
 returns-clause-counts c =

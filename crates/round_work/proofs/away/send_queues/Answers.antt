@@ -34,7 +34,8 @@ loop-at-preserved g c =
           record {
             sent = (
               more ++ t ∷ [],
-              one_more c.if-is_empty.tasks.items c.loop-at.tasks.items c.args.tasks.now.items more t (subst (λ z. z.items ≡ c.loop-at.tasks.items ++ t ∷ []) (sym w.tasks-is) w.push_back_reserved.ensures.items) i.sent.1,
+              one_more c.if-is_empty.tasks.items c.loop-at.tasks.items c.args.tasks.now.items more t (subst (λ z. z.items ≡ c.loop-at.tasks.items ++ t ∷ [])
+                  (sym w.tasks-is) w.push_back_reserved.ensures.items) i.sent.1,
               all_behind (IsOfQueues segs old) more (t ∷ []) i.sent.2 (own, tt),
               subst (λ z. Parted (DidQueue segs) IsElseQueue (at + 1) old z (more ++ t ∷ [])) (sym w.queues-is)
                   (parted_sent (DidQueue segs) IsElseQueue at (at + 1) old now more t w.take_queue-lane.new.lane (omega arith) (λ apart. apart (ap (λ z. z.at) w.new.ensures.same)) i.sent.3),

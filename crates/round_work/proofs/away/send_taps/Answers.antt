@@ -20,14 +20,17 @@ loop-at-preserved g c =
           let t = asked.Tap w.new-task.result in
           let x = w.index-taps-at-in-Some.result in
           let own =
-          own_tap plan at old now x w.take_tap-lane.result w.in-Some.filter w.new-task.result w.new-task.ensures.same w.in-Some.ensures.same w.take_tap-lane.ensures.same (i.sent.3.rest at x (omega arith)) c.loop-at-test.true in
+          own_tap plan at old now x w.take_tap-lane.result w.in-Some.filter w.new-task.result w.new-task.ensures.same w.in-Some.ensures.same w.take_tap-lane.ensures.same
+          (i.sent.3.rest at x (omega arith)) c.loop-at-test.true in
           record {
             sent = (
               more ++ t ∷ [],
-              one_more c.match-filter_for.tasks.items c.loop-at.tasks.items c.args.tasks.now.items more t (subst (λ z. z.items ≡ c.loop-at.tasks.items ++ t ∷ []) (sym w.tasks-is) w.push_back_reserved.ensures.items) i.sent.1,
+              one_more c.match-filter_for.tasks.items c.loop-at.tasks.items c.args.tasks.now.items more t (subst (λ z. z.items ≡ c.loop-at.tasks.items ++ t ∷ [])
+                  (sym w.tasks-is) w.push_back_reserved.ensures.items) i.sent.1,
               all_behind (IsOfTaps plan old) more (t ∷ []) i.sent.2 (own, tt),
               subst (λ z. Parted (DidTap plan.filter plan.snap) IsElseTap (at + 1) old z (more ++ t ∷ [])) (sym w.taps-is)
-                  (parted_sent (DidTap plan.filter plan.snap) IsElseTap at (at + 1) old now more t w.take_tap-lane.new.lane (omega arith) (λ apart. apart (ap (λ z. z.at) w.new-task.ensures.same)) i.sent.3),
+                  (parted_sent (DidTap plan.filter plan.snap) IsElseTap at (at + 1) old now more t w.take_tap-lane.new.lane (omega arith)
+                  (λ apart. apart (ap (λ z. z.at) w.new-task.ensures.same)) i.sent.3),
             );
             few = omega (arith, i.few, ap deque_len w.tasks-is, w.push_back_reserved.ensures.len);
             room = ap deque_capacity w.tasks-is ∙ w.push_back_reserved.ensures.capacity ∙ i.room;

@@ -20,7 +20,8 @@ returns-in_err-open_queues-clause-count c = omega (arith, empty_counts nowhere [
 
 pub returns-in_err-add_taps-clause-kept : goal.returns-in_err-add_taps-clause-kept
 returns-in_err-add_taps-clause-kept c =
-    fill_taps (of_packets c.args.packets.now.items) (of_packets c.add_taps.new.packets.items) c.open_queues.new.lanes.items c.add_taps.new.lanes.items (c.in_ok-open_queues.ensures.open nowhere []) c.in_err-add_taps.ensures.kept
+    fill_taps (of_packets c.args.packets.now.items) (of_packets c.add_taps.new.packets.items) c.open_queues.new.lanes.items c.add_taps.new.lanes.items
+    (c.in_ok-open_queues.ensures.open nowhere []) c.in_err-add_taps.ensures.kept
 
 pub returns-in_err-add_taps-clause-count : goal.returns-in_err-add_taps-clause-count
 returns-in_err-add_taps-clause-count c =

@@ -75,7 +75,8 @@ loop-packet-preserved c =
     let e = c.in-Some.ensures.items in
     record {
       size = length-set l.lanes q m ∙ l.invariant.size;
-      shared = share_turn n every rest p 0 q l.lanes d m (omega (arith, c.queue_for-queue.ensures.queue)) (omega arith) taken (subst (λ (z : List Held). EachFrom (IsSharing n every z) 0 l.lanes) e l.invariant.shared);
+      shared = share_turn n every rest p 0 q l.lanes d m (omega (arith, c.queue_for-queue.ensures.queue)) (omega arith) taken (subst (λ (z : List Held). EachFrom (IsSharing n every z) 0 l.lanes) e
+          l.invariant.shared);
       account = λ (t : Tests) (j : ℕ).
           let s = turn_account q l.lanes d m p (omega arith) taken t j in
           let i = l.invariant.account t j in

@@ -26,7 +26,8 @@ loop-left-preserved c =
       marks = marked_at_start (c.args.first + length l.builder.pieces + 1) (c.args.first + length c.push.new.self.pieces) c.next_block-block.new.hold.items (omega (arith, longer, one)) marks.1;
       count = omega (arith, i.count, longer, one, least);
       size = omega (arith, i.size, bigger, sum, least);
-      bytes = bytes_more l.builder.pieces c.push.new.self.pieces p l.hold.items c.next_block-block.new.hold.items c.next_block-block.result l.left c.min-count.result (l.left - c.min-count.result) next pushed c.share.ensures.same.1 refl refl (omega (arith, least)) (omega (arith, least)) ∙ i.bytes;
+      bytes = bytes_more l.builder.pieces c.push.new.self.pieces p l.hold.items c.next_block-block.new.hold.items c.next_block-block.result l.left c.min-count.result
+          (l.left - c.min-count.result) next pushed c.share.ensures.same.1 refl refl (omega (arith, least)) (omega (arith, least)) ∙ i.bytes;
       rest = omega (arith, i.rest, longer, one, shorter);
       room = omega (arith, i.room, c.push.ensures.room, least);
       capacity = omega (arith, i.capacity, c.next_block-block.ensures.capacity);

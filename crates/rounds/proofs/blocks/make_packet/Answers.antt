@@ -16,7 +16,15 @@ returns-clause-fresh c =
     let first = subst (MarkedFrom k) c.next_block-block.ensures.next c.requires.marks in
     let rest = c.build_pieces-rest in
     let b = c.share_head.new.self in
-    let p : Packet = record { skb = b; spare1 = c.next_block.result; spare2 = c.next_block-2.result; sec = c.args.head.now.sec; frac = c.args.head.now.frac; original = c.args.head.now.original; number = c.args.head.now.number } in
+    let p : Packet = record {
+      skb = b;
+      spare1 = c.next_block.result;
+      spare2 = c.next_block-2.result;
+      sec = c.args.head.now.sec;
+      frac = c.args.head.now.frac;
+      original = c.args.head.now.original;
+      number = c.args.head.now.number;
+    } in
     let same = c.new-skb.ensures.same in
     let is_rest : b.rest ≡ rest.result = c.share_head.ensures.rest.2 ∙ ap (λ (x : SkbState). x.rest) same in
     let head : IsLent (Sole s) b.head = subst (λ (h : Holder). IsLent h b.head) (ap (λ (x : SkbState). x.head) same) c.share_head.ensures.head in

@@ -16,4 +16,5 @@ pub returns-clause-home : goal.returns-clause-home
 returns-clause-home g c =
     let w = c.write_opened-wrote in
     let x = of_packet c.args.packet in
-    home_count x c.args.pool.now w.new.pool c.args.places.now w.new.places c.requires.open (comes_home x c.args.pool.now w.new.pool c.args.places.now w.new.places c.requires.open c.requires.round.whole w.ensures.comes) w.ensures.comes
+    home_count x c.args.pool.now w.new.pool c.args.places.now w.new.places c.requires.open (comes_home x c.args.pool.now w.new.pool c.args.places.now w.new.places c.requires.open
+    c.requires.round.whole w.ensures.comes) w.ensures.comes

@@ -35,7 +35,8 @@ bring_rest-requires-clause-may g c =
     let k = c.args.packet in
     let w = c.write_all-spare1 in
     let s = of_sole w.result.0 in
-    let came = subst (λ (z : Account). Comes (both z (of_sole k.spare1)) (both (of_work w.new.cutter) s) c.args.pool.now c.args.places.now w.new.pool w.new.places) c.start-cutter.ensures.account w.ensures.comes in
+    let came = subst (λ (z : Account). Comes (both z (of_sole k.spare1)) (both (of_work w.new.cutter) s) c.args.pool.now c.args.places.now w.new.pool w.new.places) c.start-cutter.ensures.account
+    w.ensures.comes in
     let rest = rest_came (of_buffer k.skb) (of_sole k.spare1) (of_sole k.spare2) (of_work w.new.cutter) s c.args.pool.now w.new.pool c.args.places.now w.new.places c.requires.may came in
     may_rest (of_packet k) (both (of_work w.new.cutter) (both s (of_sole k.spare2))) c.args.pool.now w.new.pool c.args.places.now w.new.places c.requires.may rest
 
@@ -45,7 +46,8 @@ returns-clause-comes g c =
     let w = c.write_all-spare1 in
     let b = c.bring_rest in
     let s = of_sole w.result.0 in
-    let came = subst (λ (z : Account). Comes (both z (of_sole k.spare1)) (both (of_work w.new.cutter) s) c.args.pool.now c.args.places.now w.new.pool w.new.places) c.start-cutter.ensures.account w.ensures.comes in
+    let came = subst (λ (z : Account). Comes (both z (of_sole k.spare1)) (both (of_work w.new.cutter) s) c.args.pool.now c.args.places.now w.new.pool w.new.places) c.start-cutter.ensures.account
+    w.ensures.comes in
     let rest = rest_came (of_buffer k.skb) (of_sole k.spare1) (of_sole k.spare2) (of_work w.new.cutter) s c.args.pool.now w.new.pool c.args.places.now w.new.places c.requires.may came in
     comes_last (of_packet k) (both (of_work w.new.cutter) (both s (of_sole k.spare2))) c.args.pool.now w.new.pool b.new.pool c.args.places.now w.new.places b.new.places rest b.ensures.comes
 
@@ -55,5 +57,6 @@ returns-clause-writes g c =
     let p = packet_of k in
     let frames : List (List ℕ) = map (λ (q : Packet). q.frame) (packets_by c.args.plan p) in
     let stamp : Stamp = record { file = c.args.file.now; time = record { sec = k.sec; frac = k.frac }; original = c.single_original.result } in
-    writes_at (packets_bytes c.args.file.now.order (packets_by c.args.plan p)) (stamped_all stamp frames) _ _ c.write_all-spare1.result.1 (plan_bytes stamp c.args.plan p refl refl c.single_original.ensures.by)
+    writes_at (packets_bytes c.args.file.now.order (packets_by c.args.plan p)) (stamped_all stamp frames) _ _ c.write_all-spare1.result.1
+    (plan_bytes stamp c.args.plan p refl refl c.single_original.ensures.by)
     (c.write_all-spare1.ensures.writes frames (c.start-cutter.ensures.left p refl, plan_short k.skb c.args.plan p refl c.requires.short c.requires.plan))

@@ -57,4 +57,5 @@ returns-clause-home c =
     let rest = and_rest o (both ps w) c.args.pool.now s.new.pool c.args.places.now s.new.places may s.ensures.comes in
     let came = and_comes ps w s.new.pool b.new.pool e.new.pool s.new.places b.new.places e.new.places rest b.ensures.comes e.ensures.comes in
     let all = and_comes o (both ps w) c.args.pool.now s.new.pool e.new.pool c.args.places.now s.new.places e.new.places may s.ensures.comes came in
-    home_count (both o (both ps w)) c.args.pool.now e.new.pool c.args.places.now e.new.places c.requires.open (comes_home (both o (both ps w)) c.args.pool.now e.new.pool c.args.places.now e.new.places c.requires.open c.requires.round.whole all) all
+    home_count (both o (both ps w)) c.args.pool.now e.new.pool c.args.places.now e.new.places c.requires.open (comes_home (both o (both ps w)) c.args.pool.now e.new.pool c.args.places.now e.new.places
+    c.requires.open c.requires.round.whole all) all

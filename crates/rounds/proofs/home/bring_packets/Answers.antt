@@ -30,7 +30,8 @@ loop-packet-preserved c =
     let rest = c.pop_front.new.self.items in
     let k = ap counts_of c.in-Some.ensures.items in
     record {
-      comes = comes_step (of_packets c.args.packets.now.items) (of_packets l.packets.items) (of_packet c.in-Some.packet) (of_packets rest) c.args.pool.now l.pool e.new.pool c.args.places.now l.places e.new.places
+      comes = comes_step (of_packets c.args.packets.now.items) (of_packets l.packets.items) (of_packet c.in-Some.packet) (of_packets rest) c.args.pool.now l.pool e.new.pool c.args.places.now l.places
+          e.new.places
           (packets_first l.packets.items rest c.in-Some.packet c.in-Some.ensures.items) l.invariant.comes e.ensures.comes;
       bare = e.ensures.bare;
       room = omega (arith, k, e.ensures.spare, l.invariant.room);

@@ -21,7 +21,8 @@ bring_kept-requires-clause-may c =
     let ks = of_clones c.args.kept.items in
     let i = c.bring_items in
     let l = c.bring_lanes in
-    and_rest ls ks i.new.pool l.new.pool i.new.places l.new.places (and_rest (of_items c.args.items.now.items) (both ls ks) c.args.pool.now i.new.pool c.args.places.now i.new.places c.requires.may i.ensures.comes) l.ensures.comes
+    and_rest ls ks i.new.pool l.new.pool i.new.places l.new.places (and_rest (of_items c.args.items.now.items) (both ls ks) c.args.pool.now i.new.pool c.args.places.now i.new.places c.requires.may
+    i.ensures.comes) l.ensures.comes
 
 pub returns-clause-comes : goal.returns-clause-comes
 returns-clause-comes c =

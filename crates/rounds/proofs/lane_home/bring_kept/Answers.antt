@@ -32,7 +32,8 @@ loop-clone-preserved c =
     let rest = c.pop.new.self.items in
     let k = clone_blocks_pop l.kept.items rest c.in-Some.clone c.in-Some.ensures.items in
     record {
-      comes = comes_step (of_clones c.args.kept.items) (of_clones l.kept.items) (of_buffer c.in-Some.clone.skb) (of_clones rest) c.args.pool.now l.pool e.new.pool c.args.places.now l.places e.new.places
+      comes = comes_step (of_clones c.args.kept.items) (of_clones l.kept.items) (of_buffer c.in-Some.clone.skb) (of_clones rest) c.args.pool.now l.pool e.new.pool c.args.places.now l.places
+          e.new.places
           (clones_pop l.kept.items rest c.in-Some.clone c.in-Some.ensures.items) l.invariant.comes e.ensures.comes;
       bare = e.ensures.bare;
       room = omega (arith, k, e.ensures.spare, l.invariant.room);

@@ -29,7 +29,10 @@ bring_outcomes-requires c =
     let os = of_outcomes l.outcomes in
     let p = c.bring_packets in
     let i = c.bring_lane_items in
-    record { may = and_rest is os p.new.pool i.new.pool p.new.places i.new.places (and_rest (of_packets l.packets.items) (both is os) c.args.pool.now p.new.pool c.args.places.now p.new.places c.requires.may p.ensures.comes) i.ensures.comes }
+    record {
+      may = and_rest is os p.new.pool i.new.pool p.new.places i.new.places (and_rest (of_packets l.packets.items) (both is os) c.args.pool.now p.new.pool c.args.places.now p.new.places
+          c.requires.may p.ensures.comes) i.ensures.comes;
+    }
 
 pub returns-clause-comes : goal.returns-clause-comes
 returns-clause-comes c =

@@ -19,4 +19,7 @@ returns c =
     let p = c.args.pool.now in
     let t = c.args.places.now in
     let b = c.bring_outcomes in
-    record { comes = and_comes cs o p p b.new.pool t t b.new.places c.requires.may (nothing_comes cs p t (no_clones c.args.lane.clones.items c.requires.spent) (and_first cs o p t c.requires.may)) b.ensures.comes }
+    record {
+      comes = and_comes cs o p p b.new.pool t t b.new.places c.requires.may (nothing_comes cs p t (no_clones c.args.lane.clones.items c.requires.spent) (and_first cs o p t c.requires.may))
+          b.ensures.comes;
+    }

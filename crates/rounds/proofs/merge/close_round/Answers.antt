@@ -10,7 +10,8 @@ returns-in-Full-clause-puts g c = λ held bytes wrote. subst (λ (e : RoundEnd).
 
 pub returns-in-End-clause-puts : goal.returns-in-End-clause-puts
 returns-in-End-clause-puts g c = λ held bytes wrote.
-    subst (λ (e : RoundEnd). Puts held (g.K.Sink.held c.finish.new.sink) bytes e (Ends c.finish.result)) (sym c.in-End.is) (finished held _ _ bytes _ c.finish.result wrote c.finish.ensures.answer c.finish.ensures.content)
+    subst (λ (e : RoundEnd). Puts held (g.K.Sink.held c.finish.new.sink) bytes e (Ends c.finish.result)) (sym c.in-End.is) (finished held _ _ bytes _ c.finish.result wrote c.finish.ensures.answer
+    c.finish.ensures.content)
 
 pub returns-in-Malformed-clause-puts : goal.returns-in-Malformed-clause-puts
 returns-in-Malformed-clause-puts g c = λ held bytes wrote.

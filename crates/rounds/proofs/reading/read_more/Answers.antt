@@ -45,10 +45,13 @@ returns-in-Err-clause-given g c =
     let l = c.reading in
     let i = l.invariant in
     let none = no_front c.read_record.new.front c.in-Err.ensures.front in
-    let bare = subst (λ (f : List ℕ). Told (g.S.Source.left l.reader.source.now) (g.S.Source.left c.read_record.new.reader.source.now) (GivesRecord l.used c.is_ready.new.pool.made l.reader.place c.read_record.new.reader.place f (Err c.in-Err.stop))) none c.in-Err.ensures.given in
+    let bare = subst (λ (f : List ℕ). Told (g.S.Source.left l.reader.source.now) (g.S.Source.left c.read_record.new.reader.source.now) (GivesRecord l.used c.is_ready.new.pool.made l.reader.place
+    c.read_record.new.reader.place f (Err c.in-Err.stop))) none c.in-Err.ensures.given in
     let made = c.is_ready.ensures.same.0 ∙ i.made in
-    let told = subst (λ (k : ℕ). Told (g.S.Source.left l.reader.source.now) (g.S.Source.left c.read_record.new.reader.source.now) (GivesRecord l.used k l.reader.place c.read_record.new.reader.place [] (Err c.in-Err.stop))) made bare in
-    round_stop_given _ _ _ c.args.reader.now.place l.reader.place c.read_record.new.reader.place l.used c.args.pool.now.made c.args.packets.now.items l.packets.items c.in-Err.stop c.end_of.result (i.so_far.link ∙ c.requires.link) i.within i.need c.end_of.ensures.end i.so_far.told told
+    let told = subst (λ (k : ℕ). Told (g.S.Source.left l.reader.source.now) (g.S.Source.left c.read_record.new.reader.source.now) (GivesRecord l.used k l.reader.place c.read_record.new.reader.place []
+    (Err c.in-Err.stop))) made bare in
+    round_stop_given _ _ _ c.args.reader.now.place l.reader.place c.read_record.new.reader.place l.used c.args.pool.now.made c.args.packets.now.items l.packets.items c.in-Err.stop c.end_of.result
+    (i.so_far.link ∙ c.requires.link) i.within i.need c.end_of.ensures.end i.so_far.told told
 
 pub returns-then-not-is_ready-clause-given : goal.returns-then-not-is_ready-clause-given
 returns-then-not-is_ready-clause-given g c = c.reading.invariant.so_far.told
@@ -61,7 +64,8 @@ returns-then-not-is_ready-clause-lacking g c = λ is.
 pub returns-clause-full : goal.returns-clause-full
 returns-clause-full g c = λ is.
     let l = c.reading in
-    fills_round _ _ c.args.reader.now.place l.reader.place c.args.packets.now.items l.packets.items c.args.budget (omega (arith, l.invariant.size, c.reading-test.false, c.len.ensures)) l.invariant.so_far
+    fills_round _ _ c.args.reader.now.place l.reader.place c.args.packets.now.items l.packets.items c.args.budget (omega (arith, l.invariant.size, c.reading-test.false, c.len.ensures))
+    l.invariant.so_far
 
 pub reading-preserved : goal.reading-preserved
 reading-preserved g c =
@@ -77,12 +81,15 @@ reading-preserved g c =
     let e : qs ≡ ps ++ p ∷ [] = c.push_back_reserved.ensures.items in
     let k = c.packet_blocks-used.ensures.blocks in
     let none = no_front c.read_record.new.front r.front in
-    let told = subst (λ (f : List ℕ). Told (g.S.Source.left l.reader.source.now) (g.S.Source.left c.read_record.new.reader.source.now) (GivesRecord l.used c.is_ready.new.pool.made l.reader.place c.read_record.new.reader.place f (Ok p))) none r.given in
+    let told = subst (λ (f : List ℕ). Told (g.S.Source.left l.reader.source.now) (g.S.Source.left c.read_record.new.reader.source.now) (GivesRecord l.used c.is_ready.new.pool.made l.reader.place
+    c.read_record.new.reader.place f (Ok p))) none r.given in
     record {
-      so_far = so_far_at _ _ c.args.reader.now.place c.read_record.new.reader.place first (ps ++ p ∷ []) qs e (so_far_more _ _ _ c.args.reader.now.place l.reader.place c.read_record.new.reader.place l.used c.is_ready.new.pool.made first ps p i.so_far told r.next);
+      so_far = so_far_at _ _ c.args.reader.now.place c.read_record.new.reader.place first (ps ++ p ∷ []) qs e (so_far_more _ _ _ c.args.reader.now.place l.reader.place c.read_record.new.reader.place
+          l.used c.is_ready.new.pool.made first ps p i.so_far told r.next);
       size = omega (arith, ap length e, length-append ps (p ∷ []), i.size, c.reading-test.true, c.len.ensures);
       reserved = omega (arith, i.reserved, c.push_back_reserved.ensures);
-      fresh = subst (λ (xs : List Packet). IsFresh 0 (l.used + c.packet_blocks-used.result) (of_packets xs)) (sym e) (subst (λ (n : ℕ). IsFresh 0 (l.used + n) (of_packets (ps ++ p ∷ []))) (sym k) (fresh_more l.used _ ps p i.fresh r.fresh));
+      fresh = subst (λ (xs : List Packet). IsFresh 0 (l.used + c.packet_blocks-used.result) (of_packets xs)) (sym e) (subst (λ (n : ℕ). IsFresh 0 (l.used + n) (of_packets (ps ++ p ∷ []))) (sym k)
+          (fresh_more l.used _ ps p i.fresh r.fresh));
       read = subst AreRead (sym e) (read_last ps p i.read r.read);
       captured = subst (λ (xs : List Packet). AllByRecursion IsCaptured (map packet_of xs)) (sym e) (captured_last ps p i.captured (r.captured (i.so_far.link ∙ c.requires.link)));
       numbers = subst (NumbersOn start first) (sym e) (numbers_more start l.reader.place.number first ps p i.numbers i.so_far.number r.number);

@@ -7,7 +7,8 @@ use Rattle.rounds.proofs.record.read_packet.Goals as goal
 pub returns-in-Err-clause-given : goal.returns-in-Err-clause-given
 returns-in-Err-clause-given g c =
     let r = c.read_frame.new in
-    frame_stop_given _ _ c.args.reader.now.place c.args.head.now r.front c.args.len r.hold.items c.in-Err.fault c.stop_of.result c.stop_of.ensures.stop (omega (arith, c.requires.whole, c.in-Err.ensures.front)) c.in-Err.ensures.given
+    frame_stop_given _ _ c.args.reader.now.place c.args.head.now r.front c.args.len r.hold.items c.in-Err.fault c.stop_of.result c.stop_of.ensures.stop
+    (omega (arith, c.requires.whole, c.in-Err.ensures.front)) c.in-Err.ensures.given
 
 pub returns-in-Ok-with_room-clause-given : goal.returns-in-Ok-with_room-clause-given
 returns-in-Ok-with_room-clause-given g c =

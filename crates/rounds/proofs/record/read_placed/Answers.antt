@@ -9,11 +9,13 @@ use Rattle.rounds.proofs.record.read_placed.Goals as goal
 
 pub returns-in-Err-clause-given : goal.returns-in-Err-clause-given
 returns-in-Err-clause-given g c =
-    head_stop_given _ _ c.args.reader.now.place c.next_head.new.self.place c.args.used c.args.pool.now.made c.args.front.now c.in-Err.fault c.stop_of.result c.requires.few c.stop_of.ensures.stop c.in-Err.ensures.given
+    head_stop_given _ _ c.args.reader.now.place c.next_head.new.self.place c.args.used c.args.pool.now.made c.args.front.now c.in-Err.fault c.stop_of.result c.requires.few c.stop_of.ensures.stop
+    c.in-Err.ensures.given
 
 pub returns-in_default-clause-given : goal.returns-in_default-clause-given
 returns-in_default-clause-given g c =
-    end_given _ _ c.args.reader.now.place c.next_head.new.self.place c.args.used c.args.pool.now.made c.args.front.now c.in-Ok.found (none_from c.in-Ok.found c.in_default.not-Some) c.in-Ok.ensures.given
+    end_given _ _ c.args.reader.now.place c.next_head.new.self.place c.args.used c.args.pool.now.made c.args.front.now c.in-Ok.found (none_from c.in-Ok.found c.in_default.not-Some)
+    c.in-Ok.ensures.given
 
 pub returns-then-need-made-clause-given : goal.returns-then-need-made-clause-given
 returns-then-need-made-clause-given g c =
@@ -23,7 +25,8 @@ returns-then-need-made-clause-given g c =
 pub returns-in-Ok-read_packet-clause-given : goal.returns-in-Ok-read_packet-clause-given
 returns-in-Ok-read_packet-clause-given g c =
     let r = c.in-Ok-read_packet in
-    whole_given _ _ _ c.args.reader.now.place c.next_head.new.self.place c.read_packet.new.reader.place c.args.used c.args.pool.now.made c.read_packet.new.front c.in-Ok.found c.in-Some.head r.packet c.in-Some.is c.in-Ok.ensures.enters r.ensures.place c.in-Ok.ensures.given r.ensures.given
+    whole_given _ _ _ c.args.reader.now.place c.next_head.new.self.place c.read_packet.new.reader.place c.args.used c.args.pool.now.made c.read_packet.new.front c.in-Ok.found c.in-Some.head r.packet
+    c.in-Some.is c.in-Ok.ensures.enters r.ensures.place c.in-Ok.ensures.given r.ensures.given
 
 pub returns-in-Err-read_packet-clause-given : goal.returns-in-Err-read_packet-clause-given
 returns-in-Err-read_packet-clause-given g c =
@@ -39,5 +42,15 @@ returns-in-Ok-read_packet-clause-captured g c =
     let r = c.in-Ok-read_packet in
     let found = c.in-Ok.found in
     λ ethernet. captured_of r.packet
-    (omega (arith, r.ensures.original, original_below found c.in-Some.head c.in-Some.is (subst (λ (link : Link). IfSome found (λ (it : RecHead). is_bad_original link it.original ≡ false)) ethernet c.in-Ok.ensures.original)))
-    (omega (arith, r.ensures.size, captured_within found c.in-Some.head c.in-Some.is (subst (λ (link : Link). IfSome found (λ (it : RecHead). it.captured ≤ captured_limit link)) ethernet c.in-Ok.ensures.limit))) r.ensures.in_fields
+    (omega (
+      arith,
+      r.ensures.original,
+      original_below found c.in-Some.head c.in-Some.is (subst (λ (link : Link). IfSome found (λ (it : RecHead). is_bad_original link it.original ≡ false)) ethernet
+          c.in-Ok.ensures.original),
+    ))
+    (omega (
+      arith,
+      r.ensures.size,
+      captured_within found c.in-Some.head c.in-Some.is (subst (λ (link : Link). IfSome found (λ (it : RecHead). it.captured ≤ captured_limit link)) ethernet
+          c.in-Ok.ensures.limit),
+    )) r.ensures.in_fields

@@ -10,5 +10,12 @@ use Rattle.rounds.proofs.rounds.no_round.Goals as goal
 
 pub invariant_of-result : goal.invariant_of-result
 invariant_of-result c =
-    let none = c.new.ensures.items in
-    (subst (λ (xs : List Packet). IsFresh 0 0 (of_packets xs)) (sym none) (fresh_none 0), subst AreRead (sym none) tt, ap counts_of none, (0, subst (NumberedFrom 0) (sym none) tt), subst (λ (xs : List Packet). AllByRecursion IsCaptured (map packet_of xs)) (sym none) tt, sym (ap (λ (xs : List Packet). round_need (map packet_of xs)) none))
+    let none = c.new.ensures.items in (
+      subst (λ (xs : List Packet). IsFresh 0 0 (of_packets xs)) (sym none) (fresh_none 0),
+      subst AreRead (sym none) tt,
+      ap counts_of none,
+      (0, subst (NumberedFrom 0) (sym none) tt),
+      subst
+          (λ (xs : List Packet). AllByRecursion IsCaptured (map packet_of xs)) (sym none) tt,
+      sym (ap (λ (xs : List Packet). round_need (map packet_of xs)) none),
+    )

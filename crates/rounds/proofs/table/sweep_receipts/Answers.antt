@@ -20,4 +20,5 @@ receive_one-requires-clause-life c =
     let one = c.requires.marked.lives r.mark in
     let a = (c.in-Some.ensures.kept (of_lives (others one.0)) r.mark).0 in
     let b = (c.loop-receipt.invariant.settles r.mark).0 (others one.0) in
-    of_life one.0 (place_at c.loop-receipt.places r.mark) r.mark r (c.loop-receipt.invariant.owed r.mark) refl (omega (arith, c.weight.ensures.range, c.weight.ensures.value)) (omega (arith, a, b, one.1))
+    of_life one.0 (place_at c.loop-receipt.places r.mark) r.mark r (c.loop-receipt.invariant.owed r.mark) refl (omega (arith, c.weight.ensures.range, c.weight.ensures.value))
+    (omega (arith, a, b, one.1))

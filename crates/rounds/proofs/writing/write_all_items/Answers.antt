@@ -16,11 +16,13 @@ write_item-requires g c =
 
 pub loop-item-preserved : goal.loop-item-preserved
 loop-item-preserved g c = (
-  wrote_one_more (λ (i : Item). item_bytes c.args.file.now.order c.args.queue (item_of i)) c.args.items.now c.loop-item.item-index c.item-item.result (omega arith) c.item-item.is _ _ _ c.loop-item.invariant.0 c.in_ok-write_item.ensures.ok,
+  wrote_one_more (λ (i : Item). item_bytes c.args.file.now.order c.args.queue (item_of i)) c.args.items.now c.loop-item.item-index c.item-item.result
+      (omega arith) c.item-item.is _ _ _ c.loop-item.invariant.0 c.in_ok-write_item.ensures.ok,
   omega (arith, c.in_ok-write_item.ensures.cause.later),
 )
 
 pub returns-in_err-write_item-clause-err : goal.returns-in_err-write_item-clause-err
 returns-in_err-write_item-clause-err g c =
     let p = err_from_is_err_and c.from_residual.result c.from_residual.ensures.1 in
-    rw p.1 (failed_at (λ (i : Item). item_bytes c.args.file.now.order c.args.queue (item_of i)) c.args.items.now c.loop-item.item-index c.item-item.result (omega arith) c.item-item.is _ _ _ c.loop-item.invariant.0 c.in_err-write_item.ensures.err)
+    rw p.1 (failed_at (λ (i : Item). item_bytes c.args.file.now.order c.args.queue (item_of i)) c.args.items.now c.loop-item.item-index c.item-item.result
+    (omega arith) c.item-item.is _ _ _ c.loop-item.invariant.0 c.in_err-write_item.ensures.err)

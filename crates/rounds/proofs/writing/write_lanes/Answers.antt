@@ -17,11 +17,15 @@ returns-in_err-write_queues-clause-err g c =
 pub returns-clause-ok : goal.returns-clause-ok
 returns-clause-ok g c =
     let order = c.args.file.now.order in
-    ok_at c.write_taps.result _ _ _ (flat_map (queue_bytes order) c.deref.result.now) (flat_map (tap_bytes order) c.deref-2.result.now) (flat_map (queue_bytes order) c.args.lanes.now.queues.items) (flat_map (tap_bytes order) c.args.lanes.now.taps.items)
-    (ap (λ (z : List QueueLane). flat_map (queue_bytes order) z) c.deref.ensures.value) (ap (λ (z : List TapLane). flat_map (tap_bytes order) z) c.deref-2.ensures.value) c.in_ok-write_queues.ensures.ok c.write_taps.ensures.ok
+    ok_at c.write_taps.result _ _ _ (flat_map (queue_bytes order) c.deref.result.now) (flat_map (tap_bytes order) c.deref-2.result.now) (flat_map (queue_bytes order) c.args.lanes.now.queues.items)
+    (flat_map (tap_bytes order) c.args.lanes.now.taps.items)
+    (ap (λ (z : List QueueLane). flat_map (queue_bytes order) z) c.deref.ensures.value) (ap (λ (z : List TapLane). flat_map (tap_bytes order) z) c.deref-2.ensures.value)
+    c.in_ok-write_queues.ensures.ok c.write_taps.ensures.ok
 
 pub returns-clause-err : goal.returns-clause-err
 returns-clause-err g c =
     let order = c.args.file.now.order in
-    err_at c.write_taps.result _ _ _ (flat_map (queue_bytes order) c.deref.result.now) (flat_map (tap_bytes order) c.deref-2.result.now) (flat_map (queue_bytes order) c.args.lanes.now.queues.items) (flat_map (tap_bytes order) c.args.lanes.now.taps.items)
-    (ap (λ (z : List QueueLane). flat_map (queue_bytes order) z) c.deref.ensures.value) (ap (λ (z : List TapLane). flat_map (tap_bytes order) z) c.deref-2.ensures.value) c.in_ok-write_queues.ensures.ok c.write_taps.ensures.err
+    err_at c.write_taps.result _ _ _ (flat_map (queue_bytes order) c.deref.result.now) (flat_map (tap_bytes order) c.deref-2.result.now) (flat_map (queue_bytes order) c.args.lanes.now.queues.items)
+    (flat_map (tap_bytes order) c.args.lanes.now.taps.items)
+    (ap (λ (z : List QueueLane). flat_map (queue_bytes order) z) c.deref.ensures.value) (ap (λ (z : List TapLane). flat_map (tap_bytes order) z) c.deref-2.ensures.value)
+    c.in_ok-write_queues.ensures.ok c.write_taps.ensures.err

@@ -7,5 +7,6 @@ use Rattle.rounds.proofs.writing.write_queue.Goals as goal
 
 pub returns-clause-err : goal.returns-clause-err
 returns-clause-err g c =
-    subst (λ (z : List Item). OnErr c.write_all_items.result (AppendsFront (g.K.Sink.held c.args.sink.now) (g.K.Sink.held c.write_all_items.new.sink) (bytes_of_items c.args.file.now.order c.args.lane.now.queue z)))
+    subst (λ (z : List Item). OnErr c.write_all_items.result (AppendsFront (g.K.Sink.held c.args.sink.now) (g.K.Sink.held c.write_all_items.new.sink)
+    (bytes_of_items c.args.file.now.order c.args.lane.now.queue z)))
     c.deref.ensures.value c.write_all_items.ensures.err

@@ -12,11 +12,13 @@ write_queue-requires g c =
 
 pub loop-lane-preserved : goal.loop-lane-preserved
 loop-lane-preserved g c = (
-  wrote_one_more (queue_bytes c.args.file.now.order) c.args.lanes.now c.loop-lane.lane-index c.lane-item.result (omega arith) c.lane-item.is _ _ _ c.loop-lane.invariant.0 c.in_ok-write_queue.ensures.ok,
+  wrote_one_more (queue_bytes c.args.file.now.order) c.args.lanes.now c.loop-lane.lane-index c.lane-item.result (omega arith) c.lane-item.is _ _ _ c.loop-lane.invariant.0
+      c.in_ok-write_queue.ensures.ok,
   omega (arith, c.in_ok-write_queue.ensures.cause.later),
 )
 
 pub returns-in_err-write_queue-clause-err : goal.returns-in_err-write_queue-clause-err
 returns-in_err-write_queue-clause-err g c =
     let p = err_from_is_err_and c.from_residual.result c.from_residual.ensures.1 in
-    rw p.1 (failed_at (queue_bytes c.args.file.now.order) c.args.lanes.now c.loop-lane.lane-index c.lane-item.result (omega arith) c.lane-item.is _ _ _ c.loop-lane.invariant.0 c.in_err-write_queue.ensures.err)
+    rw p.1 (failed_at (queue_bytes c.args.file.now.order) c.args.lanes.now c.loop-lane.lane-index c.lane-item.result (omega arith) c.lane-item.is _ _ _ c.loop-lane.invariant.0
+    c.in_err-write_queue.ensures.err)

@@ -5,4 +5,5 @@ use Rattle.rounds.specs.Lanes.{queue_bytes}
 use Rattle.rounds.proofs.writing.write_queues.Given as goal
 
 abbrev pub invariant-loop-lane : goal.invariant-loop-lane
-invariant-loop-lane g l = Appends (g.K.Sink.held l.initial.sink) (g.K.Sink.held l.sink) (flat_map (queue_bytes l.file.order) (take l.lane-index l.lanes)) × (g.K.Sink.faults l.initial.sink ≤ g.K.Sink.faults l.sink)
+invariant-loop-lane g l = Appends (g.K.Sink.held l.initial.sink) (g.K.Sink.held l.sink) (flat_map (queue_bytes l.file.order) (take l.lane-index l.lanes))
+    × (g.K.Sink.faults l.initial.sink ≤ g.K.Sink.faults l.sink)

@@ -19,4 +19,5 @@ loop-lane-preserved g c = (
 pub returns-in_err-write_tap-clause-err : goal.returns-in_err-write_tap-clause-err
 returns-in_err-write_tap-clause-err g c =
     let p = err_from_is_err_and c.from_residual.result c.from_residual.ensures.1 in
-    rw p.1 (failed_at (tap_bytes c.args.file.now.order) c.args.lanes.now c.loop-lane.lane-index c.lane-item.result (omega arith) c.lane-item.is _ _ _ c.loop-lane.invariant.0 c.in_err-write_tap.ensures.err)
+    rw p.1 (failed_at (tap_bytes c.args.file.now.order) c.args.lanes.now c.loop-lane.lane-index c.lane-item.result (omega arith) c.lane-item.is _ _ _ c.loop-lane.invariant.0
+    c.in_err-write_tap.ensures.err)

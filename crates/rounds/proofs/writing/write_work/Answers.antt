@@ -10,7 +10,9 @@ returns-in_err-write_all_items-clause-err g c =
     rw p.1 (front_more _ _ (bytes_of_items c.args.file.now.order 0 c.args.items.now) (lanes_bytes c.args.file.now.order c.args.lanes.now) c.in_err-write_all_items.ensures.err)
 
 pub returns-clause-ok : goal.returns-clause-ok
-returns-clause-ok g c = then_ok c.write_lanes.result _ _ _ (bytes_of_items c.args.file.now.order 0 c.args.items.now) (lanes_bytes c.args.file.now.order c.args.lanes.now) c.in_ok-write_all_items.ensures.ok c.write_lanes.ensures.ok
+returns-clause-ok g c = then_ok c.write_lanes.result _ _ _ (bytes_of_items c.args.file.now.order 0 c.args.items.now) (lanes_bytes c.args.file.now.order c.args.lanes.now)
+    c.in_ok-write_all_items.ensures.ok c.write_lanes.ensures.ok
 
 pub returns-clause-err : goal.returns-clause-err
-returns-clause-err g c = then_err c.write_lanes.result _ _ _ (bytes_of_items c.args.file.now.order 0 c.args.items.now) (lanes_bytes c.args.file.now.order c.args.lanes.now) c.in_ok-write_all_items.ensures.ok c.write_lanes.ensures.err
+returns-clause-err g c = then_err c.write_lanes.result _ _ _ (bytes_of_items c.args.file.now.order 0 c.args.items.now) (lanes_bytes c.args.file.now.order c.args.lanes.now)
+    c.in_ok-write_all_items.ensures.ok c.write_lanes.ensures.err

@@ -14,7 +14,17 @@ use Rattle.rounds.proofs.rounds.Rounds.bring_back.Goals as goal
 pub bring_round-requires-clause-round : goal.bring_round-requires-clause-round
 bring_round-requires-clause-round c =
     let s = c.self.inside in
-    round_left c.args.blocks (of_outcomes s.out) (of_packets c.args.packets.items) (of_items s.items.items) (of_lanes c.args.lanes) (of_clones c.args.kept.items) (no_outcomes s.out c.self.invariant.5) (no_items s.items.items c.self.invariant.8) c.requires.round
+    round_left c.args.blocks (of_outcomes s.out) (of_packets c.args.packets.items) (of_items s.items.items) (of_lanes c.args.lanes) (of_clones c.args.kept.items) (no_outcomes s.out c.self.invariant.5)
+    (no_items s.items.items c.self.invariant.8) c.requires.round
 
 pub bring_round-requires-clause-spare : goal.bring_round-requires-clause-spare
-bring_round-requires-clause-spare c = omega (arith, ap blocks_in_items c.self.invariant.8, c.requires.counts, c.self.invariant.6, c.requires.out, ap (λ (s : RoundsState). s.home) c.self.view_is, ap (λ (s : RoundsState). s.blocks) c.self.view_is)
+bring_round-requires-clause-spare c = omega (
+  arith,
+  ap blocks_in_items c.self.invariant.8,
+  c.requires.counts,
+  c.self.invariant.6,
+  c.requires.out,
+  ap (λ (s : RoundsState). s.home) c.self.view_is,
+  ap
+      (λ (s : RoundsState). s.blocks) c.self.view_is,
+)

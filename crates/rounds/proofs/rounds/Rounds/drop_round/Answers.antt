@@ -11,4 +11,5 @@ bring_back-requires-clause-round c =
     let r = c.round.inside in
     let ps = of_packets r.packets.items in
     let kept = c.new.result.items in
-    round_alone r.blocks ps (of_lanes c.no_lanes.result) (of_clones kept) (lanes_empty c.no_lanes.result c.no_lanes.ensures.none) (no_clones kept c.new.ensures.items) (fresh_round r.blocks ps c.round.invariant.0)
+    round_alone r.blocks ps (of_lanes c.no_lanes.result) (of_clones kept) (lanes_empty c.no_lanes.result c.no_lanes.ensures.none) (no_clones kept c.new.ensures.items)
+    (fresh_round r.blocks ps c.round.invariant.0)

@@ -17,4 +17,14 @@ bring_round-requires-clause-round c =
     c.worked.invariant.0
 
 pub bring_round-requires-clause-spare : goal.bring_round-requires-clause-spare
-bring_round-requires-clause-spare c = omega (arith, ap counts_of c.self.invariant.7, c.worked.invariant.1, ap (λ (w : WorkedState). w.blocks) c.worked.view_is, c.self.invariant.6, c.requires.out, ap (λ (s : RoundsState). s.home) c.self.view_is, ap (λ (s : RoundsState). s.blocks) c.self.view_is)
+bring_round-requires-clause-spare c = omega (
+  arith,
+  ap counts_of c.self.invariant.7,
+  c.worked.invariant.1,
+  ap (λ (w : WorkedState). w.blocks) c.worked.view_is,
+  c.self.invariant.6,
+  c.requires.out,
+  ap
+      (λ (s : RoundsState). s.home) c.self.view_is,
+  ap (λ (s : RoundsState). s.blocks) c.self.view_is,
+)

@@ -25,7 +25,8 @@ bring_back-requires-clause-round c =
     let r = c.round.inside in
     let k = c.keep_if in
     let ps = of_packets r.packets.items in
-    round_kept r.blocks ps (of_packets k.new.packets.items) (of_lanes c.no_lanes.result) (of_clones k.new.kept.items) k.ensures.kept (lanes_empty c.no_lanes.result c.no_lanes.ensures.none) (fresh_round r.blocks ps c.round.invariant.0)
+    round_kept r.blocks ps (of_packets k.new.packets.items) (of_lanes c.no_lanes.result) (of_clones k.new.kept.items) k.ensures.kept (lanes_empty c.no_lanes.result c.no_lanes.ensures.none)
+    (fresh_round r.blocks ps c.round.invariant.0)
 
 pub returns-in-Ok-clause-kept : goal.returns-in-Ok-clause-kept
 returns-in-Ok-clause-kept c =
@@ -33,4 +34,6 @@ returns-in-Ok-clause-kept c =
     let e = c.in-Ok.ensures in
     let k : Kept = record { packets = c.keep_if.new.packets; kept = c.keep_if.new.kept; blocks = r.blocks } in
     subst (λ (z : RoundState). IsKept c.args.self.now.keep (map packet_of z.packets) z.blocks k) c.round.view_is
-    (are_kept c.args.self.now.keep r.blocks r.packets.items k refl c.round.invariant.0 c.round.invariant.4 c.round.invariant.2 c.round.invariant.3 (omega (arith, c.requires.out, c.self.invariant.0, ap (λ (s : RoundsState). s.blocks) c.self.view_is, ap (λ (r : RoundState). r.blocks) c.round.view_is)) e.after e.kept e.fewer (λ keep. e.all (ap (λ (s : RoundsState). s.keep) c.self.view_is ∙ keep)))
+    (are_kept c.args.self.now.keep r.blocks r.packets.items k refl c.round.invariant.0 c.round.invariant.4 c.round.invariant.2 c.round.invariant.3
+    (omega (arith, c.requires.out, c.self.invariant.0, ap (λ (s : RoundsState). s.blocks) c.self.view_is, ap (λ (r : RoundState). r.blocks) c.round.view_is)) e.after e.kept e.fewer
+    (λ keep. e.all (ap (λ (s : RoundsState). s.keep) c.self.view_is ∙ keep)))

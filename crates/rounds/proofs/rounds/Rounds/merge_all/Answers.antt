@@ -61,7 +61,8 @@ returns-in-Ends-clause-taken g c =
     let l = c.rounds in
     let first = c.args.self.now in
     let new = c.step.new in
-    λ done. taken_then first.blocks (options_of first) l.number c.args.reader.now.place l.reader.place new.reader.place _ _ _ _ (g.K.Sink.held l.sink) (g.K.Sink.held l.sink) first.taken l.self.taken new.self.taken l.invariant.told (c.in-Ends.ensures.taken done)
+    λ done. taken_then first.blocks (options_of first) l.number c.args.reader.now.place l.reader.place new.reader.place _ _ _ _ (g.K.Sink.held l.sink)
+    (g.K.Sink.held l.sink) first.taken l.self.taken new.self.taken l.invariant.told (c.in-Ends.ensures.taken done)
 
 pub returns-in-Ends-clause-captured : goal.returns-in-Ends-clause-captured
 returns-in-Ends-clause-captured g c =

@@ -36,7 +36,8 @@ invariant_of-result g c =
     let none = c.no_lanes-lanes.ensures.none in
     let kept = c.new-kept.result.items in
     let no_kept = c.new-kept.ensures.items in (
-      round_work r.blocks (of_packets r.packets.items) (of_items is) (of_lanes lanes) (of_clones kept) c.in-Ok.ensures.kept (lanes_empty lanes none) (no_clones kept no_kept) (fresh_round r.blocks (of_packets r.packets.items) c.round.invariant.0),
+      round_work r.blocks (of_packets r.packets.items) (of_items is) (of_lanes lanes) (of_clones kept) c.in-Ok.ensures.kept (lanes_empty lanes none) (no_clones kept no_kept)
+          (fresh_round r.blocks (of_packets r.packets.items) c.round.invariant.0),
       omega (arith, c.in-Ok.ensures.count, blocks_within is, c.round.invariant.2, ap counts_of_queues none.0, ap blocks_of no_kept),
       spent_none lanes.taps.items none.1,
       small_alone is lanes (items_small c.self.inside.table.segs (map packet_of r.packets.items) is c.round.invariant.4 c.in-Ok.ensures.merged) none,
@@ -50,7 +51,8 @@ bring_round-requires-clause-round g c =
     let ps = of_packets r.packets.items in
     let lanes = c.no_lanes-lanes.result in
     let kept = c.new-kept.result.items in
-    round_back r.blocks ps (of_packets m.packets.items) (of_work m.items.items lanes kept) s.out m.out c.self.invariant.5 (work_empty m.items.items lanes kept c.in-Err.ensures.none c.no_lanes-lanes.ensures.none c.new-kept.ensures.items) c.in-Err.ensures.back
+    round_back r.blocks ps (of_packets m.packets.items) (of_work m.items.items lanes kept) s.out m.out c.self.invariant.5 (work_empty m.items.items lanes kept c.in-Err.ensures.none
+    c.no_lanes-lanes.ensures.none c.new-kept.ensures.items) c.in-Err.ensures.back
     (fresh_round r.blocks ps c.round.invariant.0)
 
 pub returns-in-Ok-clause-records : goal.returns-in-Ok-clause-records

@@ -17,7 +17,8 @@ returns-clause-given g c =
     let took : min (first.taken + round_need (map packet_of read.round.packets)) (2 ^ 64 - 1) ≤ p.new.self.taken = omega (arith, r.taken, r.need, ap (λ (s : RoundsState). s.taken) p.ensures.home) in
     (step_says first.blocks first c.args.file.now c.args.reader.now.place mid.reader.place read.round.packets c.requires.file r.budget.0 (omega (arith, r.need, r.home)) c.args.number
     (g.S.Source.left c.args.reader.now.source.now) (g.S.Source.left mid.reader.source.now) (g.K.Sink.held c.args.sink.now) (g.K.Sink.held p.new.sink) first.taken p.new.self.taken r.captured
-    (Rose (g.S.Source.faults c.args.reader.now.source.now) (g.S.Source.faults mid.reader.source.now)) read.end p.result r.full r.fewer took r.failed r.given (options_of mid.self) r.same.1 p.ensures.puts p.ensures.gives).given
+    (Rose (g.S.Source.faults c.args.reader.now.source.now) (g.S.Source.faults mid.reader.source.now)) read.end p.result r.full r.fewer took r.failed r.given
+    (options_of mid.self) r.same.1 p.ensures.puts p.ensures.gives).given
 
 pub returns-clause-captured : goal.returns-clause-captured
 returns-clause-captured g c =
@@ -29,7 +30,8 @@ returns-clause-captured g c =
     let took : min (first.taken + round_need (map packet_of read.round.packets)) (2 ^ 64 - 1) ≤ p.new.self.taken = omega (arith, r.taken, r.need, ap (λ (s : RoundsState). s.taken) p.ensures.home) in
     (step_says first.blocks first c.args.file.now c.args.reader.now.place mid.reader.place read.round.packets c.requires.file r.budget.0 (omega (arith, r.need, r.home)) c.args.number
     (g.S.Source.left c.args.reader.now.source.now) (g.S.Source.left mid.reader.source.now) (g.K.Sink.held c.args.sink.now) (g.K.Sink.held p.new.sink) first.taken p.new.self.taken r.captured
-    (Rose (g.S.Source.faults c.args.reader.now.source.now) (g.S.Source.faults mid.reader.source.now)) read.end p.result r.full r.fewer took r.failed r.given (options_of mid.self) r.same.1 p.ensures.puts p.ensures.gives).captured
+    (Rose (g.S.Source.faults c.args.reader.now.source.now) (g.S.Source.faults mid.reader.source.now)) read.end p.result r.full r.fewer took r.failed r.given
+    (options_of mid.self) r.same.1 p.ensures.puts p.ensures.gives).captured
 
 pub returns-clause-taken : goal.returns-clause-taken
 returns-clause-taken g c =
@@ -41,7 +43,8 @@ returns-clause-taken g c =
     let took : min (first.taken + round_need (map packet_of read.round.packets)) (2 ^ 64 - 1) ≤ p.new.self.taken = omega (arith, r.taken, r.need, ap (λ (s : RoundsState). s.taken) p.ensures.home) in
     (step_says first.blocks first c.args.file.now c.args.reader.now.place mid.reader.place read.round.packets c.requires.file r.budget.0 (omega (arith, r.need, r.home)) c.args.number
     (g.S.Source.left c.args.reader.now.source.now) (g.S.Source.left mid.reader.source.now) (g.K.Sink.held c.args.sink.now) (g.K.Sink.held p.new.sink) first.taken p.new.self.taken r.captured
-    (Rose (g.S.Source.faults c.args.reader.now.source.now) (g.S.Source.faults mid.reader.source.now)) read.end p.result r.full r.fewer took r.failed r.given (options_of mid.self) r.same.1 p.ensures.puts p.ensures.gives).taken
+    (Rose (g.S.Source.faults c.args.reader.now.source.now) (g.S.Source.faults mid.reader.source.now)) read.end p.result r.full r.fewer took r.failed r.given
+    (options_of mid.self) r.same.1 p.ensures.puts p.ensures.gives).taken
 
 pub returns-clause-moves : goal.returns-clause-moves
 returns-clause-moves g c =
@@ -53,7 +56,8 @@ returns-clause-moves g c =
     let took : min (first.taken + round_need (map packet_of read.round.packets)) (2 ^ 64 - 1) ≤ p.new.self.taken = omega (arith, r.taken, r.need, ap (λ (s : RoundsState). s.taken) p.ensures.home) in
     (step_says first.blocks first c.args.file.now c.args.reader.now.place mid.reader.place read.round.packets c.requires.file r.budget.0 (omega (arith, r.need, r.home)) c.args.number
     (g.S.Source.left c.args.reader.now.source.now) (g.S.Source.left mid.reader.source.now) (g.K.Sink.held c.args.sink.now) (g.K.Sink.held p.new.sink) first.taken p.new.self.taken r.captured
-    (Rose (g.S.Source.faults c.args.reader.now.source.now) (g.S.Source.faults mid.reader.source.now)) read.end p.result r.full r.fewer took r.failed r.given (options_of mid.self) r.same.1 p.ensures.puts p.ensures.gives).moves
+    (Rose (g.S.Source.faults c.args.reader.now.source.now) (g.S.Source.faults mid.reader.source.now)) read.end p.result r.full r.fewer took r.failed r.given
+    (options_of mid.self) r.same.1 p.ensures.puts p.ensures.gives).moves
 
 pub returns-clause-read : goal.returns-clause-read
 returns-clause-read g c =
@@ -65,7 +69,8 @@ returns-clause-read g c =
     let took : min (first.taken + round_need (map packet_of read.round.packets)) (2 ^ 64 - 1) ≤ p.new.self.taken = omega (arith, r.taken, r.need, ap (λ (s : RoundsState). s.taken) p.ensures.home) in
     (step_says first.blocks first c.args.file.now c.args.reader.now.place mid.reader.place read.round.packets c.requires.file r.budget.0 (omega (arith, r.need, r.home)) c.args.number
     (g.S.Source.left c.args.reader.now.source.now) (g.S.Source.left mid.reader.source.now) (g.K.Sink.held c.args.sink.now) (g.K.Sink.held p.new.sink) first.taken p.new.self.taken r.captured
-    (Rose (g.S.Source.faults c.args.reader.now.source.now) (g.S.Source.faults mid.reader.source.now)) read.end p.result r.full r.fewer took r.failed r.given (options_of mid.self) r.same.1 p.ensures.puts p.ensures.gives).read
+    (Rose (g.S.Source.faults c.args.reader.now.source.now) (g.S.Source.faults mid.reader.source.now)) read.end p.result r.full r.fewer took r.failed r.given
+    (options_of mid.self) r.same.1 p.ensures.puts p.ensures.gives).read
 
 pub returns-clause-front : goal.returns-clause-front
 returns-clause-front g c =
@@ -77,4 +82,5 @@ returns-clause-front g c =
     let took : min (first.taken + round_need (map packet_of read.round.packets)) (2 ^ 64 - 1) ≤ p.new.self.taken = omega (arith, r.taken, r.need, ap (λ (s : RoundsState). s.taken) p.ensures.home) in
     (step_says first.blocks first c.args.file.now c.args.reader.now.place mid.reader.place read.round.packets c.requires.file r.budget.0 (omega (arith, r.need, r.home)) c.args.number
     (g.S.Source.left c.args.reader.now.source.now) (g.S.Source.left mid.reader.source.now) (g.K.Sink.held c.args.sink.now) (g.K.Sink.held p.new.sink) first.taken p.new.self.taken r.captured
-    (Rose (g.S.Source.faults c.args.reader.now.source.now) (g.S.Source.faults mid.reader.source.now)) read.end p.result r.full r.fewer took r.failed r.given (options_of mid.self) r.same.1 p.ensures.puts p.ensures.gives).front
+    (Rose (g.S.Source.faults c.args.reader.now.source.now) (g.S.Source.faults mid.reader.source.now)) read.end p.result r.full r.fewer took r.failed r.given
+    (options_of mid.self) r.same.1 p.ensures.puts p.ensures.gives).front

@@ -64,7 +64,8 @@ returns-clause-given g c =
       | in-Err-wrote b ↦
           subst (λ z. Told (g.S.Source.left c.args.reader.now.source.now) (g.S.Source.left r.new.reader.source.now) (Moves c.args.self.now.blocks old new h k z)) (sym b.result-is)
           (subst (λ (n : ℕ). Told (g.S.Source.left c.args.reader.now.source.now) (g.S.Source.left r.new.reader.source.now) (Moves n old new h k (Err b.fault_of.result))) blocks
-          (not_moved_given _ _ h k made 0 c.in-Ok.read.1 p.number old new front p b.in-Err-wrote.refused b.fault_of.result next c.in-Ok.ensures.offset refl b.fault_of.ensures.fault c.in-Ok.ensures.given
+          (not_moved_given _ _ h k made 0 c.in-Ok.read.1 p.number old new front p b.in-Err-wrote.refused b.fault_of.result next c.in-Ok.ensures.offset refl b.fault_of.ensures.fault
+          c.in-Ok.ensures.given
           (subst (WritesRecord old.file.order (record_of front p) h k) b.in-Err-wrote.is wrote)))
     ]
 
