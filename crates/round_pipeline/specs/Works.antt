@@ -103,3 +103,22 @@ pub record WentOn (head : FileHead) (old new : RoundsState) (from to : Spot) (be
 abbrev pub MayHaveGoneOn : FileHead → RoundsState → RoundsState → Spot → Spot → Sunk → Sunk → Option MergeEnd → Type 0
 MayHaveGoneOn head old new from to before after None = Idle old new from to before after
 MayHaveGoneOn head old new from to before after (Some end) = WentOn head old new from to before after end
+
+-- ---- the whole of a capture
+
+-- merging began here and ended so, as `merge_all` of the rounds says
+pub record Merged (old new : RoundsState) (from to : Spot) (before after : Sunk) (end : MergeEnd) : Type 0 where
+  pub given : Told from.left to.left
+      (Passes (merging old.blocks (options_of old) from.place) before.held after.held (ending_of end))
+  pub front : FrontUnless (Rose from.faults to.faults) (merging old.blocks (options_of old) from.place)
+      from.left to.left before.held after.held
+  pub flushed : flushes (ending_of end) ≡ true → SaysFlushed after.held after.flushed true
+  pub home : new.home ≡ new.blocks
+  pub same : (new.blocks ≡ old.blocks) × (options_of new ≡ options_of old) × (new.keep ≡ old.keep)
+  pub taken : end ≡ ends.Done → Told from.left to.left (TakesAll from.taken to.taken from.place)
+  pub least : old.taken ≤ new.taken
+  pub captured : Told from.left to.left (HoldsCaptured old.blocks old.budget from.place end)
+  pub later : from.faults ≤ to.faults
+  pub later_sink : before.faults ≤ after.faults
+  pub read : end ≡ ends.ReadFault → Rose from.faults to.faults
+  pub write : end ≡ ends.WriteFault → Rose before.faults after.faults

@@ -1,10 +1,15 @@
-//! Merges a capture by two threads: one reads the next rounds while the other works and writes.
+//! Merges a capture by two sides: one reads the next rounds while the other works and writes, with all who run lanes beside it.
 //!
 //! ```text
-//!   reads ── Parcel: a round, its end, an empty shelf ──> works, writes
-//!     ^                                                        │
-//!     └────── Token: the shelf, with the round's blocks ───────┘
+//!   reads ── Parcel: a round, its end, an empty shelf ──> works, writes ── lanes, as tasks ──> whoever is free
+//!     ^                                                      │    ^                                 │
+//!     └───── Token: the shelf, with the round's blocks ──────┘    └───────── lanes, done ───────────┘
 //! ```
+//!
+//! All threads are started once, as the leaves of one tree of joins for the whole run, and none in a round. Where queues and taps are two
+//! or more a desk is opened for their lanes (`round_work::LaneCrew`): as many run them as there are lanes and processors for, and two at
+//! least, so that two lanes may wait for each other. The side that works does lanes itself while it waits, so a thread that can't be made
+//! for another costs nothing. Where there is no memory for a desk it does all of them.
 //!
 //! The side that reads owns the pool and takes from it alone. What a round's work leaves comes home on the side that works, onto a shelf:
 //! a pool without blocks of its own. The shelf goes back in a token, and its blocks into the pool. There are three shelves, so reading is at
@@ -29,6 +34,7 @@
 #![tactic(auto)]
 
 mod bells;
+mod crew;
 mod desk;
 mod gather;
 mod merge;
@@ -36,4 +42,4 @@ mod parcel;
 mod ring;
 mod sides;
 
-pub use merge::merge_beside;
+pub use crew::merge_beside;

@@ -1,18 +1,12 @@
 //! Merges a capture by two sides.
-ghost use Rattle.std.specs.Prelude.{◌≡◌, ◌⊎◌, ◌+◌, ◌-◌, ◌≤◌, ◌^◌, true, None, Some, [], min, IfSome, IfOk, OnOk, OnErr};
-ghost use Rattle.off_io.specs.Content.{SaysFlushed};
-ghost use Rattle.off_io.specs.Faults.{Rose};
-ghost use Rattle.off_io.specs.Told.{Told};
-ghost use Rattle.offload_model.specs.Need.{round_need};
-ghost use Rattle.offload_model.specs.Passing.{merging, Passes, FrontUnless, flushes};
+ghost use Rattle.std.specs.Prelude.{◌≡◌, ◌⊎◌, ◌+◌, ◌-◌, true, None, Some, [], IfSome, IfOk, OnOk, OnErr};
 ghost use Rattle.pcap_io.specs.declared.heads.Link.TheVariants.{Ethernet};
-ghost use Rattle.pcap_io.specs.Places.{IsReady, found_at};
-ghost use Rattle.pcap_io.specs.Readers.{place_of, source_of, SameLoan};
-ghost use Rattle.rounds.specs.Merging.{ending_of, options_of, HoldsCaptured};
+ghost use Rattle.pcap_io.specs.Places.{IsReady};
+ghost use Rattle.pcap_io.specs.Readers.{place_of, SameLoan};
 ghost use Rattle.rtrb.specs.Ring.{sent, received, IsPair};
 ghost use Rattle.round_pipeline.specs.Parcels.{IsOfRing, shelved};
 ghost use Rattle.round_pipeline.specs.Reads.{reader_at};
-ghost use Rattle.round_pipeline.specs.Works.{MayGoOn, MayHaveGoneOn, WentOn, sink_at};
+ghost use Rattle.round_pipeline.specs.Works.{MayGoOn, MayHaveGoneOn, Merged, WentOn, sink_at};
 
 use crate::bells::Bells;
 use crate::desk::{Desk, SHELVES, Sleeper, Supply, new_shelves};
@@ -20,8 +14,9 @@ use crate::gather::gather;
 use crate::parcel::{Fits, Naming, Parcel, Token};
 use crate::sides::run_sides;
 use block_pool::Pool;
-use off_io::{Gate, Sink, Source};
+use off_io::{Sink, Source};
 use pcap_io::{CaptureReader, FileHead};
+use round_work::Works;
 use rounds::{Intake, MergeEnd, Rounds, Step};
 use rtrb::{Consumer, Producer, RingBuffer};
 use std::alloc::{AllocError, Global};
@@ -32,13 +27,12 @@ use std::thread;
 use std::thread::Threads;
 
 // Merges what is left behind the first round, in this thread.
-fn merge_rest<R: Threads + Sync, S: Source, K: Sink, G: Gate + Sync>(
-    rt: &R,
+fn merge_rest<W: Works, S: Source, K: Sink>(
+    works: &mut W,
     rounds: &mut Rounds,
     reader: &mut CaptureReader<'_, S>,
     file: &FileHead,
     sink: &mut K,
-    gate: &G,
 ) -> MergeEnd
     requires may { MayGoOn file.now rounds.old (place_of reader.old) }
     ensures same_source { SameLoan reader.old reader.new }
@@ -46,7 +40,7 @@ fn merge_rest<R: Threads + Sync, S: Source, K: Sink, G: Gate + Sync>(
 {
     let mut number = 1;
     'rounds: loop {
-        match rounds.step(rt, reader, file, sink, gate, number) {
+        match rounds.step(works, reader, file, sink, number) {
             Step::Goes => number += 1,
             Step::Ends(end) => return end,
         }
@@ -97,20 +91,14 @@ fn ending(end: Option<MergeEnd>, waiting: usize) -> Option<MergeEnd>
 
 // Merges what is left by two sides, of which tokens come back by this ring. `None` where there is no memory or no thread for two: then
 // nothing was read or written.
-fn merge_named<
-    N: Naming + Send,
-    R: Threads + Wait + Sync,
-    S: Source + Send,
-    K: Sink,
-    G: Gate + Sync,
->(
+fn merge_named<N: Naming + Send, R: Threads + Wait + Sync, W: Works, S: Source + Send, K: Sink>(
     rt: &R,
     alloc: Global,
+    works: &mut W,
     rounds: &mut Rounds,
     reader: &mut CaptureReader<'_, S>,
     file: &FileHead,
     sink: &mut K,
-    gate: &G,
     told: Producer<Token>,
     tokens: Consumer<Token>,
 ) -> Option<MergeEnd>
@@ -136,11 +124,11 @@ fn merge_named<
     };
     let end = run_sides(
         rt,
+        works,
         rounds,
         reader,
         file,
         sink,
-        gate,
         &mut supply,
         &mut from,
         &mut told,
@@ -159,14 +147,14 @@ fn merge_named<
 }
 
 // The same, by a call that picks how many blocks there are and which ring it is.
-fn merge_ringed<R: Threads + Wait + Sync, S: Source + Send, K: Sink, G: Gate + Sync>(
+fn merge_ringed<R: Threads + Wait + Sync, W: Works, S: Source + Send, K: Sink>(
     rt: &R,
     alloc: Global,
+    works: &mut W,
     rounds: &mut Rounds,
     reader: &mut CaptureReader<'_, S>,
     file: &FileHead,
     sink: &mut K,
-    gate: &G,
     told: Producer<Token>,
     tokens: Consumer<Token>,
 ) -> Option<MergeEnd>
@@ -176,18 +164,18 @@ fn merge_ringed<R: Threads + Wait + Sync, S: Source + Send, K: Sink, G: Gate + S
     ensures same_source { SameLoan reader.old reader.new }
     ensures went { MayHaveGoneOn file.now rounds.old rounds.new (reader_at S.left S.faults reader.old rounds.old.taken) (reader_at S.left S.faults reader.new rounds.new.taken) (sink_at K.held K.is_flushed K.faults sink.old) (sink_at K.held K.is_flushed K.faults sink.new) result }
 {
-    merge_named::<Brand, R, S, K, G>(rt, alloc, rounds, reader, file, sink, gate, told, tokens)
+    merge_named::<Brand, R, W, S, K>(rt, alloc, works, rounds, reader, file, sink, told, tokens)
 }
 
 // Merges what is left behind the first round by two sides, or in this thread where there is no memory or no thread for two.
-fn merge_on<R: Threads + Wait + Sync, S: Source + Send, K: Sink, G: Gate + Sync>(
+fn merge_on<R: Threads + Wait + Sync, W: Works, S: Source + Send, K: Sink>(
     rt: &R,
     alloc: Global,
+    works: &mut W,
     rounds: &mut Rounds,
     reader: &mut CaptureReader<'_, S>,
     file: &FileHead,
     sink: &mut K,
-    gate: &G,
 ) -> MergeEnd
     requires may { MayGoOn file.now rounds.old (place_of reader.old) }
     ensures same_source { SameLoan reader.old reader.new }
@@ -195,12 +183,12 @@ fn merge_on<R: Threads + Wait + Sync, S: Source + Send, K: Sink, G: Gate + Sync>
 {
     match RingBuffer::new(alloc, SHELVES + 1) {
         Ok((told, tokens)) => {
-            match merge_ringed(rt, alloc, rounds, reader, file, sink, gate, told, tokens) {
+            match merge_ringed(rt, alloc, works, rounds, reader, file, sink, told, tokens) {
                 Some(end) => end,
-                None => merge_rest(rt, rounds, reader, file, sink, gate),
+                None => merge_rest(works, rounds, reader, file, sink),
             }
         }
-        Err(_) => merge_rest(rt, rounds, reader, file, sink, gate),
+        Err(_) => merge_rest(works, rounds, reader, file, sink),
     }
 }
 
@@ -212,41 +200,31 @@ fn is_alone(rt: &impl Threads) -> bool {
     }
 }
 
-/// Merges as `merge_all` of the rounds, whose clauses these are, but that the next rounds are read while one is worked. On one
-/// processor, and where there is no memory or no thread for a second side, all is done in the thread that calls. Of a capture of
-/// one round no thread is made.
-pub fn merge_beside<R: Threads + Wait + Sync, S: Source + Send, K: Sink, G: Gate + Sync>(
+/// Merges by whoever works, as `merge_all` of the rounds; the next rounds are read while one is worked. On one processor, and
+/// where there is no memory or no thread for a second side, they are read here. Of a capture of one round no thread is made for it.
+pub(crate) fn merge_by<R: Threads + Wait + Sync, W: Works, S: Source + Send, K: Sink>(
     rt: &R,
     alloc: Global,
+    works: &mut W,
     rounds: &mut Rounds,
     reader: &mut CaptureReader<'_, S>,
     file: &FileHead,
     sink: &mut K,
-    gate: &G,
 ) -> MergeEnd
     requires ready { IsReady (place_of reader.old) }
     requires link { (place_of reader.old).link ≡ Ethernet }
     requires file { (place_of reader.old).file ≡ file.now }
     requires home { rounds.old.home ≡ rounds.old.blocks }
     ensures same_source { SameLoan reader.old reader.new }
-    ensures given { Told (S.left (source_of reader.old)) (S.left (source_of reader.new)) (Passes (merging rounds.old.blocks (options_of rounds.old) (place_of reader.old)) (K.held sink.old) (K.held sink.new) (ending_of result)) }
-    ensures front { FrontUnless (Rose (S.faults (source_of reader.old)) (S.faults (source_of reader.new))) (merging rounds.old.blocks (options_of rounds.old) (place_of reader.old)) (S.left (source_of reader.old)) (S.left (source_of reader.new)) (K.held sink.old) (K.held sink.new) }
-    ensures flushed { flushes (ending_of result) ≡ true → SaysFlushed (K.held sink.new) (K.is_flushed sink.new) true }
-    ensures home { rounds.new.home ≡ rounds.new.blocks }
-    ensures same { (rounds.new.blocks ≡ rounds.old.blocks) × (options_of rounds.new ≡ options_of rounds.old) × (rounds.new.keep ≡ rounds.old.keep) }
-    ensures taken { result ≡ MergeEnd.Done → Told (S.left (source_of reader.old)) (S.left (source_of reader.new)) (λ bytes left. min (rounds.old.taken + round_need (found_at (place_of reader.old) bytes).packets) (2 ^ 64 - 1) ≤ rounds.new.taken) }
-    ensures least { rounds.old.taken ≤ rounds.new.taken }
-    ensures captured { Told (S.left (source_of reader.old)) (S.left (source_of reader.new)) (HoldsCaptured rounds.old.blocks rounds.old.budget (place_of reader.old) result) }
-    ensures later { S.faults (source_of reader.old) ≤ S.faults (source_of reader.new) }
-    ensures later_sink { K.faults sink.old ≤ K.faults sink.new }
-    ensures read { result ≡ MergeEnd.ReadFault → Rose (S.faults (source_of reader.old)) (S.faults (source_of reader.new)) }
-    ensures write { result ≡ MergeEnd.WriteFault → Rose (K.faults sink.old) (K.faults sink.new) }
+    ensures merged { Merged rounds.old rounds.new (reader_at S.left S.faults reader.old rounds.old.taken)
+        (reader_at S.left S.faults reader.new rounds.new.taken) (sink_at K.held K.is_flushed K.faults sink.old)
+        (sink_at K.held K.is_flushed K.faults sink.new) result }
 {
     if is_alone(rt) {
-        return rounds.merge_all(rt, reader, file, sink, gate);
+        return rounds.merge_all(works, reader, file, sink);
     }
-    match rounds.step(rt, reader, file, sink, gate, 0) {
+    match rounds.step(works, reader, file, sink, 0) {
         Step::Ends(end) => end,
-        Step::Goes => merge_on(rt, alloc, rounds, reader, file, sink, gate),
+        Step::Goes => merge_on(rt, alloc, works, rounds, reader, file, sink),
     }
 }

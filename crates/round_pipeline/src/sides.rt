@@ -18,8 +18,9 @@ use crate::desk::{Post, Supply};
 use crate::parcel::{Fits, Naming, Parcel, Token};
 use crate::ring::{receive, send};
 use block_pool::Pool;
-use off_io::{Gate, Sink, Source};
+use off_io::{Sink, Source};
 use pcap_io::{CaptureReader, FileHead};
+use round_work::Works;
 use rounds::{MergeEnd, RoundEnd, RoundRead, Rounds, Step};
 use rtrb::{Consumer, Producer};
 use std::alloc::Global;
@@ -37,14 +38,14 @@ fn is_full(end: RoundEnd) -> bool
 }
 
 // Sends each round that it reads, as long as there are shelves.
-fn read_side<N: Naming, R: Wait, W: Post + Drop, S: Source>(
+fn read_side<N: Naming, R: Wait, P: Post + Drop, S: Source>(
     rt: &R,
     reader: &mut CaptureReader<'_, S>,
-    supply: &mut Supply<W, N>,
+    supply: &mut Supply<P, N>,
 )
     requires ready { IsReady (place_of reader.old) }
     requires link { (place_of reader.old).link ≡ Ethernet }
-    requires named { (supply.old.intake.blocks ≡ N.blocks) × (W.blocks ≡ N.blocks) }
+    requires named { (supply.old.intake.blocks ≡ N.blocks) × (P.blocks ≡ N.blocks) }
     requires none { sent supply.old.out ≡ [] }
     ensures ring { SameProducer supply.old.out supply.new.out }
     ensures same_source { SameLoan reader.old reader.new }
@@ -129,12 +130,12 @@ fn send_home<R: Wait>(
 }
 
 // Works and writes each round that comes, and sends its blocks back. `None` where no reader has begun.
-fn work_side<N: Naming, R: Threads + Wait + Sync, K: Sink, G: Gate + Sync>(
+fn work_side<N: Naming, R: Wait, W: Works, K: Sink>(
     rt: &R,
+    works: &mut W,
     rounds: &mut Rounds,
     file: &FileHead,
     sink: &mut K,
-    gate: &G,
     from: &mut Consumer<Option<Parcel>, Global, Fits<N>>,
     told: &mut Producer<Token>,
     bells: &Bells,
@@ -158,7 +159,7 @@ fn work_side<N: Naming, R: Threads + Wait + Sync, K: Sink, G: Gate + Sync>(
             return Some(MergeEnd::NoMemory);
         };
         let (number, read, shelf) = parcel.open();
-        match rounds.put_read(rt, read, file, sink, gate, number) {
+        match rounds.put_read(works, read, file, sink, number) {
             Step::Ends(end) => {
                 send(rt, told, Token { shelf, goes: false });
                 bells.reader.unpark();
@@ -178,25 +179,25 @@ pub(crate) fn run_sides<
     'a,
     N: Naming + Send,
     R: Threads + Wait + Sync,
-    W: Post + Send + Drop,
+    P: Post + Send + Drop,
+    W: Works,
     S: Source + Send,
     K: Sink,
-    G: Gate + Sync,
 >(
     rt: &'a R,
+    works: &'a mut W,
     rounds: &'a mut Rounds,
     reader: &'a mut CaptureReader<'_, S>,
     file: &'a FileHead,
     sink: &'a mut K,
-    gate: &'a G,
-    supply: &'a mut Supply<W, N>,
+    supply: &'a mut Supply<P, N>,
     from: &'a mut Consumer<Option<Parcel>, Global, Fits<N>>,
     told: &'a mut Producer<Token>,
     bells: &'a Bells,
 ) -> Option<MergeEnd>
     requires ready { IsReady (place_of reader.old) }
     requires link { (place_of reader.old).link ≡ Ethernet }
-    requires named { (supply.old.intake.blocks ≡ N.blocks) × (rounds.old.blocks ≡ N.blocks) × (W.blocks ≡ N.blocks) }
+    requires named { (supply.old.intake.blocks ≡ N.blocks) × (rounds.old.blocks ≡ N.blocks) × (P.blocks ≡ N.blocks) }
     requires bare { rounds.old.home ≡ 0 }
     requires none { (sent supply.old.out ≡ []) × (received from.old ≡ []) × (sent told.old ≡ []) }
     ensures rings { SameProducer supply.old.out supply.new.out × SameConsumer from.old from.new × SameProducer told.old told.new }
@@ -217,7 +218,7 @@ pub(crate) fn run_sides<
         &mut ||
             requires ready { IsReady (place_of reader.now) }
             requires link { (place_of reader.now).link ≡ Ethernet }
-            requires named { (supply.now.intake.blocks ≡ N.blocks) × (W.blocks ≡ N.blocks) }
+            requires named { (supply.now.intake.blocks ≡ N.blocks) × (P.blocks ≡ N.blocks) }
             requires none { sent supply.now.out ≡ [] }
             ensures ring { SameProducer supply.entry.now.out supply.exit.now.out }
             ensures same_source { SameLoan reader.entry.now reader.exit.now }
@@ -237,7 +238,7 @@ pub(crate) fn run_sides<
             ensures flushed { IfSome result (λ end. flushes (ending_of end) ≡ true → SaysFlushed (K.held sink.exit.now) (K.is_flushed sink.exit.now) true) }
             ensures later { K.faults sink.entry.now ≤ K.faults sink.exit.now }
             ensures rose { IfSome result (λ end. end ≡ MergeEnd.WriteFault → Rose (K.faults sink.entry.now) (K.faults sink.exit.now)) }
-        { work_side(rt, rounds, file, sink, gate, from, told, bells) },
+        { work_side(rt, works, rounds, file, sink, from, told, bells) },
     );
     end
 }
