@@ -1,5 +1,6 @@
 -- Rounds that were read one after another.
-use Rattle.std.proofs.Common.{◌≡◌, ◌+◌, ◌-◌, ◌^◌, ◌≤◌, ◌⊎◌, inl, inr, ℕ, List, [], ◌∷◌, ◌++◌, true, Option, Some, None, MatchOption, refl, sym, ap, ◌∙◌, subst, length, min, arith, append_assoc, append-nil}
+use Rattle.std.proofs.Common.{◌≡◌, ◌+◌, ◌-◌, ◌^◌, ◌≤◌, ◌⊎◌, inl, inr, ℕ, List, [], ◌∷◌, ◌++◌, true, Option, Some, None, MatchOption, refl, sym, ap, ◌∙◌, subst, length, min, arith, append_assoc}
+use Rattle.std.proofs.Common.{append-nil}
 use Rattle.std.specs.List.{AllByRecursion}
 use Rattle.std.proofs.lemmas.Bool.{false≢true}
 use Rattle.off_io.specs.Told.{Told}
@@ -70,7 +71,8 @@ all_go_last (y ∷ xs) x go e = (go.0, all_go_last xs x go.1 e)
 
 module _ (blocks budget : ℕ) where
   -- one round more
-  pub reads_last : (from mid to : Spot) (xs : List (Option Parcel)) (x : Option Parcel) → Reads blocks budget from xs mid → AllGo xs → ReadNext blocks budget mid to x → Reads blocks budget from (xs ++ x ∷ []) to
+  pub reads_last : (from mid to : Spot) (xs : List (Option Parcel)) (x : Option Parcel) → Reads blocks budget from xs mid → AllGo xs → ReadNext blocks budget mid to x
+      → Reads blocks budget from (xs ++ x ∷ []) to
   reads_last from mid to [] x reads go next = (to, subst (λ (m : Spot). ReadNext blocks budget m to x) reads next, (λ _. refl), refl)
   reads_last from mid to (y ∷ xs) x reads go next =
       (reads.0, reads.1, (λ e. absurd (false≢true (sym e ∙ go.0))), reads_last reads.0 mid to xs x reads.3 go.1 next)
@@ -128,7 +130,8 @@ module _ (blocks budget : ℕ) where
       (next_loses from reads.0 x reads.1) (reads_lose reads.0 to xs reads.3)
 
 -- the same round, by names of the same numbers
-pub read_as : (b b' n n' t t' : ℕ) (place : Place) (left : Option (List ℕ)) (faults : ℕ) (to : Spot) (p : Parcel) → b' ≡ b → n' ≡ n → t' ≡ t → ReadRound b' n' (spot place left faults t') to p → ReadRound b n (spot place left faults t) to p
+pub read_as : (b b' n n' t t' : ℕ) (place : Place) (left : Option (List ℕ)) (faults : ℕ) (to : Spot) (p : Parcel) → b' ≡ b → n' ≡ n → t' ≡ t → ReadRound b' n' (spot place left faults t') to p
+    → ReadRound b n (spot place left faults t) to p
 read_as b b' n n' t t' place left faults to p eb en et r =
     subst (λ (x : ℕ). ReadRound x n (spot place left faults t) to p) eb
     (subst (λ (x : ℕ). ReadRound b' x (spot place left faults t) to p) en (subst (λ (x : ℕ). ReadRound b' n' (spot place left faults x) to p) et r))

@@ -25,7 +25,8 @@ none_known [] e = refl
 none_known (x ∷ xs) e = absurd (omega (arith, e))
 
 -- the same reading, by names of the same numbers
-pub reads_as : (i i' budget budget' : ℕ) (from from' to to' : Spot) (xs xs' : List (Option Parcel)) → i' ≡ i → budget' ≡ budget → from' ≡ from → to' ≡ to → xs' ≡ xs → Reads i' budget' from' xs' to' → Reads i budget from xs to
+pub reads_as : (i i' budget budget' : ℕ) (from from' to to' : Spot) (xs xs' : List (Option Parcel)) → i' ≡ i → budget' ≡ budget → from' ≡ from → to' ≡ to → xs' ≡ xs → Reads i' budget' from' xs' to'
+    → Reads i budget from xs to
 reads_as i i' budget budget' from from' to to' xs xs' ei eb ef et ex reads =
     subst (λ (n : ℕ). Reads n budget from xs to) ei
     (subst (λ (n : ℕ). Reads i' n from xs to) eb
@@ -130,7 +131,8 @@ module _ (state parted worked new : RoundsState) (intake : IntakeState) (back : 
   abbrev Came : Sunk → Sunk → Option MergeEnd → Type 0
   Came before after result = MayHaveGoneOn file state new first last before after result
 
-  unworked : (before after : Sunk) (sent got known : List (Option Parcel)) (result : Option MergeEnd) (waiting : ℕ) → state.taken < 2 ^ 64 → got ++ known ≡ sent → waiting ≡ length known → Sent sent → from.faults ≤ to.faults
+  unworked : (before after : Sunk) (sent got known : List (Option Parcel)) (result : Option MergeEnd) (waiting : ℕ) → state.taken < 2 ^ 64 → got ++ known ≡ sent → waiting ≡ length known → Sent sent
+      → from.faults ≤ to.faults
       → (got ≡ []) × (after.held ≡ before.held) → before.faults ≤ after.faults → (result ≡ Some ends.NoMemory) ⊎ ((result ≡ None) × (waiting ≡ 0)) → Came before after result
   unworked before after sent got known result waiting few fifo count reads later wrote later_sink (inl lost) =
       subst (Came before after) (sym lost) (none_went before after sent few reads later wrote.1 later_sink)
@@ -140,9 +142,11 @@ module _ (state parted worked new : RoundsState) (intake : IntakeState) (back : 
       (idle before after sent (sym fifo ∙ ap (λ (l : List (Option Parcel)). l ++ known) wrote.0 ∙ no_more) reads wrote.1 later_sink)
 
   -- whether a side worked or not
-  pub all_went : (before after : Sunk) (sent got known : List (Option Parcel)) (end result : Option MergeEnd) (waiting : ℕ) → state.taken < 2 ^ 64 → got ++ known ≡ sent → waiting ≡ length known → Sent sent → from.faults ≤ to.faults
+  pub all_went : (before after : Sunk) (sent got known : List (Option Parcel)) (end result : Option MergeEnd) (waiting : ℕ) → state.taken < 2 ^ 64 → got ++ known ≡ sent → waiting ≡ length known
+      → Sent sent → from.faults ≤ to.faults
       → MatchOption end ((got ≡ []) × (after.held ≡ before.held)) (λ e. WroteLast parted.blocks (options_of parted) file before.held after.held got e)
-      → IfSome end (λ e. flushes (ending_of e) ≡ true → SaysFlushed after.held after.flushed true) → before.faults ≤ after.faults → IfSome end (λ e. e ≡ ends.WriteFault → Rose before.faults after.faults)
+      → IfSome end (λ e. flushes (ending_of e) ≡ true → SaysFlushed after.held after.flushed true) → before.faults ≤ after.faults → IfSome end
+      (λ e. e ≡ ends.WriteFault → Rose before.faults after.faults)
       → IfSome end (λ e. result ≡ Some e) → (end ≡ None → (result ≡ Some ends.NoMemory) ⊎ ((result ≡ None) × (waiting ≡ 0))) → Came before after result
   all_went before after sent got known (Some end) result waiting few fifo count reads later wrote flushed later_sink rose some none =
       subst (Came before after) (sym some) (both_went before after sent got known end few fifo reads later wrote flushed later_sink rose)
@@ -180,7 +184,8 @@ idle_ends old mid file from at to h h1 h2 end eb eo es eh merged =
     (subst (λ (o : Options). EndsFrom old.blocks o file 1 at to h1 h2 end) eo
     (subst (λ (n : ℕ). EndsFrom n (options_of mid) file 1 at to h1 h2 end) eb merged)))
 
-pub idle_went : (old mid new : RoundsState) (file : FileHead) (from at to : Spot) (before between after : Sunk) (end : MergeEnd) → Idle old mid from at before between → WentOn file mid new at to between after end
+pub idle_went : (old mid new : RoundsState) (file : FileHead) (from at to : Spot) (before between after : Sunk) (end : MergeEnd) → Idle old mid from at before between
+    → WentOn file mid new at to between after end
     → WentOn file old new from to before after end
 idle_went old mid new file from at to before between after end idle went = record {
   ended = idle_ends old mid file from at to before.held between.held after.held end idle.same.0 idle.same.1 idle.stands idle.held went.ended;
@@ -200,7 +205,8 @@ start_at from held = record { place = from.place; left = from.left; held = held;
 
 -- merging ended with the first round
 pub ended_first : (state : RoundsState) (from to : Spot) (h h1 : Option (List ℕ)) (end : MergeEnd) → Told from.left to.left (EndsBehind 0 state.blocks (options_of state) from.place h h1 end)
-    → Told from.left to.left (EndsCaptured 0 from.place end) → (end ≡ ends.Done → Told from.left to.left (TakesAll from.taken to.taken from.place)) → (end ≡ ends.ReadFault → Rose from.faults to.faults)
+    → Told from.left to.left (EndsCaptured 0 from.place end) → (end ≡ ends.Done → Told from.left to.left (TakesAll from.taken to.taken from.place))
+    → (end ≡ ends.ReadFault → Rose from.faults to.faults)
     → FrontUnless (Rose from.faults to.faults) (merging state.blocks (options_of state) from.place) from.left to.left h h1 → Ended state.blocks (options_of state) (start_at from h) from to h1 end
 ended_first state from to h h1 end told captured taken read front =
     ended_so state.blocks state from.place.file (start_at from h) 0 from from to h h1 end
@@ -212,7 +218,8 @@ front_from X Y passing a b h h1 later (inr told) = inr told
 
 -- it was full and is written, and merging went on behind it
 pub ended_behind : (state state1 new : RoundsState) (file : FileHead) (from at to : Spot) (before mid after : Sunk) (end : MergeEnd) → at.place.file ≡ file → from.faults ≤ at.faults
-    → state1.blocks ≡ state.blocks → options_of state1 ≡ options_of state → Told from.left at.left (Ahead state.blocks (options_of state) 1 from.place at.place before.held mid.held from.taken at.taken)
+    → state1.blocks ≡ state.blocks → options_of state1 ≡ options_of state → Told from.left at.left (Ahead state.blocks (options_of state) 1 from.place at.place before.held mid.held from.taken
+    at.taken)
     → WentOn file state1 new at to mid after end → Ended state.blocks (options_of state) (start_at from before.held) from to after.held end
 ended_behind state state1 new file from at to before mid after end same later eb eo gone went =
     let here : EndsFrom state.blocks (options_of state) file 1 at to mid.held after.held end =

@@ -1,5 +1,6 @@
 -- What is written of rounds that were read on another side, and how merging ends.
-use Rattle.std.proofs.Common.{◌≡◌, ◌+◌, ◌-◌, ◌^◌, ◌≤◌, inl, inr, ℕ, List, [], ◌∷◌, ◌++◌, Bool, true, false, Option, Some, refl, sym, ap, ◌∙◌, subst, length, length-append, min, map, arith, append_assoc}
+use Rattle.std.proofs.Common.{◌≡◌, ◌+◌, ◌-◌, ◌^◌, ◌≤◌, inl, inr, ℕ, List, [], ◌∷◌, ◌++◌, Bool, true, false, Option, Some, refl, sym, ap, ◌∙◌, subst, length, length-append, min, map, arith}
+use Rattle.std.proofs.Common.{append_assoc}
 use Rattle.std.proofs.KnownBytes.{Appends-nil, Appends-kept}
 use Rattle.std.proofs.lemmas.Bool.{false≢true}
 use Rattle.off_io.specs.Content.{AppendsFront}
@@ -24,7 +25,8 @@ use Rattle.rounds.specs.declared.merge.Step.{Step}
 use Rattle.rounds.specs.declared.merge.Step.TheVariants as steps
 use Rattle.rounds.specs.Merging.{ending_of, options_of, is_worked, Fails, Puts, GivesUp, Ahead, EndsBehind, Steps, IfEnds, TakesAll, EndsCaptured}
 use Rattle.rounds.specs.RoundsState.{RoundsState, RoundState}
-use Rattle.rounds.proofs.Merging.{put_given, put_captured, put_taken, put_reads, given_up, up_captured, put_front, up_front, up_not, full_given, goes_then, ends_then, captured_then, taken_then, fronts_then}
+use Rattle.rounds.proofs.Merging.{put_given, put_captured, put_taken, put_reads, given_up, up_captured, put_front, up_front, up_not, full_given, goes_then, ends_then, captured_then, taken_then}
+use Rattle.rounds.proofs.Merging.{fronts_then}
 use Rattle.round_pipeline.specs.declared.parcel.Parcel.{Parcel}
 use Rattle.round_pipeline.specs.Parcels.{is_full}
 use Rattle.round_pipeline.specs.Reads.{Spot, ReadRound, Reads}
@@ -91,7 +93,8 @@ module _ (blocks : ℕ) (state : RoundsState) (file : FileHead) where
     step_at : (step : Step) → WroteRound (options_of state) file h h1 p step → At step
     step_at step w =
         worked_or (is_worked p.end) (At step)
-        (λ e. put_given blocks state file from.place to.place p.round.packets is_file r.some fits k from.left to.left h h1 from.taken to.taken r.captured p.end step r.full r.fewer took (w.puts e) r.given)
+        (λ e. put_given blocks state file from.place to.place p.round.packets is_file r.some fits k from.left to.left h h1 from.taken to.taken r.captured p.end step r.full r.fewer took
+        (w.puts e) r.given)
         (λ e. let g = w.gives e in subst At (sym g.1)
         (given_up blocks state file from.place to.place p.round.packets is_file r.some fits k from.left to.left h h1 from.taken to.taken r.captured p.end g.0 r.fewer (up g.0 g.2) r.given))
 
@@ -112,16 +115,20 @@ module _ (blocks : ℕ) (state : RoundsState) (file : FileHead) where
     fault_at : (step : Step) → WroteRound (options_of state) file h h1 p step → IfEnds step (λ end. end ≡ ends.ReadFault → Rose from.faults to.faults)
     fault_at step w =
         worked_or (is_worked p.end) (IfEnds step (λ end. end ≡ ends.ReadFault → Rose from.faults to.faults))
-        (λ e. put_reads blocks state file from.place to.place p.round.packets is_file r.some fits k from.left to.left h h1 from.taken to.taken r.captured (Rose from.faults to.faults) p.end step r.failed (w.puts e))
+        (λ e. put_reads blocks state file from.place to.place p.round.packets is_file r.some fits k from.left to.left h h1 from.taken to.taken r.captured
+        (Rose from.faults to.faults) p.end step r.failed (w.puts e))
         (λ e. let g = w.gives e in subst (λ (s : Step). IfEnds s (λ end. end ≡ ends.ReadFault → Rose from.faults to.faults)) (sym g.1)
         (λ fault. up_not h h1 k p.end g.0 ends.ReadFault (Rose from.faults to.faults) refl (up g.0 g.2) fault))
 
-    front_at : (step : Step) → WroteRound (options_of state) file h h1 p step → IfEnds step (λ end. FrontUnless (Rose from.faults to.faults) (merging blocks (options_of state) from.place) from.left to.left h h1)
+    front_at : (step : Step) → WroteRound (options_of state) file h h1 p step → IfEnds step (λ end. FrontUnless (Rose from.faults to.faults)
+        (merging blocks (options_of state) from.place) from.left to.left h h1)
     front_at step w =
         worked_or (is_worked p.end) (IfEnds step (λ end. FrontUnless (Rose from.faults to.faults) (merging blocks (options_of state) from.place) from.left to.left h h1))
-        (λ e. put_front blocks state file from.place to.place p.round.packets is_file r.some fits k from.left to.left h h1 from.taken to.taken r.captured (Rose from.faults to.faults) p.end step r.full r.fewer r.failed (w.puts e) r.given)
+        (λ e. put_front blocks state file from.place to.place p.round.packets is_file r.some fits k from.left to.left h h1 from.taken to.taken r.captured
+        (Rose from.faults to.faults) p.end step r.full r.fewer r.failed (w.puts e) r.given)
         (λ e. let g = w.gives e in subst (λ (s : Step). IfEnds s (λ end. FrontUnless (Rose from.faults to.faults) (merging blocks (options_of state) from.place) from.left to.left h h1)) (sym g.1)
-        (up_front blocks state file from.place to.place p.round.packets is_file r.some fits k from.left to.left h h1 from.taken to.taken r.captured (Rose from.faults to.faults) p.end g.0 (up g.0 g.2) r.given))
+        (up_front blocks state file from.place to.place p.round.packets is_file r.some fits k from.left to.left h h1 from.taken to.taken r.captured (Rose from.faults to.faults) p.end g.0
+        (up g.0 g.2) r.given))
 
     goes_full : WroteRound (options_of state) file h h1 p steps.Goes → p.end ≡ rounds.Full
     goes_full w =
@@ -141,8 +148,10 @@ module _ (blocks : ℕ) (state : RoundsState) (file : FileHead) where
     fails_on end last full fails lost =
         let out = round_output (options_of state) file.order (map packet_of p.round.packets) in
         let passes = r.full full in
-        let first = full_given blocks state file from.place to.place p.round.packets is_file r.some fits k from.left to.left (Some []) (Some out) p.end from.taken to.taken full passes.full passes.file took refl r.captured r.given in
-        Told-then from.left to.left last.left (Ahead blocks (options_of state) 1 from.place to.place (Some []) (Some out) from.taken to.taken) Loses (EndsBehind k blocks (options_of state) from.place h h1 end)
+        let first = full_given blocks state file from.place to.place p.round.packets is_file r.some fits k from.left to.left (Some []) (Some out) p.end from.taken to.taken full passes.full passes.file
+        took refl r.captured r.given in
+        Told-then from.left to.left last.left (Ahead blocks (options_of state) 1 from.place to.place (Some []) (Some out) from.taken to.taken) Loses
+        (EndsBehind k blocks (options_of state) from.place h h1 end)
         (λ bytes mid left x y.
         let passing = merging blocks (options_of state) from.place in
         let gone = x.gone ++ y.0 in
@@ -154,7 +163,8 @@ module _ (blocks : ℕ) (state : RoundsState) (file : FileHead) where
         fails_ends end fails gone bytes left split wrote) first lost
 
     -- a front of it is one of what comes of all the bytes, whatever follows
-    fails_front : (end : MergeEnd) → Fails h h1 (round_output (options_of state) file.order (map packet_of p.round.packets)) end → AppendsFront h h1 (round_output (options_of state) file.order (map packet_of p.round.packets))
+    fails_front : (end : MergeEnd) → Fails h h1 (round_output (options_of state) file.order (map packet_of p.round.packets)) end → AppendsFront h h1
+        (round_output (options_of state) file.order (map packet_of p.round.packets))
     fails_front end (inl f) = f.1
     fails_front end (inr f) = (0, Appends-kept h h h1 [] (Appends-nil h) f.1)
 
@@ -163,8 +173,10 @@ module _ (blocks : ℕ) (state : RoundsState) (file : FileHead) where
     front_on end last full fails lost =
         let out = round_output (options_of state) file.order (map packet_of p.round.packets) in
         let passes = r.full full in
-        let first = full_given blocks state file from.place to.place p.round.packets is_file r.some fits k from.left to.left (Some []) (Some out) p.end from.taken to.taken full passes.full passes.file took refl r.captured r.given in
-        inr (Told-then from.left to.left last.left (Ahead blocks (options_of state) 1 from.place to.place (Some []) (Some out) from.taken to.taken) Loses (WritesFront (merging blocks (options_of state) from.place) h h1)
+        let first = full_given blocks state file from.place to.place p.round.packets is_file r.some fits k from.left to.left (Some []) (Some out) p.end from.taken to.taken full passes.full passes.file
+        took refl r.captured r.given in
+        inr (Told-then from.left to.left last.left (Ahead blocks (options_of state) 1 from.place to.place (Some []) (Some out) from.taken to.taken) Loses
+        (WritesFront (merging blocks (options_of state) from.place) h h1)
         (λ bytes mid left x y.
         subst (λ (l : List ℕ). WritesFront (merging blocks (options_of state) from.place) h h1 l left) (sym x.split)
         ((fronts_pass_on (merging blocks (options_of state) from.place) (merging blocks (options_of state) to.place) 1 x.gone x.done).within h h1 mid left x.goes
@@ -188,7 +200,8 @@ module _ (blocks : ℕ) (state : RoundsState) (file : FileHead) where
   }
 
   -- by a failed write or want of memory
-  ended_short : (start : Start) (k : ℕ) (first at to : Spot) (h h1 : Option (List ℕ)) (end : MergeEnd) → is_short end ≡ true → Behind blocks (options_of state) file start k at h → first.faults ≤ at.faults
+  ended_short : (start : Start) (k : ℕ) (first at to : Spot) (h h1 : Option (List ℕ)) (end : MergeEnd) → is_short end ≡ true → Behind blocks (options_of state) file start k at h
+      → first.faults ≤ at.faults
       → Told at.left to.left (EndsBehind k blocks (options_of state) at.place h h1 end) → FrontUnless (Rose at.faults to.faults) (merging blocks (options_of state) at.place) at.left to.left h h1
       → Ended blocks (options_of state) start first to h1 end
   ended_short start k first at to h h1 end short gone later told front =
@@ -203,7 +216,8 @@ module _ (blocks : ℕ) (state : RoundsState) (file : FileHead) where
       → Reads blocks state.budget at xs to → Ended blocks (options_of state) start first to h ends.NoMemory
   stopped start k first at to h xs gone later reads =
       ended_short start k first at to h h ends.NoMemory refl gone later
-      (Told-weaker at.left to.left Loses (EndsBehind k blocks (options_of state) at.place h h ends.NoMemory) (λ bytes left lost. (NoMemory, refl, (lost.0, lost.1, (0, Appends-nil h)))) (reads_lose blocks state.budget at to xs reads))
+      (Told-weaker at.left to.left Loses (EndsBehind k blocks (options_of state) at.place h h ends.NoMemory) (λ bytes left lost. (NoMemory, refl, (lost.0, lost.1, (0, Appends-nil h))))
+      (reads_lose blocks state.budget at to xs reads))
       (inr (Told-weaker at.left to.left Loses (WritesFront (merging blocks (options_of state) at.place) h h) (λ bytes left lost. (0, Appends-nil h)) (reads_lose blocks state.budget at to xs reads)))
 
   -- ---- the rounds so far
@@ -214,11 +228,13 @@ module _ (blocks : ℕ) (state : RoundsState) (file : FileHead) where
   goes_behind : (start : Start) (k : ℕ) (at to : Spot) (h h1 : Option (List ℕ)) (p : Parcel) → Behind blocks (options_of state) file start k at h → ReadRound blocks state.budget at to p → p.number ≡ k
       → WroteRound (options_of state) file h h1 p steps.Goes → Behind blocks (options_of state) file start (k + 1) to h1
   goes_behind start k at to h h1 p gone r number w = record {
-    told = goes_then blocks (options_of state) k start.place at.place to.place start.left at.left to.left start.held h h1 start.taken at.taken to.taken gone.told (step_at k at to h h1 p gone.same r number steps.Goes w);
+    told = goes_then blocks (options_of state) k start.place at.place to.place start.left at.left to.left start.held h h1 start.taken at.taken to.taken gone.told
+        (step_at k at to h h1 p gone.same r number steps.Goes w);
     same = (r.full (goes_full k at to h h1 p gone.same r number w)).file ∙ gone.same;
   }
 
-  pub wrote_more : (old mid new : Option (List ℕ)) (xs : List (Option Parcel)) (p : Parcel) → Wrote blocks (options_of state) file old mid xs → p.number ≡ length xs + 1 → WroteRound (options_of state) file mid new p steps.Goes
+  pub wrote_more : (old mid new : Option (List ℕ)) (xs : List (Option Parcel)) (p : Parcel) → Wrote blocks (options_of state) file old mid xs → p.number ≡ length xs + 1
+      → WroteRound (options_of state) file mid new p steps.Goes
       → Wrote blocks (options_of state) file old new (xs ++ Some p ∷ [])
   wrote_more old mid new xs p wrote number w start from to gone reads =
       let s = reads_split blocks state.budget from to xs (Some p ∷ []) reads in
@@ -235,7 +251,8 @@ module _ (blocks : ℕ) (state : RoundsState) (file : FileHead) where
       let s = reads_split blocks state.budget from to xs ys reads in
       stopped start (length xs + 1) from s.0 to new ys (wrote start from s.0 gone s.1) (reads_later blocks state.budget from s.0 xs s.1) s.2
 
-  pub wrote_want : (old new : Option (List ℕ)) (xs : List (Option Parcel)) (x : Option Parcel) → Wrote blocks (options_of state) file old new xs → WroteLast blocks (options_of state) file old new (xs ++ x ∷ []) ends.NoMemory
+  pub wrote_want : (old new : Option (List ℕ)) (xs : List (Option Parcel)) (x : Option Parcel) → Wrote blocks (options_of state) file old new xs
+      → WroteLast blocks (options_of state) file old new (xs ++ x ∷ []) ends.NoMemory
   wrote_want old new xs x wrote start from to ys gone reads =
       wrote_stopped old new xs wrote start from to (x ∷ ys) gone (subst (λ (l : List (Option Parcel)). Reads blocks state.budget from l to) (append_assoc xs (x ∷ []) ys) reads)
 
@@ -251,7 +268,8 @@ module _ (blocks : ℕ) (state : RoundsState) (file : FileHead) where
   full_fails h h1 out end result full puts = subst (λ (e : RoundEnd). Puts h h1 out e (steps.Ends result)) full puts
 
   -- the last round
-  last_ended : (start : Start) (k : ℕ) (first at mid to : Spot) (h h1 : Option (List ℕ)) (p : Parcel) (end : MergeEnd) (ys : List (Option Parcel)) → Behind blocks (options_of state) file start k at h → first.faults ≤ at.faults
+  last_ended : (start : Start) (k : ℕ) (first at mid to : Spot) (h h1 : Option (List ℕ)) (p : Parcel) (end : MergeEnd) (ys : List (Option Parcel)) → Behind blocks (options_of state) file start k at h
+      → first.faults ≤ at.faults
       → ReadRound blocks state.budget at mid p → (is_full p.end ≡ false → ys ≡ []) → Reads blocks state.budget mid ys to → p.number ≡ k → WroteRound (options_of state) file h h1 p (steps.Ends end)
       → Ended blocks (options_of state) start first to h1 end
   last_ended start k first at mid to h h1 p end ys gone later r closes reads number w =
@@ -267,7 +285,8 @@ module _ (blocks : ℕ) (state : RoundsState) (file : FileHead) where
       let same : to ≡ mid = subst (λ (l : List (Option Parcel)). Reads blocks state.budget mid l to) (closes e) reads in
       subst (λ (z : Spot). Ended blocks (options_of state) start first z h1 end) (sym same)
       (ended_so start k first at mid h h1 end gone later (step_at k at mid h h1 p gone.same r number (steps.Ends end) w) (captured_at k at mid h h1 p gone.same r number (steps.Ends end) w)
-      (taken_at k at mid h h1 p gone.same r number (steps.Ends end) w) (fault_at k at mid h h1 p gone.same r number (steps.Ends end) w) (front_at k at mid h h1 p gone.same r number (steps.Ends end) w)))
+      (taken_at k at mid h h1 p gone.same r number (steps.Ends end) w) (fault_at k at mid h h1 p gone.same r number (steps.Ends end) w)
+      (front_at k at mid h h1 p gone.same r number (steps.Ends end) w)))
 
   pub wrote_last : (old mid new : Option (List ℕ)) (xs : List (Option Parcel)) (p : Parcel) (end : MergeEnd) → Wrote blocks (options_of state) file old mid xs → p.number ≡ length xs + 1
       → WroteRound (options_of state) file mid new p (steps.Ends end) → WroteLast blocks (options_of state) file old new (xs ++ Some p ∷ []) end
@@ -277,7 +296,8 @@ module _ (blocks : ℕ) (state : RoundsState) (file : FileHead) where
       last_ended start (length xs + 1) from s.0 next.0 to mid new p end ys (wrote start from s.0 gone s.1) (reads_later blocks state.budget from s.0 xs s.1) next.1 next.2 next.3 number w
 
 -- as a call says it of the same round
-pub wrote_as : (o o' : Options) (file : FileHead) (old new : Option (List ℕ)) (p : Parcel) (step : Step) (round : RoundState) (end : RoundEnd) (number : ℕ) → o' ≡ o → round ≡ p.round → end ≡ p.end → number ≡ p.number
+pub wrote_as : (o o' : Options) (file : FileHead) (old new : Option (List ℕ)) (p : Parcel) (step : Step) (round : RoundState) (end : RoundEnd) (number : ℕ) → o' ≡ o → round ≡ p.round → end ≡ p.end
+    → number ≡ p.number
     → (is_worked end ≡ true → Puts old new (round_output o' file.order (map packet_of round.packets)) end step)
     → (is_worked end ≡ false → (up : MergeEnd) × (step ≡ steps.Ends up) × GivesUp old new number end up) → WroteRound o file old new p step
 wrote_as o o' file old new p step round end number eo er ee en puts gives =

@@ -50,8 +50,14 @@ pub record RingName : Type 0 where
   pub heap : Global
 
 abbrev pub no_ring : RingName
-no_ring = record { words = null_ptr; slots = null_ptr; names = (0, (0, 0)); heap = record { memory = record { seal = tt } } }
+no_ring = record {
+  words = null_ptr;
+  slots = null_ptr;
+  names = (0, (0, 0));
+  heap = record { memory = record { seal = tt } };
+}
 
 -- it is the end of this ring
 abbrev pub IsOfRing : {T P : Type 0} → RingName → Consumer T Global P → Type 0
-IsOfRing ring c = (c.end.words ≡ ring.words) × (c.end.slots ≡ ring.slots) × (c.end.names ≡ ring.names) × (c.end.heap ≡ ring.heap)
+IsOfRing ring c = (c.end.words ≡ ring.words) × (c.end.slots ≡ ring.slots) × (c.end.names ≡ ring.names)
+    × (c.end.heap ≡ ring.heap)

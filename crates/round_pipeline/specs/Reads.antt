@@ -1,5 +1,6 @@
 -- What the side that reads says of the rounds that it sent, one after another.
-use Rattle.std.specs.Prelude.{ℕ, ◌≡◌, ◌≢◌, ◌+◌, ◌-◌, ◌<◌, ◌≤◌, ◌^◌, false, Option, None, Some, List, [], ◌∷◌, length, map, min}
+use Rattle.std.specs.Prelude.{ℕ, ◌≡◌, ◌≢◌, ◌+◌, ◌-◌, ◌<◌, ◌≤◌, ◌^◌, false, Option, None, Some, List, [], ◌∷◌, length}
+use Rattle.std.specs.Prelude.{map, min}
 use Rattle.std.specs.List.{AllByRecursion}
 use Rattle.off_io.specs.Faults.{Rose}
 use Rattle.off_io.specs.Told.{Told}
@@ -49,4 +50,5 @@ ReadNext blocks budget from to (Some p) = ReadRound blocks budget from to p
 -- rounds one after another: none follows one that was not full
 abbrev pub Reads : ℕ → ℕ → Spot → List (Option Parcel) → Spot → Type 0
 Reads blocks budget from [] to = to ≡ from
-Reads blocks budget from (x ∷ xs) to = (mid : Spot) × ReadNext blocks budget from mid x × (goes_on x ≡ false → xs ≡ []) × Reads blocks budget mid xs to
+Reads blocks budget from (x ∷ xs) to = (mid : Spot) × ReadNext blocks budget from mid x × (goes_on x ≡ false → xs ≡ [])
+    × Reads blocks budget mid xs to

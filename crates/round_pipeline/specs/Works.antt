@@ -28,37 +28,46 @@ pub record Start : Type 0 where
   pub taken : ℕ
 
 -- k rounds are gone and written, up to here
-pub record Behind (blocks : ℕ) (options : Options) (file : FileHead) (start : Start) (k : ℕ) (at : Spot) (held : Option (List ℕ)) : Type 0 where
+pub record Behind (blocks : ℕ) (options : Options) (file : FileHead) (start : Start) (k : ℕ) (at : Spot)
+    (held : Option (List ℕ)) : Type 0 where
   pub told : Told start.left at.left (Ahead blocks options k start.place at.place start.held held start.taken at.taken)
   pub same : at.place.file ≡ file
 
 -- merging ended so, with the source here
-pub record Ended (blocks : ℕ) (options : Options) (start : Start) (from to : Spot) (held : Option (List ℕ)) (end : MergeEnd) : Type 0 where
+pub record Ended (blocks : ℕ) (options : Options) (start : Start) (from to : Spot) (held : Option (List ℕ))
+    (end : MergeEnd) : Type 0 where
   pub given : Told start.left to.left (Passes (merging blocks options start.place) start.held held (ending_of end))
   pub captured : Told start.left to.left (HoldsCaptured blocks options.budget start.place end)
   pub taken : end ≡ ends.Done → Told start.left to.left (TakesAll start.taken to.taken start.place)
   pub read : end ≡ ends.ReadFault → Rose from.faults to.faults
-  pub front : FrontUnless (Rose from.faults to.faults) (merging blocks options start.place) start.left to.left start.held held
+  pub front : FrontUnless (Rose from.faults to.faults) (merging blocks options start.place) start.left to.left
+      start.held held
 
 -- a round was worked and written, or given up
-pub record WroteRound (options : Options) (file : FileHead) (old new : Option (List ℕ)) (p : Parcel) (step : Step) : Type 0 where
-  pub puts : is_worked p.end ≡ true → Puts old new (round_output options file.order (map packet_of p.round.packets)) p.end step
+pub record WroteRound (options : Options) (file : FileHead) (old new : Option (List ℕ)) (p : Parcel)
+    (step : Step) : Type 0 where
+  pub puts : is_worked p.end ≡ true → Puts old new (round_output options file.order (map packet_of p.round.packets))
+      p.end step
   pub gives : is_worked p.end ≡ false → (end : MergeEnd) × (step ≡ steps.Ends end) × GivesUp old new p.number p.end end
 
 -- wherever the rounds were read from, they were written
 abbrev pub Wrote : ℕ → Options → FileHead → Option (List ℕ) → Option (List ℕ) → List (Option Parcel) → Type 0
 Wrote blocks options file old new xs =
-    (start : Start) (from to : Spot) → Behind blocks options file start 1 from old → Reads blocks options.budget from xs to → Behind blocks options file start (length xs + 1) to new
+    (start : Start) (from to : Spot) → Behind blocks options file start 1 from old
+    → Reads blocks options.budget from xs to → Behind blocks options file start (length xs + 1) to new
 
 -- and merging ended, whatever was read behind them
-abbrev pub WroteLast : ℕ → Options → FileHead → Option (List ℕ) → Option (List ℕ) → List (Option Parcel) → MergeEnd → Type 0
+abbrev pub WroteLast : ℕ → Options → FileHead → Option (List ℕ) → Option (List ℕ) → List (Option Parcel) → MergeEnd
+    → Type 0
 WroteLast blocks options file old new xs end =
-    (start : Start) (from to : Spot) (behind : List (Option Parcel)) → Behind blocks options file start 1 from old → Reads blocks options.budget from (xs ++ behind) to
+    (start : Start) (from to : Spot) (behind : List (Option Parcel)) → Behind blocks options file start 1 from old
+    → Reads blocks options.budget from (xs ++ behind) to
     → Ended blocks options start from to new end
 
 -- from a place on, behind k rounds
 abbrev pub EndsFrom : ℕ → Options → FileHead → ℕ → Spot → Spot → Option (List ℕ) → Option (List ℕ) → MergeEnd → Type 0
-EndsFrom blocks options file k from to old new end = (start : Start) → Behind blocks options file start k from old → Ended blocks options start from to new end
+EndsFrom blocks options file k from to old new end = (start : Start) → Behind blocks options file start k from old
+    → Ended blocks options start from to new end
 
 -- ---- what is left behind the first round
 
@@ -89,7 +98,8 @@ pub record Idle (old new : RoundsState) (from to : Spot) (before after : Sunk) :
   pub later : before.faults ≤ after.faults
 
 -- merging went on from here, and ended so with all blocks home
-pub record WentOn (head : FileHead) (old new : RoundsState) (from to : Spot) (before after : Sunk) (end : MergeEnd) : Type 0 where
+pub record WentOn (head : FileHead) (old new : RoundsState) (from to : Spot) (before after : Sunk)
+    (end : MergeEnd) : Type 0 where
   pub ended : EndsFrom old.blocks (options_of old) head 1 from to before.held after.held end
   pub flushed : flushes (ending_of end) ≡ true → SaysFlushed after.held after.flushed true
   pub home : new.home ≡ new.blocks

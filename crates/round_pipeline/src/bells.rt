@@ -12,7 +12,8 @@ pub(crate) struct Bells {
     begun: AtomicBool,
 }
 
-/// The times that the worker yields to a reader that hasn't begun: a third of a second, beyond any delay of a thread that was made.
+/// The times that the worker yields to a reader that hasn't begun: a third of a second, beyond any delay of a thread
+/// that was made.
 const PATIENCE: u32 = 1_000_000;
 
 impl Bells {

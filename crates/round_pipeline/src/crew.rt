@@ -176,10 +176,10 @@ fn merge_staffed<R: Threads + Wait + Sync, S: Source + Send, K: Sink, G: Gate + 
     }
 }
 
-/// Merges as `merge_all` of the rounds, whose clauses these are, but that the next rounds are read while one is worked, and that
-/// all threads are started once, for the whole run. On one processor, and where there is no memory or no thread for a second side,
-/// reading is done in the thread that calls; where there is none for those who run lanes, their work too. Where there is one queue
-/// and no tap, no thread is made of a capture of one round.
+/// Merges as `merge_all` of the rounds, whose clauses these are, but that the next rounds are read while one is worked,
+/// and that all threads are started once, for the whole run. On one processor, and where there is no memory or no
+/// thread for a second side, reading is done in the thread that calls; where there is none for those who run lanes,
+/// their work too. Where there is one queue and no tap, no thread is made of a capture of one round.
 pub fn merge_beside<R: Threads + Wait + Sync, S: Source + Send, K: Sink, G: Gate + Sync>(
     rt: &R,
     alloc: Global,
@@ -194,17 +194,26 @@ pub fn merge_beside<R: Threads + Wait + Sync, S: Source + Send, K: Sink, G: Gate
     requires file { (place_of reader.old).file ≡ file.now }
     requires home { rounds.old.home ≡ rounds.old.blocks }
     ensures same_source { SameLoan reader.old reader.new }
-    ensures given { Told (S.left (source_of reader.old)) (S.left (source_of reader.new)) (Passes (merging rounds.old.blocks (options_of rounds.old) (place_of reader.old)) (K.held sink.old) (K.held sink.new) (ending_of result)) }
-    ensures front { FrontUnless (Rose (S.faults (source_of reader.old)) (S.faults (source_of reader.new))) (merging rounds.old.blocks (options_of rounds.old) (place_of reader.old)) (S.left (source_of reader.old)) (S.left (source_of reader.new)) (K.held sink.old) (K.held sink.new) }
+    ensures given { Told (S.left (source_of reader.old)) (S.left (source_of reader.new))
+        (Passes (merging rounds.old.blocks (options_of rounds.old) (place_of reader.old)) (K.held sink.old)
+        (K.held sink.new) (ending_of result)) }
+    ensures front { FrontUnless (Rose (S.faults (source_of reader.old)) (S.faults (source_of reader.new)))
+        (merging rounds.old.blocks (options_of rounds.old) (place_of reader.old)) (S.left (source_of reader.old))
+        (S.left (source_of reader.new)) (K.held sink.old) (K.held sink.new) }
     ensures flushed { flushes (ending_of result) ≡ true → SaysFlushed (K.held sink.new) (K.is_flushed sink.new) true }
     ensures home { rounds.new.home ≡ rounds.new.blocks }
-    ensures same { (rounds.new.blocks ≡ rounds.old.blocks) × (options_of rounds.new ≡ options_of rounds.old) × (rounds.new.keep ≡ rounds.old.keep) }
-    ensures taken { result ≡ MergeEnd.Done → Told (S.left (source_of reader.old)) (S.left (source_of reader.new)) (λ bytes left. min (rounds.old.taken + round_need (found_at (place_of reader.old) bytes).packets) (2 ^ 64 - 1) ≤ rounds.new.taken) }
+    ensures same { (rounds.new.blocks ≡ rounds.old.blocks) × (options_of rounds.new ≡ options_of rounds.old)
+        × (rounds.new.keep ≡ rounds.old.keep) }
+    ensures taken { result ≡ MergeEnd.Done → Told (S.left (source_of reader.old)) (S.left (source_of reader.new))
+        (λ bytes left. min (rounds.old.taken + round_need (found_at (place_of reader.old) bytes).packets) (2 ^ 64 - 1)
+        ≤ rounds.new.taken) }
     ensures least { rounds.old.taken ≤ rounds.new.taken }
-    ensures captured { Told (S.left (source_of reader.old)) (S.left (source_of reader.new)) (HoldsCaptured rounds.old.blocks rounds.old.budget (place_of reader.old) result) }
+    ensures captured { Told (S.left (source_of reader.old)) (S.left (source_of reader.new))
+        (HoldsCaptured rounds.old.blocks rounds.old.budget (place_of reader.old) result) }
     ensures later { S.faults (source_of reader.old) ≤ S.faults (source_of reader.new) }
     ensures later_sink { K.faults sink.old ≤ K.faults sink.new }
-    ensures read { result ≡ MergeEnd.ReadFault → Rose (S.faults (source_of reader.old)) (S.faults (source_of reader.new)) }
+    ensures read { result ≡ MergeEnd.ReadFault → Rose (S.faults (source_of reader.old))
+        (S.faults (source_of reader.new)) }
     ensures write { result ≡ MergeEnd.WriteFault → Rose (K.faults sink.old) (K.faults sink.new) }
 {
     merge_staffed(rt, alloc, rounds, reader, file, sink, gate)

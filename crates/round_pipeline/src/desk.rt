@@ -71,8 +71,8 @@ impl<R: Wait, N: Naming> Post for Sleeper<'_, R, N> {
     }
 }
 
-/// The end where tokens come back, and the shelves that are here. `out` of them are away with a round, unless the other side
-/// has stopped.
+/// The end where tokens come back, and the shelves that are here. `out` of them are away with a round, unless the other
+/// side has stopped.
 #[derive(Drop)]
 pub(crate) struct Desk<W: Post + Drop> {
     post: W,
@@ -170,7 +170,8 @@ impl<W: Post + Drop> Desk<W> {
     /// An empty shelf, which goes away with a round.
     pub(crate) fn pick(&mut self) -> Option<Pool>
         ensures ready { IfSome result (λ shelf. (home shelf ≡ 0) × (shelf.made ≡ W.blocks)) }
-        ensures same { (shelved self.new.shelves.items ≡ shelved self.old.shelves.items) × (self.new.tokens ≡ self.old.tokens) }
+        ensures same { (shelved self.new.shelves.items ≡ shelved self.old.shelves.items)
+            × (self.new.tokens ≡ self.old.tokens) }
     {
         let shelf = self.shelves.pop_front()?;
         if is_ready(&shelf, self.blocks) {
@@ -183,7 +184,8 @@ impl<W: Post + Drop> Desk<W> {
 
     // The next token: where it is waited for, whenever it comes.
     fn next_token(&mut self, waits: bool) -> Option<Token>
-        ensures token { MatchOption result (received self.new.tokens ≡ received self.old.tokens) (λ t. received self.new.tokens ≡ received self.old.tokens ++ t ∷ []) }
+        ensures token { MatchOption result (received self.new.tokens ≡ received self.old.tokens)
+            (λ t. received self.new.tokens ≡ received self.old.tokens ++ t ∷ []) }
         ensures same { self.new.shelves ≡ self.old.shelves }
     {
         if waits {
@@ -195,7 +197,8 @@ impl<W: Post + Drop> Desk<W> {
 
     // One token, if one has come or is waited for: its blocks go home.
     fn meet(&mut self, pool: &mut Pool, waits: bool) -> bool
-        ensures sum { home pool.new + (homes_of (received self.old.tokens) - shelved self.old.shelves.items) ≡ home pool.old + (homes_of (received self.new.tokens) - shelved self.new.shelves.items) }
+        ensures sum { home pool.new + (homes_of (received self.old.tokens) - shelved self.old.shelves.items)
+            ≡ home pool.old + (homes_of (received self.new.tokens) - shelved self.new.shelves.items) }
         ensures same { (pool.new.made ≡ pool.old.made) × (pool.new.taken ≡ pool.old.taken) }
     {
         if self.shelves.len() == self.shelves.capacity() {

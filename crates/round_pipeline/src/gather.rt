@@ -46,7 +46,8 @@ pub(crate) fn gather<N: Naming>(
     shelves: VecDeque<Pool>,
 )
     requires blocks { intake.blocks ≡ rounds.old.blocks }
-    requires sum { rounds.old.home + intake.home + blocks_of (known_items from.old) + homes_of (known_items tokens.old) + shelved shelves.items ≡ rounds.old.blocks }
+    requires sum { rounds.old.home + intake.home + blocks_of (known_items from.old) + homes_of (known_items tokens.old)
+        + shelved shelves.items ≡ rounds.old.blocks }
     ensures home { rounds.new ≡ record rounds.old { home = rounds.old.blocks; taken = intake.taken } }
 {
     let mut shelves = shelves;

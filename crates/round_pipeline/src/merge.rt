@@ -36,7 +36,9 @@ fn merge_rest<W: Works, S: Source, K: Sink>(
 ) -> MergeEnd
     requires may { MayGoOn file.now rounds.old (place_of reader.old) }
     ensures same_source { SameLoan reader.old reader.new }
-    ensures went { WentOn file.now rounds.old rounds.new (reader_at S.left S.faults reader.old rounds.old.taken) (reader_at S.left S.faults reader.new rounds.new.taken) (sink_at K.held K.is_flushed K.faults sink.old) (sink_at K.held K.is_flushed K.faults sink.new) result }
+    ensures went { WentOn file.now rounds.old rounds.new (reader_at S.left S.faults reader.old rounds.old.taken)
+        (reader_at S.left S.faults reader.new rounds.new.taken) (sink_at K.held K.is_flushed K.faults sink.old)
+        (sink_at K.held K.is_flushed K.faults sink.new) result }
 {
     let mut number = 1;
     'rounds: loop {
@@ -47,7 +49,8 @@ fn merge_rest<W: Works, S: Source, K: Sink>(
     }
 }
 
-// The ring that rounds go by, the shelves, and the side that reads. Where there is no memory for them the rounds are as they were.
+// The ring that rounds go by, the shelves, and the side that reads. Where there is no memory for them the rounds are as
+// they were.
 fn prepare<N: Naming>(
     alloc: Global,
     rounds: &mut Rounds,
@@ -63,7 +66,12 @@ fn prepare<N: Naming>(
     requires home { rounds.old.home ≡ rounds.old.blocks }
     ensures ring { IfOk result (λ r. IsPair r.0 r.1 × (sent r.0 ≡ []) × (received r.1 ≡ [])) }
     ensures shelves { IfOk result (λ r. shelved r.2.items ≡ 0) }
-    ensures intake { IfOk result (λ r. r.3 ≡ record { home = rounds.old.blocks; blocks = rounds.old.blocks; taken = rounds.old.taken; budget = rounds.old.budget }) }
+    ensures intake { IfOk result (λ r. r.3 ≡ record {
+      home = rounds.old.blocks;
+      blocks = rounds.old.blocks;
+      taken = rounds.old.taken;
+      budget = rounds.old.budget;
+    }) }
     ensures ok { OnOk result (rounds.new ≡ record rounds.old { home = 0; taken = 0 }) }
     ensures err { OnErr result (rounds.new ≡ rounds.old) }
 {
@@ -89,8 +97,8 @@ fn ending(end: Option<MergeEnd>, waiting: usize) -> Option<MergeEnd>
     }
 }
 
-// Merges what is left by two sides, of which tokens come back by this ring. `None` where there is no memory or no thread for two: then
-// nothing was read or written.
+// Merges what is left by two sides, of which tokens come back by this ring. `None` where there is no memory or no
+// thread for two: then nothing was read or written.
 fn merge_named<N: Naming + Send, R: Threads + Wait + Sync, W: Works, S: Source + Send, K: Sink>(
     rt: &R,
     alloc: Global,
@@ -107,7 +115,9 @@ fn merge_named<N: Naming + Send, R: Threads + Wait + Sync, W: Works, S: Source +
     requires ring { IsPair told tokens × IsOfRing N.ring tokens }
     requires none { (sent told ≡ []) × (received tokens ≡ []) }
     ensures same_source { SameLoan reader.old reader.new }
-    ensures went { MayHaveGoneOn file.now rounds.old rounds.new (reader_at S.left S.faults reader.old rounds.old.taken) (reader_at S.left S.faults reader.new rounds.new.taken) (sink_at K.held K.is_flushed K.faults sink.old) (sink_at K.held K.is_flushed K.faults sink.new) result }
+    ensures went { MayHaveGoneOn file.now rounds.old rounds.new (reader_at S.left S.faults reader.old rounds.old.taken)
+        (reader_at S.left S.faults reader.new rounds.new.taken) (sink_at K.held K.is_flushed K.faults sink.old)
+        (sink_at K.held K.is_flushed K.faults sink.new) result }
 {
     let blocks = rounds.home();
     let _ = rounds.taken();
@@ -162,12 +172,15 @@ fn merge_ringed<R: Threads + Wait + Sync, W: Works, S: Source + Send, K: Sink>(
     requires ring { IsPair told tokens }
     requires none { (sent told ≡ []) × (received tokens ≡ []) }
     ensures same_source { SameLoan reader.old reader.new }
-    ensures went { MayHaveGoneOn file.now rounds.old rounds.new (reader_at S.left S.faults reader.old rounds.old.taken) (reader_at S.left S.faults reader.new rounds.new.taken) (sink_at K.held K.is_flushed K.faults sink.old) (sink_at K.held K.is_flushed K.faults sink.new) result }
+    ensures went { MayHaveGoneOn file.now rounds.old rounds.new (reader_at S.left S.faults reader.old rounds.old.taken)
+        (reader_at S.left S.faults reader.new rounds.new.taken) (sink_at K.held K.is_flushed K.faults sink.old)
+        (sink_at K.held K.is_flushed K.faults sink.new) result }
 {
     merge_named::<Brand, R, W, S, K>(rt, alloc, works, rounds, reader, file, sink, told, tokens)
 }
 
-// Merges what is left behind the first round by two sides, or in this thread where there is no memory or no thread for two.
+// Merges what is left behind the first round by two sides, or in this thread where there is no memory or no thread for
+// two.
 fn merge_on<R: Threads + Wait + Sync, W: Works, S: Source + Send, K: Sink>(
     rt: &R,
     alloc: Global,
@@ -179,7 +192,9 @@ fn merge_on<R: Threads + Wait + Sync, W: Works, S: Source + Send, K: Sink>(
 ) -> MergeEnd
     requires may { MayGoOn file.now rounds.old (place_of reader.old) }
     ensures same_source { SameLoan reader.old reader.new }
-    ensures went { WentOn file.now rounds.old rounds.new (reader_at S.left S.faults reader.old rounds.old.taken) (reader_at S.left S.faults reader.new rounds.new.taken) (sink_at K.held K.is_flushed K.faults sink.old) (sink_at K.held K.is_flushed K.faults sink.new) result }
+    ensures went { WentOn file.now rounds.old rounds.new (reader_at S.left S.faults reader.old rounds.old.taken)
+        (reader_at S.left S.faults reader.new rounds.new.taken) (sink_at K.held K.is_flushed K.faults sink.old)
+        (sink_at K.held K.is_flushed K.faults sink.new) result }
 {
     match RingBuffer::new(alloc, SHELVES + 1) {
         Ok((told, tokens)) => {
@@ -200,8 +215,9 @@ fn is_alone(rt: &impl Threads) -> bool {
     }
 }
 
-/// Merges by whoever works, as `merge_all` of the rounds; the next rounds are read while one is worked. On one processor, and
-/// where there is no memory or no thread for a second side, they are read here. Of a capture of one round no thread is made for it.
+/// Merges by whoever works, as `merge_all` of the rounds; the next rounds are read while one is worked. On one
+/// processor, and where there is no memory or no thread for a second side, they are read here. Of a capture of one
+/// round no thread is made for it.
 pub(crate) fn merge_by<R: Threads + Wait + Sync, W: Works, S: Source + Send, K: Sink>(
     rt: &R,
     alloc: Global,

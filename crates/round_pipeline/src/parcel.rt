@@ -18,7 +18,8 @@ pub(crate) struct Parcel {
 impl Parcel {
     /// What was sent.
     pub(crate) fn open(self) -> (u64, RoundRead, Pool)
-        ensures same { (result.0 ≡ self.number) × (result.1.round ≡ self.round) × (result.1.end ≡ self.end) × (result.2 ≡ self.shelf) }
+        ensures same { (result.0 ≡ self.number) × (result.1.round ≡ self.round) × (result.1.end ≡ self.end)
+            × (result.2 ≡ self.shelf) }
     {
         let Parcel {
             number,

@@ -34,7 +34,8 @@ pub(crate) fn receive_within<T, P: Protocol<T>>(
     tries: u32,
 ) -> Option<T>
     ensures ring { SameConsumer ring.old ring.new }
-    ensures item { MatchOption result (received ring.new ≡ received ring.old) (λ x. (received ring.new ≡ received ring.old ++ x ∷ []) × P.allows (received ring.old) x) }
+    ensures item { MatchOption result (received ring.new ≡ received ring.old)
+        (λ x. (received ring.new ≡ received ring.old ++ x ∷ []) × P.allows (received ring.old) x) }
 {
     for _ in 0..tries {
         if let Ok(item) = ring.pop() {

@@ -49,9 +49,14 @@ fn read_side<N: Naming, R: Wait, P: Post + Drop, S: Source>(
     requires none { sent supply.old.out ≡ [] }
     ensures ring { SameProducer supply.old.out supply.new.out }
     ensures same_source { SameLoan reader.old reader.new }
-    ensures read { Reads supply.old.intake.blocks supply.old.intake.budget (reader_at S.left S.faults reader.old supply.old.intake.taken) (sent supply.new.out) (reader_at S.left S.faults reader.new supply.new.intake.taken) }
-    ensures sum { supply.new.intake.home + blocks_of (sent supply.new.out) + (homes_of (received supply.old.desk.tokens) - shelved supply.old.desk.shelves.items) ≡ supply.old.intake.home + (homes_of (received supply.new.desk.tokens) - shelved supply.new.desk.shelves.items) }
-    ensures same { (supply.new.intake.blocks ≡ supply.old.intake.blocks) × (supply.new.intake.budget ≡ supply.old.intake.budget) }
+    ensures read { Reads supply.old.intake.blocks supply.old.intake.budget
+        (reader_at S.left S.faults reader.old supply.old.intake.taken) (sent supply.new.out)
+        (reader_at S.left S.faults reader.new supply.new.intake.taken) }
+    ensures sum { supply.new.intake.home + blocks_of (sent supply.new.out)
+        + (homes_of (received supply.old.desk.tokens) - shelved supply.old.desk.shelves.items) ≡ supply.old.intake.home
+        + (homes_of (received supply.new.desk.tokens) - shelved supply.new.desk.shelves.items) }
+    ensures same { (supply.new.intake.blocks ≡ supply.old.intake.blocks)
+        × (supply.new.intake.budget ≡ supply.old.intake.budget) }
     ensures later { S.faults (source_of reader.old) ≤ S.faults (source_of reader.new) }
 {
     if !supply.desk.begin() {
@@ -85,8 +90,8 @@ fn read_side<N: Naming, R: Wait, P: Post + Drop, S: Source>(
     unreachable!()
 }
 
-// What came home goes to the other side by a shelf, in whose place `shelf` stays. False where there was no memory: then it stays
-// here, and no more rounds are wanted.
+// What came home goes to the other side by a shelf, in whose place `shelf` stays. False where there was no memory: then
+// it stays here, and no more rounds are wanted.
 fn send_home<R: Wait>(
     rt: &R,
     rounds: &mut Rounds,
@@ -98,7 +103,8 @@ fn send_home<R: Wait>(
     ensures ring { SameProducer told.old told.new }
     ensures sum { homes_of (sent told.new) + rounds.new.home ≡ homes_of (sent told.old) + rounds.old.home }
     ensures bare { result ≡ true → rounds.new.home ≡ 0 }
-    ensures same { (rounds.new.blocks ≡ rounds.old.blocks) × (options_of rounds.new ≡ options_of rounds.old) × (rounds.new.keep ≡ rounds.old.keep) }
+    ensures same { (rounds.new.blocks ≡ rounds.old.blocks) × (options_of rounds.new ≡ options_of rounds.old)
+        × (rounds.new.keep ≡ rounds.old.keep) }
 {
     match rounds.hand_home(shelf) {
         Ok(full) => {
@@ -144,10 +150,14 @@ fn work_side<N: Naming, R: Wait, W: Works, K: Sink>(
     requires bare { rounds.old.home ≡ 0 }
     requires none { (received from.old ≡ []) × (sent told.old ≡ []) }
     ensures rings { SameConsumer from.old from.new × SameProducer told.old told.new }
-    ensures wrote { MatchOption result ((received from.new ≡ []) × (K.held sink.new ≡ K.held sink.old)) (λ end. WroteLast rounds.old.blocks (options_of rounds.old) file.now (K.held sink.old) (K.held sink.new) (received from.new) end) }
+    ensures wrote { MatchOption result ((received from.new ≡ []) × (K.held sink.new ≡ K.held sink.old))
+        (λ end. WroteLast rounds.old.blocks (options_of rounds.old) file.now (K.held sink.old) (K.held sink.new)
+        (received from.new) end) }
     ensures each { homes_of (sent told.new) + rounds.new.home ≡ blocks_of (received from.new) }
-    ensures same { (rounds.new.blocks ≡ rounds.old.blocks) × (options_of rounds.new ≡ options_of rounds.old) × (rounds.new.keep ≡ rounds.old.keep) }
-    ensures flushed { IfSome result (λ end. flushes (ending_of end) ≡ true → SaysFlushed (K.held sink.new) (K.is_flushed sink.new) true) }
+    ensures same { (rounds.new.blocks ≡ rounds.old.blocks) × (options_of rounds.new ≡ options_of rounds.old)
+        × (rounds.new.keep ≡ rounds.old.keep) }
+    ensures flushed { IfSome result (λ end. flushes (ending_of end) ≡ true
+        → SaysFlushed (K.held sink.new) (K.is_flushed sink.new) true) }
     ensures later { K.faults sink.old ≤ K.faults sink.new }
     ensures rose { IfSome result (λ end. end ≡ MergeEnd.WriteFault → Rose (K.faults sink.old) (K.faults sink.new)) }
 {
@@ -200,16 +210,26 @@ pub(crate) fn run_sides<
     requires named { (supply.old.intake.blocks ≡ N.blocks) × (rounds.old.blocks ≡ N.blocks) × (P.blocks ≡ N.blocks) }
     requires bare { rounds.old.home ≡ 0 }
     requires none { (sent supply.old.out ≡ []) × (received from.old ≡ []) × (sent told.old ≡ []) }
-    ensures rings { SameProducer supply.old.out supply.new.out × SameConsumer from.old from.new × SameProducer told.old told.new }
+    ensures rings { SameProducer supply.old.out supply.new.out × SameConsumer from.old from.new
+        × SameProducer told.old told.new }
     ensures same_source { SameLoan reader.old reader.new }
-    ensures read { Reads supply.old.intake.blocks supply.old.intake.budget (reader_at S.left S.faults reader.old supply.old.intake.taken) (sent supply.new.out) (reader_at S.left S.faults reader.new supply.new.intake.taken) }
-    ensures sum { supply.new.intake.home + blocks_of (sent supply.new.out) + (homes_of (received supply.old.desk.tokens) - shelved supply.old.desk.shelves.items) ≡ supply.old.intake.home + (homes_of (received supply.new.desk.tokens) - shelved supply.new.desk.shelves.items) }
-    ensures same_intake { (supply.new.intake.blocks ≡ supply.old.intake.blocks) × (supply.new.intake.budget ≡ supply.old.intake.budget) }
+    ensures read { Reads supply.old.intake.blocks supply.old.intake.budget
+        (reader_at S.left S.faults reader.old supply.old.intake.taken) (sent supply.new.out)
+        (reader_at S.left S.faults reader.new supply.new.intake.taken) }
+    ensures sum { supply.new.intake.home + blocks_of (sent supply.new.out)
+        + (homes_of (received supply.old.desk.tokens) - shelved supply.old.desk.shelves.items) ≡ supply.old.intake.home
+        + (homes_of (received supply.new.desk.tokens) - shelved supply.new.desk.shelves.items) }
+    ensures same_intake { (supply.new.intake.blocks ≡ supply.old.intake.blocks)
+        × (supply.new.intake.budget ≡ supply.old.intake.budget) }
     ensures later { S.faults (source_of reader.old) ≤ S.faults (source_of reader.new) }
-    ensures wrote { MatchOption result ((received from.new ≡ []) × (K.held sink.new ≡ K.held sink.old)) (λ end. WroteLast rounds.old.blocks (options_of rounds.old) file.now (K.held sink.old) (K.held sink.new) (received from.new) end) }
+    ensures wrote { MatchOption result ((received from.new ≡ []) × (K.held sink.new ≡ K.held sink.old))
+        (λ end. WroteLast rounds.old.blocks (options_of rounds.old) file.now (K.held sink.old) (K.held sink.new)
+        (received from.new) end) }
     ensures each { homes_of (sent told.new) + rounds.new.home ≡ blocks_of (received from.new) }
-    ensures same { (rounds.new.blocks ≡ rounds.old.blocks) × (options_of rounds.new ≡ options_of rounds.old) × (rounds.new.keep ≡ rounds.old.keep) }
-    ensures flushed { IfSome result (λ end. flushes (ending_of end) ≡ true → SaysFlushed (K.held sink.new) (K.is_flushed sink.new) true) }
+    ensures same { (rounds.new.blocks ≡ rounds.old.blocks) × (options_of rounds.new ≡ options_of rounds.old)
+        × (rounds.new.keep ≡ rounds.old.keep) }
+    ensures flushed { IfSome result (λ end. flushes (ending_of end) ≡ true
+        → SaysFlushed (K.held sink.new) (K.is_flushed sink.new) true) }
     ensures later_sink { K.faults sink.old ≤ K.faults sink.new }
     ensures rose { IfSome result (λ end. end ≡ MergeEnd.WriteFault → Rose (K.faults sink.old) (K.faults sink.new)) }
 {
@@ -222,9 +242,15 @@ pub(crate) fn run_sides<
             requires none { sent supply.now.out ≡ [] }
             ensures ring { SameProducer supply.entry.now.out supply.exit.now.out }
             ensures same_source { SameLoan reader.entry.now reader.exit.now }
-            ensures read { Reads supply.entry.now.intake.blocks supply.entry.now.intake.budget (reader_at S.left S.faults reader.entry.now supply.entry.now.intake.taken) (sent supply.exit.now.out) (reader_at S.left S.faults reader.exit.now supply.exit.now.intake.taken) }
-            ensures sum { supply.exit.now.intake.home + blocks_of (sent supply.exit.now.out) + (homes_of (received supply.entry.now.desk.tokens) - shelved supply.entry.now.desk.shelves.items) ≡ supply.entry.now.intake.home + (homes_of (received supply.exit.now.desk.tokens) - shelved supply.exit.now.desk.shelves.items) }
-            ensures same { (supply.exit.now.intake.blocks ≡ supply.entry.now.intake.blocks) × (supply.exit.now.intake.budget ≡ supply.entry.now.intake.budget) }
+            ensures read { Reads supply.entry.now.intake.blocks supply.entry.now.intake.budget
+                (reader_at S.left S.faults reader.entry.now supply.entry.now.intake.taken) (sent supply.exit.now.out)
+                (reader_at S.left S.faults reader.exit.now supply.exit.now.intake.taken) }
+            ensures sum { supply.exit.now.intake.home + blocks_of (sent supply.exit.now.out)
+                + (homes_of (received supply.entry.now.desk.tokens) - shelved supply.entry.now.desk.shelves.items)
+                ≡ supply.entry.now.intake.home + (homes_of (received supply.exit.now.desk.tokens)
+                - shelved supply.exit.now.desk.shelves.items) }
+            ensures same { (supply.exit.now.intake.blocks ≡ supply.entry.now.intake.blocks)
+                × (supply.exit.now.intake.budget ≡ supply.entry.now.intake.budget) }
             ensures later { S.faults (source_of reader.entry.now) ≤ S.faults (source_of reader.exit.now) }
         { read_side(rt, reader, supply) },
         &mut || -> Option<MergeEnd>
@@ -232,12 +258,19 @@ pub(crate) fn run_sides<
             requires bare { rounds.now.home ≡ 0 }
             requires none { (received from.now ≡ []) × (sent told.now ≡ []) }
             ensures rings { SameConsumer from.entry.now from.exit.now × SameProducer told.entry.now told.exit.now }
-            ensures wrote { MatchOption result ((received from.exit.now ≡ []) × (K.held sink.exit.now ≡ K.held sink.entry.now)) (λ end. WroteLast rounds.entry.now.blocks (options_of rounds.entry.now) file.entry.now (K.held sink.entry.now) (K.held sink.exit.now) (received from.exit.now) end) }
+            ensures wrote { MatchOption result ((received from.exit.now ≡ [])
+                × (K.held sink.exit.now ≡ K.held sink.entry.now))
+                (λ end. WroteLast rounds.entry.now.blocks (options_of rounds.entry.now) file.entry.now
+                (K.held sink.entry.now) (K.held sink.exit.now) (received from.exit.now) end) }
             ensures each { homes_of (sent told.exit.now) + rounds.exit.now.home ≡ blocks_of (received from.exit.now) }
-            ensures same { (rounds.exit.now.blocks ≡ rounds.entry.now.blocks) × (options_of rounds.exit.now ≡ options_of rounds.entry.now) × (rounds.exit.now.keep ≡ rounds.entry.now.keep) }
-            ensures flushed { IfSome result (λ end. flushes (ending_of end) ≡ true → SaysFlushed (K.held sink.exit.now) (K.is_flushed sink.exit.now) true) }
+            ensures same { (rounds.exit.now.blocks ≡ rounds.entry.now.blocks)
+                × (options_of rounds.exit.now ≡ options_of rounds.entry.now)
+                × (rounds.exit.now.keep ≡ rounds.entry.now.keep) }
+            ensures flushed { IfSome result (λ end. flushes (ending_of end) ≡ true
+                → SaysFlushed (K.held sink.exit.now) (K.is_flushed sink.exit.now) true) }
             ensures later { K.faults sink.entry.now ≤ K.faults sink.exit.now }
-            ensures rose { IfSome result (λ end. end ≡ MergeEnd.WriteFault → Rose (K.faults sink.entry.now) (K.faults sink.exit.now)) }
+            ensures rose { IfSome result (λ end. end ≡ MergeEnd.WriteFault
+                → Rose (K.faults sink.entry.now) (K.faults sink.exit.now)) }
         { work_side(rt, works, rounds, file, sink, from, told, bells) },
     );
     end

@@ -10,7 +10,8 @@ use Rattle.round_pipeline.proofs.merge.merge_by.Goals.{After-merge_on, In-Ends}
 -- with the first round
 with_first : (g : given.Over) (c : In-Ends g)
     → Ended c.args.rounds.now.blocks (options_of c.args.rounds.now)
-    (start_at (reader_at g.S.Source.left g.S.Source.faults c.args.reader.now c.args.rounds.now.taken) (g.K.Sink.held c.args.sink.now)) (reader_at g.S.Source.left g.S.Source.faults c.args.reader.now c.args.rounds.now.taken)
+    (start_at (reader_at g.S.Source.left g.S.Source.faults c.args.reader.now c.args.rounds.now.taken) (g.K.Sink.held c.args.sink.now)) (reader_at g.S.Source.left g.S.Source.faults c.args.reader.now
+    c.args.rounds.now.taken)
     (reader_at g.S.Source.left g.S.Source.faults c.step.new.reader c.step.new.self.taken) (g.K.Sink.held c.step.new.sink) c.in-Ends.end
 with_first g c =
     let s = c.in-Ends.ensures in
@@ -61,11 +62,13 @@ merge_on-requires-clause-may g c κs within =
 -- behind it
 behind_first : (g : given.Over) (c : After-merge_on g)
     → Ended c.args.rounds.now.blocks (options_of c.args.rounds.now)
-    (start_at (reader_at g.S.Source.left g.S.Source.faults c.args.reader.now c.args.rounds.now.taken) (g.K.Sink.held c.args.sink.now)) (reader_at g.S.Source.left g.S.Source.faults c.args.reader.now c.args.rounds.now.taken)
+    (start_at (reader_at g.S.Source.left g.S.Source.faults c.args.reader.now c.args.rounds.now.taken) (g.K.Sink.held c.args.sink.now)) (reader_at g.S.Source.left g.S.Source.faults c.args.reader.now
+    c.args.rounds.now.taken)
     (reader_at g.S.Source.left g.S.Source.faults c.merge_on.new.reader c.merge_on.new.rounds.taken) (g.K.Sink.held c.merge_on.new.sink) c.merge_on.result
 behind_first g c =
     let s = c.in-Goes.ensures in
-    ended_behind c.args.rounds.now _ _ c.args.file.now _ _ _ (sink_at g.K.Sink.held g.K.Sink.is_flushed g.K.Sink.faults c.args.sink.now) _ _ _ ((c.step.ensures.moves c.in-Goes.is).file ∙ c.requires.file) s.later s.same.0 s.same.1 s.given c.merge_on.ensures.went
+    ended_behind c.args.rounds.now _ _ c.args.file.now _ _ _ (sink_at g.K.Sink.held g.K.Sink.is_flushed g.K.Sink.faults c.args.sink.now) _ _ _
+    ((c.step.ensures.moves c.in-Goes.is).file ∙ c.requires.file) s.later s.same.0 s.same.1 s.given c.merge_on.ensures.went
 
 pub returns-in-Goes-clause-merged : goal.returns-in-Goes-clause-merged
 returns-in-Goes-clause-merged g c =

@@ -43,7 +43,8 @@ gather-requires-clause-sum g c =
 
 pub returns-in_default-clause-went : goal.returns-in_default-clause-went
 returns-in_default-clause-went g c =
-    idle_as c.args.rounds.now c.prepare.new.rounds (reader_at g.S.Source.left g.S.Source.faults c.args.reader.now c.args.rounds.now.taken) (sink_at g.K.Sink.held g.K.Sink.is_flushed g.K.Sink.faults c.args.sink.now) c.requires.may.home c.in_default.ensures.err
+    idle_as c.args.rounds.now c.prepare.new.rounds (reader_at g.S.Source.left g.S.Source.faults c.args.reader.now c.args.rounds.now.taken)
+    (sink_at g.K.Sink.held g.K.Sink.is_flushed g.K.Sink.faults c.args.sink.now) c.requires.may.home c.in_default.ensures.err
 
 pub returns-clause-went : goal.returns-clause-went
 returns-clause-went g c =
@@ -53,5 +54,7 @@ returns-clause-went g c =
     all_went c.args.rounds.now c.prepare.new.rounds c.run_sides-end.new.rounds c.gather.new.rounds c.in-Ok.intake c.run_sides-end.new.supply.intake.taken c.args.file.now
     (reader_at g.S.Source.left g.S.Source.faults c.args.reader.now c.args.rounds.now.taken) (reader_at g.S.Source.left g.S.Source.faults c.run_sides-end.new.reader c.gather.new.rounds.taken)
     (record { given = c.in-Ok.ensures.intake; left = c.in-Ok.ensures.ok; same = r.same; joined = c.gather.ensures.home })
-    (sink_at g.K.Sink.held g.K.Sink.is_flushed g.K.Sink.faults c.args.sink.now) (sink_at g.K.Sink.held g.K.Sink.is_flushed g.K.Sink.faults c.run_sides-end.new.sink) (sent c.run_sides-end.new.supply.out) (received c.run_sides-end.new.from) known c.run_sides-end.result c.ending.result c.slots_beside-waiting.result
-    (omega (arith, c.taken.ensures.value)) (ap (λ (l : List (Option Parcel)). l ++ known) (sym a.looked.1) ∙ a.fifo ∙ a.producer.1) a.value r.read r.later r.wrote r.flushed r.later_sink r.rose c.ending.ensures.some c.ending.ensures.none
+    (sink_at g.K.Sink.held g.K.Sink.is_flushed g.K.Sink.faults c.args.sink.now) (sink_at g.K.Sink.held g.K.Sink.is_flushed g.K.Sink.faults c.run_sides-end.new.sink)
+    (sent c.run_sides-end.new.supply.out) (received c.run_sides-end.new.from) known c.run_sides-end.result c.ending.result c.slots_beside-waiting.result
+    (omega (arith, c.taken.ensures.value)) (ap (λ (l : List (Option Parcel)). l ++ known) (sym a.looked.1) ∙ a.fifo ∙ a.producer.1) a.value r.read r.later r.wrote r.flushed r.later_sink r.rose
+    c.ending.ensures.some c.ending.ensures.none

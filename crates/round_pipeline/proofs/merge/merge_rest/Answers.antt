@@ -61,7 +61,8 @@ returns-in-Ends-clause-went g c =
     let first = c.args.rounds.now in
     let new = c.step.new in
     record {
-      ended = λ start b. ended_so first.blocks first c.args.file.now start l.number _ (reader_at g.S.Source.left g.S.Source.faults l.reader l.rounds.taken) _ (g.K.Sink.held l.sink) (g.K.Sink.held new.sink) c.in-Ends.end (i.gone start b) i.later
+      ended = λ start b. ended_so first.blocks first c.args.file.now start l.number _ (reader_at g.S.Source.left g.S.Source.faults l.reader l.rounds.taken) _ (g.K.Sink.held l.sink)
+          (g.K.Sink.held new.sink) c.in-Ends.end (i.gone start b) i.later
           (steps_as l.number l.rounds first l.reader.place new.reader.place _ _ _ _ l.rounds.taken new.self.taken (Ends c.in-Ends.end) i.blocks i.options s.given) s.captured s.taken s.read
           (fronts_as l.rounds first l.reader.place _ _ _ _ _ i.blocks i.options s.front);
       flushed = s.flushed;

@@ -32,8 +32,10 @@ returns-in-Ends-clause-wrote g c =
     let p = c.in-Some-receive.parcel in
     let o = c.open-number.ensures.same in
     let w = c.in-Ends.ensures in
-    subst (λ (xs : List (Option Parcel)). WroteLast st.blocks (options_of st) c.args.file.now (g.K.Sink.held c.args.sink.now) (g.K.Sink.held c.put_read.new.sink) xs c.in-Ends.end) (sym c.in-Some-receive.ensures.item)
-    (wrote_last st.blocks st c.args.file.now (g.K.Sink.held c.args.sink.now) (g.K.Sink.held l.sink) (g.K.Sink.held c.put_read.new.sink) (received l.from) p c.in-Ends.end l.invariant.wrote c.in-Some-receive.ensures.allowed.number
+    subst (λ (xs : List (Option Parcel)). WroteLast st.blocks (options_of st) c.args.file.now (g.K.Sink.held c.args.sink.now) (g.K.Sink.held c.put_read.new.sink) xs c.in-Ends.end)
+    (sym c.in-Some-receive.ensures.item)
+    (wrote_last st.blocks st c.args.file.now (g.K.Sink.held c.args.sink.now) (g.K.Sink.held l.sink) (g.K.Sink.held c.put_read.new.sink)
+    (received l.from) p c.in-Ends.end l.invariant.wrote c.in-Some-receive.ensures.allowed.number
     (wrote_as (options_of st) (options_of l.rounds) c.args.file.now (g.K.Sink.held l.sink) (g.K.Sink.held c.put_read.new.sink) p (steps.Ends c.in-Ends.end)
     c.open-number.result.1.round c.open-number.result.1.end c.open-number.result.0 l.invariant.options o.1 o.2 o.0 w.puts w.gives))
 
@@ -105,7 +107,18 @@ loop-preserved g c =
       blocks = s.same.0 ∙ ap (λ r. r.blocks) c.put_read.ensures.home ∙ i.blocks;
       options = s.same.1 ∙ ap options_of c.put_read.ensures.home ∙ i.options;
       keep = s.same.2 ∙ ap (λ r. r.keep) c.put_read.ensures.home ∙ i.keep;
-      each = omega (arith, i.each, i.bare, bare, s.sum, ap (λ r. r.home) c.put_read.ensures.home, ap (λ r. r.blocks) o.1, ap blocks_of c.in-Some-receive.ensures.item, blocks_last (received l.from) (Some p));
+      each = omega (
+        arith,
+        i.each,
+        i.bare,
+        bare,
+        s.sum,
+        ap (λ r. r.home) c.put_read.ensures.home,
+        ap (λ r. r.blocks) o.1,
+        ap blocks_of c.in-Some-receive.ensures.item,
+        blocks_last (received l.from)
+            (Some p),
+      );
       wrote = subst (λ (xs : List (Option Parcel)). Wrote st.blocks (options_of st) c.args.file.now h0 h1 xs) (sym c.in-Some-receive.ensures.item)
           (wrote_more st.blocks st c.args.file.now h0 (g.K.Sink.held l.sink) h1 (received l.from) p i.wrote c.in-Some-receive.ensures.allowed.number
           (wrote_as (options_of st) (options_of l.rounds) c.args.file.now (g.K.Sink.held l.sink) h1 p steps.Goes
