@@ -11,7 +11,7 @@ use frame_layout::Choice;
 use inet_sum::{Partial, checksum};
 use off_io::{Feed, MemSource, NoGate};
 use pcap_io::{CaptureReader, Link};
-use round_work::Plan;
+use round_work::{Alone, Plan};
 use rounds::{RoundEnd, RoundRead, Rounds};
 use std::alloc::{AllocError, Global};
 use std::time::{Duration, Instant};
@@ -143,7 +143,7 @@ fn time_round(
 {
     let RoundRead { round, end } = rounds.read_round(reader);
     let start = Instant::now(rt);
-    let worked = rounds.work_round_alone(round, &NoGate);
+    let worked = rounds.work_round(&mut Alone { gate: &NoGate }, round);
     let taken = match start {
         Ok(start) => start.elapsed(rt).map_err(Error::from),
         Err(error) => Err(Error::from(error)),
