@@ -2,7 +2,8 @@
 //!
 //! Proved of [`check_all`]: the totals are those of the packets within the blocks, and it ends where the capture's bytes stop it, by the
 //! model that merging ends by (`given`, by `counting` of `check_totals`); after a read fault they are those of the bytes that are gone.
-//! All blocks are home again, whatever the ending (`home`).
+//! All blocks are home again, whatever the ending (`home`). [`check_beside`] has the same clauses: there all who run lanes are
+//! started once, for the whole run.
 //!
 //! ```text
 //! let mut totals = Totals::make(alloc, queues, taps)?;
@@ -11,6 +12,8 @@
 //! ```
 #![tactic(auto)]
 
+mod beside;
 mod check;
 
+pub use beside::check_beside;
 pub use check::{CheckEnd, check_all};
