@@ -1,5 +1,6 @@
 -- Rounds that are counted, and how checking ends.
-use Rattle.std.proofs.Common.{◌≡◌, ◌+◌, ◌-◌, ◌^◌, ◌*◌, ◌<◌, ◌≤◌, ◌⊎◌, inl, inr, ℕ, min, List, [], ◌∷◌, ◌++◌, Bool, true, false, Option, Some, None, refl, sym, ap, ◌∙◌, subst, length, length-append, map, arith, append_assoc, append-nil}
+use Rattle.std.proofs.Common.{◌≡◌, ◌+◌, ◌-◌, ◌^◌, ◌*◌, ◌<◌, ◌≤◌, ◌⊎◌, inl, inr, ℕ, min, List, [], ◌∷◌, ◌++◌, Bool, true, false, Option, Some, None, refl, sym, ap, ◌∙◌, subst, length, length-append}
+use Rattle.std.proofs.Common.{map, arith, append_assoc, append-nil}
 use Rattle.std.specs.List.{AllByRecursion}
 use Rattle.std.proofs.lemmas.List.{length-map}
 use Rattle.off_io.specs.Told.{Told}
@@ -142,7 +143,8 @@ module _ (blocks : ℕ) (options : Options) (from to : Place) (round : List Held
     no_memory result bytes left is loses = (NoMemory, ap ending_of is, (loses.0, loses.1))
 
     -- the last round ended as it was to, or there was no memory
-    last_end : (end result : CheckEnd) (ending : Ending) (bytes left : List ℕ) → ending_of end ≡ ending_behind k ending → (c1 ≡ added c counts → Tallies tally c c1 ending bytes left) → Loses bytes left
+    last_end : (end result : CheckEnd) (ending : Ending) (bytes left : List ℕ) → ending_of end ≡ ending_behind k ending → (c1 ≡ added c counts → Tallies tally c c1 ending bytes left)
+        → Loses bytes left
         → CountsLast c c1 counts end result → EndsBehind k blocks options from c c1 result bytes left
     last_end end result ending bytes left is tallies loses (inl w) = (ending, ap ending_of w.0 ∙ is, tallies w.1)
     last_end end result ending bytes left is tallies loses (inr f) = no_memory result bytes left f loses
@@ -208,7 +210,8 @@ module _ (blocks : ℕ) (options : Options) (from to : Place) (round : List Held
         (λ bytes left gives. no_memory ends.NoMemory bytes left refl (gives.0, gives.1))
         (subst (λ (e : RoundEnd). Told a b (GivesRound blocks from to round e)) is told)
 
-    exceeds_is : (need len : ℕ) (gone more : List ℕ) → length round < options.budget → lengths_at from gone ≡ map frame_length packets ++ len ∷ more → need ≡ round_need packets + need_of len → blocks < need
+    exceeds_is : (need len : ℕ) (gone more : List ℕ) → length round < options.budget → lengths_at from gone ≡ map frame_length packets ++ len ∷ more → need ≡ round_need packets + need_of len
+        → blocks < need
         → tally gone ≡ record { totals = totals_of options []; stop = AtRound 0 need }
     exceeds_is need len gone more fewer lens is ex =
         (counting_goes_by_round blocks options from packets gone (omega (arith, some))).exceeds len more (omega (arith, fewer, length-map round packet_of)) fits (omega (arith, is, ex)) lens
@@ -253,7 +256,8 @@ module _ (blocks : ℕ) (options : Options) (from to : Place) (round : List Held
       packets = packets;
       split = passes.1;
       goes = λ tail.
-          (counting_goes_by_round blocks options from packets (passes.0 ++ tail) (omega (arith, some))).full to tail (omega (arith, full, length-map round packet_of)) fits (passes.2 tail).found (passes.2 tail).lengths;
+          (counting_goes_by_round blocks options from packets (passes.0 ++ tail) (omega (arith, some))).full to tail (omega (arith, full, length-map round packet_of)) fits (passes.2 tail).found
+          (passes.2 tail).lengths;
       found = λ tail. (passes.2 tail).found;
       sum = sum;
       took = took;

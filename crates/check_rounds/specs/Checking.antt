@@ -29,8 +29,10 @@ CountsLast old new round end result = ((result ≡ end) × (new ≡ added old ro
 
 -- ---- rounds
 
--- The bytes that are gone are k rounds, whatever follows them: this was counted of them, and as many blocks were taken as they need.
-pub record Ahead (blocks : ℕ) (options : Options) (k : ℕ) (from to : Place) (old new : Counts) (before now : ℕ) (bytes left : List ℕ) : Type 0 where
+-- The bytes that are gone are k rounds, whatever follows them: this was counted of them, and as many blocks were taken
+-- as they need.
+pub record Ahead (blocks : ℕ) (options : Options) (k : ℕ) (from to : Place) (old new : Counts) (before now : ℕ)
+    (bytes left : List ℕ) : Type 0 where
   pub gone : List ℕ
   pub counts : Counts
   pub packets : List Packet
@@ -43,12 +45,15 @@ pub record Ahead (blocks : ℕ) (options : Options) (k : ℕ) (from to : Place) 
 -- from here on checking ends so, behind k rounds
 abbrev pub EndsBehind : ℕ → ℕ → Options → Place → Counts → Counts → CheckEnd → List ℕ → List ℕ → Type 0
 EndsBehind k blocks options from old new end bytes left =
-    (ending : Ending) × (ending_of end ≡ ending_behind k ending) × Tallies (counting blocks options from) old new ending bytes left
+    (ending : Ending) × (ending_of end ≡ ending_behind k ending)
+    × Tallies (counting blocks options from) old new ending bytes left
 
 -- what a step says, behind k rounds
 abbrev pub Steps : ℕ → ℕ → Options → Place → Place → Counts → Counts → ℕ → ℕ → Step → List ℕ → List ℕ → Type 0
-Steps k blocks options from to old new before now steps.Goes bytes left = Ahead blocks options 1 from to old new before now bytes left
-Steps k blocks options from to old new before now (steps.Ends end) bytes left = EndsBehind k blocks options from old new end bytes left
+Steps k blocks options from to old new before now steps.Goes bytes left = Ahead blocks options 1 from to old new before
+    now bytes left
+Steps k blocks options from to old new before now (steps.Ends end) bytes left = EndsBehind k blocks options from old new
+    end bytes left
 
 -- of the end that a step comes to
 abbrev pub IfEnds : Step → (CheckEnd → Type 0) → Type 0

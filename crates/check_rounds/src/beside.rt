@@ -183,8 +183,9 @@ fn check_staffed<R: Threads + Wait + Sync, S: Source, G: Gate + Sync>(
     }
 }
 
-/// Checks as `check_all`, whose clauses these are, but that where there is more than one lane all who run lanes are started once,
-/// for the whole run. Where there is no memory or no thread for them all is done in the thread that calls.
+/// Checks as `check_all`, whose clauses these are, but that where there is more than one lane all who run lanes are
+/// started once, for the whole run. Where there is no memory or no thread for them all is done in the thread that
+/// calls.
 pub fn check_beside<R: Threads + Wait + Sync, S: Source, G: Gate + Sync>(
     rt: &R,
     alloc: Global,
@@ -199,15 +200,21 @@ pub fn check_beside<R: Threads + Wait + Sync, S: Source, G: Gate + Sync>(
     requires keep { rounds.old.keep ≡ true }
     requires start { totals.old ≡ totals_of (options_of rounds.old) [] }
     ensures same_source { SameLoan reader.old reader.new }
-    ensures given { Told (S.left (source_of reader.old)) (S.left (source_of reader.new)) (Tallies (counting rounds.old.blocks (options_of rounds.old) (place_of reader.old)) totals.old totals.new (ending_of result)) }
+    ensures given { Told (S.left (source_of reader.old)) (S.left (source_of reader.new))
+        (Tallies (counting rounds.old.blocks (options_of rounds.old) (place_of reader.old)) totals.old totals.new
+        (ending_of result)) }
     ensures lanes { HasLanes (options_of rounds.old) totals.new }
     ensures within { IsWithin (2 ^ 50) (2 ^ 62) totals.new }
     ensures home { rounds.new.home ≡ rounds.new.blocks }
-    ensures same { (rounds.new.blocks ≡ rounds.old.blocks) × (options_of rounds.new ≡ options_of rounds.old) × (rounds.new.keep ≡ rounds.old.keep) }
-    ensures taken { result ≡ CheckEnd.Done → Told (S.left (source_of reader.old)) (S.left (source_of reader.new)) (λ bytes left. min (rounds.old.taken + round_need (found_at (place_of reader.old) bytes).packets) (2 ^ 64 - 1) ≤ rounds.new.taken) }
+    ensures same { (rounds.new.blocks ≡ rounds.old.blocks) × (options_of rounds.new ≡ options_of rounds.old)
+        × (rounds.new.keep ≡ rounds.old.keep) }
+    ensures taken { result ≡ CheckEnd.Done → Told (S.left (source_of reader.old)) (S.left (source_of reader.new))
+        (λ bytes left. min (rounds.old.taken + round_need (found_at (place_of reader.old) bytes).packets) (2 ^ 64 - 1)
+        ≤ rounds.new.taken) }
     ensures least { rounds.old.taken ≤ rounds.new.taken }
     ensures later { S.faults (source_of reader.old) ≤ S.faults (source_of reader.new) }
-    ensures read { result ≡ CheckEnd.ReadFault → Rose (S.faults (source_of reader.old)) (S.faults (source_of reader.new)) }
+    ensures read { result ≡ CheckEnd.ReadFault → Rose (S.faults (source_of reader.old))
+        (S.faults (source_of reader.new)) }
 {
     check_staffed(rt, alloc, rounds, reader, totals, gate)
 }

@@ -51,8 +51,10 @@ enum Step {
 // Compares what a round came to with its packets, and ends it.
 fn compare_round(rounds: &mut Rounds, worked: Worked) -> Result<Totals, AllocError>
     requires out { rounds.old.home + worked.blocks ≡ rounds.old.blocks }
-    requires worked { (ps : List Packet) × (IsKeptWorkOf (options_of rounds.old) ps worked × AllByRecursion IsCaptured ps × (length ps ≤ 4096)) }
-    ensures totals { (ps : List Packet) → IsKeptWorkOf (options_of rounds.old) ps worked → IfOk result (λ t. t ≡ round_totals (options_of rounds.old) ps) }
+    requires worked { (ps : List Packet) × (IsKeptWorkOf (options_of rounds.old) ps worked
+        × AllByRecursion IsCaptured ps × (length ps ≤ 4096)) }
+    ensures totals { (ps : List Packet) → IsKeptWorkOf (options_of rounds.old) ps worked
+        → IfOk result (λ t. t ≡ round_totals (options_of rounds.old) ps) }
     ensures home { rounds.new ≡ record rounds.old { home = rounds.old.blocks } }
 {
     let totals = rounds.check_round(&worked);
@@ -60,8 +62,8 @@ fn compare_round(rounds: &mut Rounds, worked: Worked) -> Result<Totals, AllocErr
     totals
 }
 
-// Works a round, compares it with its packets and ends it; what it counts is added. For want of memory its blocks are home all the
-// same.
+// Works a round, compares it with its packets and ends it; what it counts is added. For want of memory its blocks are
+// home all the same.
 fn count_round<W: Works>(
     works: &mut W,
     rounds: &mut Rounds,
@@ -75,7 +77,8 @@ fn count_round<W: Works>(
     requires few { length round.packets ≤ 4096 }
     requires lanes { HasLanes (options_of rounds.old) totals.old }
     requires within { (n : ℕ) × (n ≤ 2 ^ 32) × AreOf n totals.old }
-    ensures ok { OnOk result (totals.new ≡ added totals.old (round_totals (options_of rounds.old) (map packet_of round.packets))) }
+    ensures ok { OnOk result (totals.new ≡ added totals.old
+        (round_totals (options_of rounds.old) (map packet_of round.packets))) }
     ensures lanes { HasLanes (options_of rounds.old) totals.new }
     ensures within { (n : ℕ) → AreOf n totals.old → AreOf (n + length round.packets) totals.new }
     ensures home { rounds.new ≡ record rounds.old { home = rounds.old.blocks } }
@@ -101,7 +104,8 @@ fn last_round<W: Works>(
     requires few { length round.packets ≤ 4096 }
     requires lanes { HasLanes (options_of rounds.old) totals.old }
     requires within { (n : ℕ) × (n ≤ 2 ^ 32) × AreOf n totals.old }
-    ensures counts { CountsLast totals.old totals.new (round_totals (options_of rounds.old) (map packet_of round.packets)) end result }
+    ensures counts { CountsLast totals.old totals.new (round_totals (options_of rounds.old)
+        (map packet_of round.packets)) end result }
     ensures lanes { HasLanes (options_of rounds.old) totals.new }
     ensures within { (n : ℕ) → AreOf n totals.old → AreOf (n + length round.packets) totals.new }
     ensures home { rounds.new ≡ record rounds.old { home = rounds.old.blocks } }
@@ -129,17 +133,23 @@ fn count_next<W: Works, S: Source>(
     requires lanes { HasLanes (options_of rounds.old) totals.old }
     requires within { AreOf (place_of reader.old).number totals.old }
     ensures same_source { SameLoan reader.old reader.new }
-    ensures given { Told (S.left (source_of reader.old)) (S.left (source_of reader.new)) (Steps number rounds.old.blocks (options_of rounds.old) (place_of reader.old) (place_of reader.new) totals.old totals.new rounds.old.taken rounds.new.taken result) }
+    ensures given { Told (S.left (source_of reader.old)) (S.left (source_of reader.new))
+        (Steps number rounds.old.blocks (options_of rounds.old) (place_of reader.old)
+        (place_of reader.new) totals.old totals.new rounds.old.taken rounds.new.taken result) }
     ensures moves { result ≡ Step.Goes → MovesOn rounds.old.budget (place_of reader.old) (place_of reader.new) }
     ensures home { rounds.new.home ≡ rounds.new.blocks }
-    ensures same { (rounds.new.blocks ≡ rounds.old.blocks) × (options_of rounds.new ≡ options_of rounds.old) × (rounds.new.keep ≡ rounds.old.keep) }
+    ensures same { (rounds.new.blocks ≡ rounds.old.blocks) × (options_of rounds.new ≡ options_of rounds.old)
+        × (rounds.new.keep ≡ rounds.old.keep) }
     ensures lanes { HasLanes (options_of rounds.old) totals.new }
     ensures within { AreOf ((place_of reader.old).number + rounds.old.budget) totals.new }
     ensures budget { rounds.old.budget ≤ 4096 }
-    ensures taken { IfEnds result (λ end. end ≡ CheckEnd.Done → Told (S.left (source_of reader.old)) (S.left (source_of reader.new)) (TakesAll rounds.old.taken rounds.new.taken (place_of reader.old))) }
+    ensures taken { IfEnds result (λ end. end ≡ CheckEnd.Done
+        → Told (S.left (source_of reader.old)) (S.left (source_of reader.new))
+        (TakesAll rounds.old.taken rounds.new.taken (place_of reader.old))) }
     ensures least { rounds.old.taken ≤ rounds.new.taken }
     ensures later { S.faults (source_of reader.old) ≤ S.faults (source_of reader.new) }
-    ensures read { IfEnds result (λ end. end ≡ CheckEnd.ReadFault → Rose (S.faults (source_of reader.old)) (S.faults (source_of reader.new))) }
+    ensures read { IfEnds result (λ end. end ≡ CheckEnd.ReadFault
+        → Rose (S.faults (source_of reader.old)) (S.faults (source_of reader.new))) }
 {
     let RoundRead { round, end } = rounds.read_round(reader);
     match end {
@@ -170,12 +180,12 @@ fn count_next<W: Works, S: Source>(
     }
 }
 
-/// Checks the records of a capture, round by round, up to its end: each round is read, worked, compared with its packets and ended,
-/// and what it counts is added to the totals.
+/// Checks the records of a capture, round by round, up to its end: each round is read, worked, compared with its
+/// packets and ended, and what it counts is added to the totals.
 ///
-/// The rounds keep a clone of each packet, and the totals begin with those of no packet, of as many queues and taps. `given` says of
-/// each ending what was read and counted. A read fault only where the source's count of faults rose. All blocks are home again,
-/// whatever the ending.
+/// The rounds keep a clone of each packet, and the totals begin with those of no packet, of as many queues and taps.
+/// `given` says of each ending what was read and counted. A read fault only where the source's count of faults rose.
+/// All blocks are home again, whatever the ending.
 pub fn check_all<W: Works, S: Source>(
     works: &mut W,
     rounds: &mut Rounds,
@@ -188,15 +198,21 @@ pub fn check_all<W: Works, S: Source>(
     requires keep { rounds.old.keep ≡ true }
     requires start { totals.old ≡ totals_of (options_of rounds.old) [] }
     ensures same_source { SameLoan reader.old reader.new }
-    ensures given { Told (S.left (source_of reader.old)) (S.left (source_of reader.new)) (Tallies (counting rounds.old.blocks (options_of rounds.old) (place_of reader.old)) totals.old totals.new (ending_of result)) }
+    ensures given { Told (S.left (source_of reader.old)) (S.left (source_of reader.new))
+        (Tallies (counting rounds.old.blocks (options_of rounds.old) (place_of reader.old)) totals.old totals.new
+        (ending_of result)) }
     ensures lanes { HasLanes (options_of rounds.old) totals.new }
     ensures within { IsWithin (2 ^ 50) (2 ^ 62) totals.new }
     ensures home { rounds.new.home ≡ rounds.new.blocks }
-    ensures same { (rounds.new.blocks ≡ rounds.old.blocks) × (options_of rounds.new ≡ options_of rounds.old) × (rounds.new.keep ≡ rounds.old.keep) }
-    ensures taken { result ≡ CheckEnd.Done → Told (S.left (source_of reader.old)) (S.left (source_of reader.new)) (λ bytes left. min (rounds.old.taken + round_need (found_at (place_of reader.old) bytes).packets) (2 ^ 64 - 1) ≤ rounds.new.taken) }
+    ensures same { (rounds.new.blocks ≡ rounds.old.blocks) × (options_of rounds.new ≡ options_of rounds.old)
+        × (rounds.new.keep ≡ rounds.old.keep) }
+    ensures taken { result ≡ CheckEnd.Done → Told (S.left (source_of reader.old)) (S.left (source_of reader.new))
+        (λ bytes left. min (rounds.old.taken + round_need (found_at (place_of reader.old) bytes).packets) (2 ^ 64 - 1)
+        ≤ rounds.new.taken) }
     ensures least { rounds.old.taken ≤ rounds.new.taken }
     ensures later { S.faults (source_of reader.old) ≤ S.faults (source_of reader.new) }
-    ensures read { result ≡ CheckEnd.ReadFault → Rose (S.faults (source_of reader.old)) (S.faults (source_of reader.new)) }
+    ensures read { result ≡ CheckEnd.ReadFault → Rose (S.faults (source_of reader.old))
+        (S.faults (source_of reader.new)) }
 {
     let mut number = 0;
     'rounds: loop {

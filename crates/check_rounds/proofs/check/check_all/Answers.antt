@@ -35,8 +35,10 @@ rounds-preserved g c =
     let first = c.args.rounds.now in
     let new = c.count_next.new in
     record {
-      told = goes_then first.blocks (options_of first) l.number c.args.reader.now.place l.reader.place new.reader.place _ _ _ c.args.totals.now l.totals new.totals first.taken l.rounds.taken new.rounds.taken i.told
-          (steps_as l.number l.rounds.blocks first.blocks (options_of l.rounds) (options_of first) l.reader.place new.reader.place _ _ l.totals new.totals l.rounds.taken new.rounds.taken Goes i.blocks i.options s.given);
+      told = goes_then first.blocks (options_of first) l.number c.args.reader.now.place l.reader.place new.reader.place _ _ _ c.args.totals.now l.totals new.totals first.taken l.rounds.taken
+          new.rounds.taken i.told
+          (steps_as l.number l.rounds.blocks first.blocks (options_of l.rounds) (options_of first) l.reader.place new.reader.place _ _ l.totals new.totals l.rounds.taken new.rounds.taken Goes i.blocks
+          i.options s.given);
       link = m.link ∙ i.link;
       ready = m.ready;
       home = s.home;
@@ -57,8 +59,10 @@ returns-in-Ends-clause-given g c =
     let i = l.invariant in
     let first = c.args.rounds.now in
     let new = c.count_next.new in
-    ends_then first.blocks (options_of first) l.number c.args.reader.now.place l.reader.place new.reader.place _ _ _ c.args.totals.now l.totals new.totals first.taken l.rounds.taken new.rounds.taken c.in-Ends.end i.told
-    (steps_as l.number l.rounds.blocks first.blocks (options_of l.rounds) (options_of first) l.reader.place new.reader.place _ _ l.totals new.totals l.rounds.taken new.rounds.taken (Ends c.in-Ends.end) i.blocks i.options c.in-Ends.ensures.given)
+    ends_then first.blocks (options_of first) l.number c.args.reader.now.place l.reader.place new.reader.place _ _ _ c.args.totals.now l.totals new.totals first.taken l.rounds.taken new.rounds.taken
+    c.in-Ends.end i.told
+    (steps_as l.number l.rounds.blocks first.blocks (options_of l.rounds) (options_of first) l.reader.place new.reader.place _ _ l.totals new.totals l.rounds.taken new.rounds.taken
+    (Ends c.in-Ends.end) i.blocks i.options c.in-Ends.ensures.given)
 
 pub returns-in-Ends-clause-within : goal.returns-in-Ends-clause-within
 returns-in-Ends-clause-within g c =
@@ -71,4 +75,5 @@ returns-in-Ends-clause-taken g c =
     let l = c.rounds in
     let first = c.args.rounds.now in
     let new = c.count_next.new in
-    λ done. taken_then first.blocks (options_of first) l.number c.args.reader.now.place l.reader.place new.reader.place _ _ _ c.args.totals.now l.totals l.totals first.taken l.rounds.taken new.rounds.taken l.invariant.told (c.in-Ends.ensures.taken done)
+    λ done. taken_then first.blocks (options_of first) l.number c.args.reader.now.place l.reader.place new.reader.place _ _ _ c.args.totals.now l.totals l.totals first.taken l.rounds.taken
+    new.rounds.taken l.invariant.told (c.in-Ends.ensures.taken done)

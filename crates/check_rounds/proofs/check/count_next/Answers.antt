@@ -15,32 +15,45 @@ returns-in-Ok-clause-given g c =
     let r = c.read_round-round.ensures in
     let read = c.read_round-round.result in
     let passed = r.full c.in-Full.is in
-    full_given c.args.rounds.now.blocks (options_of c.args.rounds.now) c.args.reader.now.place c.read_round-round.new.reader.place read.round.packets r.budget.0 (omega (arith, r.need, r.home)) c.args.number _ _ c.args.totals.now c.count_round.new.totals read.end c.args.rounds.now.taken c.count_round.new.rounds.taken c.in-Full.is passed.full
-    (omega (arith, r.taken, r.need, ap (λ (s : RoundsState). s.taken) c.count_round.ensures.home)) (subst (λ (x : Options). c.count_round.new.totals ≡ added c.args.totals.now (round_totals x (map packet_of read.round.packets))) r.same.1 c.in-Ok.ensures.ok) r.given
+    full_given c.args.rounds.now.blocks (options_of c.args.rounds.now) c.args.reader.now.place c.read_round-round.new.reader.place read.round.packets r.budget.0
+    (omega (arith, r.need, r.home)) c.args.number _ _ c.args.totals.now c.count_round.new.totals read.end c.args.rounds.now.taken c.count_round.new.rounds.taken c.in-Full.is passed.full
+    (omega (arith, r.taken, r.need, ap (λ (s : RoundsState). s.taken) c.count_round.ensures.home)) (subst (λ (x : Options). c.count_round.new.totals
+    ≡ added c.args.totals.now (round_totals x (map packet_of read.round.packets))) r.same.1 c.in-Ok.ensures.ok) r.given
 
 pub returns-in-End-clause-given : goal.returns-in-End-clause-given
 returns-in-End-clause-given g c =
     let r = c.read_round-round.ensures in
     let read = c.read_round-round.result in
-    end_given c.args.rounds.now.blocks (options_of c.args.rounds.now) c.args.reader.now.place c.read_round-round.new.reader.place read.round.packets r.budget.0 (omega (arith, r.need, r.home)) c.args.number _ _ c.args.totals.now c.last_round.new.totals read.end c.last_round.result c.in-End.is (fewer_by read.end _ _ (ap is_short c.in-End.is) r.fewer) (subst (λ (x : Options). CountsLast c.args.totals.now c.last_round.new.totals (round_totals x (map packet_of read.round.packets)) ends.Done c.last_round.result) r.same.1 c.last_round.ensures.counts) r.given
+    end_given c.args.rounds.now.blocks (options_of c.args.rounds.now) c.args.reader.now.place c.read_round-round.new.reader.place read.round.packets r.budget.0
+    (omega (arith, r.need, r.home)) c.args.number _ _ c.args.totals.now c.last_round.new.totals read.end c.last_round.result c.in-End.is (fewer_by read.end _ _ (ap is_short c.in-End.is) r.fewer)
+    (subst (λ (x : Options). CountsLast c.args.totals.now c.last_round.new.totals (round_totals x (map packet_of read.round.packets)) ends.Done c.last_round.result) r.same.1
+    c.last_round.ensures.counts) r.given
 
 pub returns-in-Malformed-clause-given : goal.returns-in-Malformed-clause-given
 returns-in-Malformed-clause-given g c =
     let r = c.read_round-round.ensures in
     let read = c.read_round-round.result in
-    malformed_given c.args.rounds.now.blocks (options_of c.args.rounds.now) c.args.reader.now.place c.read_round-round.new.reader.place read.round.packets r.budget.0 (omega (arith, r.need, r.home)) c.args.number _ _ c.args.totals.now c.last_round-in-Malformed.new.totals read.end c.in-Malformed.fault c.last_round-in-Malformed.result c.in-Malformed.is (fewer_by read.end _ _ (ap is_short c.in-Malformed.is) r.fewer) (subst (λ (x : Options). CountsLast c.args.totals.now c.last_round-in-Malformed.new.totals (round_totals x (map packet_of read.round.packets)) (ends.Malformed c.in-Malformed.fault) c.last_round-in-Malformed.result) r.same.1 c.last_round-in-Malformed.ensures.counts) r.given
+    malformed_given c.args.rounds.now.blocks (options_of c.args.rounds.now) c.args.reader.now.place c.read_round-round.new.reader.place read.round.packets r.budget.0
+    (omega (arith, r.need, r.home)) c.args.number _ _ c.args.totals.now c.last_round-in-Malformed.new.totals read.end c.in-Malformed.fault c.last_round-in-Malformed.result c.in-Malformed.is
+    (fewer_by read.end _ _ (ap is_short c.in-Malformed.is) r.fewer) (subst (λ (x : Options). CountsLast c.args.totals.now c.last_round-in-Malformed.new.totals
+    (round_totals x (map packet_of read.round.packets)) (ends.Malformed c.in-Malformed.fault) c.last_round-in-Malformed.result) r.same.1 c.last_round-in-Malformed.ensures.counts) r.given
 
 pub returns-in-ReadFault-clause-given : goal.returns-in-ReadFault-clause-given
 returns-in-ReadFault-clause-given g c =
     let r = c.read_round-round.ensures in
     let read = c.read_round-round.result in
-    fault_given c.args.rounds.now.blocks (options_of c.args.rounds.now) c.args.reader.now.place c.read_round-round.new.reader.place read.round.packets r.budget.0 (omega (arith, r.need, r.home)) c.args.number _ _ c.args.totals.now c.last_round-in-ReadFault.new.totals read.end c.last_round-in-ReadFault.result c.in-ReadFault.is (fewer_by read.end _ _ (ap is_short c.in-ReadFault.is) r.fewer) (subst (λ (x : Options). CountsLast c.args.totals.now c.last_round-in-ReadFault.new.totals (round_totals x (map packet_of read.round.packets)) ends.ReadFault c.last_round-in-ReadFault.result) r.same.1 c.last_round-in-ReadFault.ensures.counts) r.given
+    fault_given c.args.rounds.now.blocks (options_of c.args.rounds.now) c.args.reader.now.place c.read_round-round.new.reader.place read.round.packets r.budget.0
+    (omega (arith, r.need, r.home)) c.args.number _ _ c.args.totals.now c.last_round-in-ReadFault.new.totals read.end c.last_round-in-ReadFault.result c.in-ReadFault.is
+    (fewer_by read.end _ _ (ap is_short c.in-ReadFault.is) r.fewer) (subst (λ (x : Options). CountsLast c.args.totals.now c.last_round-in-ReadFault.new.totals
+    (round_totals x (map packet_of read.round.packets)) ends.ReadFault c.last_round-in-ReadFault.result) r.same.1 c.last_round-in-ReadFault.ensures.counts) r.given
 
 pub returns-in-PoolEmpty-clause-given : goal.returns-in-PoolEmpty-clause-given
 returns-in-PoolEmpty-clause-given g c =
     let r = c.read_round-round.ensures in
     let read = c.read_round-round.result in
-    empty_given c.args.rounds.now.blocks (options_of c.args.rounds.now) c.args.reader.now.place c.read_round-round.new.reader.place read.round.packets r.budget.0 (omega (arith, r.need, r.home)) c.args.number _ _ c.args.totals.now c.args.totals.now read.end c.in-PoolEmpty.need c.in-PoolEmpty.is (fewer_by read.end _ _ (ap is_short c.in-PoolEmpty.is) r.fewer) c.requires.lanes refl r.given
+    empty_given c.args.rounds.now.blocks (options_of c.args.rounds.now) c.args.reader.now.place c.read_round-round.new.reader.place read.round.packets r.budget.0
+    (omega (arith, r.need, r.home)) c.args.number _ _ c.args.totals.now c.args.totals.now read.end c.in-PoolEmpty.need c.in-PoolEmpty.is
+    (fewer_by read.end _ _ (ap is_short c.in-PoolEmpty.is) r.fewer) c.requires.lanes refl r.given
 
 pub returns-in-Ok-clause-within : goal.returns-in-Ok-clause-within
 returns-in-Ok-clause-within g c =
@@ -64,13 +77,15 @@ pub returns-in-Malformed-clause-within : goal.returns-in-Malformed-clause-within
 returns-in-Malformed-clause-within g c =
     let n = c.args.reader.now.place.number in
     let round = c.read_round-round.result.round.packets in
-    of_more (n + length round) (n + c.args.rounds.now.budget) c.last_round-in-Malformed.new.totals (omega (arith, c.read_round-round.ensures.size)) (c.last_round-in-Malformed.ensures.within n c.requires.within)
+    of_more (n + length round) (n + c.args.rounds.now.budget) c.last_round-in-Malformed.new.totals (omega (arith, c.read_round-round.ensures.size))
+    (c.last_round-in-Malformed.ensures.within n c.requires.within)
 
 pub returns-in-ReadFault-clause-within : goal.returns-in-ReadFault-clause-within
 returns-in-ReadFault-clause-within g c =
     let n = c.args.reader.now.place.number in
     let round = c.read_round-round.result.round.packets in
-    of_more (n + length round) (n + c.args.rounds.now.budget) c.last_round-in-ReadFault.new.totals (omega (arith, c.read_round-round.ensures.size)) (c.last_round-in-ReadFault.ensures.within n c.requires.within)
+    of_more (n + length round) (n + c.args.rounds.now.budget) c.last_round-in-ReadFault.new.totals (omega (arith, c.read_round-round.ensures.size))
+    (c.last_round-in-ReadFault.ensures.within n c.requires.within)
 
 pub returns-in-PoolEmpty-clause-within : goal.returns-in-PoolEmpty-clause-within
 returns-in-PoolEmpty-clause-within g c =
