@@ -1,5 +1,6 @@
 -- Every flow comes back of what merging makes of some bytes; and what is said where nothing was read.
-use Rattle.std.proofs.Common.{◌≡◌, ℕ, ◌*◌, ◌<◌, List, [], ◌++◌, length, length-append, length-take, take, drop, refl, sym, ap, ◌∙◌, subst, arith, append_assoc, take-append-drop, Option, Some, None, Ok, Err, Bool, true, if◌then◌else◌}
+use Rattle.std.proofs.Common.{◌≡◌, ℕ, ◌*◌, ◌<◌, List, [], ◌++◌, length, length-append, length-take, take, drop, refl, sym, ap, ◌∙◌, subst, arith, append_assoc, take-append-drop, Option, Some, None}
+use Rattle.std.proofs.Common.{Ok, Err, Bool, true, if◌then◌else◌}
 use Rattle.std.specs.Prelude.{is_some, nat_lt, IfSome}
 use Rattle.std.specs.List.{AllByRecursion}
 use Rattle.std.proofs.KnownBytes.{Appends-nil, Keeps-refl}
@@ -43,7 +44,8 @@ use Rattle.offload_run.proofs.Numbered.{records_rising}
 
 -- ---- what is merged
 
-rising_before : (budget : ℕ) (exceeded : Option (ℕ × ℕ)) (found : Found) → AllNeighbours (λ p q. p.number < q.number) found.packets → AllNeighbours (λ p q. p.number < q.number) (found_before budget exceeded found).packets
+rising_before : (budget : ℕ) (exceeded : Option (ℕ × ℕ)) (found : Found) → AllNeighbours (λ p q. p.number < q.number) found.packets → AllNeighbours (λ p q. p.number < q.number)
+    (found_before budget exceeded found).packets
 rising_before budget None found r = r
 rising_before budget (Some at) found r = near_taken (λ (p q : Packet). p.number < q.number) (at.0 * budget) found.packets r
 
@@ -69,12 +71,14 @@ flows_back blocks o lawful given each =
     (record { each = each; rising = merged_rising (first_that_holds (file_refusals Ethernet (take 24 given))) blocks o.budget given })
 
 -- where the file header is refused there are none
-none_merged : (blocks : ℕ) (o : Options) → AreOptions o → (given : List ℕ) (kind : CapKind) → first_that_holds (file_refusals Ethernet (take 24 given)) ≡ Some kind → FlowsComeBack o (merged_packets blocks o.budget given)
+none_merged : (blocks : ℕ) (o : Options) → AreOptions o → (given : List ℕ) (kind : CapKind) → first_that_holds (file_refusals Ethernet (take 24 given)) ≡ Some kind
+    → FlowsComeBack o (merged_packets blocks o.budget given)
 none_merged blocks o lawful given kind refused =
     flows_back blocks o lawful given (subst (λ (r : Option CapKind). AllByRecursion IsCaptured (merged_at r blocks o.budget given)) (sym refused) tt)
 
 -- behind a lawful one stand those that were read
-behind_merged : (blocks : ℕ) (o : Options) → AreOptions o → (file : FileHead) (given rest : List ℕ) → GivesFile Ethernet (Ok file) given rest → AreCapturedWithin blocks o.budget (first_place file Ethernet 0) rest
+behind_merged : (blocks : ℕ) (o : Options) → AreOptions o → (file : FileHead) (given rest : List ℕ) → GivesFile Ethernet (Ok file) given rest
+    → AreCapturedWithin blocks o.budget (first_place file Ethernet 0) rest
     → FlowsComeBack o (merged_packets blocks o.budget given)
 behind_merged blocks o lawful file given rest gives each =
     flows_back blocks o lawful given
@@ -122,7 +126,8 @@ module _ (blocks : ℕ) (o : Options) (lawful : AreOptions o) where
   pub head_failed_back : (a b : Option (List ℕ)) (file : FileHead) → Told a b (GivesFile Ethernet (Ok file)) → Told a b (OfRead Back statuses.WriteFault)
   head_failed_back a b file told = Told-weaker a b (GivesFile Ethernet (Ok file)) (OfRead Back statuses.WriteFault) (λ given left gives. tt) told
 
-  back_behind : (file : FileHead) (status : Status) (given rest left : List ℕ) → GivesFile Ethernet (Ok file) given rest → OfRead (AreCapturedWithin blocks o.budget (first_place file Ethernet 0)) status rest left
+  back_behind : (file : FileHead) (status : Status) (given rest left : List ℕ) → GivesFile Ethernet (Ok file) given rest → OfRead (AreCapturedWithin blocks o.budget (first_place file Ethernet 0))
+      status rest left
       → OfRead Back status given left
   back_behind file statuses.Ok given rest left gives each = behind_merged blocks o lawful file given rest gives each
   back_behind file (statuses.Malformed fault) given rest left gives each = behind_merged blocks o lawful file given rest gives each
@@ -138,13 +143,15 @@ module _ (blocks : ℕ) (o : Options) (lawful : AreOptions o) where
   back_behind file statuses.NoMemory given rest left gives each = tt
 
   -- what was read behind a file header
-  pub whole_back : (a b c : Option (List ℕ)) (file : FileHead) (status : Status) → Told a b (GivesFile Ethernet (Ok file)) → Told b c (OfRead (AreCapturedWithin blocks o.budget (first_place file Ethernet 0)) status)
+  pub whole_back : (a b c : Option (List ℕ)) (file : FileHead) (status : Status) → Told a b (GivesFile Ethernet (Ok file)) → Told b c (OfRead
+      (AreCapturedWithin blocks o.budget (first_place file Ethernet 0)) status)
       → Told a c (OfRead Back status)
   whole_back a b c file status first second =
       Told-then a b c (GivesFile Ethernet (Ok file)) (OfRead (AreCapturedWithin blocks o.budget (first_place file Ethernet 0)) status) (OfRead Back status)
       (λ given rest left gives each. back_behind file status given rest left gives each) first second
 
-captured_by : (blocks budget made : ℕ) (place : Place) (end : MergeEnd) (bytes left : List ℕ) → HoldsCaptured blocks budget place end bytes left → OfRead (AreCapturedWithin blocks budget place) (status_by end made) bytes left
+captured_by : (blocks budget made : ℕ) (place : Place) (end : MergeEnd) (bytes left : List ℕ) → HoldsCaptured blocks budget place end bytes left
+    → OfRead (AreCapturedWithin blocks budget place) (status_by end made) bytes left
 captured_by blocks budget made place ends.Done bytes left h = h
 captured_by blocks budget made place (ends.Malformed fault) bytes left h = h
 captured_by blocks budget made place (ends.PoolEmpty round need) bytes left h = h
@@ -153,11 +160,13 @@ captured_by blocks budget made place ends.WriteFault bytes left h = tt
 captured_by blocks budget made place ends.NoMemory bytes left h = tt
 
 -- the packets that merging read, by its status
-pub captured_given : (blocks budget made : ℕ) (place : Place) (a b : Option (List ℕ)) (end : MergeEnd) (status : Status) → status ≡ status_by end made → Told a b (HoldsCaptured blocks budget place end)
+pub captured_given : (blocks budget made : ℕ) (place : Place) (a b : Option (List ℕ)) (end : MergeEnd) (status : Status) → status ≡ status_by end made
+    → Told a b (HoldsCaptured blocks budget place end)
     → Told a b (OfRead (AreCapturedWithin blocks budget place) status)
 captured_given blocks budget made place a b end status is told =
     subst (λ (s : Status). Told a b (OfRead (AreCapturedWithin blocks budget place) s)) (sym is)
-    (Told-weaker a b (HoldsCaptured blocks budget place end) (OfRead (AreCapturedWithin blocks budget place) (status_by end made)) (λ bytes left h. captured_by blocks budget made place end bytes left h) told)
+    (Told-weaker a b (HoldsCaptured blocks budget place end) (OfRead (AreCapturedWithin blocks budget place) (status_by end made)) (λ bytes left h. captured_by blocks budget made place end bytes left
+    h) told)
 
 pub none_captured : (P : List ℕ → Type 0) (a : Option (List ℕ)) → Told a a (OfRead P statuses.NoMemory)
 none_captured P a = Told-same a (OfRead P statuses.NoMemory) (λ given. tt)

@@ -1,5 +1,6 @@
 -- Lines that are written of a whole capture, where it has a file header.
-use Rattle.std.proofs.Common.{◌≡◌, ◌≤◌, ◌<◌, ℕ, List, [], ◌++◌, length, take, drop, sym, ap, ◌∙◌, subst, arith, Option, None, Some, Ok, Err, Bool, true, false, length-append, length-take, length-drop, take-append-drop, append_assoc, if◌then◌else◌}
+use Rattle.std.proofs.Common.{◌≡◌, ◌≤◌, ◌<◌, ℕ, List, [], ◌++◌, length, take, drop, sym, ap, ◌∙◌, subst, arith, Option, None, Some, Ok, Err, Bool, true, false, length-append, length-take, length-drop}
+use Rattle.std.proofs.Common.{take-append-drop, append_assoc, if◌then◌else◌}
 use Rattle.std.specs.Prelude.{nat_lt}
 use Rattle.std.specs.Io.KnownBytes.{Appends}
 use Rattle.std.proofs.KnownBytes.{Appends-nil}
@@ -21,7 +22,8 @@ use Rattle.pcap_io.specs.Headers.{first_that_holds, file_refusals, file_place, f
 use Rattle.pcap_io.specs.Places.{first_place}
 use Rattle.pcap_io.specs.Reading.{GivesFile}
 use Rattle.pcap_io.proofs.Fronts.{not_first}
-use Rattle.offload_model.specs.Passing.{Stop, Nowhere, AtFault, AtRound, Passed, Ending, Stopped, ReadFault, WriteFault, NoMemory, behind_head, HasFileHead, IsLeft, IsNoRound, Passes, IsBehindHead, Answers, flushes}
+use Rattle.offload_model.specs.Passing.{Stop, Nowhere, AtFault, AtRound, Passed, Ending, Stopped, ReadFault, WriteFault, NoMemory, behind_head, HasFileHead, IsLeft, IsNoRound, Passes, IsBehindHead}
+use Rattle.offload_model.specs.Passing.{Answers, flushes}
 use Rattle.offload_run.specs.declared.status.Status.{Status}
 use Rattle.offload_run.specs.Ending.{ending_of, Ends, IsStatusFor}
 

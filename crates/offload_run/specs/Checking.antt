@@ -1,4 +1,5 @@
--- What `check` says of each answer: of a capture that is read, and of a generated one, whose lines begin with one of its own.
+-- What `check` says of each answer: of a capture that is read, and of a generated one, whose lines begin with one of
+-- its own.
 use Rattle.std.specs.Prelude.{◌≡◌, ◌⊎◌, ℕ, ◌++◌, Bool, true, List, [], length, Option, None, Some, ⊤}
 use Rattle.std.specs.Io.KnownBytes.{Appends, Keeps}
 use Rattle.off_io.specs.Content.{AppendsFront, SaysFlushed}
@@ -31,9 +32,11 @@ KeepsAt old new statuses.NoMemory = Keeps old new
 KeepsAt old new _ = ⊤
 
 -- `untouched` says that the sink is as it was
-abbrev pub ReadAnswers : MergeOptions → Option (List ℕ) → Option (List ℕ) → Bool → Type 0 → Status → List ℕ → List ℕ → Type 0
+abbrev pub ReadAnswers : MergeOptions → Option (List ℕ) → Option (List ℕ) → Bool → Type 0 → Status → List ℕ → List ℕ
+    → Type 0
 ReadAnswers o old new is_flushed untouched status given left =
-    Ends (passing.Answers Ethernet (checking_whole o.blocks (options o)) old new is_flushed untouched) (ending_of status) given left × KeepsAt old new status
+    Ends (passing.Answers Ethernet (checking_whole o.blocks (options o)) old new is_flushed untouched)
+    (ending_of status) given left × KeepsAt old new status
 
 -- ---- a generated capture
 
@@ -43,10 +46,11 @@ checking_made seed count o =
     let checked = checking_whole o.blocks (options o) (made seed count) in
     record { output = made_line count (length (made seed count)) ++ checked.output; stop = checked.stop }
 
--- It has no fault, and it is read from no source. Where the sink failed a front of the lines was written, and for want of memory
--- none.
+-- It has no fault, and it is read from no source. Where the sink failed a front of the lines was written, and for want
+-- of memory none.
 abbrev pub ChecksTo : Passed → Option (List ℕ) → Option (List ℕ) → Bool → Status → Type 0
-ChecksTo passed old new is_flushed statuses.Ok = (passed.stop ≡ Nowhere) × Appends old new passed.output × SaysFlushed new is_flushed true
+ChecksTo passed old new is_flushed statuses.Ok = (passed.stop ≡ Nowhere) × Appends old new passed.output
+    × SaysFlushed new is_flushed true
 ChecksTo passed old new is_flushed (statuses.PoolEmpty round need blocks) =
     (passed.stop ≡ AtRound round need) × Appends old new passed.output × SaysFlushed new is_flushed true
 ChecksTo passed old new is_flushed statuses.WriteFault = AppendsFront old new passed.output
@@ -55,14 +59,18 @@ ChecksTo passed old new is_flushed _ = ⊥
 
 -- ---- either, by the seed
 
-abbrev pub CheckAnswers : Option ℕ → CheckOptions → Option (List ℕ) → Option (List ℕ) → Bool → Type 0 → Status → List ℕ → List ℕ → Type 0
-CheckAnswers None o old new is_flushed untouched status given left = ReadAnswers o.merge old new is_flushed untouched status given left
-CheckAnswers (Some seed) o old new is_flushed untouched status given left = ChecksTo (checking_made seed o.count o.merge) old new is_flushed status × (left ≡ given)
+abbrev pub CheckAnswers : Option ℕ → CheckOptions → Option (List ℕ) → Option (List ℕ) → Bool → Type 0 → Status → List ℕ
+    → List ℕ → Type 0
+CheckAnswers None o old new is_flushed untouched status given left = ReadAnswers o.merge old new is_flushed untouched
+    status given left
+CheckAnswers (Some seed) o old new is_flushed untouched status given left = ChecksTo
+    (checking_made seed o.count o.merge) old new is_flushed status × (left ≡ given)
 
 -- the same of a generated capture, whatever a source tells; `untouched` says that the source is as it was
 abbrev pub ChecksMade : Option ℕ → CheckOptions → Option (List ℕ) → Option (List ℕ) → Bool → Type 0 → Status → Type 0
 ChecksMade None o old new is_flushed untouched status = ⊤
-ChecksMade (Some seed) o old new is_flushed untouched status = ChecksTo (checking_made seed o.count o.merge) old new is_flushed status × untouched
+ChecksMade (Some seed) o old new is_flushed untouched status = ChecksTo
+    (checking_made seed o.count o.merge) old new is_flushed status × untouched
 
 -- ---- behind a file header
 
@@ -82,7 +90,8 @@ status_if ends.NoMemory blocks = None
 -- the lines were written and flushed, or the sink failed and a front of them was
 abbrev pub LinesEnd : Option (List ℕ) → Option (List ℕ) → Bool → List ℕ → Status → Status → Type 0
 LinesEnd old new is_flushed lines end status =
-    ((status ≡ end) × Appends old new lines × SaysFlushed new is_flushed true) ⊎ ((status ≡ statuses.WriteFault) × AppendsFront old new lines)
+    ((status ≡ end) × Appends old new lines × SaysFlushed new is_flushed true)
+    ⊎ ((status ≡ statuses.WriteFault) × AppendsFront old new lines)
 
 -- what is written when checking is to end so: nothing where there was no memory
 abbrev pub Tells : Option (List ℕ) → Option (List ℕ) → Bool → List ℕ → Option Status → Status → Type 0
@@ -90,7 +99,8 @@ Tells old new is_flushed lines None status = (status ≡ statuses.NoMemory) × K
 Tells old new is_flushed lines (Some end) status = LinesEnd old new is_flushed lines end status
 
 -- Some totals were counted and then told. `rose` says that the source's count of faults rose.
-pub record Checked (first : List ℕ) (blocks : ℕ) (o : Options) (place : Place) (old new : Option (List ℕ)) (is_flushed : Bool) (rose : Type 0) (status : Status) (bytes left : List ℕ) : Type 0 where
+pub record Checked (first : List ℕ) (blocks : ℕ) (o : Options) (place : Place) (old new : Option (List ℕ))
+    (is_flushed : Bool) (rose : Type 0) (status : Status) (bytes left : List ℕ) : Type 0 where
   pub end : CheckEnd
   pub totals : Counts
   pub counted : Tallies (counting blocks o place) (totals_of o []) totals (check_ending end) bytes left

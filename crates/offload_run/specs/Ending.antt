@@ -3,7 +3,8 @@ use Rattle.std.specs.Prelude.{◌≡◌, ℕ, Bool, true, List, ◌++◌, Option
 use Rattle.off_io.specs.Content.{SaysFlushed}
 use Rattle.pcap_io.specs.declared.faults.InFault.{InFault}
 use Rattle.pcap_io.specs.declared.faults.InFault.TheVariants as faults
-use Rattle.offload_model.specs.Passing.{Ending, Stopped, Nowhere, AtFault, AtRound, ReadFault, WriteFault, NoMemory, flushes}
+use Rattle.offload_model.specs.Passing.{Ending, Stopped, Nowhere, AtFault, AtRound, ReadFault, WriteFault, NoMemory}
+use Rattle.offload_model.specs.Passing.{flushes}
 use Rattle.rounds.specs.declared.merge.MergeEnd.{MergeEnd}
 use Rattle.rounds.specs.declared.merge.MergeEnd.TheVariants as ends
 use Rattle.offload_run.specs.declared.status.Status.{Status}
@@ -48,8 +49,8 @@ status_by ends.ReadFault blocks = statuses.ReadFault
 status_by ends.WriteFault blocks = statuses.WriteFault
 status_by ends.NoMemory blocks = statuses.NoMemory
 
--- This holds of the bytes that were given, where they end the command; where the source failed, of those that are gone. Where
--- the sink failed or memory ran out, nothing is said.
+-- This holds of the bytes that were given, where they end the command; where the source failed, of those that are gone.
+-- Where the sink failed or memory ran out, nothing is said.
 abbrev pub OfRead : (List ℕ → Type 0) → Status → List ℕ → List ℕ → Type 0
 OfRead P statuses.Ok given left = P given
 OfRead P (statuses.Malformed fault) given left = P given

@@ -21,7 +21,8 @@ records_need rs = needed (map (λ r. length r.frame - off_head_size) rs)
 -- what is left of the source before and after
 abbrev pub HasMerged : ℕ → (List ℕ → ℕ) → Option Engine → Option (List ℕ) → Option (List ℕ) → Type 0
 HasMerged blocks need (Some (engines.Merge rounds)) old new =
-    (rounds.blocks ≡ blocks) × (rounds.home ≡ blocks) × Told old new (λ given left. min (need given) (2 ^ 64 - 1) ≤ rounds.taken)
+    (rounds.blocks ≡ blocks) × (rounds.home ≡ blocks) × Told old new
+    (λ given left. min (need given) (2 ^ 64 - 1) ≤ rounds.taken)
 HasMerged blocks need _ old new = ⊥
 
 abbrev pub HasSegmented : ℕ → (List ℕ → ℕ) → Option Engine → Option (List ℕ) → Option (List ℕ) → Type 0
@@ -31,13 +32,16 @@ HasSegmented blocks need _ old new = ⊥
 
 -- of a generated capture, which no source gives, all was read
 abbrev pub HasChecked : Option ℕ → CheckOptions → Option Engine → Option (List ℕ) → Option (List ℕ) → Type 0
-HasChecked None o engine old new = HasMerged o.merge.blocks (λ given. round_need (reads Ethernet given).packets) engine old new
+HasChecked None o engine old new = HasMerged o.merge.blocks
+    (λ given. round_need (reads Ethernet given).packets) engine old new
 HasChecked (Some seed) o engine old new =
-    HasMerged o.merge.blocks (λ given. round_need (reads Ethernet given).packets) engine (Some (made seed o.count)) (Some [])
+    HasMerged o.merge.blocks (λ given. round_need (reads Ethernet given).packets) engine (Some (made seed o.count))
+    (Some [])
 
 -- the engine is that of the command
 abbrev pub HasRun : Command → Option Engine → Option (List ℕ) → Option (List ℕ) → Type 0
 HasRun (Merge o) engine old new = HasMerged o.blocks (λ given. round_need (reads Ethernet given).packets) engine old new
-HasRun (Segment o) engine old new = HasSegmented o.blocks (λ given. records_need (reads Offload given).packets) engine old new
+HasRun (Segment o) engine old new = HasSegmented o.blocks
+    (λ given. records_need (reads Offload given).packets) engine old new
 HasRun (Check o) engine old new = HasChecked o.seed o engine old new
 HasRun (Make o) engine old new = ⊤

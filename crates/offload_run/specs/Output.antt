@@ -55,4 +55,5 @@ AreCapturedWithin blocks budget place bytes = AllByRecursion IsCaptured (packets
 abbrev pub FlowsComeBack : Options → List Packet → Type 0
 FlowsComeBack o packets =
     (key : Option (List ℕ))
-    → map content (flat_map segments_of (filter (λ r. is_of key (packet_in r)) (records_of o packets))) ≡ map content (filter (is_of key) packets)
+    → map content (flat_map segments_of (filter (λ r. is_of key (packet_in r)) (records_of o packets)))
+    ≡ map content (filter (is_of key) packets)

@@ -1,5 +1,7 @@
--- The clause `given` of `run` in plain words: what a capture reads as, where it exceeds the blocks, and what is written.
-use Rattle.std.specs.Prelude.{◌≡◌, ◌⊎◌, ℕ, ◌+◌, ◌≤◌, ◌<◌, ◌^◌, Bool, true, is_some, if◌then◌else◌, Option, None, Some, List, [], ◌++◌, length, take, drop}
+-- The clause `given` of `run` in plain words: what a capture reads as, where it exceeds the blocks, and what is
+-- written.
+use Rattle.std.specs.Prelude.{◌≡◌, ◌⊎◌, ℕ, ◌+◌, ◌≤◌, ◌<◌, ◌^◌, Bool, true, is_some, if◌then◌else◌, Option, None, Some}
+use Rattle.std.specs.Prelude.{List, [], ◌++◌, length, take, drop}
 use Rattle.std.specs.List.{AllByRecursion}
 use Rattle.std.specs.Io.KnownBytes.{Appends, Keeps}
 use Rattle.off_io.specs.Content.{AppendsFront, SaysFlushed}
@@ -46,23 +48,30 @@ merge_exceeds o given =
 abbrev pub written_before : MergeOptions → List ℕ → List ℕ
 written_before o given =
     if is_some (refusal Ethernet given) then [] else
-    written (file_head (take 24 given)) (options o) (packets_within o.blocks o.budget (first_place (file_head (take 24 given)) Ethernet 0) (drop 24 given))
+    written (file_head (take 24 given)) (options o) (packets_within o.blocks o.budget
+    (first_place (file_head (take 24 given)) Ethernet 0) (drop 24 given))
 
-abbrev pub MergeSays : MergeOptions → Option (List ℕ) → Option (List ℕ) → Bool → Type 0 → Status → List ℕ → List ℕ → Type 0
+abbrev pub MergeSays : MergeOptions → Option (List ℕ) → Option (List ℕ) → Bool → Type 0 → Status → List ℕ → List ℕ
+    → Type 0
 MergeSays o old new is_flushed untouched statuses.Ok given left =
     ((reads Ethernet given).fault ≡ None) × (merge_exceeds o given ≡ None) × (left ≡ [])
     × Appends old new (written_of (options o) given) × SaysFlushed new is_flushed true
 MergeSays o old new is_flushed untouched statuses.Usage given left = ⊥
 MergeSays o old new is_flushed untouched (statuses.Malformed fault) given left =
     ((reads Ethernet given).fault ≡ Some fault) × (merge_exceeds o given ≡ None) × Loses given left
-    × Appends old new (written_of (options o) given) × FlushedBehind (HasFileHead Ethernet given) (SaysFlushed new is_flushed true) untouched
+    × Appends old new (written_of (options o) given) × FlushedBehind (HasFileHead Ethernet given)
+    (SaysFlushed new is_flushed true) untouched
 MergeSays o old new is_flushed untouched (statuses.PoolEmpty round need blocks) given left =
-    (merge_exceeds o given ≡ Some (round, need)) × Loses given left × Appends old new (written_before o given) × SaysFlushed new is_flushed true
+    (merge_exceeds o given ≡ Some (round, need)) × Loses given left × Appends old new (written_before o given)
+    × SaysFlushed new is_flushed true
 MergeSays o old new is_flushed untouched statuses.ReadFault given left =
-    (gone : List ℕ) × (given ≡ gone ++ left) × (merge_exceeds o gone ≡ None) × Appends old new (written_of (options o) gone)
+    (gone : List ℕ) × (given ≡ gone ++ left) × (merge_exceeds o gone ≡ None)
+    × Appends old new (written_of (options o) gone)
     × FlushedBehind (24 + length left ≤ length given) (SaysFlushed new is_flushed true) untouched
-MergeSays o old new is_flushed untouched statuses.WriteFault given left = (gone : List ℕ) × (given ≡ gone ++ left) × AppendsFront old new (written_before o gone)
-MergeSays o old new is_flushed untouched statuses.NoMemory given left = (gone : List ℕ) × (given ≡ gone ++ left) × AppendsFront old new (written_before o gone)
+MergeSays o old new is_flushed untouched statuses.WriteFault given left = (gone : List ℕ) × (given ≡ gone ++ left)
+    × AppendsFront old new (written_before o gone)
+MergeSays o old new is_flushed untouched statuses.NoMemory given left = (gone : List ℕ) × (given ≡ gone ++ left)
+    × AppendsFront old new (written_before o gone)
 
 -- ---- segmenting
 
@@ -81,52 +90,64 @@ tested_before o given =
 -- what is written of them
 abbrev pub segmented_before : SegmentOptions → List ℕ → List ℕ
 segmented_before o given =
-    if is_some (refusal Offload given) then [] else segmented (file_head (take 24 given)) (tested_before o given).packets
+    if is_some (refusal Offload given) then [] else segmented (file_head (take 24 given))
+    (tested_before o given).packets
 
-abbrev pub SegmentSays : SegmentOptions → Option (List ℕ) → Option (List ℕ) → Bool → Type 0 → Status → List ℕ → List ℕ → Type 0
+abbrev pub SegmentSays : SegmentOptions → Option (List ℕ) → Option (List ℕ) → Bool → Type 0 → Status → List ℕ → List ℕ
+    → Type 0
 SegmentSays o old new is_flushed untouched statuses.Ok given left =
     ((reads_tested given).fault ≡ None) × (segment_exceeds o given ≡ None) × (left ≡ [])
     × Appends old new (segmented_of given) × SaysFlushed new is_flushed true
 SegmentSays o old new is_flushed untouched statuses.Usage given left = ⊥
 SegmentSays o old new is_flushed untouched (statuses.Malformed fault) given left =
     ((tested_before o given).fault ≡ Some fault) × Loses given left
-    × Appends old new (segmented_before o given) × FlushedBehind (HasFileHead Offload given) (SaysFlushed new is_flushed true) untouched
+    × Appends old new (segmented_before o given) × FlushedBehind (HasFileHead Offload given)
+    (SaysFlushed new is_flushed true) untouched
 SegmentSays o old new is_flushed untouched (statuses.PoolEmpty round need blocks) given left =
     ((tested_before o given).fault ≡ None) × (segment_exceeds o given ≡ Some (round, need)) × Loses given left
     × Appends old new (segmented_before o given) × SaysFlushed new is_flushed true
 SegmentSays o old new is_flushed untouched statuses.ReadFault given left =
     (gone : List ℕ) × (given ≡ gone ++ left) × ((tested_before o gone).fault ≡ None → segment_exceeds o gone ≡ None)
-    × Appends old new (segmented_before o gone) × FlushedBehind (24 + length left ≤ length given) (SaysFlushed new is_flushed true) untouched
-SegmentSays o old new is_flushed untouched statuses.WriteFault given left = (gone : List ℕ) × (given ≡ gone ++ left) × AppendsFront old new (segmented_before o gone)
-SegmentSays o old new is_flushed untouched statuses.NoMemory given left = (gone : List ℕ) × (given ≡ gone ++ left) × AppendsFront old new (segmented_before o gone)
+    × Appends old new (segmented_before o gone) × FlushedBehind (24 + length left ≤ length given)
+    (SaysFlushed new is_flushed true) untouched
+SegmentSays o old new is_flushed untouched statuses.WriteFault given left = (gone : List ℕ) × (given ≡ gone ++ left)
+    × AppendsFront old new (segmented_before o gone)
+SegmentSays o old new is_flushed untouched statuses.NoMemory given left = (gone : List ℕ) × (given ≡ gone ++ left)
+    × AppendsFront old new (segmented_before o gone)
 
 -- ---- checking
 
 -- the lines of all packets; none where the file header is refused
 abbrev pub checked_of : MergeOptions → List ℕ → List ℕ
-checked_of o given = if is_some (refusal Ethernet given) then [] else check_lines (totals_of (options o) (reads Ethernet given).packets)
+checked_of o given = if is_some (refusal Ethernet given) then []
+    else check_lines (totals_of (options o) (reads Ethernet given).packets)
 
 -- of the rounds before the one that exceeds the blocks, and of all where there is none
 abbrev pub checked_before : MergeOptions → List ℕ → List ℕ
 checked_before o given =
     if is_some (refusal Ethernet given) then [] else
-    check_lines (totals_of (options o) (packets_within o.blocks o.budget (first_place (file_head (take 24 given)) Ethernet 0) (drop 24 given)))
+    check_lines (totals_of (options o) (packets_within o.blocks o.budget
+    (first_place (file_head (take 24 given)) Ethernet 0) (drop 24 given)))
 
 -- of a capture that is read
-abbrev pub CheckSays : MergeOptions → Option (List ℕ) → Option (List ℕ) → Bool → Type 0 → Status → List ℕ → List ℕ → Type 0
+abbrev pub CheckSays : MergeOptions → Option (List ℕ) → Option (List ℕ) → Bool → Type 0 → Status → List ℕ → List ℕ
+    → Type 0
 CheckSays o old new is_flushed untouched statuses.Ok given left =
     ((reads Ethernet given).fault ≡ None) × (merge_exceeds o given ≡ None) × (left ≡ [])
     × Appends old new (checked_of o given) × SaysFlushed new is_flushed true
 CheckSays o old new is_flushed untouched statuses.Usage given left = ⊥
 CheckSays o old new is_flushed untouched (statuses.Malformed fault) given left =
     ((reads Ethernet given).fault ≡ Some fault) × (merge_exceeds o given ≡ None) × Loses given left
-    × Appends old new (checked_of o given) × FlushedBehind (HasFileHead Ethernet given) (SaysFlushed new is_flushed true) untouched
+    × Appends old new (checked_of o given) × FlushedBehind (HasFileHead Ethernet given)
+    (SaysFlushed new is_flushed true) untouched
 CheckSays o old new is_flushed untouched (statuses.PoolEmpty round need blocks) given left =
-    (merge_exceeds o given ≡ Some (round, need)) × Loses given left × Appends old new (checked_before o given) × SaysFlushed new is_flushed true
+    (merge_exceeds o given ≡ Some (round, need)) × Loses given left × Appends old new (checked_before o given)
+    × SaysFlushed new is_flushed true
 CheckSays o old new is_flushed untouched statuses.ReadFault given left =
     (gone : List ℕ) × (given ≡ gone ++ left) × (merge_exceeds o gone ≡ None) × Appends old new (checked_of o gone)
     × FlushedBehind (24 + length left ≤ length given) (SaysFlushed new is_flushed true) untouched
-CheckSays o old new is_flushed untouched statuses.WriteFault given left = (gone : List ℕ) × (given ≡ gone ++ left) × AppendsFront old new (checked_before o gone)
+CheckSays o old new is_flushed untouched statuses.WriteFault given left = (gone : List ℕ) × (given ≡ gone ++ left)
+    × AppendsFront old new (checked_before o gone)
 CheckSays o old new is_flushed untouched statuses.NoMemory given left = Loses given left × Keeps old new
 
 -- the lines of a generated capture, its own first
@@ -137,11 +158,13 @@ made_lines seed o lines = made_line o.count (length (made seed o.count)) ++ line
 abbrev pub MadeSays : ℕ → CheckOptions → Option (List ℕ) → Option (List ℕ) → Bool → Status → Type 0
 MadeSays seed o old new is_flushed statuses.Ok =
     (merge_exceeds o.merge (made seed o.count) ≡ None)
-    × Appends old new (made_lines seed o (check_lines (totals_of (options o.merge) (made_packets seed o.count)))) × SaysFlushed new is_flushed true
+    × Appends old new (made_lines seed o (check_lines (totals_of (options o.merge) (made_packets seed o.count))))
+    × SaysFlushed new is_flushed true
 MadeSays seed o old new is_flushed (statuses.PoolEmpty round need blocks) =
     (merge_exceeds o.merge (made seed o.count) ≡ Some (round, need))
     × Appends old new (made_lines seed o (checked_before o.merge (made seed o.count))) × SaysFlushed new is_flushed true
-MadeSays seed o old new is_flushed statuses.WriteFault = AppendsFront old new (made_lines seed o (checked_before o.merge (made seed o.count)))
+MadeSays seed o old new is_flushed statuses.WriteFault = AppendsFront old new
+    (made_lines seed o (checked_before o.merge (made seed o.count)))
 MadeSays seed o old new is_flushed statuses.NoMemory = Keeps old new
 MadeSays seed o old new is_flushed _ = ⊥
 
@@ -154,8 +177,8 @@ EveryRecordReturns =
 
 -- ---- what was written whatever the status
 
--- Unless the source's count of faults rose, a prefix of the output that would have come of all that was given, however little of it was
--- read. `segment` says it also where that rose.
+-- Unless the source's count of faults rose, a prefix of the output that would have come of all that was given, however
+-- little of it was read. `segment` says it also where that rose.
 abbrev pub PrefixesInPlainWords : Type 0
 PrefixesInPlainWords =
     (faults more : ℕ) (before after old new : Option (List ℕ))
@@ -171,9 +194,12 @@ PrefixesInPlainWords =
 abbrev pub InPlainWords : Type 0 → Type 0
 InPlainWords K =
     (old new : Option (List ℕ)) (is_flushed : Bool) (before after : K) (status : Status) (given left : List ℕ)
-    → ((o : MergeOptions) → Answers (Merge o) old new is_flushed (after ≡ before) status given left → MergeSays o old new is_flushed (after ≡ before) status given left)
-    × ((o : SegmentOptions) → Answers (Segment o) old new is_flushed (after ≡ before) status given left → SegmentSays o old new is_flushed (after ≡ before) status given left)
+    → ((o : MergeOptions) → Answers (Merge o) old new is_flushed (after ≡ before) status given left
+    → MergeSays o old new is_flushed (after ≡ before) status given left)
+    × ((o : SegmentOptions) → Answers (Segment o) old new is_flushed (after ≡ before) status given left
+    → SegmentSays o old new is_flushed (after ≡ before) status given left)
     × ((o : CheckOptions) → o.seed ≡ None → Answers (Check o) old new is_flushed (after ≡ before) status given left
     → CheckSays o.merge old new is_flushed (after ≡ before) status given left)
-    × ((o : CheckOptions) (seed : ℕ) → o.seed ≡ Some seed → o.count < 2 ^ 32 → Answers (Check o) old new is_flushed (after ≡ before) status given left
+    × ((o : CheckOptions) (seed : ℕ) → o.seed ≡ Some seed → o.count < 2 ^ 32
+    → Answers (Check o) old new is_flushed (after ≡ before) status given left
     → MadeSays seed o old new is_flushed status × (left ≡ given))

@@ -15,23 +15,29 @@ use Rattle.offload_run.specs.Output.{options, merged_packets, FlowsComeBack}
 -- `untouched` says that the sink is as it was
 abbrev pub Answers : Command → Option (List ℕ) → Option (List ℕ) → Bool → Type 0 → Status → List ℕ → List ℕ → Type 0
 Answers (Merge o) old new is_flushed untouched status given left =
-    Ends (passing.Answers Ethernet (merging_whole o.blocks (options o)) old new is_flushed untouched) (ending_of status) given left
+    Ends (passing.Answers Ethernet (merging_whole o.blocks (options o)) old new is_flushed untouched)
+    (ending_of status) given left
 Answers (Segment o) old new is_flushed untouched status given left =
-    Ends (passing.Answers Offload (segmenting_whole o.blocks) old new is_flushed untouched) (ending_of status) given left
-Answers (Check o) old new is_flushed untouched status given left = CheckAnswers o.seed o old new is_flushed untouched status given left
-Answers (Make o) old new is_flushed untouched status given left = MakeAnswers o old new is_flushed status × (left ≡ given)
+    Ends (passing.Answers Offload (segmenting_whole o.blocks) old new is_flushed untouched)
+    (ending_of status) given left
+Answers (Check o) old new is_flushed untouched status given left = CheckAnswers o.seed o old new is_flushed untouched
+    status given left
+Answers (Make o) old new is_flushed untouched status given left = MakeAnswers o old new is_flushed status
+    × (left ≡ given)
 
 -- what is said of a capture that is read; with a seed none is
 abbrev pub unless_made : Option ℕ → Type 0 → Type 0
 unless_made None told = told
 unless_made (Some seed) told = ⊤
 
--- A prefix of what the command writes of all that was given, however little of it was read; where the source failed nothing more is said
--- than by the ending. What is generated is told apart.
+-- A prefix of what the command writes of all that was given, however little of it was read; where the source failed
+-- nothing more is said than by the ending. What is generated is told apart.
 abbrev pub Fronts : Command → Type 0 → Option (List ℕ) → Option (List ℕ) → Option (List ℕ) → Option (List ℕ) → Type 0
-Fronts (Merge o) failed before after old new = FrontUnless failed (merging_whole o.blocks (options o)) before after old new
+Fronts (Merge o) failed before after old new = FrontUnless failed
+    (merging_whole o.blocks (options o)) before after old new
 Fronts (Segment o) failed before after old new = FrontUnless ⊥ (segmenting_whole o.blocks) before after old new
-Fronts (Check o) failed before after old new = unless_made o.seed (FrontUnless failed (checking_whole o.merge.blocks (options o.merge)) before after old new)
+Fronts (Check o) failed before after old new = unless_made o.seed
+    (FrontUnless failed (checking_whole o.merge.blocks (options o.merge)) before after old new)
 Fronts (Make o) failed before after old new = ⊤
 
 -- the blocks of a pool that is empty are those that the command asks for
@@ -43,5 +49,6 @@ AreBlocksOf (Make o) status = ⊤
 
 -- every flow comes back of what `merge` makes of what was read
 abbrev pub FlowsBack : Command → Status → List ℕ → List ℕ → Type 0
-FlowsBack (Merge o) status given left = OfRead (λ read. FlowsComeBack (options o) (merged_packets o.blocks o.budget read)) status given left
+FlowsBack (Merge o) status given left = OfRead (λ read. FlowsComeBack (options o)
+    (merged_packets o.blocks o.budget read)) status given left
 FlowsBack _ status given left = ⊤

@@ -16,12 +16,14 @@ use Rattle.offload_run.specs.Engines.{records_need}
 -- the bytes that are gone are k records, whatever follows them, and their segments were written
 abbrev pub Segmented : ℕ → ℕ → Place → Place → Option (List ℕ) → Option (List ℕ) → List ℕ → List ℕ → Type 0
 Segmented blocks k from to old new bytes left =
-    (gone : List ℕ) × (done : List ℕ) × (bytes ≡ gone ++ left) × GoesOn (segmenting blocks from) (segmenting blocks to) k gone done × Appends old new done
+    (gone : List ℕ) × (done : List ℕ) × (bytes ≡ gone ++ left)
+    × GoesOn (segmenting blocks from) (segmenting blocks to) k gone done × Appends old new done
 
 -- and they took at least as many blocks as they need
 abbrev pub TookThem : ℕ → ℕ → Place → Place → List ℕ → List ℕ → Type 0
 TookThem old new from to bytes left =
-    (gone : List ℕ) × (rs : List Packet) × (bytes ≡ gone ++ left) × ((tail : List ℕ) → found_at from (gone ++ tail) ≡ in_front rs (found_at to tail))
+    (gone : List ℕ) × (rs : List Packet) × (bytes ≡ gone ++ left)
+    × ((tail : List ℕ) → found_at from (gone ++ tail) ≡ in_front rs (found_at to tail))
     × (min (old + records_need rs) (2 ^ 64 - 1) ≤ new)
 
 -- behind k records one is at fault, and the status says so, or the last flush failed

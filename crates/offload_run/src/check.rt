@@ -1,5 +1,5 @@
-//! Checks a capture: it is merged round by round, as `merge` does, and what comes back of each round is counted. The counts are
-//! written at the end.
+//! Checks a capture: it is merged round by round, as `merge` does, and what comes back of each round is counted. The
+//! counts are written at the end.
 ghost use Rattle.std.specs.Prelude.{◌≡◌, ◌≤◌, ◌<◌, ◌^◌, ◌-◌, ◌+◌, ◌++◌, [], Some, None, length, min, true, OnOk, OnErr};
 ghost use Rattle.std.specs.List.{AllByRecursion};
 ghost use Rattle.std.specs.Io.KnownBytes.{Appends};
@@ -20,7 +20,8 @@ ghost use Rattle.check_totals.specs.Checking.{counting, checking_whole};
 ghost use Rattle.check_totals.specs.Tallies.{Tallies};
 ghost use Rattle.rounds.specs.Merging.{options_of as rounds_options};
 ghost use Rattle.check_rounds.specs.Checking.{ending_of as check_ending};
-ghost use Rattle.offload_run.specs.Checking.{checking_made, first_line, status_if, CheckAnswers, Checked, ChecksMade, ChecksTo, LinesEnd, ReadAnswers, Tells};
+ghost use Rattle.offload_run.specs.Checking.{checking_made, first_line, status_if, CheckAnswers, Checked, ChecksMade};
+ghost use Rattle.offload_run.specs.Checking.{ChecksTo, LinesEnd, ReadAnswers, Tells};
 ghost use Rattle.offload_run.specs.Ending.{HasBlocks};
 ghost use Rattle.offload_run.specs.Engines.{HasChecked, HasMerged};
 ghost use Rattle.offload_run.specs.Output.{options as options_of};
@@ -30,13 +31,14 @@ use crate::ending::{finish, refused};
 use crate::merge::make_rounds;
 use crate::{Engine, Status};
 use cap_make::{MadeSource, made_len, made_reads_back};
-use check_rounds::{CheckEnd, check_all};
+use check_rounds::{CheckEnd, check_beside};
 use check_totals::{Totals, totals_are_told, write_made, write_totals};
 use off_io::{Gate, Sink, Source, WriteFault};
 use offload_words::{CheckOptions, MergeOptions};
 use pcap_io::{CaptureReader, FileHead, Link, take_file};
 use rounds::Rounds;
 use std::alloc::Global;
+use std::sync::Wait;
 use std::thread::Threads;
 
 // What the line of a generated capture tells: its records, and its bytes.
@@ -86,7 +88,8 @@ fn write_lines<K: Sink>(
     requires lanes { length totals.now.queues ≤ 2 ^ 12 }
     requires within { AllByRecursion (IsQueueWithin (2 ^ 50)) totals.now.queues }
     ensures ok { OnOk result (Appends (K.held sink.old) (K.held sink.new) (first_line made ++ check_lines totals.now)) }
-    ensures err { OnErr result (AppendsFront (K.held sink.old) (K.held sink.new) (first_line made ++ check_lines totals.now)) }
+    ensures err { OnErr result (AppendsFront (K.held sink.old) (K.held sink.new)
+        (first_line made ++ check_lines totals.now)) }
     ensures cause { HasCause (K.faults sink.old) (K.faults sink.new) result }
 {
     write_first(sink, made)?;
@@ -102,9 +105,11 @@ fn end_with_lines<K: Sink>(
 ) -> Status
     requires lanes { length totals.now.queues ≤ 2 ^ 12 }
     requires within { AllByRecursion (IsQueueWithin (2 ^ 50)) totals.now.queues }
-    ensures told { LinesEnd (K.held sink.old) (K.held sink.new) (K.is_flushed sink.new) (first_line made ++ check_lines totals.now) status result }
+    ensures told { LinesEnd (K.held sink.old) (K.held sink.new) (K.is_flushed sink.new)
+        (first_line made ++ check_lines totals.now) status result }
     ensures later { K.faults sink.old ≤ K.faults sink.new }
-    ensures failed { result ≡ Status.WriteFault → (status ≡ Status.WriteFault → ⊥) → Rose (K.faults sink.old) (K.faults sink.new) }
+    ensures failed { result ≡ Status.WriteFault → (status ≡ Status.WriteFault → ⊥)
+        → Rose (K.faults sink.old) (K.faults sink.new) }
 {
     match write_lines(sink, made, totals) {
         Ok(()) => finish(sink, status),
@@ -122,7 +127,8 @@ fn tell<K: Sink>(
 ) -> Status
     requires lanes { length totals.now.queues ≤ 2 ^ 12 }
     requires within { AllByRecursion (IsQueueWithin (2 ^ 50)) totals.now.queues }
-    ensures told { Tells (K.held sink.old) (K.held sink.new) (K.is_flushed sink.new) (first_line made ++ check_lines totals.now) (status_if end blocks) result }
+    ensures told { Tells (K.held sink.old) (K.held sink.new) (K.is_flushed sink.new)
+        (first_line made ++ check_lines totals.now) (status_if end blocks) result }
     ensures later { K.faults sink.old ≤ K.faults sink.new }
     ensures blocks { HasBlocks blocks result }
     ensures done { result ≡ Status.Ok → end ≡ CheckEnd.Done }
@@ -139,8 +145,9 @@ fn tell<K: Sink>(
 // ---- what is counted
 
 // Counts the records behind a file header.
-fn count_behind<R: Threads + Sync, S: Source, G: Gate + Sync>(
+fn count_behind<R: Threads + Wait + Sync, S: Source, G: Gate + Sync>(
     rt: &R,
+    alloc: Global,
     rounds: &mut Rounds,
     file: FileHead,
     source: &mut S,
@@ -150,21 +157,25 @@ fn count_behind<R: Threads + Sync, S: Source, G: Gate + Sync>(
     requires home { rounds.old.home ≡ rounds.old.blocks }
     requires keep { rounds.old.keep ≡ true }
     requires start { totals.old ≡ totals_of (rounds_options rounds.old) [] }
-    ensures given { Told (S.left source.old) (S.left source.new) (Tallies (counting rounds.old.blocks (rounds_options rounds.old) (first_place file Ethernet 0)) totals.old totals.new (check_ending result)) }
+    ensures given { Told (S.left source.old) (S.left source.new)
+        (Tallies (counting rounds.old.blocks (rounds_options rounds.old) (first_place file Ethernet 0)) totals.old
+        totals.new (check_ending result)) }
     ensures lanes { HasLanes (rounds_options rounds.old) totals.new }
     ensures within { IsWithin (2 ^ 50) (2 ^ 62) totals.new }
     ensures home { rounds.new.home ≡ rounds.new.blocks }
     ensures same { rounds.new.blocks ≡ rounds.old.blocks }
-    ensures taken { result ≡ CheckEnd.Done → Told (S.left source.old) (S.left source.new) (λ rest left. min (rounds.old.taken + round_need (found_at (first_place file Ethernet 0) rest).packets) (2 ^ 64 - 1) ≤ rounds.new.taken) }
+    ensures taken { result ≡ CheckEnd.Done → Told (S.left source.old) (S.left source.new)
+        (λ rest left. min (rounds.old.taken + round_need (found_at (first_place file Ethernet 0) rest).packets)
+        (2 ^ 64 - 1) ≤ rounds.new.taken) }
     ensures later { S.faults source.old ≤ S.faults source.new }
     ensures read { result ≡ CheckEnd.ReadFault → Rose (S.faults source.old) (S.faults source.new) }
 {
     let mut reader = CaptureReader::after_file(source, file, Link::Ethernet);
-    check_all(rt, rounds, &mut reader, totals, gate)
+    check_beside(rt, alloc, rounds, &mut reader, totals, gate)
 }
 
 // Makes the pool, counts the records behind a file header, and writes what was counted.
-fn check_records<R: Threads + Sync, S: Source, K: Sink, G: Gate + Sync>(
+fn check_records<R: Threads + Wait + Sync, S: Source, K: Sink, G: Gate + Sync>(
     rt: &R,
     alloc: Global,
     options: MergeOptions,
@@ -177,9 +188,13 @@ fn check_records<R: Threads + Sync, S: Source, K: Sink, G: Gate + Sync>(
 ) -> Status
     requires range { IsInRange options }
     requires engine { engine.old ≡ None }
-    ensures given { Told (S.left source.old) (S.left source.new) (Checked (first_line made) options.blocks (options_of options) (first_place file Ethernet 0) (K.held sink.old) (K.held sink.new) (K.is_flushed sink.new) (Rose (S.faults source.old) (S.faults source.new)) result) }
+    ensures given { Told (S.left source.old) (S.left source.new)
+        (Checked (first_line made) options.blocks (options_of options) (first_place file Ethernet 0) (K.held sink.old)
+        (K.held sink.new) (K.is_flushed sink.new) (Rose (S.faults source.old) (S.faults source.new)) result) }
     ensures blocks { HasBlocks options.blocks result }
-    ensures engine { result ≡ Status.Ok → HasMerged options.blocks (λ rest. round_need (found_at (first_place file Ethernet 0) rest).packets) engine.new (S.left source.old) (S.left source.new) }
+    ensures engine { result ≡ Status.Ok → HasMerged options.blocks
+        (λ rest. round_need (found_at (first_place file Ethernet 0) rest).packets) engine.new (S.left source.old)
+        (S.left source.new) }
     ensures not_usage { result ≡ Status.Usage → ⊥ }
     ensures later { S.faults source.old ≤ S.faults source.new }
     ensures later_sink { K.faults sink.old ≤ K.faults sink.new }
@@ -195,7 +210,7 @@ fn check_records<R: Threads + Sync, S: Source, K: Sink, G: Gate + Sync>(
         Ok(totals) => totals,
         Err(_) => return Status::NoMemory,
     };
-    let end = count_behind(rt, &mut rounds, file, source, &mut totals, gate);
+    let end = count_behind(rt, alloc, &mut rounds, file, source, &mut totals, gate);
     *engine = Some(Engine::Merge(rounds));
     tell(sink, made, &totals, end, blocks)
 }
@@ -203,7 +218,7 @@ fn check_records<R: Threads + Sync, S: Source, K: Sink, G: Gate + Sync>(
 // ---- whole captures
 
 // Checks a capture of Ethernet frames that is read. Where its file header is refused no block is made.
-fn check_read<R: Threads + Sync, S: Source, K: Sink, G: Gate + Sync>(
+fn check_read<R: Threads + Wait + Sync, S: Source, K: Sink, G: Gate + Sync>(
     rt: &R,
     alloc: Global,
     options: MergeOptions,
@@ -214,10 +229,14 @@ fn check_read<R: Threads + Sync, S: Source, K: Sink, G: Gate + Sync>(
 ) -> Status
     requires range { IsInRange options }
     requires engine { engine.old ≡ None }
-    ensures given { Told (S.left source.old) (S.left source.new) (ReadAnswers options (K.held sink.old) (K.held sink.new) (K.is_flushed sink.new) (sink.new ≡ sink.old) result) }
-    ensures front { FrontUnless (Rose (S.faults source.old) (S.faults source.new)) (checking_whole options.blocks (options_of options)) (S.left source.old) (S.left source.new) (K.held sink.old) (K.held sink.new) }
+    ensures given { Told (S.left source.old) (S.left source.new)
+        (ReadAnswers options (K.held sink.old) (K.held sink.new) (K.is_flushed sink.new) (sink.new ≡ sink.old) result) }
+    ensures front { FrontUnless (Rose (S.faults source.old) (S.faults source.new))
+        (checking_whole options.blocks (options_of options)) (S.left source.old) (S.left source.new) (K.held sink.old)
+        (K.held sink.new) }
     ensures blocks { HasBlocks options.blocks result }
-    ensures engine { result ≡ Status.Ok → HasMerged options.blocks (λ given. round_need (reads Ethernet given).packets) engine.new (S.left source.old) (S.left source.new) }
+    ensures engine { result ≡ Status.Ok → HasMerged options.blocks
+        (λ given. round_need (reads Ethernet given).packets) engine.new (S.left source.old) (S.left source.new) }
     ensures not_usage { result ≡ Status.Usage → ⊥ }
     ensures later { S.faults source.old ≤ S.faults source.new }
     ensures later_sink { K.faults sink.old ≤ K.faults sink.new }
@@ -233,7 +252,7 @@ fn check_read<R: Threads + Sync, S: Source, K: Sink, G: Gate + Sync>(
 }
 
 // Checks a generated capture.
-fn check_made<R: Threads + Sync, K: Sink, G: Gate + Sync>(
+fn check_made<R: Threads + Wait + Sync, K: Sink, G: Gate + Sync>(
     rt: &R,
     alloc: Global,
     options: MergeOptions,
@@ -245,9 +264,11 @@ fn check_made<R: Threads + Sync, K: Sink, G: Gate + Sync>(
 ) -> Status
     requires range { IsInRange options }
     requires engine { engine.old ≡ None }
-    ensures made { ChecksTo (checking_made seed count options) (K.held sink.old) (K.held sink.new) (K.is_flushed sink.new) result }
+    ensures made { ChecksTo (checking_made seed count options) (K.held sink.old) (K.held sink.new)
+        (K.is_flushed sink.new) result }
     ensures blocks { HasBlocks options.blocks result }
-    ensures engine { result ≡ Status.Ok → HasMerged options.blocks (λ given. round_need (reads Ethernet given).packets) engine.new (Some (made_capture seed count)) (Some []) }
+    ensures engine { result ≡ Status.Ok → HasMerged options.blocks
+        (λ given. round_need (reads Ethernet given).packets) engine.new (Some (made_capture seed count)) (Some []) }
     ensures not_usage { result ≡ Status.Usage → ⊥ }
     ensures not_read { result ≡ Status.ReadFault → ⊥ }
     ensures later { K.faults sink.old ≤ K.faults sink.new }
@@ -278,7 +299,7 @@ fn check_made<R: Threads + Sync, K: Sink, G: Gate + Sync>(
 }
 
 // Checks the capture that is read, or with a seed a generated one: then nothing is read.
-pub(crate) fn run_check<R: Threads + Sync, S: Source, K: Sink, G: Gate + Sync>(
+pub(crate) fn run_check<R: Threads + Wait + Sync, S: Source, K: Sink, G: Gate + Sync>(
     rt: &R,
     alloc: Global,
     options: CheckOptions,
@@ -289,11 +310,17 @@ pub(crate) fn run_check<R: Threads + Sync, S: Source, K: Sink, G: Gate + Sync>(
 ) -> Status
     requires range { IsCheckInRange options }
     requires engine { engine.old ≡ None }
-    ensures given { Told (S.left source.old) (S.left source.new) (CheckAnswers options.seed options (K.held sink.old) (K.held sink.new) (K.is_flushed sink.new) (sink.new ≡ sink.old) result) }
-    ensures front { unless_made options.seed (FrontUnless (Rose (S.faults source.old) (S.faults source.new)) (checking_whole options.merge.blocks (options_of options.merge)) (S.left source.old) (S.left source.new) (K.held sink.old) (K.held sink.new)) }
-    ensures made { ChecksMade options.seed options (K.held sink.old) (K.held sink.new) (K.is_flushed sink.new) (source.new ≡ source.old) result }
+    ensures given { Told (S.left source.old) (S.left source.new)
+        (CheckAnswers options.seed options (K.held sink.old) (K.held sink.new) (K.is_flushed sink.new)
+        (sink.new ≡ sink.old) result) }
+    ensures front { unless_made options.seed (FrontUnless (Rose (S.faults source.old) (S.faults source.new))
+        (checking_whole options.merge.blocks (options_of options.merge)) (S.left source.old) (S.left source.new)
+        (K.held sink.old) (K.held sink.new)) }
+    ensures made { ChecksMade options.seed options (K.held sink.old) (K.held sink.new) (K.is_flushed sink.new)
+        (source.new ≡ source.old) result }
     ensures blocks { HasBlocks options.merge.blocks result }
-    ensures engine { result ≡ Status.Ok → HasChecked options.seed options engine.new (S.left source.old) (S.left source.new) }
+    ensures engine { result ≡ Status.Ok → HasChecked options.seed options engine.new (S.left source.old)
+        (S.left source.new) }
     ensures not_usage { result ≡ Status.Usage → ⊥ }
     ensures later { S.faults source.old ≤ S.faults source.new }
     ensures later_sink { K.faults sink.old ≤ K.faults sink.new }

@@ -33,9 +33,12 @@ fn run_command<R: Threads + Wait + Sync, S: Source + Send, K: Sink, G: Gate + Sy
 ) -> Status
     requires ranges { HasRanges command }
     requires engine { engine.old ≡ None }
-    ensures given { Told (S.left source.old) (S.left source.new) (Answers command (K.held sink.old) (K.held sink.new) (K.is_flushed sink.new) (sink.new ≡ sink.old) result) }
-    ensures front { Fronts command (Rose (S.faults source.old) (S.faults source.new)) (S.left source.old) (S.left source.new) (K.held sink.old) (K.held sink.new) }
-    ensures made { Makes command (K.held sink.old) (K.held sink.new) (K.is_flushed sink.new) (source.new ≡ source.old) result }
+    ensures given { Told (S.left source.old) (S.left source.new)
+        (Answers command (K.held sink.old) (K.held sink.new) (K.is_flushed sink.new) (sink.new ≡ sink.old) result) }
+    ensures front { Fronts command (Rose (S.faults source.old) (S.faults source.new)) (S.left source.old)
+        (S.left source.new) (K.held sink.old) (K.held sink.new) }
+    ensures made { Makes command (K.held sink.old) (K.held sink.new) (K.is_flushed sink.new)
+        (source.new ≡ source.old) result }
     ensures blocks { AreBlocksOf command result }
     ensures flows { Told (S.left source.old) (S.left source.new) (FlowsBack command result) }
     ensures engine { result ≡ Status.Ok → HasRun command engine.new (S.left source.old) (S.left source.new) }
@@ -65,14 +68,24 @@ fn run_words<R: Threads + Wait + Sync, S: Source + Send, K: Sink, G: Gate + Sync
 ) -> Status
     requires engine { engine.old ≡ None }
     ensures usage { result ≡ Status.Usage → command_of (map string_bytes words.now) ≡ None }
-    ensures no_command { command_of (map string_bytes words.now) ≡ None → (result ≡ Status.Usage) ⊎ (result ≡ Status.NoMemory) }
-    ensures untouched { command_of (map string_bytes words.now) ≡ None → (source.new ≡ source.old) × (sink.new ≡ sink.old) }
-    ensures given { IfSome (command_of (map string_bytes words.now)) (λ command. Told (S.left source.old) (S.left source.new) (Answers command (K.held sink.old) (K.held sink.new) (K.is_flushed sink.new) (sink.new ≡ sink.old) result)) }
-    ensures front { IfSome (command_of (map string_bytes words.now)) (λ command. Fronts command (Rose (S.faults source.old) (S.faults source.new)) (S.left source.old) (S.left source.new) (K.held sink.old) (K.held sink.new)) }
-    ensures made { IfSome (command_of (map string_bytes words.now)) (λ command. Makes command (K.held sink.old) (K.held sink.new) (K.is_flushed sink.new) (source.new ≡ source.old) result) }
+    ensures no_command { command_of (map string_bytes words.now) ≡ None
+        → (result ≡ Status.Usage) ⊎ (result ≡ Status.NoMemory) }
+    ensures untouched { command_of (map string_bytes words.now) ≡ None
+        → (source.new ≡ source.old) × (sink.new ≡ sink.old) }
+    ensures given { IfSome (command_of (map string_bytes words.now))
+        (λ command. Told (S.left source.old) (S.left source.new)
+        (Answers command (K.held sink.old) (K.held sink.new) (K.is_flushed sink.new) (sink.new ≡ sink.old) result)) }
+    ensures front { IfSome (command_of (map string_bytes words.now))
+        (λ command. Fronts command (Rose (S.faults source.old) (S.faults source.new)) (S.left source.old)
+        (S.left source.new) (K.held sink.old) (K.held sink.new)) }
+    ensures made { IfSome (command_of (map string_bytes words.now))
+        (λ command. Makes command (K.held sink.old) (K.held sink.new) (K.is_flushed sink.new)
+        (source.new ≡ source.old) result) }
     ensures blocks { IfSome (command_of (map string_bytes words.now)) (λ command. AreBlocksOf command result) }
-    ensures flows { IfSome (command_of (map string_bytes words.now)) (λ command. Told (S.left source.old) (S.left source.new) (FlowsBack command result)) }
-    ensures engine { IfSome (command_of (map string_bytes words.now)) (λ command. result ≡ Status.Ok → HasRun command engine.new (S.left source.old) (S.left source.new)) }
+    ensures flows { IfSome (command_of (map string_bytes words.now))
+        (λ command. Told (S.left source.old) (S.left source.new) (FlowsBack command result)) }
+    ensures engine { IfSome (command_of (map string_bytes words.now))
+        (λ command. result ≡ Status.Ok → HasRun command engine.new (S.left source.old) (S.left source.new)) }
     ensures later { S.faults source.old ≤ S.faults source.new }
     ensures later_sink { K.faults sink.old ≤ K.faults sink.new }
     ensures read { result ≡ Status.ReadFault → Rose (S.faults source.old) (S.faults source.new) }
@@ -90,7 +103,8 @@ fn run_words<R: Threads + Wait + Sync, S: Source + Send, K: Sink, G: Gate + Sync
 /// and writes the packets that its records stand for; `check` merges as `merge` does and writes lines of how many
 /// packets came back, and with a seed it reads nothing and checks a generated capture; `make` reads nothing and writes
 /// one (clause `made`). Each queue's worker and each tap of `merge` and `check` passes the gate at point 0 before its
-/// work and at point 1 after it, and each is a thread of its own but where there is one queue and no tap.
+/// work and at point 1 after it. Where two of them have something to do two run at once, and more where there are
+/// processors for them.
 ///
 /// `Usage` exactly where the words are none of the command set, want of memory aside: then nothing is read or written,
 /// and the counts of faults of the source and the sink stay as they are. `Ok`, `Malformed` and `PoolEmpty` exactly as
@@ -116,14 +130,24 @@ pub fn run<R: Threads + Wait + Sync, S: Source + Send, K: Sink + Send, L: Sink, 
 ) -> Status
     requires engine { engine.old ≡ None }
     ensures usage { result ≡ Status.Usage → command_of (map string_bytes words.now) ≡ None }
-    ensures no_command { command_of (map string_bytes words.now) ≡ None → (result ≡ Status.Usage) ⊎ (result ≡ Status.NoMemory) }
-    ensures untouched { command_of (map string_bytes words.now) ≡ None → (source.new ≡ source.old) × (sink.new ≡ sink.old) }
-    ensures given { IfSome (command_of (map string_bytes words.now)) (λ command. Told (S.left source.old) (S.left source.new) (Answers command (K.held sink.old) (K.held sink.new) (K.is_flushed sink.new) (sink.new ≡ sink.old) result)) }
-    ensures front { IfSome (command_of (map string_bytes words.now)) (λ command. Fronts command (Rose (S.faults source.old) (S.faults source.new)) (S.left source.old) (S.left source.new) (K.held sink.old) (K.held sink.new)) }
-    ensures made { IfSome (command_of (map string_bytes words.now)) (λ command. Makes command (K.held sink.old) (K.held sink.new) (K.is_flushed sink.new) (source.new ≡ source.old) result) }
+    ensures no_command { command_of (map string_bytes words.now) ≡ None
+        → (result ≡ Status.Usage) ⊎ (result ≡ Status.NoMemory) }
+    ensures untouched { command_of (map string_bytes words.now) ≡ None
+        → (source.new ≡ source.old) × (sink.new ≡ sink.old) }
+    ensures given { IfSome (command_of (map string_bytes words.now))
+        (λ command. Told (S.left source.old) (S.left source.new)
+        (Answers command (K.held sink.old) (K.held sink.new) (K.is_flushed sink.new) (sink.new ≡ sink.old) result)) }
+    ensures front { IfSome (command_of (map string_bytes words.now))
+        (λ command. Fronts command (Rose (S.faults source.old) (S.faults source.new)) (S.left source.old)
+        (S.left source.new) (K.held sink.old) (K.held sink.new)) }
+    ensures made { IfSome (command_of (map string_bytes words.now))
+        (λ command. Makes command (K.held sink.old) (K.held sink.new) (K.is_flushed sink.new)
+        (source.new ≡ source.old) result) }
     ensures blocks { IfSome (command_of (map string_bytes words.now)) (λ command. AreBlocksOf command result) }
-    ensures flows { IfSome (command_of (map string_bytes words.now)) (λ command. Told (S.left source.old) (S.left source.new) (FlowsBack command result)) }
-    ensures engine { IfSome (command_of (map string_bytes words.now)) (λ command. result ≡ Status.Ok → HasRun command engine.new (S.left source.old) (S.left source.new)) }
+    ensures flows { IfSome (command_of (map string_bytes words.now))
+        (λ command. Told (S.left source.old) (S.left source.new) (FlowsBack command result)) }
+    ensures engine { IfSome (command_of (map string_bytes words.now))
+        (λ command. result ≡ Status.Ok → HasRun command engine.new (S.left source.old) (S.left source.new)) }
     ensures later { S.faults source.old ≤ S.faults source.new }
     ensures later_sink { K.faults sink.old ≤ K.faults sink.new }
     ensures read { result ≡ Status.ReadFault → Rose (S.faults source.old) (S.faults source.new) }

@@ -25,7 +25,8 @@ pub(crate) fn finish<K: Sink>(sink: &mut K, status: Status) -> Status
     ensures content { Keeps (K.held sink.old) (K.held sink.new) }
     ensures flushed { result ≡ Status.WriteFault ⊎ SaysFlushed (K.held sink.new) (K.is_flushed sink.new) true }
     ensures later { K.faults sink.old ≤ K.faults sink.new }
-    ensures failed { result ≡ Status.WriteFault → (status ≡ Status.WriteFault) ⊎ Rose (K.faults sink.old) (K.faults sink.new) }
+    ensures failed { result ≡ Status.WriteFault → (status ≡ Status.WriteFault)
+        ⊎ Rose (K.faults sink.old) (K.faults sink.new) }
 {
     match sink.flush() {
         Ok(()) => status,

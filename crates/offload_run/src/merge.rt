@@ -12,7 +12,8 @@ ghost use Rattle.offload_words.specs.Merge.{IsInRange};
 ghost use Rattle.rounds.specs.Merging.{ending_of as merge_ending, options_of as rounds_options, HoldsCaptured};
 ghost use Rattle.offload_run.specs.Ending.{ending_of, Ends, FlushesAt, HasBlocks, OfRead, status_by};
 ghost use Rattle.offload_run.specs.Engines.{HasMerged};
-ghost use Rattle.offload_run.specs.Output.{options as options_of, plan_of, merged_packets, AreCapturedWithin, FlowsComeBack};
+ghost use Rattle.offload_run.specs.Output.{options as options_of, plan_of, merged_packets, AreCapturedWithin};
+ghost use Rattle.offload_run.specs.Output.{FlowsComeBack};
 
 use crate::ending::refused;
 use crate::{Engine, Status};
@@ -20,7 +21,7 @@ use off_io::{Gate, Sink, Source, WriteFault};
 use offload_words::MergeOptions;
 use pcap_io::{CaptureReader, FileHead, Link, take_file, write_file_head};
 use round_pipeline::merge_beside;
-use round_work::Plan;
+use round_work::{Plan, SharedProgram};
 use rounds::{MergeEnd, Rounds};
 use std::alloc::{AllocError, Global};
 use std::sync::Wait;
@@ -61,13 +62,21 @@ fn merge_behind<R: Threads + Wait + Sync, S: Source + Send, K: Sink, G: Gate + S
     gate: &G,
 ) -> MergeEnd
     requires home { rounds.old.home ≡ rounds.old.blocks }
-    ensures given { Told (S.left source.old) (S.left source.new) (Passes (merging rounds.old.blocks (rounds_options rounds.old) (first_place file Ethernet 0)) (K.held sink.old) (K.held sink.new) (merge_ending result)) }
-    ensures front { FrontUnless (Rose (S.faults source.old) (S.faults source.new)) (merging rounds.old.blocks (rounds_options rounds.old) (first_place file Ethernet 0)) (S.left source.old) (S.left source.new) (K.held sink.old) (K.held sink.new) }
-    ensures captured { Told (S.left source.old) (S.left source.new) (HoldsCaptured rounds.old.blocks rounds.old.budget (first_place file Ethernet 0) result) }
-    ensures flushed { flushes (merge_ending result) ≡ true → SaysFlushed (K.held sink.new) (K.is_flushed sink.new) true }
+    ensures given { Told (S.left source.old) (S.left source.new)
+        (Passes (merging rounds.old.blocks (rounds_options rounds.old) (first_place file Ethernet 0)) (K.held sink.old)
+        (K.held sink.new) (merge_ending result)) }
+    ensures front { FrontUnless (Rose (S.faults source.old) (S.faults source.new))
+        (merging rounds.old.blocks (rounds_options rounds.old) (first_place file Ethernet 0)) (S.left source.old)
+        (S.left source.new) (K.held sink.old) (K.held sink.new) }
+    ensures captured { Told (S.left source.old) (S.left source.new)
+        (HoldsCaptured rounds.old.blocks rounds.old.budget (first_place file Ethernet 0) result) }
+    ensures flushed { flushes (merge_ending result) ≡ true
+        → SaysFlushed (K.held sink.new) (K.is_flushed sink.new) true }
     ensures home { rounds.new.home ≡ rounds.new.blocks }
     ensures same { rounds.new.blocks ≡ rounds.old.blocks }
-    ensures taken { result ≡ MergeEnd.Done → Told (S.left source.old) (S.left source.new) (λ rest left. min (rounds.old.taken + round_need (found_at (first_place file Ethernet 0) rest).packets) (2 ^ 64 - 1) ≤ rounds.new.taken) }
+    ensures taken { result ≡ MergeEnd.Done → Told (S.left source.old) (S.left source.new)
+        (λ rest left. min (rounds.old.taken + round_need (found_at (first_place file Ethernet 0) rest).packets)
+        (2 ^ 64 - 1) ≤ rounds.new.taken) }
     ensures later { S.faults source.old ≤ S.faults source.new }
     ensures later_sink { K.faults sink.old ≤ K.faults sink.new }
     ensures read { result ≡ MergeEnd.ReadFault → Rose (S.faults source.old) (S.faults source.new) }
@@ -84,7 +93,14 @@ pub(crate) fn make_rounds(
     keep: bool,
 ) -> Result<Rounds, AllocError>
     requires range { IsInRange options }
-    ensures made { IfOk result (λ rounds. rounds ≡ record { home = options.blocks; blocks = options.blocks; taken = 0; budget = options.budget; plan = plan_of options; keep = keep }) }
+    ensures made { IfOk result (λ rounds. rounds ≡ record {
+      home = options.blocks;
+      blocks = options.blocks;
+      taken = 0;
+      budget = options.budget;
+      plan = plan_of options;
+      keep = keep;
+    }) }
 {
     let MergeOptions {
         queues,
@@ -96,6 +112,10 @@ pub(crate) fn make_rounds(
         choice,
         filter,
     } = options;
+    let filter = match filter {
+        Some(program) => Some(SharedProgram::new(alloc, program)?),
+        None => None,
+    };
     let plan = Plan {
         queues,
         taps,
@@ -120,12 +140,19 @@ fn merge_records<R: Threads + Wait + Sync, S: Source + Send, K: Sink, G: Gate + 
 ) -> Status
     requires range { IsInRange options }
     requires engine { engine.old ≡ None }
-    ensures given { Told (S.left source.old) (S.left source.new) (Ends (Passes (merging options.blocks (options_of options) (first_place file Ethernet 0)) (K.held sink.old) (K.held sink.new)) (ending_of result)) }
-    ensures front { FrontUnless (Rose (S.faults source.old) (S.faults source.new)) (merging options.blocks (options_of options) (first_place file Ethernet 0)) (S.left source.old) (S.left source.new) (K.held sink.old) (K.held sink.new) }
-    ensures captured { Told (S.left source.old) (S.left source.new) (OfRead (AreCapturedWithin options.blocks options.budget (first_place file Ethernet 0)) result) }
+    ensures given { Told (S.left source.old) (S.left source.new)
+        (Ends (Passes (merging options.blocks (options_of options) (first_place file Ethernet 0)) (K.held sink.old)
+        (K.held sink.new)) (ending_of result)) }
+    ensures front { FrontUnless (Rose (S.faults source.old) (S.faults source.new))
+        (merging options.blocks (options_of options) (first_place file Ethernet 0)) (S.left source.old)
+        (S.left source.new) (K.held sink.old) (K.held sink.new) }
+    ensures captured { Told (S.left source.old) (S.left source.new)
+        (OfRead (AreCapturedWithin options.blocks options.budget (first_place file Ethernet 0)) result) }
     ensures flushed { FlushesAt (K.held sink.new) (K.is_flushed sink.new) (ending_of result) }
     ensures blocks { HasBlocks options.blocks result }
-    ensures engine { result ≡ Status.Ok → HasMerged options.blocks (λ rest. round_need (found_at (first_place file Ethernet 0) rest).packets) engine.new (S.left source.old) (S.left source.new) }
+    ensures engine { result ≡ Status.Ok → HasMerged options.blocks
+        (λ rest. round_need (found_at (first_place file Ethernet 0) rest).packets) engine.new (S.left source.old)
+        (S.left source.new) }
     ensures not_usage { result ≡ Status.Usage → ⊥ }
     ensures later { S.faults source.old ≤ S.faults source.new }
     ensures later_sink { K.faults sink.old ≤ K.faults sink.new }
@@ -154,11 +181,18 @@ pub(crate) fn run_merge<R: Threads + Wait + Sync, S: Source + Send, K: Sink, G: 
 ) -> Status
     requires range { IsInRange options }
     requires engine { engine.old ≡ None }
-    ensures given { Told (S.left source.old) (S.left source.new) (Ends (Answers Ethernet (merging_whole options.blocks (options_of options)) (K.held sink.old) (K.held sink.new) (K.is_flushed sink.new) (sink.new ≡ sink.old)) (ending_of result)) }
-    ensures front { FrontUnless (Rose (S.faults source.old) (S.faults source.new)) (merging_whole options.blocks (options_of options)) (S.left source.old) (S.left source.new) (K.held sink.old) (K.held sink.new) }
-    ensures flows { Told (S.left source.old) (S.left source.new) (OfRead (λ read. FlowsComeBack (options_of options) (merged_packets options.blocks options.budget read)) result) }
+    ensures given { Told (S.left source.old) (S.left source.new)
+        (Ends (Answers Ethernet (merging_whole options.blocks (options_of options)) (K.held sink.old) (K.held sink.new)
+        (K.is_flushed sink.new) (sink.new ≡ sink.old)) (ending_of result)) }
+    ensures front { FrontUnless (Rose (S.faults source.old) (S.faults source.new))
+        (merging_whole options.blocks (options_of options)) (S.left source.old) (S.left source.new) (K.held sink.old)
+        (K.held sink.new) }
+    ensures flows { Told (S.left source.old) (S.left source.new)
+        (OfRead (λ read. FlowsComeBack (options_of options) (merged_packets options.blocks options.budget read))
+        result) }
     ensures blocks { HasBlocks options.blocks result }
-    ensures engine { result ≡ Status.Ok → HasMerged options.blocks (λ given. round_need (reads Ethernet given).packets) engine.new (S.left source.old) (S.left source.new) }
+    ensures engine { result ≡ Status.Ok → HasMerged options.blocks
+        (λ given. round_need (reads Ethernet given).packets) engine.new (S.left source.old) (S.left source.new) }
     ensures not_usage { result ≡ Status.Usage → ⊥ }
     ensures later { S.faults source.old ≤ S.faults source.new }
     ensures later_sink { K.faults sink.old ≤ K.faults sink.new }

@@ -22,7 +22,8 @@ use pcap_io::{CaptureReader, FileHead, Link, take_file, write_file_head};
 use rounds::{Moved, SegFault, SegmentRun};
 use std::alloc::Global;
 
-// Ends at the fault of a record, behind `round` others and over this many blocks. What is written is flushed, where that can be.
+// Ends at the fault of a record, behind `round` others and over this many blocks. What is written is flushed, where
+// that can be.
 fn give_up<K: Sink>(sink: &mut K, fault: SegFault, round: u64, blocks: u32) -> Status
     ensures answer { GivesUp round fault result }
     ensures content { Keeps (K.held sink.old) (K.held sink.new) }
@@ -32,7 +33,8 @@ fn give_up<K: Sink>(sink: &mut K, fault: SegFault, round: u64, blocks: u32) -> S
     ensures not_usage { result ≡ Status.Usage → ⊥ }
     ensures later { K.faults sink.old ≤ K.faults sink.new }
     ensures read { result ≡ Status.ReadFault → fault ≡ SegFault.ReadFault }
-    ensures write { result ≡ Status.WriteFault → (fault ≡ SegFault.WriteFault) ⊎ Rose (K.faults sink.old) (K.faults sink.new) }
+    ensures write { result ≡ Status.WriteFault → (fault ≡ SegFault.WriteFault)
+        ⊎ Rose (K.faults sink.old) (K.faults sink.new) }
 {
     match fault {
         SegFault::Malformed(fault) => finish(sink, Status::Malformed(fault)),
@@ -63,15 +65,20 @@ fn segment_all<S: Source, K: Sink>(
     requires blocks { run.old.blocks ≡ blocks }
     requires home { run.old.home ≡ run.old.blocks }
     ensures same_source { SameLoan reader.old reader.new }
-    ensures given { Told (S.left (source_of reader.old)) (S.left (source_of reader.new)) (Ends (Passes (segmenting blocks (place_of reader.old)) (K.held sink.old) (K.held sink.new)) (ending_of result)) }
+    ensures given { Told (S.left (source_of reader.old)) (S.left (source_of reader.new))
+        (Ends (Passes (segmenting blocks (place_of reader.old)) (K.held sink.old) (K.held sink.new))
+        (ending_of result)) }
     ensures flushed { FlushesAt (K.held sink.new) (K.is_flushed sink.new) (ending_of result) }
     ensures blocks { HasBlocks blocks result }
     ensures home { (run.new.blocks ≡ blocks) × (run.new.home ≡ blocks) }
-    ensures taken { result ≡ Status.Ok → Told (S.left (source_of reader.old)) (S.left (source_of reader.new)) (λ bytes left. min (run.old.taken + records_need (found_at (place_of reader.old) bytes).packets) (2 ^ 64 - 1) ≤ run.new.taken) }
+    ensures taken { result ≡ Status.Ok → Told (S.left (source_of reader.old)) (S.left (source_of reader.new))
+        (λ bytes left. min (run.old.taken + records_need (found_at (place_of reader.old) bytes).packets) (2 ^ 64 - 1)
+        ≤ run.new.taken) }
     ensures not_usage { result ≡ Status.Usage → ⊥ }
     ensures later { S.faults (source_of reader.old) ≤ S.faults (source_of reader.new) }
     ensures later_sink { K.faults sink.old ≤ K.faults sink.new }
-    ensures read { result ≡ Status.ReadFault → Rose (S.faults (source_of reader.old)) (S.faults (source_of reader.new)) }
+    ensures read { result ≡ Status.ReadFault → Rose (S.faults (source_of reader.old))
+        (S.faults (source_of reader.new)) }
     ensures write { result ≡ Status.WriteFault → Rose (K.faults sink.old) (K.faults sink.new) }
 {
     let mut round = 0u64;
@@ -96,11 +103,15 @@ fn segment_behind<S: Source, K: Sink>(
 ) -> Status
     requires blocks { run.old.blocks ≡ blocks }
     requires home { run.old.home ≡ run.old.blocks }
-    ensures given { Told (S.left source.old) (S.left source.new) (Ends (Passes (segmenting blocks (first_place file Offload 0)) (K.held sink.old) (K.held sink.new)) (ending_of result)) }
+    ensures given { Told (S.left source.old) (S.left source.new)
+        (Ends (Passes (segmenting blocks (first_place file Offload 0)) (K.held sink.old) (K.held sink.new))
+        (ending_of result)) }
     ensures flushed { FlushesAt (K.held sink.new) (K.is_flushed sink.new) (ending_of result) }
     ensures blocks { HasBlocks blocks result }
     ensures home { (run.new.blocks ≡ blocks) × (run.new.home ≡ blocks) }
-    ensures taken { result ≡ Status.Ok → Told (S.left source.old) (S.left source.new) (λ rest left. min (run.old.taken + records_need (found_at (first_place file Offload 0) rest).packets) (2 ^ 64 - 1) ≤ run.new.taken) }
+    ensures taken { result ≡ Status.Ok → Told (S.left source.old) (S.left source.new)
+        (λ rest left. min (run.old.taken + records_need (found_at (first_place file Offload 0) rest).packets)
+        (2 ^ 64 - 1) ≤ run.new.taken) }
     ensures not_usage { result ≡ Status.Usage → ⊥ }
     ensures later { S.faults source.old ≤ S.faults source.new }
     ensures later_sink { K.faults sink.old ≤ K.faults sink.new }
@@ -122,11 +133,16 @@ fn segment_records<S: Source, K: Sink>(
 ) -> Status
     requires range { (1 ≤ blocks) × (blocks ≤ 65536) }
     requires engine { engine.old ≡ None }
-    ensures given { Told (S.left source.old) (S.left source.new) (Ends (Passes (segmenting blocks (first_place file Offload 0)) (K.held sink.old) (K.held sink.new)) (ending_of result)) }
-    ensures front { FrontUnless ⊥ (segmenting blocks (first_place file Offload 0)) (S.left source.old) (S.left source.new) (K.held sink.old) (K.held sink.new) }
+    ensures given { Told (S.left source.old) (S.left source.new)
+        (Ends (Passes (segmenting blocks (first_place file Offload 0)) (K.held sink.old) (K.held sink.new))
+        (ending_of result)) }
+    ensures front { FrontUnless ⊥ (segmenting blocks (first_place file Offload 0)) (S.left source.old)
+        (S.left source.new) (K.held sink.old) (K.held sink.new) }
     ensures flushed { FlushesAt (K.held sink.new) (K.is_flushed sink.new) (ending_of result) }
     ensures blocks { HasBlocks blocks result }
-    ensures engine { result ≡ Status.Ok → HasSegmented blocks (λ rest. records_need (found_at (first_place file Offload 0) rest).packets) engine.new (S.left source.old) (S.left source.new) }
+    ensures engine { result ≡ Status.Ok → HasSegmented blocks
+        (λ rest. records_need (found_at (first_place file Offload 0) rest).packets) engine.new (S.left source.old)
+        (S.left source.new) }
     ensures not_usage { result ≡ Status.Usage → ⊥ }
     ensures later { S.faults source.old ≤ S.faults source.new }
     ensures later_sink { K.faults sink.old ≤ K.faults sink.new }
@@ -153,10 +169,14 @@ pub(crate) fn run_segment<S: Source, K: Sink>(
 ) -> Status
     requires range { IsInRange options }
     requires engine { engine.old ≡ None }
-    ensures given { Told (S.left source.old) (S.left source.new) (Ends (Answers Offload (segmenting_whole options.blocks) (K.held sink.old) (K.held sink.new) (K.is_flushed sink.new) (sink.new ≡ sink.old)) (ending_of result)) }
-    ensures front { FrontUnless ⊥ (segmenting_whole options.blocks) (S.left source.old) (S.left source.new) (K.held sink.old) (K.held sink.new) }
+    ensures given { Told (S.left source.old) (S.left source.new)
+        (Ends (Answers Offload (segmenting_whole options.blocks) (K.held sink.old) (K.held sink.new)
+        (K.is_flushed sink.new) (sink.new ≡ sink.old)) (ending_of result)) }
+    ensures front { FrontUnless ⊥ (segmenting_whole options.blocks) (S.left source.old) (S.left source.new)
+        (K.held sink.old) (K.held sink.new) }
     ensures blocks { HasBlocks options.blocks result }
-    ensures engine { result ≡ Status.Ok → HasSegmented options.blocks (λ given. records_need (reads Offload given).packets) engine.new (S.left source.old) (S.left source.new) }
+    ensures engine { result ≡ Status.Ok → HasSegmented options.blocks
+        (λ given. records_need (reads Offload given).packets) engine.new (S.left source.old) (S.left source.new) }
     ensures not_usage { result ≡ Status.Usage → ⊥ }
     ensures later { S.faults source.old ≤ S.faults source.new }
     ensures later_sink { K.faults sink.old ≤ K.faults sink.new }

@@ -12,8 +12,8 @@ pub enum Status {
     Usage,
     /// The capture is refused; the output of the records before is written.
     Malformed(CapFault),
-    /// A round, counted from 0, needs this many blocks, and there are fewer; the output of the rounds before is written. In
-    /// `segment` each record is a round of its own.
+    /// A round, counted from 0, needs this many blocks, and there are fewer; the output of the rounds before is
+    /// written. In `segment` each record is a round of its own.
     PoolEmpty { round: u64, need: u32, blocks: u32 },
     /// The source failed; the output of the whole records before is written.
     ReadFault,

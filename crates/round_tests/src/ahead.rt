@@ -37,9 +37,11 @@ fn turn<R: Threads + Sync, W: Works, S: Source + Send>(
     sink: &mut MemSink,
     pauses: &mut u32,
 ) -> Result<RoundRead, Fail>
-    requires ready { read.end ≡ RoundEnd.Full → IsReady (place_of reader.old) × ((place_of reader.old).link ≡ Ethernet) }
+    requires ready { read.end ≡ RoundEnd.Full → IsReady (place_of reader.old)
+        × ((place_of reader.old).link ≡ Ethernet) }
     requires out { rounds.old.home + read.round.blocks ≡ rounds.old.blocks }
-    ensures ready { IfOk result (λ next. next.end ≡ RoundEnd.Full → IsReady (place_of reader.new) × ((place_of reader.new).link ≡ Ethernet)) }
+    ensures ready { IfOk result (λ next. next.end ≡ RoundEnd.Full
+        → IsReady (place_of reader.new) × ((place_of reader.new).link ≡ Ethernet)) }
     ensures out { IfOk result (λ next. rounds.new.home + next.round.blocks ≡ rounds.new.blocks) }
 {
     let RoundRead { round, end } = read;
@@ -80,9 +82,11 @@ fn two_turns<R: Threads + Sync, W: Works, S: Source + Send>(
     sink: &mut MemSink,
     pauses: &mut u32,
 ) -> Result<RoundRead, Fail>
-    requires ready { read.end ≡ RoundEnd.Full → IsReady (place_of reader.old) × ((place_of reader.old).link ≡ Ethernet) }
+    requires ready { read.end ≡ RoundEnd.Full → IsReady (place_of reader.old)
+        × ((place_of reader.old).link ≡ Ethernet) }
     requires out { rounds.old.home + read.round.blocks ≡ rounds.old.blocks }
-    ensures ready { IfOk result (λ next. next.end ≡ RoundEnd.Full → IsReady (place_of reader.new) × ((place_of reader.new).link ≡ Ethernet)) }
+    ensures ready { IfOk result (λ next. next.end ≡ RoundEnd.Full
+        → IsReady (place_of reader.new) × ((place_of reader.new).link ≡ Ethernet)) }
     ensures out { IfOk result (λ next. rounds.new.home + next.round.blocks ≡ rounds.new.blocks) }
 {
     let next = turn(rt, works, rounds, read, reader, file, sink, pauses)?;

@@ -1,10 +1,11 @@
-//! Two sides write what one writes, end as it does, and all blocks are home. Where there is one processor alone there
-//! are no two sides, and these tests say nothing of them.
+//! Two sides write what one writes, end as it does, and all blocks are home, also with those who run lanes beside them.
+//! Where there is one processor alone there are no two sides, and these tests say nothing of them; who run lanes are
+//! there all the same.
 ghost use Rattle.std.specs.Prelude.{◌≤◌};
 
 use crate::halting::{Dice, Halting, HaltingGate};
 use crate::plans::plain;
-use off_io::{Feed, Gate, MemSink, MemSource, NoGate, Sink, Source};
+use off_io::{Feed, Gate, Meeting, MemSink, MemSource, NoGate, Sink, Source, Who};
 use pcap_io::{CaptureReader, Link};
 use round_pipeline::merge_beside;
 use round_work::Alone;
@@ -47,6 +48,14 @@ const FEWEST: How = How {
     budget: 1,
     queues: 1,
     taps: 0,
+};
+
+// Rounds of three records, by seven lanes, over as many blocks as each round needs.
+const CREWED: How = How {
+    blocks: 9,
+    budget: 3,
+    queues: 4,
+    taps: 3,
 };
 
 // How merging ended, the blocks that are home and those that were taken.
@@ -161,14 +170,20 @@ fn two_sides_end_as_one_does(rt: HostRuntime) -> Result<(), Fail> {
 fn halting_ends_as(
     rt: &(impl Threads + Wait + Sync),
     alloc: Global,
+    how: How,
     input: &[u8],
     reads: &[u64],
     writes: &[u64],
     seed: u32,
-) -> Result<MergeEnd, Fail> {
+) -> Result<MergeEnd, Fail>
+    requires blocks { (1 ≤ how.blocks) × (how.blocks ≤ 65536) }
+    requires budget { (1 ≤ how.budget) × (how.budget ≤ 4096) }
+    requires queues { (1 ≤ how.queues) × (how.queues ≤ 64) }
+    requires taps { how.taps ≤ 8 }
+{
     let source = MemSource::new(input.to_vec(alloc)?, 4096, reads.to_vec(alloc)?);
     let mut one = MemSink::new(alloc, 4096, writes.to_vec(alloc)?);
-    let want = merged(rt, alloc, FEWEST, source, &mut one, &NoGate, false)?;
+    let want = merged(rt, alloc, how, source, &mut one, &NoGate, false)?;
     let source = Halting {
         inner: MemSource::new(input.to_vec(alloc)?, 4096, reads.to_vec(alloc)?),
         dice: Dice::new(seed),
@@ -178,13 +193,13 @@ fn halting_ends_as(
         dice: Dice::new(seed.wrapping_add(1)),
     };
     let gate = HaltingGate::new(seed.wrapping_add(2));
-    let got = merged(rt, alloc, FEWEST, source, &mut two, &gate, true)?;
+    let got = merged(rt, alloc, how, source, &mut two, &gate, true)?;
     let ended = if writes.is_empty() {
         got == want
     } else {
         got.0 == want.0 && got.1 == want.1 && got.2 >= want.2
     };
-    if !ended || want.1 != FEWEST.blocks {
+    if !ended || want.1 != how.blocks {
         return Err(Fail::from("both end in the same way, with all blocks home"));
     }
     if one.bytes() != two.inner.bytes() || one.is_flushed() != two.inner.is_flushed() {
@@ -198,32 +213,132 @@ fn halting_ends_as(
 fn ten_thousand_rounds_over_the_fewest_blocks(rt: HostRuntime) -> Result<(), Fail> {
     let alloc = rt.alloc();
     let input = capture(alloc, 2500)?;
-    let end = halting_ends_as(&rt, alloc, &input, &[], &[], 20)?;
+    let end = halting_ends_as(&rt, alloc, FEWEST, &input, &[], &[], 20)?;
     assert_eq!(rt; end, MergeEnd::Done);
     Ok(())
 }
 
-// The file header takes a read, and each record two.
+// Rounds of one record, which have one task of a queue and one of each tap, and of more.
 #[test]
-fn a_source_fails_in_the_middle(rt: HostRuntime) -> Result<(), Fail> {
+fn thousands_of_rounds_by_lanes(rt: HostRuntime) -> Result<(), Fail> {
     let alloc = rt.alloc();
+    let input = capture(alloc, 500)?;
+    for budget in 1..4 {
+        let how = How {
+            blocks: 3 * budget,
+            budget,
+            queues: budget,
+            taps: 2,
+        };
+        let end = halting_ends_as(&rt, alloc, how, &input, &[], &[], budget)?;
+        assert_eq!(rt; end, MergeEnd::Done, "at {how:?}");
+    }
+    Ok(())
+}
+
+// A source that fails at each of some calls. The file header takes a read, and each record two.
+fn fails_at_each_read(
+    rt: &(impl Threads + Wait + Sync),
+    how: How,
+    alloc: Global,
+) -> Result<u32, Fail>
+    requires blocks { (1 ≤ how.blocks) × (how.blocks ≤ 65536) }
+    requires budget { (1 ≤ how.budget) × (how.budget ≤ 4096) }
+    requires queues { (1 ≤ how.queues) × (how.queues ≤ 64) }
+    requires taps { how.taps ≤ 8 }
+{
     let input = capture(alloc, 50)?;
+    let mut failed = 0u32;
     for call in 197..205 {
         let seed = call as u32;
-        let end = halting_ends_as(&rt, alloc, &input, &[call], &[], seed)?;
-        assert_eq!(rt; end, MergeEnd::ReadFault, "call {call}");
+        let end = halting_ends_as(rt, alloc, how, &input, &[call], &[], seed)?;
+        if end == MergeEnd::ReadFault {
+            failed = failed.saturating_add(1);
+        }
     }
+    Ok(failed)
+}
+
+// A sink that fails at each of some calls.
+fn fails_at_each_write(
+    rt: &(impl Threads + Wait + Sync),
+    how: How,
+    alloc: Global,
+) -> Result<u32, Fail>
+    requires blocks { (1 ≤ how.blocks) × (how.blocks ≤ 65536) }
+    requires budget { (1 ≤ how.budget) × (how.budget ≤ 4096) }
+    requires queues { (1 ≤ how.queues) × (how.queues ≤ 64) }
+    requires taps { how.taps ≤ 8 }
+{
+    let input = capture(alloc, 50)?;
+    let mut failed = 0u32;
+    for call in 97..105 {
+        let seed = call as u32;
+        let end = halting_ends_as(rt, alloc, how, &input, &[], &[call], seed)?;
+        if end == MergeEnd::WriteFault {
+            failed = failed.saturating_add(1);
+        }
+    }
+    Ok(failed)
+}
+
+#[test]
+fn a_source_fails_in_the_middle(rt: HostRuntime) -> Result<(), Fail> {
+    assert_eq!(rt; fails_at_each_read(&rt, FEWEST, rt.alloc())?, 8);
+    assert_eq!(rt; fails_at_each_read(&rt, CREWED, rt.alloc())?, 8);
     Ok(())
 }
 
 #[test]
 fn a_sink_fails_in_the_middle(rt: HostRuntime) -> Result<(), Fail> {
-    let alloc = rt.alloc();
-    let input = capture(alloc, 50)?;
-    for call in 97..105 {
-        let seed = call as u32;
-        let end = halting_ends_as(&rt, alloc, &input, &[], &[call], seed)?;
-        assert_eq!(rt; end, MergeEnd::WriteFault, "call {call}");
+    assert_eq!(rt; fails_at_each_write(&rt, FEWEST, rt.alloc())?, 8);
+    assert_eq!(rt; fails_at_each_write(&rt, CREWED, rt.alloc())?, 8);
+    Ok(())
+}
+
+// How often a lane saw another one that waits for it. Each passes in each round, also in the one behind the four
+// records, which has none.
+fn met(
+    rt: &(impl Threads + Wait + Sync),
+    alloc: Global,
+    how: How,
+    one: Who,
+    other: Who,
+) -> Result<u32, Fail>
+    requires blocks { (1 ≤ how.blocks) × (how.blocks ≤ 65536) }
+    requires budget { (1 ≤ how.budget) × (how.budget ≤ 4096) }
+    requires queues { (1 ≤ how.queues) × (how.queues ≤ 64) }
+    requires taps { how.taps ≤ 8 }
+{
+    let source = MemSource::new(capture(alloc, 1)?, 4096, Vec::new(alloc));
+    let mut sink = MemSink::new(alloc, 4096, Vec::new(alloc));
+    let meeting = Meeting::of(one, other);
+    let (end, _, _) = merged(rt, alloc, how, source, &mut sink, &meeting, true)?;
+    if end != MergeEnd::Done {
+        return Err(Fail::from("it ends well"));
     }
+    Ok(meeting.met())
+}
+
+// On one processor too: two lanes with something to do have two threads.
+#[test]
+fn lanes_meet(rt: HostRuntime) -> Result<(), Fail> {
+    let alloc = rt.alloc();
+    let four = How {
+        blocks: 12,
+        budget: 4,
+        queues: 2,
+        taps: 2,
+    };
+    let one = How {
+        blocks: 3,
+        budget: 1,
+        queues: 1,
+        taps: 2,
+    };
+    assert_eq!(rt; met(&rt, alloc, four, Who::Worker(0), Who::Worker(1))?, 4);
+    assert_eq!(rt; met(&rt, alloc, four, Who::Worker(1), Who::Tap(0))?, 4);
+    assert_eq!(rt; met(&rt, alloc, one, Who::Worker(0), Who::Tap(1))?, 10);
+    assert_eq!(rt; met(&rt, alloc, one, Who::Tap(0), Who::Tap(1))?, 10);
     Ok(())
 }

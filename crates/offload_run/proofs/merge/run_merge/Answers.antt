@@ -24,14 +24,17 @@ returns-in-Ok-write_file_head-clause-given g c =
     c.in-Ok.file (ending_of c.merge_records.result) c.in-Ok.ensures.given c.in-Ok-write_file_head.ensures.ok c.merge_records.ensures.given c.merge_records.ensures.flushed
 
 pub returns-in-Err-clause-flows : goal.returns-in-Err-clause-flows
-returns-in-Err-clause-flows g c = no_file_back c.args.options.blocks (options c.args.options) (lawful_options c.args.options c.requires.range) _ _ c.in-Err.fault c.refused.result c.refused.ensures.status c.in-Err.ensures.given
+returns-in-Err-clause-flows g c = no_file_back c.args.options.blocks (options c.args.options) (lawful_options c.args.options c.requires.range) _ _ c.in-Err.fault c.refused.result
+    c.refused.ensures.status c.in-Err.ensures.given
 
 pub returns-in-Err-write_file_head-clause-flows : goal.returns-in-Err-write_file_head-clause-flows
-returns-in-Err-write_file_head-clause-flows g c = head_failed_back c.args.options.blocks (options c.args.options) (lawful_options c.args.options c.requires.range) _ _ c.in-Ok.file c.in-Ok.ensures.given
+returns-in-Err-write_file_head-clause-flows g c = head_failed_back c.args.options.blocks (options c.args.options) (lawful_options c.args.options c.requires.range) _ _ c.in-Ok.file
+    c.in-Ok.ensures.given
 
 pub returns-in-Ok-write_file_head-clause-flows : goal.returns-in-Ok-write_file_head-clause-flows
 returns-in-Ok-write_file_head-clause-flows g c =
-    whole_back c.args.options.blocks (options c.args.options) (lawful_options c.args.options c.requires.range) _ _ _ c.in-Ok.file c.merge_records.result c.in-Ok.ensures.given c.merge_records.ensures.captured
+    whole_back c.args.options.blocks (options c.args.options) (lawful_options c.args.options c.requires.range) _ _ _ c.in-Ok.file c.merge_records.result c.in-Ok.ensures.given
+    c.merge_records.ensures.captured
 
 pub returns-in-Err-clause-front : goal.returns-in-Err-clause-front
 returns-in-Err-clause-front g c =
