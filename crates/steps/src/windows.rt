@@ -32,6 +32,11 @@ const TCP_PORT_80: &str = "20,40 0 0 12,21 0 6 34525,48 0 0 20,21 0 15 6,40 0 0 
     40 0 0 56,21 10 11 80,21 0 10 2048,48 0 0 23,21 0 8 6,40 0 0 20,69 6 0 8191,177 0 0 14,\
     72 0 0 14,21 2 0 80,72 0 0 16,21 0 1 80,6 0 0 262144,6 0 0 0";
 
+// The same of port 81, which leaves these packets out.
+const TCP_PORT_81: &str = "20,40 0 0 12,21 0 6 34525,48 0 0 20,21 0 15 6,40 0 0 54,21 12 0 81,\
+    40 0 0 56,21 10 11 81,21 0 10 2048,48 0 0 23,21 0 8 6,40 0 0 20,69 6 0 8191,177 0 0 14,\
+    72 0 0 14,21 2 0 81,72 0 0 16,21 0 1 81,6 0 0 262144,6 0 0 0";
+
 // A clone of a packet of 100 bytes. The packet itself is given back.
 fn tap_clone(alloc: Global, out: &mut Outcomes) -> Option<TapClone>
     requires room { 1 ≤ out.old.spare }
@@ -101,7 +106,7 @@ fn time_task(
     (texts.map(|texts| texts.len()), taken)
 }
 
-fn time_round(rt: &HostRuntime, filter: Option<&Program>) -> Result<Duration, Error> {
+fn time_round(rt: &HostRuntime, filter: Option<&Program>, shown: usize) -> Result<Duration, Error> {
     let outcomes = places(rt.alloc(), 2 * PACKETS)?;
     let (windows, taken) = match Vec::with_capacity(rt.alloc(), PACKETS) {
         Ok(clones) => time_task(rt, task_over(clones, rt.alloc(), filter, outcomes)),
@@ -110,16 +115,22 @@ fn time_round(rt: &HostRuntime, filter: Option<&Program>) -> Result<Duration, Er
             return Err(Error::from(error));
         }
     };
-    if windows? != PACKETS {
-        bail!("a window wasn't read");
+    if windows? != shown {
+        bail!("a window wasn't read, or one too many");
     }
     taken
 }
 
-fn time_windows(rt: &HostRuntime, filter: Option<&Program>, turns: u64) -> Result<Duration, Error> {
+// Rounds of packets, each of which has so many windows.
+fn time_windows(
+    rt: &HostRuntime,
+    filter: Option<&Program>,
+    shown: usize,
+    turns: u64,
+) -> Result<Duration, Error> {
     let mut taken = Duration::ZERO;
     for _ in 0..turns.div_ceil(PACKETS as u64) {
-        taken = taken.saturating_add(time_round(rt, filter)?);
+        taken = taken.saturating_add(time_round(rt, filter, shown)?);
     }
     Ok(taken)
 }
@@ -147,15 +158,30 @@ fn time_copies(rt: &HostRuntime, turns: u64) -> Result<Duration, Error> {
     Ok(taken)
 }
 
+// By the filter of a text.
+fn time_filtered(
+    rt: &HostRuntime,
+    text: &str,
+    shown: usize,
+    turns: u64,
+) -> Result<Duration, Error> {
+    match Program::of_text(rt.alloc(), text) {
+        Ok(filter) => time_windows(rt, Some(&filter), shown, turns),
+        Err(_) => bail!("the filter isn't read"),
+    }
+}
+
 pub fn measure(rt: &HostRuntime, turns: u64) -> Result<(), Error> {
-    let taken = time_windows(rt, None, turns)?;
+    let taken = time_windows(rt, None, PACKETS, turns)?;
     println!(rt; "window of 64 bytes: {} ns", taken.as_nanos())?;
-    let Ok(filter) = Program::of_text(rt.alloc(), TCP_PORT_80) else {
-        bail!("the filter isn't read");
-    };
-    let taken = time_windows(rt, Some(&filter), turns)?;
+    let taken = time_filtered(rt, TCP_PORT_80, PACKETS, turns)?;
     println!(rt;
         "the same by the filter `tcp port 80`: {} ns",
+        taken.as_nanos()
+    )?;
+    let taken = time_filtered(rt, TCP_PORT_81, 0, turns)?;
+    println!(rt;
+        "left out by the filter `tcp port 81`: {} ns",
         taken.as_nanos()
     )?;
     let taken = time_copies(rt, turns)?;
