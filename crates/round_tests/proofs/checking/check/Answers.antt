@@ -4,7 +4,7 @@ use Rattle.rounds.specs.Merging.{options_of}
 use Rattle.round_tests.proofs.checking.check.Goals as goal
 
 pub check_all-end-requires-clause-start : goal.check_all-end-requires-clause-start
-check_all-end-requires-clause-start c _ =
+check_all-end-requires-clause-start c =
     let made = c.in_ok-rounds.ensures.made in
     let lanes = c.plain.ensures.lanes in
     c.in_ok-totals.ensures.made (options_of c.in_ok-rounds.rounds) (ap (λ (r : RoundsState). r.plan.queues) made ∙ lanes.0) (ap (λ (r : RoundsState). r.plan.taps) made ∙ lanes.1)
