@@ -9,6 +9,10 @@
 //! `home`). A refusal is counted, and there is none where the pass that has all parts shows a block home, or fewer home
 //! than were made (`sure`).
 //!
+//! `ListPool` is shared as well, and its blocks go list by list, each list by one step: `take_block` takes blocks one
+//! by one from a list at hand, which comes whole, and `put_all` brings a list home. No block is lost (clauses `block`
+//! of `take_block`, `put` of `put_all`), and no emptied list (`spent`).
+//!
 //! ```
 //! let mut pool = Pool::make(alloc, 64)?;
 //! if let Ok(block) = pool.take() {
@@ -23,6 +27,9 @@
 //! - **The shared pool's rule is over blocks, and not over their numbers alone.** Two lists that weigh the same under
 //!   every weight of a block have the same blocks, so a sum says "block by block" and stays arithmetic. With numbers
 //!   alone a `put` that writes on the block, or swaps it, would be let through.
+//! - **The rule looks into no item**, so one rule serves blocks and lists of blocks: what a list weighs is what its
+//!   blocks weigh together, and the sums say "block by block" of lists too. What is left of a list that was taken stays
+//!   with whoever took it, above the pool, so each take and each put is still one step.
 //! - **Seven kinds of step and no others.** A look at the queue that changes nothing (`home`, and `gather`'s check that
 //!   parts stay below 65,536) is none.
 //! - **A pass is a `requires`**: each call wants a pass of its own pool, by the queue's name and the number of blocks.
@@ -31,8 +38,10 @@
 //!   would wrap, as the queue itself does after 2^62 pushes; so no caller carries a bound.
 #![tactic(auto)]
 
+pub mod lists;
 mod pool;
 pub mod shared;
 
+pub use lists::{BlockList, ListPass, ListPool};
 pub use pool::{Empty, Pool};
 pub use shared::{PoolPass, SharedPool};

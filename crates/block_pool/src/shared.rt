@@ -1,9 +1,11 @@
-//! A pool of blocks that several threads take from and put back to at once.
+//! Pools that several threads take from and put back to at once.
 //!
-//! Its blocks wait in a queue without a lock, first in, first out. Whoever takes or puts holds a `PoolPass`, which
-//! counts what it did. The opening pass has 65,536 parts; `fork` moves one of them to a new pass for another thread,
-//! and `gather` adds a pass to another again. The pass that has all parts knows the pool whole: the blocks that are
-//! home are those that were made and those that were put, without those that were taken.
+//! What goes by one step is an item: a block in a `SharedPool`, and a whole list of blocks in a `ListPool` (`lists`).
+//! Both are a `QueuePool` under one rule, which looks into no item. The items wait in a queue without a lock, first in,
+//! first out. Whoever takes or puts holds a `QueuePass`, which counts what it did. The opening pass has 65,536 parts;
+//! `fork` moves one of them to a new pass for another thread, and `gather` adds a pass to another again. The pass that
+//! has all parts knows the pool whole: the items that are home are those that were made and those that were put,
+//! without those that were taken.
 //!
 //! ```
 //! let (pool, mut pass) = SharedPool::make(&rt, alloc, 64)?;
@@ -12,13 +14,16 @@
 //! pool.gather(&rt, theirs, &mut pass);
 //! pool.home(&rt, &mut pass);
 //! ```
-ghost use Rattle.std.specs.Prelude.{◌≡◌, ℕ, ◌+◌, ◌<◌, ◌≤◌, length, All, IfOk, IfErr, IsOk};
+ghost use Rattle.std.specs.Prelude.{◌≡◌, ℕ, ◌+◌, ◌<◌, ◌≤◌, [], ◌∷◌, length, All, IfOk, IfErr, IsOk};
+ghost use Rattle.std.specs.List.{sum_by};
+ghost use Rattle.crossbeam_queue.specs.Passes.{view, IsPassOf, ruled_capacity};
 ghost use Rattle.block_pool.specs.PassState.{IsOwn, IsOpening, IsNew, IsFresh, IsHome, IsSame, LostPart, Took, Put};
 ghost use Rattle.block_pool.specs.PassState.{FoundEmpty, FoundFull, Gathered};
+ghost use Rattle.block_pool.specs.QueueRule.{tally};
 
 use crossbeam_queue::Pass;
 use raw_block::Sole;
-use rule::{Blocks, Parts, Takes, Tally};
+use rule::{Items, Parts, Takes, Tally};
 use std::alloc::{AllocError, Global};
 use std::marker::Model;
 use std::sync::Wait;
@@ -31,30 +36,34 @@ mod steps;
 /// All parts of a pool: those of its opening pass.
 const ALL_PARTS: u32 = 65_536;
 
-/// The blocks that are home, in a queue that threads share by `&`. Dropping it frees them.
+/// The items that are home, in a queue that threads share by `&`. Dropping it frees them.
 #[derive(Drop)]
-pub struct SharedPool {
-    queue: Blocks,
+pub struct QueuePool<T: Drop> {
+    queue: Items<T>,
     made: u32,
+    places: u32,
 }
 
-impl Model for SharedPool {
-    ghost use Rattle.std.specs.Prelude.{◌≡◌};
+/// A pool whose blocks come and go one by one.
+pub type SharedPool = QueuePool<Sole>;
+
+impl<T: Drop> Model for QueuePool<T> {
+    ghost use Rattle.std.specs.Prelude.{◌≡◌, ◌≤◌};
     ghost use Rattle.crossbeam_queue.specs.Passes.{ruled_capacity};
     ghost use Rattle.block_pool.specs.PassState.{SharedState};
 
     ghost Value = { SharedState };
 
-    ghost view = { λ p. record { id = p.queue.table.shared.table_id; made = p.made } };
+    ghost view = { λ p. record { id = p.queue.table.shared.table_id; made = p.made; places = p.places } };
 
-    ghost invariant = { λ p. p.made ≡ ruled_capacity p.queue };
+    ghost invariant = { λ p. (p.places ≡ ruled_capacity p.queue) × (p.made ≤ p.places) };
 }
 
 /// The right to take from one pool and to put back to it, with the counts of what was done. One that is dropped takes
 /// its parts with it, and no pass knows the pool whole from then on.
 #[derive(Drop)]
-pub struct PoolPass {
-    pass: Pass<Sole, Tally>,
+pub struct QueuePass<T> {
+    pass: Pass<T, Tally<T>>,
     parts: u32,
     takes: u64,
     puts: u64,
@@ -62,11 +71,14 @@ pub struct PoolPass {
     fulls: u64,
 }
 
-impl Model for PoolPass {
+/// A pass of a pool of blocks.
+pub type PoolPass = QueuePass<Sole>;
+
+impl<T> Model for QueuePass<T> {
     ghost use Rattle.std.specs.Prelude.{length};
     ghost use Rattle.block_pool.specs.PassState.{PassState, IsTied, known};
 
-    ghost Value = { PassState };
+    ghost Value = { PassState T };
 
     ghost view = { λ p. record {
       pool = p.pass.table_id;
@@ -85,9 +97,9 @@ impl Model for PoolPass {
     ghost invariant = { λ p. IsTied p.pass p.parts p.takes p.puts };
 }
 
-/// No block was home at a step of a take.
+/// Nothing was home at a step of a take.
 #[derive(Debug, Drop, Error)]
-#[error("no block was home after {takes} takes")]
+#[error("nothing was home after {takes} takes")]
 pub struct Empty {
     takes: u64,
 }
@@ -101,11 +113,42 @@ impl Empty {
     }
 }
 
-/// All blocks were home at a step of a put. Here is the block that was to be put.
+/// All places were taken at a step of a put. Here is what was to be put.
 #[derive(Drop)]
-pub struct Full(pub Sole);
+pub struct Full<T = Sole>(pub T);
 
-impl SharedPool {
+// A pool of what was pushed so far, and its opening pass.
+fn opened<T: Drop>(
+    queue: Items<T>,
+    pass: Pass<T, Tally<T>>,
+    made: u32,
+    places: u32,
+) -> (QueuePool<T>, QueuePass<T>)
+    requires own { IsPassOf queue pass }
+    requires view { view pass ≡ tally 65536 (view pass).made [] [] }
+    requires made { length (view pass).made ≡ made }
+    requires places { (ruled_capacity queue ≡ places) × (made ≤ places) }
+    ensures pool { (result.0.made ≡ made) × (result.0.places ≡ places) }
+    ensures opening { IsOpening result.0 result.1 }
+    ensures items { result.1.made ≡ (view pass).made }
+{
+    let opening = QueuePass {
+        pass,
+        parts: ALL_PARTS,
+        takes: 0,
+        puts: 0,
+        empties: 0,
+        fulls: 0,
+    };
+    let pool = QueuePool {
+        queue,
+        made,
+        places,
+    };
+    (pool, opening)
+}
+
+impl QueuePool<Sole> {
     /// A pool of `n` new blocks, all home, and its opening pass, which has all parts. All its memory is taken here.
     pub fn make<R: Wait>(
         rt: &R,
@@ -116,24 +159,28 @@ impl SharedPool {
         ensures made { IfOk result (λ r. (r.0.made ≡ n) × IsOpening r.0 r.1) }
         ensures blocks { IfOk result (λ r. All IsFresh r.1.made) }
     {
-        let (queue, mut pass) = Blocks::ruled(alloc, n as usize)?;
+        let (queue, mut pass) = Items::ruled(alloc, n as usize)?;
         for _ in 0..n {
             let block = Sole::new(alloc)?;
             fill_once(rt, &queue, &mut pass, block);
         }
-        let opening = PoolPass {
-            pass,
-            parts: ALL_PARTS,
-            takes: 0,
-            puts: 0,
-            empties: 0,
-            fulls: 0,
-        };
-        Ok((SharedPool { queue, made: n }, opening))
+        Ok(opened(queue, pass, n, n))
+    }
+}
+
+impl<T: Drop> QueuePool<T> {
+    /// A pool with so many places and nothing in them, and its opening pass, which has all parts. All its memory is
+    /// taken here.
+    pub fn open(alloc: Global, places: u32) -> Result<(QueuePool<T>, QueuePass<T>), AllocError>
+        requires some { 1 ≤ places }
+        ensures made { IfOk result (λ r. (r.0.made ≡ 0) × (r.0.places ≡ places) × IsOpening r.0 r.1) }
+    {
+        let (queue, pass) = Items::ruled(alloc, places as usize)?;
+        Ok(opened(queue, pass, 0, places))
     }
 
     /// A new pass, which gets one part of `pass` and has counted nothing.
-    pub fn fork(&self, pass: &mut PoolPass) -> PoolPass
+    pub fn fork(&self, pass: &mut QueuePass<T>) -> QueuePass<T>
         requires own { IsOwn self.now pass.old }
         requires parts { 2 ≤ pass.old.parts }
         ensures kept { LostPart pass.old pass.new }
@@ -141,7 +188,7 @@ impl SharedPool {
     {
         let theirs = self.queue.another::<Parts>(&mut pass.pass);
         pass.parts -= 1;
-        PoolPass {
+        QueuePass {
             pass: theirs,
             parts: 1,
             takes: 0,
@@ -152,11 +199,11 @@ impl SharedPool {
     }
 
     /// Adds the parts and the counts of `spent` to those of `kept`. Both are this pool's.
-    pub fn gather<R: Wait>(&self, rt: &R, spent: PoolPass, kept: &mut PoolPass)
+    pub fn gather<R: Wait>(&self, rt: &R, spent: QueuePass<T>, kept: &mut QueuePass<T>)
         requires own { IsOwn self.now kept.old × IsOwn self.now spent }
         ensures gathered { Gathered kept.old spent kept.new }
     {
-        let PoolPass {
+        let QueuePass {
             pass: theirs,
             parts,
             takes,
@@ -176,40 +223,45 @@ impl SharedPool {
         kept.fulls = kept.fulls.saturating_add(fulls);
     }
 
-    /// The block that is home for longest, as its only holder. `Empty` only where the queue held no block at a step of
-    /// this call, and never where all passes are gathered into this one and its counts show a block home.
-    pub fn take<R: Wait>(&self, rt: &R, pass: &mut PoolPass) -> Result<Sole, Empty>
+    /// The item that is home for longest, a block as its only holder. `Empty` only where the queue held none at a step
+    /// of this call, and never where all passes are gathered into this one and its counts show one home (`sure`), or by
+    /// any weight more than nothing (`weighs`).
+    pub fn take<R: Wait>(&self, rt: &R, pass: &mut QueuePass<T>) -> Result<T, Empty>
         requires own { IsOwn self.now pass.old }
-        ensures taken { IfOk result (λ block. Took pass.old block pass.new) }
+        ensures taken { IfOk result (λ item. Took pass.old item pass.new) }
         ensures empty { IfErr result (λ e. (e.takes ≡ pass.old.takes) × FoundEmpty pass.old pass.new) }
         ensures same { IsSame pass.old pass.new }
         ensures sure { pass.old.parts ≡ 65536 → pass.old.takes < self.now.made + pass.old.puts → IsOk result }
+        ensures weighs { (h : T → ℕ) → pass.old.parts ≡ 65536
+            → sum_by h pass.old.taken < sum_by h pass.old.made + sum_by h pass.old.put → IsOk result }
     {
         match pop_once(rt, &self.queue, pass) {
-            Some(block) => Ok(block),
+            Some(item) => Ok(item),
             None => Err(Empty { takes: pass.takes }),
         }
     }
 
-    /// Brings a block home, and takes no memory. `Full`, with the block, only where the queue held as many blocks as
-    /// were made at a step of this call, and never where all passes are gathered into this one and its counts show
-    /// fewer home.
-    pub fn put<R: Wait>(&self, rt: &R, pass: &mut PoolPass, block: Sole) -> Result<(), Full>
+    /// Brings an item home, and takes no memory. `Full`, with the item, only where the queue held as many as it has
+    /// places at a step of this call, and never where all passes are gathered into this one and its counts show fewer
+    /// home than were made (`sure`), or than have a place (`room`).
+    pub fn put<R: Wait>(&self, rt: &R, pass: &mut QueuePass<T>, item: T) -> Result<(), Full<T>>
         requires own { IsOwn self.now pass.old }
-        ensures put { IfOk result (λ _. Put pass.old block pass.new) }
-        ensures full { IfErr result (λ full. (full.0 ≡ block) × FoundFull pass.old pass.new) }
+        ensures put { IfOk result (λ _. Put pass.old item pass.new) }
+        ensures full { IfErr result (λ full. (full.0 ≡ item) × FoundFull pass.old pass.new) }
         ensures same { IsSame pass.old pass.new }
         ensures sure { pass.old.parts ≡ 65536 → pass.old.puts < pass.old.takes → IsOk result }
+        ensures room { pass.old.parts ≡ 65536
+            → self.now.made + pass.old.puts < self.now.places + pass.old.takes → IsOk result }
     {
-        match push_once(rt, &self.queue, pass, block) {
+        match push_once(rt, &self.queue, pass, item) {
             Ok(()) => Ok(()),
-            Err(block) => Err(Full(block)),
+            Err(item) => Err(Full(item)),
         }
     }
 
-    /// The blocks that are home, where all passes are gathered into this one: those that were made and those that were
+    /// The items that are home, where all passes are gathered into this one: those that were made and those that were
     /// put, without those that were taken.
-    pub fn home<R: Wait>(&self, rt: &R, pass: &mut PoolPass) -> usize
+    pub fn home<R: Wait>(&self, rt: &R, pass: &mut QueuePass<T>) -> usize
         requires own { IsOwn self.now pass.old }
         requires all { pass.old.parts ≡ 65536 }
         ensures same { pass.new ≡ pass.old }
@@ -219,37 +271,44 @@ impl SharedPool {
         self.queue.len_as::<Takes, R>(rt, &mut pass.pass)
     }
 
-    /// The blocks that were made.
+    /// The items that were made.
     pub fn made(&self) -> u32
         ensures value { result ≡ self.now.made }
     {
         self.made
     }
+
+    /// How many items may be home at once.
+    pub fn places(&self) -> u32
+        ensures value { result ≡ self.now.places }
+    {
+        self.places
+    }
 }
 
-impl PoolPass {
-    /// The takes that were answered with a block.
+impl<T> QueuePass<T> {
+    /// The takes that were answered with an item.
     pub fn takes(&self) -> u64
         ensures value { result ≡ self.now.takes }
     {
         self.takes
     }
 
-    /// The puts that brought a block home.
+    /// The puts that brought an item home.
     pub fn puts(&self) -> u64
         ensures value { result ≡ self.now.puts }
     {
         self.puts
     }
 
-    /// The takes that found no block. It stays at `2^64 - 1`.
+    /// The takes that found none. It stays at `2^64 - 1`.
     pub fn empties(&self) -> u64
         ensures value { result ≡ self.now.empties }
     {
         self.empties
     }
 
-    /// The puts that found all blocks home. It stays at `2^64 - 1`.
+    /// The puts that found all places taken. It stays at `2^64 - 1`.
     pub fn fulls(&self) -> u64
         ensures value { result ≡ self.now.fulls }
     {

@@ -14,6 +14,8 @@ mod cuts;
 #[cfg(test)]
 mod desk;
 #[cfg(test)]
+mod examples;
+#[cfg(test)]
 mod machines;
 #[cfg(test)]
 mod pieces;

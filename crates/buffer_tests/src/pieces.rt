@@ -1,5 +1,5 @@
 //! What the clauses leave to examples: weights by their numbers, bytes across pieces, and that each call succeeds where
 //! there is memory.
-mod blocks;
+pub mod blocks;
 mod bytes;
 mod weights;

@@ -1,7 +1,8 @@
-//! A pool of one block; the shared pool's tests stand in `passes`.
+//! A pool of one block; the tests of shared pools stand in `passes` and `lists`.
 ghost use Rattle.std.specs.Prelude.{◌≡◌};
 ghost use Rattle.block_pool.specs.PoolState.{home};
 
+mod lists;
 mod passes;
 
 use block_pool::Pool;

@@ -1,24 +1,24 @@
 //! The rule under which threads share the pool's queue, and the kinds of step that keep it.
 //!
-//! Each pass knows its parts of the whole, the blocks that were made, and the blocks that it took and put. The rule is
-//! `Kept`: whatever the threads do, what the queue holds and all that was taken is what was made and all that was put.
+//! The queue holds items: blocks, or whole lists of blocks. Each pass knows its parts of the whole, what was made, and
+//! what it took and put. The rule is `Kept`: whatever the threads do, what the queue holds and all that was taken is
+//! what was made and all that was put.
 use crossbeam_queue::RuledArrayQueue;
 use crossbeam_queue::protocol::{Join, Lesson, Outcome, Protocol, Split};
-use raw_block::Sole;
 use std::collections::LinkedList;
 
 /// What a pass knows. No value of it is made.
-pub struct Tally {
+pub struct Tally<T> {
     pub parts: u32,
-    pub made: LinkedList<Sole>,
-    pub taken: LinkedList<Sole>,
-    pub put: LinkedList<Sole>,
+    pub made: LinkedList<T>,
+    pub taken: LinkedList<T>,
+    pub put: LinkedList<T>,
 }
 
 /// The queue starts empty, and its first pass has all parts.
 pub struct Fair;
 
-impl Protocol<Sole, Tally> for Fair {
+impl<T> Protocol<T, Tally<T>> for Fair {
     ghost use Rattle.std.specs.Prelude.{[]};
     ghost use Rattle.block_pool.specs.QueueRule.{tally, Kept};
 
@@ -27,61 +27,61 @@ impl Protocol<Sole, Tally> for Fair {
     ghost first = { tally 65536 [] [] [] };
 }
 
-/// The queue of a pool's blocks.
-pub type Blocks = RuledArrayQueue<Sole, Tally, Fair>;
+/// The queue of a pool's items.
+pub type Items<T> = RuledArrayQueue<T, Tally<T>, Fair>;
 
 /// A push while the pool is made.
 pub struct Fills;
 
-impl Outcome<Sole, Tally> for Fills {
+impl<T> Outcome<T, Tally<T>> for Fills {
     ghost use Rattle.std.specs.Prelude.{◌≡◌, [], ◌∷◌, ◌++◌};
     ghost use Rattle.block_pool.specs.QueueRule.{tally};
 
     ghost then = { λ v x w. w ≡ tally v.parts (v.made ++ x ∷ []) v.taken v.put };
 }
 
-impl Lesson<Sole, Tally> for Fills {
-    ghost use Rattle.block_pool.specs.QueueRule.{Balance};
+impl<T> Lesson<T, Tally<T>> for Fills {
+    ghost use Rattle.block_pool.specs.QueueRule.{Shown};
 
-    ghost fact = { Balance };
+    ghost fact = { Shown };
 }
 
-/// A pop: the pass took the block that leaves at the front.
+/// A pop: the pass took the item that leaves at the front.
 pub struct Takes;
 
-impl Outcome<Sole, Tally> for Takes {
+impl<T> Outcome<T, Tally<T>> for Takes {
     ghost use Rattle.std.specs.Prelude.{◌≡◌, [], ◌∷◌, ◌++◌};
     ghost use Rattle.block_pool.specs.QueueRule.{tally};
 
     ghost then = { λ v x w. w ≡ tally v.parts v.made (v.taken ++ x ∷ []) v.put };
 }
 
-impl Lesson<Sole, Tally> for Takes {
-    ghost use Rattle.block_pool.specs.QueueRule.{Balance};
+impl<T> Lesson<T, Tally<T>> for Takes {
+    ghost use Rattle.block_pool.specs.QueueRule.{Shown};
 
-    ghost fact = { Balance };
+    ghost fact = { Shown };
 }
 
-/// A push: the pass put the block that joins at the back.
+/// A push: the pass put the item that joins at the back.
 pub struct Puts;
 
-impl Outcome<Sole, Tally> for Puts {
+impl<T> Outcome<T, Tally<T>> for Puts {
     ghost use Rattle.std.specs.Prelude.{◌≡◌, [], ◌∷◌, ◌++◌};
     ghost use Rattle.block_pool.specs.QueueRule.{tally};
 
     ghost then = { λ v x w. w ≡ tally v.parts v.made v.taken (v.put ++ x ∷ []) };
 }
 
-impl Lesson<Sole, Tally> for Puts {
-    ghost use Rattle.block_pool.specs.QueueRule.{Balance};
+impl<T> Lesson<T, Tally<T>> for Puts {
+    ghost use Rattle.block_pool.specs.QueueRule.{Shown};
 
-    ghost fact = { Balance };
+    ghost fact = { Shown };
 }
 
 /// A fork moves one part to a new pass. A gather adds up parts and what was taken and put.
 pub struct Parts;
 
-impl Split<Tally> for Parts {
+impl<T> Split<Tally<T>> for Parts {
     ghost use Rattle.std.specs.Prelude.{◌-◌, []};
     ghost use Rattle.block_pool.specs.QueueRule.{tally};
 
@@ -90,7 +90,7 @@ impl Split<Tally> for Parts {
     ghost right = { λ v. tally 1 v.made [] [] };
 }
 
-impl Join<Tally> for Parts {
+impl<T> Join<Tally<T>> for Parts {
     ghost use Rattle.std.specs.Prelude.{◌+◌, [], ◌++◌};
     ghost use Rattle.block_pool.specs.QueueRule.{tally};
 
