@@ -1,35 +1,24 @@
 -- What all items of a table come to, and what they hold together.
-use Rattle.std.proofs.Common.{◌≡◌, ℕ, ◌-◌, ◌<◌, ◌≤◌, Bool, true, false, Option, List, [], ◌∷◌, map, ◌∙◌, refl, sym, ap, subst, arith}
+use Rattle.std.proofs.Common.{◌≡◌, ℕ, ◌-◌, ◌≤◌, Bool, true, false, List, [], ◌∷◌, map, ◌∙◌, refl, sym, ap, subst, arith}
 use Rattle.std.specs.List.{AllByRecursion}
-use Rattle.maximal_runs.specs.Cut.{AllNeighbours}
-use Rattle.maximal_runs.specs.Items.{AreItems}
-use Rattle.maximal_runs.proofs.Items.{unique_items}
-use Rattle.pcap_io.specs.Capture.{Packet}
-use Rattle.frame_layout.specs.Key.{key_of}
 use Rattle.ref_core.specs.WeightRule.{full_weight}
 use Rattle.skb.specs.SkbState.{buffer_least, is_sole}
-use Rattle.offload_model.specs.Mergeable.{IsMergeableWithin}
 use Rattle.offload_model.specs.Merged.{merged_of}
-use Rattle.offload_model.specs.Rounds.{Spread, is_of, key_in, number_of, items_of, runs_in}
-use Rattle.offload_model.proofs.Fronts.{fronts_too}
-use Rattle.offload_model.proofs.Items.{items_are, is_key_self}
-use Rattle.offload_model.proofs.OneQueue.{all_queued, one_queue}
+use Rattle.offload_model.specs.Rounds.{runs_in}
 use Rattle.frags.specs.Account.{Tests, Keeps}
 use Rattle.gro.specs.declared.packet.Packet.{Packet as Held}
 use Rattle.gro.specs.declared.item.Item.{Item}
-use Rattle.gro.specs.declared.run.Run.{Run}
 use Rattle.gro.specs.Held.{of_nothing, of_packet, of_packets, packet_of, count_of, counts_of, AreShared, WeighAtLeast}
-use Rattle.gro.specs.Items.{item_of, AreItemsOf}
-use Rattle.gro.specs.Runs.{held_of}
+use Rattle.gro.specs.Items.{item_of}
 use Rattle.gro.specs.Totals.{total, totals, AreSame}
 use Rattle.gro.specs.Table.{TableState, Received, of_runs, counts_in, counts_of_items, of_items, AreItemsFrom, KeepsTable, AreReady, ItemsWeighAtLeast}
-use Rattle.gro.proofs.Receiving.{counts_total}
+use Rattle.gro.specs.declared.packet_list.PacketList.{PacketList}
+use Rattle.gro.specs.declared.engine.Engine.{Engine}
+use Rattle.gro.specs.Slots.{held_of}
+use Rattle.gro.specs.Waiting.{held_in, AreTogether}
+use Rattle.gro.proofs.Lining.{counts_total, same_sums}
+use Rattle.gro.proofs.Merging.{all_runs}
 use Rattle.gro.proofs.Tables.{counts_totals}
-
-pub items_from : (rs : List Run) (is : List Item) → AreItemsOf rs is → AreItemsFrom (map held_of rs) is
-items_from [] is a = a
-items_from (r ∷ rs) [] a = absurd a
-items_from (r ∷ rs) (i ∷ is) a = (a.0, items_from rs is a.1)
 
 -- ---- run by run
 
@@ -150,15 +139,6 @@ received_least ps w t is r f s a = runs_least w t.runs is f (least_too w ps t.ru
 
 -- ---- the records
 
-all_runs : (segs : ℕ) (ps : List Packet) (runs : List (List Packet)) → AllNeighbours (λ (p q : Packet). p.number < q.number) ps → AreItems (IsMergeableWithin segs) is_of number_of ps runs
-    → runs ≡ runs_in segs ps
-all_runs segs ps runs r items =
-    let alone : Spread = λ key. 0 in
-    let none : (key : Option (List ℕ)) → alone key < 1 = λ key. omega arith in
-    let own : AreItems (IsMergeableWithin segs) is_of number_of ps (items_of segs alone 0 ps) = subst (λ z. AreItems (IsMergeableWithin segs) is_of number_of z (items_of segs alone 0 ps))
-    (all_queued alone ps none) (items_are segs alone 0 ps r) in
-    unique_items is_of number_of key_in (λ p. is_key_self (key_of p.frame)) (IsMergeableWithin segs) (fronts_too segs) ps runs (items_of segs alone 0 ps) items own ∙ one_queue segs alone ps none
-
 items_model : (rs : List (List Held)) (is : List Item) → AreItemsFrom rs is → map item_of is ≡ map merged_of (map (λ (r : List Held). map packet_of r) rs)
 items_model [] is a = ap (map item_of) a
 items_model (r ∷ rs) [] a = absurd a
@@ -166,3 +146,11 @@ items_model (r ∷ rs) (i ∷ is) a = ap (λ z. z ∷ map item_of is) a.0.0 ∙ 
 
 pub received_merged : (ps : List Held) (t : TableState) (is : List Item) → Received ps t → AreItemsFrom t.runs is → map item_of is ≡ map merged_of (runs_in t.segs (map packet_of ps))
 received_merged ps t is r a = items_model t.runs is a ∙ ap (map merged_of) (all_runs t.segs (map packet_of ps) (map (λ (r : List Held). map packet_of r) t.runs) r.are.rising r.are.runs)
+
+-- what runs hold is what the packets of the list do
+pub account_same : (l : PacketList) (e : Engine) → AreTogether l e → (u : Tests) (m : ℕ)
+    → ((of_runs (held_in l e)).held u m ≡ (of_packets (held_of l)).held u m) × ((of_runs (held_in l e)).homes u.blocks m ≡ (of_packets (held_of l)).homes u.blocks m)
+account_same l e a u m = (
+  runs_held u m (held_in l e) ∙ same_sums l e a (λ p. (of_packet p).held u m) ∙ sym (packets_held u m (held_of l)),
+  runs_home u.blocks m (held_in l e) ∙ same_sums l e a (λ p. (of_packet p).homes u.blocks m) ∙ sym (packets_home u.blocks m (held_of l)),
+)

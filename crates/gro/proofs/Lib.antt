@@ -1,15 +1,18 @@
-mod Flowing
-mod Keys
+mod Chains
 mod Comes
+mod Emptying
+mod Flowing
+mod Indexing
 mod Joined
+mod Judged
+mod Keys
 mod Lent
+mod Lining
+mod Merging
 mod Packets
 mod Placing
-mod Running
-mod Taking
-mod Indexing
-mod Receiving
-mod Judged
-mod Tables
 mod Releasing
+mod Running
+mod Tables
+mod Taking
 pub mod Finishing

@@ -1,81 +1,109 @@
 -- Places and items, one after the other.
-use Rattle.std.proofs.Common.{◌≡◌, ℕ, zero, suc, ◌+◌, ◌*◌, ◌<◌, ◌≤◌, List, [], ◌∷◌, ◌++◌, length, get_or, drop, refl, sym, ap, ◌∙◌, subst, arith, append_assoc}
-use Rattle.std.specs.List.{AllByRecursion}
-use Rattle.std.specs.Prelude.{IfOk, Ok, Err, ◌==◌, false, true}
+use Rattle.std.proofs.Common.{◌≡◌, ℕ, zero, suc, ◌+◌, ◌-◌, ◌<◌, ◌≤◌, List, [], ◌∷◌, ◌++◌, length, get_or, map, drop, refl, sym, ap, ◌∙◌, subst, arith, append_assoc}
+use Rattle.std.specs.Prelude.{IfOk, Ok, Err}
 use Rattle.std.specs.declared.alloc.AllocError.{AllocError}
 use Rattle.std.specs.declared.result.Result.{Result}
 use Rattle.std.proofs.lemmas.List.{drop_more, append-nil, nil_from_length, length-drop}
+use Rattle.gro.specs.declared.packet.Packet.{Packet as Held}
+use Rattle.gro.specs.declared.packet_list.PacketList.{PacketList}
+use Rattle.gro.specs.declared.slot.Slot.{Slot}
+use Rattle.gro.specs.declared.run.Run.{Run}
+use Rattle.gro.specs.declared.engine.Engine.{Engine}
 use Rattle.gro.specs.declared.places.Places.{Places}
 use Rattle.gro.specs.declared.places.Places.TheVariants.{Alone, Several}
 use Rattle.gro.specs.declared.item.Item.{Item}
-use Rattle.gro.specs.declared.run.Run.{Run}
-use Rattle.gro.specs.declared.packet.Packet.{Packet as Held}
 use Rattle.gro.specs.Build.{pieces_in, free_in}
-use Rattle.gro.specs.Held.{counts_of}
-use Rattle.gro.specs.Items.{AreItemsOf}
+use Rattle.gro.specs.Chains.{chain_of}
+use Rattle.gro.specs.Held.{count_of, counts_of}
 use Rattle.gro.specs.Places.{IsEmpty, AreEmpty, AreSeveral, IsPlaceOf, ArePlacesOf}
-use Rattle.gro.specs.Runs.{IsRun, held_of}
+use Rattle.gro.specs.Slots.{held_of, ArePaired}
+use Rattle.gro.specs.Table.{AreItemsFrom}
+use Rattle.gro.specs.Totals.{total, totals}
+use Rattle.gro.specs.Waiting.{chosen, lined_up, run_held, AreTogether}
+use Rattle.gro.proofs.Chains.{chain_step}
+use Rattle.gro.proofs.Lining.{whole_at, counts_total, same_sums}
 
--- two spares each, and the pieces that they come to
-pub counts_are : (ps : List Held) → counts_of ps ≡ pieces_in ps + 2 * length ps
-counts_are [] = refl
-counts_are (p ∷ ps) = omega (arith, counts_are ps)
+-- the pieces that packets come to are fewer than what they hold
+pub pieces_few : (ps : List Held) → pieces_in ps ≤ counts_of ps
+pieces_few [] = omega arith
+pieces_few (p ∷ ps) = omega (arith, pieces_few ps)
 
-pub pieces_are : (ps : List Held) → length ps ≤ pieces_in ps
-pieces_are [] = omega arith
-pieces_are (p ∷ ps) = omega (arith, pieces_are ps)
+one_of_all : (f : Held → ℕ) (g : Run → List Held) (rs : List Run) (i : ℕ) (d : Run) → i < length rs → total f (g (get_or rs i d)) ≤ totals f (map g rs)
+one_of_all f g [] i d h = absurd (omega (arith, h))
+one_of_all f g (r ∷ rs) zero d h = omega arith
+one_of_all f g (r ∷ rs) (suc i) d h = omega (arith, one_of_all f g rs i d (omega (arith, h)))
 
-pub some_rest : (n : ℕ) → false ≡ (n == 0) → 1 ≤ n
-some_rest zero e = absurd (let t : false ≡ true = e in cc)
-some_rest (suc n) e = omega arith
+-- those of one run are no more than all packets hold
+pub pieces_at : (l : PacketList) (e : Engine) (i : ℕ) (r : Run) → AreTogether l e → r ≡ get_or e.runs.items i r → i < length e.runs.items
+    → pieces_in (run_held l e.next.items r) ≤ counts_of (held_of l)
+pieces_at l e i r a is h =
+    omega (
+      arith,
+      pieces_few (run_held l e.next.items r),
+      counts_total (run_held l e.next.items r),
+      ap (λ (z : Run). total count_of (run_held l e.next.items z)) is,
+      one_of_all count_of (run_held l e.next.items) e.runs.items i r h,
+      same_sums l e a count_of,
+      counts_total (held_of l),
+    )
 
--- places of several packets serve the run that has so many
-several_are : (r : Run) (count free : ℕ) (p : Places) → 1 ≤ length r.rest.items → pieces_in (held_of r) ≤ count → free_in (held_of r) ≤ free
-    → AreSeveral count free p → IsPlaceOf r p
-several_are r count free (Alone out) h a b s = absurd s
-several_are r count free (Several pieces out) h a b s = (h, (s.0, omega (arith, a, s.1), omega (arith, b, s.2)))
+-- the pieces of a chain's first packet, and of those behind it
+pub pieces_step : (l : PacketList) (next : List ℕ) (left k : ℕ) (d : Slot) → ArePaired l → 0 < left → k < length l.slots.items
+    → pieces_in (chosen (lined_up l) (chain_of next left k))
+    ≡ (length (get_or l.slots.items k d).skb.rest + 1) + pieces_in (chosen (lined_up l) (chain_of next (left - 1) (get_or next k 0)))
+pieces_step l next left k d paired h inside =
+    let rest : List ℕ = chain_of next (left - 1) (get_or next k 0) in
+    let w = whole_at l.slots.items l.spares.items k d paired inside in
+    ap (λ (z : List ℕ). pieces_in (chosen (lined_up l) z)) (chain_step next left k h)
+    ∙ ap (λ (z : List Held). pieces_in (z ++ chosen (lined_up l) rest)) w.1
 
-pub several_serve : (r : Run) (count free : ℕ) (found : Result Places AllocError) → 1 ≤ length r.rest.items → pieces_in (held_of r) ≤ count
-    → free_in (held_of r) ≤ free → IfOk found (λ p. AreSeveral count free p) → IfOk found (λ p. IsPlaceOf r p)
-several_serve r count free (Ok p) h a b s = several_are r count free p h a b s
-several_serve r count free (Err e) h a b s = tt
+-- places of several packets serve packets that are as many
+several_are : (ps : List Held) (count free : ℕ) (p : Places) → 2 ≤ length ps → pieces_in ps ≤ count → free_in ps ≤ free
+    → AreSeveral count free p → IsPlaceOf ps p
+several_are ps count free (Alone out) h a b s = absurd s
+several_are ps count free (Several pieces out) h a b s = (h, (s.0, omega (arith, a, s.1), omega (arith, b, s.2)))
+
+pub several_serve : (ps : List Held) (count free : ℕ) (found : Result Places AllocError) → 2 ≤ length ps → pieces_in ps ≤ count
+    → free_in ps ≤ free → IfOk found (λ p. AreSeveral count free p) → IfOk found (λ p. IsPlaceOf ps p)
+several_serve ps count free (Ok p) h a b s = several_are ps count free p h a b s
+several_serve ps count free (Err e) h a b s = tt
 
 pub empty_more : (ps : List Places) (p : Places) → AreEmpty ps → IsEmpty p → AreEmpty (ps ++ p ∷ [])
 empty_more [] p a e = (e, tt)
 empty_more (q ∷ qs) p a e = (a.0, empty_more qs p a.1 e)
 
-pub run_at : (rs : List Run) (i : ℕ) (d : Run) → AllByRecursion IsRun rs → i < length rs → IsRun (get_or rs i d)
-run_at [] i d a h = absurd (omega arith)
-run_at (r ∷ rs) zero d a h = a.0
-run_at (r ∷ rs) (suc i) d a h = run_at rs i d a.1 (omega arith)
+-- the run at a place comes first of those from there on
+pub run_first : (rs : List Run) (i : ℕ) (r : Run) → i < length rs → r ≡ get_or rs i r → drop i rs ≡ r ∷ drop (i + 1) rs
+run_first rs i r h e = drop_more rs i r h ∙ ap (λ (z : Run). z ∷ drop (i + 1) rs) (sym e)
 
-pub places_more : (runs : List Run) (i : ℕ) (r : Run) (all : List Places) (p : Places) → i < length runs → r ≡ get_or runs i r → IsPlaceOf r p
-    → ((qs : List Places) → ArePlacesOf (drop i runs) qs → ArePlacesOf runs (all ++ qs))
-    → (qs : List Places) → ArePlacesOf (drop (i + 1) runs) qs → ArePlacesOf runs ((all ++ p ∷ []) ++ qs)
-places_more runs i r all p h e is f qs a =
-    let g : drop i runs ≡ r ∷ drop (i + 1) runs = drop_more runs i r h ∙ ap (λ (z : Run). z ∷ drop (i + 1) runs) (sym e) in
-    subst (ArePlacesOf runs) (sym (append_assoc all (p ∷ []) qs)) (f (p ∷ qs) (subst (λ (z : List Run). ArePlacesOf z (p ∷ qs)) (sym g) (is, a)))
+pub places_more : (g : Run → List Held) (rs : List Run) (i : ℕ) (r : Run) (all : List Places) (p : Places) → i < length rs → r ≡ get_or rs i r → IsPlaceOf (g r) p
+    → ((qs : List Places) → ArePlacesOf (map g (drop i rs)) qs → ArePlacesOf (map g rs) (all ++ qs))
+    → (qs : List Places) → ArePlacesOf (map g (drop (i + 1) rs)) qs → ArePlacesOf (map g rs) ((all ++ p ∷ []) ++ qs)
+places_more g rs i r all p h e is f qs a =
+    subst (ArePlacesOf (map g rs)) (sym (append_assoc all (p ∷ []) qs))
+    (f (p ∷ qs) (subst (λ (z : List Run). ArePlacesOf (map g z) (p ∷ qs)) (sym (run_first rs i r h e)) (is, a)))
 
-pub places_end : (runs : List Run) (all : List Places) (n : ℕ) → n ≡ length runs
-    → ((qs : List Places) → ArePlacesOf (drop n runs) qs → ArePlacesOf runs (all ++ qs)) → ArePlacesOf runs all
-places_end runs all n e f =
-    let g : drop n runs ≡ [] = nil_from_length (drop n runs) (omega (arith, length-drop n runs, e)) in
-    subst (ArePlacesOf runs) (append-nil all) (f [] (subst (λ (z : List Run). ArePlacesOf z []) (sym g) refl))
+pub no_places : (g : Run → List Held) (rs : List Run) (i : ℕ) → i < length rs → ArePlacesOf (map g (drop i rs)) [] → ⊥
+no_places g [] i h a = absurd (omega (arith, h))
+no_places g (r ∷ rs) zero h a = a
+no_places g (r ∷ rs) (suc i) h a = no_places g rs i (omega (arith, h)) a
 
--- the first run's places are the first
-pub first_place : (r : Run) (rs : List Run) (p : Places) (ps : List Places) → ArePlacesOf (r ∷ rs) (p ∷ ps) → IsPlaceOf r p × ArePlacesOf rs ps
-first_place r rs p ps a = a
+none_left : (rs : List Run) (n : ℕ) → n ≡ length rs → drop n rs ≡ []
+none_left rs n e = nil_from_length (drop n rs) (omega (arith, length-drop n rs, e))
 
-pub some_place : (r : Run) (rs : List Run) → ArePlacesOf (r ∷ rs) [] → ⊥
-some_place r rs a = a
+pub places_end : (g : Run → List Held) (rs : List Run) (all : List Places) (n : ℕ) → n ≡ length rs
+    → ((qs : List Places) → ArePlacesOf (map g (drop n rs)) qs → ArePlacesOf (map g rs) (all ++ qs)) → ArePlacesOf (map g rs) all
+places_end g rs all n e f =
+    subst (ArePlacesOf (map g rs)) (append-nil all) (f [] (subst (λ (z : List Run). ArePlacesOf (map g z) []) (sym (none_left rs n e)) refl))
 
-pub no_place : (ps : List Places) → ArePlacesOf [] ps → ps ≡ []
-no_place ps a = a
+-- one item more
+pub items_more : (all : List (List Held)) (hs : List Held) (hss : List (List Held)) (done more : List Item) (i : Item) → more ≡ done ++ i ∷ []
+    → AreItemsFrom (hs ∷ []) (i ∷ []) → ((is : List Item) → AreItemsFrom (hs ∷ hss) is → AreItemsFrom all (done ++ is))
+    → (is : List Item) → AreItemsFrom hss is → AreItemsFrom all (more ++ is)
+items_more all hs hss done more i m one f js a =
+    subst (AreItemsFrom all) (sym (append_assoc done (i ∷ []) js) ∙ ap (λ (z : List Item). z ++ js) (sym m)) (f (i ∷ js) (one.0, a))
 
-pub items_more : (runs rs : List Run) (r : Run) (ss : List Run) (done more : List Item) (i : Item) → rs ≡ r ∷ ss → more ≡ done ++ i ∷ []
-    → AreItemsOf (r ∷ []) (i ∷ [])
-    → ((is : List Item) → AreItemsOf rs is → AreItemsOf runs (done ++ is))
-    → (is : List Item) → AreItemsOf ss is → AreItemsOf runs (more ++ is)
-items_more runs rs r ss done more i e m is f js a =
-    subst (AreItemsOf runs) (sym (append_assoc done (i ∷ []) js) ∙ ap (λ (z : List Item). z ++ js) (sym m))
-    (f (i ∷ js) (subst (λ (z : List Run). AreItemsOf z (i ∷ js)) (sym e) (is.0, a)))
+pub items_end : (all : List (List Held)) (g : Run → List Held) (rs : List Run) (done : List Item) (n : ℕ) → n ≡ length rs
+    → ((is : List Item) → AreItemsFrom (map g (drop n rs)) is → AreItemsFrom all (done ++ is)) → AreItemsFrom all done
+items_end all g rs done n e f =
+    subst (AreItemsFrom all) (append-nil done) (f [] (subst (λ (z : List Run). AreItemsFrom (map g z) []) (sym (none_left rs n e)) refl))

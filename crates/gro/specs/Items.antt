@@ -1,17 +1,15 @@
 -- What a run of packets in buffers comes to.
-use Rattle.std.specs.Prelude.{ℕ, ◌≡◌, ◌+◌, ◌≤◌, List, [], ◌∷◌, length}
+use Rattle.std.specs.Prelude.{ℕ, ◌≡◌, ◌+◌, ◌≤◌, List, length}
 use Rattle.ref_core.specs.WeightRule.{full_weight}
 use Rattle.frags.specs.Account.{Account, Keeps, both, of_outcomes}
 use Rattle.frags.specs.OutcomesState.{OutcomesState}
 use Rattle.skb.specs.SkbState.{SkbState, buffer_bytes, buffer_least, of_buffer}
 use Rattle.skb.specs.Moving.{given_back}
 use Rattle.skb.specs.Fronts.{IsFronted}
-use Rattle.offload_model.specs.Merged.{Merged, merged_of}
+use Rattle.offload_model.specs.Merged.{Merged}
 use Rattle.gro.specs.declared.packet.Packet.{Packet as Held}
 use Rattle.gro.specs.declared.item.Item.{Item}
-use Rattle.gro.specs.declared.run.Run.{Run}
 use Rattle.gro.specs.Held.{of_packets, AreLentFrom, AreShared, counts_of, WeighAtLeast}
-use Rattle.gro.specs.Runs.{held_of, packets_of}
 
 -- an item, without where its bytes lie
 abbrev pub item_of : Item → Merged
@@ -51,9 +49,3 @@ pub record HoldsAll (ps : List Held) (s : SkbState) (o : OutcomesState) : Type 0
 
 abbrev pub IsItemOf : List Held → Item → Type 0
 IsItemOf ps item = HoldsAll ps item.skb item.outcomes
-
--- each run's item, in order
-abbrev pub AreItemsOf : List Run → List Item → Type 0
-AreItemsOf [] items = items ≡ []
-AreItemsOf (r ∷ rs) [] = ⊥
-AreItemsOf (r ∷ rs) (i ∷ is) = ((item_of i ≡ merged_of (packets_of r)) × IsItemOf (held_of r) i) × AreItemsOf rs is

@@ -1,10 +1,12 @@
 pub mod Build
+pub mod Chains
+pub mod Engine
+pub mod Flows
 pub mod Held
+pub mod Index
 pub mod Items
 pub mod Places
-pub mod Runs
-pub mod Flows
-pub mod Index
-pub mod Totals
-pub mod Steps
+pub mod Slots
 pub mod Table
+pub mod Totals
+pub mod Waiting

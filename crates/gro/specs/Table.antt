@@ -12,11 +12,14 @@ use Rattle.offload_model.specs.Rounds.{is_of, number_of}
 use Rattle.offload_model.specs.Merged.{merged_of}
 use Rattle.gro.specs.declared.packet.Packet.{Packet as Held}
 use Rattle.gro.specs.declared.item.Item.{Item}
-use Rattle.gro.specs.declared.runs.Runs.{Runs}
-use Rattle.gro.specs.Held.{packet_of, of_packets, of_nothing, count_of, counts_of, AreLentFrom}
+use Rattle.gro.specs.declared.packet_list.PacketList.{PacketList}
+use Rattle.gro.specs.declared.engine.Engine.{Engine}
+use Rattle.gro.specs.Held.{packet_of, of_packets, of_nothing, counts_of, AreLentFrom}
 use Rattle.gro.specs.Items.{item_of, item_count, of_item, IsItemOf}
-use Rattle.gro.specs.Steps.{held_in, packets_in, AreRuns, HasPlaces}
-use Rattle.gro.specs.Totals.{totals, AreSame}
+use Rattle.gro.specs.Slots.{packet_in, held_of, HasSlots}
+use Rattle.gro.specs.Engine.{runs_of, HasPlaces}
+use Rattle.gro.specs.Waiting.{AreTogether}
+use Rattle.gro.specs.Totals.{AreSame}
 
 -- the runs so far, in the order of their first packets; how many packets may come, and how many have; what the next
 -- one's number has to reach; and how many packets a run may have
@@ -31,13 +34,17 @@ pub record TableState : Type 0 where
 abbrev pub no_table : ℕ → TableState
 no_table segs = record { runs = []; limit = 0; received = 0; above = 0; segs = segs }
 
--- what is known of a table's runs, and how many blocks and parts they hold
-pub record IsTable (runs : Runs) (limit received above count : ℕ) : Type 0 where
-  pub are : AreRuns runs
-  pub early : AllByRecursion (λ run. first_number number_of run < above) (packets_in runs)
-  pub places : HasPlaces runs (limit - received)
+-- what is known of a table's packets and runs, and how many blocks and parts they hold
+pub record IsTable (list : PacketList) (engine : Engine) (limit received above count : ℕ) : Type 0 where
+  pub together : AreTogether list engine
+  pub early : AllByRecursion (λ run. first_number number_of run < above)
+      (runs_of (map packet_in list.slots.items) engine)
+  pub many : length list.slots.items ≡ received
+  pub slots : HasSlots list (limit - received)
+  pub places : HasPlaces engine (limit - received)
+  pub linked : limit ≤ length engine.next.items
   pub within : received ≤ limit
-  pub counted : count ≡ totals count_of (held_in runs)
+  pub counted : count ≡ counts_of (held_of list)
   pub few : count ≤ received * 262147
 
 -- the runs of all flows of these packets, of at most `segs` packets each, which stand in the order of their numbers

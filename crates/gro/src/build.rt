@@ -10,9 +10,13 @@ ghost use Rattle.skb.specs.SkbState.{buffer_bytes, buffer_size, head_size, is_so
 ghost use Rattle.skb.specs.Fronts.{IsFronted, front_of};
 ghost use Rattle.gro.specs.Build.{build, IsBuild, IsSameBlock, TakesBuffer, TakesPackets, AreJoinable, sizes_behind};
 ghost use Rattle.gro.specs.Build.{pieces_in, free_in, payloads};
+ghost use Rattle.gro.specs.Chains.{behind, AreDistinct};
 ghost use Rattle.gro.specs.Items.{HoldsAll};
+ghost use Rattle.gro.specs.Waiting.{chosen, AreThere, Empties};
 
 use crate::Packet;
+use crate::run::Run;
+use crate::waiting::take_at;
 use frags::{Outcomes, PieceBuilder};
 use frame_layout::Layout;
 use header_fill::merge_headers;
@@ -93,30 +97,41 @@ fn take_packet(
     take_buffer(skb, at, block, filled, pieces, out)
 }
 
-// The same of packets, one after the other.
+// The same of the packets behind a run's first one, one after the other. They wait at the run's indices.
 fn take_packets(
-    packets: VecDeque<Packet>,
+    waiting: &mut VecDeque<Option<Packet>>,
+    next: &[u32],
+    run: &Run,
     at: usize,
     block: &mut Sole,
     filled: usize,
     pieces: &mut PieceBuilder,
     out: &mut Outcomes,
 ) -> usize
-    requires each { AreJoinable at packets.items }
+    requires first { run.now.first < length next.now }
+    requires linked { length waiting.old.items ≤ length next.now }
+    requires there { AreThere waiting.old.items (behind next.now run.now) }
+    requires distinct { AreDistinct (behind next.now run.now) }
+    requires each { AreJoinable at (chosen waiting.old.items (behind next.now run.now)) }
     requires order { at ≤ filled }
     requires build { IsBuild (build block.old filled pieces.old.pieces out.old) }
-    requires reserved { pieces_in packets.items ≤ pieces.old.room }
-    requires places { free_in packets.items ≤ out.old.spare }
-    requires small { filled + size_of pieces.old.pieces + sizes_behind at packets.items < 2 ^ 31 }
-    ensures takes { TakesPackets packets.items at (build block.old filled pieces.old.pieces out.old)
-        (build block.new result pieces.new.pieces out.new) }
+    requires reserved { pieces_in (chosen waiting.old.items (behind next.now run.now)) ≤ pieces.old.room }
+    requires places { free_in (chosen waiting.old.items (behind next.now run.now)) ≤ out.old.spare }
+    requires small { filled + size_of pieces.old.pieces
+        + sizes_behind at (chosen waiting.old.items (behind next.now run.now)) < 2 ^ 31 }
+    ensures takes { TakesPackets (chosen waiting.old.items (behind next.now run.now)) at
+        (build block.old filled pieces.old.pieces out.old) (build block.new result pieces.new.pieces out.new) }
+    ensures empties { Empties (behind next.now run.now) waiting.old.items waiting.new.items }
 {
-    let mut packets = packets;
     let mut end = filled;
-    while let Some(packet) = packets.pop_front() {
+    let mut k = next[run.first as usize];
+    let mut left = run.more;
+    while left > 0 {
+        let packet = take_at(waiting, k);
         end = take_packet(packet, at, block, end, pieces, out);
+        k = next[k as usize];
+        left -= 1;
     }
-    packets.destroy_empty();
     end
 }
 
@@ -142,33 +157,42 @@ fn put_headers(block: &mut Sole, head: &[u8], layout: &Layout, flags: u8, payloa
     merge_headers(range, layout.headers(), flags, payload);
 }
 
-/// Packets of one layout as one buffer: the first one's headers, merged, and all payloads. Nothing is copied but what
-/// the head must have, and no packet's head is written. `pieces` and `out` are empty and have their places.
+/// The packets of a run, whose layout this is, as one buffer: the first one's headers, merged, and all payloads. The
+/// others wait at the run's indices. Nothing is copied but what the head must have, and no packet's head is written.
+/// `pieces` and `out` are empty and have their places.
 pub(crate) fn join(
     first: Packet,
-    rest: VecDeque<Packet>,
+    waiting: &mut VecDeque<Option<Packet>>,
+    next: &[u32],
+    run: &Run,
     layout: &Layout,
-    flags: u8,
-    payload: Partial,
     pieces: PieceBuilder,
     out: Outcomes,
 ) -> (Skb, Outcomes)
+    requires first { run.now.first < length next.now }
+    requires linked { length waiting.old.items ≤ length next.now }
+    requires there { AreThere waiting.old.items (behind next.now run.now) }
+    requires distinct { AreDistinct (behind next.now run.now) }
     requires laid { AreLaid 0 layout.now.headers layout.now.payload_at }
     requires low { layout.now.payload_at ≤ 200 }
-    requires ranges { AtHeaders (IsLengthInRange (layout.now.payload_at + payload.len)) layout.now.headers }
-    requires few { layout.now.payload_at + payload.len < 2 ^ 31 }
-    requires payload { StandsFor payload (payloads layout.now.payload_at (first ∷ rest.items)) }
-    requires each { AreJoinable layout.now.payload_at (first ∷ rest.items) }
-    requires small { layout.now.payload_at + sizes_behind layout.now.payload_at (first ∷ rest.items) < 2 ^ 31 }
+    requires ranges { AtHeaders (IsLengthInRange (layout.now.payload_at + run.now.payload.len)) layout.now.headers }
+    requires few { layout.now.payload_at + run.now.payload.len < 2 ^ 31 }
+    requires payload { StandsFor run.now.payload (payloads layout.now.payload_at
+        (first ∷ chosen waiting.old.items (behind next.now run.now))) }
+    requires each { AreJoinable layout.now.payload_at
+        (first ∷ chosen waiting.old.items (behind next.now run.now)) }
+    requires small { layout.now.payload_at + sizes_behind layout.now.payload_at
+        (first ∷ chosen waiting.old.items (behind next.now run.now)) < 2 ^ 31 }
     requires empty { (pieces.pieces ≡ []) × (out.soles ≡ []) × (out.receipts ≡ []) }
-    requires reserved { pieces_in (first ∷ rest.items) ≤ pieces.room }
-    requires places { free_in (first ∷ rest.items) ≤ out.spare }
+    requires reserved { pieces_in (first ∷ chosen waiting.old.items (behind next.now run.now)) ≤ pieces.room }
+    requires places { free_in (first ∷ chosen waiting.old.items (behind next.now run.now)) ≤ out.spare }
     ensures bytes { (last : List ℕ)
-        → AtHeaders (HasFlags flags last) layout.now.headers
+        → AtHeaders (HasFlags run.now.flags last) layout.now.headers
         → buffer_bytes result.0 ≡ merged_frame layout.now (buffer_bytes first.skb) last
-        (payloads layout.now.payload_at (first ∷ rest.items)) }
-    ensures holds { HoldsAll (first ∷ rest.items) result.0 result.1 }
+        (payloads layout.now.payload_at (first ∷ chosen waiting.old.items (behind next.now run.now))) }
+    ensures holds { HoldsAll (first ∷ chosen waiting.old.items (behind next.now run.now)) result.0 result.1 }
     ensures head { (is_sole result.0.head ≡ true) × (result.0.from ≡ 64) }
+    ensures empties { Empties (behind next.now run.now) waiting.old.items waiting.new.items }
 {
     let Packet {
         skb,
@@ -183,10 +207,19 @@ pub(crate) fn join(
     let mut block = spare1;
     let mut pieces = pieces;
     let mut out = out;
-    put_headers(&mut block, skb.head(), layout, flags, payload);
+    put_headers(&mut block, skb.head(), layout, run.flags, run.payload);
     out.keep_sole(spare2);
     let one = take_buffer(skb, at, &mut block, at, &mut pieces, &mut out);
-    let all = take_packets(rest, at, &mut block, one, &mut pieces, &mut out);
+    let all = take_packets(
+        waiting,
+        next,
+        run,
+        at,
+        &mut block,
+        one,
+        &mut pieces,
+        &mut out,
+    );
     let rest = pieces.finish();
     let _ = rest.len();
     (Skb::new(block, HEADROOM, HEADROOM + all, rest), out)

@@ -11,14 +11,14 @@ use std::collections::HashMap;
 /// Where the open run of each flow stands in the list of runs. A flow's key leads to its place in a slab, so that the
 /// next run of the flow takes the place of a closed one without a look at the keys.
 #[derive(Drop)]
-pub(crate) struct Flows {
+pub struct Flows {
     pub open: Slab<usize>,
     pub slots: HashMap<Key, usize>,
 }
 
 /// The slot and the place of a flow's open run.
 #[derive(Clone, Copy, Drop)]
-pub(crate) struct Found {
+pub struct Found {
     pub slot: usize,
     pub place: usize,
 }

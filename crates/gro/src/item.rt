@@ -1,24 +1,25 @@
 //! What a run comes to.
-ghost use Rattle.std.specs.Prelude.{◌≡◌, ◌+◌, ◌≤◌, ◌∷◌, [], length, map, vec_len, vec_capacity};
-ghost use Rattle.std.specs.List.{AllByRecursion};
+ghost use Rattle.std.specs.Prelude.{◌≡◌, ◌+◌, ◌<◌, ◌≤◌, ◌∷◌, [], ℕ, length, map, vec_len, vec_capacity};
 ghost use Rattle.offload_model.specs.Merged.{merged_of};
 ghost use Rattle.offload_model.specs.Written.{head_of};
 ghost use Rattle.merge_rule.specs.Runs.{IsRunOf};
-ghost use Rattle.gro.specs.Build.{pieces_in, free_in};
-ghost use Rattle.gro.specs.Held.{packet_of, AreHeld};
-ghost use Rattle.gro.specs.Items.{item_of, IsItemOf, AreItemsOf};
 ghost use Rattle.frags.specs.OutcomesState.{IsBare};
+ghost use Rattle.gro.specs.Build.{pieces_in, free_in};
+ghost use Rattle.gro.specs.Chains.{behind, indices, AreDistinct};
+ghost use Rattle.gro.specs.Held.{packet_of, AreHeld};
+ghost use Rattle.gro.specs.Items.{item_of, IsItemOf};
 ghost use Rattle.gro.specs.Places.{IsPlaceOf, ArePlacesOf};
-ghost use Rattle.gro.specs.Runs.{IsRun, held_of, packets_of};
+ghost use Rattle.gro.specs.Table.{AreItemsFrom};
+ghost use Rattle.gro.specs.Waiting.{found, chosen, held_at, AreThere, Empties, IsRun, AreWaiting};
 
 use crate::Packet;
 use crate::build::join;
+use crate::engine::Engine;
 use crate::places::Places;
 use crate::run::Run;
+use crate::waiting::take_at;
 use frags::{Outcomes, PieceBuilder};
 use frame_layout::Layout;
-use inet_sum::Partial;
-use merge_rule::Progress;
 use pcap_io::OffHead2;
 use skb::Skb;
 use std::collections::VecDeque;
@@ -78,38 +79,6 @@ impl Item {
     }
 }
 
-impl Run {
-    /// The record that the run comes to, in places that were made before. It takes no memory.
-    pub(crate) fn into_item(self, places: Places) -> Item
-        requires run { IsRun self }
-        requires places { IsPlaceOf self places }
-        ensures item { item_of result ≡ merged_of (packets_of self) }
-        ensures holds { IsItemOf (held_of self) result }
-    {
-        let Run {
-            first,
-            rest,
-            count: _,
-            layout,
-            payload,
-            flags,
-            progress,
-        } = self;
-        match places {
-            Places::Alone(outcomes) => {
-                rest.destroy_empty();
-                single(first, outcomes)
-            }
-            Places::Several(pieces, outcomes) => {
-                let Some(layout) = layout else { unreachable!() };
-                merged(
-                    first, rest, &layout, payload, flags, progress, pieces, outcomes,
-                )
-            }
-        }
-    }
-}
-
 // A packet that is alone stays as it is.
 fn single(first: Packet, outcomes: Outcomes) -> Item
     requires held { AreHeld (first ∷ []) }
@@ -143,33 +112,38 @@ fn single(first: Packet, outcomes: Outcomes) -> Item
     }
 }
 
-// Packets that are merged.
+// The packets of a run that are merged. Those behind the first one wait at the run's indices.
 fn merged(
     first: Packet,
-    rest: VecDeque<Packet>,
+    waiting: &mut VecDeque<Option<Packet>>,
+    next: &[u32],
+    run: &Run,
     layout: &Layout,
-    payload: Partial,
-    flags: u8,
-    progress: Progress,
     pieces: PieceBuilder,
     outcomes: Outcomes,
 ) -> Item
-    requires run { IsRunOf layout.now payload flags progress (packet_of first)
-        (packet_of first ∷ map packet_of rest.items) }
-    requires several { 1 ≤ length rest.items }
-    requires held { AreHeld (first ∷ rest.items) }
+    requires first { run.now.first < length next.now }
+    requires linked { length waiting.old.items ≤ length next.now }
+    requires there { AreThere waiting.old.items (behind next.now run.now) }
+    requires distinct { AreDistinct (behind next.now run.now) }
+    requires run { IsRunOf layout.now run.now.payload run.now.flags run.now.progress (packet_of first)
+        (packet_of first ∷ map packet_of (chosen waiting.old.items (behind next.now run.now))) }
+    requires more { length (chosen waiting.old.items (behind next.now run.now)) ≡ run.now.more }
+    requires several { 1 ≤ run.now.more }
+    requires held { AreHeld (first ∷ chosen waiting.old.items (behind next.now run.now)) }
     requires empty { (pieces.pieces ≡ []) × (outcomes.soles ≡ []) × (outcomes.receipts ≡ []) }
-    requires reserved { pieces_in (first ∷ rest.items) ≤ pieces.room }
-    requires room { free_in (first ∷ rest.items) ≤ outcomes.spare }
-    ensures item { item_of result ≡ merged_of (packet_of first ∷ map packet_of rest.items) }
-    ensures holds { IsItemOf (first ∷ rest.items) result }
+    requires reserved { pieces_in (first ∷ chosen waiting.old.items (behind next.now run.now)) ≤ pieces.room }
+    requires room { free_in (first ∷ chosen waiting.old.items (behind next.now run.now)) ≤ outcomes.spare }
+    ensures item { item_of result ≡ merged_of
+        (packet_of first ∷ map packet_of (chosen waiting.old.items (behind next.now run.now))) }
+    ensures holds { IsItemOf (first ∷ chosen waiting.old.items (behind next.now run.now)) result }
+    ensures empties { Empties (behind next.now run.now) waiting.old.items waiting.new.items }
 {
     let number = first.number;
     let sec = first.sec;
     let frac = first.frac;
     let m = (first.skb.len() - layout.payload_at()) as u32;
-    let n = (rest.len() + 1) as u32;
-    let (skb, outcomes) = join(first, rest, layout, flags, payload, pieces, outcomes);
+    let (skb, outcomes) = join(first, waiting, next, run, layout, pieces, outcomes);
     let original = skb.len() as u32;
     Item {
         skb,
@@ -177,30 +151,63 @@ fn merged(
         sec,
         frac,
         original,
-        n,
+        n: run.more + 1,
         m,
-        modes: progress.modes,
+        modes: run.progress.modes,
         outcomes,
     }
 }
 
-/// The items of runs, in places that were made before. It takes no memory, and leaves the lists theirs.
+// What a run comes to, in places that were made before. It takes no memory.
+fn build_item(
+    run: &Run,
+    next: &[u32],
+    waiting: &mut VecDeque<Option<Packet>>,
+    places: Places,
+) -> Item
+    requires linked { length waiting.old.items ≤ length next.now }
+    requires there { AreThere waiting.old.items (indices next.now run.now) }
+    requires distinct { AreDistinct (indices next.now run.now) }
+    requires run { IsRun run.now (held_at next.now waiting.old.items run.now) }
+    requires places { IsPlaceOf (held_at next.now waiting.old.items run.now) places }
+    ensures item { item_of result ≡ merged_of (map packet_of (held_at next.now waiting.old.items run.now)) }
+    ensures holds { IsItemOf (held_at next.now waiting.old.items run.now) result }
+    ensures empties { Empties (indices next.now run.now) waiting.old.items waiting.new.items }
+{
+    let first = take_at(waiting, run.first);
+    match places {
+        Places::Alone(outcomes) => single(first, outcomes),
+        Places::Several(pieces, outcomes) => {
+            let Some(layout) = &run.layout else {
+                unreachable!()
+            };
+            merged(first, waiting, next, run, layout, pieces, outcomes)
+        }
+    }
+}
+
+/// The items of all runs, whose packets wait, in places that were made before. It takes no memory.
 pub(crate) fn build_all(
-    runs: &mut VecDeque<Run>,
+    engine: &Engine,
+    waiting: &mut VecDeque<Option<Packet>>,
     places: &mut VecDeque<Places>,
     items: &mut Vec<Item>,
 )
-    requires runs { AllByRecursion IsRun runs.old.items }
-    requires places { ArePlacesOf runs.old.items places.old.items }
+    requires linked { length waiting.old.items ≤ length engine.now.next.items }
+    requires waiting { AreWaiting engine.now.next.items engine.now.runs.items waiting.old.items }
+    requires places { ArePlacesOf (map (held_at engine.now.next.items waiting.old.items) engine.now.runs.items)
+        places.old.items }
     requires empty { items.old.items ≡ [] }
-    requires room { vec_len items.old + length runs.old.items ≤ vec_capacity items.old }
-    ensures items { AreItemsOf runs.old.items items.new.items }
-    ensures none { (runs.new.items ≡ []) × (places.new.items ≡ []) }
+    requires room { vec_len items.old + length engine.now.runs.items ≤ vec_capacity items.old }
+    ensures items { AreItemsFrom (map (held_at engine.now.next.items waiting.old.items) engine.now.runs.items)
+        items.new.items }
+    ensures none { (k : ℕ) → found waiting.new.items k ≡ [] }
+    ensures places { places.new.items ≡ [] }
 {
-    while let Some(run) = runs.pop_front() {
+    for i in 0..engine.runs.len() {
         let Some(own) = places.pop_front() else {
             unreachable!()
         };
-        items.push_reserved(run.into_item(own));
+        items.push_reserved(build_item(&engine.runs[i], &engine.next, waiting, own));
     }
 }

@@ -13,8 +13,24 @@
 //! stand so many bytes of the payloads that the head has 200, and all else moves. An [`Item`] is what a run comes to,
 //! with the blocks that merging has left.
 //!
-//! A [`RoundTable`] receives the packets of a round, one after the other, and finishes into their items. Proved, by the
-//! names of its clauses, whatever the packets are:
+//! No packet moves while it is merged. They stand in one list, each in a [`Slot`], and a run is a chain of indices into
+//! it: of its first packet, of its last one, and for each packet that of the next (`Run`, `next` of the [`Engine`]).
+//!
+//! ```text
+//!   slots    0   1   2   3   4   5        runs     first 0, last 5, two behind it:   0 -> 2 -> 5
+//!   next     2   4   5   .   .   .                 first 1, last 4, one behind it:   1 -> 4
+//!                                                  first 3, last 3:                  3
+//! ```
+//!
+//! An [`Engine`] merges packets that lie in somebody's list, which it only reads. Proved of it:
+//!
+//! - `runs` of `merge`: its runs, as packets of the list, are the maximal mergeable runs of each flow. It takes no
+//!   memory and can't fail.
+//! - `takes` of `receive`: so it goes packet by packet, and `are`: each index stands in one chain, once.
+//! - `ready` of `make` and `start`: there is room for so many packets, whatever was merged before.
+//!
+//! A [`RoundTable`] owns its packets, in such a list with their spares beside. It receives them one after the other,
+//! and finishes into their items. Proved, by the names of its clauses, whatever the packets are:
 //!
 //! - `received` of `make` and `receive`: its runs are the maximal mergeable runs of each flow of the packets so far, in
 //!   the order of their first packets, and hold these packets and nothing else; `count` and `many`: so many blocks and
@@ -27,41 +43,41 @@
 //!   of a whole block.
 //! - `ready` of `finish`: each item's head has the first 200 bytes, or all of fewer, and one block at least is free
 //!   beside it.
-//! - `back`: where memory is refused, `receive` gives the packet and `finish` the table back, and the table is as it
-//!   was.
+//! - `back` of `finish`: where memory is refused the table comes back as it was. `receive` would give its packet back,
+//!   but asks for none.
 //! - `kept`, `grows` and `places` of `release`: all that the table holds is given back, in places that were reserved
 //!   before, and so is what a [`Packet`] holds.
 //! - `finish_into` and `clear` say the same as `finish` and `release`, and `none`: the table holds nothing, and may be
 //!   started again.
 //!
-//! Memory is taken in `make` and `start`, for all runs and flows that may come; in `receive`, where the list of a run's
-//! packets is full; and in `finish`, before anything moves. A table that serves one round after another keeps all of it
-//! but what items take with them: each run's list of pieces, and outcomes, which `keep` takes back once they are empty.
-//! When memory is refused no clause says.
+//! Memory is taken in `make` and `start`, for all packets, runs and flows that may come, and in `finish`, before
+//! anything moves. Receiving takes none. A table that serves one round after another keeps all of it but what items
+//! take with them: each run's list of pieces, and outcomes, which `keep` takes back once they are empty. When memory is
+//! refused no clause says.
 //!
 //! ```
-//! let mut table = RoundTable::make(alloc, 64, 4096)?;
-//! for round in rounds {
-//!     table.start(64)?;
-//!     for packet in round {
-//!         if let Err((packet, _)) = table.receive(packet) {
-//!             give_back(packet);
-//!         }
-//!     }
-//!     match table.finish_into(&mut items) {
-//!         Ok(()) => write(&mut items),
-//!         Err(_) => table.clear(&mut outcomes),
-//!     }
+//! let mut table = RoundTable::make(alloc, 2, 4096).expect(&rt, "memory");
+//! if let Err((packet, _)) = table.receive(first) {
+//!     packet.release(&mut outcomes);
 //! }
-//! table.discard();
+//! if let Err((packet, _)) = table.receive(second) {
+//!     packet.release(&mut outcomes);
+//! }
+//! match table.finish() {
+//!     Ok(items) => blocks = spent(&rt, items, &[(0, 2, 100, 0)]), // one item of both, with 100 bytes of each
+//!     Err((table, _)) => table.release(&mut outcomes),
+//! }
 //! ```
 //!
 //! Its parts: `candidacy` (a packet judged by its head and its payload's sum), `flows` (the open run of each flow,
-//! under `frame_layout`'s `Key`), `run` (a run, and whether it takes one more packet), `runs` (those of a round, in the
-//! order of their first packets), `table` (`RoundTable`); `places` (the lists that items need, made before anything
-//! moves), `build` (the join into one buffer), `item` (what a run comes to), `shelf` (emptied outcomes that serve items
-//! to come), `release`. `specs/Table.antt` says what a contract sees of a table, `specs/Steps.antt` what one more
-//! packet does, `specs/Index.antt` what is found of a flow, `specs/Items.antt` what an item holds.
+//! under `frame_layout`'s `Key`), `slot` (a packet in a list), `run` (a run by index, and whether it takes one more
+//! packet), `engine` (the runs of a list, in the order of their first packets, and how they are linked); `packet_list`
+//! (a table's packets, with their spares), `table` (`RoundTable`); `places` (the lists that items need, made before
+//! anything moves), `waiting` (packets as runs take them out of the list), `build` (the join into one buffer), `item`
+//! (what a run comes to), `shelf` (memory that serves items to come). `specs/Chains.antt` says what a chain of indices
+//! is, `specs/Engine.antt` what is known of an engine and what one more packet does, `specs/Index.antt` what is found
+//! of a flow, `specs/Waiting.antt` which packets are taken, `specs/Table.antt` what a contract sees of a table,
+//! `specs/Items.antt` what an item holds.
 //!
 //! Tests: `merge_tests`, modules `merging` and `home`.
 //!
@@ -76,13 +92,22 @@
 //!   fewer. No packet's head is written, whether others hold it or not, so a tap reads what arrived, and there is one
 //!   way where there would be two. At most 200 bytes are copied for a run and none for a packet that is alone. Neither
 //!   `pull_up` nor `unshare` serves: the one copies what is dropped again, and the other may copy a block.
+//! - **A chain is computed from its count**: a run says how many packets follow its first one, and so many steps
+//!   through `next` are its chain. What `next` has behind a run's end doesn't matter, so it is made once and never
+//!   cleared, and a packet that a run takes costs one write.
+//! - **Chains share the indices out** (`AreSharedOut`): whatever is summed over all of them is summed over 0, 1, .. So
+//!   one chain has a run's last index, once, and `next` of that may be written with no other run changed; and in the
+//!   end the items hold each packet once, and nothing else.
+//! - **The list is an argument of the engine's calls**, and what is known of an engine names it (`AreRuns`): a packet
+//!   is read where it lies, by whoever owns it. In a list that grows by one packet the others are read as before
+//!   (`are_more` of `gro`).
 //! - **All places are made before the first packet moves**: for a packet that is alone room for its two spares, for a
 //!   run a list of pieces, one for each head and piece, and room for what is given back, three places for each packet:
 //!   two spares, and a head that the merged head has used up. So building items takes no memory, and a refusal leaves
-//!   the runs as they were. By the code that is no allocation for a packet that is alone and one for a run where
+//!   the table as it was. By the code that is no allocation for a packet that is alone and one for a run where
 //!   emptied outcomes were kept, and two more where none were.
-//! - **A run holds whole packets**, though of all but the first neither number nor time is read again: what a run is is
-//!   said of packets, and a list of buffers alone would want the rest as ghost data.
+//! - **Packets line up before they are taken**: a list gives its elements up from its end alone, and runs take theirs
+//!   in another order. So each goes once to a place that may be empty, and from there to its run's item.
 //! - **Where each head is a part no life begins** (`shared` of `HoldsAll`), and the account of an item is that of its
 //!   packets; where some are Soles, a life begins at most with each of these (`account`).
 //! - **A table serves one round after another**: `finish_into` and `clear` leave one that holds nothing, whose map,
@@ -90,10 +115,9 @@
 //!   no round before had as many. That there is room is so asked where memory may be refused, and no step has to say
 //!   that capacities stay: of a map from which a key was removed std says less than that.
 //! - **Emptied outcomes serve items to come** (`keep`), so that a packet that is alone takes no memory and a run has
-//!   one list to make, its pieces', which stay with its buffer. The list of a run's packets is made anew too, and grows
-//!   by doubling. The form for these two: a release of a buffer that hands its emptied list of pieces on, and a join
-//!   that leaves the emptied list of packets to the run. What is asked of places (`IsPlaceOf`) stays as it is, and so
-//!   does every proof of the join.
+//!   one list to make, its pieces', which stays with its buffer. The form for that one: a release of a buffer that
+//!   hands its emptied list of pieces on. What is asked of places (`IsPlaceOf`) stays as it is, and so does every proof
+//!   of the join.
 //! - **A packet that a run takes is of the run's flow** (`flow` of `takes` in `gro`), by the law that headers alike
 //!   make keys equal (`alike_keeps_key`): the last packet's run may be asked before any key is made.
 //! - **Only open runs are found**: a flow's key leads to a slot of a slab, and that to the run's place among all. A run
@@ -107,25 +131,28 @@
 //!   isn't found. But for a test nothing in `gro` asks whether a key has bytes, and none is copied.
 //! - **The last packet's run is asked first.** Where it takes the packet, no key is made and no map asked, but where
 //!   the run closes with it. The run's place is kept only while the run is open.
-//! - **A refusal leaves no trace** because of the order in `receive`: a run's list of packets grows before anything
-//!   else changes, and a new run stands in places that were taken before. That memory is refused only where it is
-//!   wanted is said of a run's list alone (`full` of `make_room`), and not of `receive` and `finish`: a table doesn't
-//!   say which of its lists are full. So a `receive` that answers want of memory at every second packet would be
-//!   proved; the tests refuse it, since with memory at hand each packet has to be taken.
+//! - **That memory is refused only where it is wanted isn't said** of `finish`: a table doesn't say which of its lists
+//!   are full. `receive` never refuses, though its answer could: a caller that was written for a table that may is
+//!   served as before.
 #![tactic(auto)]
 
 mod build;
 mod candidacy;
+mod engine;
 mod flows;
 mod item;
 mod packet;
+mod packet_list;
 mod places;
-mod release;
 mod run;
-mod runs;
 mod shelf;
+mod slot;
 mod table;
+mod waiting;
 
+pub use engine::Engine;
 pub use item::Item;
 pub use packet::Packet;
+pub use run::Run;
+pub use slot::Slot;
 pub use table::RoundTable;

@@ -1,10 +1,16 @@
 //! The places that items need, made before anything moves.
-ghost use Rattle.std.specs.Prelude.{◌≡◌, ◌-◌, ◌*◌, ◌≤◌, [], IfOk, OnOk, OnErr};
+ghost use Rattle.std.specs.Prelude.{◌≡◌, ◌+◌, ◌*◌, ◌<◌, ◌≤◌, ◌^◌, [], length, IfOk, OnOk, OnErr};
 ghost use Rattle.std.specs.List.{AllByRecursion};
 ghost use Rattle.frags.specs.OutcomesState.{IsBare};
+ghost use Rattle.gro.specs.Build.{pieces_in};
+ghost use Rattle.gro.specs.Chains.{indices};
+ghost use Rattle.gro.specs.Held.{counts_of};
 ghost use Rattle.gro.specs.Places.{AreBare, IsEmpty, AreEmpty, AreSeveral, IsPlaceOf, ArePlacesOf};
-ghost use Rattle.gro.specs.Runs.{IsRun};
+ghost use Rattle.gro.specs.Slots.{held_of, ArePaired};
+ghost use Rattle.gro.specs.Waiting.{run_held, held_in, AreTogether};
 
+use crate::engine::Engine;
+use crate::packet_list::PacketList;
 use crate::run::Run;
 use frags::{Outcomes, PieceBuilder};
 use std::alloc::{AllocError, Global};
@@ -41,15 +47,31 @@ pub(crate) fn give_all_up(all: &mut VecDeque<Places>)
     }
 }
 
-// Of n packets with `count` blocks and parts, two spares each among them: how many pieces they come to, and how many
-// blocks may be free beside these.
-fn room_for(count: usize, n: usize) -> (usize, usize)
-    requires each { 3 * n ≤ count }
-    ensures pieces { result.0 ≡ count - 2 * n }
-    ensures free { result.1 ≡ 3 * n }
+// How many pieces the buffers of a run's packets come to: one for each head, and those behind it.
+fn count_pieces(list: &PacketList, next: &[u32], run: &Run) -> usize
+    requires paired { ArePaired list.now }
+    requires linked { length list.now.slots.items ≤ length next.now }
+    requires inside { AllByRecursion (λ k. k < length list.now.slots.items) (indices next.now run.now) }
+    requires few { pieces_in (run_held list.now next.now run.now) < 2 ^ 63 }
+    ensures pieces { result ≡ pieces_in (run_held list.now next.now run.now) }
 {
-    let free = 3 * n;
-    (count - 2 * n, free)
+    let mut count = 0;
+    let mut k = run.first;
+    let mut left = run.more as usize + 1;
+    while left > 0 {
+        count += list.slots[k as usize].skb.count();
+        k = next[k as usize];
+        left -= 1;
+    }
+    count
+}
+
+// How many blocks may be free beside a run's item: two spares and a head of each packet.
+fn free_for(run: &Run) -> usize
+    requires few { run.now.more < 2 ^ 32 }
+    ensures free { result ≡ 3 * (run.now.more + 1) }
+{
+    3 * (run.more as usize + 1)
 }
 
 // Outcomes that hold nothing: the memory of earlier ones, where there are any.
@@ -103,17 +125,27 @@ fn several(
 }
 
 // The places that a run's item needs.
-fn places_of(alloc: Global, shelf: &mut VecDeque<Outcomes>, run: &Run) -> Result<Places, AllocError>
+fn places_of(
+    alloc: Global,
+    shelf: &mut VecDeque<Outcomes>,
+    list: &PacketList,
+    next: &[u32],
+    run: &Run,
+) -> Result<Places, AllocError>
     requires bare { AreBare shelf.old.items }
-    requires run { IsRun run.now }
+    requires paired { ArePaired list.now }
+    requires linked { length list.now.slots.items ≤ length next.now }
+    requires inside { AllByRecursion (λ k. k < length list.now.slots.items) (indices next.now run.now) }
+    requires few { pieces_in (run_held list.now next.now run.now) < 2 ^ 63 }
+    requires more { length (run_held list.now next.now run.now) ≡ run.now.more + 1 }
     ensures bare { AreBare shelf.new.items }
-    ensures places { IfOk result (λ p. IsPlaceOf run.now p) }
+    ensures places { IfOk result (λ p. IsPlaceOf (run_held list.now next.now run.now) p) }
 {
-    if run.rest.is_empty() {
+    if run.more == 0 {
         return Ok(Places::Alone(room_of(alloc, shelf, 2)?));
     }
-    let (count, free) = room_for(run.count, run.rest.len() + 1);
-    several(alloc, shelf, count, free)
+    let count = count_pieces(list, next, run);
+    several(alloc, shelf, count, free_for(run))
 }
 
 /// The places that all runs' items need, in outcomes off the shelf where there are any. Where there is no memory for
@@ -121,19 +153,21 @@ fn places_of(alloc: Global, shelf: &mut VecDeque<Outcomes>, run: &Run) -> Result
 pub(crate) fn all_places(
     alloc: Global,
     shelf: &mut VecDeque<Outcomes>,
-    runs: &VecDeque<Run>,
+    list: &PacketList,
+    engine: &Engine,
     all: &mut VecDeque<Places>,
 ) -> Result<(), AllocError>
     requires bare { AreBare shelf.old.items }
-    requires runs { AllByRecursion IsRun runs.now.items }
+    requires together { AreTogether list.now engine.now }
+    requires few { counts_of (held_of list.now) < 2 ^ 63 }
     requires none { all.old.items ≡ [] }
     ensures bare { AreBare shelf.new.items }
-    ensures places { OnOk result (ArePlacesOf runs.now.items all.new.items) }
+    ensures places { OnOk result (ArePlacesOf (held_in list.now engine.now) all.new.items) }
     ensures back { OnErr result (all.new.items ≡ []) }
 {
-    all.reserve(runs.len())?;
-    for i in 0..runs.len() {
-        let Ok(places) = places_of(alloc, shelf, &runs[i]) else {
+    all.reserve(engine.runs.len())?;
+    for i in 0..engine.runs.len() {
+        let Ok(places) = places_of(alloc, shelf, list, &engine.next, &engine.runs[i]) else {
             give_all_up(all);
             return Err(AllocError);
         };

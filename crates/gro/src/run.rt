@@ -1,27 +1,27 @@
-//! A run of packets.
-ghost use Rattle.std.specs.Prelude.{◌≡◌, ◌+◌, ◌<◌, ◌≤◌, ◌^◌, ◌++◌, ◌∷◌, [], length, IsTrue, OnOk, OnErr};
+//! A run of packets, by index.
+ghost use Rattle.std.specs.Prelude.{◌≡◌, ◌+◌, ◌++◌, ◌∷◌, [], List, IsTrue};
 ghost use Rattle.std.specs.Bool.{Decides};
-ghost use Rattle.std.specs.VecDeque.{deque_len, deque_capacity};
 ghost use Rattle.frame_layout.specs.Key.{key_of};
+ghost use Rattle.pcap_io.specs.Capture.{Packet};
 ghost use Rattle.offload_model.specs.Mergeable.{IsMergeable, IsMergeableWithin};
 ghost use Rattle.merge_rule.specs.Runs.{IsJudged, IsFirstProgress, IsNextProgress};
 ghost use Rattle.skb.specs.SkbState.{buffer_bytes};
-ghost use Rattle.gro.specs.Held.{packet_of, count_of, IsHeld};
-ghost use Rattle.gro.specs.Runs.{IsRun, packets_of, held_of};
+ghost use Rattle.gro.specs.Slots.{packet_in, IsSlot};
+ghost use Rattle.gro.specs.Engine.{Knows, KnowsSome, TakesOne};
 
-use crate::Packet;
+use crate::slot::Slot;
 use frame_layout::Layout;
 use inet_sum::Partial;
 use merge_rule::{Candidacy, Progress, first_progress, is_next, next_progress};
-use std::alloc::{AllocError, Global};
-use std::collections::VecDeque;
 
-/// A run of packets of one layout, the sum of their payloads, the last one's control bits, what the run has come to,
-/// and how many blocks and parts its packets hold. A packet that may not be merged is alone and has no layout.
-pub(crate) struct Run {
-    pub first: Packet,
-    pub rest: VecDeque<Packet>,
-    pub count: usize,
+/// A run of packets of one layout: the indices of its first and its last packet, how many follow the first, the sum of
+/// their payloads, the last one's control bits, and what the run has come to. A packet that may not be merged is alone
+/// and has no layout.
+#[derive(Drop)]
+pub struct Run {
+    pub first: u32,
+    pub last: u32,
+    pub more: u32,
     pub layout: Option<Layout>,
     pub payload: Partial,
     pub flags: u8,
@@ -29,10 +29,10 @@ pub(crate) struct Run {
 }
 
 /// What a run of one packet has come to.
-fn progress_of(first: &Packet, candidacy: &Candidacy) -> Progress
+fn progress_of(first: &Slot, candidacy: &Candidacy) -> Progress
     requires judged { IsJudged (buffer_bytes first.now.skb) first.now.original candidacy.now.layout
         candidacy.now.payload candidacy.now.flags }
-    requires held { IsHeld first.now }
+    requires slot { IsSlot first.now }
     ensures progress { IsFirstProgress candidacy.now.layout (buffer_bytes first.now.skb) result }
 {
     let len = first.skb.len();
@@ -47,20 +47,19 @@ fn progress_of(first: &Packet, candidacy: &Candidacy) -> Progress
 }
 
 impl Run {
-    /// The run of one packet.
-    pub(crate) fn open(alloc: Global, first: Packet, candidacy: Candidacy) -> Run
-        requires judged { IsJudged (buffer_bytes first.skb) first.original candidacy.layout candidacy.payload
+    /// The run of one packet, that of this index.
+    pub(crate) fn open(index: u32, first: &Slot, candidacy: Candidacy) -> Run
+        requires judged { IsJudged (buffer_bytes first.now.skb) first.now.original candidacy.layout candidacy.payload
             candidacy.flags }
-        requires held { IsHeld first }
-        ensures run { IsRun result }
-        ensures packets { held_of result ≡ first ∷ [] }
+        requires slot { IsSlot first.now }
+        ensures knows { Knows result (packet_in first.now) [] }
+        ensures indices { (result.first ≡ index) × (result.last ≡ index) × (result.more ≡ 0) }
     {
-        let progress = progress_of(&first, &candidacy);
-        let count = first.skb.count() + 2;
+        let progress = progress_of(first, &candidacy);
         Run {
-            first,
-            rest: VecDeque::new(alloc),
-            count,
+            first: index,
+            last: index,
+            more: 0,
             layout: candidacy.layout,
             payload: candidacy.payload,
             flags: candidacy.flags,
@@ -68,14 +67,16 @@ impl Run {
         }
     }
 
-    /// Whether the run takes one more packet. If so, that is of the run's flow.
-    pub(crate) fn takes(&self, next: &Packet, candidacy: &Candidacy) -> bool
-        requires run { IsRun self.now }
+    /// Whether the run, whose first packet is `first`, takes one more. If so, that is of the run's flow.
+    pub(crate) fn takes(&self, first: &Slot, next: &Slot, candidacy: &Candidacy) -> bool
+        requires knows { KnowsSome self.now (packet_in first.now) }
+        requires slot { IsSlot first.now }
         requires judged { IsJudged (buffer_bytes next.now.skb) next.now.original candidacy.now.layout
             candidacy.now.payload candidacy.now.flags }
-        requires held { IsHeld next.now }
-        ensures takes { Decides result (IsMergeable (packets_of self.now ++ (packet_of next.now ∷ []))) }
-        ensures flow { IsTrue result → key_of (buffer_bytes next.now.skb) ≡ key_of (buffer_bytes self.now.first.skb) }
+        requires next { IsSlot next.now }
+        ensures takes { (rest : List Packet) → Knows self.now (packet_in first.now) rest
+            → Decides result (IsMergeable ((packet_in first.now ∷ rest) ++ (packet_in next.now ∷ []))) }
+        ensures flow { IsTrue result → key_of (buffer_bytes next.now.skb) ≡ key_of (buffer_bytes first.now.skb) }
     {
         if !self.progress.is_open {
             return false;
@@ -83,14 +84,14 @@ impl Run {
         let Some(_own) = &candidacy.layout else {
             return false;
         };
-        let first_len = self.first.skb.len();
+        let first_len = first.skb.len();
         let next_len = next.skb.len();
         match &self.layout {
             Some(layout) => is_next(
                 layout,
-                self.first.skb.head(),
+                first.skb.head(),
                 first_len,
-                self.rest.len() + 1,
+                self.more as usize + 1,
                 &self.progress,
                 next.skb.head(),
                 next_len,
@@ -99,37 +100,45 @@ impl Run {
         }
     }
 
-    /// Whether the run takes one more packet, and has with it at most `segs`.
-    pub(crate) fn takes_within(&self, next: &Packet, candidacy: &Candidacy, segs: u32) -> bool
-        requires run { IsRun self.now }
+    /// Whether the run takes one more packet and has at most `segs` with it. If so, that is of the run's flow.
+    pub(crate) fn takes_within(
+        &self,
+        first: &Slot,
+        next: &Slot,
+        candidacy: &Candidacy,
+        segs: u32,
+    ) -> bool
+        requires knows { KnowsSome self.now (packet_in first.now) }
+        requires slot { IsSlot first.now }
         requires judged { IsJudged (buffer_bytes next.now.skb) next.now.original candidacy.now.layout
             candidacy.now.payload candidacy.now.flags }
-        requires held { IsHeld next.now }
-        ensures takes { Decides result (IsMergeableWithin segs (packets_of self.now ++ (packet_of next.now ∷ []))) }
-        ensures flow { IsTrue result → key_of (buffer_bytes next.now.skb) ≡ key_of (buffer_bytes self.now.first.skb) }
+        requires next { IsSlot next.now }
+        ensures takes { (rest : List Packet) → Knows self.now (packet_in first.now) rest
+            → Decides result (IsMergeableWithin segs ((packet_in first.now ∷ rest) ++ (packet_in next.now ∷ []))) }
+        ensures flow { IsTrue result → key_of (buffer_bytes next.now.skb) ≡ key_of (buffer_bytes first.now.skb) }
     {
-        if self.rest.len() + 2 > segs as usize {
+        if self.more as usize + 2 > segs as usize {
             return false;
         }
-        self.takes(next, candidacy)
+        self.takes(first, next, candidacy)
     }
 
     /// What the run comes to with one more packet.
-    fn progress_with(&self, next: &Packet) -> Progress
-        requires run { IsRun self.now }
-        requires held { IsHeld next.now }
-        requires mergeable { IsMergeable (packets_of self.now ++ (packet_of next.now ∷ [])) }
-        ensures progress { IsNextProgress self.now.layout (buffer_bytes self.now.first.skb) (length self.now.rest.items)
+    fn progress_with(&self, first: &Slot, next: &Slot) -> Progress
+        requires takes { TakesOne self.now (packet_in first.now) (packet_in next.now) }
+        requires slot { IsSlot first.now }
+        requires next { IsSlot next.now }
+        ensures progress { IsNextProgress self.now.layout (buffer_bytes first.now.skb) self.now.more
             (buffer_bytes next.now.skb) self.now.progress result }
     {
-        let first_len = self.first.skb.len();
+        let first_len = first.skb.len();
         let next_len = next.skb.len();
         match &self.layout {
             Some(layout) => next_progress(
                 layout,
-                self.first.skb.head(),
+                first.skb.head(),
                 first_len,
-                self.rest.len(),
+                self.more as usize,
                 &self.progress,
                 next.skb.head(),
                 next_len,
@@ -138,35 +147,23 @@ impl Run {
         }
     }
 
-    /// Room for one more packet. Where the list of packets is full and there is no memory, the run is as it was.
-    pub(crate) fn make_room(&mut self) -> Result<(), AllocError>
-        requires run { IsRun self.old }
-        ensures run { IsRun self.new }
-        ensures packets { held_of self.new ≡ held_of self.old }
-        ensures left { self.new ≡ record self.old { rest = self.new.rest } }
-        ensures room { OnOk result (deque_len self.new.rest < deque_capacity self.new.rest) }
-        ensures full { OnErr result (deque_capacity self.old.rest ≤ deque_len self.old.rest) }
+    /// One more packet, which the run takes: that of this index.
+    pub(crate) fn add(&mut self, first: &Slot, index: u32, next: &Slot, candidacy: &Candidacy)
+        requires takes { TakesOne self.old (packet_in first.now) (packet_in next.now) }
+        requires slot { IsSlot first.now }
+        requires judged { IsJudged (buffer_bytes next.now.skb) next.now.original candidacy.now.layout
+            candidacy.now.payload candidacy.now.flags }
+        requires next { IsSlot next.now }
+        ensures knows { (rest : List Packet) → Knows self.old (packet_in first.now) rest
+            → IsMergeable ((packet_in first.now ∷ rest) ++ (packet_in next.now ∷ []))
+            → Knows self.new (packet_in first.now) (rest ++ (packet_in next.now ∷ [])) }
+        ensures indices { (self.new.first ≡ self.old.first) × (self.new.last ≡ index)
+            × (self.new.more ≡ self.old.more + 1) }
     {
-        self.rest.reserve(1)
-    }
-
-    /// One more packet, which the run takes and has room for.
-    pub(crate) fn add(&mut self, next: Packet, candidacy: &Candidacy)
-        requires run { IsRun self.old }
-        requires judged { IsJudged (buffer_bytes next.skb) next.original candidacy.now.layout candidacy.now.payload
-            candidacy.now.flags }
-        requires held { IsHeld next }
-        requires mergeable { IsMergeable (packets_of self.old ++ (packet_of next ∷ [])) }
-        requires few { self.old.count + count_of next < 2 ^ 63 }
-        requires room { deque_len self.old.rest < deque_capacity self.old.rest }
-        ensures run { IsRun self.new }
-        ensures packets { held_of self.new ≡ held_of self.old ++ (next ∷ []) }
-    {
-        let progress = self.progress_with(&next);
+        let progress = self.progress_with(first, next);
         let payload = self.payload.joined(candidacy.payload);
-        let more = next.skb.count() + 2;
-        self.rest.push_back_reserved(next);
-        self.count += more;
+        self.last = index;
+        self.more += 1;
         self.payload = payload;
         self.flags = candidacy.flags;
         self.progress = progress;

@@ -1,22 +1,27 @@
 //! Memory that lives on from one round to the next.
-ghost use Rattle.std.specs.Prelude.{◌≡◌, [], OnOk, OnErr};
-ghost use Rattle.std.specs.List.{AllByRecursion};
-ghost use Rattle.gro.specs.Items.{AreItemsOf};
+ghost use Rattle.std.specs.Prelude.{◌≡◌, ◌<◌, ◌^◌, [], OnOk, OnErr};
 ghost use Rattle.frags.specs.OutcomesState.{IsBare};
+ghost use Rattle.gro.specs.Held.{counts_of};
 ghost use Rattle.gro.specs.Places.{AreBare};
-ghost use Rattle.gro.specs.Runs.{IsRun};
+ghost use Rattle.gro.specs.Slots.{held_of};
+ghost use Rattle.gro.specs.Table.{AreItemsFrom};
+ghost use Rattle.gro.specs.Waiting.{held_in, AreTogether};
 
+use crate::Packet;
+use crate::engine::Engine;
 use crate::item::{Item, build_all};
+use crate::packet_list::PacketList;
 use crate::places::{Places, all_places, give_all_up};
-use crate::run::Run;
+use crate::waiting::clear_places;
 use frags::Outcomes;
 use std::alloc::{AllocError, Global};
 use std::collections::VecDeque;
 use std::marker::Model;
 
-/// The list of places that each round's items are built in, which is memory alone between rounds, and outcomes that
-/// hold nothing.
+/// The lists that each round's items are built with, of packets that wait and of places, which are memory alone between
+/// rounds, and outcomes that hold nothing.
 pub(crate) struct Shelf {
+    waiting: VecDeque<Option<Packet>>,
     places: VecDeque<Places>,
     outcomes: VecDeque<Outcomes>,
 }
@@ -29,12 +34,17 @@ impl Model for Shelf {
 
     ghost view = { λ s. length s.outcomes.items };
 
-    ghost invariant = { λ s. (s.places.items ≡ []) × AreBare s.outcomes.items };
+    ghost invariant = { λ s. (s.waiting.items ≡ []) × (s.places.items ≡ []) × AreBare s.outcomes.items };
 }
 
 impl Drop for Shelf {
     fn drop(self) {
-        let Shelf { places, outcomes } = self;
+        let Shelf {
+            waiting,
+            places,
+            outcomes,
+        } = self;
+        waiting.destroy_empty();
         places.destroy_empty();
         settle_all(outcomes);
     }
@@ -54,6 +64,7 @@ fn settle_all(all: VecDeque<Outcomes>)
 impl Shelf {
     pub(crate) fn new(alloc: Global) -> Shelf {
         Shelf {
+            waiting: VecDeque::new(alloc),
             places: VecDeque::new(alloc),
             outcomes: VecDeque::new(alloc),
         }
@@ -68,23 +79,28 @@ impl Shelf {
         }
     }
 
-    /// The items of all runs. Their list stays, empty. All places are made before anything moves: where there is no
-    /// memory for them, nothing has changed.
+    /// The items of all runs. The list of their packets is empty then, and its memory stays. All places are made before
+    /// anything moves: where there is no memory for them, nothing has changed.
     pub(crate) fn build_items(
         &mut self,
         alloc: Global,
-        runs: &mut VecDeque<Run>,
+        list: &mut PacketList,
+        engine: &Engine,
         items: &mut Vec<Item>,
     ) -> Result<(), AllocError>
-        requires runs { AllByRecursion IsRun runs.old.items }
+        requires together { AreTogether list.old engine.now }
+        requires few { counts_of (held_of list.old) < 2 ^ 63 }
         requires empty { items.old.items ≡ [] }
-        ensures items { OnOk result (AreItemsOf runs.old.items items.new.items) }
-        ensures none { OnOk result (runs.new.items ≡ []) }
-        ensures same { OnErr result ((runs.new ≡ runs.old) × (items.new.items ≡ [])) }
+        ensures items { OnOk result (AreItemsFrom (held_in list.old engine.now) items.new.items) }
+        ensures none { OnOk result ((list.new.slots.items ≡ []) × (list.new.spares.items ≡ [])) }
+        ensures same { OnErr result ((list.new ≡ list.old) × (items.new.items ≡ [])) }
     {
-        items.reserve(runs.len())?;
-        all_places(alloc, &mut self.outcomes, runs, &mut self.places)?;
-        build_all(runs, &mut self.places, items);
+        items.reserve(engine.runs.len())?;
+        self.waiting.reserve(list.slots.len())?;
+        all_places(alloc, &mut self.outcomes, list, engine, &mut self.places)?;
+        list.line_up(&mut self.waiting);
+        build_all(engine, &mut self.waiting, &mut self.places, items);
+        clear_places(&mut self.waiting);
         Ok(())
     }
 }

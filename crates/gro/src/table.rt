@@ -17,9 +17,9 @@ ghost use Rattle.gro.specs.Table.{TableState, no_table, Received, of_runs, count
 ghost use Rattle.gro.specs.Table.{of_items, KeepsTable, AreReady, ItemsWeighAtLeast};
 
 use crate::Packet;
+use crate::engine::Engine;
 use crate::item::Item;
-use crate::release::release_runs;
-use crate::runs::Runs;
+use crate::packet_list::PacketList;
 use crate::shelf::Shelf;
 use frags::Outcomes;
 use std::alloc::{AllocError, Global};
@@ -31,8 +31,10 @@ use std::marker::Model;
 /// What it has received is told by a fact of every list of packets (`Received`): its runs are theirs, and hold all of
 /// them.
 pub struct RoundTable {
-    runs: Runs,
+    list: PacketList,
+    engine: Engine,
     shelf: Shelf,
+    alloc: Global,
     limit: u32,
     segs: u32,
     received: u32,
@@ -43,19 +45,19 @@ pub struct RoundTable {
 impl Model for RoundTable {
     ghost use Rattle.std.specs.Prelude.{map};
     ghost use Rattle.gro.specs.Table.{TableState, IsTable};
-    ghost use Rattle.gro.specs.Steps.{held_in};
+    ghost use Rattle.gro.specs.Waiting.{held_in};
 
     ghost Value = { TableState };
 
     ghost view = { λ t. record {
-      runs = held_in t.runs;
+      runs = held_in t.list t.engine;
       limit = t.limit;
       received = t.received;
       above = t.above;
       segs = t.segs;
     } };
 
-    ghost invariant = { λ t. IsTable t.runs t.limit t.received t.above t.count };
+    ghost invariant = { λ t. IsTable t.list t.engine t.limit t.received t.above t.count };
 }
 
 /// How many blocks and parts a packet holds.
@@ -80,10 +82,13 @@ impl RoundTable {
         ensures segs { IfOk result (λ t. t.segs ≡ segs) }
         ensures above { IfOk result (λ t. t.above ≡ 0) }
     {
-        let runs = Runs::with_capacity(alloc, limit as usize)?;
+        let engine = Engine::make(alloc, limit)?;
+        let list = PacketList::with_capacity(alloc, limit as usize)?;
         Ok(RoundTable {
-            runs,
+            list,
+            engine,
             shelf: Shelf::new(alloc),
+            alloc,
             limit,
             segs,
             received: 0,
@@ -106,7 +111,8 @@ impl RoundTable {
         self.received = 0;
         self.above = 0;
         self.count = 0;
-        self.runs.reserve(limit as usize)?;
+        self.engine.start(limit)?;
+        self.list.reserve(limit as usize)?;
         self.limit = limit;
         Ok(())
     }
@@ -125,8 +131,8 @@ impl RoundTable {
         self.received < self.limit && self.above <= number as u64
     }
 
-    /// One more packet, with a number above those before: its flow's open run takes it, or it opens one. Where memory
-    /// is refused it comes back, and the table is as it was.
+    /// One more packet, with a number above those before: its flow's open run takes it, or it opens one. Its place was
+    /// made by `make` or `start`, so no memory is asked for. A packet that came back would leave the table as it was.
     pub fn receive(&mut self, packet: Packet) -> Result<(), (Packet, AllocError)>
         requires room { self.old.received < self.old.limit }
         requires rising { self.old.above ≤ packet.number }
@@ -143,9 +149,9 @@ impl RoundTable {
     {
         let above = packet.number as u64 + 1;
         let count = weigh(&packet);
-        if let Err(refused) = self.runs.receive(packet, self.segs) {
-            return Err(refused);
-        }
+        self.list.push(packet);
+        self.engine
+            .receive(&self.list.slots, self.received, self.segs);
         self.count += count;
         self.received += 1;
         self.above = above;
@@ -172,8 +178,8 @@ impl RoundTable {
         ensures back { OnErr result ((self.new ≡ self.old) × (items.new.items ≡ [])) }
     {
         self.shelf
-            .build_items(self.runs.alloc, &mut self.runs.list, items)?;
-        self.runs.clear();
+            .build_items(self.alloc, &mut self.list, &self.engine, items)?;
+        self.engine.clear();
         self.limit = 0;
         self.received = 0;
         self.above = 0;
@@ -198,7 +204,7 @@ impl RoundTable {
         ensures back { IfErr result (λ e. e.0 ≡ self) }
     {
         let mut table = self;
-        let mut items = Vec::new(table.runs.alloc);
+        let mut items = Vec::new(table.alloc);
         match table.finish_into(&mut items) {
             Ok(()) => {
                 table.discard();
@@ -227,8 +233,8 @@ impl RoundTable {
         ensures places { out.old.spare ≤ out.new.spare + counts_in self.old.runs }
         ensures none { self.new ≡ no_table self.old.segs }
     {
-        release_runs(&mut self.runs.list, out);
-        self.runs.clear();
+        self.list.release_all(out);
+        self.engine.clear();
         self.limit = 0;
         self.received = 0;
         self.above = 0;
@@ -252,14 +258,16 @@ impl RoundTable {
         requires none { self.runs ≡ [] }
     {
         let RoundTable {
-            runs,
+            list,
+            engine: _,
             shelf: _,
+            alloc: _,
             limit: _,
             segs: _,
             received: _,
             above: _,
             count: _,
         } = self;
-        runs.discard();
+        list.discard();
     }
 }

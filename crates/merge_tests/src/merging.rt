@@ -3,6 +3,7 @@ ghost use Rattle.std.specs.Prelude.{◌≡◌, ◌+◌, ◌<◌, ◌≤◌, [], 
 ghost use Rattle.gro.specs.Held.{IsHeld};
 ghost use Rattle.frags.specs.OutcomesState.{IsBare};
 
+mod chains;
 mod frames;
 mod joins;
 mod layers;
@@ -39,9 +40,9 @@ fn put16(head: &mut [u8; 54], at: usize, value: u16)
     head[at..at + 2].copy_from_slice(&value.to_be_bytes());
 }
 
-// The headers of packet `index` of a flow, Ethernet, IPv4 and TCP, whose payload stands behind `before` bytes of that
-// flow.
-fn plain(index: u16, before: u32, flags: u8, payload: &[u8]) -> [u8; 54]
+/// The headers of packet `index` of a flow, Ethernet, IPv4 and TCP, whose payload stands behind `before` bytes of that
+/// flow.
+pub(crate) fn plain(index: u16, before: u32, flags: u8, payload: &[u8]) -> [u8; 54]
     requires short { length payload.now ≤ 1000 }
 {
     let mut head = frames::PLAIN_FIRST;
@@ -68,8 +69,14 @@ fn block(rt: &impl Abort, alloc: Global) -> Sole {
     }
 }
 
-// A packet of these headers and this payload.
-fn packet(rt: &impl Abort, alloc: Global, number: u32, head: &[u8], payload: &[u8]) -> Packet
+/// A packet of these headers and this payload.
+pub(crate) fn packet(
+    rt: &impl Abort,
+    alloc: Global,
+    number: u32,
+    head: &[u8],
+    payload: &[u8],
+) -> Packet
     ensures held { IsHeld result }
 {
     let mut skb = Skb::new(block(rt, alloc), 64, 64, Pieces::new(alloc));
@@ -106,8 +113,8 @@ fn freed(rt: &impl Abort, skb: Skb, mut outcomes: Outcomes) -> usize {
     blocks
 }
 
-// Room for n more. Where one call is refused memory, the next one isn't.
-fn reserve(rt: &impl Abort, outcomes: &mut Outcomes, n: usize)
+/// Room for n more. Where one call is refused memory, the next one isn't.
+pub(crate) fn reserve(rt: &impl Abort, outcomes: &mut Outcomes, n: usize)
     ensures room { n ≤ outcomes.new.spare }
 {
     if outcomes.reserve(n).is_err() {
@@ -115,8 +122,8 @@ fn reserve(rt: &impl Abort, outcomes: &mut Outcomes, n: usize)
     }
 }
 
-// The Soles that were given back are dropped, and the receipts closed: how many Soles there were.
-fn emptied(outcomes: &mut Outcomes) -> usize
+/// The Soles that were given back are dropped, and the receipts closed: how many Soles there were.
+pub(crate) fn emptied(outcomes: &mut Outcomes) -> usize
     ensures bare { IsBare outcomes.new }
 {
     let mut blocks: usize = 0;
@@ -220,11 +227,11 @@ fn finished(rt: &impl Abort, alloc: Global, table: RoundTable) -> Vec<Item> {
     }
 }
 
-// Number, packets, first payload and modes of an item.
-type Said = (u32, u32, u32, u8);
+/// Number, packets, first payload and modes of an item.
+pub(crate) type Said = (u32, u32, u32, u8);
 
-// The items say this: how many blocks are home once they are spent.
-fn spent(rt: &impl Abort, items: Vec<Item>, rows: &[Said]) -> usize {
+/// The items say this: how many blocks are home once they are spent.
+pub(crate) fn spent(rt: &impl Abort, items: Vec<Item>, rows: &[Said]) -> usize {
     assert_eq!(rt; items.len(), rows.len());
     let mut items = items;
     let mut blocks: usize = 0;

@@ -12,7 +12,7 @@ use std::process::Abort;
 use std::test::Fail;
 
 // The same headers in another flow. Both ports change, and their sum stays.
-fn in_flow(head: [u8; 54], flow: u16) -> [u8; 54] {
+pub(super) fn in_flow(head: [u8; 54], flow: u16) -> [u8; 54] {
     let mut other = head;
     put16(&mut other, 34, 40000u16.wrapping_add(flow));
     put16(&mut other, 36, 5001u16.wrapping_sub(flow));

@@ -1,35 +1,87 @@
-use Rattle.std.proofs.Common.{◌≡◌, ◌∷◌, [], List, refl, ap, ◌∙◌, subst, sym, arith, length}
-use Rattle.std.proofs.lemmas.List.{append-nil, nil_from_length}
-use Rattle.std.specs.List.{AllByRecursion}
-use Rattle.gro.specs.declared.places.Places.{Places}
+use Rattle.std.proofs.Common.{◌≡◌, ◌+◌, ◌<◌, ◌∷◌, [], ℕ, List, Option, length, map, drop, refl, ap, ◌∙◌, subst, sym, arith}
+use Rattle.std.proofs.lemmas.List.{nil_from_length}
+use Rattle.gro.specs.declared.packet.Packet.{Packet as Held}
 use Rattle.gro.specs.declared.run.Run.{Run}
-use Rattle.gro.specs.Items.{AreItemsOf}
+use Rattle.offload_model.specs.Merged.{merged_of}
+use Rattle.gro.specs.Chains.{indices, AreDistinct}
+use Rattle.gro.specs.Held.{packet_of}
+use Rattle.gro.specs.Items.{IsItemOf}
 use Rattle.gro.specs.Places.{ArePlacesOf}
-use Rattle.gro.specs.Runs.{IsRun}
-use Rattle.gro.proofs.Placing.{items_more, no_place}
+use Rattle.gro.specs.Table.{AreItemsFrom}
+use Rattle.gro.specs.Waiting.{held_at, AreThere, Empties, AreWaiting}
+use Rattle.gro.proofs.Emptying.{first_there, first_distinct, waiting_more, held_stays}
+use Rattle.gro.proofs.Placing.{run_first, items_more, items_end, no_places}
 use Rattle.gro.proofs.item.build_all.Goals as goal
 
-pub loop-run-preserved : goal.loop-run-preserved
-loop-run-preserved c =
-    let i = c.loop-run.invariant in
-    let e = c.in-Some.ensures.items in
-    let f = c.in-Some-pop_front.ensures.items in
-    let all = subst (AllByRecursion IsRun) e i.each in
-    let two = subst (λ (z : List Places). ArePlacesOf (c.in-Some.run' ∷ c.pop_front.new.self.items) z) f (subst (λ (z : List Run). ArePlacesOf z c.loop-run.places.items) e i.places) in
+pub unreachable-requires : goal.unreachable-requires
+unreachable-requires c =
+    let none : c.loop-i.places.items ≡ [] = nil_from_length c.loop-i.places.items (omega (arith, c.in_default.ensures.cases.0, c.loop-i.places.ok)) in
+    no_places (held_at c.args.engine.now.next.items c.loop-i.waiting.items) c.args.engine.now.runs.items c.loop-i.i (omega (arith, c.loop-i-test.true, c.loop-i.invariant.end))
+    (subst (ArePlacesOf (map (held_at c.args.engine.now.next.items c.loop-i.waiting.items) (drop c.loop-i.i c.args.engine.now.runs.items))) none c.loop-i.invariant.places)
+
+pub build_item-requires-clause-there : goal.build_item-requires-clause-there
+build_item-requires-clause-there c =
+    let i = c.loop-i.invariant in
+    let e = c.args.engine.now in
+    let next : List ℕ = e.next.items in
+    let r : Run = c.index.result.now in
+    let rs : List Run = drop (c.loop-i.i + 1) e.runs.items in
+    let w : List (Option Held) = c.loop-i.waiting.items in
+    let lt : c.loop-i.i < length e.runs.items = omega (arith, c.loop-i-test.true, i.end) in
+    let first : drop c.loop-i.i e.runs.items ≡ r ∷ rs = run_first e.runs.items c.loop-i.i r lt c.index.ensures in
+    let waits : AreWaiting next (r ∷ rs) w = subst (λ (z : List Run). AreWaiting next z w) first i.waiting in
+    subst (λ (z : List ℕ). AreThere w (indices z r)) (sym c.deref.ensures.value) (first_there next r rs w waits)
+
+pub build_item-requires-clause-distinct : goal.build_item-requires-clause-distinct
+build_item-requires-clause-distinct c =
+    let i = c.loop-i.invariant in
+    let e = c.args.engine.now in
+    let next : List ℕ = e.next.items in
+    let r : Run = c.index.result.now in
+    let rs : List Run = drop (c.loop-i.i + 1) e.runs.items in
+    let w : List (Option Held) = c.loop-i.waiting.items in
+    let lt : c.loop-i.i < length e.runs.items = omega (arith, c.loop-i-test.true, i.end) in
+    let first : drop c.loop-i.i e.runs.items ≡ r ∷ rs = run_first e.runs.items c.loop-i.i r lt c.index.ensures in
+    let waits : AreWaiting next (r ∷ rs) w = subst (λ (z : List Run). AreWaiting next z w) first i.waiting in
+    subst (λ (z : List ℕ). AreDistinct (indices z r)) (sym c.deref.ensures.value) (first_distinct next r rs w waits)
+
+pub loop-i-preserved : goal.loop-i-preserved
+loop-i-preserved c =
+    let i = c.loop-i.invariant in
+    let e = c.args.engine.now in
+    let next : List ℕ = e.next.items in
+    let r : Run = c.index.result.now in
+    let rs : List Run = drop (c.loop-i.i + 1) e.runs.items in
+    let w : List (Option Held) = c.loop-i.waiting.items in
+    let lt : c.loop-i.i < length e.runs.items = omega (arith, c.loop-i-test.true, i.end) in
+    let first : drop c.loop-i.i e.runs.items ≡ r ∷ rs = run_first e.runs.items c.loop-i.i r lt c.index.ensures in
+    let waits : AreWaiting next (r ∷ rs) w = subst (λ (z : List Run). AreWaiting next z w) first i.waiting in
+    let w2 : List (Option Held) = c.build_item.new.waiting.items in
+    let empties : Empties (indices next r) w w2 = subst (λ (z : List ℕ). Empties (indices z r) w w2) c.deref.ensures.value c.build_item.ensures.empties in
+    let stays : map (held_at next w2) rs ≡ map (held_at next w) rs = held_stays next r rs w w2 waits empties in
+    let places : ArePlacesOf (held_at next w r ∷ map (held_at next w) rs) (c.in-Some.own ∷ c.pop_front.new.self.items)
+    = subst (ArePlacesOf (held_at next w r ∷ map (held_at next w) rs)) c.in-Some.ensures.items
+    (subst (λ (z : List Run). ArePlacesOf (map (held_at next w) z) c.loop-i.places.items) first i.places) in
     record {
-      each = all.1;
-      places = two.1;
-      room = omega (arith, i.room, ap length e, c.push_reserved.ensures.len, c.push_reserved.ensures.capacity);
-      rest = items_more c.args.runs.now.items c.loop-run.runs.items c.in-Some.run' c.pop_front.new.self.items c.loop-run.items.items
-          c.push_reserved.new.self.items c.into_item.result e c.push_reserved.ensures.items
-          ((c.into_item.ensures.item, c.into_item.ensures.holds), refl) i.rest;
+      end = i.end;
+      within = omega (arith, lt);
+      linked = omega (arith, i.linked, empties.size);
+      waiting = waiting_more next r rs w w2 waits empties;
+      places = subst (λ (z : List (List Held)). ArePlacesOf z c.pop_front.new.self.items) (sym stays) places.1;
+      room = omega (arith, i.room, c.push_reserved.ensures.len, c.push_reserved.ensures.capacity, lt);
+      rest = λ is a. items_more (map (held_at next c.args.waiting.now.items) e.runs.items) (held_at next w r) (map (held_at next w) rs) c.loop-i.items.items
+          c.push_reserved.new.self.items c.build_item.result c.push_reserved.ensures.items (
+            (
+              c.build_item.ensures.item ∙ ap (λ (z : List ℕ). merged_of (map packet_of (held_at z w r))) c.deref.ensures.value,
+              subst (λ (z : List ℕ). IsItemOf (held_at z w r) c.build_item.result) c.deref.ensures.value c.build_item.ensures.holds,
+            ),
+            refl,
+          )
+          (λ js b. i.rest js (subst (λ (z : List Run). AreItemsFrom (map (held_at next w) z) js) (sym first) b)) is
+          (subst (λ (z : List (List Held)). AreItemsFrom z is) stays a);
     }
 
-pub returns : goal.returns
-returns c =
-    let i = c.loop-run.invariant in
-    let e : c.loop-run.runs.items ≡ [] = nil_from_length c.loop-run.runs.items (omega (arith, c.in_default.ensures.cases.0, c.loop-run.runs.ok)) in
-    record {
-      items = subst (AreItemsOf c.args.runs.now.items) (append-nil c.loop-run.items.items) (i.rest [] (subst (λ (z : List Run). AreItemsOf z []) (sym e) refl));
-      none = (sym c.in_default.ensures.items ∙ e, no_place c.loop-run.places.items (subst (λ (z : List Run). ArePlacesOf z c.loop-run.places.items) e i.places));
-    }
+pub returns-clause-items : goal.returns-clause-items
+returns-clause-items c =
+    items_end (map (held_at c.args.engine.now.next.items c.args.waiting.now.items) c.args.engine.now.runs.items) (held_at c.args.engine.now.next.items c.loop-i.waiting.items)
+    c.args.engine.now.runs.items c.loop-i.items.items c.loop-i.i (omega (arith, c.loop-i.invariant.end, c.loop-i.invariant.within, c.loop-i-test.false)) c.loop-i.invariant.rest

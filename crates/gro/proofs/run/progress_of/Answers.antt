@@ -18,5 +18,5 @@ first_progress-requires-clause-first c =
     let f : List ℕ = buffer_bytes c.args.first.now.skb in
     let j : IsCandidateOf f c.args.first.now.original c.in-Some.layout c.args.candidacy.now.payload c.args.candidacy.now.flags
     = subst (λ z. IsJudged f c.args.first.now.original z c.args.candidacy.now.payload c.args.candidacy.now.flags) c.in-Some.is c.requires.judged in
-    in_head c.args.first.now c.in-Some.layout.payload_at _ c.requires.held (bounds f j.in_bytes c.in-Some.layout j.shape).0
+    in_head c.args.first.now c.in-Some.layout.payload_at _ c.requires.slot (bounds f j.in_bytes c.in-Some.layout j.shape).0
     (within f c.in-Some.layout j.shape) c.head.ensures.size

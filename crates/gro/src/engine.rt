@@ -1,0 +1,360 @@
+//! Merging over a list of packets, by index.
+ghost use Rattle.std.specs.Prelude.{◌≡◌, ◌+◌, ◌<◌, ◌^◌, ◌++◌, ◌∷◌, [], Option, Some, None, ℕ, List, true, length};
+ghost use Rattle.std.specs.Prelude.{IsTrue, map, OnOk, IfOk, slice_index_or, if◌then◌else◌};
+ghost use Rattle.std.specs.List.{AllByRecursion};
+ghost use Rattle.std.specs.Bool.{Decides};
+ghost use Rattle.maximal_runs.specs.Items.{begins_in};
+ghost use Rattle.frame_layout.specs.Key.{key_of};
+ghost use Rattle.offload_model.specs.Mergeable.{IsMergeable, IsMergeableWithin};
+ghost use Rattle.offload_model.specs.Rounds.{is_of, runs_in};
+ghost use Rattle.merge_rule.specs.Runs.{IsJudged};
+ghost use Rattle.skb.specs.SkbState.{buffer_bytes};
+ghost use Rattle.gro.specs.Slots.{packet_in, IsSlot, AreSlots, IsHere};
+ghost use Rattle.gro.specs.Flows.{slot_of, place_of, AreFlows, Puts, HasRoom};
+ghost use Rattle.gro.specs.Engine.{IsChain, runs_of, AreRuns, HasPlaces, Grows, Takes, DoRise, IsReady};
+
+use crate::candidacy::{flow_key, judge};
+use crate::flows::{Flows, Found};
+use crate::run::Run;
+use crate::slot::Slot;
+use frame_layout::Key;
+use merge_rule::Candidacy;
+use std::alloc::{AllocError, Global};
+
+/// The runs of a list of packets in the order of their first packets; for each packet, which one follows it in its run;
+/// the open run of each flow; and the run that the last packet is in, where that is open. No packet is in it.
+#[derive(Drop)]
+pub struct Engine {
+    pub runs: Vec<Run>,
+    pub next: Vec<u32>,
+    pub flows: Flows,
+    pub last: Option<usize>,
+}
+
+fn open_at(place: usize, is_open: bool) -> Option<usize>
+    ensures place { result ≡ (if is_open then Some place else None) }
+{
+    if is_open { Some(place) } else { None }
+}
+
+/// The packet's flow finds nothing any more, where its run isn't open.
+fn settle(flows: &mut Flows, slot: &Slot, candidacy: &Candidacy, is_open: bool)
+    requires flows { AreFlows flows.old }
+    requires slot { IsSlot slot.now }
+    requires judged { IsJudged (buffer_bytes slot.now.skb) slot.now.original candidacy.now.layout
+        candidacy.now.payload candidacy.now.flags }
+    ensures flows { AreFlows flows.new }
+    ensures puts { let key = key_of (buffer_bytes slot.now.skb) in
+        Puts flows.old key (if is_open then place_of flows.old key else None) flows.new }
+    ensures room { (n : ℕ) → HasRoom flows.old n → HasRoom flows.new n }
+{
+    if is_open {
+        return;
+    }
+    let key = flow_key(&slot.skb, candidacy);
+    flows.forget(&key);
+}
+
+impl Engine {
+    /// An engine for lists of at most `limit` packets. All memory is taken here.
+    pub fn make(alloc: Global, limit: u32) -> Result<Engine, AllocError>
+        ensures ready { IfOk result (λ e. IsReady e limit) }
+    {
+        let flows = Flows::with_capacity(alloc, limit as usize)?;
+        let runs = Vec::with_capacity(alloc, limit as usize)?;
+        let next = vec![in alloc; 0; limit as usize]?;
+        Ok(Engine {
+            runs,
+            next,
+            flows,
+            last: None,
+        })
+    }
+
+    /// No runs any more, whatever was merged before. The memory stays.
+    pub fn clear(&mut self)
+        ensures ready { IsReady self.new 0 }
+    {
+        self.runs.clear();
+        self.flows.clear();
+        self.last = None;
+    }
+
+    /// The next list, of at most `limit` packets, for whatever was merged before. Where one before was for as many,
+    /// that takes no memory.
+    pub fn start(&mut self, limit: u32) -> Result<(), AllocError>
+        ensures none { IsReady self.new 0 }
+        ensures ready { OnOk result (IsReady self.new limit) }
+    {
+        self.clear();
+        let n = limit as usize;
+        self.runs.reserve(n)?;
+        self.flows.reserve(n)?;
+        if self.next.len() < n {
+            self.next.resize(n, 0)?;
+        }
+        Ok(())
+    }
+
+    /// The run at a place takes packet i: the index of its last one leads to it. Whether one more may follow.
+    fn link(
+        &mut self,
+        packets: &[Slot],
+        i: u32,
+        slot: &Slot,
+        place: usize,
+        candidacy: &Candidacy,
+    ) -> bool
+        requires runs { AreRuns (map packet_in packets.now) i self.old }
+        requires slots { AreSlots packets.now }
+        requires here { IsHere packets.now i slot.now }
+        requires slot { IsSlot slot.now }
+        requires judged { IsJudged (buffer_bytes slot.now.skb) slot.now.original candidacy.now.layout
+            candidacy.now.payload candidacy.now.flags }
+        requires inside { place < length self.old.runs.items }
+        requires mergeable { IsMergeable (slice_index_or (runs_of (map packet_in packets.now) self.old) place []
+            ++ (packet_in slot.now ∷ [])) }
+        ensures grows { Grows (map packet_in packets.now) i place result self.old self.new }
+    {
+        let run = &mut self.runs[place];
+        let before = run.last;
+        run.add(&packets[run.first as usize], i, slot, candidacy);
+        let is_open = run.progress.is_open;
+        self.next[before as usize] = i;
+        is_open
+    }
+
+    /// A packet of a flow of which no run is found: it opens one.
+    fn begin(&mut self, packets: &[Slot], i: u32, slot: &Slot, key: Key, candidacy: Candidacy)
+        requires runs { AreRuns (map packet_in packets.now) i self.old }
+        requires places { HasPlaces self.old 1 }
+        requires here { IsHere packets.now i slot.now }
+        requires slot { IsSlot slot.now }
+        requires judged { IsJudged (buffer_bytes slot.now.skb) slot.now.original candidacy.layout candidacy.payload
+            candidacy.flags }
+        requires key { key_of (buffer_bytes slot.now.skb) ≡ key }
+        requires none { place_of self.old.flows key ≡ None }
+        ensures takes { (segs : ℕ) → Takes segs (map packet_in packets.now) i self.old self.new }
+    {
+        let run = Run::open(i, slot, candidacy);
+        let place = self.runs.len();
+        let is_open = run.progress.is_open;
+        self.flows.begin(key, place, is_open);
+        self.last = open_at(place, is_open);
+        self.runs.push_reserved(run);
+    }
+
+    /// A packet that its flow's run at `found` doesn't take: it opens the next one.
+    fn follow(
+        &mut self,
+        packets: &[Slot],
+        i: u32,
+        slot: &Slot,
+        key: &Key,
+        found: Found,
+        candidacy: Candidacy,
+    )
+        requires runs { AreRuns (map packet_in packets.now) i self.old }
+        requires places { HasPlaces self.old 1 }
+        requires here { IsHere packets.now i slot.now }
+        requires slot { IsSlot slot.now }
+        requires judged { IsJudged (buffer_bytes slot.now.skb) slot.now.original candidacy.layout candidacy.payload
+            candidacy.flags }
+        requires key { key_of (buffer_bytes slot.now.skb) ≡ key.now }
+        requires at { slot_of self.old.flows key.now ≡ Some found.slot }
+        requires place { place_of self.old.flows key.now ≡ Some found.place }
+        ensures takes { (segs : ℕ) → (IsMergeableWithin segs
+            (slice_index_or (runs_of (map packet_in packets.now) self.old) found.place []
+            ++ (packet_in slot.now ∷ [])) → ⊥)
+            → Takes segs (map packet_in packets.now) i self.old self.new }
+    {
+        let run = Run::open(i, slot, candidacy);
+        let is_open = run.progress.is_open;
+        let place = self.runs.len();
+        self.flows.follow(key, found.slot, place, is_open);
+        self.last = open_at(place, is_open);
+        self.runs.push_reserved(run);
+    }
+
+    /// A packet that may not be merged, of a flow of which no run is found: it opens a run, which no other joins.
+    fn stand_alone(&mut self, packets: &[Slot], i: u32, slot: &Slot, candidacy: Candidacy)
+        requires runs { AreRuns (map packet_in packets.now) i self.old }
+        requires places { HasPlaces self.old 1 }
+        requires here { IsHere packets.now i slot.now }
+        requires slot { IsSlot slot.now }
+        requires judged { IsJudged (buffer_bytes slot.now.skb) slot.now.original candidacy.layout candidacy.payload
+            candidacy.flags }
+        requires none { place_of self.old.flows (key_of (buffer_bytes slot.now.skb)) ≡ None }
+        requires alone { candidacy.layout ≡ None }
+        ensures takes { (segs : ℕ) → Takes segs (map packet_in packets.now) i self.old self.new }
+    {
+        let run = Run::open(i, slot, candidacy);
+        self.last = None;
+        self.runs.push_reserved(run);
+    }
+
+    /// A packet that its flow's run at `found` takes.
+    fn grow(
+        &mut self,
+        packets: &[Slot],
+        i: u32,
+        slot: &Slot,
+        key: &Key,
+        found: Found,
+        candidacy: &Candidacy,
+    )
+        requires runs { AreRuns (map packet_in packets.now) i self.old }
+        requires slots { AreSlots packets.now }
+        requires here { IsHere packets.now i slot.now }
+        requires slot { IsSlot slot.now }
+        requires judged { IsJudged (buffer_bytes slot.now.skb) slot.now.original candidacy.now.layout
+            candidacy.now.payload candidacy.now.flags }
+        requires key { key_of (buffer_bytes slot.now.skb) ≡ key.now }
+        requires at { slot_of self.old.flows key.now ≡ Some found.slot }
+        requires place { place_of self.old.flows key.now ≡ Some found.place }
+        requires mergeable { IsMergeable (slice_index_or (runs_of (map packet_in packets.now) self.old) found.place []
+            ++ (packet_in slot.now ∷ [])) }
+        ensures takes { (segs : ℕ) → IsMergeableWithin segs
+            (slice_index_or (runs_of (map packet_in packets.now) self.old) found.place []
+            ++ (packet_in slot.now ∷ []))
+            → Takes segs (map packet_in packets.now) i self.old self.new }
+    {
+        let is_open = self.link(packets, i, slot, found.place, candidacy);
+        self.flows.keep(key, found, is_open);
+        self.last = open_at(found.place, is_open);
+    }
+
+    /// A packet that the last packet's run takes. Its key isn't asked for, but where the run ends with it.
+    fn extend(&mut self, packets: &[Slot], i: u32, slot: &Slot, place: usize, candidacy: &Candidacy)
+        requires runs { AreRuns (map packet_in packets.now) i self.old }
+        requires slots { AreSlots packets.now }
+        requires here { IsHere packets.now i slot.now }
+        requires slot { IsSlot slot.now }
+        requires judged { IsJudged (buffer_bytes slot.now.skb) slot.now.original candidacy.now.layout
+            candidacy.now.payload candidacy.now.flags }
+        requires inside { place < length self.old.runs.items }
+        requires found { place_of self.old.flows (key_of (buffer_bytes slot.now.skb)) ≡ Some place }
+        requires mergeable { IsMergeable (slice_index_or (runs_of (map packet_in packets.now) self.old) place []
+            ++ (packet_in slot.now ∷ [])) }
+        ensures takes { (segs : ℕ) → IsMergeableWithin segs
+            (slice_index_or (runs_of (map packet_in packets.now) self.old) place [] ++ (packet_in slot.now ∷ []))
+            → Takes segs (map packet_in packets.now) i self.old self.new }
+    {
+        let is_open = self.link(packets, i, slot, place, candidacy);
+        settle(&mut self.flows, slot, candidacy, is_open);
+        self.last = open_at(place, is_open);
+    }
+
+    /// Whether the run at a place takes a packet. If so, that is of the run's flow.
+    fn takes_at(
+        &self,
+        packets: &[Slot],
+        place: usize,
+        slot: &Slot,
+        candidacy: &Candidacy,
+        segs: u32,
+    ) -> bool
+        requires each { AllByRecursion (IsChain (map packet_in packets.now) self.now.next.items) self.now.runs.items }
+        requires slots { AreSlots packets.now }
+        requires inside { place < length self.now.runs.items }
+        requires slot { IsSlot slot.now }
+        requires judged { IsJudged (buffer_bytes slot.now.skb) slot.now.original candidacy.now.layout
+            candidacy.now.payload candidacy.now.flags }
+        ensures takes { Decides result (IsMergeableWithin segs
+            (slice_index_or (runs_of (map packet_in packets.now) self.now) place [] ++ (packet_in slot.now ∷ []))) }
+        ensures flow { IsTrue result → begins_in (is_of (key_of (buffer_bytes slot.now.skb)))
+            (slice_index_or (runs_of (map packet_in packets.now) self.now) place []) ≡ true }
+    {
+        let run = &self.runs[place];
+        run.takes_within(&packets[run.first as usize], slot, candidacy, segs)
+    }
+
+    /// Whether a packet can neither be merged nor end a run, whatever its flow is.
+    fn is_apart(&self, candidacy: &Candidacy) -> bool
+        ensures layout { IsTrue result → candidacy.now.layout ≡ None }
+        ensures none { IsTrue result → (q : Option (List ℕ)) → place_of self.now.flows q ≡ None }
+    {
+        candidacy.layout.is_none() && self.flows.is_empty()
+    }
+
+    /// A packet of the flow with this key: its flow's run takes it, or it opens one.
+    fn place(
+        &mut self,
+        packets: &[Slot],
+        i: u32,
+        slot: &Slot,
+        key: Key,
+        candidacy: Candidacy,
+        segs: u32,
+    )
+        requires runs { AreRuns (map packet_in packets.now) i self.old }
+        requires places { HasPlaces self.old 1 }
+        requires slots { AreSlots packets.now }
+        requires here { IsHere packets.now i slot.now }
+        requires slot { IsSlot slot.now }
+        requires judged { IsJudged (buffer_bytes slot.now.skb) slot.now.original candidacy.layout candidacy.payload
+            candidacy.flags }
+        requires key { key_of (buffer_bytes slot.now.skb) ≡ key }
+        ensures takes { Takes segs (map packet_in packets.now) i self.old self.new }
+    {
+        let Some(found) = self.flows.find(&key) else {
+            return self.begin(packets, i, slot, key, candidacy);
+        };
+        if self.takes_at(packets, found.place, slot, &candidacy, segs) {
+            return self.grow(packets, i, slot, &key, found, &candidacy);
+        }
+        self.follow(packets, i, slot, &key, found, candidacy);
+    }
+
+    /// A packet that the last packet's run doesn't take.
+    fn find_place(&mut self, packets: &[Slot], i: u32, slot: &Slot, candidacy: Candidacy, segs: u32)
+        requires runs { AreRuns (map packet_in packets.now) i self.old }
+        requires places { HasPlaces self.old 1 }
+        requires slots { AreSlots packets.now }
+        requires here { IsHere packets.now i slot.now }
+        requires slot { IsSlot slot.now }
+        requires judged { IsJudged (buffer_bytes slot.now.skb) slot.now.original candidacy.layout candidacy.payload
+            candidacy.flags }
+        ensures takes { Takes segs (map packet_in packets.now) i self.old self.new }
+    {
+        if self.is_apart(&candidacy) {
+            return self.stand_alone(packets, i, slot, candidacy);
+        }
+        let key = flow_key(&slot.skb, &candidacy);
+        self.place(packets, i, slot, key, candidacy, segs);
+    }
+
+    /// Packet i of a list of which the first i were received, in runs of at most `segs`: the last run of its flow takes
+    /// it, or it opens the next one. It takes no memory and can't fail.
+    pub fn receive(&mut self, packets: &[Slot], i: u32, segs: u32)
+        requires runs { AreRuns (map packet_in packets.now) i self.old }
+        requires places { HasPlaces self.old 1 }
+        requires slots { AreSlots packets.now }
+        requires inside { i < length packets.now }
+        ensures takes { Takes segs (map packet_in packets.now) i self.old self.new }
+    {
+        let slot = &packets[i as usize];
+        let candidacy = judge(&slot.skb, slot.original);
+        if let Some(place) = self.last {
+            if self.takes_at(packets, place, slot, &candidacy, segs) {
+                return self.extend(packets, i, slot, place, &candidacy);
+            }
+        }
+        self.find_place(packets, i, slot, candidacy, segs);
+    }
+
+    /// All packets of a list, whose numbers rise, in runs of at most `segs`, by an engine that has no runs yet. It
+    /// takes no memory and can't fail.
+    pub fn merge(&mut self, packets: &[Slot], segs: u32)
+        requires ready { IsReady self.old (length packets.now) }
+        requires slots { AreSlots packets.now }
+        requires rising { DoRise (map packet_in packets.now) }
+        requires few { length packets.now < 2 ^ 32 }
+        ensures runs { runs_of (map packet_in packets.now) self.new ≡ runs_in segs (map packet_in packets.now) }
+        ensures are { AreRuns (map packet_in packets.now) (length packets.now) self.new }
+    {
+        for i in 0..packets.len() {
+            self.receive(packets, i as u32, segs);
+        }
+    }
+}

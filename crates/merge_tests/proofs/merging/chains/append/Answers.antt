@@ -1,0 +1,16 @@
+use Rattle.std.proofs.Common.{◌+◌, List, [], ◌∷◌, ◌++◌, refl, sym, ap, ◌∙◌, subst}
+use Rattle.gro.specs.declared.slot.Slot.{Slot}
+use Rattle.merge_tests.specs.Numbered.{AreNumbered}
+use Rattle.merge_tests.proofs.Numbering.{numbered_more}
+use Rattle.merge_tests.proofs.merging.chains.append.Goals as goal
+
+pub returns : goal.returns
+returns g c =
+    let p = c.args.packet in
+    let s : Slot = record { skb = p.skb; sec = p.sec; frac = p.frac; original = p.original; number = c.args.number } in
+    let h = c.requires.held in
+    let items = c.push_reserved.ensures.items ∙ ap (λ (z : List Slot). z ++ (s ∷ [])) c.reserve.ensures.items in
+    record {
+      numbered = subst (λ (z : List Slot). AreNumbered z (c.args.number + 1)) (sym items)
+          (numbered_more c.args.slots.now.items s c.args.number refl (record { size = h.size; front = h.front; short = h.short }) c.requires.numbered);
+    }

@@ -1,0 +1,5 @@
+use Rattle.merge_tests.specs.Numbered.{AreNumbered}
+use Rattle.merge_tests.proofs.merging.chains.one_flow.Given as goal
+
+abbrev pub invariant-loop-i : goal.invariant-loop-i
+invariant-loop-i g l = AreNumbered l.slots.items l.i

@@ -1,0 +1,213 @@
+//! Which packets an engine links, one behind the other.
+ghost use Rattle.std.specs.Prelude.{◌+◌, ◌≤◌, length};
+ghost use Rattle.gro.specs.Held.{IsHeld};
+ghost use Rattle.merge_tests.specs.Numbered.{AreNumbered};
+
+use super::rounds::in_flow;
+use super::{freed, packet, plain};
+use frags::Outcomes;
+use gro::{Engine, Packet, Slot};
+use std::alloc::Global;
+use std::process::Abort;
+
+// One more packet in a list, with the next number. Its spares aren't wanted.
+fn append(rt: &impl Abort, slots: &mut Vec<Slot>, number: u32, packet: Packet)
+    requires held { IsHeld packet }
+    requires numbered { AreNumbered slots.old.items number }
+    ensures numbered { AreNumbered slots.new.items (number + 1) }
+{
+    slots.reserve(1).expect(rt, "room");
+    let Packet {
+        skb,
+        spare1: _,
+        spare2: _,
+        sec,
+        frac,
+        original,
+        number: _,
+    } = packet;
+    slots.push_reserved(Slot {
+        skb,
+        sec,
+        frac,
+        original,
+        number,
+    });
+}
+
+// Gives the buffers of packets up.
+fn spent_slots(rt: &impl Abort, alloc: Global, slots: Vec<Slot>) {
+    let mut slots = slots;
+    while let Some(slot) = slots.pop() {
+        let Slot {
+            skb,
+            sec: _,
+            frac: _,
+            original: _,
+            number: _,
+        } = slot;
+        freed(rt, skb, Outcomes::new(alloc));
+    }
+    slots.destroy_empty();
+}
+
+// Whether the run at a place is the chain of these indices.
+fn is_chain(engine: &Engine, place: usize, row: &[u32]) -> bool {
+    let Some(run) = engine.runs.get(place) else {
+        return false;
+    };
+    let mut index = run.first;
+    for i in 0..row.len() {
+        if i > 0 {
+            let Some(next) = engine.next.get(index as usize) else {
+                return false;
+            };
+            index = *next;
+        }
+        if index != row[i] {
+            return false;
+        }
+    }
+    run.more as usize + 1 == row.len() && run.last == index
+}
+
+// Packets of these headers and one payload, in runs of at most `segs`, come to these chains.
+fn linked(
+    rt: &impl Abort,
+    alloc: Global,
+    segs: u32,
+    heads: &[[u8; 54]],
+    payload: &[u8],
+    rows: &[&[u32]],
+)
+    requires few { length heads.now ≤ 4096 }
+{
+    let mut slots = Vec::new(alloc);
+    for i in 0..heads.len() {
+        let packet = packet(rt, alloc, i as u32, &heads[i], payload);
+        append(rt, &mut slots, i as u32, packet);
+    }
+    let mut engine = Engine::make(alloc, heads.len() as u32).expect(rt, "engine");
+    engine.merge(&slots, segs);
+    assert_eq!(rt; engine.runs.len(), rows.len());
+    for i in 0..rows.len() {
+        assert!(rt; is_chain(&engine, i, rows[i]));
+    }
+    spent_slots(rt, alloc, slots);
+}
+
+/// Two flows in turn, and a packet of a third among them.
+#[test]
+fn flows_in_turn(rt: HostRuntime) {
+    let payload = [9; 100];
+    let heads = [
+        plain(0, 0, 0x10, &payload),
+        in_flow(plain(0, 0, 0x10, &payload), 1),
+        plain(1, 100, 0x10, &payload),
+        in_flow(plain(0, 0, 0x10, &payload), 2),
+        in_flow(plain(1, 100, 0x10, &payload), 1),
+        plain(2, 200, 0x10, &payload),
+    ];
+    linked(
+        &rt,
+        rt.alloc(),
+        4096,
+        &heads,
+        &payload,
+        &[&[0, 2, 5], &[1, 4], &[3]],
+    );
+}
+
+/// A run that has as many packets as it may is followed by another, which is linked from its own first packet on.
+#[test]
+fn closed_by_their_number(rt: HostRuntime) {
+    let payload = [9; 100];
+    let heads = [
+        plain(0, 0, 0x10, &payload),
+        plain(1, 100, 0x10, &payload),
+        in_flow(plain(0, 0, 0x10, &payload), 1),
+        plain(2, 200, 0x10, &payload),
+        plain(3, 300, 0x10, &payload),
+        plain(4, 400, 0x10, &payload),
+    ];
+    let alloc = rt.alloc();
+    linked(
+        &rt,
+        alloc,
+        2,
+        &heads,
+        &payload,
+        &[&[0, 1], &[2], &[3, 4], &[5]],
+    );
+    linked(
+        &rt,
+        alloc,
+        3,
+        &heads,
+        &payload,
+        &[&[0, 1, 3], &[2], &[4, 5]],
+    );
+}
+
+/// The same engine over one list after another: what was linked before doesn't matter.
+#[test]
+fn one_list_after_another(rt: HostRuntime) {
+    let alloc = rt.alloc();
+    let payload = [9; 100];
+    let mut engine = Engine::make(alloc, 2).expect(&rt, "engine");
+    for turn in 0..3u32 {
+        let mut slots = Vec::new(alloc);
+        append(
+            &rt,
+            &mut slots,
+            0,
+            packet(&rt, alloc, 0, &plain(0, 0, 0x10, &payload), &payload),
+        );
+        append(
+            &rt,
+            &mut slots,
+            1,
+            packet(&rt, alloc, 1, &plain(1, 100, 0x10, &payload), &payload),
+        );
+        engine.start(2).expect(&rt, "room");
+        engine.merge(&slots, if turn == 1 { 1 } else { 2 });
+        assert!(rt; is_chain(&engine, 0, if turn == 1 { &[0] } else { &[0, 1] }));
+        spent_slots(&rt, alloc, slots);
+    }
+}
+
+// Whether the only run is a chain of so many packets, each behind the one before.
+fn is_one_chain(engine: &Engine, n: u32) -> bool {
+    let Some(run) = engine.runs.get(0) else {
+        return false;
+    };
+    let mut index = run.first;
+    for i in 0..n {
+        if index != i {
+            return false;
+        }
+        if i != run.last {
+            let Some(next) = engine.next.get(index as usize) else {
+                return false;
+            };
+            index = *next;
+        }
+    }
+    engine.runs.len() == 1 && run.last == index && run.more.wrapping_add(1) == n
+}
+
+/// 4,096 packets of one flow are one chain.
+#[test]
+fn one_flow(rt: HostRuntime) {
+    let alloc = rt.alloc();
+    let payload = [9; 10];
+    let mut slots = Vec::new(alloc);
+    for i in 0..4096u32 {
+        let head = plain(i as u16, i * 10, 0x10, &payload);
+        append(&rt, &mut slots, i, packet(&rt, alloc, i, &head, &payload));
+    }
+    let mut engine = Engine::make(alloc, 4096).expect(&rt, "engine");
+    engine.merge(&slots, 4096);
+    assert!(rt; is_one_chain(&engine, 4096));
+    spent_slots(&rt, alloc, slots);
+}
