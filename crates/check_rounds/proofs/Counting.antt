@@ -37,11 +37,9 @@ use Rattle.rounds.specs.Reading.{GivesRound, Holds, Exceeds}
 use Rattle.rounds.specs.Record.{Passes as PassesRecords}
 use Rattle.rounds.specs.declared.round.RoundEnd.{RoundEnd}
 use Rattle.rounds.specs.declared.round.RoundEnd.TheVariants as rounds
-use Rattle.check_rounds.specs.Checking.{ending_of, CountsLast, Ahead, EndsBehind, Steps, AreOf}
+use Rattle.check_rounds.specs.Checking.{ending_of, CountsLast, Ahead, EndsBehind, AreOf}
 use Rattle.check_rounds.specs.declared.check.CheckEnd.{CheckEnd}
 use Rattle.check_rounds.specs.declared.check.CheckEnd.TheVariants as ends
-use Rattle.check_rounds.specs.declared.check.Step.{Step}
-use Rattle.check_rounds.specs.declared.check.Step.TheVariants as steps
 
 -- ---- rounds in a row
 
@@ -74,7 +72,7 @@ module _ (blocks : ℕ) (options : Options) (k : ℕ) (p0 p1 p2 : Place) (a b c 
   }
 
   -- one round more
-  pub goes_then : Told a b (Ahead blocks options k p0 p1 c0 c1 t0 t1) → Told b c (Steps k blocks options p1 p2 c1 c2 t1 t2 steps.Goes) → Told a c (Ahead blocks options (k + 1) p0 p2 c0 c2 t0 t2)
+  pub goes_then : Told a b (Ahead blocks options k p0 p1 c0 c1 t0 t1) → Told b c (Ahead blocks options 1 p1 p2 c1 c2 t1 t2) → Told a c (Ahead blocks options (k + 1) p0 p2 c0 c2 t0 t2)
   goes_then first more =
       Told-then a b c (Ahead blocks options k p0 p1 c0 c1 t0 t1) (Ahead blocks options 1 p1 p2 c1 c2 t1 t2) (Ahead blocks options (k + 1) p0 p2 c0 c2 t0 t2)
       (λ bytes rest left x y. one_ahead bytes rest left x y) first more
@@ -87,7 +85,7 @@ module _ (blocks : ℕ) (options : Options) (k : ℕ) (p0 p1 p2 : Place) (a b c 
       subst (λ (l : List ℕ). Tallies from c0 c2 (ending_of end) l left) (sym x.split) (subst (λ (e : Ending). Tallies from c0 c2 e (x.gone ++ rest) left) (sym y.1) all)
 
   -- and the end
-  pub ends_then : (end : CheckEnd) → Told a b (Ahead blocks options k p0 p1 c0 c1 t0 t1) → Told b c (Steps k blocks options p1 p2 c1 c2 t1 t2 (steps.Ends end))
+  pub ends_then : (end : CheckEnd) → Told a b (Ahead blocks options k p0 p1 c0 c1 t0 t1) → Told b c (EndsBehind k blocks options p1 c1 c2 end)
       → Told a c (Tallies (counting blocks options p0) c0 c2 (ending_of end))
   ends_then end first more =
       Told-then a b c (Ahead blocks options k p0 p1 c0 c1 t0 t1) (EndsBehind k blocks options p1 c1 c2 end) (Tallies (counting blocks options p0) c0 c2 (ending_of end))
@@ -270,12 +268,6 @@ module _ (blocks : ℕ) (options : Options) (from to : Place) (round : List Held
         (λ bytes left gives. full_goes t t1 bytes left full took sum gives)
         (subst (λ (e : RoundEnd). Told a b (GivesRound blocks from to round e)) is told)
 
--- a step of rounds that are as they were at first
-pub steps_as : (k blocks blocks0 : ℕ) (o o0 : Options) (from to : Place) (a b : Option (List ℕ)) (c c1 : Counts) (t t1 : ℕ) (step : Step) → blocks ≡ blocks0 → o ≡ o0
-    → Told a b (Steps k blocks o from to c c1 t t1 step) → Told a b (Steps k blocks0 o0 from to c c1 t t1 step)
-steps_as k blocks blocks0 o o0 from to a b c c1 t t1 step same options told =
-    subst (λ (n : ℕ). Told a b (Steps k n o0 from to c c1 t t1 step)) same (subst (λ (x : Options). Told a b (Steps k blocks x from to c c1 t t1 step)) options told)
-
 -- ---- packets and bounds
 
 pub rising : (k : ℕ) (ps : List Held) → NumberedFrom k ps → AllNeighbours (λ p q. p.number < q.number) (map packet_of ps)
@@ -317,8 +309,8 @@ pub start_lanes : (o : Options) (c : Counts) → c ≡ totals_of o [] → HasLan
 start_lanes o c start = subst (HasLanes o) (sym start) ((lanes_stay o).of_all [])
 
 -- at the end, behind no more than 2^32 packets and a round
-pub end_within : (n b : ℕ) (c : Counts) → n ≤ 2 ^ 32 → b ≤ 4096 → AreOf (n + b) c → IsWithin (2 ^ 50) (2 ^ 62) c
-end_within n b c few round w = wider (n + b) (2 ^ 50) (most_frame * (n + b)) (2 ^ 62) c (omega (arith, few, round)) (omega (arith, few, round)) w
+pub end_within : (n : ℕ) (c : Counts) → n ≤ 2 ^ 32 + 4096 → AreOf n c → IsWithin (2 ^ 50) (2 ^ 62) c
+end_within n c few w = wider n (2 ^ 50) (most_frame * n) (2 ^ 62) c (omega (arith, few)) (omega (arith, few)) w
 
 -- a round's totals are added
 pub more_within : (o : Options) (n : ℕ) (ps : List Held) (c c1 : Counts) → AreCaptured (map packet_of ps) → c1 ≡ added c (round_totals o (map packet_of ps)) → AreOf n c → AreOf (n + length ps) c1

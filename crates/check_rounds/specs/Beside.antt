@@ -1,31 +1,19 @@
 -- What a check of a whole capture says, as one fact.
-use Rattle.std.specs.Prelude.{◌≡◌, ℕ, ◌≤◌, ◌^◌, Option, List}
+use Rattle.std.specs.Prelude.{◌≡◌, ◌≤◌, ◌^◌}
 use Rattle.off_io.specs.Faults.{Rose}
 use Rattle.off_io.specs.Told.{Told}
-use Rattle.pcap_io.specs.declared.place.Place.{Place}
-use Rattle.pcap_io.specs.declared.reader.CaptureReader.{CaptureReader}
-use Rattle.pcap_io.specs.Readers.{place_of, source_of}
 use Rattle.check_totals.specs.Counts.{Counts, HasLanes, IsWithin}
 use Rattle.check_totals.specs.Checking.{counting}
 use Rattle.check_totals.specs.Tallies.{Tallies}
 use Rattle.rounds.specs.Merging.{options_of, TakesAll}
 use Rattle.rounds.specs.RoundsState.{RoundsState}
+use Rattle.round_pipeline.specs.Reads.{Spot}
 use Rattle.check_rounds.specs.declared.check.CheckEnd.{CheckEnd}
 use Rattle.check_rounds.specs.declared.check.CheckEnd.TheVariants as ends
 use Rattle.check_rounds.specs.Checking.{ending_of}
 
--- where a reader stands: the place, what the source has left where it tells, and its faults
-pub record Stand : Type 0 where
-  pub place : Place
-  pub left : Option (List ℕ)
-  pub faults : ℕ
-
-abbrev pub stand_of : {S : Type 0} → (S → Option (List ℕ)) → (S → ℕ) → CaptureReader S → Stand
-stand_of left faults reader =
-    record { place = place_of reader; left = left (source_of reader); faults = faults (source_of reader) }
-
 -- checking began here and ended so, as `check_all` says
-pub record Checked (old new : RoundsState) (from to : Stand) (before after : Counts) (end : CheckEnd) : Type 0 where
+pub record Checked (old new : RoundsState) (from to : Spot) (before after : Counts) (end : CheckEnd) : Type 0 where
   pub given : Told from.left to.left
       (Tallies (counting old.blocks (options_of old) from.place) before after (ending_of end))
   pub lanes : HasLanes (options_of old) after

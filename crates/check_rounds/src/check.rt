@@ -15,12 +15,13 @@ ghost use Rattle.check_totals.specs.Checking.{counting};
 ghost use Rattle.check_totals.specs.Tallies.{Tallies};
 ghost use Rattle.rounds.specs.Lanes.{IsKeptWorkOf};
 ghost use Rattle.rounds.specs.Fresh.{NumberedFrom};
-ghost use Rattle.rounds.specs.Merging.{options_of, TakesAll};
-ghost use Rattle.check_rounds.specs.Checking.{ending_of, AreOf, CountsLast, IfEnds, MovesOn, Steps};
+ghost use Rattle.rounds.specs.Merging.{options_of};
+ghost use Rattle.check_rounds.specs.Checking.{ending_of, AreOf, CountsLast};
 
 use check_totals::Totals;
 use off_io::Source;
 use pcap_io::{CapFault, CaptureReader};
+use round_pipeline::{RoundHandler, handle_from};
 use round_work::Works;
 use rounds::{Round, RoundEnd, RoundRead, Rounds, Worked};
 use std::alloc::AllocError;
@@ -40,22 +41,14 @@ pub enum CheckEnd {
     NoMemory,
 }
 
-// What comes of a round.
-#[derive(Clone, Copy, Debug, PartialEq, Eq)]
-enum Step {
-    // It was full and is counted: the next one may be read.
-    Goes,
-    Ends(CheckEnd),
-}
-
 // Compares what a round came to with its packets, and ends it.
 fn compare_round(rounds: &mut Rounds, worked: Worked) -> Result<Totals, AllocError>
-    requires out { rounds.old.home + worked.blocks ≡ rounds.old.blocks }
+    requires out { rounds.old.home + worked.blocks ≤ rounds.old.blocks }
     requires worked { (ps : List Packet) × (IsKeptWorkOf (options_of rounds.old) ps worked
         × AllByRecursion IsCaptured ps × (length ps ≤ 4096)) }
     ensures totals { (ps : List Packet) → IsKeptWorkOf (options_of rounds.old) ps worked
         → IfOk result (λ t. t ≡ round_totals (options_of rounds.old) ps) }
-    ensures home { rounds.new ≡ record rounds.old { home = rounds.old.blocks } }
+    ensures home { rounds.new ≡ record rounds.old { home = rounds.old.home + worked.blocks } }
 {
     let totals = rounds.check_round(&worked);
     rounds.end_round(worked);
@@ -70,7 +63,7 @@ fn count_round<W: Works>(
     round: Round,
     totals: &mut Totals,
 ) -> Result<(), AllocError>
-    requires out { rounds.old.home + round.blocks ≡ rounds.old.blocks }
+    requires out { rounds.old.home + round.blocks ≤ rounds.old.blocks }
     requires keep { rounds.old.keep ≡ true }
     requires captured { AllByRecursion IsCaptured (map packet_of round.packets) }
     requires numbers { (k : ℕ) × NumberedFrom k round.packets }
@@ -81,7 +74,7 @@ fn count_round<W: Works>(
         (round_totals (options_of rounds.old) (map packet_of round.packets))) }
     ensures lanes { HasLanes (options_of rounds.old) totals.new }
     ensures within { (n : ℕ) → AreOf n totals.old → AreOf (n + length round.packets) totals.new }
-    ensures home { rounds.new ≡ record rounds.old { home = rounds.old.blocks } }
+    ensures home { rounds.new ≡ record rounds.old { home = rounds.old.home + round.blocks } }
 {
     let worked = rounds.work_round(works, round)?;
     let counted = compare_round(rounds, worked)?;
@@ -97,7 +90,7 @@ fn last_round<W: Works>(
     totals: &mut Totals,
     end: CheckEnd,
 ) -> CheckEnd
-    requires out { rounds.old.home + round.blocks ≡ rounds.old.blocks }
+    requires out { rounds.old.home + round.blocks ≤ rounds.old.blocks }
     requires keep { rounds.old.keep ≡ true }
     requires captured { AllByRecursion IsCaptured (map packet_of round.packets) }
     requires numbers { (k : ℕ) × NumberedFrom k round.packets }
@@ -108,9 +101,7 @@ fn last_round<W: Works>(
         (map packet_of round.packets)) end result }
     ensures lanes { HasLanes (options_of rounds.old) totals.new }
     ensures within { (n : ℕ) → AreOf n totals.old → AreOf (n + length round.packets) totals.new }
-    ensures home { rounds.new ≡ record rounds.old { home = rounds.old.blocks } }
-    ensures read { result ≡ CheckEnd.ReadFault → end ≡ CheckEnd.ReadFault }
-    ensures done { result ≡ CheckEnd.Done → end ≡ CheckEnd.Done }
+    ensures home { rounds.new ≡ record rounds.old { home = rounds.old.home + round.blocks } }
 {
     match count_round(works, rounds, round, totals) {
         Ok(()) => end,
@@ -118,65 +109,63 @@ fn last_round<W: Works>(
     }
 }
 
-// Reads the next round, behind `number` others, and counts it. Of a round that exceeds the blocks nothing is counted.
-fn count_next<W: Works, S: Source>(
-    works: &mut W,
-    rounds: &mut Rounds,
-    reader: &mut CaptureReader<'_, S>,
-    totals: &mut Totals,
-    number: u64,
-) -> Step
-    requires ready { IsReady (place_of reader.old) }
-    requires link { (place_of reader.old).link ≡ Ethernet }
-    requires home { rounds.old.home ≡ rounds.old.blocks }
-    requires keep { rounds.old.keep ≡ true }
-    requires lanes { HasLanes (options_of rounds.old) totals.old }
-    requires within { AreOf (place_of reader.old).number totals.old }
-    ensures same_source { SameLoan reader.old reader.new }
-    ensures given { Told (S.left (source_of reader.old)) (S.left (source_of reader.new))
-        (Steps number rounds.old.blocks (options_of rounds.old) (place_of reader.old)
-        (place_of reader.new) totals.old totals.new rounds.old.taken rounds.new.taken result) }
-    ensures moves { result ≡ Step.Goes → MovesOn rounds.old.budget (place_of reader.old) (place_of reader.new) }
-    ensures home { rounds.new.home ≡ rounds.new.blocks }
-    ensures same { (rounds.new.blocks ≡ rounds.old.blocks) × (options_of rounds.new ≡ options_of rounds.old)
-        × (rounds.new.keep ≡ rounds.old.keep) }
-    ensures lanes { HasLanes (options_of rounds.old) totals.new }
-    ensures within { AreOf ((place_of reader.old).number + rounds.old.budget) totals.new }
-    ensures budget { rounds.old.budget ≤ 4096 }
-    ensures taken { IfEnds result (λ end. end ≡ CheckEnd.Done
-        → Told (S.left (source_of reader.old)) (S.left (source_of reader.new))
-        (TakesAll rounds.old.taken rounds.new.taken (place_of reader.old))) }
-    ensures least { rounds.old.taken ≤ rounds.new.taken }
-    ensures later { S.faults (source_of reader.old) ≤ S.faults (source_of reader.new) }
-    ensures read { IfEnds result (λ end. end ≡ CheckEnd.ReadFault
-        → Rose (S.faults (source_of reader.old)) (S.faults (source_of reader.new))) }
-{
-    let RoundRead { round, end } = rounds.read_round(reader);
-    match end {
-        RoundEnd::Full => match count_round(works, rounds, round, totals) {
-            Ok(()) => Step::Goes,
-            Err(_) => Step::Ends(CheckEnd::NoMemory),
-        },
-        RoundEnd::End => { Step::Ends(last_round(works, rounds, round, totals, CheckEnd::Done)) }
-        RoundEnd::Malformed(fault) => {
-            let end = CheckEnd::Malformed(fault);
-            Step::Ends(last_round(works, rounds, round, totals, end))
+/// Each round is compared with its packets, and what it counts is added to totals.
+#[derive(Drop)]
+pub(crate) struct Counting;
+
+impl RoundHandler<Totals, CheckEnd> for Counting {
+    ghost use Rattle.std.specs.Prelude.{◌≡◌, true, map};
+    ghost use Rattle.gro.specs.Held.{packet_of};
+    ghost use Rattle.check_totals.specs.Counts.{round_totals, HasLanes};
+    ghost use Rattle.check_rounds.specs.Checking.{AreOf, CountsRound};
+    ghost use Rattle.check_rounds.specs.declared.check.CheckEnd.TheVariants.{NoMemory};
+
+    ghost ready = { λ options keep n totals. (keep ≡ true) × HasLanes options totals × AreOf n totals };
+
+    ghost did = { λ counting options old new read k end. CountsRound old new
+        (round_totals options (map packet_of read.round.packets)) k read.end end };
+
+    ghost stopped = { NoMemory };
+
+    fn handle<W: Works>(
+        &self,
+        works: &mut W,
+        rounds: &mut Rounds,
+        read: RoundRead,
+        number: u64,
+        into: &mut Totals,
+    ) -> Option<CheckEnd> {
+        let RoundRead { round, end } = read;
+        match end {
+            RoundEnd::Full => match count_round(works, rounds, round, into) {
+                Ok(()) => None,
+                Err(_) => Some(CheckEnd::NoMemory),
+            },
+            RoundEnd::End => Some(last_round(works, rounds, round, into, CheckEnd::Done)),
+            RoundEnd::Malformed(fault) => {
+                let end = CheckEnd::Malformed(fault);
+                Some(last_round(works, rounds, round, into, end))
+            }
+            RoundEnd::ReadFault => {
+                let end = CheckEnd::ReadFault;
+                Some(last_round(works, rounds, round, into, end))
+            }
+            RoundEnd::PoolEmpty { need } => {
+                rounds.drop_round(round);
+                Some(CheckEnd::PoolEmpty {
+                    round: number,
+                    need,
+                })
+            }
+            RoundEnd::NoMemory => {
+                rounds.drop_round(round);
+                Some(CheckEnd::NoMemory)
+            }
         }
-        RoundEnd::ReadFault => {
-            let end = CheckEnd::ReadFault;
-            Step::Ends(last_round(works, rounds, round, totals, end))
-        }
-        RoundEnd::PoolEmpty { need } => {
-            rounds.drop_round(round);
-            Step::Ends(CheckEnd::PoolEmpty {
-                round: number,
-                need,
-            })
-        }
-        RoundEnd::NoMemory => {
-            rounds.drop_round(round);
-            Step::Ends(CheckEnd::NoMemory)
-        }
+    }
+
+    fn stop(&self) -> CheckEnd {
+        CheckEnd::NoMemory
     }
 }
 
@@ -214,11 +203,5 @@ pub fn check_all<W: Works, S: Source>(
     ensures read { result ≡ CheckEnd.ReadFault → Rose (S.faults (source_of reader.old))
         (S.faults (source_of reader.new)) }
 {
-    let mut number = 0;
-    'rounds: loop {
-        match count_next(works, rounds, reader, totals, number) {
-            Step::Goes => number += 1,
-            Step::Ends(end) => return end,
-        }
-    }
+    handle_from(works, rounds, reader, &Counting, totals, 0)
 }

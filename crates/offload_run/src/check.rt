@@ -145,7 +145,7 @@ fn tell<K: Sink>(
 // ---- what is counted
 
 // Counts the records behind a file header.
-fn count_behind<R: Threads + Wait + Sync, S: Source, G: Gate + Sync>(
+fn count_behind<R: Threads + Wait + Sync, S: Source + Send, G: Gate + Sync>(
     rt: &R,
     alloc: Global,
     rounds: &mut Rounds,
@@ -175,7 +175,7 @@ fn count_behind<R: Threads + Wait + Sync, S: Source, G: Gate + Sync>(
 }
 
 // Makes the pool, counts the records behind a file header, and writes what was counted.
-fn check_records<R: Threads + Wait + Sync, S: Source, K: Sink, G: Gate + Sync>(
+fn check_records<R: Threads + Wait + Sync, S: Source + Send, K: Sink, G: Gate + Sync>(
     rt: &R,
     alloc: Global,
     options: MergeOptions,
@@ -218,7 +218,7 @@ fn check_records<R: Threads + Wait + Sync, S: Source, K: Sink, G: Gate + Sync>(
 // ---- whole captures
 
 // Checks a capture of Ethernet frames that is read. Where its file header is refused no block is made.
-fn check_read<R: Threads + Wait + Sync, S: Source, K: Sink, G: Gate + Sync>(
+fn check_read<R: Threads + Wait + Sync, S: Source + Send, K: Sink, G: Gate + Sync>(
     rt: &R,
     alloc: Global,
     options: MergeOptions,
@@ -299,7 +299,7 @@ fn check_made<R: Threads + Wait + Sync, K: Sink, G: Gate + Sync>(
 }
 
 // Checks the capture that is read, or with a seed a generated one: then nothing is read.
-pub(crate) fn run_check<R: Threads + Wait + Sync, S: Source, K: Sink, G: Gate + Sync>(
+pub(crate) fn run_check<R: Threads + Wait + Sync, S: Source + Send, K: Sink, G: Gate + Sync>(
     rt: &R,
     alloc: Global,
     options: CheckOptions,

@@ -25,10 +25,19 @@
 //! ([`every_flow_comes_back`]), and each line of `check` tells as many records that came back as there are
 //! ([`every_record_returns`]).
 //!
-//! ```text
+//! ```
 //! let mut engine = None;
-//! let status = run(&rt, rt.alloc(), &words, &mut source, &mut sink, &mut log, &NoGate, &mut engine);
-//! ExitCode::from(status.code())
+//! let status = run(
+//!     &rt,
+//!     alloc,
+//!     &words,
+//!     &mut source,
+//!     &mut sink,
+//!     &mut log,
+//!     &NoGate,
+//!     &mut engine,
+//! );
+//! let code = status.code(); // 0 where all went well
 //! ```
 //!
 //! Tests: `offload_tests`.

@@ -14,13 +14,18 @@ use Rattle.rtrb.specs.Ring.{SameConsumer}
 use Rattle.gro.specs.declared.packet.Packet.{Packet as Held}
 use Rattle.rounds.specs.declared.round.RoundEnd.{RoundEnd}
 use Rattle.rounds.specs.declared.round.RoundEnd.TheVariants as ends
+use Rattle.rounds.specs.declared.round.RoundRead.{RoundRead}
 use Rattle.rounds.specs.Reading.{GivesRound}
 use Rattle.round_pipeline.specs.declared.parcel.Parcel.{Parcel}
 use Rattle.round_pipeline.specs.declared.parcel.Token.{Token}
-use Rattle.round_pipeline.specs.Parcels.{RingName, IsOfRing, goes_on, is_full, blocks_of, homes_of}
-use Rattle.round_pipeline.specs.Reads.{Spot, spot, ReadRound, ReadNext, Reads}
+use Rattle.round_pipeline.specs.Parcels.{RingName, IsOfRing, is_full, blocks_of, homes_of, packets_of, rounds_of}
+use Rattle.round_pipeline.specs.Reads.{Spot, spot, ReadRound, Reads}
 
 -- ---- lists
+
+pub none_known : {A : Type 0} (xs : List A) → length xs ≤ 0 → xs ≡ []
+none_known [] e = refl
+none_known (x ∷ xs) e = absurd (omega (arith, e))
 
 some_none : {A : Type 0} (x : A) (xs : List A) (X : Type 0) → x ∷ xs ≡ [] → X
 some_none x xs X e = absurd (omega (arith, ap length e))
@@ -61,46 +66,57 @@ left_less p p' s s' made sum (inr e) le = omega (arith, sum, e, le)
 
 -- ---- rounds
 
--- all so far were full
-abbrev pub AllGo : List (Option Parcel) → Type 0
-AllGo xs = AllByRecursion (λ x. goes_on x ≡ true) xs
+pub rounds_append : (xs ys : List (Option Parcel)) → rounds_of (xs ++ ys) ≡ rounds_of xs ++ rounds_of ys
+rounds_append [] ys = refl
+rounds_append (None ∷ xs) ys = rounds_append xs ys
+rounds_append (Some p ∷ xs) ys = ap (λ (rs : List RoundRead). p.read ∷ rs) (rounds_append xs ys)
 
-pub all_go_last : (xs : List (Option Parcel)) (x : Option Parcel) → AllGo xs → goes_on x ≡ true → AllGo (xs ++ x ∷ [])
-all_go_last [] x go e = (e, tt)
-all_go_last (y ∷ xs) x go e = (go.0, all_go_last xs x go.1 e)
+pub packets_append : (xs ys : List RoundRead) → packets_of (xs ++ ys) ≡ packets_of xs + packets_of ys
+packets_append [] ys = omega arith
+packets_append (x ∷ xs) ys = omega (arith, packets_append xs ys)
+
+-- one round more was sent
+pub sent_more : (before sent sent1 : List (Option Parcel)) (more : List RoundRead) (p : Parcel) → rounds_of sent ≡ rounds_of before ++ more → sent1 ≡ sent ++ Some p ∷ []
+    → rounds_of sent1 ≡ rounds_of before ++ (more ++ p.read ∷ [])
+sent_more before sent sent1 more p is is1 =
+    ap rounds_of is1 ∙ rounds_append sent (Some p ∷ []) ∙ ap (λ (rs : List RoundRead). rs ++ p.read ∷ []) is ∙ append_assoc (rounds_of before) more (p.read ∷ [])
+
+-- or none
+pub sent_none : (before sent sent1 : List (Option Parcel)) (more : List RoundRead) → rounds_of sent ≡ rounds_of before ++ more → sent1 ≡ sent ++ None ∷ []
+    → rounds_of sent1 ≡ rounds_of before ++ more
+sent_none before sent sent1 more is is1 = ap rounds_of is1 ∙ rounds_append sent (None ∷ []) ∙ append-nil (rounds_of sent) ∙ is
+
+pub rounds_last : (xs xs1 : List (Option Parcel)) (p : Parcel) → xs1 ≡ xs ++ Some p ∷ [] → rounds_of xs1 ≡ rounds_of xs ++ p.read ∷ []
+rounds_last xs xs1 p is = ap rounds_of is ∙ rounds_append xs (Some p ∷ [])
+
+pub rounds_none : (xs xs1 : List (Option Parcel)) (x : Option Parcel) → x ≡ None → xs1 ≡ xs ++ x ∷ [] → rounds_of xs1 ≡ rounds_of xs
+rounds_none xs xs1 x none is = ap rounds_of (is ∙ ap (λ (y : Option Parcel). xs ++ y ∷ []) none) ∙ rounds_append xs (None ∷ []) ∙ append-nil (rounds_of xs)
+
+-- all so far were full
+abbrev pub AllGo : List RoundRead → Type 0
+AllGo rs = AllByRecursion (λ read. is_full read.end ≡ true) rs
+
+pub all_go_last : (rs : List RoundRead) (read : RoundRead) → AllGo rs → is_full read.end ≡ true → AllGo (rs ++ read ∷ [])
+all_go_last [] read go e = (e, tt)
+all_go_last (x ∷ rs) read go e = (go.0, all_go_last rs read go.1 e)
 
 module _ (blocks budget : ℕ) where
   -- one round more
-  pub reads_last : (from mid to : Spot) (xs : List (Option Parcel)) (x : Option Parcel) → Reads blocks budget from xs mid → AllGo xs → ReadNext blocks budget mid to x
-      → Reads blocks budget from (xs ++ x ∷ []) to
-  reads_last from mid to [] x reads go next = (to, subst (λ (m : Spot). ReadNext blocks budget m to x) reads next, (λ _. refl), refl)
-  reads_last from mid to (y ∷ xs) x reads go next =
-      (reads.0, reads.1, (λ e. absurd (false≢true (sym e ∙ go.0))), reads_last reads.0 mid to xs x reads.3 go.1 next)
-
-  -- the first ones, and those behind them
-  pub reads_split : (from to : Spot) (xs ys : List (Option Parcel)) → Reads blocks budget from (xs ++ ys) to → (mid : Spot) × Reads blocks budget from xs mid × Reads blocks budget mid ys to
-  reads_split from to [] ys reads = (from, refl, reads)
-  reads_split from to (x ∷ xs) ys reads =
-      let i = reads_split reads.0 to xs ys reads.3 in
-      (i.0, (reads.0, reads.1, (λ e. none_front xs ys (reads.2 e)), i.1), i.2)
-
-  faults_next : (from to : Spot) (x : Option Parcel) → ReadNext blocks budget from to x → from.faults ≤ to.faults
-  faults_next from to None next = omega (arith, ap (λ (s : Spot). s.faults) next)
-  faults_next from to (Some p) next = next.later
+  pub reads_last : (from mid to : Spot) (rs : List RoundRead) (read : RoundRead) → Reads blocks budget from rs mid → AllGo rs → ReadRound blocks budget mid to read
+      → Reads blocks budget from (rs ++ read ∷ []) to
+  reads_last from mid to [] read reads go next = (to, subst (λ (m : Spot). ReadRound blocks budget m to read) reads next, (λ _. refl), refl)
+  reads_last from mid to (x ∷ rs) read reads go next =
+      (reads.0, reads.1, (λ e. absurd (false≢true (sym e ∙ go.0))), reads_last reads.0 mid to rs read reads.3 go.1 next)
 
   -- faults only come
-  pub reads_later : (from to : Spot) (xs : List (Option Parcel)) → Reads blocks budget from xs to → from.faults ≤ to.faults
+  pub reads_later : (from to : Spot) (rs : List RoundRead) → Reads blocks budget from rs to → from.faults ≤ to.faults
   reads_later from to [] reads = omega (arith, ap (λ (s : Spot). s.faults) reads)
-  reads_later from to (x ∷ xs) reads = omega (arith, faults_next from reads.0 x reads.1, reads_later reads.0 to xs reads.3)
-
-  least_next : (from to : Spot) (x : Option Parcel) → ReadNext blocks budget from to x → min from.taken (2 ^ 64 - 1) ≤ to.taken
-  least_next from to None next = omega (arith, ap (λ (s : Spot). s.taken) next)
-  least_next from to (Some p) next = omega (arith, next.took)
+  reads_later from to (x ∷ rs) reads = omega (arith, reads.1.later, reads_later reads.0 to rs reads.3)
 
   -- blocks are only taken
-  pub reads_least : (from to : Spot) (xs : List (Option Parcel)) → Reads blocks budget from xs to → min from.taken (2 ^ 64 - 1) ≤ to.taken
+  pub reads_least : (from to : Spot) (rs : List RoundRead) → Reads blocks budget from rs to → min from.taken (2 ^ 64 - 1) ≤ to.taken
   reads_least from to [] reads = omega (arith, ap (λ (s : Spot). s.taken) reads)
-  reads_least from to (x ∷ xs) reads = omega (arith, least_next from reads.0 x reads.1, reads_least reads.0 to xs reads.3)
+  reads_least from to (x ∷ rs) reads = omega (arith, reads.1.took, reads_least reads.0 to rs reads.3)
 
   -- bytes are only lost
   round_loses : (from to : Place) (round : List Held) (end : RoundEnd) (bytes left : List ℕ) → GivesRound blocks from to round end bytes left → Loses bytes left
@@ -117,24 +133,20 @@ module _ (blocks budget : ℕ) where
   lost_then : (bytes mid left : List ℕ) → Loses bytes mid → Loses mid left → Loses bytes left
   lost_then bytes mid left a b = (a.0 ++ b.0, a.1 ∙ ap (λ (l : List ℕ). a.0 ++ l) b.1 ∙ sym (append_assoc a.0 b.0 left))
 
-  next_loses : (from to : Spot) (x : Option Parcel) → ReadNext blocks budget from to x → Told from.left to.left Loses
-  next_loses from to None next = subst (λ (s : Spot). Told from.left s.left Loses) (sym next) (Told-same from.left Loses none_lost)
-  next_loses from to (Some p) next =
-      Told-weaker from.left to.left (GivesRound blocks from.place to.place p.round.packets p.end) Loses
-      (λ bytes left gives. round_loses from.place to.place p.round.packets p.end bytes left gives) next.given
-
-  pub reads_lose : (from to : Spot) (xs : List (Option Parcel)) → Reads blocks budget from xs to → Told from.left to.left Loses
+  pub reads_lose : (from to : Spot) (rs : List RoundRead) → Reads blocks budget from rs to → Told from.left to.left Loses
   reads_lose from to [] reads = subst (λ (s : Spot). Told from.left s.left Loses) (sym reads) (Told-same from.left Loses none_lost)
-  reads_lose from to (x ∷ xs) reads =
+  reads_lose from to (x ∷ rs) reads =
       Told-then from.left reads.0.left to.left Loses Loses Loses (λ bytes mid left a b. lost_then bytes mid left a b)
-      (next_loses from reads.0 x reads.1) (reads_lose reads.0 to xs reads.3)
+      (Told-weaker from.left reads.0.left (GivesRound blocks from.place reads.0.place x.round.packets x.end) Loses
+      (λ bytes left gives. round_loses from.place reads.0.place x.round.packets x.end bytes left gives) reads.1.given)
+      (reads_lose reads.0 to rs reads.3)
 
 -- the same round, by names of the same numbers
-pub read_as : (b b' n n' t t' : ℕ) (place : Place) (left : Option (List ℕ)) (faults : ℕ) (to : Spot) (p : Parcel) → b' ≡ b → n' ≡ n → t' ≡ t → ReadRound b' n' (spot place left faults t') to p
-    → ReadRound b n (spot place left faults t) to p
-read_as b b' n n' t t' place left faults to p eb en et r =
-    subst (λ (x : ℕ). ReadRound x n (spot place left faults t) to p) eb
-    (subst (λ (x : ℕ). ReadRound b' x (spot place left faults t) to p) en (subst (λ (x : ℕ). ReadRound b' n' (spot place left faults x) to p) et r))
+pub read_as : (b b' n n' t t' : ℕ) (place : Place) (left : Option (List ℕ)) (faults : ℕ) (to : Spot) (read : RoundRead) → b' ≡ b → n' ≡ n → t' ≡ t
+    → ReadRound b' n' (spot place left faults t') to read → ReadRound b n (spot place left faults t) to read
+read_as b b' n n' t t' place left faults to read eb en et r =
+    subst (λ (x : ℕ). ReadRound x n (spot place left faults t) to read) eb
+    (subst (λ (x : ℕ). ReadRound b' x (spot place left faults t) to read) en (subst (λ (x : ℕ). ReadRound b' n' (spot place left faults x) to read) et r))
 
 pub full_end : (end : RoundEnd) → is_full end ≡ true → end ≡ ends.Full
 full_end ends.Full e = refl

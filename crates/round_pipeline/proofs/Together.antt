@@ -1,235 +1,324 @@
--- What both sides say together, once both have ended.
-use Rattle.std.proofs.Common.{◌≡◌, ◌∙◌, ◌<◌, ◌≤◌, ◌^◌, ℕ, List, [], ◌∷◌, ◌++◌, length, Option, None, Some, MatchOption, IfSome, ◌⊎◌, inl, inr, true, refl, sym, ap, subst, arith}
+-- What both sides say together, once both have ended, and what one says where there aren't two.
+use Rattle.std.proofs.Common.{◌≡◌, ◌∙◌, ◌+◌, ◌<◌, ◌≤◌, ◌^◌, ℕ, List, [], ◌∷◌, ◌++◌, length, length-append}
+use Rattle.std.proofs.Common.{Option, None, Some, MatchOption, IfSome, Result, Ok, Err, Bool, false, inl, inr, true, refl, sym, ap, subst, arith, append-nil}
 use Rattle.std.proofs.lemmas.Bool.{false≢true}
-use Rattle.off_io.specs.Content.{SaysFlushed}
-use Rattle.off_io.specs.Faults.{Rose}
-use Rattle.off_io.specs.Told.{Told}
-use Rattle.pcap_io.specs.declared.place.Place.{Place}
-use Rattle.pcap_io.specs.declared.heads.FileHead.{FileHead}
-use Rattle.pcap_io.specs.Places.{IsReady}
-use Rattle.offload_model.specs.Passing.{Passed, merging, FrontUnless, flushes}
 use Rattle.offload_model.specs.Written.{Options}
-use Rattle.rounds.specs.declared.merge.MergeEnd.{MergeEnd}
-use Rattle.rounds.specs.declared.merge.MergeEnd.TheVariants as ends
-use Rattle.rounds.specs.Merging.{ending_of, options_of, Ahead, EndsBehind, EndsCaptured, TakesAll}
+use Rattle.rounds.specs.declared.round.RoundEnd.TheVariants as rounds
+use Rattle.rounds.specs.declared.round.RoundRead.{RoundRead}
+use Rattle.rounds.specs.Merging.{options_of}
 use Rattle.rounds.specs.RoundsState.{RoundsState, IntakeState}
 use Rattle.round_pipeline.specs.declared.parcel.Parcel.{Parcel}
-use Rattle.round_pipeline.specs.Reads.{Spot, Reads}
-use Rattle.round_pipeline.specs.Works.{Start, Ended, WroteLast, EndsFrom, Sunk, Idle, MayGoOn, MayHaveGoneOn, WentOn}
-use Rattle.rounds.proofs.Merging.{ahead_none}
-use Rattle.round_pipeline.proofs.Rows.{reads_least}
-use Rattle.round_pipeline.proofs.Written.{stopped, ended_so, rose_from}
-
-none_known : {A : Type 0} (xs : List A) → length xs ≤ 0 → xs ≡ []
-none_known [] e = refl
-none_known (x ∷ xs) e = absurd (omega (arith, e))
+use Rattle.round_pipeline.specs.Handled.{Went, Ends, Ran, RanOn, Rests, IsReadyAt, IsReadyAtEnd, Stepped, Handled, HandledOn, MayGoOn, IsOut, Idle, MayBeHandled}
+use Rattle.round_pipeline.specs.Handled.{ComesBack, blocks_out}
+use Rattle.round_pipeline.specs.Parcels.{blocks_of, is_full, rounds_of}
+use Rattle.round_pipeline.specs.Reads.{Spot, ReadRound, Reads, ReadOn, IsAlone}
+use Rattle.round_pipeline.proofs.Rows.{none_known, reads_least, rounds_append}
 
 -- the same reading, by names of the same numbers
-pub reads_as : (i i' budget budget' : ℕ) (from from' to to' : Spot) (xs xs' : List (Option Parcel)) → i' ≡ i → budget' ≡ budget → from' ≡ from → to' ≡ to → xs' ≡ xs → Reads i' budget' from' xs' to'
+pub reads_as : (i i' budget budget' : ℕ) (from from' to to' : Spot) (xs xs' : List RoundRead) → i' ≡ i → budget' ≡ budget → from' ≡ from → to' ≡ to → xs' ≡ xs → Reads i' budget' from' xs' to'
     → Reads i budget from xs to
 reads_as i i' budget budget' from from' to to' xs xs' ei eb ef et ex reads =
     subst (λ (n : ℕ). Reads n budget from xs to) ei
     (subst (λ (n : ℕ). Reads i' n from xs to) eb
     (subst (λ (s : Spot). Reads i' budget' s xs to) ef
     (subst (λ (s : Spot). Reads i' budget' from' xs s) et
-    (subst (λ (l : List (Option Parcel)). Reads i' budget' from' l to') ex reads))))
+    (subst (λ (l : List RoundRead). Reads i' budget' from' l to') ex reads))))
 
 -- ---- the rounds are one again
 
--- the rounds were parted, one side worked, and both were joined with all blocks home
-pub record Rejoined (state parted worked new : RoundsState) (intake : IntakeState) (back : ℕ) : Type 0 where
-  pub given : intake ≡ record { home = state.blocks; blocks = state.blocks; taken = state.taken; budget = state.budget }
+-- the round that comes first
+abbrev front_of : RoundRead → List RoundRead → RoundRead
+front_of none [] = none
+front_of none (read ∷ rs) = read
+
+-- the rounds were parted, one side worked, and both were joined
+pub record Rejoined (state parted worked new : RoundsState) (intake : IntakeState) (home back : ℕ) : Type 0 where
+  pub given : intake ≡ record { home = state.home; blocks = state.blocks; taken = state.taken; budget = state.budget }
   pub left : parted ≡ record state { home = 0; taken = 0 }
   pub same : (worked.blocks ≡ parted.blocks) × (options_of worked ≡ options_of parted) × (worked.keep ≡ parted.keep)
-  pub joined : new ≡ record worked { home = worked.blocks; taken = back }
+  pub joined : new ≡ record worked { home = home; taken = back }
 
-module _ (state parted worked new : RoundsState) (intake : IntakeState) (back : ℕ) (file : FileHead) (from to : Spot) (re : Rejoined state parted worked new intake back) where
+-- The first round was read and full, and alone in the ring as the sides began. What was received of all that was sent, and what wasn't,
+-- is known once they have joined.
+pub record Sent (state : RoundsState) (intake : IntakeState) (read : RoundRead) (at to : Spot) (back : ℕ) (one sent got known : List (Option Parcel)) : Type 0 where
+  pub out : state.home + read.round.blocks ≡ state.blocks
+  pub full : read.end ≡ rounds.Full
+  pub few : state.taken < 2 ^ 64
+  pub alone : IsAlone read one
+  pub on : ReadOn intake.blocks intake.budget (record at { taken = intake.taken }) (record to { taken = back }) one sent
+  pub fifo : got ++ known ≡ sent
+  pub later : at.faults ≤ to.faults
+
+module _ {T E : Type 0} (did : T → T → RoundRead → ℕ → Option E → Type 0) (stopped : E) (ready : ℕ → T → Type 0) (state parted worked new : RoundsState) (intake : IntakeState) (home back : ℕ)
+    (read : RoundRead) (at to : Spot) (one sent got known : List (Option Parcel)) (re : Rejoined state parted worked new intake home back) (s : Sent state intake read at to back one sent got known)
+    (was is : T) (counted : IsReadyAtEnd ready is) where
   abbrev first : Spot
-  first = record from { taken = state.taken }
+  first = record at { taken = state.taken }
 
   abbrev last : Spot
   last = record to { taken = new.taken }
 
-  abbrev Sent : List (Option Parcel) → Type 0
-  Sent xs = Reads intake.blocks intake.budget (record from { taken = intake.taken }) xs (record to { taken = back })
-
-  reads_here : (xs : List (Option Parcel)) → Sent xs → Reads state.blocks state.budget first xs last
-  reads_here xs reads =
-      reads_as state.blocks intake.blocks state.budget intake.budget first (record from { taken = intake.taken }) last (record to { taken = back }) xs xs
-      (ap (λ (i : IntakeState). i.blocks) re.given) (ap (λ (i : IntakeState). i.budget) re.given) (ap (λ (i : IntakeState). record from { taken = i.taken }) re.given)
-      (ap (λ (n : ℕ). record to { taken = n }) (sym (ap (λ (s : RoundsState). s.taken) re.joined))) refl reads
-
-  all_home : new.home ≡ new.blocks
-  all_home = ap (λ (s : RoundsState). s.home) re.joined ∙ sym (ap (λ (s : RoundsState). s.blocks) re.joined)
+  read_behind : Reads state.blocks state.budget first s.on.more last
+  read_behind =
+      reads_as state.blocks intake.blocks state.budget intake.budget first (record at { taken = intake.taken }) last (record to { taken = back }) s.on.more s.on.more
+      (ap (λ (i : IntakeState). i.blocks) re.given) (ap (λ (i : IntakeState). i.budget) re.given) (ap (λ (i : IntakeState). record at { taken = i.taken }) re.given)
+      (ap (λ (n : ℕ). record to { taken = n }) (sym (ap (λ (r : RoundsState). r.taken) re.joined))) refl s.on.reads
 
   blocks_same : new.blocks ≡ state.blocks
-  blocks_same = ap (λ (s : RoundsState). s.blocks) re.joined ∙ re.same.0 ∙ ap (λ (s : RoundsState). s.blocks) re.left
+  blocks_same = ap (λ (r : RoundsState). r.blocks) re.joined ∙ re.same.0 ∙ ap (λ (r : RoundsState). r.blocks) re.left
 
   options_same : options_of new ≡ options_of state
   options_same = ap options_of re.joined ∙ re.same.1 ∙ ap options_of re.left
 
   keep_same : new.keep ≡ state.keep
-  keep_same = ap (λ (s : RoundsState). s.keep) re.joined ∙ re.same.2 ∙ ap (λ (s : RoundsState). s.keep) re.left
+  keep_same = ap (λ (r : RoundsState). r.keep) re.joined ∙ re.same.2 ∙ ap (λ (r : RoundsState). r.keep) re.left
 
-  least_read : (sent : List (Option Parcel)) → state.taken < 2 ^ 64 → Sent sent → state.taken ≤ new.taken
-  least_read sent few reads = omega (arith, few, reads_least state.blocks state.budget first last sent (reads_here sent reads))
+  home_is : new.home ≡ home
+  home_is = ap (λ (r : RoundsState). r.home) re.joined
 
-  -- the side that works says how merging ended, whatever was read behind that
-  both_ended : (h h1 : Option (List ℕ)) (sent got known : List (Option Parcel)) (end : MergeEnd) → got ++ known ≡ sent → Sent sent → WroteLast parted.blocks (options_of parted) file h h1 got end
-      → EndsFrom state.blocks (options_of state) file 1 first last h h1 end
-  both_ended h h1 sent got known end fifo reads wrote start gone =
-      let wrote_here : WroteLast state.blocks (options_of state) file h h1 got end = subst (λ (s : RoundsState). WroteLast s.blocks (options_of s) file h h1 got end) re.left wrote in
-      wrote_here start first last known gone (subst (λ (l : List (Option Parcel)). Reads state.blocks state.budget first l last) (sym fifo) (reads_here sent reads))
-
-  both_went : (before after : Sunk) (sent got known : List (Option Parcel)) (end : MergeEnd) → state.taken < 2 ^ 64 → got ++ known ≡ sent → Sent sent → from.faults ≤ to.faults
-      → WroteLast parted.blocks (options_of parted) file before.held after.held got end → (flushes (ending_of end) ≡ true → SaysFlushed after.held after.flushed true) → before.faults ≤ after.faults
-      → (end ≡ ends.WriteFault → Rose before.faults after.faults) → WentOn file state new first last before after end
-  both_went before after sent got known end few fifo reads later wrote flushed later_sink write = record {
-    ended = both_ended before.held after.held sent got known end fifo reads wrote;
-    flushed = flushed;
-    home = all_home;
+  all_rest : home ≡ state.blocks → Rests state new first last
+  all_rest all = record {
+    home = home_is ∙ all ∙ sym blocks_same;
     same = (blocks_same, options_same, keep_same);
-    least = least_read sent few reads;
-    later = later;
-    later_sink = later_sink;
-    write = write;
+    least = omega (arith, s.few, reads_least state.blocks state.budget first last s.on.more read_behind);
+    later = s.later;
   }
+
+  closed : is_full read.end ≡ false → s.on.more ≡ []
+  closed e = absurd (false≢true (sym e ∙ ap is_full s.full))
+
+  first_is : rounds_of one ≡ read ∷ []
+  first_is = ap rounds_of s.alone.1 ∙ ap (λ (r : RoundRead). r ∷ []) s.alone.2
+
+  all_is : rounds_of got ++ rounds_of known ≡ read ∷ s.on.more
+  all_is = sym (rounds_append got known) ∙ ap rounds_of s.fifo ∙ s.on.sent ∙ ap (λ (rs : List RoundRead). rs ++ s.on.more) first_is
+
+  -- the side that works says how it ended, whatever was read behind that
+  both_went : (end : E) → home ≡ state.blocks → Ends did stopped 0 was is (rounds_of got) end → HandledOn did stopped ready state new read first last was is end
+  both_went end all ends = record {
+    ran = record { got = rounds_of got; more = rounds_of known; rest = s.on.more; all = all_is; closes = closed; reads = read_behind; ends = ends };
+    rests = all_rest all;
+    counted = counted;
+  }
+
+  -- no side worked, and rounds were lost
+  none_went : home ≡ state.blocks → is ≡ was → HandledOn did stopped ready state new read first last was is stopped
+  none_went all same = record {
+    ran = record { got = []; more = read ∷ s.on.more; rest = s.on.more; all = refl; closes = closed; reads = read_behind; ends = (refl, same) };
+    rests = all_rest all;
+    counted = counted;
+  }
+
+  -- nothing else was read
+  idle : length sent ≡ 1 → rounds_of sent ≡ read ∷ [] → home ≡ state.home → is ≡ was → Idle state new first last was is
+  idle count alone homes same =
+      let none : s.on.more ≡ [] = none_known s.on.more (omega (arith, ap length (sym alone ∙ s.on.sent), length-append (rounds_of one) s.on.more, ap length first_is)) in
+      let stands : last ≡ first = subst (λ (l : List RoundRead). Reads state.blocks state.budget first l last) none read_behind in
+      record {
+        home = home_is ∙ homes;
+        same = (blocks_same, options_same, keep_same);
+        taken = ap (λ (x : Spot). x.taken) stands;
+        stands = stands;
+        nothing = same;
+      }
+
+  abbrev Came : Result E RoundRead → Type 0
+  Came result = MayBeHandled did stopped ready state new read first last was is result
 
   -- no side worked
-  none_worked : (h h1 : Option (List ℕ)) (sent : List (Option Parcel)) → h1 ≡ h → Sent sent → EndsFrom state.blocks (options_of state) file 1 first last h h1 ends.NoMemory
-  none_worked h h1 sent same reads start gone =
-      subst (λ (x : Option (List ℕ)). Ended state.blocks (options_of state) start first last x ends.NoMemory) (sym same)
-      (stopped state.blocks state file start 1 first first last h sent gone (omega arith) (reads_here sent reads))
-
-  none_went : (before after : Sunk) (sent : List (Option Parcel)) → state.taken < 2 ^ 64 → Sent sent → from.faults ≤ to.faults → after.held ≡ before.held → before.faults ≤ after.faults
-      → WentOn file state new first last before after ends.NoMemory
-  none_went before after sent few reads later same later_sink = record {
-    ended = none_worked before.held after.held sent same reads;
-    flushed = λ e. absurd (false≢true e);
-    home = all_home;
-    same = (blocks_same, options_same, keep_same);
-    least = least_read sent few reads;
-    later = later;
-    later_sink = later_sink;
-    write = λ e. cc;
-  }
-
-  -- nothing was read
-  none_read : (sent : List (Option Parcel)) → sent ≡ [] → Sent sent → last ≡ first
-  none_read sent none reads = subst (λ (l : List (Option Parcel)). Reads state.blocks state.budget first l last) none (reads_here sent reads)
-
-  idle : (before after : Sunk) (sent : List (Option Parcel)) → sent ≡ [] → Sent sent → after.held ≡ before.held → before.faults ≤ after.faults → Idle state new first last before after
-  idle before after sent none reads held later = record {
-    home = all_home;
-    same = (blocks_same, options_same, keep_same);
-    taken = ap (λ (s : Spot). s.taken) (none_read sent none reads);
-    stands = none_read sent none reads;
-    held = held;
-    later = later;
-  }
-
-  abbrev Came : Sunk → Sunk → Option MergeEnd → Type 0
-  Came before after result = MayHaveGoneOn file state new first last before after result
-
-  unworked : (before after : Sunk) (sent got known : List (Option Parcel)) (result : Option MergeEnd) (waiting : ℕ) → state.taken < 2 ^ 64 → got ++ known ≡ sent → waiting ≡ length known → Sent sent
-      → from.faults ≤ to.faults
-      → (got ≡ []) × (after.held ≡ before.held) → before.faults ≤ after.faults → (result ≡ Some ends.NoMemory) ⊎ ((result ≡ None) × (waiting ≡ 0)) → Came before after result
-  unworked before after sent got known result waiting few fifo count reads later wrote later_sink (inl lost) =
-      subst (Came before after) (sym lost) (none_went before after sent few reads later wrote.1 later_sink)
-  unworked before after sent got known result waiting few fifo count reads later wrote later_sink (inr none) =
-      let no_more : known ≡ [] = none_known known (omega (arith, count, none.1)) in
-      subst (Came before after) (sym none.0)
-      (idle before after sent (sym fifo ∙ ap (λ (l : List (Option Parcel)). l ++ known) wrote.0 ∙ no_more) reads wrote.1 later_sink)
+  unworked : (result : Result E RoundRead) (left : List (Option Parcel)) → home + blocks_out result ≡ state.blocks → (got ≡ []) × (is ≡ was) → ComesBack stopped known left result → Came result
+  unworked (Ok end) left all none back = subst (λ (e : E). Came (Ok e)) (sym back.0) (none_went (omega (arith, all)) none.1)
+  unworked (Err x) left all none back =
+      let sent_is : sent ≡ Some back.0 ∷ [] = sym s.fifo ∙ ap (λ (l : List (Option Parcel)). l ++ known) none.0 ∙ back.2 in
+      let front : back.0.read ∷ [] ≡ read ∷ s.on.more = sym (ap rounds_of sent_is) ∙ s.on.sent ∙ ap (λ (rs : List RoundRead). rs ++ s.on.more) first_is in
+      let same : back.0.read ≡ read = ap (front_of back.0.read) front in
+      let is_read : x ≡ read = sym back.1 ∙ same in
+      (is_read, idle (ap length sent_is) (ap rounds_of sent_is ∙ ap (λ (r : RoundRead). r ∷ []) same) (omega (arith, all, s.out, ap (λ (r : RoundRead). r.round.blocks) is_read)) none.1)
 
   -- whether a side worked or not
-  pub all_went : (before after : Sunk) (sent got known : List (Option Parcel)) (end result : Option MergeEnd) (waiting : ℕ) → state.taken < 2 ^ 64 → got ++ known ≡ sent → waiting ≡ length known
-      → Sent sent → from.faults ≤ to.faults
-      → MatchOption end ((got ≡ []) × (after.held ≡ before.held)) (λ e. WroteLast parted.blocks (options_of parted) file before.held after.held got e)
-      → IfSome end (λ e. flushes (ending_of e) ≡ true → SaysFlushed after.held after.flushed true) → before.faults ≤ after.faults → IfSome end
-      (λ e. e ≡ ends.WriteFault → Rose before.faults after.faults)
-      → IfSome end (λ e. result ≡ Some e) → (end ≡ None → (result ≡ Some ends.NoMemory) ⊎ ((result ≡ None) × (waiting ≡ 0))) → Came before after result
-  all_went before after sent got known (Some end) result waiting few fifo count reads later wrote flushed later_sink rose some none =
-      subst (Came before after) (sym some) (both_went before after sent got known end few fifo reads later wrote flushed later_sink rose)
-  all_went before after sent got known None result waiting few fifo count reads later wrote flushed later_sink rose some none =
-      unworked before after sent got known result waiting few fifo count reads later wrote later_sink (none refl)
+  pub all_went : (end : Option E) (result : Result E RoundRead) (left : List (Option Parcel)) → home + blocks_out result ≡ state.blocks
+      → MatchOption end ((got ≡ []) × (is ≡ was)) (λ e. Ends did stopped 0 was is (rounds_of got) e)
+      → IfSome end (λ e. (result ≡ Ok e) × (left ≡ known)) → (end ≡ None → ComesBack stopped known left result) → Came result
+  all_went (Some end) result left all ends some none = subst Came (sym some.0) (both_went end (omega (arith, all, ap blocks_out some.0)) ends)
+  all_went None result left all ends some none = unworked result left all ends (none refl)
 
--- ---- where nothing was read one side merges alone
+-- what the side that works says of rounds that were parted
+abbrev parted_as : RoundsState → RoundsState
+parted_as state = record state { home = 0; taken = 0 }
 
-pub idle_as : (old new : RoundsState) (from : Spot) (sunk : Sunk) → old.home ≡ old.blocks → new ≡ old → Idle old new (record from { taken = old.taken }) (record from { taken = new.taken }) sunk sunk
-idle_as old new from sunk home same = record {
-  home = ap (λ (s : RoundsState). s.home) same ∙ home ∙ sym (ap (λ (s : RoundsState). s.blocks) same);
+pub parted_counted : {T : Type 0} (ready : Options → Bool → ℕ → T → Type 0) (state parted : RoundsState) (is : T) → parted ≡ parted_as state → IsReadyAtEnd (ready (options_of parted) parted.keep) is
+    → IsReadyAtEnd (ready (options_of state) state.keep) is
+parted_counted ready state parted is same counted = subst (λ (s : RoundsState). IsReadyAtEnd (ready (options_of s) s.keep) is) same counted
+
+pub parted_ends : {T E : Type 0} (did : Options → T → T → RoundRead → ℕ → Option E → Type 0) (stopped : E) (state parted : RoundsState) (got : List (Option Parcel)) (was is : T) (end : Option E)
+    → parted ≡ parted_as state
+    → MatchOption end ((got ≡ []) × (is ≡ was)) (λ e. Ends (did (options_of parted)) stopped 0 was is (rounds_of got) e)
+    → MatchOption end ((got ≡ []) × (is ≡ was)) (λ e. Ends (did (options_of state)) stopped 0 was is (rounds_of got) e)
+parted_ends did stopped state parted got was is end same ends =
+    subst (λ (s : RoundsState). MatchOption end ((got ≡ []) × (is ≡ was)) (λ e. Ends (did (options_of s)) stopped 0 was is (rounds_of got) e)) same ends
+
+-- what of the rounds in the ring is there still, and the one that was taken out
+pub left_out : {E : Type 0} (stopped : E) (end : Option E) (result : Result E RoundRead) (known left : List (Option Parcel)) → IfSome end (λ e. (result ≡ Ok e) × (left ≡ known))
+    → (end ≡ None → ComesBack stopped known left result) → blocks_of left + blocks_out result ≡ blocks_of known
+left_out stopped (Some end) result known left some none = omega (arith, ap blocks_of some.1, ap blocks_out some.0)
+left_out stopped None (Ok end) known left some none = omega (arith, (none refl).1)
+left_out stopped None (Err x) known left some none =
+    let back = none refl in
+    omega (arith, ap blocks_of back.2, ap blocks_of back.3, ap (λ (r : RoundRead). r.round.blocks) back.1)
+
+-- ---- where nothing else was read one side goes on alone
+
+pub idle_as : {T : Type 0} (old new : RoundsState) (at : Spot) (was : T) → new ≡ old → Idle old new (record at { taken = old.taken }) (record at { taken = new.taken }) was was
+idle_as old new at was same = record {
+  home = ap (λ (s : RoundsState). s.home) same;
   same = (ap (λ (s : RoundsState). s.blocks) same, ap options_of same, ap (λ (s : RoundsState). s.keep) same);
   taken = ap (λ (s : RoundsState). s.taken) same;
-  stands = ap (λ (s : RoundsState). record from { taken = s.taken }) same;
-  held = refl;
-  later = omega arith;
+  stands = ap (λ (s : RoundsState). record at { taken = s.taken }) same;
+  nothing = refl;
 }
 
-pub idle_may : (old new : RoundsState) (file : FileHead) (from to : Spot) (before after : Sunk) → Idle old new from to before after → MayGoOn file old from.place → MayGoOn file new to.place
-idle_may old new file from to before after idle may =
-    let same : to.place ≡ from.place = ap (λ (s : Spot). s.place) idle.stands in
-    record {
-      ready = subst IsReady (sym same) may.ready;
-      link = ap (λ (p : Place). p.link) same ∙ may.link;
-      file = ap (λ (p : Place). p.file) same ∙ may.file;
-      home = idle.home;
-      counted = subst (λ (p : Place). 1 ≤ p.number) (sym same) may.counted;
+-- the first round is out still
+pub idle_out : {T : Type 0} (old new : RoundsState) (read back : RoundRead) (from to : Spot) (was is : T) → back ≡ read → Idle old new from to was is → IsOut old read from.place
+    → IsOut new back to.place
+idle_out old new read back from to was is same idle out =
+    let here : IsOut new read to.place = record {
+      out = omega (arith, idle.home, idle.same.0, out.out);
+      is = out.is;
+      goes = λ full. subst (λ (s : Spot). MayGoOn read s.place) (sym idle.stands) (out.goes full);
+    } in
+    subst (λ (r : RoundRead). IsOut new r to.place) (sym same) here
+
+-- ---- the same, of rounds with the same options
+
+module _ {T E : Type 0} (did : Options → T → T → RoundRead → ℕ → Option E → Type 0) (stopped : E) (ready : Options → Bool → ℕ → T → Type 0) where
+  pub ready_as : (o o' : Options) (keep keep' : Bool) (n : ℕ) (t : T) → o' ≡ o → keep' ≡ keep → ready o' keep' n t → ready o keep n t
+  ready_as o o' keep keep' n t eo ek r = subst (λ (x : Options). ready x keep n t) eo (subst (λ (b : Bool). ready o' b n t) ek r)
+
+  pub handled_as : (o o' : Options) (was is : T) (read read' : RoundRead) (k k' : ℕ) (end : Option E) → o' ≡ o → read' ≡ read → k' ≡ k → did o' was is read' k' end → did o was is read k end
+  handled_as o o' was is read read' k k' end eo er ek d =
+      subst (λ (x : Options). did x was is read k end) eo
+      (subst (λ (x : ℕ). did o' was is read x end) ek (subst (λ (x : RoundRead). did o' was is x k' end) er d))
+
+  ran_as : (o o' : Options) (b b' n n' : ℕ) (read back : RoundRead) (at at' to : Spot) (was was' is : T) (end : E) → o' ≡ o → b' ≡ b → n' ≡ n → back ≡ read → at' ≡ at → was' ≡ was
+      → RanOn (did o') stopped b' n' back at' to was' is end → RanOn (did o) stopped b n read at to was is end
+  ran_as o o' b b' n n' read back at at' to was was' is end eo eb en er ea ew ran =
+      subst (λ (x : T). RanOn (did o) stopped b n read at to x is end) ew
+      (subst (λ (x : Spot). RanOn (did o) stopped b n read x to was' is end) ea
+      (subst (λ (x : RoundRead). RanOn (did o) stopped b n x at' to was' is end) er
+      (subst (λ (x : ℕ). RanOn (did o) stopped b x back at' to was' is end) en
+      (subst (λ (x : ℕ). RanOn (did o) stopped x n' back at' to was' is end) eb
+      (subst (λ (x : Options). RanOn (did x) stopped b' n' back at' to was' is end) eo ran)))))
+
+  counted_as : (o o' : Options) (keep keep' : Bool) (most : ℕ) (t : T) → o' ≡ o → keep' ≡ keep → IsReadyAt (ready o' keep') most t → IsReadyAt (ready o keep) most t
+  counted_as o o' keep keep' most t eo ek c = (c.0, c.1, ready_as o o' keep keep' c.0 t eo ek c.2)
+
+  -- one side alone, where nothing else was read
+  pub idle_went : (old mid new : RoundsState) (read back : RoundRead) (from at to : Spot) (was between is : T) (end : E) → back ≡ read → Idle old mid from at was between
+      → HandledOn (did (options_of mid)) stopped (ready (options_of mid) mid.keep) mid new back at to between is end
+      → HandledOn (did (options_of old)) stopped (ready (options_of old) old.keep) old new read from to was is end
+  idle_went old mid new read back from at to was between is end same idle h = record {
+    ran = ran_as (options_of old) (options_of mid) old.blocks mid.blocks old.budget mid.budget read back from at to was between is end idle.same.1 idle.same.0
+        (ap (λ (o : Options). o.budget) idle.same.1) same idle.stands idle.nothing h.ran;
+    rests = record {
+      home = h.rests.home;
+      same = (h.rests.same.0 ∙ idle.same.0, h.rests.same.1 ∙ idle.same.1, h.rests.same.2 ∙ idle.same.2);
+      least = omega (arith, h.rests.least, idle.taken);
+      later = omega (arith, ap (λ (s : Spot). s.faults) idle.stands, h.rests.later);
+    };
+    counted = counted_as (options_of old) (options_of mid) old.keep mid.keep (2 ^ 32 + 4096) is idle.same.1 idle.same.2 h.counted;
+  }
+
+  -- with the first round, from where it was read
+  pub all_handled : (old mid new : RoundsState) (read : RoundRead) (from at to : Spot) (was is : T) (end : E) → ReadRound old.blocks old.budget from at read
+      → (mid.blocks ≡ old.blocks) × (options_of mid ≡ options_of old) × (mid.keep ≡ old.keep) → old.taken ≤ mid.taken
+      → HandledOn (did (options_of mid)) stopped (ready (options_of mid) mid.keep) mid new read at to was is end
+      → Handled (did (options_of old)) stopped (ready (options_of old) old.keep) 0 old new from to was is end
+  all_handled old mid new read from at to was is end r same least h =
+      let ran = ran_as (options_of old) (options_of mid) old.blocks mid.blocks old.budget mid.budget read read at at to was was is end same.1 same.0
+      (ap (λ (o : Options). o.budget) same.1) refl refl refl h.ran in
+      let reads : Reads old.blocks old.budget from (read ∷ ran.rest) to = (at, r, ran.closes, ran.reads) in
+      record {
+        ran = record { got = ran.got; more = ran.more; reads = subst (λ (l : List RoundRead). Reads old.blocks old.budget from l to) (sym ran.all) reads; ends = ran.ends };
+        rests = record {
+          home = h.rests.home;
+          same = (h.rests.same.0 ∙ same.0, h.rests.same.1 ∙ same.1, h.rests.same.2 ∙ same.2);
+          least = omega (arith, h.rests.least, least);
+          later = omega (arith, r.later, h.rests.later);
+        };
+        counted = counted_as (options_of old) (options_of mid) old.keep mid.keep (2 ^ 32 + 4096) is same.1 same.2 h.counted;
+      }
+
+  -- ---- in one thread
+
+  module _ (old mid : RoundsState) (read : RoundRead) (at : Spot) (was between : T) (out : old.home + read.round.blocks ≡ old.blocks) (few : length read.round.packets ≤ 4096)
+      (put : mid ≡ record old { home = old.home + read.round.blocks }) (counted : ready (options_of old) old.keep (0 + length read.round.packets) between) where
+    put_home : mid.home ≡ mid.blocks
+    put_home = ap (λ (s : RoundsState). s.home) put ∙ out ∙ sym (ap (λ (s : RoundsState). s.blocks) put)
+
+    -- the first round ended it
+    pub put_ends : (end : E) → did (options_of old) was between read 0 (Some end)
+        → HandledOn (did (options_of old)) stopped (ready (options_of old) old.keep) old mid read (record at { taken = old.taken }) (record at { taken = mid.taken }) was between end
+    put_ends end d = record {
+      ran = record {
+        got = read ∷ [];
+        more = [];
+        rest = [];
+        all = refl;
+        closes = λ _. refl;
+        reads = ap (λ (s : RoundsState). record at { taken = s.taken }) put;
+        ends = inr (d, refl);
+      };
+      rests = record {
+        home = put_home;
+        same = (ap (λ (s : RoundsState). s.blocks) put, ap options_of put, ap (λ (s : RoundsState). s.keep) put);
+        least = omega (arith, ap (λ (s : RoundsState). s.taken) put);
+        later = omega arith;
+      };
+      counted = (0 + length read.round.packets, omega (arith, few), counted);
     }
 
-idle_ends : (old mid : RoundsState) (file : FileHead) (from at to : Spot) (h h1 h2 : Option (List ℕ)) (end : MergeEnd) → mid.blocks ≡ old.blocks → options_of mid ≡ options_of old → at ≡ from → h1 ≡ h
-    → EndsFrom mid.blocks (options_of mid) file 1 at to h1 h2 end → EndsFrom old.blocks (options_of old) file 1 from to h h2 end
-idle_ends old mid file from at to h h1 h2 end eb eo es eh merged =
-    subst (λ (x : Option (List ℕ)). EndsFrom old.blocks (options_of old) file 1 from to x h2 end) eh
-    (subst (λ (s : Spot). EndsFrom old.blocks (options_of old) file 1 s to h1 h2 end) es
-    (subst (λ (o : Options). EndsFrom old.blocks o file 1 at to h1 h2 end) eo
-    (subst (λ (n : ℕ). EndsFrom n (options_of mid) file 1 at to h1 h2 end) eb merged)))
+    -- others followed it
+    pub put_goes : (new : RoundsState) (to : Spot) (is : T) (end : E) → did (options_of old) was between read 0 None → read.end ≡ rounds.Full
+        → Handled (did (options_of mid)) stopped (ready (options_of mid) mid.keep) 1 mid new (record at { taken = mid.taken }) to between is end
+        → HandledOn (did (options_of old)) stopped (ready (options_of old) old.keep) old new read (record at { taken = old.taken }) to was is end
+    put_goes new to is end d full h =
+        let ran : Ran (did (options_of old)) stopped old.blocks old.budget 1 (record at { taken = old.taken }) to between is end =
+        subst (λ (s : RoundsState). Ran (did (options_of s)) stopped s.blocks s.budget 1 (record at { taken = s.taken }) to between is end) put h.ran in
+        record {
+          ran = record {
+            got = read ∷ ran.got;
+            more = ran.more;
+            rest = ran.got ++ ran.more;
+            all = refl;
+            closes = λ e. absurd (false≢true (sym e ∙ ap is_full full));
+            reads = ran.reads;
+            ends = inl (between, d, ran.ends);
+          };
+          rests = record {
+            home = h.rests.home;
+            same = (h.rests.same.0 ∙ ap (λ (s : RoundsState). s.blocks) put, h.rests.same.1 ∙ ap options_of put, h.rests.same.2 ∙ ap (λ (s : RoundsState). s.keep) put);
+            least = omega (arith, h.rests.least, ap (λ (s : RoundsState). s.taken) put);
+            later = h.rests.later;
+          };
+          counted = counted_as (options_of old) (options_of mid) old.keep mid.keep (2 ^ 32 + 4096) is (ap options_of put) (ap (λ (s : RoundsState). s.keep) put) h.counted;
+        }
 
-pub idle_went : (old mid new : RoundsState) (file : FileHead) (from at to : Spot) (before between after : Sunk) (end : MergeEnd) → Idle old mid from at before between
-    → WentOn file mid new at to between after end
-    → WentOn file old new from to before after end
-idle_went old mid new file from at to before between after end idle went = record {
-  ended = idle_ends old mid file from at to before.held between.held after.held end idle.same.0 idle.same.1 idle.stands idle.held went.ended;
-  flushed = went.flushed;
-  home = went.home;
-  same = (went.same.0 ∙ idle.same.0, went.same.1 ∙ idle.same.1, went.same.2 ∙ idle.same.2);
-  least = omega (arith, went.least, idle.taken);
-  later = omega (arith, ap (λ (s : Spot). s.faults) idle.stands, went.later);
-  later_sink = omega (arith, idle.later, went.later_sink);
-  write = λ fault. rose_from before.faults between.faults after.faults idle.later (went.write fault);
+  -- ---- round by round
+
+  -- a step of rounds that are as they were at first
+  pub stepped_as : (old now : RoundsState) (k : ℕ) (from to : Spot) (was is : T) (result : Option E) → (now.blocks ≡ old.blocks) × (options_of now ≡ options_of old) × (now.keep ≡ old.keep)
+      → Stepped (did (options_of now)) (ready (options_of now) now.keep) now.blocks now.budget k from to was is result
+      → Stepped (did (options_of old)) (ready (options_of old) old.keep) old.blocks old.budget k from to was is result
+  stepped_as old now k from to was is result same s =
+      subst (λ (x : Bool). Stepped (did (options_of old)) (ready (options_of old) x) old.blocks old.budget k from to was is result) same.2
+      (subst (λ (x : ℕ). Stepped (did (options_of old)) (ready (options_of old) now.keep) old.blocks x k from to was is result) (ap (λ (o : Options). o.budget) same.1)
+      (subst (λ (x : ℕ). Stepped (did (options_of old)) (ready (options_of old) now.keep) x now.budget k from to was is result) same.0
+      (subst (λ (x : Options). Stepped (did x) (ready x now.keep) now.blocks now.budget k from to was is result) same.1 s)))
+
+pub rests_then : (old now new : RoundsState) (from at to : Spot) → Rests old now from at → Rests now new at to → Rests old new from to
+rests_then old now new from at to a b = record {
+  home = b.home;
+  same = (b.same.0 ∙ a.same.0, b.same.1 ∙ a.same.1, b.same.2 ∙ a.same.2);
+  least = omega (arith, a.least, b.least);
+  later = omega (arith, a.later, b.later);
 }
-
--- ---- the first round, and what follows it
-
-abbrev pub start_at : Spot → Option (List ℕ) → Start
-start_at from held = record { place = from.place; left = from.left; held = held; taken = from.taken }
-
--- merging ended with the first round
-pub ended_first : (state : RoundsState) (from to : Spot) (h h1 : Option (List ℕ)) (end : MergeEnd) → Told from.left to.left (EndsBehind 0 state.blocks (options_of state) from.place h h1 end)
-    → Told from.left to.left (EndsCaptured 0 from.place end) → (end ≡ ends.Done → Told from.left to.left (TakesAll from.taken to.taken from.place))
-    → (end ≡ ends.ReadFault → Rose from.faults to.faults)
-    → FrontUnless (Rose from.faults to.faults) (merging state.blocks (options_of state) from.place) from.left to.left h h1 → Ended state.blocks (options_of state) (start_at from h) from to h1 end
-ended_first state from to h h1 end told captured taken read front =
-    ended_so state.blocks state from.place.file (start_at from h) 0 from from to h h1 end
-    (record { told = ahead_none state.blocks (options_of state) from.place from.left h from.taken; same = refl }) (omega arith) told captured taken read front
-
-front_from : (X Y : Type 0) (passing : List ℕ → Passed) (a b h h1 : Option (List ℕ)) → (X → Y) → FrontUnless X passing a b h h1 → FrontUnless Y passing a b h h1
-front_from X Y passing a b h h1 later (inl failed) = inl (later failed)
-front_from X Y passing a b h h1 later (inr told) = inr told
-
--- it was full and is written, and merging went on behind it
-pub ended_behind : (state state1 new : RoundsState) (file : FileHead) (from at to : Spot) (before mid after : Sunk) (end : MergeEnd) → at.place.file ≡ file → from.faults ≤ at.faults
-    → state1.blocks ≡ state.blocks → options_of state1 ≡ options_of state → Told from.left at.left (Ahead state.blocks (options_of state) 1 from.place at.place before.held mid.held from.taken
-    at.taken)
-    → WentOn file state1 new at to mid after end → Ended state.blocks (options_of state) (start_at from before.held) from to after.held end
-ended_behind state state1 new file from at to before mid after end same later eb eo gone went =
-    let here : EndsFrom state.blocks (options_of state) file 1 at to mid.held after.held end =
-    subst (λ (o : Options). EndsFrom state.blocks o file 1 at to mid.held after.held end) eo (subst (λ (n : ℕ). EndsFrom n (options_of state1) file 1 at to mid.held after.held end) eb went.ended) in
-    let ended = here (start_at from before.held) (record { told = gone; same = same }) in
-    record {
-      given = ended.given;
-      captured = ended.captured;
-      taken = ended.taken;
-      read = λ fault. rose_from from.faults at.faults to.faults later (ended.read fault);
-      front = front_from (Rose at.faults to.faults) (Rose from.faults to.faults) (merging state.blocks (options_of state) from.place) from.left to.left before.held after.held
-          (λ rose. rose_from from.faults at.faults to.faults later rose) ended.front;
-    }

@@ -1,3 +1,4 @@
 pub mod Parcels
 pub mod Reads
+pub mod Handled
 pub mod Works

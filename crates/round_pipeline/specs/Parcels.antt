@@ -1,19 +1,45 @@
 -- What goes through the rings, and how many blocks it holds.
-use Rattle.std.specs.Prelude.{ℕ, ◌≡◌, ◌+◌, ◌≤◌, Bool, true, false, Option, None, Some, List, [], ◌∷◌, length}
+use Rattle.std.specs.Prelude.{ℕ, ◌≡◌, ◌+◌, ◌^◌, ◌≤◌, Bool, true, false, Option, None, Some, List, [], ◌∷◌}
+use Rattle.std.specs.Prelude.{length, map}
+use Rattle.std.specs.List.{AllByRecursion}
 use denote.RawPtr.{Ptr, null_ptr}
 use Rattle.std.specs.declared.alloc.Global.{Global}
 use Rattle.block_pool.specs.PoolState.{PoolState, home}
 use Rattle.rtrb.specs.declared.consumer.Consumer.{Consumer}
 use Rattle.rtrb.specs.Shared.{Names}
+use Rattle.offload_model.specs.Captured.{IsCaptured}
+use Rattle.gro.specs.Held.{packet_of}
+use Rattle.rounds.specs.Fresh.{NumberedFrom}
+use Rattle.rounds.specs.RoundsState.{RoundState}
 use Rattle.rounds.specs.declared.round.RoundEnd.{RoundEnd}
 use Rattle.rounds.specs.declared.round.RoundEnd.TheVariants as ends
+use Rattle.rounds.specs.declared.round.RoundRead.{RoundRead}
 use Rattle.round_pipeline.specs.declared.parcel.Parcel.{Parcel}
 use Rattle.round_pipeline.specs.declared.parcel.Token.{Token}
 
--- behind these, the first of which has number 1, and of n blocks
+-- the rounds of parcels
+abbrev pub rounds_of : List (Option Parcel) → List RoundRead
+rounds_of [] = []
+rounds_of (None ∷ xs) = rounds_of xs
+rounds_of (Some p ∷ xs) = p.read ∷ rounds_of xs
+
+-- how many packets rounds have
+abbrev pub packets_of : List RoundRead → ℕ
+packets_of [] = 0
+packets_of (read ∷ rs) = length read.round.packets + packets_of rs
+
+-- a round as it is read
+pub record IsRead (round : RoundState) : Type 0 where
+  pub few : length round.packets ≤ 4096
+  pub captured : AllByRecursion IsCaptured (map packet_of round.packets)
+  pub numbers : (k : ℕ) × NumberedFrom k round.packets
+
+-- behind these, the first of which has number 0, and of n blocks
 pub record IsFit (n : ℕ) (before : List (Option Parcel)) (p : Parcel) : Type 0 where
-  pub number : p.number ≡ length before + 1
-  pub blocks : p.round.blocks ≤ n
+  pub number : p.number ≡ length (rounds_of before)
+  pub packets : packets_of (rounds_of before) ≤ 2 ^ 32
+  pub is : IsRead p.read.round
+  pub blocks : p.read.round.blocks ≤ n
   pub empty : home p.shelf ≡ 0
   pub made : p.shelf.made ≡ n
 
@@ -22,15 +48,11 @@ abbrev pub is_full : RoundEnd → Bool
 is_full ends.Full = true
 is_full _ = false
 
-abbrev pub goes_on : Option Parcel → Bool
-goes_on None = false
-goes_on (Some p) = is_full p.end
-
 -- the blocks of the rounds
 abbrev pub blocks_of : List (Option Parcel) → ℕ
 blocks_of [] = 0
 blocks_of (None ∷ xs) = blocks_of xs
-blocks_of (Some p ∷ xs) = p.round.blocks + blocks_of xs
+blocks_of (Some p ∷ xs) = p.read.round.blocks + blocks_of xs
 
 -- the blocks that came back
 abbrev pub homes_of : List Token → ℕ

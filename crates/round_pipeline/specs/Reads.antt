@@ -1,6 +1,6 @@
 -- What the side that reads says of the rounds that it sent, one after another.
-use Rattle.std.specs.Prelude.{ℕ, ◌≡◌, ◌≢◌, ◌+◌, ◌-◌, ◌<◌, ◌≤◌, ◌^◌, false, Option, None, Some, List, [], ◌∷◌, length}
-use Rattle.std.specs.Prelude.{map, min}
+use Rattle.std.specs.Prelude.{ℕ, ◌≡◌, ◌≢◌, ◌+◌, ◌-◌, ◌<◌, ◌≤◌, ◌^◌, false, Option, None, Some, List, [], ◌∷◌, ◌++◌}
+use Rattle.std.specs.Prelude.{length, map, min}
 use Rattle.std.specs.List.{AllByRecursion}
 use Rattle.off_io.specs.Faults.{Rose}
 use Rattle.off_io.specs.Told.{Told}
@@ -11,9 +11,10 @@ use Rattle.offload_model.specs.Captured.{IsCaptured}
 use Rattle.offload_model.specs.Need.{round_need}
 use Rattle.gro.specs.Held.{packet_of}
 use Rattle.rounds.specs.declared.round.RoundEnd.TheVariants as ends
+use Rattle.rounds.specs.declared.round.RoundRead.{RoundRead}
 use Rattle.rounds.specs.Reading.{GivesRound, PassesRound}
 use Rattle.round_pipeline.specs.declared.parcel.Parcel.{Parcel}
-use Rattle.round_pipeline.specs.Parcels.{goes_on}
+use Rattle.round_pipeline.specs.Parcels.{is_full, rounds_of}
 
 -- where reading stands: the place, what the source has left where it tells, its faults, and the blocks that were taken
 pub record Spot : Type 0 where
@@ -30,25 +31,35 @@ abbrev pub reader_at : {S : Type 0} → (S → Option (List ℕ)) → (S → ℕ
 reader_at left faults reader taken = spot (place_of reader) (left (source_of reader)) (faults (source_of reader)) taken
 
 -- a round was read
-pub record ReadRound (blocks budget : ℕ) (from to : Spot) (p : Parcel) : Type 0 where
-  pub given : Told from.left to.left (GivesRound blocks from.place to.place p.round.packets p.end)
-  pub fewer : (p.end ≢ ends.Full) → (p.end ≢ ends.NoMemory) → length p.round.packets < budget
-  pub full : p.end ≡ ends.Full → PassesRound from.place to.place p.round.packets budget
-  pub captured : AllByRecursion IsCaptured (map packet_of p.round.packets)
-  pub need : p.round.blocks ≡ round_need (map packet_of p.round.packets)
-  pub within : p.round.blocks ≤ blocks
+pub record ReadRound (blocks budget : ℕ) (from to : Spot) (read : RoundRead) : Type 0 where
+  pub given : Told from.left to.left (GivesRound blocks from.place to.place read.round.packets read.end)
+  pub fewer : (read.end ≢ ends.Full) → (read.end ≢ ends.NoMemory) → length read.round.packets < budget
+  pub full : read.end ≡ ends.Full → PassesRound from.place to.place read.round.packets budget
+  pub captured : AllByRecursion IsCaptured (map packet_of read.round.packets)
+  pub need : read.round.blocks ≡ round_need (map packet_of read.round.packets)
+  pub within : read.round.blocks ≤ blocks
   pub some : 1 ≤ budget
-  pub took : min (from.taken + p.round.blocks) (2 ^ 64 - 1) ≤ to.taken
+  pub took : min (from.taken + read.round.blocks) (2 ^ 64 - 1) ≤ to.taken
   pub later : from.faults ≤ to.faults
-  pub failed : p.end ≡ ends.ReadFault → Rose from.faults to.faults
-
--- or there was no shelf for one
-abbrev pub ReadNext : ℕ → ℕ → Spot → Spot → Option Parcel → Type 0
-ReadNext blocks budget from to None = to ≡ from
-ReadNext blocks budget from to (Some p) = ReadRound blocks budget from to p
+  pub failed : read.end ≡ ends.ReadFault → Rose from.faults to.faults
 
 -- rounds one after another: none follows one that was not full
-abbrev pub Reads : ℕ → ℕ → Spot → List (Option Parcel) → Spot → Type 0
+abbrev pub Reads : ℕ → ℕ → Spot → List RoundRead → Spot → Type 0
 Reads blocks budget from [] to = to ≡ from
-Reads blocks budget from (x ∷ xs) to = (mid : Spot) × ReadNext blocks budget from mid x × (goes_on x ≡ false → xs ≡ [])
-    × Reads blocks budget mid xs to
+Reads blocks budget from (read ∷ rs) to = (mid : Spot) × ReadRound blocks budget from mid read
+    × (is_full read.end ≡ false → rs ≡ []) × Reads blocks budget mid rs to
+
+-- behind the rounds that were sent before, these were read and sent
+pub record ReadOn (blocks budget : ℕ) (from to : Spot) (before after : List (Option Parcel)) : Type 0 where
+  pub more : List RoundRead
+  pub sent : rounds_of after ≡ rounds_of before ++ more
+  pub reads : Reads blocks budget from more to
+
+-- this round was sent, and no other one
+abbrev pub IsAlone : RoundRead → List (Option Parcel) → Type 0
+IsAlone read xs = (p : Parcel) × (xs ≡ Some p ∷ []) × (p.read ≡ read)
+
+-- a full round was, of no more packets than were read
+abbrev pub IsFirst : ℕ → List (Option Parcel) → Type 0
+IsFirst number xs = (p : Parcel) × (xs ≡ Some p ∷ []) × (p.read.end ≡ ends.Full)
+    × (length p.read.round.packets ≤ number)

@@ -1,12 +1,10 @@
--- What the side that works says of the rounds that it received, whatever the side that reads says of them.
-use Rattle.std.specs.Prelude.{ℕ, ◌≡◌, ◌+◌, ◌≤◌, Bool, true, false, Option, None, Some, List, ◌++◌, length, map}
+-- What merging says of the rounds that were read, one after another.
+use Rattle.std.specs.Prelude.{ℕ, ◌≡◌, ◌≤◌, Bool, true, false, Option, None, Some, IfSome, List, map}
 use Rattle.off_io.specs.Content.{SaysFlushed}
 use Rattle.off_io.specs.Faults.{Rose}
 use Rattle.off_io.specs.Told.{Told}
 use Rattle.pcap_io.specs.declared.heads.FileHead.{FileHead}
-use Rattle.pcap_io.specs.declared.heads.Link.TheVariants.{Ethernet}
 use Rattle.pcap_io.specs.declared.place.Place.{Place}
-use Rattle.pcap_io.specs.Places.{IsReady}
 use Rattle.offload_model.specs.Passing.{merging, Passes, FrontUnless, flushes}
 use Rattle.offload_model.specs.Steps.{round_output}
 use Rattle.offload_model.specs.Written.{Options}
@@ -15,10 +13,10 @@ use Rattle.rounds.specs.declared.merge.MergeEnd.{MergeEnd}
 use Rattle.rounds.specs.declared.merge.MergeEnd.TheVariants as ends
 use Rattle.rounds.specs.declared.merge.Step.{Step}
 use Rattle.rounds.specs.declared.merge.Step.TheVariants as steps
+use Rattle.rounds.specs.declared.round.RoundRead.{RoundRead}
 use Rattle.rounds.specs.Merging.{ending_of, options_of, is_worked, Puts, GivesUp, Ahead, TakesAll, HoldsCaptured}
 use Rattle.rounds.specs.RoundsState.{RoundsState}
-use Rattle.round_pipeline.specs.declared.parcel.Parcel.{Parcel}
-use Rattle.round_pipeline.specs.Reads.{Spot, Reads}
+use Rattle.round_pipeline.specs.Reads.{Spot}
 
 -- where merging began: the place, what the source had left and the sink held, and the blocks that were taken
 pub record Start : Type 0 where
@@ -43,33 +41,15 @@ pub record Ended (blocks : ℕ) (options : Options) (start : Start) (from to : S
   pub front : FrontUnless (Rose from.faults to.faults) (merging blocks options start.place) start.left to.left
       start.held held
 
--- a round was worked and written, or given up
-pub record WroteRound (options : Options) (file : FileHead) (old new : Option (List ℕ)) (p : Parcel)
+-- a round was worked and written behind k others, or given up
+pub record WroteRound (options : Options) (file : FileHead) (old new : Option (List ℕ)) (read : RoundRead) (k : ℕ)
     (step : Step) : Type 0 where
-  pub puts : is_worked p.end ≡ true → Puts old new (round_output options file.order (map packet_of p.round.packets))
-      p.end step
-  pub gives : is_worked p.end ≡ false → (end : MergeEnd) × (step ≡ steps.Ends end) × GivesUp old new p.number p.end end
+  pub puts : is_worked read.end ≡ true
+      → Puts old new (round_output options file.order (map packet_of read.round.packets)) read.end step
+  pub gives : is_worked read.end ≡ false
+      → (end : MergeEnd) × (step ≡ steps.Ends end) × GivesUp old new k read.end end
 
--- wherever the rounds were read from, they were written
-abbrev pub Wrote : ℕ → Options → FileHead → Option (List ℕ) → Option (List ℕ) → List (Option Parcel) → Type 0
-Wrote blocks options file old new xs =
-    (start : Start) (from to : Spot) → Behind blocks options file start 1 from old
-    → Reads blocks options.budget from xs to → Behind blocks options file start (length xs + 1) to new
-
--- and merging ended, whatever was read behind them
-abbrev pub WroteLast : ℕ → Options → FileHead → Option (List ℕ) → Option (List ℕ) → List (Option Parcel) → MergeEnd
-    → Type 0
-WroteLast blocks options file old new xs end =
-    (start : Start) (from to : Spot) (behind : List (Option Parcel)) → Behind blocks options file start 1 from old
-    → Reads blocks options.budget from (xs ++ behind) to
-    → Ended blocks options start from to new end
-
--- from a place on, behind k rounds
-abbrev pub EndsFrom : ℕ → Options → FileHead → ℕ → Spot → Spot → Option (List ℕ) → Option (List ℕ) → MergeEnd → Type 0
-EndsFrom blocks options file k from to old new end = (start : Start) → Behind blocks options file start k from old
-    → Ended blocks options start from to new end
-
--- ---- what is left behind the first round
+-- ---- the sink
 
 -- what a sink holds where it tells, whether that is flushed, and its faults
 pub record Sunk : Type 0 where
@@ -80,39 +60,18 @@ pub record Sunk : Type 0 where
 abbrev pub sink_at : {K : Type 0} → (K → Option (List ℕ)) → (K → Bool) → (K → ℕ) → K → Sunk
 sink_at held is_flushed faults sink = record { held = held sink; flushed = is_flushed sink; faults = faults sink }
 
--- merging may go on here: all blocks are home, and a record was read
-pub record MayGoOn (head : FileHead) (rounds : RoundsState) (place : Place) : Type 0 where
-  pub ready : IsReady place
-  pub link : place.link ≡ Ethernet
-  pub file : place.file ≡ head
-  pub home : rounds.home ≡ rounds.blocks
-  pub counted : 1 ≤ place.number
+-- a round was written behind k others: more may follow, or merging ended
+abbrev pub step_of : Option MergeEnd → Step
+step_of None = steps.Goes
+step_of (Some end) = steps.Ends end
 
--- nothing was read or written, and all blocks are home
-pub record Idle (old new : RoundsState) (from to : Spot) (before after : Sunk) : Type 0 where
-  pub home : new.home ≡ new.blocks
-  pub same : (new.blocks ≡ old.blocks) × (options_of new ≡ options_of old) × (new.keep ≡ old.keep)
-  pub taken : new.taken ≡ old.taken
-  pub stands : to ≡ from
-  pub held : after.held ≡ before.held
-  pub later : before.faults ≤ after.faults
-
--- merging went on from here, and ended so with all blocks home
-pub record WentOn (head : FileHead) (old new : RoundsState) (from to : Spot) (before after : Sunk)
-    (end : MergeEnd) : Type 0 where
-  pub ended : EndsFrom old.blocks (options_of old) head 1 from to before.held after.held end
-  pub flushed : flushes (ending_of end) ≡ true → SaysFlushed after.held after.flushed true
-  pub home : new.home ≡ new.blocks
-  pub same : (new.blocks ≡ old.blocks) × (options_of new ≡ options_of old) × (new.keep ≡ old.keep)
-  pub least : old.taken ≤ new.taken
-  pub later : from.faults ≤ to.faults
-  pub later_sink : before.faults ≤ after.faults
-  pub write : end ≡ ends.WriteFault → Rose before.faults after.faults
-
--- or there was no memory or no thread for a second side
-abbrev pub MayHaveGoneOn : FileHead → RoundsState → RoundsState → Spot → Spot → Sunk → Sunk → Option MergeEnd → Type 0
-MayHaveGoneOn head old new from to before after None = Idle old new from to before after
-MayHaveGoneOn head old new from to before after (Some end) = WentOn head old new from to before after end
+-- a round was worked and written, or given up, and what the sink says of that
+pub record PutRound (options : Options) (file : FileHead) (old new : Sunk) (read : RoundRead) (k : ℕ)
+    (end : Option MergeEnd) : Type 0 where
+  pub wrote : WroteRound options file old.held new.held read k (step_of end)
+  pub flushed : IfSome end (λ e. flushes (ending_of e) ≡ true → SaysFlushed new.held new.flushed true)
+  pub later : old.faults ≤ new.faults
+  pub rose : IfSome end (λ e. e ≡ ends.WriteFault → Rose old.faults new.faults)
 
 -- ---- the whole of a capture
 

@@ -94,13 +94,13 @@ pub(crate) struct Supply<W: Post + Drop, N: Naming> {
     pub(crate) out: Producer<Option<Parcel>, Global, Fits<N>>,
 }
 
-/// Empty shelves for so many blocks.
+/// Empty shelves for so many blocks, but the one that goes away with the first round.
 pub(crate) fn new_shelves(alloc: Global, blocks: u32) -> Result<VecDeque<Pool>, AllocError>
     requires few { blocks ≤ 65536 }
     ensures empty { IfOk result (λ shelves. shelved shelves.items ≡ 0) }
 {
     let mut shelves = VecDeque::with_capacity(alloc, SHELVES)?;
-    for i in 0..SHELVES {
+    for i in 1..SHELVES {
         prove!(i < 3);
         let shelf = Pool::empty(alloc, blocks)?;
         shelves.push_front_reserved(shelf);
@@ -116,6 +116,7 @@ fn is_ready(shelf: &Pool, blocks: u32) -> bool
 }
 
 impl<W: Post + Drop> Desk<W> {
+    /// A shelf is away already, with the first round.
     pub(crate) fn new(
         post: W,
         blocks: u32,
@@ -132,7 +133,7 @@ impl<W: Post + Drop> Desk<W> {
             blocks,
             tokens,
             shelves,
-            out: 0,
+            out: 1,
             stopped: false,
         }
     }

@@ -37,7 +37,8 @@ fn bring_tokens(rounds: &mut Rounds, tokens: &mut Consumer<Token>)
     }
 }
 
-/// The side that reads comes back, and all blocks that lie between the sides, or on shelves, come home.
+/// The side that reads comes back, and all blocks that lie between the sides, or on shelves, come home. A round that
+/// was taken from between them before may be out.
 pub(crate) fn gather<N: Naming>(
     rounds: &mut Rounds,
     intake: Intake,
@@ -46,9 +47,13 @@ pub(crate) fn gather<N: Naming>(
     shelves: VecDeque<Pool>,
 )
     requires blocks { intake.blocks ≡ rounds.old.blocks }
-    requires sum { rounds.old.home + intake.home + blocks_of (known_items from.old) + homes_of (known_items tokens.old)
-        + shelved shelves.items ≡ rounds.old.blocks }
-    ensures home { rounds.new ≡ record rounds.old { home = rounds.old.blocks; taken = intake.taken } }
+    requires room { rounds.old.home + intake.home + blocks_of (known_items from.old) + homes_of (known_items tokens.old)
+        + shelved shelves.items ≤ rounds.old.blocks }
+    ensures home { rounds.new ≡ record rounds.old {
+      home = rounds.old.home + intake.home + blocks_of (known_items from.old) + homes_of (known_items tokens.old)
+          + shelved shelves.items;
+      taken = intake.taken;
+    } }
 {
     let mut shelves = shelves;
     rounds.join(intake);

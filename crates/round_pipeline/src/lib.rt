@@ -1,8 +1,8 @@
-//! Merges a capture by two sides: one reads the next rounds while the other works and writes, with all who run lanes
-//! beside it.
+//! Handles the rounds of a capture by two sides: one reads the next rounds while the other works, with all who run
+//! lanes beside it. What is done with a round that was worked a [`RoundHandler`] says: [`merge_beside`] writes it.
 //!
 //! ```text
-//!   reads ── Parcel: a round, its end, an empty shelf ──> works, writes ── lanes, as tasks ──> whoever is free
+//!   reads ── Parcel: a round, its end, an empty shelf ──> works, handles ─ lanes, as tasks ──> whoever is free
 //!     ^                                                      │    ^                                 │
 //!     └───── Token: the shelf, with the round's blocks ──────┘    └───────── lanes, done ───────────┘
 //! ```
@@ -13,17 +13,22 @@
 //! lanes itself while it waits, so a thread that can't be made for another costs nothing. Where there is no memory for
 //! a desk it does all of them.
 //!
+//! The first round is read before there are two sides. Where it is full it is the first parcel in the ring as they
+//! begin, so what is behind it is read while it is worked. Where it isn't, or where there is no memory or no thread for
+//! a second side, it is worked by the thread that read it; so a capture of one round costs no thread for reading.
+//!
 //! The side that reads owns the pool and takes from it alone. What a round's work leaves comes home on the side that
 //! works, onto a shelf: a pool without blocks of its own. The shelf goes back in a token, and its blocks into the pool.
 //! There are three shelves, so reading is at most three rounds ahead. Before a record is read, where fewer blocks than
 //! `rounds::RECORD_BLOCKS` are home (no record needs more) while some are out, the side that reads waits for a token;
 //! so no record is left half read, and a round exceeds the blocks just where it does in one thread.
 //!
-//! Proved: [`merge_beside`] has the clauses of `Rounds::merge_all`, word for word, whatever both threads do at the same
-//! time. What was sent by a ring and what was received are known once the threads have joined; the side that reads says
-//! of its rounds what they are (`specs/Reads.antt`), the side that works says what was written of them wherever they
-//! come from (`specs/Works.antt`), and both together say what the model says. All blocks are home whatever the ending,
-//! also those of rounds that were read and that nobody worked.
+//! Proved of [`handle_beside`], whatever both threads do at the same time: the rounds that were read stand one behind
+//! another in the capture (`specs/Reads.antt`), each of the first of them was handled in turn up to the one that ended
+//! it, and nothing was done with those behind (`Ran` of `specs/Handled.antt`); so whoever says what one round does has
+//! it for all. [`handle_from`] has the same of one thread. What was sent by a ring and what was received are known once
+//! the threads have joined. All blocks are home whatever the ending, also those of rounds that were read and that
+//! nobody worked. [`merge_beside`] has the clauses of `Rounds::merge_all`, word for word.
 //!
 //! Not proved: that waiting ends. The side that works waits only where it has sent a token for each parcel that it
 //! received, and the side that reads only while a shelf is away and the other side hasn't stopped; so never both. Each
@@ -33,14 +38,23 @@
 //! tokens are back: if they weren't, merging would end as for want of memory.
 //!
 //! ```
-//! let end = merge_beside(&rt, alloc, &mut rounds, &mut reader, &file, &mut sink, &gate);
+//! let end = merge_beside(
+//!     &rt,
+//!     alloc,
+//!     &mut rounds,
+//!     &mut reader,
+//!     &file,
+//!     &mut sink,
+//!     &NoGate,
+//! );
 //! ```
 //!
 //! Its parts: `ring` (putting in and waiting at the ends of a ring), `bells` (who wakes whom, and whether there are
 //! two), `parcel` (what goes through the rings), `desk` (where tokens come in, and blocks go home while a round is
 //! read), `sides` (the loop of each side, and both at once), `gather` (the side that reads comes back, with what lies
-//! between the sides once both have ended), `merge` (the first round, the two sides, and one thread where there can't
-//! be two) and `crew` (all of that with who run lanes beside it).
+//! between the sides once both have ended), `here` (rounds in one thread), `drive` (the first round, the two sides, and
+//! one thread where there can't be two), `crew` (all of that with who run lanes beside it), `handler` (what is done
+//! with a round) and `merge` (which writes it).
 //!
 //! Tests: `round_tests`, module `pipeline`.
 //!
@@ -57,10 +71,16 @@
 mod bells;
 mod crew;
 mod desk;
+mod drive;
 mod gather;
+mod handler;
+mod here;
 mod merge;
 mod parcel;
 mod ring;
 mod sides;
 
-pub use crew::merge_beside;
+pub use crew::handle_beside;
+pub use handler::RoundHandler;
+pub use here::handle_from;
+pub use merge::merge_beside;

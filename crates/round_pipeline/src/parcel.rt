@@ -3,31 +3,28 @@ ghost use Rattle.std.specs.Prelude.{◌≡◌, ℕ};
 ghost use Rattle.round_pipeline.specs.Parcels.{RingName};
 
 use block_pool::Pool;
-use rounds::{Round, RoundEnd, RoundRead};
+use rounds::RoundRead;
 use rtrb::Protocol;
 use std::marker::{Brand, PhantomData};
 
 /// A round that was read, its number, and an empty shelf for its blocks. One that is dropped frees its blocks.
 pub(crate) struct Parcel {
     pub(crate) number: u64,
-    pub(crate) round: Round,
-    pub(crate) end: RoundEnd,
+    pub(crate) read: RoundRead,
     pub(crate) shelf: Pool,
 }
 
 impl Parcel {
     /// What was sent.
     pub(crate) fn open(self) -> (u64, RoundRead, Pool)
-        ensures same { (result.0 ≡ self.number) × (result.1.round ≡ self.round) × (result.1.end ≡ self.end)
-            × (result.2 ≡ self.shelf) }
+        ensures same { (result.0 ≡ self.number) × (result.1 ≡ self.read) × (result.2 ≡ self.shelf) }
     {
         let Parcel {
             number,
-            round,
-            end,
+            read,
             shelf,
         } = self;
-        (number, RoundRead { round, end }, shelf)
+        (number, read, shelf)
     }
 }
 
@@ -35,8 +32,7 @@ impl Drop for Parcel {
     fn drop(self) {
         let Parcel {
             number: _,
-            round,
-            end: _,
+            read: RoundRead { round, end: _ },
             shelf: _shelf,
         } = self;
         round.discard();

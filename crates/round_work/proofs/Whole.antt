@@ -1,6 +1,6 @@
 -- All lanes of a round together.
 use Rattle.std.proofs.Common.{◌≡◌, ℕ, suc, ◌+◌, ◌≤◌, List, [], ◌∷◌, ◌++◌, map, length, refl, sym, ap, ◌∙◌, subst, arith}
-use Rattle.std.specs.Prelude.{All, IsSome, Some, Ok, Err, OnOk, true}
+use Rattle.std.specs.Prelude.{All, IsSome, Some, Ok, Err, OnOk, MatchResult, true}
 use Rattle.std.specs.declared.result.Result.{Result}
 use Rattle.std.specs.List.{flat_map, range_with_len}
 use Rattle.pcap_io.specs.Capture.{Packet}
@@ -18,28 +18,23 @@ use Rattle.round_work.specs.declared.lanes.QueueLane.{QueueLane}
 use Rattle.round_work.specs.declared.lanes.TapLane.{TapLane}
 use Rattle.round_work.specs.declared.lanes.Lanes.{Lanes}
 use Rattle.round_work.specs.declared.plan.Plan.{Plan}
-use Rattle.round_work.specs.Lanes.{of_queues, of_taps, of_lanes, counts_of_queues, EachTapDid, IsFilled}
-use Rattle.round_work.specs.Sharing.{EachFrom, IsSharing, IsSum}
+use Rattle.round_work.specs.Lanes.{of_queues, of_taps, of_lanes, counts_of_queues, AreIdle, EachTapDid, IsFilled, IsIdleQueue}
+use Rattle.round_work.specs.Sharing.{EachFrom, IsSum}
 use Rattle.round_work.specs.Work.{spread_of, options_by, shown_by, AreFilled, Did, IsDone, IsRefused, IsToWork, IsWorked, IsWatched, AreMerged, AreWatched, merged_in, lane_records, records_of_tap}
 use Rattle.round_work.proofs.Listing.{all_from, each_map, each_equal}
-use Rattle.round_work.proofs.Sharing.{empty_account}
+use Rattle.round_work.proofs.Idle.{idle_lanes, idle_queues}
 use Rattle.round_work.proofs.Worked.{all_worked, all_watched, queues_fewer, queues_kept, taps_kept, queue_records, tap_records}
 
 -- ---- what is held while lanes are filled
 
-abbrev pub nowhere : Spread
-nowhere key = 0
+pub fill_none : (p : Account) (l : Lanes) → AreIdle l → Keeps p (both p (of_lanes l))
+fill_none p l idle t m = let z = idle_lanes l idle t m in (omega (arith, z.0), omega (arith, z.1))
 
-pub fill_taps : (p q : Account) (ls : List QueueLane) (ts : List TapLane) → EachFrom (IsSharing nowhere [] []) 0 ls → Keeps p (both q (of_taps ts))
-    → Keeps p (both q (both (of_queues ls) (of_taps ts)))
-fill_taps p q ls ts empty k t m =
+pub fill_taps : (p q : Account) (ls : List QueueLane) (ts : List TapLane) → All IsIdleQueue ls → Keeps p (both q (of_taps ts)) → Keeps p (both q (both (of_queues ls) (of_taps ts)))
+fill_taps p q ls ts idle k t m =
     let x = k t m in
-    let z = empty_account nowhere [] 0 ls empty t m in
+    let z = idle_queues ls idle t m in
     (omega (arith, x.0, z.0), omega (arith, x.1, z.0, z.1))
-
-pub fill_none : (p : Account) (ls : List QueueLane) (ts : List TapLane) → EachFrom (IsSharing nowhere [] []) 0 ls → ts ≡ [] → Keeps p (both p (both (of_queues ls) (of_taps ts)))
-fill_none p ls ts empty e =
-    fill_taps p p ls ts empty (subst (λ (z : List TapLane). Keeps p (both p (of_taps z))) (sym e) (λ t m. (omega arith, omega arith)))
 
 pub fill_all : (p q r : Account) (ls : List QueueLane) (ts : List TapLane) → Keeps p (both q (of_taps ts)) → IsSum q r (of_queues ls) → Keeps p (both r (both (of_queues ls) (of_taps ts)))
 fill_all p q r ls ts k s t m =
@@ -133,3 +128,13 @@ is_refused plan old l m f d = record {
   count = omega (arith, fewer_lanes plan old l m f d);
   clones = no_clones plan.filter plan.snap l.taps.items m.taps.items d.sizes.1 d.taps;
 }
+
+-- whether all was done or not, nothing is lost
+pub kept_after : {E : Type 0} (r : Result (Unit {0}) E) (plan : Plan) (old now : List Held) (l : Lanes) → now ≡ [] → MatchResult r (λ _. IsDone plan old l) (λ _. IsRefused old [] l)
+    → Keeps (of_packets old) (both (of_packets now) (of_lanes l))
+kept_after (Ok u) plan old now l none is = λ t m.
+    let k = is.kept t m in
+    let h = ap (λ (z : List Held). (of_packets z).held t m) none in
+    let g = ap (λ (z : List Held). (of_packets z).homes t.blocks m) none in
+    (omega (arith, k.0, h), omega (arith, k.1, h, g))
+kept_after (Err e) plan old now l none is = subst (λ (z : List Held). Keeps (of_packets old) (both (of_packets z) (of_lanes l))) (sym none) is.kept

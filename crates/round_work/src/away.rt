@@ -15,7 +15,6 @@ use crate::tasks::{LaneDone, LaneJob, LaneTask, QueueTask, WatchTask};
 use crate::work::{watch, work};
 use core::mem::replace;
 use errands::Job;
-use frags::Outcomes;
 use off_io::Gate;
 use std::collections::VecDeque;
 
@@ -39,20 +38,13 @@ pub(crate) fn are_two_at_work(lanes: &Lanes) -> bool {
     false
 }
 
-// The lane leaves its place. What stays holds nothing.
+// The lane leaves its place. What stays there is idle.
 fn take_queue(lane: &mut QueueLane) -> QueueLane
     ensures same { result ≡ lane.old }
 {
     let alloc = *lane.items.allocator();
-    let empty = QueueLane {
-        queue: lane.queue,
-        packets: VecDeque::new(alloc),
-        items: Vec::new(alloc),
-        outcomes: Outcomes::new(alloc),
-        done: false,
-        count: 0,
-    };
-    replace(lane, empty)
+    let idle = QueueLane::new(alloc, lane.queue);
+    replace(lane, idle)
 }
 
 // The same of a tap.
@@ -60,13 +52,8 @@ fn take_tap(lane: &mut TapLane) -> TapLane
     ensures same { result ≡ lane.old }
 {
     let alloc = *lane.clones.allocator();
-    let empty = TapLane {
-        tap: lane.tap,
-        clones: Vec::new(alloc),
-        texts: None,
-        outcomes: Outcomes::new(alloc),
-    };
-    replace(lane, empty)
+    let idle = TapLane::new(alloc, lane.tap);
+    replace(lane, idle)
 }
 
 // The queues that have packets go away as tasks. The others are worked here.

@@ -13,7 +13,7 @@ use crate::work::run_in_turn;
 use crate::works::Works;
 use crossbeam_queue::ArrayQueue;
 use errands::{Asker, Bells, Crew, Errands, Job, Naming, Reply, Runner, Works as DoesTasks, serve};
-use off_io::{Gate, Who};
+use off_io::Gate;
 use std::alloc::{AllocError, Global};
 use std::collections::VecDeque;
 use std::marker::Model;
@@ -150,10 +150,6 @@ impl<G: Gate, N: Naming, R: Wait> Works for LaneCrew<'_, '_, G, N, R> {
                 &mut self.done,
             );
         }
-    }
-
-    fn pass(&self, who: Who, point: u32) {
-        self.gate.pass(who, point);
     }
 }
 

@@ -61,6 +61,7 @@ pub(crate) fn free_queue(lane: QueueLane) {
         queue: _,
         packets,
         items,
+        table: _table,
         outcomes,
         done: _,
         count: _,
@@ -75,8 +76,25 @@ pub(crate) fn free_tap(lane: TapLane) {
         tap: _,
         clones,
         texts: _texts,
+        memory: _memory,
         outcomes,
     } = lane;
     free_clones(clones);
     free_outcomes(outcomes);
+}
+
+pub(crate) fn free_queues(lanes: Vec<QueueLane>) {
+    let mut lanes = lanes;
+    while let Some(lane) = lanes.pop() {
+        free_queue(lane);
+    }
+    lanes.destroy_empty();
+}
+
+pub(crate) fn free_taps(lanes: Vec<TapLane>) {
+    let mut lanes = lanes;
+    while let Some(lane) = lanes.pop() {
+        free_tap(lane);
+    }
+    lanes.destroy_empty();
 }

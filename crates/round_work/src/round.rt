@@ -1,21 +1,20 @@
 //! The work of a round, over all its lanes.
-ghost use Rattle.std.specs.Prelude.{◌≡◌, ℕ, ◌+◌, ◌≤◌, true, List, [], length, map, All, IfOk, IfErr, OnOk, MatchResult};
+ghost use Rattle.std.specs.Prelude.{◌≡◌, ℕ, ◌+◌, ◌≤◌, true, List, [], length, map, All, OnOk, OnErr, MatchResult};
 ghost use Rattle.std.specs.Prelude.{IsSome};
-ghost use Rattle.std.specs.List.{range_with_len};
 ghost use Rattle.frags.specs.Account.{Keeps, both};
 ghost use Rattle.offload_model.specs.Written.{round_records};
 ghost use Rattle.gro.specs.declared.packet.Packet.{Packet as Held};
 ghost use Rattle.gro.specs.Held.{packet_of, of_packets, counts_of, AreHeld, AreShared, WeighAtLeast};
 ghost use Rattle.gro.specs.Table.{AreReady, ItemsWeighAtLeast};
 ghost use Rattle.round_work.specs.Clones.{weight_after};
-ghost use Rattle.round_work.specs.Lanes.{of_lanes, counts_of_queues, IsFilled, IsTapReady};
+ghost use Rattle.round_work.specs.Lanes.{of_lanes, counts_of_queues, AreIdle, IsFilled, IsTapReady};
 ghost use Rattle.round_work.specs.Packets.{RiseFrom};
 ghost use Rattle.round_work.specs.Sharing.{EachFrom};
 ghost use Rattle.round_work.specs.Taps.{HasClones};
 ghost use Rattle.round_work.specs.Work.{spread_of, options_by, shown_by, IsPlan, IsToWork, AreFilled, AreMerged};
 ghost use Rattle.round_work.specs.Work.{AreWatched, Did, IsDone, IsRefused, lane_records};
 
-use crate::fill::{add_taps, give_all_up, open_queues, weigh};
+use crate::fill::{fill_taps, give_all_up, open_lanes, weigh};
 use crate::lanes::{Lanes, QueueLane, TapLane};
 use crate::plan::Plan;
 use crate::share::share_out;
@@ -38,7 +37,7 @@ fn fill(
     requires weighs { WeighAtLeast (weight_after 1) packets.old.items }
     requires rising { RiseFrom 0 (map packet_of packets.old.items) }
     requires few { counts_of packets.old.items ≤ 65536 }
-    requires none { (lanes.old.queues.items ≡ []) × (lanes.old.taps.items ≡ []) }
+    requires idle { AreIdle lanes.old }
     ensures kept { Keeps (of_packets packets.old.items) (both (of_packets packets.new.items) (of_lanes lanes.new)) }
     ensures count { counts_of packets.new.items + counts_of_queues lanes.new.queues.items
         ≡ counts_of packets.old.items }
@@ -51,9 +50,9 @@ fn fill(
     ensures all { OnOk result (packets.new.items ≡ []) }
 {
     let count = weigh(packets);
-    open_queues(alloc, plan.queues, packets.len(), &mut lanes.queues)?;
-    add_taps(alloc, plan, count, packets, &mut lanes.taps)?;
-    share_out(packets, plan, &mut lanes.queues)
+    open_lanes(alloc, plan, lanes)?;
+    fill_taps(&mut lanes.taps, count, packets)?;
+    share_out(packets, count, plan, &mut lanes.queues)
 }
 
 // Whether the packets of each queue are merged.
@@ -88,83 +87,83 @@ fn are_done(lanes: &Lanes) -> bool
     are_merged(&lanes.queues) && are_read(&lanes.taps)
 }
 
-// The lanes with what they have to do. Where memory is refused they come back as far as they got, and have no clones.
+// The lanes get what they have to do. Where memory is refused they have no clones.
 fn begin(
     alloc: Global,
-    packets: &mut VecDeque<Packet>,
     plan: &Plan,
-) -> Result<Lanes, (Lanes, AllocError)>
+    packets: &mut VecDeque<Packet>,
+    lanes: &mut Lanes,
+) -> Result<(), AllocError>
     requires plan { IsPlan plan.now }
     requires held { AreHeld packets.old.items }
     requires shared { AreShared packets.old.items }
     requires weighs { WeighAtLeast (weight_after 1) packets.old.items }
     requires rising { RiseFrom 0 (map packet_of packets.old.items) }
     requires few { counts_of packets.old.items ≤ 65536 }
-    ensures filled { IfOk result (AreFilled plan.now packets.old.items) }
-    ensures ready { IfOk result (λ l. All IsFilled l.queues.items × All IsTapReady l.taps.items) }
+    requires idle { AreIdle lanes.old }
+    ensures filled { OnOk result (AreFilled plan.now packets.old.items lanes.new) }
+    ensures ready { OnOk result (All IsFilled lanes.new.queues.items × All IsTapReady lanes.new.taps.items) }
     ensures all { OnOk result (packets.new.items ≡ []) }
-    ensures refused { IfErr result (λ e. IsRefused packets.old.items packets.new.items e.0) }
+    ensures refused { OnErr result (IsRefused packets.old.items packets.new.items lanes.new) }
 {
-    let mut lanes = Lanes {
-        queues: Vec::new(alloc),
-        taps: Vec::new(alloc),
-    };
-    match fill(alloc, plan, packets, &mut lanes) {
-        Ok(()) => Ok(lanes),
+    match fill(alloc, plan, packets, lanes) {
+        Ok(()) => Ok(()),
         Err(error) => {
             give_all_up(&mut lanes.taps);
-            Err((lanes, error))
+            Err(error)
         }
     }
 }
 
-// The lanes after their work: all of it is done, or one was refused memory.
-fn finish(lanes: Lanes) -> Result<Lanes, (Lanes, AllocError)>
-    ensures ended { (plan : Plan) (old : List Held) (before : Lanes) → AreFilled plan old before → Did plan before lanes
-        → MatchResult result (IsDone plan old) (λ e. IsRefused old [] e.0) }
+// What the lanes say after their work: all of it is done, or one was refused memory.
+fn finish(lanes: &Lanes) -> Result<(), AllocError>
+    ensures ended { (plan : Plan) (old : List Held) (before : Lanes) → AreFilled plan old before
+        → Did plan before lanes.now → MatchResult result (λ _. IsDone plan old lanes.now)
+        (λ _. IsRefused old [] lanes.now) }
 {
-    if are_done(&lanes) {
-        Ok(lanes)
+    if are_done(lanes) {
+        Ok(())
     } else {
-        Err((lanes, AllocError))
+        Err(AllocError)
     }
 }
 
-/// The work of a round, by whoever works its lanes. Each packet goes to the queue of its flow; each tap is given a
-/// clone of every packet before any worker starts; and each worker and each tap passes the gate at point 0 before its
-/// work and at point 1 after it. One clone of each packet may have been kept before, by
-/// [`keep_packets`](crate::keep_packets).
+/// The work of a round in lanes that are idle, by whoever works them. Each packet goes to the queue of its flow; where
+/// there is one queue their list is the lane's. Each tap is given a clone of every packet before any worker starts; and
+/// each worker and each tap passes the gate at point 0 before its work and at point 1 after it. One clone of each
+/// packet may have been kept before, by [`keep_packets`](crate::keep_packets).
 ///
-/// For want of memory the lanes come back as far as they got, and what isn't in `packets` any more is in them.
+/// For want of memory what isn't in `packets` any more is in the lanes. Where they are as many as the plan has, their
+/// memory serves.
 pub fn work_packets<W: Works>(
     works: &mut W,
     alloc: Global,
     packets: &mut VecDeque<Packet>,
     plan: &Plan,
-) -> Result<Lanes, (Lanes, AllocError)>
+    lanes: &mut Lanes,
+) -> Result<(), AllocError>
     requires plan { IsPlan plan.now }
     requires held { AreHeld packets.old.items }
     requires shared { AreShared packets.old.items }
     requires weighs { WeighAtLeast (weight_after 1) packets.old.items }
     requires rising { RiseFrom 0 (map packet_of packets.old.items) }
     requires few { counts_of packets.old.items ≤ 65536 }
-    ensures lanes { IfOk result (λ l. AreMerged plan.now.segs (spread_of plan.now) plan.now.queues
-        (map packet_of packets.old.items) l.queues.items) }
-    ensures windows { IfOk result (λ l. AreWatched plan.now.snap plan.now.taps
-        (shown_by plan.now (map packet_of packets.old.items)) l.taps.items) }
-    ensures records { IfOk result (λ l. (budget : ℕ) → lane_records l
+    requires idle { AreIdle lanes.old }
+    ensures lanes { OnOk result (AreMerged plan.now.segs (spread_of plan.now) plan.now.queues
+        (map packet_of packets.old.items) lanes.new.queues.items) }
+    ensures windows { OnOk result (AreWatched plan.now.snap plan.now.taps
+        (shown_by plan.now (map packet_of packets.old.items)) lanes.new.taps.items) }
+    ensures records { OnOk result ((budget : ℕ) → lane_records lanes.new
         ≡ round_records (options_by plan.now budget) (map packet_of packets.old.items)) }
-    ensures ready { IfOk result (λ l. All (λ q. AreReady q.items.items) l.queues.items) }
-    ensures weigh { IfOk result (λ l. All (λ q. ItemsWeighAtLeast 2048 q.items.items) l.queues.items) }
-    ensures all { IfOk result (λ l. (packets.new.items ≡ []) × All (λ q. q.packets.items ≡ []) l.queues.items) }
-    ensures kept { MatchResult result (λ l. Keeps (of_packets packets.old.items) (of_lanes l))
-        (λ e. Keeps (of_packets packets.old.items) (both (of_packets packets.new.items) (of_lanes e.0))) }
-    ensures count { MatchResult result (λ l. counts_of_queues l.queues.items ≤ counts_of packets.old.items)
-        (λ e. counts_of packets.new.items + counts_of_queues e.0.queues.items ≤ counts_of packets.old.items) }
-    ensures clones { MatchResult result (λ l. All (λ t. t.clones.items ≡ []) l.taps.items)
-        (λ e. All (λ t. t.clones.items ≡ []) e.0.taps.items) }
+    ensures ready { OnOk result (All (λ q. AreReady q.items.items) lanes.new.queues.items) }
+    ensures weigh { OnOk result (All (λ q. ItemsWeighAtLeast 2048 q.items.items) lanes.new.queues.items) }
+    ensures all { OnOk result ((packets.new.items ≡ []) × All (λ q. q.packets.items ≡ []) lanes.new.queues.items) }
+    ensures kept { Keeps (of_packets packets.old.items) (both (of_packets packets.new.items) (of_lanes lanes.new)) }
+    ensures count { counts_of packets.new.items + counts_of_queues lanes.new.queues.items
+        ≤ counts_of packets.old.items }
+    ensures clones { All (λ t. t.clones.items ≡ []) lanes.new.taps.items }
 {
-    let mut lanes = begin(alloc, packets, plan)?;
-    works.run_lanes(plan, &mut lanes);
+    begin(alloc, plan, packets, lanes)?;
+    works.run_lanes(plan, lanes);
     finish(lanes)
 }

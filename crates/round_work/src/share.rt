@@ -1,30 +1,27 @@
 //! Spreads the packets of a round over its queues.
-ghost use Rattle.std.specs.Prelude.{◌≡◌, ℕ, ◌+◌, ◌<◌, ◌≤◌, [], length, IfErr, OnOk};
+ghost use Rattle.std.specs.Prelude.{◌≡◌, ◌+◌, ◌<◌, ◌≤◌, [], length, All, IfErr, OnOk, OnErr};
 ghost use Rattle.frame_layout.specs.Key.{key_of};
 ghost use Rattle.skb.specs.SkbState.{buffer_bytes};
 ghost use Rattle.gro.specs.Held.{of_packets, counts_of, count_of, AreHeld, IsHeld};
-ghost use Rattle.round_work.specs.Lanes.{of_queues, counts_of_queues};
+ghost use Rattle.round_work.specs.Lanes.{of_queues, counts_of_queues, IsIdleQueue};
 ghost use Rattle.round_work.specs.Work.{IsPlan, spread_of};
-ghost use Rattle.round_work.specs.Sharing.{EachFrom, IsSharing, IsSum, TakesIn, StaysAs};
+ghost use Rattle.round_work.specs.Sharing.{EachFrom, IsSharing, IsSum, TakesAll, TakesIn, StaysAs};
 
 use crate::lanes::QueueLane;
 use crate::plan::Plan;
-use frags::Outcomes;
+use core::mem::swap;
 use frame_layout::{key, queue_by};
 use gro::Packet;
-use std::alloc::{AllocError, Global};
+use std::alloc::AllocError;
 use std::collections::VecDeque;
 
-// The queue of a packet's flow. Where there is one queue, no key is made.
+// The queue of a packet's flow.
 fn queue_for(packet: &Packet, plan: &Plan) -> u32
     requires held { IsHeld packet.now }
     requires plan { IsPlan plan.now }
     ensures queue { result ≡ spread_of plan.now (key_of (buffer_bytes packet.now.skb)) }
     ensures below { result < plan.now.queues }
 {
-    if plan.queues == 1 {
-        return 0;
-    }
     queue_by(&key(packet.skb.head()), &plan.choice, plan.queues)
 }
 
@@ -48,9 +45,9 @@ fn take_in(lane: &mut QueueLane, packet: Packet) -> Result<(), (Packet, AllocErr
     }
 }
 
-/// Each packet goes to the queue of its flow, in order. One that there is no memory for stands in front of the others
-/// again.
-pub(crate) fn share_out(
+// Each packet goes to the queue of its flow, in order. One that there is no memory for stands in front of the others
+// again.
+fn spread(
     packets: &mut VecDeque<Packet>,
     plan: &Plan,
     lanes: &mut [QueueLane],
@@ -74,4 +71,47 @@ pub(crate) fn share_out(
         }
     }
     Ok(())
+}
+
+// All packets, which have `count` blocks and parts, go to one lane: their list is the lane's, and no packet moves.
+fn give_all(
+    packets: &mut VecDeque<Packet>,
+    count: usize,
+    lane: &mut QueueLane,
+) -> Result<(), AllocError>
+    ensures given { OnOk result (TakesAll lane.old packets.old.items count lane.new) }
+    ensures list { OnOk result (packets.new.items ≡ lane.old.packets.items) }
+    ensures stays { OnErr result (StaysAs lane.old lane.new × (packets.new.items ≡ packets.old.items)) }
+{
+    lane.outcomes.reserve(count)?;
+    swap(packets, &mut lane.packets);
+    lane.count = count;
+    Ok(())
+}
+
+/// The packets, which have `count` blocks and parts, go to the queues of their flows, in order. What there is no memory
+/// for stays.
+pub(crate) fn share_out(
+    packets: &mut VecDeque<Packet>,
+    count: usize,
+    plan: &Plan,
+    lanes: &mut [QueueLane],
+) -> Result<(), AllocError>
+    requires plan { IsPlan plan.now }
+    requires queues { length lanes.old ≡ plan.now.queues }
+    requires held { AreHeld packets.old.items }
+    requires count { count ≡ counts_of packets.old.items }
+    requires few { count ≤ 65536 }
+    requires open { EachFrom (IsSharing (spread_of plan.now) packets.old.items packets.old.items) 0 lanes.old }
+    requires idle { All IsIdleQueue lanes.old }
+    ensures size { length lanes.new ≡ length lanes.old }
+    ensures shared { EachFrom (IsSharing (spread_of plan.now) packets.old.items packets.new.items) 0 lanes.new }
+    ensures account { IsSum (of_packets packets.old.items) (of_packets packets.new.items) (of_queues lanes.new) }
+    ensures counts { counts_of packets.old.items ≡ counts_of packets.new.items + counts_of_queues lanes.new }
+    ensures all { OnOk result (packets.new.items ≡ []) }
+{
+    if plan.queues == 1 {
+        return give_all(packets, count, &mut lanes[0]);
+    }
+    spread(packets, plan, lanes)
 }

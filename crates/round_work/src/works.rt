@@ -6,7 +6,7 @@ ghost use Rattle.round_work.specs.Work.{Did};
 use crate::lanes::Lanes;
 use crate::plan::Plan;
 use crate::work::run_in_turn;
-use off_io::{Gate, Who};
+use off_io::Gate;
 
 /// Who works the lanes of a round.
 pub trait Works {
@@ -15,9 +15,6 @@ pub trait Works {
         requires queues { All IsFilled lanes.old.queues.items }
         requires taps { All IsTapReady lanes.old.taps.items }
         ensures did { Did plan.now lanes.old lanes.new };
-
-    /// The gate of a worker or a tap whose work the caller does itself.
-    fn pass(&self, who: Who, point: u32);
 }
 
 /// The thread that calls, with no handle of threads: one lane after another.
@@ -29,9 +26,5 @@ pub struct Alone<'a, G> {
 impl<G: Gate> Works for Alone<'_, G> {
     fn run_lanes(&mut self, plan: &Plan, lanes: &mut Lanes) {
         run_in_turn(self.gate, plan, lanes);
-    }
-
-    fn pass(&self, who: Who, point: u32) {
-        self.gate.pass(who, point);
     }
 }

@@ -1,14 +1,14 @@
 //! Writes records from buffers: one way for merged packets, single ones, segments and the windows of taps.
 //!
-//! A record is its header, maybe an offload header of 12 bytes, and a frame (pcap file format, section 5). Both headers
+//! A record is its header, maybe an offload header of 16 bytes, and a frame (pcap file format, section 5). Both headers
 //! are put together and written by one call, and then the slices of the frame's buffer, uncopied.
 //!
 //! Proved, at every sink: what was appended is exactly the record as the model has it (`record_bytes`, clauses `ok`),
 //! or a front of it where the sink's count of faults rose (`err`, `cause`).
 //!
-//! ```text
-//! write_record(&mut sink, &file, time, original, None, &segment)?;
-//! write_items(&mut sink, &file, lane, &items)?;
+//! ```
+//! let first = write_record(&mut sink, &file, time, original, None, &segment);
+//! let rest = write_items(&mut sink, &file, lane, &items);
 //! ```
 //!
 //! Tests: `round_tests`, module `writing`.

@@ -1,6 +1,6 @@
 -- Packets that are worked in lanes, with a clone of each beside them: that they may be, and that what comes of them fits.
 use Rattle.std.proofs.Common.{◌≡◌, ℕ, suc, zero, ◌+◌, ◌*◌, ◌<◌, ◌≤◌, Bool, true, Some, List, [], ◌∷◌, map, length, get_or, drop, refl, sym, ap, ◌∙◌, subst, arith}
-use Rattle.std.specs.Prelude.{All, IfOk, Ok, Err, MatchResult}
+use Rattle.std.specs.Prelude.{All, IfOk, OnOk, Ok, Err, MatchResult}
 use Rattle.std.specs.declared.result.Result.{Result}
 use Rattle.std.specs.List.{AllByRecursion, filter, range_with_len}
 use Rattle.std.proofs.lemmas.List.{length-take}
@@ -14,7 +14,6 @@ use Rattle.offload_model.specs.Rounds.{Spread, is_queued, items_of}
 use Rattle.offload_model.specs.Written.{window_of}
 use Rattle.offload_model.proofs.Lists.{all_filtered}
 use Rattle.gro.specs.declared.packet.Packet.{Packet as Held}
-use Rattle.gro.specs.declared.item.Item.{Item}
 use Rattle.gro.specs.Table.{AreReady, ItemsWeighAtLeast}
 use Rattle.gro.specs.Held.{packet_of, of_packets, counts_of, AreHeld, AreShared, IsHeld, WeighAtLeast}
 use Rattle.taps.specs.declared.clones.TapClone.{TapClone}
@@ -29,12 +28,12 @@ use Rattle.round_work.specs.Lanes.{of_lanes, counts_of_queues}
 use Rattle.round_work.specs.Packets.{RiseFrom}
 use Rattle.round_work.specs.Work.{IsPlan, options_by, spread_of, shown_by, AreMerged, AreWatched, merged_in}
 use Rattle.rounds.specs.Fresh.{AreRead, IsRead, IsFresh, NumberedFrom}
-use Rattle.rounds.specs.Held.{AreSmall}
 use Rattle.rounds.specs.Kept.{Fits, IsKept, IsDone, IsLeft, IsOfLanes}
 use Rattle.rounds.specs.Lanes.{AreSpent, AreShortTexts, IsKeptWorkOf, IsShortText, IsSmallQueue, IsSmallTap, IsSmallWork}
 use Rattle.rounds.specs.Marks.{IsRound}
 use Rattle.rounds.specs.RoundsState.{WorkedState}
 use Rattle.rounds.specs.declared.lane_work.Kept.{Kept}
+use Rattle.rounds.proofs.Coming.{no_packets}
 use Rattle.rounds.proofs.Small.{captured_fit, items_fit, runs_merge_fit}
 use Rattle.rounds.proofs.Taking.{fresh_round}
 use Rattle.rounds.proofs.Working.{round_keeps}
@@ -127,20 +126,12 @@ small_taps [] number short = tt
 small_taps (l ∷ ls) number short = ((omega (arith, number.0), short.0), small_taps ls number.1 short.1)
 
 small_lanes : (plan : Plan) (ps : List Packet) (lanes : Lanes) → IsPlan plan → AllByRecursion Fits ps → AreMerged plan.segs (spread_of plan) plan.queues ps lanes.queues.items
-    → AreWatched plan.snap plan.taps (shown_by plan ps) lanes.taps.items → IsSmallWork [] lanes
+    → AreWatched plan.snap plan.taps (shown_by plan ps) lanes.taps.items → IsSmallWork lanes
 small_lanes plan ps lanes is fit merged watched = record {
-  small = tt;
   queues = small_queues lanes.queues.items (below (λ (l : QueueLane). l.queue) 0 plan.queues 64 lanes.queues.items (omega (arith, is.0.1)) merged.numbers)
       (subst (AllByRecursion AreFit) (sym merged.items) (merged_fit plan.segs (spread_of plan) ps (range_with_len 0 plan.queues) fit));
   taps = small_taps lanes.taps.items (below (λ (l : TapLane). l.tap) 0 plan.taps 8 lanes.taps.items (omega (arith, is.1)) watched.numbers)
       (subst (AllByRecursion AreShortTexts) (sym watched.texts) (all_short plan.snap (shown_by plan ps) (range_with_len 0 plan.taps) is.2.1));
-}
-
-pub small_alone : (items : List Item) (lanes : Lanes) → AreSmall items → (lanes.queues.items ≡ []) × (lanes.taps.items ≡ []) → IsSmallWork items lanes
-small_alone items lanes small none = record {
-  small = small;
-  queues = subst (AllByRecursion IsSmallQueue) (sym none.0) tt;
-  taps = subst (AllByRecursion IsSmallTap) (sym none.1) tt;
 }
 
 -- ---- what the lanes have done, or not
@@ -152,47 +143,63 @@ round_now x k j same size round keeps =
     subst (λ (m : ℕ). IsRound m (both x (of_clones j.kept.items))) (sym size)
     (subst (λ (z : List TapClone). IsRound k.blocks (both x (of_clones z))) (sym same) (beside k.blocks (of_packets k.packets.items) x (of_clones k.kept.items) keeps round))
 
+ok_of : {E : Type 0} (r : Result (Unit {0}) E) (P : Type 0) → r ≡ Ok tt → OnOk r P → P
+ok_of r P e h = subst (λ z. OnOk z P) e h
+
 module _ {E : Type 0} (keep : Bool) (ps : List Packet) (n : ℕ) (plan : Plan) (k j : Kept) (is : IsPlan plan) (kept : IsKept keep ps n k) (same : j.kept.items ≡ k.kept.items)
     (size : j.blocks ≡ k.blocks) where
-  pub settles : (r : Result Lanes (Lanes × E)) → IfOk r (λ l. AreMerged plan.segs (spread_of plan) plan.queues (map packet_of k.packets.items) l.queues.items)
-      → IfOk r (λ l. AreWatched plan.snap plan.taps (shown_by plan (map packet_of k.packets.items)) l.taps.items)
-      → IfOk r (λ l. (j.packets.items ≡ []) × All (λ (q : QueueLane). q.packets.items ≡ []) l.queues.items)
-      → MatchResult r (λ l. Keeps (of_packets k.packets.items) (of_lanes l)) (λ e. Keeps (of_packets k.packets.items) (both (of_packets j.packets.items) (of_lanes e.0)))
-      → MatchResult r (λ l. counts_of_queues l.queues.items ≤ counts_of k.packets.items) (λ e. counts_of j.packets.items + counts_of_queues e.0.queues.items ≤ counts_of k.packets.items)
-      → MatchResult r (λ l. AreSpent l.taps.items) (λ e. AreSpent e.0.taps.items)
-      → MatchResult r (IsDone j) (λ e. IsLeft j e.0)
-  settles (Ok l) merged watched all keeps counts spent = record {
+  pub settles : (r : Result (Unit {0}) E) (l : Lanes) → OnOk r (AreMerged plan.segs (spread_of plan) plan.queues (map packet_of k.packets.items) l.queues.items)
+      → OnOk r (AreWatched plan.snap plan.taps (shown_by plan (map packet_of k.packets.items)) l.taps.items)
+      → OnOk r ((j.packets.items ≡ []) × All (λ (q : QueueLane). q.packets.items ≡ []) l.queues.items)
+      → Keeps (of_packets k.packets.items) (both (of_packets j.packets.items) (of_lanes l))
+      → counts_of j.packets.items + counts_of_queues l.queues.items ≤ counts_of k.packets.items → AreSpent l.taps.items
+      → MatchResult r (λ _. IsDone j l) (λ _. IsLeft j l)
+  settles (Ok u) l merged watched all keeps counts spent = record {
     all = all.0;
-    round = round_now (of_lanes l) k j same size kept.round keeps;
+    round = round_now (of_lanes l) k j same size kept.round
+        (λ t m.
+        let x = keeps t m in
+        let n = no_packets j.packets.items all.0 t m in
+        (omega (arith, x.0, n.0), omega (arith, x.1, n.0, n.1)));
     counts = omega (arith, counts, kept.counts, size, ap blocks_of same);
     spent = spent;
     small = small_lanes plan (map packet_of k.packets.items) l is kept.fit merged watched;
   }
-  settles (Err e) merged watched all keeps counts spent = record {
-    round = round_keeps j.blocks (both (both (of_packets j.packets.items) (of_lanes e.0)) (of_clones j.kept.items)) (both (of_packets j.packets.items) (both (of_lanes e.0) (of_clones j.kept.items)))
-        (λ t m. (omega arith, omega arith)) (round_now (both (of_packets j.packets.items) (of_lanes e.0)) k j same size kept.round keeps);
+  settles (Err e) l merged watched all keeps counts spent = record {
+    round = round_keeps j.blocks (both (both (of_packets j.packets.items) (of_lanes l)) (of_clones j.kept.items)) (both (of_packets j.packets.items) (both (of_lanes l) (of_clones j.kept.items)))
+        (λ t m. (omega arith, omega arith)) (round_now (both (of_packets j.packets.items) (of_lanes l)) k j same size kept.round keeps);
     counts = omega (arith, counts, kept.counts, size, ap blocks_of same);
     spent = spent;
   }
 
 -- all that a comparison wants to know of what the lanes came to
-pub kept_work : {E X : Type 0} (plan : Plan) (budget n : ℕ) (keep : Bool) (ps : List Packet) (k : Kept) (lanes : Result Lanes (Lanes × E)) (r : Result WorkedState X) → keep ≡ true → IsKept keep ps n k
-    → IfOk lanes (λ l. AreMerged plan.segs (spread_of plan) plan.queues (map packet_of k.packets.items) l.queues.items) → IfOk lanes (λ l. AreWatched plan.snap plan.taps
-    (shown_by plan (map packet_of k.packets.items)) l.taps.items)
-    → IfOk lanes (λ l. All (λ (q : QueueLane). AreReady q.items.items) l.queues.items) → IfOk lanes (λ l. All (λ (q : QueueLane). ItemsWeighAtLeast 2048 q.items.items) l.queues.items)
-    → IfOk r (IsOfLanes lanes k.kept.items k.blocks) → IfOk r (IsKeptWorkOf (options_by plan budget) ps)
-kept_work plan budget n keep ps k lanes (Err e) on is merged watched ready weigh of = tt
-kept_work plan budget n keep ps k lanes (Ok w) on is merged watched ready weigh of = record {
-  none = of.1;
-  merged = subst (λ (z : List Packet). AreMerged plan.segs (spread_of plan) plan.queues z w.lanes.queues.items) is.same
-      (subst (λ z. IfOk z (λ l. AreMerged plan.segs (spread_of plan) plan.queues (map packet_of k.packets.items) l.queues.items)) of.0 merged);
-  watched = subst (λ (z : List Packet). AreWatched plan.snap plan.taps (shown_by plan z) w.lanes.taps.items) is.same
-      (subst (λ z. IfOk z (λ l. AreWatched plan.snap plan.taps (shown_by plan (map packet_of k.packets.items)) l.taps.items)) of.0 watched);
-  ready = subst (λ z. IfOk z (λ l. All (λ (q : QueueLane). AreReady q.items.items) l.queues.items)) of.0 ready;
-  weigh = subst (λ z. IfOk z (λ l. All (λ (q : QueueLane). ItemsWeighAtLeast 2048 q.items.items) l.queues.items)) of.0 weigh;
-  kept = ap (map packet_of_clone) of.2 ∙ is.clones on;
-  rising = subst (RiseFrom 0) is.same is.rising;
-}
+pub kept_work : {E X : Type 0} (plan : Plan) (budget n : ℕ) (keep : Bool) (ps : List Packet) (k : Kept) (done : Result (Unit {0}) E) (l : Lanes) (r : Result WorkedState X) → keep ≡ true
+    → IsKept keep ps n k → OnOk done (AreMerged plan.segs (spread_of plan) plan.queues (map packet_of k.packets.items) l.queues.items)
+    → OnOk done (AreWatched plan.snap plan.taps (shown_by plan (map packet_of k.packets.items)) l.taps.items)
+    → OnOk done (All (λ (q : QueueLane). AreReady q.items.items) l.queues.items) → OnOk done (All (λ (q : QueueLane). ItemsWeighAtLeast 2048 q.items.items) l.queues.items)
+    → IfOk r (IsOfLanes done l k.kept.items k.blocks) → IfOk r (IsKeptWorkOf (options_by plan budget) ps)
+kept_work plan budget n keep ps k done l (Err e) on is merged watched ready weigh of = tt
+kept_work plan budget n keep ps k done l (Ok w) on is merged watched ready weigh of =
+    let a = ok_of done (AreMerged plan.segs (spread_of plan) plan.queues (map packet_of k.packets.items) l.queues.items) of.0 merged in
+    let b = ok_of done (AreWatched plan.snap plan.taps (shown_by plan (map packet_of k.packets.items)) l.taps.items) of.0 watched in
+    let c = ok_of done (All (λ (q : QueueLane). AreReady q.items.items) l.queues.items) of.0 ready in
+    let d = ok_of done (All (λ (q : QueueLane). ItemsWeighAtLeast 2048 q.items.items) l.queues.items) of.0 weigh in
+    record {
+      merged = subst (λ (z : Lanes). AreMerged plan.segs (spread_of plan) plan.queues ps z.queues.items) (sym of.1)
+          (subst (λ (z : List Packet). AreMerged plan.segs (spread_of plan) plan.queues z l.queues.items) is.same a);
+      watched = subst (λ (z : Lanes). AreWatched plan.snap plan.taps (shown_by plan ps) z.taps.items) (sym of.1)
+          (subst (λ (z : List Packet). AreWatched plan.snap plan.taps (shown_by plan z) l.taps.items) is.same b);
+      ready = subst (λ (z : Lanes). All (λ (q : QueueLane). AreReady q.items.items) z.queues.items) (sym of.1) c;
+      weigh = subst (λ (z : Lanes). All (λ (q : QueueLane). ItemsWeighAtLeast 2048 q.items.items) z.queues.items) (sym of.1) d;
+      kept = ap (map packet_of_clone) of.2 ∙ is.clones on;
+      rising = subst (RiseFrom 0) is.same is.rising;
+    }
+
+-- what holds where the lanes have done all holds of the round that they came to
+pub done_work : {E X : Type 0} (P : Lanes → Type 0) (done : Result (Unit {0}) E) (l : Lanes) (kept : List TapClone) (n : ℕ) (r : Result WorkedState X) → OnOk done (P l)
+    → IfOk r (IsOfLanes done l kept n) → IfOk r (λ w. P w.lanes)
+done_work P done l kept n (Err e) h of = tt
+done_work P done l kept n (Ok w) h of = subst P (sym of.1) (ok_of done (P l) of.0 h)
 
 -- ---- a round that goes home
 
@@ -202,25 +209,12 @@ pub round_alone : (n : ℕ) (ps ls ks : Account) → ((t : Tests) (m : ℕ) → 
 round_alone n ps ls ks none no_kept r =
     round_keeps n ps (both ps (both ls ks)) (λ t m. let a = none t m in let b = no_kept t m in (omega (arith, a.0, b.0), omega (arith, a.0, b.0, a.1, b.1))) r
 
--- the same beside outcomes and items that hold nothing
-pub round_left : (n : ℕ) (os ps is ls ks : Account) → ((t : Tests) (m : ℕ) → (os.held t m ≡ 0) × (os.homes t.blocks m ≡ 0)) → ((t : Tests) (m : ℕ) → (is.held t m ≡ 0) × (is.homes t.blocks m ≡ 0))
-    → IsRound n (both ps (both ls ks))
-    → IsRound n (both os (both ps (both is (both ls ks))))
-round_left n os ps is ls ks no_out no_item r =
-    round_keeps n (both ps (both ls ks)) (both os (both ps (both is (both ls ks)))) (λ t m. let a = no_out t m in let b = no_item t m in (omega (arith, a.0, b.0), omega (arith, a.0, b.0, a.1, b.1))) r
-
--- what merged in no lane, beside lanes and clones that hold nothing
-pub round_work : (n : ℕ) (ps is ls ks : Account) → Keeps ps is → ((t : Tests) (m : ℕ) → (ls.held t m ≡ 0) × (ls.homes t.blocks m ≡ 0)) → ((t : Tests) (m : ℕ)
-    → (ks.held t m ≡ 0) × (ks.homes t.blocks m ≡ 0)) → IsRound n ps
-    → IsRound n (both is (both ls ks))
-round_work n ps is ls ks keeps none no_kept r =
-    round_keeps n ps (both is (both ls ks)) (λ t m. let x = keeps t m in let a = none t m in let b = no_kept t m in (omega (arith, x.0, a.0, b.0), omega (arith, x.1, a.0, b.0, a.1, b.1))) r
+-- the same beside outcomes that hold nothing
+pub round_left : (n : ℕ) (os ps ls ks : Account) → ((t : Tests) (m : ℕ) → (os.held t m ≡ 0) × (os.homes t.blocks m ≡ 0)) → IsRound n (both ps (both ls ks)) → IsRound n (both os (both ps (both ls ks)))
+round_left n os ps ls ks no_out r =
+    round_keeps n (both ps (both ls ks)) (both os (both ps (both ls ks))) (λ t m. let a = no_out t m in (omega (arith, a.0), omega (arith, a.0, a.1))) r
 
 -- packets of which clones were taken, without lanes
 pub round_kept : (n : ℕ) (ps qs ls ks : Account) → Keeps ps (both qs ks) → ((t : Tests) (m : ℕ) → (ls.held t m ≡ 0) × (ls.homes t.blocks m ≡ 0)) → IsRound n ps → IsRound n (both qs (both ls ks))
 round_kept n ps qs ls ks keeps none r =
     round_keeps n ps (both qs (both ls ks)) (λ t m. let x = keeps t m in let a = none t m in (omega (arith, x.0, a.0), omega (arith, x.1, a.0, a.1))) r
-
--- lanes beside no item
-pub round_done : (n : ℕ) (is ls ks : Account) → ((t : Tests) (m : ℕ) → (is.held t m ≡ 0) × (is.homes t.blocks m ≡ 0)) → IsRound n (both ls ks) → IsRound n (both is (both ls ks))
-round_done n is ls ks no_item r = round_keeps n (both ls ks) (both is (both ls ks)) (λ t m. let a = no_item t m in (omega (arith, a.0), omega (arith, a.0, a.1))) r

@@ -1,32 +1,26 @@
 -- Rounds that are worked in lanes: what is written of them.
-use Rattle.std.proofs.Common.{◌≡◌, ℕ, ◌+◌, ◌≤◌, Option, None, Some, List, [], ◌∷◌, ◌++◌, map, refl, sym, ap, ◌∙◌, subst, append-nil, arith, ◌<◌}
-use Rattle.std.specs.Prelude.{All, IfOk, OnOk, OnErr, MatchResult, Ok, Err}
+use Rattle.std.proofs.Common.{◌≡◌, ℕ, ◌+◌, ◌≤◌, Option, None, Some, List, [], ◌∷◌, ◌++◌, map, refl, sym, ap, ◌∙◌, subst, arith}
+use Rattle.std.specs.Prelude.{IfOk, OnOk, OnErr, MatchResult, Ok, Err}
 use Rattle.std.specs.declared.result.Result.{Result}
-use Rattle.std.specs.List.{AllByRecursion, flat_map, range_with_len}
+use Rattle.std.specs.List.{flat_map}
 use Rattle.std.proofs.lemmas.Grind.{flat_map-append}
-use Rattle.std.proofs.lemmas.List.Elements.{All-from_recursion}
 use Rattle.std.specs.Io.KnownBytes.{Appends}
 use Rattle.off_io.specs.Content.{AppendsFront}
 use Rattle.off_io.proofs.Appending.{front_more}
 use Rattle.off_io.proofs.Owing.{then_ok, then_err}
 use Rattle.net_bytes.specs.declared.order.Order.{Order}
 use Rattle.pcap_io.specs.Capture.{Packet}
-use Rattle.offload_model.specs.Merged.{Merged, merged_of}
-use Rattle.offload_model.specs.Rounds.{Spread, runs_in, items_of}
+use Rattle.offload_model.specs.Merged.{Merged}
 use Rattle.offload_model.specs.Segments.{with_head}
 use Rattle.offload_model.specs.Steps.{round_output}
-use Rattle.offload_model.specs.Written.{Options, head_of, record_of, record_bytes, round_records, shown_of, windows_of}
-use Rattle.offload_model.proofs.OneQueue.{one_queue}
+use Rattle.offload_model.specs.Written.{Options, head_of, record_bytes, round_records}
 use Rattle.gro.specs.declared.item.Item.{Item}
 use Rattle.gro.specs.Items.{item_of}
-use Rattle.gro.specs.Table.{AreReady}
 use Rattle.taps.specs.Texts.{record_of_text}
-use Rattle.round_work.specs.declared.lanes.QueueLane.{QueueLane}
-use Rattle.round_work.specs.declared.lanes.TapLane.{TapLane}
 use Rattle.round_work.specs.declared.lanes.Lanes.{Lanes}
 use Rattle.round_work.specs.Work.{lane_records, records_of_queue, records_of_tap, records_of_texts}
 use Rattle.round_write.specs.Records.{item_bytes}
-use Rattle.rounds.specs.Lanes.{records_of_items, worked_records, bytes_of_items, queue_bytes, text_bytes, bytes_of_texts, tap_bytes, lanes_bytes, worked_bytes}
+use Rattle.rounds.specs.Lanes.{worked_records, bytes_of_items, queue_bytes, text_bytes, bytes_of_texts, tap_bytes, lanes_bytes, worked_bytes}
 use Rattle.rounds.specs.RoundsState.{RoundsState, WorkedState}
 
 -- ---- the bytes of its records
@@ -37,6 +31,9 @@ both_parts a b x y e f = ap (λ z. z ++ x) e ∙ ap (λ z. b ++ z) f
 flat_twice : {A B C : Type 0} (f : B → List C) (g : A → List B) (h : A → List C) (xs : List A) → ((x : A) → flat_map f (g x) ≡ h x) → flat_map f (flat_map g xs) ≡ flat_map h xs
 flat_twice f g h [] e = refl
 flat_twice f g h (x ∷ xs) e = flat_map-append f (g x) (flat_map g xs) ∙ both_parts (flat_map f (g x)) (h x) (flat_map f (flat_map g xs)) (flat_map h xs) (e x) (flat_twice f g h xs e)
+
+abbrev records_of_items : ℕ → List Item → List Packet
+records_of_items q items = map (λ (m : Merged). with_head (head_of q m) m.packet) (map item_of items)
 
 items_are : (order : Order) (q : ℕ) (items : List Item) → flat_map (record_bytes order) (records_of_items q items) ≡ bytes_of_items order q items
 items_are order q [] = refl
@@ -60,51 +57,10 @@ lanes_are order lanes =
     (flat_twice bytes records_of_queue (queue_bytes order) queues (λ l. items_are order l.queue l.items.items))
     (flat_twice bytes records_of_tap (tap_bytes order) taps (λ l. some_texts_are order l.tap l.texts))
 
-work_is : (order : Order) (worked : WorkedState) → flat_map (record_bytes order) (worked_records worked) ≡ worked_bytes order worked
-work_is order worked =
-    let items = records_of_items 0 worked.items in
-    flat_map-append (record_bytes order) items (lane_records worked.lanes)
-    ∙ both_parts (flat_map (record_bytes order) items) (bytes_of_items order 0 worked.items) (flat_map (record_bytes order) (lane_records worked.lanes)) (lanes_bytes order worked.lanes)
-    (items_are order 0 worked.items) (lanes_are order worked.lanes)
-
 -- what is written of a round that was worked is what merging writes of it
 pub worked_is : (options : Options) (order : Order) (ps : List Packet) (worked : WorkedState) → worked_records worked ≡ round_records options ps
     → worked_bytes order worked ≡ round_output options order ps
-worked_is options order ps worked e = sym (work_is order worked) ∙ ap (flat_map (record_bytes order)) e
-
--- ---- in one queue, with no lane
-
-runs_are : (q : ℕ) (runs : List (List Packet)) → map (λ (m : Merged). with_head (head_of q m) m.packet) (map merged_of runs) ≡ map (record_of q) runs
-runs_are q [] = refl
-runs_are q (run ∷ runs) = ap (λ z. record_of q run ∷ z) (runs_are q runs)
-
-no_records : (lanes : Lanes) → (lanes.queues.items ≡ []) × (lanes.taps.items ≡ []) → lane_records lanes ≡ []
-no_records lanes none =
-    ap (λ (z : List QueueLane). flat_map records_of_queue z ++ flat_map records_of_tap lanes.taps.items) none.0 ∙ ap (λ (z : List TapLane). flat_map records_of_tap z) none.1
-
--- whatever the one queue's flows are, it has all of them
-one_queue_records : (options : Options) (ps : List Packet) → ((key : Option (List ℕ)) → options.spread key < options.queues) → options.queues ≡ 1 → options.taps ≡ 0
-    → round_records options ps ≡ map (record_of 0) (runs_in options.segs ps)
-one_queue_records options ps below queues taps =
-    let segs : ℕ = options.segs in
-    let s : Spread = options.spread in
-    let shown : List Packet = map (shown_of options.filter) ps in
-    let records = map (record_of 0) (items_of segs s 0 ps) in
-    ap (λ (n : ℕ). flat_map (λ q. map (record_of q) (items_of segs s q ps)) (range_with_len 0 n) ++ flat_map (λ t. windows_of options.snap t shown) (range_with_len 0 options.taps)) queues
-    ∙ ap (λ (n : ℕ). flat_map (λ q. map (record_of q) (items_of segs s q ps)) (range_with_len 0 1) ++ flat_map (λ t. windows_of options.snap t shown) (range_with_len 0 n)) taps
-    ∙ append-nil (records ++ []) ∙ append-nil records ∙ ap (λ (runs : List (List Packet)). map (record_of 0) runs) (one_queue segs s ps (λ key. omega (arith, below key, queues)))
-
-pub records_alone : (options : Options) (segs : ℕ) (ps : List Packet) (items : List Item) (lanes : Lanes) → ((key : Option (List ℕ)) → options.spread key < options.queues) → options.queues ≡ 1
-    → options.taps ≡ 0 → segs ≡ options.segs
-    → map item_of items ≡ map merged_of (runs_in segs ps)
-    → (lanes.queues.items ≡ []) × (lanes.taps.items ≡ []) → records_of_items 0 items ++ lane_records lanes ≡ round_records options ps
-records_alone options segs ps items lanes below queues taps same are none =
-    ap (λ z. records_of_items 0 items ++ z) (no_records lanes none) ∙ append-nil (records_of_items 0 items)
-    ∙ ap (λ (ms : List Merged). map (λ (m : Merged). with_head (head_of 0 m) m.packet) ms) are ∙ runs_are 0 (runs_in segs ps)
-    ∙ ap (λ (n : ℕ). map (record_of 0) (runs_in n ps)) same ∙ sym (one_queue_records options ps below queues taps)
-
-pub none_ready : (lanes : Lanes) → (lanes.queues.items ≡ []) × (lanes.taps.items ≡ []) → All (λ (l : QueueLane). AreReady l.items.items) lanes.queues.items
-none_ready lanes none = All-from_recursion (λ (l : QueueLane). AreReady l.items.items) lanes.queues.items (subst (AllByRecursion (λ (l : QueueLane). AreReady l.items.items)) (sym none.0) tt)
+worked_is options order ps worked e = sym (lanes_are order worked.lanes) ∙ ap (flat_map (record_bytes order)) e
 
 -- ---- a round that was worked, or not
 

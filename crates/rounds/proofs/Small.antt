@@ -151,11 +151,6 @@ items_fit (i ∷ items) a = (a.0, items_fit items a.1)
 pub runs_merge_fit : (segs : ℕ) (ps : List Packet) → AllByRecursion Fits ps → AllByRecursion (λ (m : Merged). Fits m.packet) (map merged_of (runs_in segs ps))
 runs_merge_fit segs ps fit = all_mapped IsRun (λ (m : Merged). Fits m.packet) merged_of (runs_in segs ps) merged_fits (runs_fit segs ps ps fit)
 
--- what packets of a capture come to has the lengths of such packets
-pub items_small : (segs : ℕ) (ps : List Packet) (items : List Item) → AllByRecursion IsCaptured ps → map item_of items ≡ map merged_of (runs_in segs ps) → AreSmall items
-items_small segs ps items captured are =
-    items_fit items (subst (AllByRecursion (λ (m : Merged). Fits m.packet)) (sym are) (runs_merge_fit segs ps (captured_fit ps captured)))
-
 pub small_at : (items : List Item) (i : ℕ) (d : Item) → i < length items → AreSmall items → IsSmall (get_or items i d)
 small_at [] i d lt a = absurd (omega (arith, lt))
 small_at (x ∷ xs) zero d lt a = a.0

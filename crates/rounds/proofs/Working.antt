@@ -1,7 +1,6 @@
 -- Packets that are merged.
-use Rattle.std.proofs.Common.{◌≡◌, ℕ, ◌≤◌, List, [], ◌∷◌, arith}
-use Rattle.frags.specs.Account.{Account, Tests, Keeps, both, of_outcomes}
-use Rattle.frags.specs.OutcomesState.{OutcomesState, IsBare}
+use Rattle.std.proofs.Common.{ℕ, ◌≤◌, List, [], ◌∷◌, arith}
+use Rattle.frags.specs.Account.{Account, Keeps}
 use Rattle.gro.specs.declared.packet.Packet.{Packet}
 use Rattle.gro.specs.declared.item.Item.{Item}
 use Rattle.gro.specs.Held.{AreShared}
@@ -11,7 +10,6 @@ use Rattle.rounds.specs.Held.{blocks_in_items}
 use Rattle.frags.specs.RoundAccount.{of_lives}
 use Rattle.rounds.specs.Marks.{all, IsRound}
 use Rattle.rounds.proofs.Places.{marked_less}
-use Rattle.rounds.proofs.Rounding.{no_outcomes}
 
 pub are_shared : (ps : List Packet) → AreRead ps → AreShared ps
 are_shared [] h = tt
@@ -30,11 +28,3 @@ round_keeps n a b k r = record {
       let w = r.whole m lt (omega (arith, x.0, x.1, z)) in
       omega (arith, w, x.0, x.1, z);
 }
-
--- a round whose merging was given up
-pub round_back : (n : ℕ) (ps qs is : Account) (o q : OutcomesState) → IsBare o → ((t : Tests) (m : ℕ) → (is.held t m ≡ 0) × (is.homes t.blocks m ≡ 0))
-    → Keeps (both ps (of_outcomes o)) (both qs (of_outcomes q)) → IsRound n ps
-    → IsRound n (both (of_outcomes q) (both qs is))
-round_back n ps qs is o q bare none k r =
-    round_keeps n ps (both (of_outcomes q) (both qs is))
-    (λ t m. let x = k t m in let z = none t m in let b = no_outcomes o bare t m in (omega (arith, x.0, z.0, b.0), omega (arith, x.1, z.0, z.1, b.0, b.1))) r

@@ -40,7 +40,7 @@ pub record IsDone (k : Kept) (l : Lanes) : Type 0 where
   pub round : IsRound k.blocks (both (of_lanes l) (of_clones k.kept.items))
   pub counts : counts_of_queues l.queues.items + blocks_of k.kept.items ≤ k.blocks + k.blocks
   pub spent : AreSpent l.taps.items
-  pub small : IsSmallWork [] l
+  pub small : IsSmallWork l
 
 -- they haven't: what isn't in the packets any more is in the lanes
 pub record IsLeft (k : Kept) (l : Lanes) : Type 0 where
@@ -49,6 +49,6 @@ pub record IsLeft (k : Kept) (l : Lanes) : Type 0 where
       + k.blocks
   pub spent : AreSpent l.taps.items
 
--- the lanes of a round are those that did the work, and no item stands outside them
-abbrev pub IsOfLanes : {E : Type 0} → Result Lanes E → List TapClone → ℕ → WorkedState → Type 0
-IsOfLanes lanes kept n w = (lanes ≡ Ok w.lanes) × (w.items ≡ []) × (w.kept ≡ kept) × (w.blocks ≡ n)
+-- the lanes of a round are those that did all of the work
+abbrev pub IsOfLanes : {E : Type 0} → Result (Unit {0}) E → Lanes → List TapClone → ℕ → WorkedState → Type 0
+IsOfLanes done lanes kept n w = (done ≡ Ok tt) × (w.lanes ≡ lanes) × (w.kept ≡ kept) × (w.blocks ≡ n)

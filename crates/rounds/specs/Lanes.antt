@@ -4,12 +4,10 @@ use Rattle.std.specs.List.{AllByRecursion, flat_map}
 use Rattle.net_bytes.specs.declared.order.Order.{Order}
 use Rattle.pcap_io.specs.Capture.{Packet}
 use Rattle.frags.specs.Account.{Account, both}
-use Rattle.offload_model.specs.Merged.{Merged}
-use Rattle.offload_model.specs.Segments.{with_head}
-use Rattle.offload_model.specs.Written.{Options, head_of, record_bytes, shown_of}
+use Rattle.offload_model.specs.Written.{Options, record_bytes, shown_of}
 use Rattle.gro.specs.declared.item.Item.{Item}
 use Rattle.gro.specs.Items.{item_of}
-use Rattle.gro.specs.Table.{of_items, AreReady, ItemsWeighAtLeast}
+use Rattle.gro.specs.Table.{AreReady, ItemsWeighAtLeast}
 use Rattle.taps.specs.declared.clones.TapClone.{TapClone}
 use Rattle.taps.specs.Clones.{packet_of as packet_of_clone, blocks_of, of_clones}
 use Rattle.taps.specs.Texts.{record_of_text}
@@ -20,17 +18,17 @@ use Rattle.round_work.specs.Lanes.{of_lanes, counts_of_queues}
 use Rattle.round_work.specs.Packets.{RiseFrom}
 use Rattle.round_work.specs.Work.{AreMerged, AreWatched, lane_records}
 use Rattle.round_write.specs.Records.{item_bytes}
-use Rattle.rounds.specs.Held.{blocks_in_items, AreSmall}
+use Rattle.rounds.specs.Held.{AreSmall}
 use Rattle.rounds.specs.RoundsState.{WorkedState}
 
 -- ---- what it holds
 
-abbrev pub of_work : List Item → Lanes → List TapClone → Account
-of_work items lanes kept = both (of_items items) (both (of_lanes lanes) (of_clones kept))
+abbrev pub of_work : Lanes → List TapClone → Account
+of_work lanes kept = both (of_lanes lanes) (of_clones kept)
 
 -- at least as many blocks and parts as it holds
-abbrev pub count_of_work : List Item → Lanes → List TapClone → ℕ
-count_of_work items lanes kept = blocks_in_items items + (counts_of_queues lanes.queues.items + blocks_of kept)
+abbrev pub count_of_work : Lanes → List TapClone → ℕ
+count_of_work lanes kept = counts_of_queues lanes.queues.items + blocks_of kept
 
 -- no tap has a clone that it still has to read
 abbrev pub AreSpent : List TapLane → Type 0
@@ -38,13 +36,8 @@ AreSpent lanes = All (λ (l : TapLane). l.clones.items ≡ []) lanes
 
 -- ---- what is written
 
--- items as records of queue q
-abbrev pub records_of_items : ℕ → List Item → List Packet
-records_of_items q items = map (λ (m : Merged). with_head (head_of q m) m.packet) (map item_of items)
-
--- the items that merged in no lane are of queue 0
 abbrev pub worked_records : WorkedState → List Packet
-worked_records w = records_of_items 0 w.items ++ lane_records w.lanes
+worked_records w = lane_records w.lanes
 
 abbrev pub bytes_of_items : Order → ℕ → List Item → List ℕ
 bytes_of_items order q items = flat_map (λ item. item_bytes order q (item_of item)) items
@@ -67,7 +60,7 @@ lanes_bytes order l = flat_map (queue_bytes order) l.queues.items ++ flat_map (t
 
 -- queue by queue its items, and then tap by tap its windows
 abbrev pub worked_bytes : Order → WorkedState → List ℕ
-worked_bytes order w = bytes_of_items order 0 w.items ++ lanes_bytes order w.lanes
+worked_bytes order w = lanes_bytes order w.lanes
 
 -- ---- that it may be written
 
@@ -85,16 +78,14 @@ abbrev pub IsSmallTap : TapLane → Type 0
 IsSmallTap l = (l.tap ≤ 7) × AreShortTexts l.texts
 
 -- all numbers and lengths fit their fields
-pub record IsSmallWork (items : List Item) (lanes : Lanes) : Type 0 where
-  pub small : AreSmall items
+pub record IsSmallWork (lanes : Lanes) : Type 0 where
   pub queues : AllByRecursion IsSmallQueue lanes.queues.items
   pub taps : AllByRecursion IsSmallTap lanes.taps.items
 
 -- ---- what is kept for a comparison
 
--- All merged in lanes, each item may be cut, and beside them stands a clone of each packet.
+-- each item may be cut, and beside the lanes stands a clone of each packet
 pub record IsKeptWorkOf (options : Options) (ps : List Packet) (w : WorkedState) : Type 0 where
-  pub none : w.items ≡ []
   pub merged : AreMerged options.segs options.spread options.queues ps w.lanes.queues.items
   pub watched : AreWatched options.snap options.taps (map (shown_of options.filter) ps) w.lanes.taps.items
   pub ready : All (λ (l : QueueLane). AreReady l.items.items) w.lanes.queues.items

@@ -1,7 +1,6 @@
 -- What a contract sees of rounds: how many blocks are home, were made and were taken, and of a round what it holds.
 use Rattle.std.specs.Prelude.{ℕ, Bool, List}
 use Rattle.gro.specs.declared.packet.Packet.{Packet}
-use Rattle.gro.specs.declared.item.Item.{Item}
 use Rattle.taps.specs.declared.clones.TapClone.{TapClone}
 use Rattle.round_work.specs.declared.lanes.Lanes.{Lanes}
 use Rattle.round_work.specs.declared.plan.Plan.{Plan}
@@ -26,9 +25,8 @@ pub record RoundState : Type 0 where
   pub packets : List Packet
   pub blocks : ℕ
 
--- the items that merged in no lane, the lanes, and the clones that were kept
+-- the lanes, and the clones that were kept
 pub record WorkedState : Type 0 where
-  pub items : List Item
   pub lanes : Lanes
   pub kept : List TapClone
   pub blocks : ℕ

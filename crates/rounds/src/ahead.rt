@@ -89,8 +89,7 @@ fn work_apart<R: Sync, W: Works>(
         ≡ round_records (options_of rounds.old) (map packet_of round.old.packets)) }
     ensures checked { rounds.old.keep ≡ true → IfOk result
         (λ worked. IsKeptWorkOf (options_of rounds.old) (map packet_of round.old.packets) worked) }
-    ensures ready { IfOk result (λ worked. AreReady worked.items
-        × All (λ lane. AreReady lane.items.items) worked.lanes.queues.items) }
+    ensures ready { IfOk result (λ worked. All (λ lane. AreReady lane.items.items) worked.lanes.queues.items) }
     ensures worked { IfOk result (λ worked. worked.blocks ≡ round.old.blocks) }
     ensures spent { round.new.packets ≡ [] }
     ensures home { rounds.new.home + blocks_out result ≡ rounds.old.home + round.old.blocks }
@@ -136,8 +135,7 @@ fn work_beside<'a, R: Threads + Sync, W: Works, S: Source + Send>(
         ≡ round_records (options_of rounds.old) (map packet_of round.old.packets)) }
     ensures checked { rounds.old.keep ≡ true → IfOk result.1
         (λ worked. IsKeptWorkOf (options_of rounds.old) (map packet_of round.old.packets) worked) }
-    ensures ready { IfOk result.1 (λ worked. AreReady worked.items
-        × All (λ lane. AreReady lane.items.items) worked.lanes.queues.items) }
+    ensures ready { IfOk result.1 (λ worked. All (λ lane. AreReady lane.items.items) worked.lanes.queues.items) }
     ensures worked { IfOk result.1 (λ worked. worked.blocks ≡ round.old.blocks) }
     ensures spent { round.new.packets ≡ [] }
     ensures home { rounds.new.home + blocks_out result.1 ≡ rounds.old.home + round.old.blocks }
@@ -175,8 +173,8 @@ fn work_beside<'a, R: Threads + Sync, W: Works, S: Source + Send>(
             ensures checked { rounds.entry.now.keep ≡ true
                 → IfOk result (λ worked. IsKeptWorkOf (options_of rounds.entry.now)
                 (map packet_of round.entry.now.packets) worked) }
-            ensures ready { IfOk result (λ worked. AreReady worked.items
-                × All (λ lane. AreReady lane.items.items) worked.lanes.queues.items) }
+            ensures ready { IfOk result (λ worked. All (λ lane. AreReady lane.items.items)
+                worked.lanes.queues.items) }
             ensures worked { IfOk result (λ worked. worked.blocks ≡ round.entry.now.blocks) }
             ensures spent { round.exit.now.packets ≡ [] }
             ensures home { rounds.exit.now.home + blocks_out result ≡ rounds.entry.now.home + round.entry.now.blocks }
@@ -206,8 +204,8 @@ impl Rounds {
             ≡ round_records (options_of self.old) (map packet_of round.packets)) }
         ensures checked { self.old.keep ≡ true → IfOk result.0
             (λ worked. IsKeptWorkOf (options_of self.old) (map packet_of round.packets) worked) }
-        ensures ready { IfOk result.0 (λ worked. AreReady worked.items
-            × All (λ lane. AreReady lane.items.items) worked.lanes.queues.items) }
+        ensures ready { IfOk result.0 (λ worked. All (λ lane. AreReady lane.items.items)
+            worked.lanes.queues.items) }
         ensures worked { IfOk result.0 (λ worked. worked.blocks ≡ round.blocks) }
         ensures same_source { SameLoan reader.old reader.new }
         ensures given { Told (S.left (source_of reader.old)) (S.left (source_of reader.new))
@@ -227,7 +225,7 @@ impl Rounds {
             → Rose (S.faults (source_of reader.old)) (S.faults (source_of reader.new))) }
     {
         let _ = self.home();
-        let mut intake = match self.split() {
+        let mut intake = match self.part() {
             Ok(intake) => intake,
             Err(_) => return (
                 self.work_round(works, round),

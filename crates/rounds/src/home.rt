@@ -6,6 +6,7 @@ ghost use Rattle.skb.specs.SkbState.{of_buffer};
 ghost use Rattle.gro.specs.Held.{of_packet, of_packets, count_of, counts_of};
 ghost use Rattle.gro.specs.Items.{of_item};
 ghost use Rattle.gro.specs.Table.{of_items};
+ghost use Rattle.round_work.specs.Lanes.{AreIdle};
 ghost use Rattle.rounds.specs.Held.{blocks_in, blocks_in_items};
 ghost use Rattle.rounds.specs.Lanes.{of_work, count_of_work, AreSpent};
 ghost use Rattle.rounds.specs.Marks.{IsRound, nothing};
@@ -16,8 +17,8 @@ use crate::lane_home::{bring_kept, bring_lanes};
 use crate::table::{Place, reopen, sweep};
 use block_pool::Pool;
 use frags::Outcomes;
-use gro::{Item, Packet, RoundTable};
-use round_work::Lanes;
+use gro::{Item, Packet};
+use round_work::{LaneTable, Lanes};
 use skb::Skb;
 use std::collections::VecDeque;
 use taps::TapClone;
@@ -104,11 +105,11 @@ pub(crate) fn bring_packets(
     }
 }
 
-// All items are given back, and their memory stays. Their outcomes serve items to come.
-fn bring_items(
+/// All items are given back, and their memory stays. Their outcomes serve items to come.
+pub(crate) fn bring_items(
     pool: &mut Pool,
     places: &mut [Place],
-    merging: &mut RoundTable,
+    merging: &mut LaneTable,
     out: &mut Outcomes,
     items: &mut Vec<Item>,
 )
@@ -119,34 +120,29 @@ fn bring_items(
     ensures bare { IsBare out.new }
     ensures spare { out.old.spare ≤ out.new.spare + blocks_in_items items.old.items }
     ensures none { items.new.items ≡ [] }
-    ensures merging { merging.new ≡ merging.old }
 {
     while let Some(item) = items.pop() {
         merging.keep(bring_item(pool, places, out, item));
     }
 }
 
-// What a round came to is given back: items, lanes, and clones that were kept.
+// What a round came to is given back: lanes, and clones that were kept.
 fn bring_work(
     pool: &mut Pool,
     places: &mut [Place],
-    merging: &mut RoundTable,
     out: &mut Outcomes,
-    items: &mut Vec<Item>,
-    lanes: Lanes,
+    lanes: &mut Lanes,
     kept: Vec<TapClone>,
 )
-    requires may { MayCome (of_work items.old.items lanes kept.items) pool.old places.old }
+    requires may { MayCome (of_work lanes.old kept.items) pool.old places.old }
     requires bare { IsBare out.old }
-    requires spare { count_of_work items.old.items lanes kept.items ≤ out.old.spare }
-    requires spent { AreSpent lanes.taps.items }
-    ensures comes { Comes (of_work items.old.items lanes kept.items) nothing pool.old places.old pool.new places.new }
+    requires spare { count_of_work lanes.old kept.items ≤ out.old.spare }
+    requires spent { AreSpent lanes.old.taps.items }
+    ensures comes { Comes (of_work lanes.old kept.items) nothing pool.old places.old pool.new places.new }
     ensures bare { IsBare out.new }
-    ensures spare { out.old.spare ≤ out.new.spare + count_of_work items.old.items lanes kept.items }
-    ensures none { items.new.items ≡ [] }
-    ensures merging { merging.new ≡ merging.old }
+    ensures spare { out.old.spare ≤ out.new.spare + count_of_work lanes.old kept.items }
+    ensures idle { AreIdle lanes.new }
 {
-    bring_items(pool, places, merging, out, items);
     bring_lanes(pool, places, out, lanes);
     bring_kept(pool, places, out, kept);
 }
@@ -155,66 +151,61 @@ fn bring_work(
 fn bring_all(
     pool: &mut Pool,
     places: &mut [Place],
-    merging: &mut RoundTable,
     out: &mut Outcomes,
     packets: &mut VecDeque<Packet>,
-    items: &mut Vec<Item>,
-    lanes: Lanes,
+    lanes: &mut Lanes,
     kept: Vec<TapClone>,
 )
     requires round { IsRound (length places.old) (both (of_outcomes out.old)
-        (both (of_packets packets.old.items) (of_work items.old.items lanes kept.items))) }
+        (both (of_packets packets.old.items) (of_work lanes.old kept.items))) }
     requires room { home pool.old + length places.old ≤ pool.old.made }
     requires open { AllOpen places.old }
-    requires spare { counts_of packets.old.items + count_of_work items.old.items lanes kept.items ≤ out.old.spare }
-    requires spent { AreSpent lanes.taps.items }
+    requires spare { counts_of packets.old.items + count_of_work lanes.old kept.items ≤ out.old.spare }
+    requires spent { AreSpent lanes.old.taps.items }
     ensures home { home pool.new ≡ home pool.old + length places.old }
     ensures made { (pool.new.made ≡ pool.old.made) × (pool.new.taken ≡ pool.old.taken) }
     ensures open { AllOpen places.new }
     ensures size { length places.new ≡ length places.old }
     ensures bare { IsBare out.new }
     ensures spare { out.old.spare ≤ out.new.spare + (counts_of packets.old.items
-        + count_of_work items.old.items lanes kept.items) }
-    ensures none { (packets.new.items ≡ []) × (items.new.items ≡ []) }
-    ensures merging { merging.new ≡ merging.old }
+        + count_of_work lanes.old kept.items) }
+    ensures none { packets.new.items ≡ [] }
+    ensures idle { AreIdle lanes.new }
 {
     sweep(pool, places, out);
     bring_packets(pool, places, out, packets);
-    bring_work(pool, places, merging, out, items, lanes, kept);
+    bring_work(pool, places, out, lanes, kept);
     reopen(places);
 }
 
 /// All blocks of a round go home, `blocks` of them, at whichever point it is ended or given up: what was given back so
-/// far, the packets that aren't merged, the items, what the lanes hold, and the clones that were kept. The lists of
-/// items that merged in no lane serve the next round's merging.
+/// far, the packets that are in no lane, what the lanes hold, and the clones that were kept. The lanes are idle then.
 pub(crate) fn bring_round(
     pool: &mut Pool,
     table: &mut [Place],
     blocks: u32,
-    merging: &mut RoundTable,
     out: &mut Outcomes,
     packets: &mut VecDeque<Packet>,
-    items: &mut Vec<Item>,
-    lanes: Lanes,
+    lanes: &mut Lanes,
     kept: Vec<TapClone>,
 )
     requires round { IsRound blocks (both (of_outcomes out.old)
-        (both (of_packets packets.old.items) (of_work items.old.items lanes kept.items))) }
+        (both (of_packets packets.old.items) (of_work lanes.old kept.items))) }
     requires few { blocks ≤ length table.old }
     requires room { home pool.old + blocks ≤ pool.old.made }
     requires open { AllOpen table.old }
-    requires spare { counts_of packets.old.items + count_of_work items.old.items lanes kept.items ≤ out.old.spare }
-    requires spent { AreSpent lanes.taps.items }
+    requires spare { counts_of packets.old.items + count_of_work lanes.old kept.items ≤ out.old.spare }
+    requires spent { AreSpent lanes.old.taps.items }
     ensures home { home pool.new ≡ home pool.old + blocks }
     ensures made { (pool.new.made ≡ pool.old.made) × (pool.new.taken ≡ pool.old.taken) }
     ensures open { AllOpen table.new }
     ensures size { length table.new ≡ length table.old }
     ensures bare { IsBare out.new }
     ensures spare { out.old.spare ≤ out.new.spare + (counts_of packets.old.items
-        + count_of_work items.old.items lanes kept.items) }
-    ensures none { (packets.new.items ≡ []) × (items.new.items ≡ []) }
-    ensures merging { merging.new ≡ merging.old }
+        + count_of_work lanes.old kept.items) }
+    ensures none { packets.new.items ≡ [] }
+    ensures idle { AreIdle lanes.new }
 {
     let (places, _) = table.split_at_mut(blocks as usize);
-    bring_all(pool, places, merging, out, packets, items, lanes, kept);
+    bring_all(pool, places, out, packets, lanes, kept);
 }

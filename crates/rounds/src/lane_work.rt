@@ -1,5 +1,5 @@
-//! Works a round: its packets are merged, in one queue or in lanes.
-ghost use Rattle.std.specs.Prelude.{◌≡◌, ◌+◌, ◌≤◌, true, false, [], map, All, IfOk, OnOk, OnErr, MatchResult};
+//! Works a round: its packets are merged in lanes.
+ghost use Rattle.std.specs.Prelude.{◌≡◌, ◌+◌, ◌≤◌, true, [], map, All, IfOk, OnOk, OnErr, MatchResult};
 ghost use Rattle.offload_model.specs.Written.{round_records};
 ghost use Rattle.ref_core.specs.WeightRule.{full_weight};
 ghost use Rattle.frags.specs.Account.{Keeps, both};
@@ -11,13 +11,11 @@ ghost use Rattle.rounds.specs.Kept.{IsKept, IsDone, IsLeft, IsOfLanes};
 ghost use Rattle.rounds.specs.Lanes.{worked_records, IsKeptWorkOf};
 ghost use Rattle.rounds.specs.Merging.{options_of};
 
-use crate::home::bring_round;
 use crate::round::{Round, Worked};
-use crate::rounds::{Rounds, no_lanes};
+use crate::rounds::Rounds;
 use core::mem::replace;
 use gro::Packet;
-use off_io::Who;
-use round_work::{Lanes, Works, keep_packets, merge_packets, work_packets};
+use round_work::{Lanes, Works, keep_packets, work_packets};
 use std::alloc::AllocError;
 use std::collections::VecDeque;
 use taps::TapClone;
@@ -52,65 +50,6 @@ fn keep_if(
 }
 
 impl Rounds {
-    // Whether one queue is all there is, so that no lane is made.
-    fn is_plain(&self) -> bool
-        ensures plain { result ≡ true → (self.now.plan.queues ≡ 1) × (self.now.plan.taps ≡ 0)
-            × (self.now.keep ≡ false) }
-    {
-        self.plan.queues == 1 && self.plan.taps == 0 && !self.keep
-    }
-
-    // Merges the packets of a round in one queue.
-    fn merge_round<W: Works>(&mut self, works: &W, round: Round) -> Result<Worked, AllocError>
-        requires out { self.old.home + round.blocks ≤ self.old.blocks }
-        requires plain { (self.old.plan.queues ≡ 1) × (self.old.plan.taps ≡ 0) }
-        ensures records { IfOk result (λ worked. worked_records worked
-            ≡ round_records (options_of self.old) (map packet_of round.packets)) }
-        ensures ready { IfOk result (λ worked. AreReady worked.items
-            × All (λ lane. AreReady lane.items.items) worked.lanes.queues.items) }
-        ensures worked { IfOk result (λ worked. worked.blocks ≡ round.blocks) }
-        ensures same { OnOk result (self.new ≡ self.old) }
-        ensures home { OnErr result (self.new ≡ record self.old { home = self.old.home + round.blocks }) }
-    {
-        let Round {
-            mut packets,
-            blocks,
-        } = round;
-        works.pass(Who::Worker(0), 0);
-        let mut items = replace(&mut self.items, Vec::new(self.alloc));
-        let merged = merge_packets(&mut self.table, &mut packets, &mut items, &mut self.out);
-        works.pass(Who::Worker(0), 1);
-        let lanes = no_lanes(self.alloc);
-        let kept = Vec::new(self.alloc);
-        match merged {
-            Ok(()) => {
-                replace(&mut self.packets, packets).destroy_empty();
-                Ok(Worked {
-                    items,
-                    lanes,
-                    kept,
-                    blocks,
-                })
-            }
-            Err(error) => {
-                bring_round(
-                    &mut self.pool,
-                    &mut self.places,
-                    blocks,
-                    &mut self.table,
-                    &mut self.out,
-                    &mut packets,
-                    &mut items,
-                    lanes,
-                    kept,
-                );
-                replace(&mut self.packets, packets).destroy_empty();
-                replace(&mut self.items, items).destroy_empty();
-                Err(error)
-            }
-        }
-    }
-
     // A clone of each packet is kept, if that is wanted. For want of memory all blocks of the round are home.
     fn keep_round(&mut self, round: Round) -> Result<Kept, AllocError>
         requires out { self.old.home + round.blocks ≤ self.old.blocks }
@@ -130,7 +69,8 @@ impl Rounds {
                 blocks,
             }),
             Err(error) => {
-                self.bring_back(packets, no_lanes(self.alloc), kept, blocks);
+                let lanes = self.take_lanes();
+                self.bring_back(packets, lanes, kept, blocks);
                 Err(error)
             }
         }
@@ -140,11 +80,12 @@ impl Rounds {
     fn settle(
         &mut self,
         kept: Kept,
-        lanes: Result<Lanes, (Lanes, AllocError)>,
+        lanes: Lanes,
+        done: Result<(), AllocError>,
     ) -> Result<Worked, AllocError>
         requires out { self.old.home + kept.blocks ≤ self.old.blocks }
-        requires lanes { MatchResult lanes (IsDone kept) (λ e. IsLeft kept e.0) }
-        ensures worked { IfOk result (IsOfLanes lanes kept.kept.items kept.blocks) }
+        requires lanes { MatchResult done (λ _. IsDone kept lanes) (λ _. IsLeft kept lanes) }
+        ensures worked { IfOk result (IsOfLanes done lanes kept.kept.items kept.blocks) }
         ensures same { OnOk result (self.new ≡ self.old) }
         ensures home { OnErr result (self.new ≡ record self.old { home = self.old.home + kept.blocks }) }
     {
@@ -153,17 +94,16 @@ impl Rounds {
             kept,
             blocks,
         } = kept;
-        match lanes {
-            Ok(lanes) => {
+        match done {
+            Ok(()) => {
                 replace(&mut self.packets, packets).destroy_empty();
                 Ok(Worked {
-                    items: Vec::new(self.alloc),
                     lanes,
                     kept,
                     blocks,
                 })
             }
-            Err((lanes, error)) => {
+            Err(error) => {
                 self.bring_back(packets, lanes, kept, blocks);
                 Err(error)
             }
@@ -172,8 +112,8 @@ impl Rounds {
 
     /// Works a round: queue by queue what the runs of its flows come to, in the order of their first packets, and tap
     /// by tap the windows of what is shown of the packets as they were read. Whoever works runs the lanes, and each
-    /// lane passes its gate at point 0 before its work and at point 1 after it; one queue alone is worked here. For
-    /// want of memory all blocks of the round are home.
+    /// lane passes its gate at point 0 before its work and at point 1 after it; one lane alone is worked here. For want
+    /// of memory all blocks of the round are home.
     pub fn work_round<W: Works>(
         &mut self,
         works: &mut W,
@@ -184,17 +124,14 @@ impl Rounds {
             ≡ round_records (options_of self.old) (map packet_of round.packets)) }
         ensures checked { self.old.keep ≡ true → IfOk result
             (λ worked. IsKeptWorkOf (options_of self.old) (map packet_of round.packets) worked) }
-        ensures ready { IfOk result (λ worked. AreReady worked.items
-            × All (λ lane. AreReady lane.items.items) worked.lanes.queues.items) }
+        ensures ready { IfOk result (λ worked. All (λ lane. AreReady lane.items.items) worked.lanes.queues.items) }
         ensures worked { IfOk result (λ worked. worked.blocks ≡ round.blocks) }
         ensures same { OnOk result (self.new ≡ self.old) }
         ensures home { OnErr result (self.new ≡ record self.old { home = self.old.home + round.blocks }) }
     {
-        if self.is_plain() {
-            return self.merge_round(works, round);
-        }
         let mut kept = self.keep_round(round)?;
-        let lanes = work_packets(works, self.alloc, &mut kept.packets, &self.plan);
-        self.settle(kept, lanes)
+        let mut lanes = self.take_lanes();
+        let done = work_packets(works, self.alloc, &mut kept.packets, &self.plan, &mut lanes);
+        self.settle(kept, lanes, done)
     }
 }

@@ -61,25 +61,31 @@
 //! and nothing is.
 //!
 //! Memory is taken in [`Rounds::make`] and [`SegmentRun::make`], and for lists of pieces: by a record of more than
-//! 1,984 bytes, and by each segment of a merged one. Where one queue is all there is, no lane is made; else each round
-//! takes memory for its lanes, and for the clones that are kept.
+//! 1,984 bytes, and by each segment of a merged one. The first round takes that of its lanes, and a later one only
+//! where it has more for a lane; each round takes memory for the clones that are kept.
 //!
 //! ```
-//! let plan = Plan { queues: 4, taps: 1, snap: 64, choice: Choice::Fold, segs: 4096, filter: None };
+//! let plan = Plan {
+//!     queues: 4,
+//!     taps: 1,
+//!     snap: 64,
+//!     choice: Choice::Fold,
+//!     segs: 4096,
+//!     filter: None,
+//! };
 //! let mut rounds = Rounds::make(alloc, blocks, 64, plan, false)?;
 //! let end = rounds.merge_all(&mut Alone { gate: &NoGate }, &mut reader, &file, &mut sink);
 //! ```
 //!
 //! Its parts: `record` (one record of either link type: header, need, blocks, body), on `body` and `blocks`; `reading`
 //! (a round of them); `table` and `home` (what comes back, by marks, and all of a round given up at whichever point);
-//! `lane_work` (a round in one queue, by `round_work::merge_packets`, or over lanes), `lane_home` (what lanes hold,
-//! home); `writing` (what they come to); `rounds` (the type that keeps pool, table and memory); `merge` (round by round
-//! to the end of a capture); `ahead` (a round read beside the work of another, and its rest), `sides` (rounds parted in
-//! two, and one again), `intake` (the side that reads) and `homecoming` (who brings blocks home while a round is read);
-//! `segment` (the type that segments, record by record) on `cut` (a record's packets written one by one, its blocks
-//! brought home) and `memory` (what both types keep). `specs/Marks.antt` says what is a round's account,
-//! `specs/Fresh.antt` what it is as blocks are taken, `specs/Reading.antt` what each end of a round says of the
-//! capture's bytes.
+//! `lane_work` (a round over lanes, by `round_work::work_packets`), `lane_home` (what lanes hold, home); `writing`
+//! (what they come to); `rounds` (the type that keeps pool, table and memory); `merge` (round by round to the end of a
+//! capture); `ahead` (a round read beside the work of another, and its rest), `sides` (rounds parted in two, and one
+//! again), `intake` (the side that reads) and `homecoming` (who brings blocks home while a round is read); `segment`
+//! (the type that segments, record by record) on `cut` (a record's packets written one by one, its blocks brought home)
+//! and `memory` (what both types keep). `specs/Marks.antt` says what is a round's account, `specs/Fresh.antt` what it
+//! is as blocks are taken, `specs/Reading.antt` what each end of a round says of the capture's bytes.
 //!
 //! Tests: `round_tests`, modules `ahead`, `lanes`, `long_runs`, `merging`, `segments` and `sides`.
 //!
@@ -93,11 +99,14 @@
 //!   nothing has to be reunited. In fact a receipt meets a place that is home already, and is closed.
 //! - **A second Sole of a mark is dropped.** The account says what is held at most and what is home at least, so it
 //!   doesn't exclude one; that two Soles never are of one block is known only where both are in hand.
-//! - **`Rounds` keeps the memory of a round's packets, items and outcomes** while no round has it, and its table is
-//!   open between the calls. These hold parts or receipts by their types, so it is dropped by an `impl Drop` of its
-//!   own, which spends them empty: its invariant says that they are.
+//! - **`Rounds` keeps the memory of a round's packets and lanes** while no round has it: the lanes are idle, and the
+//!   table of places is open between the calls. These hold parts or receipts by their types, so it is dropped by an
+//!   `impl Drop` of its own, which spends them: its invariant says that they hold nothing.
+//! - **A round is always worked in lanes**, and one queue without taps is one lane: whoever asks works it. Its lanes
+//!   are away until it ends, and come home with their memory (`end_round`). A round that is worked before another has
+//!   ended makes lanes of its own.
 //! - **One function gives up a round** at whichever point (`bring_round`): what was given back so far, the packets that
-//!   aren't merged, and the items.
+//!   are in no lane, and what the lanes hold.
 //! - **What a round is told is one argument**, a `Plan`: queues and how flows go to them, taps, their window and their
 //!   filter, and how many packets a run may have. The model's options follow from it (`options_by`), so a further
 //!   option is a field there and a body. It isn't copied: a hash key has tables of 4.6 KB, and a filter its program.

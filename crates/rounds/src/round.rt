@@ -4,7 +4,7 @@ ghost use Rattle.rounds.specs.Merging.{is_worked as is_worked_end};
 ghost use Rattle.rounds.specs.Reading.{IsEndOf};
 
 use crate::record::Stop;
-use gro::{Item, Packet};
+use gro::Packet;
 use pcap_io::CapFault;
 use round_work::Lanes;
 use std::collections::VecDeque;
@@ -61,8 +61,6 @@ impl Round {
 
 /// What the packets of a round come to. It must be spent: ended, by the rounds that worked it.
 pub struct Worked {
-    // What merged in no lane: all of it where there is one queue and no tap, and no clone is kept.
-    pub(crate) items: Vec<Item>,
     pub(crate) lanes: Lanes,
     // A clone of each packet, where they are kept.
     pub(crate) kept: Vec<TapClone>,
@@ -77,11 +75,11 @@ impl Model for Worked {
 
     ghost Value = { WorkedState };
 
-    ghost view = { λ w. record { items = w.items.items; lanes = w.lanes; kept = w.kept.items; blocks = w.blocks } };
+    ghost view = { λ w. record { lanes = w.lanes; kept = w.kept.items; blocks = w.blocks } };
 
-    ghost invariant = { λ w. IsRound w.blocks (of_work w.items.items w.lanes w.kept.items)
-        × (count_of_work w.items.items w.lanes w.kept.items ≤ w.blocks + w.blocks) × AreSpent w.lanes.taps.items
-        × IsSmallWork w.items.items w.lanes };
+    ghost invariant = { λ w. IsRound w.blocks (of_work w.lanes w.kept.items)
+        × (count_of_work w.lanes w.kept.items ≤ w.blocks + w.blocks) × AreSpent w.lanes.taps.items
+        × IsSmallWork w.lanes };
 }
 
 /// Why a round has no more records.

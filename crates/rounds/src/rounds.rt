@@ -14,7 +14,7 @@ ghost use Rattle.offload_model.specs.Captured.{IsCaptured};
 ghost use Rattle.frags.specs.Account.{both};
 ghost use Rattle.gro.specs.Held.{packet_of, of_packets, counts_of};
 ghost use Rattle.taps.specs.Clones.{blocks_of, of_clones};
-ghost use Rattle.round_work.specs.Lanes.{of_lanes, counts_of_queues};
+ghost use Rattle.round_work.specs.Lanes.{of_lanes, counts_of_queues, AreIdle};
 ghost use Rattle.round_work.specs.Work.{IsPlan};
 ghost use Rattle.rounds.specs.Fresh.{NumberedFrom};
 ghost use Rattle.rounds.specs.Lanes.{worked_bytes, AreSpent};
@@ -29,11 +29,11 @@ use crate::memory::{RECORD_BLOCKS, close_places, open_places};
 use crate::reading::read_records;
 use crate::round::{Round, RoundEnd, RoundRead, Worked};
 use crate::table::Place;
-use crate::writing::write_work;
+use crate::writing::write_lanes;
 use block_pool::Pool;
 use core::mem::replace;
 use frags::Outcomes;
-use gro::{Item, Packet, RoundTable};
+use gro::Packet;
 use off_io::{Sink, Source, WriteFault};
 use pcap_io::{CaptureReader, FileHead};
 use raw_block::Sole;
@@ -54,8 +54,8 @@ pub struct Rounds {
     pub(crate) out: Outcomes,
     // Memory alone.
     pub(crate) packets: VecDeque<Packet>,
-    pub(crate) items: Vec<Item>,
-    pub(crate) table: RoundTable,
+    // Idle between rounds. Those of a round that was worked are away until it ends.
+    pub(crate) lanes: Lanes,
     pub(crate) budget: u32,
     pub(crate) plan: Plan,
     // Whether a clone of each packet is kept beside the work of a round.
@@ -66,6 +66,7 @@ impl Model for Rounds {
     ghost use Rattle.std.specs.Prelude.{◌≡◌, ◌+◌, ◌≤◌, [], length};
     ghost use Rattle.std.specs.VecDeque.{deque_capacity};
     ghost use Rattle.block_pool.specs.PoolState.{home as home_of};
+    ghost use Rattle.round_work.specs.Lanes.{AreIdle};
     ghost use Rattle.round_work.specs.Work.{IsPlan};
     ghost use Rattle.rounds.specs.RoundsState.{RoundsState};
     ghost use Rattle.frags.specs.OutcomesState.{IsBare};
@@ -85,8 +86,7 @@ impl Model for Rounds {
     ghost invariant = { λ r. (r.pool.made ≤ 65536) × (r.hold.items ≡ []) × (131 ≤ deque_capacity r.hold)
         × AllOpen r.places.items × (length r.places.items ≡ r.pool.made) × IsBare r.out
         × (r.pool.made + r.pool.made ≤ r.out.spare + (home_of r.pool + home_of r.pool)) × (r.packets.items ≡ [])
-        × (r.items.items ≡ []) × (r.table.runs ≡ []) × (1 ≤ r.budget) × (r.budget ≤ 4096) × IsPlan r.plan
-        × (r.table.segs ≡ r.plan.segs) };
+        × AreIdle r.lanes × (1 ≤ r.budget) × (r.budget ≤ 4096) × IsPlan r.plan };
 }
 
 impl Drop for Rounds {
@@ -98,8 +98,7 @@ impl Drop for Rounds {
             places,
             out,
             packets,
-            items,
-            table,
+            lanes,
             budget: _,
             plan: _plan,
             keep: _,
@@ -107,36 +106,15 @@ impl Drop for Rounds {
         close_places(places);
         out.settle();
         packets.destroy_empty();
-        items.destroy_empty();
-        table.discard();
-    }
-}
-
-// The packets of a round of `budget`, and the table that merges them in runs of at most `segs`.
-fn round_lists(
-    alloc: Global,
-    budget: u32,
-    segs: u32,
-) -> Result<(VecDeque<Packet>, RoundTable), AllocError>
-    ensures packets { IfOk result (λ lists. lists.0.items ≡ []) }
-    ensures table { IfOk result (λ lists. lists.1.runs ≡ []) }
-    ensures segs { IfOk result (λ lists. lists.1.segs ≡ segs) }
-{
-    let packets = VecDeque::with_capacity(alloc, budget as usize)?;
-    match RoundTable::make(alloc, budget, segs) {
-        Ok(table) => Ok((packets, table)),
-        Err(error) => {
-            packets.destroy_empty();
-            Err(error)
-        }
+        lanes.free();
     }
 }
 
 impl Rounds {
     /// Rounds of up to `budget` records over `blocks` blocks, whose work is divided by `plan`. Where `keep`, a clone of
     /// each packet stands beside the work of its round, for [`Rounds::check_round`]. All memory for blocks, for what
-    /// comes back of them and for the packets of a round is taken here; the lanes of several queues or of taps, and
-    /// clones that are kept, take more in each round.
+    /// comes back of them and for the packets of a round is taken here. Lanes take theirs in the first round, and more
+    /// only where a later one has more for them; clones that are kept take more in each round.
     pub fn make(
         alloc: Global,
         blocks: u32,
@@ -166,15 +144,14 @@ impl Rounds {
                 return Err(error);
             }
         };
-        let lists = match round_lists(alloc, budget, plan.segs) {
-            Ok(lists) => lists,
+        let packets = match VecDeque::with_capacity(alloc, budget as usize) {
+            Ok(packets) => packets,
             Err(error) => {
                 close_places(places);
                 out.settle();
                 return Err(error);
             }
         };
-        let (packets, table) = lists;
         Ok(Rounds {
             alloc,
             pool,
@@ -182,8 +159,7 @@ impl Rounds {
             places,
             out,
             packets,
-            items: Vec::new(alloc),
-            table,
+            lanes: Lanes::new(alloc),
             budget,
             plan,
             keep,
@@ -283,7 +259,7 @@ impl Rounds {
             (worked_bytes file.now.order worked.now)) }
         ensures cause { HasCause (K.faults sink.old) (K.faults sink.new) result }
     {
-        write_work(sink, file, &worked.items, &worked.lanes)
+        write_lanes(sink, file, &worked.lanes)
     }
 
     /// Gives a round up. Its blocks go home, all of them.
@@ -292,10 +268,19 @@ impl Rounds {
         ensures home { self.new ≡ record self.old { home = self.old.home + round.blocks } }
     {
         let Round { packets, blocks } = round;
-        self.bring_back(packets, no_lanes(self.alloc), Vec::new(self.alloc), blocks);
+        let lanes = self.take_lanes();
+        self.bring_back(packets, lanes, Vec::new(self.alloc), blocks);
     }
 
-    /// What is left of a round of which no item stands outside the lanes goes home.
+    // The lanes, for a round: those that are kept, or none yet.
+    pub(crate) fn take_lanes(&mut self) -> Lanes
+        ensures idle { AreIdle result }
+        ensures same { self.new ≡ self.old }
+    {
+        replace(&mut self.lanes, Lanes::new(self.alloc))
+    }
+
+    /// What is left of a round goes home. Its lanes and its list of packets stay as memory.
     pub(crate) fn bring_back(
         &mut self,
         packets: VecDeque<Packet>,
@@ -312,18 +297,18 @@ impl Rounds {
         ensures home { self.new ≡ record self.old { home = self.old.home + blocks } }
     {
         let mut packets = packets;
+        let mut lanes = lanes;
         bring_round(
             &mut self.pool,
             &mut self.places,
             blocks,
-            &mut self.table,
             &mut self.out,
             &mut packets,
-            &mut self.items,
-            lanes,
+            &mut lanes,
             kept,
         );
         replace(&mut self.packets, packets).destroy_empty();
+        replace(&mut self.lanes, lanes).free();
     }
 
     /// Ends a round that was worked. Its blocks go home, all of them.
@@ -332,8 +317,7 @@ impl Rounds {
         ensures home { self.new ≡ record self.old { home = self.old.home + worked.blocks } }
     {
         let Worked {
-            mut items,
-            lanes,
+            mut lanes,
             kept,
             blocks,
         } = worked;
@@ -341,24 +325,12 @@ impl Rounds {
             &mut self.pool,
             &mut self.places,
             blocks,
-            &mut self.table,
             &mut self.out,
             &mut self.packets,
-            &mut items,
-            lanes,
+            &mut lanes,
             kept,
         );
-        replace(&mut self.items, items).destroy_empty();
-    }
-}
-
-/// The lanes of a round that has none.
-pub(crate) fn no_lanes(alloc: Global) -> Lanes
-    ensures none { (result.queues.items ≡ []) × (result.taps.items ≡ []) }
-{
-    Lanes {
-        queues: Vec::new(alloc),
-        taps: Vec::new(alloc),
+        replace(&mut self.lanes, lanes).free();
     }
 }
 

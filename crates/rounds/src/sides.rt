@@ -11,24 +11,17 @@ use std::alloc::AllocError;
 use std::collections::VecDeque;
 
 impl Rounds {
-    /// Parts the side that reads from the side that works: all blocks go with it. Neither has them where there is no
-    /// memory.
-    pub fn part(&mut self) -> Result<Intake, AllocError>
-        requires home { self.old.home ≡ self.old.blocks }
-        ensures intake { IfOk result (λ i. i ≡ record {
-          home = self.old.blocks;
-          blocks = self.old.blocks;
-          taken = self.old.taken;
-          budget = self.old.budget;
-        }) }
-        ensures ok { OnOk result (self.new ≡ record self.old { home = 0; taken = 0 }) }
-        ensures err { OnErr result (self.new ≡ self.old) }
+    /// The blocks that were made.
+    pub fn blocks(&self) -> u32
+        ensures blocks { result ≡ self.now.blocks }
+        ensures few { result ≤ 65536 }
     {
-        self.split()
+        self.pool.made()
     }
 
-    // The same, of the blocks that are home: others may be out.
-    pub(crate) fn split(&mut self) -> Result<Intake, AllocError>
+    /// Parts the side that reads from the side that works: the blocks that are home go with it. Others may be out, with
+    /// rounds that were read. Where there is no memory all stays as it is.
+    pub fn part(&mut self) -> Result<Intake, AllocError>
         ensures intake { IfOk result (λ i. i ≡ record {
           home = self.old.home;
           blocks = self.old.blocks;

@@ -1,5 +1,5 @@
 //! Writes what a round came to.
-ghost use Rattle.std.specs.Prelude.{◌++◌, OnOk, OnErr};
+ghost use Rattle.std.specs.Prelude.{OnOk, OnErr};
 ghost use Rattle.std.specs.List.{AllByRecursion, flat_map};
 ghost use Rattle.std.specs.Io.KnownBytes.{Appends};
 ghost use Rattle.off_io.specs.Faults.{HasCause};
@@ -139,10 +139,13 @@ fn write_taps<K: Sink>(sink: &mut K, file: &FileHead, lanes: &[TapLane]) -> Resu
     Ok(())
 }
 
-// Queue by queue its items, and then tap by tap its windows.
-fn write_lanes<K: Sink>(sink: &mut K, file: &FileHead, lanes: &Lanes) -> Result<(), WriteFault>
-    requires queues { AllByRecursion IsSmallQueue lanes.now.queues.items }
-    requires taps { AllByRecursion IsSmallTap lanes.now.taps.items }
+/// Writes what the lanes came to: queue by queue its items, and then tap by tap its windows.
+pub(crate) fn write_lanes<K: Sink>(
+    sink: &mut K,
+    file: &FileHead,
+    lanes: &Lanes,
+) -> Result<(), WriteFault>
+    requires small { IsSmallWork lanes.now }
     ensures ok { OnOk result (Appends (K.held sink.old) (K.held sink.new) (lanes_bytes file.now.order lanes.now)) }
     ensures err { OnErr result (AppendsFront (K.held sink.old) (K.held sink.new)
         (lanes_bytes file.now.order lanes.now)) }
@@ -150,22 +153,4 @@ fn write_lanes<K: Sink>(sink: &mut K, file: &FileHead, lanes: &Lanes) -> Result<
 {
     write_queues(sink, file, &lanes.queues)?;
     write_taps(sink, file, &lanes.taps)
-}
-
-/// Writes items that merged in no lane, as records of queue 0, and then what the lanes came to.
-pub(crate) fn write_work<K: Sink>(
-    sink: &mut K,
-    file: &FileHead,
-    items: &[Item],
-    lanes: &Lanes,
-) -> Result<(), WriteFault>
-    requires small { IsSmallWork items.now lanes.now }
-    ensures ok { OnOk result (Appends (K.held sink.old) (K.held sink.new)
-        (bytes_of_items file.now.order 0 items.now ++ lanes_bytes file.now.order lanes.now)) }
-    ensures err { OnErr result (AppendsFront (K.held sink.old) (K.held sink.new)
-        (bytes_of_items file.now.order 0 items.now ++ lanes_bytes file.now.order lanes.now)) }
-    ensures cause { HasCause (K.faults sink.old) (K.faults sink.new) result }
-{
-    write_all_items(sink, file, 0, items)?;
-    write_lanes(sink, file, lanes)
 }

@@ -1,5 +1,5 @@
 //! The packets that a tap reads, as clones of the workers' buffers.
-ghost use Rattle.std.specs.Prelude.{◌≡◌, ◌+◌, ◌≤◌, length, option_map, slice_range, take};
+ghost use Rattle.std.specs.Prelude.{◌≡◌, ◌+◌, ◌≤◌, [], length, option_map, slice_range, take};
 ghost use Rattle.frags.specs.Account.{Keeps, both, of_outcomes};
 ghost use Rattle.frags.specs.Growth.{Grows};
 ghost use Rattle.offload_model.specs.Written.{shown_bytes, window_of};
@@ -71,16 +71,15 @@ impl TapClone {
     }
 }
 
-/// Gives the buffers of all clones back.
-pub(crate) fn release_all(clones: Vec<TapClone>, out: &mut Outcomes)
-    requires room { blocks_of clones.items ≤ out.old.spare }
-    ensures kept { Keeps (both (of_clones clones.items) (of_outcomes out.old)) (of_outcomes out.new) }
-    ensures grows { Grows (blocks_of clones.items) out.old out.new }
-    ensures places { out.old.spare ≤ out.new.spare + blocks_of clones.items }
+/// Gives the buffers of all clones back. Their list stays, empty.
+pub(crate) fn release_all(clones: &mut Vec<TapClone>, out: &mut Outcomes)
+    requires room { blocks_of clones.old.items ≤ out.old.spare }
+    ensures kept { Keeps (both (of_clones clones.old.items) (of_outcomes out.old)) (of_outcomes out.new) }
+    ensures grows { Grows (blocks_of clones.old.items) out.old out.new }
+    ensures places { out.old.spare ≤ out.new.spare + blocks_of clones.old.items }
+    ensures none { clones.new.items ≡ [] }
 {
-    let mut clones = clones;
     while let Some(clone) = clones.pop() {
         clone.release(out);
     }
-    clones.destroy_empty();
 }

@@ -6,7 +6,8 @@
 //! ```
 //!
 //! A [`TapTask`] holds a clone of each packet, so its bytes stay while others push, pull, merge or release theirs.
-//! [`TapTask::run`] copies the windows out, into one vector for all of them, and gives every clone back.
+//! [`TapTask::run`] copies the windows out, into one vector for all of them, and gives every clone back;
+//! [`read_clones`] does the same with lists that are kept from round to round.
 //!
 //! Proved, by the names of the clauses of `run`:
 //!
@@ -41,7 +42,7 @@ mod task;
 mod texts;
 
 pub use clones::TapClone;
-pub use task::{TapResult, TapTask};
+pub use task::{TapResult, TapTask, read_clones};
 pub use texts::{TapText, TapTexts};
 
 /// The records of a tap's texts are its windows in what merging writes.

@@ -1,5 +1,5 @@
 //! A tap's work in one round.
-ghost use Rattle.std.specs.Prelude.{◌≡◌, ◌<◌, ◌≤◌, ◌+◌, map, IfOk, option_map, true, false};
+ghost use Rattle.std.specs.Prelude.{◌≡◌, ◌<◌, ◌≤◌, ◌+◌, [], map, IfOk, option_map, true, false};
 ghost use Rattle.frags.specs.Account.{Keeps, both, of_outcomes};
 ghost use Rattle.frags.specs.Growth.{Grows};
 ghost use Rattle.offload_model.specs.Written.{windows_of};
@@ -10,7 +10,7 @@ use crate::clones::{TapClone, release_all};
 use crate::texts::TapTexts;
 use frags::Outcomes;
 use off_io::{Gate, Who};
-use std::alloc::{AllocError, Global};
+use std::alloc::AllocError;
 use tap_filter::Program;
 
 /// What one tap is to read of a round. It must be spent: run.
@@ -64,15 +64,41 @@ impl<'a> TapTask<'a> {
             tap,
             snap,
             filter,
-            clones,
+            mut clones,
             mut outcomes,
         } = self;
-        gate.pass(Who::Tap(tap), 0);
-        let texts = read_texts(*clones.allocator(), tap, snap, filter, &clones);
-        release_all(clones, &mut outcomes);
-        gate.pass(Who::Tap(tap), 1);
+        let memory = TapTexts::new(*clones.allocator());
+        let texts = read_clones(gate, tap, snap, filter, &mut clones, &mut outcomes, memory);
+        clones.destroy_empty();
         TapResult { texts, outcomes }
     }
+}
+
+/// What [`TapTask::run`] does, of clones whose list stays, empty, and with windows in the memory of others.
+pub fn read_clones<G: Gate>(
+    gate: &G,
+    tap: u32,
+    snap: u32,
+    filter: Option<&Program>,
+    clones: &mut Vec<TapClone>,
+    outcomes: &mut Outcomes,
+    memory: TapTexts,
+) -> Result<TapTexts, AllocError>
+    requires room { blocks_of clones.old.items ≤ outcomes.old.spare }
+    ensures texts { IfOk result (λ texts. texts ≡ texts_of snap tap
+        (map (shown_packet (option_map (λ p. p.now) filter.entry)) clones.old.items)) }
+    ensures windows { IfOk result (λ texts. map (record_of_text tap) texts ≡ windows_of snap tap
+        (map (shown_packet (option_map (λ p. p.now) filter.entry)) clones.old.items)) }
+    ensures kept { Keeps (both (of_clones clones.old.items) (of_outcomes outcomes.old)) (of_outcomes outcomes.new) }
+    ensures grows { Grows (blocks_of clones.old.items) outcomes.old outcomes.new }
+    ensures places { outcomes.old.spare ≤ outcomes.new.spare + blocks_of clones.old.items }
+    ensures none { clones.new.items ≡ [] }
+{
+    gate.pass(Who::Tap(tap), 0);
+    let texts = read_texts(memory, tap, snap, filter, clones);
+    release_all(clones, outcomes);
+    gate.pass(Who::Tap(tap), 1);
+    texts
 }
 
 // Whether all blocks of the clones have a place.
@@ -102,9 +128,9 @@ fn bytes_of_windows(tap: u32, snap: u32, clones: &[TapClone]) -> usize {
     bytes
 }
 
-// Memory is taken once for all windows.
+// Memory is taken once for all windows, where there isn't enough of it.
 fn read_texts(
-    alloc: Global,
+    memory: TapTexts,
     tap: u32,
     snap: u32,
     filter: Option<&Program>,
@@ -114,7 +140,8 @@ fn read_texts(
         (map (shown_packet (option_map (λ p. p.now) filter.entry)) clones.now)) }
 {
     let bytes = bytes_of_windows(tap, snap, clones);
-    let mut texts = TapTexts::with_room(alloc, clones.len(), bytes)?;
+    let mut texts = memory;
+    texts.start(clones.len(), bytes)?;
     for clone in clones {
         let (from, to) = clone.window(tap, snap, filter);
         if from < to {

@@ -1,5 +1,5 @@
 //! The windows that a tap read.
-ghost use Rattle.std.specs.Prelude.{◌≡◌, ◌==◌, ◌<◌, ◌≤◌, [], ◌∷◌, ◌++◌, length, IfOk, OnOk, OnErr, slice_index_or};
+ghost use Rattle.std.specs.Prelude.{◌≡◌, ◌==◌, ◌<◌, ◌≤◌, [], ◌∷◌, ◌++◌, length, OnOk, OnErr, slice_index_or};
 ghost use Rattle.std.specs.Prelude.{slice_range};
 ghost use Rattle.pcap_io.specs.Capture.{Packet};
 ghost use Rattle.offload_model.specs.Written.{window_head};
@@ -75,18 +75,24 @@ impl Model for TapTexts {
 }
 
 impl TapTexts {
-    /// No windows yet, and room for `windows` of them with `bytes` bytes in all.
-    pub(crate) fn with_room(
-        alloc: Global,
-        windows: usize,
-        bytes: usize,
-    ) -> Result<TapTexts, AllocError>
-        ensures empty { IfOk result (λ texts. texts ≡ []) }
+    /// No windows, and no memory yet.
+    pub fn new(alloc: Global) -> TapTexts
+        ensures empty { result ≡ [] }
     {
-        Ok(TapTexts {
-            spans: Vec::with_capacity(alloc, windows)?,
-            bytes: Vec::with_capacity(alloc, bytes)?,
-        })
+        TapTexts {
+            spans: Vec::new(alloc),
+            bytes: Vec::new(alloc),
+        }
+    }
+
+    /// No windows any more, and room for `windows` of them with `bytes` bytes in all.
+    pub(crate) fn start(&mut self, windows: usize, bytes: usize) -> Result<(), AllocError>
+        ensures empty { self.new ≡ [] }
+    {
+        self.spans.clear();
+        self.bytes.clear();
+        self.spans.reserve(windows)?;
+        self.bytes.reserve(bytes)
     }
 
     /// Copies the bytes `from..to` of a clone out, as the window behind the others.

@@ -1,79 +1,50 @@
-use Rattle.std.proofs.Common.{◌∙◌, ℕ, refl, sym, ap, arith, subst}
-use Rattle.offload_model.specs.Written.{Options}
-use Rattle.check_totals.specs.Counts.{HasLanes}
+use Rattle.std.proofs.Common.{refl, arith}
 use Rattle.rounds.specs.Merging.{options_of}
-use Rattle.check_rounds.specs.Checking.{AreOf}
-use Rattle.check_rounds.specs.declared.check.Step.TheVariants.{Goes, Ends}
-use Rattle.check_rounds.proofs.Counting.{ahead_none, goes_then, ends_then, taken_then, steps_as, start_within, start_lanes, end_within}
+use Rattle.round_pipeline.specs.Reads.{reader_at}
+use Rattle.check_rounds.specs.Beside.{Checked}
+use Rattle.check_rounds.proofs.Counted.{all_checked}
+use Rattle.check_rounds.proofs.Counting.{start_lanes, start_within}
+use Rattle.check_rounds.proofs.check.check_all.Given as given
 use Rattle.check_rounds.proofs.check.check_all.Goals as goal
+use Rattle.check_rounds.proofs.check.check_all.Goals.{After-handle_from}
 
-pub rounds-init : goal.rounds-init
-rounds-init g c =
-    let first = c.args.rounds.now in
-    record {
-      told = ahead_none first.blocks (options_of first) c.args.reader.now.place _ c.args.totals.now first.taken;
-      link = c.requires.link;
-      ready = c.requires.ready;
-      home = c.requires.home;
-      blocks = refl;
-      keep = c.requires.keep;
-      options = refl;
-      lanes = start_lanes (options_of first) c.args.totals.now c.requires.start;
-      within = start_within (options_of first) c.args.reader.now.place.number c.args.totals.now c.requires.start;
-      counted = omega arith;
-      same = refl;
-      least = omega arith;
-      later = omega arith;
-    }
+-- as one fact
+checked : (g : given.Over) (c : After-handle_from g)
+    → Checked c.args.rounds.now c.handle_from.new.rounds (reader_at g.S.Source.left g.S.Source.faults c.args.reader.now c.args.rounds.now.taken)
+    (reader_at g.S.Source.left g.S.Source.faults c.handle_from.new.reader c.handle_from.new.rounds.taken) c.args.totals.now c.handle_from.new.into c.handle_from.result
+checked g c =
+    all_checked c.args.rounds.now c.handle_from.new.rounds (reader_at g.S.Source.left g.S.Source.faults c.args.reader.now c.args.rounds.now.taken)
+    (reader_at g.S.Source.left g.S.Source.faults c.handle_from.new.reader c.handle_from.new.rounds.taken) c.args.totals.now c.handle_from.new.into c.handle_from.result refl refl c.requires.start
+    c.handle_from.ensures.handled
 
-pub rounds-preserved : goal.rounds-preserved
-rounds-preserved g c =
-    let l = c.rounds in
-    let i = l.invariant in
-    let s = c.in-Goes.ensures in
-    let m = c.count_next.ensures.moves c.in-Goes.is in
-    let first = c.args.rounds.now in
-    let new = c.count_next.new in
-    record {
-      told = goes_then first.blocks (options_of first) l.number c.args.reader.now.place l.reader.place new.reader.place _ _ _ c.args.totals.now l.totals new.totals first.taken l.rounds.taken
-          new.rounds.taken i.told
-          (steps_as l.number l.rounds.blocks first.blocks (options_of l.rounds) (options_of first) l.reader.place new.reader.place _ _ l.totals new.totals l.rounds.taken new.rounds.taken Goes i.blocks
-          i.options s.given);
-      link = m.link ∙ i.link;
-      ready = m.ready;
-      home = s.home;
-      blocks = s.same.0 ∙ i.blocks;
-      keep = s.same.2 ∙ i.keep;
-      options = s.same.1 ∙ i.options;
-      lanes = subst (λ (o : Options). HasLanes o new.totals) i.options s.lanes;
-      within = subst (λ (n : ℕ). AreOf n new.totals) (sym m.number) s.within;
-      counted = omega (arith, i.counted, m.more);
-      same = s.same_source ∙ i.same;
-      least = omega (arith, s.least, i.least);
-      later = omega (arith, s.later, i.later);
-    }
+pub returns-clause-given : goal.returns-clause-given
+returns-clause-given g c = (checked g c).given
 
-pub returns-in-Ends-clause-given : goal.returns-in-Ends-clause-given
-returns-in-Ends-clause-given g c =
-    let l = c.rounds in
-    let i = l.invariant in
-    let first = c.args.rounds.now in
-    let new = c.count_next.new in
-    ends_then first.blocks (options_of first) l.number c.args.reader.now.place l.reader.place new.reader.place _ _ _ c.args.totals.now l.totals new.totals first.taken l.rounds.taken new.rounds.taken
-    c.in-Ends.end i.told
-    (steps_as l.number l.rounds.blocks first.blocks (options_of l.rounds) (options_of first) l.reader.place new.reader.place _ _ l.totals new.totals l.rounds.taken new.rounds.taken
-    (Ends c.in-Ends.end) i.blocks i.options c.in-Ends.ensures.given)
+pub returns-clause-lanes : goal.returns-clause-lanes
+returns-clause-lanes g c = (checked g c).lanes
 
-pub returns-in-Ends-clause-within : goal.returns-in-Ends-clause-within
-returns-in-Ends-clause-within g c =
-    let l = c.rounds in
-    let i = l.invariant in
-    end_within l.reader.place.number l.rounds.budget c.count_next.new.totals i.ready.counted.few c.in-Ends.ensures.budget c.in-Ends.ensures.within
+pub returns-clause-within : goal.returns-clause-within
+returns-clause-within g c = (checked g c).within
 
-pub returns-in-Ends-clause-taken : goal.returns-in-Ends-clause-taken
-returns-in-Ends-clause-taken g c =
-    let l = c.rounds in
-    let first = c.args.rounds.now in
-    let new = c.count_next.new in
-    λ done. taken_then first.blocks (options_of first) l.number c.args.reader.now.place l.reader.place new.reader.place _ _ _ c.args.totals.now l.totals l.totals first.taken l.rounds.taken
-    new.rounds.taken l.invariant.told (c.in-Ends.ensures.taken done)
+pub returns-clause-home : goal.returns-clause-home
+returns-clause-home g c = (checked g c).home
+
+pub returns-clause-same : goal.returns-clause-same
+returns-clause-same g c = (checked g c).same
+
+pub returns-clause-taken : goal.returns-clause-taken
+returns-clause-taken g c = (checked g c).taken
+
+pub returns-clause-least : goal.returns-clause-least
+returns-clause-least g c = (checked g c).least
+
+pub returns-clause-later : goal.returns-clause-later
+returns-clause-later g c = (checked g c).later
+
+pub returns-clause-read : goal.returns-clause-read
+returns-clause-read g c = (checked g c).read
+
+pub handle_from-requires-clause-start : goal.handle_from-requires-clause-start
+handle_from-requires-clause-start g c =
+    let o = options_of c.args.rounds.now in
+    (0, omega arith, (c.requires.keep, start_lanes o c.args.totals.now c.requires.start, start_within o 0 c.args.totals.now c.requires.start))

@@ -1,8 +1,9 @@
-use Rattle.std.proofs.Common.{◌≡◌, ◌≤◌, ◌+◌, ◌-◌, length}
+use Rattle.std.proofs.Common.{◌≡◌, ◌≤◌, ◌+◌, ◌-◌, ◌++◌, List, length}
 use Rattle.pcap_io.specs.Places.{IsReady}
 use Rattle.pcap_io.specs.declared.heads.Link.TheVariants.{Ethernet}
 use Rattle.rtrb.specs.Ring.{sent, received, SameProducer}
-use Rattle.round_pipeline.specs.Parcels.{blocks_of, homes_of, shelved}
+use Rattle.rounds.specs.declared.round.RoundRead.{RoundRead}
+use Rattle.round_pipeline.specs.Parcels.{packets_of, rounds_of, blocks_of, homes_of, shelved}
 use Rattle.round_pipeline.specs.Reads.{spot, Reads}
 use Rattle.round_pipeline.proofs.Rows.{AllGo}
 use Rattle.round_pipeline.proofs.sides.read_side.Given as goal
@@ -13,15 +14,18 @@ invariant-loop g l = record {
   same : l.reader.source.ghost_name ≡ l.initial.reader.source.ghost_name;
   ready : IsReady l.reader.place;
   link : l.reader.place.link ≡ Ethernet;
+  more : List RoundRead;
+  is : rounds_of (sent l.supply.out) ≡ rounds_of (sent l.initial.supply.out) ++ more;
   reads : Reads l.initial.supply.intake.blocks l.initial.supply.intake.budget
-      (spot l.initial.reader.place (g.S.Source.left l.initial.reader.source.now) (g.S.Source.faults l.initial.reader.source.now) l.initial.supply.intake.taken) (sent l.supply.out)
+      (spot l.initial.reader.place (g.S.Source.left l.initial.reader.source.now) (g.S.Source.faults l.initial.reader.source.now) l.initial.supply.intake.taken) more
       (spot l.reader.place (g.S.Source.left l.reader.source.now) (g.S.Source.faults l.reader.source.now) l.supply.intake.taken);
-  go : AllGo (sent l.supply.out);
+  go : AllGo more;
   sum : l.supply.intake.home + blocks_of (sent l.supply.out) + (homes_of (received l.initial.supply.desk.tokens) - shelved l.initial.supply.desk.shelves.items)
-      ≡ l.initial.supply.intake.home + (homes_of (received l.supply.desk.tokens) - shelved l.supply.desk.shelves.items);
+      ≡ l.initial.supply.intake.home + blocks_of (sent l.initial.supply.out) + (homes_of (received l.supply.desk.tokens) - shelved l.supply.desk.shelves.items);
   blocks : l.supply.intake.blocks ≡ l.initial.supply.intake.blocks;
   budget : l.supply.intake.budget ≡ l.initial.supply.intake.budget;
-  number : l.number ≡ length (sent l.supply.out) + 1;
+  number : l.number ≡ length (rounds_of (sent l.supply.out));
+  packets : packets_of (rounds_of (sent l.supply.out)) ≤ l.reader.place.number;
   counted : l.number ≤ l.reader.place.number + 1;
   later : g.S.Source.faults l.initial.reader.source.now ≤ g.S.Source.faults l.reader.source.now;
 }

@@ -1,88 +1,45 @@
-use Rattle.std.proofs.Common.{◌≡◌, ℕ, List, ◌∷◌, length-set, set, ap, sym, subst, ◌∙◌, refl, arith}
-use Rattle.frags.specs.Account.{Tests}
-use Rattle.gro.specs.declared.packet.Packet.{Packet as Held}
-use Rattle.gro.specs.Held.{of_packets, counts_of, AreHeld}
-use Rattle.round_work.specs.Sharing.{EachFrom, IsSharing}
+use Rattle.std.proofs.Common.{◌≡◌, length, arith}
 use Rattle.round_work.specs.Work.{spread_of}
-use Rattle.round_work.proofs.Sharing.{empty_account, empty_counts, lane_count, share_stop, share_turn, stop_account, stop_counts, turn_account, turn_counts}
+use Rattle.round_work.proofs.Planned.{spread_below}
+use Rattle.round_work.proofs.Sharing.{gives_all, alone_all, alone_account, alone_counts, alone_shared}
 use Rattle.round_work.proofs.share.share_out.Goals as goal
 
-pub loop-packet-init : goal.loop-packet-init
-loop-packet-init c =
-    let n = spread_of c.args.plan.now in
-    let every = c.args.packets.now.items in
-    record {
-      size = refl;
-      shared = c.requires.open;
-      account = λ (t : Tests) (m : ℕ). let z = empty_account n every 0 c.args.lanes.now c.requires.open t m in (omega (arith, z.0), omega (arith, z.1));
-      counts = omega (arith, empty_counts n every 0 c.args.lanes.now c.requires.open);
-      held = c.requires.held;
-    }
+pub returns-then-plan-eq1-clause-shared : goal.returns-then-plan-eq1-clause-shared
+returns-then-plan-eq1-clause-shared c =
+    let plan = c.args.plan.now in
+    let ps = c.args.packets.now.items in
+    let ls = c.args.lanes.now in
+    let d = c.index-lanes-0.result in
+    let m = c.give_all.new.lane in
+    let e = c.give_all.ensures in
+    let one : length ls ≡ 1 = omega (arith, c.requires.queues, c.if-plan-eq1.true) in
+    alone_shared (spread_of plan) ps c.give_all.new.packets.items ls d m one (λ key. omega (arith, spread_below plan key c.requires.plan, c.if-plan-eq1.true)) c.requires.idle c.requires.open
+    (gives_all c.give_all.result ps c.give_all.new.packets.items c.args.count ls d m one c.requires.idle c.requires.count e.given e.list e.stays)
 
-pub take_in-requires : goal.take_in-requires
-take_in-requires c =
-    let l = c.loop-packet in
-    let k = lane_count (spread_of c.args.plan.now) c.args.packets.now.items l.packets.items 0 c.queue_for-queue.result l.lanes c.index-lanes-queue.result (omega arith) l.invariant.shared in
-    record { few = omega (arith, k, ap counts_of c.in-Some.ensures.items, l.invariant.counts, c.requires.few) }
+pub returns-then-plan-eq1-clause-account : goal.returns-then-plan-eq1-clause-account
+returns-then-plan-eq1-clause-account c =
+    let ps = c.args.packets.now.items in
+    let ls = c.args.lanes.now in
+    let d = c.index-lanes-0.result in
+    let m = c.give_all.new.lane in
+    let e = c.give_all.ensures in
+    let one : length ls ≡ 1 = omega (arith, c.requires.queues, c.if-plan-eq1.true) in
+    alone_account (spread_of c.args.plan.now) ps c.give_all.new.packets.items ls d m one c.requires.idle c.requires.open
+    (gives_all c.give_all.result ps c.give_all.new.packets.items c.args.count ls d m one c.requires.idle c.requires.count e.given e.list e.stays)
 
-pub returns-in-Err-clause-shared : goal.returns-in-Err-clause-shared
-returns-in-Err-clause-shared c =
-    let l = c.loop-packet in
-    let n = spread_of c.args.plan.now in
-    let every = c.args.packets.now.items in
-    let lanes = set l.lanes c.queue_for-queue.result c.take_in.new.lane in
-    let back = c.in-Err.ensures.back in
-    let rest = c.pop_front.new.self.items in
-    let same : l.packets.items ≡ c.push_front_reserved.new.self.items
-    = c.in-Some.ensures.items ∙ ap (λ (z : Held). z ∷ rest) (sym {A = Held} back.0) ∙ sym {A = List Held} c.push_front_reserved.ensures.items in
-    subst (λ (z : List Held). EachFrom (IsSharing n every z) 0 lanes) same
-    (share_stop n every l.packets.items 0 c.queue_for-queue.result l.lanes c.index-lanes-queue.result c.take_in.new.lane (omega arith) back.1 l.invariant.shared)
+pub returns-then-plan-eq1-clause-counts : goal.returns-then-plan-eq1-clause-counts
+returns-then-plan-eq1-clause-counts c =
+    let ps = c.args.packets.now.items in
+    let ls = c.args.lanes.now in
+    let d = c.index-lanes-0.result in
+    let m = c.give_all.new.lane in
+    let e = c.give_all.ensures in
+    let one : length ls ≡ 1 = omega (arith, c.requires.queues, c.if-plan-eq1.true) in
+    alone_counts (spread_of c.args.plan.now) ps c.give_all.new.packets.items ls d m one c.requires.idle c.requires.open
+    (gives_all c.give_all.result ps c.give_all.new.packets.items c.args.count ls d m one c.requires.idle c.requires.count e.given e.list e.stays)
 
-pub returns-in-Err-clause-account : goal.returns-in-Err-clause-account
-returns-in-Err-clause-account c = λ (t : Tests) (m : ℕ).
-    let l = c.loop-packet in
-    let back = c.in-Err.ensures.back in
-    let rest = c.pop_front.new.self.items in
-    let same : l.packets.items ≡ c.push_front_reserved.new.self.items
-    = c.in-Some.ensures.items ∙ ap (λ (z : Held). z ∷ rest) (sym {A = Held} back.0) ∙ sym {A = List Held} c.push_front_reserved.ensures.items in
-    let s = stop_account c.queue_for-queue.result l.lanes c.index-lanes-queue.result c.take_in.new.lane (omega arith) back.1 t m in
-    let i = l.invariant.account t m in
-    let h = ap (λ (z : List Held). (of_packets z).held t m) same in
-    let g = ap (λ (z : List Held). (of_packets z).homes t.blocks m) same in
-    (omega (arith, s.0, i.0, h), omega (arith, s.1, i.1, g))
-
-pub returns-in-Err-clause-counts : goal.returns-in-Err-clause-counts
-returns-in-Err-clause-counts c =
-    let l = c.loop-packet in
-    let back = c.in-Err.ensures.back in
-    let rest = c.pop_front.new.self.items in
-    let same : l.packets.items ≡ c.push_front_reserved.new.self.items
-    = c.in-Some.ensures.items ∙ ap (λ (z : Held). z ∷ rest) (sym {A = Held} back.0) ∙ sym {A = List Held} c.push_front_reserved.ensures.items in
-    let s = stop_counts c.queue_for-queue.result l.lanes c.index-lanes-queue.result c.take_in.new.lane (omega arith) back.1 in
-    omega (arith, s, ap counts_of same, l.invariant.counts)
-
-pub loop-packet-preserved : goal.loop-packet-preserved
-loop-packet-preserved c =
-    let l = c.loop-packet in
-    let n = spread_of c.args.plan.now in
-    let every = c.args.packets.now.items in
-    let p = c.in-Some.packet in
-    let rest = c.pop_front.new.self.items in
-    let q = c.queue_for-queue.result in
-    let d = c.index-lanes-queue.result in
-    let m = c.take_in.new.lane in
-    let taken = c.in_default-take_in.ensures.taken in
-    let e = c.in-Some.ensures.items in
-    record {
-      size = length-set l.lanes q m ∙ l.invariant.size;
-      shared = share_turn n every rest p 0 q l.lanes d m (omega (arith, c.queue_for-queue.ensures.queue)) (omega arith) taken (subst (λ (z : List Held). EachFrom (IsSharing n every z) 0 l.lanes) e
-          l.invariant.shared);
-      account = λ (t : Tests) (j : ℕ).
-          let s = turn_account q l.lanes d m p (omega arith) taken t j in
-          let i = l.invariant.account t j in
-          let h = ap (λ (z : List Held). (of_packets z).held t j) e in
-          let g = ap (λ (z : List Held). (of_packets z).homes t.blocks j) e in
-          (omega (arith, s.0, i.0, h), omega (arith, s.1, i.1, g));
-      counts = omega (arith, turn_counts q l.lanes d m p (omega arith) taken, ap counts_of e, l.invariant.counts);
-      held = (subst AreHeld e l.invariant.held).1;
-    }
+pub returns-then-plan-eq1-clause-all : goal.returns-then-plan-eq1-clause-all
+returns-then-plan-eq1-clause-all c =
+    let ls = c.args.lanes.now in
+    let one : length ls ≡ 1 = omega (arith, c.requires.queues, c.if-plan-eq1.true) in
+    alone_all c.give_all.result c.give_all.new.packets.items ls c.index-lanes-0.result one c.requires.idle c.give_all.ensures.list

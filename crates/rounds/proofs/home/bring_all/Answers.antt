@@ -7,14 +7,14 @@ use Rattle.rounds.proofs.home.bring_all.Goals as goal
 pub sweep-requires : goal.sweep-requires
 sweep-requires c =
     let o = of_outcomes c.args.out.now in
-    let w = both (of_packets c.args.packets.now.items) (of_work c.args.items.now.items c.args.lanes c.args.kept.items) in
+    let w = both (of_packets c.args.packets.now.items) (of_work c.args.lanes.now c.args.kept.items) in
     record { may = and_first o w c.args.pool.now c.args.places.now (may_open (both o w) c.args.pool.now c.args.places.now c.requires.open c.requires.room c.requires.round.marked) }
 
 pub bring_packets-requires-clause-may : goal.bring_packets-requires-clause-may
 bring_packets-requires-clause-may c =
     let o = of_outcomes c.args.out.now in
     let ps = of_packets c.args.packets.now.items in
-    let w = of_work c.args.items.now.items c.args.lanes c.args.kept.items in
+    let w = of_work c.args.lanes.now c.args.kept.items in
     let s = c.sweep in
     let may = may_open (both o (both ps w)) c.args.pool.now c.args.places.now c.requires.open c.requires.room c.requires.round.marked in
     and_first ps w s.new.pool s.new.places (and_rest o (both ps w) c.args.pool.now s.new.pool c.args.places.now s.new.places may s.ensures.comes)
@@ -23,7 +23,7 @@ pub bring_work-requires-clause-may : goal.bring_work-requires-clause-may
 bring_work-requires-clause-may c =
     let o = of_outcomes c.args.out.now in
     let ps = of_packets c.args.packets.now.items in
-    let w = of_work c.args.items.now.items c.args.lanes c.args.kept.items in
+    let w = of_work c.args.lanes.now c.args.kept.items in
     let s = c.sweep in
     let b = c.bring_packets in
     let may = may_open (both o (both ps w)) c.args.pool.now c.args.places.now c.requires.open c.requires.room c.requires.round.marked in
@@ -33,7 +33,7 @@ pub reopen-requires : goal.reopen-requires
 reopen-requires c =
     let o = of_outcomes c.args.out.now in
     let ps = of_packets c.args.packets.now.items in
-    let w = of_work c.args.items.now.items c.args.lanes c.args.kept.items in
+    let w = of_work c.args.lanes.now c.args.kept.items in
     let s = c.sweep in
     let b = c.bring_packets in
     let e = c.bring_work in
@@ -49,7 +49,7 @@ pub returns-clause-home : goal.returns-clause-home
 returns-clause-home c =
     let o = of_outcomes c.args.out.now in
     let ps = of_packets c.args.packets.now.items in
-    let w = of_work c.args.items.now.items c.args.lanes c.args.kept.items in
+    let w = of_work c.args.lanes.now c.args.kept.items in
     let s = c.sweep in
     let b = c.bring_packets in
     let e = c.bring_work in

@@ -1,4 +1,4 @@
-use Rattle.std.proofs.Common.{◌≡◌, [], ◌∙◌, refl, arith, rules}
+use Rattle.std.proofs.Common.{◌≡◌, [], arith, rules}
 use Rattle.gro.specs.Items.{of_item}
 use Rattle.gro.specs.Table.{of_items}
 use Rattle.rounds.proofs.Coming.{items_pop, blocks_pop, no_items, may_rest, may_first, comes_none, comes_step, comes_all}
@@ -9,7 +9,6 @@ loop-item-init c = record {
   comes = comes_none (of_items c.args.items.now.items) c.args.pool.now c.args.places.now c.requires.may;
   bare = c.requires.bare;
   room = c.requires.spare;
-  merging = refl;
   spare = omega arith;
 }
 
@@ -36,7 +35,6 @@ loop-item-preserved c =
           (items_pop l.items.items rest c.in-Some.item c.in-Some.ensures.items) l.invariant.comes e.ensures.comes;
       bare = e.ensures.bare;
       room = omega (arith, k, e.ensures.spare, l.invariant.room);
-      merging = c.keep.ensures.same ∙ l.invariant.merging;
       spare = omega (arith, k, e.ensures.spare, l.invariant.spare);
     }
 

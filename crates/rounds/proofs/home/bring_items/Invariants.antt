@@ -1,4 +1,4 @@
-use Rattle.std.proofs.Common.{◌≡◌, ◌+◌, ◌≤◌, length}
+use Rattle.std.proofs.Common.{◌+◌, ◌≤◌, length}
 use Rattle.gro.specs.Table.{of_items}
 use Rattle.rounds.specs.Held.{blocks_in_items}
 use Rattle.frags.specs.OutcomesState.{IsBare}
@@ -10,7 +10,6 @@ invariant-loop-item l = record {
   comes : Comes (of_items l.fn.items.items) (of_items l.items.items) l.fn.pool l.fn.places l.pool l.places;
   bare : IsBare l.out;
   room : blocks_in_items l.items.items ≤ l.out.spare;
-  merging : l.merging ≡ l.fn.merging;
   spare : l.fn.out.spare + blocks_in_items l.items.items ≤ l.out.spare + blocks_in_items l.fn.items.items;
 }
 

@@ -1,17 +1,16 @@
-use Rattle.std.proofs.Common.{◌+◌, ◌≤◌, length}
-use Rattle.round_work.specs.Lanes.{of_queues}
-use Rattle.round_work.specs.Lanes.{counts_of_queues}
+use Rattle.std.proofs.Common.{◌+◌, ◌≤◌, drop}
 use Rattle.frags.specs.OutcomesState.{IsBare}
+use Rattle.round_work.specs.declared.lanes.QueueLane.{QueueLane}
+use Rattle.round_work.specs.Lanes.{of_queues, counts_of_queues, IsIdleQueue}
+use Rattle.round_work.proofs.Listing.{DidUpTo}
 use Rattle.rounds.specs.Table.{Comes}
 use Rattle.rounds.proofs.lane_home.bring_queues.Given as goal
 
-abbrev pub invariant-loop-lane : goal.invariant-loop-lane
-invariant-loop-lane l = record {
-  comes : Comes (of_queues l.fn.queues.items) (of_queues l.queues.items) l.fn.pool l.fn.places l.pool l.places;
+abbrev pub invariant-loop-i : goal.invariant-loop-i
+invariant-loop-i l = record {
+  comes : Comes (of_queues l.fn.lanes) (of_queues (drop l.i l.fn.lanes)) l.fn.pool l.fn.places l.pool l.places;
+  idle : DidUpTo (λ (old new : QueueLane). IsIdleQueue new) l.i l.fn.lanes l.lanes;
   bare : IsBare l.out;
-  room : counts_of_queues l.queues.items ≤ l.out.spare;
-  spare : l.fn.out.spare + counts_of_queues l.queues.items ≤ l.out.spare + counts_of_queues l.fn.queues.items;
+  room : counts_of_queues (drop l.i l.fn.lanes) ≤ l.out.spare;
+  spare : l.fn.out.spare + counts_of_queues (drop l.i l.fn.lanes) ≤ l.out.spare + counts_of_queues l.fn.lanes;
 }
-
-abbrev pub decreases-loop-lane : goal.decreases-loop-lane
-decreases-loop-lane l = length l.queues.items

@@ -16,7 +16,7 @@ loop-clone-preserved c =
     let e = c.in-Some.ensures.items in
     let i = c.loop-clone.invariant in
     let n = ap blocks_of e ∙ blocks_of-append c.pop.new.self.items (c.in-Some.clone ∷ []) in
-    let all = blocks_of c.args.clones.items in
+    let all = blocks_of c.args.clones.now.items in
     let left = blocks_of c.loop-clone.clones.items in
     let one = length c.in-Some.clone.skb.rest + 1 in
     record {
@@ -27,6 +27,6 @@ loop-clone-preserved c =
           (omega (arith, n, i.fewer));
       places = omega (arith, n, i.places, c.release.ensures.places, i.fewer);
       kept =
-          keeps_pop (both (of_clones c.args.clones.items) (of_outcomes c.args.out.now)) c.in-Some.clone c.loop-clone.clones.items c.pop.new.self.items
+          keeps_pop (both (of_clones c.args.clones.now.items) (of_outcomes c.args.out.now)) c.in-Some.clone c.loop-clone.clones.items c.pop.new.self.items
           c.loop-clone.out c.release.new.out e i.kept c.release.ensures.kept;
     }

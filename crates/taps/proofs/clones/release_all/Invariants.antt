@@ -6,10 +6,10 @@ use Rattle.taps.proofs.clones.release_all.Given as goal
 
 abbrev pub invariant-loop-clone : goal.invariant-loop-clone
 invariant-loop-clone l = record {
-  fewer : blocks_of l.clones.items ≤ blocks_of l.initial.clones.items;
-  grows : Grows (blocks_of l.initial.clones.items - blocks_of l.clones.items) l.initial.out l.out;
-  places : l.initial.out.spare + blocks_of l.clones.items ≤ l.out.spare + blocks_of l.initial.clones.items;
-  kept : Keeps (both (of_clones l.initial.clones.items) (of_outcomes l.initial.out)) (both (of_clones l.clones.items) (of_outcomes l.out));
+  fewer : blocks_of l.clones.items ≤ blocks_of l.fn.clones.items;
+  grows : Grows (blocks_of l.fn.clones.items - blocks_of l.clones.items) l.fn.out l.out;
+  places : l.fn.out.spare + blocks_of l.clones.items ≤ l.out.spare + blocks_of l.fn.clones.items;
+  kept : Keeps (both (of_clones l.fn.clones.items) (of_outcomes l.fn.out)) (both (of_clones l.clones.items) (of_outcomes l.out));
 }
 
 abbrev pub decreases-loop-clone : goal.decreases-loop-clone

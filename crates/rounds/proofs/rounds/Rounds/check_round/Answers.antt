@@ -50,7 +50,7 @@ check_lanes-requires-clause-queues c =
     let is = kept_by c.args.self.now.plan plan o.budget r.0 _ (ap (λ (s : RoundsState). s.plan) c.self.view_is) (subst (IsKeptWorkOf o r.0) (sym c.worked.view_is) r.1.0) in
     let own = options_by plan o.budget in
     let n = queues_are own r.0 _ is in
-    let range = c.self.invariant.12.0 in
+    let range = c.self.invariant.11.0 in
     (omega (arith, n, range.0), omega (arith, n, range.1))
 
 pub check_lanes-requires-clause-lanes : goal.check_lanes-requires-clause-lanes
@@ -76,7 +76,7 @@ pub returns : goal.returns
 returns c =
     let o = options_of c.args.self.now in
     let plan = c.args.self.now.plan in
-    let is_plan : IsPlan plan = subst IsPlan (ap (λ (s : RoundsState). s.plan) c.self.view_is) c.self.invariant.12 in
+    let is_plan : IsPlan plan = subst IsPlan (ap (λ (s : RoundsState). s.plan) c.self.view_is) c.self.invariant.11 in
     record {
       totals = λ ps kept.
           let is = subst (IsKeptWorkOf o ps) (sym c.worked.view_is) kept in

@@ -6,7 +6,7 @@ use Rattle.rounds.specs.Kept.{IsKept}
 use Rattle.rounds.specs.RoundsState.{RoundsState, RoundState}
 use Rattle.rounds.specs.declared.lane_work.Kept.{Kept}
 use Rattle.rounds.proofs.Keeping.{are_held, are_kept, round_kept, weigh_full}
-use Rattle.rounds.proofs.LaneCounts.{lanes_empty}
+use Rattle.round_work.proofs.Idle.{idle_counts, idle_lanes}
 use Rattle.rounds.proofs.Taking.{fresh_round}
 use Rattle.rounds.proofs.Working.{are_shared}
 use Rattle.rounds.proofs.rounds.Rounds.keep_round.Goals as goal
@@ -25,8 +25,19 @@ bring_back-requires-clause-round c =
     let r = c.round.inside in
     let k = c.keep_if in
     let ps = of_packets r.packets.items in
-    round_kept r.blocks ps (of_packets k.new.packets.items) (of_lanes c.no_lanes.result) (of_clones k.new.kept.items) k.ensures.kept (lanes_empty c.no_lanes.result c.no_lanes.ensures.none)
+    round_kept r.blocks ps (of_packets k.new.packets.items) (of_lanes c.take_lanes-lanes.result) (of_clones k.new.kept.items) k.ensures.kept
+    (idle_lanes c.take_lanes-lanes.result c.take_lanes-lanes.ensures.idle)
     (fresh_round r.blocks ps c.round.invariant.0)
+
+pub bring_back-requires-clause-counts : goal.bring_back-requires-clause-counts
+bring_back-requires-clause-counts c =
+    omega (
+      arith,
+      c.round.invariant.2,
+      c.in-Err.ensures.after.counts,
+      c.in-Err.ensures.fewer,
+      idle_counts c.take_lanes-lanes.result.queues.items c.take_lanes-lanes.ensures.idle.0,
+    )
 
 pub returns-in-Ok-clause-kept : goal.returns-in-Ok-clause-kept
 returns-in-Ok-clause-kept c =

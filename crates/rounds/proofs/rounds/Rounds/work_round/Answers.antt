@@ -11,16 +11,16 @@ use Rattle.rounds.proofs.rounds.Rounds.work_round.Goals as goal
 pub settle-requires-clause-lanes : goal.settle-requires-clause-lanes
 settle-requires-clause-lanes g c =
     let k = c.in_ok-kept.kept in
-    let w = c.work_packets-lanes in
+    let w = c.work_packets-done in
     let j : Kept = record k { packets = w.new.packets } in
-    settles c.args.self.now.keep (map packet_of c.args.round.packets) c.args.round.blocks c.self.inside.plan k j c.self.invariant.12 c.in_ok-kept.ensures.kept refl refl w.result w.ensures.lanes
-    w.ensures.windows w.ensures.all w.ensures.kept w.ensures.count w.ensures.clones
+    settles c.args.self.now.keep (map packet_of c.args.round.packets) c.args.round.blocks c.self.inside.plan k j c.self.invariant.11 c.in_ok-kept.ensures.kept refl refl w.result w.new.lanes
+    w.ensures.lanes w.ensures.windows w.ensures.all w.ensures.kept w.ensures.count w.ensures.clones
 
 pub returns-clause-checked : goal.returns-clause-checked
 returns-clause-checked g c = λ keep.
     let k = c.in_ok-kept.kept in
-    let w = c.work_packets-lanes in
+    let w = c.work_packets-done in
     let ps = map packet_of c.args.round.packets in
-    subst (λ (s : RoundsState). IfOk c.settle.result (IsKeptWorkOf (options_of s) ps)) (c.self.view_is ∙ c.in_ok-kept.ensures.same)
-    (kept_work c.self.inside.plan c.self.inside.budget c.args.round.blocks c.args.self.now.keep ps k w.result c.settle.result keep c.in_ok-kept.ensures.kept w.ensures.lanes w.ensures.windows
-    w.ensures.ready w.ensures.weigh c.settle.ensures.worked)
+    subst (λ (s : RoundsState). IfOk c.settle.result (IsKeptWorkOf (options_of s) ps)) (c.self.view_is ∙ c.take_lanes-lanes.ensures.same ∙ c.in_ok-kept.ensures.same)
+    (kept_work c.self.inside.plan c.self.inside.budget c.args.round.blocks c.args.self.now.keep ps k w.result w.new.lanes c.settle.result keep c.in_ok-kept.ensures.kept w.ensures.lanes
+    w.ensures.windows w.ensures.ready w.ensures.weigh c.settle.ensures.worked)
