@@ -10,7 +10,7 @@
 //! `err`, `cause`); a [`MadeSource`] gives just these bytes, takes no memory and never fails; [`made_len`] is their
 //! number; and the capture reads to its end with as many records as were wanted ([`made_reads_back`]).
 //!
-//! ```text
+//! ```
 //! make_capture(1, 1000, &mut sink)?;
 //! let mut source = MadeSource::new(1, 1000);
 //! ```

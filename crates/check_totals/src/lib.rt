@@ -9,6 +9,12 @@
 //! [`write_totals`] appends just the lines, or a front of them where the sink failed (clauses `ok`, `err`, `cause`);
 //! and counting goes round by round ([`counting_goes_by_round`], [`totals_add_up`]).
 //!
+//! ```
+//! let mut all = Totals::make(alloc, 1, 0)?;
+//! all.add(&round);
+//! write_totals(&mut sink, &all)?;
+//! ```
+//!
 //! ```text
 //! queue 0: records 2 items 1 merged 1 returned 2
 //! total: records 2 items 1 merged 1 returned 2

@@ -24,6 +24,15 @@
 //! whoever did it and in whatever order. Only tested: that several run at once. Not said: that a thread runs or is
 //! woken; who asks runs tasks itself while it waits, so a run ends without any runner.
 //!
+//! ```
+//! let (desk, mut asker) = Errands::open(alloc, 8)?;
+//! let mut runner = desk.enlist(&mut asker); // another thread may have it
+//! desk.ask(&rt, &mut asker, 7u64);
+//! if let Some((task, note)) = desk.take(&rt, &mut runner) {
+//!     done = Some((desk.redeem(&mut asker, note), task)); // (0, 7): the first task was 7
+//! }
+//! ```
+//!
 //! Tests: `buffer_tests`, module `desk`.
 //!
 //! Why so:

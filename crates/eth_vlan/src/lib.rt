@@ -5,9 +5,12 @@
 //! (`field`). Whether a tag follows is said by the type before it: [`is_tag`].
 //!
 //! ```
-//! let Some(ethernet) = EthView::read(frame, 0) else { return None; };
-//! if is_tag(ethernet.ether_type()) {
-//!     return TagView::read(frame, 14);
+//! let mut vlan = None;
+//! if let Some(ethernet) = EthView::read(frame, 0)
+//!     && is_tag(ethernet.ether_type())
+//!     && let Some(tag) = TagView::read(frame, 14)
+//! {
+//!     vlan = Some(tag.tci() & 0x0fff);
 //! }
 //! ```
 //!

@@ -20,9 +20,16 @@
 //!
 //! ```
 //! let mut pieces = Pieces::new(alloc);
-//! pieces.append(sole.share(), 64, 1500)?;
-//! let mut clone = pieces.share()?;
-//! clone.cut_front(14, &mut outcomes)?;
+//! if let Err((part, _)) = pieces.append(sole.share(), 64, 1500) {
+//!     outcomes.give_back(part);
+//! }
+//! if let Ok(mut clone) = pieces.share() {
+//!     if clone.cut_front(14, &mut outcomes).is_ok() {
+//!         len = clone.len(); // 1422
+//!     }
+//!     clone.release(&mut outcomes);
+//! }
+//! pieces.release(&mut outcomes);
 //! ```
 //!
 //! Its parts: `Outcomes` keeps what was given back, in places that were reserved before, and grows at its end alone

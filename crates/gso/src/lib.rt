@@ -1,6 +1,6 @@
 //! Merged frames that lie in buffers, cut back into packets.
 //!
-//! [`check_super`] tests a whole record: its 12-byte offload header, and the frame behind it, which lies in a buffer.
+//! [`check_super`] tests a whole record: its offload header, and the frame behind it, which lies in a buffer.
 //! Each byte of the payload is read once, and the sums of the segments are kept in the [`Plan`]. A [`Cutter`] then
 //! gives the packets that the record stands for, one by one: each a buffer whose head is a spare's block with the
 //! headers, and whose payload are pieces of the record's own blocks. No byte but the headers' is copied.
@@ -11,15 +11,23 @@
 //! no weight is lost (`account`).
 //!
 //! ```
-//! let plan = check_super(&head, &skb, original)?;
-//! let mut cutter = Cutter::start(skb, plan);
-//! loop {
-//!     match cutter.next(pool.take()?)? {
-//!         Cut::Segment(segment) => write(&segment),
-//!         Cut::Done(spare) => break pool.put(spare),
+//! match check_super(&head, &skb, original) {
+//!     Ok(plan) => {
+//!         let mut cutter = Cutter::start(skb, plan);
+//!         while let Some(spare) = spares.pop() {
+//!             match cutter.next(spare) {
+//!                 Ok(Cut::Segment(segment)) => {
+//!                     len = len.wrapping_add(segment.len());
+//!                     segment.release(&mut outcomes);
+//!                 }
+//!                 Ok(Cut::Done(spare)) => outcomes.keep_sole(spare),
+//!                 Err((spare, _)) => outcomes.keep_sole(spare),
+//!             }
+//!         }
+//!         cutter.release(&mut outcomes);
 //!     }
+//!     Err(_) => skb.release(&mut outcomes),
 //! }
-//! cutter.release(&mut outcomes);
 //! ```
 //!
 //! Its parts: `sums` (the sums of a payload's segments, taken as its bytes come in pieces), `judging` (`check_super`),

@@ -17,6 +17,8 @@ mod encapsulated;
 #[cfg(test)]
 mod ethernet;
 #[cfg(test)]
+mod examples;
+#[cfg(test)]
 mod filling;
 #[cfg(test)]
 mod filters;

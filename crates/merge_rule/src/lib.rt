@@ -10,8 +10,9 @@
 //! to the merged frame, and `proofs/Steps` to the runs of all flows.
 //!
 //! ```
-//! if progress.is_open && is_next(layout, first, first_len, count, &progress, next, next_len) {
-//!     progress = next_progress(layout, first, first_len, count - 1, &progress, next, next_len);
+//! let mut progress = first_progress(layout, first, first.len());
+//! if progress.is_open && is_next(layout, first, first.len(), 1, &progress, next, next.len()) {
+//!     progress = next_progress(layout, first, first.len(), 0, &progress, next, next.len());
 //! }
 //! ```
 //!

@@ -1,4 +1,4 @@
 //! Windows of packets in a head and pieces, of packets that change meanwhile, and the gate.
 mod changes;
-mod packets;
+pub mod packets;
 mod windows;

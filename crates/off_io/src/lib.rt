@@ -10,9 +10,12 @@
 //! the calls that they were told (`fails`). Trusted: that std's readers and writers behind [`StdSource`] and
 //! [`StdSink`] do as they say.
 //!
-//! ```text
-//! let mut source = StdSource::new(rt.stdin());
-//! let count = read_full(&mut source, &mut header)?;
+//! ```
+//! let mut source = StdSource::new(bytes); // or standard input
+//! let mut sink = StdSink::new(room.as_mut_slice()); // or standard output
+//! let mut magic = [0; 4];
+//! let count = read_full(&mut source, &mut magic)?;
+//! write_all(&mut sink, &magic[..count])?;
 //! ```
 //!
 //! Tests: `header_tests`, module `sources`.

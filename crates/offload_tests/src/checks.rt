@@ -9,38 +9,48 @@ use pcap_io::{CapFault, CapKind};
 use std::alloc::{AllocError, Global};
 use std::test::Fail;
 
-const BOTH: &str =
-    "queue 0: records 2 items 1 merged 1 returned 2\ntotal: records 2 items 1 merged 1 returned 2\n";
+const BOTH: &str = "queue 0: records 2 items 1 merged 1 returned 2\n\
+    total: records 2 items 1 merged 1 returned 2\n";
 
 // Each packet in a round of its own.
-const APART: &str =
-    "queue 0: records 2 items 2 merged 0 returned 2\ntotal: records 2 items 2 merged 0 returned 2\n";
+const APART: &str = "queue 0: records 2 items 2 merged 0 returned 2\n\
+    total: records 2 items 2 merged 0 returned 2\n";
 
-const FIRST: &str =
-    "queue 0: records 1 items 1 merged 0 returned 1\ntotal: records 1 items 1 merged 0 returned 1\n";
+const FIRST: &str = "queue 0: records 1 items 1 merged 0 returned 1\n\
+    total: records 1 items 1 merged 0 returned 1\n";
 
-const NONE: &str =
-    "queue 0: records 0 items 0 merged 0 returned 0\ntotal: records 0 items 0 merged 0 returned 0\n";
+const NONE: &str = "queue 0: records 0 items 0 merged 0 returned 0\n\
+    total: records 0 items 0 merged 0 returned 0\n";
 
 // By queues and taps, in two rounds.
-const LANES: &str =
-    "queue 0: records 4 items 2 merged 2 returned 4\nqueue 1: records 4 items 2 merged 2 returned 4\ntap 0: windows 8 bytes 512\ntap 1: windows 8 bytes 512\ntotal: records 8 items 4 merged 4 returned 8\n";
+const LANES: &str = "queue 0: records 4 items 2 merged 2 returned 4\n\
+    queue 1: records 4 items 2 merged 2 returned 4\n\
+    tap 0: windows 8 bytes 512\n\
+    tap 1: windows 8 bytes 512\n\
+    total: records 8 items 4 merged 4 returned 8\n";
 
 // Of a queue that no packet goes to, and of taps whose second windows are shorter.
-const IDLE: &str =
-    "queue 0: records 2 items 1 merged 1 returned 2\nqueue 1: records 0 items 0 merged 0 returned 0\ntap 0: windows 2 bytes 128\ntap 1: windows 2 bytes 72\ntotal: records 2 items 1 merged 1 returned 2\n";
+const IDLE: &str = "queue 0: records 2 items 1 merged 1 returned 2\n\
+    queue 1: records 0 items 0 merged 0 returned 0\n\
+    tap 0: windows 2 bytes 128\n\
+    tap 1: windows 2 bytes 72\n\
+    total: records 2 items 1 merged 1 returned 2\n";
 
 // Of taps that are shown 40 bytes of each packet.
-const SHOWN: &str =
-    "queue 0: records 2 items 1 merged 1 returned 2\ntap 0: windows 2 bytes 80\ntap 1: windows 0 bytes 0\ntotal: records 2 items 1 merged 1 returned 2\n";
+const SHOWN: &str = "queue 0: records 2 items 1 merged 1 returned 2\n\
+    tap 0: windows 2 bytes 80\n\
+    tap 1: windows 0 bytes 0\n\
+    total: records 2 items 1 merged 1 returned 2\n";
 
 // Of a table that has the second queue alone.
-const SECOND: &str =
-    "queue 0: records 0 items 0 merged 0 returned 0\nqueue 1: records 2 items 1 merged 1 returned 2\ntotal: records 2 items 1 merged 1 returned 2\n";
+const SECOND: &str = "queue 0: records 0 items 0 merged 0 returned 0\n\
+    queue 1: records 2 items 1 merged 1 returned 2\n\
+    total: records 2 items 1 merged 1 returned 2\n";
 
 // Of a generated capture: a source that fails at its first call is never asked.
-const MADE: &str =
-    "made: records 1 bytes 1344\nqueue 0: records 1 items 1 merged 0 returned 1\ntotal: records 1 items 1 merged 0 returned 1\n";
+const MADE: &str = "made: records 1 bytes 1344\n\
+    queue 0: records 1 items 1 merged 0 returned 1\n\
+    total: records 1 items 1 merged 0 returned 1\n";
 
 // Two frames of 1,514 bytes, which need three blocks each.
 fn full_frames(alloc: Global) -> Result<Vec<u8>, AllocError> {

@@ -14,6 +14,8 @@ mod checks;
 #[cfg(test)]
 mod datagrams;
 #[cfg(test)]
+mod examples;
+#[cfg(test)]
 mod failing;
 #[cfg(test)]
 mod hostile;

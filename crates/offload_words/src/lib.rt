@@ -9,10 +9,12 @@
 //! `Usage` only for a line with a fault or a text that is refused (`usage`, `no_command`).
 //! `every_faultless_line_is_a_command` carries the law that there is no other kind of line.
 //!
-//! ```text
-//! let command = parse_words(alloc, words)?;   // offload merge --budget 16 --filter "1,6 0 0 40"
-//! // Command::Merge(MergeOptions { queues: 1, budget: 16, blocks: 8384, taps: 0, snap: 64, segs: 4096,
-//! //     choice: Choice::Fold, filter: the program of one instruction, whose value is 40 })
+//! ```
+//! // offload merge --budget 16 --filter "1,6 0 0 40"
+//! let budget = match parse_words(alloc, words)? {
+//!     Command::Merge(options) => options.budget, // 16
+//!     _ => 0,
+//! };
 //! ```
 //!
 //! Its parts: `commands` tells clap the command set, `merge`, `segment`, `check` and `make` have a subcommand each,

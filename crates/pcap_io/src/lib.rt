@@ -11,7 +11,7 @@
 //! the definitions, each on a function: what is written is read back, and a capture is the longest list of its whole
 //! lawful records, spelled out, in one way alone ([`capture_splits`], [`split_is_unique`]).
 //!
-//! ```text
+//! ```
 //! let mut reader = CaptureReader::start(&mut feed, Link::Ethernet)?;
 //! while let Some(head) = reader.next_head()? {
 //!     reader.read_body(&mut frame[..head.captured as usize])?;

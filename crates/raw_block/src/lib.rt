@@ -24,10 +24,14 @@
 //! let mut sole = Sole::new(alloc)?;
 //! sole.bytes_mut()[0] = 1;
 //! let mut part = sole.share();
-//! let other = part.split(1 << 50); // read by another thread
+//! let other = part.split(1 << 50); // another thread may read it
+//! let byte = other.bytes()[0]; // 1
 //! match other.release() {
-//!     Released::Left(receipt) => sole = part.reunite(receipt),
-//!     Released::Last(_) => ..
+//!     Released::Left(receipt) => alone = Some(part.reunite(receipt)),
+//!     Released::Last(_) => match part.release() {
+//!         Released::Left(receipt) => receipt.close(),
+//!         Released::Last(sole) => alone = Some(sole),
+//!     },
 //! }
 //! ```
 //!

@@ -12,9 +12,16 @@
 //!
 //! ```
 //! let mut machine = WeightMachine::make(alloc, 1)?;
-//! machine.step(Event::Take { block: 0, holder: 1 })?; // Done
-//! machine.step(Event::Share { holder: 1, fresh: 2, give: 5 })?; // Done
-//! machine.step(Event::GiveBack { holder: 2 })?; // Left
+//! machine.step(Event::Take {
+//!     block: 0,
+//!     holder: 1,
+//! })?; // Done
+//! machine.step(Event::Share {
+//!     holder: 1,
+//!     fresh: 2,
+//!     give: 5,
+//! })?; // Done
+//! let answer = machine.step(Event::GiveBack { holder: 2 })?; // Left
 //! ```
 //!
 //! Tests: `buffer_tests`, module `machines`.

@@ -1,15 +1,16 @@
 //! Rounds that are worked over queues and taps, with threads and without. The expected bytes were computed by a
 //! separate program.
-ghost use Rattle.std.specs.Prelude.{◌≤◌};
+ghost use Rattle.std.specs.Prelude.{◌≡◌, ◌+◌, ◌≤◌, IfOk};
 ghost use Rattle.round_work.specs.Work.{IsPlan};
 
+use crate::merging::WRITTEN;
 use crate::plans::{chosen, hash, plain};
 use crate::working::frames::IN_TURN;
 use off_io::{Feed, MemSink, MemSource, NoGate};
-use pcap_io::{CaptureReader, Link};
+use pcap_io::{CaptureReader, FileHead, Link, Order};
 use round_pipeline::merge_beside;
 use round_work::{Alone, Plan};
-use rounds::{MergeEnd, Rounds};
+use rounds::{MergeEnd, RoundRead, Rounds, Worked};
 use std::alloc::{AllocError, Global};
 use std::sync::Wait;
 use std::test::Fail;
@@ -145,5 +146,67 @@ fn runs_and_windows_by_choice(rt: HostRuntime) -> Result<(), Fail> {
     let (end, written, home) = merged(&rt, alloc, &capture, 5, plan, false, true)?;
     assert_eq!(rt; (end, home), (MergeEnd::Done, 15));
     assert_eq!(rt; (written.len(), hash(&written)), (1390, 1447372596));
+    Ok(())
+}
+
+// The two records of a capture, read and worked.
+fn worked_in(alloc: Global, rounds: &mut Rounds) -> Result<Worked, Fail>
+    requires home { rounds.old.home ≡ rounds.old.blocks }
+    ensures out { IfOk result (λ worked. rounds.new.home + worked.blocks ≡ rounds.old.blocks) }
+    ensures blocks { rounds.new.blocks ≡ rounds.old.blocks }
+{
+    let mut feed = Feed {
+        inner: MemSource::new(TWO_RECORDS.to_vec(alloc)?, 24, Vec::new(alloc)),
+    };
+    let mut reader = match CaptureReader::start(&mut feed, Link::Ethernet) {
+        Ok(reader) => reader,
+        Err(_) => return Err(Fail::from("the file header is lawful")),
+    };
+    let RoundRead { round, end: _ } = rounds.read_round(&mut reader);
+    Ok(rounds.work_round(&mut Alone { gate: &NoGate }, round)?)
+}
+
+// What is written of them.
+fn written_in(alloc: Global, rounds: &mut Rounds) -> Result<Vec<u8>, Fail>
+    requires home { rounds.old.home ≡ rounds.old.blocks }
+{
+    let file = FileHead {
+        order: Order::Little,
+        nanos: false,
+        zone: 0,
+        sigfigs: 0,
+    };
+    let mut sink = MemSink::new(alloc, 64, Vec::new(alloc));
+    let worked = worked_in(alloc, rounds)?;
+    let written = rounds.write_round(&worked, &file, &mut sink);
+    rounds.end_round(worked);
+    if written.is_err() {
+        return Err(Fail::from("all is written"));
+    }
+    Ok(sink.bytes().to_vec(alloc)?)
+}
+
+/// Rounds that end each other's round have lanes of another plan for the next one, and write what they would have.
+#[test]
+fn lanes_of_another_plan(rt: HostRuntime) -> Result<(), Fail> {
+    let alloc = rt.alloc();
+    let mut one = Rounds::make(alloc, 6, 2, plain(1, 0, 64), false)?;
+    let mut other = Rounds::make(alloc, 6, 2, plain(1, 2, 1), false)?;
+    let of_one = worked_in(alloc, &mut one)?;
+    let of_other = match worked_in(alloc, &mut other) {
+        Ok(worked) => worked,
+        Err(error) => {
+            one.end_round(of_one);
+            return Err(error);
+        }
+    };
+    assert_eq!(rt; (one.home(), other.home()), (0, 0));
+    one.end_round(of_other);
+    other.end_round(of_one);
+    assert_eq!(rt; (one.home(), other.home()), (6, 6));
+    let written = written_in(alloc, &mut one)?;
+    assert_eq!(rt; written.as_slice(), WRITTEN.as_slice());
+    let written = written_in(alloc, &mut other)?;
+    assert_eq!(rt; written.as_slice(), WITH_WINDOWS.as_slice());
     Ok(())
 }

@@ -10,6 +10,8 @@ mod ahead;
 #[cfg(test)]
 mod checking;
 #[cfg(test)]
+mod examples;
+#[cfg(test)]
 mod halting;
 #[cfg(test)]
 mod lanes;

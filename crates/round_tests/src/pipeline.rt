@@ -5,7 +5,7 @@ ghost use Rattle.std.specs.Prelude.{◌≤◌};
 
 use crate::halting::{Dice, Halting, HaltingGate};
 use crate::plans::plain;
-use off_io::{Feed, Gate, Meeting, MemSink, MemSource, NoGate, Sink, Source, Who};
+use off_io::{Failed, Feed, Gate, Meeting, MemSink, MemSource, NoGate, Sink, Source, Who};
 use pcap_io::{CaptureReader, Link};
 use round_pipeline::merge_beside;
 use round_work::Alone;
@@ -13,7 +13,7 @@ use rounds::{MergeEnd, Rounds};
 use std::alloc::{AllocError, Global};
 use std::sync::Wait;
 use std::test::Fail;
-use std::thread::Threads;
+use std::thread::{Threads, available_parallelism};
 use worked_captures::TWO_FLOWS;
 
 // The four records again and again, each four in a second of its own.
@@ -340,5 +340,62 @@ fn lanes_meet(rt: HostRuntime) -> Result<(), Fail> {
     assert_eq!(rt; met(&rt, alloc, four, Who::Worker(1), Who::Tap(0))?, 4);
     assert_eq!(rt; met(&rt, alloc, one, Who::Worker(0), Who::Tap(1))?, 10);
     assert_eq!(rt; met(&rt, alloc, one, Who::Tap(0), Who::Tap(1))?, 10);
+    Ok(())
+}
+
+// Passes a gate as a tap that isn't there, at its first read past the first record.
+#[derive(Drop)]
+struct Passing<'a> {
+    source: MemSource,
+    reads: u32,
+    gate: &'a Meeting,
+}
+
+impl Source for Passing<'_> {
+    ghost use Rattle.std.specs.Prelude.{Some};
+
+    ghost left = { λ s. Some s.source.rest };
+
+    ghost faults = { λ s. s.source.faults };
+
+    fn read(&mut self, into: &mut [u8]) -> Result<usize, Failed> {
+        // The file header takes a read, and a record two.
+        if self.reads == 3 {
+            self.gate.pass(Who::Tap(0), 0);
+        }
+        self.reads = self.reads.saturating_add(1);
+        self.source.read(into)
+    }
+}
+
+// Where there is a second processor, and blocks for another record, the second round is read while the first one is
+// worked: the worker waits before its work for the reader, and the reader for the worker, and each sees the other. In
+// the four rounds behind, of which the last has no record, the worker waits for nobody any more.
+#[test]
+fn the_second_round_is_read_beside_the_first(rt: HostRuntime) -> Result<(), Fail> {
+    let alloc = rt.alloc();
+    let gate = Meeting::of(Who::Worker(0), Who::Tap(0));
+    let source = Passing {
+        source: MemSource::new(capture(alloc, 1)?, 4096, Vec::new(alloc)),
+        reads: 0,
+        gate: &gate,
+    };
+    let mut sink = MemSink::new(alloc, 4096, Vec::new(alloc));
+    let how = How {
+        blocks: 400,
+        budget: 1,
+        queues: 1,
+        taps: 0,
+    };
+    let (end, home, _) = merged(&rt, alloc, how, source, &mut sink, &gate, true)?;
+    assert_eq!(rt; end, MergeEnd::Done);
+    assert_eq!(rt; home, how.blocks);
+    let processors = match available_parallelism(&rt) {
+        Ok(count) => count.get(),
+        Err(_) => 1,
+    };
+    if processors > 1 {
+        assert_eq!(rt; gate.met(), 6);
+    }
     Ok(())
 }

@@ -14,7 +14,7 @@ use std::alloc::{AllocError, Global};
 use std::process::Abort;
 use std::test::Fail;
 
-const FILE: FileHead = FileHead {
+pub(crate) const FILE: FileHead = FileHead {
     order: Order::Little,
     nanos: false,
     zone: 0,
@@ -30,7 +30,7 @@ const WRITTEN: [u8; 93] = [
 ];
 
 // "abc" in the head, and "de" in a piece behind it.
-fn frame(alloc: Global) -> Result<Skb, AllocError> {
+pub(crate) fn frame(alloc: Global) -> Result<Skb, AllocError> {
     let mut head = Sole::new(alloc)?;
     head.range_mut(64, 67).copy_from_slice(b"abc");
     let mut block = Sole::new(alloc)?;
@@ -92,7 +92,7 @@ fn records_are_headers_and_slices(rt: HostRuntime) -> Result<(), Fail> {
     Ok(())
 }
 
-fn all_go_home<A: Abort>(rt: &A, mut items: Vec<Item>) {
+pub(crate) fn all_go_home<A: Abort>(rt: &A, mut items: Vec<Item>) {
     'items: while let Some(item) = items.pop() {
         go_home(rt, item);
     }

@@ -13,6 +13,9 @@
 //!     && let Some(seg) = candidate(frame, &Partial::new(), len, original)
 //!     && let Some(cut) = segmentation_of(&head, frame, seg)
 //! {
+//!     let (header_bytes, payload) = bytes.split_at_mut(cut.layout.payload_at());
+//!     let mut payload_sum = Partial::new();
+//!     payload_sum.add(&payload[..cut.m as usize]);
 //!     cut.put_headers(header_bytes, 0, payload_sum);
 //! }
 //! ```

@@ -37,12 +37,19 @@
 //!   has changed.
 //!
 //! ```
-//! let mut skb = Skb::new(pool.take()?, 64, 64, Pieces::new(alloc));
-//! skb.put_tail(payload)?;
-//! skb.push(header)?;
-//! let mut clone = skb.clone()?;
-//! clone.pull(14, &mut outcomes)?;
-//! let payload = clone.split_at(1460)?;
+//! let mut skb = Skb::new(block, 64, 64, Pieces::new(alloc));
+//! let put = skb.put_tail(payload);
+//! let pushed = skb.push(header);
+//! if let Ok(mut clone) = skb.clone() {
+//!     if clone.pull(14, &mut outcomes).is_ok()
+//!         && let Ok(second) = clone.split_at(1460)
+//!     {
+//!         lengths = (clone.len(), second.len()); // 1460 and 440
+//!         second.release(&mut outcomes);
+//!     }
+//!     clone.release(&mut outcomes);
+//! }
+//! skb.release(&mut outcomes);
 //! ```
 //!
 //! Its parts: a buffer is seen as its head, its range and the list of its pieces; bytes, sizes, weights and the account

@@ -5,8 +5,8 @@
 //! holds its old content followed by the line (`line`); whatever happens, a front of the line was appended (`front`),
 //! and the count of faults hasn't fallen (`later`). So a log that fails is ignored.
 //!
-//! ```text
-//! log_malformed(&mut log, "ShortRecord", 24, 0);   // malformed: ShortRecord at 24 in record 0
+//! ```
+//! log_malformed(&mut log, "ShortRecord", 24, 0); // malformed: ShortRecord at 24 in record 0
 //! ```
 //!
 //! Tests: `offload_tests`, module `logged`.

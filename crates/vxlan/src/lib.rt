@@ -4,9 +4,11 @@
 //! and each reader gives the number in the field's bytes (`field`).
 //!
 //! ```
-//! let Some(tunnel) = VxlanView::read(frame, 42) else { return None; };
-//! if tunnel.flags() & 0x08 != 0 {
-//!     return Some(tunnel.vni());
+//! let mut network = None;
+//! if let Some(tunnel) = VxlanView::read(frame, 42)
+//!     && tunnel.flags() & 0x08 != 0
+//! {
+//!     network = Some(tunnel.vni());
 //! }
 //! ```
 //!

@@ -157,21 +157,6 @@ fn windows_are_those_of_what_a_filter_shows(rt: HostRuntime) -> Result<(), Fail>
     Ok(())
 }
 
-// The example of the crate's face.
-#[test]
-fn example(rt: HostRuntime) -> Result<(), Fail> {
-    let task = task_over(&rt, rt.alloc(), (0, 64), None, (100, 100), &[60, 300]);
-    let mut read = 0usize;
-    let TapResult { texts, outcomes } = task.run(&NoGate);
-    let _ = home_of(outcomes);
-    let texts = texts?;
-    for i in 0..texts.len() {
-        read = read.wrapping_add(texts.get(i).bytes.len());
-    }
-    assert_eq!(rt; read, 124);
-    Ok(())
-}
-
 // Where the task is told to have been, a digit a pass: 1 for point 0, 2 for point 1, and 9 for another task.
 #[derive(Drop)]
 struct Passes {

@@ -111,6 +111,7 @@ fn home_of_queue(rt: &impl Abort, lane: QueueLane) -> usize {
         queue: _,
         packets,
         mut items,
+        table: _table,
         outcomes,
         done: _,
         count: _,
@@ -128,6 +129,7 @@ fn home_of_tap(rt: &impl Abort, lane: TapLane) -> usize {
         tap: _,
         clones,
         texts: _,
+        memory: _,
         outcomes,
     } = lane;
     assert!(rt; clones.is_empty());

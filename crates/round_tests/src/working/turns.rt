@@ -24,12 +24,13 @@ pub(crate) fn lanes_of<W: Works>(
     requires plan { IsPlan plan.now }
 {
     let mut packets = in_turn(rt, alloc);
-    match work_packets(works, alloc, &mut packets, plan) {
-        Ok(lanes) => {
+    let mut lanes = Lanes::new(alloc);
+    match work_packets(works, alloc, &mut packets, plan, &mut lanes) {
+        Ok(()) => {
             packets.destroy_empty();
             lanes
         }
-        Err((lanes, _)) => {
+        Err(_) => {
             rest_home(rt, packets, lanes);
             panic!(rt; "there is memory");
         }
@@ -158,8 +159,10 @@ fn kept_and_alone(rt: HostRuntime) {
     let gate = Count {
         passes: AtomicU32::new(0),
     };
-    match work_packets(&mut Alone { gate: &gate }, alloc, &mut packets, &plan) {
-        Ok(lanes) => {
+    let mut works = Alone { gate: &gate };
+    let mut lanes = Lanes::new(alloc);
+    match work_packets(&mut works, alloc, &mut packets, &plan, &mut lanes) {
+        Ok(()) => {
             assert!(rt; lanes.queues.len() == 2 && lanes.taps.len() == 8);
             says(&rt, &lanes.queues[0], &[(0, 4, 16)]);
             says(&rt, &lanes.queues[1], &[(1, 4, 16)]);
@@ -170,7 +173,7 @@ fn kept_and_alone(rt: HostRuntime) {
             assert_eq!(rt; kept_home(&rt, kept).wrapping_add(blocks), 24);
             packets.destroy_empty();
         }
-        Err((lanes, _)) => {
+        Err(_) => {
             kept_home(&rt, kept);
             rest_home(&rt, packets, lanes);
             panic!(rt; "there is memory");

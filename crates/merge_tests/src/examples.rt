@@ -1,0 +1,133 @@
+//! The example of each first page, as it stands there, and what it comes to.
+use crate::home::home_of;
+use crate::merging::{emptied, packet, plain, reserve, spent};
+use crate::segmenting::cutting::{buffer, merged};
+use crate::tapping::packets::task_over;
+use frags::Outcomes;
+use frame_layout::{candidate, shape};
+use gro::RoundTable;
+use gso::{Cut, Cutter, check_super};
+use inet_sum::Partial;
+use merge_rule::{first_progress, is_next, next_progress};
+use off_io::NoGate;
+use pcap_io::OffHead2;
+use raw_block::Sole;
+use segment_rule::{is_merged, segmentation_of};
+use std::test::Fail;
+use taps::TapResult;
+use worked_captures::{FIRST, MERGED, SECOND};
+
+#[test]
+fn example_of_merge_rule(rt: HostRuntime) {
+    let (first, next) = (FIRST.as_slice(), SECOND.as_slice());
+    let Some(layout) = &shape(first) else {
+        panic!(rt; "no shape");
+    };
+    let mut progress = first_progress(layout, first, first.len());
+    if progress.is_open && is_next(layout, first, first.len(), 1, &progress, next, next.len()) {
+        progress = next_progress(layout, first, first.len(), 0, &progress, next, next.len());
+    }
+    assert_eq!(rt; (progress.total, progress.is_open), (60, false));
+}
+
+#[test]
+fn example_of_segment_rule(rt: HostRuntime) {
+    let frame = MERGED.as_slice();
+    let (len, original) = (60, 60);
+    let head = OffHead2 {
+        version: 2,
+        kind: 1,
+        modes: 0,
+        lane: 0,
+        n: 2,
+        m: 4,
+        number: 0,
+    };
+    let mut bytes = MERGED;
+    if is_merged(&head)
+        && let Some(seg) = candidate(frame, &Partial::new(), len, original)
+        && let Some(cut) = segmentation_of(&head, frame, seg)
+    {
+        let (header_bytes, payload) = bytes.split_at_mut(cut.layout.payload_at());
+        let mut payload_sum = Partial::new();
+        payload_sum.add(&payload[..cut.m as usize]);
+        cut.put_headers(header_bytes, 0, payload_sum);
+    }
+    assert!(rt; bytes.starts_with(&FIRST) && frame == MERGED.as_slice());
+}
+
+#[test]
+fn example_of_gro(rt: HostRuntime) {
+    let alloc = rt.alloc();
+    let payload = [9; 100];
+    let first = packet(&rt, alloc, 0, &plain(0, 0, 0x10, &payload), &payload);
+    let second = packet(&rt, alloc, 1, &plain(1, 100, 0x10, &payload), &payload);
+    assert!(rt; first.number < second.number && first.skb.count() == 1 && second.skb.count() == 1);
+    let mut outcomes = Outcomes::new(alloc);
+    reserve(&rt, &mut outcomes, 6);
+    let mut blocks = 0;
+    let mut table = RoundTable::make(alloc, 2, 4096).expect(&rt, "memory");
+    if let Err((packet, _)) = table.receive(first) {
+        packet.release(&mut outcomes);
+    }
+    if let Err((packet, _)) = table.receive(second) {
+        packet.release(&mut outcomes);
+    }
+    match table.finish() {
+        Ok(items) => blocks = spent(&rt, items, &[(0, 2, 100, 0)]), // one item of both, with 100 bytes of each
+        Err((table, _)) => table.release(&mut outcomes),
+    }
+    assert_eq!(rt; (blocks, emptied(&mut outcomes)), (6, 0));
+    outcomes.settle();
+}
+
+#[test]
+fn example_of_gso(rt: HostRuntime) -> Result<(), Fail> {
+    let alloc = rt.alloc();
+    let head = merged(2, 4, 0);
+    let original = 76;
+    let mut len = 0usize;
+    let mut spares = Vec::new(alloc);
+    spares.push(Sole::new(alloc)?)?;
+    spares.push(Sole::new(alloc)?)?;
+    spares.push(Sole::new(alloc)?)?;
+    assert!(rt; spares.len() == 3);
+    let mut outcomes = Outcomes::with_room(alloc, 16)?;
+    let skb = buffer(&rt, alloc, &MERGED, 60, 1);
+    assert!(rt; skb.len().min(200) <= skb.head().len());
+    assert!(rt; skb.least_weight() >= 2048 && skb.count() <= 4);
+    match check_super(&head, &skb, original) {
+        Ok(plan) => {
+            let mut cutter = Cutter::start(skb, plan);
+            while let Some(spare) = spares.pop() {
+                match cutter.next(spare) {
+                    Ok(Cut::Segment(segment)) => {
+                        len = len.wrapping_add(segment.len());
+                        segment.release(&mut outcomes);
+                    }
+                    Ok(Cut::Done(spare)) => outcomes.keep_sole(spare),
+                    Err((spare, _)) => outcomes.keep_sole(spare),
+                }
+            }
+            cutter.release(&mut outcomes);
+        }
+        Err(_) => skb.release(&mut outcomes),
+    }
+    assert_eq!(rt; home_of(outcomes), 4);
+    assert_eq!(rt; len, 114);
+    Ok(())
+}
+
+#[test]
+fn example_of_taps(rt: HostRuntime) -> Result<(), Fail> {
+    let task = task_over(&rt, rt.alloc(), (0, 64), None, (100, 100), &[60, 300]);
+    let mut read = 0usize;
+    let TapResult { texts, outcomes } = task.run(&NoGate);
+    let _ = home_of(outcomes);
+    let texts = texts?;
+    for i in 0..texts.len() {
+        read = read.wrapping_add(texts.get(i).bytes.len());
+    }
+    assert_eq!(rt; read, 124);
+    Ok(())
+}

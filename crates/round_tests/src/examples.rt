@@ -1,0 +1,173 @@
+//! The example of each first page, as it stands there, and what it comes to.
+use crate::plans::plain;
+use crate::working::packets::{all_home, in_turn, kept_home, rest_home};
+use crate::writing::{FILE, all_go_home, frame};
+use check_rounds::{CheckEnd, check_all};
+use check_totals::{Totals, write_totals};
+use frags::Outcomes;
+use frame_layout::Choice;
+use gro::Item;
+use off_io::{Feed, MemSink, MemSource, NoGate};
+use pcap_io::{CaptureReader, Link};
+use round_check::check_lanes;
+use round_pipeline::merge_beside;
+use round_work::{Alone, LaneTable, Lanes, Plan, QueueLane, work_packets};
+use round_write::{Time, write_items, write_record};
+use rounds::{MergeEnd, Rounds};
+use std::collections::VecDeque;
+use std::test::Fail;
+use worked_captures::TWO_FLOWS;
+
+#[test]
+fn example_of_round_write(rt: HostRuntime) -> Result<(), Fail> {
+    let alloc = rt.alloc();
+    let (file, lane, original) = (FILE, 4, 9);
+    let time = Time { sec: 1, frac: 2 };
+    let mut sink = MemSink::new(alloc, 64, Vec::new(alloc));
+    let mut items = Vec::with_capacity(alloc, 1)?;
+    let outcomes = Outcomes::with_room(alloc, 2).expect(&rt, "places");
+    let skb = frame(alloc).expect(&rt, "no memory");
+    let segment = frame(alloc).expect(&rt, "no memory");
+    assert!(rt; skb.len() == 5 && segment.len() == 5 && items.len() < items.capacity());
+    items.push_reserved(Item {
+        skb,
+        number: 7,
+        sec: 1,
+        frac: 2,
+        original: 5,
+        n: 2,
+        m: 3,
+        modes: 1,
+        outcomes,
+    });
+    let first = write_record(&mut sink, &file, time, original, None, &segment);
+    let rest = write_items(&mut sink, &file, lane, &items);
+    assert!(rt; first.is_ok() && rest.is_ok());
+    assert_eq!(rt; sink.bytes().len(), 21 + 37);
+    segment.free();
+    all_go_home(&rt, items);
+    Ok(())
+}
+
+#[test]
+fn example_of_round_work(rt: HostRuntime) {
+    let alloc = rt.alloc();
+    let mut packets = in_turn(&rt, alloc);
+    let plan = Plan {
+        queues: 4,
+        taps: 1,
+        snap: 64,
+        choice: Choice::Fold,
+        segs: 4096,
+        filter: None,
+    };
+    let mut works = Alone { gate: &NoGate };
+    let mut lanes = Lanes::new(alloc);
+    let blocks = match work_packets(&mut works, alloc, &mut packets, &plan, &mut lanes) {
+        Ok(()) => {
+            packets.destroy_empty();
+            all_home(&rt, lanes) // once what they came to is written
+        }
+        Err(_) => rest_home(&rt, packets, lanes),
+    };
+    assert_eq!(rt; blocks, 24);
+}
+
+#[test]
+fn example_of_round_check(rt: HostRuntime) {
+    let alloc = rt.alloc();
+    let kept = Vec::new(alloc);
+    let mut queues = Vec::with_capacity(alloc, 1).expect(&rt, "memory");
+    queues.push_reserved(QueueLane {
+        queue: 0,
+        packets: VecDeque::new(alloc),
+        items: Vec::new(alloc),
+        table: LaneTable::new(),
+        outcomes: Outcomes::new(alloc),
+        done: true,
+        count: 0,
+    });
+    let lanes = Lanes {
+        queues,
+        taps: Vec::new(alloc),
+    };
+    let mut returned = 0u64;
+    let totals = check_lanes(alloc, &lanes, &kept).expect(&rt, "memory");
+    for queue in &totals.queues {
+        returned = returned.saturating_add(queue.returned);
+    }
+    assert_eq!(rt; returned, 0);
+    kept_home(&rt, kept);
+    lanes.free();
+}
+
+#[test]
+fn example_of_rounds(rt: HostRuntime) -> Result<(), Fail> {
+    let alloc = rt.alloc();
+    let blocks = 12;
+    let mut feed = Feed {
+        inner: MemSource::new(TWO_FLOWS.to_vec(alloc)?, 4096, Vec::new(alloc)),
+    };
+    let mut reader = CaptureReader::start(&mut feed, Link::Ethernet)?;
+    let file = reader.file();
+    let mut sink = MemSink::new(alloc, 4096, Vec::new(alloc));
+    let plan = Plan {
+        queues: 4,
+        taps: 1,
+        snap: 64,
+        choice: Choice::Fold,
+        segs: 4096,
+        filter: None,
+    };
+    let mut rounds = Rounds::make(alloc, blocks, 64, plan, false)?;
+    let end = rounds.merge_all(&mut Alone { gate: &NoGate }, &mut reader, &file, &mut sink);
+    assert_eq!(rt; end, MergeEnd::Done);
+    assert_eq!(rt; rounds.home(), 12);
+    Ok(())
+}
+
+#[test]
+fn example_of_check_rounds(rt: HostRuntime) -> Result<(), Fail> {
+    let alloc = rt.alloc();
+    let (queues, taps) = (2, 2);
+    let mut feed = Feed {
+        inner: MemSource::new(TWO_FLOWS.to_vec(alloc)?, 4096, Vec::new(alloc)),
+    };
+    let mut reader = CaptureReader::start(&mut feed, Link::Ethernet)?;
+    let mut rounds = Rounds::make(alloc, 12, 4, plain(2, 2, 64), true)?;
+    let mut sink = MemSink::new(alloc, 4096, Vec::new(alloc));
+    let mut works = Alone { gate: &NoGate };
+    let mut totals = Totals::make(alloc, queues, taps)?;
+    let end = check_all(&mut works, &mut rounds, &mut reader, &mut totals);
+    write_totals(&mut sink, &totals)?;
+    assert_eq!(rt; end, CheckEnd::Done);
+    assert!(rt;
+        sink.bytes()
+            .starts_with(b"queue 0: records 2 items 1 merged 1 returned 2\n")
+    );
+    Ok(())
+}
+
+#[test]
+fn example_of_round_pipeline(rt: HostRuntime) -> Result<(), Fail> {
+    let alloc = rt.alloc();
+    let mut feed = Feed {
+        inner: MemSource::new(TWO_FLOWS.to_vec(alloc)?, 4096, Vec::new(alloc)),
+    };
+    let mut reader = CaptureReader::start(&mut feed, Link::Ethernet)?;
+    let file = reader.file();
+    let mut sink = MemSink::new(alloc, 4096, Vec::new(alloc));
+    let mut rounds = Rounds::make(alloc, 12, 1, plain(4, 1, 64), false)?;
+    let end = merge_beside(
+        &rt,
+        alloc,
+        &mut rounds,
+        &mut reader,
+        &file,
+        &mut sink,
+        &NoGate,
+    );
+    assert_eq!(rt; end, MergeEnd::Done);
+    assert_eq!(rt; rounds.home(), 12);
+    Ok(())
+}
