@@ -121,10 +121,10 @@ fn example_of_pcap_io(rt: HostRuntime) -> Result<(), Fail> {
     };
     let mut frame = vec![in alloc; 0u8; FRAME_LIMIT as usize]?;
     let mut reader = CaptureReader::start(&mut feed, Link::Ethernet)?;
-    while let Some(head) = reader.next_head()? {
+    if let Some(head) = reader.next_head()? {
         reader.read_body(&mut frame[..head.captured as usize])?;
     }
-    assert_eq!(rt; &frame[..2], [0xbb, 0xcc].as_slice());
+    assert_eq!(rt; frame.first().copied(), Some(0xaa));
     Ok(())
 }
 

@@ -13,7 +13,7 @@
 //!
 //! ```
 //! let mut reader = CaptureReader::start(&mut feed, Link::Ethernet)?;
-//! while let Some(head) = reader.next_head()? {
+//! if let Some(head) = reader.next_head()? {
 //!     reader.read_body(&mut frame[..head.captured as usize])?;
 //! }
 //! ```
