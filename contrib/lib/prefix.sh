@@ -5,7 +5,7 @@
 #   to         where they are put: the same, or below DESTDIR
 # shellcheck shell=bash disable=SC2154
 
-root=$(dirname "$(dirname "$(readlink -f "${BASH_SOURCE[0]}")")")
+root=$(dirname "$(dirname "$(dirname "$(readlink -f "${BASH_SOURCE[0]}")")")")
 
 stop() {
   echo "$teller: $1" >&2
