@@ -23,3 +23,5 @@ mod pieces;
 mod pools;
 #[cfg(test)]
 mod readers;
+#[cfg(test)]
+mod refused;

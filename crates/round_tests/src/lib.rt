@@ -24,6 +24,8 @@ mod pipeline;
 #[cfg(test)]
 mod plans;
 #[cfg(test)]
+mod refused;
+#[cfg(test)]
 mod segments;
 #[cfg(test)]
 mod sides;

@@ -1,0 +1,14 @@
+use Rattle.std.proofs.Common.{◌≡◌, rules, subst, ◌∙◌}
+use Rattle.pcap_io.specs.declared.heads.Link.TheVariants.{Ethernet}
+use Rattle.rounds.specs.Ahead.{IfPaused, Waits}
+use Rattle.rounds.specs.declared.round.ReadAhead.{ReadAhead}
+use Rattle.round_tests.proofs.refused.turn.Goals as goal
+
+pub returns-then-is_written-2-clause-ready : goal.returns-then-is_written-2-clause-ready
+returns-then-is_written-2-clause-ready g c = λ full.
+    let w = c.work_and_read-worked in
+    let old = c.args.reader.now.place in
+    let ethernet : old.link ≡ Ethernet = search rules in
+    let waits = subst (λ (z : ReadAhead). IfPaused z (Waits c.args.rounds.now.budget old w.new.reader.place)) c.in-Paused.is w.ensures.reads.waits in
+    let on = c.read_rest.ensures.full full old waits.goes in
+    (on.ready, on.link ∙ ethernet)
