@@ -11,7 +11,7 @@ use off_io::{Sink, WriteFault, write_all};
 
 /// Writes the capture of this seed, of `count` records, one record at a time.
 ///
-/// `WriteFault` only where the sink's count of faults rose; a front of the capture was then written.
+/// `WriteFault` only where the sink's count of faults rose; a prefix of the capture was then written.
 pub fn make_capture<K: Sink>(seed: u64, count: u32, sink: &mut K) -> Result<(), WriteFault>
     ensures ok { OnOk result (Appends (K.held sink.old) (K.held sink.new) (made seed count)) }
     ensures err { OnErr result (AppendsFront (K.held sink.old) (K.held sink.new) (made seed count)) }

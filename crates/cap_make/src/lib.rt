@@ -6,7 +6,7 @@
 //! identification.
 //!
 //! The definition stands in `specs/`: the draws, the headers, the frames with their sums by one division, and the
-//! capture, `made`. Proved: [`make_capture`] appends just these bytes, or a front of them at a fault (clauses `ok`,
+//! capture, `made`. Proved: [`make_capture`] appends just these bytes, or a prefix of them at a fault (clauses `ok`,
 //! `err`, `cause`); a [`MadeSource`] gives just these bytes, takes no memory and never fails; [`made_len`] is their
 //! number; and the capture reads to its end with as many records as were wanted ([`made_reads_back`]).
 //!

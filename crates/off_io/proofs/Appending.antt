@@ -11,7 +11,7 @@ pub front_then : (a b c : Option (List ℕ)) (xs ys : List ℕ) → Appends a b 
 front_then a b c xs ys p q =
     (length xs + q.0, subst (Appends a c) (sym (take-append-add xs ys q.0)) (Appends-trans a b c xs (take q.0 ys) p q.1))
 
--- what was written is a front of what was to follow, too
+-- what was written is a prefix of what was to follow, too
 pub front_more : (a b : Option (List ℕ)) (xs ys : List ℕ) → AppendsFront a b xs → AppendsFront a b (xs ++ ys)
 front_more a b xs ys p =
     let n = min p.0 (length xs) in

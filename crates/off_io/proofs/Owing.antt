@@ -27,7 +27,7 @@ pub Owes-failed : (a b c : Option (List ℕ)) (all part rest : List ℕ) → Owe
 Owes-failed a b c all part rest p q =
     subst (AppendsFront a c) (append_assoc p.0 part rest ∙ p.2) (front_more a c (p.0 ++ part) rest (front_then a b c p.0 part p.1 q))
 
--- all of it is a front of it
+-- all of it is a prefix of it
 pub front_whole : (a b : Option (List ℕ)) (all : List ℕ) → Appends a b all → AppendsFront a b all
 front_whole a b all p = (length all, subst (Appends a b) (sym (take_all (length all) all (omega arith))) p)
 

@@ -5,7 +5,7 @@
 //! were read and written, and can blame a fault on the outside alone. A [`Gate`] is passed by tasks and changes no
 //! answer; at a [`Meeting`] two of them wait for each other.
 //!
-//! Proved: `write_all` appends all bytes, or a front of them at a fault (clauses `ok`, `err`, `cause`); `read_full`
+//! Proved: `write_all` appends all bytes, or a prefix of them at a fault (clauses `ok`, `err`, `cause`); `read_full`
 //! fills its buffer but at the end of the source (`bytes`, `cause`); the sources and sinks in memory fail at exactly
 //! the calls that they were told (`fails`). Trusted: that std's readers and writers behind [`StdSource`] and
 //! [`StdSink`] do as they say.

@@ -54,7 +54,7 @@ impl MemSource {
     }
 }
 
-/// Copies a front of `rest`, as much as there is, as fits and as `most` allows.
+/// Copies a prefix of `rest`, as much as there is, as fits and as `most` allows.
 pub fn copy_front(into: &mut [u8], rest: &[u8], most: usize) -> usize
     ensures count { result ≡ min (min (length rest.now) (length into.new)) most }
     ensures front { take result into.new ≡ take result rest.now }

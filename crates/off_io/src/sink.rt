@@ -22,7 +22,7 @@ pub trait Sink {
     /// How often a write or a flush failed.
     ghost faults: { Self → ℕ };
 
-    /// Appends a front of `from`, at least a byte where there is one, and answers how many bytes it took. `Failed`
+    /// Appends a prefix of `from`, at least a byte where there is one, and answers how many bytes it took. `Failed`
     /// appends nothing, and comes only where the count of faults rose.
     fn write(&mut self, from: &[u8]) -> Result<usize, Failed>
         ensures bound { WritesAtMost result from.now }
@@ -40,7 +40,7 @@ pub trait Sink {
 
 /// Writes all the bytes.
 ///
-/// `WriteFault` only where the sink's count of faults rose; a front of the bytes was then appended.
+/// `WriteFault` only where the sink's count of faults rose; a prefix of the bytes was then appended.
 pub fn write_all<K: Sink>(sink: &mut K, bytes: &[u8]) -> Result<(), WriteFault>
     ensures ok { OnOk result (Appends (K.held sink.old) (K.held sink.new) bytes.now) }
     ensures err { OnErr result (AppendsFront (K.held sink.old) (K.held sink.new) bytes.now) }

@@ -17,7 +17,7 @@ pub trait Source {
     /// How often a read failed.
     ghost faults: { Self → ℕ };
 
-    /// Fills a front of `into` with the next bytes and answers how many these are. `Ok(0)` into a slice with room is
+    /// Fills a prefix of `into` with the next bytes and answers how many these are. `Ok(0)` into a slice with room is
     /// the end. `Failed` takes no byte, and comes only where the count of faults rose.
     fn read(&mut self, into: &mut [u8]) -> Result<usize, Failed>
         ensures bound { ReadsAtMost result into.new }

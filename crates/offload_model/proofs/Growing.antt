@@ -1,4 +1,4 @@
--- More bytes make no segment less: what segmenting writes of the first bytes is a front of what it writes of all.
+-- More bytes make no segment less: what segmenting writes of the first bytes is a prefix of what it writes of all.
 use Rattle.std.proofs.Common.{◌≡◌, ◌≤◌, ◌<◌, ◌+◌, ◌-◌, ◌*◌, ℕ, zero, suc, List, [], ◌∷◌, ◌++◌, length, take, drop, refl, sym, ap, ◌∙◌, arith, Option, None, Some, Bool, true, false, length-drop}
 use Rattle.std.proofs.Common.{take-append-drop, append_assoc}
 use Rattle.std.specs.Prelude.{nat_le}

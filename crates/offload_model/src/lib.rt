@@ -20,7 +20,7 @@
 //!
 //! Why so:
 //!
-//! - **A write fault and want of memory name the bytes that are gone from the source**: what is written is a front of
+//! - **A write fault and want of memory name the bytes that are gone from the source**: what is written is a prefix of
 //!   what the command writes of just these bytes.
 //! - **The test of a whole offload record stands above the capture crate.** It needs shapes and sums. `reads_tested` in
 //!   `offload_model` is what a capture of link type 147 reads as with that test among its refusals, and the reader of

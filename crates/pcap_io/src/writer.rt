@@ -48,7 +48,7 @@ impl FileHead {
 
 /// Writes the file header of a capture, version 2.4, with this link type and its greatest captured length as snaplen.
 ///
-/// `WriteFault` only where the sink's count of faults rose; a front of the 24 bytes was then written.
+/// `WriteFault` only where the sink's count of faults rose; a prefix of the 24 bytes was then written.
 pub fn write_file_head<K: Sink>(sink: &mut K, head: &FileHead, link: Link) -> Result<(), WriteFault>
     ensures ok { OnOk result (Appends (K.held sink.old) (K.held sink.new)
         (file_bytes head.now link)) }
@@ -61,7 +61,7 @@ pub fn write_file_head<K: Sink>(sink: &mut K, head: &FileHead, link: Link) -> Re
 
 /// Writes a record's header: seconds, fraction, captured and original length in bytes, in the order of the file.
 ///
-/// `WriteFault` only where the sink's count of faults rose; a front of the 16 bytes was then written.
+/// `WriteFault` only where the sink's count of faults rose; a prefix of the 16 bytes was then written.
 pub fn write_rec_head<K: Sink>(
     sink: &mut K,
     head: &FileHead,

@@ -2,7 +2,7 @@
 //!
 //! A line is put together in place, without memory, and then written whole. The texts stand in `specs/Lines.antt`, each
 //! with its line feed. Proved of each call: where the log tells what it holds, and its count of faults didn't rise, it
-//! holds its old content followed by the line (`line`); whatever happens, a front of the line was appended (`front`),
+//! holds its old content followed by the line (`line`); whatever happens, a prefix of the line was appended (`front`),
 //! and the count of faults hasn't fallen (`later`). So a log that fails is ignored.
 //!
 //! ```

@@ -5,7 +5,7 @@ use Rattle.std.specs.Io.KnownBytes.{Appends}
 use Rattle.off_io.specs.Content.{AppendsFront}
 use Rattle.status_log.proofs.log_line.Goals as goal
 
--- all of the line is a front of it
+-- all of the line is a prefix of it
 front : {T E : Type 0} (old new : Option (List ℕ)) (line : List ℕ) (r : Result T E) → OnOk r (Appends old new line) → OnErr r (AppendsFront old new line) → AppendsFront old new line
 front old new line (Ok x) whole some = (length line, subst (Appends old new) (sym (take-length line)) whole)
 front old new line (Err e) whole some = some
