@@ -1,16 +1,20 @@
 -- Tests of headers and the facts that they stand for.
 use Rattle.std.proofs.Common.{◌≡◌, ℕ, zero, suc, ◌+◌, ◌-◌, ◌*◌, ◌<◌, ◌≤◌, inl, inr, Bool, true, false, List, [], ◌∷◌, ◌++◌, length, get_or, take, drop, refl, sym, ap, ◌∙◌, subst, arith}
 use Rattle.std.specs.Prelude.{◌&&◌, nat_le}
+use Rattle.std.specs.Bool.{Decides}
 use Rattle.std.proofs.lemmas.Bool.{and_parts, leb-true}
 use Rattle.std.proofs.lemmas.List.{drop_more, length-drop, length-take-le, get_or-take, get_or-drop, ext_get_or}
 use Rattle.net_bytes.specs.Bytes.{byte}
-use Rattle.frame_layout.specs.Headers.{AtHeaders, varying, IsOutsideOf, IsOutside, AreLaid, size, ip_weight, ip_count}
+use Rattle.pcap_io.specs.Limits.{most_frame}
+use Rattle.frame_layout.specs.Shape.{Layout}
+use Rattle.frame_layout.specs.Headers.{all_headers, AtHeaders, varying, IsOutsideOf, IsOutside, AreLaid, size, ip_weight, ip_count}
 use Rattle.frame_layout.specs.declared.layout.Header.{Header}
 use Rattle.frame_layout.specs.declared.layout.Layer.{Layer}
 use Rattle.frame_layout.specs.declared.layout.Layer.TheVariants.{Ip4, Ip6}
 use Rattle.frame_layout.proofs.Lemmas.{each_layer, headers_map, inside_all as inside_end}
 use Rattle.offload_model.specs.Merged.{modes_at, modes_of}
-use Rattle.merge_rule.specs.Next.{AreSame, fields_at, varying_in, AreAlikeFrom, AreApart, AreInside}
+use Rattle.merge_rule.specs.Next.{AreSame, fields_at, varying_in, AreAlikeFrom, AreApart, AreInside, is_next_at, IsNextBy}
+use Rattle.merge_rule.specs.Plain.{AreHeadersNext}
 
 -- ---- frames alike between the fields that may differ
 
@@ -87,6 +91,31 @@ module _ (f g : List ℕ) (end : ℕ) where
 
   pub alike_from : (hs : List Header) → AreLaid 0 hs end → ((k : ℕ) → k < end → AtHeaders (IsOutside k) hs → byte f k ≡ byte g k) → AreAlikeFrom f g end 0 (varying_in hs)
   alike_from hs l s = within 0 (varying_in hs) (apart_all 0 end hs l) (λ k h b o. s k b (at_outside k hs o))
+
+-- what is asked of a packet, where the test of its headers is at hand
+pub next_by : (layout : Layout) (f : List ℕ) (n count total modes : ℕ) (g : List ℕ) (m : ℕ) (b : Bool) (further whole : ℕ)
+    → AreLaid 0 layout.headers layout.payload_at → m ≤ n → layout.payload_at ≤ m → total + (m - layout.payload_at) ≤ most_frame
+    → further ≡ total - layout.payload_at → whole ≡ total + (m - layout.payload_at)
+    → Decides b (AreHeadersNext f g layout.payload_at further whole count modes layout.headers) → Decides b (IsNextBy layout f n count total modes g m)
+next_by layout f n count total modes g m b further whole laid shorter there room ef ew d = (
+  (λ t.
+      let x : AreHeadersNext f g layout.payload_at further whole count modes layout.headers = d.0 t in
+      record {
+        shorter = shorter;
+        there = there;
+        alike = λ k l o. alike_to f g layout.payload_at layout.headers x.0 k l o;
+        numbers = subst (λ z. all_headers (is_next_at f g z (total + (m - layout.payload_at))) layout.headers ≡ true) ef
+            (subst (λ z. all_headers (is_next_at f g further z) layout.headers ≡ true) ew x.1);
+        room = room;
+        ids = x.2;
+      }),
+  (λ x. d.1 (
+    alike_from f g layout.payload_at layout.headers laid (λ k l o. x.alike k l o),
+    subst (λ z. all_headers (is_next_at f g z whole) layout.headers ≡ true) (sym ef)
+        (subst (λ z. all_headers (is_next_at f g (total - layout.payload_at) z) layout.headers ≡ true) (sym ew) x.numbers),
+    x.ids,
+  )),
+)
 
 -- ---- parts of frames
 

@@ -1,3 +1,4 @@
 pub mod Next
+pub mod Plain
 pub mod Runs
 pub mod Steps

@@ -7,7 +7,8 @@ ghost use Rattle.merge_rule.specs.Next.{AreSame, fields_at, varying_in, AreAlike
 use frame_layout::{Header, Layer};
 
 /// Whether two frames have the same bytes from one place to another.
-fn is_same(first: &[u8], next: &[u8], from: usize, to: usize) -> bool
+#[inline(always)]
+pub(crate) fn is_same(first: &[u8], next: &[u8], from: usize, to: usize) -> bool
     requires range { from ≤ to }
     requires first { to ≤ length first.now }
     requires next { to ≤ length next.now }

@@ -29,6 +29,7 @@
 mod alike;
 mod candidacy;
 mod next;
+mod plain;
 mod rule;
 
 pub use candidacy::Candidacy;

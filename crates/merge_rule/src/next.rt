@@ -6,13 +6,21 @@ ghost use Rattle.offload_model.specs.Tests.{is_ack_alone as is_ack_alone_of};
 ghost use Rattle.offload_model.specs.Merged.{modes_at, modes_behind as modes_behind_of, modes_of as modes_of_headers};
 ghost use Rattle.merge_rule.specs.Next.{is_next_at, is_next_id_at, are_ids_next, AreInside};
 
+use crate::plain::{TCP, is_plain};
 use frame_layout::{Header, Layer};
 use ip_headers::ip4;
 use tcp_headers::{tcp, udp};
 
 /// A header of the next frame: its sequence number is `further` bytes behind the first frame's, it has a UDP sum where
 /// that has one, and its 16 bits of length, where it has these, hold the length of a merged frame of `total` bytes.
-fn is_next_header(first: &[u8], next: &[u8], further: u32, total: usize, header: Header) -> bool
+#[inline(always)]
+pub(crate) fn is_next_header(
+    first: &[u8],
+    next: &[u8],
+    further: u32,
+    total: usize,
+    header: Header,
+) -> bool
     requires first { header.at + size header.layer ≤ length first.now }
     requires next { header.at + size header.layer ≤ length next.now }
     ensures next { result ≡ is_next_at first.now next.now further total header.layer header.at }
@@ -63,6 +71,9 @@ pub(crate) fn is_ack_alone(frame: &[u8], headers: &[Header]) -> bool
     requires there { AreInside (length frame.now) headers.now }
     ensures ack { result ≡ all_headers (is_ack_alone_of frame.now) headers.now }
 {
+    if is_plain(headers) {
+        return is_ack_header(frame, TCP);
+    }
     for header in headers {
         if !is_ack_header(frame, *header) {
             return false;
@@ -73,7 +84,8 @@ pub(crate) fn is_ack_alone(frame: &[u8], headers: &[Header]) -> bool
 
 /// The identification of packet `count`, from 0, of a run. With packet 1 it is settled whether it stays or rises, which
 /// the lowest bit of `modes` keeps.
-fn is_next_id(first: &[u8], next: &[u8], count: usize, modes: u8, header: Header) -> bool
+#[inline(always)]
+pub(crate) fn is_next_id(first: &[u8], next: &[u8], count: usize, modes: u8, header: Header) -> bool
     requires first { header.at + size header.layer ≤ length first.now }
     requires next { header.at + size header.layer ≤ length next.now }
     ensures next { result ≡ is_next_id_at count modes first.now next.now header.layer header.at }

@@ -1,13 +1,15 @@
 //! Whether a frame continues a run, and what the run comes to with it, by first bytes and lengths.
 ghost use Rattle.std.specs.Prelude.{◌≡◌, ◌==◌, ◌&&◌, ◌+◌, ◌<◌, ◌≤◌, ◌^◌, ℕ, List, Some, length};
 ghost use Rattle.std.specs.Bool.{Decides};
-ghost use Rattle.frame_layout.specs.Headers.{all_headers, ip_count, AreHeadersAlike};
+ghost use Rattle.frame_layout.specs.Headers.{all_headers, ip_count};
 ghost use Rattle.offload_model.specs.Tests.{is_ack_alone as is_ack_alone_of};
 ghost use Rattle.merge_rule.specs.Next.{AreInside, HasHead, IsNext, IsNextBy};
+ghost use Rattle.merge_rule.specs.Plain.{AreHeadersNext};
 ghost use Rattle.merge_rule.specs.Runs.{IsPlaced, IsFirstProgress, IsNextProgress, AreNextModes};
 
 use crate::alike::are_alike;
 use crate::next::{are_next, are_next_ids, is_ack_alone, modes_of};
+use crate::plain::{are_plain_next, is_plain};
 use frame_layout::{Header, Layout};
 use pcap_io::FRAME_LIMIT;
 
@@ -20,14 +22,30 @@ pub struct Progress {
     pub modes: u8,
 }
 
-/// Whether two frames have the same headers but for the fields that may differ.
-fn are_headers_alike(layout: &Layout, first: &[u8], next: &[u8]) -> bool
+/// What the rule asks of the headers. Most packets have those that lie at fixed places.
+fn are_headers_next(
+    layout: &Layout,
+    first: &[u8],
+    next: &[u8],
+    further: u32,
+    total: usize,
+    count: usize,
+    modes: u8,
+) -> bool
     requires placed { IsPlaced layout.now }
     requires first { layout.now.payload_at ≤ length first.now }
     requires next { layout.now.payload_at ≤ length next.now }
-    ensures alike { Decides result (AreHeadersAlike layout.now first.now next.now) }
+    ensures next { Decides result (AreHeadersNext first.now next.now layout.now.payload_at further total count modes
+        layout.now.headers) }
 {
-    are_alike(first, next, layout.headers(), layout.payload_at())
+    let headers = layout.headers();
+    let end = layout.payload_at();
+    if is_plain(headers) {
+        return are_plain_next(first, next, end, further, total, count, modes);
+    }
+    are_alike(first, next, headers, end)
+        && are_next(first, next, further, total, headers)
+        && are_next_ids(first, next, count, modes, headers)
 }
 
 /// The rule, of first bytes and lengths.
@@ -56,9 +74,7 @@ fn continues(
     let further = (progress.total - at) as u32;
     let total = progress.total + (next_len - at);
     total <= FRAME_LIMIT as usize
-        && are_headers_alike(layout, first, next)
-        && are_next(first, next, further, total, layout.headers())
-        && are_next_ids(first, next, count, progress.modes, layout.headers())
+        && are_headers_next(layout, first, next, further, total, count, progress.modes)
 }
 
 /// Whether a frame of `next_len` bytes that begins with `next` continues an open run of `count` packets, the first of

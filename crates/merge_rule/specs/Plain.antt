@@ -1,0 +1,20 @@
+-- What is asked of the headers of the next packet, and the headers of most packets.
+use Rattle.std.specs.Prelude.{◌≡◌, ℕ, true, List, [], ◌∷◌}
+use Rattle.frame_layout.specs.Headers.{all_headers}
+use Rattle.frame_layout.specs.declared.layout.Header.{Header}
+use Rattle.frame_layout.specs.declared.layout.Layer.TheVariants.{Ethernet, Ip4, Tcp}
+use Rattle.merge_rule.specs.Next.{AreAlikeFrom, varying_in, is_next_at, are_ids_next}
+
+-- Ethernet without tags, IPv4, and TCP
+abbrev pub plain_headers : List Header
+plain_headers =
+    record { layer = Ethernet; at = 0 } ∷ record { layer = Ip4; at = 14 } ∷ record { layer = Tcp; at = 34 } ∷ []
+
+-- up to the payload at `end` the frames are alike but for the fields that may differ, and these hold what a packet has
+-- that continues a run of `count` packets: its payload is `further` bytes behind the first one's, and the merged frame
+-- has `total` bytes
+abbrev pub AreHeadersNext : List ℕ → List ℕ → ℕ → ℕ → ℕ → ℕ → ℕ → List Header → Type 0
+AreHeadersNext first next end further total count modes hs =
+    AreAlikeFrom first next end 0 (varying_in hs)
+    × (all_headers (is_next_at first next further total) hs ≡ true)
+    × (are_ids_next count modes first next hs ≡ true)
