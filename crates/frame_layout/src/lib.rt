@@ -62,6 +62,7 @@ mod front;
 pub mod hash_key;
 mod laws;
 pub mod layout;
+mod plain;
 mod queue;
 mod read;
 mod rss;
@@ -78,6 +79,7 @@ pub use laws::{
     alike_keeps_key, alike_keeps_shape, candidates_are_short, headers_are_laid, rss_is_of_layers,
 };
 pub use layout::{Header, Layer, Layout};
+pub use plain::{ETHERNET, IP, IP6, TCP, TCP6, are_plain, are_plain6};
 pub use queue::{key, key_behind, queue_of};
 pub use read::shape;
 pub use rss::rss_input;

@@ -1,14 +1,8 @@
--- What is asked of the headers of the next packet, and the headers of most packets.
-use Rattle.std.specs.Prelude.{◌≡◌, ℕ, true, List, [], ◌∷◌}
+-- What is asked of the headers of the next packet.
+use Rattle.std.specs.Prelude.{◌≡◌, ℕ, true, List}
 use Rattle.frame_layout.specs.Headers.{all_headers}
 use Rattle.frame_layout.specs.declared.layout.Header.{Header}
-use Rattle.frame_layout.specs.declared.layout.Layer.TheVariants.{Ethernet, Ip4, Tcp}
 use Rattle.merge_rule.specs.Next.{AreAlikeFrom, varying_in, is_next_at, are_ids_next}
-
--- Ethernet without tags, IPv4, and TCP
-abbrev pub plain_headers : List Header
-plain_headers =
-    record { layer = Ethernet; at = 0 } ∷ record { layer = Ip4; at = 14 } ∷ record { layer = Tcp; at = 34 } ∷ []
 
 -- up to the payload at `end` the frames are alike but for the fields that may differ, and these hold what a packet has
 -- that continues a run of `count` packets: its payload is `further` bytes behind the first one's, and the merged frame

@@ -6,8 +6,7 @@ ghost use Rattle.offload_model.specs.Tests.{is_ack_alone as is_ack_alone_of};
 ghost use Rattle.offload_model.specs.Merged.{modes_at, modes_behind as modes_behind_of, modes_of as modes_of_headers};
 ghost use Rattle.merge_rule.specs.Next.{is_next_at, is_next_id_at, are_ids_next, AreInside};
 
-use crate::plain::{TCP, is_plain};
-use frame_layout::{Header, Layer};
+use frame_layout::{Header, Layer, TCP, TCP6, are_plain, are_plain6};
 use ip_headers::ip4;
 use tcp_headers::{tcp, udp};
 
@@ -71,8 +70,11 @@ pub(crate) fn is_ack_alone(frame: &[u8], headers: &[Header]) -> bool
     requires there { AreInside (length frame.now) headers.now }
     ensures ack { result ≡ all_headers (is_ack_alone_of frame.now) headers.now }
 {
-    if is_plain(headers) {
+    if are_plain(headers) {
         return is_ack_header(frame, TCP);
+    }
+    if are_plain6(headers) {
+        return is_ack_header(frame, TCP6);
     }
     for header in headers {
         if !is_ack_header(frame, *header) {

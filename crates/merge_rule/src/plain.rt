@@ -1,58 +1,13 @@
-//! The rule where the headers are those of Ethernet, IPv4 and TCP alone: these lie at fixed places, 0, 14 and 34.
-ghost use Rattle.std.specs.Prelude.{◌≡◌, ◌≤◌, IsTrue, length};
+//! The rule where the headers are Ethernet without tags, IPv4 or IPv6, and TCP: these lie at fixed places.
+ghost use Rattle.std.specs.Prelude.{◌≤◌, length};
 ghost use Rattle.std.specs.Bool.{Decides};
-ghost use Rattle.frame_layout.specs.declared.layout.Layer.TheVariants.{Ethernet, Ip4, Tcp};
+ghost use Rattle.frame_layout.specs.Plain.{plain_headers, plain6_headers};
 ghost use Rattle.merge_rule.specs.Next.{AreAlikeFrom, varying_in};
-ghost use Rattle.merge_rule.specs.Plain.{plain_headers, AreHeadersNext};
+ghost use Rattle.merge_rule.specs.Plain.{AreHeadersNext};
 
 use crate::alike::is_same;
 use crate::next::{is_next_header, is_next_id};
-use frame_layout::{Header, Layer};
-
-pub(crate) const IP: Header = Header {
-    layer: Layer::Ip4,
-    at: 14,
-};
-
-pub(crate) const TCP: Header = Header {
-    layer: Layer::Tcp,
-    at: 34,
-};
-
-fn is_ethernet(header: Header) -> bool
-    ensures plain { IsTrue result → header ≡ record { layer = Ethernet; at = 0 } }
-{
-    match header.layer {
-        Layer::Ethernet => header.at == 0,
-        _ => false,
-    }
-}
-
-fn is_ip(header: Header) -> bool
-    ensures plain { IsTrue result → header ≡ record { layer = Ip4; at = 14 } }
-{
-    match header.layer {
-        Layer::Ip4 => header.at == 14,
-        _ => false,
-    }
-}
-
-fn is_tcp(header: Header) -> bool
-    ensures plain { IsTrue result → header ≡ record { layer = Tcp; at = 34 } }
-{
-    match header.layer {
-        Layer::Tcp => header.at == 34,
-        _ => false,
-    }
-}
-
-/// Whether the headers are those of Ethernet, IPv4 and TCP alone.
-#[inline(always)]
-pub(crate) fn is_plain(headers: &[Header]) -> bool
-    ensures plain { IsTrue result → headers.now ≡ plain_headers }
-{
-    headers.len() == 3 && is_ethernet(headers[0]) && is_ip(headers[1]) && is_tcp(headers[2])
-}
+use frame_layout::{IP, IP6, TCP, TCP6};
 
 /// Whether two frames have the same bytes between the fields that may differ. What mostly differs where two packets are
 /// of two flows, addresses and ports, is compared first.
@@ -94,4 +49,43 @@ pub(crate) fn are_plain_next(
         && is_next_header(first, next, further, total, TCP)
         && is_next_header(first, next, further, total, IP)
         && is_next_id(first, next, count, modes, IP)
+}
+
+/// The same bytes with IPv6.
+#[inline(always)]
+fn are_same6(first: &[u8], next: &[u8], end: usize) -> bool
+    requires first { end ≤ length first.now }
+    requires next { end ≤ length next.now }
+    requires there { 74 ≤ end }
+    ensures alike { Decides result (AreAlikeFrom first.now next.now end 0 (varying_in plain6_headers)) }
+{
+    if first.len() < 74 || next.len() < 74 {
+        return false;
+    }
+    is_same(first, next, 20, 58)
+        && is_same(first, next, 0, 18)
+        && is_same(first, next, 62, 67)
+        && is_same(first, next, 68, 70)
+        && is_same(first, next, 72, end)
+}
+
+/// What the rule asks of the headers with IPv6, which has no identification.
+pub(crate) fn are_plain6_next(
+    first: &[u8],
+    next: &[u8],
+    end: usize,
+    further: u32,
+    total: usize,
+    count: usize,
+    modes: u8,
+) -> bool
+    requires first { end ≤ length first.now }
+    requires next { end ≤ length next.now }
+    requires there { 74 ≤ end }
+    ensures next { Decides result (AreHeadersNext first.now next.now end further total count modes plain6_headers) }
+{
+    are_same6(first, next, end)
+        && is_next_header(first, next, further, total, TCP6)
+        && is_next_header(first, next, further, total, IP6)
+        && is_next_id(first, next, count, modes, IP6)
 }

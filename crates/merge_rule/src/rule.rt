@@ -9,8 +9,8 @@ ghost use Rattle.merge_rule.specs.Runs.{IsPlaced, IsFirstProgress, IsNextProgres
 
 use crate::alike::are_alike;
 use crate::next::{are_next, are_next_ids, is_ack_alone, modes_of};
-use crate::plain::{are_plain_next, is_plain};
-use frame_layout::{Header, Layout};
+use crate::plain::{are_plain_next, are_plain6_next};
+use frame_layout::{Header, Layout, are_plain, are_plain6};
 use pcap_io::FRAME_LIMIT;
 
 /// What a run has come to: whether it may take one more packet, the length of its merged frame, and a bit for each IP
@@ -40,8 +40,11 @@ fn are_headers_next(
 {
     let headers = layout.headers();
     let end = layout.payload_at();
-    if is_plain(headers) {
+    if are_plain(headers) {
         return are_plain_next(first, next, end, further, total, count, modes);
+    }
+    if are_plain6(headers) {
+        return are_plain6_next(first, next, end, further, total, count, modes);
     }
     are_alike(first, next, headers, end)
         && are_next(first, next, further, total, headers)
