@@ -20,8 +20,9 @@
 //! Its parts: `layout` (the type), `read` (shape), `flow` (the key), `queue` (key and queue of a frame), `front` and
 //! `sums` (a frame known by its first bytes and a sum), `candidates` (candidate), `segment` (what is read of a
 //! candidate), `choice` (the queue by a choice), `rss`, `toeplitz_hash` and `hash_key` (what receive side scaling
-//! hashes, and its hash bit by bit and by tables), `laws`. Its proofs stand on two tables that compute: `Clear` (which
-//! bytes lie outside which fields of a header) and `Listed` (the 132 lists of headers that a shape may have).
+//! hashes, and its hash bit by bit and by tables), `plain` (the headers that most frames have), `laws`. Its proofs
+//! stand on two tables that compute: `Clear` (which bytes lie outside which fields of a header) and `Listed` (the 132
+//! lists of headers that a shape may have).
 //!
 //! Tests: `header_tests`, modules `layouts`, `datagrams`, `encapsulated` and `queues`.
 //!
@@ -51,6 +52,9 @@
 //! - **What is hashed is read of the flow's key and not of the frame**, so it is total: for bytes that are no frame's
 //!   key it is what the definition computes. That it is the addresses of the outermost IP header, and the ports of a
 //!   TCP or UDP header directly behind it, is a law over a frame's layers (`rss_is_of_layers`).
+//! - **Ethernet without tags, IPv4 or IPv6, and TCP lie at fixed places** (`plain`): such frames are judged, and their
+//!   keys put together, by the same functions as others, called with headers that the compiler knows. So no place is
+//!   checked and no list walked, and no proof is wanted but that the list is this one (`plain` of `are_plain`).
 //! - **What isn't read needs no premise.** Neither shape nor key asks that the bytes behind the first 200 are bytes
 //!   (`IsHeadOf`), so a packet that was cut short or has no shape is judged without a look at its payload.
 #![tactic(auto)]

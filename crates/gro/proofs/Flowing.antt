@@ -1,105 +1,176 @@
--- What a flow finds, as flows have their runs, others or none.
-use Rattle.std.proofs.Common.{◌≡◌, ◌≢◌, ℕ, inl, inr, Bool, true, false, cond, Option, Some, None, Ok, Err, List, refl, sym, ap, ◌∙◌, subst}
-use Rattle.std.specs.Prelude.{IsSome, Result, OnOk, if◌then◌else◌}
-use Rattle.std.specs.Result.{IsOk}
+-- What a flow finds, as entries come, each in its bucket's chain.
+use Rattle.std.proofs.Common.{◌≡◌, ◌≢◌, ℕ, zero, suc, ◌+◌, ◌-◌, ◌<◌, ◌≤◌, inl, inr, Bool, true, false, Option, Some, None, List, [], ◌∷◌, ◌++◌, length, replicate, take, set, refl, sym, ap, ◌∙◌, subst, arith, get_or, length-append}
+use Rattle.std.specs.Prelude.{if◌then◌else◌}
 use Rattle.std.proofs.lemmas.Bool.{cases_eq, cases_Bool}
-use Rattle.slab.specs.Slab.{get}
+use Rattle.std.proofs.lemmas.List.{take_more, take_all, length-set, length-replicate, get_or-replicate, get_or-set_same, get_or-set_other, get_or_append_left, get_or_push}
 use Rattle.frame_layout.specs.Key.{key_eq}
+use Rattle.gro.specs.declared.flows.Entry.{Entry}
 use Rattle.gro.specs.declared.flows.Flows.{Flows}
-use Rattle.gro.specs.Flows.{slot_of, place_of, place_at, AreFlows, Puts}
-use Rattle.gro.proofs.Keys.{keys_equiv, same_key}
+use Rattle.gro.specs.Flows.{or_else, last_in, joined, place_of, bucket_of, no_entry, entry_at, IsHead, AreFlows, Puts}
+use Rattle.gro.proofs.Keys.{same_key}
 
-pub none_is : {A : Type 0} (o : Option A) → o ≡ None → IsSome o → ⊥
-none_is None e s = absurd (let t : false ≡ true = s in cc)
-none_is (Some x) e s = absurd cc
+or_none : (o : Option (Option ℕ)) → or_else o None ≡ o
+or_none None = refl
+or_none (Some p) = refl
 
-pub on_ok : {T E P : Type 0} (r : Result T E) → OnOk r P → IsOk r → P
-on_ok (Ok x) p h = p
-on_ok (Err e) p h = absurd (let t : false ≡ true = h in cc)
+or_both : (b : Bool) (x : Option ℕ) (o : Option (Option ℕ)) (u : Option (Option ℕ)) → or_else (if b then Some x else o) u ≡ (if b then Some x else or_else o u)
+or_both true x o u = refl
+or_both false x o u = refl
 
--- each key leads where it did, and all that had a run have one
-pub flows_kept : (f g : Flows) → AreFlows f → ((q : Option (List ℕ)) → slot_of g q ≡ slot_of f q)
-    → ((k : ℕ) → IsSome (get f.open k) → IsSome (get g.open k)) → AreFlows g
-flows_kept f g flows slots runs = record {
-  live = λ q k e. runs k (flows.live q k (sym (slots q) ∙ e));
-  own = λ q r k d e. flows.own q r k (sym (slots q) ∙ d) (sym (slots r) ∙ e);
-}
+-- one entry more
+pub last_push : (q : Option (List ℕ)) (es : List Entry) (e : Entry) → last_in q (es ++ (e ∷ [])) ≡ (if key_eq e.key q then Some e.place else last_in q es)
+last_push q [] e = refl
+last_push q (x ∷ es) e =
+    ap (λ o. or_else o (if key_eq x.key q then Some x.place else None)) (last_push q es e)
+    ∙ or_both (key_eq e.key q) e.place (last_in q es) (if key_eq x.key q then Some x.place else None)
 
--- a slot that had a run has a run, maybe another
-pub flows_moved : (f g : Flows) (slot : ℕ) → AreFlows f → ((q : Option (List ℕ)) → slot_of g q ≡ slot_of f q)
-    → IsSome (get g.open slot) → ((k : ℕ) → k ≢ slot → get g.open k ≡ get f.open k) → AreFlows g
-flows_moved f g slot flows slots new others = flows_kept f g flows slots (λ k s. elim (cases_eq k slot) [
-  | inl same ↦ subst (λ z. IsSome (get g.open z)) (sym same) new
-  | inr other ↦ subst IsSome (sym (others k other)) s
-])
+picks : {A : Type 0} (b : Bool) (x y : A) → b ≡ true → (if b then x else y) ≡ x
+picks true x y e = refl
+picks false x y e = absurd cc
 
--- the flow with this key has no slot any more
-module _ (f g : Flows) (key : Option (List ℕ)) (slot : ℕ) (flows : AreFlows f) (found : slot_of f key ≡ Some slot)
-    (slots : (q : Option (List ℕ)) → slot_of g q ≡ cond (key_eq key q) None (slot_of f q))
-    (others : (k : ℕ) → k ≢ slot → get g.open k ≡ get f.open k) where
-  old_slot : (q : Option (List ℕ)) (k : ℕ) → slot_of g q ≡ Some k → slot_of f q ≡ Some k
-  old_slot q k e = elim (cases_Bool (key_eq key q)) [
-    | inl t ↦ absurd (let u : None ≡ Some k = sym (slots q ∙ ap (λ b. cond b None (slot_of f q)) t) ∙ e in cc)
-    | inr n ↦ sym (slots q ∙ ap (λ b. cond b None (slot_of f q)) n) ∙ e
+skips : {A : Type 0} (b : Bool) (x y : A) → b ≡ false → (if b then x else y) ≡ y
+skips true x y e = absurd cc
+skips false x y e = refl
+
+one_more : (q : Option (List ℕ)) (es : List Entry) (h : ℕ) → h < length es
+    → last_in q (take (h + 1) es) ≡ (if key_eq (entry_at es h).key q then Some (entry_at es h).place else last_in q (take h es))
+one_more q es h l = ap (last_in q) (take_more es h no_entry l) ∙ last_push q (take h es) (entry_at es h)
+
+-- the entry before place h has the key
+pub last_hit : (q : Option (List ℕ)) (es : List Entry) (h : ℕ) → h < length es → key_eq (entry_at es h).key q ≡ true
+    → last_in q (take (h + 1) es) ≡ Some (entry_at es h).place
+last_hit q es h l e = one_more q es h l ∙ picks (key_eq (entry_at es h).key q) (Some (entry_at es h).place) (last_in q (take h es)) e
+
+-- none of those from place l to h has it
+pub last_skip : (q : Option (List ℕ)) (es : List Entry) (l n : ℕ) → l + n ≤ length es
+    → ((k : ℕ) → l ≤ k → k < l + n → key_eq (entry_at es k).key q ≡ false) → last_in q (take (l + n) es) ≡ last_in q (take l es)
+last_skip q es l zero b f = ap (λ z. last_in q (take z es)) (let t : l + 0 ≡ l = omega arith in t)
+last_skip q es l (suc n) b f =
+    ap (λ z. last_in q (take z es)) (let t : l + suc n ≡ (l + n) + 1 = omega arith in t)
+    ∙ one_more q es (l + n) (omega (arith, b))
+    ∙ skips (key_eq (entry_at es (l + n)).key q) (Some (entry_at es (l + n)).place) (last_in q (take (l + n) es)) (f (l + n) (omega arith) (omega arith))
+    ∙ last_skip q es l n (omega (arith, b)) (λ k a c. f k a (omega (arith, c)))
+
+-- a key of another bucket is another
+pub apart_keys : (a q : Option (List ℕ)) → bucket_of a ≢ bucket_of q → key_eq a q ≡ false
+apart_keys a q h = elim (cases_Bool (key_eq a q)) [ inl t ↦ absurd (h (ap bucket_of (same_key a q t))) | inr f ↦ f ]
+
+-- where the chain goes on, the flow finds the same
+pub last_below : (q : Option (List ℕ)) (es : List Entry) (h : ℕ) → h < length es → key_eq (entry_at es h).key q ≡ false
+    → bucket_of (entry_at es h).key ≡ bucket_of q → IsHead es (bucket_of (entry_at es h).key) h (entry_at es h).below
+    → last_in q (take (h + 1) es) ≡ last_in q (take (entry_at es h).below es)
+last_below q es h l apart same is =
+    let b : ℕ = (entry_at es h).below in
+    let n : ℕ = h - b in
+    one_more q es h l ∙ skips (key_eq (entry_at es h).key q) (Some (entry_at es h).place) (last_in q (take h es)) apart
+    ∙ ap (λ z. last_in q (take z es)) (let t : h ≡ b + n = omega (arith, is.0) in t)
+    ∙ last_skip q es b n (omega (arith, is.0, l)) (λ k a c. apart_keys (entry_at es k).key q (λ e. is.2 k a (omega (arith, is.0, c)) (e ∙ sym same)))
+
+-- from the head of its bucket on
+pub last_head : (q : Option (List ℕ)) (es : List Entry) (h : ℕ) → IsHead es (bucket_of q) (length es) h → last_in q (take h es) ≡ last_in q es
+last_head q es h is =
+    let n : ℕ = length es - h in
+    sym (last_skip q es h n (omega (arith, is.0)) (λ k a c. apart_keys (entry_at es k).key q (is.2 k a (omega (arith, is.0, c)))))
+    ∙ ap (λ z. last_in q z) (ap (λ z. take z es) (let t : h + n ≡ length es = omega (arith, is.0) in t) ∙ take_all (length es) es (omega arith))
+
+-- ---- one entry more
+
+module _ (es : List Entry) (e : Entry) where
+  abbrev more : List Entry
+  more = es ++ (e ∷ [])
+
+  at_old : (k : ℕ) → k < length es → entry_at more k ≡ entry_at es k
+  at_old k h = get_or_append_left es (e ∷ []) no_entry k h
+
+  at_new : entry_at more (length es) ≡ e
+  at_new = get_or_push es e no_entry (length es) refl
+
+  -- of the first n entries nothing changes
+  head_old : (b n h : ℕ) → n ≤ length es → IsHead es b n h → IsHead more b n h
+  head_old b n h l is = (
+    is.0,
+    (λ o. ap (λ (z : Entry). bucket_of z.key) (at_old (h - 1) (omega (arith, is.0, o, l))) ∙ is.1 o),
+    (λ k a c. subst (λ (z : Entry). bucket_of z.key ≢ b) (sym (at_old k (omega (arith, c, l)))) (is.2 k a c)),
+  )
+
+  -- the last one isn't in this bucket
+  head_other : (b n h : ℕ) → n ≡ length es → bucket_of e.key ≢ b → IsHead es b n h → IsHead more b (n + 1) h
+  head_other b n h en other is =
+      let old = head_old b n h (omega (arith, en)) is in (
+        omega (arith, is.0),
+        old.1,
+        (λ k a c. elim (cases_eq k (length es)) [
+          | inl same ↦ subst (λ z. bucket_of (entry_at more z).key ≢ b) (sym same) (subst (λ (z : Entry). bucket_of z.key ≢ b) (sym at_new) other)
+          | inr apart ↦ old.2 k a (omega (arith, c, en, apart))
+        ]),
+      )
+
+  -- it is
+  head_own : (n : ℕ) → n ≡ length es → IsHead more (bucket_of e.key) (n + 1) (n + 1)
+  head_own n en = (
+    omega arith,
+    (λ o. ap (λ z. bucket_of (entry_at more z).key) (let t : n + 1 - 1 ≡ length es = omega (arith, en) in t) ∙ ap (λ (z : Entry). bucket_of z.key) at_new),
+    (λ k a c. absurd (omega (arith, a, c))),
+  )
+
+module _ (f g : Flows) (e : Entry) (b n : ℕ) (flows : AreFlows f) (is : b ≡ bucket_of e.key) (inside : b < 128)
+    (below : e.below ≡ get_or f.heads b 0) (long : n ≡ length f.entries.items + 1)
+    (entries : g.entries.items ≡ f.entries.items ++ (e ∷ [])) (heads : g.heads ≡ set f.heads b n) where
+  abbrev es : List Entry
+  es = f.entries.items
+
+  long_new : length (es ++ (e ∷ [])) ≡ length es + 1
+  long_new = omega (arith, length-append es (e ∷ []))
+
+  heads_new : (c : ℕ) → c < 128 → IsHead (es ++ (e ∷ [])) c (length es + 1) (get_or g.heads c 0)
+  heads_new c l = elim (cases_eq c b) [
+    | inl same ↦
+        subst (λ z. IsHead (es ++ (e ∷ [])) c (length es + 1) z)
+        (sym (ap (λ z. get_or z c 0) heads ∙ ap (λ z. get_or (set f.heads b n) z 0) same ∙ get_or-set_same f.heads b n 0 (omega (arith, inside, flows.many)) ∙ long))
+        (subst (λ z. IsHead (es ++ (e ∷ [])) z (length es + 1) (length es + 1)) (sym (same ∙ is)) (head_own es e (length es) refl))
+    | inr other ↦
+        subst (λ z. IsHead (es ++ (e ∷ [])) c (length es + 1) z) (sym (ap (λ z. get_or z c 0) heads ∙ get_or-set_other f.heads b c n 0 other))
+        (head_other es e c (length es) (get_or f.heads c 0) refl (λ s. other (sym (is ∙ s))) (flows.heads c l))
   ]
 
-  other_slot : (q : Option (List ℕ)) (k : ℕ) → slot_of g q ≡ Some k → k ≢ slot
-  other_slot q k e s =
-      let own : key ≡ q = flows.own key q slot found (old_slot q k e ∙ ap Some s) in
-      let u : None ≡ Some k = sym (slots q ∙ ap (λ b. cond b None (slot_of f q))
-      (subst (λ z. key_eq key z ≡ true) own (keys_equiv.refl key))) ∙ e in
-      absurd cc
-
-  pub flows_left : AreFlows g
-  flows_left = record {
-    live = λ q k e. subst IsSome (sym (others k (other_slot q k e))) (flows.live q k (old_slot q k e));
-    own = λ q r k d e. flows.own q r k (old_slot q k d) (old_slot r k e);
-  }
-
--- the flow with this key has a slot that was vacant
-module _ (f g : Flows) (key : Option (List ℕ)) (slot place : ℕ) (flows : AreFlows f)
-    (slots : (q : Option (List ℕ)) → slot_of g q ≡ cond (key_eq key q) (Some slot) (slot_of f q))
-    (vacant : get f.open slot ≡ None) (new : get g.open slot ≡ Some place) (others : (k : ℕ) → k ≢ slot → get g.open k ≡ get f.open k) where
-  is_new : (q : Option (List ℕ)) → key_eq key q ≡ true → slot_of g q ≡ Some slot
-  is_new q t = slots q ∙ ap (λ b. cond b (Some slot) (slot_of f q)) t
-
-  is_old : (q : Option (List ℕ)) → key_eq key q ≡ false → slot_of g q ≡ slot_of f q
-  is_old q n = slots q ∙ ap (λ b. cond b (Some slot) (slot_of f q)) n
-
-  -- no other flow leads to the slot
-  not_there : (q : Option (List ℕ)) (k : ℕ) → slot_of f q ≡ Some k → k ≢ slot
-  not_there q k e s = none_is (get f.open slot) vacant (flows.live q slot (e ∙ ap Some s))
-
-  own_slot : (q : Option (List ℕ)) (k : ℕ) → key_eq key q ≡ true → slot_of g q ≡ Some k → k ≡ slot
-  own_slot q k t e = let u : Some slot ≡ Some k = sym (is_new q t) ∙ e in cc
-
-  pub flows_entered : AreFlows g
-  flows_entered = record {
-    live = λ q k e. elim (cases_Bool (key_eq key q)) [
-      | inl t ↦ subst IsSome (sym (ap (get g.open) (own_slot q k t e) ∙ new)) refl
-      | inr n ↦
-          let o : slot_of f q ≡ Some k = sym (is_old q n) ∙ e in
-          subst IsSome (sym (others k (not_there q k o))) (flows.live q k o)
-    ];
-    own = λ q r k d e. elim (cases_Bool (key_eq key q)) [
-      | inl t ↦ elim (cases_Bool (key_eq key r)) [
-        | inl u ↦ sym (same_key key q t) ∙ same_key key r u
-        | inr m ↦ absurd (not_there r k (sym (is_old r m) ∙ e) (own_slot q k t d))
-      ]
-      | inr n ↦ elim (cases_Bool (key_eq key r)) [
-        | inl u ↦ absurd (not_there q k (sym (is_old q n) ∙ d) (own_slot r k u e))
-        | inr m ↦ flows.own q r k (sym (is_old q n) ∙ d) (sym (is_old r m) ∙ e)
-      ]
-    ];
-  }
-
-  same_place : (o : Option ℕ) → ((k : ℕ) → o ≡ Some k → k ≢ slot) → place_at g.open o ≡ place_at f.open o
-  same_place None h = refl
-  same_place (Some k) h = others k (h k refl)
-
-  pub puts_entered : Puts f key (Some place) g
-  puts_entered q = elim (cases_Bool (key_eq key q)) [
-    | inl t ↦ ap (place_at g.open) (is_new q t) ∙ new ∙ sym (ap (λ (b : Bool). if b then Some place else place_of f q) t)
-    | inr n ↦ ap (place_at g.open) (is_old q n) ∙ same_place (slot_of f q) (not_there q)
-        ∙ sym (ap (λ (b : Bool). if b then Some place else place_of f q) n)
+  belows_new : (i : ℕ) → i < length es + 1
+      → IsHead (es ++ (e ∷ [])) (bucket_of (entry_at (es ++ (e ∷ [])) i).key) i (entry_at (es ++ (e ∷ [])) i).below
+  belows_new i l = elim (cases_eq i (length es)) [
+    | inl same ↦
+        subst (λ z. IsHead (es ++ (e ∷ [])) (bucket_of (entry_at (es ++ (e ∷ [])) z).key) z (entry_at (es ++ (e ∷ [])) z).below) (sym same)
+        (subst (λ (z : Entry). IsHead (es ++ (e ∷ [])) (bucket_of z.key) (length es) z.below) (sym (at_new es e))
+        (head_old es e (bucket_of e.key) (length es) e.below (omega arith)
+        (subst (λ z. IsHead es (bucket_of e.key) (length es) z) (sym below)
+        (subst (λ z. IsHead es z (length es) (get_or f.heads b 0)) is (flows.heads b inside)))))
+    | inr other ↦
+        let m : i < length es = omega (arith, l, other) in
+        subst (λ (z : Entry). IsHead (es ++ (e ∷ [])) (bucket_of z.key) i z.below) (sym (at_old es e i m))
+        (head_old es e (bucket_of (entry_at es i).key) i (entry_at es i).below (omega (arith, m)) (flows.belows i m))
   ]
+
+  pub flows_put : AreFlows g
+  flows_put = record {
+    many = ap length heads ∙ length-set f.heads b n ∙ flows.many;
+    heads = λ c l. subst (λ (z : List Entry). IsHead z c (length z) (get_or g.heads c 0)) (sym entries)
+        (subst (λ z. IsHead (es ++ (e ∷ [])) c z (get_or g.heads c 0)) (sym long_new) (heads_new c l));
+    belows = λ i l. subst (λ (z : List Entry). IsHead z (bucket_of (entry_at z i).key) i (entry_at z i).below) (sym entries)
+        (belows_new i (omega (arith, l, ap length entries, long_new)));
+  }
+
+joined_if : (b : Bool) (x : Option ℕ) (o : Option (Option ℕ)) → joined (if b then Some x else o) ≡ (if b then x else joined o)
+joined_if true x o = refl
+joined_if false x o = refl
+
+pub puts_put : (f g : Flows) (e : Entry) → g.entries.items ≡ f.entries.items ++ (e ∷ []) → Puts f e.key e.place g
+puts_put f g e entries q =
+    ap (λ z. joined (last_in q z)) entries ∙ ap joined (last_push q f.entries.items e) ∙ joined_if (key_eq e.key q) e.place (last_in q f.entries.items)
+
+-- no entries yet
+pub flows_none : (f : Flows) → f.entries.items ≡ [] → f.heads ≡ replicate 128 0 → AreFlows f
+flows_none f none heads =
+    let empty : length f.entries.items ≡ 0 = ap length none in record {
+      many = ap length heads ∙ length-replicate {A = ℕ} 128 0;
+      heads = λ b l. subst (λ z. IsHead f.entries.items b (length f.entries.items) z) (sym (ap (λ z. get_or z b 0) heads ∙ get_or-replicate {A = ℕ} 128 b 0 0 l))
+          (omega arith, (λ o. absurd (omega (arith, o))), (λ k a c. absurd (omega (arith, c, empty))));
+      belows = λ i l. absurd (omega (arith, l, empty));
+    }

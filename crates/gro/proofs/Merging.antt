@@ -256,7 +256,7 @@ module _ (segs : ℕ) (ps : List Packet) (i place : ℕ) (is_open : Bool) (a b :
     (g : Grows ps i place is_open a b) (key : Option (List ℕ)) (k : key_of (packet_at ps i).frame ≡ key) (found : place_of a.flows key ≡ Some place)
     (m : IsMergeableWithin segs (get_or (runs_of ps a) place [] ++ (packet_at ps i ∷ []))) (flows : AreFlows found_at)
     (puts : Puts a.flows key (if is_open then Some place else None) found_at)
-    (room : (n : ℕ) → HasRoom a.flows n → HasRoom found_at n) where
+    (room : (n : ℕ) → HasRoom a.flows (n + 1) → HasRoom found_at n) where
   abbrev after : Engine
   after = record { runs = b.runs; next = b.next; flows = found_at; last = (if is_open then Some place else None) }
 
@@ -294,7 +294,7 @@ module _ (segs : ℕ) (ps : List Packet) (i place : ℕ) (is_open : Bool) (a b :
         (takes_grows (place_of a.flows) (runs_of ps a) key place run (packet_at ps i) runs.index found refl segs k m);
     early = subst (KeepsEarly (runs_of ps a) (packet_at ps i)) (sym g.runs) (early_grows (runs_of ps a) key place (packet_at ps i) run refl last);
     linked = g.linked;
-    places = λ n h. (omega (arith, h.0, g.room.0, g.room.1), room n (omega (arith, h.1.0), omega (arith, h.1.1)));
+    places = λ n h. (omega (arith, h.0, g.room.0, g.room.1), room n h.1);
   }
 
 -- ---- a packet opens a run
@@ -440,14 +440,14 @@ found_inside ps a key place index found =
 pub taken_by : (segs : ℕ) (ps : List Packet) (i place : ℕ) (is_open : Bool) (a b : Engine) (f : Flows) (runs : AreRuns ps i a) (inside : place < length a.runs.items)
     (g : Grows ps i place is_open a b) (x : Packet) → packet_at ps i ≡ x → (key : Option (List ℕ)) → key_of x.frame ≡ key → place_of a.flows key ≡ Some place
     → IsMergeableWithin segs (get_or (runs_of ps a) place [] ++ (x ∷ [])) → (now : Option ℕ) → now ≡ (if is_open then Some place else None)
-    → AreFlows f → Puts b.flows key (if is_open then Some place else None) f → ((n : ℕ) → HasRoom b.flows n → HasRoom f n)
+    → AreFlows f → Puts b.flows key (if is_open then Some place else None) f → ((n : ℕ) → HasRoom b.flows (n + 1) → HasRoom f n)
     → Takes segs ps i a (record { runs = b.runs; next = b.next; flows = f; last = now })
 taken_by segs ps i place is_open a b f runs inside g x ex key k found m now el flows puts room =
     subst (λ (z : Option ℕ). Takes segs ps i a (record { runs = b.runs; next = b.next; flows = f; last = z })) (sym el)
     (taken segs ps i place is_open a b f runs inside g key (ap (λ (z : Packet). key_of z.frame) ex ∙ k) found
     (subst (λ z. IsMergeableWithin segs (get_or (runs_of ps a) place [] ++ (z ∷ []))) (sym ex) m) flows
     (subst (λ (z : Flows). Puts z key (if is_open then Some place else None) f) g.flows puts)
-    (subst (λ (z : Flows). (n : ℕ) → HasRoom z n → HasRoom f n) g.flows room))
+    (subst (λ (z : Flows). (n : ℕ) → HasRoom z (n + 1) → HasRoom f n) g.flows room))
 
 pub latest_inside : (ps : List Packet) (i : ℕ) (a : Engine) (place : ℕ) → AreRuns ps i a → a.last ≡ Some place → place < length a.runs.items
 latest_inside ps i a place runs e =

@@ -50,7 +50,7 @@ early_more [] m n h a = tt
 early_more (r ∷ rs) m n h a = (omega (arith, a.0), early_more rs m n h a.1)
 
 pub places_less : (e : Engine) (m n : ℕ) → m ≤ n → HasPlaces e n → HasPlaces e m
-places_less e m n h p = (omega (arith, h, p.0), (omega (arith, h, p.1.0), omega (arith, h, p.1.1)))
+places_less e m n h p = (omega (arith, h, p.0), omega (arith, h, p.1))
 
 pub slots_less : (l : PacketList) (m n : ℕ) → m ≤ n → HasSlots l n → HasSlots l m
 slots_less l m n h p = (omega (arith, h, p.0), omega (arith, h, p.1))

@@ -10,11 +10,11 @@ ghost use Rattle.offload_model.specs.Rounds.{is_of, runs_in};
 ghost use Rattle.merge_rule.specs.Runs.{IsJudged};
 ghost use Rattle.skb.specs.SkbState.{buffer_bytes};
 ghost use Rattle.gro.specs.Slots.{packet_in, IsSlot, AreSlots, IsHere};
-ghost use Rattle.gro.specs.Flows.{slot_of, place_of, AreFlows, Puts, HasRoom};
+ghost use Rattle.gro.specs.Flows.{place_of, AreFlows, Puts, HasRoom};
 ghost use Rattle.gro.specs.Engine.{IsChain, runs_of, AreRuns, HasPlaces, Grows, Takes, DoRise, IsReady};
 
 use crate::candidacy::{flow_key, judge};
-use crate::flows::{Flows, Found};
+use crate::flows::Flows;
 use crate::run::Run;
 use crate::slot::Slot;
 use frame_layout::Key;
@@ -40,19 +40,20 @@ fn open_at(place: usize, is_open: bool) -> Option<usize>
 /// The packet's flow finds nothing any more, where its run isn't open.
 fn settle(flows: &mut Flows, slot: &Slot, candidacy: &Candidacy, is_open: bool)
     requires flows { AreFlows flows.old }
+    requires places { HasRoom flows.old 1 }
     requires slot { IsSlot slot.now }
     requires judged { IsJudged (buffer_bytes slot.now.skb) slot.now.original candidacy.now.layout
         candidacy.now.payload candidacy.now.flags }
     ensures flows { AreFlows flows.new }
     ensures puts { let key = key_of (buffer_bytes slot.now.skb) in
         Puts flows.old key (if is_open then place_of flows.old key else None) flows.new }
-    ensures room { (n : ℕ) → HasRoom flows.old n → HasRoom flows.new n }
+    ensures room { (n : ℕ) → HasRoom flows.old (n + 1) → HasRoom flows.new n }
 {
     if is_open {
         return;
     }
     let key = flow_key(&slot.skb, candidacy);
-    flows.forget(&key);
+    flows.put(key, None);
 }
 
 impl Engine {
@@ -150,8 +151,8 @@ impl Engine {
         packets: &[Slot],
         i: u32,
         slot: &Slot,
-        key: &Key,
-        found: Found,
+        key: Key,
+        found: usize,
         candidacy: Candidacy,
     )
         requires runs { AreRuns (map packet_in packets.now) i self.old }
@@ -160,19 +161,19 @@ impl Engine {
         requires slot { IsSlot slot.now }
         requires judged { IsJudged (buffer_bytes slot.now.skb) slot.now.original candidacy.layout candidacy.payload
             candidacy.flags }
-        requires key { key_of (buffer_bytes slot.now.skb) ≡ key.now }
-        requires at { slot_of self.old.flows key.now ≡ Some found.slot }
-        requires place { place_of self.old.flows key.now ≡ Some found.place }
+        requires key { key_of (buffer_bytes slot.now.skb) ≡ key }
+        requires place { place_of self.old.flows key ≡ Some found }
         ensures takes { (segs : ℕ) → (IsMergeableWithin segs
-            (slice_index_or (runs_of (map packet_in packets.now) self.old) found.place []
+            (slice_index_or (runs_of (map packet_in packets.now) self.old) found []
             ++ (packet_in slot.now ∷ [])) → ⊥)
             → Takes segs (map packet_in packets.now) i self.old self.new }
     {
         let run = Run::open(i, slot, candidacy);
         let is_open = run.progress.is_open;
         let place = self.runs.len();
-        self.flows.follow(key, found.slot, place, is_open);
-        self.last = open_at(place, is_open);
+        let last = open_at(place, is_open);
+        self.flows.put(key, last);
+        self.last = last;
         self.runs.push_reserved(run);
     }
 
@@ -199,34 +200,35 @@ impl Engine {
         packets: &[Slot],
         i: u32,
         slot: &Slot,
-        key: &Key,
-        found: Found,
+        key: Key,
+        found: usize,
         candidacy: &Candidacy,
     )
         requires runs { AreRuns (map packet_in packets.now) i self.old }
+        requires places { HasPlaces self.old 1 }
         requires slots { AreSlots packets.now }
         requires here { IsHere packets.now i slot.now }
         requires slot { IsSlot slot.now }
         requires judged { IsJudged (buffer_bytes slot.now.skb) slot.now.original candidacy.now.layout
             candidacy.now.payload candidacy.now.flags }
-        requires key { key_of (buffer_bytes slot.now.skb) ≡ key.now }
-        requires at { slot_of self.old.flows key.now ≡ Some found.slot }
-        requires place { place_of self.old.flows key.now ≡ Some found.place }
-        requires mergeable { IsMergeable (slice_index_or (runs_of (map packet_in packets.now) self.old) found.place []
+        requires key { key_of (buffer_bytes slot.now.skb) ≡ key }
+        requires place { place_of self.old.flows key ≡ Some found }
+        requires mergeable { IsMergeable (slice_index_or (runs_of (map packet_in packets.now) self.old) found []
             ++ (packet_in slot.now ∷ [])) }
         ensures takes { (segs : ℕ) → IsMergeableWithin segs
-            (slice_index_or (runs_of (map packet_in packets.now) self.old) found.place []
+            (slice_index_or (runs_of (map packet_in packets.now) self.old) found []
             ++ (packet_in slot.now ∷ []))
             → Takes segs (map packet_in packets.now) i self.old self.new }
     {
-        let is_open = self.link(packets, i, slot, found.place, candidacy);
+        let is_open = self.link(packets, i, slot, found, candidacy);
         self.flows.keep(key, found, is_open);
-        self.last = open_at(found.place, is_open);
+        self.last = open_at(found, is_open);
     }
 
     /// A packet that the last packet's run takes. Its key isn't asked for, but where the run ends with it.
     fn extend(&mut self, packets: &[Slot], i: u32, slot: &Slot, place: usize, candidacy: &Candidacy)
         requires runs { AreRuns (map packet_in packets.now) i self.old }
+        requires places { HasPlaces self.old 1 }
         requires slots { AreSlots packets.now }
         requires here { IsHere packets.now i slot.now }
         requires slot { IsSlot slot.now }
@@ -300,10 +302,10 @@ impl Engine {
         let Some(found) = self.flows.find(&key) else {
             return self.begin(packets, i, slot, key, candidacy);
         };
-        if self.takes_at(packets, found.place, slot, &candidacy, segs) {
-            return self.grow(packets, i, slot, &key, found, &candidacy);
+        if self.takes_at(packets, found, slot, &candidacy, segs) {
+            return self.grow(packets, i, slot, key, found, &candidacy);
         }
-        self.follow(packets, i, slot, &key, found, candidacy);
+        self.follow(packets, i, slot, key, found, candidacy);
     }
 
     /// A packet that the last packet's run doesn't take.

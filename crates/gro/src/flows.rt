@@ -1,26 +1,58 @@
 //! The open run of each flow.
-ghost use Rattle.std.specs.Prelude.{◌≡◌, ◌+◌, ◌≤◌, Option, Some, None, IsSome, List, ℕ, length, IfOk, OnOk, IfSome};
-ghost use Rattle.std.specs.Prelude.{IfNone, true, if◌then◌else◌};
-ghost use Rattle.gro.specs.Flows.{slot_of, place_of, AreFlows, Puts, HasRoom};
+ghost use Rattle.std.specs.Prelude.{◌≡◌, ◌+◌, ◌<◌, ◌≤◌, Option, Some, None, List, ℕ, length, IfOk, OnOk, true};
+ghost use Rattle.std.specs.Prelude.{if◌then◌else◌};
+ghost use Rattle.gro.specs.Flows.{hash_of, bucket_of, place_of, AreFlows, Puts, HasRoom};
 
 use frame_layout::Key;
-use slab::Slab;
+use net_bytes::be32;
 use std::alloc::{AllocError, Global};
-use std::collections::HashMap;
 
-/// Where the open run of each flow stands in the list of runs. A flow's key leads to its place in a slab, so that the
-/// next run of the flow takes the place of a closed one without a look at the keys.
+/// What is known of a flow: the place of its open run, where it has one. The entry before it in its bucket, counted
+/// from 1, is `below`.
 #[derive(Drop)]
-pub struct Flows {
-    pub open: Slab<usize>,
-    pub slots: HashMap<Key, usize>,
+pub struct Entry {
+    pub key: Key,
+    pub below: usize,
+    pub place: Option<usize>,
 }
 
-/// The slot and the place of a flow's open run.
-#[derive(Clone, Copy, Drop)]
-pub struct Found {
-    pub slot: usize,
-    pub place: usize,
+/// Where the open run of each flow stands in the list of runs. The last entry of a flow's key tells it. All entries of
+/// one bucket are a chain, from the last one on, which is counted from 1 in `heads`.
+#[derive(Drop)]
+pub struct Flows {
+    pub heads: [usize; 128],
+    pub entries: Vec<Entry>,
+}
+
+/// A hash of a key's last words: the ports, and of both addresses what differs most.
+fn mixed(bytes: &[u8]) -> u32
+    ensures hash { result ≡ hash_of (Some bytes.now) }
+{
+    let n = bytes.len();
+    if n < 26 {
+        return 0;
+    }
+    let ports = be32(bytes, n - 4).wrapping_mul(0x9e37_79b1);
+    let nearer = ports
+        .wrapping_add(be32(bytes, n - 9))
+        .wrapping_mul(0x9e37_79b1);
+    let farther = nearer
+        .wrapping_add(be32(bytes, n - 13))
+        .wrapping_mul(0x9e37_79b1);
+    farther
+        .wrapping_add(be32(bytes, n - 25))
+        .wrapping_mul(0x9e37_79b1)
+}
+
+/// The bucket of a key. Equal keys have one.
+fn bucket(key: &Key) -> usize
+    ensures bucket { result ≡ bucket_of key.now }
+    ensures inside { result < 128 }
+{
+    match key.bytes() {
+        Some(bytes) => (mixed(bytes) / 0x0200_0000) as usize,
+        None => 0,
+    }
 }
 
 impl Flows {
@@ -30,12 +62,14 @@ impl Flows {
         ensures none { IfOk result (λ f. (q : Option (List ℕ)) → place_of f q ≡ None) }
         ensures room { IfOk result (λ f. HasRoom f n) }
     {
-        let open = Slab::with_capacity(alloc, n)?;
-        let slots = HashMap::with_capacity(alloc, n)?;
-        Ok(Flows { open, slots })
+        let entries = Vec::with_capacity(alloc, n)?;
+        Ok(Flows {
+            heads: [0; 128],
+            entries,
+        })
     }
 
-    /// Room for n flows more.
+    /// Room for n packets more.
     pub(crate) fn reserve(&mut self, n: usize) -> Result<(), AllocError>
         requires flows { AreFlows self.old }
         ensures flows { AreFlows self.new }
@@ -43,8 +77,7 @@ impl Flows {
         ensures room { OnOk result (HasRoom self.new n) }
         ensures later { (k : ℕ) → HasRoom self.old k → HasRoom self.new k }
     {
-        self.open.reserve(n)?;
-        self.slots.reserve(n)
+        self.entries.reserve(n)
     }
 
     /// No flow has an open run any more. The memory stays.
@@ -53,66 +86,45 @@ impl Flows {
         ensures none { (q : Option (List ℕ)) → place_of self.new q ≡ None }
         ensures room { HasRoom self.new 0 }
     {
-        self.open.clear();
-        self.slots.clear();
+        self.entries.clear();
+        self.heads = [0; 128];
     }
 
     /// Whether no flow has an open run.
     pub(crate) fn is_empty(&self) -> bool
         ensures none { result ≡ true → (q : Option (List ℕ)) → place_of self.now q ≡ None }
     {
-        self.slots.is_empty()
+        self.entries.is_empty()
     }
 
-    /// The open run of the flow with this key.
-    pub(crate) fn find(&self, key: &Key) -> Option<Found>
+    /// The place of the open run of the flow with this key.
+    pub(crate) fn find(&self, key: &Key) -> Option<usize>
         requires flows { AreFlows self.now }
-        ensures none { IfNone result (place_of self.now key.now ≡ None) }
-        ensures slot { IfSome result (λ f. slot_of self.now key.now ≡ Some f.slot) }
-        ensures place { IfSome result (λ f. place_of self.now key.now ≡ Some f.place) }
+        ensures place { result ≡ place_of self.now key.now }
     {
-        let slot = *self.slots.get(key)?;
-        let place = *self.open.get(slot)?;
-        Some(Found { slot, place })
+        let mut at = self.heads[bucket(key)];
+        while at > 0 {
+            let entry = &self.entries[at - 1];
+            if entry.key == *key {
+                return entry.place;
+            }
+            at = entry.below;
+        }
+        None
     }
 
-    // A flow that had no open run has one.
-    fn enter(&mut self, key: Key, place: usize)
+    /// The flow with this key has this open run from now on, or none.
+    pub(crate) fn put(&mut self, key: Key, place: Option<usize>)
         requires flows { AreFlows self.old }
-        requires fresh { place_of self.old key ≡ None }
         requires room { HasRoom self.old 1 }
         ensures flows { AreFlows self.new }
-        ensures puts { Puts self.old key (Some place) self.new }
+        ensures puts { Puts self.old key place self.new }
         ensures room { (n : ℕ) → HasRoom self.old (n + 1) → HasRoom self.new n }
     {
-        let slot = self.open.insert_reserved(place);
-        let _none = self.slots.insert(key, slot);
-    }
-
-    // The flow's open run is another: the closed one leaves its slot, and this one takes it.
-    fn replace(&mut self, key: &Key, slot: usize, place: usize)
-        requires flows { AreFlows self.old }
-        requires found { slot_of self.old key.now ≡ Some slot }
-        ensures flows { AreFlows self.new }
-        ensures puts { Puts self.old key.now (Some place) self.new }
-        ensures room { (n : ℕ) → HasRoom self.old n → HasRoom self.new n }
-    {
-        let Some(_closed) = self.open.try_remove(slot) else {
-            unreachable!()
-        };
-        self.open.insert_reserved(place);
-    }
-
-    // The flow has no open run any more.
-    fn leave(&mut self, key: &Key, slot: usize)
-        requires flows { AreFlows self.old }
-        requires found { slot_of self.old key.now ≡ Some slot }
-        ensures flows { AreFlows self.new }
-        ensures puts { Puts self.old key.now None self.new }
-        ensures room { (n : ℕ) → HasRoom self.old n → HasRoom self.new n }
-    {
-        let _closed = self.open.try_remove(slot);
-        let _slot = self.slots.remove(key);
+        let bucket = bucket(&key);
+        let below = self.heads[bucket];
+        self.entries.push_reserved(Entry { key, below, place });
+        self.heads[bucket] = self.entries.len();
     }
 
     /// A flow of which none is found has a new run at this place. It is found where it is open.
@@ -125,49 +137,21 @@ impl Flows {
         ensures room { (n : ℕ) → HasRoom self.old (n + 1) → HasRoom self.new n }
     {
         if is_open {
-            self.enter(key, place);
-        }
-    }
-
-    /// A flow of which a run was found has a new run at this place, which is found in the other's stead where it is
-    /// open.
-    pub(crate) fn follow(&mut self, key: &Key, slot: usize, place: usize, is_open: bool)
-        requires flows { AreFlows self.old }
-        requires found { slot_of self.old key.now ≡ Some slot }
-        ensures flows { AreFlows self.new }
-        ensures puts { Puts self.old key.now (if is_open then Some place else None) self.new }
-        ensures room { (n : ℕ) → HasRoom self.old n → HasRoom self.new n }
-    {
-        if is_open {
-            self.replace(key, slot, place);
-        } else {
-            self.leave(key, slot);
+            self.put(key, Some(place));
         }
     }
 
     /// The run that was found of a flow has one more packet. It is found as long as it is open.
-    pub(crate) fn keep(&mut self, key: &Key, found: Found, is_open: bool)
+    pub(crate) fn keep(&mut self, key: Key, place: usize, is_open: bool)
         requires flows { AreFlows self.old }
-        requires slot { slot_of self.old key.now ≡ Some found.slot }
-        requires place { place_of self.old key.now ≡ Some found.place }
+        requires place { place_of self.old key ≡ Some place }
+        requires room { HasRoom self.old 1 }
         ensures flows { AreFlows self.new }
-        ensures puts { Puts self.old key.now (if is_open then Some found.place else None) self.new }
-        ensures room { (n : ℕ) → HasRoom self.old n → HasRoom self.new n }
+        ensures puts { Puts self.old key (if is_open then Some place else None) self.new }
+        ensures room { (n : ℕ) → HasRoom self.old (n + 1) → HasRoom self.new n }
     {
         if !is_open {
-            self.leave(key, found.slot);
-        }
-    }
-
-    /// Nothing is found of the flow any more.
-    pub(crate) fn forget(&mut self, key: &Key)
-        requires flows { AreFlows self.old }
-        ensures flows { AreFlows self.new }
-        ensures puts { Puts self.old key.now None self.new }
-        ensures room { (n : ℕ) → HasRoom self.old n → HasRoom self.new n }
-    {
-        if let Some(found) = self.find(key) {
-            self.leave(key, found.slot);
+            self.put(key, None);
         }
     }
 }

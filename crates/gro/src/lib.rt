@@ -110,27 +110,29 @@
 //!   in another order. So each goes once to a place that may be empty, and from there to its run's item.
 //! - **Where each head is a part no life begins** (`shared` of `HoldsAll`), and the account of an item is that of its
 //!   packets; where some are Soles, a life begins at most with each of these (`account`).
-//! - **A table serves one round after another**: `finish_into` and `clear` leave one that holds nothing, whose map,
-//!   slab and list keep their memory, and `start` says how many packets the next round has. It takes memory only where
-//!   no round before had as many. That there is room is so asked where memory may be refused, and no step has to say
-//!   that capacities stay: of a map from which a key was removed std says less than that.
+//! - **A table serves one round after another**: `finish_into` and `clear` leave one that holds nothing, whose lists
+//!   keep their memory, and `start` says how many packets the next round has. It takes memory only where no round
+//!   before had as many. That there is room is so asked where memory may be refused, and no step has to say that
+//!   capacities stay.
 //! - **Emptied outcomes serve items to come** (`keep`), so that a packet that is alone takes no memory and a run has
 //!   one list to make, its pieces', which stays with its buffer. The form for that one: a release of a buffer that
 //!   hands its emptied list of pieces on. What is asked of places (`IsPlaceOf`) stays as it is, and so does every proof
 //!   of the join.
 //! - **A packet that a run takes is of the run's flow** (`flow` of `takes` in `gro`), by the law that headers alike
 //!   make keys equal (`alike_keeps_key`): the last packet's run may be asked before any key is made.
-//! - **Only open runs are found**: a flow's key leads to a slot of a slab, and that to the run's place among all. A run
-//!   that closes leaves both, or its slot goes to the flow's next run, by the slot and without a look at keys. A packet
-//!   that can't be merged asks the map only where some flow has an open run, since it may end that, and never enters
-//!   it.
-//! - **A key stands inline in the map**, in room for 120 bytes, and is hashed by one write; so a flow takes no memory
-//!   of its own, and all that the map and the slab need is taken in `make` and `start`.
-//! - **The map's key is `frame_layout`'s `Key` as it stands**, Other among them: what is said of flows ranges over
-//!   every key, so that a frame without a shape goes the way of any packet that can't be merged, which opens a run that
-//!   isn't found. But for a test nothing in `gro` asks whether a key has bytes, and none is copied.
-//! - **The last packet's run is asked first.** Where it takes the packet, no key is made and no map asked, but where
-//!   the run closes with it. The run's place is kept only while the run is open.
+//! - **Only open runs are found**, and a flow's last entry tells its run: a run that is opened or closed is one entry
+//!   more in front of the others, and none is changed. So a packet has one entry at most, an entry's chain behind it
+//!   stays as it was, and what a flow finds is a function of the list of entries alone (`last_in`), without a bucket.
+//!   A packet that can't be merged asks only where there are entries, since it may end a flow's run.
+//! - **Entries of one bucket are a chain**, by a hash of a key's last words: 128 buckets, a kilobyte to clear in a
+//!   round that had entries. Nothing is asked of the hash but that it is a function of the key, so keys are compared,
+//!   and a flow whose bucket is empty is new without that. Where std's map stood, with the slab that it led to, a new
+//!   flow was hashed twice and its key moved four times.
+//! - **An entry's key is `frame_layout`'s `Key` as it stands**, Other among them, inline in room for 120 bytes: what is
+//!   said of flows ranges over every key, so that a frame without a shape goes the way of any packet that can't be
+//!   merged, which opens a run that isn't found. All memory for entries is taken in `make` and `start`.
+//! - **The last packet's run is asked first.** Where it takes the packet, no key is made, but where the run closes with
+//!   it. The run's place is kept only while the run is open.
 //! - **That memory is refused only where it is wanted isn't said** of `finish`: a table doesn't say which of its lists
 //!   are full. `receive` never refuses, though its answer could: a caller that was written for a table that may is
 //!   served as before.

@@ -5,7 +5,7 @@ use Rattle.pcap_io.specs.Capture.{Packet}
 use Rattle.skb.specs.SkbState.{buffer_bytes}
 use Rattle.gro.specs.declared.engine.Engine.{Engine}
 use Rattle.gro.specs.declared.flows.Flows.{Flows}
-use Rattle.gro.specs.Flows.{place_of, AreFlows}
+use Rattle.gro.specs.Flows.{place_of, AreFlows, HasRoom}
 use Rattle.gro.specs.Slots.{packet_in}
 use Rattle.gro.proofs.Merging.{taken_by}
 use Rattle.gro.proofs.engine.Engine.extend.Goals as goal
@@ -28,3 +28,6 @@ returns c =
 
 pub settle-requires-clause-flows : goal.settle-requires-clause-flows
 settle-requires-clause-flows c = subst AreFlows (sym c.link-is_open.ensures.grows.flows) c.requires.runs.flows
+
+pub settle-requires-clause-places : goal.settle-requires-clause-places
+settle-requires-clause-places c = subst (λ (z : Flows). HasRoom z 1) (sym c.link-is_open.ensures.grows.flows) c.requires.places.1

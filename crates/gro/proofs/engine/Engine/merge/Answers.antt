@@ -8,7 +8,7 @@ use Rattle.gro.proofs.engine.Engine.merge.Goals as goal
 
 pub receive-requires-clause-places : goal.receive-requires-clause-places
 receive-requires-clause-places c =
-    (omega (arith, c.loop-i.invariant.1.0), (omega (arith, c.loop-i.invariant.1.1.0), omega (arith, c.loop-i.invariant.1.1.1)))
+    (omega (arith, c.loop-i.invariant.1.0), omega (arith, c.loop-i.invariant.1.1))
 
 pub loop-i-preserved : goal.loop-i-preserved
 loop-i-preserved c =

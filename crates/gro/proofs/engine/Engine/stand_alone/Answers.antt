@@ -21,7 +21,7 @@ returns c =
           (omega (arith, c.requires.here.0, length-map c.args.packets.now packet_in))
           c.open-run.ensures.indices.0 c.open-run.ensures.indices.1 c.open-run.ensures.indices.2
           (subst (λ z. Knows c.open-run.result z []) (sym c.requires.here.1) c.open-run.ensures.knows)
-          (λ n h. (omega (arith, h.0, c.push_reserved.ensures.len, c.push_reserved.ensures.capacity), (omega (arith, h.1.0), omega (arith, h.1.1))))
+          (λ n h. (omega (arith, h.0, c.push_reserved.ensures.len, c.push_reserved.ensures.capacity), omega (arith, h.1)))
           (subst (λ (z : Packet). place_of a.flows (key_of z.frame) ≡ None) (sym c.requires.here.1) c.requires.none)
           (subst (λ (z : Packet). IsShut (z ∷ [])) (sym c.requires.here.1)
           (alone_shut x c.args.candidacy.layout c.args.candidacy.payload c.args.candidacy.flags c.requires.judged c.requires.alone))
