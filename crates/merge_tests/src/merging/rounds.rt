@@ -80,6 +80,39 @@ fn rows_of_packets(rt: HostRuntime) {
     come_to(&rt, alloc, &padded, &payload, &rows);
 }
 
+// The same headers from another station. What is hashed of a flow's key stays.
+fn from_station(head: [u8; 54], station: u8) -> [u8; 54] {
+    let mut other = head;
+    other[11] = station;
+    other
+}
+
+/// Flows in turn whose keys have one hash, one of which ends its run and begins another.
+#[test]
+fn flows_of_one_hash(rt: HostRuntime) {
+    let alloc = rt.alloc();
+    let payload = [9; 100];
+    let first = plain(0, 0, 0x10, &payload);
+    let next = plain(1, 100, 0x10, &payload);
+    let heads = [
+        first,
+        from_station(first, 7),
+        from_station(first, 8),
+        plain(1, 100, 0x18, &payload),
+        from_station(next, 7),
+        plain(2, 200, 0x10, &payload),
+        from_station(next, 8),
+        plain(3, 300, 0x10, &payload),
+    ];
+    let rows = [
+        (0, 2, 100, 0),
+        (1, 2, 100, 0),
+        (2, 2, 100, 0),
+        (5, 2, 100, 0),
+    ];
+    come_to(&rt, alloc, &heads, &payload, &rows);
+}
+
 /// A packet that was captured in part is alone, and ends its flow's run.
 #[test]
 fn captured_in_part(rt: HostRuntime) {
