@@ -3,4 +3,5 @@ pub mod Planning
 pub mod Opening
 pub mod Merged
 pub mod Whole
+pub mod Places
 pub mod Cutting

@@ -1,12 +1,18 @@
 //! Merged frames that lie in buffers, cut back into packets.
 //!
 //! [`check_super`] tests a whole record: its offload header, and the frame behind it, which lies in a buffer.
-//! Each byte of the payload is read once, and the sums of the segments are kept in the [`Plan`]. A [`Cutter`] then
-//! gives the packets that the record stands for, one by one: each a buffer whose head is a spare's block with the
-//! headers, and whose payload are pieces of the record's own blocks. No byte but the headers' is copied.
+//! Each byte of the payload is read once, and the sums of the segments are kept in the [`Plan`]. No byte but the
+//! headers' is copied then, and there are two ways to the packets that the record stands for:
 //!
-//! Proved: `BadOffload` exactly where the record isn't lawful (clause `lawful` of [`check_super`]); the frames are
-//! those of the definition, in turn, each in the spare's block, and then `Done` (`left` of [`Cutter::start`] and
+//! - [`Segments`], for who writes them: the headers of each, and the [`Place`] in the record's own buffer from which
+//!   its payload is read, slice by slice. It takes neither memory nor blocks.
+//! - a [`Cutter`], for who keeps them: each a buffer whose head is a spare's block with the headers, and whose payload
+//!   are pieces of the record's own blocks.
+//!
+//! Proved: `BadOffload` exactly where the record isn't lawful (clause `lawful` of [`check_super`]); headers and payload
+//! of each of the `Segments` are the segment of the definition (`segment` of [`Segments::put_headers`]), and the
+//! payload's bytes are read in their order, each once (`bytes` of [`Segments::read`]). What a cutter gives are the
+//! frames of the definition, in turn, each in the spare's block, and then `Done` (`left` of [`Cutter::start`] and
 //! [`Cutter::next`]); where memory is refused the spare comes back, and the same frames are still to come; no block and
 //! no weight is lost (`account`).
 //!
@@ -31,8 +37,9 @@
 //! ```
 //!
 //! Its parts: `sums` (the sums of a payload's segments, taken as its bytes come in pieces), `judging` (`check_super`),
-//! `open` (bytes cut off, with no part worn), `headers` (a segment's headers in a spare), `merged` and `whole` (the two
-//! ways in which a record's frames are given), and on these `cutter`.
+//! `place` (a place of a buffer's bytes, from which they are read) and on that `segments`; `open` (bytes cut off, with
+//! no part worn), `headers` (a segment's headers in a spare), `merged` and `whole` (the two ways in which a record's
+//! frames are given), and on these `cutter`.
 //!
 //! Tests: `merge_tests`, module `segmenting`.
 //!
@@ -49,6 +56,7 @@
 //! - **Each piece weighs at least as much as it has bytes**: that holds at the start, by a least weight of 2,048, and
 //!   each cut inside a piece keeps it, since it takes a byte or more and gives away a 4096th. So no cut ever finds a
 //!   part worn, and the count of earlier cuts comes in nowhere.
+//! - **A place says how many bytes are left from it on**, so the last segment's payload is the least of two numbers.
 //! - **A frame that is given as it is gets an empty head in the spare's block**, with the record's own head as its
 //!   first piece. So what a cutter gives has one form, and a spare is used up by each frame.
 #![tactic(auto)]
@@ -58,9 +66,14 @@ mod headers;
 mod judging;
 mod merged;
 mod open;
+mod place;
+mod segments;
 mod sums;
 mod whole;
 
 pub use cutter::{Cut, Cutter};
 pub use judging::{Plan, check_super};
+pub use place::Place;
 pub use segment_rule::BadOffload;
+pub use segments::Segments;
+pub use sums::Sums;

@@ -91,7 +91,7 @@ impl Sums {
     }
 
     /// The sum of segment `i`, from 0, where it is known. The last one's is that of all that follows.
-    fn part(&self, m: u32, i: u32, is_last: bool) -> Option<Partial>
+    pub(crate) fn part(&self, m: u32, i: u32, is_last: bool) -> Option<Partial>
         ensures part { (f : List ℕ) → AreSumsOf m self.now f → (is_last ≡ true → length f ≤ (i + 1) * m)
             → IfSome result (λ s. StandsFor s (take m (drop (i * m) f))) }
     {
