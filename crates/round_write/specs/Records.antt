@@ -1,15 +1,18 @@
 -- Records as they are written from buffers (pcap file format, section 5).
-use Rattle.std.specs.Prelude.{ℕ, ◌+◌, ◌<◌, ◌^◌, List, ◌++◌, Option, None, Some}
+use Rattle.std.specs.Prelude.{ℕ, ◌+◌, ◌<◌, ◌^◌, List, length, ◌++◌, Option, None, Some}
 use Rattle.pcap_io.specs.Limits.{off_head2_size}
 use Rattle.net_bytes.specs.declared.order.Order.{Order}
 use Rattle.pcap_io.specs.declared.off_head.OffHead2.{OffHead2}
-use Rattle.pcap_io.specs.Capture.{Packet}
+use Rattle.pcap_io.specs.Capture.{Packet, packet}
 use Rattle.pcap_io.specs.Written.{rec_bytes, off_bytes2}
-use Rattle.skb.specs.SkbState.{buffer_size}
+use Rattle.skb.specs.SkbState.{buffer_bytes, buffer_size}
+use Rattle.segment_rule.specs.Segmentations.{segment_at}
+use Rattle.gso.specs.Places.{SegmentsState}
 use Rattle.offload_model.specs.Merged.{Merged}
 use Rattle.offload_model.specs.Segments.{with_head}
 use Rattle.offload_model.specs.Written.{head_of, record_bytes}
 use Rattle.gro.specs.declared.item.Item.{Item}
+use Rattle.round_write.specs.declared.record.Time.{Time}
 
 -- a packet behind an offload header, where there is one
 abbrev pub headed : Option OffHead2 → Packet → Packet
@@ -32,3 +35,11 @@ item_bytes order q m = record_bytes order (with_head (head_of q m) m.packet)
 pub record FitsItem (item : Item) : Type 0 where
   pub captured : buffer_size item.skb + off_head2_size < 2 ^ 32
   pub original : item.original + off_head2_size < 2 ^ 32
+
+-- ---- what segments come to
+
+-- what is written of segment i, from 0: a record of its own, with its own length as original length
+abbrev pub segment_bytes : Order → Time → SegmentsState → ℕ → List ℕ
+segment_bytes order time s i =
+    let frame = segment_at s.cut (buffer_bytes s.skb) i in
+    record_bytes order (packet 0 time.sec time.frac (length frame) frame)

@@ -1,10 +1,13 @@
 //! Writes records from buffers: one way for merged packets, single ones, segments and the windows of taps.
 //!
 //! A record is its header, maybe an offload header of 16 bytes, and a frame (pcap file format, section 5). Both headers
-//! are put together and written by one call, and then the slices of the frame's buffer, uncopied.
+//! are put together and written by one call, and then the slices of the frame's buffer, uncopied. The segments of a
+//! merged frame are written from its own buffer ([`write_segments`]): of each its record header and its own headers by
+//! one call, and then its part of the payload.
 //!
 //! Proved, at every sink: what was appended is exactly the record as the model has it (`record_bytes`, clauses `ok`),
-//! or a front of it where the sink's count of faults rose (`err`, `cause`).
+//! or a front of it where the sink's count of faults rose (`err`, `cause`). Of segments these are all of their records,
+//! in turn.
 //!
 //! ```
 //! let first = write_record(&mut sink, &file, time, original, None, &segment);
@@ -17,7 +20,9 @@
 mod buffer;
 mod items;
 mod record;
+mod segments;
 
 pub use buffer::write_buffer;
 pub use items::{write_item, write_items};
 pub use record::{Time, write_record, write_window};
+pub use segments::write_segments;
