@@ -270,7 +270,7 @@ fn each_call_within_a_merged_record_fails_in_turn(rt: HostRuntime) -> Result<(),
 // The one record of a merged capture, with an offload header of version 1.
 const SEGMENT_CALLS: [Calls; 3] = [
     (1, [24, 88, 1, 0, 0], 171),
-    (7, [4, 14, 1, 0, 0], 29),
+    (7, [4, 14, 1, 0, 0], 27),
     (64, [1, 3, 1, 0, 0], 8),
 ];
 
@@ -294,7 +294,7 @@ fn each_call_of_segment_fails_in_turn(rt: HostRuntime) -> Result<(), Fail> {
 // The same record with an offload header of version 2, of whose 16 bytes the last four are read with the frame.
 const SEGMENT_CALLS_2: [Calls; 3] = [
     (1, [24, 92, 1, 0, 0], 171),
-    (7, [4, 15, 1, 0, 0], 29),
+    (7, [4, 15, 1, 0, 0], 27),
     (64, [1, 3, 1, 0, 0], 8),
 ];
 

@@ -156,10 +156,10 @@ fn records_that_are_not_lawful(rt: HostRuntime) -> Result<(), Fail> {
     Ok(())
 }
 
-// Each record is three writes: its header, the block of its headers, and its payload.
+// Each record is two writes: its header with those of the frame, and its payload.
 #[test]
 fn a_sink_that_fails(rt: HostRuntime) -> Result<(), Fail> {
-    for (call, size) in [(0, 0), (2, 70), (3, 74), (5, 144)] {
+    for (call, size) in [(0, 0), (1, 70), (2, 74), (3, 144)] {
         let ended = segmented(rt.alloc(), 3, &MERGED_CAPTURE, 0, &[], &[call])?;
         assert_eq!(rt; ended.first, Err(SegFault::WriteFault));
         assert_eq!(rt; ended.home, (3, 3));

@@ -26,8 +26,8 @@ mod Comparing
 mod Lanes
 -- rounds that are merged
 pub mod Merging
--- the blocks of a record whose packets are given one after another
-mod Spares
+-- a table that is lent in part
+mod Lent
 -- an offload header whose last bytes lie in blocks
 mod Heads
 -- the packets of a record, written one after another

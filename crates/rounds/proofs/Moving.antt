@@ -172,8 +172,6 @@ not_moved h k blocks offset old new r refusals.BadOffload fault bytes left next 
     )
 not_moved h k blocks offset old new r refusals.WriteFault fault bytes left next at is passes wrote =
     rw is ((passes.0, passes.1, front_of h k blocks old new r bytes left next wrote.0 passes wrote.1), tt)
-not_moved h k blocks offset old new r refusals.NoMemory fault bytes left next at is passes wrote =
-    rw is ((passes.0, passes.1, front_of h k blocks old new r bytes left next wrote.0 passes wrote.1), tt)
 
 pub moved_given : (a b h k : Option (List ℕ)) (blocks used : ℕ) (old new : Place) (front : List ℕ) (p : Held) → IsNext blocks old new (record_of front p)
     → Told a b (GivesRecord used blocks old new front (Ok p)) → WritesRecord old.file.order (record_of front p) h k (Ok tt) → Told a b (Moves blocks old new h k (Ok One))

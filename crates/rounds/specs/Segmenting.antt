@@ -63,4 +63,3 @@ abbrev pub IsFaultOf : Refused → ℕ → ℕ → SegFault → Type 0
 IsFaultOf refusals.BadOffload offset number fault = fault
     ≡ faults.Malformed (record { kind = BadOffload; offset = offset; number = number })
 IsFaultOf refusals.WriteFault offset number fault = fault ≡ faults.WriteFault
-IsFaultOf refusals.NoMemory offset number fault = fault ≡ faults.NoMemory

@@ -22,9 +22,6 @@ use std::alloc::{AllocError, Global};
 use std::collections::VecDeque;
 use std::marker::Model;
 
-// How many more outcomes cutting may need than a record has blocks.
-const CUTS: usize = 4;
-
 /// Whether a record was segmented.
 #[derive(Clone, Copy, Debug, PartialEq, Eq)]
 pub enum Moved {
@@ -114,7 +111,6 @@ fn fault_of(refused: Refused, offset: u64, number: u32) -> SegFault
             number: u64::from(number),
         }),
         Refused::WriteFault => SegFault::WriteFault,
-        Refused::NoMemory => SegFault::NoMemory,
     }
 }
 
@@ -127,7 +123,7 @@ impl SegmentRun {
         let hold = VecDeque::with_capacity(alloc, RECORD_BLOCKS)?;
         let pool = Pool::make(alloc, blocks)?;
         let places = open_places(alloc, blocks)?;
-        match Outcomes::with_room(alloc, blocks as usize + CUTS) {
+        match Outcomes::with_room(alloc, blocks as usize) {
             Ok(out) => Ok(SegmentRun {
                 alloc,
                 pool,

@@ -1,6 +1,6 @@
 use Rattle.std.proofs.Common.{sym, subst}
 use Rattle.rounds.specs.Table.{AllOpen}
-use Rattle.rounds.proofs.Spares.{open_behind, open_both}
+use Rattle.rounds.proofs.Lent.{open_behind, open_both}
 use Rattle.rounds.proofs.cut.cut_record.Goals as goal
 
 pub returns-clause-open : goal.returns-clause-open

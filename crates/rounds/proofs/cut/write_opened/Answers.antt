@@ -1,19 +1,13 @@
-use Rattle.std.proofs.Common.{ap, sym, arith, subst, length, ◌∙◌}
+use Rattle.std.proofs.Common.{ap, sym, arith, subst, length}
 use Rattle.std.proofs.KnownBytes.{Keeps-refl}
 use Rattle.frags.specs.Account.{Account}
-use Rattle.skb.specs.SkbState.{SkbState, buffer_least, is_sole}
+use Rattle.skb.specs.SkbState.{SkbState}
 use Rattle.gro.specs.Held.{of_packet}
 use Rattle.rounds.specs.Marks.{nothing}
 use Rattle.rounds.specs.Record.{record_of}
 use Rattle.rounds.specs.Table.{Comes, MayCome}
 use Rattle.rounds.proofs.Heads.{behind_is, not_lawful, same_account}
 use Rattle.rounds.proofs.cut.write_opened.Goals as goal
-
-pub write_judged-requires-clause-shared : goal.write_judged-requires-clause-shared
-write_judged-requires-clause-shared g c = ap (λ (s : SkbState). is_sole s.head) c.in-Some.ensures.within ∙ c.requires.read.shared
-
-pub write_judged-requires-clause-least : goal.write_judged-requires-clause-least
-write_judged-requires-clause-least g c = omega (arith, ap buffer_least c.in-Some.ensures.within, c.requires.read.least)
 
 pub write_judged-requires-clause-may : goal.write_judged-requires-clause-may
 write_judged-requires-clause-may g c =

@@ -11,7 +11,7 @@ use Rattle.rounds.specs.RoundsState.{SegmentState}
 use Rattle.rounds.specs.Segmenting.{Moves}
 use Rattle.rounds.specs.Table.{AllOpen}
 use Rattle.rounds.proofs.Moving.{moved_given, need_is, next_is, not_moved_given, takes_one, unmoved_given}
-use Rattle.rounds.proofs.Spares.{whole_table}
+use Rattle.rounds.proofs.Lent.{whole_table}
 use Rattle.rounds.proofs.segment.SegmentRun.next.Goals.{in-Ok-wrote, in-Err-wrote}
 use Rattle.rounds.proofs.segment.SegmentRun.next.Goals as goal
 
