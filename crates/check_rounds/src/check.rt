@@ -13,17 +13,19 @@ ghost use Rattle.gro.specs.Held.{packet_of};
 ghost use Rattle.check_totals.specs.Counts.{added, round_totals, totals_of, HasLanes, IsWithin};
 ghost use Rattle.check_totals.specs.Checking.{counting};
 ghost use Rattle.check_totals.specs.Tallies.{Tallies};
+ghost use Rattle.rounds.specs.Benches.{options_at, Brings, MayBring};
 ghost use Rattle.rounds.specs.Lanes.{IsKeptWorkOf};
 ghost use Rattle.rounds.specs.Fresh.{NumberedFrom};
 ghost use Rattle.rounds.specs.Merging.{options_of};
 ghost use Rattle.check_rounds.specs.Checking.{ending_of, AreOf, CountsLast};
 
+use block_pool::Pool;
 use check_totals::Totals;
 use off_io::Source;
 use pcap_io::{CapFault, CaptureReader};
 use round_pipeline::{RoundHandler, handle_from};
 use round_work::Works;
-use rounds::{Round, RoundEnd, RoundRead, Rounds, Worked};
+use rounds::{Bench, Round, RoundEnd, RoundRead, Rounds, Worked};
 use std::alloc::AllocError;
 
 /// How checking ended.
@@ -42,16 +44,16 @@ pub enum CheckEnd {
 }
 
 // Compares what a round came to with its packets, and ends it.
-fn compare_round(rounds: &mut Rounds, worked: Worked) -> Result<Totals, AllocError>
-    requires out { rounds.old.home + worked.blocks ≤ rounds.old.blocks }
-    requires worked { (ps : List Packet) × (IsKeptWorkOf (options_of rounds.old) ps worked
+fn compare_round(bench: &mut Bench, home: &mut Pool, worked: Worked) -> Result<Totals, AllocError>
+    requires may { MayBring worked.blocks bench.old home.old }
+    requires worked { (ps : List Packet) × (IsKeptWorkOf (options_at bench.old) ps worked
         × AllByRecursion IsCaptured ps × (length ps ≤ 4096)) }
-    ensures totals { (ps : List Packet) → IsKeptWorkOf (options_of rounds.old) ps worked
-        → IfOk result (λ t. t ≡ round_totals (options_of rounds.old) ps) }
-    ensures home { rounds.new ≡ record rounds.old { home = rounds.old.home + worked.blocks } }
+    ensures totals { (ps : List Packet) → IsKeptWorkOf (options_at bench.old) ps worked
+        → IfOk result (λ t. t ≡ round_totals (options_at bench.old) ps) }
+    ensures brings { Brings worked.blocks bench.old bench.new home.old home.new }
 {
-    let totals = rounds.check_round(&worked);
-    rounds.end_round(worked);
+    let totals = bench.check_round(&worked);
+    bench.end_round(worked, home);
     totals
 }
 
@@ -59,25 +61,26 @@ fn compare_round(rounds: &mut Rounds, worked: Worked) -> Result<Totals, AllocErr
 // home all the same.
 fn count_round<W: Works>(
     works: &mut W,
-    rounds: &mut Rounds,
+    bench: &mut Bench,
+    home: &mut Pool,
     round: Round,
     totals: &mut Totals,
 ) -> Result<(), AllocError>
-    requires out { rounds.old.home + round.blocks ≤ rounds.old.blocks }
-    requires keep { rounds.old.keep ≡ true }
+    requires may { MayBring round.blocks bench.old home.old }
+    requires keep { bench.old.keep ≡ true }
     requires captured { AllByRecursion IsCaptured (map packet_of round.packets) }
     requires numbers { (k : ℕ) × NumberedFrom k round.packets }
     requires few { length round.packets ≤ 4096 }
-    requires lanes { HasLanes (options_of rounds.old) totals.old }
+    requires lanes { HasLanes (options_at bench.old) totals.old }
     requires within { (n : ℕ) × (n ≤ 2 ^ 32) × AreOf n totals.old }
     ensures ok { OnOk result (totals.new ≡ added totals.old
-        (round_totals (options_of rounds.old) (map packet_of round.packets))) }
-    ensures lanes { HasLanes (options_of rounds.old) totals.new }
+        (round_totals (options_at bench.old) (map packet_of round.packets))) }
+    ensures lanes { HasLanes (options_at bench.old) totals.new }
     ensures within { (n : ℕ) → AreOf n totals.old → AreOf (n + length round.packets) totals.new }
-    ensures home { rounds.new ≡ record rounds.old { home = rounds.old.home + round.blocks } }
+    ensures brings { Brings round.blocks bench.old bench.new home.old home.new }
 {
-    let worked = rounds.work_round(works, round)?;
-    let counted = compare_round(rounds, worked)?;
+    let worked = bench.work_round(works, round, home)?;
+    let counted = compare_round(bench, home, worked)?;
     totals.add(&counted);
     Ok(())
 }
@@ -85,25 +88,26 @@ fn count_round<W: Works>(
 // The last round, behind which checking ends so.
 fn last_round<W: Works>(
     works: &mut W,
-    rounds: &mut Rounds,
+    bench: &mut Bench,
+    home: &mut Pool,
     round: Round,
     totals: &mut Totals,
     end: CheckEnd,
 ) -> CheckEnd
-    requires out { rounds.old.home + round.blocks ≤ rounds.old.blocks }
-    requires keep { rounds.old.keep ≡ true }
+    requires may { MayBring round.blocks bench.old home.old }
+    requires keep { bench.old.keep ≡ true }
     requires captured { AllByRecursion IsCaptured (map packet_of round.packets) }
     requires numbers { (k : ℕ) × NumberedFrom k round.packets }
     requires few { length round.packets ≤ 4096 }
-    requires lanes { HasLanes (options_of rounds.old) totals.old }
+    requires lanes { HasLanes (options_at bench.old) totals.old }
     requires within { (n : ℕ) × (n ≤ 2 ^ 32) × AreOf n totals.old }
-    ensures counts { CountsLast totals.old totals.new (round_totals (options_of rounds.old)
+    ensures counts { CountsLast totals.old totals.new (round_totals (options_at bench.old)
         (map packet_of round.packets)) end result }
-    ensures lanes { HasLanes (options_of rounds.old) totals.new }
+    ensures lanes { HasLanes (options_at bench.old) totals.new }
     ensures within { (n : ℕ) → AreOf n totals.old → AreOf (n + length round.packets) totals.new }
-    ensures home { rounds.new ≡ record rounds.old { home = rounds.old.home + round.blocks } }
+    ensures brings { Brings round.blocks bench.old bench.new home.old home.new }
 {
-    match count_round(works, rounds, round, totals) {
+    match count_round(works, bench, home, round, totals) {
         Ok(()) => end,
         Err(_) => CheckEnd::NoMemory,
     }
@@ -130,35 +134,36 @@ impl RoundHandler<Totals, CheckEnd> for Counting {
     fn handle<W: Works>(
         &self,
         works: &mut W,
-        rounds: &mut Rounds,
+        bench: &mut Bench,
+        home: &mut Pool,
         read: RoundRead,
         number: u64,
         into: &mut Totals,
     ) -> Option<CheckEnd> {
         let RoundRead { round, end } = read;
         match end {
-            RoundEnd::Full => match count_round(works, rounds, round, into) {
+            RoundEnd::Full => match count_round(works, bench, home, round, into) {
                 Ok(()) => None,
                 Err(_) => Some(CheckEnd::NoMemory),
             },
-            RoundEnd::End => Some(last_round(works, rounds, round, into, CheckEnd::Done)),
+            RoundEnd::End => Some(last_round(works, bench, home, round, into, CheckEnd::Done)),
             RoundEnd::Malformed(fault) => {
                 let end = CheckEnd::Malformed(fault);
-                Some(last_round(works, rounds, round, into, end))
+                Some(last_round(works, bench, home, round, into, end))
             }
             RoundEnd::ReadFault => {
                 let end = CheckEnd::ReadFault;
-                Some(last_round(works, rounds, round, into, end))
+                Some(last_round(works, bench, home, round, into, end))
             }
             RoundEnd::PoolEmpty { need } => {
-                rounds.drop_round(round);
+                bench.drop_round(round, home);
                 Some(CheckEnd::PoolEmpty {
                     round: number,
                     need,
                 })
             }
             RoundEnd::NoMemory => {
-                rounds.drop_round(round);
+                bench.drop_round(round, home);
                 Some(CheckEnd::NoMemory)
             }
         }

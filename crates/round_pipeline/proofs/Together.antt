@@ -31,12 +31,14 @@ abbrev front_of : RoundRead → List RoundRead → RoundRead
 front_of none [] = none
 front_of none (read ∷ rs) = read
 
--- the rounds were parted, one side worked, and both were joined
-pub record Rejoined (state parted worked new : RoundsState) (intake : IntakeState) (home back : ℕ) : Type 0 where
-  pub given : intake ≡ record { home = state.home; blocks = state.blocks; taken = state.taken; budget = state.budget }
-  pub left : parted ≡ record state { home = 0; taken = 0 }
-  pub same : (worked.blocks ≡ parted.blocks) × (options_of worked ≡ options_of parted) × (worked.keep ≡ parted.keep)
-  pub joined : new ≡ record worked { home = home; taken = back }
+-- both sides were lent, one read with this intake, and so it is once both have ended
+pub record Lent (state new : RoundsState) (intake : IntakeState) (home back : ℕ) : Type 0 where
+  pub blocks : intake.blocks ≡ state.blocks
+  pub budget : intake.budget ≡ state.budget
+  pub before : intake.taken ≡ state.taken
+  pub same : (new.blocks ≡ state.blocks) × (options_of new ≡ options_of state) × (new.keep ≡ state.keep)
+  pub all : new.home ≡ home
+  pub after : new.taken ≡ back
 
 -- The first round was read and full, and alone in the ring as the sides began. What was received of all that was sent, and what wasn't,
 -- is known once they have joined.
@@ -49,8 +51,8 @@ pub record Sent (state : RoundsState) (intake : IntakeState) (read : RoundRead) 
   pub fifo : got ++ known ≡ sent
   pub later : at.faults ≤ to.faults
 
-module _ {T E : Type 0} (did : T → T → RoundRead → ℕ → Option E → Type 0) (stopped : E) (ready : ℕ → T → Type 0) (state parted worked new : RoundsState) (intake : IntakeState) (home back : ℕ)
-    (read : RoundRead) (at to : Spot) (one sent got known : List (Option Parcel)) (re : Rejoined state parted worked new intake home back) (s : Sent state intake read at to back one sent got known)
+module _ {T E : Type 0} (did : T → T → RoundRead → ℕ → Option E → Type 0) (stopped : E) (ready : ℕ → T → Type 0) (state new : RoundsState) (intake : IntakeState) (home back : ℕ)
+    (read : RoundRead) (at to : Spot) (one sent got known : List (Option Parcel)) (re : Lent state new intake home back) (s : Sent state intake read at to back one sent got known)
     (was is : T) (counted : IsReadyAtEnd ready is) where
   abbrev first : Spot
   first = record at { taken = state.taken }
@@ -61,25 +63,12 @@ module _ {T E : Type 0} (did : T → T → RoundRead → ℕ → Option E → Ty
   read_behind : Reads state.blocks state.budget first s.on.more last
   read_behind =
       reads_as state.blocks intake.blocks state.budget intake.budget first (record at { taken = intake.taken }) last (record to { taken = back }) s.on.more s.on.more
-      (ap (λ (i : IntakeState). i.blocks) re.given) (ap (λ (i : IntakeState). i.budget) re.given) (ap (λ (i : IntakeState). record at { taken = i.taken }) re.given)
-      (ap (λ (n : ℕ). record to { taken = n }) (sym (ap (λ (r : RoundsState). r.taken) re.joined))) refl s.on.reads
-
-  blocks_same : new.blocks ≡ state.blocks
-  blocks_same = ap (λ (r : RoundsState). r.blocks) re.joined ∙ re.same.0 ∙ ap (λ (r : RoundsState). r.blocks) re.left
-
-  options_same : options_of new ≡ options_of state
-  options_same = ap options_of re.joined ∙ re.same.1 ∙ ap options_of re.left
-
-  keep_same : new.keep ≡ state.keep
-  keep_same = ap (λ (r : RoundsState). r.keep) re.joined ∙ re.same.2 ∙ ap (λ (r : RoundsState). r.keep) re.left
-
-  home_is : new.home ≡ home
-  home_is = ap (λ (r : RoundsState). r.home) re.joined
+      re.blocks re.budget (ap (λ (n : ℕ). record at { taken = n }) re.before) (ap (λ (n : ℕ). record to { taken = n }) (sym re.after)) refl s.on.reads
 
   all_rest : home ≡ state.blocks → Rests state new first last
   all_rest all = record {
-    home = home_is ∙ all ∙ sym blocks_same;
-    same = (blocks_same, options_same, keep_same);
+    home = re.all ∙ all ∙ sym re.same.0;
+    same = re.same;
     least = omega (arith, s.few, reads_least state.blocks state.budget first last s.on.more read_behind);
     later = s.later;
   }
@@ -115,8 +104,8 @@ module _ {T E : Type 0} (did : T → T → RoundRead → ℕ → Option E → Ty
       let none : s.on.more ≡ [] = none_known s.on.more (omega (arith, ap length (sym alone ∙ s.on.sent), length-append (rounds_of one) s.on.more, ap length first_is)) in
       let stands : last ≡ first = subst (λ (l : List RoundRead). Reads state.blocks state.budget first l last) none read_behind in
       record {
-        home = home_is ∙ homes;
-        same = (blocks_same, options_same, keep_same);
+        home = re.all ∙ homes;
+        same = re.same;
         taken = ap (λ (x : Spot). x.taken) stands;
         stands = stands;
         nothing = same;
@@ -142,20 +131,13 @@ module _ {T E : Type 0} (did : T → T → RoundRead → ℕ → Option E → Ty
   all_went (Some end) result left all ends some none = subst Came (sym some.0) (both_went end (omega (arith, all, ap blocks_out some.0)) ends)
   all_went None result left all ends some none = unworked result left all ends (none refl)
 
--- what the side that works says of rounds that were parted
-abbrev parted_as : RoundsState → RoundsState
-parted_as state = record state { home = 0; taken = 0 }
-
-pub parted_counted : {T : Type 0} (ready : Options → Bool → ℕ → T → Type 0) (state parted : RoundsState) (is : T) → parted ≡ parted_as state → IsReadyAtEnd (ready (options_of parted) parted.keep) is
-    → IsReadyAtEnd (ready (options_of state) state.keep) is
-parted_counted ready state parted is same counted = subst (λ (s : RoundsState). IsReadyAtEnd (ready (options_of s) s.keep) is) same counted
-
-pub parted_ends : {T E : Type 0} (did : Options → T → T → RoundRead → ℕ → Option E → Type 0) (stopped : E) (state parted : RoundsState) (got : List (Option Parcel)) (was is : T) (end : Option E)
-    → parted ≡ parted_as state
-    → MatchOption end ((got ≡ []) × (is ≡ was)) (λ e. Ends (did (options_of parted)) stopped 0 was is (rounds_of got) e)
-    → MatchOption end ((got ≡ []) × (is ≡ was)) (λ e. Ends (did (options_of state)) stopped 0 was is (rounds_of got) e)
-parted_ends did stopped state parted got was is end same ends =
-    subst (λ (s : RoundsState). MatchOption end ((got ≡ []) × (is ≡ was)) (λ e. Ends (did (options_of s)) stopped 0 was is (rounds_of got) e)) same ends
+-- what the side that works says, by the options of both
+pub ends_as : {T E : Type 0} (did : Options → T → T → RoundRead → ℕ → Option E → Type 0) (stopped : E) (o o' : Options) (got : List (Option Parcel)) (was is : T) (end : Option E)
+    → o' ≡ o
+    → MatchOption end ((got ≡ []) × (is ≡ was)) (λ e. Ends (did o') stopped 0 was is (rounds_of got) e)
+    → MatchOption end ((got ≡ []) × (is ≡ was)) (λ e. Ends (did o) stopped 0 was is (rounds_of got) e)
+ends_as did stopped o o' got was is end same ends =
+    subst (λ (z : Options). MatchOption end ((got ≡ []) × (is ≡ was)) (λ e. Ends (did z) stopped 0 was is (rounds_of got) e)) same ends
 
 -- what of the rounds in the ring is there still, and the one that was taken out
 pub left_out : {E : Type 0} (stopped : E) (end : Option E) (result : Result E RoundRead) (known left : List (Option Parcel)) → IfSome end (λ e. (result ≡ Ok e) × (left ≡ known))
@@ -209,7 +191,7 @@ module _ {T E : Type 0} (did : Options → T → T → RoundRead → ℕ → Opt
       (subst (λ (x : ℕ). RanOn (did o) stopped x n' back at' to was' is end) eb
       (subst (λ (x : Options). RanOn (did x) stopped b' n' back at' to was' is end) eo ran)))))
 
-  counted_as : (o o' : Options) (keep keep' : Bool) (most : ℕ) (t : T) → o' ≡ o → keep' ≡ keep → IsReadyAt (ready o' keep') most t → IsReadyAt (ready o keep) most t
+  pub counted_as : (o o' : Options) (keep keep' : Bool) (most : ℕ) (t : T) → o' ≡ o → keep' ≡ keep → IsReadyAt (ready o' keep') most t → IsReadyAt (ready o keep) most t
   counted_as o o' keep keep' most t eo ek c = (c.0, c.1, ready_as o o' keep keep' c.0 t eo ek c.2)
 
   -- one side alone, where nothing else was read

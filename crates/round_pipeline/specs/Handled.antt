@@ -6,10 +6,11 @@ use Rattle.pcap_io.specs.declared.place.Place.{Place}
 use Rattle.pcap_io.specs.Places.{IsReady}
 use Rattle.rounds.specs.declared.round.RoundEnd.TheVariants as ends
 use Rattle.rounds.specs.declared.round.RoundRead.{RoundRead}
+use Rattle.rounds.specs.Benches.{IsRead}
 use Rattle.rounds.specs.Merging.{options_of}
 use Rattle.rounds.specs.RoundsState.{RoundsState}
 use Rattle.round_pipeline.specs.declared.parcel.Parcel.{Parcel}
-use Rattle.round_pipeline.specs.Parcels.{IsRead, blocks_of, is_full}
+use Rattle.round_pipeline.specs.Parcels.{blocks_of, is_full}
 use Rattle.round_pipeline.specs.Reads.{Spot, Reads, ReadRound}
 
 -- By `did` a round did this with what had come of those before it, k of them: more may follow, or it ended. These

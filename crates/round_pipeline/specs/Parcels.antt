@@ -1,16 +1,12 @@
 -- What goes through the rings, and how many blocks it holds.
 use Rattle.std.specs.Prelude.{ℕ, ◌≡◌, ◌+◌, ◌^◌, ◌≤◌, Bool, true, false, Option, None, Some, List, [], ◌∷◌}
-use Rattle.std.specs.Prelude.{length, map}
-use Rattle.std.specs.List.{AllByRecursion}
+use Rattle.std.specs.Prelude.{length}
 use denote.RawPtr.{Ptr, null_ptr}
 use Rattle.std.specs.declared.alloc.Global.{Global}
 use Rattle.block_pool.specs.PoolState.{PoolState, home}
 use Rattle.rtrb.specs.declared.consumer.Consumer.{Consumer}
 use Rattle.rtrb.specs.Shared.{Names}
-use Rattle.offload_model.specs.Captured.{IsCaptured}
-use Rattle.gro.specs.Held.{packet_of}
-use Rattle.rounds.specs.Fresh.{NumberedFrom}
-use Rattle.rounds.specs.RoundsState.{RoundState}
+use Rattle.rounds.specs.Benches.{IsRead}
 use Rattle.rounds.specs.declared.round.RoundEnd.{RoundEnd}
 use Rattle.rounds.specs.declared.round.RoundEnd.TheVariants as ends
 use Rattle.rounds.specs.declared.round.RoundRead.{RoundRead}
@@ -27,12 +23,6 @@ rounds_of (Some p ∷ xs) = p.read ∷ rounds_of xs
 abbrev pub packets_of : List RoundRead → ℕ
 packets_of [] = 0
 packets_of (read ∷ rs) = length read.round.packets + packets_of rs
-
--- a round as it is read
-pub record IsRead (round : RoundState) : Type 0 where
-  pub few : length round.packets ≤ 4096
-  pub captured : AllByRecursion IsCaptured (map packet_of round.packets)
-  pub numbers : (k : ℕ) × NumberedFrom k round.packets
 
 -- behind these, the first of which has number 0, and of n blocks
 pub record IsFit (n : ℕ) (before : List (Option Parcel)) (p : Parcel) : Type 0 where

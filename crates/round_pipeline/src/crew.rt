@@ -9,7 +9,6 @@ ghost use Rattle.round_pipeline.specs.Handled.{Handled};
 ghost use Rattle.round_pipeline.specs.Reads.{reader_at};
 
 use crate::drive::handle_by;
-use crate::handler::RoundHandler;
 use crossbeam_queue::ArrayQueue;
 use errands::{Bells, Errands, Job, Naming, Reply, Runner};
 use off_io::{Gate, Source};
@@ -18,7 +17,7 @@ use round_work::{
     Alone, LANES, LaneCrew, LaneDesk, LaneDone, LaneJob, LaneTask, Works, count_runners, open_desk,
     serve_lanes,
 };
-use rounds::Rounds;
+use rounds::{RoundHandler, Rounds};
 use std::alloc::Global;
 use std::marker::Brand;
 use std::sync::Wait;

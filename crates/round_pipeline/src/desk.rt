@@ -8,7 +8,7 @@ use crate::bells::Bells;
 use crate::parcel::{Fits, Naming, Parcel, Token};
 use crate::ring::{receive, receive_within};
 use block_pool::Pool;
-use rounds::{Homecoming, Intake, RECORD_BLOCKS};
+use rounds::{Homecoming, RECORD_BLOCKS};
 use rtrb::{Consumer, Producer};
 use std::alloc::{AllocError, Global};
 use std::collections::VecDeque;
@@ -86,10 +86,9 @@ pub(crate) struct Desk<W: Post + Drop> {
     pub ghost counted: { shelved shelves.items ≤ homes_of (received tokens) },
 }
 
-/// What the side that reads works with.
+/// What the side that reads works with, beside its intake.
 #[derive(Drop)]
 pub(crate) struct Supply<W: Post + Drop, N: Naming> {
-    pub(crate) intake: Intake,
     pub(crate) desk: Desk<W>,
     pub(crate) out: Producer<Option<Parcel>, Global, Fits<N>>,
 }

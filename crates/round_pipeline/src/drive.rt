@@ -1,19 +1,19 @@
 //! Handles a capture's rounds by two sides.
-ghost use Rattle.std.specs.Prelude.{◌≡◌, ◌+◌, ◌-◌, ◌≤◌, ◌^◌, true, None, Ok, [], IfSome, IfOk, OnOk, OnErr, length};
+ghost use Rattle.std.specs.Prelude.{◌≡◌, ◌+◌, ◌-◌, ◌≤◌, ◌^◌, true, None, Ok, [], IfSome, IfOk, OnOk, length};
 ghost use Rattle.block_pool.specs.PoolState.{home};
 ghost use Rattle.pcap_io.specs.declared.heads.Link.TheVariants.{Ethernet};
 ghost use Rattle.pcap_io.specs.Places.{IsReady};
 ghost use Rattle.pcap_io.specs.Readers.{place_of, SameLoan};
+ghost use Rattle.rounds.specs.Benches.{HasRoom, IsRead, IsSameBench};
 ghost use Rattle.rounds.specs.Merging.{options_of};
 ghost use Rattle.rtrb.specs.Ring.{sent, received, known_items, IsPair, SameProducer};
 ghost use Rattle.round_pipeline.specs.Handled.{ComesBack, Handled, HandledOn, IsOut, MayBeHandled};
-ghost use Rattle.round_pipeline.specs.Parcels.{IsOfRing, IsRead, shelved};
+ghost use Rattle.round_pipeline.specs.Parcels.{IsOfRing, shelved};
 ghost use Rattle.round_pipeline.specs.Reads.{reader_at, IsAlone};
 
 use crate::bells::Bells;
 use crate::desk::{Desk, SHELVES, Sleeper, Supply, new_shelves};
-use crate::gather::gather;
-use crate::handler::RoundHandler;
+use crate::gather::{bring_shelves, drop_parcels};
 use crate::here::handle_here;
 use crate::parcel::{Fits, Naming, Parcel, Token};
 use crate::ring::send;
@@ -22,7 +22,7 @@ use block_pool::Pool;
 use off_io::Source;
 use pcap_io::CaptureReader;
 use round_work::Works;
-use rounds::{Intake, RoundEnd, RoundRead, Rounds};
+use rounds::{Bench, RoundEnd, RoundHandler, RoundRead, Rounds};
 use rtrb::{Consumer, Producer, RingBuffer};
 use std::alloc::{AllocError, Global};
 use std::collections::VecDeque;
@@ -31,39 +31,36 @@ use std::sync::Wait;
 use std::thread;
 use std::thread::Threads;
 
-// The ring that rounds go by, an empty shelf for the first of them and others, and the side that reads. Where there is
-// no memory for them the rounds are as they were.
+// The ring that rounds go by, an empty shelf for the first of them, one on which the last one stays, and others. Where there is no memory for them, or
+// for what is given back of all blocks, nothing is changed.
 fn prepare<N: Naming>(
     alloc: Global,
-    rounds: &mut Rounds,
+    bench: &mut Bench,
 ) -> Result<
     (
         Producer<Option<Parcel>, Global, Fits<N>>,
         Consumer<Option<Parcel>, Global, Fits<N>>,
         Pool,
+        Pool,
         VecDeque<Pool>,
-        Intake,
     ),
     AllocError,
 >
     ensures ring { IfOk result (λ r. IsPair r.0 r.1 × (sent r.0 ≡ []) × (received r.1 ≡ [])) }
-    ensures shelf { IfOk result (λ r. (home r.2 ≡ 0) × (r.2.made ≡ rounds.old.blocks)) }
-    ensures shelves { IfOk result (λ r. shelved r.3.items ≡ 0) }
-    ensures intake { IfOk result (λ r. r.4 ≡ record {
-      home = rounds.old.home;
-      blocks = rounds.old.blocks;
-      taken = rounds.old.taken;
-      budget = rounds.old.budget;
-    }) }
-    ensures ok { OnOk result (rounds.new ≡ record rounds.old { home = 0; taken = 0 }) }
-    ensures err { OnErr result (rounds.new ≡ rounds.old) }
+    ensures shelf { IfOk result (λ r. (home r.2 ≡ 0) × (r.2.made ≡ bench.old.blocks)) }
+    ensures last { IfOk result (λ r. home r.3 ≡ 0) }
+    ensures shelves { IfOk result (λ r. shelved r.4.items ≡ 0) }
+    ensures room { OnOk result (HasRoom 0 bench.new) }
+    ensures later { bench.old.room ≤ bench.new.room }
+    ensures same { IsSameBench bench.old bench.new }
 {
-    let blocks = rounds.blocks();
+    let blocks = bench.blocks();
     let (out, from) = RingBuffer::with_protocol::<Global, Fits<N>>(alloc, SHELVES + 1)?;
     let shelf = Pool::empty(alloc, blocks)?;
+    let kept = Pool::empty(alloc, blocks)?;
     let shelves = new_shelves(alloc, blocks)?;
-    let intake = rounds.part()?;
-    Ok((out, from, shelf, shelves, intake))
+    bench.make_room()?;
+    Ok((out, from, shelf, kept, shelves))
 }
 
 // The first round goes by the ring before there are two sides.
@@ -163,7 +160,9 @@ fn handle_named<
 {
     let blocks = rounds.blocks();
     let _ = rounds.taken();
-    let Ok((mut out, mut from, shelf, shelves, intake)) = prepare::<N>(alloc, rounds) else {
+    let intake = &mut rounds.intake;
+    let bench = &mut rounds.bench;
+    let Ok((mut out, mut from, shelf, mut kept, shelves)) = prepare::<N>(alloc, bench) else {
         return Err(read);
     };
     send_first(rt, &mut out, read, shelf);
@@ -171,14 +170,15 @@ fn handle_named<
     let bells = Bells::new();
     let post = Sleeper::<'_, R, N>::new(rt, &bells);
     let mut supply = Supply {
-        intake,
         desk: Desk::new(post, blocks, tokens, shelves),
         out,
     };
     let end = run_sides(
         rt,
         works,
-        rounds,
+        intake,
+        bench,
+        &mut kept,
         reader,
         handler,
         into,
@@ -187,16 +187,13 @@ fn handle_named<
         &mut told,
         &bells,
     );
-    let Supply {
-        intake,
-        desk,
-        mut out,
-    } = supply;
+    let Supply { desk, mut out } = supply;
     let waiting = from.slots_beside(&mut out);
     let (mut tokens, shelves) = desk.close();
     tokens.slots_beside(&mut told);
     let ended = ending::<N, T, E, H>(end, waiting, handler, &mut from);
-    gather(rounds, intake, &mut from, &mut tokens, shelves);
+    bring_shelves(intake, &mut tokens, kept, shelves);
+    drop_parcels(rounds, &mut from);
     ended
 }
 

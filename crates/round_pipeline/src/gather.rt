@@ -1,5 +1,6 @@
 //! What comes home once both sides have ended.
 ghost use Rattle.std.specs.Prelude.{◌≡◌, ◌+◌, ◌≤◌};
+ghost use Rattle.block_pool.specs.PoolState.{home};
 ghost use Rattle.rtrb.specs.Ring.{known_items};
 ghost use Rattle.round_pipeline.specs.Parcels.{blocks_of, homes_of, shelved};
 
@@ -10,8 +11,8 @@ use rtrb::Consumer;
 use std::alloc::Global;
 use std::collections::VecDeque;
 
-// The rounds that nobody worked.
-fn drop_parcels<N: Naming>(
+/// The rounds that nobody worked.
+pub(crate) fn drop_parcels<N: Naming>(
     rounds: &mut Rounds,
     from: &mut Consumer<Option<Parcel>, Global, Fits<N>>,
 )
@@ -27,39 +28,33 @@ fn drop_parcels<N: Naming>(
 }
 
 // The shelves that nobody received.
-fn bring_tokens(rounds: &mut Rounds, tokens: &mut Consumer<Token>)
-    requires room { rounds.old.home + homes_of (known_items tokens.old) ≤ rounds.old.blocks }
-    ensures home { rounds.new ≡ record rounds.old { home = rounds.old.home + homes_of (known_items tokens.old) } }
+fn bring_tokens(intake: &mut Intake, tokens: &mut Consumer<Token>)
+    requires room { intake.old.home + homes_of (known_items tokens.old) ≤ intake.old.blocks }
+    ensures home { intake.new ≡ record intake.old { home = intake.old.home + homes_of (known_items tokens.old) } }
 {
     while tokens.cached_slots() > 0 {
         let Token { shelf, goes: _ } = tokens.pop_known();
-        rounds.bring_home(shelf);
+        intake.bring_in(shelf);
     }
 }
 
-/// The side that reads comes back, and all blocks that lie between the sides, or on shelves, come home. A round that
-/// was taken from between them before may be out.
-pub(crate) fn gather<N: Naming>(
-    rounds: &mut Rounds,
-    intake: Intake,
-    from: &mut Consumer<Option<Parcel>, Global, Fits<N>>,
+/// All blocks on shelves come home, between the sides or here.
+pub(crate) fn bring_shelves(
+    intake: &mut Intake,
     tokens: &mut Consumer<Token>,
+    kept: Pool,
     shelves: VecDeque<Pool>,
 )
-    requires blocks { intake.blocks ≡ rounds.old.blocks }
-    requires room { rounds.old.home + intake.home + blocks_of (known_items from.old) + homes_of (known_items tokens.old)
-        + shelved shelves.items ≤ rounds.old.blocks }
-    ensures home { rounds.new ≡ record rounds.old {
-      home = rounds.old.home + intake.home + blocks_of (known_items from.old) + homes_of (known_items tokens.old)
-          + shelved shelves.items;
-      taken = intake.taken;
+    requires room { intake.old.home + homes_of (known_items tokens.old) + home kept + shelved shelves.items
+        ≤ intake.old.blocks }
+    ensures home { intake.new ≡ record intake.old {
+      home = intake.old.home + homes_of (known_items tokens.old) + home kept + shelved shelves.items;
     } }
 {
     let mut shelves = shelves;
-    rounds.join(intake);
-    drop_parcels(rounds, from);
-    bring_tokens(rounds, tokens);
+    bring_tokens(intake, tokens);
+    intake.bring_in(kept);
     while let Some(shelf) = shelves.pop_front() {
-        rounds.bring_home(shelf);
+        intake.bring_in(shelf);
     }
 }

@@ -7,11 +7,10 @@ ghost use Rattle.rounds.specs.Merging.{options_of};
 ghost use Rattle.round_pipeline.specs.Handled.{Handled, HandledOn, IsOut, IsReadyAt, Rests, Stepped};
 ghost use Rattle.round_pipeline.specs.Reads.{reader_at};
 
-use crate::handler::RoundHandler;
 use off_io::Source;
 use pcap_io::CaptureReader;
 use round_work::Works;
-use rounds::{RoundRead, Rounds};
+use rounds::{RoundHandler, RoundRead, Rounds};
 
 // Reads the next round, behind `number` others, and handles it.
 fn handle_next<W: Works, S: Source, T, E, H: RoundHandler<T, E>>(
@@ -35,7 +34,7 @@ fn handle_next<W: Works, S: Source, T, E, H: RoundHandler<T, E>>(
         (reader_at S.left S.faults reader.new rounds.new.taken) }
 {
     let read = rounds.read_round(reader);
-    handler.handle(works, rounds, read, number, into)
+    rounds.handle(works, handler, read, number, into)
 }
 
 /// Handles the rounds of a capture that are left behind `number` others, one after another, up to its end.
@@ -84,7 +83,7 @@ pub(crate) fn handle_here<W: Works, S: Source, T, E, H: RoundHandler<T, E>>(
         (reader_at S.left S.faults reader.old rounds.old.taken) (reader_at S.left S.faults reader.new rounds.new.taken)
         into.old into.new result }
 {
-    match handler.handle(works, rounds, read, 0, into) {
+    match rounds.handle(works, handler, read, 0, into) {
         Some(end) => end,
         None => handle_from(works, rounds, reader, handler, into, 1),
     }

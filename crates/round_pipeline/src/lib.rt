@@ -17,8 +17,10 @@
 //! begin, so what is behind it is read while it is worked. Where it isn't, or where there is no memory or no thread for
 //! a second side, it is worked by the thread that read it; so a capture of one round costs no thread for reading.
 //!
-//! The side that reads owns the pool and takes from it alone. What a round's work leaves comes home on the side that
-//! works, onto a shelf: a pool without blocks of its own. The shelf goes back in a token, and its blocks into the pool.
+//! The side that reads has the rounds' intake, whose pool it alone takes from; the side that works has their bench. What
+//! a round's work leaves comes home onto the shelf that came with the round: a pool without blocks of its own. The shelf
+//! goes back in a token, and its blocks into the pool. Only the last round's stay on a shelf with the side that works
+//! until both have ended: blocks are handed over where there is room for all that they may leave again.
 //! There are three shelves, so reading is at most three rounds ahead. Before a record is read, where fewer blocks than
 //! `rounds::RECORD_BLOCKS` are home (no record needs more) while some are out, the side that reads waits for a token;
 //! so no record is left half read, and a round exceeds the blocks just where it does in one thread.
@@ -51,10 +53,9 @@
 //!
 //! Its parts: `ring` (putting in and waiting at the ends of a ring), `bells` (who wakes whom, and whether there are
 //! two), `parcel` (what goes through the rings), `desk` (where tokens come in, and blocks go home while a round is
-//! read), `sides` (the loop of each side, and both at once), `gather` (the side that reads comes back, with what lies
-//! between the sides once both have ended), `here` (rounds in one thread), `drive` (the first round, the two sides, and
-//! one thread where there can't be two), `crew` (all of that with who run lanes beside it), `handler` (what is done
-//! with a round) and `merge` (which writes it).
+//! read), `sides` (the loop of each side, and both at once), `gather` (what lies between the sides comes home once both
+//! have ended), `here` (rounds in one thread), `drive` (the first round, the two sides, and one thread where there
+//! can't be two), `crew` (all of that with who run lanes beside it) and `merge` (whose handler writes each round).
 //!
 //! Tests: `round_tests`, module `pipeline`.
 //!
@@ -73,7 +74,6 @@ mod crew;
 mod desk;
 mod drive;
 mod gather;
-mod handler;
 mod here;
 mod merge;
 mod parcel;
@@ -81,6 +81,6 @@ mod ring;
 mod sides;
 
 pub use crew::handle_beside;
-pub use handler::RoundHandler;
 pub use here::handle_from;
 pub use merge::merge_beside;
+pub use rounds::RoundHandler;

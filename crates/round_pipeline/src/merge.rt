@@ -11,11 +11,11 @@ ghost use Rattle.pcap_io.specs.Readers.{place_of, source_of, SameLoan};
 ghost use Rattle.rounds.specs.Merging.{ending_of, options_of, HoldsCaptured};
 
 use crate::crew::handle_beside;
-use crate::handler::RoundHandler;
+use block_pool::Pool;
 use off_io::{Gate, Sink, Source};
 use pcap_io::{CaptureReader, FileHead};
 use round_work::Works;
-use rounds::{MergeEnd, RoundRead, Rounds, Step};
+use rounds::{Bench, MergeEnd, RoundHandler, RoundRead, Rounds, Step};
 use std::alloc::Global;
 use std::sync::Wait;
 use std::thread::Threads;
@@ -41,12 +41,13 @@ impl<K: Sink> RoundHandler<K, MergeEnd> for Merging {
     fn handle<W: Works>(
         &self,
         works: &mut W,
-        rounds: &mut Rounds,
+        bench: &mut Bench,
+        home: &mut Pool,
         read: RoundRead,
         number: u64,
         into: &mut K,
     ) -> Option<MergeEnd> {
-        match rounds.put_read(works, read, &self.file, into, number) {
+        match bench.put_read(works, read, &self.file, into, number, home) {
             Step::Goes => None,
             Step::Ends(end) => Some(end),
         }

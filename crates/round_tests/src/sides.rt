@@ -1,15 +1,15 @@
 //! One side reads and the other works, in turn, over as few blocks as a round needs.
-ghost use Rattle.std.specs.Prelude.{◌≡◌, ◌-◌, ◌≤◌, IfOk, OnOk};
+ghost use Rattle.std.specs.Prelude.{◌≡◌, ◌-◌, ◌≤◌, IfOk};
 ghost use Rattle.block_pool.specs.PoolState.{home};
 
 use crate::merging::WRITTEN;
 use crate::plans::plain;
 use block_pool::Pool;
 use off_io::{Feed, MemSink, MemSource, NoGate};
-use pcap_io::{CaptureReader, Link};
+use pcap_io::{CaptureReader, FileHead, Link};
 use round_work::Alone;
-use rounds::{AllHome, Homecoming, MergeEnd, Round, RoundEnd, RoundRead, Rounds, Step};
-use std::alloc::Global;
+use rounds::{AllHome, Bench, Homecoming, MergeEnd, Round, RoundEnd, RoundRead, Rounds, Step};
+use std::alloc::{AllocError, Global};
 use std::test::Fail;
 use worked_captures::TWO_RECORDS;
 
@@ -43,21 +43,42 @@ fn full(read: RoundRead) -> Result<Round, Fail>
     }
 }
 
-// What came home since the last time, for the side that reads.
-fn handed(rounds: &mut Rounds, shelf: Pool) -> Result<Shelf, Fail>
-    requires shelf { (home shelf ≡ 0) × (shelf.made ≡ rounds.old.blocks) }
-    ensures shelf { IfOk result (λ s. (home s.pool ≡ rounds.old.home) × (s.pool.made ≡ rounds.old.blocks)) }
-    ensures rounds { OnOk result (rounds.new ≡ record rounds.old { home = 0; taken = shelf.taken }) }
+// A shelf with places for three blocks.
+fn shelf(alloc: Global) -> Result<Shelf, AllocError>
+    ensures empty { IfOk result (λ s. (home s.pool ≡ 0) × (s.pool.made ≡ 3)) }
 {
-    match rounds.hand_home(shelf) {
-        Ok(pool) => Ok(Shelf { pool }),
-        Err(_) => Err(Fail::from("there is memory")),
+    let pool = Pool::empty(alloc, 3)?;
+    Ok(Shelf { pool })
+}
+
+// A round is worked and written, and its blocks come home to an empty shelf.
+fn put(
+    bench: &mut Bench,
+    read: RoundRead,
+    file: &FileHead,
+    sink: &mut MemSink,
+    number: u64,
+    back: &mut Shelf,
+) -> Result<Step, Fail>
+    requires empty { home back.old.pool ≡ 0 }
+    requires made { back.old.pool.made ≡ bench.old.blocks }
+    requires within { read.round.blocks ≤ bench.old.blocks }
+    ensures home { IfOk result (λ _. home back.new.pool ≡ read.round.blocks) }
+    ensures made { back.new.pool.made ≡ back.old.pool.made }
+    ensures blocks { bench.new.blocks ≡ bench.old.blocks }
+{
+    if bench.make_room().is_err() {
+        let RoundRead { round, end: _ } = read;
+        round.discard();
+        return Err(Fail::from("there is memory"));
     }
+    let mut works = Alone { gate: &NoGate };
+    Ok(bench.put_read(&mut works, read, file, sink, number, &mut back.pool))
 }
 
 // Both records in rounds of one, over blocks for one: what came of the rounds, and what was written; the blocks that
-// are home on the side that works once a round was put and once it was handed home, and on the other once the next one
-// was read; and at last.
+// are home where rounds are read once the first was put on a shelf, that lie on the shelf, that are home once the
+// second was read, and at last.
 fn in_turn(alloc: Global) -> Result<([Step; 3], Vec<u8>, [u32; 4]), Fail> {
     let mut feed = Feed {
         inner: MemSource::new(TWO_RECORDS.to_vec(alloc)?, 24, Vec::new(alloc)),
@@ -68,31 +89,39 @@ fn in_turn(alloc: Global) -> Result<([Step; 3], Vec<u8>, [u32; 4]), Fail> {
     };
     let file = reader.file();
     let mut sink = MemSink::new(alloc, 64, Vec::new(alloc));
-    let mut rounds = Rounds::make(alloc, 3, 1, plain(1, 0, 64), false)?;
-    let shelves = (Pool::empty(alloc, 3)?, Pool::empty(alloc, 3)?);
-    let mut works = Alone { gate: &NoGate };
-    let mut intake = rounds.part()?;
+    let Rounds {
+        mut intake,
+        mut bench,
+    } = Rounds::make(alloc, 3, 1, plain(1, 0, 64), false)?;
+    let (mut one, mut two, mut three) = (shelf(alloc)?, shelf(alloc)?, shelf(alloc)?);
     let round = full(intake.read_round(&mut reader, &mut AllHome))?;
     let end = RoundEnd::Full;
-    let first = rounds.put_read(&mut works, RoundRead { round, end }, &file, &mut sink, 0);
-    let put = rounds.home();
-    let mut back = handed(&mut rounds, shelves.0)?;
-    let given = rounds.home();
-    let round = full(intake.read_round(&mut reader, &mut back))?;
+    let first = put(
+        &mut bench,
+        RoundRead { round, end },
+        &file,
+        &mut sink,
+        0,
+        &mut one,
+    )?;
+    let (given, put_home) = (intake.home(), one.pool.home());
+    let round = full(intake.read_round(&mut reader, &mut one))?;
     let read = intake.home();
-    let second = rounds.put_read(&mut works, RoundRead { round, end }, &file, &mut sink, 1);
-    let mut back = handed(&mut rounds, shelves.1)?;
-    let last = intake.read_round(&mut reader, &mut back);
-    let third = rounds.put_read(&mut works, last, &file, &mut sink, 2);
-    if rounds.home() + intake.home() > intake.blocks() {
-        return Err(Fail::from("no block is there twice"));
-    }
-    rounds.join(intake);
+    let second = put(
+        &mut bench,
+        RoundRead { round, end },
+        &file,
+        &mut sink,
+        1,
+        &mut two,
+    )?;
+    let last = intake.read_round(&mut reader, &mut two);
+    let third = put(&mut bench, last, &file, &mut sink, 2, &mut three)?;
     let written = sink.bytes().to_vec(alloc)?;
     Ok((
         [first, second, third],
         written,
-        [put, given, read, rounds.home()],
+        [given, put_home, read, intake.home() + three.pool.home()],
     ))
 }
 
@@ -101,12 +130,12 @@ fn blocks_come_home_while_rounds_are_read(rt: HostRuntime) -> Result<(), Fail> {
     let (steps, written, homes) = in_turn(rt.alloc())?;
     assert_eq!(rt; steps, [Step::Goes, Step::Goes, Step::Ends(MergeEnd::Done)]);
     assert_eq!(rt; written.as_slice(), WRITTEN.as_slice());
-    assert_eq!(rt; homes, [3, 0, 0, 3]);
+    assert_eq!(rt; homes, [0, 3, 0, 3]);
     Ok(())
 }
 
 // A round is read while all blocks are out, of which none comes home: why it has no more records, and the blocks that
-// are home once both sides are one again and the round before was dropped.
+// are home then, and once the round before was dropped.
 fn lacking(alloc: Global) -> Result<(RoundEnd, u32, u32), Fail> {
     let mut feed = Feed {
         inner: MemSource::new(TWO_RECORDS.to_vec(alloc)?, 24, Vec::new(alloc)),
@@ -116,12 +145,10 @@ fn lacking(alloc: Global) -> Result<(RoundEnd, u32, u32), Fail> {
         Err(_) => return Err(Fail::from("the file header is lawful")),
     };
     let mut rounds = Rounds::make(alloc, 3, 1, plain(1, 0, 64), false)?;
-    let mut intake = rounds.part()?;
-    let first = full(intake.read_round(&mut reader, &mut AllHome))?;
-    let RoundRead { round, end } = intake.read_round(&mut reader, &mut AllHome);
+    let first = full(rounds.read_round(&mut reader))?;
+    let RoundRead { round, end } = rounds.intake.read_round(&mut reader, &mut AllHome);
+    let home = rounds.intake.home();
     round.discard();
-    rounds.join(intake);
-    let home = rounds.home();
     rounds.drop_round(first);
     Ok((end, home, rounds.home()))
 }

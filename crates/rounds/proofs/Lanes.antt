@@ -21,7 +21,9 @@ use Rattle.round_work.specs.declared.lanes.Lanes.{Lanes}
 use Rattle.round_work.specs.Work.{lane_records, records_of_queue, records_of_tap, records_of_texts}
 use Rattle.round_write.specs.Records.{item_bytes}
 use Rattle.rounds.specs.Lanes.{worked_records, bytes_of_items, queue_bytes, text_bytes, bytes_of_texts, tap_bytes, lanes_bytes, worked_bytes}
-use Rattle.rounds.specs.RoundsState.{RoundsState, WorkedState}
+use Rattle.block_pool.specs.PoolState.{PoolState}
+use Rattle.rounds.specs.Benches.{Brings, MayBring}
+use Rattle.rounds.specs.RoundsState.{BenchState, WorkedState}
 
 -- ---- the bytes of its records
 
@@ -73,18 +75,18 @@ pub works_out : {E : Type 0} (options now : Options) (order : Order) (ps : List 
     → IfOk r (λ w. worked_bytes order w ≡ round_output options order ps)
 works_out options now order ps r same h = bytes_at options order ps r (subst (λ (o : Options). IfOk r (λ w. worked_records w ≡ round_records o ps)) same h)
 
-pub may_put : {E : Type 0} (r : Result WorkedState E) (old new : RoundsState) (n : ℕ) → IfOk r (λ w. w.blocks ≡ n) → OnOk r (new ≡ old) → OnErr r (new ≡ record old { home = old.home + n })
-    → old.home + n ≤ old.blocks
-    → IfOk r (λ w. new.home + w.blocks ≤ new.blocks)
-may_put (Ok w) old new n size same home fits = omega (arith, size, ap (λ (z : RoundsState). z.home) same, ap (λ (z : RoundsState). z.blocks) same, fits)
-may_put (Err e) old new n size same home fits = tt
+pub may_put : {E : Type 0} (r : Result WorkedState E) (old new : BenchState) (p q : PoolState) (n : ℕ) → IfOk r (λ w. w.blocks ≡ n) → OnOk r ((new ≡ old) × (q ≡ p)) → MayBring n old p
+    → IfOk r (λ w. MayBring w.blocks new q)
+may_put (Ok w) old new p q n size same may =
+    subst (λ (k : ℕ). MayBring k new q) (sym size) (subst (λ (b : BenchState). MayBring n b q) (sym same.0) (subst (MayBring n old) (sym same.1) may))
+may_put (Err e) old new p q n size same may = tt
 
 -- a round that was worked and put, or that there was no memory for, is home
-pub is_home : {E : Type 0} (r : Result WorkedState E) (old mid new : RoundsState) (n : ℕ) → IfOk r (λ w. w.blocks ≡ n) → OnOk r (mid ≡ old) → OnErr r (mid ≡ record old { home = old.home + n })
-    → MatchResult r (λ w. new ≡ record mid { home = mid.home + w.blocks }) (λ _. new ≡ mid) → new ≡ record old { home = old.home + n }
-is_home (Ok w) old mid new n size same home put =
-    put ∙ ap (λ (z : RoundsState). record z { home = z.home + w.blocks }) same ∙ ap (λ (k : ℕ). record old { home = old.home + k }) size
-is_home (Err e) old mid new n size same home put = put ∙ home
+pub brings_put : {E : Type 0} (r : Result WorkedState E) (old mid new : BenchState) (p q z : PoolState) (n : ℕ) → IfOk r (λ w. w.blocks ≡ n) → OnOk r ((mid ≡ old) × (q ≡ p))
+    → OnErr r (Brings n old mid p q) → MatchResult r (λ w. Brings w.blocks mid new q z) (λ _. (new ≡ mid) × (z ≡ q)) → Brings n old new p z
+brings_put (Ok w) old mid new p q z n size same brings put =
+    subst (λ (k : ℕ). Brings k old new p z) size (subst (λ (b : BenchState). Brings w.blocks b new p z) same.0 (subst (λ (x : PoolState). Brings w.blocks mid new x z) same.1 put))
+brings_put (Err e) old mid new p q z n size same brings put = subst (λ (b : BenchState). Brings n old b p z) (sym put.0) (subst (Brings n old mid p) (sym put.1) brings)
 
 -- ---- one thing written behind another, of lists that are borrowed
 

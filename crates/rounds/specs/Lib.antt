@@ -1,4 +1,5 @@
 pub mod Ahead
+pub mod Benches
 pub mod Cutting
 pub mod Data
 pub mod Fresh

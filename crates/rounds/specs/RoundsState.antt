@@ -21,6 +21,15 @@ pub record IntakeState : Type 0 where
   pub taken : ℕ
   pub budget : ℕ
 
+-- of the side that works: how many places it has for what is given back, for how many blocks, how many packets a round
+-- may have, how its work is divided, and whether a clone of each packet is kept
+pub record BenchState : Type 0 where
+  pub room : ℕ
+  pub blocks : ℕ
+  pub budget : ℕ
+  pub plan : Plan
+  pub keep : Bool
+
 pub record RoundState : Type 0 where
   pub packets : List Packet
   pub blocks : ℕ

@@ -1,6 +1,7 @@
-//! The side of rounds that reads, where another works.
-ghost use Rattle.std.specs.Prelude.{◌≡◌, ◌≢◌, ◌⊎◌, ◌+◌, ◌-◌, ◌<◌, ◌≤◌, ◌^◌, length, map, min};
+//! The side of rounds that reads.
+ghost use Rattle.std.specs.Prelude.{◌≡◌, ◌≢◌, ◌+◌, ◌-◌, ◌<◌, ◌≤◌, ◌^◌, [], length, map, min, IfOk, OnErr};
 ghost use Rattle.std.specs.List.{AllByRecursion};
+ghost use Rattle.std.specs.VecDeque.{deque_capacity};
 ghost use Rattle.block_pool.specs.PoolState.{home};
 ghost use Rattle.off_io.specs.Faults.{Rose};
 ghost use Rattle.off_io.specs.Told.{Told};
@@ -10,29 +11,32 @@ ghost use Rattle.pcap_io.specs.Readers.{place_of, source_of, SameLoan};
 ghost use Rattle.offload_model.specs.Need.{round_need};
 ghost use Rattle.offload_model.specs.Captured.{IsCaptured};
 ghost use Rattle.gro.specs.Held.{packet_of};
+ghost use Rattle.rounds.specs.Ahead.{round_of, GivesAhead, IfPaused, IfRead, ReadsAhead};
 ghost use Rattle.rounds.specs.Fresh.{NumberedFrom};
-ghost use Rattle.rounds.specs.Reading.{GivesRound, PassesRound};
+ghost use Rattle.rounds.specs.Reading.{FillsRound, GivesRest, GivesRound, NumberedTo, NumbersOn, PassesRound};
 
-use crate::homecoming::Homecoming;
-use crate::reading::read_records;
-use crate::round::{Round, RoundEnd, RoundRead};
-use crate::rounds::no_round;
+use crate::homecoming::{AllHome, Homecoming};
+use crate::memory::RECORD_BLOCKS;
+use crate::reading::{Halt, read_more, read_records};
+use crate::round::{ReadAhead, Round, RoundEnd, RoundRead, no_round};
 use block_pool::Pool;
+use core::mem::replace;
+use gro::Packet;
 use off_io::Source;
 use pcap_io::CaptureReader;
 use raw_block::Sole;
-use std::alloc::Global;
+use std::alloc::{AllocError, Global};
 use std::collections::VecDeque;
 use std::marker::Model;
 
 /// The blocks of rounds, and who reads into them. Dropping it frees the blocks that are home.
 #[derive(Drop)]
 pub struct Intake {
-    pub(crate) alloc: Global,
+    alloc: Global,
     pub(crate) pool: Pool,
     // The blocks of the record that is being read.
-    pub(crate) hold: VecDeque<Sole>,
-    pub(crate) budget: u32,
+    hold: VecDeque<Sole>,
+    budget: u32,
 }
 
 impl Model for Intake {
@@ -55,8 +59,61 @@ impl Model for Intake {
 }
 
 impl Intake {
-    /// Blocks that were out come home before a round is read.
-    pub fn bring_in<H: Homecoming>(&mut self, more: &mut H)
+    /// Of `blocks` new blocks, all home, for rounds of up to `budget` records.
+    pub(crate) fn make(alloc: Global, blocks: u32, budget: u32) -> Result<Intake, AllocError>
+        requires blocks { blocks ≤ 65536 }
+        requires budget { (1 ≤ budget) × (budget ≤ 4096) }
+        ensures made { IfOk result (λ intake. intake ≡ record {
+          home = blocks;
+          blocks = blocks;
+          taken = 0;
+          budget = budget;
+        }) }
+    {
+        let hold = VecDeque::with_capacity(alloc, RECORD_BLOCKS)?;
+        let pool = Pool::make(alloc, blocks)?;
+        Ok(Intake {
+            alloc,
+            pool,
+            hold,
+            budget,
+        })
+    }
+
+    /// The blocks that are home.
+    pub fn home(&self) -> u32
+        ensures home { result ≡ self.now.home }
+        ensures within { result ≤ self.now.blocks }
+    {
+        self.pool.home()
+    }
+
+    /// The blocks that were made.
+    pub fn blocks(&self) -> u32
+        ensures blocks { result ≡ self.now.blocks }
+        ensures few { result ≤ 65536 }
+    {
+        self.pool.made()
+    }
+
+    /// The blocks that were taken, by reading alone. It stays at `2^64 - 1`.
+    pub fn taken(&self) -> u64
+        ensures value { result ≡ self.now.taken }
+    {
+        self.pool.taken()
+    }
+
+    /// Blocks that were out come home on a shelf. None is taken.
+    pub fn bring_in(&mut self, shelf: Pool)
+        requires room { self.old.home + home shelf ≤ self.old.blocks }
+        ensures home { self.new ≡ record self.old { home = self.old.home + home shelf } }
+    {
+        let mut shelf = shelf;
+        self.pool.refill(&mut shelf);
+    }
+
+    /// Blocks that were out come home before a round is read. None is taken.
+    pub fn bring_more<H: Homecoming>(&mut self, more: &mut H)
         ensures sum { self.new.home + H.brought more.old ≡ self.old.home + H.brought more.new }
         ensures same { (self.new.blocks ≡ self.old.blocks) × (self.new.taken ≡ self.old.taken)
             × (self.new.budget ≡ self.old.budget) }
@@ -90,13 +147,51 @@ impl Intake {
         ensures budget { (1 ≤ self.old.budget) × (self.old.budget ≤ 4096) }
         ensures taken { min (self.old.taken + result.round.blocks) (2 ^ 64 - 1) ≤ self.new.taken }
         ensures least { self.old.taken ≤ self.new.taken }
+        ensures most { self.new.taken ≤ self.old.taken + self.old.blocks }
+        ensures later { S.faults (source_of reader.old) ≤ S.faults (source_of reader.new) }
+        ensures failed { result.end ≡ RoundEnd.ReadFault
+            → Rose (S.faults (source_of reader.old)) (S.faults (source_of reader.new)) }
+    {
+        let packets = VecDeque::with_capacity(self.alloc, self.budget as usize);
+        self.read_into(reader, more, packets)
+    }
+
+    /// The same, into a list of packets that has room for them, where there was memory for it.
+    pub(crate) fn read_into<S: Source, H: Homecoming>(
+        &mut self,
+        reader: &mut CaptureReader<'_, S>,
+        more: &mut H,
+        packets: Result<VecDeque<Packet>, AllocError>,
+    ) -> RoundRead
+        requires ready { IsReady (place_of reader.old) }
+        requires link { (place_of reader.old).link ≡ Ethernet }
+        requires none { IfOk packets (λ ps. ps.items ≡ []) }
+        requires reserved { IfOk packets (λ ps. self.old.budget ≤ deque_capacity ps) }
+        ensures same_source { SameLoan reader.old reader.new }
+        ensures given { Told (S.left (source_of reader.old)) (S.left (source_of reader.new))
+            (GivesRound self.old.blocks (place_of reader.old) (place_of reader.new) result.round.packets result.end) }
+        ensures size { length result.round.packets ≤ self.old.budget }
+        ensures fewer { (result.end ≢ RoundEnd.Full) → (result.end ≢ RoundEnd.NoMemory)
+            → length result.round.packets < self.old.budget }
+        ensures full { result.end ≡ RoundEnd.Full → PassesRound (place_of reader.old)
+            (place_of reader.new) result.round.packets self.old.budget }
+        ensures captured { AllByRecursion IsCaptured (map packet_of result.round.packets) }
+        ensures numbers { NumberedFrom (place_of reader.old).number result.round.packets }
+        ensures need { result.round.blocks ≡ round_need (map packet_of result.round.packets) }
+        ensures sum { self.new.home + result.round.blocks + H.brought more.old ≡ self.old.home + H.brought more.new }
+        ensures within { result.round.blocks ≤ self.old.blocks }
+        ensures unread { OnErr packets (self.new ≡ self.old) }
+        ensures same { (self.new.blocks ≡ self.old.blocks) × (self.new.budget ≡ self.old.budget) }
+        ensures budget { (1 ≤ self.old.budget) × (self.old.budget ≤ 4096) }
+        ensures taken { min (self.old.taken + result.round.blocks) (2 ^ 64 - 1) ≤ self.new.taken }
+        ensures least { self.old.taken ≤ self.new.taken }
+        ensures most { self.new.taken ≤ self.old.taken + self.old.blocks }
         ensures later { S.faults (source_of reader.old) ≤ S.faults (source_of reader.new) }
         ensures failed { result.end ≡ RoundEnd.ReadFault
             → Rose (S.faults (source_of reader.old)) (S.faults (source_of reader.new)) }
     {
         let _ = self.pool.taken();
-        let budget = self.budget as usize;
-        let mut packets = match VecDeque::with_capacity(self.alloc, budget) {
+        let mut packets = match packets {
             Ok(packets) => packets,
             Err(_) => return no_round(self.alloc),
         };
@@ -106,7 +201,7 @@ impl Intake {
             &mut self.hold,
             reader,
             more,
-            budget,
+            self.budget as usize,
             &mut packets,
         );
         RoundRead {
@@ -115,30 +210,114 @@ impl Intake {
         }
     }
 
-    /// The blocks that are home.
-    pub fn home(&self) -> u32
-        ensures home { result ≡ self.now.home }
-        ensures within { result ≤ self.now.blocks }
+    /// Reads the next round beside the work of another, while no block comes home, into a list that is lent for that.
+    /// The runtime goes with it for the borrow checker's part alone, by which what a side borrows ends with what both
+    /// borrow.
+    pub(crate) fn read_ahead<R: Sync, S: Source>(
+        &mut self,
+        _rt: &R,
+        reader: &mut CaptureReader<'_, S>,
+        list: &mut VecDeque<Packet>,
+    ) -> ReadAhead
+        requires ready { IsReady (place_of reader.old) }
+        requires link { (place_of reader.old).link ≡ Ethernet }
+        requires none { list.old.items ≡ [] }
+        requires reserved { self.old.budget ≤ deque_capacity list.old }
+        ensures same_source { SameLoan reader.old reader.new }
+        ensures given { Told (S.left (source_of reader.old)) (S.left (source_of reader.new))
+            (GivesAhead self.old.blocks (place_of reader.old) (place_of reader.new) result) }
+        ensures reads { ReadsAhead self.old.budget (place_of reader.old) (place_of reader.new) result }
+        ensures paused { IfPaused result (λ round. (self.old.home < round.blocks + 131)
+            × (self.old.home < self.old.blocks)) }
+        ensures spent { list.new.items ≡ [] }
+        ensures sum { self.new.home + (round_of result).blocks ≡ self.old.home }
+        ensures same { (self.new.blocks ≡ self.old.blocks) × (self.new.budget ≡ self.old.budget) }
+        ensures budget { (1 ≤ self.old.budget) × (self.old.budget ≤ 4096) }
+        ensures taken { min (self.old.taken + (round_of result).blocks) (2 ^ 64 - 1) ≤ self.new.taken }
+        ensures least { self.old.taken ≤ self.new.taken }
+        ensures most { self.new.taken ≤ self.old.taken + self.old.blocks }
+        ensures so_far { IfPaused result (λ round. self.new.taken ≤ self.old.taken + round.blocks) }
+        ensures later { S.faults (source_of reader.old) ≤ S.faults (source_of reader.new) }
+        ensures failed { IfRead result (λ end. end ≡ RoundEnd.ReadFault
+            → Rose (S.faults (source_of reader.old)) (S.faults (source_of reader.new))) }
     {
-        self.pool.home()
+        let _ = self.pool.taken();
+        let mut packets = replace(list, VecDeque::new(self.alloc));
+        let (blocks, halt) = read_more(
+            self.alloc,
+            &mut self.pool,
+            &mut self.hold,
+            reader,
+            &mut AllHome,
+            self.budget as usize,
+            &mut packets,
+            0,
+        );
+        let round = Round { packets, blocks };
+        match halt {
+            Halt::Ended(end) => ReadAhead::Read(RoundRead { round, end }),
+            Halt::Lacking => ReadAhead::Paused(round),
+        }
     }
 
-    /// The blocks that were made.
-    pub fn blocks(&self) -> u32
-        ensures blocks { result ≡ self.now.blocks }
-        ensures few { result ≤ 65536 }
+    /// Reads the rest of a round that was paused, as `read_rest` of the rounds says it.
+    pub(crate) fn read_on<S: Source>(
+        &mut self,
+        round: Round,
+        reader: &mut CaptureReader<'_, S>,
+    ) -> RoundRead
+        requires ready { IsReady (place_of reader.old) }
+        requires link { (place_of reader.old).link ≡ Ethernet }
+        requires out { self.old.home + round.blocks ≡ self.old.blocks }
+        requires fewer { length round.packets < self.old.budget }
+        requires numbers { NumberedTo (place_of reader.old).number round.packets }
+        ensures same_source { SameLoan reader.old reader.new }
+        ensures given { Told (S.left (source_of reader.old)) (S.left (source_of reader.new))
+            (GivesRest self.old.blocks (place_of reader.old)
+            (place_of reader.new) round.packets result.round.packets result.end) }
+        ensures size { length result.round.packets ≤ self.old.budget }
+        ensures fewer { result.end ≢ RoundEnd.Full → length result.round.packets < self.old.budget }
+        ensures full { result.end ≡ RoundEnd.Full → FillsRound (place_of reader.old)
+            (place_of reader.new) round.packets result.round.packets self.old.budget }
+        ensures captured { AllByRecursion IsCaptured (map packet_of result.round.packets) }
+        ensures numbers { NumbersOn (place_of reader.old).number round.packets result.round.packets }
+        ensures need { result.round.blocks ≡ round_need (map packet_of result.round.packets) }
+        ensures home { self.new.home + result.round.blocks ≡ self.old.blocks }
+        ensures same { (self.new.blocks ≡ self.old.blocks) × (self.new.budget ≡ self.old.budget) }
+        ensures budget { (1 ≤ self.old.budget) × (self.old.budget ≤ 4096) }
+        ensures taken { min (self.old.taken + (result.round.blocks - round.blocks)) (2 ^ 64 - 1) ≤ self.new.taken }
+        ensures least { (round.blocks ≤ result.round.blocks) × (self.old.taken ≤ self.new.taken) }
+        ensures most { self.new.taken + round.blocks ≤ self.old.taken + self.old.blocks }
+        ensures later { S.faults (source_of reader.old) ≤ S.faults (source_of reader.new) }
+        ensures failed { result.end ≡ RoundEnd.ReadFault
+            → Rose (S.faults (source_of reader.old)) (S.faults (source_of reader.new)) }
     {
-        self.pool.made()
-    }
-
-    /// The blocks of a shelf come home, as many as there are places for.
-    pub fn bring_home(&mut self, shelf: &mut Pool)
-        ensures sum { self.new.home + home shelf.new ≡ self.old.home + home shelf.old }
-        ensures all { (home shelf.new ≡ 0) ⊎ (self.new.home ≡ self.old.blocks) }
-        ensures same { (self.new.blocks ≡ self.old.blocks) × (self.new.taken ≡ self.old.taken)
-            × (self.new.budget ≡ self.old.budget) }
-        ensures shelf { (shelf.new.made ≡ shelf.old.made) × (shelf.new.taken ≡ shelf.old.taken) }
-    {
-        self.pool.refill(shelf);
+        let _ = self.pool.taken();
+        let budget = self.budget as usize;
+        let end = RoundEnd::NoMemory;
+        let Round {
+            mut packets,
+            blocks,
+        } = round;
+        let free = budget - packets.len();
+        if packets.reserve(free).is_err() {
+            let round = Round { packets, blocks };
+            return RoundRead { round, end };
+        }
+        let (blocks, halt) = read_more(
+            self.alloc,
+            &mut self.pool,
+            &mut self.hold,
+            reader,
+            &mut AllHome,
+            budget,
+            &mut packets,
+            blocks,
+        );
+        let round = Round { packets, blocks };
+        match halt {
+            Halt::Ended(end) => RoundRead { round, end },
+            Halt::Lacking => RoundRead { round, end },
+        }
     }
 }

@@ -1,5 +1,5 @@
 //! Works a round: its packets are merged in lanes.
-ghost use Rattle.std.specs.Prelude.{◌≡◌, ◌+◌, ◌≤◌, true, [], map, All, IfOk, OnOk, OnErr, MatchResult};
+ghost use Rattle.std.specs.Prelude.{◌≡◌, ◌≤◌, true, [], map, All, IfOk, IfErr, OnOk, MatchResult};
 ghost use Rattle.offload_model.specs.Written.{round_records};
 ghost use Rattle.ref_core.specs.WeightRule.{full_weight};
 ghost use Rattle.frags.specs.Account.{Keeps, both};
@@ -7,12 +7,12 @@ ghost use Rattle.gro.specs.Held.{packet_of, of_packets, counts_of, AreHeld, AreS
 ghost use Rattle.taps.specs.Clones.{packet_of as packet_of_clone, blocks_of, of_clones};
 ghost use Rattle.round_work.specs.Clones.{AreAfter};
 ghost use Rattle.gro.specs.Table.{AreReady};
+ghost use Rattle.rounds.specs.Benches.{options_at};
 ghost use Rattle.rounds.specs.Kept.{IsKept, IsDone, IsLeft, IsOfLanes};
 ghost use Rattle.rounds.specs.Lanes.{worked_records, IsKeptWorkOf};
-ghost use Rattle.rounds.specs.Merging.{options_of};
 
-use crate::round::{Round, Worked};
-use crate::rounds::Rounds;
+use crate::bench::Bench;
+use crate::round::{Rest, Round, Worked};
 use core::mem::replace;
 use gro::Packet;
 use round_work::{Lanes, Works, keep_packets, work_packets};
@@ -49,13 +49,13 @@ fn keep_if(
     keep_packets(packets, kept)
 }
 
-impl Rounds {
-    // A clone of each packet is kept, if that is wanted. For want of memory all blocks of the round are home.
-    fn keep_round(&mut self, round: Round) -> Result<Kept, AllocError>
-        requires out { self.old.home + round.blocks ≤ self.old.blocks }
+impl Bench {
+    // A clone of each packet is kept, if that is wanted.
+    fn keep_round(&mut self, round: Round) -> Result<Kept, Rest>
+        requires few { round.blocks ≤ self.old.blocks }
         ensures kept { IfOk result (λ k. IsKept self.old.keep (map packet_of round.packets) round.blocks k) }
-        ensures same { OnOk result (self.new ≡ self.old) }
-        ensures home { OnErr result (self.new ≡ record self.old { home = self.old.home + round.blocks }) }
+        ensures rest { IfErr result (λ rest. rest ≡ round.blocks) }
+        ensures same { self.new ≡ self.old }
     {
         let Round {
             mut packets,
@@ -68,26 +68,26 @@ impl Rounds {
                 kept,
                 blocks,
             }),
-            Err(error) => {
-                let lanes = self.take_lanes();
-                self.bring_back(packets, lanes, kept, blocks);
-                Err(error)
-            }
+            Err(_) => Err(Rest {
+                packets,
+                lanes: self.take_lanes(),
+                kept,
+                blocks,
+            }),
         }
     }
 
-    // What the lanes came to. For want of memory all blocks of the round are home.
+    // What the lanes came to.
     fn settle(
         &mut self,
         kept: Kept,
         lanes: Lanes,
         done: Result<(), AllocError>,
-    ) -> Result<Worked, AllocError>
-        requires out { self.old.home + kept.blocks ≤ self.old.blocks }
+    ) -> Result<Worked, Rest>
         requires lanes { MatchResult done (λ _. IsDone kept lanes) (λ _. IsLeft kept lanes) }
         ensures worked { IfOk result (IsOfLanes done lanes kept.kept.items kept.blocks) }
-        ensures same { OnOk result (self.new ≡ self.old) }
-        ensures home { OnErr result (self.new ≡ record self.old { home = self.old.home + kept.blocks }) }
+        ensures rest { IfErr result (λ rest. rest ≡ kept.blocks) }
+        ensures same { self.new ≡ self.old }
     {
         let Kept {
             packets,
@@ -103,31 +103,26 @@ impl Rounds {
                     blocks,
                 })
             }
-            Err(error) => {
-                self.bring_back(packets, lanes, kept, blocks);
-                Err(error)
-            }
+            Err(_) => Err(Rest {
+                packets,
+                lanes,
+                kept,
+                blocks,
+            }),
         }
     }
 
-    /// Works a round: queue by queue what the runs of its flows come to, in the order of their first packets, and tap
-    /// by tap the windows of what is shown of the packets as they were read. Whoever works runs the lanes, and each
-    /// lane passes its gate at point 0 before its work and at point 1 after it; one lane alone is worked here. For want
-    /// of memory all blocks of the round are home.
-    pub fn work_round<W: Works>(
-        &mut self,
-        works: &mut W,
-        round: Round,
-    ) -> Result<Worked, AllocError>
-        requires out { self.old.home + round.blocks ≤ self.old.blocks }
+    /// Works a round, or gives back what is left of it, for want of memory.
+    pub(crate) fn work<W: Works>(&mut self, works: &mut W, round: Round) -> Result<Worked, Rest>
+        requires few { round.blocks ≤ self.old.blocks }
         ensures records { IfOk result (λ worked. worked_records worked
-            ≡ round_records (options_of self.old) (map packet_of round.packets)) }
+            ≡ round_records (options_at self.old) (map packet_of round.packets)) }
         ensures checked { self.old.keep ≡ true → IfOk result
-            (λ worked. IsKeptWorkOf (options_of self.old) (map packet_of round.packets) worked) }
+            (λ worked. IsKeptWorkOf (options_at self.old) (map packet_of round.packets) worked) }
         ensures ready { IfOk result (λ worked. All (λ lane. AreReady lane.items.items) worked.lanes.queues.items) }
         ensures worked { IfOk result (λ worked. worked.blocks ≡ round.blocks) }
-        ensures same { OnOk result (self.new ≡ self.old) }
-        ensures home { OnErr result (self.new ≡ record self.old { home = self.old.home + round.blocks }) }
+        ensures rest { IfErr result (λ rest. rest ≡ round.blocks) }
+        ensures same { self.new ≡ self.old }
     {
         let mut kept = self.keep_round(round)?;
         let mut lanes = self.take_lanes();

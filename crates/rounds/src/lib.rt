@@ -37,9 +37,10 @@
 //!   (`merging` of `offload_model`) with all options, whole rounds alone; a round that exceeds the blocks is told by
 //!   its number and its need. After a fault, or want of memory, it is that of the bytes that are gone, or a front of
 //!   it. All blocks are home whatever the ending (`home`).
-//! - `sum`, `home` of [`Intake`] and of `put_read`, `hand_home`, `bring_home`, `join`: where one side reads and another
-//!   works no block is lost between them, and `given`, `puts` and `gives` say of a round on its way what `merge_all`
-//!   says of it.
+//! - `taken` is the count of [`Intake`]'s own takes: `read_round`, `work_and_read`, `read_rest` and what goes by them
+//!   raise it, and no other call changes it (`home`, `same`), also where blocks come home on a shelf (`bring_in`).
+//! - `sum`, `home` of [`Intake`], `brings` of [`Bench`]: where one side reads and the other works no block is lost
+//!   between them, and `given`, `puts` and `gives` say of a round on its way what `merge_all` says of it.
 //! - `given`, `reads`, `paused` of `work_and_read`: where the next round is read beside the work of one, what is said
 //!   of both is the same; the read pauses only between records, and only where blocks of the other round were wanted;
 //!   `given` of `read_rest`: what such a round comes to in the end, over all of its records. That both run at the same
@@ -80,12 +81,14 @@
 //! Its parts: `record` (one record of either link type: header, need, blocks, body), on `body` and `blocks`; `reading`
 //! (a round of them); `table` and `home` (what comes back, by marks, and all of a round given up at whichever point);
 //! `lane_work` (a round over lanes, by `round_work::work_packets`), `lane_home` (what lanes hold, home); `writing`
-//! (what they come to); `rounds` (the type that keeps pool, table and memory); `merge` (round by round to the end of a
-//! capture); `ahead` (a round read beside the work of another, and its rest), `sides` (rounds parted in two, and one
-//! again), `intake` (the side that reads) and `homecoming` (who brings blocks home while a round is read); `segment`
-//! (the type that segments, record by record) on `cut` (a record's packets written one by one, its blocks brought home)
-//! and `memory` (what both types keep). `specs/Marks.antt` says what is a round's account, `specs/Fresh.antt` what it
-//! is as blocks are taken, `specs/Reading.antt` what each end of a round says of the capture's bytes.
+//! (what they come to); `intake` (the side that reads: pool and budget) and `homecoming` (who brings blocks home while
+//! a round is read); `bench` (the side that works: places, memory and lanes); `rounds` (both, in turn) and `ahead` (a
+//! round read beside the work of another, and its rest); `handler` (what is done with a round, for whoever drives
+//! them); `merge` (round by round to the end of a capture); `segment` (the type that segments, record by record) on
+//! `cut` (a record's packets written one by one, its blocks brought home) and `memory` (what both types keep).
+//! `specs/Marks.antt` says what is a round's account, `specs/Fresh.antt` what it is as blocks are taken,
+//! `specs/Reading.antt` what each end of a round says of the capture's bytes, `specs/Benches.antt` when blocks may come
+//! home, and what is so once they have.
 //!
 //! Tests: `round_tests`, modules `ahead`, `lanes`, `long_runs`, `merging`, `segments` and `sides`.
 //!
@@ -99,14 +102,15 @@
 //!   nothing has to be reunited. In fact a receipt meets a place that is home already, and is closed.
 //! - **A second Sole of a mark is dropped.** The account says what is held at most and what is home at least, so it
 //!   doesn't exclude one; that two Soles never are of one block is known only where both are in hand.
-//! - **`Rounds` keeps the memory of a round's packets and lanes** while no round has it: the lanes are idle, and the
+//! - **The bench keeps the memory of a round's packets and lanes** while no round has it: the lanes are idle, and the
 //!   table of places is open between the calls. These hold parts or receipts by their types, so it is dropped by an
 //!   `impl Drop` of its own, which spends them: its invariant says that they hold nothing.
 //! - **A round is always worked in lanes**, and one queue without taps is one lane: whoever asks works it. Its lanes
 //!   are away until it ends, and come home with their memory (`end_round`). A round that is worked before another has
 //!   ended makes lanes of its own.
-//! - **One function gives up a round** at whichever point (`bring_round`): what was given back so far, the packets that
-//!   are in no lane, and what the lanes hold.
+//! - **One function gives up a round** at whichever point (`Bench::bring`): what is left of it is a `Rest`, the packets
+//!   that are in no lane, what the lanes hold and the clones that were kept. So working needs no pool: for want of
+//!   memory it gives back the rest, which whoever called brings home.
 //! - **What a round is told is one argument**, a `Plan`: queues and how flows go to them, taps, their window and their
 //!   filter, and how many packets a run may have. The model's options follow from it (`options_by`), so a further
 //!   option is a field there and a body. It isn't copied: a hash key has tables of 4.6 KB, and a filter its program.
@@ -114,15 +118,17 @@
 //! - **A round is ended before a fault of its writing is answered**, so its blocks are home whatever the ending.
 //! - **A step says what it did in the words of the loop**: `Ahead 1` where it goes on, and else an ending behind the
 //!   rounds before (`EndsBehind`). The loop over steps then has three lemmas, one for each clause.
-//! - **Rounds part into two sides** (`part`, `join`): one reads and has the pool, the other has all that working wants.
-//!   Each has places for all blocks, and what is home on both, with what is out, is one sum that their caller keeps.
-//!   Blocks go back by the pool: `hand_home` gives away the one in which they came home and takes an empty one, a
-//!   shelf, so no block is moved by itself.
-//! - **Whoever drives rounds one by one reads the next one beside the work** by `work_and_read`: one join, in which a
-//!   side reads with all blocks that are home while the other works over none. No block comes home before both have
-//!   ended, so blocks aren't shared, and taking one costs no locked step. A read that wants blocks of the round beside
-//!   it pauses between two records, by the same rule (`is_ready`): no header is kept and nothing is half read, and
-//!   whether a round exceeds the blocks is judged by all of them in `read_rest` too.
+//! - **`Rounds` are two sides**, an intake that reads and has the pool, and a bench that works and has none. Where
+//!   blocks come home is told at each call: in turn it is the intake's pool, beside a shelf that goes back to it. So
+//!   both are lent side by side, as two fields, with no memory and no way back; and a call that takes no pool can't set
+//!   the count of what was taken.
+//! - **The fields are public**, since two parts of one value can't be lent by a call whose invariant speaks of both
+//!   (`AreOne`): that what is out has its places at the bench. Whoever lends them owes it when both are back.
+//! - **Whoever drives rounds one by one reads the next one beside the work** by `work_and_read`: one join, in which the
+//!   intake reads with all blocks that are home while the bench works. No block comes home before both have ended, so
+//!   blocks aren't shared, and taking one costs no locked step. A read that wants blocks of the round beside it pauses
+//!   between two records, by the same rule (`is_ready`): no header is kept and nothing is half read, and whether a round
+//!   exceeds the blocks is judged by all of them in `read_rest` too.
 //! - **What `read_rest` says is over the whole round** (`GivesRest`): of every place and bytes from which the first
 //!   packets were read. So it has the ends of `read_round` with no ghost data in a round, and `read_round` is the case
 //!   of no packets.
@@ -139,10 +145,12 @@
 #![tactic(auto)]
 
 mod ahead;
+mod bench;
 mod blocks;
 mod body;
 mod check;
 mod cut;
+mod handler;
 mod home;
 mod homecoming;
 mod intake;
@@ -156,10 +164,11 @@ mod record;
 mod round;
 mod rounds;
 mod segment;
-mod sides;
 mod table;
 mod writing;
 
+pub use bench::Bench;
+pub use handler::RoundHandler;
 pub use homecoming::{AllHome, Homecoming};
 pub use intake::Intake;
 pub use memory::RECORD_BLOCKS;

@@ -12,12 +12,15 @@ ghost use Rattle.offload_model.specs.Need.{round_need};
 ghost use Rattle.offload_model.specs.Passing.{merging, Passes, FrontUnless, flushes};
 ghost use Rattle.offload_model.specs.Steps.{round_output};
 ghost use Rattle.gro.specs.Held.{packet_of};
+ghost use Rattle.rounds.specs.Benches.{options_at, Brings, MayBring};
 ghost use Rattle.rounds.specs.Lanes.{worked_bytes};
 ghost use Rattle.rounds.specs.Merging.{ending_of, options_of, is_worked, Puts, GivesUp, Steps, IfEnds, TakesAll};
 ghost use Rattle.rounds.specs.Merging.{EndsCaptured, HoldsCaptured, MovesOn};
 
-use crate::Rounds;
+use crate::bench::Bench;
 use crate::round::{Round, RoundEnd, RoundRead, Worked, is_worked};
+use crate::rounds::Rounds;
+use block_pool::Pool;
 use off_io::{Failed, Sink, Source, WriteFault};
 use pcap_io::{CapFault, CaptureReader, FileHead};
 use round_work::Works;
@@ -83,7 +86,7 @@ fn close_round<K: Sink>(sink: &mut K, end: RoundEnd) -> Step
     }
 }
 
-impl Rounds {
+impl Bench {
     // Writes a round that was worked and ends it. Where that fails merging ends so; the round's blocks are home all the
     // same.
     fn put_round<K: Sink>(
@@ -92,15 +95,16 @@ impl Rounds {
         end: RoundEnd,
         file: &FileHead,
         sink: &mut K,
+        home: &mut Pool,
     ) -> Step
-        requires out { IfOk worked (λ w. self.old.home + w.blocks ≤ self.old.blocks) }
+        requires may { IfOk worked (λ w. MayBring w.blocks self.old home.old) }
         requires works { is_worked end ≡ true }
         ensures puts { (bytes : List ℕ) → IfOk worked (λ w. worked_bytes file.now.order w ≡ bytes)
             → Puts (K.held sink.old) (K.held sink.new) bytes end result }
         ensures flushed { IfEnds result (λ end. flushes (ending_of end) ≡ true
             → SaysFlushed (K.held sink.new) (K.is_flushed sink.new) true) }
-        ensures home { MatchResult worked (λ w. self.new ≡ record self.old { home = self.old.home + w.blocks })
-            (λ _. self.new ≡ self.old) }
+        ensures brings { MatchResult worked (λ w. Brings w.blocks self.old self.new home.old home.new)
+            (λ _. (self.new ≡ self.old) × (home.new ≡ home.old)) }
         ensures later { K.faults sink.old ≤ K.faults sink.new }
         ensures rose { IfEnds result (λ end. end ≡ MergeEnd.WriteFault → Rose (K.faults sink.old) (K.faults sink.new)) }
     {
@@ -109,7 +113,7 @@ impl Rounds {
             Err(_) => return Step::Ends(MergeEnd::NoMemory),
         };
         let written = self.write_round(&worked, file, sink);
-        self.end_round(worked);
+        self.end_round(worked, home);
         match written {
             Ok(()) => close_round(sink, end),
             Err(WriteFault) => Step::Ends(MergeEnd::WriteFault),
@@ -124,17 +128,18 @@ impl Rounds {
         end: RoundEnd,
         sink: &mut K,
         number: u64,
+        home: &mut Pool,
     ) -> MergeEnd
-        requires out { self.old.home + round.blocks ≤ self.old.blocks }
+        requires may { MayBring round.blocks self.old home.old }
         requires ends { is_worked end ≡ false }
         ensures gives { GivesUp (K.held sink.old) (K.held sink.new) number end result }
         ensures flushed { flushes (ending_of result) ≡ true
             → SaysFlushed (K.held sink.new) (K.is_flushed sink.new) true }
-        ensures home { self.new ≡ record self.old { home = self.old.home + round.blocks } }
+        ensures brings { Brings round.blocks self.old self.new home.old home.new }
         ensures later { K.faults sink.old ≤ K.faults sink.new }
         ensures rose { result ≡ MergeEnd.WriteFault → Rose (K.faults sink.old) (K.faults sink.new) }
     {
-        self.drop_round(round);
+        self.drop_round(round, home);
         match end {
             RoundEnd::PoolEmpty { need } => {
                 let end = MergeEnd::PoolEmpty {
@@ -158,6 +163,38 @@ impl Rounds {
         file: &FileHead,
         sink: &mut K,
         number: u64,
+        home: &mut Pool,
+    ) -> Step
+        requires may { MayBring read.round.blocks self.old home.old }
+        ensures puts { is_worked read.end ≡ true → Puts (K.held sink.old) (K.held sink.new)
+            (round_output (options_at self.old) file.now.order (map packet_of read.round.packets)) read.end result }
+        ensures gives { is_worked read.end ≡ false → (end : MergeEnd) × (result ≡ Step.Ends end)
+            × GivesUp (K.held sink.old) (K.held sink.new) number read.end end }
+        ensures flushed { IfEnds result (λ end. flushes (ending_of end) ≡ true
+            → SaysFlushed (K.held sink.new) (K.is_flushed sink.new) true) }
+        ensures brings { Brings read.round.blocks self.old self.new home.old home.new }
+        ensures later { K.faults sink.old ≤ K.faults sink.new }
+        ensures rose { IfEnds result (λ end. end ≡ MergeEnd.WriteFault → Rose (K.faults sink.old) (K.faults sink.new)) }
+    {
+        let RoundRead { round, end } = read;
+        if !is_worked(end) {
+            return Step::Ends(self.give_up(round, end, sink, number, home));
+        }
+        let worked = self.work_round(works, round, home);
+        self.put_round(worked, end, file, sink, home)
+    }
+}
+
+impl Rounds {
+    /// Works and writes a round that was read, behind `number` others, and brings it home. One that exceeds the blocks
+    /// or that there was no memory for is given up: nothing is written of it.
+    pub fn put_read<W: Works, K: Sink>(
+        &mut self,
+        works: &mut W,
+        read: RoundRead,
+        file: &FileHead,
+        sink: &mut K,
+        number: u64,
     ) -> Step
         requires out { self.old.home + read.round.blocks ≤ self.old.blocks }
         ensures puts { is_worked read.end ≡ true → Puts (K.held sink.old) (K.held sink.new)
@@ -170,12 +207,9 @@ impl Rounds {
         ensures later { K.faults sink.old ≤ K.faults sink.new }
         ensures rose { IfEnds result (λ end. end ≡ MergeEnd.WriteFault → Rose (K.faults sink.old) (K.faults sink.new)) }
     {
-        let RoundRead { round, end } = read;
-        if !is_worked(end) {
-            return Step::Ends(self.give_up(round, end, sink, number));
-        }
-        let worked = self.work_round(works, round);
-        self.put_round(worked, end, file, sink)
+        let intake = &mut self.intake;
+        let bench = &mut self.bench;
+        bench.put_read(works, read, file, sink, number, &mut intake.pool)
     }
 
     /// Reads the next round, behind `number` others, works it and puts it. Of a round that exceeds the blocks nothing

@@ -1,5 +1,5 @@
 //! The records of a round, and what they come to.
-ghost use Rattle.std.specs.Prelude.{◌≡◌};
+ghost use Rattle.std.specs.Prelude.{◌≡◌, []};
 ghost use Rattle.rounds.specs.Merging.{is_worked as is_worked_end};
 ghost use Rattle.rounds.specs.Reading.{IsEndOf};
 
@@ -7,6 +7,7 @@ use crate::record::Stop;
 use gro::Packet;
 use pcap_io::CapFault;
 use round_work::Lanes;
+use std::alloc::Global;
 use std::collections::VecDeque;
 use std::marker::Model;
 use taps::TapClone;
@@ -82,6 +83,32 @@ impl Model for Worked {
         × IsSmallWork w.lanes };
 }
 
+/// What is left of a round, at whichever point it ends: packets that are in no lane, what the lanes hold, and clones
+/// that were kept. It must be spent: brought home.
+pub(crate) struct Rest {
+    pub(crate) packets: VecDeque<Packet>,
+    pub(crate) lanes: Lanes,
+    pub(crate) kept: Vec<TapClone>,
+    pub(crate) blocks: u32,
+}
+
+impl Model for Rest {
+    ghost use Rattle.std.specs.Prelude.{ℕ, ◌+◌, ◌≤◌};
+    ghost use Rattle.frags.specs.Account.{both};
+    ghost use Rattle.gro.specs.Held.{of_packets, counts_of};
+    ghost use Rattle.rounds.specs.Lanes.{of_work, count_of_work, AreSpent};
+    ghost use Rattle.rounds.specs.Marks.{IsRound};
+
+    // How many blocks are out with it.
+    ghost Value = { ℕ };
+
+    ghost view = { λ r. r.blocks };
+
+    ghost invariant = { λ r. IsRound r.blocks (both (of_packets r.packets.items) (of_work r.lanes r.kept.items))
+        × (counts_of r.packets.items + count_of_work r.lanes r.kept.items ≤ r.blocks + r.blocks)
+        × AreSpent r.lanes.taps.items };
+}
+
 /// Why a round has no more records.
 #[derive(Clone, Copy, Debug, PartialEq, Eq)]
 pub enum RoundEnd {
@@ -117,6 +144,20 @@ pub(crate) fn is_worked(end: RoundEnd) -> bool
     match end {
         RoundEnd::PoolEmpty { need: _ } | RoundEnd::NoMemory => false,
         _ => true,
+    }
+}
+
+/// A round of no records, for want of memory.
+pub(crate) fn no_round(alloc: Global) -> RoundRead
+    ensures none { (result.round.packets ≡ []) × (result.round.blocks ≡ 0) }
+    ensures end { result.end ≡ RoundEnd.NoMemory }
+{
+    RoundRead {
+        round: Round {
+            packets: VecDeque::new(alloc),
+            blocks: 0,
+        },
+        end: RoundEnd::NoMemory,
     }
 }
 

@@ -1,8 +1,8 @@
 //! Rounds of records, over one pool of blocks.
-ghost use Rattle.std.specs.Prelude.{◌≡◌, ◌≢◌, ◌+◌, ◌-◌, ◌<◌, ◌≤◌, ◌^◌, [], length, map, min, IfOk, OnOk, OnErr};
+ghost use Rattle.std.specs.Prelude.{◌≡◌, ◌≢◌, ◌+◌, ◌-◌, ◌<◌, ◌≤◌, ◌^◌, true, None, length, map, min, All, IfOk, OnOk};
+ghost use Rattle.std.specs.Prelude.{ℕ, OnErr};
 ghost use Rattle.std.specs.List.{AllByRecursion};
 ghost use Rattle.std.specs.Io.KnownBytes.{Appends};
-ghost use Rattle.block_pool.specs.PoolState.{home};
 ghost use Rattle.off_io.specs.Content.{AppendsFront};
 ghost use Rattle.off_io.specs.Faults.{HasCause, Rose};
 ghost use Rattle.off_io.specs.Told.{Told};
@@ -11,103 +11,53 @@ ghost use Rattle.pcap_io.specs.Places.{IsReady};
 ghost use Rattle.pcap_io.specs.Readers.{place_of, source_of, SameLoan};
 ghost use Rattle.offload_model.specs.Need.{round_need};
 ghost use Rattle.offload_model.specs.Captured.{IsCaptured};
-ghost use Rattle.frags.specs.Account.{both};
-ghost use Rattle.gro.specs.Held.{packet_of, of_packets, counts_of};
-ghost use Rattle.taps.specs.Clones.{blocks_of, of_clones};
-ghost use Rattle.round_work.specs.Lanes.{of_lanes, counts_of_queues, AreIdle};
+ghost use Rattle.offload_model.specs.Written.{round_records};
+ghost use Rattle.gro.specs.Held.{packet_of};
+ghost use Rattle.gro.specs.Table.{AreReady};
 ghost use Rattle.round_work.specs.Work.{IsPlan};
+ghost use Rattle.rounds.specs.Benches.{IsRead};
 ghost use Rattle.rounds.specs.Fresh.{NumberedFrom};
-ghost use Rattle.rounds.specs.Lanes.{worked_bytes, AreSpent};
-ghost use Rattle.rounds.specs.Marks.{IsRound};
+ghost use Rattle.rounds.specs.Lanes.{worked_bytes, worked_records, IsKeptWorkOf};
 ghost use Rattle.rounds.specs.Merging.{options_of};
 ghost use Rattle.rounds.specs.Reading.{GivesRound, PassesRound};
-ghost use Rattle.rounds.specs.RoundsState.{RoundsState};
 
-use crate::home::bring_round;
+use crate::bench::Bench;
+use crate::handler::RoundHandler;
 use crate::homecoming::AllHome;
-use crate::memory::{RECORD_BLOCKS, close_places, open_places};
-use crate::reading::read_records;
+use crate::intake::Intake;
 use crate::round::{Round, RoundEnd, RoundRead, Worked};
-use crate::table::Place;
-use crate::writing::write_lanes;
-use block_pool::Pool;
-use core::mem::replace;
-use frags::Outcomes;
-use gro::Packet;
 use off_io::{Sink, Source, WriteFault};
 use pcap_io::{CaptureReader, FileHead};
-use raw_block::Sole;
-use round_work::{Lanes, Plan};
+use round_work::{Plan, Works};
 use std::alloc::{AllocError, Global};
-use std::collections::VecDeque;
 use std::marker::Model;
-use taps::TapClone;
 
-/// A pool of blocks, and memory that each round uses again. Dropping it frees the blocks that are home.
+/// The side of rounds that reads and the one that works, which may be lent side by side: in turn blocks come home to
+/// the intake. Dropping it frees the blocks that are home.
+#[derive(Drop)]
 pub struct Rounds {
-    pub(crate) alloc: Global,
-    pub(crate) pool: Pool,
-    // The blocks of the record that is being read.
-    pub(crate) hold: VecDeque<Sole>,
-    // What came back, and where: used as a round ends. There is room for all blocks and for a clone's part of each.
-    pub(crate) places: Vec<Place>,
-    pub(crate) out: Outcomes,
-    // Memory alone.
-    pub(crate) packets: VecDeque<Packet>,
-    // Idle between rounds. Those of a round that was worked are away until it ends.
-    pub(crate) lanes: Lanes,
-    pub(crate) budget: u32,
-    pub(crate) plan: Plan,
-    // Whether a clone of each packet is kept beside the work of a round.
-    pub(crate) keep: bool,
+    /// Reads rounds: it has the blocks, and alone takes any.
+    pub intake: Intake,
+    /// Works and writes them.
+    pub bench: Bench,
 }
 
 impl Model for Rounds {
-    ghost use Rattle.std.specs.Prelude.{◌≡◌, ◌+◌, ◌≤◌, [], length};
-    ghost use Rattle.std.specs.VecDeque.{deque_capacity};
-    ghost use Rattle.block_pool.specs.PoolState.{home as home_of};
-    ghost use Rattle.round_work.specs.Lanes.{AreIdle};
-    ghost use Rattle.round_work.specs.Work.{IsPlan};
+    ghost use Rattle.rounds.specs.Benches.{AreOne};
     ghost use Rattle.rounds.specs.RoundsState.{RoundsState};
-    ghost use Rattle.frags.specs.OutcomesState.{IsBare};
-    ghost use Rattle.rounds.specs.Table.{AllOpen};
 
     ghost Value = { RoundsState };
 
     ghost view = { λ r. record {
-      home = home_of r.pool;
-      blocks = r.pool.made;
-      taken = r.pool.taken;
-      budget = r.budget;
-      plan = r.plan;
-      keep = r.keep;
+      home = r.intake.home;
+      blocks = r.intake.blocks;
+      taken = r.intake.taken;
+      budget = r.bench.budget;
+      plan = r.bench.plan;
+      keep = r.bench.keep;
     } };
 
-    ghost invariant = { λ r. (r.pool.made ≤ 65536) × (r.hold.items ≡ []) × (131 ≤ deque_capacity r.hold)
-        × AllOpen r.places.items × (length r.places.items ≡ r.pool.made) × IsBare r.out
-        × (r.pool.made + r.pool.made ≤ r.out.spare + (home_of r.pool + home_of r.pool)) × (r.packets.items ≡ [])
-        × AreIdle r.lanes × (1 ≤ r.budget) × (r.budget ≤ 4096) × IsPlan r.plan };
-}
-
-impl Drop for Rounds {
-    fn drop(self) {
-        let Rounds {
-            alloc: _,
-            pool: _pool,
-            hold: _hold,
-            places,
-            out,
-            packets,
-            lanes,
-            budget: _,
-            plan: _plan,
-            keep: _,
-        } = self;
-        close_places(places);
-        out.settle();
-        packets.destroy_empty();
-        lanes.free();
-    }
+    ghost invariant = { λ r. AreOne r.intake r.bench };
 }
 
 impl Rounds {
@@ -134,36 +84,9 @@ impl Rounds {
           keep = keep;
         }) }
     {
-        let hold = VecDeque::with_capacity(alloc, RECORD_BLOCKS)?;
-        let pool = Pool::make(alloc, blocks)?;
-        let places = open_places(alloc, blocks)?;
-        let out = match Outcomes::with_room(alloc, 2 * blocks as usize) {
-            Ok(out) => out,
-            Err(error) => {
-                close_places(places);
-                return Err(error);
-            }
-        };
-        let packets = match VecDeque::with_capacity(alloc, budget as usize) {
-            Ok(packets) => packets,
-            Err(error) => {
-                close_places(places);
-                out.settle();
-                return Err(error);
-            }
-        };
-        Ok(Rounds {
-            alloc,
-            pool,
-            hold,
-            places,
-            out,
-            packets,
-            lanes: Lanes::new(alloc),
-            budget,
-            plan,
-            keep,
-        })
+        let intake = Intake::make(alloc, blocks, budget)?;
+        let bench = Bench::make(alloc, blocks, budget, plan, keep)?;
+        Ok(Rounds { intake, bench })
     }
 
     /// The blocks that are home.
@@ -171,14 +94,22 @@ impl Rounds {
         ensures home { result ≡ self.now.home }
         ensures within { result ≤ self.now.blocks }
     {
-        self.pool.home()
+        self.intake.home()
     }
 
     /// The blocks that were taken, from the first round on. It stays at `2^64 - 1`.
     pub fn taken(&self) -> u64
         ensures value { result ≡ self.now.taken }
     {
-        self.pool.taken()
+        self.intake.taken()
+    }
+
+    /// The blocks that were made.
+    pub fn blocks(&self) -> u32
+        ensures blocks { result ≡ self.now.blocks }
+        ensures few { result ≤ 65536 }
+    {
+        self.intake.blocks()
     }
 
     /// The queues and taps that a round's work is divided by.
@@ -186,7 +117,7 @@ impl Rounds {
         ensures count { result ≡ self.now.plan.queues + self.now.plan.taps }
         ensures few { result ≤ 72 }
     {
-        self.plan.queues + self.plan.taps
+        self.bench.lanes()
     }
 
     /// Reads the next `budget` records, or fewer where the capture ends, is refused or its source fails, where the
@@ -218,29 +149,32 @@ impl Rounds {
         ensures failed { result.end ≡ RoundEnd.ReadFault
             → Rose (S.faults (source_of reader.old)) (S.faults (source_of reader.new)) }
     {
-        let _ = self.pool.taken();
-        let most = 2 * self.pool.made() as usize;
-        let budget = self.budget as usize;
-        if self.out.reserve(most).is_err() {
-            return no_round(self.alloc);
-        }
-        if self.packets.reserve(budget).is_err() {
-            return no_round(self.alloc);
-        }
-        let mut packets = replace(&mut self.packets, VecDeque::new(self.alloc));
-        let (blocks, end) = read_records(
-            self.alloc,
-            &mut self.pool,
-            &mut self.hold,
-            reader,
-            &mut AllHome,
-            budget,
-            &mut packets,
-        );
-        RoundRead {
-            round: Round { packets, blocks },
-            end,
-        }
+        let packets = self.bench.take_list();
+        self.intake.read_into(reader, &mut AllHome, packets)
+    }
+
+    /// Works a round: queue by queue what the runs of its flows come to, in the order of their first packets, and tap
+    /// by tap the windows of what is shown of the packets as they were read. Whoever works runs the lanes, and each
+    /// lane passes its gate at point 0 before its work and at point 1 after it; one lane alone is worked here. For want
+    /// of memory all blocks of the round are home.
+    pub fn work_round<W: Works>(
+        &mut self,
+        works: &mut W,
+        round: Round,
+    ) -> Result<Worked, AllocError>
+        requires out { self.old.home + round.blocks ≤ self.old.blocks }
+        ensures records { IfOk result (λ worked. worked_records worked
+            ≡ round_records (options_of self.old) (map packet_of round.packets)) }
+        ensures checked { self.old.keep ≡ true → IfOk result
+            (λ worked. IsKeptWorkOf (options_of self.old) (map packet_of round.packets) worked) }
+        ensures ready { IfOk result (λ worked. All (λ lane. AreReady lane.items.items) worked.lanes.queues.items) }
+        ensures worked { IfOk result (λ worked. worked.blocks ≡ round.blocks) }
+        ensures same { OnOk result (self.new ≡ self.old) }
+        ensures home { OnErr result (self.new ≡ record self.old { home = self.old.home + round.blocks }) }
+    {
+        let intake = &mut self.intake;
+        let bench = &mut self.bench;
+        bench.work_round(works, round, &mut intake.pool)
     }
 
     /// Writes what a round came to: queue by queue each item as a record, and then tap by tap its windows. The sink
@@ -259,7 +193,7 @@ impl Rounds {
             (worked_bytes file.now.order worked.now)) }
         ensures cause { HasCause (K.faults sink.old) (K.faults sink.new) result }
     {
-        write_lanes(sink, file, &worked.lanes)
+        self.bench.write_round(worked, file, sink)
     }
 
     /// Gives a round up. Its blocks go home, all of them.
@@ -267,48 +201,9 @@ impl Rounds {
         requires out { self.old.home + round.blocks ≤ self.old.blocks }
         ensures home { self.new ≡ record self.old { home = self.old.home + round.blocks } }
     {
-        let Round { packets, blocks } = round;
-        let lanes = self.take_lanes();
-        self.bring_back(packets, lanes, Vec::new(self.alloc), blocks);
-    }
-
-    // The lanes, for a round: those that are kept, or none yet.
-    pub(crate) fn take_lanes(&mut self) -> Lanes
-        ensures idle { AreIdle result }
-        ensures same { self.new ≡ self.old }
-    {
-        replace(&mut self.lanes, Lanes::new(self.alloc))
-    }
-
-    /// What is left of a round goes home. Its lanes and its list of packets stay as memory.
-    pub(crate) fn bring_back(
-        &mut self,
-        packets: VecDeque<Packet>,
-        lanes: Lanes,
-        kept: Vec<TapClone>,
-        blocks: u32,
-    )
-        requires out { self.old.home + blocks ≤ self.old.blocks }
-        requires round { IsRound blocks (both (of_packets packets.items)
-            (both (of_lanes lanes) (of_clones kept.items))) }
-        requires counts { counts_of packets.items + (counts_of_queues lanes.queues.items + blocks_of kept.items)
-            ≤ blocks + blocks }
-        requires spent { AreSpent lanes.taps.items }
-        ensures home { self.new ≡ record self.old { home = self.old.home + blocks } }
-    {
-        let mut packets = packets;
-        let mut lanes = lanes;
-        bring_round(
-            &mut self.pool,
-            &mut self.places,
-            blocks,
-            &mut self.out,
-            &mut packets,
-            &mut lanes,
-            kept,
-        );
-        replace(&mut self.packets, packets).destroy_empty();
-        replace(&mut self.lanes, lanes).free();
+        let intake = &mut self.intake;
+        let bench = &mut self.bench;
+        bench.drop_round(round, &mut intake.pool);
     }
 
     /// Ends a round that was worked. Its blocks go home, all of them.
@@ -316,34 +211,31 @@ impl Rounds {
         requires out { self.old.home + worked.blocks ≤ self.old.blocks }
         ensures home { self.new ≡ record self.old { home = self.old.home + worked.blocks } }
     {
-        let Worked {
-            mut lanes,
-            kept,
-            blocks,
-        } = worked;
-        bring_round(
-            &mut self.pool,
-            &mut self.places,
-            blocks,
-            &mut self.out,
-            &mut self.packets,
-            &mut lanes,
-            kept,
-        );
-        replace(&mut self.lanes, lanes).free();
+        let intake = &mut self.intake;
+        let bench = &mut self.bench;
+        bench.end_round(worked, &mut intake.pool);
     }
-}
 
-/// A round of no records, for want of memory.
-pub(crate) fn no_round(alloc: Global) -> RoundRead
-    ensures none { (result.round.packets ≡ []) × (result.round.blocks ≡ 0) }
-    ensures end { result.end ≡ RoundEnd.NoMemory }
-{
-    RoundRead {
-        round: Round {
-            packets: VecDeque::new(alloc),
-            blocks: 0,
-        },
-        end: RoundEnd::NoMemory,
+    /// Handles a round that was read, behind `number` others: its blocks come home here.
+    pub fn handle<W: Works, T, E, H: RoundHandler<T, E>>(
+        &mut self,
+        works: &mut W,
+        handler: &H,
+        read: RoundRead,
+        number: u64,
+        into: &mut T,
+    ) -> Option<E>
+        requires out { self.old.home + read.round.blocks ≤ self.old.blocks }
+        requires read { IsRead read.round }
+        requires ready { (n : ℕ) × (n ≤ 2 ^ 32) × H.ready (options_of self.old) self.old.keep n into.old }
+        ensures did { H.did handler.now (options_of self.old) into.old into.new read number result }
+        ensures full { result ≡ None → read.end ≡ RoundEnd.Full }
+        ensures ready { (n : ℕ) → H.ready (options_of self.old) self.old.keep n into.old
+            → H.ready (options_of self.old) self.old.keep (n + length read.round.packets) into.new }
+        ensures home { self.new ≡ record self.old { home = self.old.home + read.round.blocks } }
+    {
+        let intake = &mut self.intake;
+        let bench = &mut self.bench;
+        handler.handle(works, bench, &mut intake.pool, read, number, into)
     }
 }

@@ -5,7 +5,7 @@ use Rattle.round_pipeline.proofs.gather.bring_tokens.Given as goal
 
 abbrev pub invariant-loop-tokens : goal.invariant-loop-tokens
 invariant-loop-tokens l =
-    (l.rounds ≡ record l.initial.rounds { home = l.rounds.home }) × (l.rounds.home + homes_of (known_items l.tokens) ≡ l.initial.rounds.home + homes_of (known_items l.initial.tokens))
+    (l.intake ≡ record l.initial.intake { home = l.intake.home }) × (l.intake.home + homes_of (known_items l.tokens) ≡ l.initial.intake.home + homes_of (known_items l.initial.tokens))
 
 abbrev pub decreases-loop-tokens : goal.decreases-loop-tokens
 decreases-loop-tokens l = length (known_items l.tokens)

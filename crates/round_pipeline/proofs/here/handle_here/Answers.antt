@@ -8,7 +8,7 @@ use Rattle.round_pipeline.proofs.here.handle_here.Goals as goal
 pub returns-in-Some-clause-handled : goal.returns-in-Some-clause-handled
 returns-in-Some-clause-handled g c =
     let h = c.in-Some.ensures in
-    put_ends (g.H.RoundHandler.did c.args.handler.now) g.H.RoundHandler.stopped g.H.RoundHandler.ready c.args.rounds.now c.handle.new.rounds c.args.read
+    put_ends (g.H.RoundHandler.did c.args.handler.now) g.H.RoundHandler.stopped g.H.RoundHandler.ready c.args.rounds.now c.handle.new.self c.args.read
     (reader_at g.S.Source.left g.S.Source.faults c.args.reader.now c.args.rounds.now.taken) c.args.into.now c.handle.new.into c.requires.out.out c.requires.out.is.few h.home
     (h.ready 0 c.requires.start) c.in-Some.end h.did
 
@@ -16,7 +16,7 @@ pub handle_from-requires-clause-start : goal.handle_from-requires-clause-start
 handle_from-requires-clause-start g c =
     let h = c.in-None.ensures in
     let first = c.args.rounds.now in
-    let mid = c.handle.new.rounds in
+    let mid = c.handle.new.self in
     let goes = c.requires.out.goes (h.full refl) in (
       0 + length c.args.read.round.packets,
       omega (arith, goes.packets),
@@ -27,7 +27,7 @@ handle_from-requires-clause-start g c =
 pub returns-in-None-clause-handled : goal.returns-in-None-clause-handled
 returns-in-None-clause-handled g c =
     let h = c.in-None.ensures in
-    put_goes (g.H.RoundHandler.did c.args.handler.now) g.H.RoundHandler.stopped g.H.RoundHandler.ready c.args.rounds.now c.handle.new.rounds c.args.read
+    put_goes (g.H.RoundHandler.did c.args.handler.now) g.H.RoundHandler.stopped g.H.RoundHandler.ready c.args.rounds.now c.handle.new.self c.args.read
     (reader_at g.S.Source.left g.S.Source.faults c.args.reader.now c.args.rounds.now.taken) c.args.into.now c.handle.new.into c.requires.out.out c.requires.out.is.few h.home
     (h.ready 0 c.requires.start) c.handle_from.new.rounds (reader_at g.S.Source.left g.S.Source.faults c.handle_from.new.reader c.handle_from.new.rounds.taken)
     c.handle_from.new.into c.handle_from.result h.did (h.full refl) c.handle_from.ensures.handled

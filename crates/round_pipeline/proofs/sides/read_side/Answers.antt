@@ -13,9 +13,9 @@ returns-in_default-clause-read g c =
     record {
       more = i.more;
       sent = sent_none (sent c.args.supply.now.out) (sent l.supply.out) _ i.more i.is c.send.ensures.sent;
-      reads = subst (λ (t : ℕ). Reads c.args.supply.now.intake.blocks c.args.supply.now.intake.budget
-          (spot c.args.reader.now.place (g.S.Source.left c.args.reader.now.source.now) (g.S.Source.faults c.args.reader.now.source.now) c.args.supply.now.intake.taken) i.more
-          (spot l.reader.place (g.S.Source.left l.reader.source.now) (g.S.Source.faults l.reader.source.now) t)) (sym c.bring_in.ensures.same.1) i.reads;
+      reads = subst (λ (t : ℕ). Reads c.args.intake.now.blocks c.args.intake.now.budget
+          (spot c.args.reader.now.place (g.S.Source.left c.args.reader.now.source.now) (g.S.Source.faults c.args.reader.now.source.now) c.args.intake.now.taken) i.more
+          (spot l.reader.place (g.S.Source.left l.reader.source.now) (g.S.Source.faults l.reader.source.now) t)) (sym c.bring_more.ensures.same.1) i.reads;
     }
 
 pub returns-in_default-clause-sum : goal.returns-in_default-clause-sum
@@ -24,7 +24,7 @@ returns-in_default-clause-sum g c =
     omega (
       arith,
       l.invariant.sum,
-      c.bring_in.ensures.sum,
+      c.bring_more.ensures.sum,
       ap blocks_of c.send.ensures.sent,
       blocks_last (sent l.supply.out) None,
       c.pick.ensures.same.0,
@@ -41,10 +41,10 @@ returns-then-not-is_full-clause-read g c =
     record {
       more = i.more ++ p.read ∷ [];
       sent = sent_more (sent c.args.supply.now.out) (sent l.supply.out) _ i.more p i.is c.send-in-loop.ensures.sent;
-      reads = reads_last c.args.supply.now.intake.blocks c.args.supply.now.intake.budget _ _ _ i.more p.read i.reads i.go
-          (read_as c.args.supply.now.intake.blocks c.bring_in.new.self.blocks c.args.supply.now.intake.budget c.bring_in.new.self.budget l.supply.intake.taken c.bring_in.new.self.taken
+      reads = reads_last c.args.intake.now.blocks c.args.intake.now.budget _ _ _ i.more p.read i.reads i.go
+          (read_as c.args.intake.now.blocks c.bring_more.new.self.blocks c.args.intake.now.budget c.bring_more.new.self.budget l.intake.taken c.bring_more.new.self.taken
           l.reader.place (g.S.Source.left l.reader.source.now) (g.S.Source.faults l.reader.source.now) _ p.read
-          (c.bring_in.ensures.same.0 ∙ i.blocks) (c.bring_in.ensures.same.2 ∙ i.budget) c.bring_in.ensures.same.1
+          (c.bring_more.ensures.same.0 ∙ i.blocks) (c.bring_more.ensures.same.2 ∙ i.budget) c.bring_more.ensures.same.1
           (record {
             given = r.given;
             fewer = r.fewer;
@@ -66,7 +66,7 @@ returns-then-not-is_full-clause-sum g c =
     omega (
       arith,
       l.invariant.sum,
-      c.bring_in.ensures.sum,
+      c.bring_more.ensures.sum,
       c.read_round-read.ensures.sum,
       ap blocks_of c.send-in-loop.ensures.sent,
       blocks_last (sent l.supply.out) (Some p),
@@ -85,7 +85,7 @@ send-requires-in-loop g c =
         number = i.number;
         packets = omega (arith, i.packets, i.ready.counted.few);
         is = record { few = omega (arith, r.size, r.budget.1); captured = r.captured; numbers = (l.reader.place.number, r.numbers) };
-        blocks = omega (arith, r.within, c.bring_in.ensures.same.0, i.blocks, c.requires.named.0);
+        blocks = omega (arith, r.within, c.bring_more.ensures.same.0, i.blocks, c.requires.named.0);
         empty = c.in-Some-pick.ensures.ready.0;
         made = c.in-Some-pick.ensures.ready.1 ∙ c.requires.named.1;
       };
@@ -127,10 +127,10 @@ loop-preserved g c =
       link = passes.link ∙ i.link;
       more = i.more ++ p.read ∷ [];
       is = sent_more (sent c.args.supply.now.out) (sent l.supply.out) _ i.more p i.is c.send-in-loop.ensures.sent;
-      reads = reads_last c.args.supply.now.intake.blocks c.args.supply.now.intake.budget _ _ _ i.more p.read i.reads i.go
-          (read_as c.args.supply.now.intake.blocks c.bring_in.new.self.blocks c.args.supply.now.intake.budget c.bring_in.new.self.budget l.supply.intake.taken c.bring_in.new.self.taken
+      reads = reads_last c.args.intake.now.blocks c.args.intake.now.budget _ _ _ i.more p.read i.reads i.go
+          (read_as c.args.intake.now.blocks c.bring_more.new.self.blocks c.args.intake.now.budget c.bring_more.new.self.budget l.intake.taken c.bring_more.new.self.taken
           l.reader.place (g.S.Source.left l.reader.source.now) (g.S.Source.faults l.reader.source.now) _ p.read
-          (c.bring_in.ensures.same.0 ∙ i.blocks) (c.bring_in.ensures.same.2 ∙ i.budget) c.bring_in.ensures.same.1
+          (c.bring_more.ensures.same.0 ∙ i.blocks) (c.bring_more.ensures.same.2 ∙ i.budget) c.bring_more.ensures.same.1
           (record {
             given = r.given;
             fewer = r.fewer;
@@ -147,15 +147,15 @@ loop-preserved g c =
       sum = omega (
         arith,
         i.sum,
-        c.bring_in.ensures.sum,
+        c.bring_more.ensures.sum,
         r.sum,
         ap blocks_of c.send-in-loop.ensures.sent,
         blocks_last (sent l.supply.out) (Some p),
         c.pick.ensures.same.0,
         ap (λ t. homes_of (received t)) c.pick.ensures.same.1,
       );
-      blocks = r.same.0 ∙ c.bring_in.ensures.same.0 ∙ i.blocks;
-      budget = r.same.1 ∙ c.bring_in.ensures.same.2 ∙ i.budget;
+      blocks = r.same.0 ∙ c.bring_more.ensures.same.0 ∙ i.blocks;
+      budget = r.same.1 ∙ c.bring_more.ensures.same.2 ∙ i.budget;
       number = omega (arith, i.number, ap length now, length-append (rounds_of (sent l.supply.out)) (p.read ∷ []));
       packets = omega (arith, i.packets, ap packets_of now, packets_append (rounds_of (sent l.supply.out)) (p.read ∷ []), passes.number, passes.full);
       counted = omega (arith, i.counted, passes.number, r.budget.0);

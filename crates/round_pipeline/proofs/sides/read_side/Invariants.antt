@@ -16,14 +16,14 @@ invariant-loop g l = record {
   link : l.reader.place.link ≡ Ethernet;
   more : List RoundRead;
   is : rounds_of (sent l.supply.out) ≡ rounds_of (sent l.initial.supply.out) ++ more;
-  reads : Reads l.initial.supply.intake.blocks l.initial.supply.intake.budget
-      (spot l.initial.reader.place (g.S.Source.left l.initial.reader.source.now) (g.S.Source.faults l.initial.reader.source.now) l.initial.supply.intake.taken) more
-      (spot l.reader.place (g.S.Source.left l.reader.source.now) (g.S.Source.faults l.reader.source.now) l.supply.intake.taken);
+  reads : Reads l.initial.intake.blocks l.initial.intake.budget
+      (spot l.initial.reader.place (g.S.Source.left l.initial.reader.source.now) (g.S.Source.faults l.initial.reader.source.now) l.initial.intake.taken) more
+      (spot l.reader.place (g.S.Source.left l.reader.source.now) (g.S.Source.faults l.reader.source.now) l.intake.taken);
   go : AllGo more;
-  sum : l.supply.intake.home + blocks_of (sent l.supply.out) + (homes_of (received l.initial.supply.desk.tokens) - shelved l.initial.supply.desk.shelves.items)
-      ≡ l.initial.supply.intake.home + blocks_of (sent l.initial.supply.out) + (homes_of (received l.supply.desk.tokens) - shelved l.supply.desk.shelves.items);
-  blocks : l.supply.intake.blocks ≡ l.initial.supply.intake.blocks;
-  budget : l.supply.intake.budget ≡ l.initial.supply.intake.budget;
+  sum : l.intake.home + blocks_of (sent l.supply.out) + (homes_of (received l.initial.supply.desk.tokens) - shelved l.initial.supply.desk.shelves.items)
+      ≡ l.initial.intake.home + blocks_of (sent l.initial.supply.out) + (homes_of (received l.supply.desk.tokens) - shelved l.supply.desk.shelves.items);
+  blocks : l.intake.blocks ≡ l.initial.intake.blocks;
+  budget : l.intake.budget ≡ l.initial.intake.budget;
   number : l.number ≡ length (rounds_of (sent l.supply.out));
   packets : packets_of (rounds_of (sent l.supply.out)) ≤ l.reader.place.number;
   counted : l.number ≤ l.reader.place.number + 1;

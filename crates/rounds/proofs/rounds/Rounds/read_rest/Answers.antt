@@ -1,27 +1,10 @@
-use Rattle.std.proofs.Common.{ℕ, ◌≡◌, List, rules, ap, sym, ◌∙◌, subst}
-use Rattle.rounds.specs.declared.reading.Halt.TheVariants.{Ended}
-use Rattle.gro.specs.declared.packet.Packet.{Packet}
-use Rattle.rounds.specs.declared.round.RoundEnd.TheVariants.{Full}
-use Rattle.rounds.specs.declared.round.RoundRead.{RoundRead}
-use Rattle.rounds.specs.Reading.{FillsRound}
+use Rattle.std.proofs.Common.{ℕ, ap, subst, sym, ◌∙◌}
+use Rattle.pcap_io.specs.Readers.{place_of}
+use Rattle.rounds.specs.Reading.{PassesRound}
 use Rattle.rounds.specs.RoundsState.{RoundsState}
-use Rattle.rounds.proofs.Pausing.{no_memory_full}
-use Rattle.rounds.proofs.rounds.Rounds.read_rest.Goals.{in-Ended, in-Lacking}
 use Rattle.rounds.proofs.rounds.Rounds.read_rest.Goals as goal
 
 pub returns-clause-full : goal.returns-clause-full
-returns-clause-full g c =
-    let r = c.read_more-blocks in
-    let old = c.args.reader.now.place in
-    let new = r.new.reader.place in
-    let first = c.reserve-2.new.self.items in
-    let budget = c.self.inside.budget in
-    let budgets = ap (λ (i : RoundsState). i.budget) c.self.view_is in
-    let firsts : first ≡ c.args.round.packets = search rules in
-    let z = c.match-halt.result in
-    let is : z.end ≡ Full → FillsRound old new first z.round.packets budget = elim c.match-halt.branch [
-      | in-Ended b ↦ subst (λ (y : RoundRead). y.end ≡ Full → FillsRound old new first y.round.packets budget) (sym b.result-is) (λ full. r.ensures.full (b.in-Ended.is ∙ ap Ended full))
-      | in-Lacking b ↦ subst (λ (y : RoundRead). y.end ≡ Full → FillsRound old new first y.round.packets budget) (sym b.result-is) (λ full. absurd (no_memory_full full))
-    ] in
-    subst (λ (xs : List Packet). z.end ≡ Full → FillsRound old new xs z.round.packets c.args.self.now.budget) firsts
-    (subst (λ (k : ℕ). z.end ≡ Full → FillsRound old new first z.round.packets k) budgets is)
+returns-clause-full g c = λ full from passes.
+    subst (λ (n : ℕ). PassesRound from (place_of c.read_on.new.reader) c.read_on.result.round.packets n) (sym c.self.invariant.budget ∙ ap (λ (s : RoundsState). s.budget) c.self.view_is)
+    (c.read_on.ensures.full full from passes)

@@ -1,0 +1,48 @@
+-- The side of rounds that works: what it needs so that blocks may come home, and what is so once they have.
+use Rattle.std.specs.Prelude.{ℕ, ◌≡◌, ◌+◌, ◌≤◌, length, map}
+use Rattle.std.specs.List.{AllByRecursion}
+use Rattle.block_pool.specs.PoolState.{PoolState, home}
+use Rattle.offload_model.specs.Captured.{IsCaptured}
+use Rattle.offload_model.specs.Written.{Options}
+use Rattle.gro.specs.Held.{packet_of}
+use Rattle.round_work.specs.Work.{options_by}
+use Rattle.rounds.specs.Fresh.{NumberedFrom}
+use Rattle.rounds.specs.RoundsState.{BenchState, IntakeState, RoundState}
+
+abbrev pub options_at : BenchState → Options
+options_at bench = options_by bench.plan bench.budget
+
+-- nothing differs but the places
+abbrev pub IsSameBench : BenchState → BenchState → Type 0
+IsSameBench old new = new ≡ record old { room = new.room }
+
+-- Both sides are of the same rounds. What is out may come home: as a packet, and as a clone that is kept of it.
+pub record AreOne (intake : IntakeState) (bench : BenchState) : Type 0 where
+  pub blocks : bench.blocks ≡ intake.blocks
+  pub budget : bench.budget ≡ intake.budget
+  pub few : (1 ≤ intake.budget) × (intake.budget ≤ 4096)
+  pub room : intake.blocks + intake.blocks ≤ bench.room + (intake.home + intake.home)
+
+-- there are places for what may be given back of all blocks, but n that came home since they were made
+abbrev pub HasRoom : ℕ → BenchState → Type 0
+HasRoom n bench = bench.blocks + bench.blocks ≤ bench.room + (n + n)
+
+-- n blocks of a round may come home to this pool
+pub record MayBring (n : ℕ) (bench : BenchState) (pool : PoolState) : Type 0 where
+  pub out : home pool + n ≤ pool.made
+  pub few : n ≤ bench.blocks
+  pub room : n + n ≤ bench.room
+
+-- they came home, and nothing was taken
+pub record Brings (n : ℕ) (bench bench' : BenchState) (pool pool' : PoolState) : Type 0 where
+  pub count : home pool' ≡ home pool + n
+  pub made : pool'.made ≡ pool.made
+  pub taken : pool'.taken ≡ pool.taken
+  pub room : bench.room ≤ bench'.room + (n + n)
+  pub same : IsSameBench bench bench'
+
+-- a round as it is read
+pub record IsRead (round : RoundState) : Type 0 where
+  pub few : length round.packets ≤ 4096
+  pub captured : AllByRecursion IsCaptured (map packet_of round.packets)
+  pub numbers : (k : ℕ) × NumberedFrom k round.packets

@@ -1,0 +1,322 @@
+//! The side of rounds that works.
+ghost use Rattle.std.specs.Prelude.{◌≡◌, ◌≢◌, ◌+◌, ◌≤◌, true, [], length, map, All, IfOk, IfErr, OnOk, OnErr};
+ghost use Rattle.std.specs.Io.KnownBytes.{Appends};
+ghost use Rattle.std.specs.VecDeque.{deque_capacity};
+ghost use Rattle.off_io.specs.Content.{AppendsFront};
+ghost use Rattle.off_io.specs.Faults.{HasCause};
+ghost use Rattle.offload_model.specs.Written.{round_records};
+ghost use Rattle.gro.specs.Held.{packet_of};
+ghost use Rattle.gro.specs.Table.{AreReady};
+ghost use Rattle.round_work.specs.Lanes.{AreIdle};
+ghost use Rattle.round_work.specs.Work.{IsPlan};
+ghost use Rattle.rounds.specs.Benches.{options_at, Brings, IsSameBench, MayBring};
+ghost use Rattle.rounds.specs.Lanes.{worked_bytes, worked_records, IsKeptWorkOf};
+
+use crate::home::bring_round;
+use crate::memory::{close_places, open_places};
+use crate::round::{Rest, Round, RoundRead, Worked, no_round};
+use crate::table::Place;
+use crate::writing::write_lanes;
+use block_pool::Pool;
+use core::mem::replace;
+use frags::Outcomes;
+use gro::Packet;
+use off_io::{Sink, WriteFault};
+use pcap_io::FileHead;
+use round_work::{Lanes, Plan, Works};
+use std::alloc::{AllocError, Global};
+use std::collections::VecDeque;
+use std::marker::Model;
+
+/// What rounds are worked with: it holds no block between them, and blocks come home to whoever is told. Memory is kept
+/// from round to round.
+pub struct Bench {
+    pub(crate) alloc: Global,
+    // What came back, and where: used as a round ends. There are places for all blocks and for a clone's part of each.
+    places: Vec<Place>,
+    out: Outcomes,
+    // Memory alone.
+    pub(crate) packets: VecDeque<Packet>,
+    // Idle between rounds. Those of a round that was worked are away until it ends.
+    lanes: Lanes,
+    budget: u32,
+    pub(crate) plan: Plan,
+    // Whether a clone of each packet is kept beside the work of a round.
+    pub(crate) keep: bool,
+}
+
+impl Model for Bench {
+    ghost use Rattle.std.specs.Prelude.{◌≡◌, ◌≤◌, [], length};
+    ghost use Rattle.frags.specs.OutcomesState.{IsBare};
+    ghost use Rattle.round_work.specs.Lanes.{AreIdle};
+    ghost use Rattle.round_work.specs.Work.{IsPlan};
+    ghost use Rattle.rounds.specs.RoundsState.{BenchState};
+    ghost use Rattle.rounds.specs.Table.{AllOpen};
+
+    ghost Value = { BenchState };
+
+    ghost view = { λ b. record {
+      room = b.out.spare;
+      blocks = length b.places.items;
+      budget = b.budget;
+      plan = b.plan;
+      keep = b.keep;
+    } };
+
+    ghost invariant = { λ b. (length b.places.items ≤ 65536) × AllOpen b.places.items × IsBare b.out
+        × (b.packets.items ≡ []) × AreIdle b.lanes × IsPlan b.plan };
+}
+
+impl Drop for Bench {
+    fn drop(self) {
+        let Bench {
+            alloc: _,
+            places,
+            out,
+            packets,
+            lanes,
+            budget: _,
+            plan: _plan,
+            keep: _,
+        } = self;
+        close_places(places);
+        out.settle();
+        packets.destroy_empty();
+        lanes.free();
+    }
+}
+
+impl Bench {
+    /// For rounds of up to `budget` records over so many blocks.
+    pub(crate) fn make(
+        alloc: Global,
+        blocks: u32,
+        budget: u32,
+        plan: Plan,
+        keep: bool,
+    ) -> Result<Bench, AllocError>
+        requires blocks { blocks ≤ 65536 }
+        requires plan { IsPlan plan }
+        ensures made { IfOk result (λ bench. (bench ≡ record {
+          room = bench.room;
+          blocks = blocks;
+          budget = budget;
+          plan = plan;
+          keep = keep;
+        }) × (blocks + blocks ≤ bench.room)) }
+    {
+        let places = open_places(alloc, blocks)?;
+        let out = match Outcomes::with_room(alloc, 2 * blocks as usize) {
+            Ok(out) => out,
+            Err(error) => {
+                close_places(places);
+                return Err(error);
+            }
+        };
+        let packets = match VecDeque::with_capacity(alloc, budget as usize) {
+            Ok(packets) => packets,
+            Err(error) => {
+                close_places(places);
+                out.settle();
+                return Err(error);
+            }
+        };
+        Ok(Bench {
+            alloc,
+            places,
+            out,
+            packets,
+            lanes: Lanes::new(alloc),
+            budget,
+            plan,
+            keep,
+        })
+    }
+
+    /// The blocks that may be out.
+    pub fn blocks(&self) -> u32
+        ensures blocks { result ≡ self.now.blocks }
+        ensures few { result ≤ 65536 }
+    {
+        self.places.len() as u32
+    }
+
+    /// The queues and taps that a round's work is divided by.
+    pub fn lanes(&self) -> u32
+        ensures count { result ≡ self.now.plan.queues + self.now.plan.taps }
+        ensures few { result ≤ 72 }
+    {
+        self.plan.queues + self.plan.taps
+    }
+
+    /// Where its memory comes from.
+    pub(crate) fn alloc(&self) -> Global {
+        self.alloc
+    }
+
+    /// Room for what may be given back of all blocks, before others are read. In fact it is there since the bench was
+    /// made; that it stays isn't said of a list that is emptied.
+    pub fn make_room(&mut self) -> Result<(), AllocError>
+        ensures room { OnOk result (self.new.blocks + self.new.blocks ≤ self.new.room) }
+        ensures later { self.old.room ≤ self.new.room }
+        ensures same { IsSameBench self.old self.new }
+    {
+        self.out.reserve(2 * self.places.len())
+    }
+
+    /// The same, and a list for the packets of the next round.
+    pub(crate) fn take_list(&mut self) -> Result<VecDeque<Packet>, AllocError>
+        ensures none { IfOk result (λ ps. ps.items ≡ []) }
+        ensures reserved { IfOk result (λ ps. self.old.budget ≤ deque_capacity ps) }
+        ensures room { OnOk result (self.new.blocks + self.new.blocks ≤ self.new.room) }
+        ensures later { self.old.room ≤ self.new.room }
+        ensures same { IsSameBench self.old self.new }
+    {
+        self.make_room()?;
+        self.packets.reserve(self.budget as usize)?;
+        Ok(replace(&mut self.packets, VecDeque::new(self.alloc)))
+    }
+
+    // The memory of a round's packets.
+    fn take_packets(&mut self) -> VecDeque<Packet>
+        ensures none { result.items ≡ [] }
+        ensures same { self.new ≡ self.old }
+    {
+        replace(&mut self.packets, VecDeque::new(self.alloc))
+    }
+
+    // The lanes, for a round: those that are kept, or none yet.
+    pub(crate) fn take_lanes(&mut self) -> Lanes
+        ensures idle { AreIdle result }
+        ensures same { self.new ≡ self.old }
+    {
+        replace(&mut self.lanes, Lanes::new(self.alloc))
+    }
+
+    /// Works a round, as `work_round` of the rounds says it. For want of memory all blocks of the round are home.
+    pub fn work_round<W: Works>(
+        &mut self,
+        works: &mut W,
+        round: Round,
+        home: &mut Pool,
+    ) -> Result<Worked, AllocError>
+        requires may { MayBring round.blocks self.old home.old }
+        ensures records { IfOk result (λ worked. worked_records worked
+            ≡ round_records (options_at self.old) (map packet_of round.packets)) }
+        ensures checked { self.old.keep ≡ true → IfOk result
+            (λ worked. IsKeptWorkOf (options_at self.old) (map packet_of round.packets) worked) }
+        ensures ready { IfOk result (λ worked. All (λ lane. AreReady lane.items.items) worked.lanes.queues.items) }
+        ensures worked { IfOk result (λ worked. worked.blocks ≡ round.blocks) }
+        ensures same { OnOk result ((self.new ≡ self.old) × (home.new ≡ home.old)) }
+        ensures brings { OnErr result (Brings round.blocks self.old self.new home.old home.new) }
+    {
+        match self.work(works, round) {
+            Ok(worked) => Ok(worked),
+            Err(rest) => {
+                self.bring(rest, home);
+                Err(AllocError)
+            }
+        }
+    }
+
+    /// Works the round that lies there, beside the side that reads. The runtime goes with it as with that side.
+    pub(crate) fn work_lent<R: Sync, W: Works>(
+        &mut self,
+        _rt: &R,
+        works: &mut W,
+        round: &mut Round,
+    ) -> Result<Worked, Rest>
+        requires few { round.old.blocks ≤ self.old.blocks }
+        ensures records { IfOk result (λ worked. worked_records worked
+            ≡ round_records (options_at self.old) (map packet_of round.old.packets)) }
+        ensures checked { self.old.keep ≡ true → IfOk result
+            (λ worked. IsKeptWorkOf (options_at self.old) (map packet_of round.old.packets) worked) }
+        ensures ready { IfOk result (λ worked. All (λ lane. AreReady lane.items.items) worked.lanes.queues.items) }
+        ensures worked { IfOk result (λ worked. worked.blocks ≡ round.old.blocks) }
+        ensures rest { IfErr result (λ rest. rest ≡ round.old.blocks) }
+        ensures spent { round.new.packets ≡ [] }
+        ensures same { self.new ≡ self.old }
+    {
+        let RoundRead {
+            round: none,
+            end: _,
+        } = no_round(self.alloc);
+        let lent = replace(round, none);
+        self.work(works, lent)
+    }
+
+    /// Writes what a round came to, as `write_round` of the rounds says it.
+    pub fn write_round<K: Sink>(
+        &self,
+        worked: &Worked,
+        file: &FileHead,
+        sink: &mut K,
+    ) -> Result<(), WriteFault>
+        ensures ok { OnOk result (Appends (K.held sink.old) (K.held sink.new)
+            (worked_bytes file.now.order worked.now)) }
+        ensures err { OnErr result (AppendsFront (K.held sink.old) (K.held sink.new)
+            (worked_bytes file.now.order worked.now)) }
+        ensures cause { HasCause (K.faults sink.old) (K.faults sink.new) result }
+    {
+        write_lanes(sink, file, &worked.lanes)
+    }
+
+    /// Ends a round that was worked. Its blocks go home, all of them.
+    pub fn end_round(&mut self, worked: Worked, home: &mut Pool)
+        requires may { MayBring worked.blocks self.old home.old }
+        ensures brings { Brings worked.blocks self.old self.new home.old home.new }
+    {
+        let Worked {
+            lanes,
+            kept,
+            blocks,
+        } = worked;
+        let rest = Rest {
+            packets: self.take_packets(),
+            lanes,
+            kept,
+            blocks,
+        };
+        self.bring(rest, home);
+    }
+
+    /// Gives a round up. Its blocks go home, all of them.
+    pub fn drop_round(&mut self, round: Round, home: &mut Pool)
+        requires may { MayBring round.blocks self.old home.old }
+        ensures brings { Brings round.blocks self.old self.new home.old home.new }
+    {
+        let Round { packets, blocks } = round;
+        let lanes = self.take_lanes();
+        let rest = Rest {
+            packets,
+            lanes,
+            kept: Vec::new(self.alloc),
+            blocks,
+        };
+        self.bring(rest, home);
+    }
+
+    /// What is left of a round goes home. Its lanes and its list of packets stay as memory.
+    pub(crate) fn bring(&mut self, rest: Rest, home: &mut Pool)
+        requires may { MayBring rest self.old home.old }
+        ensures brings { Brings rest self.old self.new home.old home.new }
+    {
+        let Rest {
+            mut packets,
+            mut lanes,
+            kept,
+            blocks,
+        } = rest;
+        bring_round(
+            home,
+            &mut self.places,
+            blocks,
+            &mut self.out,
+            &mut packets,
+            &mut lanes,
+            kept,
+        );
+        replace(&mut self.packets, packets).destroy_empty();
+        replace(&mut self.lanes, lanes).free();
+    }
+}
