@@ -11,13 +11,13 @@ use Rattle.offload_model.specs.Passing as passing
 use Rattle.offload_model.specs.Written.{Options}
 use Rattle.offload_words.specs.declared.merge.MergeOptions.{MergeOptions}
 use Rattle.offload_words.specs.declared.check.CheckOptions.{CheckOptions}
-use Rattle.check_totals.specs.Counts.{Counts, totals_of}
-use Rattle.check_totals.specs.Lines.{check_lines, made_line}
-use Rattle.check_totals.specs.Checking.{counting, checking_whole}
-use Rattle.check_totals.specs.Tallies.{Tallies}
-use Rattle.check_rounds.specs.declared.check.CheckEnd.{CheckEnd}
-use Rattle.check_rounds.specs.declared.check.CheckEnd.TheVariants as ends
-use Rattle.check_rounds.specs.Checking.{ending_of as check_ending}
+use Rattle.checking.specs.Counts.{Counts, totals_of}
+use Rattle.checking.specs.Lines.{check_lines, made_line}
+use Rattle.checking.specs.Checking.{counting, checking_whole}
+use Rattle.checking.specs.Tallies.{Tallies}
+use Rattle.checking.specs.declared.capture.CheckEnd.{CheckEnd}
+use Rattle.checking.specs.declared.capture.CheckEnd.TheVariants as ends
+use Rattle.checking.specs.Handling.{ending_of as check_ending}
 use Rattle.offload_run.specs.declared.status.Status.{Status}
 use Rattle.offload_run.specs.declared.status.Status.TheVariants as statuses
 use Rattle.offload_run.specs.declared.check.MadeLine.{MadeLine}

@@ -1,14 +1,11 @@
 //! The example of each first page, as it stands there, and what it comes to.
-ghost use Rattle.std.specs.Prelude.{◌≡◌, ◌∷◌, [], IfOk};
 
 use crate::lines::{CAPTURE, words};
 use cap_make::{MadeSource, make_capture};
-use check_totals::{QueueTotals, Totals, write_totals};
 use off_io::{MemSink, MemSource, NoGate, Source};
 use offload_run::run;
 use offload_words::{Command, parse_words};
 use status_log::log_malformed;
-use std::alloc::{AllocError, Global};
 use std::test::Fail;
 
 #[test]
@@ -20,39 +17,6 @@ fn example_of_cap_make(rt: HostRuntime) -> Result<(), Fail> {
     let mut front = [0; 4096];
     let count = source.read(&mut front)?;
     assert!(rt; 0 < count && sink.bytes().starts_with(&front[..count]));
-    Ok(())
-}
-
-// The totals of a round of two packets that were merged.
-fn merged_pair(alloc: Global) -> Result<Totals, AllocError>
-    ensures same { IfOk result (λ t. t ≡ record {
-      queues = record { records = 2; items = 1; merged = 1; returned = 2 } ∷ [];
-      taps = [];
-    }) }
-{
-    let queue = QueueTotals {
-        records: 2,
-        items: 1,
-        merged: 1,
-        returned: 2,
-    };
-    Ok(Totals {
-        queues: [queue].to_vec(alloc)?,
-        taps: Vec::new(alloc),
-    })
-}
-
-#[test]
-fn example_of_check_totals(rt: HostRuntime) -> Result<(), Fail> {
-    let alloc = rt.alloc();
-    let mut sink = MemSink::new(alloc, 4096, Vec::new(alloc));
-    let round = merged_pair(alloc)?;
-    let mut all = Totals::make(alloc, 1, 0)?;
-    all.add(&round);
-    write_totals(&mut sink, &all)?;
-    let want = "queue 0: records 2 items 1 merged 1 returned 2\n\
-        total: records 2 items 1 merged 1 returned 2\n";
-    assert_eq!(rt; sink.bytes(), want.as_bytes());
     Ok(())
 }
 

@@ -1,6 +1,5 @@
 //! Tests of whole runs of the program ([`offload_run`]), over sources and sinks in memory, and of what stands beside:
-//! its words ([`offload_words`]), generated captures ([`cap_make`]), the lines of `check` ([`check_totals`]) and of the
-//! log ([`status_log`]).
+//! its words ([`offload_words`]), generated captures ([`cap_make`]) and the lines of the log ([`status_log`]).
 //!
 //! A crate of their own, since one with tests is proved twice, with them and without.
 #![tactic(auto)]
@@ -35,7 +34,5 @@ mod queues;
 mod row_frames;
 #[cfg(test)]
 mod rows;
-#[cfg(test)]
-mod totals;
 #[cfg(test)]
 mod words;

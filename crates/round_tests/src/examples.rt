@@ -1,20 +1,17 @@
 //! The example of each first page, as it stands there, and what it comes to.
 use crate::plans::plain;
-use crate::working::packets::{all_home, in_turn, kept_home, rest_home};
+use crate::working::packets::{all_home, in_turn, rest_home};
 use crate::writing::{FILE, all_go_home, frame};
-use check_rounds::{CheckEnd, check_all};
-use check_totals::{Totals, write_totals};
+use checking::{CheckEnd, Totals, check_all, write_totals};
 use frags::Outcomes;
 use frame_layout::Choice;
 use gro::Item;
 use off_io::{Feed, MemSink, MemSource, NoGate};
 use pcap_io::{CaptureReader, Link};
-use round_check::check_lanes;
 use round_pipeline::merge_beside;
-use round_work::{Alone, LaneTable, Lanes, Plan, QueueLane, work_packets};
+use round_work::{Alone, Lanes, Plan, work_packets};
 use round_write::{Time, write_items, write_record};
 use rounds::{MergeEnd, Rounds};
-use std::collections::VecDeque;
 use std::test::Fail;
 use worked_captures::TWO_FLOWS;
 
@@ -74,34 +71,6 @@ fn example_of_round_work(rt: HostRuntime) {
 }
 
 #[test]
-fn example_of_round_check(rt: HostRuntime) {
-    let alloc = rt.alloc();
-    let kept = Vec::new(alloc);
-    let mut queues = Vec::with_capacity(alloc, 1).expect(&rt, "memory");
-    queues.push_reserved(QueueLane {
-        queue: 0,
-        packets: VecDeque::new(alloc),
-        items: Vec::new(alloc),
-        table: LaneTable::new(),
-        outcomes: Outcomes::new(alloc),
-        done: true,
-        count: 0,
-    });
-    let lanes = Lanes {
-        queues,
-        taps: Vec::new(alloc),
-    };
-    let mut returned = 0u64;
-    let totals = check_lanes(alloc, &lanes, &kept).expect(&rt, "memory");
-    for queue in &totals.queues {
-        returned = returned.saturating_add(queue.returned);
-    }
-    assert_eq!(rt; returned, 0);
-    kept_home(&rt, kept);
-    lanes.free();
-}
-
-#[test]
 fn example_of_rounds(rt: HostRuntime) -> Result<(), Fail> {
     let alloc = rt.alloc();
     let blocks = 12;
@@ -127,28 +96,6 @@ fn example_of_rounds(rt: HostRuntime) -> Result<(), Fail> {
 }
 
 #[test]
-fn example_of_check_rounds(rt: HostRuntime) -> Result<(), Fail> {
-    let alloc = rt.alloc();
-    let (queues, taps) = (2, 2);
-    let mut feed = Feed {
-        inner: MemSource::new(TWO_FLOWS.to_vec(alloc)?, 4096, Vec::new(alloc)),
-    };
-    let mut reader = CaptureReader::start(&mut feed, Link::Ethernet)?;
-    let mut rounds = Rounds::make(alloc, 12, 4, plain(2, 2, 64), true)?;
-    let mut sink = MemSink::new(alloc, 4096, Vec::new(alloc));
-    let mut works = Alone { gate: &NoGate };
-    let mut totals = Totals::make(alloc, queues, taps)?;
-    let end = check_all(&mut works, &mut rounds, &mut reader, &mut totals);
-    write_totals(&mut sink, &totals)?;
-    assert_eq!(rt; end, CheckEnd::Done);
-    assert!(rt;
-        sink.bytes()
-            .starts_with(b"queue 0: records 2 items 1 merged 1 returned 2\n")
-    );
-    Ok(())
-}
-
-#[test]
 fn example_of_round_pipeline(rt: HostRuntime) -> Result<(), Fail> {
     let alloc = rt.alloc();
     let mut feed = Feed {
@@ -169,5 +116,29 @@ fn example_of_round_pipeline(rt: HostRuntime) -> Result<(), Fail> {
     );
     assert_eq!(rt; end, MergeEnd::Done);
     assert_eq!(rt; rounds.home(), 12);
+    Ok(())
+}
+
+#[test]
+fn example_of_checking(rt: HostRuntime) -> Result<(), Fail> {
+    let alloc = rt.alloc();
+    let (queues, taps) = (2, 2);
+    let mut feed = Feed {
+        inner: MemSource::new(TWO_FLOWS.to_vec(alloc)?, 4096, Vec::new(alloc)),
+    };
+    let mut reader = CaptureReader::start(&mut feed, Link::Ethernet)?;
+    let mut rounds = Rounds::make(alloc, 12, 4, plain(2, 2, 64), true)?;
+    let mut sink = MemSink::new(alloc, 4096, Vec::new(alloc));
+    let mut works = Alone { gate: &NoGate };
+    let mut totals = Totals::make(alloc, queues, taps)?;
+    let end = check_all(&mut works, &mut rounds, &mut reader, &mut totals);
+    write_totals(&mut sink, &totals)?;
+    assert_eq!(rt; end, CheckEnd::Done);
+    let want = "queue 0: records 2 items 1 merged 1 returned 2\n\
+        queue 1: records 2 items 1 merged 1 returned 2\n\
+        tap 0: windows 4 bytes 256\n\
+        tap 1: windows 4 bytes 24\n\
+        total: records 4 items 2 merged 2 returned 4\n";
+    assert_eq!(rt; sink.bytes(), want.as_bytes());
     Ok(())
 }

@@ -1,6 +1,6 @@
 //! Tests of rounds: the work of their lanes ([`round_work`]), the records that are written ([`round_write`]), rounds
-//! that are read, merged and segmented ([`rounds`]), checked ([`check_rounds`]), and read beside the work
-//! ([`round_pipeline`]).
+//! that are read, merged and segmented ([`rounds`]), read beside the work ([`round_pipeline`]), and checked
+//! ([`checking`]).
 //!
 //! A crate of their own, since one with tests is proved twice, with them and without.
 #![tactic(auto)]
@@ -8,7 +8,7 @@
 #[cfg(test)]
 mod ahead;
 #[cfg(test)]
-mod checking;
+mod checks;
 #[cfg(test)]
 mod examples;
 #[cfg(test)]
@@ -29,6 +29,8 @@ mod refused;
 mod segments;
 #[cfg(test)]
 mod sides;
+#[cfg(test)]
+mod totals;
 #[cfg(test)]
 mod working;
 #[cfg(test)]

@@ -20,8 +20,6 @@ mod LaneCounts
 mod Small
 -- packets that are worked in lanes, with clones beside them
 mod Keeping
--- clones that were kept, and the packets that they are of
-mod Comparing
 -- what is written of rounds that are worked in lanes
 mod Lanes
 -- rounds that are merged

@@ -26,8 +26,8 @@
 //!   the maximal runs of each flow come to, in the order of their first packets, and then tap by tap its windows of
 //!   what is shown of the packets as they were read, whoever works the lanes and whatever the order in which they run.
 //!   `checked`: where clones are kept, all that a comparison of the items with the packets wants to know.
-//! - `totals` of `check_round`: what is counted where each segment of the items is compared with the packet of its flow
-//!   at that place, of which a clone was kept: that all come back, byte for byte.
+//! - `lanes`, `kept` of [`Worked`]: whoever compares a round with its packets sees its lanes and the clones that were
+//!   kept (`checking` does, above the engine); and `plan`, `lawful` of `Rounds::plan`: by which plan it was worked.
 //! - `ok`, `err` of `write_round`: byte for byte what is written of a round that was worked.
 //! - `home`: how many blocks are home after each call, as an equation; after `drop_round` and `end_round`, and where
 //!   `work_round` wants memory, all of the round.
@@ -148,7 +148,6 @@ mod ahead;
 mod bench;
 mod blocks;
 mod body;
-mod check;
 mod cut;
 mod handler;
 mod home;
@@ -159,12 +158,14 @@ mod lane_work;
 mod memory;
 mod merge;
 mod opening;
+mod plan;
 mod reading;
 mod record;
 mod round;
 mod rounds;
 mod segment;
 mod table;
+mod worked_parts;
 mod writing;
 
 pub use bench::Bench;

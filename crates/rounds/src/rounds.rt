@@ -62,9 +62,9 @@ impl Model for Rounds {
 
 impl Rounds {
     /// Rounds of up to `budget` records over `blocks` blocks, whose work is divided by `plan`. Where `keep`, a clone of
-    /// each packet stands beside the work of its round, for [`Rounds::check_round`]. All memory for blocks, for what
-    /// comes back of them and for the packets of a round is taken here. Lanes take theirs in the first round, and more
-    /// only where a later one has more for them; clones that are kept take more in each round.
+    /// each packet stands beside the work of its round, for [`Worked::kept`]. All memory for blocks, for what comes
+    /// back of them and for the packets of a round is taken here. Lanes take theirs in the first round, and more only
+    /// where a later one has more for them; clones that are kept take more in each round.
     pub fn make(
         alloc: Global,
         blocks: u32,

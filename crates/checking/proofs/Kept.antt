@@ -1,0 +1,47 @@
+-- Lanes of a round as they are lent, with the clones that were kept: the clones are the round's packets, and the round
+-- has its lanes.
+use Rattle.std.proofs.Common.{◌≡◌, ℕ, List, map, length, sym, ap, ◌∙◌, subst}
+use Rattle.std.specs.Prelude.{All}
+use Rattle.std.proofs.lemmas.List.{length-map}
+use Rattle.std.proofs.lemmas.List.FromFn.{length-range_with_len}
+use Rattle.pcap_io.specs.Capture.{Packet}
+use Rattle.offload_model.specs.Written.{Options, shown_of}
+use Rattle.gro.specs.Table.{AreReady}
+use Rattle.taps.specs.declared.clones.TapClone.{TapClone}
+use Rattle.taps.specs.Clones.{packet_of}
+use Rattle.round_work.specs.declared.lanes.Lanes.{Lanes}
+use Rattle.round_work.specs.declared.lanes.QueueLane.{QueueLane}
+use Rattle.round_work.specs.declared.lanes.TapLane.{TapLane}
+use Rattle.round_work.specs.Packets.{RiseFrom}
+use Rattle.round_work.specs.Work.{AreMerged, AreWatched}
+use Rattle.rounds.specs.Lanes.{IsKeptWorkOf}
+use Rattle.rounds.specs.RoundsState.{WorkedState}
+
+-- what comparing wants to know of them
+pub record Lent (o : Options) (ps : List Packet) (lanes : Lanes) (kept : List TapClone) : Type 0 where
+  pub same : map packet_of kept ≡ ps
+  pub rising : RiseFrom 0 (map packet_of kept)
+  pub queues : length lanes.queues.items ≡ o.queues
+  pub taps : length lanes.taps.items ≡ o.taps
+  pub merged : AreMerged o.segs o.spread (length lanes.queues.items) (map packet_of kept) lanes.queues.items
+  pub watched : AreWatched o.snap (length lanes.taps.items) (map (shown_of o.filter) (map packet_of kept)) lanes.taps.items
+  pub ready : All (λ (l : QueueLane). AreReady l.items.items) lanes.queues.items
+
+own_lent : (o : Options) (ps : List Packet) (w : WorkedState) → IsKeptWorkOf o ps w → Lent o ps w.lanes w.kept
+own_lent o ps w is =
+    let queues = sym (length-map w.lanes.queues.items (λ (l : QueueLane). l.queue)) ∙ ap length is.merged.numbers ∙ length-range_with_len 0 o.queues in
+    let taps = sym (length-map w.lanes.taps.items (λ (l : TapLane). l.tap)) ∙ ap length is.watched.numbers ∙ length-range_with_len 0 o.taps in
+    record {
+      same = is.kept;
+      rising = subst (RiseFrom 0) (sym is.kept) is.rising;
+      queues = queues;
+      taps = taps;
+      merged = subst (λ (n : ℕ). AreMerged o.segs o.spread n (map packet_of w.kept) w.lanes.queues.items) (sym queues)
+          (subst (λ (z : List Packet). AreMerged o.segs o.spread o.queues z w.lanes.queues.items) (sym is.kept) is.merged);
+      watched = subst (λ (n : ℕ). AreWatched o.snap n (map (shown_of o.filter) (map packet_of w.kept)) w.lanes.taps.items) (sym taps)
+          (subst (λ (z : List Packet). AreWatched o.snap o.taps (map (shown_of o.filter) z) w.lanes.taps.items) (sym is.kept) is.watched);
+      ready = is.ready;
+    }
+
+pub are_lent : (o : Options) (ps : List Packet) (w : WorkedState) (lanes : Lanes) (kept : List TapClone) → lanes ≡ w.lanes → kept ≡ w.kept → IsKeptWorkOf o ps w → Lent o ps lanes kept
+are_lent o ps w lanes kept e f is = subst (λ (l : Lanes). Lent o ps l kept) (sym e) (subst (Lent o ps w.lanes) (sym f) (own_lent o ps w is))

@@ -1,0 +1,18 @@
+use Rattle.std.proofs.Common.{◌≡◌, ◌*◌, ◌^◌, ◌≤◌, map, drop}
+use Rattle.gro.specs.Items.{item_of}
+use Rattle.taps.specs.Clones.{packet_of}
+use Rattle.checking.specs.Returned.{Lefts}
+use Rattle.checking.specs.KeptFlows.{AreFlows}
+use Rattle.checking.specs.Items.{AreLeft}
+use Rattle.checking.proofs.ItemTotals.{SoFar}
+use Rattle.checking.proofs.items.check_items.Given as goal
+
+abbrev pub invariant-loop-i : goal.invariant-loop-i
+invariant-loop-i l = record {
+  records : l.totals.records ≤ l.i * 2 ^ 32;
+  items : l.totals.items ≡ l.i;
+  merged : l.totals.merged ≤ l.i;
+  returned : l.totals.returned ≤ l.i * 2 ^ 32;
+  flows : AreFlows (map packet_of l.kept) l.flows;
+  so_far : (left : Lefts) → AreLeft (map packet_of l.kept) l.fn.flows left → SoFar (map packet_of l.kept) left (map item_of l.items) (drop l.i (map item_of l.items)) l.flows l.totals;
+}

@@ -1,0 +1,25 @@
+use Rattle.std.proofs.Common.{◌≡◌, sym, subst}
+use Rattle.std.specs.Prelude.{IfOk}
+use Rattle.round_work.specs.declared.plan.Plan.{Plan}
+use Rattle.round_work.specs.Work.{IsPlan, options_by}
+use Rattle.rounds.specs.Lanes.{IsKeptWorkOf}
+use Rattle.checking.specs.Counts.{Counts, round_totals}
+use Rattle.checking.proofs.round.check_bench.Goals as goal
+
+pub check_worked-requires-clause-plan : goal.check_worked-requires-clause-plan
+check_worked-requires-clause-plan c = subst IsPlan (sym c.plan.ensures.plan) c.plan.ensures.lawful
+
+pub check_worked-requires-clause-worked : goal.check_worked-requires-clause-worked
+check_worked-requires-clause-worked c =
+    let budget = c.args.bench.now.budget in
+    let r = c.requires.worked in
+    (budget, (r.0, (subst (λ (p : Plan). IsKeptWorkOf (options_by p budget) r.0 c.args.worked.now) (sym c.plan.ensures.plan) r.1.0, r.1.1, r.1.2)))
+
+pub returns : goal.returns
+returns c =
+    let budget = c.args.bench.now.budget in
+    record {
+      totals = λ ps kept.
+          subst (λ (p : Plan). IfOk c.check_worked.result (λ (t : Counts). t ≡ round_totals (options_by p budget) ps)) c.plan.ensures.plan
+          (c.check_worked.ensures.totals budget ps (subst (λ (p : Plan). IsKeptWorkOf (options_by p budget) ps c.args.worked.now) (sym c.plan.ensures.plan) kept));
+    }

@@ -1,0 +1,26 @@
+-- What a check of a whole capture says, as one fact.
+use Rattle.std.specs.Prelude.{◌≡◌, ◌≤◌, ◌^◌}
+use Rattle.off_io.specs.Faults.{Rose}
+use Rattle.off_io.specs.Told.{Told}
+use Rattle.checking.specs.Counts.{Counts, HasLanes, IsWithin}
+use Rattle.checking.specs.Checking.{counting}
+use Rattle.checking.specs.Tallies.{Tallies}
+use Rattle.rounds.specs.Merging.{options_of, TakesAll}
+use Rattle.rounds.specs.RoundsState.{RoundsState}
+use Rattle.round_pipeline.specs.Reads.{Spot}
+use Rattle.checking.specs.declared.capture.CheckEnd.{CheckEnd}
+use Rattle.checking.specs.declared.capture.CheckEnd.TheVariants as ends
+use Rattle.checking.specs.Handling.{ending_of}
+
+-- checking began here and ended so, as `check_all` says
+pub record Checked (old new : RoundsState) (from to : Spot) (before after : Counts) (end : CheckEnd) : Type 0 where
+  pub given : Told from.left to.left
+      (Tallies (counting old.blocks (options_of old) from.place) before after (ending_of end))
+  pub lanes : HasLanes (options_of old) after
+  pub within : IsWithin (2 ^ 50) (2 ^ 62) after
+  pub home : new.home ≡ new.blocks
+  pub same : (new.blocks ≡ old.blocks) × (options_of new ≡ options_of old) × (new.keep ≡ old.keep)
+  pub taken : end ≡ ends.Done → Told from.left to.left (TakesAll old.taken new.taken from.place)
+  pub least : old.taken ≤ new.taken
+  pub later : from.faults ≤ to.faults
+  pub read : end ≡ ends.ReadFault → Rose from.faults to.faults

@@ -1,0 +1,213 @@
+//! Checks the records of a capture, round by round.
+ghost use Rattle.std.specs.Prelude.{◌≡◌, ℕ, ◌+◌, ◌-◌, ◌≤◌, ◌^◌, [], List, length, map, min, true, IfOk, OnOk, OnErr};
+ghost use Rattle.std.specs.List.{AllByRecursion};
+ghost use Rattle.off_io.specs.Faults.{Rose};
+ghost use Rattle.off_io.specs.Told.{Told};
+ghost use Rattle.pcap_io.specs.declared.heads.Link.TheVariants.{Ethernet};
+ghost use Rattle.pcap_io.specs.Capture.{Packet};
+ghost use Rattle.pcap_io.specs.Places.{IsReady, found_at};
+ghost use Rattle.pcap_io.specs.Readers.{place_of, source_of, SameLoan};
+ghost use Rattle.offload_model.specs.Captured.{IsCaptured};
+ghost use Rattle.offload_model.specs.Need.{round_need};
+ghost use Rattle.gro.specs.Held.{packet_of};
+ghost use Rattle.checking.specs.Counts.{added, round_totals, totals_of, HasLanes, IsWithin};
+ghost use Rattle.checking.specs.Checking.{counting};
+ghost use Rattle.checking.specs.Tallies.{Tallies};
+ghost use Rattle.rounds.specs.Benches.{options_at, Brings, MayBring};
+ghost use Rattle.rounds.specs.Lanes.{IsKeptWorkOf};
+ghost use Rattle.rounds.specs.Fresh.{NumberedFrom};
+ghost use Rattle.rounds.specs.Merging.{options_of};
+ghost use Rattle.checking.specs.Handling.{ending_of, AreOf, CountsLast};
+
+use crate::round::check_bench;
+use crate::totals::Totals;
+use block_pool::Pool;
+use off_io::Source;
+use pcap_io::{CapFault, CaptureReader};
+use round_pipeline::{RoundHandler, handle_from};
+use round_work::Works;
+use rounds::{Bench, Round, RoundEnd, RoundRead, Rounds, Worked};
+use std::alloc::AllocError;
+
+/// How checking ended.
+#[derive(Clone, Copy, Debug, PartialEq, Eq)]
+pub enum CheckEnd {
+    /// The capture was read to its end, and all of it was counted.
+    Done,
+    /// The capture is refused; the records before were counted.
+    Malformed(CapFault),
+    /// A round, counted from 0, needs this many blocks, and there are fewer; the rounds before were counted.
+    PoolEmpty { round: u64, need: u32 },
+    /// The source failed; the whole records before were counted.
+    ReadFault,
+    /// There was no memory; the totals say nothing.
+    NoMemory,
+}
+
+// Compares what a round came to with its packets, and ends it.
+fn compare_round(bench: &mut Bench, home: &mut Pool, worked: Worked) -> Result<Totals, AllocError>
+    requires may { MayBring worked.blocks bench.old home.old }
+    requires worked { (ps : List Packet) × (IsKeptWorkOf (options_at bench.old) ps worked
+        × AllByRecursion IsCaptured ps × (length ps ≤ 4096)) }
+    ensures totals { (ps : List Packet) → IsKeptWorkOf (options_at bench.old) ps worked
+        → IfOk result (λ t. t ≡ round_totals (options_at bench.old) ps) }
+    ensures brings { Brings worked.blocks bench.old bench.new home.old home.new }
+{
+    let totals = check_bench(bench, &worked);
+    bench.end_round(worked, home);
+    totals
+}
+
+// Works a round, compares it with its packets and ends it; what it counts is added. For want of memory its blocks are
+// home all the same.
+fn count_round<W: Works>(
+    works: &mut W,
+    bench: &mut Bench,
+    home: &mut Pool,
+    round: Round,
+    totals: &mut Totals,
+) -> Result<(), AllocError>
+    requires may { MayBring round.blocks bench.old home.old }
+    requires keep { bench.old.keep ≡ true }
+    requires captured { AllByRecursion IsCaptured (map packet_of round.packets) }
+    requires numbers { (k : ℕ) × NumberedFrom k round.packets }
+    requires few { length round.packets ≤ 4096 }
+    requires lanes { HasLanes (options_at bench.old) totals.old }
+    requires within { (n : ℕ) × (n ≤ 2 ^ 32) × AreOf n totals.old }
+    ensures ok { OnOk result (totals.new ≡ added totals.old
+        (round_totals (options_at bench.old) (map packet_of round.packets))) }
+    ensures lanes { HasLanes (options_at bench.old) totals.new }
+    ensures within { (n : ℕ) → AreOf n totals.old → AreOf (n + length round.packets) totals.new }
+    ensures brings { Brings round.blocks bench.old bench.new home.old home.new }
+{
+    let worked = bench.work_round(works, round, home)?;
+    let counted = compare_round(bench, home, worked)?;
+    totals.add(&counted);
+    Ok(())
+}
+
+// The last round, behind which checking ends so.
+fn last_round<W: Works>(
+    works: &mut W,
+    bench: &mut Bench,
+    home: &mut Pool,
+    round: Round,
+    totals: &mut Totals,
+    end: CheckEnd,
+) -> CheckEnd
+    requires may { MayBring round.blocks bench.old home.old }
+    requires keep { bench.old.keep ≡ true }
+    requires captured { AllByRecursion IsCaptured (map packet_of round.packets) }
+    requires numbers { (k : ℕ) × NumberedFrom k round.packets }
+    requires few { length round.packets ≤ 4096 }
+    requires lanes { HasLanes (options_at bench.old) totals.old }
+    requires within { (n : ℕ) × (n ≤ 2 ^ 32) × AreOf n totals.old }
+    ensures counts { CountsLast totals.old totals.new (round_totals (options_at bench.old)
+        (map packet_of round.packets)) end result }
+    ensures lanes { HasLanes (options_at bench.old) totals.new }
+    ensures within { (n : ℕ) → AreOf n totals.old → AreOf (n + length round.packets) totals.new }
+    ensures brings { Brings round.blocks bench.old bench.new home.old home.new }
+{
+    match count_round(works, bench, home, round, totals) {
+        Ok(()) => end,
+        Err(_) => CheckEnd::NoMemory,
+    }
+}
+
+/// Each round is compared with its packets, and what it counts is added to totals.
+#[derive(Drop)]
+pub(crate) struct Counting;
+
+impl RoundHandler<Totals, CheckEnd> for Counting {
+    ghost use Rattle.std.specs.Prelude.{◌≡◌, true, map};
+    ghost use Rattle.gro.specs.Held.{packet_of};
+    ghost use Rattle.checking.specs.Counts.{round_totals, HasLanes};
+    ghost use Rattle.checking.specs.Handling.{AreOf, CountsRound};
+    ghost use Rattle.checking.specs.declared.capture.CheckEnd.TheVariants.{NoMemory};
+
+    ghost ready = { λ options keep n totals. (keep ≡ true) × HasLanes options totals × AreOf n totals };
+
+    ghost did = { λ counting options old new read k end. CountsRound old new
+        (round_totals options (map packet_of read.round.packets)) k read.end end };
+
+    ghost stopped = { NoMemory };
+
+    fn handle<W: Works>(
+        &self,
+        works: &mut W,
+        bench: &mut Bench,
+        home: &mut Pool,
+        read: RoundRead,
+        number: u64,
+        into: &mut Totals,
+    ) -> Option<CheckEnd> {
+        let RoundRead { round, end } = read;
+        match end {
+            RoundEnd::Full => match count_round(works, bench, home, round, into) {
+                Ok(()) => None,
+                Err(_) => Some(CheckEnd::NoMemory),
+            },
+            RoundEnd::End => Some(last_round(works, bench, home, round, into, CheckEnd::Done)),
+            RoundEnd::Malformed(fault) => {
+                let end = CheckEnd::Malformed(fault);
+                Some(last_round(works, bench, home, round, into, end))
+            }
+            RoundEnd::ReadFault => {
+                let end = CheckEnd::ReadFault;
+                Some(last_round(works, bench, home, round, into, end))
+            }
+            RoundEnd::PoolEmpty { need } => {
+                bench.drop_round(round, home);
+                Some(CheckEnd::PoolEmpty {
+                    round: number,
+                    need,
+                })
+            }
+            RoundEnd::NoMemory => {
+                bench.drop_round(round, home);
+                Some(CheckEnd::NoMemory)
+            }
+        }
+    }
+
+    fn stop(&self) -> CheckEnd {
+        CheckEnd::NoMemory
+    }
+}
+
+/// Checks the records of a capture, round by round, up to its end: each round is read, worked, compared with its
+/// packets and ended, and what it counts is added to the totals.
+///
+/// The rounds keep a clone of each packet, and the totals begin with those of no packet, of as many queues and taps.
+/// `given` says of each ending what was read and counted. A read fault only where the source's count of faults rose.
+/// All blocks are home again, whatever the ending.
+pub fn check_all<W: Works, S: Source>(
+    works: &mut W,
+    rounds: &mut Rounds,
+    reader: &mut CaptureReader<'_, S>,
+    totals: &mut Totals,
+) -> CheckEnd
+    requires ready { IsReady (place_of reader.old) }
+    requires link { (place_of reader.old).link ≡ Ethernet }
+    requires home { rounds.old.home ≡ rounds.old.blocks }
+    requires keep { rounds.old.keep ≡ true }
+    requires start { totals.old ≡ totals_of (options_of rounds.old) [] }
+    ensures same_source { SameLoan reader.old reader.new }
+    ensures given { Told (S.left (source_of reader.old)) (S.left (source_of reader.new))
+        (Tallies (counting rounds.old.blocks (options_of rounds.old) (place_of reader.old)) totals.old totals.new
+        (ending_of result)) }
+    ensures lanes { HasLanes (options_of rounds.old) totals.new }
+    ensures within { IsWithin (2 ^ 50) (2 ^ 62) totals.new }
+    ensures home { rounds.new.home ≡ rounds.new.blocks }
+    ensures same { (rounds.new.blocks ≡ rounds.old.blocks) × (options_of rounds.new ≡ options_of rounds.old)
+        × (rounds.new.keep ≡ rounds.old.keep) }
+    ensures taken { result ≡ CheckEnd.Done → Told (S.left (source_of reader.old)) (S.left (source_of reader.new))
+        (λ bytes left. min (rounds.old.taken + round_need (found_at (place_of reader.old) bytes).packets) (2 ^ 64 - 1)
+        ≤ rounds.new.taken) }
+    ensures least { rounds.old.taken ≤ rounds.new.taken }
+    ensures later { S.faults (source_of reader.old) ≤ S.faults (source_of reader.new) }
+    ensures read { result ≡ CheckEnd.ReadFault → Rose (S.faults (source_of reader.old))
+        (S.faults (source_of reader.new)) }
+{
+    handle_from(works, rounds, reader, &Counting, totals, 0)
+}

@@ -1,0 +1,27 @@
+//! What the work of rounds is told.
+ghost use Rattle.std.specs.Prelude.{◌≡◌};
+ghost use Rattle.round_work.specs.Work.{IsPlan};
+
+use crate::bench::Bench;
+use crate::rounds::Rounds;
+use round_work::Plan;
+
+impl Bench {
+    /// How the work of each round is divided.
+    pub fn plan(&self) -> &Plan
+        ensures plan { result.now ≡ self.now.plan }
+        ensures lawful { IsPlan self.now.plan }
+    {
+        &self.plan
+    }
+}
+
+impl Rounds {
+    /// How the work of each round is divided.
+    pub fn plan(&self) -> &Plan
+        ensures plan { result.now ≡ self.now.plan }
+        ensures lawful { IsPlan self.now.plan }
+    {
+        self.bench.plan()
+    }
+}

@@ -1,0 +1,22 @@
+//! What a round that was worked shows of itself.
+ghost use Rattle.std.specs.Prelude.{◌≡◌};
+
+use crate::round::Worked;
+use round_work::Lanes;
+use taps::TapClone;
+
+impl Worked {
+    /// Its lanes, with what they came to.
+    pub fn lanes(&self) -> &Lanes
+        ensures lanes { result.now ≡ self.now.lanes }
+    {
+        &self.lanes
+    }
+
+    /// The clones that were kept of its packets, in their order.
+    pub fn kept(&self) -> &[TapClone]
+        ensures kept { result.now ≡ self.now.kept }
+    {
+        &self.kept
+    }
+}
