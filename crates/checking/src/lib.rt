@@ -24,7 +24,7 @@
 //! Proved, by the names of the clauses:
 //!
 //! - Totals start at those of no packet ([`Totals::make`]) and add lane by lane ([`Totals::add`]); [`write_totals`]
-//!   appends just the lines, or a front of them where the sink failed (`ok`, `err`, `cause`); and counting goes round
+//!   appends just the lines, or a prefix of them where the sink failed (`ok`, `err`, `cause`); and counting goes round
 //!   by round ([`counting_goes_by_round`], [`totals_add_up`]).
 //! - `counts` of the inner calls: as many are counted as are equal in their places, whatever the packets are.
 //! - `compared` of `check_lanes`: whatever items the lanes hold, of each queue so many are counted as returned as are

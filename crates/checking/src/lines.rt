@@ -182,7 +182,7 @@ fn write_lanes<K: Sink>(
 
 /// Writes the lines of all queues and taps, and the one of the sums. The sink isn't flushed.
 ///
-/// `WriteFault` only where the sink's count of faults rose; a front of the lines was then written.
+/// `WriteFault` only where the sink's count of faults rose; a prefix of the lines was then written.
 pub fn write_totals<K: Sink>(sink: &mut K, totals: &Totals) -> Result<(), WriteFault>
     requires lanes { length totals.now.queues ≤ 2 ^ 12 }
     requires within { AllByRecursion (IsQueueWithin (2 ^ 50)) totals.now.queues }
@@ -195,7 +195,7 @@ pub fn write_totals<K: Sink>(sink: &mut K, totals: &Totals) -> Result<(), WriteF
 
 /// Writes the line of a generated capture: how many records were wanted, and how many bytes it has.
 ///
-/// `WriteFault` only where the sink's count of faults rose; a front of the line was then written.
+/// `WriteFault` only where the sink's count of faults rose; a prefix of the line was then written.
 pub fn write_made<K: Sink>(sink: &mut K, count: u32, bytes: u64) -> Result<(), WriteFault>
     ensures ok { OnOk result (Appends (K.held sink.old) (K.held sink.new) (made_line count bytes)) }
     ensures err { OnErr result (AppendsFront (K.held sink.old) (K.held sink.new) (made_line count bytes)) }

@@ -110,7 +110,7 @@ ends_here blocks place h1 h2 bytes left m =
 
 -- ---- the last flush
 
--- Where nothing was written of what was read behind these records, what was written of these is a front of the output.
+-- Where nothing was written of what was read behind these records, what was written of these is a prefix of the output.
 front_all : (blocks k : ℕ) (from to : Place) (a b c h h1 h2 h3 : Option (List ℕ)) → Told a b (Segmented blocks k from to h h1)
     → Told b c (λ rest left. Loses rest left × Keeps h1 h2) → Keeps h2 h3 → Told a c (Passes (segmenting blocks from) h h3 WriteFault)
 front_all blocks k from to a b c h h1 h2 h3 before none kept =

@@ -54,7 +54,7 @@ failed_says : (blocks : ℕ) (o : Options) (place : Place) (old new : Option (Li
     → Passes (checking blocks o place) old new passing.WriteFault bytes left → Says blocks o place old new is_flushed statuses.WriteFault bytes left
 failed_says blocks o place old new is_flushed bytes left p = record { passes = p; flushes = λ is. absurd (false≢true is); keeps = tt }
 
--- all lines, or a front of them
+-- all lines, or a prefix of them
 lines_say : (blocks : ℕ) (o : Options) (place : Place) (old new : Option (List ℕ)) (is_flushed : Bool) (lines : List ℕ) (end status : Status) (bytes left : List ℕ)
     → (Appends old new lines → SaysFlushed new is_flushed true → Says blocks o place old new is_flushed end bytes left)
     → (AppendsFront old new lines → Passes (checking blocks o place) old new passing.WriteFault bytes left)
@@ -192,7 +192,7 @@ pub lines_are : TotalsAreTold → (blocks : ℕ) (o : Options) (place : Place) (
 lines_are law blocks o place totals bytes left stop counted =
     ((law blocks o place totals (Some []) (Some (check_lines totals)) bytes left).stopped stop counted refl).2
 
--- what is counted of all bytes is told, or a front of it
+-- what is counted of all bytes is told, or a prefix of it
 stopped_says : TotalsAreTold → (blocks : ℕ) (o : Options) (place : Place) (passed : Passed) (first : List ℕ) (totals : Counts) (old new : Option (List ℕ)) (is_flushed : Bool)
     (bytes left : List ℕ) (end status : Status) (stop : Stop) → passed.output ≡ first ++ (checking blocks o place bytes).output
     → Tallies (counting blocks o place) (totals_of o []) totals (Stopped stop) bytes left

@@ -46,7 +46,7 @@ checking_made seed count o =
     let checked = checking_whole o.blocks (options o) (made seed count) in
     record { output = made_line count (length (made seed count)) ++ checked.output; stop = checked.stop }
 
--- It has no fault, and it is read from no source. Where the sink failed a front of the lines was written, and for want
+-- It has no fault, and it is read from no source. Where the sink failed a prefix of the lines was written, and for want
 -- of memory none.
 abbrev pub ChecksTo : Passed → Option (List ℕ) → Option (List ℕ) → Bool → Status → Type 0
 ChecksTo passed old new is_flushed statuses.Ok = (passed.stop ≡ Nowhere) × Appends old new passed.output
@@ -87,7 +87,7 @@ status_if (ends.PoolEmpty round need) blocks = Some (statuses.PoolEmpty round ne
 status_if ends.ReadFault blocks = Some statuses.ReadFault
 status_if ends.NoMemory blocks = None
 
--- the lines were written and flushed, or the sink failed and a front of them was
+-- the lines were written and flushed, or the sink failed and a prefix of them was
 abbrev pub LinesEnd : Option (List ℕ) → Option (List ℕ) → Bool → List ℕ → Status → Status → Type 0
 LinesEnd old new is_flushed lines end status =
     ((status ≡ end) × Appends old new lines × SaysFlushed new is_flushed true)

@@ -10,7 +10,7 @@ use Rattle.offload_run.specs.Checking.{ChecksMade}
 use Rattle.offload_run.specs.declared.status.Status.{Status}
 use Rattle.offload_run.specs.declared.status.Status.TheVariants as statuses
 
--- the whole generated capture was written and flushed; where the sink failed or memory ran out, a front of it was
+-- the whole generated capture was written and flushed; where the sink failed or memory ran out, a prefix of it was
 -- written
 abbrev pub MakeAnswers : MakeOptions → Option (List ℕ) → Option (List ℕ) → Bool → Status → Type 0
 MakeAnswers options old new is_flushed statuses.Ok = Appends old new (made options.seed options.count)

@@ -17,9 +17,9 @@ pub enum Status {
     PoolEmpty { round: u64, need: u32, blocks: u32 },
     /// The source failed; the output of the whole records before is written.
     ReadFault,
-    /// The sink failed; a front of the output is written.
+    /// The sink failed; a prefix of the output is written.
     WriteFault,
-    /// Memory ran out; a front of the output is written.
+    /// Memory ran out; a prefix of the output is written.
     NoMemory,
 }
 

@@ -91,7 +91,7 @@ fn first_wrong_read(
     Ok(None)
 }
 
-// The first write or flush that fails and isn't answered by a front of the output, the whole of it where the flush
+// The first write or flush that fails and isn't answered by a prefix of the output, the whole of it where the flush
 // fails.
 fn first_wrong_write(
     rt: &(impl Threads + Wait + Sync),
@@ -142,7 +142,7 @@ fn ends_well(
     Ok(is_as_wanted(&ended, want, whole.output))
 }
 
-// Whether each read that fails is answered once the `fronts` are written, each write and flush by a front of the
+// Whether each read that fails is answered once the `fronts` are written, each write and flush by a prefix of the
 // output, and whether a run ends well whose failing calls lie behind the last ones. Else the step, and the first call
 // that is answered otherwise.
 fn first_wrong_call(

@@ -302,7 +302,7 @@ fn records_shorter_than_their_header(rt: HostRuntime) -> Result<(), Fail> {
 }
 
 // How many calls of the sink are made by a run that is to end so while the sink takes all, if each of them that fails
-// is answered instead: by a write fault, with a front of the output. These reads fail.
+// is answered instead: by a write fault, with a prefix of the output. These reads fail.
 fn writes_answered_first(
     rt: &(impl Threads + Wait + Sync),
     alloc: Global,

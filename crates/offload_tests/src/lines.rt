@@ -160,7 +160,7 @@ pub fn run_gated<R: Threads + Wait + Sync, G: Gate + Sync>(
 // How a run is to end: its status, the line of the log, and how many bytes are written.
 pub type Want = (Status, &'static str, usize);
 
-// Whether a run ended so, with a front of this output, and flushed.
+// Whether a run ended so, with a prefix of this output, and flushed.
 pub fn is_as_wanted(ended: &Ended, want: Want, output: &[u8]) -> bool {
     let (status, line, len) = want;
     ended.status == status
@@ -170,7 +170,7 @@ pub fn is_as_wanted(ended: &Ended, want: Want, output: &[u8]) -> bool {
         && ended.sink.is_flushed()
 }
 
-// Whether a run ended by a write that failed, with a front of this output.
+// Whether a run ended by a write that failed, with a prefix of this output.
 pub fn is_cut_off(ended: &Ended, output: &[u8]) -> bool {
     ended.status == Status::WriteFault
         && ended.log.bytes() == b"write fault\n".as_slice()

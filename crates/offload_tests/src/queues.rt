@@ -96,7 +96,7 @@ fn each_read_fails_over_two_queues(rt: HostRuntime) -> Result<(), Fail> {
     Ok(())
 }
 
-// At each write or flush that fails a front of the output is in the sink.
+// At each write or flush that fails a prefix of the output is in the sink.
 #[test]
 fn each_write_fails_over_two_queues(rt: HostRuntime) -> Result<(), Fail> {
     let alloc = rt.alloc();

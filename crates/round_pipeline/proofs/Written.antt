@@ -131,7 +131,7 @@ module _ (blocks : ℕ) (state : RoundsState) (file : FileHead) where
         λ f. subst (AppendsFront h h1) (sym is) (front_more h h1 x.done (merging blocks (options_of state) to.place y.0).output (subst (AppendsFront h h1) x.wrote f)) in
         fails_ends end fails gone bytes left split wrote) first lost
 
-    -- a front of it is one of what comes of all the bytes, whatever follows
+    -- a prefix of it is one of what comes of all the bytes, whatever follows
     fails_front : (end : MergeEnd) → Fails h h1 (round_output (options_of state) file.order (map packet_of read.round.packets)) end → AppendsFront h h1
         (round_output (options_of state) file.order (map packet_of read.round.packets))
     fails_front end (inl f) = f.1

@@ -12,7 +12,7 @@ use skb::Skb;
 
 /// Writes the bytes of a buffer, slice by slice.
 ///
-/// `WriteFault` only where the sink's count of faults rose; a front of the bytes was then written.
+/// `WriteFault` only where the sink's count of faults rose; a prefix of the bytes was then written.
 pub fn write_buffer<K: Sink>(sink: &mut K, frame: &Skb) -> Result<(), WriteFault>
     ensures ok { OnOk result (Appends (K.held sink.old) (K.held sink.new) (buffer_bytes frame.now)) }
     ensures err { OnErr result (AppendsFront (K.held sink.old) (K.held sink.new)

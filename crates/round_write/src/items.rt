@@ -14,7 +14,7 @@ use pcap_io::FileHead;
 
 /// Writes an item of a queue as a record.
 ///
-/// `WriteFault` only where the sink's count of faults rose; a front of the record was then written.
+/// `WriteFault` only where the sink's count of faults rose; a prefix of the record was then written.
 pub fn write_item<K: Sink>(
     sink: &mut K,
     file: &FileHead,
@@ -38,7 +38,7 @@ pub fn write_item<K: Sink>(
 
 /// Writes the items of a queue, each as a record.
 ///
-/// `WriteFault` only where the sink's count of faults rose; a front of their output was then written.
+/// `WriteFault` only where the sink's count of faults rose; a prefix of their output was then written.
 pub fn write_items<K: Sink>(
     sink: &mut K,
     file: &FileHead,

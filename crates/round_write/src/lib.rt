@@ -6,8 +6,8 @@
 //! one call, and then its part of the payload.
 //!
 //! Proved, at every sink: what was appended is exactly the record as the model has it (`record_bytes`, clauses `ok`),
-//! or a front of it where the sink's count of faults rose (`err`, `cause`). Of segments these are all of their records,
-//! in turn.
+//! or a prefix of it where the sink's count of faults rose (`err`, `cause`). Of segments these are all of their
+//! records, in turn.
 //!
 //! ```
 //! let first = write_record(&mut sink, &file, time, original, None, &segment);

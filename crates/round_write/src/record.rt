@@ -59,7 +59,7 @@ fn write_heads<K: Sink>(
 /// Writes a frame as a record, behind an offload header where one is given. `original` is the frame's own original
 /// length, in bytes.
 ///
-/// `WriteFault` only where the sink's count of faults rose; a front of the record was then written.
+/// `WriteFault` only where the sink's count of faults rose; a prefix of the record was then written.
 pub fn write_record<K: Sink>(
     sink: &mut K,
     file: &FileHead,

@@ -93,7 +93,7 @@ fn write_segment<K: Sink>(
 /// Writes the segments of a merged frame, each as a record: the headers of each are put together, and the payload is
 /// written from the frame's own buffer, slice by slice. It takes no memory.
 ///
-/// `WriteFault` only where the sink's count of faults rose; a front of the records was then written.
+/// `WriteFault` only where the sink's count of faults rose; a prefix of the records was then written.
 pub fn write_segments<K: Sink>(
     sink: &mut K,
     file: &FileHead,

@@ -116,7 +116,7 @@ module _ (blocks : ℕ) (options : Options) (k : ℕ) (p0 p1 p2 : Place) (a b c 
       subst (λ (l : List ℕ). WritesFront (merging blocks options p0) h h2 l left) (sym x.split)
       ((fronts_pass_on (merging blocks options p0) (merging blocks options p1) k x.gone x.done).after h h1 h2 rest left x.goes x.wrote y)
 
-  -- a front of what comes of what follows is one of what comes of all
+  -- a prefix of what comes of what follows is one of what comes of all
   pub fronts_then : (X Y : Type 0) → (X → Y) → Told a b (Ahead blocks options k p0 p1 h h1 t0 t1) → FrontUnless X (merging blocks options p1) b c h1 h2
       → FrontUnless Y (merging blocks options p0) a c h h2
   fronts_then X Y later first (inl failed) = inl (later failed)
@@ -339,14 +339,14 @@ module _ (blocks : ℕ) (state : RoundsState) (file : FileHead) (from to : Place
     last_front end result (inl w) = front_whole h h1 out w.1
     last_front end result (inr f) = fails_front result f
 
-    -- a front of the last round, whose end was read
+    -- a prefix of the last round, whose end was read
     pub ended_front : (end result : MergeEnd) (bytes left : List ℕ) (fault : Option CapFault) → length round < state.budget → needed (lengths_at from bytes) ≤ blocks
         → found_at from bytes ≡ in_front packets (ended fault)
         → WritesLast h h1 out end result → WritesFront passing h h1 bytes left
     ended_front end result bytes left fault fewer room found wrote =
         subst (AppendsFront h h1) (sym (ap (λ (x : Passed). x.output) (last_is bytes fault fewer room found))) (last_front end result wrote)
 
-    -- a front of a full round, whatever follows it
+    -- a prefix of a full round, whatever follows it
     pub full_front : (result : MergeEnd) (bytes left : List ℕ) → length round ≡ state.budget → to.file ≡ from.file → Fails h h1 out result → PassesRecords from to packets bytes left
         → WritesFront passing h h1 bytes left
     full_front result bytes left full same fails passes =
@@ -552,7 +552,7 @@ module _ (blocks : ℕ) (state : RoundsState) (file : FileHead) (from to : Place
   put_given (rounds.PoolEmpty need) step full fewer took puts told = no_step _ puts
   put_given rounds.NoMemory step full fewer took puts told = no_step _ puts
 
-  -- what was written is a front of what comes of all the bytes, unless the source failed
+  -- what was written is a prefix of what comes of all the bytes, unless the source failed
   abbrev Front : Type 0 → Type 0
   Front X = FrontUnless X (merging blocks (options_of state) from) a b h h1
 

@@ -143,7 +143,7 @@ goes_on blocks old new r bytes left next lawful passes tail =
     let b = passes.2 tail in
     (segmenting_goes_by_record blocks old (passes.0 ++ tail)).lawful r new tail next.fits lawful next.file next.offset b.found b.lengths
 
--- a front of what it comes to
+-- a prefix of what it comes to
 front_of : (h k : Option (List ℕ)) (blocks : ℕ) (old new : Place) (r : Packet) (bytes left : List ℕ) → IsNext blocks old new r → is_lawful_record r ≡ true
     → (passes : Passes old new (r ∷ []) bytes left)
     → AppendsFront h k (written old r) → AppendsFront h k (segmenting blocks old passes.0).output

@@ -31,7 +31,7 @@ pub record IsBehind (r : Packet) (head : AnyHead) (p : Held) : Type 0 where
   pub original : r.original ≡ p.original
   pub behind : packet_in r ≡ packet_behind (head_size head) p
 
--- all was written, or a front of it
+-- all was written, or a prefix of it
 abbrev pub Writes : List ℕ → Option (List ℕ) → Option (List ℕ) → Result (Unit {0}) Refused → Type 0
 Writes all old new (Ok _) = Appends old new all
 Writes all old new (Err BadOffload) = ⊥

@@ -34,7 +34,7 @@ use round_write::{Time, write_record, write_segments};
 pub(crate) enum Refused {
     /// The record isn't lawful; nothing of it is written.
     BadOffload,
-    /// The sink failed; a front of what is to be written is written.
+    /// The sink failed; a prefix of what is to be written is written.
     WriteFault,
 }
 

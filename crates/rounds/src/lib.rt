@@ -35,7 +35,7 @@
 //!   it never falls, however merging ends (`least`).
 //! - `given` of `merge_all`: what is written, and where it stops, is what the model makes of the capture's bytes
 //!   (`merging` of `offload_model`) with all options, whole rounds alone; a round that exceeds the blocks is told by
-//!   its number and its need. After a fault, or want of memory, it is that of the bytes that are gone, or a front of
+//!   its number and its need. After a fault, or want of memory, it is that of the bytes that are gone, or a prefix of
 //!   it. All blocks are home whatever the ending (`home`).
 //! - `taken` is the count of [`Intake`]'s own takes: `read_round`, `work_and_read`, `read_rest` and what goes by them
 //!   raise it, and no other call changes it (`home`, `same`), also where blocks come home on a shelf (`bring_in`).

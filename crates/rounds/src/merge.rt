@@ -38,9 +38,9 @@ pub enum MergeEnd {
     PoolEmpty { round: u64, need: u32 },
     /// The source failed; the output of the whole records before is written.
     ReadFault,
-    /// The sink failed; a front of the output is written.
+    /// The sink failed; a prefix of the output is written.
     WriteFault,
-    /// There was no memory; a front of the output is written.
+    /// There was no memory; a prefix of the output is written.
     NoMemory,
 }
 
@@ -260,7 +260,7 @@ impl Rounds {
     /// Merges the records of a capture, round by round, up to its end: each round is read, worked, written and ended.
     /// The sink is flushed once, after the last write.
     ///
-    /// `given` says of each ending what was read and written, `front` that this is a front of what comes of all the
+    /// `given` says of each ending what was read and written, `front` that this is a prefix of what comes of all the
     /// bytes that were given, unless the source failed, and `captured` that the packets are such as a capture may hold.
     /// A read fault or a write fault only where the count of the source or the sink rose. All blocks are home again,
     /// whatever the ending.

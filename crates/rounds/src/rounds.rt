@@ -180,7 +180,7 @@ impl Rounds {
     /// Writes what a round came to: queue by queue each item as a record, and then tap by tap its windows. The sink
     /// isn't flushed.
     ///
-    /// `WriteFault` only where the sink's count of faults rose; a front of the round's output was then written.
+    /// `WriteFault` only where the sink's count of faults rose; a prefix of the round's output was then written.
     pub fn write_round<K: Sink>(
         &self,
         worked: &Worked,

@@ -40,9 +40,9 @@ pub enum SegFault {
     PoolEmpty { need: u32 },
     /// The source failed; nothing is written for the record.
     ReadFault,
-    /// The sink failed; a front of the record's segments is written.
+    /// The sink failed; a prefix of the record's segments is written.
     WriteFault,
-    /// There was no memory; a front of the record's segments is written.
+    /// There was no memory; a prefix of the record's segments is written.
     NoMemory,
 }
 
