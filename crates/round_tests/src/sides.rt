@@ -44,7 +44,7 @@ fn full(read: RoundRead) -> Result<Round, Fail>
 }
 
 // A shelf with places for three blocks.
-fn shelf(alloc: Global) -> Result<Shelf, AllocError>
+fn empty_shelf(alloc: Global) -> Result<Shelf, AllocError>
     ensures empty { IfOk result (λ s. (home s.pool ≡ 0) × (s.pool.made ≡ 3)) }
 {
     let pool = Pool::empty(alloc, 3)?;
@@ -93,7 +93,11 @@ fn in_turn(alloc: Global) -> Result<([Step; 3], Vec<u8>, [u32; 4]), Fail> {
         mut intake,
         mut bench,
     } = Rounds::make(alloc, 3, 1, plain(1, 0, 64), false)?;
-    let (mut one, mut two, mut three) = (shelf(alloc)?, shelf(alloc)?, shelf(alloc)?);
+    let (mut one, mut two, mut three) = (
+        empty_shelf(alloc)?,
+        empty_shelf(alloc)?,
+        empty_shelf(alloc)?,
+    );
     let round = full(intake.read_round(&mut reader, &mut AllHome))?;
     let end = RoundEnd::Full;
     let first = put(
