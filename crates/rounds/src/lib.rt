@@ -61,9 +61,9 @@
 //! All receipts of a life weigh less than the whole. So where a mark's Sole isn't home something would still be held,
 //! and nothing is.
 //!
-//! Memory is taken in [`Rounds::make`] and [`SegmentRun::make`], and for lists of pieces: by a record of more than
-//! 1,984 bytes, and by each segment of a merged one. The first round takes that of its lanes, and a later one only
-//! where it has more for a lane; each round takes memory for the clones that are kept.
+//! Memory is taken in [`Rounds::make`] and [`SegmentRun::make`], and for the list of pieces of a record of more than
+//! 1,984 bytes. The first round takes that of its lanes, and a later one only where it has more for a lane; each round
+//! takes memory for the clones that are kept.
 //!
 //! ```
 //! let plan = Plan {
@@ -132,14 +132,9 @@
 //! - **What `read_rest` says is over the whole round** (`GivesRest`): of every place and bytes from which the first
 //!   packets were read. So it has the ends of `read_round` with no ghost data in a round, and `read_round` is the case
 //!   of no packets.
-//! - **A record is segmented with one spare.** Once a segment is written it is given back, and a Sole that this leaves
-//!   is the next spare; all else of it goes home at once. So 65,495 segments want no block beside the record's own, and
-//!   what a segment leaves never waits for the record's end.
-//! - **Room for what comes back is asked for before each segment**, for what the cutter has and five more, while all
-//!   that is out still has its place. A cutter's counts bound one segment against the one before and not all of a
-//!   record's; in fact the room is there since `make`, and asking costs a comparison.
-//! - **A record is judged before it is taken apart**, so one that isn't lawful goes home whole, as a packet that is
-//!   given up does.
+//! - **A record is segmented where it lies**: each packet's headers are put together beside it, and its payload goes to
+//!   the sink from the record's own blocks. So no packet takes a block or memory, and the record goes home once, as it
+//!   came, whether all of it was written or the sink failed.
 //! - **Outcomes have room for each block twice** (`Rounds`): once for its packet, and once for the clone that is kept
 //!   of it.
 #![tactic(auto)]
