@@ -21,7 +21,7 @@ bring_shelves-requires g c =
     let b = c.slots_beside.ensures in
     let e = c.ending-ended.ensures in
     let counted : c.run_sides-end.new.intake.home + homes_of (known_items c.slots_beside.new.self) + home c.run_sides-end.new.kept + shelved c.close-tokens.result.1.items + blocks_of (known_items c.ending-ended.new.from)
-        + blocks_out c.ending-ended.result ≡ c.args.rounds.now.blocks =
+    + blocks_out c.ending-ended.result ≡ c.args.rounds.now.blocks =
     omega (
       arith,
       r.sum,
@@ -66,7 +66,7 @@ invariant_of-rounds-2 g c =
     let b = c.slots_beside.ensures in
     let e = c.ending-ended.ensures in
     let counted : c.run_sides-end.new.intake.home + homes_of (known_items c.slots_beside.new.self) + home c.run_sides-end.new.kept + shelved c.close-tokens.result.1.items + blocks_of (known_items c.ending-ended.new.from)
-        + blocks_out c.ending-ended.result ≡ c.args.rounds.now.blocks =
+    + blocks_out c.ending-ended.result ≡ c.args.rounds.now.blocks =
     omega (
       arith,
       r.sum,
@@ -134,7 +134,7 @@ drop_parcels-requires g c =
     let b = c.slots_beside.ensures in
     let e = c.ending-ended.ensures in
     let counted : c.run_sides-end.new.intake.home + homes_of (known_items c.slots_beside.new.self) + home c.run_sides-end.new.kept + shelved c.close-tokens.result.1.items + blocks_of (known_items c.ending-ended.new.from)
-        + blocks_out c.ending-ended.result ≡ c.args.rounds.now.blocks =
+    + blocks_out c.ending-ended.result ≡ c.args.rounds.now.blocks =
     omega (
       arith,
       r.sum,
@@ -179,7 +179,7 @@ returns-clause-handled g c =
     let b = c.slots_beside.ensures in
     let e = c.ending-ended.ensures in
     let counted : c.run_sides-end.new.intake.home + homes_of (known_items c.slots_beside.new.self) + home c.run_sides-end.new.kept + shelved c.close-tokens.result.1.items + blocks_of (known_items c.ending-ended.new.from)
-        + blocks_out c.ending-ended.result ≡ c.args.rounds.now.blocks =
+    + blocks_out c.ending-ended.result ≡ c.args.rounds.now.blocks =
     omega (
       arith,
       r.sum,
