@@ -138,6 +138,20 @@ fn blocks_come_home_while_rounds_are_read(rt: HostRuntime) -> Result<(), Fail> {
     Ok(())
 }
 
+// A round is given up, and its blocks come home to an empty shelf.
+fn drop_to(bench: &mut Bench, round: Round, back: &mut Shelf) -> Result<(), Fail>
+    requires empty { home back.old.pool ≡ 0 }
+    requires made { back.old.pool.made ≡ bench.old.blocks }
+    requires within { round.blocks ≤ bench.old.blocks }
+{
+    if bench.make_room().is_err() {
+        round.discard();
+        return Err(Fail::from("there is memory"));
+    }
+    bench.drop_round(round, &mut back.pool);
+    Ok(())
+}
+
 // A round is read while all blocks are out, of which none comes home: why it has no more records, and the blocks that
 // are home then, and once the round before was dropped.
 fn lacking(alloc: Global) -> Result<(RoundEnd, u32, u32), Fail> {
@@ -148,13 +162,17 @@ fn lacking(alloc: Global) -> Result<(RoundEnd, u32, u32), Fail> {
         Ok(reader) => reader,
         Err(_) => return Err(Fail::from("the file header is lawful")),
     };
-    let mut rounds = Rounds::make(alloc, 3, 1, plain(1, 0, 64), false)?;
-    let first = full(rounds.read_round(&mut reader))?;
-    let RoundRead { round, end } = rounds.intake.read_round(&mut reader, &mut AllHome);
-    let home = rounds.intake.home();
+    let Rounds {
+        mut intake,
+        mut bench,
+    } = Rounds::make(alloc, 3, 1, plain(1, 0, 64), false)?;
+    let mut back = empty_shelf(alloc)?;
+    let first = full(intake.read_round(&mut reader, &mut AllHome))?;
+    let RoundRead { round, end } = intake.read_round(&mut reader, &mut AllHome);
     round.discard();
-    rounds.drop_round(first);
-    Ok((end, home, rounds.home()))
+    let home = intake.home();
+    drop_to(&mut bench, first, &mut back)?;
+    Ok((end, home, back.pool.home()))
 }
 
 #[test]
