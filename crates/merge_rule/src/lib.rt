@@ -26,8 +26,8 @@
 //!   judged of heads to all frames.
 //! - **Ethernet, IPv4 or IPv6, and TCP are compared at fixed places** (`plain`), as most packets have these alone:
 //!   slices whose lengths the compiler knows, with no loop, where the walk over a list of headers takes three.
-//!   Addresses and ports come first, so that another flow's packet is refused by one comparison. The clause is that of the walk
-//!   over that list (`AreHeadersNext`), and what is to lie between the fields is computed from their table.
+//!   Addresses and ports come first, so that another flow's packet is refused by one comparison. The clause is that of
+//!   the walk over that list (`AreHeadersNext`), and what is to lie between the fields is computed from their table.
 #![tactic(auto)]
 
 mod alike;

@@ -31,8 +31,8 @@ use std::sync::Wait;
 use std::thread;
 use std::thread::Threads;
 
-// The ring that rounds go by, an empty shelf for the first of them, one on which the last one stays, and others. Where there is no memory for them, or
-// for what is given back of all blocks, nothing is changed.
+// The ring that rounds go by, an empty shelf for the first of them, one on which the last one stays, and others. Where
+// there is no memory for them, or for what is given back of all blocks, nothing is changed.
 fn prepare<N: Naming>(
     alloc: Global,
     bench: &mut Bench,

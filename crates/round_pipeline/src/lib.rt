@@ -17,10 +17,10 @@
 //! begin, so what is behind it is read while it is worked. Where it isn't, or where there is no memory or no thread for
 //! a second side, it is worked by the thread that read it; so a capture of one round costs no thread for reading.
 //!
-//! The side that reads has the rounds' intake, whose pool it alone takes from; the side that works has their bench. What
-//! a round's work leaves comes home onto the shelf that came with the round: a pool without blocks of its own. The shelf
-//! goes back in a token, and its blocks into the pool. Only the last round's stay on a shelf with the side that works
-//! until both have ended: blocks are handed over where there is room for all that they may leave again.
+//! The side that reads has the rounds' intake, whose pool it alone takes from; the side that works has their bench.
+//! What a round's work leaves comes home onto the shelf that came with the round: a pool without blocks of its own. The
+//! shelf goes back in a token, and its blocks into the pool. Only the last round's stay on a shelf with the side that
+//! works until both have ended: blocks are handed over where there is room for all that they may leave again.
 //! There are three shelves, so reading is at most three rounds ahead. Before a record is read, where fewer blocks than
 //! `rounds::RECORD_BLOCKS` are home (no record needs more) while some are out, the side that reads waits for a token;
 //! so no record is left half read, and a round exceeds the blocks just where it does in one thread.

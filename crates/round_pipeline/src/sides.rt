@@ -99,7 +99,8 @@ fn send_home<R: Wait>(rt: &R, shelf: Pool, goes: bool, told: &mut Producer<Token
     bell.unpark();
 }
 
-// Handles each round that comes, and sends its blocks back; those of the last one are kept here. `None` where no reader has begun.
+// Handles each round that comes, and sends its blocks back; those of the last one are kept here. `None` where no reader
+// has begun.
 fn work_side<N: Naming, R: Wait, W: Works, T, E, H: RoundHandler<T, E>>(
     rt: &R,
     works: &mut W,

@@ -1,5 +1,5 @@
-//! Rounds that are driven one by one, each next one read beside the work, where memory may be refused: whatever call was
-//! refused, a prefix is written of what is written with ample memory, and all blocks are home.
+//! Rounds that are driven one by one, each next one read beside the work, where memory may be refused: whatever call
+//! was refused, a prefix is written of what is written with ample memory, and all blocks are home.
 ghost use Rattle.std.specs.Prelude.{◌≡◌, ◌+◌, ◌≤◌, IfNone, IfSome};
 ghost use Rattle.pcap_io.specs.declared.heads.Link.TheVariants.{Ethernet};
 ghost use Rattle.pcap_io.specs.Places.{IsReady};

@@ -127,8 +127,8 @@
 //! - **Whoever drives rounds one by one reads the next one beside the work** by `work_and_read`: one join, in which the
 //!   intake reads with all blocks that are home while the bench works. No block comes home before both have ended, so
 //!   blocks aren't shared, and taking one costs no locked step. A read that wants blocks of the round beside it pauses
-//!   between two records, by the same rule (`is_ready`): no header is kept and nothing is half read, and whether a round
-//!   exceeds the blocks is judged by all of them in `read_rest` too.
+//!   between two records, by the same rule (`is_ready`): no header is kept and nothing is half read, and whether a
+//!   round exceeds the blocks is judged by all of them in `read_rest` too.
 //! - **What `read_rest` says is over the whole round** (`GivesRest`): of every place and bytes from which the first
 //!   packets were read. So it has the ends of `read_round` with no ghost data in a round, and `read_round` is the case
 //!   of no packets.
