@@ -19,7 +19,7 @@
 //! buffer that is filled from its end, each header pushed before what it carries), `frame`, `maker` (one record after
 //! the other), and on these `capture` and `source`.
 //!
-//! Tests: `offload_tests`, module `made`.
+//! Tests: `word_tests`, module `made`.
 //!
 //! Why so:
 //!

@@ -1,9 +1,8 @@
 //! The lines that `check` writes.
 
 use crate::lines::{CAPTURE, run_line};
-use crate::queues::{in_turn, pair};
+use crate::queues::{KEY, in_turn, pair};
 use crate::row_frames::{Frame, NEXT, PLAIN, capture_of};
-use crate::words::KEY;
 use offload_run::Status;
 use pcap_io::{CapFault, CapKind};
 use std::alloc::{AllocError, Global};

@@ -1,5 +1,4 @@
-//! Tests of whole runs of the program ([`offload_run`]), over sources and sinks in memory, and of what stands beside:
-//! its words ([`offload_words`]), generated captures ([`cap_make`]) and the lines of the log ([`status_log`]).
+//! Tests of whole runs of the program ([`offload_run`]), over sources and sinks in memory.
 //!
 //! A crate of their own, since one with tests is proved twice, with them and without.
 #![tactic(auto)]
@@ -23,10 +22,6 @@ mod kinds;
 #[cfg(test)]
 mod lines;
 #[cfg(test)]
-mod logged;
-#[cfg(test)]
-mod made;
-#[cfg(test)]
 mod options;
 #[cfg(test)]
 mod queues;
@@ -34,5 +29,3 @@ mod queues;
 mod row_frames;
 #[cfg(test)]
 mod rows;
-#[cfg(test)]
-mod words;

@@ -3,10 +3,9 @@
 //! The numbers were worked out by hand; the queues of flows under a hash are those of `contrib/by_definition`.
 
 use crate::lines::run_line;
-use crate::queues::{in_turn, pair};
+use crate::queues::{KEY, in_turn, pair};
 use crate::row_frames::{Frame, NEXT, PLAIN, capture_of};
 use crate::rows::{SEGMENT, Said, lanes_in, said_in};
-use crate::words::KEY;
 use offload_run::Status;
 use std::alloc::{AllocError, Global};
 use std::sync::Wait;

@@ -12,6 +12,10 @@ use std::thread::Threads;
 
 pub const TWO_QUEUES: &str = "offload merge --queues 2 --budget 4";
 
+/// The key with which the Toeplitz hash is shown in most descriptions.
+pub const KEY: &str =
+    "6d5a56da255b0ec24167253d43a38fb0d0ca2bcbae7b30b477cb2da38030f20c6a42b73bbeac01fa";
+
 // A capture of the first packets of two flows in turn, of which the first one has queue 0 of two.
 pub fn in_turn(alloc: Global, count: u16) -> Result<Vec<u8>, AllocError> {
     let mut frames = Vec::new(alloc);

@@ -21,7 +21,7 @@
 //! `numbers` the options with one number, `words` the top call. `OptionRows`, `OptionNumbers` and `Subcommands` in
 //! `proofs/` hold for any command set whose arguments are options with one value.
 //!
-//! Tests: `offload_tests`, modules `words` and `options`.
+//! Tests: `word_tests`, module `words`, and `offload_tests`, module `options`.
 //!
 //! Why so:
 //!

@@ -9,7 +9,7 @@
 //! log_malformed(&mut log, "ShortRecord", 24, 0); // malformed: ShortRecord at 24 in record 0
 //! ```
 //!
-//! Tests: `offload_tests`, module `logged`.
+//! Tests: `word_tests`, module `logged`.
 //!
 //! Why so:
 //!

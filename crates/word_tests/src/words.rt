@@ -1,14 +1,32 @@
 //! Lines of words, taken and refused.
 
-use crate::lines::words;
 use frame_layout::Choice;
 use offload_words::{
     Command, MergeOptions, SegmentOptions, WordsFault, every_faultless_line_is_a_command,
     parse_words,
 };
-use std::alloc::Global;
+use std::alloc::{AllocError, Global};
 use std::test::Fail;
 use tap_filter::Instr;
+
+// A word of a line, in which ~ stands for a space.
+fn word_of(alloc: Global, text: &str) -> Result<String, AllocError> {
+    let mut word = String::new(alloc);
+    for c in text.chars() {
+        word.push(if c == '~' { ' ' } else { c })?;
+    }
+    Ok(word)
+}
+
+// The words of a line, one space between two of them, and ~ for one within a word; at a space at the end the last word
+// is empty.
+pub fn words(alloc: Global, line: &str) -> Result<Vec<String>, AllocError> {
+    let mut words = Vec::new(alloc);
+    for word in line.split(' ') {
+        words.push(word_of(alloc, word)?)?;
+    }
+    Ok(words)
+}
 
 /// The options of `merge` that take a number.
 #[derive(Clone, Copy, Debug, PartialEq, Eq)]
@@ -238,7 +256,7 @@ fn check_and_its_numbers(rt: HostRuntime) -> Result<(), Fail> {
 }
 
 /// The key with which the Toeplitz hash is shown in most descriptions.
-pub const KEY: &str =
+const KEY: &str =
     "6d5a56da255b0ec24167253d43a38fb0d0ca2bcbae7b30b477cb2da38030f20c6a42b73bbeac01fa";
 
 /// The options of `merge`, or of the merging of `check`.

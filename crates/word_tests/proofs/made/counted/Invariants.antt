@@ -1,5 +1,5 @@
 use Rattle.pcap_io.specs.Places.{IsReady}
-use Rattle.offload_tests.proofs.made.counted.Given as goal
+use Rattle.word_tests.proofs.made.counted.Given as goal
 
 abbrev pub invariant-loop : goal.invariant-loop
 invariant-loop l = IsReady l.reader.place
