@@ -6,7 +6,7 @@ use Rattle.std.proofs.lemmas.List.{take_more, take_all, length-set, length-repli
 use Rattle.frame_layout.specs.Key.{key_eq}
 use Rattle.gro.specs.declared.flows.Entry.{Entry}
 use Rattle.gro.specs.declared.flows.Flows.{Flows}
-use Rattle.gro.specs.Flows.{or_else, last_in, joined, place_of, bucket_of, no_entry, entry_at, IsHead, AreFlows, Puts}
+use Rattle.gro.specs.Flows.{or_else, last_in, joined, bucket_of, no_entry, entry_at, IsHead, AreFlows, Puts}
 use Rattle.gro.proofs.Keys.{same_key}
 
 or_none : (o : Option (Option ℕ)) → or_else o None ≡ o

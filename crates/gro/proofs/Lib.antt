@@ -1,7 +1,9 @@
+mod Beside
 mod Chains
 mod Comes
 mod Emptying
 mod Flowing
+mod Following
 mod Indexing
 mod Joined
 mod Judged
@@ -9,10 +11,11 @@ mod Keys
 mod Lent
 mod Lining
 mod Merging
-mod Packets
 mod Placing
 mod Releasing
+mod RunItems
 mod Running
 mod Tables
 mod Taking
 pub mod Finishing
+pub mod Payloads

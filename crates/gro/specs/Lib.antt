@@ -5,6 +5,7 @@ pub mod Flows
 pub mod Held
 pub mod Index
 pub mod Items
+pub mod Packets
 pub mod Places
 pub mod Slots
 pub mod Table

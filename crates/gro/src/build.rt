@@ -15,11 +15,11 @@ ghost use Rattle.gro.specs.Items.{HoldsAll};
 ghost use Rattle.gro.specs.Waiting.{chosen, AreThere, Empties};
 
 use crate::Packet;
+use crate::merged_run::fill_headers;
 use crate::run::Run;
 use crate::waiting::take_at;
 use frags::{Outcomes, PieceBuilder};
 use frame_layout::Layout;
-use header_fill::merge_headers;
 use inet_sum::Partial;
 use raw_block::Sole;
 use skb::{FRONT, HEADROOM, Skb, write_at};
@@ -153,8 +153,7 @@ fn put_headers(block: &mut Sole, head: &[u8], layout: &Layout, flags: u8, payloa
     let at = layout.payload_at();
     let _ = block.bytes();
     let range = block.range_mut(HEADROOM, HEADROOM + at);
-    range.copy_from_slice(&head[..at]);
-    merge_headers(range, layout.headers(), flags, payload);
+    fill_headers(range, head, layout, flags, payload);
 }
 
 /// The packets of a run, whose layout this is, as one buffer: the first one's headers, merged, and all payloads. The

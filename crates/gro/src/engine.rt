@@ -57,6 +57,18 @@ fn settle(flows: &mut Flows, slot: &Slot, candidacy: &Candidacy, is_open: bool)
 }
 
 impl Engine {
+    /// An engine without memory, which has to be started.
+    pub fn new(alloc: Global) -> Engine
+        ensures ready { IsReady result 0 }
+    {
+        Engine {
+            runs: Vec::new(alloc),
+            next: Vec::new(alloc),
+            flows: Flows::new(alloc),
+            last: None,
+        }
+    }
+
     /// An engine for lists of at most `limit` packets. All memory is taken here.
     pub fn make(alloc: Global, limit: u32) -> Result<Engine, AllocError>
         ensures ready { IfOk result (λ e. IsReady e limit) }

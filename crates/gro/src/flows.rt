@@ -56,6 +56,18 @@ fn bucket(key: &Key) -> usize
 }
 
 impl Flows {
+    /// No flow has an open run yet, and there is no memory for any.
+    pub(crate) fn new(alloc: Global) -> Flows
+        ensures flows { AreFlows result }
+        ensures none { (q : Option (List ℕ)) → place_of result q ≡ None }
+    {
+        let entries = Vec::new(alloc);
+        Flows {
+            heads: [0; 128],
+            entries,
+        }
+    }
+
     /// No flow has an open run yet. The memory for n is taken.
     pub(crate) fn with_capacity(alloc: Global, n: usize) -> Result<Flows, AllocError>
         ensures flows { IfOk result AreFlows }

@@ -8,10 +8,10 @@
 //!   item      [headers|payload: 200 bytes in all] --> the rest of each payload, where it lies, as pieces
 //! ```
 //!
-//! A [`Packet`] is a buffer with two spare blocks. Of a run of packets the first one's spare becomes the new head: its
-//! headers are written there, and edited there, so that no block is written that somebody else may hold. Behind them
-//! stand so many bytes of the payloads that the head has 200, and all else moves. An [`Item`] is what a run comes to,
-//! with the blocks that merging has left.
+//! A [`Packet`] is a buffer with two spare blocks. Where a run is joined the first one's spare becomes the new head:
+//! its headers are written there, and edited there, so that no block is written that somebody else may hold. Behind
+//! them stand so many bytes of the payloads that the head has 200, and all else moves. An [`Item`] is what a run comes
+//! to, with the blocks that merging has left.
 //!
 //! No packet moves while it is merged. They stand in one list, each in a [`Slot`], and a run is a chain of indices into
 //! it: of its first packet, of its last one, and for each packet that of the next (`Run`, `next` of the [`Engine`]).
@@ -29,8 +29,24 @@
 //! - `takes` of `receive`: so it goes packet by packet, and `are`: each index stands in one chain, once.
 //! - `ready` of `make` and `start`: there is room for so many packets, whatever was merged before.
 //!
-//! A [`RoundTable`] owns its packets, in such a list with their spares beside. It receives them one after the other,
-//! and finishes into their items. Proved, by the names of its clauses, whatever the packets are:
+//! What a run comes to is read from the [`Run`] and its first packet, and nothing is joined. Proved, of any run that an
+//! engine has:
+//!
+//! - `head` of `head`: the offload header of its record; `len` of `frame_len` and `original`: its frame's length, and
+//!   its original length.
+//! - `frame` of `put_headers`: the headers of the merged frame, behind which come the payloads of all, as they lie.
+//!
+//! [`Packets`] is a list whose packets stay where they were read, each in its slot, with their spares beside: a round
+//! of packets is one, is merged, written and compared as it lies, and goes home from there. Proved:
+//!
+//! - `items` of `push` and `reverse`, `some` of `pop`: which packets it has, and in which order; `slots`: an engine
+//!   reads just these; `room`: how many more it may take.
+//! - `cloned` of `clone_at`: one packet's buffer is cloned as `Skb::clone` says, and all else stays as it was.
+//! - `kept`, `grows` and `places` of `release_all`: all that the packets hold is given back, in places that were
+//!   reserved before.
+//!
+//! A [`RoundTable`] owns packets too, which it moves into items. It receives them one after the other, and finishes
+//! into their items. Proved, by the names of its clauses, whatever the packets are:
 //!
 //! - `received` of `make` and `receive`: its runs are the maximal mergeable runs of each flow of the packets so far, in
 //!   the order of their first packets, and hold these packets and nothing else; `count` and `many`: so many blocks and
@@ -71,13 +87,15 @@
 //!
 //! Its parts: `candidacy` (a packet judged by its head and its payload's sum), `flows` (the open run of each flow,
 //! under `frame_layout`'s `Key`), `slot` (a packet in a list), `run` (a run by index, and whether it takes one more
-//! packet), `engine` (the runs of a list, in the order of their first packets, and how they are linked); `packet_list`
-//! (a table's packets, with their spares), `table` (`RoundTable`); `places` (the lists that items need, made before
-//! anything moves), `waiting` (packets as runs take them out of the list), `build` (the join into one buffer), `item`
-//! (what a run comes to), `shelf` (memory that serves items to come). `specs/Chains.antt` says what a chain of indices
-//! is, `specs/Engine.antt` what is known of an engine and what one more packet does, `specs/Index.antt` what is found
-//! of a flow, `specs/Waiting.antt` which packets are taken, `specs/Table.antt` what a contract sees of a table,
-//! `specs/Items.antt` what an item holds.
+//! packet), `engine` (the runs of a list, in the order of their first packets, and how they are linked), `merged_run`
+//! (what a run comes to, as its packets lie); `packet_list` (slots, with the packets' spares beside), `packets` (such a
+//! list, whose packets stay), `table` (`RoundTable`); `places` (the lists that items need, made before anything moves),
+//! `waiting` (packets as runs take them out of the list), `build` (the join into one buffer), `item` (what a table's
+//! run comes to), `shelf` (memory that serves items to come). `specs/Chains.antt` says what a chain of indices is,
+//! `specs/Engine.antt` what is known of an engine and what one more packet does, `specs/Index.antt` what is found of a
+//! flow, `specs/Packets.antt` what a contract sees of packets in a list, `specs/Waiting.antt` which packets are taken,
+//! `specs/Table.antt` what a contract sees of a table, `specs/Items.antt` what an item holds. `proofs/Payloads.antt`
+//! has the laws that a reader of a run's payloads needs.
 //!
 //! Tests: `merge_tests`, modules `merging` and `home`.
 //!
@@ -143,8 +161,10 @@ mod candidacy;
 mod engine;
 mod flows;
 mod item;
+mod merged_run;
 mod packet;
 mod packet_list;
+mod packets;
 mod places;
 mod run;
 mod shelf;
@@ -155,6 +175,7 @@ mod waiting;
 pub use engine::Engine;
 pub use item::Item;
 pub use packet::Packet;
+pub use packets::Packets;
 pub use run::Run;
 pub use slot::Slot;
 pub use table::RoundTable;

@@ -4,6 +4,7 @@ ghost use Rattle.std.specs.VecDeque.{deque_len, deque_capacity};
 ghost use Rattle.frags.specs.Account.{Keeps, both, of_outcomes};
 ghost use Rattle.frags.specs.Growth.{Grows};
 ghost use Rattle.gro.specs.Held.{of_packets, counts_of};
+ghost use Rattle.gro.specs.Packets.{room_of};
 ghost use Rattle.gro.specs.Slots.{slot_of, spares_of, held_of, ArePaired, HasSlots};
 ghost use Rattle.gro.specs.Waiting.{lined_up};
 
@@ -27,6 +28,16 @@ pub struct PacketList {
 }
 
 impl PacketList {
+    /// No packets, and no memory yet.
+    pub(crate) fn new(alloc: Global) -> PacketList
+        ensures none { (result.slots.items ≡ []) × (result.spares.items ≡ []) }
+    {
+        PacketList {
+            slots: Vec::new(alloc),
+            spares: Vec::new(alloc),
+        }
+    }
+
     /// No packets. The memory for n is taken.
     pub(crate) fn with_capacity(alloc: Global, n: usize) -> Result<PacketList, AllocError>
         ensures none { IfOk result (λ l. (l.slots.items ≡ []) × (l.spares.items ≡ [])) }
@@ -82,13 +93,15 @@ impl PacketList {
     }
 
     /// The last packet, which leaves the list.
-    fn pop(&mut self) -> Option<Packet>
+    pub(crate) fn pop(&mut self) -> Option<Packet>
         requires paired { ArePaired self.old }
         ensures paired { ArePaired self.new }
         ensures some { IfSome result (λ p. held_of self.old ≡ held_of self.new ++ (p ∷ [])) }
         ensures fewer { IfSome result (λ p. length self.new.slots.items + 1 ≡ length self.old.slots.items) }
+        ensures room { IfSome result (λ _. room_of self.old + 1 ≤ room_of self.new) }
         ensures none { IfNone result ((self.old.slots.items ≡ []) × (self.new.slots.items ≡ [])
             × (self.new.spares.items ≡ [])) }
+        ensures same { IfNone result (room_of self.new ≡ room_of self.old) }
     {
         let slot = self.slots.pop()?;
         let Some(spares) = self.spares.pop() else {

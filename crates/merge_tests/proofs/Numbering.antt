@@ -2,7 +2,9 @@
 use Rattle.std.proofs.Common.{◌≡◌, ℕ, ◌+◌, ◌<◌, ◌≤◌, List, [], ◌∷◌, ◌++◌, length, map, arith, length-append}
 use Rattle.std.specs.List.{AllByRecursion}
 use Rattle.maximal_runs.proofs.Pass.{all_append}
+use Rattle.gro.specs.declared.packet.Packet.{Packet}
 use Rattle.gro.specs.declared.slot.Slot.{Slot}
+use Rattle.gro.specs.Held.{count_of, counts_of}
 use Rattle.gro.specs.Slots.{packet_in, IsSlot}
 use Rattle.gro.specs.Engine.{DoRise}
 use Rattle.merge_tests.specs.Numbered.{AreNumbered}
@@ -27,3 +29,8 @@ numbered_more ss s n e is a = record {
     below_as : (ts : List Slot) → AllByRecursion (λ (t : Slot). t.number < n) ts → AllByRecursion (λ (t : Slot). t.number < s.number) ts
     below_as [] b = tt
     below_as (t ∷ ts) b = (omega (arith, b.0, e), below_as ts b.1)
+
+-- what all of them hold
+pub counts_more : (ps : List Packet) (p : Packet) → counts_of (ps ++ (p ∷ [])) ≡ counts_of ps + count_of p
+counts_more [] p = omega arith
+counts_more (q ∷ ps) p = omega (arith, counts_more ps p)

@@ -8,6 +8,7 @@ mod frames;
 mod joins;
 mod layers;
 mod long;
+mod lying;
 mod rounds;
 
 use frags::{Outcomes, Pieces};

@@ -6,7 +6,7 @@ use frags::Outcomes;
 use std::test::Fail;
 
 // The bytes that count up from one.
-fn counting<const N: usize>(first: u8) -> [u8; N] {
+pub(super) fn counting<const N: usize>(first: u8) -> [u8; N] {
     let mut bytes = [first; N];
     for i in 0..N {
         bytes[i] = first.wrapping_add((i % 256) as u8);

@@ -6,7 +6,7 @@ use Rattle.gro.specs.Chains.{chain_of}
 use Rattle.gro.specs.Waiting.{chosen, AreThere, Empties}
 use Rattle.gro.proofs.Chains.{chain_step, chain_done}
 use Rattle.gro.proofs.Emptying.{found_below, chain_cut, there_on, distinct_on, empties_first, empties_none}
-use Rattle.gro.proofs.Packets.{then_all, none_taken}
+use Rattle.gro.proofs.Following.{then_all, none_taken}
 use Rattle.gro.proofs.build.take_packets.Goals as goal
 
 pub take_packet-end-requires-clause-head : goal.take_packet-end-requires-clause-head

@@ -1,0 +1,6 @@
+use Rattle.std.proofs.Common.{refl}
+use Rattle.gro.proofs.Flowing.{flows_none}
+use Rattle.gro.proofs.flows.Flows.new.Goals as goal
+
+pub returns-clause-flows : goal.returns-clause-flows
+returns-clause-flows c = flows_none _ c.new-entries.ensures.items refl
