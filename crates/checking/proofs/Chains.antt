@@ -1,18 +1,16 @@
 -- Packets compared one by one with those of a flow.
-use Rattle.std.proofs.Common.{◌≡◌, ℕ, zero, suc, ◌+◌, ◌<◌, ◌≤◌, Bool, true, false, cond, Option, List, [], ◌∷◌, length, get_or, drop, refl, sym, ap, ◌∙◌, subst, arith, length-drop, bytes_eq}
-use Rattle.std.specs.Prelude.{◌==◌, if◌then◌else◌, Decides}
+use Rattle.std.proofs.Common.{◌≡◌, ℕ, zero, suc, ◌+◌, ◌<◌, ◌≤◌, Bool, true, false, cond, Option, List, [], ◌∷◌, length, get_or, drop, refl, sym, ap, ◌∙◌, subst, arith, length-drop}
+use Rattle.std.specs.Prelude.{if◌then◌else◌, Decides}
 use Rattle.std.specs.List.{filter}
 use Rattle.std.specs.Int.{from_bool}
 use Rattle.std.specs.Bool.{one_answer}
 use Rattle.std.proofs.lemmas.List.{drop_more, drop_all}
-use Rattle.std.proofs.lemmas.Bool.{eqb-true, eq-eqb}
-use Rattle.std.proofs.lemmas.Bool.Decides.{Decides-and}
-use Rattle.std.proofs.lemmas.Slice.Eq.{bytes_eq-Decides}
 use Rattle.frame_layout.specs.Key.{key_of}
 use Rattle.pcap_io.specs.Capture.{Packet}
 use Rattle.offload_model.specs.Rounds.{is_of, key_in}
 use Rattle.offload_model.proofs.Items.{is_key_same}
 use Rattle.checking.specs.Returned.{is_same, equal_in}
+use Rattle.checking.proofs.Returning.{decides_same}
 use Rattle.checking.specs.Chain.{left_at, IsOwn, Leads, IsChain, Counts}
 
 -- ---- a flow's packets
@@ -30,14 +28,6 @@ next_in ps next q at d e c own l =
     (ap (filter (is_of q)) (drop_more ps at d l) ∙ ap (λ v. cond v (x ∷ left_at ps q (at + 1)) (left_at ps q (at + 1))) is ∙ ap (λ z. x ∷ z) (sym lead.same), lead.own)
 
 -- ---- the same packet
-
-eq_decides : (n m : ℕ) → Decides (n == m) (m ≡ n)
-eq_decides n m = (λ e. sym (eqb-true n m e), λ e. eq-eqb n m (sym e))
-
-pub decides_same : (x y : Packet) → Decides (is_same x y) ((y.original ≡ x.original) × (y.frame ≡ x.frame))
-decides_same x y =
-    Decides-and (x.original == y.original) (bytes_eq x.frame y.frame) (eq_decides x.original y.original)
-    (λ e. sym ((bytes_eq-Decides x.frame y.frame).0 e), λ e. (bytes_eq-Decides x.frame y.frame).1 (sym e))
 
 pub same_packet : (b : Bool) (x y : Packet) → Decides b ((y.original ≡ x.original) × (y.frame ≡ x.frame)) → b ≡ is_same x y
 same_packet b x y d = one_answer b (is_same x y) d (decides_same x y)

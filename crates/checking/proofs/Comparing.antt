@@ -1,23 +1,18 @@
--- Items of runs, compared with the packets of their flows.
+-- What runs come to, compared with the packets of their flows.
 use Rattle.std.proofs.Common.{◌≡◌, ℕ, suc, ◌+◌, Bool, true, false, cond, Option, List, [], ◌∷◌, ◌++◌, length, map, drop, refl, sym, ap, ◌∙◌, subst, arith}
 use Rattle.std.specs.Prelude.{if◌then◌else◌, nat_le}
 use Rattle.std.specs.List.{filter, AllByRecursion}
 use Rattle.pcap_io.specs.Capture.{Packet}
 use Rattle.offload_model.specs.Merged.{Merged, merged_of}
 use Rattle.offload_model.specs.Rounds.{is_key}
-use Rattle.offload_model.specs.Tests.{is_lawful_by}
-use Rattle.offload_model.specs.Written.{head_of}
 use Rattle.offload_model.proofs.Flows.{IsItem}
 use Rattle.offload_model.proofs.Items.{is_key_self, is_key_same}
-use Rattle.gro.specs.declared.item.Item.{Item}
-use Rattle.gro.specs.Items.{item_of}
-use Rattle.gro.specs.Table.{AreReady}
 use Rattle.checking.specs.declared.totals.QueueTotals.{QueueTotals}
 use Rattle.checking.specs.Counts.{queue_plus, is_merged}
 use Rattle.checking.specs.declared.kept_flows.KeptFlows.{KeptFlows}
 use Rattle.checking.specs.Returned.{Lefts, packets_in, flow_in, equal_in, behind_item, behind_items}
 use Rattle.checking.specs.KeptFlows.{left_in, CountsIn}
-use Rattle.checking.specs.Items.{AreLeft, IsToCompare, totals_of_item, no_totals, totals_of_items}
+use Rattle.checking.specs.Items.{AreLeft, totals_of_item, no_totals, totals_of_items}
 use Rattle.checking.proofs.Flowing.{of_flow, sizes}
 use Rattle.checking.proofs.Returning.{compared, left_behind}
 use Rattle.checking.proofs.RunItems.{IsRunItem, run_item}
@@ -35,27 +30,6 @@ item_counted ps f g left r n a c = (c.count ∙ ap (equal_in (packets_in r)) (a.
     by q false e =
         let apart : q ≡ flow_in r → ⊥ = λ h. (let t : true ≡ false = sym (is_key_self q) ∙ ap (λ z. is_key q z) h ∙ e in cc) in
         c.others q apart ∙ a.are q ∙ ap (λ v. if v then drop (length (packets_in r)) (left q) else left q) (sym e)
-
--- the items of runs may be compared
-pub to_compare : (items : List Item) (runs : List (List Packet)) → map item_of items ≡ map merged_of runs → AllByRecursion IsItem runs → AreReady items → AllByRecursion IsToCompare items
-to_compare [] runs e i r = tt
-to_compare (item ∷ items) [] e i r = absurd cc
-to_compare (item ∷ items) (run ∷ runs) e i r =
-    let t : item_of item ∷ map item_of items ≡ merged_of run ∷ map merged_of runs = e in
-    let first : item_of item ≡ merged_of run = cc in
-    let rest : map item_of items ≡ map merged_of runs = cc in
-    (one run first i.0, to_compare items runs rest i.1 r.1)
-  where
-    one : (run : List Packet) → item_of item ≡ merged_of run → IsItem run → IsToCompare item
-    one [] is i = absurd (omega (arith, i.full))
-    one (p ∷ ps) is i =
-        let k : IsRunItem p (p ∷ ps) (merged_of (p ∷ ps)) = run_item p ps i in
-        record {
-          front = r.0.0;
-          original = omega (arith, ap (λ z. z.packet.original) is, k.original);
-          short = omega (arith, ap (λ z. length z.packet.frame) is, k.short);
-          lawful = ap (λ z. is_lawful_by (head_of 0 z) z.packet) is ∙ k.lawful;
-        }
 
 -- ---- totals
 

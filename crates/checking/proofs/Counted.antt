@@ -19,10 +19,10 @@ use Rattle.rounds.specs.declared.round.RoundRead.{RoundRead}
 use Rattle.rounds.specs.Merging.{options_of, TakesAll}
 use Rattle.rounds.specs.RoundsState.{RoundsState}
 use Rattle.rounds.proofs.Merging.{done_taken, fewer_by, is_short}
-use Rattle.round_pipeline.specs.Handled.{Ends, Handled}
-use Rattle.round_pipeline.specs.Parcels.{is_full}
-use Rattle.round_pipeline.specs.Reads.{Spot, ReadRound, Reads}
-use Rattle.round_pipeline.proofs.Rows.{reads_lose}
+use Rattle.pipeline.specs.Handled.{Ends, Handled}
+use Rattle.pipeline.specs.Parcels.{is_full}
+use Rattle.pipeline.specs.Reads.{Spot, ReadRound, Reads}
+use Rattle.pipeline.proofs.Rows.{reads_lose}
 use Rattle.checking.specs.Whole.{Checked}
 use Rattle.checking.specs.Handling.{ending_of, Ahead, AreOf, CountsLast, CountsRound, EndsBehind}
 use Rattle.checking.specs.declared.capture.CheckEnd.{CheckEnd}

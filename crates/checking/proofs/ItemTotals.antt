@@ -1,8 +1,10 @@
 -- The totals of a queue's items, one item after the other.
-use Rattle.std.proofs.Common.{◌≡◌, ℕ, zero, suc, ◌+◌, ◌<◌, ◌≤◌, List, [], ◌∷◌, length, map, get_or, drop, refl, sym, ap, ◌∙◌, subst, arith}
+use Rattle.std.proofs.Common.{◌≡◌, ℕ, zero, suc, ◌+◌, ◌<◌, ◌≤◌, true, List, [], ◌∷◌, length, map, get_or, drop, refl, sym, ap, ◌∙◌, subst, arith}
 use Rattle.std.specs.Prelude.{if◌then◌else◌, nat_le}
+use Rattle.std.specs.Bool.{one_answer}
 use Rattle.std.specs.Int.{from_bool}
 use Rattle.std.specs.List.{AllByRecursion}
+use Rattle.std.proofs.lemmas.Bool.{leb-true, le-leb}
 use Rattle.std.proofs.lemmas.List.{length-map, get_or-map, drop_more, drop_all}
 use Rattle.pcap_io.specs.Capture.{Packet}
 use Rattle.offload_model.specs.Merged.{Merged}
@@ -13,6 +15,13 @@ use Rattle.checking.specs.Returned.{Lefts, packets_in, flow_in, equal_in, behind
 use Rattle.checking.specs.Items.{AreLeft, totals_of_item, totals_of_items}
 use Rattle.checking.proofs.Chains.{ones}
 use Rattle.checking.proofs.Comparing.{same_totals, none_behind, plus_more}
+
+-- of two packets or more
+pub several_is : (more n : ℕ) → n ≡ more + 1 → from_bool (nat_le 1 more) ≡ from_bool (nat_le 2 n)
+several_is more n e =
+    ap from_bool (one_answer (nat_le 1 more) (nat_le 2 n)
+    (λ (t : nat_le 1 more ≡ true). leb-true 1 more t, λ (l : 1 ≤ more). le-leb 1 more l)
+    (λ t. (let l : 2 ≤ n = leb-true 2 n t in omega (arith, e, l)), λ l. le-leb 2 n (omega (arith, e, l))))
 
 pub one_added : (t : QueueTotals) (left : Lefts) (r : Merged) (count : ℕ) → count ≡ equal_in (packets_in r) (left (flow_in r))
     → record { records = t.records + r.n; items = t.items + 1; merged = t.merged + from_bool (nat_le 2 r.n); returned = t.returned + count } ≡ queue_plus t (totals_of_item left r)

@@ -6,14 +6,14 @@ use Rattle.std.proofs.lemmas.List.{length-map}
 use Rattle.std.proofs.lemmas.List.FromFn.{length-range_with_len}
 use Rattle.pcap_io.specs.Capture.{Packet}
 use Rattle.offload_model.specs.Written.{Options, shown_of}
-use Rattle.gro.specs.Table.{AreReady}
 use Rattle.taps.specs.declared.clones.TapClone.{TapClone}
 use Rattle.taps.specs.Clones.{packet_of}
-use Rattle.round_work.specs.declared.lanes.Lanes.{Lanes}
-use Rattle.round_work.specs.declared.lanes.QueueLane.{QueueLane}
-use Rattle.round_work.specs.declared.lanes.TapLane.{TapLane}
-use Rattle.round_work.specs.Packets.{RiseFrom}
-use Rattle.round_work.specs.Work.{AreMerged, AreWatched}
+use Rattle.lanes.specs.declared.lane.Lanes.{Lanes}
+use Rattle.lanes.specs.declared.lane.QueueLane.{QueueLane}
+use Rattle.lanes.specs.declared.lane.TapLane.{TapLane}
+use Rattle.lanes.specs.Lanes.{IsMerged}
+use Rattle.lanes.specs.Packets.{RiseFrom}
+use Rattle.lanes.specs.Work.{AreMerged, AreWatched}
 use Rattle.rounds.specs.Lanes.{IsKeptWorkOf}
 use Rattle.rounds.specs.RoundsState.{WorkedState}
 
@@ -25,7 +25,7 @@ pub record Lent (o : Options) (ps : List Packet) (lanes : Lanes) (kept : List Ta
   pub taps : length lanes.taps.items ≡ o.taps
   pub merged : AreMerged o.segs o.spread (length lanes.queues.items) (map packet_of kept) lanes.queues.items
   pub watched : AreWatched o.snap (length lanes.taps.items) (map (shown_of o.filter) (map packet_of kept)) lanes.taps.items
-  pub ready : All (λ (l : QueueLane). AreReady l.items.items) lanes.queues.items
+  pub is : All IsMerged lanes.queues.items
 
 own_lent : (o : Options) (ps : List Packet) (w : WorkedState) → IsKeptWorkOf o ps w → Lent o ps w.lanes w.kept
 own_lent o ps w is =
@@ -40,7 +40,7 @@ own_lent o ps w is =
           (subst (λ (z : List Packet). AreMerged o.segs o.spread o.queues z w.lanes.queues.items) (sym is.kept) is.merged);
       watched = subst (λ (n : ℕ). AreWatched o.snap n (map (shown_of o.filter) (map packet_of w.kept)) w.lanes.taps.items) (sym taps)
           (subst (λ (z : List Packet). AreWatched o.snap o.taps (map (shown_of o.filter) z) w.lanes.taps.items) (sym is.kept) is.watched);
-      ready = is.ready;
+      is = is.is;
     }
 
 pub are_lent : (o : Options) (ps : List Packet) (w : WorkedState) (lanes : Lanes) (kept : List TapClone) → lanes ≡ w.lanes → kept ≡ w.kept → IsKeptWorkOf o ps w → Lent o ps lanes kept

@@ -4,6 +4,7 @@ use Rattle.std.specs.List.{AllByRecursion, filter, flat_map, range_with_len}
 use Rattle.std.proofs.lemmas.List.Concat.{flat_map-append}
 use Rattle.std.proofs.lemmas.List.Elements.{filter-append}
 use Rattle.std.proofs.lemmas.List.{length-map}
+use Rattle.std.proofs.lemmas.Simd.{map-map}
 use Rattle.pcap_io.specs.Capture.{Packet}
 use Rattle.offload_model.specs.Captured.{IsCaptured, AreCaptured}
 use Rattle.maximal_runs.specs.Items.{begins_in}
@@ -12,12 +13,15 @@ use Rattle.offload_model.specs.Rounds.{Spread, is_of, items_of}
 use Rattle.offload_model.specs.Written.{Options}
 use Rattle.offload_model.proofs.Flows.{IsItem}
 use Rattle.offload_model.proofs.Lists.{all_of}
-use Rattle.gro.specs.Items.{item_of}
-use Rattle.gro.specs.Table.{AreReady}
-use Rattle.round_work.specs.declared.lanes.QueueLane.{QueueLane}
-use Rattle.round_work.specs.Work.{AreMerged, AreWatched}
-use Rattle.round_work.specs.Packets.{RiseFrom}
-use Rattle.round_work.specs.declared.lanes.TapLane.{TapLane}
+use Rattle.gro.specs.declared.slot.Slot.{Slot}
+use Rattle.gro.specs.Chains.{run_of}
+use Rattle.gro.specs.Held.{packet_of}
+use Rattle.gro.specs.Slots.{packet_in}
+use Rattle.lanes.specs.declared.lane.QueueLane.{QueueLane}
+use Rattle.lanes.specs.Lanes.{runs_in_lane, IsMerged}
+use Rattle.lanes.specs.Work.{AreMerged, AreWatched, merged_in}
+use Rattle.lanes.specs.Packets.{RiseFrom}
+use Rattle.lanes.specs.declared.lane.TapLane.{TapLane}
 use Rattle.checking.specs.declared.totals.QueueTotals.{QueueTotals}
 use Rattle.checking.specs.declared.kept_flows.KeptFlows.{KeptFlows}
 use Rattle.checking.specs.declared.totals.TapTotals.{TapTotals}
@@ -25,24 +29,24 @@ use Rattle.checking.specs.Counts.{Counts, shown, queue_totals, round_totals}
 use Rattle.checking.specs.Texts.{totals_of_texts}
 use Rattle.checking.specs.Returned.{Lefts, flows_of, behind_items}
 use Rattle.checking.proofs.Flowing.{of_flow, queue_items, runs_from, all_runs}
-use Rattle.checking.specs.Items.{MayCompare, AreLeft, totals_of_items, totals_by, items_in}
-use Rattle.checking.proofs.Comparing.{to_compare, totals_of_runs, runs_counted}
+use Rattle.checking.specs.Items.{MayCompare, AreLeft, item_at, totals_of_items, totals_by}
+use Rattle.checking.proofs.Comparing.{totals_of_runs, runs_counted}
 use Rattle.checking.proofs.ItemTotals.{all_get}
 use Rattle.checking.proofs.Totalling.{lane_at, items_few, map_same, totals_are, taps_are, rising}
 
--- a lane that holds what the runs of its queue come to may be compared
+-- a merged lane that holds what the runs of its queue come to may be compared
 lane_known : (segs : ℕ) (spread : Spread) (ps : List Packet) (ls : List QueueLane) (i : ℕ) (l : QueueLane) → AreCaptured ps → length ps ≤ 4096 → AreMerged segs spread (length ls) ps ls
-    → AllByRecursion (λ (l : QueueLane). AreReady l.items.items) ls → i < length ls → l ≡ get_or ls i l → MayCompare l
-lane_known segs spread ps ls i l c few m ready less is =
-    let items : map item_of l.items.items ≡ map merged_of (items_of segs spread i ps) = ap (λ (z : QueueLane). map item_of z.items.items) is ∙ lane_at segs spread (length ls) ps ls i l m less less in
+    → AllByRecursion IsMerged ls → i < length ls → l ≡ get_or ls i l → MayCompare l
+lane_known segs spread ps ls i l c few m are less is =
+    let items : merged_in l ≡ map merged_of (items_of segs spread i ps) = ap merged_in is ∙ lane_at segs spread (length ls) ps ls i l m less less in
     let own : AllByRecursion IsItem (items_of segs spread i ps) = queue_items segs spread i ps c in
     record {
-      items = to_compare l.items.items (items_of segs spread i ps) items own
-          (subst (λ (z : QueueLane). AreReady z.items.items) (sym is) (all_get (λ (l : QueueLane). AreReady l.items.items) ls i l less ready));
+      is = subst IsMerged (sym is) (all_get IsMerged ls i l less are);
       few = omega (
         arith,
         ap length items,
-        length-map l.items.items item_of,
+        length-map (runs_in_lane l) merged_of,
+        length-map l.engine.runs.items (run_of (map packet_of l.packets.items) l.engine.next.items),
         length-map (items_of segs spread i ps) merged_of,
         few,
         items_few segs spread i ps c (all_of IsItem (λ run. 0 < length run) (items_of segs spread i ps) (λ run k. k.full) own),
@@ -55,8 +59,14 @@ all_by P (x ∷ xs) f = (f 0 x (omega arith) refl, all_by P xs (λ i d l e. f (s
 
 -- so what a round's work came to may be compared
 pub lanes_known : (segs : ℕ) (spread : Spread) (ps : List Packet) (ls : List QueueLane) → AreCaptured ps → length ps ≤ 4096 → AreMerged segs spread (length ls) ps ls
-    → AllByRecursion (λ (l : QueueLane). AreReady l.items.items) ls → AllByRecursion MayCompare ls
-lanes_known segs spread ps ls c few m ready = all_by MayCompare ls (λ i l less is. lane_known segs spread ps ls i l c few m ready less is)
+    → AllByRecursion IsMerged ls → AllByRecursion MayCompare ls
+lanes_known segs spread ps ls c few m are = all_by MayCompare ls (λ i l less is. lane_known segs spread ps ls i l c few m are less is)
+
+-- what the runs of a lane come to is told by its slots
+pub lane_items : (slots : List Slot) (l : QueueLane) → map packet_in slots ≡ map packet_of l.packets.items → map (item_at slots l.engine.next.items) l.engine.runs.items ≡ merged_in l
+lane_items slots l e =
+    ap (λ (ps : List Packet). map (λ run. merged_of (run_of ps l.engine.next.items run)) l.engine.runs.items) e
+    ∙ sym (map-map merged_of (run_of (map packet_of l.packets.items) l.engine.next.items) l.engine.runs.items)
 
 -- ---- lane by lane
 
@@ -105,7 +115,7 @@ counts qs ts = record { queues = qs; taps = ts }
 pub all_totals : (o : Options) (ps : List Packet) (qls : List QueueLane) (ls : List TapLane) (qs : List QueueTotals) (ts : List TapTotals)
     → ((key : Option (List ℕ)) → o.spread key < o.queues) → o.queues ≡ length qls → o.taps ≡ length ls → AreCaptured ps
     → AreMerged o.segs o.spread (length qls) ps qls → AreWatched o.snap (length ls) (shown o ps) ls
-    → qs ≡ totals_by (flows_of ps) (map items_in qls) → ts ≡ map (λ (l : TapLane). totals_of_texts l.texts) ls → counts qs ts ≡ round_totals o ps
+    → qs ≡ totals_by (flows_of ps) (map merged_in qls) → ts ≡ map (λ (l : TapLane). totals_of_texts l.texts) ls → counts qs ts ≡ round_totals o ps
 all_totals o ps qls ls qs ts below eq et c m w q t =
     let own : qs ≡ map (λ q. queue_totals o q ps) (range_with_len 0 o.queues)
     = q ∙ ap (totals_by (flows_of ps)) m.items

@@ -30,13 +30,19 @@ mod Chains
 mod Segmenting
 -- one segment more, compared
 mod Turning
--- ---- the items of a round
+-- ---- a run of packets compared
 
--- an item's record, which may be cut
+-- what a run comes to, and how its merged frame is cut
 mod Runs
+-- its payloads, as they are read
+mod Unread
+-- its merged frame, as comparing begins
+mod Starting
+-- ---- the runs of a round
+
 -- packets that are entered, flow by flow, and places that move on
 mod Entering
--- items of runs, compared with the packets of their flows
+-- what runs come to, compared with the packets of their flows
 mod Comparing
 -- the totals of a queue's items, one item after the other
 mod ItemTotals

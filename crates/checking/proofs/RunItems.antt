@@ -41,7 +41,7 @@ whole_all : (qs : List Packet) → ((i : ℕ) (d : Packet) → i < length qs →
 whole_all [] f = tt
 whole_all (q ∷ qs) f = (f 0 q (omega arith), whole_all qs (λ i d l. f (suc i) d (omega arith)))
 
-kind_is : (r : Merged) → 2 ≤ r.n → (head_of 0 r).kind ≡ 1
+pub kind_is : (r : Merged) → 2 ≤ r.n → (head_of 0 r).kind ≡ 1
 kind_is r two = let no : (r.n == 1) ≡ false = ne_eqb r.n 1 (λ e. omega arith) in rw no refl
 
 of_merged : (h : OffHead2) (p : Packet) → h.kind ≡ 1 → segments_by h p ≡ map (with_frame p) (frames_of (merged_in h p))

@@ -2,7 +2,8 @@
 use Rattle.std.proofs.Common.{◌≡◌, ◌≢◌, ℕ, suc, ◌+◌, ◌-◌, ◌*◌, ◌^◌, ◌<◌, ◌≤◌, inl, inr, Bool, false, List, [], ◌∷◌, ◌++◌, length, min, take, drop, sym, ap, ◌∙◌, subst, arith, length-take}
 use Rattle.std.proofs.Common.{length-append, length-take-le}
 use Rattle.std.specs.Prelude.{Decides}
-use Rattle.std.proofs.lemmas.List.{take_min, drop-drop, drop_all, take-append-le}
+use Rattle.std.proofs.lemmas.List.{take_min, drop-drop, drop_all}
+use Rattle.std.proofs.Math.Seq.{take-append_seam, drop-append_seam}
 use Rattle.std.proofs.lemmas.Bool.{cases_lt}
 use Rattle.frame_layout.specs.Headers.{AtHeaders, AreLaid}
 use Rattle.frame_layout.proofs.Lemmas.{IsPlaced}
@@ -79,14 +80,15 @@ module _ (cut : Segmentation) (f headers payload : List ℕ) (i : ℕ) (is : IsC
     same_length b header bytes original seg e o d = (λ t. (o ∙ sym (total header seg e), d.0 t ∙ e), λ h. d.1 (h.1 ∙ sym e))
 
 -- no segment's payload was passed
-pub started : (cut : Segmentation) (f front behind headers payload : List ℕ) → AreBytes f → length f ≤ 262144 → IsSegmentationOf cut f → f ≡ front ++ behind → cut.layout.payload_at ≤ length front
-    → headers ≡ take cut.layout.payload_at front → payload ≡ drop cut.layout.payload_at f → IsCutTo cut f headers 0 payload
-started cut f front behind headers payload b short of e l h p = record {
+pub started : (cut : Segmentation) (f headers payload : List ℕ) → AreBytes f → length f ≤ 262144 → IsSegmentationOf cut f → headers ++ payload ≡ f → length headers ≡ cut.layout.payload_at
+    → IsCutTo cut f headers 0 payload
+started cut f headers payload b short of e l = record {
   in_bytes = b;
   short = short;
   of = of;
-  front = h ∙ sym (ap (λ (z : List ℕ). take cut.layout.payload_at z) e ∙ take-append-le cut.layout.payload_at front behind l);
-  rest = p ∙ ap (λ (k : ℕ). drop k (drop cut.layout.payload_at f)) (let z : 0 ≡ 0 * cut.m = omega arith in z);
+  front = sym (take-append_seam headers payload) ∙ ap (λ (k : ℕ). take k (headers ++ payload)) l ∙ ap (take cut.layout.payload_at) e;
+  rest = sym (drop-append_seam headers payload) ∙ ap (λ (k : ℕ). drop k (headers ++ payload)) l ∙ ap (drop cut.layout.payload_at) e
+      ∙ ap (λ (k : ℕ). drop k (drop cut.layout.payload_at f)) (let z : 0 ≡ 0 * cut.m = omega arith in z);
 }
 
 -- one segment is the next of those that are left

@@ -12,12 +12,11 @@ use Rattle.offload_model.specs.Captured.{IsCaptured, AreCaptured}
 use Rattle.offload_model.specs.Merged.{merged_of}
 use Rattle.offload_model.specs.Rounds.{Spread, is_queued, items_of}
 use Rattle.offload_model.specs.Written.{Options, window_of, windows_by, windows_of}
-use Rattle.gro.specs.Items.{item_of}
 use Rattle.taps.specs.Texts.{text_by, texts_of}
-use Rattle.round_work.specs.declared.lanes.QueueLane.{QueueLane}
-use Rattle.round_work.specs.declared.lanes.TapLane.{TapLane}
-use Rattle.round_work.specs.Packets.{RiseFrom}
-use Rattle.round_work.specs.Work.{AreMerged, AreWatched, merged_in}
+use Rattle.lanes.specs.declared.lane.QueueLane.{QueueLane}
+use Rattle.lanes.specs.declared.lane.TapLane.{TapLane}
+use Rattle.lanes.specs.Packets.{RiseFrom}
+use Rattle.lanes.specs.Work.{AreMerged, AreWatched, merged_in}
 use Rattle.checking.specs.declared.totals.TapTotals.{TapTotals}
 use Rattle.checking.specs.Counts.{shown, queue_totals, tap_totals, is_merged}
 use Rattle.checking.specs.Texts.{text_bytes, IsShort, totals_of_texts}
@@ -46,7 +45,7 @@ map_same f g (x ∷ xs) e = ap (λ z. z ∷ map f xs) (e x) ∙ ap (λ z. g x �
 
 -- what the i-th queue came to
 pub lane_at : (segs : ℕ) (spread : Spread) (queues : ℕ) (ps : List Packet) (ls : List QueueLane) (i : ℕ) (d : QueueLane) → AreMerged segs spread queues ps ls → i < length ls → i < queues
-    → map item_of (get_or ls i d).items.items ≡ map merged_of (items_of segs spread i ps)
+    → merged_in (get_or ls i d) ≡ map merged_of (items_of segs spread i ps)
 lane_at segs spread queues ps ls i d m l k =
     sym (get_or-map merged_in ls i d [] l) ∙ ap (λ z. get_or z i []) m.items
     ∙ get_or-map-range_with_len (λ q. map merged_of (items_of segs spread q ps)) 0 queues i i [] k (omega arith)

@@ -12,7 +12,7 @@ use Rattle.taps.specs.declared.clones.TapClone.{TapClone}
 use Rattle.taps.specs.Clones.{packet_of}
 use Rattle.checking.specs.Returned.{is_same}
 use Rattle.checking.specs.Chain.{IsChain, IsOwn, Counts}
-use Rattle.checking.specs.Segments.{segments_from}
+use Rattle.checking.specs.Segments.{IsCutTo, segments_from}
 use Rattle.checking.proofs.Chains.{Counting, count_start, count_turn, count_end, same_packet, ones}
 use Rattle.checking.proofs.Segmenting.{one_more, none_more}
 
@@ -35,6 +35,12 @@ module _ (cut : Segmentation) (kept : List TapClone) (next : List ℕ) (f : List
       (count_turn (map packet_of kept) next q from (segments_at cut p) (with_frame p (segment_at cut p.frame i)) (segments_from cut p (i + 1) (cut.n - (i + 1))) at to n b (packet_of clone) e chain
       (subst (λ z. Counting (map packet_of kept) q from (segments_at cut p) z at n) (one_more cut p i cut.n less) k)
       (omega (arith, there, length-map kept packet_of)) goes (same_is p h))
+
+-- of the frame f, i segments were compared with the packets from a place on
+pub record IsCounted (ps : List Packet) (cut : Segmentation) (f headers payload : List ℕ) (from i at n : ℕ) : Type 0 where
+  pub cut_to : IsCutTo cut f headers i payload
+  pub counting : (q : Option (List ℕ)) (p : Packet) → p.frame ≡ f → IsOwn ps q from
+      → Counting ps q from (segments_at cut p) (segments_from cut p i (cut.n - i)) at n
 
 pub begun_all : (ps : List Packet) (cut : Segmentation) (q : Option (List ℕ)) (p : Packet) (from : ℕ) → IsOwn ps q from → Counting ps q from (segments_at cut p)
     (segments_from cut p 0 (cut.n - 0)) from 0

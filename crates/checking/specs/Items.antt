@@ -1,29 +1,37 @@
--- Items that are compared with the packets that went in.
-use Rattle.std.specs.Prelude.{ℕ, ◌≡◌, ◌^◌, ◌<◌, ◌≤◌, true, Option, List, [], ◌∷◌, length, map, nat_le}
-use Rattle.std.specs.Prelude.{if◌then◌else◌}
+-- Items that are compared with the packets that went in: what the runs of a list of packets come to, as they lie.
+use Rattle.std.specs.Prelude.{ℕ, ◌≡◌, ◌≤◌, Option, List, [], ◌∷◌, length, map, nat_le, if◌then◌else◌}
 use Rattle.std.specs.List.{AllByRecursion}
-use Rattle.pcap_io.specs.Limits.{most_frame}
-use Rattle.skb.specs.Fronts.{IsFronted}
+use Rattle.skb.specs.Checksum.{AreBytes}
 use Rattle.skb.specs.SkbState.{buffer_bytes}
 use Rattle.pcap_io.specs.Capture.{Packet}
-use Rattle.offload_model.specs.Merged.{Merged}
-use Rattle.offload_model.specs.Tests.{is_lawful_by}
-use Rattle.offload_model.specs.Written.{head_of}
-use Rattle.gro.specs.declared.item.Item.{Item}
-use Rattle.gro.specs.Items.{item_of}
-use Rattle.round_work.specs.declared.lanes.QueueLane.{QueueLane}
+use Rattle.offload_model.specs.Merged.{Merged, merged_of}
+use Rattle.gro.specs.declared.run.Run.{Run}
+use Rattle.gro.specs.declared.slot.Slot.{Slot}
+use Rattle.gro.specs.Chains.{run_of}
+use Rattle.gro.specs.Engine.{IsChain}
+use Rattle.gro.specs.Slots.{packet_in, AreSlots}
+use Rattle.lanes.specs.declared.lane.QueueLane.{QueueLane}
+use Rattle.lanes.specs.Lanes.{IsMerged}
 use Rattle.checking.specs.declared.totals.QueueTotals.{QueueTotals}
 use Rattle.checking.specs.Counts.{queue_plus}
 use Rattle.checking.specs.Returned.{Lefts, packets_in, flow_in, equal_in, behind_item, behind_items}
 use Rattle.checking.specs.declared.kept_flows.KeptFlows.{KeptFlows}
 use Rattle.checking.specs.KeptFlows.{left_in}
 
--- an item that may be cut: its first bytes lie in its head, and its record is lawful
-pub record IsToCompare (item : Item) : Type 0 where
-  pub front : IsFronted item.skb
-  pub original : item.original < 2 ^ 31
-  pub short : length (buffer_bytes item.skb) ≤ most_frame
-  pub lawful : is_lawful_by (head_of 0 (item_of item)) (item_of item).packet ≡ true
+-- what a run of a list of packets comes to
+abbrev pub item_at : List Slot → List ℕ → Run → Merged
+item_at slots next run = merged_of (run_of (map packet_in slots) next run)
+
+-- what packets hold are bytes
+abbrev pub AreInBytes : List Slot → Type 0
+AreInBytes slots = AllByRecursion (λ (s : Slot). AreBytes (buffer_bytes s.skb)) slots
+
+-- a run of packets of a list, whose merged frame may be cut
+pub record IsToCompare (slots : List Slot) (next : List ℕ) (run : Run) : Type 0 where
+  pub are : AreSlots slots
+  pub linked : length slots ≤ length next
+  pub is : IsChain (map packet_in slots) next run
+  pub in_bytes : AreInBytes slots
 
 -- the packets that weren't compared, flow by flow
 pub record AreLeft (ps : List Packet) (f : KeptFlows) (lefts : Lefts) : Type 0 where
@@ -53,10 +61,7 @@ abbrev pub totals_by : Lefts → List (List Merged) → List QueueTotals
 totals_by left [] = []
 totals_by left (rs ∷ more) = totals_of_items left rs ∷ totals_by (behind_items left rs) more
 
--- the items of a queue may be compared, and are few
+-- the packets of a queue are merged, and their runs are few
 pub record MayCompare (l : QueueLane) : Type 0 where
-  pub items : AllByRecursion IsToCompare l.items.items
-  pub few : length l.items.items ≤ 4096
-
-abbrev pub items_in : QueueLane → List Merged
-items_in l = map item_of l.items.items
+  pub is : IsMerged l
+  pub few : length l.engine.runs.items ≤ 4096

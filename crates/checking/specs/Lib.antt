@@ -8,6 +8,7 @@ pub mod Tallies
 -- ---- how the code compares
 
 pub mod Bytes
+pub mod Payloads
 pub mod Segments
 pub mod Chain
 pub mod KeptFlows

@@ -7,7 +7,7 @@ use Rattle.checking.specs.Checking.{counting}
 use Rattle.checking.specs.Tallies.{Tallies}
 use Rattle.rounds.specs.Merging.{options_of, TakesAll}
 use Rattle.rounds.specs.RoundsState.{RoundsState}
-use Rattle.round_pipeline.specs.Reads.{Spot}
+use Rattle.pipeline.specs.Reads.{Spot}
 use Rattle.checking.specs.declared.capture.CheckEnd.{CheckEnd}
 use Rattle.checking.specs.declared.capture.CheckEnd.TheVariants as ends
 use Rattle.checking.specs.Handling.{ending_of}

@@ -16,7 +16,7 @@ use crate::capture::{CheckEnd, Counting};
 use crate::totals::Totals;
 use off_io::{Gate, Source};
 use pcap_io::CaptureReader;
-use round_pipeline::handle_beside;
+use pipeline::handle_beside;
 use rounds::Rounds;
 use std::alloc::Global;
 use std::sync::Wait;

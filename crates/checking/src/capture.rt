@@ -22,10 +22,10 @@ ghost use Rattle.checking.specs.Handling.{ending_of, AreOf, CountsLast};
 use crate::round::check_bench;
 use crate::totals::Totals;
 use block_pool::Pool;
+use lanes::Works;
 use off_io::Source;
 use pcap_io::{CapFault, CaptureReader};
-use round_pipeline::{RoundHandler, handle_from};
-use round_work::Works;
+use pipeline::{RoundHandler, handle_from};
 use rounds::{Bench, Round, RoundEnd, RoundRead, Rounds, Worked};
 use std::alloc::AllocError;
 

@@ -1,46 +1,70 @@
-//! Items compared with the packets of their flow.
+//! Runs compared with the packets of their flow.
 ghost use Rattle.std.specs.Prelude.{◌≡◌, ◌+◌, ◌<◌, ◌≤◌, ◌^◌, ◌∷◌, [], ℕ, Option, List, length, map};
-ghost use Rattle.pcap_io.specs.Limits.{most_frame};
+ghost use Rattle.std.specs.List.{AllByRecursion};
 ghost use Rattle.pcap_io.specs.Capture.{Packet};
-ghost use Rattle.skb.specs.SkbState.{buffer_bytes, head_size};
 ghost use Rattle.skb.specs.Checksum.{AreBytes};
-ghost use Rattle.segment_rule.specs.Segmentations.{IsSegmentationOf, segments_at};
-ghost use Rattle.gso.specs.Planning.{IsPlanOf, packets_by};
-ghost use Rattle.gro.specs.Items.{item_of};
+ghost use Rattle.offload_model.specs.Merged.{merged_of};
+ghost use Rattle.segment_rule.specs.Segmentations.{segments_at};
+ghost use Rattle.gro.specs.Engine.{KnowsSome, Knows};
+ghost use Rattle.gro.specs.Packets.{headers_size};
+ghost use Rattle.gro.specs.Slots.{packet_in, IsSlot};
 ghost use Rattle.taps.specs.Clones.{packet_of};
-ghost use Rattle.checking.specs.Returned.{is_same as is_same_packet};
+ghost use Rattle.checking.specs.Returned.{packets_in, is_same as is_same_packet};
 ghost use Rattle.checking.specs.Chain.{IsChain, IsOwn, Counts};
+ghost use Rattle.checking.specs.Segments.{IsCutTo, IsCutOf};
+ghost use Rattle.checking.specs.Items.{item_at, IsToCompare};
 
-use crate::bytes::Bytes;
+use crate::payload::Payload;
 use crate::same::is_same;
 use crate::segment::is_segment;
-use gro::Item;
-use gso::Plan;
+use frame_layout::shape;
+use gro::{Run, Slot};
 use segment_rule::Segmentation;
-use skb::Skb;
+use skb::FRONT;
 use taps::TapClone;
 
-// In how many places the segments of a merged frame are the flow's packets from a place on.
+// How the merged frame of a run of several packets is cut. Its layout is the first packet's.
+fn cut_of(run: &Run, first: &Slot) -> Segmentation
+    requires slot { IsSlot first.now }
+    requires run { KnowsSome run.now (packet_in first.now) }
+    requires several { 1 ≤ run.now.more }
+    ensures cut { (rest : List Packet) → Knows run.now (packet_in first.now) rest
+        → AllByRecursion (λ p. AreBytes p.frame) (packet_in first.now ∷ rest)
+        → IsCutOf result (merged_of (packet_in first.now ∷ rest)) }
+    ensures place { result.layout.payload_at ≡ headers_size run.now }
+    ensures low { result.layout.payload_at ≤ 200 }
+{
+    let Some(layout) = shape(first.skb.head()) else {
+        unreachable!()
+    };
+    let head = run.head(0, first);
+    Segmentation {
+        layout,
+        n: head.n,
+        m: head.m,
+        modes: head.modes,
+    }
+}
+
+// In how many places the segments of a merged frame are the flow's packets from a place on. `headers` are the frame's,
+// and `payload` is its payload.
 fn count_segments(
     cut: &Segmentation,
-    skb: &Skb,
+    headers: &[u8],
+    payload: &Payload<'_>,
     kept: &[TapClone],
-    next: &[usize],
+    kept_next: &[usize],
     at: &mut usize,
 ) -> u64
-    requires of { IsSegmentationOf cut.now (buffer_bytes skb.now) }
-    requires in_bytes { AreBytes (buffer_bytes skb.now) }
-    requires short { length (buffer_bytes skb.now) ≤ most_frame }
-    requires front { cut.now.layout.payload_at ≤ head_size skb.now }
-    requires chain { IsChain (map packet_of kept.now) next.now }
-    ensures counts { (q : Option (List ℕ)) (p : Packet) → p.frame ≡ buffer_bytes skb.now
-        → IsOwn (map packet_of kept.now) q at.old
+    requires low { length headers.now ≤ 200 }
+    requires of { (f : List ℕ) × IsCutTo cut.now f headers.now 0 payload.now }
+    requires chain { IsChain (map packet_of kept.now) kept_next.now }
+    ensures counts { (f : List ℕ) → IsCutTo cut.now f headers.now 0 payload.now
+        → (q : Option (List ℕ)) (p : Packet) → p.frame ≡ f → IsOwn (map packet_of kept.now) q at.old
         → Counts (map packet_of kept.now) q at.old (segments_at cut.now p) at.new result }
     ensures few { result < 2 ^ 32 }
 {
-    let place = cut.layout.payload_at();
-    let headers = &skb.head()[..place];
-    let mut payload = Bytes::behind(skb, place);
+    let mut payload = payload.again();
     let mut count = 0u64;
     for i in 0..cut.n {
         if *at >= kept.len() {
@@ -48,54 +72,80 @@ fn count_segments(
         }
         let is_same = is_segment(cut, headers, &mut payload, i, &kept[*at]);
         count += u64::from(is_same);
-        *at = next[*at];
+        *at = kept_next[*at];
     }
     count
 }
 
-// Whether an item that is one packet is the packet of a clone.
-fn is_packet(item: &Item, clone: &TapClone) -> bool
-    ensures same { result ≡ is_same_packet (item_of item.now).packet (packet_of clone.now) }
+// In how many places the segments of what several packets come to are the flow's packets from a place on.
+fn count_merged(
+    packets: &[Slot],
+    next: &[u32],
+    run: &Run,
+    kept: &[TapClone],
+    kept_next: &[usize],
+    at: &mut usize,
+) -> u64
+    requires run { IsToCompare packets.now next.now run.now }
+    requires several { 1 ≤ run.now.more }
+    requires chain { IsChain (map packet_of kept.now) kept_next.now }
+    ensures counts { (q : Option (List ℕ)) → IsOwn (map packet_of kept.now) q at.old
+        → Counts (map packet_of kept.now) q at.old (packets_in (item_at packets.now next.now run.now)) at.new result }
+    ensures few { result < 2 ^ 32 }
 {
-    if item.original != clone.original {
-        return false;
-    }
-    is_same(&item.skb, &clone.skb)
+    let first = &packets[run.first as usize];
+    let cut = cut_of(run, first);
+    let place = cut.layout.payload_at();
+    let mut front = [0u8; FRONT];
+    let headers = &mut front[..place];
+    run.put_headers(first, headers);
+    let payload = Payload::of_run(packets, next, run);
+    count_segments(&cut, headers, &payload, kept, kept_next, at)
 }
 
-// Whether an item that is one packet is the flow's packet at a place.
-fn count_packet(item: &Item, kept: &[TapClone], next: &[usize], at: &mut usize) -> u64
-    requires chain { IsChain (map packet_of kept.now) next.now }
+// Whether a packet is the one of a clone.
+fn is_packet(packet: &Slot, clone: &TapClone) -> bool
+    ensures same { result ≡ is_same_packet (packet_in packet.now) (packet_of clone.now) }
+{
+    if packet.original != clone.original {
+        return false;
+    }
+    is_same(&packet.skb, &clone.skb)
+}
+
+// Whether a packet is the flow's packet at a place.
+fn count_packet(packet: &Slot, kept: &[TapClone], kept_next: &[usize], at: &mut usize) -> u64
+    requires chain { IsChain (map packet_of kept.now) kept_next.now }
     ensures counts { (q : Option (List ℕ)) → IsOwn (map packet_of kept.now) q at.old
-        → Counts (map packet_of kept.now) q at.old ((item_of item.now).packet ∷ []) at.new result }
+        → Counts (map packet_of kept.now) q at.old (packet_in packet.now ∷ []) at.new result }
     ensures few { result ≤ 1 }
 {
     if *at >= kept.len() {
         return 0;
     }
-    let is_same = is_packet(item, &kept[*at]);
-    *at = next[*at];
+    let is_same = is_packet(packet, &kept[*at]);
+    *at = kept_next[*at];
     u64::from(is_same)
 }
 
-/// In how many places the packets that an item stands for are the flow's packets from a place on, which goes on behind
-/// them.
+/// In how many places the packets that a run comes to stand for are the flow's packets from a place on, which goes on
+/// behind them: a packet that is alone for itself, and a merged frame for its segments.
 pub(crate) fn count_packets(
-    plan: &Plan,
-    item: &Item,
+    packets: &[Slot],
+    next: &[u32],
+    run: &Run,
     kept: &[TapClone],
-    next: &[usize],
+    kept_next: &[usize],
     at: &mut usize,
 ) -> u64
-    requires plan { IsPlanOf item.now.skb plan.now }
-    requires chain { IsChain (map packet_of kept.now) next.now }
+    requires run { IsToCompare packets.now next.now run.now }
+    requires chain { IsChain (map packet_of kept.now) kept_next.now }
     ensures counts { (q : Option (List ℕ)) → IsOwn (map packet_of kept.now) q at.old
-        → Counts (map packet_of kept.now) q at.old (packets_by plan.now (item_of item.now).packet) at.new result }
+        → Counts (map packet_of kept.now) q at.old (packets_in (item_at packets.now next.now run.now)) at.new result }
     ensures few { result < 2 ^ 32 }
 {
-    match plan {
-        Plan::Nothing => 0,
-        Plan::Single => count_packet(item, kept, next, at),
-        Plan::Segments(cut, _) => count_segments(cut, &item.skb, kept, next, at),
+    if run.more == 0 {
+        return count_packet(&packets[run.first as usize], kept, kept_next, at);
     }
+    count_merged(packets, next, run, kept, kept_next, at)
 }

@@ -2,19 +2,20 @@
 //! comes back is counted, queue by queue and tap by tap.
 //!
 //! ```text
-//!   kept      p0 p1 p2 p3 p4 ..          a clone of each packet, in order
-//!   flows     A: p0 -> p2 -> p3 ..       each packet leads to the next one of its flow
-//!   item      A: [headers|payload ..]    its segments are compared with p0, p2, p3 in turn
+//!   kept      p0 p1 p2 p3 p4 ..            a clone of each packet, in order
+//!   flows     A: p0 -> p2 -> p3 ..         each packet leads to the next one of its flow
+//!   run       A: q0 -> q2 -> q3            lies as it was read: [headers] are made beside, and behind them come the
+//!             [headers] payloads ..        payloads; the segments are compared with p0, p2, p3 in turn
 //! ```
 //!
-//! [`check_round`] takes a round that was worked, with its lanes and a clone of each packet. A queue's items come in
-//! order; each stands for its own packet, or for the segments of a merged frame, and these are compared with the next
-//! packets of their flow: byte for byte, piece by piece where they lie, and in original length. A segment isn't cut
-//! out: its headers are made beside, from the merged frame's, and its payload is read where it is. So no buffer
-//! changes, and memory is wanted for totals and places alone.
+//! [`check_round`] takes a round that was worked, with its lanes and a clone of each packet. A queue's runs come in
+//! order; each stands for its own packet, or for the segments of its merged frame, and these are compared with the next
+//! packets of their flow: byte for byte, slice by slice where they lie, and in original length. The merged frame isn't
+//! put together, and no segment is cut out: the headers of both are made beside, and the payloads are read packet after
+//! packet. So no buffer changes, and memory is wanted for totals and places alone.
 //!
 //! [`check_all`] does so with the rounds of a capture, one by one, and [`check_beside`] with the next rounds read while
-//! one is worked, by the driver that merges (`round_pipeline::handle_beside`). Totals are added round by round, and
+//! one is worked, by the driver that merges (`pipeline::handle_beside`). Totals are added round by round, and
 //! each addition is exact.
 //!
 //! The definitions stand in `specs/`: what is counted of a round's packets (`Counts`), of these the ones that come
@@ -27,8 +28,8 @@
 //!   appends just the lines, or a prefix of them where the sink failed (`ok`, `err`, `cause`); and counting goes round
 //!   by round ([`counting_goes_by_round`], [`totals_add_up`]).
 //! - `counts` of the inner calls: as many are counted as are equal in their places, whatever the packets are.
-//! - `compared` of `check_lanes`: whatever items the lanes hold, of each queue so many are counted as returned as are
-//!   equal to the next packets of their flows. So a body that compares nothing doesn't meet it.
+//! - `compared` of `check_lanes`: whatever packets the lanes hold in runs, of each queue so many are counted as
+//!   returned as are equal to the next packets of their flows. So a body that compares nothing doesn't meet it.
 //! - `totals` of `check_lanes` and of `check_round`: where the lanes hold what the round comes to, the totals are the
 //!   model's: that all come back, byte for byte.
 //! - `given` of `check_all` and of `check_beside`: the totals are those of the packets within the blocks, and checking
@@ -51,10 +52,10 @@
 //! ```
 //!
 //! Its parts: `totals` (of queues and taps, and how they add), `lines` (which tell them) and `laws`; `bytes` (a
-//! buffer's bytes, read from the front), `same` (two buffers' bytes compared), `segment` (a segment of a merged frame),
-//! `flow_key` and `kept_flows` (each packet leads to the next one of its flow), `counting` (an item's packets), `items`
-//! (a queue's), `lanes` (a round's) and `round`; `capture` (round by round to the end of a capture) and `beside` (read
-//! beside the work).
+//! buffer's bytes, read from the front), `payload` (those of a run's payloads), `same` (bytes compared), `segment` (a
+//! segment of a merged frame), `in_bytes` (that they are bytes), `flow_key` and `kept_flows` (each packet leads to the
+//! next one of its flow), `counting` (a run's packets), `items` (a queue's), `lane_totals` (a round's) and `round`;
+//! `capture` (round by round to the end of a capture) and `beside` (read beside the work).
 //!
 //! Tests: `round_tests`, modules `checks` and `totals`, and within, `src/tests.rt`.
 //!
@@ -62,12 +63,17 @@
 //!
 //! - **It stands above the engine**: of rounds a comparison wants what any caller may see, their plan, a round's lanes
 //!   and the clones that were kept of its packets, so merging and segmenting don't wait for its proof.
-//! - **Segments are compared where they lie, and not cut out**: the headers of a segment are made beside, by the rule
-//!   that `gso` has, and its payload is read in the merged frame's pieces. A cutter would share the merged frame's
-//!   head, with which a life of that block begins, so the account of a round by lives would not be kept; and comparing
-//!   would want spares, places and memory for pieces. So nothing of the lanes changes.
+//! - **Merged frames and segments are compared as their packets lie**: the headers of a merged frame and of a segment
+//!   are made beside, by the rules that writing and cutting have, and a payload is read in the packets' own blocks. A
+//!   cutter would share a head, with which a life of that block begins, so the account of a round by lives would not be
+//!   kept; and comparing would want spares, places and memory for pieces. So nothing of the lanes changes.
+//! - **A merged frame is cut by its run's own numbers**, without a test of its record: that packets of a run may be
+//!   merged is known of the run, and that what they come to may be cut is a law. So of a payload each byte is summed
+//!   once, for its segment's headers, and compared once; of a packet that is alone none is summed.
+//! - **That packets hold bytes** is found by a pass over their slices, in which none is read (`in_bytes`): cutting a
+//!   frame wants it of all its bytes, and it is a fact of slices, so no caller has to give it.
 //! - **The flow's packet in a segment's place** is found by one pass over the kept packets from the last to the first,
-//!   which leads each to the next one of its flow, and a place for each flow that moves on as its items come. Each kept
+//!   which leads each to the next one of its flow, and a place for each flow that moves on as its runs come. Each kept
 //!   packet is compared once at most, so a packet that came twice, or in another's place, isn't counted.
 //! - **That as many come back as went in is a law, and no evidence** (`records_return`: `returned` of the definition is
 //!   the packets of the queue): the number alone doesn't show that bytes were compared. The clauses `counts` of the
@@ -79,11 +85,13 @@ mod bytes;
 mod capture;
 mod counting;
 mod flow_key;
+mod in_bytes;
 mod items;
 mod kept_flows;
-mod lanes;
+mod lane_totals;
 mod laws;
 mod lines;
+mod payload;
 mod round;
 mod same;
 mod segment;

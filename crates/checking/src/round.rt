@@ -3,15 +3,15 @@ ghost use Rattle.std.specs.Prelude.{◌≡◌, ◌≤◌, ℕ, List, length, IfO
 ghost use Rattle.std.specs.List.{AllByRecursion};
 ghost use Rattle.pcap_io.specs.Capture.{Packet};
 ghost use Rattle.offload_model.specs.Captured.{IsCaptured};
-ghost use Rattle.round_work.specs.Work.{IsPlan, options_by};
+ghost use Rattle.lanes.specs.Work.{IsPlan, options_by};
 ghost use Rattle.rounds.specs.Benches.{options_at};
 ghost use Rattle.rounds.specs.Lanes.{IsKeptWorkOf};
 ghost use Rattle.rounds.specs.Merging.{options_of};
 ghost use Rattle.checking.specs.Counts.{round_totals};
 
-use crate::lanes::check_lanes;
+use crate::lane_totals::check_lanes;
 use crate::totals::Totals;
-use round_work::Plan;
+use lanes::Plan;
 use rounds::{Bench, Rounds, Worked};
 use std::alloc::AllocError;
 
@@ -37,7 +37,7 @@ pub(crate) fn check_bench(bench: &Bench, worked: &Worked) -> Result<Totals, Allo
     check_worked(bench.plan(), worked)
 }
 
-/// Compares what a round came to with the clones that were kept of its packets: each segment of an item, where it lies,
+/// Compares what a round came to with the clones that were kept of its packets: each segment of a run, where it lies,
 /// is compared with the packet of its flow at that place, byte for byte and in original length. What is counted, queue
 /// by queue and tap by tap; or the want of memory for that.
 pub fn check_round(rounds: &Rounds, worked: &Worked) -> Result<Totals, AllocError>

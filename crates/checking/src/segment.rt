@@ -1,12 +1,10 @@
 //! Segments of a merged frame, compared with packets: nothing is cut and no payload is copied.
 ghost use Rattle.std.specs.Prelude.{◌≡◌, ◌+◌, ◌<◌, ◌≤◌, ℕ, List, Decides, length};
-ghost use Rattle.pcap_io.specs.Capture.{Packet};
-ghost use Rattle.offload_model.specs.Rounds.{is_of};
 ghost use Rattle.skb.specs.SkbState.{buffer_bytes};
 ghost use Rattle.segment_rule.specs.Segmentations.{segment_at};
 ghost use Rattle.checking.specs.Segments.{IsCutTo};
 
-use crate::bytes::Bytes;
+use crate::payload::Payload;
 use crate::same::is_frame;
 use segment_rule::Segmentation;
 use skb::FRONT;
@@ -17,7 +15,7 @@ use taps::TapClone;
 pub(crate) fn is_segment(
     cut: &Segmentation,
     headers: &[u8],
-    payload: &mut Bytes<'_>,
+    payload: &mut Payload<'_>,
     i: u32,
     clone: &TapClone,
 ) -> bool

@@ -1,31 +1,18 @@
 //! The segments of a merged frame, compared with packets of which one has another byte or another length. The bytes
 //! come from a program that was written from the formats alone.
-ghost use Rattle.std.specs.Prelude.{◌≡◌, ◌≤◌, length};
-ghost use Rattle.skb.specs.SkbState.{head_size, buffer_size};
+ghost use Rattle.std.specs.Prelude.{◌≡◌};
+ghost use Rattle.gro.specs.Held.{IsHeld};
 
-use crate::counting::count_packets;
-use crate::flow_key::flow_of;
+use crate::items::check_items;
 use crate::kept_flows::KeptFlows;
 use frags::{Outcomes, Pieces};
-use gro::Item;
-use gso::check_super;
-use pcap_io::{AnyHead, OffHead2};
+use gro::{Engine, Packet, Packets};
 use raw_block::Sole;
 use skb::Skb;
 use std::alloc::Global;
 use std::process::Abort;
 use taps::TapClone;
-use worked_captures::{FIRST, MERGED, SECOND};
-
-const HEAD: AnyHead = AnyHead::V2(OffHead2 {
-    version: 2,
-    kind: 1,
-    modes: 0,
-    lane: 0,
-    n: 2,
-    m: 4,
-    number: 0,
-});
+use worked_captures::{FIRST, SECOND};
 
 // A buffer of these bytes.
 fn buffer(rt: &impl Abort, alloc: Global, bytes: &[u8]) -> Skb {
@@ -33,6 +20,28 @@ fn buffer(rt: &impl Abort, alloc: Global, bytes: &[u8]) -> Skb {
     let mut skb = Skb::new(block, 64, 64, Pieces::new(alloc));
     skb.put_tail(bytes).expect(rt, "room");
     skb
+}
+
+// A packet of these bytes.
+fn packet(rt: &impl Abort, alloc: Global, bytes: &[u8], number: u32) -> Packet
+    ensures held { IsHeld result }
+    ensures number { result.number ≡ number }
+{
+    let skb = buffer(rt, alloc, bytes);
+    let len = skb.len();
+    assert!(rt; len <= 262_144);
+    assert!(rt; len.min(200) <= skb.head().len());
+    let spare1 = Sole::new(alloc).expect(rt, "block");
+    let spare2 = Sole::new(alloc).expect(rt, "block");
+    Packet {
+        skb,
+        spare1,
+        spare2,
+        sec: 1,
+        frac: 2,
+        original: len as u32,
+        number,
+    }
 }
 
 fn clone_of(rt: &impl Abort, alloc: Global, bytes: &[u8], original: u32, number: u32) -> TapClone {
@@ -69,40 +78,23 @@ fn spend_all(rt: &impl Abort, kept: Vec<TapClone>) {
     kept.destroy_empty();
 }
 
-// The item and the packets are given back.
-fn end(rt: &impl Abort, item: Item, kept: Vec<TapClone>) {
-    let (skb, mut outcomes) = item.into_parts();
-    spend(rt, skb);
-    while let Some(_sole) = outcomes.pop_sole() {}
-    outcomes.settle();
-    spend_all(rt, kept);
-}
-
-// In how many places the segments of the merged frame are these packets, of which the first one is right.
+// In how many places the segments of what two packets come to are these packets, of which the first one is right.
 fn compared(rt: &impl Abort, alloc: Global, second: &[u8], original: u32) -> u64 {
+    let mut packets = Packets::with_capacity(alloc, 2).expect(rt, "places");
+    packets.push(packet(rt, alloc, &FIRST, 0));
+    packets.push(packet(rt, alloc, &SECOND, 1));
+    let mut engine = Engine::make(alloc, 2).expect(rt, "places");
+    let slots = packets.slots();
+    engine.merge(slots, 2);
+    assert!(rt; engine.runs.len() == 1);
     let mut kept = Vec::with_capacity(alloc, 2).expect(rt, "places");
     kept.push_reserved(clone_of(rt, alloc, &FIRST, 58, 0));
     kept.push_reserved(clone_of(rt, alloc, second, original, 1));
-    let flows = KeptFlows::of(alloc, &kept).expect(rt, "places");
-    let item = Item {
-        skb: buffer(rt, alloc, &MERGED),
-        number: 0,
-        sec: 1,
-        frac: 2,
-        original: 60,
-        n: 2,
-        m: 4,
-        modes: 0,
-        outcomes: Outcomes::new(alloc),
-    };
-    assert!(rt; item.skb.len().min(200) <= item.skb.head().len());
-    let Ok(plan) = check_super(&HEAD, &item.skb, 76) else {
-        panic!(rt; "the record is lawful")
-    };
-    let mut at = flows.place(&flow_of(&item.skb));
-    let count = count_packets(&plan, &item, &kept, &flows.next, &mut at);
-    end(rt, item, kept);
-    count
+    let mut flows = KeptFlows::of(alloc, &kept).expect(rt, "places");
+    let totals = check_items(slots, &engine.next, &engine.runs, &kept, &mut flows);
+    packets.free();
+    spend_all(rt, kept);
+    totals.returned
 }
 
 #[test]

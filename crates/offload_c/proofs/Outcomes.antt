@@ -5,8 +5,8 @@ use Rattle.std.specs.declared.alloc.Global.{Global}
 use Rattle.pcap_io.specs.declared.faults.InFault.{InFault}
 use Rattle.pcap_io.specs.declared.faults.InFault.TheVariants as faults
 use Rattle.offload_model.specs.Passing.{Ending, Passed, Passes, merging_whole, segmenting_whole}
-use Rattle.round_work.specs.Work.{options_by}
-use Rattle.round_work.specs.declared.plan.Plan.{Plan}
+use Rattle.lanes.specs.Work.{options_by}
+use Rattle.lanes.specs.declared.plan.Plan.{Plan}
 use Rattle.rounds.specs.declared.merge.MergeEnd.{MergeEnd}
 use Rattle.rounds.specs.declared.merge.MergeEnd.TheVariants as merges
 use Rattle.rounds.specs.declared.segment.SegFault.{SegFault}

@@ -6,8 +6,8 @@ use Rattle.frame_layout.specs.Choice.{IsTable, even_table_of}
 use Rattle.frame_layout.specs.declared.choice.Choice.{Choice}
 use Rattle.frame_layout.specs.declared.choice.Choice.TheVariants.{Fold, Toeplitz}
 use Rattle.offload_model.specs.Written.{Options}
-use Rattle.round_work.specs.declared.plan.Plan.{Plan}
-use Rattle.round_work.specs.Work.{options_by}
+use Rattle.lanes.specs.declared.plan.Plan.{Plan}
+use Rattle.lanes.specs.Work.{options_by}
 use Rattle.offload_c.specs.declared.options.MergeOptions.{MergeOptions}
 use Rattle.offload_c.specs.declared.options.Refused.{Refused}
 use Rattle.offload_c.specs.declared.options.Refused.TheVariants.{Usage, NoMemory}

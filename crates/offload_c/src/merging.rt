@@ -4,7 +4,7 @@ ghost use Rattle.off_io.specs.Told.{Told};
 ghost use Rattle.pcap_io.specs.declared.heads.Link.TheVariants.{Ethernet};
 ghost use Rattle.pcap_io.specs.Places.{first_place};
 ghost use Rattle.offload_model.specs.Passing.{merging, merging_whole, Passes};
-ghost use Rattle.round_work.specs.Work.{IsPlan, options_by};
+ghost use Rattle.lanes.specs.Work.{IsPlan, options_by};
 ghost use Rattle.rounds.specs.Merging.{ending_of, options_of};
 ghost use Rattle.offload_c.specs.Answers.{Gives, FlowsOf};
 ghost use Rattle.offload_c.specs.Ends.{IsMergeFault, IsOutcomeOf};
@@ -12,9 +12,9 @@ ghost use Rattle.offload_c.specs.Options.{AreLawful, WhyRefused, model_of};
 
 use crate::memory::{LentSource, Outcome, grown_sink};
 use crate::options::{MergeOptions, Refused};
+use lanes::{Alone, Plan};
 use off_io::{NoGate, Sink, Source, WriteFault};
 use pcap_io::{CaptureReader, FileHead, InFault, Link, take_file, write_file_head};
-use round_work::{Alone, Plan};
 use rounds::{MergeEnd, Rounds};
 use std::alloc::Global;
 

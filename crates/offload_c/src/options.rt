@@ -2,13 +2,13 @@
 ghost use Rattle.std.specs.Prelude.{◌≡◌, ◌≤◌, ◌<◌, ◌↔◌, true, ℕ, [], length, slice_index, MatchOption, MatchResult};
 ghost use Rattle.std.specs.Prelude.{IfOk, IfErr};
 ghost use Rattle.frame_layout.specs.Choice.{IsTable, IsChoice};
-ghost use Rattle.round_work.specs.Work.{IsPlan};
+ghost use Rattle.lanes.specs.Work.{IsPlan};
 ghost use Rattle.offload_c.specs.Options.{AreInRange, IsHash, IsTableOrNone, IsFilter, AreLawful, table_by, choice_by};
 ghost use Rattle.offload_c.specs.Options.{filter_by, plan_of, WhyRefused, WhyNoFilter};
 
 use arrayvec::ArrayVec;
 use frame_layout::{Choice, HashKey, even_table};
-use round_work::{Plan, SharedProgram};
+use lanes::{Plan, SharedProgram};
 use std::alloc::Global;
 use std::mem::size_of;
 use tap_filter::{FilterFault, Program};

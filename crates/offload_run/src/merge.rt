@@ -17,11 +17,11 @@ ghost use Rattle.offload_run.specs.Output.{FlowsComeBack};
 
 use crate::ending::refused;
 use crate::{Engine, Status};
+use lanes::{Plan, SharedProgram};
 use off_io::{Gate, Sink, Source, WriteFault};
 use offload_words::MergeOptions;
 use pcap_io::{CaptureReader, FileHead, Link, take_file, write_file_head};
-use round_pipeline::merge_beside;
-use round_work::{Plan, SharedProgram};
+use pipeline::merge_beside;
 use rounds::{MergeEnd, Rounds};
 use std::alloc::{AllocError, Global};
 use std::sync::Wait;

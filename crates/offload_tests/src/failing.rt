@@ -222,8 +222,8 @@ fn each_call_of_two_rounds_fails_in_turn(rt: HostRuntime) -> Result<(), Fail> {
 // Segments of 100, 60 and 100 bytes of one flow, of which the first two are merged.
 const MERGED_CALLS: [Calls; 3] = [
     (1, [24, 170, 130, 170, 1], 457),
-    (7, [4, 25, 20, 25, 1], 68),
-    (64, [1, 4, 3, 4, 1], 12),
+    (7, [4, 25, 20, 25, 1], 69),
+    (64, [1, 4, 3, 4, 1], 11),
 ];
 
 // The first bytes, or all where there are fewer.

@@ -4,12 +4,12 @@ ghost use Rattle.pcap_io.specs.declared.heads.Link.TheVariants.{Ethernet};
 ghost use Rattle.pcap_io.specs.Places.{IsReady};
 ghost use Rattle.pcap_io.specs.Readers.{place_of};
 
-use crate::lanes::{BY_QUEUE, WITH_WINDOWS};
+use crate::lane_rows::{BY_QUEUE, WITH_WINDOWS};
 use crate::merging::WRITTEN;
 use crate::plans::plain;
+use lanes::{Alone, Works};
 use off_io::{Failed, Feed, Gate, Meeting, MemSink, MemSource, NoGate, Source, Who};
 use pcap_io::{CaptureReader, FileHead, Link};
-use round_work::{Alone, Works};
 use rounds::{MergeEnd, ReadAhead, RoundEnd, RoundRead, Rounds, Step};
 use std::alloc::Global;
 use std::test::Fail;

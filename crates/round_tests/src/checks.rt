@@ -4,9 +4,9 @@ ghost use Rattle.std.specs.Prelude.{◌≤◌};
 
 use crate::plans::plain;
 use checking::{CheckEnd, Totals, check_all, write_totals};
+use lanes::Alone;
 use off_io::{Feed, MemSink, MemSource, NoGate};
 use pcap_io::{CaptureReader, Link};
-use round_work::Alone;
 use rounds::Rounds;
 use std::alloc::Global;
 use std::test::Fail;

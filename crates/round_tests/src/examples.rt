@@ -6,17 +6,17 @@ use checking::{CheckEnd, Totals, check_all, write_totals};
 use frags::Outcomes;
 use frame_layout::Choice;
 use gro::Item;
+use lanes::{Alone, Lanes, Plan, work_packets};
 use off_io::{Feed, MemSink, MemSource, NoGate};
 use pcap_io::{CaptureReader, Link};
-use round_pipeline::merge_beside;
-use round_work::{Alone, Lanes, Plan, work_packets};
-use round_write::{Time, write_items, write_record};
+use pipeline::merge_beside;
+use records::{Time, write_items, write_record};
 use rounds::{MergeEnd, Rounds};
 use std::test::Fail;
 use worked_captures::TWO_FLOWS;
 
 #[test]
-fn example_of_round_write(rt: HostRuntime) -> Result<(), Fail> {
+fn example_of_records(rt: HostRuntime) -> Result<(), Fail> {
     let alloc = rt.alloc();
     let (file, lane, original) = (FILE, 4, 9);
     let time = Time { sec: 1, frac: 2 };
@@ -47,7 +47,7 @@ fn example_of_round_write(rt: HostRuntime) -> Result<(), Fail> {
 }
 
 #[test]
-fn example_of_round_work(rt: HostRuntime) {
+fn example_of_lanes(rt: HostRuntime) {
     let alloc = rt.alloc();
     let mut packets = in_turn(&rt, alloc);
     let plan = Plan {
@@ -62,7 +62,7 @@ fn example_of_round_work(rt: HostRuntime) {
     let mut lanes = Lanes::new(alloc);
     let blocks = match work_packets(&mut works, alloc, &mut packets, &plan, &mut lanes) {
         Ok(()) => {
-            packets.destroy_empty();
+            packets.discard();
             all_home(&rt, lanes) // once what they came to is written
         }
         Err(_) => rest_home(&rt, packets, lanes),
@@ -96,7 +96,7 @@ fn example_of_rounds(rt: HostRuntime) -> Result<(), Fail> {
 }
 
 #[test]
-fn example_of_round_pipeline(rt: HostRuntime) -> Result<(), Fail> {
+fn example_of_pipeline(rt: HostRuntime) -> Result<(), Fail> {
     let alloc = rt.alloc();
     let mut feed = Feed {
         inner: MemSource::new(TWO_FLOWS.to_vec(alloc)?, 4096, Vec::new(alloc)),

@@ -1,5 +1,5 @@
-//! Tests of rounds: the work of their lanes ([`round_work`]), the records that are written ([`round_write`]), rounds
-//! that are read, merged and segmented ([`rounds`]), read beside the work ([`round_pipeline`]), and checked
+//! Tests of rounds: the work of their lanes ([`lanes`]), the records that are written ([`records`]), rounds
+//! that are read, merged and segmented ([`rounds`]), read beside the work ([`pipeline`]), and checked
 //! ([`checking`]).
 //!
 //! A crate of their own, since one with tests is proved twice, with them and without.
@@ -10,17 +10,17 @@ mod ahead;
 #[cfg(test)]
 mod checks;
 #[cfg(test)]
+mod driven;
+#[cfg(test)]
 mod examples;
 #[cfg(test)]
 mod halting;
 #[cfg(test)]
-mod lanes;
+mod lane_rows;
 #[cfg(test)]
 mod long_runs;
 #[cfg(test)]
 mod merging;
-#[cfg(test)]
-mod pipeline;
 #[cfg(test)]
 mod plans;
 #[cfg(test)]

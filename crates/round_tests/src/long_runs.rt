@@ -2,9 +2,9 @@
 //! length doesn't: there the field is 0. Headers and hashes were computed by a separate program.
 
 use crate::plans::{hash, plain};
+use lanes::Alone;
 use off_io::{Feed, MemSink, MemSource, NoGate};
 use pcap_io::{CaptureReader, Link};
-use round_work::Alone;
 use rounds::{MergeEnd, Moved, Rounds, SegmentRun};
 use std::alloc::{AllocError, Global};
 use std::test::Fail;

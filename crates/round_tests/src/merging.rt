@@ -2,9 +2,9 @@
 ghost use Rattle.std.specs.Prelude.{◌≤◌};
 
 use crate::plans::plain;
+use lanes::Alone;
 use off_io::{Feed, MemSink, MemSource, NoGate};
 use pcap_io::{CaptureReader, Link};
-use round_work::Alone;
 use rounds::{MergeEnd, RoundEnd, RoundRead, Rounds};
 use std::alloc::Global;
 use std::test::Fail;

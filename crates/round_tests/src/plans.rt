@@ -1,9 +1,9 @@
 //! How the work of rounds is divided, and what tells a long output from another.
 ghost use Rattle.std.specs.Prelude.{◌≡◌, ◌≤◌, IfOk};
-ghost use Rattle.round_work.specs.Work.{IsPlan};
+ghost use Rattle.lanes.specs.Work.{IsPlan};
 
 use frame_layout::{Choice, HashKey, even_table};
-use round_work::{Plan, SharedProgram};
+use lanes::{Plan, SharedProgram};
 use std::alloc::Global;
 use std::test::Fail;
 use tap_filter::Program;

@@ -5,11 +5,11 @@ ghost use Rattle.pcap_io.specs.declared.heads.Link.TheVariants.{Ethernet};
 ghost use Rattle.pcap_io.specs.Places.{IsReady};
 ghost use Rattle.pcap_io.specs.Readers.{place_of};
 
-use crate::lanes::BY_QUEUE;
+use crate::lane_rows::BY_QUEUE;
 use crate::plans::plain;
+use lanes::Alone;
 use off_io::{Feed, MemSink, NoGate, Source, SureSource};
 use pcap_io::{CaptureReader, FileHead, Link};
-use round_work::Alone;
 use rounds::{MergeEnd, ReadAhead, RoundEnd, RoundRead, Rounds, Step};
 use std::alloc::Global;
 use std::process::Abort;

@@ -1,14 +1,16 @@
 //! Records of a frame in two blocks, byte for byte, and at a sink whose calls fail in turn.
 
 ghost use Rattle.std.specs.Prelude.{All};
-ghost use Rattle.round_write.specs.Records.{FitsItem};
+ghost use Rattle.records.specs.Records.{FitsItem};
+
+mod in_place;
 
 use frags::{Outcomes, PieceBuilder};
 use gro::Item;
 use off_io::{MemSink, WriteFault};
 use pcap_io::{FileHead, OffHead2, Order};
 use raw_block::Sole;
-use round_write::{Time, write_items, write_record, write_window};
+use records::{Time, write_items, write_record, write_window};
 use skb::Skb;
 use std::alloc::{AllocError, Global};
 use std::process::Abort;

@@ -7,11 +7,7 @@ use Rattle.frags.specs.Account.{Account, Tests, Keeps, both, of_outcomes, receip
 use Rattle.frags.specs.OutcomesState.{OutcomesState, IsBare}
 use Rattle.frags.specs.RoundAccount.{of_lives}
 use Rattle.gro.specs.declared.packet.Packet.{Packet}
-use Rattle.gro.specs.declared.item.Item.{Item}
 use Rattle.gro.specs.Held.{of_packet, of_packets, count_of, counts_of}
-use Rattle.gro.specs.Items.{of_item}
-use Rattle.gro.specs.Table.{of_items}
-use Rattle.rounds.specs.Held.{blocks_in, blocks_in_items}
 use Rattle.rounds.specs.Marks.{all, IsMarked, IsWhole, nothing}
 use Rattle.rounds.specs.Table.{place_at, place_held, place_home, place_missing, of_places, IsOwed, missing, AllOpen, AllHome, MayCome, Comes}
 use Rattle.rounds.specs.declared.table.Place.{Place}
@@ -118,32 +114,18 @@ pub packets_last : (xs : List Packet) (x : Packet) → IsSum (of_packets (xs ++ 
 packets_last [] x t m = (omega arith, omega arith)
 packets_last (y ∷ ys) x t m = let i = packets_last ys x t m in (omega (arith, i), omega (arith, i))
 
-pub packets_first : (a b : List Packet) (x : Packet) → a ≡ x ∷ b → IsSum (of_packets a) (of_packet x) (of_packets b)
-packets_first a b x e = subst (λ (z : List Packet). IsSum (of_packets z) (of_packet x) (of_packets b)) (sym e) (λ t m. (refl, refl))
+pub packets_pop : (a b : List Packet) (x : Packet) → a ≡ b ++ x ∷ [] → IsSum (of_packets a) (of_packet x) (of_packets b)
+packets_pop a b x e = subst (λ (z : List Packet). IsSum (of_packets z) (of_packet x) (of_packets b)) (sym e) (packets_last b x)
 
 pub counts_last : (xs : List Packet) (x : Packet) → counts_of (xs ++ x ∷ []) ≡ count_of x + counts_of xs
 counts_last [] x = omega arith
 counts_last (y ∷ ys) x = omega (arith, counts_last ys x)
 
+pub counts_pop : (a b : List Packet) (x : Packet) → a ≡ b ++ x ∷ [] → counts_of a ≡ count_of x + counts_of b
+counts_pop a b x e = ap counts_of e ∙ counts_last b x
+
 pub no_packets : (xs : List Packet) → xs ≡ [] → (t : Tests) (m : ℕ) → ((of_packets xs).held t m ≡ 0) × ((of_packets xs).homes t.blocks m ≡ 0)
 no_packets xs e t m = (ap (λ (z : List Packet). (of_packets z).held t m) e, ap (λ (z : List Packet). (of_packets z).homes t.blocks m) e)
-
-items_last : (xs : List Item) (x : Item) → IsSum (of_items (xs ++ x ∷ [])) (of_item x) (of_items xs)
-items_last [] x t m = (omega arith, omega arith)
-items_last (y ∷ ys) x t m = let i = items_last ys x t m in (omega (arith, i), omega (arith, i))
-
-pub items_pop : (a b : List Item) (x : Item) → a ≡ b ++ x ∷ [] → IsSum (of_items a) (of_item x) (of_items b)
-items_pop a b x e = subst (λ (z : List Item). IsSum (of_items z) (of_item x) (of_items b)) (sym e) (items_last b x)
-
-blocks_last : (xs : List Item) (x : Item) → blocks_in_items (xs ++ x ∷ []) ≡ blocks_in x.skb + blocks_in_items xs
-blocks_last [] x = omega arith
-blocks_last (y ∷ ys) x = omega (arith, blocks_last ys x)
-
-pub blocks_pop : (a b : List Item) (x : Item) → a ≡ b ++ x ∷ [] → blocks_in_items a ≡ blocks_in x.skb + blocks_in_items b
-blocks_pop a b x e = ap blocks_in_items e ∙ blocks_last b x
-
-pub no_items : (xs : List Item) → xs ≡ [] → (t : Tests) (m : ℕ) → ((of_items xs).held t m ≡ 0) × ((of_items xs).homes t.blocks m ≡ 0)
-no_items xs e t m = (ap (λ (z : List Item). (of_items z).held t m) e, ap (λ (z : List Item). (of_items z).homes t.blocks m) e)
 
 -- all places are home where all that was whole has come
 home_is : (p : Place) (m : ℕ) → IsOwed m p → (place_home p ≡ 0 → full_weight ≤ place_held all m p) → p ≡ Home

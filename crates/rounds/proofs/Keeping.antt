@@ -4,37 +4,38 @@ use Rattle.std.specs.Prelude.{All, IfOk, OnOk, Ok, Err, MatchResult}
 use Rattle.std.specs.declared.result.Result.{Result}
 use Rattle.std.specs.List.{AllByRecursion, filter, range_with_len}
 use Rattle.std.proofs.lemmas.List.{length-take}
+use Rattle.std.proofs.lemmas.List.Elements.{recursion_from_All}
 use Rattle.pcap_io.specs.Capture.{Packet}
 use Rattle.ref_core.specs.WeightRule.{full_weight}
 use Rattle.maximal_runs.proofs.Pass.{all_append}
 use Rattle.frags.specs.Account.{Account, Tests, Keeps, both}
-use Rattle.offload_model.specs.Merged.{Merged, merged_of}
 use Rattle.offload_model.specs.Captured.{IsCaptured}
-use Rattle.offload_model.specs.Rounds.{Spread, is_queued, items_of}
+use Rattle.offload_model.specs.Rounds.{Spread, is_queued}
 use Rattle.offload_model.specs.Written.{window_of}
 use Rattle.offload_model.proofs.Lists.{all_filtered}
 use Rattle.gro.specs.declared.packet.Packet.{Packet as Held}
-use Rattle.gro.specs.Table.{AreReady, ItemsWeighAtLeast}
 use Rattle.gro.specs.Held.{packet_of, of_packets, counts_of, AreHeld, AreShared, IsHeld, WeighAtLeast}
 use Rattle.taps.specs.declared.clones.TapClone.{TapClone}
 use Rattle.taps.specs.Clones.{packet_of as packet_of_clone, blocks_of, of_clones}
 use Rattle.taps.specs.Texts.{text_by, text_of, texts_of}
-use Rattle.round_work.specs.declared.lanes.QueueLane.{QueueLane}
-use Rattle.round_work.specs.declared.lanes.TapLane.{TapLane}
-use Rattle.round_work.specs.declared.lanes.Lanes.{Lanes}
-use Rattle.round_work.specs.declared.plan.Plan.{Plan}
-use Rattle.round_work.specs.Clones.{weight_after, AreAfter}
-use Rattle.round_work.specs.Lanes.{of_lanes, counts_of_queues}
-use Rattle.round_work.specs.Packets.{RiseFrom}
-use Rattle.round_work.specs.Work.{IsPlan, options_by, spread_of, shown_by, AreMerged, AreWatched, merged_in}
+use Rattle.lanes.specs.declared.lane.QueueLane.{QueueLane}
+use Rattle.lanes.specs.declared.lane.TapLane.{TapLane}
+use Rattle.lanes.specs.declared.lane.Lanes.{Lanes}
+use Rattle.lanes.specs.declared.plan.Plan.{Plan}
+use Rattle.lanes.specs.Clones.{weight_after, AreAfter}
+use Rattle.lanes.specs.Lanes.{of_lanes, counts_of_queues, IsMerged}
+use Rattle.lanes.specs.Packets.{RiseFrom}
+use Rattle.lanes.specs.Sharing.{EachFrom}
+use Rattle.lanes.specs.Work.{IsPlan, options_by, spread_of, shown_by, AreMerged, AreWatched}
 use Rattle.rounds.specs.Fresh.{AreRead, IsRead, IsFresh, NumberedFrom}
-use Rattle.rounds.specs.Kept.{Fits, IsKept, IsDone, IsLeft, IsOfLanes}
+use Rattle.rounds.specs.Held.{Fits}
+use Rattle.rounds.specs.Kept.{IsKept, IsDone, IsLeft, IsOfLanes}
 use Rattle.rounds.specs.Lanes.{AreSpent, AreShortTexts, IsKeptWorkOf, IsShortText, IsSmallQueue, IsSmallTap, IsSmallWork}
 use Rattle.rounds.specs.Marks.{IsRound}
 use Rattle.rounds.specs.RoundsState.{WorkedState}
 use Rattle.rounds.specs.declared.lane_work.Kept.{Kept}
 use Rattle.rounds.proofs.Coming.{no_packets}
-use Rattle.rounds.proofs.Small.{captured_fit, items_fit, runs_merge_fit}
+use Rattle.rounds.proofs.Small.{captured_fit}
 use Rattle.rounds.proofs.Taking.{fresh_round}
 use Rattle.rounds.proofs.Working.{round_keeps}
 
@@ -96,17 +97,14 @@ below f k (suc n) m (x ∷ xs) le e =
     let rest : map f xs ≡ range_with_len (k + 1) n = ap (drop 1) e in
     (omega (arith, first, le), below f (k + 1) n m xs (omega (arith, le)) rest)
 
-abbrev AreFit : List Merged → Type 0
-AreFit ms = AllByRecursion (λ (m : Merged). Fits m.packet) ms
-
-merged_fit : (segs : ℕ) (spread : Spread) (ps : List Packet) (qs : List ℕ) → AllByRecursion Fits ps → AllByRecursion AreFit (map (λ q. map merged_of (items_of segs spread q ps)) qs)
-merged_fit segs spread ps [] fit = tt
-merged_fit segs spread ps (q ∷ qs) fit =
-    (runs_merge_fit segs (filter (is_queued spread q) ps) (all_filtered Fits (is_queued spread q) ps fit), merged_fit segs spread ps qs fit)
-
-small_queues : (ls : List QueueLane) → AllByRecursion (λ (l : QueueLane). l.queue < 64) ls → AllByRecursion AreFit (map merged_in ls) → AllByRecursion IsSmallQueue ls
-small_queues [] number fit = tt
-small_queues (l ∷ ls) number fit = ((omega (arith, number.0), items_fit l.items.items fit.0), small_queues ls number.1 fit.1)
+-- the packets of each queue, from number k on, are some of the round's
+small_queues : (spread : Spread) (ps : List Packet) (k : ℕ) (ls : List QueueLane) → AllByRecursion Fits ps → AllByRecursion (λ (l : QueueLane). l.queue < 64) ls
+    → AllByRecursion IsMerged ls → EachFrom (λ q (l : QueueLane). map packet_of l.packets.items ≡ filter (is_queued spread q) ps) k ls → AllByRecursion IsSmallQueue ls
+small_queues spread ps k [] fit number merged packets = tt
+small_queues spread ps k (l ∷ ls) fit number merged packets = (
+  (omega (arith, number.0), merged.0, subst (AllByRecursion Fits) (sym packets.0) (all_filtered Fits (is_queued spread k) ps fit)),
+  small_queues spread ps (suc k) ls fit number.1 merged.1 packets.1,
+)
 
 text_short : (p : Packet) (bytes : List ℕ) → length bytes ≤ 2048 → AllByRecursion IsShortText (text_by p bytes)
 text_short p [] le = tt
@@ -126,10 +124,11 @@ small_taps [] number short = tt
 small_taps (l ∷ ls) number short = ((omega (arith, number.0), short.0), small_taps ls number.1 short.1)
 
 small_lanes : (plan : Plan) (ps : List Packet) (lanes : Lanes) → IsPlan plan → AllByRecursion Fits ps → AreMerged plan.segs (spread_of plan) plan.queues ps lanes.queues.items
+    → All IsMerged lanes.queues.items → EachFrom (λ q (l : QueueLane). map packet_of l.packets.items ≡ filter (is_queued (spread_of plan) q) ps) 0 lanes.queues.items
     → AreWatched plan.snap plan.taps (shown_by plan ps) lanes.taps.items → IsSmallWork lanes
-small_lanes plan ps lanes is fit merged watched = record {
-  queues = small_queues lanes.queues.items (below (λ (l : QueueLane). l.queue) 0 plan.queues 64 lanes.queues.items (omega (arith, is.0.1)) merged.numbers)
-      (subst (AllByRecursion AreFit) (sym merged.items) (merged_fit plan.segs (spread_of plan) ps (range_with_len 0 plan.queues) fit));
+small_lanes plan ps lanes is fit merged are packets watched = record {
+  queues = small_queues (spread_of plan) ps 0 lanes.queues.items fit (below (λ (l : QueueLane). l.queue) 0 plan.queues 64 lanes.queues.items (omega (arith, is.0.1)) merged.numbers)
+      (recursion_from_All IsMerged lanes.queues.items are) packets;
   taps = small_taps lanes.taps.items (below (λ (l : TapLane). l.tap) 0 plan.taps 8 lanes.taps.items (omega (arith, is.1)) watched.numbers)
       (subst (AllByRecursion AreShortTexts) (sym watched.texts) (all_short plan.snap (shown_by plan ps) (range_with_len 0 plan.taps) is.2.1));
 }
@@ -150,22 +149,24 @@ module _ {E : Type 0} (keep : Bool) (ps : List Packet) (n : ℕ) (plan : Plan) (
     (size : j.blocks ≡ k.blocks) where
   pub settles : (r : Result (Unit {0}) E) (l : Lanes) → OnOk r (AreMerged plan.segs (spread_of plan) plan.queues (map packet_of k.packets.items) l.queues.items)
       → OnOk r (AreWatched plan.snap plan.taps (shown_by plan (map packet_of k.packets.items)) l.taps.items)
-      → OnOk r ((j.packets.items ≡ []) × All (λ (q : QueueLane). q.packets.items ≡ []) l.queues.items)
+      → OnOk r (All IsMerged l.queues.items)
+      → OnOk r (EachFrom (λ q (l : QueueLane). map packet_of l.packets.items ≡ filter (is_queued (spread_of plan) q) (map packet_of k.packets.items)) 0 l.queues.items)
+      → OnOk r (j.packets.items ≡ [])
       → Keeps (of_packets k.packets.items) (both (of_packets j.packets.items) (of_lanes l))
       → counts_of j.packets.items + counts_of_queues l.queues.items ≤ counts_of k.packets.items → AreSpent l.taps.items
       → MatchResult r (λ _. IsDone j l) (λ _. IsLeft j l)
-  settles (Ok u) l merged watched all keeps counts spent = record {
-    all = all.0;
+  settles (Ok u) l merged watched are packets all keeps counts spent = record {
+    all = all;
     round = round_now (of_lanes l) k j same size kept.round
         (λ t m.
         let x = keeps t m in
-        let n = no_packets j.packets.items all.0 t m in
+        let n = no_packets j.packets.items all t m in
         (omega (arith, x.0, n.0), omega (arith, x.1, n.0, n.1)));
     counts = omega (arith, counts, kept.counts, size, ap blocks_of same);
     spent = spent;
-    small = small_lanes plan (map packet_of k.packets.items) l is kept.fit merged watched;
+    small = small_lanes plan (map packet_of k.packets.items) l is kept.fit merged are packets watched;
   }
-  settles (Err e) l merged watched all keeps counts spent = record {
+  settles (Err e) l merged watched are packets all keeps counts spent = record {
     round = round_keeps j.blocks (both (both (of_packets j.packets.items) (of_lanes l)) (of_clones j.kept.items)) (both (of_packets j.packets.items) (both (of_lanes l) (of_clones j.kept.items)))
         (λ t m. (omega arith, omega arith)) (round_now (both (of_packets j.packets.items) (of_lanes l)) k j same size kept.round keeps);
     counts = omega (arith, counts, kept.counts, size, ap blocks_of same);
@@ -176,21 +177,19 @@ module _ {E : Type 0} (keep : Bool) (ps : List Packet) (n : ℕ) (plan : Plan) (
 pub kept_work : {E X : Type 0} (plan : Plan) (budget n : ℕ) (keep : Bool) (ps : List Packet) (k : Kept) (done : Result (Unit {0}) E) (l : Lanes) (r : Result WorkedState X) → keep ≡ true
     → IsKept keep ps n k → OnOk done (AreMerged plan.segs (spread_of plan) plan.queues (map packet_of k.packets.items) l.queues.items)
     → OnOk done (AreWatched plan.snap plan.taps (shown_by plan (map packet_of k.packets.items)) l.taps.items)
-    → OnOk done (All (λ (q : QueueLane). AreReady q.items.items) l.queues.items) → OnOk done (All (λ (q : QueueLane). ItemsWeighAtLeast 2048 q.items.items) l.queues.items)
+    → OnOk done (All IsMerged l.queues.items)
     → IfOk r (IsOfLanes done l k.kept.items k.blocks) → IfOk r (IsKeptWorkOf (options_by plan budget) ps)
-kept_work plan budget n keep ps k done l (Err e) on is merged watched ready weigh of = tt
-kept_work plan budget n keep ps k done l (Ok w) on is merged watched ready weigh of =
+kept_work plan budget n keep ps k done l (Err e) on is merged watched are of = tt
+kept_work plan budget n keep ps k done l (Ok w) on is merged watched are of =
     let a = ok_of done (AreMerged plan.segs (spread_of plan) plan.queues (map packet_of k.packets.items) l.queues.items) of.0 merged in
     let b = ok_of done (AreWatched plan.snap plan.taps (shown_by plan (map packet_of k.packets.items)) l.taps.items) of.0 watched in
-    let c = ok_of done (All (λ (q : QueueLane). AreReady q.items.items) l.queues.items) of.0 ready in
-    let d = ok_of done (All (λ (q : QueueLane). ItemsWeighAtLeast 2048 q.items.items) l.queues.items) of.0 weigh in
+    let c = ok_of done (All IsMerged l.queues.items) of.0 are in
     record {
       merged = subst (λ (z : Lanes). AreMerged plan.segs (spread_of plan) plan.queues ps z.queues.items) (sym of.1)
           (subst (λ (z : List Packet). AreMerged plan.segs (spread_of plan) plan.queues z l.queues.items) is.same a);
       watched = subst (λ (z : Lanes). AreWatched plan.snap plan.taps (shown_by plan ps) z.taps.items) (sym of.1)
           (subst (λ (z : List Packet). AreWatched plan.snap plan.taps (shown_by plan z) l.taps.items) is.same b);
-      ready = subst (λ (z : Lanes). All (λ (q : QueueLane). AreReady q.items.items) z.queues.items) (sym of.1) c;
-      weigh = subst (λ (z : Lanes). All (λ (q : QueueLane). ItemsWeighAtLeast 2048 q.items.items) z.queues.items) (sym of.1) d;
+      is = subst (λ (z : Lanes). All IsMerged z.queues.items) (sym of.1) c;
       kept = ap (map packet_of_clone) of.2 ∙ is.clones on;
       rising = subst (RiseFrom 0) is.same is.rising;
     }

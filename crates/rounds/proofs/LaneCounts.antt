@@ -4,9 +4,9 @@ use Rattle.frags.specs.Account.{Tests}
 use Rattle.skb.specs.SkbState.{of_buffer}
 use Rattle.taps.specs.declared.clones.TapClone.{TapClone}
 use Rattle.taps.specs.Clones.{blocks_of, of_clones}
-use Rattle.round_work.specs.declared.lanes.QueueLane.{QueueLane}
-use Rattle.round_work.specs.declared.lanes.TapLane.{TapLane}
-use Rattle.round_work.specs.Lanes.{of_queue, of_queues, of_tap, of_taps, count_of_queue, counts_of_queues}
+use Rattle.lanes.specs.declared.lane.QueueLane.{QueueLane}
+use Rattle.lanes.specs.declared.lane.TapLane.{TapLane}
+use Rattle.lanes.specs.Lanes.{of_queue, of_queues, of_tap, of_taps, count_of_queue, counts_of_queues}
 use Rattle.rounds.proofs.Coming.{IsSum}
 
 -- ---- lists from a place on

@@ -1,5 +1,5 @@
 -- Rounds that are worked in lanes: what is written of them.
-use Rattle.std.proofs.Common.{◌≡◌, ℕ, ◌+◌, ◌≤◌, Option, None, Some, List, [], ◌∷◌, ◌++◌, map, refl, sym, ap, ◌∙◌, subst, arith}
+use Rattle.std.proofs.Common.{◌≡◌, ℕ, Option, None, Some, List, [], ◌∷◌, ◌++◌, map, refl, sym, ap, ◌∙◌, subst}
 use Rattle.std.specs.Prelude.{IfOk, OnOk, OnErr, MatchResult, Ok, Err}
 use Rattle.std.specs.declared.result.Result.{Result}
 use Rattle.std.specs.List.{flat_map}
@@ -14,13 +14,11 @@ use Rattle.offload_model.specs.Merged.{Merged}
 use Rattle.offload_model.specs.Segments.{with_head}
 use Rattle.offload_model.specs.Steps.{round_output}
 use Rattle.offload_model.specs.Written.{Options, head_of, record_bytes, round_records}
-use Rattle.gro.specs.declared.item.Item.{Item}
-use Rattle.gro.specs.Items.{item_of}
 use Rattle.taps.specs.Texts.{record_of_text}
-use Rattle.round_work.specs.declared.lanes.Lanes.{Lanes}
-use Rattle.round_work.specs.Work.{lane_records, records_of_queue, records_of_tap, records_of_texts}
-use Rattle.round_write.specs.Records.{item_bytes}
-use Rattle.rounds.specs.Lanes.{worked_records, bytes_of_items, queue_bytes, text_bytes, bytes_of_texts, tap_bytes, lanes_bytes, worked_bytes}
+use Rattle.lanes.specs.declared.lane.Lanes.{Lanes}
+use Rattle.lanes.specs.Work.{lane_records, merged_in, records_of_queue, records_of_tap, records_of_texts}
+use Rattle.records.specs.Records.{item_bytes}
+use Rattle.rounds.specs.Lanes.{worked_records, queue_bytes, text_bytes, bytes_of_texts, tap_bytes, lanes_bytes, worked_bytes}
 use Rattle.block_pool.specs.PoolState.{PoolState}
 use Rattle.rounds.specs.Benches.{Brings, MayBring}
 use Rattle.rounds.specs.RoundsState.{BenchState, WorkedState}
@@ -34,12 +32,9 @@ flat_twice : {A B C : Type 0} (f : B → List C) (g : A → List B) (h : A → L
 flat_twice f g h [] e = refl
 flat_twice f g h (x ∷ xs) e = flat_map-append f (g x) (flat_map g xs) ∙ both_parts (flat_map f (g x)) (h x) (flat_map f (flat_map g xs)) (flat_map h xs) (e x) (flat_twice f g h xs e)
 
-abbrev records_of_items : ℕ → List Item → List Packet
-records_of_items q items = map (λ (m : Merged). with_head (head_of q m) m.packet) (map item_of items)
-
-items_are : (order : Order) (q : ℕ) (items : List Item) → flat_map (record_bytes order) (records_of_items q items) ≡ bytes_of_items order q items
+items_are : (order : Order) (q : ℕ) (ms : List Merged) → flat_map (record_bytes order) (map (λ (m : Merged). with_head (head_of q m) m.packet) ms) ≡ flat_map (item_bytes order q) ms
 items_are order q [] = refl
-items_are order q (i ∷ items) = ap (λ z. item_bytes order q (item_of i) ++ z) (items_are order q items)
+items_are order q (m ∷ ms) = ap (λ z. item_bytes order q m ++ z) (items_are order q ms)
 
 texts_are : (order : Order) (t : ℕ) (texts : List Packet) → flat_map (record_bytes order) (map (record_of_text t) texts) ≡ flat_map (text_bytes order t) texts
 texts_are order t [] = refl
@@ -56,7 +51,7 @@ lanes_are order lanes =
     let bytes = record_bytes order in
     flat_map-append bytes (flat_map records_of_queue queues) (flat_map records_of_tap taps)
     ∙ both_parts (flat_map bytes (flat_map records_of_queue queues)) (flat_map (queue_bytes order) queues) (flat_map bytes (flat_map records_of_tap taps)) (flat_map (tap_bytes order) taps)
-    (flat_twice bytes records_of_queue (queue_bytes order) queues (λ l. items_are order l.queue l.items.items))
+    (flat_twice bytes records_of_queue (queue_bytes order) queues (λ l. items_are order l.queue (merged_in l)))
     (flat_twice bytes records_of_tap (tap_bytes order) taps (λ l. some_texts_are order l.tap l.texts))
 
 -- what is written of a round that was worked is what merging writes of it

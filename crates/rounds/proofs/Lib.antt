@@ -16,7 +16,7 @@ mod Pausing
 mod Working
 -- what lanes hold, the last one apart
 mod LaneCounts
--- items that are short enough to be written
+-- packets that are short enough to be written
 mod Small
 -- packets that are worked in lanes, with clones beside them
 mod Keeping

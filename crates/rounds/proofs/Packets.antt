@@ -21,8 +21,8 @@ use Rattle.gro.specs.declared.packet.Packet.{Packet as Held}
 use Rattle.gso.specs.Places.{SegmentsState}
 use Rattle.gso.specs.Planning.{IsLawfulBehind, packets_by}
 use Rattle.gso.specs.declared.judging.Plan.TheVariants.{Segments}
-use Rattle.round_write.specs.Records.{segment_bytes}
-use Rattle.round_write.specs.declared.record.Time.{Time}
+use Rattle.records.specs.Records.{segment_bytes}
+use Rattle.records.specs.declared.record.Time.{Time}
 use Rattle.rounds.specs.declared.cut.Refused.{Refused}
 use Rattle.rounds.specs.declared.cut.Refused.TheVariants as refusals
 use Rattle.rounds.specs.Cutting.{IsBehind, Writes, WritesRecord, packet_behind, packets_bytes}

@@ -5,7 +5,7 @@ use Rattle.block_pool.specs.PoolState.{PoolState, home}
 use Rattle.offload_model.specs.Captured.{IsCaptured}
 use Rattle.offload_model.specs.Written.{Options}
 use Rattle.gro.specs.Held.{packet_of}
-use Rattle.round_work.specs.Work.{options_by}
+use Rattle.lanes.specs.Work.{options_by}
 use Rattle.rounds.specs.Fresh.{NumberedFrom}
 use Rattle.rounds.specs.RoundsState.{BenchState, IntakeState, RoundState}
 

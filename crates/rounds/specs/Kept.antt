@@ -1,24 +1,20 @@
 -- A round before and after the work of its lanes, with the clones that are kept beside it.
-use Rattle.std.specs.Prelude.{ℕ, ◌≡◌, ◌+◌, ◌^◌, ◌<◌, ◌≤◌, Bool, true, Result, Ok, List, [], length, map}
+use Rattle.std.specs.Prelude.{ℕ, ◌≡◌, ◌+◌, ◌≤◌, Bool, true, Result, Ok, List, [], map}
 use Rattle.std.specs.List.{AllByRecursion}
 use Rattle.pcap_io.specs.Capture.{Packet}
-use Rattle.pcap_io.specs.Limits.{most_frame}
 use Rattle.frags.specs.Account.{both}
 use Rattle.gro.specs.Held.{packet_of, of_packets, counts_of, AreHeld, AreShared, WeighAtLeast}
 use Rattle.taps.specs.declared.clones.TapClone.{TapClone}
 use Rattle.taps.specs.Clones.{packet_of as packet_of_clone, blocks_of, of_clones}
-use Rattle.round_work.specs.declared.lanes.Lanes.{Lanes}
-use Rattle.round_work.specs.Clones.{weight_after}
-use Rattle.round_work.specs.Lanes.{of_lanes, counts_of_queues}
-use Rattle.round_work.specs.Packets.{RiseFrom}
+use Rattle.lanes.specs.declared.lane.Lanes.{Lanes}
+use Rattle.lanes.specs.Clones.{weight_after}
+use Rattle.lanes.specs.Lanes.{of_lanes, counts_of_queues}
+use Rattle.lanes.specs.Packets.{RiseFrom}
+use Rattle.rounds.specs.Held.{Fits}
 use Rattle.rounds.specs.Lanes.{AreSpent, IsSmallWork}
 use Rattle.rounds.specs.Marks.{IsRound}
 use Rattle.rounds.specs.RoundsState.{WorkedState}
 use Rattle.rounds.specs.declared.lane_work.Kept.{Kept}
-
--- its lengths are such as a frame of a capture may have
-abbrev pub Fits : Packet → Type 0
-Fits p = (length p.frame ≤ most_frame) × (p.original < 2 ^ 31)
 
 -- these packets may be worked in lanes, and where clones are kept there is one of each
 pub record IsKept (keep : Bool) (ps : List Packet) (n : ℕ) (k : Kept) : Type 0 where

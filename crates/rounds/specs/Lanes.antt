@@ -5,20 +5,18 @@ use Rattle.net_bytes.specs.declared.order.Order.{Order}
 use Rattle.pcap_io.specs.Capture.{Packet}
 use Rattle.frags.specs.Account.{Account, both}
 use Rattle.offload_model.specs.Written.{Options, record_bytes, shown_of}
-use Rattle.gro.specs.declared.item.Item.{Item}
-use Rattle.gro.specs.Items.{item_of}
-use Rattle.gro.specs.Table.{AreReady, ItemsWeighAtLeast}
+use Rattle.gro.specs.Held.{packet_of}
 use Rattle.taps.specs.declared.clones.TapClone.{TapClone}
 use Rattle.taps.specs.Clones.{packet_of as packet_of_clone, blocks_of, of_clones}
 use Rattle.taps.specs.Texts.{record_of_text}
-use Rattle.round_work.specs.declared.lanes.QueueLane.{QueueLane}
-use Rattle.round_work.specs.declared.lanes.TapLane.{TapLane}
-use Rattle.round_work.specs.declared.lanes.Lanes.{Lanes}
-use Rattle.round_work.specs.Lanes.{of_lanes, counts_of_queues}
-use Rattle.round_work.specs.Packets.{RiseFrom}
-use Rattle.round_work.specs.Work.{AreMerged, AreWatched, lane_records}
-use Rattle.round_write.specs.Records.{item_bytes}
-use Rattle.rounds.specs.Held.{AreSmall}
+use Rattle.lanes.specs.declared.lane.QueueLane.{QueueLane}
+use Rattle.lanes.specs.declared.lane.TapLane.{TapLane}
+use Rattle.lanes.specs.declared.lane.Lanes.{Lanes}
+use Rattle.lanes.specs.Lanes.{of_lanes, counts_of_queues, IsMerged}
+use Rattle.lanes.specs.Packets.{RiseFrom}
+use Rattle.lanes.specs.Work.{AreMerged, AreWatched, lane_records, merged_in}
+use Rattle.records.specs.Records.{item_bytes}
+use Rattle.rounds.specs.Held.{Fits}
 use Rattle.rounds.specs.RoundsState.{WorkedState}
 
 -- ---- what it holds
@@ -39,11 +37,8 @@ AreSpent lanes = All (λ (l : TapLane). l.clones.items ≡ []) lanes
 abbrev pub worked_records : WorkedState → List Packet
 worked_records w = lane_records w.lanes
 
-abbrev pub bytes_of_items : Order → ℕ → List Item → List ℕ
-bytes_of_items order q items = flat_map (λ item. item_bytes order q (item_of item)) items
-
 abbrev pub queue_bytes : Order → QueueLane → List ℕ
-queue_bytes order l = bytes_of_items order l.queue l.items.items
+queue_bytes order l = flat_map (item_bytes order l.queue) (merged_in l)
 
 abbrev pub text_bytes : Order → ℕ → Packet → List ℕ
 text_bytes order t text = record_bytes order (record_of_text t text)
@@ -58,14 +53,15 @@ tap_bytes order l = bytes_of_texts order l.tap l.texts
 abbrev pub lanes_bytes : Order → Lanes → List ℕ
 lanes_bytes order l = flat_map (queue_bytes order) l.queues.items ++ flat_map (tap_bytes order) l.taps.items
 
--- queue by queue its items, and then tap by tap its windows
+-- queue by queue what its runs come to, and then tap by tap its windows
 abbrev pub worked_bytes : Order → WorkedState → List ℕ
 worked_bytes order w = lanes_bytes order w.lanes
 
 -- ---- that it may be written
 
+-- each packet of it is in a run, and fits a record: what the runs come to does so as well
 abbrev pub IsSmallQueue : QueueLane → Type 0
-IsSmallQueue l = (l.queue ≤ 63) × AreSmall l.items.items
+IsSmallQueue l = (l.queue ≤ 63) × IsMerged l × AllByRecursion Fits (map packet_of l.packets.items)
 
 abbrev pub IsShortText : Packet → Type 0
 IsShortText text = length text.frame ≤ 2048
@@ -84,11 +80,10 @@ pub record IsSmallWork (lanes : Lanes) : Type 0 where
 
 -- ---- what is kept for a comparison
 
--- each item may be cut, and beside the lanes stands a clone of each packet
+-- each packet stands in a run, once, and beside the lanes stands a clone of each
 pub record IsKeptWorkOf (options : Options) (ps : List Packet) (w : WorkedState) : Type 0 where
   pub merged : AreMerged options.segs options.spread options.queues ps w.lanes.queues.items
   pub watched : AreWatched options.snap options.taps (map (shown_of options.filter) ps) w.lanes.taps.items
-  pub ready : All (λ (l : QueueLane). AreReady l.items.items) w.lanes.queues.items
-  pub weigh : All (λ (l : QueueLane). ItemsWeighAtLeast 2048 l.items.items) w.lanes.queues.items
+  pub is : All IsMerged w.lanes.queues.items
   pub kept : map packet_of_clone w.kept ≡ ps
   pub rising : RiseFrom 0 ps

@@ -13,7 +13,7 @@ use Rattle.offload_model.specs.Passing.{Ending, Stopped, Nowhere, AtFault, AtRou
 use Rattle.offload_model.specs.Passing.{merging, Passes}
 use Rattle.offload_model.specs.Steps.{GoesOn, ending_behind}
 use Rattle.offload_model.specs.Written.{Options}
-use Rattle.round_work.specs.Work.{options_by}
+use Rattle.lanes.specs.Work.{options_by}
 use Rattle.rounds.specs.Record.{in_front}
 use Rattle.rounds.specs.RoundsState.{RoundsState}
 use Rattle.rounds.specs.declared.round.RoundEnd.{RoundEnd}

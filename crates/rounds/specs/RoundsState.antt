@@ -2,8 +2,8 @@
 use Rattle.std.specs.Prelude.{ℕ, Bool, List}
 use Rattle.gro.specs.declared.packet.Packet.{Packet}
 use Rattle.taps.specs.declared.clones.TapClone.{TapClone}
-use Rattle.round_work.specs.declared.lanes.Lanes.{Lanes}
-use Rattle.round_work.specs.declared.plan.Plan.{Plan}
+use Rattle.lanes.specs.declared.lane.Lanes.{Lanes}
+use Rattle.lanes.specs.declared.plan.Plan.{Plan}
 
 -- and how many packets a round may have, how its work is divided, and whether a clone of each packet is kept
 pub record RoundsState : Type 0 where

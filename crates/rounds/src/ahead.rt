@@ -1,7 +1,6 @@
 //! A round is read beside the work of another.
 ghost use Rattle.std.specs.Prelude.{◌≡◌, ◌≢◌, ◌+◌, ◌-◌, ◌<◌, ◌≤◌, ◌^◌, [], true, length, map, min, All, IfOk, IfErr};
 ghost use Rattle.std.specs.Prelude.{IsErr, MatchResult, Ok};
-ghost use Rattle.std.specs.VecDeque.{deque_capacity};
 ghost use Rattle.std.specs.List.{AllByRecursion};
 ghost use Rattle.off_io.specs.Faults.{Rose};
 ghost use Rattle.off_io.specs.Told.{Told};
@@ -12,7 +11,7 @@ ghost use Rattle.offload_model.specs.Captured.{IsCaptured};
 ghost use Rattle.offload_model.specs.Need.{round_need};
 ghost use Rattle.offload_model.specs.Written.{round_records};
 ghost use Rattle.gro.specs.Held.{packet_of};
-ghost use Rattle.gro.specs.Table.{AreReady};
+ghost use Rattle.lanes.specs.Lanes.{IsMerged};
 ghost use Rattle.rounds.specs.Ahead.{blocks_out, round_of, GivesAhead, IfPaused, IfRead, ReadsAhead};
 ghost use Rattle.rounds.specs.Benches.{options_at};
 ghost use Rattle.rounds.specs.Lanes.{worked_records, IsKeptWorkOf};
@@ -23,12 +22,11 @@ use crate::bench::Bench;
 use crate::intake::Intake;
 use crate::round::{ReadAhead, Rest, Round, RoundEnd, RoundRead, Worked, no_round};
 use crate::rounds::Rounds;
-use gro::Packet;
+use gro::Packets;
+use lanes::Works;
 use off_io::Source;
 use pcap_io::CaptureReader;
-use round_work::Works;
 use std::alloc::AllocError;
-use std::collections::VecDeque;
 use std::thread::{Threads, join_mut};
 
 // One side reads, in a thread of its own, and the other works here.
@@ -39,12 +37,12 @@ fn work_beside<'a, R: Threads + Sync, W: Works, S: Source + Send>(
     round: &'a mut Round,
     intake: &'a mut Intake,
     reader: &'a mut CaptureReader<'_, S>,
-    list: &'a mut VecDeque<Packet>,
+    list: &'a mut Packets,
 ) -> (ReadAhead, Result<Worked, Rest>)
     requires ready { IsReady (place_of reader.old) }
     requires link { (place_of reader.old).link ≡ Ethernet }
     requires none { list.old.items ≡ [] }
-    requires reserved { intake.old.budget ≤ deque_capacity list.old }
+    requires reserved { intake.old.budget ≤ list.old.room }
     requires few { round.old.blocks ≤ bench.old.blocks }
     ensures same_source { SameLoan reader.old reader.new }
     ensures given { Told (S.left (source_of reader.old)) (S.left (source_of reader.new))
@@ -67,7 +65,7 @@ fn work_beside<'a, R: Threads + Sync, W: Works, S: Source + Send>(
         ≡ round_records (options_at bench.old) (map packet_of round.old.packets)) }
     ensures checked { bench.old.keep ≡ true → IfOk result.1
         (λ worked. IsKeptWorkOf (options_at bench.old) (map packet_of round.old.packets) worked) }
-    ensures ready { IfOk result.1 (λ worked. All (λ lane. AreReady lane.items.items) worked.lanes.queues.items) }
+    ensures merged { IfOk result.1 (λ worked. All IsMerged worked.lanes.queues.items) }
     ensures worked { IfOk result.1 (λ worked. worked.blocks ≡ round.old.blocks) }
     ensures rest { IfErr result.1 (λ rest. rest ≡ round.old.blocks) }
     ensures spent { round.new.packets ≡ [] }
@@ -79,7 +77,7 @@ fn work_beside<'a, R: Threads + Sync, W: Works, S: Source + Send>(
             requires ready { IsReady (place_of reader.now) }
             requires link { (place_of reader.now).link ≡ Ethernet }
             requires none { list.now.items ≡ [] }
-            requires reserved { intake.now.budget ≤ deque_capacity list.now }
+            requires reserved { intake.now.budget ≤ list.now.room }
             ensures same_source { SameLoan reader.entry.now reader.exit.now }
             ensures given { Told (S.left (source_of reader.entry.now)) (S.left (source_of reader.exit.now))
                 (GivesAhead intake.entry.now.blocks (place_of reader.entry.now) (place_of reader.exit.now) result) }
@@ -108,8 +106,7 @@ fn work_beside<'a, R: Threads + Sync, W: Works, S: Source + Send>(
             ensures checked { bench.entry.now.keep ≡ true
                 → IfOk result (λ worked. IsKeptWorkOf (options_at bench.entry.now)
                 (map packet_of round.entry.now.packets) worked) }
-            ensures ready { IfOk result (λ worked. All (λ lane. AreReady lane.items.items)
-                worked.lanes.queues.items) }
+            ensures merged { IfOk result (λ worked. All IsMerged worked.lanes.queues.items) }
             ensures worked { IfOk result (λ worked. worked.blocks ≡ round.entry.now.blocks) }
             ensures rest { IfErr result (λ rest. rest ≡ round.entry.now.blocks) }
             ensures spent { round.exit.now.packets ≡ [] }
@@ -155,8 +152,7 @@ impl Rounds {
             ≡ round_records (options_of self.old) (map packet_of round.packets)) }
         ensures checked { self.old.keep ≡ true → IfOk result.0
             (λ worked. IsKeptWorkOf (options_of self.old) (map packet_of round.packets) worked) }
-        ensures ready { IfOk result.0 (λ worked. All (λ lane. AreReady lane.items.items)
-            worked.lanes.queues.items) }
+        ensures merged { IfOk result.0 (λ worked. All IsMerged worked.lanes.queues.items) }
         ensures worked { IfOk result.0 (λ worked. worked.blocks ≡ round.blocks) }
         ensures same_source { SameLoan reader.old reader.new }
         ensures given { Told (S.left (source_of reader.old)) (S.left (source_of reader.new))
@@ -184,8 +180,8 @@ impl Rounds {
         let bench = &mut self.bench;
         let (read, worked) = work_beside(rt, works, bench, &mut round, intake, reader, &mut list);
         let Round { packets, blocks: _ } = round;
-        packets.destroy_empty();
-        list.destroy_empty();
+        packets.discard();
+        list.discard();
         (self.close_work(worked), read)
     }
 

@@ -1,14 +1,12 @@
 //! The side of rounds that works.
 ghost use Rattle.std.specs.Prelude.{◌≡◌, ◌≢◌, ◌+◌, ◌≤◌, true, [], length, map, All, IfOk, IfErr, OnOk, OnErr};
 ghost use Rattle.std.specs.Io.KnownBytes.{Appends};
-ghost use Rattle.std.specs.VecDeque.{deque_capacity};
 ghost use Rattle.off_io.specs.Content.{AppendsFront};
 ghost use Rattle.off_io.specs.Faults.{HasCause};
 ghost use Rattle.offload_model.specs.Written.{round_records};
 ghost use Rattle.gro.specs.Held.{packet_of};
-ghost use Rattle.gro.specs.Table.{AreReady};
-ghost use Rattle.round_work.specs.Lanes.{AreIdle};
-ghost use Rattle.round_work.specs.Work.{IsPlan};
+ghost use Rattle.lanes.specs.Lanes.{AreIdle, IsMerged};
+ghost use Rattle.lanes.specs.Work.{IsPlan};
 ghost use Rattle.rounds.specs.Benches.{options_at, Brings, IsSameBench, MayBring};
 ghost use Rattle.rounds.specs.Lanes.{worked_bytes, worked_records, IsKeptWorkOf};
 
@@ -20,12 +18,11 @@ use crate::writing::write_lanes;
 use block_pool::Pool;
 use core::mem::replace;
 use frags::Outcomes;
-use gro::Packet;
+use gro::Packets;
+use lanes::{Lanes, Plan, Works};
 use off_io::{Sink, WriteFault};
 use pcap_io::FileHead;
-use round_work::{Lanes, Plan, Works};
 use std::alloc::{AllocError, Global};
-use std::collections::VecDeque;
 use std::marker::Model;
 
 /// What rounds are worked with: it holds no block between them, and blocks come home to whoever is told. Memory is kept
@@ -36,7 +33,7 @@ pub struct Bench {
     places: Vec<Place>,
     out: Outcomes,
     // Memory alone.
-    pub(crate) packets: VecDeque<Packet>,
+    pub(crate) packets: Packets,
     // Idle between rounds. Those of a round that was worked are away until it ends.
     lanes: Lanes,
     budget: u32,
@@ -48,8 +45,8 @@ pub struct Bench {
 impl Model for Bench {
     ghost use Rattle.std.specs.Prelude.{◌≡◌, ◌≤◌, [], length};
     ghost use Rattle.frags.specs.OutcomesState.{IsBare};
-    ghost use Rattle.round_work.specs.Lanes.{AreIdle};
-    ghost use Rattle.round_work.specs.Work.{IsPlan};
+    ghost use Rattle.lanes.specs.Lanes.{AreIdle};
+    ghost use Rattle.lanes.specs.Work.{IsPlan};
     ghost use Rattle.rounds.specs.RoundsState.{BenchState};
     ghost use Rattle.rounds.specs.Table.{AllOpen};
 
@@ -81,7 +78,7 @@ impl Drop for Bench {
         } = self;
         close_places(places);
         out.settle();
-        packets.destroy_empty();
+        packets.discard();
         lanes.free();
     }
 }
@@ -113,7 +110,7 @@ impl Bench {
                 return Err(error);
             }
         };
-        let packets = match VecDeque::with_capacity(alloc, budget as usize) {
+        let packets = match Packets::with_capacity(alloc, budget as usize) {
             Ok(packets) => packets,
             Err(error) => {
                 close_places(places);
@@ -165,24 +162,24 @@ impl Bench {
     }
 
     /// The same, and a list for the packets of the next round.
-    pub(crate) fn take_list(&mut self) -> Result<VecDeque<Packet>, AllocError>
+    pub(crate) fn take_list(&mut self) -> Result<Packets, AllocError>
         ensures none { IfOk result (λ ps. ps.items ≡ []) }
-        ensures reserved { IfOk result (λ ps. self.old.budget ≤ deque_capacity ps) }
+        ensures reserved { IfOk result (λ ps. self.old.budget ≤ ps.room) }
         ensures room { OnOk result (self.new.blocks + self.new.blocks ≤ self.new.room) }
         ensures later { self.old.room ≤ self.new.room }
         ensures same { IsSameBench self.old self.new }
     {
         self.make_room()?;
         self.packets.reserve(self.budget as usize)?;
-        Ok(replace(&mut self.packets, VecDeque::new(self.alloc)))
+        Ok(replace(&mut self.packets, Packets::new(self.alloc)))
     }
 
     // The memory of a round's packets.
-    fn take_packets(&mut self) -> VecDeque<Packet>
+    fn take_packets(&mut self) -> Packets
         ensures none { result.items ≡ [] }
         ensures same { self.new ≡ self.old }
     {
-        replace(&mut self.packets, VecDeque::new(self.alloc))
+        replace(&mut self.packets, Packets::new(self.alloc))
     }
 
     // The lanes, for a round: those that are kept, or none yet.
@@ -205,7 +202,7 @@ impl Bench {
             ≡ round_records (options_at self.old) (map packet_of round.packets)) }
         ensures checked { self.old.keep ≡ true → IfOk result
             (λ worked. IsKeptWorkOf (options_at self.old) (map packet_of round.packets) worked) }
-        ensures ready { IfOk result (λ worked. All (λ lane. AreReady lane.items.items) worked.lanes.queues.items) }
+        ensures merged { IfOk result (λ worked. All IsMerged worked.lanes.queues.items) }
         ensures worked { IfOk result (λ worked. worked.blocks ≡ round.blocks) }
         ensures same { OnOk result ((self.new ≡ self.old) × (home.new ≡ home.old)) }
         ensures brings { OnErr result (Brings round.blocks self.old self.new home.old home.new) }
@@ -231,7 +228,7 @@ impl Bench {
             ≡ round_records (options_at self.old) (map packet_of round.old.packets)) }
         ensures checked { self.old.keep ≡ true → IfOk result
             (λ worked. IsKeptWorkOf (options_at self.old) (map packet_of round.old.packets) worked) }
-        ensures ready { IfOk result (λ worked. All (λ lane. AreReady lane.items.items) worked.lanes.queues.items) }
+        ensures merged { IfOk result (λ worked. All IsMerged worked.lanes.queues.items) }
         ensures worked { IfOk result (λ worked. worked.blocks ≡ round.old.blocks) }
         ensures rest { IfErr result (λ rest. rest ≡ round.old.blocks) }
         ensures spent { round.new.packets ≡ [] }
@@ -316,7 +313,7 @@ impl Bench {
             &mut lanes,
             kept,
         );
-        replace(&mut self.packets, packets).destroy_empty();
+        replace(&mut self.packets, packets).discard();
         replace(&mut self.lanes, lanes).free();
     }
 }

@@ -27,7 +27,7 @@ use gro::Packet;
 use gso::{BadOffload, Plan, Segments, check_super};
 use off_io::{Sink, WriteFault};
 use pcap_io::{AnyHead, FileHead, OFF_HEAD_LEN};
-use round_write::{Time, write_record, write_segments};
+use records::{Time, write_record, write_segments};
 
 /// Why the packets of a record aren't all written.
 #[derive(Clone, Copy, Debug, PartialEq, Eq)]

@@ -7,7 +7,7 @@ ghost use Rattle.rounds.specs.Benches.{options_at, Brings, IsRead, MayBring};
 use crate::bench::Bench;
 use crate::round::{RoundEnd, RoundRead};
 use block_pool::Pool;
-use round_work::Works;
+use lanes::Works;
 
 /// What is done with each round of a capture, in turn, until that ends, as an `E` says. `T` is what comes of it.
 pub trait RoundHandler<T, E> {

@@ -4,10 +4,8 @@ ghost use Rattle.block_pool.specs.PoolState.{home};
 ghost use Rattle.frags.specs.Account.{both, of_outcomes};
 ghost use Rattle.skb.specs.SkbState.{of_buffer};
 ghost use Rattle.gro.specs.Held.{of_packet, of_packets, count_of, counts_of};
-ghost use Rattle.gro.specs.Items.{of_item};
-ghost use Rattle.gro.specs.Table.{of_items};
-ghost use Rattle.round_work.specs.Lanes.{AreIdle};
-ghost use Rattle.rounds.specs.Held.{blocks_in, blocks_in_items};
+ghost use Rattle.lanes.specs.Lanes.{AreIdle};
+ghost use Rattle.rounds.specs.Held.{blocks_in};
 ghost use Rattle.rounds.specs.Lanes.{of_work, count_of_work, AreSpent};
 ghost use Rattle.rounds.specs.Marks.{IsRound, nothing};
 ghost use Rattle.frags.specs.OutcomesState.{IsBare};
@@ -17,10 +15,9 @@ use crate::lane_home::{bring_kept, bring_lanes};
 use crate::table::{Place, reopen, sweep};
 use block_pool::Pool;
 use frags::Outcomes;
-use gro::{Item, Packet};
-use round_work::{LaneTable, Lanes};
+use gro::{Packet, Packets};
+use lanes::Lanes;
 use skb::Skb;
-use std::collections::VecDeque;
 use taps::TapClone;
 
 /// A buffer is given back, and its blocks go home.
@@ -54,43 +51,12 @@ pub(crate) fn bring_packet(
     sweep(pool, places, out);
 }
 
-/// An item is given back. Its outcomes hold nothing any more.
-pub(crate) fn bring_item(
-    pool: &mut Pool,
-    places: &mut [Place],
-    out: &mut Outcomes,
-    item: Item,
-) -> Outcomes
-    requires may { MayCome (of_item item) pool.old places.old }
-    requires bare { IsBare out.old }
-    requires spare { blocks_in item.skb ≤ out.old.spare }
-    ensures comes { Comes (of_item item) nothing pool.old places.old pool.new places.new }
-    ensures bare { IsBare out.new }
-    ensures spare { out.old.spare ≤ out.new.spare + blocks_in item.skb }
-    ensures empty { IsBare result }
-{
-    let Item {
-        skb,
-        mut outcomes,
-        number: _,
-        sec: _,
-        frac: _,
-        original: _,
-        n: _,
-        m: _,
-        modes: _,
-    } = item;
-    bring_buffer(pool, places, out, skb);
-    sweep(pool, places, &mut outcomes);
-    outcomes
-}
-
 /// All packets are given back, and their memory stays.
 pub(crate) fn bring_packets(
     pool: &mut Pool,
     places: &mut [Place],
     out: &mut Outcomes,
-    packets: &mut VecDeque<Packet>,
+    packets: &mut Packets,
 )
     requires may { MayCome (of_packets packets.old.items) pool.old places.old }
     requires bare { IsBare out.old }
@@ -100,29 +66,8 @@ pub(crate) fn bring_packets(
     ensures spare { out.old.spare ≤ out.new.spare + counts_of packets.old.items }
     ensures none { packets.new.items ≡ [] }
 {
-    while let Some(packet) = packets.pop_front() {
+    while let Some(packet) = packets.pop() {
         bring_packet(pool, places, out, packet);
-    }
-}
-
-/// All items are given back, and their memory stays. Their outcomes serve items to come.
-pub(crate) fn bring_items(
-    pool: &mut Pool,
-    places: &mut [Place],
-    merging: &mut LaneTable,
-    out: &mut Outcomes,
-    items: &mut Vec<Item>,
-)
-    requires may { MayCome (of_items items.old.items) pool.old places.old }
-    requires bare { IsBare out.old }
-    requires spare { blocks_in_items items.old.items ≤ out.old.spare }
-    ensures comes { Comes (of_items items.old.items) nothing pool.old places.old pool.new places.new }
-    ensures bare { IsBare out.new }
-    ensures spare { out.old.spare ≤ out.new.spare + blocks_in_items items.old.items }
-    ensures none { items.new.items ≡ [] }
-{
-    while let Some(item) = items.pop() {
-        merging.keep(bring_item(pool, places, out, item));
     }
 }
 
@@ -152,7 +97,7 @@ fn bring_all(
     pool: &mut Pool,
     places: &mut [Place],
     out: &mut Outcomes,
-    packets: &mut VecDeque<Packet>,
+    packets: &mut Packets,
     lanes: &mut Lanes,
     kept: Vec<TapClone>,
 )
@@ -185,7 +130,7 @@ pub(crate) fn bring_round(
     table: &mut [Place],
     blocks: u32,
     out: &mut Outcomes,
-    packets: &mut VecDeque<Packet>,
+    packets: &mut Packets,
     lanes: &mut Lanes,
     kept: Vec<TapClone>,
 )

@@ -1,7 +1,6 @@
 //! The side of rounds that reads.
 ghost use Rattle.std.specs.Prelude.{◌≡◌, ◌≢◌, ◌+◌, ◌-◌, ◌<◌, ◌≤◌, ◌^◌, [], length, map, min, IfOk, OnErr};
 ghost use Rattle.std.specs.List.{AllByRecursion};
-ghost use Rattle.std.specs.VecDeque.{deque_capacity};
 ghost use Rattle.block_pool.specs.PoolState.{home};
 ghost use Rattle.off_io.specs.Faults.{Rose};
 ghost use Rattle.off_io.specs.Told.{Told};
@@ -21,7 +20,7 @@ use crate::reading::{Halt, read_more, read_records};
 use crate::round::{ReadAhead, Round, RoundEnd, RoundRead, no_round};
 use block_pool::Pool;
 use core::mem::replace;
-use gro::Packet;
+use gro::Packets;
 use off_io::Source;
 use pcap_io::CaptureReader;
 use raw_block::Sole;
@@ -152,7 +151,7 @@ impl Intake {
         ensures failed { result.end ≡ RoundEnd.ReadFault
             → Rose (S.faults (source_of reader.old)) (S.faults (source_of reader.new)) }
     {
-        let packets = VecDeque::with_capacity(self.alloc, self.budget as usize);
+        let packets = Packets::with_capacity(self.alloc, self.budget as usize);
         self.read_into(reader, more, packets)
     }
 
@@ -161,12 +160,12 @@ impl Intake {
         &mut self,
         reader: &mut CaptureReader<'_, S>,
         more: &mut H,
-        packets: Result<VecDeque<Packet>, AllocError>,
+        packets: Result<Packets, AllocError>,
     ) -> RoundRead
         requires ready { IsReady (place_of reader.old) }
         requires link { (place_of reader.old).link ≡ Ethernet }
         requires none { IfOk packets (λ ps. ps.items ≡ []) }
-        requires reserved { IfOk packets (λ ps. self.old.budget ≤ deque_capacity ps) }
+        requires reserved { IfOk packets (λ ps. self.old.budget ≤ ps.room) }
         ensures same_source { SameLoan reader.old reader.new }
         ensures given { Told (S.left (source_of reader.old)) (S.left (source_of reader.new))
             (GivesRound self.old.blocks (place_of reader.old) (place_of reader.new) result.round.packets result.end) }
@@ -217,12 +216,12 @@ impl Intake {
         &mut self,
         _rt: &R,
         reader: &mut CaptureReader<'_, S>,
-        list: &mut VecDeque<Packet>,
+        list: &mut Packets,
     ) -> ReadAhead
         requires ready { IsReady (place_of reader.old) }
         requires link { (place_of reader.old).link ≡ Ethernet }
         requires none { list.old.items ≡ [] }
-        requires reserved { self.old.budget ≤ deque_capacity list.old }
+        requires reserved { self.old.budget ≤ list.old.room }
         ensures same_source { SameLoan reader.old reader.new }
         ensures given { Told (S.left (source_of reader.old)) (S.left (source_of reader.new))
             (GivesAhead self.old.blocks (place_of reader.old) (place_of reader.new) result) }
@@ -242,7 +241,7 @@ impl Intake {
             → Rose (S.faults (source_of reader.old)) (S.faults (source_of reader.new))) }
     {
         let _ = self.pool.taken();
-        let mut packets = replace(list, VecDeque::new(self.alloc));
+        let mut packets = replace(list, Packets::new(self.alloc));
         let (blocks, halt) = read_more(
             self.alloc,
             &mut self.pool,

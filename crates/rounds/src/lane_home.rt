@@ -1,18 +1,18 @@
 //! Brings home what the lanes of a round hold.
 ghost use Rattle.std.specs.Prelude.{◌≡◌, ◌+◌, ◌≤◌, [], All, length};
 ghost use Rattle.taps.specs.Clones.{blocks_of, of_clones};
-ghost use Rattle.round_work.specs.Lanes.{of_queue, of_queues, of_tap, of_taps, of_lanes, count_of_queue};
-ghost use Rattle.round_work.specs.Lanes.{counts_of_queues, AreIdle, IsIdleQueue, IsIdleTap};
+ghost use Rattle.lanes.specs.Lanes.{of_queue, of_queues, of_tap, of_taps, of_lanes, count_of_queue};
+ghost use Rattle.lanes.specs.Lanes.{counts_of_queues, AreIdle, IsIdleQueue, IsIdleTap};
 ghost use Rattle.rounds.specs.Lanes.{AreSpent};
 ghost use Rattle.rounds.specs.Marks.{nothing};
 ghost use Rattle.frags.specs.OutcomesState.{IsBare};
 ghost use Rattle.rounds.specs.Table.{Comes, MayCome};
 
-use crate::home::{bring_buffer, bring_items, bring_packets};
+use crate::home::{bring_buffer, bring_packets};
 use crate::table::{Place, sweep};
 use block_pool::Pool;
 use frags::Outcomes;
-use round_work::{Lanes, QueueLane, TapLane};
+use lanes::{Lanes, QueueLane, TapLane};
 use taps::TapClone;
 
 // What a queue's lane holds.
@@ -26,8 +26,6 @@ fn bring_queue(pool: &mut Pool, places: &mut [Place], out: &mut Outcomes, lane: 
     ensures idle { IsIdleQueue lane.new }
 {
     bring_packets(pool, places, out, &mut lane.packets);
-    bring_items(pool, places, &mut lane.table, out, &mut lane.items);
-    sweep(pool, places, &mut lane.outcomes);
 }
 
 fn bring_queues(pool: &mut Pool, places: &mut [Place], out: &mut Outcomes, lanes: &mut [QueueLane])

@@ -5,8 +5,8 @@ ghost use Rattle.ref_core.specs.WeightRule.{full_weight};
 ghost use Rattle.frags.specs.Account.{Keeps, both};
 ghost use Rattle.gro.specs.Held.{packet_of, of_packets, counts_of, AreHeld, AreShared, WeighAtLeast};
 ghost use Rattle.taps.specs.Clones.{packet_of as packet_of_clone, blocks_of, of_clones};
-ghost use Rattle.round_work.specs.Clones.{AreAfter};
-ghost use Rattle.gro.specs.Table.{AreReady};
+ghost use Rattle.lanes.specs.Clones.{AreAfter};
+ghost use Rattle.lanes.specs.Lanes.{IsMerged};
 ghost use Rattle.rounds.specs.Benches.{options_at};
 ghost use Rattle.rounds.specs.Kept.{IsKept, IsDone, IsLeft, IsOfLanes};
 ghost use Rattle.rounds.specs.Lanes.{worked_records, IsKeptWorkOf};
@@ -14,25 +14,20 @@ ghost use Rattle.rounds.specs.Lanes.{worked_records, IsKeptWorkOf};
 use crate::bench::Bench;
 use crate::round::{Rest, Round, Worked};
 use core::mem::replace;
-use gro::Packet;
-use round_work::{Lanes, Works, keep_packets, work_packets};
+use gro::Packets;
+use lanes::{Lanes, Works, keep_packets, work_packets};
 use std::alloc::AllocError;
-use std::collections::VecDeque;
 use taps::TapClone;
 
 // A round before the work of its lanes: its packets, and a clone of each where they are kept.
 struct Kept {
-    packets: VecDeque<Packet>,
+    packets: Packets,
     kept: Vec<TapClone>,
     blocks: u32,
 }
 
 // A clone of each packet, if that is wanted.
-fn keep_if(
-    keep: bool,
-    packets: &mut VecDeque<Packet>,
-    kept: &mut Vec<TapClone>,
-) -> Result<(), AllocError>
+fn keep_if(keep: bool, packets: &mut Packets, kept: &mut Vec<TapClone>) -> Result<(), AllocError>
     requires held { AreHeld packets.old.items }
     requires shared { AreShared packets.old.items }
     requires whole { WeighAtLeast full_weight packets.old.items }
@@ -96,7 +91,7 @@ impl Bench {
         } = kept;
         match done {
             Ok(()) => {
-                replace(&mut self.packets, packets).destroy_empty();
+                replace(&mut self.packets, packets).discard();
                 Ok(Worked {
                     lanes,
                     kept,
@@ -119,7 +114,7 @@ impl Bench {
             ≡ round_records (options_at self.old) (map packet_of round.packets)) }
         ensures checked { self.old.keep ≡ true → IfOk result
             (λ worked. IsKeptWorkOf (options_at self.old) (map packet_of round.packets) worked) }
-        ensures ready { IfOk result (λ worked. All (λ lane. AreReady lane.items.items) worked.lanes.queues.items) }
+        ensures merged { IfOk result (λ worked. All IsMerged worked.lanes.queues.items) }
         ensures worked { IfOk result (λ worked. worked.blocks ≡ round.blocks) }
         ensures rest { IfErr result (λ rest. rest ≡ round.blocks) }
         ensures same { self.new ≡ self.old }

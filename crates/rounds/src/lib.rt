@@ -14,7 +14,7 @@
 //! that of the bytes behind them. The last 4 bytes of a header of version 2 so stand in the first block, in front of
 //! the frame, until the header is taken off.
 //!
-//! Who works the lanes of a round, the thread that calls or others with it, is told by [`Works`](round_work::Works):
+//! Who works the lanes of a round, the thread that calls or others with it, is told by [`Works`](lanes::Works):
 //! each call that works a round is one over whoever works.
 //!
 //! Proved, by the names of the clauses of [`Rounds`]:
@@ -25,7 +25,8 @@
 //! - `records` of `work_round`: the records that are written of the round are those of the model, queue by queue what
 //!   the maximal runs of each flow come to, in the order of their first packets, and then tap by tap its windows of
 //!   what is shown of the packets as they were read, whoever works the lanes and whatever the order in which they run.
-//!   `checked`: where clones are kept, all that a comparison of the items with the packets wants to know.
+//!   `checked`: where clones are kept, all that a comparison of the runs with the packets wants to know. `merged`: each
+//!   packet of a queue stands in a run, once.
 //! - `lanes`, `kept` of [`Worked`]: whoever compares a round with its packets sees its lanes and the clones that were
 //!   kept (`checking` does, above the engine); and `plan`, `lawful` of `Rounds::plan`: by which plan it was worked.
 //! - `ok`, `err` of `write_round`: byte for byte what is written of a round that was worked.
@@ -80,7 +81,7 @@
 //!
 //! Its parts: `record` (one record of either link type: header, need, blocks, body), on `body` and `blocks`; `reading`
 //! (a round of them); `table` and `home` (what comes back, by marks, and all of a round given up at whichever point);
-//! `lane_work` (a round over lanes, by `round_work::work_packets`), `lane_home` (what lanes hold, home); `writing`
+//! `lane_work` (a round over lanes, by `lanes::work_packets`), `lane_home` (what lanes hold, home); `writing`
 //! (what they come to); `intake` (the side that reads: pool and budget) and `homecoming` (who brings blocks home while
 //! a round is read); `bench` (the side that works: places, memory and lanes); `rounds` (both, in turn) and `ahead` (a
 //! round read beside the work of another, and its rest); `handler` (what is done with a round, for whoever drives
@@ -114,7 +115,11 @@
 //! - **What a round is told is one argument**, a `Plan`: queues and how flows go to them, taps, their window and their
 //!   filter, and how many packets a run may have. The model's options follow from it (`options_by`), so a further
 //!   option is a field there and a body. It isn't copied: a hash key has tables of 4.6 KB, and a filter its program.
-//! - **Packets are kept in a deque**, since merging takes them from the front and reading puts them at the end.
+//! - **A packet lies where it was read until it goes home**, in one list, and is merged, written and compared there, by
+//!   its index. Where there is one queue the list becomes its lane's; where there are several each packet moves once,
+//!   to the list of its lane.
+//! - **Packets go home from the end of their list**, one by one: what each gave back is swept at once, while the counts
+//!   and marks of its blocks are at hand.
 //! - **A round is ended before a fault of its writing is answered**, so its blocks are home whatever the ending.
 //! - **A step says what it did in the words of the loop**: `Ahead 1` where it goes on, and else an ending behind the
 //!   rounds before (`EndsBehind`). The loop over steps then has three lemmas, one for each clause.

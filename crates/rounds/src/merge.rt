@@ -21,9 +21,9 @@ use crate::bench::Bench;
 use crate::round::{Round, RoundEnd, RoundRead, Worked, is_worked};
 use crate::rounds::Rounds;
 use block_pool::Pool;
+use lanes::Works;
 use off_io::{Failed, Sink, Source, WriteFault};
 use pcap_io::{CapFault, CaptureReader, FileHead};
-use round_work::Works;
 use std::alloc::AllocError;
 
 /// How merging ended.

@@ -1,10 +1,10 @@
 //! What the work of rounds is told.
 ghost use Rattle.std.specs.Prelude.{◌≡◌};
-ghost use Rattle.round_work.specs.Work.{IsPlan};
+ghost use Rattle.lanes.specs.Work.{IsPlan};
 
 use crate::bench::Bench;
 use crate::rounds::Rounds;
-use round_work::Plan;
+use lanes::Plan;
 
 impl Bench {
     /// How the work of each round is divided.

@@ -18,7 +18,7 @@ use crate::homecoming::{Homecoming, is_ready};
 use crate::record::read_record;
 use crate::round::{RoundEnd, end_of};
 use block_pool::Pool;
-use gro::Packet;
+use gro::{Packet, Packets};
 use off_io::Source;
 use pcap_io::CaptureReader;
 use raw_block::Sole;
@@ -52,7 +52,7 @@ pub(crate) fn read_more<S: Source, H: Homecoming>(
     reader: &mut CaptureReader<'_, S>,
     more: &mut H,
     budget: usize,
-    packets: &mut VecDeque<Packet>,
+    packets: &mut Packets,
     used: u32,
 ) -> (u32, Halt)
     requires ready { IsReady (place_of reader.old) }
@@ -61,7 +61,7 @@ pub(crate) fn read_more<S: Source, H: Homecoming>(
     requires capacity { 131 ≤ deque_capacity hold.old }
     requires made { pool.old.made ≤ 65536 }
     requires size { length packets.old.items ≤ budget }
-    requires reserved { budget ≤ deque_capacity packets.old }
+    requires reserved { budget ≤ length packets.old.items + packets.old.room }
     requires fresh { IsFresh 0 used (of_packets packets.old.items) }
     requires count { counts_of packets.old.items ≡ used }
     requires read { AreRead packets.old.items }
@@ -108,7 +108,7 @@ pub(crate) fn read_more<S: Source, H: Homecoming>(
             Err(stop) => return (used, Halt::Ended(end_of(stop))),
         };
         used += packet_blocks(&packet);
-        packets.push_back_reserved(packet);
+        packets.push(packet);
     }
     (used, Halt::Ended(RoundEnd::Full))
 }
@@ -122,7 +122,7 @@ pub(crate) fn read_records<S: Source, H: Homecoming>(
     reader: &mut CaptureReader<'_, S>,
     more: &mut H,
     budget: usize,
-    packets: &mut VecDeque<Packet>,
+    packets: &mut Packets,
 ) -> (u32, RoundEnd)
     requires ready { IsReady (place_of reader.old) }
     requires link { (place_of reader.old).link ≡ Ethernet }
@@ -130,7 +130,7 @@ pub(crate) fn read_records<S: Source, H: Homecoming>(
     requires capacity { 131 ≤ deque_capacity hold.old }
     requires made { pool.old.made ≤ 65536 }
     requires none { packets.old.items ≡ [] }
-    requires reserved { budget ≤ deque_capacity packets.old }
+    requires reserved { budget ≤ packets.old.room }
     ensures same_source { SameLoan reader.old reader.new }
     ensures given { Told (S.left (source_of reader.old)) (S.left (source_of reader.new))
         (GivesRound pool.old.made (place_of reader.old) (place_of reader.new) packets.new.items result.1) }

@@ -4,17 +4,16 @@ ghost use Rattle.rounds.specs.Merging.{is_worked as is_worked_end};
 ghost use Rattle.rounds.specs.Reading.{IsEndOf};
 
 use crate::record::Stop;
-use gro::Packet;
+use gro::Packets;
+use lanes::Lanes;
 use pcap_io::CapFault;
-use round_work::Lanes;
 use std::alloc::Global;
-use std::collections::VecDeque;
 use std::marker::Model;
 use taps::TapClone;
 
 /// The records of a round, in blocks. It must be spent: worked or dropped, by the rounds that read it.
 pub struct Round {
-    pub(crate) packets: VecDeque<Packet>,
+    pub(crate) packets: Packets,
     pub(crate) blocks: u32,
 }
 
@@ -40,23 +39,8 @@ impl Model for Round {
 impl Round {
     /// Gives the round up outside its rounds: its blocks are freed. No memory is taken.
     pub fn discard(self) {
-        let Round {
-            mut packets,
-            blocks: _,
-        } = self;
-        while let Some(packet) = packets.pop_front() {
-            let Packet {
-                skb,
-                spare1: _spare1,
-                spare2: _spare2,
-                sec: _,
-                frac: _,
-                original: _,
-                number: _,
-            } = packet;
-            skb.free();
-        }
-        packets.destroy_empty();
+        let Round { packets, blocks: _ } = self;
+        packets.free();
     }
 }
 
@@ -86,7 +70,7 @@ impl Model for Worked {
 /// What is left of a round, at whichever point it ends: packets that are in no lane, what the lanes hold, and clones
 /// that were kept. It must be spent: brought home.
 pub(crate) struct Rest {
-    pub(crate) packets: VecDeque<Packet>,
+    pub(crate) packets: Packets,
     pub(crate) lanes: Lanes,
     pub(crate) kept: Vec<TapClone>,
     pub(crate) blocks: u32,
@@ -154,7 +138,7 @@ pub(crate) fn no_round(alloc: Global) -> RoundRead
 {
     RoundRead {
         round: Round {
-            packets: VecDeque::new(alloc),
+            packets: Packets::new(alloc),
             blocks: 0,
         },
         end: RoundEnd::NoMemory,

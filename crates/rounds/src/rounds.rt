@@ -13,8 +13,8 @@ ghost use Rattle.offload_model.specs.Need.{round_need};
 ghost use Rattle.offload_model.specs.Captured.{IsCaptured};
 ghost use Rattle.offload_model.specs.Written.{round_records};
 ghost use Rattle.gro.specs.Held.{packet_of};
-ghost use Rattle.gro.specs.Table.{AreReady};
-ghost use Rattle.round_work.specs.Work.{IsPlan};
+ghost use Rattle.lanes.specs.Lanes.{IsMerged};
+ghost use Rattle.lanes.specs.Work.{IsPlan};
 ghost use Rattle.rounds.specs.Benches.{IsRead};
 ghost use Rattle.rounds.specs.Fresh.{NumberedFrom};
 ghost use Rattle.rounds.specs.Lanes.{worked_bytes, worked_records, IsKeptWorkOf};
@@ -26,9 +26,9 @@ use crate::handler::RoundHandler;
 use crate::homecoming::AllHome;
 use crate::intake::Intake;
 use crate::round::{Round, RoundEnd, RoundRead, Worked};
+use lanes::{Plan, Works};
 use off_io::{Sink, Source, WriteFault};
 use pcap_io::{CaptureReader, FileHead};
-use round_work::{Plan, Works};
 use std::alloc::{AllocError, Global};
 use std::marker::Model;
 
@@ -167,7 +167,7 @@ impl Rounds {
             ≡ round_records (options_of self.old) (map packet_of round.packets)) }
         ensures checked { self.old.keep ≡ true → IfOk result
             (λ worked. IsKeptWorkOf (options_of self.old) (map packet_of round.packets) worked) }
-        ensures ready { IfOk result (λ worked. All (λ lane. AreReady lane.items.items) worked.lanes.queues.items) }
+        ensures merged { IfOk result (λ worked. All IsMerged worked.lanes.queues.items) }
         ensures worked { IfOk result (λ worked. worked.blocks ≡ round.blocks) }
         ensures same { OnOk result (self.new ≡ self.old) }
         ensures home { OnErr result (self.new ≡ record self.old { home = self.old.home + round.blocks }) }
@@ -177,8 +177,8 @@ impl Rounds {
         bench.work_round(works, round, &mut intake.pool)
     }
 
-    /// Writes what a round came to: queue by queue each item as a record, and then tap by tap its windows. The sink
-    /// isn't flushed.
+    /// Writes what a round came to: queue by queue what each run comes to as a record, and then tap by tap its windows.
+    /// The sink isn't flushed.
     ///
     /// `WriteFault` only where the sink's count of faults rose; a prefix of the round's output was then written.
     pub fn write_round<K: Sink>(

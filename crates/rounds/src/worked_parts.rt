@@ -2,7 +2,7 @@
 ghost use Rattle.std.specs.Prelude.{◌≡◌};
 
 use crate::round::Worked;
-use round_work::Lanes;
+use lanes::Lanes;
 use taps::TapClone;
 
 impl Worked {

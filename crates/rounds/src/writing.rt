@@ -5,38 +5,14 @@ ghost use Rattle.std.specs.Io.KnownBytes.{Appends};
 ghost use Rattle.off_io.specs.Faults.{HasCause};
 ghost use Rattle.off_io.specs.Content.{AppendsFront};
 ghost use Rattle.taps.specs.Shown.{shown_text};
-ghost use Rattle.rounds.specs.Held.{AreSmall};
-ghost use Rattle.rounds.specs.Lanes.{bytes_of_items, queue_bytes, text_bytes, tap_bytes, lanes_bytes, IsShortText};
+ghost use Rattle.rounds.specs.Lanes.{queue_bytes, text_bytes, tap_bytes, lanes_bytes, IsShortText};
 ghost use Rattle.rounds.specs.Lanes.{IsSmallQueue, IsSmallTap, IsSmallWork};
 
-use gro::Item;
+use lanes::{Lanes, QueueLane, TapLane};
 use off_io::{Sink, WriteFault};
 use pcap_io::FileHead;
-use round_work::{Lanes, QueueLane, TapLane};
-use round_write::{Time, write_item, write_window};
+use records::{Time, write_runs, write_window};
 use taps::{TapText, TapTexts};
-
-// Writes items, each as a record of this queue.
-fn write_all_items<K: Sink>(
-    sink: &mut K,
-    file: &FileHead,
-    queue: u8,
-    items: &[Item],
-) -> Result<(), WriteFault>
-    requires small { AreSmall items.now }
-    ensures ok { OnOk result (Appends (K.held sink.old) (K.held sink.new)
-        (bytes_of_items file.now.order queue items.now)) }
-    ensures err { OnErr result (AppendsFront (K.held sink.old) (K.held sink.new)
-        (bytes_of_items file.now.order queue items.now)) }
-    ensures cause { HasCause (K.faults sink.old) (K.faults sink.new) result }
-{
-    for item in items {
-        // That it is as long as its bytes is known of a buffer that was asked.
-        let _ = item.skb.len();
-        write_item(sink, file, queue, item)?;
-    }
-    Ok(())
-}
 
 fn write_queue<K: Sink>(sink: &mut K, file: &FileHead, lane: &QueueLane) -> Result<(), WriteFault>
     requires small { IsSmallQueue lane.now }
@@ -45,7 +21,13 @@ fn write_queue<K: Sink>(sink: &mut K, file: &FileHead, lane: &QueueLane) -> Resu
         (queue_bytes file.now.order lane.now)) }
     ensures cause { HasCause (K.faults sink.old) (K.faults sink.new) result }
 {
-    write_all_items(sink, file, lane.queue as u8, &lane.items)
+    write_runs(
+        sink,
+        file,
+        lane.queue as u8,
+        lane.packets.slots(),
+        &lane.engine,
+    )
 }
 
 fn write_queues<K: Sink>(
@@ -139,7 +121,7 @@ fn write_taps<K: Sink>(sink: &mut K, file: &FileHead, lanes: &[TapLane]) -> Resu
     Ok(())
 }
 
-/// Writes what the lanes came to: queue by queue its items, and then tap by tap its windows.
+/// Writes what the lanes came to: queue by queue what its runs come to, and then tap by tap its windows.
 pub(crate) fn write_lanes<K: Sink>(
     sink: &mut K,
     file: &FileHead,

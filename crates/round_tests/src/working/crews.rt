@@ -1,16 +1,16 @@
 //! Lanes by a crew, which lives for many rounds: with nobody beside who asks, and with some.
 ghost use Rattle.std.specs.Prelude.{◌≡◌, ◌≤◌, [], All};
-ghost use Rattle.round_work.specs.Work.{IsPlan};
+ghost use Rattle.lanes.specs.Work.{IsPlan};
 
 use super::packets::all_home;
 use super::turns::{are_two_and_two, lanes_of};
 use crate::plans::{chosen, plain};
 use crossbeam_queue::ArrayQueue;
 use errands::{Asker, Bells, Errands, Job, Naming, Reply, Runner};
-use off_io::{Gate, Meeting, NoGate, Who};
-use round_work::{
+use lanes::{
     LANES, LaneCrew, LaneDesk, LaneDone, LaneJob, LaneTask, Plan, Works, open_desk, serve_lanes,
 };
+use off_io::{Gate, Meeting, NoGate, Who};
 use std::alloc::{AllocError, Global};
 use std::marker::Brand;
 use std::process::Abort;

@@ -3,17 +3,16 @@ ghost use Rattle.std.specs.Prelude.{◌≡◌, ◌≤◌, false, map};
 ghost use Rattle.ref_core.specs.WeightRule.{full_weight};
 ghost use Rattle.skb.specs.SkbState.{buffer_least, is_sole};
 ghost use Rattle.gro.specs.Held.{packet_of, count_of, counts_of, IsHeld, AreHeld, AreShared, WeighAtLeast};
-ghost use Rattle.round_work.specs.Clones.{weight_after};
-ghost use Rattle.round_work.specs.Packets.{RiseFrom};
+ghost use Rattle.lanes.specs.Clones.{weight_after};
+ghost use Rattle.lanes.specs.Packets.{RiseFrom};
 
 use super::frames::IN_TURN;
 use frags::{Outcomes, Pieces};
-use gro::{Item, Packet};
+use gro::{Packet, Packets};
+use lanes::{Lanes, QueueLane, TapLane};
 use raw_block::Sole;
-use round_work::{Lanes, QueueLane, TapLane};
 use skb::Skb;
 use std::alloc::Global;
-use std::collections::VecDeque;
 use std::process::Abort;
 use taps::TapClone;
 
@@ -45,7 +44,7 @@ fn packet(rt: &impl Abort, alloc: Global, number: u32, frame: &[u8]) -> Packet
 }
 
 /// The packets of both flows, numbered from 0.
-pub(crate) fn in_turn(rt: &impl Abort, alloc: Global) -> VecDeque<Packet>
+pub(crate) fn in_turn(rt: &impl Abort, alloc: Global) -> Packets
     ensures held { AreHeld result.items }
     ensures shared { AreShared result.items }
     ensures whole { WeighAtLeast full_weight result.items }
@@ -53,13 +52,14 @@ pub(crate) fn in_turn(rt: &impl Abort, alloc: Global) -> VecDeque<Packet>
     ensures rising { RiseFrom 0 (map packet_of result.items) }
     ensures few { counts_of result.items ≤ 24 }
 {
-    let mut packets = VecDeque::with_capacity(alloc, 8).expect(rt, "places");
+    let mut packets = Packets::with_capacity(alloc, 8).expect(rt, "places");
     let mut number = 8u32;
     while 0 < number {
         number -= 1;
         let frame = &IN_TURN[number as usize];
-        packets.push_front_reserved(packet(rt, alloc, number, frame));
+        packets.push(packet(rt, alloc, number, frame));
     }
+    packets.reverse();
     packets
 }
 
@@ -71,13 +71,6 @@ fn home(mut outcomes: Outcomes) -> usize {
     }
     outcomes.settle();
     blocks
-}
-
-fn home_of_item(rt: &impl Abort, item: Item) -> usize {
-    let (skb, mut outcomes) = item.into_parts();
-    outcomes.reserve(skb.count()).expect(rt, "places");
-    skb.release(&mut outcomes);
-    home(outcomes)
 }
 
 fn home_of_packet(rt: &impl Abort, packet: Packet) -> usize {
@@ -96,13 +89,13 @@ fn home_of_packet(rt: &impl Abort, packet: Packet) -> usize {
     home(outcomes).wrapping_add(2)
 }
 
-fn home_of_packets(rt: &impl Abort, packets: VecDeque<Packet>) -> usize {
+fn home_of_packets(rt: &impl Abort, packets: Packets) -> usize {
     let mut packets = packets;
     let mut blocks = 0usize;
-    while let Some(packet) = packets.pop_front() {
+    while let Some(packet) = packets.pop() {
         blocks = blocks.wrapping_add(home_of_packet(rt, packet));
     }
-    packets.destroy_empty();
+    packets.discard();
     blocks
 }
 
@@ -110,18 +103,9 @@ fn home_of_queue(rt: &impl Abort, lane: QueueLane) -> usize {
     let QueueLane {
         queue: _,
         packets,
-        mut items,
-        table: _table,
-        outcomes,
-        done: _,
-        count: _,
+        engine: _engine,
     } = lane;
-    let mut blocks = home(outcomes).wrapping_add(home_of_packets(rt, packets));
-    while let Some(item) = items.pop() {
-        blocks = blocks.wrapping_add(home_of_item(rt, item));
-    }
-    items.destroy_empty();
-    blocks
+    home_of_packets(rt, packets)
 }
 
 fn home_of_tap(rt: &impl Abort, lane: TapLane) -> usize {
@@ -156,7 +140,7 @@ pub(crate) fn all_home(rt: &impl Abort, lanes: Lanes) -> usize {
 }
 
 /// The same of packets that aren't in lanes, and of lanes.
-pub(crate) fn rest_home(rt: &impl Abort, packets: VecDeque<Packet>, lanes: Lanes) -> usize {
+pub(crate) fn rest_home(rt: &impl Abort, packets: Packets, lanes: Lanes) -> usize {
     home_of_packets(rt, packets).wrapping_add(all_home(rt, lanes))
 }
 

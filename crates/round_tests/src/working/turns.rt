@@ -1,17 +1,19 @@
 //! What the lanes of two flows in turn come to.
-ghost use Rattle.round_work.specs.Work.{IsPlan};
+ghost use Rattle.std.specs.Prelude.{◌<◌, length, All};
+ghost use Rattle.lanes.specs.Lanes.{IsMerged};
+ghost use Rattle.lanes.specs.Work.{IsPlan};
 
 use super::frames::IN_TURN;
 use super::packets::{all_home, in_turn, kept_home, rest_home};
 use crate::plans::{chosen, plain};
+use lanes::{Alone, Lanes, Plan, QueueLane, TapLane, Works, keep_packets, work_packets};
 use off_io::{Gate, NoGate, Who};
-use round_work::{Alone, Lanes, Plan, QueueLane, TapLane, Works, keep_packets, work_packets};
 use std::alloc::Global;
 use std::process::Abort;
 use std::sync::atomic::{AtomicU32, Ordering};
 use std::test::Fail;
 
-// Number, packets and first payload of an item.
+// Number, packets and first payload of what a run comes to.
 type Said = (u32, u32, u32);
 
 /// The lanes of both flows after their work.
@@ -22,12 +24,13 @@ pub(crate) fn lanes_of<W: Works>(
     works: &mut W,
 ) -> Lanes
     requires plan { IsPlan plan.now }
+    ensures merged { All IsMerged result.queues.items }
 {
     let mut packets = in_turn(rt, alloc);
     let mut lanes = Lanes::new(alloc);
     match work_packets(works, alloc, &mut packets, plan, &mut lanes) {
         Ok(()) => {
-            packets.destroy_empty();
+            packets.discard();
             lanes
         }
         Err(_) => {
@@ -40,15 +43,29 @@ pub(crate) fn lanes_of<W: Works>(
 // The same by the thread that calls.
 fn alone(rt: &impl Abort, alloc: Global, plan: &Plan) -> Lanes
     requires plan { IsPlan plan.now }
+    ensures merged { All IsMerged result.queues.items }
 {
     lanes_of(rt, alloc, plan, &mut Alone { gate: &NoGate })
 }
 
-fn says(rt: &impl Abort, lane: &QueueLane, rows: &[Said]) {
-    assert!(rt; lane.items.len() == rows.len());
+// What the run at a place comes to, by the offload header of its record.
+fn said(lane: &QueueLane, place: usize) -> Said
+    requires merged { IsMerged lane.now }
+    requires inside { place < length lane.now.engine.runs.items }
+{
+    let slots = lane.packets.slots();
+    let run = &lane.engine.runs[place];
+    let first = &slots[run.first as usize];
+    let head = run.head(0, first);
+    (head.number, head.n, head.m)
+}
+
+fn says(rt: &impl Abort, lane: &QueueLane, rows: &[Said])
+    requires merged { IsMerged lane.now }
+{
+    assert!(rt; lane.engine.runs.len() == rows.len());
     for i in 0..rows.len() {
-        let item = &lane.items[i];
-        assert_eq!(rt; (item.number, item.n, item.m), rows[i]);
+        assert_eq!(rt; said(lane, i), rows[i]);
     }
 }
 
@@ -64,7 +81,9 @@ fn has_read(rt: &impl Abort, lane: &TapLane, from: usize, to: usize) {
 }
 
 /// A queue for each flow, and two taps of 64 bytes: the second one's windows are the ends of the packets.
-pub(crate) fn are_two_and_two(rt: &impl Abort, lanes: &Lanes) {
+pub(crate) fn are_two_and_two(rt: &impl Abort, lanes: &Lanes)
+    requires merged { All IsMerged lanes.now.queues.items }
+{
     assert!(rt; lanes.queues.len() == 2 && lanes.taps.len() == 2);
     says(rt, &lanes.queues[0], &[(0, 4, 16)]);
     says(rt, &lanes.queues[1], &[(1, 4, 16)]);
@@ -107,7 +126,7 @@ fn many_lanes(rt: HostRuntime) {
     assert_eq!(rt; all_home(&rt, lanes), 24);
 }
 
-/// By the hash the flows have other queues of four, and the same items. Runs are of two packets, and two taps of 32
+/// By the hash the flows have other queues of four, and the same runs. Runs are of two packets, and two taps of 32
 /// bytes are shown 40.
 #[test]
 fn by_choice(rt: HostRuntime) -> Result<(), Fail> {
@@ -171,7 +190,7 @@ fn kept_and_alone(rt: HostRuntime) {
             assert_eq!(rt; kept.len(), 8);
             let blocks = all_home(&rt, lanes);
             assert_eq!(rt; kept_home(&rt, kept).wrapping_add(blocks), 24);
-            packets.destroy_empty();
+            packets.discard();
         }
         Err(_) => {
             kept_home(&rt, kept);

@@ -1,6 +1,6 @@
 use Rattle.std.proofs.Common.{refl}
 use Rattle.rounds.specs.Merging.{options_of}
-use Rattle.round_pipeline.specs.Reads.{reader_at}
+use Rattle.pipeline.specs.Reads.{reader_at}
 use Rattle.checking.specs.Whole.{Checked}
 use Rattle.checking.proofs.Counted.{all_checked}
 use Rattle.checking.proofs.RoundsCounted.{start_lanes, start_within}

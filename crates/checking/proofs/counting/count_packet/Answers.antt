@@ -1,6 +1,6 @@
 use Rattle.std.proofs.Common.{◌∙◌, map, ap, sym, refl, arith}
 use Rattle.std.proofs.lemmas.List.{length-map}
-use Rattle.gro.specs.Items.{item_of}
+use Rattle.gro.specs.Slots.{packet_in}
 use Rattle.taps.specs.Clones.{packet_of}
 use Rattle.checking.specs.Returned.{is_same}
 use Rattle.checking.proofs.Chains.{count_one}
@@ -12,7 +12,7 @@ returns-clause-counts c = λ q own.
     let kept = c.args.kept.now in
     let at = c.args.at.now in
     let clone = c.index-kept-at.result in
-    let x = (item_of c.args.item.now).packet in
-    count_one (map packet_of kept) c.args.next.now q x at _ c.from.result c.is_packet-is_same.result (packet_of clone) 0 c.requires.chain own
+    let x = packet_in c.args.packet.now in
+    count_one (map packet_of kept) c.args.kept_next.now q x at _ c.from.result c.is_packet-is_same.result (packet_of clone) 0 c.requires.chain own
     (omega (arith, length-map kept packet_of)) refl
     (c.is_packet-is_same.ensures.same ∙ ap (is_same x) (sym (kept_at kept at clone (omega arith) c.index-kept-at.is))) c.from.ensures

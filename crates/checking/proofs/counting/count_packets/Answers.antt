@@ -1,18 +1,20 @@
-use Rattle.std.proofs.Common.{map, refl, sym, subst}
-use Rattle.gso.specs.declared.judging.Plan.{Plan}
-use Rattle.gso.specs.Planning.{packets_by}
-use Rattle.gro.specs.Items.{item_of}
+use Rattle.std.proofs.Common.{◌≡◌, ◌∙◌, [], ◌∷◌, List, map, ap, sym, subst, arith}
+use Rattle.std.proofs.lemmas.List.{length-map}
+use Rattle.pcap_io.specs.Capture.{Packet}
+use Rattle.gro.specs.Slots.{packet_in}
 use Rattle.taps.specs.Clones.{packet_of}
 use Rattle.checking.specs.Chain.{Counts}
+use Rattle.checking.specs.Items.{item_at}
+use Rattle.checking.specs.Returned.{packets_in}
+use Rattle.checking.proofs.Runs.{here, alone}
 use Rattle.checking.proofs.counting.count_packets.Goals as goal
 
-pub returns-in-Single-clause-counts : goal.returns-in-Single-clause-counts
-returns-in-Single-clause-counts c = λ q own.
-    let p = (item_of c.args.item.now).packet in
-    subst (λ (z : Plan). Counts (map packet_of c.args.kept.now) q c.args.at.now (packets_by z p) c.count_packet.new.at c.count_packet.result) (sym c.in-Single.is) (c.count_packet.ensures.counts q own)
-
-pub returns-in-Segments-clause-counts : goal.returns-in-Segments-clause-counts
-returns-in-Segments-clause-counts c = λ q own.
-    let p = (item_of c.args.item.now).packet in
-    subst (λ (z : Plan). Counts (map packet_of c.args.kept.now) q c.args.at.now (packets_by z p) c.count_segments.new.at c.count_segments.result) (sym c.in-Segments.is)
-    (c.count_segments.ensures.counts q p refl own)
+pub returns-then-run-eq0-clause-counts : goal.returns-then-run-eq0-clause-counts
+returns-then-run-eq0-clause-counts c = λ q own.
+    let slots = c.args.packets.now in
+    let run = c.args.run.now in
+    let first = c.index-packets-run.result in
+    let e : packets_in (item_at slots c.args.next.now run) ≡ packet_in first ∷ [] =
+    alone (map packet_in slots) c.args.next.now run c.if-run-eq0.true
+    ∙ ap (λ (p : Packet). p ∷ []) (here slots run.first first (omega (arith, c.requires.run.is.inside.0, length-map slots packet_in)) c.index-packets-run.is) in
+    subst (λ (z : List Packet). Counts (map packet_of c.args.kept.now) q c.args.at.now z c.count_packet.new.at c.count_packet.result) (sym e) (c.count_packet.ensures.counts q own)

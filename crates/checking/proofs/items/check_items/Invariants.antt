@@ -1,9 +1,8 @@
 use Rattle.std.proofs.Common.{◌≡◌, ◌*◌, ◌^◌, ◌≤◌, map, drop}
-use Rattle.gro.specs.Items.{item_of}
 use Rattle.taps.specs.Clones.{packet_of}
 use Rattle.checking.specs.Returned.{Lefts}
 use Rattle.checking.specs.KeptFlows.{AreFlows}
-use Rattle.checking.specs.Items.{AreLeft}
+use Rattle.checking.specs.Items.{AreLeft, item_at}
 use Rattle.checking.proofs.ItemTotals.{SoFar}
 use Rattle.checking.proofs.items.check_items.Given as goal
 
@@ -14,5 +13,6 @@ invariant-loop-i l = record {
   merged : l.totals.merged ≤ l.i;
   returned : l.totals.returned ≤ l.i * 2 ^ 32;
   flows : AreFlows (map packet_of l.kept) l.flows;
-  so_far : (left : Lefts) → AreLeft (map packet_of l.kept) l.fn.flows left → SoFar (map packet_of l.kept) left (map item_of l.items) (drop l.i (map item_of l.items)) l.flows l.totals;
+  so_far : (left : Lefts) → AreLeft (map packet_of l.kept) l.fn.flows left
+      → SoFar (map packet_of l.kept) left (map (item_at l.packets l.next) l.runs) (drop l.i (map (item_at l.packets l.next) l.runs)) l.flows l.totals;
 }

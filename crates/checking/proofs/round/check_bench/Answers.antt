@@ -1,7 +1,7 @@
 use Rattle.std.proofs.Common.{◌≡◌, sym, subst}
 use Rattle.std.specs.Prelude.{IfOk}
-use Rattle.round_work.specs.declared.plan.Plan.{Plan}
-use Rattle.round_work.specs.Work.{IsPlan, options_by}
+use Rattle.lanes.specs.declared.plan.Plan.{Plan}
+use Rattle.lanes.specs.Work.{IsPlan, options_by}
 use Rattle.rounds.specs.Lanes.{IsKeptWorkOf}
 use Rattle.checking.specs.Counts.{Counts, round_totals}
 use Rattle.checking.proofs.round.check_bench.Goals as goal

@@ -5,11 +5,10 @@ use Rattle.std.proofs.lemmas.List.{length-map}
 use Rattle.std.proofs.lemmas.List.Elements.{recursion_from_All}
 use Rattle.pcap_io.specs.Capture.{Packet}
 use Rattle.offload_model.specs.Captured.{IsCaptured}
-use Rattle.gro.specs.Table.{AreReady}
 use Rattle.taps.specs.Clones.{packet_of}
-use Rattle.round_work.specs.declared.lanes.QueueLane.{QueueLane}
-use Rattle.round_work.specs.Work.{options_by}
-use Rattle.round_work.proofs.Planned.{spread_below}
+use Rattle.lanes.specs.Lanes.{IsMerged}
+use Rattle.lanes.specs.Work.{options_by}
+use Rattle.lanes.proofs.Planned.{spread_below}
 use Rattle.checking.specs.Counts.{Counts, round_totals}
 use Rattle.checking.proofs.Kept.{Lent, are_lent}
 use Rattle.checking.proofs.Laning.{are_captured, lanes_known}
@@ -47,7 +46,7 @@ check_lanes-requires-clause-lanes c =
     let o = options_by c.args.plan.now c.requires.worked.0 in
     let is = lent c in
     lanes_known o.segs o.spread (map packet_of c.kept.result.now) c.lanes-lanes.result.now.queues.items (are_captured 0 _ (captured c) is.rising) (few c) is.merged
-    (recursion_from_All (λ (l : QueueLane). AreReady l.items.items) c.lanes-lanes.result.now.queues.items is.ready)
+    (recursion_from_All IsMerged c.lanes-lanes.result.now.queues.items is.is)
 
 pub check_lanes-requires-clause-windows : goal.check_lanes-requires-clause-windows
 check_lanes-requires-clause-windows c =

@@ -1,7 +1,7 @@
 use Rattle.std.proofs.Common.{subst}
 use Rattle.offload_model.specs.Passing.{merging_whole}
-use Rattle.round_work.specs.Work.{options_by}
-use Rattle.round_work.specs.declared.plan.Plan.{Plan}
+use Rattle.lanes.specs.Work.{options_by}
+use Rattle.lanes.specs.declared.plan.Plan.{Plan}
 use Rattle.offload_c.specs.Answers.{Gives, FlowsOf}
 use Rattle.offload_c.proofs.merging.merge_by.Goals as goal
 

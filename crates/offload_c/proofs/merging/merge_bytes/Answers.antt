@@ -1,6 +1,6 @@
 use Rattle.std.proofs.Common.{arith}
-use Rattle.round_work.specs.Work.{options_by}
-use Rattle.round_work.proofs.Planned.{spread_below}
+use Rattle.lanes.specs.Work.{options_by}
+use Rattle.lanes.proofs.Planned.{spread_below}
 use Rattle.offload_c.proofs.Flows.{flows_of}
 use Rattle.offload_c.proofs.Outcomes.{merged_gives}
 use Rattle.offload_c.proofs.merging.merge_bytes.Goals as goal

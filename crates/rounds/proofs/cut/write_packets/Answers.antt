@@ -7,8 +7,8 @@ use Rattle.gro.specs.Held.{packet_of}
 use Rattle.gso.specs.Places.{SegmentsState}
 use Rattle.gso.specs.Planning.{packets_by}
 use Rattle.gso.specs.declared.judging.Plan.{Plan}
-use Rattle.round_write.specs.declared.record.Time.{Time}
-use Rattle.round_write.specs.Records.{segment_bytes}
+use Rattle.records.specs.declared.record.Time.{Time}
+use Rattle.records.specs.Records.{segment_bytes}
 use Rattle.rounds.specs.Cutting.{packets_bytes}
 use Rattle.rounds.proofs.Packets.{plan_bytes}
 use Rattle.rounds.proofs.cut.write_packets.Goals as goal

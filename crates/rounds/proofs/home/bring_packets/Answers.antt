@@ -1,6 +1,6 @@
-use Rattle.std.proofs.Common.{◌≡◌, [], ap, arith, rules}
-use Rattle.gro.specs.Held.{of_packet, of_packets, counts_of}
-use Rattle.rounds.proofs.Coming.{packets_first, no_packets, may_rest, may_first, comes_none, comes_step, comes_all}
+use Rattle.std.proofs.Common.{◌≡◌, [], arith, rules}
+use Rattle.gro.specs.Held.{of_packet, of_packets}
+use Rattle.rounds.proofs.Coming.{packets_pop, counts_pop, no_packets, may_rest, may_first, comes_none, comes_step, comes_all}
 use Rattle.rounds.proofs.home.bring_packets.Goals as goal
 
 pub loop-packet-init : goal.loop-packet-init
@@ -14,25 +14,25 @@ loop-packet-init c = record {
 pub bring_packet-requires-clause-may : goal.bring_packet-requires-clause-may
 bring_packet-requires-clause-may c =
     let l = c.loop-packet in
-    let rest = c.pop_front.new.self.items in
-    may_first (of_packets l.packets.items) (of_packet c.in-Some.packet) (of_packets rest) l.pool l.places (packets_first l.packets.items rest c.in-Some.packet c.in-Some.ensures.items)
+    let rest = c.pop.new.self.items in
+    may_first (of_packets l.packets.items) (of_packet c.in-Some.packet) (of_packets rest) l.pool l.places (packets_pop l.packets.items rest c.in-Some.packet c.in-Some.ensures.some)
     (may_rest (of_packets c.args.packets.now.items) (of_packets l.packets.items) c.args.pool.now l.pool c.args.places.now l.places c.requires.may l.invariant.comes)
 
 pub bring_packet-requires-clause-spare : goal.bring_packet-requires-clause-spare
 bring_packet-requires-clause-spare c =
-    let k = ap counts_of c.in-Some.ensures.items in
+    let k = counts_pop c.loop-packet.packets.items c.pop.new.self.items c.in-Some.packet c.in-Some.ensures.some in
     omega (arith, k, c.loop-packet.invariant.room)
 
 pub loop-packet-preserved : goal.loop-packet-preserved
 loop-packet-preserved c =
     let l = c.loop-packet in
     let e = c.bring_packet in
-    let rest = c.pop_front.new.self.items in
-    let k = ap counts_of c.in-Some.ensures.items in
+    let rest = c.pop.new.self.items in
+    let k = counts_pop l.packets.items rest c.in-Some.packet c.in-Some.ensures.some in
     record {
       comes = comes_step (of_packets c.args.packets.now.items) (of_packets l.packets.items) (of_packet c.in-Some.packet) (of_packets rest) c.args.pool.now l.pool e.new.pool c.args.places.now l.places
           e.new.places
-          (packets_first l.packets.items rest c.in-Some.packet c.in-Some.ensures.items) l.invariant.comes e.ensures.comes;
+          (packets_pop l.packets.items rest c.in-Some.packet c.in-Some.ensures.some) l.invariant.comes e.ensures.comes;
       bare = e.ensures.bare;
       room = omega (arith, k, e.ensures.spare, l.invariant.room);
       spare = omega (arith, k, e.ensures.spare, l.invariant.spare);

@@ -1,5 +1,5 @@
 use Rattle.taps.specs.Clones.{of_clones}
-use Rattle.round_work.specs.Lanes.{of_lanes}
+use Rattle.lanes.specs.Lanes.{of_lanes}
 use Rattle.rounds.proofs.Coming.{and_first, and_rest, and_comes}
 use Rattle.rounds.proofs.home.bring_work.Goals as goal
 

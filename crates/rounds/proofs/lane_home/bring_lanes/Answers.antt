@@ -1,7 +1,7 @@
 use Rattle.std.proofs.Common.{List, sym, subst}
-use Rattle.round_work.specs.declared.lanes.QueueLane.{QueueLane}
-use Rattle.round_work.specs.declared.lanes.TapLane.{TapLane}
-use Rattle.round_work.specs.Lanes.{of_queues, of_taps}
+use Rattle.lanes.specs.declared.lane.QueueLane.{QueueLane}
+use Rattle.lanes.specs.declared.lane.TapLane.{TapLane}
+use Rattle.lanes.specs.Lanes.{of_queues, of_taps}
 use Rattle.rounds.specs.Marks.{nothing}
 use Rattle.rounds.specs.Table.{Comes, MayCome}
 use Rattle.rounds.proofs.Coming.{and_first, and_rest, and_comes}

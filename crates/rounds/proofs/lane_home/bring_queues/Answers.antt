@@ -1,7 +1,7 @@
 use Rattle.std.proofs.Common.{◌+◌, drop, get_or, arith}
-use Rattle.round_work.specs.declared.lanes.QueueLane.{QueueLane}
-use Rattle.round_work.specs.Lanes.{of_queue, of_queues, IsIdleQueue}
-use Rattle.round_work.proofs.Listing.{did_none, did_more}
+use Rattle.lanes.specs.declared.lane.QueueLane.{QueueLane}
+use Rattle.lanes.specs.Lanes.{of_queue, of_queues, IsIdleQueue}
+use Rattle.lanes.proofs.Listing.{did_none, did_more}
 use Rattle.rounds.proofs.Coming.{may_rest, may_first, comes_none, comes_step, comes_all}
 use Rattle.rounds.proofs.LaneCounts.{dropped, queue_first, queue_counts_first, no_queues}
 use Rattle.rounds.proofs.lane_home.bring_queues.Goals as goal

@@ -1,8 +1,8 @@
 use Rattle.std.proofs.Common.{◌+◌, ◌≤◌, drop}
 use Rattle.frags.specs.OutcomesState.{IsBare}
-use Rattle.round_work.specs.declared.lanes.QueueLane.{QueueLane}
-use Rattle.round_work.specs.Lanes.{of_queues, counts_of_queues, IsIdleQueue}
-use Rattle.round_work.proofs.Listing.{DidUpTo}
+use Rattle.lanes.specs.declared.lane.QueueLane.{QueueLane}
+use Rattle.lanes.specs.Lanes.{of_queues, counts_of_queues, IsIdleQueue}
+use Rattle.lanes.proofs.Listing.{DidUpTo}
 use Rattle.rounds.specs.Table.{Comes}
 use Rattle.rounds.proofs.lane_home.bring_queues.Given as goal
 

@@ -1,7 +1,7 @@
 use Rattle.std.proofs.Common.{◌≡◌, ◌+◌, [], drop, get_or, sym, subst, arith}
-use Rattle.round_work.specs.declared.lanes.TapLane.{TapLane}
-use Rattle.round_work.specs.Lanes.{of_tap, of_taps, IsIdleTap}
-use Rattle.round_work.proofs.Listing.{did_none, did_more}
+use Rattle.lanes.specs.declared.lane.TapLane.{TapLane}
+use Rattle.lanes.specs.Lanes.{of_tap, of_taps, IsIdleTap}
+use Rattle.lanes.proofs.Listing.{did_none, did_more}
 use Rattle.rounds.proofs.Coming.{may_rest, may_first, comes_none, comes_step, comes_all}
 use Rattle.rounds.proofs.LaneCounts.{dropped, tap_first, no_taps}
 use Rattle.rounds.proofs.lane_home.bring_taps.Goals as goal

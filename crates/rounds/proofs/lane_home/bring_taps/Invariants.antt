@@ -1,7 +1,7 @@
 use Rattle.std.proofs.Common.{drop}
-use Rattle.round_work.specs.declared.lanes.TapLane.{TapLane}
-use Rattle.round_work.specs.Lanes.{of_taps, IsIdleTap}
-use Rattle.round_work.proofs.Listing.{DidUpTo}
+use Rattle.lanes.specs.declared.lane.TapLane.{TapLane}
+use Rattle.lanes.specs.Lanes.{of_taps, IsIdleTap}
+use Rattle.lanes.proofs.Listing.{DidUpTo}
 use Rattle.rounds.specs.Table.{Comes}
 use Rattle.rounds.proofs.lane_home.bring_taps.Given as goal
 

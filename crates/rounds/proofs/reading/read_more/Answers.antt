@@ -77,8 +77,8 @@ reading-preserved g c =
     let ps = l.packets.items in
     let first = c.args.packets.now.items in
     let start = c.args.reader.now.place.number in
-    let qs = c.push_back_reserved.new.self.items in
-    let e : qs ≡ ps ++ p ∷ [] = c.push_back_reserved.ensures.items in
+    let qs = c.push.new.self.items in
+    let e : qs ≡ ps ++ p ∷ [] = c.push.ensures.items in
     let k = c.packet_blocks-used.ensures.blocks in
     let none = no_front c.read_record.new.front r.front in
     let told = subst (λ (f : List ℕ). Told (g.S.Source.left l.reader.source.now) (g.S.Source.left c.read_record.new.reader.source.now) (GivesRecord l.used c.is_ready.new.pool.made l.reader.place
@@ -87,7 +87,7 @@ reading-preserved g c =
       so_far = so_far_at _ _ c.args.reader.now.place c.read_record.new.reader.place first (ps ++ p ∷ []) qs e (so_far_more _ _ _ c.args.reader.now.place l.reader.place c.read_record.new.reader.place
           l.used c.is_ready.new.pool.made first ps p i.so_far told r.next);
       size = omega (arith, ap length e, length-append ps (p ∷ []), i.size, c.reading-test.true, c.len.ensures);
-      reserved = omega (arith, i.reserved, c.push_back_reserved.ensures);
+      reserved = omega (arith, ap length e, length-append ps (p ∷ []), i.reserved, c.push.ensures.room);
       fresh = subst (λ (xs : List Packet). IsFresh 0 (l.used + c.packet_blocks-used.result) (of_packets xs)) (sym e) (subst (λ (n : ℕ). IsFresh 0 (l.used + n) (of_packets (ps ++ p ∷ []))) (sym k)
           (fresh_more l.used _ ps p i.fresh r.fresh));
       read = subst AreRead (sym e) (read_last ps p i.read r.read);

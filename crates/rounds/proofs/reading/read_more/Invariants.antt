@@ -14,7 +14,7 @@ abbrev pub invariant-reading : goal.invariant-reading
 invariant-reading g l = record {
   so_far : ReadSoFar (g.S.Source.left l.initial.reader.source.now) (g.S.Source.left l.reader.source.now) l.initial.reader.place l.reader.place l.initial.packets.items l.packets.items;
   size : length l.packets.items ≤ l.budget;
-  reserved : l.budget ≤ deque_capacity l.packets;
+  reserved : l.budget ≤ length l.packets.items + l.packets.room;
   fresh : IsFresh 0 l.used (of_packets l.packets.items);
   read : AreRead l.packets.items;
   captured : AllByRecursion IsCaptured (map packet_of l.packets.items);

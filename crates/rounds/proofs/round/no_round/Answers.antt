@@ -10,7 +10,7 @@ use Rattle.rounds.proofs.round.no_round.Goals as goal
 
 pub invariant_of-result : goal.invariant_of-result
 invariant_of-result c =
-    let none = c.new.ensures.items in (
+    let none = c.new.ensures.none in (
       subst (λ (xs : List Packet). IsFresh 0 0 (of_packets xs)) (sym none) (fresh_none 0),
       subst AreRead (sym none) tt,
       ap counts_of none,

@@ -1,8 +1,8 @@
 use Rattle.std.proofs.Common.{List, ap}
 use Rattle.std.proofs.lemmas.Result.{err_from_is_err_and}
 use Rattle.std.specs.List.{flat_map}
-use Rattle.round_work.specs.declared.lanes.QueueLane.{QueueLane}
-use Rattle.round_work.specs.declared.lanes.TapLane.{TapLane}
+use Rattle.lanes.specs.declared.lane.QueueLane.{QueueLane}
+use Rattle.lanes.specs.declared.lane.TapLane.{TapLane}
 use Rattle.rounds.specs.Lanes.{queue_bytes, tap_bytes}
 use Rattle.rounds.proofs.Lanes.{ok_at, err_at, front_at}
 use Rattle.rounds.proofs.writing.write_lanes.Goals as goal

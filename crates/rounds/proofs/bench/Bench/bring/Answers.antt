@@ -2,9 +2,9 @@ use Rattle.std.proofs.Common.{ap, arith, length, rules, subst, sym}
 use Rattle.frags.specs.Account.{of_outcomes}
 use Rattle.gro.specs.Held.{of_packets}
 use Rattle.taps.specs.Clones.{of_clones}
-use Rattle.round_work.specs.Lanes.{of_lanes}
+use Rattle.lanes.specs.Lanes.{of_lanes}
 use Rattle.rounds.proofs.Keeping.{round_left}
-use Rattle.round_work.proofs.Listing.{refilled}
+use Rattle.lanes.proofs.Listing.{refilled}
 use Rattle.rounds.specs.Table.{AllOpen}
 use Rattle.rounds.proofs.Rounding.{no_outcomes}
 use Rattle.rounds.specs.RoundsState.{BenchState}

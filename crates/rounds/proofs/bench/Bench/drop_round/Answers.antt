@@ -1,9 +1,9 @@
 use Rattle.std.proofs.Common.{ap, arith, rules}
 use Rattle.gro.specs.Held.{of_packets}
 use Rattle.taps.specs.Clones.{blocks_of, of_clones}
-use Rattle.round_work.specs.Lanes.{of_lanes}
+use Rattle.lanes.specs.Lanes.{of_lanes}
 use Rattle.rounds.proofs.Keeping.{round_alone}
-use Rattle.round_work.proofs.Idle.{idle_counts, idle_lanes}
+use Rattle.lanes.proofs.Idle.{idle_counts, idle_lanes}
 use Rattle.rounds.proofs.LaneCounts.{no_clones}
 use Rattle.rounds.proofs.Taking.{fresh_round}
 use Rattle.rounds.proofs.bench.Bench.drop_round.Goals as goal

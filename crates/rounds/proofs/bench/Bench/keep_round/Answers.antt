@@ -1,12 +1,12 @@
 use Rattle.std.proofs.Common.{ap, arith, map, refl, rules, subst, ◌∙◌}
 use Rattle.gro.specs.Held.{packet_of, of_packets}
 use Rattle.taps.specs.Clones.{of_clones}
-use Rattle.round_work.specs.Lanes.{of_lanes}
+use Rattle.lanes.specs.Lanes.{of_lanes}
 use Rattle.rounds.specs.Kept.{IsKept}
 use Rattle.rounds.specs.RoundsState.{BenchState, RoundState}
 use Rattle.rounds.specs.declared.lane_work.Kept.{Kept}
 use Rattle.rounds.proofs.Keeping.{are_held, are_kept, round_kept, weigh_full}
-use Rattle.round_work.proofs.Idle.{idle_counts, idle_lanes}
+use Rattle.lanes.proofs.Idle.{idle_counts, idle_lanes}
 use Rattle.rounds.proofs.Taking.{fresh_round}
 use Rattle.rounds.proofs.Working.{are_shared}
 use Rattle.rounds.proofs.bench.Bench.keep_round.Goals as goal

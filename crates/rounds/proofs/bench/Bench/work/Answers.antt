@@ -15,7 +15,7 @@ settle-requires g c =
     let j : Kept = record k { packets = w.new.packets } in
     record {
       lanes = settles c.args.self.now.keep (map packet_of c.args.round.packets) c.args.round.blocks c.self.inside.plan k j c.self.invariant.5 c.in_ok-kept.ensures.kept refl refl w.result w.new.lanes
-          w.ensures.lanes w.ensures.windows w.ensures.all w.ensures.kept w.ensures.count w.ensures.clones;
+          w.ensures.lanes w.ensures.windows w.ensures.merged w.ensures.packets w.ensures.all w.ensures.kept w.ensures.count w.ensures.clones;
     }
 
 pub returns-clause-checked : goal.returns-clause-checked
@@ -25,4 +25,4 @@ returns-clause-checked g c = λ keep.
     let ps = map packet_of c.args.round.packets in
     subst (λ (s : BenchState). IfOk c.settle.result (IsKeptWorkOf (options_at s) ps)) (c.self.view_is ∙ c.take_lanes-lanes.ensures.same ∙ c.in_ok-kept.ensures.same)
     (kept_work c.self.inside.plan c.self.inside.budget c.args.round.blocks c.args.self.now.keep ps k w.result w.new.lanes c.settle.result keep c.in_ok-kept.ensures.kept w.ensures.lanes
-    w.ensures.windows w.ensures.ready w.ensures.weigh c.settle.ensures.worked)
+    w.ensures.windows w.ensures.merged c.settle.ensures.worked)

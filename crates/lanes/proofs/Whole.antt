@@ -1,0 +1,144 @@
+-- All lanes of a round together.
+use Rattle.std.proofs.Common.{◌≡◌, ℕ, suc, ◌+◌, ◌≤◌, List, [], ◌∷◌, ◌++◌, map, length, refl, sym, ap, ◌∙◌, subst, arith}
+use Rattle.std.specs.Prelude.{All, IsSome, Some, Ok, Err, OnOk, MatchResult}
+use Rattle.std.specs.declared.result.Result.{Result}
+use Rattle.std.specs.List.{filter, flat_map, range_with_len}
+use Rattle.pcap_io.specs.Capture.{Packet}
+use Rattle.frags.specs.Account.{Account, Keeps, both}
+use Rattle.tap_filter.specs.declared.instr.Instr.{Instr}
+use Rattle.std.specs.Prelude.{Option}
+use Rattle.offload_model.specs.Merged.{merged_of}
+use Rattle.offload_model.specs.Rounds.{Spread, is_queued, items_of}
+use Rattle.offload_model.specs.Written.{record_of, shown_of, round_records, windows_of, Options}
+use Rattle.gro.specs.declared.packet.Packet.{Packet as Held}
+use Rattle.gro.specs.Held.{packet_of, of_packets, counts_of}
+use Rattle.taps.specs.Texts.{texts_of}
+use Rattle.lanes.specs.declared.lane.QueueLane.{QueueLane}
+use Rattle.lanes.specs.declared.lane.TapLane.{TapLane}
+use Rattle.lanes.specs.declared.lane.Lanes.{Lanes}
+use Rattle.lanes.specs.declared.plan.Plan.{Plan}
+use Rattle.lanes.specs.Lanes.{of_queues, of_taps, of_lanes, counts_of_queues, AreIdle, EachTapDid, IsFilled, IsIdleQueue, IsMerged}
+use Rattle.lanes.specs.Sharing.{EachFrom, IsSum}
+use Rattle.lanes.specs.Work.{spread_of, options_by, shown_by, AreFilled, Did, IsDone, IsRefused, IsToWork, IsWorked, IsWatched, AreMerged, AreWatched, merged_in, lane_records, records_of_tap}
+use Rattle.lanes.proofs.Listing.{all_from, each_map, each_equal}
+use Rattle.lanes.proofs.Idle.{idle_lanes, idle_queues}
+use Rattle.lanes.proofs.Worked.{all_worked, all_watched, queues_count, queues_same, taps_kept, queue_records, tap_records}
+
+-- ---- what is held while lanes are filled
+
+pub fill_none : (p : Account) (l : Lanes) → AreIdle l → Keeps p (both p (of_lanes l))
+fill_none p l idle t m = let z = idle_lanes l idle t m in (omega (arith, z.0), omega (arith, z.1))
+
+pub fill_taps : (p q : Account) (ls : List QueueLane) (ts : List TapLane) → All IsIdleQueue ls → Keeps p (both q (of_taps ts)) → Keeps p (both q (both (of_queues ls) (of_taps ts)))
+fill_taps p q ls ts idle k t m =
+    let x = k t m in
+    let z = idle_queues ls idle t m in
+    (omega (arith, x.0, z.0), omega (arith, x.1, z.0, z.1))
+
+pub fill_all : (p q r : Account) (ls : List QueueLane) (ts : List TapLane) → Keeps p (both q (of_taps ts)) → IsSum q r (of_queues ls) → Keeps p (both r (both (of_queues ls) (of_taps ts)))
+fill_all p q r ls ts k s t m =
+    let x = k t m in
+    let z = s t m in
+    (omega (arith, x.0, z.0), omega (arith, x.1, z.0, z.1))
+
+-- ---- what all lanes have done
+
+numbers : {A : Type 0} (g : A → ℕ) (k : ℕ) (xs : List A) → EachFrom (λ i x. g x ≡ i) k xs → map g xs ≡ range_with_len k (length xs)
+numbers g k [] h = refl
+numbers g k (x ∷ xs) h =
+    let e : suc k ≡ k + 1 = omega arith in
+    ap (λ z. z ∷ map g xs) h.0 ∙ ap (λ z. k ∷ z) (numbers g (suc k) xs h.1 ∙ ap (λ z. range_with_len z (length xs)) e)
+
+pub are_merged : (segs : ℕ) (s : Spread) (n : ℕ) (ps : List Packet) (ls : List QueueLane) → length ls ≡ n → EachFrom (IsWorked segs s ps) 0 ls → AreMerged segs s n ps ls
+are_merged segs s n ps ls e h = record {
+  numbers =
+      numbers (λ (l : QueueLane). l.queue) 0 ls (each_map (IsWorked segs s ps) (λ q l. l.queue ≡ q) 0 ls (λ q l w. w.queue) h)
+      ∙ ap (range_with_len 0) e;
+  items =
+      each_equal merged_in (λ q. map merged_of (items_of segs s q ps)) 0 ls (each_map (IsWorked segs s ps) (λ q l. merged_in l ≡ map merged_of (items_of segs s q ps)) 0 ls (λ q l w. w.merged) h)
+      ∙ ap (λ z. map (λ q. map merged_of (items_of segs s q ps)) (range_with_len 0 z)) e;
+}
+
+pub are_watched : (snap n : ℕ) (ps : List Packet) (ls : List TapLane) → length ls ≡ n → EachFrom (IsWatched snap ps) 0 ls → AreWatched snap n ps ls
+are_watched snap n ps ls e h = record {
+  numbers =
+      numbers (λ (l : TapLane). l.tap) 0 ls (each_map (IsWatched snap ps) (λ t l. l.tap ≡ t) 0 ls (λ t l w. w.tap) h)
+      ∙ ap (range_with_len 0) e;
+  texts =
+      each_equal (λ (l : TapLane). l.texts) (λ t. Some (texts_of snap t ps)) 0 ls (each_map (IsWatched snap ps) (λ t l. l.texts ≡ Some (texts_of snap t ps)) 0 ls (λ t l w. w.texts) h)
+      ∙ ap (λ z. map (λ t. Some (texts_of snap t ps)) (range_with_len 0 z)) e;
+}
+
+pub are_records : (o : Options) (ps : List Packet) (l : Lanes) → length l.queues.items ≡ o.queues → length l.taps.items ≡ o.taps → EachFrom (IsWorked o.segs o.spread ps) 0 l.queues.items
+    → EachFrom (IsWatched o.snap (map (shown_of o.filter) ps)) 0 l.taps.items
+    → lane_records l ≡ round_records o ps
+are_records o ps l e f h g =
+    ap (λ z. z ++ flat_map records_of_tap l.taps.items)
+    (queue_records o.segs o.spread ps 0 l.queues.items h ∙ ap (λ n. flat_map (λ q. map (record_of q) (items_of o.segs o.spread q ps)) (range_with_len 0 n)) e)
+    ∙ ap (λ z. flat_map (λ q. map (record_of q) (items_of o.segs o.spread q ps)) (range_with_len 0 o.queues) ++ z)
+    (tap_records o.snap (map (shown_of o.filter) ps) 0 l.taps.items g ∙ ap (λ n. flat_map (λ t. windows_of o.snap t (map (shown_of o.filter) ps)) (range_with_len 0 n)) f)
+
+-- where a call is answered Ok, what follows of it there
+pub on_ok : {A E : Type 0} (r : Result A E) (P Q : Type 0) → (P → Q) → OnOk r P → OnOk r Q
+on_ok (Ok x) P Q f h = f h
+on_ok (Err e) P Q f h = tt
+
+pub on_both : {A E : Type 0} (r : Result A E) (P Q R : Type 0) → (P → Q → R) → OnOk r P → OnOk r Q → OnOk r R
+on_both (Ok x) P Q R f h k = f h k
+on_both (Err e) P Q R f h k = tt
+
+pub all_filled : (n : Spread) (ps : List Packet) (ls : List QueueLane) → EachFrom (IsToWork n ps) 0 ls → All IsFilled ls
+all_filled n ps ls h = all_from (IsToWork n ps) IsFilled 0 ls (λ q l w. w.filled) h
+
+-- ---- a round that is done
+
+keeps_lanes : (p : Account) (plan : Plan) (l m : Lanes) → Keeps p (of_lanes l) → Did plan l m → Keeps p (of_lanes m)
+keeps_lanes p plan l m k d t i =
+    let x = k t i in
+    let e = queues_same plan.segs l.queues.items m.queues.items d.sizes.0 d.queues in
+    let y = ap (λ z. z.held t i) e in
+    let w = ap (λ z. z.homes t.blocks i) e in
+    let z = taps_kept plan.filter plan.snap l.taps.items m.taps.items d.sizes.1 d.taps t i in
+    (omega (arith, x.0, y, z.0), omega (arith, x.1, w, z.1))
+
+no_clones : (filter : Option (List Instr)) (snap : ℕ) (ls ms : List TapLane) → length ms ≡ length ls → EachTapDid filter snap ls ms → All (λ (t : TapLane). t.clones.items ≡ []) ms
+no_clones filter snap ls ms e h i d lt = (h i d (omega (arith, e, lt))).none
+
+fewer_lanes : (plan : Plan) (old : List Held) (l m : Lanes) → AreFilled plan old l → Did plan l m → counts_of_queues m.queues.items ≤ counts_of old
+fewer_lanes plan old l m f d = let n = queues_count plan.segs l.queues.items m.queues.items d.sizes.0 d.queues in omega (arith, f.count, n)
+
+pub is_done : (plan : Plan) (old : List Held) (l m : Lanes) → AreFilled plan old l → Did plan l m → All (λ (t : TapLane). IsSome t.texts) m.taps.items → IsDone plan old m
+is_done plan old l m f d read =
+    let ps = map packet_of old in
+    let qs = all_worked plan.segs (spread_of plan) ps l.queues.items m.queues.items d.sizes.0 f.queues d.queues in
+    let ts = all_watched plan.filter plan.snap ps l.taps.items m.taps.items d.sizes.1 f.taps d.taps read in
+    let a : length m.queues.items ≡ plan.queues = d.sizes.0 ∙ f.sizes.0 in
+    let b : length m.taps.items ≡ plan.taps = d.sizes.1 ∙ f.sizes.1 in
+    record {
+      lanes = are_merged plan.segs (spread_of plan) plan.queues ps m.queues.items a qs;
+      windows = are_watched plan.snap plan.taps (shown_by plan ps) m.taps.items b ts;
+      records = λ budget. are_records (options_by plan budget) ps m a b qs ts;
+      merged = all_from (IsWorked plan.segs (spread_of plan) ps) IsMerged 0 m.queues.items (λ i q w. w.is) qs;
+      packets =
+          each_map (IsWorked plan.segs (spread_of plan) ps) (λ q (l : QueueLane). map packet_of l.packets.items ≡ filter (is_queued (spread_of plan) q) ps) 0 m.queues.items (λ q l w. w.packets) qs;
+      kept = keeps_lanes (of_packets old) plan l m f.kept d;
+      count = fewer_lanes plan old l m f d;
+      clones = no_clones plan.filter plan.snap l.taps.items m.taps.items d.sizes.1 d.taps;
+    }
+
+pub is_refused : (plan : Plan) (old : List Held) (l m : Lanes) → AreFilled plan old l → Did plan l m → IsRefused old [] m
+is_refused plan old l m f d = record {
+  kept = λ t i. let x = keeps_lanes (of_packets old) plan l m f.kept d t i in (omega (arith, x.0), omega (arith, x.1));
+  count = omega (arith, fewer_lanes plan old l m f d);
+  clones = no_clones plan.filter plan.snap l.taps.items m.taps.items d.sizes.1 d.taps;
+}
+
+-- whether all was done or not, nothing is lost
+pub kept_after : {E : Type 0} (r : Result (Unit {0}) E) (plan : Plan) (old now : List Held) (l : Lanes) → now ≡ [] → MatchResult r (λ _. IsDone plan old l) (λ _. IsRefused old [] l)
+    → Keeps (of_packets old) (both (of_packets now) (of_lanes l))
+kept_after (Ok u) plan old now l none is = λ t m.
+    let k = is.kept t m in
+    let h = ap (λ (z : List Held). (of_packets z).held t m) none in
+    let g = ap (λ (z : List Held). (of_packets z).homes t.blocks m) none in
+    (omega (arith, k.0, h), omega (arith, k.1, h, g))
+kept_after (Err e) plan old now l none is = subst (λ (z : List Held). Keeps (of_packets old) (both (of_packets z) (of_lanes l))) (sym none) is.kept

@@ -1,0 +1,18 @@
+use Rattle.std.proofs.Common.{List, length}
+use Rattle.std.specs.List.{AllByRecursion}
+use Rattle.errands.specs.Answers.{EachDid}
+use Rattle.lanes.specs.declared.lane.Lanes.{Lanes}
+use Rattle.lanes.specs.declared.plan.Plan.{Plan}
+use Rattle.lanes.specs.declared.tasks.LaneTask.{LaneTask}
+use Rattle.lanes.specs.Tasks.{DidLane, Away, HasPlace}
+use Rattle.lanes.proofs.Returning.{Answered}
+use Rattle.lanes.proofs.away.bring_back.Given as goal
+
+abbrev pub invariant-loop-answer : goal.invariant-loop-answer
+invariant-loop-answer l = record {
+  places : AllByRecursion (HasPlace l.lanes) l.done.items;
+  back : (plan : Plan) (old : Lanes) (ts : List LaneTask) → EachDid DidLane ts l.fn.done.items → Away plan old l.fn.lanes ts → Answered plan old l.lanes l.done.items;
+}
+
+abbrev pub decreases-loop-answer : goal.decreases-loop-answer
+decreases-loop-answer l = length l.done.items

@@ -1,0 +1,11 @@
+use Rattle.std.proofs.Common.{◌≡◌, ◌+◌, ◌≤◌}
+use Rattle.std.specs.VecDeque.{deque_len, deque_capacity}
+use Rattle.lanes.specs.Tasks.{SentQueues}
+use Rattle.lanes.proofs.away.send_queues.Given as goal
+
+abbrev pub invariant-loop-at : goal.invariant-loop-at
+invariant-loop-at g l = record {
+  sent : SentQueues l.segs l.at l.fn.queues l.queues l.fn.tasks.items l.tasks.items;
+  few : deque_len l.tasks ≤ deque_len l.fn.tasks + l.at;
+  room : deque_capacity l.tasks ≡ deque_capacity l.fn.tasks;
+}

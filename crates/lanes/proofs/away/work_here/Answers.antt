@@ -1,0 +1,24 @@
+use Rattle.std.proofs.Common.{rules, ◌≡◌, [], ◌∷◌, subst}
+use Rattle.std.specs.List.{AllByRecursion}
+use Rattle.lanes.specs.Tasks.{Away, IsPlaced}
+use Rattle.lanes.proofs.Returning.{brought, none_away, are_placed}
+use Rattle.lanes.proofs.away.work_here.Goals as goal
+
+pub loop-task-preserved : goal.loop-task-preserved
+loop-task-preserved g c =
+    let l = c.loop-task in
+    let m = c.put_back.new.lanes in
+    let task = c.in-Some.task in
+    let answer = c.run.result in
+    let rest = c.pop_front.new.self.items in
+    let e : l.tasks.items ≡ task ∷ rest = c.in-Some.ensures.items in
+    record {
+      places = are_placed answer l.lanes m rest c.put_back.ensures.put (subst (AllByRecursion (IsPlaced l.lanes)) e l.invariant.places).1;
+      back = λ plan old away. brought plan old l.lanes m task rest answer c.run.ensures.did c.put_back.ensures.put (subst (Away plan old l.lanes) e (l.invariant.back plan old away));
+    }
+
+pub returns-clause-did : goal.returns-clause-did
+returns-clause-did g c =
+    let l = c.loop-task in
+    let e : l.tasks.items ≡ [] = search rules in
+    λ plan old away. none_away plan old l.lanes (subst (Away plan old l.lanes) e (l.invariant.back plan old away))

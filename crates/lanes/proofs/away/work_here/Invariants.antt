@@ -1,0 +1,15 @@
+use Rattle.std.proofs.Common.{length}
+use Rattle.std.specs.List.{AllByRecursion}
+use Rattle.lanes.specs.declared.lane.Lanes.{Lanes}
+use Rattle.lanes.specs.declared.plan.Plan.{Plan}
+use Rattle.lanes.specs.Tasks.{Away, IsPlaced}
+use Rattle.lanes.proofs.away.work_here.Given as goal
+
+abbrev pub invariant-loop-task : goal.invariant-loop-task
+invariant-loop-task g l = record {
+  places : AllByRecursion (IsPlaced l.lanes) l.tasks.items;
+  back : (plan : Plan) (old : Lanes) → Away plan old l.fn.lanes l.fn.tasks.items → Away plan old l.lanes l.tasks.items;
+}
+
+abbrev pub decreases-loop-task : goal.decreases-loop-task
+decreases-loop-task g l = length l.tasks.items

@@ -1,0 +1,24 @@
+use Rattle.std.proofs.Common.{sym, subst}
+use Rattle.std.specs.List.{AllByRecursion}
+use Rattle.lanes.specs.Tasks.{Away, IsPlaced}
+use Rattle.lanes.proofs.Returning.{places_did, placed_away}
+use Rattle.lanes.proofs.crew.run_by_tasks.Goals as goal
+
+pub bring_back-requires : goal.bring_back-requires
+bring_back-requires g c =
+    let now = c.send_all.new.lanes in
+    let ts = c.send_all.new.tasks.items in
+    record { places = places_did now ts c.do_tasks.new.done.items c.in-Ok.ensures.did (placed_away c.args.plan.now c.args.lanes.now now ts c.send_all.ensures.away) }
+
+pub work_here-requires : goal.work_here-requires
+work_here-requires g c =
+    let now = c.send_all.new.lanes in
+    let ts = c.send_all.new.tasks.items in
+    record { places = subst (AllByRecursion (IsPlaced now)) (sym c.in-Err.ensures.refused.0) (placed_away c.args.plan.now c.args.lanes.now now ts c.send_all.ensures.away) }
+
+pub returns-in-Ok-clause-did : goal.returns-in-Ok-clause-did
+returns-in-Ok-clause-did g c = c.bring_back.ensures.did c.args.plan.now c.args.lanes.now c.send_all.new.tasks.items c.in-Ok.ensures.did c.send_all.ensures.away
+
+pub returns-in-Err-clause-did : goal.returns-in-Err-clause-did
+returns-in-Err-clause-did g c =
+    c.work_here.ensures.did c.args.plan.now c.args.lanes.now (subst (Away c.args.plan.now c.args.lanes.now c.send_all.new.lanes) (sym c.in-Err.ensures.refused.0) c.send_all.ensures.away)

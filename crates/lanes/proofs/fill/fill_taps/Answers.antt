@@ -1,0 +1,68 @@
+use Rattle.std.proofs.Common.{◌+◌, List, map, length-set, subst, ◌∙◌, arith}
+use Rattle.pcap_io.specs.Capture.{Packet}
+use Rattle.gro.specs.Held.{packet_of, of_packets}
+use Rattle.lanes.specs.Lanes.{IsIdleTap, IsTapReady}
+use Rattle.lanes.specs.Taps.{HasClones}
+use Rattle.lanes.proofs.Adding.{after_both, after_later, after_none, tap_keeps}
+use Rattle.lanes.proofs.Idle.{idle_ready, idle_taps}
+use Rattle.lanes.proofs.Listing.{all_set, each_placed, place_set, rest_set}
+use Rattle.lanes.proofs.fill.fill_taps.Goals as goal
+
+pub loop-i-init : goal.loop-i-init
+loop-i-init c =
+    let ls = c.args.lanes.now in
+    record {
+      after = after_none 1 c.args.packets.now.items c.requires.held c.requires.shared c.requires.weigh;
+      kept = λ t m. let z = idle_taps ls c.requires.idle t m in (omega (arith, z.0), omega (arith, z.1));
+      ready = idle_ready ls c.requires.idle;
+      clones = λ k d lt. absurd (omega (arith, lt));
+      idle = λ k d le lt. c.requires.idle k d lt;
+      size = omega arith;
+    }
+
+pub fill_tap-requires-clause-idle : goal.fill_tap-requires-clause-idle
+fill_tap-requires-clause-idle c = c.loop-i.invariant.idle c.loop-i.i c.index-lanes-i.result (omega arith) (omega arith)
+
+pub returns-in_err-fill_tap-clause-after : goal.returns-in_err-fill_tap-clause-after
+returns-in_err-fill_tap-clause-after c =
+    let l = c.loop-i in
+    let old = c.args.packets.now.items in
+    after_later (l.i + 2) 9 old c.fill_tap.new.packets.items (omega arith)
+    (after_both (l.i + 1) (l.i + 2) old l.packets.items c.fill_tap.new.packets.items l.invariant.after c.in_err-fill_tap.ensures.after)
+
+pub returns-in_err-fill_tap-clause-kept : goal.returns-in_err-fill_tap-clause-kept
+returns-in_err-fill_tap-clause-kept c =
+    let l = c.loop-i in
+    let d = c.index-lanes-i.result in
+    tap_keeps l.i (of_packets c.args.packets.now.items) (of_packets l.packets.items) (of_packets c.fill_tap.new.packets.items) l.lanes d c.fill_tap.new.lane (omega arith)
+    (l.invariant.idle l.i d (omega arith) (omega arith)) l.invariant.kept c.in_err-fill_tap.ensures.kept
+
+pub returns-in_err-fill_tap-clause-ready : goal.returns-in_err-fill_tap-clause-ready
+returns-in_err-fill_tap-clause-ready c = all_set IsTapReady c.loop-i.lanes c.loop-i.i c.fill_tap.new.lane c.loop-i.invariant.ready c.in_err-fill_tap.ensures.ready
+
+pub loop-i-preserved : goal.loop-i-preserved
+loop-i-preserved c =
+    let l = c.loop-i in
+    let i = l.invariant in
+    let d = c.index-lanes-i.result in
+    let m = c.fill_tap.new.lane in
+    let e = c.in_ok-fill_tap.ensures in
+    let old = c.args.packets.now.items in
+    let now = c.fill_tap.new.packets.items in
+    let own : HasClones (map packet_of old) l.i m = subst (λ (z : List Packet). HasClones z l.i m) i.after.same e.clones in
+    record {
+      after = after_both (l.i + 1) (l.i + 1 + 1) old l.packets.items now i.after (after_later (l.i + 2) (l.i + 1 + 1) l.packets.items now (omega arith) e.after);
+      kept = tap_keeps l.i (of_packets old) (of_packets l.packets.items) (of_packets now) l.lanes d m (omega arith) (i.idle l.i d (omega arith) (omega arith)) i.kept e.kept;
+      ready = all_set IsTapReady l.lanes l.i m i.ready e.ready;
+      clones = place_set (HasClones (map packet_of old)) l.lanes l.i (l.i + 1) m (omega arith) i.clones own;
+      idle = rest_set IsIdleTap l.lanes l.i (l.i + 1) m (omega arith) i.idle;
+      size = length-set l.lanes l.i m ∙ i.size;
+    }
+
+pub returns-clause-after : goal.returns-clause-after
+returns-clause-after c = after_later (c.loop-i.i + 1) 9 c.args.packets.now.items c.loop-i.packets.items (omega arith) c.loop-i.invariant.after
+
+pub returns-clause-clones : goal.returns-clause-clones
+returns-clause-clones c =
+    let l = c.loop-i in
+    each_placed (HasClones (map packet_of c.args.packets.now.items)) l.lanes (λ i d lt. l.invariant.clones i d (omega (arith, lt, l.invariant.size, c.loop-i-test.false)) lt)

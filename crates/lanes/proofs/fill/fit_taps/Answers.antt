@@ -1,0 +1,16 @@
+use Rattle.std.proofs.Common.{◌∷◌, [], length, length-append, ap, sym, subst, arith}
+use Rattle.std.specs.Prelude.{All}
+use Rattle.lanes.specs.Lanes.{IsIdleTap}
+use Rattle.lanes.proofs.Listing.{all_last}
+use Rattle.lanes.proofs.fill.fit_taps.Goals as goal
+
+pub loop-tap-preserved : goal.loop-tap-preserved
+loop-tap-preserved c =
+    let l = c.loop-tap in
+    let made = c.new.result in
+    let more = c.push_reserved.ensures.items in
+    record {
+      idle = subst (All IsIdleTap) (sym more) (all_last IsIdleTap l.fitting.items made l.invariant.idle c.new.ensures.idle);
+      size = omega (arith, ap length more, length-append l.fitting.items (made ∷ []), l.invariant.size);
+      room = omega (arith, c.push_reserved.ensures.capacity, l.invariant.room);
+    }

@@ -1,0 +1,22 @@
+-- What a contract sees of a lane's task: the lane at its place among those of its kind, and how it is worked.
+use Rattle.std.specs.Prelude.{ℕ, Option, List}
+use Rattle.tap_filter.specs.declared.instr.Instr.{Instr}
+use Rattle.lanes.specs.declared.lane.QueueLane.{QueueLane}
+use Rattle.lanes.specs.declared.lane.TapLane.{TapLane}
+
+pub record QueueWork : Type 0 where
+  pub at : ℕ
+  pub lane : QueueLane
+  pub segs : ℕ
+
+pub record TapWork : Type 0 where
+  pub at : ℕ
+  pub lane : TapLane
+  pub snap : ℕ
+  pub filter : Option (List Instr)
+
+abbrev pub queue_work : ℕ → QueueLane → ℕ → QueueWork
+queue_work at lane segs = record { at = at; lane = lane; segs = segs }
+
+abbrev pub tap_work : ℕ → TapLane → ℕ → Option (List Instr) → TapWork
+tap_work at lane snap filter = record { at = at; lane = lane; snap = snap; filter = filter }

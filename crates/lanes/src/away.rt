@@ -1,0 +1,166 @@
+//! Lanes go away as tasks, and come back to their places.
+ghost use Rattle.std.specs.Prelude.{◌≡◌, ℕ, ◌+◌, ◌≤◌, [], length, List, All, IfSome};
+ghost use Rattle.std.specs.List.{AllByRecursion};
+ghost use Rattle.std.specs.VecDeque.{deque_len, deque_capacity};
+ghost use Rattle.errands.specs.Answers.{EachDid};
+ghost use Rattle.lanes.specs.Lanes.{IsFilled, IsTapReady};
+ghost use Rattle.lanes.specs.Tasks.{DidLane, SentQueues, SentTaps, Away, HasPlace, IsPlaced, IsPut};
+ghost use Rattle.lanes.specs.Work.{Did};
+
+use crate::free::{free_queue, free_tap};
+use crate::lane::{Lanes, QueueLane, TapLane};
+use crate::plan::Plan;
+use crate::shared::{SharedProgram, program_in, share_in};
+use crate::tasks::{LaneDone, LaneJob, LaneTask, QueueTask, WatchTask};
+use crate::work::{watch, work};
+use core::mem::replace;
+use errands::Job;
+use off_io::Gate;
+use std::collections::VecDeque;
+
+/// Whether two lanes at least have something to do.
+pub(crate) fn are_two_at_work(lanes: &Lanes) -> bool {
+    let mut is_one = false;
+    for lane in &lanes.queues {
+        let is_at_work = !lane.packets.is_empty();
+        if is_one && is_at_work {
+            return true;
+        }
+        is_one = is_one || is_at_work;
+    }
+    for lane in &lanes.taps {
+        let is_at_work = !lane.clones.is_empty();
+        if is_one && is_at_work {
+            return true;
+        }
+        is_one = is_one || is_at_work;
+    }
+    false
+}
+
+// The lane leaves its place. What stays there is idle.
+fn take_queue(lane: &mut QueueLane) -> QueueLane
+    ensures same { result ≡ lane.old }
+{
+    let alloc = lane.packets.allocator();
+    let idle = QueueLane::new(alloc, lane.queue);
+    replace(lane, idle)
+}
+
+// The same of a tap.
+fn take_tap(lane: &mut TapLane) -> TapLane
+    ensures same { result ≡ lane.old }
+{
+    let alloc = *lane.clones.allocator();
+    let idle = TapLane::new(alloc, lane.tap);
+    replace(lane, idle)
+}
+
+// The queues that have packets go away as tasks. The others are worked here.
+fn send_queues<G: Gate>(
+    gate: &G,
+    segs: u32,
+    queues: &mut [QueueLane],
+    tasks: &mut VecDeque<LaneTask>,
+)
+    requires filled { All IsFilled queues.old }
+    requires room { deque_len tasks.old + length queues.old ≤ deque_capacity tasks.old }
+    ensures sent { SentQueues segs (length queues.old) queues.old queues.new tasks.old.items tasks.new.items }
+    ensures few { deque_len tasks.new ≤ deque_len tasks.old + length queues.old }
+    ensures room { deque_capacity tasks.new ≡ deque_capacity tasks.old }
+{
+    for at in 0..queues.len() {
+        if queues[at].packets.is_empty() {
+            work(gate, segs, &mut queues[at]);
+        } else {
+            let lane = take_queue(&mut queues[at]);
+            tasks.push_back_reserved(LaneTask::Queue(QueueTask::new(at, lane, segs)));
+        }
+    }
+}
+
+// What a tap's task has of the filter. None where there is nothing to read: then it is no task.
+fn filter_for(lane: &TapLane, plan: &Plan) -> Option<Option<SharedProgram>>
+    ensures same { IfSome result (λ filter. filter ≡ plan.now.filter) }
+{
+    if lane.clones.is_empty() {
+        return None;
+    }
+    share_in(&plan.filter).ok()
+}
+
+// The taps that have clones go away as tasks. The others are worked here.
+fn send_taps<G: Gate>(gate: &G, plan: &Plan, taps: &mut [TapLane], tasks: &mut VecDeque<LaneTask>)
+    requires ready { All IsTapReady taps.old }
+    requires room { deque_len tasks.old + length taps.old ≤ deque_capacity tasks.old }
+    ensures sent { SentTaps plan.now (length taps.old) taps.old taps.new tasks.old.items tasks.new.items }
+{
+    for at in 0..taps.len() {
+        match filter_for(&taps[at], plan) {
+            Some(filter) => {
+                let lane = take_tap(&mut taps[at]);
+                let task = WatchTask::new(at, lane, plan.snap, filter);
+                tasks.push_back_reserved(LaneTask::Tap(task));
+            }
+            None => watch(gate, plan.snap, program_in(&plan.filter), &mut taps[at]),
+        }
+    }
+}
+
+/// The lanes that have something to do go away as tasks. The others are worked here.
+pub(crate) fn send_all<G: Gate>(
+    gate: &G,
+    plan: &Plan,
+    lanes: &mut Lanes,
+    tasks: &mut VecDeque<LaneTask>,
+)
+    requires queues { All IsFilled lanes.old.queues.items }
+    requires taps { All IsTapReady lanes.old.taps.items }
+    requires none { tasks.old.items ≡ [] }
+    requires room { length lanes.old.queues.items + length lanes.old.taps.items ≤ deque_capacity tasks.old }
+    ensures away { Away plan.now lanes.old lanes.new tasks.new.items }
+{
+    send_queues(gate, plan.segs, &mut lanes.queues, tasks);
+    send_taps(gate, plan, &mut lanes.taps, tasks);
+}
+
+// A lane comes back to its place.
+fn put_back(lanes: &mut Lanes, done: LaneDone)
+    requires place { HasPlace lanes.old done }
+    ensures put { IsPut done lanes.old lanes.new }
+{
+    match done {
+        LaneDone::Queue(done) => {
+            let (at, lane) = done.open();
+            free_queue(replace(&mut lanes.queues[at], lane));
+        }
+        LaneDone::Tap(done) => {
+            let (at, lane) = done.open();
+            free_tap(replace(&mut lanes.taps[at], lane));
+        }
+    }
+}
+
+/// All lanes come back.
+pub(crate) fn bring_back(lanes: &mut Lanes, done: &mut VecDeque<LaneDone>)
+    requires places { AllByRecursion (HasPlace lanes.old) done.old.items }
+    ensures did { (plan : Plan) (old : Lanes) (ts : List LaneTask)
+        → EachDid DidLane ts done.old.items → Away plan old lanes.old ts → Did plan old lanes.new }
+    ensures none { done.new.items ≡ [] }
+{
+    while let Some(answer) = done.pop_front() {
+        put_back(lanes, answer);
+    }
+}
+
+/// All lanes that are away are worked here, where nobody else takes them.
+pub(crate) fn work_here<G: Gate>(gate: &G, lanes: &mut Lanes, tasks: &mut VecDeque<LaneTask>)
+    requires places { AllByRecursion (IsPlaced lanes.old) tasks.old.items }
+    ensures did { (plan : Plan) (old : Lanes) → Away plan old lanes.old tasks.old.items → Did plan old lanes.new }
+    ensures none { tasks.new.items ≡ [] }
+{
+    let job = LaneJob { gate };
+    while let Some(task) = tasks.pop_front() {
+        put_back(lanes, job.run(task));
+    }
+}

@@ -1,0 +1,143 @@
+//! The work of one round: its packets spread over receive queues and merged there, and what taps read of them, lane by
+//! lane.
+//!
+//! ```text
+//!   packets ── a clone of each ──> tap 0 ─┐
+//!      │    ── a clone of each ──> tap 1 ─┤ windows, as the packets arrived
+//!      │
+//!      └── by flow ──> queue 0 ───────────┤ runs of packets, which lie where they lay
+//!                      queue 1 ───────────┘
+//! ```
+//!
+//! A lane is a queue or a tap, with what it has to do and then what it has done ([`QueueLane`], [`TapLane`]). Between
+//! two rounds lanes are idle ([`Lanes`], `AreIdle` in `specs/Lanes`): they hold nothing, and keep their lists, engines
+//! and outcomes as memory for the next round.
+//!
+//! ```text
+//!   queue 0:   packets  [ p0 | p1 | p2 | p3 | p4 ]     each in its slot, where it stays until it is brought home
+//!              runs       p0 -> p2 -> p3,  p1,  p4     by index, in the order of their first packets (`gro::Engine`)
+//! ```
+//!
+//! [`work_packets`] fills idle lanes: it clones each packet for each tap, and spreads the packets over the queues by
+//! their flows. With one queue the list of packets becomes the lane's as it stands, and no packet moves; with several
+//! each moves once. Then each queue's engine takes the memory for as many packets as the queue has. Then all lanes are
+//! worked by a [`Works`]: by the thread that calls, one after another ([`Alone`]), or by all who run tasks beside it
+//! ([`LaneCrew`]). A queue's work takes no memory and can't be refused. A tap's lane holds room for all that its clones
+//! may leave before it gets them, so giving back wants no memory.
+//!
+//! ```text
+//!   who asks ── a lane, as a task ──>  the desk  ── the task, a note ──> whoever is free, and who asks while it waits
+//!      ^                                                                    │
+//!      └──────────────── the lane once it is worked, the note ──────────────┘
+//! ```
+//!
+//! A crew works by `errands`: threads that live for a whole run ([`serve_lanes`]) take the lanes of its rounds from a
+//! desk ([`open_desk`]), so no thread is started in a round, and what the crew holds is reserved before. A lane that
+//! has nothing to do is no task, and where one lane alone has something to do, whoever asks does it. A thread that
+//! can't be made costs nothing. The tasks of taps share the filter by [`SharedProgram`].
+//!
+//! [`keep_packets`] takes a clone of each packet before that, so that what comes out can be compared with what went in.
+//! With eight taps a packet is cloned nine times, and what each clone takes of a block's weight leaves enough for the
+//! next.
+//!
+//! Proved, by the names of the clauses of `work_packets`, whoever works the lanes and whatever the order in which they
+//! run:
+//!
+//! - `lane`: queue by queue, what its runs come to is what the maximal runs of its flows come to, in the order of
+//!   their first packets; `windows`: tap by tap, the texts are its windows of the packets as they arrived.
+//! - `records`: the records that are written of these, queue by queue and then tap by tap, are those of the round in
+//!   what merging writes.
+//! - `kept`: nothing is lost, whether all work was done or memory was refused; `count`: the queues hold no more blocks
+//!   and parts than the packets did; `clones`: no clone is left.
+//! - `packets`: each queue has the packets of its flows, in their order; `merged`: each of them is in one of the
+//!   queue's runs, once, by its index, so that what a run comes to can be read and written from where its packets lie.
+//!
+//! And of `keep_packets`: `all`, the clones are those of the packets, in their order; `after`, the packets are the same
+//! and may still be worked; `kept` and `fewer`, nothing is lost.
+//!
+//! `did` of `Works::run_lanes` is what `work_packets` stands on: each lane is worked, and stands at its place again.
+//! For a crew it comes from the notes: an answer is known to be that of its task (`DidLane` in `specs/Tasks`), in
+//! whatever order answers come.
+//!
+//! Only tested: that lanes run at the same time, that each passes the gate before its work and after it, and that
+//! memory suffices where there is some. Not said: that a thread runs or is woken.
+//!
+//! ```
+//! let plan = Plan {
+//!     queues: 4,
+//!     taps: 1,
+//!     snap: 64,
+//!     choice: Choice::Fold,
+//!     segs: 4096,
+//!     filter: None,
+//! };
+//! let mut works = Alone { gate: &NoGate };
+//! let mut lanes = Lanes::new(alloc);
+//! let blocks = match work_packets(&mut works, alloc, &mut packets, &plan, &mut lanes) {
+//!     Ok(()) => {
+//!         packets.discard();
+//!         all_home(&rt, lanes) // once what they came to is written
+//!     }
+//!     Err(_) => rest_home(&rt, packets, lanes),
+//! };
+//! ```
+//!
+//! Its parts: `plan` (how many lanes), `lane` (what each has to do, and what it has done), `share` (packets to their
+//! queues, and memory for their runs), `clones` and `fill` (what taps get), `keep` (a clone of each packet beside the
+//! work), `work` (one lane's work) and `works` (who does it); `tasks` (lanes as tasks), `away` (out to the desk and
+//! back), `crew`, `shared` (the filter that taps share) and `free`; and on these `round`.
+//!
+//! Tests: `round_tests`, module `working`.
+//!
+//! Why so:
+//!
+//! - **The lanes of a round are two lists of one type each**, the same before the work and after it: a worker or a tap
+//!   changes its lane in place. As a task a lane moves, with its place among its kind, and comes back to that place: so
+//!   answers may come in any order, and lanes with nothing to do stay where they are.
+//! - **Idle lanes are of no plan**: whoever ends a round may have lanes of other rounds in hand. So each round numbers
+//!   its lanes, and makes them anew only where they are fewer or more than its plan has. How long runs may be an engine
+//!   is told as it merges, so it serves any plan. It is started anew for each round, and takes memory only where it had
+//!   fewer packets before: so a lane that is away leaves one without memory at its place, and none is taken for that.
+//! - **A queue's packets lie still, and its runs are indices**: no packet is in an engine, so an idle lane may keep the
+//!   runs of its last round, and nothing that says what lanes hold has to speak of engines.
+//! - **The list is turned before packets are spread**: they leave it by its end, where none of the others has to move,
+//!   and are to come to their lanes in order. Where memory is refused it is turned again.
+//! - **A task carries its filter by a count** (`SharedProgram`), and not by a loan: tasks outlive each call, so what
+//!   they hold has to be their own.
+//! - **Only memory stops lanes from being filled**: first there are as many as the plan has, then come each tap's
+//!   clones of all packets, then the packets go to their queues, and at last each queue's engine takes its memory. So
+//!   clones are of packets in their order, and a packet that there is no memory for stands in front of the others
+//!   again. Where a tap isn't run its clones are given back at once.
+//! - **Memory is taken before the work and not in it**, so a queue's worker has no answer but its runs, and all that a
+//!   worked round can be refused is a tap's windows.
+//! - **Each tap's lane has outcomes of its own**, since it is a thread's. For want of memory the lanes come back as far
+//!   as they got, and who brings a worked round home brings home these. A queue leaves none: its packets are as they
+//!   were.
+//! - **A queue's numbers rise and aren't in turn** (`RiseFrom`), and that is all that merging asks of them.
+//! - **A packet may be cloned for 8 taps, and once more to be kept, without a part ever worn**: each clone takes a
+//!   4096th at most of the whole weight 2^62, so at least 2^62 - 9 * 2^50 stays.
+#![tactic(auto)]
+
+mod away;
+mod clones;
+mod crew;
+mod fill;
+mod free;
+mod keep;
+mod lane;
+mod plan;
+mod round;
+mod share;
+mod shared;
+mod tasks;
+mod work;
+mod works;
+
+pub use crew::{LANES, LaneCrew, LaneDesk, count_runners, open_desk, serve_lanes};
+pub use keep::keep_packets;
+pub use lane::{Lanes, QueueLane, TapLane};
+pub use plan::Plan;
+pub use round::work_packets;
+pub use shared::SharedProgram;
+pub use tasks::{LaneDone, LaneJob, LaneTask, QueueDone, QueueTask, TapDone, WatchTask};
+pub use works::{Alone, Works};

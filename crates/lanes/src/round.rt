@@ -1,0 +1,150 @@
+//! The work of a round, over all its lanes.
+ghost use Rattle.std.specs.Prelude.{◌≡◌, ℕ, ◌+◌, ◌≤◌, true, List, [], length, map, All, OnOk, OnErr, MatchResult};
+ghost use Rattle.std.specs.Prelude.{IsSome};
+ghost use Rattle.frags.specs.Account.{Keeps, both};
+ghost use Rattle.std.specs.List.{filter};
+ghost use Rattle.offload_model.specs.Rounds.{is_queued};
+ghost use Rattle.offload_model.specs.Written.{round_records};
+ghost use Rattle.gro.specs.declared.packet.Packet.{Packet as Held};
+ghost use Rattle.gro.specs.Held.{packet_of, of_packets, counts_of, AreHeld, AreShared, WeighAtLeast};
+ghost use Rattle.lanes.specs.Clones.{weight_after};
+ghost use Rattle.lanes.specs.Lanes.{of_lanes, counts_of_queues, AreIdle, IsFilled, IsMerged, IsTapReady};
+ghost use Rattle.lanes.specs.Packets.{RiseFrom};
+ghost use Rattle.lanes.specs.Sharing.{EachFrom};
+ghost use Rattle.lanes.specs.Taps.{HasClones};
+ghost use Rattle.lanes.specs.Work.{spread_of, options_by, shown_by, IsPlan, IsToWork, AreFilled, AreMerged};
+ghost use Rattle.lanes.specs.Work.{AreWatched, Did, IsDone, IsRefused, lane_records};
+
+use crate::fill::{fill_taps, give_all_up, open_lanes, weigh};
+use crate::lane::{Lanes, TapLane};
+use crate::plan::Plan;
+use crate::share::share_out;
+use crate::works::Works;
+use gro::Packets;
+use std::alloc::{AllocError, Global};
+
+// The lanes get what they have to do: first the clones, then the packets, and memory for each. Where memory is refused,
+// what isn't in `packets` any more is in the lanes.
+fn fill(
+    alloc: Global,
+    plan: &Plan,
+    packets: &mut Packets,
+    lanes: &mut Lanes,
+) -> Result<(), AllocError>
+    requires plan { IsPlan plan.now }
+    requires held { AreHeld packets.old.items }
+    requires shared { AreShared packets.old.items }
+    requires weighs { WeighAtLeast (weight_after 1) packets.old.items }
+    requires rising { RiseFrom 0 (map packet_of packets.old.items) }
+    requires few { counts_of packets.old.items ≤ 65536 }
+    requires idle { AreIdle lanes.old }
+    ensures kept { Keeps (of_packets packets.old.items) (both (of_packets packets.new.items) (of_lanes lanes.new)) }
+    ensures count { counts_of packets.new.items + counts_of_queues lanes.new.queues.items
+        ≡ counts_of packets.old.items }
+    ensures ready { All IsTapReady lanes.new.taps.items }
+    ensures queues { OnOk result (EachFrom (IsToWork (spread_of plan.now) (map packet_of packets.old.items)) 0
+        lanes.new.queues.items) }
+    ensures taps { OnOk result (EachFrom (HasClones (map packet_of packets.old.items)) 0 lanes.new.taps.items) }
+    ensures size { OnOk result ((length lanes.new.queues.items ≡ plan.now.queues)
+        × (length lanes.new.taps.items ≡ plan.now.taps)) }
+    ensures all { OnOk result (packets.new.items ≡ []) }
+{
+    let count = weigh(packets);
+    open_lanes(alloc, plan, lanes)?;
+    fill_taps(&mut lanes.taps, count, packets)?;
+    share_out(packets, plan, &mut lanes.queues)
+}
+
+// Whether each tap has read its windows.
+fn are_read(lanes: &[TapLane]) -> bool
+    ensures read { result ≡ true → All (λ t. IsSome t.texts) lanes.now }
+{
+    for lane in lanes {
+        if lane.texts.is_none() {
+            return false;
+        }
+    }
+    true
+}
+
+// The lanes get what they have to do. Where memory is refused they have no clones.
+fn begin(
+    alloc: Global,
+    plan: &Plan,
+    packets: &mut Packets,
+    lanes: &mut Lanes,
+) -> Result<(), AllocError>
+    requires plan { IsPlan plan.now }
+    requires held { AreHeld packets.old.items }
+    requires shared { AreShared packets.old.items }
+    requires weighs { WeighAtLeast (weight_after 1) packets.old.items }
+    requires rising { RiseFrom 0 (map packet_of packets.old.items) }
+    requires few { counts_of packets.old.items ≤ 65536 }
+    requires idle { AreIdle lanes.old }
+    ensures filled { OnOk result (AreFilled plan.now packets.old.items lanes.new) }
+    ensures ready { OnOk result (All IsFilled lanes.new.queues.items × All IsTapReady lanes.new.taps.items) }
+    ensures all { OnOk result (packets.new.items ≡ []) }
+    ensures refused { OnErr result (IsRefused packets.old.items packets.new.items lanes.new) }
+{
+    match fill(alloc, plan, packets, lanes) {
+        Ok(()) => Ok(()),
+        Err(error) => {
+            give_all_up(&mut lanes.taps);
+            Err(error)
+        }
+    }
+}
+
+// What the lanes say after their work: all of it is done, or a tap was refused memory.
+fn finish(lanes: &Lanes) -> Result<(), AllocError>
+    ensures ended { (plan : Plan) (old : List Held) (before : Lanes) → AreFilled plan old before
+        → Did plan before lanes.now → MatchResult result (λ _. IsDone plan old lanes.now)
+        (λ _. IsRefused old [] lanes.now) }
+{
+    if are_read(&lanes.taps) {
+        Ok(())
+    } else {
+        Err(AllocError)
+    }
+}
+
+/// The work of a round in lanes that are idle, by whoever works them. Each packet goes to the queue of its flow; where
+/// there is one queue their list is the lane's. Each tap is given a clone of every packet before any worker starts; and
+/// each worker and each tap passes the gate at point 0 before its work and at point 1 after it. One clone of each
+/// packet may have been kept before, by [`keep_packets`](crate::keep_packets).
+///
+/// For want of memory what isn't in `packets` any more is in the lanes. Where they are as many as the plan has, their
+/// memory serves.
+pub fn work_packets<W: Works>(
+    works: &mut W,
+    alloc: Global,
+    packets: &mut Packets,
+    plan: &Plan,
+    lanes: &mut Lanes,
+) -> Result<(), AllocError>
+    requires plan { IsPlan plan.now }
+    requires held { AreHeld packets.old.items }
+    requires shared { AreShared packets.old.items }
+    requires weighs { WeighAtLeast (weight_after 1) packets.old.items }
+    requires rising { RiseFrom 0 (map packet_of packets.old.items) }
+    requires few { counts_of packets.old.items ≤ 65536 }
+    requires idle { AreIdle lanes.old }
+    ensures lanes { OnOk result (AreMerged plan.now.segs (spread_of plan.now) plan.now.queues
+        (map packet_of packets.old.items) lanes.new.queues.items) }
+    ensures windows { OnOk result (AreWatched plan.now.snap plan.now.taps
+        (shown_by plan.now (map packet_of packets.old.items)) lanes.new.taps.items) }
+    ensures records { OnOk result ((budget : ℕ) → lane_records lanes.new
+        ≡ round_records (options_by plan.now budget) (map packet_of packets.old.items)) }
+    ensures merged { OnOk result (All IsMerged lanes.new.queues.items) }
+    ensures packets { OnOk result (EachFrom (λ q l. map packet_of l.packets.items
+        ≡ filter (is_queued (spread_of plan.now) q) (map packet_of packets.old.items)) 0 lanes.new.queues.items) }
+    ensures all { OnOk result (packets.new.items ≡ []) }
+    ensures kept { Keeps (of_packets packets.old.items) (both (of_packets packets.new.items) (of_lanes lanes.new)) }
+    ensures count { counts_of packets.new.items + counts_of_queues lanes.new.queues.items
+        ≤ counts_of packets.old.items }
+    ensures clones { All (λ t. t.clones.items ≡ []) lanes.new.taps.items }
+{
+    begin(alloc, plan, packets, lanes)?;
+    works.run_lanes(plan, lanes);
+    finish(lanes)
+}

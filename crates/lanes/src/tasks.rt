@@ -1,0 +1,202 @@
+//! Lanes as tasks: what goes to whoever runs them, and what comes back.
+ghost use Rattle.std.specs.Prelude.{◌≡◌};
+ghost use Rattle.lanes.specs.Lanes.{DidQueue, DidTap, IsFilled, IsTapReady};
+ghost use Rattle.lanes.specs.LaneWork.{queue_work, tap_work};
+
+use crate::free::{free_queue, free_tap};
+use crate::lane::{QueueLane, TapLane};
+use crate::shared::{SharedProgram, program_in};
+use crate::work::{watch, work};
+use errands::Job;
+use off_io::Gate;
+use std::marker::Model;
+
+/// A queue's lane with what it has to do. One that is dropped frees its blocks.
+pub struct QueueTask {
+    // Its place among the queues.
+    at: usize,
+    lane: QueueLane,
+    segs: u32,
+}
+
+impl Model for QueueTask {
+    ghost use Rattle.lanes.specs.Lanes.{IsFilled};
+    ghost use Rattle.lanes.specs.LaneWork.{QueueWork, queue_work};
+
+    ghost Value = { QueueWork };
+
+    ghost view = { λ t. queue_work t.at t.lane t.segs };
+
+    ghost invariant = { λ t. IsFilled t.lane };
+}
+
+/// A tap's lane with the clones that it has to read. One that is dropped frees its blocks.
+pub struct WatchTask {
+    // Its place among the taps.
+    at: usize,
+    lane: TapLane,
+    snap: u32,
+    filter: Option<SharedProgram>,
+}
+
+impl Model for WatchTask {
+    ghost use Rattle.lanes.specs.Lanes.{IsTapReady};
+    ghost use Rattle.lanes.specs.LaneWork.{TapWork, tap_work};
+
+    ghost Value = { TapWork };
+
+    ghost view = { λ t. tap_work t.at t.lane t.snap t.filter };
+
+    ghost invariant = { λ t. IsTapReady t.lane };
+}
+
+/// A queue's lane once its work is done. One that is dropped frees its blocks.
+pub struct QueueDone {
+    at: usize,
+    lane: QueueLane,
+}
+
+/// A tap's lane once its clones are read. One that is dropped frees its blocks.
+pub struct TapDone {
+    at: usize,
+    lane: TapLane,
+}
+
+/// What one lane has to do.
+#[derive(Drop)]
+pub enum LaneTask {
+    Queue(QueueTask),
+    Tap(WatchTask),
+}
+
+/// What one lane has done.
+#[derive(Drop)]
+pub enum LaneDone {
+    Queue(QueueDone),
+    Tap(TapDone),
+}
+
+impl Drop for QueueTask {
+    fn drop(self) {
+        let QueueTask {
+            at: _,
+            lane,
+            segs: _,
+        } = self;
+        free_queue(lane);
+    }
+}
+
+impl Drop for WatchTask {
+    fn drop(self) {
+        let WatchTask {
+            at: _,
+            lane,
+            snap: _,
+            filter: _filter,
+        } = self;
+        free_tap(lane);
+    }
+}
+
+impl Drop for QueueDone {
+    fn drop(self) {
+        let QueueDone { at: _, lane } = self;
+        free_queue(lane);
+    }
+}
+
+impl Drop for TapDone {
+    fn drop(self) {
+        let TapDone { at: _, lane } = self;
+        free_tap(lane);
+    }
+}
+
+impl QueueTask {
+    pub(crate) fn new(at: usize, lane: QueueLane, segs: u32) -> QueueTask
+        requires filled { IsFilled lane }
+        ensures same { result ≡ queue_work at lane segs }
+    {
+        QueueTask { at, lane, segs }
+    }
+
+    fn run<G: Gate>(self, gate: &G) -> QueueDone
+        ensures at { result.at ≡ self.at }
+        ensures did { DidQueue self.segs self.lane result.lane }
+    {
+        let QueueTask { at, mut lane, segs } = self;
+        work(gate, segs, &mut lane);
+        QueueDone { at, lane }
+    }
+}
+
+impl WatchTask {
+    pub(crate) fn new(
+        at: usize,
+        lane: TapLane,
+        snap: u32,
+        filter: Option<SharedProgram>,
+    ) -> WatchTask
+        requires ready { IsTapReady lane }
+        ensures same { result ≡ tap_work at lane snap filter }
+    {
+        WatchTask {
+            at,
+            lane,
+            snap,
+            filter,
+        }
+    }
+
+    fn run<G: Gate>(self, gate: &G) -> TapDone
+        ensures at { result.at ≡ self.at }
+        ensures did { DidTap self.filter self.snap self.lane result.lane }
+    {
+        let WatchTask {
+            at,
+            mut lane,
+            snap,
+            filter,
+        } = self;
+        watch(gate, snap, program_in(&filter), &mut lane);
+        TapDone { at, lane }
+    }
+}
+
+impl QueueDone {
+    pub(crate) fn open(self) -> (usize, QueueLane)
+        ensures same { (result.0 ≡ self.at) × (result.1 ≡ self.lane) }
+    {
+        let QueueDone { at, lane } = self;
+        (at, lane)
+    }
+}
+
+impl TapDone {
+    pub(crate) fn open(self) -> (usize, TapLane)
+        ensures same { (result.0 ≡ self.at) × (result.1 ≡ self.lane) }
+    {
+        let TapDone { at, lane } = self;
+        (at, lane)
+    }
+}
+
+/// What is done of a round's tasks. Each lane passes the gate at point 0 before its work and at point 1 after it.
+#[derive(Drop)]
+pub struct LaneJob<'g, G> {
+    pub gate: &'g G,
+}
+
+impl<G: Gate> Job<LaneTask, LaneDone> for LaneJob<'_, G> {
+    ghost use Rattle.lanes.specs.Tasks.{DidLane};
+
+    ghost did = { DidLane };
+
+    fn run(&self, task: LaneTask) -> LaneDone {
+        match task {
+            LaneTask::Queue(task) => LaneDone::Queue(task.run(self.gate)),
+            LaneTask::Tap(task) => LaneDone::Tap(task.run(self.gate)),
+        }
+    }
+}

@@ -1,0 +1,73 @@
+//! The work of the lanes.
+ghost use Rattle.std.specs.Prelude.{◌≡◌, All, option_map};
+ghost use Rattle.lanes.specs.Lanes.{DidQueue, DidTap, EachQueueDid, EachTapDid, IsFilled, IsTapReady};
+ghost use Rattle.lanes.specs.Work.{Did};
+
+use crate::lane::{Lanes, QueueLane, TapLane};
+use crate::plan::Plan;
+use crate::shared::program_in;
+use core::mem::replace;
+use off_io::{Gate, Who};
+use tap_filter::Program;
+use taps::{TapTexts, read_clones};
+
+/// A queue's worker: its packets are merged where they lie, which takes no memory and can't be refused. The gate is
+/// passed at point 0 before the work and at point 1 after it.
+pub(crate) fn work<G: Gate>(gate: &G, segs: u32, lane: &mut QueueLane)
+    requires filled { IsFilled lane.old }
+    ensures did { DidQueue segs lane.old lane.new }
+{
+    let who = Who::Worker(lane.queue);
+    gate.pass(who, 0);
+    lane.engine.merge(lane.packets.slots(), segs);
+    gate.pass(who, 1);
+}
+
+/// A tap's task. It passes the gate at the same points.
+pub(crate) fn watch<G: Gate>(gate: &G, snap: u32, filter: Option<&Program>, lane: &mut TapLane)
+    requires ready { IsTapReady lane.old }
+    ensures did { DidTap (option_map (λ p. p.now) filter.entry) snap lane.old lane.new }
+{
+    let none = TapTexts::new(*lane.clones.allocator());
+    let memory = replace(&mut lane.memory, none);
+    let texts = read_clones(
+        gate,
+        lane.tap,
+        snap,
+        filter,
+        &mut lane.clones,
+        &mut lane.outcomes,
+        memory,
+    );
+    lane.texts = texts.ok();
+}
+
+// The queues' workers, one after another.
+fn work_in_turn<G: Gate>(gate: &G, plan: &Plan, queues: &mut [QueueLane])
+    requires filled { All IsFilled queues.old }
+    ensures did { EachQueueDid plan.now.segs queues.old queues.new }
+{
+    for i in 0..queues.len() {
+        work(gate, plan.segs, &mut queues[i]);
+    }
+}
+
+// The taps' tasks, one after another.
+fn watch_in_turn<G: Gate>(gate: &G, plan: &Plan, taps: &mut [TapLane])
+    requires ready { All IsTapReady taps.old }
+    ensures did { EachTapDid plan.now.filter plan.now.snap taps.old taps.new }
+{
+    for i in 0..taps.len() {
+        watch(gate, plan.snap, program_in(&plan.filter), &mut taps[i]);
+    }
+}
+
+/// All lanes in the thread that calls, queue after queue and then tap after tap.
+pub(crate) fn run_in_turn<G: Gate>(gate: &G, plan: &Plan, lanes: &mut Lanes)
+    requires queues { All IsFilled lanes.old.queues.items }
+    requires taps { All IsTapReady lanes.old.taps.items }
+    ensures did { Did plan.now lanes.old lanes.new }
+{
+    work_in_turn(gate, plan, &mut lanes.queues);
+    watch_in_turn(gate, plan, &mut lanes.taps);
+}

@@ -1,0 +1,306 @@
+-- What both sides say together, once both have ended, and what one says where there aren't two.
+use Rattle.std.proofs.Common.{◌≡◌, ◌∙◌, ◌+◌, ◌<◌, ◌≤◌, ◌^◌, ℕ, List, [], ◌∷◌, ◌++◌, length, length-append}
+use Rattle.std.proofs.Common.{Option, None, Some, MatchOption, IfSome, Result, Ok, Err, Bool, false, inl, inr, true, refl, sym, ap, subst, arith, append-nil}
+use Rattle.std.proofs.lemmas.Bool.{false≢true}
+use Rattle.offload_model.specs.Written.{Options}
+use Rattle.rounds.specs.declared.round.RoundEnd.TheVariants as rounds
+use Rattle.rounds.specs.declared.round.RoundRead.{RoundRead}
+use Rattle.rounds.specs.Merging.{options_of}
+use Rattle.rounds.specs.RoundsState.{RoundsState, IntakeState}
+use Rattle.pipeline.specs.declared.parcel.Parcel.{Parcel}
+use Rattle.pipeline.specs.Handled.{Went, Ends, Ran, RanOn, Rests, IsReadyAt, IsReadyAtEnd, Stepped, Handled, HandledOn, MayGoOn, IsOut, Idle, MayBeHandled}
+use Rattle.pipeline.specs.Handled.{ComesBack, blocks_out}
+use Rattle.pipeline.specs.Parcels.{blocks_of, is_full, rounds_of}
+use Rattle.pipeline.specs.Reads.{Spot, ReadRound, Reads, ReadOn, IsAlone}
+use Rattle.pipeline.proofs.Rows.{none_known, reads_least, rounds_append}
+
+-- the same reading, by names of the same numbers
+pub reads_as : (i i' budget budget' : ℕ) (from from' to to' : Spot) (xs xs' : List RoundRead) → i' ≡ i → budget' ≡ budget → from' ≡ from → to' ≡ to → xs' ≡ xs → Reads i' budget' from' xs' to'
+    → Reads i budget from xs to
+reads_as i i' budget budget' from from' to to' xs xs' ei eb ef et ex reads =
+    subst (λ (n : ℕ). Reads n budget from xs to) ei
+    (subst (λ (n : ℕ). Reads i' n from xs to) eb
+    (subst (λ (s : Spot). Reads i' budget' s xs to) ef
+    (subst (λ (s : Spot). Reads i' budget' from' xs s) et
+    (subst (λ (l : List RoundRead). Reads i' budget' from' l to') ex reads))))
+
+-- ---- the rounds are one again
+
+-- the round that comes first
+abbrev front_of : RoundRead → List RoundRead → RoundRead
+front_of none [] = none
+front_of none (read ∷ rs) = read
+
+-- both sides were lent, one read with this intake, and so it is once both have ended
+pub record Lent (state new : RoundsState) (intake : IntakeState) (home back : ℕ) : Type 0 where
+  pub blocks : intake.blocks ≡ state.blocks
+  pub budget : intake.budget ≡ state.budget
+  pub before : intake.taken ≡ state.taken
+  pub same : (new.blocks ≡ state.blocks) × (options_of new ≡ options_of state) × (new.keep ≡ state.keep)
+  pub all : new.home ≡ home
+  pub after : new.taken ≡ back
+
+-- The first round was read and full, and alone in the ring as the sides began. What was received of all that was sent, and what wasn't,
+-- is known once they have joined.
+pub record Sent (state : RoundsState) (intake : IntakeState) (read : RoundRead) (at to : Spot) (back : ℕ) (one sent got known : List (Option Parcel)) : Type 0 where
+  pub out : state.home + read.round.blocks ≡ state.blocks
+  pub full : read.end ≡ rounds.Full
+  pub few : state.taken < 2 ^ 64
+  pub alone : IsAlone read one
+  pub on : ReadOn intake.blocks intake.budget (record at { taken = intake.taken }) (record to { taken = back }) one sent
+  pub fifo : got ++ known ≡ sent
+  pub later : at.faults ≤ to.faults
+
+module _ {T E : Type 0} (did : T → T → RoundRead → ℕ → Option E → Type 0) (stopped : E) (ready : ℕ → T → Type 0) (state new : RoundsState) (intake : IntakeState) (home back : ℕ)
+    (read : RoundRead) (at to : Spot) (one sent got known : List (Option Parcel)) (re : Lent state new intake home back) (s : Sent state intake read at to back one sent got known)
+    (was is : T) (counted : IsReadyAtEnd ready is) where
+  abbrev first : Spot
+  first = record at { taken = state.taken }
+
+  abbrev last : Spot
+  last = record to { taken = new.taken }
+
+  read_behind : Reads state.blocks state.budget first s.on.more last
+  read_behind =
+      reads_as state.blocks intake.blocks state.budget intake.budget first (record at { taken = intake.taken }) last (record to { taken = back }) s.on.more s.on.more
+      re.blocks re.budget (ap (λ (n : ℕ). record at { taken = n }) re.before) (ap (λ (n : ℕ). record to { taken = n }) (sym re.after)) refl s.on.reads
+
+  all_rest : home ≡ state.blocks → Rests state new first last
+  all_rest all = record {
+    home = re.all ∙ all ∙ sym re.same.0;
+    same = re.same;
+    least = omega (arith, s.few, reads_least state.blocks state.budget first last s.on.more read_behind);
+    later = s.later;
+  }
+
+  closed : is_full read.end ≡ false → s.on.more ≡ []
+  closed e = absurd (false≢true (sym e ∙ ap is_full s.full))
+
+  first_is : rounds_of one ≡ read ∷ []
+  first_is = ap rounds_of s.alone.1 ∙ ap (λ (r : RoundRead). r ∷ []) s.alone.2
+
+  all_is : rounds_of got ++ rounds_of known ≡ read ∷ s.on.more
+  all_is = sym (rounds_append got known) ∙ ap rounds_of s.fifo ∙ s.on.sent ∙ ap (λ (rs : List RoundRead). rs ++ s.on.more) first_is
+
+  -- the side that works says how it ended, whatever was read behind that
+  both_went : (end : E) → home ≡ state.blocks → Ends did stopped 0 was is (rounds_of got) end → HandledOn did stopped ready state new read first last was is end
+  both_went end all ends = record {
+    ran = record { got = rounds_of got; more = rounds_of known; rest = s.on.more; all = all_is; closes = closed; reads = read_behind; ends = ends };
+    rests = all_rest all;
+    counted = counted;
+  }
+
+  -- no side worked, and rounds were lost
+  none_went : home ≡ state.blocks → is ≡ was → HandledOn did stopped ready state new read first last was is stopped
+  none_went all same = record {
+    ran = record { got = []; more = read ∷ s.on.more; rest = s.on.more; all = refl; closes = closed; reads = read_behind; ends = (refl, same) };
+    rests = all_rest all;
+    counted = counted;
+  }
+
+  -- nothing else was read
+  idle : length sent ≡ 1 → rounds_of sent ≡ read ∷ [] → home ≡ state.home → is ≡ was → Idle state new first last was is
+  idle count alone homes same =
+      let none : s.on.more ≡ [] = none_known s.on.more (omega (arith, ap length (sym alone ∙ s.on.sent), length-append (rounds_of one) s.on.more, ap length first_is)) in
+      let stands : last ≡ first = subst (λ (l : List RoundRead). Reads state.blocks state.budget first l last) none read_behind in
+      record {
+        home = re.all ∙ homes;
+        same = re.same;
+        taken = ap (λ (x : Spot). x.taken) stands;
+        stands = stands;
+        nothing = same;
+      }
+
+  abbrev Came : Result E RoundRead → Type 0
+  Came result = MayBeHandled did stopped ready state new read first last was is result
+
+  -- no side worked
+  unworked : (result : Result E RoundRead) (left : List (Option Parcel)) → home + blocks_out result ≡ state.blocks → (got ≡ []) × (is ≡ was) → ComesBack stopped known left result → Came result
+  unworked (Ok end) left all none back = subst (λ (e : E). Came (Ok e)) (sym back.0) (none_went (omega (arith, all)) none.1)
+  unworked (Err x) left all none back =
+      let sent_is : sent ≡ Some back.0 ∷ [] = sym s.fifo ∙ ap (λ (l : List (Option Parcel)). l ++ known) none.0 ∙ back.2 in
+      let front : back.0.read ∷ [] ≡ read ∷ s.on.more = sym (ap rounds_of sent_is) ∙ s.on.sent ∙ ap (λ (rs : List RoundRead). rs ++ s.on.more) first_is in
+      let same : back.0.read ≡ read = ap (front_of back.0.read) front in
+      let is_read : x ≡ read = sym back.1 ∙ same in
+      (is_read, idle (ap length sent_is) (ap rounds_of sent_is ∙ ap (λ (r : RoundRead). r ∷ []) same) (omega (arith, all, s.out, ap (λ (r : RoundRead). r.round.blocks) is_read)) none.1)
+
+  -- whether a side worked or not
+  pub all_went : (end : Option E) (result : Result E RoundRead) (left : List (Option Parcel)) → home + blocks_out result ≡ state.blocks
+      → MatchOption end ((got ≡ []) × (is ≡ was)) (λ e. Ends did stopped 0 was is (rounds_of got) e)
+      → IfSome end (λ e. (result ≡ Ok e) × (left ≡ known)) → (end ≡ None → ComesBack stopped known left result) → Came result
+  all_went (Some end) result left all ends some none = subst Came (sym some.0) (both_went end (omega (arith, all, ap blocks_out some.0)) ends)
+  all_went None result left all ends some none = unworked result left all ends (none refl)
+
+-- what the side that works says, by the options of both
+pub ends_as : {T E : Type 0} (did : Options → T → T → RoundRead → ℕ → Option E → Type 0) (stopped : E) (o o' : Options) (got : List (Option Parcel)) (was is : T) (end : Option E)
+    → o' ≡ o
+    → MatchOption end ((got ≡ []) × (is ≡ was)) (λ e. Ends (did o') stopped 0 was is (rounds_of got) e)
+    → MatchOption end ((got ≡ []) × (is ≡ was)) (λ e. Ends (did o) stopped 0 was is (rounds_of got) e)
+ends_as did stopped o o' got was is end same ends =
+    subst (λ (z : Options). MatchOption end ((got ≡ []) × (is ≡ was)) (λ e. Ends (did z) stopped 0 was is (rounds_of got) e)) same ends
+
+-- what of the rounds in the ring is there still, and the one that was taken out
+pub left_out : {E : Type 0} (stopped : E) (end : Option E) (result : Result E RoundRead) (known left : List (Option Parcel)) → IfSome end (λ e. (result ≡ Ok e) × (left ≡ known))
+    → (end ≡ None → ComesBack stopped known left result) → blocks_of left + blocks_out result ≡ blocks_of known
+left_out stopped (Some end) result known left some none = omega (arith, ap blocks_of some.1, ap blocks_out some.0)
+left_out stopped None (Ok end) known left some none = omega (arith, (none refl).1)
+left_out stopped None (Err x) known left some none =
+    let back = none refl in
+    omega (arith, ap blocks_of back.2, ap blocks_of back.3, ap (λ (r : RoundRead). r.round.blocks) back.1)
+
+-- ---- where nothing else was read one side goes on alone
+
+pub idle_as : {T : Type 0} (old new : RoundsState) (at : Spot) (was : T) → new ≡ old → Idle old new (record at { taken = old.taken }) (record at { taken = new.taken }) was was
+idle_as old new at was same = record {
+  home = ap (λ (s : RoundsState). s.home) same;
+  same = (ap (λ (s : RoundsState). s.blocks) same, ap options_of same, ap (λ (s : RoundsState). s.keep) same);
+  taken = ap (λ (s : RoundsState). s.taken) same;
+  stands = ap (λ (s : RoundsState). record at { taken = s.taken }) same;
+  nothing = refl;
+}
+
+-- the first round is out still
+pub idle_out : {T : Type 0} (old new : RoundsState) (read back : RoundRead) (from to : Spot) (was is : T) → back ≡ read → Idle old new from to was is → IsOut old read from.place
+    → IsOut new back to.place
+idle_out old new read back from to was is same idle out =
+    let here : IsOut new read to.place = record {
+      out = omega (arith, idle.home, idle.same.0, out.out);
+      is = out.is;
+      goes = λ full. subst (λ (s : Spot). MayGoOn read s.place) (sym idle.stands) (out.goes full);
+    } in
+    subst (λ (r : RoundRead). IsOut new r to.place) (sym same) here
+
+-- ---- the same, of rounds with the same options
+
+module _ {T E : Type 0} (did : Options → T → T → RoundRead → ℕ → Option E → Type 0) (stopped : E) (ready : Options → Bool → ℕ → T → Type 0) where
+  pub ready_as : (o o' : Options) (keep keep' : Bool) (n : ℕ) (t : T) → o' ≡ o → keep' ≡ keep → ready o' keep' n t → ready o keep n t
+  ready_as o o' keep keep' n t eo ek r = subst (λ (x : Options). ready x keep n t) eo (subst (λ (b : Bool). ready o' b n t) ek r)
+
+  pub handled_as : (o o' : Options) (was is : T) (read read' : RoundRead) (k k' : ℕ) (end : Option E) → o' ≡ o → read' ≡ read → k' ≡ k → did o' was is read' k' end → did o was is read k end
+  handled_as o o' was is read read' k k' end eo er ek d =
+      subst (λ (x : Options). did x was is read k end) eo
+      (subst (λ (x : ℕ). did o' was is read x end) ek (subst (λ (x : RoundRead). did o' was is x k' end) er d))
+
+  ran_as : (o o' : Options) (b b' n n' : ℕ) (read back : RoundRead) (at at' to : Spot) (was was' is : T) (end : E) → o' ≡ o → b' ≡ b → n' ≡ n → back ≡ read → at' ≡ at → was' ≡ was
+      → RanOn (did o') stopped b' n' back at' to was' is end → RanOn (did o) stopped b n read at to was is end
+  ran_as o o' b b' n n' read back at at' to was was' is end eo eb en er ea ew ran =
+      subst (λ (x : T). RanOn (did o) stopped b n read at to x is end) ew
+      (subst (λ (x : Spot). RanOn (did o) stopped b n read x to was' is end) ea
+      (subst (λ (x : RoundRead). RanOn (did o) stopped b n x at' to was' is end) er
+      (subst (λ (x : ℕ). RanOn (did o) stopped b x back at' to was' is end) en
+      (subst (λ (x : ℕ). RanOn (did o) stopped x n' back at' to was' is end) eb
+      (subst (λ (x : Options). RanOn (did x) stopped b' n' back at' to was' is end) eo ran)))))
+
+  pub counted_as : (o o' : Options) (keep keep' : Bool) (most : ℕ) (t : T) → o' ≡ o → keep' ≡ keep → IsReadyAt (ready o' keep') most t → IsReadyAt (ready o keep) most t
+  counted_as o o' keep keep' most t eo ek c = (c.0, c.1, ready_as o o' keep keep' c.0 t eo ek c.2)
+
+  -- one side alone, where nothing else was read
+  pub idle_went : (old mid new : RoundsState) (read back : RoundRead) (from at to : Spot) (was between is : T) (end : E) → back ≡ read → Idle old mid from at was between
+      → HandledOn (did (options_of mid)) stopped (ready (options_of mid) mid.keep) mid new back at to between is end
+      → HandledOn (did (options_of old)) stopped (ready (options_of old) old.keep) old new read from to was is end
+  idle_went old mid new read back from at to was between is end same idle h = record {
+    ran = ran_as (options_of old) (options_of mid) old.blocks mid.blocks old.budget mid.budget read back from at to was between is end idle.same.1 idle.same.0
+        (ap (λ (o : Options). o.budget) idle.same.1) same idle.stands idle.nothing h.ran;
+    rests = record {
+      home = h.rests.home;
+      same = (h.rests.same.0 ∙ idle.same.0, h.rests.same.1 ∙ idle.same.1, h.rests.same.2 ∙ idle.same.2);
+      least = omega (arith, h.rests.least, idle.taken);
+      later = omega (arith, ap (λ (s : Spot). s.faults) idle.stands, h.rests.later);
+    };
+    counted = counted_as (options_of old) (options_of mid) old.keep mid.keep (2 ^ 32 + 4096) is idle.same.1 idle.same.2 h.counted;
+  }
+
+  -- with the first round, from where it was read
+  pub all_handled : (old mid new : RoundsState) (read : RoundRead) (from at to : Spot) (was is : T) (end : E) → ReadRound old.blocks old.budget from at read
+      → (mid.blocks ≡ old.blocks) × (options_of mid ≡ options_of old) × (mid.keep ≡ old.keep) → old.taken ≤ mid.taken
+      → HandledOn (did (options_of mid)) stopped (ready (options_of mid) mid.keep) mid new read at to was is end
+      → Handled (did (options_of old)) stopped (ready (options_of old) old.keep) 0 old new from to was is end
+  all_handled old mid new read from at to was is end r same least h =
+      let ran = ran_as (options_of old) (options_of mid) old.blocks mid.blocks old.budget mid.budget read read at at to was was is end same.1 same.0
+      (ap (λ (o : Options). o.budget) same.1) refl refl refl h.ran in
+      let reads : Reads old.blocks old.budget from (read ∷ ran.rest) to = (at, r, ran.closes, ran.reads) in
+      record {
+        ran = record { got = ran.got; more = ran.more; reads = subst (λ (l : List RoundRead). Reads old.blocks old.budget from l to) (sym ran.all) reads; ends = ran.ends };
+        rests = record {
+          home = h.rests.home;
+          same = (h.rests.same.0 ∙ same.0, h.rests.same.1 ∙ same.1, h.rests.same.2 ∙ same.2);
+          least = omega (arith, h.rests.least, least);
+          later = omega (arith, r.later, h.rests.later);
+        };
+        counted = counted_as (options_of old) (options_of mid) old.keep mid.keep (2 ^ 32 + 4096) is same.1 same.2 h.counted;
+      }
+
+  -- ---- in one thread
+
+  module _ (old mid : RoundsState) (read : RoundRead) (at : Spot) (was between : T) (out : old.home + read.round.blocks ≡ old.blocks) (few : length read.round.packets ≤ 4096)
+      (put : mid ≡ record old { home = old.home + read.round.blocks }) (counted : ready (options_of old) old.keep (0 + length read.round.packets) between) where
+    put_home : mid.home ≡ mid.blocks
+    put_home = ap (λ (s : RoundsState). s.home) put ∙ out ∙ sym (ap (λ (s : RoundsState). s.blocks) put)
+
+    -- the first round ended it
+    pub put_ends : (end : E) → did (options_of old) was between read 0 (Some end)
+        → HandledOn (did (options_of old)) stopped (ready (options_of old) old.keep) old mid read (record at { taken = old.taken }) (record at { taken = mid.taken }) was between end
+    put_ends end d = record {
+      ran = record {
+        got = read ∷ [];
+        more = [];
+        rest = [];
+        all = refl;
+        closes = λ _. refl;
+        reads = ap (λ (s : RoundsState). record at { taken = s.taken }) put;
+        ends = inr (d, refl);
+      };
+      rests = record {
+        home = put_home;
+        same = (ap (λ (s : RoundsState). s.blocks) put, ap options_of put, ap (λ (s : RoundsState). s.keep) put);
+        least = omega (arith, ap (λ (s : RoundsState). s.taken) put);
+        later = omega arith;
+      };
+      counted = (0 + length read.round.packets, omega (arith, few), counted);
+    }
+
+    -- others followed it
+    pub put_goes : (new : RoundsState) (to : Spot) (is : T) (end : E) → did (options_of old) was between read 0 None → read.end ≡ rounds.Full
+        → Handled (did (options_of mid)) stopped (ready (options_of mid) mid.keep) 1 mid new (record at { taken = mid.taken }) to between is end
+        → HandledOn (did (options_of old)) stopped (ready (options_of old) old.keep) old new read (record at { taken = old.taken }) to was is end
+    put_goes new to is end d full h =
+        let ran : Ran (did (options_of old)) stopped old.blocks old.budget 1 (record at { taken = old.taken }) to between is end =
+        subst (λ (s : RoundsState). Ran (did (options_of s)) stopped s.blocks s.budget 1 (record at { taken = s.taken }) to between is end) put h.ran in
+        record {
+          ran = record {
+            got = read ∷ ran.got;
+            more = ran.more;
+            rest = ran.got ++ ran.more;
+            all = refl;
+            closes = λ e. absurd (false≢true (sym e ∙ ap is_full full));
+            reads = ran.reads;
+            ends = inl (between, d, ran.ends);
+          };
+          rests = record {
+            home = h.rests.home;
+            same = (h.rests.same.0 ∙ ap (λ (s : RoundsState). s.blocks) put, h.rests.same.1 ∙ ap options_of put, h.rests.same.2 ∙ ap (λ (s : RoundsState). s.keep) put);
+            least = omega (arith, h.rests.least, ap (λ (s : RoundsState). s.taken) put);
+            later = h.rests.later;
+          };
+          counted = counted_as (options_of old) (options_of mid) old.keep mid.keep (2 ^ 32 + 4096) is (ap options_of put) (ap (λ (s : RoundsState). s.keep) put) h.counted;
+        }
+
+  -- ---- round by round
+
+  -- a step of rounds that are as they were at first
+  pub stepped_as : (old now : RoundsState) (k : ℕ) (from to : Spot) (was is : T) (result : Option E) → (now.blocks ≡ old.blocks) × (options_of now ≡ options_of old) × (now.keep ≡ old.keep)
+      → Stepped (did (options_of now)) (ready (options_of now) now.keep) now.blocks now.budget k from to was is result
+      → Stepped (did (options_of old)) (ready (options_of old) old.keep) old.blocks old.budget k from to was is result
+  stepped_as old now k from to was is result same s =
+      subst (λ (x : Bool). Stepped (did (options_of old)) (ready (options_of old) x) old.blocks old.budget k from to was is result) same.2
+      (subst (λ (x : ℕ). Stepped (did (options_of old)) (ready (options_of old) now.keep) old.blocks x k from to was is result) (ap (λ (o : Options). o.budget) same.1)
+      (subst (λ (x : ℕ). Stepped (did (options_of old)) (ready (options_of old) now.keep) x now.budget k from to was is result) same.0
+      (subst (λ (x : Options). Stepped (did x) (ready x now.keep) now.blocks now.budget k from to was is result) same.1 s)))
+
+pub rests_then : (old now new : RoundsState) (from at to : Spot) → Rests old now from at → Rests now new at to → Rests old new from to
+rests_then old now new from at to a b = record {
+  home = b.home;
+  same = (b.same.0 ∙ a.same.0, b.same.1 ∙ a.same.1, b.same.2 ∙ a.same.2);
+  least = omega (arith, a.least, b.least);
+  later = omega (arith, a.later, b.later);
+}

@@ -1,0 +1,4 @@
+use Rattle.pipeline.proofs.crew.handle_beside.Given as goal
+
+abbrev pub ghosts-handle_crewed : goal.ghosts-handle_crewed
+ghosts-handle_crewed g a = record { desk = a.desk.errands }

@@ -1,0 +1,19 @@
+use Rattle.std.proofs.Common.{ap, arith}
+use Rattle.rtrb.specs.Ring.{received}
+use Rattle.pipeline.specs.Parcels.{homes_of}
+use Rattle.pipeline.proofs.Rows.{homes_last, homes_may, ring_kept}
+use Rattle.pipeline.proofs.desk.Desk.next_token.Goals as goal
+
+pub invariant_of-self-clause-ringed : goal.invariant_of-self-clause-ringed
+invariant_of-self-clause-ringed g c = ring_kept g.W.Post.ring c.args.self.now.tokens c.next.new.tokens c.next.ensures.ring c.args.self.now.ringed
+
+pub invariant_of-self-clause-counted : goal.invariant_of-self-clause-counted
+invariant_of-self-clause-counted g c =
+    omega (arith, c.args.self.now.counted, ap homes_of c.next.ensures.token, homes_last (received c.args.self.now.tokens) c.next.result)
+
+pub invariant_of-self-else-waits-clause-ringed : goal.invariant_of-self-else-waits-clause-ringed
+invariant_of-self-else-waits-clause-ringed g c = ring_kept g.W.Post.ring c.args.self.now.tokens c.receive_within.new.ring c.receive_within.ensures.ring c.args.self.now.ringed
+
+pub invariant_of-self-else-waits-clause-counted : goal.invariant_of-self-else-waits-clause-counted
+invariant_of-self-else-waits-clause-counted g c =
+    omega (arith, c.args.self.now.counted, homes_may c.receive_within.result _ (received c.args.self.now.tokens) (received c.receive_within.new.ring) c.receive_within.ensures.item)

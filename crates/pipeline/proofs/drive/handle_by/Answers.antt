@@ -1,0 +1,85 @@
+use Rattle.std.proofs.Common.{◌∙◌, sym, arith}
+use Rattle.rounds.specs.Merging.{options_of}
+use Rattle.pipeline.specs.Reads.{reader_at}
+use Rattle.pipeline.proofs.Together.{all_handled, ready_as}
+use Rattle.pipeline.proofs.drive.handle_by.Goals as goal
+
+pub handle_on-requires-clause-out : goal.handle_on-requires-clause-out
+handle_on-requires-clause-out g c κs within =
+    let r = c.read_round-read.ensures in
+    record {
+      out = omega (arith, r.home, r.same.0);
+      is = record { few = omega (arith, r.size, r.budget.1); captured = r.captured; numbers = (c.args.reader.now.place.number, r.numbers) };
+      goes = λ full.
+          let p = r.full full in
+          record { ready = p.ready; link = p.link ∙ c.requires.link; packets = omega (arith, p.number, p.full); counted = omega (arith, p.number, r.budget.0) };
+    }
+
+pub handle_on-requires-clause-start : goal.handle_on-requires-clause-start
+handle_on-requires-clause-start g c κs within =
+    let r = c.read_round-read.ensures in
+    let first = c.args.rounds.now in
+    let mid = c.read_round-read.new.self in
+    ready_as (g.H.RoundHandler.did c.args.handler.now) g.H.RoundHandler.stopped g.H.RoundHandler.ready (options_of mid) (options_of first) mid.keep first.keep 0 c.args.into.now (sym r.same.1)
+    (sym r.same.2) c.requires.start
+
+pub returns-then-is_shared-clause-handled : goal.returns-then-is_shared-clause-handled
+returns-then-is_shared-clause-handled g c =
+    let r = c.read_round-read.ensures in
+    all_handled (g.H.RoundHandler.did c.args.handler.now) g.H.RoundHandler.stopped g.H.RoundHandler.ready c.args.rounds.now c.read_round-read.new.self c.handle_on.new.rounds c.read_round-read.result
+    (reader_at g.S.Source.left g.S.Source.faults c.args.reader.now c.args.rounds.now.taken)
+    (reader_at g.S.Source.left g.S.Source.faults c.read_round-read.new.reader c.read_round-read.new.self.taken)
+    (reader_at g.S.Source.left g.S.Source.faults c.handle_on.new.reader c.handle_on.new.rounds.taken) c.args.into.now c.handle_on.new.into c.handle_on.result
+    (record {
+      given = r.given;
+      fewer = r.fewer;
+      full = r.full;
+      captured = r.captured;
+      need = r.need;
+      within = omega (arith, r.home);
+      some = r.budget.0;
+      took = r.taken;
+      later = r.later;
+      failed = r.failed;
+    })
+    r.same r.least c.handle_on.ensures.handled
+
+pub handle_here-requires-clause-out : goal.handle_here-requires-clause-out
+handle_here-requires-clause-out g c =
+    let r = c.read_round-read.ensures in
+    record {
+      out = omega (arith, r.home, r.same.0);
+      is = record { few = omega (arith, r.size, r.budget.1); captured = r.captured; numbers = (c.args.reader.now.place.number, r.numbers) };
+      goes = λ full.
+          let p = r.full full in
+          record { ready = p.ready; link = p.link ∙ c.requires.link; packets = omega (arith, p.number, p.full); counted = omega (arith, p.number, r.budget.0) };
+    }
+
+pub handle_here-requires-clause-start : goal.handle_here-requires-clause-start
+handle_here-requires-clause-start g c =
+    let r = c.read_round-read.ensures in
+    let first = c.args.rounds.now in
+    let mid = c.read_round-read.new.self in
+    ready_as (g.H.RoundHandler.did c.args.handler.now) g.H.RoundHandler.stopped g.H.RoundHandler.ready (options_of mid) (options_of first) mid.keep first.keep 0 c.args.into.now (sym r.same.1)
+    (sym r.same.2) c.requires.start
+
+pub returns-else-is_shared-clause-handled : goal.returns-else-is_shared-clause-handled
+returns-else-is_shared-clause-handled g c =
+    let r = c.read_round-read.ensures in
+    all_handled (g.H.RoundHandler.did c.args.handler.now) g.H.RoundHandler.stopped g.H.RoundHandler.ready c.args.rounds.now c.read_round-read.new.self c.handle_here.new.rounds c.read_round-read.result
+    (reader_at g.S.Source.left g.S.Source.faults c.args.reader.now c.args.rounds.now.taken)
+    (reader_at g.S.Source.left g.S.Source.faults c.read_round-read.new.reader c.read_round-read.new.self.taken)
+    (reader_at g.S.Source.left g.S.Source.faults c.handle_here.new.reader c.handle_here.new.rounds.taken) c.args.into.now c.handle_here.new.into c.handle_here.result
+    (record {
+      given = r.given;
+      fewer = r.fewer;
+      full = r.full;
+      captured = r.captured;
+      need = r.need;
+      within = omega (arith, r.home);
+      some = r.budget.0;
+      took = r.taken;
+      later = r.later;
+      failed = r.failed;
+    })
+    r.same r.least c.handle_here.ensures.handled

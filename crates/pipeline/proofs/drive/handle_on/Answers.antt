@@ -1,0 +1,14 @@
+use Rattle.std.proofs.Common.{sym}
+use Rattle.rounds.specs.Merging.{options_of}
+use Rattle.pipeline.proofs.Together.{idle_out, idle_went, ready_as}
+use Rattle.pipeline.proofs.drive.handle_on.Goals as goal
+
+pub handle_here-requires-in-Err-clause-out : goal.handle_here-requires-in-Err-clause-out
+handle_here-requires-in-Err-clause-out g c =
+    let w = c.in-Err.ensures.handled in
+    idle_out _ _ _ _ _ _ _ _ w.0 w.1 c.requires.out
+
+pub returns-in-Err-clause-handled : goal.returns-in-Err-clause-handled
+returns-in-Err-clause-handled g c =
+    let w = c.in-Err.ensures.handled in
+    idle_went (g.H.RoundHandler.did c.args.handler.now) g.H.RoundHandler.stopped g.H.RoundHandler.ready _ _ _ _ _ _ _ _ _ _ _ _ w.0 w.1 c.handle_here-in-Err.ensures.handled

@@ -1,0 +1,163 @@
+use Rattle.std.proofs.Common.{◌∙◌, ◌∷◌, ◌++◌, [], ℕ, List, Option, None, Some, ap, sym, subst, refl, arith, rules, length, length-append, append-nil}
+use Rattle.rtrb.specs.Ring.{sent, received}
+use Rattle.pipeline.specs.declared.parcel.Parcel.{Parcel}
+use Rattle.pipeline.specs.Parcels.{blocks_of, homes_of, packets_of, rounds_of}
+use Rattle.pipeline.specs.Reads.{spot, Reads}
+use Rattle.pipeline.proofs.Rows.{all_go_last, blocks_last, full_end, packets_append, read_as, reads_last, rounds_last, sent_more, sent_none}
+use Rattle.pipeline.proofs.sides.read_side.Goals as goal
+
+pub returns-in_default-clause-read : goal.returns-in_default-clause-read
+returns-in_default-clause-read g c =
+    let l = c.loop in
+    let i = l.invariant in
+    record {
+      more = i.more;
+      sent = sent_none (sent c.args.supply.now.out) (sent l.supply.out) _ i.more i.is c.send.ensures.sent;
+      reads = subst (λ (t : ℕ). Reads c.args.intake.now.blocks c.args.intake.now.budget
+          (spot c.args.reader.now.place (g.S.Source.left c.args.reader.now.source.now) (g.S.Source.faults c.args.reader.now.source.now) c.args.intake.now.taken) i.more
+          (spot l.reader.place (g.S.Source.left l.reader.source.now) (g.S.Source.faults l.reader.source.now) t)) (sym c.bring_more.ensures.same.1) i.reads;
+    }
+
+pub returns-in_default-clause-sum : goal.returns-in_default-clause-sum
+returns-in_default-clause-sum g c =
+    let l = c.loop in
+    omega (
+      arith,
+      l.invariant.sum,
+      c.bring_more.ensures.sum,
+      ap blocks_of c.send.ensures.sent,
+      blocks_last (sent l.supply.out) None,
+      c.pick.ensures.same.0,
+      ap
+          (λ t. homes_of (received t)) c.pick.ensures.same.1,
+    )
+
+pub returns-then-not-is_full-clause-read : goal.returns-then-not-is_full-clause-read
+returns-then-not-is_full-clause-read g c =
+    let l = c.loop in
+    let i = l.invariant in
+    let r = c.read_round-read.ensures in
+    let p : Parcel = record { number = l.number; read = c.read_round-read.result; shelf = c.in-Some-pick.shelf } in
+    record {
+      more = i.more ++ p.read ∷ [];
+      sent = sent_more (sent c.args.supply.now.out) (sent l.supply.out) _ i.more p i.is c.send-in-loop.ensures.sent;
+      reads = reads_last c.args.intake.now.blocks c.args.intake.now.budget _ _ _ i.more p.read i.reads i.go
+          (read_as c.args.intake.now.blocks c.bring_more.new.self.blocks c.args.intake.now.budget c.bring_more.new.self.budget l.intake.taken c.bring_more.new.self.taken
+          l.reader.place (g.S.Source.left l.reader.source.now) (g.S.Source.faults l.reader.source.now) _ p.read
+          (c.bring_more.ensures.same.0 ∙ i.blocks) (c.bring_more.ensures.same.2 ∙ i.budget) c.bring_more.ensures.same.1
+          (record {
+            given = r.given;
+            fewer = r.fewer;
+            full = r.full;
+            captured = r.captured;
+            need = r.need;
+            within = r.within;
+            some = r.budget.0;
+            took = r.taken;
+            later = r.later;
+            failed = r.failed;
+          }));
+    }
+
+pub returns-then-not-is_full-clause-sum : goal.returns-then-not-is_full-clause-sum
+returns-then-not-is_full-clause-sum g c =
+    let l = c.loop in
+    let p : Parcel = record { number = l.number; read = c.read_round-read.result; shelf = c.in-Some-pick.shelf } in
+    omega (
+      arith,
+      l.invariant.sum,
+      c.bring_more.ensures.sum,
+      c.read_round-read.ensures.sum,
+      ap blocks_of c.send-in-loop.ensures.sent,
+      blocks_last (sent l.supply.out) (Some p),
+      c.pick.ensures.same.0,
+      ap
+          (λ t. homes_of (received t)) c.pick.ensures.same.1,
+    )
+
+pub send-requires-in-loop : goal.send-requires-in-loop
+send-requires-in-loop g c =
+    let l = c.loop in
+    let i = l.invariant in
+    let r = c.read_round-read.ensures in
+    record {
+      allowed = record {
+        number = i.number;
+        packets = omega (arith, i.packets, i.ready.counted.few);
+        is = record { few = omega (arith, r.size, r.budget.1); captured = r.captured; numbers = (l.reader.place.number, r.numbers) };
+        blocks = omega (arith, r.within, c.bring_more.ensures.same.0, i.blocks, c.requires.named.0);
+        empty = c.in-Some-pick.ensures.ready.0;
+        made = c.in-Some-pick.ensures.ready.1 ∙ c.requires.named.1;
+      };
+    }
+
+pub loop-init : goal.loop-init
+loop-init g c = record {
+  ring = search rules;
+  same = refl;
+  ready = c.requires.ready;
+  link = c.requires.link;
+  more = [];
+  is = sym (append-nil (rounds_of (sent c.args.supply.now.out)));
+  reads = refl;
+  go = tt;
+  sum = omega arith;
+  blocks = refl;
+  budget = refl;
+  number = omega (arith, ap (λ (xs : List (Option Parcel)). length (rounds_of xs)) c.requires.first.1);
+  packets = omega (arith, ap (λ (xs : List (Option Parcel)). packets_of (rounds_of xs)) c.requires.first.1, c.requires.first.3);
+  counted = omega arith;
+  later = omega arith;
+}
+
+pub loop-preserved : goal.loop-preserved
+loop-preserved g c =
+    let l = c.loop in
+    let i = l.invariant in
+    let r = c.read_round-read.ensures in
+    let p : Parcel = record { number = l.number; read = c.read_round-read.result; shelf = c.in-Some-pick.shelf } in
+    let on = sym c.is_full.ensures.full ∙ c.if-not-is_full.false in
+    let full = full_end p.read.end on in
+    let passes = r.full full in
+    let now = rounds_last (sent l.supply.out) _ p c.send-in-loop.ensures.sent in
+    record {
+      ring = search rules;
+      same = search rules;
+      ready = passes.ready;
+      link = passes.link ∙ i.link;
+      more = i.more ++ p.read ∷ [];
+      is = sent_more (sent c.args.supply.now.out) (sent l.supply.out) _ i.more p i.is c.send-in-loop.ensures.sent;
+      reads = reads_last c.args.intake.now.blocks c.args.intake.now.budget _ _ _ i.more p.read i.reads i.go
+          (read_as c.args.intake.now.blocks c.bring_more.new.self.blocks c.args.intake.now.budget c.bring_more.new.self.budget l.intake.taken c.bring_more.new.self.taken
+          l.reader.place (g.S.Source.left l.reader.source.now) (g.S.Source.faults l.reader.source.now) _ p.read
+          (c.bring_more.ensures.same.0 ∙ i.blocks) (c.bring_more.ensures.same.2 ∙ i.budget) c.bring_more.ensures.same.1
+          (record {
+            given = r.given;
+            fewer = r.fewer;
+            full = r.full;
+            captured = r.captured;
+            need = r.need;
+            within = r.within;
+            some = r.budget.0;
+            took = r.taken;
+            later = r.later;
+            failed = r.failed;
+          }));
+      go = all_go_last i.more p.read i.go on;
+      sum = omega (
+        arith,
+        i.sum,
+        c.bring_more.ensures.sum,
+        r.sum,
+        ap blocks_of c.send-in-loop.ensures.sent,
+        blocks_last (sent l.supply.out) (Some p),
+        c.pick.ensures.same.0,
+        ap (λ t. homes_of (received t)) c.pick.ensures.same.1,
+      );
+      blocks = r.same.0 ∙ c.bring_more.ensures.same.0 ∙ i.blocks;
+      budget = r.same.1 ∙ c.bring_more.ensures.same.2 ∙ i.budget;
+      number = omega (arith, i.number, ap length now, length-append (rounds_of (sent l.supply.out)) (p.read ∷ []));
+      packets = omega (arith, i.packets, ap packets_of now, packets_append (rounds_of (sent l.supply.out)) (p.read ∷ []), passes.number, passes.full);
+      counted = omega (arith, i.counted, passes.number, r.budget.0);
+      later = omega (arith, r.later, i.later);
+    }

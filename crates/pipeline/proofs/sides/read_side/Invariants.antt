@@ -1,0 +1,31 @@
+use Rattle.std.proofs.Common.{◌≡◌, ◌≤◌, ◌+◌, ◌-◌, ◌++◌, List, length}
+use Rattle.pcap_io.specs.Places.{IsReady}
+use Rattle.pcap_io.specs.declared.heads.Link.TheVariants.{Ethernet}
+use Rattle.rtrb.specs.Ring.{sent, received, SameProducer}
+use Rattle.rounds.specs.declared.round.RoundRead.{RoundRead}
+use Rattle.pipeline.specs.Parcels.{packets_of, rounds_of, blocks_of, homes_of, shelved}
+use Rattle.pipeline.specs.Reads.{spot, Reads}
+use Rattle.pipeline.proofs.Rows.{AllGo}
+use Rattle.pipeline.proofs.sides.read_side.Given as goal
+
+abbrev pub invariant-loop : goal.invariant-loop
+invariant-loop g l = record {
+  ring : SameProducer l.initial.supply.out l.supply.out;
+  same : l.reader.source.ghost_name ≡ l.initial.reader.source.ghost_name;
+  ready : IsReady l.reader.place;
+  link : l.reader.place.link ≡ Ethernet;
+  more : List RoundRead;
+  is : rounds_of (sent l.supply.out) ≡ rounds_of (sent l.initial.supply.out) ++ more;
+  reads : Reads l.initial.intake.blocks l.initial.intake.budget
+      (spot l.initial.reader.place (g.S.Source.left l.initial.reader.source.now) (g.S.Source.faults l.initial.reader.source.now) l.initial.intake.taken) more
+      (spot l.reader.place (g.S.Source.left l.reader.source.now) (g.S.Source.faults l.reader.source.now) l.intake.taken);
+  go : AllGo more;
+  sum : l.intake.home + blocks_of (sent l.supply.out) + (homes_of (received l.initial.supply.desk.tokens) - shelved l.initial.supply.desk.shelves.items)
+      ≡ l.initial.intake.home + blocks_of (sent l.initial.supply.out) + (homes_of (received l.supply.desk.tokens) - shelved l.supply.desk.shelves.items);
+  blocks : l.intake.blocks ≡ l.initial.intake.blocks;
+  budget : l.intake.budget ≡ l.initial.intake.budget;
+  number : l.number ≡ length (rounds_of (sent l.supply.out));
+  packets : packets_of (rounds_of (sent l.supply.out)) ≤ l.reader.place.number;
+  counted : l.number ≤ l.reader.place.number + 1;
+  later : g.S.Source.faults l.initial.reader.source.now ≤ g.S.Source.faults l.reader.source.now;
+}

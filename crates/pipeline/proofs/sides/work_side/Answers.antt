@@ -1,0 +1,197 @@
+use Rattle.std.proofs.Common.{◌≡◌, ◌∙◌, ◌+◌, ◌≤◌, ◌^◌, ℕ, [], ◌∷◌, ◌++◌, None, Some, List, false, refl, inr, sym, ap, subst, arith, rules, length}
+use Rattle.block_pool.specs.PoolState.{PoolState, home}
+use Rattle.rtrb.specs.Ring.{sent, received}
+use Rattle.rounds.specs.Benches.{options_at}
+use Rattle.rounds.specs.RoundsState.{BenchState}
+use Rattle.rounds.specs.declared.round.RoundRead.{RoundRead}
+use Rattle.pipeline.specs.Handled.{Ends, Went}
+use Rattle.pipeline.specs.Parcels.{blocks_of, homes_of, packets_of, rounds_of}
+use Rattle.pipeline.proofs.Going.{numbered, went_more, went_ends, went_stopped}
+use Rattle.pipeline.proofs.Rows.{blocks_last, packets_append, rounds_last, rounds_none}
+use Rattle.pipeline.proofs.Together.{handled_as, ready_as}
+use Rattle.pipeline.proofs.sides.work_side.Goals as goal
+
+pub returns-in_default-clause-handled : goal.returns-in_default-clause-handled
+returns-in_default-clause-handled g c =
+    let l = c.loop in
+    let did = g.H.RoundHandler.did c.args.handler.now (options_at c.args.bench.now) in
+    let none : c.receive.result ≡ None = search rules in
+    subst (λ (rs : List RoundRead). Ends did g.H.RoundHandler.stopped 0 c.args.into.now l.into rs c.stop.result) (sym (rounds_none (received l.from) _ c.receive.result none c.receive.ensures.item))
+    (went_stopped did g.H.RoundHandler.stopped 0 c.args.into.now l.into (rounds_of (received l.from)) c.stop.result c.stop.ensures.end l.invariant.went)
+
+pub returns-in_default-clause-ready : goal.returns-in_default-clause-ready
+returns-in_default-clause-ready g c =
+    let i = c.loop.invariant in
+    (packets_of (rounds_of (received c.loop.from)), i.few, i.ready)
+
+pub returns-in_default-clause-each : goal.returns-in_default-clause-each
+returns-in_default-clause-each g c =
+    let l = c.loop in
+    let none : c.receive.result ≡ None = search rules in
+    omega (arith, l.invariant.each, l.invariant.empty, ap blocks_of c.receive.ensures.item, blocks_last (received l.from) c.receive.result, ap (λ x. blocks_of (x ∷ [])) none)
+
+pub handle-requires-clause-may : goal.handle-requires-clause-may
+handle-requires-clause-may g c =
+    let i = c.loop.invariant in
+    let o = c.open-number.ensures.same in
+    let fits = c.in-Some-receive.ensures.allowed in
+    let n = c.open-number.result.1.round.blocks in
+    let same = ap (λ (r : RoundRead). r.round.blocks) o.1 in
+    let few : n ≤ c.loop.bench.blocks = omega (arith, fits.blocks, same, ap (λ (b : BenchState). b.blocks) i.bench, c.requires.named) in
+    record { out = omega (arith, ap home o.2, fits.empty, ap (λ (s : PoolState). s.made) o.2, fits.made, fits.blocks, same); few = few; room = omega (arith, few, i.room) }
+
+pub handle-requires-clause-ready : goal.handle-requires-clause-ready
+handle-requires-clause-ready g c =
+    let l = c.loop in
+    let i = l.invariant in
+    let first = c.args.bench.now in
+    let n = packets_of (rounds_of (received l.from)) in (
+      n,
+      c.in-Some-receive.ensures.allowed.packets,
+      ready_as (g.H.RoundHandler.did c.args.handler.now) g.H.RoundHandler.stopped g.H.RoundHandler.ready (options_at l.bench) (options_at first) l.bench.keep first.keep n l.into
+          (sym (ap options_at i.bench)) (sym (ap (λ (b : BenchState). b.keep) i.bench)) i.ready,
+    )
+
+pub returns-in-Some-handle-clause-handled : goal.returns-in-Some-handle-clause-handled
+returns-in-Some-handle-clause-handled g c =
+    let l = c.loop in
+    let i = l.invariant in
+    let first = c.args.bench.now in
+    let did = g.H.RoundHandler.did c.args.handler.now (options_at first) in
+    let p = c.in-Some-receive.parcel in
+    let o = c.open-number.ensures.same in
+    let now = rounds_last (received l.from) _ p c.in-Some-receive.ensures.item in
+    subst (λ (rs : List RoundRead). Ends did g.H.RoundHandler.stopped 0 c.args.into.now c.handle.new.into rs c.in-Some-handle.end) (sym now)
+    (went_ends did g.H.RoundHandler.stopped 0 c.args.into.now l.into c.handle.new.into (rounds_of (received l.from)) (p.read ∷ []) c.in-Some-handle.end i.went
+    (inr (
+      (handled_as (g.H.RoundHandler.did c.args.handler.now) g.H.RoundHandler.stopped g.H.RoundHandler.ready (options_at first)
+          (options_at l.bench) l.into c.handle.new.into p.read c.open-number.result.1
+          (0 + length (rounds_of (received l.from))) c.open-number.result.0 (Some c.in-Some-handle.end) (ap options_at i.bench) o.1
+          (omega (arith, o.0, c.in-Some-receive.ensures.allowed.number)) c.in-Some-handle.ensures.did),
+      refl,
+    )))
+
+pub returns-in-Some-handle-clause-each : goal.returns-in-Some-handle-clause-each
+returns-in-Some-handle-clause-each g c =
+    let l = c.loop in
+    let p = c.in-Some-receive.parcel in
+    let o = c.open-number.ensures.same in
+    omega (
+      arith,
+      l.invariant.each,
+      l.invariant.empty,
+      c.send_home.ensures.sum,
+      ap home c.replace.ensures.value,
+      ap home c.replace.ensures.after,
+      ap home o.2,
+      c.in-Some-receive.ensures.allowed.empty,
+      c.handle.ensures.brings.count,
+      ap (λ (r : RoundRead). r.round.blocks) o.1,
+      ap blocks_of c.in-Some-receive.ensures.item,
+      blocks_last (received l.from) (Some p),
+    )
+
+pub returns-in-Some-handle-clause-room : goal.returns-in-Some-handle-clause-room
+returns-in-Some-handle-clause-room g c =
+    let b = c.handle.ensures.brings in
+    let o = c.open-number.ensures.same in
+    omega (arith, ap home c.replace.ensures.after, ap home o.2, c.in-Some-receive.ensures.allowed.empty, c.loop.invariant.room, b.count, b.room, ap (λ (b : BenchState). b.blocks) b.same)
+
+pub returns-then-is_err-clause-handled : goal.returns-then-is_err-clause-handled
+returns-then-is_err-clause-handled g c =
+    let l = c.loop in
+    let i = l.invariant in
+    let first = c.args.bench.now in
+    let did = g.H.RoundHandler.did c.args.handler.now (options_at first) in
+    let p = c.in-Some-receive.parcel in
+    let o = c.open-number.ensures.same in
+    let now = rounds_last (received l.from) _ p c.in-Some-receive.ensures.item in
+    subst (λ (rs : List RoundRead). Ends did g.H.RoundHandler.stopped 0 c.args.into.now c.handle.new.into rs c.stop-then-is_err.result) (sym now)
+    (went_stopped did g.H.RoundHandler.stopped 0 c.args.into.now c.handle.new.into (rounds_of (received l.from) ++ p.read ∷ []) c.stop-then-is_err.result
+    c.stop-then-is_err.ensures.end
+    (went_more did g.H.RoundHandler.stopped 0 c.args.into.now l.into c.handle.new.into (rounds_of (received l.from)) p.read i.went
+    (handled_as (g.H.RoundHandler.did c.args.handler.now) g.H.RoundHandler.stopped g.H.RoundHandler.ready (options_at first)
+    (options_at l.bench) l.into c.handle.new.into p.read c.open-number.result.1
+    (0 + length (rounds_of (received l.from))) c.open-number.result.0 None (ap options_at i.bench) o.1 (omega (arith, o.0, c.in-Some-receive.ensures.allowed.number)) c.in-None-handle.ensures.did)))
+
+pub returns-then-is_err-clause-each : goal.returns-then-is_err-clause-each
+returns-then-is_err-clause-each g c =
+    let l = c.loop in
+    let p = c.in-Some-receive.parcel in
+    let o = c.open-number.ensures.same in
+    omega (
+      arith,
+      l.invariant.each,
+      l.invariant.empty,
+      c.send_home-then-is_err.ensures.sum,
+      ap home c.replace-then-is_err.ensures.value,
+      ap home c.replace-then-is_err.ensures.after,
+      ap home o.2,
+      c.in-Some-receive.ensures.allowed.empty,
+      c.handle.ensures.brings.count,
+      ap (λ (r : RoundRead). r.round.blocks) o.1,
+      ap blocks_of c.in-Some-receive.ensures.item,
+      blocks_last (received l.from) (Some p),
+    )
+
+pub returns-then-is_err-clause-room : goal.returns-then-is_err-clause-room
+returns-then-is_err-clause-room g c =
+    let b = c.handle.ensures.brings in
+    omega (
+      arith,
+      c.loop.invariant.room,
+      ap home c.replace-then-is_err.ensures.after,
+      ap home c.open-number.ensures.same.2,
+      c.in-Some-receive.ensures.allowed.empty,
+      b.count,
+      b.room,
+      ap (λ (b : BenchState). b.blocks) b.same,
+      c.make_room.ensures.later,
+      ap (λ (b : BenchState). b.blocks) c.make_room.ensures.same,
+    )
+
+pub loop-preserved : goal.loop-preserved
+loop-preserved g c =
+    let l = c.loop in
+    let i = l.invariant in
+    let first = c.args.bench.now in
+    let did = g.H.RoundHandler.did c.args.handler.now (options_at first) in
+    let p = c.in-Some-receive.parcel in
+    let o = c.open-number.ensures.same in
+    let now = rounds_last (received l.from) _ p c.in-Some-receive.ensures.item in
+    let h = c.in-None-handle.ensures in
+    let counted = packets_append (rounds_of (received l.from)) (p.read ∷ []) in
+    let is_read : length p.read.round.packets ≤ 4096 = c.in-Some-receive.ensures.allowed.is.few in
+    let n = packets_of (rounds_of (received l.from)) in
+    let options = ap options_at i.bench in
+    let keep = ap (λ (b : BenchState). b.keep) i.bench in
+    let ready = ready_as (g.H.RoundHandler.did c.args.handler.now) g.H.RoundHandler.stopped g.H.RoundHandler.ready (options_at first) (options_at l.bench) first.keep l.bench.keep
+    (n + length c.open-number.result.1.round.packets) c.handle.new.into options keep
+    (h.ready n (ready_as (g.H.RoundHandler.did c.args.handler.now) g.H.RoundHandler.stopped g.H.RoundHandler.ready (options_at l.bench) (options_at first) l.bench.keep first.keep n l.into
+    (sym options) (sym keep) i.ready)) in
+    record {
+      from = search rules;
+      told = search rules;
+      room = search rules;
+      empty = i.empty;
+      bench = search rules;
+      each = omega (
+        arith,
+        i.each,
+        c.send_home-in-loop.ensures.sum,
+        ap home o.2,
+        c.in-Some-receive.ensures.allowed.empty,
+        h.brings.count,
+        ap (λ (r : RoundRead). r.round.blocks) o.1,
+        ap blocks_of c.in-Some-receive.ensures.item,
+        blocks_last (received l.from) (Some p),
+      );
+      went = subst (λ (rs : List RoundRead). Went did 0 c.args.into.now c.handle.new.into rs) (sym now)
+          (went_more did g.H.RoundHandler.stopped 0 c.args.into.now l.into c.handle.new.into (rounds_of (received l.from)) p.read i.went
+          (handled_as (g.H.RoundHandler.did c.args.handler.now) g.H.RoundHandler.stopped g.H.RoundHandler.ready (options_at first)
+          (options_at l.bench) l.into c.handle.new.into p.read c.open-number.result.1
+          (0 + length (rounds_of (received l.from))) c.open-number.result.0 None options o.1 (omega (arith, o.0, c.in-Some-receive.ensures.allowed.number)) c.in-None-handle.ensures.did));
+      few = omega (arith, ap packets_of now, counted, is_read, c.in-Some-receive.ensures.allowed.packets);
+      ready = subst (λ (m : ℕ). g.H.RoundHandler.ready (options_at first) first.keep m c.handle.new.into)
+          (omega (arith, ap packets_of now, counted, ap (λ (r : RoundRead). length r.round.packets) o.1)) ready;
+    }

@@ -1,0 +1,20 @@
+use Rattle.std.proofs.Common.{◌≡◌, ◌≤◌, ◌+◌, ◌^◌}
+use Rattle.block_pool.specs.PoolState.{home}
+use Rattle.rounds.specs.Benches.{options_at, HasRoom, IsSameBench}
+use Rattle.rtrb.specs.Ring.{sent, received, SameProducer, SameConsumer}
+use Rattle.pipeline.specs.Handled.{Went}
+use Rattle.pipeline.specs.Parcels.{blocks_of, homes_of, packets_of, rounds_of}
+use Rattle.pipeline.proofs.sides.work_side.Given as goal
+
+abbrev pub invariant-loop : goal.invariant-loop
+invariant-loop g l = record {
+  from : SameConsumer l.initial.from l.from;
+  told : SameProducer l.initial.told l.told;
+  room : HasRoom 0 l.bench;
+  empty : home l.kept ≡ 0;
+  bench : IsSameBench l.initial.bench l.bench;
+  each : homes_of (sent l.told) ≡ blocks_of (received l.from);
+  went : Went (g.H.RoundHandler.did l.handler (options_at l.initial.bench)) 0 l.initial.into l.into (rounds_of (received l.from));
+  few : packets_of (rounds_of (received l.from)) ≤ 2 ^ 32 + 4096;
+  ready : g.H.RoundHandler.ready (options_at l.initial.bench) l.initial.bench.keep (packets_of (rounds_of (received l.from))) l.into;
+}

@@ -1,0 +1,311 @@
+//! Handles a capture's rounds by two sides.
+ghost use Rattle.std.specs.Prelude.{◌≡◌, ◌+◌, ◌-◌, ◌≤◌, ◌^◌, true, None, Ok, [], IfSome, IfOk, OnOk, length};
+ghost use Rattle.block_pool.specs.PoolState.{home};
+ghost use Rattle.pcap_io.specs.declared.heads.Link.TheVariants.{Ethernet};
+ghost use Rattle.pcap_io.specs.Places.{IsReady};
+ghost use Rattle.pcap_io.specs.Readers.{place_of, SameLoan};
+ghost use Rattle.rounds.specs.Benches.{HasRoom, IsRead, IsSameBench};
+ghost use Rattle.rounds.specs.Merging.{options_of};
+ghost use Rattle.rtrb.specs.Ring.{sent, received, known_items, IsPair, SameProducer};
+ghost use Rattle.pipeline.specs.Handled.{ComesBack, Handled, HandledOn, IsOut, MayBeHandled};
+ghost use Rattle.pipeline.specs.Parcels.{IsOfRing, shelved};
+ghost use Rattle.pipeline.specs.Reads.{reader_at, IsAlone};
+
+use crate::bells::Bells;
+use crate::desk::{Desk, SHELVES, Sleeper, Supply, new_shelves};
+use crate::gather::{bring_shelves, drop_parcels};
+use crate::here::handle_here;
+use crate::parcel::{Fits, Naming, Parcel, Token};
+use crate::ring::send;
+use crate::sides::{is_full, run_sides};
+use block_pool::Pool;
+use lanes::Works;
+use off_io::Source;
+use pcap_io::CaptureReader;
+use rounds::{Bench, RoundEnd, RoundHandler, RoundRead, Rounds};
+use rtrb::{Consumer, Producer, RingBuffer};
+use std::alloc::{AllocError, Global};
+use std::collections::VecDeque;
+use std::marker::Brand;
+use std::sync::Wait;
+use std::thread;
+use std::thread::Threads;
+
+// The ring that rounds go by, an empty shelf for the first of them, one on which the last one stays, and others. Where
+// there is no memory for them, or for what is given back of all blocks, nothing is changed.
+fn prepare<N: Naming>(
+    alloc: Global,
+    bench: &mut Bench,
+) -> Result<
+    (
+        Producer<Option<Parcel>, Global, Fits<N>>,
+        Consumer<Option<Parcel>, Global, Fits<N>>,
+        Pool,
+        Pool,
+        VecDeque<Pool>,
+    ),
+    AllocError,
+>
+    ensures ring { IfOk result (λ r. IsPair r.0 r.1 × (sent r.0 ≡ []) × (received r.1 ≡ [])) }
+    ensures shelf { IfOk result (λ r. (home r.2 ≡ 0) × (r.2.made ≡ bench.old.blocks)) }
+    ensures last { IfOk result (λ r. home r.3 ≡ 0) }
+    ensures shelves { IfOk result (λ r. shelved r.4.items ≡ 0) }
+    ensures room { OnOk result (HasRoom 0 bench.new) }
+    ensures later { bench.old.room ≤ bench.new.room }
+    ensures same { IsSameBench bench.old bench.new }
+{
+    let blocks = bench.blocks();
+    let (out, from) = RingBuffer::with_protocol::<Global, Fits<N>>(alloc, SHELVES + 1)?;
+    let shelf = Pool::empty(alloc, blocks)?;
+    let kept = Pool::empty(alloc, blocks)?;
+    let shelves = new_shelves(alloc, blocks)?;
+    bench.make_room()?;
+    Ok((out, from, shelf, kept, shelves))
+}
+
+// The first round goes by the ring before there are two sides.
+fn send_first<N: Naming, R: Wait>(
+    rt: &R,
+    out: &mut Producer<Option<Parcel>, Global, Fits<N>>,
+    read: RoundRead,
+    shelf: Pool,
+)
+    requires none { sent out.old ≡ [] }
+    requires within { read.round.blocks ≤ N.blocks }
+    requires read { IsRead read.round }
+    requires shelf { (home shelf ≡ 0) × (shelf.made ≡ N.blocks) }
+    ensures ring { SameProducer out.old out.new }
+    ensures sent { IsAlone read (sent out.new) }
+{
+    let parcel = Parcel {
+        number: 0,
+        read,
+        shelf,
+    };
+    send(rt, out, Some(parcel));
+}
+
+// The round that waits, which nobody received, where it is the only one.
+fn take_back<N: Naming, T, E, H: RoundHandler<T, E>>(
+    waiting: usize,
+    handler: &H,
+    from: &mut Consumer<Option<Parcel>, Global, Fits<N>>,
+) -> Result<E, RoundRead>
+    requires waiting { waiting ≡ length (known_items from.old) }
+    ensures back { ComesBack H.stopped (known_items from.old) (known_items from.new) result }
+{
+    if waiting != 1 {
+        return Ok(handler.stop());
+    }
+    match from.pop_known() {
+        Some(parcel) => {
+            let (_, read, _shelf) = parcel.open();
+            Err(read)
+        }
+        None => Ok(handler.stop()),
+    }
+}
+
+// How it ended where a side worked. Where none did the first round comes back; others that were read behind it are
+// lost.
+fn ending<N: Naming, T, E, H: RoundHandler<T, E>>(
+    end: Option<E>,
+    waiting: usize,
+    handler: &H,
+    from: &mut Consumer<Option<Parcel>, Global, Fits<N>>,
+) -> Result<E, RoundRead>
+    requires waiting { waiting ≡ length (known_items from.old) }
+    ensures some { IfSome end (λ e. (result ≡ Ok e) × (known_items from.new ≡ known_items from.old)) }
+    ensures none { end ≡ None → ComesBack H.stopped (known_items from.old) (known_items from.new) result }
+{
+    match end {
+        Some(end) => Ok(end),
+        None => take_back::<N, T, E, H>(waiting, handler, from),
+    }
+}
+
+// Handles what is left, of which the first round was read and was full, by two sides, of which tokens come back by this
+// ring. That round comes back where there is no memory or no thread for two: then nothing else was read or done.
+fn handle_named<
+    N: Naming + Send,
+    R: Threads + Wait + Sync,
+    W: Works,
+    S: Source + Send,
+    T,
+    E,
+    H: RoundHandler<T, E>,
+>(
+    rt: &R,
+    alloc: Global,
+    works: &mut W,
+    rounds: &mut Rounds,
+    reader: &mut CaptureReader<'_, S>,
+    read: RoundRead,
+    handler: &H,
+    into: &mut T,
+    told: Producer<Token>,
+    tokens: Consumer<Token>,
+) -> Result<E, RoundRead>
+    requires out { IsOut rounds.old read (place_of reader.old) }
+    requires full { read.end ≡ RoundEnd.Full }
+    requires start { H.ready (options_of rounds.old) rounds.old.keep 0 into.old }
+    requires named { rounds.old.blocks ≡ N.blocks }
+    requires ring { IsPair told tokens × IsOfRing N.ring tokens }
+    requires none { (sent told ≡ []) × (received tokens ≡ []) }
+    ensures same_source { SameLoan reader.old reader.new }
+    ensures handled { MayBeHandled (H.did handler.now (options_of rounds.old)) H.stopped
+        (H.ready (options_of rounds.old) rounds.old.keep) rounds.old rounds.new read
+        (reader_at S.left S.faults reader.old rounds.old.taken) (reader_at S.left S.faults reader.new rounds.new.taken)
+        into.old into.new result }
+{
+    let blocks = rounds.blocks();
+    let _ = rounds.taken();
+    let intake = &mut rounds.intake;
+    let bench = &mut rounds.bench;
+    let Ok((mut out, mut from, shelf, mut kept, shelves)) = prepare::<N>(alloc, bench) else {
+        return Err(read);
+    };
+    send_first(rt, &mut out, read, shelf);
+    let mut told = told;
+    let bells = Bells::new();
+    let post = Sleeper::<'_, R, N>::new(rt, &bells);
+    let mut supply = Supply {
+        desk: Desk::new(post, blocks, tokens, shelves),
+        out,
+    };
+    let end = run_sides(
+        rt,
+        works,
+        intake,
+        bench,
+        &mut kept,
+        reader,
+        handler,
+        into,
+        &mut supply,
+        &mut from,
+        &mut told,
+        &bells,
+    );
+    let Supply { desk, mut out } = supply;
+    let waiting = from.slots_beside(&mut out);
+    let (mut tokens, shelves) = desk.close();
+    tokens.slots_beside(&mut told);
+    let ended = ending::<N, T, E, H>(end, waiting, handler, &mut from);
+    bring_shelves(intake, &mut tokens, kept, shelves);
+    drop_parcels(rounds, &mut from);
+    ended
+}
+
+// The same, by a call that picks how many blocks there are and which ring it is.
+fn handle_ringed<R: Threads + Wait + Sync, W: Works, S: Source + Send, T, E, H: RoundHandler<T, E>>(
+    rt: &R,
+    alloc: Global,
+    works: &mut W,
+    rounds: &mut Rounds,
+    reader: &mut CaptureReader<'_, S>,
+    read: RoundRead,
+    handler: &H,
+    into: &mut T,
+    told: Producer<Token>,
+    tokens: Consumer<Token>,
+) -> Result<E, RoundRead>
+    requires out { IsOut rounds.old read (place_of reader.old) }
+    requires full { read.end ≡ RoundEnd.Full }
+    requires start { H.ready (options_of rounds.old) rounds.old.keep 0 into.old }
+    requires ring { IsPair told tokens }
+    requires none { (sent told ≡ []) × (received tokens ≡ []) }
+    ensures same_source { SameLoan reader.old reader.new }
+    ensures handled { MayBeHandled (H.did handler.now (options_of rounds.old)) H.stopped
+        (H.ready (options_of rounds.old) rounds.old.keep) rounds.old rounds.new read
+        (reader_at S.left S.faults reader.old rounds.old.taken) (reader_at S.left S.faults reader.new rounds.new.taken)
+        into.old into.new result }
+{
+    handle_named::<Brand, R, W, S, T, E, H>(
+        rt, alloc, works, rounds, reader, read, handler, into, told, tokens,
+    )
+}
+
+// Goes on with the first round, which was read and was full, by two sides, or in this thread where there is no memory
+// or no thread for two.
+fn handle_on<R: Threads + Wait + Sync, W: Works, S: Source + Send, T, E, H: RoundHandler<T, E>>(
+    rt: &R,
+    alloc: Global,
+    works: &mut W,
+    rounds: &mut Rounds,
+    reader: &mut CaptureReader<'_, S>,
+    read: RoundRead,
+    handler: &H,
+    into: &mut T,
+) -> E
+    requires out { IsOut rounds.old read (place_of reader.old) }
+    requires full { read.end ≡ RoundEnd.Full }
+    requires start { H.ready (options_of rounds.old) rounds.old.keep 0 into.old }
+    ensures same_source { SameLoan reader.old reader.new }
+    ensures handled { HandledOn (H.did handler.now (options_of rounds.old)) H.stopped
+        (H.ready (options_of rounds.old) rounds.old.keep) rounds.old rounds.new read
+        (reader_at S.left S.faults reader.old rounds.old.taken) (reader_at S.left S.faults reader.new rounds.new.taken)
+        into.old into.new result }
+{
+    let Ok((told, tokens)) = RingBuffer::new(alloc, SHELVES + 1) else {
+        return handle_here(works, rounds, reader, read, handler, into);
+    };
+    match handle_ringed(
+        rt, alloc, works, rounds, reader, read, handler, into, told, tokens,
+    ) {
+        Ok(end) => end,
+        Err(back) => handle_here(works, rounds, reader, back, handler, into),
+    }
+}
+
+// Whether there is no second processor for the side that reads.
+fn is_alone(rt: &impl Threads) -> bool {
+    match thread::available_parallelism(rt) {
+        Ok(count) => count.get() == 1,
+        Err(_) => true,
+    }
+}
+
+// Whether another thread may read on behind a round that ended so.
+fn is_shared(rt: &impl Threads, end: RoundEnd) -> bool
+    ensures full { result ≡ true → end ≡ RoundEnd.Full }
+{
+    is_full(end) && !is_alone(rt)
+}
+
+/// Handles a capture's rounds by whoever works; the next rounds are read while one is worked, the first one too. On one
+/// processor, and where there is no memory or no thread for a second side, they are read here. Of a capture of one
+/// round no thread is made for it.
+pub(crate) fn handle_by<
+    R: Threads + Wait + Sync,
+    W: Works,
+    S: Source + Send,
+    T,
+    E,
+    H: RoundHandler<T, E>,
+>(
+    rt: &R,
+    alloc: Global,
+    works: &mut W,
+    rounds: &mut Rounds,
+    reader: &mut CaptureReader<'_, S>,
+    handler: &H,
+    into: &mut T,
+) -> E
+    requires ready { IsReady (place_of reader.old) }
+    requires link { (place_of reader.old).link ≡ Ethernet }
+    requires home { rounds.old.home ≡ rounds.old.blocks }
+    requires start { H.ready (options_of rounds.old) rounds.old.keep 0 into.old }
+    ensures same_source { SameLoan reader.old reader.new }
+    ensures handled { Handled (H.did handler.now (options_of rounds.old)) H.stopped
+        (H.ready (options_of rounds.old) rounds.old.keep) 0 rounds.old rounds.new
+        (reader_at S.left S.faults reader.old rounds.old.taken) (reader_at S.left S.faults reader.new rounds.new.taken)
+        into.old into.new result }
+{
+    let read = rounds.read_round(reader);
+    if is_shared(rt, read.end) {
+        handle_on(rt, alloc, works, rounds, reader, read, handler, into)
+    } else {
+        handle_here(works, rounds, reader, read, handler, into)
+    }
+}

@@ -1,0 +1,110 @@
+//! Merges a capture.
+ghost use Rattle.std.specs.Prelude.{◌≡◌, ◌+◌, ◌-◌, ◌≤◌, ◌^◌, true, min};
+ghost use Rattle.off_io.specs.Content.{SaysFlushed};
+ghost use Rattle.off_io.specs.Faults.{Rose};
+ghost use Rattle.off_io.specs.Told.{Told};
+ghost use Rattle.offload_model.specs.Need.{round_need};
+ghost use Rattle.offload_model.specs.Passing.{merging, Passes, FrontUnless, flushes};
+ghost use Rattle.pcap_io.specs.declared.heads.Link.TheVariants.{Ethernet};
+ghost use Rattle.pcap_io.specs.Places.{IsReady, found_at};
+ghost use Rattle.pcap_io.specs.Readers.{place_of, source_of, SameLoan};
+ghost use Rattle.rounds.specs.Merging.{ending_of, options_of, HoldsCaptured};
+
+use crate::crew::handle_beside;
+use block_pool::Pool;
+use lanes::Works;
+use off_io::{Gate, Sink, Source};
+use pcap_io::{CaptureReader, FileHead};
+use rounds::{Bench, MergeEnd, RoundHandler, RoundRead, Rounds, Step};
+use std::alloc::Global;
+use std::sync::Wait;
+use std::thread::Threads;
+
+/// Each round is written into a sink, behind this file header.
+#[derive(Drop)]
+struct Merging {
+    file: FileHead,
+}
+
+impl<K: Sink> RoundHandler<K, MergeEnd> for Merging {
+    ghost use Rattle.std.specs.Prelude.{⊤};
+    ghost use Rattle.rounds.specs.declared.merge.MergeEnd.TheVariants.{NoMemory};
+    ghost use Rattle.pipeline.specs.Works.{PutRound, sink_at};
+
+    ghost ready = { λ options keep n sink. ⊤ };
+
+    ghost did = { λ merging options old new read k end. PutRound options merging.file
+        (sink_at K.held K.is_flushed K.faults old) (sink_at K.held K.is_flushed K.faults new) read k end };
+
+    ghost stopped = { NoMemory };
+
+    fn handle<W: Works>(
+        &self,
+        works: &mut W,
+        bench: &mut Bench,
+        home: &mut Pool,
+        read: RoundRead,
+        number: u64,
+        into: &mut K,
+    ) -> Option<MergeEnd> {
+        match bench.put_read(works, read, &self.file, into, number, home) {
+            Step::Goes => None,
+            Step::Ends(end) => Some(end),
+        }
+    }
+
+    fn stop(&self) -> MergeEnd {
+        MergeEnd::NoMemory
+    }
+}
+
+/// Merges as `merge_all` of the rounds, whose clauses these are, but that the next rounds are read while one is worked,
+/// from the first one on, and that all threads are started once, for the whole run. On one processor, and where there
+/// is no memory or no thread for a second side, reading is done in the thread that calls; where there is none for those
+/// who run lanes, their work too. Where there is one queue and no tap, no thread is made of a capture of one round.
+pub fn merge_beside<R: Threads + Wait + Sync, S: Source + Send, K: Sink, G: Gate + Sync>(
+    rt: &R,
+    alloc: Global,
+    rounds: &mut Rounds,
+    reader: &mut CaptureReader<'_, S>,
+    file: &FileHead,
+    sink: &mut K,
+    gate: &G,
+) -> MergeEnd
+    requires ready { IsReady (place_of reader.old) }
+    requires link { (place_of reader.old).link ≡ Ethernet }
+    requires file { (place_of reader.old).file ≡ file.now }
+    requires home { rounds.old.home ≡ rounds.old.blocks }
+    ensures same_source { SameLoan reader.old reader.new }
+    ensures given { Told (S.left (source_of reader.old)) (S.left (source_of reader.new))
+        (Passes (merging rounds.old.blocks (options_of rounds.old) (place_of reader.old)) (K.held sink.old)
+        (K.held sink.new) (ending_of result)) }
+    ensures front { FrontUnless (Rose (S.faults (source_of reader.old)) (S.faults (source_of reader.new)))
+        (merging rounds.old.blocks (options_of rounds.old) (place_of reader.old)) (S.left (source_of reader.old))
+        (S.left (source_of reader.new)) (K.held sink.old) (K.held sink.new) }
+    ensures flushed { flushes (ending_of result) ≡ true → SaysFlushed (K.held sink.new) (K.is_flushed sink.new) true }
+    ensures home { rounds.new.home ≡ rounds.new.blocks }
+    ensures same { (rounds.new.blocks ≡ rounds.old.blocks) × (options_of rounds.new ≡ options_of rounds.old)
+        × (rounds.new.keep ≡ rounds.old.keep) }
+    ensures taken { result ≡ MergeEnd.Done → Told (S.left (source_of reader.old)) (S.left (source_of reader.new))
+        (λ bytes left. min (rounds.old.taken + round_need (found_at (place_of reader.old) bytes).packets) (2 ^ 64 - 1)
+        ≤ rounds.new.taken) }
+    ensures least { rounds.old.taken ≤ rounds.new.taken }
+    ensures captured { Told (S.left (source_of reader.old)) (S.left (source_of reader.new))
+        (HoldsCaptured rounds.old.blocks rounds.old.budget (place_of reader.old) result) }
+    ensures later { S.faults (source_of reader.old) ≤ S.faults (source_of reader.new) }
+    ensures later_sink { K.faults sink.old ≤ K.faults sink.new }
+    ensures read { result ≡ MergeEnd.ReadFault → Rose (S.faults (source_of reader.old))
+        (S.faults (source_of reader.new)) }
+    ensures write { result ≡ MergeEnd.WriteFault → Rose (K.faults sink.old) (K.faults sink.new) }
+{
+    handle_beside(
+        rt,
+        alloc,
+        rounds,
+        reader,
+        &Merging { file: *file },
+        sink,
+        gate,
+    )
+}

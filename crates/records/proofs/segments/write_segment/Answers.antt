@@ -1,0 +1,66 @@
+use Rattle.std.proofs.Common.{◌≡◌, ◌+◌, ℕ, List, length, take, ap, subst, arith, rules}
+use Rattle.std.specs.Prelude.{OnOk, OnErr}
+use Rattle.std.specs.Io.KnownBytes.{Appends}
+use Rattle.std.proofs.lemmas.Result.{err_from_is_err_and}
+use Rattle.off_io.specs.Content.{AppendsFront}
+use Rattle.off_io.proofs.Appending.{front_more}
+use Rattle.off_io.proofs.Owing.{then_ok, then_err}
+use Rattle.gso.specs.Places.{bytes_at}
+use Rattle.records.proofs.Stretches.{record_is, short, next_by}
+use Rattle.records.proofs.segments.write_segment.Goals as goal
+
+pub overflow_add-len : goal.overflow_add-len
+overflow_add-len g c =
+    omega (
+      arith,
+      c.headers_len.ensures.low,
+      short c.args.file.now.order c.args.time c.args.segments.now c.args.i c.payload_len-n.result 0 c.args.place.now c.args.row.now c.args.row.now c.requires.at c.payload_len-n.ensures.len
+          c.headers_len.ensures.short,
+    )
+
+pub overflow_cast-len : goal.overflow_cast-len
+overflow_cast-len g c =
+    omega (
+      arith,
+      c.headers_len.ensures.low,
+      short c.args.file.now.order c.args.time c.args.segments.now c.args.i c.payload_len-n.result 0 c.args.place.now c.args.row.now c.args.row.now c.requires.at c.payload_len-n.ensures.len
+          c.headers_len.ensures.short,
+    )
+
+pub returns-in_err-write_all-clause-err : goal.returns-in_err-write_all-clause-err
+returns-in_err-write_all-clause-err g c =
+    let p = err_from_is_err_and c.from_residual.result c.from_residual.ensures.1 in
+    let s = c.args.segments.now in
+    let n = c.payload_len-n.result in
+    let h = c.record_header-header in
+    let head : length h.result ≡ 16 = search rules in
+    let is = record_is c.args.file.now.order c.args.time s c.args.i n (c.headers_len.result + n) c.args.place.now c.put_row.new.row h.result c.requires.at c.payload_len-n.ensures.len h.ensures.bytes
+    c.put_row.ensures.row c.put_row.ensures.size head (ap (λ (z : ℕ). z + n) c.headers_len.ensures.len) in
+    rw p.1 (subst (AppendsFront _ _) is (front_more _ _ c.put_row.new.row (take n (bytes_at s.skb c.args.place.now)) c.in_err-write_all.ensures.err))
+
+pub returns-clause-ok : goal.returns-clause-ok
+returns-clause-ok g c =
+    let s = c.args.segments.now in
+    let n = c.payload_len-n.result in
+    let h = c.record_header-header in
+    let head : length h.result ≡ 16 = search rules in
+    let is = record_is c.args.file.now.order c.args.time s c.args.i n (c.headers_len.result + n) c.args.place.now c.put_row.new.row h.result c.requires.at c.payload_len-n.ensures.len h.ensures.bytes
+    c.put_row.ensures.row c.put_row.ensures.size head (ap (λ (z : ℕ). z + n) c.headers_len.ensures.len) in
+    subst (λ (z : List ℕ). OnOk c.write_next.result (Appends (g.K.Sink.held c.args.sink.now) (g.K.Sink.held c.write_next.new.sink) z)) is
+    (then_ok c.write_next.result _ _ _ c.put_row.new.row (take n (bytes_at s.skb c.args.place.now)) c.in_ok-write_all.ensures.ok c.write_next.ensures.ok)
+
+pub returns-clause-err : goal.returns-clause-err
+returns-clause-err g c =
+    let s = c.args.segments.now in
+    let n = c.payload_len-n.result in
+    let h = c.record_header-header in
+    let head : length h.result ≡ 16 = search rules in
+    let is = record_is c.args.file.now.order c.args.time s c.args.i n (c.headers_len.result + n) c.args.place.now c.put_row.new.row h.result c.requires.at c.payload_len-n.ensures.len h.ensures.bytes
+    c.put_row.ensures.row c.put_row.ensures.size head (ap (λ (z : ℕ). z + n) c.headers_len.ensures.len) in
+    subst (λ (z : List ℕ). OnErr c.write_next.result (AppendsFront (g.K.Sink.held c.args.sink.now) (g.K.Sink.held c.write_next.new.sink) z)) is
+    (then_err c.write_next.result _ _ _ c.put_row.new.row (take n (bytes_at s.skb c.args.place.now)) c.in_ok-write_all.ensures.ok c.write_next.ensures.err)
+
+pub returns-clause-next : goal.returns-clause-next
+returns-clause-next g c =
+    next_by c.args.file.now.order c.args.time c.args.segments.now c.args.i c.payload_len-n.result 0 c.args.place.now c.args.row.now c.args.row.now c.requires.at c.payload_len-n.ensures.len
+    c.write_next.result c.write_next.new.place c.write_next.ensures.behind

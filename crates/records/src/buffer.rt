@@ -1,0 +1,51 @@
+//! Writes the bytes of a buffer.
+ghost use Rattle.std.specs.Prelude.{◌≤◌, OnOk, OnErr, drop};
+ghost use Rattle.std.specs.List.{flat_map};
+ghost use Rattle.std.specs.Io.KnownBytes.{Appends};
+ghost use Rattle.off_io.specs.Faults.{HasCause};
+ghost use Rattle.off_io.specs.Content.{AppendsFront};
+ghost use Rattle.frags.specs.PieceList.{piece_bytes};
+ghost use Rattle.skb.specs.SkbState.{buffer_bytes, head_size};
+
+use off_io::{Sink, WriteFault, write_all};
+use skb::Skb;
+
+/// Writes the bytes of a buffer, slice by slice.
+///
+/// `WriteFault` only where the sink's count of faults rose; a prefix of the bytes was then written.
+pub fn write_buffer<K: Sink>(sink: &mut K, frame: &Skb) -> Result<(), WriteFault>
+    ensures ok { OnOk result (Appends (K.held sink.old) (K.held sink.new) (buffer_bytes frame.now)) }
+    ensures err { OnErr result (AppendsFront (K.held sink.old) (K.held sink.new)
+        (buffer_bytes frame.now)) }
+    ensures cause { HasCause (K.faults sink.old) (K.faults sink.new) result }
+{
+    write_all(sink, frame.head())?;
+    write_pieces(sink, frame)
+}
+
+/// Writes what is behind `at` of a buffer, where that is in its head, slice by slice.
+pub(crate) fn write_from<K: Sink>(sink: &mut K, frame: &Skb, at: usize) -> Result<(), WriteFault>
+    requires inside { at ≤ head_size frame.now }
+    ensures ok { OnOk result (Appends (K.held sink.old) (K.held sink.new) (drop at (buffer_bytes frame.now))) }
+    ensures err { OnErr result (AppendsFront (K.held sink.old) (K.held sink.new)
+        (drop at (buffer_bytes frame.now))) }
+    ensures cause { HasCause (K.faults sink.old) (K.faults sink.new) result }
+{
+    let head = frame.head();
+    write_all(sink, &head[at..])?;
+    write_pieces(sink, frame)
+}
+
+// Writes the pieces behind a buffer's head.
+fn write_pieces<K: Sink>(sink: &mut K, frame: &Skb) -> Result<(), WriteFault>
+    ensures ok { OnOk result (Appends (K.held sink.old) (K.held sink.new)
+        (flat_map piece_bytes frame.now.rest)) }
+    ensures err { OnErr result (AppendsFront (K.held sink.old) (K.held sink.new)
+        (flat_map piece_bytes frame.now.rest)) }
+    ensures cause { HasCause (K.faults sink.old) (K.faults sink.new) result }
+{
+    for i in 0..frame.count() - 1 {
+        write_all(sink, frame.slice(i))?;
+    }
+    Ok(())
+}

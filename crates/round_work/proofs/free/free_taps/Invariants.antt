@@ -1,5 +1,0 @@
-use Rattle.std.proofs.Common.{length}
-use Rattle.round_work.proofs.free.free_taps.Given as goal
-
-abbrev pub decreases-loop-lane : goal.decreases-loop-lane
-decreases-loop-lane l = length l.lanes.items

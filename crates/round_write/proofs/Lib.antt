@@ -1,8 +1,0 @@
--- the slices of a buffer, one after the other
-mod Slices
--- the segments of a merged frame, from where they lie
-mod Stretches
--- headers and the frame behind them
-mod Heads
--- the items of a queue are its runs
-mod Runs
