@@ -2,14 +2,16 @@
 //! were worked out by hand.
 ghost use Rattle.std.specs.Prelude.{◌≤◌};
 
+use crate::driven::{Passing, capture};
 use crate::plans::plain;
-use checking::{CheckEnd, Totals, check_all, write_totals};
+use checking::{CheckEnd, Totals, check_all, check_beside, write_totals};
 use lanes::Alone;
-use off_io::{Feed, MemSink, MemSource, NoGate};
+use off_io::{Feed, Meeting, MemSink, MemSource, NoGate, Who};
 use pcap_io::{CaptureReader, Link};
 use rounds::Rounds;
 use std::alloc::Global;
 use std::test::Fail;
+use std::thread::available_parallelism;
 use worked_captures::TWO_FLOWS;
 
 const NONE: &str = "queue 0: records 0 items 0 merged 0 returned 0\n\
@@ -103,5 +105,42 @@ fn each_way_to_end(rt: HostRuntime) -> Result<(), Fail> {
     assert_eq!(rt; end, CheckEnd::ReadFault);
     assert_eq!(rt; lines.as_slice(), NONE.as_bytes());
     assert_eq!(rt; home, 12);
+    Ok(())
+}
+
+// Where there is a second processor, and blocks for another record, the second round is read while the first one is
+// worked: the worker waits before its work for the reader, and the reader for the worker, and each sees the other. In
+// the four rounds behind, of which the last has no record, the worker waits for nobody any more.
+#[test]
+fn checking_reads_beside_the_work(rt: HostRuntime) -> Result<(), Fail> {
+    let alloc = rt.alloc();
+    let gate = Meeting::of(Who::Worker(0), Who::Tap(0));
+    let source = Passing {
+        source: MemSource::new(capture(alloc, 1)?, 4096, Vec::new(alloc)),
+        reads: 0,
+        gate: &gate,
+    };
+    let mut feed = Feed { inner: source };
+    let mut reader = match CaptureReader::start(&mut feed, Link::Ethernet) {
+        Ok(reader) => reader,
+        Err(_) => return Err(Fail::from("the file header is lawful")),
+    };
+    let mut rounds = Rounds::make(alloc, 400, 1, plain(1, 0, 64), true)?;
+    let mut totals = Totals::make(alloc, 1, 0)?;
+    let end = check_beside(&rt, alloc, &mut rounds, &mut reader, &mut totals, &gate);
+    assert_eq!(rt; end, CheckEnd::Done);
+    assert_eq!(rt; rounds.home(), 400);
+    let mut sink = MemSink::new(alloc, 4096, Vec::new(alloc));
+    let want = "queue 0: records 4 items 4 merged 0 returned 4\n\
+        total: records 4 items 4 merged 0 returned 4\n";
+    assert!(rt; write_totals(&mut sink, &totals).is_ok());
+    assert_eq!(rt; sink.bytes(), want.as_bytes());
+    let processors = match available_parallelism(&rt) {
+        Ok(count) => count.get(),
+        Err(_) => 1,
+    };
+    if processors > 1 {
+        assert_eq!(rt; gate.met(), 6);
+    }
     Ok(())
 }

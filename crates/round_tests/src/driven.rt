@@ -17,7 +17,7 @@ use std::thread::{Threads, available_parallelism};
 use worked_captures::TWO_FLOWS;
 
 // The four records again and again, each four in a second of its own.
-fn capture(alloc: Global, fours: u32) -> Result<Vec<u8>, AllocError> {
+pub(crate) fn capture(alloc: Global, fours: u32) -> Result<Vec<u8>, AllocError> {
     let mut bytes = TWO_FLOWS[..24].to_vec(alloc)?;
     for second in 0..fours {
         for behind_second in [
@@ -345,10 +345,10 @@ fn lanes_meet(rt: HostRuntime) -> Result<(), Fail> {
 
 // Passes a gate as a tap that isn't there, at its first read past the first record.
 #[derive(Drop)]
-struct Passing<'a> {
-    source: MemSource,
-    reads: u32,
-    gate: &'a Meeting,
+pub(crate) struct Passing<'a> {
+    pub(crate) source: MemSource,
+    pub(crate) reads: u32,
+    pub(crate) gate: &'a Meeting,
 }
 
 impl Source for Passing<'_> {
