@@ -1,6 +1,8 @@
 //! A pool of blocks.
 ghost use Rattle.std.specs.Prelude.{◌≡◌, ◌⊎◌, ◌+◌, ◌-◌, ◌<◌, ◌≤◌, ◌^◌, [], ◌∷◌, ◌++◌, length, min, IfOk, MatchResult};
-ghost use Rattle.std.specs.Prelude.{MatchOption};
+ghost use Rattle.std.specs.Prelude.{MatchOption, ℕ};
+ghost use Rattle.std.specs.List.{sum_by};
+ghost use Rattle.raw_block.specs.Views.{SoleState};
 ghost use Rattle.block_pool.specs.PoolState.{home};
 
 use raw_block::Sole;
@@ -50,6 +52,17 @@ impl Pool {
         })
     }
 
+    /// A pool without blocks and places. It takes no memory.
+    pub fn new(alloc: Global) -> Pool
+        ensures none { (result.blocks ≡ []) × (result.made ≡ 0) × (result.taken ≡ 0) }
+    {
+        Pool {
+            blocks: Vec::new(alloc),
+            made: 0,
+            taken: 0,
+        }
+    }
+
     /// A pool with places for `n` blocks, none of them home. All its memory is taken here.
     pub fn empty(alloc: Global, n: u32) -> Result<Pool, AllocError>
         requires few { n ≤ 65536 }
@@ -77,6 +90,26 @@ impl Pool {
             }
             None => Err(Empty),
         }
+    }
+
+    /// The `n` blocks that came home last go to a pool that has places for them. They are taken, as by `take`.
+    pub fn take_to(&mut self, n: u32, other: &mut Pool)
+        requires home { n ≤ home self.old }
+        requires room { home other.old + n ≤ other.old.made }
+        ensures blocks { (h : SoleState → ℕ) → sum_by h self.new.blocks + sum_by h other.new.blocks
+            ≡ sum_by h self.old.blocks + sum_by h other.old.blocks }
+        ensures home { home self.new + n ≡ home self.old }
+        ensures other { home other.new ≡ home other.old + n }
+        ensures made { (self.new.made ≡ self.old.made) × (other.new.made ≡ other.old.made) }
+        ensures taken { (self.new.taken ≡ min (self.old.taken + n) (2 ^ 64 - 1)) × (other.new.taken ≡ other.old.taken) }
+    {
+        for _ in 0..n {
+            match self.last() {
+                Some(block) => other.put(block),
+                None => unreachable!(),
+            }
+        }
+        self.taken = self.taken.saturating_add(n as u64);
     }
 
     /// A block comes home.

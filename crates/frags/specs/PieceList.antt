@@ -1,6 +1,7 @@
 -- Pieces of shared blocks, as a list of bytes.
 use Rattle.std.specs.Prelude.{ℕ, ◌≡◌, ◌+◌, ◌-◌, ◌<◌, ◌≤◌, List, [], ◌∷◌, ◌++◌, cond, ◌==◌, nat_lt, length, slice_range}
 use Rattle.std.specs.Prelude.{slice_index_or, min}
+use Rattle.std.specs.List.{AllByRecursion}
 use Rattle.ref_core.specs.WeightRule.{full_weight, IsWeight}
 use Rattle.frags.specs.Account.{Account, Tests, counted}
 use Rattle.frags.specs.declared.pieces.Piece.{Piece}
@@ -29,6 +30,10 @@ pieces_held t m (p ∷ ps) = counted t m p.part.life p.part.mark p.part.weight +
 
 abbrev pub of_pieces : List Piece → Account
 of_pieces ps = record { held = λ t m. pieces_held t m ps; homes = λ bs m. 0 }
+
+-- each part has all the weight of its block, so nobody else holds one
+abbrev pub AreWhole : List Piece → Type 0
+AreWhole ps = AllByRecursion (λ (p : Piece). p.part.weight ≡ full_weight) ps
 
 -- the pieces without their first n bytes
 abbrev pub cut_front : ℕ → List Piece → List Piece

@@ -1,6 +1,6 @@
 //! Pieces of shared blocks, as one run of bytes.
 ghost use Rattle.std.specs.Prelude.{◌≡◌, ℕ, ◌+◌, ◌-◌, ◌<◌, ◌≤◌, ◌^◌, [], ◌∷◌, ◌++◌, length, MatchResult, MatchOption};
-ghost use Rattle.std.specs.Prelude.{IfOk, IfErr, drop, take, min, slice_index_or, slice_range, Bool, false};
+ghost use Rattle.std.specs.Prelude.{IfOk, IfErr, IfSome, IfNone, drop, take, min, slice_index_or, slice_range, Bool, false};
 ghost use Rattle.frags.specs.declared.pieces.Piece.{Piece};
 ghost use Rattle.frags.specs.declared.holder.Holder.{Holder};
 ghost use Rattle.raw_block.specs.Views.{PartState};
@@ -9,12 +9,13 @@ ghost use Rattle.frags.specs.Growth.{Grows};
 ghost use Rattle.frags.specs.Gifts.{IsShare, IsSplit, front, cut_worn, worn};
 ghost use Rattle.frags.specs.Holders.{IsAppend};
 ghost use Rattle.frags.specs.PieceList.{bytes_of, piece_bytes, pieces_held, Fits, AllFit, size_of, of_pieces, byte_in};
+ghost use Rattle.frags.specs.PieceList.{AreWhole};
 ghost use Rattle.frags.specs.PieceList.{keep_front, least_weight, cut_front};
 
 use crate::cuts::split_into;
 use crate::{Holder, Outcomes, give_share};
 use core::mem::replace;
-use raw_block::{FULL, Part};
+use raw_block::{FULL, Part, Released, Sole};
 use std::alloc::{AllocError, Global};
 use std::collections::VecDeque;
 use std::marker::Model;
@@ -419,6 +420,25 @@ impl Pieces {
             Holder::Part(part).free();
         }
         items.destroy_empty();
+    }
+
+    /// The block of the first piece, where nobody else holds the blocks of any. None exactly where there is no piece.
+    pub fn pop_block(&mut self) -> Option<Sole>
+        requires whole { AreWhole self.old }
+        ensures some { IfSome result (λ block. (piece : Piece) × (self.old ≡ piece ∷ self.new)
+            × (block.block ≡ piece.part.life.block)) }
+        ensures whole { AreWhole self.new }
+        ensures none { IfNone result ((self.old ≡ []) × (self.new ≡ [])) }
+    {
+        let Piece { part, from, to } = self.items.pop_front()?;
+        self.size -= to - from;
+        match part.release() {
+            Released::Last(block) => Some(block),
+            Released::Left(receipt) => {
+                receipt.close();
+                unreachable!()
+            }
+        }
     }
 
     /// Gives all parts back, the first piece's first.

@@ -9,7 +9,7 @@ use Rattle.frags.specs.Account.{Account, Keeps, both, of_sole, of_holder, of_rel
 use Rattle.frags.specs.OutcomesState.{OutcomesState}
 use Rattle.frags.specs.Gifts.{worn, less, gave, given, kept}
 use Rattle.frags.specs.Holders.{block, AsPart}
-use Rattle.frags.specs.PieceList.{bytes_of, size_of, of_pieces, least_weight}
+use Rattle.frags.specs.PieceList.{bytes_of, size_of, of_pieces, least_weight, AreWhole}
 use Rattle.frags.specs.declared.pieces.Piece.{Piece}
 use Rattle.frags.specs.declared.pieces.ShareFault.{ShareFault}
 use Rattle.frags.specs.declared.pieces.ShareFault.TheVariants.{Short, Worn, NoMemory}
@@ -31,6 +31,11 @@ pub record SkbState : Type 0 where
 abbrev pub is_sole : Holder → Bool
 is_sole (Sole s) = true
 is_sole (Part p) = false
+
+-- nobody else holds a block of it
+pub record IsAlone (f : SkbState) : Type 0 where
+  pub head : is_sole f.head ≡ true
+  pub rest : AreWhole f.rest
 
 abbrev pub of_buffer : SkbState → Account
 of_buffer f = both (of_holder f.head) (of_pieces f.rest)

@@ -5,6 +5,7 @@ ghost use Rattle.std.specs.Borrow.{sem};
 ghost use Rattle.frags.specs.Account.{Keeps, both, of_sole, of_outcomes};
 ghost use Rattle.frags.specs.Growth.{Grows};
 ghost use Rattle.frags.specs.PieceList.{AllFit, size_of, of_pieces, piece_bytes};
+ghost use Rattle.frags.specs.declared.holder.Holder.{Holder};
 ghost use Rattle.frags.specs.declared.pieces.Piece.{Piece};
 ghost use Rattle.skb.specs.Checksum.{AreBytes};
 ghost use Rattle.skb.specs.Lending.{lends_head, lends_head_if};
@@ -198,6 +199,28 @@ impl Skb {
     /// The allocator that the list of pieces takes its places from.
     pub fn allocator(&self) -> Global {
         self.rest.allocator()
+    }
+
+    /// Takes a buffer apart whose head is a Sole: the head's block, and the pieces after it.
+    pub fn into_blocks(self) -> (Sole, Pieces)
+        requires sole { is_sole self.head ≡ true }
+        ensures head { self.head ≡ Holder.Sole result.0 }
+        ensures rest { result.1 ≡ self.rest }
+    {
+        let Skb {
+            head,
+            from: _,
+            to: _,
+            rest,
+        } = self;
+        match head {
+            Holder::Sole(block) => (block, rest),
+            part => {
+                part.free();
+                rest.free();
+                unreachable!()
+            }
+        }
     }
 
     /// Gives the head and all pieces back.
