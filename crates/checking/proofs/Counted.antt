@@ -9,7 +9,7 @@ use Rattle.pcap_io.specs.Reading.{Loses}
 use Rattle.offload_model.specs.Need.{round_need}
 use Rattle.offload_model.specs.Passing.{NoMemory}
 use Rattle.offload_model.specs.Written.{Options}
-use Rattle.gro.specs.Held.{packet_of}
+use Rattle.gro.specs.Slots.{packet_of}
 use Rattle.checking.specs.Counts.{Counts, added, round_totals, totals_of, HasLanes}
 use Rattle.checking.specs.Checking.{counting}
 use Rattle.checking.specs.Tallies.{Tallies}

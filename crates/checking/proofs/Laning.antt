@@ -15,8 +15,7 @@ use Rattle.offload_model.proofs.Flows.{IsItem}
 use Rattle.offload_model.proofs.Lists.{all_of}
 use Rattle.gro.specs.declared.slot.Slot.{Slot}
 use Rattle.gro.specs.Chains.{run_of}
-use Rattle.gro.specs.Held.{packet_of}
-use Rattle.gro.specs.Slots.{packet_in}
+use Rattle.gro.specs.Slots.{packet_of}
 use Rattle.lanes.specs.declared.lane.QueueLane.{QueueLane}
 use Rattle.lanes.specs.Lanes.{runs_in_lane, IsMerged}
 use Rattle.lanes.specs.Work.{AreMerged, AreWatched, merged_in}
@@ -63,9 +62,9 @@ pub lanes_known : (segs : ℕ) (spread : Spread) (ps : List Packet) (ls : List Q
 lanes_known segs spread ps ls c few m are = all_by MayCompare ls (λ i l less is. lane_known segs spread ps ls i l c few m are less is)
 
 -- what the runs of a lane come to is told by its slots
-pub lane_items : (slots : List Slot) (l : QueueLane) → map packet_in slots ≡ map packet_of l.packets.items → map (item_at slots l.engine.next.items) l.engine.runs.items ≡ merged_in l
+pub lane_items : (slots : List Slot) (l : QueueLane) → slots ≡ l.packets.items → map (item_at slots l.engine.next.items) l.engine.runs.items ≡ merged_in l
 lane_items slots l e =
-    ap (λ (ps : List Packet). map (λ run. merged_of (run_of ps l.engine.next.items run)) l.engine.runs.items) e
+    ap (λ (ss : List Slot). map (item_at ss l.engine.next.items) l.engine.runs.items) e
     ∙ sym (map-map merged_of (run_of (map packet_of l.packets.items) l.engine.next.items) l.engine.runs.items)
 
 -- ---- lane by lane

@@ -21,8 +21,8 @@ use Rattle.offload_model.specs.Passing.{Ending, Stopped, Nowhere, AtFault, AtRou
 use Rattle.offload_model.specs.Steps.{ending_behind, in_front}
 use Rattle.offload_model.specs.Written.{Options}
 use Rattle.offload_model.proofs.Needs.{needed_append, needs_add}
-use Rattle.gro.specs.declared.packet.Packet.{Packet as Held}
-use Rattle.gro.specs.Held.{packet_of}
+use Rattle.gro.specs.declared.slot.Slot.{Slot as Held}
+use Rattle.gro.specs.Slots.{packet_of}
 use Rattle.checking.specs.declared.totals.QueueTotals.{QueueTotals}
 use Rattle.checking.specs.declared.totals.TapTotals.{TapTotals}
 use Rattle.checking.specs.Counts.{Counts, added, round_totals, totals_of, no_lanes, HasLanes, HasSameLanes, IsWithin, IsQueueWithin, IsTapWithin}
@@ -34,7 +34,7 @@ use Rattle.checking.proofs.Tallying.{totals_add_up, counting_goes_by_round}
 use Rattle.rounds.specs.Fresh.{NumberedFrom}
 use Rattle.rounds.specs.Merging.{TakesAll}
 use Rattle.rounds.specs.Reading.{GivesRound, Holds, Exceeds}
-use Rattle.rounds.specs.Record.{Passes as PassesRecords}
+use Rattle.records.specs.Reading.{Passes as PassesRecords}
 use Rattle.rounds.specs.declared.round.RoundEnd.{RoundEnd}
 use Rattle.rounds.specs.declared.round.RoundEnd.TheVariants as rounds
 use Rattle.checking.specs.Handling.{ending_of, CountsLast, Ahead, EndsBehind, AreOf}

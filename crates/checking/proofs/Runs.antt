@@ -25,7 +25,7 @@ use Rattle.gro.specs.declared.run.Run.{Run}
 use Rattle.gro.specs.declared.slot.Slot.{Slot}
 use Rattle.gro.specs.Chains.{chain_of, indices, no_packet, packet_at, run_of}
 use Rattle.gro.specs.Engine.{Knows, KnowsSome, IsChain}
-use Rattle.gro.specs.Slots.{packet_in, IsSlot}
+use Rattle.gro.specs.Slots.{packet_of, IsHeld}
 use Rattle.gro.proofs.Payloads.{all_at}
 use Rattle.checking.specs.Items.{AreInBytes}
 use Rattle.checking.specs.Returned.{packets_in}
@@ -34,26 +34,26 @@ use Rattle.checking.proofs.RunItems.{kind_is}
 
 -- ---- packets of a list
 
-pub there : (slots : List Slot) (i : ℕ) (d : Slot) → i < length slots → packet_at (map packet_in slots) i ≡ packet_in (get_or slots i d)
-there slots i d l = get_or-map packet_in slots i d no_packet l
+pub there : (slots : List Slot) (i : ℕ) (d : Slot) → i < length slots → packet_at (map packet_of slots) i ≡ packet_of (get_or slots i d)
+there slots i d l = get_or-map packet_of slots i d no_packet l
 
-pub here : (slots : List Slot) (i : ℕ) (s : Slot) → i < length slots → s ≡ get_or slots i s → packet_at (map packet_in slots) i ≡ packet_in s
-here slots i s l is = there slots i s l ∙ ap packet_in (sym is)
+pub here : (slots : List Slot) (i : ℕ) (s : Slot) → i < length slots → s ≡ get_or slots i s → packet_at (map packet_of slots) i ≡ packet_of s
+here slots i s l is = there slots i s l ∙ ap packet_of (sym is)
 
 all_chosen : {A : Type 0} (P : A → Type 0) (xs : List A) (d : A) (ks : List ℕ) → AllByRecursion (λ k. k < length xs) ks → AllByRecursion P xs
     → AllByRecursion P (map (λ k. get_or xs k d) ks)
 all_chosen P xs d [] l a = tt
 all_chosen P xs d (k ∷ ks) l a = (all_at P xs k d a l.0, all_chosen P xs d ks l.1 a)
 
-frames_in_bytes : (slots : List Slot) → AreInBytes slots → AllByRecursion (λ (x : Packet). AreBytes x.frame) (map packet_in slots)
+frames_in_bytes : (slots : List Slot) → AreInBytes slots → AllByRecursion (λ (x : Packet). AreBytes x.frame) (map packet_of slots)
 frames_in_bytes [] a = tt
 frames_in_bytes (s ∷ slots) a = (a.0, frames_in_bytes slots a.1)
 
 -- what a run's packets hold are bytes
-pub run_in_bytes : (slots : List Slot) (next : List ℕ) (run : Run) → IsChain (map packet_in slots) next run → AreInBytes slots
-    → AllByRecursion (λ (x : Packet). AreBytes x.frame) (run_of (map packet_in slots) next run)
+pub run_in_bytes : (slots : List Slot) (next : List ℕ) (run : Run) → IsChain (map packet_of slots) next run → AreInBytes slots
+    → AllByRecursion (λ (x : Packet). AreBytes x.frame) (run_of (map packet_of slots) next run)
 run_in_bytes slots next run c a =
-    all_chosen (λ (x : Packet). AreBytes x.frame) (map packet_in slots) no_packet (indices next run) c.inside (frames_in_bytes slots a)
+    all_chosen (λ (x : Packet). AreBytes x.frame) (map packet_of slots) no_packet (indices next run) c.inside (frames_in_bytes slots a)
 
 -- ---- one packet
 
@@ -64,7 +64,7 @@ alone ps next run e = ap (λ (n : ℕ). packets_in (merged_of (packet_at ps run.
 -- ---- several packets
 
 -- a buffer's head tells the shape of its frame
-pub head_is : (s : Slot) → IsSlot s → (head : List ℕ) → head ≡ head_bytes s.skb → length head ≡ head_size s.skb → IsHeadOf head (buffer_bytes s.skb)
+pub head_is : (s : Slot) → IsHeld s → (head : List ℕ) → head ≡ head_bytes s.skb → length head ≡ head_size s.skb → IsHeadOf head (buffer_bytes s.skb)
 head_is s is head e long = record {
   begins = λ k l. get_or_append_left (head_bytes s.skb) (bytes_of s.skb.rest) 0 k (omega (arith, l, ap length e)) ∙ ap (λ (z : List ℕ). get_or z k 0) (sym e);
   more = omega (arith, length-append (head_bytes s.skb) (bytes_of s.skb.rest), ap length e);
@@ -77,17 +77,17 @@ shaped None sum bits state p rest r several = absurd (omega (arith, r.0, several
 shaped (Some layout) sum bits state p rest r several = sym r.shape
 
 -- the layout of a run is the first packet's, which has one
-pub layout_is : (run : Run) (s : Slot) → KnowsSome run (packet_in s) → 1 ≤ run.more → run.layout ≡ shape_of (buffer_bytes s.skb)
-layout_is run s k several = shaped run.layout run.payload run.flags run.progress (packet_in s) k.0 k.1.is (omega (arith, k.1.more, several))
+pub layout_is : (run : Run) (s : Slot) → KnowsSome run (packet_of s) → 1 ≤ run.more → run.layout ≡ shape_of (buffer_bytes s.skb)
+layout_is run s k several = shaped run.layout run.payload run.flags run.progress (packet_of s) k.0 k.1.is (omega (arith, k.1.more, several))
 
 has_layout : (found : Option Layout) (sum : FoldAndLength) (bits : ℕ) (state : Progress) (p : Packet) (rest : List Packet) → IsRunBy found sum bits state p (p ∷ rest) → 1 ≤ length rest
     → found ≡ None → ⊥
 has_layout None sum bits state p rest r several e = omega (arith, r.0, several)
 has_layout (Some layout) sum bits state p rest r several e = cc
 
-pub has_shape : (run : Run) (s : Slot) → KnowsSome run (packet_in s) → 1 ≤ run.more → shape_of (buffer_bytes s.skb) ≡ None → ⊥
+pub has_shape : (run : Run) (s : Slot) → KnowsSome run (packet_of s) → 1 ≤ run.more → shape_of (buffer_bytes s.skb) ≡ None → ⊥
 has_shape run s k several none =
-    has_layout run.layout run.payload run.flags run.progress (packet_in s) k.0 k.1.is (omega (arith, k.1.more, several)) (layout_is run s k several ∙ none)
+    has_layout run.layout run.payload run.flags run.progress (packet_of s) k.0 k.1.is (omega (arith, k.1.more, several)) (layout_is run s k several ∙ none)
 
 mergeable : (found : Option Layout) (sum : FoldAndLength) (bits : ℕ) (state : Progress) (p q : Packet) (rest : List Packet)
     → IsRunBy found sum bits state p (p ∷ q ∷ rest) → IsMergeable (p ∷ q ∷ rest)

@@ -11,40 +11,40 @@ use Rattle.gro.specs.declared.slot.Slot.{Slot}
 use Rattle.gro.specs.Chains.{behind, packet_at, run_of}
 use Rattle.gro.specs.Engine.{Knows, KnowsSome}
 use Rattle.gro.specs.Packets.{headers_size, payloads_behind}
-use Rattle.gro.specs.Slots.{packet_in}
+use Rattle.gro.specs.Slots.{packet_of}
 use Rattle.checking.specs.Items.{item_at, IsToCompare}
 use Rattle.checking.specs.Segments.{IsCutTo, IsCutOf}
 use Rattle.checking.proofs.Runs.{here, run_in_bytes}
 use Rattle.checking.proofs.Segmenting.{started}
 
 module _ (slots : List Slot) (next : List ℕ) (run : Run) (c : IsToCompare slots next run) (s : Slot) (is : s ≡ get_or slots run.first s) where
-  pub first_is : packet_at (map packet_in slots) run.first ≡ packet_in s
-  first_is = here slots run.first s (omega (arith, c.is.inside.0, length-map slots packet_in)) is
+  pub first_is : packet_at (map packet_of slots) run.first ≡ packet_of s
+  first_is = here slots run.first s (omega (arith, c.is.inside.0, length-map slots packet_of)) is
 
-  knows : Knows run (packet_in s) (map (packet_at (map packet_in slots)) (behind next run))
-  knows = subst (λ (p : Packet). Knows run p (map (packet_at (map packet_in slots)) (behind next run))) first_is c.is.knows
+  knows : Knows run (packet_of s) (map (packet_at (map packet_of slots)) (behind next run))
+  knows = subst (λ (p : Packet). Knows run p (map (packet_at (map packet_of slots)) (behind next run))) first_is c.is.knows
 
-  pub knows_some : KnowsSome run (packet_in s)
-  knows_some = (map (packet_at (map packet_in slots)) (behind next run), knows)
+  pub knows_some : KnowsSome run (packet_of s)
+  knows_some = (map (packet_at (map packet_of slots)) (behind next run), knows)
 
-  in_bytes : AllByRecursion (λ (x : Packet). AreBytes x.frame) (packet_in s ∷ map (packet_at (map packet_in slots)) (behind next run))
+  in_bytes : AllByRecursion (λ (x : Packet). AreBytes x.frame) (packet_of s ∷ map (packet_at (map packet_of slots)) (behind next run))
   in_bytes =
-      subst (λ (p : Packet). AllByRecursion (λ (x : Packet). AreBytes x.frame) (p ∷ map (packet_at (map packet_in slots)) (behind next run))) first_is (run_in_bytes slots next run c.is c.in_bytes)
+      subst (λ (p : Packet). AllByRecursion (λ (x : Packet). AreBytes x.frame) (p ∷ map (packet_at (map packet_of slots)) (behind next run))) first_is (run_in_bytes slots next run c.is c.in_bytes)
 
   module _ (cut : Segmentation)
-      (cuts : (rest : List Packet) → Knows run (packet_in s) rest → AllByRecursion (λ (x : Packet). AreBytes x.frame) (packet_in s ∷ rest) → IsCutOf cut (merged_of (packet_in s ∷ rest))) where
+      (cuts : (rest : List Packet) → Knows run (packet_of s) rest → AllByRecursion (λ (x : Packet). AreBytes x.frame) (packet_of s ∷ rest) → IsCutOf cut (merged_of (packet_of s ∷ rest))) where
     pub cut_of_run : IsCutOf cut (item_at slots next run)
     cut_of_run =
-        let rest : List Packet = map (packet_at (map packet_in slots)) (behind next run) in
+        let rest : List Packet = map (packet_at (map packet_of slots)) (behind next run) in
         subst (λ (p : Packet). IsCutOf cut (merged_of (p ∷ rest))) (sym first_is) (cuts rest knows in_bytes)
 
     module _ (headers payload : List ℕ) (place : cut.layout.payload_at ≡ headers_size run) (size : length headers ≡ headers_size run)
-        (read : payload ≡ payloads_behind (headers_size run) (run_of (map packet_in slots) next run))
-        (frame : (rest : List Packet) → Knows run (packet_in s) rest
-        → headers ++ payloads_behind (headers_size run) (packet_in s ∷ rest) ≡ (merged_of (packet_in s ∷ rest)).packet.frame) where
-      whole : headers ++ payloads_behind (headers_size run) (run_of (map packet_in slots) next run) ≡ (item_at slots next run).packet.frame
+        (read : payload ≡ payloads_behind (headers_size run) (run_of (map packet_of slots) next run))
+        (frame : (rest : List Packet) → Knows run (packet_of s) rest
+        → headers ++ payloads_behind (headers_size run) (packet_of s ∷ rest) ≡ (merged_of (packet_of s ∷ rest)).packet.frame) where
+      whole : headers ++ payloads_behind (headers_size run) (run_of (map packet_of slots) next run) ≡ (item_at slots next run).packet.frame
       whole =
-          let rest : List Packet = map (packet_at (map packet_in slots)) (behind next run) in
+          let rest : List Packet = map (packet_at (map packet_of slots)) (behind next run) in
           subst (λ (p : Packet). headers ++ payloads_behind (headers_size run) (p ∷ rest) ≡ (merged_of (p ∷ rest)).packet.frame) (sym first_is) (frame rest knows)
 
       pub begins : IsCutTo cut (item_at slots next run).packet.frame headers 0 payload

@@ -15,21 +15,21 @@ use Rattle.gro.specs.declared.slot.Slot.{Slot}
 use Rattle.gro.specs.Chains.{chain_of, behind, indices, packet_at, run_of}
 use Rattle.gro.specs.Engine.{IsChain}
 use Rattle.gro.specs.Packets.{payload_place, payloads_behind, headers_size}
-use Rattle.gro.specs.Slots.{packet_in, IsSlot, AreSlots}
+use Rattle.gro.specs.Slots.{packet_of, IsHeld, AreHeld}
 use Rattle.gro.proofs.Payloads.{all_at}
 use Rattle.checking.specs.Payloads.{payload_left, HasBehind, IsPayloadLeft}
 use Rattle.checking.proofs.Pieces.{none_of}
 use Rattle.checking.proofs.Runs.{there}
 
 -- what a packet has behind a place
-module _ (slots : List Slot) (from k : ℕ) (d : Slot) (are : AreSlots slots) (low : from ≤ 200) (has : HasBehind from slots k) where
-  frame_is : packet_at (map packet_in slots) k ≡ packet_in (get_or slots k d)
+module _ (slots : List Slot) (from k : ℕ) (d : Slot) (are : AreHeld slots) (low : from ≤ 200) (has : HasBehind from slots k) where
+  frame_is : packet_at (map packet_of slots) k ≡ packet_of (get_or slots k d)
   frame_is = there slots k d has.inside
 
   -- the place lies in its head
   pub in_head : from ≤ head_size (get_or slots k d).skb
   in_head =
-      let slot : IsSlot (get_or slots k d) = all_at IsSlot slots k d are has.inside in
+      let slot : IsHeld (get_or slots k d) = all_at IsHeld slots k d are has.inside in
       omega (arith, slot.front, slot.size, low, has.some, ap (λ (p : Packet). length p.frame) frame_is)
 
   module _ (start : List ℕ) (begins : start ≡ drop from (buffer_bytes (get_or slots k d).skb)) where
@@ -37,9 +37,9 @@ module _ (slots : List Slot) (from k : ℕ) (d : Slot) (are : AreSlots slots) (l
     some_begins = omega (arith, ap length begins, length-drop from (buffer_bytes (get_or slots k d).skb), has.some, ap (λ (p : Packet). length p.frame) frame_is)
 
     -- it is the first of those that are behind
-    pub first_is : (next : List ℕ) (n : ℕ) → payloads_behind from (map (packet_at (map packet_in slots)) (chain_of next (suc n) k)) ≡ payload_left start from slots next n (get_or next k 0)
+    pub first_is : (next : List ℕ) (n : ℕ) → payloads_behind from (map (packet_at (map packet_of slots)) (chain_of next (suc n) k)) ≡ payload_left start from slots next n (get_or next k 0)
     first_is next n =
-        ap (λ (z : List ℕ). z ++ payloads_behind from (map (packet_at (map packet_in slots)) (chain_of next n (get_or next k 0))))
+        ap (λ (z : List ℕ). z ++ payloads_behind from (map (packet_at (map packet_of slots)) (chain_of next n (get_or next k 0))))
         (ap (λ (p : Packet). drop from p.frame) frame_is ∙ sym begins)
 
 -- ---- the next packet is read
@@ -57,9 +57,9 @@ module _ (own : List ℕ) (from : ℕ) (slots : List Slot) (next : List ℕ) (n 
   module _ (d : Slot) (start bytes rest : List ℕ) (begins : start ≡ drop from (buffer_bytes (get_or slots k d).skb)) (split : start ≡ bytes ++ rest) where
     pub left_is : payload_left own from slots next n k ≡ bytes ++ payload_left rest from slots next (n - 1) (get_or next k 0)
     left_is =
-        let others : List ℕ = payloads_behind from (map (packet_at (map packet_in slots)) (chain_of next (n - 1) (get_or next k 0))) in
-        ap (λ (z : List ℕ). z ++ payloads_behind from (map (packet_at (map packet_in slots)) (chain_of next n k))) (none_of own none)
-        ∙ ap (λ (z : ℕ). payloads_behind from (map (packet_at (map packet_in slots)) (chain_of next z k))) one_more
+        let others : List ℕ = payloads_behind from (map (packet_at (map packet_of slots)) (chain_of next (n - 1) (get_or next k 0))) in
+        ap (λ (z : List ℕ). z ++ payloads_behind from (map (packet_at (map packet_of slots)) (chain_of next n k))) (none_of own none)
+        ∙ ap (λ (z : ℕ). payloads_behind from (map (packet_at (map packet_of slots)) (chain_of next z k))) one_more
         ∙ first_is slots from k d p.are p.low next_there start begins next (n - 1)
         ∙ ap (λ (z : List ℕ). z ++ others) split ∙ append_assoc bytes rest others
 
@@ -101,16 +101,16 @@ have (Some layout) sum bits state p rest r several =
       small = omega (arith, long, r.progress.line.short);
     }
 
-have_behind : (from : ℕ) (slots : List Slot) (ks : List ℕ) → AllByRecursion (λ k. k < length (map packet_in slots)) ks
-    → AllByRecursion (λ (x : Packet). from < length x.frame) (map (packet_at (map packet_in slots)) ks) → AllByRecursion (HasBehind from slots) ks
+have_behind : (from : ℕ) (slots : List Slot) (ks : List ℕ) → AllByRecursion (λ k. k < length (map packet_of slots)) ks
+    → AllByRecursion (λ (x : Packet). from < length x.frame) (map (packet_at (map packet_of slots)) ks) → AllByRecursion (HasBehind from slots) ks
 have_behind from slots [] l a = tt
-have_behind from slots (k ∷ ks) l a = (record { inside = omega (arith, l.0, length-map slots packet_in); some = a.0 }, have_behind from slots ks l.1 a.1)
+have_behind from slots (k ∷ ks) l a = (record { inside = omega (arith, l.0, length-map slots packet_of); some = a.0 }, have_behind from slots ks l.1 a.1)
 
-module _ (slots : List Slot) (next : List ℕ) (run : Run) (are : AreSlots slots) (linked : length slots ≤ length next) (c : IsChain (map packet_in slots) next run) (several : 1 ≤ run.more)
+module _ (slots : List Slot) (next : List ℕ) (run : Run) (are : AreHeld slots) (linked : length slots ≤ length next) (c : IsChain (map packet_of slots) next run) (several : 1 ≤ run.more)
     (d : Slot) (from : ℕ) (size : from ≡ headers_size run) where
-  has : HasPayloads from run.payload (run_of (map packet_in slots) next run)
+  has : HasPayloads from run.payload (run_of (map packet_of slots) next run)
   has =
-      let ps : List Packet = map packet_in slots in
+      let ps : List Packet = map packet_of slots in
       subst (λ (z : ℕ). HasPayloads z run.payload (run_of ps next run)) (sym size)
       (have run.layout run.payload run.flags run.progress (packet_at ps run.first) (map (packet_at ps) (behind next run)) c.knows.is (omega (arith, c.knows.more, several)))
 
@@ -121,8 +121,8 @@ module _ (slots : List Slot) (next : List ℕ) (run : Run) (are : AreSlots slots
   run_in_head = in_head slots from run.first d are has.low all.0
 
   module _ (own : List ℕ) (begins : own ≡ drop from (buffer_bytes (get_or slots run.first d).skb)) where
-    pub run_is : payload_left own from slots next run.more (get_or next run.first 0) ≡ payloads_behind (headers_size run) (run_of (map packet_in slots) next run)
-    run_is = sym (first_is slots from run.first d are has.low all.0 own begins next run.more) ∙ ap (λ (z : ℕ). payloads_behind z (run_of (map packet_in slots) next run)) size
+    pub run_is : payload_left own from slots next run.more (get_or next run.first 0) ≡ payloads_behind (headers_size run) (run_of (map packet_of slots) next run)
+    run_is = sym (first_is slots from run.first d are has.low all.0 own begins next run.more) ∙ ap (λ (z : ℕ). payloads_behind z (run_of (map packet_of slots) next run)) size
 
     pub run_left : (left : ℕ) → left ≡ run.payload.len → IsPayloadLeft own from slots next run.more (get_or next run.first 0) left
     run_left left e = record {

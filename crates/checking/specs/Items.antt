@@ -9,7 +9,7 @@ use Rattle.gro.specs.declared.run.Run.{Run}
 use Rattle.gro.specs.declared.slot.Slot.{Slot}
 use Rattle.gro.specs.Chains.{run_of}
 use Rattle.gro.specs.Engine.{IsChain}
-use Rattle.gro.specs.Slots.{packet_in, AreSlots}
+use Rattle.gro.specs.Slots.{packet_of, AreHeld}
 use Rattle.lanes.specs.declared.lane.QueueLane.{QueueLane}
 use Rattle.lanes.specs.Lanes.{IsMerged}
 use Rattle.checking.specs.declared.totals.QueueTotals.{QueueTotals}
@@ -20,7 +20,7 @@ use Rattle.checking.specs.KeptFlows.{left_in}
 
 -- what a run of a list of packets comes to
 abbrev pub item_at : List Slot → List ℕ → Run → Merged
-item_at slots next run = merged_of (run_of (map packet_in slots) next run)
+item_at slots next run = merged_of (run_of (map packet_of slots) next run)
 
 -- what packets hold are bytes
 abbrev pub AreInBytes : List Slot → Type 0
@@ -28,9 +28,9 @@ AreInBytes slots = AllByRecursion (λ (s : Slot). AreBytes (buffer_bytes s.skb))
 
 -- a run of packets of a list, whose merged frame may be cut
 pub record IsToCompare (slots : List Slot) (next : List ℕ) (run : Run) : Type 0 where
-  pub are : AreSlots slots
+  pub are : AreHeld slots
   pub linked : length slots ≤ length next
-  pub is : IsChain (map packet_in slots) next run
+  pub is : IsChain (map packet_of slots) next run
   pub in_bytes : AreInBytes slots
 
 -- the packets that weren't compared, flow by flow

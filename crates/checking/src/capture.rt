@@ -9,7 +9,7 @@ ghost use Rattle.pcap_io.specs.Places.{IsReady, found_at};
 ghost use Rattle.pcap_io.specs.Readers.{place_of, source_of, SameLoan};
 ghost use Rattle.offload_model.specs.Captured.{IsCaptured};
 ghost use Rattle.offload_model.specs.Need.{round_need};
-ghost use Rattle.gro.specs.Held.{packet_of};
+ghost use Rattle.gro.specs.Slots.{packet_of};
 ghost use Rattle.checking.specs.Counts.{added, round_totals, totals_of, HasLanes, IsWithin};
 ghost use Rattle.checking.specs.Checking.{counting};
 ghost use Rattle.checking.specs.Tallies.{Tallies};
@@ -120,7 +120,7 @@ pub(crate) struct Counting;
 
 impl RoundHandler<Totals, CheckEnd> for Counting {
     ghost use Rattle.std.specs.Prelude.{◌≡◌, true, map};
-    ghost use Rattle.gro.specs.Held.{packet_of};
+    ghost use Rattle.gro.specs.Slots.{packet_of};
     ghost use Rattle.checking.specs.Counts.{round_totals, HasLanes};
     ghost use Rattle.checking.specs.Handling.{AreOf, CountsRound};
     ghost use Rattle.checking.specs.declared.capture.CheckEnd.TheVariants.{NoMemory};

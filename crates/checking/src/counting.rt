@@ -7,7 +7,7 @@ ghost use Rattle.offload_model.specs.Merged.{merged_of};
 ghost use Rattle.segment_rule.specs.Segmentations.{segments_at};
 ghost use Rattle.gro.specs.Engine.{KnowsSome, Knows};
 ghost use Rattle.gro.specs.Packets.{headers_size};
-ghost use Rattle.gro.specs.Slots.{packet_in, IsSlot};
+ghost use Rattle.gro.specs.Slots.{packet_of as packet_in, IsHeld};
 ghost use Rattle.taps.specs.Clones.{packet_of};
 ghost use Rattle.checking.specs.Returned.{packets_in, is_same as is_same_packet};
 ghost use Rattle.checking.specs.Chain.{IsChain, IsOwn, Counts};
@@ -25,7 +25,7 @@ use taps::TapClone;
 
 // How the merged frame of a run of several packets is cut. Its layout is the first packet's.
 fn cut_of(run: &Run, first: &Slot) -> Segmentation
-    requires slot { IsSlot first.now }
+    requires slot { IsHeld first.now }
     requires run { KnowsSome run.now (packet_in first.now) }
     requires several { 1 ≤ run.now.more }
     ensures cut { (rest : List Packet) → Knows run.now (packet_in first.now) rest

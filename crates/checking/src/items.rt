@@ -2,7 +2,7 @@
 ghost use Rattle.std.specs.Prelude.{◌≡◌, ◌+◌, ◌<◌, ◌≤◌, ◌^◌, length, map};
 ghost use Rattle.std.specs.List.{AllByRecursion};
 ghost use Rattle.gro.specs.Engine.{IsChain};
-ghost use Rattle.gro.specs.Slots.{packet_in, AreSlots};
+ghost use Rattle.gro.specs.Slots.{packet_of as packet_in, AreHeld};
 ghost use Rattle.taps.specs.Clones.{packet_of};
 ghost use Rattle.checking.specs.Counts.{queue_plus};
 ghost use Rattle.checking.specs.KeptFlows.{AreFlows, CountsIn};
@@ -73,7 +73,7 @@ pub(crate) fn check_items(
     kept: &[TapClone],
     flows: &mut KeptFlows,
 ) -> QueueTotals
-    requires slots { AreSlots packets.now }
+    requires slots { AreHeld packets.now }
     requires linked { length packets.now ≤ length next.now }
     requires runs { AllByRecursion (IsChain (map packet_in packets.now) next.now) runs.now }
     requires few { length runs.now ≤ 2 ^ 28 }

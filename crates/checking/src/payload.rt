@@ -4,7 +4,7 @@ ghost use Rattle.skb.specs.SkbState.{buffer_bytes};
 ghost use Rattle.gro.specs.Chains.{run_of};
 ghost use Rattle.gro.specs.Engine.{IsChain};
 ghost use Rattle.gro.specs.Packets.{headers_size, payloads_behind};
-ghost use Rattle.gro.specs.Slots.{packet_in, AreSlots};
+ghost use Rattle.gro.specs.Slots.{packet_of, AreHeld};
 
 use crate::bytes::Bytes;
 use gro::{Run, Slot};
@@ -65,12 +65,12 @@ impl<'a> Payload<'a> {
 
     /// The payloads of a run of several packets.
     pub(crate) fn of_run(packets: &'a [Slot], next: &'a [u32], run: &Run) -> Payload<'a>
-        requires slots { AreSlots packets.now }
+        requires slots { AreHeld packets.now }
         requires linked { length packets.now ≤ length next.now }
-        requires run { IsChain (map packet_in packets.now) next.now run.now }
+        requires run { IsChain (map packet_of packets.now) next.now run.now }
         requires several { 1 ≤ run.now.more }
         ensures all { result ≡ payloads_behind (headers_size run.now)
-            (run_of (map packet_in packets.now) next.now run.now) }
+            (run_of (map packet_of packets.now) next.now run.now) }
     {
         let first = run.first as usize;
         let from = run.headers_len();

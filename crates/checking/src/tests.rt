@@ -1,12 +1,12 @@
 //! The segments of a merged frame, compared with packets of which one has another byte or another length. The bytes
 //! come from a program that was written from the formats alone.
 ghost use Rattle.std.specs.Prelude.{◌≡◌};
-ghost use Rattle.gro.specs.Held.{IsHeld};
+ghost use Rattle.gro.specs.Slots.{IsHeld};
 
 use crate::items::check_items;
 use crate::kept_flows::KeptFlows;
 use frags::{Outcomes, Pieces};
-use gro::{Engine, Packet, Packets};
+use gro::{Engine, Packets, Slot};
 use raw_block::Sole;
 use skb::Skb;
 use std::alloc::Global;
@@ -23,7 +23,7 @@ fn buffer(rt: &impl Abort, alloc: Global, bytes: &[u8]) -> Skb {
 }
 
 // A packet of these bytes.
-fn packet(rt: &impl Abort, alloc: Global, bytes: &[u8], number: u32) -> Packet
+fn packet(rt: &impl Abort, alloc: Global, bytes: &[u8], number: u32) -> Slot
     ensures held { IsHeld result }
     ensures number { result.number ≡ number }
 {
@@ -31,12 +31,8 @@ fn packet(rt: &impl Abort, alloc: Global, bytes: &[u8], number: u32) -> Packet
     let len = skb.len();
     assert!(rt; len <= 262_144);
     assert!(rt; len.min(200) <= skb.head().len());
-    let spare1 = Sole::new(alloc).expect(rt, "block");
-    let spare2 = Sole::new(alloc).expect(rt, "block");
-    Packet {
+    Slot {
         skb,
-        spare1,
-        spare2,
         sec: 1,
         frac: 2,
         original: len as u32,

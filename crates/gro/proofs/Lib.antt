@@ -1,4 +1,3 @@
-mod Beside
 mod Chains
 mod Comes
 mod Emptying
@@ -18,4 +17,5 @@ mod Running
 mod Tables
 mod Taking
 pub mod Finishing
+pub mod Lying
 pub mod Payloads

@@ -11,7 +11,7 @@ use Rattle.gro.specs.declared.packet_list.PacketList.{PacketList}
 use Rattle.gro.specs.declared.run.Run.{Run}
 use Rattle.gro.specs.declared.engine.Engine.{Engine}
 use Rattle.gro.specs.Held.{packet_of, AreHeld, IsHeld, count_of, counts_of}
-use Rattle.gro.specs.Slots.{packet_in, AreSlots, with_spares, whole, held_of}
+use Rattle.gro.specs.Slots.{packet_of as packet_in, AreHeld as AreSlots, with_spares, whole, held_of}
 use Rattle.gro.specs.Chains.{behind, indices, packet_at, no_packet, run_of, index_sum, index_sums, sum_below, mark}
 use Rattle.gro.specs.Engine.{Knows, IsChain, runs_of, AreRuns}
 use Rattle.gro.specs.Index.{IsIndexOf, IsLatest}

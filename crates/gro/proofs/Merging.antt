@@ -7,14 +7,12 @@ use Rattle.std.proofs.lemmas.List.{map-append, get_or-map, length-map, length-se
 use Rattle.std.proofs.lemmas.Bool.{cases_eq, cases_Bool}
 use Rattle.maximal_runs.specs.Items.{begins_in, first_number}
 use Rattle.maximal_runs.proofs.Pass.{all_append}
-use Rattle.frame_layout.specs.Shape.{Layout}
 use Rattle.frame_layout.specs.Key.{key_eq, key_of}
-use Rattle.inet_sum.specs.Stands.{FoldAndLength}
 use Rattle.pcap_io.specs.Capture.{Packet}
 use Rattle.offload_model.specs.Mergeable.{IsMergeable, IsMergeableWithin}
 use Rattle.offload_model.specs.Rounds.{is_key, is_of, number_of}
 use Rattle.offload_model.proofs.Items.{is_key_self}
-use Rattle.merge_rule.specs.Runs.{IsJudged}
+use Rattle.merge_rule.specs.Runs.{IsNoCandidate}
 use Rattle.merge_rule.specs.Steps.{IsLastBelow, TakesPacket, KeepsEarly}
 use Rattle.merge_rule.proofs.Knows.{shut_by, no_first}
 use Rattle.merge_rule.proofs.Steps.{early_grows}
@@ -22,7 +20,7 @@ use Rattle.gro.specs.declared.run.Run.{Run}
 use Rattle.gro.specs.declared.flows.Flows.{Flows}
 use Rattle.gro.specs.declared.engine.Engine.{Engine}
 use Rattle.gro.specs.declared.slot.Slot.{Slot}
-use Rattle.gro.specs.Slots.{packet_in}
+use Rattle.gro.specs.Slots.{packet_of}
 use Rattle.gro.specs.Flows.{place_of, AreFlows, Puts, HasRoom}
 use Rattle.gro.specs.Index.{IsShut, IsIndexOf, IsLatest}
 use Rattle.gro.specs.Chains.{chain_of, behind, indices, last_in, packet_at, run_of, index_sum, index_sums, sum_below, AreSharedOut, mark}
@@ -420,15 +418,14 @@ module _ (segs : ℕ) (ps : List Packet) (i : ℕ) (a b : Engine) (item : Run) (
       (subst (IsLatest (place_of b.flows) (runs_of ps a ++ ((x ∷ []) ∷ []))) (sym last) tt)
 
 -- a packet that is no candidate is followed by none
-pub alone_shut : (p : Packet) (found : Option Layout) (sum : FoldAndLength) (bits : ℕ)
-    → IsJudged p.frame p.original found sum bits → found ≡ None → IsShut (p ∷ [])
-alone_shut p found sum bits j e = λ x m. no_first p x [] (subst (λ z. IsJudged p.frame p.original z sum bits) e j) m
+pub alone_shut : (p : Packet) → IsNoCandidate p.frame p.original → IsShut (p ∷ [])
+alone_shut p j = λ x m. no_first p x [] j m
 
 -- ---- packets in their list
 
 -- a packet of the list is the one at its index
-pub slot_at : (xs : List Slot) (k : ℕ) (p : Slot) → k < length xs → p ≡ get_or xs k p → packet_at (map packet_in xs) k ≡ packet_in p
-slot_at xs k p h e = get_or-map packet_in xs k p (packet_at [] 0) h ∙ ap packet_in (sym e)
+pub slot_at : (xs : List Slot) (k : ℕ) (p : Slot) → k < length xs → p ≡ get_or xs k p → packet_at (map packet_of xs) k ≡ packet_of p
+slot_at xs k p h e = get_or-map packet_of xs k p (packet_at [] 0) h ∙ ap packet_of (sym e)
 
 -- a run that is found is one of them
 pub found_inside : (ps : List Packet) (a : Engine) (key : Option (List ℕ)) (place : ℕ) → IsIndexOf (place_of a.flows) (runs_of ps a) → place_of a.flows key ≡ Some place

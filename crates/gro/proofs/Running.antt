@@ -14,7 +14,7 @@ use Rattle.merge_rule.proofs.Merge.{few}
 use Rattle.skb.specs.SkbState.{SkbState, head_bytes, head_size, buffer_bytes}
 use Rattle.gro.specs.declared.slot.Slot.{Slot}
 use Rattle.gro.specs.declared.run.Run.{Run}
-use Rattle.gro.specs.Slots.{packet_in, IsSlot}
+use Rattle.gro.specs.Slots.{packet_of, IsHeld}
 use Rattle.gro.specs.Engine.{Knows}
 
 -- a buffer begins with its head
@@ -25,7 +25,7 @@ head_of s head n e l = record {
 }
 
 -- headers of at most 200 bytes that the packet has lie in its head
-pub in_head : (p : Slot) (at n : ℕ) → IsSlot p → at ≤ 200 → at ≤ length (buffer_bytes p.skb) → n ≡ head_size p.skb → at ≤ n
+pub in_head : (p : Slot) (at n : ℕ) → IsHeld p → at ≤ 200 → at ≤ length (buffer_bytes p.skb) → n ≡ head_size p.skb → at ≤ n
 in_head p at n h low within long = omega (arith, h.front, h.size, low, within, long)
 
 -- a run is short
@@ -36,15 +36,15 @@ few_by (Some layout) sum bits state p rest r = omega (arith, few p rest layout s
 pub few_more : (item : Run) (p : Packet) (rest : List Packet) → Knows item p rest → item.more ≤ 262069
 few_more item p rest k = omega (arith, k.more, few_by item.layout item.payload item.flags item.progress p rest k.is)
 
-module _ (item : Run) (first : Slot) (rest : List Packet) (layout : Layout) (is : item.layout ≡ Some layout) (own : Knows item (packet_in first) rest) (slot : IsSlot first) where
-  pub known : IsRunOf layout item.payload item.flags item.progress (packet_in first) (packet_in first ∷ rest)
-  known = run_some item.layout item.payload item.flags item.progress (packet_in first) (packet_in first ∷ rest) layout own.is is
+module _ (item : Run) (first : Slot) (rest : List Packet) (layout : Layout) (is : item.layout ≡ Some layout) (own : Knows item (packet_of first) rest) (slot : IsHeld first) where
+  pub known : IsRunOf layout item.payload item.flags item.progress (packet_of first) (packet_of first ∷ rest)
+  known = run_some item.layout item.payload item.flags item.progress (packet_of first) (packet_of first ∷ rest) layout own.is is
 
   pub placed : IsPlaced layout
   placed = placed_by (buffer_bytes first.skb) layout known.shape
 
   pub sums : (layout.payload_at ≤ item.progress.total) × (item.progress.total ≤ layout.payload_at + 262070) × (layout.payload_at ≤ 200)
-  sums = bounded (packet_in first) rest layout item.payload item.flags item.progress known
+  sums = bounded (packet_of first) rest layout item.payload item.flags item.progress known
 
   pub first_in_head : (n : ℕ) → n ≡ head_size first.skb → layout.payload_at ≤ n
   first_in_head n e = in_head first layout.payload_at n slot sums.2 (within (buffer_bytes first.skb) layout known.shape) e

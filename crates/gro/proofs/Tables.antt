@@ -15,7 +15,7 @@ use Rattle.gro.specs.declared.packet_list.PacketList.{PacketList}
 use Rattle.gro.specs.declared.run.Run.{Run}
 use Rattle.gro.specs.declared.engine.Engine.{Engine}
 use Rattle.gro.specs.Held.{packet_of, IsHeld, count_of, counts_of}
-use Rattle.gro.specs.Slots.{packet_in, IsSlot, AreSlots, slot_of, spares_of, whole, held_of, HasSlots}
+use Rattle.gro.specs.Slots.{packet_of as packet_in, IsHeld as IsSlot, AreHeld as AreSlots, slot_of, spares_of, whole, held_of, HasSlots}
 use Rattle.gro.specs.Chains.{packet_at, no_packet, run_of}
 use Rattle.gro.specs.Engine.{runs_of, AreRuns, HasPlaces, IsReady, Takes}
 use Rattle.gro.specs.Totals.{total, totals}

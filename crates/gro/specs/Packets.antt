@@ -1,6 +1,6 @@
 -- What a contract sees of packets in a list, where they stay, and of the runs that they are in.
-use Rattle.std.specs.Prelude.{ℕ, ◌≡◌, ◌+◌, ◌-◌, ◌*◌, Bool, false, Option, Some, None, Result, List, length, drop, set}
-use Rattle.std.specs.Prelude.{slice_index_or, min, vec_len, vec_capacity, MatchResult, IfOk}
+use Rattle.std.specs.Prelude.{ℕ, ◌≡◌, ◌+◌, ◌*◌, Bool, false, Option, Some, None, Result, List, length, drop, set}
+use Rattle.std.specs.Prelude.{slice_index_or, MatchResult, IfOk}
 use Rattle.std.specs.List.{flat_map}
 use Rattle.ref_core.specs.WeightRule.{full_weight}
 use Rattle.pcap_io.specs.Capture.{Packet}
@@ -8,22 +8,17 @@ use Rattle.frags.specs.Account.{Tests, KeepsMarks, every}
 use Rattle.frags.specs.declared.pieces.ShareFault.{ShareFault}
 use Rattle.frame_layout.specs.Shape.{Layout}
 use Rattle.skb.specs.SkbState.{SkbState, buffer_bytes, is_sole, of_buffer, IsClone}
-use Rattle.gro.specs.declared.packet.Packet.{Packet as Held}
-use Rattle.gro.specs.declared.packet_list.PacketList.{PacketList}
+use Rattle.gro.specs.declared.slot.Slot.{Slot}
 use Rattle.gro.specs.declared.run.Run.{Run}
 
 -- the packets in the order in which they came, and for how many more there is room
 pub record PacketsState : Type 0 where
-  pub items : List Held
+  pub items : List Slot
   pub room : ℕ
-
--- for how many more packets a list has room
-abbrev pub room_of : PacketList → ℕ
-room_of l = min (vec_capacity l.slots - vec_len l.slots) (vec_capacity l.spares - vec_len l.spares)
 
 -- ---- a packet's buffer is cloned where it lies
 
-abbrev pub with_skb : Held → SkbState → Held
+abbrev pub with_skb : Slot → SkbState → Slot
 with_skb p s = record p { skb = s }
 
 -- the answer of a buffer's clone, and what the buffer is then
@@ -41,8 +36,8 @@ pub record Cloned (a b : SkbState) (result : Result SkbState ShareFault) : Type 
       (λ _. KeepsMarks (of_buffer a) (of_buffer b))
 
 -- of packets that one, at index i, and no other
-abbrev pub ClonedAt : ℕ → List Held → List Held → Result SkbState ShareFault → Type 0
-ClonedAt i ps qs result = (d : Held) → (s : SkbState) × (Cloned (slice_index_or ps i d).skb s result
+abbrev pub ClonedAt : ℕ → List Slot → List Slot → Result SkbState ShareFault → Type 0
+ClonedAt i ps qs result = (d : Slot) → (s : SkbState) × (Cloned (slice_index_or ps i d).skb s result
     × (qs ≡ set ps i (with_skb (slice_index_or ps i d) s)))
 
 -- ---- what a run of several packets comes to, as they lie

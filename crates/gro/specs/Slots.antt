@@ -1,19 +1,23 @@
--- Packets in a list, where they stay, with their spares in a list beside.
-use Rattle.std.specs.Prelude.{ℕ, ◌≡◌, ◌+◌, ◌<◌, ◌≤◌, List, [], ◌∷◌, length, map, vec_len, vec_capacity}
+-- Packets in a list, where they stay, and what they hold; and with their spares, where these lie in a list beside.
+use Rattle.std.specs.Prelude.{ℕ, ◌≡◌, ◌+◌, ◌<◌, ◌≤◌, List, [], ◌∷◌, length, map, vec_len, vec_capacity, false}
 use Rattle.std.specs.List.{AllByRecursion}
 use Rattle.pcap_io.specs.Limits.{most_frame}
 use Rattle.pcap_io.specs.Capture.{Packet}
-use Rattle.skb.specs.SkbState.{buffer_bytes, buffer_size}
+use Rattle.frags.specs.Account.{Account, both}
+use Rattle.frags.specs.declared.holder.Holder.{Holder}
+use Rattle.skb.specs.SkbState.{buffer_bytes, buffer_size, buffer_least, is_sole, of_buffer, IsAlone}
+use Rattle.skb.specs.SkbState.{IsLent}
 use Rattle.skb.specs.Fronts.{IsFronted}
 use Rattle.gro.specs.declared.packet.Packet.{Packet as Held}
 use Rattle.gro.specs.declared.slot.Slot.{Slot}
 use Rattle.gro.specs.declared.packet_list.Spares.{Spares}
 use Rattle.gro.specs.declared.packet_list.PacketList.{PacketList}
 use Rattle.gro.specs.Chains.{packet_at}
+use Rattle.gro.specs.Held.{of_nothing}
 
 -- a packet, without where its bytes lie
-abbrev pub packet_in : Slot → Packet
-packet_in s = record {
+abbrev pub packet_of : Slot → Packet
+packet_of s = record {
   number = s.number;
   sec = s.sec;
   frac = s.frac;
@@ -23,17 +27,53 @@ packet_in s = record {
 }
 
 -- what is known of a packet in a slot
-pub record IsSlot (s : Slot) : Type 0 where
+pub record IsHeld (s : Slot) : Type 0 where
   pub size : buffer_size s.skb ≡ length (buffer_bytes s.skb)
   pub front : IsFronted s.skb
   pub short : length (buffer_bytes s.skb) ≤ most_frame
 
-abbrev pub AreSlots : List Slot → Type 0
-AreSlots slots = AllByRecursion IsSlot slots
+abbrev pub AreHeld : List Slot → Type 0
+AreHeld slots = AllByRecursion IsHeld slots
+
+-- the blocks and parts that packets hold
+abbrev pub count_of : Slot → ℕ
+count_of s = length s.skb.rest + 1
+
+abbrev pub counts_of : List Slot → ℕ
+counts_of [] = 0
+counts_of (s ∷ ss) = count_of s + counts_of ss
+
+abbrev pub of_packet : Slot → Account
+of_packet s = of_buffer s.skb
+
+abbrev pub of_packets : List Slot → Account
+of_packets [] = of_nothing
+of_packets (s ∷ ss) = both (of_packet s) (of_packets ss)
+
+-- nobody else holds a block of theirs
+abbrev pub AreAlone : List Slot → Type 0
+AreAlone slots = AllByRecursion (λ (s : Slot). IsAlone s.skb) slots
+
+-- each head is a part beside others
+abbrev pub AreShared : List Slot → Type 0
+AreShared slots = AllByRecursion (λ (s : Slot). is_sole s.skb.head ≡ false) slots
+
+-- no part of the packets weighs less than w
+abbrev pub WeighAtLeast : ℕ → List Slot → Type 0
+WeighAtLeast w slots = AllByRecursion (λ (s : Slot). w ≤ buffer_least s.skb) slots
+
+abbrev pub with_head : Slot → Holder → Slot
+with_head s h = record s { skb = record s.skb { head = h } }
+
+-- the same packets, but that a head that was a Sole is a part of all its block's weight, whose life begins there
+abbrev pub AreLent : List Slot → List Slot → Type 0
+AreLent [] qs = qs ≡ []
+AreLent (s ∷ ss) qs = (h : Holder) × ((rs : List Slot)
+    × (IsLent s.skb.head h × (qs ≡ with_head s h ∷ rs) × AreLent ss rs))
 
 -- the packet in this slot is that of index i
 abbrev pub IsHere : List Slot → ℕ → Slot → Type 0
-IsHere slots i slot = (i < length slots) × (packet_at (map packet_in slots) i ≡ packet_in slot)
+IsHere slots i slot = (i < length slots) × (packet_at (map packet_of slots) i ≡ packet_of slot)
 
 -- a packet with its spares
 abbrev pub with_spares : Slot → Spares → Held

@@ -16,7 +16,7 @@ use Rattle.gro.specs.declared.packet_list.PacketList.{PacketList}
 use Rattle.gro.specs.declared.engine.Engine.{Engine}
 use Rattle.gro.specs.Held.{packet_of, of_packets, of_nothing, counts_of, AreLentFrom}
 use Rattle.gro.specs.Items.{item_of, item_count, of_item, IsItemOf}
-use Rattle.gro.specs.Slots.{packet_in, held_of, HasSlots}
+use Rattle.gro.specs.Slots.{packet_of as packet_in, held_of, HasSlots}
 use Rattle.gro.specs.Engine.{runs_of, HasPlaces}
 use Rattle.gro.specs.Waiting.{AreTogether}
 use Rattle.gro.specs.Totals.{AreSame}

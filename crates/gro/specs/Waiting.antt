@@ -6,7 +6,7 @@ use Rattle.gro.specs.declared.packet_list.PacketList.{PacketList}
 use Rattle.gro.specs.declared.run.Run.{Run}
 use Rattle.gro.specs.declared.engine.Engine.{Engine}
 use Rattle.gro.specs.Held.{packet_of, AreHeld}
-use Rattle.gro.specs.Slots.{packet_in, AreSlots, held_of, ArePaired}
+use Rattle.gro.specs.Slots.{packet_of as packet_in, AreHeld as AreSlots, held_of, ArePaired}
 use Rattle.gro.specs.Chains.{indices, index_sum, mark, AreDistinct}
 use Rattle.gro.specs.Engine.{Knows, AreRuns}
 

@@ -7,15 +7,15 @@ ghost use Rattle.maximal_runs.specs.Items.{begins_in};
 ghost use Rattle.frame_layout.specs.Key.{key_of};
 ghost use Rattle.offload_model.specs.Mergeable.{IsMergeable, IsMergeableWithin};
 ghost use Rattle.offload_model.specs.Rounds.{is_of, runs_in};
-ghost use Rattle.merge_rule.specs.Runs.{IsJudged};
+ghost use Rattle.merge_rule.specs.Runs.{IsJudged, IsNoCandidate};
 ghost use Rattle.skb.specs.SkbState.{buffer_bytes};
-ghost use Rattle.gro.specs.Slots.{packet_in, IsSlot, AreSlots, IsHere};
+ghost use Rattle.gro.specs.Slots.{packet_of, IsHeld, AreHeld, IsHere};
 ghost use Rattle.gro.specs.Flows.{place_of, AreFlows, Puts, HasRoom};
 ghost use Rattle.gro.specs.Engine.{IsChain, runs_of, AreRuns, HasPlaces, Grows, Takes, DoRise, IsReady};
 
 use crate::candidacy::{flow_key, judge};
 use crate::flows::Flows;
-use crate::run::Run;
+use crate::run::{Run, progress_of};
 use crate::slot::Slot;
 use frame_layout::Key;
 use merge_rule::Candidacy;
@@ -41,7 +41,7 @@ fn open_at(place: usize, is_open: bool) -> Option<usize>
 fn settle(flows: &mut Flows, slot: &Slot, candidacy: &Candidacy, is_open: bool)
     requires flows { AreFlows flows.old }
     requires places { HasRoom flows.old 1 }
-    requires slot { IsSlot slot.now }
+    requires slot { IsHeld slot.now }
     requires judged { IsJudged (buffer_bytes slot.now.skb) slot.now.original candidacy.now.layout
         candidacy.now.payload candidacy.now.flags }
     ensures flows { AreFlows flows.new }
@@ -118,16 +118,16 @@ impl Engine {
         place: usize,
         candidacy: &Candidacy,
     ) -> bool
-        requires runs { AreRuns (map packet_in packets.now) i self.old }
-        requires slots { AreSlots packets.now }
+        requires runs { AreRuns (map packet_of packets.now) i self.old }
+        requires slots { AreHeld packets.now }
         requires here { IsHere packets.now i slot.now }
-        requires slot { IsSlot slot.now }
+        requires slot { IsHeld slot.now }
         requires judged { IsJudged (buffer_bytes slot.now.skb) slot.now.original candidacy.now.layout
             candidacy.now.payload candidacy.now.flags }
         requires inside { place < length self.old.runs.items }
-        requires mergeable { IsMergeable (slice_index_or (runs_of (map packet_in packets.now) self.old) place []
-            ++ (packet_in slot.now ∷ [])) }
-        ensures grows { Grows (map packet_in packets.now) i place result self.old self.new }
+        requires mergeable { IsMergeable (slice_index_or (runs_of (map packet_of packets.now) self.old) place []
+            ++ (packet_of slot.now ∷ [])) }
+        ensures grows { Grows (map packet_of packets.now) i place result self.old self.new }
     {
         let run = &mut self.runs[place];
         let before = run.last;
@@ -139,22 +139,22 @@ impl Engine {
 
     /// A packet of a flow of which no run is found: it opens one.
     fn begin(&mut self, packets: &[Slot], i: u32, slot: &Slot, key: Key, candidacy: Candidacy)
-        requires runs { AreRuns (map packet_in packets.now) i self.old }
+        requires runs { AreRuns (map packet_of packets.now) i self.old }
         requires places { HasPlaces self.old 1 }
         requires here { IsHere packets.now i slot.now }
-        requires slot { IsSlot slot.now }
+        requires slot { IsHeld slot.now }
         requires judged { IsJudged (buffer_bytes slot.now.skb) slot.now.original candidacy.layout candidacy.payload
             candidacy.flags }
         requires key { key_of (buffer_bytes slot.now.skb) ≡ key }
         requires none { place_of self.old.flows key ≡ None }
-        ensures takes { (segs : ℕ) → Takes segs (map packet_in packets.now) i self.old self.new }
+        ensures takes { (segs : ℕ) → Takes segs (map packet_of packets.now) i self.old self.new }
     {
-        let run = Run::open(i, slot, candidacy);
+        let progress = progress_of(slot, &candidacy);
         let place = self.runs.len();
-        let is_open = run.progress.is_open;
+        let is_open = progress.is_open;
         self.flows.begin(key, place, is_open);
         self.last = open_at(place, is_open);
-        self.runs.push_reserved(run);
+        self.runs.push_reserved(Run::open(i, candidacy, progress));
     }
 
     /// A packet that its flow's run at `found` doesn't take: it opens the next one.
@@ -167,43 +167,39 @@ impl Engine {
         found: usize,
         candidacy: Candidacy,
     )
-        requires runs { AreRuns (map packet_in packets.now) i self.old }
+        requires runs { AreRuns (map packet_of packets.now) i self.old }
         requires places { HasPlaces self.old 1 }
         requires here { IsHere packets.now i slot.now }
-        requires slot { IsSlot slot.now }
+        requires slot { IsHeld slot.now }
         requires judged { IsJudged (buffer_bytes slot.now.skb) slot.now.original candidacy.layout candidacy.payload
             candidacy.flags }
         requires key { key_of (buffer_bytes slot.now.skb) ≡ key }
         requires place { place_of self.old.flows key ≡ Some found }
         ensures takes { (segs : ℕ) → (IsMergeableWithin segs
-            (slice_index_or (runs_of (map packet_in packets.now) self.old) found []
-            ++ (packet_in slot.now ∷ [])) → ⊥)
-            → Takes segs (map packet_in packets.now) i self.old self.new }
+            (slice_index_or (runs_of (map packet_of packets.now) self.old) found []
+            ++ (packet_of slot.now ∷ [])) → ⊥)
+            → Takes segs (map packet_of packets.now) i self.old self.new }
     {
-        let run = Run::open(i, slot, candidacy);
-        let is_open = run.progress.is_open;
+        let progress = progress_of(slot, &candidacy);
+        let is_open = progress.is_open;
         let place = self.runs.len();
         let last = open_at(place, is_open);
         self.flows.put(key, last);
         self.last = last;
-        self.runs.push_reserved(run);
+        self.runs.push_reserved(Run::open(i, candidacy, progress));
     }
 
     /// A packet that may not be merged, of a flow of which no run is found: it opens a run, which no other joins.
-    fn stand_alone(&mut self, packets: &[Slot], i: u32, slot: &Slot, candidacy: Candidacy)
-        requires runs { AreRuns (map packet_in packets.now) i self.old }
+    fn stand_alone(&mut self, packets: &[Slot], i: u32, slot: &Slot)
+        requires runs { AreRuns (map packet_of packets.now) i self.old }
         requires places { HasPlaces self.old 1 }
         requires here { IsHere packets.now i slot.now }
-        requires slot { IsSlot slot.now }
-        requires judged { IsJudged (buffer_bytes slot.now.skb) slot.now.original candidacy.layout candidacy.payload
-            candidacy.flags }
+        requires alone { IsNoCandidate (buffer_bytes slot.now.skb) slot.now.original }
         requires none { place_of self.old.flows (key_of (buffer_bytes slot.now.skb)) ≡ None }
-        requires alone { candidacy.layout ≡ None }
-        ensures takes { (segs : ℕ) → Takes segs (map packet_in packets.now) i self.old self.new }
+        ensures takes { (segs : ℕ) → Takes segs (map packet_of packets.now) i self.old self.new }
     {
-        let run = Run::open(i, slot, candidacy);
         self.last = None;
-        self.runs.push_reserved(run);
+        self.runs.push_reserved(Run::alone(i));
     }
 
     /// A packet that its flow's run at `found` takes.
@@ -216,21 +212,21 @@ impl Engine {
         found: usize,
         candidacy: &Candidacy,
     )
-        requires runs { AreRuns (map packet_in packets.now) i self.old }
+        requires runs { AreRuns (map packet_of packets.now) i self.old }
         requires places { HasPlaces self.old 1 }
-        requires slots { AreSlots packets.now }
+        requires slots { AreHeld packets.now }
         requires here { IsHere packets.now i slot.now }
-        requires slot { IsSlot slot.now }
+        requires slot { IsHeld slot.now }
         requires judged { IsJudged (buffer_bytes slot.now.skb) slot.now.original candidacy.now.layout
             candidacy.now.payload candidacy.now.flags }
         requires key { key_of (buffer_bytes slot.now.skb) ≡ key }
         requires place { place_of self.old.flows key ≡ Some found }
-        requires mergeable { IsMergeable (slice_index_or (runs_of (map packet_in packets.now) self.old) found []
-            ++ (packet_in slot.now ∷ [])) }
+        requires mergeable { IsMergeable (slice_index_or (runs_of (map packet_of packets.now) self.old) found []
+            ++ (packet_of slot.now ∷ [])) }
         ensures takes { (segs : ℕ) → IsMergeableWithin segs
-            (slice_index_or (runs_of (map packet_in packets.now) self.old) found []
-            ++ (packet_in slot.now ∷ []))
-            → Takes segs (map packet_in packets.now) i self.old self.new }
+            (slice_index_or (runs_of (map packet_of packets.now) self.old) found []
+            ++ (packet_of slot.now ∷ []))
+            → Takes segs (map packet_of packets.now) i self.old self.new }
     {
         let is_open = self.link(packets, i, slot, found, candidacy);
         self.flows.keep(key, found, is_open);
@@ -239,20 +235,20 @@ impl Engine {
 
     /// A packet that the last packet's run takes. Its key isn't asked for, but where the run ends with it.
     fn extend(&mut self, packets: &[Slot], i: u32, slot: &Slot, place: usize, candidacy: &Candidacy)
-        requires runs { AreRuns (map packet_in packets.now) i self.old }
+        requires runs { AreRuns (map packet_of packets.now) i self.old }
         requires places { HasPlaces self.old 1 }
-        requires slots { AreSlots packets.now }
+        requires slots { AreHeld packets.now }
         requires here { IsHere packets.now i slot.now }
-        requires slot { IsSlot slot.now }
+        requires slot { IsHeld slot.now }
         requires judged { IsJudged (buffer_bytes slot.now.skb) slot.now.original candidacy.now.layout
             candidacy.now.payload candidacy.now.flags }
         requires inside { place < length self.old.runs.items }
         requires found { place_of self.old.flows (key_of (buffer_bytes slot.now.skb)) ≡ Some place }
-        requires mergeable { IsMergeable (slice_index_or (runs_of (map packet_in packets.now) self.old) place []
-            ++ (packet_in slot.now ∷ [])) }
+        requires mergeable { IsMergeable (slice_index_or (runs_of (map packet_of packets.now) self.old) place []
+            ++ (packet_of slot.now ∷ [])) }
         ensures takes { (segs : ℕ) → IsMergeableWithin segs
-            (slice_index_or (runs_of (map packet_in packets.now) self.old) place [] ++ (packet_in slot.now ∷ []))
-            → Takes segs (map packet_in packets.now) i self.old self.new }
+            (slice_index_or (runs_of (map packet_of packets.now) self.old) place [] ++ (packet_of slot.now ∷ []))
+            → Takes segs (map packet_of packets.now) i self.old self.new }
     {
         let is_open = self.link(packets, i, slot, place, candidacy);
         settle(&mut self.flows, slot, candidacy, is_open);
@@ -268,16 +264,16 @@ impl Engine {
         candidacy: &Candidacy,
         segs: u32,
     ) -> bool
-        requires each { AllByRecursion (IsChain (map packet_in packets.now) self.now.next.items) self.now.runs.items }
-        requires slots { AreSlots packets.now }
+        requires each { AllByRecursion (IsChain (map packet_of packets.now) self.now.next.items) self.now.runs.items }
+        requires slots { AreHeld packets.now }
         requires inside { place < length self.now.runs.items }
-        requires slot { IsSlot slot.now }
+        requires slot { IsHeld slot.now }
         requires judged { IsJudged (buffer_bytes slot.now.skb) slot.now.original candidacy.now.layout
             candidacy.now.payload candidacy.now.flags }
         ensures takes { Decides result (IsMergeableWithin segs
-            (slice_index_or (runs_of (map packet_in packets.now) self.now) place [] ++ (packet_in slot.now ∷ []))) }
+            (slice_index_or (runs_of (map packet_of packets.now) self.now) place [] ++ (packet_of slot.now ∷ []))) }
         ensures flow { IsTrue result → begins_in (is_of (key_of (buffer_bytes slot.now.skb)))
-            (slice_index_or (runs_of (map packet_in packets.now) self.now) place []) ≡ true }
+            (slice_index_or (runs_of (map packet_of packets.now) self.now) place []) ≡ true }
     {
         let run = &self.runs[place];
         run.takes_within(&packets[run.first as usize], slot, candidacy, segs)
@@ -291,26 +287,18 @@ impl Engine {
         candidacy.layout.is_none() && self.flows.is_empty()
     }
 
-    /// A packet of the flow with this key: its flow's run takes it, or it opens one.
-    fn place(
-        &mut self,
-        packets: &[Slot],
-        i: u32,
-        slot: &Slot,
-        key: Key,
-        candidacy: Candidacy,
-        segs: u32,
-    )
-        requires runs { AreRuns (map packet_in packets.now) i self.old }
+    /// A packet that the last packet's run doesn't take: its flow's run takes it, or it opens one.
+    fn place(&mut self, packets: &[Slot], i: u32, slot: &Slot, candidacy: Candidacy, segs: u32)
+        requires runs { AreRuns (map packet_of packets.now) i self.old }
         requires places { HasPlaces self.old 1 }
-        requires slots { AreSlots packets.now }
+        requires slots { AreHeld packets.now }
         requires here { IsHere packets.now i slot.now }
-        requires slot { IsSlot slot.now }
+        requires slot { IsHeld slot.now }
         requires judged { IsJudged (buffer_bytes slot.now.skb) slot.now.original candidacy.layout candidacy.payload
             candidacy.flags }
-        requires key { key_of (buffer_bytes slot.now.skb) ≡ key }
-        ensures takes { Takes segs (map packet_in packets.now) i self.old self.new }
+        ensures takes { Takes segs (map packet_of packets.now) i self.old self.new }
     {
+        let key = flow_key(&slot.skb, &candidacy);
         let Some(found) = self.flows.find(&key) else {
             return self.begin(packets, i, slot, key, candidacy);
         };
@@ -320,32 +308,14 @@ impl Engine {
         self.follow(packets, i, slot, key, found, candidacy);
     }
 
-    /// A packet that the last packet's run doesn't take.
-    fn find_place(&mut self, packets: &[Slot], i: u32, slot: &Slot, candidacy: Candidacy, segs: u32)
-        requires runs { AreRuns (map packet_in packets.now) i self.old }
-        requires places { HasPlaces self.old 1 }
-        requires slots { AreSlots packets.now }
-        requires here { IsHere packets.now i slot.now }
-        requires slot { IsSlot slot.now }
-        requires judged { IsJudged (buffer_bytes slot.now.skb) slot.now.original candidacy.layout candidacy.payload
-            candidacy.flags }
-        ensures takes { Takes segs (map packet_in packets.now) i self.old self.new }
-    {
-        if self.is_apart(&candidacy) {
-            return self.stand_alone(packets, i, slot, candidacy);
-        }
-        let key = flow_key(&slot.skb, &candidacy);
-        self.place(packets, i, slot, key, candidacy, segs);
-    }
-
     /// Packet i of a list of which the first i were received, in runs of at most `segs`: the last run of its flow takes
     /// it, or it opens the next one. It takes no memory and can't fail.
     pub fn receive(&mut self, packets: &[Slot], i: u32, segs: u32)
-        requires runs { AreRuns (map packet_in packets.now) i self.old }
+        requires runs { AreRuns (map packet_of packets.now) i self.old }
         requires places { HasPlaces self.old 1 }
-        requires slots { AreSlots packets.now }
+        requires slots { AreHeld packets.now }
         requires inside { i < length packets.now }
-        ensures takes { Takes segs (map packet_in packets.now) i self.old self.new }
+        ensures takes { Takes segs (map packet_of packets.now) i self.old self.new }
     {
         let slot = &packets[i as usize];
         let candidacy = judge(&slot.skb, slot.original);
@@ -354,18 +324,21 @@ impl Engine {
                 return self.extend(packets, i, slot, place, &candidacy);
             }
         }
-        self.find_place(packets, i, slot, candidacy, segs);
+        if self.is_apart(&candidacy) {
+            return self.stand_alone(packets, i, slot);
+        }
+        self.place(packets, i, slot, candidacy, segs);
     }
 
     /// All packets of a list, whose numbers rise, in runs of at most `segs`, by an engine that has no runs yet. It
     /// takes no memory and can't fail.
     pub fn merge(&mut self, packets: &[Slot], segs: u32)
         requires ready { IsReady self.old (length packets.now) }
-        requires slots { AreSlots packets.now }
-        requires rising { DoRise (map packet_in packets.now) }
+        requires slots { AreHeld packets.now }
+        requires rising { DoRise (map packet_of packets.now) }
         requires few { length packets.now < 2 ^ 32 }
-        ensures runs { runs_of (map packet_in packets.now) self.new ≡ runs_in segs (map packet_in packets.now) }
-        ensures are { AreRuns (map packet_in packets.now) (length packets.now) self.new }
+        ensures runs { runs_of (map packet_of packets.now) self.new ≡ runs_in segs (map packet_of packets.now) }
+        ensures are { AreRuns (map packet_of packets.now) (length packets.now) self.new }
     {
         for i in 0..packets.len() {
             self.receive(packets, i as u32, segs);

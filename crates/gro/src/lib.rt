@@ -36,14 +36,14 @@
 //!   its original length.
 //! - `frame` of `put_headers`: the headers of the merged frame, behind which come the payloads of all, as they lie.
 //!
-//! [`Packets`] is a list whose packets stay where they were read, each in its slot, with their spares beside: a round
-//! of packets is one, is merged, written and compared as it lies, and goes home from there. Proved:
+//! [`Packets`] is a list whose packets stay where they were read, each in its slot, without spares: a round of packets
+//! is one, is merged, written and compared as it lies, and goes home from there. Proved:
 //!
 //! - `items` of `push` and `reverse`, `some` of `pop`: which packets it has, and in which order; `slots`: an engine
 //!   reads just these; `room`: how many more it may take.
 //! - `cloned` of `clone_at`: one packet's buffer is cloned as `Skb::clone` says, and all else stays as it was.
-//! - `kept`, `grows` and `places` of `release_all`: all that the packets hold is given back, in places that were
-//!   reserved before.
+//! - `lent` of `share_heads`: each head that was a Sole is a part of all its block's weight, and all else stays as it
+//!   was; `packets`: so no byte changes.
 //!
 //! A [`RoundTable`] owns packets too, which it moves into items. It receives them one after the other, and finishes
 //! into their items. Proved, by the names of its clauses, whatever the packets are:
@@ -88,14 +88,16 @@
 //! Its parts: `candidacy` (a packet judged by its head and its payload's sum), `flows` (the open run of each flow,
 //! under `frame_layout`'s `Key`), `slot` (a packet in a list), `run` (a run by index, and whether it takes one more
 //! packet), `engine` (the runs of a list, in the order of their first packets, and how they are linked), `merged_run`
-//! (what a run comes to, as its packets lie); `packet_list` (slots, with the packets' spares beside), `packets` (such a
-//! list, whose packets stay), `table` (`RoundTable`); `places` (the lists that items need, made before anything moves),
+//! (what a run comes to, as its packets lie); `packets` (a list whose packets stay); `packet_list` (slots, with the
+//! packets' spares beside), `table` (`RoundTable`); `places` (the lists that items need, made before anything moves),
 //! `waiting` (packets as runs take them out of the list), `build` (the join into one buffer), `item` (what a table's
 //! run comes to), `shelf` (memory that serves items to come). `specs/Chains.antt` says what a chain of indices is,
 //! `specs/Engine.antt` what is known of an engine and what one more packet does, `specs/Index.antt` what is found of a
-//! flow, `specs/Packets.antt` what a contract sees of packets in a list, `specs/Waiting.antt` which packets are taken,
-//! `specs/Table.antt` what a contract sees of a table, `specs/Items.antt` what an item holds. `proofs/Payloads.antt`
-//! has the laws that a reader of a run's payloads needs.
+//! flow, `specs/Slots.antt` what is known of packets in a list and what they hold, `specs/Held.antt` the same of
+//! packets with spares, `specs/Packets.antt` what a contract sees of a list, `specs/Waiting.antt` which packets are
+//! taken, `specs/Table.antt` what a contract sees of a table, `specs/Items.antt` what an item holds.
+//! `proofs/Payloads.antt` has the laws that a reader of a run's payloads needs, `proofs/Lying.antt` those of packets
+//! whose heads are shared or whose blocks nobody else holds.
 //!
 //! Tests: `merge_tests`, modules `merging` and `home`.
 //!
@@ -119,6 +121,9 @@
 //! - **The list is an argument of the engine's calls**, and what is known of an engine names it (`AreRuns`): a packet
 //!   is read where it lies, by whoever owns it. In a list that grows by one packet the others are read as before
 //!   (`are_more` of `gro`).
+//! - **A list has no spares**: runs that are written as they lie want no blocks, and who joins some has spares of its
+//!   own (`RoundTable`). A head that is a Sole stays one: a part is given back by an atomic step and its block comes
+//!   home by an outcome, so `share_heads` is a call of its own, for who clones.
 //! - **All places are made before the first packet moves**: for a packet that is alone room for its two spares, for a
 //!   run a list of pieces, one for each head and piece, and room for what is given back, three places for each packet:
 //!   two spares, and a head that the merged head has used up. So building items takes no memory, and a refusal leaves

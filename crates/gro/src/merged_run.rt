@@ -9,7 +9,7 @@ ghost use Rattle.offload_model.specs.Frames.{merged_frame};
 ghost use Rattle.offload_model.specs.Mergeable.{IsLengthInRange};
 ghost use Rattle.offload_model.specs.Merged.{merged_of};
 ghost use Rattle.offload_model.specs.Written.{head_of};
-ghost use Rattle.gro.specs.Slots.{packet_in, IsSlot};
+ghost use Rattle.gro.specs.Slots.{packet_of, IsHeld};
 ghost use Rattle.gro.specs.Engine.{Knows, KnowsSome};
 ghost use Rattle.gro.specs.Packets.{headers_size, payloads_behind};
 
@@ -48,10 +48,10 @@ pub(crate) fn fill_headers(
 impl Run {
     /// The offload header that the record of the run has where it is one of this queue. `first` is its first packet.
     pub fn head(&self, queue: u8, first: &Slot) -> OffHead2
-        requires slot { IsSlot first.now }
-        requires run { KnowsSome self.now (packet_in first.now) }
-        ensures head { (rest : List Packet) → Knows self.now (packet_in first.now) rest
-            → result ≡ head_of queue (merged_of (packet_in first.now ∷ rest)) }
+        requires slot { IsHeld first.now }
+        requires run { KnowsSome self.now (packet_of first.now) }
+        ensures head { (rest : List Packet) → Knows self.now (packet_of first.now) rest
+            → result ≡ head_of queue (merged_of (packet_of first.now ∷ rest)) }
     {
         if self.more == 0 {
             return OffHead2 {
@@ -88,13 +88,13 @@ impl Run {
 
     /// The headers of the merged frame, of a run of several packets: behind them come the payloads of all, as they lie.
     pub fn put_headers(&self, first: &Slot, headers: &mut [u8])
-        requires slot { IsSlot first.now }
-        requires run { KnowsSome self.now (packet_in first.now) }
+        requires slot { IsHeld first.now }
+        requires run { KnowsSome self.now (packet_of first.now) }
         requires several { 1 ≤ self.now.more }
         requires size { length headers.old ≡ headers_size self.now }
-        ensures frame { (rest : List Packet) → Knows self.now (packet_in first.now) rest
-            → headers.new ++ payloads_behind (headers_size self.now) (packet_in first.now ∷ rest)
-            ≡ (merged_of (packet_in first.now ∷ rest)).packet.frame }
+        ensures frame { (rest : List Packet) → Knows self.now (packet_of first.now) rest
+            → headers.new ++ payloads_behind (headers_size self.now) (packet_of first.now ∷ rest)
+            ≡ (merged_of (packet_of first.now ∷ rest)).packet.frame }
         ensures size { length headers.new ≡ length headers.old }
     {
         let Some(layout) = &self.layout else {
@@ -105,10 +105,10 @@ impl Run {
 
     /// How many bytes the frame has that the run comes to. `first` is its first packet.
     pub fn frame_len(&self, first: &Slot) -> u32
-        requires slot { IsSlot first.now }
-        requires run { KnowsSome self.now (packet_in first.now) }
-        ensures len { (rest : List Packet) → Knows self.now (packet_in first.now) rest
-            → result ≡ length (merged_of (packet_in first.now ∷ rest)).packet.frame }
+        requires slot { IsHeld first.now }
+        requires run { KnowsSome self.now (packet_of first.now) }
+        ensures len { (rest : List Packet) → Knows self.now (packet_of first.now) rest
+            → result ≡ length (merged_of (packet_of first.now ∷ rest)).packet.frame }
         ensures few { result ≤ most_frame }
     {
         if self.more == 0 {
@@ -120,10 +120,10 @@ impl Run {
 
     /// The frame's original length, in bytes: its own where several packets are merged.
     pub fn original(&self, first: &Slot) -> u32
-        requires slot { IsSlot first.now }
-        requires run { KnowsSome self.now (packet_in first.now) }
-        ensures original { (rest : List Packet) → Knows self.now (packet_in first.now) rest
-            → result ≡ (merged_of (packet_in first.now ∷ rest)).packet.original }
+        requires slot { IsHeld first.now }
+        requires run { KnowsSome self.now (packet_of first.now) }
+        ensures original { (rest : List Packet) → Knows self.now (packet_of first.now) rest
+            → result ≡ (merged_of (packet_of first.now ∷ rest)).packet.original }
     {
         if self.more == 0 {
             first.original

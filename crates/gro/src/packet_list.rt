@@ -4,7 +4,6 @@ ghost use Rattle.std.specs.VecDeque.{deque_len, deque_capacity};
 ghost use Rattle.frags.specs.Account.{Keeps, both, of_outcomes};
 ghost use Rattle.frags.specs.Growth.{Grows};
 ghost use Rattle.gro.specs.Held.{of_packets, counts_of};
-ghost use Rattle.gro.specs.Packets.{room_of};
 ghost use Rattle.gro.specs.Slots.{slot_of, spares_of, held_of, ArePaired, HasSlots};
 ghost use Rattle.gro.specs.Waiting.{lined_up};
 
@@ -98,10 +97,8 @@ impl PacketList {
         ensures paired { ArePaired self.new }
         ensures some { IfSome result (λ p. held_of self.old ≡ held_of self.new ++ (p ∷ [])) }
         ensures fewer { IfSome result (λ p. length self.new.slots.items + 1 ≡ length self.old.slots.items) }
-        ensures room { IfSome result (λ _. room_of self.old + 1 ≤ room_of self.new) }
         ensures none { IfNone result ((self.old.slots.items ≡ []) × (self.new.slots.items ≡ [])
             × (self.new.spares.items ≡ [])) }
-        ensures same { IfNone result (room_of self.new ≡ room_of self.old) }
     {
         let slot = self.slots.pop()?;
         let Some(spares) = self.spares.pop() else {

@@ -4,9 +4,9 @@ ghost use Rattle.std.specs.Bool.{Decides};
 ghost use Rattle.frame_layout.specs.Key.{key_of};
 ghost use Rattle.pcap_io.specs.Capture.{Packet};
 ghost use Rattle.offload_model.specs.Mergeable.{IsMergeable, IsMergeableWithin};
-ghost use Rattle.merge_rule.specs.Runs.{IsJudged, IsFirstProgress, IsNextProgress};
+ghost use Rattle.merge_rule.specs.Runs.{IsJudged, IsNoCandidate, IsFirstProgress, IsNextProgress};
 ghost use Rattle.skb.specs.SkbState.{buffer_bytes};
-ghost use Rattle.gro.specs.Slots.{packet_in, IsSlot};
+ghost use Rattle.gro.specs.Slots.{packet_of, IsHeld};
 ghost use Rattle.gro.specs.Engine.{Knows, KnowsSome, TakesOne};
 
 use crate::slot::Slot;
@@ -29,10 +29,10 @@ pub struct Run {
 }
 
 /// What a run of one packet has come to.
-fn progress_of(first: &Slot, candidacy: &Candidacy) -> Progress
+pub(crate) fn progress_of(first: &Slot, candidacy: &Candidacy) -> Progress
     requires judged { IsJudged (buffer_bytes first.now.skb) first.now.original candidacy.now.layout
         candidacy.now.payload candidacy.now.flags }
-    requires slot { IsSlot first.now }
+    requires slot { IsHeld first.now }
     ensures progress { IsFirstProgress candidacy.now.layout (buffer_bytes first.now.skb) result }
 {
     let len = first.skb.len();
@@ -47,15 +47,14 @@ fn progress_of(first: &Slot, candidacy: &Candidacy) -> Progress
 }
 
 impl Run {
-    /// The run of one packet, that of this index.
-    pub(crate) fn open(index: u32, first: &Slot, candidacy: Candidacy) -> Run
-        requires judged { IsJudged (buffer_bytes first.now.skb) first.now.original candidacy.layout candidacy.payload
-            candidacy.flags }
-        requires slot { IsSlot first.now }
-        ensures knows { Knows result (packet_in first.now) [] }
+    /// The run of one packet, that of this index, which has come to `progress`.
+    pub(crate) fn open(index: u32, candidacy: Candidacy, progress: Progress) -> Run
+        ensures knows { (p : Packet)
+            → IsJudged p.frame p.original candidacy.layout candidacy.payload candidacy.flags
+            → IsFirstProgress candidacy.layout p.frame progress → Knows result p [] }
         ensures indices { (result.first ≡ index) × (result.last ≡ index) × (result.more ≡ 0) }
+        ensures progress { result.progress ≡ progress }
     {
-        let progress = progress_of(first, &candidacy);
         Run {
             first: index,
             last: index,
@@ -67,15 +66,35 @@ impl Run {
         }
     }
 
+    /// The run of one packet that may not be merged, that of this index. Nothing of its candidacy is wanted.
+    pub(crate) fn alone(index: u32) -> Run
+        ensures knows { (p : Packet) → IsNoCandidate p.frame p.original → Knows result p [] }
+        ensures indices { (result.first ≡ index) × (result.last ≡ index) × (result.more ≡ 0) }
+    {
+        Run {
+            first: index,
+            last: index,
+            more: 0,
+            layout: None,
+            payload: Partial::new(),
+            flags: 0,
+            progress: Progress {
+                is_open: false,
+                total: 0,
+                modes: 0,
+            },
+        }
+    }
+
     /// Whether the run, whose first packet is `first`, takes one more. If so, that is of the run's flow.
     pub(crate) fn takes(&self, first: &Slot, next: &Slot, candidacy: &Candidacy) -> bool
-        requires knows { KnowsSome self.now (packet_in first.now) }
-        requires slot { IsSlot first.now }
+        requires knows { KnowsSome self.now (packet_of first.now) }
+        requires slot { IsHeld first.now }
         requires judged { IsJudged (buffer_bytes next.now.skb) next.now.original candidacy.now.layout
             candidacy.now.payload candidacy.now.flags }
-        requires next { IsSlot next.now }
-        ensures takes { (rest : List Packet) → Knows self.now (packet_in first.now) rest
-            → Decides result (IsMergeable ((packet_in first.now ∷ rest) ++ (packet_in next.now ∷ []))) }
+        requires next { IsHeld next.now }
+        ensures takes { (rest : List Packet) → Knows self.now (packet_of first.now) rest
+            → Decides result (IsMergeable ((packet_of first.now ∷ rest) ++ (packet_of next.now ∷ []))) }
         ensures flow { IsTrue result → key_of (buffer_bytes next.now.skb) ≡ key_of (buffer_bytes first.now.skb) }
     {
         if !self.progress.is_open {
@@ -108,13 +127,13 @@ impl Run {
         candidacy: &Candidacy,
         segs: u32,
     ) -> bool
-        requires knows { KnowsSome self.now (packet_in first.now) }
-        requires slot { IsSlot first.now }
+        requires knows { KnowsSome self.now (packet_of first.now) }
+        requires slot { IsHeld first.now }
         requires judged { IsJudged (buffer_bytes next.now.skb) next.now.original candidacy.now.layout
             candidacy.now.payload candidacy.now.flags }
-        requires next { IsSlot next.now }
-        ensures takes { (rest : List Packet) → Knows self.now (packet_in first.now) rest
-            → Decides result (IsMergeableWithin segs ((packet_in first.now ∷ rest) ++ (packet_in next.now ∷ []))) }
+        requires next { IsHeld next.now }
+        ensures takes { (rest : List Packet) → Knows self.now (packet_of first.now) rest
+            → Decides result (IsMergeableWithin segs ((packet_of first.now ∷ rest) ++ (packet_of next.now ∷ []))) }
         ensures flow { IsTrue result → key_of (buffer_bytes next.now.skb) ≡ key_of (buffer_bytes first.now.skb) }
     {
         if self.more as usize + 2 > segs as usize {
@@ -125,9 +144,9 @@ impl Run {
 
     /// What the run comes to with one more packet.
     fn progress_with(&self, first: &Slot, next: &Slot) -> Progress
-        requires takes { TakesOne self.now (packet_in first.now) (packet_in next.now) }
-        requires slot { IsSlot first.now }
-        requires next { IsSlot next.now }
+        requires takes { TakesOne self.now (packet_of first.now) (packet_of next.now) }
+        requires slot { IsHeld first.now }
+        requires next { IsHeld next.now }
         ensures progress { IsNextProgress self.now.layout (buffer_bytes first.now.skb) self.now.more
             (buffer_bytes next.now.skb) self.now.progress result }
     {
@@ -149,14 +168,14 @@ impl Run {
 
     /// One more packet, which the run takes: that of this index.
     pub(crate) fn add(&mut self, first: &Slot, index: u32, next: &Slot, candidacy: &Candidacy)
-        requires takes { TakesOne self.old (packet_in first.now) (packet_in next.now) }
-        requires slot { IsSlot first.now }
+        requires takes { TakesOne self.old (packet_of first.now) (packet_of next.now) }
+        requires slot { IsHeld first.now }
         requires judged { IsJudged (buffer_bytes next.now.skb) next.now.original candidacy.now.layout
             candidacy.now.payload candidacy.now.flags }
-        requires next { IsSlot next.now }
-        ensures knows { (rest : List Packet) → Knows self.old (packet_in first.now) rest
-            → IsMergeable ((packet_in first.now ∷ rest) ++ (packet_in next.now ∷ []))
-            → Knows self.new (packet_in first.now) (rest ++ (packet_in next.now ∷ [])) }
+        requires next { IsHeld next.now }
+        ensures knows { (rest : List Packet) → Knows self.old (packet_of first.now) rest
+            → IsMergeable ((packet_of first.now ∷ rest) ++ (packet_of next.now ∷ []))
+            → Knows self.new (packet_of first.now) (rest ++ (packet_of next.now ∷ [])) }
         ensures indices { (self.new.first ≡ self.old.first) × (self.new.last ≡ index)
             × (self.new.more ≡ self.old.more + 1) }
     {

@@ -8,15 +8,14 @@ use Rattle.frags.specs.Account.{Account, Tests, Keeps, both, receipts_held, sole
 use Rattle.frags.specs.OutcomesState.{IsBare}
 use Rattle.frags.specs.declared.pieces.ShareFault.{ShareFault}
 use Rattle.skb.specs.SkbState.{SkbState, buffer_least, is_sole, of_buffer}
-use Rattle.gro.specs.declared.packet.Packet.{Packet as Held}
-use Rattle.gro.specs.Held.{of_nothing, packet_of, IsHeld, of_packet, of_packets, count_of, counts_of, AreHeld, AreShared, WeighAtLeast}
-use Rattle.gro.specs.declared.slot.Slot.{Slot}
+use Rattle.gro.specs.declared.slot.Slot.{Slot as Held}
+use Rattle.gro.specs.Held.{of_nothing}
+use Rattle.gro.specs.Slots.{packet_of, IsHeld, of_packet, of_packets, count_of, counts_of, AreHeld, AreShared, WeighAtLeast}
 use Rattle.gro.specs.Packets.{ClonedAt, with_skb}
-use Rattle.gro.specs.Slots.{slot_of}
 use Rattle.taps.specs.declared.clones.TapClone.{TapClone}
 use Rattle.taps.specs.Clones.{of_clones}
 use Rattle.lanes.specs.declared.lane.TapLane.{TapLane}
-use Rattle.lanes.specs.Clones.{weight_after, AreAfter, IsAfter}
+use Rattle.lanes.specs.Clones.{weight_after, AreAfter, AreSame, IsAfter}
 use Rattle.lanes.specs.Lanes.{of_tap, of_taps, IsIdleTap}
 use Rattle.lanes.proofs.Idle.{idle_tap}
 
@@ -34,6 +33,9 @@ after_both j k ps qs rs a b = record { same = b.same ∙ a.same; counts = b.coun
 
 pub after_later : (j k : ℕ) (ps qs : List Held) → j ≤ k → AreAfter j ps qs → AreAfter k ps qs
 after_later j k ps qs le a = record { same = a.same; counts = a.counts; held = a.held; shared = a.shared; weigh = weigh_less (weight_after k) (weight_after j) qs (omega (arith, le)) a.weigh }
+
+pub same_after : (k : ℕ) (ps qs : List Held) → AreAfter k ps qs → AreSame ps qs
+same_after k ps qs a = record { same = a.same; counts = a.counts; held = a.held }
 
 -- the same before any clone of a tap, of packets of which one clone may have been taken
 pub after_kept : (k : ℕ) (ps : List Held) → AreHeld ps → AreShared ps → WeighAtLeast full_weight ps → AreAfter k ps ps
@@ -178,15 +180,14 @@ cloned_size i ps qs r lt h =
     let cloned = h d in
     ap length cloned.1.1 ∙ length-set ps i (with_skb (get_or ps i d) cloned.0)
 
-slots_here : (i : ℕ) (ps : List Held) (s : Slot) → i < length (map slot_of ps) → s ≡ get_or (map slot_of ps) i s → counts_of (drop i ps) ≡ (length s.skb.rest + 3) + counts_of (drop (suc i) ps)
+slots_here : (i : ℕ) (ps : List Held) (s : Held) → i < length ps → s ≡ get_or ps i s → counts_of (drop i ps) ≡ count_of s + counts_of (drop (suc i) ps)
 slots_here i [] s lt e = absurd (omega (arith, lt))
-slots_here zero (p ∷ ps) s lt e = omega (arith, ap (λ (z : Slot). length z.skb.rest) e)
+slots_here zero (p ∷ ps) s lt e = omega (arith, ap count_of e)
 slots_here (suc i) (p ∷ ps) s lt e = slots_here i ps s (omega (arith, lt)) e
 
 -- the packets from place i on, by the list of their slots: this one, and the others
-pub slots_from : (i : ℕ) (ps : List Held) (slots : List Slot) (s : Slot) → i < length slots → slots ≡ map slot_of ps → s ≡ get_or slots i s
-    → counts_of (drop i ps) ≡ (length s.skb.rest + 3) + counts_of (drop (i + 1) ps)
-slots_from i ps slots s lt are is = slots_here i ps s (subst (λ z. i < length z) are lt) (is ∙ ap (λ z. get_or z i s) are) ∙ ap (λ z. (length s.skb.rest + 3) + counts_of (drop z ps)) (next i)
+pub slots_from : (i : ℕ) (ps slots : List Held) (s : Held) → i < length slots → slots ≡ ps → s ≡ get_or slots i s → counts_of (drop i ps) ≡ count_of s + counts_of (drop (i + 1) ps)
+slots_from i ps slots s lt are is = slots_here i ps s (subst (λ (z : List Held). i < length z) are lt) (is ∙ ap (λ (z : List Held). get_or z i s) are) ∙ ap (λ z. count_of s + counts_of (drop z ps)) (next i)
   where
     next : (i : ℕ) → suc i ≡ i + 1
     next i = omega arith

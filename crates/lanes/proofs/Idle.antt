@@ -2,7 +2,7 @@
 use Rattle.std.proofs.Common.{◌≡◌, ℕ, zero, suc, List, [], ◌∷◌, refl, ap, arith}
 use Rattle.std.specs.Prelude.{All}
 use Rattle.frags.specs.Account.{Tests, receipts_held, soles_home}
-use Rattle.gro.specs.Held.{of_packets, counts_of}
+use Rattle.gro.specs.Slots.{of_packets, counts_of}
 use Rattle.taps.specs.Clones.{blocks_of, of_clones}
 use Rattle.lanes.specs.declared.lane.QueueLane.{QueueLane}
 use Rattle.lanes.specs.declared.lane.TapLane.{TapLane}

@@ -1,22 +1,23 @@
 -- Packets that go to their queues.
 use Rattle.std.proofs.Common.{◌⊎◌, inl, inr, Option, append-nil}
-use Rattle.std.proofs.Common.{◌≡◌, ℕ, zero, suc, ◌+◌, ◌<◌, ◌≤◌, Bool, true, false, List, [], ◌∷◌, ◌++◌, map, length, get_or, set, refl, sym, ap, ◌∙◌, append_assoc, length-append, arith}
+use Rattle.std.proofs.Common.{◌≡◌, ℕ, zero, suc, ◌+◌, ◌<◌, ◌≤◌, Bool, true, false, List, [], ◌∷◌, ◌++◌, map, length, get_or, set, refl, sym, ap, ◌∙◌, subst, append_assoc, length-append, arith}
 use Rattle.std.specs.Prelude.{All, cond, reverse}
 use Rattle.std.specs.List.{filter, AllByRecursion}
 use Rattle.std.proofs.lemmas.List.{reverse-append, reverse-reverse}
 use Rattle.std.proofs.lemmas.Bool.{eq-eqb, ne_eqb}
 use Rattle.pcap_io.specs.Capture.{Packet}
 use Rattle.frame_layout.specs.Key.{key_of}
-use Rattle.offload_model.specs.Rounds.{Spread}
+use Rattle.offload_model.specs.Rounds.{Spread, is_queued}
 use Rattle.frags.specs.Account.{Tests, both}
-use Rattle.skb.specs.SkbState.{buffer_bytes}
-use Rattle.gro.specs.declared.packet.Packet.{Packet as Held}
-use Rattle.gro.specs.Held.{packet_of, of_packet, of_packets, count_of, counts_of}
+use Rattle.skb.specs.SkbState.{buffer_bytes, IsAlone}
+use Rattle.gro.specs.declared.slot.Slot.{Slot as Held}
+use Rattle.gro.specs.Slots.{packet_of, of_packet, of_packets, count_of, counts_of, AreAlone}
 use Rattle.lanes.specs.declared.lane.QueueLane.{QueueLane}
 use Rattle.lanes.specs.Lanes.{of_queue, of_queues, counts_of_queues, IsIdleQueue}
 use Rattle.lanes.specs.Packets.{RiseFrom}
 use Rattle.lanes.specs.Sharing.{EachFrom, EachStays, in_queue, IsSharing, IsSum, TakesAll, TakesIn, StaysAs}
-use Rattle.lanes.proofs.Listing.{DidUpTo, each_did}
+use Rattle.lanes.proofs.Listing.{DidUpTo, all_from, each_did}
+use Rattle.lanes.proofs.Returning.{all_front}
 
 -- ---- one packet of the rest
 
@@ -260,6 +261,17 @@ pub lane_few : (i : ℕ) (ls : List QueueLane) (d : QueueLane) → i < length ls
 lane_few i [] d lt = absurd (omega (arith, lt))
 lane_few zero (l ∷ ls) d lt = omega (arith, few_packets l.packets.items)
 lane_few (suc i) (l ∷ ls) d lt = omega (arith, lane_few i ls d (omega (arith, lt)))
+
+-- ---- packets of which nobody shares a block
+
+pub lanes_alone : (n : Spread) (every rest : List Held) (ls : List QueueLane) → AreAlone every → EachFrom (IsSharing n every rest) 0 ls → All (λ (l : QueueLane). AreAlone l.packets.items) ls
+lanes_alone n every rest ls alone h =
+    all_from (IsSharing n every rest) (λ (l : QueueLane). AreAlone l.packets.items) 0 ls
+    (λ q l s. all_front (λ (p : Held). IsAlone p.skb) l.packets.items (in_queue n q rest)
+    (subst AreAlone (sym s.packets) (filter_each (λ (p : Held). IsAlone p.skb) (λ (p : Held). is_queued n q (packet_of p)) every alone))) h
+
+pub idle_alone : (ls : List QueueLane) → All IsIdleQueue ls → All (λ (l : QueueLane). AreAlone l.packets.items) ls
+idle_alone ls idle i d lt = subst AreAlone (sym (idle i d lt).packets) tt
 
 -- ---- a list that is turned
 

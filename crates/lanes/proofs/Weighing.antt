@@ -1,6 +1,7 @@
 -- A packet's buffer after a clone was taken.
-use Rattle.std.proofs.Common.{◌≡◌, ℕ, zero, suc, ◌+◌, ◌-◌, ◌/◌, ◌<◌, ◌≤◌, false, List, [], ◌∷◌, map, length, get_or, set, refl, sym, ap, ◌∙◌, subst, arith}
+use Rattle.std.proofs.Common.{◌≡◌, ℕ, suc, ◌+◌, ◌-◌, ◌/◌, ◌<◌, ◌≤◌, false, List, [], ◌∷◌, map, length, get_or, set, refl, sym, ap, ◌∙◌, subst, arith}
 use Rattle.std.specs.Prelude.{Ok, Err}
+use Rattle.std.proofs.lemmas.List.{get_or-set_same}
 use Rattle.raw_block.specs.Views.{PartState}
 use Rattle.frags.specs.Account.{Keeps, both, every}
 use Rattle.frags.specs.Gifts.{gift, kept, worn}
@@ -12,11 +13,9 @@ use Rattle.frags.specs.declared.pieces.ShareFault.TheVariants.{Short, Worn, NoMe
 use Rattle.frags.specs.declared.holder.Holder.{Holder}
 use Rattle.frags.specs.declared.holder.Holder.TheVariants.{Sole, Part}
 use Rattle.skb.specs.SkbState.{SkbState, IsClone, buffer_bytes, buffer_least, buffer_size, head_least, head_worn, buffer_worn, is_sole, of_buffer}
-use Rattle.gro.specs.declared.packet.Packet.{Packet as Held}
-use Rattle.gro.specs.declared.slot.Slot.{Slot}
-use Rattle.gro.specs.Held.{packet_of, of_packet}
+use Rattle.gro.specs.declared.slot.Slot.{Slot as Held}
+use Rattle.gro.specs.Slots.{packet_of, of_packet}
 use Rattle.gro.specs.Packets.{Cloned, with_skb}
-use Rattle.gro.specs.Slots.{slot_of}
 use Rattle.taps.specs.declared.clones.TapClone.{TapClone}
 use Rattle.taps.specs.Clones.{packet_of as packet_of_clone}
 use Rattle.lanes.specs.Clones.{weight_after, IsAfter, IsCloneOf, IsNoMemory}
@@ -140,16 +139,11 @@ clone_keeps p b c shared h t m =
     let z = h.marks t.blocks m in
     (omega (arith, x), omega (arith, x, y, z))
 
--- the slot of the packet that was cloned
-set_slot : (i : ℕ) (ps : List Held) (q : Held) (d : Slot) → i < length ps → get_or (map slot_of (set ps i q)) i d ≡ slot_of q
-set_slot i [] q d lt = absurd (omega (arith, lt))
-set_slot zero (p ∷ ps) q d lt = refl
-set_slot (suc i) (p ∷ ps) q d lt = set_slot i ps q d (omega (arith, lt))
+-- the packet that was cloned, where it lies
+pub slot_there : (i : ℕ) (ps qs : List Held) (q : Held) (slots : List Held) (s : Held) → i < length ps → qs ≡ set ps i q → slots ≡ qs → s ≡ get_or slots i s → s ≡ q
+slot_there i ps qs q slots s lt e f g = g ∙ ap (λ (z : List Held). get_or z i s) (f ∙ e) ∙ get_or-set_same ps i q s lt
 
-pub slot_there : (i : ℕ) (ps qs : List Held) (q : Held) (slots : List Slot) (s : Slot) → i < length ps → qs ≡ set ps i q → slots ≡ map slot_of qs → s ≡ get_or slots i s → s ≡ slot_of q
-slot_there i ps qs q slots s lt e f g = g ∙ ap (λ z. get_or z i s) (f ∙ ap (map slot_of) e) ∙ set_slot i ps q s lt
-
-pub is_clone_of : (p : Held) (b : SkbState) (c : TapClone) (s : Slot) → is_sole p.skb.head ≡ false → Cloned p.skb b (Ok c.skb) → s ≡ slot_of (with_skb p b)
+pub is_clone_of : (p : Held) (b : SkbState) (c : TapClone) (s : Held) → is_sole p.skb.head ≡ false → Cloned p.skb b (Ok c.skb) → s ≡ with_skb p b
     → (c.sec ≡ s.sec) × (c.frac ≡ s.frac) × (c.original ≡ s.original) × (c.number ≡ s.number) → IsCloneOf p (with_skb p b) c
 is_clone_of p b c s shared h here same = record {
   same = same_packet (same.3 ∙ ap (λ z. z.number) here) (same.0 ∙ ap (λ z. z.sec) here) (same.1 ∙ ap (λ z. z.frac) here) (same.2 ∙ ap (λ z. z.original) here) h.bytes.1;

@@ -1,5 +1,5 @@
 -- All lanes of a round together.
-use Rattle.std.proofs.Common.{◌≡◌, ℕ, suc, ◌+◌, ◌≤◌, List, [], ◌∷◌, ◌++◌, map, length, refl, sym, ap, ◌∙◌, subst, arith}
+use Rattle.std.proofs.Common.{◌≡◌, ℕ, suc, ◌+◌, List, [], ◌∷◌, ◌++◌, map, length, refl, sym, ap, ◌∙◌, subst, arith}
 use Rattle.std.specs.Prelude.{All, IsSome, Some, Ok, Err, OnOk, MatchResult}
 use Rattle.std.specs.declared.result.Result.{Result}
 use Rattle.std.specs.List.{filter, flat_map, range_with_len}
@@ -10,19 +10,20 @@ use Rattle.std.specs.Prelude.{Option}
 use Rattle.offload_model.specs.Merged.{merged_of}
 use Rattle.offload_model.specs.Rounds.{Spread, is_queued, items_of}
 use Rattle.offload_model.specs.Written.{record_of, shown_of, round_records, windows_of, Options}
-use Rattle.gro.specs.declared.packet.Packet.{Packet as Held}
-use Rattle.gro.specs.Held.{packet_of, of_packets, counts_of}
+use Rattle.gro.specs.declared.slot.Slot.{Slot as Held}
+use Rattle.gro.specs.Slots.{packet_of, of_packets, counts_of, AreAlone}
 use Rattle.taps.specs.Texts.{texts_of}
 use Rattle.lanes.specs.declared.lane.QueueLane.{QueueLane}
 use Rattle.lanes.specs.declared.lane.TapLane.{TapLane}
 use Rattle.lanes.specs.declared.lane.Lanes.{Lanes}
 use Rattle.lanes.specs.declared.plan.Plan.{Plan}
-use Rattle.lanes.specs.Lanes.{of_queues, of_taps, of_lanes, counts_of_queues, AreIdle, EachTapDid, IsFilled, IsIdleQueue, IsMerged}
+use Rattle.lanes.specs.Lanes.{of_queues, of_taps, of_lanes, counts_of_queues, AreIdle, EachTapDid, IsFilled, IsIdleQueue, IsIdleTap, IsMerged}
 use Rattle.lanes.specs.Sharing.{EachFrom, IsSum}
-use Rattle.lanes.specs.Work.{spread_of, options_by, shown_by, AreFilled, Did, IsDone, IsRefused, IsToWork, IsWorked, IsWatched, AreMerged, AreWatched, merged_in, lane_records, records_of_tap}
+use Rattle.lanes.specs.Work.{spread_of, options_by, shown_by, AreFilled, AreUnshared, Did, IsDone, IsRefused, IsToWork, IsWorked, IsWatched, AreMerged, AreWatched, merged_in, lane_records, records_of_tap}
 use Rattle.lanes.proofs.Listing.{all_from, each_map, each_equal}
 use Rattle.lanes.proofs.Idle.{idle_lanes, idle_queues}
-use Rattle.lanes.proofs.Worked.{all_worked, all_watched, queues_count, queues_same, taps_kept, queue_records, tap_records}
+use Rattle.lanes.proofs.Sharing.{idle_alone}
+use Rattle.lanes.proofs.Worked.{all_worked, all_watched, queues_alone, queues_count, queues_same, taps_kept, queue_records, tap_records}
 
 -- ---- what is held while lanes are filled
 
@@ -40,6 +41,29 @@ fill_all p q r ls ts k s t m =
     let x = k t m in
     let z = s t m in
     (omega (arith, x.0, z.0), omega (arith, x.1, z.0, z.1))
+
+-- ---- where no tap is
+
+no_taps : (n : ℕ) (ts : List TapLane) → length ts ≡ n → n ≡ 0 → All IsIdleTap ts
+no_taps n ts e none i d lt = absurd (omega (arith, e, none, lt))
+
+-- nothing came to the lanes
+pub unshared_none : (plan : Plan) (ps : List Held) (l : Lanes) → AreIdle l → AreUnshared plan ps ps l
+unshared_none plan ps l idle = record { alone = λ none h. (h, idle_alone l.queues.items idle.0); idle = λ none. idle.1 }
+
+-- what came to them
+pub unshared_some : (plan : Plan) (old now : List Held) (l : Lanes) (ls : List QueueLane) (ts : List TapLane) → l.queues.items ≡ ls → l.taps.items ≡ ts → length ts ≡ plan.taps
+    → (plan.taps ≡ 0 → AreAlone old → AreAlone now × All (λ (m : QueueLane). AreAlone m.packets.items) ls) → AreUnshared plan old now l
+unshared_some plan old now l ls ts e f size h = record {
+  alone = λ none alone. let a = h none alone in (a.0, subst (All (λ (m : QueueLane). AreAlone m.packets.items)) (sym e) a.1);
+  idle = λ none. no_taps plan.taps l.taps.items (ap length f ∙ size) none;
+}
+
+unshared_did : (plan : Plan) (old : List Held) (l m : Lanes) → AreFilled plan old l → Did plan l m → AreUnshared plan old [] m
+unshared_did plan old l m f d = record {
+  alone = λ none h. (tt, queues_alone plan.segs l.queues.items m.queues.items d.sizes.0 d.queues (f.unshared.alone none h).1);
+  idle = λ none. no_taps plan.taps m.taps.items (d.sizes.1 ∙ f.sizes.1) none;
+}
 
 -- ---- what all lanes have done
 
@@ -104,8 +128,8 @@ keeps_lanes p plan l m k d t i =
 no_clones : (filter : Option (List Instr)) (snap : ℕ) (ls ms : List TapLane) → length ms ≡ length ls → EachTapDid filter snap ls ms → All (λ (t : TapLane). t.clones.items ≡ []) ms
 no_clones filter snap ls ms e h i d lt = (h i d (omega (arith, e, lt))).none
 
-fewer_lanes : (plan : Plan) (old : List Held) (l m : Lanes) → AreFilled plan old l → Did plan l m → counts_of_queues m.queues.items ≤ counts_of old
-fewer_lanes plan old l m f d = let n = queues_count plan.segs l.queues.items m.queues.items d.sizes.0 d.queues in omega (arith, f.count, n)
+same_lanes : (plan : Plan) (old : List Held) (l m : Lanes) → AreFilled plan old l → Did plan l m → counts_of_queues m.queues.items ≡ counts_of old
+same_lanes plan old l m f d = let n = queues_count plan.segs l.queues.items m.queues.items d.sizes.0 d.queues in omega (arith, f.count, n)
 
 pub is_done : (plan : Plan) (old : List Held) (l m : Lanes) → AreFilled plan old l → Did plan l m → All (λ (t : TapLane). IsSome t.texts) m.taps.items → IsDone plan old m
 is_done plan old l m f d read =
@@ -122,19 +146,21 @@ is_done plan old l m f d read =
       packets =
           each_map (IsWorked plan.segs (spread_of plan) ps) (λ q (l : QueueLane). map packet_of l.packets.items ≡ filter (is_queued (spread_of plan) q) ps) 0 m.queues.items (λ q l w. w.packets) qs;
       kept = keeps_lanes (of_packets old) plan l m f.kept d;
-      count = fewer_lanes plan old l m f d;
+      count = same_lanes plan old l m f d;
+      unshared = unshared_did plan old l m f d;
       clones = no_clones plan.filter plan.snap l.taps.items m.taps.items d.sizes.1 d.taps;
     }
 
-pub is_refused : (plan : Plan) (old : List Held) (l m : Lanes) → AreFilled plan old l → Did plan l m → IsRefused old [] m
+pub is_refused : (plan : Plan) (old : List Held) (l m : Lanes) → AreFilled plan old l → Did plan l m → IsRefused plan old [] m
 is_refused plan old l m f d = record {
   kept = λ t i. let x = keeps_lanes (of_packets old) plan l m f.kept d t i in (omega (arith, x.0), omega (arith, x.1));
-  count = omega (arith, fewer_lanes plan old l m f d);
+  count = omega (arith, same_lanes plan old l m f d);
+  unshared = unshared_did plan old l m f d;
   clones = no_clones plan.filter plan.snap l.taps.items m.taps.items d.sizes.1 d.taps;
 }
 
 -- whether all was done or not, nothing is lost
-pub kept_after : {E : Type 0} (r : Result (Unit {0}) E) (plan : Plan) (old now : List Held) (l : Lanes) → now ≡ [] → MatchResult r (λ _. IsDone plan old l) (λ _. IsRefused old [] l)
+pub kept_after : {E : Type 0} (r : Result (Unit {0}) E) (plan : Plan) (old now : List Held) (l : Lanes) → now ≡ [] → MatchResult r (λ _. IsDone plan old l) (λ _. IsRefused plan old [] l)
     → Keeps (of_packets old) (both (of_packets now) (of_lanes l))
 kept_after (Ok u) plan old now l none is = λ t m.
     let k = is.kept t m in
@@ -142,3 +168,13 @@ kept_after (Ok u) plan old now l none is = λ t m.
     let g = ap (λ (z : List Held). (of_packets z).homes t.blocks m) none in
     (omega (arith, k.0, h), omega (arith, k.1, h, g))
 kept_after (Err e) plan old now l none is = subst (λ (z : List Held). Keeps (of_packets old) (both (of_packets z) (of_lanes l))) (sym none) is.kept
+
+pub unshared_after : {E : Type 0} (r : Result (Unit {0}) E) (plan : Plan) (old now : List Held) (l : Lanes) → now ≡ [] → MatchResult r (λ _. IsDone plan old l) (λ _. IsRefused plan old [] l)
+    → AreUnshared plan old now l
+unshared_after (Ok u) plan old now l none is = subst (λ (z : List Held). AreUnshared plan old z l) (sym none) is.unshared
+unshared_after (Err e) plan old now l none is = subst (λ (z : List Held). AreUnshared plan old z l) (sym none) is.unshared
+
+pub count_after : {E : Type 0} (r : Result (Unit {0}) E) (plan : Plan) (old now : List Held) (l : Lanes) → now ≡ [] → MatchResult r (λ _. IsDone plan old l) (λ _. IsRefused plan old [] l)
+    → counts_of now + counts_of_queues l.queues.items ≡ counts_of old
+count_after (Ok u) plan old now l none is = omega (arith, ap counts_of none, is.count)
+count_after (Err e) plan old now l none is = omega (arith, ap counts_of none, is.count)

@@ -1,5 +1,5 @@
 -- Lanes whose work is done.
-use Rattle.std.proofs.Common.{◌≡◌, ℕ, zero, suc, ◌+◌, ◌≤◌, Bool, List, [], ◌∷◌, ◌++◌, map, length, refl, sym, ap, ◌∙◌, subst, append-nil, arith}
+use Rattle.std.proofs.Common.{◌≡◌, ℕ, zero, suc, ◌+◌, ◌<◌, ◌≤◌, Bool, List, [], ◌∷◌, ◌++◌, map, length, refl, sym, ap, ◌∙◌, subst, append-nil, arith}
 use Rattle.std.specs.Prelude.{Option, None, Some, IsSome, IfSome, All}
 use Rattle.std.specs.List.{filter, flat_map, range_with_len}
 use Rattle.pcap_io.specs.Capture.{Packet}
@@ -9,14 +9,14 @@ use Rattle.offload_model.specs.Merged.{Merged, merged_of}
 use Rattle.offload_model.specs.Rounds.{Spread, is_queued, items_of, runs_in}
 use Rattle.offload_model.specs.Segments.{with_head}
 use Rattle.offload_model.specs.Written.{head_of, record_of, shown_of, windows_of}
-use Rattle.gro.specs.declared.packet.Packet.{Packet as Held}
-use Rattle.gro.specs.Held.{packet_of, counts_of, IsHeld, AreHeld}
+use Rattle.gro.specs.declared.slot.Slot.{Slot as Held}
+use Rattle.gro.specs.Slots.{packet_of, counts_of, IsHeld, AreAlone, AreHeld}
 use Rattle.taps.specs.Clones.{packet_of as packet_of_clone, shown_packet}
 use Rattle.taps.specs.declared.clones.TapClone.{TapClone}
 use Rattle.taps.specs.Texts.{texts_of, record_of_text}
 use Rattle.lanes.specs.declared.lane.QueueLane.{QueueLane}
 use Rattle.lanes.specs.declared.lane.TapLane.{TapLane}
-use Rattle.lanes.specs.Clones.{AreAfter}
+use Rattle.lanes.specs.Clones.{AreSame}
 use Rattle.lanes.specs.Lanes.{of_queues, of_taps, counts_of_queues, DidQueue, DidTap, EachQueueDid, EachTapDid}
 use Rattle.lanes.specs.Packets.{RiseFrom}
 use Rattle.lanes.specs.Sharing.{EachFrom, EachStays, HasMemory, IsSharing}
@@ -34,7 +34,7 @@ if_done C Q k (x ∷ xs) h a = (h.0 (a zero x (omega arith)), if_done C Q (suc k
 
 -- ---- what is to do
 
-to_work : (n : Spread) (old now : List Held) (q : ℕ) (l : QueueLane) → AreAfter 9 old now → RiseFrom 0 (map packet_of old) → counts_of old ≤ 65536
+to_work : (n : Spread) (old now : List Held) (q : ℕ) (l : QueueLane) → AreSame old now → RiseFrom 0 (map packet_of old) → counts_of old ≤ 65536
     → IsSharing n now [] q l → HasMemory l → IsToWork n (map packet_of old) q l
 to_work n old now q l a rise few h memory =
     let f : Held → Bool = λ (p : Held). is_queued n q (packet_of p) in
@@ -52,7 +52,7 @@ to_work n old now q l a rise few h memory =
       };
     }
 
-pub all_to_work : (n : Spread) (old now : List Held) (ls : List QueueLane) → AreAfter 9 old now → RiseFrom 0 (map packet_of old) → counts_of old ≤ 65536
+pub all_to_work : (n : Spread) (old now : List Held) (ls : List QueueLane) → AreSame old now → RiseFrom 0 (map packet_of old) → counts_of old ≤ 65536
     → EachFrom (IsSharing n now []) 0 ls → All HasMemory ls → EachFrom (IsToWork n (map packet_of old)) 0 ls
 all_to_work n old now ls a rise few h memory =
     if_done HasMemory (IsToWork n (map packet_of old)) 0 ls (each_map (IsSharing n now []) (λ q l. HasMemory l → IsToWork n (map packet_of old) q l) 0 ls
@@ -117,6 +117,13 @@ queues_same segs ls ms e h = same_hold ls ms e (each_stays segs ls ms h)
 
 pub queues_count : (segs : ℕ) (ls ms : List QueueLane) → length ms ≡ length ls → EachQueueDid segs ls ms → counts_of_queues ms ≡ counts_of_queues ls
 queues_count segs ls ms e h = same_counts ls ms e (each_stays segs ls ms h)
+
+-- where nobody shared a block of theirs, nobody does
+pub queues_alone : (segs : ℕ) (ls ms : List QueueLane) → length ms ≡ length ls → EachQueueDid segs ls ms → All (λ (l : QueueLane). AreAlone l.packets.items) ls
+    → All (λ (m : QueueLane). AreAlone m.packets.items) ms
+queues_alone segs ls ms e h a i d lt =
+    let n : i < length ls = omega (arith, e, lt) in
+    subst (λ z. AreAlone z.items) (sym (h i d n).packets) (a i d n)
 
 pub taps_kept : (filter : Option (List Instr)) (snap : ℕ) (ls ms : List TapLane) → length ms ≡ length ls → EachTapDid filter snap ls ms → Keeps (of_taps ls) (of_taps ms)
 taps_kept filter snap [] [] e h t i = (omega arith, omega arith)

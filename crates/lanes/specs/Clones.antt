@@ -7,8 +7,8 @@ use Rattle.frags.specs.Account.{Keeps, both}
 use Rattle.frags.specs.declared.pieces.ShareFault.{ShareFault}
 use Rattle.frags.specs.declared.pieces.ShareFault.TheVariants.{NoMemory}
 use Rattle.skb.specs.SkbState.{buffer_least, is_sole, of_buffer}
-use Rattle.gro.specs.declared.packet.Packet.{Packet as Held}
-use Rattle.gro.specs.Held.{packet_of, of_packet, count_of, counts_of, IsHeld, AreHeld, AreShared, WeighAtLeast}
+use Rattle.gro.specs.declared.slot.Slot.{Slot as Held}
+use Rattle.gro.specs.Slots.{packet_of, of_packet, count_of, counts_of, IsHeld, AreHeld, AreShared, WeighAtLeast}
 use Rattle.taps.specs.declared.clones.TapClone.{TapClone}
 use Rattle.taps.specs.Clones.{packet_of as packet_of_clone}
 
@@ -51,3 +51,9 @@ pub record AreAfter (k : ℕ) (ps qs : List Held) : Type 0 where
   pub held : AreHeld qs
   pub shared : AreShared qs
   pub weigh : WeighAtLeast (weight_after k) qs
+
+-- the same packets, whether clones were taken of them or not
+pub record AreSame (ps qs : List Held) : Type 0 where
+  pub same : map packet_of qs ≡ map packet_of ps
+  pub counts : counts_of qs ≡ counts_of ps
+  pub held : AreHeld qs

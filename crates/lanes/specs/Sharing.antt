@@ -3,9 +3,9 @@ use Rattle.std.specs.Prelude.{ℕ, suc, ◌≡◌, ◌+◌, ◌<◌, List, [], �
 use Rattle.std.specs.List.{filter}
 use Rattle.frags.specs.Account.{Account, Tests}
 use Rattle.offload_model.specs.Rounds.{Spread, is_queued}
-use Rattle.gro.specs.declared.packet.Packet.{Packet as Held}
+use Rattle.gro.specs.declared.slot.Slot.{Slot as Held}
 use Rattle.gro.specs.Engine.{IsReady}
-use Rattle.gro.specs.Held.{packet_of}
+use Rattle.gro.specs.Slots.{packet_of}
 use Rattle.lanes.specs.declared.lane.QueueLane.{QueueLane}
 
 -- each element has a property, which may depend on its place; the first one is at k

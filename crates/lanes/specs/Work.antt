@@ -8,15 +8,15 @@ use Rattle.offload_model.specs.Rounds.{Spread, is_queued, items_of}
 use Rattle.frame_layout.specs.Choice.{IsChoice, spread_by}
 use Rattle.offload_model.specs.Segments.{with_head}
 use Rattle.offload_model.specs.Written.{Options, head_of, shown_of, windows_of, round_records}
-use Rattle.gro.specs.declared.packet.Packet.{Packet as Held}
-use Rattle.gro.specs.Held.{packet_of, of_packets, counts_of}
+use Rattle.gro.specs.declared.slot.Slot.{Slot as Held}
+use Rattle.gro.specs.Slots.{packet_of, of_packets, counts_of, AreAlone}
 use Rattle.taps.specs.Texts.{texts_of, record_of_text}
 use Rattle.lanes.specs.declared.plan.Plan.{Plan}
 use Rattle.lanes.specs.declared.lane.QueueLane.{QueueLane}
 use Rattle.lanes.specs.declared.lane.TapLane.{TapLane}
 use Rattle.lanes.specs.declared.lane.Lanes.{Lanes}
-use Rattle.lanes.specs.Lanes.{of_lanes, counts_of_queues, runs_in_lane, IsFilled, IsMerged, EachQueueDid}
-use Rattle.lanes.specs.Lanes.{EachTapDid}
+use Rattle.lanes.specs.Lanes.{of_lanes, counts_of_queues, runs_in_lane, IsFilled, IsIdleTap, IsMerged}
+use Rattle.lanes.specs.Lanes.{EachQueueDid, EachTapDid}
 use Rattle.lanes.specs.Sharing.{EachFrom}
 use Rattle.lanes.specs.Taps.{HasClones}
 
@@ -99,6 +99,11 @@ pub record IsWatched (snap : ℕ) (ps : List Packet) (t : ℕ) (l : TapLane) : T
 
 -- ---- all lanes
 
+-- where no tap is, nobody shares a block of packets of which nobody shared one, and taps have nothing
+pub record AreUnshared (plan : Plan) (old new : List Held) (l : Lanes) : Type 0 where
+  pub alone : plan.taps ≡ 0 → AreAlone old → AreAlone new × All (λ m. AreAlone m.packets.items) l.queues.items
+  pub idle : plan.taps ≡ 0 → All IsIdleTap l.taps.items
+
 -- they have what they are to do
 pub record AreFilled (plan : Plan) (old : List Held) (l : Lanes) : Type 0 where
   pub kept : Keeps (of_packets old) (of_lanes l)
@@ -106,6 +111,7 @@ pub record AreFilled (plan : Plan) (old : List Held) (l : Lanes) : Type 0 where
   pub queues : EachFrom (IsToWork (spread_of plan) (map packet_of old)) 0 l.queues.items
   pub taps : EachFrom (HasClones (map packet_of old)) 0 l.taps.items
   pub sizes : (length l.queues.items ≡ plan.queues) × (length l.taps.items ≡ plan.taps)
+  pub unshared : AreUnshared plan old [] l
 
 -- each queue has done it, and each tap, or for want of memory that gave back what it had
 pub record Did (plan : Plan) (old new : Lanes) : Type 0 where
@@ -122,11 +128,13 @@ pub record IsDone (plan : Plan) (old : List Held) (l : Lanes) : Type 0 where
   pub packets : EachFrom (λ q (m : QueueLane). map packet_of m.packets.items
       ≡ filter (is_queued (spread_of plan) q) (map packet_of old)) 0 l.queues.items
   pub kept : Keeps (of_packets old) (of_lanes l)
-  pub count : counts_of_queues l.queues.items ≤ counts_of old
+  pub count : counts_of_queues l.queues.items ≡ counts_of old
+  pub unshared : AreUnshared plan old [] l
   pub clones : All (λ t. t.clones.items ≡ []) l.taps.items
 
 -- where memory was refused: the packets that stay, and what the lanes have of the others
-pub record IsRefused (old new : List Held) (l : Lanes) : Type 0 where
+pub record IsRefused (plan : Plan) (old new : List Held) (l : Lanes) : Type 0 where
   pub kept : Keeps (of_packets old) (both (of_packets new) (of_lanes l))
-  pub count : counts_of new + counts_of_queues l.queues.items ≤ counts_of old
+  pub count : counts_of new + counts_of_queues l.queues.items ≡ counts_of old
+  pub unshared : AreUnshared plan old new l
   pub clones : All (λ t. t.clones.items ≡ []) l.taps.items

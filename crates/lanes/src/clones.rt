@@ -1,7 +1,7 @@
 //! The clones that taps read.
 ghost use Rattle.std.specs.Prelude.{◌≡◌, ◌+◌, ◌<◌, ◌≤◌, [], drop, length, map, OnOk, vec_capacity};
 ghost use Rattle.frags.specs.Account.{Keeps, both};
-ghost use Rattle.gro.specs.Held.{packet_of, of_packets, counts_of, AreHeld, AreShared, WeighAtLeast};
+ghost use Rattle.gro.specs.Slots.{packet_of, of_packets, counts_of, AreHeld, AreShared, WeighAtLeast};
 ghost use Rattle.taps.specs.Clones.{packet_of as packet_of_clone, blocks_of, of_clones};
 ghost use Rattle.lanes.specs.Clones.{weight_after, AreAfter, ClonedOne, IsNoMemory};
 

@@ -1,10 +1,10 @@
 //! Lanes before their work: memory first, then clones for the taps. The packets go to the queues last, by `share`.
 ghost use Rattle.std.specs.Prelude.{◌≡◌, ◌+◌, ◌<◌, ◌≤◌, None, List, [], length, map, All, OnOk};
 ghost use Rattle.frags.specs.Account.{Keeps, both};
-ghost use Rattle.gro.specs.declared.packet.Packet.{Packet as Held};
-ghost use Rattle.gro.specs.Held.{packet_of, of_packets, counts_of, AreHeld, AreShared, WeighAtLeast};
+ghost use Rattle.gro.specs.declared.slot.Slot.{Slot as Held};
+ghost use Rattle.gro.specs.Slots.{packet_of, of_packets, counts_of, AreHeld, AreShared, WeighAtLeast};
 ghost use Rattle.offload_model.specs.Rounds.{Spread};
-ghost use Rattle.lanes.specs.Clones.{weight_after, AreAfter};
+ghost use Rattle.lanes.specs.Clones.{weight_after, AreAfter, AreSame};
 ghost use Rattle.lanes.specs.Lanes.{of_tap, of_taps, AreIdle, IsIdleQueue, IsIdleTap, IsTapReady};
 ghost use Rattle.lanes.specs.Sharing.{EachFrom, IsSharing};
 ghost use Rattle.lanes.specs.Taps.{HasClones};
@@ -18,14 +18,14 @@ use core::mem::replace;
 use gro::Packets;
 use std::alloc::{AllocError, Global};
 
-/// The blocks and parts of all packets.
-pub(crate) fn weigh(packets: &Packets) -> usize
+// The blocks and parts of all packets.
+fn weigh(packets: &Packets) -> usize
     requires few { counts_of packets.now.items ≤ 65536 }
     ensures count { result ≡ counts_of packets.now.items }
 {
     let mut count = 0usize;
     for slot in packets.slots() {
-        count += slot.skb.count() + 2;
+        count += slot.skb.count();
     }
     count
 }
@@ -139,13 +139,9 @@ fn fill_tap(
     clone_all(packets, tap + 1, &mut lane.clones)
 }
 
-/// Each tap gets a clone of each packet; all packets have `count` blocks and parts. Where memory is refused the lanes
-/// have the clones that were made.
-pub(crate) fn fill_taps(
-    lanes: &mut [TapLane],
-    count: usize,
-    packets: &mut Packets,
-) -> Result<(), AllocError>
+// Each tap gets a clone of each packet; all packets have `count` blocks and parts. Where memory is refused the lanes
+// have the clones that were made.
+fn fill_taps(lanes: &mut [TapLane], count: usize, packets: &mut Packets) -> Result<(), AllocError>
     requires few { length lanes.old ≤ 8 }
     requires idle { All IsIdleTap lanes.old }
     requires held { AreHeld packets.old.items }
@@ -164,22 +160,47 @@ pub(crate) fn fill_taps(
     Ok(())
 }
 
+/// Each tap gets a clone of each packet. Where there is no tap nothing is counted and nothing is asked of the packets:
+/// they stay as they are.
+pub(crate) fn serve_taps(lanes: &mut [TapLane], packets: &mut Packets) -> Result<(), AllocError>
+    requires few { length lanes.old ≤ 8 }
+    requires idle { All IsIdleTap lanes.old }
+    requires held { AreHeld packets.old.items }
+    requires shared { 1 ≤ length lanes.old → AreShared packets.old.items }
+    requires weigh { WeighAtLeast (weight_after 1) packets.old.items }
+    requires counts { counts_of packets.old.items ≤ 65536 }
+    ensures same { AreSame packets.old.items packets.new.items }
+    ensures stay { length lanes.old ≡ 0 → packets.new.items ≡ packets.old.items }
+    ensures kept { Keeps (of_packets packets.old.items) (both (of_packets packets.new.items) (of_taps lanes.new)) }
+    ensures ready { All IsTapReady lanes.new }
+    ensures clones { OnOk result (EachFrom (HasClones (map packet_of packets.old.items)) 0 lanes.new) }
+    ensures size { length lanes.new ≡ length lanes.old }
+{
+    if lanes.is_empty() {
+        return Ok(());
+    }
+    let count = weigh(packets);
+    fill_taps(lanes, count, packets)
+}
+
 // The clones of a tap that won't read them are given back.
 fn give_up(lane: &mut TapLane)
     requires ready { IsTapReady lane.old }
     ensures kept { Keeps (of_tap lane.old) (of_tap lane.new) }
     ensures none { lane.new.clones.items ≡ [] }
+    ensures idle { IsIdleTap lane.old → IsIdleTap lane.new }
 {
     while let Some(clone) = lane.clones.pop() {
         clone.release(&mut lane.outcomes);
     }
 }
 
-/// The clones of all taps are given back.
+/// The clones of all taps are given back. Where there are none lanes stay idle.
 pub(crate) fn give_all_up(lanes: &mut [TapLane])
     requires ready { All IsTapReady lanes.old }
     ensures kept { Keeps (of_taps lanes.old) (of_taps lanes.new) }
     ensures none { All (λ l. l.clones.items ≡ []) lanes.new }
+    ensures idle { All IsIdleTap lanes.old → All IsIdleTap lanes.new }
 {
     for i in 0..lanes.len() {
         give_up(&mut lanes[i]);

@@ -20,10 +20,15 @@
 //!
 //! [`work_packets`] fills idle lanes: it clones each packet for each tap, and spreads the packets over the queues by
 //! their flows. With one queue the list of packets becomes the lane's as it stands, and no packet moves; with several
-//! each moves once. Then each queue's engine takes the memory for as many packets as the queue has. Then all lanes are
-//! worked by a [`Works`]: by the thread that calls, one after another ([`Alone`]), or by all who run tasks beside it
-//! ([`LaneCrew`]). A queue's work takes no memory and can't be refused. A tap's lane holds room for all that its clones
-//! may leave before it gets them, so giving back wants no memory.
+//! the list is turned in place, and then each packet moves once. Then each queue's engine takes the memory for as many
+//! packets as the queue has. Then all lanes are worked by a [`Works`]: by the thread that calls, one after another
+//! ([`Alone`]), or by all who run tasks beside it ([`LaneCrew`]). A queue's work takes no memory and can't be refused.
+//! A tap's lane holds room for all that its clones may leave before it gets them, so giving back wants no memory.
+//!
+//! Only what is cloned is shared. Where there are taps, whoever has the packets shares their heads first
+//! (`gro::Packets::share_heads`), and each clone takes of a block's weight. Without taps nothing is asked of the heads,
+//! nothing is counted, and packets of which nobody shares a block come out of the work as such. The spares that a round
+//! has aren't in lanes.
 //!
 //! ```text
 //!   who asks ── a lane, as a task ──>  the desk  ── the task, a note ──> whoever is free, and who asks while it waits
@@ -47,8 +52,10 @@
 //!   their first packets; `windows`: tap by tap, the texts are its windows of the packets as they arrived.
 //! - `records`: the records that are written of these, queue by queue and then tap by tap, are those of the round in
 //!   what merging writes.
-//! - `kept`: nothing is lost, whether all work was done or memory was refused; `count`: the queues hold no more blocks
-//!   and parts than the packets did; `clones`: no clone is left.
+//! - `kept`: nothing is lost, whether all work was done or memory was refused; `count`: what the queues hold and what
+//!   stays are as many blocks and parts as the packets had; `clones`: no clone is left.
+//! - `alone` and `idle`: without taps, where nobody else held a block of the packets nobody does of those in the lanes
+//!   and of those that stay, and the lanes of taps have nothing that is to be brought home.
 //! - `packets`: each queue has the packets of its flows, in their order; `merged`: each of them is in one of the
 //!   queue's runs, once, by its index, so that what a run comes to can be read and written from where its packets lie.
 //!
@@ -83,9 +90,9 @@
 //! ```
 //!
 //! Its parts: `plan` (how many lanes), `lane` (what each has to do, and what it has done), `share` (packets to their
-//! queues, and memory for their runs), `clones` and `fill` (what taps get), `keep` (a clone of each packet beside the
-//! work), `work` (one lane's work) and `works` (who does it); `tasks` (lanes as tasks), `away` (out to the desk and
-//! back), `crew`, `shared` (the filter that taps share) and `free`; and on these `round`.
+//! queues, and memory for their runs), `clones` and `fill` (what taps get, where there are any), `keep` (a clone of
+//! each packet beside the work), `work` (one lane's work) and `works` (who does it); `tasks` (lanes as tasks), `away`
+//! (out to the desk and back), `crew`, `shared` (the filter that taps share) and `free`; and on these `round`.
 //!
 //! Tests: `round_tests`, module `working`.
 //!

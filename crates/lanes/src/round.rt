@@ -5,17 +5,17 @@ ghost use Rattle.frags.specs.Account.{Keeps, both};
 ghost use Rattle.std.specs.List.{filter};
 ghost use Rattle.offload_model.specs.Rounds.{is_queued};
 ghost use Rattle.offload_model.specs.Written.{round_records};
-ghost use Rattle.gro.specs.declared.packet.Packet.{Packet as Held};
-ghost use Rattle.gro.specs.Held.{packet_of, of_packets, counts_of, AreHeld, AreShared, WeighAtLeast};
+ghost use Rattle.gro.specs.declared.slot.Slot.{Slot as Held};
+ghost use Rattle.gro.specs.Slots.{packet_of, of_packets, counts_of, AreAlone, AreHeld, AreShared, WeighAtLeast};
 ghost use Rattle.lanes.specs.Clones.{weight_after};
-ghost use Rattle.lanes.specs.Lanes.{of_lanes, counts_of_queues, AreIdle, IsFilled, IsMerged, IsTapReady};
+ghost use Rattle.lanes.specs.Lanes.{of_lanes, counts_of_queues, AreIdle, IsFilled, IsIdleTap, IsMerged, IsTapReady};
 ghost use Rattle.lanes.specs.Packets.{RiseFrom};
 ghost use Rattle.lanes.specs.Sharing.{EachFrom};
 ghost use Rattle.lanes.specs.Taps.{HasClones};
 ghost use Rattle.lanes.specs.Work.{spread_of, options_by, shown_by, IsPlan, IsToWork, AreFilled, AreMerged};
-ghost use Rattle.lanes.specs.Work.{AreWatched, Did, IsDone, IsRefused, lane_records};
+ghost use Rattle.lanes.specs.Work.{AreUnshared, AreWatched, Did, IsDone, IsRefused, lane_records};
 
-use crate::fill::{fill_taps, give_all_up, open_lanes, weigh};
+use crate::fill::{give_all_up, open_lanes, serve_taps};
 use crate::lane::{Lanes, TapLane};
 use crate::plan::Plan;
 use crate::share::share_out;
@@ -33,7 +33,7 @@ fn fill(
 ) -> Result<(), AllocError>
     requires plan { IsPlan plan.now }
     requires held { AreHeld packets.old.items }
-    requires shared { AreShared packets.old.items }
+    requires shared { 1 ≤ plan.now.taps → AreShared packets.old.items }
     requires weighs { WeighAtLeast (weight_after 1) packets.old.items }
     requires rising { RiseFrom 0 (map packet_of packets.old.items) }
     requires few { counts_of packets.old.items ≤ 65536 }
@@ -48,10 +48,10 @@ fn fill(
     ensures size { OnOk result ((length lanes.new.queues.items ≡ plan.now.queues)
         × (length lanes.new.taps.items ≡ plan.now.taps)) }
     ensures all { OnOk result (packets.new.items ≡ []) }
+    ensures unshared { AreUnshared plan.now packets.old.items packets.new.items lanes.new }
 {
-    let count = weigh(packets);
     open_lanes(alloc, plan, lanes)?;
-    fill_taps(&mut lanes.taps, count, packets)?;
+    serve_taps(&mut lanes.taps, packets)?;
     share_out(packets, plan, &mut lanes.queues)
 }
 
@@ -76,7 +76,7 @@ fn begin(
 ) -> Result<(), AllocError>
     requires plan { IsPlan plan.now }
     requires held { AreHeld packets.old.items }
-    requires shared { AreShared packets.old.items }
+    requires shared { 1 ≤ plan.now.taps → AreShared packets.old.items }
     requires weighs { WeighAtLeast (weight_after 1) packets.old.items }
     requires rising { RiseFrom 0 (map packet_of packets.old.items) }
     requires few { counts_of packets.old.items ≤ 65536 }
@@ -84,7 +84,7 @@ fn begin(
     ensures filled { OnOk result (AreFilled plan.now packets.old.items lanes.new) }
     ensures ready { OnOk result (All IsFilled lanes.new.queues.items × All IsTapReady lanes.new.taps.items) }
     ensures all { OnOk result (packets.new.items ≡ []) }
-    ensures refused { OnErr result (IsRefused packets.old.items packets.new.items lanes.new) }
+    ensures refused { OnErr result (IsRefused plan.now packets.old.items packets.new.items lanes.new) }
 {
     match fill(alloc, plan, packets, lanes) {
         Ok(()) => Ok(()),
@@ -99,7 +99,7 @@ fn begin(
 fn finish(lanes: &Lanes) -> Result<(), AllocError>
     ensures ended { (plan : Plan) (old : List Held) (before : Lanes) → AreFilled plan old before
         → Did plan before lanes.now → MatchResult result (λ _. IsDone plan old lanes.now)
-        (λ _. IsRefused old [] lanes.now) }
+        (λ _. IsRefused plan old [] lanes.now) }
 {
     if are_read(&lanes.taps) {
         Ok(())
@@ -124,7 +124,7 @@ pub fn work_packets<W: Works>(
 ) -> Result<(), AllocError>
     requires plan { IsPlan plan.now }
     requires held { AreHeld packets.old.items }
-    requires shared { AreShared packets.old.items }
+    requires shared { 1 ≤ plan.now.taps → AreShared packets.old.items }
     requires weighs { WeighAtLeast (weight_after 1) packets.old.items }
     requires rising { RiseFrom 0 (map packet_of packets.old.items) }
     requires few { counts_of packets.old.items ≤ 65536 }
@@ -141,7 +141,10 @@ pub fn work_packets<W: Works>(
     ensures all { OnOk result (packets.new.items ≡ []) }
     ensures kept { Keeps (of_packets packets.old.items) (both (of_packets packets.new.items) (of_lanes lanes.new)) }
     ensures count { counts_of packets.new.items + counts_of_queues lanes.new.queues.items
-        ≤ counts_of packets.old.items }
+        ≡ counts_of packets.old.items }
+    ensures alone { plan.now.taps ≡ 0 → AreAlone packets.old.items
+        → AreAlone packets.new.items × All (λ l. AreAlone l.packets.items) lanes.new.queues.items }
+    ensures idle { plan.now.taps ≡ 0 → All IsIdleTap lanes.new.taps.items }
     ensures clones { All (λ t. t.clones.items ≡ []) lanes.new.taps.items }
 {
     begin(alloc, plan, packets, lanes)?;

@@ -3,7 +3,7 @@ ghost use Rattle.std.specs.Prelude.{◌≡◌, ◌+◌, ◌<◌, ◌≤◌, ◌^
 ghost use Rattle.std.specs.Prelude.{reverse};
 ghost use Rattle.frame_layout.specs.Key.{key_of};
 ghost use Rattle.skb.specs.SkbState.{buffer_bytes};
-ghost use Rattle.gro.specs.Held.{of_packets, counts_of, AreHeld, IsHeld};
+ghost use Rattle.gro.specs.Slots.{of_packets, counts_of, AreAlone, AreHeld, IsHeld};
 ghost use Rattle.lanes.specs.Lanes.{of_queues, counts_of_queues, IsIdleQueue};
 ghost use Rattle.lanes.specs.Work.{IsPlan, spread_of};
 ghost use Rattle.lanes.specs.Sharing.{EachFrom, EachStays, HasMemory, IsSharing, IsSum, StaysAs};
@@ -13,11 +13,11 @@ use crate::lane::QueueLane;
 use crate::plan::Plan;
 use core::mem::swap;
 use frame_layout::{key, queue_by};
-use gro::{Packet, Packets};
+use gro::{Packets, Slot};
 use std::alloc::AllocError;
 
 // The queue of a packet's flow.
-fn queue_for(packet: &Packet, plan: &Plan) -> u32
+fn queue_for(packet: &Slot, plan: &Plan) -> u32
     requires held { IsHeld packet.now }
     requires plan { IsPlan plan.now }
     ensures queue { result ≡ spread_of plan.now (key_of (buffer_bytes packet.now.skb)) }
@@ -27,7 +27,7 @@ fn queue_for(packet: &Packet, plan: &Plan) -> u32
 }
 
 // A packet comes behind those of its lane. Where memory is refused it comes back.
-fn take_in(lane: &mut QueueLane, packet: Packet) -> Result<(), (Packet, AllocError)>
+fn take_in(lane: &mut QueueLane, packet: Slot) -> Result<(), (Slot, AllocError)>
     ensures taken { OnOk result (TakesIn lane.old packet lane.new) }
     ensures back { IfErr result (λ e. (e.0 ≡ packet) × StaysAs lane.old lane.new) }
 {
@@ -57,6 +57,7 @@ fn spread_back(
         (of_queues lanes.new) }
     ensures counts { counts_of (reverse packets.old.items)
         ≡ counts_of (reverse packets.new.items) + counts_of_queues lanes.new }
+    ensures alone { AreAlone (reverse packets.old.items) → AreAlone (reverse packets.new.items) }
     ensures all { OnOk result (packets.new.items ≡ []) }
 {
     while let Some(packet) = packets.pop() {
@@ -80,6 +81,7 @@ fn spread(packets: &mut Packets, plan: &Plan, lanes: &mut [QueueLane]) -> Result
     ensures shared { EachFrom (IsSharing (spread_of plan.now) packets.old.items packets.new.items) 0 lanes.new }
     ensures account { IsSum (of_packets packets.old.items) (of_packets packets.new.items) (of_queues lanes.new) }
     ensures counts { counts_of packets.old.items ≡ counts_of packets.new.items + counts_of_queues lanes.new }
+    ensures alone { AreAlone packets.old.items → AreAlone packets.new.items }
     ensures all { OnOk result (packets.new.items ≡ []) }
 {
     packets.reverse();
@@ -129,6 +131,7 @@ fn give_out(packets: &mut Packets, plan: &Plan, lanes: &mut [QueueLane]) -> Resu
     ensures shared { EachFrom (IsSharing (spread_of plan.now) packets.old.items packets.new.items) 0 lanes.new }
     ensures account { IsSum (of_packets packets.old.items) (of_packets packets.new.items) (of_queues lanes.new) }
     ensures counts { counts_of packets.old.items ≡ counts_of packets.new.items + counts_of_queues lanes.new }
+    ensures alone { AreAlone packets.old.items → AreAlone packets.new.items }
     ensures all { OnOk result (packets.new.items ≡ []) }
 {
     if plan.queues == 1 {
@@ -155,6 +158,7 @@ pub(crate) fn share_out(
     ensures shared { EachFrom (IsSharing (spread_of plan.now) packets.old.items packets.new.items) 0 lanes.new }
     ensures account { IsSum (of_packets packets.old.items) (of_packets packets.new.items) (of_queues lanes.new) }
     ensures counts { counts_of packets.old.items ≡ counts_of packets.new.items + counts_of_queues lanes.new }
+    ensures alone { AreAlone packets.old.items → AreAlone packets.new.items }
     ensures all { OnOk result (packets.new.items ≡ []) }
     ensures memory { OnOk result (All HasMemory lanes.new) }
 {

@@ -1,6 +1,7 @@
 //! Runs of packets in buffers, by what they come to.
 ghost use Rattle.std.specs.Prelude.{◌≡◌, ◌+◌, ◌<◌, ◌≤◌, [], length};
 ghost use Rattle.gro.specs.Held.{IsHeld};
+ghost use Rattle.gro.specs.Slots.{IsHeld as IsHeldSlot};
 ghost use Rattle.frags.specs.OutcomesState.{IsBare};
 
 mod chains;
@@ -12,7 +13,7 @@ mod lying;
 mod rounds;
 
 use frags::{Outcomes, Pieces};
-use gro::{Item, Packet, RoundTable};
+use gro::{Item, Packet, RoundTable, Slot};
 use raw_block::Sole;
 use skb::Skb;
 use std::alloc::Global;
@@ -70,7 +71,25 @@ fn block(rt: &impl Abort, alloc: Global) -> Sole {
     }
 }
 
-/// A packet of these headers and this payload.
+/// A packet of these headers and this payload, for a list.
+pub(crate) fn slot(rt: &impl Abort, alloc: Global, number: u32, head: &[u8], payload: &[u8]) -> Slot
+    ensures held { IsHeldSlot result }
+{
+    let mut skb = Skb::new(block(rt, alloc), 64, 64, Pieces::new(alloc));
+    skb.put_tail(head).expect(rt, "room");
+    skb.put_tail(payload).expect(rt, "room");
+    let len = skb.len();
+    assert!(rt; len <= 262_144 && len.min(200) <= skb.head().len());
+    Slot {
+        skb,
+        sec: 1,
+        frac: 2,
+        original: len as u32,
+        number,
+    }
+}
+
+/// A packet of these headers and this payload, with its spares.
 pub(crate) fn packet(
     rt: &impl Abort,
     alloc: Global,
@@ -80,20 +99,22 @@ pub(crate) fn packet(
 ) -> Packet
     ensures held { IsHeld result }
 {
-    let mut skb = Skb::new(block(rt, alloc), 64, 64, Pieces::new(alloc));
-    skb.put_tail(head).expect(rt, "room");
-    skb.put_tail(payload).expect(rt, "room");
-    let original = skb.len() as u32;
-    let packet = Packet {
+    let Slot {
+        skb,
+        sec,
+        frac,
+        original,
+        number,
+    } = slot(rt, alloc, number, head, payload);
+    Packet {
         skb,
         spare1: block(rt, alloc),
         spare2: block(rt, alloc),
-        sec: 1,
-        frac: 2,
+        sec,
+        frac,
         original,
         number,
-    };
-    checked(rt, packet)
+    }
 }
 
 // A packet whose frame is no longer than may be, with its headers in its head.
@@ -137,7 +158,19 @@ pub(crate) fn emptied(outcomes: &mut Outcomes) -> usize
     blocks
 }
 
-// The same of an item.
+// The same of a packet of a list.
+fn freed_slot(rt: &impl Abort, alloc: Global, slot: Slot) -> usize {
+    let Slot {
+        skb,
+        sec: _,
+        frac: _,
+        original: _,
+        number: _,
+    } = slot;
+    freed(rt, skb, Outcomes::new(alloc))
+}
+
+// And of an item.
 fn home(rt: &impl Abort, item: Item) -> usize {
     let (skb, outcomes) = item.into_parts();
     freed(rt, skb, outcomes)

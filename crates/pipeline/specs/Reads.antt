@@ -9,7 +9,7 @@ use Rattle.pcap_io.specs.declared.reader.CaptureReader.{CaptureReader}
 use Rattle.pcap_io.specs.Readers.{place_of, source_of}
 use Rattle.offload_model.specs.Captured.{IsCaptured}
 use Rattle.offload_model.specs.Need.{round_need}
-use Rattle.gro.specs.Held.{packet_of}
+use Rattle.gro.specs.Slots.{packet_of}
 use Rattle.rounds.specs.declared.round.RoundEnd.TheVariants as ends
 use Rattle.rounds.specs.declared.round.RoundRead.{RoundRead}
 use Rattle.rounds.specs.Reading.{GivesRound, PassesRound}

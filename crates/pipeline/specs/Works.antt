@@ -8,7 +8,7 @@ use Rattle.pcap_io.specs.declared.place.Place.{Place}
 use Rattle.offload_model.specs.Passing.{merging, Passes, FrontUnless, flushes}
 use Rattle.offload_model.specs.Steps.{round_output}
 use Rattle.offload_model.specs.Written.{Options}
-use Rattle.gro.specs.Held.{packet_of}
+use Rattle.gro.specs.Slots.{packet_of}
 use Rattle.rounds.specs.declared.merge.MergeEnd.{MergeEnd}
 use Rattle.rounds.specs.declared.merge.MergeEnd.TheVariants as ends
 use Rattle.rounds.specs.declared.merge.Step.{Step}

@@ -9,7 +9,7 @@ use Rattle.skb.specs.SkbState.{buffer_bytes}
 use Rattle.offload_model.specs.Merged.{merged_of}
 use Rattle.gro.specs.declared.slot.Slot.{Slot}
 use Rattle.gro.specs.declared.run.Run.{Run}
-use Rattle.gro.specs.Slots.{packet_in, IsSlot, AreSlots}
+use Rattle.gro.specs.Slots.{packet_of, IsHeld, AreHeld}
 use Rattle.gro.specs.Chains.{chain_of, behind, indices, no_packet, packet_at, run_of}
 use Rattle.gro.specs.Engine.{Knows, KnowsSome, IsChain}
 use Rattle.gro.specs.Packets.{headers_size, payloads_behind}
@@ -33,14 +33,14 @@ first_step P ps next left k h a =
     (s.0, s.1)
 
 -- the slot at an index has the packet's bytes
-pub frame_there : (xs : List Slot) (k : ℕ) (d : Slot) → k < length xs → (packet_at (map packet_in xs) k).frame ≡ buffer_bytes (get_or xs k d).skb
-frame_there xs k d h = ap (λ (z : Packet). z.frame) (get_or-map packet_in xs k d no_packet h)
+pub frame_there : (xs : List Slot) (k : ℕ) (d : Slot) → k < length xs → (packet_at (map packet_of xs) k).frame ≡ buffer_bytes (get_or xs k d).skb
+frame_there xs k d h = ap (λ (z : Packet). z.frame) (get_or-map packet_of xs k d no_packet h)
 
 -- ---- a run in a list of slots
 
-module _ (packets : List Slot) (next : List ℕ) (run : Run) (c : IsChain (map packet_in packets) next run) where
+module _ (packets : List Slot) (next : List ℕ) (run : Run) (c : IsChain (map packet_of packets) next run) where
   abbrev ps : List Packet
-  ps = map packet_in packets
+  ps = map packet_of packets
 
   abbrev p : Packet
   p = packet_at ps run.first
@@ -49,19 +49,19 @@ module _ (packets : List Slot) (next : List ℕ) (run : Run) (c : IsChain (map p
   rest = map (packet_at ps) (behind next run)
 
   pub inside : run.first < length packets
-  inside = omega (arith, c.inside.0, length-map packets packet_in)
+  inside = omega (arith, c.inside.0, length-map packets packet_of)
 
   -- its first packet, as it was read
-  pub first_is : (slot : Slot) → slot ≡ get_or packets run.first slot → p ≡ packet_in slot
+  pub first_is : (slot : Slot) → slot ≡ get_or packets run.first slot → p ≡ packet_of slot
   first_is slot e = slot_at packets run.first slot inside e
 
-  pub is_slot : (slot : Slot) → slot ≡ get_or packets run.first slot → AreSlots packets → IsSlot slot
-  is_slot slot e a = subst IsSlot (sym e) (all_at IsSlot packets run.first slot a inside)
+  pub is_slot : (slot : Slot) → slot ≡ get_or packets run.first slot → AreHeld packets → IsHeld slot
+  is_slot slot e a = subst IsHeld (sym e) (all_at IsHeld packets run.first slot a inside)
 
-  pub knows : (slot : Slot) → slot ≡ get_or packets run.first slot → Knows run (packet_in slot) rest
+  pub knows : (slot : Slot) → slot ≡ get_or packets run.first slot → Knows run (packet_of slot) rest
   knows slot e = subst (λ (z : Packet). Knows run z rest) (first_is slot e) c.knows
 
-  pub knows_some : (slot : Slot) → slot ≡ get_or packets run.first slot → KnowsSome run (packet_in slot)
+  pub knows_some : (slot : Slot) → slot ≡ get_or packets run.first slot → KnowsSome run (packet_of slot)
   knows_some slot e = (rest, knows slot e)
 
   pub few : run.more ≤ 262069
@@ -76,7 +76,7 @@ module _ (packets : List Slot) (next : List ℕ) (run : Run) (c : IsChain (map p
   pub all_below : AllByRecursion (λ k. k < length packets) (chain_of next (run.more + 1) run.first)
   all_below =
       subst (AllByRecursion (λ k. k < length packets)) (sym chain_is)
-      (subst (λ (z : ℕ). AllByRecursion (λ k. k < z) (indices next run)) (length-map packets packet_in) c.inside)
+      (subst (λ (z : ℕ). AllByRecursion (λ k. k < z) (indices next run)) (length-map packets packet_of) c.inside)
 
   pub all_there : 1 ≤ run.more → AllByRecursion (λ (q : Packet). headers_size run ≤ length q.frame) (map (packet_at ps) (chain_of next (run.more + 1) run.first))
   all_there several =
@@ -84,25 +84,25 @@ module _ (packets : List Slot) (next : List ℕ) (run : Run) (c : IsChain (map p
 
   -- what is written of several packets, by what the code has at hand
   pub record_by : (slot : Slot) → slot ≡ get_or packets run.first slot → (order : Order) (q : ℕ) (row : List ℕ) (at : ℕ) → at ≡ headers_size run
-      → ((others : List Packet) → Knows run (packet_in slot) others
-      → row ++ payloads_behind (headers_size run) (packet_in slot ∷ others) ≡ item_bytes order q (merged_of (packet_in slot ∷ others)))
+      → ((others : List Packet) → Knows run (packet_of slot) others
+      → row ++ payloads_behind (headers_size run) (packet_of slot ∷ others) ≡ item_bytes order q (merged_of (packet_of slot ∷ others)))
       → row ++ payloads_behind at (map (packet_at ps) (chain_of next (run.more + 1) run.first)) ≡ item_bytes order q (merged_of (run_of ps next run))
   record_by slot e order q row at ea is =
       ap (λ (z : List ℕ). row ++ payloads_behind at (map (packet_at ps) z)) chain_is
       ∙ ap (λ (z : Packet). row ++ payloads_behind at (z ∷ rest)) (first_is slot e)
-      ∙ ap (λ (z : ℕ). row ++ payloads_behind z (packet_in slot ∷ rest)) ea
+      ∙ ap (λ (z : ℕ). row ++ payloads_behind z (packet_of slot ∷ rest)) ea
       ∙ is rest (knows slot e)
       ∙ ap (λ (z : Packet). item_bytes order q (merged_of (z ∷ rest))) (sym (first_is slot e))
 
   -- a run of one packet
-  pub alone_is : (slot : Slot) → slot ≡ get_or packets run.first slot → run.more ≡ 0 → packet_in slot ∷ [] ≡ run_of ps next run
+  pub alone_is : (slot : Slot) → slot ≡ get_or packets run.first slot → run.more ≡ 0 → packet_of slot ∷ [] ≡ run_of ps next run
   alone_is slot e none =
       ap (λ (z : Packet). z ∷ []) (sym (first_is slot e))
       ∙ ap (λ (z : ℕ). map (packet_at ps) (run.first ∷ chain_of next z (get_or next run.first 0))) (sym none)
 
-  pub knows_alone : (slot : Slot) → slot ≡ get_or packets run.first slot → run.more ≡ 0 → Knows run (packet_in slot) []
+  pub knows_alone : (slot : Slot) → slot ≡ get_or packets run.first slot → run.more ≡ 0 → Knows run (packet_of slot) []
   knows_alone slot e none =
-      subst (λ (z : List Packet). Knows run (packet_in slot) z) (nil_from_length rest (omega (arith, none, c.knows.more))) (knows slot e)
+      subst (λ (z : List Packet). Knows run (packet_of slot) z) (nil_from_length rest (omega (arith, none, c.knows.more))) (knows slot e)
 
 -- ---- all runs, one after the other
 

@@ -8,3 +8,11 @@ mod Heads
 mod Runs
 -- a run's record, from its packets where they lie
 mod InPlace
+-- blocks that are filled one after another
+mod Filling
+-- blocks in turn, and packets as they are laid in them
+pub mod Laying
+-- records whose headers are lawful
+mod Lawful
+-- a record that is read
+mod Recording

@@ -1,1 +1,4 @@
 pub mod Records
+pub mod Data
+pub mod Laid
+pub mod Reading

@@ -7,7 +7,7 @@ ghost use Rattle.off_io.specs.Content.{AppendsFront};
 ghost use Rattle.pcap_io.specs.Capture.{Packet};
 ghost use Rattle.pcap_io.specs.Limits.{off_head2_size};
 ghost use Rattle.offload_model.specs.Merged.{merged_of};
-ghost use Rattle.gro.specs.Slots.{packet_in, IsSlot, AreSlots};
+ghost use Rattle.gro.specs.Slots.{packet_of, IsHeld, AreHeld};
 ghost use Rattle.gro.specs.Chains.{chain_of, packet_at, run_of};
 ghost use Rattle.gro.specs.Engine.{Knows, KnowsSome, IsChain, AreRuns, runs_of};
 ghost use Rattle.gro.specs.Packets.{headers_size, payloads_behind};
@@ -25,13 +25,13 @@ const HEADS: usize = 16 + OFF_HEAD2_LEN;
 
 // Puts all headers together whose record is a run of several packets: the record's two, and those of the merged frame.
 fn put_row(row: &mut [u8], file: &FileHead, lane: u8, run: &Run, first: &Slot)
-    requires slot { IsSlot first.now }
-    requires run { KnowsSome run.now (packet_in first.now) }
+    requires slot { IsHeld first.now }
+    requires run { KnowsSome run.now (packet_of first.now) }
     requires several { 1 ≤ run.now.more }
     requires size { length row.old ≡ 32 + headers_size run.now }
-    ensures row { (rest : List Packet) → Knows run.now (packet_in first.now) rest
-        → row.new ++ payloads_behind (headers_size run.now) (packet_in first.now ∷ rest)
-        ≡ item_bytes file.now.order lane (merged_of (packet_in first.now ∷ rest)) }
+    ensures row { (rest : List Packet) → Knows run.now (packet_of first.now) rest
+        → row.new ++ payloads_behind (headers_size run.now) (packet_of first.now ∷ rest)
+        ≡ item_bytes file.now.order lane (merged_of (packet_of first.now ∷ rest)) }
     ensures size { length row.new ≡ 32 + headers_size run.now }
 {
     let len = run.frame_len(first) + OFF_HEAD2_LEN as u32;
@@ -51,16 +51,16 @@ fn write_payloads<K: Sink>(
     count: u32,
     at: usize,
 ) -> Result<(), WriteFault>
-    requires slots { AreSlots packets.now }
+    requires slots { AreHeld packets.now }
     requires linked { length packets.now ≤ length next.now }
     requires inside { AllByRecursion (λ k. k < length packets.now) (chain_of next.now count first) }
     requires low { at ≤ 200 }
     requires there { AllByRecursion (λ (p : Packet). at ≤ length p.frame)
-        (map (packet_at (map packet_in packets.now)) (chain_of next.now count first)) }
+        (map (packet_at (map packet_of packets.now)) (chain_of next.now count first)) }
     ensures ok { OnOk result (Appends (K.held sink.old) (K.held sink.new)
-        (payloads_behind at (map (packet_at (map packet_in packets.now)) (chain_of next.now count first)))) }
+        (payloads_behind at (map (packet_at (map packet_of packets.now)) (chain_of next.now count first)))) }
     ensures err { OnErr result (AppendsFront (K.held sink.old) (K.held sink.new)
-        (payloads_behind at (map (packet_at (map packet_in packets.now)) (chain_of next.now count first)))) }
+        (payloads_behind at (map (packet_at (map packet_of packets.now)) (chain_of next.now count first)))) }
     ensures cause { HasCause (K.faults sink.old) (K.faults sink.new) result }
 {
     let mut k = first;
@@ -81,13 +81,13 @@ fn write_alone<K: Sink>(
     run: &Run,
     slot: &Slot,
 ) -> Result<(), WriteFault>
-    requires slot { IsSlot slot.now }
-    requires run { Knows run.now (packet_in slot.now) [] }
+    requires slot { IsHeld slot.now }
+    requires run { Knows run.now (packet_of slot.now) [] }
     requires fits { slot.now.original + off_head2_size < 2 ^ 32 }
     ensures ok { OnOk result (Appends (K.held sink.old) (K.held sink.new)
-        (item_bytes file.now.order lane (merged_of (packet_in slot.now ∷ [])))) }
+        (item_bytes file.now.order lane (merged_of (packet_of slot.now ∷ [])))) }
     ensures err { OnErr result (AppendsFront (K.held sink.old) (K.held sink.new)
-        (item_bytes file.now.order lane (merged_of (packet_in slot.now ∷ [])))) }
+        (item_bytes file.now.order lane (merged_of (packet_of slot.now ∷ [])))) }
     ensures cause { HasCause (K.faults sink.old) (K.faults sink.new) result }
 {
     let head = run.head(lane, slot);
@@ -107,14 +107,14 @@ fn write_merged<K: Sink>(
     next: &[u32],
     run: &Run,
 ) -> Result<(), WriteFault>
-    requires slots { AreSlots packets.now }
+    requires slots { AreHeld packets.now }
     requires linked { length packets.now ≤ length next.now }
-    requires run { IsChain (map packet_in packets.now) next.now run.now }
+    requires run { IsChain (map packet_of packets.now) next.now run.now }
     requires several { 1 ≤ run.now.more }
     ensures ok { OnOk result (Appends (K.held sink.old) (K.held sink.new)
-        (item_bytes file.now.order lane (merged_of (run_of (map packet_in packets.now) next.now run.now)))) }
+        (item_bytes file.now.order lane (merged_of (run_of (map packet_of packets.now) next.now run.now)))) }
     ensures err { OnErr result (AppendsFront (K.held sink.old) (K.held sink.new)
-        (item_bytes file.now.order lane (merged_of (run_of (map packet_in packets.now) next.now run.now)))) }
+        (item_bytes file.now.order lane (merged_of (run_of (map packet_of packets.now) next.now run.now)))) }
     ensures cause { HasCause (K.faults sink.old) (K.faults sink.new) result }
 {
     let at = run.headers_len();
@@ -137,14 +137,14 @@ pub fn write_run<K: Sink>(
     next: &[u32],
     run: &Run,
 ) -> Result<(), WriteFault>
-    requires slots { AreSlots packets.now }
+    requires slots { AreHeld packets.now }
     requires linked { length packets.now ≤ length next.now }
-    requires run { IsChain (map packet_in packets.now) next.now run.now }
-    requires fits { (packet_at (map packet_in packets.now) run.now.first).original + off_head2_size < 2 ^ 32 }
+    requires run { IsChain (map packet_of packets.now) next.now run.now }
+    requires fits { (packet_at (map packet_of packets.now) run.now.first).original + off_head2_size < 2 ^ 32 }
     ensures ok { OnOk result (Appends (K.held sink.old) (K.held sink.new)
-        (item_bytes file.now.order lane (merged_of (run_of (map packet_in packets.now) next.now run.now)))) }
+        (item_bytes file.now.order lane (merged_of (run_of (map packet_of packets.now) next.now run.now)))) }
     ensures err { OnErr result (AppendsFront (K.held sink.old) (K.held sink.new)
-        (item_bytes file.now.order lane (merged_of (run_of (map packet_in packets.now) next.now run.now)))) }
+        (item_bytes file.now.order lane (merged_of (run_of (map packet_of packets.now) next.now run.now)))) }
     ensures cause { HasCause (K.faults sink.old) (K.faults sink.new) result }
 {
     if run.more == 0 {
@@ -163,16 +163,16 @@ pub fn write_runs<K: Sink>(
     packets: &[Slot],
     engine: &Engine,
 ) -> Result<(), WriteFault>
-    requires slots { AreSlots packets.now }
-    requires runs { AreRuns (map packet_in packets.now) (length packets.now) engine.now }
+    requires slots { AreHeld packets.now }
+    requires runs { AreRuns (map packet_of packets.now) (length packets.now) engine.now }
     requires fit { AllByRecursion (λ (p : Packet). p.original + off_head2_size < 2 ^ 32)
-        (map packet_in packets.now) }
+        (map packet_of packets.now) }
     ensures ok { OnOk result (Appends (K.held sink.old) (K.held sink.new)
         (flat_map (item_bytes file.now.order lane)
-        (map merged_of (runs_of (map packet_in packets.now) engine.now)))) }
+        (map merged_of (runs_of (map packet_of packets.now) engine.now)))) }
     ensures err { OnErr result (AppendsFront (K.held sink.old) (K.held sink.new)
         (flat_map (item_bytes file.now.order lane)
-        (map merged_of (runs_of (map packet_in packets.now) engine.now)))) }
+        (map merged_of (runs_of (map packet_of packets.now) engine.now)))) }
     ensures cause { HasCause (K.faults sink.old) (K.faults sink.new) result }
 {
     for run in &engine.runs {

@@ -67,7 +67,7 @@ fn example_of_lanes(rt: HostRuntime) {
         }
         Err(_) => rest_home(&rt, packets, lanes),
     };
-    assert_eq!(rt; blocks, 24);
+    assert_eq!(rt; blocks, 8);
 }
 
 #[test]

@@ -16,6 +16,8 @@ mod examples;
 #[cfg(test)]
 mod halting;
 #[cfg(test)]
+mod jumbo;
+#[cfg(test)]
 mod lane_rows;
 #[cfg(test)]
 mod long_runs;

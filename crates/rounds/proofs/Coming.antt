@@ -6,8 +6,10 @@ use Rattle.block_pool.specs.PoolState.{PoolState, home}
 use Rattle.frags.specs.Account.{Account, Tests, Keeps, both, of_outcomes, receipts_held, soles_home}
 use Rattle.frags.specs.OutcomesState.{OutcomesState, IsBare}
 use Rattle.frags.specs.RoundAccount.{of_lives}
-use Rattle.gro.specs.declared.packet.Packet.{Packet}
-use Rattle.gro.specs.Held.{of_packet, of_packets, count_of, counts_of}
+use Rattle.gro.specs.declared.slot.Slot.{Slot as Packet}
+use Rattle.skb.specs.SkbState.{IsAlone}
+use Rattle.gro.specs.Slots.{of_packet, of_packets, count_of, counts_of, AreAlone}
+use Rattle.gro.proofs.Lying.{alone_behind, alone_first}
 use Rattle.rounds.specs.Marks.{all, IsMarked, IsWhole, nothing}
 use Rattle.rounds.specs.Table.{place_at, place_held, place_home, place_missing, of_places, IsOwed, missing, AllOpen, AllHome, MayCome, Comes}
 use Rattle.rounds.specs.declared.table.Place.{Place}
@@ -127,6 +129,12 @@ counts_pop a b x e = ap counts_of e ∙ counts_last b x
 pub no_packets : (xs : List Packet) → xs ≡ [] → (t : Tests) (m : ℕ) → ((of_packets xs).held t m ≡ 0) × ((of_packets xs).homes t.blocks m ≡ 0)
 no_packets xs e t m = (ap (λ (z : List Packet). (of_packets z).held t m) e, ap (λ (z : List Packet). (of_packets z).homes t.blocks m) e)
 
+-- the last packet of a list of which nobody else holds a block, and the others
+pub alone_pop : (a b : List Packet) (x : Packet) → a ≡ b ++ x ∷ [] → AreAlone a → AreAlone b × IsAlone x.skb
+alone_pop a b x e h =
+    let all = subst AreAlone e h in
+    (alone_first b (x ∷ []) all, (alone_behind b (x ∷ []) all).0)
+
 -- all places are home where all that was whole has come
 home_is : (p : Place) (m : ℕ) → IsOwed m p → (place_home p ≡ 0 → full_weight ≤ place_held all m p) → p ≡ Home
 home_is Open m o h = let f = h refl in absurd (omega (arith, f))
@@ -170,18 +178,6 @@ comes_home x p0 p t0 t opened whole h m lt =
 
 pub home_count : (x : Account) (p0 p : PoolState) (t0 t : List Place) → AllOpen t0 → AllHome t → Comes x nothing p0 t0 p t → home p ≡ home p0 + length t0
 home_count x p0 p t0 t opened all_home h = omega (arith, h.count, missing_open t0 opened, missing_home t all_home)
-
--- two spares and a buffer are given back in turn
-pub gives_packet : (b s1 s2 : Account) (o0 o1 o2 o3 : OutcomesState) → IsBare o0 → Keeps (both s1 (of_outcomes o0)) (of_outcomes o1) → Keeps (both s2 (of_outcomes o1)) (of_outcomes o2)
-    → Keeps (both b (of_outcomes o2)) (of_outcomes o3)
-    → Keeps (both b (both s1 s2)) (of_outcomes o3)
-gives_packet b s1 s2 o0 o1 o2 o3 bare h g k t m =
-    let x = h t m in
-    let y = g t m in
-    let z = k t m in
-    let r = ap (receipts_held t m) bare.1 in
-    let s = ap (soles_home t.blocks m) bare.0 in
-    (omega (arith, x.0, y.0, z.0, r), omega (arith, x.1, y.1, z.1, r, s))
 
 -- ---- x, and then y
 

@@ -1,5 +1,5 @@
 -- An offload header, of which the first bytes stand apart from those in the buffer.
-use Rattle.std.proofs.Common.{◌≡◌, ℕ, ◌+◌, ◌-◌, ◌<◌, ◌≤◌, Bool, true, false, List, [], ◌++◌, length, length-append, take, drop, append-nil, append_assoc, refl, ap, sym, ◌∙◌, arith}
+use Rattle.std.proofs.Common.{◌≡◌, ℕ, ◌+◌, ◌-◌, ◌<◌, ◌≤◌, Bool, true, false, List, [], ◌++◌, length, length-append, take, drop, append-nil, append_assoc, refl, ap, sym, ◌∙◌, subst, arith}
 use Rattle.std.specs.Prelude.{◌==◌, if◌then◌else◌}
 use Rattle.std.proofs.lemmas.Bool.{and_parts}
 use Rattle.std.proofs.lemmas.List.{drop_all, drop_at, get_or_append_left, take-append-drop, take_at}
@@ -13,11 +13,10 @@ use Rattle.pcap_io.specs.declared.off_head.AnyHead.{AnyHead}
 use Rattle.pcap_io.specs.declared.off_head.AnyHead.TheVariants.{V1, V2}
 use Rattle.offload_model.specs.Tests.{is_lawful_record, is_opened_by}
 use Rattle.offload_model.proofs.Decides.{decides_opened}
-use Rattle.skb.specs.SkbState.{SkbState, buffer_bytes}
-use Rattle.gro.specs.declared.packet.Packet.{Packet as Held}
-use Rattle.gro.specs.Held.{of_packet}
+use Rattle.skb.specs.SkbState.{SkbState, IsAlone, buffer_bytes}
+use Rattle.gro.specs.declared.slot.Slot.{Slot as Held}
 use Rattle.rounds.specs.Cutting.{IsBehind}
-use Rattle.rounds.specs.Record.{record_of}
+use Rattle.records.specs.Reading.{record_of}
 
 -- ---- two parts of a row that were copied in
 
@@ -130,9 +129,9 @@ behind_is front p skb head is size behind = record {
     packet_of_record : ℕ → List ℕ → Packet
     packet_of_record n f = record { number = p.number; sec = p.sec; frac = p.frac; original = p.original - n; frame = f }
 
--- where a buffer begins makes no difference to what is held of it
-pub same_account : (p : Held) (skb : SkbState) (n : ℕ) → skb ≡ record p.skb { from = n } → of_packet (record p { skb = skb }) ≡ of_packet p
-same_account p skb n e = ap (λ (s : SkbState). of_packet (record p { skb = s })) e
+-- where a buffer begins makes no difference to who holds its blocks
+pub alone_within : (old new : SkbState) (n : ℕ) → new ≡ record old { from = n } → IsAlone old → IsAlone new
+alone_within old new n e h = subst IsAlone (sym e) (record { head = h.head; rest = h.rest })
 
 -- a record without its header isn't lawful
 pub not_lawful : (r : Packet) → length r.frame < head_size (any_head r.frame) → is_lawful_record r ≡ false

@@ -1,5 +1,5 @@
 -- Packets that are worked in lanes, with a clone of each beside them: that they may be, and that what comes of them fits.
-use Rattle.std.proofs.Common.{◌≡◌, ℕ, suc, zero, ◌+◌, ◌*◌, ◌<◌, ◌≤◌, Bool, true, Some, List, [], ◌∷◌, map, length, get_or, drop, refl, sym, ap, ◌∙◌, subst, arith}
+use Rattle.std.proofs.Common.{◌≡◌, ℕ, suc, zero, ◌+◌, ◌-◌, ◌*◌, ◌<◌, ◌≤◌, Bool, true, false, Some, List, [], ◌∷◌, map, length, get_or, drop, refl, sym, ap, ◌∙◌, subst, arith}
 use Rattle.std.specs.Prelude.{All, IfOk, OnOk, Ok, Err, MatchResult}
 use Rattle.std.specs.declared.result.Result.{Result}
 use Rattle.std.specs.List.{AllByRecursion, filter, range_with_len}
@@ -8,13 +8,18 @@ use Rattle.std.proofs.lemmas.List.Elements.{recursion_from_All}
 use Rattle.pcap_io.specs.Capture.{Packet}
 use Rattle.ref_core.specs.WeightRule.{full_weight}
 use Rattle.maximal_runs.proofs.Pass.{all_append}
+use Rattle.block_pool.specs.PoolState.{home}
 use Rattle.frags.specs.Account.{Account, Tests, Keeps, both}
+use Rattle.frags.specs.declared.holder.Holder.{Holder}
+use Rattle.frags.specs.declared.holder.Holder.TheVariants.{Sole, Part}
+use Rattle.skb.specs.SkbState.{SkbState, buffer_least, head_least, is_sole, IsAlone}
 use Rattle.offload_model.specs.Captured.{IsCaptured}
 use Rattle.offload_model.specs.Rounds.{Spread, is_queued}
 use Rattle.offload_model.specs.Written.{window_of}
 use Rattle.offload_model.proofs.Lists.{all_filtered}
-use Rattle.gro.specs.declared.packet.Packet.{Packet as Held}
-use Rattle.gro.specs.Held.{packet_of, of_packets, counts_of, AreHeld, AreShared, IsHeld, WeighAtLeast}
+use Rattle.gro.specs.declared.slot.Slot.{Slot as Held}
+use Rattle.gro.specs.Slots.{packet_of, of_packets, counts_of, AreAlone, AreHeld, AreLent, AreShared, IsHeld, WeighAtLeast}
+use Rattle.gro.proofs.Lying.{lent_counts, lent_packets, whole_least}
 use Rattle.taps.specs.declared.clones.TapClone.{TapClone}
 use Rattle.taps.specs.Clones.{packet_of as packet_of_clone, blocks_of, of_clones}
 use Rattle.taps.specs.Texts.{text_by, text_of, texts_of}
@@ -23,20 +28,23 @@ use Rattle.lanes.specs.declared.lane.TapLane.{TapLane}
 use Rattle.lanes.specs.declared.lane.Lanes.{Lanes}
 use Rattle.lanes.specs.declared.plan.Plan.{Plan}
 use Rattle.lanes.specs.Clones.{weight_after, AreAfter}
-use Rattle.lanes.specs.Lanes.{of_lanes, counts_of_queues, IsMerged}
+use Rattle.lanes.specs.Lanes.{of_lanes, counts_of_queues, AreIdle, IsIdleQueue, IsIdleTap, IsMerged}
+use Rattle.lanes.proofs.Idle.{idle_clones, idle_counts, idle_lanes}
 use Rattle.lanes.specs.Packets.{RiseFrom}
 use Rattle.lanes.specs.Sharing.{EachFrom}
 use Rattle.lanes.specs.Work.{IsPlan, options_by, spread_of, shown_by, AreMerged, AreWatched}
-use Rattle.rounds.specs.Fresh.{AreRead, IsRead, IsFresh, NumberedFrom}
+use Rattle.records.specs.Laid.{AreRead, IsRead, LaidFrom}
+use Rattle.records.proofs.Laying.{laid_all}
+use Rattle.rounds.specs.Fresh.{NumberedFrom}
 use Rattle.rounds.specs.Held.{Fits}
-use Rattle.rounds.specs.Kept.{IsKept, IsDone, IsLeft, IsOfLanes}
+use Rattle.rounds.specs.Kept.{IsKept, IsDone, IsLeft, IsOfLanes, IsOneRound, IsOutBeside, IsPrepared}
 use Rattle.rounds.specs.Lanes.{AreSpent, AreShortTexts, IsKeptWorkOf, IsShortText, IsSmallQueue, IsSmallTap, IsSmallWork}
 use Rattle.rounds.specs.Marks.{IsRound}
+use Rattle.rounds.specs.Out.{IsOut}
 use Rattle.rounds.specs.RoundsState.{WorkedState}
 use Rattle.rounds.specs.declared.lane_work.Kept.{Kept}
-use Rattle.rounds.proofs.Coming.{no_packets}
 use Rattle.rounds.proofs.Small.{captured_fit}
-use Rattle.rounds.proofs.Taking.{fresh_round}
+use Rattle.rounds.proofs.Taking.{fresh_lent, fresh_round}
 use Rattle.rounds.proofs.Working.{round_keeps}
 
 -- ---- packets as they were read
@@ -48,13 +56,23 @@ pub are_held : (ps : List Held) → AreRead ps → AllByRecursion IsCaptured (ma
 are_held [] r c = tt
 are_held (p ∷ ps) r c = (is_held p r.0 c.0, are_held ps r.1 c.1)
 
-pub weigh_full : (ps : List Held) → AreRead ps → WeighAtLeast full_weight ps
-weigh_full [] r = tt
-weigh_full (p ∷ ps) r = (omega (arith, r.0.least), weigh_full ps r.1)
+alone_least : (b : SkbState) → IsAlone b → full_weight ≤ buffer_least b
+alone_least b a = omega (arith, sole_least b.head a.head, whole_least b.rest a.rest)
+  where
+    sole_least : (h : Holder) → is_sole h ≡ true → head_least h ≡ full_weight
+    sole_least (Sole s) e = refl
+    sole_least (Part p) e = absurd cc
 
 weigh_less : (v w : ℕ) (ps : List Held) → v ≤ w → WeighAtLeast w ps → WeighAtLeast v ps
 weigh_less v w [] le h = tt
 weigh_less v w (p ∷ ps) le h = (omega (arith, le, h.0), weigh_less v w ps le h.1)
+
+weigh_alone : (ps : List Held) → AreAlone ps → WeighAtLeast full_weight ps
+weigh_alone [] a = tt
+weigh_alone (p ∷ ps) a = (alone_least p.skb a.0, weigh_alone ps a.1)
+
+idle_alone : (ls : List QueueLane) → All IsIdleQueue ls → All (λ (l : QueueLane). AreAlone l.packets.items) ls
+idle_alone ls idle i d lt = subst AreAlone (sym (idle i d lt).packets) tt
 
 -- no clone was taken
 pub after_none : (ps : List Held) → AreHeld ps → AreShared ps → WeighAtLeast full_weight ps → AreAfter 1 ps ps
@@ -64,26 +82,79 @@ pub rise : (j k : ℕ) (ps : List Held) → j ≤ k → NumberedFrom k ps → Ri
 rise j k [] le h = tt
 rise j k (p ∷ ps) le h = (omega (arith, le, h.0), rise (p.number + 1) (k + 1) ps (omega (arith, h.0)) h.1)
 
-beside : (n : ℕ) (a b c : Account) → Keeps a b → IsRound n (both a c) → IsRound n (both b c)
-beside n a b c k r = round_keeps n (both a c) (both b c) (λ t m. let x = k t m in (omega (arith, x.0), omega (arith, x.0, x.1))) r
+-- ---- before the work of the lanes
 
-pub are_kept : (keep : Bool) (n : ℕ) (ps : List Held) (k : Kept) → k.blocks ≡ n → IsFresh 0 n (of_packets ps) → AllByRecursion IsCaptured (map packet_of ps) → counts_of ps ≡ n
-    → (j : ℕ) × NumberedFrom j ps → n ≤ 65536
-    → AreAfter 1 ps k.packets.items → Keeps (of_packets ps) (both (of_packets k.packets.items) (of_clones k.kept.items)) → blocks_of k.kept.items ≤ counts_of ps
+-- nobody else is to hold a block
+pub prepared_alone : (ps : List Held) (kept : List TapClone) → LaidFrom 0 ps → AreRead ps → AllByRecursion IsCaptured (map packet_of ps) → kept ≡ [] → IsPrepared false ps ps kept
+prepared_alone ps kept laid read captured none = record {
+  same = refl;
+  held = are_held ps read captured;
+  weighs = weigh_less (weight_after 1) full_weight ps (omega arith) (weigh_alone ps (laid_all 0 ps laid));
+  count = refl;
+  round = record { packets = laid_all 0 ps laid; count = refl; none = none };
+}
+
+-- heads were shared, rs, and then a clone of each packet was kept, if that was wanted
+pub prepared_shared : (ps rs qs : List Held) (kept : List TapClone) → LaidFrom 0 ps → AreLent ps rs → AreAfter 1 rs qs → Keeps (of_packets rs) (both (of_packets qs) (of_clones kept))
+    → blocks_of kept ≤ counts_of rs → IsPrepared true ps qs kept
+prepared_shared ps rs qs kept laid lent after keeps fewer =
+    let counts = lent_counts ps rs lent in
+    record {
+      same = after.same ∙ lent_packets ps rs lent;
+      held = after.held;
+      weighs = after.weigh;
+      count = after.counts ∙ counts;
+      round = record {
+        heads = after.shared;
+        round = round_keeps (counts_of ps) (of_packets rs) (both (of_packets qs) (of_clones kept)) keeps (fresh_round (counts_of ps) (of_packets rs) (fresh_lent 0 ps rs laid lent));
+        counts = omega (arith, after.counts, counts, fewer);
+      };
+    }
+
+-- without lanes that hold anything
+pub out_idle : (shared : Bool) (n : ℕ) (qs : List Held) (lanes : Lanes) (kept : List TapClone) → AreIdle lanes → IsOneRound shared n qs kept → IsOut shared n qs lanes kept
+out_idle true n qs lanes kept idle r = record {
+  round = round_keeps n (both (of_packets qs) (of_clones kept)) (both (of_packets qs) (both (of_lanes lanes) (of_clones kept)))
+      (λ t m. let a = idle_lanes lanes idle t m in (omega (arith, a.0), omega (arith, a.0, a.1))) r.round;
+  counts = omega (arith, r.counts, idle_counts lanes.queues.items idle.0);
+  spent = idle_clones lanes.taps.items idle.1;
+}
+out_idle false n qs lanes kept idle r = record {
+  packets = r.packets;
+  queues = idle_alone lanes.queues.items idle.0;
+  count = omega (arith, r.count, idle_counts lanes.queues.items idle.0);
+  none = r.none;
+  idle = idle.1;
+}
+
+-- packets as they were read, without lanes or clones
+pub out_alone : (n : ℕ) (ps : List Held) (lanes : Lanes) (kept : List TapClone) → LaidFrom 0 ps → counts_of ps ≡ n → AreIdle lanes → kept ≡ [] → IsOut false n ps lanes kept
+out_alone n ps lanes kept laid count idle none = out_idle false n ps lanes kept idle (record { packets = laid_all 0 ps laid; count = count; none = none })
+
+head_shared : (shared : Bool) (taps n : ℕ) (qs : List Held) (kept : List TapClone) → (shared ≡ false → taps ≡ 0) → IsOneRound shared n qs kept → 1 ≤ taps → AreShared qs
+head_shared true taps n qs kept none r some = r.heads
+head_shared false taps n qs kept none r some = absurd (omega (arith, none refl, some))
+
+-- so much of a round that isn't a spare
+pub at_count : (shared : Bool) (m n : ℕ) (qs : List Held) (kept : List TapClone) → m ≡ n → IsOneRound shared m qs kept → IsOneRound shared n qs kept
+at_count shared m n qs kept e r = subst (λ (i : ℕ). IsOneRound shared i qs kept) e r
+
+pub are_kept : (keep : Bool) (taps n : ℕ) (ps : List Held) (k : Kept) → k.blocks ≡ n → counts_of ps + home k.spares ≡ n → AllByRecursion IsCaptured (map packet_of ps)
+    → (j : ℕ) × NumberedFrom j ps → n ≤ 65536 → (k.shared ≡ false → taps ≡ 0) → IsPrepared k.shared ps k.packets.items k.kept.items
     → (keep ≡ true → map packet_of_clone k.kept.items ≡ map packet_of ps)
-    → IsKept keep (map packet_of ps) n k
-are_kept keep n ps k size fresh captured counts numbers few after keeps fewer clones = record {
-  same = after.same;
+    → IsKept keep taps (map packet_of ps) n k
+are_kept keep taps n ps k size counts captured numbers few unshared p clones = record {
+  same = p.same;
   size = size;
-  held = after.held;
-  shared = after.shared;
-  weighs = after.weigh;
-  rising = subst (RiseFrom 0) (sym after.same) (rise 0 numbers.0 ps (omega arith) numbers.1);
-  fit = subst (AllByRecursion Fits) (sym after.same) (captured_fit (map packet_of ps) captured);
-  few = omega (arith, after.counts, counts, few);
-  counts = omega (arith, after.counts, counts, fewer, size);
-  round = subst (λ (m : ℕ). IsRound m (both (of_packets k.packets.items) (of_clones k.kept.items))) (sym size)
-      (round_keeps n (of_packets ps) (both (of_packets k.packets.items) (of_clones k.kept.items)) keeps (fresh_round n (of_packets ps) fresh));
+  held = p.held;
+  shown = head_shared k.shared taps (counts_of ps) k.packets.items k.kept.items unshared p.round;
+  weighs = p.weighs;
+  rising = subst (RiseFrom 0) (sym p.same) (rise 0 numbers.0 ps (omega arith) numbers.1);
+  fit = subst (AllByRecursion Fits) (sym p.same) (captured_fit (map packet_of ps) captured);
+  few = omega (arith, p.count, counts, few);
+  spares = omega (arith, counts, size);
+  unshared = unshared;
+  round = at_count k.shared (counts_of ps) (k.blocks - home k.spares) k.packets.items k.kept.items (omega (arith, counts, size)) p.round;
   clones = clones;
 }
 
@@ -135,47 +206,55 @@ small_lanes plan ps lanes is fit merged are packets watched = record {
 
 -- ---- what the lanes have done, or not
 
-round_now : (x : Account) (k j : Kept) → j.kept.items ≡ k.kept.items → j.blocks ≡ k.blocks → IsRound k.blocks (both (of_packets k.packets.items) (of_clones k.kept.items))
-    → Keeps (of_packets k.packets.items) x
-    → IsRound j.blocks (both x (of_clones j.kept.items))
-round_now x k j same size round keeps =
-    subst (λ (m : ℕ). IsRound m (both x (of_clones j.kept.items))) (sym size)
-    (subst (λ (z : List TapClone). IsRound k.blocks (both x (of_clones z))) (sym same) (beside k.blocks (of_packets k.packets.items) x (of_clones k.kept.items) keeps round))
-
 ok_of : {E : Type 0} (r : Result (Unit {0}) E) (P : Type 0) → r ≡ Ok tt → OnOk r P → P
 ok_of r P e h = subst (λ z. OnOk z P) e h
 
-module _ {E : Type 0} (keep : Bool) (ps : List Packet) (n : ℕ) (plan : Plan) (k j : Kept) (is : IsPlan plan) (kept : IsKept keep ps n k) (same : j.kept.items ≡ k.kept.items)
-    (size : j.blocks ≡ k.blocks) where
+-- packets went from ps to qs and to the lanes
+pub out_worked : (shared : Bool) (taps n : ℕ) (ps qs : List Held) (lanes : Lanes) (kept : List TapClone) → (shared ≡ false → taps ≡ 0) → IsOneRound shared n ps kept
+    → Keeps (of_packets ps) (both (of_packets qs) (of_lanes lanes)) → counts_of qs + counts_of_queues lanes.queues.items ≡ counts_of ps → AreSpent lanes.taps.items
+    → (taps ≡ 0 → AreAlone ps → AreAlone qs × All (λ (l : QueueLane). AreAlone l.packets.items) lanes.queues.items) → (taps ≡ 0 → All IsIdleTap lanes.taps.items)
+    → IsOut shared n qs lanes kept
+out_worked true taps n ps qs lanes kept unshared r keeps count spent alone idle = record {
+  round = round_keeps n (both (of_packets ps) (of_clones kept)) (both (of_packets qs) (both (of_lanes lanes) (of_clones kept)))
+      (λ t m. let x = keeps t m in (omega (arith, x.0), omega (arith, x.0, x.1))) r.round;
+  counts = omega (arith, r.counts, count);
+  spent = spent;
+}
+out_worked false taps n ps qs lanes kept unshared r keeps count spent alone idle =
+    let none = unshared refl in
+    let a = alone none r.packets in
+    record {
+      packets = a.0;
+      queues = a.1;
+      count = omega (arith, count, r.count);
+      none = r.none;
+      idle = idle none;
+    }
+
+-- what is out with k, but that some of its packets went to the lanes
+beside : (k j : Kept) (l : Lanes) → record j { packets = k.packets } ≡ k → home k.spares ≤ k.blocks → IsOut k.shared (k.blocks - home k.spares) j.packets.items l k.kept.items → IsOutBeside j l
+beside k j l same spares out =
+    subst (λ (z : Kept). (home z.spares ≤ z.blocks) × IsOut z.shared (z.blocks - home z.spares) j.packets.items l z.kept.items) (sym same) (spares, out)
+
+module _ {E : Type 0} (keep : Bool) (ps : List Packet) (n : ℕ) (plan : Plan) (k j : Kept) (is : IsPlan plan) (kept : IsKept keep plan.taps ps n k)
+    (same : record j { packets = k.packets } ≡ k) where
   pub settles : (r : Result (Unit {0}) E) (l : Lanes) → OnOk r (AreMerged plan.segs (spread_of plan) plan.queues (map packet_of k.packets.items) l.queues.items)
       → OnOk r (AreWatched plan.snap plan.taps (shown_by plan (map packet_of k.packets.items)) l.taps.items)
       → OnOk r (All IsMerged l.queues.items)
       → OnOk r (EachFrom (λ q (l : QueueLane). map packet_of l.packets.items ≡ filter (is_queued (spread_of plan) q) (map packet_of k.packets.items)) 0 l.queues.items)
       → OnOk r (j.packets.items ≡ [])
-      → Keeps (of_packets k.packets.items) (both (of_packets j.packets.items) (of_lanes l))
-      → counts_of j.packets.items + counts_of_queues l.queues.items ≤ counts_of k.packets.items → AreSpent l.taps.items
+      → IsOut k.shared (k.blocks - home k.spares) j.packets.items l k.kept.items
       → MatchResult r (λ _. IsDone j l) (λ _. IsLeft j l)
-  settles (Ok u) l merged watched are packets all keeps counts spent = record {
+  settles (Ok u) l merged watched are packets all out = record {
     all = all;
-    round = round_now (of_lanes l) k j same size kept.round
-        (λ t m.
-        let x = keeps t m in
-        let n = no_packets j.packets.items all t m in
-        (omega (arith, x.0, n.0), omega (arith, x.1, n.0, n.1)));
-    counts = omega (arith, counts, kept.counts, size, ap blocks_of same);
-    spent = spent;
+    out = beside k j l same kept.spares out;
     small = small_lanes plan (map packet_of k.packets.items) l is kept.fit merged are packets watched;
   }
-  settles (Err e) l merged watched are packets all keeps counts spent = record {
-    round = round_keeps j.blocks (both (both (of_packets j.packets.items) (of_lanes l)) (of_clones j.kept.items)) (both (of_packets j.packets.items) (both (of_lanes l) (of_clones j.kept.items)))
-        (λ t m. (omega arith, omega arith)) (round_now (both (of_packets j.packets.items) (of_lanes l)) k j same size kept.round keeps);
-    counts = omega (arith, counts, kept.counts, size, ap blocks_of same);
-    spent = spent;
-  }
+  settles (Err e) l merged watched are packets all out = beside k j l same kept.spares out
 
 -- all that a comparison wants to know of what the lanes came to
 pub kept_work : {E X : Type 0} (plan : Plan) (budget n : ℕ) (keep : Bool) (ps : List Packet) (k : Kept) (done : Result (Unit {0}) E) (l : Lanes) (r : Result WorkedState X) → keep ≡ true
-    → IsKept keep ps n k → OnOk done (AreMerged plan.segs (spread_of plan) plan.queues (map packet_of k.packets.items) l.queues.items)
+    → IsKept keep plan.taps ps n k → OnOk done (AreMerged plan.segs (spread_of plan) plan.queues (map packet_of k.packets.items) l.queues.items)
     → OnOk done (AreWatched plan.snap plan.taps (shown_by plan (map packet_of k.packets.items)) l.taps.items)
     → OnOk done (All IsMerged l.queues.items)
     → IfOk r (IsOfLanes done l k.kept.items k.blocks) → IfOk r (IsKeptWorkOf (options_by plan budget) ps)
@@ -202,18 +281,11 @@ done_work P done l kept n (Ok w) h of = subst P (sym of.1) (ok_of done (P l) of.
 
 -- ---- a round that goes home
 
--- packets alone, without lanes or clones
-pub round_alone : (n : ℕ) (ps ls ks : Account) → ((t : Tests) (m : ℕ) → (ls.held t m ≡ 0) × (ls.homes t.blocks m ≡ 0)) → ((t : Tests) (m : ℕ) → (ks.held t m ≡ 0) × (ks.homes t.blocks m ≡ 0))
-    → IsRound n ps → IsRound n (both ps (both ls ks))
-round_alone n ps ls ks none no_kept r =
-    round_keeps n ps (both ps (both ls ks)) (λ t m. let a = none t m in let b = no_kept t m in (omega (arith, a.0, b.0), omega (arith, a.0, b.0, a.1, b.1))) r
+-- lanes of a round that was worked, beside no packets
+pub out_beside : (shared : Bool) (n : ℕ) (ps : List Held) (lanes : Lanes) (kept : List TapClone) → ps ≡ [] → IsOut shared n [] lanes kept → IsOut shared n ps lanes kept
+out_beside shared n ps lanes kept none out = subst (λ (z : List Held). IsOut shared n z lanes kept) (sym none) out
 
 -- the same beside outcomes that hold nothing
 pub round_left : (n : ℕ) (os ps ls ks : Account) → ((t : Tests) (m : ℕ) → (os.held t m ≡ 0) × (os.homes t.blocks m ≡ 0)) → IsRound n (both ps (both ls ks)) → IsRound n (both os (both ps (both ls ks)))
 round_left n os ps ls ks no_out r =
     round_keeps n (both ps (both ls ks)) (both os (both ps (both ls ks))) (λ t m. let a = no_out t m in (omega (arith, a.0), omega (arith, a.0, a.1))) r
-
--- packets of which clones were taken, without lanes
-pub round_kept : (n : ℕ) (ps qs ls ks : Account) → Keeps ps (both qs ks) → ((t : Tests) (m : ℕ) → (ls.held t m ≡ 0) × (ls.homes t.blocks m ≡ 0)) → IsRound n ps → IsRound n (both qs (both ls ks))
-round_kept n ps qs ls ks keeps none r =
-    round_keeps n ps (both qs (both ls ks)) (λ t m. let x = keeps t m in let a = none t m in (omega (arith, x.0, a.0), omega (arith, x.1, a.0, a.1))) r

@@ -2,17 +2,13 @@
 mod Places
 -- objects that come home one after another
 mod Coming
--- blocks as they are taken
+-- the blocks of a round whose heads were shared
 mod Taking
--- blocks that are filled one after another
-mod Filling
--- a record that is read
-mod Recording
 -- a round that is read
 mod Rounding
 -- a round that is read beside the work of another
 mod Pausing
--- packets that are merged
+-- what a call keeps of a round
 mod Working
 -- what lanes hold, the last one apart
 mod LaneCounts
@@ -24,8 +20,6 @@ mod Keeping
 mod Lanes
 -- rounds that are merged
 pub mod Merging
--- a table that is lent in part
-mod Lent
 -- an offload header whose last bytes lie in blocks
 mod Heads
 -- the packets of a record, written one after another

@@ -31,9 +31,9 @@ use Rattle.offload_model.specs.Written.{Options}
 use Rattle.offload_model.proofs.Lists.{all_taken}
 use Rattle.offload_model.proofs.Needs.{needed_append, needs_add}
 use Rattle.offload_model.proofs.Steps.{commands_pass_on, fronts_pass_on, merging_goes_by_round}
-use Rattle.gro.specs.declared.packet.Packet.{Packet as Held}
-use Rattle.gro.specs.Held.{packet_of}
-use Rattle.rounds.specs.Record.{in_front, Passes as PassesRecords}
+use Rattle.gro.specs.declared.slot.Slot.{Slot as Held}
+use Rattle.gro.specs.Slots.{packet_of}
+use Rattle.records.specs.Reading.{in_front, Passes as PassesRecords}
 use Rattle.rounds.specs.Reading.{GivesRound, PassesRound, Holds, Exceeds}
 use Rattle.rounds.specs.RoundsState.{RoundsState}
 use Rattle.rounds.specs.Merging.{ending_of, options_of, is_worked, Fails, WritesLast, Puts, GivesUp, Ahead, EndsBehind, Steps, IfEnds, TakesAll, AreCapturedAt, EndsCaptured, HoldsCaptured, MovesOn}

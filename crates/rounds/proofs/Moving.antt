@@ -1,12 +1,12 @@
 -- What segmenting one record shows of the records of a capture.
-use Rattle.std.proofs.Common.{◌≡◌, ℕ, ◌+◌, ◌-◌, ◌^◌, ◌≤◌, true, false, List, [], ◌∷◌, ◌++◌, length, map, min, refl, sym, ap, ◌∙◌, subst, arith, append-nil, length-append, Option, None, Some, Result}
+use Rattle.std.proofs.Common.{◌≡◌, ℕ, ◌+◌, ◌-◌, ◌^◌, ◌≤◌, true, false, List, [], ◌∷◌, ◌++◌, length, map, min, sym, ap, ◌∙◌, subst, arith, append-nil, length-append, Option, None, Some, Result}
 use Rattle.std.proofs.Common.{Ok, Err}
 use Rattle.std.specs.Io.KnownBytes.{Appends}
 use Rattle.std.proofs.KnownBytes.{Appends-nil, Appends-kept, Keeps-refl}
 use Rattle.off_io.specs.Content.{AppendsFront}
 use Rattle.off_io.specs.Told.{Told}
 use Rattle.off_io.proofs.Appending.{front_more}
-use Rattle.off_io.proofs.Telling.{Told-weaker, Told-same}
+use Rattle.off_io.proofs.Telling.{Told-weaker}
 use Rattle.pcap_io.specs.declared.heads.Link.{Link}
 use Rattle.pcap_io.specs.declared.heads.Link.TheVariants.{Offload}
 use Rattle.pcap_io.specs.Headers.{is_bad_original}
@@ -26,17 +26,16 @@ use Rattle.offload_model.specs.Steps.{behind}
 use Rattle.offload_model.specs.Tests.{is_lawful_record}
 use Rattle.offload_model.proofs.Steps.{segmenting_goes_by_record}
 use Rattle.skb.specs.SkbState.{buffer_bytes}
-use Rattle.gro.specs.declared.packet.Packet.{Packet as Held}
+use Rattle.gro.specs.declared.slot.Slot.{Slot as Held}
 use Rattle.rounds.specs.declared.cut.Refused.{Refused}
 use Rattle.rounds.specs.declared.cut.Refused.TheVariants as refusals
-use Rattle.rounds.specs.declared.record.Stop.{Stop as Unread}
-use Rattle.rounds.specs.declared.record.Stop.TheVariants as stops
+use Rattle.records.specs.declared.reading.Stop.{Stop as Unread}
+use Rattle.records.specs.declared.reading.Stop.TheVariants as stops
 use Rattle.rounds.specs.declared.segment.Moved.{Moved}
 use Rattle.rounds.specs.declared.segment.Moved.TheVariants.{One}
 use Rattle.rounds.specs.declared.segment.SegFault.{SegFault}
-use Rattle.rounds.specs.declared.segment.SegFault.TheVariants as faults
 use Rattle.rounds.specs.Cutting.{WritesRecord, packets_bytes}
-use Rattle.rounds.specs.Record.{front_size, judged_at, record_of, Passes, GivesRecord}
+use Rattle.records.specs.Reading.{front_size, judged_at, record_of, Passes, GivesRecord}
 use Rattle.rounds.specs.Segmenting.{IsFaultOf, IsMovedOf, Moves, TakesOne}
 
 abbrev passed : List ℕ → Stop → Passed
@@ -100,10 +99,6 @@ pub unmoved_given : (a b h : Option (List ℕ)) (blocks : ℕ) (old new : Place)
     → Told a b (GivesRecord 0 blocks old new front (Err stop)) → Told a b (Moves blocks old new h h result)
 unmoved_given a b h blocks old new front stop result link is told =
     Told-weaker a b (GivesRecord 0 blocks old new front (Err stop)) (Moves blocks old new h h result) (λ bytes left gives. unmoved h blocks old new front stop result bytes left link is gives) told
-
--- nothing was read
-pub unread_given : (a h : Option (List ℕ)) (blocks : ℕ) (old new : Place) → Told a a (Moves blocks old new h h (Err faults.NoMemory))
-unread_given a h blocks old new = Told-same a (Moves blocks old new h h (Err faults.NoMemory)) (λ bytes. (([], refl, (0, Appends-nil h)), tt))
 
 -- ---- a record
 

@@ -17,7 +17,7 @@ use Rattle.offload_model.proofs.Decides.{decides_opened}
 use Rattle.offload_model.specs.Written.{record_bytes}
 use Rattle.skb.specs.SkbState.{buffer_bytes}
 use Rattle.segment_rule.specs.Segmentations.{segment_at}
-use Rattle.gro.specs.declared.packet.Packet.{Packet as Held}
+use Rattle.gro.specs.declared.slot.Slot.{Slot as Held}
 use Rattle.gso.specs.Places.{SegmentsState}
 use Rattle.gso.specs.Planning.{IsLawfulBehind, packets_by}
 use Rattle.gso.specs.declared.judging.Plan.TheVariants.{Segments}

@@ -8,8 +8,8 @@ use Rattle.pcap_io.specs.declared.place.Place.{Place}
 use Rattle.pcap_io.specs.Places.{IsReady}
 use Rattle.offload_model.specs.Captured.{IsCaptured}
 use Rattle.offload_model.specs.Need.{round_need}
-use Rattle.gro.specs.declared.packet.Packet.{Packet as Held}
-use Rattle.gro.specs.Held.{packet_of}
+use Rattle.gro.specs.declared.slot.Slot.{Slot as Held}
+use Rattle.gro.specs.Slots.{packet_of}
 use Rattle.rounds.specs.Ahead.{ReadsAhead}
 use Rattle.rounds.specs.Reading.{GivesMore, GivesRest, GoesOver, FillsRound, NumbersOn, PassesOver}
 use Rattle.rounds.specs.RoundsState.{RoundState}

@@ -10,23 +10,22 @@ use Rattle.pcap_io.specs.Capture.{Packet, Found}
 use Rattle.pcap_io.specs.Laws.{frame_length}
 use Rattle.pcap_io.specs.Lengths.{lengths_at}
 use Rattle.pcap_io.specs.Places.{IsReady, found_at}
-use Rattle.frags.specs.Account.{Account, Tests, of_outcomes, receipts_held, soles_home}
+use Rattle.frags.specs.Account.{Tests, of_outcomes, receipts_held, soles_home}
 use Rattle.frags.specs.OutcomesState.{OutcomesState, IsBare}
-use Rattle.frags.specs.RoundAccount.{of_lives}
 use Rattle.skb.specs.SkbState.{buffer_bytes}
 use Rattle.offload_model.specs.Need.{need_of, needed, round_need}
 use Rattle.offload_model.specs.Captured.{IsCaptured}
-use Rattle.gro.specs.declared.packet.Packet.{Packet as Held}
-use Rattle.gro.specs.Held.{packet_of}
-use Rattle.rounds.specs.Marks.{all, others, IsRound}
-use Rattle.rounds.specs.Fresh.{IsRead, NumberedFrom}
-use Rattle.rounds.specs.Record.{front_size, in_front, Passes, HoldsNone, judged_at, GivesRecord, GoesOn, NeedsMore}
+use Rattle.gro.specs.declared.slot.Slot.{Slot as Held}
+use Rattle.gro.specs.Slots.{packet_of}
+use Rattle.records.specs.Laid.{IsRead}
+use Rattle.rounds.specs.Fresh.{NumberedFrom}
+use Rattle.records.specs.Reading.{front_size, in_front, Passes, HoldsNone, judged_at, GivesRecord, GoesOn, NeedsMore}
 use Rattle.rounds.specs.Reading.{GivesRound, GivesRest, PassesOver, PassesRound, GoesOver, FillsRound, NumbersOn, Holds, Exceeds, IsEndOf}
-use Rattle.rounds.specs.declared.record.Stop.{Stop}
-use Rattle.rounds.specs.declared.record.Stop.TheVariants as stops
+use Rattle.records.specs.declared.reading.Stop.{Stop}
+use Rattle.records.specs.declared.reading.Stop.TheVariants as stops
 use Rattle.rounds.specs.declared.round.RoundEnd.{RoundEnd}
 use Rattle.rounds.specs.declared.round.RoundEnd.TheVariants as ends
-use Rattle.rounds.proofs.Taking.{Same, numbered_last}
+use Rattle.rounds.proofs.Taking.{numbered_last}
 
 -- behind the first packets these stand before what is still to be read
 pub record ReadSoFar (before now : Option (List ℕ)) (old new : Place) (first packets : List Held) : Type 0 where
@@ -272,15 +271,6 @@ captured_last (x ∷ xs) p h r = (h.0, captured_last xs p h.1 r)
 pub so_far_at : (a b : Option (List ℕ)) (old new : Place) (first xs ys : List Held) → ys ≡ xs → ReadSoFar a b old new first xs → ReadSoFar a b old new first ys
 so_far_at a b old new first xs ys e h = subst (ReadSoFar a b old new first) (sym e) h
 
--- nothing else is of the round
-pub round_same : (n : ℕ) (x y : Account) → Same x y → IsRound n x → IsRound n y
-round_same n x y e r = record {
-  marked = record {
-    lives = λ m. let l = r.marked.lives m in (l.0, omega (arith, l.1, (e (of_lives (others l.0)) m).0));
-    range = λ m some. r.marked.range m (omega (arith, some, (e all m).0));
-  };
-  whole = λ m lt z. let w = r.whole m lt (omega (arith, z, (e all m).1)) in omega (arith, w, (e all m).0);
-}
-
+-- nothing was given back
 pub no_outcomes : (o : OutcomesState) → IsBare o → (t : Tests) (m : ℕ) → ((of_outcomes o).held t m ≡ 0) × ((of_outcomes o).homes t.blocks m ≡ 0)
 no_outcomes o bare t m = (ap (receipts_held t m) bare.1, ap (soles_home t.blocks m) bare.0)

@@ -1,46 +1,36 @@
--- Blocks as they were taken for a round.
+-- The blocks of a round whose heads were shared.
 use Rattle.std.proofs.Common.{◌≡◌, ℕ, zero, suc, ◌+◌, ◌<◌, ◌≤◌, List, [], ◌∷◌, ◌++◌, Bool, false, ◌⊎◌, inl, inr, refl, sym, ◌∙◌, subst, length, arith}
 use Rattle.ref_core.specs.WeightRule.{full_weight}
 use Rattle.raw_block.specs.Views.{Life, SoleState, PartState}
-use Rattle.frags.specs.Account.{Account, Tests, both, counted, at_home, of_sole, of_part, of_holder}
-use Rattle.frags.specs.RoundAccount.{all_blocks, of_lives}
-use Rattle.frags.specs.PieceList.{of_pieces, least_weight}
+use Rattle.frags.specs.Account.{Account, Tests, both, counted, of_part, of_holder}
+use Rattle.frags.specs.RoundAccount.{of_lives}
+use Rattle.frags.specs.PieceList.{of_pieces}
 use Rattle.frags.specs.declared.pieces.Piece.{Piece}
 use Rattle.frags.specs.declared.holder.Holder.{Holder}
 use Rattle.frags.specs.declared.holder.Holder.TheVariants.{Sole, Part}
-use Rattle.skb.specs.SkbState.{of_buffer, IsLent, head_least, is_sole}
-use Rattle.gro.specs.declared.packet.Packet.{Packet as Held}
-use Rattle.gro.specs.Held.{of_packet, of_packets}
+use Rattle.skb.specs.SkbState.{IsLent}
+use Rattle.gro.specs.declared.slot.Slot.{Slot as Held}
+use Rattle.gro.specs.Slots.{of_packet, of_packets, count_of, counts_of, with_head, AreLent}
+use Rattle.records.specs.Laid.{IsLaid, LaidFrom, WholeFrom}
+use Rattle.records.proofs.Laying.{below_or}
 use Rattle.rounds.specs.Marks.{all, others, OneLife, nothing, IsRound}
-use Rattle.rounds.specs.Fresh.{weight_at, IsFresh, MarkedFrom, WholeFrom, NumberedFrom}
-use Rattle.rounds.proofs.Coming.{packets_last}
+use Rattle.rounds.specs.Fresh.{weight_at, IsFresh, NumberedFrom}
 
 some_life : Life
 some_life = record { names = (0, 0); block = 0 }
 
-pub marked_last : (k : ℕ) (xs : List SoleState) (s : SoleState) → MarkedFrom k xs → s.mark ≡ k + length xs → MarkedFrom k (xs ++ s ∷ [])
-marked_last k [] s h e = (omega (arith, e), tt)
-marked_last k (x ∷ xs) s h e = (h.0, marked_last (k + 1) xs s h.1 (omega (arith, e)))
-
-pub whole_last : (k : ℕ) (xs : List Piece) (p : Piece) → WholeFrom k xs → p.part.weight ≡ full_weight → p.part.mark ≡ k + length xs → WholeFrom k (xs ++ p ∷ [])
-whole_last k [] p h w e = (w, omega (arith, e), tt)
-whole_last k (x ∷ xs) p h w e = (h.0, h.1, whole_last (k + 1) xs p h.2 w (omega (arith, e)))
-
-pub marked_at_start : (k j : ℕ) (xs : List SoleState) → j ≡ k → MarkedFrom k xs → MarkedFrom j xs
-marked_at_start k j xs e h = subst (λ i. MarkedFrom i xs) (sym e) h
-
 -- accounts of blocks in turn
 
-pub others_self : (l : Life) → others l l ≡ false
+others_self : (l : Life) → others l l ≡ false
 others_self l = grind arith
 
-pub counted_other : (l : Life) (m k w : ℕ) → counted (of_lives (others l)) m l k w ≡ 0
+counted_other : (l : Life) (m k w : ℕ) → counted (of_lives (others l)) m l k w ≡ 0
 counted_other l m k w = grind (arith, others_self l)
 
-pub counted_less : (f : Life → Bool) (m : ℕ) (l : Life) (k w : ℕ) → counted (of_lives f) m l k w ≤ counted all m l k w
+counted_less : (f : Life → Bool) (m : ℕ) (l : Life) (k w : ℕ) → counted (of_lives f) m l k w ≤ counted all m l k w
 counted_less f m l k w = grind arith
 
-pub fresh_none : (k : ℕ) → IsFresh k 0 nothing
+fresh_none : (k : ℕ) → IsFresh k 0 nothing
 fresh_none k = record {
   one = λ m. (some_life, refl);
   exact = λ m a b. absurd (omega (arith, a, b));
@@ -49,28 +39,13 @@ fresh_none k = record {
   less = λ f m. omega arith;
 }
 
-at_home-one : (m b k : ℕ) → k ≤ m → m < k + 1 → at_home all_blocks m b k ≡ 1
-at_home-one m b k x y = let e : m ≡ k = omega (arith, x, y) in grind (arith, e)
-
-at_home-at : (m b k : ℕ) → 0 < at_home all_blocks m b k → m ≡ k
-at_home-at m b k h = grind (arith, h)
-
 counted-one : (m : ℕ) (l : Life) (k w : ℕ) → k ≤ m → m < k + 1 → counted all m l k w ≡ w
 counted-one m l k w a b = let e : m ≡ k = omega (arith, a, b) in grind (arith, e)
 
 counted-at : (m : ℕ) (l : Life) (k w : ℕ) → 0 < counted all m l k w → m ≡ k
 counted-at m l k w h = grind (arith, h)
 
-pub fresh_sole : (k : ℕ) (s : SoleState) → s.mark ≡ k → IsFresh k 1 (of_sole s)
-fresh_sole k s e = record {
-  one = λ m. (some_life, refl);
-  exact = λ m a b. let h = at_home-one m s.block s.mark (omega (arith, a, e)) (omega (arith, b, e)) in omega (arith, h);
-  low = λ m h. let g = at_home-at m s.block s.mark (omega (arith, h)) in omega (arith, g, e);
-  range = λ m h. let g = at_home-at m s.block s.mark (omega (arith, h)) in omega (arith, g, e);
-  less = λ f m. omega arith;
-}
-
-pub fresh_part : (k : ℕ) (p : PartState) → p.weight ≡ full_weight → p.mark ≡ k → IsFresh k 1 (of_part p)
+fresh_part : (k : ℕ) (p : PartState) → p.weight ≡ full_weight → p.mark ≡ k → IsFresh k 1 (of_part p)
 fresh_part k p w e = record {
   one = λ m. (p.life, counted_other p.life m p.mark p.weight);
   exact = λ m a b. let h = counted-one m p.life p.mark p.weight (omega (arith, a, e)) (omega (arith, b, e)) in omega (arith, h, w);
@@ -83,28 +58,19 @@ some_or_none : (n : ℕ) → (n ≡ 0) ⊎ (0 < n)
 some_or_none zero = inl refl
 some_or_none (suc n) = inr (omega arith)
 
-below_step : (m n : ℕ) → (m < n) ⊎ (n ≤ m) → (suc m < suc n) ⊎ (suc n ≤ suc m)
-below_step m n (inl h) = inl (omega (arith, h))
-below_step m n (inr h) = inr (omega (arith, h))
-
-pub below_or : (m n : ℕ) → (m < n) ⊎ (n ≤ m)
-below_or m zero = inr (omega arith)
-below_or zero (suc n) = inl (omega arith)
-below_or (suc m) (suc n) = below_step m n (below_or m n)
-
 none_past' : (a k : ℕ) (x : Account) → IsFresh a k x → (m : ℕ) → a + k ≤ m → (weight_at x m ≡ 0) ⊎ (0 < weight_at x m) → weight_at x m ≡ 0
 none_past' a k x h m le (inl z) = z
 none_past' a k x h m le (inr p) = absurd (omega (arith, h.range m p, le))
 
 -- beyond its marks there is nothing
-pub none_past : (a k : ℕ) (x : Account) → IsFresh a k x → (m : ℕ) → a + k ≤ m → weight_at x m ≡ 0
+none_past : (a k : ℕ) (x : Account) → IsFresh a k x → (m : ℕ) → a + k ≤ m → weight_at x m ≡ 0
 none_past a k x h m le = none_past' a k x h m le (some_or_none (weight_at x m))
 
 none_before' : (a k : ℕ) (x : Account) → IsFresh a k x → (m : ℕ) → m < a → (weight_at x m ≡ 0) ⊎ (0 < weight_at x m) → weight_at x m ≡ 0
 none_before' a k x h m le (inl z) = z
 none_before' a k x h m le (inr p) = absurd (omega (arith, h.low m p, le))
 
-pub none_before : (a k : ℕ) (x : Account) → IsFresh a k x → (m : ℕ) → m < a → weight_at x m ≡ 0
+none_before : (a k : ℕ) (x : Account) → IsFresh a k x → (m : ℕ) → m < a → weight_at x m ≡ 0
 none_before a k x h m lt = none_before' a k x h m lt (some_or_none (weight_at x m))
 
 join_one : (a k j : ℕ) (x y : Account) → IsFresh a k x → IsFresh (a + k) j y → (m : ℕ) → (m < a + k) ⊎ (a + k ≤ m) → OneLife (both x y) m
@@ -130,7 +96,7 @@ join_range a k j x y hx hy m h (inl z) = let l = hy.range m (omega (arith, h, z)
 join_range a k j x y hx hy m h (inr p) = let l = hx.range m p in omega (arith, l)
 
 -- blocks in turn, and then others
-pub fresh_join : (a k j : ℕ) (x y : Account) → IsFresh a k x → IsFresh (a + k) j y → IsFresh a (k + j) (both x y)
+fresh_join : (a k j : ℕ) (x y : Account) → IsFresh a k x → IsFresh (a + k) j y → IsFresh a (k + j) (both x y)
 fresh_join a k j x y hx hy = record {
   one = λ m. join_one a k j x y hx hy m (below_or m (a + k));
   exact = λ m from to. join_exact a k j x y hx hy m from to (below_or m (a + k));
@@ -140,10 +106,10 @@ fresh_join a k j x y hx hy = record {
 }
 
 -- the same account, and the same marks
-abbrev pub Same : Account → Account → Type 0
+abbrev Same : Account → Account → Type 0
 Same x y = (t : Tests) (m : ℕ) → (y.held t m ≡ x.held t m) × (y.homes t.blocks m ≡ x.homes t.blocks m)
 
-pub fresh_same : (a k a' k' : ℕ) (x y : Account) → a' ≡ a → k' ≡ k → Same x y → IsFresh a k x → IsFresh a' k' y
+fresh_same : (a k a' k' : ℕ) (x y : Account) → a' ≡ a → k' ≡ k → Same x y → IsFresh a k x → IsFresh a' k' y
 fresh_same a k a' k' x y ea ek e h = record {
   one = λ m. let l = h.one m in (l.0, omega (arith, l.1, (e (of_lives (others l.0)) m).0));
   exact = λ m from to. let z = h.exact m (omega (arith, from, ea)) (omega (arith, to, ea, ek)) in omega (arith, z, e all m);
@@ -152,7 +118,7 @@ fresh_same a k a' k' x y ea ek e h = record {
   less = λ f m. let z = h.less f m in omega (arith, z, (e (of_lives f) m).0, (e all m).0);
 }
 
-pub fresh_pieces : (k : ℕ) (ps : List Piece) → WholeFrom k ps → IsFresh k (length ps) (of_pieces ps)
+fresh_pieces : (k : ℕ) (ps : List Piece) → WholeFrom k ps → IsFresh k (length ps) (of_pieces ps)
 fresh_pieces k [] h = fresh_none k
 fresh_pieces k (p ∷ ps) h =
     fresh_same k (1 + length ps) k (suc (length ps)) (both (of_part p.part) (of_pieces ps)) (of_pieces (p ∷ ps)) refl (omega arith) (λ t m. (omega arith, omega arith))
@@ -163,21 +129,21 @@ fresh_head : (k : ℕ) (s : SoleState) (h : Holder) → s.mark ≡ k → IsLent 
 fresh_head k s (Sole x) e h = absurd h
 fresh_head k s (Part p) e h = fresh_part k p h.0 (h.3 ∙ e)
 
-pub fresh_packet : (k : ℕ) (s s1 s2 : SoleState) (p : Held) → s.mark ≡ k → IsLent (Sole s) p.skb.head → WholeFrom (k + 1) p.skb.rest → p.spare1.mark ≡ k + 1 + length p.skb.rest
-    → p.spare2.mark ≡ k + 2 + length p.skb.rest
-    → IsFresh k (length p.skb.rest + 3) (of_packet p)
-fresh_packet k s s1 s2 p e head rest m1 m2 =
+-- a packet whose blocks were marked in turn, and whose head was shared
+fresh_packet : (k : ℕ) (p : Held) (h : Holder) → IsLaid k p → IsLent p.skb.head h → IsFresh k (count_of p) (of_packet (with_head p h))
+fresh_packet k p h laid lent =
     let n = length p.skb.rest in
-    let buffer = fresh_join k 1 n (of_holder p.skb.head) (of_pieces p.skb.rest) (fresh_head k s p.skb.head e head) (fresh_pieces (k + 1) p.skb.rest rest) in
-    let spares = fresh_join (k + (1 + n)) 1 1 (of_sole p.spare1) (of_sole p.spare2) (fresh_sole (k + (1 + n)) p.spare1 (omega (arith, m1)))
-    (fresh_sole (k + (1 + n) + 1) p.spare2 (omega (arith, m2))) in
-    fresh_same k (1 + n + (1 + 1)) k (n + 3) (of_packet p) (of_packet p) refl (omega arith) (λ t m. (refl, refl))
-    (fresh_join k (1 + n) (1 + 1) (of_buffer p.skb) (both (of_sole p.spare1) (of_sole p.spare2)) buffer spares)
+    let head = fresh_head k laid.head.0 h laid.head.2 (subst (λ (g : Holder). IsLent g h) laid.head.1 lent) in
+    fresh_same k (1 + n) k (n + 1) (of_packet (with_head p h)) (of_packet (with_head p h)) refl (omega arith) (λ t m. (refl, refl))
+    (fresh_join k 1 n (of_holder h) (of_pieces p.skb.rest) head (fresh_pieces (k + 1) p.skb.rest laid.rest))
 
-pub fresh_more : (n k : ℕ) (ps : List Held) (p : Held) → IsFresh 0 n (of_packets ps) → IsFresh n k (of_packet p) → IsFresh 0 (n + k) (of_packets (ps ++ p ∷ []))
-fresh_more n k ps p h g =
-    fresh_same 0 (n + k) 0 (n + k) (both (of_packets ps) (of_packet p)) (of_packets (ps ++ p ∷ [])) refl refl (λ t m. let i = packets_last ps p t m in (omega (arith, i), omega (arith, i)))
-    (fresh_join 0 n k (of_packets ps) (of_packet p) h (fresh_same n k (0 + n) k (of_packet p) (of_packet p) (omega arith) refl (λ t m. (refl, refl)) g))
+-- the same of all packets of a round
+pub fresh_lent : (k : ℕ) (ps qs : List Held) → LaidFrom k ps → AreLent ps qs → IsFresh k (counts_of ps) (of_packets qs)
+fresh_lent k [] qs laid lent = subst (λ (z : List Held). IsFresh k 0 (of_packets z)) (sym lent) (fresh_none k)
+fresh_lent k (p ∷ ps) qs laid lent =
+    subst (λ (z : List Held). IsFresh k (counts_of (p ∷ ps)) (of_packets z)) (sym lent.1.1.1)
+    (fresh_join k (count_of p) (counts_of ps) (of_packet (with_head p lent.0)) (of_packets lent.1.0) (fresh_packet k p lent.0 laid.0 lent.1.1.0)
+    (fresh_lent (k + count_of p) ps lent.1.0 laid.1 lent.1.1.2))
 
 -- blocks as they were taken are a round
 pub fresh_round : (n : ℕ) (a : Account) → IsFresh 0 n a → IsRound n a
@@ -186,20 +152,6 @@ fresh_round n a h = record {
   whole = λ m lt z. let e = h.exact m (omega arith) (omega (arith, lt)) in omega (arith, e, z);
 }
 
--- pieces of whole blocks weigh all that they may
-pub whole_least : (k : ℕ) (ps : List Piece) → WholeFrom k ps → least_weight ps ≡ full_weight
-whole_least k [] h = refl
-whole_least k (p ∷ ps) h = omega (arith, h.0, whole_least (k + 1) ps h.2)
-
 pub numbered_last : (k : ℕ) (xs : List Held) (p : Held) → NumberedFrom k xs → p.number ≡ k + length xs → NumberedFrom k (xs ++ p ∷ [])
 numbered_last k [] p h e = (omega (arith, e), tt)
 numbered_last k (x ∷ xs) p h e = (h.0, numbered_last (k + 1) xs p h.1 (omega (arith, e)))
-
--- a head that was a Sole is a part, of all the weight
-pub lent_is_part : (s : SoleState) (h : Holder) → IsLent (Sole s) h → is_sole h ≡ false
-lent_is_part s (Sole x) l = absurd l
-lent_is_part s (Part p) l = refl
-
-pub lent_weighs : (s : SoleState) (h : Holder) → IsLent (Sole s) h → head_least h ≡ full_weight
-lent_weighs s (Sole x) l = absurd l
-lent_weighs s (Part p) l = l.0

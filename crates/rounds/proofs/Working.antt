@@ -1,16 +1,9 @@
--- Packets that are merged.
-use Rattle.std.proofs.Common.{ℕ, List, [], ◌∷◌, arith}
+-- What a call keeps of a round.
+use Rattle.std.proofs.Common.{ℕ, arith}
 use Rattle.frags.specs.Account.{Account, Keeps}
-use Rattle.gro.specs.declared.packet.Packet.{Packet}
-use Rattle.gro.specs.Held.{AreShared}
-use Rattle.rounds.specs.Fresh.{AreRead}
 use Rattle.frags.specs.RoundAccount.{of_lives}
 use Rattle.rounds.specs.Marks.{all, IsRound}
 use Rattle.rounds.proofs.Places.{marked_less}
-
-pub are_shared : (ps : List Packet) → AreRead ps → AreShared ps
-are_shared [] h = tt
-are_shared (p ∷ ps) h = (h.0.shared, are_shared ps h.1)
 
 -- what a call keeps of a round is a round
 pub round_keeps : (n : ℕ) (a b : Account) → Keeps a b → IsRound n a → IsRound n b

@@ -4,10 +4,10 @@ use Rattle.std.specs.List.{AllByRecursion}
 use Rattle.pcap_io.specs.declared.place.Place.{Place}
 use Rattle.offload_model.specs.Captured.{IsCaptured}
 use Rattle.offload_model.specs.Need.{round_need}
-use Rattle.gro.specs.Held.{packet_of}
+use Rattle.gro.specs.Slots.{packet_of}
 use Rattle.rounds.specs.Fresh.{NumberedFrom}
 use Rattle.rounds.specs.Reading.{GivesRound, NumberedTo, PassesRound}
-use Rattle.rounds.specs.Record.{Passes}
+use Rattle.records.specs.Reading.{Passes}
 use Rattle.rounds.specs.RoundsState.{RoundState, WorkedState}
 use Rattle.rounds.specs.declared.round.ReadAhead.{ReadAhead}
 use Rattle.rounds.specs.declared.round.ReadAhead.TheVariants as aheads

@@ -12,7 +12,7 @@ use Rattle.skb.specs.SkbState.{buffer_bytes}
 use Rattle.offload_model.specs.Segments.{packet_in, segments_of}
 use Rattle.offload_model.specs.Tests.{is_lawful_record}
 use Rattle.offload_model.specs.Written.{record_bytes}
-use Rattle.gro.specs.declared.packet.Packet.{Packet as Held}
+use Rattle.gro.specs.declared.slot.Slot.{Slot as Held}
 use Rattle.rounds.specs.declared.cut.Refused.{Refused}
 use Rattle.rounds.specs.declared.cut.Refused.TheVariants.{BadOffload, WriteFault}
 

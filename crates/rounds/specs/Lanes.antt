@@ -5,7 +5,7 @@ use Rattle.net_bytes.specs.declared.order.Order.{Order}
 use Rattle.pcap_io.specs.Capture.{Packet}
 use Rattle.frags.specs.Account.{Account, both}
 use Rattle.offload_model.specs.Written.{Options, record_bytes, shown_of}
-use Rattle.gro.specs.Held.{packet_of}
+use Rattle.gro.specs.Slots.{packet_of}
 use Rattle.taps.specs.declared.clones.TapClone.{TapClone}
 use Rattle.taps.specs.Clones.{packet_of as packet_of_clone, blocks_of, of_clones}
 use Rattle.taps.specs.Texts.{record_of_text}

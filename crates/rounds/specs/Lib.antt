@@ -1,15 +1,14 @@
 pub mod Ahead
 pub mod Benches
 pub mod Cutting
-pub mod Data
 pub mod Fresh
 pub mod Held
 pub mod Kept
 pub mod Lanes
 pub mod Marks
 pub mod Merging
+pub mod Out
 pub mod Reading
-pub mod Record
 pub mod RoundsState
 pub mod Segmenting
 pub mod Table

@@ -7,14 +7,14 @@ use Rattle.pcap_io.specs.Lengths.{lengths_at}
 use Rattle.pcap_io.specs.Places.{found_at, IsReady}
 use Rattle.pcap_io.specs.Reading.{Loses}
 use Rattle.offload_model.specs.Need.{need_of, needed, round_need}
-use Rattle.gro.specs.declared.packet.Packet.{Packet as Held}
-use Rattle.gro.specs.Held.{packet_of}
+use Rattle.gro.specs.declared.slot.Slot.{Slot as Held}
+use Rattle.gro.specs.Slots.{packet_of}
 use Rattle.rounds.specs.Fresh.{NumberedFrom}
-use Rattle.rounds.specs.Record.{in_front, Passes, Announces}
+use Rattle.records.specs.Reading.{in_front, Passes, Announces}
 use Rattle.rounds.specs.declared.reading.Halt.{Halt}
 use Rattle.rounds.specs.declared.reading.Halt.TheVariants as halts
-use Rattle.rounds.specs.declared.record.Stop.{Stop}
-use Rattle.rounds.specs.declared.record.Stop.TheVariants as stops
+use Rattle.records.specs.declared.reading.Stop.{Stop}
+use Rattle.records.specs.declared.reading.Stop.TheVariants as stops
 use Rattle.rounds.specs.declared.round.RoundEnd.{RoundEnd}
 use Rattle.rounds.specs.declared.round.RoundEnd.TheVariants as ends
 

@@ -1,6 +1,6 @@
 -- What a contract sees of rounds: how many blocks are home, were made and were taken, and of a round what it holds.
 use Rattle.std.specs.Prelude.{ℕ, Bool, List}
-use Rattle.gro.specs.declared.packet.Packet.{Packet}
+use Rattle.gro.specs.declared.slot.Slot.{Slot}
 use Rattle.taps.specs.declared.clones.TapClone.{TapClone}
 use Rattle.lanes.specs.declared.lane.Lanes.{Lanes}
 use Rattle.lanes.specs.declared.plan.Plan.{Plan}
@@ -31,7 +31,7 @@ pub record BenchState : Type 0 where
   pub keep : Bool
 
 pub record RoundState : Type 0 where
-  pub packets : List Packet
+  pub packets : List Slot
   pub blocks : ℕ
 
 -- the lanes, and the clones that were kept

@@ -1,7 +1,8 @@
 //! A round is read beside the work of another.
-ghost use Rattle.std.specs.Prelude.{◌≡◌, ◌≢◌, ◌+◌, ◌-◌, ◌<◌, ◌≤◌, ◌^◌, [], true, length, map, min, All, IfOk, IfErr};
+ghost use Rattle.std.specs.Prelude.{◌≡◌, ◌≢◌, ◌+◌, ◌-◌, ◌*◌, ◌<◌, ◌≤◌, ◌^◌, [], true, length, map, min, All, IfOk, IfErr};
 ghost use Rattle.std.specs.Prelude.{IsErr, MatchResult, Ok};
 ghost use Rattle.std.specs.List.{AllByRecursion};
+ghost use Rattle.block_pool.specs.PoolState.{home};
 ghost use Rattle.off_io.specs.Faults.{Rose};
 ghost use Rattle.off_io.specs.Told.{Told};
 ghost use Rattle.pcap_io.specs.declared.heads.Link.TheVariants.{Ethernet};
@@ -10,7 +11,7 @@ ghost use Rattle.pcap_io.specs.Readers.{place_of, source_of, SameLoan};
 ghost use Rattle.offload_model.specs.Captured.{IsCaptured};
 ghost use Rattle.offload_model.specs.Need.{round_need};
 ghost use Rattle.offload_model.specs.Written.{round_records};
-ghost use Rattle.gro.specs.Held.{packet_of};
+ghost use Rattle.gro.specs.Slots.{packet_of};
 ghost use Rattle.lanes.specs.Lanes.{IsMerged};
 ghost use Rattle.rounds.specs.Ahead.{blocks_out, round_of, GivesAhead, IfPaused, IfRead, ReadsAhead};
 ghost use Rattle.rounds.specs.Benches.{options_at};
@@ -20,9 +21,8 @@ ghost use Rattle.rounds.specs.Reading.{FillsRound, GivesRest, NumberedTo, Number
 
 use crate::bench::Bench;
 use crate::intake::Intake;
-use crate::round::{ReadAhead, Rest, Round, RoundEnd, RoundRead, Worked, no_round};
+use crate::round::{Blank, ReadAhead, Rest, Round, RoundEnd, RoundRead, Worked, no_round};
 use crate::rounds::Rounds;
-use gro::Packets;
 use lanes::Works;
 use off_io::Source;
 use pcap_io::CaptureReader;
@@ -37,12 +37,13 @@ fn work_beside<'a, R: Threads + Sync, W: Works, S: Source + Send>(
     round: &'a mut Round,
     intake: &'a mut Intake,
     reader: &'a mut CaptureReader<'_, S>,
-    list: &'a mut Packets,
+    lists: &'a mut Blank,
 ) -> (ReadAhead, Result<Worked, Rest>)
     requires ready { IsReady (place_of reader.old) }
     requires link { (place_of reader.old).link ≡ Ethernet }
-    requires none { list.old.items ≡ [] }
-    requires reserved { intake.old.budget ≤ list.old.room }
+    requires none { (lists.old.packets.items ≡ []) × (home lists.old.spares ≡ 0) }
+    requires reserved { (intake.old.budget ≤ lists.old.packets.room)
+        × (2 * intake.old.budget ≤ lists.old.spares.made) }
     requires few { round.old.blocks ≤ bench.old.blocks }
     ensures same_source { SameLoan reader.old reader.new }
     ensures given { Told (S.left (source_of reader.old)) (S.left (source_of reader.new))
@@ -50,7 +51,7 @@ fn work_beside<'a, R: Threads + Sync, W: Works, S: Source + Send>(
     ensures reads { ReadsAhead intake.old.budget (place_of reader.old) (place_of reader.new) result.0 }
     ensures paused { IfPaused result.0 (λ next. (intake.old.home < next.blocks + 131)
         × (intake.old.home < intake.old.blocks)) }
-    ensures unlisted { list.new.items ≡ [] }
+    ensures unlisted { (lists.new.packets.items ≡ []) × (home lists.new.spares ≡ 0) }
     ensures sum { intake.new.home + (round_of result.0).blocks ≡ intake.old.home }
     ensures intake { (intake.new.blocks ≡ intake.old.blocks) × (intake.new.budget ≡ intake.old.budget) }
     ensures budget { (1 ≤ intake.old.budget) × (intake.old.budget ≤ 4096) }
@@ -76,8 +77,9 @@ fn work_beside<'a, R: Threads + Sync, W: Works, S: Source + Send>(
         &mut || -> ReadAhead
             requires ready { IsReady (place_of reader.now) }
             requires link { (place_of reader.now).link ≡ Ethernet }
-            requires none { list.now.items ≡ [] }
-            requires reserved { intake.now.budget ≤ list.now.room }
+            requires none { (lists.now.packets.items ≡ []) × (home lists.now.spares ≡ 0) }
+            requires reserved { (intake.now.budget ≤ lists.now.packets.room)
+                × (2 * intake.now.budget ≤ lists.now.spares.made) }
             ensures same_source { SameLoan reader.entry.now reader.exit.now }
             ensures given { Told (S.left (source_of reader.entry.now)) (S.left (source_of reader.exit.now))
                 (GivesAhead intake.entry.now.blocks (place_of reader.entry.now) (place_of reader.exit.now) result) }
@@ -85,7 +87,7 @@ fn work_beside<'a, R: Threads + Sync, W: Works, S: Source + Send>(
                 (place_of reader.exit.now) result }
             ensures paused { IfPaused result (λ next. (intake.entry.now.home < next.blocks + 131)
                 × (intake.entry.now.home < intake.entry.now.blocks)) }
-            ensures unlisted { list.exit.now.items ≡ [] }
+            ensures unlisted { (lists.exit.now.packets.items ≡ []) × (home lists.exit.now.spares ≡ 0) }
             ensures sum { intake.exit.now.home + (round_of result).blocks ≡ intake.entry.now.home }
             ensures intake { (intake.exit.now.blocks ≡ intake.entry.now.blocks)
                 × (intake.exit.now.budget ≡ intake.entry.now.budget) }
@@ -98,7 +100,7 @@ fn work_beside<'a, R: Threads + Sync, W: Works, S: Source + Send>(
             ensures later { S.faults (source_of reader.entry.now) ≤ S.faults (source_of reader.exit.now) }
             ensures failed { IfRead result (λ end. end ≡ RoundEnd.ReadFault
                 → Rose (S.faults (source_of reader.entry.now)) (S.faults (source_of reader.exit.now))) }
-        { intake.read_ahead(rt, reader, list) },
+        { intake.read_ahead(rt, reader, lists) },
         &mut || -> Result<Worked, Rest>
             requires few { round.now.blocks ≤ bench.now.blocks }
             ensures records { IfOk result (λ worked. worked_records worked
@@ -171,17 +173,21 @@ impl Rounds {
         ensures failed { IfRead result.1 (λ end. end ≡ RoundEnd.ReadFault
             → Rose (S.faults (source_of reader.old)) (S.faults (source_of reader.new))) }
     {
-        let Ok(mut list) = self.bench.take_list() else {
+        let Ok(mut lists) = self.bench.take_blank() else {
             let none = no_round(self.bench.alloc());
             return (self.work_round(works, round), ReadAhead::Read(none));
         };
         let mut round = round;
         let intake = &mut self.intake;
         let bench = &mut self.bench;
-        let (read, worked) = work_beside(rt, works, bench, &mut round, intake, reader, &mut list);
-        let Round { packets, blocks: _ } = round;
+        let (read, worked) = work_beside(rt, works, bench, &mut round, intake, reader, &mut lists);
+        let Round {
+            packets,
+            spares: _spares,
+            blocks: _,
+        } = round;
         packets.discard();
-        list.discard();
+        lists.discard();
         (self.close_work(worked), read)
     }
 

@@ -1,18 +1,19 @@
 //! The side of rounds that works.
-ghost use Rattle.std.specs.Prelude.{◌≡◌, ◌≢◌, ◌+◌, ◌≤◌, true, [], length, map, All, IfOk, IfErr, OnOk, OnErr};
+ghost use Rattle.std.specs.Prelude.{◌≡◌, ◌≢◌, ◌+◌, ◌*◌, ◌≤◌, true, [], length, map, All, IfOk, IfErr, OnOk, OnErr};
 ghost use Rattle.std.specs.Io.KnownBytes.{Appends};
+ghost use Rattle.block_pool.specs.PoolState.{home};
 ghost use Rattle.off_io.specs.Content.{AppendsFront};
 ghost use Rattle.off_io.specs.Faults.{HasCause};
 ghost use Rattle.offload_model.specs.Written.{round_records};
-ghost use Rattle.gro.specs.Held.{packet_of};
+ghost use Rattle.gro.specs.Slots.{packet_of};
 ghost use Rattle.lanes.specs.Lanes.{AreIdle, IsMerged};
 ghost use Rattle.lanes.specs.Work.{IsPlan};
 ghost use Rattle.rounds.specs.Benches.{options_at, Brings, IsSameBench, MayBring};
 ghost use Rattle.rounds.specs.Lanes.{worked_bytes, worked_records, IsKeptWorkOf};
 
-use crate::home::bring_round;
-use crate::memory::{close_places, open_places};
-use crate::round::{Rest, Round, RoundRead, Worked, no_round};
+use crate::home::bring_out;
+use crate::memory::{close_places, open_places, place_spares};
+use crate::round::{Blank, Rest, Round, RoundRead, Worked, no_round};
 use crate::table::Place;
 use crate::writing::write_lanes;
 use block_pool::Pool;
@@ -34,6 +35,7 @@ pub struct Bench {
     out: Outcomes,
     // Memory alone.
     pub(crate) packets: Packets,
+    spares: Pool,
     // Idle between rounds. Those of a round that was worked are away until it ends.
     lanes: Lanes,
     budget: u32,
@@ -44,6 +46,7 @@ pub struct Bench {
 
 impl Model for Bench {
     ghost use Rattle.std.specs.Prelude.{◌≡◌, ◌≤◌, [], length};
+    ghost use Rattle.block_pool.specs.PoolState.{home};
     ghost use Rattle.frags.specs.OutcomesState.{IsBare};
     ghost use Rattle.lanes.specs.Lanes.{AreIdle};
     ghost use Rattle.lanes.specs.Work.{IsPlan};
@@ -61,7 +64,7 @@ impl Model for Bench {
     } };
 
     ghost invariant = { λ b. (length b.places.items ≤ 65536) × AllOpen b.places.items × IsBare b.out
-        × (b.packets.items ≡ []) × AreIdle b.lanes × IsPlan b.plan };
+        × (b.packets.items ≡ []) × AreIdle b.lanes × IsPlan b.plan × (home b.spares ≡ 0) × (b.budget ≤ 4096) };
 }
 
 impl Drop for Bench {
@@ -71,6 +74,7 @@ impl Drop for Bench {
             places,
             out,
             packets,
+            spares: _spares,
             lanes,
             budget: _,
             plan: _plan,
@@ -93,6 +97,7 @@ impl Bench {
         keep: bool,
     ) -> Result<Bench, AllocError>
         requires blocks { blocks ≤ 65536 }
+        requires budget { budget ≤ 4096 }
         requires plan { IsPlan plan }
         ensures made { IfOk result (λ bench. (bench ≡ record {
           room = bench.room;
@@ -110,8 +115,8 @@ impl Bench {
                 return Err(error);
             }
         };
-        let packets = match Packets::with_capacity(alloc, budget as usize) {
-            Ok(packets) => packets,
+        let Blank { packets, spares } = match Blank::make(alloc, budget) {
+            Ok(blank) => blank,
             Err(error) => {
                 close_places(places);
                 out.settle();
@@ -123,6 +128,7 @@ impl Bench {
             places,
             out,
             packets,
+            spares,
             lanes: Lanes::new(alloc),
             budget,
             plan,
@@ -161,17 +167,21 @@ impl Bench {
         self.out.reserve(2 * self.places.len())
     }
 
-    /// The same, and a list for the packets of the next round.
-    pub(crate) fn take_list(&mut self) -> Result<Packets, AllocError>
-        ensures none { IfOk result (λ ps. ps.items ≡ []) }
-        ensures reserved { IfOk result (λ ps. self.old.budget ≤ ps.room) }
+    /// The same, and lists for the packets of the next round and for their spares.
+    pub(crate) fn take_blank(&mut self) -> Result<Blank, AllocError>
+        ensures none { IfOk result (λ b. (b.packets.items ≡ []) × (home b.spares ≡ 0)) }
+        ensures reserved { IfOk result (λ b. (self.old.budget ≤ b.packets.room)
+            × (2 * self.old.budget ≤ b.spares.made)) }
         ensures room { OnOk result (self.new.blocks + self.new.blocks ≤ self.new.room) }
         ensures later { self.old.room ≤ self.new.room }
         ensures same { IsSameBench self.old self.new }
     {
         self.make_room()?;
         self.packets.reserve(self.budget as usize)?;
-        Ok(replace(&mut self.packets, Packets::new(self.alloc)))
+        place_spares(self.alloc, &mut self.spares, self.budget)?;
+        let packets = replace(&mut self.packets, Packets::new(self.alloc));
+        let spares = replace(&mut self.spares, Pool::new(self.alloc));
+        Ok(Blank { packets, spares })
     }
 
     // The memory of a round's packets.
@@ -266,12 +276,16 @@ impl Bench {
         let Worked {
             lanes,
             kept,
+            spares,
+            shared,
             blocks,
         } = worked;
         let rest = Rest {
             packets: self.take_packets(),
             lanes,
             kept,
+            spares,
+            shared,
             blocks,
         };
         self.bring(rest, home);
@@ -282,18 +296,24 @@ impl Bench {
         requires may { MayBring round.blocks self.old home.old }
         ensures brings { Brings round.blocks self.old self.new home.old home.new }
     {
-        let Round { packets, blocks } = round;
+        let Round {
+            packets,
+            spares,
+            blocks,
+        } = round;
         let lanes = self.take_lanes();
         let rest = Rest {
             packets,
             lanes,
             kept: Vec::new(self.alloc),
+            spares,
+            shared: false,
             blocks,
         };
         self.bring(rest, home);
     }
 
-    /// What is left of a round goes home. Its lanes and its list of packets stay as memory.
+    /// What is left of a round goes home. Its lanes and its lists stay as memory.
     pub(crate) fn bring(&mut self, rest: Rest, home: &mut Pool)
         requires may { MayBring rest self.old home.old }
         ensures brings { Brings rest self.old self.new home.old home.new }
@@ -302,18 +322,24 @@ impl Bench {
             mut packets,
             mut lanes,
             kept,
+            mut spares,
+            shared,
             blocks,
         } = rest;
-        bring_round(
+        let out = blocks - spares.home();
+        bring_out(
+            shared,
             home,
             &mut self.places,
-            blocks,
+            out,
             &mut self.out,
             &mut packets,
             &mut lanes,
             kept,
         );
+        home.refill(&mut spares);
         replace(&mut self.packets, packets).discard();
         replace(&mut self.lanes, lanes).free();
+        self.spares = spares;
     }
 }

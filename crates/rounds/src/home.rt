@@ -1,22 +1,24 @@
 //! Brings the blocks of a round home.
-ghost use Rattle.std.specs.Prelude.{◌≡◌, ◌+◌, ◌≤◌, [], length};
+ghost use Rattle.std.specs.Prelude.{◌≡◌, ◌+◌, ◌≤◌, [], length, All};
 ghost use Rattle.block_pool.specs.PoolState.{home};
 ghost use Rattle.frags.specs.Account.{both, of_outcomes};
 ghost use Rattle.skb.specs.SkbState.{of_buffer};
-ghost use Rattle.gro.specs.Held.{of_packet, of_packets, count_of, counts_of};
-ghost use Rattle.lanes.specs.Lanes.{AreIdle};
+ghost use Rattle.gro.specs.Slots.{of_packet, of_packets, count_of, counts_of, AreAlone};
+ghost use Rattle.lanes.specs.Lanes.{counts_of_queues, AreIdle, IsIdleTap};
 ghost use Rattle.rounds.specs.Held.{blocks_in};
 ghost use Rattle.rounds.specs.Lanes.{of_work, count_of_work, AreSpent};
 ghost use Rattle.rounds.specs.Marks.{IsRound, nothing};
+ghost use Rattle.rounds.specs.Out.{IsOut};
 ghost use Rattle.frags.specs.OutcomesState.{IsBare};
 ghost use Rattle.rounds.specs.Table.{AllOpen, Comes, MayCome};
 
-use crate::lane_home::{bring_kept, bring_lanes};
+use crate::lane_home::{bring_kept, bring_lanes, bring_queues_alone};
 use crate::table::{Place, reopen, sweep};
 use block_pool::Pool;
 use frags::Outcomes;
-use gro::{Packet, Packets};
+use gro::{Packets, Slot};
 use lanes::Lanes;
+use records::bring_blocks;
 use skb::Skb;
 use taps::TapClone;
 
@@ -34,12 +36,7 @@ pub(crate) fn bring_buffer(pool: &mut Pool, places: &mut [Place], out: &mut Outc
 }
 
 /// A packet is given back.
-pub(crate) fn bring_packet(
-    pool: &mut Pool,
-    places: &mut [Place],
-    out: &mut Outcomes,
-    packet: Packet,
-)
+pub(crate) fn bring_packet(pool: &mut Pool, places: &mut [Place], out: &mut Outcomes, packet: Slot)
     requires may { MayCome (of_packet packet) pool.old places.old }
     requires bare { IsBare out.old }
     requires spare { count_of packet ≤ out.old.spare }
@@ -47,8 +44,14 @@ pub(crate) fn bring_packet(
     ensures bare { IsBare out.new }
     ensures spare { out.old.spare ≤ out.new.spare + count_of packet }
 {
-    packet.release(out);
-    sweep(pool, places, out);
+    let Slot {
+        skb,
+        sec: _,
+        frac: _,
+        original: _,
+        number: _,
+    } = packet;
+    bring_buffer(pool, places, out, skb);
 }
 
 /// All packets are given back, and their memory stays.
@@ -123,9 +126,9 @@ fn bring_all(
     reopen(places);
 }
 
-/// All blocks of a round go home, `blocks` of them, at whichever point it is ended or given up: what was given back so
-/// far, the packets that are in no lane, what the lanes hold, and the clones that were kept. The lanes are idle then.
-pub(crate) fn bring_round(
+// All blocks of a round go home, `blocks` of them, by their marks: what was given back so far, the packets that are in
+// no lane, what the lanes hold, and the clones that were kept. The lanes are idle then.
+fn bring_round(
     pool: &mut Pool,
     table: &mut [Place],
     blocks: u32,
@@ -153,4 +156,77 @@ pub(crate) fn bring_round(
 {
     let (places, _) = table.split_at_mut(blocks as usize);
     bring_all(pool, places, out, packets, lanes, kept);
+}
+
+/// Packets whose blocks nobody else holds go home, and their memory stays.
+pub(crate) fn bring_alone(pool: &mut Pool, packets: &mut Packets)
+    requires alone { AreAlone packets.old.items }
+    requires room { home pool.old + counts_of packets.old.items ≤ pool.old.made }
+    ensures home { home pool.new ≡ home pool.old + counts_of packets.old.items }
+    ensures made { (pool.new.made ≡ pool.old.made) × (pool.new.taken ≡ pool.old.taken) }
+    ensures none { packets.new.items ≡ [] }
+{
+    while let Some(packet) = packets.pop() {
+        let Slot {
+            skb,
+            sec: _,
+            frac: _,
+            original: _,
+            number: _,
+        } = packet;
+        bring_blocks(pool, skb);
+    }
+}
+
+// The same of a whole round, of which nobody keeps clones and taps hold nothing.
+fn bring_round_alone(pool: &mut Pool, packets: &mut Packets, lanes: &mut Lanes, kept: Vec<TapClone>)
+    requires packets { AreAlone packets.old.items }
+    requires queues { All (λ l. AreAlone l.packets.items) lanes.old.queues.items }
+    requires room { home pool.old + (counts_of packets.old.items + counts_of_queues lanes.old.queues.items)
+        ≤ pool.old.made }
+    requires none { kept.items ≡ [] }
+    requires idle { All IsIdleTap lanes.old.taps.items }
+    ensures home { home pool.new ≡ home pool.old + (counts_of packets.old.items
+        + counts_of_queues lanes.old.queues.items) }
+    ensures made { (pool.new.made ≡ pool.old.made) × (pool.new.taken ≡ pool.old.taken) }
+    ensures none { packets.new.items ≡ [] }
+    ensures idle { AreIdle lanes.new }
+{
+    bring_alone(pool, packets);
+    bring_queues_alone(pool, &mut lanes.queues);
+    kept.destroy_empty();
+}
+
+/// All blocks of a round but its spares go home, `blocks` of them, at whichever point it is ended or given up: by their
+/// marks where others may hold some, and else by count alone. The lanes are idle then.
+pub(crate) fn bring_out(
+    shared: bool,
+    pool: &mut Pool,
+    table: &mut [Place],
+    blocks: u32,
+    out: &mut Outcomes,
+    packets: &mut Packets,
+    lanes: &mut Lanes,
+    kept: Vec<TapClone>,
+)
+    requires out { IsOut shared blocks packets.old.items lanes.old kept.items }
+    requires bare { IsBare out.old }
+    requires few { blocks ≤ length table.old }
+    requires room { home pool.old + blocks ≤ pool.old.made }
+    requires open { AllOpen table.old }
+    requires spare { blocks + blocks ≤ out.old.spare }
+    ensures home { home pool.new ≡ home pool.old + blocks }
+    ensures made { (pool.new.made ≡ pool.old.made) × (pool.new.taken ≡ pool.old.taken) }
+    ensures open { AllOpen table.new }
+    ensures size { length table.new ≡ length table.old }
+    ensures bare { IsBare out.new }
+    ensures spare { out.old.spare ≤ out.new.spare + (blocks + blocks) }
+    ensures none { packets.new.items ≡ [] }
+    ensures idle { AreIdle lanes.new }
+{
+    if shared {
+        bring_round(pool, table, blocks, out, packets, lanes, kept)
+    } else {
+        bring_round_alone(pool, packets, lanes, kept)
+    }
 }

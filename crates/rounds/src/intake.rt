@@ -1,5 +1,5 @@
 //! The side of rounds that reads.
-ghost use Rattle.std.specs.Prelude.{◌≡◌, ◌≢◌, ◌+◌, ◌-◌, ◌<◌, ◌≤◌, ◌^◌, [], length, map, min, IfOk, OnErr};
+ghost use Rattle.std.specs.Prelude.{◌≡◌, ◌≢◌, ◌+◌, ◌-◌, ◌*◌, ◌<◌, ◌≤◌, ◌^◌, [], length, map, min, IfOk, OnOk, OnErr};
 ghost use Rattle.std.specs.List.{AllByRecursion};
 ghost use Rattle.block_pool.specs.PoolState.{home};
 ghost use Rattle.off_io.specs.Faults.{Rose};
@@ -9,7 +9,7 @@ ghost use Rattle.pcap_io.specs.Places.{IsReady};
 ghost use Rattle.pcap_io.specs.Readers.{place_of, source_of, SameLoan};
 ghost use Rattle.offload_model.specs.Need.{round_need};
 ghost use Rattle.offload_model.specs.Captured.{IsCaptured};
-ghost use Rattle.gro.specs.Held.{packet_of};
+ghost use Rattle.gro.specs.Slots.{packet_of};
 ghost use Rattle.rounds.specs.Ahead.{round_of, GivesAhead, IfPaused, IfRead, ReadsAhead};
 ghost use Rattle.rounds.specs.Fresh.{NumberedFrom};
 ghost use Rattle.rounds.specs.Reading.{FillsRound, GivesRest, GivesRound, NumberedTo, NumbersOn, PassesRound};
@@ -17,7 +17,7 @@ ghost use Rattle.rounds.specs.Reading.{FillsRound, GivesRest, GivesRound, Number
 use crate::homecoming::{AllHome, Homecoming};
 use crate::memory::RECORD_BLOCKS;
 use crate::reading::{Halt, read_more, read_records};
-use crate::round::{ReadAhead, Round, RoundEnd, RoundRead, no_round};
+use crate::round::{Blank, ReadAhead, Round, RoundEnd, RoundRead, no_round};
 use block_pool::Pool;
 use core::mem::replace;
 use gro::Packets;
@@ -55,6 +55,31 @@ impl Model for Intake {
 
     ghost invariant = { λ i. (i.pool.made ≤ 65536) × (i.hold.items ≡ []) × (131 ≤ deque_capacity i.hold)
         × (1 ≤ i.budget) × (i.budget ≤ 4096) };
+}
+
+// Room for as many records as a round may have: for their packets, and for their spares, which move where their list
+// has fewer places.
+fn make_room(
+    alloc: Global,
+    packets: &mut Packets,
+    spares: &mut Pool,
+    budget: u32,
+) -> Result<(), AllocError>
+    requires few { (length packets.old.items ≤ budget) × (budget ≤ 4096) }
+    requires pairs { home spares.old ≡ 2 * length packets.old.items }
+    ensures reserved { OnOk result (budget ≤ length packets.new.items + packets.new.room) }
+    ensures room { OnOk result (2 * budget ≤ spares.new.made) }
+    ensures same { packets.new.items ≡ packets.old.items }
+    ensures home { home spares.new ≡ home spares.old }
+{
+    packets.reserve(budget as usize - packets.len())?;
+    if spares.made() >= 2 * budget {
+        return Ok(());
+    }
+    let mut more = Pool::empty(alloc, 2 * budget)?;
+    more.refill(spares);
+    let _none = replace(spares, more);
+    Ok(())
 }
 
 impl Intake {
@@ -151,21 +176,22 @@ impl Intake {
         ensures failed { result.end ≡ RoundEnd.ReadFault
             → Rose (S.faults (source_of reader.old)) (S.faults (source_of reader.new)) }
     {
-        let packets = Packets::with_capacity(self.alloc, self.budget as usize);
-        self.read_into(reader, more, packets)
+        let blank = Blank::make(self.alloc, self.budget);
+        self.read_into(reader, more, blank)
     }
 
-    /// The same, into a list of packets that has room for them, where there was memory for it.
+    /// The same, into lists that have room for the packets and their spares, where there was memory for these.
     pub(crate) fn read_into<S: Source, H: Homecoming>(
         &mut self,
         reader: &mut CaptureReader<'_, S>,
         more: &mut H,
-        packets: Result<Packets, AllocError>,
+        blank: Result<Blank, AllocError>,
     ) -> RoundRead
         requires ready { IsReady (place_of reader.old) }
         requires link { (place_of reader.old).link ≡ Ethernet }
-        requires none { IfOk packets (λ ps. ps.items ≡ []) }
-        requires reserved { IfOk packets (λ ps. self.old.budget ≤ ps.room) }
+        requires none { IfOk blank (λ b. (b.packets.items ≡ []) × (home b.spares ≡ 0)) }
+        requires reserved { IfOk blank (λ b. (self.old.budget ≤ b.packets.room)
+            × (2 * self.old.budget ≤ b.spares.made)) }
         ensures same_source { SameLoan reader.old reader.new }
         ensures given { Told (S.left (source_of reader.old)) (S.left (source_of reader.new))
             (GivesRound self.old.blocks (place_of reader.old) (place_of reader.new) result.round.packets result.end) }
@@ -179,7 +205,7 @@ impl Intake {
         ensures need { result.round.blocks ≡ round_need (map packet_of result.round.packets) }
         ensures sum { self.new.home + result.round.blocks + H.brought more.old ≡ self.old.home + H.brought more.new }
         ensures within { result.round.blocks ≤ self.old.blocks }
-        ensures unread { OnErr packets (self.new ≡ self.old) }
+        ensures unread { OnErr blank (self.new ≡ self.old) }
         ensures same { (self.new.blocks ≡ self.old.blocks) × (self.new.budget ≡ self.old.budget) }
         ensures budget { (1 ≤ self.old.budget) × (self.old.budget ≤ 4096) }
         ensures taken { min (self.old.taken + result.round.blocks) (2 ^ 64 - 1) ≤ self.new.taken }
@@ -190,8 +216,11 @@ impl Intake {
             → Rose (S.faults (source_of reader.old)) (S.faults (source_of reader.new)) }
     {
         let _ = self.pool.taken();
-        let mut packets = match packets {
-            Ok(packets) => packets,
+        let Blank {
+            mut packets,
+            mut spares,
+        } = match blank {
+            Ok(blank) => blank,
             Err(_) => return no_round(self.alloc),
         };
         let (blocks, end) = read_records(
@@ -202,33 +231,38 @@ impl Intake {
             more,
             self.budget as usize,
             &mut packets,
+            &mut spares,
         );
         RoundRead {
-            round: Round { packets, blocks },
+            round: Round {
+                packets,
+                spares,
+                blocks,
+            },
             end,
         }
     }
 
-    /// Reads the next round beside the work of another, while no block comes home, into a list that is lent for that.
+    /// Reads the next round beside the work of another, while no block comes home, into lists that are lent for that.
     /// The runtime goes with it for the borrow checker's part alone, by which what a side borrows ends with what both
     /// borrow.
     pub(crate) fn read_ahead<R: Sync, S: Source>(
         &mut self,
         _rt: &R,
         reader: &mut CaptureReader<'_, S>,
-        list: &mut Packets,
+        lists: &mut Blank,
     ) -> ReadAhead
         requires ready { IsReady (place_of reader.old) }
         requires link { (place_of reader.old).link ≡ Ethernet }
-        requires none { list.old.items ≡ [] }
-        requires reserved { self.old.budget ≤ list.old.room }
+        requires none { (lists.old.packets.items ≡ []) × (home lists.old.spares ≡ 0) }
+        requires reserved { (self.old.budget ≤ lists.old.packets.room) × (2 * self.old.budget ≤ lists.old.spares.made) }
         ensures same_source { SameLoan reader.old reader.new }
         ensures given { Told (S.left (source_of reader.old)) (S.left (source_of reader.new))
             (GivesAhead self.old.blocks (place_of reader.old) (place_of reader.new) result) }
         ensures reads { ReadsAhead self.old.budget (place_of reader.old) (place_of reader.new) result }
         ensures paused { IfPaused result (λ round. (self.old.home < round.blocks + 131)
             × (self.old.home < self.old.blocks)) }
-        ensures spent { list.new.items ≡ [] }
+        ensures spent { (lists.new.packets.items ≡ []) × (home lists.new.spares ≡ 0) }
         ensures sum { self.new.home + (round_of result).blocks ≡ self.old.home }
         ensures same { (self.new.blocks ≡ self.old.blocks) × (self.new.budget ≡ self.old.budget) }
         ensures budget { (1 ≤ self.old.budget) × (self.old.budget ≤ 4096) }
@@ -241,7 +275,10 @@ impl Intake {
             → Rose (S.faults (source_of reader.old)) (S.faults (source_of reader.new))) }
     {
         let _ = self.pool.taken();
-        let mut packets = replace(list, Packets::new(self.alloc));
+        let Blank {
+            mut packets,
+            mut spares,
+        } = replace(lists, Blank::none(self.alloc));
         let (blocks, halt) = read_more(
             self.alloc,
             &mut self.pool,
@@ -250,9 +287,14 @@ impl Intake {
             &mut AllHome,
             self.budget as usize,
             &mut packets,
+            &mut spares,
             0,
         );
-        let round = Round { packets, blocks };
+        let round = Round {
+            packets,
+            spares,
+            blocks,
+        };
         match halt {
             Halt::Ended(end) => ReadAhead::Read(RoundRead { round, end }),
             Halt::Lacking => ReadAhead::Paused(round),
@@ -296,11 +338,15 @@ impl Intake {
         let end = RoundEnd::NoMemory;
         let Round {
             mut packets,
+            mut spares,
             blocks,
         } = round;
-        let free = budget - packets.len();
-        if packets.reserve(free).is_err() {
-            let round = Round { packets, blocks };
+        if make_room(self.alloc, &mut packets, &mut spares, self.budget).is_err() {
+            let round = Round {
+                packets,
+                spares,
+                blocks,
+            };
             return RoundRead { round, end };
         }
         let (blocks, halt) = read_more(
@@ -311,9 +357,14 @@ impl Intake {
             &mut AllHome,
             budget,
             &mut packets,
+            &mut spares,
             blocks,
         );
-        let round = Round { packets, blocks };
+        let round = Round {
+            packets,
+            spares,
+            blocks,
+        };
         match halt {
             Halt::Ended(end) => RoundRead { round, end },
             Halt::Lacking => RoundRead { round, end },

@@ -1,5 +1,7 @@
 //! Brings home what the lanes of a round hold.
 ghost use Rattle.std.specs.Prelude.{◌≡◌, ◌+◌, ◌≤◌, [], All, length};
+ghost use Rattle.block_pool.specs.PoolState.{home};
+ghost use Rattle.gro.specs.Slots.{AreAlone};
 ghost use Rattle.taps.specs.Clones.{blocks_of, of_clones};
 ghost use Rattle.lanes.specs.Lanes.{of_queue, of_queues, of_tap, of_taps, of_lanes, count_of_queue};
 ghost use Rattle.lanes.specs.Lanes.{counts_of_queues, AreIdle, IsIdleQueue, IsIdleTap};
@@ -8,7 +10,7 @@ ghost use Rattle.rounds.specs.Marks.{nothing};
 ghost use Rattle.frags.specs.OutcomesState.{IsBare};
 ghost use Rattle.rounds.specs.Table.{Comes, MayCome};
 
-use crate::home::{bring_buffer, bring_packets};
+use crate::home::{bring_alone, bring_buffer, bring_packets};
 use crate::table::{Place, sweep};
 use block_pool::Pool;
 use frags::Outcomes;
@@ -83,6 +85,31 @@ pub(crate) fn bring_lanes(
 {
     bring_queues(pool, places, out, &mut lanes.queues);
     bring_taps(pool, places, &mut lanes.taps);
+}
+
+// What a queue's lane holds, where nobody else holds a block of it.
+fn bring_queue_alone(pool: &mut Pool, lane: &mut QueueLane)
+    requires alone { AreAlone lane.old.packets.items }
+    requires room { home pool.old + count_of_queue lane.old ≤ pool.old.made }
+    ensures home { home pool.new ≡ home pool.old + count_of_queue lane.old }
+    ensures made { (pool.new.made ≡ pool.old.made) × (pool.new.taken ≡ pool.old.taken) }
+    ensures idle { IsIdleQueue lane.new }
+{
+    bring_alone(pool, &mut lane.packets);
+}
+
+/// What queues hold goes home where nobody else holds a block of it, and their lanes are idle.
+pub(crate) fn bring_queues_alone(pool: &mut Pool, lanes: &mut [QueueLane])
+    requires alone { All (λ l. AreAlone l.packets.items) lanes.old }
+    requires room { home pool.old + counts_of_queues lanes.old ≤ pool.old.made }
+    ensures home { home pool.new ≡ home pool.old + counts_of_queues lanes.old }
+    ensures made { (pool.new.made ≡ pool.old.made) × (pool.new.taken ≡ pool.old.taken) }
+    ensures idle { All IsIdleQueue lanes.new }
+    ensures size { length lanes.new ≡ length lanes.old }
+{
+    for i in 0..lanes.len() {
+        bring_queue_alone(pool, &mut lanes[i]);
+    }
 }
 
 /// Clones that were kept are given back.

@@ -1,18 +1,22 @@
 //! Works a round: its packets are merged in lanes.
-ghost use Rattle.std.specs.Prelude.{◌≡◌, ◌≤◌, true, [], map, All, IfOk, IfErr, OnOk, MatchResult};
+ghost use Rattle.std.specs.Prelude.{◌≡◌, ◌≤◌, true, false, [], map, All, IfOk, IfErr, OnOk, MatchResult};
+ghost use Rattle.std.specs.List.{AllByRecursion};
+ghost use Rattle.offload_model.specs.Captured.{IsCaptured};
 ghost use Rattle.offload_model.specs.Written.{round_records};
 ghost use Rattle.ref_core.specs.WeightRule.{full_weight};
 ghost use Rattle.frags.specs.Account.{Keeps, both};
-ghost use Rattle.gro.specs.Held.{packet_of, of_packets, counts_of, AreHeld, AreShared, WeighAtLeast};
+ghost use Rattle.gro.specs.Slots.{packet_of, of_packets, counts_of, AreHeld, AreShared, WeighAtLeast};
 ghost use Rattle.taps.specs.Clones.{packet_of as packet_of_clone, blocks_of, of_clones};
 ghost use Rattle.lanes.specs.Clones.{AreAfter};
 ghost use Rattle.lanes.specs.Lanes.{IsMerged};
 ghost use Rattle.rounds.specs.Benches.{options_at};
-ghost use Rattle.rounds.specs.Kept.{IsKept, IsDone, IsLeft, IsOfLanes};
+ghost use Rattle.records.specs.Laid.{AreRead, LaidFrom};
+ghost use Rattle.rounds.specs.Kept.{IsKept, IsPrepared, IsDone, IsLeft, IsOfLanes};
 ghost use Rattle.rounds.specs.Lanes.{worked_records, IsKeptWorkOf};
 
 use crate::bench::Bench;
 use crate::round::{Rest, Round, Worked};
+use block_pool::Pool;
 use core::mem::replace;
 use gro::Packets;
 use lanes::{Lanes, Works, keep_packets, work_packets};
@@ -23,6 +27,8 @@ use taps::TapClone;
 struct Kept {
     packets: Packets,
     kept: Vec<TapClone>,
+    spares: Pool,
+    shared: bool,
     blocks: u32,
 }
 
@@ -44,29 +50,66 @@ fn keep_if(keep: bool, packets: &mut Packets, kept: &mut Vec<TapClone>) -> Resul
     keep_packets(packets, kept)
 }
 
+// The heads of packets are shared where others are to hold blocks of them. Else nobody but the packets holds a block.
+fn share_if(
+    shared: bool,
+    keep: bool,
+    packets: &mut Packets,
+    kept: &mut Vec<TapClone>,
+) -> Result<(), AllocError>
+    requires laid { LaidFrom 0 packets.old.items }
+    requires read { AreRead packets.old.items }
+    requires captured { AllByRecursion IsCaptured (map packet_of packets.old.items) }
+    requires wanted { keep ≡ true → shared ≡ true }
+    requires none { kept.old.items ≡ [] }
+    ensures prepared { IsPrepared shared packets.old.items packets.new.items kept.new.items }
+    ensures all { OnOk result (keep ≡ true → map packet_of_clone kept.new.items ≡ map packet_of packets.old.items) }
+{
+    if !shared {
+        return Ok(());
+    }
+    packets.share_heads();
+    keep_if(keep, packets, kept)
+}
+
 impl Bench {
-    // A clone of each packet is kept, if that is wanted.
+    // Whether others are to hold blocks of a round: taps, or who compares it with its clones.
+    fn is_shared(&self) -> bool
+        ensures keep { self.now.keep ≡ true → result ≡ true }
+        ensures taps { result ≡ false → self.now.plan.taps ≡ 0 }
+    {
+        self.keep || self.plan.taps != 0
+    }
+
+    // Heads are shared and a clone of each packet is kept, if that is wanted.
     fn keep_round(&mut self, round: Round) -> Result<Kept, Rest>
         requires few { round.blocks ≤ self.old.blocks }
-        ensures kept { IfOk result (λ k. IsKept self.old.keep (map packet_of round.packets) round.blocks k) }
+        ensures kept { IfOk result (λ k. IsKept self.old.keep self.old.plan.taps (map packet_of round.packets)
+            round.blocks k) }
         ensures rest { IfErr result (λ rest. rest ≡ round.blocks) }
         ensures same { self.new ≡ self.old }
     {
         let Round {
             mut packets,
+            spares,
             blocks,
         } = round;
+        let shared = self.is_shared();
         let mut kept = Vec::new(self.alloc);
-        match keep_if(self.keep, &mut packets, &mut kept) {
+        match share_if(shared, self.keep, &mut packets, &mut kept) {
             Ok(()) => Ok(Kept {
                 packets,
                 kept,
+                spares,
+                shared,
                 blocks,
             }),
             Err(_) => Err(Rest {
                 packets,
                 lanes: self.take_lanes(),
                 kept,
+                spares,
+                shared,
                 blocks,
             }),
         }
@@ -87,6 +130,8 @@ impl Bench {
         let Kept {
             packets,
             kept,
+            spares,
+            shared,
             blocks,
         } = kept;
         match done {
@@ -95,6 +140,8 @@ impl Bench {
                 Ok(Worked {
                     lanes,
                     kept,
+                    spares,
+                    shared,
                     blocks,
                 })
             }
@@ -102,6 +149,8 @@ impl Bench {
                 packets,
                 lanes,
                 kept,
+                spares,
+                shared,
                 blocks,
             }),
         }

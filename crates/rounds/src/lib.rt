@@ -1,9 +1,11 @@
 //! Rounds of records, read straight into the blocks of one pool, and every block home again after each round.
 //!
 //! ```text
-//!   pool ── taken, marked 0, 1, .. ──> |64|first bytes | more .. | spare | spare |     one record's blocks
-//!    ^                                        └ shared ──┘ as they are read
-//!    └── a place for each mark: the Sole that comes back goes home, a receipt waits for its Sole or is closed
+//!   pool ── taken, marked 0, 1, .. ──> |64|first bytes | more .. |     one record's blocks, and two spares beside
+//!    ^
+//!    ├── nobody else holds one: each goes home by itself
+//!    └── taps, or clones that are kept: a place for each mark, where the Sole that comes back goes home and a receipt
+//!        waits for its Sole or is closed
 //! ```
 //!
 //! A record is judged in this order: its header, whether the round then needs more blocks than there are, its body. So
@@ -57,14 +59,17 @@
 //! - `home`: all blocks are home after every answer.
 //! - `taken`: a record that was segmented took as many blocks as it needs.
 //!
-//! That they are home follows from the account alone (`specs/Marks.antt`): the blocks of a round are marked 0, 1, ..;
-//! of each mark one life is held, with all of its weight (`specs/Fresh.antt`), and no call makes weight up or loses it.
-//! All receipts of a life weigh less than the whole. So where a mark's Sole isn't home something would still be held,
-//! and nothing is.
+//! That they are home is told in two ways (`specs/Out.antt`). Where there are no taps and no clones are kept, each
+//! packet alone holds its blocks from when it is read, so that as many go home as there are. Where others hold some it
+//! follows from the account alone (`specs/Marks.antt`): the blocks of a round are marked 0, 1, ..; of each mark one
+//! life is held, with all of its weight (`specs/Fresh.antt`), and no call makes weight up or loses it. All receipts of
+//! a life weigh less than the whole. So where a mark's Sole isn't home something would still be held, and nothing is.
+//! Spares are held by nobody but the round, and are counted home.
 //!
 //! Memory is taken in [`Rounds::make`] and [`SegmentRun::make`], and for the list of pieces of a record of more than
 //! 1,984 bytes. The first round takes that of its lanes, and a later one only where it has more for a lane; each round
-//! takes memory for the clones that are kept.
+//! takes memory for the clones that are kept. Of two rounds that are out at once each has lists of its own, and the
+//! rest of one that was paused takes a list for its spares.
 //!
 //! ```
 //! let plan = Plan {
@@ -79,45 +84,52 @@
 //! let end = rounds.merge_all(&mut Alone { gate: &NoGate }, &mut reader, &file, &mut sink);
 //! ```
 //!
-//! Its parts: `record` (one record of either link type: header, need, blocks, body), on `body` and `blocks`; `reading`
-//! (a round of them); `table` and `home` (what comes back, by marks, and all of a round given up at whichever point);
-//! `lane_work` (a round over lanes, by `lanes::work_packets`), `lane_home` (what lanes hold, home); `writing`
-//! (what they come to); `intake` (the side that reads: pool and budget) and `homecoming` (who brings blocks home while
-//! a round is read); `bench` (the side that works: places, memory and lanes); `rounds` (both, in turn) and `ahead` (a
-//! round read beside the work of another, and its rest); `handler` (what is done with a round, for whoever drives
-//! them); `merge` (round by round to the end of a capture); `segment` (the type that segments, record by record) on
-//! `cut` (a record's packets written one by one, its blocks brought home) and `memory` (what both types keep).
-//! `specs/Marks.antt` says what is a round's account, `specs/Fresh.antt` what it is as blocks are taken,
-//! `specs/Reading.antt` what each end of a round says of the capture's bytes, `specs/Benches.antt` when blocks may come
-//! home, and what is so once they have.
+//! Its parts: `reading` (a round of records, each read by `records`); `table` and `home` (what comes back, by marks or
+//! by number, and all of a round given up at whichever point); `lane_work` (a round over lanes, by
+//! `lanes::work_packets`, with its heads shared where others hold blocks), `lane_home` (what lanes hold, home);
+//! `writing` (what they come to); `intake` (the side that reads: pool and budget) and `homecoming` (who brings blocks
+//! home while a round is read); `bench` (the side that works: places, memory and lanes); `rounds` (both, in turn) and
+//! `ahead` (a round read beside the work of another, and its rest); `handler` (what is done with a round, for whoever
+//! drives them); `merge` (round by round to the end of a capture); `segment` (the type that segments, record by record)
+//! on `cut` (a record's packets written one by one, its blocks brought home); `memory` (what is kept from round to
+//! round). `specs/Out.antt` says what is out with a round, `specs/Marks.antt` what is its account where others hold
+//! blocks of it, `specs/Fresh.antt` what that is once heads are shared, `specs/Reading.antt` what each end of a round
+//! says of the capture's bytes, `specs/Benches.antt` when blocks may come home, and what is so once they have.
 //!
 //! Tests: `round_tests`, modules `ahead`, `lanes`, `long_runs`, `merging`, `segments` and `sides`.
 //!
 //! Why so:
 //!
-//! - **Every block with bytes is shared as it is read**, so no later call of the round begins a life, and what gro,
-//!   gso, taps and rounds keep is kept for every test of lives. Else only all lives of a block together are told of,
-//!   and receipts of one mark couldn't be added. It costs one fetch-sub a block.
-//! - **What came back is kept by marks**, a place for each block of the pool: open, home, or what is owed. A round
-//!   whose Soles aren't home would owe all of some block's weight, and receipts of a life never weigh that much, so
-//!   nothing has to be reunited. In fact a receipt meets a place that is home already, and is closed.
+//! - **A head is a Sole as it is read, and stays one where nobody else is to hold its block.** Packets that are merged
+//!   and written where they lie need no life: neither sharing nor giving back a head takes a locked step then, and no
+//!   outcome, mark or place is looked at as blocks go home. Pieces behind a head are parts by their type; each has all
+//!   the weight of its block, so its release ends the life.
+//! - **Where others are to hold blocks every head is shared at once**, before the first clone (`Packets::share_heads`):
+//!   where there are taps, and where clones are kept. So no later call of the round begins a life, and what gro, taps
+//!   and rounds keep is kept for every test of lives. Else only all lives of a block together are told of, and receipts
+//!   of one mark couldn't be added. It costs one fetch-sub a block.
+//! - **What came back of such a round is kept by marks**, a place for each block of the pool: open, home, or what is
+//!   owed. A round whose Soles aren't home would owe all of some block's weight, and receipts of a life never weigh
+//!   that much, so nothing has to be reunited. In fact a receipt meets a place that is home already, and is closed.
+//! - **Spares lie in a list of the round's own**, two for each packet, which its need counts. Nobody reads or shares
+//!   them, so they come and go many at once, and have no part in the account.
 //! - **A second Sole of a mark is dropped.** The account says what is held at most and what is home at least, so it
 //!   doesn't exclude one; that two Soles never are of one block is known only where both are in hand.
-//! - **The bench keeps the memory of a round's packets and lanes** while no round has it: the lanes are idle, and the
-//!   table of places is open between the calls. These hold parts or receipts by their types, so it is dropped by an
-//!   `impl Drop` of its own, which spends them: its invariant says that they hold nothing.
+//! - **The bench keeps the memory of a round's packets, spares and lanes** while no round has it: the lanes are idle,
+//!   and the table of places is open between the calls. These hold parts or receipts by their types, so it is dropped
+//!   by an `impl Drop` of its own, which spends them: its invariant says that they hold nothing.
 //! - **A round is always worked in lanes**, and one queue without taps is one lane: whoever asks works it. Its lanes
 //!   are away until it ends, and come home with their memory (`end_round`). A round that is worked before another has
 //!   ended makes lanes of its own.
 //! - **One function gives up a round** at whichever point (`Bench::bring`): what is left of it is a `Rest`, the packets
-//!   that are in no lane, what the lanes hold and the clones that were kept. So working needs no pool: for want of
-//!   memory it gives back the rest, which whoever called brings home.
+//!   that are in no lane, what the lanes hold, the clones that were kept and the spares, and whether heads were shared.
+//!   So working needs no pool: for want of memory it gives back the rest, which whoever called brings home.
 //! - **What a round is told is one argument**, a `Plan`: queues and how flows go to them, taps, their window and their
 //!   filter, and how many packets a run may have. The model's options follow from it (`options_by`), so a further
 //!   option is a field there and a body. It isn't copied: a hash key has tables of 4.6 KB, and a filter its program.
 //! - **A packet lies where it was read until it goes home**, in one list, and is merged, written and compared there, by
-//!   its index. Where there is one queue the list becomes its lane's; where there are several each packet moves once,
-//!   to the list of its lane.
+//!   its index. Where there is one queue the list becomes its lane's; where there are several the list is turned in
+//!   place, and then each packet moves once, from its end to the list of its lane.
 //! - **Packets go home from the end of their list**, one by one: what each gave back is swept at once, while the counts
 //!   and marks of its blocks are at hand.
 //! - **A round is ended before a fault of its writing is answered**, so its blocks are home whatever the ending.
@@ -146,8 +158,6 @@
 
 mod ahead;
 mod bench;
-mod blocks;
-mod body;
 mod cut;
 mod handler;
 mod home;
@@ -160,7 +170,6 @@ mod merge;
 mod opening;
 mod plan;
 mod reading;
-mod record;
 mod round;
 mod rounds;
 mod segment;

@@ -1,8 +1,10 @@
 //! Memory that is kept from round to round.
-ghost use Rattle.std.specs.Prelude.{◌≡◌, ◌≤◌, length, IfOk};
+ghost use Rattle.std.specs.Prelude.{◌≡◌, ◌*◌, ◌≤◌, length, IfOk, OnOk};
+ghost use Rattle.block_pool.specs.PoolState.{home};
 ghost use Rattle.rounds.specs.Table.{AllOpen};
 
 use crate::table::Place;
+use block_pool::Pool;
 use std::alloc::{AllocError, Global};
 
 /// No record needs more blocks. Where as many are home the next one finds its own, whatever it is.
@@ -32,4 +34,17 @@ pub(crate) fn close_places(places: Vec<Place>)
         }
     }
     places.destroy_empty();
+}
+
+/// Places for the spares of as many packets, in a list that has none.
+pub(crate) fn place_spares(alloc: Global, spares: &mut Pool, budget: u32) -> Result<(), AllocError>
+    requires few { budget ≤ 4096 }
+    requires none { home spares.old ≡ 0 }
+    ensures none { home spares.new ≡ 0 }
+    ensures made { OnOk result (2 * budget ≤ spares.new.made) }
+{
+    if spares.made() < 2 * budget {
+        *spares = Pool::empty(alloc, 2 * budget)?;
+    }
+    Ok(())
 }

@@ -11,7 +11,7 @@ ghost use Rattle.pcap_io.specs.Readers.{place_of, source_of, SameLoan};
 ghost use Rattle.offload_model.specs.Need.{round_need};
 ghost use Rattle.offload_model.specs.Passing.{merging, Passes, FrontUnless, flushes};
 ghost use Rattle.offload_model.specs.Steps.{round_output};
-ghost use Rattle.gro.specs.Held.{packet_of};
+ghost use Rattle.gro.specs.Slots.{packet_of};
 ghost use Rattle.rounds.specs.Benches.{options_at, Brings, MayBring};
 ghost use Rattle.rounds.specs.Lanes.{worked_bytes};
 ghost use Rattle.rounds.specs.Merging.{ending_of, options_of, is_worked, Puts, GivesUp, Steps, IfEnds, TakesAll};

@@ -1,5 +1,5 @@
 //! Reads the records of a round.
-ghost use Rattle.std.specs.Prelude.{◌≡◌, ◌≢◌, ◌+◌, ◌-◌, ◌<◌, ◌≤◌, ◌^◌, [], length, map, min};
+ghost use Rattle.std.specs.Prelude.{◌≡◌, ◌≢◌, ◌+◌, ◌-◌, ◌*◌, ◌<◌, ◌≤◌, ◌^◌, [], length, map, min};
 ghost use Rattle.std.specs.List.{AllByRecursion};
 ghost use Rattle.std.specs.VecDeque.{deque_capacity};
 ghost use Rattle.block_pool.specs.PoolState.{home};
@@ -10,28 +10,21 @@ ghost use Rattle.pcap_io.specs.Places.{IsReady};
 ghost use Rattle.pcap_io.specs.Readers.{place_of, source_of, SameLoan};
 ghost use Rattle.offload_model.specs.Need.{round_need};
 ghost use Rattle.offload_model.specs.Captured.{IsCaptured};
-ghost use Rattle.gro.specs.Held.{packet_of, of_packets, count_of, counts_of};
-ghost use Rattle.rounds.specs.Fresh.{AreRead, IsFresh, NumberedFrom};
+ghost use Rattle.gro.specs.Slots.{packet_of, counts_of};
+ghost use Rattle.records.specs.Laid.{AreRead, LaidFrom};
+ghost use Rattle.rounds.specs.Fresh.{NumberedFrom};
 ghost use Rattle.rounds.specs.Reading.{FillsRound, GivesMore, GivesRound, GoesOver, NumbersOn, PassesRound};
 
 use crate::homecoming::{Homecoming, is_ready};
-use crate::record::read_record;
 use crate::round::{RoundEnd, end_of};
 use block_pool::Pool;
-use gro::{Packet, Packets};
+use gro::Packets;
 use off_io::Source;
 use pcap_io::CaptureReader;
 use raw_block::Sole;
+use records::read_record;
 use std::alloc::Global;
 use std::collections::VecDeque;
-
-// The blocks of a packet.
-fn packet_blocks(packet: &Packet) -> u32
-    requires few { count_of packet.now ≤ 65536 }
-    ensures blocks { result ≡ count_of packet.now }
-{
-    packet.skb.count() as u32 + 2
-}
 
 /// Why no more records of a round are read.
 #[derive(Clone, Copy, Debug, PartialEq, Eq)]
@@ -53,6 +46,7 @@ pub(crate) fn read_more<S: Source, H: Homecoming>(
     more: &mut H,
     budget: usize,
     packets: &mut Packets,
+    spares: &mut Pool,
     used: u32,
 ) -> (u32, Halt)
     requires ready { IsReady (place_of reader.old) }
@@ -62,8 +56,10 @@ pub(crate) fn read_more<S: Source, H: Homecoming>(
     requires made { pool.old.made ≤ 65536 }
     requires size { length packets.old.items ≤ budget }
     requires reserved { budget ≤ length packets.old.items + packets.old.room }
-    requires fresh { IsFresh 0 used (of_packets packets.old.items) }
-    requires count { counts_of packets.old.items ≡ used }
+    requires room { 2 * budget ≤ spares.old.made }
+    requires pairs { home spares.old ≡ 2 * length packets.old.items }
+    requires laid { LaidFrom 0 packets.old.items }
+    requires count { counts_of packets.old.items + home spares.old ≡ used }
     requires read { AreRead packets.old.items }
     requires captured { AllByRecursion IsCaptured (map packet_of packets.old.items) }
     requires need { used ≡ round_need (map packet_of packets.old.items) }
@@ -79,8 +75,9 @@ pub(crate) fn read_more<S: Source, H: Homecoming>(
     ensures lacking { result.1 ≡ Halt.Lacking → GoesOver (place_of reader.old)
         (place_of reader.new) packets.old.items packets.new.items }
     ensures wanted { result.1 ≡ Halt.Lacking → (home pool.new < 131) × (home pool.new + result.0 < pool.old.made) }
-    ensures fresh { IsFresh 0 result.0 (of_packets packets.new.items) }
-    ensures count { counts_of packets.new.items ≡ result.0 }
+    ensures laid { LaidFrom 0 packets.new.items }
+    ensures count { counts_of packets.new.items + home spares.new ≡ result.0 }
+    ensures pairs { home spares.new ≡ 2 * length packets.new.items }
     ensures read { AreRead packets.new.items }
     ensures captured { AllByRecursion IsCaptured (map packet_of packets.new.items) }
     ensures numbers { NumbersOn (place_of reader.old).number packets.old.items packets.new.items }
@@ -103,12 +100,21 @@ pub(crate) fn read_more<S: Source, H: Homecoming>(
         if !is_ready(pool, more, used) {
             return (used, Halt::Lacking);
         }
-        let packet = match read_record(alloc, pool, hold, reader, &mut [], used) {
-            Ok(packet) => packet,
+        let mark = used - spares.home();
+        match read_record(
+            alloc,
+            pool,
+            hold,
+            spares,
+            reader,
+            &mut [],
+            used,
+            mark,
+            packets,
+        ) {
+            Ok((_, count)) => used += count,
             Err(stop) => return (used, Halt::Ended(end_of(stop))),
-        };
-        used += packet_blocks(&packet);
-        packets.push(packet);
+        }
     }
     (used, Halt::Ended(RoundEnd::Full))
 }
@@ -123,14 +129,16 @@ pub(crate) fn read_records<S: Source, H: Homecoming>(
     more: &mut H,
     budget: usize,
     packets: &mut Packets,
+    spares: &mut Pool,
 ) -> (u32, RoundEnd)
     requires ready { IsReady (place_of reader.old) }
     requires link { (place_of reader.old).link ≡ Ethernet }
     requires empty { hold.old.items ≡ [] }
     requires capacity { 131 ≤ deque_capacity hold.old }
     requires made { pool.old.made ≤ 65536 }
-    requires none { packets.old.items ≡ [] }
+    requires none { (packets.old.items ≡ []) × (home spares.old ≡ 0) }
     requires reserved { budget ≤ packets.old.room }
+    requires room { 2 * budget ≤ spares.old.made }
     ensures same_source { SameLoan reader.old reader.new }
     ensures given { Told (S.left (source_of reader.old)) (S.left (source_of reader.new))
         (GivesRound pool.old.made (place_of reader.old) (place_of reader.new) packets.new.items result.1) }
@@ -138,8 +146,9 @@ pub(crate) fn read_records<S: Source, H: Homecoming>(
     ensures fewer { result.1 ≢ RoundEnd.Full → length packets.new.items < budget }
     ensures full { result.1 ≡ RoundEnd.Full → PassesRound (place_of reader.old)
         (place_of reader.new) packets.new.items budget }
-    ensures fresh { IsFresh 0 result.0 (of_packets packets.new.items) }
-    ensures count { counts_of packets.new.items ≡ result.0 }
+    ensures laid { LaidFrom 0 packets.new.items }
+    ensures count { counts_of packets.new.items + home spares.new ≡ result.0 }
+    ensures pairs { home spares.new ≡ 2 * length packets.new.items }
     ensures read { AreRead packets.new.items }
     ensures captured { AllByRecursion IsCaptured (map packet_of packets.new.items) }
     ensures numbers { NumberedFrom (place_of reader.old).number packets.new.items }
@@ -156,7 +165,7 @@ pub(crate) fn read_records<S: Source, H: Homecoming>(
     ensures failed { result.1 ≡ RoundEnd.ReadFault → Rose (S.faults (source_of reader.old))
         (S.faults (source_of reader.new)) }
 {
-    let (blocks, halt) = read_more(alloc, pool, hold, reader, more, budget, packets, 0);
+    let (blocks, halt) = read_more(alloc, pool, hold, reader, more, budget, packets, spares, 0);
     match halt {
         Halt::Ended(end) => (blocks, end),
         Halt::Lacking => (blocks, RoundEnd::NoMemory),

@@ -1,37 +1,85 @@
 //! The records of a round, and what they come to.
-ghost use Rattle.std.specs.Prelude.{◌≡◌, []};
+ghost use Rattle.std.specs.Prelude.{◌≡◌, ◌≤◌, ◌*◌, [], IfOk};
+ghost use Rattle.block_pool.specs.PoolState.{home};
 ghost use Rattle.rounds.specs.Merging.{is_worked as is_worked_end};
 ghost use Rattle.rounds.specs.Reading.{IsEndOf};
 
-use crate::record::Stop;
+use block_pool::Pool;
 use gro::Packets;
 use lanes::Lanes;
 use pcap_io::CapFault;
-use std::alloc::Global;
+use records::Stop;
+use std::alloc::{AllocError, Global};
 use std::marker::Model;
 use taps::TapClone;
+
+/// Memory for the packets of a round and for their spares, of which it has none yet. It must be spent: read into, or
+/// given up.
+pub(crate) struct Blank {
+    pub(crate) packets: Packets,
+    pub(crate) spares: Pool,
+}
+
+impl Blank {
+    /// For up to `budget` packets.
+    pub(crate) fn make(alloc: Global, budget: u32) -> Result<Blank, AllocError>
+        requires few { budget ≤ 4096 }
+        ensures none { IfOk result (λ b. (b.packets.items ≡ []) × (home b.spares ≡ 0)) }
+        ensures room { IfOk result (λ b. (budget ≤ b.packets.room) × (2 * budget ≤ b.spares.made)) }
+    {
+        let spares = Pool::empty(alloc, 2 * budget)?;
+        let packets = Packets::with_capacity(alloc, budget as usize)?;
+        Ok(Blank { packets, spares })
+    }
+
+    /// No memory.
+    pub(crate) fn none(alloc: Global) -> Blank
+        ensures none { (result.packets.items ≡ []) × (home result.spares ≡ 0) }
+    {
+        Blank {
+            packets: Packets::new(alloc),
+            spares: Pool::new(alloc),
+        }
+    }
+
+    /// The memory is given up.
+    pub(crate) fn discard(self)
+        requires none { self.packets.items ≡ [] }
+    {
+        let Blank {
+            packets,
+            spares: _spares,
+        } = self;
+        packets.discard();
+    }
+}
 
 /// The records of a round, in blocks. It must be spent: worked or dropped, by the rounds that read it.
 pub struct Round {
     pub(crate) packets: Packets,
+    // Two blocks for each packet, which its need counts. Nothing reads them.
+    pub(crate) spares: Pool,
     pub(crate) blocks: u32,
 }
 
 impl Model for Round {
-    ghost use Rattle.std.specs.Prelude.{◌≡◌, ℕ, map};
+    ghost use Rattle.std.specs.Prelude.{◌≡◌, ◌+◌, ◌*◌, ℕ, length, map};
     ghost use Rattle.std.specs.List.{AllByRecursion};
+    ghost use Rattle.block_pool.specs.PoolState.{home};
     ghost use Rattle.offload_model.specs.Captured.{IsCaptured};
     ghost use Rattle.offload_model.specs.Need.{round_need};
-    ghost use Rattle.gro.specs.Held.{packet_of, of_packets, counts_of};
-    ghost use Rattle.rounds.specs.Fresh.{AreRead, IsFresh, NumberedFrom};
+    ghost use Rattle.gro.specs.Slots.{packet_of, counts_of};
+    ghost use Rattle.records.specs.Laid.{AreRead, LaidFrom};
+    ghost use Rattle.rounds.specs.Fresh.{NumberedFrom};
     ghost use Rattle.rounds.specs.RoundsState.{RoundState};
 
     ghost Value = { RoundState };
 
     ghost view = { λ r. record { packets = r.packets.items; blocks = r.blocks } };
 
-    ghost invariant = { λ r. IsFresh 0 r.blocks (of_packets r.packets.items) × AreRead r.packets.items
-        × (counts_of r.packets.items ≡ r.blocks) × ((k : ℕ) × NumberedFrom k r.packets.items)
+    ghost invariant = { λ r. LaidFrom 0 r.packets.items × AreRead r.packets.items
+        × (counts_of r.packets.items + home r.spares ≡ r.blocks) × (home r.spares ≡ 2 * length r.packets.items)
+        × ((k : ℕ) × NumberedFrom k r.packets.items)
         × AllByRecursion IsCaptured (map packet_of r.packets.items)
         × (r.blocks ≡ round_need (map packet_of r.packets.items)) };
 }
@@ -39,7 +87,11 @@ impl Model for Round {
 impl Round {
     /// Gives the round up outside its rounds: its blocks are freed. No memory is taken.
     pub fn discard(self) {
-        let Round { packets, blocks: _ } = self;
+        let Round {
+            packets,
+            spares: _spares,
+            blocks: _,
+        } = self;
         packets.free();
     }
 }
@@ -49,48 +101,50 @@ pub struct Worked {
     pub(crate) lanes: Lanes,
     // A clone of each packet, where they are kept.
     pub(crate) kept: Vec<TapClone>,
+    pub(crate) spares: Pool,
+    // Whether others may hold blocks of it: taps, or who keeps clones.
+    pub(crate) shared: bool,
     pub(crate) blocks: u32,
 }
 
 impl Model for Worked {
-    ghost use Rattle.std.specs.Prelude.{◌+◌, ◌≤◌};
-    ghost use Rattle.rounds.specs.Lanes.{of_work, count_of_work, AreSpent, IsSmallWork};
-    ghost use Rattle.rounds.specs.Marks.{IsRound};
+    ghost use Rattle.std.specs.Prelude.{◌-◌, ◌≤◌, []};
+    ghost use Rattle.block_pool.specs.PoolState.{home};
+    ghost use Rattle.rounds.specs.Lanes.{IsSmallWork};
+    ghost use Rattle.rounds.specs.Out.{IsOut};
     ghost use Rattle.rounds.specs.RoundsState.{WorkedState};
 
     ghost Value = { WorkedState };
 
     ghost view = { λ w. record { lanes = w.lanes; kept = w.kept.items; blocks = w.blocks } };
 
-    ghost invariant = { λ w. IsRound w.blocks (of_work w.lanes w.kept.items)
-        × (count_of_work w.lanes w.kept.items ≤ w.blocks + w.blocks) × AreSpent w.lanes.taps.items
-        × IsSmallWork w.lanes };
+    ghost invariant = { λ w. (home w.spares ≤ w.blocks)
+        × IsOut w.shared (w.blocks - home w.spares) [] w.lanes w.kept.items × IsSmallWork w.lanes };
 }
 
-/// What is left of a round, at whichever point it ends: packets that are in no lane, what the lanes hold, and clones
-/// that were kept. It must be spent: brought home.
+/// What is left of a round, at whichever point it ends: packets that are in no lane, what the lanes hold, clones that
+/// were kept, and spares. It must be spent: brought home.
 pub(crate) struct Rest {
     pub(crate) packets: Packets,
     pub(crate) lanes: Lanes,
     pub(crate) kept: Vec<TapClone>,
+    pub(crate) spares: Pool,
+    pub(crate) shared: bool,
     pub(crate) blocks: u32,
 }
 
 impl Model for Rest {
-    ghost use Rattle.std.specs.Prelude.{ℕ, ◌+◌, ◌≤◌};
-    ghost use Rattle.frags.specs.Account.{both};
-    ghost use Rattle.gro.specs.Held.{of_packets, counts_of};
-    ghost use Rattle.rounds.specs.Lanes.{of_work, count_of_work, AreSpent};
-    ghost use Rattle.rounds.specs.Marks.{IsRound};
+    ghost use Rattle.std.specs.Prelude.{ℕ, ◌-◌, ◌≤◌};
+    ghost use Rattle.block_pool.specs.PoolState.{home};
+    ghost use Rattle.rounds.specs.Out.{IsOut};
 
     // How many blocks are out with it.
     ghost Value = { ℕ };
 
     ghost view = { λ r. r.blocks };
 
-    ghost invariant = { λ r. IsRound r.blocks (both (of_packets r.packets.items) (of_work r.lanes r.kept.items))
-        × (counts_of r.packets.items + count_of_work r.lanes r.kept.items ≤ r.blocks + r.blocks)
-        × AreSpent r.lanes.taps.items };
+    ghost invariant = { λ r. (home r.spares ≤ r.blocks)
+        × IsOut r.shared (r.blocks - home r.spares) r.packets.items r.lanes r.kept.items };
 }
 
 /// Why a round has no more records.
@@ -139,6 +193,7 @@ pub(crate) fn no_round(alloc: Global) -> RoundRead
     RoundRead {
         round: Round {
             packets: Packets::new(alloc),
+            spares: Pool::new(alloc),
             blocks: 0,
         },
         end: RoundEnd::NoMemory,

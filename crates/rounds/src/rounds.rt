@@ -12,7 +12,7 @@ ghost use Rattle.pcap_io.specs.Readers.{place_of, source_of, SameLoan};
 ghost use Rattle.offload_model.specs.Need.{round_need};
 ghost use Rattle.offload_model.specs.Captured.{IsCaptured};
 ghost use Rattle.offload_model.specs.Written.{round_records};
-ghost use Rattle.gro.specs.Held.{packet_of};
+ghost use Rattle.gro.specs.Slots.{packet_of};
 ghost use Rattle.lanes.specs.Lanes.{IsMerged};
 ghost use Rattle.lanes.specs.Work.{IsPlan};
 ghost use Rattle.rounds.specs.Benches.{IsRead};
@@ -149,8 +149,8 @@ impl Rounds {
         ensures failed { result.end ≡ RoundEnd.ReadFault
             → Rose (S.faults (source_of reader.old)) (S.faults (source_of reader.new)) }
     {
-        let packets = self.bench.take_list();
-        self.intake.read_into(reader, &mut AllHome, packets)
+        let blank = self.bench.take_blank();
+        self.intake.read_into(reader, &mut AllHome, blank)
     }
 
     /// Works a round: queue by queue what the runs of its flows come to, in the order of their first packets, and tap

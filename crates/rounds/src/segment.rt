@@ -1,23 +1,23 @@
 //! Segments the records of an offload capture, each a round of its own.
-ghost use Rattle.std.specs.Prelude.{◌≡◌, ◌+◌, ◌-◌, ◌*◌, ◌<◌, ◌≤◌, ◌^◌, length, map, min, IfOk, Ok, Err};
+ghost use Rattle.std.specs.Prelude.{◌≡◌, ◌+◌, ◌-◌, ◌*◌, ◌<◌, ◌≤◌, ◌^◌, [], ◌∷◌, length, min, IfOk, Ok, Err};
 ghost use Rattle.std.specs.List.{flat_map};
 ghost use Rattle.off_io.specs.Faults.{Rose};
 ghost use Rattle.off_io.specs.Told.{Told};
 ghost use Rattle.pcap_io.specs.declared.heads.Link.TheVariants.{Offload};
 ghost use Rattle.pcap_io.specs.Places.{IsReady, found_at};
 ghost use Rattle.pcap_io.specs.Readers.{place_of, source_of, SameLoan};
-ghost use Rattle.rounds.specs.Record.{GoesOn};
+ghost use Rattle.records.specs.Reading.{GoesOn};
 ghost use Rattle.rounds.specs.Segmenting.{IsFaultOf, IsMovedOf, Moves, TakesOne};
 
 use crate::cut::{Refused, cut_record};
-use crate::memory::{RECORD_BLOCKS, close_places, open_places};
-use crate::record::{Stop, read_placed};
-use crate::table::Place;
+use crate::memory::RECORD_BLOCKS;
 use block_pool::Pool;
 use frags::Outcomes;
+use gro::{Packets, Slot};
 use off_io::{Sink, Source};
 use pcap_io::{CapFault, CapKind, CaptureReader, OFF_HEAD_LEN};
 use raw_block::Sole;
+use records::{Stop, read_record};
 use std::alloc::{AllocError, Global};
 use std::collections::VecDeque;
 use std::marker::Model;
@@ -52,25 +52,28 @@ pub struct SegmentRun {
     pool: Pool,
     // The blocks of the record that is being read.
     hold: VecDeque<Sole>,
-    // What came back, and where.
-    places: Vec<Place>,
+    // Those of it that its need counts and nothing reads.
+    spares: Pool,
+    // Its packet, from when it was read until it is written.
+    packets: Packets,
+    // An offload header lies in a record's first block, so taking it off gives no block back.
     out: Outcomes,
 }
 
 impl Model for SegmentRun {
-    ghost use Rattle.std.specs.Prelude.{◌≡◌, ◌+◌, ◌≤◌, [], length};
+    ghost use Rattle.std.specs.Prelude.{◌≡◌, ◌≤◌, []};
     ghost use Rattle.std.specs.VecDeque.{deque_capacity};
     ghost use Rattle.block_pool.specs.PoolState.{home as home_of};
     ghost use Rattle.rounds.specs.RoundsState.{SegmentState};
     ghost use Rattle.frags.specs.OutcomesState.{IsBare};
-    ghost use Rattle.rounds.specs.Table.{AllOpen};
 
     ghost Value = { SegmentState };
 
     ghost view = { λ r. record { home = home_of r.pool; blocks = r.pool.made; taken = r.pool.taken } };
 
     ghost invariant = { λ r. (r.pool.made ≤ 65536) × (r.hold.items ≡ []) × (131 ≤ deque_capacity r.hold)
-        × AllOpen r.places.items × (length r.places.items ≡ r.pool.made) × IsBare r.out };
+        × (home_of r.spares ≡ 0) × (2 ≤ r.spares.made) × (r.packets.items ≡ []) × (1 ≤ r.packets.room)
+        × IsBare r.out };
 }
 
 impl Drop for SegmentRun {
@@ -79,10 +82,11 @@ impl Drop for SegmentRun {
             alloc: _,
             pool: _pool,
             hold: _hold,
-            places,
+            spares: _spares,
+            packets,
             out,
         } = self;
-        close_places(places);
+        packets.discard();
         out.settle();
     }
 }
@@ -97,6 +101,19 @@ fn stopped(stop: Stop) -> Result<Moved, SegFault>
         Stop::PoolEmpty { need } => Err(SegFault::PoolEmpty { need }),
         Stop::ReadFault => Err(SegFault::ReadFault),
         Stop::NoMemory => Err(SegFault::NoMemory),
+    }
+}
+
+// The packet of the record that was read, which alone is in its list.
+fn only_packet(packets: &mut Packets) -> Slot
+    requires one { length packets.old.items ≡ 1 }
+    ensures only { packets.old.items ≡ result ∷ [] }
+    ensures none { packets.new.items ≡ [] }
+    ensures room { packets.old.room + 1 ≤ packets.new.room }
+{
+    match packets.pop() {
+        Some(packet) => packet,
+        None => unreachable!(),
     }
 }
 
@@ -115,27 +132,23 @@ fn fault_of(refused: Refused, offset: u64, number: u32) -> SegFault
 }
 
 impl SegmentRun {
-    /// A pool of `blocks` blocks. All memory for blocks and for what comes back of them is taken here.
+    /// A pool of `blocks` blocks. All memory for blocks is taken here.
     pub fn make(alloc: Global, blocks: u32) -> Result<SegmentRun, AllocError>
         requires blocks { (1 ≤ blocks) × (blocks ≤ 65536) }
         ensures made { IfOk result (λ run. run ≡ record { home = blocks; blocks = blocks; taken = 0 }) }
     {
         let hold = VecDeque::with_capacity(alloc, RECORD_BLOCKS)?;
         let pool = Pool::make(alloc, blocks)?;
-        let places = open_places(alloc, blocks)?;
-        match Outcomes::with_room(alloc, blocks as usize) {
-            Ok(out) => Ok(SegmentRun {
-                alloc,
-                pool,
-                hold,
-                places,
-                out,
-            }),
-            Err(error) => {
-                close_places(places);
-                Err(error)
-            }
-        }
+        let spares = Pool::empty(alloc, 2)?;
+        let packets = Packets::with_capacity(alloc, 1)?;
+        Ok(SegmentRun {
+            alloc,
+            pool,
+            hold,
+            spares,
+            packets,
+            out: Outcomes::new(alloc),
+        })
     }
 
     /// The blocks that are home: between two calls of `next` all of them.
@@ -185,33 +198,27 @@ impl SegmentRun {
         ensures write { result ≡ Err SegFault.WriteFault → Rose (K.faults sink.old) (K.faults sink.new) }
     {
         let _ = self.pool.taken();
-        if self.out.reserve(self.pool.made() as usize).is_err() {
-            return Err(SegFault::NoMemory);
-        }
         let file = reader.file();
         let mut front = [0u8; OFF_HEAD_LEN];
-        let read = read_placed(
+        let read = read_record(
             self.alloc,
             &mut self.pool,
             &mut self.hold,
+            &mut self.spares,
             reader,
             &mut front,
             0,
+            0,
+            &mut self.packets,
         );
-        let (packet, offset) = match read {
-            Ok(read) => read,
+        let offset = match read {
+            Ok((offset, _)) => offset,
             Err(stop) => return stopped(stop),
         };
+        let packet = only_packet(&mut self.packets);
         let number = packet.number;
-        let wrote = cut_record(
-            sink,
-            &file,
-            &front,
-            packet,
-            &mut self.pool,
-            &mut self.places,
-            &mut self.out,
-        );
+        let wrote = cut_record(sink, &file, &front, packet, &mut self.pool, &mut self.out);
+        self.pool.refill(&mut self.spares);
         match wrote {
             Ok(()) => Ok(Moved::One),
             Err(refused) => Err(fault_of(refused, offset, number)),

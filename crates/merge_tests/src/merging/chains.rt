@@ -1,52 +1,31 @@
 //! Which packets an engine links, one behind the other.
 ghost use Rattle.std.specs.Prelude.{◌+◌, ◌≤◌, length};
-ghost use Rattle.gro.specs.Held.{IsHeld};
+ghost use Rattle.gro.specs.Slots.{IsHeld};
 ghost use Rattle.merge_tests.specs.Numbered.{AreNumbered};
 
 use super::rounds::in_flow;
-use super::{freed, packet, plain};
-use frags::Outcomes;
-use gro::{Engine, Packet, Slot};
+use super::{freed_slot, plain, slot};
+use gro::{Engine, Slot};
 use std::alloc::Global;
 use std::process::Abort;
 
-// One more packet in a list, with the next number. Its spares aren't wanted.
-fn append(rt: &impl Abort, slots: &mut Vec<Slot>, number: u32, packet: Packet)
-    requires held { IsHeld packet }
+// One more packet in a list, with the next number.
+fn append(rt: &impl Abort, slots: &mut Vec<Slot>, number: u32, slot: Slot)
+    requires held { IsHeld slot }
     requires numbered { AreNumbered slots.old.items number }
     ensures numbered { AreNumbered slots.new.items (number + 1) }
 {
+    let mut slot = slot;
+    slot.number = number;
     slots.reserve(1).expect(rt, "room");
-    let Packet {
-        skb,
-        spare1: _,
-        spare2: _,
-        sec,
-        frac,
-        original,
-        number: _,
-    } = packet;
-    slots.push_reserved(Slot {
-        skb,
-        sec,
-        frac,
-        original,
-        number,
-    });
+    slots.push_reserved(slot);
 }
 
 // Gives the buffers of packets up.
 fn spent_slots(rt: &impl Abort, alloc: Global, slots: Vec<Slot>) {
     let mut slots = slots;
     while let Some(slot) = slots.pop() {
-        let Slot {
-            skb,
-            sec: _,
-            frac: _,
-            original: _,
-            number: _,
-        } = slot;
-        freed(rt, skb, Outcomes::new(alloc));
+        freed_slot(rt, alloc, slot);
     }
     slots.destroy_empty();
 }
@@ -84,8 +63,8 @@ fn linked(
 {
     let mut slots = Vec::new(alloc);
     for i in 0..heads.len() {
-        let packet = packet(rt, alloc, i as u32, &heads[i], payload);
-        append(rt, &mut slots, i as u32, packet);
+        let slot = slot(rt, alloc, i as u32, &heads[i], payload);
+        append(rt, &mut slots, i as u32, slot);
     }
     let mut engine = Engine::make(alloc, heads.len() as u32).expect(rt, "engine");
     engine.merge(&slots, segs);
@@ -161,13 +140,13 @@ fn one_list_after_another(rt: HostRuntime) {
             &rt,
             &mut slots,
             0,
-            packet(&rt, alloc, 0, &plain(0, 0, 0x10, &payload), &payload),
+            slot(&rt, alloc, 0, &plain(0, 0, 0x10, &payload), &payload),
         );
         append(
             &rt,
             &mut slots,
             1,
-            packet(&rt, alloc, 1, &plain(1, 100, 0x10, &payload), &payload),
+            slot(&rt, alloc, 1, &plain(1, 100, 0x10, &payload), &payload),
         );
         engine.start(2).expect(&rt, "room");
         engine.merge(&slots, if turn == 1 { 1 } else { 2 });
@@ -204,7 +183,7 @@ fn one_flow(rt: HostRuntime) {
     let mut slots = Vec::new(alloc);
     for i in 0..4096u32 {
         let head = plain(i as u16, i * 10, 0x10, &payload);
-        append(&rt, &mut slots, i, packet(&rt, alloc, i, &head, &payload));
+        append(&rt, &mut slots, i, slot(&rt, alloc, i, &head, &payload));
     }
     let mut engine = Engine::make(alloc, 4096).expect(&rt, "engine");
     engine.merge(&slots, 4096);

@@ -1,47 +1,27 @@
 //! Packets in a list in which they stay, and what their runs come to there.
-ghost use Rattle.std.specs.Prelude.{◌≡◌, ◌+◌, ◌<◌, ◌≤◌, length, map};
+ghost use Rattle.std.specs.Prelude.{◌+◌, ◌<◌, length, map};
 ghost use Rattle.gro.specs.Engine.{AreRuns};
-ghost use Rattle.gro.specs.Held.{IsHeld, counts_of};
-ghost use Rattle.gro.specs.Slots.{packet_in, slot_of, AreSlots};
+ghost use Rattle.gro.specs.Slots.{packet_of, IsHeld, AreHeld};
 ghost use Rattle.merge_tests.specs.Numbered.{AreNumbered};
 
 use super::rounds::in_flow;
-use super::{
-    emptied, finished, frames, freed, has_bytes, packet, plain, put, reserve, spent, table_for,
-};
+use super::{finished, frames, freed, freed_slot, has_bytes, plain, put, slot, spent, table_for};
 use frags::Outcomes;
-use gro::{Engine, Packet, Packets, Slot};
+use gro::{Engine, Packets, Slot};
 use pcap_io::OffHead2;
 use std::alloc::Global;
 use std::process::Abort;
 
-// Two numbers of places together.
-fn sum(rt: &impl Abort, a: usize, b: usize) -> usize
-    ensures sum { result ≡ a + b }
+// One more packet in a list, with the next number.
+fn append(rt: &impl Abort, packets: &mut Packets, number: u32, slot: Slot)
+    requires held { IsHeld slot }
+    requires numbered { AreNumbered packets.old.items number }
+    ensures numbered { AreNumbered packets.new.items (number + 1) }
 {
-    a.checked_add(b).expect(rt, "places")
-}
-
-// One more packet in a list, with the next number: how many places all of them want when they are given back.
-fn append(
-    rt: &impl Abort,
-    packets: &mut Packets,
-    number: u32,
-    places: usize,
-    packet: Packet,
-) -> usize
-    requires held { IsHeld packet }
-    requires numbered { AreNumbered (map slot_of packets.old.items) number }
-    requires places { counts_of packets.old.items ≤ places }
-    ensures numbered { AreNumbered (map slot_of packets.new.items) (number + 1) }
-    ensures places { counts_of packets.new.items ≤ result }
-{
-    let mut packet = packet;
-    packet.number = number;
-    let own = sum(rt, packet.skb.count(), 2);
+    let mut slot = slot;
+    slot.number = number;
     packets.reserve(1).expect(rt, "room");
-    packets.push(packet);
-    sum(rt, places, own)
+    packets.push(slot);
 }
 
 // Whether a list has packets of these numbers, in this order.
@@ -58,36 +38,18 @@ fn has_numbers(packets: &Packets, row: &[u32]) -> bool {
     true
 }
 
-// Gives all packets back at once: how many blocks are home.
-fn given_back(rt: &impl Abort, alloc: Global, packets: Packets, places: usize) -> usize
-    requires places { counts_of packets.items ≤ places }
-{
-    let mut packets = packets;
-    let mut outcomes = Outcomes::new(alloc);
-    reserve(rt, &mut outcomes, places);
-    packets.release_all(&mut outcomes);
-    packets.discard();
-    let blocks = emptied(&mut outcomes);
-    outcomes.settle();
-    blocks
-}
-
 // Takes the packets out, from the last one on, which have these numbers: how many blocks are home.
 fn popped(rt: &impl Abort, alloc: Global, packets: Packets, row: &[u32]) -> usize {
     let mut packets = packets;
-    let mut outcomes = Outcomes::new(alloc);
+    let mut blocks = 0usize;
     let mut i = 0usize;
-    while let Some(packet) = packets.pop() {
-        assert!(rt; i < row.len() && packet.number == row[i]);
+    while let Some(slot) = packets.pop() {
+        assert!(rt; i < row.len() && slot.number == row[i]);
         i = i.wrapping_add(1);
-        let own = sum(rt, packet.skb.count(), 2);
-        reserve(rt, &mut outcomes, own);
-        packet.release(&mut outcomes);
+        blocks = blocks.wrapping_add(freed_slot(rt, alloc, slot));
     }
     assert!(rt; i == row.len());
     packets.discard();
-    let blocks = emptied(&mut outcomes);
-    outcomes.settle();
     blocks
 }
 
@@ -98,46 +60,39 @@ fn in_order_and_in_reverse(rt: HostRuntime) {
     let payload = [9; 100];
     let mut packets = Packets::with_capacity(alloc, 3).expect(&rt, "list");
     assert!(rt; packets.is_empty());
-    let mut places = 0;
     for i in 0..3u32 {
         let head = plain(i as u16, i * 100, 0x10, &payload);
-        let packet = packet(&rt, alloc, i, &head, &payload);
-        places = append(&rt, &mut packets, i, places, packet);
+        let slot = slot(&rt, alloc, i, &head, &payload);
+        append(&rt, &mut packets, i, slot);
     }
     assert!(rt; has_numbers(&packets, &[0, 1, 2]) && !packets.is_empty());
     packets.reverse();
     assert!(rt; has_numbers(&packets, &[2, 1, 0]));
-    assert_eq!(rt; popped(&rt, alloc, packets, &[0, 1, 2]), 9);
+    assert_eq!(rt; popped(&rt, alloc, packets, &[0, 1, 2]), 3);
 }
 
-// A list of two packets of one flow, of 160 and 100 bytes, and one of another. Its places too.
-fn three(rt: &impl Abort, alloc: Global) -> (Packets, usize)
-    ensures numbered { AreNumbered (map slot_of result.0.items) 3 }
-    ensures places { counts_of result.0.items ≤ result.1 }
+// A list of two packets of one flow, of 160 and 100 bytes, and one of another.
+fn three(rt: &impl Abort, alloc: Global) -> Packets
+    ensures numbered { AreNumbered result.items 3 }
 {
     let payload = super::joins::counting::<160>(1);
     let other = super::joins::counting::<100>(0x32);
     let apart = in_flow(plain(0, 0, 0x10, &payload), 1);
     let mut packets = Packets::new(alloc);
-    let first = packet(rt, alloc, 0, &frames::PLAIN_FIRST, &payload);
-    let places = append(rt, &mut packets, 0, 0, first);
-    let next = packet(rt, alloc, 1, &frames::PLAIN_NEXT, &other);
-    let places = append(rt, &mut packets, 1, places, next);
-    let places = append(
-        rt,
-        &mut packets,
-        2,
-        places,
-        packet(rt, alloc, 2, &apart, &payload),
-    );
-    (packets, places)
+    let first = slot(rt, alloc, 0, &frames::PLAIN_FIRST, &payload);
+    append(rt, &mut packets, 0, first);
+    let next = slot(rt, alloc, 1, &frames::PLAIN_NEXT, &other);
+    append(rt, &mut packets, 1, next);
+    let last = slot(rt, alloc, 2, &apart, &payload);
+    append(rt, &mut packets, 2, last);
+    packets
 }
 
 /// A clone of the second packet: its head is shared where it lies, and the others' heads aren't.
 #[test]
 fn cloned_where_it_lies(rt: HostRuntime) {
     let alloc = rt.alloc();
-    let (mut packets, _places) = three(&rt, alloc);
+    let mut packets = three(&rt, alloc);
     assert!(rt; packets.len() == 3);
     let clone = packets.clone_at(1).expect(&rt, "a clone");
     let slots = packets.slots();
@@ -147,14 +102,31 @@ fn cloned_where_it_lies(rt: HostRuntime) {
     assert!(rt; slots[0].skb.head_is_sole() && !slots[1].skb.head_is_sole());
     assert!(rt; slots[2].skb.head_is_sole());
     let blocks = popped(&rt, alloc, packets, &[2, 1, 0]);
-    assert_eq!(rt; (blocks, freed(&rt, clone, Outcomes::new(alloc))), (8, 1));
+    assert_eq!(rt; (blocks, freed(&rt, clone, Outcomes::new(alloc))), (2, 1));
+}
+
+/// The heads are shared where they lie, with one clone's before the others': no bytes change, and all blocks come home.
+#[test]
+fn heads_shared(rt: HostRuntime) {
+    let alloc = rt.alloc();
+    let mut packets = three(&rt, alloc);
+    let clone = packets.clone_at(0).expect(&rt, "a clone");
+    packets.share_heads();
+    let slots = packets.slots();
+    assert!(rt; slots.len() == 3);
+    assert!(rt; has_bytes(&slots[0].skb, 0, &frames::PLAIN_FIRST));
+    assert!(rt; has_bytes(&slots[1].skb, 0, &frames::PLAIN_NEXT));
+    assert!(rt; !slots[0].skb.head_is_sole() && !slots[1].skb.head_is_sole());
+    assert!(rt; !slots[2].skb.head_is_sole());
+    assert_eq!(rt; freed(&rt, clone, Outcomes::new(alloc)), 0);
+    assert_eq!(rt; popped(&rt, alloc, packets, &[2, 1, 0]), 3);
 }
 
 // What a run of an engine comes to: its offload header where it is of queue 3, and how long its headers, its frame and
 // its original frame are.
 fn said_of(slots: &[Slot], engine: &Engine, i: usize) -> (OffHead2, usize, u32, u32)
-    requires slots { AreSlots slots.now }
-    requires runs { AreRuns (map packet_in slots.now) (length slots.now) engine.now }
+    requires slots { AreHeld slots.now }
+    requires runs { AreRuns (map packet_of slots.now) (length slots.now) engine.now }
     requires inside { i < length engine.now.runs.items }
 {
     let run = &engine.runs[i];
@@ -169,8 +141,8 @@ fn said_of(slots: &[Slot], engine: &Engine, i: usize) -> (OffHead2, usize, u32, 
 
 // Whether a run of several packets has these headers.
 fn has_headers(slots: &[Slot], engine: &Engine, i: usize, wanted: &[u8]) -> bool
-    requires slots { AreSlots slots.now }
-    requires runs { AreRuns (map packet_in slots.now) (length slots.now) engine.now }
+    requires slots { AreHeld slots.now }
+    requires runs { AreRuns (map packet_of slots.now) (length slots.now) engine.now }
     requires inside { i < length engine.now.runs.items }
 {
     let run = &engine.runs[i];
@@ -201,7 +173,7 @@ fn of_queue(kind: u8, n: u32, m: u32, number: u32) -> OffHead2 {
 #[test]
 fn what_runs_come_to(rt: HostRuntime) {
     let alloc = rt.alloc();
-    let (packets, places) = three(&rt, alloc);
+    let packets = three(&rt, alloc);
     let mut engine = Engine::new(alloc);
     engine.start(3).expect(&rt, "room");
     let slots = packets.slots();
@@ -215,7 +187,7 @@ fn what_runs_come_to(rt: HostRuntime) {
         (alone.0, alone.2, alone.3),
         (of_queue(0, 1, 0, 2), 214, 214)
     );
-    assert_eq!(rt; given_back(&rt, alloc, packets, places), 9);
+    assert_eq!(rt; popped(&rt, alloc, packets, &[2, 1, 0]), 3);
 }
 
 /// The same packets in a table: its items' records have these headers and lengths.
@@ -241,7 +213,7 @@ fn what_items_say(rt: HostRuntime) {
 #[test]
 fn freed_with_its_packets(rt: HostRuntime) {
     let alloc = rt.alloc();
-    let (packets, _places) = three(&rt, alloc);
+    let packets = three(&rt, alloc);
     packets.free();
     Packets::new(alloc).free();
 }

@@ -113,22 +113,29 @@ fn flows_of_one_hash(rt: HostRuntime) {
     come_to(&rt, alloc, &heads, &payload, &rows);
 }
 
-/// A packet that was captured in part is alone, and ends its flow's run.
+// Three packets of a flow that continue one another, of which the second one was captured in part, or all were.
+fn none_merges(rt: &impl Abort, alloc: Global, all: bool) {
+    let payload = [9; 100];
+    let mut table = table_for(rt, alloc, 3);
+    for i in 0..3u16 {
+        let head = plain(i, i as u32 * 100, 0x10, &payload);
+        let mut packet = packet(rt, alloc, i as u32, &head, &payload);
+        if all || i == 1 {
+            packet.original = 155;
+        }
+        receive(rt, alloc, &mut table, packet);
+    }
+    let rows = [(0, 1, 0, 0), (1, 1, 0, 0), (2, 1, 0, 0)];
+    assert_eq!(rt; spent(rt, finished(rt, alloc, table), &rows), 9);
+}
+
+/// A packet that was captured in part is alone, and ends its flow's run. Where no run is open it opens none that
+/// another packet finds.
 #[test]
 fn captured_in_part(rt: HostRuntime) {
     let alloc = rt.alloc();
-    let payload = [9; 100];
-    let mut table = table_for(&rt, alloc, 3);
-    for i in 0..3u16 {
-        let head = plain(i, i as u32 * 100, 0x10, &payload);
-        let mut packet = packet(&rt, alloc, i as u32, &head, &payload);
-        if i == 1 {
-            packet.original = 155;
-        }
-        receive(&rt, alloc, &mut table, packet);
-    }
-    let rows = [(0, 1, 0, 0), (1, 1, 0, 0), (2, 1, 0, 0)];
-    assert_eq!(rt; spent(&rt, finished(&rt, alloc, table), &rows), 9);
+    none_merges(&rt, alloc, false);
+    none_merges(&rt, alloc, true);
 }
 
 // The first 33 bytes of these headers, which end within the IP header.

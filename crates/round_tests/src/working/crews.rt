@@ -141,9 +141,9 @@ fn by_crew<R: Threads + Wait + Abort + Sync, G: Gate + Sync>(
 fn rounds_by_crews(rt: HostRuntime) -> Result<(), Fail> {
     let alloc = rt.alloc();
     let plan = plain(2, 2, 64);
-    assert_eq!(rt; by_crew(&rt, alloc, &plan, &NoGate, 0, 100)?, 2_400);
-    assert_eq!(rt; by_crew(&rt, alloc, &plan, &NoGate, 1, 1_000)?, 24_000);
-    assert_eq!(rt; by_crew(&rt, alloc, &plan, &NoGate, 5, 1_000)?, 24_000);
+    assert_eq!(rt; by_crew(&rt, alloc, &plan, &NoGate, 0, 100)?, 800);
+    assert_eq!(rt; by_crew(&rt, alloc, &plan, &NoGate, 1, 1_000)?, 8_000);
+    assert_eq!(rt; by_crew(&rt, alloc, &plan, &NoGate, 5, 1_000)?, 8_000);
     Ok(())
 }
 
@@ -151,13 +151,10 @@ fn rounds_by_crews(rt: HostRuntime) -> Result<(), Fail> {
 #[test]
 fn few_lanes_and_many(rt: HostRuntime) -> Result<(), Fail> {
     let alloc = rt.alloc();
-    assert_eq!(rt; by_crew(&rt, alloc, &plain(1, 0, 64), &NoGate, 1, 10)?, 240);
-    assert_eq!(rt;
-        by_crew(&rt, alloc, &plain(64, 8, 40), &NoGate, 3, 10)?,
-        240
-    );
+    assert_eq!(rt; by_crew(&rt, alloc, &plain(1, 0, 64), &NoGate, 1, 10)?, 80);
+    assert_eq!(rt; by_crew(&rt, alloc, &plain(64, 8, 40), &NoGate, 3, 10)?, 80);
     let shown = chosen(alloc, 4, 4096, "1,6 0 0 40")?;
-    assert_eq!(rt; by_crew(&rt, alloc, &shown, &NoGate, 3, 10)?, 240);
+    assert_eq!(rt; by_crew(&rt, alloc, &shown, &NoGate, 3, 10)?, 80);
     Ok(())
 }
 
@@ -176,7 +173,7 @@ fn seen<R: Threads + Wait + Abort + Sync>(
     let meeting = Meeting::of(one, other);
     assert_eq!(rt;
         by_crew(rt, alloc, &plain(queues, taps, 64), &meeting, 1, 1)?,
-        24
+        8
     );
     Ok(meeting.met())
 }

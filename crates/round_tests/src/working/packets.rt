@@ -1,14 +1,14 @@
 //! The packets of two flows in turn, and what comes home of lanes.
-ghost use Rattle.std.specs.Prelude.{◌≡◌, ◌≤◌, false, map};
+ghost use Rattle.std.specs.Prelude.{◌≡◌, ◌≤◌, map};
 ghost use Rattle.ref_core.specs.WeightRule.{full_weight};
-ghost use Rattle.skb.specs.SkbState.{buffer_least, is_sole};
-ghost use Rattle.gro.specs.Held.{packet_of, count_of, counts_of, IsHeld, AreHeld, AreShared, WeighAtLeast};
+ghost use Rattle.skb.specs.SkbState.{buffer_least, IsAlone};
+ghost use Rattle.gro.specs.Slots.{packet_of, count_of, counts_of, IsHeld, AreAlone, AreHeld, AreShared, WeighAtLeast};
 ghost use Rattle.lanes.specs.Clones.{weight_after};
 ghost use Rattle.lanes.specs.Packets.{RiseFrom};
 
 use super::frames::IN_TURN;
 use frags::{Outcomes, Pieces};
-use gro::{Packet, Packets};
+use gro::{Packets, Slot};
 use lanes::{Lanes, QueueLane, TapLane};
 use raw_block::Sole;
 use skb::Skb;
@@ -16,26 +16,23 @@ use std::alloc::Global;
 use std::process::Abort;
 use taps::TapClone;
 
-// A packet whose head is a part of the whole weight.
-fn packet(rt: &impl Abort, alloc: Global, number: u32, frame: &[u8]) -> Packet
+// A packet in a block that nobody else holds.
+fn packet(rt: &impl Abort, alloc: Global, number: u32, frame: &[u8]) -> Slot
     ensures held { IsHeld result }
-    ensures shared { is_sole result.skb.head ≡ false }
+    ensures alone { IsAlone result.skb }
     ensures whole { full_weight ≤ buffer_least result.skb }
     ensures weighs { weight_after 1 ≤ buffer_least result.skb }
-    ensures count { count_of result ≡ 3 }
+    ensures count { count_of result ≡ 1 }
     ensures number { result.number ≡ number }
 {
     let block = Sole::new(alloc).expect(rt, "block");
     let mut skb = Skb::new(block, 64, 64, Pieces::new(alloc));
     skb.put_tail(frame).expect(rt, "room");
-    skb.share_head();
     let len = skb.len();
-    assert!(rt; len <= 2000 && skb.head().len() == len && !skb.head_is_sole());
+    assert!(rt; len <= 2000 && skb.head().len() == len && skb.head_is_sole());
     assert!(rt; skb.least_weight() == 1 << 62 && skb.count() == 1);
-    Packet {
+    Slot {
         skb,
-        spare1: Sole::new(alloc).expect(rt, "block"),
-        spare2: Sole::new(alloc).expect(rt, "block"),
         sec: 1,
         frac: 2,
         original: len as u32,
@@ -43,14 +40,13 @@ fn packet(rt: &impl Abort, alloc: Global, number: u32, frame: &[u8]) -> Packet
     }
 }
 
-/// The packets of both flows, numbered from 0.
-pub(crate) fn in_turn(rt: &impl Abort, alloc: Global) -> Packets
+/// The packets of both flows, numbered from 0, each in a block of its own that nobody else holds.
+pub(crate) fn unshared(rt: &impl Abort, alloc: Global) -> Packets
     ensures held { AreHeld result.items }
-    ensures shared { AreShared result.items }
-    ensures whole { WeighAtLeast full_weight result.items }
+    ensures alone { AreAlone result.items }
     ensures weighs { WeighAtLeast (weight_after 1) result.items }
     ensures rising { RiseFrom 0 (map packet_of result.items) }
-    ensures few { counts_of result.items ≤ 24 }
+    ensures few { counts_of result.items ≤ 8 }
 {
     let mut packets = Packets::with_capacity(alloc, 8).expect(rt, "places");
     let mut number = 8u32;
@@ -60,6 +56,20 @@ pub(crate) fn in_turn(rt: &impl Abort, alloc: Global) -> Packets
         packets.push(packet(rt, alloc, number, frame));
     }
     packets.reverse();
+    packets
+}
+
+/// The same packets with heads that are parts of the whole weight, as taps want them.
+pub(crate) fn in_turn(rt: &impl Abort, alloc: Global) -> Packets
+    ensures held { AreHeld result.items }
+    ensures shared { AreShared result.items }
+    ensures whole { WeighAtLeast full_weight result.items }
+    ensures weighs { WeighAtLeast (weight_after 1) result.items }
+    ensures rising { RiseFrom 0 (map packet_of result.items) }
+    ensures few { counts_of result.items ≤ 8 }
+{
+    let mut packets = unshared(rt, alloc);
+    packets.share_heads();
     packets
 }
 
@@ -73,11 +83,9 @@ fn home(mut outcomes: Outcomes) -> usize {
     blocks
 }
 
-fn home_of_packet(rt: &impl Abort, packet: Packet) -> usize {
-    let Packet {
+fn home_of_packet(rt: &impl Abort, packet: Slot) -> usize {
+    let Slot {
         skb,
-        spare1: _,
-        spare2: _,
         sec: _,
         frac: _,
         original: _,
@@ -86,7 +94,7 @@ fn home_of_packet(rt: &impl Abort, packet: Packet) -> usize {
     let mut outcomes = Outcomes::new(skb.allocator());
     outcomes.reserve(skb.count()).expect(rt, "places");
     skb.release(&mut outcomes);
-    home(outcomes).wrapping_add(2)
+    home(outcomes)
 }
 
 fn home_of_packets(rt: &impl Abort, packets: Packets) -> usize {

@@ -1,10 +1,10 @@
 //! What the lanes of two flows in turn come to.
-ghost use Rattle.std.specs.Prelude.{◌<◌, length, All};
+ghost use Rattle.std.specs.Prelude.{◌<◌, ◌≤◌, length, All};
 ghost use Rattle.lanes.specs.Lanes.{IsMerged};
 ghost use Rattle.lanes.specs.Work.{IsPlan};
 
 use super::frames::IN_TURN;
-use super::packets::{all_home, in_turn, kept_home, rest_home};
+use super::packets::{all_home, in_turn, kept_home, rest_home, unshared};
 use crate::plans::{chosen, plain};
 use lanes::{Alone, Lanes, Plan, QueueLane, TapLane, Works, keep_packets, work_packets};
 use off_io::{Gate, NoGate, Who};
@@ -95,7 +95,7 @@ pub(crate) fn are_two_and_two(rt: &impl Abort, lanes: &Lanes)
 fn two_queues_and_two_taps(rt: HostRuntime) {
     let lanes = alone(&rt, rt.alloc(), &plain(2, 2, 64));
     are_two_and_two(&rt, &lanes);
-    assert_eq!(rt; all_home(&rt, lanes), 24);
+    assert_eq!(rt; all_home(&rt, lanes), 8);
 }
 
 /// Both flows in one queue, and no tap.
@@ -104,7 +104,7 @@ fn one_queue(rt: HostRuntime) {
     let lanes = alone(&rt, rt.alloc(), &plain(1, 0, 64));
     assert!(rt; lanes.queues.len() == 1 && lanes.taps.is_empty());
     says(&rt, &lanes.queues[0], &[(0, 4, 16), (1, 4, 16)]);
-    assert_eq!(rt; all_home(&rt, lanes), 24);
+    assert_eq!(rt; all_home(&rt, lanes), 8);
 }
 
 /// The most queues and taps that there may be: two queues have a flow each, and six taps find all windows empty.
@@ -123,7 +123,7 @@ fn many_lanes(rt: HostRuntime) {
             .expect(&rt, "windows")
             .is_empty()
     );
-    assert_eq!(rt; all_home(&rt, lanes), 24);
+    assert_eq!(rt; all_home(&rt, lanes), 8);
 }
 
 /// By the hash the flows have other queues of four, and the same runs. Runs are of two packets, and two taps of 32
@@ -137,7 +137,7 @@ fn by_choice(rt: HostRuntime) -> Result<(), Fail> {
     says(&rt, &lanes.queues[1], &[(0, 4, 16)]);
     has_read(&rt, &lanes.taps[0], 0, 32);
     has_read(&rt, &lanes.taps[1], 32, 40);
-    assert_eq!(rt; all_home(&rt, lanes), 24);
+    assert_eq!(rt; all_home(&rt, lanes), 8);
     Ok(())
 }
 
@@ -150,8 +150,48 @@ fn runs_of_two(rt: HostRuntime) -> Result<(), Fail> {
     let items = [(0, 2, 16), (1, 2, 16), (4, 2, 16), (5, 2, 16)];
     says(&rt, &lanes.queues[0], &items);
     let windows = lanes.taps[0].texts.as_ref().expect(&rt, "windows").len();
-    assert_eq!(rt; (windows, all_home(&rt, lanes)), (0, 24));
+    assert_eq!(rt; (windows, all_home(&rt, lanes)), (0, 8));
     Ok(())
+}
+
+// Whether nobody else holds the head of a packet in these lanes.
+fn are_unshared(lanes: &Lanes) -> bool {
+    for lane in &lanes.queues {
+        for slot in lane.packets.slots() {
+            if !slot.skb.head_is_sole() {
+                return false;
+            }
+        }
+    }
+    true
+}
+
+// Packets of which nobody shares a block, over so many queues and no tap: whether they come out as such, and the blocks
+// that come home.
+fn unshared_by(rt: &impl Abort, alloc: Global, queues: u32) -> (bool, usize)
+    requires queues { (1 ≤ queues) × (queues ≤ 64) }
+{
+    let plan = plain(queues, 0, 64);
+    let mut packets = unshared(rt, alloc);
+    let mut works = Alone { gate: &NoGate };
+    let mut lanes = Lanes::new(alloc);
+    match work_packets(&mut works, alloc, &mut packets, &plan, &mut lanes) {
+        Ok(()) => {
+            packets.discard();
+            (are_unshared(&lanes), all_home(rt, lanes))
+        }
+        Err(_) => {
+            rest_home(rt, packets, lanes);
+            panic!(rt; "there is memory");
+        }
+    }
+}
+
+/// Without taps nobody shares a block in the lanes, whether their list is one lane's or is spread.
+#[test]
+fn unshared_without_taps(rt: HostRuntime) {
+    assert_eq!(rt; unshared_by(&rt, rt.alloc(), 1), (true, 8));
+    assert_eq!(rt; unshared_by(&rt, rt.alloc(), 2), (true, 8));
 }
 
 // How often it was passed.
@@ -189,7 +229,7 @@ fn kept_and_alone(rt: HostRuntime) {
             assert_eq!(rt; gate.passes.load(Ordering::SeqCst), 20);
             assert_eq!(rt; kept.len(), 8);
             let blocks = all_home(&rt, lanes);
-            assert_eq!(rt; kept_home(&rt, kept).wrapping_add(blocks), 24);
+            assert_eq!(rt; kept_home(&rt, kept).wrapping_add(blocks), 8);
             packets.discard();
         }
         Err(_) => {

@@ -4,11 +4,11 @@ ghost use Rattle.std.specs.List.{AllByRecursion};
 ghost use Rattle.pcap_io.specs.Capture.{Packet as Captured};
 ghost use Rattle.pcap_io.specs.Limits.{off_head2_size};
 ghost use Rattle.gro.specs.Engine.{DoRise};
-ghost use Rattle.gro.specs.Held.{packet_of, IsHeld, AreHeld};
+ghost use Rattle.gro.specs.Slots.{packet_of, IsHeld, AreHeld};
 
 use crate::writing::FILE;
 use frags::{Outcomes, PieceBuilder, Pieces};
-use gro::{Engine, Item, Packet, Packets, RoundTable};
+use gro::{Engine, Item, Packet, Packets, RoundTable, Slot};
 use off_io::{MemSink, WriteFault};
 use raw_block::Sole;
 use records::{write_item, write_runs};
@@ -70,17 +70,15 @@ fn in_two(rt: &impl Abort, alloc: Global, headers: &[u8; 54], payload: &[u8]) ->
 }
 
 // A packet with this number.
-fn packet(rt: &impl Abort, alloc: Global, number: u32, skb: Skb) -> Packet
+fn packet(rt: &impl Abort, number: u32, skb: Skb) -> Slot
     ensures held { IsHeld result }
     ensures original { result.original < 2 ^ 18 }
     ensures number { result.number ≡ number }
 {
     let len = skb.len();
     assert!(rt; len <= 1000 && len.min(200) <= skb.head().len());
-    Packet {
+    Slot {
         skb,
-        spare1: block(rt, alloc),
-        spare2: block(rt, alloc),
         sec: 1,
         frac: 2,
         original: len as u32,
@@ -98,9 +96,9 @@ fn three(rt: &impl Abort, alloc: Global) -> Packets
     let mut alone = Skb::new(block(rt, alloc), 64, 64, Pieces::new(alloc));
     alone.put_tail(b"abcde").expect(rt, "room");
     let mut packets = Packets::with_capacity(alloc, 3).expect(rt, "list");
-    let first = packet(rt, alloc, 0, in_two(rt, alloc, &FIRST, &[0xff; 300]));
-    let second = packet(rt, alloc, 1, alone);
-    let third = packet(rt, alloc, 2, in_two(rt, alloc, &NEXT, &[0; 200]));
+    let first = packet(rt, 0, in_two(rt, alloc, &FIRST, &[0xff; 300]));
+    let second = packet(rt, 1, alone);
+    let third = packet(rt, 2, in_two(rt, alloc, &NEXT, &[0; 200]));
     packets.push(first);
     packets.push(second);
     packets.push(third);
@@ -141,12 +139,33 @@ fn runs_are_written_where_they_lie(rt: HostRuntime) {
     packets.free();
 }
 
+// A packet with the two blocks that a table wants of each.
+fn with_spares(rt: &impl Abort, alloc: Global, slot: Slot) -> Packet {
+    let Slot {
+        skb,
+        sec,
+        frac,
+        original,
+        number,
+    } = slot;
+    Packet {
+        skb,
+        spare1: block(rt, alloc),
+        spare2: block(rt, alloc),
+        sec,
+        frac,
+        original,
+        number,
+    }
+}
+
 // The items that a table makes of the same packets.
 fn items_of(rt: &impl Abort, alloc: Global, packets: Packets) -> Vec<Item> {
     let mut packets = packets;
     packets.reverse();
     let mut table = RoundTable::make(alloc, 3, 4096).expect(rt, "table");
-    while let Some(packet) = packets.pop() {
+    while let Some(slot) = packets.pop() {
+        let packet = with_spares(rt, alloc, slot);
         let len = packet.skb.len();
         assert!(rt; len <= 1000 && len.min(200) <= packet.skb.head().len());
         assert!(rt; table.may_receive(packet.number));

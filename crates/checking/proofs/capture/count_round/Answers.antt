@@ -1,7 +1,7 @@
 use Rattle.std.proofs.Common.{◌≡◌, ◌∙◌, sym, ap, subst, map}
 use Rattle.offload_model.specs.Captured.{AreCaptured}
 use Rattle.offload_model.specs.Written.{Options}
-use Rattle.gro.specs.Held.{packet_of}
+use Rattle.gro.specs.Slots.{packet_of}
 use Rattle.checking.specs.Counts.{added, round_totals}
 use Rattle.rounds.specs.Lanes.{IsKeptWorkOf}
 use Rattle.rounds.specs.Benches.{options_at}

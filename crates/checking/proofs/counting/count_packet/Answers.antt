@@ -1,6 +1,6 @@
 use Rattle.std.proofs.Common.{◌∙◌, map, ap, sym, refl, arith}
 use Rattle.std.proofs.lemmas.List.{length-map}
-use Rattle.gro.specs.Slots.{packet_in}
+use Rattle.gro.specs.Slots.{packet_of as packet_in}
 use Rattle.taps.specs.Clones.{packet_of}
 use Rattle.checking.specs.Returned.{is_same}
 use Rattle.checking.proofs.Chains.{count_one}

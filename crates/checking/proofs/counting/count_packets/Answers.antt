@@ -1,7 +1,7 @@
 use Rattle.std.proofs.Common.{◌≡◌, ◌∙◌, [], ◌∷◌, List, map, ap, sym, subst, arith}
 use Rattle.std.proofs.lemmas.List.{length-map}
 use Rattle.pcap_io.specs.Capture.{Packet}
-use Rattle.gro.specs.Slots.{packet_in}
+use Rattle.gro.specs.Slots.{packet_of as packet_in}
 use Rattle.taps.specs.Clones.{packet_of}
 use Rattle.checking.specs.Chain.{Counts}
 use Rattle.checking.specs.Items.{item_at}

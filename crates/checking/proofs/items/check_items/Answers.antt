@@ -1,6 +1,6 @@
 use Rattle.std.proofs.Common.{map, refl, subst, sym, arith}
 use Rattle.gro.specs.Engine.{IsChain}
-use Rattle.gro.specs.Slots.{packet_in}
+use Rattle.gro.specs.Slots.{packet_of as packet_in}
 use Rattle.taps.specs.Clones.{packet_of}
 use Rattle.checking.specs.Items.{item_at, totals_of_items}
 use Rattle.checking.proofs.Comparing.{none_before}

@@ -15,6 +15,6 @@ returns-clause-totals c = λ left are.
     let items : map (item_at slots c.deref.result.now) c.deref-2.result.now ≡ merged_in lane =
     ap (λ (z : List ℕ). map (item_at slots z) c.deref-2.result.now) c.deref.ensures.value
     ∙ ap (map (item_at slots lane.engine.next.items)) c.deref-2.ensures.value
-    ∙ lane_items slots lane c.slots.ensures.packets in
+    ∙ lane_items slots lane c.slots.ensures.slots in
     let t = c.check_items.ensures.totals left are in
     subst (λ (z : List Merged). (c.check_items.result ≡ totals_of_items left z) × AreLeft ps c.check_items.new.flows (behind_items left z)) items t

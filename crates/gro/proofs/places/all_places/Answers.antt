@@ -2,7 +2,7 @@ use Rattle.std.proofs.Common.{◌≡◌, ◌+◌, ◌<◌, ◌^◌, ℕ, List, l
 use Rattle.gro.specs.declared.run.Run.{Run}
 use Rattle.gro.specs.Build.{pieces_in}
 use Rattle.gro.specs.Engine.{IsChain}
-use Rattle.gro.specs.Slots.{packet_in}
+use Rattle.gro.specs.Slots.{packet_of}
 use Rattle.gro.specs.Waiting.{run_held}
 use Rattle.gro.proofs.Lining.{length-run}
 use Rattle.gro.proofs.Merging.{all_at}
@@ -23,8 +23,8 @@ places_of-requires-clause-more c =
     let r : Run = c.index.result.now in
     subst (λ (z : List ℕ). length (run_held l z r) ≡ r.more + 1) (sym c.deref.ensures.value)
     (length-run l e c.requires.together r
-    (subst (IsChain (map packet_in l.slots.items) e.next.items) (sym c.index.ensures)
-    (all_at (IsChain (map packet_in l.slots.items) e.next.items) e.runs.items c.loop-i.i r c.requires.together.are.each lt)))
+    (subst (IsChain (map packet_of l.slots.items) e.next.items) (sym c.index.ensures)
+    (all_at (IsChain (map packet_of l.slots.items) e.next.items) e.runs.items c.loop-i.i r c.requires.together.are.each lt)))
 
 pub returns-clause-places : goal.returns-clause-places
 returns-clause-places c =

@@ -1,8 +1,8 @@
 use Rattle.std.proofs.Common.{◌≡◌, ◌+◌, ◌++◌, [], ◌∷◌, List, drop, map, length, length-set, append_assoc, ap, sym, subst, ◌∙◌, arith}
 use Rattle.std.proofs.lemmas.List.{map-append}
 use Rattle.frags.specs.Account.{Keeps, both}
-use Rattle.gro.specs.declared.packet.Packet.{Packet as Held}
-use Rattle.gro.specs.Held.{packet_of, of_packets, counts_of, WeighAtLeast}
+use Rattle.gro.specs.declared.slot.Slot.{Slot as Held}
+use Rattle.gro.specs.Slots.{packet_of, of_packets, counts_of, WeighAtLeast}
 use Rattle.taps.specs.Clones.{packet_of as packet_of_clone, blocks_of, of_clones}
 use Rattle.taps.proofs.Returning.{blocks_of-append}
 use Rattle.lanes.specs.Clones.{weight_after, AreAfter}

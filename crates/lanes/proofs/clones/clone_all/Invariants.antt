@@ -1,7 +1,7 @@
 use Rattle.std.proofs.Common.{◌≡◌, ◌+◌, ◌≤◌, ◌++◌, drop, length, map}
 use Rattle.std.specs.Prelude.{vec_len, vec_capacity}
 use Rattle.frags.specs.Account.{Keeps, both}
-use Rattle.gro.specs.Held.{packet_of, of_packets, counts_of, WeighAtLeast}
+use Rattle.gro.specs.Slots.{packet_of, of_packets, counts_of, WeighAtLeast}
 use Rattle.taps.specs.Clones.{packet_of as packet_of_clone, blocks_of, of_clones}
 use Rattle.lanes.specs.Clones.{weight_after, AreAfter}
 use Rattle.lanes.proofs.clones.clone_all.Given as goal

@@ -1,4 +1,4 @@
-use Rattle.std.proofs.Common.{◌+◌, get_or, refl, arith}
+use Rattle.std.proofs.Common.{◌+◌, get_or, length, refl, ap, arith}
 use Rattle.gro.specs.Packets.{with_skb}
 use Rattle.lanes.specs.Clones.{weight_after}
 use Rattle.lanes.proofs.Adding.{any_of, at_itself, cloned_size, shared_at, weighs_at}
@@ -7,7 +7,7 @@ use Rattle.lanes.proofs.clones.clone_packet.Goals as goal
 
 pub bounds-slots-i : goal.bounds-slots-i
 bounds-slots-i c =
-    omega (arith, c.requires.inside, c.slots.ensures.size, cloned_size c.args.i c.args.packets.now.items c.clone_at.new.self.items c.clone_at.result c.requires.inside c.clone_at.ensures.cloned)
+    omega (arith, c.requires.inside, ap length c.slots.ensures.slots, cloned_size c.args.i c.args.packets.now.items c.clone_at.new.self.items c.clone_at.result c.requires.inside c.clone_at.ensures.cloned)
 
 pub refused-requires : goal.refused-requires
 refused-requires c =

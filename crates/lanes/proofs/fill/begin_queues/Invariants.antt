@@ -1,6 +1,6 @@
 use Rattle.std.proofs.Common.{◌≡◌, ◌<◌, ℕ, List, length, get_or}
 use Rattle.std.specs.Prelude.{All}
-use Rattle.gro.specs.declared.packet.Packet.{Packet}
+use Rattle.gro.specs.declared.slot.Slot.{Slot as Packet}
 use Rattle.offload_model.specs.Rounds.{Spread}
 use Rattle.lanes.specs.declared.lane.QueueLane.{QueueLane}
 use Rattle.lanes.specs.Lanes.{IsIdleQueue}

@@ -1,6 +1,6 @@
 use Rattle.std.proofs.Common.{◌+◌, List, map, length-set, subst, ◌∙◌, arith}
 use Rattle.pcap_io.specs.Capture.{Packet}
-use Rattle.gro.specs.Held.{packet_of, of_packets}
+use Rattle.gro.specs.Slots.{packet_of, of_packets}
 use Rattle.lanes.specs.Lanes.{IsIdleTap, IsTapReady}
 use Rattle.lanes.specs.Taps.{HasClones}
 use Rattle.lanes.proofs.Adding.{after_both, after_later, after_none, tap_keeps}

@@ -1,7 +1,7 @@
 use Rattle.std.proofs.Common.{◌≡◌, ◌+◌, ◌<◌, ◌≤◌, ℕ, length, map, get_or}
 use Rattle.std.specs.Prelude.{All}
 use Rattle.frags.specs.Account.{Keeps, both}
-use Rattle.gro.specs.Held.{packet_of, of_packets}
+use Rattle.gro.specs.Slots.{packet_of, of_packets}
 use Rattle.lanes.specs.declared.lane.TapLane.{TapLane}
 use Rattle.lanes.specs.Clones.{AreAfter}
 use Rattle.lanes.specs.Lanes.{of_taps, IsIdleTap, IsTapReady}

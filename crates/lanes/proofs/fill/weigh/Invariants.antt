@@ -1,5 +1,5 @@
 use Rattle.std.proofs.Common.{◌≡◌, ◌+◌, drop}
-use Rattle.gro.specs.Held.{counts_of}
+use Rattle.gro.specs.Slots.{counts_of}
 use Rattle.lanes.proofs.fill.weigh.Given as goal
 
 abbrev pub invariant-loop-slot : goal.invariant-loop-slot

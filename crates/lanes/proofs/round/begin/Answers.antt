@@ -1,5 +1,5 @@
 use Rattle.std.proofs.Common.{map}
-use Rattle.gro.specs.Held.{packet_of}
+use Rattle.gro.specs.Slots.{packet_of}
 use Rattle.lanes.specs.Work.{spread_of}
 use Rattle.lanes.proofs.Whole.{all_filled}
 use Rattle.lanes.proofs.round.begin.Goals as goal

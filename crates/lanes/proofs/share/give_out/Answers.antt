@@ -1,6 +1,6 @@
 use Rattle.std.proofs.Common.{◌≡◌, List, [], length, set, sym, subst, ◌∙◌, ap, arith}
-use Rattle.gro.specs.declared.packet.Packet.{Packet as Held}
-use Rattle.gro.specs.Held.{of_packets, counts_of}
+use Rattle.gro.specs.declared.slot.Slot.{Slot as Held}
+use Rattle.gro.specs.Slots.{of_packets, counts_of, AreAlone}
 use Rattle.lanes.specs.Lanes.{of_queues}
 use Rattle.lanes.specs.Sharing.{EachFrom, IsSharing, IsSum}
 use Rattle.lanes.specs.Work.{spread_of}
@@ -45,3 +45,9 @@ returns-then-plan-eq1-clause-all c =
     let ls = c.args.lanes.now in
     let one : length ls ≡ 1 = omega (arith, c.requires.queues, c.if-plan-eq1.true) in
     c.give_all.ensures.list ∙ alone_had ls c.index-lanes-0.result one c.requires.idle
+
+pub returns-then-plan-eq1-clause-alone : goal.returns-then-plan-eq1-clause-alone
+returns-then-plan-eq1-clause-alone c =
+    let ls = c.args.lanes.now in
+    let one : length ls ≡ 1 = omega (arith, c.requires.queues, c.if-plan-eq1.true) in
+    λ h. subst AreAlone (sym (c.give_all.ensures.list ∙ alone_had ls c.index-lanes-0.result one c.requires.idle)) tt

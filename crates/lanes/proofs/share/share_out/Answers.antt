@@ -1,6 +1,6 @@
 use Rattle.std.proofs.Common.{sym, subst, arith}
 use Rattle.frags.specs.Account.{Account}
-use Rattle.gro.specs.Held.{of_packets}
+use Rattle.gro.specs.Slots.{of_packets}
 use Rattle.lanes.specs.Sharing.{IsSum}
 use Rattle.lanes.specs.Work.{spread_of}
 use Rattle.lanes.proofs.Sharing.{did_stay, same_counts, same_hold}

@@ -1,8 +1,8 @@
 use Rattle.std.proofs.Common.{◌≡◌, ℕ, List, [], ◌∷◌, ◌++◌, length-set, set, ap, sym, subst, ◌∙◌, refl, arith}
 use Rattle.std.specs.Prelude.{reverse}
 use Rattle.frags.specs.Account.{Tests}
-use Rattle.gro.specs.declared.packet.Packet.{Packet as Held}
-use Rattle.gro.specs.Held.{of_packets, counts_of, AreHeld}
+use Rattle.gro.specs.declared.slot.Slot.{Slot as Held}
+use Rattle.gro.specs.Slots.{of_packets, counts_of, AreAlone, AreHeld}
 use Rattle.lanes.specs.Sharing.{EachFrom, IsSharing}
 use Rattle.lanes.specs.Work.{spread_of}
 use Rattle.lanes.proofs.Sharing.{empty_account, empty_counts, popped, share_stop, share_turn, stop_account, stop_counts, turn_account, turn_counts}
@@ -18,6 +18,7 @@ loop-packet-init c =
       account = λ (t : Tests) (m : ℕ). let z = empty_account n every 0 c.args.lanes.now c.requires.open t m in (omega (arith, z.0), omega (arith, z.1));
       counts = omega (arith, empty_counts n every 0 c.args.lanes.now c.requires.open);
       held = c.requires.held;
+      alone = λ h. h;
     }
 
 pub queue_for-queue-requires-clause-held : goal.queue_for-queue-requires-clause-held
@@ -60,6 +61,15 @@ returns-in-Err-clause-counts c =
     let s = stop_counts c.queue_for-queue.result l.lanes c.index-lanes-queue.result c.take_in.new.lane (omega arith) back.1 in
     omega (arith, s, ap (λ (z : List Held). counts_of (reverse z)) same, l.invariant.counts)
 
+pub returns-in-Err-clause-alone : goal.returns-in-Err-clause-alone
+returns-in-Err-clause-alone c =
+    let l = c.loop-packet in
+    let back = c.in-Err.ensures.back in
+    let rest = c.pop.new.self.items in
+    let same : l.packets.items ≡ c.push.new.self.items
+    = c.in-Some.ensures.some ∙ ap (λ (z : Held). rest ++ z ∷ []) (sym {A = Held} back.0) ∙ sym {A = List Held} c.push.ensures.items in
+    λ h. subst (λ (z : List Held). AreAlone (reverse z)) same (l.invariant.alone h)
+
 pub loop-packet-preserved : goal.loop-packet-preserved
 loop-packet-preserved c =
     let l = c.loop-packet in
@@ -84,4 +94,5 @@ loop-packet-preserved c =
           (omega (arith, s.0, i.0, h), omega (arith, s.1, i.1, g));
       counts = omega (arith, turn_counts q l.lanes d m p (omega arith) taken, ap counts_of e, l.invariant.counts);
       held = (subst AreHeld e l.invariant.held).1;
+      alone = λ h. (subst AreAlone e (l.invariant.alone h)).1;
     }

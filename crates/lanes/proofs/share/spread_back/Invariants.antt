@@ -1,6 +1,6 @@
 use Rattle.std.proofs.Common.{◌≡◌, ◌+◌, length}
 use Rattle.std.specs.Prelude.{reverse}
-use Rattle.gro.specs.Held.{of_packets, counts_of, AreHeld}
+use Rattle.gro.specs.Slots.{of_packets, counts_of, AreAlone, AreHeld}
 use Rattle.lanes.specs.Lanes.{of_queues, counts_of_queues}
 use Rattle.lanes.specs.Sharing.{EachFrom, IsSharing, IsSum}
 use Rattle.lanes.specs.Work.{spread_of}
@@ -13,6 +13,7 @@ invariant-loop-packet l = record {
   account : IsSum (of_packets (reverse l.fn.packets.items)) (of_packets (reverse l.packets.items)) (of_queues l.lanes);
   counts : counts_of (reverse l.fn.packets.items) ≡ counts_of (reverse l.packets.items) + counts_of_queues l.lanes;
   held : AreHeld (reverse l.packets.items);
+  alone : AreAlone (reverse l.fn.packets.items) → AreAlone (reverse l.packets.items);
 }
 
 abbrev pub decreases-loop-packet : goal.decreases-loop-packet

@@ -1,5 +1,4 @@
-use Rattle.std.proofs.Common.{◌≡◌, ◌≤◌, ◌∙◌, refl, sym}
-use Rattle.merge_rule.specs.Next.{HasHead}
+use Rattle.std.proofs.Common.{◌∙◌, refl, sym}
 use Rattle.merge_rule.proofs.Knows.{placed_by}
 use Rattle.merge_tests.proofs.examples.example_of_merge_rule.Goals as goal
 

@@ -1,4 +1,4 @@
-use Rattle.std.proofs.Common.{◌≡◌, ℕ, zero, suc, ◌+◌, ◌-◌, ◌*◌, ◌<◌, ◌≤◌, ◌++◌, ◌∙◌, Some, List, [], length, take, ap, sym, subst, arith, append-nil, length-take}
+use Rattle.std.proofs.Common.{ℕ, zero, suc, ◌+◌, ◌-◌, ◌*◌, ◌<◌, ◌≤◌, ◌++◌, Some, List, [], length, ap, sym, subst, arith, append-nil, length-take}
 use Rattle.net_bytes.specs.Bytes.{byte}
 use Rattle.inet_sum.specs.Stands.{FoldAndLength, StandsFor}
 use Rattle.frame_layout.specs.Front.{IsFrameOf}

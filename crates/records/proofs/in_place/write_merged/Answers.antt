@@ -8,7 +8,7 @@ use Rattle.off_io.specs.Content.{AppendsFront}
 use Rattle.off_io.proofs.Appending.{front_more}
 use Rattle.off_io.proofs.Owing.{then_ok, then_err}
 use Rattle.pcap_io.specs.Capture.{Packet}
-use Rattle.gro.specs.Slots.{packet_in}
+use Rattle.gro.specs.Slots.{packet_of}
 use Rattle.gro.specs.Chains.{chain_of, packet_at}
 use Rattle.gro.specs.Packets.{payloads_behind}
 use Rattle.records.proofs.InPlace.{inside, is_slot, knows_some, few, low, all_below, all_there, record_by}
@@ -54,7 +54,7 @@ write_payloads-requires-clause-low g c = omega (arith, low c.args.packets.now c.
 pub write_payloads-requires-clause-there : goal.write_payloads-requires-clause-there
 write_payloads-requires-clause-there g c =
     let run = c.args.run.now in
-    let ps : List Packet = map packet_in c.args.packets.now in
+    let ps : List Packet = map packet_of c.args.packets.now in
     subst (λ (z : ℕ). AllByRecursion (λ (p : Packet). z ≤ length p.frame) (map (packet_at ps) (chain_of c.args.next.now (run.more + 1) run.first))) (sym c.headers_len-at.ensures.size)
     (all_there c.args.packets.now c.args.next.now run c.requires.run c.requires.several)
 
@@ -66,7 +66,7 @@ returns-in_err-write_all-clause-err g c =
     let run = c.args.run.now in
     let at = c.headers_len-at.result in
     let row : List ℕ = c.put_row.new.row in
-    let behind : List ℕ = payloads_behind at (map (packet_at (map packet_in packets)) (chain_of next (run.more + 1) run.first)) in
+    let behind : List ℕ = payloads_behind at (map (packet_at (map packet_of packets)) (chain_of next (run.more + 1) run.first)) in
     let is = record_by packets next run c.requires.run c.index-packets-run.result c.index-packets-run.is c.args.file.now.order c.args.lane row at c.headers_len-at.ensures.size
     c.put_row.ensures.row in
     rw p.1 (subst (AppendsFront _ _) is (front_more _ _ row behind c.in_err-write_all.ensures.err))
@@ -78,7 +78,7 @@ returns-clause-ok g c =
     let run = c.args.run.now in
     let at = c.headers_len-at.result in
     let row : List ℕ = c.put_row.new.row in
-    let behind : List ℕ = payloads_behind at (map (packet_at (map packet_in packets)) (chain_of next (run.more + 1) run.first)) in
+    let behind : List ℕ = payloads_behind at (map (packet_at (map packet_of packets)) (chain_of next (run.more + 1) run.first)) in
     let is = record_by packets next run c.requires.run c.index-packets-run.result c.index-packets-run.is c.args.file.now.order c.args.lane row at c.headers_len-at.ensures.size
     c.put_row.ensures.row in
     subst (λ (z : List ℕ). OnOk c.write_payloads.result (Appends (g.K.Sink.held c.args.sink.now) (g.K.Sink.held c.write_payloads.new.sink) z)) is
@@ -91,7 +91,7 @@ returns-clause-err g c =
     let run = c.args.run.now in
     let at = c.headers_len-at.result in
     let row : List ℕ = c.put_row.new.row in
-    let behind : List ℕ = payloads_behind at (map (packet_at (map packet_in packets)) (chain_of next (run.more + 1) run.first)) in
+    let behind : List ℕ = payloads_behind at (map (packet_at (map packet_of packets)) (chain_of next (run.more + 1) run.first)) in
     let is = record_by packets next run c.requires.run c.index-packets-run.result c.index-packets-run.is c.args.file.now.order c.args.lane row at c.headers_len-at.ensures.size
     c.put_row.ensures.row in
     subst (λ (z : List ℕ). OnErr c.write_payloads.result (AppendsFront (g.K.Sink.held c.args.sink.now) (g.K.Sink.held c.write_payloads.new.sink) z)) is

@@ -4,7 +4,7 @@ use Rattle.off_io.proofs.Owing.{Owes-less, Owes-failed}
 use Rattle.pcap_io.specs.Capture.{Packet}
 use Rattle.skb.specs.SkbState.{buffer_bytes}
 use Rattle.gro.specs.declared.slot.Slot.{Slot}
-use Rattle.gro.specs.Slots.{packet_in}
+use Rattle.gro.specs.Slots.{packet_of}
 use Rattle.gro.specs.Chains.{chain_of, packet_at}
 use Rattle.gro.specs.Packets.{payloads_behind}
 use Rattle.gro.proofs.Payloads.{all_step}
@@ -15,7 +15,7 @@ pub returns-in_err-write_from-clause-err : goal.returns-in_err-write_from-clause
 returns-in_err-write_from-clause-err g c =
     let p = err_from_is_err_and c.from_residual.result c.from_residual.ensures.1 in
     let packets : List Slot = c.args.packets.now in
-    let ps : List Packet = map packet_in packets in
+    let ps : List Packet = map packet_of packets in
     let next = c.args.next.now in
     let at = c.args.at in
     let l = c.loop-left in
@@ -28,7 +28,7 @@ returns-in_err-write_from-clause-err g c =
 pub loop-left-preserved : goal.loop-left-preserved
 loop-left-preserved g c =
     let packets : List Slot = c.args.packets.now in
-    let ps : List Packet = map packet_in packets in
+    let ps : List Packet = map packet_of packets in
     let next = c.args.next.now in
     let at = c.args.at in
     let l = c.loop-left in

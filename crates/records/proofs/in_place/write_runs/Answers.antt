@@ -9,7 +9,7 @@ use Rattle.pcap_io.specs.Capture.{Packet}
 use Rattle.offload_model.specs.Merged.{merged_of}
 use Rattle.gro.specs.declared.run.Run.{Run}
 use Rattle.gro.specs.declared.engine.Engine.{Engine}
-use Rattle.gro.specs.Slots.{packet_in}
+use Rattle.gro.specs.Slots.{packet_of}
 use Rattle.gro.specs.Chains.{no_packet, run_of}
 use Rattle.gro.specs.Engine.{IsChain, AreRuns}
 use Rattle.gro.proofs.Payloads.{all_at, chain_at}
@@ -26,21 +26,21 @@ read_at ps n e items i run a same h is =
 
 pub write_run-requires-clause-run : goal.write_run-requires-clause-run
 write_run-requires-clause-run g c =
-    let ps : List Packet = map packet_in c.args.packets.now in
+    let ps : List Packet = map packet_of c.args.packets.now in
     subst (λ (z : List ℕ). IsChain ps z c.run-item.result) (sym c.deref.ensures.value)
     (read_at ps (length c.args.packets.now) c.args.engine.now c.deref-run-items.result.now c.loop-run.run-index c.run-item.result c.requires.runs c.deref-run-items.ensures.value
     c.loop-run-test.true c.run-item.is)
 
 pub write_run-requires-clause-fits : goal.write_run-requires-clause-fits
 write_run-requires-clause-fits g c =
-    let ps : List Packet = map packet_in c.args.packets.now in
+    let ps : List Packet = map packet_of c.args.packets.now in
     let chain = read_at ps (length c.args.packets.now) c.args.engine.now c.deref-run-items.result.now c.loop-run.run-index c.run-item.result c.requires.runs c.deref-run-items.ensures.value
     c.loop-run-test.true c.run-item.is in
     all_at (λ (p : Packet). p.original + 16 < 2 ^ 32) ps c.run-item.result.first no_packet c.requires.fit chain.inside.0
 
 pub loop-run-preserved : goal.loop-run-preserved
 loop-run-preserved g c =
-    let ps : List Packet = map packet_in c.args.packets.now in
+    let ps : List Packet = map packet_of c.args.packets.now in
     let order = c.args.file.now.order in
     let e : Engine = c.args.engine.now in
     let run : Run = c.run-item.result in
@@ -55,7 +55,7 @@ loop-run-preserved g c =
 pub returns-in_err-write_run-clause-err : goal.returns-in_err-write_run-clause-err
 returns-in_err-write_run-clause-err g c =
     let p = err_from_is_err_and c.from_residual.result c.from_residual.ensures.1 in
-    let ps : List Packet = map packet_in c.args.packets.now in
+    let ps : List Packet = map packet_of c.args.packets.now in
     let order = c.args.file.now.order in
     let e : Engine = c.args.engine.now in
     let run : Run = c.run-item.result in
@@ -68,7 +68,7 @@ returns-in_err-write_run-clause-err g c =
 
 pub returns-clause-ok : goal.returns-clause-ok
 returns-clause-ok g c =
-    let ps : List Packet = map packet_in c.args.packets.now in
+    let ps : List Packet = map packet_of c.args.packets.now in
     let order = c.args.file.now.order in
     let e : Engine = c.args.engine.now in
     let past : length e.runs.items ≤ c.loop-run.run-index = omega (arith, c.loop-run-test.false, ap length c.deref-run-items.ensures.value) in

@@ -1,9 +1,22 @@
 use Rattle.std.proofs.Common.{sym, subst}
-use Rattle.rounds.specs.Table.{AllOpen}
-use Rattle.rounds.proofs.Lent.{open_behind, open_both}
+use Rattle.std.proofs.KnownBytes.{Keeps-refl}
+use Rattle.skb.specs.SkbState.{IsAlone}
+use Rattle.records.specs.Reading.{record_of}
+use Rattle.rounds.proofs.Heads.{alone_within, behind_is, not_lawful}
 use Rattle.rounds.proofs.cut.cut_record.Goals as goal
 
-pub returns-clause-open : goal.returns-clause-open
-returns-clause-open g c =
-    let p = c.split_at_mut-places in
-    open_both c.cut_all.new.places p.result.1.now c.cut_all.ensures.open (subst AllOpen (sym p.ensures.back) (open_behind _ c.args.table.now c.requires.open))
+pub write_judged-requires-clause-alone : goal.write_judged-requires-clause-alone
+write_judged-requires-clause-alone g c = alone_within c.args.packet.skb c.take_head.new.skb _ c.in-Some.ensures.within c.requires.alone
+
+pub returns-in-Some-clause-writes : goal.returns-in-Some-clause-writes
+returns-in-Some-clause-writes g c =
+    let front = c.args.front.now in
+    let k = c.args.packet in
+    c.write_judged.ensures.writes (record_of front k)
+    (behind_is front k c.take_head.new.skb c.in-Some.head c.in-Some.ensures.head c.in-Some.ensures.size c.in-Some.ensures.behind)
+
+pub bring_packet-requires-clause-alone : goal.bring_packet-requires-clause-alone
+bring_packet-requires-clause-alone g c = subst IsAlone (sym c.in-None.ensures.none.1) c.requires.alone
+
+pub returns-in-None-clause-writes : goal.returns-in-None-clause-writes
+returns-in-None-clause-writes g c = (not_lawful (record_of c.args.front.now c.args.packet) c.in-None.ensures.none.0, Keeps-refl _)

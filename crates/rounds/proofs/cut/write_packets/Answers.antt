@@ -3,7 +3,7 @@ use Rattle.std.specs.Prelude.{OnOk, OnErr}
 use Rattle.std.specs.List.{flat_map, range_with_len}
 use Rattle.std.specs.Io.KnownBytes.{Appends}
 use Rattle.off_io.specs.Content.{AppendsFront}
-use Rattle.gro.specs.Held.{packet_of}
+use Rattle.gro.specs.Slots.{packet_of}
 use Rattle.gso.specs.Places.{SegmentsState}
 use Rattle.gso.specs.Planning.{packets_by}
 use Rattle.gso.specs.declared.judging.Plan.{Plan}

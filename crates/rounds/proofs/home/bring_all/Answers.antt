@@ -1,5 +1,5 @@
 use Rattle.frags.specs.Account.{both, of_outcomes}
-use Rattle.gro.specs.Held.{of_packets}
+use Rattle.gro.specs.Slots.{of_packets}
 use Rattle.rounds.specs.Lanes.{of_work}
 use Rattle.rounds.proofs.Coming.{may_open, and_first, and_rest, and_comes, comes_home, home_count}
 use Rattle.rounds.proofs.home.bring_all.Goals as goal

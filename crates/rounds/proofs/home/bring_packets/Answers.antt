@@ -1,5 +1,5 @@
 use Rattle.std.proofs.Common.{◌≡◌, [], arith, rules}
-use Rattle.gro.specs.Held.{of_packet, of_packets}
+use Rattle.gro.specs.Slots.{of_packet, of_packets}
 use Rattle.rounds.proofs.Coming.{packets_pop, counts_pop, no_packets, may_rest, may_first, comes_none, comes_step, comes_all}
 use Rattle.rounds.proofs.home.bring_packets.Goals as goal
 

@@ -1,5 +1,5 @@
 use Rattle.std.proofs.Common.{◌+◌, ◌≤◌, length}
-use Rattle.gro.specs.Held.{of_packets, counts_of}
+use Rattle.gro.specs.Slots.{of_packets, counts_of}
 use Rattle.frags.specs.OutcomesState.{IsBare}
 use Rattle.rounds.specs.Table.{Comes}
 use Rattle.rounds.proofs.home.bring_packets.Given as goal

@@ -1,16 +1,18 @@
-use Rattle.std.proofs.Common.{◌≡◌, ◌+◌, ◌++◌, ◌∷◌, [], List, ℕ, Ok, Err, ap, sym, subst, ◌∙◌, arith, refl, length, length-append, map}
+use Rattle.std.proofs.Common.{◌≡◌, ◌-◌, ◌++◌, ◌∷◌, [], List, ℕ, Ok, Err, ap, sym, subst, ◌∙◌, arith, refl, length, length-append, map}
+use Rattle.block_pool.specs.PoolState.{home}
 use Rattle.off_io.specs.Told.{Told}
 use Rattle.std.specs.List.{AllByRecursion}
 use Rattle.offload_model.specs.Need.{round_need}
 use Rattle.offload_model.specs.Captured.{IsCaptured}
-use Rattle.gro.specs.declared.packet.Packet.{Packet}
-use Rattle.gro.specs.Held.{packet_of, of_packets, counts_of}
-use Rattle.rounds.specs.Fresh.{AreRead, IsFresh}
-use Rattle.rounds.specs.Reading.{NumbersOn}
-use Rattle.rounds.specs.Record.{GivesRecord}
+use Rattle.gro.specs.declared.slot.Slot.{Slot as Packet}
+use Rattle.gro.specs.Packets.{PacketsState}
+use Rattle.gro.specs.Slots.{packet_of, counts_of}
+use Rattle.records.specs.Laid.{AreRead, LaidFrom}
+use Rattle.rounds.specs.Reading.{GivesRest, NumbersOn}
+use Rattle.records.specs.Reading.{GivesRecord}
 use Rattle.rounds.proofs.Coming.{counts_last}
 use Rattle.rounds.proofs.Rounding.{no_front, so_far_none, so_far_at, so_far_more, round_stop_given, need_last, read_last, captured_last, goes_over, fills_round, numbers_none, numbers_more}
-use Rattle.rounds.proofs.Taking.{fresh_more}
+use Rattle.records.proofs.Laying.{laid_at}
 use Rattle.rounds.proofs.reading.read_more.Goals as goal
 
 pub reading-init : goal.reading-init
@@ -21,7 +23,9 @@ reading-init g c =
       so_far = so_far_none (g.S.Source.left c.args.reader.now.source.now) place first c.requires.ready;
       size = c.requires.size;
       reserved = c.requires.reserved;
-      fresh = c.requires.fresh;
+      room = c.requires.room;
+      pairs = c.requires.pairs;
+      laid = c.requires.laid;
       read = c.requires.read;
       captured = c.requires.captured;
       numbers = numbers_none place.number first;
@@ -50,8 +54,14 @@ returns-in-Err-clause-given g c =
     let made = c.is_ready.ensures.same.0 ∙ i.made in
     let told = subst (λ (k : ℕ). Told (g.S.Source.left l.reader.source.now) (g.S.Source.left c.read_record.new.reader.source.now) (GivesRecord l.used k l.reader.place c.read_record.new.reader.place []
     (Err c.in-Err.stop))) made bare in
-    round_stop_given _ _ _ c.args.reader.now.place l.reader.place c.read_record.new.reader.place l.used c.args.pool.now.made c.args.packets.now.items l.packets.items c.in-Err.stop c.end_of.result
-    (i.so_far.link ∙ c.requires.link) i.within i.need c.end_of.ensures.end i.so_far.told told
+    let end = c.end_of.result in
+    let old = c.args.reader.now.place in
+    let new = c.read_record.new.reader.place in
+    let first = c.args.packets.now.items in
+    subst (λ (ps : PacketsState). Told (g.S.Source.left c.args.reader.now.source.now) (g.S.Source.left c.read_record.new.reader.source.now) (GivesRest c.args.pool.now.made old new first ps.items end))
+    (sym c.in-Err.ensures.none)
+    (round_stop_given _ _ _ old l.reader.place new l.used c.args.pool.now.made first l.packets.items c.in-Err.stop end (i.so_far.link ∙ c.requires.link) i.within i.need c.end_of.ensures.end
+    i.so_far.told told)
 
 pub returns-then-not-is_ready-clause-given : goal.returns-then-not-is_ready-clause-given
 returns-then-not-is_ready-clause-given g c = c.reading.invariant.so_far.told
@@ -73,28 +83,29 @@ reading-preserved g c =
     let i = l.invariant in
     let s = c.is_ready.ensures in
     let r = c.in-Ok.ensures in
-    let p = c.in-Ok.packet in
+    let p = r.one.0 in
     let ps = l.packets.items in
     let first = c.args.packets.now.items in
     let start = c.args.reader.now.place.number in
-    let qs = c.push.new.self.items in
-    let e : qs ≡ ps ++ p ∷ [] = c.push.ensures.items in
-    let k = c.packet_blocks-used.ensures.blocks in
+    let qs = c.read_record.new.packets.items in
+    let e : qs ≡ ps ++ p ∷ [] = r.one.1 in
+    let k = r.count p e in
     let none = no_front c.read_record.new.front r.front in
     let told = subst (λ (f : List ℕ). Told (g.S.Source.left l.reader.source.now) (g.S.Source.left c.read_record.new.reader.source.now) (GivesRecord l.used c.is_ready.new.pool.made l.reader.place
-    c.read_record.new.reader.place f (Ok p))) none r.given in
+    c.read_record.new.reader.place f (Ok p))) none (r.given p e) in
     record {
       so_far = so_far_at _ _ c.args.reader.now.place c.read_record.new.reader.place first (ps ++ p ∷ []) qs e (so_far_more _ _ _ c.args.reader.now.place l.reader.place c.read_record.new.reader.place
           l.used c.is_ready.new.pool.made first ps p i.so_far told r.next);
       size = omega (arith, ap length e, length-append ps (p ∷ []), i.size, c.reading-test.true, c.len.ensures);
-      reserved = omega (arith, ap length e, length-append ps (p ∷ []), i.reserved, c.push.ensures.room);
-      fresh = subst (λ (xs : List Packet). IsFresh 0 (l.used + c.packet_blocks-used.result) (of_packets xs)) (sym e) (subst (λ (n : ℕ). IsFresh 0 (l.used + n) (of_packets (ps ++ p ∷ []))) (sym k)
-          (fresh_more l.used _ ps p i.fresh r.fresh));
-      read = subst AreRead (sym e) (read_last ps p i.read r.read);
-      captured = subst (λ (xs : List Packet). AllByRecursion IsCaptured (map packet_of xs)) (sym e) (captured_last ps p i.captured (r.captured (i.so_far.link ∙ c.requires.link)));
-      numbers = subst (NumbersOn start first) (sym e) (numbers_more start l.reader.place.number first ps p i.numbers i.so_far.number r.number);
-      count = omega (arith, ap counts_of e, counts_last ps p, i.count, k);
-      need = omega (arith, ap (λ (xs : List Packet). round_need (map packet_of xs)) e, need_last ps p, i.need, k, r.need);
+      reserved = omega (arith, ap length e, length-append ps (p ∷ []), i.reserved, r.room);
+      room = omega (arith, i.room, r.made.1);
+      pairs = omega (arith, ap length e, length-append ps (p ∷ []), i.pairs, r.spares);
+      laid = subst (LaidFrom 0) (sym e) (laid_at ps p l.used (home l.spares) (l.used - c.home.result) i.count (omega (arith, c.home.ensures.home)) i.laid (r.laid p e));
+      read = subst AreRead (sym e) (read_last ps p i.read (r.read p e));
+      captured = subst (λ (xs : List Packet). AllByRecursion IsCaptured (map packet_of xs)) (sym e) (captured_last ps p i.captured (r.captured p e (i.so_far.link ∙ c.requires.link)));
+      numbers = subst (NumbersOn start first) (sym e) (numbers_more start l.reader.place.number first ps p i.numbers i.so_far.number (r.number p e));
+      count = omega (arith, ap counts_of e, counts_last ps p, i.count, k, r.spares);
+      need = omega (arith, ap (λ (xs : List Packet). round_need (map packet_of xs)) e, need_last ps p, i.need, k, r.need p e);
       sum = omega (arith, i.sum, s.sum, r.home, k);
       within = omega (arith, s.same.0, i.made, r.fits, k);
       made = omega (arith, i.made, s.same.0, r.made);

@@ -1,11 +1,11 @@
-use Rattle.std.proofs.Common.{◌≡◌, ◌+◌, ◌-◌, ◌^◌, ◌≤◌, [], min, map, length}
+use Rattle.std.proofs.Common.{◌≡◌, ◌+◌, ◌-◌, ◌*◌, ◌^◌, ◌≤◌, [], min, map, length}
 use Rattle.std.specs.VecDeque.{deque_capacity}
 use Rattle.block_pool.specs.PoolState.{home}
 use Rattle.std.specs.List.{AllByRecursion}
 use Rattle.offload_model.specs.Need.{round_need}
 use Rattle.offload_model.specs.Captured.{IsCaptured}
-use Rattle.gro.specs.Held.{packet_of, of_packets, counts_of}
-use Rattle.rounds.specs.Fresh.{AreRead, IsFresh}
+use Rattle.gro.specs.Slots.{packet_of, counts_of}
+use Rattle.records.specs.Laid.{AreRead, LaidFrom}
 use Rattle.rounds.specs.Reading.{NumbersOn}
 use Rattle.rounds.proofs.Rounding.{ReadSoFar}
 use Rattle.rounds.proofs.reading.read_more.Given as goal
@@ -15,11 +15,13 @@ invariant-reading g l = record {
   so_far : ReadSoFar (g.S.Source.left l.initial.reader.source.now) (g.S.Source.left l.reader.source.now) l.initial.reader.place l.reader.place l.initial.packets.items l.packets.items;
   size : length l.packets.items ≤ l.budget;
   reserved : l.budget ≤ length l.packets.items + l.packets.room;
-  fresh : IsFresh 0 l.used (of_packets l.packets.items);
+  room : 2 * l.budget ≤ l.spares.made;
+  pairs : home l.spares ≡ 2 * length l.packets.items;
+  laid : LaidFrom 0 l.packets.items;
   read : AreRead l.packets.items;
   captured : AllByRecursion IsCaptured (map packet_of l.packets.items);
   numbers : NumbersOn l.initial.reader.place.number l.initial.packets.items l.packets.items;
-  count : counts_of l.packets.items ≡ l.used;
+  count : counts_of l.packets.items + home l.spares ≡ l.used;
   need : l.used ≡ round_need (map packet_of l.packets.items);
   sum : home l.pool + l.used + g.H.Homecoming.brought l.initial.more ≡ home l.initial.pool + l.initial.used + g.H.Homecoming.brought l.more;
   within : l.used ≤ l.initial.pool.made;

@@ -1,22 +1,19 @@
-use Rattle.std.proofs.Common.{List, sym, subst, ap, ◌∙◌}
+use Rattle.std.proofs.Common.{sym, subst, ap, ◌∙◌}
 use Rattle.off_io.specs.Told.{Told}
-use Rattle.gro.specs.declared.packet.Packet.{Packet}
-use Rattle.gro.specs.Held.{of_packets}
+use Rattle.records.specs.Laid.{LaidFrom}
 use Rattle.rounds.specs.declared.reading.Halt.{Halt}
 use Rattle.rounds.specs.declared.reading.Halt.TheVariants.{Ended}
-use Rattle.rounds.specs.Fresh.{IsFresh}
 use Rattle.rounds.specs.Reading.{GivesMore}
 use Rattle.rounds.proofs.Rounding.{whole_unready, whole_fills}
-use Rattle.rounds.proofs.Taking.{fresh_none}
 use Rattle.rounds.proofs.reading.read_records.Goals as goal
 
-pub read_more-blocks-requires-clause-fresh : goal.read_more-blocks-requires-clause-fresh
-read_more-blocks-requires-clause-fresh g c = subst (λ (xs : List Packet). IsFresh 0 0 (of_packets xs)) (sym c.requires.none) (fresh_none 0)
+pub read_more-blocks-requires-clause-laid : goal.read_more-blocks-requires-clause-laid
+read_more-blocks-requires-clause-laid g c = subst (LaidFrom 0) (sym c.requires.none.0) tt
 
 pub returns-in-Ended-clause-full : goal.returns-in-Ended-clause-full
 returns-in-Ended-clause-full g c = λ full.
     let r = c.read_more-blocks in
-    whole_fills c.args.reader.now.place r.new.reader.place c.args.packets.now.items r.new.packets.items c.args.budget c.requires.ready c.requires.none (r.ensures.full (c.in-Ended.is ∙ ap Ended full))
+    whole_fills c.args.reader.now.place r.new.reader.place c.args.packets.now.items r.new.packets.items c.args.budget c.requires.ready c.requires.none.0 (r.ensures.full (c.in-Ended.is ∙ ap Ended full))
 
 pub returns-in-Lacking-clause-given : goal.returns-in-Lacking-clause-given
 returns-in-Lacking-clause-given g c =
@@ -26,5 +23,5 @@ returns-in-Lacking-clause-given g c =
     let old = c.args.reader.now.place in
     let new = r.new.reader.place in
     let first = c.args.packets.now.items in
-    whole_unready a b old new c.args.pool.now.made first r.new.packets.items c.requires.none
+    whole_unready a b old new c.args.pool.now.made first r.new.packets.items c.requires.none.0
     (subst (λ (h : Halt). Told a b (GivesMore c.args.pool.now.made old new first r.new.packets.items h)) c.in-Lacking.is r.ensures.given)

@@ -6,19 +6,19 @@ use Rattle.skb.specs.SkbState.{buffer_bytes}
 use Rattle.gro.specs.declared.engine.Engine.{Engine}
 use Rattle.gro.specs.declared.flows.Flows.{Flows}
 use Rattle.gro.specs.Flows.{place_of, AreFlows, HasRoom}
-use Rattle.gro.specs.Slots.{packet_in}
+use Rattle.gro.specs.Slots.{packet_of}
 use Rattle.gro.proofs.Merging.{taken_by}
 use Rattle.gro.proofs.engine.Engine.extend.Goals as goal
 
 pub returns : goal.returns
 returns c =
     let a : Engine = c.args.self.now in
-    let ps : List Packet = map packet_in c.args.packets.now in
+    let ps : List Packet = map packet_of c.args.packets.now in
     let key : Option (List ℕ) = key_of (buffer_bytes c.args.slot.now.skb) in
     record {
       takes = λ segs m. taken_by segs ps c.args.i c.args.place c.link-is_open.result a c.link-is_open.new.self c.settle.new.flows c.requires.runs
           c.requires.inside
-          c.link-is_open.ensures.grows (packet_in c.args.slot.now) c.requires.here.1 key refl c.requires.found m
+          c.link-is_open.ensures.grows (packet_of c.args.slot.now) c.requires.here.1 key refl c.requires.found m
           c.open_at-self.result c.open_at-self.ensures.place c.settle.ensures.flows
           (λ q. c.settle.ensures.puts q
           ∙ ap (λ (o : Option ℕ). if key_eq key q then (if c.link-is_open.result then o else None) else place_of c.link-is_open.new.self.flows q)

@@ -1,12 +1,12 @@
-use Rattle.std.proofs.Common.{ℕ, ◌≡◌, Option, Some, ap, ◌∷◌, ◌++◌, [], List, map, refl, sym, ◌∙◌, subst, arith, get_or}
+use Rattle.std.proofs.Common.{ℕ, ◌≡◌, Option, Some, None, ◌∷◌, ◌++◌, [], List, map, refl, sym, ◌∙◌, subst, arith, get_or}
 use Rattle.std.proofs.lemmas.List.{length-map}
 use Rattle.std.specs.Prelude.{if◌then◌else◌}
 use Rattle.pcap_io.specs.Capture.{Packet}
-use Rattle.frame_layout.specs.Key.{key_eq}
-use Rattle.gro.specs.Flows.{place_of}
+use Rattle.merge_rule.specs.declared.rule.Progress.{Progress}
 use Rattle.offload_model.specs.Mergeable.{IsMergeableWithin}
 use Rattle.gro.specs.declared.engine.Engine.{Engine}
-use Rattle.gro.specs.Slots.{packet_in}
+use Rattle.gro.specs.Flows.{Puts}
+use Rattle.gro.specs.Slots.{packet_of}
 use Rattle.gro.specs.Engine.{Knows, runs_of}
 use Rattle.gro.proofs.Merging.{begins_run}
 use Rattle.gro.proofs.engine.Engine.follow.Goals as goal
@@ -14,19 +14,21 @@ use Rattle.gro.proofs.engine.Engine.follow.Goals as goal
 pub returns : goal.returns
 returns c =
     let a : Engine = c.args.self.now in
-    let ps : List Packet = map packet_in c.args.packets.now in
-    let x : Packet = packet_in c.args.slot.now in
+    let ps : List Packet = map packet_of c.args.packets.now in
+    let x : Packet = packet_of c.args.slot.now in
     let b : Engine = record { runs = c.push_reserved.new.self; next = a.next; flows = c.put.new.self; last = c.open_at-last.result } in
+    let last : c.open_at-last.result ≡ (if c.open.result.progress.is_open then Some c.len-place.result else None)
+    = subst (λ (z : Progress). c.open_at-last.result ≡ (if z.is_open then Some c.len-place.result else None)) (sym c.open.ensures.progress) c.open_at-last.ensures.place in
     record {
-      takes = λ segs apart. begins_run segs ps c.args.i a b c.open-run.result c.requires.runs c.push_reserved.ensures.items refl
-          (omega (arith, c.requires.here.0, length-map c.args.packets.now packet_in))
-          c.open-run.ensures.indices.0 c.open-run.ensures.indices.1 c.open-run.ensures.indices.2
-          (subst (λ z. Knows c.open-run.result z []) (sym c.requires.here.1) c.open-run.ensures.knows)
+      takes = λ segs apart. begins_run segs ps c.args.i a b c.open.result c.requires.runs c.push_reserved.ensures.items refl
+          (omega (arith, c.requires.here.0, length-map c.args.packets.now packet_of))
+          c.open.ensures.indices.0 c.open.ensures.indices.1 c.open.ensures.indices.2
+          (subst (λ z. Knows c.open.result z []) (sym c.requires.here.1) (c.open.ensures.knows x c.requires.judged c.progress_of-progress.ensures.progress))
           (λ n h. (omega (arith, h.0, c.push_reserved.ensures.len, c.push_reserved.ensures.capacity), c.put.ensures.room n h.1))
           x c.args.key c.len-place.result c.requires.here.1 c.requires.key (omega (arith, c.len-place.ensures, a.runs.ok.0)) c.put.ensures.flows
-          (λ q. c.put.ensures.puts q ∙ ap (λ (o : Option ℕ). if key_eq c.args.key q then o else place_of a.flows q) c.open_at-last.ensures.place)
+          (subst (λ (z : Option ℕ). Puts a.flows c.args.key z c.put.new.self) last c.put.ensures.puts)
           (λ j e m.
           let t : Some j ≡ Some c.args.found = sym e ∙ c.requires.place in
           let s : j ≡ c.args.found = cc in
-          apart (subst (λ (z : ℕ). IsMergeableWithin segs (get_or (runs_of ps a) z [] ++ (x ∷ []))) s m)) c.open_at-last.ensures.place;
+          apart (subst (λ (z : ℕ). IsMergeableWithin segs (get_or (runs_of ps a) z [] ++ (x ∷ []))) s m)) last;
     }

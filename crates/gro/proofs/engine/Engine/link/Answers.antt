@@ -5,7 +5,7 @@ use Rattle.pcap_io.specs.Capture.{Packet}
 use Rattle.gro.specs.declared.slot.Slot.{Slot}
 use Rattle.gro.specs.declared.run.Run.{Run}
 use Rattle.gro.specs.declared.engine.Engine.{Engine}
-use Rattle.gro.specs.Slots.{packet_in}
+use Rattle.gro.specs.Slots.{packet_of}
 use Rattle.gro.specs.Chains.{packet_at}
 use Rattle.gro.proofs.Merging.{slot_at, first_below, last_below, knows_linked, grown}
 use Rattle.gro.proofs.engine.Engine.link.Goals as goal
@@ -13,7 +13,7 @@ use Rattle.gro.proofs.engine.Engine.link.Goals as goal
 pub index_mut-requires : goal.index_mut-requires
 index_mut-requires c =
     let a : Engine = c.args.self.now in
-    let ps : List Packet = map packet_in c.args.packets.now in
+    let ps : List Packet = map packet_of c.args.packets.now in
     omega (arith, last_below ps c.args.i c.args.place a c.index_mut-run.result.now c.requires.runs.each c.requires.inside c.index_mut-run.ensures.value c.requires.runs.linked, a.next.ok.0)
 
 pub returns : goal.returns
@@ -21,15 +21,15 @@ returns c =
     let a : Engine = c.args.self.now in
     let old : Run = c.index_mut-run.result.now in
     let new : Run = c.add.new.self in
-    let ps : List Packet = map packet_in c.args.packets.now in
+    let ps : List Packet = map packet_of c.args.packets.now in
     let first : Slot = c.index-packets-run.result in
     let b : Engine = record { runs = with_item a.runs c.args.place new; next = with_item a.next old.last c.args.i; flows = a.flows; last = a.last } in
     let below = first_below ps c.args.i c.args.place a old c.requires.runs.each c.requires.inside c.index_mut-run.ensures.value in
-    let at_first : packet_at ps old.first ≡ packet_in first = slot_at c.args.packets.now old.first first (omega (arith, below, length-map c.args.packets.now packet_in)) c.index-packets-run.is in
+    let at_first : packet_at ps old.first ≡ packet_of first = slot_at c.args.packets.now old.first first (omega (arith, below, length-map c.args.packets.now packet_of)) c.index-packets-run.is in
     record {
       grows = grown ps c.args.i c.args.place a b old new c.requires.runs c.requires.inside c.index_mut-run.ensures.value refl refl refl
-          (omega (arith, c.requires.here.0, length-map c.args.packets.now packet_in)) c.add.ensures.indices.0 c.add.ensures.indices.1 c.add.ensures.indices.2
-          (knows_linked ps c.args.i c.args.place a old c.requires.runs.each c.requires.inside c.index_mut-run.ensures.value (packet_in first) at_first new
-          (packet_in c.args.slot.now) c.requires.here.1 c.add.ensures.knows c.requires.mergeable)
+          (omega (arith, c.requires.here.0, length-map c.args.packets.now packet_of)) c.add.ensures.indices.0 c.add.ensures.indices.1 c.add.ensures.indices.2
+          (knows_linked ps c.args.i c.args.place a old c.requires.runs.each c.requires.inside c.index_mut-run.ensures.value (packet_of first) at_first new
+          (packet_of c.args.slot.now) c.requires.here.1 c.add.ensures.knows c.requires.mergeable)
           (refl, refl);
     }

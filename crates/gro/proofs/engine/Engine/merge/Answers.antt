@@ -1,7 +1,7 @@
 use Rattle.std.proofs.Common.{◌≡◌, ◌+◌, ◌-◌, List, map, length, subst, arith}
 use Rattle.std.proofs.lemmas.List.{length-map}
 use Rattle.pcap_io.specs.Capture.{Packet}
-use Rattle.gro.specs.Slots.{packet_in}
+use Rattle.gro.specs.Slots.{packet_of}
 use Rattle.gro.specs.Engine.{HasPlaces, AreRuns}
 use Rattle.gro.proofs.Merging.{received_one, all_received, ready_received}
 use Rattle.gro.proofs.engine.Engine.merge.Goals as goal
@@ -12,24 +12,24 @@ receive-requires-clause-places c =
 
 pub loop-i-preserved : goal.loop-i-preserved
 loop-i-preserved c =
-    let ps : List Packet = map packet_in c.args.packets.now in (
-      received_one c.args.segs ps c.loop-i.i c.loop-i.self c.receive.new.self c.loop-i.invariant.0 c.receive.ensures.takes c.requires.rising (omega (arith, length-map c.args.packets.now packet_in)),
+    let ps : List Packet = map packet_of c.args.packets.now in (
+      received_one c.args.segs ps c.loop-i.i c.loop-i.self c.receive.new.self c.loop-i.invariant.0 c.receive.ensures.takes c.requires.rising (omega (arith, length-map c.args.packets.now packet_of)),
       c.receive.ensures.takes.places (length c.args.packets.now - (c.loop-i.i + 1))
           (subst (HasPlaces c.loop-i.self) (let s : length c.args.packets.now - c.loop-i.i ≡ (length c.args.packets.now - (c.loop-i.i + 1)) + 1 = omega arith in s) c.loop-i.invariant.1),
     )
 
 pub returns-clause-runs : goal.returns-clause-runs
 returns-clause-runs c =
-    let ps : List Packet = map packet_in c.args.packets.now in
-    all_received c.args.segs ps c.loop-i.i c.loop-i.self c.loop-i.invariant.0 (omega (arith, c.loop-i.auto.i-end, length-map c.args.packets.now packet_in)) c.requires.rising
+    let ps : List Packet = map packet_of c.args.packets.now in
+    all_received c.args.segs ps c.loop-i.i c.loop-i.self c.loop-i.invariant.0 (omega (arith, c.loop-i.auto.i-end, length-map c.args.packets.now packet_of)) c.requires.rising
 
 pub returns-clause-are : goal.returns-clause-are
 returns-clause-are c =
-    subst (λ z. AreRuns (map packet_in c.args.packets.now) z c.loop-i.self) (let e : c.loop-i.i ≡ length c.args.packets.now = omega (arith, c.loop-i.auto.i-end) in e) c.loop-i.invariant.0.are
+    subst (λ z. AreRuns (map packet_of c.args.packets.now) z c.loop-i.self) (let e : c.loop-i.i ≡ length c.args.packets.now = omega (arith, c.loop-i.auto.i-end) in e) c.loop-i.invariant.0.are
 
 pub loop-i-init : goal.loop-i-init
 loop-i-init c =
     let n = length c.args.packets.now in (
-      ready_received c.args.segs (map packet_in c.args.packets.now) n c.args.self.now c.requires.ready (omega (arith, length-map c.args.packets.now packet_in)),
+      ready_received c.args.segs (map packet_of c.args.packets.now) n c.args.self.now c.requires.ready (omega (arith, length-map c.args.packets.now packet_of)),
       subst (HasPlaces c.args.self.now) (let e : n ≡ n - 0 = omega arith in e) c.requires.ready.places,
     )

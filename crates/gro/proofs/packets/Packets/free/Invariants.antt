@@ -1,9 +1,5 @@
 use Rattle.std.proofs.Common.{length}
-use Rattle.gro.specs.Slots.{ArePaired}
 use Rattle.gro.proofs.packets.Packets.free.Given as goal
 
-abbrev pub invariant-loop-packet : goal.invariant-loop-packet
-invariant-loop-packet l = ArePaired l.list
-
-abbrev pub decreases-loop-packet : goal.decreases-loop-packet
-decreases-loop-packet l = length l.list.slots.items
+abbrev pub decreases-loop-slot : goal.decreases-loop-slot
+decreases-loop-slot l = length l.slots.items

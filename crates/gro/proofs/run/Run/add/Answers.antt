@@ -2,7 +2,7 @@ use Rattle.std.proofs.Common.{◌∷◌, [], sym, arith, length-append}
 use Rattle.pcap_io.specs.Capture.{Packet}
 use Rattle.merge_rule.proofs.Knows.{sums_short, grown_by}
 use Rattle.gro.specs.declared.run.Run.{Run}
-use Rattle.gro.specs.Slots.{packet_in}
+use Rattle.gro.specs.Slots.{packet_of}
 use Rattle.gro.proofs.Running.{few_more}
 use Rattle.gro.proofs.run.Run.add.Goals as goal
 
@@ -10,18 +10,18 @@ pub joined-payload-requires : goal.joined-payload-requires
 joined-payload-requires c =
     let r : Run = c.args.self.now in
     record {
-      few = sums_short (packet_in c.args.first.now) (packet_in c.args.next.now) c.requires.takes.0 r.layout c.args.candidacy.now.layout r.payload
+      few = sums_short (packet_of c.args.first.now) (packet_of c.args.next.now) c.requires.takes.0 r.layout c.args.candidacy.now.layout r.payload
           c.args.candidacy.now.payload r.flags c.args.candidacy.now.flags r.progress c.requires.takes.1.0.is c.requires.takes.1.1 c.requires.judged c.requires.next.short;
     }
 
 pub overflow_add-self : goal.overflow_add-self
-overflow_add-self c = omega (arith, few_more c.args.self.now (packet_in c.args.first.now) c.requires.takes.0 c.requires.takes.1.0)
+overflow_add-self c = omega (arith, few_more c.args.self.now (packet_of c.args.first.now) c.requires.takes.0 c.requires.takes.1.0)
 
 pub returns-clause-knows : goal.returns-clause-knows
 returns-clause-knows c =
     let r : Run = c.args.self.now in
-    let p : Packet = packet_in c.args.first.now in
-    let x : Packet = packet_in c.args.next.now in
+    let p : Packet = packet_of c.args.first.now in
+    let x : Packet = packet_of c.args.next.now in
     λ rest k m. record {
       is = grown_by p x rest r.layout c.args.candidacy.now.layout r.payload c.args.candidacy.now.payload c.joined-payload.result r.flags
           c.args.candidacy.now.flags r.progress c.progress_with-progress.result r.more (sym k.more) k.is m c.joined-payload.ensures.sum c.requires.judged c.progress_with-progress.ensures.progress;

@@ -1,13 +1,13 @@
 use Rattle.std.proofs.Common.{ℕ, ◌+◌, ◌≤◌, sym, ap, ◌∙◌, arith}
 use Rattle.gro.specs.declared.run.Run.{Run}
-use Rattle.gro.specs.Slots.{packet_in}
+use Rattle.gro.specs.Slots.{packet_of}
 use Rattle.gro.proofs.RunItems.{has_layout, long_is}
 use Rattle.gro.proofs.run.Run.frame_len.Goals as goal
 
 pub returns-else-self-eq0-clause-len : goal.returns-else-self-eq0-clause-len
 returns-else-self-eq0-clause-len c = λ rest k.
     let run : Run = c.args.self.now in
-    let p = packet_in c.args.first.now in
+    let p = packet_of c.args.first.now in
     let several : 1 ≤ run.more = omega (arith, c.if-self-eq0.false) in
     let l = has_layout run p rest k several in
     ap (λ (z : ℕ). c.headers_len.result + z) c.len-else-self-eq0.ensures.len ∙ sym (long_is run p rest k l.0 l.1 several c.headers_len.result c.headers_len.ensures.size)

@@ -4,15 +4,15 @@ use Rattle.skb.specs.SkbState.{buffer_bytes}
 use Rattle.merge_rule.proofs.Knows.{next_within}
 use Rattle.gro.specs.declared.slot.Slot.{Slot}
 use Rattle.gro.specs.declared.run.Run.{Run}
-use Rattle.gro.specs.Slots.{packet_in, IsSlot}
+use Rattle.gro.specs.Slots.{packet_of, IsHeld}
 use Rattle.gro.specs.Engine.{TakesOne}
 use Rattle.gro.proofs.Running.{in_head, known, placed, sums, first_in_head}
 use Rattle.gro.proofs.run.Run.progress_with.Goals as goal
 
-there : (item : Run) (first next : Slot) (layout : Layout) → item.layout ≡ Some layout → IsSlot first → TakesOne item (packet_in first) (packet_in next)
+there : (item : Run) (first next : Slot) (layout : Layout) → item.layout ≡ Some layout → IsHeld first → TakesOne item (packet_of first) (packet_of next)
     → layout.payload_at ≤ length (buffer_bytes next.skb)
 there item first next layout is slot t =
-    next_within (packet_in first) (packet_in next) t.0 layout item.payload item.flags item.progress
+    next_within (packet_of first) (packet_of next) t.0 layout item.payload item.flags item.progress
     (known item first t.0 layout is t.1.0 slot) t.1.1
 
 pub next_progress-requires-clause-placed : goal.next_progress-requires-clause-placed

@@ -6,7 +6,7 @@ use Rattle.merge_rule.specs.Next.{IsNext}
 use Rattle.merge_rule.specs.Runs.{IsJudged, IsCandidateOf}
 use Rattle.merge_rule.proofs.Knows.{shut_by, no_first_by, no_next_by, takes_next, one_flow}
 use Rattle.gro.specs.declared.run.Run.{Run}
-use Rattle.gro.specs.Slots.{packet_in}
+use Rattle.gro.specs.Slots.{packet_of}
 use Rattle.gro.specs.Engine.{Knows}
 use Rattle.gro.proofs.Running.{head_of, in_head, few_more, known, placed, sums, first_in_head}
 use Rattle.gro.proofs.run.Run.takes.Goals as goal
@@ -17,7 +17,7 @@ returns-then-not-self c =
     record {
       takes = λ rest k. (
         λ e. absurd cc,
-        λ m. absurd (shut_by run.layout run.payload run.flags run.progress (packet_in c.args.first.now) (packet_in c.args.next.now)
+        λ m. absurd (shut_by run.layout run.payload run.flags run.progress (packet_of c.args.first.now) (packet_of c.args.next.now)
             rest k.is c.if-not-self.true m),
       );
       flow = λ t. absurd cc;
@@ -28,14 +28,14 @@ returns-in_default c =
     record {
       takes = λ rest k. (
         λ e. absurd cc,
-        λ m. absurd (no_next_by c.args.candidacy.now.layout c.args.candidacy.now.payload c.args.candidacy.now.flags (packet_in c.args.first.now)
-            (packet_in c.args.next.now) rest c.requires.judged c.in_default.is m),
+        λ m. absurd (no_next_by c.args.candidacy.now.layout c.args.candidacy.now.payload c.args.candidacy.now.flags (packet_of c.args.first.now)
+            (packet_of c.args.next.now) rest c.requires.judged c.in_default.is m),
       );
       flow = λ t. absurd cc;
     }
 
 pub overflow_add-self : goal.overflow_add-self
-overflow_add-self c = omega (arith, few_more c.args.self.now (packet_in c.args.first.now) c.requires.knows.0 c.requires.knows.1)
+overflow_add-self c = omega (arith, few_more c.args.self.now (packet_of c.args.first.now) c.requires.knows.0 c.requires.knows.1)
 
 pub is_next-requires-clause-placed : goal.is_next-requires-clause-placed
 is_next-requires-clause-placed c =
@@ -66,8 +66,8 @@ is_next-requires-clause-few c = omega (arith, c.requires.next.short, c.len-next_
 pub returns-in-Some-layout : goal.returns-in-Some-layout
 returns-in-Some-layout c =
     let run : Run = c.args.self.now in
-    let p : Packet = packet_in c.args.first.now in
-    let x : Packet = packet_in c.args.next.now in
+    let p : Packet = packet_of c.args.first.now in
+    let x : Packet = packet_of c.args.next.now in
     let layout : Layout = c.in-Some-layout.layout in
     let j : IsCandidateOf x.frame x.original c.in-Some._own c.args.candidacy.now.payload c.args.candidacy.now.flags
     = subst (λ z. IsJudged x.frame x.original z c.args.candidacy.now.payload c.args.candidacy.now.flags) c.in-Some.is c.requires.judged in
@@ -87,7 +87,7 @@ returns-in-None c =
     record {
       takes = λ rest k. (
         λ e. absurd cc,
-        λ m. absurd (no_first_by run.layout run.payload run.flags run.progress (packet_in c.args.first.now) (packet_in c.args.next.now)
+        λ m. absurd (no_first_by run.layout run.payload run.flags run.progress (packet_of c.args.first.now) (packet_of c.args.next.now)
             rest k.is c.in-None.is m),
       );
       flow = λ t. absurd cc;

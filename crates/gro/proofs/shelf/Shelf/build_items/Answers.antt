@@ -1,7 +1,7 @@
 use Rattle.std.proofs.Common.{Some, length, ap, sym, subst, arith}
 use Rattle.std.proofs.lemmas.List.{length-map}
 use Rattle.gro.specs.declared.packet.Packet.{Packet as Held}
-use Rattle.gro.specs.Slots.{packet_in, held_of}
+use Rattle.gro.specs.Slots.{packet_of, held_of}
 use Rattle.gro.specs.Waiting.{AreWaiting}
 use Rattle.gro.proofs.Lining.{long, all_wait}
 use Rattle.gro.proofs.shelf.Shelf.build_items.Goals as goal
@@ -16,7 +16,7 @@ build_all-requires-clause-linked c =
       length-map (held_of l) (λ (p : Held). Some p),
       long l c.args.engine.now t,
       t.are.linked,
-      length-map l.slots.items packet_in,
+      length-map l.slots.items packet_of,
     )
 
 pub build_all-requires-clause-waiting : goal.build_all-requires-clause-waiting

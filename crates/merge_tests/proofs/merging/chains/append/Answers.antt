@@ -6,8 +6,7 @@ use Rattle.merge_tests.proofs.merging.chains.append.Goals as goal
 
 pub returns : goal.returns
 returns g c =
-    let p = c.args.packet in
-    let s : Slot = record { skb = p.skb; sec = p.sec; frac = p.frac; original = p.original; number = c.args.number } in
+    let s : Slot = record c.args.slot { number = c.args.number } in
     let h = c.requires.held in
     let items = c.push_reserved.ensures.items ∙ ap (λ (z : List Slot). z ++ (s ∷ [])) c.reserve.ensures.items in
     record {

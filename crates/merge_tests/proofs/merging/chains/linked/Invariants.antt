@@ -1,4 +1,3 @@
-use Rattle.std.proofs.Common.{◌≡◌, ◌≤◌, length}
 use Rattle.merge_tests.specs.Numbered.{AreNumbered}
 use Rattle.merge_tests.proofs.merging.chains.linked.Given as goal
 

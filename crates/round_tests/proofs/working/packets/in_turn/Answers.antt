@@ -1,24 +1,31 @@
-use Rattle.std.proofs.Common.{◌-◌, [], ◌∷◌, map, ap, sym, subst, ◌∙◌, arith}
-use Rattle.std.proofs.lemmas.List.{reverse-append}
-use Rattle.std.specs.Prelude.{reverse}
+use Rattle.std.proofs.Common.{List, [], ◌∷◌, sym, subst, arith}
 use Rattle.ref_core.specs.WeightRule.{full_weight}
-use Rattle.gro.specs.Held.{packet_of, counts_of, AreHeld, AreShared, WeighAtLeast}
+use Rattle.pcap_io.specs.Capture.{Packet}
+use Rattle.gro.specs.declared.slot.Slot.{Slot}
+use Rattle.gro.specs.Slots.{WeighAtLeast}
+use Rattle.gro.proofs.Lying.{lent_counts, lent_held, lent_shared, lent_weigh}
+use Rattle.lanes.specs.Clones.{weight_after}
 use Rattle.lanes.specs.Packets.{RiseFrom}
 use Rattle.round_tests.proofs.working.packets.in_turn.Goals as goal
 
-pub loop-number-preserved : goal.loop-number-preserved
-loop-number-preserved g c =
-    let l = c.loop-number in
-    let i = l.invariant in
-    let p = c.packet.result in
-    let e = c.packet.ensures in
-    let more = ap reverse c.push.ensures.items ∙ reverse-append l.packets.items (p ∷ []) in
-    record {
-      held = subst AreHeld (sym more) (e.held, i.held);
-      shared = subst AreShared (sym more) (e.shared, i.shared);
-      whole = subst (WeighAtLeast full_weight) (sym more) (e.whole, i.whole);
-      rising = subst (λ z. RiseFrom (l.number - 1) (map packet_of z)) (sym more) (omega (arith, e.number), subst (λ z. RiseFrom z (map packet_of (reverse l.packets.items))) (omega (arith, e.number, c.loop-number-test.true)) i.rising);
-      few = omega (arith, ap counts_of more, e.count, i.few, c.loop-number-test.true);
-      most = omega (arith, i.most);
-      room = omega (arith, c.push.ensures.room, i.room, c.loop-number-test.true);
-    }
+lighter : (ps : List Slot) → WeighAtLeast full_weight ps → WeighAtLeast (weight_after 1) ps
+lighter [] h = tt
+lighter (p ∷ ps) h = (omega (arith, h.0), lighter ps h.1)
+
+pub returns-clause-held : goal.returns-clause-held
+returns-clause-held g c = lent_held c.unshared-packets.result.items c.share_heads.new.self.items c.share_heads.ensures.lent c.unshared-packets.ensures.held
+
+pub returns-clause-shared : goal.returns-clause-shared
+returns-clause-shared g c = lent_shared c.unshared-packets.result.items c.share_heads.new.self.items c.share_heads.ensures.lent
+
+pub returns-clause-whole : goal.returns-clause-whole
+returns-clause-whole g c = lent_weigh c.unshared-packets.result.items c.share_heads.new.self.items c.share_heads.ensures.lent c.unshared-packets.ensures.alone
+
+pub returns-clause-weighs : goal.returns-clause-weighs
+returns-clause-weighs g c = lighter c.share_heads.new.self.items (lent_weigh c.unshared-packets.result.items c.share_heads.new.self.items c.share_heads.ensures.lent c.unshared-packets.ensures.alone)
+
+pub returns-clause-rising : goal.returns-clause-rising
+returns-clause-rising g c = subst (λ (z : List Packet). RiseFrom 0 z) (sym c.share_heads.ensures.packets) c.unshared-packets.ensures.rising
+
+pub returns-clause-few : goal.returns-clause-few
+returns-clause-few g c = omega (arith, lent_counts c.unshared-packets.result.items c.share_heads.new.self.items c.share_heads.ensures.lent, c.unshared-packets.ensures.few)

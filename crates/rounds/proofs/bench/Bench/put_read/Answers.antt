@@ -1,6 +1,6 @@
 use Rattle.std.proofs.Common.{map, refl}
 use Rattle.offload_model.specs.Steps.{round_output}
-use Rattle.gro.specs.Held.{packet_of}
+use Rattle.gro.specs.Slots.{packet_of}
 use Rattle.rounds.specs.Benches.{options_at}
 use Rattle.rounds.proofs.Lanes.{works_out, brings_put, may_put}
 use Rattle.rounds.proofs.bench.Bench.put_read.Goals as goal

@@ -1,6 +1,6 @@
 use Rattle.std.proofs.Common.{ℕ, ◌≡◌, List, rules, ap, sym, ◌∙◌, subst}
 use Rattle.rounds.specs.declared.reading.Halt.TheVariants.{Ended}
-use Rattle.gro.specs.declared.packet.Packet.{Packet}
+use Rattle.gro.specs.declared.slot.Slot.{Slot as Packet}
 use Rattle.rounds.specs.declared.round.RoundEnd.TheVariants.{Full}
 use Rattle.rounds.specs.declared.round.RoundRead.{RoundRead}
 use Rattle.rounds.specs.Reading.{FillsRound}
@@ -14,7 +14,7 @@ returns-clause-full g c =
     let r = c.read_more-blocks in
     let old = c.args.reader.now.place in
     let new = r.new.reader.place in
-    let first = c.reserve.new.self.items in
+    let first = c.make_room.new.packets.items in
     let budget = c.self.inside.budget in
     let budgets = ap (λ (i : IntakeState). i.budget) c.self.view_is in
     let firsts : first ≡ c.args.round.packets = search rules in

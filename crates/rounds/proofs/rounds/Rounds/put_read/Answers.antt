@@ -1,7 +1,7 @@
 use Rattle.std.proofs.Common.{ap, map, subst}
 use Rattle.offload_model.specs.Steps.{round_output}
 use Rattle.offload_model.specs.Written.{Options}
-use Rattle.gro.specs.Held.{packet_of}
+use Rattle.gro.specs.Slots.{packet_of}
 use Rattle.rounds.specs.Merging.{options_of, Puts}
 use Rattle.rounds.proofs.rounds.Rounds.put_read.Goals as goal
 

@@ -1,7 +1,7 @@
 use Rattle.std.proofs.Common.{ap, arith, map, min, ◌+◌, ◌-◌, ◌^◌, ◌≤◌}
 use Rattle.off_io.specs.Faults.{Rose}
 use Rattle.offload_model.specs.Need.{round_need}
-use Rattle.gro.specs.Held.{packet_of}
+use Rattle.gro.specs.Slots.{packet_of}
 use Rattle.rounds.specs.Merging.{options_of}
 use Rattle.rounds.specs.RoundsState.{RoundsState}
 use Rattle.rounds.proofs.Merging.{step_says}

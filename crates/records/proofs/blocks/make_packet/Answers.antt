@@ -1,0 +1,43 @@
+use Rattle.std.proofs.Common.{◌≡◌, ◌+◌, length, arith, ap, subst, sym}
+use Rattle.frags.specs.PieceList.{size_of}
+use Rattle.skb.specs.SkbState.{SkbState}
+use Rattle.gro.specs.declared.slot.Slot.{Slot as Held}
+use Rattle.gro.specs.Slots.{count_of}
+use Rattle.offload_model.specs.Need.{data_blocks}
+use Rattle.records.specs.Laid.{IsLaid, IsRead, WholeFrom}
+use Rattle.records.proofs.Laying.{of_new}
+use Rattle.records.proofs.blocks.make_packet.Goals as goal
+
+pub returns-clause-one : goal.returns-clause-one
+returns-clause-one c = (_, c.push.ensures.items)
+
+pub returns-clause-laid : goal.returns-clause-laid
+returns-clause-laid c =
+    let k = c.args.first in
+    let rest = c.build_pieces-rest in
+    let same = c.new-skb.ensures.same in
+    of_new c.args.packets.now c.push.new.self _ (IsLaid k) c.push.ensures.items (record {
+      head = (c.args.block, ap (λ (x : SkbState). x.head) same, c.requires.mark);
+      rest = subst (WholeFrom (k + 1)) (sym (ap (λ (x : SkbState). x.rest) same)) rest.ensures.whole;
+    })
+
+pub returns-clause-count : goal.returns-clause-count
+returns-clause-count c =
+    let rest = c.build_pieces-rest in
+    of_new c.args.packets.now c.push.new.self _ (λ (p : Held). count_of p ≡ data_blocks c.args.len) c.push.ensures.items
+    (omega (arith, ap (λ (x : SkbState). length x.rest) c.new-skb.ensures.same, rest.ensures.count, c.requires.len, c.min-in_head.ensures))
+
+pub returns-clause-read : goal.returns-clause-read
+returns-clause-read c =
+    let rest = c.build_pieces-rest in
+    let same = c.new-skb.ensures.same in
+    let from = ap (λ (x : SkbState). x.from) same in
+    let to = ap (λ (x : SkbState). x.to) same in
+    let size = ap (λ (x : SkbState). size_of x.rest) same in
+    of_new c.args.packets.now c.push.new.self _ IsRead c.push.ensures.items (record {
+      size = omega (arith, c.len.ensures.size, c.len.ensures.bytes);
+      front = omega (arith, from, to, size, rest.ensures.size, c.min-in_head.ensures);
+      short = omega (arith, c.len.ensures.size, c.len.ensures.bytes, from, to, size, rest.ensures.size, c.min-in_head.ensures, c.requires.len);
+      headroom = from;
+      original = c.requires.original;
+    })

@@ -1,0 +1,15 @@
+use Rattle.std.proofs.Common.{◌≡◌, ◌+◌, length}
+use Rattle.std.specs.VecDeque.{deque_capacity}
+use Rattle.block_pool.specs.PoolState.{home}
+use Rattle.records.proofs.blocks.put_back.Given as goal
+
+abbrev pub invariant-loop-sole : goal.invariant-loop-sole
+invariant-loop-sole l = record {
+  home : home l.pool + length l.hold.items ≡ home l.fn.pool + (length l.fn.hold.items + 1);
+  made : l.pool.made ≡ l.fn.pool.made;
+  taken : l.pool.taken ≡ l.fn.pool.taken;
+  capacity : deque_capacity l.hold ≡ deque_capacity l.fn.hold;
+}
+
+abbrev pub decreases-loop-sole : goal.decreases-loop-sole
+decreases-loop-sole l = length l.hold.items

@@ -1,0 +1,211 @@
+//! Reads one record of a capture into blocks.
+ghost use Rattle.std.specs.Prelude.{◌≡◌, ◌⊎◌, ◌+◌, ◌-◌, ◌≤◌, ◌^◌, [], false, min, length};
+ghost use Rattle.std.specs.Prelude.{IfOk, OnOk, OnErr, Err};
+ghost use Rattle.std.specs.VecDeque.{deque_capacity};
+ghost use Rattle.block_pool.specs.PoolState.{home};
+ghost use Rattle.skb.specs.SkbState.{buffer_bytes};
+ghost use Rattle.off_io.specs.Faults.{Rose};
+ghost use Rattle.off_io.specs.Told.{Told};
+ghost use Rattle.pcap_io.specs.declared.heads.Link.TheVariants.{Ethernet};
+ghost use Rattle.pcap_io.specs.Headers.{is_bad_original};
+ghost use Rattle.pcap_io.specs.Places.{IsReady, ReadsOn};
+ghost use Rattle.pcap_io.specs.Readers.{place_of, source_of, SameLoan};
+ghost use Rattle.gro.specs.Slots.{packet_of, count_of};
+ghost use Rattle.records.specs.Laid.{IsInFields, IsLaid, IsRead, most_original, most_read};
+ghost use Rattle.records.specs.Reading.{front_size, GivesPacket, GivesRecord, GoesOn, IsStopOf};
+ghost use Rattle.records.specs.Reading.{HasOne, OfAnswer, OfNew};
+ghost use Rattle.offload_model.specs.Need.{data_blocks, need_of};
+ghost use Rattle.offload_model.specs.Captured.{IsCaptured};
+
+use crate::blocks::{blocks_of, make_packet, put_back, take_block, take_blocks};
+use crate::body::read_frame;
+use block_pool::Pool;
+use frags::PieceBuilder;
+use gro::Packets;
+use off_io::Source;
+use pcap_io::{CapFault, CaptureReader, InFault, RecHead};
+use raw_block::Sole;
+use std::alloc::Global;
+use std::collections::VecDeque;
+
+/// Why no record was read.
+#[derive(Clone, Copy, Debug, PartialEq, Eq)]
+pub enum Stop {
+    End,
+    Malformed(CapFault),
+    /// The blocks that the round would need.
+    PoolEmpty { need: u32 },
+    ReadFault,
+    NoMemory,
+}
+
+fn stop_of(fault: InFault) -> Stop
+    ensures stop { IsStopOf fault result }
+{
+    match fault {
+        InFault::Cap(fault) => Stop::Malformed(fault),
+        InFault::ReadFault => Stop::ReadFault,
+    }
+}
+
+// Reads the body of the record that was begun, `len` bytes of it into blocks with marks from `mark` on. Two spares go
+// to a list of their own, and the packet behind the packets that there are.
+fn read_packet<S: Source>(
+    alloc: Global,
+    pool: &mut Pool,
+    hold: &mut VecDeque<Sole>,
+    spares: &mut Pool,
+    reader: &mut CaptureReader<'_, S>,
+    front: &mut [u8],
+    head: &RecHead,
+    len: u32,
+    mark: u32,
+    packets: &mut Packets,
+) -> Result<(), Stop>
+    requires len { len ≤ most_read }
+    requires whole { head.now.captured ≡ length front.old + len }
+    requires original { head.now.original ≤ most_original }
+    requires body { (place_of reader.old).body ≡ head.now.captured }
+    requires empty { hold.old.items ≡ [] }
+    requires capacity { 131 ≤ deque_capacity hold.old }
+    requires home { (need_of len ≤ home pool.old) × (home pool.old ≤ pool.old.made) }
+    requires room { home spares.old + 2 ≤ spares.old.made }
+    requires mark { mark ≤ 65536 }
+    requires place { 1 ≤ packets.old.room }
+    ensures same_source { SameLoan reader.old reader.new }
+    ensures given { OfAnswer result packets.old packets.new (λ r. Told (S.left (source_of reader.old))
+        (S.left (source_of reader.new)) (GivesPacket (place_of reader.old) head.now front.new r)) }
+    ensures place { OnOk result (ReadsOn (place_of reader.old) (place_of reader.new) head.now.captured) }
+    ensures front { length front.new ≡ length front.old }
+    ensures one { OnOk result (HasOne packets.old packets.new) }
+    ensures none { OnErr result (packets.new ≡ packets.old) }
+    ensures room { packets.old.room ≤ packets.new.room + 1 }
+    ensures laid { OnOk result (OfNew packets.old packets.new (IsLaid mark)) }
+    ensures count { OnOk result (OfNew packets.old packets.new (λ p. count_of p ≡ data_blocks len)) }
+    ensures size { OnOk result (OfNew packets.old packets.new (λ p. length (buffer_bytes p.skb) ≡ len)) }
+    ensures read { OnOk result (OfNew packets.old packets.new IsRead) }
+    ensures in_fields { OnOk result (OfNew packets.old packets.new IsInFields) }
+    ensures number { OnOk result (OfNew packets.old packets.new (λ p. p.number ≡ head.now.number)) }
+    ensures original { OnOk result (OfNew packets.old packets.new (λ p. p.original ≡ head.now.original)) }
+    ensures home { OnOk result (home pool.new + need_of len ≡ home pool.old) }
+    ensures spares { OnOk result (home spares.new ≡ home spares.old + 2) }
+    ensures back { OnErr result ((home pool.new ≡ home pool.old) × (home spares.new ≡ home spares.old)) }
+    ensures made { (pool.new.made ≡ pool.old.made) × (spares.new.made ≡ spares.old.made) }
+    ensures taken { OnOk result (pool.new.taken ≡ min (pool.old.taken + need_of len) (2 ^ 64 - 1)) }
+    ensures most { pool.new.taken ≤ pool.old.taken + need_of len }
+    ensures least { pool.old.taken ≤ pool.new.taken }
+    ensures empty { hold.new.items ≡ [] }
+    ensures capacity { deque_capacity hold.new ≡ deque_capacity hold.old }
+    ensures later { S.faults (source_of reader.old) ≤ S.faults (source_of reader.new) }
+    ensures failed { result ≡ Err Stop.ReadFault → Rose (S.faults (source_of reader.old))
+        (S.faults (source_of reader.new)) }
+{
+    let _ = pool.taken();
+    let data = blocks_of(len);
+    let mut block = take_block(pool, mark);
+    take_blocks(pool, hold, data - 1, mark + 1);
+    match read_frame(reader, front, &mut block, hold, len) {
+        Ok(()) => {}
+        Err(fault) => {
+            put_back(pool, block, hold);
+            return Err(stop_of(fault));
+        }
+    }
+    match PieceBuilder::with_room(alloc, data as usize - 1) {
+        Ok(builder) => {
+            pool.take_to(2, spares);
+            make_packet(block, hold, builder, head, len, mark, packets);
+            Ok(())
+        }
+        Err(_) => {
+            put_back(pool, block, hold);
+            Err(Stop::NoMemory)
+        }
+    }
+}
+
+/// Reads the next record, where its round has `used` blocks: `front`, where its link type has bytes in front of a
+/// frame, and the frame into blocks with marks from `mark` on. Its packet goes behind the packets that there are, its
+/// two spares to a list that has places for them. The answer says where in the capture its header lies, and how many
+/// blocks it has with its spares.
+///
+/// It is judged in this order: its header, whether the round then needs more blocks than there are, its body. A record
+/// that isn't given leaves all blocks home that were, and the packets as they were.
+pub fn read_record<S: Source>(
+    alloc: Global,
+    pool: &mut Pool,
+    hold: &mut VecDeque<Sole>,
+    spares: &mut Pool,
+    reader: &mut CaptureReader<'_, S>,
+    front: &mut [u8],
+    used: u32,
+    mark: u32,
+    packets: &mut Packets,
+) -> Result<(u64, u32), Stop>
+    requires ready { IsReady (place_of reader.old) }
+    requires front { length front.old ≡ front_size (place_of reader.old).link }
+    requires empty { hold.old.items ≡ [] }
+    requires capacity { 131 ≤ deque_capacity hold.old }
+    requires home { (131 ≤ home pool.old) ⊎ (pool.old.made ≤ home pool.old + used) }
+    requires few { (mark ≤ used) × (used ≤ pool.old.made) }
+    requires made { pool.old.made ≤ 65536 }
+    requires room { home spares.old + 2 ≤ spares.old.made }
+    requires place { 1 ≤ packets.old.room }
+    ensures same_source { SameLoan reader.old reader.new }
+    ensures given { OfAnswer result packets.old packets.new (λ r. Told (S.left (source_of reader.old))
+        (S.left (source_of reader.new)) (GivesRecord used pool.old.made (place_of reader.old) (place_of reader.new)
+        front.new r)) }
+    ensures next { OnOk result (GoesOn (place_of reader.old) (place_of reader.new)) }
+    ensures front { length front.new ≡ length front.old }
+    ensures one { OnOk result (HasOne packets.old packets.new) }
+    ensures none { OnErr result (packets.new ≡ packets.old) }
+    ensures room { packets.old.room ≤ packets.new.room + 1 }
+    ensures number { OnOk result (OfNew packets.old packets.new (λ p. p.number ≡ (place_of reader.old).number)) }
+    ensures original { OnOk result (OfNew packets.old packets.new (λ p. is_bad_original
+        (place_of reader.old).link p.original ≡ false)) }
+    ensures offset { IfOk result (λ r. r.0 ≡ (place_of reader.old).offset) }
+    ensures behind { OnOk result (OfNew packets.old packets.new (λ p. (place_of reader.new).offset
+        ≡ (place_of reader.old).offset + 16 + (length front.new + length (buffer_bytes p.skb)))) }
+    ensures laid { OnOk result (OfNew packets.old packets.new (IsLaid mark)) }
+    ensures read { OnOk result (OfNew packets.old packets.new IsRead) }
+    ensures captured { OnOk result (OfNew packets.old packets.new (λ p. (place_of reader.old).link ≡ Ethernet
+        → IsCaptured (packet_of p))) }
+    ensures need { OnOk result (OfNew packets.old packets.new (λ p. count_of p + 2
+        ≡ need_of (length (buffer_bytes p.skb)))) }
+    ensures count { IfOk result (λ r. OfNew packets.old packets.new (λ p. count_of p + 2 ≡ r.1)) }
+    ensures home { IfOk result (λ r. home pool.new + r.1 ≡ home pool.old) }
+    ensures spares { OnOk result (home spares.new ≡ home spares.old + 2) }
+    ensures fits { IfOk result (λ r. used + r.1 ≤ pool.old.made) }
+    ensures taken { IfOk result (λ r. pool.new.taken ≡ min (pool.old.taken + r.1) (2 ^ 64 - 1)) }
+    ensures back { OnErr result ((home pool.new ≡ home pool.old) × (home spares.new ≡ home spares.old)) }
+    ensures most { OnErr result (pool.new.taken + used ≤ pool.old.taken + pool.old.made) }
+    ensures least { pool.old.taken ≤ pool.new.taken }
+    ensures made { (pool.new.made ≡ pool.old.made) × (spares.new.made ≡ spares.old.made) }
+    ensures empty { hold.new.items ≡ [] }
+    ensures capacity { deque_capacity hold.new ≡ deque_capacity hold.old }
+    ensures later { S.faults (source_of reader.old) ≤ S.faults (source_of reader.new) }
+    ensures failed { result ≡ Err Stop.ReadFault → Rose (S.faults (source_of reader.old))
+        (S.faults (source_of reader.new)) }
+{
+    let _ = pool.taken();
+    let _ = pool.home();
+    let found = match reader.next_head() {
+        Ok(found) => found,
+        Err(fault) => return Err(stop_of(fault)),
+    };
+    let Some(head) = found else {
+        return Err(Stop::End);
+    };
+    let len = head.captured - front.len() as u32;
+    let count = blocks_of(len) + 2;
+    let need = used + count;
+    if need > pool.made() {
+        return Err(Stop::PoolEmpty { need });
+    }
+    match read_packet(
+        alloc, pool, hold, spares, reader, front, &head, len, mark, packets,
+    ) {
+        Ok(()) => Ok((head.offset, count)),
+        Err(stop) => Err(stop),
+    }
+}

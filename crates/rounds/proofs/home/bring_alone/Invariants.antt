@@ -1,0 +1,14 @@
+use Rattle.std.proofs.Common.{◌≡◌, ◌+◌, length}
+use Rattle.block_pool.specs.PoolState.{home}
+use Rattle.gro.specs.Slots.{counts_of, AreAlone}
+use Rattle.rounds.proofs.home.bring_alone.Given as goal
+
+abbrev pub invariant-loop-packet : goal.invariant-loop-packet
+invariant-loop-packet l = record {
+  alone : AreAlone l.packets.items;
+  count : home l.pool + counts_of l.packets.items ≡ home l.fn.pool + counts_of l.fn.packets.items;
+  made : (l.pool.made ≡ l.fn.pool.made) × (l.pool.taken ≡ l.fn.pool.taken);
+}
+
+abbrev pub decreases-loop-packet : goal.decreases-loop-packet
+decreases-loop-packet l = length l.packets.items

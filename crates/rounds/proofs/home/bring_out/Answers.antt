@@ -1,0 +1,69 @@
+use Rattle.std.proofs.Common.{Bool, arith, subst}
+use Rattle.frags.specs.Account.{of_outcomes}
+use Rattle.gro.specs.Slots.{of_packets}
+use Rattle.taps.specs.Clones.{of_clones}
+use Rattle.lanes.specs.Lanes.{of_lanes}
+use Rattle.rounds.specs.Out.{IsOut}
+use Rattle.rounds.proofs.Keeping.{round_left}
+use Rattle.rounds.proofs.Rounding.{no_outcomes}
+use Rattle.rounds.proofs.home.bring_out.Goals as goal
+
+pub bring_round-requires-clause-round : goal.bring_round-requires-clause-round
+bring_round-requires-clause-round c =
+    let a = c.args in
+    let o = subst (λ (z : Bool). IsOut z a.blocks a.packets.now.items a.lanes.now a.kept.items) c.if-shared.true c.requires.out in
+    round_left a.blocks (of_outcomes a.out.now) (of_packets a.packets.now.items) (of_lanes a.lanes.now) (of_clones a.kept.items) (no_outcomes a.out.now c.requires.bare) o.round
+
+pub bring_round-requires-clause-spare : goal.bring_round-requires-clause-spare
+bring_round-requires-clause-spare c =
+    let a = c.args in
+    let o = subst (λ (z : Bool). IsOut z a.blocks a.packets.now.items a.lanes.now a.kept.items) c.if-shared.true c.requires.out in
+    omega (arith, o.counts, c.requires.spare)
+
+pub bring_round-requires-clause-spent : goal.bring_round-requires-clause-spent
+bring_round-requires-clause-spent c =
+    let a = c.args in
+    let o = subst (λ (z : Bool). IsOut z a.blocks a.packets.now.items a.lanes.now a.kept.items) c.if-shared.true c.requires.out in
+    o.spent
+
+pub bring_round_alone-requires-clause-packets : goal.bring_round_alone-requires-clause-packets
+bring_round_alone-requires-clause-packets c =
+    let a = c.args in
+    let o = subst (λ (z : Bool). IsOut z a.blocks a.packets.now.items a.lanes.now a.kept.items) c.if-shared.false c.requires.out in
+    o.packets
+
+pub bring_round_alone-requires-clause-queues : goal.bring_round_alone-requires-clause-queues
+bring_round_alone-requires-clause-queues c =
+    let a = c.args in
+    let o = subst (λ (z : Bool). IsOut z a.blocks a.packets.now.items a.lanes.now a.kept.items) c.if-shared.false c.requires.out in
+    o.queues
+
+pub bring_round_alone-requires-clause-room : goal.bring_round_alone-requires-clause-room
+bring_round_alone-requires-clause-room c =
+    let a = c.args in
+    let o = subst (λ (z : Bool). IsOut z a.blocks a.packets.now.items a.lanes.now a.kept.items) c.if-shared.false c.requires.out in
+    omega (arith, o.count, c.requires.room)
+
+pub bring_round_alone-requires-clause-none : goal.bring_round_alone-requires-clause-none
+bring_round_alone-requires-clause-none c =
+    let a = c.args in
+    let o = subst (λ (z : Bool). IsOut z a.blocks a.packets.now.items a.lanes.now a.kept.items) c.if-shared.false c.requires.out in
+    o.none
+
+pub bring_round_alone-requires-clause-idle : goal.bring_round_alone-requires-clause-idle
+bring_round_alone-requires-clause-idle c =
+    let a = c.args in
+    let o = subst (λ (z : Bool). IsOut z a.blocks a.packets.now.items a.lanes.now a.kept.items) c.if-shared.false c.requires.out in
+    o.idle
+
+pub returns-then-shared-clause-spare : goal.returns-then-shared-clause-spare
+returns-then-shared-clause-spare c =
+    let a = c.args in
+    let o = subst (λ (z : Bool). IsOut z a.blocks a.packets.now.items a.lanes.now a.kept.items) c.if-shared.true c.requires.out in
+    omega (arith, o.counts, c.bring_round.ensures.spare)
+
+pub returns-else-shared-clause-home : goal.returns-else-shared-clause-home
+returns-else-shared-clause-home c =
+    let a = c.args in
+    let o = subst (λ (z : Bool). IsOut z a.blocks a.packets.now.items a.lanes.now a.kept.items) c.if-shared.false c.requires.out in
+    omega (arith, o.count, c.bring_round_alone.ensures.home)

@@ -1,0 +1,29 @@
+-- What is out with a round, but its spares: the blocks that its packets were read into.
+use Rattle.std.specs.Prelude.{ℕ, ◌≡◌, ◌+◌, ◌≤◌, All, Bool, true, false, List, []}
+use Rattle.frags.specs.Account.{both}
+use Rattle.gro.specs.declared.slot.Slot.{Slot}
+use Rattle.gro.specs.Slots.{of_packets, counts_of, AreAlone}
+use Rattle.taps.specs.declared.clones.TapClone.{TapClone}
+use Rattle.lanes.specs.declared.lane.QueueLane.{QueueLane}
+use Rattle.lanes.specs.declared.lane.Lanes.{Lanes}
+use Rattle.lanes.specs.Lanes.{counts_of_queues, IsIdleTap}
+use Rattle.rounds.specs.Lanes.{of_work, count_of_work, AreSpent}
+use Rattle.rounds.specs.Marks.{IsRound}
+
+-- heads were shared: what is held is told by marks, and there are places for it
+pub record IsSharedOut (n : ℕ) (ps : List Slot) (lanes : Lanes) (kept : List TapClone) : Type 0 where
+  pub round : IsRound n (both (of_packets ps) (of_work lanes kept))
+  pub counts : counts_of ps + count_of_work lanes kept ≤ n + n
+  pub spent : AreSpent lanes.taps.items
+
+-- none were: nobody else holds a block, so there are as many as packets have
+pub record IsAloneOut (n : ℕ) (ps : List Slot) (lanes : Lanes) (kept : List TapClone) : Type 0 where
+  pub packets : AreAlone ps
+  pub queues : All (λ (l : QueueLane). AreAlone l.packets.items) lanes.queues.items
+  pub count : counts_of ps + counts_of_queues lanes.queues.items ≡ n
+  pub none : kept ≡ []
+  pub idle : All IsIdleTap lanes.taps.items
+
+abbrev pub IsOut : Bool → ℕ → List Slot → Lanes → List TapClone → Type 0
+IsOut true n ps lanes kept = IsSharedOut n ps lanes kept
+IsOut false n ps lanes kept = IsAloneOut n ps lanes kept
