@@ -1,6 +1,7 @@
 //! Pieces of shared blocks, as one run of bytes.
 ghost use Rattle.std.specs.Prelude.{◌≡◌, ℕ, ◌+◌, ◌-◌, ◌<◌, ◌≤◌, ◌^◌, [], ◌∷◌, ◌++◌, length, MatchResult, MatchOption};
-ghost use Rattle.std.specs.Prelude.{IfOk, IfErr, IfSome, IfNone, drop, take, min, slice_index_or, slice_range, Bool, false};
+ghost use Rattle.std.specs.Prelude.{IfOk, IfErr, IfSome, IfNone, drop, take, min, slice_index_or, slice_range};
+ghost use Rattle.std.specs.Prelude.{Bool, false};
 ghost use Rattle.frags.specs.declared.pieces.Piece.{Piece};
 ghost use Rattle.frags.specs.declared.holder.Holder.{Holder};
 ghost use Rattle.raw_block.specs.Views.{PartState};

@@ -1,5 +1,6 @@
 //! A round is read beside the work of another.
-ghost use Rattle.std.specs.Prelude.{◌≡◌, ◌≢◌, ◌+◌, ◌-◌, ◌*◌, ◌<◌, ◌≤◌, ◌^◌, [], true, length, map, min, All, IfOk, IfErr};
+ghost use Rattle.std.specs.Prelude.{◌≡◌, ◌≢◌, ◌+◌, ◌-◌, ◌*◌, ◌<◌, ◌≤◌, ◌^◌, [], true, length, map, min};
+ghost use Rattle.std.specs.Prelude.{All, IfOk, IfErr};
 ghost use Rattle.std.specs.Prelude.{IsErr, MatchResult, Ok};
 ghost use Rattle.std.specs.List.{AllByRecursion};
 ghost use Rattle.block_pool.specs.PoolState.{home};

@@ -1,5 +1,5 @@
 //! Works a round: its packets are merged in lanes.
-ghost use Rattle.std.specs.Prelude.{◌≡◌, ◌≤◌, true, false, [], map, All, IfOk, IfErr, OnOk, MatchResult};
+ghost use Rattle.std.specs.Prelude.{◌⊎◌, ◌≡◌, ◌≤◌, true, false, [], map, All, IfOk, IfErr, OnOk, MatchResult};
 ghost use Rattle.std.specs.List.{AllByRecursion};
 ghost use Rattle.offload_model.specs.Captured.{IsCaptured};
 ghost use Rattle.offload_model.specs.Written.{round_records};
@@ -43,6 +43,7 @@ fn keep_if(keep: bool, packets: &mut Packets, kept: &mut Vec<TapClone>) -> Resul
         (both (of_packets packets.new.items) (of_clones kept.new.items)) }
     ensures fewer { blocks_of kept.new.items ≤ counts_of packets.old.items }
     ensures all { OnOk result (keep ≡ true → map packet_of_clone kept.new.items ≡ map packet_of packets.old.items) }
+    ensures unkept { keep ≡ false → (kept.new.items ≡ []) × (packets.new.items ≡ packets.old.items) }
 {
     if !keep {
         return Ok(());
@@ -77,6 +78,7 @@ impl Bench {
     fn is_shared(&self) -> bool
         ensures keep { self.now.keep ≡ true → result ≡ true }
         ensures taps { result ≡ false → self.now.plan.taps ≡ 0 }
+        ensures only { result ≡ true → (self.now.keep ≡ true) ⊎ (1 ≤ self.now.plan.taps) }
     {
         self.keep || self.plan.taps != 0
     }
