@@ -1,9 +1,10 @@
 //! Whole reads and writes at several steps, the listed failures, and the system's edge.
 
 use off_io::{
-    Failed, Feed, Gate, MemSink, MemSource, NoGate, Sink, Source, StdSink, StdSource, SureSink,
-    SureSource, Who, WriteFault, read_full, write_all,
+    BufferedSource, Failed, Feed, Gate, MemSink, MemSource, NoGate, Sink, Source, StdSink,
+    StdSource, SureSink, SureSource, Who, WriteFault, read_full, write_all,
 };
+use std::io::BufReader;
 use std::test::Fail;
 
 const FIVE: [u8; 5] = [1, 2, 3, 4, 5];
@@ -52,6 +53,24 @@ fn listed_calls_fail(rt: HostRuntime) -> Result<(), Fail> {
     assert_eq!(rt; sink.flush(), Ok(()));
     assert_eq!(rt; sink.flush(), Err(Failed));
     assert_eq!(rt; sink.bytes(), [1, 2].as_slice());
+    Ok(())
+}
+
+// Reads of two bytes, behind buffers of which some have fewer, as many, and more.
+#[test]
+fn buffered_reads(rt: HostRuntime) -> Result<(), Fail> {
+    for size in [1, 2, 3, 64] {
+        let inner = BufReader::with_capacity(rt.alloc(), size, FIVE.as_slice())?;
+        let mut source = BufferedSource::new(inner);
+        let mut pair = [0; 2];
+        for want in [[1, 2], [3, 4]] {
+            assert_eq!(rt; read_full(&mut source, &mut pair), Ok(2), "at size {size}");
+            assert_eq!(rt; pair, want, "at size {size}");
+        }
+        assert_eq!(rt; read_full(&mut source, &mut pair), Ok(1), "at size {size}");
+        assert_eq!(rt; pair[0], 5, "at size {size}");
+        assert_eq!(rt; source.read(&mut pair), Ok(0), "at size {size}");
+    }
     Ok(())
 }
 

@@ -1,3 +1,4 @@
+pub mod Buffering
 mod Pieces
 mod Bytes
 pub mod Appending

@@ -38,10 +38,9 @@ pub trait Sink {
         ensures cause { HasCause (faults self.old) (faults self.new) result };
 }
 
-/// Writes all the bytes.
-///
-/// `WriteFault` only where the sink's count of faults rose; a prefix of the bytes was then appended.
-pub fn write_all<K: Sink>(sink: &mut K, bytes: &[u8]) -> Result<(), WriteFault>
+// Writes all the bytes, as many at a call as the sink takes.
+#[inline(never)]
+fn write_rest<K: Sink>(sink: &mut K, bytes: &[u8]) -> Result<(), WriteFault>
     ensures ok { OnOk result (Appends (K.held sink.old) (K.held sink.new) bytes.now) }
     ensures err { OnErr result (AppendsFront (K.held sink.old) (K.held sink.new) bytes.now) }
     ensures cause { HasCause (K.faults sink.old) (K.faults sink.new) result }
@@ -54,4 +53,27 @@ pub fn write_all<K: Sink>(sink: &mut K, bytes: &[u8]) -> Result<(), WriteFault>
         }
     }
     Ok(())
+}
+
+/// Writes all the bytes.
+///
+/// `WriteFault` only where the sink's count of faults rose; a prefix of the bytes was then appended.
+#[inline(always)]
+pub fn write_all<K: Sink>(sink: &mut K, bytes: &[u8]) -> Result<(), WriteFault>
+    ensures ok { OnOk result (Appends (K.held sink.old) (K.held sink.new) bytes.now) }
+    ensures err { OnErr result (AppendsFront (K.held sink.old) (K.held sink.new) bytes.now) }
+    ensures cause { HasCause (K.faults sink.old) (K.faults sink.new) result }
+{
+    if bytes.is_empty() {
+        return Ok(());
+    }
+    // Mostly one write takes all.
+    let count = match sink.write(bytes) {
+        Ok(count) => count,
+        Err(Failed) => return Err(WriteFault),
+    };
+    if count == bytes.len() {
+        return Ok(());
+    }
+    write_rest(sink, &bytes[count..])
 }

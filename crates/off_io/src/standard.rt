@@ -1,8 +1,12 @@
 //! The edge to the system: std's readers and writers with a count of their errors.
 ghost use Rattle.std.specs.Prelude.{◌≡◌, None, false};
+ghost use Rattle.std.specs.Io.{ReadsAtMost};
+ghost use Rattle.std.specs.Io.KnownBytes.{ReadConsumes};
+ghost use Rattle.std.specs.Io.Buffered.{reader_remaining};
+ghost use Rattle.off_io.specs.Faults.{HasCause};
 
 use crate::{Failed, Sink, Source};
-use std::io::{Read, Write};
+use std::io::{BufRead, BufReader, Read, Write};
 use std::marker::Model;
 
 /// A reader of std. Each of its errors is a fault, an interrupted read too.
@@ -45,6 +49,68 @@ impl<R: Read> Source for StdSource<R> {
     }
 }
 
+/// A reader of std behind std's buffer. What lies in the buffer is had by a copy alone, without a result of std's; all
+/// else is as of [`StdSource`].
+#[derive(Drop)]
+pub struct BufferedSource<R> {
+    inner: BufReader<R>,
+    faults: u64,
+}
+
+impl<R> Model for BufferedSource<R> {
+    ghost use Rattle.std.specs.declared.io.buffered.BufReader.{BufReader};
+    ghost use Rattle.std.specs.declared.alloc.Global.{Global};
+    ghost use Rattle.off_io.specs.Edge.{Counting};
+
+    ghost Value = { Counting (BufReader R Global) };
+
+    ghost view = { λ s. record { inner = s.inner; faults = s.faults } };
+}
+
+impl<R: Read> BufferedSource<R> {
+    /// A source over a reader, with no fault yet.
+    pub fn new(inner: BufReader<R>) -> Self
+        ensures made { result ≡ record { inner = inner; faults = 0 } }
+    {
+        BufferedSource { inner, faults: 0 }
+    }
+
+    // It stands apart, so that the copy of what lies in the buffer is inlined.
+    #[inline(never)]
+    fn read_on(&mut self, into: &mut [u8]) -> Result<usize, Failed>
+        ensures bound { ReadsAtMost result into.new }
+        ensures bytes { ReadConsumes (reader_remaining R.remaining self.old.inner)
+            (reader_remaining R.remaining self.new.inner) result into.new }
+        ensures cause { HasCause self.old.faults self.new.faults result }
+    {
+        match self.inner.read(into) {
+            Ok(count) => Ok(count),
+            Err(_) => {
+                self.faults = self.faults.saturating_add(1);
+                Err(Failed)
+            }
+        }
+    }
+}
+
+impl<R: Read> Source for BufferedSource<R> {
+    ghost left = { λ s. reader_remaining R.remaining s.inner };
+
+    ghost faults = { λ s. s.faults };
+
+    #[inline(always)]
+    fn read(&mut self, into: &mut [u8]) -> Result<usize, Failed> {
+        let count = into.len();
+        let ahead = self.inner.buffer();
+        if count <= ahead.len() {
+            into.copy_from_slice(&ahead[..count]);
+            self.inner.consume(count);
+            return Ok(count);
+        }
+        self.read_on(into)
+    }
+}
+
 /// A writer of std. Each of its errors is a fault, and so is a write that takes nothing of a piece that isn't empty.
 #[derive(Drop)]
 pub struct StdSink<W> {
@@ -76,6 +142,7 @@ impl<W: Write> Sink for StdSink<W> {
 
     ghost faults = { λ s. s.faults };
 
+    #[inline(always)]
     fn write(&mut self, from: &[u8]) -> Result<usize, Failed> {
         match self.inner.write(from) {
             Ok(count) if count > 0 || from.is_empty() => Ok(count),

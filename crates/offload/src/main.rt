@@ -7,7 +7,7 @@
 //! system call for each header.
 #![tactic(auto)]
 
-use off_io::{NoGate, Sink, StdSink, StdSource};
+use off_io::{BufferedSource, NoGate, Sink, StdSink};
 use offload_run::{Status, run, write_log};
 use std::env;
 use std::io::{BufReader, BufWriter};
@@ -37,7 +37,7 @@ fn main(rt: HostRuntime) -> ExitCode {
     let Ok(output) = BufWriter::with_capacity(rt.alloc(), BUFFER, rt.stdout()) else {
         return no_memory(&mut log);
     };
-    let mut source = StdSource::new(input);
+    let mut source = BufferedSource::new(input);
     let mut sink = StdSink::new(output);
     let mut engine = None;
     let status = run(

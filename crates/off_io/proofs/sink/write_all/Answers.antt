@@ -1,16 +1,14 @@
-use Rattle.std.proofs.Common.{arith, length-drop, ◌≤◌, length, drop}
-use Rattle.std.proofs.lemmas.List.{take_rest}
-use Rattle.std.proofs.Common.{take}
-use Rattle.std.specs.Io.KnownBytes.{Appends}
-use Rattle.off_io.proofs.Pieces.{wrote_more}
+use Rattle.std.proofs.Common.{take, drop, subst}
+use Rattle.std.specs.Prelude.{OnErr}
+use Rattle.std.proofs.lemmas.List.{take-append-drop, take_rest}
+use Rattle.off_io.specs.Content.{AppendsFront}
+use Rattle.off_io.proofs.Owing.{then_err}
 use Rattle.off_io.proofs.sink.write_all.Goals as goal
 
-pub loop-at-preserved : goal.loop-at-preserved
-loop-at-preserved g c =
-    let bound : c.in-Ok.count ≤ length (drop c.loop-at.at c.args.bytes.now) = rw (← take_rest c.args.bytes.now c.loop-at.at) c.in-Ok.ensures.bound in
-    let wrote : Appends (g.K.Sink.held c.loop-at.sink) (g.K.Sink.held c.write.new.self) (take c.in-Ok.count (drop c.loop-at.at c.args.bytes.now)) = rw
-    (← take_rest c.args.bytes.now c.loop-at.at) c.in-Ok.ensures.bytes in (
-      omega (arith, length-drop c.loop-at.at c.args.bytes.now),
-      wrote_more _ _ _ _ _ _ c.loop-at.invariant.1 wrote,
-      omega (arith, c.in-Ok.ensures.cause.later),
-    )
+pub returns-clause-err : goal.returns-clause-err
+returns-clause-err g c =
+    let bytes = c.args.bytes.now in
+    let count = c.in-Ok.count in
+    subst (λ all. OnErr c.write_rest.result (AppendsFront (g.K.Sink.held c.args.sink.now) (g.K.Sink.held c.write_rest.new.sink) all))
+    (take-append-drop count bytes)
+    (then_err c.write_rest.result _ _ _ (take count bytes) (drop count bytes) c.in-Ok.ensures.bytes (rw (take_rest bytes count) at c.write_rest.ensures.err))
