@@ -1,7 +1,8 @@
 //! What refuses a header.
-ghost use Rattle.std.specs.Prelude.{◌≡◌, ◌≤◌, length};
+ghost use Rattle.std.specs.Prelude.{◌≡◌, ◌≤◌, ◌∷◌, [], length, nat_lt};
 ghost use Rattle.pcap_io.specs.Headers.{first_that_holds, head_refusals, file_refusals, captured_limit, link_number};
-ghost use Rattle.pcap_io.specs.Headers.{is_bad_original};
+ghost use Rattle.pcap_io.specs.Headers.{is_bad_original, lacks_off_head};
+ghost use Rattle.pcap_io.specs.declared.faults.CapKind.TheVariants.{TooLong, BadOriginal, BadOffload};
 
 use crate::heads::spelling;
 use crate::{CapKind, FRAME_LIMIT, Link, OFF_HEAD_LEN, OFF_HEAD2_LEN};
@@ -62,6 +63,19 @@ pub(crate) fn refuse_head(order: Order, link: Link, number: u64, head: &[u8]) ->
     }
     let captured = order.get32(&head[8..]);
     let original = order.get32(&head[12..]);
+    // The link is told apart once, and not at each test.
+    match link {
+        Link::Ethernet => refuse_lengths(Link::Ethernet, captured, original),
+        Link::Offload => refuse_lengths(Link::Offload, captured, original),
+    }
+}
+
+// Why these are no lengths of a record.
+#[inline(always)]
+fn refuse_lengths(link: Link, captured: u32, original: u32) -> Option<CapKind>
+    ensures refused { result ≡ first_that_holds ((nat_lt (captured_limit link) captured, TooLong)
+        ∷ (is_bad_original link original, BadOriginal) ∷ (lacks_off_head link captured, BadOffload) ∷ []) }
+{
     if captured > link.captured_limit() {
         return Some(CapKind::TooLong);
     }

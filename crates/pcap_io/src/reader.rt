@@ -208,6 +208,7 @@ impl<'s, S: Source> CaptureReader<'s, S> {
     ///
     /// Refused as `Cap` exactly where the input ends before `into` is full; what was left is then gone. `ReadFault`
     /// only where the source's count of faults rose; fewer bytes than `into` has are then gone.
+    #[inline(always)]
     pub fn read_body(&mut self, into: &mut [u8]) -> Result<(), InFault>
         requires room { length into.old ≤ (place_of self.old).body }
         ensures same_source { SameLoan self.old self.new }
