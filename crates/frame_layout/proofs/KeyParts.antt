@@ -1,10 +1,10 @@
 -- What receive side scaling reads of a frame's key is what its layers say.
-use Rattle.std.proofs.Common.{◌≡◌, ℕ, zero, suc, ◌+◌, ◌-◌, ◌*◌, ◌<◌, ◌≤◌, inl, inr, Bool, true, false, Option, Some, None, List, [], ◌∷◌, ◌++◌, length, take, drop, refl, sym, ap, ◌∙◌, subst, arith}
+use Rattle.std.proofs.Common.{◌≡◌, ℕ, zero, suc, ◌+◌, ◌-◌, ◌<◌, ◌≤◌, inl, inr, Bool, true, false, Option, Some, None, List, [], ◌∷◌, ◌++◌, length, take, drop, refl, sym, ap, ◌∙◌, subst, arith}
 use Rattle.std.proofs.Common.{length-drop}
-use Rattle.std.specs.Prelude.{◌==◌, ◌||◌, if◌then◌else◌, slice_index}
+use Rattle.std.specs.Prelude.{◌==◌, if◌then◌else◌, slice_index}
 use Rattle.std.specs.List.{flat_map}
 use Rattle.std.proofs.lemmas.List.{length-take, drop_more}
-use Rattle.std.proofs.lemmas.Bool.{or_cases, eqb-true, eq-eqb}
+use Rattle.std.proofs.lemmas.Bool.{or_cases, eqb-true}
 use Rattle.net_bytes.specs.Bytes.{byte, be16, part}
 use Rattle.eth_vlan.specs.Tag.{is_tag}
 use Rattle.ip_headers.specs.Ip4.{protocol}
@@ -14,29 +14,28 @@ use Rattle.vxlan.specs.Vxlan.{port}
 use Rattle.vxlan.specs.Gre.{flags as gre_flags}
 use Rattle.frame_layout.specs.Shape.{Layout, header, ip4_there, ip6_there, tcp_from, udp_from, carried_from, ip4_from, ip6_from, network_from, typed_from, ethernet_from, vxlan_from, gre_from}
 use Rattle.frame_layout.specs.Shape.{outer_from, shape_of}
-use Rattle.frame_layout.specs.Key.{flow_part, key_of}
+use Rattle.frame_layout.specs.Key.{flow_part}
 use Rattle.frame_layout.specs.Headers.{AtHeaders, IsThere}
-use Rattle.frame_layout.specs.Rss.{has_ports, ports_in, addresses_in, behind_ip, is_tag_mark, behind_tag, from_ip, rss_of, ports_of, rss_in, RssIsOfLayers}
+use Rattle.frame_layout.specs.Rss.{ports_in, addresses_in, behind_ip, is_tag_mark, behind_tag, from_ip, rss_of, ports_of, rss_in, RssIsOfLayers}
 use Rattle.frame_layout.specs.declared.layout.Header.{Header}
-use Rattle.frame_layout.specs.declared.layout.Layer.{Layer}
-use Rattle.frame_layout.specs.declared.layout.Layer.TheVariants.{Ethernet, Tag, Ip4, Ip6, Udp, Vxlan, Gre, KeyedGre, Tcp}
+use Rattle.frame_layout.specs.declared.layout.Layer.TheVariants.{Ethernet, Tag, Ip4, Ip6, Udp, Gre, KeyedGre, Tcp}
 use Rattle.frame_layout.proofs.Listed.{with_header, found}
 use Rattle.frame_layout.proofs.Bounds.{placed}
 use Rattle.frame_layout.proofs.Keys.{key_some}
 
-cut_take : (xs ys : List ℕ) (n : ℕ) → length xs ≡ n → take n (xs ++ ys) ≡ xs
+pub cut_take : (xs ys : List ℕ) (n : ℕ) → length xs ≡ n → take n (xs ++ ys) ≡ xs
 cut_take [] ys zero e = refl
 cut_take [] ys (suc n) e = absurd (omega (arith, e))
 cut_take (x ∷ xs) ys zero e = absurd (omega (arith, e))
 cut_take (x ∷ xs) ys (suc n) e = ap (λ (z : List ℕ). x ∷ z) (cut_take xs ys n (omega (arith, e)))
 
-cut_drop : (xs ys : List ℕ) (n : ℕ) → length xs ≡ n → drop n (xs ++ ys) ≡ ys
+pub cut_drop : (xs ys : List ℕ) (n : ℕ) → length xs ≡ n → drop n (xs ++ ys) ≡ ys
 cut_drop [] ys zero e = refl
 cut_drop [] ys (suc n) e = absurd (omega (arith, e))
 cut_drop (x ∷ xs) ys zero e = absurd (omega (arith, e))
 cut_drop (x ∷ xs) ys (suc n) e = cut_drop xs ys n (omega (arith, e))
 
-part_long : (f : List ℕ) (at n : ℕ) → at + n ≤ length f → length (part f at n) ≡ n
+pub part_long : (f : List ℕ) (at n : ℕ) → at + n ≤ length f → length (part f at n) ≡ n
 part_long f at n h = omega (arith, length-take n (drop at f), length-drop at f)
 
 -- what is read from an IP header on

@@ -5,7 +5,8 @@
 //! flow, and [`queue_of`] the flow's receive queue. [`candidate`] says whether the frame is a plain TCP segment with
 //! exact lengths, right sums and a payload (`candidate`, in both directions), and what is read of it: a [`Seg`]. It
 //! needs the front of the frame and the sum of the rest alone; [`candidate_in`] takes a layout that is known, and the
-//! payload's sum. No call takes memory. [`ip4_sum`] and [`carried_sum`] are the sums that headers before a payload
+//! payload's sum, and [`mergeable_leaf`] only reads them. [`is_flow_of`] compares the keys of two frames where their
+//! headers lie. No call takes memory. [`ip4_sum`] and [`carried_sum`] are the sums that headers before a payload
 //! carry, which is known by its own sum ([`Front`]): a judge compares them with the fields, and who fills in headers
 //! writes them.
 //!
@@ -19,8 +20,9 @@
 //!
 //! Its parts: `layout` (the type), `read` (shape), `flow` (the key), `queue` (key and queue of a frame), `front` and
 //! `sums` (a frame known by its first bytes and a sum), `candidates` (candidate), `segment` (what is read of a
-//! candidate), `choice` (the queue by a choice), `rss`, `toeplitz_hash` and `hash_key` (what receive side scaling
-//! hashes, and its hash bit by bit and by tables), `plain` (the headers that most frames have), `laws`. Its proofs
+//! candidate), `same_flow` (whether two frames are of one flow), `choice` (the queue by a choice), `rss`,
+//! `toeplitz_hash` and `hash_key` (what receive side scaling hashes, and its hash bit by bit and by tables), `plain`
+//! (the headers that most frames have), `laws`. Its proofs
 //! stand on two tables that compute: `Clear` (which bytes lie outside which fields of a header) and `Listed` (the 132
 //! lists of headers that a shape may have).
 //!
@@ -36,7 +38,8 @@
 //!   `candidate` is that: who sums the payload for another reason reads its bytes once. Both read the layout by a
 //!   reference and put it into the description at the end (`mergeable_leaf`): a layout of 40 bytes that is handed from
 //!   call to call is copied at each, and each copy's room is set to zero first, since it has padding. `candidate_in`
-//!   itself is inlined, so that the layout goes from its caller straight into the description.
+//!   itself is inlined, so that the layout goes from its caller straight into the description. `mergeable_leaf` is for
+//!   who has a layout that others have too, as that of a run.
 //! - **The first 200 bytes tell the flow** (`front` of `key`), and `key_behind` takes a layout that is known, so that
 //!   the headers of a packet that may be merged are walked once.
 //! - **The fields that may differ are one table**, `varying`, as the pictures of the headers have them: what lies
@@ -54,7 +57,11 @@
 //!   TCP or UDP header directly behind it, is a law over a frame's layers (`rss_is_of_layers`).
 //! - **Ethernet without tags, IPv4 or IPv6, and TCP lie at fixed places** (`plain`): such frames are judged, and their
 //!   keys put together, by the same functions as others, called with headers that the compiler knows. So no place is
-//!   checked and no list walked, and no proof is wanted but that the list is this one (`plain` of `are_plain`).
+//!   checked and no list walked, and no proof is wanted but that the list is this one (`plain` of `are_plain`). A
+//!   layout keeps which list it has, so that it is asked once, and `shape` looks there first: five tests, and the list
+//!   is a constant.
+//! - **Two frames are of one flow where the places of their keys hold the same** (`is_flow_of`): 24 bytes are compared
+//!   where both have the plain headers, and no key of 120 bytes is made. Other keys are made and compared.
 //! - **What isn't read needs no premise.** Neither shape nor key asks that the bytes behind the first 200 are bytes
 //!   (`IsHeadOf`), so a packet that was cut short or has no shape is judged without a look at its payload.
 #![tactic(auto)]
@@ -70,11 +77,12 @@ mod plain;
 mod queue;
 mod read;
 mod rss;
+mod same_flow;
 pub mod segment;
 mod sums;
 mod toeplitz_hash;
 
-pub use candidates::{candidate, candidate_in, ip6_length};
+pub use candidates::{candidate, candidate_in, ip6_length, mergeable_leaf};
 pub use choice::{Choice, even_table, queue_by};
 pub use flow::Key;
 pub use front::Front;
@@ -87,6 +95,7 @@ pub use plain::{ETHERNET, IP, IP6, TCP, TCP6, are_plain, are_plain6};
 pub use queue::{key, key_behind, queue_of};
 pub use read::shape;
 pub use rss::rss_input;
-pub use segment::{Leaf, Seg};
+pub use same_flow::is_flow_of;
+pub use segment::{Leaf, LeafFields, Seg};
 pub use sums::{carried_sum, ip4_sum};
 pub use toeplitz_hash::{hash_has_bits, hash_is_linear, toeplitz};

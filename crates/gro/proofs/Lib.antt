@@ -2,6 +2,7 @@ mod Chains
 mod Comes
 mod Emptying
 mod Flowing
+mod Hashing
 mod Following
 mod Indexing
 mod Joined

@@ -1,5 +1,5 @@
 -- The packets of a list, each at its index, and those of its runs.
-use Rattle.std.proofs.Common.{◌≡◌, ℕ, zero, suc, ◌+◌, ◌<◌, ◌≤◌, Option, Some, List, [], ◌∷◌, ◌++◌, length, get_or, map, refl, sym, ap, ◌∙◌, subst, arith, length-append}
+use Rattle.std.proofs.Common.{◌≡◌, ℕ, zero, suc, ◌+◌, ◌<◌, ◌≤◌, Option, Some, None, List, [], ◌∷◌, ◌++◌, length, get_or, map, refl, sym, ap, ◌∙◌, subst, arith, length-append}
 use Rattle.std.specs.List.{AllByRecursion, flat_map}
 use Rattle.std.proofs.lemmas.List.{length-map, get_or_append_left, nil_from_length}
 use Rattle.maximal_runs.proofs.Pass.{all_append}
@@ -14,12 +14,13 @@ use Rattle.gro.specs.Held.{packet_of, AreHeld, IsHeld, count_of, counts_of}
 use Rattle.gro.specs.Slots.{packet_of as packet_in, AreHeld as AreSlots, with_spares, whole, held_of}
 use Rattle.gro.specs.Chains.{behind, indices, packet_at, no_packet, run_of, index_sum, index_sums, sum_below, mark}
 use Rattle.gro.specs.Engine.{Knows, IsChain, runs_of, AreRuns}
-use Rattle.gro.specs.Index.{IsIndexOf, IsLatest}
+use Rattle.gro.specs.Index.{IsFound, IsIndexOf, IsLatest}
 use Rattle.gro.specs.Flows.{place_of}
 use Rattle.gro.specs.Totals.{total, totals}
 use Rattle.gro.specs.Waiting.{found, chosen, AreThere, held_at, IsRun, AreWaiting, lined_up, run_held, held_in, AreTogether}
 use Rattle.gro.proofs.Chains.{once, absent, sum_flat, sum_shift, sum_ones}
 use Rattle.gro.proofs.Emptying.{found_out}
+use Rattle.gro.proofs.Flowing.{flows_more, place_more}
 
 -- ---- slots and their spares
 
@@ -232,6 +233,11 @@ module _ (l : PacketList) (e : Engine) (a : AreTogether l e) where
 
 -- ---- the list has one packet more
 
+latest_same : (look again : Option (List ℕ) → Option ℕ) → ((q : Option (List ℕ)) → again q ≡ look q) → (rs : List (List Packet)) (o : Option ℕ)
+    → IsLatest look rs o → IsLatest again rs o
+latest_same look again same rs None l = tt
+latest_same look again same rs (Some i) l = (l.0, λ q b. same q ∙ l.1 q b)
+
 module _ (ps : List Packet) (x : Packet) (i : ℕ) (e : Engine) (a : AreRuns ps i e) where
   abbrev links : List ℕ
   links = e.next.items
@@ -275,7 +281,10 @@ module _ (ps : List Packet) (x : Packet) (i : ℕ) (e : Engine) (a : AreRuns ps 
     each = chains_more e.runs.items a.each;
     shared = a.shared;
     linked = omega (arith, h, length-append ps (x ∷ []));
-    flows = a.flows;
-    index = subst (IsIndexOf (place_of e.flows)) (sym runs_stay) a.index;
-    latest = subst (λ (z : List (List Packet)). IsLatest (place_of e.flows) z e.last) (sym runs_stay) a.latest;
+    flows = flows_more ps x e.flows a.flows;
+    index = λ q.
+        let t = subst (IsIndexOf (place_of ps e.flows)) (sym runs_stay) a.index q in
+        (t.0, (t.1.0, subst (λ (z : Option ℕ). IsFound (runs_of (ps ++ (x ∷ [])) e) t.0 z) (sym (place_more ps x e.flows a.flows q)) t.1.1));
+    latest = latest_same (place_of ps e.flows) (place_of (ps ++ (x ∷ [])) e.flows) (place_more ps x e.flows a.flows) (runs_of (ps ++ (x ∷ [])) e) e.last
+        (subst (λ (z : List (List Packet)). IsLatest (place_of ps e.flows) z e.last) (sym runs_stay) a.latest);
   }

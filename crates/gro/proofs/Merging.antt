@@ -251,9 +251,9 @@ module _ (ps : List Packet) (i place : ℕ) (a b : Engine) (old new : Run) (runs
 -- ---- and its flow finds it as long as it is open
 
 module _ (segs : ℕ) (ps : List Packet) (i place : ℕ) (is_open : Bool) (a b : Engine) (found_at : Flows) (runs : AreRuns ps i a) (inside : place < length a.runs.items)
-    (g : Grows ps i place is_open a b) (key : Option (List ℕ)) (k : key_of (packet_at ps i).frame ≡ key) (found : place_of a.flows key ≡ Some place)
-    (m : IsMergeableWithin segs (get_or (runs_of ps a) place [] ++ (packet_at ps i ∷ []))) (flows : AreFlows found_at)
-    (puts : Puts a.flows key (if is_open then Some place else None) found_at)
+    (g : Grows ps i place is_open a b) (key : Option (List ℕ)) (k : key_of (packet_at ps i).frame ≡ key) (found : place_of ps a.flows key ≡ Some place)
+    (m : IsMergeableWithin segs (get_or (runs_of ps a) place [] ++ (packet_at ps i ∷ []))) (flows : AreFlows ps found_at)
+    (puts : Puts ps a.flows key (if is_open then Some place else None) found_at)
     (room : (n : ℕ) → HasRoom a.flows (n + 1) → HasRoom found_at n) where
   abbrev after : Engine
   after = record { runs = b.runs; next = b.next; flows = found_at; last = (if is_open then Some place else None) }
@@ -265,7 +265,7 @@ module _ (segs : ℕ) (ps : List Packet) (i place : ℕ) (is_open : Bool) (a b :
   long = omega (arith, inside, length-map a.runs.items (run_of ps a.next.items))
 
   last : IsLastBelow (begins_in (is_of key)) (runs_of ps a) (length (runs_of ps a)) (Some place)
-  last = found_last (place_of a.flows) (runs_of ps a) key place runs.index found
+  last = found_last (place_of ps a.flows) (runs_of ps a) key place runs.index found
 
   now_there : get_or (runs_of ps b) place [] ≡ run ++ (packet_at ps i ∷ [])
   now_there = ap (λ (z : List (List Packet)). get_or z place []) g.runs ∙ get_or-set_same (runs_of ps a) place (run ++ (packet_at ps i ∷ [])) [] long
@@ -281,15 +281,15 @@ module _ (segs : ℕ) (ps : List Packet) (i place : ℕ) (is_open : Bool) (a b :
       shared = g.shared;
       linked = omega (arith, runs.linked, g.linked);
       flows = flows;
-      index = subst (IsIndexOf (place_of found_at)) (sym g.runs)
-          (index_grows (place_of a.flows) (runs_of ps a) key place run (packet_at ps i) runs.index found refl (place_of found_at) is_open puts g.shut);
-      latest = latest_of (place_of found_at) (runs_of ps b) key place is_open
+      index = subst (IsIndexOf (place_of ps found_at)) (sym g.runs)
+          (index_grows (place_of ps a.flows) (runs_of ps a) key place run (packet_at ps i) runs.index found refl (place_of ps found_at) is_open puts g.shut);
+      latest = latest_of (place_of ps found_at) (runs_of ps b) key place is_open
           (omega (arith, long, ap length g.runs, length-set (runs_of ps a) place (run ++ (packet_at ps i ∷ []))))
           (ap (begins_in (is_of key)) now_there ∙ begins_more run (last.1 []))
-          (puts key ∙ ap (λ (b : Bool). if b then (if is_open then Some place else None) else place_of a.flows key) (keys_equiv.refl key));
+          (puts key ∙ ap (λ (b : Bool). if b then (if is_open then Some place else None) else place_of ps a.flows key) (keys_equiv.refl key));
     };
     takes = subst (TakesPacket segs (runs_of ps a) (packet_at ps i)) (sym g.runs)
-        (takes_grows (place_of a.flows) (runs_of ps a) key place run (packet_at ps i) runs.index found refl segs k m);
+        (takes_grows (place_of ps a.flows) (runs_of ps a) key place run (packet_at ps i) runs.index found refl segs k m);
     early = subst (KeepsEarly (runs_of ps a) (packet_at ps i)) (sym g.runs) (early_grows (runs_of ps a) key place (packet_at ps i) run refl last);
     linked = g.linked;
     places = λ n h. (omega (arith, h.0, g.room.0, g.room.1), room n h.1);
@@ -342,17 +342,17 @@ module _ (segs : ℕ) (ps : List Packet) (i : ℕ) (a b : Engine) (item : Run) (
       ap (index_sums f) chains ∙ totals_push f (chains_of a) i ∙ ap (λ (z : ℕ). z + f i) (runs.shared f)
       ∙ ap (sum_below f) (let s : suc i ≡ i + 1 = omega arith in s)
 
-  opened_by : AreFlows b.flows → IsIndexOf (place_of b.flows) (runs_of ps a ++ ((x ∷ []) ∷ []))
+  opened_by : AreFlows ps b.flows → IsIndexOf (place_of ps b.flows) (runs_of ps a ++ ((x ∷ []) ∷ []))
       → TakesPacket segs (runs_of ps a) x (runs_of ps a ++ ((x ∷ []) ∷ []))
-      → IsLatest (place_of b.flows) (runs_of ps a ++ ((x ∷ []) ∷ [])) b.last → Takes segs ps i a b
+      → IsLatest (place_of ps b.flows) (runs_of ps a ++ ((x ∷ []) ∷ [])) b.last → Takes segs ps i a b
   opened_by flows index takes latest = record {
     runs = record {
       each = each;
       shared = shared;
       linked = omega (arith, runs.linked, ap (λ z. length z.items) next);
       flows = flows;
-      index = subst (IsIndexOf (place_of b.flows)) (sym packets) index;
-      latest = subst (λ (z : List (List Packet)). IsLatest (place_of b.flows) z b.last) (sym packets) latest;
+      index = subst (IsIndexOf (place_of ps b.flows)) (sym packets) index;
+      latest = subst (λ (z : List (List Packet)). IsLatest (place_of ps b.flows) z b.last) (sym packets) latest;
     };
     takes = subst (TakesPacket segs (runs_of ps a) x) (sym packets) takes;
     early = subst (KeepsEarly (runs_of ps a) x) (sym packets) (λ n a' b'. all_append (λ run. first_number number_of run < n) (runs_of ps a) ((x ∷ []) ∷ []) a' (b', tt));
@@ -361,39 +361,39 @@ module _ (segs : ℕ) (ps : List Packet) (i : ℕ) (a b : Engine) (item : Run) (
   }
 
   opens_at : (key : Option (List ℕ)) (j : ℕ) (is_open : Bool) → key_of x.frame ≡ key
-      → j ≡ length a.runs.items → AreFlows b.flows
-      → Puts a.flows key (if is_open then Some j else None) b.flows → (is_open ≡ false → IsShut (x ∷ []))
-      → ((l : ℕ) → place_of a.flows key ≡ Some l → IsMergeableWithin segs (get_or (runs_of ps a) l [] ++ (x ∷ [])) → ⊥)
-      → IsLatest (place_of b.flows) (runs_of ps a ++ ((x ∷ []) ∷ [])) b.last → Takes segs ps i a b
+      → j ≡ length a.runs.items → AreFlows ps b.flows
+      → Puts ps a.flows key (if is_open then Some j else None) b.flows → (is_open ≡ false → IsShut (x ∷ []))
+      → ((l : ℕ) → place_of ps a.flows key ≡ Some l → IsMergeableWithin segs (get_or (runs_of ps a) l [] ++ (x ∷ [])) → ⊥)
+      → IsLatest (place_of ps b.flows) (runs_of ps a ++ ((x ∷ []) ∷ [])) b.last → Takes segs ps i a b
   opens_at key j is_open k e flows puts shut not latest = opened_by flows
-      (index_opens (place_of a.flows) (place_of b.flows) (runs_of ps a) x key runs.index k j is_open
+      (index_opens (place_of ps a.flows) (place_of ps b.flows) (runs_of ps a) x key runs.index k j is_open
       (e ∙ sym (length-map a.runs.items (run_of ps a.next.items))) puts shut)
-      (takes_opens (place_of a.flows) (place_of b.flows) (runs_of ps a) x key runs.index k segs not)
+      (takes_opens (place_of ps a.flows) (place_of ps b.flows) (runs_of ps a) x key runs.index k segs not)
       latest
 
   latest_opened : (key : Option (List ℕ)) (j : ℕ) (is_open : Bool) → key_of x.frame ≡ key
-      → j ≡ length a.runs.items → Puts a.flows key (if is_open then Some j else None) b.flows
-      → b.last ≡ (if is_open then Some j else None) → IsLatest (place_of b.flows) (runs_of ps a ++ ((x ∷ []) ∷ [])) b.last
+      → j ≡ length a.runs.items → Puts ps a.flows key (if is_open then Some j else None) b.flows
+      → b.last ≡ (if is_open then Some j else None) → IsLatest (place_of ps b.flows) (runs_of ps a ++ ((x ∷ []) ∷ [])) b.last
   latest_opened key j is_open k e puts last =
       let n : j ≡ length (runs_of ps a) = e ∙ sym (length-map a.runs.items (run_of ps a.next.items)) in
-      subst (IsLatest (place_of b.flows) (runs_of ps a ++ ((x ∷ []) ∷ []))) (sym last)
-      (latest_of (place_of b.flows) (runs_of ps a ++ ((x ∷ []) ∷ [])) key j is_open
+      subst (IsLatest (place_of ps b.flows) (runs_of ps a ++ ((x ∷ []) ∷ []))) (sym last)
+      (latest_of (place_of ps b.flows) (runs_of ps a ++ ((x ∷ []) ∷ [])) key j is_open
       (omega (arith, n, length-append (runs_of ps a) ((x ∷ []) ∷ [])))
       (ap (begins_in (is_of key)) (get_or_push (runs_of ps a) (x ∷ []) [] j (sym n)) ∙ ap (is_key key) k ∙ is_key_self key)
-      (puts key ∙ ap (λ (b : Bool). if b then (if is_open then Some j else None) else place_of a.flows key) (keys_equiv.refl key)))
+      (puts key ∙ ap (λ (b : Bool). if b then (if is_open then Some j else None) else place_of ps a.flows key) (keys_equiv.refl key)))
 
-  pub opens_run : (key : Option (List ℕ)) (j : ℕ) → key_of x.frame ≡ key → j ≡ length a.runs.items → AreFlows b.flows
-      → Puts a.flows key (if item.progress.is_open then Some j else None) b.flows
-      → ((l : ℕ) → place_of a.flows key ≡ Some l → IsMergeableWithin segs (get_or (runs_of ps a) l [] ++ (x ∷ [])) → ⊥)
+  pub opens_run : (key : Option (List ℕ)) (j : ℕ) → key_of x.frame ≡ key → j ≡ length a.runs.items → AreFlows ps b.flows
+      → Puts ps a.flows key (if item.progress.is_open then Some j else None) b.flows
+      → ((l : ℕ) → place_of ps a.flows key ≡ Some l → IsMergeableWithin segs (get_or (runs_of ps a) l [] ++ (x ∷ [])) → ⊥)
       → b.last ≡ (if item.progress.is_open then Some j else None) → Takes segs ps i a b
   opens_run key j k e flows puts not last =
       opens_at key j item.progress.is_open k e flows puts (λ s. shut_item item x [] knows s) not
       (latest_opened key j item.progress.is_open k e puts last)
 
   -- the same of a packet by another name
-  pub begins_run : (y : Packet) (key : Option (List ℕ)) (j : ℕ) → x ≡ y → key_of y.frame ≡ key → j ≡ length a.runs.items → AreFlows b.flows
-      → Puts a.flows key (if item.progress.is_open then Some j else None) b.flows
-      → ((l : ℕ) → place_of a.flows key ≡ Some l → IsMergeableWithin segs (get_or (runs_of ps a) l [] ++ (y ∷ [])) → ⊥)
+  pub begins_run : (y : Packet) (key : Option (List ℕ)) (j : ℕ) → x ≡ y → key_of y.frame ≡ key → j ≡ length a.runs.items → AreFlows ps b.flows
+      → Puts ps a.flows key (if item.progress.is_open then Some j else None) b.flows
+      → ((l : ℕ) → place_of ps a.flows key ≡ Some l → IsMergeableWithin segs (get_or (runs_of ps a) l [] ++ (y ∷ [])) → ⊥)
       → b.last ≡ (if item.progress.is_open then Some j else None) → Takes segs ps i a b
   begins_run y key j e k n flows puts not last =
       opens_run key j (ap (λ (z : Packet). key_of z.frame) e ∙ k) n flows puts
@@ -408,14 +408,14 @@ module _ (segs : ℕ) (ps : List Packet) (i : ℕ) (a b : Engine) (item : Run) (
   ]
 
   -- a packet that no other joins, of a flow that finds nothing
-  pub opens_alone : place_of a.flows (key_of x.frame) ≡ None → IsShut (x ∷ []) → b.flows ≡ a.flows → b.last ≡ None → Takes segs ps i a b
+  pub opens_alone : place_of ps a.flows (key_of x.frame) ≡ None → IsShut (x ∷ []) → b.flows ≡ a.flows → b.last ≡ None → Takes segs ps i a b
   opens_alone none shut e last =
       let key : Option (List ℕ) = key_of x.frame in
-      opens_at key (length a.runs.items) false refl refl (subst AreFlows (sym e) runs.flows)
-      (λ q. ap (λ z. place_of z q) e ∙ keeps_none (place_of a.flows) key q none)
+      opens_at key (length a.runs.items) false refl refl (subst (AreFlows ps) (sym e) runs.flows)
+      (λ q. ap (λ z. place_of ps z q) e ∙ keeps_none (place_of ps a.flows) key q none)
       (λ s. shut)
       (λ l g m. let t : None ≡ Some l = sym none ∙ g in absurd cc)
-      (subst (IsLatest (place_of b.flows) (runs_of ps a ++ ((x ∷ []) ∷ []))) (sym last) tt)
+      (subst (IsLatest (place_of ps b.flows) (runs_of ps a ++ ((x ∷ []) ∷ []))) (sym last) tt)
 
 -- a packet that is no candidate is followed by none
 pub alone_shut : (p : Packet) → IsNoCandidate p.frame p.original → IsShut (p ∷ [])
@@ -428,31 +428,31 @@ pub slot_at : (xs : List Slot) (k : ℕ) (p : Slot) → k < length xs → p ≡ 
 slot_at xs k p h e = get_or-map packet_of xs k p (packet_at [] 0) h ∙ ap packet_of (sym e)
 
 -- a run that is found is one of them
-pub found_inside : (ps : List Packet) (a : Engine) (key : Option (List ℕ)) (place : ℕ) → IsIndexOf (place_of a.flows) (runs_of ps a) → place_of a.flows key ≡ Some place
+pub found_inside : (ps : List Packet) (a : Engine) (key : Option (List ℕ)) (place : ℕ) → IsIndexOf (place_of ps a.flows) (runs_of ps a) → place_of ps a.flows key ≡ Some place
     → place < length a.runs.items
 found_inside ps a key place index found =
-    omega (arith, (found_last (place_of a.flows) (runs_of ps a) key place index found).0, length-map a.runs.items (run_of ps a.next.items))
+    omega (arith, (found_last (place_of ps a.flows) (runs_of ps a) key place index found).0, length-map a.runs.items (run_of ps a.next.items))
 
 -- a run that has taken a packet, and the flows behind it
 pub taken_by : (segs : ℕ) (ps : List Packet) (i place : ℕ) (is_open : Bool) (a b : Engine) (f : Flows) (runs : AreRuns ps i a) (inside : place < length a.runs.items)
-    (g : Grows ps i place is_open a b) (x : Packet) → packet_at ps i ≡ x → (key : Option (List ℕ)) → key_of x.frame ≡ key → place_of a.flows key ≡ Some place
+    (g : Grows ps i place is_open a b) (x : Packet) → packet_at ps i ≡ x → (key : Option (List ℕ)) → key_of x.frame ≡ key → place_of ps a.flows key ≡ Some place
     → IsMergeableWithin segs (get_or (runs_of ps a) place [] ++ (x ∷ [])) → (now : Option ℕ) → now ≡ (if is_open then Some place else None)
-    → AreFlows f → Puts b.flows key (if is_open then Some place else None) f → ((n : ℕ) → HasRoom b.flows (n + 1) → HasRoom f n)
+    → AreFlows ps f → Puts ps b.flows key (if is_open then Some place else None) f → ((n : ℕ) → HasRoom b.flows (n + 1) → HasRoom f n)
     → Takes segs ps i a (record { runs = b.runs; next = b.next; flows = f; last = now })
 taken_by segs ps i place is_open a b f runs inside g x ex key k found m now el flows puts room =
     subst (λ (z : Option ℕ). Takes segs ps i a (record { runs = b.runs; next = b.next; flows = f; last = z })) (sym el)
     (taken segs ps i place is_open a b f runs inside g key (ap (λ (z : Packet). key_of z.frame) ex ∙ k) found
     (subst (λ z. IsMergeableWithin segs (get_or (runs_of ps a) place [] ++ (z ∷ []))) (sym ex) m) flows
-    (subst (λ (z : Flows). Puts z key (if is_open then Some place else None) f) g.flows puts)
+    (subst (λ (z : Flows). Puts ps z key (if is_open then Some place else None) f) g.flows puts)
     (subst (λ (z : Flows). (n : ℕ) → HasRoom z (n + 1) → HasRoom f n) g.flows room))
 
 pub latest_inside : (ps : List Packet) (i : ℕ) (a : Engine) (place : ℕ) → AreRuns ps i a → a.last ≡ Some place → place < length a.runs.items
 latest_inside ps i a place runs e =
-    omega (arith, (subst (IsLatest (place_of a.flows) (runs_of ps a)) e runs.latest).0, length-map a.runs.items (run_of ps a.next.items))
+    omega (arith, (subst (IsLatest (place_of ps a.flows) (runs_of ps a)) e runs.latest).0, length-map a.runs.items (run_of ps a.next.items))
 
 pub latest_finds : (ps : List Packet) (i : ℕ) (a : Engine) (place : ℕ) → AreRuns ps i a → a.last ≡ Some place → (q : Option (List ℕ))
-    → begins_in (is_of q) (get_or (runs_of ps a) place []) ≡ true → place_of a.flows q ≡ Some place
-latest_finds ps i a place runs e q b = (subst (IsLatest (place_of a.flows) (runs_of ps a)) e runs.latest).1 q b
+    → begins_in (is_of q) (get_or (runs_of ps a) place []) ≡ true → place_of ps a.flows q ≡ Some place
+latest_finds ps i a place runs e q b = (subst (IsLatest (place_of ps a.flows) (runs_of ps a)) e runs.latest).1 q b
 
 -- ---- all packets of a list
 
@@ -509,22 +509,23 @@ ready_received segs ps n e r h =
         each = subst (AllByRecursion (IsChain ps e.next.items)) (sym r.none) tt;
         shared = λ f. ap (λ (z : List Run). index_sums f (map (indices e.next.items) z)) r.none;
         linked = omega (arith, h, r.linked);
-        flows = r.flows;
-        index = subst (IsIndexOf (place_of e.flows)) (sym none) (index_none (place_of e.flows) r.nothing);
-        latest = subst (IsLatest (place_of e.flows) (runs_of ps e)) (sym r.last) tt;
+        flows = r.flows ps;
+        index = subst (IsIndexOf (place_of ps e.flows)) (sym none) (index_none (place_of ps e.flows) (r.nothing ps));
+        latest = subst (IsLatest (place_of ps e.flows) (runs_of ps e)) (sym r.last) tt;
       };
       runs = subst (AreItems (IsMergeableWithin segs) is_of number_of []) (sym none) (none_yet segs);
       early = λ n' a. subst (AllByRecursion (λ run. first_number number_of run < n')) (sym none) tt;
     }
 
 -- an engine without runs, with other places
-pub ready_again : (a b : Engine) (m n : ℕ) → IsReady a m → b.runs.items ≡ a.runs.items → n ≤ length b.next.items → AreFlows b.flows
-    → ((q : Option (List ℕ)) → place_of b.flows q ≡ place_of a.flows q) → b.last ≡ a.last → HasPlaces b n → IsReady b n
+pub ready_again : (a b : Engine) (m n : ℕ) → IsReady a m → b.runs.items ≡ a.runs.items → n ≤ length b.next.items
+    → ((ps : List Packet) → AreFlows ps b.flows)
+    → ((ps : List Packet) (q : Option (List ℕ)) → place_of ps b.flows q ≡ place_of ps a.flows q) → b.last ≡ a.last → HasPlaces b n → IsReady b n
 ready_again a b m n r runs linked flows same last places = record {
   none = runs ∙ r.none;
   linked = linked;
   flows = flows;
-  nothing = λ q. same q ∙ r.nothing q;
+  nothing = λ ps q. same ps q ∙ r.nothing ps q;
   last = last ∙ r.last;
   places = places;
 }

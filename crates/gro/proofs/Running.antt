@@ -1,5 +1,6 @@
 -- What a run has come to, and the heads of its first packet and of the next.
 use Rattle.std.proofs.Common.{◌≡◌, ℕ, ◌+◌, ◌≤◌, Some, None, Option, List, ◌∷◌, length, sym, ap, ◌∙◌, arith}
+use Rattle.std.specs.Prelude.{IfSome}
 use Rattle.std.proofs.lemmas.List.{get_or_append_left}
 use Rattle.frags.specs.PieceList.{bytes_of}
 use Rattle.net_bytes.specs.Bytes.{byte}
@@ -48,3 +49,8 @@ module _ (item : Run) (first : Slot) (rest : List Packet) (layout : Layout) (is 
 
   pub first_in_head : (n : ℕ) → n ≡ head_size first.skb → layout.payload_at ≤ n
   first_in_head n e = in_head first layout.payload_at n slot sums.2 (within (buffer_bytes first.skb) layout known.shape) e
+
+-- what holds where there is something
+pub if_some : {A : Type 0} (P Q : A → Type 0) (o : Option A) → ((a : A) → P a → Q a) → IfSome o P → IfSome o Q
+if_some P Q None f h = tt
+if_some P Q (Some a) f h = f a h

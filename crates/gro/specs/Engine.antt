@@ -7,7 +7,9 @@ use Rattle.maximal_runs.specs.Items.{first_number, AreItems}
 use Rattle.pcap_io.specs.Capture.{Packet}
 use Rattle.offload_model.specs.Mergeable.{IsMergeable, IsMergeableWithin}
 use Rattle.offload_model.specs.Rounds.{is_of, number_of}
-use Rattle.merge_rule.specs.Runs.{IsRunBy}
+use Rattle.inet_sum.specs.Stands.{FoldAndLength}
+use Rattle.frame_layout.specs.Shape.{Layout}
+use Rattle.merge_rule.specs.Runs.{IsRunBy, IsJudged}
 use Rattle.merge_rule.specs.Steps.{TakesPacket, KeepsEarly}
 use Rattle.gro.specs.declared.run.Run.{Run}
 use Rattle.gro.specs.declared.engine.Engine.{Engine}
@@ -28,6 +30,10 @@ KnowsSome run p = (rest : List Packet) × Knows run p rest
 abbrev pub TakesOne : Run → Packet → Packet → Type 0
 TakesOne run p x = (rest : List Packet) × (Knows run p rest × IsMergeable ((p ∷ rest) ++ (x ∷ [])))
 
+-- what a packet adds to a run is the sum of its payload, and its control bits
+abbrev pub IsAdded : List ℕ → ℕ → FoldAndLength → ℕ → Type 0
+IsAdded f original sum bits = (found : Option Layout) × IsJudged f original found sum bits
+
 -- a run of a list of packets: its indices are those of packets, the last one is its last, and it has come to these
 pub record IsChain (ps : List Packet) (next : List ℕ) (run : Run) : Type 0 where
   pub knows : Knows run (packet_at ps run.first) (map (packet_at ps) (behind next run))
@@ -46,9 +52,9 @@ pub record AreRuns (ps : List Packet) (i : ℕ) (e : Engine) : Type 0 where
   pub each : AllByRecursion (IsChain ps e.next.items) e.runs.items
   pub shared : AreSharedOut i (chains_of e)
   pub linked : length ps ≤ length e.next.items
-  pub flows : AreFlows e.flows
-  pub index : IsIndexOf (place_of e.flows) (runs_of ps e)
-  pub latest : IsLatest (place_of e.flows) (runs_of ps e) e.last
+  pub flows : AreFlows ps e.flows
+  pub index : IsIndexOf (place_of ps e.flows) (runs_of ps e)
+  pub latest : IsLatest (place_of ps e.flows) (runs_of ps e) e.last
 
 -- the run at a place has taken packet i; `is_open` says whether another may follow
 pub record Grows (ps : List Packet) (i place : ℕ) (is_open : Bool) (a b : Engine) : Type 0 where
@@ -68,8 +74,8 @@ HasPlaces e n = (vec_len e.runs + n ≤ vec_capacity e.runs) × HasRoom e.flows 
 pub record IsReady (e : Engine) (n : ℕ) : Type 0 where
   pub none : e.runs.items ≡ []
   pub linked : n ≤ length e.next.items
-  pub flows : AreFlows e.flows
-  pub nothing : (q : Option (List ℕ)) → place_of e.flows q ≡ None
+  pub flows : (ps : List Packet) → AreFlows ps e.flows
+  pub nothing : (ps : List Packet) (q : Option (List ℕ)) → place_of ps e.flows q ≡ None
   pub last : e.last ≡ None
   pub places : HasPlaces e n
 

@@ -1,6 +1,6 @@
 //! Merging over a list of packets, by index.
 ghost use Rattle.std.specs.Prelude.{◌≡◌, ◌+◌, ◌<◌, ◌^◌, ◌++◌, ◌∷◌, [], Option, Some, None, ℕ, List, true, length};
-ghost use Rattle.std.specs.Prelude.{IsTrue, map, OnOk, IfOk, slice_index_or, if◌then◌else◌};
+ghost use Rattle.std.specs.Prelude.{IsTrue, map, OnOk, IfOk, IfSome, slice_index_or, if◌then◌else◌};
 ghost use Rattle.std.specs.List.{AllByRecursion};
 ghost use Rattle.std.specs.Bool.{Decides};
 ghost use Rattle.maximal_runs.specs.Items.{begins_in};
@@ -10,14 +10,16 @@ ghost use Rattle.offload_model.specs.Rounds.{is_of, runs_in};
 ghost use Rattle.merge_rule.specs.Runs.{IsJudged, IsNoCandidate};
 ghost use Rattle.skb.specs.SkbState.{buffer_bytes};
 ghost use Rattle.gro.specs.Slots.{packet_of, IsHeld, AreHeld, IsHere};
-ghost use Rattle.gro.specs.Flows.{place_of, AreFlows, Puts, HasRoom};
-ghost use Rattle.gro.specs.Engine.{IsChain, runs_of, AreRuns, HasPlaces, Grows, Takes, DoRise, IsReady};
+ghost use Rattle.pcap_io.specs.Capture.{Packet};
+ghost use Rattle.gro.specs.Chains.{packet_at};
+ghost use Rattle.gro.specs.Flows.{hash_of, place_of, AreFlows, Puts, HasRoom};
+ghost use Rattle.gro.specs.Engine.{IsAdded, IsChain, runs_of, AreRuns, HasPlaces, Grows, Takes, DoRise, IsReady};
 
-use crate::candidacy::{flow_key, judge};
+use crate::candidacy::{Addition, is_cut, judge};
+use crate::flow_hash::{flow_hash, hash_in};
 use crate::flows::Flows;
 use crate::run::{Run, progress_of};
 use crate::slot::Slot;
-use frame_layout::Key;
 use merge_rule::Candidacy;
 use std::alloc::{AllocError, Global};
 
@@ -37,23 +39,22 @@ fn open_at(place: usize, is_open: bool) -> Option<usize>
     if is_open { Some(place) } else { None }
 }
 
-/// The packet's flow finds nothing any more, where its run isn't open.
-fn settle(flows: &mut Flows, slot: &Slot, candidacy: &Candidacy, is_open: bool)
-    requires flows { AreFlows flows.old }
+/// The flow of packet i finds nothing any more, where its run isn't open.
+fn settle(flows: &mut Flows, i: u32, slot: &Slot, is_open: bool)
     requires places { HasRoom flows.old 1 }
     requires slot { IsHeld slot.now }
-    requires judged { IsJudged (buffer_bytes slot.now.skb) slot.now.original candidacy.now.layout
-        candidacy.now.payload candidacy.now.flags }
-    ensures flows { AreFlows flows.new }
-    ensures puts { let key = key_of (buffer_bytes slot.now.skb) in
-        Puts flows.old key (if is_open then place_of flows.old key else None) flows.new }
+    ensures flows { (ps : List Packet) → AreFlows ps flows.old → i < length ps → packet_at ps i ≡ packet_of slot.now
+        → AreFlows ps flows.new }
+    ensures puts { (ps : List Packet) → packet_at ps i ≡ packet_of slot.now
+        → let key = key_of (buffer_bytes slot.now.skb) in
+        Puts ps flows.old key (if is_open then place_of ps flows.old key else None) flows.new }
     ensures room { (n : ℕ) → HasRoom flows.old (n + 1) → HasRoom flows.new n }
 {
     if is_open {
         return;
     }
-    let key = flow_key(&slot.skb, candidacy);
-    flows.put(key, None);
+    let hash = hash_in(slot);
+    flows.put(i, hash, None);
 }
 
 impl Engine {
@@ -116,14 +117,14 @@ impl Engine {
         i: u32,
         slot: &Slot,
         place: usize,
-        candidacy: &Candidacy,
+        addition: &Addition,
     ) -> bool
         requires runs { AreRuns (map packet_of packets.now) i self.old }
         requires slots { AreHeld packets.now }
         requires here { IsHere packets.now i slot.now }
         requires slot { IsHeld slot.now }
-        requires judged { IsJudged (buffer_bytes slot.now.skb) slot.now.original candidacy.now.layout
-            candidacy.now.payload candidacy.now.flags }
+        requires added { IsAdded (buffer_bytes slot.now.skb) slot.now.original addition.now.payload
+            addition.now.flags }
         requires inside { place < length self.old.runs.items }
         requires mergeable { IsMergeable (slice_index_or (runs_of (map packet_of packets.now) self.old) place []
             ++ (packet_of slot.now ∷ [])) }
@@ -131,28 +132,29 @@ impl Engine {
     {
         let run = &mut self.runs[place];
         let before = run.last;
-        run.add(&packets[run.first as usize], i, slot, candidacy);
+        run.add(&packets[run.first as usize], i, slot, addition);
         let is_open = run.progress.is_open;
         self.next[before as usize] = i;
         is_open
     }
 
     /// A packet of a flow of which no run is found: it opens one.
-    fn begin(&mut self, packets: &[Slot], i: u32, slot: &Slot, key: Key, candidacy: Candidacy)
+    fn begin(&mut self, packets: &[Slot], i: u32, slot: &Slot, hash: u32, candidacy: Candidacy)
         requires runs { AreRuns (map packet_of packets.now) i self.old }
         requires places { HasPlaces self.old 1 }
         requires here { IsHere packets.now i slot.now }
         requires slot { IsHeld slot.now }
         requires judged { IsJudged (buffer_bytes slot.now.skb) slot.now.original candidacy.layout candidacy.payload
             candidacy.flags }
-        requires key { key_of (buffer_bytes slot.now.skb) ≡ key }
-        requires none { place_of self.old.flows key ≡ None }
+        requires hash { hash ≡ hash_of (key_of (buffer_bytes slot.now.skb)) }
+        requires none { place_of (map packet_of packets.now) self.old.flows (key_of (buffer_bytes slot.now.skb))
+            ≡ None }
         ensures takes { (segs : ℕ) → Takes segs (map packet_of packets.now) i self.old self.new }
     {
         let progress = progress_of(slot, &candidacy);
         let place = self.runs.len();
         let is_open = progress.is_open;
-        self.flows.begin(key, place, is_open);
+        self.flows.begin(i, hash, place, is_open);
         self.last = open_at(place, is_open);
         self.runs.push_reserved(Run::open(i, candidacy, progress));
     }
@@ -163,7 +165,7 @@ impl Engine {
         packets: &[Slot],
         i: u32,
         slot: &Slot,
-        key: Key,
+        hash: u32,
         found: usize,
         candidacy: Candidacy,
     )
@@ -173,8 +175,9 @@ impl Engine {
         requires slot { IsHeld slot.now }
         requires judged { IsJudged (buffer_bytes slot.now.skb) slot.now.original candidacy.layout candidacy.payload
             candidacy.flags }
-        requires key { key_of (buffer_bytes slot.now.skb) ≡ key }
-        requires place { place_of self.old.flows key ≡ Some found }
+        requires hash { hash ≡ hash_of (key_of (buffer_bytes slot.now.skb)) }
+        requires place { place_of (map packet_of packets.now) self.old.flows (key_of (buffer_bytes slot.now.skb))
+            ≡ Some found }
         ensures takes { (segs : ℕ) → (IsMergeableWithin segs
             (slice_index_or (runs_of (map packet_of packets.now) self.old) found []
             ++ (packet_of slot.now ∷ [])) → ⊥)
@@ -184,7 +187,7 @@ impl Engine {
         let is_open = progress.is_open;
         let place = self.runs.len();
         let last = open_at(place, is_open);
-        self.flows.put(key, last);
+        self.flows.put(i, hash, last);
         self.last = last;
         self.runs.push_reserved(Run::open(i, candidacy, progress));
     }
@@ -195,7 +198,8 @@ impl Engine {
         requires places { HasPlaces self.old 1 }
         requires here { IsHere packets.now i slot.now }
         requires alone { IsNoCandidate (buffer_bytes slot.now.skb) slot.now.original }
-        requires none { place_of self.old.flows (key_of (buffer_bytes slot.now.skb)) ≡ None }
+        requires none { place_of (map packet_of packets.now) self.old.flows (key_of (buffer_bytes slot.now.skb))
+            ≡ None }
         ensures takes { (segs : ℕ) → Takes segs (map packet_of packets.now) i self.old self.new }
     {
         self.last = None;
@@ -208,7 +212,7 @@ impl Engine {
         packets: &[Slot],
         i: u32,
         slot: &Slot,
-        key: Key,
+        hash: u32,
         found: usize,
         candidacy: &Candidacy,
     )
@@ -219,8 +223,9 @@ impl Engine {
         requires slot { IsHeld slot.now }
         requires judged { IsJudged (buffer_bytes slot.now.skb) slot.now.original candidacy.now.layout
             candidacy.now.payload candidacy.now.flags }
-        requires key { key_of (buffer_bytes slot.now.skb) ≡ key }
-        requires place { place_of self.old.flows key ≡ Some found }
+        requires hash { hash ≡ hash_of (key_of (buffer_bytes slot.now.skb)) }
+        requires place { place_of (map packet_of packets.now) self.old.flows (key_of (buffer_bytes slot.now.skb))
+            ≡ Some found }
         requires mergeable { IsMergeable (slice_index_or (runs_of (map packet_of packets.now) self.old) found []
             ++ (packet_of slot.now ∷ [])) }
         ensures takes { (segs : ℕ) → IsMergeableWithin segs
@@ -228,30 +233,35 @@ impl Engine {
             ++ (packet_of slot.now ∷ []))
             → Takes segs (map packet_of packets.now) i self.old self.new }
     {
-        let is_open = self.link(packets, i, slot, found, candidacy);
-        self.flows.keep(key, found, is_open);
+        let addition = Addition {
+            payload: candidacy.payload,
+            flags: candidacy.flags,
+        };
+        let is_open = self.link(packets, i, slot, found, &addition);
+        self.flows.keep(i, hash, found, is_open);
         self.last = open_at(found, is_open);
     }
 
     /// A packet that the last packet's run takes. Its key isn't asked for, but where the run ends with it.
-    fn extend(&mut self, packets: &[Slot], i: u32, slot: &Slot, place: usize, candidacy: &Candidacy)
+    fn extend(&mut self, packets: &[Slot], i: u32, slot: &Slot, place: usize, addition: &Addition)
         requires runs { AreRuns (map packet_of packets.now) i self.old }
         requires places { HasPlaces self.old 1 }
         requires slots { AreHeld packets.now }
         requires here { IsHere packets.now i slot.now }
         requires slot { IsHeld slot.now }
-        requires judged { IsJudged (buffer_bytes slot.now.skb) slot.now.original candidacy.now.layout
-            candidacy.now.payload candidacy.now.flags }
+        requires added { IsAdded (buffer_bytes slot.now.skb) slot.now.original addition.now.payload
+            addition.now.flags }
         requires inside { place < length self.old.runs.items }
-        requires found { place_of self.old.flows (key_of (buffer_bytes slot.now.skb)) ≡ Some place }
+        requires found { place_of (map packet_of packets.now) self.old.flows (key_of (buffer_bytes slot.now.skb))
+            ≡ Some place }
         requires mergeable { IsMergeable (slice_index_or (runs_of (map packet_of packets.now) self.old) place []
             ++ (packet_of slot.now ∷ [])) }
         ensures takes { (segs : ℕ) → IsMergeableWithin segs
             (slice_index_or (runs_of (map packet_of packets.now) self.old) place [] ++ (packet_of slot.now ∷ []))
             → Takes segs (map packet_of packets.now) i self.old self.new }
     {
-        let is_open = self.link(packets, i, slot, place, candidacy);
-        settle(&mut self.flows, slot, candidacy, is_open);
+        let is_open = self.link(packets, i, slot, place, addition);
+        settle(&mut self.flows, i, slot, is_open);
         self.last = open_at(place, is_open);
     }
 
@@ -279,10 +289,33 @@ impl Engine {
         run.takes_within(&packets[run.first as usize], slot, candidacy, segs)
     }
 
+    /// What a packet adds to the run at a place, where that run takes it. If so, that is of the run's flow.
+    fn addition_at(
+        &self,
+        packets: &[Slot],
+        place: usize,
+        slot: &Slot,
+        segs: u32,
+    ) -> Option<Addition>
+        requires each { AllByRecursion (IsChain (map packet_of packets.now) self.now.next.items) self.now.runs.items }
+        requires slots { AreHeld packets.now }
+        requires inside { place < length self.now.runs.items }
+        requires slot { IsHeld slot.now }
+        ensures takes { IfSome result (λ a. IsMergeableWithin segs
+            (slice_index_or (runs_of (map packet_of packets.now) self.now) place [] ++ (packet_of slot.now ∷ []))) }
+        ensures added { IfSome result (λ a.
+            IsAdded (buffer_bytes slot.now.skb) slot.now.original a.payload a.flags) }
+        ensures flow { IfSome result (λ a. begins_in (is_of (key_of (buffer_bytes slot.now.skb)))
+            (slice_index_or (runs_of (map packet_of packets.now) self.now) place []) ≡ true) }
+    {
+        let run = &self.runs[place];
+        run.addition_within(&packets[run.first as usize], slot, segs)
+    }
+
     /// Whether a packet can neither be merged nor end a run, whatever its flow is.
     fn is_apart(&self, candidacy: &Candidacy) -> bool
         ensures layout { IsTrue result → candidacy.now.layout ≡ None }
-        ensures none { IsTrue result → (q : Option (List ℕ)) → place_of self.now.flows q ≡ None }
+        ensures none { IsTrue result → (ps : List Packet) (q : Option (List ℕ)) → place_of ps self.now.flows q ≡ None }
     {
         candidacy.layout.is_none() && self.flows.is_empty()
     }
@@ -298,14 +331,33 @@ impl Engine {
             candidacy.flags }
         ensures takes { Takes segs (map packet_of packets.now) i self.old self.new }
     {
-        let key = flow_key(&slot.skb, &candidacy);
-        let Some(found) = self.flows.find(&key) else {
-            return self.begin(packets, i, slot, key, candidacy);
+        let hash = flow_hash(slot, &candidacy);
+        let Some(found) = self.flows.find(packets, slot, &candidacy, hash) else {
+            return self.begin(packets, i, slot, hash, candidacy);
         };
         if self.takes_at(packets, found, slot, &candidacy, segs) {
-            return self.grow(packets, i, slot, key, found, &candidacy);
+            return self.grow(packets, i, slot, hash, found, &candidacy);
         }
-        self.follow(packets, i, slot, key, found, candidacy);
+        self.follow(packets, i, slot, hash, found, candidacy);
+    }
+
+    /// A packet that the last packet's run isn't seen to take.
+    fn receive_apart(&mut self, packets: &[Slot], i: u32, slot: &Slot, segs: u32)
+        requires runs { AreRuns (map packet_of packets.now) i self.old }
+        requires places { HasPlaces self.old 1 }
+        requires slots { AreHeld packets.now }
+        requires here { IsHere packets.now i slot.now }
+        requires slot { IsHeld slot.now }
+        ensures takes { Takes segs (map packet_of packets.now) i self.old self.new }
+    {
+        if self.flows.is_empty() && is_cut(&slot.skb, slot.original) {
+            return self.stand_alone(packets, i, slot);
+        }
+        let candidacy = judge(&slot.skb, slot.original);
+        if self.is_apart(&candidacy) {
+            return self.stand_alone(packets, i, slot);
+        }
+        self.place(packets, i, slot, candidacy, segs);
     }
 
     /// Packet i of a list of which the first i were received, in runs of at most `segs`: the last run of its flow takes
@@ -318,16 +370,12 @@ impl Engine {
         ensures takes { Takes segs (map packet_of packets.now) i self.old self.new }
     {
         let slot = &packets[i as usize];
-        let candidacy = judge(&slot.skb, slot.original);
         if let Some(place) = self.last {
-            if self.takes_at(packets, place, slot, &candidacy, segs) {
-                return self.extend(packets, i, slot, place, &candidacy);
+            if let Some(addition) = self.addition_at(packets, place, slot, segs) {
+                return self.extend(packets, i, slot, place, &addition);
             }
         }
-        if self.is_apart(&candidacy) {
-            return self.stand_alone(packets, i, slot);
-        }
-        self.place(packets, i, slot, candidacy, segs);
+        self.receive_apart(packets, i, slot, segs);
     }
 
     /// All packets of a list, whose numbers rise, in runs of at most `segs`, by an engine that has no runs yet. It

@@ -1,65 +1,69 @@
 //! The open run of each flow.
-ghost use Rattle.std.specs.Prelude.{◌≡◌, ◌+◌, ◌<◌, ◌≤◌, Option, Some, None, List, ℕ, length, IfOk, OnOk, true};
+ghost use Rattle.std.specs.Prelude.{◌≡◌, ◌+◌, ◌<◌, ◌≤◌, Option, Some, None, List, ℕ, length, map, IfOk, OnOk, true};
 ghost use Rattle.std.specs.Prelude.{if◌then◌else◌};
-ghost use Rattle.gro.specs.Flows.{hash_of, bucket_of, place_of, AreFlows, Puts, HasRoom};
+ghost use Rattle.pcap_io.specs.Capture.{Packet};
+ghost use Rattle.frame_layout.specs.Key.{key_of};
+ghost use Rattle.merge_rule.specs.Runs.{IsShaped};
+ghost use Rattle.skb.specs.SkbState.{buffer_bytes};
+ghost use Rattle.gro.specs.Chains.{packet_at};
+ghost use Rattle.gro.specs.Slots.{packet_of, IsHeld, AreHeld};
+ghost use Rattle.gro.specs.Flows.{bucket_in, hash_of, key_at, place_of, AreFlows, IsHashed, Puts, HasRoom};
+ghost use Rattle.std.specs.Bool.{Decides};
 
-use frame_layout::Key;
-use net_bytes::be32;
+use crate::candidacy::is_same_flow;
+use crate::slot::Slot;
+use merge_rule::Candidacy;
 use std::alloc::{AllocError, Global};
 
-/// What is known of a flow: the place of its open run, where it has one. The entry before it in its bucket, counted
-/// from 1, is `below`.
+/// What is known of a flow: the place of its open run, where it has one. The flow is that of a packet of the list, and
+/// `hash` that of its key. The entry before it in its bucket, counted from 1, is `below`.
 #[derive(Drop)]
 pub struct Entry {
-    pub key: Key,
+    pub packet: u32,
+    pub hash: u32,
     pub below: usize,
     pub place: Option<usize>,
 }
 
-/// Where the open run of each flow stands in the list of runs. The last entry of a flow's key tells it. All entries of
-/// one bucket are a chain, from the last one on, which is counted from 1 in `heads`.
+/// Where the open run of each flow stands in the list of runs. The last entry of a flow tells it. All entries of one
+/// bucket are a chain, from the last one on, which is counted from 1 in `heads`.
 #[derive(Drop)]
 pub struct Flows {
     pub heads: [usize; 128],
     pub entries: Vec<Entry>,
 }
 
-/// A hash of a key's last words: the ports, and of both addresses what differs most.
-fn mixed(bytes: &[u8]) -> u32
-    ensures hash { result ≡ hash_of (Some bytes.now) }
-{
-    let n = bytes.len();
-    if n < 26 {
-        return 0;
+impl Entry {
+    /// Whether it is of a packet's flow, whose key has this hash.
+    fn is_of(&self, packets: &[Slot], slot: &Slot, candidacy: &Candidacy, hash: u32) -> bool
+        requires hashed { IsHashed (map packet_of packets.now) self.now.packet self.now.hash }
+        requires slots { AreHeld packets.now }
+        requires slot { IsHeld slot.now }
+        requires shaped { IsShaped candidacy.now.layout (buffer_bytes slot.now.skb) }
+        requires hash { hash ≡ hash_of (key_of (buffer_bytes slot.now.skb)) }
+        ensures same { Decides result
+            (key_at (map packet_of packets.now) self.now ≡ key_of (buffer_bytes slot.now.skb)) }
+    {
+        if self.hash != hash {
+            return false;
+        }
+        is_same_flow(&packets[self.packet as usize], slot, candidacy)
     }
-    let ports = be32(bytes, n - 4).wrapping_mul(0x9e37_79b1);
-    let nearer = ports
-        .wrapping_add(be32(bytes, n - 9))
-        .wrapping_mul(0x9e37_79b1);
-    let farther = nearer
-        .wrapping_add(be32(bytes, n - 13))
-        .wrapping_mul(0x9e37_79b1);
-    farther
-        .wrapping_add(be32(bytes, n - 25))
-        .wrapping_mul(0x9e37_79b1)
 }
 
-/// The bucket of a key. Equal keys have one.
-fn bucket(key: &Key) -> usize
-    ensures bucket { result ≡ bucket_of key.now }
+/// The bucket of a key with this hash.
+fn bucket(hash: u32) -> usize
+    ensures bucket { result ≡ bucket_in hash }
     ensures inside { result < 128 }
 {
-    match key.bytes() {
-        Some(bytes) => (mixed(bytes) / 0x0200_0000) as usize,
-        None => 0,
-    }
+    (hash / 0x0200_0000) as usize
 }
 
 impl Flows {
     /// No flow has an open run yet, and there is no memory for any.
     pub(crate) fn new(alloc: Global) -> Flows
-        ensures flows { AreFlows result }
-        ensures none { (q : Option (List ℕ)) → place_of result q ≡ None }
+        ensures flows { (ps : List Packet) → AreFlows ps result }
+        ensures none { (ps : List Packet) (q : Option (List ℕ)) → place_of ps result q ≡ None }
     {
         let entries = Vec::new(alloc);
         Flows {
@@ -70,8 +74,8 @@ impl Flows {
 
     /// No flow has an open run yet. The memory for n is taken.
     pub(crate) fn with_capacity(alloc: Global, n: usize) -> Result<Flows, AllocError>
-        ensures flows { IfOk result AreFlows }
-        ensures none { IfOk result (λ f. (q : Option (List ℕ)) → place_of f q ≡ None) }
+        ensures flows { IfOk result (λ f. (ps : List Packet) → AreFlows ps f) }
+        ensures none { IfOk result (λ f. (ps : List Packet) (q : Option (List ℕ)) → place_of ps f q ≡ None) }
         ensures room { IfOk result (λ f. HasRoom f n) }
     {
         let entries = Vec::with_capacity(alloc, n)?;
@@ -83,9 +87,8 @@ impl Flows {
 
     /// Room for n packets more.
     pub(crate) fn reserve(&mut self, n: usize) -> Result<(), AllocError>
-        requires flows { AreFlows self.old }
-        ensures flows { AreFlows self.new }
-        ensures same { (q : Option (List ℕ)) → place_of self.new q ≡ place_of self.old q }
+        ensures flows { (ps : List Packet) → AreFlows ps self.old → AreFlows ps self.new }
+        ensures same { (ps : List Packet) (q : Option (List ℕ)) → place_of ps self.new q ≡ place_of ps self.old q }
         ensures room { OnOk result (HasRoom self.new n) }
         ensures later { (k : ℕ) → HasRoom self.old k → HasRoom self.new k }
     {
@@ -94,8 +97,8 @@ impl Flows {
 
     /// No flow has an open run any more. The memory stays.
     pub(crate) fn clear(&mut self)
-        ensures flows { AreFlows self.new }
-        ensures none { (q : Option (List ℕ)) → place_of self.new q ≡ None }
+        ensures flows { (ps : List Packet) → AreFlows ps self.new }
+        ensures none { (ps : List Packet) (q : Option (List ℕ)) → place_of ps self.new q ≡ None }
         ensures room { HasRoom self.new 0 }
     {
         self.entries.clear();
@@ -104,20 +107,31 @@ impl Flows {
 
     /// Whether no flow has an open run.
     pub(crate) fn is_empty(&self) -> bool
-        ensures none { result ≡ true → (q : Option (List ℕ)) → place_of self.now q ≡ None }
+        ensures none { result ≡ true → (ps : List Packet) (q : Option (List ℕ)) → place_of ps self.now q ≡ None }
     {
         self.entries.is_empty()
     }
 
-    /// The place of the open run of the flow with this key.
-    pub(crate) fn find(&self, key: &Key) -> Option<usize>
-        requires flows { AreFlows self.now }
-        ensures place { result ≡ place_of self.now key.now }
+    /// The place of the open run of a packet's flow, whose key has this hash.
+    pub(crate) fn find(
+        &self,
+        packets: &[Slot],
+        slot: &Slot,
+        candidacy: &Candidacy,
+        hash: u32,
+    ) -> Option<usize>
+        requires flows { AreFlows (map packet_of packets.now) self.now }
+        requires slots { AreHeld packets.now }
+        requires slot { IsHeld slot.now }
+        requires shaped { IsShaped candidacy.now.layout (buffer_bytes slot.now.skb) }
+        requires hash { hash ≡ hash_of (key_of (buffer_bytes slot.now.skb)) }
+        ensures place { result
+            ≡ place_of (map packet_of packets.now) self.now (key_of (buffer_bytes slot.now.skb)) }
     {
-        let mut at = self.heads[bucket(key)];
+        let mut at = self.heads[bucket(hash)];
         while at > 0 {
             let entry = &self.entries[at - 1];
-            if entry.key == *key {
+            if entry.is_of(packets, slot, candidacy, hash) {
                 return entry.place;
             }
             at = entry.below;
@@ -125,45 +139,47 @@ impl Flows {
         None
     }
 
-    /// The flow with this key has this open run from now on, or none.
-    pub(crate) fn put(&mut self, key: Key, place: Option<usize>)
-        requires flows { AreFlows self.old }
+    /// The flow of a packet, whose key has this hash, has this open run from now on, or none.
+    pub(crate) fn put(&mut self, packet: u32, hash: u32, place: Option<usize>)
         requires room { HasRoom self.old 1 }
-        ensures flows { AreFlows self.new }
-        ensures puts { Puts self.old key place self.new }
+        ensures flows { (ps : List Packet) → AreFlows ps self.old → IsHashed ps packet hash → AreFlows ps self.new }
+        ensures puts { (ps : List Packet) → Puts ps self.old (key_of (packet_at ps packet).frame) place self.new }
         ensures room { (n : ℕ) → HasRoom self.old (n + 1) → HasRoom self.new n }
     {
-        let bucket = bucket(&key);
+        let bucket = bucket(hash);
         let below = self.heads[bucket];
-        self.entries.push_reserved(Entry { key, below, place });
+        self.entries.push_reserved(Entry {
+            packet,
+            hash,
+            below,
+            place,
+        });
         self.heads[bucket] = self.entries.len();
     }
 
-    /// A flow of which none is found has a new run at this place. It is found where it is open.
-    pub(crate) fn begin(&mut self, key: Key, place: usize, is_open: bool)
-        requires flows { AreFlows self.old }
-        requires none { place_of self.old key ≡ None }
+    /// A packet whose flow finds nothing opens a run at this place. It is found where it is open.
+    pub(crate) fn begin(&mut self, packet: u32, hash: u32, place: usize, is_open: bool)
         requires room { HasRoom self.old 1 }
-        ensures flows { AreFlows self.new }
-        ensures puts { Puts self.old key (if is_open then Some place else None) self.new }
+        ensures flows { (ps : List Packet) → AreFlows ps self.old → IsHashed ps packet hash → AreFlows ps self.new }
+        ensures puts { (ps : List Packet) → place_of ps self.old (key_of (packet_at ps packet).frame) ≡ None
+            → Puts ps self.old (key_of (packet_at ps packet).frame) (if is_open then Some place else None) self.new }
         ensures room { (n : ℕ) → HasRoom self.old (n + 1) → HasRoom self.new n }
     {
         if is_open {
-            self.put(key, Some(place));
+            self.put(packet, hash, Some(place));
         }
     }
 
-    /// The run that was found of a flow has one more packet. It is found as long as it is open.
-    pub(crate) fn keep(&mut self, key: Key, place: usize, is_open: bool)
-        requires flows { AreFlows self.old }
-        requires place { place_of self.old key ≡ Some place }
+    /// The run that was found of a packet's flow has that one more. It is found as long as it is open.
+    pub(crate) fn keep(&mut self, packet: u32, hash: u32, place: usize, is_open: bool)
         requires room { HasRoom self.old 1 }
-        ensures flows { AreFlows self.new }
-        ensures puts { Puts self.old key (if is_open then Some place else None) self.new }
+        ensures flows { (ps : List Packet) → AreFlows ps self.old → IsHashed ps packet hash → AreFlows ps self.new }
+        ensures puts { (ps : List Packet) → place_of ps self.old (key_of (packet_at ps packet).frame) ≡ Some place
+            → Puts ps self.old (key_of (packet_at ps packet).frame) (if is_open then Some place else None) self.new }
         ensures room { (n : ℕ) → HasRoom self.old (n + 1) → HasRoom self.new n }
     {
         if !is_open {
-            self.put(key, None);
+            self.put(packet, hash, None);
         }
     }
 }

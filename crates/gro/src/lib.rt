@@ -85,19 +85,19 @@
 //! }
 //! ```
 //!
-//! Its parts: `candidacy` (a packet judged by its head and its payload's sum), `flows` (the open run of each flow,
-//! under `frame_layout`'s `Key`), `slot` (a packet in a list), `run` (a run by index, and whether it takes one more
-//! packet), `engine` (the runs of a list, in the order of their first packets, and how they are linked), `merged_run`
-//! (what a run comes to, as its packets lie); `packets` (a list whose packets stay); `packet_list` (slots, with the
-//! packets' spares beside), `table` (`RoundTable`); `places` (the lists that items need, made before anything moves),
-//! `waiting` (packets as runs take them out of the list), `build` (the join into one buffer), `item` (what a table's
-//! run comes to), `shelf` (memory that serves items to come). `specs/Chains.antt` says what a chain of indices is,
-//! `specs/Engine.antt` what is known of an engine and what one more packet does, `specs/Index.antt` what is found of a
-//! flow, `specs/Slots.antt` what is known of packets in a list and what they hold, `specs/Held.antt` the same of
-//! packets with spares, `specs/Packets.antt` what a contract sees of a list, `specs/Waiting.antt` which packets are
-//! taken, `specs/Table.antt` what a contract sees of a table, `specs/Items.antt` what an item holds.
-//! `proofs/Payloads.antt` has the laws that a reader of a run's payloads needs, `proofs/Lying.antt` those of packets
-//! whose heads are shared or whose blocks nobody else holds.
+//! Its parts: `candidacy` (a packet judged by its head and its payload's sum, and whether two are of one flow),
+//! `flow_hash` (a hash of a packet's flow), `flows` (the open run of each flow), `slot` (a packet in a list), `run` (a
+//! run by index, and whether it takes one more packet), `engine` (the runs of a list, in the order of their first
+//! packets, and how they are linked), `merged_run` (what a run comes to, as its packets lie); `packets` (a list whose
+//! packets stay); `packet_list` (slots, with the packets' spares beside), `table` (`RoundTable`); `places` (the lists
+//! that items need, made before anything moves), `waiting` (packets as runs take them out of the list), `build` (the
+//! join into one buffer), `item` (what a table's run comes to), `shelf` (memory that serves items to come).
+//! `specs/Chains.antt` says what a chain of indices is, `specs/Engine.antt` what is known of an engine and what one
+//! more packet does, `specs/Index.antt` what is found of a flow, `specs/Slots.antt` what is known of packets in a list
+//! and what they hold, `specs/Held.antt` the same of packets with spares, `specs/Packets.antt` what a contract sees of
+//! a list, `specs/Waiting.antt` which packets are taken, `specs/Table.antt` what a contract sees of a table,
+//! `specs/Items.antt` what an item holds. `proofs/Payloads.antt` has the laws that a reader of a run's payloads needs,
+//! `proofs/Lying.antt` those of packets whose heads are shared or whose blocks nobody else holds.
 //!
 //! Tests: `merge_tests`, modules `merging` and `home`.
 //!
@@ -142,20 +142,24 @@
 //!   hands its emptied list of pieces on. What is asked of places (`IsPlaceOf`) stays as it is, and so does every proof
 //!   of the join.
 //! - **A packet that a run takes is of the run's flow** (`flow` of `takes` in `gro`), by the law that headers alike
-//!   make keys equal (`alike_keeps_key`): the last packet's run may be asked before any key is made.
+//!   make keys equal (`alike_keeps_key`): the last packet's run may be asked before anything is known of the packet.
 //! - **Only open runs are found**, and a flow's last entry tells its run: a run that is opened or closed is one entry
 //!   more in front of the others, and none is changed. So a packet has one entry at most, an entry's chain behind it
 //!   stays as it was, and what a flow finds is a function of the list of entries alone (`last_in`), without a bucket.
 //!   A packet that can't be merged asks only where there are entries, since it may end a flow's run.
 //! - **Entries of one bucket are a chain**, by a hash of a key's last words: 128 buckets, a kilobyte to clear in a
-//!   round that had entries. Nothing is asked of the hash but that it is a function of the key, so keys are compared,
-//!   and a flow whose bucket is empty is new without that. Where std's map stood, with the slab that it led to, a new
-//!   flow was hashed twice and its key moved four times.
-//! - **An entry's key is `frame_layout`'s `Key` as it stands**, Other among them, inline in room for 120 bytes: what is
-//!   said of flows ranges over every key, so that a frame without a shape goes the way of any packet that can't be
-//!   merged, which opens a run that isn't found. All memory for entries is taken in `make` and `start`.
-//! - **The last packet's run is asked first.** Where it takes the packet, no key is made, but where the run closes with
-//!   it. The run's place is kept only while the run is open.
+//!   round that had entries. Nothing is asked of the hash but that it is a function of the key (`IsHashed`), so an
+//!   entry with another hash is of another flow, and a flow whose bucket is empty is new without a look at any.
+//! - **An entry names a packet of its flow, and has no key**: 32 bytes, where a key has room for 120. The key is that
+//!   of the packet's frame, and two packets are compared where their headers lie (`is_flow_of`); the hash is read there
+//!   as well, in four words at fixed places where the headers are the plain ones. What is said of flows ranges over
+//!   every key, so that a frame without a shape goes the way of any packet that can't be merged, which opens a run that
+//!   isn't found. All memory for entries is taken in `make` and `start`.
+//! - **The last packet's run is asked first, by its layout.** The headers are compared before they are read: where they
+//!   are alike, the packet has the run's layout (`alike_keeps_shape`), which isn't looked for again, and only its
+//!   lengths and sums are judged (`addition` of `Run`). Where another flow's packet comes the first comparison ends it.
+//!   The run's place is kept only while the run is open.
+//! - **A packet that was cut short is alone** where no flow has a run: its headers aren't read.
 //! - **That memory is refused only where it is wanted isn't said** of `finish`: a table doesn't say which of its lists
 //!   are full. `receive` never refuses, though its answer could: a caller that was written for a table that may is
 //!   served as before.
@@ -164,6 +168,7 @@
 mod build;
 mod candidacy;
 mod engine;
+mod flow_hash;
 mod flows;
 mod item;
 mod merged_run;

@@ -1,14 +1,16 @@
 //! A run of packets, by index.
-ghost use Rattle.std.specs.Prelude.{◌≡◌, ◌+◌, ◌++◌, ◌∷◌, [], List, IsTrue};
+ghost use Rattle.std.specs.Prelude.{◌≡◌, ◌+◌, ◌++◌, ◌∷◌, [], List, Some, IsTrue, IfSome};
 ghost use Rattle.std.specs.Bool.{Decides};
 ghost use Rattle.frame_layout.specs.Key.{key_of};
 ghost use Rattle.pcap_io.specs.Capture.{Packet};
 ghost use Rattle.offload_model.specs.Mergeable.{IsMergeable, IsMergeableWithin};
+ghost use Rattle.merge_rule.specs.Next.{IsNext};
 ghost use Rattle.merge_rule.specs.Runs.{IsJudged, IsNoCandidate, IsFirstProgress, IsNextProgress};
 ghost use Rattle.skb.specs.SkbState.{buffer_bytes};
 ghost use Rattle.gro.specs.Slots.{packet_of, IsHeld};
-ghost use Rattle.gro.specs.Engine.{Knows, KnowsSome, TakesOne};
+ghost use Rattle.gro.specs.Engine.{Knows, KnowsSome, TakesOne, IsAdded};
 
+use crate::candidacy::{Addition, judge_as};
 use crate::slot::Slot;
 use frame_layout::Layout;
 use inet_sum::Partial;
@@ -86,6 +88,71 @@ impl Run {
         }
     }
 
+    /// Whether the headers of a packet are what the next one's are, in a run of this layout whose first packet is
+    /// `first`.
+    fn is_followed_by(&self, layout: &Layout, first: &Slot, next: &Slot) -> bool
+        requires knows { KnowsSome self.now (packet_of first.now) }
+        requires layout { self.now.layout ≡ Some layout.now }
+        requires slot { IsHeld first.now }
+        requires next { IsHeld next.now }
+        ensures next { Decides result (IsNext layout.now (buffer_bytes first.now.skb) (self.now.more + 1)
+            self.now.progress.total self.now.progress.modes (buffer_bytes next.now.skb)) }
+    {
+        let first_len = first.skb.len();
+        let next_len = next.skb.len();
+        is_next(
+            layout,
+            first.skb.head(),
+            first_len,
+            self.more as usize + 1,
+            &self.progress,
+            next.skb.head(),
+            next_len,
+        )
+    }
+
+    /// What a packet adds to the run, whose first packet is `first`, where the run takes it: its headers are compared
+    /// before they are read, and where they are alike its layout is the run's. A packet of which nothing is said here
+    /// may be taken nevertheless. If something is said, it is of the run's flow.
+    fn addition(&self, first: &Slot, next: &Slot) -> Option<Addition>
+        requires knows { KnowsSome self.now (packet_of first.now) }
+        requires slot { IsHeld first.now }
+        requires next { IsHeld next.now }
+        ensures takes { IfSome result (λ a. (rest : List Packet) → Knows self.now (packet_of first.now) rest
+            → IsMergeable ((packet_of first.now ∷ rest) ++ (packet_of next.now ∷ []))) }
+        ensures added { IfSome result (λ a.
+            IsAdded (buffer_bytes next.now.skb) next.now.original a.payload a.flags) }
+        ensures flow { IfSome result (λ a. key_of (buffer_bytes next.now.skb) ≡ key_of (buffer_bytes first.now.skb)) }
+    {
+        if !self.progress.is_open {
+            return None;
+        }
+        let Some(layout) = &self.layout else {
+            return None;
+        };
+        if !self.is_followed_by(layout, first, next) {
+            return None;
+        }
+        judge_as(layout, &next.skb, next.original)
+    }
+
+    /// The same of a run that has at most `segs` packets with it.
+    pub(crate) fn addition_within(&self, first: &Slot, next: &Slot, segs: u32) -> Option<Addition>
+        requires knows { KnowsSome self.now (packet_of first.now) }
+        requires slot { IsHeld first.now }
+        requires next { IsHeld next.now }
+        ensures takes { IfSome result (λ a. (rest : List Packet) → Knows self.now (packet_of first.now) rest
+            → IsMergeableWithin segs ((packet_of first.now ∷ rest) ++ (packet_of next.now ∷ []))) }
+        ensures added { IfSome result (λ a.
+            IsAdded (buffer_bytes next.now.skb) next.now.original a.payload a.flags) }
+        ensures flow { IfSome result (λ a. key_of (buffer_bytes next.now.skb) ≡ key_of (buffer_bytes first.now.skb)) }
+    {
+        if (segs as usize) < self.more as usize + 2 {
+            return None;
+        }
+        self.addition(first, next)
+    }
+
     /// Whether the run, whose first packet is `first`, takes one more. If so, that is of the run's flow.
     pub(crate) fn takes(&self, first: &Slot, next: &Slot, candidacy: &Candidacy) -> bool
         requires knows { KnowsSome self.now (packet_of first.now) }
@@ -103,18 +170,8 @@ impl Run {
         let Some(_own) = &candidacy.layout else {
             return false;
         };
-        let first_len = first.skb.len();
-        let next_len = next.skb.len();
         match &self.layout {
-            Some(layout) => is_next(
-                layout,
-                first.skb.head(),
-                first_len,
-                self.more as usize + 1,
-                &self.progress,
-                next.skb.head(),
-                next_len,
-            ),
+            Some(layout) => self.is_followed_by(layout, first, next),
             None => false,
         }
     }
@@ -167,11 +224,11 @@ impl Run {
     }
 
     /// One more packet, which the run takes: that of this index.
-    pub(crate) fn add(&mut self, first: &Slot, index: u32, next: &Slot, candidacy: &Candidacy)
+    pub(crate) fn add(&mut self, first: &Slot, index: u32, next: &Slot, addition: &Addition)
         requires takes { TakesOne self.old (packet_of first.now) (packet_of next.now) }
         requires slot { IsHeld first.now }
-        requires judged { IsJudged (buffer_bytes next.now.skb) next.now.original candidacy.now.layout
-            candidacy.now.payload candidacy.now.flags }
+        requires added { IsAdded (buffer_bytes next.now.skb) next.now.original addition.now.payload
+            addition.now.flags }
         requires next { IsHeld next.now }
         ensures knows { (rest : List Packet) → Knows self.old (packet_of first.now) rest
             → IsMergeable ((packet_of first.now ∷ rest) ++ (packet_of next.now ∷ []))
@@ -180,11 +237,11 @@ impl Run {
             × (self.new.more ≡ self.old.more + 1) }
     {
         let progress = self.progress_with(first, next);
-        let payload = self.payload.joined(candidacy.payload);
+        let payload = self.payload.joined(addition.payload);
         self.last = index;
         self.more += 1;
         self.payload = payload;
-        self.flags = candidacy.flags;
+        self.flags = addition.flags;
         self.progress = progress;
     }
 }

@@ -6,7 +6,7 @@ ghost use Rattle.offload_model.specs.Tests.{is_ack_alone as is_ack_alone_of};
 ghost use Rattle.offload_model.specs.Merged.{modes_at, modes_behind as modes_behind_of, modes_of as modes_of_headers};
 ghost use Rattle.merge_rule.specs.Next.{is_next_at, is_next_id_at, are_ids_next, AreInside};
 
-use frame_layout::{Header, Layer, TCP, TCP6, are_plain, are_plain6};
+use frame_layout::{Header, Layer, Layout, TCP, TCP6};
 use ip_headers::ip4;
 use tcp_headers::{tcp, udp};
 
@@ -66,16 +66,24 @@ fn is_ack_header(frame: &[u8], header: Header) -> bool
 }
 
 /// Whether of TCP's control bits ACK alone is set.
-pub(crate) fn is_ack_alone(frame: &[u8], headers: &[Header]) -> bool
+pub(crate) fn is_ack_alone(frame: &[u8], layout: &Layout) -> bool
+    requires there { AreInside (length frame.now) layout.now.headers }
+    ensures ack { result ≡ all_headers (is_ack_alone_of frame.now) layout.now.headers }
+{
+    if layout.is_plain() {
+        return is_ack_header(frame, TCP);
+    }
+    if layout.is_plain6() {
+        return is_ack_header(frame, TCP6);
+    }
+    are_acks_alone(frame, layout.headers())
+}
+
+/// The same of any headers.
+fn are_acks_alone(frame: &[u8], headers: &[Header]) -> bool
     requires there { AreInside (length frame.now) headers.now }
     ensures ack { result ≡ all_headers (is_ack_alone_of frame.now) headers.now }
 {
-    if are_plain(headers) {
-        return is_ack_header(frame, TCP);
-    }
-    if are_plain6(headers) {
-        return is_ack_header(frame, TCP6);
-    }
     for header in headers {
         if !is_ack_header(frame, *header) {
             return false;

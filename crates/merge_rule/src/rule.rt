@@ -10,7 +10,7 @@ ghost use Rattle.merge_rule.specs.Runs.{IsPlaced, IsFirstProgress, IsNextProgres
 use crate::alike::are_alike;
 use crate::next::{are_next, are_next_ids, is_ack_alone, modes_of};
 use crate::plain::{are_plain_next, are_plain6_next};
-use frame_layout::{Header, Layout, are_plain, are_plain6};
+use frame_layout::{Header, Layout};
 use pcap_io::FRAME_LIMIT;
 
 /// What a run has come to: whether it may take one more packet, the length of its merged frame, and a bit for each IP
@@ -38,14 +38,14 @@ fn are_headers_next(
     ensures next { Decides result (AreHeadersNext first.now next.now layout.now.payload_at further total count modes
         layout.now.headers) }
 {
-    let headers = layout.headers();
     let end = layout.payload_at();
-    if are_plain(headers) {
+    if layout.is_plain() {
         return are_plain_next(first, next, end, further, total, count, modes);
     }
-    if are_plain6(headers) {
+    if layout.is_plain6() {
         return are_plain6_next(first, next, end, further, total, count, modes);
     }
+    let headers = layout.headers();
     are_alike(first, next, headers, end)
         && are_next(first, next, further, total, headers)
         && are_next_ids(first, next, count, modes, headers)
@@ -105,11 +105,12 @@ pub fn is_next(
 
 /// Whether there may be a packet behind a frame that begins with `next`, in a run whose first packet has `first_len`
 /// bytes.
-fn stays_open(first_len: usize, next: &[u8], next_len: usize, headers: &[Header]) -> bool
-    requires there { AreInside (length next.now) headers.now }
-    ensures open { result ≡ (next_len == first_len && all_headers (is_ack_alone_of next.now) headers.now) }
+fn stays_open(first_len: usize, next: &[u8], next_len: usize, layout: &Layout) -> bool
+    requires there { AreInside (length next.now) layout.now.headers }
+    ensures open { result
+        ≡ (next_len == first_len && all_headers (is_ack_alone_of next.now) layout.now.headers) }
 {
-    next_len == first_len && is_ack_alone(next, headers)
+    next_len == first_len && is_ack_alone(next, layout)
 }
 
 /// A bit for each IP header whose identification stays. The second packet settles them.
@@ -132,7 +133,7 @@ pub fn first_progress(layout: &Layout, first: &[u8], first_len: usize) -> Progre
     ensures progress { (f : List ℕ) → HasHead first.now first_len f → IsFirstProgress (Some layout.now) f result }
 {
     Progress {
-        is_open: is_ack_alone(first, layout.headers()),
+        is_open: is_ack_alone(first, layout),
         total: first_len,
         modes: 0,
     }
@@ -156,10 +157,9 @@ pub fn next_progress(
     ensures progress { (f g : List ℕ) → HasHead first.now first_len f → HasHead next.now next_len g
         → IsNextProgress (Some layout.now) f more g progress.now result }
 {
-    let headers = layout.headers();
     Progress {
-        is_open: stays_open(first_len, next, next_len, headers),
+        is_open: stays_open(first_len, next, next_len, layout),
         total: progress.total + (next_len - layout.payload_at()),
-        modes: next_modes(first, next, headers, more, progress.modes),
+        modes: next_modes(first, next, layout.headers(), more, progress.modes),
     }
 }

@@ -5,7 +5,7 @@ use Rattle.gro.proofs.engine.Engine.place.Goals as goal
 
 pub takes_at-requires-clause-inside : goal.takes_at-requires-clause-inside
 takes_at-requires-clause-inside c =
-    found_inside (map packet_of c.args.packets.now) c.args.self.now c.flow_key-key.result c.in-Some.found c.requires.runs.index (sym c.find.ensures.place ∙ c.in-Some.is)
+    found_inside (map packet_of c.args.packets.now) c.args.self.now _ c.in-Some.found c.requires.runs.index (sym c.find.ensures.place ∙ c.in-Some.is)
 
 pub grow-requires-clause-mergeable : goal.grow-requires-clause-mergeable
 grow-requires-clause-mergeable c = (c.takes_at.ensures.takes.0 c.if-takes_at.true).0

@@ -22,7 +22,7 @@ returns c =
           c.alone.ensures.indices.0 c.alone.ensures.indices.1 c.alone.ensures.indices.2
           (subst (λ z. Knows c.alone.result z []) (sym c.requires.here.1) (c.alone.ensures.knows x c.requires.alone))
           (λ n h. (omega (arith, h.0, c.push_reserved.ensures.len, c.push_reserved.ensures.capacity), omega (arith, h.1)))
-          (subst (λ (z : Packet). place_of a.flows (key_of z.frame) ≡ None) (sym c.requires.here.1) c.requires.none)
+          (subst (λ (z : Packet). place_of ps a.flows (key_of z.frame) ≡ None) (sym c.requires.here.1) c.requires.none)
           (subst (λ (z : Packet). IsShut (z ∷ [])) (sym c.requires.here.1) (alone_shut x c.requires.alone))
           refl refl;
     }

@@ -3,4 +3,4 @@ use Rattle.gro.proofs.Flowing.{flows_none}
 use Rattle.gro.proofs.flows.Flows.clear.Goals as goal
 
 pub returns-clause-flows : goal.returns-clause-flows
-returns-clause-flows c = flows_none _ c.clear.ensures.items refl
+returns-clause-flows c = λ ps. flows_none ps _ c.clear.ensures.items refl

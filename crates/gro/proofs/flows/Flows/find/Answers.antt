@@ -1,47 +1,76 @@
-use Rattle.std.proofs.Common.{ℕ, ◌≡◌, ◌+◌, ◌-◌, ◌<◌, ◌≤◌, true, false, Some, Option, List, length, take, get_or, sym, ap, ◌∙◌, subst, arith}
+use Rattle.std.proofs.Common.{ℕ, ◌≡◌, ◌+◌, ◌-◌, ◌<◌, ◌≤◌, inl, inr, true, false, Some, Option, List, length, map, take, get_or, sym, ap, ◌∙◌, subst, arith}
+use Rattle.std.proofs.lemmas.Bool.{cases_Bool}
 use Rattle.std.proofs.lemmas.List.{get_or_default}
-use Rattle.frame_layout.specs.Key.{key_eq}
+use Rattle.frame_layout.specs.Key.{key_eq, key_of}
+use Rattle.pcap_io.specs.Capture.{Packet}
+use Rattle.skb.specs.SkbState.{buffer_bytes}
 use Rattle.gro.specs.declared.flows.Entry.{Entry}
-use Rattle.gro.specs.Flows.{last_in, joined, bucket_of, no_entry, entry_at, IsHead}
+use Rattle.gro.specs.Flows.{last_in, joined, key_at, bucket_in, no_entry, entry_at, IsHead, IsHashed}
+use Rattle.gro.specs.Slots.{packet_of}
 use Rattle.gro.proofs.Flowing.{last_head, last_hit, last_below}
+use Rattle.gro.proofs.Keys.{keys_equiv, same_key}
 use Rattle.gro.proofs.flows.Flows.find.Goals as goal
 
 pub loop-at-init : goal.loop-at-init
 loop-at-init c =
+    let ps : List Packet = map packet_of c.args.packets.now in
+    let key : Option (List ℕ) = key_of (buffer_bytes c.args.slot.now.skb) in
     let es : List Entry = c.args.self.now.entries.items in
     let h : ℕ = get_or c.args.self.now.heads c.bucket.result 0 in
-    let is : IsHead es (bucket_of c.args.key.now) (length es) h
+    let is : IsHead es (bucket_in c.args.hash) (length es) h
     = subst (λ z. IsHead es z (length es) h) c.bucket.ensures.bucket (c.requires.flows.heads c.bucket.result c.bucket.ensures.inside) in
-    (is.0, is.1, last_head c.args.key.now es h is)
+    (is.0, is.1, last_head ps key es h (λ k l. (c.requires.flows.hashed k l).1) (subst (λ z. IsHead es (bucket_in z) (length es) h) c.requires.hash is))
 
-pub returns-then-eq : goal.returns-then-eq
-returns-then-eq c =
+pub is_of-requires-clause-hashed : goal.is_of-requires-clause-hashed
+is_of-requires-clause-hashed c =
+    let ps : List Packet = map packet_of c.args.packets.now in
     let es : List Entry = c.args.self.now.entries.items in
-    let key : Option (List ℕ) = c.args.key.now in
     let entry : Entry = c.index-entry.result.now in
     let i : ℕ = c.loop-at.at - 1 in
     let t : c.loop-at.at ≡ i + 1 = omega (arith, c.loop-at-test.true) in
     let inside : i < length es = omega (arith, t, c.loop-at.invariant.0) in
     let is : entry ≡ entry_at es i = c.index-entry.ensures ∙ get_or_default es i entry no_entry inside in
-    let hit : key_eq (entry_at es i).key key ≡ true = ap (λ (z : Entry). key_eq z.key key) (sym is) ∙ sym c.eq.ensures ∙ c.if-eq.true in
-    let last : last_in key es ≡ Some (entry_at es i).place = sym c.loop-at.invariant.2 ∙ ap (λ z. last_in key (take z es)) t ∙ last_hit key es i inside hit in
+    subst (λ (z : Entry). IsHashed ps z.packet z.hash) (sym is) (c.requires.flows.hashed i inside)
+
+pub returns-then-is_of : goal.returns-then-is_of
+returns-then-is_of c =
+    let ps : List Packet = map packet_of c.args.packets.now in
+    let key : Option (List ℕ) = key_of (buffer_bytes c.args.slot.now.skb) in
+    let es : List Entry = c.args.self.now.entries.items in
+    let entry : Entry = c.index-entry.result.now in
+    let i : ℕ = c.loop-at.at - 1 in
+    let t : c.loop-at.at ≡ i + 1 = omega (arith, c.loop-at-test.true) in
+    let inside : i < length es = omega (arith, t, c.loop-at.invariant.0) in
+    let is : entry ≡ entry_at es i = c.index-entry.ensures ∙ get_or_default es i entry no_entry inside in
+    let same : key_at ps entry ≡ key = c.is_of.ensures.same.0 c.if-is_of.true in
+    let hit : key_eq (key_at ps (entry_at es i)) key ≡ true
+    = ap (λ (z : Entry). key_eq (key_at ps z) key) (sym is) ∙ ap (λ (z : Option (List ℕ)). key_eq z key) same ∙ keys_equiv.refl key in
+    let last : last_in ps key es ≡ Some (entry_at es i).place
+    = sym c.loop-at.invariant.2 ∙ ap (λ z. last_in ps key (take z es)) t ∙ last_hit ps key es i inside hit in
     record { place = ap (λ (z : Entry). z.place) is ∙ sym (ap joined last) }
 
 pub loop-at-preserved : goal.loop-at-preserved
 loop-at-preserved c =
+    let ps : List Packet = map packet_of c.args.packets.now in
+    let key : Option (List ℕ) = key_of (buffer_bytes c.args.slot.now.skb) in
     let es : List Entry = c.args.self.now.entries.items in
-    let key : Option (List ℕ) = c.args.key.now in
     let entry : Entry = c.index-entry.result.now in
     let i : ℕ = c.loop-at.at - 1 in
     let t : c.loop-at.at ≡ i + 1 = omega (arith, c.loop-at-test.true) in
     let inside : i < length es = omega (arith, t, c.loop-at.invariant.0) in
     let is : entry ≡ entry_at es i = c.index-entry.ensures ∙ get_or_default es i entry no_entry inside in
-    let no : key_eq (entry_at es i).key key ≡ false = ap (λ (z : Entry). key_eq z.key key) (sym is) ∙ sym c.eq.ensures ∙ c.if-eq.false in
-    let same : bucket_of (entry_at es i).key ≡ bucket_of key = c.loop-at.invariant.1 (omega (arith, t)) in
-    let head : IsHead es (bucket_of (entry_at es i).key) i (entry_at es i).below = c.requires.flows.belows i inside in
-    subst (λ (z : Entry). (z.below ≤ length es) × (1 ≤ z.below → bucket_of (entry_at es (z.below - 1)).key ≡ bucket_of key)
-    × (last_in key (take z.below es) ≡ last_in key es)) (sym is) (
+    let no : key_eq (key_at ps (entry_at es i)) key ≡ false = elim (cases_Bool (key_eq (key_at ps (entry_at es i)) key)) [
+      | inl e ↦
+          let same : key_at ps entry ≡ key = ap (key_at ps) is ∙ same_key (key_at ps (entry_at es i)) key e in
+          let u : false ≡ true = sym c.if-is_of.false ∙ c.is_of.ensures.same.1 same in absurd cc
+      | inr e ↦ e
+    ] in
+    let here : bucket_in (entry_at es i).hash ≡ bucket_in c.args.hash = c.loop-at.invariant.1 (omega (arith, t)) in
+    let head : IsHead es (bucket_in (entry_at es i).hash) i (entry_at es i).below = c.requires.flows.belows i inside in
+    subst (λ (z : Entry). (z.below ≤ length es) × (1 ≤ z.below → bucket_in (entry_at es (z.below - 1)).hash ≡ bucket_in c.args.hash)
+    × (last_in ps key (take z.below es) ≡ last_in ps key es)) (sym is) (
       omega (arith, head.0, inside),
-      (λ o. head.1 o ∙ same),
-      sym (last_below key es i inside no same head) ∙ ap (λ z. last_in key (take z es)) (sym t) ∙ c.loop-at.invariant.2,
+      (λ o. head.1 o ∙ here),
+      sym (last_below ps key es i inside (λ k l. (c.requires.flows.hashed k l).1) no (here ∙ ap bucket_in c.requires.hash) head)
+          ∙ ap (λ z. last_in ps key (take z es)) (sym t) ∙ c.loop-at.invariant.2,
     )

@@ -5,14 +5,14 @@ use Rattle.gro.proofs.Flowing.{flows_put, puts_put}
 use Rattle.gro.proofs.flows.Flows.put.Goals as goal
 
 pub returns-clause-flows : goal.returns-clause-flows
-returns-clause-flows c =
+returns-clause-flows c = λ ps flows own.
     let f : Flows = c.args.self.now in
-    let e : Entry = record { key = c.args.key; below = get_or f.heads c.bucket-bucket.result 0; place = c.args.place } in
-    flows_put f _ e c.bucket-bucket.result c.len.result c.requires.flows c.bucket-bucket.ensures.bucket c.bucket-bucket.ensures.inside refl
+    let e : Entry = record { packet = c.args.packet; hash = c.args.hash; below = get_or f.heads c.bucket-bucket.result 0; place = c.args.place } in
+    flows_put ps f _ e c.bucket-bucket.result c.len.result flows own c.bucket-bucket.ensures.bucket c.bucket-bucket.ensures.inside refl
     (omega (arith, c.len.ensures, c.push_reserved.ensures.len, f.entries.ok.0, c.push_reserved.new.self.ok.0)) c.push_reserved.ensures.items refl
 
 pub returns-clause-puts : goal.returns-clause-puts
-returns-clause-puts c =
+returns-clause-puts c = λ ps.
     let f : Flows = c.args.self.now in
-    let e : Entry = record { key = c.args.key; below = get_or f.heads c.bucket-bucket.result 0; place = c.args.place } in
-    puts_put f (record { heads = f.heads; entries = c.push_reserved.new.self }) e c.push_reserved.ensures.items
+    let e : Entry = record { packet = c.args.packet; hash = c.args.hash; below = get_or f.heads c.bucket-bucket.result 0; place = c.args.place } in
+    puts_put ps f (record { heads = f.heads; entries = c.push_reserved.new.self }) e c.push_reserved.ensures.items

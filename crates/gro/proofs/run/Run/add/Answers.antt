@@ -10,8 +10,8 @@ pub joined-payload-requires : goal.joined-payload-requires
 joined-payload-requires c =
     let r : Run = c.args.self.now in
     record {
-      few = sums_short (packet_of c.args.first.now) (packet_of c.args.next.now) c.requires.takes.0 r.layout c.args.candidacy.now.layout r.payload
-          c.args.candidacy.now.payload r.flags c.args.candidacy.now.flags r.progress c.requires.takes.1.0.is c.requires.takes.1.1 c.requires.judged c.requires.next.short;
+      few = sums_short (packet_of c.args.first.now) (packet_of c.args.next.now) c.requires.takes.0 r.layout c.requires.added.0 r.payload
+          c.args.addition.now.payload r.flags c.args.addition.now.flags r.progress c.requires.takes.1.0.is c.requires.takes.1.1 c.requires.added.1 c.requires.next.short;
     }
 
 pub overflow_add-self : goal.overflow_add-self
@@ -23,7 +23,7 @@ returns-clause-knows c =
     let p : Packet = packet_of c.args.first.now in
     let x : Packet = packet_of c.args.next.now in
     λ rest k m. record {
-      is = grown_by p x rest r.layout c.args.candidacy.now.layout r.payload c.args.candidacy.now.payload c.joined-payload.result r.flags
-          c.args.candidacy.now.flags r.progress c.progress_with-progress.result r.more (sym k.more) k.is m c.joined-payload.ensures.sum c.requires.judged c.progress_with-progress.ensures.progress;
+      is = grown_by p x rest r.layout c.requires.added.0 r.payload c.args.addition.now.payload c.joined-payload.result r.flags
+          c.args.addition.now.flags r.progress c.progress_with-progress.result r.more (sym k.more) k.is m c.joined-payload.ensures.sum c.requires.added.1 c.progress_with-progress.ensures.progress;
       more = omega (arith, k.more, length-append rest (x ∷ []));
     }

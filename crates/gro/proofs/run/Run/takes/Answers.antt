@@ -8,7 +8,7 @@ use Rattle.merge_rule.proofs.Knows.{shut_by, no_first_by, no_next_by, takes_next
 use Rattle.gro.specs.declared.run.Run.{Run}
 use Rattle.gro.specs.Slots.{packet_of}
 use Rattle.gro.specs.Engine.{Knows}
-use Rattle.gro.proofs.Running.{head_of, in_head, few_more, known, placed, sums, first_in_head}
+use Rattle.gro.proofs.Running.{known}
 use Rattle.gro.proofs.run.Run.takes.Goals as goal
 
 pub returns-then-not-self : goal.returns-then-not-self
@@ -34,35 +34,6 @@ returns-in_default c =
       flow = λ t. absurd cc;
     }
 
-pub overflow_add-self : goal.overflow_add-self
-overflow_add-self c = omega (arith, few_more c.args.self.now (packet_of c.args.first.now) c.requires.knows.0 c.requires.knows.1)
-
-pub is_next-requires-clause-placed : goal.is_next-requires-clause-placed
-is_next-requires-clause-placed c =
-    placed c.args.self.now c.args.first.now c.requires.knows.0 c.in-Some-layout.layout c.in-Some-layout.is c.requires.knows.1 c.requires.slot
-
-pub is_next-requires-clause-first : goal.is_next-requires-clause-first
-is_next-requires-clause-first c =
-    first_in_head c.args.self.now c.args.first.now c.requires.knows.0 c.in-Some-layout.layout c.in-Some-layout.is c.requires.knows.1 c.requires.slot _ c.head.ensures.size
-
-pub is_next-requires-clause-next : goal.is_next-requires-clause-next
-is_next-requires-clause-next c = λ h.
-    in_head c.args.next.now c.in-Some-layout.layout.payload_at _ c.requires.next
-    (sums c.args.self.now c.args.first.now c.requires.knows.0 c.in-Some-layout.layout c.in-Some-layout.is c.requires.knows.1 c.requires.slot).2
-    (omega (arith, h, c.len-next_len.ensures.bytes)) c.head-in-Some-layout.ensures.size
-
-pub is_next-requires-clause-behind : goal.is_next-requires-clause-behind
-is_next-requires-clause-behind c =
-    (sums c.args.self.now c.args.first.now c.requires.knows.0 c.in-Some-layout.layout c.in-Some-layout.is c.requires.knows.1 c.requires.slot).0
-
-pub is_next-requires-clause-total : goal.is_next-requires-clause-total
-is_next-requires-clause-total c =
-    let b = sums c.args.self.now c.args.first.now c.requires.knows.0 c.in-Some-layout.layout c.in-Some-layout.is c.requires.knows.1 c.requires.slot in
-    omega (arith, b.1, b.2)
-
-pub is_next-requires-clause-few : goal.is_next-requires-clause-few
-is_next-requires-clause-few c = omega (arith, c.requires.next.short, c.len-next_len.ensures.bytes)
-
 pub returns-in-Some-layout : goal.returns-in-Some-layout
 returns-in-Some-layout c =
     let run : Run = c.args.self.now in
@@ -73,12 +44,11 @@ returns-in-Some-layout c =
     = subst (λ z. IsJudged x.frame x.original z c.args.candidacy.now.payload c.args.candidacy.now.flags) c.in-Some.is c.requires.judged in
     let takes = λ (rest : List Packet) (k : Knows run p rest).
     let n : run.more + 1 ≡ length (p ∷ rest) = omega (arith, k.more) in
-    let d : Decides c.is_next.result (IsNext layout p.frame (length (p ∷ rest)) run.progress.total run.progress.modes x.frame)
-    = subst (λ z. Decides c.is_next.result (IsNext layout p.frame z run.progress.total run.progress.modes x.frame)) n
-    (c.is_next.ensures.next p.frame x.frame (head_of c.args.first.now.skb c.head.result.now c.len-first_len.result c.head.ensures.bytes c.len-first_len.ensures.bytes)
-    (head_of c.args.next.now.skb c.head-in-Some-layout.result.now c.len-next_len.result c.head-in-Some-layout.ensures.bytes c.len-next_len.ensures.bytes)) in
+    let d : Decides c.is_followed_by.result (IsNext layout p.frame (length (p ∷ rest)) run.progress.total run.progress.modes x.frame)
+    = subst (λ z. Decides c.is_followed_by.result (IsNext layout p.frame z run.progress.total run.progress.modes x.frame)) n
+    c.is_followed_by.ensures.next in
     takes_next p rest layout run.payload run.flags run.progress (known run c.args.first.now rest layout c.in-Some-layout.is k c.requires.slot) x c.in-Some._own
-    c.args.candidacy.now.payload c.args.candidacy.now.flags c.is_next.result c.if-not-self.false j d in
+    c.args.candidacy.now.payload c.args.candidacy.now.flags c.is_followed_by.result c.if-not-self.false j d in
     record { takes = takes; flow = λ t. one_flow p x c.requires.knows.0 ((takes c.requires.knows.0 c.requires.knows.1).0 t) }
 
 pub returns-in-None : goal.returns-in-None

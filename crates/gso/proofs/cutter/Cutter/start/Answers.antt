@@ -1,12 +1,24 @@
-use Rattle.std.proofs.Common.{◌≡◌, ◌∙◌, ◌-◌, ℕ, List, [], ◌∷◌, refl, sym, ap, subst, arith}
-use Rattle.skb.specs.SkbState.{buffer_bytes}
+use Rattle.std.proofs.Common.{◌≡◌, ◌∙◌, ◌-◌, ℕ, List, [], ◌∷◌, refl, sym, ap, subst, arith, add-zero}
+use Rattle.frags.specs.Account.{both}
+use Rattle.frags.specs.PieceList.{of_pieces}
+use Rattle.skb.specs.SkbState.{SkbState, buffer_bytes, of_buffer}
 use Rattle.gso.specs.Merged.{MergedState}
 use Rattle.gso.specs.Whole.{WholeState}
-use Rattle.gso.specs.Cutting.{IsLeft, segments_from}
+use Rattle.gso.specs.Cutting.{IsLeft, of_work, of_merged, segments_from}
 use Rattle.gso.specs.declared.cutter.Work.TheVariants.{Whole}
 use Rattle.gso.proofs.Turns.{frames_are, started}
 use Rattle.gso.proofs.cutter.Cutter.start.Goals.{in-Nothing, in-Single, in-Segments}
 use Rattle.gso.proofs.cutter.Cutter.start.Goals as goal
+
+none_beside : (skb : SkbState) → both (of_buffer skb) (of_pieces []) ≡ of_buffer skb
+none_beside skb = simp add-zero
+
+pub returns-clause-account : goal.returns-clause-account
+returns-clause-account c = elim c.match-plan.branch [
+  | in-Nothing w ↦ ap of_work w.work-is ∙ ap (λ (z : WholeState). of_buffer z.skb) w.new.ensures.same
+  | in-Single w ↦ ap of_work w.work-is ∙ ap (λ (z : WholeState). of_buffer z.skb) w.new-in-Single.ensures.same
+  | in-Segments w ↦ ap of_work w.work-is ∙ ap of_merged w.new-in-Segments.ensures.same ∙ none_beside c.args.skb
+]
 
 pub returns-clause-left : goal.returns-clause-left
 returns-clause-left c = λ p e.

@@ -1,0 +1,17 @@
+use Rattle.std.proofs.Common.{map, subst}
+use Rattle.merge_rule.specs.Runs.{IsJudged}
+use Rattle.skb.specs.SkbState.{buffer_bytes}
+use Rattle.gro.specs.declared.slot.Slot.{Slot}
+use Rattle.gro.proofs.engine.Engine.receive_apart.Goals as goal
+
+pub returns-then-is_cut : goal.returns-then-is_cut
+returns-then-is_cut c = record { takes = c.stand_alone.ensures.takes c.args.segs }
+
+pub stand_alone-requires-then-is_apart-clause-alone : goal.stand_alone-requires-then-is_apart-clause-alone
+stand_alone-requires-then-is_apart-clause-alone c =
+    let s : Slot = c.args.slot.now in
+    subst (λ z. IsJudged (buffer_bytes s.skb) s.original z c.judge-candidacy.result.payload c.judge-candidacy.result.flags)
+    (c.is_apart.ensures.layout c.if-is_apart.true) c.judge-candidacy.ensures.judged
+
+pub returns-then-is_apart : goal.returns-then-is_apart
+returns-then-is_apart c = record { takes = c.stand_alone-then-is_apart.ensures.takes c.args.segs }
