@@ -13,6 +13,11 @@ abbrev pub block : Holder → List ℕ
 block (Sole s) = s.bytes
 block (Part p) = p.bytes
 
+-- the name of a holder's block
+abbrev pub name_of : Holder → ℕ
+name_of (Sole s) = s.block
+name_of (Part p) = p.life.block
+
 -- the part that a holder is, or that its Sole becomes
 abbrev pub AsPart : Holder → PartState → Type 0
 AsPart (Sole s) p = (p.weight ≡ full_weight) × (p.life.block ≡ s.block) × (p.bytes ≡ s.bytes) × (p.mark ≡ s.mark)

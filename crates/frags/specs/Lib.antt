@@ -6,3 +6,4 @@ pub mod Holders
 pub mod OutcomesState
 pub mod PieceList
 pub mod RoundAccount
+pub mod Returns

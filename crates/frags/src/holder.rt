@@ -3,6 +3,7 @@ ghost use Rattle.std.specs.Prelude.{◌≡◌, ◌≢◌, ◌<◌, ◌≤◌};
 ghost use Rattle.ref_core.specs.WeightRule.{full_weight};
 ghost use Rattle.frags.specs.Gifts.{less, gave};
 ghost use Rattle.frags.specs.Holders.{AsPart};
+ghost use Rattle.frags.specs.Returns.{Frees};
 
 use raw_block::{Part, Released, Sole};
 
@@ -27,15 +28,21 @@ impl Holder {
         }
     }
 
-    /// Gives the block up, and frees it where nobody else holds it. It takes no memory, and no outcomes.
-    pub fn free(self) {
+    /// Gives the block up, frees it where nobody else holds it, and answers how many blocks were freed: a Sole's and
+    /// that of a part of all the weight always. It takes no memory, and no outcomes.
+    pub fn free(self) -> usize
+        ensures freed { Frees self result }
+    {
         match self {
-            Holder::Sole(_sole) => {}
+            Holder::Sole(_sole) => 1,
             Holder::Part(part) => {
                 let _ = part.weight();
                 match part.release() {
-                    Released::Last(_sole) => {}
-                    Released::Left(receipt) => receipt.close(),
+                    Released::Last(_sole) => 1,
+                    Released::Left(receipt) => {
+                        receipt.close();
+                        0
+                    }
                 }
             }
         }

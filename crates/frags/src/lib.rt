@@ -33,10 +33,11 @@
 //! ```
 //!
 //! Its parts: `Outcomes` keeps what was given back, in places that were reserved before, and grows at its end alone
-//! (`specs/Growth.antt`); `Pieces` is seen as a list of pieces (`specs/PieceList.antt`; what a share gives away:
-//! `specs/Gifts.antt`); `PieceBuilder` puts one together in places that were reserved before. The account
-//! (`specs/Account.antt`) says by blocks, lives and marks that no weight is made up and that what was held is held or
-//! its own block's Sole is at home; `specs/RoundAccount.antt` has what follows over a round.
+//! (`specs/Growth.antt`; by what: `specs/Returns.antt`); `Pieces` is seen as a list of pieces
+//! (`specs/PieceList.antt`; what a share gives away: `specs/Gifts.antt`); `PieceBuilder` puts one together in places
+//! that were reserved before. The account (`specs/Account.antt`) says by blocks, lives and marks that no weight is made
+//! up and that what was held is held or its own block's Sole is at home; `specs/RoundAccount.antt` has what follows
+//! over a round.
 //!
 //! Tests: `buffer_tests`, modules `pieces` and `cuts`.
 //!

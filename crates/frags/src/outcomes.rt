@@ -1,9 +1,8 @@
 //! What was given back: Soles and receipts, in places that were reserved before.
 ghost use Rattle.std.specs.Prelude.{◌≡◌, ℕ, ◌+◌, ◌≤◌, [], ◌∷◌, ◌++◌, IfOk, OnOk, IsOk, MatchOption};
-ghost use Rattle.ref_core.specs.WeightRule.{full_weight};
-ghost use Rattle.raw_block.specs.Releases.{IsReleased, IsLast};
 ghost use Rattle.frags.specs.Account.{Keeps, both, of_part, of_sole, of_receipt, of_holder, of_outcomes};
-ghost use Rattle.frags.specs.Growth.{Grows, Behind};
+ghost use Rattle.frags.specs.Growth.{Grows};
+ghost use Rattle.frags.specs.Returns.{ReturnsPart, ReturnsHolder};
 
 use crate::Holder;
 use raw_block::{Part, Receipt, Released, Sole};
@@ -153,8 +152,7 @@ impl Outcomes {
     /// Releases a part, and keeps what that leaves: its block's Sole, or a receipt of its weight.
     pub fn give_back(&mut self, part: Part)
         requires spare { 1 ≤ self.old.spare }
-        ensures gave { (r : Released) × (IsReleased part r × ((part.weight ≡ full_weight) → IsLast r)
-            × Behind r self.old self.new) }
+        ensures gave { ReturnsPart part self.old self.new }
         ensures grows { Grows 1 self.old self.new }
         ensures kept { Keeps (both (of_part part) (of_outcomes self.old)) (of_outcomes self.new) }
         ensures places { self.old.spare ≤ self.new.spare + 1 }
@@ -169,6 +167,7 @@ impl Outcomes {
     /// As `give_back`, of a Sole too, which is kept as it is.
     pub fn give_back_holder(&mut self, holder: Holder)
         requires spare { 1 ≤ self.old.spare }
+        ensures gave { ReturnsHolder holder self.old self.new }
         ensures grows { Grows 1 self.old self.new }
         ensures kept { Keeps (both (of_holder holder) (of_outcomes self.old)) (of_outcomes self.new) }
         ensures places { self.old.spare ≤ self.new.spare + 1 }

@@ -12,6 +12,7 @@ ghost use Rattle.frags.specs.Holders.{IsAppend};
 ghost use Rattle.frags.specs.PieceList.{bytes_of, piece_bytes, pieces_held, Fits, AllFit, size_of, of_pieces, byte_in};
 ghost use Rattle.frags.specs.PieceList.{AreWhole};
 ghost use Rattle.frags.specs.PieceList.{keep_front, least_weight, cut_front};
+ghost use Rattle.frags.specs.Returns.{sole_of, ReturnsPart, ReturnsPieces};
 
 use crate::cuts::split_into;
 use crate::{Holder, Outcomes, give_share};
@@ -409,8 +410,14 @@ impl Pieces {
         items.destroy_empty();
     }
 
-    /// Gives all parts back, and frees the blocks that nobody else holds. It takes no memory, and no outcomes.
-    pub fn free(self) {
+    /// Gives all parts back, frees the blocks that nobody else holds, and answers how many these are: all of them where
+    /// each part has all the weight of its block. It takes no memory, and no outcomes.
+    pub fn free(self) -> usize
+        ensures few { result ≤ length self }
+        ensures whole { AreWhole self → result ≡ length self }
+    {
+        let _ = self.count();
+        let mut freed = 0;
         let Pieces { mut items, size: _ } = self;
         while let Some(piece) = items.pop_front() {
             let Piece {
@@ -418,16 +425,17 @@ impl Pieces {
                 from: _,
                 to: _,
             } = piece;
-            Holder::Part(part).free();
+            freed += Holder::Part(part).free();
         }
         items.destroy_empty();
+        freed
     }
 
     /// The block of the first piece, where nobody else holds the blocks of any. None exactly where there is no piece.
     pub fn pop_block(&mut self) -> Option<Sole>
         requires whole { AreWhole self.old }
         ensures some { IfSome result (λ block. (piece : Piece) × (self.old ≡ piece ∷ self.new)
-            × (block.block ≡ piece.part.life.block)) }
+            × (block ≡ sole_of piece.part)) }
         ensures whole { AreWhole self.new }
         ensures none { IfNone result ((self.old ≡ []) × (self.new ≡ [])) }
     {
@@ -445,6 +453,7 @@ impl Pieces {
     /// Gives all parts back, the first piece's first.
     pub fn release(self, out: &mut Outcomes)
         requires spare { length self ≤ out.old.spare }
+        ensures returned { ReturnsPieces self out.old out.new }
         ensures kept { Keeps (both (of_pieces self) (of_outcomes out.old)) (of_outcomes out.new) }
         ensures grows { Grows (length self) out.old out.new }
         ensures places { out.old.spare ≤ out.new.spare + length self }
@@ -517,6 +526,7 @@ fn copy_on(into: &mut [u8], done: usize, bytes: &[u8]) -> usize
 // A piece that is gone gives its part back.
 fn give_back(piece: Piece, out: &mut Outcomes)
     requires spare { 1 ≤ out.old.spare }
+    ensures gave { ReturnsPart piece.part out.old out.new }
     ensures grows { Grows 1 out.old out.new }
     ensures kept { Keeps (both (of_part piece.part) (of_outcomes out.old)) (of_outcomes out.new) }
     ensures places { out.old.spare ≤ out.new.spare + 1 }

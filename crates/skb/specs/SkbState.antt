@@ -1,6 +1,7 @@
 -- A buffer: a head block and pieces after it, as one run of bytes.
 use Rattle.std.specs.Prelude.{ℕ, ◌≡◌, ◌≢◌, ◌+◌, ◌-◌, ◌<◌, ◌≤◌, List, ◌∷◌, ◌++◌, Bool, false, true, ◌||◌, ◌==◌, cond}
 use Rattle.std.specs.Prelude.{length, take, drop, slice_range, min, map, Ok, Err}
+use Rattle.std.specs.List.{sum_by}
 use Rattle.std.specs.declared.result.Result.{Result}
 use Rattle.std.specs.declared.alloc.AllocError.{AllocError}
 use Rattle.ref_core.specs.WeightRule.{full_weight}
@@ -8,7 +9,7 @@ use Rattle.raw_block.specs.Views.{SoleState, PartState}
 use Rattle.frags.specs.Account.{Account, Keeps, both, of_sole, of_holder, of_released, of_outcomes}
 use Rattle.frags.specs.OutcomesState.{OutcomesState}
 use Rattle.frags.specs.Gifts.{worn, less, gave, given, kept}
-use Rattle.frags.specs.Holders.{block, AsPart}
+use Rattle.frags.specs.Holders.{block, AsPart, name_of}
 use Rattle.frags.specs.PieceList.{bytes_of, size_of, of_pieces, least_weight, AreWhole}
 use Rattle.frags.specs.declared.pieces.Piece.{Piece}
 use Rattle.frags.specs.declared.pieces.ShareFault.{ShareFault}
@@ -36,6 +37,10 @@ is_sole (Part p) = false
 pub record IsAlone (f : SkbState) : Type 0 where
   pub head : is_sole f.head ≡ true
   pub rest : AreWhole f.rest
+
+-- what the blocks of a buffer weigh together, each by its name
+abbrev pub weighed_in : (ℕ → ℕ) → SkbState → ℕ
+weighed_in h f = h (name_of f.head) + sum_by (λ (p : Piece). h p.part.life.block) f.rest
 
 abbrev pub of_buffer : SkbState → Account
 of_buffer f = both (of_holder f.head) (of_pieces f.rest)

@@ -32,6 +32,7 @@
 //! - `account`, `kept`, `sums`, `marks`: nothing is lost (see `frags`). A call that begins a life, since it shares a
 //!   Sole, says it by marks; where the head is a Part, none begins.
 //! - `sum`, `in_bytes`: the sum stands for the bytes from that place on, and each is below 256.
+//! - `returned`: what `release` leaves, outcome by outcome.
 //! - `grows`, `fewer`, `places`: outcomes grow only at their end, by how many, and what room is left in them.
 //! - `writes_back`: after `head_mut` the head's bytes are what was written, and all else is as it was; at None nothing
 //!   has changed.
@@ -69,8 +70,8 @@
 //! - **`pull_up` judges by the head alone**: where the first n bytes lie there already the spare comes back, and the
 //!   head may be shared.
 //! - **What drops a buffer may have no outcomes and no memory**: `Skb::free`, `Pieces::free` and `Round::discard`
-//!   release part by part, and free each block whose last holder they were. A round that is given up among its rounds
-//!   goes home instead.
+//!   release part by part, and free each block whose last holder they were. `free` answers how many these were: of a
+//!   buffer that is alone all. A round that is given up among its rounds goes home instead.
 #![tactic(auto)]
 
 mod attach;

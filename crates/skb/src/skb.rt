@@ -10,7 +10,9 @@ ghost use Rattle.frags.specs.declared.pieces.Piece.{Piece};
 ghost use Rattle.skb.specs.Checksum.{AreBytes};
 ghost use Rattle.skb.specs.Lending.{lends_head, lends_head_if};
 ghost use Rattle.skb.specs.SkbState.{head_size, buffer_least, buffer_bytes, buffer_size, head_bytes, headroom};
-ghost use Rattle.skb.specs.SkbState.{tailroom, is_sole, of_buffer};
+ghost use Rattle.frags.specs.OutcomesState.{OutcomesState};
+ghost use Rattle.frags.specs.Returns.{ReturnsHolder, ReturnsPieces};
+ghost use Rattle.skb.specs.SkbState.{tailroom, is_sole, of_buffer, IsAlone};
 
 use crate::checksum::in_bytes;
 use crate::lend::range_of;
@@ -223,9 +225,11 @@ impl Skb {
         }
     }
 
-    /// Gives the head and all pieces back.
+    /// Gives the head and all pieces back, the head first.
     pub fn release(self, out: &mut Outcomes)
         requires spare { length self.rest + 1 ≤ out.old.spare }
+        ensures returned { (mid : OutcomesState) × ReturnsHolder self.head out.old mid
+            × ReturnsPieces self.rest mid out.new }
         ensures kept { Keeps (both (of_buffer self) (of_outcomes out.old)) (of_outcomes out.new) }
         ensures grows { Grows (length self.rest + 1) out.old out.new }
         ensures places { out.old.spare ≤ out.new.spare + (length self.rest + 1) }
@@ -240,16 +244,20 @@ impl Skb {
         rest.release(out);
     }
 
-    /// Gives the head and all pieces back, and frees the blocks that nobody else holds. It takes no memory, and no
-    /// outcomes.
-    pub fn free(self) {
+    /// Gives the head and all pieces back, frees the blocks that nobody else holds, and answers how many these are: all
+    /// of the buffer's where it is alone. It takes no memory, and no outcomes.
+    pub fn free(self) -> usize
+        ensures few { result ≤ length self.rest + 1 }
+        ensures alone { IsAlone self → result ≡ length self.rest + 1 }
+    {
+        let _ = self.count();
         let Skb {
             head,
             from: _,
             to: _,
             rest,
         } = self;
-        head.free();
-        rest.free();
+        let freed = head.free();
+        freed + rest.free()
     }
 }
