@@ -13,6 +13,18 @@
 //! by one from a list at hand, which comes whole, and `put_all` brings a list home. No block is lost (clauses `block`
 //! of `take_block`, `put` of `put_all`), and no emptied list (`spent`).
 //!
+//! `Giver` is who brings lists there: it has a list of blocks that nobody wants any more, and a pass. `give` brings the
+//! whole list to the pool by one step, and it stays where the pool is full (`once`); what was given and what lies there
+//! is what it was, block by block, and nothing that was given comes back (`gave`). For another thread a part is split
+//! off, which comes back with its pass (`split`, `count` of `split`; `joined` of `join`). Who takes lists may sleep by
+//! a `Bell`, which `give` rings where it was told that somebody waits; of waking nothing is proved.
+//!
+//! ```text
+//!   takes lists <── pool of lists <── give ── giver: pass, list ── split ──> giver: pass, list ── give ──> pool
+//!                                                      ^                             │
+//!                                                      └─────── join: pass, rest ────┘
+//! ```
+//!
 //! ```
 //! let mut pool = Pool::make(alloc, 64)?;
 //! if let Ok(block) = pool.take() {
@@ -34,14 +46,21 @@
 //!   parts stay below 65,536) is none.
 //! - **A pass is a `requires`**: each call wants a pass of its own pool, by the queue's name and the number of blocks.
 //!   A pass that is dropped takes its parts with it.
+//! - **A giver holds its pool by a count** (`Arc`), and not by a loan, since it goes along with tasks that outlive a
+//!   call.
+//! - **What a giver has taken is nothing**, by its invariant: so a pass that comes back changes what was put alone.
 //! - **`fork` takes no handle** and returns always. `gather`, `take` and `put` wait for ever where a count of 64 bits
 //!   would wrap, as the queue itself does after 2^62 pushes; so no caller carries a bound.
 #![tactic(auto)]
 
+mod bell;
+mod giver;
 pub mod lists;
 mod pool;
 pub mod shared;
 
+pub use bell::Bell;
+pub use giver::Giver;
 pub use lists::{BlockList, ListPass, ListPool};
 pub use pool::{Empty, Pool};
 pub use shared::{PoolPass, SharedPool};

@@ -5,10 +5,10 @@
 //! one step, and the emptied one goes to the spent ones, which travel back to whoever gives. [`put_all`] brings all
 //! blocks of a list home by one step. Neither takes memory.
 ghost use Rattle.std.specs.Prelude.{◌≡◌, ◌⊎◌, ℕ, ◌+◌, ◌<◌, ◌≤◌, [], ◌∷◌, ◌++◌, length, IfOk, IfErr, IsOk, MatchOption};
-ghost use Rattle.std.specs.Prelude.{vec_len, vec_capacity};
+ghost use Rattle.std.specs.Prelude.{vec_len, vec_capacity, IsNone};
 ghost use Rattle.std.specs.List.{sum_by};
 ghost use Rattle.raw_block.specs.Views.{SoleState};
-ghost use Rattle.block_pool.specs.Listed.{listed, blocks_in};
+ghost use Rattle.block_pool.specs.Listed.{listed, blocks_in, FromHand, FromList};
 ghost use Rattle.block_pool.specs.PassState.{IsOwn, IsSame, Put, FoundEmpty, FoundFull};
 ghost use Rattle.block_pool.specs.PoolState.{home};
 
@@ -75,6 +75,10 @@ pub fn take_block<R: Wait>(
     ensures block { IfOk result (λ block. (h : SoleState → ℕ)
         → h block + sum_by h hand.new.blocks + listed h pass.old.taken
         ≡ sum_by h hand.old.blocks + listed h pass.new.taken) }
+    ensures hand { 1 ≤ home hand.old → IfOk result (λ block. FromHand block hand.old hand.new pass.old pass.new
+        spent.old.items spent.new.items) }
+    ensures list { home hand.old ≡ 0 → IfOk result (λ block. FromList block hand.old hand.new pass.old pass.new
+        spent.old.items spent.new.items) }
     ensures empty { IfErr result (λ e. (hand.new ≡ hand.old) × (home hand.old ≡ 0)
         × (spent.new.items ≡ spent.old.items) × (e.takes ≡ pass.old.takes) × FoundEmpty pass.old pass.new) }
     ensures same { IsSame pass.old pass.new × (pass.new.made ≡ pass.old.made) × (pass.new.put ≡ pass.old.put) }
@@ -95,12 +99,17 @@ pub fn take_block<R: Wait>(
     }
 }
 
-/// Brings all blocks of a list home by one step. It comes back as it is where it has none, and where the pool was full.
+/// Brings all blocks of a list home by one step. It comes back as it is where it has none, and where the pool was full:
+/// never where all passes are gathered into this one and its counts show fewer lists home than were made (`sure`), or
+/// than have a place (`room`).
 pub fn put_all<R: Wait>(rt: &R, pool: &ListPool, pass: &mut ListPass, blocks: Pool) -> Option<Pool>
     requires own { IsOwn pool.now pass.old }
     ensures put { MatchOption result (Put pass.old blocks pass.new)
         (λ back. (back ≡ blocks) × (((home blocks ≡ 0) × (pass.new ≡ pass.old)) ⊎ FoundFull pass.old pass.new)) }
     ensures same { IsSame pass.old pass.new }
+    ensures sure { 1 ≤ home blocks → pass.old.parts ≡ 65536 → pass.old.puts < pass.old.takes → IsNone result }
+    ensures room { 1 ≤ home blocks → pass.old.parts ≡ 65536
+        → pool.now.made + pass.old.puts < pool.now.places + pass.old.takes → IsNone result }
 {
     if blocks.home() == 0 {
         return Some(blocks);

@@ -1,9 +1,10 @@
 //! A pool of blocks.
 ghost use Rattle.std.specs.Prelude.{◌≡◌, ◌⊎◌, ◌+◌, ◌-◌, ◌<◌, ◌≤◌, ◌^◌, [], ◌∷◌, ◌++◌, length, min, IfOk, MatchResult};
-ghost use Rattle.std.specs.Prelude.{MatchOption, ℕ};
+ghost use Rattle.std.specs.Prelude.{MatchOption, ℕ, All};
 ghost use Rattle.std.specs.List.{sum_by};
 ghost use Rattle.raw_block.specs.Views.{SoleState};
-ghost use Rattle.block_pool.specs.PoolState.{home};
+ghost use Rattle.block_pool.specs.PassState.{IsFresh};
+ghost use Rattle.block_pool.specs.PoolState.{home, MovesLast, MovesAll};
 
 use raw_block::Sole;
 use std::alloc::{AllocError, Global};
@@ -39,6 +40,7 @@ impl Pool {
     pub fn make(alloc: Global, n: u32) -> Result<Pool, AllocError>
         requires few { n ≤ 65536 }
         ensures made { IfOk result (λ pool. (home pool ≡ n) × (pool.made ≡ n) × (pool.taken ≡ 0)) }
+        ensures blocks { IfOk result (λ pool. All IsFresh pool.blocks) }
     {
         let mut blocks = Vec::with_capacity(alloc, n as usize)?;
         for _ in 0..n {
@@ -98,6 +100,7 @@ impl Pool {
         requires room { home other.old + n ≤ other.old.made }
         ensures blocks { (h : SoleState → ℕ) → sum_by h self.new.blocks + sum_by h other.new.blocks
             ≡ sum_by h self.old.blocks + sum_by h other.old.blocks }
+        ensures moved { MovesLast self.old self.new other.old other.new }
         ensures home { home self.new + n ≡ home self.old }
         ensures other { home other.new ≡ home other.old + n }
         ensures made { (self.new.made ≡ self.old.made) × (other.new.made ≡ other.old.made) }
@@ -125,6 +128,9 @@ impl Pool {
     pub fn refill(&mut self, from: &mut Pool)
         ensures sum { home self.new + home from.new ≡ home self.old + home from.old }
         ensures all { (home from.new ≡ 0) ⊎ (home self.new ≡ self.old.made) }
+        ensures blocks { (h : SoleState → ℕ) → sum_by h self.new.blocks + sum_by h from.new.blocks
+            ≡ sum_by h self.old.blocks + sum_by h from.old.blocks }
+        ensures moved { MovesAll from.old from.new self.old self.new ⊎ MovesLast from.old from.new self.old self.new }
         ensures same { (self.new.made ≡ self.old.made) × (self.new.taken ≡ self.old.taken) }
         ensures from { (from.new.made ≡ from.old.made) × (from.new.taken ≡ from.old.taken) }
     {

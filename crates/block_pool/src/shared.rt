@@ -156,7 +156,7 @@ impl QueuePool<Sole> {
         n: u32,
     ) -> Result<(SharedPool, PoolPass), AllocError>
         requires few { (1 ≤ n) × (n ≤ 65536) }
-        ensures made { IfOk result (λ r. (r.0.made ≡ n) × IsOpening r.0 r.1) }
+        ensures made { IfOk result (λ r. (r.0.made ≡ n) × (r.0.places ≡ n) × IsOpening r.0 r.1) }
         ensures blocks { IfOk result (λ r. All IsFresh r.1.made) }
     {
         let (queue, mut pass) = Items::ruled(alloc, n as usize)?;

@@ -13,7 +13,7 @@ ghost use Rattle.gro.specs.Slots.{packet_of};
 ghost use Rattle.checking.specs.Counts.{added, round_totals, totals_of, HasLanes, IsWithin};
 ghost use Rattle.checking.specs.Checking.{counting};
 ghost use Rattle.checking.specs.Tallies.{Tallies};
-ghost use Rattle.rounds.specs.Benches.{options_at, Brings, MayBring};
+ghost use Rattle.rounds.specs.Benches.{options_at, Brings, BringsBeside, IsLent, Lends, MayBring};
 ghost use Rattle.rounds.specs.Lanes.{IsKeptWorkOf};
 ghost use Rattle.rounds.specs.Fresh.{NumberedFrom};
 ghost use Rattle.rounds.specs.Merging.{options_of};
@@ -21,7 +21,7 @@ ghost use Rattle.checking.specs.Handling.{ending_of, AreOf, CountsLast};
 
 use crate::round::check_bench;
 use crate::totals::Totals;
-use block_pool::Pool;
+use block_pool::{Giver, Pool};
 use lanes::Works;
 use off_io::Source;
 use pcap_io::{CapFault, CaptureReader};
@@ -59,15 +59,17 @@ fn compare_round(bench: &mut Bench, home: &mut Pool, worked: Worked) -> Result<T
 }
 
 // Works a round, compares it with its packets and ends it; what it counts is added. For want of memory its blocks are
-// home all the same.
+// home all the same, but spares that went to others.
 fn count_round<W: Works>(
     works: &mut W,
     bench: &mut Bench,
     home: &mut Pool,
+    giver: &mut Option<Giver>,
     round: Round,
     totals: &mut Totals,
 ) -> Result<(), AllocError>
     requires may { MayBring round.blocks bench.old home.old }
+    requires lent { IsLent giver.old }
     requires keep { bench.old.keep ≡ true }
     requires captured { AllByRecursion IsCaptured (map packet_of round.packets) }
     requires numbers { (k : ℕ) × NumberedFrom k round.packets }
@@ -78,9 +80,10 @@ fn count_round<W: Works>(
         (round_totals (options_at bench.old) (map packet_of round.packets))) }
     ensures lanes { HasLanes (options_at bench.old) totals.new }
     ensures within { (n : ℕ) → AreOf n totals.old → AreOf (n + length round.packets) totals.new }
-    ensures brings { Brings round.blocks bench.old bench.new home.old home.new }
+    ensures brings { BringsBeside round.blocks bench.old bench.new home.old home.new giver.old giver.new }
+    ensures gave { Lends giver.old giver.new }
 {
-    let worked = bench.work_round(works, round, home)?;
+    let worked = bench.work_round(works, round, home, giver)?;
     let counted = compare_round(bench, home, worked)?;
     totals.add(&counted);
     Ok(())
@@ -91,11 +94,13 @@ fn last_round<W: Works>(
     works: &mut W,
     bench: &mut Bench,
     home: &mut Pool,
+    giver: &mut Option<Giver>,
     round: Round,
     totals: &mut Totals,
     end: CheckEnd,
 ) -> CheckEnd
     requires may { MayBring round.blocks bench.old home.old }
+    requires lent { IsLent giver.old }
     requires keep { bench.old.keep ≡ true }
     requires captured { AllByRecursion IsCaptured (map packet_of round.packets) }
     requires numbers { (k : ℕ) × NumberedFrom k round.packets }
@@ -106,9 +111,10 @@ fn last_round<W: Works>(
         (map packet_of round.packets)) end result }
     ensures lanes { HasLanes (options_at bench.old) totals.new }
     ensures within { (n : ℕ) → AreOf n totals.old → AreOf (n + length round.packets) totals.new }
-    ensures brings { Brings round.blocks bench.old bench.new home.old home.new }
+    ensures brings { BringsBeside round.blocks bench.old bench.new home.old home.new giver.old giver.new }
+    ensures gave { Lends giver.old giver.new }
 {
-    match count_round(works, bench, home, round, totals) {
+    match count_round(works, bench, home, giver, round, totals) {
         Ok(()) => end,
         Err(_) => CheckEnd::NoMemory,
     }
@@ -137,24 +143,28 @@ impl RoundHandler<Totals, CheckEnd> for Counting {
         works: &mut W,
         bench: &mut Bench,
         home: &mut Pool,
+        giver: &mut Option<Giver>,
         read: RoundRead,
         number: u64,
         into: &mut Totals,
     ) -> Option<CheckEnd> {
         let RoundRead { round, end } = read;
         match end {
-            RoundEnd::Full => match count_round(works, bench, home, round, into) {
+            RoundEnd::Full => match count_round(works, bench, home, giver, round, into) {
                 Ok(()) => None,
                 Err(_) => Some(CheckEnd::NoMemory),
             },
-            RoundEnd::End => Some(last_round(works, bench, home, round, into, CheckEnd::Done)),
+            RoundEnd::End => {
+                let end = CheckEnd::Done;
+                Some(last_round(works, bench, home, giver, round, into, end))
+            }
             RoundEnd::Malformed(fault) => {
                 let end = CheckEnd::Malformed(fault);
-                Some(last_round(works, bench, home, round, into, end))
+                Some(last_round(works, bench, home, giver, round, into, end))
             }
             RoundEnd::ReadFault => {
                 let end = CheckEnd::ReadFault;
-                Some(last_round(works, bench, home, round, into, end))
+                Some(last_round(works, bench, home, giver, round, into, end))
             }
             RoundEnd::PoolEmpty { need } => {
                 bench.drop_round(round, home);

@@ -5,6 +5,7 @@ use Rattle.std.proofs.lemmas.List.{get_or-set_other, get_or-set_same, length-set
 use Rattle.std.specs.Prelude.{Option}
 use Rattle.std.specs.List.{AllByRecursion}
 use Rattle.errands.specs.Answers.{EachDid}
+use Rattle.block_pool.specs.Giving.{GiverState}
 use Rattle.lanes.specs.declared.lane.QueueLane.{QueueLane}
 use Rattle.lanes.specs.declared.lane.TapLane.{TapLane}
 use Rattle.lanes.specs.declared.lane.Lanes.{Lanes}
@@ -113,9 +114,9 @@ turned_taps plan l (asked.Queue t) h = absurd h
 turned_taps plan l (asked.Tap t) h = h
 
 -- the lane at a place went away
-pub own_queue : (segs at : ℕ) (old now : List QueueLane) (x lane : QueueLane) (t : QueueWork) → t ≡ queue_work at lane segs → lane ≡ get_or now at x → get_or now at x ≡ get_or old at x
+pub own_queue : (segs at : ℕ) (old now : List QueueLane) (x lane : QueueLane) (giver : Option GiverState) (t : QueueWork) → t ≡ queue_work at lane segs giver → lane ≡ get_or now at x → get_or now at x ≡ get_or old at x
     → at < length old → IsOfQueues segs old (asked.Queue t)
-own_queue segs at old now x lane t e is same lt = subst (λ z. IsOfQueues segs old (asked.Queue z)) (sym e) (lt, refl, λ d. is ∙ same ∙ any_other old at x d lt)
+own_queue segs at old now x lane giver t e is same lt = subst (λ z. IsOfQueues segs old (asked.Queue z)) (sym e) (lt, refl, λ d. is ∙ same ∙ any_other old at x d lt)
 
 pub own_tap : (plan : Plan) (at : ℕ) (old now : List TapLane) (x lane : TapLane) (filter : Option (List Instr)) (t : TapWork) → t ≡ tap_work at lane plan.snap filter → filter ≡ plan.filter
     → lane ≡ get_or now at x

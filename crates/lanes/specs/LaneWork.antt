@@ -1,6 +1,8 @@
--- What a contract sees of a lane's task: the lane at its place among those of its kind, and how it is worked.
+-- What a contract sees of a lane's task: the lane at its place among those of its kind, how it is worked, and of a
+-- queue what gives blocks back once it is.
 use Rattle.std.specs.Prelude.{ℕ, Option, List}
 use Rattle.tap_filter.specs.declared.instr.Instr.{Instr}
+use Rattle.block_pool.specs.Giving.{GiverState}
 use Rattle.lanes.specs.declared.lane.QueueLane.{QueueLane}
 use Rattle.lanes.specs.declared.lane.TapLane.{TapLane}
 
@@ -8,6 +10,7 @@ pub record QueueWork : Type 0 where
   pub at : ℕ
   pub lane : QueueLane
   pub segs : ℕ
+  pub giver : Option GiverState
 
 pub record TapWork : Type 0 where
   pub at : ℕ
@@ -15,8 +18,8 @@ pub record TapWork : Type 0 where
   pub snap : ℕ
   pub filter : Option (List Instr)
 
-abbrev pub queue_work : ℕ → QueueLane → ℕ → QueueWork
-queue_work at lane segs = record { at = at; lane = lane; segs = segs }
+abbrev pub queue_work : ℕ → QueueLane → ℕ → Option GiverState → QueueWork
+queue_work at lane segs giver = record { at = at; lane = lane; segs = segs; giver = giver }
 
 abbrev pub tap_work : ℕ → TapLane → ℕ → Option (List Instr) → TapWork
 tap_work at lane snap filter = record { at = at; lane = lane; snap = snap; filter = filter }

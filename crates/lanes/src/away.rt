@@ -1,41 +1,48 @@
 //! Lanes go away as tasks, and come back to their places.
-ghost use Rattle.std.specs.Prelude.{◌≡◌, ℕ, ◌+◌, ◌≤◌, [], length, List, All, IfSome};
+ghost use Rattle.std.specs.Prelude.{◌≡◌, ℕ, ◌+◌, ◌≤◌, false, [], ◌∷◌, length, List, All, IfSome, Option};
 ghost use Rattle.std.specs.List.{AllByRecursion};
 ghost use Rattle.std.specs.VecDeque.{deque_len, deque_capacity};
 ghost use Rattle.errands.specs.Answers.{EachDid};
+ghost use Rattle.block_pool.specs.Giving.{GiverState};
+ghost use Rattle.lanes.specs.Givers.{carried, returned, Divided, IsTaken, MayReturn, MayTake};
 ghost use Rattle.lanes.specs.Lanes.{IsFilled, IsTapReady};
 ghost use Rattle.lanes.specs.Tasks.{DidLane, SentQueues, SentTaps, Away, HasPlace, IsPlaced, IsPut};
 ghost use Rattle.lanes.specs.Work.{Did};
 
 use crate::free::{free_queue, free_tap};
+use crate::giving::{carry, take_back};
 use crate::lane::{Lanes, QueueLane, TapLane};
 use crate::plan::Plan;
 use crate::shared::{SharedProgram, program_in, share_in};
 use crate::tasks::{LaneDone, LaneJob, LaneTask, QueueTask, WatchTask};
 use crate::work::{watch, work};
+use block_pool::Giver;
 use core::mem::replace;
 use errands::Job;
 use off_io::Gate;
 use std::collections::VecDeque;
+use std::sync::Wait;
+
+// How many queues have packets.
+fn count_at_work(queues: &[QueueLane]) -> usize {
+    let mut count = 0usize;
+    for lane in queues {
+        if !lane.packets.is_empty() {
+            count = count.saturating_add(1);
+        }
+    }
+    count
+}
 
 /// Whether two lanes at least have something to do.
 pub(crate) fn are_two_at_work(lanes: &Lanes) -> bool {
-    let mut is_one = false;
-    for lane in &lanes.queues {
-        let is_at_work = !lane.packets.is_empty();
-        if is_one && is_at_work {
-            return true;
-        }
-        is_one = is_one || is_at_work;
-    }
+    let mut count = count_at_work(&lanes.queues);
     for lane in &lanes.taps {
-        let is_at_work = !lane.clones.is_empty();
-        if is_one && is_at_work {
-            return true;
+        if !lane.clones.is_empty() {
+            count = count.saturating_add(1);
         }
-        is_one = is_one || is_at_work;
     }
-    false
+    count > 1
 }
 
 // The lane leaves its place. What stays there is idle.
@@ -56,16 +63,21 @@ fn take_tap(lane: &mut TapLane) -> TapLane
     replace(lane, idle)
 }
 
-// The queues that have packets go away as tasks. The others are worked here.
+// The queues that have packets go away as tasks, each with its part of the list, or with all of it where it is the only
+// one. The others are worked here.
 fn send_queues<G: Gate>(
     gate: &G,
     segs: u32,
     queues: &mut [QueueLane],
     tasks: &mut VecDeque<LaneTask>,
+    giver: &mut Option<Giver>,
+    whole: bool,
 )
     requires filled { All IsFilled queues.old }
     requires room { deque_len tasks.old + length queues.old ≤ deque_capacity tasks.old }
     ensures sent { SentQueues segs (length queues.old) queues.old queues.new tasks.old.items tasks.new.items }
+    ensures carried { (old : Option GiverState) → Divided whole old giver.old (carried tasks.old.items)
+        → Divided whole old giver.new (carried tasks.new.items) }
     ensures few { deque_len tasks.new ≤ deque_len tasks.old + length queues.old }
     ensures room { deque_capacity tasks.new ≡ deque_capacity tasks.old }
 {
@@ -74,7 +86,8 @@ fn send_queues<G: Gate>(
             work(gate, segs, &mut queues[at]);
         } else {
             let lane = take_queue(&mut queues[at]);
-            tasks.push_back_reserved(LaneTask::Queue(QueueTask::new(at, lane, segs)));
+            let part = carry(giver, whole, lane.packets.len());
+            tasks.push_back_reserved(LaneTask::Queue(QueueTask::new(at, lane, segs, part)));
         }
     }
 }
@@ -94,6 +107,7 @@ fn send_taps<G: Gate>(gate: &G, plan: &Plan, taps: &mut [TapLane], tasks: &mut V
     requires ready { All IsTapReady taps.old }
     requires room { deque_len tasks.old + length taps.old ≤ deque_capacity tasks.old }
     ensures sent { SentTaps plan.now (length taps.old) taps.old taps.new tasks.old.items tasks.new.items }
+    ensures carried { carried tasks.new.items ≡ carried tasks.old.items }
 {
     for at in 0..taps.len() {
         match filter_for(&taps[at], plan) {
@@ -113,26 +127,32 @@ pub(crate) fn send_all<G: Gate>(
     plan: &Plan,
     lanes: &mut Lanes,
     tasks: &mut VecDeque<LaneTask>,
+    giver: &mut Option<Giver>,
 )
     requires queues { All IsFilled lanes.old.queues.items }
     requires taps { All IsTapReady lanes.old.taps.items }
     requires none { tasks.old.items ≡ [] }
     requires room { length lanes.old.queues.items + length lanes.old.taps.items ≤ deque_capacity tasks.old }
     ensures away { Away plan.now lanes.old lanes.new tasks.new.items }
+    ensures divided { Divided false giver.old giver.new (carried tasks.new.items) }
 {
-    send_queues(gate, plan.segs, &mut lanes.queues, tasks);
+    let whole = count_at_work(&lanes.queues) == 1;
+    send_queues(gate, plan.segs, &mut lanes.queues, tasks, giver, whole);
     send_taps(gate, plan, &mut lanes.taps, tasks);
 }
 
-// A lane comes back to its place.
-fn put_back(lanes: &mut Lanes, done: LaneDone)
+// A lane comes back to its place, and what its task carried.
+fn put_back<R: Wait>(rt: &R, lanes: &mut Lanes, done: LaneDone, giver: &mut Option<Giver>)
     requires place { HasPlace lanes.old done }
+    requires may { MayTake done giver.old }
     ensures put { IsPut done lanes.old lanes.new }
+    ensures taken { IsTaken done giver.old giver.new }
 {
     match done {
         LaneDone::Queue(done) => {
-            let (at, lane) = done.open();
+            let (at, lane, back) = done.open();
             free_queue(replace(&mut lanes.queues[at], lane));
+            take_back(rt, giver, back);
         }
         LaneDone::Tap(done) => {
             let (at, lane) = done.open();
@@ -142,25 +162,42 @@ fn put_back(lanes: &mut Lanes, done: LaneDone)
 }
 
 /// All lanes come back.
-pub(crate) fn bring_back(lanes: &mut Lanes, done: &mut VecDeque<LaneDone>)
+pub(crate) fn bring_back<R: Wait>(
+    rt: &R,
+    lanes: &mut Lanes,
+    done: &mut VecDeque<LaneDone>,
+    giver: &mut Option<Giver>,
+)
     requires places { AllByRecursion (HasPlace lanes.old) done.old.items }
+    requires may { MayReturn giver.old (returned done.old.items) }
     ensures did { (plan : Plan) (old : Lanes) (ts : List LaneTask)
         → EachDid DidLane ts done.old.items → Away plan old lanes.old ts → Did plan old lanes.new }
+    ensures back { (old : Option GiverState) → Divided false old giver.old (returned done.old.items)
+        → Divided false old giver.new [] }
     ensures none { done.new.items ≡ [] }
 {
     while let Some(answer) = done.pop_front() {
-        put_back(lanes, answer);
+        put_back(rt, lanes, answer, giver);
     }
 }
 
 /// All lanes that are away are worked here, where nobody else takes them.
-pub(crate) fn work_here<G: Gate>(gate: &G, lanes: &mut Lanes, tasks: &mut VecDeque<LaneTask>)
+pub(crate) fn work_here<G: Gate, R: Wait>(
+    gate: &G,
+    rt: &R,
+    lanes: &mut Lanes,
+    tasks: &mut VecDeque<LaneTask>,
+    giver: &mut Option<Giver>,
+)
     requires places { AllByRecursion (IsPlaced lanes.old) tasks.old.items }
+    requires may { MayReturn giver.old (carried tasks.old.items) }
     ensures did { (plan : Plan) (old : Lanes) → Away plan old lanes.old tasks.old.items → Did plan old lanes.new }
+    ensures back { (old : Option GiverState) → Divided false old giver.old (carried tasks.old.items)
+        → Divided false old giver.new [] }
     ensures none { tasks.new.items ≡ [] }
 {
-    let job = LaneJob { gate };
+    let job = LaneJob { gate, rt };
     while let Some(task) = tasks.pop_front() {
-        put_back(lanes, job.run(task));
+        put_back(rt, lanes, job.run(task), giver);
     }
 }

@@ -1,16 +1,19 @@
 //! All who run a round's tasks, as one who works its lanes.
 ghost use Rattle.std.specs.Prelude.{◌≡◌, ◌+◌, ◌≤◌, [], length, All, IfOk};
 ghost use Rattle.std.specs.VecDeque.{deque_capacity};
+ghost use Rattle.block_pool.specs.Giving.{MayGive};
 ghost use Rattle.lanes.specs.Desks.{IsOpenDesk};
 ghost use Rattle.lanes.specs.Lanes.{IsFilled, IsTapReady};
 ghost use Rattle.lanes.specs.Work.{Did};
 
 use crate::away::{are_two_at_work, bring_back, send_all, work_here};
+use crate::giving::give_back;
 use crate::lane::Lanes;
 use crate::plan::Plan;
 use crate::tasks::{LaneDone, LaneJob, LaneTask};
-use crate::work::run_in_turn;
+use crate::work::run_and_give;
 use crate::works::Works;
+use block_pool::Giver;
 use crossbeam_queue::ArrayQueue;
 use errands::{Asker, Bells, Crew, Errands, Job, Naming, Reply, Runner, Works as DoesTasks, serve};
 use off_io::Gate;
@@ -66,15 +69,16 @@ pub fn open_desk(alloc: Global, runners: u32) -> Result<LaneDesk, AllocError>
 /// Who asks at a desk, with all who run its tasks. While it waits it runs tasks itself, so it needs no one else.
 /// Places for a round are reserved before.
 #[derive(Drop)]
-pub struct LaneCrew<'a, 'g, G: Gate, N: Naming, R> {
-    crew: Crew<'a, LaneTask, LaneDone, LaneJob<'g, G>, N, R>,
+pub struct LaneCrew<'a, 'g, G: Gate, N: Naming, R: Wait> {
+    crew: Crew<'a, LaneTask, LaneDone, LaneJob<'g, G, R>, N, R>,
     gate: &'g G,
+    rt: &'g R,
     // Both are empty between rounds.
     tasks: VecDeque<LaneTask>,
     done: VecDeque<LaneDone>,
 }
 
-impl<'a, 'g, G: Gate, N: Naming, R> Model for LaneCrew<'a, 'g, G, N, R> {
+impl<'a, 'g, G: Gate, N: Naming, R: Wait> Model for LaneCrew<'a, 'g, G, N, R> {
     ghost use Rattle.std.specs.Prelude.{◌≡◌, []};
     ghost use Rattle.atomic_table.specs.Seated.{TableId};
 
@@ -85,14 +89,14 @@ impl<'a, 'g, G: Gate, N: Naming, R> Model for LaneCrew<'a, 'g, G, N, R> {
     ghost invariant = { λ c. (c.tasks.items ≡ []) × (c.done.items ≡ []) };
 }
 
-impl<'a, 'g, G: Gate, N: Naming, R> LaneCrew<'a, 'g, G, N, R> {
+impl<'a, 'g, G: Gate, N: Naming, R: Wait> LaneCrew<'a, 'g, G, N, R> {
     /// The crew of a desk at which nothing was asked yet.
     pub fn new(
         rt: &'a R,
         alloc: Global,
         errands: &'a Errands<LaneTask>,
-        replies: &'a ArrayQueue<Reply<LaneTask, LaneDone, LaneJob<'g, G>, N>>,
-        job: &'a LaneJob<'g, G>,
+        replies: &'a ArrayQueue<Reply<LaneTask, LaneDone, LaneJob<'g, G, R>, N>>,
+        job: &'a LaneJob<'g, G, R>,
         bells: &'a Bells,
         asker: Asker<LaneTask>,
         own: Runner<LaneTask>,
@@ -106,6 +110,7 @@ impl<'a, 'g, G: Gate, N: Naming, R> LaneCrew<'a, 'g, G, N, R> {
         Ok(LaneCrew {
             crew: Crew::new(rt, errands, replies, job, bells, asker, own, places),
             gate: job.gate,
+            rt: job.rt,
             tasks,
             done,
         })
@@ -114,41 +119,47 @@ impl<'a, 'g, G: Gate, N: Naming, R> LaneCrew<'a, 'g, G, N, R> {
 
 // The lanes that have something to do go to the desk as tasks, and come back.
 fn run_by_tasks<G: Gate, N: Naming, R: Wait>(
-    crew: &mut Crew<'_, LaneTask, LaneDone, LaneJob<'_, G>, N, R>,
+    crew: &mut Crew<'_, LaneTask, LaneDone, LaneJob<'_, G, R>, N, R>,
     gate: &G,
+    rt: &R,
     plan: &Plan,
     lanes: &mut Lanes,
     tasks: &mut VecDeque<LaneTask>,
     done: &mut VecDeque<LaneDone>,
+    giver: &mut Option<Giver>,
 )
     requires queues { All IsFilled lanes.old.queues.items }
     requires taps { All IsTapReady lanes.old.taps.items }
     requires none { (tasks.old.items ≡ []) × (done.old.items ≡ []) }
     requires room { length lanes.old.queues.items + length lanes.old.taps.items ≤ deque_capacity tasks.old }
     ensures did { Did plan.now lanes.old lanes.new }
+    ensures gave { MayGive giver.old giver.new }
     ensures none { (tasks.new.items ≡ []) × (done.new.items ≡ []) }
 {
-    send_all(gate, plan, lanes, tasks);
+    send_all(gate, plan, lanes, tasks, giver);
     match crew.do_tasks(tasks, done) {
-        Ok(()) => bring_back(lanes, done),
-        Err(_) => work_here(gate, lanes, tasks),
+        Ok(()) => bring_back(rt, lanes, done, giver),
+        Err(_) => work_here(gate, rt, lanes, tasks, giver),
     }
 }
 
 impl<G: Gate, N: Naming, R: Wait> Works for LaneCrew<'_, '_, G, N, R> {
-    fn run_lanes(&mut self, plan: &Plan, lanes: &mut Lanes) {
+    fn run_lanes(&mut self, plan: &Plan, lanes: &mut Lanes, giver: &mut Option<Giver>) {
         let count = lanes.queues.len().saturating_add(lanes.taps.len());
         if count > self.tasks.capacity() || !are_two_at_work(lanes) {
-            run_in_turn(self.gate, plan, lanes);
+            run_and_give(self.gate, self.rt, plan, lanes, giver);
         } else {
             run_by_tasks(
                 &mut self.crew,
                 self.gate,
+                self.rt,
                 plan,
                 lanes,
                 &mut self.tasks,
                 &mut self.done,
+                giver,
             );
+            give_back(self.rt, giver);
         }
     }
 }

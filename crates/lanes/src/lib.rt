@@ -22,18 +22,27 @@
 //! their flows. With one queue the list of packets becomes the lane's as it stands, and no packet moves; with several
 //! the list is turned in place, and then each packet moves once. Then each queue's engine takes the memory for as many
 //! packets as the queue has. Then all lanes are worked by a [`Works`]: by the thread that calls, one after another
-//! ([`Alone`]), or by all who run tasks beside it ([`LaneCrew`]). A queue's work takes no memory and can't be refused.
-//! A tap's lane holds room for all that its clones may leave before it gets them, so giving back wants no memory.
+//! ([`Alone`], [`Beside`]), or by all who run tasks beside it ([`LaneCrew`]). A queue's work takes no memory and can't
+//! be refused. A tap's lane holds room for all that its clones may leave before it gets them, so giving back wants no
+//! memory.
 //!
 //! Only what is cloned is shared. Where there are taps, whoever has the packets shares their heads first
 //! (`gro::Packets::share_heads`), and each clone takes of a block's weight. Without taps nothing is asked of the heads,
-//! nothing is counted, and packets of which nobody shares a block come out of the work as such. The spares that a round
-//! has aren't in lanes.
+//! nothing is counted, and packets of which nobody shares a block come out of the work as such.
+//!
+//! Blocks that a round has and that no packet holds, its spares, lie in no lane. Where others read the next round
+//! beside the work they are lent with a `block_pool::Giver`, and go to the pool that these take lists from as soon as a
+//! queue's lane is worked: by the thread that does all lanes, behind the first queue that had packets ([`Beside`]); or
+//! by each queue's task, which carries two blocks for each of its packets and a pass of its own, or all where no other
+//! queue has packets. What no task could carry goes behind them, and what finds the pool full stays with who lent it. A
+//! tap carries none: the packets lie in the queues' lanes until a round is written, so it is never the last who holds
+//! one.
 //!
 //! ```text
-//!   who asks ── a lane, as a task ──>  the desk  ── the task, a note ──> whoever is free, and who asks while it waits
-//!      ^                                                                    │
-//!      └──────────────── the lane once it is worked, the note ──────────────┘
+//!   who asks ── a lane, part of the list ──> the desk ── the task, a note ──> whoever is free, and who asks, waiting
+//!      ^                                                                          │                      │
+//!      └───── the lane once it is worked, what is left of the list, the note ─────┘                      │
+//!   who reads <───────── pool of lists <───────── the list, as soon as the lane is worked ───────────────┘
 //! ```
 //!
 //! A crew works by `errands`: threads that live for a whole run ([`serve_lanes`]) take the lanes of its rounds from a
@@ -56,6 +65,9 @@
 //!   stays are as many blocks and parts as the packets had; `clones`: no clone is left.
 //! - `alone` and `idle`: without taps, where nobody else held a block of the packets nobody does of those in the lanes
 //!   and of those that stay, and the lanes of taps have nothing that is to be brought home.
+//! - `gave`: of the blocks that were lent some went to the pool, or none, whoever works and also where memory is
+//!   refused: by any weight of blocks what was given and what still lies there is what did before, and the pass has all
+//!   its parts again. So between two rounds nothing that was lent is in a lane or with a crew.
 //! - `packets`: each queue has the packets of its flows, in their order; `merged`: each of them is in one of the
 //!   queue's runs, once, by its index, so that what a run comes to can be read and written from where its packets lie.
 //!
@@ -66,8 +78,8 @@
 //! For a crew it comes from the notes: an answer is known to be that of its task (`DidLane` in `specs/Tasks`), in
 //! whatever order answers come.
 //!
-//! Only tested: that lanes run at the same time, that each passes the gate before its work and after it, and that
-//! memory suffices where there is some. Not said: that a thread runs or is woken.
+//! Only tested: that lanes run at the same time, that each passes the gate before its work and after it, that memory
+//! suffices where there is some, and that blocks are given at all and when. Not said: that a thread runs or is woken.
 //!
 //! ```
 //! let plan = Plan {
@@ -80,7 +92,7 @@
 //! };
 //! let mut works = Alone { gate: &NoGate };
 //! let mut lanes = Lanes::new(alloc);
-//! let blocks = match work_packets(&mut works, alloc, &mut packets, &plan, &mut lanes) {
+//! let blocks = match work_packets(&mut works, alloc, &mut packets, &plan, &mut lanes, &mut None) {
 //!     Ok(()) => {
 //!         packets.discard();
 //!         all_home(&rt, lanes) // once what they came to is written
@@ -91,8 +103,9 @@
 //!
 //! Its parts: `plan` (how many lanes), `lane` (what each has to do, and what it has done), `share` (packets to their
 //! queues, and memory for their runs), `clones` and `fill` (what taps get, where there are any), `keep` (a clone of
-//! each packet beside the work), `work` (one lane's work) and `works` (who does it); `tasks` (lanes as tasks), `away`
-//! (out to the desk and back), `crew`, `shared` (the filter that taps share) and `free`; and on these `round`.
+//! each packet beside the work), `work` (one lane's work) and `works` (who does it); `giving` (a list that is lent, in
+//! parts and as one again), `tasks` (lanes as tasks), `away` (out to the desk and back), `crew`, `shared` (the filter
+//! that taps share) and `free`; and on these `round`.
 //!
 //! Tests: `round_tests`, module `working`.
 //!
@@ -111,6 +124,9 @@
 //!   and are to come to their lanes in order. Where memory is refused it is turned again.
 //! - **A task carries its filter by a count** (`SharedProgram`), and not by a loan: tasks outlive each call, so what
 //!   they hold has to be their own.
+//! - **What is lent is counted whole, wherever it is** (`Divided` in `specs/Givers`): what is at hand and what tasks
+//!   carry have as many parts and blocks as all that was lent. So answers may come in any order, and whether a task
+//!   carries a part, all or none is nothing that a caller sees.
 //! - **Only memory stops lanes from being filled**: first there are as many as the plan has, then come each tap's
 //!   clones of all packets, then the packets go to their queues, and at last each queue's engine takes its memory. So
 //!   clones are of packets in their order, and a packet that there is no memory for stands in front of the others
@@ -130,6 +146,7 @@ mod clones;
 mod crew;
 mod fill;
 mod free;
+mod giving;
 mod keep;
 mod lane;
 mod plan;
@@ -147,4 +164,4 @@ pub use plan::Plan;
 pub use round::work_packets;
 pub use shared::SharedProgram;
 pub use tasks::{LaneDone, LaneJob, LaneTask, QueueDone, QueueTask, TapDone, WatchTask};
-pub use works::{Alone, Works};
+pub use works::{Alone, Beside, Works};

@@ -7,6 +7,7 @@ ghost use Rattle.offload_model.specs.Rounds.{is_queued};
 ghost use Rattle.offload_model.specs.Written.{round_records};
 ghost use Rattle.gro.specs.declared.slot.Slot.{Slot as Held};
 ghost use Rattle.gro.specs.Slots.{packet_of, of_packets, counts_of, AreAlone, AreHeld, AreShared, WeighAtLeast};
+ghost use Rattle.block_pool.specs.Giving.{MayGive};
 ghost use Rattle.lanes.specs.Clones.{weight_after};
 ghost use Rattle.lanes.specs.Lanes.{of_lanes, counts_of_queues, AreIdle, IsFilled, IsIdleTap, IsMerged, IsTapReady};
 ghost use Rattle.lanes.specs.Packets.{RiseFrom};
@@ -20,6 +21,7 @@ use crate::lane::{Lanes, TapLane};
 use crate::plan::Plan;
 use crate::share::share_out;
 use crate::works::Works;
+use block_pool::Giver;
 use gro::Packets;
 use std::alloc::{AllocError, Global};
 
@@ -111,7 +113,8 @@ fn finish(lanes: &Lanes) -> Result<(), AllocError>
 /// The work of a round in lanes that are idle, by whoever works them. Each packet goes to the queue of its flow; where
 /// there is one queue their list is the lane's. Each tap is given a clone of every packet before any worker starts; and
 /// each worker and each tap passes the gate at point 0 before its work and at point 1 after it. One clone of each
-/// packet may have been kept before, by [`keep_packets`](crate::keep_packets).
+/// packet may have been kept before, by [`keep_packets`](crate::keep_packets). What lies in the giver's list is no
+/// block of the packets: it may go back to its pool as soon as a queue's lane is worked, and what doesn't stays there.
 ///
 /// For want of memory what isn't in `packets` any more is in the lanes. Where they are as many as the plan has, their
 /// memory serves.
@@ -121,6 +124,7 @@ pub fn work_packets<W: Works>(
     packets: &mut Packets,
     plan: &Plan,
     lanes: &mut Lanes,
+    giver: &mut Option<Giver>,
 ) -> Result<(), AllocError>
     requires plan { IsPlan plan.now }
     requires held { AreHeld packets.old.items }
@@ -146,8 +150,9 @@ pub fn work_packets<W: Works>(
         → AreAlone packets.new.items × All (λ l. AreAlone l.packets.items) lanes.new.queues.items }
     ensures idle { plan.now.taps ≡ 0 → All IsIdleTap lanes.new.taps.items }
     ensures clones { All (λ t. t.clones.items ≡ []) lanes.new.taps.items }
+    ensures gave { MayGive giver.old giver.new }
 {
     begin(alloc, plan, packets, lanes)?;
-    works.run_lanes(plan, lanes);
+    works.run_lanes(plan, lanes, giver);
     finish(lanes)
 }

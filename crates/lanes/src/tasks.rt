@@ -1,22 +1,28 @@
 //! Lanes as tasks: what goes to whoever runs them, and what comes back.
 ghost use Rattle.std.specs.Prelude.{◌≡◌};
+ghost use Rattle.block_pool.specs.Giving.{MayGive};
 ghost use Rattle.lanes.specs.Lanes.{DidQueue, DidTap, IsFilled, IsTapReady};
 ghost use Rattle.lanes.specs.LaneWork.{queue_work, tap_work};
 
 use crate::free::{free_queue, free_tap};
+use crate::giving::give_back;
 use crate::lane::{QueueLane, TapLane};
 use crate::shared::{SharedProgram, program_in};
 use crate::work::{watch, work};
+use block_pool::Giver;
 use errands::Job;
 use off_io::Gate;
 use std::marker::Model;
+use std::sync::Wait;
 
-/// A queue's lane with what it has to do. One that is dropped frees its blocks.
+/// A queue's lane with what it has to do, and what gives blocks back once that is done. One that is dropped frees its
+/// blocks.
 pub struct QueueTask {
     // Its place among the queues.
     at: usize,
     lane: QueueLane,
     segs: u32,
+    giver: Option<Giver>,
 }
 
 impl Model for QueueTask {
@@ -25,7 +31,7 @@ impl Model for QueueTask {
 
     ghost Value = { QueueWork };
 
-    ghost view = { λ t. queue_work t.at t.lane t.segs };
+    ghost view = { λ t. queue_work t.at t.lane t.segs t.giver };
 
     ghost invariant = { λ t. IsFilled t.lane };
 }
@@ -54,6 +60,7 @@ impl Model for WatchTask {
 pub struct QueueDone {
     at: usize,
     lane: QueueLane,
+    giver: Option<Giver>,
 }
 
 /// A tap's lane once its clones are read. One that is dropped frees its blocks.
@@ -82,6 +89,7 @@ impl Drop for QueueTask {
             at: _,
             lane,
             segs: _,
+            giver: _giver,
         } = self;
         free_queue(lane);
     }
@@ -101,7 +109,11 @@ impl Drop for WatchTask {
 
 impl Drop for QueueDone {
     fn drop(self) {
-        let QueueDone { at: _, lane } = self;
+        let QueueDone {
+            at: _,
+            lane,
+            giver: _giver,
+        } = self;
         free_queue(lane);
     }
 }
@@ -114,20 +126,32 @@ impl Drop for TapDone {
 }
 
 impl QueueTask {
-    pub(crate) fn new(at: usize, lane: QueueLane, segs: u32) -> QueueTask
+    pub(crate) fn new(at: usize, lane: QueueLane, segs: u32, giver: Option<Giver>) -> QueueTask
         requires filled { IsFilled lane }
-        ensures same { result ≡ queue_work at lane segs }
+        ensures same { result ≡ queue_work at lane segs giver }
     {
-        QueueTask { at, lane, segs }
+        QueueTask {
+            at,
+            lane,
+            segs,
+            giver,
+        }
     }
 
-    fn run<G: Gate>(self, gate: &G) -> QueueDone
+    fn run<G: Gate, R: Wait>(self, gate: &G, rt: &R) -> QueueDone
         ensures at { result.at ≡ self.at }
         ensures did { DidQueue self.segs self.lane result.lane }
+        ensures gave { MayGive self.giver result.giver }
     {
-        let QueueTask { at, mut lane, segs } = self;
+        let QueueTask {
+            at,
+            mut lane,
+            segs,
+            mut giver,
+        } = self;
         work(gate, segs, &mut lane);
-        QueueDone { at, lane }
+        give_back(rt, &mut giver);
+        QueueDone { at, lane, giver }
     }
 }
 
@@ -165,11 +189,11 @@ impl WatchTask {
 }
 
 impl QueueDone {
-    pub(crate) fn open(self) -> (usize, QueueLane)
-        ensures same { (result.0 ≡ self.at) × (result.1 ≡ self.lane) }
+    pub(crate) fn open(self) -> (usize, QueueLane, Option<Giver>)
+        ensures same { (result.0 ≡ self.at) × (result.1 ≡ self.lane) × (result.2 ≡ self.giver) }
     {
-        let QueueDone { at, lane } = self;
-        (at, lane)
+        let QueueDone { at, lane, giver } = self;
+        (at, lane, giver)
     }
 }
 
@@ -182,20 +206,22 @@ impl TapDone {
     }
 }
 
-/// What is done of a round's tasks. Each lane passes the gate at point 0 before its work and at point 1 after it.
+/// What is done of a round's tasks. Each lane passes the gate at point 0 before its work and at point 1 after it. A
+/// queue's task then gives back what it carries.
 #[derive(Drop)]
-pub struct LaneJob<'g, G> {
+pub struct LaneJob<'g, G, R> {
     pub gate: &'g G,
+    pub rt: &'g R,
 }
 
-impl<G: Gate> Job<LaneTask, LaneDone> for LaneJob<'_, G> {
+impl<G: Gate, R: Wait> Job<LaneTask, LaneDone> for LaneJob<'_, G, R> {
     ghost use Rattle.lanes.specs.Tasks.{DidLane};
 
     ghost did = { DidLane };
 
     fn run(&self, task: LaneTask) -> LaneDone {
         match task {
-            LaneTask::Queue(task) => LaneDone::Queue(task.run(self.gate)),
+            LaneTask::Queue(task) => LaneDone::Queue(task.run(self.gate, self.rt)),
             LaneTask::Tap(task) => LaneDone::Tap(task.run(self.gate)),
         }
     }

@@ -1,13 +1,17 @@
 //! The work of the lanes.
 ghost use Rattle.std.specs.Prelude.{◌≡◌, All, option_map};
+ghost use Rattle.block_pool.specs.Giving.{MayGive};
 ghost use Rattle.lanes.specs.Lanes.{DidQueue, DidTap, EachQueueDid, EachTapDid, IsFilled, IsTapReady};
 ghost use Rattle.lanes.specs.Work.{Did};
 
+use crate::giving::give_back;
 use crate::lane::{Lanes, QueueLane, TapLane};
 use crate::plan::Plan;
 use crate::shared::program_in;
+use block_pool::Giver;
 use core::mem::replace;
 use off_io::{Gate, Who};
+use std::sync::Wait;
 use tap_filter::Program;
 use taps::{TapTexts, read_clones};
 
@@ -69,5 +73,42 @@ pub(crate) fn run_in_turn<G: Gate>(gate: &G, plan: &Plan, lanes: &mut Lanes)
     ensures did { Did plan.now lanes.old lanes.new }
 {
     work_in_turn(gate, plan, &mut lanes.queues);
+    watch_in_turn(gate, plan, &mut lanes.taps);
+}
+
+// The queues' workers, one after another. Behind one that had packets the list goes back, where it still lies there.
+fn work_and_give<G: Gate, R: Wait>(
+    gate: &G,
+    rt: &R,
+    plan: &Plan,
+    queues: &mut [QueueLane],
+    giver: &mut Option<Giver>,
+)
+    requires filled { All IsFilled queues.old }
+    ensures did { EachQueueDid plan.now.segs queues.old queues.new }
+    ensures gave { MayGive giver.old giver.new }
+{
+    for at in 0..queues.len() {
+        work(gate, plan.segs, &mut queues[at]);
+        if !queues[at].packets.is_empty() {
+            give_back(rt, giver);
+        }
+    }
+}
+
+/// All lanes in the thread that calls, where others take lists beside it.
+pub(crate) fn run_and_give<G: Gate, R: Wait>(
+    gate: &G,
+    rt: &R,
+    plan: &Plan,
+    lanes: &mut Lanes,
+    giver: &mut Option<Giver>,
+)
+    requires queues { All IsFilled lanes.old.queues.items }
+    requires taps { All IsTapReady lanes.old.taps.items }
+    ensures did { Did plan.now lanes.old lanes.new }
+    ensures gave { MayGive giver.old giver.new }
+{
+    work_and_give(gate, rt, plan, &mut lanes.queues, giver);
     watch_in_turn(gate, plan, &mut lanes.taps);
 }

@@ -1,6 +1,6 @@
 -- What both sides say together, once both have ended, and what one says where there aren't two.
 use Rattle.std.proofs.Common.{◌≡◌, ◌∙◌, ◌+◌, ◌<◌, ◌≤◌, ◌^◌, ℕ, List, [], ◌∷◌, ◌++◌, length, length-append}
-use Rattle.std.proofs.Common.{Option, None, Some, MatchOption, IfSome, Result, Ok, Err, Bool, false, inl, inr, true, refl, sym, ap, subst, arith, append-nil}
+use Rattle.std.proofs.Common.{Option, None, Some, MatchOption, IfSome, Result, Ok, Err, Bool, false, inl, inr, refl, sym, ap, subst, arith}
 use Rattle.std.proofs.lemmas.Bool.{false≢true}
 use Rattle.offload_model.specs.Written.{Options}
 use Rattle.rounds.specs.declared.round.RoundEnd.TheVariants as rounds
@@ -8,7 +8,7 @@ use Rattle.rounds.specs.declared.round.RoundRead.{RoundRead}
 use Rattle.rounds.specs.Merging.{options_of}
 use Rattle.rounds.specs.RoundsState.{RoundsState, IntakeState}
 use Rattle.pipeline.specs.declared.parcel.Parcel.{Parcel}
-use Rattle.pipeline.specs.Handled.{Went, Ends, Ran, RanOn, Rests, IsReadyAt, IsReadyAtEnd, Stepped, Handled, HandledOn, MayGoOn, IsOut, Idle, MayBeHandled}
+use Rattle.pipeline.specs.Handled.{Ends, Ran, RanOn, Rests, IsReadyAt, IsReadyAtEnd, Stepped, Handled, HandledOn, MayGoOn, IsOut, Idle, MayBeHandled}
 use Rattle.pipeline.specs.Handled.{ComesBack, blocks_out}
 use Rattle.pipeline.specs.Parcels.{blocks_of, is_full, rounds_of}
 use Rattle.pipeline.specs.Reads.{Spot, ReadRound, Reads, ReadOn, IsAlone}

@@ -1,5 +1,5 @@
 -- What is written of rounds that were read on another side, and how merging ends.
-use Rattle.std.proofs.Common.{◌≡◌, ◌+◌, ◌-◌, ◌^◌, ◌≤◌, inl, inr, ℕ, List, [], ◌∷◌, ◌++◌, Bool, true, false, Option, Some, refl, sym, ap, ◌∙◌, subst, length, length-append, min, map, arith}
+use Rattle.std.proofs.Common.{◌≡◌, ◌+◌, ◌-◌, ◌^◌, ◌≤◌, inl, inr, ℕ, List, [], ◌∷◌, ◌++◌, Bool, true, false, Option, Some, refl, sym, ap, ◌∙◌, subst, min, map, arith}
 use Rattle.std.proofs.Common.{append_assoc}
 use Rattle.std.proofs.KnownBytes.{Appends-nil, Appends-kept}
 use Rattle.std.proofs.lemmas.Bool.{false≢true}
@@ -24,7 +24,7 @@ use Rattle.rounds.specs.declared.merge.MergeEnd.{MergeEnd}
 use Rattle.rounds.specs.declared.merge.MergeEnd.TheVariants as ends
 use Rattle.rounds.specs.declared.merge.Step.{Step}
 use Rattle.rounds.specs.declared.merge.Step.TheVariants as steps
-use Rattle.rounds.specs.Merging.{ending_of, options_of, is_worked, Fails, Puts, GivesUp, Ahead, EndsBehind, Steps, IfEnds, TakesAll, EndsCaptured}
+use Rattle.rounds.specs.Merging.{ending_of, options_of, is_worked, Fails, Puts, Ahead, EndsBehind, TakesAll, EndsCaptured}
 use Rattle.rounds.specs.RoundsState.{RoundsState}
 use Rattle.rounds.proofs.Merging.{StepSays, step_says, ahead_none, full_given, goes_then, ends_then, captured_then, taken_then}
 use Rattle.rounds.proofs.Merging.{fronts_then}

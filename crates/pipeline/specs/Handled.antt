@@ -1,5 +1,5 @@
 -- What was done with rounds that were read, one after another.
-use Rattle.std.specs.Prelude.{ℕ, ◌≡◌, ◌⊎◌, ◌+◌, ◌≤◌, ◌^◌, false, Bool, Option, None, Some, List, [], ◌∷◌, ◌++◌, length}
+use Rattle.std.specs.Prelude.{ℕ, ◌≡◌, ◌⊎◌, ◌+◌, ◌≤◌, ◌^◌, false, Option, None, Some, List, [], ◌∷◌, ◌++◌, length}
 use Rattle.std.specs.Prelude.{Result, Ok, Err}
 use Rattle.pcap_io.specs.declared.heads.Link.TheVariants.{Ethernet}
 use Rattle.pcap_io.specs.declared.place.Place.{Place}

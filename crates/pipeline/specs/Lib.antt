@@ -1,4 +1,5 @@
 pub mod Parcels
+pub mod Desks
 pub mod Reads
 pub mod Handled
 pub mod Works

@@ -1,8 +1,11 @@
 -- What goes through the rings, and how many blocks it holds.
-use Rattle.std.specs.Prelude.{ℕ, ◌≡◌, ◌+◌, ◌^◌, ◌≤◌, Bool, true, false, Option, None, Some, List, [], ◌∷◌}
+use Rattle.std.specs.Prelude.{ℕ, ◌≡◌, ◌+◌, ◌-◌, ◌^◌, ◌≤◌, Bool, true, false, Option, None, Some, List, [], ◌∷◌}
 use Rattle.std.specs.Prelude.{length}
 use denote.RawPtr.{Ptr, null_ptr}
 use Rattle.std.specs.declared.alloc.Global.{Global}
+use Rattle.block_pool.specs.Giving.{GiverState}
+use Rattle.block_pool.specs.Listed.{blocks_in}
+use Rattle.block_pool.specs.PassState.{PassState, SharedState}
 use Rattle.block_pool.specs.PoolState.{PoolState, home}
 use Rattle.rtrb.specs.declared.consumer.Consumer.{Consumer}
 use Rattle.rtrb.specs.Shared.{Names}
@@ -73,3 +76,25 @@ no_ring = record {
 abbrev pub IsOfRing : {T P : Type 0} → RingName → Consumer T Global P → Type 0
 IsOfRing ring c = (c.end.words ≡ ring.words) × (c.end.slots ≡ ring.slots) × (c.end.names ≡ ring.names)
     × (c.end.heap ≡ ring.heap)
+
+-- ---- lists
+
+-- what tells no pool from others
+abbrev pub no_lists : SharedState
+no_lists = record {
+  id = record { words = 0; slots = 0; views_name = 0; atom = 0; block = 0; offset = 0; slot_names = [] };
+  made = 0;
+  places = 0;
+}
+
+-- the blocks that came home of lists that were taken: all but those that are left of one
+abbrev pub listed_home : PassState PoolState → PoolState → ℕ
+listed_home pass left = blocks_in pass.taken - home left
+
+-- who gives lists to this pool is there, with nothing in its list and all parts of passes but one
+pub record HasGiver (pool : SharedState) (giver : Option GiverState) : Type 0 where
+  pub it : GiverState
+  pub is : giver ≡ Some it
+  pub pool_is : it.pool ≡ pool
+  pub parts : it.pass.parts ≡ 65535
+  pub none : home it.list ≡ 0

@@ -1,5 +1,5 @@
 -- What the side that reads says of the rounds that it sent, one after another.
-use Rattle.std.specs.Prelude.{ℕ, ◌≡◌, ◌≢◌, ◌+◌, ◌-◌, ◌<◌, ◌≤◌, ◌^◌, false, Option, None, Some, List, [], ◌∷◌, ◌++◌}
+use Rattle.std.specs.Prelude.{ℕ, ◌≡◌, ◌≢◌, ◌+◌, ◌-◌, ◌<◌, ◌≤◌, ◌^◌, false, Option, Some, List, [], ◌∷◌, ◌++◌}
 use Rattle.std.specs.Prelude.{length, map, min}
 use Rattle.std.specs.List.{AllByRecursion}
 use Rattle.off_io.specs.Faults.{Rose}

@@ -1,13 +1,14 @@
 //! How the two sides wake each other, and how they know that there are two.
+use block_pool::Bell;
+use std::sync::Arc;
 use std::sync::atomic::{AtomicBool, Ordering};
 use std::thread;
-use std::thread::Parker;
 
-/// Each side sleeps by its own.
+/// Each side sleeps by its own. Whoever gives blocks back while a round is worked has that of the reader too.
 #[derive(Drop)]
 pub(crate) struct Bells {
-    pub(crate) reader: Parker,
-    pub(crate) worker: Parker,
+    pub(crate) reader: Arc<Bell>,
+    pub(crate) worker: Bell,
     // Whoever sets it first decides: the side that reads, that it begins; the other one, that it won't.
     begun: AtomicBool,
 }
@@ -17,10 +18,10 @@ pub(crate) struct Bells {
 const PATIENCE: u32 = 1_000_000;
 
 impl Bells {
-    pub(crate) fn new() -> Bells {
+    pub(crate) fn new(reader: Arc<Bell>) -> Bells {
         Bells {
-            reader: Parker::new(),
-            worker: Parker::new(),
+            reader,
+            worker: Bell::new(),
             begun: AtomicBool::new(false),
         }
     }

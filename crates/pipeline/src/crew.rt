@@ -12,8 +12,8 @@ use crate::drive::handle_by;
 use crossbeam_queue::ArrayQueue;
 use errands::{Bells, Errands, Job, Naming, Reply, Runner};
 use lanes::{
-    Alone, LANES, LaneCrew, LaneDesk, LaneDone, LaneJob, LaneTask, Works, count_runners, open_desk,
-    serve_lanes,
+    Beside, LANES, LaneCrew, LaneDesk, LaneDone, LaneJob, LaneTask, Works, count_runners,
+    open_desk, serve_lanes,
 };
 use off_io::{Gate, Source};
 use pcap_io::CaptureReader;
@@ -123,12 +123,12 @@ fn handle_crewed<
         mut runners,
         bells,
     } = desk;
-    let job = LaneJob { gate };
+    let job = LaneJob { gate, rt };
     let Ok(replies) = ArrayQueue::new(alloc, LANES) else {
         return handle_by(
             rt,
             alloc,
-            &mut Alone { gate },
+            &mut Beside { gate, rt },
             rounds,
             reader,
             handler,
@@ -139,14 +139,14 @@ fn handle_crewed<
         return handle_by(
             rt,
             alloc,
-            &mut Alone { gate },
+            &mut Beside { gate, rt },
             rounds,
             reader,
             handler,
             into,
         );
     };
-    handle_serving::<LaneJob<'_, G>, N, R, LaneCrew<'_, '_, G, N, R>, S, T, E, H>(
+    handle_serving::<LaneJob<'_, G, R>, N, R, LaneCrew<'_, '_, G, N, R>, S, T, E, H>(
         rt,
         alloc,
         &errands,
@@ -198,7 +198,7 @@ pub fn handle_beside<
         return handle_by(
             rt,
             alloc,
-            &mut Alone { gate },
+            &mut Beside { gate, rt },
             rounds,
             reader,
             handler,
@@ -212,7 +212,7 @@ pub fn handle_beside<
         Err(_) => handle_by(
             rt,
             alloc,
-            &mut Alone { gate },
+            &mut Beside { gate, rt },
             rounds,
             reader,
             handler,

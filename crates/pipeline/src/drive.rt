@@ -1,5 +1,6 @@
 //! Handles a capture's rounds by two sides.
 ghost use Rattle.std.specs.Prelude.{◌≡◌, ◌+◌, ◌-◌, ◌≤◌, ◌^◌, true, None, Ok, [], IfSome, IfOk, OnOk, length};
+ghost use Rattle.std.specs.Arc.{arc_value};
 ghost use Rattle.block_pool.specs.PoolState.{home};
 ghost use Rattle.pcap_io.specs.declared.heads.Link.TheVariants.{Ethernet};
 ghost use Rattle.pcap_io.specs.Places.{IsReady};
@@ -12,12 +13,14 @@ ghost use Rattle.pipeline.specs.Parcels.{IsOfRing, shelved};
 ghost use Rattle.pipeline.specs.Reads.{reader_at, IsAlone};
 
 use crate::bells::Bells;
-use crate::desk::{Desk, SHELVES, Sleeper, Supply, new_shelves};
-use crate::gather::{bring_shelves, drop_parcels};
+use crate::desk::{Desk, Reading, SHELVES, new_shelves};
+use crate::gather::{bring_home, drop_parcels};
 use crate::here::handle_here;
-use crate::parcel::{Fits, Naming, Parcel, Token};
+use crate::parcel::{Fits, Naming, Parcel};
+use crate::post::Sleeper;
 use crate::ring::send;
 use crate::sides::{is_full, run_sides};
+use crate::ways::{Ways, open_ways};
 use block_pool::Pool;
 use lanes::Works;
 use off_io::Source;
@@ -124,8 +127,8 @@ fn ending<N: Naming, T, E, H: RoundHandler<T, E>>(
     }
 }
 
-// Handles what is left, of which the first round was read and was full, by two sides, of which tokens come back by this
-// ring. That round comes back where there is no memory or no thread for two: then nothing else was read or done.
+// Handles what is left, of which the first round was read and was full, by two sides, between which blocks come home by
+// these ways. That round comes back where there is no memory or no thread for two: then nothing else was read or done.
 fn handle_named<
     N: Naming + Send,
     R: Threads + Wait + Sync,
@@ -143,15 +146,13 @@ fn handle_named<
     read: RoundRead,
     handler: &H,
     into: &mut T,
-    told: Producer<Token>,
-    tokens: Consumer<Token>,
+    ways: Ways,
 ) -> Result<E, RoundRead>
     requires out { IsOut rounds.old read (place_of reader.old) }
     requires full { read.end ≡ RoundEnd.Full }
     requires start { H.ready (options_of rounds.old) rounds.old.keep 0 into.old }
     requires named { rounds.old.blocks ≡ N.blocks }
-    requires ring { IsPair told tokens × IsOfRing N.ring tokens }
-    requires none { (sent told ≡ []) × (received tokens ≡ []) }
+    requires ways { IsOfRing N.ring ways.tokens × (arc_value ways.taker.lists ≡ N.lists) }
     ensures same_source { SameLoan reader.old reader.new }
     ensures handled { MayBeHandled (H.did handler.now (options_of rounds.old)) H.stopped
         (H.ready (options_of rounds.old) rounds.old.keep) rounds.old rounds.new read
@@ -166,11 +167,18 @@ fn handle_named<
         return Err(read);
     };
     send_first(rt, &mut out, read, shelf);
-    let mut told = told;
-    let bells = Bells::new();
+    let Ways {
+        mut told,
+        tokens,
+        taker,
+        giver,
+        bell,
+    } = ways;
+    let mut giver = Some(giver);
+    let bells = Bells::new(bell);
     let post = Sleeper::<'_, R, N>::new(rt, &bells);
-    let mut supply = Supply {
-        desk: Desk::new(post, blocks, tokens, shelves),
+    let mut supply = Reading {
+        desk: Desk::new(post, blocks, tokens, shelves, taker),
         out,
     };
     let end = run_sides(
@@ -179,6 +187,7 @@ fn handle_named<
         intake,
         bench,
         &mut kept,
+        &mut giver,
         reader,
         handler,
         into,
@@ -187,17 +196,17 @@ fn handle_named<
         &mut told,
         &bells,
     );
-    let Supply { desk, mut out } = supply;
+    let Reading { desk, mut out } = supply;
     let waiting = from.slots_beside(&mut out);
-    let (mut tokens, shelves) = desk.close();
+    let (mut tokens, shelves, taker) = desk.close();
     tokens.slots_beside(&mut told);
     let ended = ending::<N, T, E, H>(end, waiting, handler, &mut from);
-    bring_shelves(intake, &mut tokens, kept, shelves);
+    bring_home(rt, intake, &mut tokens, kept, shelves, taker, giver);
     drop_parcels(rounds, &mut from);
     ended
 }
 
-// The same, by a call that picks how many blocks there are and which ring it is.
+// The same, by a call that picks how many blocks there are and which ring and pool these are.
 fn handle_ringed<R: Threads + Wait + Sync, W: Works, S: Source + Send, T, E, H: RoundHandler<T, E>>(
     rt: &R,
     alloc: Global,
@@ -207,14 +216,11 @@ fn handle_ringed<R: Threads + Wait + Sync, W: Works, S: Source + Send, T, E, H: 
     read: RoundRead,
     handler: &H,
     into: &mut T,
-    told: Producer<Token>,
-    tokens: Consumer<Token>,
+    ways: Ways,
 ) -> Result<E, RoundRead>
     requires out { IsOut rounds.old read (place_of reader.old) }
     requires full { read.end ≡ RoundEnd.Full }
     requires start { H.ready (options_of rounds.old) rounds.old.keep 0 into.old }
-    requires ring { IsPair told tokens }
-    requires none { (sent told ≡ []) × (received tokens ≡ []) }
     ensures same_source { SameLoan reader.old reader.new }
     ensures handled { MayBeHandled (H.did handler.now (options_of rounds.old)) H.stopped
         (H.ready (options_of rounds.old) rounds.old.keep) rounds.old rounds.new read
@@ -222,7 +228,7 @@ fn handle_ringed<R: Threads + Wait + Sync, W: Works, S: Source + Send, T, E, H: 
         into.old into.new result }
 {
     handle_named::<Brand, R, W, S, T, E, H>(
-        rt, alloc, works, rounds, reader, read, handler, into, told, tokens,
+        rt, alloc, works, rounds, reader, read, handler, into, ways,
     )
 }
 
@@ -247,12 +253,10 @@ fn handle_on<R: Threads + Wait + Sync, W: Works, S: Source + Send, T, E, H: Roun
         (reader_at S.left S.faults reader.old rounds.old.taken) (reader_at S.left S.faults reader.new rounds.new.taken)
         into.old into.new result }
 {
-    let Ok((told, tokens)) = RingBuffer::new(alloc, SHELVES + 1) else {
+    let Ok(ways) = open_ways(alloc) else {
         return handle_here(works, rounds, reader, read, handler, into);
     };
-    match handle_ringed(
-        rt, alloc, works, rounds, reader, read, handler, into, told, tokens,
-    ) {
+    match handle_ringed(rt, alloc, works, rounds, reader, read, handler, into, ways) {
         Ok(end) => end,
         Err(back) => handle_here(works, rounds, reader, back, handler, into),
     }

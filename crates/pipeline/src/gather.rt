@@ -1,15 +1,20 @@
 //! What comes home once both sides have ended.
 ghost use Rattle.std.specs.Prelude.{◌≡◌, ◌+◌, ◌≤◌};
+ghost use Rattle.std.specs.Arc.{arc_value};
+ghost use Rattle.block_pool.specs.Giving.{given_by};
+ghost use Rattle.block_pool.specs.Listed.{blocks_in};
 ghost use Rattle.block_pool.specs.PoolState.{home};
 ghost use Rattle.rtrb.specs.Ring.{known_items};
-ghost use Rattle.pipeline.specs.Parcels.{blocks_of, homes_of, shelved};
+ghost use Rattle.pipeline.specs.Parcels.{HasGiver, blocks_of, homes_of, shelved};
 
+use crate::lists::{Taker, bring_lists};
 use crate::parcel::{Fits, Naming, Parcel, Token};
-use block_pool::Pool;
+use block_pool::{Giver, Pool};
 use rounds::{Intake, RoundRead, Rounds};
 use rtrb::Consumer;
 use std::alloc::Global;
 use std::collections::VecDeque;
+use std::sync::Wait;
 
 /// The rounds that nobody worked.
 pub(crate) fn drop_parcels<N: Naming>(
@@ -38,8 +43,8 @@ fn bring_tokens(intake: &mut Intake, tokens: &mut Consumer<Token>)
     }
 }
 
-/// All blocks on shelves come home, between the sides or here.
-pub(crate) fn bring_shelves(
+// All blocks on shelves come home, between the sides or here.
+fn bring_shelves(
     intake: &mut Intake,
     tokens: &mut Consumer<Token>,
     kept: Pool,
@@ -57,4 +62,26 @@ pub(crate) fn bring_shelves(
     while let Some(shelf) = shelves.pop_front() {
         intake.bring_in(shelf);
     }
+}
+
+/// All blocks come home that lie on shelves and in lists, wherever these are.
+pub(crate) fn bring_home<R: Wait>(
+    rt: &R,
+    intake: &mut Intake,
+    tokens: &mut Consumer<Token>,
+    kept: Pool,
+    shelves: VecDeque<Pool>,
+    taker: Taker,
+    giver: Option<Giver>,
+)
+    requires giver { HasGiver (arc_value taker.lists) giver }
+    requires room { intake.old.home + homes_of (known_items tokens.old) + home kept + shelved shelves.items
+        + home taker.left + given_by giver ≤ intake.old.blocks + blocks_in taker.pass.taken }
+    ensures same { intake.new ≡ record intake.old { home = intake.new.home } }
+    ensures home { intake.new.home + blocks_in taker.pass.taken ≡ intake.old.home
+        + homes_of (known_items tokens.old) + home kept + shelved shelves.items + home taker.left + given_by giver }
+    ensures least { intake.old.home + home kept ≤ intake.new.home }
+{
+    bring_lists(rt, intake, taker, giver);
+    bring_shelves(intake, tokens, kept, shelves);
 }

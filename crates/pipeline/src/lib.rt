@@ -3,8 +3,9 @@
 //!
 //! ```text
 //!   reads ── Parcel: a round, its end, an empty shelf ──> works, handles ─ lanes, as tasks ──> whoever is free
-//!     ^                                                      │    ^                                 │
-//!     └───── Token: the shelf, with the round's blocks ──────┘    └───────── lanes, done ───────────┘
+//!    ^  ^                                                    │    ^                                 │   │
+//!    │  └─── Token: the shelf, with the round's blocks ──────┘    └───────── lanes, done ───────────┘   │
+//!    └────── lists: spare blocks of a queue, as soon as its lane has been worked ───────────────────────┘
 //! ```
 //!
 //! All threads are started once, as the leaves of one tree of joins for the whole run, and none in a round. Where
@@ -18,12 +19,20 @@
 //! a second side, it is worked by the thread that read it; so a capture of one round costs no thread for reading.
 //!
 //! The side that reads has the rounds' intake, whose pool it alone takes from; the side that works has their bench.
-//! What a round's work leaves comes home onto the shelf that came with the round: a pool without blocks of its own. The
-//! shelf goes back in a token, and its blocks into the pool. Only the last round's stay on a shelf with the side that
-//! works until both have ended: blocks are handed over where there is room for all that they may leave again.
-//! There are three shelves, so reading is at most three rounds ahead. Before a record is read, where fewer blocks than
-//! `rounds::RECORD_BLOCKS` are home (no record needs more) while some are out, the side that reads waits for a token;
-//! so no record is left half read, and a round exceeds the blocks just where it does in one thread.
+//! Blocks come home to that pool by two ways:
+//!
+//! - The spare blocks of a queue's packets go, as soon as its lane has been worked, to a pool of lists that threads
+//!   share (`block_pool::ListPool`), by one step, while the packets are still to be written. Who gives them is one
+//!   `block_pool::Giver`, which stays with the side that works and is lent for each round. Where all places are taken a
+//!   list stays with its round.
+//! - All others that a round's work leaves come home onto the shelf that came with the round: a pool without blocks of
+//!   its own. The shelf goes back in a token. Only the last round's stay on a shelf with the side that works until both
+//!   have ended: blocks are handed over where there is room for all that they may leave again.
+//!
+//! There are three shelves, so reading is at most three rounds ahead. Behind a record's header, where fewer blocks are
+//! home than the record needs, the side that reads takes lists, and where there is none it waits for one, or for a
+//! token. So a record is left half read only where no block can come any more, and a round exceeds the blocks just
+//! where it does in one thread.
 //!
 //! Proved of [`handle_beside`], whatever both threads do at the same time: the rounds that were read stand one behind
 //! another in the capture (`specs/Reads.antt`), each of the first of them was handled in turn up to the one that ended
@@ -37,7 +46,7 @@
 //! push into a ring is followed by the bell of who may wait for it, whose ring isn't lost while nobody sleeps, and
 //! whoever wakes tries again. Where no thread can be made for the side that reads, the other one gives up after a third
 //! of a second, and does all alone. Nor is it proved in the reading thread that all blocks are in its pool once all
-//! tokens are back: if they weren't, merging would end as for want of memory.
+//! tokens and lists are back: if they weren't, merging would end as for want of memory.
 //!
 //! ```
 //! let end = merge_beside(
@@ -52,33 +61,47 @@
 //! ```
 //!
 //! Its parts: `ring` (putting in and waiting at the ends of a ring), `bells` (who wakes whom, and whether there are
-//! two), `parcel` (what goes through the rings), `desk` (where tokens come in, and blocks go home while a round is
-//! read), `sides` (the loop of each side, and both at once), `gather` (what lies between the sides comes home once both
-//! have ended), `here` (rounds in one thread), `drive` (the first round, the two sides, and one thread where there
-//! can't be two), `crew` (all of that with who run lanes beside it) and `merge` (whose handler writes each round).
+//! two), `parcel` (what goes through the rings), `lists` (the pool of lists, and its end where they are taken), `ways`
+//! (the ring of tokens and that pool), `post` (waiting for what comes home), `desk` and `arrivals` (where lists and
+//! tokens come in while rounds are read), `sides` (the loop of each side, and both at once), `gather` (what lies
+//! between the sides comes home once both have ended), `here` (rounds in one thread), `drive` (the first round, the two
+//! sides, and one thread where there can't be two), `crew` (all of that with who run lanes beside it) and `merge`
+//! (whose handler writes each round).
 //!
 //! Tests: `round_tests`, module `pipeline`.
 //!
 //! Why so:
 //!
-//! - **The side that reads waits before a record, and never within one**: where fewer than 131 blocks are home, the
-//!   most that a record needs, while some are out. So a record is never half read, and whether a round exceeds the
-//!   blocks is judged by how many were made, as in one thread.
+//! - **The side that reads waits behind a record's header, for as many blocks as the record needs**: so it begins to
+//!   wait as late as it can, and blocks that come soon are used soon. Whether a round exceeds the blocks is judged
+//!   before, by how many were made, as in one thread.
+//! - **A list rings the reader's bell only where the reader has said that it waits for blocks** (`block_pool::Bell`),
+//!   so that giving one is a step and a look. Who wants blocks looks for lists and tokens in turn for about as long as
+//!   a small round lasts; then it says that it waits, looks once more, and sleeps between its looks. Where it waits for
+//!   a shelf lists don't wake it.
+//! - **One giver for the whole run, with all parts of its pool's passes but one.** A round's lanes split it and join it
+//!   again, so between two rounds it is whole, and nothing is forked or gathered for a round beside that. The side that
+//!   reads has the one part that is left, and its pass says what it took (`brought`). What was put is known where the
+//!   giver is; that all of it was taken, or is home, only where both are in one hand.
 //! - **That all blocks are there once all tokens are back isn't proved in the reading thread**, since it knows nothing
-//!   of the other one but what the ring says of a token; if it weren't so, merging would end as for want of memory,
-//!   which its clauses allow. After the join both lists are known, and `home` is proved.
+//!   of the other one but what the ring says of a token, and the pool of a list; if it weren't so, merging would end as
+//!   for want of memory, which its clauses allow. After the join both lists are known, and `home` is proved.
 #![tactic(auto)]
 
+mod arrivals;
 mod bells;
 mod crew;
 mod desk;
 mod drive;
 mod gather;
 mod here;
+mod lists;
 mod merge;
 mod parcel;
+mod post;
 mod ring;
 mod sides;
+mod ways;
 
 pub use crew::handle_beside;
 pub use here::handle_from;

@@ -11,7 +11,7 @@ ghost use Rattle.pcap_io.specs.Readers.{place_of, source_of, SameLoan};
 ghost use Rattle.rounds.specs.Merging.{ending_of, options_of, HoldsCaptured};
 
 use crate::crew::handle_beside;
-use block_pool::Pool;
+use block_pool::{Giver, Pool};
 use lanes::Works;
 use off_io::{Gate, Sink, Source};
 use pcap_io::{CaptureReader, FileHead};
@@ -43,11 +43,12 @@ impl<K: Sink> RoundHandler<K, MergeEnd> for Merging {
         works: &mut W,
         bench: &mut Bench,
         home: &mut Pool,
+        giver: &mut Option<Giver>,
         read: RoundRead,
         number: u64,
         into: &mut K,
     ) -> Option<MergeEnd> {
-        match bench.put_read(works, read, &self.file, into, number, home) {
+        match bench.put_read(works, read, &self.file, into, number, home, giver) {
             Step::Goes => None,
             Step::Ends(end) => Some(end),
         }

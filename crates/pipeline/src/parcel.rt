@@ -1,5 +1,6 @@
 //! What goes through the rings.
 ghost use Rattle.std.specs.Prelude.{◌≡◌, ℕ};
+ghost use Rattle.block_pool.specs.PassState.{SharedState};
 ghost use Rattle.pipeline.specs.Parcels.{RingName};
 
 use block_pool::Pool;
@@ -46,19 +47,24 @@ pub(crate) struct Token {
     pub(crate) goes: bool,
 }
 
-/// How many blocks there are, and the ring that tokens come back by: the call of a whole run says it.
+/// How many blocks there are, the ring that tokens come back by, and the pool that lists do: the call of a whole run
+/// says it.
 pub(crate) trait Naming {
     ghost blocks: { ℕ };
 
     ghost ring: { RingName };
+
+    ghost lists: { SharedState };
 }
 
 impl Naming for Brand {
-    ghost use Rattle.pipeline.specs.Parcels.{no_ring};
+    ghost use Rattle.pipeline.specs.Parcels.{no_lists, no_ring};
 
     ghost blocks = { 0 };
 
     ghost ring = { no_ring };
+
+    ghost lists = { no_lists };
 }
 
 /// Rounds come in turn, and each fits the blocks and has an empty shelf with places for all of them.

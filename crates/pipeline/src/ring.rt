@@ -2,10 +2,10 @@
 ghost use Rattle.std.specs.Prelude.{◌≡◌, [], ◌∷◌, ◌++◌, MatchOption};
 ghost use Rattle.rtrb.specs.Ring.{sent, received, SameProducer, SameConsumer};
 
+use block_pool::Bell;
 use rtrb::{Consumer, Producer, Protocol, PushError};
 use std::alloc::Global;
 use std::sync::Wait;
-use std::thread::Parker;
 use std::{hint, thread};
 
 /// Before a thread sleeps it tries this often: about as long as a small round lasts.
@@ -50,7 +50,7 @@ pub(crate) fn receive_within<T, P: Protocol<T>>(
 pub(crate) fn receive<T, P: Protocol<T>, R: Wait>(
     rt: &R,
     ring: &mut Consumer<T, Global, P>,
-    mine: &Parker,
+    mine: &Bell,
 ) -> T
     ensures ring { SameConsumer ring.old ring.new }
     ensures item { received ring.new ≡ received ring.old ++ result ∷ [] }
@@ -60,7 +60,7 @@ pub(crate) fn receive<T, P: Protocol<T>, R: Wait>(
         if let Some(item) = receive_within(ring, TRIES) {
             return item;
         }
-        mine.park(rt);
+        mine.sleep(rt);
     }
     unreachable!()
 }

@@ -1,20 +1,23 @@
 //! The side that reads and the side that works.
-ghost use Rattle.std.specs.Prelude.{◌≡◌, ◌+◌, ◌-◌, ◌≤◌, [], MatchOption};
+ghost use Rattle.std.specs.Prelude.{◌≡◌, ◌+◌, ◌≤◌, [], MatchOption};
+ghost use Rattle.block_pool.specs.Giving.{given_by};
 ghost use Rattle.block_pool.specs.PoolState.{home};
 ghost use Rattle.pcap_io.specs.declared.heads.Link.TheVariants.{Ethernet};
 ghost use Rattle.pcap_io.specs.Places.{IsReady};
 ghost use Rattle.pcap_io.specs.Readers.{place_of, source_of, SameLoan};
-ghost use Rattle.rounds.specs.Benches.{options_at, HasRoom, IsSameBench};
+ghost use Rattle.rounds.specs.Benches.{options_at, HasRoom, IsLent, IsSameBench, Lends};
 ghost use Rattle.rtrb.specs.Ring.{sent, received, SameProducer, SameConsumer};
 ghost use Rattle.pipeline.specs.Handled.{Ends, IsReadyAtEnd};
-ghost use Rattle.pipeline.specs.Parcels.{blocks_of, homes_of, rounds_of, shelved, is_full as is_full_end};
+ghost use Rattle.pipeline.specs.Desks.{brought_to};
+ghost use Rattle.pipeline.specs.Parcels.{blocks_of, homes_of, rounds_of, is_full as is_full_end};
 ghost use Rattle.pipeline.specs.Reads.{reader_at, IsFirst, ReadOn};
 
 use crate::bells::Bells;
-use crate::desk::{Post, Supply};
+use crate::desk::Reading;
 use crate::parcel::{Fits, Naming, Parcel, Token};
+use crate::post::Post;
 use crate::ring::{receive, send};
-use block_pool::Pool;
+use block_pool::{Bell, Giver, Pool};
 use core::mem::replace;
 use lanes::Works;
 use off_io::Source;
@@ -23,7 +26,7 @@ use rounds::{Bench, Intake, RoundEnd, RoundHandler};
 use rtrb::{Consumer, Producer};
 use std::alloc::Global;
 use std::sync::Wait;
-use std::thread::{Parker, Threads, join_mut};
+use std::thread::{Threads, join_mut};
 
 /// Whether another round may follow.
 pub(crate) fn is_full(end: RoundEnd) -> bool
@@ -40,7 +43,7 @@ fn read_side<N: Naming, R: Wait, P: Post + Drop, S: Source>(
     rt: &R,
     reader: &mut CaptureReader<'_, S>,
     intake: &mut Intake,
-    supply: &mut Supply<P, N>,
+    supply: &mut Reading<P, N>,
 )
     requires ready { IsReady (place_of reader.old) }
     requires link { (place_of reader.old).link ≡ Ethernet }
@@ -51,10 +54,8 @@ fn read_side<N: Naming, R: Wait, P: Post + Drop, S: Source>(
     ensures read { ReadOn intake.old.blocks intake.old.budget
         (reader_at S.left S.faults reader.old intake.old.taken)
         (reader_at S.left S.faults reader.new intake.new.taken) (sent supply.old.out) (sent supply.new.out) }
-    ensures sum { intake.new.home + blocks_of (sent supply.new.out)
-        + (homes_of (received supply.old.desk.tokens) - shelved supply.old.desk.shelves.items) ≡ intake.old.home
-        + blocks_of (sent supply.old.out)
-        + (homes_of (received supply.new.desk.tokens) - shelved supply.new.desk.shelves.items) }
+    ensures sum { intake.new.home + blocks_of (sent supply.new.out) + brought_to supply.old.desk
+        ≡ intake.old.home + blocks_of (sent supply.old.out) + brought_to supply.new.desk }
     ensures same { (intake.new.blocks ≡ intake.old.blocks)
         × (intake.new.budget ≡ intake.old.budget) }
     ensures later { S.faults (source_of reader.old) ≤ S.faults (source_of reader.new) }
@@ -91,21 +92,22 @@ fn read_side<N: Naming, R: Wait, P: Post + Drop, S: Source>(
 }
 
 // The shelf goes back with the blocks that came home to it.
-fn send_home<R: Wait>(rt: &R, shelf: Pool, goes: bool, told: &mut Producer<Token>, bell: &Parker)
+fn send_home<R: Wait>(rt: &R, shelf: Pool, goes: bool, told: &mut Producer<Token>, bell: &Bell)
     ensures ring { SameProducer told.old told.new }
     ensures sum { homes_of (sent told.new) ≡ homes_of (sent told.old) + home shelf }
 {
     send(rt, told, Token { shelf, goes });
-    bell.unpark();
+    bell.wake();
 }
 
-// Handles each round that comes, and sends its blocks back; those of the last one are kept here. `None` where no reader
-// has begun.
+// Handles each round that comes, and sends its blocks back, but for those that are given while it is worked; those of
+// the last one are kept here. `None` where no reader has begun.
 fn work_side<N: Naming, R: Wait, W: Works, T, E, H: RoundHandler<T, E>>(
     rt: &R,
     works: &mut W,
     bench: &mut Bench,
     kept: &mut Pool,
+    giver: &mut Option<Giver>,
     handler: &H,
     into: &mut T,
     from: &mut Consumer<Option<Parcel>, Global, Fits<N>>,
@@ -115,6 +117,7 @@ fn work_side<N: Naming, R: Wait, W: Works, T, E, H: RoundHandler<T, E>>(
     requires named { bench.old.blocks ≡ N.blocks }
     requires room { HasRoom 0 bench.old }
     requires empty { home kept.old ≡ 0 }
+    requires lent { IsLent giver.old }
     requires none { (received from.old ≡ []) × (sent told.old ≡ []) }
     requires ready { H.ready (options_at bench.old) bench.old.keep 0 into.old }
     ensures rings { SameConsumer from.old from.new × SameProducer told.old told.new }
@@ -122,7 +125,9 @@ fn work_side<N: Naming, R: Wait, W: Works, T, E, H: RoundHandler<T, E>>(
         (λ end. Ends (H.did handler.now (options_at bench.old)) H.stopped 0 into.old into.new
         (rounds_of (received from.new)) end) }
     ensures ready { IsReadyAtEnd (H.ready (options_at bench.old) bench.old.keep) into.new }
-    ensures each { homes_of (sent told.new) + home kept.new ≡ blocks_of (received from.new) }
+    ensures each { homes_of (sent told.new) + home kept.new + given_by giver.new
+        ≡ blocks_of (received from.new) + given_by giver.old }
+    ensures lends { Lends giver.old giver.new }
     ensures room { HasRoom (home kept.new) bench.new }
     ensures same { IsSameBench bench.old bench.new }
 {
@@ -134,7 +139,7 @@ fn work_side<N: Naming, R: Wait, W: Works, T, E, H: RoundHandler<T, E>>(
             return Some(handler.stop());
         };
         let (number, read, mut shelf) = parcel.open();
-        match handler.handle(works, bench, &mut shelf, read, number, into) {
+        match handler.handle(works, bench, &mut shelf, giver, read, number, into) {
             Some(end) => {
                 send_home(rt, replace(kept, shelf), false, told, &bells.reader);
                 return Some(end);
@@ -168,10 +173,11 @@ pub(crate) fn run_sides<
     intake: &'a mut Intake,
     bench: &'a mut Bench,
     kept: &'a mut Pool,
+    giver: &'a mut Option<Giver>,
     reader: &'a mut CaptureReader<'_, S>,
     handler: &'a H,
     into: &'a mut T,
-    supply: &'a mut Supply<P, N>,
+    supply: &'a mut Reading<P, N>,
     from: &'a mut Consumer<Option<Parcel>, Global, Fits<N>>,
     told: &'a mut Producer<Token>,
     bells: &'a Bells,
@@ -181,6 +187,7 @@ pub(crate) fn run_sides<
     requires named { (intake.old.blocks ≡ N.blocks) × (bench.old.blocks ≡ N.blocks) × (P.blocks ≡ N.blocks) }
     requires room { HasRoom 0 bench.old }
     requires empty { home kept.old ≡ 0 }
+    requires lent { IsLent giver.old }
     requires first { IsFirst (place_of reader.old).number (sent supply.old.out) }
     requires none { (received from.old ≡ []) × (sent told.old ≡ []) }
     requires start { H.ready (options_at bench.old) bench.old.keep 0 into.old }
@@ -190,10 +197,8 @@ pub(crate) fn run_sides<
     ensures read { ReadOn intake.old.blocks intake.old.budget
         (reader_at S.left S.faults reader.old intake.old.taken)
         (reader_at S.left S.faults reader.new intake.new.taken) (sent supply.old.out) (sent supply.new.out) }
-    ensures sum { intake.new.home + blocks_of (sent supply.new.out)
-        + (homes_of (received supply.old.desk.tokens) - shelved supply.old.desk.shelves.items) ≡ intake.old.home
-        + blocks_of (sent supply.old.out)
-        + (homes_of (received supply.new.desk.tokens) - shelved supply.new.desk.shelves.items) }
+    ensures sum { intake.new.home + blocks_of (sent supply.new.out) + brought_to supply.old.desk
+        ≡ intake.old.home + blocks_of (sent supply.old.out) + brought_to supply.new.desk }
     ensures same_intake { (intake.new.blocks ≡ intake.old.blocks)
         × (intake.new.budget ≡ intake.old.budget) }
     ensures later { S.faults (source_of reader.old) ≤ S.faults (source_of reader.new) }
@@ -201,7 +206,9 @@ pub(crate) fn run_sides<
         (λ end. Ends (H.did handler.now (options_at bench.old)) H.stopped 0 into.old into.new
         (rounds_of (received from.new)) end) }
     ensures ready { IsReadyAtEnd (H.ready (options_at bench.old) bench.old.keep) into.new }
-    ensures each { homes_of (sent told.new) + home kept.new ≡ blocks_of (received from.new) }
+    ensures each { homes_of (sent told.new) + home kept.new + given_by giver.new
+        ≡ blocks_of (received from.new) + given_by giver.old }
+    ensures lends { Lends giver.old giver.new }
     ensures room { HasRoom (home kept.new) bench.new }
     ensures same { IsSameBench bench.old bench.new }
 {
@@ -219,9 +226,8 @@ pub(crate) fn run_sides<
                 (reader_at S.left S.faults reader.exit.now intake.exit.now.taken)
                 (sent supply.entry.now.out) (sent supply.exit.now.out) }
             ensures sum { intake.exit.now.home + blocks_of (sent supply.exit.now.out)
-                + (homes_of (received supply.entry.now.desk.tokens) - shelved supply.entry.now.desk.shelves.items)
-                ≡ intake.entry.now.home + blocks_of (sent supply.entry.now.out)
-                + (homes_of (received supply.exit.now.desk.tokens) - shelved supply.exit.now.desk.shelves.items) }
+                + brought_to supply.entry.now.desk ≡ intake.entry.now.home + blocks_of (sent supply.entry.now.out)
+                + brought_to supply.exit.now.desk }
             ensures same { (intake.exit.now.blocks ≡ intake.entry.now.blocks)
                 × (intake.exit.now.budget ≡ intake.entry.now.budget) }
             ensures later { S.faults (source_of reader.entry.now) ≤ S.faults (source_of reader.exit.now) }
@@ -230,6 +236,7 @@ pub(crate) fn run_sides<
             requires named { bench.now.blocks ≡ N.blocks }
             requires room { HasRoom 0 bench.now }
             requires empty { home kept.now ≡ 0 }
+            requires lent { IsLent giver.now }
             requires none { (received from.now ≡ []) × (sent told.now ≡ []) }
             requires start { H.ready (options_at bench.now) bench.now.keep 0 into.now }
             ensures rings { SameConsumer from.entry.now from.exit.now × SameProducer told.entry.now told.exit.now }
@@ -238,10 +245,16 @@ pub(crate) fn run_sides<
                 into.exit.now (rounds_of (received from.exit.now)) end) }
             ensures ready { IsReadyAtEnd (H.ready (options_at bench.entry.now) bench.entry.now.keep)
                 into.exit.now }
-            ensures each { homes_of (sent told.exit.now) + home kept.exit.now ≡ blocks_of (received from.exit.now) }
+            ensures each { homes_of (sent told.exit.now) + home kept.exit.now + given_by giver.exit.now
+                ≡ blocks_of (received from.exit.now) + given_by giver.entry.now }
+            ensures lends { Lends giver.entry.now giver.exit.now }
             ensures room { HasRoom (home kept.exit.now) bench.exit.now }
             ensures same { IsSameBench bench.entry.now bench.exit.now }
-        { work_side(rt, works, bench, kept, handler, into, from, told, bells) },
+        {
+            work_side(
+                rt, works, bench, kept, giver, handler, into, from, told, bells,
+            )
+        },
     );
     end
 }

@@ -5,7 +5,7 @@ use Rattle.std.proofs.lemmas.List.{drop_all, take_all, length-take-le}
 use Rattle.std.proofs.lemmas.Bool.{lt-ltb}
 use Rattle.std.specs.Prelude.{IfSome, nat_lt}
 use Rattle.off_io.specs.Told.{Told}
-use Rattle.off_io.proofs.Telling.{Told-weaker, Told-then}
+use Rattle.off_io.proofs.Telling.{Told-same, Told-weaker, Told-then}
 use Rattle.raw_block.specs.Views.{SoleState}
 use Rattle.skb.specs.SkbState.{buffer_bytes}
 use Rattle.pcap_io.specs.declared.heads.RecHead.{RecHead}
@@ -212,6 +212,13 @@ cut_given a b c old mid new used blocks front found head stop fits some enters f
     let entered : EntersBody old mid head = subst (λ (f : Option RecHead). IfSome f (EntersBody old mid)) some enters in
     Told-then a b c (GivesHead old (Ok (Some head))) (GivesPacket mid head front (Err stop)) (GivesRecord used blocks old new front (Err stop))
     (λ bytes rest left takes gives. body_cut old mid new used blocks front head stop bytes rest left fits entered takes gives) at_some second
+
+-- a record whose blocks don't come: its header is gone
+pub unread_given : (a b : Option (List ℕ)) (old mid : Place) (used blocks : ℕ) (front : List ℕ) (found : Option RecHead) (head : RecHead)
+    → used + need_of (head.captured - front_size old.link) ≤ blocks → found ≡ Some head → IfSome found (EntersBody old mid)
+    → Told a b (GivesHead old (Ok found)) → Told a b (GivesRecord used blocks old mid front (Err NoMemory))
+unread_given a b old mid used blocks front found head fits some enters first =
+    cut_given a b b old mid mid used blocks front found head NoMemory fits some enters first (Told-same b (GivesPacket mid head front (Err NoMemory)) (λ bytes. ([], refl)))
 
 pub whole_given : (a b c : Option (List ℕ)) (old mid new : Place) (used blocks : ℕ) (front : List ℕ) (found : Option RecHead) (head : RecHead) (p : Held)
     → found ≡ Some head → IfSome found (EntersBody old mid) → ReadsOn mid new head.captured

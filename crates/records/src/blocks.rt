@@ -1,9 +1,9 @@
 //! The blocks of a record.
-ghost use Rattle.std.specs.Prelude.{◌≡◌, ◌+◌, ◌-◌, ◌/◌, ◌<◌, ◌≤◌, ◌^◌, [], ◌∷◌, min, length};
+ghost use Rattle.std.specs.Prelude.{◌≡◌, ℕ, ◌+◌, ◌-◌, ◌/◌, ◌<◌, ◌≤◌, ◌^◌, [], ◌∷◌, min, length};
 ghost use Rattle.std.specs.VecDeque.{deque_capacity};
-ghost use Rattle.block_pool.specs.PoolState.{home};
+ghost use Rattle.block_pool.specs.PoolState.{home, weighed};
 ghost use Rattle.frags.specs.PieceList.{size_of, bytes_of};
-ghost use Rattle.skb.specs.SkbState.{buffer_bytes, IsAlone};
+ghost use Rattle.skb.specs.SkbState.{buffer_bytes, weighed_in, IsAlone};
 ghost use Rattle.gro.specs.Slots.{of_packet, count_of};
 ghost use Rattle.records.specs.Data.{data_of};
 ghost use Rattle.records.specs.Laid.{IsLaid, IsRead, MarkedFrom, WholeFrom, most_original, most_read};
@@ -118,6 +118,7 @@ fn build_pieces(hold: &mut VecDeque<Sole>, builder: PieceBuilder, size: usize, f
 
 /// A record's packet, of the blocks that were taken for it, behind the packets that there are: `len` bytes behind the
 /// headroom of the first. Blocks behind the first are shared, so that pieces have them; nobody else holds any.
+#[inline(always)]
 pub(crate) fn make_packet(
     block: Sole,
     hold: &mut VecDeque<Sole>,
@@ -162,11 +163,12 @@ pub(crate) fn make_packet(
     });
 }
 
-/// The blocks of a buffer that nobody else holds go home.
+/// The blocks of a buffer that nobody else holds go home: just these, by their names.
 pub fn bring_blocks(pool: &mut Pool, skb: Skb)
     requires alone { IsAlone skb }
     requires room { home pool.old + (length skb.rest + 1) ≤ pool.old.made }
     ensures home { home pool.new ≡ home pool.old + (length skb.rest + 1) }
+    ensures blocks { (h : ℕ → ℕ) → weighed h pool.new.blocks ≡ weighed h pool.old.blocks + weighed_in h skb }
     ensures made { (pool.new.made ≡ pool.old.made) × (pool.new.taken ≡ pool.old.taken) }
 {
     let (head, mut rest) = skb.into_blocks();

@@ -23,6 +23,7 @@ fn in_bytes(bytes: &[u8])
 {}
 
 // Fills the bytes `from..to` of a block with the next bytes of the record's body.
+#[inline(always)]
 fn read_block<S: Source>(
     reader: &mut CaptureReader<'_, S>,
     block: &mut Sole,

@@ -13,6 +13,7 @@ use skb::Skb;
 /// Writes the bytes of a buffer, slice by slice.
 ///
 /// `WriteFault` only where the sink's count of faults rose; a prefix of the bytes was then written.
+#[inline(always)]
 pub fn write_buffer<K: Sink>(sink: &mut K, frame: &Skb) -> Result<(), WriteFault>
     ensures ok { OnOk result (Appends (K.held sink.old) (K.held sink.new) (buffer_bytes frame.now)) }
     ensures err { OnErr result (AppendsFront (K.held sink.old) (K.held sink.new)
@@ -37,6 +38,7 @@ pub(crate) fn write_from<K: Sink>(sink: &mut K, frame: &Skb, at: usize) -> Resul
 }
 
 // Writes the pieces behind a buffer's head.
+#[inline(always)]
 fn write_pieces<K: Sink>(sink: &mut K, frame: &Skb) -> Result<(), WriteFault>
     ensures ok { OnOk result (Appends (K.held sink.old) (K.held sink.new)
         (flat_map piece_bytes frame.now.rest)) }

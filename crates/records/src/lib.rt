@@ -7,6 +7,10 @@
 //! packet is made where it stays, behind the others of a list. Two blocks more, which its need counts and nothing
 //! reads, go to a list of their own.
 //!
+//! Between its header and its body what a record needs is known, and its blocks come home where they are out: whoever
+//! has a [`Supply`] of them brings them then, and no sooner. Where as many are home as it needs nobody is asked. Who
+//! can't wait there says so before the record is begun, by the most that one may need ([`AllHome`]).
+//!
 //! Nobody else holds a block of a buffer that was read, and its blocks are marked in turn. Where that stays so they go
 //! home by count alone ([`bring_blocks`]).
 //!
@@ -21,8 +25,8 @@
 //!
 //! - `given`: the packet is the next one of the capture, and a refusal is told by the capture's bytes alone;
 //!   `PoolEmpty` exactly where the round's need exceeds the blocks, with that need, judged by the record's header.
-//! - `home`, `spares`, `back`: what of the pool is out is what the packet and its spares have, and after a refusal
-//!   nothing; `taken`, `most`, `least`: by how much the count of takes rises.
+//! - `home`, `spares`, `back`: what of the pool is out, beside what came home meanwhile, is what the packet and its
+//!   spares have, and after a refusal nothing; `taken`, `most`, `least`: by how much the count of takes rises.
 //! - `one`, `none`: the list has the packet more, or is as it was.
 //! - `laid`: the blocks are marked in turn, and held by nobody else; `captured`: the packet is such as a capture may
 //!   hold.
@@ -47,6 +51,7 @@ mod items;
 mod reading;
 mod record;
 mod segments;
+mod supply;
 
 pub use blocks::bring_blocks;
 pub use buffer::write_buffer;
@@ -55,3 +60,4 @@ pub use items::{write_item, write_items};
 pub use reading::{Stop, read_record};
 pub use record::{Time, write_record, write_window};
 pub use segments::write_segments;
+pub use supply::{AllHome, RECORD_BLOCKS, Supply};

@@ -1,5 +1,5 @@
 //! Reads one record of a capture into blocks.
-ghost use Rattle.std.specs.Prelude.{◌≡◌, ◌⊎◌, ◌+◌, ◌-◌, ◌≤◌, ◌^◌, [], false, min, length};
+ghost use Rattle.std.specs.Prelude.{◌≡◌, ◌+◌, ◌-◌, ◌≤◌, ◌^◌, [], false, min, length};
 ghost use Rattle.std.specs.Prelude.{IfOk, OnOk, OnErr, Err};
 ghost use Rattle.std.specs.VecDeque.{deque_capacity};
 ghost use Rattle.block_pool.specs.PoolState.{home};
@@ -19,6 +19,7 @@ ghost use Rattle.offload_model.specs.Captured.{IsCaptured};
 
 use crate::blocks::{blocks_of, make_packet, put_back, take_block, take_blocks};
 use crate::body::read_frame;
+use crate::supply::{Supply, has_blocks};
 use block_pool::Pool;
 use frags::PieceBuilder;
 use gro::Packets;
@@ -129,14 +130,16 @@ fn read_packet<S: Source>(
 /// two spares to a list that has places for them. The answer says where in the capture its header lies, and how many
 /// blocks it has with its spares.
 ///
-/// It is judged in this order: its header, whether the round then needs more blocks than there are, its body. A record
-/// that isn't given leaves all blocks home that were, and the packets as they were.
-pub fn read_record<S: Source>(
+/// It is judged in this order: its header, whether the round then needs more blocks than there are, its body. Between
+/// them its blocks are home, or are brought; where they don't come it isn't read, which is `NoMemory`. A record that
+/// isn't given leaves all blocks home that were or that came, and the packets as they were.
+pub fn read_record<S: Source, H: Supply>(
     alloc: Global,
     pool: &mut Pool,
     hold: &mut VecDeque<Sole>,
     spares: &mut Pool,
     reader: &mut CaptureReader<'_, S>,
+    more: &mut H,
     front: &mut [u8],
     used: u32,
     mark: u32,
@@ -146,7 +149,6 @@ pub fn read_record<S: Source>(
     requires front { length front.old ≡ front_size (place_of reader.old).link }
     requires empty { hold.old.items ≡ [] }
     requires capacity { 131 ≤ deque_capacity hold.old }
-    requires home { (131 ≤ home pool.old) ⊎ (pool.old.made ≤ home pool.old + used) }
     requires few { (mark ≤ used) × (used ≤ pool.old.made) }
     requires made { pool.old.made ≤ 65536 }
     requires room { home spares.old + 2 ≤ spares.old.made }
@@ -173,11 +175,12 @@ pub fn read_record<S: Source>(
     ensures need { OnOk result (OfNew packets.old packets.new (λ p. count_of p + 2
         ≡ need_of (length (buffer_bytes p.skb)))) }
     ensures count { IfOk result (λ r. OfNew packets.old packets.new (λ p. count_of p + 2 ≡ r.1)) }
-    ensures home { IfOk result (λ r. home pool.new + r.1 ≡ home pool.old) }
+    ensures home { IfOk result (λ r. home pool.new + r.1 + H.brought more.old ≡ home pool.old + H.brought more.new) }
     ensures spares { OnOk result (home spares.new ≡ home spares.old + 2) }
     ensures fits { IfOk result (λ r. used + r.1 ≤ pool.old.made) }
     ensures taken { IfOk result (λ r. pool.new.taken ≡ min (pool.old.taken + r.1) (2 ^ 64 - 1)) }
-    ensures back { OnErr result ((home pool.new ≡ home pool.old) × (home spares.new ≡ home spares.old)) }
+    ensures back { OnErr result ((home pool.new + H.brought more.old ≡ home pool.old + H.brought more.new)
+        × (home spares.new ≡ home spares.old)) }
     ensures most { OnErr result (pool.new.taken + used ≤ pool.old.taken + pool.old.made) }
     ensures least { pool.old.taken ≤ pool.new.taken }
     ensures made { (pool.new.made ≡ pool.old.made) × (spares.new.made ≡ spares.old.made) }
@@ -201,6 +204,9 @@ pub fn read_record<S: Source>(
     let need = used + count;
     if need > pool.made() {
         return Err(Stop::PoolEmpty { need });
+    }
+    if !has_blocks(pool, more, count) {
+        return Err(Stop::NoMemory);
     }
     match read_packet(
         alloc, pool, hold, spares, reader, front, &head, len, mark, packets,

@@ -32,6 +32,7 @@ pub(crate) fn both_heads(header: &[u8; 16], offload: &[u8; OFF_HEAD2_LEN]) -> [u
 }
 
 // Writes the headers of a record, with one call. `len` and `original` are those of the frame alone.
+#[inline(always)]
 fn write_heads<K: Sink>(
     sink: &mut K,
     file: &FileHead,
@@ -60,6 +61,7 @@ fn write_heads<K: Sink>(
 /// length, in bytes.
 ///
 /// `WriteFault` only where the sink's count of faults rose; a prefix of the record was then written.
+#[inline(always)]
 pub fn write_record<K: Sink>(
     sink: &mut K,
     file: &FileHead,

@@ -2,7 +2,7 @@
 //! were worked out by hand.
 ghost use Rattle.std.specs.Prelude.{◌≤◌};
 
-use crate::driven::{Passing, capture};
+use crate::driven::{PAST_THE_FIRST, Passing, READER, capture};
 use crate::plans::plain;
 use checking::{CheckEnd, Totals, check_all, check_beside, write_totals};
 use lanes::Alone;
@@ -114,10 +114,11 @@ fn each_way_to_end(rt: HostRuntime) -> Result<(), Fail> {
 #[test]
 fn checking_reads_beside_the_work(rt: HostRuntime) -> Result<(), Fail> {
     let alloc = rt.alloc();
-    let gate = Meeting::of(Who::Worker(0), Who::Tap(0));
+    let gate = Meeting::of(Who::Worker(0), READER);
     let source = Passing {
         source: MemSource::new(capture(alloc, 1)?, 4096, Vec::new(alloc)),
         reads: 0,
+        at: PAST_THE_FIRST,
         gate: &gate,
     };
     let mut feed = Feed { inner: source };

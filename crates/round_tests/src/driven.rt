@@ -343,11 +343,21 @@ fn lanes_meet(rt: HostRuntime) -> Result<(), Fail> {
     Ok(())
 }
 
-// Passes a gate as a tap that isn't there, at its first read past the first record.
+// The file header takes a read, and a record two: the first read past the first record.
+pub(crate) const PAST_THE_FIRST: u32 = 3;
+
+// Of the third record the body.
+const BODY_OF_THE_THIRD: u32 = 6;
+
+// A source passes as a worker that isn't there.
+pub(crate) const READER: Who = Who::Worker(9);
+
+// Passes a gate before its read of this number.
 #[derive(Drop)]
 pub(crate) struct Passing<'a> {
     pub(crate) source: MemSource,
     pub(crate) reads: u32,
+    pub(crate) at: u32,
     pub(crate) gate: &'a Meeting,
 }
 
@@ -359,9 +369,8 @@ impl Source for Passing<'_> {
     ghost faults = { λ s. s.source.faults };
 
     fn read(&mut self, into: &mut [u8]) -> Result<usize, Failed> {
-        // The file header takes a read, and a record two.
-        if self.reads == 3 {
-            self.gate.pass(Who::Tap(0), 0);
+        if self.reads == self.at {
+            self.gate.pass(READER, 0);
         }
         self.reads = self.reads.saturating_add(1);
         self.source.read(into)
@@ -374,10 +383,11 @@ impl Source for Passing<'_> {
 #[test]
 fn the_second_round_is_read_beside_the_first(rt: HostRuntime) -> Result<(), Fail> {
     let alloc = rt.alloc();
-    let gate = Meeting::of(Who::Worker(0), Who::Tap(0));
+    let gate = Meeting::of(Who::Worker(0), READER);
     let source = Passing {
         source: MemSource::new(capture(alloc, 1)?, 4096, Vec::new(alloc)),
         reads: 0,
+        at: PAST_THE_FIRST,
         gate: &gate,
     };
     let mut sink = MemSink::new(alloc, 4096, Vec::new(alloc));
@@ -396,6 +406,41 @@ fn the_second_round_is_read_beside_the_first(rt: HostRuntime) -> Result<(), Fail
     };
     if processors > 1 {
         assert_eq!(rt; gate.met(), 6);
+    }
+    Ok(())
+}
+
+// There are as many blocks as one round needs, so of the next one a record can be read only into blocks that lanes of
+// the first give back. A tap waits before its work for the reader to be at the body of that record, so that round isn't
+// over; the reader waits there for the tap, and each sees the other. In the two rounds behind, of which the last has no
+// record, the tap waits for nobody any more. If blocks came home at the end of a round alone, the tap would have waited
+// in vain in the first.
+#[test]
+fn a_record_is_read_into_what_lanes_give_back(rt: HostRuntime) -> Result<(), Fail> {
+    let alloc = rt.alloc();
+    let gate = Meeting::of(Who::Tap(1), READER);
+    let source = Passing {
+        source: MemSource::new(capture(alloc, 1)?, 4096, Vec::new(alloc)),
+        reads: 0,
+        at: BODY_OF_THE_THIRD,
+        gate: &gate,
+    };
+    let mut sink = MemSink::new(alloc, 4096, Vec::new(alloc));
+    let how = How {
+        blocks: 6,
+        budget: 2,
+        queues: 2,
+        taps: 2,
+    };
+    let (end, home, _) = merged(&rt, alloc, how, source, &mut sink, &gate, true)?;
+    assert_eq!(rt; end, MergeEnd::Done);
+    assert_eq!(rt; home, how.blocks);
+    let processors = match available_parallelism(&rt) {
+        Ok(count) => count.get(),
+        Err(_) => 1,
+    };
+    if processors > 1 {
+        assert_eq!(rt; gate.met(), 4);
     }
     Ok(())
 }

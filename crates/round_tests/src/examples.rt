@@ -60,7 +60,14 @@ fn example_of_lanes(rt: HostRuntime) {
     };
     let mut works = Alone { gate: &NoGate };
     let mut lanes = Lanes::new(alloc);
-    let blocks = match work_packets(&mut works, alloc, &mut packets, &plan, &mut lanes) {
+    let blocks = match work_packets(
+        &mut works,
+        alloc,
+        &mut packets,
+        &plan,
+        &mut lanes,
+        &mut None,
+    ) {
         Ok(()) => {
             packets.discard();
             all_home(&rt, lanes) // once what they came to is written

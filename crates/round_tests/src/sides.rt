@@ -8,7 +8,7 @@ use block_pool::Pool;
 use lanes::Alone;
 use off_io::{Feed, MemSink, MemSource, NoGate};
 use pcap_io::{CaptureReader, FileHead, Link};
-use rounds::{AllHome, Bench, Homecoming, MergeEnd, Round, RoundEnd, RoundRead, Rounds, Step};
+use rounds::{AllHome, Bench, MergeEnd, Round, RoundEnd, RoundRead, Rounds, Step, Supply};
 use std::alloc::{AllocError, Global};
 use std::test::Fail;
 use worked_captures::TWO_RECORDS;
@@ -19,13 +19,19 @@ struct Shelf {
     pool: Pool,
 }
 
-impl Homecoming for Shelf {
+impl Supply for Shelf {
     ghost brought = { λ s. s.pool.made - home s.pool };
 
-    fn bring(&mut self, pool: &mut Pool) {
+    fn bring(&mut self, pool: &mut Pool, need: u32) -> bool {
         let _ = self.pool.home();
         pool.refill(&mut self.pool);
         let _ = self.pool.home();
+        need <= pool.home()
+    }
+
+    fn may_begin(&self, pool: &Pool, used: u32) -> bool {
+        let _ = (pool, used);
+        true
     }
 }
 
@@ -73,7 +79,15 @@ fn put(
         return Err(Fail::from("there is memory"));
     }
     let mut works = Alone { gate: &NoGate };
-    Ok(bench.put_read(&mut works, read, file, sink, number, &mut back.pool))
+    Ok(bench.put_read(
+        &mut works,
+        read,
+        file,
+        sink,
+        number,
+        &mut back.pool,
+        &mut None,
+    ))
 }
 
 // Both records in rounds of one, over blocks for one: what came of the rounds, and what was written; the blocks that
@@ -125,7 +139,12 @@ fn in_turn(alloc: Global) -> Result<([Step; 3], Vec<u8>, [u32; 4]), Fail> {
     Ok((
         [first, second, third],
         written,
-        [given, put_home, read, intake.home() + three.pool.home()],
+        [
+            given,
+            put_home,
+            read,
+            intake.home() + two.pool.home() + three.pool.home(),
+        ],
     ))
 }
 

@@ -1,8 +1,9 @@
 -- Packets that are worked in lanes, with a clone of each beside them: that they may be, and that what comes of them fits.
-use Rattle.std.proofs.Common.{◌≡◌, ℕ, suc, zero, ◌+◌, ◌-◌, ◌*◌, ◌<◌, ◌≤◌, Bool, true, false, Some, List, [], ◌∷◌, map, length, get_or, drop, refl, sym, ap, ◌∙◌, subst, arith}
-use Rattle.std.specs.Prelude.{All, IfOk, OnOk, Ok, Err, MatchResult}
+use Rattle.std.proofs.Common.{◌≡◌, ℕ, suc, zero, ◌+◌, ◌-◌, ◌*◌, ◌<◌, ◌≤◌, Bool, true, false, ◌⊎◌, inl, inr, Some, List, [], ◌∷◌, map, length, get_or, drop, refl, sym, ap, ◌∙◌, subst, arith}
+use Rattle.std.specs.Prelude.{All, IfErr, IfOk, OnOk, Ok, Err, MatchResult}
 use Rattle.std.specs.declared.result.Result.{Result}
 use Rattle.std.specs.List.{AllByRecursion, filter, range_with_len}
+use Rattle.std.proofs.lemmas.Bool.{false≢true}
 use Rattle.std.proofs.lemmas.List.{length-take}
 use Rattle.std.proofs.lemmas.List.Elements.{recursion_from_All}
 use Rattle.pcap_io.specs.Capture.{Packet}
@@ -139,11 +140,19 @@ head_shared false taps n qs kept none r some = absurd (omega (arith, none refl, 
 pub at_count : (shared : Bool) (m n : ℕ) (qs : List Held) (kept : List TapClone) → m ≡ n → IsOneRound shared m qs kept → IsOneRound shared n qs kept
 at_count shared m n qs kept e r = subst (λ (i : ℕ). IsOneRound shared i qs kept) e r
 
+sole_from : (keep : Bool) (taps : ℕ) → (keep ≡ true) ⊎ (1 ≤ taps) → keep ≡ false → taps ≡ 0 → ⊥
+sole_from keep taps (inl on) off none = absurd (false≢true (sym off ∙ on))
+sole_from keep taps (inr some) off none = absurd (omega (arith, some, none))
+
+sole_of : (shared keep : Bool) (taps : ℕ) → (shared ≡ true → (keep ≡ true) ⊎ (1 ≤ taps)) → keep ≡ false → taps ≡ 0 → shared ≡ false
+sole_of false keep taps only off none = refl
+sole_of true keep taps only off none = absurd (sole_from keep taps (only refl) off none)
+
 pub are_kept : (keep : Bool) (taps n : ℕ) (ps : List Held) (k : Kept) → k.blocks ≡ n → counts_of ps + home k.spares ≡ n → AllByRecursion IsCaptured (map packet_of ps)
-    → (j : ℕ) × NumberedFrom j ps → n ≤ 65536 → (k.shared ≡ false → taps ≡ 0) → IsPrepared k.shared ps k.packets.items k.kept.items
+    → (j : ℕ) × NumberedFrom j ps → n ≤ 65536 → (k.shared ≡ false → taps ≡ 0) → (k.shared ≡ true → (keep ≡ true) ⊎ (1 ≤ taps)) → IsPrepared k.shared ps k.packets.items k.kept.items
     → (keep ≡ true → map packet_of_clone k.kept.items ≡ map packet_of ps)
     → IsKept keep taps (map packet_of ps) n k
-are_kept keep taps n ps k size counts captured numbers few unshared p clones = record {
+are_kept keep taps n ps k size counts captured numbers few unshared only p clones = record {
   same = p.same;
   size = size;
   held = p.held;
@@ -154,6 +163,7 @@ are_kept keep taps n ps k size counts captured numbers few unshared p clones = r
   few = omega (arith, p.count, counts, few);
   spares = omega (arith, counts, size);
   unshared = unshared;
+  sole = sole_of k.shared keep taps only;
   round = at_count k.shared (counts_of ps) (k.blocks - home k.spares) k.packets.items k.kept.items (omega (arith, counts, size)) p.round;
   clones = clones;
 }
@@ -231,13 +241,22 @@ out_worked false taps n ps qs lanes kept unshared r keeps count spent alone idle
       idle = idle none;
     }
 
--- what is out with k, but that some of its packets went to the lanes
-beside : (k j : Kept) (l : Lanes) → record j { packets = k.packets } ≡ k → home k.spares ≤ k.blocks → IsOut k.shared (k.blocks - home k.spares) j.packets.items l k.kept.items → IsOutBeside j l
-beside k j l same spares out =
-    subst (λ (z : Kept). (home z.spares ≤ z.blocks) × IsOut z.shared (z.blocks - home z.spares) j.packets.items l z.kept.items) (sym same) (spares, out)
+-- the same round, but that some of its packets went to the lanes, and some of its spares to others
+pub record IsLess (k j : Kept) : Type 0 where
+  pub same : record j { packets = k.packets; spares = k.spares; blocks = k.blocks } ≡ k
+  pub spares : home j.spares ≤ j.blocks
+  pub count : j.blocks - home j.spares ≡ k.blocks - home k.spares
+
+-- what is out with it
+beside : (k j : Kept) (l : Lanes) → IsLess k j → IsOut k.shared (k.blocks - home k.spares) j.packets.items l k.kept.items → IsOutBeside j l
+beside k j l less out = (
+  less.spares,
+  subst (λ (n : ℕ). IsOut j.shared n j.packets.items l j.kept.items) (sym less.count)
+      (subst (λ (z : Kept). IsOut z.shared (k.blocks - home k.spares) j.packets.items l z.kept.items) (sym less.same) out),
+)
 
 module _ {E : Type 0} (keep : Bool) (ps : List Packet) (n : ℕ) (plan : Plan) (k j : Kept) (is : IsPlan plan) (kept : IsKept keep plan.taps ps n k)
-    (same : record j { packets = k.packets } ≡ k) where
+    (less : IsLess k j) where
   pub settles : (r : Result (Unit {0}) E) (l : Lanes) → OnOk r (AreMerged plan.segs (spread_of plan) plan.queues (map packet_of k.packets.items) l.queues.items)
       → OnOk r (AreWatched plan.snap plan.taps (shown_by plan (map packet_of k.packets.items)) l.taps.items)
       → OnOk r (All IsMerged l.queues.items)
@@ -247,19 +266,19 @@ module _ {E : Type 0} (keep : Bool) (ps : List Packet) (n : ℕ) (plan : Plan) (
       → MatchResult r (λ _. IsDone j l) (λ _. IsLeft j l)
   settles (Ok u) l merged watched are packets all out = record {
     all = all;
-    out = beside k j l same kept.spares out;
+    out = beside k j l less out;
     small = small_lanes plan (map packet_of k.packets.items) l is kept.fit merged are packets watched;
   }
-  settles (Err e) l merged watched are packets all out = beside k j l same kept.spares out
+  settles (Err e) l merged watched are packets all out = beside k j l less out
 
 -- all that a comparison wants to know of what the lanes came to
-pub kept_work : {E X : Type 0} (plan : Plan) (budget n : ℕ) (keep : Bool) (ps : List Packet) (k : Kept) (done : Result (Unit {0}) E) (l : Lanes) (r : Result WorkedState X) → keep ≡ true
+pub kept_work : {E X : Type 0} (plan : Plan) (budget n m : ℕ) (keep : Bool) (ps : List Packet) (k : Kept) (done : Result (Unit {0}) E) (l : Lanes) (r : Result WorkedState X) → keep ≡ true
     → IsKept keep plan.taps ps n k → OnOk done (AreMerged plan.segs (spread_of plan) plan.queues (map packet_of k.packets.items) l.queues.items)
     → OnOk done (AreWatched plan.snap plan.taps (shown_by plan (map packet_of k.packets.items)) l.taps.items)
     → OnOk done (All IsMerged l.queues.items)
-    → IfOk r (IsOfLanes done l k.kept.items k.blocks) → IfOk r (IsKeptWorkOf (options_by plan budget) ps)
-kept_work plan budget n keep ps k done l (Err e) on is merged watched are of = tt
-kept_work plan budget n keep ps k done l (Ok w) on is merged watched are of =
+    → IfOk r (IsOfLanes done l k.kept.items m) → IfOk r (IsKeptWorkOf (options_by plan budget) ps)
+kept_work plan budget n m keep ps k done l (Err e) on is merged watched are of = tt
+kept_work plan budget n m keep ps k done l (Ok w) on is merged watched are of =
     let a = ok_of done (AreMerged plan.segs (spread_of plan) plan.queues (map packet_of k.packets.items) l.queues.items) of.0 merged in
     let b = ok_of done (AreWatched plan.snap plan.taps (shown_by plan (map packet_of k.packets.items)) l.taps.items) of.0 watched in
     let c = ok_of done (All IsMerged l.queues.items) of.0 are in
@@ -278,6 +297,16 @@ pub done_work : {E X : Type 0} (P : Lanes → Type 0) (done : Result (Unit {0}) 
     → IfOk r (IsOfLanes done l kept n) → IfOk r (λ w. P w.lanes)
 done_work P done l kept n (Err e) h of = tt
 done_work P done l kept n (Ok w) h of = subst P (sym of.1) (ok_of done (P l) of.0 h)
+
+-- so many blocks are left, where n with what was given before were there
+pub blocks_left : {E X : Type 0} (done : Result (Unit {0}) E) (l : Lanes) (kept : List TapClone) (m n before after : ℕ) (r : Result WorkedState X) → m + after ≡ n + before
+    → IfOk r (IsOfLanes done l kept m) → IfOk r (λ w. w.blocks + after ≡ n + before)
+blocks_left done l kept m n before after (Err e) sum of = tt
+blocks_left done l kept m n before after (Ok w) sum of = omega (arith, sum, of.3)
+
+pub rest_left : {X : Type 0} (m n before after : ℕ) (r : Result X ℕ) → m + after ≡ n + before → IfErr r (λ k. k ≡ m) → IfErr r (λ k. k + after ≡ n + before)
+rest_left m n before after (Err k) sum is = omega (arith, sum, is)
+rest_left m n before after (Ok x) sum is = tt
 
 -- ---- a round that goes home
 

@@ -1,5 +1,5 @@
 -- Rounds that are worked in lanes: what is written of them.
-use Rattle.std.proofs.Common.{◌≡◌, ℕ, Option, None, Some, List, [], ◌∷◌, ◌++◌, map, refl, sym, ap, ◌∙◌, subst}
+use Rattle.std.proofs.Common.{◌≡◌, ℕ, Option, None, Some, List, [], ◌∷◌, ◌++◌, map, ◌+◌, refl, sym, ap, ◌∙◌, subst, arith}
 use Rattle.std.specs.Prelude.{IfOk, OnOk, OnErr, MatchResult, Ok, Err}
 use Rattle.std.specs.declared.result.Result.{Result}
 use Rattle.std.specs.List.{flat_map}
@@ -20,7 +20,9 @@ use Rattle.lanes.specs.Work.{lane_records, merged_in, records_of_queue, records_
 use Rattle.records.specs.Records.{item_bytes}
 use Rattle.rounds.specs.Lanes.{worked_records, queue_bytes, text_bytes, bytes_of_texts, tap_bytes, lanes_bytes, worked_bytes}
 use Rattle.block_pool.specs.PoolState.{PoolState}
-use Rattle.rounds.specs.Benches.{Brings, MayBring}
+use Rattle.block_pool.specs.Giving.{GiverState, given_by}
+use Rattle.rounds.specs.Benches.{Brings, BringsBeside, Lends, MayBring}
+use Rattle.rounds.proofs.Lending.{brings_rest, given_least, may_less}
 use Rattle.rounds.specs.RoundsState.{BenchState, WorkedState}
 
 -- ---- the bytes of its records
@@ -70,18 +72,22 @@ pub works_out : {E : Type 0} (options now : Options) (order : Order) (ps : List 
     → IfOk r (λ w. worked_bytes order w ≡ round_output options order ps)
 works_out options now order ps r same h = bytes_at options order ps r (subst (λ (o : Options). IfOk r (λ w. worked_records w ≡ round_records o ps)) same h)
 
-pub may_put : {E : Type 0} (r : Result WorkedState E) (old new : BenchState) (p q : PoolState) (n : ℕ) → IfOk r (λ w. w.blocks ≡ n) → OnOk r ((new ≡ old) × (q ≡ p)) → MayBring n old p
+pub may_put : {E : Type 0} (r : Result WorkedState E) (old new : BenchState) (p q : PoolState) (n : ℕ) (g g' : Option GiverState) → IfOk r (λ w. w.blocks + given_by g' ≡ n + given_by g) → Lends g g'
+    → OnOk r ((new ≡ old) × (q ≡ p)) → MayBring n old p
     → IfOk r (λ w. MayBring w.blocks new q)
-may_put (Ok w) old new p q n size same may =
-    subst (λ (k : ℕ). MayBring k new q) (sym size) (subst (λ (b : BenchState). MayBring n b q) (sym same.0) (subst (MayBring n old) (sym same.1) may))
-may_put (Err e) old new p q n size same may = tt
+may_put (Ok w) old new p q n g g' size lends same may =
+    let less = may_less w.blocks n old p (omega (arith, size, given_least g g' lends)) may in
+    subst (λ (b : BenchState). MayBring w.blocks b q) (sym same.0) (subst (MayBring w.blocks old) (sym same.1) less)
+may_put (Err e) old new p q n g g' size lends same may = tt
 
--- a round that was worked and put, or that there was no memory for, is home
-pub brings_put : {E : Type 0} (r : Result WorkedState E) (old mid new : BenchState) (p q z : PoolState) (n : ℕ) → IfOk r (λ w. w.blocks ≡ n) → OnOk r ((mid ≡ old) × (q ≡ p))
-    → OnErr r (Brings n old mid p q) → MatchResult r (λ w. Brings w.blocks mid new q z) (λ _. (new ≡ mid) × (z ≡ q)) → Brings n old new p z
-brings_put (Ok w) old mid new p q z n size same brings put =
-    subst (λ (k : ℕ). Brings k old new p z) size (subst (λ (b : BenchState). Brings w.blocks b new p z) same.0 (subst (λ (x : PoolState). Brings w.blocks mid new x z) same.1 put))
-brings_put (Err e) old mid new p q z n size same brings put = subst (λ (b : BenchState). Brings n old b p z) (sym put.0) (subst (Brings n old mid p) (sym put.1) brings)
+-- a round that was worked and put, or that there was no memory for, is home, but what went to others
+pub brings_put : {E : Type 0} (r : Result WorkedState E) (old mid new : BenchState) (p q z : PoolState) (n : ℕ) (g g' : Option GiverState) → IfOk r (λ w. w.blocks + given_by g' ≡ n + given_by g)
+    → OnOk r ((mid ≡ old) × (q ≡ p))
+    → OnErr r (BringsBeside n old mid p q g g') → MatchResult r (λ w. Brings w.blocks mid new q z) (λ _. (new ≡ mid) × (z ≡ q)) → BringsBeside n old new p z g g'
+brings_put (Ok w) old mid new p q z n g g' size same brings put =
+    brings_rest w.blocks n old new p z g g' size (subst (λ (b : BenchState). Brings w.blocks b new p z) same.0 (subst (λ (x : PoolState). Brings w.blocks mid new x z) same.1 put))
+brings_put (Err e) old mid new p q z n g g' size same brings put =
+    subst (λ (b : BenchState). BringsBeside n old b p z g g') (sym put.0) (subst (λ (x : PoolState). BringsBeside n old mid p x g g') (sym put.1) brings)
 
 -- ---- one thing written behind another, of lists that are borrowed
 

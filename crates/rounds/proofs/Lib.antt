@@ -18,6 +18,8 @@ mod Small
 mod Keeping
 -- what is written of rounds that are worked in lanes
 mod Lanes
+-- a giver that is lent for a round
+pub mod Lending
 -- rounds that are merged
 pub mod Merging
 -- an offload header whose last bytes lie in blocks

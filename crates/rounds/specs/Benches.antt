@@ -1,6 +1,8 @@
 -- The side of rounds that works: what it needs so that blocks may come home, and what is so once they have.
-use Rattle.std.specs.Prelude.{ℕ, ◌≡◌, ◌+◌, ◌≤◌, length, map}
+use Rattle.std.specs.Prelude.{ℕ, ◌≡◌, ◌+◌, ◌≤◌, Option, None, Some, length, map}
 use Rattle.std.specs.List.{AllByRecursion}
+use Rattle.block_pool.specs.Giving.{GiverState, given_by, given_in}
+use Rattle.block_pool.specs.PassState.{IsSame}
 use Rattle.block_pool.specs.PoolState.{PoolState, home}
 use Rattle.offload_model.specs.Captured.{IsCaptured}
 use Rattle.offload_model.specs.Written.{Options}
@@ -40,6 +42,36 @@ pub record Brings (n : ℕ) (bench bench' : BenchState) (pool pool' : PoolState)
   pub taken : pool'.taken ≡ pool.taken
   pub room : bench.room ≤ bench'.room + (n + n)
   pub same : IsSameBench bench bench'
+
+-- the same, but that some of them went to others by a giver; so the places are those of what came home
+pub record BringsBeside (n : ℕ) (bench bench' : BenchState) (pool pool' : PoolState) (giver giver' : Option GiverState)
+    : Type 0 where
+  pub count : home pool' + given_by giver' ≡ home pool + n + given_by giver
+  pub made : pool'.made ≡ pool.made
+  pub taken : pool'.taken ≡ pool.taken
+  pub room : bench.room + (home pool + home pool) ≤ bench'.room + (home pool' + home pool')
+  pub same : IsSameBench bench bench'
+
+-- a giver that may be lent for a round: its list has no block
+abbrev pub IsLent : Option GiverState → Type 0
+IsLent None = Unit {0}
+IsLent (Some g) = home g.list ≡ 0
+
+-- it is back: of the same pool, with as many parts, and without blocks; what it gave it gave
+pub record IsBack (old new : GiverState) : Type 0 where
+  pub pool : new.pool ≡ old.pool
+  pub pass : IsSame old.pass new.pass
+  pub none : home new.list ≡ 0
+  pub least : given_in old ≤ given_in new
+
+abbrev pub Lends : Option GiverState → Option GiverState → Type 0
+Lends None new = new ≡ None
+Lends (Some g) new = (g' : GiverState) × (new ≡ Some g') × IsBack g g'
+
+-- a list against the giver's, where there is one
+abbrev pub Swaps : Option GiverState → Option GiverState → PoolState → PoolState → Type 0
+Swaps None new list list' = (new ≡ None) × (list' ≡ list)
+Swaps (Some g) new list list' = (new ≡ Some (record g { list = list })) × (list' ≡ g.list)
 
 -- a round as it is read
 pub record IsRead (round : RoundState) : Type 0 where

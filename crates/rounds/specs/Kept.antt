@@ -54,6 +54,7 @@ pub record IsKept (keep : Bool) (taps : ℕ) (ps : List Packet) (n : ℕ) (k : K
   pub few : counts_of k.packets.items ≤ 65536
   pub spares : home k.spares ≤ k.blocks
   pub unshared : k.shared ≡ false → taps ≡ 0
+  pub sole : keep ≡ false → taps ≡ 0 → k.shared ≡ false
   pub round : IsOneRound k.shared (k.blocks - home k.spares) k.packets.items k.kept.items
   pub clones : keep ≡ true → map packet_of_clone k.kept.items ≡ ps
 

@@ -5,7 +5,7 @@ use Rattle.net_bytes.specs.declared.order.Order.{Order}
 use Rattle.pcap_io.specs.Capture.{Packet}
 use Rattle.frags.specs.Account.{Account, both}
 use Rattle.offload_model.specs.Written.{Options, record_bytes, shown_of}
-use Rattle.gro.specs.Slots.{packet_of}
+use Rattle.gro.specs.Slots.{packet_of, AreAlone}
 use Rattle.taps.specs.declared.clones.TapClone.{TapClone}
 use Rattle.taps.specs.Clones.{packet_of as packet_of_clone, blocks_of, of_clones}
 use Rattle.taps.specs.Texts.{record_of_text}
@@ -31,6 +31,10 @@ count_of_work lanes kept = counts_of_queues lanes.queues.items + blocks_of kept
 -- no tap has a clone that it still has to read
 abbrev pub AreSpent : List TapLane → Type 0
 AreSpent lanes = All (λ (l : TapLane). l.clones.items ≡ []) lanes
+
+-- nobody but its packets holds a block of them, and there are no clones
+abbrev pub IsAloneWork : WorkedState → Type 0
+IsAloneWork w = All (λ (l : QueueLane). AreAlone l.packets.items) w.lanes.queues.items × (w.kept ≡ [])
 
 -- ---- what is written
 

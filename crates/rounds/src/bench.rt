@@ -1,6 +1,8 @@
 //! The side of rounds that works.
-ghost use Rattle.std.specs.Prelude.{◌≡◌, ◌≢◌, ◌+◌, ◌*◌, ◌≤◌, true, [], length, map, All, IfOk, IfErr, OnOk, OnErr};
+ghost use Rattle.std.specs.Prelude.{◌≡◌, ◌≢◌, ◌+◌, ◌*◌, ◌≤◌, true, false, [], length, map, All};
+ghost use Rattle.std.specs.Prelude.{IfOk, IfErr, OnOk, OnErr};
 ghost use Rattle.std.specs.Io.KnownBytes.{Appends};
+ghost use Rattle.block_pool.specs.Giving.{given_by};
 ghost use Rattle.block_pool.specs.PoolState.{home};
 ghost use Rattle.off_io.specs.Content.{AppendsFront};
 ghost use Rattle.off_io.specs.Faults.{HasCause};
@@ -8,15 +10,15 @@ ghost use Rattle.offload_model.specs.Written.{round_records};
 ghost use Rattle.gro.specs.Slots.{packet_of};
 ghost use Rattle.lanes.specs.Lanes.{AreIdle, IsMerged};
 ghost use Rattle.lanes.specs.Work.{IsPlan};
-ghost use Rattle.rounds.specs.Benches.{options_at, Brings, IsSameBench, MayBring};
-ghost use Rattle.rounds.specs.Lanes.{worked_bytes, worked_records, IsKeptWorkOf};
+ghost use Rattle.rounds.specs.Benches.{options_at, Brings, BringsBeside, IsLent, IsSameBench, Lends, MayBring};
+ghost use Rattle.rounds.specs.Lanes.{worked_bytes, worked_records, IsAloneWork, IsKeptWorkOf};
 
 use crate::home::bring_out;
 use crate::memory::{close_places, open_places, place_spares};
 use crate::round::{Blank, Rest, Round, RoundRead, Worked, no_round};
 use crate::table::Place;
 use crate::writing::write_lanes;
-use block_pool::Pool;
+use block_pool::{Giver, Pool};
 use core::mem::replace;
 use frags::Outcomes;
 use gro::Packets;
@@ -200,24 +202,31 @@ impl Bench {
         replace(&mut self.lanes, Lanes::new(self.alloc))
     }
 
-    /// Works a round, as `work_round` of the rounds says it. For want of memory all blocks of the round are home.
+    /// Works a round, as `work_round` of the rounds says it. Spares of it may go to others by the giver as soon as its
+    /// packets are merged; the round is as many blocks smaller. For want of memory all its other blocks are home.
     pub fn work_round<W: Works>(
         &mut self,
         works: &mut W,
         round: Round,
         home: &mut Pool,
+        giver: &mut Option<Giver>,
     ) -> Result<Worked, AllocError>
         requires may { MayBring round.blocks self.old home.old }
+        requires lent { IsLent giver.old }
         ensures records { IfOk result (λ worked. worked_records worked
             ≡ round_records (options_at self.old) (map packet_of round.packets)) }
         ensures checked { self.old.keep ≡ true → IfOk result
             (λ worked. IsKeptWorkOf (options_at self.old) (map packet_of round.packets) worked) }
         ensures merged { IfOk result (λ worked. All IsMerged worked.lanes.queues.items) }
-        ensures worked { IfOk result (λ worked. worked.blocks ≡ round.blocks) }
+        ensures alone { self.old.keep ≡ false → self.old.plan.taps ≡ 0 → IfOk result IsAloneWork }
+        ensures worked { IfOk result (λ worked. worked.blocks + given_by giver.new ≡ round.blocks
+            + given_by giver.old) }
         ensures same { OnOk result ((self.new ≡ self.old) × (home.new ≡ home.old)) }
-        ensures brings { OnErr result (Brings round.blocks self.old self.new home.old home.new) }
+        ensures brings { OnErr result (BringsBeside round.blocks self.old self.new home.old home.new giver.old
+            giver.new) }
+        ensures gave { Lends giver.old giver.new }
     {
-        match self.work(works, round) {
+        match self.work(works, round, giver) {
             Ok(worked) => Ok(worked),
             Err(rest) => {
                 self.bring(rest, home);
@@ -226,7 +235,8 @@ impl Bench {
         }
     }
 
-    /// Works the round that lies there, beside the side that reads. The runtime goes with it as with that side.
+    /// Works the round that lies there, beside the side that reads, to which no block goes meanwhile. The runtime goes
+    /// with it as with that side.
     pub(crate) fn work_lent<R: Sync, W: Works>(
         &mut self,
         _rt: &R,
@@ -239,6 +249,7 @@ impl Bench {
         ensures checked { self.old.keep ≡ true → IfOk result
             (λ worked. IsKeptWorkOf (options_at self.old) (map packet_of round.old.packets) worked) }
         ensures merged { IfOk result (λ worked. All IsMerged worked.lanes.queues.items) }
+        ensures alone { self.old.keep ≡ false → self.old.plan.taps ≡ 0 → IfOk result IsAloneWork }
         ensures worked { IfOk result (λ worked. worked.blocks ≡ round.old.blocks) }
         ensures rest { IfErr result (λ rest. rest ≡ round.old.blocks) }
         ensures spent { round.new.packets ≡ [] }
@@ -249,7 +260,7 @@ impl Bench {
             end: _,
         } = no_round(self.alloc);
         let lent = replace(round, none);
-        self.work(works, lent)
+        self.work(works, lent, &mut None)
     }
 
     /// Writes what a round came to, as `write_round` of the rounds says it.

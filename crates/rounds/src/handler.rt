@@ -2,11 +2,11 @@
 ghost use Rattle.std.specs.Prelude.{◌≡◌, ◌+◌, ◌≤◌, ◌^◌, ℕ, Bool, Option, None, length};
 ghost use Rattle.offload_model.specs.Written.{Options};
 ghost use Rattle.rounds.specs.declared.round.RoundRead.{RoundRead as ReadState};
-ghost use Rattle.rounds.specs.Benches.{options_at, Brings, IsRead, MayBring};
+ghost use Rattle.rounds.specs.Benches.{options_at, BringsBeside, IsLent, IsRead, Lends, MayBring};
 
 use crate::bench::Bench;
 use crate::round::{RoundEnd, RoundRead};
-use block_pool::Pool;
+use block_pool::{Giver, Pool};
 use lanes::Works;
 
 /// What is done with each round of a capture, in turn, until that ends, as an `E` says. `T` is what comes of it.
@@ -22,24 +22,28 @@ pub trait RoundHandler<T, E> {
     ghost stopped: { E };
 
     /// Works a round that was read, behind `number` others, does with it what is to be done, and brings it home, to
-    /// wherever that is. One that exceeds the blocks or that there was no memory for is given up.
+    /// wherever that is, but spares that go to others by the giver. One that exceeds the blocks or that there was no
+    /// memory for is given up.
     fn handle<W: Works>(
         &self,
         works: &mut W,
         bench: &mut Bench,
         home: &mut Pool,
+        giver: &mut Option<Giver>,
         read: RoundRead,
         number: u64,
         into: &mut T,
     ) -> Option<E>
         requires may { MayBring read.round.blocks bench.old home.old }
+        requires lent { IsLent giver.old }
         requires read { IsRead read.round }
         requires ready { (n : ℕ) × (n ≤ 2 ^ 32) × ready (options_at bench.old) bench.old.keep n into.old }
         ensures did { did self.now (options_at bench.old) into.old into.new read number result }
         ensures full { result ≡ None → read.end ≡ RoundEnd.Full }
         ensures ready { (n : ℕ) → ready (options_at bench.old) bench.old.keep n into.old
             → ready (options_at bench.old) bench.old.keep (n + length read.round.packets) into.new }
-        ensures brings { Brings read.round.blocks bench.old bench.new home.old home.new };
+        ensures brings { BringsBeside read.round.blocks bench.old bench.new home.old home.new giver.old giver.new }
+        ensures gave { Lends giver.old giver.new };
 
     /// Ends for want of memory.
     fn stop(&self) -> E

@@ -165,6 +165,7 @@ pub(crate) fn bring_alone(pool: &mut Pool, packets: &mut Packets)
     ensures home { home pool.new ≡ home pool.old + counts_of packets.old.items }
     ensures made { (pool.new.made ≡ pool.old.made) × (pool.new.taken ≡ pool.old.taken) }
     ensures none { packets.new.items ≡ [] }
+    ensures memory { packets.old.room + length packets.old.items ≤ packets.new.room }
 {
     while let Some(packet) = packets.pop() {
         let Slot {

@@ -14,8 +14,6 @@ ghost use Rattle.rounds.specs.Ahead.{round_of, GivesAhead, IfPaused, IfRead, Rea
 ghost use Rattle.rounds.specs.Fresh.{NumberedFrom};
 ghost use Rattle.rounds.specs.Reading.{FillsRound, GivesRest, GivesRound, NumberedTo, NumbersOn, PassesRound};
 
-use crate::homecoming::{AllHome, Homecoming};
-use crate::memory::RECORD_BLOCKS;
 use crate::reading::{Halt, read_more, read_records};
 use crate::round::{Blank, ReadAhead, Round, RoundEnd, RoundRead, no_round};
 use block_pool::Pool;
@@ -24,6 +22,7 @@ use gro::Packets;
 use off_io::Source;
 use pcap_io::CaptureReader;
 use raw_block::Sole;
+use records::{AllHome, RECORD_BLOCKS, Supply};
 use std::alloc::{AllocError, Global};
 use std::collections::VecDeque;
 use std::marker::Model;
@@ -136,18 +135,18 @@ impl Intake {
         self.pool.refill(&mut shelf);
     }
 
-    /// Blocks that were out come home before a round is read. None is taken.
-    pub fn bring_more<H: Homecoming>(&mut self, more: &mut H)
+    /// Blocks that were out come home before a round is read, for which none is needed yet. None is taken.
+    pub fn bring_more<H: Supply>(&mut self, more: &mut H)
         ensures sum { self.new.home + H.brought more.old ≡ self.old.home + H.brought more.new }
         ensures same { (self.new.blocks ≡ self.old.blocks) × (self.new.taken ≡ self.old.taken)
             × (self.new.budget ≡ self.old.budget) }
     {
-        more.bring(&mut self.pool);
+        let _enough = more.bring(&mut self.pool, 0);
     }
 
-    /// As `read_round` of the rounds says it, while blocks come home. `NoMemory` also where fewer are home than a
-    /// record may need and no more come. A round takes memory for its packets.
-    pub fn read_round<S: Source, H: Homecoming>(
+    /// As `read_round` of the rounds says it, while blocks come home. `NoMemory` also where fewer are home than the
+    /// next record needs and no more come. A round takes memory for its packets.
+    pub fn read_round<S: Source, H: Supply>(
         &mut self,
         reader: &mut CaptureReader<'_, S>,
         more: &mut H,
@@ -181,7 +180,7 @@ impl Intake {
     }
 
     /// The same, into lists that have room for the packets and their spares, where there was memory for these.
-    pub(crate) fn read_into<S: Source, H: Homecoming>(
+    pub(crate) fn read_into<S: Source, H: Supply>(
         &mut self,
         reader: &mut CaptureReader<'_, S>,
         more: &mut H,

@@ -1,5 +1,5 @@
 //! Works a round: its packets are merged in lanes.
-ghost use Rattle.std.specs.Prelude.{◌⊎◌, ◌≡◌, ◌≤◌, true, false, [], map, All, IfOk, IfErr, OnOk, MatchResult};
+ghost use Rattle.std.specs.Prelude.{◌⊎◌, ◌≡◌, ◌+◌, ◌≤◌, true, false, [], map, All, IfOk, IfErr, OnOk, MatchResult};
 ghost use Rattle.std.specs.List.{AllByRecursion};
 ghost use Rattle.offload_model.specs.Captured.{IsCaptured};
 ghost use Rattle.offload_model.specs.Written.{round_records};
@@ -9,14 +9,16 @@ ghost use Rattle.gro.specs.Slots.{packet_of, of_packets, counts_of, AreHeld, Are
 ghost use Rattle.taps.specs.Clones.{packet_of as packet_of_clone, blocks_of, of_clones};
 ghost use Rattle.lanes.specs.Clones.{AreAfter};
 ghost use Rattle.lanes.specs.Lanes.{IsMerged};
-ghost use Rattle.rounds.specs.Benches.{options_at};
+ghost use Rattle.block_pool.specs.Giving.{given_by};
+ghost use Rattle.rounds.specs.Benches.{options_at, IsLent, Lends};
 ghost use Rattle.records.specs.Laid.{AreRead, LaidFrom};
 ghost use Rattle.rounds.specs.Kept.{IsKept, IsPrepared, IsDone, IsLeft, IsOfLanes};
-ghost use Rattle.rounds.specs.Lanes.{worked_records, IsKeptWorkOf};
+ghost use Rattle.rounds.specs.Lanes.{worked_records, IsAloneWork, IsKeptWorkOf};
 
 use crate::bench::Bench;
+use crate::giving::swap_list;
 use crate::round::{Rest, Round, Worked};
-use block_pool::Pool;
+use block_pool::{Giver, Pool};
 use core::mem::replace;
 use gro::Packets;
 use lanes::{Lanes, Works, keep_packets, work_packets};
@@ -158,21 +160,42 @@ impl Bench {
         }
     }
 
-    /// Works a round, or gives back what is left of it, for want of memory.
-    pub(crate) fn work<W: Works>(&mut self, works: &mut W, round: Round) -> Result<Worked, Rest>
+    /// Works a round, or gives back what is left of it, for want of memory. Spares that went to others by the giver are
+    /// no blocks of the round any more.
+    pub(crate) fn work<W: Works>(
+        &mut self,
+        works: &mut W,
+        round: Round,
+        giver: &mut Option<Giver>,
+    ) -> Result<Worked, Rest>
         requires few { round.blocks ≤ self.old.blocks }
+        requires lent { IsLent giver.old }
         ensures records { IfOk result (λ worked. worked_records worked
             ≡ round_records (options_at self.old) (map packet_of round.packets)) }
         ensures checked { self.old.keep ≡ true → IfOk result
             (λ worked. IsKeptWorkOf (options_at self.old) (map packet_of round.packets) worked) }
         ensures merged { IfOk result (λ worked. All IsMerged worked.lanes.queues.items) }
-        ensures worked { IfOk result (λ worked. worked.blocks ≡ round.blocks) }
-        ensures rest { IfErr result (λ rest. rest ≡ round.blocks) }
+        ensures alone { self.old.keep ≡ false → self.old.plan.taps ≡ 0 → IfOk result IsAloneWork }
+        ensures worked { IfOk result (λ worked. worked.blocks + given_by giver.new ≡ round.blocks
+            + given_by giver.old) }
+        ensures rest { IfErr result (λ rest. rest + given_by giver.new ≡ round.blocks + given_by giver.old) }
+        ensures gave { Lends giver.old giver.new }
         ensures same { self.new ≡ self.old }
     {
         let mut kept = self.keep_round(round)?;
         let mut lanes = self.take_lanes();
-        let done = work_packets(works, self.alloc, &mut kept.packets, &self.plan, &mut lanes);
+        let before = kept.spares.home();
+        swap_list(giver, &mut kept.spares);
+        let done = work_packets(
+            works,
+            self.alloc,
+            &mut kept.packets,
+            &self.plan,
+            &mut lanes,
+            giver,
+        );
+        swap_list(giver, &mut kept.spares);
+        kept.blocks -= before - kept.spares.home();
         self.settle(kept, lanes, done)
     }
 }

@@ -10,7 +10,11 @@
 //!
 //! A record is judged in this order: its header, whether the round then needs more blocks than there are, its body. So
 //! a record that is too big for the pool takes no block, and one that is cut short or whose source fails leaves none
-//! out.
+//! out. Blocks that it needs and that are out are brought once its header is read, by whoever has a [`Supply`] of them.
+//!
+//! The spares of a round nobody reads, so they may go to others before the round ends: whoever has a
+//! [`Giver`](block_pool::Giver) lends it to [`Bench::work_round`], and as soon as a queue's lane is worked they go by
+//! it. The round is as many blocks smaller. Without a giver they come home with the others.
 //!
 //! Of a record of link type 147 the first 12 bytes are read apart, as every offload header has them, and the need is
 //! that of the bytes behind them. The last 4 bytes of a header of version 2 so stand in the first block, in front of
@@ -44,6 +48,10 @@
 //!   raise it, and no other call changes it (`home`, `same`), also where blocks come home on a shelf (`bring_in`).
 //! - `sum`, `home` of [`Intake`], `brings` of [`Bench`]: where one side reads and the other works no block is lost
 //!   between them, and `given`, `puts` and `gives` say of a round on its way what `merge_all` says of it.
+//! - `worked`, `brings` and `gave` where a giver is lent: what it gave and what comes home are together the round's
+//!   blocks, each counted once, and the giver comes back with an empty list and as many parts of its pass.
+//! - `alone` of [`Bench`]: where there are no taps and no clones are kept, nobody but a round's packets holds a block
+//!   of them once it was worked.
 //! - `given`, `reads`, `paused` of `work_and_read`: where the next round is read beside the work of one, what is said
 //!   of both is the same; the read pauses only between records, and only where blocks of the other round were wanted;
 //!   `given` of `read_rest`: what such a round comes to in the end, over all of its records. That both run at the same
@@ -87,14 +95,14 @@
 //! Its parts: `reading` (a round of records, each read by `records`); `table` and `home` (what comes back, by marks or
 //! by number, and all of a round given up at whichever point); `lane_work` (a round over lanes, by
 //! `lanes::work_packets`, with its heads shared where others hold blocks), `lane_home` (what lanes hold, home);
-//! `writing` (what they come to); `intake` (the side that reads: pool and budget) and `homecoming` (who brings blocks
-//! home while a round is read); `bench` (the side that works: places, memory and lanes); `rounds` (both, in turn) and
-//! `ahead` (a round read beside the work of another, and its rest); `handler` (what is done with a round, for whoever
-//! drives them); `merge` (round by round to the end of a capture); `segment` (the type that segments, record by record)
-//! on `cut` (a record's packets written one by one, its blocks brought home); `memory` (what is kept from round to
-//! round). `specs/Out.antt` says what is out with a round, `specs/Marks.antt` what is its account where others hold
-//! blocks of it, `specs/Fresh.antt` what that is once heads are shared, `specs/Reading.antt` what each end of a round
-//! says of the capture's bytes, `specs/Benches.antt` when blocks may come home, and what is so once they have.
+//! `writing` (what they come to); `intake` (the side that reads: pool and budget); `bench` (the side that works:
+//! places, memory and lanes) and `giving` (spares that go to others); `rounds` (both, in turn) and `ahead` (a round
+//! read beside the work of another, and its rest); `handler` (what is done with a round, for whoever drives them);
+//! `merge` (round by round to the end of a capture); `segment` (the type that segments, record by record) on `cut` (a
+//! record's packets written one by one, its blocks brought home); `memory` (what is kept from round to round).
+//! `specs/Out.antt` says what is out with a round, `specs/Marks.antt` what is its account where others hold blocks of
+//! it, `specs/Fresh.antt` what that is once heads are shared, `specs/Reading.antt` what each end of a round says of the
+//! capture's bytes, `specs/Benches.antt` when blocks may come home, and what is so once they have.
 //!
 //! Tests: `round_tests`, modules `ahead`, `lanes`, `long_runs`, `merging`, `segments` and `sides`.
 //!
@@ -113,6 +121,9 @@
 //!   that much, so nothing has to be reunited. In fact a receipt meets a place that is home already, and is closed.
 //! - **Spares lie in a list of the round's own**, two for each packet, which its need counts. Nobody reads or shares
 //!   them, so they come and go many at once, and have no part in the account.
+//! - **Spares alone go to others while a round is worked**: the packets lie in their blocks until it is written. Their
+//!   list is swapped against the giver's empty one, and what wasn't given is swapped back, so neither is a block moved
+//!   nor is memory taken.
 //! - **A second Sole of a mark is dropped.** The account says what is held at most and what is home at least, so it
 //!   doesn't exclude one; that two Soles never are of one block is known only where both are in hand.
 //! - **The bench keeps the memory of a round's packets, spares and lanes** while no round has it: the lanes are idle,
@@ -143,9 +154,10 @@
 //!   (`AreOne`): that what is out has its places at the bench. Whoever lends them owes it when both are back.
 //! - **Whoever drives rounds one by one reads the next one beside the work** by `work_and_read`: one join, in which the
 //!   intake reads with all blocks that are home while the bench works. No block comes home before both have ended, so
-//!   blocks aren't shared, and taking one costs no locked step. A read that wants blocks of the round beside it pauses
-//!   between two records, by the same rule (`is_ready`): no header is kept and nothing is half read, and whether a
-//!   round exceeds the blocks is judged by all of them in `read_rest` too.
+//!   blocks aren't shared, and taking one costs no locked step. A read that might want blocks of the round beside it
+//!   pauses between two records, by the rule of [`AllHome`]: no header is kept and nothing is half read, and whether a
+//!   round exceeds the blocks is judged by all of them in `read_rest` too. Who can wait within a record has no such
+//!   rule, and asks for what it needs, not for the most that a record may need.
 //! - **What `read_rest` says is over the whole round** (`GivesRest`): of every place and bytes from which the first
 //!   packets were read. So it has the ends of `read_round` with no ghost data in a round, and `read_round` is the case
 //!   of no packets.
@@ -159,9 +171,9 @@
 mod ahead;
 mod bench;
 mod cut;
+mod giving;
 mod handler;
 mod home;
-mod homecoming;
 mod intake;
 mod lane_home;
 mod lane_work;
@@ -179,10 +191,9 @@ mod writing;
 
 pub use bench::Bench;
 pub use handler::RoundHandler;
-pub use homecoming::{AllHome, Homecoming};
 pub use intake::Intake;
-pub use memory::RECORD_BLOCKS;
 pub use merge::{MergeEnd, Step};
+pub use records::{AllHome, Supply};
 pub use round::{ReadAhead, Round, RoundEnd, RoundRead, Worked};
 pub use rounds::Rounds;
 pub use segment::{Moved, SegFault, SegmentRun};

@@ -7,9 +7,6 @@ use crate::table::Place;
 use block_pool::Pool;
 use std::alloc::{AllocError, Global};
 
-/// No record needs more blocks. Where as many are home the next one finds its own, whatever it is.
-pub const RECORD_BLOCKS: usize = 131;
-
 /// A table with an open place for each of `n` marks.
 pub(crate) fn open_places(alloc: Global, n: u32) -> Result<Vec<Place>, AllocError>
     ensures open { IfOk result (λ places. AllOpen places.items) }

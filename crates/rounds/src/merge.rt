@@ -12,7 +12,7 @@ ghost use Rattle.offload_model.specs.Need.{round_need};
 ghost use Rattle.offload_model.specs.Passing.{merging, Passes, FrontUnless, flushes};
 ghost use Rattle.offload_model.specs.Steps.{round_output};
 ghost use Rattle.gro.specs.Slots.{packet_of};
-ghost use Rattle.rounds.specs.Benches.{options_at, Brings, MayBring};
+ghost use Rattle.rounds.specs.Benches.{options_at, Brings, BringsBeside, IsLent, Lends, MayBring};
 ghost use Rattle.rounds.specs.Lanes.{worked_bytes};
 ghost use Rattle.rounds.specs.Merging.{ending_of, options_of, is_worked, Puts, GivesUp, Steps, IfEnds, TakesAll};
 ghost use Rattle.rounds.specs.Merging.{EndsCaptured, HoldsCaptured, MovesOn};
@@ -20,7 +20,7 @@ ghost use Rattle.rounds.specs.Merging.{EndsCaptured, HoldsCaptured, MovesOn};
 use crate::bench::Bench;
 use crate::round::{Round, RoundEnd, RoundRead, Worked, is_worked};
 use crate::rounds::Rounds;
-use block_pool::Pool;
+use block_pool::{Giver, Pool};
 use lanes::Works;
 use off_io::{Failed, Sink, Source, WriteFault};
 use pcap_io::{CapFault, CaptureReader, FileHead};
@@ -154,8 +154,9 @@ impl Bench {
         }
     }
 
-    /// Works and writes a round that was read, behind `number` others, and brings it home. One that exceeds the blocks
-    /// or that there was no memory for is given up: nothing is written of it.
+    /// Works and writes a round that was read, behind `number` others, and brings it home, but spares that go to others
+    /// by the giver meanwhile. One that exceeds the blocks or that there was no memory for is given up: nothing is
+    /// written of it.
     pub fn put_read<W: Works, K: Sink>(
         &mut self,
         works: &mut W,
@@ -164,15 +165,18 @@ impl Bench {
         sink: &mut K,
         number: u64,
         home: &mut Pool,
+        giver: &mut Option<Giver>,
     ) -> Step
         requires may { MayBring read.round.blocks self.old home.old }
+        requires lent { IsLent giver.old }
         ensures puts { is_worked read.end ≡ true → Puts (K.held sink.old) (K.held sink.new)
             (round_output (options_at self.old) file.now.order (map packet_of read.round.packets)) read.end result }
         ensures gives { is_worked read.end ≡ false → (end : MergeEnd) × (result ≡ Step.Ends end)
             × GivesUp (K.held sink.old) (K.held sink.new) number read.end end }
         ensures flushed { IfEnds result (λ end. flushes (ending_of end) ≡ true
             → SaysFlushed (K.held sink.new) (K.is_flushed sink.new) true) }
-        ensures brings { Brings read.round.blocks self.old self.new home.old home.new }
+        ensures brings { BringsBeside read.round.blocks self.old self.new home.old home.new giver.old giver.new }
+        ensures gave { Lends giver.old giver.new }
         ensures later { K.faults sink.old ≤ K.faults sink.new }
         ensures rose { IfEnds result (λ end. end ≡ MergeEnd.WriteFault → Rose (K.faults sink.old) (K.faults sink.new)) }
     {
@@ -180,7 +184,7 @@ impl Bench {
         if !is_worked(end) {
             return Step::Ends(self.give_up(round, end, sink, number, home));
         }
-        let worked = self.work_round(works, round, home);
+        let worked = self.work_round(works, round, home, giver);
         self.put_round(worked, end, file, sink, home)
     }
 }
@@ -209,7 +213,8 @@ impl Rounds {
     {
         let intake = &mut self.intake;
         let bench = &mut self.bench;
-        bench.put_read(works, read, file, sink, number, &mut intake.pool)
+        let home = &mut intake.pool;
+        bench.put_read(works, read, file, sink, number, home, &mut None)
     }
 
     /// Reads the next round, behind `number` others, works it and puts it. Of a round that exceeds the blocks nothing

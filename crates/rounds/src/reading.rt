@@ -15,14 +15,13 @@ ghost use Rattle.records.specs.Laid.{AreRead, LaidFrom};
 ghost use Rattle.rounds.specs.Fresh.{NumberedFrom};
 ghost use Rattle.rounds.specs.Reading.{FillsRound, GivesMore, GivesRound, GoesOver, NumbersOn, PassesRound};
 
-use crate::homecoming::{Homecoming, is_ready};
 use crate::round::{RoundEnd, end_of};
 use block_pool::Pool;
 use gro::Packets;
 use off_io::Source;
 use pcap_io::CaptureReader;
 use raw_block::Sole;
-use records::read_record;
+use records::{Supply, read_record};
 use std::alloc::Global;
 use std::collections::VecDeque;
 
@@ -36,9 +35,9 @@ pub(crate) enum Halt {
 }
 
 /// Reads on behind the packets that a round has already, with `used` blocks, until there are `budget` of them, or no
-/// more: the blocks that they then have, and why. Before each record blocks come home where it might lack some;
-/// `Lacking` where it still might.
-pub(crate) fn read_more<S: Source, H: Homecoming>(
+/// more: the blocks that they then have, and why. `Lacking` where the next record may not be begun; blocks that are
+/// wanted within one are brought, and where they don't come it is the end for want of memory.
+pub(crate) fn read_more<S: Source, H: Supply>(
     alloc: Global,
     pool: &mut Pool,
     hold: &mut VecDeque<Sole>,
@@ -97,7 +96,7 @@ pub(crate) fn read_more<S: Source, H: Homecoming>(
 {
     let mut used = used;
     'reading: while packets.len() < budget {
-        if !is_ready(pool, more, used) {
+        if !more.may_begin(pool, used) {
             return (used, Halt::Lacking);
         }
         let mark = used - spares.home();
@@ -107,6 +106,7 @@ pub(crate) fn read_more<S: Source, H: Homecoming>(
             hold,
             spares,
             reader,
+            more,
             &mut [],
             used,
             mark,
@@ -120,8 +120,8 @@ pub(crate) fn read_more<S: Source, H: Homecoming>(
 }
 
 /// Reads the records of a round, up to `budget` of them: the blocks that they have, and why there are no more.
-/// `NoMemory` also where blocks are wanted that are out.
-pub(crate) fn read_records<S: Source, H: Homecoming>(
+/// `NoMemory` also where blocks are wanted that are out and don't come.
+pub(crate) fn read_records<S: Source, H: Supply>(
     alloc: Global,
     pool: &mut Pool,
     hold: &mut VecDeque<Sole>,

@@ -42,9 +42,9 @@ impl Blank {
         }
     }
 
-    /// The memory is given up.
+    /// The memory is given up, and no block with it.
     pub(crate) fn discard(self)
-        requires none { self.packets.items ≡ [] }
+        requires none { (self.packets.items ≡ []) × (home self.spares ≡ 0) }
     {
         let Blank {
             packets,

@@ -23,12 +23,12 @@ ghost use Rattle.rounds.specs.Reading.{GivesRound, PassesRound};
 
 use crate::bench::Bench;
 use crate::handler::RoundHandler;
-use crate::homecoming::AllHome;
 use crate::intake::Intake;
 use crate::round::{Round, RoundEnd, RoundRead, Worked};
 use lanes::{Plan, Works};
 use off_io::{Sink, Source, WriteFault};
 use pcap_io::{CaptureReader, FileHead};
+use records::AllHome;
 use std::alloc::{AllocError, Global};
 use std::marker::Model;
 
@@ -174,7 +174,7 @@ impl Rounds {
     {
         let intake = &mut self.intake;
         let bench = &mut self.bench;
-        bench.work_round(works, round, &mut intake.pool)
+        bench.work_round(works, round, &mut intake.pool, &mut None)
     }
 
     /// Writes what a round came to: queue by queue what each run comes to as a record, and then tap by tap its windows.
@@ -236,6 +236,7 @@ impl Rounds {
     {
         let intake = &mut self.intake;
         let bench = &mut self.bench;
-        handler.handle(works, bench, &mut intake.pool, read, number, into)
+        let home = &mut intake.pool;
+        handler.handle(works, bench, home, &mut None, read, number, into)
     }
 }

@@ -10,14 +10,13 @@ ghost use Rattle.records.specs.Reading.{GoesOn};
 ghost use Rattle.rounds.specs.Segmenting.{IsFaultOf, IsMovedOf, Moves, TakesOne};
 
 use crate::cut::{Refused, cut_record};
-use crate::memory::RECORD_BLOCKS;
 use block_pool::Pool;
 use frags::Outcomes;
 use gro::{Packets, Slot};
 use off_io::{Sink, Source};
 use pcap_io::{CapFault, CapKind, CaptureReader, OFF_HEAD_LEN};
 use raw_block::Sole;
-use records::{Stop, read_record};
+use records::{AllHome, RECORD_BLOCKS, Stop, read_record};
 use std::alloc::{AllocError, Global};
 use std::collections::VecDeque;
 use std::marker::Model;
@@ -206,6 +205,7 @@ impl SegmentRun {
             &mut self.hold,
             &mut self.spares,
             reader,
+            &mut AllHome,
             &mut front,
             0,
             0,

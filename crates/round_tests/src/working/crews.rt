@@ -96,10 +96,10 @@ fn by_crew_named<N: Naming + Send + Sync, R: Threads + Wait + Abort + Sync, G: G
     requires none { asker.log ≡ [] }
     requires runners { All (λ r. r ≡ errands.now) runners.old }
 {
-    let job = LaneJob { gate };
+    let job = LaneJob { gate, rt };
     let replies = ArrayQueue::new(alloc, LANES)?;
     let mut crew = LaneCrew::new(rt, alloc, errands, &replies, &job, bells, asker, own)?;
-    Ok(beside::<LaneJob<'_, G>, N, R, LaneCrew<'_, '_, G, N, R>>(
+    Ok(beside::<LaneJob<'_, G, R>, N, R, LaneCrew<'_, '_, G, N, R>>(
         rt, alloc, plan, errands, &replies, &job, bells, runners, &mut crew, rounds,
     ))
 }

@@ -28,7 +28,7 @@ pub(crate) fn lanes_of<W: Works>(
 {
     let mut packets = in_turn(rt, alloc);
     let mut lanes = Lanes::new(alloc);
-    match work_packets(works, alloc, &mut packets, plan, &mut lanes) {
+    match work_packets(works, alloc, &mut packets, plan, &mut lanes, &mut None) {
         Ok(()) => {
             packets.discard();
             lanes
@@ -175,7 +175,14 @@ fn unshared_by(rt: &impl Abort, alloc: Global, queues: u32) -> (bool, usize)
     let mut packets = unshared(rt, alloc);
     let mut works = Alone { gate: &NoGate };
     let mut lanes = Lanes::new(alloc);
-    match work_packets(&mut works, alloc, &mut packets, &plan, &mut lanes) {
+    match work_packets(
+        &mut works,
+        alloc,
+        &mut packets,
+        &plan,
+        &mut lanes,
+        &mut None,
+    ) {
         Ok(()) => {
             packets.discard();
             (are_unshared(&lanes), all_home(rt, lanes))
@@ -220,7 +227,14 @@ fn kept_and_alone(rt: HostRuntime) {
     };
     let mut works = Alone { gate: &gate };
     let mut lanes = Lanes::new(alloc);
-    match work_packets(&mut works, alloc, &mut packets, &plan, &mut lanes) {
+    match work_packets(
+        &mut works,
+        alloc,
+        &mut packets,
+        &plan,
+        &mut lanes,
+        &mut None,
+    ) {
         Ok(()) => {
             assert!(rt; lanes.queues.len() == 2 && lanes.taps.len() == 8);
             says(&rt, &lanes.queues[0], &[(0, 4, 16)]);

@@ -1,18 +1,22 @@
 use Rattle.std.proofs.Common.{List, length}
+use Rattle.std.specs.Prelude.{Option, false}
+use Rattle.block_pool.specs.Giving.{GiverState}
 use Rattle.std.specs.List.{AllByRecursion}
 use Rattle.errands.specs.Answers.{EachDid}
 use Rattle.lanes.specs.declared.lane.Lanes.{Lanes}
 use Rattle.lanes.specs.declared.plan.Plan.{Plan}
 use Rattle.lanes.specs.declared.tasks.LaneTask.{LaneTask}
+use Rattle.lanes.specs.Givers.{returned, Divided}
 use Rattle.lanes.specs.Tasks.{DidLane, Away, HasPlace}
 use Rattle.lanes.proofs.Returning.{Answered}
 use Rattle.lanes.proofs.away.bring_back.Given as goal
 
 abbrev pub invariant-loop-answer : goal.invariant-loop-answer
-invariant-loop-answer l = record {
+invariant-loop-answer g l = record {
   places : AllByRecursion (HasPlace l.lanes) l.done.items;
   back : (plan : Plan) (old : Lanes) (ts : List LaneTask) → EachDid DidLane ts l.fn.done.items → Away plan old l.fn.lanes ts → Answered plan old l.lanes l.done.items;
+  taken : (old : Option GiverState) → Divided false old l.fn.giver (returned l.fn.done.items) → Divided false old l.giver (returned l.done.items);
 }
 
 abbrev pub decreases-loop-answer : goal.decreases-loop-answer
-decreases-loop-answer l = length l.done.items
+decreases-loop-answer g l = length l.done.items

@@ -1,8 +1,10 @@
 use Rattle.std.proofs.Common.{◌≡◌, ◌+◌, [], ◌∷◌, ◌++◌, get_or, sym, ap, ◌∙◌, subst, arith}
 use Rattle.std.specs.VecDeque.{deque_len, deque_capacity, deque_items}
 use Rattle.lanes.specs.declared.tasks.LaneTask.TheVariants as asked
+use Rattle.lanes.specs.Givers.{carried}
 use Rattle.lanes.specs.Lanes.{DidTap}
 use Rattle.lanes.specs.Tasks.{IsOfTaps, IsElseTap, Parted}
+use Rattle.lanes.proofs.Dividing.{carried_tap}
 use Rattle.lanes.proofs.Returning.{all_behind, one_more, parted_here, parted_sent, own_tap}
 use Rattle.lanes.proofs.away.send_taps.Goals as goal
 use Rattle.lanes.proofs.away.send_taps.Goals.{in-Some, in-None}
@@ -32,6 +34,8 @@ loop-at-preserved g c =
                   (parted_sent (DidTap plan.filter plan.snap) IsElseTap at (at + 1) old now more t w.take_tap-lane.new.lane (omega arith)
                   (λ apart. apart (ap (λ z. z.at) w.new-task.ensures.same)) i.sent.3),
             );
+            same = subst (λ z. carried z.items ≡ carried c.args.tasks.now.items) (sym w.tasks-is)
+                (ap carried w.push_back_reserved.ensures.items ∙ carried_tap c.loop-at.tasks.items w.new-task.result ∙ i.same);
             few = omega (arith, i.few, ap deque_len w.tasks-is, w.push_back_reserved.ensures.len);
             room = ap deque_capacity w.tasks-is ∙ w.push_back_reserved.ensures.capacity ∙ i.room;
           }
@@ -46,6 +50,7 @@ loop-at-preserved g c =
               subst (λ z. Parted (DidTap plan.filter plan.snap) IsElseTap (at + 1) old z more) (sym w.taps-is)
                   (parted_here (DidTap plan.filter plan.snap) IsElseTap at (at + 1) old now more x w.watch.new.lane (omega arith) c.loop-at-test.true did i.sent.3),
             );
+            same = subst (λ z. carried z.items ≡ carried c.args.tasks.now.items) (sym w.tasks-is) i.same;
             few = omega (arith, i.few, ap deque_len w.tasks-is);
             room = ap deque_capacity w.tasks-is ∙ i.room;
           }

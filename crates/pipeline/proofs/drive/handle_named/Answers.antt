@@ -1,4 +1,8 @@
-use Rattle.std.proofs.Common.{◌≡◌, ◌∙◌, ◌+◌, ◌≤◌, ◌^◌, ◌++◌, Option, List, ap, sym, refl, arith}
+use Rattle.std.proofs.Common.{◌≡◌, ◌∙◌, ◌+◌, ◌^◌, ◌++◌, Option, Some, List, ap, sym, subst, refl, arith}
+use Rattle.std.specs.Arc.{arc_value}
+use Rattle.block_pool.specs.Giving.{given_by}
+use Rattle.block_pool.specs.Listed.{blocks_in}
+use Rattle.block_pool.specs.PassState.{SharedState}
 use Rattle.block_pool.specs.PoolState.{home}
 use Rattle.rtrb.specs.Ring.{sent, received, known_items}
 use Rattle.rounds.specs.Benches.{options_at}
@@ -7,32 +11,39 @@ use Rattle.rounds.specs.RoundsState.{BenchState, IntakeState, RoundsState}
 use Rattle.rounds.specs.declared.round.RoundRead.{RoundRead}
 use Rattle.pipeline.specs.declared.parcel.Parcel.{Parcel}
 use Rattle.pipeline.specs.Handled.{blocks_out}
-use Rattle.pipeline.specs.Parcels.{blocks_of, homes_of, shelved}
+use Rattle.pipeline.specs.Parcels.{HasGiver, blocks_of, homes_of, listed_home, shelved}
 use Rattle.pipeline.specs.Reads.{reader_at}
 use Rattle.pipeline.proofs.Rows.{blocks_append, homes_append}
 use Rattle.pipeline.proofs.Together.{all_went, counted_as, ends_as, idle_as, left_out}
+use Rattle.pipeline.proofs.Lending.{giver_back}
 use Rattle.pipeline.proofs.drive.handle_named.Goals as goal
 
 -- all blocks are where they are counted: home, on shelves, in rounds that nobody worked, or in the round that comes back
-pub bring_shelves-requires : goal.bring_shelves-requires
-bring_shelves-requires g c =
+pub bring_home-requires : goal.bring_home-requires
+bring_home-requires g c =
     let r = c.run_sides-end.ensures in
     let a = c.slots_beside-waiting.ensures in
     let b = c.slots_beside.ensures in
     let e = c.ending-ended.ensures in
-    let counted : c.run_sides-end.new.intake.home + homes_of (known_items c.slots_beside.new.self) + home c.run_sides-end.new.kept + shelved c.close-tokens.result.1.items + blocks_of (known_items c.ending-ended.new.from)
-    + blocks_out c.ending-ended.result ≡ c.args.rounds.now.blocks =
+    let w = c.args.ways in
+    let d = c.run_sides-end.new.supply.desk in
+    let counted : c.run_sides-end.new.intake.home + homes_of (known_items c.slots_beside.new.self) + home c.run_sides-end.new.kept + shelved c.close-tokens.result.1.items + home c.close-tokens.result.2.left
+    + given_by c.run_sides-end.new.giver + blocks_of (known_items c.ending-ended.new.from) + blocks_out c.ending-ended.result ≡ c.args.rounds.now.blocks + blocks_in c.close-tokens.result.2.pass.taken =
     omega (
       arith,
       r.sum,
       r.each,
-      c.run_sides-end.new.supply.desk.counted,
+      d.counted,
+      d.taker.counted,
       c.requires.out.out,
       ap (λ (s : RoundsState). s.home) c.rounds.view_is,
       ap (λ t. homes_of (received t)) c.new.ensures.same.0,
-      ap homes_of c.requires.none.1,
+      ap homes_of w.unused.1,
       ap (λ s. shelved s.items) c.new.ensures.same.1,
       c.in-Ok.ensures.shelves,
+      ap (λ t. listed_home t.pass t.left) c.new.ensures.same.2,
+      ap blocks_in w.untaken.0,
+      ap blocks_in w.ungiven.1,
       ap blocks_of c.send_first.ensures.sent.1,
       ap (λ (x : RoundRead). x.round.blocks) c.send_first.ensures.sent.2,
       left_out g.H.RoundHandler.stopped c.run_sides-end.result c.ending-ended.result (known_items c.slots_beside-waiting.new.self) (known_items c.ending-ended.new.from) e.some e.none,
@@ -46,8 +57,16 @@ bring_shelves-requires g c =
       ap homes_of b.producer.1,
       ap (λ t. homes_of (received t)) c.close-tokens.ensures.same.0,
       ap (λ t. shelved t.items) c.close-tokens.ensures.same.1,
+      ap (λ t. home t.left) c.close-tokens.ensures.same.2,
+      ap (λ t. blocks_in t.pass.taken) c.close-tokens.ensures.same.2,
     ) in
-    record { room = omega (arith, counted, r.same_intake.0, ap (λ (s : RoundsState). s.blocks) c.rounds.view_is) }
+    record {
+      giver = subst (λ (l : SharedState). HasGiver l c.run_sides-end.new.giver)
+          (c.requires.ways.1 ∙ sym d.pooled ∙ sym (ap (λ t. arc_value t.lists) c.close-tokens.ensures.same.2))
+          (giver_back (arc_value w.taker.lists) (Some w.giver) c.run_sides-end.new.giver
+          (record { it = w.giver; is = refl; pool_is = w.same; parts = w.ungiven.0; none = w.ungiven.2 }) r.lends);
+      room = omega (arith, counted, r.same_intake.0, ap (λ (s : RoundsState). s.blocks) c.rounds.view_is);
+    }
 
 abbrev lent : IntakeState → BenchState → RoundsState
 lent i b = record { home = i.home; blocks = i.blocks; taken = i.taken; budget = b.budget; plan = b.plan; keep = b.keep }
@@ -62,68 +81,21 @@ returns-in_default-clause-handled g c = (
 pub invariant_of-rounds-2 : goal.invariant_of-rounds-2
 invariant_of-rounds-2 g c =
     let r = c.run_sides-end.ensures in
-    let a = c.slots_beside-waiting.ensures in
-    let b = c.slots_beside.ensures in
-    let e = c.ending-ended.ensures in
-    let counted : c.run_sides-end.new.intake.home + homes_of (known_items c.slots_beside.new.self) + home c.run_sides-end.new.kept + shelved c.close-tokens.result.1.items + blocks_of (known_items c.ending-ended.new.from)
-    + blocks_out c.ending-ended.result ≡ c.args.rounds.now.blocks =
-    omega (
-      arith,
-      r.sum,
-      r.each,
-      c.run_sides-end.new.supply.desk.counted,
-      c.requires.out.out,
-      ap (λ (s : RoundsState). s.home) c.rounds.view_is,
-      ap (λ t. homes_of (received t)) c.new.ensures.same.0,
-      ap homes_of c.requires.none.1,
-      ap (λ s. shelved s.items) c.new.ensures.same.1,
-      c.in-Ok.ensures.shelves,
-      ap blocks_of c.send_first.ensures.sent.1,
-      ap (λ (x : RoundRead). x.round.blocks) c.send_first.ensures.sent.2,
-      left_out g.H.RoundHandler.stopped c.run_sides-end.result c.ending-ended.result (known_items c.slots_beside-waiting.new.self) (known_items c.ending-ended.new.from) e.some e.none,
-      ap blocks_of a.fifo,
-      blocks_append (received c.slots_beside-waiting.new.self) (known_items c.slots_beside-waiting.new.self),
-      ap blocks_of a.looked.1,
-      ap blocks_of a.producer.1,
-      ap homes_of b.fifo,
-      homes_append (received c.slots_beside.new.self) (known_items c.slots_beside.new.self),
-      ap homes_of b.looked.1,
-      ap homes_of b.producer.1,
-      ap (λ t. homes_of (received t)) c.close-tokens.ensures.same.0,
-      ap (λ t. shelved t.items) c.close-tokens.ensures.same.1,
-    ) in
     let v = c.rounds.invariant in
-    let f = c.bring_shelves.ensures.home in
+    let f = c.bring_home.ensures in
     record {
-      blocks = ap (λ (b : BenchState). b.blocks) r.same ∙ ap (λ (b : BenchState). b.blocks) c.prepare.ensures.same ∙ v.blocks ∙ sym r.same_intake.0 ∙ sym (ap (λ (i : IntakeState). i.blocks) f);
-      budget = ap (λ (b : BenchState). b.budget) r.same ∙ ap (λ (b : BenchState). b.budget) c.prepare.ensures.same ∙ v.budget ∙ sym r.same_intake.1 ∙ sym (ap (λ (i : IntakeState). i.budget) f);
-      few = (omega (arith, v.few.0, r.same_intake.1, ap (λ (i : IntakeState). i.budget) f), omega (arith, v.few.1, r.same_intake.1, ap (λ (i : IntakeState). i.budget) f));
+      blocks = ap (λ (b : BenchState). b.blocks) r.same ∙ ap (λ (b : BenchState). b.blocks) c.prepare.ensures.same ∙ v.blocks ∙ sym r.same_intake.0 ∙ sym (ap (λ (i : IntakeState). i.blocks) f.same);
+      budget = ap (λ (b : BenchState). b.budget) r.same ∙ ap (λ (b : BenchState). b.budget) c.prepare.ensures.same ∙ v.budget ∙ sym r.same_intake.1 ∙ sym (ap (λ (i : IntakeState). i.budget) f.same);
+      few = (omega (arith, v.few.0, r.same_intake.1, ap (λ (i : IntakeState). i.budget) f.same), omega (arith, v.few.1, r.same_intake.1, ap (λ (i : IntakeState). i.budget) f.same));
       room = omega (
         arith,
         r.room,
-        r.sum,
-        r.each,
-        counted,
-        ap (λ (i : IntakeState). i.home) f,
-        ap (λ (i : IntakeState). i.blocks) f,
+        f.least,
+        ap (λ (i : IntakeState). i.blocks) f.same,
         r.same_intake.0,
         ap (λ (b : BenchState). b.blocks) r.same,
         ap (λ (b : BenchState). b.blocks) c.prepare.ensures.same,
         v.blocks,
-        ap (λ (s : RoundsState). s.home) c.rounds.view_is,
-        ap (λ (s : RoundsState). s.blocks) c.rounds.view_is,
-        c.requires.out.out,
-        c.run_sides-end.new.supply.desk.counted,
-        ap (λ t. homes_of (received t)) c.new.ensures.same.0,
-        ap homes_of c.requires.none.1,
-        ap (λ s. shelved s.items) c.new.ensures.same.1,
-        c.in-Ok.ensures.shelves,
-        ap homes_of b.fifo,
-        homes_append (received c.slots_beside.new.self) (known_items c.slots_beside.new.self),
-        ap homes_of b.looked.1,
-        ap homes_of b.producer.1,
-        ap (λ t. homes_of (received t)) c.close-tokens.ensures.same.0,
-        ap (λ t. shelved t.items) c.close-tokens.ensures.same.1,
       );
     }
 
@@ -133,19 +105,25 @@ drop_parcels-requires g c =
     let a = c.slots_beside-waiting.ensures in
     let b = c.slots_beside.ensures in
     let e = c.ending-ended.ensures in
-    let counted : c.run_sides-end.new.intake.home + homes_of (known_items c.slots_beside.new.self) + home c.run_sides-end.new.kept + shelved c.close-tokens.result.1.items + blocks_of (known_items c.ending-ended.new.from)
-    + blocks_out c.ending-ended.result ≡ c.args.rounds.now.blocks =
+    let w = c.args.ways in
+    let d = c.run_sides-end.new.supply.desk in
+    let counted : c.run_sides-end.new.intake.home + homes_of (known_items c.slots_beside.new.self) + home c.run_sides-end.new.kept + shelved c.close-tokens.result.1.items + home c.close-tokens.result.2.left
+    + given_by c.run_sides-end.new.giver + blocks_of (known_items c.ending-ended.new.from) + blocks_out c.ending-ended.result ≡ c.args.rounds.now.blocks + blocks_in c.close-tokens.result.2.pass.taken =
     omega (
       arith,
       r.sum,
       r.each,
-      c.run_sides-end.new.supply.desk.counted,
+      d.counted,
+      d.taker.counted,
       c.requires.out.out,
       ap (λ (s : RoundsState). s.home) c.rounds.view_is,
       ap (λ t. homes_of (received t)) c.new.ensures.same.0,
-      ap homes_of c.requires.none.1,
+      ap homes_of w.unused.1,
       ap (λ s. shelved s.items) c.new.ensures.same.1,
       c.in-Ok.ensures.shelves,
+      ap (λ t. listed_home t.pass t.left) c.new.ensures.same.2,
+      ap blocks_in w.untaken.0,
+      ap blocks_in w.ungiven.1,
       ap blocks_of c.send_first.ensures.sent.1,
       ap (λ (x : RoundRead). x.round.blocks) c.send_first.ensures.sent.2,
       left_out g.H.RoundHandler.stopped c.run_sides-end.result c.ending-ended.result (known_items c.slots_beside-waiting.new.self) (known_items c.ending-ended.new.from) e.some e.none,
@@ -159,14 +137,16 @@ drop_parcels-requires g c =
       ap homes_of b.producer.1,
       ap (λ t. homes_of (received t)) c.close-tokens.ensures.same.0,
       ap (λ t. shelved t.items) c.close-tokens.ensures.same.1,
+      ap (λ t. home t.left) c.close-tokens.ensures.same.2,
+      ap (λ t. blocks_in t.pass.taken) c.close-tokens.ensures.same.2,
     ) in
-    let f = c.bring_shelves.ensures.home in
+    let f = c.bring_home.ensures in
     record {
       room = omega (
         arith,
         counted,
-        ap (λ (i : IntakeState). i.home) f,
-        ap (λ (i : IntakeState). i.blocks) f,
+        f.home,
+        ap (λ (i : IntakeState). i.blocks) f.same,
         r.same_intake.0,
         ap (λ (s : RoundsState). s.blocks) c.rounds.view_is,
       );
@@ -178,19 +158,25 @@ returns-clause-handled g c =
     let a = c.slots_beside-waiting.ensures in
     let b = c.slots_beside.ensures in
     let e = c.ending-ended.ensures in
-    let counted : c.run_sides-end.new.intake.home + homes_of (known_items c.slots_beside.new.self) + home c.run_sides-end.new.kept + shelved c.close-tokens.result.1.items + blocks_of (known_items c.ending-ended.new.from)
-    + blocks_out c.ending-ended.result ≡ c.args.rounds.now.blocks =
+    let w = c.args.ways in
+    let d = c.run_sides-end.new.supply.desk in
+    let counted : c.run_sides-end.new.intake.home + homes_of (known_items c.slots_beside.new.self) + home c.run_sides-end.new.kept + shelved c.close-tokens.result.1.items + home c.close-tokens.result.2.left
+    + given_by c.run_sides-end.new.giver + blocks_of (known_items c.ending-ended.new.from) + blocks_out c.ending-ended.result ≡ c.args.rounds.now.blocks + blocks_in c.close-tokens.result.2.pass.taken =
     omega (
       arith,
       r.sum,
       r.each,
-      c.run_sides-end.new.supply.desk.counted,
+      d.counted,
+      d.taker.counted,
       c.requires.out.out,
       ap (λ (s : RoundsState). s.home) c.rounds.view_is,
       ap (λ t. homes_of (received t)) c.new.ensures.same.0,
-      ap homes_of c.requires.none.1,
+      ap homes_of w.unused.1,
       ap (λ s. shelved s.items) c.new.ensures.same.1,
       c.in-Ok.ensures.shelves,
+      ap (λ t. listed_home t.pass t.left) c.new.ensures.same.2,
+      ap blocks_in w.untaken.0,
+      ap blocks_in w.ungiven.1,
       ap blocks_of c.send_first.ensures.sent.1,
       ap (λ (x : RoundRead). x.round.blocks) c.send_first.ensures.sent.2,
       left_out g.H.RoundHandler.stopped c.run_sides-end.result c.ending-ended.result (known_items c.slots_beside-waiting.new.self) (known_items c.ending-ended.new.from) e.some e.none,
@@ -204,9 +190,11 @@ returns-clause-handled g c =
       ap homes_of b.producer.1,
       ap (λ t. homes_of (received t)) c.close-tokens.ensures.same.0,
       ap (λ t. shelved t.items) c.close-tokens.ensures.same.1,
+      ap (λ t. home t.left) c.close-tokens.ensures.same.2,
+      ap (λ t. blocks_in t.pass.taken) c.close-tokens.ensures.same.2,
     ) in
     let p = c.prepare.ensures in
-    let f = c.bring_shelves.ensures.home in
+    let f = c.bring_home.ensures in
     let d = c.drop_parcels.ensures.home in
     let known = known_items c.slots_beside-waiting.new.self in
     let left = known_items c.ending-ended.new.from in
@@ -217,7 +205,7 @@ returns-clause-handled g c =
     let view = c.rounds.view_is in
     let options : options_at c.prepare.new.bench ≡ options_of first = ap options_at p.same ∙ ap options_of view in
     let keep = ap (λ (b : BenchState). b.keep) p.same ∙ ap (λ (s : RoundsState). s.keep) view in
-    let whole = c.run_sides-end.new.intake.home + homes_of (known_items c.slots_beside.new.self) + home c.run_sides-end.new.kept + shelved c.close-tokens.result.1.items + blocks_of left in
+    let whole = c.bring_home.new.intake.home + blocks_of left in
     all_went (did (options_of first)) g.H.RoundHandler.stopped (g.H.RoundHandler.ready (options_of first) first.keep) first new intake whole c.run_sides-end.new.intake.taken c.args.read
     (reader_at g.S.Source.left g.S.Source.faults c.args.reader.now first.taken) (reader_at g.S.Source.left g.S.Source.faults c.run_sides-end.new.reader new.taken)
     (sent c.send_first.new.out) (sent c.run_sides-end.new.supply.out) (received c.run_sides-end.new.from) known
@@ -226,12 +214,12 @@ returns-clause-handled g c =
       budget = sym c.rounds.invariant.budget ∙ ap (λ (s : RoundsState). s.budget) view;
       before = ap (λ (s : RoundsState). s.taken) view;
       same = (
-        ap (λ (s : RoundsState). s.blocks) d ∙ ap (λ (i : IntakeState). i.blocks) f ∙ r.same_intake.0 ∙ ap (λ (s : RoundsState). s.blocks) view,
+        ap (λ (s : RoundsState). s.blocks) d ∙ ap (λ (i : IntakeState). i.blocks) f.same ∙ r.same_intake.0 ∙ ap (λ (s : RoundsState). s.blocks) view,
         ap options_of d ∙ ap options_at r.same ∙ options,
         ap (λ (s : RoundsState). s.keep) d ∙ ap (λ (b : BenchState). b.keep) r.same ∙ keep,
       );
-      all = omega (arith, ap (λ (s : RoundsState). s.home) d, ap (λ (i : IntakeState). i.home) f);
-      after = ap (λ (s : RoundsState). s.taken) d ∙ ap (λ (i : IntakeState). i.taken) f;
+      all = ap (λ (s : RoundsState). s.home) d;
+      after = ap (λ (s : RoundsState). s.taken) d ∙ ap (λ (i : IntakeState). i.taken) f.same;
     })
     (record {
       out = c.requires.out.out;
@@ -245,7 +233,7 @@ returns-clause-handled g c =
     c.args.into.now c.run_sides-end.new.into
     (counted_as did g.H.RoundHandler.stopped g.H.RoundHandler.ready (options_of first) (options_at c.prepare.new.bench) first.keep c.prepare.new.bench.keep (2 ^ 32 + 4096) c.run_sides-end.new.into options
     keep r.ready)
-    c.run_sides-end.result c.ending-ended.result left (counted)
+    c.run_sides-end.result c.ending-ended.result left (omega (arith, counted, f.home))
     (ends_as did g.H.RoundHandler.stopped (options_of first) (options_at c.prepare.new.bench) (received c.run_sides-end.new.from) c.args.into.now c.run_sides-end.new.into c.run_sides-end.result
     options r.handled)
     e.some e.none

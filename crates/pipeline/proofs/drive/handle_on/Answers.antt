@@ -1,6 +1,4 @@
-use Rattle.std.proofs.Common.{sym}
-use Rattle.rounds.specs.Merging.{options_of}
-use Rattle.pipeline.proofs.Together.{idle_out, idle_went, ready_as}
+use Rattle.pipeline.proofs.Together.{idle_out, idle_went}
 use Rattle.pipeline.proofs.drive.handle_on.Goals as goal
 
 pub handle_here-requires-in-Err-clause-out : goal.handle_here-requires-in-Err-clause-out

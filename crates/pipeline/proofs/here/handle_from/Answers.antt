@@ -1,4 +1,4 @@
-use Rattle.std.proofs.Common.{◌≡◌, ◌∙◌, ◌+◌, [], ◌∷◌, ◌++◌, List, None, Some, refl, sym, ap, subst, inr, arith, length, length-append, append-nil}
+use Rattle.std.proofs.Common.{◌∙◌, ◌+◌, [], ◌∷◌, ◌++◌, List, None, Some, refl, sym, ap, subst, inr, arith, length, length-append, append-nil}
 use Rattle.rounds.specs.declared.round.RoundRead.{RoundRead}
 use Rattle.rounds.specs.Merging.{options_of}
 use Rattle.pipeline.specs.Parcels.{is_full}

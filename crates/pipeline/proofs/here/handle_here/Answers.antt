@@ -1,4 +1,4 @@
-use Rattle.std.proofs.Common.{◌≡◌, ◌∙◌, ◌+◌, None, refl, sym, ap, subst, arith, length}
+use Rattle.std.proofs.Common.{◌+◌, refl, sym, ap, arith, length}
 use Rattle.rounds.specs.Merging.{options_of}
 use Rattle.rounds.specs.RoundsState.{RoundsState}
 use Rattle.pipeline.specs.Reads.{reader_at}

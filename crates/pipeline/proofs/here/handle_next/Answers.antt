@@ -1,4 +1,4 @@
-use Rattle.std.proofs.Common.{◌≡◌, ◌∙◌, ◌+◌, arith, subst, sym, ap, length}
+use Rattle.std.proofs.Common.{◌∙◌, ◌+◌, arith, subst, sym, ap, length}
 use Rattle.offload_model.specs.Written.{Options}
 use Rattle.rounds.specs.Merging.{options_of}
 use Rattle.rounds.specs.RoundsState.{RoundsState}

@@ -1,7 +1,7 @@
 use Rattle.std.proofs.Common.{◌∙◌, ◌∷◌, ◌++◌, [], ℕ, List, Option, None, Some, ap, sym, subst, refl, arith, rules, length, length-append, append-nil}
 use Rattle.rtrb.specs.Ring.{sent, received}
 use Rattle.pipeline.specs.declared.parcel.Parcel.{Parcel}
-use Rattle.pipeline.specs.Parcels.{blocks_of, homes_of, packets_of, rounds_of}
+use Rattle.pipeline.specs.Parcels.{blocks_of, homes_of, listed_home, packets_of, rounds_of}
 use Rattle.pipeline.specs.Reads.{spot, Reads}
 use Rattle.pipeline.proofs.Rows.{all_go_last, blocks_last, full_end, packets_append, read_as, reads_last, rounds_last, sent_more, sent_none}
 use Rattle.pipeline.proofs.sides.read_side.Goals as goal
@@ -28,8 +28,8 @@ returns-in_default-clause-sum g c =
       ap blocks_of c.send.ensures.sent,
       blocks_last (sent l.supply.out) None,
       c.pick.ensures.same.0,
-      ap
-          (λ t. homes_of (received t)) c.pick.ensures.same.1,
+      ap (λ t. homes_of (received t)) c.pick.ensures.same.1,
+      ap (λ t. listed_home t.pass t.left) c.pick.ensures.same.2,
     )
 
 pub returns-then-not-is_full-clause-read : goal.returns-then-not-is_full-clause-read
@@ -71,8 +71,8 @@ returns-then-not-is_full-clause-sum g c =
       ap blocks_of c.send-in-loop.ensures.sent,
       blocks_last (sent l.supply.out) (Some p),
       c.pick.ensures.same.0,
-      ap
-          (λ t. homes_of (received t)) c.pick.ensures.same.1,
+      ap (λ t. homes_of (received t)) c.pick.ensures.same.1,
+      ap (λ t. listed_home t.pass t.left) c.pick.ensures.same.2,
     )
 
 pub send-requires-in-loop : goal.send-requires-in-loop
@@ -153,6 +153,7 @@ loop-preserved g c =
         blocks_last (sent l.supply.out) (Some p),
         c.pick.ensures.same.0,
         ap (λ t. homes_of (received t)) c.pick.ensures.same.1,
+        ap (λ t. listed_home t.pass t.left) c.pick.ensures.same.2,
       );
       blocks = r.same.0 ∙ c.bring_more.ensures.same.0 ∙ i.blocks;
       budget = r.same.1 ∙ c.bring_more.ensures.same.2 ∙ i.budget;

@@ -1,9 +1,10 @@
-use Rattle.std.proofs.Common.{◌≡◌, ◌≤◌, ◌+◌, ◌-◌, ◌++◌, List, length}
+use Rattle.std.proofs.Common.{◌≡◌, ◌≤◌, ◌+◌, ◌++◌, List, length}
 use Rattle.pcap_io.specs.Places.{IsReady}
 use Rattle.pcap_io.specs.declared.heads.Link.TheVariants.{Ethernet}
-use Rattle.rtrb.specs.Ring.{sent, received, SameProducer}
+use Rattle.rtrb.specs.Ring.{sent, SameProducer}
 use Rattle.rounds.specs.declared.round.RoundRead.{RoundRead}
-use Rattle.pipeline.specs.Parcels.{packets_of, rounds_of, blocks_of, homes_of, shelved}
+use Rattle.pipeline.specs.Desks.{brought_to}
+use Rattle.pipeline.specs.Parcels.{packets_of, rounds_of, blocks_of}
 use Rattle.pipeline.specs.Reads.{spot, Reads}
 use Rattle.pipeline.proofs.Rows.{AllGo}
 use Rattle.pipeline.proofs.sides.read_side.Given as goal
@@ -20,8 +21,8 @@ invariant-loop g l = record {
       (spot l.initial.reader.place (g.S.Source.left l.initial.reader.source.now) (g.S.Source.faults l.initial.reader.source.now) l.initial.intake.taken) more
       (spot l.reader.place (g.S.Source.left l.reader.source.now) (g.S.Source.faults l.reader.source.now) l.intake.taken);
   go : AllGo more;
-  sum : l.intake.home + blocks_of (sent l.supply.out) + (homes_of (received l.initial.supply.desk.tokens) - shelved l.initial.supply.desk.shelves.items)
-      ≡ l.initial.intake.home + blocks_of (sent l.initial.supply.out) + (homes_of (received l.supply.desk.tokens) - shelved l.supply.desk.shelves.items);
+  sum : l.intake.home + blocks_of (sent l.supply.out) + brought_to l.initial.supply.desk
+      ≡ l.initial.intake.home + blocks_of (sent l.initial.supply.out) + brought_to l.supply.desk;
   blocks : l.intake.blocks ≡ l.initial.intake.blocks;
   budget : l.intake.budget ≡ l.initial.intake.budget;
   number : l.number ≡ length (rounds_of (sent l.supply.out));

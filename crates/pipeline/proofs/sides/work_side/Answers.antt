@@ -1,15 +1,31 @@
-use Rattle.std.proofs.Common.{◌≡◌, ◌∙◌, ◌+◌, ◌≤◌, ◌^◌, ℕ, [], ◌∷◌, ◌++◌, None, Some, List, false, refl, inr, sym, ap, subst, arith, rules, length}
+use Rattle.std.proofs.Common.{◌≡◌, ◌+◌, ◌≤◌, ℕ, [], ◌∷◌, ◌++◌, None, Some, List, refl, inr, sym, ap, subst, arith, rules, length}
 use Rattle.block_pool.specs.PoolState.{PoolState, home}
-use Rattle.rtrb.specs.Ring.{sent, received}
+use Rattle.rtrb.specs.Ring.{received}
 use Rattle.rounds.specs.Benches.{options_at}
 use Rattle.rounds.specs.RoundsState.{BenchState}
 use Rattle.rounds.specs.declared.round.RoundRead.{RoundRead}
 use Rattle.pipeline.specs.Handled.{Ends, Went}
-use Rattle.pipeline.specs.Parcels.{blocks_of, homes_of, packets_of, rounds_of}
-use Rattle.pipeline.proofs.Going.{numbered, went_more, went_ends, went_stopped}
+use Rattle.pipeline.specs.Parcels.{blocks_of, packets_of, rounds_of}
+use Rattle.pipeline.proofs.Going.{went_more, went_ends, went_stopped}
 use Rattle.pipeline.proofs.Rows.{blocks_last, packets_append, rounds_last, rounds_none}
 use Rattle.pipeline.proofs.Together.{handled_as, ready_as}
+use Rattle.pipeline.proofs.Lending.{lends_same, lends_then, lent_again}
 use Rattle.pipeline.proofs.sides.work_side.Goals as goal
+
+pub returns-then-not-has_begun-clause-lends : goal.returns-then-not-has_begun-clause-lends
+returns-then-not-has_begun-clause-lends g c = lends_same c.args.giver.now c.requires.lent
+
+pub returns-in_default-clause-lends : goal.returns-in_default-clause-lends
+returns-in_default-clause-lends g c = c.loop.invariant.lends
+
+pub handle-requires-clause-lent : goal.handle-requires-clause-lent
+handle-requires-clause-lent g c = lent_again c.args.giver.now c.loop.giver c.loop.invariant.lends
+
+pub returns-in-Some-handle-clause-lends : goal.returns-in-Some-handle-clause-lends
+returns-in-Some-handle-clause-lends g c = lends_then c.args.giver.now c.loop.giver c.handle.new.giver c.loop.invariant.lends c.handle.ensures.gave
+
+pub returns-then-is_err-clause-lends : goal.returns-then-is_err-clause-lends
+returns-then-is_err-clause-lends g c = lends_then c.args.giver.now c.loop.giver c.handle.new.giver c.loop.invariant.lends c.handle.ensures.gave
 
 pub returns-in_default-clause-handled : goal.returns-in_default-clause-handled
 returns-in_default-clause-handled g c =
@@ -175,6 +191,7 @@ loop-preserved g c =
       room = search rules;
       empty = i.empty;
       bench = search rules;
+      lends = lends_then c.args.giver.now l.giver c.handle.new.giver i.lends h.gave;
       each = omega (
         arith,
         i.each,

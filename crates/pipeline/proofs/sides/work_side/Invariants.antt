@@ -1,6 +1,7 @@
 use Rattle.std.proofs.Common.{◌≡◌, ◌≤◌, ◌+◌, ◌^◌}
+use Rattle.block_pool.specs.Giving.{given_by}
 use Rattle.block_pool.specs.PoolState.{home}
-use Rattle.rounds.specs.Benches.{options_at, HasRoom, IsSameBench}
+use Rattle.rounds.specs.Benches.{options_at, HasRoom, IsSameBench, Lends}
 use Rattle.rtrb.specs.Ring.{sent, received, SameProducer, SameConsumer}
 use Rattle.pipeline.specs.Handled.{Went}
 use Rattle.pipeline.specs.Parcels.{blocks_of, homes_of, packets_of, rounds_of}
@@ -13,7 +14,8 @@ invariant-loop g l = record {
   room : HasRoom 0 l.bench;
   empty : home l.kept ≡ 0;
   bench : IsSameBench l.initial.bench l.bench;
-  each : homes_of (sent l.told) ≡ blocks_of (received l.from);
+  each : homes_of (sent l.told) + given_by l.giver ≡ blocks_of (received l.from) + given_by l.initial.giver;
+  lends : Lends l.initial.giver l.giver;
   went : Went (g.H.RoundHandler.did l.handler (options_at l.initial.bench)) 0 l.initial.into l.into (rounds_of (received l.from));
   few : packets_of (rounds_of (received l.from)) ≤ 2 ^ 32 + 4096;
   ready : g.H.RoundHandler.ready (options_at l.initial.bench) l.initial.bench.keep (packets_of (rounds_of (received l.from))) l.into;

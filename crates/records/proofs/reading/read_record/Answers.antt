@@ -1,9 +1,9 @@
-use Rattle.std.proofs.Common.{◌≡◌, ◌≤◌, arith, subst, false}
+use Rattle.std.proofs.Common.{◌≡◌, ◌≤◌, arith, refl, subst, false}
 use Rattle.std.specs.Prelude.{IfSome}
 use Rattle.pcap_io.specs.declared.heads.Link.{Link}
 use Rattle.pcap_io.specs.declared.heads.RecHead.{RecHead}
 use Rattle.pcap_io.specs.Headers.{captured_limit, is_bad_original}
-use Rattle.records.proofs.Recording.{head_stop_given, end_given, empty_given, cut_given, whole_given, none_from}
+use Rattle.records.proofs.Recording.{head_stop_given, end_given, empty_given, cut_given, unread_given, whole_given, none_from}
 use Rattle.records.proofs.Lawful.{original_of, original_below, captured_of, captured_within}
 use Rattle.records.proofs.reading.read_record.Goals as goal
 
@@ -21,6 +21,14 @@ pub returns-then-need-made-clause-given : goal.returns-then-need-made-clause-giv
 returns-then-need-made-clause-given g c =
     empty_given _ _ c.args.reader.now.place c.next_head.new.self.place c.args.used c.args.pool.now.made _ c.args.front.now c.in-Ok.found c.in-Some.head c.in-Some.is c.in-Ok.ensures.enters
     (omega (arith, c.blocks_of-count.ensures.blocks, c.requires.front)) (omega (arith, c.if-need-made.true, c.made.ensures.made)) c.in-Ok.ensures.given
+
+pub returns-then-not-has_blocks-clause-given : goal.returns-then-not-has_blocks-clause-given
+returns-then-not-has_blocks-clause-given g c =
+    unread_given _ _ c.args.reader.now.place c.next_head.new.self.place c.args.used c.args.pool.now.made c.args.front.now c.in-Ok.found c.in-Some.head
+    (omega (arith, c.blocks_of-count.ensures.blocks, c.requires.front, c.if-need-made.false, c.made.ensures.made)) c.in-Some.is c.in-Ok.ensures.enters c.in-Ok.ensures.given
+
+pub read_packet-requires-clause-home : goal.read_packet-requires-clause-home
+read_packet-requires-clause-home g c = (omega (arith, c.blocks_of-count.ensures.blocks, c.if-not-has_blocks.ensures.enough refl), c.has_blocks.ensures.within)
 
 pub returns-in-Ok-read_packet-clause-given : goal.returns-in-Ok-read_packet-clause-given
 returns-in-Ok-read_packet-clause-given g c = λ p is.

@@ -1,10 +1,10 @@
-use Rattle.std.proofs.Common.{◌≡◌, [], ap, arith, refl, rules, ◌∙◌}
+use Rattle.std.proofs.Common.{◌≡◌, ◌∷◌, [], ap, arith, length, length-append, refl, rules, ◌∙◌}
 use Rattle.gro.specs.Slots.{counts_of}
 use Rattle.rounds.proofs.Coming.{alone_pop, counts_pop}
 use Rattle.rounds.proofs.home.bring_alone.Goals as goal
 
 pub loop-packet-init : goal.loop-packet-init
-loop-packet-init c = record { alone = c.requires.alone; count = refl; made = (refl, refl) }
+loop-packet-init c = record { alone = c.requires.alone; count = refl; memory = omega arith; made = (refl, refl) }
 
 pub bring_blocks-requires-clause-alone : goal.bring_blocks-requires-clause-alone
 bring_blocks-requires-clause-alone c = (alone_pop c.loop-packet.packets.items c.pop.new.self.items c.in-Some.packet c.in-Some.ensures.some c.loop-packet.invariant.alone).1
@@ -24,6 +24,7 @@ loop-packet-preserved c =
     record {
       alone = (alone_pop l.packets.items rest c.in-Some.packet c.in-Some.ensures.some l.invariant.alone).0;
       count = omega (arith, k, e.home, l.invariant.count);
+      memory = omega (arith, l.invariant.memory, c.in-Some.ensures.room, ap length c.in-Some.ensures.some, length-append rest (c.in-Some.packet ∷ []));
       made = (e.made.0 ∙ l.invariant.made.0, e.made.1 ∙ l.invariant.made.1);
     }
 

@@ -49,9 +49,9 @@ returns-in-Err-clause-given g c =
     let l = c.reading in
     let i = l.invariant in
     let none = no_front c.read_record.new.front c.in-Err.ensures.front in
-    let bare = subst (λ (f : List ℕ). Told (g.S.Source.left l.reader.source.now) (g.S.Source.left c.read_record.new.reader.source.now) (GivesRecord l.used c.is_ready.new.pool.made l.reader.place
+    let bare = subst (λ (f : List ℕ). Told (g.S.Source.left l.reader.source.now) (g.S.Source.left c.read_record.new.reader.source.now) (GivesRecord l.used l.pool.made l.reader.place
     c.read_record.new.reader.place f (Err c.in-Err.stop))) none c.in-Err.ensures.given in
-    let made = c.is_ready.ensures.same.0 ∙ i.made in
+    let made = i.made in
     let told = subst (λ (k : ℕ). Told (g.S.Source.left l.reader.source.now) (g.S.Source.left c.read_record.new.reader.source.now) (GivesRecord l.used k l.reader.place c.read_record.new.reader.place []
     (Err c.in-Err.stop))) made bare in
     let end = c.end_of.result in
@@ -63,11 +63,11 @@ returns-in-Err-clause-given g c =
     (round_stop_given _ _ _ old l.reader.place new l.used c.args.pool.now.made first l.packets.items c.in-Err.stop end (i.so_far.link ∙ c.requires.link) i.within i.need c.end_of.ensures.end
     i.so_far.told told)
 
-pub returns-then-not-is_ready-clause-given : goal.returns-then-not-is_ready-clause-given
-returns-then-not-is_ready-clause-given g c = c.reading.invariant.so_far.told
+pub returns-then-not-may_begin-clause-given : goal.returns-then-not-may_begin-clause-given
+returns-then-not-may_begin-clause-given g c = c.reading.invariant.so_far.told
 
-pub returns-then-not-is_ready-clause-lacking : goal.returns-then-not-is_ready-clause-lacking
-returns-then-not-is_ready-clause-lacking g c = λ is.
+pub returns-then-not-may_begin-clause-lacking : goal.returns-then-not-may_begin-clause-lacking
+returns-then-not-may_begin-clause-lacking g c = λ is.
     let l = c.reading in
     goes_over _ _ c.args.reader.now.place l.reader.place c.args.packets.now.items l.packets.items l.invariant.so_far
 
@@ -81,7 +81,6 @@ pub reading-preserved : goal.reading-preserved
 reading-preserved g c =
     let l = c.reading in
     let i = l.invariant in
-    let s = c.is_ready.ensures in
     let r = c.in-Ok.ensures in
     let p = r.one.0 in
     let ps = l.packets.items in
@@ -91,11 +90,11 @@ reading-preserved g c =
     let e : qs ≡ ps ++ p ∷ [] = r.one.1 in
     let k = r.count p e in
     let none = no_front c.read_record.new.front r.front in
-    let told = subst (λ (f : List ℕ). Told (g.S.Source.left l.reader.source.now) (g.S.Source.left c.read_record.new.reader.source.now) (GivesRecord l.used c.is_ready.new.pool.made l.reader.place
+    let told = subst (λ (f : List ℕ). Told (g.S.Source.left l.reader.source.now) (g.S.Source.left c.read_record.new.reader.source.now) (GivesRecord l.used l.pool.made l.reader.place
     c.read_record.new.reader.place f (Ok p))) none (r.given p e) in
     record {
       so_far = so_far_at _ _ c.args.reader.now.place c.read_record.new.reader.place first (ps ++ p ∷ []) qs e (so_far_more _ _ _ c.args.reader.now.place l.reader.place c.read_record.new.reader.place
-          l.used c.is_ready.new.pool.made first ps p i.so_far told r.next);
+          l.used l.pool.made first ps p i.so_far told r.next);
       size = omega (arith, ap length e, length-append ps (p ∷ []), i.size, c.reading-test.true, c.len.ensures);
       reserved = omega (arith, ap length e, length-append ps (p ∷ []), i.reserved, r.room);
       room = omega (arith, i.room, r.made.1);
@@ -106,13 +105,13 @@ reading-preserved g c =
       numbers = subst (NumbersOn start first) (sym e) (numbers_more start l.reader.place.number first ps p i.numbers i.so_far.number (r.number p e));
       count = omega (arith, ap counts_of e, counts_last ps p, i.count, k, r.spares);
       need = omega (arith, ap (λ (xs : List Packet). round_need (map packet_of xs)) e, need_last ps p, i.need, k, r.need p e);
-      sum = omega (arith, i.sum, s.sum, r.home, k);
-      within = omega (arith, s.same.0, i.made, r.fits, k);
-      made = omega (arith, i.made, s.same.0, r.made);
+      sum = omega (arith, i.sum, r.home, k);
+      within = omega (arith, i.made, r.fits, k);
+      made = omega (arith, i.made, r.made);
       more = omega (arith, i.more);
-      taken = omega (arith, i.more, i.taken, s.same.1, r.taken, k);
-      least = omega (arith, i.least, s.same.1, r.least);
-      most = omega (arith, i.most, s.same.1, r.taken, k);
+      taken = omega (arith, i.more, i.taken, r.taken, k);
+      least = omega (arith, i.least, r.least);
+      most = omega (arith, i.most, r.taken, k);
       empty = r.empty;
       capacity = omega (arith, r.capacity, i.capacity);
       same = r.same_source ∙ i.same;

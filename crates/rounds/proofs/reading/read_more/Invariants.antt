@@ -23,7 +23,7 @@ invariant-reading g l = record {
   numbers : NumbersOn l.initial.reader.place.number l.initial.packets.items l.packets.items;
   count : counts_of l.packets.items + home l.spares ≡ l.used;
   need : l.used ≡ round_need (map packet_of l.packets.items);
-  sum : home l.pool + l.used + g.H.Homecoming.brought l.initial.more ≡ home l.initial.pool + l.initial.used + g.H.Homecoming.brought l.more;
+  sum : home l.pool + l.used + g.H.Supply.brought l.initial.more ≡ home l.initial.pool + l.initial.used + g.H.Supply.brought l.more;
   within : l.used ≤ l.initial.pool.made;
   made : l.pool.made ≡ l.initial.pool.made;
   more : l.initial.used ≤ l.used;

@@ -1,7 +1,7 @@
 use Rattle.std.proofs.Common.{ap, arith}
 use Rattle.block_pool.specs.PoolState.{home}
 use Rattle.rtrb.specs.Ring.{received}
-use Rattle.pipeline.specs.Parcels.{homes_of, shelved}
+use Rattle.pipeline.specs.Parcels.{homes_of, listed_home, shelved}
 use Rattle.pipeline.proofs.Rows.{homes_last, left_less}
 use Rattle.pipeline.proofs.desk.Desk.meet.Goals as goal
 
@@ -17,7 +17,7 @@ invariant_of-self-clause-counted g c =
       homes_last (received c.args.self.now.tokens) c.in-Some.token,
       ap shelved c.push_front_reserved.ensures.items,
       ap
-          (λ s. shelved s.items) c.in-Some.ensures.same,
+          (λ s. shelved s.items) c.in-Some.ensures.same.0,
     )
 
 pub invariant_of-self-else-not-goes-clause-counted : goal.invariant_of-self-else-not-goes-clause-counted
@@ -32,7 +32,7 @@ invariant_of-self-else-not-goes-clause-counted g c =
       homes_last (received c.args.self.now.tokens) c.in-Some.token,
       ap shelved c.push_front_reserved.ensures.items,
       ap
-          (λ s. shelved s.items) c.in-Some.ensures.same,
+          (λ s. shelved s.items) c.in-Some.ensures.same.0,
     )
 
 pub returns-then-not-goes-clause-sum : goal.returns-then-not-goes-clause-sum
@@ -45,7 +45,8 @@ returns-then-not-goes-clause-sum g c =
       homes_last (received c.args.self.now.tokens) c.in-Some.token,
       ap shelved
           c.push_front_reserved.ensures.items,
-      ap (λ s. shelved s.items) c.in-Some.ensures.same,
+      ap (λ s. shelved s.items) c.in-Some.ensures.same.0,
+      ap (λ t. listed_home t.pass t.left) c.in-Some.ensures.same.1,
     )
 
 pub returns-else-not-goes-clause-sum : goal.returns-else-not-goes-clause-sum
@@ -58,5 +59,6 @@ returns-else-not-goes-clause-sum g c =
       homes_last (received c.args.self.now.tokens) c.in-Some.token,
       ap shelved
           c.push_front_reserved.ensures.items,
-      ap (λ s. shelved s.items) c.in-Some.ensures.same,
+      ap (λ s. shelved s.items) c.in-Some.ensures.same.0,
+      ap (λ t. listed_home t.pass t.left) c.in-Some.ensures.same.1,
     )

@@ -36,5 +36,5 @@ returns-in-Ok-clause-kept c =
     subst (λ (z : RoundState). IsKept b.keep b.plan.taps (map packet_of z.packets) z.blocks k) c.round.view_is
     (are_kept b.keep b.plan.taps r.blocks r.packets.items k refl v.2 v.5 v.4
     (omega (arith, c.requires.few, c.self.invariant.0, ap (λ (b : BenchState). b.blocks) c.self.view_is, ap (λ (r : RoundState). r.blocks) c.round.view_is))
-    s.ensures.taps e.prepared
+    s.ensures.taps s.ensures.only e.prepared
     (λ keep. e.all (ap (λ (b : BenchState). b.keep) c.self.view_is ∙ keep)))

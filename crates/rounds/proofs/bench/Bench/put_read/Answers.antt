@@ -8,7 +8,7 @@ use Rattle.rounds.proofs.bench.Bench.put_read.Goals as goal
 pub put_round-requires-clause-may : goal.put_round-requires-clause-may
 put_round-requires-clause-may g c =
     let w = c.work_round-worked in
-    may_put w.result c.args.self.now w.new.self c.args.home.now w.new.home c.args.read.round.blocks w.ensures.worked w.ensures.same c.requires.may
+    may_put w.result c.args.self.now w.new.self c.args.home.now w.new.home c.args.read.round.blocks c.args.giver.now w.new.giver w.ensures.worked w.ensures.gave w.ensures.same c.requires.may
 
 pub returns-clause-puts : goal.returns-clause-puts
 returns-clause-puts g c = λ worked.
@@ -21,5 +21,5 @@ returns-clause-puts g c = λ worked.
 pub returns-clause-brings : goal.returns-clause-brings
 returns-clause-brings g c =
     let w = c.work_round-worked in
-    brings_put w.result c.args.self.now w.new.self c.put_round.new.self c.args.home.now w.new.home c.put_round.new.home c.args.read.round.blocks w.ensures.worked w.ensures.same w.ensures.brings
+    brings_put w.result c.args.self.now w.new.self c.put_round.new.self c.args.home.now w.new.home c.put_round.new.home c.args.read.round.blocks c.args.giver.now w.new.giver w.ensures.worked w.ensures.same w.ensures.brings
     c.put_round.ensures.brings

@@ -1,4 +1,4 @@
-use Rattle.std.proofs.Common.{map, refl, subst, sym, ◌-◌, ◌∙◌}
+use Rattle.std.proofs.Common.{arith, map, refl, subst, sym, ◌-◌, ◌∙◌}
 use Rattle.std.specs.Prelude.{IfOk}
 use Rattle.block_pool.specs.PoolState.{home}
 use Rattle.gro.specs.Slots.{packet_of}
@@ -7,7 +7,8 @@ use Rattle.rounds.specs.Kept.{IsKept}
 use Rattle.rounds.specs.Lanes.{IsKeptWorkOf}
 use Rattle.rounds.specs.Benches.{options_at}
 use Rattle.rounds.specs.RoundsState.{BenchState}
-use Rattle.rounds.proofs.Keeping.{kept_work, out_worked, settles}
+use Rattle.rounds.proofs.Keeping.{blocks_left, kept_work, out_worked, rest_left, settles}
+use Rattle.rounds.proofs.Lending.{went}
 use Rattle.rounds.proofs.bench.Bench.work.Goals as goal
 
 pub work_packets-done-requires-clause-shared : goal.work_packets-done-requires-clause-shared
@@ -17,18 +18,31 @@ work_packets-done-requires-clause-shared g c =
     (sym (c.self.view_is ∙ c.take_lanes-lanes.ensures.same ∙ c.in_ok-kept.ensures.same)) c.in_ok-kept.ensures.kept in
     is.shown
 
+pub overflow_sub-kept : goal.overflow_sub-kept
+overflow_sub-kept g c =
+    let gone = went c.args.giver.now c.swap_list.new.giver c.work_packets-done.new.giver c.swap_list-2.new.giver c.in_ok-kept.kept.spares c.swap_list.new.list c.swap_list-2.new.list c.requires.lent
+    c.swap_list.ensures.swapped c.work_packets-done.ensures.gave c.swap_list-2.ensures.swapped in
+    omega (arith, gone.fewer, c.home.ensures.home, c.home-before.ensures.home)
+
 pub settle-requires : goal.settle-requires
 settle-requires g c =
     let k = c.in_ok-kept.kept in
     let w = c.work_packets-done in
-    let j : Kept = record k { packets = w.new.packets } in
+    let gone = went c.args.giver.now c.swap_list.new.giver w.new.giver c.swap_list-2.new.giver k.spares c.swap_list.new.list c.swap_list-2.new.list c.requires.lent c.swap_list.ensures.swapped
+    w.ensures.gave c.swap_list-2.ensures.swapped in
+    let j : Kept = record k { packets = w.new.packets; spares = c.swap_list-2.new.list; blocks = k.blocks - (c.home-before.result - c.home.result) } in
     let ps = map packet_of c.args.round.packets in
     let plan = c.self.inside.plan in
     let is = subst (λ (s : BenchState). IsKept c.args.self.now.keep s.plan.taps ps c.args.round.blocks k)
     (sym (c.self.view_is ∙ c.take_lanes-lanes.ensures.same ∙ c.in_ok-kept.ensures.same)) c.in_ok-kept.ensures.kept in
     record {
-      lanes = settles c.args.self.now.keep ps c.args.round.blocks plan k j c.self.invariant.5 is refl w.result w.new.lanes w.ensures.lanes w.ensures.windows w.ensures.merged w.ensures.packets
-          w.ensures.all
+      lanes = settles c.args.self.now.keep ps c.args.round.blocks plan k j c.self.invariant.5 is
+          (record {
+            same = refl;
+            spares = omega (arith, gone.fewer, is.spares, c.home.ensures.home, c.home-before.ensures.home);
+            count = omega (arith, gone.fewer, is.spares, c.home.ensures.home, c.home-before.ensures.home);
+          })
+          w.result w.new.lanes w.ensures.lanes w.ensures.windows w.ensures.merged w.ensures.packets w.ensures.all
           (out_worked k.shared plan.taps (k.blocks - home k.spares) k.packets.items w.new.packets.items w.new.lanes k.kept.items is.unshared is.round w.ensures.kept w.ensures.count w.ensures.clones
           w.ensures.alone w.ensures.idle);
     }
@@ -41,5 +55,25 @@ returns-clause-checked g c = λ keep.
     let same = c.self.view_is ∙ c.take_lanes-lanes.ensures.same ∙ c.in_ok-kept.ensures.same in
     let is = subst (λ (s : BenchState). IsKept c.args.self.now.keep s.plan.taps ps c.args.round.blocks k) (sym same) c.in_ok-kept.ensures.kept in
     subst (λ (s : BenchState). IfOk c.settle.result (IsKeptWorkOf (options_at s) ps)) same
-    (kept_work c.self.inside.plan c.self.inside.budget c.args.round.blocks c.args.self.now.keep ps k w.result w.new.lanes c.settle.result keep is w.ensures.lanes w.ensures.windows
-    w.ensures.merged c.settle.ensures.worked)
+    (kept_work c.self.inside.plan c.self.inside.budget c.args.round.blocks (k.blocks - (c.home-before.result - c.home.result)) c.args.self.now.keep ps k w.result w.new.lanes c.settle.result keep is
+    w.ensures.lanes w.ensures.windows w.ensures.merged c.settle.ensures.worked)
+
+pub returns-clause-worked : goal.returns-clause-worked
+returns-clause-worked g c =
+    let k = c.in_ok-kept.kept in
+    let w = c.work_packets-done in
+    let gone = went c.args.giver.now c.swap_list.new.giver w.new.giver c.swap_list-2.new.giver k.spares c.swap_list.new.list c.swap_list-2.new.list c.requires.lent c.swap_list.ensures.swapped
+    w.ensures.gave c.swap_list-2.ensures.swapped in
+    let is = c.in_ok-kept.ensures.kept in
+    blocks_left w.result w.new.lanes k.kept.items _ c.args.round.blocks _ _ c.settle.result
+    (omega (arith, gone.count, gone.fewer, is.size, is.spares, c.home.ensures.home, c.home-before.ensures.home)) c.settle.ensures.worked
+
+pub returns-clause-rest : goal.returns-clause-rest
+returns-clause-rest g c =
+    let k = c.in_ok-kept.kept in
+    let w = c.work_packets-done in
+    let gone = went c.args.giver.now c.swap_list.new.giver w.new.giver c.swap_list-2.new.giver k.spares c.swap_list.new.list c.swap_list-2.new.list c.requires.lent c.swap_list.ensures.swapped
+    w.ensures.gave c.swap_list-2.ensures.swapped in
+    let is = c.in_ok-kept.ensures.kept in
+    rest_left _ c.args.round.blocks _ _ c.settle.result
+    (omega (arith, gone.count, gone.fewer, is.size, is.spares, c.home.ensures.home, c.home-before.ensures.home)) c.settle.ensures.rest

@@ -1,0 +1,347 @@
+-- A giver is divided among tasks, and comes together again.
+use Rattle.std.proofs.Common.{◌≡◌, ℕ, ◌≤◌, List, [], ◌∷◌, ◌++◌, length, append_assoc, append-nil, refl, sym, ap, ◌∙◌, subst, arith}
+use Rattle.std.proofs.lemmas.List.Sums.{sum_by-append, sum_by-cons}
+use Rattle.std.specs.Prelude.{Bool, true, false, Option, None, Some, MatchOption}
+use Rattle.std.specs.List.{sum_by, AllByRecursion}
+use Rattle.raw_block.specs.Views.{SoleState}
+use Rattle.block_pool.specs.Listed.{listed}
+use Rattle.block_pool.specs.PassState.{PassState}
+use Rattle.block_pool.specs.PoolState.{PoolState, home}
+use Rattle.block_pool.specs.Giving.{GiverState, given, lying, Gave, Joined, MayGive, Split}
+use Rattle.block_pool.proofs.Giving.{gave_less, gave_nothing, may_give_nothing}
+use Rattle.errands.specs.Answers.{EachDid}
+use Rattle.lanes.specs.declared.tasks.LaneTask.{LaneTask}
+use Rattle.lanes.specs.declared.tasks.LaneTask.TheVariants as asked
+use Rattle.lanes.specs.declared.tasks.LaneDone.{LaneDone}
+use Rattle.lanes.specs.declared.tasks.LaneDone.TheVariants as answered
+use Rattle.lanes.specs.Givers.{found, given_of, lying_of, blocks_of, parts_of, part_of, carried, back_of, returned, IsAlike, HasRoom, IsDivided, Divided, MayReturn, MayJoin, MayTake, Rejoined, IsTaken}
+use Rattle.lanes.specs.LaneWork.{QueueWork, TapWork}
+use Rattle.lanes.specs.Tasks.{DidLane}
+use Rattle.lanes.proofs.Returning.{all_behind}
+
+off : false ≡ true → ⊥
+off e = absurd (let t : false ≡ true = e in cc)
+
+-- ---- each gave
+
+abbrev pub AllGave : List GiverState → List GiverState → Type 0
+AllGave [] [] = Unit {0}
+AllGave (g ∷ gs) (k ∷ ks) = Gave g k × AllGave gs ks
+AllGave _ _ = ⊥
+
+gave_front : (x y : Option GiverState) (gs ks : List GiverState) → MayGive x y → AllGave gs ks → AllGave (found x ++ gs) (found y ++ ks)
+gave_front None y gs ks m a = subst (λ u. AllGave gs (found u ++ ks)) (sym m) a
+gave_front (Some g) y gs ks m a = subst (λ u. AllGave (g ∷ gs) (found u ++ ks)) (sym m.1) (m.2, a)
+
+each_gave : (ts : List LaneTask) (ds : List LaneDone) → EachDid DidLane ts ds → AllGave (carried ts) (returned ds)
+each_gave [] [] e = tt
+each_gave [] (d ∷ ds) e = absurd e
+each_gave (t ∷ ts) [] e = absurd e
+each_gave (asked.Queue t ∷ ts) (answered.Queue d ∷ ds) e = gave_front t.giver d.giver (carried ts) (returned ds) e.0.2 (each_gave ts ds e.1)
+each_gave (asked.Tap t ∷ ts) (answered.Tap d ∷ ds) e = each_gave ts ds e.1
+each_gave (asked.Queue t ∷ ts) (answered.Tap d ∷ ds) e = absurd e.0
+each_gave (asked.Tap t ∷ ts) (answered.Queue d ∷ ds) e = absurd e.0
+
+all_same : (gs : List GiverState) → AllGave gs gs
+all_same [] = tt
+all_same (g ∷ gs) = (gave_nothing g, all_same gs)
+
+gave_length : (gs ks : List GiverState) → AllGave gs ks → length ks ≡ length gs
+gave_length [] [] a = refl
+gave_length [] (k ∷ ks) a = absurd a
+gave_length (g ∷ gs) [] a = absurd a
+gave_length (g ∷ gs) (k ∷ ks) a = omega (arith, gave_length gs ks a.1)
+
+gave_parts : (gs ks : List GiverState) → AllGave gs ks → parts_of ks ≡ parts_of gs
+gave_parts [] [] a = refl
+gave_parts [] (k ∷ ks) a = absurd a
+gave_parts (g ∷ gs) [] a = absurd a
+gave_parts (g ∷ gs) (k ∷ ks) a =
+    let p : GiverState → ℕ = λ x. x.pass.parts in
+    omega (arith, a.0.pass.2, gave_parts gs ks a.1, sum_by-cons p g gs, sum_by-cons p k ks)
+
+gave_blocks : (gs ks : List GiverState) → AllGave gs ks → (h : SoleState → ℕ) → lying_of h ks ≡ lying_of h gs
+gave_blocks [] [] a h = refl
+gave_blocks [] (k ∷ ks) a h = absurd a
+gave_blocks (g ∷ gs) [] a h = absurd a
+gave_blocks (g ∷ gs) (k ∷ ks) a h =
+    omega (arith, a.0.blocks h, gave_blocks gs ks a.1 h, sum_by-cons (lying h) g gs, sum_by-cons (lying h) k ks)
+
+gave_least : (gs ks : List GiverState) → AllGave gs ks → (h : SoleState → ℕ) → given_of h gs ≤ given_of h ks
+gave_least [] [] a h = omega arith
+gave_least [] (k ∷ ks) a h = absurd a
+gave_least (g ∷ gs) [] a h = absurd a
+gave_least (g ∷ gs) (k ∷ ks) a h =
+    omega (arith, a.0.least h, gave_least gs ks a.1 h, sum_by-cons (given h) g gs, sum_by-cons (given h) k ks)
+
+gave_fewer : (gs ks : List GiverState) → AllGave gs ks → blocks_of ks ≤ blocks_of gs
+gave_fewer [] [] a = omega arith
+gave_fewer [] (k ∷ ks) a = absurd a
+gave_fewer (g ∷ gs) [] a = absurd a
+gave_fewer (g ∷ gs) (k ∷ ks) a =
+    let p : GiverState → ℕ = λ x. home x.list in
+    omega (arith, gave_less g k a.0, gave_fewer gs ks a.1, sum_by-cons p g gs, sum_by-cons p k ks)
+
+gave_alike : (x : GiverState) (gs ks : List GiverState) → AllGave gs ks → AllByRecursion (IsAlike x) gs → AllByRecursion (IsAlike x) ks
+gave_alike x [] [] a h = tt
+gave_alike x [] (k ∷ ks) a h = absurd a
+gave_alike x (g ∷ gs) [] a h = absurd a
+gave_alike x (g ∷ gs) (k ∷ ks) a h =
+    ((a.0.pool ∙ h.0.0, a.0.pass.0 ∙ h.0.1, a.0.pass.1 ∙ h.0.2), gave_alike x gs ks a.1 h.1)
+
+none_of : (gs : List GiverState) → length gs ≡ 0 → gs ≡ []
+none_of [] e = refl
+none_of (g ∷ gs) e = absurd (omega (arith, e))
+
+gave_room : (whole : Bool) (here : Option GiverState) (gs ks : List GiverState) → AllGave gs ks → HasRoom whole here gs → HasRoom whole here ks
+gave_room whole None gs ks a r = gave_length gs ks a ∙ r
+gave_room whole (Some g) gs ks a r = (
+  (λ some. let most = r.0 (omega (arith, some, gave_length gs ks a)) in omega (arith, most, gave_fewer gs ks a)),
+  (λ all. none_of ks (gave_length gs ks a ∙ ap length (r.1 all))),
+)
+
+-- those that are away give
+pub divided_gave : (whole : Bool) (old here : Option GiverState) (gs ks : List GiverState) → AllGave gs ks → Divided whole old here gs → Divided whole old here ks
+divided_gave whole None here gs ks a d = (d.0, none_of ks (gave_length gs ks a ∙ ap length d.1))
+divided_gave whole (Some g) here gs ks a d =
+    let b : AllGave (found here ++ gs) (found here ++ ks) = gave_front here here gs ks (may_give_nothing here) a in
+    record {
+      pool = gave_alike g (found here ++ gs) (found here ++ ks) b d.pool;
+      parts = gave_parts (found here ++ gs) (found here ++ ks) b ∙ d.parts;
+      blocks = λ h. gave_blocks (found here ++ gs) (found here ++ ks) b h ∙ d.blocks h;
+      least = λ h. omega (arith, d.least h, gave_least (found here ++ gs) (found here ++ ks) b h);
+      room = gave_room whole here gs ks a d.room;
+    }
+
+pub divided_did : (whole : Bool) (old here : Option GiverState) (ts : List LaneTask) (ds : List LaneDone) → EachDid DidLane ts ds → Divided whole old here (carried ts)
+    → Divided whole old here (returned ds)
+divided_did whole old here ts ds e = divided_gave whole old here (carried ts) (returned ds) (each_gave ts ds e)
+
+-- the first task gave
+pub divided_first : (whole : Bool) (old here : Option GiverState) (t : LaneTask) (ts : List LaneTask) (d : LaneDone) → DidLane t d
+    → Divided whole old here (carried (t ∷ ts)) → Divided whole old here (back_of d ++ carried ts)
+divided_first whole old here (asked.Queue t) ts (answered.Queue d) did =
+    divided_gave whole old here (found t.giver ++ carried ts) (found d.giver ++ carried ts) (gave_front t.giver d.giver (carried ts) (carried ts) did.2 (all_same (carried ts)))
+divided_first whole old here (asked.Tap t) ts (answered.Tap d) did = λ h. h
+divided_first whole old here (asked.Queue t) ts (answered.Tap d) did = absurd did
+divided_first whole old here (asked.Tap t) ts (answered.Queue d) did = absurd did
+
+-- ---- at first, and at last
+
+pub divided_same : (whole : Bool) (x : Option GiverState) → Divided whole x x []
+divided_same whole None = (refl, refl)
+divided_same whole (Some g) = record {
+  pool = ((refl, refl, refl), tt);
+  parts = sum_by-append (λ (x : GiverState). x.pass.parts) (g ∷ []) [] ∙ omega arith;
+  blocks = λ h. omega (arith, sum_by-cons (lying h) g []);
+  least = λ h. omega (arith, sum_by-cons (given h) g []);
+  room = ((λ some. absurd (omega (arith, some))), (λ all. refl));
+}
+
+any_room : (whole : Bool) (here : Option GiverState) (away : List GiverState) → HasRoom whole here away → HasRoom false here away
+any_room whole None away r = r
+any_room whole (Some g) away r = (r.0, λ e. absurd (off e))
+
+pub divided_any : (whole : Bool) (old here : Option GiverState) (away : List GiverState) → Divided whole old here away → Divided false old here away
+divided_any whole None here away d = d
+divided_any whole (Some g) here away d = record {
+  pool = d.pool;
+  parts = d.parts;
+  blocks = d.blocks;
+  least = d.least;
+  room = any_room whole here away d.room;
+}
+
+pub gave_all : (old here : Option GiverState) → Divided false old here [] → MayGive old here
+gave_all None here d = d.0
+gave_all (Some g) None d = absurd (let e : 0 ≡ 1 = d.room in omega (arith, e))
+gave_all (Some g) (Some m) d = (
+  m,
+  refl,
+  record {
+    pool = d.pool.0.0;
+    pass = (d.pool.0.1, d.pool.0.2, omega (arith, d.parts, sum_by-cons (λ (x : GiverState). x.pass.parts) m []));
+    blocks = λ h. omega (arith, d.blocks h, sum_by-cons (lying h) m []);
+    least = λ h. omega (arith, d.least h, sum_by-cons (given h) m []);
+  },
+)
+
+-- ---- parts go away
+
+pub carried_behind : (ts us : List LaneTask) → carried (ts ++ us) ≡ carried ts ++ carried us
+carried_behind [] us = refl
+carried_behind (t ∷ ts) us = ap (λ z. part_of t ++ z) (carried_behind ts us) ∙ sym (append_assoc (part_of t) (carried ts) (carried us))
+
+-- all goes with one task
+pub divided_whole : (old here : Option GiverState) (away : List GiverState) → Divided true old here away → Divided true old None (away ++ found here)
+divided_whole old None away d = subst (Divided true old None) (sym (append-nil away)) d
+divided_whole None (Some m) away d = absurd (let e : Some m ≡ None = d.0 in cc)
+divided_whole (Some g) (Some m) away d =
+    let none : away ≡ [] = d.room.1 refl in
+    let e : m ∷ away ≡ m ∷ [] = ap (λ z. m ∷ z) none in
+    subst (λ z. IsDivided true g None (z ++ m ∷ [])) (sym none) (record {
+      pool = subst (AllByRecursion (IsAlike g)) e d.pool;
+      parts = subst (λ z. parts_of z ≡ g.pass.parts) e d.parts;
+      blocks = λ h. subst (λ z. lying_of h z ≡ lying h g) e (d.blocks h);
+      least = λ h. subst (λ z. given h g ≤ given_of h z) e (d.least h);
+      room = refl;
+    })
+
+split_room : (own part now : GiverState) (away : List GiverState) → Split own part now → HasRoom false (Some own) away → HasRoom false (Some now) (away ++ part ∷ [])
+split_room own part now [] s r = (
+  (λ some. omega (arith, s.list, s.made, s.room, sum_by-cons (λ (x : GiverState). home x.list) part [])),
+  (λ e. absurd (off e)),
+)
+split_room own part now (k ∷ ks) s r =
+    let p : GiverState → ℕ = λ x. home x.list in
+    let most = r.0 (omega arith) in (
+      (λ some. omega (arith, most, s.list, s.made, sum_by-append p (k ∷ ks) (part ∷ []), sum_by-cons p part [])),
+      (λ e. absurd (off e)),
+    )
+
+-- a part goes with one task
+divided_part : (old : Option GiverState) (own part now : GiverState) (away : List GiverState) → Split own part now → Divided false old (Some own) away
+    → Divided false old (Some now) (away ++ part ∷ [])
+divided_part None own part now away s d = absurd (let e : Some own ≡ None = d.0 in cc)
+divided_part (Some g) own part now away s d =
+    let p : GiverState → ℕ = λ x. x.pass.parts in
+    let got = ap (λ (x : PassState PoolState). x.parts) s.pass.1 in
+    let mine = d.pool.0 in
+    record {
+      pool = (
+        (s.pool.0 ∙ mine.0, ap (λ (x : PassState PoolState). x.pool) s.pass.0 ∙ mine.1, ap (λ (x : PassState PoolState). x.size) s.pass.0 ∙ mine.2),
+        all_behind (IsAlike g) away (part ∷ []) d.pool.1 (
+          (s.pool.1 ∙ mine.0, ap (λ (x : PassState PoolState). x.pool) s.pass.1 ∙ mine.1, ap (λ (x : PassState PoolState). x.size) s.pass.1 ∙ mine.2),
+          tt,
+        ),
+      );
+      parts = omega (
+        arith,
+        d.parts,
+        s.parts,
+        got,
+        sum_by-cons p own away,
+        sum_by-cons p now (away ++ part ∷ []),
+        sum_by-append p away (part ∷ []),
+        sum_by-cons p part [],
+      );
+      blocks = λ h. omega (
+        arith,
+        d.blocks h,
+        s.blocks h,
+        sum_by-cons (lying h) own away,
+        sum_by-cons (lying h) now (away ++ part ∷ []),
+        sum_by-append (lying h) away (part ∷ []),
+        sum_by-cons (lying h) part [],
+      );
+      least = λ h. omega (
+        arith,
+        d.least h,
+        ap (λ (x : PassState PoolState). listed h x.put) s.pass.0,
+        sum_by-cons (given h) own away,
+        sum_by-cons (given h) now (away ++ part ∷ []),
+        sum_by-append (given h) away (part ∷ []),
+        sum_by-cons (given h) part [],
+      );
+      room = split_room own part now away s d.room;
+    }
+
+-- or nothing does
+pub divided_maybe : (old : Option GiverState) (own now : GiverState) (part : Option GiverState) (away : List GiverState)
+    → MatchOption part (now ≡ own) (λ p. Split own p now) → Divided false old (Some own) away → Divided false old (Some now) (away ++ found part)
+divided_maybe old own now None away e d = subst (λ z. Divided false old (Some z) (away ++ [])) (sym e) (subst (Divided false old (Some own)) (sym (append-nil away)) d)
+divided_maybe old own now (Some part) away s d = divided_part old own part now away s d
+
+-- a queue's task went away, and what it carries
+pub divided_sent : (whole : Bool) (old here now part : Option GiverState) (ts us : List LaneTask) (t : QueueWork) → us ≡ ts ++ asked.Queue t ∷ [] → t.giver ≡ part
+    → (Divided whole old here (carried ts) → Divided whole old now (carried ts ++ found part))
+    → Divided whole old here (carried ts) → Divided whole old now (carried us)
+divided_sent whole old here now part ts us t behind e step d =
+    let a : carried ts ++ found part ≡ carried (ts ++ asked.Queue t ∷ []) =
+    ap (λ z. carried ts ++ found z) (sym e) ∙ ap (λ z. carried ts ++ z) (sym (append-nil (found t.giver))) ∙ sym (carried_behind ts (asked.Queue t ∷ [])) in
+    subst (λ z. Divided whole old now (carried z)) (sym behind) (subst (Divided whole old now) a (step d))
+
+-- the same at a giver and at tasks that are these
+pub divided_is : (whole : Bool) (old here now : Option GiverState) (ts us : List LaneTask) → now ≡ here → us ≡ ts → Divided whole old here (carried ts) → Divided whole old now (carried us)
+divided_is whole old here now ts us e f d = subst (λ z. Divided whole old z (carried us)) (sym e) (subst (λ z. Divided whole old here (carried z)) (sym f) d)
+
+pub carried_tap : (ts : List LaneTask) (t : TapWork) → carried (ts ++ asked.Tap t ∷ []) ≡ carried ts
+carried_tap ts t = carried_behind ts (asked.Tap t ∷ []) ∙ append-nil (carried ts)
+
+-- ---- parts come back
+
+may_join : (old here back : Option GiverState) (rest : List GiverState) → Divided false old here (found back ++ rest) → MayJoin here back
+may_join old None None rest d = tt
+may_join old None (Some other) rest d = tt
+may_join old (Some m) None rest d = tt
+may_join None (Some m) (Some other) rest d = absurd (let e : Some m ≡ None = d.0 in cc)
+may_join (Some g) (Some m) (Some other) rest d =
+    let most = d.room.0 (omega arith) in
+    (d.pool.1.0.0 ∙ sym d.pool.0.0, omega (arith, most, sum_by-cons (λ (x : GiverState). home x.list) other rest))
+
+pub may_take : (here : Option GiverState) (d : LaneDone) (rest : List GiverState) → MayReturn here (back_of d ++ rest) → MayTake d here
+may_take here (answered.Queue d) rest m = may_join m.0 here d.giver rest m.1
+may_take here (answered.Tap d) rest m = tt
+
+joined_room : (m other now : GiverState) (rest : List GiverState) → Joined m other now → HasRoom false (Some m) (other ∷ rest) → HasRoom false (Some now) rest
+joined_room m other now rest j r =
+    let most = r.0 (omega arith) in (
+      (λ some. omega (arith, most, j.list, j.made, sum_by-cons (λ (x : GiverState). home x.list) other rest)),
+      (λ e. absurd (off e)),
+    )
+
+joined_back : (g m other now : GiverState) (rest : List GiverState) → Joined m other now → IsDivided false g (Some m) (other ∷ rest) → IsDivided false g (Some now) rest
+joined_back g m other now rest j d =
+    let p : GiverState → ℕ = λ x. x.pass.parts in
+    let mine = d.pool.0 in
+    record {
+      pool = (
+        (j.pool ∙ mine.0, ap (λ (x : PassState PoolState). x.pool) j.pass ∙ mine.1, ap (λ (x : PassState PoolState). x.size) j.pass ∙ mine.2),
+        d.pool.1.1,
+      );
+      parts = omega (
+        arith,
+        d.parts,
+        ap (λ (x : PassState PoolState). x.parts) j.pass,
+        sum_by-cons p m (other ∷ rest),
+        sum_by-cons p other rest,
+        sum_by-cons p now rest,
+      );
+      blocks = λ h. omega (
+        arith,
+        d.blocks h,
+        j.blocks h,
+        sum_by-cons (lying h) m (other ∷ rest),
+        sum_by-cons (lying h) other rest,
+        sum_by-cons (lying h) now rest,
+      );
+      least = λ h. omega (
+        arith,
+        d.least h,
+        ap (λ (x : PassState PoolState). listed h x.put) j.pass,
+        sum_by-append (λ (x : PoolState). sum_by h x.blocks) m.pass.put other.pass.put,
+        sum_by-cons (given h) m (other ∷ rest),
+        sum_by-cons (given h) other rest,
+        sum_by-cons (given h) now rest,
+      );
+      room = joined_room m other now rest j d.room;
+    }
+
+rejoined : (old here back new : Option GiverState) (rest : List GiverState) → Rejoined here back new → Divided false old here (found back ++ rest) → Divided false old new rest
+rejoined old here None new rest e d = subst (λ z. Divided false old z rest) (sym e) d
+rejoined None None (Some other) new rest e d = absurd (let n : other ∷ rest ≡ [] = d.1 in cc)
+rejoined (Some g) None (Some other) new rest e d =
+    let none : length rest ≡ 0 = omega (arith, d.room) in
+    subst (λ z. IsDivided false g z rest) (sym e) (record {
+      pool = d.pool;
+      parts = d.parts;
+      blocks = d.blocks;
+      least = d.least;
+      room = ((λ some. absurd (omega (arith, some, none))), (λ off'. absurd (off off')));
+    })
+rejoined None (Some m) (Some other) new rest e d = absurd (let n : Some m ≡ None = d.0 in cc)
+rejoined (Some g) (Some m) (Some other) new rest e d = subst (λ z. IsDivided false g z rest) (sym e.1) (joined_back g m other e.0 rest e.2 d)
+
+pub divided_taken : (old here new : Option GiverState) (d : LaneDone) (rest : List GiverState) → IsTaken d here new → Divided false old here (back_of d ++ rest) → Divided false old new rest
+divided_taken old here new (answered.Queue d) rest e h = rejoined old here d.giver new rest e h
+divided_taken old here new (answered.Tap d) rest e h = subst (λ z. Divided false old z rest) (sym e) h

@@ -1,0 +1,91 @@
+-- A giver that is divided among tasks: what is at hand of it, and what is away.
+use Rattle.std.specs.Prelude.{ℕ, ◌≡◌, ◌+◌, ◌≤◌, Bool, true, false, Option, None, Some, List, [], ◌∷◌, ◌++◌, length}
+use Rattle.std.specs.List.{sum_by, AllByRecursion}
+use Rattle.raw_block.specs.Views.{SoleState}
+use Rattle.block_pool.specs.PoolState.{home}
+use Rattle.block_pool.specs.Giving.{GiverState, given, lying, Joined}
+use Rattle.lanes.specs.declared.tasks.LaneTask.{LaneTask}
+use Rattle.lanes.specs.declared.tasks.LaneTask.TheVariants as asked
+use Rattle.lanes.specs.declared.tasks.LaneDone.{LaneDone}
+use Rattle.lanes.specs.declared.tasks.LaneDone.TheVariants as answered
+
+-- the giver, where there is one
+abbrev pub found : Option GiverState → List GiverState
+found None = []
+found (Some g) = g ∷ []
+
+-- what they gave back together, and with what lies in their lists
+abbrev pub given_of : (SoleState → ℕ) → List GiverState → ℕ
+given_of h gs = sum_by (given h) gs
+
+abbrev pub lying_of : (SoleState → ℕ) → List GiverState → ℕ
+lying_of h gs = sum_by (lying h) gs
+
+-- the blocks that lie in their lists, and the parts of their passes
+abbrev pub blocks_of : List GiverState → ℕ
+blocks_of gs = sum_by (λ (g : GiverState). home g.list) gs
+
+abbrev pub parts_of : List GiverState → ℕ
+parts_of gs = sum_by (λ (g : GiverState). g.pass.parts) gs
+
+-- what a task carries, and what comes back with what is done
+abbrev pub part_of : LaneTask → List GiverState
+part_of (asked.Queue t) = found t.giver
+part_of (asked.Tap t) = []
+
+abbrev pub carried : List LaneTask → List GiverState
+carried [] = []
+carried (t ∷ ts) = part_of t ++ carried ts
+
+abbrev pub back_of : LaneDone → List GiverState
+back_of (answered.Queue d) = found d.giver
+back_of (answered.Tap d) = []
+
+abbrev pub returned : List LaneDone → List GiverState
+returned [] = []
+returned (d ∷ ds) = back_of d ++ returned ds
+
+-- it gives to the same pool
+abbrev pub IsAlike : GiverState → GiverState → Type 0
+IsAlike g other = (other.pool ≡ g.pool) × (other.pass.pool ≡ g.pass.pool) × (other.pass.size ≡ g.pass.size)
+
+-- where nothing is at hand all is away as one; for what else is away there is room at hand. Where the whole goes with
+-- one task, it goes first.
+abbrev pub HasRoom : Bool → Option GiverState → List GiverState → Type 0
+HasRoom whole None away = length away ≡ 1
+HasRoom whole (Some g) away =
+    (1 ≤ length away → home g.list + blocks_of away ≤ g.list.made) × (whole ≡ true → away ≡ [])
+
+-- of all that gave at first: nothing of it is lost
+pub record IsDivided (whole : Bool) (g : GiverState) (here : Option GiverState) (away : List GiverState) : Type 0 where
+  pub pool : AllByRecursion (IsAlike g) (found here ++ away)
+  pub parts : parts_of (found here ++ away) ≡ g.pass.parts
+  pub blocks : (h : SoleState → ℕ) → lying_of h (found here ++ away) ≡ lying h g
+  pub least : (h : SoleState → ℕ) → given h g ≤ given_of h (found here ++ away)
+  pub room : HasRoom whole here away
+
+abbrev pub Divided : Bool → Option GiverState → Option GiverState → List GiverState → Type 0
+Divided whole None here away = (here ≡ None) × (away ≡ [])
+Divided whole (Some g) here away = IsDivided whole g here away
+
+-- one of those that are away may come back
+abbrev pub MayReturn : Option GiverState → List GiverState → Type 0
+MayReturn here away = (old : Option GiverState) × Divided false old here away
+
+abbrev pub MayJoin : Option GiverState → Option GiverState → Type 0
+MayJoin (Some g) (Some other) = (other.pool ≡ g.pool) × (home g.list + home other.list ≤ g.list.made)
+MayJoin _ _ = Unit {0}
+
+abbrev pub MayTake : LaneDone → Option GiverState → Type 0
+MayTake (answered.Queue d) here = MayJoin here d.giver
+MayTake (answered.Tap d) here = Unit {0}
+
+-- it came back, or there was none
+abbrev pub Rejoined : Option GiverState → Option GiverState → Option GiverState → Type 0
+Rejoined here None new = new ≡ here
+Rejoined None (Some other) new = new ≡ Some other
+Rejoined (Some g) (Some other) new = (g' : GiverState) × (new ≡ Some g') × Joined g other g'
+
+abbrev pub IsTaken : LaneDone → Option GiverState → Option GiverState → Type 0
+IsTaken (answered.Queue d) here new = Rejoined here d.giver new
+IsTaken (answered.Tap d) here new = new ≡ here

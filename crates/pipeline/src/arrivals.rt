@@ -1,0 +1,127 @@
+//! What comes in at the desk while rounds are read.
+ghost use Rattle.std.specs.Prelude.{◌≡◌, ◌+◌, MatchOption, [], ◌∷◌, ◌++◌};
+ghost use Rattle.block_pool.specs.PoolState.{home};
+ghost use Rattle.rtrb.specs.Ring.{received};
+ghost use Rattle.pipeline.specs.Desks.{brought_to};
+
+use crate::desk::{Desk, SHELVES};
+use crate::parcel::Token;
+use crate::post::Post;
+use crate::ring::receive_within;
+use block_pool::Pool;
+use records::Supply;
+
+/// Before the side that reads sleeps for want of blocks it looks this often for a list, and each time this often for a
+/// token.
+const LOOKS: u32 = 16;
+
+impl<W: Post + Drop> Desk<W> {
+    // The next token: if it comes within so many tries, or, where it is waited for, whenever it comes.
+    fn next_token(&mut self, tries: u32, waits: bool) -> Option<Token>
+        ensures token { MatchOption result (received self.new.tokens ≡ received self.old.tokens)
+            (λ t. received self.new.tokens ≡ received self.old.tokens ++ t ∷ []) }
+        ensures same { (self.new.shelves ≡ self.old.shelves) × (self.new.taker ≡ self.old.taker) }
+    {
+        if waits {
+            Some(self.post.next(&mut self.tokens))
+        } else {
+            receive_within(&mut self.tokens, tries)
+        }
+    }
+
+    // One token, if one comes or is waited for: its blocks go home.
+    fn meet(&mut self, pool: &mut Pool, tries: u32, waits: bool) -> bool
+        ensures sum { home pool.new + brought_to self.old ≡ home pool.old + brought_to self.new }
+        ensures same { (pool.new.made ≡ pool.old.made) × (pool.new.taken ≡ pool.old.taken) }
+    {
+        if self.shelves.len() == self.shelves.capacity() {
+            return false;
+        }
+        let Some(token) = self.next_token(tries, waits) else {
+            return false;
+        };
+        let Token { mut shelf, goes } = token;
+        let _ = pool.home();
+        pool.refill(&mut shelf);
+        self.shelves.push_front_reserved(shelf);
+        self.out = self.out.saturating_sub(1);
+        if !goes {
+            self.stopped = true;
+        }
+        true
+    }
+
+    // One list, if one has come.
+    fn meet_list(&mut self, pool: &mut Pool) -> bool
+        ensures sum { home pool.new + brought_to self.old ≡ home pool.old + brought_to self.new }
+        ensures same { (pool.new.made ≡ pool.old.made) × (pool.new.taken ≡ pool.old.taken) }
+    {
+        self.post.bring_list(&mut self.taker, pool)
+    }
+
+    // Whether a token will come.
+    fn awaits(&self) -> bool {
+        self.out > 0 && !self.stopped
+    }
+
+    // A list or a token, whichever comes first. The side that reads looks for both for a while; then it says that it
+    // waits, looks once more, and sleeps between its looks.
+    fn meet_any(&mut self, pool: &mut Pool) -> bool
+        ensures sum { home pool.new + brought_to self.old ≡ home pool.old + brought_to self.new }
+        ensures same { (pool.new.made ≡ pool.old.made) × (pool.new.taken ≡ pool.old.taken) }
+    {
+        for turn in 0..u32::MAX {
+            let came = self.meet_list(pool) || self.meet(pool, LOOKS, false);
+            if came || !self.awaits() {
+                self.post.end_wait();
+                return came;
+            }
+            if turn == LOOKS {
+                self.post.begin_wait();
+            }
+            if turn > LOOKS {
+                self.post.sleep();
+            }
+        }
+        self.meet(pool, 1, true)
+    }
+
+    // All tokens that have come, and one at least where no shelf is here and one will come.
+    fn meet_all(&mut self, pool: &mut Pool)
+        ensures sum { home pool.new + brought_to self.old ≡ home pool.old + brought_to self.new }
+        ensures same { (pool.new.made ≡ pool.old.made) × (pool.new.taken ≡ pool.old.taken) }
+    {
+        for _ in 0..=SHELVES {
+            let waits = self.shelves.is_empty() && self.awaits();
+            if !self.meet(pool, 1, waits) {
+                return;
+            }
+        }
+    }
+}
+
+impl<W: Post + Drop> Supply for Desk<W> {
+    ghost use Rattle.pipeline.specs.Desks.{brought_to};
+
+    ghost brought = { brought_to };
+
+    /// Where none is needed a round is to be read: then tokens come in, with their shelves.
+    fn bring(&mut self, pool: &mut Pool, need: u32) -> bool {
+        if need == 0 {
+            self.meet_all(pool);
+            return true;
+        }
+        // Each turn brings a block or a token, and no more tokens are out than there are shelves.
+        for _ in 0..need.saturating_add(SHELVES as u32) {
+            if pool.home() >= need || !self.meet_any(pool) {
+                break;
+            }
+        }
+        need <= pool.home()
+    }
+
+    fn may_begin(&self, pool: &Pool, used: u32) -> bool {
+        let (_, _) = (pool, used);
+        true
+    }
+}

@@ -1,0 +1,90 @@
+-- A giver that is lent for a round: what goes by it, and that it comes back.
+use Rattle.std.proofs.Common.{◌≡◌, ℕ, ◌+◌, ◌≤◌, Option, None, Some, refl, sym, ap, ◌∙◌, subst, arith}
+use Rattle.block_pool.specs.Giving.{GiverState, Gave, MayGive, given_by, given_in}
+use Rattle.block_pool.proofs.Giving.{count_lying}
+use Rattle.block_pool.specs.PassState.{IsSame}
+use Rattle.block_pool.specs.PoolState.{PoolState, home}
+use Rattle.rounds.specs.Benches.{BringsBeside, Brings, IsLent, Lends, MayBring, Swaps}
+use Rattle.rounds.specs.RoundsState.{BenchState}
+
+-- a round's spares went to the giver's list, some were given, and what is left came back
+pub record Went (old new : Option GiverState) (before after : PoolState) : Type 0 where
+  pub count : home after + given_by new ≡ home before + given_by old
+  pub fewer : home after ≤ home before
+  pub lends : Lends old new
+
+with_list : (g g' g'' : GiverState) (s t u : PoolState) → home g.list ≡ 0 → t ≡ g.list → Gave (record g { list = s }) g' → g'' ≡ record g' { list = t } → u ≡ g'.list → Went (Some g) (Some g'') s u
+with_list g g' g'' s t u none is gave back left =
+    let blocks = gave.blocks (λ _. 1) in
+    let least = gave.least (λ _. 1) in
+    let lying = count_lying (record g { list = s }) in
+    let now = count_lying g' in
+    let given : given_in g'' ≡ given_in g' = ap given_in back in
+    record {
+      count = omega (arith, blocks, lying, now, ap home left, given);
+      fewer = omega (arith, blocks, least, lying, now, ap home left);
+      lends = (
+        g'',
+        refl,
+        record {
+          pool = ap (λ (z : GiverState). z.pool) back ∙ gave.pool;
+          pass = subst (λ (z : GiverState). IsSame g.pass z.pass) (sym back) gave.pass;
+          none = omega (arith, ap (λ (z : GiverState). home z.list) back, ap home is, none);
+          least = omega (arith, least, given);
+        },
+      );
+    }
+
+pub went : (a b c d : Option GiverState) (s t u : PoolState) → IsLent a → Swaps a b s t → MayGive b c → Swaps c d t u → Went a d s u
+went None b c d s t u lent to gives back =
+    let none : c ≡ None = subst (λ z. MayGive z c) to.0 gives in
+    let out = subst (λ z. Swaps z d t u) none back in
+    subst (λ z. Went None z s u) (sym out.0) (record {
+      count = omega (arith, ap home out.1, ap home to.1);
+      fewer = omega (arith, ap home out.1, ap home to.1);
+      lends = refl;
+    })
+went (Some g) b c d s t u lent to gives back =
+    let gave = subst (λ z. MayGive z c) to.0 gives in
+    let out = subst (λ z. Swaps z d t u) gave.1 back in
+    subst (λ z. Went (Some g) z s u) (sym out.0) (with_list g gave.0 (record gave.0 { list = t }) s t u lent to.1 gave.2 refl out.1)
+
+pub lends_same : (g : Option GiverState) → IsLent g → Lends g g
+lends_same None lent = refl
+lends_same (Some g) lent = (g, refl, record { pool = refl; pass = (refl, refl, refl); none = lent; least = omega arith })
+
+-- what was given stays given
+pub given_least : (old new : Option GiverState) → Lends old new → given_by old ≤ given_by new
+given_least None new h = omega arith
+given_least (Some g) new h = omega (arith, ap given_by h.1, h.2.least)
+
+-- ---- a round, of which blocks went to others, that comes home
+
+pub may_less : (m n : ℕ) (bench : BenchState) (pool : PoolState) → m ≤ n → MayBring n bench pool → MayBring m bench pool
+may_less m n bench pool le may = record { out = omega (arith, le, may.out); few = omega (arith, le, may.few); room = omega (arith, le, may.room) }
+
+-- m blocks of it came home
+pub brings_rest : (m n : ℕ) (old new : BenchState) (p q : PoolState) (g g' : Option GiverState) → m + given_by g' ≡ n + given_by g → Brings m old new p q → BringsBeside n old new p q g g'
+brings_rest m n old new p q g g' sum brings = record {
+  count = omega (arith, brings.count, sum);
+  made = brings.made;
+  taken = brings.taken;
+  room = omega (arith, brings.room, brings.count);
+  same = brings.same;
+}
+
+-- all of it came home
+pub brings_all : (n : ℕ) (old new : BenchState) (p q : PoolState) (g : Option GiverState) → Brings n old new p q → BringsBeside n old new p q g g
+brings_all n old new p q g brings = brings_rest n n old new p q g g refl brings
+
+-- and where there is nobody to give to
+pub brings_alone : (n : ℕ) (old new : BenchState) (p q : PoolState) (g : Option GiverState) → Lends None g → BringsBeside n old new p q None g → Brings n old new p q
+brings_alone n old new p q g none brings =
+    let count : home q ≡ home p + n = omega (arith, brings.count, ap given_by none) in
+    record {
+      count = count;
+      made = brings.made;
+      taken = brings.taken;
+      room = omega (arith, brings.room, count);
+      same = brings.same;
+    }
