@@ -30,7 +30,7 @@ impl Supply for Shelf {
     }
 
     fn may_begin(&self, pool: &Pool, used: u32) -> bool {
-        let _ = (pool, used);
+        let (_, _) = (pool, used);
         true
     }
 }
