@@ -143,7 +143,10 @@ fn in_turn(alloc: Global) -> Result<([Step; 3], Vec<u8>, [u32; 4]), Fail> {
             given,
             put_home,
             read,
-            intake.home() + two.pool.home() + three.pool.home(),
+            intake
+                .home()
+                .saturating_add(two.pool.home())
+                .saturating_add(three.pool.home()),
         ],
     ))
 }
