@@ -3,11 +3,13 @@ use Rattle.inet_sum.specs.Stands.{StandsFor}
 use Rattle.frame_layout.specs.Front.{IsPayloadOf}
 use Rattle.frame_layout.specs.Segment.{IsSegOf}
 use Rattle.frame_layout.specs.Judged.{seg_of}
-use Rattle.frame_layout.specs.Shape.{Layout}
+use Rattle.frame_layout.specs.Candidate.{IsCandidate}
+use Rattle.frame_layout.specs.Key.{IsHeadOf}
+use Rattle.frame_layout.specs.Shape.{Layout, shape_of}
 use Rattle.skb.specs.Checksum.{AreBytes}
 use Rattle.skb.specs.SkbState.{SkbState, buffer_bytes}
-use Rattle.merge_rule.specs.Runs.{IsJudged}
-use Rattle.gro.proofs.Judged.{payload_of}
+use Rattle.merge_rule.specs.Runs.{IsJudged, IsNoCandidate}
+use Rattle.gro.proofs.Judged.{front_of, payload_of}
 use Rattle.gro.proofs.candidacy.judge.Goals as goal
 
 pub returns-in-Some-mergeable_leaf : goal.returns-in-Some-mergeable_leaf
@@ -48,4 +50,19 @@ returns-in-None c =
     = subst (λ z. IsSegOf f c.args.original (seg_of c.in-Some.layout c.sum_from-payload.result.len z)) c.in-None.is (c.mergeable_leaf.ensures.candidate f is) in
     record {
       judged = subst (λ z. IsJudged f c.args.original z c.none-in-None.result.payload c.none-in-None.result.flags) (sym c.none-in-None.ensures.layout) j;
+    }
+
+pub returns-then-is_length_wrong : goal.returns-then-is_length_wrong
+returns-then-is_length_wrong c =
+    let s : SkbState = c.args.skb.now in
+    let f : List ℕ = buffer_bytes s in
+    let front : IsHeadOf c.head-head.result.now f
+    = front_of s c.head-head.result.now c.head-head.ensures.bytes (omega (arith, c.len.ensures.size, c.len.ensures.bytes)) c.requires.front c.head-head.ensures.size in
+    let shaped : Some c.in-Some.layout ≡ shape_of f = c.in-Some.ensures.whole f front in
+    let none : IsNoCandidate f c.args.original = λ layout is candidate.
+    let same : layout ≡ c.in-Some.layout = cc (is, shaped) in
+    c.is_length_wrong.ensures.wrong c.if-is_length_wrong.true f front (omega (arith, c.if-len-original.false, c.len.ensures.bytes)) c.args.original
+    (subst (IsCandidate f c.args.original) same candidate) in
+    record {
+      judged = subst (λ z. IsJudged f c.args.original z c.none-then-is_length_wrong.result.payload c.none-then-is_length_wrong.result.flags) (sym c.none-then-is_length_wrong.ensures.layout) none;
     }
