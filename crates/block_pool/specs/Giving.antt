@@ -63,3 +63,8 @@ MayGive (Some g) new = (g' : GiverState) × (new ≡ Some g') × Gave g g'
 abbrev pub given_by : Option GiverState → ℕ
 given_by None = 0
 given_by (Some g) = given_in g
+
+-- and what that weighs together, each block by its name
+abbrev pub weights_given : Option GiverState → (ℕ → ℕ) → ℕ
+weights_given None h = 0
+weights_given (Some g) h = given (λ (s : SoleState). h s.block) g

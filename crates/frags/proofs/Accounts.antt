@@ -3,7 +3,7 @@ use Rattle.std.proofs.Common.{◌≡◌, ℕ, ◌+◌, ◌*◌, ◌≤◌, List,
 use Rattle.ref_core.specs.WeightRule.{full_weight}
 use Rattle.raw_block.specs.Views.{Life, SoleState, PartState, ReceiptState}
 use Rattle.frags.specs.OutcomesState.{OutcomesState}
-use Rattle.frags.specs.Account.{Account, Tests, Keeps, KeepsMarks, every, both, counted, at_home, receipts_held}
+use Rattle.frags.specs.Account.{Account, Tests, Keeps, KeepsBlocks, KeepsMarks, every, both, counted, at_home, receipts_held}
 use Rattle.frags.specs.Account.{soles_home, of_part, of_outcomes}
 use Rattle.frags.specs.PieceList.{pieces_held, of_pieces}
 use Rattle.frags.specs.declared.pieces.Piece.{Piece}
@@ -86,3 +86,43 @@ keeps_pop_back s x xs ys o q e h k t m =
     let f = h t m in
     let g = k t m in
     (omega arith, omega arith)
+
+-- ---- no block is made up
+
+pub blocks_refl : (a : Account) → KeepsBlocks a a
+blocks_refl a bs m = omega arith
+
+pub blocks_trans : (a b c : Account) → KeepsBlocks a b → KeepsBlocks b c → KeepsBlocks a c
+blocks_trans a b c h k bs m = omega (arith, h bs m, k bs m)
+
+pub blocks_beside : (a b c : Account) → KeepsBlocks a b → KeepsBlocks (both a c) (both b c)
+blocks_beside a b c h bs m = omega (arith, h bs m)
+
+-- a part weighs 1 or more, what its block's Sole counts
+pub counted-ge : (bs : ℕ → Bool) (m : ℕ) (l : Life) (k w : ℕ) → 1 ≤ w → at_home bs m l.block k ≤ counted (every bs) m l k w
+counted-ge bs m l k w h = grind arith
+
+pub last_blocks : (p : PartState) (s : SoleState) (a b : OutcomesState) → s.block ≡ p.life.block → s.mark ≡ p.mark
+    → 1 ≤ p.weight → b.receipts ≡ a.receipts → b.soles ≡ a.soles ++ s ∷ []
+    → KeepsBlocks (both (of_part p) (of_outcomes a)) (of_outcomes b)
+last_blocks p s a b o e h f g bs m =
+    let c = counted-ge bs m p.life p.mark p.weight h in
+    let d = ap (receipts_held (every bs) m) f in
+    let k = ap (soles_home bs m) g ∙ soles_home-append bs m a.soles (s ∷ []) in
+    let i : at_home bs m s.block s.mark ≡ at_home bs m p.life.block p.mark = cc (o, e) in
+    omega (arith, c, d, k, i)
+
+pub left_blocks : (p : PartState) (r : ReceiptState) (a b : OutcomesState) → r.weight ≡ p.weight → r.life ≡ p.life
+    → r.mark ≡ p.mark → b.soles ≡ a.soles → b.receipts ≡ a.receipts ++ r ∷ []
+    → KeepsBlocks (both (of_part p) (of_outcomes a)) (of_outcomes b)
+left_blocks p r a b w l k f g bs m =
+    let c : counted (every bs) m r.life r.mark r.weight ≡ counted (every bs) m p.life p.mark p.weight = cc in
+    let d = ap (soles_home bs m) f in
+    let e = ap (receipts_held (every bs) m) g ∙ receipts_held-append (every bs) m a.receipts (r ∷ []) in
+    omega (arith, c, d, e)
+
+-- the first piece goes, its part to the outcomes
+pub blocks_pop : (s : Account) (x : Piece) (xs ys : List Piece) (o q : OutcomesState) → xs ≡ x ∷ ys
+    → KeepsBlocks s (both (of_pieces xs) (of_outcomes o)) → KeepsBlocks (both (of_part x.part) (of_outcomes o)) (of_outcomes q)
+    → KeepsBlocks s (both (of_pieces ys) (of_outcomes q))
+blocks_pop s x xs ys o q e h k bs m = omega (arith, ap (pieces_held (every bs) m) e, h bs m, k bs m)

@@ -10,7 +10,7 @@ use Rattle.raw_block.specs.declared.part.Released.{Released}
 use Rattle.raw_block.specs.declared.part.Released.TheVariants.{Last, Left}
 use Rattle.raw_block.specs.Releases.{IsReleased}
 use Rattle.frags.specs.OutcomesState.{OutcomesState}
-use Rattle.frags.specs.Account.{Keeps, KeepsMarks, every, both, counted, at_home, receipts_held, soles_home, of_part}
+use Rattle.frags.specs.Account.{Keeps, KeepsBlocks, KeepsMarks, every, both, counted, at_home, receipts_held, soles_home, of_part}
 use Rattle.frags.specs.Account.{of_holder, of_released, of_outcomes}
 use Rattle.frags.specs.Holders.{block, AsPart}
 use Rattle.frags.specs.PieceList.{of_pieces, pieces_held, bytes_of, piece_bytes, size_of, Fits, AllFit, cut_front}
@@ -39,6 +39,14 @@ sole_keeps h s a b e f g t m =
     let k = ap (soles_home t.blocks m) f ∙ soles_home-append t.blocks m a.soles (s ∷ []) in
     let l = ap (receipts_held t m) g in
     (omega arith, omega arith)
+
+pub sole_keeps_blocks : (h : Holder) (s : SoleState) (a b : OutcomesState) → h ≡ Sole s → b.soles ≡ a.soles ++ s ∷ []
+    → b.receipts ≡ a.receipts → KeepsBlocks (both (of_holder h) (of_outcomes a)) (of_outcomes b)
+sole_keeps_blocks h s a b e f g bs m =
+    let u = ap (λ (z : Holder). (of_holder z).held (every bs) m + (of_holder z).homes bs m) e in
+    let k = ap (soles_home bs m) f ∙ soles_home-append bs m a.soles (s ∷ []) in
+    let l = ap (receipts_held (every bs) m) g in
+    omega (arith, u, k, l)
 
 pub part_block : (h : Holder) (p : PartState) → AsPart h p → p.bytes ≡ block h
 part_block (Sole s) p k = k.2

@@ -5,7 +5,7 @@ use Rattle.std.specs.declared.option.Option.{Option}
 use Rattle.std.specs.Option.{option_to_list}
 use Rattle.raw_block.specs.Views.{SoleState, ReceiptState}
 use Rattle.frags.specs.OutcomesState.{OutcomesState}
-use Rattle.frags.specs.Account.{Keeps, both, receipts_held, soles_home, of_sole, of_receipt, of_outcomes}
+use Rattle.frags.specs.Account.{Keeps, KeepsBlocks, both, every, receipts_held, soles_home, of_sole, of_receipt, of_outcomes}
 use Rattle.frags.proofs.Accounts.{receipts_held-append, soles_home-append}
 
 pub sole_kept : (s : SoleState) (a b : OutcomesState) → b.soles ≡ a.soles ++ s ∷ [] → b.receipts ≡ a.receipts
@@ -43,3 +43,41 @@ receipt_taken (Some r) a b e f = λ t m.
     let k = ap (soles_home t.blocks m) e in
     let l = ap (receipts_held t m) f ∙ receipts_held-append t m b.receipts (r ∷ []) in
     (omega arith, omega arith)
+
+-- ---- no block is made up
+
+pub sole_blocks : (s : SoleState) (a b : OutcomesState) → b.soles ≡ a.soles ++ s ∷ [] → b.receipts ≡ a.receipts
+    → KeepsBlocks (both (of_sole s) (of_outcomes a)) (of_outcomes b)
+sole_blocks s a b e f bs m =
+    let k = ap (soles_home bs m) e ∙ soles_home-append bs m a.soles (s ∷ []) in
+    let l = ap (receipts_held (every bs) m) f in
+    omega (arith, k, l)
+
+pub receipt_blocks : (r : ReceiptState) (a b : OutcomesState) → b.soles ≡ a.soles → b.receipts ≡ a.receipts ++ r ∷ []
+    → KeepsBlocks (both (of_receipt r) (of_outcomes a)) (of_outcomes b)
+receipt_blocks r a b e f bs m =
+    let k = ap (soles_home bs m) e in
+    let l = ap (receipts_held (every bs) m) f ∙ receipts_held-append (every bs) m a.receipts (r ∷ []) in
+    omega (arith, k, l)
+
+pub sole_taken_blocks : (r : Option SoleState) (a b : OutcomesState) → a.soles ≡ b.soles ++ option_to_list r → b.receipts ≡ a.receipts
+    → MatchOption r (KeepsBlocks (of_outcomes a) (of_outcomes b)) (λ s. KeepsBlocks (of_outcomes a) (both (of_sole s) (of_outcomes b)))
+sole_taken_blocks None a b e f = λ bs m.
+    let k = ap (soles_home bs m) e ∙ soles_home-append bs m b.soles [] in
+    let l = ap (receipts_held (every bs) m) f in
+    omega (arith, k, l)
+sole_taken_blocks (Some s) a b e f = λ bs m.
+    let k = ap (soles_home bs m) e ∙ soles_home-append bs m b.soles (s ∷ []) in
+    let l = ap (receipts_held (every bs) m) f in
+    omega (arith, k, l)
+
+pub receipt_taken_blocks : (r : Option ReceiptState) (a b : OutcomesState) → b.soles ≡ a.soles → a.receipts ≡ b.receipts ++ option_to_list r
+    → MatchOption r (KeepsBlocks (of_outcomes a) (of_outcomes b)) (λ s. KeepsBlocks (of_outcomes a) (both (of_receipt s) (of_outcomes b)))
+receipt_taken_blocks None a b e f = λ bs m.
+    let k = ap (soles_home bs m) e in
+    let l = ap (receipts_held (every bs) m) f ∙ receipts_held-append (every bs) m b.receipts [] in
+    omega (arith, k, l)
+receipt_taken_blocks (Some r) a b e f = λ bs m.
+    let k = ap (soles_home bs m) e in
+    let l = ap (receipts_held (every bs) m) f ∙ receipts_held-append (every bs) m b.receipts (r ∷ []) in
+    omega (arith, k, l)

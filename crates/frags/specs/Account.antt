@@ -38,7 +38,12 @@ abbrev pub Keeps : Account → Account → Type 0
 Keeps a b = (t : Tests) (m : ℕ) → (b.held t m ≤ a.held t m)
     × (a.held t m + full_weight * a.homes t.blocks m ≤ b.held t m + full_weight * b.homes t.blocks m)
 
--- the same over all lives of a block, where a call shares a Sole and so begins a life
+-- no block is made up: where none of some blocks was, as a part or at home, none is
+abbrev pub KeepsBlocks : Account → Account → Type 0
+KeepsBlocks a b = (bs : ℕ → Bool) (m : ℕ)
+    → b.held (every bs) m + b.homes bs m ≤ a.held (every bs) m + a.homes bs m
+
+-- as `Keeps`, over all lives of a block, where a call shares a Sole and so begins a life
 abbrev pub KeepsMarks : Account → Account → Type 0
 KeepsMarks a b = (bs : ℕ → Bool) (m : ℕ)
     → a.held (every bs) m + full_weight * a.homes bs m ≤ b.held (every bs) m + full_weight * b.homes bs m

@@ -1,6 +1,6 @@
 //! What was given back: Soles and receipts, in places that were reserved before.
 ghost use Rattle.std.specs.Prelude.{◌≡◌, ℕ, ◌+◌, ◌≤◌, [], ◌∷◌, ◌++◌, IfOk, OnOk, IsOk, MatchOption};
-ghost use Rattle.frags.specs.Account.{Keeps, both, of_part, of_sole, of_receipt, of_holder, of_outcomes};
+ghost use Rattle.frags.specs.Account.{Keeps, KeepsBlocks, both, of_part, of_sole, of_receipt, of_holder, of_outcomes};
 ghost use Rattle.frags.specs.Growth.{Grows};
 ghost use Rattle.frags.specs.Returns.{ReturnsPart, ReturnsHolder};
 
@@ -93,6 +93,7 @@ impl Outcomes {
         ensures soles { self.new.soles ≡ self.old.soles ++ sole ∷ [] }
         ensures receipts { self.new.receipts ≡ self.old.receipts }
         ensures kept { Keeps (both (of_sole sole) (of_outcomes self.old)) (of_outcomes self.new) }
+        ensures blocks { KeepsBlocks (both (of_sole sole) (of_outcomes self.old)) (of_outcomes self.new) }
         ensures grows { Grows 1 self.old self.new }
         ensures places { self.old.spare ≤ self.new.spare + 1 }
     {
@@ -105,6 +106,7 @@ impl Outcomes {
         ensures soles { self.new.soles ≡ self.old.soles }
         ensures receipts { self.new.receipts ≡ self.old.receipts ++ receipt ∷ [] }
         ensures kept { Keeps (both (of_receipt receipt) (of_outcomes self.old)) (of_outcomes self.new) }
+        ensures blocks { KeepsBlocks (both (of_receipt receipt) (of_outcomes self.old)) (of_outcomes self.new) }
         ensures grows { Grows 1 self.old self.new }
         ensures places { self.old.spare ≤ self.new.spare + 1 }
     {
@@ -118,6 +120,8 @@ impl Outcomes {
             (λ s. self.old.soles ≡ self.new.soles ++ s ∷ []) }
         ensures kept { MatchOption result (Keeps (of_outcomes self.old) (of_outcomes self.new))
             (λ s. Keeps (of_outcomes self.old) (both (of_sole s) (of_outcomes self.new))) }
+        ensures blocks { MatchOption result (KeepsBlocks (of_outcomes self.old) (of_outcomes self.new))
+            (λ s. KeepsBlocks (of_outcomes self.old) (both (of_sole s) (of_outcomes self.new))) }
         ensures places { self.old.spare ≤ self.new.spare }
     {
         self.soles.pop()
@@ -130,6 +134,8 @@ impl Outcomes {
             (λ r. self.old.receipts ≡ self.new.receipts ++ r ∷ []) }
         ensures kept { MatchOption result (Keeps (of_outcomes self.old) (of_outcomes self.new))
             (λ r. Keeps (of_outcomes self.old) (both (of_receipt r) (of_outcomes self.new))) }
+        ensures blocks { MatchOption result (KeepsBlocks (of_outcomes self.old) (of_outcomes self.new))
+            (λ r. KeepsBlocks (of_outcomes self.old) (both (of_receipt r) (of_outcomes self.new))) }
         ensures places { self.old.spare ≤ self.new.spare }
     {
         self.receipts.pop()
@@ -155,6 +161,7 @@ impl Outcomes {
         ensures gave { ReturnsPart part self.old self.new }
         ensures grows { Grows 1 self.old self.new }
         ensures kept { Keeps (both (of_part part) (of_outcomes self.old)) (of_outcomes self.new) }
+        ensures blocks { KeepsBlocks (both (of_part part) (of_outcomes self.old)) (of_outcomes self.new) }
         ensures places { self.old.spare ≤ self.new.spare + 1 }
     {
         let _ = part.weight();
@@ -170,6 +177,7 @@ impl Outcomes {
         ensures gave { ReturnsHolder holder self.old self.new }
         ensures grows { Grows 1 self.old self.new }
         ensures kept { Keeps (both (of_holder holder) (of_outcomes self.old)) (of_outcomes self.new) }
+        ensures blocks { KeepsBlocks (both (of_holder holder) (of_outcomes self.old)) (of_outcomes self.new) }
         ensures places { self.old.spare ≤ self.new.spare + 1 }
     {
         match holder {

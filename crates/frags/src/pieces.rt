@@ -5,7 +5,7 @@ ghost use Rattle.std.specs.Prelude.{Bool, false};
 ghost use Rattle.frags.specs.declared.pieces.Piece.{Piece};
 ghost use Rattle.frags.specs.declared.holder.Holder.{Holder};
 ghost use Rattle.raw_block.specs.Views.{PartState};
-ghost use Rattle.frags.specs.Account.{Tests, Keeps, KeepsMarks, both, of_part, of_holder, of_outcomes};
+ghost use Rattle.frags.specs.Account.{Tests, Keeps, KeepsBlocks, KeepsMarks, both, of_part, of_holder, of_outcomes};
 ghost use Rattle.frags.specs.Growth.{Grows};
 ghost use Rattle.frags.specs.Gifts.{IsShare, IsSplit, front, cut_worn, worn};
 ghost use Rattle.frags.specs.Holders.{IsAppend};
@@ -455,6 +455,7 @@ impl Pieces {
         requires spare { length self ≤ out.old.spare }
         ensures returned { ReturnsPieces self out.old out.new }
         ensures kept { Keeps (both (of_pieces self) (of_outcomes out.old)) (of_outcomes out.new) }
+        ensures blocks { KeepsBlocks (both (of_pieces self) (of_outcomes out.old)) (of_outcomes out.new) }
         ensures grows { Grows (length self) out.old out.new }
         ensures places { out.old.spare ≤ out.new.spare + length self }
     {
@@ -529,6 +530,7 @@ fn give_back(piece: Piece, out: &mut Outcomes)
     ensures gave { ReturnsPart piece.part out.old out.new }
     ensures grows { Grows 1 out.old out.new }
     ensures kept { Keeps (both (of_part piece.part) (of_outcomes out.old)) (of_outcomes out.new) }
+    ensures blocks { KeepsBlocks (both (of_part piece.part) (of_outcomes out.old)) (of_outcomes out.new) }
     ensures places { out.old.spare ≤ out.new.spare + 1 }
 {
     let Piece {

@@ -20,3 +20,4 @@ mod Taking
 pub mod Finishing
 pub mod Lying
 pub mod Payloads
+pub mod Weights

@@ -5,7 +5,7 @@ use Rattle.pcap_io.specs.Limits.{most_frame}
 use Rattle.pcap_io.specs.Capture.{Packet}
 use Rattle.frags.specs.Account.{Account, both}
 use Rattle.frags.specs.declared.holder.Holder.{Holder}
-use Rattle.skb.specs.SkbState.{buffer_bytes, buffer_size, buffer_least, is_sole, of_buffer, IsAlone}
+use Rattle.skb.specs.SkbState.{buffer_bytes, buffer_size, buffer_least, is_sole, of_buffer, weighed_in, IsAlone}
 use Rattle.skb.specs.SkbState.{IsLent}
 use Rattle.skb.specs.Fronts.{IsFronted}
 use Rattle.gro.specs.declared.packet.Packet.{Packet as Held}
@@ -42,6 +42,11 @@ count_of s = length s.skb.rest + 1
 abbrev pub counts_of : List Slot → ℕ
 counts_of [] = 0
 counts_of (s ∷ ss) = count_of s + counts_of ss
+
+-- what the blocks of packets weigh together, each by its name
+abbrev pub weighed_slots : (ℕ → ℕ) → List Slot → ℕ
+weighed_slots h [] = 0
+weighed_slots h (s ∷ ss) = weighed_in h s.skb + weighed_slots h ss
 
 abbrev pub of_packet : Slot → Account
 of_packet s = of_buffer s.skb

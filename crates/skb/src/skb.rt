@@ -2,7 +2,7 @@
 ghost use Rattle.std.specs.Prelude.{◌≡◌, ℕ, ◌+◌, ◌-◌, ◌<◌, ◌≤◌, ◌^◌, ◌*◌, length, MatchOption, slice_index_or};
 ghost use Rattle.std.specs.Prelude.{slice_range, false, true};
 ghost use Rattle.std.specs.Borrow.{sem};
-ghost use Rattle.frags.specs.Account.{Keeps, both, of_sole, of_outcomes};
+ghost use Rattle.frags.specs.Account.{Keeps, KeepsBlocks, both, of_sole, of_outcomes};
 ghost use Rattle.frags.specs.Growth.{Grows};
 ghost use Rattle.frags.specs.PieceList.{AllFit, size_of, of_pieces, piece_bytes};
 ghost use Rattle.frags.specs.declared.holder.Holder.{Holder};
@@ -231,6 +231,7 @@ impl Skb {
         ensures returned { (mid : OutcomesState) × ReturnsHolder self.head out.old mid
             × ReturnsPieces self.rest mid out.new }
         ensures kept { Keeps (both (of_buffer self) (of_outcomes out.old)) (of_outcomes out.new) }
+        ensures blocks { KeepsBlocks (both (of_buffer self) (of_outcomes out.old)) (of_outcomes out.new) }
         ensures grows { Grows (length self.rest + 1) out.old out.new }
         ensures places { out.old.spare ≤ out.new.spare + (length self.rest + 1) }
     {

@@ -1,7 +1,7 @@
 -- What clones hold goes over to outcomes, the last clone first.
 use Rattle.std.proofs.Common.{◌≡◌, ℕ, ◌+◌, List, [], ◌∷◌, ◌++◌, Bool, ap, ◌∙◌, arith}
 use Rattle.frags.specs.OutcomesState.{OutcomesState}
-use Rattle.frags.specs.Account.{Account, Tests, Keeps, both, of_outcomes}
+use Rattle.frags.specs.Account.{Account, Tests, Keeps, KeepsBlocks, every, both, of_outcomes}
 use Rattle.skb.specs.SkbState.{of_buffer}
 use Rattle.taps.specs.declared.clones.TapClone.{TapClone}
 use Rattle.taps.specs.Clones.{blocks_of, of_clones}
@@ -31,3 +31,13 @@ keeps_pop s c cs ds o q e h k t m =
     let f = h t m in
     let g = k t m in
     (omega arith, omega arith)
+
+pub blocks_pop : (s : Account) (c : TapClone) (cs ds : List TapClone) (o q : OutcomesState)
+    → cs ≡ ds ++ c ∷ []
+    → KeepsBlocks s (both (of_clones cs) (of_outcomes o))
+    → KeepsBlocks (both (of_buffer c.skb) (of_outcomes o)) (of_outcomes q)
+    → KeepsBlocks s (both (of_clones ds) (of_outcomes q))
+blocks_pop s c cs ds o q e h k bs m =
+    let d = ap (λ z. (of_clones z).held (every bs) m) e ∙ held-append (every bs) m ds (c ∷ []) in
+    let i = ap (λ z. (of_clones z).homes bs m) e ∙ homes-append bs m ds (c ∷ []) in
+    omega (arith, h bs m, k bs m, d, i)

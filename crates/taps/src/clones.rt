@@ -1,6 +1,6 @@
 //! The packets that a tap reads, as clones of the workers' buffers.
 ghost use Rattle.std.specs.Prelude.{◌≡◌, ◌+◌, ◌≤◌, [], length, option_map, slice_range, take};
-ghost use Rattle.frags.specs.Account.{Keeps, both, of_outcomes};
+ghost use Rattle.frags.specs.Account.{Keeps, KeepsBlocks, both, of_outcomes};
 ghost use Rattle.frags.specs.Growth.{Grows};
 ghost use Rattle.offload_model.specs.Written.{shown_bytes, window_of};
 ghost use Rattle.skb.specs.SkbState.{buffer_bytes, buffer_size, of_buffer};
@@ -57,6 +57,7 @@ impl TapClone {
     pub fn release(self, out: &mut Outcomes)
         requires room { length self.skb.rest + 1 ≤ out.old.spare }
         ensures kept { Keeps (both (of_buffer self.skb) (of_outcomes out.old)) (of_outcomes out.new) }
+        ensures blocks { KeepsBlocks (both (of_buffer self.skb) (of_outcomes out.old)) (of_outcomes out.new) }
         ensures grows { Grows (length self.skb.rest + 1) out.old out.new }
         ensures places { out.old.spare ≤ out.new.spare + (length self.skb.rest + 1) }
     {
@@ -75,6 +76,7 @@ impl TapClone {
 pub(crate) fn release_all(clones: &mut Vec<TapClone>, out: &mut Outcomes)
     requires room { blocks_of clones.old.items ≤ out.old.spare }
     ensures kept { Keeps (both (of_clones clones.old.items) (of_outcomes out.old)) (of_outcomes out.new) }
+    ensures blocks { KeepsBlocks (both (of_clones clones.old.items) (of_outcomes out.old)) (of_outcomes out.new) }
     ensures grows { Grows (blocks_of clones.old.items) out.old out.new }
     ensures places { out.old.spare ≤ out.new.spare + blocks_of clones.old.items }
     ensures none { clones.new.items ≡ [] }

@@ -1,6 +1,6 @@
 //! A tap's work in one round.
 ghost use Rattle.std.specs.Prelude.{◌≡◌, ◌<◌, ◌≤◌, ◌+◌, [], map, IfOk, option_map, true, false};
-ghost use Rattle.frags.specs.Account.{Keeps, both, of_outcomes};
+ghost use Rattle.frags.specs.Account.{Keeps, KeepsBlocks, both, of_outcomes};
 ghost use Rattle.frags.specs.Growth.{Grows};
 ghost use Rattle.offload_model.specs.Written.{windows_of};
 ghost use Rattle.taps.specs.Clones.{shown_packet, blocks_of, of_clones};
@@ -57,6 +57,8 @@ impl<'a> TapTask<'a> {
             (map (shown_packet (option_map (λ p. p.now) self.entry.filter)) self.entry.clones.items)) }
         ensures kept { Keeps (both (of_clones self.entry.clones.items) (of_outcomes self.entry.outcomes))
             (of_outcomes result.outcomes) }
+        ensures blocks { KeepsBlocks (both (of_clones self.entry.clones.items) (of_outcomes self.entry.outcomes))
+            (of_outcomes result.outcomes) }
         ensures grows { Grows (blocks_of self.entry.clones.items) self.entry.outcomes result.outcomes }
         ensures places { self.entry.outcomes.spare ≤ result.outcomes.spare + blocks_of self.entry.clones.items }
     {
@@ -90,6 +92,8 @@ pub fn read_clones<G: Gate>(
     ensures windows { IfOk result (λ texts. map (record_of_text tap) texts ≡ windows_of snap tap
         (map (shown_packet (option_map (λ p. p.now) filter.entry)) clones.old.items)) }
     ensures kept { Keeps (both (of_clones clones.old.items) (of_outcomes outcomes.old)) (of_outcomes outcomes.new) }
+    ensures blocks { KeepsBlocks (both (of_clones clones.old.items) (of_outcomes outcomes.old))
+        (of_outcomes outcomes.new) }
     ensures grows { Grows (blocks_of clones.old.items) outcomes.old outcomes.new }
     ensures places { outcomes.old.spare ≤ outcomes.new.spare + blocks_of clones.old.items }
     ensures none { clones.new.items ≡ [] }

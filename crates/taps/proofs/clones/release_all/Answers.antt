@@ -2,7 +2,7 @@ use Rattle.std.proofs.Common.{◌+◌, ◌-◌, [], ◌∷◌, length, arith, ap
 use Rattle.frags.specs.Account.{both, of_outcomes}
 use Rattle.frags.proofs.Growing.{grows_trans, grows_by}
 use Rattle.taps.specs.Clones.{blocks_of, of_clones}
-use Rattle.taps.proofs.Returning.{blocks_of-append, keeps_pop}
+use Rattle.taps.proofs.Returning.{blocks_of-append, keeps_pop, blocks_pop}
 use Rattle.taps.proofs.clones.release_all.Goals as goal
 
 pub release-requires : goal.release-requires
@@ -29,4 +29,7 @@ loop-clone-preserved c =
       kept =
           keeps_pop (both (of_clones c.args.clones.now.items) (of_outcomes c.args.out.now)) c.in-Some.clone c.loop-clone.clones.items c.pop.new.self.items
           c.loop-clone.out c.release.new.out e i.kept c.release.ensures.kept;
+      blocks =
+          blocks_pop (both (of_clones c.args.clones.now.items) (of_outcomes c.args.out.now)) c.in-Some.clone c.loop-clone.clones.items c.pop.new.self.items
+          c.loop-clone.out c.release.new.out e i.blocks c.release.ensures.blocks;
     }

@@ -4,7 +4,7 @@ use Rattle.frags.specs.PieceList.{of_pieces}
 use Rattle.frags.specs.Returns.{ReturnsPieces}
 use Rattle.frags.specs.declared.pieces.Piece.{Piece}
 use Rattle.frags.proofs.Growing.{grows_trans, grows_by}
-use Rattle.frags.proofs.Accounts.{keeps_pop}
+use Rattle.frags.proofs.Accounts.{keeps_pop, blocks_pop}
 use Rattle.frags.proofs.pieces.Pieces.release.Goals as goal
 
 pub loop-piece-preserved : goal.loop-piece-preserved
@@ -22,6 +22,9 @@ loop-piece-preserved c =
       kept = keeps_pop (both (of_pieces c.args.self) (of_outcomes c.args.out.now)) c.in-Some.piece
           c.loop-piece.items.items c.pop_front.new.self.items c.loop-piece.out c.give_back.new.out e i.kept
           c.give_back.ensures.kept;
+      blocks = blocks_pop (both (of_pieces c.args.self) (of_outcomes c.args.out.now)) c.in-Some.piece
+          c.loop-piece.items.items c.pop_front.new.self.items c.loop-piece.out c.give_back.new.out e i.blocks
+          c.give_back.ensures.blocks;
       rest = λ z after. i.rest z (subst (λ (ps : List Piece). ReturnsPieces ps c.loop-piece.out z) (sym e)
           (c.give_back.new.out, c.give_back.ensures.gave, after));
     }

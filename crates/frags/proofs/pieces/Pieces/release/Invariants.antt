@@ -1,5 +1,5 @@
 use Rattle.std.proofs.Common.{◌+◌, ◌-◌, ◌≤◌, length}
-use Rattle.frags.specs.Account.{Keeps, both, of_outcomes}
+use Rattle.frags.specs.Account.{Keeps, KeepsBlocks, both, of_outcomes}
 use Rattle.frags.specs.Growth.{Grows}
 use Rattle.frags.specs.PieceList.{of_pieces}
 use Rattle.frags.specs.OutcomesState.{OutcomesState}
@@ -12,6 +12,8 @@ invariant-loop-piece l = record {
   grows : Grows (length l.fn.self - length l.items.items) l.fn.out l.out;
   places : l.fn.out.spare + length l.items.items ≤ l.out.spare + length l.fn.self;
   kept : Keeps (both (of_pieces l.fn.self) (of_outcomes l.fn.out)) (both (of_pieces l.items.items) (of_outcomes l.out));
+  blocks : KeepsBlocks (both (of_pieces l.fn.self) (of_outcomes l.fn.out))
+      (both (of_pieces l.items.items) (of_outcomes l.out));
   rest : (z : OutcomesState) → ReturnsPieces l.items.items l.out z → ReturnsPieces l.fn.self l.fn.out z;
 }
 
