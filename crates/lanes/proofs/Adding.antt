@@ -4,14 +4,15 @@ use Rattle.std.specs.List.{AllByRecursion}
 use Rattle.std.specs.Prelude.{Result}
 use Rattle.std.proofs.lemmas.List.{length-set}
 use Rattle.ref_core.specs.WeightRule.{full_weight}
-use Rattle.frags.specs.Account.{Account, Tests, Keeps, both, receipts_held, soles_home}
+use Rattle.frags.specs.Account.{Account, Tests, Keeps, KeepsBlocks, both, every, receipts_held, soles_home}
 use Rattle.frags.specs.OutcomesState.{IsBare}
 use Rattle.frags.specs.declared.pieces.ShareFault.{ShareFault}
-use Rattle.skb.specs.SkbState.{SkbState, buffer_least, is_sole, of_buffer}
+use Rattle.skb.specs.SkbState.{SkbState, buffer_least, is_sole, of_buffer, weighed_in}
 use Rattle.gro.specs.declared.slot.Slot.{Slot as Held}
 use Rattle.gro.specs.Held.{of_nothing}
 use Rattle.gro.specs.Slots.{packet_of, IsHeld, of_packet, of_packets, count_of, counts_of, AreHeld, AreShared, WeighAtLeast}
 use Rattle.gro.specs.Packets.{ClonedAt, with_skb}
+use Rattle.gro.proofs.Weights.{weighed_set}
 use Rattle.taps.specs.declared.clones.TapClone.{TapClone}
 use Rattle.taps.specs.Clones.{of_clones}
 use Rattle.lanes.specs.declared.lane.TapLane.{TapLane}
@@ -26,16 +27,16 @@ weigh_less v w [] le h = tt
 weigh_less v w (p ∷ ps) le h = (omega (arith, le, h.0), weigh_less v w ps le h.1)
 
 pub after_none : (k : ℕ) (ps : List Held) → AreHeld ps → AreShared ps → WeighAtLeast (weight_after k) ps → AreAfter k ps ps
-after_none k ps held shared weigh = record { same = refl; counts = refl; held = held; shared = shared; weigh = weigh }
+after_none k ps held shared weigh = record { same = refl; counts = refl; named = λ w. refl; held = held; shared = shared; weigh = weigh }
 
 pub after_both : (j k : ℕ) (ps qs rs : List Held) → AreAfter j ps qs → AreAfter k qs rs → AreAfter k ps rs
-after_both j k ps qs rs a b = record { same = b.same ∙ a.same; counts = b.counts ∙ a.counts; held = b.held; shared = b.shared; weigh = b.weigh }
+after_both j k ps qs rs a b = record { same = b.same ∙ a.same; counts = b.counts ∙ a.counts; named = λ w. b.named w ∙ a.named w; held = b.held; shared = b.shared; weigh = b.weigh }
 
 pub after_later : (j k : ℕ) (ps qs : List Held) → j ≤ k → AreAfter j ps qs → AreAfter k ps qs
-after_later j k ps qs le a = record { same = a.same; counts = a.counts; held = a.held; shared = a.shared; weigh = weigh_less (weight_after k) (weight_after j) qs (omega (arith, le)) a.weigh }
+after_later j k ps qs le a = record { same = a.same; counts = a.counts; named = a.named; held = a.held; shared = a.shared; weigh = weigh_less (weight_after k) (weight_after j) qs (omega (arith, le)) a.weigh }
 
 pub same_after : (k : ℕ) (ps qs : List Held) → AreAfter k ps qs → AreSame ps qs
-same_after k ps qs a = record { same = a.same; counts = a.counts; held = a.held }
+same_after k ps qs a = record { same = a.same; counts = a.counts; named = a.named; held = a.held }
 
 -- the same before any clone of a tap, of packets of which one clone may have been taken
 pub after_kept : (k : ℕ) (ps : List Held) → AreHeld ps → AreShared ps → WeighAtLeast full_weight ps → AreAfter k ps ps
@@ -58,9 +59,20 @@ tap_keeps i a p q ls d m lt idle h g t j =
     let s = tap_set i ls d m lt idle t j in
     (omega (arith, x.0, y.0, s.0), omega (arith, x.1, y.1, s.1))
 
+pub tap_blocks : (i : ℕ) (a p q : Account) (ls : List TapLane) (d m : TapLane) → i < length ls → IsIdleTap (get_or ls i d) → KeepsBlocks a (both p (of_taps ls)) → KeepsBlocks p (both q (of_tap m))
+    → KeepsBlocks a (both q (of_taps (set ls i m)))
+tap_blocks i a p q ls d m lt idle h g bs j =
+    let x = h bs j in
+    let y = g bs j in
+    let s = tap_set i ls d m lt idle (every bs) j in
+    omega (arith, x, y, s.0, s.1)
+
 -- a tap that got no clone
 pub none_keeps : (p : Account) (m : TapLane) → IsIdleTap m → Keeps p (both p (of_tap m))
 none_keeps p m idle t j = let z = idle_tap m idle t j in (omega (arith, z.0), omega (arith, z.1))
+
+pub none_blocks : (p : Account) (m : TapLane) → IsIdleTap m → KeepsBlocks p (both p (of_tap m))
+none_blocks p m idle bs j = let z = idle_tap m idle (every bs) j in omega (arith, z.0, z.1)
 
 -- one that got clones, with outcomes that hold nothing
 pub clones_keep : (p q : Account) (m : TapLane) → IsBare m.outcomes → Keeps p (both q (of_clones m.clones.items)) → Keeps p (both q (of_tap m))
@@ -69,6 +81,13 @@ clones_keep p q m bare h t j =
     let r = ap (receipts_held t j) bare.1 in
     let s = ap (soles_home t.blocks j) bare.0 in
     (omega (arith, x.0, r), omega (arith, x.1, s, r))
+
+pub clones_blocks : (p q : Account) (m : TapLane) → IsBare m.outcomes → KeepsBlocks p (both q (of_clones m.clones.items)) → KeepsBlocks p (both q (of_tap m))
+clones_blocks p q m bare h bs j =
+    let x = h bs j in
+    let r = ap (receipts_held (every bs) j) bare.1 in
+    let s = ap (soles_home bs j) bare.0 in
+    omega (arith, x, r, s)
 
 -- ---- a tap that is given up
 
@@ -79,6 +98,14 @@ set_keeps (suc i) (l ∷ ls) d m lt h t j = let a = set_keeps i ls d m (omega (a
 
 pub keeps_both : (a b c : Account) → Keeps a b → Keeps b c → Keeps a c
 keeps_both a b c h g t m = let x = h t m in let y = g t m in (omega (arith, x.0, y.0), omega (arith, x.1, y.1))
+
+pub set_blocks : (i : ℕ) (ls : List TapLane) (d m : TapLane) → i < length ls → KeepsBlocks (of_tap (get_or ls i d)) (of_tap m) → KeepsBlocks (of_taps ls) (of_taps (set ls i m))
+set_blocks i [] d m lt h bs j = absurd (omega (arith, lt))
+set_blocks zero (l ∷ ls) d m lt h bs j = let a = h bs j in omega (arith, a)
+set_blocks (suc i) (l ∷ ls) d m lt h bs j = let a = set_blocks i ls d m (omega (arith, lt)) h bs j in omega (arith, a)
+
+pub blocks_both : (a b c : Account) → KeepsBlocks a b → KeepsBlocks b c → KeepsBlocks a c
+blocks_both a b c h g bs m = let x = h bs m in let y = g bs m in omega (arith, x, y)
 
 -- ---- packets that are cloned, one after another
 
@@ -127,10 +154,17 @@ set_packets i [] d q x lt h t m = absurd (omega (arith, lt))
 set_packets zero (p ∷ ps) d q x lt h t m = let a = h t m in (omega (arith, a.0), omega (arith, a.1))
 set_packets (suc i) (p ∷ ps) d q x lt h t m = let a = set_packets i ps d q x (omega (arith, lt)) h t m in (omega (arith, a.0), omega (arith, a.1))
 
+pub set_packet_blocks : (i : ℕ) (ps : List Held) (d q : Held) (x : Account) → i < length ps → KeepsBlocks (of_packet (get_or ps i d)) (both (of_packet q) x)
+    → KeepsBlocks (of_packets ps) (both (of_packets (set ps i q)) x)
+set_packet_blocks i [] d q x lt h bs m = absurd (omega (arith, lt))
+set_packet_blocks zero (p ∷ ps) d q x lt h bs m = let a = h bs m in omega (arith, a)
+set_packet_blocks (suc i) (p ∷ ps) d q x lt h bs m = let a = set_packet_blocks i ps d q x (omega (arith, lt)) h bs m in omega (arith, a)
+
 pub after_set : (k i : ℕ) (old ps : List Held) (x q : Held) → i < length ps → x ≡ get_or ps i x → IsAfter k x q → AreAfter k old ps → AreAfter k old (set ps i q)
 after_set k i old ps x q lt e a h = record {
   same = set_same i ps x q lt (a.same ∙ ap packet_of e) ∙ h.same;
   counts = set_counts i ps x q lt (a.count ∙ ap count_of e) ∙ h.counts;
+  named = λ w. weighed_set w i ps x q lt (a.named w ∙ ap (λ (z : Held). weighed_in w z.skb) e) ∙ h.named w;
   held = all_set IsHeld i ps q h.held (a.held (subst IsHeld (sym e) (all_at IsHeld i ps x lt h.held)));
   shared = all_set (λ (p : Held). is_sole p.skb.head ≡ false) i ps q h.shared a.shared;
   weigh = all_set (λ (p : Held). weight_after k ≤ buffer_least p.skb) i ps q h.weigh a.weighs;
@@ -143,6 +177,13 @@ stop_keeps i a ps x q cs lt e k h t m =
     let s = set_packets i ps x q of_nothing lt (subst (λ (z : Held). Keeps (of_packet z) (both (of_packet q) of_nothing)) e (λ u j. let y = k u j in (omega (arith, y.0), omega (arith, y.1)))) t m in
     let z = h t m in
     (omega (arith, s.0, z.0), omega (arith, s.0, s.1, z.0, z.1))
+
+pub stop_blocks : (i : ℕ) (a : Account) (ps : List Held) (x q : Held) (cs : List TapClone) → i < length ps → x ≡ get_or ps i x → KeepsBlocks (of_packet x) (of_packet q)
+    → KeepsBlocks a (both (of_packets ps) (of_clones cs)) → KeepsBlocks a (both (of_packets (set ps i q)) (of_clones cs))
+stop_blocks i a ps x q cs lt e k h bs m =
+    let s = set_packet_blocks i ps x q of_nothing lt (subst (λ (z : Held). KeepsBlocks (of_packet z) (both (of_packet q) of_nothing)) e (λ cs j. let y = k cs j in omega (arith, y))) bs m in
+    let z = h bs m in
+    omega (arith, s, z)
 
 clones_held : (t : Tests) (m : ℕ) (cs : List TapClone) (c : TapClone) → (of_clones (cs ++ c ∷ [])).held t m ≡ (of_clones cs).held t m + (of_buffer c.skb).held t m
 clones_held t m [] c = omega arith
@@ -162,6 +203,16 @@ turn_keeps i a ps x q cs ds c lt e f k h t m =
     let u = ap (λ w. (of_clones w).held t m) f ∙ clones_held t m cs c in
     let v = ap (λ w. (of_clones w).homes t.blocks m) f ∙ clones_home t.blocks m cs c in
     (omega (arith, s.0, z.0, u), omega (arith, s.0, s.1, z.0, z.1, u, v))
+
+pub turn_blocks : (i : ℕ) (a : Account) (ps : List Held) (x q : Held) (cs ds : List TapClone) (c : TapClone) → i < length ps → x ≡ get_or ps i x → ds ≡ cs ++ c ∷ []
+    → KeepsBlocks (of_packet x) (both (of_packet q) (of_buffer c.skb))
+    → KeepsBlocks a (both (of_packets ps) (of_clones cs)) → KeepsBlocks a (both (of_packets (set ps i q)) (of_clones ds))
+turn_blocks i a ps x q cs ds c lt e f k h bs m =
+    let s = set_packet_blocks i ps x q (of_buffer c.skb) lt (subst (λ (z : Held). KeepsBlocks (of_packet z) (both (of_packet q) (of_buffer c.skb))) e k) bs m in
+    let z = h bs m in
+    let u = ap (λ w. (of_clones w).held (every bs) m) f ∙ clones_held (every bs) m cs c in
+    let v = ap (λ w. (of_clones w).homes bs m) f ∙ clones_home bs m cs c in
+    omega (arith, s, z, u, v)
 
 -- the packets from place i on: this one, and those that no clone was taken of
 pub here : (i n : ℕ) (ps : List Held) (x q : Held) → n ≡ suc i → i < length ps → x ≡ get_or ps i x → drop i ps ≡ x ∷ drop n (set ps i q)

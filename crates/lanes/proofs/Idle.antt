@@ -2,12 +2,12 @@
 use Rattle.std.proofs.Common.{◌≡◌, ℕ, zero, suc, List, [], ◌∷◌, refl, ap, arith}
 use Rattle.std.specs.Prelude.{All}
 use Rattle.frags.specs.Account.{Tests, receipts_held, soles_home}
-use Rattle.gro.specs.Slots.{of_packets, counts_of}
+use Rattle.gro.specs.Slots.{of_packets, counts_of, weighed_slots}
 use Rattle.taps.specs.Clones.{blocks_of, of_clones}
 use Rattle.lanes.specs.declared.lane.QueueLane.{QueueLane}
 use Rattle.lanes.specs.declared.lane.TapLane.{TapLane}
 use Rattle.lanes.specs.declared.lane.Lanes.{Lanes}
-use Rattle.lanes.specs.Lanes.{of_queue, of_queues, of_tap, of_taps, of_lanes, counts_of_queues, AreIdle, IsIdleQueue, IsIdleTap, IsTapReady}
+use Rattle.lanes.specs.Lanes.{of_queue, of_queues, of_tap, of_taps, of_lanes, counts_of_queues, weighed_queues, AreIdle, IsIdleQueue, IsIdleTap, IsTapReady}
 
 pub idle_queue : (l : QueueLane) → IsIdleQueue l → (t : Tests) (m : ℕ) → ((of_queue l).held t m ≡ 0) × ((of_queue l).homes t.blocks m ≡ 0)
 idle_queue l s t m =
@@ -50,6 +50,13 @@ idle_counts [] h = refl
 idle_counts (l ∷ ls) h =
     let s = h zero l (omega arith) in
     omega (arith, ap counts_of s.packets, idle_counts ls (λ j d lt. h (suc j) d (omega (arith, lt))))
+
+-- what they weigh
+pub idle_weighed : (w : ℕ → ℕ) (ls : List QueueLane) → All IsIdleQueue ls → weighed_queues w ls ≡ 0
+idle_weighed w [] h = refl
+idle_weighed w (l ∷ ls) h =
+    let s = h zero l (omega arith) in
+    omega (arith, ap (weighed_slots w) s.packets, idle_weighed w ls (λ j d lt. h (suc j) d (omega (arith, lt))))
 
 pub idle_ready : (ls : List TapLane) → All IsIdleTap ls → All IsTapReady ls
 idle_ready ls h i d lt = omega (arith, ap blocks_of (h i d lt).clones)

@@ -9,11 +9,12 @@ use Rattle.pcap_io.specs.Capture.{Packet}
 use Rattle.frame_layout.specs.Key.{key_of}
 use Rattle.offload_model.specs.Rounds.{Spread, is_queued}
 use Rattle.frags.specs.Account.{Tests, both}
-use Rattle.skb.specs.SkbState.{buffer_bytes, IsAlone}
+use Rattle.skb.specs.SkbState.{buffer_bytes, weighed_in, IsAlone}
 use Rattle.gro.specs.declared.slot.Slot.{Slot as Held}
-use Rattle.gro.specs.Slots.{packet_of, of_packet, of_packets, count_of, counts_of, AreAlone}
+use Rattle.gro.specs.Slots.{packet_of, of_packet, of_packets, count_of, counts_of, weighed_slots, AreAlone}
+use Rattle.gro.proofs.Weights.{weighed_append}
 use Rattle.lanes.specs.declared.lane.QueueLane.{QueueLane}
-use Rattle.lanes.specs.Lanes.{of_queue, of_queues, counts_of_queues, IsIdleQueue}
+use Rattle.lanes.specs.Lanes.{of_queue, of_queues, counts_of_queues, weighed_queues, IsIdleQueue}
 use Rattle.lanes.specs.Packets.{RiseFrom}
 use Rattle.lanes.specs.Sharing.{EachFrom, EachStays, in_queue, IsSharing, IsSum, TakesAll, TakesIn, StaysAs}
 use Rattle.lanes.proofs.Listing.{DidUpTo, all_from, each_did}
@@ -104,6 +105,12 @@ turn_counts i [] d m p lt h = absurd (omega (arith, lt))
 turn_counts zero (l ∷ ls) d m p lt h = omega (arith, ap counts_of h.packets, counts_append l.packets.items (p ∷ []))
 turn_counts (suc i) (l ∷ ls) d m p lt h = omega (arith, turn_counts i ls d m p (omega (arith, lt)) h)
 
+pub turn_weighed : (w : ℕ → ℕ) (i : ℕ) (ls : List QueueLane) (d m : QueueLane) (p : Held) → i < length ls → TakesIn (get_or ls i d) p m
+    → weighed_queues w (set ls i m) ≡ weighed_queues w ls + weighed_in w p.skb
+turn_weighed w i [] d m p lt h = absurd (omega (arith, lt))
+turn_weighed w zero (l ∷ ls) d m p lt h = omega (arith, ap (weighed_slots w) h.packets, weighed_append w l.packets.items (p ∷ []))
+turn_weighed w (suc i) (l ∷ ls) d m p lt h = omega (arith, turn_weighed w i ls d m p (omega (arith, lt)) h)
+
 pub stop_account : (i : ℕ) (ls : List QueueLane) (d m : QueueLane) → i < length ls → StaysAs (get_or ls i d) m → (t : Tests) (j : ℕ)
     → ((of_queues (set ls i m)).held t j ≡ (of_queues ls).held t j) × ((of_queues (set ls i m)).homes t.blocks j ≡ (of_queues ls).homes t.blocks j)
 stop_account i [] d m lt h t j = absurd (omega (arith, lt))
@@ -117,6 +124,11 @@ pub stop_counts : (i : ℕ) (ls : List QueueLane) (d m : QueueLane) → i < leng
 stop_counts i [] d m lt h = absurd (omega (arith, lt))
 stop_counts zero (l ∷ ls) d m lt h = omega (arith, ap counts_of h.packets)
 stop_counts (suc i) (l ∷ ls) d m lt h = omega (arith, stop_counts i ls d m (omega (arith, lt)) h)
+
+pub stop_weighed : (w : ℕ → ℕ) (i : ℕ) (ls : List QueueLane) (d m : QueueLane) → i < length ls → StaysAs (get_or ls i d) m → weighed_queues w (set ls i m) ≡ weighed_queues w ls
+stop_weighed w i [] d m lt h = absurd (omega (arith, lt))
+stop_weighed w zero (l ∷ ls) d m lt h = omega (arith, ap (weighed_slots w) h.packets)
+stop_weighed w (suc i) (l ∷ ls) d m lt h = omega (arith, stop_weighed w i ls d m (omega (arith, lt)) h)
 
 -- ---- lanes before the first packet
 
@@ -141,6 +153,13 @@ empty_counts n every k (l ∷ ls) h =
     let s = h.0 in
     let e = none_yet l.packets.items (in_queue n k every) s.packets in
     omega (arith, empty_counts n every (suc k) ls h.1, ap counts_of e)
+
+pub empty_weighed : (w : ℕ → ℕ) (n : Spread) (every : List Held) (k : ℕ) (ls : List QueueLane) → EachFrom (IsSharing n every every) k ls → weighed_queues w ls ≡ 0
+empty_weighed w n every k [] h = refl
+empty_weighed w n every k (l ∷ ls) h =
+    let s = h.0 in
+    let e = none_yet l.packets.items (in_queue n k every) s.packets in
+    omega (arith, empty_weighed w n every (suc k) ls h.1, ap (weighed_slots w) e)
 
 -- ---- a queue's packets among all
 
@@ -215,6 +234,11 @@ alone_has ps [] d m one t = absurd (omega (arith, one))
 alone_has ps (l ∷ []) d m one t = omega (arith, ap counts_of t.packets)
 alone_has ps (l ∷ k ∷ ls) d m one t = absurd (omega (arith, one))
 
+pub alone_weighs : (w : ℕ → ℕ) (ps : List Held) (ls : List QueueLane) (d m : QueueLane) → length ls ≡ 1 → TakesAll (get_or ls 0 d) ps m → weighed_slots w ps ≡ weighed_queues w (set ls 0 m)
+alone_weighs w ps [] d m one t = absurd (omega (arith, one))
+alone_weighs w ps (l ∷ []) d m one t = omega (arith, ap (weighed_slots w) t.packets)
+alone_weighs w ps (l ∷ k ∷ ls) d m one t = absurd (omega (arith, one))
+
 -- it had none
 pub alone_had : (ls : List QueueLane) (d : QueueLane) → length ls ≡ 1 → All IsIdleQueue ls → (get_or ls 0 d).packets.items ≡ []
 alone_had ls d one idle = (idle 0 d (omega (arith, one))).packets
@@ -251,6 +275,13 @@ same_counts [] (m ∷ ms) e s = absurd (omega (arith, e))
 same_counts (l ∷ ls) [] e s = absurd (omega (arith, e))
 same_counts (l ∷ ls) (m ∷ ms) e s =
     omega (arith, ap counts_of (s zero l (omega arith)).packets, same_counts ls ms (omega (arith, e)) (λ i d lt. s (suc i) d (omega (arith, lt))))
+
+pub same_weighed : (w : ℕ → ℕ) (ls ms : List QueueLane) → length ms ≡ length ls → EachStays ls ms → weighed_queues w ms ≡ weighed_queues w ls
+same_weighed w [] [] e s = refl
+same_weighed w [] (m ∷ ms) e s = absurd (omega (arith, e))
+same_weighed w (l ∷ ls) [] e s = absurd (omega (arith, e))
+same_weighed w (l ∷ ls) (m ∷ ms) e s =
+    omega (arith, ap (weighed_slots w) (s zero l (omega arith)).packets, same_weighed w ls ms (omega (arith, e)) (λ i d lt. s (suc i) d (omega (arith, lt))))
 
 pub few_packets : (ps : List Held) → length ps ≤ counts_of ps
 few_packets [] = omega arith

@@ -12,10 +12,11 @@ use Rattle.frags.specs.declared.pieces.ShareFault.{ShareFault}
 use Rattle.frags.specs.declared.pieces.ShareFault.TheVariants.{Short, Worn, NoMemory}
 use Rattle.frags.specs.declared.holder.Holder.{Holder}
 use Rattle.frags.specs.declared.holder.Holder.TheVariants.{Sole, Part}
-use Rattle.skb.specs.SkbState.{SkbState, IsClone, buffer_bytes, buffer_least, buffer_size, head_least, head_worn, buffer_worn, is_sole, of_buffer}
+use Rattle.skb.specs.SkbState.{SkbState, IsClone, buffer_bytes, buffer_least, buffer_size, head_least, head_worn, buffer_worn, is_sole, of_buffer, weighed_in}
 use Rattle.gro.specs.declared.slot.Slot.{Slot as Held}
 use Rattle.gro.specs.Slots.{packet_of, of_packet}
 use Rattle.gro.specs.Packets.{Cloned, with_skb}
+use Rattle.gro.proofs.Weights.{clone_blocks}
 use Rattle.taps.specs.declared.clones.TapClone.{TapClone}
 use Rattle.taps.specs.Clones.{packet_of as packet_of_clone}
 use Rattle.lanes.specs.Clones.{weight_after, IsAfter, IsCloneOf, IsNoMemory}
@@ -87,10 +88,12 @@ remains k a b c few le h =
       weighs = omega (arith, x, y);
     })
 
-pub is_after : (k : ℕ) (p : Held) (b : SkbState) → Remains k p.skb b → buffer_bytes b ≡ buffer_bytes p.skb → IsAfter k p (record p { skb = b })
-is_after k p b r e = record {
+pub is_after : (k : ℕ) (p : Held) (b : SkbState) → Remains k p.skb b → buffer_bytes b ≡ buffer_bytes p.skb → ((w : ℕ → ℕ) → weighed_in w b ≡ weighed_in w p.skb)
+    → IsAfter k p (record p { skb = b })
+is_after k p b r e named = record {
   same = ap (λ z. record { number = p.number; sec = p.sec; frac = p.frac; original = p.original; frame = z }) e;
   count = omega (arith, r.count);
+  named = named;
   held = λ h. record {
     size = omega (arith, r.size, h.size, ap length e);
     front = omega (arith, r.size, r.range.0, r.range.1, h.front);
@@ -123,6 +126,7 @@ pub refused_after : (k : ℕ) (p : Held) (b : SkbState) (f : ShareFault) → is_
 refused_after k p b f shared le h = subst (λ z. IsAfter (k + 1) p (with_skb p z)) (sym (refused_same p.skb b f shared h)) (record {
   same = refl;
   count = refl;
+  named = λ w. refl;
   held = λ x. x;
   shared = shared;
   weighs = omega (arith, le);
@@ -149,6 +153,7 @@ is_clone_of p b c s shared h here same = record {
   same = same_packet (same.3 ∙ ap (λ z. z.number) here) (same.0 ∙ ap (λ z. z.sec) here) (same.1 ∙ ap (λ z. z.frac) here) (same.2 ∙ ap (λ z. z.original) here) h.bytes.1;
   few = omega (arith, h.count.1);
   kept = clone_keeps p b c.skb shared h;
+  blocks = clone_blocks p.skb b c.skb shared h;
 }
   where
     same_packet : c.number ≡ p.number → c.sec ≡ p.sec → c.frac ≡ p.frac → c.original ≡ p.original → buffer_bytes c.skb ≡ buffer_bytes p.skb → packet_of_clone c ≡ packet_of p

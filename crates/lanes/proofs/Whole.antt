@@ -4,26 +4,26 @@ use Rattle.std.specs.Prelude.{All, IsSome, Some, Ok, Err, OnOk, MatchResult}
 use Rattle.std.specs.declared.result.Result.{Result}
 use Rattle.std.specs.List.{filter, flat_map, range_with_len}
 use Rattle.pcap_io.specs.Capture.{Packet}
-use Rattle.frags.specs.Account.{Account, Keeps, both}
+use Rattle.frags.specs.Account.{Account, Keeps, KeepsBlocks, both, every}
 use Rattle.tap_filter.specs.declared.instr.Instr.{Instr}
 use Rattle.std.specs.Prelude.{Option}
 use Rattle.offload_model.specs.Merged.{merged_of}
 use Rattle.offload_model.specs.Rounds.{Spread, is_queued, items_of}
 use Rattle.offload_model.specs.Written.{record_of, shown_of, round_records, windows_of, Options}
 use Rattle.gro.specs.declared.slot.Slot.{Slot as Held}
-use Rattle.gro.specs.Slots.{packet_of, of_packets, counts_of, AreAlone}
+use Rattle.gro.specs.Slots.{packet_of, of_packets, counts_of, weighed_slots, AreAlone}
 use Rattle.taps.specs.Texts.{texts_of}
 use Rattle.lanes.specs.declared.lane.QueueLane.{QueueLane}
 use Rattle.lanes.specs.declared.lane.TapLane.{TapLane}
 use Rattle.lanes.specs.declared.lane.Lanes.{Lanes}
 use Rattle.lanes.specs.declared.plan.Plan.{Plan}
-use Rattle.lanes.specs.Lanes.{of_queues, of_taps, of_lanes, counts_of_queues, AreIdle, EachTapDid, IsFilled, IsIdleQueue, IsIdleTap, IsMerged}
+use Rattle.lanes.specs.Lanes.{of_queues, of_taps, of_lanes, counts_of_queues, weighed_queues, AreIdle, EachTapDid, IsFilled, IsIdleQueue, IsIdleTap, IsMerged}
 use Rattle.lanes.specs.Sharing.{EachFrom, IsSum}
 use Rattle.lanes.specs.Work.{spread_of, options_by, shown_by, AreFilled, AreUnshared, Did, IsDone, IsRefused, IsToWork, IsWorked, IsWatched, AreMerged, AreWatched, merged_in, lane_records, records_of_tap}
 use Rattle.lanes.proofs.Listing.{all_from, each_map, each_equal}
 use Rattle.lanes.proofs.Idle.{idle_lanes, idle_queues}
 use Rattle.lanes.proofs.Sharing.{idle_alone}
-use Rattle.lanes.proofs.Worked.{all_worked, all_watched, queues_alone, queues_count, queues_same, taps_kept, queue_records, tap_records}
+use Rattle.lanes.proofs.Worked.{all_worked, all_watched, queues_alone, queues_count, queues_same, queues_weighed, taps_blocks, taps_kept, queue_records, tap_records}
 
 -- ---- what is held while lanes are filled
 
@@ -41,6 +41,23 @@ fill_all p q r ls ts k s t m =
     let x = k t m in
     let z = s t m in
     (omega (arith, x.0, z.0), omega (arith, x.1, z.0, z.1))
+
+-- the same of blocks
+pub blocks_none : (p : Account) (l : Lanes) → AreIdle l → KeepsBlocks p (both p (of_lanes l))
+blocks_none p l idle bs m = let z = idle_lanes l idle (every bs) m in omega (arith, z.0, z.1)
+
+pub blocks_taps : (p q : Account) (ls : List QueueLane) (ts : List TapLane) → All IsIdleQueue ls → KeepsBlocks p (both q (of_taps ts)) → KeepsBlocks p (both q (both (of_queues ls) (of_taps ts)))
+blocks_taps p q ls ts idle k bs m =
+    let x = k bs m in
+    let z = idle_queues ls idle (every bs) m in
+    omega (arith, x, z.0, z.1)
+
+pub blocks_all : (p q r : Account) (ls : List QueueLane) (ts : List TapLane) → KeepsBlocks p (both q (of_taps ts)) → IsSum q r (of_queues ls)
+    → KeepsBlocks p (both r (both (of_queues ls) (of_taps ts)))
+blocks_all p q r ls ts k s bs m =
+    let x = k bs m in
+    let z = s (every bs) m in
+    omega (arith, x, z.0, z.1)
 
 -- ---- where no tap is
 
@@ -125,11 +142,23 @@ keeps_lanes p plan l m k d t i =
     let z = taps_kept plan.filter plan.snap l.taps.items m.taps.items d.sizes.1 d.taps t i in
     (omega (arith, x.0, y, z.0), omega (arith, x.1, w, z.1))
 
+blocks_lanes : (p : Account) (plan : Plan) (l m : Lanes) → KeepsBlocks p (of_lanes l) → Did plan l m → KeepsBlocks p (of_lanes m)
+blocks_lanes p plan l m k d bs i =
+    let x = k bs i in
+    let e = queues_same plan.segs l.queues.items m.queues.items d.sizes.0 d.queues in
+    let y = ap (λ z. z.held (every bs) i) e in
+    let w = ap (λ z. z.homes bs i) e in
+    let z = taps_blocks plan.filter plan.snap l.taps.items m.taps.items d.sizes.1 d.taps bs i in
+    omega (arith, x, y, w, z)
+
 no_clones : (filter : Option (List Instr)) (snap : ℕ) (ls ms : List TapLane) → length ms ≡ length ls → EachTapDid filter snap ls ms → All (λ (t : TapLane). t.clones.items ≡ []) ms
 no_clones filter snap ls ms e h i d lt = (h i d (omega (arith, e, lt))).none
 
 same_lanes : (plan : Plan) (old : List Held) (l m : Lanes) → AreFilled plan old l → Did plan l m → counts_of_queues m.queues.items ≡ counts_of old
 same_lanes plan old l m f d = let n = queues_count plan.segs l.queues.items m.queues.items d.sizes.0 d.queues in omega (arith, f.count, n)
+
+weighed_lanes : (plan : Plan) (old : List Held) (l m : Lanes) → AreFilled plan old l → Did plan l m → (w : ℕ → ℕ) → weighed_queues w m.queues.items ≡ weighed_slots w old
+weighed_lanes plan old l m f d w = queues_weighed w plan.segs l.queues.items m.queues.items d.sizes.0 d.queues ∙ f.named w
 
 pub is_done : (plan : Plan) (old : List Held) (l m : Lanes) → AreFilled plan old l → Did plan l m → All (λ (t : TapLane). IsSome t.texts) m.taps.items → IsDone plan old m
 is_done plan old l m f d read =
@@ -146,7 +175,9 @@ is_done plan old l m f d read =
       packets =
           each_map (IsWorked plan.segs (spread_of plan) ps) (λ q (l : QueueLane). map packet_of l.packets.items ≡ filter (is_queued (spread_of plan) q) ps) 0 m.queues.items (λ q l w. w.packets) qs;
       kept = keeps_lanes (of_packets old) plan l m f.kept d;
+      blocks = blocks_lanes (of_packets old) plan l m f.blocks d;
       count = same_lanes plan old l m f d;
+      named = weighed_lanes plan old l m f d;
       unshared = unshared_did plan old l m f d;
       clones = no_clones plan.filter plan.snap l.taps.items m.taps.items d.sizes.1 d.taps;
     }
@@ -154,7 +185,9 @@ is_done plan old l m f d read =
 pub is_refused : (plan : Plan) (old : List Held) (l m : Lanes) → AreFilled plan old l → Did plan l m → IsRefused plan old [] m
 is_refused plan old l m f d = record {
   kept = λ t i. let x = keeps_lanes (of_packets old) plan l m f.kept d t i in (omega (arith, x.0), omega (arith, x.1));
+  blocks = λ bs i. omega (arith, blocks_lanes (of_packets old) plan l m f.blocks d bs i);
   count = omega (arith, same_lanes plan old l m f d);
+  named = λ w. omega (arith, weighed_lanes plan old l m f d w);
   unshared = unshared_did plan old l m f d;
   clones = no_clones plan.filter plan.snap l.taps.items m.taps.items d.sizes.1 d.taps;
 }
@@ -169,6 +202,15 @@ kept_after (Ok u) plan old now l none is = λ t m.
     (omega (arith, k.0, h), omega (arith, k.1, h, g))
 kept_after (Err e) plan old now l none is = subst (λ (z : List Held). Keeps (of_packets old) (both (of_packets z) (of_lanes l))) (sym none) is.kept
 
+pub blocks_after : {E : Type 0} (r : Result (Unit {0}) E) (plan : Plan) (old now : List Held) (l : Lanes) → now ≡ [] → MatchResult r (λ _. IsDone plan old l) (λ _. IsRefused plan old [] l)
+    → KeepsBlocks (of_packets old) (both (of_packets now) (of_lanes l))
+blocks_after (Ok u) plan old now l none is = λ bs m.
+    let k = is.blocks bs m in
+    let h = ap (λ (z : List Held). (of_packets z).held (every bs) m) none in
+    let g = ap (λ (z : List Held). (of_packets z).homes bs m) none in
+    omega (arith, k, h, g)
+blocks_after (Err e) plan old now l none is = subst (λ (z : List Held). KeepsBlocks (of_packets old) (both (of_packets z) (of_lanes l))) (sym none) is.blocks
+
 pub unshared_after : {E : Type 0} (r : Result (Unit {0}) E) (plan : Plan) (old now : List Held) (l : Lanes) → now ≡ [] → MatchResult r (λ _. IsDone plan old l) (λ _. IsRefused plan old [] l)
     → AreUnshared plan old now l
 unshared_after (Ok u) plan old now l none is = subst (λ (z : List Held). AreUnshared plan old z l) (sym none) is.unshared
@@ -178,3 +220,8 @@ pub count_after : {E : Type 0} (r : Result (Unit {0}) E) (plan : Plan) (old now 
     → counts_of now + counts_of_queues l.queues.items ≡ counts_of old
 count_after (Ok u) plan old now l none is = omega (arith, ap counts_of none, is.count)
 count_after (Err e) plan old now l none is = omega (arith, ap counts_of none, is.count)
+
+pub named_after : {E : Type 0} (r : Result (Unit {0}) E) (plan : Plan) (old now : List Held) (l : Lanes) → now ≡ [] → MatchResult r (λ _. IsDone plan old l) (λ _. IsRefused plan old [] l)
+    → (w : ℕ → ℕ) → weighed_slots w now + weighed_queues w l.queues.items ≡ weighed_slots w old
+named_after (Ok u) plan old now l none is w = omega (arith, ap (weighed_slots w) none, is.named w)
+named_after (Err e) plan old now l none is w = omega (arith, ap (weighed_slots w) none, is.named w)

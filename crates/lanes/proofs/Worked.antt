@@ -3,7 +3,7 @@ use Rattle.std.proofs.Common.{◌≡◌, ℕ, zero, suc, ◌+◌, ◌<◌, ◌�
 use Rattle.std.specs.Prelude.{Option, None, Some, IsSome, IfSome, All}
 use Rattle.std.specs.List.{filter, flat_map, range_with_len}
 use Rattle.pcap_io.specs.Capture.{Packet}
-use Rattle.frags.specs.Account.{Keeps}
+use Rattle.frags.specs.Account.{Keeps, KeepsBlocks}
 use Rattle.tap_filter.specs.declared.instr.Instr.{Instr}
 use Rattle.offload_model.specs.Merged.{Merged, merged_of}
 use Rattle.offload_model.specs.Rounds.{Spread, is_queued, items_of, runs_in}
@@ -17,13 +17,13 @@ use Rattle.taps.specs.Texts.{texts_of, record_of_text}
 use Rattle.lanes.specs.declared.lane.QueueLane.{QueueLane}
 use Rattle.lanes.specs.declared.lane.TapLane.{TapLane}
 use Rattle.lanes.specs.Clones.{AreSame}
-use Rattle.lanes.specs.Lanes.{of_queues, of_taps, counts_of_queues, DidQueue, DidTap, EachQueueDid, EachTapDid}
+use Rattle.lanes.specs.Lanes.{of_queues, of_taps, counts_of_queues, weighed_queues, DidQueue, DidTap, EachQueueDid, EachTapDid}
 use Rattle.lanes.specs.Packets.{RiseFrom}
 use Rattle.lanes.specs.Sharing.{EachFrom, EachStays, HasMemory, IsSharing}
 use Rattle.lanes.specs.Taps.{HasClones}
 use Rattle.lanes.specs.Work.{IsToWork, IsWorked, IsWatched, merged_in, records_of_queue, records_of_texts, records_of_tap}
 use Rattle.lanes.proofs.Listing.{each_did, each_map}
-use Rattle.lanes.proofs.Sharing.{few_packets, filter_map, filter_each, filter_counts, filter_rises, same_counts, same_hold}
+use Rattle.lanes.proofs.Sharing.{few_packets, filter_map, filter_each, filter_counts, filter_rises, same_counts, same_hold, same_weighed}
 
 -- ---- each
 
@@ -118,6 +118,9 @@ queues_same segs ls ms e h = same_hold ls ms e (each_stays segs ls ms h)
 pub queues_count : (segs : ℕ) (ls ms : List QueueLane) → length ms ≡ length ls → EachQueueDid segs ls ms → counts_of_queues ms ≡ counts_of_queues ls
 queues_count segs ls ms e h = same_counts ls ms e (each_stays segs ls ms h)
 
+pub queues_weighed : (w : ℕ → ℕ) (segs : ℕ) (ls ms : List QueueLane) → length ms ≡ length ls → EachQueueDid segs ls ms → weighed_queues w ms ≡ weighed_queues w ls
+queues_weighed w segs ls ms e h = same_weighed w ls ms e (each_stays segs ls ms h)
+
 -- where nobody shared a block of theirs, nobody does
 pub queues_alone : (segs : ℕ) (ls ms : List QueueLane) → length ms ≡ length ls → EachQueueDid segs ls ms → All (λ (l : QueueLane). AreAlone l.packets.items) ls
     → All (λ (m : QueueLane). AreAlone m.packets.items) ms
@@ -133,6 +136,15 @@ taps_kept filter snap (l ∷ ls) (m ∷ ms) e h t i =
     let a = (h zero l (omega arith)).kept t i in
     let b = taps_kept filter snap ls ms (omega (arith, e)) (λ j d lt. h (suc j) d (omega (arith, lt))) t i in
     (omega (arith, a.0, b.0), omega (arith, a.1, b.1))
+
+pub taps_blocks : (filter : Option (List Instr)) (snap : ℕ) (ls ms : List TapLane) → length ms ≡ length ls → EachTapDid filter snap ls ms → KeepsBlocks (of_taps ls) (of_taps ms)
+taps_blocks filter snap [] [] e h bs i = omega arith
+taps_blocks filter snap [] (m ∷ ms) e h bs i = absurd (omega (arith, e))
+taps_blocks filter snap (l ∷ ls) [] e h bs i = absurd (omega (arith, e))
+taps_blocks filter snap (l ∷ ls) (m ∷ ms) e h bs i =
+    let a = (h zero l (omega arith)).blocks bs i in
+    let b = taps_blocks filter snap ls ms (omega (arith, e)) (λ j d lt. h (suc j) d (omega (arith, lt))) bs i in
+    omega (arith, a, b)
 
 -- ---- the records
 

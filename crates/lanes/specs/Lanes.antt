@@ -1,14 +1,14 @@
 -- The lanes of a round, and what they hold.
 use Rattle.std.specs.Prelude.{ℕ, ◌≡◌, ◌+◌, ◌<◌, ◌≤◌, ◌^◌, All, IfSome, Option, List, [], ◌∷◌, length, map}
 use Rattle.std.specs.Prelude.{slice_index_or}
-use Rattle.frags.specs.Account.{Account, Keeps, both, of_outcomes}
+use Rattle.frags.specs.Account.{Account, Keeps, KeepsBlocks, both, of_outcomes}
 use Rattle.frags.specs.OutcomesState.{IsBare}
 use Rattle.pcap_io.specs.Capture.{Packet}
 use Rattle.tap_filter.specs.declared.instr.Instr.{Instr}
 use Rattle.offload_model.specs.Rounds.{runs_in}
 use Rattle.gro.specs.Engine.{AreRuns, IsReady, runs_of}
 use Rattle.gro.specs.Held.{of_nothing}
-use Rattle.gro.specs.Slots.{packet_of, of_packets, counts_of, AreHeld}
+use Rattle.gro.specs.Slots.{packet_of, of_packets, counts_of, weighed_slots, AreHeld}
 use Rattle.taps.specs.Clones.{shown_packet, blocks_of, of_clones}
 use Rattle.offload_model.specs.Written.{windows_of}
 use Rattle.taps.specs.Texts.{texts_of, record_of_text}
@@ -43,6 +43,11 @@ count_of_queue l = counts_of l.packets.items
 abbrev pub counts_of_queues : List QueueLane → ℕ
 counts_of_queues [] = 0
 counts_of_queues (l ∷ ls) = count_of_queue l + counts_of_queues ls
+
+-- what the blocks of the packets of the queues weigh together, each by its name
+abbrev pub weighed_queues : (ℕ → ℕ) → List QueueLane → ℕ
+weighed_queues h [] = 0
+weighed_queues h (l ∷ ls) = weighed_slots h l.packets.items + weighed_queues h ls
 
 -- ---- between two rounds
 
@@ -93,6 +98,7 @@ IsTapReady l = blocks_of l.clones.items ≤ l.outcomes.spare
 pub record DidTap (filter : Option (List Instr)) (snap : ℕ) (old new : TapLane) : Type 0 where
   pub tap : new.tap ≡ old.tap
   pub kept : Keeps (of_tap old) (of_tap new)
+  pub blocks : KeepsBlocks (of_tap old) (of_tap new)
   pub none : new.clones.items ≡ []
   pub read : IfSome new.texts (λ texts. texts ≡ texts_of snap old.tap (map (shown_packet filter) old.clones.items))
   pub windows : IfSome new.texts (λ texts. map (record_of_text old.tap) texts

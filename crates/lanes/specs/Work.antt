@@ -2,20 +2,20 @@
 use Rattle.std.specs.Prelude.{ℕ, ◌≡◌, ◌+◌, ◌≤◌, Option, None, Some, All, List, [], ◌++◌, map, length}
 use Rattle.std.specs.List.{filter, flat_map, range_with_len}
 use Rattle.pcap_io.specs.Capture.{Packet}
-use Rattle.frags.specs.Account.{Keeps, both}
+use Rattle.frags.specs.Account.{Keeps, KeepsBlocks, both}
 use Rattle.offload_model.specs.Merged.{Merged, merged_of}
 use Rattle.offload_model.specs.Rounds.{Spread, is_queued, items_of}
 use Rattle.frame_layout.specs.Choice.{IsChoice, spread_by}
 use Rattle.offload_model.specs.Segments.{with_head}
 use Rattle.offload_model.specs.Written.{Options, head_of, shown_of, windows_of, round_records}
 use Rattle.gro.specs.declared.slot.Slot.{Slot as Held}
-use Rattle.gro.specs.Slots.{packet_of, of_packets, counts_of, AreAlone}
+use Rattle.gro.specs.Slots.{packet_of, of_packets, counts_of, weighed_slots, AreAlone}
 use Rattle.taps.specs.Texts.{texts_of, record_of_text}
 use Rattle.lanes.specs.declared.plan.Plan.{Plan}
 use Rattle.lanes.specs.declared.lane.QueueLane.{QueueLane}
 use Rattle.lanes.specs.declared.lane.TapLane.{TapLane}
 use Rattle.lanes.specs.declared.lane.Lanes.{Lanes}
-use Rattle.lanes.specs.Lanes.{of_lanes, counts_of_queues, runs_in_lane, IsFilled, IsIdleTap, IsMerged}
+use Rattle.lanes.specs.Lanes.{of_lanes, counts_of_queues, weighed_queues, runs_in_lane, IsFilled, IsIdleTap, IsMerged}
 use Rattle.lanes.specs.Lanes.{EachQueueDid, EachTapDid}
 use Rattle.lanes.specs.Sharing.{EachFrom}
 use Rattle.lanes.specs.Taps.{HasClones}
@@ -107,7 +107,9 @@ pub record AreUnshared (plan : Plan) (old new : List Held) (l : Lanes) : Type 0 
 -- they have what they are to do
 pub record AreFilled (plan : Plan) (old : List Held) (l : Lanes) : Type 0 where
   pub kept : Keeps (of_packets old) (of_lanes l)
+  pub blocks : KeepsBlocks (of_packets old) (of_lanes l)
   pub count : counts_of_queues l.queues.items ≡ counts_of old
+  pub named : (h : ℕ → ℕ) → weighed_queues h l.queues.items ≡ weighed_slots h old
   pub queues : EachFrom (IsToWork (spread_of plan) (map packet_of old)) 0 l.queues.items
   pub taps : EachFrom (HasClones (map packet_of old)) 0 l.taps.items
   pub sizes : (length l.queues.items ≡ plan.queues) × (length l.taps.items ≡ plan.taps)
@@ -128,13 +130,17 @@ pub record IsDone (plan : Plan) (old : List Held) (l : Lanes) : Type 0 where
   pub packets : EachFrom (λ q (m : QueueLane). map packet_of m.packets.items
       ≡ filter (is_queued (spread_of plan) q) (map packet_of old)) 0 l.queues.items
   pub kept : Keeps (of_packets old) (of_lanes l)
+  pub blocks : KeepsBlocks (of_packets old) (of_lanes l)
   pub count : counts_of_queues l.queues.items ≡ counts_of old
+  pub named : (h : ℕ → ℕ) → weighed_queues h l.queues.items ≡ weighed_slots h old
   pub unshared : AreUnshared plan old [] l
   pub clones : All (λ t. t.clones.items ≡ []) l.taps.items
 
 -- where memory was refused: the packets that stay, and what the lanes have of the others
 pub record IsRefused (plan : Plan) (old new : List Held) (l : Lanes) : Type 0 where
   pub kept : Keeps (of_packets old) (both (of_packets new) (of_lanes l))
+  pub blocks : KeepsBlocks (of_packets old) (both (of_packets new) (of_lanes l))
   pub count : counts_of new + counts_of_queues l.queues.items ≡ counts_of old
+  pub named : (h : ℕ → ℕ) → weighed_slots h new + weighed_queues h l.queues.items ≡ weighed_slots h old
   pub unshared : AreUnshared plan old new l
   pub clones : All (λ t. t.clones.items ≡ []) l.taps.items

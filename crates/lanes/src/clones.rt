@@ -1,6 +1,6 @@
 //! The clones that taps read.
 ghost use Rattle.std.specs.Prelude.{◌≡◌, ◌+◌, ◌<◌, ◌≤◌, [], drop, length, map, OnOk, vec_capacity};
-ghost use Rattle.frags.specs.Account.{Keeps, both};
+ghost use Rattle.frags.specs.Account.{Keeps, KeepsBlocks, both};
 ghost use Rattle.gro.specs.Slots.{packet_of, of_packets, counts_of, AreHeld, AreShared, WeighAtLeast};
 ghost use Rattle.taps.specs.Clones.{packet_of as packet_of_clone, blocks_of, of_clones};
 ghost use Rattle.lanes.specs.Clones.{weight_after, AreAfter, ClonedOne, IsNoMemory};
@@ -57,6 +57,8 @@ pub(crate) fn clone_all(
     requires room { length packets.old.items ≤ vec_capacity clones.old }
     ensures after { AreAfter (before + 1) packets.old.items packets.new.items }
     ensures kept { Keeps (of_packets packets.old.items)
+        (both (of_packets packets.new.items) (of_clones clones.new.items)) }
+    ensures blocks { KeepsBlocks (of_packets packets.old.items)
         (both (of_packets packets.new.items) (of_clones clones.new.items)) }
     ensures fewer { blocks_of clones.new.items ≤ counts_of packets.old.items }
     ensures all { OnOk result (map packet_of_clone clones.new.items ≡ map packet_of packets.old.items) }

@@ -1,6 +1,6 @@
 //! Lanes before their work: memory first, then clones for the taps. The packets go to the queues last, by `share`.
 ghost use Rattle.std.specs.Prelude.{◌≡◌, ◌+◌, ◌<◌, ◌≤◌, None, List, [], length, map, All, OnOk};
-ghost use Rattle.frags.specs.Account.{Keeps, both};
+ghost use Rattle.frags.specs.Account.{Keeps, KeepsBlocks, both};
 ghost use Rattle.gro.specs.declared.slot.Slot.{Slot as Held};
 ghost use Rattle.gro.specs.Slots.{packet_of, of_packets, counts_of, AreHeld, AreShared, WeighAtLeast};
 ghost use Rattle.offload_model.specs.Rounds.{Spread};
@@ -130,6 +130,8 @@ fn fill_tap(
     requires count { count ≡ counts_of packets.old.items }
     ensures after { AreAfter (tap + 2) packets.old.items packets.new.items }
     ensures kept { Keeps (of_packets packets.old.items) (both (of_packets packets.new.items) (of_tap lane.new)) }
+    ensures blocks { KeepsBlocks (of_packets packets.old.items)
+        (both (of_packets packets.new.items) (of_tap lane.new)) }
     ensures ready { IsTapReady lane.new }
     ensures clones { OnOk result (HasClones (map packet_of packets.old.items) tap lane.new) }
 {
@@ -150,6 +152,8 @@ fn fill_taps(lanes: &mut [TapLane], count: usize, packets: &mut Packets) -> Resu
     requires count { count ≡ counts_of packets.old.items }
     ensures after { AreAfter 9 packets.old.items packets.new.items }
     ensures kept { Keeps (of_packets packets.old.items) (both (of_packets packets.new.items) (of_taps lanes.new)) }
+    ensures blocks { KeepsBlocks (of_packets packets.old.items)
+        (both (of_packets packets.new.items) (of_taps lanes.new)) }
     ensures ready { All IsTapReady lanes.new }
     ensures clones { OnOk result (EachFrom (HasClones (map packet_of packets.old.items)) 0 lanes.new) }
     ensures size { length lanes.new ≡ length lanes.old }
@@ -172,6 +176,8 @@ pub(crate) fn serve_taps(lanes: &mut [TapLane], packets: &mut Packets) -> Result
     ensures same { AreSame packets.old.items packets.new.items }
     ensures stay { length lanes.old ≡ 0 → packets.new.items ≡ packets.old.items }
     ensures kept { Keeps (of_packets packets.old.items) (both (of_packets packets.new.items) (of_taps lanes.new)) }
+    ensures blocks { KeepsBlocks (of_packets packets.old.items)
+        (both (of_packets packets.new.items) (of_taps lanes.new)) }
     ensures ready { All IsTapReady lanes.new }
     ensures clones { OnOk result (EachFrom (HasClones (map packet_of packets.old.items)) 0 lanes.new) }
     ensures size { length lanes.new ≡ length lanes.old }
@@ -187,6 +193,7 @@ pub(crate) fn serve_taps(lanes: &mut [TapLane], packets: &mut Packets) -> Result
 fn give_up(lane: &mut TapLane)
     requires ready { IsTapReady lane.old }
     ensures kept { Keeps (of_tap lane.old) (of_tap lane.new) }
+    ensures blocks { KeepsBlocks (of_tap lane.old) (of_tap lane.new) }
     ensures none { lane.new.clones.items ≡ [] }
     ensures idle { IsIdleTap lane.old → IsIdleTap lane.new }
 {
@@ -199,6 +206,7 @@ fn give_up(lane: &mut TapLane)
 pub(crate) fn give_all_up(lanes: &mut [TapLane])
     requires ready { All IsTapReady lanes.old }
     ensures kept { Keeps (of_taps lanes.old) (of_taps lanes.new) }
+    ensures blocks { KeepsBlocks (of_taps lanes.old) (of_taps lanes.new) }
     ensures none { All (λ l. l.clones.items ≡ []) lanes.new }
     ensures idle { All IsIdleTap lanes.old → All IsIdleTap lanes.new }
 {

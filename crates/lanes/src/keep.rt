@@ -1,7 +1,7 @@
 //! Clones that are kept beside the work of a round.
 ghost use Rattle.std.specs.Prelude.{◌≡◌, ◌≤◌, [], map, OnOk};
 ghost use Rattle.ref_core.specs.WeightRule.{full_weight};
-ghost use Rattle.frags.specs.Account.{Keeps, both};
+ghost use Rattle.frags.specs.Account.{Keeps, KeepsBlocks, both};
 ghost use Rattle.gro.specs.Slots.{packet_of, of_packets, counts_of, AreHeld, AreShared, WeighAtLeast};
 ghost use Rattle.taps.specs.Clones.{packet_of as packet_of_clone, blocks_of, of_clones};
 ghost use Rattle.lanes.specs.Clones.{AreAfter};
@@ -20,6 +20,8 @@ pub fn keep_packets(packets: &mut Packets, kept: &mut Vec<TapClone>) -> Result<(
     requires none { kept.old.items ≡ [] }
     ensures after { AreAfter 1 packets.old.items packets.new.items }
     ensures kept { Keeps (of_packets packets.old.items)
+        (both (of_packets packets.new.items) (of_clones kept.new.items)) }
+    ensures blocks { KeepsBlocks (of_packets packets.old.items)
         (both (of_packets packets.new.items) (of_clones kept.new.items)) }
     ensures fewer { blocks_of kept.new.items ≤ counts_of packets.old.items }
     ensures all { OnOk result (map packet_of_clone kept.new.items ≡ map packet_of packets.old.items) }

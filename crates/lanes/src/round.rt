@@ -1,15 +1,17 @@
 //! The work of a round, over all its lanes.
 ghost use Rattle.std.specs.Prelude.{◌≡◌, ℕ, ◌+◌, ◌≤◌, true, List, [], length, map, All, OnOk, OnErr, MatchResult};
 ghost use Rattle.std.specs.Prelude.{IsSome};
-ghost use Rattle.frags.specs.Account.{Keeps, both};
+ghost use Rattle.frags.specs.Account.{Keeps, KeepsBlocks, both};
 ghost use Rattle.std.specs.List.{filter};
 ghost use Rattle.offload_model.specs.Rounds.{is_queued};
 ghost use Rattle.offload_model.specs.Written.{round_records};
 ghost use Rattle.gro.specs.declared.slot.Slot.{Slot as Held};
-ghost use Rattle.gro.specs.Slots.{packet_of, of_packets, counts_of, AreAlone, AreHeld, AreShared, WeighAtLeast};
+ghost use Rattle.gro.specs.Slots.{packet_of, of_packets, counts_of, weighed_slots};
+ghost use Rattle.gro.specs.Slots.{AreAlone, AreHeld, AreShared, WeighAtLeast};
 ghost use Rattle.block_pool.specs.Giving.{MayGive};
 ghost use Rattle.lanes.specs.Clones.{weight_after};
-ghost use Rattle.lanes.specs.Lanes.{of_lanes, counts_of_queues, AreIdle, IsFilled, IsIdleTap, IsMerged, IsTapReady};
+ghost use Rattle.lanes.specs.Lanes.{of_lanes, counts_of_queues, weighed_queues};
+ghost use Rattle.lanes.specs.Lanes.{AreIdle, IsFilled, IsIdleTap, IsMerged, IsTapReady};
 ghost use Rattle.lanes.specs.Packets.{RiseFrom};
 ghost use Rattle.lanes.specs.Sharing.{EachFrom};
 ghost use Rattle.lanes.specs.Taps.{HasClones};
@@ -41,8 +43,12 @@ fn fill(
     requires few { counts_of packets.old.items ≤ 65536 }
     requires idle { AreIdle lanes.old }
     ensures kept { Keeps (of_packets packets.old.items) (both (of_packets packets.new.items) (of_lanes lanes.new)) }
+    ensures blocks { KeepsBlocks (of_packets packets.old.items)
+        (both (of_packets packets.new.items) (of_lanes lanes.new)) }
     ensures count { counts_of packets.new.items + counts_of_queues lanes.new.queues.items
         ≡ counts_of packets.old.items }
+    ensures named { (h : ℕ → ℕ) → weighed_slots h packets.new.items + weighed_queues h lanes.new.queues.items
+        ≡ weighed_slots h packets.old.items }
     ensures ready { All IsTapReady lanes.new.taps.items }
     ensures queues { OnOk result (EachFrom (IsToWork (spread_of plan.now) (map packet_of packets.old.items)) 0
         lanes.new.queues.items) }
@@ -144,8 +150,12 @@ pub fn work_packets<W: Works>(
         ≡ filter (is_queued (spread_of plan.now) q) (map packet_of packets.old.items)) 0 lanes.new.queues.items) }
     ensures all { OnOk result (packets.new.items ≡ []) }
     ensures kept { Keeps (of_packets packets.old.items) (both (of_packets packets.new.items) (of_lanes lanes.new)) }
+    ensures blocks { KeepsBlocks (of_packets packets.old.items)
+        (both (of_packets packets.new.items) (of_lanes lanes.new)) }
     ensures count { counts_of packets.new.items + counts_of_queues lanes.new.queues.items
         ≡ counts_of packets.old.items }
+    ensures named { (h : ℕ → ℕ) → weighed_slots h packets.new.items + weighed_queues h lanes.new.queues.items
+        ≡ weighed_slots h packets.old.items }
     ensures alone { plan.now.taps ≡ 0 → AreAlone packets.old.items
         → AreAlone packets.new.items × All (λ l. AreAlone l.packets.items) lanes.new.queues.items }
     ensures idle { plan.now.taps ≡ 0 → All IsIdleTap lanes.new.taps.items }

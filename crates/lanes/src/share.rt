@@ -1,10 +1,10 @@
 //! Spreads the packets of a round over its queues.
 ghost use Rattle.std.specs.Prelude.{◌≡◌, ◌+◌, ◌<◌, ◌≤◌, ◌^◌, [], length, All, IfErr, OnOk};
-ghost use Rattle.std.specs.Prelude.{reverse};
+ghost use Rattle.std.specs.Prelude.{ℕ, reverse};
 ghost use Rattle.frame_layout.specs.Key.{key_of};
 ghost use Rattle.skb.specs.SkbState.{buffer_bytes};
-ghost use Rattle.gro.specs.Slots.{of_packets, counts_of, AreAlone, AreHeld, IsHeld};
-ghost use Rattle.lanes.specs.Lanes.{of_queues, counts_of_queues, IsIdleQueue};
+ghost use Rattle.gro.specs.Slots.{of_packets, counts_of, weighed_slots, AreAlone, AreHeld, IsHeld};
+ghost use Rattle.lanes.specs.Lanes.{of_queues, counts_of_queues, weighed_queues, IsIdleQueue};
 ghost use Rattle.lanes.specs.Work.{IsPlan, spread_of};
 ghost use Rattle.lanes.specs.Sharing.{EachFrom, EachStays, HasMemory, IsSharing, IsSum, StaysAs};
 ghost use Rattle.lanes.specs.Sharing.{TakesAll, TakesIn};
@@ -57,6 +57,8 @@ fn spread_back(
         (of_queues lanes.new) }
     ensures counts { counts_of (reverse packets.old.items)
         ≡ counts_of (reverse packets.new.items) + counts_of_queues lanes.new }
+    ensures named { (h : ℕ → ℕ) → weighed_slots h (reverse packets.old.items)
+        ≡ weighed_slots h (reverse packets.new.items) + weighed_queues h lanes.new }
     ensures alone { AreAlone (reverse packets.old.items) → AreAlone (reverse packets.new.items) }
     ensures all { OnOk result (packets.new.items ≡ []) }
 {
@@ -81,6 +83,8 @@ fn spread(packets: &mut Packets, plan: &Plan, lanes: &mut [QueueLane]) -> Result
     ensures shared { EachFrom (IsSharing (spread_of plan.now) packets.old.items packets.new.items) 0 lanes.new }
     ensures account { IsSum (of_packets packets.old.items) (of_packets packets.new.items) (of_queues lanes.new) }
     ensures counts { counts_of packets.old.items ≡ counts_of packets.new.items + counts_of_queues lanes.new }
+    ensures named { (h : ℕ → ℕ) → weighed_slots h packets.old.items
+        ≡ weighed_slots h packets.new.items + weighed_queues h lanes.new }
     ensures alone { AreAlone packets.old.items → AreAlone packets.new.items }
     ensures all { OnOk result (packets.new.items ≡ []) }
 {
@@ -131,6 +135,8 @@ fn give_out(packets: &mut Packets, plan: &Plan, lanes: &mut [QueueLane]) -> Resu
     ensures shared { EachFrom (IsSharing (spread_of plan.now) packets.old.items packets.new.items) 0 lanes.new }
     ensures account { IsSum (of_packets packets.old.items) (of_packets packets.new.items) (of_queues lanes.new) }
     ensures counts { counts_of packets.old.items ≡ counts_of packets.new.items + counts_of_queues lanes.new }
+    ensures named { (h : ℕ → ℕ) → weighed_slots h packets.old.items
+        ≡ weighed_slots h packets.new.items + weighed_queues h lanes.new }
     ensures alone { AreAlone packets.old.items → AreAlone packets.new.items }
     ensures all { OnOk result (packets.new.items ≡ []) }
 {
@@ -158,6 +164,8 @@ pub(crate) fn share_out(
     ensures shared { EachFrom (IsSharing (spread_of plan.now) packets.old.items packets.new.items) 0 lanes.new }
     ensures account { IsSum (of_packets packets.old.items) (of_packets packets.new.items) (of_queues lanes.new) }
     ensures counts { counts_of packets.old.items ≡ counts_of packets.new.items + counts_of_queues lanes.new }
+    ensures named { (h : ℕ → ℕ) → weighed_slots h packets.old.items
+        ≡ weighed_slots h packets.new.items + weighed_queues h lanes.new }
     ensures alone { AreAlone packets.old.items → AreAlone packets.new.items }
     ensures all { OnOk result (packets.new.items ≡ []) }
     ensures memory { OnOk result (All HasMemory lanes.new) }

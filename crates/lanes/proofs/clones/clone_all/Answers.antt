@@ -1,12 +1,12 @@
 use Rattle.std.proofs.Common.{◌≡◌, ◌+◌, ◌++◌, [], ◌∷◌, List, drop, map, length, length-set, append_assoc, ap, sym, subst, ◌∙◌, arith}
 use Rattle.std.proofs.lemmas.List.{map-append}
-use Rattle.frags.specs.Account.{Keeps, both}
+use Rattle.frags.specs.Account.{Keeps, KeepsBlocks, both}
 use Rattle.gro.specs.declared.slot.Slot.{Slot as Held}
 use Rattle.gro.specs.Slots.{packet_of, of_packets, counts_of, WeighAtLeast}
 use Rattle.taps.specs.Clones.{packet_of as packet_of_clone, blocks_of, of_clones}
 use Rattle.taps.proofs.Returning.{blocks_of-append}
 use Rattle.lanes.specs.Clones.{weight_after, AreAfter}
-use Rattle.lanes.proofs.Adding.{after_set, here, stop_keeps, turn_keeps}
+use Rattle.lanes.proofs.Adding.{after_set, here, stop_blocks, stop_keeps, turn_blocks, turn_keeps}
 use Rattle.lanes.proofs.clones.clone_all.Goals as goal
 
 pub returns-in_err-clone_packet-clause-after : goal.returns-in_err-clone_packet-clause-after
@@ -22,7 +22,15 @@ returns-in_err-clone_packet-clause-kept c =
     let old = of_packets c.args.packets.now.items in
     let one = c.in_err-clone_packet.ensures.cloned in
     subst (λ (z : List Held). Keeps old (both (of_packets z) (of_clones l.clones.items))) (sym one.others)
-    (stop_keeps l.i old l.packets.items one.was one.is l.clones.items (omega arith) one.here one.kept l.invariant.kept)
+    (stop_keeps l.i old l.packets.items one.was one.is l.clones.items (omega arith) one.here one.kept.0 l.invariant.kept)
+
+pub returns-in_err-clone_packet-clause-blocks : goal.returns-in_err-clone_packet-clause-blocks
+returns-in_err-clone_packet-clause-blocks c =
+    let l = c.loop-i in
+    let old = of_packets c.args.packets.now.items in
+    let one = c.in_err-clone_packet.ensures.cloned in
+    subst (λ (z : List Held). KeepsBlocks old (both (of_packets z) (of_clones l.clones.items))) (sym one.others)
+    (stop_blocks l.i old l.packets.items one.was one.is l.clones.items (omega arith) one.here one.kept.1 l.invariant.blocks)
 
 pub loop-i-preserved : goal.loop-i-preserved
 loop-i-preserved c =
@@ -45,6 +53,8 @@ loop-i-preserved c =
       weigh = (subst (WeighAtLeast (weight_after c.args.before)) h i.weigh).1;
       kept = subst (λ (z : List Held). Keeps (of_packets old) (both (of_packets z) (of_clones ds))) (sym one.others)
           (turn_keeps l.i (of_packets old) ps x one.is cs ds clone (omega arith) one.here more one.kept.kept i.kept);
+      blocks = subst (λ (z : List Held). KeepsBlocks (of_packets old) (both (of_packets z) (of_clones ds))) (sym one.others)
+          (turn_blocks l.i (of_packets old) ps x one.is cs ds clone (omega arith) one.here more one.kept.blocks i.blocks);
       fewer = omega (arith, blocks, ap counts_of h, one.kept.few, i.fewer);
       texts =
           ap (λ z. map packet_of_clone z ++ map packet_of rest) more

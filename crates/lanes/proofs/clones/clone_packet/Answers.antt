@@ -1,5 +1,7 @@
 use Rattle.std.proofs.Common.{◌+◌, get_or, length, refl, ap, arith}
+use Rattle.std.specs.Prelude.{Ok}
 use Rattle.gro.specs.Packets.{with_skb}
+use Rattle.gro.proofs.Weights.{refused_blocks, weighed_clone}
 use Rattle.lanes.specs.Clones.{weight_after}
 use Rattle.lanes.proofs.Adding.{any_of, at_itself, cloned_size, shared_at, weighs_at}
 use Rattle.lanes.proofs.Weighing.{for_memory, is_after, is_clone_of, not_worn, refused_after, refused_keeps, remains, slot_there}
@@ -38,7 +40,8 @@ returns-in-Ok c =
         is = with_skb p b;
         here = at_itself i ps d lt;
         others = cloned.1.1;
-        after = is_after (k + 1) p b (remains k p.skb b c.in-Ok.skb c.requires.few (weighs_at (weight_after k) i ps d lt c.requires.weighs) cloned.1.0.clone) cloned.1.0.bytes.0;
+        after = is_after (k + 1) p b (remains k p.skb b c.in-Ok.skb c.requires.few (weighs_at (weight_after k) i ps d lt c.requires.weighs) cloned.1.0.clone) cloned.1.0.bytes.0
+            (weighed_clone p.skb b (Ok c.in-Ok.skb) cloned.1.0.clone);
         kept = is_clone_of p b (record { skb = c.in-Ok.skb; sec = slot.sec; frac = slot.frac; original = slot.original; number = slot.number }) slot (shared_at i ps d lt c.requires.shared)
             cloned.1.0 there (refl, refl, refl, refl);
       };
@@ -62,7 +65,7 @@ returns-in-Err c =
         here = at_itself i ps d lt;
         others = cloned.1.1;
         after = refused_after k p b c.in-Err.fault shared (weighs_at (weight_after k) i ps d lt c.requires.weighs) cloned.1.0.clone;
-        kept = refused_keeps p b c.in-Err.fault shared cloned.1.0.clone;
+        kept = (refused_keeps p b c.in-Err.fault shared cloned.1.0.clone, refused_blocks p.skb b c.in-Err.fault shared cloned.1.0.clone);
       };
     }
 

@@ -1,9 +1,10 @@
 use Rattle.std.proofs.Common.{◌+◌, List, map, length-set, subst, ◌∙◌, arith}
 use Rattle.pcap_io.specs.Capture.{Packet}
+use Rattle.frags.specs.Account.{every}
 use Rattle.gro.specs.Slots.{packet_of, of_packets}
 use Rattle.lanes.specs.Lanes.{IsIdleTap, IsTapReady}
 use Rattle.lanes.specs.Taps.{HasClones}
-use Rattle.lanes.proofs.Adding.{after_both, after_later, after_none, tap_keeps}
+use Rattle.lanes.proofs.Adding.{after_both, after_later, after_none, tap_blocks, tap_keeps}
 use Rattle.lanes.proofs.Idle.{idle_ready, idle_taps}
 use Rattle.lanes.proofs.Listing.{all_set, each_placed, place_set, rest_set}
 use Rattle.lanes.proofs.fill.fill_taps.Goals as goal
@@ -14,6 +15,7 @@ loop-i-init c =
     record {
       after = after_none 1 c.args.packets.now.items c.requires.held c.requires.shared c.requires.weigh;
       kept = λ t m. let z = idle_taps ls c.requires.idle t m in (omega (arith, z.0), omega (arith, z.1));
+      blocks = λ bs m. let z = idle_taps ls c.requires.idle (every bs) m in omega (arith, z.0, z.1);
       ready = idle_ready ls c.requires.idle;
       clones = λ k d lt. absurd (omega (arith, lt));
       idle = λ k d le lt. c.requires.idle k d lt;
@@ -37,6 +39,13 @@ returns-in_err-fill_tap-clause-kept c =
     tap_keeps l.i (of_packets c.args.packets.now.items) (of_packets l.packets.items) (of_packets c.fill_tap.new.packets.items) l.lanes d c.fill_tap.new.lane (omega arith)
     (l.invariant.idle l.i d (omega arith) (omega arith)) l.invariant.kept c.in_err-fill_tap.ensures.kept
 
+pub returns-in_err-fill_tap-clause-blocks : goal.returns-in_err-fill_tap-clause-blocks
+returns-in_err-fill_tap-clause-blocks c =
+    let l = c.loop-i in
+    let d = c.index-lanes-i.result in
+    tap_blocks l.i (of_packets c.args.packets.now.items) (of_packets l.packets.items) (of_packets c.fill_tap.new.packets.items) l.lanes d c.fill_tap.new.lane (omega arith)
+    (l.invariant.idle l.i d (omega arith) (omega arith)) l.invariant.blocks c.in_err-fill_tap.ensures.blocks
+
 pub returns-in_err-fill_tap-clause-ready : goal.returns-in_err-fill_tap-clause-ready
 returns-in_err-fill_tap-clause-ready c = all_set IsTapReady c.loop-i.lanes c.loop-i.i c.fill_tap.new.lane c.loop-i.invariant.ready c.in_err-fill_tap.ensures.ready
 
@@ -53,6 +62,7 @@ loop-i-preserved c =
     record {
       after = after_both (l.i + 1) (l.i + 1 + 1) old l.packets.items now i.after (after_later (l.i + 2) (l.i + 1 + 1) l.packets.items now (omega arith) e.after);
       kept = tap_keeps l.i (of_packets old) (of_packets l.packets.items) (of_packets now) l.lanes d m (omega arith) (i.idle l.i d (omega arith) (omega arith)) i.kept e.kept;
+      blocks = tap_blocks l.i (of_packets old) (of_packets l.packets.items) (of_packets now) l.lanes d m (omega arith) (i.idle l.i d (omega arith) (omega arith)) i.blocks e.blocks;
       ready = all_set IsTapReady l.lanes l.i m i.ready e.ready;
       clones = place_set (HasClones (map packet_of old)) l.lanes l.i (l.i + 1) m (omega arith) i.clones own;
       idle = rest_set IsIdleTap l.lanes l.i (l.i + 1) m (omega arith) i.idle;

@@ -1,6 +1,6 @@
 use Rattle.std.proofs.Common.{[], ◌∷◌, length, length-append, ap, ◌∙◌, arith}
 use Rattle.taps.specs.Clones.{blocks_of}
-use Rattle.taps.proofs.Returning.{blocks_of-append, keeps_pop}
+use Rattle.taps.proofs.Returning.{blocks_of-append, blocks_pop, keeps_pop}
 use Rattle.lanes.specs.Lanes.{of_tap}
 use Rattle.lanes.proofs.fill.give_up.Goals as goal
 
@@ -17,5 +17,7 @@ loop-clone-preserved c =
       ready = omega (arith, n, c.loop-clone.invariant.ready, c.release.ensures.places);
       kept = keeps_pop (of_tap c.args.lane.now) c.in-Some.clone l.clones.items c.pop.new.self.items l.outcomes c.release.new.out c.in-Some.ensures.items c.loop-clone.invariant.kept
           c.release.ensures.kept;
+      blocks = blocks_pop (of_tap c.args.lane.now) c.in-Some.clone l.clones.items c.pop.new.self.items l.outcomes c.release.new.out c.in-Some.ensures.items c.loop-clone.invariant.blocks
+          c.release.ensures.blocks;
       idle = λ h. absurd (omega (arith, ap length (c.loop-clone.invariant.idle h).clones, ap length c.in-Some.ensures.items, length-append c.pop.new.self.items (c.in-Some.clone ∷ [])));
     }

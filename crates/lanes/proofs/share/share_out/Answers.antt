@@ -3,7 +3,7 @@ use Rattle.frags.specs.Account.{Account}
 use Rattle.gro.specs.Slots.{of_packets}
 use Rattle.lanes.specs.Sharing.{IsSum}
 use Rattle.lanes.specs.Work.{spread_of}
-use Rattle.lanes.proofs.Sharing.{did_stay, same_counts, same_hold}
+use Rattle.lanes.proofs.Sharing.{did_stay, same_counts, same_hold, same_weighed}
 use Rattle.lanes.proofs.share.share_out.Goals as goal
 
 pub start_all-requires : goal.start_all-requires
@@ -22,3 +22,7 @@ returns-clause-account c =
 pub returns-clause-counts : goal.returns-clause-counts
 returns-clause-counts c =
     omega (arith, same_counts c.give_out.new.lanes c.start_all.new.lanes c.start_all.ensures.size c.start_all.ensures.stay, c.in_ok-give_out.ensures.counts)
+
+pub returns-clause-named : goal.returns-clause-named
+returns-clause-named c = λ w.
+    omega (arith, same_weighed w c.give_out.new.lanes c.start_all.new.lanes c.start_all.ensures.size c.start_all.ensures.stay, c.in_ok-give_out.ensures.named w)

@@ -1,7 +1,7 @@
 use Rattle.std.proofs.Common.{◌≡◌, List, [], sym, subst, arith, ap}
 use Rattle.std.specs.Prelude.{reverse}
 use Rattle.gro.specs.declared.slot.Slot.{Slot as Held}
-use Rattle.gro.specs.Slots.{of_packets, counts_of, AreAlone, AreHeld}
+use Rattle.gro.specs.Slots.{of_packets, counts_of, weighed_slots, AreAlone, AreHeld}
 use Rattle.lanes.specs.Lanes.{of_queues}
 use Rattle.lanes.specs.Sharing.{EachFrom, IsSharing, IsSum}
 use Rattle.lanes.specs.Work.{spread_of}
@@ -35,6 +35,11 @@ pub returns-clause-counts : goal.returns-clause-counts
 returns-clause-counts c =
     let e = turned c.args.packets.now.items c.reverse.new.self.items c.reverse.ensures.items in
     omega (arith, ap counts_of e, ap counts_of c.reverse-2.ensures.items, c.spread_back-spread.ensures.counts)
+
+pub returns-clause-named : goal.returns-clause-named
+returns-clause-named c = λ w.
+    let e = turned c.args.packets.now.items c.reverse.new.self.items c.reverse.ensures.items in
+    omega (arith, ap (weighed_slots w) e, ap (weighed_slots w) c.reverse-2.ensures.items, c.spread_back-spread.ensures.named w)
 
 pub returns-clause-alone : goal.returns-clause-alone
 returns-clause-alone c =

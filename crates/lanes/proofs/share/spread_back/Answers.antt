@@ -2,10 +2,10 @@ use Rattle.std.proofs.Common.{◌≡◌, ℕ, List, [], ◌∷◌, ◌++◌, len
 use Rattle.std.specs.Prelude.{reverse}
 use Rattle.frags.specs.Account.{Tests}
 use Rattle.gro.specs.declared.slot.Slot.{Slot as Held}
-use Rattle.gro.specs.Slots.{of_packets, counts_of, AreAlone, AreHeld}
+use Rattle.gro.specs.Slots.{of_packets, counts_of, weighed_slots, AreAlone, AreHeld}
 use Rattle.lanes.specs.Sharing.{EachFrom, IsSharing}
 use Rattle.lanes.specs.Work.{spread_of}
-use Rattle.lanes.proofs.Sharing.{empty_account, empty_counts, popped, share_stop, share_turn, stop_account, stop_counts, turn_account, turn_counts}
+use Rattle.lanes.proofs.Sharing.{empty_account, empty_counts, empty_weighed, popped, share_stop, share_turn, stop_account, stop_counts, stop_weighed, turn_account, turn_counts, turn_weighed}
 use Rattle.lanes.proofs.share.spread_back.Goals as goal
 
 pub loop-packet-init : goal.loop-packet-init
@@ -17,6 +17,7 @@ loop-packet-init c =
       shared = c.requires.open;
       account = λ (t : Tests) (m : ℕ). let z = empty_account n every 0 c.args.lanes.now c.requires.open t m in (omega (arith, z.0), omega (arith, z.1));
       counts = omega (arith, empty_counts n every 0 c.args.lanes.now c.requires.open);
+      named = λ w. omega (arith, empty_weighed w n every 0 c.args.lanes.now c.requires.open);
       held = c.requires.held;
       alone = λ h. h;
     }
@@ -61,6 +62,16 @@ returns-in-Err-clause-counts c =
     let s = stop_counts c.queue_for-queue.result l.lanes c.index-lanes-queue.result c.take_in.new.lane (omega arith) back.1 in
     omega (arith, s, ap (λ (z : List Held). counts_of (reverse z)) same, l.invariant.counts)
 
+pub returns-in-Err-clause-named : goal.returns-in-Err-clause-named
+returns-in-Err-clause-named c = λ w.
+    let l = c.loop-packet in
+    let back = c.in-Err.ensures.back in
+    let rest = c.pop.new.self.items in
+    let same : l.packets.items ≡ c.push.new.self.items
+    = c.in-Some.ensures.some ∙ ap (λ (z : Held). rest ++ z ∷ []) (sym {A = Held} back.0) ∙ sym {A = List Held} c.push.ensures.items in
+    let s = stop_weighed w c.queue_for-queue.result l.lanes c.index-lanes-queue.result c.take_in.new.lane (omega arith) back.1 in
+    omega (arith, s, ap (λ (z : List Held). weighed_slots w (reverse z)) same, l.invariant.named w)
+
 pub returns-in-Err-clause-alone : goal.returns-in-Err-clause-alone
 returns-in-Err-clause-alone c =
     let l = c.loop-packet in
@@ -93,6 +104,7 @@ loop-packet-preserved c =
           let g = ap (λ (z : List Held). (of_packets z).homes t.blocks j) e in
           (omega (arith, s.0, i.0, h), omega (arith, s.1, i.1, g));
       counts = omega (arith, turn_counts q l.lanes d m p (omega arith) taken, ap counts_of e, l.invariant.counts);
+      named = λ w. omega (arith, turn_weighed w q l.lanes d m p (omega arith) taken, ap (weighed_slots w) e, l.invariant.named w);
       held = (subst AreHeld e l.invariant.held).1;
       alone = λ h. (subst AreAlone e (l.invariant.alone h)).1;
     }
