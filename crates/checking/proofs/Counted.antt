@@ -19,10 +19,9 @@ use Rattle.rounds.specs.declared.round.RoundRead.{RoundRead}
 use Rattle.rounds.specs.Merging.{options_of, TakesAll}
 use Rattle.rounds.specs.RoundsState.{RoundsState}
 use Rattle.rounds.proofs.Merging.{done_taken, fewer_by, is_short}
-use Rattle.pipeline.specs.Handled.{Ends, Handled}
-use Rattle.pipeline.specs.Parcels.{is_full}
-use Rattle.pipeline.specs.Reads.{Spot, ReadRound, Reads}
-use Rattle.pipeline.proofs.Rows.{reads_lose}
+use Rattle.rounds.specs.Handled.{Ends, Handled}
+use Rattle.rounds.specs.Reads.{Spot, ReadRound, Reads, is_full}
+use Rattle.rounds.proofs.Rows.{reads_lose}
 use Rattle.checking.specs.Whole.{Checked}
 use Rattle.checking.specs.Handling.{ending_of, Ahead, AreOf, CountsLast, CountsRound, EndsBehind}
 use Rattle.checking.specs.declared.capture.CheckEnd.{CheckEnd}
@@ -183,6 +182,7 @@ all_checked old new from to before after end first last start h =
       lanes = n.2.1;
       within = end_within n.0 after n.1 n.2.2;
       home = h.rests.home;
+      named = h.named;
       same = h.rests.same;
       taken = λ done. subst (λ (t : ℕ). Told from.left to.left (TakesAll old.taken t from.place)) last
           (subst (λ (t : ℕ). Told from.left to.left (TakesAll t to.taken from.place)) first (counted.taken done));

@@ -1,5 +1,6 @@
 -- What a check of a whole capture says, as one fact.
-use Rattle.std.specs.Prelude.{◌≡◌, ◌≤◌, ◌^◌}
+use Rattle.std.specs.Prelude.{◌≡◌, ℕ, ◌≤◌, ◌^◌}
+use Rattle.block_pool.specs.PoolState.{weighed}
 use Rattle.off_io.specs.Faults.{Rose}
 use Rattle.off_io.specs.Told.{Told}
 use Rattle.checking.specs.Counts.{Counts, HasLanes, IsWithin}
@@ -7,7 +8,7 @@ use Rattle.checking.specs.Checking.{counting}
 use Rattle.checking.specs.Tallies.{Tallies}
 use Rattle.rounds.specs.Merging.{options_of, TakesAll}
 use Rattle.rounds.specs.RoundsState.{RoundsState}
-use Rattle.pipeline.specs.Reads.{Spot}
+use Rattle.rounds.specs.Reads.{Spot}
 use Rattle.checking.specs.declared.capture.CheckEnd.{CheckEnd}
 use Rattle.checking.specs.declared.capture.CheckEnd.TheVariants as ends
 use Rattle.checking.specs.Handling.{ending_of}
@@ -19,6 +20,7 @@ pub record Checked (old new : RoundsState) (from to : Spot) (before after : Coun
   pub lanes : HasLanes (options_of old) after
   pub within : IsWithin (2 ^ 50) (2 ^ 62) after
   pub home : new.home ≡ new.blocks
+  pub named : (h : ℕ → ℕ) → weighed h new.stock ≡ weighed h old.stock
   pub same : (new.blocks ≡ old.blocks) × (options_of new ≡ options_of old) × (new.keep ≡ old.keep)
   pub taken : end ≡ ends.Done → Told from.left to.left (TakesAll old.taken new.taken from.place)
   pub least : old.taken ≤ new.taken

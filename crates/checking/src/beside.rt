@@ -1,5 +1,6 @@
 //! Checks a capture by two sides, with all who run lanes beside them.
-ghost use Rattle.std.specs.Prelude.{◌≡◌, ◌+◌, ◌-◌, ◌≤◌, ◌^◌, [], true, min};
+ghost use Rattle.std.specs.Prelude.{◌≡◌, ℕ, ◌+◌, ◌-◌, ◌≤◌, ◌^◌, [], true, min};
+ghost use Rattle.block_pool.specs.PoolState.{weighed};
 ghost use Rattle.off_io.specs.Faults.{Rose};
 ghost use Rattle.off_io.specs.Told.{Told};
 ghost use Rattle.pcap_io.specs.declared.heads.Link.TheVariants.{Ethernet};
@@ -46,6 +47,7 @@ pub fn check_beside<R: Threads + Wait + Sync, S: Source + Send, G: Gate + Sync>(
     ensures lanes { HasLanes (options_of rounds.old) totals.new }
     ensures within { IsWithin (2 ^ 50) (2 ^ 62) totals.new }
     ensures home { rounds.new.home ≡ rounds.new.blocks }
+    ensures named { (h : ℕ → ℕ) → weighed h rounds.new.stock ≡ weighed h rounds.old.stock }
     ensures same { (rounds.new.blocks ≡ rounds.old.blocks) × (options_of rounds.new ≡ options_of rounds.old)
         × (rounds.new.keep ≡ rounds.old.keep) }
     ensures taken { result ≡ CheckEnd.Done → Told (S.left (source_of reader.old)) (S.left (source_of reader.new))

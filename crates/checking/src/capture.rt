@@ -1,6 +1,7 @@
 //! Checks the records of a capture, round by round.
 ghost use Rattle.std.specs.Prelude.{◌≡◌, ℕ, ◌+◌, ◌-◌, ◌≤◌, ◌^◌, [], List, length, map, min, true, IfOk, OnOk, OnErr};
 ghost use Rattle.std.specs.List.{AllByRecursion};
+ghost use Rattle.block_pool.specs.PoolState.{weighed};
 ghost use Rattle.off_io.specs.Faults.{Rose};
 ghost use Rattle.off_io.specs.Told.{Told};
 ghost use Rattle.pcap_io.specs.declared.heads.Link.TheVariants.{Ethernet};
@@ -17,6 +18,7 @@ ghost use Rattle.rounds.specs.Benches.{options_at, Brings, BringsBeside, IsLent,
 ghost use Rattle.rounds.specs.Lanes.{IsKeptWorkOf};
 ghost use Rattle.rounds.specs.Fresh.{NumberedFrom};
 ghost use Rattle.rounds.specs.Merging.{options_of};
+ghost use Rattle.rounds.specs.Weights.{weights_of, weights_worked};
 ghost use Rattle.checking.specs.Handling.{ending_of, AreOf, CountsLast};
 
 use crate::round::check_bench;
@@ -25,8 +27,7 @@ use block_pool::{Giver, Pool};
 use lanes::Works;
 use off_io::Source;
 use pcap_io::{CapFault, CaptureReader};
-use pipeline::{RoundHandler, handle_from};
-use rounds::{Bench, Round, RoundEnd, RoundRead, Rounds, Worked};
+use rounds::{Bench, Round, RoundEnd, RoundHandler, RoundRead, Rounds, Worked, handle_from};
 use std::alloc::AllocError;
 
 /// How checking ended.
@@ -51,7 +52,7 @@ fn compare_round(bench: &mut Bench, home: &mut Pool, worked: Worked) -> Result<T
         × AllByRecursion IsCaptured ps × (length ps ≤ 4096)) }
     ensures totals { (ps : List Packet) → IsKeptWorkOf (options_at bench.old) ps worked
         → IfOk result (λ t. t ≡ round_totals (options_at bench.old) ps) }
-    ensures brings { Brings worked.blocks bench.old bench.new home.old home.new }
+    ensures brings { Brings worked.blocks (weights_worked worked) bench.old bench.new home.old home.new }
 {
     let totals = check_bench(bench, &worked);
     bench.end_round(worked, home);
@@ -80,7 +81,8 @@ fn count_round<W: Works>(
         (round_totals (options_at bench.old) (map packet_of round.packets))) }
     ensures lanes { HasLanes (options_at bench.old) totals.new }
     ensures within { (n : ℕ) → AreOf n totals.old → AreOf (n + length round.packets) totals.new }
-    ensures brings { BringsBeside round.blocks bench.old bench.new home.old home.new giver.old giver.new }
+    ensures brings { BringsBeside round.blocks (weights_of round) bench.old bench.new home.old home.new giver.old
+        giver.new }
     ensures gave { Lends giver.old giver.new }
 {
     let worked = bench.work_round(works, round, home, giver)?;
@@ -111,7 +113,8 @@ fn last_round<W: Works>(
         (map packet_of round.packets)) end result }
     ensures lanes { HasLanes (options_at bench.old) totals.new }
     ensures within { (n : ℕ) → AreOf n totals.old → AreOf (n + length round.packets) totals.new }
-    ensures brings { BringsBeside round.blocks bench.old bench.new home.old home.new giver.old giver.new }
+    ensures brings { BringsBeside round.blocks (weights_of round) bench.old bench.new home.old home.new giver.old
+        giver.new }
     ensures gave { Lends giver.old giver.new }
 {
     match count_round(works, bench, home, giver, round, totals) {
@@ -209,6 +212,7 @@ pub fn check_all<W: Works, S: Source>(
     ensures lanes { HasLanes (options_of rounds.old) totals.new }
     ensures within { IsWithin (2 ^ 50) (2 ^ 62) totals.new }
     ensures home { rounds.new.home ≡ rounds.new.blocks }
+    ensures named { (h : ℕ → ℕ) → weighed h rounds.new.stock ≡ weighed h rounds.old.stock }
     ensures same { (rounds.new.blocks ≡ rounds.old.blocks) × (options_of rounds.new ≡ options_of rounds.old)
         × (rounds.new.keep ≡ rounds.old.keep) }
     ensures taken { result ≡ CheckEnd.Done → Told (S.left (source_of reader.old)) (S.left (source_of reader.new))

@@ -46,7 +46,7 @@ module _ (passing : List ℕ → Passed) (bytes : Vec ℕ Global) (outcome : Out
 -- ---- over the blocks that were made
 
 pub merged_gives : (blocks budget : ℕ) (plan : Plan) (rounds : RoundsState) (start : List ℕ) (bytes : Vec ℕ Global) (outcome : Outcome) (given left : List ℕ) (end : MergeEnd)
-    → rounds ≡ record { home = blocks; blocks = blocks; taken = 0; budget = budget; plan = plan; keep = false } → start ≡ [] → IsOutcomeOf end bytes outcome
+    → rounds ≡ record { home = blocks; stock = rounds.stock; blocks = blocks; taken = 0; empties = 0; budget = budget; plan = plan; keep = false } → start ≡ [] → IsOutcomeOf end bytes outcome
     → Passes (merging_whole rounds.blocks (options_of rounds)) (Some start) (Some bytes.items) (ending_of end) given left → Gives (merging_whole blocks (options_by plan budget) given) outcome
 merged_gives blocks budget plan rounds start bytes outcome given left end made none is p =
     let made_p = subst (λ (s : RoundsState). Passes (merging_whole s.blocks (options_of s)) (Some start) (Some bytes.items) (ending_of end) given left) made p in
@@ -54,7 +54,7 @@ merged_gives blocks budget plan rounds start bytes outcome given left end made n
     (subst (λ (xs : List ℕ). Passes (merging_whole blocks (options_by plan budget)) (Some xs) (Some bytes.items) (ending_of end) given left) none made_p)
 
 pub segmented_gives : (blocks : ℕ) (run : SegmentState) (start : List ℕ) (bytes : Vec ℕ Global) (outcome : Outcome) (given left : List ℕ) (end : Result (Unit {0}) SegFault)
-    → run ≡ record { home = blocks; blocks = blocks; taken = 0 } → start ≡ [] → IsSegOutcome end bytes outcome
+    → run ≡ record { home = blocks; stock = run.stock; blocks = blocks; taken = 0 } → start ≡ [] → IsSegOutcome end bytes outcome
     → EndsAs (segmenting_whole run.blocks) (Some start) (Some bytes.items) end given left → Gives (segmenting_whole blocks given) outcome
 segmented_gives blocks run start bytes outcome given left end made none is p =
     let made_p = subst (λ (s : SegmentState). EndsAs (segmenting_whole s.blocks) (Some start) (Some bytes.items) end given left) made p in

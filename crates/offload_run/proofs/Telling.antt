@@ -152,23 +152,25 @@ none_checked first blocks o place a old is_flushed rose =
     })
 
 -- the rounds that are made of these options
-abbrev fresh : MergeOptions → RoundsState
-fresh o = record {
+abbrev fresh : MergeOptions → RoundsState → RoundsState
+fresh o rounds = record {
   home = o.blocks;
+  stock = rounds.stock;
   blocks = o.blocks;
   taken = 0;
+  empties = 0;
   budget = o.budget;
   plan = plan_of o;
   keep = true;
 }
 
-pub from_nothing : (o : MergeOptions) (rounds : RoundsState) (totals : Counts) → rounds ≡ fresh o
+pub from_nothing : (o : MergeOptions) (rounds : RoundsState) (totals : Counts) → rounds ≡ fresh o rounds
     → ((p : Options) → p.queues ≡ o.queues → p.taps ≡ o.taps → totals ≡ totals_of p []) → totals ≡ totals_of (rounds_options rounds) []
 from_nothing o rounds totals is none = none (rounds_options rounds) (ap (λ (r : RoundsState). r.plan.queues) is) (ap (λ (r : RoundsState). r.plan.taps) is)
 
 -- all was counted from nothing, and what was counted is told
 pub all_checked : (first : List ℕ) (o : MergeOptions) (rounds : RoundsState) (place : Place) (start totals : Counts) (a b old new : Option (List ℕ)) (is_flushed : Bool)
-    (rose : Type 0) (end : CheckEnd) (status : Status) → rounds ≡ fresh o → start ≡ totals_of (rounds_options rounds) []
+    (rose : Type 0) (end : CheckEnd) (status : Status) → rounds ≡ fresh o rounds → start ≡ totals_of (rounds_options rounds) []
     → Told a b (Tallies (counting rounds.blocks (rounds_options rounds) place) start totals (check_ending end))
     → Tells old new is_flushed (first ++ check_lines totals) (status_if end o.blocks) status → (end ≡ ends.ReadFault → rose)
     → Told a b (Checked first o.blocks (options o) place old new is_flushed rose status)

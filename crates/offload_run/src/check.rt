@@ -1,8 +1,10 @@
 //! Checks a capture: it is merged round by round, as `merge` does, and what comes back of each round is counted. The
 //! counts are written at the end.
-ghost use Rattle.std.specs.Prelude.{◌≡◌, ◌≤◌, ◌<◌, ◌^◌, ◌-◌, ◌+◌, ◌++◌, [], Some, None, length, min, true, OnOk, OnErr};
+ghost use Rattle.std.specs.Prelude.{◌≡◌, ℕ, ◌≤◌, ◌<◌, ◌^◌, ◌-◌, ◌+◌, ◌++◌, [], Some, None, length, min, true};
+ghost use Rattle.std.specs.Prelude.{OnOk, OnErr};
 ghost use Rattle.std.specs.List.{AllByRecursion};
 ghost use Rattle.std.specs.Io.KnownBytes.{Appends};
+ghost use Rattle.block_pool.specs.PoolState.{weighed};
 ghost use Rattle.off_io.specs.Content.{AppendsFront};
 ghost use Rattle.off_io.specs.Faults.{HasCause, Rose};
 ghost use Rattle.off_io.specs.Told.{Told};
@@ -162,6 +164,7 @@ fn count_behind<R: Threads + Wait + Sync, S: Source + Send, G: Gate + Sync>(
     ensures lanes { HasLanes (rounds_options rounds.old) totals.new }
     ensures within { IsWithin (2 ^ 50) (2 ^ 62) totals.new }
     ensures home { rounds.new.home ≡ rounds.new.blocks }
+    ensures named { (h : ℕ → ℕ) → weighed h rounds.new.stock ≡ weighed h rounds.old.stock }
     ensures same { rounds.new.blocks ≡ rounds.old.blocks }
     ensures taken { result ≡ CheckEnd.Done → Told (S.left source.old) (S.left source.new)
         (λ rest left. min (rounds.old.taken + round_need (found_at (first_place file Ethernet 0) rest).packets)

@@ -1,5 +1,6 @@
 //! Merges a capture, in rounds over one pool of blocks.
-ghost use Rattle.std.specs.Prelude.{◌≡◌, ◌≤◌, ◌^◌, ◌-◌, ◌+◌, Some, None, true, false, min, IfOk};
+ghost use Rattle.std.specs.Prelude.{◌≡◌, ℕ, ◌≤◌, ◌^◌, ◌-◌, ◌+◌, Some, None, true, false, min, IfOk};
+ghost use Rattle.block_pool.specs.PoolState.{weighed};
 ghost use Rattle.off_io.specs.Content.{SaysFlushed};
 ghost use Rattle.off_io.specs.Faults.{Rose};
 ghost use Rattle.off_io.specs.Told.{Told};
@@ -73,6 +74,7 @@ fn merge_behind<R: Threads + Wait + Sync, S: Source + Send, K: Sink, G: Gate + S
     ensures flushed { flushes (merge_ending result) ≡ true
         → SaysFlushed (K.held sink.new) (K.is_flushed sink.new) true }
     ensures home { rounds.new.home ≡ rounds.new.blocks }
+    ensures named { (h : ℕ → ℕ) → weighed h rounds.new.stock ≡ weighed h rounds.old.stock }
     ensures same { rounds.new.blocks ≡ rounds.old.blocks }
     ensures taken { result ≡ MergeEnd.Done → Told (S.left source.old) (S.left source.new)
         (λ rest left. min (rounds.old.taken + round_need (found_at (first_place file Ethernet 0) rest).packets)
@@ -95,8 +97,10 @@ pub(crate) fn make_rounds(
     requires range { IsInRange options }
     ensures made { IfOk result (λ rounds. rounds ≡ record {
       home = options.blocks;
+      stock = rounds.stock;
       blocks = options.blocks;
       taken = 0;
+      empties = 0;
       budget = options.budget;
       plan = plan_of options;
       keep = keep;

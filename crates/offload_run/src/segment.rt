@@ -1,6 +1,7 @@
 //! Segments a capture, record by record over one pool of blocks.
-ghost use Rattle.std.specs.Prelude.{◌≡◌, ◌≤◌, ◌^◌, ◌-◌, ◌+◌, ◌⊎◌, Some, None, true, min};
+ghost use Rattle.std.specs.Prelude.{◌≡◌, ℕ, ◌≤◌, ◌^◌, ◌-◌, ◌+◌, ◌⊎◌, Some, None, true, min};
 ghost use Rattle.std.specs.Io.KnownBytes.{Keeps};
+ghost use Rattle.block_pool.specs.PoolState.{weighed};
 ghost use Rattle.off_io.specs.Faults.{Rose};
 ghost use Rattle.off_io.specs.Told.{Told};
 ghost use Rattle.pcap_io.specs.declared.heads.Link.TheVariants.{Ethernet, Offload};
@@ -71,6 +72,7 @@ fn segment_all<S: Source, K: Sink>(
     ensures flushed { FlushesAt (K.held sink.new) (K.is_flushed sink.new) (ending_of result) }
     ensures blocks { HasBlocks blocks result }
     ensures home { (run.new.blocks ≡ blocks) × (run.new.home ≡ blocks) }
+    ensures named { (h : ℕ → ℕ) → weighed h run.new.stock ≡ weighed h run.old.stock }
     ensures taken { result ≡ Status.Ok → Told (S.left (source_of reader.old)) (S.left (source_of reader.new))
         (λ bytes left. min (run.old.taken + records_need (found_at (place_of reader.old) bytes).packets) (2 ^ 64 - 1)
         ≤ run.new.taken) }
@@ -109,6 +111,7 @@ fn segment_behind<S: Source, K: Sink>(
     ensures flushed { FlushesAt (K.held sink.new) (K.is_flushed sink.new) (ending_of result) }
     ensures blocks { HasBlocks blocks result }
     ensures home { (run.new.blocks ≡ blocks) × (run.new.home ≡ blocks) }
+    ensures named { (h : ℕ → ℕ) → weighed h run.new.stock ≡ weighed h run.old.stock }
     ensures taken { result ≡ Status.Ok → Told (S.left source.old) (S.left source.new)
         (λ rest left. min (run.old.taken + records_need (found_at (first_place file Offload 0) rest).packets)
         (2 ^ 64 - 1) ≤ run.new.taken) }

@@ -3,7 +3,7 @@ use Rattle.std.proofs.Common.{◌∙◌, Option, None, Some, refl, sym, subst, a
 use Rattle.block_pool.specs.Giving.{GiverState}
 use Rattle.block_pool.specs.PassState.{SharedState}
 use Rattle.rounds.specs.Benches.{IsLent, Lends}
-use Rattle.pipeline.specs.Parcels.{HasGiver}
+use Rattle.rounds.specs.Lists.{HasGiver}
 
 pub lends_same : (g : Option GiverState) → IsLent g → Lends g g
 lends_same None lent = refl

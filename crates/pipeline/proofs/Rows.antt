@@ -1,25 +1,19 @@
 -- Rounds that were read one after another.
-use Rattle.std.proofs.Common.{◌≡◌, ◌+◌, ◌-◌, ◌^◌, ◌≤◌, ◌⊎◌, inl, inr, ℕ, List, [], ◌∷◌, ◌++◌, true, Option, Some, None, MatchOption, refl, sym, ap, ◌∙◌, subst, length, min, arith, append_assoc}
-use Rattle.std.proofs.Common.{append-nil}
-use Rattle.std.specs.List.{AllByRecursion}
-use Rattle.std.proofs.lemmas.Bool.{false≢true}
-use Rattle.off_io.specs.Told.{Told}
-use Rattle.off_io.proofs.Telling.{Told-then, Told-same, Told-weaker}
+use Rattle.std.proofs.Common.{◌≡◌, ◌+◌, ◌≤◌, ◌⊎◌, inl, inr, ℕ, List, [], ◌∷◌, ◌++◌, Option, Some, None, MatchOption, refl, ap, ◌∙◌, subst, length, arith, append_assoc, append-nil}
+use Rattle.std.specs.List.{sum_by}
+use Rattle.std.proofs.lemmas.List.Sums.{sum_by-append}
 use Rattle.pcap_io.specs.declared.place.Place.{Place}
-use Rattle.pcap_io.specs.Reading.{Loses}
 use Rattle.std.specs.declared.alloc.Global.{Global}
-use Rattle.block_pool.specs.PoolState.{home}
+use Rattle.raw_block.specs.Views.{SoleState}
+use Rattle.block_pool.specs.PoolState.{PoolState, home, weighed, MovesAll, MovesLast}
 use Rattle.rtrb.specs.declared.consumer.Consumer.{Consumer}
 use Rattle.rtrb.specs.Ring.{SameConsumer}
-use Rattle.gro.specs.declared.slot.Slot.{Slot as Held}
-use Rattle.rounds.specs.declared.round.RoundEnd.{RoundEnd}
-use Rattle.rounds.specs.declared.round.RoundEnd.TheVariants as ends
 use Rattle.rounds.specs.declared.round.RoundRead.{RoundRead}
-use Rattle.rounds.specs.Reading.{GivesRound}
+use Rattle.rounds.specs.Reads.{Spot, spot, ReadRound}
 use Rattle.pipeline.specs.declared.parcel.Parcel.{Parcel}
 use Rattle.pipeline.specs.declared.parcel.Token.{Token}
-use Rattle.pipeline.specs.Parcels.{RingName, IsOfRing, is_full, blocks_of, homes_of, packets_of, rounds_of}
-use Rattle.pipeline.specs.Reads.{Spot, spot, ReadRound, Reads}
+use Rattle.pipeline.specs.Parcels.{RingName, IsOfRing, blocks_of, homes_of, packets_of, rounds_of}
+use Rattle.pipeline.specs.Parcels.{shelved, weights_back, weights_sent, weights_shelved}
 
 -- ---- lists
 
@@ -51,6 +45,27 @@ homes_append (t ∷ ts) us = omega (arith, homes_append ts us)
 pub homes_last : (ts : List Token) (t : Token) → homes_of (ts ++ t ∷ []) ≡ homes_of ts + home t.shelf
 homes_last ts t = omega (arith, homes_append ts (t ∷ []))
 
+-- what these weigh, each by its name
+pub weights_sent_append : (h : ℕ → ℕ) (xs ys : List (Option Parcel)) → weights_sent h (xs ++ ys) ≡ weights_sent h xs + weights_sent h ys
+weights_sent_append h [] ys = omega arith
+weights_sent_append h (None ∷ xs) ys = weights_sent_append h xs ys
+weights_sent_append h (Some p ∷ xs) ys = omega (arith, weights_sent_append h xs ys)
+
+pub weights_back_append : (h : ℕ → ℕ) (ts us : List Token) → weights_back h (ts ++ us) ≡ weights_back h ts + weights_back h us
+weights_back_append h [] us = omega arith
+weights_back_append h (t ∷ ts) us = omega (arith, weights_back_append h ts us)
+
+pub weights_back_last : (h : ℕ → ℕ) (ts : List Token) (t : Token) → weights_back h (ts ++ t ∷ []) ≡ weights_back h ts + weighed h t.shelf.blocks
+weights_back_last h ts t = omega (arith, weights_back_append h ts (t ∷ []))
+
+-- no blocks weigh nothing
+pub weighed_none : (h : ℕ → ℕ) (bs : List SoleState) → length bs ≡ 0 → weighed h bs ≡ 0
+weighed_none h bs none = ap (weighed h) (none_known bs (omega (arith, none)))
+
+pub shelved_none : (h : ℕ → ℕ) (ss : List PoolState) → shelved ss ≡ 0 → weights_shelved h ss ≡ 0
+shelved_none h [] none = refl
+shelved_none h (s ∷ ss) none = omega (arith, weighed_none h s.blocks (omega (arith, none)), shelved_none h ss (omega (arith, none)))
+
 -- it is still the end of that ring
 pub ring_kept : {T P : Type 0} (ring : RingName) (a b : Consumer T Global P) → SameConsumer a b → IsOfRing ring a → IsOfRing ring b
 ring_kept ring a b s h = (s.0.0 ∙ h.0, s.0.1 ∙ h.1, s.0.2 ∙ h.2, s.0.3 ∙ h.3)
@@ -59,10 +74,25 @@ pub homes_may : (r : Option Token) (A : Token → Type 0) (old new : List Token)
 homes_may None A old new e = omega (arith, ap homes_of e)
 homes_may (Some t) A old new e = omega (arith, ap homes_of e.0, homes_last old t)
 
+pub weights_back_may : (h : ℕ → ℕ) (r : Option Token) (A : Token → Type 0) (old new : List Token) → MatchOption r (new ≡ old) (λ t. (new ≡ old ++ t ∷ []) × A t)
+    → weights_back h old ≤ weights_back h new
+weights_back_may h None A old new e = omega (arith, ap (weights_back h) e)
+weights_back_may h (Some t) A old new e = omega (arith, ap (weights_back h) e.0, weights_back_last h old t)
+
 -- what is left on a shelf isn't more than was on it
 pub left_less : (p p' s s' made : ℕ) → p' + s' ≡ p + s → (s' ≡ 0) ⊎ (p' ≡ made) → p ≤ made → s' ≤ s
 left_less p p' s s' made sum (inl e) le = omega (arith, e)
 left_less p p' s s' made sum (inr e) le = omega (arith, sum, e, le)
+
+-- nor does what is left on a shelf weigh more
+pub left_weighs : (h : ℕ → ℕ) (a b c d : PoolState) → MovesAll a b c d ⊎ MovesLast a b c d → weighed h b.blocks ≤ weighed h a.blocks
+left_weighs h a b c d (inl all) = omega (arith, ap (weighed h) all.0)
+left_weighs h a b c d (inr last) = omega (arith, ap (weighed h) last.1, sum_by-append (λ (s : SoleState). h s.block) b.blocks last.0)
+
+-- and blocks that go from a shelf to a pool weigh there what they weighed
+pub refill_weighs : (h : ℕ → ℕ) (from from' to to' : List SoleState) → ((f : SoleState → ℕ) → sum_by f to' + sum_by f from' ≡ sum_by f to + sum_by f from)
+    → weighed h to' + weighed h from' ≡ weighed h to + weighed h from
+refill_weighs h from from' to to' all = all (λ (s : SoleState). h s.block)
 
 -- ---- rounds
 
@@ -92,66 +122,9 @@ rounds_last xs xs1 p is = ap rounds_of is ∙ rounds_append xs (Some p ∷ [])
 pub rounds_none : (xs xs1 : List (Option Parcel)) (x : Option Parcel) → x ≡ None → xs1 ≡ xs ++ x ∷ [] → rounds_of xs1 ≡ rounds_of xs
 rounds_none xs xs1 x none is = ap rounds_of (is ∙ ap (λ (y : Option Parcel). xs ++ y ∷ []) none) ∙ rounds_append xs (None ∷ []) ∙ append-nil (rounds_of xs)
 
--- all so far were full
-abbrev pub AllGo : List RoundRead → Type 0
-AllGo rs = AllByRecursion (λ read. is_full read.end ≡ true) rs
-
-pub all_go_last : (rs : List RoundRead) (read : RoundRead) → AllGo rs → is_full read.end ≡ true → AllGo (rs ++ read ∷ [])
-all_go_last [] read go e = (e, tt)
-all_go_last (x ∷ rs) read go e = (go.0, all_go_last rs read go.1 e)
-
-module _ (blocks budget : ℕ) where
-  -- one round more
-  pub reads_last : (from mid to : Spot) (rs : List RoundRead) (read : RoundRead) → Reads blocks budget from rs mid → AllGo rs → ReadRound blocks budget mid to read
-      → Reads blocks budget from (rs ++ read ∷ []) to
-  reads_last from mid to [] read reads go next = (to, subst (λ (m : Spot). ReadRound blocks budget m to read) reads next, (λ _. refl), refl)
-  reads_last from mid to (x ∷ rs) read reads go next =
-      (reads.0, reads.1, (λ e. absurd (false≢true (sym e ∙ go.0))), reads_last reads.0 mid to rs read reads.3 go.1 next)
-
-  -- faults only come
-  pub reads_later : (from to : Spot) (rs : List RoundRead) → Reads blocks budget from rs to → from.faults ≤ to.faults
-  reads_later from to [] reads = omega (arith, ap (λ (s : Spot). s.faults) reads)
-  reads_later from to (x ∷ rs) reads = omega (arith, reads.1.later, reads_later reads.0 to rs reads.3)
-
-  -- blocks are only taken
-  pub reads_least : (from to : Spot) (rs : List RoundRead) → Reads blocks budget from rs to → min from.taken (2 ^ 64 - 1) ≤ to.taken
-  reads_least from to [] reads = omega (arith, ap (λ (s : Spot). s.taken) reads)
-  reads_least from to (x ∷ rs) reads = omega (arith, reads.1.took, reads_least reads.0 to rs reads.3)
-
-  -- bytes are only lost
-  round_loses : (from to : Place) (round : List Held) (end : RoundEnd) (bytes left : List ℕ) → GivesRound blocks from to round end bytes left → Loses bytes left
-  round_loses from to round ends.Full bytes left gives = (gives.0, gives.1)
-  round_loses from to round ends.End bytes left gives = (bytes, rw gives.2 (sym (append-nil bytes)))
-  round_loses from to round (ends.Malformed fault) bytes left gives = (gives.2.0, gives.2.1)
-  round_loses from to round (ends.PoolEmpty need) bytes left gives = gives.1.1.3
-  round_loses from to round ends.ReadFault bytes left gives = (gives.0, gives.1)
-  round_loses from to round ends.NoMemory bytes left gives = gives
-
-  none_lost : (bytes : List ℕ) → Loses bytes bytes
-  none_lost bytes = ([], refl)
-
-  lost_then : (bytes mid left : List ℕ) → Loses bytes mid → Loses mid left → Loses bytes left
-  lost_then bytes mid left a b = (a.0 ++ b.0, a.1 ∙ ap (λ (l : List ℕ). a.0 ++ l) b.1 ∙ sym (append_assoc a.0 b.0 left))
-
-  pub reads_lose : (from to : Spot) (rs : List RoundRead) → Reads blocks budget from rs to → Told from.left to.left Loses
-  reads_lose from to [] reads = subst (λ (s : Spot). Told from.left s.left Loses) (sym reads) (Told-same from.left Loses none_lost)
-  reads_lose from to (x ∷ rs) reads =
-      Told-then from.left reads.0.left to.left Loses Loses Loses (λ bytes mid left a b. lost_then bytes mid left a b)
-      (Told-weaker from.left reads.0.left (GivesRound blocks from.place reads.0.place x.round.packets x.end) Loses
-      (λ bytes left gives. round_loses from.place reads.0.place x.round.packets x.end bytes left gives) reads.1.given)
-      (reads_lose reads.0 to rs reads.3)
-
 -- the same round, by names of the same numbers
 pub read_as : (b b' n n' t t' : ℕ) (place : Place) (left : Option (List ℕ)) (faults : ℕ) (to : Spot) (read : RoundRead) → b' ≡ b → n' ≡ n → t' ≡ t
     → ReadRound b' n' (spot place left faults t') to read → ReadRound b n (spot place left faults t) to read
 read_as b b' n n' t t' place left faults to read eb en et r =
     subst (λ (x : ℕ). ReadRound x n (spot place left faults t) to read) eb
     (subst (λ (x : ℕ). ReadRound b' x (spot place left faults t) to read) en (subst (λ (x : ℕ). ReadRound b' n' (spot place left faults x) to read) et r))
-
-pub full_end : (end : RoundEnd) → is_full end ≡ true → end ≡ ends.Full
-full_end ends.Full e = refl
-full_end ends.End e = absurd (false≢true e)
-full_end (ends.Malformed fault) e = absurd (false≢true e)
-full_end ends.ReadFault e = absurd (false≢true e)
-full_end (ends.PoolEmpty need) e = absurd (false≢true e)
-full_end ends.NoMemory e = absurd (false≢true e)

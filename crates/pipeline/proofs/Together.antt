@@ -2,17 +2,22 @@
 use Rattle.std.proofs.Common.{◌≡◌, ◌∙◌, ◌+◌, ◌<◌, ◌≤◌, ◌^◌, ℕ, List, [], ◌∷◌, ◌++◌, length, length-append}
 use Rattle.std.proofs.Common.{Option, None, Some, MatchOption, IfSome, Result, Ok, Err, Bool, false, inl, inr, refl, sym, ap, subst, arith}
 use Rattle.std.proofs.lemmas.Bool.{false≢true}
+use Rattle.block_pool.specs.PoolState.{weighed}
 use Rattle.offload_model.specs.Written.{Options}
 use Rattle.rounds.specs.declared.round.RoundEnd.TheVariants as rounds
 use Rattle.rounds.specs.declared.round.RoundRead.{RoundRead}
+use Rattle.rounds.specs.Handled.{Ends, Ran, Rests, IsReadyAtEnd, Handled}
 use Rattle.rounds.specs.Merging.{options_of}
+use Rattle.rounds.specs.Reads.{Spot, ReadRound, Reads, is_full}
 use Rattle.rounds.specs.RoundsState.{RoundsState, IntakeState}
+use Rattle.rounds.specs.Weights.{weights_of}
 use Rattle.pipeline.specs.declared.parcel.Parcel.{Parcel}
-use Rattle.pipeline.specs.Handled.{Ends, Ran, RanOn, Rests, IsReadyAt, IsReadyAtEnd, Stepped, Handled, HandledOn, MayGoOn, IsOut, Idle, MayBeHandled}
-use Rattle.pipeline.specs.Handled.{ComesBack, blocks_out}
-use Rattle.pipeline.specs.Parcels.{blocks_of, is_full, rounds_of}
-use Rattle.pipeline.specs.Reads.{Spot, ReadRound, Reads, ReadOn, IsAlone}
-use Rattle.pipeline.proofs.Rows.{none_known, reads_least, rounds_append}
+use Rattle.pipeline.specs.Handled.{RanOn, HandledOn, MayGoOn, IsOut, Idle, MayBeHandled, ComesBack, blocks_out, weights_out}
+use Rattle.pipeline.specs.Parcels.{blocks_of, rounds_of, weights_sent}
+use Rattle.pipeline.specs.Reads.{ReadOn, IsAlone}
+use Rattle.rounds.proofs.Going.{counted_as}
+use Rattle.rounds.proofs.Rows.{reads_least}
+use Rattle.pipeline.proofs.Rows.{none_known, rounds_append}
 
 -- the same reading, by names of the same numbers
 pub reads_as : (i i' budget budget' : ℕ) (from from' to to' : Spot) (xs xs' : List RoundRead) → i' ≡ i → budget' ≡ budget → from' ≡ from → to' ≡ to → xs' ≡ xs → Reads i' budget' from' xs' to'
@@ -82,29 +87,39 @@ module _ {T E : Type 0} (did : T → T → RoundRead → ℕ → Option E → Ty
   all_is : rounds_of got ++ rounds_of known ≡ read ∷ s.on.more
   all_is = sym (rounds_append got known) ∙ ap rounds_of s.fifo ∙ s.on.sent ∙ ap (λ (rs : List RoundRead). rs ++ s.on.more) first_is
 
+  -- the blocks of the first round came home with the others, but for those of a round that comes back
+  abbrev IsBroughtBut : Result E RoundRead → Type 0
+  IsBroughtBut result = (h : ℕ → ℕ) → weighed h new.stock + weights_out result h ≡ weighed h state.stock + weights_of read.round h
+
+  abbrev IsBrought : Type 0
+  IsBrought = (h : ℕ → ℕ) → weighed h new.stock ≡ weighed h state.stock + weights_of read.round h
+
   -- the side that works says how it ended, whatever was read behind that
-  both_went : (end : E) → home ≡ state.blocks → Ends did stopped 0 was is (rounds_of got) end → HandledOn did stopped ready state new read first last was is end
-  both_went end all ends = record {
+  both_went : (end : E) → home ≡ state.blocks → IsBrought → Ends did stopped 0 was is (rounds_of got) end → HandledOn did stopped ready state new read first last was is end
+  both_went end all brought ends = record {
     ran = record { got = rounds_of got; more = rounds_of known; rest = s.on.more; all = all_is; closes = closed; reads = read_behind; ends = ends };
     rests = all_rest all;
+    named = brought;
     counted = counted;
   }
 
   -- no side worked, and rounds were lost
-  none_went : home ≡ state.blocks → is ≡ was → HandledOn did stopped ready state new read first last was is stopped
-  none_went all same = record {
+  none_went : home ≡ state.blocks → IsBrought → is ≡ was → HandledOn did stopped ready state new read first last was is stopped
+  none_went all brought same = record {
     ran = record { got = []; more = read ∷ s.on.more; rest = s.on.more; all = refl; closes = closed; reads = read_behind; ends = (refl, same) };
     rests = all_rest all;
+    named = brought;
     counted = counted;
   }
 
   -- nothing else was read
-  idle : length sent ≡ 1 → rounds_of sent ≡ read ∷ [] → home ≡ state.home → is ≡ was → Idle state new first last was is
-  idle count alone homes same =
+  idle : length sent ≡ 1 → rounds_of sent ≡ read ∷ [] → home ≡ state.home → ((h : ℕ → ℕ) → weighed h new.stock ≡ weighed h state.stock) → is ≡ was → Idle state new first last was is
+  idle count alone homes named same =
       let none : s.on.more ≡ [] = none_known s.on.more (omega (arith, ap length (sym alone ∙ s.on.sent), length-append (rounds_of one) s.on.more, ap length first_is)) in
       let stands : last ≡ first = subst (λ (l : List RoundRead). Reads state.blocks state.budget first l last) none read_behind in
       record {
         home = re.all ∙ homes;
+        named = named;
         same = re.same;
         taken = ap (λ (x : Spot). x.taken) stands;
         stands = stands;
@@ -115,21 +130,26 @@ module _ {T E : Type 0} (did : T → T → RoundRead → ℕ → Option E → Ty
   Came result = MayBeHandled did stopped ready state new read first last was is result
 
   -- no side worked
-  unworked : (result : Result E RoundRead) (left : List (Option Parcel)) → home + blocks_out result ≡ state.blocks → (got ≡ []) × (is ≡ was) → ComesBack stopped known left result → Came result
-  unworked (Ok end) left all none back = subst (λ (e : E). Came (Ok e)) (sym back.0) (none_went (omega (arith, all)) none.1)
-  unworked (Err x) left all none back =
+  unworked : (result : Result E RoundRead) (left : List (Option Parcel)) → home + blocks_out result ≡ state.blocks → IsBroughtBut result → (got ≡ []) × (is ≡ was)
+      → ComesBack stopped known left result → Came result
+  unworked (Ok end) left all brought none back = subst (λ (e : E). Came (Ok e)) (sym back.0) (none_went (omega (arith, all)) (λ h. omega (arith, brought h)) none.1)
+  unworked (Err x) left all brought none back =
       let sent_is : sent ≡ Some back.0 ∷ [] = sym s.fifo ∙ ap (λ (l : List (Option Parcel)). l ++ known) none.0 ∙ back.2 in
       let front : back.0.read ∷ [] ≡ read ∷ s.on.more = sym (ap rounds_of sent_is) ∙ s.on.sent ∙ ap (λ (rs : List RoundRead). rs ++ s.on.more) first_is in
       let same : back.0.read ≡ read = ap (front_of back.0.read) front in
-      let is_read : x ≡ read = sym back.1 ∙ same in
-      (is_read, idle (ap length sent_is) (ap rounds_of sent_is ∙ ap (λ (r : RoundRead). r ∷ []) same) (omega (arith, all, s.out, ap (λ (r : RoundRead). r.round.blocks) is_read)) none.1)
+      let is_read : x ≡ read = sym back.1 ∙ same in (
+        is_read,
+        idle (ap length sent_is) (ap rounds_of sent_is ∙ ap (λ (r : RoundRead). r ∷ []) same) (omega (arith, all, s.out, ap (λ (r : RoundRead). r.round.blocks) is_read))
+            (λ h. omega (arith, brought h, ap (λ (r : RoundRead). weights_of r.round h) is_read)) none.1,
+      )
 
   -- whether a side worked or not
-  pub all_went : (end : Option E) (result : Result E RoundRead) (left : List (Option Parcel)) → home + blocks_out result ≡ state.blocks
+  pub all_went : (end : Option E) (result : Result E RoundRead) (left : List (Option Parcel)) → home + blocks_out result ≡ state.blocks → IsBroughtBut result
       → MatchOption end ((got ≡ []) × (is ≡ was)) (λ e. Ends did stopped 0 was is (rounds_of got) e)
       → IfSome end (λ e. (result ≡ Ok e) × (left ≡ known)) → (end ≡ None → ComesBack stopped known left result) → Came result
-  all_went (Some end) result left all ends some none = subst Came (sym some.0) (both_went end (omega (arith, all, ap blocks_out some.0)) ends)
-  all_went None result left all ends some none = unworked result left all ends (none refl)
+  all_went (Some end) result left all brought ends some none =
+      subst Came (sym some.0) (both_went end (omega (arith, all, ap blocks_out some.0)) (λ h. omega (arith, brought h, ap (λ r. weights_out r h) some.0)) ends)
+  all_went None result left all brought ends some none = unworked result left all brought ends (none refl)
 
 -- what the side that works says, by the options of both
 pub ends_as : {T E : Type 0} (did : Options → T → T → RoundRead → ℕ → Option E → Type 0) (stopped : E) (o o' : Options) (got : List (Option Parcel)) (was is : T) (end : Option E)
@@ -148,11 +168,21 @@ left_out stopped None (Err x) known left some none =
     let back = none refl in
     omega (arith, ap blocks_of back.2, ap blocks_of back.3, ap (λ (r : RoundRead). r.round.blocks) back.1)
 
+-- and what these weigh, each by its name
+pub left_weights : {E : Type 0} (h : ℕ → ℕ) (stopped : E) (end : Option E) (result : Result E RoundRead) (known left : List (Option Parcel)) → IfSome end (λ e. (result ≡ Ok e) × (left ≡ known))
+    → (end ≡ None → ComesBack stopped known left result) → weights_sent h left + weights_out result h ≡ weights_sent h known
+left_weights h stopped (Some end) result known left some none = omega (arith, ap (weights_sent h) some.1, ap (λ r. weights_out r h) some.0)
+left_weights h stopped None (Ok end) known left some none = omega (arith, (none refl).2 h)
+left_weights h stopped None (Err x) known left some none =
+    let back = none refl in
+    omega (arith, ap (weights_sent h) back.2, ap (weights_sent h) back.3, ap (λ (r : RoundRead). weights_of r.round h) back.1)
+
 -- ---- where nothing else was read one side goes on alone
 
 pub idle_as : {T : Type 0} (old new : RoundsState) (at : Spot) (was : T) → new ≡ old → Idle old new (record at { taken = old.taken }) (record at { taken = new.taken }) was was
 idle_as old new at was same = record {
   home = ap (λ (s : RoundsState). s.home) same;
+  named = λ h. ap (λ (s : RoundsState). weighed h s.stock) same;
   same = (ap (λ (s : RoundsState). s.blocks) same, ap options_of same, ap (λ (s : RoundsState). s.keep) same);
   taken = ap (λ (s : RoundsState). s.taken) same;
   stands = ap (λ (s : RoundsState). record at { taken = s.taken }) same;
@@ -173,9 +203,6 @@ idle_out old new read back from to was is same idle out =
 -- ---- the same, of rounds with the same options
 
 module _ {T E : Type 0} (did : Options → T → T → RoundRead → ℕ → Option E → Type 0) (stopped : E) (ready : Options → Bool → ℕ → T → Type 0) where
-  pub ready_as : (o o' : Options) (keep keep' : Bool) (n : ℕ) (t : T) → o' ≡ o → keep' ≡ keep → ready o' keep' n t → ready o keep n t
-  ready_as o o' keep keep' n t eo ek r = subst (λ (x : Options). ready x keep n t) eo (subst (λ (b : Bool). ready o' b n t) ek r)
-
   pub handled_as : (o o' : Options) (was is : T) (read read' : RoundRead) (k k' : ℕ) (end : Option E) → o' ≡ o → read' ≡ read → k' ≡ k → did o' was is read' k' end → did o was is read k end
   handled_as o o' was is read read' k k' end eo er ek d =
       subst (λ (x : Options). did x was is read k end) eo
@@ -191,9 +218,6 @@ module _ {T E : Type 0} (did : Options → T → T → RoundRead → ℕ → Opt
       (subst (λ (x : ℕ). RanOn (did o) stopped x n' back at' to was' is end) eb
       (subst (λ (x : Options). RanOn (did x) stopped b' n' back at' to was' is end) eo ran)))))
 
-  pub counted_as : (o o' : Options) (keep keep' : Bool) (most : ℕ) (t : T) → o' ≡ o → keep' ≡ keep → IsReadyAt (ready o' keep') most t → IsReadyAt (ready o keep) most t
-  counted_as o o' keep keep' most t eo ek c = (c.0, c.1, ready_as o o' keep keep' c.0 t eo ek c.2)
-
   -- one side alone, where nothing else was read
   pub idle_went : (old mid new : RoundsState) (read back : RoundRead) (from at to : Spot) (was between is : T) (end : E) → back ≡ read → Idle old mid from at was between
       → HandledOn (did (options_of mid)) stopped (ready (options_of mid) mid.keep) mid new back at to between is end
@@ -207,15 +231,17 @@ module _ {T E : Type 0} (did : Options → T → T → RoundRead → ℕ → Opt
       least = omega (arith, h.rests.least, idle.taken);
       later = omega (arith, ap (λ (s : Spot). s.faults) idle.stands, h.rests.later);
     };
-    counted = counted_as (options_of old) (options_of mid) old.keep mid.keep (2 ^ 32 + 4096) is idle.same.1 idle.same.2 h.counted;
+    named = λ x. omega (arith, h.named x, idle.named x, ap (λ (r : RoundRead). weights_of r.round x) same);
+    counted = counted_as did stopped ready (options_of old) (options_of mid) old.keep mid.keep (2 ^ 32 + 4096) is idle.same.1 idle.same.2 h.counted;
   }
 
   -- with the first round, from where it was read
   pub all_handled : (old mid new : RoundsState) (read : RoundRead) (from at to : Spot) (was is : T) (end : E) → ReadRound old.blocks old.budget from at read
       → (mid.blocks ≡ old.blocks) × (options_of mid ≡ options_of old) × (mid.keep ≡ old.keep) → old.taken ≤ mid.taken
+      → ((h : ℕ → ℕ) → weighed h mid.stock + weights_of read.round h ≡ weighed h old.stock)
       → HandledOn (did (options_of mid)) stopped (ready (options_of mid) mid.keep) mid new read at to was is end
       → Handled (did (options_of old)) stopped (ready (options_of old) old.keep) 0 old new from to was is end
-  all_handled old mid new read from at to was is end r same least h =
+  all_handled old mid new read from at to was is end r same least named h =
       let ran = ran_as (options_of old) (options_of mid) old.blocks mid.blocks old.budget mid.budget read read at at to was was is end same.1 same.0
       (ap (λ (o : Options). o.budget) same.1) refl refl refl h.ran in
       let reads : Reads old.blocks old.budget from (read ∷ ran.rest) to = (at, r, ran.closes, ran.reads) in
@@ -227,13 +253,15 @@ module _ {T E : Type 0} (did : Options → T → T → RoundRead → ℕ → Opt
           least = omega (arith, h.rests.least, least);
           later = omega (arith, r.later, h.rests.later);
         };
-        counted = counted_as (options_of old) (options_of mid) old.keep mid.keep (2 ^ 32 + 4096) is same.1 same.2 h.counted;
+        named = λ x. omega (arith, h.named x, named x);
+        counted = counted_as did stopped ready (options_of old) (options_of mid) old.keep mid.keep (2 ^ 32 + 4096) is same.1 same.2 h.counted;
       }
 
   -- ---- in one thread
 
   module _ (old mid : RoundsState) (read : RoundRead) (at : Spot) (was between : T) (out : old.home + read.round.blocks ≡ old.blocks) (few : length read.round.packets ≤ 4096)
-      (put : mid ≡ record old { home = old.home + read.round.blocks }) (counted : ready (options_of old) old.keep (0 + length read.round.packets) between) where
+      (put : mid ≡ record old { home = old.home + read.round.blocks; stock = mid.stock })
+      (named : (h : ℕ → ℕ) → weighed h mid.stock ≡ weighed h old.stock + weights_of read.round h) (counted : ready (options_of old) old.keep (0 + length read.round.packets) between) where
     put_home : mid.home ≡ mid.blocks
     put_home = ap (λ (s : RoundsState). s.home) put ∙ out ∙ sym (ap (λ (s : RoundsState). s.blocks) put)
 
@@ -256,6 +284,7 @@ module _ {T E : Type 0} (did : Options → T → T → RoundRead → ℕ → Opt
         least = omega (arith, ap (λ (s : RoundsState). s.taken) put);
         later = omega arith;
       };
+      named = named;
       counted = (0 + length read.round.packets, omega (arith, few), counted);
     }
 
@@ -282,25 +311,6 @@ module _ {T E : Type 0} (did : Options → T → T → RoundRead → ℕ → Opt
             least = omega (arith, h.rests.least, ap (λ (s : RoundsState). s.taken) put);
             later = h.rests.later;
           };
-          counted = counted_as (options_of old) (options_of mid) old.keep mid.keep (2 ^ 32 + 4096) is (ap options_of put) (ap (λ (s : RoundsState). s.keep) put) h.counted;
+          named = λ x. omega (arith, h.named x, named x);
+          counted = counted_as did stopped ready (options_of old) (options_of mid) old.keep mid.keep (2 ^ 32 + 4096) is (ap options_of put) (ap (λ (s : RoundsState). s.keep) put) h.counted;
         }
-
-  -- ---- round by round
-
-  -- a step of rounds that are as they were at first
-  pub stepped_as : (old now : RoundsState) (k : ℕ) (from to : Spot) (was is : T) (result : Option E) → (now.blocks ≡ old.blocks) × (options_of now ≡ options_of old) × (now.keep ≡ old.keep)
-      → Stepped (did (options_of now)) (ready (options_of now) now.keep) now.blocks now.budget k from to was is result
-      → Stepped (did (options_of old)) (ready (options_of old) old.keep) old.blocks old.budget k from to was is result
-  stepped_as old now k from to was is result same s =
-      subst (λ (x : Bool). Stepped (did (options_of old)) (ready (options_of old) x) old.blocks old.budget k from to was is result) same.2
-      (subst (λ (x : ℕ). Stepped (did (options_of old)) (ready (options_of old) now.keep) old.blocks x k from to was is result) (ap (λ (o : Options). o.budget) same.1)
-      (subst (λ (x : ℕ). Stepped (did (options_of old)) (ready (options_of old) now.keep) x now.budget k from to was is result) same.0
-      (subst (λ (x : Options). Stepped (did x) (ready x now.keep) now.blocks now.budget k from to was is result) same.1 s)))
-
-pub rests_then : (old now new : RoundsState) (from at to : Spot) → Rests old now from at → Rests now new at to → Rests old new from to
-rests_then old now new from at to a b = record {
-  home = b.home;
-  same = (b.same.0 ∙ a.same.0, b.same.1 ∙ a.same.1, b.same.2 ∙ a.same.2);
-  least = omega (arith, a.least, b.least);
-  later = omega (arith, a.later, b.later);
-}

@@ -3,9 +3,16 @@ use Rattle.std.specs.Prelude.{ℕ, ◌+◌, ◌-◌}
 use Rattle.rtrb.specs.Ring.{received}
 use Rattle.pipeline.specs.declared.desk.Desk.{Desk}
 use Rattle.pipeline.specs.declared.post.Post.{Ghosts}
-use Rattle.pipeline.specs.Parcels.{homes_of, listed_home, shelved}
+use Rattle.rounds.specs.Lists.{listed_home, weights_home}
+use Rattle.pipeline.specs.Parcels.{homes_of, shelved, weights_back, weights_shelved}
 
 -- blocks from shelves, and of lists
 abbrev pub brought_to : {W : Type 0} {G : Ghosts W} → Desk W G → ℕ
 brought_to desk =
     (homes_of (received desk.tokens) - shelved desk.shelves.items) + listed_home desk.taker.pass desk.taker.left
+
+-- what these weigh together, each by its name
+abbrev pub weights_to : {W : Type 0} {G : Ghosts W} → Desk W G → (ℕ → ℕ) → ℕ
+weights_to desk h =
+    (weights_back h (received desk.tokens) - weights_shelved h desk.shelves.items)
+    + weights_home h desk.taker.pass desk.taker.left

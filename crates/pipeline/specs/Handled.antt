@@ -1,41 +1,21 @@
--- What was done with rounds that were read, one after another.
-use Rattle.std.specs.Prelude.{ℕ, ◌≡◌, ◌⊎◌, ◌+◌, ◌≤◌, ◌^◌, false, Option, None, Some, List, [], ◌∷◌, ◌++◌, length}
-use Rattle.std.specs.Prelude.{Result, Ok, Err}
+-- What was done with rounds of which the first was read before.
+use Rattle.std.specs.Prelude.{ℕ, ◌≡◌, ◌+◌, ◌≤◌, false, Option, Some, List, [], ◌∷◌, ◌++◌, length, Result, Ok, Err}
+use Rattle.block_pool.specs.PoolState.{weighed}
 use Rattle.pcap_io.specs.declared.heads.Link.TheVariants.{Ethernet}
 use Rattle.pcap_io.specs.declared.place.Place.{Place}
 use Rattle.pcap_io.specs.Places.{IsReady}
 use Rattle.rounds.specs.declared.round.RoundEnd.TheVariants as ends
 use Rattle.rounds.specs.declared.round.RoundRead.{RoundRead}
 use Rattle.rounds.specs.Benches.{IsRead}
+use Rattle.rounds.specs.Handled.{Ends, IsReadyAtEnd, Rests}
 use Rattle.rounds.specs.Merging.{options_of}
+use Rattle.rounds.specs.Reads.{Spot, Reads, is_full}
 use Rattle.rounds.specs.RoundsState.{RoundsState}
+use Rattle.rounds.specs.Weights.{weights_of}
 use Rattle.pipeline.specs.declared.parcel.Parcel.{Parcel}
-use Rattle.pipeline.specs.Parcels.{blocks_of, is_full}
-use Rattle.pipeline.specs.Reads.{Spot, Reads, ReadRound}
+use Rattle.pipeline.specs.Parcels.{blocks_of, weights_sent}
 
--- By `did` a round did this with what had come of those before it, k of them: more may follow, or it ended. These
--- rounds went by, and more may follow.
-abbrev pub Went : {T E : Type 0} → (T → T → RoundRead → ℕ → Option E → Type 0) → ℕ → T → T → List RoundRead → Type 0
-Went did k old new [] = new ≡ old
-Went {T} did k old new (read ∷ rs) = (mid : T) × did old mid read k None × Went did (k + 1) mid new rs
-
--- the last of these rounds ended it, or it was stopped behind them
-abbrev pub Ends : {T E : Type 0} → (T → T → RoundRead → ℕ → Option E → Type 0) → E → ℕ → T → T → List RoundRead → E
-    → Type 0
-Ends did stopped k old new [] end = (end ≡ stopped) × (new ≡ old)
-Ends {T} did stopped k old new (read ∷ rs) end =
-    ((mid : T) × did old mid read k None × Ends did stopped (k + 1) mid new rs end)
-    ⊎ (did old new read k (Some end) × (rs ≡ []))
-
--- from here on rounds were read, behind k others; what was done with the first of them ended it
-pub record Ran {T E : Type 0} (did : T → T → RoundRead → ℕ → Option E → Type 0) (stopped : E) (blocks budget k : ℕ)
-    (from to : Spot) (old new : T) (end : E) : Type 0 where
-  pub got : List RoundRead
-  pub more : List RoundRead
-  pub reads : Reads blocks budget from (got ++ more) to
-  pub ends : Ends did stopped k old new got end
-
--- the same behind a round that was read up to here, with it
+-- As `Ran` of the rounds says, behind a round that was read up to here, and with it.
 pub record RanOn {T E : Type 0} (did : T → T → RoundRead → ℕ → Option E → Type 0) (stopped : E) (blocks budget : ℕ)
     (read : RoundRead) (at to : Spot) (old new : T) (end : E) : Type 0 where
   pub got : List RoundRead
@@ -46,47 +26,13 @@ pub record RanOn {T E : Type 0} (did : T → T → RoundRead → ℕ → Option 
   pub reads : Reads blocks budget at rest to
   pub ends : Ends did stopped 0 old new got end
 
--- ---- the rounds and the reader
-
--- all blocks are home, and nothing else is as it wasn't
-pub record Rests (old new : RoundsState) (from to : Spot) : Type 0 where
-  pub home : new.home ≡ new.blocks
-  pub same : (new.blocks ≡ old.blocks) × (options_of new ≡ options_of old) × (new.keep ≡ old.keep)
-  pub least : old.taken ≤ new.taken
-  pub later : from.faults ≤ to.faults
-
--- of no more packets than this
-abbrev pub IsReadyAt : {T : Type 0} → (ℕ → T → Type 0) → ℕ → T → Type 0
-IsReadyAt ready most new = (n : ℕ) × (n ≤ most) × ready n new
-
--- of as many packets as a whole capture has, and a round
-abbrev pub IsReadyAtEnd : {T : Type 0} → (ℕ → T → Type 0) → T → Type 0
-IsReadyAtEnd ready new = IsReadyAt ready (2 ^ 32 + 4096) new
-
--- a round was read, and this was done with it
-pub record Stepped {T E : Type 0} (did : T → T → RoundRead → ℕ → Option E → Type 0) (ready : ℕ → T → Type 0)
-    (blocks budget k : ℕ) (from to : Spot) (old new : T) (result : Option E) : Type 0 where
-  pub read : RoundRead
-  pub reads : ReadRound blocks budget from to read
-  pub few : length read.round.packets ≤ budget
-  pub most : budget ≤ 4096
-  pub handled : did old new read k result
-  pub full : result ≡ None → read.end ≡ ends.Full
-  pub counted : IsReadyAt ready (from.place.number + length read.round.packets) new
-
--- handling began here, behind k rounds, and ended so with all blocks home
-pub record Handled {T E : Type 0} (did : T → T → RoundRead → ℕ → Option E → Type 0) (stopped : E)
-    (ready : ℕ → T → Type 0) (k : ℕ) (old new : RoundsState) (from to : Spot) (was is : T) (end : E) : Type 0 where
-  pub ran : Ran did stopped old.blocks old.budget k from to was is end
-  pub rests : Rests old new from to
-  pub counted : IsReadyAtEnd ready is
-
 -- it went on with the first round, which was read up to here
 pub record HandledOn {T E : Type 0} (did : T → T → RoundRead → ℕ → Option E → Type 0) (stopped : E)
     (ready : ℕ → T → Type 0) (old new : RoundsState) (read : RoundRead) (at to : Spot) (was is : T)
     (end : E) : Type 0 where
   pub ran : RanOn did stopped old.blocks old.budget read at to was is end
   pub rests : Rests old new at to
+  pub named : (h : ℕ → ℕ) → weighed h new.stock ≡ weighed h old.stock + weights_of read.round h
   pub counted : IsReadyAtEnd ready is
 
 -- the next round may be read here, behind a full one and others
@@ -105,6 +51,7 @@ pub record IsOut (rounds : RoundsState) (read : RoundRead) (place : Place) : Typ
 -- nothing more was read, nothing was done, and the same blocks are home
 pub record Idle {T : Type 0} (old new : RoundsState) (from to : Spot) (was is : T) : Type 0 where
   pub home : new.home ≡ old.home
+  pub named : (h : ℕ → ℕ) → weighed h new.stock ≡ weighed h old.stock
   pub same : (new.blocks ≡ old.blocks) × (options_of new ≡ options_of old) × (new.keep ≡ old.keep)
   pub taken : new.taken ≡ old.taken
   pub stands : to ≡ from
@@ -122,7 +69,12 @@ abbrev pub blocks_out : {E : Type 0} → Result E RoundRead → ℕ
 blocks_out (Ok end) = 0
 blocks_out (Err read) = read.round.blocks
 
+abbrev pub weights_out : {E : Type 0} → Result E RoundRead → (ℕ → ℕ) → ℕ
+weights_out (Ok end) h = 0
+weights_out (Err read) h = weights_of read.round h
+
 -- of rounds that nobody received the only one comes back; else it was stopped for want of memory
 abbrev pub ComesBack : {E : Type 0} → E → List (Option Parcel) → List (Option Parcel) → Result E RoundRead → Type 0
 ComesBack stopped old new (Ok end) = (end ≡ stopped) × (blocks_of new ≡ blocks_of old)
+    × ((h : ℕ → ℕ) → weights_sent h new ≡ weights_sent h old)
 ComesBack stopped old new (Err read) = (p : Parcel) × (p.read ≡ read) × (old ≡ Some p ∷ []) × (new ≡ [])

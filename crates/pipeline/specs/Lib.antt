@@ -2,4 +2,3 @@ pub mod Parcels
 pub mod Desks
 pub mod Reads
 pub mod Handled
-pub mod Works

@@ -1,18 +1,14 @@
--- What goes through the rings, and how many blocks it holds.
-use Rattle.std.specs.Prelude.{ℕ, ◌≡◌, ◌+◌, ◌-◌, ◌^◌, ◌≤◌, Bool, true, false, Option, None, Some, List, [], ◌∷◌}
+-- What goes through the rings, how many blocks it holds, and what these weigh together, each by its name.
+use Rattle.std.specs.Prelude.{ℕ, ◌≡◌, ◌+◌, ◌^◌, ◌≤◌, Option, None, Some, List, [], ◌∷◌}
 use Rattle.std.specs.Prelude.{length}
 use denote.RawPtr.{Ptr, null_ptr}
 use Rattle.std.specs.declared.alloc.Global.{Global}
-use Rattle.block_pool.specs.Giving.{GiverState}
-use Rattle.block_pool.specs.Listed.{blocks_in}
-use Rattle.block_pool.specs.PassState.{PassState, SharedState}
-use Rattle.block_pool.specs.PoolState.{PoolState, home}
+use Rattle.block_pool.specs.PoolState.{PoolState, home, weighed}
 use Rattle.rtrb.specs.declared.consumer.Consumer.{Consumer}
 use Rattle.rtrb.specs.Shared.{Names}
 use Rattle.rounds.specs.Benches.{IsRead}
-use Rattle.rounds.specs.declared.round.RoundEnd.{RoundEnd}
-use Rattle.rounds.specs.declared.round.RoundEnd.TheVariants as ends
 use Rattle.rounds.specs.declared.round.RoundRead.{RoundRead}
+use Rattle.rounds.specs.Weights.{weights_of}
 use Rattle.pipeline.specs.declared.parcel.Parcel.{Parcel}
 use Rattle.pipeline.specs.declared.parcel.Token.{Token}
 
@@ -36,26 +32,34 @@ pub record IsFit (n : ℕ) (before : List (Option Parcel)) (p : Parcel) : Type 0
   pub empty : home p.shelf ≡ 0
   pub made : p.shelf.made ≡ n
 
--- the round was full: another one may follow
-abbrev pub is_full : RoundEnd → Bool
-is_full ends.Full = true
-is_full _ = false
-
 -- the blocks of the rounds
 abbrev pub blocks_of : List (Option Parcel) → ℕ
 blocks_of [] = 0
 blocks_of (None ∷ xs) = blocks_of xs
 blocks_of (Some p ∷ xs) = p.read.round.blocks + blocks_of xs
 
+abbrev pub weights_sent : (ℕ → ℕ) → List (Option Parcel) → ℕ
+weights_sent h [] = 0
+weights_sent h (None ∷ xs) = weights_sent h xs
+weights_sent h (Some p ∷ xs) = weights_of p.read.round h + weights_sent h xs
+
 -- the blocks that came back
 abbrev pub homes_of : List Token → ℕ
 homes_of [] = 0
 homes_of (t ∷ ts) = home t.shelf + homes_of ts
 
+abbrev pub weights_back : (ℕ → ℕ) → List Token → ℕ
+weights_back h [] = 0
+weights_back h (t ∷ ts) = weighed h t.shelf.blocks + weights_back h ts
+
 -- the blocks on shelves
 abbrev pub shelved : List PoolState → ℕ
 shelved [] = 0
 shelved (s ∷ ss) = home s + shelved ss
+
+abbrev pub weights_shelved : (ℕ → ℕ) → List PoolState → ℕ
+weights_shelved h [] = 0
+weights_shelved h (s ∷ ss) = weighed h s.blocks + weights_shelved h ss
 
 -- what tells a ring from others
 pub record RingName : Type 0 where
@@ -76,25 +80,3 @@ no_ring = record {
 abbrev pub IsOfRing : {T P : Type 0} → RingName → Consumer T Global P → Type 0
 IsOfRing ring c = (c.end.words ≡ ring.words) × (c.end.slots ≡ ring.slots) × (c.end.names ≡ ring.names)
     × (c.end.heap ≡ ring.heap)
-
--- ---- lists
-
--- what tells no pool from others
-abbrev pub no_lists : SharedState
-no_lists = record {
-  id = record { words = 0; slots = 0; views_name = 0; atom = 0; block = 0; offset = 0; slot_names = [] };
-  made = 0;
-  places = 0;
-}
-
--- the blocks that came home of lists that were taken: all but those that are left of one
-abbrev pub listed_home : PassState PoolState → PoolState → ℕ
-listed_home pass left = blocks_in pass.taken - home left
-
--- who gives lists to this pool is there, with nothing in its list and all parts of passes but one
-pub record HasGiver (pool : SharedState) (giver : Option GiverState) : Type 0 where
-  pub it : GiverState
-  pub is : giver ≡ Some it
-  pub pool_is : it.pool ≡ pool
-  pub parts : it.pass.parts ≡ 65535
-  pub none : home it.list ≡ 0

@@ -1,8 +1,8 @@
 //! What comes in at the desk while rounds are read.
-ghost use Rattle.std.specs.Prelude.{◌≡◌, ◌+◌, MatchOption, [], ◌∷◌, ◌++◌};
-ghost use Rattle.block_pool.specs.PoolState.{home};
+ghost use Rattle.std.specs.Prelude.{◌≡◌, ℕ, ◌+◌, MatchOption, [], ◌∷◌, ◌++◌};
+ghost use Rattle.block_pool.specs.PoolState.{home, weighed};
 ghost use Rattle.rtrb.specs.Ring.{received};
-ghost use Rattle.pipeline.specs.Desks.{brought_to};
+ghost use Rattle.pipeline.specs.Desks.{brought_to, weights_to};
 
 use crate::desk::{Desk, SHELVES};
 use crate::parcel::Token;
@@ -32,6 +32,8 @@ impl<W: Post + Drop> Desk<W> {
     // One token, if one comes or is waited for: its blocks go home.
     fn meet(&mut self, pool: &mut Pool, tries: u32, waits: bool) -> bool
         ensures sum { home pool.new + brought_to self.old ≡ home pool.old + brought_to self.new }
+        ensures named { (h : ℕ → ℕ) → weighed h pool.new.blocks + weights_to self.old h
+            ≡ weighed h pool.old.blocks + weights_to self.new h }
         ensures same { (pool.new.made ≡ pool.old.made) × (pool.new.taken ≡ pool.old.taken) }
     {
         if self.shelves.len() == self.shelves.capacity() {
@@ -54,6 +56,8 @@ impl<W: Post + Drop> Desk<W> {
     // One list, if one has come.
     fn meet_list(&mut self, pool: &mut Pool) -> bool
         ensures sum { home pool.new + brought_to self.old ≡ home pool.old + brought_to self.new }
+        ensures named { (h : ℕ → ℕ) → weighed h pool.new.blocks + weights_to self.old h
+            ≡ weighed h pool.old.blocks + weights_to self.new h }
         ensures same { (pool.new.made ≡ pool.old.made) × (pool.new.taken ≡ pool.old.taken) }
     {
         self.post.bring_list(&mut self.taker, pool)
@@ -68,6 +72,8 @@ impl<W: Post + Drop> Desk<W> {
     // waits, looks once more, and sleeps between its looks.
     fn meet_any(&mut self, pool: &mut Pool) -> bool
         ensures sum { home pool.new + brought_to self.old ≡ home pool.old + brought_to self.new }
+        ensures named { (h : ℕ → ℕ) → weighed h pool.new.blocks + weights_to self.old h
+            ≡ weighed h pool.old.blocks + weights_to self.new h }
         ensures same { (pool.new.made ≡ pool.old.made) × (pool.new.taken ≡ pool.old.taken) }
     {
         for turn in 0..u32::MAX {
@@ -89,6 +95,8 @@ impl<W: Post + Drop> Desk<W> {
     // All tokens that have come, and one at least where no shelf is here and one will come.
     fn meet_all(&mut self, pool: &mut Pool)
         ensures sum { home pool.new + brought_to self.old ≡ home pool.old + brought_to self.new }
+        ensures named { (h : ℕ → ℕ) → weighed h pool.new.blocks + weights_to self.old h
+            ≡ weighed h pool.old.blocks + weights_to self.new h }
         ensures same { (pool.new.made ≡ pool.old.made) × (pool.new.taken ≡ pool.old.taken) }
     {
         for _ in 0..=SHELVES {
@@ -101,9 +109,16 @@ impl<W: Post + Drop> Desk<W> {
 }
 
 impl<W: Post + Drop> Supply for Desk<W> {
-    ghost use Rattle.pipeline.specs.Desks.{brought_to};
+    ghost use Rattle.std.specs.Prelude.{false};
+    ghost use Rattle.pipeline.specs.Desks.{brought_to, weights_to};
 
     ghost brought = { brought_to };
+
+    ghost weights = { weights_to };
+
+    ghost counts = { false };
+
+    ghost refusals = { λ _. 0 };
 
     /// Where none is needed a round is to be read: then tokens come in, with their shelves.
     fn bring(&mut self, pool: &mut Pool, need: u32) -> bool {
@@ -118,10 +133,5 @@ impl<W: Post + Drop> Supply for Desk<W> {
             }
         }
         need <= pool.home()
-    }
-
-    fn may_begin(&self, pool: &Pool, used: u32) -> bool {
-        let (_, _) = (pool, used);
-        true
     }
 }

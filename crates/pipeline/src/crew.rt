@@ -5,8 +5,8 @@ ghost use Rattle.pcap_io.specs.Places.{IsReady};
 ghost use Rattle.pcap_io.specs.Readers.{place_of, SameLoan};
 ghost use Rattle.lanes.specs.Desks.{IsOpenDesk};
 ghost use Rattle.rounds.specs.Merging.{options_of};
-ghost use Rattle.pipeline.specs.Handled.{Handled};
-ghost use Rattle.pipeline.specs.Reads.{reader_at};
+ghost use Rattle.rounds.specs.Handled.{Handled};
+ghost use Rattle.rounds.specs.Reads.{reader_at};
 
 use crate::drive::handle_by;
 use crossbeam_queue::ArrayQueue;

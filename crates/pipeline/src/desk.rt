@@ -1,14 +1,14 @@
 //! The desk of the side that reads: lists and tokens come in here, and their blocks go home.
-ghost use Rattle.std.specs.Prelude.{◌≡◌, ◌≤◌, IfSome, IfOk, IsTrue, []};
+ghost use Rattle.std.specs.Prelude.{◌≡◌, ℕ, ◌≤◌, IfSome, IfOk, IsTrue, []};
 ghost use Rattle.std.specs.Arc.{arc_value};
 ghost use Rattle.block_pool.specs.PoolState.{home};
 ghost use Rattle.rtrb.specs.Ring.{received};
-ghost use Rattle.pipeline.specs.Parcels.{IsOfRing, homes_of, shelved};
+ghost use Rattle.pipeline.specs.Parcels.{IsOfRing, homes_of, shelved, weights_back, weights_shelved};
 
-use crate::lists::Taker;
 use crate::parcel::{Fits, Naming, Parcel, Token};
 use crate::post::Post;
 use block_pool::Pool;
+use rounds::Taker;
 use rtrb::{Consumer, Producer};
 use std::alloc::{AllocError, Global};
 use std::collections::VecDeque;
@@ -31,6 +31,7 @@ pub(crate) struct Desk<W: Post + Drop> {
     pub ghost ringed: { IsOfRing W.ring tokens },
     pub ghost pooled: { arc_value taker.lists ≡ W.lists },
     pub ghost counted: { shelved shelves.items ≤ homes_of (received tokens) },
+    pub ghost weighs: { (h : ℕ → ℕ) → weights_shelved h shelves.items ≤ weights_back h (received tokens) },
 }
 
 /// What the side that reads works with, beside its intake.
@@ -123,6 +124,8 @@ impl<W: Post + Drop> Desk<W> {
         ensures ready { IfSome result (λ shelf. (home shelf ≡ 0) × (shelf.made ≡ W.blocks)) }
         ensures same { (shelved self.new.shelves.items ≡ shelved self.old.shelves.items)
             × (self.new.tokens ≡ self.old.tokens) × (self.new.taker ≡ self.old.taker) }
+        ensures named { (h : ℕ → ℕ) → weights_shelved h self.new.shelves.items
+            ≡ weights_shelved h self.old.shelves.items }
     {
         let shelf = self.shelves.pop_front()?;
         if is_ready(&shelf, self.blocks) {

@@ -6,11 +6,13 @@ ghost use Rattle.pcap_io.specs.declared.heads.Link.TheVariants.{Ethernet};
 ghost use Rattle.pcap_io.specs.Places.{IsReady};
 ghost use Rattle.pcap_io.specs.Readers.{place_of, SameLoan};
 ghost use Rattle.rounds.specs.Benches.{HasRoom, IsRead, IsSameBench};
+ghost use Rattle.rounds.specs.Handled.{Handled};
 ghost use Rattle.rounds.specs.Merging.{options_of};
+ghost use Rattle.rounds.specs.Reads.{reader_at};
 ghost use Rattle.rtrb.specs.Ring.{sent, received, known_items, IsPair, SameProducer};
-ghost use Rattle.pipeline.specs.Handled.{ComesBack, Handled, HandledOn, IsOut, MayBeHandled};
+ghost use Rattle.pipeline.specs.Handled.{ComesBack, HandledOn, IsOut, MayBeHandled};
 ghost use Rattle.pipeline.specs.Parcels.{IsOfRing, shelved};
-ghost use Rattle.pipeline.specs.Reads.{reader_at, IsAlone};
+ghost use Rattle.pipeline.specs.Reads.{IsAlone};
 
 use crate::bells::Bells;
 use crate::desk::{Desk, Reading, SHELVES, new_shelves};
@@ -270,16 +272,17 @@ fn is_alone(rt: &impl Threads) -> bool {
     }
 }
 
-// Whether another thread may read on behind a round that ended so.
-fn is_shared(rt: &impl Threads, end: RoundEnd) -> bool
-    ensures full { result ≡ true → end ≡ RoundEnd.Full }
+// Whether another thread is to read on behind this round: one may, and it gains by that. Where there is one lane alone
+// and frames are short it doesn't.
+fn is_shared(rt: &impl Threads, lanes: u32, read: &RoundRead) -> bool
+    ensures full { result ≡ true → read.now.end ≡ RoundEnd.Full }
 {
-    is_full(end) && !is_alone(rt)
+    is_full(read.end) && !is_alone(rt) && (lanes > 1 || !read.round.has_short_frames())
 }
 
 /// Handles a capture's rounds by whoever works; the next rounds are read while one is worked, the first one too. On one
-/// processor, and where there is no memory or no thread for a second side, they are read here. Of a capture of one
-/// round no thread is made for it.
+/// processor, where frames are short and there is one lane, and where there is no memory or no thread for a second side,
+/// they are read here. Of a capture of one round no thread is made for it.
 pub(crate) fn handle_by<
     R: Threads + Wait + Sync,
     W: Works,
@@ -307,7 +310,7 @@ pub(crate) fn handle_by<
         into.old into.new result }
 {
     let read = rounds.read_round(reader);
-    if is_shared(rt, read.end) {
+    if is_shared(rt, rounds.lanes(), &read) {
         handle_on(rt, alloc, works, rounds, reader, read, handler, into)
     } else {
         handle_here(works, rounds, reader, read, handler, into)

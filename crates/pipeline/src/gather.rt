@@ -1,16 +1,17 @@
 //! What comes home once both sides have ended.
-ghost use Rattle.std.specs.Prelude.{◌≡◌, ◌+◌, ◌≤◌};
+ghost use Rattle.std.specs.Prelude.{◌≡◌, ℕ, ◌+◌, ◌≤◌};
 ghost use Rattle.std.specs.Arc.{arc_value};
-ghost use Rattle.block_pool.specs.Giving.{given_by};
+ghost use Rattle.block_pool.specs.Giving.{given_by, weights_given};
 ghost use Rattle.block_pool.specs.Listed.{blocks_in};
-ghost use Rattle.block_pool.specs.PoolState.{home};
+ghost use Rattle.block_pool.specs.PoolState.{home, weighed};
 ghost use Rattle.rtrb.specs.Ring.{known_items};
-ghost use Rattle.pipeline.specs.Parcels.{HasGiver, blocks_of, homes_of, shelved};
+ghost use Rattle.rounds.specs.Lists.{HasGiver, weights_listed};
+ghost use Rattle.pipeline.specs.Parcels.{blocks_of, homes_of, shelved};
+ghost use Rattle.pipeline.specs.Parcels.{weights_back, weights_sent, weights_shelved};
 
-use crate::lists::{Taker, bring_lists};
 use crate::parcel::{Fits, Naming, Parcel, Token};
 use block_pool::{Giver, Pool};
-use rounds::{Intake, RoundRead, Rounds};
+use rounds::{Intake, RoundRead, Rounds, Taker, bring_lists};
 use rtrb::Consumer;
 use std::alloc::Global;
 use std::collections::VecDeque;
@@ -22,7 +23,12 @@ pub(crate) fn drop_parcels<N: Naming>(
     from: &mut Consumer<Option<Parcel>, Global, Fits<N>>,
 )
     requires room { rounds.old.home + blocks_of (known_items from.old) ≤ rounds.old.blocks }
-    ensures home { rounds.new ≡ record rounds.old { home = rounds.old.home + blocks_of (known_items from.old) } }
+    ensures home { rounds.new ≡ record rounds.old {
+      home = rounds.old.home + blocks_of (known_items from.old);
+      stock = rounds.new.stock;
+    } }
+    ensures named { (h : ℕ → ℕ) → weighed h rounds.new.stock
+        ≡ weighed h rounds.old.stock + weights_sent h (known_items from.old) }
 {
     while from.cached_slots() > 0 {
         if let Some(parcel) = from.pop_known() {
@@ -35,7 +41,12 @@ pub(crate) fn drop_parcels<N: Naming>(
 // The shelves that nobody received.
 fn bring_tokens(intake: &mut Intake, tokens: &mut Consumer<Token>)
     requires room { intake.old.home + homes_of (known_items tokens.old) ≤ intake.old.blocks }
-    ensures home { intake.new ≡ record intake.old { home = intake.old.home + homes_of (known_items tokens.old) } }
+    ensures home { intake.new ≡ record intake.old {
+      home = intake.old.home + homes_of (known_items tokens.old);
+      stock = intake.new.stock;
+    } }
+    ensures named { (h : ℕ → ℕ) → weighed h intake.new.stock
+        ≡ weighed h intake.old.stock + weights_back h (known_items tokens.old) }
 {
     while tokens.cached_slots() > 0 {
         let Token { shelf, goes: _ } = tokens.pop_known();
@@ -54,7 +65,10 @@ fn bring_shelves(
         ≤ intake.old.blocks }
     ensures home { intake.new ≡ record intake.old {
       home = intake.old.home + homes_of (known_items tokens.old) + home kept + shelved shelves.items;
+      stock = intake.new.stock;
     } }
+    ensures named { (h : ℕ → ℕ) → weighed h intake.new.stock ≡ weighed h intake.old.stock
+        + weights_back h (known_items tokens.old) + weighed h kept.blocks + weights_shelved h shelves.items }
 {
     let mut shelves = shelves;
     bring_tokens(intake, tokens);
@@ -77,9 +91,16 @@ pub(crate) fn bring_home<R: Wait>(
     requires giver { HasGiver (arc_value taker.lists) giver }
     requires room { intake.old.home + homes_of (known_items tokens.old) + home kept + shelved shelves.items
         + home taker.left + given_by giver ≤ intake.old.blocks + blocks_in taker.pass.taken }
-    ensures same { intake.new ≡ record intake.old { home = intake.new.home } }
+    ensures same { intake.new ≡ record intake.old {
+      home = intake.new.home;
+      stock = intake.new.stock;
+      empties = intake.new.empties;
+    } }
     ensures home { intake.new.home + blocks_in taker.pass.taken ≡ intake.old.home
         + homes_of (known_items tokens.old) + home kept + shelved shelves.items + home taker.left + given_by giver }
+    ensures named { (h : ℕ → ℕ) → weighed h intake.new.stock + weights_listed h taker.pass.taken
+        ≡ weighed h intake.old.stock + weights_back h (known_items tokens.old) + weighed h kept.blocks
+        + weights_shelved h shelves.items + weighed h taker.left.blocks + weights_given giver h }
     ensures least { intake.old.home + home kept ≤ intake.new.home }
 {
     bring_lists(rt, intake, taker, giver);

@@ -34,12 +34,11 @@
 //! token. So a record is left half read only where no block can come any more, and a round exceeds the blocks just
 //! where it does in one thread.
 //!
-//! Proved of [`handle_beside`], whatever both threads do at the same time: the rounds that were read stand one behind
-//! another in the capture (`specs/Reads.antt`), each of the first of them was handled in turn up to the one that ended
-//! it, and nothing was done with those behind (`Ran` of `specs/Handled.antt`); so whoever says what one round does has
-//! it for all. [`handle_from`] has the same of one thread. What was sent by a ring and what was received are known once
-//! the threads have joined. All blocks are home whatever the ending, also those of rounds that were read and that
-//! nobody worked. [`merge_beside`] has the clauses of `Rounds::merge_all`, word for word.
+//! Proved of [`handle_beside`], whatever both threads do at the same time, is the clause of `rounds::handle_from`, which
+//! does the same in one thread: the rounds that were read stand one behind another in the capture, each of the first of
+//! them was handled in turn up to the one that ended it, and nothing was done with those behind. What was sent by a ring
+//! and what was received are known once the threads have joined. All blocks are home whatever the ending, also those of
+//! rounds that were read and that nobody worked. [`merge_beside`] has the clauses of `Rounds::merge_all`, word for word.
 //!
 //! Not proved: that waiting ends. The side that works waits only where it has sent a token for each parcel that it
 //! received, and the side that reads only while a shelf is away and the other side hasn't stopped; so never both. Each
@@ -61,12 +60,11 @@
 //! ```
 //!
 //! Its parts: `ring` (putting in and waiting at the ends of a ring), `bells` (who wakes whom, and whether there are
-//! two), `parcel` (what goes through the rings), `lists` (the pool of lists, and its end where they are taken), `ways`
-//! (the ring of tokens and that pool), `post` (waiting for what comes home), `desk` and `arrivals` (where lists and
-//! tokens come in while rounds are read), `sides` (the loop of each side, and both at once), `gather` (what lies
-//! between the sides comes home once both have ended), `here` (rounds in one thread), `drive` (the first round, the two
-//! sides, and one thread where there can't be two), `crew` (all of that with who run lanes beside it) and `merge`
-//! (whose handler writes each round).
+//! two), `parcel` (what goes through the rings), `ways` (the ring of tokens and the pool of lists), `post` (waiting for
+//! what comes home), `desk` and `arrivals` (where lists and tokens come in while rounds are read), `sides` (the loop of
+//! each side, and both at once), `gather` (what lies between the sides comes home once both have ended), `here` (the
+//! first round and what is left, in one thread), `drive` (the first round, the two sides, and one thread where there
+//! can't be two), `crew` (all of that with who run lanes beside it) and `merge` (where each round is written).
 //!
 //! Tests: `round_tests`, module `pipeline`.
 //!
@@ -95,7 +93,6 @@ mod desk;
 mod drive;
 mod gather;
 mod here;
-mod lists;
 mod merge;
 mod parcel;
 mod post;
@@ -104,6 +101,5 @@ mod sides;
 mod ways;
 
 pub use crew::handle_beside;
-pub use here::handle_from;
 pub use merge::merge_beside;
 pub use rounds::RoundHandler;

@@ -1,5 +1,6 @@
 //! Merges a capture.
-ghost use Rattle.std.specs.Prelude.{◌≡◌, ◌+◌, ◌-◌, ◌≤◌, ◌^◌, true, min};
+ghost use Rattle.std.specs.Prelude.{◌≡◌, ℕ, ◌+◌, ◌-◌, ◌≤◌, ◌^◌, true, min};
+ghost use Rattle.block_pool.specs.PoolState.{weighed};
 ghost use Rattle.off_io.specs.Content.{SaysFlushed};
 ghost use Rattle.off_io.specs.Faults.{Rose};
 ghost use Rattle.off_io.specs.Told.{Told};
@@ -11,53 +12,12 @@ ghost use Rattle.pcap_io.specs.Readers.{place_of, source_of, SameLoan};
 ghost use Rattle.rounds.specs.Merging.{ending_of, options_of, HoldsCaptured};
 
 use crate::crew::handle_beside;
-use block_pool::{Giver, Pool};
-use lanes::Works;
 use off_io::{Gate, Sink, Source};
 use pcap_io::{CaptureReader, FileHead};
-use rounds::{Bench, MergeEnd, RoundHandler, RoundRead, Rounds, Step};
+use rounds::{MergeEnd, RoundWriter, Rounds};
 use std::alloc::Global;
 use std::sync::Wait;
 use std::thread::Threads;
-
-/// Each round is written into a sink, behind this file header.
-#[derive(Drop)]
-struct Merging {
-    file: FileHead,
-}
-
-impl<K: Sink> RoundHandler<K, MergeEnd> for Merging {
-    ghost use Rattle.std.specs.Prelude.{⊤};
-    ghost use Rattle.rounds.specs.declared.merge.MergeEnd.TheVariants.{NoMemory};
-    ghost use Rattle.pipeline.specs.Works.{PutRound, sink_at};
-
-    ghost ready = { λ options keep n sink. ⊤ };
-
-    ghost did = { λ merging options old new read k end. PutRound options merging.file
-        (sink_at K.held K.is_flushed K.faults old) (sink_at K.held K.is_flushed K.faults new) read k end };
-
-    ghost stopped = { NoMemory };
-
-    fn handle<W: Works>(
-        &self,
-        works: &mut W,
-        bench: &mut Bench,
-        home: &mut Pool,
-        giver: &mut Option<Giver>,
-        read: RoundRead,
-        number: u64,
-        into: &mut K,
-    ) -> Option<MergeEnd> {
-        match bench.put_read(works, read, &self.file, into, number, home, giver) {
-            Step::Goes => None,
-            Step::Ends(end) => Some(end),
-        }
-    }
-
-    fn stop(&self) -> MergeEnd {
-        MergeEnd::NoMemory
-    }
-}
 
 /// Merges as `merge_all` of the rounds, whose clauses these are, but that the next rounds are read while one is worked,
 /// from the first one on, and that all threads are started once, for the whole run. On one processor, and where there
@@ -85,6 +45,7 @@ pub fn merge_beside<R: Threads + Wait + Sync, S: Source + Send, K: Sink, G: Gate
         (S.left (source_of reader.new)) (K.held sink.old) (K.held sink.new) }
     ensures flushed { flushes (ending_of result) ≡ true → SaysFlushed (K.held sink.new) (K.is_flushed sink.new) true }
     ensures home { rounds.new.home ≡ rounds.new.blocks }
+    ensures named { (h : ℕ → ℕ) → weighed h rounds.new.stock ≡ weighed h rounds.old.stock }
     ensures same { (rounds.new.blocks ≡ rounds.old.blocks) × (options_of rounds.new ≡ options_of rounds.old)
         × (rounds.new.keep ≡ rounds.old.keep) }
     ensures taken { result ≡ MergeEnd.Done → Told (S.left (source_of reader.old)) (S.left (source_of reader.new))
@@ -104,7 +65,7 @@ pub fn merge_beside<R: Threads + Wait + Sync, S: Source + Send, K: Sink, G: Gate
         alloc,
         rounds,
         reader,
-        &Merging { file: *file },
+        &RoundWriter { file: *file },
         sink,
         gate,
     )

@@ -58,7 +58,8 @@ pub(crate) trait Naming {
 }
 
 impl Naming for Brand {
-    ghost use Rattle.pipeline.specs.Parcels.{no_lists, no_ring};
+    ghost use Rattle.rounds.specs.Lists.{no_lists};
+    ghost use Rattle.pipeline.specs.Parcels.{no_ring};
 
     ghost blocks = { 0 };
 

@@ -2,15 +2,16 @@
 ghost use Rattle.std.specs.Prelude.{◌≡◌, ℕ, ◌+◌, [], ◌∷◌, ◌++◌};
 ghost use Rattle.std.specs.Arc.{arc_value};
 ghost use Rattle.block_pool.specs.PassState.{SharedState};
-ghost use Rattle.block_pool.specs.PoolState.{home};
+ghost use Rattle.block_pool.specs.PoolState.{home, weighed};
 ghost use Rattle.rtrb.specs.Ring.{received, SameConsumer};
-ghost use Rattle.pipeline.specs.Parcels.{RingName, listed_home};
+ghost use Rattle.rounds.specs.Lists.{listed_home, weights_home};
+ghost use Rattle.pipeline.specs.Parcels.{RingName};
 
 use crate::bells::Bells;
-use crate::lists::Taker;
 use crate::parcel::{Naming, Token};
 use crate::ring::receive;
 use block_pool::Pool;
+use rounds::Taker;
 use rtrb::Consumer;
 use std::marker::PhantomData;
 use std::sync::Wait;
@@ -34,6 +35,8 @@ pub(crate) trait Post {
     fn bring_list(&self, taker: &mut Taker, pool: &mut Pool) -> bool
         ensures sum { home pool.new + listed_home taker.old.pass taker.old.left
             ≡ home pool.old + listed_home taker.new.pass taker.new.left }
+        ensures named { (h : ℕ → ℕ) → weighed h pool.new.blocks + weights_home h taker.old.pass taker.old.left
+            ≡ weighed h pool.old.blocks + weights_home h taker.new.pass taker.new.left }
         ensures same { (pool.new.made ≡ pool.old.made) × (pool.new.taken ≡ pool.old.taken) }
         ensures lists { arc_value taker.new.lists ≡ arc_value taker.old.lists };
 

@@ -1,16 +1,17 @@
 //! The side that reads and the side that works.
-ghost use Rattle.std.specs.Prelude.{◌≡◌, ◌+◌, ◌≤◌, [], MatchOption};
-ghost use Rattle.block_pool.specs.Giving.{given_by};
-ghost use Rattle.block_pool.specs.PoolState.{home};
+ghost use Rattle.std.specs.Prelude.{◌≡◌, ℕ, ◌+◌, ◌≤◌, [], MatchOption};
+ghost use Rattle.block_pool.specs.Giving.{given_by, weights_given};
+ghost use Rattle.block_pool.specs.PoolState.{home, weighed};
 ghost use Rattle.pcap_io.specs.declared.heads.Link.TheVariants.{Ethernet};
 ghost use Rattle.pcap_io.specs.Places.{IsReady};
 ghost use Rattle.pcap_io.specs.Readers.{place_of, source_of, SameLoan};
 ghost use Rattle.rounds.specs.Benches.{options_at, HasRoom, IsLent, IsSameBench, Lends};
+ghost use Rattle.rounds.specs.Handled.{Ends, IsReadyAtEnd};
+ghost use Rattle.rounds.specs.Reads.{is_full as is_full_end, reader_at};
 ghost use Rattle.rtrb.specs.Ring.{sent, received, SameProducer, SameConsumer};
-ghost use Rattle.pipeline.specs.Handled.{Ends, IsReadyAtEnd};
-ghost use Rattle.pipeline.specs.Desks.{brought_to};
-ghost use Rattle.pipeline.specs.Parcels.{blocks_of, homes_of, rounds_of, is_full as is_full_end};
-ghost use Rattle.pipeline.specs.Reads.{reader_at, IsFirst, ReadOn};
+ghost use Rattle.pipeline.specs.Desks.{brought_to, weights_to};
+ghost use Rattle.pipeline.specs.Parcels.{blocks_of, homes_of, weights_back, weights_sent, rounds_of};
+ghost use Rattle.pipeline.specs.Reads.{IsFirst, ReadOn};
 
 use crate::bells::Bells;
 use crate::desk::Reading;
@@ -56,6 +57,9 @@ fn read_side<N: Naming, R: Wait, P: Post + Drop, S: Source>(
         (reader_at S.left S.faults reader.new intake.new.taken) (sent supply.old.out) (sent supply.new.out) }
     ensures sum { intake.new.home + blocks_of (sent supply.new.out) + brought_to supply.old.desk
         ≡ intake.old.home + blocks_of (sent supply.old.out) + brought_to supply.new.desk }
+    ensures named { (h : ℕ → ℕ) → weighed h intake.new.stock + weights_sent h (sent supply.new.out)
+        + weights_to supply.old.desk h ≡ weighed h intake.old.stock + weights_sent h (sent supply.old.out)
+        + weights_to supply.new.desk h }
     ensures same { (intake.new.blocks ≡ intake.old.blocks)
         × (intake.new.budget ≡ intake.old.budget) }
     ensures later { S.faults (source_of reader.old) ≤ S.faults (source_of reader.new) }
@@ -95,6 +99,8 @@ fn read_side<N: Naming, R: Wait, P: Post + Drop, S: Source>(
 fn send_home<R: Wait>(rt: &R, shelf: Pool, goes: bool, told: &mut Producer<Token>, bell: &Bell)
     ensures ring { SameProducer told.old told.new }
     ensures sum { homes_of (sent told.new) ≡ homes_of (sent told.old) + home shelf }
+    ensures named { (h : ℕ → ℕ) → weights_back h (sent told.new)
+        ≡ weights_back h (sent told.old) + weighed h shelf.blocks }
 {
     send(rt, told, Token { shelf, goes });
     bell.wake();
@@ -127,6 +133,8 @@ fn work_side<N: Naming, R: Wait, W: Works, T, E, H: RoundHandler<T, E>>(
     ensures ready { IsReadyAtEnd (H.ready (options_at bench.old) bench.old.keep) into.new }
     ensures each { homes_of (sent told.new) + home kept.new + given_by giver.new
         ≡ blocks_of (received from.new) + given_by giver.old }
+    ensures each_named { (h : ℕ → ℕ) → weights_back h (sent told.new) + weighed h kept.new.blocks
+        + weights_given giver.new h ≡ weights_sent h (received from.new) + weights_given giver.old h }
     ensures lends { Lends giver.old giver.new }
     ensures room { HasRoom (home kept.new) bench.new }
     ensures same { IsSameBench bench.old bench.new }
@@ -199,6 +207,9 @@ pub(crate) fn run_sides<
         (reader_at S.left S.faults reader.new intake.new.taken) (sent supply.old.out) (sent supply.new.out) }
     ensures sum { intake.new.home + blocks_of (sent supply.new.out) + brought_to supply.old.desk
         ≡ intake.old.home + blocks_of (sent supply.old.out) + brought_to supply.new.desk }
+    ensures named { (h : ℕ → ℕ) → weighed h intake.new.stock + weights_sent h (sent supply.new.out)
+        + weights_to supply.old.desk h ≡ weighed h intake.old.stock + weights_sent h (sent supply.old.out)
+        + weights_to supply.new.desk h }
     ensures same_intake { (intake.new.blocks ≡ intake.old.blocks)
         × (intake.new.budget ≡ intake.old.budget) }
     ensures later { S.faults (source_of reader.old) ≤ S.faults (source_of reader.new) }
@@ -208,6 +219,8 @@ pub(crate) fn run_sides<
     ensures ready { IsReadyAtEnd (H.ready (options_at bench.old) bench.old.keep) into.new }
     ensures each { homes_of (sent told.new) + home kept.new + given_by giver.new
         ≡ blocks_of (received from.new) + given_by giver.old }
+    ensures each_named { (h : ℕ → ℕ) → weights_back h (sent told.new) + weighed h kept.new.blocks
+        + weights_given giver.new h ≡ weights_sent h (received from.new) + weights_given giver.old h }
     ensures lends { Lends giver.old giver.new }
     ensures room { HasRoom (home kept.new) bench.new }
     ensures same { IsSameBench bench.old bench.new }
@@ -228,6 +241,10 @@ pub(crate) fn run_sides<
             ensures sum { intake.exit.now.home + blocks_of (sent supply.exit.now.out)
                 + brought_to supply.entry.now.desk ≡ intake.entry.now.home + blocks_of (sent supply.entry.now.out)
                 + brought_to supply.exit.now.desk }
+            ensures named { (h : ℕ → ℕ) → weighed h intake.exit.now.stock + weights_sent h (sent supply.exit.now.out)
+                + weights_to supply.entry.now.desk h
+                ≡ weighed h intake.entry.now.stock + weights_sent h (sent supply.entry.now.out)
+                + weights_to supply.exit.now.desk h }
             ensures same { (intake.exit.now.blocks ≡ intake.entry.now.blocks)
                 × (intake.exit.now.budget ≡ intake.entry.now.budget) }
             ensures later { S.faults (source_of reader.entry.now) ≤ S.faults (source_of reader.exit.now) }
@@ -247,6 +264,9 @@ pub(crate) fn run_sides<
                 into.exit.now }
             ensures each { homes_of (sent told.exit.now) + home kept.exit.now + given_by giver.exit.now
                 ≡ blocks_of (received from.exit.now) + given_by giver.entry.now }
+            ensures each_named { (h : ℕ → ℕ) → weights_back h (sent told.exit.now)
+                + weighed h kept.exit.now.blocks + weights_given giver.exit.now h
+                ≡ weights_sent h (received from.exit.now) + weights_given giver.entry.now h }
             ensures lends { Lends giver.entry.now giver.exit.now }
             ensures room { HasRoom (home kept.exit.now) bench.exit.now }
             ensures same { IsSameBench bench.entry.now bench.exit.now }

@@ -5,9 +5,9 @@ ghost use Rattle.block_pool.specs.PoolState.{home};
 ghost use Rattle.rtrb.specs.Ring.{sent, received, IsPair};
 
 use crate::desk::SHELVES;
-use crate::lists::{Taker, open_lists};
 use crate::parcel::Token;
 use block_pool::{Bell, Giver};
+use rounds::{Taker, open_lists};
 use rtrb::{Consumer, Producer, RingBuffer};
 use std::alloc::{AllocError, Global};
 use std::sync::Arc;

@@ -1,8 +1,10 @@
 -- Blocks in turn, and packets as they are laid in them.
-use Rattle.std.proofs.Common.{◌≡◌, ℕ, zero, suc, ◌+◌, ◌-◌, ◌<◌, ◌≤◌, List, [], ◌∷◌, ◌++◌, ◌⊎◌, inl, inr, sym, ap, ◌∙◌, subst, length, arith}
+use Rattle.std.proofs.Common.{◌≡◌, ℕ, zero, suc, ◌+◌, ◌-◌, ◌<◌, ◌≤◌, List, [], ◌∷◌, ◌++◌, ◌⊎◌, inl, inr, refl, sym, ap, ◌∙◌, subst, length, get_or, set, arith}
 use Rattle.std.proofs.lemmas.List.{same_from_push}
+use Rattle.std.proofs.lemmas.List.Sums.{sum_by_push, sum_by-set}
 use Rattle.ref_core.specs.WeightRule.{full_weight}
 use Rattle.raw_block.specs.Views.{SoleState}
+use Rattle.block_pool.specs.PoolState.{weighed}
 use Rattle.frags.specs.PieceList.{AreWhole}
 use Rattle.frags.specs.declared.pieces.Piece.{Piece}
 use Rattle.skb.specs.SkbState.{IsAlone, is_sole}
@@ -15,6 +17,9 @@ use Rattle.records.specs.Reading.{OfNew}
 pub marked_last : (k : ℕ) (xs : List SoleState) (s : SoleState) → MarkedFrom k xs → s.mark ≡ k + length xs → MarkedFrom k (xs ++ s ∷ [])
 marked_last k [] s h e = (omega (arith, e), tt)
 marked_last k (x ∷ xs) s h e = (h.0, marked_last (k + 1) xs s h.1 (omega (arith, e)))
+
+pub weighed_last : (h : ℕ → ℕ) (xs : List SoleState) (s : SoleState) → weighed h (xs ++ s ∷ []) ≡ weighed h xs + h s.block
+weighed_last h xs s = sum_by_push (λ (x : SoleState). h x.block) xs s
 
 pub whole_last : (k : ℕ) (xs : List Piece) (p : Piece) → WholeFrom k xs → p.part.weight ≡ full_weight → p.part.mark ≡ k + length xs → WholeFrom k (xs ++ p ∷ [])
 whole_last k [] p h w e = (w, omega (arith, e), tt)
@@ -31,6 +36,15 @@ pub below_or : (m n : ℕ) → (m < n) ⊎ (n ≤ m)
 below_or m zero = inr (omega arith)
 below_or zero (suc n) = inl (omega arith)
 below_or (suc m) (suc n) = below_step m n (below_or m n)
+
+pub weighed_none : (h : ℕ → ℕ) (xs : List SoleState) → length xs ≡ 0 → weighed h xs ≡ 0
+weighed_none h [] e = refl
+weighed_none h (x ∷ xs) e = absurd (omega (arith, e))
+
+-- a block that is read into has the name that it had
+pub weighed_set : (h : ℕ → ℕ) (xs : List SoleState) (i : ℕ) (s d : SoleState) → i < length xs → s.block ≡ (get_or xs i d).block
+    → weighed h (set xs i s) ≡ weighed h xs
+weighed_set h xs i s d lt e = omega (arith, sum_by-set (λ (x : SoleState). h x.block) xs i s d lt, ap h e)
 
 -- ---- nobody else holds a block of what is laid
 

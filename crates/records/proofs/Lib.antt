@@ -12,7 +12,5 @@ mod InPlace
 mod Filling
 -- blocks in turn, and packets as they are laid in them
 pub mod Laying
--- records whose headers are lawful
-mod Lawful
 -- a record that is read
 mod Recording

@@ -1,11 +1,11 @@
 -- What reading one record into blocks shows of the records of a capture.
 use Rattle.std.proofs.Common.{◌≡◌, ◌+◌, ◌-◌, ◌<◌, ◌≤◌, ℕ, List, [], ◌∷◌, ◌++◌, ◌⊎◌, inl, inr, length, refl, sym, ap, ◌∙◌, arith, Option, None, Some, Ok, Err, subst, map, take, drop, append_assoc}
-use Rattle.std.proofs.Common.{append-nil, take-append-drop, length-take, Bool, true, if◌then◌else◌}
+use Rattle.std.proofs.Common.{append-nil, take-append-drop, length-take, Bool, true, false, Result, if◌then◌else◌}
 use Rattle.std.proofs.lemmas.List.{drop_all, take_all, length-take-le}
 use Rattle.std.proofs.lemmas.Bool.{lt-ltb}
 use Rattle.std.specs.Prelude.{IfSome, nat_lt}
 use Rattle.off_io.specs.Told.{Told}
-use Rattle.off_io.proofs.Telling.{Told-same, Told-weaker, Told-then}
+use Rattle.off_io.proofs.Telling.{Told-weaker, Told-then}
 use Rattle.raw_block.specs.Views.{SoleState}
 use Rattle.skb.specs.SkbState.{buffer_bytes}
 use Rattle.pcap_io.specs.declared.heads.RecHead.{RecHead}
@@ -14,9 +14,9 @@ use Rattle.pcap_io.specs.declared.faults.CapFault.{CapFault}
 use Rattle.pcap_io.specs.declared.faults.InFault.{InFault}
 use Rattle.pcap_io.specs.declared.faults.InFault.TheVariants as faults
 use Rattle.pcap_io.specs.Capture.{Found, packet, ended, one_more, records_from}
-use Rattle.pcap_io.specs.Places.{EntersBody, found_at, IsHead, IsRefusal, ReadsOn}
+use Rattle.pcap_io.specs.Places.{Counted, EntersBody, found_at, IsHead, IsReady, IsRefusal, ReadsOn}
 use Rattle.pcap_io.specs.Reading.{GivesHead, RefusesHead, TakesHead}
-use Rattle.pcap_io.specs.Headers.{first_that_holds, head_refusals}
+use Rattle.pcap_io.specs.Headers.{captured_limit, first_that_holds, head_refusals, is_bad_original, lacks_off_head}
 use Rattle.pcap_io.specs.Lengths.{lengths_at}
 use Rattle.pcap_io.specs.declared.faults.CapKind.TheVariants.{ShortRecordHeader}
 use Rattle.pcap_io.proofs.LengthLaws.{lengths_by_record, lengths_refused}
@@ -26,9 +26,8 @@ use Rattle.offload_model.specs.Need.{need_of, needed}
 use Rattle.gro.specs.declared.slot.Slot.{Slot as Held}
 use Rattle.records.proofs.Laying.{below_or}
 use Rattle.records.specs.declared.reading.Stop.{Stop}
-use Rattle.records.specs.declared.reading.Stop.TheVariants.{End, Malformed, PoolEmpty, ReadFault, NoMemory}
-use Rattle.records.specs.Laid.{most_read}
-use Rattle.records.specs.Reading.{front_size, HasHead, GivesPacket, GivesRecord, NeedsMore, IsStopOf, judged_at}
+use Rattle.records.specs.declared.reading.Stop.TheVariants.{End, Lacking, Malformed, PoolEmpty, ReadFault, NoMemory}
+use Rattle.records.specs.Reading.{front_size, HasHead, GivesKept, GivesPacket, GivesRecord, IfLacking, KeepsHead, NeedsMore, IsStopOf, judged_at}
 
 pub packet_given : (a b : Option (List ℕ)) (place : Place) (head : RecHead) (front : List ℕ) (len : ℕ) (soles : List SoleState) (p : Held) → buffer_bytes p.skb ≡ data_of 64 len soles
     → HasHead head front p
@@ -100,6 +99,7 @@ body_cut : (old mid new : Place) (used blocks : ℕ) (front : List ℕ) (head : 
     → EntersBody old mid head → TakesHead old bytes rest head → GivesPacket mid head front (Err stop) rest left → GivesRecord used blocks old new front (Err stop) bytes left
 body_cut old mid new used blocks front head End bytes rest left fits enters takes gives = absurd gives
 body_cut old mid new used blocks front head (PoolEmpty n) bytes rest left fits enters takes gives = absurd gives
+body_cut old mid new used blocks front head (Lacking kept) bytes rest left fits enters takes gives = absurd gives
 body_cut old mid new used blocks front head (Malformed fault) bytes rest left fits enters takes gives =
     let cut = cut_record old mid bytes rest head takes enters gives.0 in
     let all : bytes ≡ bytes ++ left = sym (append-nil bytes) ∙ ap (λ (l : List ℕ). bytes ++ l) (sym gives.2) in
@@ -204,32 +204,58 @@ empty_given a b old mid used blocks need front found head some enters is more to
     Told-weaker a b (GivesHead old (Ok (Some head))) (GivesRecord used blocks old mid front (Err (PoolEmpty need)))
     (λ bytes left takes. needs_more old mid used blocks need head bytes left entered is more takes) at_some
 
-pub cut_given : (a b c : Option (List ℕ)) (old mid new : Place) (used blocks : ℕ) (front : List ℕ) (found : Option RecHead) (head : RecHead) (stop : Stop)
-    → used + need_of (head.captured - front_size old.link) ≤ blocks → found ≡ Some head → IfSome found (EntersBody old mid)
-    → Told a b (GivesHead old (Ok found)) → Told b c (GivesPacket mid head front (Err stop)) → Told a c (GivesRecord used blocks old new front (Err stop))
-cut_given a b c old mid new used blocks front found head stop fits some enters first second =
+-- a record whose blocks aren't home and don't come: its header is gone
+pub lacking_given : (a b : Option (List ℕ)) (old new : Place) (used blocks : ℕ) (front : List ℕ) (found : Option RecHead) (head : RecHead)
+    → used + need_of (head.captured - front_size old.link) ≤ blocks → found ≡ Some head
+    → Told a b (GivesHead old (Ok found)) → Told a b (GivesRecord used blocks old new front (Err (Lacking head)))
+lacking_given a b old new used blocks front found head fits some told =
+    let at_some : Told a b (GivesHead old (Ok (Some head))) = subst (λ (f : Option RecHead). Told a b (GivesHead old (Ok f))) some told in
+    Told-weaker a b (GivesHead old (Ok (Some head))) (GivesRecord used blocks old new front (Err (Lacking head))) (λ bytes left takes. (takes, fits)) at_some
+
+-- the body behind a header that was kept
+pub kept_whole : (b c : Option (List ℕ)) (at mid new : Place) (used blocks : ℕ) (front : List ℕ) (head : RecHead) (p : Held) → KeepsHead at mid head → ReadsOn mid new head.captured
+    → Told b c (GivesPacket mid head front (Ok p)) → Told b c (GivesKept used blocks at new head front (Ok p))
+kept_whole b c at mid new used blocks front head p keeps on told =
+    Told-weaker b c (GivesPacket mid head front (Ok p)) (GivesKept used blocks at new head front (Ok p))
+    (λ rest left gives. λ bytes takes. body_whole at mid new used blocks front head p bytes rest left keeps.enters on takes gives) told
+
+pub kept_cut : (b c : Option (List ℕ)) (at mid new : Place) (used blocks : ℕ) (front : List ℕ) (head : RecHead) (stop : Stop) → KeepsHead at mid head
+    → used + need_of (head.captured - front_size at.link) ≤ blocks
+    → Told b c (GivesPacket mid head front (Err stop)) → Told b c (GivesKept used blocks at new head front (Err stop))
+kept_cut b c at mid new used blocks front head stop keeps fits told =
+    Told-weaker b c (GivesPacket mid head front (Err stop)) (GivesKept used blocks at new head front (Err stop))
+    (λ rest left gives. λ bytes takes. body_cut at mid new used blocks front head stop bytes rest left fits keeps.enters takes gives) told
+
+-- a header, and what stands behind it
+pub record_given : (a b c : Option (List ℕ)) (old new : Place) (used blocks : ℕ) (front : List ℕ) (found : Option RecHead) (head : RecHead) (answer : Result Held Stop) → found ≡ Some head
+    → Told a b (GivesHead old (Ok found)) → Told b c (GivesKept used blocks old new head front answer) → Told a c (GivesRecord used blocks old new front answer)
+record_given a b c old new used blocks front found head answer some first second =
     let at_some : Told a b (GivesHead old (Ok (Some head))) = subst (λ (f : Option RecHead). Told a b (GivesHead old (Ok f))) some first in
-    let entered : EntersBody old mid head = subst (λ (f : Option RecHead). IfSome f (EntersBody old mid)) some enters in
-    Told-then a b c (GivesHead old (Ok (Some head))) (GivesPacket mid head front (Err stop)) (GivesRecord used blocks old new front (Err stop))
-    (λ bytes rest left takes gives. body_cut old mid new used blocks front head stop bytes rest left fits entered takes gives) at_some second
+    Told-then a b c (GivesHead old (Ok (Some head))) (GivesKept used blocks old new head front answer) (GivesRecord used blocks old new front answer)
+    (λ bytes rest left takes gives. gives bytes takes) at_some second
 
--- a record whose blocks don't come: its header is gone
-pub unread_given : (a b : Option (List ℕ)) (old mid : Place) (used blocks : ℕ) (front : List ℕ) (found : Option RecHead) (head : RecHead)
-    → used + need_of (head.captured - front_size old.link) ≤ blocks → found ≡ Some head → IfSome found (EntersBody old mid)
-    → Told a b (GivesHead old (Ok found)) → Told a b (GivesRecord used blocks old mid front (Err NoMemory))
-unread_given a b old mid used blocks front found head fits some enters first =
-    cut_given a b b old mid mid used blocks front found head NoMemory fits some enters first (Told-same b (GivesPacket mid head front (Err NoMemory)) (λ bytes. ([], refl)))
+-- no header is kept at a fault of the reader
+pub none_kept : (fault : InFault) (stop : Stop) (P : RecHead → Type 0) → IsStopOf fault stop → IfLacking stop P
+none_kept (faults.Cap fault) stop P is = rw is tt
+none_kept faults.ReadFault stop P is = rw is tt
 
-pub whole_given : (a b c : Option (List ℕ)) (old mid new : Place) (used blocks : ℕ) (front : List ℕ) (found : Option RecHead) (head : RecHead) (p : Held)
-    → found ≡ Some head → IfSome found (EntersBody old mid) → ReadsOn mid new head.captured
-    → Told a b (GivesHead old (Ok found)) → Told b c (GivesPacket mid head front (Ok p)) → Told a c (GivesRecord used blocks old new front (Ok p))
-whole_given a b c old mid new used blocks front found head p some enters on first second =
-    let at_some : Told a b (GivesHead old (Ok (Some head))) = subst (λ (f : Option RecHead). Told a b (GivesHead old (Ok f))) some first in
-    let entered : EntersBody old mid head = subst (λ (f : Option RecHead). IfSome f (EntersBody old mid)) some enters in
-    Told-then a b c (GivesHead old (Ok (Some head))) (GivesPacket mid head front (Ok p)) (GivesRecord used blocks old new front (Ok p))
-    (λ bytes rest left takes gives. body_whole old mid new used blocks front head p bytes rest left entered on takes gives) at_some second
+pub never_kept : (stop : Stop) (P : RecHead → Type 0) → IfLacking stop (λ _. ⊥) → IfLacking stop P
+never_kept End P never = tt
+never_kept (Malformed fault) P never = tt
+never_kept (PoolEmpty need) P never = tt
+never_kept (Lacking head) P never = absurd never
+never_kept ReadFault P never = tt
+never_kept NoMemory P never = tt
 
--- where 131 blocks are home, or as many as there are less those in use, a record that needs no more than there are finds its own
-pub finds_blocks : (len used home made : ℕ) → len ≤ most_read → (131 ≤ home) ⊎ (made ≤ home + used) → used + need_of len ≤ made → need_of len ≤ home
-finds_blocks len used home made small (inl many) fits = omega (arith, small, many)
-finds_blocks len used home made small (inr rest) fits = omega (arith, rest, fits)
+-- the header that was found is kept
+pub keeps_head : (at new : Place) (found : Option RecHead) (head : RecHead) → found ≡ Some head → IsReady at → IfSome found (EntersBody at new)
+    → IfSome found (λ (it : RecHead). it.captured ≤ captured_limit at.link) → IfSome found (λ (it : RecHead). is_bad_original at.link it.original ≡ false)
+    → IfSome found (λ (it : RecHead). lacks_off_head at.link it.captured ≡ false) → Counted new → KeepsHead at new head
+keeps_head at new found head some ready enters captured original off_head counted = record {
+  ready = ready;
+  enters = subst (λ (f : Option RecHead). IfSome f (EntersBody at new)) some enters;
+  captured = subst (λ (f : Option RecHead). IfSome f (λ (it : RecHead). it.captured ≤ captured_limit at.link)) some captured;
+  original = subst (λ (f : Option RecHead). IfSome f (λ (it : RecHead). is_bad_original at.link it.original ≡ false)) some original;
+  off_head = subst (λ (f : Option RecHead). IfSome f (λ (it : RecHead). lacks_off_head at.link it.captured ≡ false)) some off_head;
+  counted = counted;
+}

@@ -1,5 +1,5 @@
 -- What reading a record into blocks says of the bytes that were left before it and are left after it.
-use Rattle.std.specs.Prelude.{ℕ, ◌≡◌, ◌+◌, ◌-◌, ◌<◌, ◌≤◌, List, [], ◌∷◌, ◌++◌, length, map, None, Some, Result, Ok, Err}
+use Rattle.std.specs.Prelude.{ℕ, ◌≡◌, ◌+◌, ◌-◌, ◌<◌, ◌≤◌, List, [], ◌∷◌, ◌++◌, length, map, false, None, Some, Result, Ok, Err}
 use Rattle.skb.specs.SkbState.{buffer_bytes}
 use Rattle.pcap_io.specs.declared.place.Place.{Place}
 use Rattle.pcap_io.specs.declared.heads.Link.{Link}
@@ -9,15 +9,16 @@ use Rattle.pcap_io.specs.declared.faults.InFault.{InFault}
 use Rattle.pcap_io.specs.declared.faults.InFault.TheVariants as faults
 use Rattle.pcap_io.specs.Capture.{Packet, Found, packet, ended}
 use Rattle.pcap_io.specs.Laws.{frame_length}
+use Rattle.pcap_io.specs.Headers.{captured_limit, is_bad_original, lacks_off_head}
 use Rattle.pcap_io.specs.Limits.{off_head_size}
 use Rattle.pcap_io.specs.Lengths.{lengths_at}
-use Rattle.pcap_io.specs.Places.{found_at, IsReady, short_record}
-use Rattle.pcap_io.specs.Reading.{FewerGone, Loses}
+use Rattle.pcap_io.specs.Places.{found_at, Counted, EntersBody, IsReady, short_record}
+use Rattle.pcap_io.specs.Reading.{FewerGone, GivesHead, Loses}
 use Rattle.gro.specs.declared.slot.Slot.{Slot as Held}
 use Rattle.gro.specs.Packets.{PacketsState}
 use Rattle.offload_model.specs.Need.{need_of, needed}
 use Rattle.records.specs.declared.reading.Stop.{Stop}
-use Rattle.records.specs.declared.reading.Stop.TheVariants.{End, Malformed, PoolEmpty, ReadFault, NoMemory}
+use Rattle.records.specs.declared.reading.Stop.TheVariants.{End, Lacking, Malformed, PoolEmpty, ReadFault, NoMemory}
 
 -- how many bytes of a record are read in front of its blocks: of link type 147 those that every offload header has
 abbrev pub front_size : Link → ℕ
@@ -39,6 +40,7 @@ GivesPacket place head front (Err End) bytes left = ⊥
 GivesPacket place head front (Err (Malformed fault)) bytes left = (length bytes < head.captured)
     × (fault ≡ short_record place) × (left ≡ [])
 GivesPacket place head front (Err (PoolEmpty need)) bytes left = ⊥
+GivesPacket place head front (Err (Lacking kept)) bytes left = ⊥
 GivesPacket place head front (Err ReadFault) bytes left = FewerGone bytes left head.captured
 GivesPacket place head front (Err NoMemory) bytes left = Loses bytes left
 
@@ -88,6 +90,8 @@ GivesRecord used blocks old new front (Err (Malformed fault)) bytes left =
     (found_at old bytes ≡ ended (Some fault)) × (used + needed (judged_at old bytes) ≤ blocks)
     × HoldsNone used blocks old bytes left
 GivesRecord used blocks old new front (Err (PoolEmpty need)) bytes left = NeedsMore used blocks need old bytes left
+GivesRecord used blocks old new front (Err (Lacking head)) bytes left = GivesHead old (Ok (Some head)) bytes left
+    × (used + need_of (head.captured - front_size old.link) ≤ blocks)
 GivesRecord used blocks old new front (Err ReadFault) bytes left = HoldsNone used blocks old bytes left
 GivesRecord used blocks old new front (Err NoMemory) bytes left = Loses bytes left
 
@@ -110,6 +114,26 @@ pub record GoesOn (old new : Place) : Type 0 where
   pub link : new.link ≡ old.link
   pub number : new.number ≡ old.number + 1
   pub ready : IsReady new
+
+-- a record's header was given at a place, and the reader stands behind it
+pub record KeepsHead (at new : Place) (head : RecHead) : Type 0 where
+  pub ready : IsReady at
+  pub enters : EntersBody at new head
+  pub captured : head.captured ≤ captured_limit at.link
+  pub original : is_bad_original at.link head.original ≡ false
+  pub off_head : lacks_off_head at.link head.captured ≡ false
+  pub counted : Counted new
+
+-- of a stop for want of blocks: the header that was taken
+abbrev pub IfLacking : Stop → (RecHead → Type 0) → Type 0
+IfLacking (Lacking head) P = P head
+IfLacking _ P = Unit {0}
+
+-- the rest of a record whose header was kept: whatever bytes that was taken of, with it they come to this
+abbrev pub GivesKept : ℕ → ℕ → Place → Place → RecHead → List ℕ → Result Held Stop → List ℕ → List ℕ → Type 0
+GivesKept used blocks at new head front answer bytes left =
+    (opened : List ℕ) → GivesHead at (Ok (Some head)) opened bytes
+    → GivesRecord used blocks at new front answer opened left
 
 -- a stop for a fault of the reader
 abbrev pub IsStopOf : InFault → Stop → Type 0

@@ -1,8 +1,10 @@
 //! The blocks of a record.
 ghost use Rattle.std.specs.Prelude.{◌≡◌, ℕ, ◌+◌, ◌-◌, ◌/◌, ◌<◌, ◌≤◌, ◌^◌, [], ◌∷◌, min, length};
+ghost use Rattle.std.specs.List.{sum_by};
 ghost use Rattle.std.specs.VecDeque.{deque_capacity};
 ghost use Rattle.block_pool.specs.PoolState.{home, weighed};
 ghost use Rattle.frags.specs.PieceList.{size_of, bytes_of};
+ghost use Rattle.frags.specs.declared.pieces.Piece.{Piece};
 ghost use Rattle.skb.specs.SkbState.{buffer_bytes, weighed_in, IsAlone};
 ghost use Rattle.gro.specs.Slots.{of_packet, count_of};
 ghost use Rattle.records.specs.Data.{data_of};
@@ -31,6 +33,7 @@ pub(crate) fn take_block(pool: &mut Pool, mark: u32) -> Sole
     requires home { 1 ≤ home pool.old }
     ensures mark { result.mark ≡ mark }
     ensures home { home pool.new + 1 ≡ home pool.old }
+    ensures named { (h : ℕ → ℕ) → weighed h pool.new.blocks + h result.block ≡ weighed h pool.old.blocks }
     ensures made { pool.new.made ≡ pool.old.made }
     ensures taken { pool.new.taken ≡ min (pool.old.taken + 1) (2 ^ 64 - 1) }
 {
@@ -53,6 +56,7 @@ pub(crate) fn take_blocks(pool: &mut Pool, hold: &mut VecDeque<Sole>, n: u32, fi
     ensures marks { MarkedFrom first hold.new.items }
     ensures count { length hold.new.items ≡ n }
     ensures home { home pool.new + n ≡ home pool.old }
+    ensures named { (h : ℕ → ℕ) → weighed h pool.new.blocks + weighed h hold.new.items ≡ weighed h pool.old.blocks }
     ensures made { pool.new.made ≡ pool.old.made }
     ensures taken { pool.new.taken ≡ min (pool.old.taken + n) (2 ^ 64 - 1) }
     ensures capacity { deque_capacity hold.new ≡ deque_capacity hold.old }
@@ -69,6 +73,8 @@ pub(crate) fn put_back(pool: &mut Pool, first: Sole, hold: &mut VecDeque<Sole>)
     requires room { home pool.old + (length hold.old.items + 1) ≤ pool.old.made }
     ensures empty { hold.new.items ≡ [] }
     ensures home { home pool.new ≡ home pool.old + (length hold.old.items + 1) }
+    ensures named { (h : ℕ → ℕ) → weighed h pool.new.blocks
+        ≡ weighed h pool.old.blocks + (h first.block + weighed h hold.old.items) }
     ensures made { (pool.new.made ≡ pool.old.made) × (pool.new.taken ≡ pool.old.taken) }
     ensures capacity { deque_capacity hold.new ≡ deque_capacity hold.old }
 {
@@ -103,6 +109,8 @@ fn build_pieces(hold: &mut VecDeque<Sole>, builder: PieceBuilder, size: usize, f
     ensures bytes { bytes_of result ≡ data_of 0 size hold.old.items }
     ensures marks { MarkedFrom (first + length result) hold.new.items }
     ensures rest { length hold.new.items + length result ≡ length hold.old.items }
+    ensures named { (h : ℕ → ℕ) → sum_by (λ (p : Piece). h p.part.life.block) result + weighed h hold.new.items
+        ≡ weighed h hold.old.items }
     ensures capacity { deque_capacity hold.new ≡ deque_capacity hold.old }
 {
     let mut builder = builder;
@@ -141,6 +149,8 @@ pub(crate) fn make_packet(
     ensures room { packets.old.room ≤ packets.new.room + 1 }
     ensures laid { OfNew packets.old packets.new (IsLaid first) }
     ensures count { OfNew packets.old packets.new (λ p. count_of p ≡ data_blocks len) }
+    ensures named { OfNew packets.old packets.new (λ p. (h : ℕ → ℕ) → weighed_in h p.skb
+        ≡ h block.block + weighed h hold.old.items) }
     ensures read { OfNew packets.old packets.new IsRead }
     ensures range { OfNew packets.old packets.new (λ p. (p.number < 2 ^ 32) × (p.sec < 2 ^ 32) × (p.frac < 2 ^ 32)) }
     ensures bytes { OfNew packets.old packets.new (λ p. buffer_bytes p.skb ≡ data_of 64 len (block ∷ hold.old.items)) }

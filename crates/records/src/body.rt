@@ -1,6 +1,7 @@
 //! Reads a record's body into blocks.
 ghost use Rattle.std.specs.Prelude.{◌≡◌, ℕ, ◌+◌, ◌-◌, ◌/◌, ◌≤◌, ◌∷◌, length, slice_range, OnOk, Err};
 ghost use Rattle.std.specs.VecDeque.{deque_capacity};
+ghost use Rattle.block_pool.specs.PoolState.{weighed};
 ghost use Rattle.off_io.specs.Faults.{Rose};
 ghost use Rattle.off_io.specs.Told.{Told};
 ghost use Rattle.pcap_io.specs.Places.{ReadsOn};
@@ -38,6 +39,7 @@ fn read_block<S: Source>(
     ensures size { length (slice_range block.new.bytes from to) + from ≡ to }
     ensures in_bytes { InBytes (slice_range block.new.bytes from to) }
     ensures mark { block.new.mark ≡ block.old.mark }
+    ensures named { block.new.block ≡ block.old.block }
     ensures place { OnOk result (ReadsOn (place_of reader.old) (place_of reader.new) (to - from)) }
     ensures later { S.faults (source_of reader.old) ≤ S.faults (source_of reader.new) }
     ensures failed { result ≡ Err InFault.ReadFault → Rose (S.faults (source_of reader.old))
@@ -82,6 +84,7 @@ fn read_blocks<S: Source>(
     ensures long { OnOk result (length (data_of 0 size hold.new.items) ≡ size) }
     ensures in_bytes { OnOk result (InBytes (data_of 0 size hold.new.items)) }
     ensures marks { (k : ℕ) → MarkedFrom k hold.old.items → MarkedFrom k hold.new.items }
+    ensures named { (h : ℕ → ℕ) → weighed h hold.new.items ≡ weighed h hold.old.items }
     ensures size { length hold.new.items ≡ length hold.old.items }
     ensures capacity { deque_capacity hold.new ≡ deque_capacity hold.old }
     ensures place { OnOk result (ReadsOn (place_of reader.old) (place_of reader.new) size) }
@@ -121,6 +124,8 @@ pub(crate) fn read_frame<S: Source>(
     ensures front { length front.new ≡ length front.old }
     ensures mark { first.new.mark ≡ first.old.mark }
     ensures marks { (k : ℕ) → MarkedFrom k hold.old.items → MarkedFrom k hold.new.items }
+    ensures named { (h : ℕ → ℕ) → h first.new.block + weighed h hold.new.items
+        ≡ h first.old.block + weighed h hold.old.items }
     ensures size { length hold.new.items ≡ length hold.old.items }
     ensures capacity { deque_capacity hold.new ≡ deque_capacity hold.old }
     ensures place { OnOk result (ReadsOn (place_of reader.old) (place_of reader.new) (length front.old + len)) }

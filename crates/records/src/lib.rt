@@ -8,8 +8,9 @@
 //! reads, go to a list of their own.
 //!
 //! Between its header and its body what a record needs is known, and its blocks come home where they are out: whoever
-//! has a [`Supply`] of them brings them then, and no sooner. Where as many are home as it needs nobody is asked. Who
-//! can't wait there says so before the record is begun, by the most that one may need ([`AllHome`]).
+//! has a [`Supply`] of them brings them then, and no sooner; who brings none is [`AllHome`]. Where as many are home as
+//! it needs nobody is asked. Where they don't come the header is kept, and the reader stands behind it:
+//! [`finish_record`] reads the body once they are home.
 //!
 //! Nobody else holds a block of a buffer that was read, and its blocks are marked in turn. Where that stays so they go
 //! home by count alone ([`bring_blocks`]).
@@ -25,8 +26,12 @@
 //!
 //! - `given`: the packet is the next one of the capture, and a refusal is told by the capture's bytes alone;
 //!   `PoolEmpty` exactly where the round's need exceeds the blocks, with that need, judged by the record's header.
+//! - `kept`: where a record lacks blocks fewer are home than it needs, with it the round doesn't exceed the blocks, and
+//!   none was taken; `given` of [`finish_record`]: with the bytes of its header, whatever they were, it is then read as
+//!   any other. `refused`, `asked`: a supply that counts how often it says no did so.
 //! - `home`, `spares`, `back`: what of the pool is out, beside what came home meanwhile, is what the packet and its
-//!   spares have, and after a refusal nothing; `taken`, `most`, `least`: by how much the count of takes rises.
+//!   spares have, and after a refusal nothing; `named`, `named_back`: these are just the same blocks, by their names;
+//!   `taken`, `most`, `least`: by how much the count of takes rises.
 //! - `one`, `none`: the list has the packet more, or is as it was.
 //! - `laid`: the blocks are marked in turn, and held by nobody else; `captured`: the packet is such as a capture may
 //!   hold.
@@ -57,7 +62,7 @@ pub use blocks::bring_blocks;
 pub use buffer::write_buffer;
 pub use in_place::{write_run, write_runs};
 pub use items::{write_item, write_items};
-pub use reading::{Stop, read_record};
+pub use reading::{Stop, finish_record, read_record};
 pub use record::{Time, write_record, write_window};
 pub use segments::write_segments;
 pub use supply::{AllHome, RECORD_BLOCKS, Supply};

@@ -1,19 +1,20 @@
 //! Reads one record of a capture into blocks.
-ghost use Rattle.std.specs.Prelude.{◌≡◌, ◌+◌, ◌-◌, ◌≤◌, ◌^◌, [], false, min, length};
-ghost use Rattle.std.specs.Prelude.{IfOk, OnOk, OnErr, Err};
+ghost use Rattle.std.specs.Prelude.{◌≡◌, ℕ, ◌+◌, ◌-◌, ◌<◌, ◌≤◌, ◌^◌, [], false, true, min, length};
+ghost use Rattle.std.specs.Prelude.{IfErr, IfOk, OnOk, OnErr, Err};
 ghost use Rattle.std.specs.VecDeque.{deque_capacity};
-ghost use Rattle.block_pool.specs.PoolState.{home};
-ghost use Rattle.skb.specs.SkbState.{buffer_bytes};
+ghost use Rattle.block_pool.specs.PoolState.{home, weighed};
+ghost use Rattle.skb.specs.SkbState.{buffer_bytes, weighed_in};
 ghost use Rattle.off_io.specs.Faults.{Rose};
 ghost use Rattle.off_io.specs.Told.{Told};
 ghost use Rattle.pcap_io.specs.declared.heads.Link.TheVariants.{Ethernet};
 ghost use Rattle.pcap_io.specs.Headers.{is_bad_original};
+ghost use Rattle.pcap_io.specs.declared.place.Place.{Place};
 ghost use Rattle.pcap_io.specs.Places.{IsReady, ReadsOn};
 ghost use Rattle.pcap_io.specs.Readers.{place_of, source_of, SameLoan};
 ghost use Rattle.gro.specs.Slots.{packet_of, count_of};
 ghost use Rattle.records.specs.Laid.{IsInFields, IsLaid, IsRead, most_original, most_read};
-ghost use Rattle.records.specs.Reading.{front_size, GivesPacket, GivesRecord, GoesOn, IsStopOf};
-ghost use Rattle.records.specs.Reading.{HasOne, OfAnswer, OfNew};
+ghost use Rattle.records.specs.Reading.{front_size, GivesKept, GivesPacket, GivesRecord, GoesOn, IfLacking, IsStopOf};
+ghost use Rattle.records.specs.Reading.{HasOne, KeepsHead, OfAnswer, OfNew};
 ghost use Rattle.offload_model.specs.Need.{data_blocks, need_of};
 ghost use Rattle.offload_model.specs.Captured.{IsCaptured};
 
@@ -36,6 +37,9 @@ pub enum Stop {
     Malformed(CapFault),
     /// The blocks that the round would need.
     PoolEmpty { need: u32 },
+    /// The blocks that the record needs aren't home and don't come. Its header was taken: [`finish_record`] goes on
+    /// behind it.
+    Lacking { head: RecHead },
     ReadFault,
     NoMemory,
 }
@@ -49,8 +53,10 @@ fn stop_of(fault: InFault) -> Stop
     }
 }
 
-// Reads the body of the record that was begun, `len` bytes of it into blocks with marks from `mark` on. Two spares go
-// to a list of their own, and the packet behind the packets that there are.
+// Reads the body of a record that was begun, `len` bytes of it into blocks with marks from `mark` on. Two spares go
+// to a list of their own, and the packet behind the packets that there are. The answer says how many blocks it has with
+// them.
+#[inline(always)]
 fn read_packet<S: Source>(
     alloc: Global,
     pool: &mut Pool,
@@ -62,7 +68,7 @@ fn read_packet<S: Source>(
     len: u32,
     mark: u32,
     packets: &mut Packets,
-) -> Result<(), Stop>
+) -> Result<u32, Stop>
     requires len { len ≤ most_read }
     requires whole { head.now.captured ≡ length front.old + len }
     requires original { head.now.original ≤ most_original }
@@ -80,6 +86,8 @@ fn read_packet<S: Source>(
     ensures front { length front.new ≡ length front.old }
     ensures one { OnOk result (HasOne packets.old packets.new) }
     ensures none { OnErr result (packets.new ≡ packets.old) }
+    ensures begun { IfErr result (λ stop. IfLacking stop (λ _. ⊥)) }
+    ensures blocks { IfOk result (λ r. r ≡ need_of len) }
     ensures room { packets.old.room ≤ packets.new.room + 1 }
     ensures laid { OnOk result (OfNew packets.old packets.new (IsLaid mark)) }
     ensures count { OnOk result (OfNew packets.old packets.new (λ p. count_of p ≡ data_blocks len)) }
@@ -90,7 +98,11 @@ fn read_packet<S: Source>(
     ensures original { OnOk result (OfNew packets.old packets.new (λ p. p.original ≡ head.now.original)) }
     ensures home { OnOk result (home pool.new + need_of len ≡ home pool.old) }
     ensures spares { OnOk result (home spares.new ≡ home spares.old + 2) }
+    ensures named { OnOk result (OfNew packets.old packets.new (λ p. (h : ℕ → ℕ) → weighed h pool.new.blocks
+        + weighed_in h p.skb + weighed h spares.new.blocks ≡ weighed h pool.old.blocks + weighed h spares.old.blocks)) }
     ensures back { OnErr result ((home pool.new ≡ home pool.old) × (home spares.new ≡ home spares.old)) }
+    ensures named_back { OnErr result ((h : ℕ → ℕ) → (weighed h pool.new.blocks ≡ weighed h pool.old.blocks)
+        × (weighed h spares.new.blocks ≡ weighed h spares.old.blocks)) }
     ensures made { (pool.new.made ≡ pool.old.made) × (spares.new.made ≡ spares.old.made) }
     ensures taken { OnOk result (pool.new.taken ≡ min (pool.old.taken + need_of len) (2 ^ 64 - 1)) }
     ensures most { pool.new.taken ≤ pool.old.taken + need_of len }
@@ -116,12 +128,87 @@ fn read_packet<S: Source>(
         Ok(builder) => {
             pool.take_to(2, spares);
             make_packet(block, hold, builder, head, len, mark, packets);
-            Ok(())
+            Ok(data + 2)
         }
         Err(_) => {
             put_back(pool, block, hold);
             Err(Stop::NoMemory)
         }
+    }
+}
+
+/// Reads the body of a record whose header was taken, once as many blocks are home as it needs: what [`read_record`]
+/// says, over the whole record, of whatever bytes its header was taken. The answer says how many blocks it has with its
+/// spares.
+#[inline(always)]
+pub fn finish_record<S: Source>(
+    alloc: Global,
+    pool: &mut Pool,
+    hold: &mut VecDeque<Sole>,
+    spares: &mut Pool,
+    reader: &mut CaptureReader<'_, S>,
+    front: &mut [u8],
+    head: &RecHead,
+    mark: u32,
+    packets: &mut Packets,
+) -> Result<u32, Stop>
+    requires kept { (at : Place) × KeepsHead at (place_of reader.old) head.now }
+    requires front { length front.old ≡ front_size (place_of reader.old).link }
+    requires empty { hold.old.items ≡ [] }
+    requires capacity { 131 ≤ deque_capacity hold.old }
+    requires home { (need_of (head.now.captured - length front.old) ≤ home pool.old)
+        × (home pool.old ≤ pool.old.made) }
+    requires room { home spares.old + 2 ≤ spares.old.made }
+    requires mark { mark ≤ 65536 }
+    requires place { 1 ≤ packets.old.room }
+    ensures same_source { SameLoan reader.old reader.new }
+    ensures given { (at : Place) → (used blocks : ℕ) → KeepsHead at (place_of reader.old) head.now
+        → used + need_of (head.now.captured - length front.old) ≤ blocks
+        → OfAnswer result packets.old packets.new (λ r. Told (S.left (source_of reader.old))
+        (S.left (source_of reader.new)) (GivesKept used blocks at (place_of reader.new) head.now front.new r)) }
+    ensures next { (at : Place) → KeepsHead at (place_of reader.old) head.now
+        → OnOk result (GoesOn at (place_of reader.new)) }
+    ensures front { length front.new ≡ length front.old }
+    ensures one { OnOk result (HasOne packets.old packets.new) }
+    ensures none { OnErr result (packets.new ≡ packets.old) }
+    ensures begun { IfErr result (λ stop. IfLacking stop (λ _. ⊥)) }
+    ensures room { packets.old.room ≤ packets.new.room + 1 }
+    ensures number { OnOk result (OfNew packets.old packets.new (λ p. p.number ≡ head.now.number)) }
+    ensures original { OnOk result (OfNew packets.old packets.new (λ p. is_bad_original
+        (place_of reader.old).link p.original ≡ false)) }
+    ensures behind { OnOk result (OfNew packets.old packets.new (λ p. (place_of reader.new).offset
+        ≡ (place_of reader.old).offset × (length front.new + length (buffer_bytes p.skb) ≡ head.now.captured))) }
+    ensures laid { OnOk result (OfNew packets.old packets.new (IsLaid mark)) }
+    ensures read { OnOk result (OfNew packets.old packets.new IsRead) }
+    ensures captured { OnOk result (OfNew packets.old packets.new (λ p. (place_of reader.old).link ≡ Ethernet
+        → IsCaptured (packet_of p))) }
+    ensures need { OnOk result (OfNew packets.old packets.new (λ p. count_of p + 2
+        ≡ need_of (length (buffer_bytes p.skb)))) }
+    ensures count { IfOk result (λ r. (r ≡ need_of (head.now.captured - length front.old))
+        × OfNew packets.old packets.new (λ p. count_of p + 2 ≡ r)) }
+    ensures home { IfOk result (λ r. home pool.new + r ≡ home pool.old) }
+    ensures spares { OnOk result (home spares.new ≡ home spares.old + 2) }
+    ensures named { OnOk result (OfNew packets.old packets.new (λ p. (h : ℕ → ℕ) → weighed h pool.new.blocks
+        + weighed_in h p.skb + weighed h spares.new.blocks ≡ weighed h pool.old.blocks + weighed h spares.old.blocks)) }
+    ensures taken { IfOk result (λ r. pool.new.taken ≡ min (pool.old.taken + r) (2 ^ 64 - 1)) }
+    ensures back { OnErr result ((home pool.new ≡ home pool.old) × (home spares.new ≡ home spares.old)) }
+    ensures named_back { OnErr result ((h : ℕ → ℕ) → (weighed h pool.new.blocks ≡ weighed h pool.old.blocks)
+        × (weighed h spares.new.blocks ≡ weighed h spares.old.blocks)) }
+    ensures most { pool.new.taken ≤ pool.old.taken + need_of (head.now.captured - length front.old) }
+    ensures least { pool.old.taken ≤ pool.new.taken }
+    ensures made { (pool.new.made ≡ pool.old.made) × (spares.new.made ≡ spares.old.made) }
+    ensures empty { hold.new.items ≡ [] }
+    ensures capacity { deque_capacity hold.new ≡ deque_capacity hold.old }
+    ensures later { S.faults (source_of reader.old) ≤ S.faults (source_of reader.new) }
+    ensures failed { result ≡ Err Stop.ReadFault → Rose (S.faults (source_of reader.old))
+        (S.faults (source_of reader.new)) }
+{
+    let len = head.captured - front.len() as u32;
+    match read_packet(
+        alloc, pool, hold, spares, reader, front, head, len, mark, packets,
+    ) {
+        Ok(count) => Ok(count),
+        Err(stop) => Err(stop),
     }
 }
 
@@ -131,8 +218,9 @@ fn read_packet<S: Source>(
 /// blocks it has with its spares.
 ///
 /// It is judged in this order: its header, whether the round then needs more blocks than there are, its body. Between
-/// them its blocks are home, or are brought; where they don't come it isn't read, which is `NoMemory`. A record that
-/// isn't given leaves all blocks home that were or that came, and the packets as they were.
+/// them its blocks are home, or are brought. Where they don't come its body isn't read, which is `Lacking`: its header
+/// is the answer's, and [`finish_record`] goes on behind it. A record that isn't given leaves all blocks home that were
+/// or that came, and the packets as they were.
 pub fn read_record<S: Source, H: Supply>(
     alloc: Global,
     pool: &mut Pool,
@@ -161,6 +249,13 @@ pub fn read_record<S: Source, H: Supply>(
     ensures front { length front.new ≡ length front.old }
     ensures one { OnOk result (HasOne packets.old packets.new) }
     ensures none { OnErr result (packets.new ≡ packets.old) }
+    ensures kept { IfErr result (λ stop. IfLacking stop (λ head. KeepsHead (place_of reader.old)
+        (place_of reader.new) head × (home pool.new < need_of (head.captured - length front.old))
+        × (used + need_of (head.captured - length front.old) ≤ pool.old.made)
+        × (pool.new.taken ≡ pool.old.taken))) }
+    ensures refused { H.counts ≡ true → IfErr result (λ stop. IfLacking stop (λ _.
+        min (H.refusals more.old + 1) (2 ^ 64 - 1) ≤ H.refusals more.new)) }
+    ensures asked { H.refusals more.old ≤ H.refusals more.new }
     ensures room { packets.old.room ≤ packets.new.room + 1 }
     ensures number { OnOk result (OfNew packets.old packets.new (λ p. p.number ≡ (place_of reader.old).number)) }
     ensures original { OnOk result (OfNew packets.old packets.new (λ p. is_bad_original
@@ -177,10 +272,16 @@ pub fn read_record<S: Source, H: Supply>(
     ensures count { IfOk result (λ r. OfNew packets.old packets.new (λ p. count_of p + 2 ≡ r.1)) }
     ensures home { IfOk result (λ r. home pool.new + r.1 + H.brought more.old ≡ home pool.old + H.brought more.new) }
     ensures spares { OnOk result (home spares.new ≡ home spares.old + 2) }
+    ensures named { OnOk result (OfNew packets.old packets.new (λ p. (h : ℕ → ℕ) → weighed h pool.new.blocks
+        + weighed_in h p.skb + weighed h spares.new.blocks + H.weights more.old h
+        ≡ weighed h pool.old.blocks + weighed h spares.old.blocks + H.weights more.new h)) }
     ensures fits { IfOk result (λ r. used + r.1 ≤ pool.old.made) }
     ensures taken { IfOk result (λ r. pool.new.taken ≡ min (pool.old.taken + r.1) (2 ^ 64 - 1)) }
     ensures back { OnErr result ((home pool.new + H.brought more.old ≡ home pool.old + H.brought more.new)
         × (home spares.new ≡ home spares.old)) }
+    ensures named_back { OnErr result ((h : ℕ → ℕ) → (weighed h pool.new.blocks + H.weights more.old h
+        ≡ weighed h pool.old.blocks + H.weights more.new h)
+        × (weighed h spares.new.blocks ≡ weighed h spares.old.blocks)) }
     ensures most { OnErr result (pool.new.taken + used ≤ pool.old.taken + pool.old.made) }
     ensures least { pool.old.taken ≤ pool.new.taken }
     ensures made { (pool.new.made ≡ pool.old.made) × (spares.new.made ≡ spares.old.made) }
@@ -206,12 +307,12 @@ pub fn read_record<S: Source, H: Supply>(
         return Err(Stop::PoolEmpty { need });
     }
     if !has_blocks(pool, more, count) {
-        return Err(Stop::NoMemory);
+        return Err(Stop::Lacking { head });
     }
-    match read_packet(
-        alloc, pool, hold, spares, reader, front, &head, len, mark, packets,
+    match finish_record(
+        alloc, pool, hold, spares, reader, front, &head, mark, packets,
     ) {
-        Ok(()) => Ok((head.offset, count)),
+        Ok(_) => Ok((head.offset, count)),
         Err(stop) => Err(stop),
     }
 }

@@ -1,10 +1,10 @@
 //! Blocks that come home while records are read.
-ghost use Rattle.std.specs.Prelude.{◌≡◌, ◌⊎◌, ℕ, ◌+◌, ◌<◌, ◌≤◌, true, false, MatchBool};
-ghost use Rattle.block_pool.specs.PoolState.{home};
+ghost use Rattle.std.specs.Prelude.{◌≡◌, ℕ, ◌+◌, ◌-◌, ◌^◌, ◌<◌, ◌≤◌, Bool, true, false, min, MatchBool};
+ghost use Rattle.block_pool.specs.PoolState.{home, weighed};
 
 use block_pool::Pool;
 
-/// The blocks of the longest record, of 65,535 bytes: with so many at home none wants any more.
+/// The blocks of the longest record, whose frame has 262,144 bytes, with its spares: none needs more.
 pub const RECORD_BLOCKS: usize = 131;
 
 /// Who brings blocks home while records are read.
@@ -12,17 +12,25 @@ pub trait Supply {
     /// How many blocks it has brought home.
     ghost brought: { Self → ℕ };
 
+    /// What these blocks weigh together, each by its name.
+    ghost weights: { Self → (ℕ → ℕ) → ℕ };
+
+    /// Whether it counts how often it says no.
+    ghost counts: { Bool };
+
+    /// How often it said no, where it counts.
+    ghost refusals: { Self → ℕ };
+
     /// Whether `need` blocks are home, once those have come that it has or waits for. None is taken.
     fn bring(&mut self, pool: &mut Pool, need: u32) -> bool
         ensures sum { home pool.new + brought self.old ≡ home pool.old + brought self.new }
+        ensures named { (h : ℕ → ℕ) → weighed h pool.new.blocks + weights self.old h
+            ≡ weighed h pool.old.blocks + weights self.new h }
         ensures same { (pool.new.made ≡ pool.old.made) × (pool.new.taken ≡ pool.old.taken) }
-        ensures enough { result ≡ true → need ≤ home pool.new };
-
-    /// Whether the next record of a round may be begun that has `used` blocks. Who can't wait within a record says no
-    /// before it: where a record might find too few, and blocks are out that aren't the round's own.
-    fn may_begin(&self, pool: &Pool, used: u32) -> bool
-        requires few { used ≤ pool.now.made }
-        ensures lacking { result ≡ false → (home pool.now < 131) × (home pool.now + used < pool.now.made) };
+        ensures enough { result ≡ true → need ≤ home pool.new }
+        ensures refused { counts ≡ true → need ≤ pool.old.made → result ≡ false
+            → min (refusals self.old + 1) (2 ^ 64 - 1) ≤ refusals self.new }
+        ensures asked { refusals self.old ≤ refusals self.new };
 }
 
 /// For records that are read while no block comes home.
@@ -32,35 +40,36 @@ pub struct AllHome;
 impl Supply for AllHome {
     ghost brought = { λ _. 0 };
 
+    ghost weights = { λ _ _. 0 };
+
+    ghost counts = { false };
+
+    ghost refusals = { λ _. 0 };
+
     fn bring(&mut self, pool: &mut Pool, need: u32) -> bool
         ensures same { pool.new ≡ pool.old }
         ensures enough { MatchBool result (need ≤ home pool.old) (home pool.old < need) }
     {
         need <= pool.home()
     }
-
-    fn may_begin(&self, pool: &Pool, used: u32) -> bool
-        requires few { used ≤ pool.now.made }
-        ensures lacking { result ≡ false → (home pool.now < 131) × (home pool.now + used < pool.now.made) }
-        ensures enough { result ≡ true → (131 ≤ home pool.now) ⊎ (pool.now.made ≤ home pool.now + used) }
-    {
-        let (home, made) = (pool.home(), pool.made());
-        home >= RECORD_BLOCKS as u32 || home + used >= made
-    }
 }
 
-/// Whether `need` blocks are home. Where they are nothing is waited for.
+/// Whether `need` blocks are home. Where they are nobody is asked, and no is said only where they aren't.
 pub(crate) fn has_blocks<H: Supply>(pool: &mut Pool, more: &mut H, need: u32) -> bool
     ensures sum { home pool.new + H.brought more.old ≡ home pool.old + H.brought more.new }
+    ensures named { (h : ℕ → ℕ) → weighed h pool.new.blocks + H.weights more.old h
+        ≡ weighed h pool.old.blocks + H.weights more.new h }
     ensures same { (pool.new.made ≡ pool.old.made) × (pool.new.taken ≡ pool.old.taken) }
-    ensures enough { result ≡ true → need ≤ home pool.new }
+    ensures enough { MatchBool result (need ≤ home pool.new) (home pool.new < need) }
+    ensures refused { H.counts ≡ true → need ≤ pool.old.made → result ≡ false
+        → min (H.refusals more.old + 1) (2 ^ 64 - 1) ≤ H.refusals more.new }
+    ensures asked { H.refusals more.old ≤ H.refusals more.new }
     ensures unasked { need ≤ home pool.old → (result ≡ true) × (pool.new ≡ pool.old) × (more.new ≡ more.old) }
     ensures within { home pool.new ≤ pool.new.made }
 {
     if pool.home() >= need {
         return true;
     }
-    let came = more.bring(pool, need);
-    let _ = pool.home();
-    came
+    let _came = more.bring(pool, need);
+    pool.home() >= need
 }

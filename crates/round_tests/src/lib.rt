@@ -14,6 +14,8 @@ mod driven;
 #[cfg(test)]
 mod examples;
 #[cfg(test)]
+mod frames;
+#[cfg(test)]
 mod halting;
 #[cfg(test)]
 mod jumbo;

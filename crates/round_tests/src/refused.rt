@@ -11,19 +11,28 @@ use lanes::Alone;
 use off_io::{Feed, MemSink, NoGate, Source, SureSource};
 use pcap_io::{CaptureReader, FileHead, Link};
 use rounds::{MergeEnd, ReadAhead, RoundEnd, RoundRead, Rounds, Step};
-use std::alloc::Global;
+use std::alloc::{AllocError, Global};
 use std::process::Abort;
+use std::sync::Wait;
 use std::thread::Threads;
 use worked_captures::TWO_FLOWS;
 
-const BLOCKS: u32 = 24;
+// As many as the first round needs, so the read of the next one pauses.
+const BLOCKS: u32 = 12;
 
 const BUDGET: u32 = 4;
 
+// Four packets, and the first one again.
+fn five_packets(alloc: Global) -> Result<Vec<u8>, AllocError> {
+    let mut bytes = TWO_FLOWS.to_vec(alloc)?;
+    bytes.extend_from_slice(&TWO_FLOWS[24..110])?;
+    Ok(bytes)
+}
+
 fn source(rt: &impl Abort, alloc: Global) -> SureSource {
-    match TWO_FLOWS.to_vec(alloc) {
+    match five_packets(alloc) {
         Ok(bytes) => SureSource::new(bytes),
-        Err(_) => SureSource::new(TWO_FLOWS.to_vec(alloc).expect(rt, "memory")),
+        Err(_) => SureSource::new(five_packets(alloc).expect(rt, "memory")),
     }
 }
 
@@ -38,7 +47,7 @@ fn two_queues(rt: &impl Abort, alloc: Global) -> Rounds
 
 // A full round is worked and written while the next one is read, and where that pauses it is read to its end. Any other
 // is handed on. Where a round isn't worked or written all that was read goes home.
-fn turn<R: Threads + Sync, S: Source + Send>(
+fn turn<R: Threads + Wait + Sync, S: Source + Send>(
     rt: &R,
     rounds: &mut Rounds,
     read: RoundRead,
@@ -74,18 +83,18 @@ fn turn<R: Threads + Sync, S: Source + Send>(
             }
             rounds.drop_round(round);
         }
-        ReadAhead::Paused(round) => {
+        ReadAhead::Paused(paused) => {
             if is_written {
-                return Some(rounds.read_rest(round, reader));
+                return Some(rounds.read_rest(paused, reader));
             }
-            rounds.drop_round(round);
+            rounds.drop_round(paused.into_round());
         }
     }
     None
 }
 
 // Whether what was written of a round and the end behind it is right, and the blocks that are home.
-fn driven<R: Threads + Sync + Abort>(rt: &R, alloc: Global) -> (bool, u32) {
+fn driven<R: Threads + Wait + Sync + Abort>(rt: &R, alloc: Global) -> (bool, u32) {
     let mut feed = Feed {
         inner: source(rt, alloc),
     };
@@ -105,8 +114,9 @@ fn driven<R: Threads + Sync + Abort>(rt: &R, alloc: Global) -> (bool, u32) {
         None => false,
     };
     let written = sink.bytes();
-    let is_front = BY_QUEUE.as_slice().starts_with(written);
-    let is_right = is_front && (!is_done || written.len() == BY_QUEUE.len());
+    // Of the second round one packet of 70 bytes, as a record.
+    let is_front = BY_QUEUE.as_slice().starts_with(written) || written.starts_with(&BY_QUEUE);
+    let is_right = is_front && (!is_done || written.len() == BY_QUEUE.len() + 102);
     (is_right, rounds.home())
 }
 

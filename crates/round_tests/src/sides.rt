@@ -1,37 +1,57 @@
 //! One side reads and the other works, in turn, over as few blocks as a round needs.
-ghost use Rattle.std.specs.Prelude.{◌≡◌, ◌-◌, ◌≤◌, IfOk};
-ghost use Rattle.block_pool.specs.PoolState.{home};
+ghost use Rattle.std.specs.Prelude.{◌≡◌, ℕ, ◌-◌, ◌≤◌, List, [], IfOk};
+ghost use Rattle.raw_block.specs.Views.{SoleState};
+ghost use Rattle.block_pool.specs.PoolState.{home, weighed};
+ghost use Rattle.pcap_io.specs.declared.heads.Link.TheVariants.{Ethernet};
+ghost use Rattle.pcap_io.specs.Places.{IsReady};
+ghost use Rattle.pcap_io.specs.Readers.{place_of, SameLoan};
+ghost use Rattle.rounds.specs.Reading.{PassesRound};
 
 use crate::merging::WRITTEN;
 use crate::plans::plain;
 use block_pool::Pool;
 use lanes::Alone;
-use off_io::{Feed, MemSink, MemSource, NoGate};
+use off_io::{Feed, MemSink, MemSource, NoGate, Source};
 use pcap_io::{CaptureReader, FileHead, Link};
-use rounds::{AllHome, Bench, MergeEnd, Round, RoundEnd, RoundRead, Rounds, Step, Supply};
+use rounds::{AllHome, Bench, Intake, MergeEnd, Round, RoundEnd, RoundRead, Rounds, Step, Supply};
 use std::alloc::{AllocError, Global};
+use std::marker::{Brand, PhantomData};
 use std::test::Fail;
 use worked_captures::TWO_RECORDS;
 
-// A shelf of blocks, which come home at once.
-#[derive(Drop)]
-struct Shelf {
-    pool: Pool,
+// The blocks that were on a shelf at first: the call that lends it says them.
+trait Stocked {
+    ghost stock: { List SoleState };
 }
 
-impl Supply for Shelf {
+impl Stocked for Brand {
+    ghost stock = { [] };
+}
+
+// A shelf of blocks, which come home at once.
+#[derive(Drop)]
+struct Shelf<N: Stocked> {
+    pool: Pool,
+    of: PhantomData<N>,
+    ghost weighs: { (h : ℕ → ℕ) → weighed h pool.blocks ≤ weighed h N.stock },
+}
+
+impl<N: Stocked> Supply for Shelf<N> {
+    ghost use Rattle.std.specs.Prelude.{false};
+
     ghost brought = { λ s. s.pool.made - home s.pool };
+
+    ghost weights = { λ s h. weighed h N.stock - weighed h s.pool.blocks };
+
+    ghost counts = { false };
+
+    ghost refusals = { λ _. 0 };
 
     fn bring(&mut self, pool: &mut Pool, need: u32) -> bool {
         let _ = self.pool.home();
         pool.refill(&mut self.pool);
         let _ = self.pool.home();
         need <= pool.home()
-    }
-
-    fn may_begin(&self, pool: &Pool, used: u32) -> bool {
-        let (_, _) = (pool, used);
-        true
     }
 }
 
@@ -50,11 +70,51 @@ fn full(read: RoundRead) -> Result<Round, Fail>
 }
 
 // A shelf with places for three blocks.
-fn empty_shelf(alloc: Global) -> Result<Shelf, AllocError>
-    ensures empty { IfOk result (λ s. (home s.pool ≡ 0) × (s.pool.made ≡ 3)) }
+fn empty_shelf(alloc: Global) -> Result<Pool, AllocError>
+    ensures empty { IfOk result (λ pool. (home pool ≡ 0) × (pool.made ≡ 3)) }
 {
-    let pool = Pool::empty(alloc, 3)?;
-    Ok(Shelf { pool })
+    Pool::empty(alloc, 3)
+}
+
+// A round is read while the blocks of a shelf come home.
+fn read_beside<N: Stocked, S: Source>(
+    intake: &mut Intake,
+    reader: &mut CaptureReader<'_, S>,
+    pool: Pool,
+) -> (RoundRead, Pool)
+    requires ready { IsReady (place_of reader.old) }
+    requires link { (place_of reader.old).link ≡ Ethernet }
+    requires stock { pool.blocks ≡ N.stock }
+    ensures same_source { SameLoan reader.old reader.new }
+    ensures full { result.0.end ≡ RoundEnd.Full → PassesRound (place_of reader.old)
+        (place_of reader.new) result.0.round.packets intake.old.budget }
+    ensures within { result.0.round.blocks ≤ intake.old.blocks }
+    ensures same { intake.new.blocks ≡ intake.old.blocks }
+{
+    let mut shelf = Shelf::<N> {
+        pool,
+        of: PhantomData,
+    };
+    let read = intake.read_round(reader, &mut shelf);
+    let Shelf { pool, of: _ } = shelf;
+    (read, pool)
+}
+
+// The same, by a call that says which blocks these are.
+fn read_shelved<S: Source>(
+    intake: &mut Intake,
+    reader: &mut CaptureReader<'_, S>,
+    pool: Pool,
+) -> (RoundRead, Pool)
+    requires ready { IsReady (place_of reader.old) }
+    requires link { (place_of reader.old).link ≡ Ethernet }
+    ensures same_source { SameLoan reader.old reader.new }
+    ensures full { result.0.end ≡ RoundEnd.Full → PassesRound (place_of reader.old)
+        (place_of reader.new) result.0.round.packets intake.old.budget }
+    ensures within { result.0.round.blocks ≤ intake.old.blocks }
+    ensures same { intake.new.blocks ≡ intake.old.blocks }
+{
+    read_beside::<Brand, S>(intake, reader, pool)
 }
 
 // A round is worked and written, and its blocks come home to an empty shelf.
@@ -64,13 +124,13 @@ fn put(
     file: &FileHead,
     sink: &mut MemSink,
     number: u64,
-    back: &mut Shelf,
+    back: &mut Pool,
 ) -> Result<Step, Fail>
-    requires empty { home back.old.pool ≡ 0 }
-    requires made { back.old.pool.made ≡ bench.old.blocks }
+    requires empty { home back.old ≡ 0 }
+    requires made { back.old.made ≡ bench.old.blocks }
     requires within { read.round.blocks ≤ bench.old.blocks }
-    ensures home { IfOk result (λ _. home back.new.pool ≡ read.round.blocks) }
-    ensures made { back.new.pool.made ≡ back.old.pool.made }
+    ensures home { IfOk result (λ _. home back.new ≡ read.round.blocks) }
+    ensures made { back.new.made ≡ back.old.made }
     ensures blocks { bench.new.blocks ≡ bench.old.blocks }
 {
     if bench.make_room().is_err() {
@@ -79,15 +139,7 @@ fn put(
         return Err(Fail::from("there is memory"));
     }
     let mut works = Alone { gate: &NoGate };
-    Ok(bench.put_read(
-        &mut works,
-        read,
-        file,
-        sink,
-        number,
-        &mut back.pool,
-        &mut None,
-    ))
+    Ok(bench.put_read(&mut works, read, file, sink, number, back, &mut None))
 }
 
 // Both records in rounds of one, over blocks for one: what came of the rounds, and what was written; the blocks that
@@ -122,8 +174,9 @@ fn in_turn(alloc: Global) -> Result<([Step; 3], Vec<u8>, [u32; 4]), Fail> {
         0,
         &mut one,
     )?;
-    let (given, put_home) = (intake.home(), one.pool.home());
-    let round = full(intake.read_round(&mut reader, &mut one))?;
+    let (given, put_home) = (intake.home(), one.home());
+    let (read, _one) = read_shelved(&mut intake, &mut reader, one);
+    let round = full(read)?;
     let read = intake.home();
     let second = put(
         &mut bench,
@@ -133,7 +186,7 @@ fn in_turn(alloc: Global) -> Result<([Step; 3], Vec<u8>, [u32; 4]), Fail> {
         1,
         &mut two,
     )?;
-    let last = intake.read_round(&mut reader, &mut two);
+    let (last, two) = read_shelved(&mut intake, &mut reader, two);
     let third = put(&mut bench, last, &file, &mut sink, 2, &mut three)?;
     let written = sink.bytes().to_vec(alloc)?;
     Ok((
@@ -145,8 +198,8 @@ fn in_turn(alloc: Global) -> Result<([Step; 3], Vec<u8>, [u32; 4]), Fail> {
             read,
             intake
                 .home()
-                .saturating_add(two.pool.home())
-                .saturating_add(three.pool.home()),
+                .saturating_add(two.home())
+                .saturating_add(three.home()),
         ],
     ))
 }
@@ -161,16 +214,16 @@ fn blocks_come_home_while_rounds_are_read(rt: HostRuntime) -> Result<(), Fail> {
 }
 
 // A round is given up, and its blocks come home to an empty shelf.
-fn drop_to(bench: &mut Bench, round: Round, back: &mut Shelf) -> Result<(), Fail>
-    requires empty { home back.old.pool ≡ 0 }
-    requires made { back.old.pool.made ≡ bench.old.blocks }
+fn drop_to(bench: &mut Bench, round: Round, back: &mut Pool) -> Result<(), Fail>
+    requires empty { home back.old ≡ 0 }
+    requires made { back.old.made ≡ bench.old.blocks }
     requires within { round.blocks ≤ bench.old.blocks }
 {
     if bench.make_room().is_err() {
         round.discard();
         return Err(Fail::from("there is memory"));
     }
-    bench.drop_round(round, &mut back.pool);
+    bench.drop_round(round, back);
     Ok(())
 }
 
@@ -194,7 +247,7 @@ fn lacking(alloc: Global) -> Result<(RoundEnd, u32, u32), Fail> {
     round.discard();
     let home = intake.home();
     drop_to(&mut bench, first, &mut back)?;
-    Ok((end, home, back.pool.home()))
+    Ok((end, home, back.home()))
 }
 
 #[test]

@@ -2,19 +2,20 @@
 use Rattle.std.proofs.Common.{◌≡◌, ℕ, suc, ◌+◌, ◌<◌, ◌≤◌, List, [], ◌∷◌, ◌++◌, Bool, refl, sym, ap, ◌∙◌, subst, length, arith}
 use Rattle.ref_core.specs.WeightRule.{full_weight}
 use Rattle.raw_block.specs.Views.{Life}
-use Rattle.block_pool.specs.PoolState.{PoolState, home}
-use Rattle.frags.specs.Account.{Account, Tests, Keeps, both, of_outcomes, receipts_held, soles_home}
+use Rattle.block_pool.specs.PoolState.{PoolState, home, weighed}
+use Rattle.frags.specs.Account.{Account, Tests, Keeps, KeepsBlocks, both, every, of_outcomes, receipts_held, soles_home}
 use Rattle.frags.specs.OutcomesState.{OutcomesState, IsBare}
 use Rattle.frags.specs.RoundAccount.{of_lives}
 use Rattle.gro.specs.declared.slot.Slot.{Slot as Packet}
-use Rattle.skb.specs.SkbState.{IsAlone}
-use Rattle.gro.specs.Slots.{of_packet, of_packets, count_of, counts_of, AreAlone}
+use Rattle.skb.specs.SkbState.{weighed_in, IsAlone}
+use Rattle.gro.specs.Slots.{of_packet, of_packets, count_of, counts_of, weighed_slots, AreAlone}
+use Rattle.gro.proofs.Weights.{weighed_last}
 use Rattle.gro.proofs.Lying.{alone_behind, alone_first}
-use Rattle.rounds.specs.Marks.{all, IsMarked, IsWhole, nothing}
-use Rattle.rounds.specs.Table.{place_at, place_held, place_home, place_missing, of_places, IsOwed, missing, AllOpen, AllHome, MayCome, Comes}
+use Rattle.rounds.specs.Marks.{all, by_marks, IsMarked, IsNamed, IsWhole, nothing}
+use Rattle.rounds.specs.Table.{place_at, place_held, place_home, place_missing, place_weight, of_places, IsOwed, missing, missing_weight, AllOpen, AllHome, MayCome, Comes}
 use Rattle.rounds.specs.declared.table.Place.{Place}
 use Rattle.rounds.specs.declared.table.Place.TheVariants.{Open, Home, Owed}
-use Rattle.rounds.proofs.Places.{marked_at}
+use Rattle.rounds.proofs.Places.{marked_at, named_keeps}
 
 -- one account is two others
 abbrev pub IsSum : Account → Account → Account → Type 0
@@ -43,6 +44,8 @@ may_first xs x ys p t sum may = may_less xs x p t (λ f m. omega (arith, (sum (o
 pub comes_none : (s : Account) (p : PoolState) (t : List Place) → MayCome s p t → Comes s s p t p t
 comes_none s p t may = record {
   settles = λ m. ((λ f. omega arith), λ lt z. (z, omega arith));
+  blocks = λ bs m. omega arith;
+  named = λ names h named. refl;
   count = refl;
   size = refl;
   owed = may.owed;
@@ -62,6 +65,8 @@ comes_step s xs x ys p0 p1 p2 t0 t1 t2 sum h g = record {
             let w = a.1 lt (omega (arith, y.0, z, (sum all m).1)) in
             (w.0, omega (arith, w.1, y.1, (sum all m).0)),
       );
+  blocks = λ bs m. omega (arith, h.blocks bs m, sum (every bs) m);
+  named = λ names w named. g.named names w (named_keeps names s x (λ bs m. omega (arith, h.blocks bs m, sum (every bs) m)) named) ∙ h.named names w named;
   count = omega (arith, h.count, g.count);
   size = g.size ∙ h.size;
   owed = g.owed;
@@ -77,6 +82,8 @@ comes_last s xs p0 p1 p2 t0 t1 t2 h g = comes_step s xs xs nothing p0 p1 p2 t0 t
 pub comes_all : (s xs : Account) (p0 p : PoolState) (t0 t : List Place) → ((t : Tests) (m : ℕ) → (xs.held t m ≡ 0) × (xs.homes t.blocks m ≡ 0)) → Comes s xs p0 t0 p t → Comes s nothing p0 t0 p t
 comes_all s xs p0 p t0 t none h = record {
   settles = λ m. let a = h.settles m in ((λ f. omega (arith, a.0 f)), λ lt z. let b = a.1 lt (omega (arith, z, (none all m).1)) in (b.0, omega (arith, b.1, (none all m).0)));
+  blocks = λ bs m. omega arith;
+  named = h.named;
   count = h.count;
   size = h.size;
   owed = h.owed;
@@ -85,14 +92,16 @@ comes_all s xs p0 p t0 t none h = record {
 }
 
 -- x became y without loss, and y came
-pub comes_kept : (x y : Account) (p0 p : PoolState) (t0 t : List Place) → Keeps x y → Comes y nothing p0 t0 p t → Comes x nothing p0 t0 p t
-comes_kept x y p0 p t0 t k h = record {
+pub comes_kept : (x y : Account) (p0 p : PoolState) (t0 t : List Place) → Keeps x y → KeepsBlocks x y → Comes y nothing p0 t0 p t → Comes x nothing p0 t0 p t
+comes_kept x y p0 p t0 t k blocks h = record {
   settles = λ m.
       let a = h.settles m in
       let e = k all m in (
         (λ f. let l = (k (of_lives f) m).0 in omega (arith, a.0 f, l)),
         λ lt z. let b = a.1 lt z in (omega (arith, b.0, e.0, e.1), omega (arith, b.0, b.1, e.0, e.1)),
       );
+  blocks = λ bs m. omega arith;
+  named = λ names w named. h.named names w (named_keeps names x y blocks named);
   count = h.count;
   size = h.size;
   owed = h.owed;
@@ -111,6 +120,9 @@ keeps_bare x y o bare k t m =
     let s = ap (soles_home t.blocks m) bare.0 in
     (omega (arith, a.0, h), omega (arith, a.1, h, s))
 
+pub blocks_bare : (x y : Account) (o : OutcomesState) → IsBare o → KeepsBlocks (both x (of_outcomes o)) y → KeepsBlocks x y
+blocks_bare x y o bare k bs m = omega (arith, k bs m, ap (receipts_held (every bs) m) bare.1, ap (soles_home bs m) bare.0)
+
 -- lists of objects, the last one apart
 pub packets_last : (xs : List Packet) (x : Packet) → IsSum (of_packets (xs ++ x ∷ [])) (of_packet x) (of_packets xs)
 packets_last [] x t m = (omega arith, omega arith)
@@ -125,6 +137,9 @@ counts_last (y ∷ ys) x = omega (arith, counts_last ys x)
 
 pub counts_pop : (a b : List Packet) (x : Packet) → a ≡ b ++ x ∷ [] → counts_of a ≡ count_of x + counts_of b
 counts_pop a b x e = ap counts_of e ∙ counts_last b x
+
+pub weights_pop : (h : ℕ → ℕ) (a b : List Packet) (x : Packet) → a ≡ b ++ x ∷ [] → weighed_slots h a ≡ weighed_slots h b + weighed_in h x.skb
+weights_pop h a b x e = ap (weighed_slots h) e ∙ weighed_last h b x
 
 pub no_packets : (xs : List Packet) → xs ≡ [] → (t : Tests) (m : ℕ) → ((of_packets xs).held t m ≡ 0) × ((of_packets xs).homes t.blocks m ≡ 0)
 no_packets xs e t m = (ap (λ (z : List Packet). (of_packets z).held t m) e, ap (λ (z : List Packet). (of_packets z).homes t.blocks m) e)
@@ -158,6 +173,14 @@ missing_open (p ∷ ps) h =
     let b = missing_open ps (λ m. h (suc m)) in
     omega (arith, a, b)
 
+weight_home : (w : ℕ → ℕ) (k : ℕ) (ps : List Place) → AllHome ps → missing_weight w k ps ≡ 0
+weight_home w k [] h = refl
+weight_home w k (p ∷ ps) h = omega (arith, ap (place_weight (w k)) (h 0 (omega arith)), weight_home w (k + 1) ps (λ m lt. h (suc m) (omega (arith, lt))))
+
+weight_open : (w : ℕ → ℕ) (k : ℕ) (ps : List Place) → AllOpen ps → missing_weight w k ps ≡ by_marks w k (length ps)
+weight_open w k [] h = refl
+weight_open w k (p ∷ ps) h = omega (arith, ap (place_weight (w k)) (h 0), weight_open w (k + 1) ps (λ m. h (suc m)))
+
 -- what is to come may come to an open table
 pub may_open : (x : Account) (p : PoolState) (t : List Place) → AllOpen t → home p + length t ≤ p.made → IsMarked (length t) x → MayCome x p t
 may_open x p t opened room marked = record {
@@ -178,6 +201,12 @@ comes_home x p0 p t0 t opened whole h m lt =
 
 pub home_count : (x : Account) (p0 p : PoolState) (t0 t : List Place) → AllOpen t0 → AllHome t → Comes x nothing p0 t0 p t → home p ≡ home p0 + length t0
 home_count x p0 p t0 t opened all_home h = omega (arith, h.count, missing_open t0 opened, missing_home t all_home)
+
+-- and the blocks that are home then are those of the marks
+pub home_named : (x : Account) (p0 p : PoolState) (t0 t : List Place) → AllOpen t0 → AllHome t → Comes x nothing p0 t0 p t → (names h : ℕ → ℕ) → IsNamed names x
+    → weighed h p.blocks ≡ weighed h p0.blocks + by_marks (λ m. h (names m)) 0 (length t0)
+home_named x p0 p t0 t opened all_home comes names h named =
+    omega (arith, comes.named names h named, weight_open (λ m. h (names m)) 0 t0 opened, weight_home (λ m. h (names m)) 0 t all_home)
 
 -- ---- x, and then y
 

@@ -10,7 +10,7 @@ use Rattle.pcap_io.specs.Capture.{Packet}
 use Rattle.ref_core.specs.WeightRule.{full_weight}
 use Rattle.maximal_runs.proofs.Pass.{all_append}
 use Rattle.block_pool.specs.PoolState.{home}
-use Rattle.frags.specs.Account.{Account, Tests, Keeps, both}
+use Rattle.frags.specs.Account.{Account, Tests, Keeps, KeepsBlocks, both, every}
 use Rattle.frags.specs.declared.holder.Holder.{Holder}
 use Rattle.frags.specs.declared.holder.Holder.TheVariants.{Sole, Part}
 use Rattle.skb.specs.SkbState.{SkbState, buffer_least, head_least, is_sole, IsAlone}
@@ -19,8 +19,9 @@ use Rattle.offload_model.specs.Rounds.{Spread, is_queued}
 use Rattle.offload_model.specs.Written.{window_of}
 use Rattle.offload_model.proofs.Lists.{all_filtered}
 use Rattle.gro.specs.declared.slot.Slot.{Slot as Held}
-use Rattle.gro.specs.Slots.{packet_of, of_packets, counts_of, AreAlone, AreHeld, AreLent, AreShared, IsHeld, WeighAtLeast}
+use Rattle.gro.specs.Slots.{packet_of, of_packets, counts_of, weighed_slots, AreAlone, AreHeld, AreLent, AreShared, IsHeld, WeighAtLeast}
 use Rattle.gro.proofs.Lying.{lent_counts, lent_packets, whole_least}
+use Rattle.gro.proofs.Weights.{weighed_lent}
 use Rattle.taps.specs.declared.clones.TapClone.{TapClone}
 use Rattle.taps.specs.Clones.{packet_of as packet_of_clone, blocks_of, of_clones}
 use Rattle.taps.specs.Texts.{text_by, text_of, texts_of}
@@ -29,8 +30,8 @@ use Rattle.lanes.specs.declared.lane.TapLane.{TapLane}
 use Rattle.lanes.specs.declared.lane.Lanes.{Lanes}
 use Rattle.lanes.specs.declared.plan.Plan.{Plan}
 use Rattle.lanes.specs.Clones.{weight_after, AreAfter}
-use Rattle.lanes.specs.Lanes.{of_lanes, counts_of_queues, AreIdle, IsIdleQueue, IsIdleTap, IsMerged}
-use Rattle.lanes.proofs.Idle.{idle_clones, idle_counts, idle_lanes}
+use Rattle.lanes.specs.Lanes.{of_lanes, counts_of_queues, weighed_queues, AreIdle, IsIdleQueue, IsIdleTap, IsMerged}
+use Rattle.lanes.proofs.Idle.{idle_clones, idle_counts, idle_lanes, idle_weighed}
 use Rattle.lanes.specs.Packets.{RiseFrom}
 use Rattle.lanes.specs.Sharing.{EachFrom}
 use Rattle.lanes.specs.Work.{IsPlan, options_by, spread_of, shown_by, AreMerged, AreWatched}
@@ -40,10 +41,12 @@ use Rattle.rounds.specs.Fresh.{NumberedFrom}
 use Rattle.rounds.specs.Held.{Fits}
 use Rattle.rounds.specs.Kept.{IsKept, IsDone, IsLeft, IsOfLanes, IsOneRound, IsOutBeside, IsPrepared}
 use Rattle.rounds.specs.Lanes.{AreSpent, AreShortTexts, IsKeptWorkOf, IsShortText, IsSmallQueue, IsSmallTap, IsSmallWork}
-use Rattle.rounds.specs.Marks.{IsRound}
+use Rattle.rounds.specs.Marks.{IsNamed, IsRound}
 use Rattle.rounds.specs.Out.{IsOut}
-use Rattle.rounds.specs.RoundsState.{WorkedState}
+use Rattle.rounds.specs.RoundsState.{RestState, WorkedState}
 use Rattle.rounds.specs.declared.lane_work.Kept.{Kept}
+use Rattle.rounds.proofs.Naming.{lent_named, marks_weigh, name_at, names_are}
+use Rattle.rounds.proofs.Places.{named_keeps}
 use Rattle.rounds.proofs.Small.{captured_fit}
 use Rattle.rounds.proofs.Taking.{fresh_lent, fresh_round}
 use Rattle.rounds.proofs.Working.{round_keeps}
@@ -77,7 +80,7 @@ idle_alone ls idle i d lt = subst AreAlone (sym (idle i d lt).packets) tt
 
 -- no clone was taken
 pub after_none : (ps : List Held) → AreHeld ps → AreShared ps → WeighAtLeast full_weight ps → AreAfter 1 ps ps
-after_none ps held shared whole = record { same = refl; counts = refl; held = held; shared = shared; weigh = weigh_less (weight_after 1) full_weight ps (omega arith) whole }
+after_none ps held shared whole = record { same = refl; counts = refl; named = λ h. refl; held = held; shared = shared; weigh = weigh_less (weight_after 1) full_weight ps (omega arith) whole }
 
 pub rise : (j k : ℕ) (ps : List Held) → j ≤ k → NumberedFrom k ps → RiseFrom j (map packet_of ps)
 rise j k [] le h = tt
@@ -92,22 +95,27 @@ prepared_alone ps kept laid read captured none = record {
   held = are_held ps read captured;
   weighs = weigh_less (weight_after 1) full_weight ps (omega arith) (weigh_alone ps (laid_all 0 ps laid));
   count = refl;
+  named = λ h. refl;
   round = record { packets = laid_all 0 ps laid; count = refl; none = none };
 }
 
 -- heads were shared, rs, and then a clone of each packet was kept, if that was wanted
 pub prepared_shared : (ps rs qs : List Held) (kept : List TapClone) → LaidFrom 0 ps → AreLent ps rs → AreAfter 1 rs qs → Keeps (of_packets rs) (both (of_packets qs) (of_clones kept))
-    → blocks_of kept ≤ counts_of rs → IsPrepared true ps qs kept
-prepared_shared ps rs qs kept laid lent after keeps fewer =
+    → KeepsBlocks (of_packets rs) (both (of_packets qs) (of_clones kept)) → blocks_of kept ≤ counts_of rs → IsPrepared true ps qs kept
+prepared_shared ps rs qs kept laid lent after keeps blocks fewer =
     let counts = lent_counts ps rs lent in
     record {
       same = after.same ∙ lent_packets ps rs lent;
       held = after.held;
       weighs = after.weigh;
       count = after.counts ∙ counts;
+      named = λ h. after.named h ∙ weighed_lent ps rs lent h;
       round = record {
         heads = after.shared;
         round = round_keeps (counts_of ps) (of_packets rs) (both (of_packets qs) (of_clones kept)) keeps (fresh_round (counts_of ps) (of_packets rs) (fresh_lent 0 ps rs laid lent));
+        names = name_at ps;
+        named = named_keeps (name_at ps) (of_packets rs) (both (of_packets qs) (of_clones kept)) blocks (lent_named (name_at ps) 0 ps rs laid lent (names_are ps));
+        weights = λ h. marks_weigh (name_at ps) h 0 ps (names_are ps) ∙ sym (after.named h ∙ weighed_lent ps rs lent h);
         counts = omega (arith, after.counts, counts, fewer);
       };
     }
@@ -117,6 +125,10 @@ pub out_idle : (shared : Bool) (n : ℕ) (qs : List Held) (lanes : Lanes) (kept 
 out_idle true n qs lanes kept idle r = record {
   round = round_keeps n (both (of_packets qs) (of_clones kept)) (both (of_packets qs) (both (of_lanes lanes) (of_clones kept)))
       (λ t m. let a = idle_lanes lanes idle t m in (omega (arith, a.0), omega (arith, a.0, a.1))) r.round;
+  names = r.names;
+  named = named_keeps r.names (both (of_packets qs) (of_clones kept)) (both (of_packets qs) (both (of_lanes lanes) (of_clones kept)))
+      (λ bs m. omega (arith, idle_lanes lanes idle (every bs) m)) r.named;
+  weights = λ h. omega (arith, r.weights h, idle_weighed h lanes.queues.items idle.0);
   counts = omega (arith, r.counts, idle_counts lanes.queues.items idle.0);
   spent = idle_clones lanes.taps.items idle.1;
 }
@@ -221,16 +233,21 @@ ok_of r P e h = subst (λ z. OnOk z P) e h
 
 -- packets went from ps to qs and to the lanes
 pub out_worked : (shared : Bool) (taps n : ℕ) (ps qs : List Held) (lanes : Lanes) (kept : List TapClone) → (shared ≡ false → taps ≡ 0) → IsOneRound shared n ps kept
-    → Keeps (of_packets ps) (both (of_packets qs) (of_lanes lanes)) → counts_of qs + counts_of_queues lanes.queues.items ≡ counts_of ps → AreSpent lanes.taps.items
+    → Keeps (of_packets ps) (both (of_packets qs) (of_lanes lanes)) → KeepsBlocks (of_packets ps) (both (of_packets qs) (of_lanes lanes))
+    → ((h : ℕ → ℕ) → weighed_slots h qs + weighed_queues h lanes.queues.items ≡ weighed_slots h ps) → counts_of qs + counts_of_queues lanes.queues.items ≡ counts_of ps → AreSpent lanes.taps.items
     → (taps ≡ 0 → AreAlone ps → AreAlone qs × All (λ (l : QueueLane). AreAlone l.packets.items) lanes.queues.items) → (taps ≡ 0 → All IsIdleTap lanes.taps.items)
     → IsOut shared n qs lanes kept
-out_worked true taps n ps qs lanes kept unshared r keeps count spent alone idle = record {
+out_worked true taps n ps qs lanes kept unshared r keeps blocks named count spent alone idle = record {
   round = round_keeps n (both (of_packets ps) (of_clones kept)) (both (of_packets qs) (both (of_lanes lanes) (of_clones kept)))
       (λ t m. let x = keeps t m in (omega (arith, x.0), omega (arith, x.0, x.1))) r.round;
+  names = r.names;
+  named = named_keeps r.names (both (of_packets ps) (of_clones kept)) (both (of_packets qs) (both (of_lanes lanes) (of_clones kept)))
+      (λ bs m. omega (arith, blocks bs m)) r.named;
+  weights = λ h. omega (arith, r.weights h, named h);
   counts = omega (arith, r.counts, count);
   spent = spent;
 }
-out_worked false taps n ps qs lanes kept unshared r keeps count spent alone idle =
+out_worked false taps n ps qs lanes kept unshared r keeps blocks named count spent alone idle =
     let none = unshared refl in
     let a = alone none r.packets in
     record {
@@ -304,9 +321,20 @@ pub blocks_left : {E X : Type 0} (done : Result (Unit {0}) E) (l : Lanes) (kept 
 blocks_left done l kept m n before after (Err e) sum of = tt
 blocks_left done l kept m n before after (Ok w) sum of = omega (arith, sum, of.3)
 
-pub rest_left : {X : Type 0} (m n before after : ℕ) (r : Result X ℕ) → m + after ≡ n + before → IfErr r (λ k. k ≡ m) → IfErr r (λ k. k + after ≡ n + before)
+pub rest_left : {X : Type 0} (m n before after : ℕ) (r : Result X RestState) → m + after ≡ n + before → IfErr r (λ k. k.blocks ≡ m) → IfErr r (λ k. k.blocks + after ≡ n + before)
 rest_left m n before after (Err k) sum is = omega (arith, sum, is)
 rest_left m n before after (Ok x) sum is = tt
+
+-- the same of what these weigh, by names
+pub weights_then : {T E : Type 0} (v : T → (ℕ → ℕ) → ℕ) (a b before after : (ℕ → ℕ) → ℕ) (r : Result T E) → ((h : ℕ → ℕ) → a h + after h ≡ b h + before h)
+    → IfOk r (λ x. (h : ℕ → ℕ) → v x h ≡ a h) → IfOk r (λ x. (h : ℕ → ℕ) → v x h + after h ≡ b h + before h)
+weights_then v a b before after (Ok x) sum is = λ h. omega (arith, is h, sum h)
+weights_then v a b before after (Err e) sum is = tt
+
+pub weights_back : {T E : Type 0} (v : E → (ℕ → ℕ) → ℕ) (a b before after : (ℕ → ℕ) → ℕ) (r : Result T E) → ((h : ℕ → ℕ) → a h + after h ≡ b h + before h)
+    → IfErr r (λ x. (h : ℕ → ℕ) → v x h ≡ a h) → IfErr r (λ x. (h : ℕ → ℕ) → v x h + after h ≡ b h + before h)
+weights_back v a b before after (Err e) sum is = λ h. omega (arith, is h, sum h)
+weights_back v a b before after (Ok x) sum is = tt
 
 -- ---- a round that goes home
 
@@ -318,3 +346,7 @@ out_beside shared n ps lanes kept none out = subst (λ (z : List Held). IsOut sh
 pub round_left : (n : ℕ) (os ps ls ks : Account) → ((t : Tests) (m : ℕ) → (os.held t m ≡ 0) × (os.homes t.blocks m ≡ 0)) → IsRound n (both ps (both ls ks)) → IsRound n (both os (both ps (both ls ks)))
 round_left n os ps ls ks no_out r =
     round_keeps n (both ps (both ls ks)) (both os (both ps (both ls ks))) (λ t m. let a = no_out t m in (omega (arith, a.0), omega (arith, a.0, a.1))) r
+
+pub named_left : (names : ℕ → ℕ) (os ps ls ks : Account) → ((t : Tests) (m : ℕ) → (os.held t m ≡ 0) × (os.homes t.blocks m ≡ 0)) → IsNamed names (both ps (both ls ks))
+    → IsNamed names (both os (both ps (both ls ks)))
+named_left names os ps ls ks no_out named = named_keeps names (both ps (both ls ks)) (both os (both ps (both ls ks))) (λ bs m. omega (arith, no_out (every bs) m)) named

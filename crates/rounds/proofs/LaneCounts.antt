@@ -6,7 +6,8 @@ use Rattle.taps.specs.declared.clones.TapClone.{TapClone}
 use Rattle.taps.specs.Clones.{blocks_of, of_clones}
 use Rattle.lanes.specs.declared.lane.QueueLane.{QueueLane}
 use Rattle.lanes.specs.declared.lane.TapLane.{TapLane}
-use Rattle.lanes.specs.Lanes.{of_queue, of_queues, of_tap, of_taps, count_of_queue, counts_of_queues}
+use Rattle.gro.specs.Slots.{weighed_slots}
+use Rattle.lanes.specs.Lanes.{of_queue, of_queues, of_tap, of_taps, count_of_queue, counts_of_queues, weighed_queues}
 use Rattle.rounds.proofs.Coming.{IsSum}
 
 -- ---- lists from a place on
@@ -36,6 +37,17 @@ queue_counts_first i n xs d x e lt same =
     (subst (λ (z : QueueLane). counts_of_queues (drop i xs) ≡ count_of_queue z + counts_of_queues (drop (suc i) xs)) (sym same) (first i xs lt))
   where
     first : (i : ℕ) (xs : List QueueLane) → i < length xs → counts_of_queues (drop i xs) ≡ count_of_queue (get_or xs i d) + counts_of_queues (drop (suc i) xs)
+    first i [] lt = absurd (omega (arith, lt))
+    first zero (y ∷ ys) lt = refl
+    first (suc i) (y ∷ ys) lt = first i ys (omega (arith, lt))
+
+pub queue_weights_first : (h : ℕ → ℕ) (i n : ℕ) (xs : List QueueLane) (d x : QueueLane) → n ≡ suc i → i < length xs → x ≡ get_or xs i d
+    → weighed_queues h (drop i xs) ≡ weighed_slots h x.packets.items + weighed_queues h (drop n xs)
+queue_weights_first h i n xs d x e lt same =
+    subst (λ (z : ℕ). weighed_queues h (drop i xs) ≡ weighed_slots h x.packets.items + weighed_queues h (drop z xs)) (sym e)
+    (subst (λ (z : QueueLane). weighed_queues h (drop i xs) ≡ weighed_slots h z.packets.items + weighed_queues h (drop (suc i) xs)) (sym same) (first i xs lt))
+  where
+    first : (i : ℕ) (xs : List QueueLane) → i < length xs → weighed_queues h (drop i xs) ≡ weighed_slots h (get_or xs i d).packets.items + weighed_queues h (drop (suc i) xs)
     first i [] lt = absurd (omega (arith, lt))
     first zero (y ∷ ys) lt = refl
     first (suc i) (y ∷ ys) lt = first i ys (omega (arith, lt))

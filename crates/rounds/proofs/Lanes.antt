@@ -20,10 +20,11 @@ use Rattle.lanes.specs.Work.{lane_records, merged_in, records_of_queue, records_
 use Rattle.records.specs.Records.{item_bytes}
 use Rattle.rounds.specs.Lanes.{worked_records, queue_bytes, text_bytes, bytes_of_texts, tap_bytes, lanes_bytes, worked_bytes}
 use Rattle.block_pool.specs.PoolState.{PoolState}
-use Rattle.block_pool.specs.Giving.{GiverState, given_by}
+use Rattle.block_pool.specs.Giving.{GiverState, given_by, weights_given}
 use Rattle.rounds.specs.Benches.{Brings, BringsBeside, Lends, MayBring}
 use Rattle.rounds.proofs.Lending.{brings_rest, given_least, may_less}
 use Rattle.rounds.specs.RoundsState.{BenchState, WorkedState}
+use Rattle.rounds.specs.Weights.{weights_worked}
 
 -- ---- the bytes of its records
 
@@ -81,13 +82,15 @@ may_put (Ok w) old new p q n g g' size lends same may =
 may_put (Err e) old new p q n g g' size lends same may = tt
 
 -- a round that was worked and put, or that there was no memory for, is home, but what went to others
-pub brings_put : {E : Type 0} (r : Result WorkedState E) (old mid new : BenchState) (p q z : PoolState) (n : ℕ) (g g' : Option GiverState) → IfOk r (λ w. w.blocks + given_by g' ≡ n + given_by g)
+pub brings_put : {E : Type 0} (r : Result WorkedState E) (old mid new : BenchState) (p q z : PoolState) (n : ℕ) (v : (ℕ → ℕ) → ℕ) (g g' : Option GiverState)
+    → IfOk r (λ w. w.blocks + given_by g' ≡ n + given_by g) → IfOk r (λ w. (h : ℕ → ℕ) → weights_worked w h + weights_given g' h ≡ v h + weights_given g h)
     → OnOk r ((mid ≡ old) × (q ≡ p))
-    → OnErr r (BringsBeside n old mid p q g g') → MatchResult r (λ w. Brings w.blocks mid new q z) (λ _. (new ≡ mid) × (z ≡ q)) → BringsBeside n old new p z g g'
-brings_put (Ok w) old mid new p q z n g g' size same brings put =
-    brings_rest w.blocks n old new p z g g' size (subst (λ (b : BenchState). Brings w.blocks b new p z) same.0 (subst (λ (x : PoolState). Brings w.blocks mid new x z) same.1 put))
-brings_put (Err e) old mid new p q z n g g' size same brings put =
-    subst (λ (b : BenchState). BringsBeside n old b p z g g') (sym put.0) (subst (λ (x : PoolState). BringsBeside n old mid p x g g') (sym put.1) brings)
+    → OnErr r (BringsBeside n v old mid p q g g') → MatchResult r (λ w. Brings w.blocks (weights_worked w) mid new q z) (λ _. (new ≡ mid) × (z ≡ q)) → BringsBeside n v old new p z g g'
+brings_put (Ok w) old mid new p q z n v g g' size named same brings put =
+    let own = weights_worked w in
+    brings_rest w.blocks n own v old new p z g g' size named (subst (λ (b : BenchState). Brings w.blocks own b new p z) same.0 (subst (λ (x : PoolState). Brings w.blocks own mid new x z) same.1 put))
+brings_put (Err e) old mid new p q z n v g g' size named same brings put =
+    subst (λ (b : BenchState). BringsBeside n v old b p z g g') (sym put.0) (subst (λ (x : PoolState). BringsBeside n v old mid p x g g') (sym put.1) brings)
 
 -- ---- one thing written behind another, of lists that are borrowed
 

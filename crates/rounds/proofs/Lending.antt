@@ -1,15 +1,17 @@
 -- A giver that is lent for a round: what goes by it, and that it comes back.
 use Rattle.std.proofs.Common.{◌≡◌, ℕ, ◌+◌, ◌≤◌, Option, None, Some, refl, sym, ap, ◌∙◌, subst, arith}
-use Rattle.block_pool.specs.Giving.{GiverState, Gave, MayGive, given_by, given_in}
+use Rattle.raw_block.specs.Views.{SoleState}
+use Rattle.block_pool.specs.Giving.{GiverState, Gave, MayGive, given_by, given_in, weights_given}
 use Rattle.block_pool.proofs.Giving.{count_lying}
 use Rattle.block_pool.specs.PassState.{IsSame}
-use Rattle.block_pool.specs.PoolState.{PoolState, home}
+use Rattle.block_pool.specs.PoolState.{PoolState, home, weighed}
 use Rattle.rounds.specs.Benches.{BringsBeside, Brings, IsLent, Lends, MayBring, Swaps}
 use Rattle.rounds.specs.RoundsState.{BenchState}
 
 -- a round's spares went to the giver's list, some were given, and what is left came back
 pub record Went (old new : Option GiverState) (before after : PoolState) : Type 0 where
   pub count : home after + given_by new ≡ home before + given_by old
+  pub named : (h : ℕ → ℕ) → weighed h after.blocks + weights_given new h ≡ weighed h before.blocks + weights_given old h
   pub fewer : home after ≤ home before
   pub lends : Lends old new
 
@@ -22,6 +24,9 @@ with_list g g' g'' s t u none is gave back left =
     let given : given_in g'' ≡ given_in g' = ap given_in back in
     record {
       count = omega (arith, blocks, lying, now, ap home left, given);
+      named = λ h.
+          let w : SoleState → ℕ = λ s. h s.block in
+          omega (arith, gave.blocks w, ap (λ (z : PoolState). weighed h z.blocks) left, ap (λ (z : GiverState). weights_given (Some z) h) back);
       fewer = omega (arith, blocks, least, lying, now, ap home left);
       lends = (
         g'',
@@ -41,6 +46,7 @@ went None b c d s t u lent to gives back =
     let out = subst (λ z. Swaps z d t u) none back in
     subst (λ z. Went None z s u) (sym out.0) (record {
       count = omega (arith, ap home out.1, ap home to.1);
+      named = λ h. omega (arith, ap (λ (z : PoolState). weighed h z.blocks) (out.1 ∙ to.1));
       fewer = omega (arith, ap home out.1, ap home to.1);
       lends = refl;
     })
@@ -60,13 +66,26 @@ given_least (Some g) new h = omega (arith, ap given_by h.1, h.2.least)
 
 -- ---- a round, of which blocks went to others, that comes home
 
+-- by other weights that are the same
+pub brings_same : (n : ℕ) (v w : (ℕ → ℕ) → ℕ) (old new : BenchState) (p q : PoolState) → ((h : ℕ → ℕ) → v h ≡ w h) → Brings n v old new p q → Brings n w old new p q
+brings_same n v w old new p q same brings = record {
+  count = brings.count;
+  named = λ h. omega (arith, brings.named h, same h);
+  made = brings.made;
+  taken = brings.taken;
+  room = brings.room;
+  same = brings.same;
+}
+
 pub may_less : (m n : ℕ) (bench : BenchState) (pool : PoolState) → m ≤ n → MayBring n bench pool → MayBring m bench pool
 may_less m n bench pool le may = record { out = omega (arith, le, may.out); few = omega (arith, le, may.few); room = omega (arith, le, may.room) }
 
 -- m blocks of it came home
-pub brings_rest : (m n : ℕ) (old new : BenchState) (p q : PoolState) (g g' : Option GiverState) → m + given_by g' ≡ n + given_by g → Brings m old new p q → BringsBeside n old new p q g g'
-brings_rest m n old new p q g g' sum brings = record {
+pub brings_rest : (m n : ℕ) (v w : (ℕ → ℕ) → ℕ) (old new : BenchState) (p q : PoolState) (g g' : Option GiverState) → m + given_by g' ≡ n + given_by g
+    → ((h : ℕ → ℕ) → v h + weights_given g' h ≡ w h + weights_given g h) → Brings m v old new p q → BringsBeside n w old new p q g g'
+brings_rest m n v w old new p q g g' sum named brings = record {
   count = omega (arith, brings.count, sum);
+  named = λ h. omega (arith, brings.named h, named h);
   made = brings.made;
   taken = brings.taken;
   room = omega (arith, brings.room, brings.count);
@@ -74,15 +93,16 @@ brings_rest m n old new p q g g' sum brings = record {
 }
 
 -- all of it came home
-pub brings_all : (n : ℕ) (old new : BenchState) (p q : PoolState) (g : Option GiverState) → Brings n old new p q → BringsBeside n old new p q g g
-brings_all n old new p q g brings = brings_rest n n old new p q g g refl brings
+pub brings_all : (n : ℕ) (w : (ℕ → ℕ) → ℕ) (old new : BenchState) (p q : PoolState) (g : Option GiverState) → Brings n w old new p q → BringsBeside n w old new p q g g
+brings_all n w old new p q g brings = brings_rest n n w w old new p q g g refl (λ h. refl) brings
 
 -- and where there is nobody to give to
-pub brings_alone : (n : ℕ) (old new : BenchState) (p q : PoolState) (g : Option GiverState) → Lends None g → BringsBeside n old new p q None g → Brings n old new p q
-brings_alone n old new p q g none brings =
+pub brings_alone : (n : ℕ) (w : (ℕ → ℕ) → ℕ) (old new : BenchState) (p q : PoolState) (g : Option GiverState) → Lends None g → BringsBeside n w old new p q None g → Brings n w old new p q
+brings_alone n w old new p q g none brings =
     let count : home q ≡ home p + n = omega (arith, brings.count, ap given_by none) in
     record {
       count = count;
+      named = λ h. omega (arith, brings.named h, ap (λ (z : Option GiverState). weights_given z h) none);
       made = brings.made;
       taken = brings.taken;
       room = omega (arith, brings.room, count);

@@ -4,9 +4,11 @@ mod Places
 mod Coming
 -- the blocks of a round whose heads were shared
 mod Taking
+-- which block each mark of a round has
+mod Naming
 -- a round that is read
 mod Rounding
--- a round that is read beside the work of another
+-- a round that waits behind a header, and its rest
 mod Pausing
 -- what a call keeps of a round
 mod Working
@@ -18,10 +20,18 @@ mod Small
 mod Keeping
 -- what is written of rounds that are worked in lanes
 mod Lanes
+-- lists of blocks that are taken and given
+pub mod Listing
 -- a giver that is lent for a round
 pub mod Lending
+-- rounds that were read one after another
+pub mod Rows
+-- rounds that were handled one after another
+pub mod Going
 -- rounds that are merged
 pub mod Merging
+-- what is written of them one after another, and how merging ends
+pub mod Written
 -- an offload header whose last bytes lie in blocks
 mod Heads
 -- the packets of a record, written one after another

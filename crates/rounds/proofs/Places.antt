@@ -1,10 +1,12 @@
 -- What comes home and what is owed, mark by mark.
-use Rattle.std.proofs.Common.{◌≡◌, ℕ, zero, suc, ◌+◌, ◌<◌, ◌≤◌, List, [], ◌∷◌, Bool, true, false, refl, sym, ap, ◌∙◌, subst, length, get_or, set, arith}
-use Rattle.raw_block.specs.Views.{Life, ReceiptState}
-use Rattle.frags.specs.Account.{Account, counted}
+use Rattle.std.proofs.Common.{◌≡◌, ℕ, zero, suc, ◌+◌, ◌<◌, ◌≤◌, List, [], ◌∷◌, ◌++◌, Bool, true, false, refl, sym, ap, ◌∙◌, subst, length, get_or, set, arith}
+use Rattle.raw_block.specs.Views.{Life, ReceiptState, SoleState}
+use Rattle.frags.specs.Account.{Account, KeepsBlocks, counted, at_home, every, of_outcomes, of_sole, receipts_held, soles_home}
+use Rattle.frags.specs.OutcomesState.{OutcomesState}
+use Rattle.frags.proofs.Accounts.{soles_home-append}
 use Rattle.frags.specs.RoundAccount.{of_lives}
-use Rattle.rounds.specs.Marks.{all, others, IsMarked}
-use Rattle.rounds.specs.Table.{place_held, place_missing, IsOwed, missing, IsOfLife, Receives}
+use Rattle.rounds.specs.Marks.{all, blocks_but, others, IsMarked, IsNamed}
+use Rattle.rounds.specs.Table.{place_held, place_missing, place_weight, IsOwed, missing, missing_weight, IsOfLife, Receives}
 use Rattle.rounds.specs.declared.table.Place.{Place}
 use Rattle.rounds.specs.declared.table.Place.TheVariants.{Open, Home, Owed}
 
@@ -23,6 +25,50 @@ pub receives-missing : (p : Place) (r : ReceiptState) (q : Place) → Receives p
 receives-missing Open r q h = ap place_missing h.0
 receives-missing Home r q h = ap place_missing h
 receives-missing (Owed x) r q h = ap place_missing h.0
+
+-- the same of what their blocks weigh, each by its mark
+pub missing_weight-set : (w : ℕ → ℕ) (k : ℕ) (ps : List Place) (i j : ℕ) (q d : Place) → i < length ps → j ≡ k + i
+    → missing_weight w k (set ps i q) + place_weight (w j) (get_or ps i d) ≡ missing_weight w k ps + place_weight (w j) q
+missing_weight-set w k [] i j q d lt at = absurd (omega (arith, lt))
+missing_weight-set w k (p ∷ ps) zero j q d lt at =
+    let e : k ≡ j = omega (arith, at) in
+    let a = ap (λ (n : ℕ). place_weight (w n) p) e in
+    let b = ap (λ (n : ℕ). place_weight (w n) q) e in
+    omega (arith, a, b)
+missing_weight-set w k (p ∷ ps) (suc i) j q d lt at = omega (arith, missing_weight-set w (k + 1) ps i j q d (omega (arith, lt)) (omega (arith, at)))
+
+pub receives-weight : (w : ℕ) (p : Place) (r : ReceiptState) (q : Place) → Receives p r q → place_weight w q ≡ place_weight w p
+receives-weight w Open r q h = ap (place_weight w) h.0
+receives-weight w Home r q h = ap (place_weight w) h
+receives-weight w (Owed x) r q h = ap (place_weight w) h.0
+
+-- a mark's one block is the Sole's that bears it
+is_but : (k b : ℕ) → blocks_but k b ≡ false → b ≡ k
+is_but k b h = grind (arith, h)
+
+pub sole_named : (names : ℕ → ℕ) (s : SoleState) → IsNamed names (of_sole s) → names s.mark ≡ s.block
+sole_named names s named =
+    let h : at_home (blocks_but (names s.mark)) s.mark s.block s.mark ≡ 0 = named.home s.mark in
+    sym (is_but (names s.mark) s.block (grind (arith, h)))
+
+-- where no block is made up, each mark's block is the same
+pub named_keeps : (names : ℕ → ℕ) (a b : Account) → KeepsBlocks a b → IsNamed names a → IsNamed names b
+named_keeps names a b keeps named = record {
+  held = λ m. omega (arith, keeps (blocks_but (names m)) m, named.held m, named.home m);
+  home = λ m. omega (arith, keeps (blocks_but (names m)) m, named.held m, named.home m);
+}
+
+-- of what was given back, whose Soles all have their marks' blocks: the last Sole, and the others
+pub named_last : (names : ℕ → ℕ) (o q : OutcomesState) (s : SoleState) → q.receipts ≡ o.receipts → o.soles ≡ q.soles ++ s ∷ []
+    → IsNamed names (of_outcomes o) → IsNamed names (of_outcomes q) × IsNamed names (of_sole s)
+named_last names o q s receipts soles named =
+    let home = λ (m : ℕ). ap (soles_home (blocks_but (names m)) m) soles ∙ soles_home-append (blocks_but (names m)) m q.soles (s ∷ []) in (
+      record {
+        held = λ m. omega (arith, named.held m, ap (receipts_held (every (blocks_but (names m))) m) receipts);
+        home = λ m. omega (arith, named.home m, home m);
+      },
+      record { held = λ m. refl; home = λ m. omega (arith, named.home m, home m) },
+    )
 
 -- where no weight of another life stands, a weight is of the one life
 life_is : (l k : Life) → k.block ≡ l.block → k.names.0 ≡ l.names.0 → k.names.1 ≡ l.names.1 → k ≡ l

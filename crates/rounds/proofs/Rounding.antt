@@ -1,15 +1,17 @@
 -- A round that is being read, and one that is given up.
-use Rattle.std.proofs.Common.{◌≡◌, ◌+◌, ◌-◌, ◌≤◌, ℕ, List, [], ◌∷◌, ◌++◌, length, refl, sym, ap, ◌∙◌, arith, Option, Ok, Err, subst, map, append_assoc, append-nil, length-append}
+use Rattle.std.proofs.Common.{◌≡◌, ◌+◌, ◌-◌, ◌≤◌, ℕ, List, [], ◌∷◌, ◌++◌, length, refl, sym, ap, ◌∙◌, arith, Option, Ok, Err, subst, map, append_assoc, append-nil, length-append, take, take-append-drop}
 use Rattle.std.proofs.lemmas.List.{map-append}
 use Rattle.std.specs.List.{AllByRecursion}
 use Rattle.off_io.specs.Told.{Told}
 use Rattle.off_io.proofs.Telling.{Told-then, Told-same, Told-weaker}
 use Rattle.pcap_io.specs.declared.heads.Link.TheVariants.{Ethernet}
+use Rattle.pcap_io.specs.declared.heads.RecHead.{RecHead}
 use Rattle.pcap_io.specs.declared.place.Place.{Place}
 use Rattle.pcap_io.specs.Capture.{Packet, Found}
 use Rattle.pcap_io.specs.Laws.{frame_length}
 use Rattle.pcap_io.specs.Lengths.{lengths_at}
 use Rattle.pcap_io.specs.Places.{IsReady, found_at}
+use Rattle.pcap_io.specs.Reading.{TakesHead, Loses}
 use Rattle.frags.specs.Account.{Tests, of_outcomes, receipts_held, soles_home}
 use Rattle.frags.specs.OutcomesState.{OutcomesState, IsBare}
 use Rattle.skb.specs.SkbState.{buffer_bytes}
@@ -61,7 +63,7 @@ passes_then old mid new ps qs bytes rest left first more =
           },
     )
 
-precede_more : (old mid new : Place) (used blocks : ℕ) (packets : List Held) (p : Held) (bytes rest left : List ℕ) → Passes old mid (map packet_of packets) bytes rest
+pub precede_more : (old mid new : Place) (used blocks : ℕ) (packets : List Held) (p : Held) (bytes rest left : List ℕ) → Passes old mid (map packet_of packets) bytes rest
     → GivesRecord used blocks mid new [] (Ok p) rest left
     → Passes old new (map packet_of (packets ++ p ∷ [])) bytes left
 precede_more old mid new used blocks packets p bytes rest left so_far one =
@@ -159,7 +161,13 @@ exceeds_so_far old mid used blocks need packets bytes rest left ethernet u befor
       ),
     )
 
-round_stop : (old mid new : Place) (used blocks : ℕ) (packets : List Held) (stop : Stop) (end : RoundEnd) (bytes rest left : List ℕ) → mid.link ≡ Ethernet → used ≤ blocks
+-- with a header that was taken some bytes are gone
+pub loses_head : (at : Place) (packets : List Packet) (old : Place) (bytes opened left : List ℕ) (head : RecHead) → Passes old at packets bytes opened → TakesHead at opened left head → Loses bytes left
+loses_head at packets old bytes opened left head passes takes =
+    let split : opened ≡ take 16 opened ++ left = sym (take-append-drop 16 opened) ∙ ap (λ (l : List ℕ). take 16 opened ++ l) (sym takes.rest) in
+    (passes.0 ++ take 16 opened, passes.1 ∙ ap (λ (l : List ℕ). passes.0 ++ l) split ∙ sym (append_assoc passes.0 (take 16 opened) left))
+
+pub round_stop : (old mid new : Place) (used blocks : ℕ) (packets : List Held) (stop : Stop) (end : RoundEnd) (bytes rest left : List ℕ) → mid.link ≡ Ethernet → used ≤ blocks
     → used ≡ round_need (map packet_of packets) → IsEndOf stop end
     → Passes old mid (map packet_of packets) bytes rest → GivesRecord used blocks mid new [] (Err stop) rest left → GivesRound blocks old new packets end bytes left
 round_stop old mid new used blocks packets stops.End end bytes rest left ethernet few u is before last =
@@ -179,6 +187,7 @@ round_stop old mid new used blocks packets (stops.PoolEmpty need) end bytes rest
     rw is (exceeds_so_far old mid used blocks need (map packet_of packets) bytes rest left ethernet u before last)
 round_stop old mid new used blocks packets stops.ReadFault end bytes rest left ethernet few u is before last =
     rw is (holds_so_far old mid used blocks (map packet_of packets) bytes rest left ethernet u before last)
+round_stop old mid new used blocks packets (stops.Lacking head) end bytes rest left ethernet few u is before last = absurd is
 round_stop old mid new used blocks packets stops.NoMemory end bytes rest left ethernet few u is before last =
     rw is (before.0 ++ last.0, before.1 ∙ ap (λ (l : List ℕ). before.0 ++ l) last.1 ∙ sym (append_assoc before.0 last.0 left))
 
@@ -189,15 +198,8 @@ round_stop_given a b c old mid new used blocks first packets stop end ethernet f
     Told-then a b c (PassesOver old mid first packets) (GivesRecord used blocks mid new [] (Err stop)) (GivesRest blocks old new first packets end)
     (λ bytes rest left over l. λ from before passes. round_stop from mid new used blocks packets stop end before rest left ethernet few u is (over from before passes) l) so_far last
 
--- whatever was read of it, a round for which there is no memory ends
-pub rest_unready : (a b : Option (List ℕ)) (old mid : Place) (blocks : ℕ) (first packets : List Held) → Told a b (PassesOver old mid first packets)
-    → Told a b (GivesRest blocks old mid first packets ends.NoMemory)
-rest_unready a b old mid blocks first packets told =
-    Told-weaker a b (PassesOver old mid first packets) (GivesRest blocks old mid first packets ends.NoMemory)
-    (λ bytes left over. λ from before passes. let all = over from before passes in (all.0, all.1)) told
-
 -- no packets are read from anywhere
-passes_none : (place : Place) (bytes : List ℕ) → Passes place place [] bytes bytes
+pub passes_none : (place : Place) (bytes : List ℕ) → Passes place place [] bytes bytes
 passes_none place bytes = ([], refl, λ tail. record { found = refl; lengths = refl })
 
 -- a round of which no packet was there is read from its own place
@@ -206,15 +208,6 @@ pub whole_given : (a b : Option (List ℕ)) (old new : Place) (blocks : ℕ) (fi
 whole_given a b old new blocks first packets end none told =
     Told-weaker a b (GivesRest blocks old new [] packets end) (GivesRound blocks old new packets end) (λ bytes left rest. rest old bytes (passes_none old bytes))
     (subst (λ (xs : List Held). Told a b (GivesRest blocks old new xs packets end)) none told)
-
-pub whole_passes : (a b : Option (List ℕ)) (old new : Place) (first packets : List Held) → first ≡ [] → Told a b (PassesOver old new first packets) → Told a b (Passes old new (map packet_of packets))
-whole_passes a b old new first packets none told =
-    Told-weaker a b (PassesOver old new [] packets) (Passes old new (map packet_of packets)) (λ bytes left over. over old bytes (passes_none old bytes))
-    (subst (λ (xs : List Held). Told a b (PassesOver old new xs packets)) none told)
-
-pub whole_unready : (a b : Option (List ℕ)) (old mid : Place) (blocks : ℕ) (first packets : List Held) → first ≡ [] → Told a b (PassesOver old mid first packets)
-    → Told a b (GivesRound blocks old mid packets ends.NoMemory)
-whole_unready a b old mid blocks first packets none told = whole_given a b old mid blocks first packets ends.NoMemory none (rest_unready a b old mid blocks first packets told)
 
 -- what is between two places, by what was in front of the first
 pub goes_over : (a b : Option (List ℕ)) (old new : Place) (first packets : List Held) → ReadSoFar a b old new first packets → GoesOver old new first packets

@@ -1,51 +1,74 @@
 -- What is said of a round that is read beside the work of another.
-use Rattle.std.specs.Prelude.{ℕ, ◌≡◌, ◌≢◌, ◌<◌, ◌≤◌, List, length, map, Result, Ok, Err}
+use Rattle.std.specs.Prelude.{ℕ, ◌≡◌, ◌≢◌, ◌+◌, ◌-◌, ◌^◌, ◌<◌, ◌≤◌, List, length, map, min, Option, Some, Result, Ok}
+use Rattle.std.specs.Prelude.{Err}
 use Rattle.std.specs.List.{AllByRecursion}
+use Rattle.off_io.specs.Told.{Told}
+use Rattle.pcap_io.specs.declared.heads.RecHead.{RecHead}
 use Rattle.pcap_io.specs.declared.place.Place.{Place}
+use Rattle.pcap_io.specs.Reading.{GivesHead}
 use Rattle.offload_model.specs.Captured.{IsCaptured}
-use Rattle.offload_model.specs.Need.{round_need}
+use Rattle.offload_model.specs.Need.{need_of, round_need}
+use Rattle.gro.specs.declared.slot.Slot.{Slot as Held}
 use Rattle.gro.specs.Slots.{packet_of}
 use Rattle.rounds.specs.Fresh.{NumberedFrom}
 use Rattle.rounds.specs.Reading.{GivesRound, NumberedTo, PassesRound}
-use Rattle.records.specs.Reading.{Passes}
+use Rattle.records.specs.Reading.{KeepsHead, Passes}
 use Rattle.rounds.specs.RoundsState.{RoundState, WorkedState}
+use Rattle.rounds.specs.declared.round.Paused.{Paused}
 use Rattle.rounds.specs.declared.round.ReadAhead.{ReadAhead}
 use Rattle.rounds.specs.declared.round.ReadAhead.TheVariants as aheads
 use Rattle.rounds.specs.declared.round.RoundEnd.{RoundEnd}
 use Rattle.rounds.specs.declared.round.RoundEnd.TheVariants as ends
+use Rattle.rounds.specs.declared.round.RoundRead.{RoundRead}
+use Rattle.rounds.specs.Weights.{weights_worked}
 
 -- what was read, whole or not
 abbrev pub round_of : ReadAhead → RoundState
 round_of (aheads.Read read) = read.round
-round_of (aheads.Paused round) = round
+round_of (aheads.Paused paused) = paused.round
 
--- of the end of a round that has one
-abbrev pub IfRead : ReadAhead → (RoundEnd → Type 0) → Type 0
-IfRead (aheads.Read read) P = P read.end
-IfRead (aheads.Paused round) P = Unit {0}
+-- of a round that has an end
+abbrev pub IfRead : ReadAhead → (RoundRead → Type 0) → Type 0
+IfRead (aheads.Read read) P = P read
+IfRead (aheads.Paused paused) P = Unit {0}
 
 -- of a round that goes on
-abbrev pub IfPaused : ReadAhead → (RoundState → Type 0) → Type 0
+abbrev pub IfPaused : ReadAhead → (Paused → Type 0) → Type 0
 IfPaused (aheads.Read read) P = Unit {0}
-IfPaused (aheads.Paused round) P = P round
+IfPaused (aheads.Paused paused) P = P paused
 
-abbrev pub GivesAhead : ℕ → Place → Place → ReadAhead → List ℕ → List ℕ → Type 0
-GivesAhead blocks old new (aheads.Read read) bytes left = GivesRound blocks old new read.round.packets read.end bytes
-    left
-GivesAhead blocks old new (aheads.Paused round) bytes left = Passes old new (map packet_of round.packets) bytes left
+-- The reader stands behind the header of a record of a round that goes on, which is kept: up to the place of that header
+-- the packets stand. What the source had left before is `from`, and `to` what it has left.
+pub record Waits (budget : ℕ) (old new : Place) (from to : Option (List ℕ)) (p : Paused) : Type 0 where
+  pub at : Place
+  pub goes : PassesRound old at p.round.packets (length p.round.packets)
+  pub keeps : KeepsHead at new p.head
+  pub fewer : length p.round.packets < budget
+  pub numbers : NumberedTo at.number p.round.packets
+  pub given : Told from to (λ bytes left. (opened : List ℕ) × (Passes old at (map packet_of p.round.packets) bytes opened
+      × GivesHead at (Ok (Some p.head)) opened left))
 
--- the reader stands behind a round that goes on
-pub record Waits (budget : ℕ) (old new : Place) (round : RoundState) : Type 0 where
-  pub goes : PassesRound old new round.packets (length round.packets)
-  pub fewer : length round.packets < budget
-  pub numbers : NumberedTo new.number round.packets
+-- Fewer blocks are home than the record needs whose header is kept, and with it the round doesn't exceed the blocks. The
+-- counts of takes, before and after, say what the read took until then.
+pub record Lacks (home blocks before after : ℕ) (p : Paused) : Type 0 where
+  pub short : home < need_of p.head.captured
+  pub fits : p.round.blocks + need_of p.head.captured ≤ blocks
+  pub took : after ≡ min (before + p.empty.takes) (2 ^ 64 - 1)
+  pub below : p.empty.takes < p.round.blocks + need_of p.head.captured
+
+-- of wherever the first packets were read, and whatever bytes the header behind them was taken of, the whole round is
+-- what its end says
+abbrev pub GivesBehind : ℕ → Place → Place → RecHead → List Held → List Held → RoundEnd → List ℕ → List ℕ → Type 0
+GivesBehind blocks at new head first round end bytes left =
+    (from : Place) → (before opened : List ℕ) → Passes from at (map packet_of first) before opened
+    → GivesHead at (Ok (Some head)) opened bytes → GivesRound blocks from new round end before left
 
 -- the round that was read, from one place to another
 pub record ReadsAhead (budget : ℕ) (old new : Place) (ahead : ReadAhead) : Type 0 where
   pub size : length (round_of ahead).packets ≤ budget
-  pub fewer : IfRead ahead (λ end. end ≢ ends.Full → end ≢ ends.NoMemory → length (round_of ahead).packets < budget)
-  pub full : IfRead ahead (λ end. end ≡ ends.Full → PassesRound old new (round_of ahead).packets budget)
-  pub waits : IfPaused ahead (Waits budget old new)
+  pub fewer : IfRead ahead (λ read. read.end ≢ ends.Full → read.end ≢ ends.NoMemory
+      → length read.round.packets < budget)
+  pub full : IfRead ahead (λ read. read.end ≡ ends.Full → PassesRound old new read.round.packets budget)
   pub captured : AllByRecursion IsCaptured (map packet_of (round_of ahead).packets)
   pub numbers : NumberedFrom old.number (round_of ahead).packets
   pub need : (round_of ahead).blocks ≡ round_need (map packet_of (round_of ahead).packets)
@@ -54,3 +77,7 @@ pub record ReadsAhead (budget : ℕ) (old new : Place) (ahead : ReadAhead) : Typ
 abbrev pub blocks_out : {E : Type 0} → Result WorkedState E → ℕ
 blocks_out (Ok worked) = worked.blocks
 blocks_out (Err error) = 0
+
+abbrev pub weights_out : {E : Type 0} → Result WorkedState E → (ℕ → ℕ) → ℕ
+weights_out (Ok worked) h = weights_worked worked h
+weights_out (Err error) h = 0

@@ -1,9 +1,9 @@
 -- The side of rounds that works: what it needs so that blocks may come home, and what is so once they have.
 use Rattle.std.specs.Prelude.{ℕ, ◌≡◌, ◌+◌, ◌≤◌, Option, None, Some, length, map}
 use Rattle.std.specs.List.{AllByRecursion}
-use Rattle.block_pool.specs.Giving.{GiverState, given_by, given_in}
+use Rattle.block_pool.specs.Giving.{GiverState, given_by, given_in, weights_given}
 use Rattle.block_pool.specs.PassState.{IsSame}
-use Rattle.block_pool.specs.PoolState.{PoolState, home}
+use Rattle.block_pool.specs.PoolState.{PoolState, home, weighed}
 use Rattle.offload_model.specs.Captured.{IsCaptured}
 use Rattle.offload_model.specs.Written.{Options}
 use Rattle.gro.specs.Slots.{packet_of}
@@ -35,18 +35,21 @@ pub record MayBring (n : ℕ) (bench : BenchState) (pool : PoolState) : Type 0 w
   pub few : n ≤ bench.blocks
   pub room : n + n ≤ bench.room
 
--- they came home, and nothing was taken
-pub record Brings (n : ℕ) (bench bench' : BenchState) (pool pool' : PoolState) : Type 0 where
+-- They came home, just these by what their names weigh, and nothing was taken.
+pub record Brings (n : ℕ) (weights : (ℕ → ℕ) → ℕ) (bench bench' : BenchState) (pool pool' : PoolState) : Type 0 where
   pub count : home pool' ≡ home pool + n
+  pub named : (h : ℕ → ℕ) → weighed h pool'.blocks ≡ weighed h pool.blocks + weights h
   pub made : pool'.made ≡ pool.made
   pub taken : pool'.taken ≡ pool.taken
   pub room : bench.room ≤ bench'.room + (n + n)
   pub same : IsSameBench bench bench'
 
 -- the same, but that some of them went to others by a giver; so the places are those of what came home
-pub record BringsBeside (n : ℕ) (bench bench' : BenchState) (pool pool' : PoolState) (giver giver' : Option GiverState)
-    : Type 0 where
+pub record BringsBeside (n : ℕ) (weights : (ℕ → ℕ) → ℕ) (bench bench' : BenchState) (pool pool' : PoolState)
+    (giver giver' : Option GiverState) : Type 0 where
   pub count : home pool' + given_by giver' ≡ home pool + n + given_by giver
+  pub named : (h : ℕ → ℕ) → weighed h pool'.blocks + weights_given giver' h
+      ≡ weighed h pool.blocks + weights h + weights_given giver h
   pub made : pool'.made ≡ pool.made
   pub taken : pool'.taken ≡ pool.taken
   pub room : bench.room + (home pool + home pool) ≤ bench'.room + (home pool' + home pool')

@@ -5,7 +5,8 @@ use Rattle.pcap_io.specs.Capture.{Packet}
 use Rattle.block_pool.specs.PoolState.{home}
 use Rattle.frags.specs.Account.{both}
 use Rattle.gro.specs.declared.slot.Slot.{Slot as Held}
-use Rattle.gro.specs.Slots.{packet_of, of_packets, counts_of, AreAlone, AreHeld, AreShared, WeighAtLeast}
+use Rattle.gro.specs.Slots.{packet_of, of_packets, counts_of, weighed_slots}
+use Rattle.gro.specs.Slots.{AreAlone, AreHeld, AreShared, WeighAtLeast}
 use Rattle.taps.specs.declared.clones.TapClone.{TapClone}
 use Rattle.taps.specs.Clones.{packet_of as packet_of_clone, blocks_of, of_clones}
 use Rattle.lanes.specs.declared.lane.Lanes.{Lanes}
@@ -13,15 +14,19 @@ use Rattle.lanes.specs.Clones.{weight_after}
 use Rattle.lanes.specs.Packets.{RiseFrom}
 use Rattle.rounds.specs.Held.{Fits}
 use Rattle.rounds.specs.Lanes.{IsSmallWork}
-use Rattle.rounds.specs.Marks.{IsRound}
+use Rattle.rounds.specs.Marks.{by_marks, IsNamed, IsRound}
 use Rattle.rounds.specs.Out.{IsOut}
 use Rattle.rounds.specs.RoundsState.{WorkedState}
 use Rattle.rounds.specs.declared.lane_work.Kept.{Kept}
 
--- heads were shared, and clones may have been taken: what is held of the first n marks is a round
+-- Heads were shared, and clones may have been taken: what is held of the first n marks is a round, and the blocks of
+-- these marks are those of the packets.
 pub record IsSharedRound (n : ℕ) (qs : List Held) (kept : List TapClone) : Type 0 where
   pub heads : AreShared qs
   pub round : IsRound n (both (of_packets qs) (of_clones kept))
+  pub names : ℕ → ℕ
+  pub named : IsNamed names (both (of_packets qs) (of_clones kept))
+  pub weights : (h : ℕ → ℕ) → by_marks (λ m. h (names m)) 0 n ≡ weighed_slots h qs
   pub counts : counts_of qs + blocks_of kept ≤ n + n
 
 -- nobody else holds a block, and there is no clone
@@ -40,6 +45,7 @@ pub record IsPrepared (shared : Bool) (ps qs : List Held) (kept : List TapClone)
   pub held : AreHeld qs
   pub weighs : WeighAtLeast (weight_after 1) qs
   pub count : counts_of qs ≡ counts_of ps
+  pub named : (h : ℕ → ℕ) → weighed_slots h qs ≡ weighed_slots h ps
   pub round : IsOneRound shared (counts_of ps) qs kept
 
 -- these packets may be worked in lanes, and where clones are kept there is one of each

@@ -1,12 +1,12 @@
 -- How merging ends, what is written of a round, and what a round or a row of them says of the bytes that are gone.
-use Rattle.std.specs.Prelude.{◌≡◌, ◌⊎◌, ℕ, ◌+◌, ◌-◌, ◌<◌, ◌≤◌, ◌^◌, ◌*◌, ⊤, Bool, true, false, min, length, Option}
+use Rattle.std.specs.Prelude.{◌≡◌, ◌⊎◌, ℕ, ◌+◌, ◌-◌, ◌≤◌, ◌^◌, ◌*◌, ⊤, Bool, true, false, min, length, Option}
 use Rattle.std.specs.Prelude.{List, ◌++◌}
 use Rattle.std.specs.List.{AllByRecursion}
 use Rattle.std.specs.Io.KnownBytes.{Appends, Keeps}
 use Rattle.off_io.specs.Content.{AppendsFront}
 use Rattle.pcap_io.specs.declared.place.Place.{Place}
 use Rattle.pcap_io.specs.Capture.{Packet}
-use Rattle.pcap_io.specs.Places.{IsReady, found_at}
+use Rattle.pcap_io.specs.Places.{found_at}
 use Rattle.offload_model.specs.Captured.{IsCaptured}
 use Rattle.offload_model.specs.Need.{packets_within, round_need}
 use Rattle.offload_model.specs.Passing.{Ending, Stopped, Nowhere, AtFault, AtRound, ReadFault, WriteFault, NoMemory}
@@ -93,14 +93,6 @@ EndsBehind k blocks options from old new end bytes left =
     (ending : Ending) × (ending_of end ≡ ending_behind k ending)
     × Passes (merging blocks options from) old new ending bytes left
 
--- what a step says, behind k rounds
-abbrev pub Steps : ℕ → ℕ → Options → Place → Place → Option (List ℕ) → Option (List ℕ) → ℕ → ℕ → Step → List ℕ → List ℕ
-    → Type 0
-Steps k blocks options from to old new before now steps.Goes bytes left = Ahead blocks options 1 from to old new before
-    now bytes left
-Steps k blocks options from to old new before now (steps.Ends end) bytes left = EndsBehind k blocks options from old new
-    end bytes left
-
 -- of the end that a step comes to
 abbrev pub IfEnds : Step → (MergeEnd → Type 0) → Type 0
 IfEnds steps.Goes P = Unit {0}
@@ -114,7 +106,7 @@ TakesAll before now place bytes left = min (before + round_need (found_at place 
 abbrev pub AreCapturedAt : Place → List ℕ → Type 0
 AreCapturedAt place bytes = AllByRecursion IsCaptured (found_at place bytes).packets
 
--- What a step that ends merging says, behind k rounds, of the packets that were read: of those before a round that
+-- What the round that ends merging says, behind k others, of the packets that were read: of those before a round that
 -- exceeds the blocks only how many rounds they are.
 abbrev pub EndsCaptured : ℕ → Place → MergeEnd → List ℕ → List ℕ → Type 0
 EndsCaptured k place ends.Done bytes left = AreCapturedAt place bytes
@@ -136,10 +128,3 @@ HoldsCaptured blocks budget place ends.ReadFault bytes left =
     (gone : List ℕ) × (bytes ≡ gone ++ left) × AllByRecursion IsCaptured (packets_within blocks budget place gone)
 HoldsCaptured blocks budget place ends.WriteFault bytes left = ⊤
 HoldsCaptured blocks budget place ends.NoMemory bytes left = ⊤
-
--- the next round may be read
-pub record MovesOn (old new : Place) : Type 0 where
-  pub file : new.file ≡ old.file
-  pub link : new.link ≡ old.link
-  pub number : old.number < new.number
-  pub ready : IsReady new

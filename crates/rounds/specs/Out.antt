@@ -2,17 +2,21 @@
 use Rattle.std.specs.Prelude.{ℕ, ◌≡◌, ◌+◌, ◌≤◌, All, Bool, true, false, List, []}
 use Rattle.frags.specs.Account.{both}
 use Rattle.gro.specs.declared.slot.Slot.{Slot}
-use Rattle.gro.specs.Slots.{of_packets, counts_of, AreAlone}
+use Rattle.gro.specs.Slots.{of_packets, counts_of, weighed_slots, AreAlone}
 use Rattle.taps.specs.declared.clones.TapClone.{TapClone}
 use Rattle.lanes.specs.declared.lane.QueueLane.{QueueLane}
 use Rattle.lanes.specs.declared.lane.Lanes.{Lanes}
-use Rattle.lanes.specs.Lanes.{counts_of_queues, IsIdleTap}
+use Rattle.lanes.specs.Lanes.{counts_of_queues, weighed_queues, IsIdleTap}
 use Rattle.rounds.specs.Lanes.{of_work, count_of_work, AreSpent}
-use Rattle.rounds.specs.Marks.{IsRound}
+use Rattle.rounds.specs.Marks.{by_marks, IsNamed, IsRound}
 
--- heads were shared: what is held is told by marks, and there are places for it
+-- Heads were shared: what is held is told by marks, whose blocks are those of the packets, and there are places for it.
 pub record IsSharedOut (n : ℕ) (ps : List Slot) (lanes : Lanes) (kept : List TapClone) : Type 0 where
   pub round : IsRound n (both (of_packets ps) (of_work lanes kept))
+  pub names : ℕ → ℕ
+  pub named : IsNamed names (both (of_packets ps) (of_work lanes kept))
+  pub weights : (h : ℕ → ℕ) → by_marks (λ m. h (names m)) 0 n
+      ≡ weighed_slots h ps + weighed_queues h lanes.queues.items
   pub counts : counts_of ps + count_of_work lanes kept ≤ n + n
   pub spent : AreSpent lanes.taps.items
 

@@ -1,16 +1,18 @@
 -- What reading a round says of the bytes that were left before it and are left after it.
-use Rattle.std.specs.Prelude.{ℕ, ◌≡◌, ◌+◌, ◌<◌, ◌≤◌, List, [], ◌∷◌, ◌++◌, length, map, None, Some}
+use Rattle.std.specs.Prelude.{ℕ, ◌≡◌, ◌+◌, ◌<◌, ◌≤◌, List, [], ◌∷◌, ◌++◌, length, map, Option, None, Some, Ok}
+use Rattle.off_io.specs.Told.{Told}
+use Rattle.pcap_io.specs.declared.heads.RecHead.{RecHead}
 use Rattle.pcap_io.specs.declared.place.Place.{Place}
 use Rattle.pcap_io.specs.Capture.{Packet, ended}
 use Rattle.pcap_io.specs.Laws.{frame_length}
 use Rattle.pcap_io.specs.Lengths.{lengths_at}
 use Rattle.pcap_io.specs.Places.{found_at, IsReady}
-use Rattle.pcap_io.specs.Reading.{Loses}
+use Rattle.pcap_io.specs.Reading.{GivesHead, Loses}
 use Rattle.offload_model.specs.Need.{need_of, needed, round_need}
 use Rattle.gro.specs.declared.slot.Slot.{Slot as Held}
 use Rattle.gro.specs.Slots.{packet_of}
 use Rattle.rounds.specs.Fresh.{NumberedFrom}
-use Rattle.records.specs.Reading.{in_front, Passes, Announces}
+use Rattle.records.specs.Reading.{in_front, Passes, Announces, KeepsHead}
 use Rattle.rounds.specs.declared.reading.Halt.{Halt}
 use Rattle.rounds.specs.declared.reading.Halt.TheVariants as halts
 use Rattle.records.specs.declared.reading.Stop.{Stop}
@@ -51,6 +53,26 @@ IsEndOf (stops.Malformed fault) end = end ≡ ends.Malformed fault
 IsEndOf (stops.PoolEmpty need) end = end ≡ ends.PoolEmpty need
 IsEndOf stops.ReadFault end = end ≡ ends.ReadFault
 IsEndOf stops.NoMemory end = end ≡ ends.NoMemory
+IsEndOf (stops.Lacking head) end = ⊥
+
+-- where reading a round halts for a stop: the header of a record whose blocks aren't home is kept
+abbrev pub IsHaltOf : Stop → Halt → Type 0
+IsHaltOf stops.End halt = halt ≡ halts.Ended ends.End
+IsHaltOf (stops.Malformed fault) halt = halt ≡ halts.Ended (ends.Malformed fault)
+IsHaltOf (stops.PoolEmpty need) halt = halt ≡ halts.Ended (ends.PoolEmpty need)
+IsHaltOf stops.ReadFault halt = halt ≡ halts.Ended ends.ReadFault
+IsHaltOf stops.NoMemory halt = halt ≡ halts.Ended ends.NoMemory
+IsHaltOf (stops.Lacking head) halt = halt ≡ halts.Lacking head
+
+-- of a round that has no more records
+abbrev pub IfEnded : Halt → (RoundEnd → Type 0) → Type 0
+IfEnded (halts.Ended end) P = P end
+IfEnded (halts.Lacking head) P = Unit {0}
+
+-- of one that lacks blocks for a record: its header
+abbrev pub IfLacking : Halt → (RecHead → Type 0) → Type 0
+IfLacking (halts.Ended end) P = Unit {0}
+IfLacking (halts.Lacking head) P = P head
 
 -- a full round was taken, and the next one may be
 pub record PassesRound (old new : Place) (round : List Held) (budget : ℕ) : Type 0 where
@@ -74,10 +96,6 @@ GivesRest blocks mid new first round end bytes left =
     (from : Place) → (before : List ℕ) → Passes from mid (map packet_of first) before bytes
     → GivesRound blocks from new round end before left
 
-abbrev pub GivesMore : ℕ → Place → Place → List Held → List Held → Halt → List ℕ → List ℕ → Type 0
-GivesMore blocks mid new first round (halts.Ended end) bytes left = GivesRest blocks mid new first round end bytes left
-GivesMore blocks mid new first round halts.Lacking bytes left = PassesOver mid new first round bytes left
-
 -- from wherever the first packets were taken, these were, and the next one may be
 abbrev pub GoesOver : Place → Place → List Held → List Held → Type 0
 GoesOver mid new first round = (from : Place) → PassesRound from mid first (length first)
@@ -87,6 +105,17 @@ GoesOver mid new first round = (from : Place) → PassesRound from mid first (le
 abbrev pub FillsRound : Place → Place → List Held → List Held → ℕ → Type 0
 FillsRound mid new first round budget = (from : Place) → PassesRound from mid first (length first)
     → PassesRound from new round budget
+
+-- The reader stands behind the header of a record, which is kept: up to the place of that header the packets stand.
+-- What the source had left before is `from`, and `to` what it has left.
+pub record WaitsOver (mid new : Place) (from to : Option (List ℕ)) (first round : List Held) (head : RecHead) : Type 0
+  where
+    pub at : Place
+    pub goes : GoesOver mid at first round
+    pub keeps : KeepsHead at new head
+    pub number : at.number + length first ≡ mid.number + length round
+    pub given : Told from to (λ bytes left. (opened : List ℕ) × (PassesOver mid at first round bytes opened
+        × GivesHead at (Ok (Some head)) opened left))
 
 -- packets with numbers in turn, up to this one
 abbrev pub NumberedTo : ℕ → List Held → Type 0

@@ -1,5 +1,7 @@
--- What a contract sees of rounds: how many blocks are home, were made and were taken, and of a round what it holds.
+-- What a contract sees of rounds: which blocks are home, how many these are, how many were made and were taken, how often
+-- a take found no list while a round was read beside work, and of a round what it holds.
 use Rattle.std.specs.Prelude.{ℕ, Bool, List}
+use Rattle.raw_block.specs.Views.{SoleState}
 use Rattle.gro.specs.declared.slot.Slot.{Slot}
 use Rattle.taps.specs.declared.clones.TapClone.{TapClone}
 use Rattle.lanes.specs.declared.lane.Lanes.{Lanes}
@@ -8,8 +10,10 @@ use Rattle.lanes.specs.declared.plan.Plan.{Plan}
 -- and how many packets a round may have, how its work is divided, and whether a clone of each packet is kept
 pub record RoundsState : Type 0 where
   pub home : ℕ
+  pub stock : List SoleState
   pub blocks : ℕ
   pub taken : ℕ
+  pub empties : ℕ
   pub budget : ℕ
   pub plan : Plan
   pub keep : Bool
@@ -17,8 +21,10 @@ pub record RoundsState : Type 0 where
 -- of the side that reads: its blocks, and how many packets a round may have
 pub record IntakeState : Type 0 where
   pub home : ℕ
+  pub stock : List SoleState
   pub blocks : ℕ
   pub taken : ℕ
+  pub empties : ℕ
   pub budget : ℕ
 
 -- of the side that works: how many places it has for what is given back, for how many blocks, how many packets a round
@@ -32,16 +38,26 @@ pub record BenchState : Type 0 where
 
 pub record RoundState : Type 0 where
   pub packets : List Slot
+  pub spares : List SoleState
   pub blocks : ℕ
 
 -- the lanes, and the clones that were kept
 pub record WorkedState : Type 0 where
   pub lanes : Lanes
   pub kept : List TapClone
+  pub spares : List SoleState
+  pub blocks : ℕ
+
+-- what is left of a round, at whichever point it ends
+pub record RestState : Type 0 where
+  pub packets : List Slot
+  pub lanes : Lanes
+  pub spares : List SoleState
   pub blocks : ℕ
 
 -- of what segments records: the same, and each record is a round of its own
 pub record SegmentState : Type 0 where
   pub home : ℕ
+  pub stock : List SoleState
   pub blocks : ℕ
   pub taken : ℕ

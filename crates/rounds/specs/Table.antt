@@ -2,10 +2,10 @@
 use Rattle.std.specs.Prelude.{ℕ, ◌≡◌, ◌+◌, ◌<◌, ◌≤◌, List, [], ◌∷◌, length, slice_index_or}
 use Rattle.ref_core.specs.WeightRule.{full_weight}
 use Rattle.raw_block.specs.Views.{ReceiptState}
-use Rattle.block_pool.specs.PoolState.{PoolState, home}
-use Rattle.frags.specs.Account.{Account, Tests, counted, both}
+use Rattle.block_pool.specs.PoolState.{PoolState, home, weighed}
+use Rattle.frags.specs.Account.{Account, KeepsBlocks, Tests, counted, both}
 use Rattle.frags.specs.RoundAccount.{Settles}
-use Rattle.rounds.specs.Marks.{IsMarked}
+use Rattle.rounds.specs.Marks.{IsMarked, IsNamed}
 use Rattle.rounds.specs.declared.table.Place.{Place}
 use Rattle.rounds.specs.declared.table.Place.TheVariants.{Open, Home, Owed}
 
@@ -50,6 +50,21 @@ abbrev pub missing : List Place → ℕ
 missing [] = 0
 missing (p ∷ ps) = place_missing p + missing ps
 
+-- what a place weighs whose block hasn't come home
+abbrev pub place_weight : ℕ → Place → ℕ
+place_weight w Open = w
+place_weight w Home = 0
+place_weight w (Owed r) = w
+
+-- what the blocks of a table weigh together that haven't come home, by their marks, the first of them k
+abbrev pub missing_weight : (ℕ → ℕ) → ℕ → List Place → ℕ
+missing_weight w k [] = 0
+missing_weight w k (p ∷ ps) = place_weight (w k) p + missing_weight w (k + 1) ps
+
+-- what the blocks of the pool weigh together, each by its name, once those of the table have come as well
+abbrev pub weighed_at_end : (ℕ → ℕ) → (ℕ → ℕ) → PoolState → List Place → ℕ
+weighed_at_end names h pool places = weighed h pool.blocks + missing_weight (λ m. h (names m)) 0 places
+
 abbrev pub AllOpen : List Place → Type 0
 AllOpen places = (m : ℕ) → place_at places m ≡ Open
 
@@ -74,10 +89,14 @@ pub record MayCome (x : Account) (pool : PoolState) (places : List Place) : Type
   pub marked : IsMarked (length places) (both (of_places places) x)
   pub owed : AreOwed places
 
--- Of `x` all but `rest` came: what of it isn't home is owed, and a block is home for each place that is Home.
+-- Of `x` all but `rest` came: what of it isn't home is owed, and a block is home for each place that is Home. Where
+-- each mark has the block of one name, it is that block.
 pub record Comes (x rest : Account) (pool : PoolState) (places : List Place) (pool' : PoolState)
     (places' : List Place) : Type 0 where
   pub settles : Settles (length places) (both (of_places places) x) (both (of_places places') rest)
+  pub blocks : KeepsBlocks x rest
+  pub named : (names h : ℕ → ℕ) → IsNamed names x → weighed_at_end names h pool' places'
+      ≡ weighed_at_end names h pool places
   pub count : home pool' + missing places' ≡ home pool + missing places
   pub size : length places' ≡ length places
   pub owed : AreOwed places'

@@ -1,43 +1,56 @@
 //! A round is read beside the work of another.
 ghost use Rattle.std.specs.Prelude.{◌≡◌, ◌≢◌, ◌+◌, ◌-◌, ◌*◌, ◌<◌, ◌≤◌, ◌^◌, [], true, length, map, min};
-ghost use Rattle.std.specs.Prelude.{All, IfOk, IfErr};
+ghost use Rattle.std.specs.Prelude.{ℕ, All, IfOk, IfErr};
 ghost use Rattle.std.specs.Prelude.{IsErr, MatchResult, Ok};
+ghost use Rattle.std.specs.Arc.{arc_value};
 ghost use Rattle.std.specs.List.{AllByRecursion};
-ghost use Rattle.block_pool.specs.PoolState.{home};
+ghost use Rattle.block_pool.specs.Giving.{given_by, weights_given};
+ghost use Rattle.block_pool.specs.PoolState.{home, weighed};
 ghost use Rattle.off_io.specs.Faults.{Rose};
 ghost use Rattle.off_io.specs.Told.{Told};
 ghost use Rattle.pcap_io.specs.declared.heads.Link.TheVariants.{Ethernet};
+ghost use Rattle.pcap_io.specs.declared.place.Place.{Place};
 ghost use Rattle.pcap_io.specs.Places.{IsReady};
 ghost use Rattle.pcap_io.specs.Readers.{place_of, source_of, SameLoan};
 ghost use Rattle.offload_model.specs.Captured.{IsCaptured};
-ghost use Rattle.offload_model.specs.Need.{round_need};
+ghost use Rattle.offload_model.specs.Need.{need_of, round_need};
 ghost use Rattle.offload_model.specs.Written.{round_records};
 ghost use Rattle.gro.specs.Slots.{packet_of};
 ghost use Rattle.lanes.specs.Lanes.{IsMerged};
-ghost use Rattle.rounds.specs.Ahead.{blocks_out, round_of, GivesAhead, IfPaused, IfRead, ReadsAhead};
-ghost use Rattle.rounds.specs.Benches.{options_at};
+ghost use Rattle.records.specs.Reading.{KeepsHead};
+ghost use Rattle.rounds.specs.Ahead.{blocks_out, weights_out, round_of, GivesBehind, IfPaused, IfRead, Lacks, ReadsAhead};
+ghost use Rattle.rounds.specs.Ahead.{Waits};
+ghost use Rattle.rounds.specs.Benches.{options_at, IsLent, Lends};
 ghost use Rattle.rounds.specs.Lanes.{worked_records, IsKeptWorkOf};
+ghost use Rattle.rounds.specs.Lists.{listed_home, weights_home};
 ghost use Rattle.rounds.specs.Merging.{options_of};
-ghost use Rattle.rounds.specs.Reading.{FillsRound, GivesRest, NumberedTo, NumbersOn};
+ghost use Rattle.rounds.specs.Reading.{FillsRound, GivesRound, NumberedTo, NumbersOn};
+ghost use Rattle.rounds.specs.Weights.{weights_of, weights_worked, weights_left};
 
 use crate::bench::Bench;
 use crate::intake::Intake;
-use crate::round::{Blank, ReadAhead, Rest, Round, RoundEnd, RoundRead, Worked, no_round};
+use crate::lists::{ListName, NextLists, Taker, bring_lists, open_lists};
+use crate::round::{Blank, Paused, ReadAhead, Rest, Round, RoundEnd, RoundRead, Worked, no_round};
 use crate::rounds::Rounds;
+use block_pool::Giver;
 use lanes::Works;
 use off_io::Source;
 use pcap_io::CaptureReader;
 use std::alloc::AllocError;
+use std::marker::Brand;
+use std::sync::Wait;
 use std::thread::{Threads, join_mut};
 
-// One side reads, in a thread of its own, and the other works here.
-fn work_beside<'a, R: Threads + Sync, W: Works, S: Source + Send>(
+// One side reads, in a thread of its own, and takes the lists that the other gives, which works here.
+fn work_beside<'a, R: Threads + Wait + Sync, N: ListName + Send, W: Works, S: Source + Send>(
     rt: &'a R,
     works: &'a mut W,
     bench: &'a mut Bench,
     round: &'a mut Round,
+    giver: &'a mut Option<Giver>,
     intake: &'a mut Intake,
     reader: &'a mut CaptureReader<'_, S>,
+    more: &'a mut NextLists<'_, R, N>,
     lists: &'a mut Blank,
 ) -> (ReadAhead, Result<Worked, Rest>)
     requires ready { IsReady (place_of reader.old) }
@@ -46,31 +59,44 @@ fn work_beside<'a, R: Threads + Sync, W: Works, S: Source + Send>(
     requires reserved { (intake.old.budget ≤ lists.old.packets.room)
         × (2 * intake.old.budget ≤ lists.old.spares.made) }
     requires few { round.old.blocks ≤ bench.old.blocks }
+    requires lent { IsLent giver.old }
     ensures same_source { SameLoan reader.old reader.new }
-    ensures given { Told (S.left (source_of reader.old)) (S.left (source_of reader.new))
-        (GivesAhead intake.old.blocks (place_of reader.old) (place_of reader.new) result.0) }
+    ensures given { IfRead result.0 (λ read. Told (S.left (source_of reader.old)) (S.left (source_of reader.new))
+        (GivesRound intake.old.blocks (place_of reader.old) (place_of reader.new) read.round.packets read.end)) }
     ensures reads { ReadsAhead intake.old.budget (place_of reader.old) (place_of reader.new) result.0 }
-    ensures paused { IfPaused result.0 (λ next. (intake.old.home < next.blocks + 131)
-        × (intake.old.home < intake.old.blocks)) }
+    ensures waits { IfPaused result.0 (Waits intake.old.budget (place_of reader.old) (place_of reader.new)
+        (S.left (source_of reader.old)) (S.left (source_of reader.new))) }
+    ensures paused { IfPaused result.0 (Lacks intake.new.home intake.old.blocks intake.old.taken intake.new.taken) }
+    ensures refused { IfPaused result.0 (λ _. min (more.old.taker.pass.empties + 1) (2 ^ 64 - 1)
+        ≤ more.new.taker.pass.empties) }
     ensures unlisted { (lists.new.packets.items ≡ []) × (home lists.new.spares ≡ 0) }
-    ensures sum { intake.new.home + (round_of result.0).blocks ≡ intake.old.home }
-    ensures intake { (intake.new.blocks ≡ intake.old.blocks) × (intake.new.budget ≡ intake.old.budget) }
+    ensures sum { intake.new.home + (round_of result.0).blocks + listed_home more.old.taker.pass more.old.taker.left
+        ≡ intake.old.home + listed_home more.new.taker.pass more.new.taker.left }
+    ensures named { (h : ℕ → ℕ) → weighed h intake.new.stock + weights_of (round_of result.0) h
+        + weights_home h more.old.taker.pass more.old.taker.left
+        ≡ weighed h intake.old.stock + weights_home h more.new.taker.pass more.new.taker.left }
+    ensures intake { (intake.new.blocks ≡ intake.old.blocks) × (intake.new.budget ≡ intake.old.budget)
+        × (intake.new.empties ≡ intake.old.empties) }
     ensures budget { (1 ≤ intake.old.budget) × (intake.old.budget ≤ 4096) }
     ensures taken { min (intake.old.taken + (round_of result.0).blocks) (2 ^ 64 - 1) ≤ intake.new.taken }
     ensures least { intake.old.taken ≤ intake.new.taken }
     ensures most { intake.new.taken ≤ intake.old.taken + intake.old.blocks }
-    ensures so_far { IfPaused result.0 (λ next. intake.new.taken ≤ intake.old.taken + next.blocks) }
     ensures later { S.faults (source_of reader.old) ≤ S.faults (source_of reader.new) }
-    ensures failed { IfRead result.0 (λ end. end ≡ RoundEnd.ReadFault
+    ensures failed { IfRead result.0 (λ read. read.end ≡ RoundEnd.ReadFault
         → Rose (S.faults (source_of reader.old)) (S.faults (source_of reader.new))) }
     ensures records { IfOk result.1 (λ worked. worked_records worked
         ≡ round_records (options_at bench.old) (map packet_of round.old.packets)) }
     ensures checked { bench.old.keep ≡ true → IfOk result.1
         (λ worked. IsKeptWorkOf (options_at bench.old) (map packet_of round.old.packets) worked) }
     ensures merged { IfOk result.1 (λ worked. All IsMerged worked.lanes.queues.items) }
-    ensures worked { IfOk result.1 (λ worked. worked.blocks ≡ round.old.blocks) }
-    ensures rest { IfErr result.1 (λ rest. rest ≡ round.old.blocks) }
-    ensures spent { round.new.packets ≡ [] }
+    ensures worked { IfOk result.1 (λ worked. (worked.blocks + given_by giver.new
+        ≡ round.old.blocks + given_by giver.old) × ((h : ℕ → ℕ) → weights_worked worked h + weights_given giver.new h
+        ≡ weights_of round.old h + weights_given giver.old h)) }
+    ensures rest { IfErr result.1 (λ rest. (rest.blocks + given_by giver.new
+        ≡ round.old.blocks + given_by giver.old) × ((h : ℕ → ℕ) → weights_left rest h + weights_given giver.new h
+        ≡ weights_of round.old h + weights_given giver.old h)) }
+    ensures gave { Lends giver.old giver.new }
+    ensures spent { (round.new.packets ≡ []) × (round.new.spares ≡ []) }
     ensures same { bench.new ≡ bench.old }
 {
     join_mut(
@@ -82,49 +108,71 @@ fn work_beside<'a, R: Threads + Sync, W: Works, S: Source + Send>(
             requires reserved { (intake.now.budget ≤ lists.now.packets.room)
                 × (2 * intake.now.budget ≤ lists.now.spares.made) }
             ensures same_source { SameLoan reader.entry.now reader.exit.now }
-            ensures given { Told (S.left (source_of reader.entry.now)) (S.left (source_of reader.exit.now))
-                (GivesAhead intake.entry.now.blocks (place_of reader.entry.now) (place_of reader.exit.now) result) }
+            ensures given { IfRead result (λ read. Told (S.left (source_of reader.entry.now))
+                (S.left (source_of reader.exit.now)) (GivesRound intake.entry.now.blocks
+                (place_of reader.entry.now) (place_of reader.exit.now) read.round.packets read.end)) }
             ensures reads { ReadsAhead intake.entry.now.budget (place_of reader.entry.now)
                 (place_of reader.exit.now) result }
-            ensures paused { IfPaused result (λ next. (intake.entry.now.home < next.blocks + 131)
-                × (intake.entry.now.home < intake.entry.now.blocks)) }
+            ensures waits { IfPaused result (Waits intake.entry.now.budget (place_of reader.entry.now)
+                (place_of reader.exit.now) (S.left (source_of reader.entry.now))
+                (S.left (source_of reader.exit.now))) }
+            ensures paused { IfPaused result (Lacks intake.exit.now.home intake.entry.now.blocks
+                intake.entry.now.taken intake.exit.now.taken) }
+            ensures refused { IfPaused result (λ _. min (more.entry.now.taker.pass.empties + 1) (2 ^ 64 - 1)
+                ≤ more.exit.now.taker.pass.empties) }
             ensures unlisted { (lists.exit.now.packets.items ≡ []) × (home lists.exit.now.spares ≡ 0) }
-            ensures sum { intake.exit.now.home + (round_of result).blocks ≡ intake.entry.now.home }
+            ensures sum { intake.exit.now.home + (round_of result).blocks
+                + listed_home more.entry.now.taker.pass more.entry.now.taker.left
+                ≡ intake.entry.now.home + listed_home more.exit.now.taker.pass more.exit.now.taker.left }
+            ensures named { (h : ℕ → ℕ) → weighed h intake.exit.now.stock + weights_of (round_of result) h
+                + weights_home h more.entry.now.taker.pass more.entry.now.taker.left
+                ≡ weighed h intake.entry.now.stock
+                + weights_home h more.exit.now.taker.pass more.exit.now.taker.left }
             ensures intake { (intake.exit.now.blocks ≡ intake.entry.now.blocks)
-                × (intake.exit.now.budget ≡ intake.entry.now.budget) }
+                × (intake.exit.now.budget ≡ intake.entry.now.budget)
+                × (intake.exit.now.empties ≡ intake.entry.now.empties) }
             ensures budget { (1 ≤ intake.entry.now.budget) × (intake.entry.now.budget ≤ 4096) }
             ensures taken { min (intake.entry.now.taken + (round_of result).blocks) (2 ^ 64 - 1)
                 ≤ intake.exit.now.taken }
             ensures least { intake.entry.now.taken ≤ intake.exit.now.taken }
             ensures most { intake.exit.now.taken ≤ intake.entry.now.taken + intake.entry.now.blocks }
-            ensures so_far { IfPaused result (λ next. intake.exit.now.taken ≤ intake.entry.now.taken + next.blocks) }
             ensures later { S.faults (source_of reader.entry.now) ≤ S.faults (source_of reader.exit.now) }
-            ensures failed { IfRead result (λ end. end ≡ RoundEnd.ReadFault
+            ensures failed { IfRead result (λ read. read.end ≡ RoundEnd.ReadFault
                 → Rose (S.faults (source_of reader.entry.now)) (S.faults (source_of reader.exit.now))) }
-        { intake.read_ahead(rt, reader, lists) },
+        { intake.read_ahead(rt, reader, more, lists) },
         &mut || -> Result<Worked, Rest>
             requires few { round.now.blocks ≤ bench.now.blocks }
+            requires lent { IsLent giver.now }
             ensures records { IfOk result (λ worked. worked_records worked
                 ≡ round_records (options_at bench.entry.now) (map packet_of round.entry.now.packets)) }
             ensures checked { bench.entry.now.keep ≡ true
                 → IfOk result (λ worked. IsKeptWorkOf (options_at bench.entry.now)
                 (map packet_of round.entry.now.packets) worked) }
             ensures merged { IfOk result (λ worked. All IsMerged worked.lanes.queues.items) }
-            ensures worked { IfOk result (λ worked. worked.blocks ≡ round.entry.now.blocks) }
-            ensures rest { IfErr result (λ rest. rest ≡ round.entry.now.blocks) }
-            ensures spent { round.exit.now.packets ≡ [] }
+            ensures worked { IfOk result (λ worked. (worked.blocks + given_by giver.exit.now
+                ≡ round.entry.now.blocks + given_by giver.entry.now)
+                × ((h : ℕ → ℕ) → weights_worked worked h + weights_given giver.exit.now h
+                ≡ weights_of round.entry.now h + weights_given giver.entry.now h)) }
+            ensures rest { IfErr result (λ rest. (rest.blocks + given_by giver.exit.now
+                ≡ round.entry.now.blocks + given_by giver.entry.now)
+                × ((h : ℕ → ℕ) → weights_left rest h + weights_given giver.exit.now h
+                ≡ weights_of round.entry.now h + weights_given giver.entry.now h)) }
+            ensures gave { Lends giver.entry.now giver.exit.now }
+            ensures spent { (round.exit.now.packets ≡ []) × (round.exit.now.spares ≡ []) }
             ensures same { bench.exit.now ≡ bench.entry.now }
-        { bench.work_lent(rt, works, round) },
+        { bench.work_lent(rt, works, round, giver) },
     )
 }
 
 impl Rounds {
     // What was worked; for want of memory all blocks of the round come home.
     fn close_work(&mut self, worked: Result<Worked, Rest>) -> Result<Worked, AllocError>
-        requires out { IfErr worked (λ rest. self.old.home + rest ≤ self.old.blocks) }
+        requires out { IfErr worked (λ rest. self.old.home + rest.blocks ≤ self.old.blocks) }
         ensures worked { MatchResult worked (λ w. result ≡ Ok w) (λ _. IsErr result) }
-        ensures home { MatchResult worked (λ _. self.new ≡ self.old)
-            (λ rest. self.new ≡ record self.old { home = self.old.home + rest }) }
+        ensures home { MatchResult worked (λ _. self.new ≡ self.old) (λ rest. self.new
+            ≡ record self.old { home = self.old.home + rest.blocks; stock = self.new.stock }) }
+        ensures named { IfErr worked (λ rest. (h : ℕ → ℕ) → weighed h self.new.stock
+            ≡ weighed h self.old.stock + weights_left rest h) }
     {
         match worked {
             Ok(worked) => Ok(worked),
@@ -137,11 +185,85 @@ impl Rounds {
         }
     }
 
+    // The same by this pool of lists.
+    fn work_listed<N: ListName + Send, R: Threads + Wait + Sync, W: Works, S: Source + Send>(
+        &mut self,
+        rt: &R,
+        works: &mut W,
+        round: Round,
+        reader: &mut CaptureReader<'_, S>,
+        taker: Taker,
+        giver: Giver,
+    ) -> (Result<Worked, AllocError>, ReadAhead)
+        requires ready { IsReady (place_of reader.old) }
+        requires link { (place_of reader.old).link ≡ Ethernet }
+        requires out { self.old.home + round.blocks ≡ self.old.blocks }
+        requires lists { (giver.pool ≡ arc_value taker.lists) × (arc_value taker.lists ≡ N.lists) }
+        requires untaken { (taker.pass.taken ≡ []) × (home taker.left ≡ 0) × (taker.pass.empties ≡ 0) }
+        requires ungiven { (giver.pass.parts ≡ 65535) × (giver.pass.put ≡ []) × (home giver.list ≡ 0) }
+        ensures records { IfOk result.0 (λ worked. worked_records worked
+            ≡ round_records (options_of self.old) (map packet_of round.packets)) }
+        ensures checked { self.old.keep ≡ true → IfOk result.0
+            (λ worked. IsKeptWorkOf (options_of self.old) (map packet_of round.packets) worked) }
+        ensures merged { IfOk result.0 (λ worked. All IsMerged worked.lanes.queues.items) }
+        ensures worked { IfOk result.0 (λ worked. worked.blocks ≤ round.blocks) }
+        ensures same_source { SameLoan reader.old reader.new }
+        ensures given { IfRead result.1 (λ read. Told (S.left (source_of reader.old)) (S.left (source_of reader.new))
+            (GivesRound self.old.blocks (place_of reader.old) (place_of reader.new) read.round.packets read.end)) }
+        ensures reads { ReadsAhead self.old.budget (place_of reader.old) (place_of reader.new) result.1 }
+        ensures waits { IfPaused result.1 (Waits self.old.budget (place_of reader.old) (place_of reader.new)
+            (S.left (source_of reader.old)) (S.left (source_of reader.new))) }
+        ensures paused { IfPaused result.1 (λ paused. Lacks (self.old.home - paused.round.blocks) self.old.blocks
+            self.old.taken self.new.taken paused) }
+        ensures rose { IfPaused result.1 (λ _. min (self.old.empties + 1) (2 ^ 64 - 1) ≤ self.new.empties) }
+        ensures later_empties { self.old.empties ≤ self.new.empties }
+        ensures home { self.new.home + blocks_out result.0 + (round_of result.1).blocks ≡ self.old.blocks }
+        ensures named { (h : ℕ → ℕ) → weighed h self.new.stock + weights_out result.0 h
+            + weights_of (round_of result.1) h ≡ weighed h self.old.stock + weights_of round h }
+        ensures same { (self.new.blocks ≡ self.old.blocks) × (options_of self.new ≡ options_of self.old)
+            × (self.new.keep ≡ self.old.keep) }
+        ensures budget { (1 ≤ self.old.budget) × (self.old.budget ≤ 4096) }
+        ensures taken { min (self.old.taken + (round_of result.1).blocks) (2 ^ 64 - 1) ≤ self.new.taken }
+        ensures least { self.old.taken ≤ self.new.taken }
+        ensures most { self.new.taken ≤ self.old.taken + self.old.blocks }
+        ensures later { S.faults (source_of reader.old) ≤ S.faults (source_of reader.new) }
+        ensures failed { IfRead result.1 (λ read. read.end ≡ RoundEnd.ReadFault
+            → Rose (S.faults (source_of reader.old)) (S.faults (source_of reader.new))) }
+    {
+        let Ok(mut lists) = self.bench.take_blank() else {
+            let none = no_round(self.bench.alloc());
+            return (self.work_round(works, round), ReadAhead::Read(none));
+        };
+        let mut round = round;
+        let mut giver = Some(giver);
+        let mut more = NextLists::<'_, R, N>::new(rt, taker);
+        let intake = &mut self.intake;
+        let bench = &mut self.bench;
+        let (read, worked) = work_beside(
+            rt, works, bench, &mut round, &mut giver, intake, reader, &mut more, &mut lists,
+        );
+        let Round {
+            packets,
+            spares: _spares,
+            blocks: _,
+        } = round;
+        packets.discard();
+        lists.discard();
+        let NextLists {
+            rt: _,
+            taker,
+            of: _,
+        } = more;
+        bring_lists(rt, intake, taker, giver);
+        (self.close_work(worked), read)
+    }
+
     /// Works a round, and reads the next one beside it: `work_round` and `read_round` at once, the reading in a thread
-    /// of its own. The blocks of the round that is worked stay out, so the next one may have to wait for them: it is
-    /// then paused between two records. For want of memory for two sides the round is worked all the same, and of the
-    /// next one nothing is read.
-    pub fn work_and_read<R: Threads + Sync, W: Works, S: Source + Send>(
+    /// of its own. The spares of a queue come home as soon as its lane was worked, as a list; all other blocks of the
+    /// round stay out. So the next one is paused where it needs more blocks behind a record's header than are home, and
+    /// a take found no list of them: that header is kept. For want of memory for two sides the round is worked all the
+    /// same, and of the next one nothing is read.
+    pub fn work_and_read<R: Threads + Wait + Sync, W: Works, S: Source + Send>(
         &mut self,
         rt: &R,
         works: &mut W,
@@ -156,80 +278,82 @@ impl Rounds {
         ensures checked { self.old.keep ≡ true → IfOk result.0
             (λ worked. IsKeptWorkOf (options_of self.old) (map packet_of round.packets) worked) }
         ensures merged { IfOk result.0 (λ worked. All IsMerged worked.lanes.queues.items) }
-        ensures worked { IfOk result.0 (λ worked. worked.blocks ≡ round.blocks) }
+        ensures worked { IfOk result.0 (λ worked. worked.blocks ≤ round.blocks) }
         ensures same_source { SameLoan reader.old reader.new }
-        ensures given { Told (S.left (source_of reader.old)) (S.left (source_of reader.new))
-            (GivesAhead self.old.blocks (place_of reader.old) (place_of reader.new) result.1) }
+        ensures given { IfRead result.1 (λ read. Told (S.left (source_of reader.old)) (S.left (source_of reader.new))
+            (GivesRound self.old.blocks (place_of reader.old) (place_of reader.new) read.round.packets read.end)) }
         ensures reads { ReadsAhead self.old.budget (place_of reader.old) (place_of reader.new) result.1 }
-        ensures paused { IfPaused result.1 (λ next. (self.old.home < next.blocks + 131) × (1 ≤ round.blocks)) }
+        ensures waits { IfPaused result.1 (Waits self.old.budget (place_of reader.old) (place_of reader.new)
+            (S.left (source_of reader.old)) (S.left (source_of reader.new))) }
+        ensures paused { IfPaused result.1 (λ paused. Lacks (self.old.home - paused.round.blocks) self.old.blocks
+            self.old.taken self.new.taken paused) }
+        ensures rose { IfPaused result.1 (λ _. min (self.old.empties + 1) (2 ^ 64 - 1) ≤ self.new.empties) }
+        ensures later_empties { self.old.empties ≤ self.new.empties }
         ensures home { self.new.home + blocks_out result.0 + (round_of result.1).blocks ≡ self.old.blocks }
+        ensures named { (h : ℕ → ℕ) → weighed h self.new.stock + weights_out result.0 h
+            + weights_of (round_of result.1) h ≡ weighed h self.old.stock + weights_of round h }
         ensures same { (self.new.blocks ≡ self.old.blocks) × (options_of self.new ≡ options_of self.old)
             × (self.new.keep ≡ self.old.keep) }
         ensures budget { (1 ≤ self.old.budget) × (self.old.budget ≤ 4096) }
         ensures taken { min (self.old.taken + (round_of result.1).blocks) (2 ^ 64 - 1) ≤ self.new.taken }
         ensures least { self.old.taken ≤ self.new.taken }
         ensures most { self.new.taken ≤ self.old.taken + self.old.blocks }
-        ensures so_far { IfPaused result.1 (λ next. self.new.taken ≤ self.old.taken + next.blocks) }
         ensures later { S.faults (source_of reader.old) ≤ S.faults (source_of reader.new) }
-        ensures failed { IfRead result.1 (λ end. end ≡ RoundEnd.ReadFault
+        ensures failed { IfRead result.1 (λ read. read.end ≡ RoundEnd.ReadFault
             → Rose (S.faults (source_of reader.old)) (S.faults (source_of reader.new))) }
     {
-        let Ok(mut lists) = self.bench.take_blank() else {
+        let Ok((taker, giver)) = open_lists(self.bench.alloc()) else {
             let none = no_round(self.bench.alloc());
             return (self.work_round(works, round), ReadAhead::Read(none));
         };
-        let mut round = round;
-        let intake = &mut self.intake;
-        let bench = &mut self.bench;
-        let (read, worked) = work_beside(rt, works, bench, &mut round, intake, reader, &mut lists);
-        let Round {
-            packets,
-            spares: _spares,
-            blocks: _,
-        } = round;
-        packets.discard();
-        lists.discard();
-        (self.close_work(worked), read)
+        self.work_listed::<Brand, R, W, S>(rt, works, round, reader, taker, giver)
     }
 
-    /// Reads the rest of a round that was paused, once the round beside it has ended. What `read_round` says, over the
-    /// whole round: of wherever its first records were read (`given`).
+    /// Reads the rest of a round that was paused, once the round beside it has ended, from behind the header that was
+    /// kept. What `read_round` says, over the whole round: of wherever its first records and that header were read
+    /// (`given`).
     pub fn read_rest<S: Source>(
         &mut self,
-        round: Round,
+        paused: Paused,
         reader: &mut CaptureReader<'_, S>,
     ) -> RoundRead
-        requires ready { IsReady (place_of reader.old) }
+        requires kept { (at : Place) × (KeepsHead at (place_of reader.old) paused.head
+            × NumberedTo at.number paused.round.packets) }
         requires link { (place_of reader.old).link ≡ Ethernet }
-        requires out { self.old.home + round.blocks ≡ self.old.blocks }
-        requires fewer { length round.packets < self.old.budget }
-        requires numbers { NumberedTo (place_of reader.old).number round.packets }
+        requires out { self.old.home + paused.round.blocks ≡ self.old.blocks }
+        requires fits { paused.round.blocks + need_of paused.head.captured ≤ self.old.blocks }
+        requires fewer { length paused.round.packets < self.old.budget }
         ensures same_source { SameLoan reader.old reader.new }
-        ensures given { Told (S.left (source_of reader.old)) (S.left (source_of reader.new))
-            (GivesRest self.old.blocks (place_of reader.old)
-            (place_of reader.new) round.packets result.round.packets result.end) }
+        ensures given { (at : Place) → KeepsHead at (place_of reader.old) paused.head
+            → Told (S.left (source_of reader.old)) (S.left (source_of reader.new)) (GivesBehind self.old.blocks at
+            (place_of reader.new) paused.head paused.round.packets result.round.packets result.end) }
         ensures size { length result.round.packets ≤ self.old.budget }
         ensures fewer { result.end ≢ RoundEnd.Full → length result.round.packets < self.old.budget }
-        ensures full { result.end ≡ RoundEnd.Full → FillsRound (place_of reader.old)
-            (place_of reader.new) round.packets result.round.packets self.old.budget }
+        ensures full { result.end ≡ RoundEnd.Full → (at : Place) → KeepsHead at (place_of reader.old) paused.head
+            → FillsRound at (place_of reader.new) paused.round.packets result.round.packets self.old.budget }
         ensures captured { AllByRecursion IsCaptured (map packet_of result.round.packets) }
-        ensures numbers { NumbersOn (place_of reader.old).number round.packets result.round.packets }
+        ensures numbers { (at : Place) → KeepsHead at (place_of reader.old) paused.head
+            → NumbersOn at.number paused.round.packets result.round.packets }
         ensures need { result.round.blocks ≡ round_need (map packet_of result.round.packets) }
         ensures home { self.new.home + result.round.blocks ≡ self.old.blocks }
+        ensures named { (h : ℕ → ℕ) → weighed h self.new.stock + weights_of result.round h
+            ≡ weighed h self.old.stock + weights_of paused.round h }
         ensures same { (self.new.blocks ≡ self.old.blocks) × (options_of self.new ≡ options_of self.old)
-            × (self.new.keep ≡ self.old.keep) }
+            × (self.new.keep ≡ self.old.keep) × (self.new.empties ≡ self.old.empties) }
         ensures budget { (1 ≤ self.old.budget) × (self.old.budget ≤ 4096) }
-        ensures taken { min (self.old.taken + (result.round.blocks - round.blocks)) (2 ^ 64 - 1) ≤ self.new.taken }
-        ensures least { (round.blocks ≤ result.round.blocks) × (self.old.taken ≤ self.new.taken) }
-        ensures most { self.new.taken + round.blocks ≤ self.old.taken + self.old.blocks }
+        ensures taken { min (self.old.taken + (result.round.blocks - paused.round.blocks)) (2 ^ 64 - 1)
+            ≤ self.new.taken }
+        ensures least { (paused.round.blocks ≤ result.round.blocks) × (self.old.taken ≤ self.new.taken) }
+        ensures most { self.new.taken + paused.round.blocks ≤ self.old.taken + self.old.blocks }
         ensures later { S.faults (source_of reader.old) ≤ S.faults (source_of reader.new) }
         ensures failed { result.end ≡ RoundEnd.ReadFault
             → Rose (S.faults (source_of reader.old)) (S.faults (source_of reader.new)) }
     {
         if self.bench.make_room().is_err() {
+            let round = paused.into_round();
             let end = RoundEnd::NoMemory;
             return RoundRead { round, end };
         }
-        self.intake.read_on(round, reader)
+        self.intake.read_on(paused, reader)
     }
 }

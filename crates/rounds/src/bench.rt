@@ -1,8 +1,8 @@
 //! The side of rounds that works.
 ghost use Rattle.std.specs.Prelude.{◌≡◌, ◌≢◌, ◌+◌, ◌*◌, ◌≤◌, true, false, [], length, map, All};
-ghost use Rattle.std.specs.Prelude.{IfOk, IfErr, OnOk, OnErr};
+ghost use Rattle.std.specs.Prelude.{ℕ, IfOk, IfErr, OnOk, OnErr};
 ghost use Rattle.std.specs.Io.KnownBytes.{Appends};
-ghost use Rattle.block_pool.specs.Giving.{given_by};
+ghost use Rattle.block_pool.specs.Giving.{given_by, weights_given};
 ghost use Rattle.block_pool.specs.PoolState.{home};
 ghost use Rattle.off_io.specs.Content.{AppendsFront};
 ghost use Rattle.off_io.specs.Faults.{HasCause};
@@ -12,6 +12,7 @@ ghost use Rattle.lanes.specs.Lanes.{AreIdle, IsMerged};
 ghost use Rattle.lanes.specs.Work.{IsPlan};
 ghost use Rattle.rounds.specs.Benches.{options_at, Brings, BringsBeside, IsLent, IsSameBench, Lends, MayBring};
 ghost use Rattle.rounds.specs.Lanes.{worked_bytes, worked_records, IsAloneWork, IsKeptWorkOf};
+ghost use Rattle.rounds.specs.Weights.{weights_of, weights_worked, weights_left};
 
 use crate::home::bring_out;
 use crate::memory::{close_places, open_places, place_spares};
@@ -221,9 +222,11 @@ impl Bench {
         ensures alone { self.old.keep ≡ false → self.old.plan.taps ≡ 0 → IfOk result IsAloneWork }
         ensures worked { IfOk result (λ worked. worked.blocks + given_by giver.new ≡ round.blocks
             + given_by giver.old) }
+        ensures named { IfOk result (λ worked. (h : ℕ → ℕ) → weights_worked worked h + weights_given giver.new h
+            ≡ weights_of round h + weights_given giver.old h) }
         ensures same { OnOk result ((self.new ≡ self.old) × (home.new ≡ home.old)) }
-        ensures brings { OnErr result (BringsBeside round.blocks self.old self.new home.old home.new giver.old
-            giver.new) }
+        ensures brings { OnErr result (BringsBeside round.blocks (weights_of round) self.old self.new home.old home.new
+            giver.old giver.new) }
         ensures gave { Lends giver.old giver.new }
     {
         match self.work(works, round, giver) {
@@ -235,24 +238,31 @@ impl Bench {
         }
     }
 
-    /// Works the round that lies there, beside the side that reads, to which no block goes meanwhile. The runtime goes
+    /// Works the round that lies there, beside the side that reads: spares of it go there by the giver. The runtime goes
     /// with it as with that side.
     pub(crate) fn work_lent<R: Sync, W: Works>(
         &mut self,
         _rt: &R,
         works: &mut W,
         round: &mut Round,
+        giver: &mut Option<Giver>,
     ) -> Result<Worked, Rest>
         requires few { round.old.blocks ≤ self.old.blocks }
+        requires lent { IsLent giver.old }
         ensures records { IfOk result (λ worked. worked_records worked
             ≡ round_records (options_at self.old) (map packet_of round.old.packets)) }
         ensures checked { self.old.keep ≡ true → IfOk result
             (λ worked. IsKeptWorkOf (options_at self.old) (map packet_of round.old.packets) worked) }
         ensures merged { IfOk result (λ worked. All IsMerged worked.lanes.queues.items) }
         ensures alone { self.old.keep ≡ false → self.old.plan.taps ≡ 0 → IfOk result IsAloneWork }
-        ensures worked { IfOk result (λ worked. worked.blocks ≡ round.old.blocks) }
-        ensures rest { IfErr result (λ rest. rest ≡ round.old.blocks) }
-        ensures spent { round.new.packets ≡ [] }
+        ensures worked { IfOk result (λ worked. (worked.blocks + given_by giver.new
+            ≡ round.old.blocks + given_by giver.old) × ((h : ℕ → ℕ) → weights_worked worked h
+            + weights_given giver.new h ≡ weights_of round.old h + weights_given giver.old h)) }
+        ensures rest { IfErr result (λ rest. (rest.blocks + given_by giver.new
+            ≡ round.old.blocks + given_by giver.old) × ((h : ℕ → ℕ) → weights_left rest h
+            + weights_given giver.new h ≡ weights_of round.old h + weights_given giver.old h)) }
+        ensures gave { Lends giver.old giver.new }
+        ensures spent { (round.new.packets ≡ []) × (round.new.spares ≡ []) }
         ensures same { self.new ≡ self.old }
     {
         let RoundRead {
@@ -260,7 +270,7 @@ impl Bench {
             end: _,
         } = no_round(self.alloc);
         let lent = replace(round, none);
-        self.work(works, lent, &mut None)
+        self.work(works, lent, giver)
     }
 
     /// Writes what a round came to, as `write_round` of the rounds says it.
@@ -282,7 +292,7 @@ impl Bench {
     /// Ends a round that was worked. Its blocks go home, all of them.
     pub fn end_round(&mut self, worked: Worked, home: &mut Pool)
         requires may { MayBring worked.blocks self.old home.old }
-        ensures brings { Brings worked.blocks self.old self.new home.old home.new }
+        ensures brings { Brings worked.blocks (weights_worked worked) self.old self.new home.old home.new }
     {
         let Worked {
             lanes,
@@ -305,7 +315,7 @@ impl Bench {
     /// Gives a round up. Its blocks go home, all of them.
     pub fn drop_round(&mut self, round: Round, home: &mut Pool)
         requires may { MayBring round.blocks self.old home.old }
-        ensures brings { Brings round.blocks self.old self.new home.old home.new }
+        ensures brings { Brings round.blocks (weights_of round) self.old self.new home.old home.new }
     {
         let Round {
             packets,
@@ -326,8 +336,8 @@ impl Bench {
 
     /// What is left of a round goes home. Its lanes and its lists stay as memory.
     pub(crate) fn bring(&mut self, rest: Rest, home: &mut Pool)
-        requires may { MayBring rest self.old home.old }
-        ensures brings { Brings rest self.old self.new home.old home.new }
+        requires may { MayBring rest.blocks self.old home.old }
+        ensures brings { Brings rest.blocks (weights_left rest) self.old self.new home.old home.new }
     {
         let Rest {
             mut packets,

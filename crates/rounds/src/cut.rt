@@ -4,8 +4,8 @@ ghost use Rattle.std.specs.Prelude.{length};
 ghost use Rattle.std.specs.Io.KnownBytes.{Appends};
 ghost use Rattle.off_io.specs.Faults.{HasCause, Rose};
 ghost use Rattle.off_io.specs.Content.{AppendsFront};
-ghost use Rattle.block_pool.specs.PoolState.{home};
-ghost use Rattle.skb.specs.SkbState.{buffer_bytes, IsAlone};
+ghost use Rattle.block_pool.specs.PoolState.{home, weighed};
+ghost use Rattle.skb.specs.SkbState.{buffer_bytes, weighed_in, IsAlone};
 ghost use Rattle.pcap_io.specs.Capture.{Packet as Record};
 ghost use Rattle.pcap_io.specs.Limits.{most_frame, off_head_size};
 ghost use Rattle.skb.specs.Fronts.{IsFronted};
@@ -68,6 +68,7 @@ fn bring_packet(pool: &mut Pool, packet: Slot)
     requires alone { IsAlone packet.skb }
     requires room { home pool.old + count_of packet ≤ pool.old.made }
     ensures home { home pool.new ≡ home pool.old + count_of packet }
+    ensures named { (h : ℕ → ℕ) → weighed h pool.new.blocks ≡ weighed h pool.old.blocks + weighed_in h packet.skb }
     ensures made { (pool.new.made ≡ pool.old.made) × (pool.new.taken ≡ pool.old.taken) }
 {
     let Slot {
@@ -96,6 +97,7 @@ fn write_plan<K: Sink>(
     ensures writes { Writes (packets_bytes file.now.order (packets_by plan (packet_of packet))) (K.held sink.old)
         (K.held sink.new) result }
     ensures home { home pool.new ≡ home pool.old + count_of packet }
+    ensures named { (h : ℕ → ℕ) → weighed h pool.new.blocks ≡ weighed h pool.old.blocks + weighed_in h packet.skb }
     ensures made { (pool.new.made ≡ pool.old.made) × (pool.new.taken ≡ pool.old.taken) }
     ensures later { K.faults sink.old ≤ K.faults sink.new }
     ensures failed { result ≡ Err Refused.WriteFault → Rose (K.faults sink.old) (K.faults sink.new) }
@@ -124,6 +126,7 @@ fn write_judged<K: Sink>(
     ensures writes { (r : Record) → IsBehind r head.now packet
         → WritesRecord file.now.order r (K.held sink.old) (K.held sink.new) result }
     ensures home { home pool.new ≡ home pool.old + count_of packet }
+    ensures named { (h : ℕ → ℕ) → weighed h pool.new.blocks ≡ weighed h pool.old.blocks + weighed_in h packet.skb }
     ensures made { (pool.new.made ≡ pool.old.made) × (pool.new.taken ≡ pool.old.taken) }
     ensures later { K.faults sink.old ≤ K.faults sink.new }
     ensures failed { result ≡ Err Refused.WriteFault → Rose (K.faults sink.old) (K.faults sink.new) }
@@ -159,6 +162,7 @@ pub(crate) fn cut_record<K: Sink>(
     ensures writes { WritesRecord file.now.order (record_of front.now packet) (K.held sink.old)
         (K.held sink.new) result }
     ensures home { home pool.new ≡ home pool.old + count_of packet }
+    ensures named { (h : ℕ → ℕ) → weighed h pool.new.blocks ≡ weighed h pool.old.blocks + weighed_in h packet.skb }
     ensures made { (pool.new.made ≡ pool.old.made) × (pool.new.taken ≡ pool.old.taken) }
     ensures out { out.new ≡ out.old }
     ensures later { K.faults sink.old ≤ K.faults sink.new }

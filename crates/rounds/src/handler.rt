@@ -3,6 +3,7 @@ ghost use Rattle.std.specs.Prelude.{◌≡◌, ◌+◌, ◌≤◌, ◌^◌, ℕ,
 ghost use Rattle.offload_model.specs.Written.{Options};
 ghost use Rattle.rounds.specs.declared.round.RoundRead.{RoundRead as ReadState};
 ghost use Rattle.rounds.specs.Benches.{options_at, BringsBeside, IsLent, IsRead, Lends, MayBring};
+ghost use Rattle.rounds.specs.Weights.{weights_of};
 
 use crate::bench::Bench;
 use crate::round::{RoundEnd, RoundRead};
@@ -42,7 +43,8 @@ pub trait RoundHandler<T, E> {
         ensures full { result ≡ None → read.end ≡ RoundEnd.Full }
         ensures ready { (n : ℕ) → ready (options_at bench.old) bench.old.keep n into.old
             → ready (options_at bench.old) bench.old.keep (n + length read.round.packets) into.new }
-        ensures brings { BringsBeside read.round.blocks bench.old bench.new home.old home.new giver.old giver.new }
+        ensures brings { BringsBeside read.round.blocks (weights_of read.round) bench.old bench.new home.old home.new
+            giver.old giver.new }
         ensures gave { Lends giver.old giver.new };
 
     /// Ends for want of memory.

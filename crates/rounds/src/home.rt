@@ -1,13 +1,13 @@
 //! Brings the blocks of a round home.
-ghost use Rattle.std.specs.Prelude.{◌≡◌, ◌+◌, ◌≤◌, [], length, All};
-ghost use Rattle.block_pool.specs.PoolState.{home};
+ghost use Rattle.std.specs.Prelude.{◌≡◌, ℕ, ◌+◌, ◌≤◌, [], length, All};
+ghost use Rattle.block_pool.specs.PoolState.{home, weighed};
 ghost use Rattle.frags.specs.Account.{both, of_outcomes};
 ghost use Rattle.skb.specs.SkbState.{of_buffer};
-ghost use Rattle.gro.specs.Slots.{of_packet, of_packets, count_of, counts_of, AreAlone};
-ghost use Rattle.lanes.specs.Lanes.{counts_of_queues, AreIdle, IsIdleTap};
+ghost use Rattle.gro.specs.Slots.{of_packet, of_packets, count_of, counts_of, weighed_slots, AreAlone};
+ghost use Rattle.lanes.specs.Lanes.{counts_of_queues, weighed_queues, AreIdle, IsIdleTap};
 ghost use Rattle.rounds.specs.Held.{blocks_in};
 ghost use Rattle.rounds.specs.Lanes.{of_work, count_of_work, AreSpent};
-ghost use Rattle.rounds.specs.Marks.{IsRound, nothing};
+ghost use Rattle.rounds.specs.Marks.{by_marks, IsNamed, IsRound, nothing};
 ghost use Rattle.rounds.specs.Out.{IsOut};
 ghost use Rattle.frags.specs.OutcomesState.{IsBare};
 ghost use Rattle.rounds.specs.Table.{AllOpen, Comes, MayCome};
@@ -111,6 +111,9 @@ fn bring_all(
     requires spare { counts_of packets.old.items + count_of_work lanes.old kept.items ≤ out.old.spare }
     requires spent { AreSpent lanes.old.taps.items }
     ensures home { home pool.new ≡ home pool.old + length places.old }
+    ensures named { (names h : ℕ → ℕ) → IsNamed names (both (of_outcomes out.old)
+        (both (of_packets packets.old.items) (of_work lanes.old kept.items)))
+        → weighed h pool.new.blocks ≡ weighed h pool.old.blocks + by_marks (λ m. h (names m)) 0 (length places.old) }
     ensures made { (pool.new.made ≡ pool.old.made) × (pool.new.taken ≡ pool.old.taken) }
     ensures open { AllOpen places.new }
     ensures size { length places.new ≡ length places.old }
@@ -145,6 +148,9 @@ fn bring_round(
     requires spare { counts_of packets.old.items + count_of_work lanes.old kept.items ≤ out.old.spare }
     requires spent { AreSpent lanes.old.taps.items }
     ensures home { home pool.new ≡ home pool.old + blocks }
+    ensures named { (names h : ℕ → ℕ) → IsNamed names (both (of_outcomes out.old)
+        (both (of_packets packets.old.items) (of_work lanes.old kept.items)))
+        → weighed h pool.new.blocks ≡ weighed h pool.old.blocks + by_marks (λ m. h (names m)) 0 blocks }
     ensures made { (pool.new.made ≡ pool.old.made) × (pool.new.taken ≡ pool.old.taken) }
     ensures open { AllOpen table.new }
     ensures size { length table.new ≡ length table.old }
@@ -163,6 +169,8 @@ pub(crate) fn bring_alone(pool: &mut Pool, packets: &mut Packets)
     requires alone { AreAlone packets.old.items }
     requires room { home pool.old + counts_of packets.old.items ≤ pool.old.made }
     ensures home { home pool.new ≡ home pool.old + counts_of packets.old.items }
+    ensures named { (h : ℕ → ℕ) → weighed h pool.new.blocks ≡ weighed h pool.old.blocks
+        + weighed_slots h packets.old.items }
     ensures made { (pool.new.made ≡ pool.old.made) × (pool.new.taken ≡ pool.old.taken) }
     ensures none { packets.new.items ≡ [] }
     ensures memory { packets.old.room + length packets.old.items ≤ packets.new.room }
@@ -189,6 +197,8 @@ fn bring_round_alone(pool: &mut Pool, packets: &mut Packets, lanes: &mut Lanes, 
     requires idle { All IsIdleTap lanes.old.taps.items }
     ensures home { home pool.new ≡ home pool.old + (counts_of packets.old.items
         + counts_of_queues lanes.old.queues.items) }
+    ensures named { (h : ℕ → ℕ) → weighed h pool.new.blocks ≡ weighed h pool.old.blocks
+        + (weighed_slots h packets.old.items + weighed_queues h lanes.old.queues.items) }
     ensures made { (pool.new.made ≡ pool.old.made) × (pool.new.taken ≡ pool.old.taken) }
     ensures none { packets.new.items ≡ [] }
     ensures idle { AreIdle lanes.new }
@@ -217,6 +227,8 @@ pub(crate) fn bring_out(
     requires open { AllOpen table.old }
     requires spare { blocks + blocks ≤ out.old.spare }
     ensures home { home pool.new ≡ home pool.old + blocks }
+    ensures named { (h : ℕ → ℕ) → weighed h pool.new.blocks ≡ weighed h pool.old.blocks
+        + (weighed_slots h packets.old.items + weighed_queues h lanes.old.queues.items) }
     ensures made { (pool.new.made ≡ pool.old.made) × (pool.new.taken ≡ pool.old.taken) }
     ensures open { AllOpen table.new }
     ensures size { length table.new ≡ length table.old }

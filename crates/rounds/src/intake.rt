@@ -1,28 +1,32 @@
 //! The side of rounds that reads.
 ghost use Rattle.std.specs.Prelude.{◌≡◌, ◌≢◌, ◌+◌, ◌-◌, ◌*◌, ◌<◌, ◌≤◌, ◌^◌, [], length, map, min, IfOk, OnOk, OnErr};
+ghost use Rattle.std.specs.Prelude.{ℕ, true};
 ghost use Rattle.std.specs.List.{AllByRecursion};
-ghost use Rattle.block_pool.specs.PoolState.{home};
+ghost use Rattle.block_pool.specs.PoolState.{home, weighed};
 ghost use Rattle.off_io.specs.Faults.{Rose};
 ghost use Rattle.off_io.specs.Told.{Told};
 ghost use Rattle.pcap_io.specs.declared.heads.Link.TheVariants.{Ethernet};
+ghost use Rattle.pcap_io.specs.declared.place.Place.{Place};
 ghost use Rattle.pcap_io.specs.Places.{IsReady};
 ghost use Rattle.pcap_io.specs.Readers.{place_of, source_of, SameLoan};
-ghost use Rattle.offload_model.specs.Need.{round_need};
+ghost use Rattle.offload_model.specs.Need.{need_of, round_need};
 ghost use Rattle.offload_model.specs.Captured.{IsCaptured};
 ghost use Rattle.gro.specs.Slots.{packet_of};
-ghost use Rattle.rounds.specs.Ahead.{round_of, GivesAhead, IfPaused, IfRead, ReadsAhead};
+ghost use Rattle.records.specs.Reading.{KeepsHead};
+ghost use Rattle.rounds.specs.Ahead.{round_of, GivesBehind, IfPaused, IfRead, Lacks, ReadsAhead, Waits};
 ghost use Rattle.rounds.specs.Fresh.{NumberedFrom};
-ghost use Rattle.rounds.specs.Reading.{FillsRound, GivesRest, GivesRound, NumberedTo, NumbersOn, PassesRound};
+ghost use Rattle.rounds.specs.Weights.{weights_of};
+ghost use Rattle.rounds.specs.Reading.{FillsRound, GivesRound, NumberedTo, NumbersOn, PassesRound};
 
-use crate::reading::{Halt, read_more, read_records};
-use crate::round::{Blank, ReadAhead, Round, RoundEnd, RoundRead, no_round};
+use crate::reading::{Halt, read_behind, read_more, read_records};
+use crate::round::{Blank, Empty, Paused, ReadAhead, Round, RoundEnd, RoundRead, no_round};
 use block_pool::Pool;
 use core::mem::replace;
 use gro::Packets;
 use off_io::Source;
 use pcap_io::CaptureReader;
 use raw_block::Sole;
-use records::{AllHome, RECORD_BLOCKS, Supply};
+use records::{RECORD_BLOCKS, Supply};
 use std::alloc::{AllocError, Global};
 use std::collections::VecDeque;
 use std::marker::Model;
@@ -34,6 +38,8 @@ pub struct Intake {
     pub(crate) pool: Pool,
     // The blocks of the record that is being read.
     hold: VecDeque<Sole>,
+    // How often a take found no list while a round was read beside work.
+    pub(crate) empties: u64,
     budget: u32,
 }
 
@@ -47,8 +53,10 @@ impl Model for Intake {
 
     ghost view = { λ i. record {
       home = home_of i.pool;
+      stock = i.pool.blocks;
       blocks = i.pool.made;
       taken = i.pool.taken;
+      empties = i.empties;
       budget = i.budget;
     } };
 
@@ -70,6 +78,7 @@ fn make_room(
     ensures room { OnOk result (2 * budget ≤ spares.new.made) }
     ensures same { packets.new.items ≡ packets.old.items }
     ensures home { home spares.new ≡ home spares.old }
+    ensures named { (h : ℕ → ℕ) → weighed h spares.new.blocks ≡ weighed h spares.old.blocks }
 {
     packets.reserve(budget as usize - packets.len())?;
     if spares.made() >= 2 * budget {
@@ -86,12 +95,14 @@ impl Intake {
     pub(crate) fn make(alloc: Global, blocks: u32, budget: u32) -> Result<Intake, AllocError>
         requires blocks { blocks ≤ 65536 }
         requires budget { (1 ≤ budget) × (budget ≤ 4096) }
-        ensures made { IfOk result (λ intake. intake ≡ record {
+        ensures made { IfOk result (λ intake. (intake ≡ record {
           home = blocks;
+          stock = intake.stock;
           blocks = blocks;
           taken = 0;
+          empties = 0;
           budget = budget;
-        }) }
+        }) × (length intake.stock ≡ blocks)) }
     {
         let hold = VecDeque::with_capacity(alloc, RECORD_BLOCKS)?;
         let pool = Pool::make(alloc, blocks)?;
@@ -99,6 +110,7 @@ impl Intake {
             alloc,
             pool,
             hold,
+            empties: 0,
             budget,
         })
     }
@@ -106,6 +118,7 @@ impl Intake {
     /// The blocks that are home.
     pub fn home(&self) -> u32
         ensures home { result ≡ self.now.home }
+        ensures stock { result ≡ length self.now.stock }
         ensures within { result ≤ self.now.blocks }
     {
         self.pool.home()
@@ -126,10 +139,19 @@ impl Intake {
         self.pool.taken()
     }
 
+    /// How often a take found no list of blocks while a round was read beside the work of another. It stays at
+    /// `2^64 - 1`.
+    pub fn empties(&self) -> u64
+        ensures value { result ≡ self.now.empties }
+    {
+        self.empties
+    }
+
     /// Blocks that were out come home on a shelf. None is taken.
     pub fn bring_in(&mut self, shelf: Pool)
         requires room { self.old.home + home shelf ≤ self.old.blocks }
-        ensures home { self.new ≡ record self.old { home = self.old.home + home shelf } }
+        ensures home { self.new ≡ record self.old { home = self.old.home + home shelf; stock = self.new.stock } }
+        ensures named { (h : ℕ → ℕ) → weighed h self.new.stock ≡ weighed h self.old.stock + weighed h shelf.blocks }
     {
         let mut shelf = shelf;
         self.pool.refill(&mut shelf);
@@ -138,8 +160,10 @@ impl Intake {
     /// Blocks that were out come home before a round is read, for which none is needed yet. None is taken.
     pub fn bring_more<H: Supply>(&mut self, more: &mut H)
         ensures sum { self.new.home + H.brought more.old ≡ self.old.home + H.brought more.new }
+        ensures named { (h : ℕ → ℕ) → weighed h self.new.stock + H.weights more.old h
+            ≡ weighed h self.old.stock + H.weights more.new h }
         ensures same { (self.new.blocks ≡ self.old.blocks) × (self.new.taken ≡ self.old.taken)
-            × (self.new.budget ≡ self.old.budget) }
+            × (self.new.budget ≡ self.old.budget) × (self.new.empties ≡ self.old.empties) }
     {
         let _enough = more.bring(&mut self.pool, 0);
     }
@@ -165,8 +189,11 @@ impl Intake {
         ensures numbers { NumberedFrom (place_of reader.old).number result.round.packets }
         ensures need { result.round.blocks ≡ round_need (map packet_of result.round.packets) }
         ensures sum { self.new.home + result.round.blocks + H.brought more.old ≡ self.old.home + H.brought more.new }
+        ensures named { (h : ℕ → ℕ) → weighed h self.new.stock + weights_of result.round h + H.weights more.old h
+            ≡ weighed h self.old.stock + H.weights more.new h }
         ensures within { result.round.blocks ≤ self.old.blocks }
-        ensures same { (self.new.blocks ≡ self.old.blocks) × (self.new.budget ≡ self.old.budget) }
+        ensures same { (self.new.blocks ≡ self.old.blocks) × (self.new.budget ≡ self.old.budget)
+            × (self.new.empties ≡ self.old.empties) }
         ensures budget { (1 ≤ self.old.budget) × (self.old.budget ≤ 4096) }
         ensures taken { min (self.old.taken + result.round.blocks) (2 ^ 64 - 1) ≤ self.new.taken }
         ensures least { self.old.taken ≤ self.new.taken }
@@ -203,9 +230,12 @@ impl Intake {
         ensures numbers { NumberedFrom (place_of reader.old).number result.round.packets }
         ensures need { result.round.blocks ≡ round_need (map packet_of result.round.packets) }
         ensures sum { self.new.home + result.round.blocks + H.brought more.old ≡ self.old.home + H.brought more.new }
+        ensures named { (h : ℕ → ℕ) → weighed h self.new.stock + weights_of result.round h + H.weights more.old h
+            ≡ weighed h self.old.stock + H.weights more.new h }
         ensures within { result.round.blocks ≤ self.old.blocks }
         ensures unread { OnErr blank (self.new ≡ self.old) }
-        ensures same { (self.new.blocks ≡ self.old.blocks) × (self.new.budget ≡ self.old.budget) }
+        ensures same { (self.new.blocks ≡ self.old.blocks) × (self.new.budget ≡ self.old.budget)
+            × (self.new.empties ≡ self.old.empties) }
         ensures budget { (1 ≤ self.old.budget) × (self.old.budget ≤ 4096) }
         ensures taken { min (self.old.taken + result.round.blocks) (2 ^ 64 - 1) ≤ self.new.taken }
         ensures least { self.old.taken ≤ self.new.taken }
@@ -242,13 +272,14 @@ impl Intake {
         }
     }
 
-    /// Reads the next round beside the work of another, while no block comes home, into lists that are lent for that.
-    /// The runtime goes with it for the borrow checker's part alone, by which what a side borrows ends with what both
-    /// borrow.
-    pub(crate) fn read_ahead<R: Sync, S: Source>(
+    /// Reads the next round beside the work of another, into lists that are lent for that. It is paused where a record
+    /// needs blocks that aren't home and don't come: the header of that record is kept. The runtime goes with it for
+    /// the borrow checker's part alone, by which what a side borrows ends with what both borrow.
+    pub(crate) fn read_ahead<R: Sync, S: Source, H: Supply>(
         &mut self,
         _rt: &R,
         reader: &mut CaptureReader<'_, S>,
+        more: &mut H,
         lists: &mut Blank,
     ) -> ReadAhead
         requires ready { IsReady (place_of reader.old) }
@@ -256,21 +287,29 @@ impl Intake {
         requires none { (lists.old.packets.items ≡ []) × (home lists.old.spares ≡ 0) }
         requires reserved { (self.old.budget ≤ lists.old.packets.room) × (2 * self.old.budget ≤ lists.old.spares.made) }
         ensures same_source { SameLoan reader.old reader.new }
-        ensures given { Told (S.left (source_of reader.old)) (S.left (source_of reader.new))
-            (GivesAhead self.old.blocks (place_of reader.old) (place_of reader.new) result) }
+        ensures given { IfRead result (λ read. Told (S.left (source_of reader.old)) (S.left (source_of reader.new))
+            (GivesRound self.old.blocks (place_of reader.old) (place_of reader.new) read.round.packets read.end)) }
         ensures reads { ReadsAhead self.old.budget (place_of reader.old) (place_of reader.new) result }
-        ensures paused { IfPaused result (λ round. (self.old.home < round.blocks + 131)
-            × (self.old.home < self.old.blocks)) }
+        ensures waits { IfPaused result (Waits self.old.budget (place_of reader.old) (place_of reader.new)
+            (S.left (source_of reader.old)) (S.left (source_of reader.new))) }
+        ensures paused { IfPaused result (Lacks self.new.home self.old.blocks self.old.taken self.new.taken) }
+        ensures refused { H.counts ≡ true → IfPaused result (λ _.
+            min (H.refusals more.old + 1) (2 ^ 64 - 1) ≤ H.refusals more.new) }
+        ensures asked { H.refusals more.old ≤ H.refusals more.new }
         ensures spent { (lists.new.packets.items ≡ []) × (home lists.new.spares ≡ 0) }
-        ensures sum { self.new.home + (round_of result).blocks ≡ self.old.home }
-        ensures same { (self.new.blocks ≡ self.old.blocks) × (self.new.budget ≡ self.old.budget) }
+        ensures sum { self.new.home + (round_of result).blocks + H.brought more.old
+            ≡ self.old.home + H.brought more.new }
+        ensures named { (h : ℕ → ℕ) → weighed h self.new.stock + weights_of (round_of result) h + H.weights more.old h
+            ≡ weighed h self.old.stock + H.weights more.new h }
+        ensures within { (round_of result).blocks ≤ self.old.blocks }
+        ensures same { (self.new.blocks ≡ self.old.blocks) × (self.new.budget ≡ self.old.budget)
+            × (self.new.empties ≡ self.old.empties) }
         ensures budget { (1 ≤ self.old.budget) × (self.old.budget ≤ 4096) }
         ensures taken { min (self.old.taken + (round_of result).blocks) (2 ^ 64 - 1) ≤ self.new.taken }
         ensures least { self.old.taken ≤ self.new.taken }
         ensures most { self.new.taken ≤ self.old.taken + self.old.blocks }
-        ensures so_far { IfPaused result (λ round. self.new.taken ≤ self.old.taken + round.blocks) }
         ensures later { S.faults (source_of reader.old) ≤ S.faults (source_of reader.new) }
-        ensures failed { IfRead result (λ end. end ≡ RoundEnd.ReadFault
+        ensures failed { IfRead result (λ read. read.end ≡ RoundEnd.ReadFault
             → Rose (S.faults (source_of reader.old)) (S.faults (source_of reader.new))) }
     {
         let _ = self.pool.taken();
@@ -283,7 +322,7 @@ impl Intake {
             &mut self.pool,
             &mut self.hold,
             reader,
-            &mut AllHome,
+            more,
             self.budget as usize,
             &mut packets,
             &mut spares,
@@ -296,77 +335,92 @@ impl Intake {
         };
         match halt {
             Halt::Ended(end) => ReadAhead::Read(RoundRead { round, end }),
-            Halt::Lacking => ReadAhead::Paused(round),
+            Halt::Lacking(head) => {
+                let empty = Empty {
+                    takes: blocks as u64,
+                };
+                ReadAhead::Paused(Paused { round, head, empty })
+            }
         }
     }
 
     /// Reads the rest of a round that was paused, as `read_rest` of the rounds says it.
     pub(crate) fn read_on<S: Source>(
         &mut self,
-        round: Round,
+        paused: Paused,
         reader: &mut CaptureReader<'_, S>,
     ) -> RoundRead
-        requires ready { IsReady (place_of reader.old) }
+        requires kept { (at : Place) × (KeepsHead at (place_of reader.old) paused.head
+            × NumberedTo at.number paused.round.packets) }
         requires link { (place_of reader.old).link ≡ Ethernet }
-        requires out { self.old.home + round.blocks ≡ self.old.blocks }
-        requires fewer { length round.packets < self.old.budget }
-        requires numbers { NumberedTo (place_of reader.old).number round.packets }
+        requires out { self.old.home + paused.round.blocks ≡ self.old.blocks }
+        requires fits { paused.round.blocks + need_of paused.head.captured ≤ self.old.blocks }
+        requires fewer { length paused.round.packets < self.old.budget }
         ensures same_source { SameLoan reader.old reader.new }
-        ensures given { Told (S.left (source_of reader.old)) (S.left (source_of reader.new))
-            (GivesRest self.old.blocks (place_of reader.old)
-            (place_of reader.new) round.packets result.round.packets result.end) }
+        ensures given { (at : Place) → KeepsHead at (place_of reader.old) paused.head
+            → Told (S.left (source_of reader.old)) (S.left (source_of reader.new)) (GivesBehind self.old.blocks at
+            (place_of reader.new) paused.head paused.round.packets result.round.packets result.end) }
         ensures size { length result.round.packets ≤ self.old.budget }
         ensures fewer { result.end ≢ RoundEnd.Full → length result.round.packets < self.old.budget }
-        ensures full { result.end ≡ RoundEnd.Full → FillsRound (place_of reader.old)
-            (place_of reader.new) round.packets result.round.packets self.old.budget }
+        ensures full { result.end ≡ RoundEnd.Full → (at : Place) → KeepsHead at (place_of reader.old) paused.head
+            → FillsRound at (place_of reader.new) paused.round.packets result.round.packets self.old.budget }
         ensures captured { AllByRecursion IsCaptured (map packet_of result.round.packets) }
-        ensures numbers { NumbersOn (place_of reader.old).number round.packets result.round.packets }
+        ensures numbers { (at : Place) → KeepsHead at (place_of reader.old) paused.head
+            → NumbersOn at.number paused.round.packets result.round.packets }
         ensures need { result.round.blocks ≡ round_need (map packet_of result.round.packets) }
         ensures home { self.new.home + result.round.blocks ≡ self.old.blocks }
-        ensures same { (self.new.blocks ≡ self.old.blocks) × (self.new.budget ≡ self.old.budget) }
+        ensures named { (h : ℕ → ℕ) → weighed h self.new.stock + weights_of result.round h
+            ≡ weighed h self.old.stock + weights_of paused.round h }
+        ensures same { (self.new.blocks ≡ self.old.blocks) × (self.new.budget ≡ self.old.budget)
+            × (self.new.empties ≡ self.old.empties) }
         ensures budget { (1 ≤ self.old.budget) × (self.old.budget ≤ 4096) }
-        ensures taken { min (self.old.taken + (result.round.blocks - round.blocks)) (2 ^ 64 - 1) ≤ self.new.taken }
-        ensures least { (round.blocks ≤ result.round.blocks) × (self.old.taken ≤ self.new.taken) }
-        ensures most { self.new.taken + round.blocks ≤ self.old.taken + self.old.blocks }
+        ensures taken { min (self.old.taken + (result.round.blocks - paused.round.blocks)) (2 ^ 64 - 1)
+            ≤ self.new.taken }
+        ensures least { (paused.round.blocks ≤ result.round.blocks) × (self.old.taken ≤ self.new.taken) }
+        ensures most { self.new.taken + paused.round.blocks ≤ self.old.taken + self.old.blocks }
         ensures later { S.faults (source_of reader.old) ≤ S.faults (source_of reader.new) }
         ensures failed { result.end ≡ RoundEnd.ReadFault
             → Rose (S.faults (source_of reader.old)) (S.faults (source_of reader.new)) }
     {
         let _ = self.pool.taken();
-        let budget = self.budget as usize;
-        let end = RoundEnd::NoMemory;
+        let Paused {
+            round,
+            head,
+            empty: _,
+        } = paused;
         let Round {
             mut packets,
             mut spares,
             blocks,
         } = round;
         if make_room(self.alloc, &mut packets, &mut spares, self.budget).is_err() {
-            let round = Round {
-                packets,
-                spares,
-                blocks,
+            return RoundRead {
+                round: Round {
+                    packets,
+                    spares,
+                    blocks,
+                },
+                end: RoundEnd::NoMemory,
             };
-            return RoundRead { round, end };
         }
-        let (blocks, halt) = read_more(
+        let (blocks, end) = read_behind(
             self.alloc,
             &mut self.pool,
             &mut self.hold,
             reader,
-            &mut AllHome,
-            budget,
+            &head,
+            self.budget as usize,
             &mut packets,
             &mut spares,
             blocks,
         );
-        let round = Round {
-            packets,
-            spares,
-            blocks,
-        };
-        match halt {
-            Halt::Ended(end) => RoundRead { round, end },
-            Halt::Lacking => RoundRead { round, end },
+        RoundRead {
+            round: Round {
+                packets,
+                spares,
+                blocks,
+            },
+            end,
         }
     }
 }

@@ -1,10 +1,10 @@
 //! Brings home what the lanes of a round hold.
-ghost use Rattle.std.specs.Prelude.{◌≡◌, ◌+◌, ◌≤◌, [], All, length};
-ghost use Rattle.block_pool.specs.PoolState.{home};
-ghost use Rattle.gro.specs.Slots.{AreAlone};
+ghost use Rattle.std.specs.Prelude.{◌≡◌, ℕ, ◌+◌, ◌≤◌, [], All, length};
+ghost use Rattle.block_pool.specs.PoolState.{home, weighed};
+ghost use Rattle.gro.specs.Slots.{weighed_slots, AreAlone};
 ghost use Rattle.taps.specs.Clones.{blocks_of, of_clones};
 ghost use Rattle.lanes.specs.Lanes.{of_queue, of_queues, of_tap, of_taps, of_lanes, count_of_queue};
-ghost use Rattle.lanes.specs.Lanes.{counts_of_queues, AreIdle, IsIdleQueue, IsIdleTap};
+ghost use Rattle.lanes.specs.Lanes.{counts_of_queues, weighed_queues, AreIdle, IsIdleQueue, IsIdleTap};
 ghost use Rattle.rounds.specs.Lanes.{AreSpent};
 ghost use Rattle.rounds.specs.Marks.{nothing};
 ghost use Rattle.frags.specs.OutcomesState.{IsBare};
@@ -92,6 +92,8 @@ fn bring_queue_alone(pool: &mut Pool, lane: &mut QueueLane)
     requires alone { AreAlone lane.old.packets.items }
     requires room { home pool.old + count_of_queue lane.old ≤ pool.old.made }
     ensures home { home pool.new ≡ home pool.old + count_of_queue lane.old }
+    ensures named { (h : ℕ → ℕ) → weighed h pool.new.blocks ≡ weighed h pool.old.blocks
+        + weighed_slots h lane.old.packets.items }
     ensures made { (pool.new.made ≡ pool.old.made) × (pool.new.taken ≡ pool.old.taken) }
     ensures idle { IsIdleQueue lane.new }
 {
@@ -103,6 +105,7 @@ pub(crate) fn bring_queues_alone(pool: &mut Pool, lanes: &mut [QueueLane])
     requires alone { All (λ l. AreAlone l.packets.items) lanes.old }
     requires room { home pool.old + counts_of_queues lanes.old ≤ pool.old.made }
     ensures home { home pool.new ≡ home pool.old + counts_of_queues lanes.old }
+    ensures named { (h : ℕ → ℕ) → weighed h pool.new.blocks ≡ weighed h pool.old.blocks + weighed_queues h lanes.old }
     ensures made { (pool.new.made ≡ pool.old.made) × (pool.new.taken ≡ pool.old.taken) }
     ensures idle { All IsIdleQueue lanes.new }
     ensures size { length lanes.new ≡ length lanes.old }

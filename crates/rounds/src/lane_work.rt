@@ -1,19 +1,21 @@
 //! Works a round: its packets are merged in lanes.
-ghost use Rattle.std.specs.Prelude.{◌⊎◌, ◌≡◌, ◌+◌, ◌≤◌, true, false, [], map, All, IfOk, IfErr, OnOk, MatchResult};
+ghost use Rattle.std.specs.Prelude.{◌⊎◌, ◌≡◌, ℕ, ◌+◌, ◌≤◌, true, false, [], map, All, IfOk, IfErr, OnOk, MatchResult};
 ghost use Rattle.std.specs.List.{AllByRecursion};
 ghost use Rattle.offload_model.specs.Captured.{IsCaptured};
 ghost use Rattle.offload_model.specs.Written.{round_records};
 ghost use Rattle.ref_core.specs.WeightRule.{full_weight};
-ghost use Rattle.frags.specs.Account.{Keeps, both};
-ghost use Rattle.gro.specs.Slots.{packet_of, of_packets, counts_of, AreHeld, AreShared, WeighAtLeast};
+ghost use Rattle.frags.specs.Account.{Keeps, KeepsBlocks, both};
+ghost use Rattle.gro.specs.Slots.{packet_of, of_packets, counts_of, weighed_slots, AreHeld, AreShared, WeighAtLeast};
 ghost use Rattle.taps.specs.Clones.{packet_of as packet_of_clone, blocks_of, of_clones};
 ghost use Rattle.lanes.specs.Clones.{AreAfter};
-ghost use Rattle.lanes.specs.Lanes.{IsMerged};
-ghost use Rattle.block_pool.specs.Giving.{given_by};
+ghost use Rattle.lanes.specs.Lanes.{weighed_queues, IsMerged};
+ghost use Rattle.block_pool.specs.Giving.{given_by, weights_given};
+ghost use Rattle.block_pool.specs.PoolState.{weighed};
 ghost use Rattle.rounds.specs.Benches.{options_at, IsLent, Lends};
 ghost use Rattle.records.specs.Laid.{AreRead, LaidFrom};
 ghost use Rattle.rounds.specs.Kept.{IsKept, IsPrepared, IsDone, IsLeft, IsOfLanes};
 ghost use Rattle.rounds.specs.Lanes.{worked_records, IsAloneWork, IsKeptWorkOf};
+ghost use Rattle.rounds.specs.Weights.{weights_of, weights_worked, weights_left};
 
 use crate::bench::Bench;
 use crate::giving::swap_list;
@@ -42,6 +44,8 @@ fn keep_if(keep: bool, packets: &mut Packets, kept: &mut Vec<TapClone>) -> Resul
     requires none { kept.old.items ≡ [] }
     ensures after { AreAfter 1 packets.old.items packets.new.items }
     ensures kept { Keeps (of_packets packets.old.items)
+        (both (of_packets packets.new.items) (of_clones kept.new.items)) }
+    ensures blocks { KeepsBlocks (of_packets packets.old.items)
         (both (of_packets packets.new.items) (of_clones kept.new.items)) }
     ensures fewer { blocks_of kept.new.items ≤ counts_of packets.old.items }
     ensures all { OnOk result (keep ≡ true → map packet_of_clone kept.new.items ≡ map packet_of packets.old.items) }
@@ -90,7 +94,10 @@ impl Bench {
         requires few { round.blocks ≤ self.old.blocks }
         ensures kept { IfOk result (λ k. IsKept self.old.keep self.old.plan.taps (map packet_of round.packets)
             round.blocks k) }
-        ensures rest { IfErr result (λ rest. rest ≡ round.blocks) }
+        ensures named { IfOk result (λ k. (h : ℕ → ℕ) → weighed_slots h k.packets.items + weighed h k.spares.blocks
+            ≡ weights_of round h) }
+        ensures rest { IfErr result (λ rest. rest.blocks ≡ round.blocks) }
+        ensures named_back { IfErr result (λ rest. (h : ℕ → ℕ) → weights_left rest h ≡ weights_of round h) }
         ensures same { self.new ≡ self.old }
     {
         let Round {
@@ -128,7 +135,11 @@ impl Bench {
     ) -> Result<Worked, Rest>
         requires lanes { MatchResult done (λ _. IsDone kept lanes) (λ _. IsLeft kept lanes) }
         ensures worked { IfOk result (IsOfLanes done lanes kept.kept.items kept.blocks) }
-        ensures rest { IfErr result (λ rest. rest ≡ kept.blocks) }
+        ensures named { IfOk result (λ worked. (h : ℕ → ℕ) → weights_worked worked h
+            ≡ weighed_slots h kept.packets.items + weighed_queues h lanes.queues.items + weighed h kept.spares.blocks) }
+        ensures rest { IfErr result (λ rest. rest.blocks ≡ kept.blocks) }
+        ensures named_back { IfErr result (λ rest. (h : ℕ → ℕ) → weights_left rest h
+            ≡ weighed_slots h kept.packets.items + weighed_queues h lanes.queues.items + weighed h kept.spares.blocks) }
         ensures same { self.new ≡ self.old }
     {
         let Kept {
@@ -178,7 +189,11 @@ impl Bench {
         ensures alone { self.old.keep ≡ false → self.old.plan.taps ≡ 0 → IfOk result IsAloneWork }
         ensures worked { IfOk result (λ worked. worked.blocks + given_by giver.new ≡ round.blocks
             + given_by giver.old) }
-        ensures rest { IfErr result (λ rest. rest + given_by giver.new ≡ round.blocks + given_by giver.old) }
+        ensures named { IfOk result (λ worked. (h : ℕ → ℕ) → weights_worked worked h + weights_given giver.new h
+            ≡ weights_of round h + weights_given giver.old h) }
+        ensures rest { IfErr result (λ rest. rest.blocks + given_by giver.new ≡ round.blocks + given_by giver.old) }
+        ensures named_back { IfErr result (λ rest. (h : ℕ → ℕ) → weights_left rest h + weights_given giver.new h
+            ≡ weights_of round h + weights_given giver.old h) }
         ensures gave { Lends giver.old giver.new }
         ensures same { self.new ≡ self.old }
     {

@@ -40,6 +40,9 @@
 //!   `work_round` wants memory, all of the round.
 //! - `need`, `taken`, `most`: the blocks that are out are what the packets need, and `taken` rises by at least as many;
 //!   it never falls, however merging ends (`least`).
+//! - `handled` of [`handle_from`]: the rounds that were read stand one behind another in the capture
+//!   (`specs/Reads.antt`), and each was handled in turn up to the one that ended it (`Ran` of `specs/Handled.antt`); so
+//!   whoever says what one round does has it for all. All blocks are home.
 //! - `given` of `merge_all`: what is written, and where it stops, is what the model makes of the capture's bytes
 //!   (`merging` of `offload_model`) with all options, whole rounds alone; a round that exceeds the blocks is told by
 //!   its number and its need. After a fault, or want of memory, it is that of the bytes that are gone, or a prefix of
@@ -52,10 +55,11 @@
 //!   blocks, each counted once, and the giver comes back with an empty list and as many parts of its pass.
 //! - `alone` of [`Bench`]: where there are no taps and no clones are kept, nobody but a round's packets holds a block
 //!   of them once it was worked.
-//! - `given`, `reads`, `paused` of `work_and_read`: where the next round is read beside the work of one, what is said
-//!   of both is the same; the read pauses only between records, and only where blocks of the other round were wanted;
-//!   `given` of `read_rest`: what such a round comes to in the end, over all of its records. That both run at the same
-//!   time isn't proved.
+//! - `given`, `reads`, `waits`, `paused`, `rose` of `work_and_read`: where the next round is read beside the work of
+//!   one, what is said of both is the same; the read pauses only behind the header of a record that needs more blocks
+//!   than are home, and only where a take found no list of them, which `empties` counts; the header is kept. `given` of
+//!   `read_rest`: what such a round comes to in the end, over all of its records. That both run at the same time isn't
+//!   proved.
 //! - `captured` of `merge_all`: the packets that are merged are such as a capture may hold, since each was read into
 //!   fields of 32 bits and into bytes.
 //!
@@ -96,10 +100,12 @@
 //! by number, and all of a round given up at whichever point); `lane_work` (a round over lanes, by
 //! `lanes::work_packets`, with its heads shared where others hold blocks), `lane_home` (what lanes hold, home);
 //! `writing` (what they come to); `intake` (the side that reads: pool and budget); `bench` (the side that works:
-//! places, memory and lanes) and `giving` (spares that go to others); `rounds` (both, in turn) and `ahead` (a round
-//! read beside the work of another, and its rest); `handler` (what is done with a round, for whoever drives them);
-//! `merge` (round by round to the end of a capture); `segment` (the type that segments, record by record) on `cut` (a
-//! record's packets written one by one, its blocks brought home); `memory` (what is kept from round to round).
+//! places, memory and lanes) and `giving` (spares that go to others); `lists` (the pool by which lists of spares come
+//! home while the rest of their round is out, and its end where they are taken); `rounds` (both, in turn) and `ahead`
+//! (a round read beside the work of another, and its rest); `handler` (what is done with a round, for whoever drives
+//! them) and `turns` (rounds one after another, each read and handled); `merge` (the handler that writes a round, and
+//! all rounds of a capture with it); `segment` (the type that segments, record by record) on `cut` (a record's packets
+//! written one by one, its blocks brought home); `memory` (what is kept from round to round).
 //! `specs/Out.antt` says what is out with a round, `specs/Marks.antt` what is its account where others hold blocks of
 //! it, `specs/Fresh.antt` what that is once heads are shared, `specs/Reading.antt` what each end of a round says of the
 //! capture's bytes, `specs/Benches.antt` when blocks may come home, and what is so once they have.
@@ -144,8 +150,9 @@
 //! - **Packets go home from the end of their list**, one by one: what each gave back is swept at once, while the counts
 //!   and marks of its blocks are at hand.
 //! - **A round is ended before a fault of its writing is answered**, so its blocks are home whatever the ending.
-//! - **A step says what it did in the words of the loop**: `Ahead 1` where it goes on, and else an ending behind the
-//!   rounds before (`EndsBehind`). The loop over steps then has three lemmas, one for each clause.
+//! - **There is one loop over rounds in turn** (`handle_from`), over whatever is done with each. Merging is a handler
+//!   that writes a round (`RoundWriter`), and what it comes to is one lemma over the rounds that were read, whoever read
+//!   them (`all_merged`): so the loop knows of no bytes, and a driver with threads has the clauses of `merge_all` too.
 //! - **`Rounds` are two sides**, an intake that reads and has the pool, and a bench that works and has none. Where
 //!   blocks come home is told at each call: in turn it is the intake's pool, beside a shelf that goes back to it. So
 //!   both are lent side by side, as two fields, with no memory and no way back; and a call that takes no pool can't set
@@ -153,14 +160,13 @@
 //! - **The fields are public**, since two parts of one value can't be lent by a call whose invariant speaks of both
 //!   (`AreOne`): that what is out has its places at the bench. Whoever lends them owes it when both are back.
 //! - **Whoever drives rounds one by one reads the next one beside the work** by `work_and_read`: one join, in which the
-//!   intake reads with all blocks that are home while the bench works. No block comes home before both have ended, so
-//!   blocks aren't shared, and taking one costs no locked step. A read that might want blocks of the round beside it
-//!   pauses between two records, by the rule of [`AllHome`]: no header is kept and nothing is half read, and whether a
-//!   round exceeds the blocks is judged by all of them in `read_rest` too. Who can wait within a record has no such
-//!   rule, and asks for what it needs, not for the most that a record may need.
-//! - **What `read_rest` says is over the whole round** (`GivesRest`): of every place and bytes from which the first
-//!   packets were read. So it has the ends of `read_round` with no ghost data in a round, and `read_round` is the case
-//!   of no packets.
+//!   intake reads with all blocks that are home while the bench works. The spares of each queue come home as one list,
+//!   by one step, as soon as its lane was worked; all other blocks come home when both have ended. So taking a block
+//!   costs no locked step, and taking a list one. What a record needs is known once its header was taken, so a read
+//!   pauses there, and by that need: the header is kept, no byte of its body was read, and whether a round exceeds the
+//!   blocks was judged by all of them.
+//! - **What `read_rest` says is over the whole round** (`GivesBehind`): of every place and bytes from which the first
+//!   packets were read, and the header that was kept. So it has the ends of `read_round` with no ghost data in a round.
 //! - **A record is segmented where it lies**: each packet's headers are put together beside it, and its payload goes to
 //!   the sink from the record's own blocks. So no packet takes a block or memory, and the record goes home once, as it
 //!   came, whether all of it was written or the sink failed.
@@ -171,12 +177,14 @@
 mod ahead;
 mod bench;
 mod cut;
+mod frames;
 mod giving;
 mod handler;
 mod home;
 mod intake;
 mod lane_home;
 mod lane_work;
+mod lists;
 mod memory;
 mod merge;
 mod opening;
@@ -186,14 +194,17 @@ mod round;
 mod rounds;
 mod segment;
 mod table;
+mod turns;
 mod worked_parts;
 mod writing;
 
 pub use bench::Bench;
 pub use handler::RoundHandler;
 pub use intake::Intake;
-pub use merge::{MergeEnd, Step};
+pub use lists::{Taker, bring_lists, open_lists};
+pub use merge::{MergeEnd, RoundWriter, Step};
 pub use records::{AllHome, Supply};
-pub use round::{ReadAhead, Round, RoundEnd, RoundRead, Worked};
+pub use round::{Empty, Paused, ReadAhead, Round, RoundEnd, RoundRead, Worked};
 pub use rounds::Rounds;
 pub use segment::{Moved, SegFault, SegmentRun};
+pub use turns::handle_from;

@@ -14,12 +14,16 @@ ghost use Rattle.offload_model.specs.Steps.{round_output};
 ghost use Rattle.gro.specs.Slots.{packet_of};
 ghost use Rattle.rounds.specs.Benches.{options_at, Brings, BringsBeside, IsLent, Lends, MayBring};
 ghost use Rattle.rounds.specs.Lanes.{worked_bytes};
-ghost use Rattle.rounds.specs.Merging.{ending_of, options_of, is_worked, Puts, GivesUp, Steps, IfEnds, TakesAll};
-ghost use Rattle.rounds.specs.Merging.{EndsCaptured, HoldsCaptured, MovesOn};
+ghost use Rattle.rounds.specs.Weights.{weights_of, weights_worked};
+ghost use Rattle.block_pool.specs.PoolState.{weighed};
+ghost use Rattle.rounds.specs.Merging.{ending_of, options_of, is_worked, Puts, GivesUp, IfEnds};
+ghost use Rattle.rounds.specs.Merging.{HoldsCaptured};
 
 use crate::bench::Bench;
+use crate::handler::RoundHandler;
 use crate::round::{Round, RoundEnd, RoundRead, Worked, is_worked};
 use crate::rounds::Rounds;
+use crate::turns::handle_from;
 use block_pool::{Giver, Pool};
 use lanes::Works;
 use off_io::{Failed, Sink, Source, WriteFault};
@@ -103,7 +107,8 @@ impl Bench {
             → Puts (K.held sink.old) (K.held sink.new) bytes end result }
         ensures flushed { IfEnds result (λ end. flushes (ending_of end) ≡ true
             → SaysFlushed (K.held sink.new) (K.is_flushed sink.new) true) }
-        ensures brings { MatchResult worked (λ w. Brings w.blocks self.old self.new home.old home.new)
+        ensures brings { MatchResult worked
+            (λ w. Brings w.blocks (weights_worked w) self.old self.new home.old home.new)
             (λ _. (self.new ≡ self.old) × (home.new ≡ home.old)) }
         ensures later { K.faults sink.old ≤ K.faults sink.new }
         ensures rose { IfEnds result (λ end. end ≡ MergeEnd.WriteFault → Rose (K.faults sink.old) (K.faults sink.new)) }
@@ -135,7 +140,7 @@ impl Bench {
         ensures gives { GivesUp (K.held sink.old) (K.held sink.new) number end result }
         ensures flushed { flushes (ending_of result) ≡ true
             → SaysFlushed (K.held sink.new) (K.is_flushed sink.new) true }
-        ensures brings { Brings round.blocks self.old self.new home.old home.new }
+        ensures brings { Brings round.blocks (weights_of round) self.old self.new home.old home.new }
         ensures later { K.faults sink.old ≤ K.faults sink.new }
         ensures rose { result ≡ MergeEnd.WriteFault → Rose (K.faults sink.old) (K.faults sink.new) }
     {
@@ -175,7 +180,8 @@ impl Bench {
             × GivesUp (K.held sink.old) (K.held sink.new) number read.end end }
         ensures flushed { IfEnds result (λ end. flushes (ending_of end) ≡ true
             → SaysFlushed (K.held sink.new) (K.is_flushed sink.new) true) }
-        ensures brings { BringsBeside read.round.blocks self.old self.new home.old home.new giver.old giver.new }
+        ensures brings { BringsBeside read.round.blocks (weights_of read.round) self.old self.new home.old home.new
+            giver.old giver.new }
         ensures gave { Lends giver.old giver.new }
         ensures later { K.faults sink.old ≤ K.faults sink.new }
         ensures rose { IfEnds result (λ end. end ≡ MergeEnd.WriteFault → Rose (K.faults sink.old) (K.faults sink.new)) }
@@ -186,6 +192,45 @@ impl Bench {
         }
         let worked = self.work_round(works, round, home, giver);
         self.put_round(worked, end, file, sink, home)
+    }
+}
+
+/// Each round is written into a sink, behind this file header.
+#[derive(Drop)]
+pub struct RoundWriter {
+    pub file: FileHead,
+}
+
+impl<K: Sink> RoundHandler<K, MergeEnd> for RoundWriter {
+    ghost use Rattle.std.specs.Prelude.{⊤};
+    ghost use Rattle.rounds.specs.declared.merge.MergeEnd.TheVariants.{NoMemory};
+    ghost use Rattle.rounds.specs.Merged.{PutRound, sink_at};
+
+    ghost ready = { λ options keep n sink. ⊤ };
+
+    ghost did = { λ writer options old new read k end. PutRound options writer.file
+        (sink_at K.held K.is_flushed K.faults old) (sink_at K.held K.is_flushed K.faults new) read k end };
+
+    ghost stopped = { NoMemory };
+
+    fn handle<W: Works>(
+        &self,
+        works: &mut W,
+        bench: &mut Bench,
+        home: &mut Pool,
+        giver: &mut Option<Giver>,
+        read: RoundRead,
+        number: u64,
+        into: &mut K,
+    ) -> Option<MergeEnd> {
+        match bench.put_read(works, read, &self.file, into, number, home, giver) {
+            Step::Goes => None,
+            Step::Ends(end) => Some(end),
+        }
+    }
+
+    fn stop(&self) -> MergeEnd {
+        MergeEnd::NoMemory
     }
 }
 
@@ -207,7 +252,8 @@ impl Rounds {
             × GivesUp (K.held sink.old) (K.held sink.new) number read.end end }
         ensures flushed { IfEnds result (λ end. flushes (ending_of end) ≡ true
             → SaysFlushed (K.held sink.new) (K.is_flushed sink.new) true) }
-        ensures home { self.new ≡ record self.old { home = self.old.home + read.round.blocks } }
+        ensures home { self.new ≡ record self.old { home = self.old.home + read.round.blocks; stock = self.new.stock } }
+        ensures named { (h : ℕ → ℕ) → weighed h self.new.stock ≡ weighed h self.old.stock + weights_of read.round h }
         ensures later { K.faults sink.old ≤ K.faults sink.new }
         ensures rose { IfEnds result (λ end. end ≡ MergeEnd.WriteFault → Rose (K.faults sink.old) (K.faults sink.new)) }
     {
@@ -215,51 +261,6 @@ impl Rounds {
         let bench = &mut self.bench;
         let home = &mut intake.pool;
         bench.put_read(works, read, file, sink, number, home, &mut None)
-    }
-
-    /// Reads the next round, behind `number` others, works it and puts it. Of a round that exceeds the blocks nothing
-    /// is written.
-    pub fn step<W: Works, S: Source, K: Sink>(
-        &mut self,
-        works: &mut W,
-        reader: &mut CaptureReader<'_, S>,
-        file: &FileHead,
-        sink: &mut K,
-        number: u64,
-    ) -> Step
-        requires ready { IsReady (place_of reader.old) }
-        requires link { (place_of reader.old).link ≡ Ethernet }
-        requires file { (place_of reader.old).file ≡ file.now }
-        requires home { self.old.home ≡ self.old.blocks }
-        ensures same_source { SameLoan reader.old reader.new }
-        ensures given { Told (S.left (source_of reader.old)) (S.left (source_of reader.new))
-            (Steps number self.old.blocks (options_of self.old) (place_of reader.old) (place_of reader.new)
-            (K.held sink.old) (K.held sink.new) self.old.taken self.new.taken result) }
-        ensures front { IfEnds result (λ _. FrontUnless
-            (Rose (S.faults (source_of reader.old)) (S.faults (source_of reader.new)))
-            (merging self.old.blocks (options_of self.old) (place_of reader.old)) (S.left (source_of reader.old))
-            (S.left (source_of reader.new)) (K.held sink.old) (K.held sink.new)) }
-        ensures moves { result ≡ Step.Goes → MovesOn (place_of reader.old) (place_of reader.new) }
-        ensures flushed { IfEnds result (λ end. flushes (ending_of end) ≡ true
-            → SaysFlushed (K.held sink.new) (K.is_flushed sink.new) true) }
-        ensures home { self.new.home ≡ self.new.blocks }
-        ensures same { (self.new.blocks ≡ self.old.blocks) × (options_of self.new ≡ options_of self.old)
-            × (self.new.keep ≡ self.old.keep) }
-        ensures taken { IfEnds result (λ end. end ≡ MergeEnd.Done
-            → Told (S.left (source_of reader.old)) (S.left (source_of reader.new))
-            (TakesAll self.old.taken self.new.taken (place_of reader.old))) }
-        ensures least { self.old.taken ≤ self.new.taken }
-        ensures captured { IfEnds result (λ end. Told (S.left (source_of reader.old)) (S.left (source_of reader.new))
-            (EndsCaptured number (place_of reader.old) end)) }
-        ensures later { S.faults (source_of reader.old) ≤ S.faults (source_of reader.new) }
-        ensures later_sink { K.faults sink.old ≤ K.faults sink.new }
-        ensures read { IfEnds result (λ end. end ≡ MergeEnd.ReadFault
-            → Rose (S.faults (source_of reader.old)) (S.faults (source_of reader.new))) }
-        ensures write { IfEnds result (λ end. end ≡ MergeEnd.WriteFault
-            → Rose (K.faults sink.old) (K.faults sink.new)) }
-    {
-        let read = self.read_round(reader);
-        self.put_read(works, read, file, sink, number)
     }
 
     /// Merges the records of a capture, round by round, up to its end: each round is read, worked, written and ended.
@@ -290,6 +291,7 @@ impl Rounds {
         ensures flushed { flushes (ending_of result) ≡ true
             → SaysFlushed (K.held sink.new) (K.is_flushed sink.new) true }
         ensures home { self.new.home ≡ self.new.blocks }
+        ensures named { (h : ℕ → ℕ) → weighed h self.new.stock ≡ weighed h self.old.stock }
         ensures same { (self.new.blocks ≡ self.old.blocks) × (options_of self.new ≡ options_of self.old)
             × (self.new.keep ≡ self.old.keep) }
         ensures taken { result ≡ MergeEnd.Done → Told (S.left (source_of reader.old)) (S.left (source_of reader.new))
@@ -304,12 +306,6 @@ impl Rounds {
             (S.faults (source_of reader.new)) }
         ensures write { result ≡ MergeEnd.WriteFault → Rose (K.faults sink.old) (K.faults sink.new) }
     {
-        let mut number = 0;
-        'rounds: loop {
-            match self.step(works, reader, file, sink, number) {
-                Step::Goes => number += 1,
-                Step::Ends(end) => return end,
-            }
-        }
+        handle_from(works, self, reader, &RoundWriter { file: *file }, sink, 0)
     }
 }

@@ -1,27 +1,31 @@
 //! Reads the records of a round.
-ghost use Rattle.std.specs.Prelude.{◌≡◌, ◌≢◌, ◌+◌, ◌-◌, ◌*◌, ◌<◌, ◌≤◌, ◌^◌, [], length, map, min};
+ghost use Rattle.std.specs.Prelude.{◌≡◌, ◌≢◌, ℕ, ◌+◌, ◌-◌, ◌*◌, ◌<◌, ◌≤◌, ◌^◌, [], true, length, map, min};
 ghost use Rattle.std.specs.List.{AllByRecursion};
 ghost use Rattle.std.specs.VecDeque.{deque_capacity};
-ghost use Rattle.block_pool.specs.PoolState.{home};
+ghost use Rattle.block_pool.specs.PoolState.{home, weighed};
 ghost use Rattle.off_io.specs.Faults.{Rose};
 ghost use Rattle.off_io.specs.Told.{Told};
 ghost use Rattle.pcap_io.specs.declared.heads.Link.TheVariants.{Ethernet};
+ghost use Rattle.pcap_io.specs.declared.place.Place.{Place};
 ghost use Rattle.pcap_io.specs.Places.{IsReady};
 ghost use Rattle.pcap_io.specs.Readers.{place_of, source_of, SameLoan};
-ghost use Rattle.offload_model.specs.Need.{round_need};
+ghost use Rattle.offload_model.specs.Need.{need_of, round_need};
 ghost use Rattle.offload_model.specs.Captured.{IsCaptured};
-ghost use Rattle.gro.specs.Slots.{packet_of, counts_of};
+ghost use Rattle.gro.specs.Slots.{packet_of, counts_of, weighed_slots};
 ghost use Rattle.records.specs.Laid.{AreRead, LaidFrom};
+ghost use Rattle.records.specs.Reading.{KeepsHead};
+ghost use Rattle.rounds.specs.Ahead.{GivesBehind};
 ghost use Rattle.rounds.specs.Fresh.{NumberedFrom};
-ghost use Rattle.rounds.specs.Reading.{FillsRound, GivesMore, GivesRound, GoesOver, NumbersOn, PassesRound};
+ghost use Rattle.rounds.specs.Reading.{FillsRound, GivesRest, GivesRound, NumbersOn, PassesRound, WaitsOver};
+ghost use Rattle.rounds.specs.Reading.{IfEnded, IfLacking, IsHaltOf};
 
 use crate::round::{RoundEnd, end_of};
 use block_pool::Pool;
 use gro::Packets;
 use off_io::Source;
-use pcap_io::CaptureReader;
+use pcap_io::{CaptureReader, RecHead};
 use raw_block::Sole;
-use records::{Supply, read_record};
+use records::{AllHome, Stop, Supply, finish_record, read_record};
 use std::alloc::Global;
 use std::collections::VecDeque;
 
@@ -30,13 +34,22 @@ use std::collections::VecDeque;
 pub(crate) enum Halt {
     /// It has no more, for this.
     Ended(RoundEnd),
-    /// Before the next record blocks are wanted that are out and not its own.
-    Lacking,
+    /// Blocks that its next record needs aren't home. The header of this one was taken.
+    Lacking(RecHead),
+}
+
+fn halt_of(stop: Stop) -> Halt
+    ensures halt { IsHaltOf stop result }
+{
+    match stop {
+        Stop::Lacking { head } => Halt::Lacking(head),
+        _ => Halt::Ended(end_of(stop)),
+    }
 }
 
 /// Reads on behind the packets that a round has already, with `used` blocks, until there are `budget` of them, or no
-/// more: the blocks that they then have, and why. `Lacking` where the next record may not be begun; blocks that are
-/// wanted within one are brought, and where they don't come it is the end for want of memory.
+/// more: the blocks that they then have, and why. Blocks that a record needs are brought once its header was taken;
+/// where they don't come that is `Lacking`.
 pub(crate) fn read_more<S: Source, H: Supply>(
     alloc: Global,
     pool: &mut Pool,
@@ -64,16 +77,20 @@ pub(crate) fn read_more<S: Source, H: Supply>(
     requires need { used ≡ round_need (map packet_of packets.old.items) }
     requires within { used ≤ pool.old.made }
     ensures same_source { SameLoan reader.old reader.new }
-    ensures given { Told (S.left (source_of reader.old)) (S.left (source_of reader.new))
-        (GivesMore pool.old.made (place_of reader.old) (place_of reader.new) packets.old.items packets.new.items
-        result.1) }
+    ensures given { IfEnded result.1 (λ end. Told (S.left (source_of reader.old)) (S.left (source_of reader.new))
+        (GivesRest pool.old.made (place_of reader.old) (place_of reader.new) packets.old.items packets.new.items
+        end)) }
     ensures size { length packets.new.items ≤ budget }
     ensures fewer { result.1 ≢ Halt.Ended RoundEnd.Full → length packets.new.items < budget }
     ensures full { result.1 ≡ Halt.Ended RoundEnd.Full → FillsRound (place_of reader.old)
         (place_of reader.new) packets.old.items packets.new.items budget }
-    ensures lacking { result.1 ≡ Halt.Lacking → GoesOver (place_of reader.old)
-        (place_of reader.new) packets.old.items packets.new.items }
-    ensures wanted { result.1 ≡ Halt.Lacking → (home pool.new < 131) × (home pool.new + result.0 < pool.old.made) }
+    ensures lacking { IfLacking result.1 (WaitsOver (place_of reader.old) (place_of reader.new)
+        (S.left (source_of reader.old)) (S.left (source_of reader.new)) packets.old.items packets.new.items) }
+    ensures wanted { IfLacking result.1 (λ head. (home pool.new < need_of head.captured)
+        × (result.0 + need_of head.captured ≤ pool.old.made)) }
+    ensures refused { H.counts ≡ true → IfLacking result.1 (λ _.
+        min (H.refusals more.old + 1) (2 ^ 64 - 1) ≤ H.refusals more.new) }
+    ensures asked { H.refusals more.old ≤ H.refusals more.new }
     ensures laid { LaidFrom 0 packets.new.items }
     ensures count { counts_of packets.new.items + home spares.new ≡ result.0 }
     ensures pairs { home spares.new ≡ 2 * length packets.new.items }
@@ -82,23 +99,25 @@ pub(crate) fn read_more<S: Source, H: Supply>(
     ensures numbers { NumbersOn (place_of reader.old).number packets.old.items packets.new.items }
     ensures need { result.0 ≡ round_need (map packet_of packets.new.items) }
     ensures sum { home pool.new + result.0 + H.brought more.old ≡ home pool.old + used + H.brought more.new }
+    ensures named { (h : ℕ → ℕ) → weighed h pool.new.blocks + weighed_slots h packets.new.items
+        + weighed h spares.new.blocks + H.weights more.old h ≡ weighed h pool.old.blocks
+        + weighed_slots h packets.old.items + weighed h spares.old.blocks + H.weights more.new h }
     ensures within { result.0 ≤ pool.old.made }
     ensures made { pool.new.made ≡ pool.old.made }
     ensures taken { min (pool.old.taken + (result.0 - used)) (2 ^ 64 - 1) ≤ pool.new.taken }
     ensures least { (used ≤ result.0) × (pool.old.taken ≤ pool.new.taken) }
     ensures most { pool.new.taken + used ≤ pool.old.taken + pool.old.made }
-    ensures so_far { result.1 ≡ Halt.Lacking → pool.new.taken + used ≤ pool.old.taken + result.0 }
+    ensures so_far { IfLacking result.1 (λ _.
+        pool.new.taken ≡ min (pool.old.taken + (result.0 - used)) (2 ^ 64 - 1)) }
     ensures empty { hold.new.items ≡ [] }
     ensures capacity { deque_capacity hold.new ≡ deque_capacity hold.old }
     ensures later { S.faults (source_of reader.old) ≤ S.faults (source_of reader.new) }
     ensures failed { result.1 ≡ Halt.Ended RoundEnd.ReadFault
         → Rose (S.faults (source_of reader.old)) (S.faults (source_of reader.new)) }
 {
+    let _ = pool.taken();
     let mut used = used;
     'reading: while packets.len() < budget {
-        if !more.may_begin(pool, used) {
-            return (used, Halt::Lacking);
-        }
         let mark = used - spares.home();
         match read_record(
             alloc,
@@ -113,10 +132,88 @@ pub(crate) fn read_more<S: Source, H: Supply>(
             packets,
         ) {
             Ok((_, count)) => used += count,
-            Err(stop) => return (used, Halt::Ended(end_of(stop))),
+            Err(stop) => return (used, halt_of(stop)),
         }
     }
     (used, Halt::Ended(RoundEnd::Full))
+}
+
+/// The same behind a record whose header was kept, while no block comes home: its body is read first. All blocks but
+/// the round's own are home, so no record lacks any.
+pub(crate) fn read_behind<S: Source>(
+    alloc: Global,
+    pool: &mut Pool,
+    hold: &mut VecDeque<Sole>,
+    reader: &mut CaptureReader<'_, S>,
+    head: &RecHead,
+    budget: usize,
+    packets: &mut Packets,
+    spares: &mut Pool,
+    used: u32,
+) -> (u32, RoundEnd)
+    requires kept { (at : Place) × KeepsHead at (place_of reader.old) head.now }
+    requires link { (place_of reader.old).link ≡ Ethernet }
+    requires out { home pool.old + used ≡ pool.old.made }
+    requires fits { used + need_of head.now.captured ≤ pool.old.made }
+    requires empty { hold.old.items ≡ [] }
+    requires capacity { 131 ≤ deque_capacity hold.old }
+    requires made { pool.old.made ≤ 65536 }
+    requires size { length packets.old.items < budget }
+    requires reserved { budget ≤ length packets.old.items + packets.old.room }
+    requires room { 2 * budget ≤ spares.old.made }
+    requires pairs { home spares.old ≡ 2 * length packets.old.items }
+    requires laid { LaidFrom 0 packets.old.items }
+    requires count { counts_of packets.old.items + home spares.old ≡ used }
+    requires read { AreRead packets.old.items }
+    requires captured { AllByRecursion IsCaptured (map packet_of packets.old.items) }
+    requires need { used ≡ round_need (map packet_of packets.old.items) }
+    ensures same_source { SameLoan reader.old reader.new }
+    ensures given { (at : Place) → KeepsHead at (place_of reader.old) head.now
+        → Told (S.left (source_of reader.old)) (S.left (source_of reader.new)) (GivesBehind pool.old.made at
+        (place_of reader.new) head.now packets.old.items packets.new.items result.1) }
+    ensures size { length packets.new.items ≤ budget }
+    ensures fewer { result.1 ≢ RoundEnd.Full → length packets.new.items < budget }
+    ensures full { result.1 ≡ RoundEnd.Full → (at : Place) → KeepsHead at (place_of reader.old) head.now
+        → FillsRound at (place_of reader.new) packets.old.items packets.new.items budget }
+    ensures laid { LaidFrom 0 packets.new.items }
+    ensures count { counts_of packets.new.items + home spares.new ≡ result.0 }
+    ensures pairs { home spares.new ≡ 2 * length packets.new.items }
+    ensures read { AreRead packets.new.items }
+    ensures captured { AllByRecursion IsCaptured (map packet_of packets.new.items) }
+    ensures numbers { (at : Place) → KeepsHead at (place_of reader.old) head.now
+        → NumbersOn at.number packets.old.items packets.new.items }
+    ensures need { result.0 ≡ round_need (map packet_of packets.new.items) }
+    ensures home { home pool.new + result.0 ≡ pool.old.made }
+    ensures named { (h : ℕ → ℕ) → weighed h pool.new.blocks + weighed_slots h packets.new.items
+        + weighed h spares.new.blocks ≡ weighed h pool.old.blocks
+        + weighed_slots h packets.old.items + weighed h spares.old.blocks }
+    ensures made { pool.new.made ≡ pool.old.made }
+    ensures taken { min (pool.old.taken + (result.0 - used)) (2 ^ 64 - 1) ≤ pool.new.taken }
+    ensures least { (used ≤ result.0) × (pool.old.taken ≤ pool.new.taken) }
+    ensures most { pool.new.taken + used ≤ pool.old.taken + pool.old.made }
+    ensures empty { hold.new.items ≡ [] }
+    ensures capacity { deque_capacity hold.new ≡ deque_capacity hold.old }
+    ensures later { S.faults (source_of reader.old) ≤ S.faults (source_of reader.new) }
+    ensures failed { result.1 ≡ RoundEnd.ReadFault
+        → Rose (S.faults (source_of reader.old)) (S.faults (source_of reader.new)) }
+{
+    let mark = used - spares.home();
+    let front = &mut [];
+    let count = match finish_record(
+        alloc, pool, hold, spares, reader, front, head, mark, packets,
+    ) {
+        Ok(count) => count,
+        Err(stop) => return (used, end_of(stop)),
+    };
+    let used = used + count;
+    let more = &mut AllHome;
+    let (blocks, halt) = read_more(
+        alloc, pool, hold, reader, more, budget, packets, spares, used,
+    );
+    match halt {
+        Halt::Ended(end) => (blocks, end),
+        Halt::Lacking(_) => unreachable!(),
+    }
 }
 
 /// Reads the records of a round, up to `budget` of them: the blocks that they have, and why there are no more.
@@ -154,6 +251,8 @@ pub(crate) fn read_records<S: Source, H: Supply>(
     ensures numbers { NumberedFrom (place_of reader.old).number packets.new.items }
     ensures need { result.0 ≡ round_need (map packet_of packets.new.items) }
     ensures sum { home pool.new + result.0 + H.brought more.old ≡ home pool.old + H.brought more.new }
+    ensures named { (h : ℕ → ℕ) → weighed h pool.new.blocks + weighed_slots h packets.new.items
+        + weighed h spares.new.blocks + H.weights more.old h ≡ weighed h pool.old.blocks + H.weights more.new h }
     ensures within { result.0 ≤ pool.old.made }
     ensures made { pool.new.made ≡ pool.old.made }
     ensures taken { min (pool.old.taken + result.0) (2 ^ 64 - 1) ≤ pool.new.taken }
@@ -168,6 +267,6 @@ pub(crate) fn read_records<S: Source, H: Supply>(
     let (blocks, halt) = read_more(alloc, pool, hold, reader, more, budget, packets, spares, 0);
     match halt {
         Halt::Ended(end) => (blocks, end),
-        Halt::Lacking => (blocks, RoundEnd::NoMemory),
+        Halt::Lacking(_) => (blocks, RoundEnd::NoMemory),
     }
 }

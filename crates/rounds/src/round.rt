@@ -1,13 +1,14 @@
 //! The records of a round, and what they come to.
 ghost use Rattle.std.specs.Prelude.{◌≡◌, ◌≤◌, ◌*◌, [], IfOk};
 ghost use Rattle.block_pool.specs.PoolState.{home};
+ghost use Rattle.records.specs.Reading.{IfLacking};
 ghost use Rattle.rounds.specs.Merging.{is_worked as is_worked_end};
 ghost use Rattle.rounds.specs.Reading.{IsEndOf};
 
 use block_pool::Pool;
 use gro::Packets;
 use lanes::Lanes;
-use pcap_io::CapFault;
+use pcap_io::{CapFault, RecHead};
 use records::Stop;
 use std::alloc::{AllocError, Global};
 use std::marker::Model;
@@ -75,7 +76,7 @@ impl Model for Round {
 
     ghost Value = { RoundState };
 
-    ghost view = { λ r. record { packets = r.packets.items; blocks = r.blocks } };
+    ghost view = { λ r. record { packets = r.packets.items; spares = r.spares.blocks; blocks = r.blocks } };
 
     ghost invariant = { λ r. LaidFrom 0 r.packets.items × AreRead r.packets.items
         × (counts_of r.packets.items + home r.spares ≡ r.blocks) × (home r.spares ≡ 2 * length r.packets.items)
@@ -116,7 +117,7 @@ impl Model for Worked {
 
     ghost Value = { WorkedState };
 
-    ghost view = { λ w. record { lanes = w.lanes; kept = w.kept.items; blocks = w.blocks } };
+    ghost view = { λ w. record { lanes = w.lanes; kept = w.kept.items; spares = w.spares.blocks; blocks = w.blocks } };
 
     ghost invariant = { λ w. (home w.spares ≤ w.blocks)
         × IsOut w.shared (w.blocks - home w.spares) [] w.lanes w.kept.items × IsSmallWork w.lanes };
@@ -134,14 +135,19 @@ pub(crate) struct Rest {
 }
 
 impl Model for Rest {
-    ghost use Rattle.std.specs.Prelude.{ℕ, ◌-◌, ◌≤◌};
+    ghost use Rattle.std.specs.Prelude.{◌-◌, ◌≤◌};
     ghost use Rattle.block_pool.specs.PoolState.{home};
     ghost use Rattle.rounds.specs.Out.{IsOut};
+    ghost use Rattle.rounds.specs.RoundsState.{RestState};
 
-    // How many blocks are out with it.
-    ghost Value = { ℕ };
+    ghost Value = { RestState };
 
-    ghost view = { λ r. r.blocks };
+    ghost view = { λ r. record {
+      packets = r.packets.items;
+      lanes = r.lanes;
+      spares = r.spares.blocks;
+      blocks = r.blocks;
+    } };
 
     ghost invariant = { λ r. (home r.spares ≤ r.blocks)
         × IsOut r.shared (r.blocks - home r.spares) r.packets.items r.lanes r.kept.items };
@@ -167,12 +173,58 @@ pub struct RoundRead {
     pub end: RoundEnd,
 }
 
+/// Why a read beside work was paused: a take found no list of blocks.
+#[derive(Clone, Copy, Debug, PartialEq, Eq)]
+pub struct Empty {
+    pub(crate) takes: u64,
+}
+
+impl Empty {
+    /// The blocks that the read had taken by then.
+    pub fn takes(&self) -> u64
+        ensures takes { result ≡ self.now.takes }
+    {
+        self.takes
+    }
+}
+
+/// A round that goes on: its records so far, and the header of the next one, whose blocks weren't home. It must be
+/// spent: [`Rounds::read_rest`](crate::Rounds::read_rest) goes on behind that header.
+pub struct Paused {
+    pub round: Round,
+    pub(crate) head: RecHead,
+    pub empty: Empty,
+}
+
+impl Paused {
+    /// Its records so far, of which no more are read.
+    pub fn into_round(self) -> Round
+        ensures same { result ≡ self.round }
+    {
+        let Paused {
+            round,
+            head: _,
+            empty: _,
+        } = self;
+        round
+    }
+
+    /// Gives the round up outside its rounds, as [`Round::discard`].
+    pub fn discard(self) {
+        let Paused {
+            round,
+            head: _,
+            empty: _,
+        } = self;
+        round.discard();
+    }
+}
+
 /// What was read beside the work of another round.
 pub enum ReadAhead {
     Read(RoundRead),
-    /// Blocks of the other round were wanted. The reader stands behind the last record of this one, and
-    /// [`Rounds::read_rest`](crate::Rounds::read_rest) goes on.
-    Paused(Round),
+    /// Blocks were wanted that weren't home, and no list of them was found.
+    Paused(Paused),
 }
 
 /// Whether a round that ended so is worked: there was memory for it, and it doesn't exceed the blocks.
@@ -187,7 +239,7 @@ pub(crate) fn is_worked(end: RoundEnd) -> bool
 
 /// A round of no records, for want of memory.
 pub(crate) fn no_round(alloc: Global) -> RoundRead
-    ensures none { (result.round.packets ≡ []) × (result.round.blocks ≡ 0) }
+    ensures none { (result.round.packets ≡ []) × (result.round.spares ≡ []) × (result.round.blocks ≡ 0) }
     ensures end { result.end ≡ RoundEnd.NoMemory }
 {
     RoundRead {
@@ -201,6 +253,7 @@ pub(crate) fn no_round(alloc: Global) -> RoundRead
 }
 
 pub(crate) fn end_of(stop: Stop) -> RoundEnd
+    requires begun { IfLacking stop (λ _. ⊥) }
     ensures end { IsEndOf stop result }
 {
     match stop {
@@ -209,5 +262,6 @@ pub(crate) fn end_of(stop: Stop) -> RoundEnd
         Stop::PoolEmpty { need } => RoundEnd::PoolEmpty { need },
         Stop::ReadFault => RoundEnd::ReadFault,
         Stop::NoMemory => RoundEnd::NoMemory,
+        Stop::Lacking { head: _ } => unreachable!(),
     }
 }

@@ -3,6 +3,7 @@ ghost use Rattle.std.specs.Prelude.{◌≡◌, ◌≢◌, ◌+◌, ◌-◌, ◌<
 ghost use Rattle.std.specs.Prelude.{ℕ, OnErr};
 ghost use Rattle.std.specs.List.{AllByRecursion};
 ghost use Rattle.std.specs.Io.KnownBytes.{Appends};
+ghost use Rattle.block_pool.specs.PoolState.{weighed};
 ghost use Rattle.off_io.specs.Content.{AppendsFront};
 ghost use Rattle.off_io.specs.Faults.{HasCause, Rose};
 ghost use Rattle.off_io.specs.Told.{Told};
@@ -20,6 +21,7 @@ ghost use Rattle.rounds.specs.Fresh.{NumberedFrom};
 ghost use Rattle.rounds.specs.Lanes.{worked_bytes, worked_records, IsKeptWorkOf};
 ghost use Rattle.rounds.specs.Merging.{options_of};
 ghost use Rattle.rounds.specs.Reading.{GivesRound, PassesRound};
+ghost use Rattle.rounds.specs.Weights.{weights_of, weights_worked};
 
 use crate::bench::Bench;
 use crate::handler::RoundHandler;
@@ -50,8 +52,10 @@ impl Model for Rounds {
 
     ghost view = { λ r. record {
       home = r.intake.home;
+      stock = r.intake.stock;
       blocks = r.intake.blocks;
       taken = r.intake.taken;
+      empties = r.intake.empties;
       budget = r.bench.budget;
       plan = r.bench.plan;
       keep = r.bench.keep;
@@ -77,12 +81,15 @@ impl Rounds {
         requires plan { IsPlan plan }
         ensures made { IfOk result (λ rounds. rounds ≡ record {
           home = blocks;
+          stock = rounds.stock;
           blocks = blocks;
           taken = 0;
+          empties = 0;
           budget = budget;
           plan = plan;
           keep = keep;
         }) }
+        ensures stock { IfOk result (λ rounds. length rounds.stock ≡ blocks) }
     {
         let intake = Intake::make(alloc, blocks, budget)?;
         let bench = Bench::make(alloc, blocks, budget, plan, keep)?;
@@ -92,6 +99,7 @@ impl Rounds {
     /// The blocks that are home.
     pub fn home(&self) -> u32
         ensures home { result ≡ self.now.home }
+        ensures stock { result ≡ length self.now.stock }
         ensures within { result ≤ self.now.blocks }
     {
         self.intake.home()
@@ -102,6 +110,14 @@ impl Rounds {
         ensures value { result ≡ self.now.taken }
     {
         self.intake.taken()
+    }
+
+    /// How often a take found no list of blocks while a round was read beside the work of another: each time that a
+    /// read was paused, at least. It stays at `2^64 - 1`.
+    pub fn empties(&self) -> u64
+        ensures value { result ≡ self.now.empties }
+    {
+        self.intake.empties()
     }
 
     /// The blocks that were made.
@@ -139,6 +155,7 @@ impl Rounds {
         ensures numbers { NumberedFrom (place_of reader.old).number result.round.packets }
         ensures need { result.round.blocks ≡ round_need (map packet_of result.round.packets) }
         ensures home { self.new.home + result.round.blocks ≡ self.old.blocks }
+        ensures named { (h : ℕ → ℕ) → weighed h self.new.stock + weights_of result.round h ≡ weighed h self.old.stock }
         ensures same { (self.new.blocks ≡ self.old.blocks) × (options_of self.new ≡ options_of self.old)
             × (self.new.keep ≡ self.old.keep) }
         ensures budget { (1 ≤ self.old.budget) × (self.old.budget ≤ 4096) }
@@ -170,7 +187,11 @@ impl Rounds {
         ensures merged { IfOk result (λ worked. All IsMerged worked.lanes.queues.items) }
         ensures worked { IfOk result (λ worked. worked.blocks ≡ round.blocks) }
         ensures same { OnOk result (self.new ≡ self.old) }
-        ensures home { OnErr result (self.new ≡ record self.old { home = self.old.home + round.blocks }) }
+        ensures out { IfOk result (λ worked. (h : ℕ → ℕ) → weights_worked worked h ≡ weights_of round h) }
+        ensures home { OnErr result (self.new
+            ≡ record self.old { home = self.old.home + round.blocks; stock = self.new.stock }) }
+        ensures named { OnErr result ((h : ℕ → ℕ) → weighed h self.new.stock
+            ≡ weighed h self.old.stock + weights_of round h) }
     {
         let intake = &mut self.intake;
         let bench = &mut self.bench;
@@ -199,7 +220,8 @@ impl Rounds {
     /// Gives a round up. Its blocks go home, all of them.
     pub fn drop_round(&mut self, round: Round)
         requires out { self.old.home + round.blocks ≤ self.old.blocks }
-        ensures home { self.new ≡ record self.old { home = self.old.home + round.blocks } }
+        ensures home { self.new ≡ record self.old { home = self.old.home + round.blocks; stock = self.new.stock } }
+        ensures named { (h : ℕ → ℕ) → weighed h self.new.stock ≡ weighed h self.old.stock + weights_of round h }
     {
         let intake = &mut self.intake;
         let bench = &mut self.bench;
@@ -209,7 +231,8 @@ impl Rounds {
     /// Ends a round that was worked. Its blocks go home, all of them.
     pub fn end_round(&mut self, worked: Worked)
         requires out { self.old.home + worked.blocks ≤ self.old.blocks }
-        ensures home { self.new ≡ record self.old { home = self.old.home + worked.blocks } }
+        ensures home { self.new ≡ record self.old { home = self.old.home + worked.blocks; stock = self.new.stock } }
+        ensures named { (h : ℕ → ℕ) → weighed h self.new.stock ≡ weighed h self.old.stock + weights_worked worked h }
     {
         let intake = &mut self.intake;
         let bench = &mut self.bench;
@@ -232,7 +255,8 @@ impl Rounds {
         ensures full { result ≡ None → read.end ≡ RoundEnd.Full }
         ensures ready { (n : ℕ) → H.ready (options_of self.old) self.old.keep n into.old
             → H.ready (options_of self.old) self.old.keep (n + length read.round.packets) into.new }
-        ensures home { self.new ≡ record self.old { home = self.old.home + read.round.blocks } }
+        ensures home { self.new ≡ record self.old { home = self.old.home + read.round.blocks; stock = self.new.stock } }
+        ensures named { (h : ℕ → ℕ) → weighed h self.new.stock ≡ weighed h self.old.stock + weights_of read.round h }
     {
         let intake = &mut self.intake;
         let bench = &mut self.bench;

@@ -1,12 +1,14 @@
 //! Segments the records of an offload capture, each a round of its own.
 ghost use Rattle.std.specs.Prelude.{◌≡◌, ◌+◌, ◌-◌, ◌*◌, ◌<◌, ◌≤◌, ◌^◌, [], ◌∷◌, length, min, IfOk, Ok, Err};
+ghost use Rattle.std.specs.Prelude.{ℕ};
 ghost use Rattle.std.specs.List.{flat_map};
+ghost use Rattle.block_pool.specs.PoolState.{weighed};
 ghost use Rattle.off_io.specs.Faults.{Rose};
 ghost use Rattle.off_io.specs.Told.{Told};
 ghost use Rattle.pcap_io.specs.declared.heads.Link.TheVariants.{Offload};
 ghost use Rattle.pcap_io.specs.Places.{IsReady, found_at};
 ghost use Rattle.pcap_io.specs.Readers.{place_of, source_of, SameLoan};
-ghost use Rattle.records.specs.Reading.{GoesOn};
+ghost use Rattle.records.specs.Reading.{GoesOn, IfLacking};
 ghost use Rattle.rounds.specs.Segmenting.{IsFaultOf, IsMovedOf, Moves, TakesOne};
 
 use crate::cut::{Refused, cut_record};
@@ -68,7 +70,12 @@ impl Model for SegmentRun {
 
     ghost Value = { SegmentState };
 
-    ghost view = { λ r. record { home = home_of r.pool; blocks = r.pool.made; taken = r.pool.taken } };
+    ghost view = { λ r. record {
+      home = home_of r.pool;
+      stock = r.pool.blocks;
+      blocks = r.pool.made;
+      taken = r.pool.taken;
+    } };
 
     ghost invariant = { λ r. (r.pool.made ≤ 65536) × (r.hold.items ≡ []) × (131 ≤ deque_capacity r.hold)
         × (home_of r.spares ≡ 0) × (2 ≤ r.spares.made) × (r.packets.items ≡ []) × (1 ≤ r.packets.room)
@@ -90,8 +97,9 @@ impl Drop for SegmentRun {
     }
 }
 
-// What no record to segment comes to.
+// What no record to segment comes to. All blocks are home, so it lacks none.
 fn stopped(stop: Stop) -> Result<Moved, SegFault>
+    requires begun { IfLacking stop (λ _. ⊥) }
     ensures moved { IsMovedOf stop result }
 {
     match stop {
@@ -100,6 +108,7 @@ fn stopped(stop: Stop) -> Result<Moved, SegFault>
         Stop::PoolEmpty { need } => Err(SegFault::PoolEmpty { need }),
         Stop::ReadFault => Err(SegFault::ReadFault),
         Stop::NoMemory => Err(SegFault::NoMemory),
+        Stop::Lacking { head: _ } => unreachable!(),
     }
 }
 
@@ -134,7 +143,9 @@ impl SegmentRun {
     /// A pool of `blocks` blocks. All memory for blocks is taken here.
     pub fn make(alloc: Global, blocks: u32) -> Result<SegmentRun, AllocError>
         requires blocks { (1 ≤ blocks) × (blocks ≤ 65536) }
-        ensures made { IfOk result (λ run. run ≡ record { home = blocks; blocks = blocks; taken = 0 }) }
+        ensures made { IfOk result (λ run. run
+            ≡ record { home = blocks; stock = run.stock; blocks = blocks; taken = 0 }) }
+        ensures stock { IfOk result (λ run. length run.stock ≡ blocks) }
     {
         let hold = VecDeque::with_capacity(alloc, RECORD_BLOCKS)?;
         let pool = Pool::make(alloc, blocks)?;
@@ -153,6 +164,7 @@ impl SegmentRun {
     /// The blocks that are home: between two calls of `next` all of them.
     pub fn home(&self) -> u32
         ensures home { result ≡ self.now.home }
+        ensures stock { result ≡ length self.now.stock }
         ensures within { result ≤ self.now.blocks }
     {
         self.pool.home()
@@ -185,6 +197,7 @@ impl SegmentRun {
             (K.held sink.new) result) }
         ensures next { result ≡ Ok Moved.One → GoesOn (place_of reader.old) (place_of reader.new) }
         ensures home { self.new.home ≡ self.new.blocks }
+        ensures named { (h : ℕ → ℕ) → weighed h self.new.stock ≡ weighed h self.old.stock }
         ensures same { self.new.blocks ≡ self.old.blocks }
         ensures taken { result ≡ Ok Moved.One → Told (S.left (source_of reader.old)) (S.left (source_of reader.new))
             (TakesOne self.old.taken self.new.taken (place_of reader.old) (place_of reader.new)) }

@@ -1,12 +1,12 @@
 //! What came back of a round's blocks, by their marks.
-ghost use Rattle.std.specs.Prelude.{◌≡◌, ◌+◌, ◌<◌, ◌≤◌, [], length};
-ghost use Rattle.block_pool.specs.PoolState.{home};
+ghost use Rattle.std.specs.Prelude.{◌≡◌, ℕ, ◌+◌, ◌<◌, ◌≤◌, [], length};
+ghost use Rattle.block_pool.specs.PoolState.{home, weighed};
 ghost use Rattle.frags.specs.Account.{both, of_sole, of_receipt, of_outcomes};
 ghost use Rattle.frags.specs.RoundAccount.{Settles};
-ghost use Rattle.rounds.specs.Marks.{IsMarked, nothing};
+ghost use Rattle.rounds.specs.Marks.{IsMarked, IsNamed, nothing};
 ghost use Rattle.frags.specs.OutcomesState.{IsBare};
 ghost use Rattle.rounds.specs.Table.{place_at, place_missing, of_places, AreOwed, AllHome, AllOpen, missing, IsOfLife};
-ghost use Rattle.rounds.specs.Table.{Receives, MayCome, Comes};
+ghost use Rattle.rounds.specs.Table.{Receives, MayCome, Comes, missing_weight, place_weight, weighed_at_end};
 
 use block_pool::Pool;
 use core::mem::{replace, replace_with};
@@ -29,6 +29,8 @@ fn bring(pool: &mut Pool, place: &mut Place, sole: Sole)
     requires room { home pool.old + place_missing place.old ≤ pool.old.made }
     ensures place { place.new ≡ Place.Home }
     ensures home { home pool.new ≡ home pool.old + place_missing place.old }
+    ensures named { (h : ℕ → ℕ) → weighed h pool.new.blocks ≡ weighed h pool.old.blocks
+        + place_weight (h sole.block) place.old }
     ensures made { (pool.new.made ≡ pool.old.made) × (pool.new.taken ≡ pool.old.taken) }
 {
     match replace(place, Place::Home) {
@@ -74,6 +76,8 @@ fn bring_one(pool: &mut Pool, places: &mut [Place], sole: Sole)
     requires room { home pool.old + missing places.old ≤ pool.old.made }
     ensures settles { Settles (length places.old) (both (of_places places.old) (of_sole sole)) (of_places places.new) }
     ensures count { home pool.new + missing places.new ≡ home pool.old + missing places.old }
+    ensures named { (names h : ℕ → ℕ) → IsNamed names (of_sole sole) → weighed_at_end names h pool.new places.new
+        ≡ weighed_at_end names h pool.old places.old }
     ensures size { length places.new ≡ length places.old }
     ensures owed { AreOwed places.old → AreOwed places.new }
     ensures made { (pool.new.made ≡ pool.old.made) × (pool.new.taken ≡ pool.old.taken) }
@@ -92,6 +96,7 @@ fn receive_one(places: &mut [Place], receipt: Receipt)
     ensures settles { Settles (length places.old) (both (of_places places.old) (of_receipt receipt))
         (of_places places.new) }
     ensures count { missing places.new ≡ missing places.old }
+    ensures named { (w : ℕ → ℕ) → missing_weight w 0 places.new ≡ missing_weight w 0 places.old }
     ensures size { length places.new ≡ length places.old }
     ensures owed { AreOwed places.new }
 {
@@ -105,6 +110,8 @@ fn sweep_soles(pool: &mut Pool, places: &mut [Place], out: &mut Outcomes)
     ensures settles { Settles (length places.old) (both (of_places places.old) (of_outcomes out.old))
         (both (of_places places.new) (of_outcomes out.new)) }
     ensures count { home pool.new + missing places.new ≡ home pool.old + missing places.old }
+    ensures named { (names h : ℕ → ℕ) → IsNamed names (of_outcomes out.old)
+        → weighed_at_end names h pool.new places.new ≡ weighed_at_end names h pool.old places.old }
     ensures size { length places.new ≡ length places.old }
     ensures owed { AreOwed places.old → AreOwed places.new }
     ensures made { (pool.new.made ≡ pool.old.made) × (pool.new.taken ≡ pool.old.taken) }
@@ -124,6 +131,7 @@ fn sweep_receipts(places: &mut [Place], out: &mut Outcomes)
     ensures settles { Settles (length places.old) (both (of_places places.old) (of_outcomes out.old))
         (both (of_places places.new) (of_outcomes out.new)) }
     ensures count { missing places.new ≡ missing places.old }
+    ensures named { (w : ℕ → ℕ) → missing_weight w 0 places.new ≡ missing_weight w 0 places.old }
     ensures size { length places.new ≡ length places.old }
     ensures owed { AreOwed places.new }
     ensures none { out.new.receipts ≡ [] }

@@ -1,6 +1,6 @@
 use Rattle.std.proofs.Common.{refl, arith}
 use Rattle.rounds.specs.Merging.{options_of}
-use Rattle.pipeline.specs.Reads.{reader_at}
+use Rattle.rounds.specs.Reads.{reader_at}
 use Rattle.checking.specs.Whole.{Checked}
 use Rattle.checking.proofs.Counted.{all_checked}
 use Rattle.checking.proofs.RoundsCounted.{start_lanes, start_within}
@@ -28,6 +28,9 @@ returns-clause-within g c = (checked g c).within
 
 pub returns-clause-home : goal.returns-clause-home
 returns-clause-home g c = (checked g c).home
+
+pub returns-clause-named : goal.returns-clause-named
+returns-clause-named g c = (checked g c).named
 
 pub returns-clause-same : goal.returns-clause-same
 returns-clause-same g c = (checked g c).same

@@ -15,6 +15,7 @@ records-init g c = (
   refl,
   omega arith,
   omega arith,
+  λ h. refl,
 )
 
 pub records-preserved : goal.records-preserved
@@ -35,6 +36,7 @@ records-preserved g c =
       c.in-Ok.ensures.same_source ∙ c.records.invariant.7,
       omega (arith, c.in-Ok.ensures.later, c.records.invariant.8),
       omega (arith, c.in-Ok.ensures.later_sink, c.records.invariant.9),
+      λ h. omega (arith, c.in-Ok.ensures.named h, c.records.invariant.10 h),
     )
 
 pub returns-in-End-clause-given : goal.returns-in-End-clause-given

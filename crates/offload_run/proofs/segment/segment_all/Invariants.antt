@@ -1,4 +1,5 @@
-use Rattle.std.proofs.Common.{◌≡◌, ◌≤◌, ◌+◌, ◌-◌, ◌^◌}
+use Rattle.std.proofs.Common.{◌≡◌, ℕ, ◌≤◌, ◌+◌, ◌-◌, ◌^◌}
+use Rattle.block_pool.specs.PoolState.{weighed}
 use Rattle.off_io.specs.Told.{Told}
 use Rattle.pcap_io.specs.declared.heads.Link.TheVariants.{Offload}
 use Rattle.pcap_io.specs.Places.{IsReady}
@@ -19,6 +20,7 @@ invariant-records g l =
     × (l.reader.source.ghost_name ≡ l.initial.reader.source.ghost_name)
     × (g.S.Source.faults l.initial.reader.source.now ≤ g.S.Source.faults l.reader.source.now)
     × (g.K.Sink.faults l.initial.sink ≤ g.K.Sink.faults l.sink)
+    × ((h : ℕ → ℕ) → weighed h l.run.stock ≡ weighed h l.initial.run.stock)
 
 abbrev pub decreases-records : goal.decreases-records
 decreases-records g l = 2 ^ 32 + 1 - l.reader.place.number

@@ -1,7 +1,8 @@
 use Rattle.std.proofs.Common.{◌∙◌, sym, arith}
 use Rattle.rounds.specs.Merging.{options_of}
-use Rattle.pipeline.specs.Reads.{reader_at}
-use Rattle.pipeline.proofs.Together.{all_handled, ready_as}
+use Rattle.rounds.specs.Reads.{reader_at}
+use Rattle.rounds.proofs.Going.{ready_as}
+use Rattle.pipeline.proofs.Together.{all_handled}
 use Rattle.pipeline.proofs.drive.handle_by.Goals as goal
 
 pub handle_on-requires-clause-out : goal.handle_on-requires-clause-out
@@ -42,7 +43,7 @@ returns-then-is_shared-clause-handled g c =
       later = r.later;
       failed = r.failed;
     })
-    r.same r.least c.handle_on.ensures.handled
+    r.same r.least r.named c.handle_on.ensures.handled
 
 pub handle_here-requires-clause-out : goal.handle_here-requires-clause-out
 handle_here-requires-clause-out g c =
@@ -82,4 +83,4 @@ returns-else-is_shared-clause-handled g c =
       later = r.later;
       failed = r.failed;
     })
-    r.same r.least c.handle_here.ensures.handled
+    r.same r.least r.named c.handle_here.ensures.handled

@@ -1,20 +1,23 @@
-use Rattle.std.proofs.Common.{◌≡◌, ◌∙◌, ◌+◌, ◌^◌, ◌++◌, Option, Some, List, ap, sym, subst, refl, arith}
+use Rattle.std.proofs.Common.{◌≡◌, ℕ, ◌∙◌, ◌+◌, ◌^◌, ◌++◌, Option, Some, List, ap, sym, subst, refl, arith}
 use Rattle.std.specs.Arc.{arc_value}
 use Rattle.block_pool.specs.Giving.{given_by}
 use Rattle.block_pool.specs.Listed.{blocks_in}
 use Rattle.block_pool.specs.PassState.{SharedState}
-use Rattle.block_pool.specs.PoolState.{home}
+use Rattle.block_pool.specs.PoolState.{home, weighed}
 use Rattle.rtrb.specs.Ring.{sent, received, known_items}
 use Rattle.rounds.specs.Benches.{options_at}
 use Rattle.rounds.specs.Merging.{options_of}
 use Rattle.rounds.specs.RoundsState.{BenchState, IntakeState, RoundsState}
+use Rattle.rounds.specs.Weights.{weights_of}
 use Rattle.rounds.specs.declared.round.RoundRead.{RoundRead}
 use Rattle.pipeline.specs.declared.parcel.Parcel.{Parcel}
-use Rattle.pipeline.specs.Handled.{blocks_out}
-use Rattle.pipeline.specs.Parcels.{HasGiver, blocks_of, homes_of, listed_home, shelved}
-use Rattle.pipeline.specs.Reads.{reader_at}
-use Rattle.pipeline.proofs.Rows.{blocks_append, homes_append}
-use Rattle.pipeline.proofs.Together.{all_went, counted_as, ends_as, idle_as, left_out}
+use Rattle.pipeline.specs.Handled.{blocks_out, weights_out}
+use Rattle.rounds.specs.Lists.{HasGiver, listed_home, weights_home, weights_listed}
+use Rattle.pipeline.specs.Parcels.{blocks_of, homes_of, shelved, weights_back, weights_sent, weights_shelved}
+use Rattle.rounds.specs.Reads.{reader_at}
+use Rattle.pipeline.proofs.Rows.{blocks_append, homes_append, shelved_none, weights_back_append, weights_sent_append}
+use Rattle.rounds.proofs.Going.{counted_as}
+use Rattle.pipeline.proofs.Together.{all_went, ends_as, idle_as, left_out, left_weights}
 use Rattle.pipeline.proofs.Lending.{giver_back}
 use Rattle.pipeline.proofs.drive.handle_named.Goals as goal
 
@@ -69,7 +72,7 @@ bring_home-requires g c =
     }
 
 abbrev lent : IntakeState → BenchState → RoundsState
-lent i b = record { home = i.home; blocks = i.blocks; taken = i.taken; budget = b.budget; plan = b.plan; keep = b.keep }
+lent i b = record { home = i.home; stock = i.stock; blocks = i.blocks; taken = i.taken; empties = i.empties; budget = b.budget; plan = b.plan; keep = b.keep }
 
 pub returns-in_default-clause-handled : goal.returns-in_default-clause-handled
 returns-in_default-clause-handled g c = (
@@ -205,6 +208,39 @@ returns-clause-handled g c =
     let view = c.rounds.view_is in
     let options : options_at c.prepare.new.bench ≡ options_of first = ap options_at p.same ∙ ap options_of view in
     let keep = ap (λ (b : BenchState). b.keep) p.same ∙ ap (λ (s : RoundsState). s.keep) view in
+    let named : (h : ℕ → ℕ) → weighed h new.stock + weights_out c.ending-ended.result h ≡ weighed h first.stock + weights_of c.args.read.round h =
+    λ h.
+    omega (
+      arith,
+      c.drop_parcels.ensures.named h,
+      f.named h,
+      r.named h,
+      r.each_named h,
+      c.run_sides-end.new.supply.desk.weighs h,
+      c.run_sides-end.new.supply.desk.taker.weighs h,
+      ap (λ (s : RoundsState). weighed h s.stock) view,
+      ap (λ t. weights_back h (received t)) c.new.ensures.same.0,
+      ap (weights_back h) w.unused.1,
+      shelved_none h c.new.result.shelves.items (ap (λ s. shelved s.items) c.new.ensures.same.1 ∙ c.in-Ok.ensures.shelves),
+      ap (λ t. weights_home h t.pass t.left) c.new.ensures.same.2,
+      ap (weights_listed h) w.untaken.0,
+      ap (weights_listed h) w.ungiven.1,
+      ap (weights_sent h) c.send_first.ensures.sent.1,
+      ap (λ (x : RoundRead). weights_of x.round h) c.send_first.ensures.sent.2,
+      left_weights h g.H.RoundHandler.stopped c.run_sides-end.result c.ending-ended.result known left e.some e.none,
+      ap (weights_sent h) a.fifo,
+      weights_sent_append h (received c.slots_beside-waiting.new.self) known,
+      ap (weights_sent h) a.looked.1,
+      ap (weights_sent h) a.producer.1,
+      ap (weights_back h) b.fifo,
+      weights_back_append h (received c.slots_beside.new.self) (known_items c.slots_beside.new.self),
+      ap (weights_back h) b.looked.1,
+      ap (weights_back h) b.producer.1,
+      ap (λ t. weights_back h (received t)) c.close-tokens.ensures.same.0,
+      ap (λ t. weights_shelved h t.items) c.close-tokens.ensures.same.1,
+      ap (λ t. weighed h t.left.blocks) c.close-tokens.ensures.same.2,
+      ap (λ t. weights_listed h t.pass.taken) c.close-tokens.ensures.same.2,
+    ) in
     let whole = c.bring_home.new.intake.home + blocks_of left in
     all_went (did (options_of first)) g.H.RoundHandler.stopped (g.H.RoundHandler.ready (options_of first) first.keep) first new intake whole c.run_sides-end.new.intake.taken c.args.read
     (reader_at g.S.Source.left g.S.Source.faults c.args.reader.now first.taken) (reader_at g.S.Source.left g.S.Source.faults c.run_sides-end.new.reader new.taken)
@@ -233,7 +269,7 @@ returns-clause-handled g c =
     c.args.into.now c.run_sides-end.new.into
     (counted_as did g.H.RoundHandler.stopped g.H.RoundHandler.ready (options_of first) (options_at c.prepare.new.bench) first.keep c.prepare.new.bench.keep (2 ^ 32 + 4096) c.run_sides-end.new.into options
     keep r.ready)
-    c.run_sides-end.result c.ending-ended.result left (omega (arith, counted, f.home))
+    c.run_sides-end.result c.ending-ended.result left (omega (arith, counted, f.home)) named
     (ends_as did g.H.RoundHandler.stopped (options_of first) (options_at c.prepare.new.bench) (received c.run_sides-end.new.from) c.args.into.now c.run_sides-end.new.into c.run_sides-end.result
     options r.handled)
     e.some e.none

@@ -1,8 +1,9 @@
 use Rattle.std.proofs.Common.{◌+◌, refl, sym, ap, arith, length}
 use Rattle.rounds.specs.Merging.{options_of}
 use Rattle.rounds.specs.RoundsState.{RoundsState}
-use Rattle.pipeline.specs.Reads.{reader_at}
-use Rattle.pipeline.proofs.Together.{put_ends, put_goes, ready_as}
+use Rattle.rounds.specs.Reads.{reader_at}
+use Rattle.rounds.proofs.Going.{ready_as}
+use Rattle.pipeline.proofs.Together.{put_ends, put_goes}
 use Rattle.pipeline.proofs.here.handle_here.Goals as goal
 
 pub returns-in-Some-clause-handled : goal.returns-in-Some-clause-handled
@@ -10,6 +11,7 @@ returns-in-Some-clause-handled g c =
     let h = c.in-Some.ensures in
     put_ends (g.H.RoundHandler.did c.args.handler.now) g.H.RoundHandler.stopped g.H.RoundHandler.ready c.args.rounds.now c.handle.new.self c.args.read
     (reader_at g.S.Source.left g.S.Source.faults c.args.reader.now c.args.rounds.now.taken) c.args.into.now c.handle.new.into c.requires.out.out c.requires.out.is.few h.home
+    h.named
     (h.ready 0 c.requires.start) c.in-Some.end h.did
 
 pub handle_from-requires-clause-start : goal.handle_from-requires-clause-start
@@ -29,5 +31,6 @@ returns-in-None-clause-handled g c =
     let h = c.in-None.ensures in
     put_goes (g.H.RoundHandler.did c.args.handler.now) g.H.RoundHandler.stopped g.H.RoundHandler.ready c.args.rounds.now c.handle.new.self c.args.read
     (reader_at g.S.Source.left g.S.Source.faults c.args.reader.now c.args.rounds.now.taken) c.args.into.now c.handle.new.into c.requires.out.out c.requires.out.is.few h.home
+    h.named
     (h.ready 0 c.requires.start) c.handle_from.new.rounds (reader_at g.S.Source.left g.S.Source.faults c.handle_from.new.reader c.handle_from.new.rounds.taken)
     c.handle_from.new.into c.handle_from.result h.did (h.full refl) c.handle_from.ensures.handled

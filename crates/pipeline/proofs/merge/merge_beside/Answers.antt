@@ -1,6 +1,6 @@
-use Rattle.pipeline.specs.Reads.{reader_at}
-use Rattle.pipeline.specs.Works.{Merged, sink_at}
-use Rattle.pipeline.proofs.Written.{all_merged}
+use Rattle.rounds.specs.Reads.{reader_at}
+use Rattle.rounds.specs.Merged.{Merged, sink_at}
+use Rattle.rounds.proofs.Written.{all_merged}
 use Rattle.pipeline.proofs.merge.merge_beside.Given as given
 use Rattle.pipeline.proofs.merge.merge_beside.Goals as goal
 use Rattle.pipeline.proofs.merge.merge_beside.Goals.{After-handle_beside}
@@ -27,6 +27,9 @@ returns-clause-flushed g c = (merged g c).flushed
 
 pub returns-clause-home : goal.returns-clause-home
 returns-clause-home g c = (merged g c).home
+
+pub returns-clause-named : goal.returns-clause-named
+returns-clause-named g c = (merged g c).named
 
 pub returns-clause-same : goal.returns-clause-same
 returns-clause-same g c = (merged g c).same

@@ -1,9 +1,11 @@
 use Rattle.std.proofs.Common.{◌∙◌, ◌∷◌, ◌++◌, [], ℕ, List, Option, None, Some, ap, sym, subst, refl, arith, rules, length, length-append, append-nil}
 use Rattle.rtrb.specs.Ring.{sent, received}
 use Rattle.pipeline.specs.declared.parcel.Parcel.{Parcel}
-use Rattle.pipeline.specs.Parcels.{blocks_of, homes_of, listed_home, packets_of, rounds_of}
-use Rattle.pipeline.specs.Reads.{spot, Reads}
-use Rattle.pipeline.proofs.Rows.{all_go_last, blocks_last, full_end, packets_append, read_as, reads_last, rounds_last, sent_more, sent_none}
+use Rattle.rounds.specs.Lists.{listed_home, weights_home}
+use Rattle.pipeline.specs.Parcels.{blocks_of, homes_of, packets_of, rounds_of, weights_back, weights_sent}
+use Rattle.rounds.specs.Reads.{spot, Reads}
+use Rattle.rounds.proofs.Rows.{all_go_last, full_end, reads_last}
+use Rattle.pipeline.proofs.Rows.{blocks_last, packets_append, read_as, rounds_last, sent_more, sent_none, weights_sent_append}
 use Rattle.pipeline.proofs.sides.read_side.Goals as goal
 
 pub returns-in_default-clause-read : goal.returns-in_default-clause-read
@@ -30,6 +32,20 @@ returns-in_default-clause-sum g c =
       c.pick.ensures.same.0,
       ap (λ t. homes_of (received t)) c.pick.ensures.same.1,
       ap (λ t. listed_home t.pass t.left) c.pick.ensures.same.2,
+    )
+
+pub returns-in_default-clause-named : goal.returns-in_default-clause-named
+returns-in_default-clause-named g c h =
+    let l = c.loop in
+    omega (
+      arith,
+      l.invariant.named h,
+      c.bring_more.ensures.named h,
+      ap (weights_sent h) c.send.ensures.sent,
+      weights_sent_append h (sent l.supply.out) (None ∷ []),
+      c.pick.ensures.named h,
+      ap (λ t. weights_back h (received t)) c.pick.ensures.same.1,
+      ap (λ t. weights_home h t.pass t.left) c.pick.ensures.same.2,
     )
 
 pub returns-then-not-is_full-clause-read : goal.returns-then-not-is_full-clause-read
@@ -75,6 +91,22 @@ returns-then-not-is_full-clause-sum g c =
       ap (λ t. listed_home t.pass t.left) c.pick.ensures.same.2,
     )
 
+pub returns-then-not-is_full-clause-named : goal.returns-then-not-is_full-clause-named
+returns-then-not-is_full-clause-named g c h =
+    let l = c.loop in
+    let p : Parcel = record { number = l.number; read = c.read_round-read.result; shelf = c.in-Some-pick.shelf } in
+    omega (
+      arith,
+      l.invariant.named h,
+      c.bring_more.ensures.named h,
+      c.read_round-read.ensures.named h,
+      ap (weights_sent h) c.send-in-loop.ensures.sent,
+      weights_sent_append h (sent l.supply.out) (Some p ∷ []),
+      c.pick.ensures.named h,
+      ap (λ t. weights_back h (received t)) c.pick.ensures.same.1,
+      ap (λ t. weights_home h t.pass t.left) c.pick.ensures.same.2,
+    )
+
 pub send-requires-in-loop : goal.send-requires-in-loop
 send-requires-in-loop g c =
     let l = c.loop in
@@ -102,6 +134,7 @@ loop-init g c = record {
   reads = refl;
   go = tt;
   sum = omega arith;
+  named = λ h. omega arith;
   blocks = refl;
   budget = refl;
   number = omega (arith, ap (λ (xs : List (Option Parcel)). length (rounds_of xs)) c.requires.first.1);
@@ -154,6 +187,17 @@ loop-preserved g c =
         c.pick.ensures.same.0,
         ap (λ t. homes_of (received t)) c.pick.ensures.same.1,
         ap (λ t. listed_home t.pass t.left) c.pick.ensures.same.2,
+      );
+      named = λ h. omega (
+        arith,
+        i.named h,
+        c.bring_more.ensures.named h,
+        r.named h,
+        ap (weights_sent h) c.send-in-loop.ensures.sent,
+        weights_sent_append h (sent l.supply.out) (Some p ∷ []),
+        c.pick.ensures.named h,
+        ap (λ t. weights_back h (received t)) c.pick.ensures.same.1,
+        ap (λ t. weights_home h t.pass t.left) c.pick.ensures.same.2,
       );
       blocks = r.same.0 ∙ c.bring_more.ensures.same.0 ∙ i.blocks;
       budget = r.same.1 ∙ c.bring_more.ensures.same.2 ∙ i.budget;

@@ -1,12 +1,13 @@
-use Rattle.std.proofs.Common.{◌≡◌, ◌≤◌, ◌+◌, ◌++◌, List, length}
+use Rattle.std.proofs.Common.{◌≡◌, ℕ, ◌≤◌, ◌+◌, ◌++◌, List, length}
+use Rattle.block_pool.specs.PoolState.{weighed}
 use Rattle.pcap_io.specs.Places.{IsReady}
 use Rattle.pcap_io.specs.declared.heads.Link.TheVariants.{Ethernet}
 use Rattle.rtrb.specs.Ring.{sent, SameProducer}
 use Rattle.rounds.specs.declared.round.RoundRead.{RoundRead}
-use Rattle.pipeline.specs.Desks.{brought_to}
-use Rattle.pipeline.specs.Parcels.{packets_of, rounds_of, blocks_of}
-use Rattle.pipeline.specs.Reads.{spot, Reads}
-use Rattle.pipeline.proofs.Rows.{AllGo}
+use Rattle.pipeline.specs.Desks.{brought_to, weights_to}
+use Rattle.pipeline.specs.Parcels.{packets_of, rounds_of, blocks_of, weights_sent}
+use Rattle.rounds.specs.Reads.{spot, Reads}
+use Rattle.rounds.proofs.Rows.{AllGo}
 use Rattle.pipeline.proofs.sides.read_side.Given as goal
 
 abbrev pub invariant-loop : goal.invariant-loop
@@ -23,6 +24,8 @@ invariant-loop g l = record {
   go : AllGo more;
   sum : l.intake.home + blocks_of (sent l.supply.out) + brought_to l.initial.supply.desk
       ≡ l.initial.intake.home + blocks_of (sent l.initial.supply.out) + brought_to l.supply.desk;
+  named : (h : ℕ → ℕ) → weighed h l.intake.stock + weights_sent h (sent l.supply.out) + weights_to l.initial.supply.desk h
+      ≡ weighed h l.initial.intake.stock + weights_sent h (sent l.initial.supply.out) + weights_to l.supply.desk h;
   blocks : l.intake.blocks ≡ l.initial.intake.blocks;
   budget : l.intake.budget ≡ l.initial.intake.budget;
   number : l.number ≡ length (rounds_of (sent l.supply.out));

@@ -1,14 +1,16 @@
 use Rattle.std.proofs.Common.{◌≡◌, ◌+◌, ◌≤◌, ℕ, [], ◌∷◌, ◌++◌, None, Some, List, refl, inr, sym, ap, subst, arith, rules, length}
-use Rattle.block_pool.specs.PoolState.{PoolState, home}
+use Rattle.block_pool.specs.PoolState.{PoolState, home, weighed}
 use Rattle.rtrb.specs.Ring.{received}
 use Rattle.rounds.specs.Benches.{options_at}
 use Rattle.rounds.specs.RoundsState.{BenchState}
+use Rattle.rounds.specs.Weights.{weights_of}
 use Rattle.rounds.specs.declared.round.RoundRead.{RoundRead}
-use Rattle.pipeline.specs.Handled.{Ends, Went}
-use Rattle.pipeline.specs.Parcels.{blocks_of, packets_of, rounds_of}
-use Rattle.pipeline.proofs.Going.{went_more, went_ends, went_stopped}
-use Rattle.pipeline.proofs.Rows.{blocks_last, packets_append, rounds_last, rounds_none}
-use Rattle.pipeline.proofs.Together.{handled_as, ready_as}
+use Rattle.rounds.specs.Handled.{Ends, Went}
+use Rattle.pipeline.specs.Parcels.{blocks_of, packets_of, rounds_of, weights_sent}
+use Rattle.rounds.proofs.Going.{went_more, went_ends, went_stopped}
+use Rattle.pipeline.proofs.Rows.{blocks_last, packets_append, rounds_last, rounds_none, weighed_none, weights_sent_append}
+use Rattle.rounds.proofs.Going.{ready_as}
+use Rattle.pipeline.proofs.Together.{handled_as}
 use Rattle.pipeline.proofs.Lending.{lends_same, lends_then, lent_again}
 use Rattle.pipeline.proofs.sides.work_side.Goals as goal
 
@@ -45,6 +47,19 @@ returns-in_default-clause-each g c =
     let l = c.loop in
     let none : c.receive.result ≡ None = search rules in
     omega (arith, l.invariant.each, l.invariant.empty, ap blocks_of c.receive.ensures.item, blocks_last (received l.from) c.receive.result, ap (λ x. blocks_of (x ∷ [])) none)
+
+pub returns-in_default-clause-each_named : goal.returns-in_default-clause-each_named
+returns-in_default-clause-each_named g c h =
+    let l = c.loop in
+    let none : c.receive.result ≡ None = search rules in
+    omega (
+      arith,
+      l.invariant.named h,
+      weighed_none h l.kept.blocks l.invariant.empty,
+      ap (weights_sent h) c.receive.ensures.item,
+      weights_sent_append h (received l.from) (c.receive.result ∷ []),
+      ap (λ x. weights_sent h (x ∷ [])) none,
+    )
 
 pub handle-requires-clause-may : goal.handle-requires-clause-may
 handle-requires-clause-may g c =
@@ -107,6 +122,26 @@ returns-in-Some-handle-clause-each g c =
       blocks_last (received l.from) (Some p),
     )
 
+pub returns-in-Some-handle-clause-each_named : goal.returns-in-Some-handle-clause-each_named
+returns-in-Some-handle-clause-each_named g c h =
+    let l = c.loop in
+    let p = c.in-Some-receive.parcel in
+    let o = c.open-number.ensures.same in
+    omega (
+      arith,
+      l.invariant.named h,
+      weighed_none h l.kept.blocks l.invariant.empty,
+      c.send_home.ensures.named h,
+      ap (λ (s : PoolState). weighed h s.blocks) c.replace.ensures.value,
+      ap (λ (s : PoolState). weighed h s.blocks) c.replace.ensures.after,
+      ap (λ (s : PoolState). weighed h s.blocks) o.2,
+      weighed_none h p.shelf.blocks c.in-Some-receive.ensures.allowed.empty,
+      c.handle.ensures.brings.named h,
+      ap (λ (r : RoundRead). weights_of r.round h) o.1,
+      ap (weights_sent h) c.in-Some-receive.ensures.item,
+      weights_sent_append h (received l.from) (Some p ∷ []),
+    )
+
 pub returns-in-Some-handle-clause-room : goal.returns-in-Some-handle-clause-room
 returns-in-Some-handle-clause-room g c =
     let b = c.handle.ensures.brings in
@@ -148,6 +183,26 @@ returns-then-is_err-clause-each g c =
       ap (λ (r : RoundRead). r.round.blocks) o.1,
       ap blocks_of c.in-Some-receive.ensures.item,
       blocks_last (received l.from) (Some p),
+    )
+
+pub returns-then-is_err-clause-each_named : goal.returns-then-is_err-clause-each_named
+returns-then-is_err-clause-each_named g c h =
+    let l = c.loop in
+    let p = c.in-Some-receive.parcel in
+    let o = c.open-number.ensures.same in
+    omega (
+      arith,
+      l.invariant.named h,
+      weighed_none h l.kept.blocks l.invariant.empty,
+      c.send_home-then-is_err.ensures.named h,
+      ap (λ (s : PoolState). weighed h s.blocks) c.replace-then-is_err.ensures.value,
+      ap (λ (s : PoolState). weighed h s.blocks) c.replace-then-is_err.ensures.after,
+      ap (λ (s : PoolState). weighed h s.blocks) o.2,
+      weighed_none h p.shelf.blocks c.in-Some-receive.ensures.allowed.empty,
+      c.handle.ensures.brings.named h,
+      ap (λ (r : RoundRead). weights_of r.round h) o.1,
+      ap (weights_sent h) c.in-Some-receive.ensures.item,
+      weights_sent_append h (received l.from) (Some p ∷ []),
     )
 
 pub returns-then-is_err-clause-room : goal.returns-then-is_err-clause-room
@@ -202,6 +257,17 @@ loop-preserved g c =
         ap (λ (r : RoundRead). r.round.blocks) o.1,
         ap blocks_of c.in-Some-receive.ensures.item,
         blocks_last (received l.from) (Some p),
+      );
+      named = λ x. omega (
+        arith,
+        i.named x,
+        c.send_home-in-loop.ensures.named x,
+        ap (λ (s : PoolState). weighed x s.blocks) o.2,
+        weighed_none x p.shelf.blocks c.in-Some-receive.ensures.allowed.empty,
+        h.brings.named x,
+        ap (λ (r : RoundRead). weights_of r.round x) o.1,
+        ap (weights_sent x) c.in-Some-receive.ensures.item,
+        weights_sent_append x (received l.from) (Some p ∷ []),
       );
       went = subst (λ (rs : List RoundRead). Went did 0 c.args.into.now c.handle.new.into rs) (sym now)
           (went_more did g.H.RoundHandler.stopped 0 c.args.into.now l.into c.handle.new.into (rounds_of (received l.from)) p.read i.went

@@ -1,10 +1,10 @@
-use Rattle.std.proofs.Common.{◌≡◌, ◌≤◌, ◌+◌, ◌^◌}
-use Rattle.block_pool.specs.Giving.{given_by}
+use Rattle.std.proofs.Common.{◌≡◌, ℕ, ◌≤◌, ◌+◌, ◌^◌}
+use Rattle.block_pool.specs.Giving.{given_by, weights_given}
 use Rattle.block_pool.specs.PoolState.{home}
 use Rattle.rounds.specs.Benches.{options_at, HasRoom, IsSameBench, Lends}
 use Rattle.rtrb.specs.Ring.{sent, received, SameProducer, SameConsumer}
-use Rattle.pipeline.specs.Handled.{Went}
-use Rattle.pipeline.specs.Parcels.{blocks_of, homes_of, packets_of, rounds_of}
+use Rattle.rounds.specs.Handled.{Went}
+use Rattle.pipeline.specs.Parcels.{blocks_of, homes_of, packets_of, rounds_of, weights_back, weights_sent}
 use Rattle.pipeline.proofs.sides.work_side.Given as goal
 
 abbrev pub invariant-loop : goal.invariant-loop
@@ -15,6 +15,7 @@ invariant-loop g l = record {
   empty : home l.kept ≡ 0;
   bench : IsSameBench l.initial.bench l.bench;
   each : homes_of (sent l.told) + given_by l.giver ≡ blocks_of (received l.from) + given_by l.initial.giver;
+  named : (h : ℕ → ℕ) → weights_back h (sent l.told) + weights_given l.giver h ≡ weights_sent h (received l.from) + weights_given l.initial.giver h;
   lends : Lends l.initial.giver l.giver;
   went : Went (g.H.RoundHandler.did l.handler (options_at l.initial.bench)) 0 l.initial.into l.into (rounds_of (received l.from));
   few : packets_of (rounds_of (received l.from)) ≤ 2 ^ 32 + 4096;

@@ -1,4 +1,8 @@
 use Rattle.std.proofs.Common.{ℕ, List, ◌++◌, append-nil, ◌≡◌, ◌+◌, length, ◌-◌, refl, arith, ap, subst, sym, ◌∙◌, [], ◌∷◌, length-append}
+use Rattle.std.specs.List.{sum_by}
+use Rattle.std.proofs.lemmas.List.Sums.{sum_by-cons, sum_by_push}
+use Rattle.raw_block.specs.Views.{SoleState}
+use Rattle.block_pool.specs.PoolState.{weighed}
 use Rattle.frags.specs.PieceList.{size_of, bytes_of}
 use Rattle.frags.specs.declared.pieces.Piece.{Piece}
 use Rattle.frags.proofs.PieceBytes.{size_of-append}
@@ -29,6 +33,15 @@ loop-left-preserved c =
       bytes = bytes_more l.builder.pieces c.push.new.self.pieces p l.hold.items c.next_block-block.new.hold.items c.next_block-block.result l.left c.min-count.result
           (l.left - c.min-count.result) next pushed c.share.ensures.same.1 refl refl (omega (arith, least)) (omega (arith, least)) ∙ i.bytes;
       rest = omega (arith, i.rest, longer, one, shorter);
+      named = λ h. omega (
+        arith,
+        i.named h,
+        ap (sum_by (λ (q : Piece). h q.part.life.block)) pushed,
+        sum_by_push (λ (q : Piece). h q.part.life.block) l.builder.pieces p,
+        ap (weighed h) next,
+        sum_by-cons (λ (s : SoleState). h s.block) c.next_block-block.result c.next_block-block.new.hold.items,
+        ap h c.share.ensures.same.0,
+      );
       room = omega (arith, i.room, c.push.ensures.room, least);
       capacity = omega (arith, i.capacity, c.next_block-block.ensures.capacity);
     }

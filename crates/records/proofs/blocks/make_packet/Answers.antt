@@ -1,11 +1,12 @@
-use Rattle.std.proofs.Common.{◌≡◌, ◌+◌, length, arith, ap, subst, sym}
+use Rattle.std.proofs.Common.{◌≡◌, ℕ, ◌+◌, length, arith, ap, subst, sym}
+use Rattle.block_pool.specs.PoolState.{weighed}
 use Rattle.frags.specs.PieceList.{size_of}
-use Rattle.skb.specs.SkbState.{SkbState}
+use Rattle.skb.specs.SkbState.{SkbState, weighed_in}
 use Rattle.gro.specs.declared.slot.Slot.{Slot as Held}
 use Rattle.gro.specs.Slots.{count_of}
 use Rattle.offload_model.specs.Need.{data_blocks}
 use Rattle.records.specs.Laid.{IsLaid, IsRead, WholeFrom}
-use Rattle.records.proofs.Laying.{of_new}
+use Rattle.records.proofs.Laying.{of_new, weighed_none}
 use Rattle.records.proofs.blocks.make_packet.Goals as goal
 
 pub returns-clause-one : goal.returns-clause-one
@@ -26,6 +27,16 @@ returns-clause-count c =
     let rest = c.build_pieces-rest in
     of_new c.args.packets.now c.push.new.self _ (λ (p : Held). count_of p ≡ data_blocks c.args.len) c.push.ensures.items
     (omega (arith, ap (λ (x : SkbState). length x.rest) c.new-skb.ensures.same, rest.ensures.count, c.requires.len, c.min-in_head.ensures))
+
+pub returns-clause-named : goal.returns-clause-named
+returns-clause-named c =
+    let rest = c.build_pieces-rest in
+    let same = c.new-skb.ensures.same in
+    let none : length c.build_pieces-rest.new.hold.items ≡ 0
+    = omega (arith, rest.ensures.rest, rest.ensures.count, c.requires.count, c.requires.len, c.min-in_head.ensures) in
+    of_new c.args.packets.now c.push.new.self _ (λ (p : Held). (h : ℕ → ℕ) → weighed_in h p.skb
+    ≡ h c.args.block.block + weighed h c.args.hold.now.items) c.push.ensures.items
+    (λ h. omega (arith, ap (weighed_in h) same, rest.ensures.named h, weighed_none h c.build_pieces-rest.new.hold.items none))
 
 pub returns-clause-read : goal.returns-clause-read
 returns-clause-read c =

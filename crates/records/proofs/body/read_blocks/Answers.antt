@@ -4,6 +4,7 @@ use Rattle.off_io.specs.Told.{Told}
 use Rattle.pcap_io.specs.Places.{ReadsOn}
 use Rattle.raw_block.specs.Views.{SoleState}
 use Rattle.records.specs.Data.{data_of}
+use Rattle.records.proofs.Laying.{weighed_set}
 use Rattle.records.proofs.Filling.{Filled, filled_none, filled_more, filled_stop, data_zero, data_step, marked_set, short_same, on_none, on_then, bytes_none, bytes_behind}
 use Rattle.offload_model.specs.Laws.{InBytes}
 use Rattle.records.proofs.body.read_blocks.Goals as goal
@@ -19,6 +20,7 @@ loop-i-init g c =
       place = on_none c.args.reader.now.place _ none;
       left = omega arith;
       marks = λ k h. h;
+      named = λ h. refl;
       size = refl;
       capacity = refl;
       same = refl;
@@ -40,6 +42,12 @@ returns-in-Err-clause-marks g c = λ k h.
     marked_set l.i k l.hold.items c.read_block.new.block c.index_mut.result.now (omega (arith, l.invariant.size, c.loop-i-test.true))
     (c.in-Err.ensures.mark ∙ ap (λ (x : SoleState). x.mark) c.index_mut.ensures.value) (l.invariant.marks k h)
 
+pub returns-in-Err-clause-named : goal.returns-in-Err-clause-named
+returns-in-Err-clause-named g c = λ h.
+    let l = c.loop-i in
+    weighed_set h l.hold.items l.i c.read_block.new.block c.index_mut.result.now (omega (arith, l.invariant.size, c.loop-i-test.true))
+    (c.in-Err.ensures.named ∙ ap (λ (x : SoleState). x.block) c.index_mut.ensures.value) ∙ l.invariant.named h
+
 pub loop-i-preserved : goal.loop-i-preserved
 loop-i-preserved g c =
     let l = c.loop-i in
@@ -60,6 +68,8 @@ loop-i-preserved g c =
       place = on_then c.args.reader.now.place l.reader.place c.read_block.new.reader.place n (count - 0) n' (omega (arith, whole)) i.place c.in-Ok.ensures.place;
       left = omega (arith, i.left, c.min-count.ensures);
       marks = λ k h. marked_set l.i k l.hold.items s c.index_mut.result.now at (c.in-Ok.ensures.mark ∙ ap (λ (x : SoleState). x.mark) c.index_mut.ensures.value) (i.marks k h);
+      named = λ h. weighed_set h l.hold.items l.i s c.index_mut.result.now at
+          (c.in-Ok.ensures.named ∙ ap (λ (x : SoleState). x.block) c.index_mut.ensures.value) ∙ i.named h;
       size = length-set l.hold.items l.i s ∙ i.size;
       capacity = i.capacity;
       same = c.in-Ok.ensures.same_source ∙ i.same;

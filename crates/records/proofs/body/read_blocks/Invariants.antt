@@ -1,5 +1,6 @@
 use Rattle.std.proofs.Common.{◌≡◌, ◌-◌, ◌*◌, ◌≤◌, ℕ, length}
 use Rattle.std.specs.VecDeque.{deque_capacity}
+use Rattle.block_pool.specs.PoolState.{weighed}
 use Rattle.off_io.specs.Told.{Told}
 use Rattle.pcap_io.specs.Places.{ReadsOn}
 use Rattle.records.specs.Data.{data_of}
@@ -16,6 +17,7 @@ invariant-loop-i g l = record {
   place : ReadsOn l.fn.reader.place l.reader.place (l.size - l.left);
   left : l.left ≡ l.size - 2048 * l.i;
   marks : (k : ℕ) → MarkedFrom k l.fn.hold.items → MarkedFrom k l.hold.items;
+  named : (h : ℕ → ℕ) → weighed h l.hold.items ≡ weighed h l.fn.hold.items;
   size : length l.hold.items ≡ length l.fn.hold.items;
   capacity : deque_capacity l.hold ≡ deque_capacity l.fn.hold;
   same : l.reader.source.ghost_name ≡ l.fn.reader.source.ghost_name;

@@ -9,6 +9,7 @@ returns-then-is_written-2-clause-ready g c = λ full.
     let w = c.work_and_read-worked in
     let old = c.args.reader.now.place in
     let ethernet : old.link ≡ Ethernet = search rules in
-    let waits = subst (λ (z : ReadAhead). IfPaused z (Waits c.args.rounds.now.budget old w.new.reader.place)) c.in-Paused.is w.ensures.reads.waits in
-    let on = c.read_rest.ensures.full full old waits.goes in
+    let left = g.S.Source.left c.args.reader.now.source.now in
+    let waits = subst (λ (z : ReadAhead). IfPaused z (Waits c.args.rounds.now.budget old w.new.reader.place left (g.S.Source.left w.new.reader.source.now))) c.in-Paused.is w.ensures.waits in
+    let on = c.read_rest.ensures.full full waits.at waits.keeps old waits.goes in
     (on.ready, on.link ∙ ethernet)

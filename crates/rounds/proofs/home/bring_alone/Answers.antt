@@ -1,10 +1,10 @@
 use Rattle.std.proofs.Common.{◌≡◌, ◌∷◌, [], ap, arith, length, length-append, refl, rules, ◌∙◌}
-use Rattle.gro.specs.Slots.{counts_of}
-use Rattle.rounds.proofs.Coming.{alone_pop, counts_pop}
+use Rattle.gro.specs.Slots.{counts_of, weighed_slots}
+use Rattle.rounds.proofs.Coming.{alone_pop, counts_pop, weights_pop}
 use Rattle.rounds.proofs.home.bring_alone.Goals as goal
 
 pub loop-packet-init : goal.loop-packet-init
-loop-packet-init c = record { alone = c.requires.alone; count = refl; memory = omega arith; made = (refl, refl) }
+loop-packet-init c = record { alone = c.requires.alone; count = refl; named = λ h. refl; memory = omega arith; made = (refl, refl) }
 
 pub bring_blocks-requires-clause-alone : goal.bring_blocks-requires-clause-alone
 bring_blocks-requires-clause-alone c = (alone_pop c.loop-packet.packets.items c.pop.new.self.items c.in-Some.packet c.in-Some.ensures.some c.loop-packet.invariant.alone).1
@@ -24,6 +24,7 @@ loop-packet-preserved c =
     record {
       alone = (alone_pop l.packets.items rest c.in-Some.packet c.in-Some.ensures.some l.invariant.alone).0;
       count = omega (arith, k, e.home, l.invariant.count);
+      named = λ h. omega (arith, weights_pop h l.packets.items rest c.in-Some.packet c.in-Some.ensures.some, e.blocks h, l.invariant.named h);
       memory = omega (arith, l.invariant.memory, c.in-Some.ensures.room, ap length c.in-Some.ensures.some, length-append rest (c.in-Some.packet ∷ []));
       made = (e.made.0 ∙ l.invariant.made.0, e.made.1 ∙ l.invariant.made.1);
     }
@@ -32,3 +33,8 @@ pub returns-clause-home : goal.returns-clause-home
 returns-clause-home c =
     let e : c.loop-packet.packets.items ≡ [] = search rules in
     omega (arith, ap counts_of e, c.loop-packet.invariant.count)
+
+pub returns-clause-named : goal.returns-clause-named
+returns-clause-named c = λ h.
+    let e : c.loop-packet.packets.items ≡ [] = search rules in
+    omega (arith, ap (weighed_slots h) e, c.loop-packet.invariant.named h)

@@ -4,7 +4,7 @@ use Rattle.gro.specs.Slots.{of_packets}
 use Rattle.taps.specs.Clones.{of_clones}
 use Rattle.lanes.specs.Lanes.{of_lanes}
 use Rattle.rounds.specs.Out.{IsOut}
-use Rattle.rounds.proofs.Keeping.{round_left}
+use Rattle.rounds.proofs.Keeping.{named_left, round_left}
 use Rattle.rounds.proofs.Rounding.{no_outcomes}
 use Rattle.rounds.proofs.home.bring_out.Goals as goal
 
@@ -67,3 +67,10 @@ returns-else-shared-clause-home c =
     let a = c.args in
     let o = subst (λ (z : Bool). IsOut z a.blocks a.packets.now.items a.lanes.now a.kept.items) c.if-shared.false c.requires.out in
     omega (arith, o.count, c.bring_round_alone.ensures.home)
+
+pub returns-then-shared-clause-named : goal.returns-then-shared-clause-named
+returns-then-shared-clause-named c = λ h.
+    let a = c.args in
+    let o = subst (λ (z : Bool). IsOut z a.blocks a.packets.now.items a.lanes.now a.kept.items) c.if-shared.true c.requires.out in
+    let named = named_left o.names (of_outcomes a.out.now) (of_packets a.packets.now.items) (of_lanes a.lanes.now) (of_clones a.kept.items) (no_outcomes a.out.now c.requires.bare) o.named in
+    omega (arith, c.bring_round.ensures.named o.names h named, o.weights h)

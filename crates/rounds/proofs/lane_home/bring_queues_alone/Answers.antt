@@ -1,14 +1,15 @@
 use Rattle.std.proofs.Common.{◌+◌, ap, get_or, refl, arith, subst, sym, ◌∙◌}
 use Rattle.gro.specs.Slots.{AreAlone}
 use Rattle.lanes.specs.declared.lane.QueueLane.{QueueLane}
-use Rattle.lanes.specs.Lanes.{counts_of_queues, IsIdleQueue}
+use Rattle.lanes.specs.Lanes.{counts_of_queues, weighed_queues, IsIdleQueue}
 use Rattle.lanes.proofs.Listing.{did_none, did_more}
-use Rattle.rounds.proofs.LaneCounts.{dropped, queue_counts_first}
+use Rattle.rounds.proofs.LaneCounts.{dropped, queue_counts_first, queue_weights_first}
 use Rattle.rounds.proofs.lane_home.bring_queues_alone.Goals as goal
 
 pub loop-i-init : goal.loop-i-init
 loop-i-init c = record {
   count = refl;
+  named = λ h. refl;
   made = (refl, refl);
   idle = did_none (λ (old new : QueueLane). IsIdleQueue new) c.args.lanes.now;
 }
@@ -36,6 +37,7 @@ loop-i-preserved c =
     let k = queue_counts_first l.i (l.i + 1) old d x (omega arith) c.loop-i-test.true (l.invariant.idle.back l.i d (omega arith)) in
     record {
       count = omega (arith, k, e.ensures.home, l.invariant.count);
+      named = λ h. omega (arith, queue_weights_first h l.i (l.i + 1) old d x (omega arith) c.loop-i-test.true (l.invariant.idle.back l.i d (omega arith)), e.ensures.named h, l.invariant.named h);
       made = (e.ensures.made.0 ∙ l.invariant.made.0, e.ensures.made.1 ∙ l.invariant.made.1);
       idle = did_more (λ (old new : QueueLane). IsIdleQueue new) l.i (l.i + 1) old l.lanes d e.new.lane (omega arith) c.loop-i-test.true
           e.ensures.idle l.invariant.idle;
@@ -46,6 +48,12 @@ returns-clause-home c =
     let l = c.loop-i in
     let none = ap counts_of_queues (dropped l.i c.args.lanes.now (omega (arith, c.loop-i-test.false))) in
     omega (arith, none, l.invariant.count)
+
+pub returns-clause-named : goal.returns-clause-named
+returns-clause-named c = λ h.
+    let l = c.loop-i in
+    let none = ap (weighed_queues h) (dropped l.i c.args.lanes.now (omega (arith, c.loop-i-test.false))) in
+    omega (arith, none, l.invariant.named h)
 
 pub returns-clause-idle : goal.returns-clause-idle
 returns-clause-idle c =

@@ -29,4 +29,4 @@ returns-clause-prepared c =
     let ps = c.args.packets.now.items in
     let k = c.keep_if in
     subst (λ (z : Bool). IsPrepared z ps k.new.packets.items k.new.kept.items) (sym c.if-not-shared.false)
-    (prepared_shared ps c.share_heads.new.self.items k.new.packets.items k.new.kept.items c.requires.laid c.share_heads.ensures.lent k.ensures.after k.ensures.kept k.ensures.fewer)
+    (prepared_shared ps c.share_heads.new.self.items k.new.packets.items k.new.kept.items c.requires.laid c.share_heads.ensures.lent k.ensures.after k.ensures.kept k.ensures.blocks k.ensures.fewer)

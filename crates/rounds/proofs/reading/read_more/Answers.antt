@@ -1,17 +1,22 @@
-use Rattle.std.proofs.Common.{◌≡◌, ◌-◌, ◌++◌, ◌∷◌, [], List, ℕ, Ok, Err, ap, sym, subst, ◌∙◌, arith, refl, length, length-append, map}
+use Rattle.std.proofs.Common.{◌≡◌, ◌+◌, ◌-◌, ◌^◌, ◌<◌, ◌≤◌, ◌++◌, ◌∷◌, [], List, ℕ, Ok, Err, ap, sym, subst, ◌∙◌, arith, refl, length, length-append, map, min}
 use Rattle.block_pool.specs.PoolState.{home}
 use Rattle.off_io.specs.Told.{Told}
 use Rattle.std.specs.List.{AllByRecursion}
-use Rattle.offload_model.specs.Need.{round_need}
+use Rattle.pcap_io.specs.declared.heads.RecHead.{RecHead}
+use Rattle.offload_model.specs.Need.{need_of, round_need}
 use Rattle.offload_model.specs.Captured.{IsCaptured}
 use Rattle.gro.specs.declared.slot.Slot.{Slot as Packet}
 use Rattle.gro.specs.Packets.{PacketsState}
-use Rattle.gro.specs.Slots.{packet_of, counts_of}
+use Rattle.gro.specs.Slots.{packet_of, counts_of, weighed_slots}
+use Rattle.gro.proofs.Weights.{weighed_last}
 use Rattle.records.specs.Laid.{AreRead, LaidFrom}
-use Rattle.rounds.specs.Reading.{GivesRest, NumbersOn}
+use Rattle.rounds.specs.Reading.{GivesRest, NumbersOn, WaitsOver}
+use Rattle.rounds.specs.declared.round.RoundEnd.{RoundEnd}
+use Rattle.records.specs.declared.reading.Stop.{Stop}
 use Rattle.records.specs.Reading.{GivesRecord}
+use Rattle.rounds.proofs.Pausing.{halt_ended, halt_lacking, waits_over}
 use Rattle.rounds.proofs.Coming.{counts_last}
-use Rattle.rounds.proofs.Rounding.{no_front, so_far_none, so_far_at, so_far_more, round_stop_given, need_last, read_last, captured_last, goes_over, fills_round, numbers_none, numbers_more}
+use Rattle.rounds.proofs.Rounding.{no_front, so_far_none, so_far_at, so_far_more, round_stop_given, need_last, read_last, captured_last, fills_round, numbers_none, numbers_more}
 use Rattle.records.proofs.Laying.{laid_at}
 use Rattle.rounds.proofs.reading.read_more.Goals as goal
 
@@ -32,10 +37,12 @@ reading-init g c =
       count = c.requires.count;
       need = c.requires.need;
       sum = omega arith;
+      named = λ h. refl;
       within = c.requires.within;
       made = refl;
       more = omega arith;
-      taken = omega arith;
+      taken = omega (arith, c.taken.ensures.value, c.taken.type_inv);
+      asked = omega arith;
       least = omega arith;
       most = omega arith;
       empty = c.requires.empty;
@@ -54,22 +61,55 @@ returns-in-Err-clause-given g c =
     let made = i.made in
     let told = subst (λ (k : ℕ). Told (g.S.Source.left l.reader.source.now) (g.S.Source.left c.read_record.new.reader.source.now) (GivesRecord l.used k l.reader.place c.read_record.new.reader.place []
     (Err c.in-Err.stop))) made bare in
-    let end = c.end_of.result in
     let old = c.args.reader.now.place in
     let new = c.read_record.new.reader.place in
     let first = c.args.packets.now.items in
-    subst (λ (ps : PacketsState). Told (g.S.Source.left c.args.reader.now.source.now) (g.S.Source.left c.read_record.new.reader.source.now) (GivesRest c.args.pool.now.made old new first ps.items end))
-    (sym c.in-Err.ensures.none)
-    (round_stop_given _ _ _ old l.reader.place new l.used c.args.pool.now.made first l.packets.items c.in-Err.stop end (i.so_far.link ∙ c.requires.link) i.within i.need c.end_of.ensures.end
-    i.so_far.told told)
+    let a = g.S.Source.left c.args.reader.now.source.now in
+    let b = g.S.Source.left c.read_record.new.reader.source.now in
+    halt_ended (λ (end : RoundEnd). Told a b (GivesRest c.args.pool.now.made old new first c.read_record.new.packets.items end)) c.in-Err.stop c.halt_of.result c.halt_of.ensures.halt
+    (λ end is. subst (λ (ps : PacketsState). Told a b (GivesRest c.args.pool.now.made old new first ps.items end)) (sym c.in-Err.ensures.none)
+    (round_stop_given _ _ _ old l.reader.place new l.used c.args.pool.now.made first l.packets.items c.in-Err.stop end (i.so_far.link ∙ c.requires.link) i.within i.need is i.so_far.told told))
 
-pub returns-then-not-may_begin-clause-given : goal.returns-then-not-may_begin-clause-given
-returns-then-not-may_begin-clause-given g c = c.reading.invariant.so_far.told
-
-pub returns-then-not-may_begin-clause-lacking : goal.returns-then-not-may_begin-clause-lacking
-returns-then-not-may_begin-clause-lacking g c = λ is.
+pub returns-in-Err-clause-lacking : goal.returns-in-Err-clause-lacking
+returns-in-Err-clause-lacking g c =
     let l = c.reading in
-    goes_over _ _ c.args.reader.now.place l.reader.place c.args.packets.now.items l.packets.items l.invariant.so_far
+    let i = l.invariant in
+    let r = c.in-Err.ensures in
+    let none = no_front c.read_record.new.front r.front in
+    let old = c.args.reader.now.place in
+    let new = c.read_record.new.reader.place in
+    let first = c.args.packets.now.items in
+    let a = g.S.Source.left c.args.reader.now.source.now in
+    let b = g.S.Source.left l.reader.source.now in
+    let z = g.S.Source.left c.read_record.new.reader.source.now in
+    let bare = subst (λ (f : List ℕ). Told b z (GivesRecord l.used l.pool.made l.reader.place new f (Err c.in-Err.stop))) none r.given in
+    halt_lacking _ (WaitsOver old new a z first c.read_record.new.packets.items) c.in-Err.stop c.halt_of.result c.halt_of.ensures.halt
+    (λ head is kept. subst (λ (ps : PacketsState). WaitsOver old new a z first ps.items head) (sym r.none)
+    (waits_over a b z old l.reader.place new l.used l.pool.made first l.packets.items head i.so_far kept.0
+    (subst (λ (s : Stop). Told b z (GivesRecord l.used l.pool.made l.reader.place new [] (Err s))) is bare)))
+    r.kept
+
+pub returns-in-Err-clause-wanted : goal.returns-in-Err-clause-wanted
+returns-in-Err-clause-wanted g c =
+    let l = c.reading in
+    let r = c.in-Err.ensures in
+    halt_lacking _ (λ (head : RecHead). (home c.read_record.new.pool < need_of head.captured) × (l.used + need_of head.captured ≤ c.args.pool.now.made)) c.in-Err.stop c.halt_of.result
+    c.halt_of.ensures.halt (λ head is kept. (omega (arith, kept.1), omega (arith, kept.2, l.invariant.made))) r.kept
+
+pub returns-in-Err-clause-refused : goal.returns-in-Err-clause-refused
+returns-in-Err-clause-refused g c = λ counts.
+    let l = c.reading in
+    let r = c.in-Err.ensures in
+    let refusals = g.H.Supply.refusals in
+    halt_lacking _ (λ (head : RecHead). min (refusals c.args.more.now + 1) (2 ^ 64 - 1) ≤ refusals c.read_record.new.more) c.in-Err.stop c.halt_of.result c.halt_of.ensures.halt
+    (λ head is rose. omega (arith, rose, l.invariant.asked)) (r.refused counts)
+
+pub returns-in-Err-clause-so_far : goal.returns-in-Err-clause-so_far
+returns-in-Err-clause-so_far g c =
+    let l = c.reading in
+    let r = c.in-Err.ensures in
+    halt_lacking _ (λ (head : RecHead). c.read_record.new.pool.taken ≡ min (c.args.pool.now.taken + (l.used - c.args.used)) (2 ^ 64 - 1)) c.in-Err.stop c.halt_of.result c.halt_of.ensures.halt
+    (λ head is kept. omega (arith, kept.3, l.invariant.taken)) r.kept
 
 pub returns-clause-full : goal.returns-clause-full
 returns-clause-full g c = λ is.
@@ -106,10 +146,12 @@ reading-preserved g c =
       count = omega (arith, ap counts_of e, counts_last ps p, i.count, k, r.spares);
       need = omega (arith, ap (λ (xs : List Packet). round_need (map packet_of xs)) e, need_last ps p, i.need, k, r.need p e);
       sum = omega (arith, i.sum, r.home, k);
+      named = λ h. omega (arith, i.named h, r.named p e h, ap (weighed_slots h) e, weighed_last h ps p);
       within = omega (arith, i.made, r.fits, k);
       made = omega (arith, i.made, r.made);
       more = omega (arith, i.more);
       taken = omega (arith, i.more, i.taken, r.taken, k);
+      asked = omega (arith, i.asked, r.asked);
       least = omega (arith, i.least, r.least);
       most = omega (arith, i.most, r.taken, k);
       empty = r.empty;

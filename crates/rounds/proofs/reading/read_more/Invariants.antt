@@ -1,10 +1,10 @@
-use Rattle.std.proofs.Common.{◌≡◌, ◌+◌, ◌-◌, ◌*◌, ◌^◌, ◌≤◌, [], min, map, length}
+use Rattle.std.proofs.Common.{◌≡◌, ℕ, ◌+◌, ◌-◌, ◌*◌, ◌^◌, ◌≤◌, [], min, map, length}
 use Rattle.std.specs.VecDeque.{deque_capacity}
-use Rattle.block_pool.specs.PoolState.{home}
+use Rattle.block_pool.specs.PoolState.{home, weighed}
 use Rattle.std.specs.List.{AllByRecursion}
 use Rattle.offload_model.specs.Need.{round_need}
 use Rattle.offload_model.specs.Captured.{IsCaptured}
-use Rattle.gro.specs.Slots.{packet_of, counts_of}
+use Rattle.gro.specs.Slots.{packet_of, counts_of, weighed_slots}
 use Rattle.records.specs.Laid.{AreRead, LaidFrom}
 use Rattle.rounds.specs.Reading.{NumbersOn}
 use Rattle.rounds.proofs.Rounding.{ReadSoFar}
@@ -24,10 +24,13 @@ invariant-reading g l = record {
   count : counts_of l.packets.items + home l.spares ≡ l.used;
   need : l.used ≡ round_need (map packet_of l.packets.items);
   sum : home l.pool + l.used + g.H.Supply.brought l.initial.more ≡ home l.initial.pool + l.initial.used + g.H.Supply.brought l.more;
+  named : (h : ℕ → ℕ) → weighed h l.pool.blocks + weighed_slots h l.packets.items + weighed h l.spares.blocks + g.H.Supply.weights l.initial.more h
+      ≡ weighed h l.initial.pool.blocks + weighed_slots h l.initial.packets.items + weighed h l.initial.spares.blocks + g.H.Supply.weights l.more h;
   within : l.used ≤ l.initial.pool.made;
   made : l.pool.made ≡ l.initial.pool.made;
   more : l.initial.used ≤ l.used;
-  taken : min (l.initial.pool.taken + (l.used - l.initial.used)) (2 ^ 64 - 1) ≤ l.pool.taken;
+  taken : l.pool.taken ≡ min (l.initial.pool.taken + (l.used - l.initial.used)) (2 ^ 64 - 1);
+  asked : g.H.Supply.refusals l.initial.more ≤ g.H.Supply.refusals l.more;
   least : l.initial.pool.taken ≤ l.pool.taken;
   most : l.pool.taken + l.initial.used ≤ l.initial.pool.taken + l.used;
   empty : l.hold.items ≡ [];

@@ -1,10 +1,10 @@
 use Rattle.std.proofs.Common.{sym, subst, ap, ◌∙◌}
-use Rattle.off_io.specs.Told.{Told}
 use Rattle.records.specs.Laid.{LaidFrom}
 use Rattle.rounds.specs.declared.reading.Halt.{Halt}
 use Rattle.rounds.specs.declared.reading.Halt.TheVariants.{Ended}
-use Rattle.rounds.specs.Reading.{GivesMore}
-use Rattle.rounds.proofs.Rounding.{whole_unready, whole_fills}
+use Rattle.rounds.specs.Reading.{IfLacking, WaitsOver}
+use Rattle.rounds.proofs.Pausing.{waits_ends}
+use Rattle.rounds.proofs.Rounding.{whole_fills}
 use Rattle.rounds.proofs.reading.read_records.Goals as goal
 
 pub read_more-blocks-requires-clause-laid : goal.read_more-blocks-requires-clause-laid
@@ -23,5 +23,5 @@ returns-in-Lacking-clause-given g c =
     let old = c.args.reader.now.place in
     let new = r.new.reader.place in
     let first = c.args.packets.now.items in
-    whole_unready a b old new c.args.pool.now.made first r.new.packets.items c.requires.none.0
-    (subst (λ (h : Halt). Told a b (GivesMore c.args.pool.now.made old new first r.new.packets.items h)) c.in-Lacking.is r.ensures.given)
+    let w = subst (λ (h : Halt). IfLacking h (WaitsOver old new a b first r.new.packets.items)) c.in-Lacking.is r.ensures.lacking in
+    waits_ends a b old new c.args.pool.now.made first r.new.packets.items c.in-Lacking.field-0 c.requires.none.0 w

@@ -1,8 +1,9 @@
 use Rattle.std.proofs.Common.{ap, arith}
 use Rattle.block_pool.specs.PoolState.{home}
 use Rattle.rtrb.specs.Ring.{received}
-use Rattle.pipeline.specs.Parcels.{homes_of, listed_home, shelved}
-use Rattle.pipeline.proofs.Rows.{homes_last, left_less}
+use Rattle.rounds.specs.Lists.{listed_home, weights_home}
+use Rattle.pipeline.specs.Parcels.{homes_of, shelved, weights_back, weights_shelved}
+use Rattle.pipeline.proofs.Rows.{homes_last, left_less, left_weighs, refill_weighs, weights_back_last}
 use Rattle.pipeline.proofs.desk.Desk.meet.Goals as goal
 
 pub invariant_of-self-clause-counted : goal.invariant_of-self-clause-counted
@@ -61,4 +62,56 @@ returns-else-not-goes-clause-sum g c =
           c.push_front_reserved.ensures.items,
       ap (λ s. shelved s.items) c.in-Some.ensures.same.0,
       ap (λ t. listed_home t.pass t.left) c.in-Some.ensures.same.1,
+    )
+
+pub invariant_of-self-clause-weighs : goal.invariant_of-self-clause-weighs
+invariant_of-self-clause-weighs g c h =
+    omega (
+      arith,
+      c.args.self.now.weighs h,
+      left_weighs h c.in-Some.token.shelf c.refill.new.from c.args.pool.now c.refill.new.self c.refill.ensures.moved,
+      ap (weights_back h) c.in-Some.ensures.token,
+      weights_back_last h (received c.args.self.now.tokens) c.in-Some.token,
+      ap (weights_shelved h) c.push_front_reserved.ensures.items,
+      ap (λ s. weights_shelved h s.items) c.in-Some.ensures.same.0,
+    )
+
+pub invariant_of-self-else-not-goes-clause-weighs : goal.invariant_of-self-else-not-goes-clause-weighs
+invariant_of-self-else-not-goes-clause-weighs g c h =
+    omega (
+      arith,
+      c.args.self.now.weighs h,
+      left_weighs h c.in-Some.token.shelf c.refill.new.from c.args.pool.now c.refill.new.self c.refill.ensures.moved,
+      ap (weights_back h) c.in-Some.ensures.token,
+      weights_back_last h (received c.args.self.now.tokens) c.in-Some.token,
+      ap (weights_shelved h) c.push_front_reserved.ensures.items,
+      ap (λ s. weights_shelved h s.items) c.in-Some.ensures.same.0,
+    )
+
+pub returns-then-not-goes-clause-named : goal.returns-then-not-goes-clause-named
+returns-then-not-goes-clause-named g c h =
+    omega (
+      arith,
+      c.args.self.now.weighs h,
+      left_weighs h c.in-Some.token.shelf c.refill.new.from c.args.pool.now c.refill.new.self c.refill.ensures.moved,
+      refill_weighs h c.in-Some.token.shelf.blocks c.refill.new.from.blocks c.args.pool.now.blocks c.refill.new.self.blocks c.refill.ensures.blocks,
+      ap (weights_back h) c.in-Some.ensures.token,
+      weights_back_last h (received c.args.self.now.tokens) c.in-Some.token,
+      ap (weights_shelved h) c.push_front_reserved.ensures.items,
+      ap (λ s. weights_shelved h s.items) c.in-Some.ensures.same.0,
+      ap (λ t. weights_home h t.pass t.left) c.in-Some.ensures.same.1,
+    )
+
+pub returns-else-not-goes-clause-named : goal.returns-else-not-goes-clause-named
+returns-else-not-goes-clause-named g c h =
+    omega (
+      arith,
+      c.args.self.now.weighs h,
+      left_weighs h c.in-Some.token.shelf c.refill.new.from c.args.pool.now c.refill.new.self c.refill.ensures.moved,
+      refill_weighs h c.in-Some.token.shelf.blocks c.refill.new.from.blocks c.args.pool.now.blocks c.refill.new.self.blocks c.refill.ensures.blocks,
+      ap (weights_back h) c.in-Some.ensures.token,
+      weights_back_last h (received c.args.self.now.tokens) c.in-Some.token,
+      ap (weights_shelved h) c.push_front_reserved.ensures.items,
+      ap (λ s. weights_shelved h s.items) c.in-Some.ensures.same.0,
+      ap (λ t. weights_home h t.pass t.left) c.in-Some.ensures.same.1,
     )

@@ -2,7 +2,7 @@ use Rattle.std.proofs.Common.{ℕ, ap, arith, length, rules, subst, sym}
 use Rattle.lanes.proofs.Listing.{refilled}
 use Rattle.rounds.specs.Out.{IsOut}
 use Rattle.rounds.specs.Table.{AllOpen}
-use Rattle.rounds.specs.RoundsState.{BenchState}
+use Rattle.rounds.specs.RoundsState.{BenchState, RestState}
 use Rattle.rounds.proofs.bench.Bench.bring.Goals as goal
 
 pub bring_out-requires-clause-out : goal.bring_out-requires-clause-out
@@ -11,7 +11,7 @@ bring_out-requires-clause-out c =
     subst (λ (n : ℕ). IsOut r.shared n r.packets.items r.lanes r.kept.items) (omega (arith, c.home.ensures.home)) c.rest.invariant.1
 
 pub bring_out-requires-clause-spare : goal.bring_out-requires-clause-spare
-bring_out-requires-clause-spare c = omega (arith, c.rest.view_is, c.requires.may.room, ap (λ (b : BenchState). b.room) c.self.view_is)
+bring_out-requires-clause-spare c = omega (arith, ap (λ (r : RestState). r.blocks) c.rest.view_is, c.requires.may.room, ap (λ (b : BenchState). b.room) c.self.view_is)
 
 pub invariant_of-self : goal.invariant_of-self
 invariant_of-self c =

@@ -1,8 +1,10 @@
 use Rattle.std.proofs.Common.{ap, arith, map, refl, subst, ◌-◌, ◌∙◌}
 use Rattle.block_pool.specs.PoolState.{home}
 use Rattle.gro.specs.Slots.{packet_of, counts_of}
+use Rattle.lanes.proofs.Idle.{idle_weighed}
 use Rattle.rounds.specs.Kept.{IsKept}
 use Rattle.rounds.specs.RoundsState.{BenchState, RoundState}
+use Rattle.rounds.specs.Weights.{weights_of}
 use Rattle.rounds.specs.declared.lane_work.Kept.{Kept}
 use Rattle.rounds.proofs.Keeping.{are_kept, at_count, out_idle}
 use Rattle.rounds.proofs.bench.Bench.keep_round.Goals as goal
@@ -38,3 +40,9 @@ returns-in-Ok-clause-kept c =
     (omega (arith, c.requires.few, c.self.invariant.0, ap (λ (b : BenchState). b.blocks) c.self.view_is, ap (λ (r : RoundState). r.blocks) c.round.view_is))
     s.ensures.taps s.ensures.only e.prepared
     (λ keep. e.all (ap (λ (b : BenchState). b.keep) c.self.view_is ∙ keep)))
+
+pub returns-in-Err-clause-named_back : goal.returns-in-Err-clause-named_back
+returns-in-Err-clause-named_back c = λ h.
+    let lanes = c.take_lanes in
+    let view = ap (λ (z : RoundState). weights_of z h) c.round.view_is in
+    omega (arith, view, c.in-Err.ensures.prepared.named h, idle_weighed h lanes.result.queues.items lanes.ensures.idle.0)

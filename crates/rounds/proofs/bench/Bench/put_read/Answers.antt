@@ -2,6 +2,7 @@ use Rattle.std.proofs.Common.{map, refl}
 use Rattle.offload_model.specs.Steps.{round_output}
 use Rattle.gro.specs.Slots.{packet_of}
 use Rattle.rounds.specs.Benches.{options_at}
+use Rattle.rounds.specs.Weights.{weights_of}
 use Rattle.rounds.proofs.Lanes.{works_out, brings_put, may_put}
 use Rattle.rounds.proofs.bench.Bench.put_read.Goals as goal
 
@@ -21,5 +22,5 @@ returns-clause-puts g c = λ worked.
 pub returns-clause-brings : goal.returns-clause-brings
 returns-clause-brings g c =
     let w = c.work_round-worked in
-    brings_put w.result c.args.self.now w.new.self c.put_round.new.self c.args.home.now w.new.home c.put_round.new.home c.args.read.round.blocks c.args.giver.now w.new.giver w.ensures.worked w.ensures.same w.ensures.brings
-    c.put_round.ensures.brings
+    brings_put w.result c.args.self.now w.new.self c.put_round.new.self c.args.home.now w.new.home c.put_round.new.home c.args.read.round.blocks (weights_of c.args.read.round) c.args.giver.now w.new.giver w.ensures.worked w.ensures.named
+    w.ensures.same w.ensures.brings c.put_round.ensures.brings

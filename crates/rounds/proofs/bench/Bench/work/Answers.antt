@@ -1,5 +1,6 @@
 use Rattle.std.proofs.Common.{arith, map, refl, subst, sym, ◌-◌, ◌∙◌}
 use Rattle.std.specs.Prelude.{IfOk}
+use Rattle.block_pool.specs.Giving.{weights_given}
 use Rattle.block_pool.specs.PoolState.{home}
 use Rattle.gro.specs.Slots.{packet_of}
 use Rattle.rounds.specs.declared.lane_work.Kept.{Kept}
@@ -7,7 +8,8 @@ use Rattle.rounds.specs.Kept.{IsKept}
 use Rattle.rounds.specs.Lanes.{IsKeptWorkOf}
 use Rattle.rounds.specs.Benches.{options_at}
 use Rattle.rounds.specs.RoundsState.{BenchState}
-use Rattle.rounds.proofs.Keeping.{blocks_left, kept_work, out_worked, rest_left, settles}
+use Rattle.rounds.specs.Weights.{weights_of, weights_left, weights_worked}
+use Rattle.rounds.proofs.Keeping.{blocks_left, kept_work, out_worked, rest_left, settles, weights_back, weights_then}
 use Rattle.rounds.proofs.Lending.{went}
 use Rattle.rounds.proofs.bench.Bench.work.Goals as goal
 
@@ -43,8 +45,8 @@ settle-requires g c =
             count = omega (arith, gone.fewer, is.spares, c.home.ensures.home, c.home-before.ensures.home);
           })
           w.result w.new.lanes w.ensures.lanes w.ensures.windows w.ensures.merged w.ensures.packets w.ensures.all
-          (out_worked k.shared plan.taps (k.blocks - home k.spares) k.packets.items w.new.packets.items w.new.lanes k.kept.items is.unshared is.round w.ensures.kept w.ensures.count w.ensures.clones
-          w.ensures.alone w.ensures.idle);
+          (out_worked k.shared plan.taps (k.blocks - home k.spares) k.packets.items w.new.packets.items w.new.lanes k.kept.items is.unshared is.round w.ensures.kept w.ensures.blocks
+          w.ensures.named w.ensures.count w.ensures.clones w.ensures.alone w.ensures.idle);
     }
 
 pub returns-clause-checked : goal.returns-clause-checked
@@ -77,3 +79,21 @@ returns-clause-rest g c =
     let is = c.in_ok-kept.ensures.kept in
     rest_left _ c.args.round.blocks _ _ c.settle.result
     (omega (arith, gone.count, gone.fewer, is.size, is.spares, c.home.ensures.home, c.home-before.ensures.home)) c.settle.ensures.rest
+
+pub returns-clause-named : goal.returns-clause-named
+returns-clause-named g c =
+    let k = c.in_ok-kept.kept in
+    let w = c.work_packets-done in
+    let gone = went c.args.giver.now c.swap_list.new.giver w.new.giver c.swap_list-2.new.giver k.spares c.swap_list.new.list c.swap_list-2.new.list c.requires.lent c.swap_list.ensures.swapped
+    w.ensures.gave c.swap_list-2.ensures.swapped in
+    weights_then weights_worked _ (weights_of c.args.round) (weights_given c.args.giver.now) (weights_given c.swap_list-2.new.giver) c.settle.result
+    (λ h. omega (arith, gone.named h, w.ensures.named h, c.in_ok-kept.ensures.named h)) c.settle.ensures.named
+
+pub returns-clause-named_back : goal.returns-clause-named_back
+returns-clause-named_back g c =
+    let k = c.in_ok-kept.kept in
+    let w = c.work_packets-done in
+    let gone = went c.args.giver.now c.swap_list.new.giver w.new.giver c.swap_list-2.new.giver k.spares c.swap_list.new.list c.swap_list-2.new.list c.requires.lent c.swap_list.ensures.swapped
+    w.ensures.gave c.swap_list-2.ensures.swapped in
+    weights_back weights_left _ (weights_of c.args.round) (weights_given c.args.giver.now) (weights_given c.swap_list-2.new.giver) c.settle.result
+    (λ h. omega (arith, gone.named h, w.ensures.named h, c.in_ok-kept.ensures.named h)) c.settle.ensures.named_back

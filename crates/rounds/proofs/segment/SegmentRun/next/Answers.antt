@@ -1,5 +1,7 @@
 use Rattle.std.proofs.Common.{◌≡◌, ℕ, ◌++◌, ◌≤◌, ◌∷◌, [], List, length, length-append, refl, sym, ap, ◌∙◌, subst, arith, Ok, Err}
 use Rattle.skb.specs.SkbState.{buffer_bytes}
+use Rattle.raw_block.specs.Views.{SoleState}
+use Rattle.block_pool.specs.PoolState.{weighed}
 use Rattle.off_io.specs.Told.{Told}
 use Rattle.pcap_io.specs.Limits.{off_head_size}
 use Rattle.pcap_io.specs.declared.heads.FileHead.{FileHead}
@@ -12,9 +14,23 @@ use Rattle.records.specs.Reading.{record_of}
 use Rattle.rounds.specs.RoundsState.{SegmentState}
 use Rattle.rounds.specs.Segmenting.{Moves}
 use Rattle.rounds.proofs.Moving.{moved_given, need_is, next_is, not_moved_given, original_counts, takes_one, unmoved_given}
-use Rattle.records.proofs.Laying.{laid_alone}
+use Rattle.rounds.proofs.Pausing.{never_kept}
+use Rattle.records.proofs.Laying.{laid_alone, weighed_none}
 use Rattle.rounds.proofs.segment.SegmentRun.next.Goals.{in-Ok-wrote, in-Err-wrote}
 use Rattle.rounds.proofs.segment.SegmentRun.next.Goals as goal
+
+pub stopped-requires : goal.stopped-requires
+stopped-requires g c = record {
+  begun = never_kept _ c.in-Err.stop (λ head kept. omega (
+    arith,
+    kept.1,
+    kept.2,
+    c.in-Err.ensures.back.0,
+    c.requires.home,
+    ap (λ (s : SegmentState). s.home) c.self.view_is,
+    ap (λ (s : SegmentState). s.blocks) c.self.view_is,
+  )) c.in-Err.ensures.kept;
+}
 
 pub returns-in-Err-clause-given : goal.returns-in-Err-clause-given
 returns-in-Err-clause-given g c =
@@ -107,3 +123,38 @@ returns-clause-taken g c = λ one.
     let before = ap (λ (s : SegmentState). s.taken) c.self.view_is in
     takes_one _ _ c.self.inside.pool.made 0 c.args.self.now.taken c.refill.new.self.taken c.args.reader.now.place r.new.reader.place front p
     (omega (arith, need_is front p long, before, c.in-Ok.ensures.need p is, c.in-Ok.ensures.count p is, c.in-Ok.ensures.taken, w.ensures.made.1, c.refill.ensures.same.1)) (c.in-Ok.ensures.given p is)
+
+pub returns-in-Err-clause-named : goal.returns-in-Err-clause-named
+returns-in-Err-clause-named g c = λ h. omega (arith, (c.in-Err.ensures.named_back h).0, ap (λ (s : SegmentState). weighed h s.stock) c.self.view_is)
+
+pub returns-clause-named : goal.returns-clause-named
+returns-clause-named g c = λ h.
+    let one = c.only_packet-packet in
+    let is = only c.self.inside.packets c.read_record-read.new.packets one.result c.self.invariant.5 one.ensures.only in
+    let homes = ap (λ (s : SegmentState). s.home) c.self.view_is in
+    let blocks = ap (λ (s : SegmentState). s.blocks) c.self.view_is in
+    let left : length c.refill.new.from.blocks ≡ 0 = omega (
+      arith,
+      c.refill.ensures.sum,
+      c.refill.ensures.same.0,
+      c.cut_record-wrote.ensures.home,
+      c.cut_record-wrote.ensures.made.0,
+      c.in-Ok.ensures.count one.result is,
+      c.in-Ok.ensures.home,
+      c.in-Ok.ensures.spares,
+      c.in-Ok.ensures.made,
+      c.requires.home,
+      c.self.invariant.3,
+      homes,
+      blocks,
+      c.refill.ensures.all,
+    ) in
+    omega (
+      arith,
+      c.in-Ok.ensures.named one.result is h,
+      c.cut_record-wrote.ensures.named h,
+      c.refill.ensures.blocks (λ (s : SoleState). h s.block),
+      weighed_none h c.self.inside.spares.blocks c.self.invariant.3,
+      weighed_none h c.refill.new.from.blocks left,
+      ap (λ (s : SegmentState). weighed h s.stock) c.self.view_is,
+    )

@@ -1,0 +1,18 @@
+use Rattle.std.proofs.Common.{arith}
+use Rattle.pipeline.proofs.Rows.{left_weighs, refill_weighs}
+use Rattle.round_tests.proofs.sides.ShelfSupply.bring.Goals as goal
+
+pub invariant_of-self : goal.invariant_of-self
+invariant_of-self g c = record {
+  weighs = λ h.
+      omega (arith, c.args.self.now.weighs h, left_weighs h c.args.self.now.pool c.refill.new.from c.args.pool.now c.refill.new.self c.refill.ensures.moved);
+}
+
+pub returns-clause-named : goal.returns-clause-named
+returns-clause-named g c h =
+    omega (
+      arith,
+      c.args.self.now.weighs h,
+      left_weighs h c.args.self.now.pool c.refill.new.from c.args.pool.now c.refill.new.self c.refill.ensures.moved,
+      refill_weighs h c.args.self.now.pool.blocks c.refill.new.from.blocks c.args.pool.now.blocks c.refill.new.self.blocks c.refill.ensures.blocks,
+    )

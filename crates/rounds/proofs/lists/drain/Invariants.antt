@@ -1,0 +1,23 @@
+use Rattle.std.proofs.Common.{◌≡◌, ℕ, ◌+◌, ◌≤◌, []}
+use Rattle.block_pool.specs.Listed.{blocks_in}
+use Rattle.block_pool.specs.PassState.{IsHome, IsOwn}
+use Rattle.block_pool.specs.PoolState.{weighed}
+use Rattle.rounds.specs.Lists.{weights_listed}
+use Rattle.rounds.proofs.lists.drain.Given as goal
+
+abbrev pub invariant-loop-waiting : goal.invariant-loop-waiting
+invariant-loop-waiting g l = record {
+  own : IsOwn l.lists l.pass;
+  parts : l.pass.parts ≡ 65536;
+  made : l.pass.made ≡ [];
+  put : l.pass.put ≡ l.initial.pass.put;
+  same : l.intake ≡ record l.initial.intake { home = l.intake.home; stock = l.intake.stock };
+  sum : l.intake.home + blocks_in l.initial.pass.taken ≡ l.initial.intake.home + blocks_in l.pass.taken;
+  named : (h : ℕ → ℕ) → weighed h l.intake.stock + weights_listed h l.initial.pass.taken ≡ weighed h l.initial.intake.stock + weights_listed h l.pass.taken;
+  rises : l.initial.intake.home ≤ l.intake.home;
+  count : l.waiting + l.pass.takes ≡ l.lists.made + l.pass.puts;
+  here : IsHome l.pass l.waiting;
+}
+
+abbrev pub decreases-loop-waiting : goal.decreases-loop-waiting
+decreases-loop-waiting g l = l.waiting
