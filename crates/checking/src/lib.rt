@@ -57,7 +57,7 @@
 //! next one of its flow), `counting` (a run's packets), `items` (a queue's), `lane_totals` (a round's) and `round`;
 //! `capture` (round by round to the end of a capture) and `beside` (read beside the work).
 //!
-//! Tests: `round_tests`, modules `checks` and `totals`, and within, `src/tests.rt`.
+//! Tests: `beside_tests`, modules `checks` and `totals`, and within, `src/tests.rt`.
 //!
 //! Why so:
 //!

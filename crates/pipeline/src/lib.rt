@@ -66,7 +66,7 @@
 //! first round and what is left, in one thread), `drive` (the first round, the two sides, and one thread where there
 //! can't be two), `crew` (all of that with who run lanes beside it) and `merge` (where each round is written).
 //!
-//! Tests: `round_tests`, module `pipeline`.
+//! Tests: `beside_tests`, module `driven`, and `round_tests`, module `lane_rows`.
 //!
 //! Why so:
 //!

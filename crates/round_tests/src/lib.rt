@@ -1,22 +1,13 @@
-//! Tests of rounds: the work of their lanes ([`lanes`]), the records that are written ([`records`]), rounds
-//! that are read, merged and segmented ([`rounds`]), read beside the work ([`pipeline`]), and checked
-//! ([`checking`]).
+//! Tests of rounds: the work of their lanes ([`lanes`]), the records that are written ([`records`]), and rounds that
+//! are read, merged and segmented, one after another ([`rounds`]). Reading beside the work has `beside_tests`.
 //!
 //! A crate of their own, since one with tests is proved twice, with them and without.
 #![tactic(auto)]
 
 #[cfg(test)]
-mod ahead;
-#[cfg(test)]
-mod checks;
-#[cfg(test)]
-mod driven;
-#[cfg(test)]
 mod examples;
 #[cfg(test)]
 mod frames;
-#[cfg(test)]
-mod halting;
 #[cfg(test)]
 mod jumbo;
 #[cfg(test)]
@@ -28,13 +19,9 @@ mod merging;
 #[cfg(test)]
 mod plans;
 #[cfg(test)]
-mod refused;
-#[cfg(test)]
 mod segments;
 #[cfg(test)]
 mod sides;
-#[cfg(test)]
-mod totals;
 #[cfg(test)]
 mod working;
 #[cfg(test)]

@@ -7,7 +7,6 @@ ghost use Rattle.pcap_io.specs.Places.{IsReady};
 ghost use Rattle.pcap_io.specs.Readers.{place_of, SameLoan};
 ghost use Rattle.rounds.specs.Reading.{PassesRound};
 
-use crate::merging::WRITTEN;
 use crate::plans::plain;
 use block_pool::Pool;
 use lanes::Alone;
@@ -17,7 +16,7 @@ use rounds::{AllHome, Bench, Intake, MergeEnd, Round, RoundEnd, RoundRead, Round
 use std::alloc::{AllocError, Global};
 use std::marker::{Brand, PhantomData};
 use std::test::Fail;
-use worked_captures::TWO_RECORDS;
+use worked_captures::{TWO_RECORDS, WRITTEN};
 
 // The blocks that were on a shelf at first: the call that lends it says them.
 trait Stocked {

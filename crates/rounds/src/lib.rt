@@ -110,7 +110,8 @@
 //! it, `specs/Fresh.antt` what that is once heads are shared, `specs/Reading.antt` what each end of a round says of the
 //! capture's bytes, `specs/Benches.antt` when blocks may come home, and what is so once they have.
 //!
-//! Tests: `round_tests`, modules `ahead`, `lanes`, `long_runs`, `merging`, `segments` and `sides`.
+//! Tests: `round_tests`, modules `frames`, `jumbo`, `lane_rows`, `long_runs`, `merging`, `segments` and `sides`, and
+//! `beside_tests`, modules `ahead` and `refused`.
 //!
 //! Why so:
 //!

@@ -4,8 +4,6 @@ ghost use Rattle.pcap_io.specs.declared.heads.Link.TheVariants.{Ethernet};
 ghost use Rattle.pcap_io.specs.Places.{IsReady};
 ghost use Rattle.pcap_io.specs.Readers.{place_of};
 
-use crate::lane_rows::{BY_QUEUE, WITH_WINDOWS};
-use crate::merging::WRITTEN;
 use crate::plans::plain;
 use lanes::{Alone, Beside, Works};
 use off_io::{Failed, Feed, Gate, Meeting, MemSink, MemSource, NoGate, Source, Who};
@@ -15,7 +13,7 @@ use std::alloc::Global;
 use std::sync::Wait;
 use std::test::Fail;
 use std::thread::Threads;
-use worked_captures::{TWO_FLOWS, TWO_RECORDS};
+use worked_captures::{BY_QUEUE, TWO_FLOWS, TWO_RECORDS, WITH_WINDOWS, WRITTEN};
 
 // How a capture is merged.
 #[derive(Clone, Copy, Debug)]

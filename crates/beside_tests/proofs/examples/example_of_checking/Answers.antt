@@ -1,7 +1,7 @@
 use Rattle.std.proofs.Common.{◌∙◌, ap}
 use Rattle.rounds.specs.RoundsState.{RoundsState}
 use Rattle.rounds.specs.Merging.{options_of}
-use Rattle.round_tests.proofs.examples.example_of_checking.Goals as goal
+use Rattle.beside_tests.proofs.examples.example_of_checking.Goals as goal
 
 pub check_all-end-requires-clause-start : goal.check_all-end-requires-clause-start
 check_all-end-requires-clause-start g c =

@@ -5,7 +5,6 @@ ghost use Rattle.pcap_io.specs.declared.heads.Link.TheVariants.{Ethernet};
 ghost use Rattle.pcap_io.specs.Places.{IsReady};
 ghost use Rattle.pcap_io.specs.Readers.{place_of};
 
-use crate::lane_rows::BY_QUEUE;
 use crate::plans::plain;
 use lanes::Alone;
 use off_io::{Feed, MemSink, NoGate, Source, SureSource};
@@ -15,7 +14,7 @@ use std::alloc::{AllocError, Global};
 use std::process::Abort;
 use std::sync::Wait;
 use std::thread::Threads;
-use worked_captures::TWO_FLOWS;
+use worked_captures::{BY_QUEUE, TWO_FLOWS};
 
 // As many as the first round needs, so the read of the next one pauses.
 const BLOCKS: u32 = 12;

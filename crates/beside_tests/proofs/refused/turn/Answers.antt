@@ -2,10 +2,10 @@ use Rattle.std.proofs.Common.{◌≡◌, rules, subst, ◌∙◌}
 use Rattle.pcap_io.specs.declared.heads.Link.TheVariants.{Ethernet}
 use Rattle.rounds.specs.Ahead.{IfPaused, Waits}
 use Rattle.rounds.specs.declared.round.ReadAhead.{ReadAhead}
-use Rattle.round_tests.proofs.ahead.turn.Goals as goal
+use Rattle.beside_tests.proofs.refused.turn.Goals as goal
 
-pub returns-in-Paused-clause-ready : goal.returns-in-Paused-clause-ready
-returns-in-Paused-clause-ready g c = λ full.
+pub returns-then-is_written-2-clause-ready : goal.returns-then-is_written-2-clause-ready
+returns-then-is_written-2-clause-ready g c = λ full.
     let w = c.work_and_read-worked in
     let old = c.args.reader.now.place in
     let ethernet : old.link ≡ Ethernet = search rules in

@@ -1,0 +1,23 @@
+//! Tests of rounds that are read beside the work of others: driven one by one ([`rounds`]), by two sides at once
+//! ([`pipeline`]), and compared as they are worked ([`checking`]).
+//!
+//! A crate of their own, since one with tests is proved twice, with them and without; and beside `round_tests`, so that
+//! both are proved at the same time.
+#![tactic(auto)]
+
+#[cfg(test)]
+mod ahead;
+#[cfg(test)]
+mod checks;
+#[cfg(test)]
+mod driven;
+#[cfg(test)]
+mod examples;
+#[cfg(test)]
+mod halting;
+#[cfg(test)]
+mod plans;
+#[cfg(test)]
+mod refused;
+#[cfg(test)]
+mod totals;
