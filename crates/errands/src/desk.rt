@@ -125,6 +125,7 @@ impl<T: Drop> Errands<T> {
         requires own { asker.old.desk ≡ self.now }
         ensures same { asker.new ≡ asker.old }
         ensures own { IfOk result (λ runners. All (λ r. r ≡ self.now) runners.items) }
+        ensures count { IfOk result (λ runners. length runners.items ≡ count) }
     {
         let mut runners = Vec::new(alloc);
         for _ in 0..count {

@@ -91,6 +91,7 @@ impl<'a, T: Drop, D: Drop, J: Job<T, D>, N: Naming, R> Crew<'a, T, D, J, N, R> {
     ) -> Crew<'a, T, D, J, N, R>
         requires own { (asker.desk ≡ errands.now) × (runner ≡ errands.now) × (errands.now ≡ N.desk) }
         requires none { (asker.log ≡ []) × (places.items ≡ []) }
+        ensures own { result ≡ N.desk }
     {
         Crew {
             rt,

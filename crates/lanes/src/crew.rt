@@ -1,5 +1,5 @@
 //! All who run a round's tasks, as one who works its lanes.
-ghost use Rattle.std.specs.Prelude.{◌≡◌, ◌+◌, ◌≤◌, [], length, All, IfOk};
+ghost use Rattle.std.specs.Prelude.{◌≡◌, ◌+◌, ◌-◌, ◌≤◌, max, [], length, All, IfOk};
 ghost use Rattle.std.specs.VecDeque.{deque_capacity};
 ghost use Rattle.block_pool.specs.Giving.{MayGive};
 ghost use Rattle.lanes.specs.Desks.{IsOpenDesk};
@@ -39,11 +39,14 @@ pub struct LaneDesk {
     pub bells: Bells,
 }
 
-/// How many run tasks beside who asks, so that as many lanes are at work as there are processors for; one at least, so
-/// that two lanes may wait for each other.
-pub fn count_runners(rt: &impl Threads, lanes: u32) -> u32 {
+/// How many run tasks beside who asks, so that as many lanes are at work as there are processors for, of which the side
+/// that reads has one; one at least, so that two lanes may wait for each other.
+pub fn count_runners(rt: &impl Threads, lanes: u32) -> u32
+    ensures some { 1 ≤ result }
+    ensures few { result ≤ max 1 (lanes - 1) }
+{
     let threads = match thread::available_parallelism(rt) {
-        Ok(count) => count.get().min(lanes as usize) as u32,
+        Ok(count) => count.get().saturating_sub(1).min(lanes as usize) as u32,
         Err(_) => 1,
     };
     threads.saturating_sub(1).max(1)
@@ -52,6 +55,7 @@ pub fn count_runners(rt: &impl Threads, lanes: u32) -> u32 {
 /// A desk with so many who run tasks beside who asks.
 pub fn open_desk(alloc: Global, runners: u32) -> Result<LaneDesk, AllocError>
     ensures open { IfOk result IsOpenDesk }
+    ensures count { IfOk result (λ desk. length desk.runners.items ≡ runners) }
 {
     let (errands, mut asker) = Errands::open(alloc, LANES)?;
     let beside = errands.enlist_all(alloc, &mut asker, runners)?;
@@ -103,6 +107,7 @@ impl<'a, 'g, G: Gate, N: Naming, R: Wait> LaneCrew<'a, 'g, G, N, R> {
     ) -> Result<LaneCrew<'a, 'g, G, N, R>, AllocError>
         requires own { (asker.desk ≡ errands.now) × (own ≡ errands.now) × (errands.now ≡ N.desk) }
         requires none { asker.log ≡ [] }
+        ensures own { IfOk result (λ crew. crew ≡ N.desk) }
     {
         let places = Vec::with_capacity(alloc, LANES)?;
         let tasks = VecDeque::with_capacity(alloc, LANES)?;

@@ -14,4 +14,5 @@ pub loop-preserved : goal.loop-preserved
 loop-preserved g c = record {
   same = search rules;
   own = all_pushed c.loop.runners.items c.push.new.self.items c.enlist.result c.args.self.now (search rules) c.loop.invariant.own (search rules);
+  count = search rules;
 }
