@@ -1,5 +1,5 @@
 //! What comes in at the desk while rounds are read.
-ghost use Rattle.std.specs.Prelude.{◌≡◌, ℕ, ◌+◌, MatchOption, [], ◌∷◌, ◌++◌};
+ghost use Rattle.std.specs.Prelude.{◌≡◌, ℕ, ◌+◌, ◌<◌, ◌≤◌, false, MatchOption, [], ◌∷◌, ◌++◌};
 ghost use Rattle.block_pool.specs.PoolState.{home, weighed};
 ghost use Rattle.rtrb.specs.Ring.{received};
 ghost use Rattle.pipeline.specs.Desks.{brought_to, weights_to};
@@ -20,7 +20,8 @@ impl<W: Post + Drop> Desk<W> {
     fn next_token(&mut self, tries: u32, waits: bool) -> Option<Token>
         ensures token { MatchOption result (received self.new.tokens ≡ received self.old.tokens)
             (λ t. received self.new.tokens ≡ received self.old.tokens ++ t ∷ []) }
-        ensures same { (self.new.shelves ≡ self.old.shelves) × (self.new.taker ≡ self.old.taker) }
+        ensures same { (self.new.shelves ≡ self.old.shelves) × (self.new.taker ≡ self.old.taker)
+            × (self.new.owed ≡ self.old.owed) }
     {
         if waits {
             Some(self.post.next(&mut self.tokens))
@@ -35,6 +36,7 @@ impl<W: Post + Drop> Desk<W> {
         ensures named { (h : ℕ → ℕ) → weighed h pool.new.blocks + weights_to self.old h
             ≡ weighed h pool.old.blocks + weights_to self.new h }
         ensures same { (pool.new.made ≡ pool.old.made) × (pool.new.taken ≡ pool.old.taken) }
+        ensures owed { self.old.owed + brought_to self.old ≤ self.new.owed + brought_to self.new }
     {
         if self.shelves.len() == self.shelves.capacity() {
             return false;
@@ -43,8 +45,9 @@ impl<W: Post + Drop> Desk<W> {
             return false;
         };
         let Token { mut shelf, goes } = token;
-        let _ = pool.home();
+        let before = pool.home();
         pool.refill(&mut shelf);
+        self.owed = self.owed.saturating_sub(pool.home() - before);
         self.shelves.push_front_reserved(shelf);
         self.out = self.out.saturating_sub(1);
         if !goes {
@@ -59,8 +62,12 @@ impl<W: Post + Drop> Desk<W> {
         ensures named { (h : ℕ → ℕ) → weighed h pool.new.blocks + weights_to self.old h
             ≡ weighed h pool.old.blocks + weights_to self.new h }
         ensures same { (pool.new.made ≡ pool.old.made) × (pool.new.taken ≡ pool.old.taken) }
+        ensures owed { self.old.owed + brought_to self.old ≤ self.new.owed + brought_to self.new }
     {
-        self.post.bring_list(&mut self.taker, pool)
+        let before = pool.home();
+        let came = self.post.bring_list(&mut self.taker, pool);
+        self.owed = self.owed.saturating_sub(pool.home() - before);
+        came
     }
 
     // Whether a token will come.
@@ -68,28 +75,48 @@ impl<W: Post + Drop> Desk<W> {
         self.out > 0 && !self.stopped
     }
 
-    // A list or a token, whichever comes first. The side that reads looks for both for a while; then it says that it
-    // waits, looks once more, and sleeps between its looks.
-    fn meet_any(&mut self, pool: &mut Pool) -> bool
+    // A list or a token, whichever comes first, however long that takes. The side that reads looks for both for a
+    // while; then it says that it waits, looks once more, and sleeps between its looks.
+    fn meet_any(&mut self, pool: &mut Pool)
         ensures sum { home pool.new + brought_to self.old ≡ home pool.old + brought_to self.new }
         ensures named { (h : ℕ → ℕ) → weighed h pool.new.blocks + weights_to self.old h
             ≡ weighed h pool.old.blocks + weights_to self.new h }
         ensures same { (pool.new.made ≡ pool.old.made) × (pool.new.taken ≡ pool.old.taken) }
+        ensures owed { self.old.owed + brought_to self.old ≤ self.new.owed + brought_to self.new }
     {
-        for turn in 0..u32::MAX {
-            let came = self.meet_list(pool) || self.meet(pool, LOOKS, false);
-            if came || !self.awaits() {
+        for turn in 0..u64::MAX {
+            if self.meet_list(pool) || self.meet(pool, LOOKS, false) {
                 self.post.end_wait();
-                return came;
+                return;
             }
-            if turn == LOOKS {
+            if turn == LOOKS as u64 {
                 self.post.begin_wait();
             }
-            if turn > LOOKS {
+            if turn > LOOKS as u64 {
                 self.post.sleep();
             }
         }
-        self.meet(pool, 1, true)
+        self.post.stall();
+        unreachable!()
+    }
+
+    // As many blocks as are needed, or all that are owed, however long that takes, unless the other side has stopped.
+    fn meet_needed(&mut self, pool: &mut Pool, need: u32)
+        ensures sum { home pool.new + brought_to self.old ≡ home pool.old + brought_to self.new }
+        ensures named { (h : ℕ → ℕ) → weighed h pool.new.blocks + weights_to self.old h
+            ≡ weighed h pool.old.blocks + weights_to self.new h }
+        ensures same { (pool.new.made ≡ pool.old.made) × (pool.new.taken ≡ pool.old.taken) }
+        ensures owed { self.old.owed + brought_to self.old ≤ self.new.owed + brought_to self.new }
+        ensures short { home pool.new < need → self.new.stopped ≡ false → self.new.owed ≡ 0 }
+    {
+        for _ in 0..u64::MAX {
+            if pool.home() >= need || self.owed == 0 || self.stopped {
+                return;
+            }
+            self.meet_any(pool);
+        }
+        self.post.stall();
+        unreachable!()
     }
 
     // All tokens that have come, and one at least where no shelf is here and one will come.
@@ -98,6 +125,7 @@ impl<W: Post + Drop> Desk<W> {
         ensures named { (h : ℕ → ℕ) → weighed h pool.new.blocks + weights_to self.old h
             ≡ weighed h pool.old.blocks + weights_to self.new h }
         ensures same { (pool.new.made ≡ pool.old.made) × (pool.new.taken ≡ pool.old.taken) }
+        ensures owed { self.old.owed + brought_to self.old ≤ self.new.owed + brought_to self.new }
     {
         for _ in 0..=SHELVES {
             let waits = self.shelves.is_empty() && self.awaits();
@@ -109,7 +137,6 @@ impl<W: Post + Drop> Desk<W> {
 }
 
 impl<W: Post + Drop> Supply for Desk<W> {
-    ghost use Rattle.std.specs.Prelude.{false};
     ghost use Rattle.pipeline.specs.Desks.{brought_to, weights_to};
 
     ghost brought = { brought_to };
@@ -120,18 +147,21 @@ impl<W: Post + Drop> Supply for Desk<W> {
 
     ghost refusals = { λ _. 0 };
 
+    ghost owed = { λ d. d.owed };
+
+    ghost ended = { λ d. d.stopped };
+
     /// Where none is needed a round is to be read: then tokens come in, with their shelves.
     fn bring(&mut self, pool: &mut Pool, need: u32) -> bool {
         if need == 0 {
             self.meet_all(pool);
             return true;
         }
-        // Each turn brings a block or a token, and no more tokens are out than there are shelves.
-        for _ in 0..need.saturating_add(SHELVES as u32) {
-            if pool.home() >= need || !self.meet_any(pool) {
-                break;
-            }
-        }
+        self.meet_needed(pool, need);
         need <= pool.home()
+    }
+
+    fn has_ended(&self) -> bool {
+        self.stopped
     }
 }

@@ -168,6 +168,7 @@ fn handle_named<
     let Ok((mut out, mut from, shelf, mut kept, shelves)) = prepare::<N>(alloc, bench) else {
         return Err(read);
     };
+    let owed = read.round.blocks();
     send_first(rt, &mut out, read, shelf);
     let Ways {
         mut told,
@@ -180,7 +181,7 @@ fn handle_named<
     let bells = Bells::new(bell);
     let post = Sleeper::<'_, R, N>::new(rt, &bells);
     let mut supply = Reading {
-        desk: Desk::new(post, blocks, tokens, shelves, taker),
+        desk: Desk::new(post, blocks, owed, tokens, shelves, taker),
         out,
     };
     let end = run_sides(
@@ -281,8 +282,8 @@ fn is_shared(rt: &impl Threads, lanes: u32, read: &RoundRead) -> bool
 }
 
 /// Handles a capture's rounds by whoever works; the next rounds are read while one is worked, the first one too. On one
-/// processor, where frames are short and there is one lane, and where there is no memory or no thread for a second side,
-/// they are read here. Of a capture of one round no thread is made for it.
+/// processor, where frames are short and there is one lane, and where there is no memory or no thread for a second
+/// side, they are read here. Of a capture of one round no thread is made for it.
 pub(crate) fn handle_by<
     R: Threads + Wait + Sync,
     W: Works,

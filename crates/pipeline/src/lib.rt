@@ -29,23 +29,28 @@
 //!   its own. The shelf goes back in a token. Only the last round's stay on a shelf with the side that works until both
 //!   have ended: blocks are handed over where there is room for all that they may leave again.
 //!
-//! There are three shelves, so reading is at most three rounds ahead. Behind a record's header, where fewer blocks are
-//! home than the record needs, the side that reads takes lists, and where there is none it waits for one, or for a
-//! token. So a record is left half read only where no block can come any more, and a round exceeds the blocks just
-//! where it does in one thread.
+//! There are three shelves, so reading is at most three rounds ahead. The side that reads counts the blocks that went
+//! away with rounds and haven't come home. Behind a record's header, where fewer are home than the record needs, it
+//! takes lists, and where there is none it waits for one, or for a token, as long as blocks are away and the other side
+//! hasn't stopped. So a record is left half read for want of blocks only where the other side has stopped, and a round
+//! exceeds the blocks just where it does in one thread.
 //!
-//! Proved of [`handle_beside`], whatever both threads do at the same time, is the clause of `rounds::handle_from`, which
-//! does the same in one thread: the rounds that were read stand one behind another in the capture, each of the first of
-//! them was handled in turn up to the one that ended it, and nothing was done with those behind. What was sent by a ring
-//! and what was received are known once the threads have joined. All blocks are home whatever the ending, also those of
-//! rounds that were read and that nobody worked. [`merge_beside`] has the clauses of `Rounds::merge_all`, word for word.
+//! Proved of [`handle_beside`], whatever both threads do at the same time, is the clause of `rounds::handle_from`,
+//! which does the same in one thread: the rounds that were read stand one behind another in the capture, each of the
+//! first of them was handled in turn up to the one that ended it, and nothing was done with those behind. What was sent
+//! by a ring and what was received are known once the threads have joined. All blocks are home whatever the ending,
+//! also those of rounds that were read and that nobody worked. [`merge_beside`] has the clauses of `Rounds::merge_all`,
+//! word for word. As each round begins all blocks are home or owed (`sure` of `Intake::read_round`), and the desk says
+//! no only where none is owed or the other side has stopped (`short` of `bring`): so no round ends for want of blocks
+//! while the other side goes on.
 //!
 //! Not proved: that waiting ends. The side that works waits only where it has sent a token for each parcel that it
-//! received, and the side that reads only while a shelf is away and the other side hasn't stopped; so never both. Each
-//! push into a ring is followed by the bell of who may wait for it, whose ring isn't lost while nobody sleeps, and
-//! whoever wakes tries again. Where no thread can be made for the side that reads, the other one gives up after a third
-//! of a second, and does all alone. Nor is it proved in the reading thread that all blocks are in its pool once all
-//! tokens and lists are back: if they weren't, merging would end as for want of memory.
+//! received, so that all blocks of these lie in tokens and lists, and the side that reads only while a shelf or blocks
+//! are away and the other side hasn't stopped; so never both. Each push into a ring is followed by the bell of who may
+//! wait for it, whose ring isn't lost while nobody sleeps, and whoever wakes tries again. Where no thread can be made
+//! for the side that reads, the other one gives up after a third of a second, and does all alone. Nor is it proved in
+//! the reading thread that all blocks are in its pool once all tokens and lists are back. If they weren't it would wait
+//! on, or, where a shelf kept some, merging would end as for want of memory.
 //!
 //! ```
 //! let end = merge_beside(
@@ -82,8 +87,9 @@
 //!   reads has the one part that is left, and its pass says what it took (`brought`). What was put is known where the
 //!   giver is; that all of it was taken, or is home, only where both are in one hand.
 //! - **That all blocks are there once all tokens are back isn't proved in the reading thread**, since it knows nothing
-//!   of the other one but what the ring says of a token, and the pool of a list; if it weren't so, merging would end as
-//!   for want of memory, which its clauses allow. After the join both lists are known, and `home` is proved.
+//!   of the other one but what the ring says of a token, and the pool of a list. So it counts what went away with
+//!   rounds, less what came home, and waits for these alone: where it says no the other side has stopped, and the round
+//!   that is cut short is never worked. After the join both lists are known, and `home` is proved.
 #![tactic(auto)]
 
 mod arrivals;

@@ -1,5 +1,5 @@
 //! Where the side that reads waits for blocks.
-ghost use Rattle.std.specs.Prelude.{◌≡◌, ℕ, ◌+◌, [], ◌∷◌, ◌++◌};
+ghost use Rattle.std.specs.Prelude.{◌≡◌, ℕ, ◌+◌, ◌≤◌, [], ◌∷◌, ◌++◌};
 ghost use Rattle.std.specs.Arc.{arc_value};
 ghost use Rattle.block_pool.specs.PassState.{SharedState};
 ghost use Rattle.block_pool.specs.PoolState.{home, weighed};
@@ -38,6 +38,7 @@ pub(crate) trait Post {
         ensures named { (h : ℕ → ℕ) → weighed h pool.new.blocks + weights_home h taker.old.pass taker.old.left
             ≡ weighed h pool.old.blocks + weights_home h taker.new.pass taker.new.left }
         ensures same { (pool.new.made ≡ pool.old.made) × (pool.new.taken ≡ pool.old.taken) }
+        ensures rises { home pool.old ≤ home pool.new }
         ensures lists { arc_value taker.new.lists ≡ arc_value taker.old.lists };
 
     /// Says that who gives a list is to wake this side from here on. It looks once more before it sleeps.
@@ -48,6 +49,10 @@ pub(crate) trait Post {
 
     /// Lists wake this side no more.
     fn end_wait(&self);
+
+    /// Waits for ever, at the end of more turns than any run takes.
+    fn stall(&self)
+        ensures never { ⊥ };
 
     /// Wakes the other side.
     fn wake(&self);
@@ -100,6 +105,11 @@ impl<R: Wait, N: Naming> Post for Sleeper<'_, R, N> {
 
     fn end_wait(&self) {
         self.bells.reader.end();
+    }
+
+    fn stall(&self) {
+        for _ in self.rt.forever() {}
+        unreachable!()
     }
 
     fn wake(&self) {

@@ -44,11 +44,18 @@ data_step (suc i) n size (x ∷ ss) s lt e fits =
     ∙ ap (λ (z : List ℕ). slice_range x.bytes 0 (0 + min n (2048 - 0)) ++ z) more
     ∙ sym (append_assoc (slice_range x.bytes 0 (0 + min n (2048 - 0))) (data_of 0 (n - (2048 - 0)) ss) (slice_range s.bytes 0 size))
 
--- what the first block has behind its headroom, and what those behind it have
-pub data_behind : (len k : ℕ) (s : SoleState) (ss : List SoleState) → k ≡ min len 1984 → data_of 64 len (s ∷ ss) ≡ slice_range s.bytes 64 (64 + k) ++ data_of 0 (len - k) ss
+-- what the first block has behind its headroom
+pub data_alone : (k : ℕ) (s : SoleState) → k ≤ 1984 → data_of 64 k (s ∷ []) ≡ slice_range s.bytes 64 (64 + k)
+data_alone k s fits =
+    let all : min k (2048 - 64) ≡ k = omega (arith, fits) in
+    ap (λ (z : ℕ). slice_range s.bytes 64 (64 + z) ++ []) all ∙ append-nil (slice_range s.bytes 64 (64 + k))
+
+-- and what those behind it have
+pub data_behind : (len k : ℕ) (s : SoleState) (ss : List SoleState) → k ≡ min len 1984 → data_of 64 len (s ∷ ss) ≡ data_of 64 k (s ∷ []) ++ data_of 0 (len - k) ss
 data_behind len k s ss e =
     let rest : len - (2048 - 64) ≡ len - k = omega (arith, e) in
     ap (λ (z : ℕ). slice_range s.bytes 64 (64 + z) ++ data_of 0 (len - (2048 - 64)) ss) (sym e) ∙ ap (λ (z : ℕ). slice_range s.bytes 64 (64 + k) ++ data_of 0 z ss) rest
+    ∙ ap (λ (z : List ℕ). z ++ data_of 0 (len - k) ss) (sym (data_alone k s (omega (arith, e))))
 
 pub marked_set : (i k : ℕ) (xs : List SoleState) (s d : SoleState) → i < length xs → s.mark ≡ (get_or xs i d).mark → MarkedFrom k xs → MarkedFrom k (set xs i s)
 marked_set i k [] s d lt e h = absurd (omega (arith, lt))
@@ -107,12 +114,33 @@ first_cut old mid (Cap fault) front x len ss bytes rest left within same p q = (
 first_cut old mid ReadFault front x len ss bytes rest left within same p q =
     (front ++ q.0, p ∙ ap (λ (z : List ℕ). front ++ z) q.1 ∙ sym (append_assoc front q.0 left), omega (arith, length-append front q.0, q.2, within))
 
--- the same within the first block
-pub first_stop : (a b c : Option (List ℕ)) (old mid : Place) (fault : InFault) (front x : List ℕ) (len : ℕ) (ss : List SoleState) → length x ≤ len → short_record mid ≡ short_record old
-    → Told a b (GivesBody old (Ok tt) front) → Told b c (GivesBody mid (Err fault) x) → Told a c (GivesFrame old front len (Err fault) ss)
-first_stop a b c old mid fault front x len ss within same first second =
-    Told-then a b c (GivesBody old (Ok tt) front) (GivesBody mid (Err fault) x) (GivesFrame old front len (Err fault) ss)
-    (λ bytes rest left p q. first_cut old mid fault front x len ss bytes rest left within same p q) first second
+both_gone : (front x bytes mid rest : List ℕ) → bytes ≡ front ++ mid → mid ≡ x ++ rest → bytes ≡ (front ++ x) ++ rest
+both_gone front x bytes mid rest p q = p ∙ ap (λ (z : List ℕ). front ++ z) q ∙ sym (append_assoc front x rest)
+
+first_of : (old mid : Place) (r : Result (Unit {0}) InFault) (front x : List ℕ) (len : ℕ) (ss : List SoleState) (bytes rest left : List ℕ) → data_of 64 len ss ≡ x → length x ≤ len
+    → short_record mid ≡ short_record old
+    → GivesBody old (Ok tt) front bytes rest → GivesBody mid r x rest left → GivesFrame old front len r ss bytes left
+first_of old mid (Ok u) front x len ss bytes rest left is within same p q = both_gone front x bytes rest left p q ∙ ap (λ (z : List ℕ). (front ++ z) ++ left) (sym is)
+first_of old mid (Err fault) front x len ss bytes rest left is within same p q = first_cut old mid fault front x len ss bytes rest left within same p q
+
+-- whatever comes of the first block
+pub first_given : (a b c : Option (List ℕ)) (old mid : Place) (r : Result (Unit {0}) InFault) (front x : List ℕ) (len : ℕ) (ss : List SoleState) → data_of 64 len ss ≡ x → length x ≤ len
+    → short_record mid ≡ short_record old
+    → Told a b (GivesBody old (Ok tt) front) → Told b c (GivesBody mid r x) → Told a c (GivesFrame old front len r ss)
+first_given a b c old mid r front x len ss is within same first second =
+    Told-then a b c (GivesBody old (Ok tt) front) (GivesBody mid r x) (GivesFrame old front len r ss)
+    (λ bytes rest left p q. first_of old mid r front x len ss bytes rest left is within same p q) first second
+
+more_cut : (place : Place) (fault : InFault) (front : List ℕ) (k len : ℕ) (ss all : List SoleState) (bytes left : List ℕ) → k ≤ len → GivesFrame place front k (Err fault) ss bytes left
+    → GivesFrame place front len (Err fault) all bytes left
+more_cut place (Cap fault) front k len ss all bytes left within q = (omega (arith, q.0, within), q.1, q.2)
+more_cut place ReadFault front k len ss all bytes left within q = (q.0, q.1, omega (arith, q.2, within))
+
+-- a fault within it
+pub first_stop : (a b : Option (List ℕ)) (place : Place) (fault : InFault) (front : List ℕ) (k len : ℕ) (ss all : List SoleState) → k ≤ len → Told a b (GivesFrame place front k (Err fault) ss)
+    → Told a b (GivesFrame place front len (Err fault) all)
+first_stop a b place fault front k len ss all within told =
+    Told-weaker a b (GivesFrame place front k (Err fault) ss) (GivesFrame place front len (Err fault) all) (λ bytes left q. more_cut place fault front k len ss all bytes left within q) told
 
 -- whatever comes of the blocks behind it
 frame_of : (old mid : Place) (r : Result (Unit {0}) InFault) (front x : List ℕ) (len size : ℕ) (all ss : List SoleState) (bytes rest left : List ℕ) → data_of 64 len all ≡ x ++ data_of 0 size ss
@@ -127,17 +155,12 @@ frame_of old mid (Err ReadFault) front x len size all ss bytes rest left step su
     let xs = front ++ x in
     (xs ++ q.0, p ∙ ap (λ (z : List ℕ). xs ++ z) q.1 ∙ sym (append_assoc xs q.0 left), omega (arith, length-append xs q.0, length-append front x, q.2, sum))
 
-both_gone : (front x bytes mid rest : List ℕ) → bytes ≡ front ++ mid → mid ≡ x ++ rest → bytes ≡ (front ++ x) ++ rest
-both_gone front x bytes mid rest p q = p ∙ ap (λ (z : List ℕ). front ++ z) q ∙ sym (append_assoc front x rest)
-
-pub frame_given : (a b c d : Option (List ℕ)) (old mid now : Place) (r : Result (Unit {0}) InFault) (front x : List ℕ) (len size : ℕ) (all ss : List SoleState)
-    → data_of 64 len all ≡ x ++ data_of 0 size ss → length x + size ≡ len → short_record now ≡ short_record old
-    → Told a b (GivesBody old (Ok tt) front) → Told b c (GivesBody mid (Ok tt) x) → Told c d (GivesData now size r ss) → Told a d (GivesFrame old front len r all)
-frame_given a b c d old mid now r front x len size all ss step sum same first second third =
-    let Both : List ℕ → List ℕ → Type 0 = λ bytes rest. bytes ≡ (front ++ x) ++ rest in
-    Told-then a c d Both (GivesData now size r ss) (GivesFrame old front len r all)
-    (λ bytes rest left p q. frame_of old now r front x len size all ss bytes rest left step sum same p q)
-    (Told-then a b c (GivesBody old (Ok tt) front) (GivesBody mid (Ok tt) x) Both (λ bytes mid rest p q. both_gone front x bytes mid rest p q) first second) third
+pub frame_given : (a b c : Option (List ℕ)) (old now : Place) (r : Result (Unit {0}) InFault) (front : List ℕ) (k len size : ℕ) (first all ss : List SoleState)
+    → data_of 64 len all ≡ data_of 64 k first ++ data_of 0 size ss → length (data_of 64 k first) + size ≡ len → short_record now ≡ short_record old
+    → Told a b (GivesFrame old front k (Ok tt) first) → Told b c (GivesData now size r ss) → Told a c (GivesFrame old front len r all)
+frame_given a b c old now r front k len size first all ss step sum same before behind =
+    Told-then a b c (GivesFrame old front k (Ok tt) first) (GivesData now size r ss) (GivesFrame old front len r all)
+    (λ bytes rest left p q. frame_of old now r front (data_of 64 k first) len size all ss bytes rest left step sum same p q) before behind
 
 pub short_same : (old now : Place) (n : ℕ) → ReadsOn old now n → short_record now ≡ short_record old
 short_same old now n on = rw (on.current, on.number) refl

@@ -1,9 +1,9 @@
 -- What reading one record into blocks shows of the records of a capture.
-use Rattle.std.proofs.Common.{◌≡◌, ◌+◌, ◌-◌, ◌<◌, ◌≤◌, ℕ, List, [], ◌∷◌, ◌++◌, ◌⊎◌, inl, inr, length, refl, sym, ap, ◌∙◌, arith, Option, None, Some, Ok, Err, subst, map, take, drop, append_assoc}
+use Rattle.std.proofs.Common.{◌≡◌, ◌≢◌, ◌+◌, ◌-◌, ◌<◌, ◌≤◌, ℕ, List, [], ◌∷◌, ◌++◌, ◌⊎◌, inl, inr, length, refl, sym, ap, ◌∙◌, arith, Option, None, Some, Ok, Err, subst, map, take, drop, append_assoc}
 use Rattle.std.proofs.Common.{append-nil, take-append-drop, length-take, Bool, true, false, Result, if◌then◌else◌}
 use Rattle.std.proofs.lemmas.List.{drop_all, take_all, length-take-le}
-use Rattle.std.proofs.lemmas.Bool.{lt-ltb}
-use Rattle.std.specs.Prelude.{IfSome, nat_lt}
+use Rattle.std.proofs.lemmas.Bool.{false≢true, lt-ltb}
+use Rattle.std.specs.Prelude.{IfSome, OnOk, nat_lt}
 use Rattle.off_io.specs.Told.{Told}
 use Rattle.off_io.proofs.Telling.{Told-weaker, Told-then}
 use Rattle.raw_block.specs.Views.{SoleState}
@@ -24,10 +24,11 @@ use Rattle.pcap_io.proofs.RecordLaws.{records_none, whole_record, cut_record, ta
 use Rattle.records.specs.Data.{data_of, GivesFrame}
 use Rattle.offload_model.specs.Need.{need_of, needed}
 use Rattle.gro.specs.declared.slot.Slot.{Slot as Held}
+use Rattle.gro.specs.Packets.{PacketsState}
 use Rattle.records.proofs.Laying.{below_or}
 use Rattle.records.specs.declared.reading.Stop.{Stop}
 use Rattle.records.specs.declared.reading.Stop.TheVariants.{End, Lacking, Malformed, PoolEmpty, ReadFault, NoMemory}
-use Rattle.records.specs.Reading.{front_size, HasHead, GivesKept, GivesPacket, GivesRecord, IfLacking, KeepsHead, NeedsMore, IsStopOf, judged_at}
+use Rattle.records.specs.Reading.{front_size, HasHead, GivesKept, GivesPacket, GivesRecord, KeepsHead, NeedsMore, IsStopOf, OfAnswer, judged_at}
 
 pub packet_given : (a b : Option (List ℕ)) (place : Place) (head : RecHead) (front : List ℕ) (len : ℕ) (soles : List SoleState) (p : Held) → buffer_bytes p.skb ≡ data_of 64 len soles
     → HasHead head front p
@@ -99,7 +100,7 @@ body_cut : (old mid new : Place) (used blocks : ℕ) (front : List ℕ) (head : 
     → EntersBody old mid head → TakesHead old bytes rest head → GivesPacket mid head front (Err stop) rest left → GivesRecord used blocks old new front (Err stop) bytes left
 body_cut old mid new used blocks front head End bytes rest left fits enters takes gives = absurd gives
 body_cut old mid new used blocks front head (PoolEmpty n) bytes rest left fits enters takes gives = absurd gives
-body_cut old mid new used blocks front head (Lacking kept) bytes rest left fits enters takes gives = absurd gives
+body_cut old mid new used blocks front head Lacking bytes rest left fits enters takes gives = absurd gives
 body_cut old mid new used blocks front head (Malformed fault) bytes rest left fits enters takes gives =
     let cut = cut_record old mid bytes rest head takes enters gives.0 in
     let all : bytes ≡ bytes ++ left = sym (append-nil bytes) ∙ ap (λ (l : List ℕ). bytes ++ l) (sym gives.2) in
@@ -204,13 +205,16 @@ empty_given a b old mid used blocks need front found head some enters is more to
     Told-weaker a b (GivesHead old (Ok (Some head))) (GivesRecord used blocks old mid front (Err (PoolEmpty need)))
     (λ bytes left takes. needs_more old mid used blocks need head bytes left entered is more takes) at_some
 
+-- the bytes of the header that was found
+pub head_given : (a b : Option (List ℕ)) (old : Place) (found : Option RecHead) (head : RecHead) → found ≡ Some head → Told a b (GivesHead old (Ok found)) → Told a b (GivesHead old (Ok (Some head)))
+head_given a b old found head some told = subst (λ (f : Option RecHead). Told a b (GivesHead old (Ok f))) some told
+
 -- a record whose blocks aren't home and don't come: its header is gone
-pub lacking_given : (a b : Option (List ℕ)) (old new : Place) (used blocks : ℕ) (front : List ℕ) (found : Option RecHead) (head : RecHead)
-    → used + need_of (head.captured - front_size old.link) ≤ blocks → found ≡ Some head
-    → Told a b (GivesHead old (Ok found)) → Told a b (GivesRecord used blocks old new front (Err (Lacking head)))
-lacking_given a b old new used blocks front found head fits some told =
-    let at_some : Told a b (GivesHead old (Ok (Some head))) = subst (λ (f : Option RecHead). Told a b (GivesHead old (Ok f))) some told in
-    Told-weaker a b (GivesHead old (Ok (Some head))) (GivesRecord used blocks old new front (Err (Lacking head))) (λ bytes left takes. (takes, fits)) at_some
+pub lacking_given : (a b : Option (List ℕ)) (old new : Place) (used blocks : ℕ) (front : List ℕ) (head : RecHead) → Told a b (GivesHead old (Ok (Some head)))
+    → Told a b (GivesRecord used blocks old new front (Err Lacking))
+lacking_given a b old new used blocks front head told =
+    Told-weaker a b (GivesHead old (Ok (Some head))) (GivesRecord used blocks old new front (Err Lacking))
+    (λ bytes left takes. (take 16 bytes, sym (take-append-drop 16 bytes) ∙ ap (λ (l : List ℕ). take 16 bytes ++ l) (sym takes.rest))) told
 
 -- the body behind a header that was kept
 pub kept_whole : (b c : Option (List ℕ)) (at mid new : Place) (used blocks : ℕ) (front : List ℕ) (head : RecHead) (p : Held) → KeepsHead at mid head → ReadsOn mid new head.captured
@@ -226,6 +230,12 @@ kept_cut b c at mid new used blocks front head stop keeps fits told =
     Told-weaker b c (GivesPacket mid head front (Err stop)) (GivesKept used blocks at new head front (Err stop))
     (λ rest left gives. λ bytes takes. body_cut at mid new used blocks front head stop bytes rest left fits keeps.enters takes gives) told
 
+pub kept_given : {X : Type 0} (answer : Result X Stop) (b c : Option (List ℕ)) (at mid new : Place) (used blocks : ℕ) (front : List ℕ) (head : RecHead) (ps qs : PacketsState)
+    → KeepsHead at mid head → used + need_of (head.captured - front_size at.link) ≤ blocks → OnOk answer (ReadsOn mid new head.captured)
+    → OfAnswer answer ps qs (λ r. Told b c (GivesPacket mid head front r)) → OfAnswer answer ps qs (λ r. Told b c (GivesKept used blocks at new head front r))
+kept_given (Ok x) b c at mid new used blocks front head ps qs keeps fits on given = λ p is. kept_whole b c at mid new used blocks front head p keeps on (given p is)
+kept_given (Err stop) b c at mid new used blocks front head ps qs keeps fits on given = kept_cut b c at mid new used blocks front head stop keeps fits given
+
 -- a header, and what stands behind it
 pub record_given : (a b c : Option (List ℕ)) (old new : Place) (used blocks : ℕ) (front : List ℕ) (found : Option RecHead) (head : RecHead) (answer : Result Held Stop) → found ≡ Some head
     → Told a b (GivesHead old (Ok found)) → Told b c (GivesKept used blocks old new head front answer) → Told a c (GivesRecord used blocks old new front answer)
@@ -234,18 +244,14 @@ record_given a b c old new used blocks front found head answer some first second
     Told-then a b c (GivesHead old (Ok (Some head))) (GivesKept used blocks old new head front answer) (GivesRecord used blocks old new front answer)
     (λ bytes rest left takes gives. gives bytes takes) at_some second
 
--- no header is kept at a fault of the reader
-pub none_kept : (fault : InFault) (stop : Stop) (P : RecHead → Type 0) → IsStopOf fault stop → IfLacking stop P
-none_kept (faults.Cap fault) stop P is = rw is tt
-none_kept faults.ReadFault stop P is = rw is tt
+abbrev is_lacking : {X : Type 0} → Result X Stop → Bool
+is_lacking (Err Lacking) = true
+is_lacking _ = false
 
-pub never_kept : (stop : Stop) (P : RecHead → Type 0) → IfLacking stop (λ _. ⊥) → IfLacking stop P
-never_kept End P never = tt
-never_kept (Malformed fault) P never = tt
-never_kept (PoolEmpty need) P never = tt
-never_kept (Lacking head) P never = absurd never
-never_kept ReadFault P never = tt
-never_kept NoMemory P never = tt
+-- no blocks are lacking at a fault of the reader
+pub never_lacking : {X : Type 0} (answer : Result X Stop) (fault : InFault) (stop : Stop) → answer ≡ Err stop → IsStopOf fault stop → answer ≢ Err Lacking
+never_lacking {X = X} answer (faults.Cap fault) stop is why lacks = false≢true (sym (ap (λ (s : Stop). is_lacking {X = X} (Err s)) why) ∙ ap is_lacking (sym is ∙ lacks))
+never_lacking {X = X} answer faults.ReadFault stop is why lacks = false≢true (sym (ap (λ (s : Stop). is_lacking {X = X} (Err s)) why) ∙ ap is_lacking (sym is ∙ lacks))
 
 -- the header that was found is kept
 pub keeps_head : (at new : Place) (found : Option RecHead) (head : RecHead) → found ≡ Some head → IsReady at → IfSome found (EntersBody at new)

@@ -35,6 +35,10 @@ LaidFrom k (p ∷ ps) = IsLaid k p × LaidFrom (k + count_of p) ps
 abbrev pub most_read : ℕ
 most_read = most_record - off_head_size
 
+-- what one block holds of it, behind 64 bytes of headroom
+abbrev pub most_short : ℕ
+most_short = 2048 - 64
+
 -- the original length of a record, with an offload header or without
 abbrev pub most_original : ℕ
 most_original = 2 ^ 31 - 1 + off_head2_size

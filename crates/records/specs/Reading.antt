@@ -1,5 +1,6 @@
 -- What reading a record into blocks says of the bytes that were left before it and are left after it.
-use Rattle.std.specs.Prelude.{ℕ, ◌≡◌, ◌+◌, ◌-◌, ◌<◌, ◌≤◌, List, [], ◌∷◌, ◌++◌, length, map, false, None, Some, Result, Ok, Err}
+use Rattle.std.specs.Prelude.{ℕ, ◌≡◌, ◌+◌, ◌-◌, ◌<◌, ◌≤◌, List, [], ◌∷◌, ◌++◌, length, map, false, None, Some, Result}
+use Rattle.std.specs.Prelude.{Ok, Err}
 use Rattle.skb.specs.SkbState.{buffer_bytes}
 use Rattle.pcap_io.specs.declared.place.Place.{Place}
 use Rattle.pcap_io.specs.declared.heads.Link.{Link}
@@ -40,7 +41,7 @@ GivesPacket place head front (Err End) bytes left = ⊥
 GivesPacket place head front (Err (Malformed fault)) bytes left = (length bytes < head.captured)
     × (fault ≡ short_record place) × (left ≡ [])
 GivesPacket place head front (Err (PoolEmpty need)) bytes left = ⊥
-GivesPacket place head front (Err (Lacking kept)) bytes left = ⊥
+GivesPacket place head front (Err Lacking) bytes left = ⊥
 GivesPacket place head front (Err ReadFault) bytes left = FewerGone bytes left head.captured
 GivesPacket place head front (Err NoMemory) bytes left = Loses bytes left
 
@@ -81,7 +82,8 @@ NeedsMore used blocks need place bytes left =
     × (need ≡ used + need_of (len - front_size place.link)) × (blocks < need) × Loses bytes left
     × Announces place (len ∷ []) bytes left))
 
--- one record, where `used` blocks are the round's already
+-- One record, where `used` blocks are the round's already. Where its blocks don't come its header is gone: `kept` of
+-- `read_record` says which.
 abbrev pub GivesRecord : ℕ → ℕ → Place → Place → List ℕ → Result Held Stop → List ℕ → List ℕ → Type 0
 GivesRecord used blocks old new front (Ok p) bytes left = Passes old new (record_of front p ∷ []) bytes left
 GivesRecord used blocks old new front (Err End) bytes left = (found_at old bytes ≡ ended None)
@@ -90,8 +92,7 @@ GivesRecord used blocks old new front (Err (Malformed fault)) bytes left =
     (found_at old bytes ≡ ended (Some fault)) × (used + needed (judged_at old bytes) ≤ blocks)
     × HoldsNone used blocks old bytes left
 GivesRecord used blocks old new front (Err (PoolEmpty need)) bytes left = NeedsMore used blocks need old bytes left
-GivesRecord used blocks old new front (Err (Lacking head)) bytes left = GivesHead old (Ok (Some head)) bytes left
-    × (used + need_of (head.captured - front_size old.link) ≤ blocks)
+GivesRecord used blocks old new front (Err Lacking) bytes left = Loses bytes left
 GivesRecord used blocks old new front (Err ReadFault) bytes left = HoldsNone used blocks old bytes left
 GivesRecord used blocks old new front (Err NoMemory) bytes left = Loses bytes left
 
@@ -123,11 +124,6 @@ pub record KeepsHead (at new : Place) (head : RecHead) : Type 0 where
   pub original : is_bad_original at.link head.original ≡ false
   pub off_head : lacks_off_head at.link head.captured ≡ false
   pub counted : Counted new
-
--- of a stop for want of blocks: the header that was taken
-abbrev pub IfLacking : Stop → (RecHead → Type 0) → Type 0
-IfLacking (Lacking head) P = P head
-IfLacking _ P = Unit {0}
 
 -- the rest of a record whose header was kept: whatever bytes that was taken of, with it they come to this
 abbrev pub GivesKept : ℕ → ℕ → Place → Place → RecHead → List ℕ → Result Held Stop → List ℕ → List ℕ → Type 0

@@ -1,14 +1,14 @@
 //! The blocks of a record.
-ghost use Rattle.std.specs.Prelude.{◌≡◌, ℕ, ◌+◌, ◌-◌, ◌/◌, ◌<◌, ◌≤◌, ◌^◌, [], ◌∷◌, min, length};
+ghost use Rattle.std.specs.Prelude.{◌≡◌, ℕ, ◌+◌, ◌-◌, ◌/◌, ◌<◌, ◌≤◌, ◌^◌, [], ◌∷◌, ◌++◌, min, length};
 ghost use Rattle.std.specs.List.{sum_by};
 ghost use Rattle.std.specs.VecDeque.{deque_capacity};
 ghost use Rattle.block_pool.specs.PoolState.{home, weighed};
 ghost use Rattle.frags.specs.PieceList.{size_of, bytes_of};
 ghost use Rattle.frags.specs.declared.pieces.Piece.{Piece};
-ghost use Rattle.skb.specs.SkbState.{buffer_bytes, weighed_in, IsAlone};
+ghost use Rattle.skb.specs.SkbState.{buffer_bytes, buffer_size, weighed_in, IsAlone};
 ghost use Rattle.gro.specs.Slots.{of_packet, count_of};
 ghost use Rattle.records.specs.Data.{data_of};
-ghost use Rattle.records.specs.Laid.{IsLaid, IsRead, MarkedFrom, WholeFrom, most_original, most_read};
+ghost use Rattle.records.specs.Laid.{IsLaid, IsRead, MarkedFrom, WholeFrom, most_original, most_read, most_short};
 ghost use Rattle.records.specs.Reading.{HasOne, OfNew};
 ghost use Rattle.offload_model.specs.Need.{data_blocks};
 
@@ -18,6 +18,7 @@ use gro::{Packets, Slot};
 use pcap_io::RecHead;
 use raw_block::{BLOCK_SIZE, Sole};
 use skb::{HEADROOM, Skb};
+use std::alloc::Global;
 use std::collections::VecDeque;
 
 /// How many blocks hold `len` bytes behind their headroom.
@@ -124,6 +125,31 @@ fn build_pieces(hold: &mut VecDeque<Sole>, builder: PieceBuilder, size: usize, f
     builder.finish()
 }
 
+// A buffer and its record's header go behind the packets that there are.
+#[inline(always)]
+fn push_packet(skb: Skb, head: RecHead, packets: &mut Packets)
+    requires place { 1 ≤ packets.old.room }
+    ensures items { packets.new.items ≡ packets.old.items ++ (record {
+      skb = skb;
+      sec = head.sec;
+      frac = head.frac;
+      original = head.original;
+      number = head.number;
+    }) ∷ [] }
+    ensures room { packets.old.room ≤ packets.new.room + 1 }
+    ensures size { buffer_size skb ≡ length (buffer_bytes skb) }
+    ensures range { (head.number < 2 ^ 32) × (head.sec < 2 ^ 32) × (head.frac < 2 ^ 32) }
+{
+    let _ = skb.len();
+    packets.push(Slot {
+        skb,
+        sec: head.sec,
+        frac: head.frac,
+        original: head.original,
+        number: head.number,
+    });
+}
+
 /// A record's packet, of the blocks that were taken for it, behind the packets that there are: `len` bytes behind the
 /// headroom of the first. Blocks behind the first are shared, so that pieces have them; nobody else holds any.
 #[inline(always)]
@@ -163,14 +189,35 @@ pub(crate) fn make_packet(
     let in_head = size.min(BLOCK_SIZE - HEADROOM);
     let rest = build_pieces(hold, builder, size - in_head, first + 1);
     let skb = Skb::new(block, HEADROOM, HEADROOM + in_head, rest);
-    let _ = skb.len();
-    packets.push(Slot {
-        skb,
-        sec: head.sec,
-        frac: head.frac,
-        original: head.original,
-        number: head.number,
-    });
+    push_packet(skb, *head, packets);
+}
+
+/// The same of a record that one block holds: it has no pieces, and asks for no memory.
+#[inline(always)]
+pub(crate) fn make_short(
+    alloc: Global,
+    block: Sole,
+    head: &RecHead,
+    len: u32,
+    packets: &mut Packets,
+)
+    requires short { len ≤ most_short }
+    requires original { head.now.original ≤ most_original }
+    requires place { 1 ≤ packets.old.room }
+    ensures one { HasOne packets.old packets.new }
+    ensures room { packets.old.room ≤ packets.new.room + 1 }
+    ensures laid { OfNew packets.old packets.new (IsLaid block.mark) }
+    ensures count { OfNew packets.old packets.new (λ p. count_of p ≡ data_blocks len) }
+    ensures named { OfNew packets.old packets.new (λ p. (h : ℕ → ℕ) → weighed_in h p.skb ≡ h block.block) }
+    ensures read { OfNew packets.old packets.new IsRead }
+    ensures range { OfNew packets.old packets.new (λ p. (p.number < 2 ^ 32) × (p.sec < 2 ^ 32) × (p.frac < 2 ^ 32)) }
+    ensures bytes { OfNew packets.old packets.new (λ p. buffer_bytes p.skb ≡ data_of 64 len (block ∷ [])) }
+    ensures fields { OfNew packets.old packets.new (λ p. (p.number ≡ head.now.number)
+        × (p.sec ≡ head.now.sec) × (p.frac ≡ head.now.frac) × (p.original ≡ head.now.original)) }
+{
+    let none = Pieces::new(alloc);
+    let skb = Skb::new(block, HEADROOM, HEADROOM + len as usize, none);
+    push_packet(skb, *head, packets);
 }
 
 /// The blocks of a buffer that nobody else holds go home: just these, by their names.

@@ -1,5 +1,5 @@
 //! Reads a record's body into blocks.
-ghost use Rattle.std.specs.Prelude.{◌≡◌, ℕ, ◌+◌, ◌-◌, ◌/◌, ◌≤◌, ◌∷◌, length, slice_range, OnOk, Err};
+ghost use Rattle.std.specs.Prelude.{◌≡◌, ℕ, ◌+◌, ◌-◌, ◌/◌, ◌≤◌, [], ◌∷◌, length, slice_range, OnOk, Err};
 ghost use Rattle.std.specs.VecDeque.{deque_capacity};
 ghost use Rattle.block_pool.specs.PoolState.{weighed};
 ghost use Rattle.off_io.specs.Faults.{Rose};
@@ -8,7 +8,7 @@ ghost use Rattle.pcap_io.specs.Places.{ReadsOn};
 ghost use Rattle.pcap_io.specs.Reading.{GivesBody};
 ghost use Rattle.pcap_io.specs.Readers.{place_of, source_of, SameLoan};
 ghost use Rattle.records.specs.Data.{GivesData, GivesFrame, data_of};
-ghost use Rattle.records.specs.Laid.{MarkedFrom, most_read};
+ghost use Rattle.records.specs.Laid.{MarkedFrom, most_read, most_short};
 ghost use Rattle.offload_model.specs.Need.{data_blocks};
 ghost use Rattle.offload_model.specs.Laws.{InBytes};
 
@@ -68,6 +68,37 @@ fn read_front<S: Source>(reader: &mut CaptureReader<'_, S>, front: &mut [u8]) ->
         return Ok(());
     }
     reader.read_body(front)
+}
+
+/// Reads what one block has of the body of the record that was begun: first `front`, and then `len` bytes behind the
+/// block's headroom.
+#[inline(always)]
+pub(crate) fn read_head<S: Source>(
+    reader: &mut CaptureReader<'_, S>,
+    front: &mut [u8],
+    block: &mut Sole,
+    len: usize,
+) -> Result<(), InFault>
+    requires short { len ≤ most_short }
+    requires body { length front.old + len ≤ (place_of reader.old).body }
+    ensures same_source { SameLoan reader.old reader.new }
+    ensures given { Told (S.left (source_of reader.old)) (S.left (source_of reader.new))
+        (GivesFrame (place_of reader.old) front.new len result (block.new ∷ [])) }
+    ensures long { OnOk result (length (data_of 64 len (block.new ∷ [])) ≡ len) }
+    ensures in_bytes { OnOk result (InBytes (data_of 64 len (block.new ∷ []))) }
+    ensures front { length front.new ≡ length front.old }
+    ensures mark { block.new.mark ≡ block.old.mark }
+    ensures named { block.new.block ≡ block.old.block }
+    ensures place { OnOk result (ReadsOn (place_of reader.old) (place_of reader.new) (length front.old + len)) }
+    ensures later { S.faults (source_of reader.old) ≤ S.faults (source_of reader.new) }
+    ensures failed { result ≡ Err InFault.ReadFault → Rose (S.faults (source_of reader.old))
+        (S.faults (source_of reader.new)) }
+{
+    match read_front(reader, front) {
+        Ok(()) => {}
+        Err(fault) => return Err(fault),
+    }
+    read_block(reader, block, HEADROOM, HEADROOM + len)
 }
 
 // Reads `size` bytes into blocks, from the first byte of each on.
@@ -133,13 +164,9 @@ pub(crate) fn read_frame<S: Source>(
     ensures failed { result ≡ Err InFault.ReadFault → Rose (S.faults (source_of reader.old))
         (S.faults (source_of reader.new)) }
 {
-    match read_front(reader, front) {
-        Ok(()) => {}
-        Err(fault) => return Err(fault),
-    }
     let size = len as usize;
     let in_head = size.min(BLOCK_SIZE - HEADROOM);
-    match read_block(reader, first, HEADROOM, HEADROOM + in_head) {
+    match read_head(reader, front, first, in_head) {
         Ok(()) => {}
         Err(fault) => return Err(fault),
     }

@@ -9,8 +9,9 @@
 //!
 //! Between its header and its body what a record needs is known, and its blocks come home where they are out: whoever
 //! has a [`Supply`] of them brings them then, and no sooner; who brings none is [`AllHome`]. Where as many are home as
-//! it needs nobody is asked. Where they don't come the header is kept, and the reader stands behind it:
-//! [`finish_record`] reads the body once they are home.
+//! it needs nobody is asked. Where they don't come the header is kept, by an argument so that no answer has to carry
+//! it, and the reader stands behind it: [`finish_record`] reads the body once they are home. A supply says how many
+//! blocks it still owes, and says no only where it owes none or where whoever has them keeps them.
 //!
 //! Nobody else holds a block of a buffer that was read, and its blocks are marked in turn. Where that stays so they go
 //! home by count alone ([`bring_blocks`]).
@@ -26,9 +27,10 @@
 //!
 //! - `given`: the packet is the next one of the capture, and a refusal is told by the capture's bytes alone;
 //!   `PoolEmpty` exactly where the round's need exceeds the blocks, with that need, judged by the record's header.
-//! - `kept`: where a record lacks blocks fewer are home than it needs, with it the round doesn't exceed the blocks, and
-//!   none was taken; `given` of [`finish_record`]: with the bytes of its header, whatever they were, it is then read as
-//!   any other. `refused`, `asked`: a supply that counts how often it says no did so.
+//! - `kept`: where a record lacks blocks its header is kept, fewer are home than it needs, with it the round doesn't
+//!   exceed the blocks, and none was taken; `unkept`: else nothing is kept; `given` of [`finish_record`]: with the
+//!   bytes of its header, whatever they were, it is then read as any other. `refused`, `asked`: a supply that counts
+//!   how often it says no did so. `owed`, `short`: one that still owes blocks says no only where it has ended.
 //! - `home`, `spares`, `back`: what of the pool is out, beside what came home meanwhile, is what the packet and its
 //!   spares have, and after a refusal nothing; `named`, `named_back`: these are just the same blocks, by their names;
 //!   `taken`, `most`, `least`: by how much the count of takes rises.

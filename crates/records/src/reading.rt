@@ -1,6 +1,6 @@
 //! Reads one record of a capture into blocks.
-ghost use Rattle.std.specs.Prelude.{◌≡◌, ℕ, ◌+◌, ◌-◌, ◌<◌, ◌≤◌, ◌^◌, [], false, true, min, length};
-ghost use Rattle.std.specs.Prelude.{IfErr, IfOk, OnOk, OnErr, Err};
+ghost use Rattle.std.specs.Prelude.{◌≡◌, ◌≢◌, ℕ, ◌+◌, ◌-◌, ◌<◌, ◌≤◌, ◌^◌, [], false, true, min, length};
+ghost use Rattle.std.specs.Prelude.{IfOk, OnOk, OnErr, Ok, Err, Some};
 ghost use Rattle.std.specs.VecDeque.{deque_capacity};
 ghost use Rattle.block_pool.specs.PoolState.{home, weighed};
 ghost use Rattle.skb.specs.SkbState.{buffer_bytes, weighed_in};
@@ -10,16 +10,17 @@ ghost use Rattle.pcap_io.specs.declared.heads.Link.TheVariants.{Ethernet};
 ghost use Rattle.pcap_io.specs.Headers.{is_bad_original};
 ghost use Rattle.pcap_io.specs.declared.place.Place.{Place};
 ghost use Rattle.pcap_io.specs.Places.{IsReady, ReadsOn};
+ghost use Rattle.pcap_io.specs.Reading.{GivesHead};
 ghost use Rattle.pcap_io.specs.Readers.{place_of, source_of, SameLoan};
 ghost use Rattle.gro.specs.Slots.{packet_of, count_of};
-ghost use Rattle.records.specs.Laid.{IsInFields, IsLaid, IsRead, most_original, most_read};
-ghost use Rattle.records.specs.Reading.{front_size, GivesKept, GivesPacket, GivesRecord, GoesOn, IfLacking, IsStopOf};
+ghost use Rattle.records.specs.Laid.{IsInFields, IsLaid, IsRead, most_original, most_read, most_short};
+ghost use Rattle.records.specs.Reading.{front_size, GivesKept, GivesPacket, GivesRecord, GoesOn, IsStopOf};
 ghost use Rattle.records.specs.Reading.{HasOne, KeepsHead, OfAnswer, OfNew};
 ghost use Rattle.offload_model.specs.Need.{data_blocks, need_of};
 ghost use Rattle.offload_model.specs.Captured.{IsCaptured};
 
-use crate::blocks::{blocks_of, make_packet, put_back, take_block, take_blocks};
-use crate::body::read_frame;
+use crate::blocks::{blocks_of, make_packet, make_short, put_back, take_block, take_blocks};
+use crate::body::{read_frame, read_head};
 use crate::supply::{Supply, has_blocks};
 use block_pool::Pool;
 use frags::PieceBuilder;
@@ -37,9 +38,9 @@ pub enum Stop {
     Malformed(CapFault),
     /// The blocks that the round would need.
     PoolEmpty { need: u32 },
-    /// The blocks that the record needs aren't home and don't come. Its header was taken: [`finish_record`] goes on
-    /// behind it.
-    Lacking { head: RecHead },
+    /// The blocks that the record needs aren't home and don't come. Its header was taken and is kept:
+    /// [`finish_record`] goes on behind it.
+    Lacking,
     ReadFault,
     NoMemory,
 }
@@ -86,7 +87,7 @@ fn read_packet<S: Source>(
     ensures front { length front.new ≡ length front.old }
     ensures one { OnOk result (HasOne packets.old packets.new) }
     ensures none { OnErr result (packets.new ≡ packets.old) }
-    ensures begun { IfErr result (λ stop. IfLacking stop (λ _. ⊥)) }
+    ensures begun { result ≢ Err Stop.Lacking }
     ensures blocks { IfOk result (λ r. r ≡ need_of len) }
     ensures room { packets.old.room ≤ packets.new.room + 1 }
     ensures laid { OnOk result (OfNew packets.old packets.new (IsLaid mark)) }
@@ -115,6 +116,9 @@ fn read_packet<S: Source>(
 {
     let _ = pool.taken();
     let data = blocks_of(len);
+    if data == 1 {
+        return read_short(alloc, pool, spares, reader, front, head, len, mark, packets);
+    }
     let mut block = take_block(pool, mark);
     take_blocks(pool, hold, data - 1, mark + 1);
     match read_frame(reader, front, &mut block, hold, len) {
@@ -135,6 +139,72 @@ fn read_packet<S: Source>(
             Err(Stop::NoMemory)
         }
     }
+}
+
+// The same of a record that one block holds: no other is held for it, and no memory is asked for.
+#[inline(always)]
+fn read_short<S: Source>(
+    alloc: Global,
+    pool: &mut Pool,
+    spares: &mut Pool,
+    reader: &mut CaptureReader<'_, S>,
+    front: &mut [u8],
+    head: &RecHead,
+    len: u32,
+    mark: u32,
+    packets: &mut Packets,
+) -> Result<u32, Stop>
+    requires short { len ≤ most_short }
+    requires whole { head.now.captured ≡ length front.old + len }
+    requires original { head.now.original ≤ most_original }
+    requires body { (place_of reader.old).body ≡ head.now.captured }
+    requires home { (need_of len ≤ home pool.old) × (home pool.old ≤ pool.old.made) }
+    requires room { home spares.old + 2 ≤ spares.old.made }
+    requires place { 1 ≤ packets.old.room }
+    ensures same_source { SameLoan reader.old reader.new }
+    ensures given { OfAnswer result packets.old packets.new (λ r. Told (S.left (source_of reader.old))
+        (S.left (source_of reader.new)) (GivesPacket (place_of reader.old) head.now front.new r)) }
+    ensures place { OnOk result (ReadsOn (place_of reader.old) (place_of reader.new) head.now.captured) }
+    ensures front { length front.new ≡ length front.old }
+    ensures one { OnOk result (HasOne packets.old packets.new) }
+    ensures none { OnErr result (packets.new ≡ packets.old) }
+    ensures begun { result ≢ Err Stop.Lacking }
+    ensures blocks { IfOk result (λ r. r ≡ need_of len) }
+    ensures room { packets.old.room ≤ packets.new.room + 1 }
+    ensures laid { OnOk result (OfNew packets.old packets.new (IsLaid mark)) }
+    ensures count { OnOk result (OfNew packets.old packets.new (λ p. count_of p ≡ data_blocks len)) }
+    ensures size { OnOk result (OfNew packets.old packets.new (λ p. length (buffer_bytes p.skb) ≡ len)) }
+    ensures read { OnOk result (OfNew packets.old packets.new IsRead) }
+    ensures in_fields { OnOk result (OfNew packets.old packets.new IsInFields) }
+    ensures number { OnOk result (OfNew packets.old packets.new (λ p. p.number ≡ head.now.number)) }
+    ensures original { OnOk result (OfNew packets.old packets.new (λ p. p.original ≡ head.now.original)) }
+    ensures home { OnOk result (home pool.new + need_of len ≡ home pool.old) }
+    ensures spares { OnOk result (home spares.new ≡ home spares.old + 2) }
+    ensures named { OnOk result (OfNew packets.old packets.new (λ p. (h : ℕ → ℕ) → weighed h pool.new.blocks
+        + weighed_in h p.skb + weighed h spares.new.blocks ≡ weighed h pool.old.blocks + weighed h spares.old.blocks)) }
+    ensures back { OnErr result ((home pool.new ≡ home pool.old) × (home spares.new ≡ home spares.old)) }
+    ensures named_back { OnErr result ((h : ℕ → ℕ) → (weighed h pool.new.blocks ≡ weighed h pool.old.blocks)
+        × (weighed h spares.new.blocks ≡ weighed h spares.old.blocks)) }
+    ensures made { (pool.new.made ≡ pool.old.made) × (spares.new.made ≡ spares.old.made) }
+    ensures taken { OnOk result (pool.new.taken ≡ min (pool.old.taken + need_of len) (2 ^ 64 - 1)) }
+    ensures most { pool.new.taken ≤ pool.old.taken + need_of len }
+    ensures least { pool.old.taken ≤ pool.new.taken }
+    ensures later { S.faults (source_of reader.old) ≤ S.faults (source_of reader.new) }
+    ensures failed { result ≡ Err Stop.ReadFault → Rose (S.faults (source_of reader.old))
+        (S.faults (source_of reader.new)) }
+{
+    let _ = pool.taken();
+    let mut block = take_block(pool, mark);
+    match read_head(reader, front, &mut block, len as usize) {
+        Ok(()) => {}
+        Err(fault) => {
+            pool.put(block);
+            return Err(stop_of(fault));
+        }
+    }
+    pool.take_to(2, spares);
+    make_short(alloc, block, head, len, packets);
+    Ok(3)
 }
 
 /// Reads the body of a record whose header was taken, once as many blocks are home as it needs: what [`read_record`]
@@ -171,7 +241,7 @@ pub fn finish_record<S: Source>(
     ensures front { length front.new ≡ length front.old }
     ensures one { OnOk result (HasOne packets.old packets.new) }
     ensures none { OnErr result (packets.new ≡ packets.old) }
-    ensures begun { IfErr result (λ stop. IfLacking stop (λ _. ⊥)) }
+    ensures begun { result ≢ Err Stop.Lacking }
     ensures room { packets.old.room ≤ packets.new.room + 1 }
     ensures number { OnOk result (OfNew packets.old packets.new (λ p. p.number ≡ head.now.number)) }
     ensures original { OnOk result (OfNew packets.old packets.new (λ p. is_bad_original
@@ -204,12 +274,9 @@ pub fn finish_record<S: Source>(
         (S.faults (source_of reader.new)) }
 {
     let len = head.captured - front.len() as u32;
-    match read_packet(
+    read_packet(
         alloc, pool, hold, spares, reader, front, head, len, mark, packets,
-    ) {
-        Ok(count) => Ok(count),
-        Err(stop) => Err(stop),
-    }
+    )
 }
 
 /// Reads the next record, where its round has `used` blocks: `front`, where its link type has bytes in front of a
@@ -219,8 +286,8 @@ pub fn finish_record<S: Source>(
 ///
 /// It is judged in this order: its header, whether the round then needs more blocks than there are, its body. Between
 /// them its blocks are home, or are brought. Where they don't come its body isn't read, which is `Lacking`: its header
-/// is the answer's, and [`finish_record`] goes on behind it. A record that isn't given leaves all blocks home that were
-/// or that came, and the packets as they were.
+/// is written to `kept`, which no other answer touches, and [`finish_record`] goes on behind it. A record that isn't
+/// given leaves all blocks home that were or that came, and the packets as they were.
 pub fn read_record<S: Source, H: Supply>(
     alloc: Global,
     pool: &mut Pool,
@@ -228,6 +295,7 @@ pub fn read_record<S: Source, H: Supply>(
     spares: &mut Pool,
     reader: &mut CaptureReader<'_, S>,
     more: &mut H,
+    kept: &mut Option<RecHead>,
     front: &mut [u8],
     used: u32,
     mark: u32,
@@ -249,13 +317,19 @@ pub fn read_record<S: Source, H: Supply>(
     ensures front { length front.new ≡ length front.old }
     ensures one { OnOk result (HasOne packets.old packets.new) }
     ensures none { OnErr result (packets.new ≡ packets.old) }
-    ensures kept { IfErr result (λ stop. IfLacking stop (λ head. KeepsHead (place_of reader.old)
-        (place_of reader.new) head × (home pool.new < need_of (head.captured - length front.old))
+    ensures kept { result ≡ Err Stop.Lacking → (head : RecHead) × (kept.new ≡ Some head)
+        × KeepsHead (place_of reader.old) (place_of reader.new) head
+        × (home pool.new < need_of (head.captured - length front.old))
         × (used + need_of (head.captured - length front.old) ≤ pool.old.made)
-        × (pool.new.taken ≡ pool.old.taken))) }
-    ensures refused { H.counts ≡ true → IfErr result (λ stop. IfLacking stop (λ _.
-        min (H.refusals more.old + 1) (2 ^ 64 - 1) ≤ H.refusals more.new)) }
+        × (pool.new.taken ≡ pool.old.taken)
+        × Told (S.left (source_of reader.old)) (S.left (source_of reader.new))
+        (GivesHead (place_of reader.old) (Ok (Some head))) }
+    ensures unkept { result ≢ Err Stop.Lacking → kept.new ≡ kept.old }
+    ensures refused { H.counts ≡ true → result ≡ Err Stop.Lacking
+        → min (H.refusals more.old + 1) (2 ^ 64 - 1) ≤ H.refusals more.new }
     ensures asked { H.refusals more.old ≤ H.refusals more.new }
+    ensures owed { H.owed more.old + H.brought more.old ≤ H.owed more.new + H.brought more.new }
+    ensures short { result ≡ Err Stop.Lacking → H.ended more.new ≡ false → H.owed more.new ≡ 0 }
     ensures room { packets.old.room ≤ packets.new.room + 1 }
     ensures number { OnOk result (OfNew packets.old packets.new (λ p. p.number ≡ (place_of reader.old).number)) }
     ensures original { OnOk result (OfNew packets.old packets.new (λ p. is_bad_original
@@ -307,7 +381,8 @@ pub fn read_record<S: Source, H: Supply>(
         return Err(Stop::PoolEmpty { need });
     }
     if !has_blocks(pool, more, count) {
-        return Err(Stop::Lacking { head });
+        *kept = Some(head);
+        return Err(Stop::Lacking);
     }
     match finish_record(
         alloc, pool, hold, spares, reader, front, &head, mark, packets,

@@ -21,6 +21,12 @@ pub trait Supply {
     /// How often it said no, where it counts.
     ghost refusals: { Self → ℕ };
 
+    /// How many blocks will come yet, at least, unless whoever has them keeps them.
+    ghost owed: { Self → ℕ };
+
+    /// Whether whoever has them keeps them.
+    ghost ended: { Self → Bool };
+
     /// Whether `need` blocks are home, once those have come that it has or waits for. None is taken.
     fn bring(&mut self, pool: &mut Pool, need: u32) -> bool
         ensures sum { home pool.new + brought self.old ≡ home pool.old + brought self.new }
@@ -30,7 +36,13 @@ pub trait Supply {
         ensures enough { result ≡ true → need ≤ home pool.new }
         ensures refused { counts ≡ true → need ≤ pool.old.made → result ≡ false
             → min (refusals self.old + 1) (2 ^ 64 - 1) ≤ refusals self.new }
-        ensures asked { refusals self.old ≤ refusals self.new };
+        ensures asked { refusals self.old ≤ refusals self.new }
+        ensures owed { owed self.old + brought self.old ≤ owed self.new + brought self.new }
+        ensures short { result ≡ false → ended self.new ≡ false → owed self.new ≡ 0 };
+
+    /// Whether whoever has blocks keeps them, so that none comes any more.
+    fn has_ended(&self) -> bool
+        ensures ended { result ≡ ended self.now };
 }
 
 /// For records that are read while no block comes home.
@@ -46,11 +58,19 @@ impl Supply for AllHome {
 
     ghost refusals = { λ _. 0 };
 
+    ghost owed = { λ _. 0 };
+
+    ghost ended = { λ _. false };
+
     fn bring(&mut self, pool: &mut Pool, need: u32) -> bool
         ensures same { pool.new ≡ pool.old }
         ensures enough { MatchBool result (need ≤ home pool.old) (home pool.old < need) }
     {
         need <= pool.home()
+    }
+
+    fn has_ended(&self) -> bool {
+        false
     }
 }
 
@@ -64,6 +84,8 @@ pub(crate) fn has_blocks<H: Supply>(pool: &mut Pool, more: &mut H, need: u32) ->
     ensures refused { H.counts ≡ true → need ≤ pool.old.made → result ≡ false
         → min (H.refusals more.old + 1) (2 ^ 64 - 1) ≤ H.refusals more.new }
     ensures asked { H.refusals more.old ≤ H.refusals more.new }
+    ensures owed { H.owed more.old + H.brought more.old ≤ H.owed more.new + H.brought more.new }
+    ensures short { result ≡ false → H.ended more.new ≡ false → H.owed more.new ≡ 0 }
     ensures unasked { need ≤ home pool.old → (result ≡ true) × (pool.new ≡ pool.old) × (more.new ≡ more.old) }
     ensures within { home pool.new ≤ pool.new.made }
 {

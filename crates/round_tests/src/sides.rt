@@ -1,5 +1,5 @@
 //! One side reads and the other works, in turn, over as few blocks as a round needs.
-ghost use Rattle.std.specs.Prelude.{◌≡◌, ℕ, ◌-◌, ◌≤◌, List, [], IfOk};
+ghost use Rattle.std.specs.Prelude.{◌≡◌, ℕ, ◌+◌, ◌-◌, ◌≤◌, List, [], length, IfOk};
 ghost use Rattle.raw_block.specs.Views.{SoleState};
 ghost use Rattle.block_pool.specs.PoolState.{home, weighed};
 ghost use Rattle.pcap_io.specs.declared.heads.Link.TheVariants.{Ethernet};
@@ -32,13 +32,14 @@ impl Stocked for Brand {
 struct Shelf<N: Stocked> {
     pool: Pool,
     of: PhantomData<N>,
+    ghost few: { home pool ≤ length N.stock },
     ghost weighs: { (h : ℕ → ℕ) → weighed h pool.blocks ≤ weighed h N.stock },
 }
 
 impl<N: Stocked> Supply for Shelf<N> {
-    ghost use Rattle.std.specs.Prelude.{false};
+    ghost use Rattle.std.specs.Prelude.{false, true};
 
-    ghost brought = { λ s. s.pool.made - home s.pool };
+    ghost brought = { λ s. length N.stock - home s.pool };
 
     ghost weights = { λ s h. weighed h N.stock - weighed h s.pool.blocks };
 
@@ -46,11 +47,47 @@ impl<N: Stocked> Supply for Shelf<N> {
 
     ghost refusals = { λ _. 0 };
 
+    ghost owed = { λ s. home s.pool };
+
+    ghost ended = { λ _. true };
+
     fn bring(&mut self, pool: &mut Pool, need: u32) -> bool {
-        let _ = self.pool.home();
+        let _ = pool.home();
         pool.refill(&mut self.pool);
-        let _ = self.pool.home();
         need <= pool.home()
+    }
+
+    // What came is all that comes.
+    fn has_ended(&self) -> bool {
+        true
+    }
+}
+
+// Whoever has the blocks that are out keeps them, however many these are.
+#[derive(Drop)]
+struct NoneComes;
+
+impl Supply for NoneComes {
+    ghost use Rattle.std.specs.Prelude.{false, true};
+
+    ghost brought = { λ _. 0 };
+
+    ghost weights = { λ _ _. 0 };
+
+    ghost counts = { false };
+
+    ghost refusals = { λ _. 0 };
+
+    ghost owed = { λ _. 65536 };
+
+    ghost ended = { λ _. true };
+
+    fn bring(&mut self, pool: &mut Pool, need: u32) -> bool {
+        need <= pool.home()
+    }
+
+    fn has_ended(&self) -> bool {
+        true
     }
 }
 
@@ -84,9 +121,11 @@ fn read_beside<N: Stocked, S: Source>(
     requires ready { IsReady (place_of reader.old) }
     requires link { (place_of reader.old).link ≡ Ethernet }
     requires stock { pool.blocks ≡ N.stock }
+    requires sure { intake.old.blocks ≤ intake.old.home + home pool }
     ensures same_source { SameLoan reader.old reader.new }
     ensures full { result.0.end ≡ RoundEnd.Full → PassesRound (place_of reader.old)
         (place_of reader.new) result.0.round.packets intake.old.budget }
+    ensures sum { intake.new.home + result.0.round.blocks + home result.1 ≡ intake.old.home + home pool }
     ensures within { result.0.round.blocks ≤ intake.old.blocks }
     ensures same { intake.new.blocks ≡ intake.old.blocks }
 {
@@ -107,9 +146,11 @@ fn read_shelved<S: Source>(
 ) -> (RoundRead, Pool)
     requires ready { IsReady (place_of reader.old) }
     requires link { (place_of reader.old).link ≡ Ethernet }
+    requires sure { intake.old.blocks ≤ intake.old.home + home pool }
     ensures same_source { SameLoan reader.old reader.new }
     ensures full { result.0.end ≡ RoundEnd.Full → PassesRound (place_of reader.old)
         (place_of reader.new) result.0.round.packets intake.old.budget }
+    ensures sum { intake.new.home + result.0.round.blocks + home result.1 ≡ intake.old.home + home pool }
     ensures within { result.0.round.blocks ≤ intake.old.blocks }
     ensures same { intake.new.blocks ≡ intake.old.blocks }
 {
@@ -174,9 +215,10 @@ fn in_turn(alloc: Global) -> Result<([Step; 3], Vec<u8>, [u32; 4]), Fail> {
         &mut one,
     )?;
     let (given, put_home) = (intake.home(), one.home());
-    let (read, _one) = read_shelved(&mut intake, &mut reader, one);
+    let (read, one) = read_shelved(&mut intake, &mut reader, one);
     let round = full(read)?;
     let read = intake.home();
+    intake.bring_in(one);
     let second = put(
         &mut bench,
         RoundRead { round, end },
@@ -242,7 +284,7 @@ fn lacking(alloc: Global) -> Result<(RoundEnd, u32, u32), Fail> {
     } = Rounds::make(alloc, 3, 1, plain(1, 0, 64), false)?;
     let mut back = empty_shelf(alloc)?;
     let first = full(intake.read_round(&mut reader, &mut AllHome))?;
-    let RoundRead { round, end } = intake.read_round(&mut reader, &mut AllHome);
+    let RoundRead { round, end } = intake.read_round(&mut reader, &mut NoneComes);
     round.discard();
     let home = intake.home();
     drop_to(&mut bench, first, &mut back)?;

@@ -93,7 +93,7 @@ unmoved h blocks old new front (stops.PoolEmpty need) result bytes left link is 
 unmoved h blocks old new front stops.ReadFault result bytes left link is gives =
     let e = none_held blocks old gives.0 link gives.2 gives.3 in
     rw is ((gives.0, gives.1, subst IsNoRound (sym (ap (λ (p : Passed). p.stop) e)) (no_round (found_at old gives.0).fault), nothing_more h _ _ e), Keeps-refl h)
-unmoved h blocks old new front (stops.Lacking head) result bytes left link is gives = absurd is
+unmoved h blocks old new front stops.Lacking result bytes left link is gives = absurd is
 unmoved h blocks old new front stops.NoMemory result bytes left link is gives = rw is ((gives.0, gives.1, (0, Appends-nil h)), tt)
 
 pub unmoved_given : (a b h : Option (List ℕ)) (blocks : ℕ) (old new : Place) (front : List ℕ) (stop : Unread) (result : Result Moved SegFault) → old.link ≡ Offload → IsMovedOf stop result

@@ -15,10 +15,10 @@ use Rattle.gro.specs.declared.slot.Slot.{Slot as Held}
 use Rattle.gro.specs.Slots.{packet_of}
 use Rattle.records.specs.declared.reading.Stop.{Stop}
 use Rattle.records.specs.declared.reading.Stop.TheVariants as stops
-use Rattle.records.specs.Reading.{GivesKept, GivesRecord, GoesOn, KeepsHead, Passes, IfLacking as IfUnread}
+use Rattle.records.specs.Reading.{GivesKept, GoesOn, KeepsHead, Passes}
 use Rattle.rounds.specs.Ahead.{GivesBehind, ReadsAhead, Waits}
 use Rattle.rounds.specs.Fresh.{NumberedFrom}
-use Rattle.rounds.specs.Reading.{GivesRest, GivesRound, FillsRound, IfEnded, IfLacking, IsEndOf, IsHaltOf, NumbersOn, PassesOver, PassesRound, WaitsOver}
+use Rattle.rounds.specs.Reading.{GivesRest, GivesRound, FillsRound, IfEnded, IsEndOf, IsHaltOf, NumbersOn, PassesOver, WaitsOver}
 use Rattle.rounds.specs.RoundsState.{RoundState}
 use Rattle.rounds.specs.declared.reading.Halt.{Halt}
 use Rattle.rounds.specs.declared.reading.Halt.TheVariants.{Ended, Lacking}
@@ -31,15 +31,6 @@ use Rattle.rounds.proofs.Taking.{numbered_last}
 
 -- ---- why no more records are read
 
--- where what is said of a kept header can't be
-pub never_kept : (P : RecHead → Type 0) (stop : Stop) → ((head : RecHead) → P head → ⊥) → IfUnread stop P → IfUnread stop (λ head. ⊥)
-never_kept P stops.End not kept = tt
-never_kept P (stops.Malformed fault) not kept = tt
-never_kept P (stops.PoolEmpty need) not kept = tt
-never_kept P stops.ReadFault not kept = tt
-never_kept P stops.NoMemory not kept = tt
-never_kept P (stops.Lacking head) not kept = not head kept
-
 -- what every end for this stop has
 pub halt_ended : (P : RoundEnd → Type 0) (stop : Stop) (halt : Halt) → IsHaltOf stop halt → ((end : RoundEnd) → IsEndOf stop end → P end) → IfEnded halt P
 halt_ended P stops.End halt is h = rw is (h ends.End refl)
@@ -47,25 +38,15 @@ halt_ended P (stops.Malformed fault) halt is h = rw is (h (ends.Malformed fault)
 halt_ended P (stops.PoolEmpty need) halt is h = rw is (h (ends.PoolEmpty need) refl)
 halt_ended P stops.ReadFault halt is h = rw is (h ends.ReadFault refl)
 halt_ended P stops.NoMemory halt is h = rw is (h ends.NoMemory refl)
-halt_ended P (stops.Lacking head) halt is h = rw is tt
-
--- and what a header that is kept has
-pub halt_lacking : (P Q : RecHead → Type 0) (stop : Stop) (halt : Halt) → IsHaltOf stop halt → ((head : RecHead) → stop ≡ stops.Lacking head → P head → Q head) → IfUnread stop P
-    → IfLacking halt Q
-halt_lacking P Q stops.End halt is h kept = rw is tt
-halt_lacking P Q (stops.Malformed fault) halt is h kept = rw is tt
-halt_lacking P Q (stops.PoolEmpty need) halt is h kept = rw is tt
-halt_lacking P Q stops.ReadFault halt is h kept = rw is tt
-halt_lacking P Q stops.NoMemory halt is h kept = rw is tt
-halt_lacking P Q (stops.Lacking head) halt is h kept = rw is (h head refl kept)
+halt_ended P stops.Lacking halt is h = rw is tt
 
 abbrev end_in : Halt → RoundEnd
 end_in (Ended end) = end
-end_in (Lacking head) = ends.NoMemory
+end_in Lacking = ends.NoMemory
 
 abbrev is_lacking : Halt → Bool
 is_lacking (Ended end) = false
-is_lacking (Lacking head) = true
+is_lacking Lacking = true
 
 abbrev is_full : RoundEnd → Bool
 is_full ends.Full = true
@@ -74,20 +55,32 @@ is_full _ = false
 pub no_memory_full : ends.NoMemory ≡ ends.Full → ⊥
 no_memory_full e = false≢true (ap is_full e)
 
-pub lacking_full : (head : RecHead) → Lacking head ≡ Ended ends.Full → ⊥
-lacking_full head e = false≢true (sym (ap is_lacking e))
+pub lacking_full : Lacking ≡ Ended ends.Full → ⊥
+lacking_full e = false≢true (sym (ap is_lacking e))
+
+ended_lacking : (end : RoundEnd) (halt : Halt) → halt ≡ Ended end → halt ≡ Lacking → ⊥
+ended_lacking end halt is lacks = false≢true (ap is_lacking (sym is ∙ lacks))
+
+-- blocks are lacking for this stop alone
+pub halt_lacking : (stop : Stop) (halt : Halt) → IsHaltOf stop halt → halt ≡ Lacking → stop ≡ stops.Lacking
+halt_lacking stops.End halt is lacks = absurd (ended_lacking ends.End halt is lacks)
+halt_lacking (stops.Malformed fault) halt is lacks = absurd (ended_lacking (ends.Malformed fault) halt is lacks)
+halt_lacking (stops.PoolEmpty need) halt is lacks = absurd (ended_lacking (ends.PoolEmpty need) halt is lacks)
+halt_lacking stops.ReadFault halt is lacks = absurd (ended_lacking ends.ReadFault halt is lacks)
+halt_lacking stops.NoMemory halt is lacks = absurd (ended_lacking ends.NoMemory halt is lacks)
+halt_lacking stops.Lacking halt is lacks = refl
 
 -- ---- a round that waits behind a header
 
-pub waits_over : (a b c : Option (List ℕ)) (old mid new : Place) (used blocks : ℕ) (first packets : List Held) (head : RecHead) → ReadSoFar a b old mid first packets → KeepsHead mid new head
-    → Told b c (GivesRecord used blocks mid new [] (Err (stops.Lacking head))) → WaitsOver old new a c first packets head
-waits_over a b c old mid new used blocks first packets head so_far keeps told = record {
+pub waits_over : (a b c : Option (List ℕ)) (old mid new : Place) (first packets : List Held) (head : RecHead) → ReadSoFar a b old mid first packets → KeepsHead mid new head
+    → Told b c (GivesHead mid (Ok (Some head))) → WaitsOver old new a c first packets head
+waits_over a b c old mid new first packets head so_far keeps told = record {
   at = mid;
   goes = goes_over a b old mid first packets so_far;
   keeps = keeps;
   number = so_far.number;
-  given = Told-then a b c (PassesOver old mid first packets) (GivesRecord used blocks mid new [] (Err (stops.Lacking head)))
-      (λ bytes left. (opened : List ℕ) × (PassesOver old mid first packets bytes opened × GivesHead mid (Ok (Some head)) opened left)) (λ bytes rest left over last. (rest, (over, last.0)))
+  given = Told-then a b c (PassesOver old mid first packets) (GivesHead mid (Ok (Some head)))
+      (λ bytes left. (opened : List ℕ) × (PassesOver old mid first packets bytes opened × GivesHead mid (Ok (Some head)) opened left)) (λ bytes rest left over last. (rest, (over, last)))
       so_far.told told;
 }
 

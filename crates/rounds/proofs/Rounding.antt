@@ -187,7 +187,7 @@ round_stop old mid new used blocks packets (stops.PoolEmpty need) end bytes rest
     rw is (exceeds_so_far old mid used blocks need (map packet_of packets) bytes rest left ethernet u before last)
 round_stop old mid new used blocks packets stops.ReadFault end bytes rest left ethernet few u is before last =
     rw is (holds_so_far old mid used blocks (map packet_of packets) bytes rest left ethernet u before last)
-round_stop old mid new used blocks packets (stops.Lacking head) end bytes rest left ethernet few u is before last = absurd is
+round_stop old mid new used blocks packets stops.Lacking end bytes rest left ethernet few u is before last = absurd is
 round_stop old mid new used blocks packets stops.NoMemory end bytes rest left ethernet few u is before last =
     rw is (before.0 ++ last.0, before.1 ∙ ap (λ (l : List ℕ). before.0 ++ l) last.1 ∙ sym (append_assoc before.0 last.0 left))
 

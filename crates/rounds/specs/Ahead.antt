@@ -37,19 +37,19 @@ abbrev pub IfPaused : ReadAhead → (Paused → Type 0) → Type 0
 IfPaused (aheads.Read read) P = Unit {0}
 IfPaused (aheads.Paused paused) P = P paused
 
--- The reader stands behind the header of a record of a round that goes on, which is kept: up to the place of that header
--- the packets stand. What the source had left before is `from`, and `to` what it has left.
+-- The reader stands behind the header of a record of a round that goes on, which is kept: up to the place of that
+-- header the packets stand. What the source had left before is `from`, and `to` what it has left.
 pub record Waits (budget : ℕ) (old new : Place) (from to : Option (List ℕ)) (p : Paused) : Type 0 where
   pub at : Place
   pub goes : PassesRound old at p.round.packets (length p.round.packets)
   pub keeps : KeepsHead at new p.head
   pub fewer : length p.round.packets < budget
   pub numbers : NumberedTo at.number p.round.packets
-  pub given : Told from to (λ bytes left. (opened : List ℕ) × (Passes old at (map packet_of p.round.packets) bytes opened
-      × GivesHead at (Ok (Some p.head)) opened left))
+  pub given : Told from to (λ bytes left. (opened : List ℕ)
+      × (Passes old at (map packet_of p.round.packets) bytes opened × GivesHead at (Ok (Some p.head)) opened left))
 
--- Fewer blocks are home than the record needs whose header is kept, and with it the round doesn't exceed the blocks. The
--- counts of takes, before and after, say what the read took until then.
+-- Fewer blocks are home than the record needs whose header is kept, and with it the round doesn't exceed the blocks.
+-- The counts of takes, before and after, say what the read took until then.
 pub record Lacks (home blocks before after : ℕ) (p : Paused) : Type 0 where
   pub short : home < need_of p.head.captured
   pub fits : p.round.blocks + need_of p.head.captured ≤ blocks

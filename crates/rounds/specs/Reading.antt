@@ -53,7 +53,7 @@ IsEndOf (stops.Malformed fault) end = end ≡ ends.Malformed fault
 IsEndOf (stops.PoolEmpty need) end = end ≡ ends.PoolEmpty need
 IsEndOf stops.ReadFault end = end ≡ ends.ReadFault
 IsEndOf stops.NoMemory end = end ≡ ends.NoMemory
-IsEndOf (stops.Lacking head) end = ⊥
+IsEndOf stops.Lacking end = ⊥
 
 -- where reading a round halts for a stop: the header of a record whose blocks aren't home is kept
 abbrev pub IsHaltOf : Stop → Halt → Type 0
@@ -62,17 +62,12 @@ IsHaltOf (stops.Malformed fault) halt = halt ≡ halts.Ended (ends.Malformed fau
 IsHaltOf (stops.PoolEmpty need) halt = halt ≡ halts.Ended (ends.PoolEmpty need)
 IsHaltOf stops.ReadFault halt = halt ≡ halts.Ended ends.ReadFault
 IsHaltOf stops.NoMemory halt = halt ≡ halts.Ended ends.NoMemory
-IsHaltOf (stops.Lacking head) halt = halt ≡ halts.Lacking head
+IsHaltOf stops.Lacking halt = halt ≡ halts.Lacking
 
 -- of a round that has no more records
 abbrev pub IfEnded : Halt → (RoundEnd → Type 0) → Type 0
 IfEnded (halts.Ended end) P = P end
-IfEnded (halts.Lacking head) P = Unit {0}
-
--- of one that lacks blocks for a record: its header
-abbrev pub IfLacking : Halt → (RecHead → Type 0) → Type 0
-IfLacking (halts.Ended end) P = Unit {0}
-IfLacking (halts.Lacking head) P = P head
+IfEnded halts.Lacking P = Unit {0}
 
 -- a full round was taken, and the next one may be
 pub record PassesRound (old new : Place) (round : List Held) (budget : ℕ) : Type 0 where

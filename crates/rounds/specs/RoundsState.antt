@@ -1,5 +1,5 @@
--- What a contract sees of rounds: which blocks are home, how many these are, how many were made and were taken, how often
--- a take found no list while a round was read beside work, and of a round what it holds.
+-- What a contract sees of rounds: which blocks are home, how many these are, how many were made and were taken, how
+-- often a take found no list while a round was read beside work, and of a round what it holds.
 use Rattle.std.specs.Prelude.{ℕ, Bool, List}
 use Rattle.raw_block.specs.Views.{SoleState}
 use Rattle.gro.specs.declared.slot.Slot.{Slot}

@@ -57,7 +57,7 @@ IsMovedOf (stops.Malformed fault) result = result ≡ Err (faults.Malformed faul
 IsMovedOf (stops.PoolEmpty need) result = result ≡ Err (faults.PoolEmpty need)
 IsMovedOf stops.ReadFault result = result ≡ Err faults.ReadFault
 IsMovedOf stops.NoMemory result = result ≡ Err faults.NoMemory
-IsMovedOf (stops.Lacking head) result = ⊥
+IsMovedOf stops.Lacking result = ⊥
 
 -- why a record isn't segmented
 abbrev pub IsFaultOf : Refused → ℕ → ℕ → SegFault → Type 0

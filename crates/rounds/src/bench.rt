@@ -238,8 +238,8 @@ impl Bench {
         }
     }
 
-    /// Works the round that lies there, beside the side that reads: spares of it go there by the giver. The runtime goes
-    /// with it as with that side.
+    /// Works the round that lies there, beside the side that reads: spares of it go there by the giver. The runtime
+    /// goes with it as with that side.
     pub(crate) fn work_lent<R: Sync, W: Works>(
         &mut self,
         _rt: &R,

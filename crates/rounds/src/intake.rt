@@ -164,12 +164,13 @@ impl Intake {
             ≡ weighed h self.old.stock + H.weights more.new h }
         ensures same { (self.new.blocks ≡ self.old.blocks) × (self.new.taken ≡ self.old.taken)
             × (self.new.budget ≡ self.old.budget) × (self.new.empties ≡ self.old.empties) }
+        ensures owed { H.owed more.old + H.brought more.old ≤ H.owed more.new + H.brought more.new }
     {
         let _enough = more.bring(&mut self.pool, 0);
     }
 
     /// As `read_round` of the rounds says it, while blocks come home. `NoMemory` also where fewer are home than the
-    /// next record needs and no more come. A round takes memory for its packets.
+    /// next record needs and whoever has the others keeps them. A round takes memory for its packets.
     pub fn read_round<S: Source, H: Supply>(
         &mut self,
         reader: &mut CaptureReader<'_, S>,
@@ -177,6 +178,7 @@ impl Intake {
     ) -> RoundRead
         requires ready { IsReady (place_of reader.old) }
         requires link { (place_of reader.old).link ≡ Ethernet }
+        requires sure { self.old.blocks ≤ self.old.home + H.owed more.old }
         ensures same_source { SameLoan reader.old reader.new }
         ensures given { Told (S.left (source_of reader.old)) (S.left (source_of reader.new))
             (GivesRound self.old.blocks (place_of reader.old) (place_of reader.new) result.round.packets result.end) }
@@ -191,6 +193,7 @@ impl Intake {
         ensures sum { self.new.home + result.round.blocks + H.brought more.old ≡ self.old.home + H.brought more.new }
         ensures named { (h : ℕ → ℕ) → weighed h self.new.stock + weights_of result.round h + H.weights more.old h
             ≡ weighed h self.old.stock + H.weights more.new h }
+        ensures owed { H.owed more.old + H.brought more.old ≤ H.owed more.new + H.brought more.new }
         ensures within { result.round.blocks ≤ self.old.blocks }
         ensures same { (self.new.blocks ≡ self.old.blocks) × (self.new.budget ≡ self.old.budget)
             × (self.new.empties ≡ self.old.empties) }
@@ -218,6 +221,7 @@ impl Intake {
         requires none { IfOk blank (λ b. (b.packets.items ≡ []) × (home b.spares ≡ 0)) }
         requires reserved { IfOk blank (λ b. (self.old.budget ≤ b.packets.room)
             × (2 * self.old.budget ≤ b.spares.made)) }
+        requires sure { self.old.blocks ≤ self.old.home + H.owed more.old }
         ensures same_source { SameLoan reader.old reader.new }
         ensures given { Told (S.left (source_of reader.old)) (S.left (source_of reader.new))
             (GivesRound self.old.blocks (place_of reader.old) (place_of reader.new) result.round.packets result.end) }
@@ -232,6 +236,7 @@ impl Intake {
         ensures sum { self.new.home + result.round.blocks + H.brought more.old ≡ self.old.home + H.brought more.new }
         ensures named { (h : ℕ → ℕ) → weighed h self.new.stock + weights_of result.round h + H.weights more.old h
             ≡ weighed h self.old.stock + H.weights more.new h }
+        ensures owed { H.owed more.old + H.brought more.old ≤ H.owed more.new + H.brought more.new }
         ensures within { result.round.blocks ≤ self.old.blocks }
         ensures unread { OnErr blank (self.new ≡ self.old) }
         ensures same { (self.new.blocks ≡ self.old.blocks) × (self.new.budget ≡ self.old.budget)
@@ -317,12 +322,14 @@ impl Intake {
             mut packets,
             mut spares,
         } = replace(lists, Blank::none(self.alloc));
+        let mut kept = None;
         let (blocks, halt) = read_more(
             self.alloc,
             &mut self.pool,
             &mut self.hold,
             reader,
             more,
+            &mut kept,
             self.budget as usize,
             &mut packets,
             &mut spares,
@@ -335,7 +342,8 @@ impl Intake {
         };
         match halt {
             Halt::Ended(end) => ReadAhead::Read(RoundRead { round, end }),
-            Halt::Lacking(head) => {
+            Halt::Lacking => {
+                let Some(head) = kept else { unreachable!() };
                 let empty = Empty {
                     takes: blocks as u64,
                 };

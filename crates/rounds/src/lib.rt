@@ -152,8 +152,9 @@
 //!   and marks of its blocks are at hand.
 //! - **A round is ended before a fault of its writing is answered**, so its blocks are home whatever the ending.
 //! - **There is one loop over rounds in turn** (`handle_from`), over whatever is done with each. Merging is a handler
-//!   that writes a round (`RoundWriter`), and what it comes to is one lemma over the rounds that were read, whoever read
-//!   them (`all_merged`): so the loop knows of no bytes, and a driver with threads has the clauses of `merge_all` too.
+//!   that writes a round (`RoundWriter`), and what it comes to is one lemma over the rounds that were read, whoever
+//!   read them (`all_merged`): so the loop knows of no bytes, and a driver with threads has the clauses of `merge_all`
+//!   too.
 //! - **`Rounds` are two sides**, an intake that reads and has the pool, and a bench that works and has none. Where
 //!   blocks come home is told at each call: in turn it is the intake's pool, beside a shelf that goes back to it. So
 //!   both are lent side by side, as two fields, with no memory and no way back; and a call that takes no pool can't set

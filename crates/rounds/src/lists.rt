@@ -43,6 +43,7 @@ impl Taker {
         ensures lists { arc_value self.new.lists ≡ arc_value self.old.lists }
         ensures pass { self.new.pass ≡ self.old.pass }
         ensures came { result ≡ true → home pool.old < home pool.new }
+        ensures rises { home pool.old ≤ home pool.new }
         ensures full { 1 ≤ home self.old.left → result ≡ false → pool.old.made ≤ home pool.old }
     {
         let before = pool.home();
@@ -60,6 +61,7 @@ impl Taker {
         ensures same { (pool.new.made ≡ pool.old.made) × (pool.new.taken ≡ pool.old.taken) }
         ensures lists { arc_value self.new.lists ≡ arc_value self.old.lists }
         ensures came { result ≡ true → home pool.old < home pool.new }
+        ensures rises { home pool.old ≤ home pool.new }
         ensures refused { result ≡ false → (pool.old.made ≤ home pool.old)
             ⊎ (min (self.old.pass.empties + 1) (2 ^ 64 - 1) ≤ self.new.pass.empties) }
         ensures asked { self.old.pass.empties ≤ self.new.pass.empties }
@@ -121,12 +123,20 @@ impl<R: Wait, N: ListName> Supply for NextLists<'_, R, N> {
 
     ghost refusals = { λ n. n.taker.pass.empties };
 
+    ghost owed = { λ _. 0 };
+
+    ghost ended = { λ _. true };
+
     fn bring(&mut self, pool: &mut Pool, need: u32) -> bool {
         while pool.home() < need {
             if !self.taker.bring(self.rt, pool) {
                 return false;
             }
         }
+        true
+    }
+
+    fn has_ended(&self) -> bool {
         true
     }
 }

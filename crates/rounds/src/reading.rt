@@ -1,5 +1,5 @@
 //! Reads the records of a round.
-ghost use Rattle.std.specs.Prelude.{◌≡◌, ◌≢◌, ℕ, ◌+◌, ◌-◌, ◌*◌, ◌<◌, ◌≤◌, ◌^◌, [], true, length, map, min};
+ghost use Rattle.std.specs.Prelude.{◌≡◌, ◌≢◌, ℕ, ◌+◌, ◌-◌, ◌*◌, ◌<◌, ◌≤◌, ◌^◌, [], false, true, length, map, min, Some};
 ghost use Rattle.std.specs.List.{AllByRecursion};
 ghost use Rattle.std.specs.VecDeque.{deque_capacity};
 ghost use Rattle.block_pool.specs.PoolState.{home, weighed};
@@ -17,7 +17,7 @@ ghost use Rattle.records.specs.Reading.{KeepsHead};
 ghost use Rattle.rounds.specs.Ahead.{GivesBehind};
 ghost use Rattle.rounds.specs.Fresh.{NumberedFrom};
 ghost use Rattle.rounds.specs.Reading.{FillsRound, GivesRest, GivesRound, NumbersOn, PassesRound, WaitsOver};
-ghost use Rattle.rounds.specs.Reading.{IfEnded, IfLacking, IsHaltOf};
+ghost use Rattle.rounds.specs.Reading.{IfEnded, IsHaltOf};
 
 use crate::round::{RoundEnd, end_of};
 use block_pool::Pool;
@@ -34,28 +34,29 @@ use std::collections::VecDeque;
 pub(crate) enum Halt {
     /// It has no more, for this.
     Ended(RoundEnd),
-    /// Blocks that its next record needs aren't home. The header of this one was taken.
-    Lacking(RecHead),
+    /// Blocks that its next record needs aren't home. The header of this one was taken and is kept.
+    Lacking,
 }
 
 fn halt_of(stop: Stop) -> Halt
     ensures halt { IsHaltOf stop result }
 {
     match stop {
-        Stop::Lacking { head } => Halt::Lacking(head),
+        Stop::Lacking => Halt::Lacking,
         _ => Halt::Ended(end_of(stop)),
     }
 }
 
 /// Reads on behind the packets that a round has already, with `used` blocks, until there are `budget` of them, or no
 /// more: the blocks that they then have, and why. Blocks that a record needs are brought once its header was taken;
-/// where they don't come that is `Lacking`.
+/// where they don't come that is `Lacking`, and the header is kept.
 pub(crate) fn read_more<S: Source, H: Supply>(
     alloc: Global,
     pool: &mut Pool,
     hold: &mut VecDeque<Sole>,
     reader: &mut CaptureReader<'_, S>,
     more: &mut H,
+    kept: &mut Option<RecHead>,
     budget: usize,
     packets: &mut Packets,
     spares: &mut Pool,
@@ -84,13 +85,15 @@ pub(crate) fn read_more<S: Source, H: Supply>(
     ensures fewer { result.1 ≢ Halt.Ended RoundEnd.Full → length packets.new.items < budget }
     ensures full { result.1 ≡ Halt.Ended RoundEnd.Full → FillsRound (place_of reader.old)
         (place_of reader.new) packets.old.items packets.new.items budget }
-    ensures lacking { IfLacking result.1 (WaitsOver (place_of reader.old) (place_of reader.new)
-        (S.left (source_of reader.old)) (S.left (source_of reader.new)) packets.old.items packets.new.items) }
-    ensures wanted { IfLacking result.1 (λ head. (home pool.new < need_of head.captured)
-        × (result.0 + need_of head.captured ≤ pool.old.made)) }
-    ensures refused { H.counts ≡ true → IfLacking result.1 (λ _.
-        min (H.refusals more.old + 1) (2 ^ 64 - 1) ≤ H.refusals more.new) }
+    ensures lacking { result.1 ≡ Halt.Lacking → (head : RecHead) × (kept.new ≡ Some head)
+        × WaitsOver (place_of reader.old) (place_of reader.new) (S.left (source_of reader.old))
+        (S.left (source_of reader.new)) packets.old.items packets.new.items head
+        × (home pool.new < need_of head.captured) × (result.0 + need_of head.captured ≤ pool.old.made) }
+    ensures refused { H.counts ≡ true → result.1 ≡ Halt.Lacking
+        → min (H.refusals more.old + 1) (2 ^ 64 - 1) ≤ H.refusals more.new }
     ensures asked { H.refusals more.old ≤ H.refusals more.new }
+    ensures owed { H.owed more.old + H.brought more.old ≤ H.owed more.new + H.brought more.new }
+    ensures short { result.1 ≡ Halt.Lacking → H.ended more.new ≡ false → H.owed more.new ≡ 0 }
     ensures laid { LaidFrom 0 packets.new.items }
     ensures count { counts_of packets.new.items + home spares.new ≡ result.0 }
     ensures pairs { home spares.new ≡ 2 * length packets.new.items }
@@ -107,8 +110,8 @@ pub(crate) fn read_more<S: Source, H: Supply>(
     ensures taken { min (pool.old.taken + (result.0 - used)) (2 ^ 64 - 1) ≤ pool.new.taken }
     ensures least { (used ≤ result.0) × (pool.old.taken ≤ pool.new.taken) }
     ensures most { pool.new.taken + used ≤ pool.old.taken + pool.old.made }
-    ensures so_far { IfLacking result.1 (λ _.
-        pool.new.taken ≡ min (pool.old.taken + (result.0 - used)) (2 ^ 64 - 1)) }
+    ensures so_far { result.1 ≡ Halt.Lacking
+        → pool.new.taken ≡ min (pool.old.taken + (result.0 - used)) (2 ^ 64 - 1) }
     ensures empty { hold.new.items ≡ [] }
     ensures capacity { deque_capacity hold.new ≡ deque_capacity hold.old }
     ensures later { S.faults (source_of reader.old) ≤ S.faults (source_of reader.new) }
@@ -126,6 +129,7 @@ pub(crate) fn read_more<S: Source, H: Supply>(
             spares,
             reader,
             more,
+            kept,
             &mut [],
             used,
             mark,
@@ -206,18 +210,18 @@ pub(crate) fn read_behind<S: Source>(
         Err(stop) => return (used, end_of(stop)),
     };
     let used = used + count;
-    let more = &mut AllHome;
+    let (more, kept) = (&mut AllHome, &mut None);
     let (blocks, halt) = read_more(
-        alloc, pool, hold, reader, more, budget, packets, spares, used,
+        alloc, pool, hold, reader, more, kept, budget, packets, spares, used,
     );
     match halt {
         Halt::Ended(end) => (blocks, end),
-        Halt::Lacking(_) => unreachable!(),
+        Halt::Lacking => unreachable!(),
     }
 }
 
 /// Reads the records of a round, up to `budget` of them: the blocks that they have, and why there are no more.
-/// `NoMemory` also where blocks are wanted that are out and don't come.
+/// `NoMemory` also where blocks are wanted that are out, and whoever has them keeps them.
 pub(crate) fn read_records<S: Source, H: Supply>(
     alloc: Global,
     pool: &mut Pool,
@@ -236,6 +240,7 @@ pub(crate) fn read_records<S: Source, H: Supply>(
     requires none { (packets.old.items ≡ []) × (home spares.old ≡ 0) }
     requires reserved { budget ≤ packets.old.room }
     requires room { 2 * budget ≤ spares.old.made }
+    requires sure { pool.old.made ≤ home pool.old + H.owed more.old }
     ensures same_source { SameLoan reader.old reader.new }
     ensures given { Told (S.left (source_of reader.old)) (S.left (source_of reader.new))
         (GivesRound pool.old.made (place_of reader.old) (place_of reader.new) packets.new.items result.1) }
@@ -253,6 +258,7 @@ pub(crate) fn read_records<S: Source, H: Supply>(
     ensures sum { home pool.new + result.0 + H.brought more.old ≡ home pool.old + H.brought more.new }
     ensures named { (h : ℕ → ℕ) → weighed h pool.new.blocks + weighed_slots h packets.new.items
         + weighed h spares.new.blocks + H.weights more.old h ≡ weighed h pool.old.blocks + H.weights more.new h }
+    ensures owed { H.owed more.old + H.brought more.old ≤ H.owed more.new + H.brought more.new }
     ensures within { result.0 ≤ pool.old.made }
     ensures made { pool.new.made ≡ pool.old.made }
     ensures taken { min (pool.old.taken + result.0) (2 ^ 64 - 1) ≤ pool.new.taken }
@@ -264,9 +270,13 @@ pub(crate) fn read_records<S: Source, H: Supply>(
     ensures failed { result.1 ≡ RoundEnd.ReadFault → Rose (S.faults (source_of reader.old))
         (S.faults (source_of reader.new)) }
 {
-    let (blocks, halt) = read_more(alloc, pool, hold, reader, more, budget, packets, spares, 0);
+    let kept = &mut None;
+    let (blocks, halt) = read_more(
+        alloc, pool, hold, reader, more, kept, budget, packets, spares, 0,
+    );
     match halt {
         Halt::Ended(end) => (blocks, end),
-        Halt::Lacking(_) => (blocks, RoundEnd::NoMemory),
+        Halt::Lacking if more.has_ended() => (blocks, RoundEnd::NoMemory),
+        Halt::Lacking => unreachable!(),
     }
 }

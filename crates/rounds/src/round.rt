@@ -1,7 +1,6 @@
 //! The records of a round, and what they come to.
-ghost use Rattle.std.specs.Prelude.{◌≡◌, ◌≤◌, ◌*◌, [], IfOk};
+ghost use Rattle.std.specs.Prelude.{◌≡◌, ◌≢◌, ◌≤◌, ◌*◌, [], IfOk};
 ghost use Rattle.block_pool.specs.PoolState.{home};
-ghost use Rattle.records.specs.Reading.{IfLacking};
 ghost use Rattle.rounds.specs.Merging.{is_worked as is_worked_end};
 ghost use Rattle.rounds.specs.Reading.{IsEndOf};
 
@@ -86,6 +85,13 @@ impl Model for Round {
 }
 
 impl Round {
+    /// The blocks that it has.
+    pub fn blocks(&self) -> u32
+        ensures blocks { result ≡ self.now.blocks }
+    {
+        self.blocks
+    }
+
     /// Gives the round up outside its rounds: its blocks are freed. No memory is taken.
     pub fn discard(self) {
         let Round {
@@ -253,7 +259,7 @@ pub(crate) fn no_round(alloc: Global) -> RoundRead
 }
 
 pub(crate) fn end_of(stop: Stop) -> RoundEnd
-    requires begun { IfLacking stop (λ _. ⊥) }
+    requires begun { stop ≢ Stop.Lacking }
     ensures end { IsEndOf stop result }
 {
     match stop {
@@ -262,6 +268,6 @@ pub(crate) fn end_of(stop: Stop) -> RoundEnd
         Stop::PoolEmpty { need } => RoundEnd::PoolEmpty { need },
         Stop::ReadFault => RoundEnd::ReadFault,
         Stop::NoMemory => RoundEnd::NoMemory,
-        Stop::Lacking { head: _ } => unreachable!(),
+        Stop::Lacking => unreachable!(),
     }
 }

@@ -1,5 +1,5 @@
 //! Segments the records of an offload capture, each a round of its own.
-ghost use Rattle.std.specs.Prelude.{◌≡◌, ◌+◌, ◌-◌, ◌*◌, ◌<◌, ◌≤◌, ◌^◌, [], ◌∷◌, length, min, IfOk, Ok, Err};
+ghost use Rattle.std.specs.Prelude.{◌≡◌, ◌≢◌, ◌+◌, ◌-◌, ◌*◌, ◌<◌, ◌≤◌, ◌^◌, [], ◌∷◌, length, min, IfOk, Ok, Err};
 ghost use Rattle.std.specs.Prelude.{ℕ};
 ghost use Rattle.std.specs.List.{flat_map};
 ghost use Rattle.block_pool.specs.PoolState.{weighed};
@@ -8,7 +8,7 @@ ghost use Rattle.off_io.specs.Told.{Told};
 ghost use Rattle.pcap_io.specs.declared.heads.Link.TheVariants.{Offload};
 ghost use Rattle.pcap_io.specs.Places.{IsReady, found_at};
 ghost use Rattle.pcap_io.specs.Readers.{place_of, source_of, SameLoan};
-ghost use Rattle.records.specs.Reading.{GoesOn, IfLacking};
+ghost use Rattle.records.specs.Reading.{GoesOn};
 ghost use Rattle.rounds.specs.Segmenting.{IsFaultOf, IsMovedOf, Moves, TakesOne};
 
 use crate::cut::{Refused, cut_record};
@@ -99,7 +99,7 @@ impl Drop for SegmentRun {
 
 // What no record to segment comes to. All blocks are home, so it lacks none.
 fn stopped(stop: Stop) -> Result<Moved, SegFault>
-    requires begun { IfLacking stop (λ _. ⊥) }
+    requires begun { stop ≢ Stop.Lacking }
     ensures moved { IsMovedOf stop result }
 {
     match stop {
@@ -108,7 +108,7 @@ fn stopped(stop: Stop) -> Result<Moved, SegFault>
         Stop::PoolEmpty { need } => Err(SegFault::PoolEmpty { need }),
         Stop::ReadFault => Err(SegFault::ReadFault),
         Stop::NoMemory => Err(SegFault::NoMemory),
-        Stop::Lacking { head: _ } => unreachable!(),
+        Stop::Lacking => unreachable!(),
     }
 }
 
@@ -219,6 +219,7 @@ impl SegmentRun {
             &mut self.spares,
             reader,
             &mut AllHome,
+            &mut None,
             &mut front,
             0,
             0,

@@ -2,7 +2,7 @@ use Rattle.std.proofs.Common.{◌∙◌, ◌∷◌, ◌++◌, [], ℕ, List, Opt
 use Rattle.rtrb.specs.Ring.{sent, received}
 use Rattle.pipeline.specs.declared.parcel.Parcel.{Parcel}
 use Rattle.rounds.specs.Lists.{listed_home, weights_home}
-use Rattle.pipeline.specs.Parcels.{blocks_of, homes_of, packets_of, rounds_of, weights_back, weights_sent}
+use Rattle.pipeline.specs.Parcels.{blocks_of, homes_of, packets_of, rounds_of, shelved, weights_back, weights_sent, weights_shelved}
 use Rattle.rounds.specs.Reads.{spot, Reads}
 use Rattle.rounds.proofs.Rows.{all_go_last, full_end, reads_last}
 use Rattle.pipeline.proofs.Rows.{blocks_last, packets_append, read_as, rounds_last, sent_more, sent_none, weights_sent_append}
@@ -89,6 +89,9 @@ returns-then-not-is_full-clause-sum g c =
       c.pick.ensures.same.0,
       ap (λ t. homes_of (received t)) c.pick.ensures.same.1,
       ap (λ t. listed_home t.pass t.left) c.pick.ensures.same.2,
+      ap (λ s. shelved s.items) c.lend.ensures.same.0,
+      ap (λ t. homes_of (received t)) c.lend.ensures.same.1,
+      ap (λ t. listed_home t.pass t.left) c.lend.ensures.same.2,
     )
 
 pub returns-then-not-is_full-clause-named : goal.returns-then-not-is_full-clause-named
@@ -105,6 +108,9 @@ returns-then-not-is_full-clause-named g c h =
       c.pick.ensures.named h,
       ap (λ t. weights_back h (received t)) c.pick.ensures.same.1,
       ap (λ t. weights_home h t.pass t.left) c.pick.ensures.same.2,
+      ap (λ s. weights_shelved h s.items) c.lend.ensures.same.0,
+      ap (λ t. weights_back h (received t)) c.lend.ensures.same.1,
+      ap (λ t. weights_home h t.pass t.left) c.lend.ensures.same.2,
     )
 
 pub send-requires-in-loop : goal.send-requires-in-loop
@@ -123,6 +129,11 @@ send-requires-in-loop g c =
       };
     }
 
+pub read_round-read-requires-clause-sure : goal.read_round-read-requires-clause-sure
+read_round-read-requires-clause-sure g c =
+    let i = c.loop.invariant in
+    omega (arith, i.sure, c.bring_more.ensures.sum, c.bring_more.ensures.owed, c.bring_more.ensures.same.0, c.pick.ensures.owed)
+
 pub loop-init : goal.loop-init
 loop-init g c = record {
   ring = search rules;
@@ -139,6 +150,7 @@ loop-init g c = record {
   budget = refl;
   number = omega (arith, ap (λ (xs : List (Option Parcel)). length (rounds_of xs)) c.requires.first.1);
   packets = omega (arith, ap (λ (xs : List (Option Parcel)). packets_of (rounds_of xs)) c.requires.first.1, c.requires.first.3);
+  sure = c.requires.sure;
   counted = omega arith;
   later = omega arith;
 }
@@ -187,6 +199,9 @@ loop-preserved g c =
         c.pick.ensures.same.0,
         ap (λ t. homes_of (received t)) c.pick.ensures.same.1,
         ap (λ t. listed_home t.pass t.left) c.pick.ensures.same.2,
+        ap (λ s. shelved s.items) c.lend.ensures.same.0,
+        ap (λ t. homes_of (received t)) c.lend.ensures.same.1,
+        ap (λ t. listed_home t.pass t.left) c.lend.ensures.same.2,
       );
       named = λ h. omega (
         arith,
@@ -198,11 +213,32 @@ loop-preserved g c =
         c.pick.ensures.named h,
         ap (λ t. weights_back h (received t)) c.pick.ensures.same.1,
         ap (λ t. weights_home h t.pass t.left) c.pick.ensures.same.2,
+        ap (λ s. weights_shelved h s.items) c.lend.ensures.same.0,
+        ap (λ t. weights_back h (received t)) c.lend.ensures.same.1,
+        ap (λ t. weights_home h t.pass t.left) c.lend.ensures.same.2,
       );
       blocks = r.same.0 ∙ c.bring_more.ensures.same.0 ∙ i.blocks;
       budget = r.same.1 ∙ c.bring_more.ensures.same.2 ∙ i.budget;
       number = omega (arith, i.number, ap length now, length-append (rounds_of (sent l.supply.out)) (p.read ∷ []));
       packets = omega (arith, i.packets, ap packets_of now, packets_append (rounds_of (sent l.supply.out)) (p.read ∷ []), passes.number, passes.full);
+      sure = omega (
+        arith,
+        i.sure,
+        c.bring_more.ensures.sum,
+        c.bring_more.ensures.owed,
+        c.bring_more.ensures.same.0,
+        c.pick.ensures.owed,
+        c.pick.ensures.same.0,
+        ap (λ t. homes_of (received t)) c.pick.ensures.same.1,
+        ap (λ t. listed_home t.pass t.left) c.pick.ensures.same.2,
+        r.sum,
+        r.owed,
+        r.same.0,
+        c.lend.ensures.owed,
+        i.blocks,
+        c.requires.named.0,
+        c.requires.named.1,
+      );
       counted = omega (arith, i.counted, passes.number, r.budget.0);
       later = omega (arith, r.later, i.later);
     }

@@ -1,6 +1,6 @@
-use Rattle.std.proofs.Common.{◌∷◌, ap, sym, subst, ◌∙◌, length, length-append, arith}
+use Rattle.std.proofs.Common.{◌∷◌, ap, refl, sym, subst, ◌∙◌, length, length-append, arith}
 use Rattle.skb.specs.SkbState.{buffer_bytes}
-use Rattle.records.proofs.Recording.{packet_given, frame_stop_given, memory_given}
+use Rattle.records.proofs.Recording.{packet_given, frame_stop_given, memory_given, never_lacking}
 use Rattle.offload_model.specs.Laws.{InBytes}
 use Rattle.records.proofs.reading.read_packet.Goals as goal
 
@@ -9,6 +9,9 @@ returns-in-Err-clause-given g c =
     let r = c.read_frame.new in
     frame_stop_given _ _ c.args.reader.now.place c.args.head.now r.front c.args.len (r.first ∷ r.hold.items) c.in-Err.fault c.stop_of.result c.stop_of.ensures.stop
     (omega (arith, c.requires.whole, c.in-Err.ensures.front)) c.in-Err.ensures.given
+
+pub returns-in-Err-clause-begun : goal.returns-in-Err-clause-begun
+returns-in-Err-clause-begun g c = never_lacking _ c.in-Err.fault c.stop_of.result refl c.stop_of.ensures.stop
 
 pub returns-in-Ok-with_room-clause-given : goal.returns-in-Ok-with_room-clause-given
 returns-in-Ok-with_room-clause-given g c = λ p is.

@@ -1,11 +1,20 @@
-use Rattle.std.proofs.Common.{arith, Ok, Err}
-use Rattle.records.proofs.Recording.{head_stop_given, end_given, empty_given, lacking_given, record_given, none_from, keeps_head, none_kept, never_kept}
+use Rattle.std.proofs.Common.{arith, refl, Ok, Err}
+use Rattle.records.proofs.Recording.{head_stop_given, head_given, end_given, empty_given, lacking_given, record_given, none_from, keeps_head, never_lacking}
 use Rattle.records.proofs.reading.read_record.Goals as goal
 
 pub returns-in-Err-clause-given : goal.returns-in-Err-clause-given
 returns-in-Err-clause-given g c =
     head_stop_given _ _ c.args.reader.now.place c.next_head.new.self.place c.args.used c.args.pool.now.made c.args.front.now c.in-Err.fault c.stop_of.result c.requires.few.1 c.stop_of.ensures.stop
     c.in-Err.ensures.given
+
+pub returns-in-Err-clause-kept : goal.returns-in-Err-clause-kept
+returns-in-Err-clause-kept g c = λ lacks. absurd (never_lacking _ c.in-Err.fault c.stop_of.result refl c.stop_of.ensures.stop lacks)
+
+pub returns-in-Err-clause-refused : goal.returns-in-Err-clause-refused
+returns-in-Err-clause-refused g c = λ counts lacks. absurd (never_lacking _ c.in-Err.fault c.stop_of.result refl c.stop_of.ensures.stop lacks)
+
+pub returns-in-Err-clause-short : goal.returns-in-Err-clause-short
+returns-in-Err-clause-short g c = λ lacks. absurd (never_lacking _ c.in-Err.fault c.stop_of.result refl c.stop_of.ensures.stop lacks)
 
 pub returns-in_default-clause-given : goal.returns-in_default-clause-given
 returns-in_default-clause-given g c =
@@ -19,16 +28,19 @@ returns-then-need-made-clause-given g c =
 
 pub returns-then-not-has_blocks-clause-given : goal.returns-then-not-has_blocks-clause-given
 returns-then-not-has_blocks-clause-given g c =
-    lacking_given _ _ c.args.reader.now.place c.next_head.new.self.place c.args.used c.args.pool.now.made c.args.front.now c.in-Ok.found c.in-Some.head
-    (omega (arith, c.blocks_of-count.ensures.blocks, c.requires.front, c.if-need-made.false, c.made.ensures.made)) c.in-Some.is c.in-Ok.ensures.given
+    lacking_given _ _ c.args.reader.now.place c.next_head.new.self.place c.args.used c.args.pool.now.made c.args.front.now c.in-Some.head
+    (head_given _ _ c.args.reader.now.place c.in-Ok.found c.in-Some.head c.in-Some.is c.in-Ok.ensures.given)
 
 pub returns-then-not-has_blocks-clause-kept : goal.returns-then-not-has_blocks-clause-kept
-returns-then-not-has_blocks-clause-kept g c =
+returns-then-not-has_blocks-clause-kept g c = λ _.
     let r = c.in-Ok.ensures in (
+      c.in-Some.head,
+      refl,
       keeps_head c.args.reader.now.place c.next_head.new.self.place c.in-Ok.found c.in-Some.head c.in-Some.is c.requires.ready r.enters r.limit r.original r.off_head r.counted,
       omega (arith, c.blocks_of-count.ensures.blocks, c.if-not-has_blocks.ensures.enough),
       omega (arith, c.blocks_of-count.ensures.blocks, c.if-need-made.false, c.made.ensures.made),
       c.has_blocks.ensures.same.1,
+      head_given _ _ c.args.reader.now.place c.in-Ok.found c.in-Some.head c.in-Some.is r.given,
     )
 
 pub finish_record-requires-clause-kept : goal.finish_record-requires-clause-kept

@@ -1,9 +1,8 @@
-use Rattle.std.proofs.Common.{◌≡◌, ◌+◌, ◌-◌, ◌^◌, ◌<◌, ◌≤◌, ◌++◌, ◌∷◌, [], List, ℕ, Ok, Err, ap, sym, subst, ◌∙◌, arith, refl, length, length-append, map, min}
+use Rattle.std.proofs.Common.{◌≡◌, ◌-◌, ◌++◌, ◌∷◌, [], List, ℕ, Ok, Err, ap, sym, subst, ◌∙◌, arith, refl, length, length-append, map}
 use Rattle.block_pool.specs.PoolState.{home}
 use Rattle.off_io.specs.Told.{Told}
 use Rattle.std.specs.List.{AllByRecursion}
-use Rattle.pcap_io.specs.declared.heads.RecHead.{RecHead}
-use Rattle.offload_model.specs.Need.{need_of, round_need}
+use Rattle.offload_model.specs.Need.{round_need}
 use Rattle.offload_model.specs.Captured.{IsCaptured}
 use Rattle.gro.specs.declared.slot.Slot.{Slot as Packet}
 use Rattle.gro.specs.Packets.{PacketsState}
@@ -12,7 +11,6 @@ use Rattle.gro.proofs.Weights.{weighed_last}
 use Rattle.records.specs.Laid.{AreRead, LaidFrom}
 use Rattle.rounds.specs.Reading.{GivesRest, NumbersOn, WaitsOver}
 use Rattle.rounds.specs.declared.round.RoundEnd.{RoundEnd}
-use Rattle.records.specs.declared.reading.Stop.{Stop}
 use Rattle.records.specs.Reading.{GivesRecord}
 use Rattle.rounds.proofs.Pausing.{halt_ended, halt_lacking, waits_over}
 use Rattle.rounds.proofs.Coming.{counts_last}
@@ -43,6 +41,7 @@ reading-init g c =
       more = omega arith;
       taken = omega (arith, c.taken.ensures.value, c.taken.type_inv);
       asked = omega arith;
+      owed = omega arith;
       least = omega arith;
       most = omega arith;
       empty = c.requires.empty;
@@ -71,45 +70,35 @@ returns-in-Err-clause-given g c =
     (round_stop_given _ _ _ old l.reader.place new l.used c.args.pool.now.made first l.packets.items c.in-Err.stop end (i.so_far.link ∙ c.requires.link) i.within i.need is i.so_far.told told))
 
 pub returns-in-Err-clause-lacking : goal.returns-in-Err-clause-lacking
-returns-in-Err-clause-lacking g c =
+returns-in-Err-clause-lacking g c = λ lacks.
     let l = c.reading in
     let i = l.invariant in
     let r = c.in-Err.ensures in
-    let none = no_front c.read_record.new.front r.front in
     let old = c.args.reader.now.place in
     let new = c.read_record.new.reader.place in
     let first = c.args.packets.now.items in
     let a = g.S.Source.left c.args.reader.now.source.now in
     let b = g.S.Source.left l.reader.source.now in
     let z = g.S.Source.left c.read_record.new.reader.source.now in
-    let bare = subst (λ (f : List ℕ). Told b z (GivesRecord l.used l.pool.made l.reader.place new f (Err c.in-Err.stop))) none r.given in
-    halt_lacking _ (WaitsOver old new a z first c.read_record.new.packets.items) c.in-Err.stop c.halt_of.result c.halt_of.ensures.halt
-    (λ head is kept. subst (λ (ps : PacketsState). WaitsOver old new a z first ps.items head) (sym r.none)
-    (waits_over a b z old l.reader.place new l.used l.pool.made first l.packets.items head i.so_far kept.0
-    (subst (λ (s : Stop). Told b z (GivesRecord l.used l.pool.made l.reader.place new [] (Err s))) is bare)))
-    r.kept
-
-pub returns-in-Err-clause-wanted : goal.returns-in-Err-clause-wanted
-returns-in-Err-clause-wanted g c =
-    let l = c.reading in
-    let r = c.in-Err.ensures in
-    halt_lacking _ (λ (head : RecHead). (home c.read_record.new.pool < need_of head.captured) × (l.used + need_of head.captured ≤ c.args.pool.now.made)) c.in-Err.stop c.halt_of.result
-    c.halt_of.ensures.halt (λ head is kept. (omega (arith, kept.1), omega (arith, kept.2, l.invariant.made))) r.kept
+    let kept = r.kept (ap Err (halt_lacking c.in-Err.stop c.halt_of.result c.halt_of.ensures.halt lacks)) in (
+      kept.0,
+      kept.1,
+      subst (λ (ps : PacketsState). WaitsOver old new a z first ps.items kept.0) (sym r.none) (waits_over a b z old l.reader.place new first l.packets.items kept.0 i.so_far kept.2 kept.6),
+      omega (arith, kept.3),
+      omega (arith, kept.4, i.made),
+    )
 
 pub returns-in-Err-clause-refused : goal.returns-in-Err-clause-refused
-returns-in-Err-clause-refused g c = λ counts.
-    let l = c.reading in
-    let r = c.in-Err.ensures in
-    let refusals = g.H.Supply.refusals in
-    halt_lacking _ (λ (head : RecHead). min (refusals c.args.more.now + 1) (2 ^ 64 - 1) ≤ refusals c.read_record.new.more) c.in-Err.stop c.halt_of.result c.halt_of.ensures.halt
-    (λ head is rose. omega (arith, rose, l.invariant.asked)) (r.refused counts)
+returns-in-Err-clause-refused g c = λ counts lacks.
+    omega (arith, c.in-Err.ensures.refused counts (ap Err (halt_lacking c.in-Err.stop c.halt_of.result c.halt_of.ensures.halt lacks)), c.reading.invariant.asked)
+
+pub returns-in-Err-clause-short : goal.returns-in-Err-clause-short
+returns-in-Err-clause-short g c = λ lacks. c.in-Err.ensures.short (ap Err (halt_lacking c.in-Err.stop c.halt_of.result c.halt_of.ensures.halt lacks))
 
 pub returns-in-Err-clause-so_far : goal.returns-in-Err-clause-so_far
-returns-in-Err-clause-so_far g c =
-    let l = c.reading in
-    let r = c.in-Err.ensures in
-    halt_lacking _ (λ (head : RecHead). c.read_record.new.pool.taken ≡ min (c.args.pool.now.taken + (l.used - c.args.used)) (2 ^ 64 - 1)) c.in-Err.stop c.halt_of.result c.halt_of.ensures.halt
-    (λ head is kept. omega (arith, kept.3, l.invariant.taken)) r.kept
+returns-in-Err-clause-so_far g c = λ lacks.
+    let kept = c.in-Err.ensures.kept (ap Err (halt_lacking c.in-Err.stop c.halt_of.result c.halt_of.ensures.halt lacks)) in
+    omega (arith, kept.5, c.reading.invariant.taken)
 
 pub returns-clause-full : goal.returns-clause-full
 returns-clause-full g c = λ is.
@@ -152,6 +141,7 @@ reading-preserved g c =
       more = omega (arith, i.more);
       taken = omega (arith, i.more, i.taken, r.taken, k);
       asked = omega (arith, i.asked, r.asked);
+      owed = omega (arith, i.owed, r.owed);
       least = omega (arith, i.least, r.least);
       most = omega (arith, i.most, r.taken, k);
       empty = r.empty;

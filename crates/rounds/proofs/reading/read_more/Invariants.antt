@@ -31,6 +31,7 @@ invariant-reading g l = record {
   more : l.initial.used ≤ l.used;
   taken : l.pool.taken ≡ min (l.initial.pool.taken + (l.used - l.initial.used)) (2 ^ 64 - 1);
   asked : g.H.Supply.refusals l.initial.more ≤ g.H.Supply.refusals l.more;
+  owed : g.H.Supply.owed l.initial.more + g.H.Supply.brought l.initial.more ≤ g.H.Supply.owed l.more + g.H.Supply.brought l.more;
   least : l.initial.pool.taken ≤ l.pool.taken;
   most : l.pool.taken + l.initial.used ≤ l.initial.pool.taken + l.used;
   empty : l.hold.items ≡ [];

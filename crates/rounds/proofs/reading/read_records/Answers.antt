@@ -1,8 +1,6 @@
 use Rattle.std.proofs.Common.{sym, subst, ap, ◌∙◌}
 use Rattle.records.specs.Laid.{LaidFrom}
-use Rattle.rounds.specs.declared.reading.Halt.{Halt}
 use Rattle.rounds.specs.declared.reading.Halt.TheVariants.{Ended}
-use Rattle.rounds.specs.Reading.{IfLacking, WaitsOver}
 use Rattle.rounds.proofs.Pausing.{waits_ends}
 use Rattle.rounds.proofs.Rounding.{whole_fills}
 use Rattle.rounds.proofs.reading.read_records.Goals as goal
@@ -20,8 +18,5 @@ returns-in-Lacking-clause-given g c =
     let r = c.read_more-blocks in
     let a = g.S.Source.left c.args.reader.now.source.now in
     let b = g.S.Source.left r.new.reader.source.now in
-    let old = c.args.reader.now.place in
-    let new = r.new.reader.place in
-    let first = c.args.packets.now.items in
-    let w = subst (λ (h : Halt). IfLacking h (WaitsOver old new a b first r.new.packets.items)) c.in-Lacking.is r.ensures.lacking in
-    waits_ends a b old new c.args.pool.now.made first r.new.packets.items c.in-Lacking.field-0 c.requires.none.0 w
+    let kept = r.ensures.lacking c.in-Lacking.is in
+    waits_ends a b c.args.reader.now.place r.new.reader.place c.args.pool.now.made c.args.packets.now.items r.new.packets.items kept.0 c.requires.none.0 kept.2

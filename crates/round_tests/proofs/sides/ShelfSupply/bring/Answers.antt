@@ -1,9 +1,13 @@
-use Rattle.std.proofs.Common.{arith}
+use Rattle.std.proofs.Common.{arith, inl, inr}
 use Rattle.pipeline.proofs.Rows.{left_weighs, refill_weighs}
 use Rattle.round_tests.proofs.sides.ShelfSupply.bring.Goals as goal
 
 pub invariant_of-self : goal.invariant_of-self
 invariant_of-self g c = record {
+  few = elim c.refill.ensures.all [
+    | inl none ↦ omega (arith, none)
+    | inr full ↦ omega (arith, full, c.args.self.now.few, c.refill.ensures.sum, c.home.ensures.within)
+  ];
   weighs = λ h.
       omega (arith, c.args.self.now.weighs h, left_weighs h c.args.self.now.pool c.refill.new.from c.args.pool.now c.refill.new.self c.refill.ensures.moved);
 }

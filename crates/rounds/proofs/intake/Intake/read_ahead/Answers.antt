@@ -1,11 +1,12 @@
 use Rattle.std.proofs.Common.{ℕ, ◌≡◌, ◌+◌, ◌∙◌, [], ap, sym, subst, arith, rules}
 use Rattle.block_pool.specs.PoolState.{home, weighed}
+use Rattle.std.proofs.lemmas.Option.{same_Some}
 use Rattle.off_io.specs.Told.{Told}
 use Rattle.gro.specs.Slots.{weighed_slots}
 use Rattle.records.specs.Laid.{LaidFrom}
 use Rattle.records.proofs.Laying.{weighed_none}
 use Rattle.rounds.specs.Ahead.{round_of, IfPaused, IfRead, ReadsAhead, Waits}
-use Rattle.rounds.specs.Reading.{GivesRest, GivesRound, IfEnded, IfLacking, WaitsOver}
+use Rattle.rounds.specs.Reading.{GivesRest, GivesRound, IfEnded, WaitsOver}
 use Rattle.rounds.specs.Weights.{weights_of}
 use Rattle.rounds.specs.declared.reading.Halt.{Halt}
 use Rattle.rounds.specs.declared.round.ReadAhead.{ReadAhead}
@@ -14,7 +15,7 @@ use Rattle.rounds.specs.declared.round.RoundRead.{RoundRead}
 use Rattle.rounds.specs.RoundsState.{IntakeState, RoundState}
 use Rattle.rounds.proofs.Pausing.{Sofar, ends_ahead, lacking_full, waits_ahead, waits_whole}
 use Rattle.rounds.proofs.Rounding.{whole_given, whole_numbered}
-use Rattle.rounds.proofs.intake.Intake.read_ahead.Goals.{in-Ended, in-Lacking}
+use Rattle.rounds.proofs.intake.Intake.read_ahead.Goals.{in-Ended, in-Lacking+in-Some}
 use Rattle.rounds.proofs.intake.Intake.read_ahead.Goals as goal
 
 pub read_more-blocks-requires-clause-laid : goal.read_more-blocks-requires-clause-laid
@@ -61,8 +62,8 @@ returns-clause-reads g c =
     let same = ap (λ (i : IntakeState). i.budget) c.self.view_is in
     let is : ReadsAhead budget old new c.match-halt.result = elim c.match-halt.branch [
       | in-Ended b ↦ subst (ReadsAhead budget old new) (sym b.result-is) (ends_ahead budget old new first r.result.1 round b.in-Ended.end b.in-Ended.is s)
-      | in-Lacking b ↦ subst (ReadsAhead budget old new) (sym b.result-is) (waits_ahead budget old new first r.result.1
-          (record { round = round; head = b.in-Lacking.head; empty = record { takes = r.result.0 } }) s)
+      | in-Lacking+in-Some b ↦ subst (ReadsAhead budget old new) (sym b.result-is) (waits_ahead budget old new first r.result.1
+          (record { round = round; head = b.in-Some.head; empty = record { takes = r.result.0 } }) s)
     ] in
     subst (λ (k : ℕ). ReadsAhead k old new c.match-halt.result) same is
 
@@ -81,10 +82,12 @@ returns-clause-waits g c =
     let same = ap (λ (i : IntakeState). i.budget) c.self.view_is in
     let is : IfPaused c.match-halt.result (Waits budget old new a z) = elim c.match-halt.branch [
       | in-Ended b ↦ subst (λ (x : ReadAhead). IfPaused x (Waits budget old new a z)) (sym b.result-is) tt
-      | in-Lacking b ↦ subst (λ (x : ReadAhead). IfPaused x (Waits budget old new a z)) (sym b.result-is)
-          (waits_whole budget old new a z first (record { round = round; head = b.in-Lacking.head; empty = record { takes = r.result.0 } }) c.requires.ready none
-          (e.fewer (λ full. lacking_full b.in-Lacking.head (sym b.in-Lacking.is ∙ full))) e.numbers
-          (subst (λ (h : Halt). IfLacking h (WaitsOver old new a z first r.new.packets.items)) b.in-Lacking.is e.lacking))
+      | in-Lacking+in-Some b ↦ subst (λ (x : ReadAhead). IfPaused x (Waits budget old new a z)) (sym b.result-is)
+          (
+          let kept = e.lacking b.in-Lacking.is in
+          waits_whole budget old new a z first (record { round = round; head = b.in-Some.head; empty = record { takes = r.result.0 } }) c.requires.ready none
+          (e.fewer (λ full. lacking_full (sym b.in-Lacking.is ∙ full))) e.numbers
+          (subst (WaitsOver old new a z first r.new.packets.items) (same_Some kept.0 b.in-Some.head (sym kept.1 ∙ b.in-Some.is)) kept.2))
     ] in
     subst (λ (k : ℕ). IfPaused c.match-halt.result (Waits k old new a z)) same is
 
@@ -103,7 +106,7 @@ returns-clause-given g c =
       | in-Ended b ↦ subst (λ (x : ReadAhead). IfRead x (λ (read : RoundRead). Told a z (GivesRound blocks old new read.round.packets read.end))) (sym b.result-is)
           (whole_given a z old new blocks first r.new.packets.items b.in-Ended.end none
           (subst (λ (h : Halt). IfEnded h (λ (end : RoundEnd). Told a z (GivesRest blocks old new first r.new.packets.items end))) b.in-Ended.is e.given))
-      | in-Lacking b ↦ subst (λ (x : ReadAhead). IfRead x (λ (read : RoundRead). Told a z (GivesRound blocks old new read.round.packets read.end))) (sym b.result-is) tt
+      | in-Lacking+in-Some b ↦ subst (λ (x : ReadAhead). IfRead x (λ (read : RoundRead). Told a z (GivesRound blocks old new read.round.packets read.end))) (sym b.result-is) tt
     ] in
     subst (λ (k : ℕ). IfRead c.match-halt.result (λ (read : RoundRead). Told a z (GivesRound k old new read.round.packets read.end))) (ap (λ (i : IntakeState). i.blocks) c.self.view_is) is
 
@@ -114,6 +117,6 @@ returns-clause-named g c = λ h.
     let bare : home c.replace-packets.result.spares ≡ 0 = search rules in
     let weighs : weights_of (round_of c.match-halt.result) h ≡ weighed_slots h r.new.packets.items + weighed h r.new.spares.blocks = elim c.match-halt.branch [
       | in-Ended b ↦ ap (λ (x : ReadAhead). weights_of (round_of x) h) b.result-is
-      | in-Lacking b ↦ ap (λ (x : ReadAhead). weights_of (round_of x) h) b.result-is
+      | in-Lacking+in-Some b ↦ ap (λ (x : ReadAhead). weights_of (round_of x) h) b.result-is
     ] in
     omega (arith, r.ensures.named h, weighs, ap (weighed_slots h) none, weighed_none h c.replace-packets.result.spares.blocks bare, ap (λ (i : IntakeState). weighed h i.stock) c.self.view_is)

@@ -6,6 +6,7 @@ use Rattle.rounds.proofs.lists.NextListsSupply.bring.Given as goal
 abbrev pub invariant-loop-self : goal.invariant-loop-self
 invariant-loop-self g l = record {
   sum : home l.pool + listed_home l.initial.self.taker.pass l.initial.self.taker.left ≡ home l.initial.pool + listed_home l.self.taker.pass l.self.taker.left;
+  rises : home l.initial.pool ≤ home l.pool;
   made : l.pool.made ≡ l.initial.pool.made;
   taken : l.pool.taken ≡ l.initial.pool.taken;
   named : (h : ℕ → ℕ) → weighed h l.pool.blocks + weights_home h l.initial.self.taker.pass l.initial.self.taker.left

@@ -14,22 +14,23 @@ use Rattle.records.specs.Reading.{record_of}
 use Rattle.rounds.specs.RoundsState.{SegmentState}
 use Rattle.rounds.specs.Segmenting.{Moves}
 use Rattle.rounds.proofs.Moving.{moved_given, need_is, next_is, not_moved_given, original_counts, takes_one, unmoved_given}
-use Rattle.rounds.proofs.Pausing.{never_kept}
 use Rattle.records.proofs.Laying.{laid_alone, weighed_none}
 use Rattle.rounds.proofs.segment.SegmentRun.next.Goals.{in-Ok-wrote, in-Err-wrote}
 use Rattle.rounds.proofs.segment.SegmentRun.next.Goals as goal
 
 pub stopped-requires : goal.stopped-requires
 stopped-requires g c = record {
-  begun = never_kept _ c.in-Err.stop (λ head kept. omega (
-    arith,
-    kept.1,
-    kept.2,
-    c.in-Err.ensures.back.0,
-    c.requires.home,
-    ap (λ (s : SegmentState). s.home) c.self.view_is,
-    ap (λ (s : SegmentState). s.blocks) c.self.view_is,
-  )) c.in-Err.ensures.kept;
+  begun = λ lacks.
+      let kept = c.in-Err.ensures.kept (ap Err lacks) in
+      omega (
+        arith,
+        kept.3,
+        kept.4,
+        c.in-Err.ensures.back.0,
+        c.requires.home,
+        ap (λ (s : SegmentState). s.home) c.self.view_is,
+        ap (λ (s : SegmentState). s.blocks) c.self.view_is,
+      );
 }
 
 pub returns-in-Err-clause-given : goal.returns-in-Err-clause-given
