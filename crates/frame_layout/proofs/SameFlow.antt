@@ -42,6 +42,24 @@ same_bytes f g at n e = λ k a b.
     subst (λ z. byte f z ≡ byte g z) back
     (sym (get_or-drop at f i 0) ∙ sym (get_or-take n (drop at f) i 0 l) ∙ ap (λ z. get_or z i 0) e ∙ get_or-take n (drop at g) i 0 l ∙ get_or-drop at g i 0)
 
+-- the same bytes from one place to another
+abbrev SameBytes : List ℕ → List ℕ → ℕ → ℕ → Type 0
+SameBytes f g from to = (k : ℕ) → from ≤ k → k < to → byte f k ≡ byte g k
+
+-- twelve bytes are the same where the first eight and the last four are
+pub twelve_same : (f g : List ℕ) (at : ℕ) (b : Bool) → at + 12 ≤ length f → at + 12 ≤ length g → SameBytes f g at (at + 8)
+    → Decides b (SameBytes f g (at + 8) (at + 8 + 4)) → Decides b (slice_range f at (at + 12) ≡ slice_range g at (at + 12))
+twelve_same f g at b hf hg s d = (
+  λ t. same_part_long f g at (at + 12 - at) (omega arith) (omega arith) (λ k l h. elim (cases_lt k (at + 8)) [
+    | inl i ↦ s k l i
+    | inr i ↦ d.0 t k i (omega arith)
+  ]),
+  λ e. d.1 (λ k l h. same_bytes f g at (at + 12 - at) e k (omega arith) (omega arith)),
+)
+
+pub eight_same : (f g : List ℕ) (at : ℕ) → slice_range f at (at + 12) ≡ slice_range g at (at + 12) → SameBytes f g at (at + 8)
+eight_same f g at e = λ k l h. same_bytes f g at (at + 12 - at) e k l (omega arith)
+
 -- ---- the bytes of a key, and where they lie
 
 abbrev ports_of : List ℕ → List ℕ

@@ -1,7 +1,8 @@
 //! Whether two frames are of one flow, told by their headers.
 
-ghost use Rattle.std.specs.Prelude.{◌≡◌, ◌≤◌, ℕ, Some, List, length, slice_range};
+ghost use Rattle.std.specs.Prelude.{◌≡◌, ◌+◌, ◌<◌, ◌≤◌, ℕ, Some, List, length, slice_range};
 ghost use Rattle.std.specs.Bool.{Decides};
+ghost use Rattle.net_bytes.specs.Bytes.{byte};
 ghost use Rattle.frame_layout.specs.Key.{key_of, IsHeadOf};
 ghost use Rattle.frame_layout.specs.Plain.{plain_key};
 ghost use Rattle.frame_layout.specs.Shape.{shape_of};
@@ -9,16 +10,36 @@ ghost use Rattle.frame_layout.specs.Shape.{shape_of};
 use crate::layout::Layout;
 use crate::queue::{key, key_behind};
 use crate::read::is_plain_there;
+use net_bytes::{be32, be64};
 
-/// Whether two frames have the same bytes from one place to another.
+/// Whether two frames have the same eight bytes at a place, compared as a number.
 #[inline(always)]
-fn is_part_same(first: &[u8], next: &[u8], from: usize, to: usize) -> bool
-    requires range { from ≤ to }
-    requires first { to ≤ length first.now }
-    requires next { to ≤ length next.now }
-    ensures same { Decides result (slice_range first.now from to ≡ slice_range next.now from to) }
+fn is_word_same(first: &[u8], next: &[u8], at: usize) -> bool
+    requires first { at + 8 ≤ length first.now }
+    requires next { at + 8 ≤ length next.now }
+    ensures same { Decides result ((k : ℕ) → at ≤ k → k < at + 8 → byte first.now k ≡ byte next.now k) }
 {
-    first[from..to] == next[from..to]
+    be64(first, at) == be64(next, at)
+}
+
+/// The same of four bytes.
+#[inline(always)]
+fn is_quad_same(first: &[u8], next: &[u8], at: usize) -> bool
+    requires first { at + 4 ≤ length first.now }
+    requires next { at + 4 ≤ length next.now }
+    ensures same { Decides result ((k : ℕ) → at ≤ k → k < at + 4 → byte first.now k ≡ byte next.now k) }
+{
+    be32(first, at) == be32(next, at)
+}
+
+/// The same of twelve bytes, as a part of either frame.
+#[inline(always)]
+fn is_part_same(first: &[u8], next: &[u8], from: usize) -> bool
+    requires first { from + 12 ≤ length first.now }
+    requires next { from + 12 ≤ length next.now }
+    ensures same { Decides result (slice_range first.now from (from + 12) ≡ slice_range next.now from (from + 12)) }
+{
+    is_word_same(first, next, from) && is_quad_same(first, next, from + 8)
 }
 
 /// Whether two frames have the same addresses and ports at the places where these lie behind Ethernet without tags,
@@ -28,7 +49,7 @@ fn is_plain_key_same(first: &[u8], next: &[u8]) -> bool
     requires next { 54 ≤ length next.now }
     ensures same { Decides result (plain_key first.now ≡ plain_key next.now) }
 {
-    is_part_same(first, next, 26, 38) && is_part_same(first, next, 0, 12)
+    is_part_same(first, next, 26) && is_part_same(first, next, 0)
 }
 
 /// Whether a frame is of the flow of another one, `next`, whose layout is known. No key is made where both are of

@@ -73,6 +73,16 @@ fn layout_hash(head: &[u8], layout: &Layout) -> u32
     if layout.is_plain() {
         return plain_hash(head);
     }
+    other_hash(head, layout)
+}
+
+/// The same of other headers, of which a key is put together. It isn't inlined, since the room for the key is set to
+/// zero where it is.
+#[inline(never)]
+fn other_hash(head: &[u8], layout: &Layout) -> u32
+    requires shape { (f : List ℕ) × (IsHeadOf head.now f × (shape_of f ≡ Some layout.now)) }
+    ensures hash { (f : List ℕ) → IsHeadOf head.now f → result ≡ hash_of (key_of f) }
+{
     let key = key_behind(head, layout);
     key_hash(&key)
 }

@@ -200,6 +200,7 @@ impl Run {
     }
 
     /// What the run comes to with one more packet.
+    #[inline(always)]
     fn progress_with(&self, first: &Slot, next: &Slot) -> Progress
         requires takes { TakesOne self.now (packet_of first.now) (packet_of next.now) }
         requires slot { IsHeld first.now }

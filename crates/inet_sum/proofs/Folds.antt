@@ -1,12 +1,16 @@
 -- Laws of the sum and its fold.
-use Rattle.std.proofs.Common.{◌≡◌, ℕ, zero, suc, ◌+◌, ◌*◌, ◌/◌, ◌%◌, ◌≤◌, Bool, true, false, List, [], ◌∷◌, ◌++◌, length, refl, sym, ap, ◌∙◌, arith}
+use Rattle.std.proofs.Common.{◌≡◌, ℕ, zero, suc, ◌+◌, ◌-◌, ◌*◌, ◌/◌, ◌%◌, ◌<◌, ◌≤◌, Bool, true, false, List, [], ◌∷◌, ◌++◌, length, refl, sym, ap, ◌∙◌, arith}
 use Rattle.std.specs.Prelude.{◌==◌}
-use Rattle.std.proofs.lemmas.Bool.{eqb-true, eqb-false}
+use Rattle.std.proofs.lemmas.Bool.{eqb-true, eqb-false, eq-eqb, ne_eqb}
 use Rattle.inet_sum.specs.Sum.{word_sum, folded, fold_of, joined_fold}
 
-folded-zero : (n : ℕ) → folded n ≡ 0 → n ≡ 0
+pub folded-zero : (n : ℕ) → folded n ≡ 0 → n ≡ 0
 folded-zero zero h = refl
 folded-zero (suc n) h = omega arith
+
+pub folded-most : (n : ℕ) → folded n ≤ 65535
+folded-most zero = omega arith
+folded-most (suc n) = omega arith
 
 folded-quotient : (n : ℕ) → (q : ℕ) × (n ≡ folded n + 65535 * q)
 folded-quotient zero = (0, omega arith)
@@ -26,6 +30,14 @@ folded-add a b =
     same_fold (folded a + folded b) (a + b) (qa.0 + qb.0) 0 (omega (arith, qa.1, qb.1))
     (λ h. omega (arith, folded-zero a (omega arith), folded-zero b (omega arith)))
     (λ h. omega (arith, qa.1, qb.1))
+
+-- a number that a fold may be is its own
+folded-small : (n : ℕ) → n < 65536 → folded n ≡ n
+folded-small zero h = refl
+folded-small (suc n) h = omega arith
+
+pub folded-behind : (a b : ℕ) → a < 65536 → folded (a + b) ≡ folded (a + folded b)
+folded-behind a b h = sym (folded-add a b) ∙ ap (λ z. folded (z + folded b)) (folded-small a h)
 
 pub folded-swap : (a b : ℕ) → folded (folded a + 256 * folded b) ≡ folded (a + 256 * b)
 folded-swap a b =
@@ -85,3 +97,39 @@ joined_is front back a b n e g l = rw (e, g, l) (joined_case front back (length 
 pub even_total : (xs ys : List ℕ) (a b : ℕ) → length xs % 2 ≡ 0 → folded a ≡ fold_of xs → folded b ≡ fold_of ys → folded (a + b) ≡ fold_of (xs ++ ys)
 even_total xs ys a b even e g =
     sym (folded-add a b) ∙ ap (λ z. folded (z + folded b)) e ∙ ap (λ z. folded (fold_of xs + z)) g ∙ sym (fold-append_even xs ys even)
+
+-- ---- sums that are right
+
+-- a number has the fold 65535 where it isn't 0 and 65535 divides it
+pub full_is : (n : ℕ) (b : Bool) → (b ≡ true → (n % 65535 ≡ 0) × (1 ≤ n)) → ((n % 65535 ≡ 0) → 1 ≤ n → b ≡ true) → b ≡ (folded n == 65535)
+full_is zero true to from = absurd (omega (arith, (to refl).1))
+full_is zero false to from = refl
+full_is (suc n) true to from = sym (eq-eqb _ _ (omega (arith, (to refl).0)))
+full_is (suc n) false to from = sym (ne_eqb _ _ (λ e. (let t : false ≡ true = from (omega (arith, e)) (omega arith) in absurd cc)))
+
+folded-least : (n : ℕ) → 1 ≤ n → 1 ≤ folded n
+folded-least zero h = absurd (omega arith)
+folded-least (suc n) h = omega arith
+
+one_test : (x y : Bool) → (x ≡ true → y ≡ true) → (y ≡ true → x ≡ true) → x ≡ y
+one_test true y to from = sym (to refl)
+one_test false true to from = from refl
+one_test false false to from = refl
+
+same_tests : (a b c d : ℕ) → (a ≡ b → c ≡ d) → (c ≡ d → a ≡ b) → (a == b) ≡ (c == d)
+same_tests a b c d to from =
+    one_test (a == b) (c == d) (λ t. eq-eqb c d (to (eqb-true a b t))) (λ t. eq-eqb a b (from (eqb-true c d t)))
+
+-- a sum other than 65535 stands in its field exactly where the words with that field have the fold 65535
+pub right_where_full : (rest field : ℕ) → field < 65535 → (folded (rest + field) == 65535) ≡ (field == 65535 - folded rest)
+right_where_full zero field small =
+    let p : (q : ℕ) × (field ≡ folded field + 65535 * q) = folded-quotient field in
+    let e : 0 + field ≡ field = omega arith in
+    ap (λ z. folded z == 65535) e ∙ same_tests (folded field) 65535 field 65535 (λ e. omega (arith, e, p.1)) (λ e. omega (arith, e))
+right_where_full (suc n) field small =
+    let q : (q : ℕ) × (suc n ≡ folded (suc n) + 65535 * q) = folded-quotient (suc n) in
+    let p : (q : ℕ) × (suc n + field ≡ folded (suc n + field) + 65535 * q) = folded-quotient (suc n + field) in
+    let least : 1 ≤ folded (suc n + field) = folded-least (suc n + field) (omega arith) in
+    same_tests (folded (suc n + field)) 65535 field (65535 - folded (suc n))
+    (λ e. omega (arith, e, q.1, p.1, folded-most (suc n), small))
+    (λ e. omega (arith, e, q.1, p.1, folded-most (suc n), folded-most (suc n + field), least))

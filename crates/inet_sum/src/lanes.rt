@@ -44,7 +44,7 @@ fn pair_at(bytes: &[u8], at: usize) -> u64x2
 
 /// A small number that has the fold of this one with the bytes of each word in the other order.
 #[inline(always)]
-fn turned(sum: u64) -> u64
+pub(crate) fn turned(sum: u64) -> u64
     ensures fold { folded result ≡ folded (256 * sum) }
     ensures small { result < 2 ^ 26 }
 {

@@ -23,17 +23,23 @@
 //!   halves apart takes a third longer, words swapped into big-endian lanes nearly twice as long, and numbers of 128
 //!   bits in the place of lanes a seventh longer, each at 1,460 bytes. The loop over lanes isn't inlined: where the
 //!   compiler knows the length it unrolls it less.
+//! - **The plain loop adds little-endian numbers of 64 bits**, each with the carry of the sum before at its low end:
+//!   two instructions for eight bytes. 65535 divides 2^64 - 1, so a carry leaves what it left, and the bytes' order is
+//!   turned once, at the end. Each is read at once (`byteorder`): put together from bytes it is taken apart again where
+//!   the same bytes are read for another reason.
+//! - **A right sum is told without its value** ([`is_full`]): the words with the sum among them have the fold 65535.
 #![tactic(auto)]
 
-ghost use Rattle.std.specs.Prelude.{◌≡◌, ℕ, ◌+◌, ◌*◌, ◌/◌, ◌%◌, ◌^◌, ◌<◌, ◌≤◌, List, [], ◌∷◌, ◌++◌, length};
-ghost use Rattle.inet_sum.specs.Words.{number_of};
+ghost use Rattle.std.specs.Prelude.{◌≡◌, ◌==◌, ℕ, ◌+◌, ◌*◌, ◌/◌, ◌%◌, ◌^◌, ◌<◌, ◌≤◌, List, [], ◌∷◌, ◌++◌, length, drop};
+ghost use Rattle.inet_sum.specs.Words.{number_of, word_of, IsAround};
 ghost use Rattle.inet_sum.specs.Sum.{word_sum, folded, fold_of as fold_of_bytes, checksum_of, not_zero as not_zero_of};
 ghost use Rattle.inet_sum.specs.Sum.{udp_checksum_of, joined_fold};
 
 mod lanes;
 pub mod partial;
 
-use lanes::{STEP, lanes_sum};
+use byteorder::{BigEndian, ByteOrder, LittleEndian};
+use lanes::{STEP, lanes_sum, turned};
 pub use partial::Partial;
 
 /// The fold of the bytes: 0 where their big-endian words add to 0, and else the number from 1 to 65535 that leaves the
@@ -56,7 +62,7 @@ pub fn unfolded(bytes: &[u8]) -> u64
     ensures small { result ≤ 2 ^ 30 * length bytes.now }
 {
     if bytes.len() < SHORT {
-        quads_sum(bytes)
+        words_sum(bytes)
     } else {
         long_sum(bytes)
     }
@@ -72,24 +78,55 @@ fn long_sum(bytes: &[u8]) -> u64
     ensures small { result ≤ 2 ^ 30 * length bytes.now }
 {
     let (front, rest) = bytes.split_at(bytes.len() / STEP * STEP);
-    lanes_sum(front) + quads_sum(rest)
+    lanes_sum(front) + words_sum(rest)
 }
 
-/// The sum of the 32-bit numbers in the bytes, and of the words of those behind them.
+/// The sum of the 64-bit numbers in the bytes, and of the words of those behind them.
 #[inline(always)]
-fn quads_sum(bytes: &[u8]) -> u64
+fn words_sum(bytes: &[u8]) -> u64
     requires few { length bytes.now < 2 ^ 32 }
     ensures fold { folded result ≡ fold_of_bytes bytes.now }
     ensures small { result ≤ 2 ^ 30 * length bytes.now }
 {
-    // A number of 32 bits leaves the same remainder by 65535 as its two halves together.
-    let quads = bytes.len() / 4;
+    let words = bytes.len() / 8;
     let mut sum: u64 = 0;
-    for i in 0..quads {
-        let at = 4 * i;
-        sum += u64::from(number([bytes[at], bytes[at + 1], bytes[at + 2], bytes[at + 3]]));
+    for i in 0..words {
+        let word = word_at(bytes, 8 * i);
+        sum = around(sum, word);
     }
-    sum + short_sum(&bytes[4 * quads..])
+    turned(sum) + rest_sum(&bytes[8 * words..])
+}
+
+/// The sum of two numbers, with the carry added at the low end: 65535 divides 2^64 - 1, so both leave the same.
+#[inline(always)]
+fn around(sum: u64, word: u64) -> u64
+    ensures kept { IsAround sum word result }
+{
+    let (low, is_carried) = sum.overflowing_add(word);
+    if is_carried { low + 1 } else { low }
+}
+
+/// The little-endian number in eight bytes, read at once.
+#[inline(always)]
+fn word_at(bytes: &[u8], at: usize) -> u64
+    requires inside { at + 8 ≤ length bytes.now }
+    ensures value { result ≡ word_of (drop at bytes.now) }
+{
+    LittleEndian::read_u64(&bytes[at..])
+}
+
+/// A number with the fold of at most seven bytes.
+#[inline(always)]
+fn rest_sum(bytes: &[u8]) -> u64
+    requires short { length bytes.now ≤ 7 }
+    ensures fold { folded result ≡ fold_of_bytes bytes.now }
+    ensures small { result ≤ 2 ^ 30 * length bytes.now }
+{
+    if bytes.len() < 4 {
+        return short_sum(bytes);
+    }
+    // A number of 32 bits leaves the same remainder by 65535 as its two halves together.
+    u64::from(quad(bytes)) + short_sum(&bytes[4..])
 }
 
 /// The fold of a number: 0 of 0, and else the number from 1 to 65535 that leaves the same remainder by 65535.
@@ -103,14 +140,26 @@ pub fn fold_number(number: u64) -> u16
     }
 }
 
-/// The big-endian number in four bytes.
-fn number(quad: [u8; 4]) -> u32
-    ensures value { result ≡ number_of quad }
+/// Whether a number has the fold 65535, as all words together have of which one is their right sum: one division, and
+/// none where it isn't a multiple.
+#[inline(always)]
+pub fn is_full(number: u64) -> bool
+    ensures full { result ≡ (folded number == 65535) }
 {
-    u32::from_be_bytes(quad)
+    number != 0 && number % 65535 == 0
+}
+
+/// The big-endian number in the first four bytes, read at once.
+#[inline(always)]
+fn quad(bytes: &[u8]) -> u32
+    requires there { 4 ≤ length bytes.now }
+    ensures value { result ≡ number_of bytes.now }
+{
+    BigEndian::read_u32(bytes)
 }
 
 /// What the words of at most three bytes add to.
+#[inline(always)]
 fn short_sum(bytes: &[u8]) -> u64
     requires short { length bytes.now ≤ 3 }
     ensures sum { result ≡ word_sum bytes.now }

@@ -5,7 +5,7 @@ ghost use Rattle.inet_sum.specs.Stands.{FoldAndLength, StandsFor};
 ghost use Rattle.inet_sum.specs.Sum.{folded, fold_of as fold_of_bytes, checksum_of, udp_checksum_of};
 ghost use Rattle.inet_sum.specs.Sum.{joined_fold as joined_fold_of};
 
-use crate::{fold_number, fold_of};
+use crate::{fold_number, unfolded};
 use std::marker::Model;
 
 /// The sum of some bytes: their fold, and how many they are. It stands for every list of bytes that has both.
@@ -33,16 +33,26 @@ impl Partial {
     }
 
     /// Adds these bytes behind the others.
+    #[inline(always)]
     pub fn add(&mut self, bytes: &[u8])
         requires few { self.old.len + length bytes.now < 2 ^ 32 }
         ensures sum { (front : List ℕ) → StandsFor self.old front → StandsFor self.new (front ++ bytes.now) }
         ensures len { self.new.len ≡ self.old.len + length bytes.now }
     {
-        let other = Partial {
-            fold: fold_of(bytes),
-            len: bytes.len() as u32,
-        };
-        *self = self.joined(other);
+        *self = self.with(bytes);
+    }
+
+    /// The sum of these bytes behind the others. An even number of others costs one fold alone.
+    #[inline(always)]
+    fn with(self, bytes: &[u8]) -> Partial
+        requires few { self.len + length bytes.now < 2 ^ 32 }
+        ensures sum { (front : List ℕ) → StandsFor self front → StandsFor result (front ++ bytes.now) }
+        ensures len { result.len ≡ self.len + length bytes.now }
+    {
+        Partial {
+            fold: joined_number(self.fold, self.len % 2 == 1, unfolded(bytes)),
+            len: self.len + bytes.len() as u32,
+        }
     }
 
     /// Adds the two bytes of a number, high byte first; the first of them may be above 255.
@@ -101,4 +111,16 @@ fn joined_fold(first: u16, is_odd: bool, second: u16) -> u16
 {
     let weight = if is_odd { 256 } else { 1 };
     fold_number(u64::from(first) + weight * u64::from(second))
+}
+
+/// The same where the second piece's fold isn't taken yet: of an even first piece one fold is enough.
+#[inline(always)]
+fn joined_number(first: u16, is_odd: bool, second: u64) -> u16
+    requires small { second < 2 ^ 63 }
+    ensures fold { result ≡ joined_fold_of is_odd first (folded second) }
+{
+    if is_odd {
+        return joined_fold(first, true, fold_number(second));
+    }
+    fold_number(u64::from(first) + second)
 }

@@ -5,10 +5,97 @@ ghost use Rattle.frame_layout.specs.Headers.{AreLaid, varying as varying_of};
 ghost use Rattle.merge_rule.specs.Next.{AreSame, fields_at, varying_in, AreAlikeFrom, AreApart, AlikeTo};
 
 use frame_layout::{Header, Layer};
+use net_bytes::{be16, be32, be64};
 
-/// Whether two frames have the same bytes from one place to another.
+/// Whether two frames have the same two bytes at a place, compared as a number.
+#[inline(always)]
+pub(crate) fn is_pair_same(first: &[u8], next: &[u8], at: usize) -> bool
+    requires first { at + 2 ≤ length first.now }
+    requires next { at + 2 ≤ length next.now }
+    ensures same { Decides result (AreSame first.now next.now at (at + 2)) }
+{
+    be16(first, at) == be16(next, at)
+}
+
+/// The same of four bytes, as one number.
+#[inline(always)]
+pub(crate) fn is_quad_same(first: &[u8], next: &[u8], at: usize) -> bool
+    requires first { at + 4 ≤ length first.now }
+    requires next { at + 4 ≤ length next.now }
+    ensures same { Decides result (AreSame first.now next.now at (at + 4)) }
+{
+    be32(first, at) == be32(next, at)
+}
+
+/// The same of eight bytes, as one number.
+#[inline(always)]
+fn is_word_same(first: &[u8], next: &[u8], at: usize) -> bool
+    requires first { at + 8 ≤ length first.now }
+    requires next { at + 8 ≤ length next.now }
+    ensures same { Decides result (AreSame first.now next.now at (at + 8)) }
+{
+    be64(first, at) == be64(next, at)
+}
+
+/// The same of eight to sixteen bytes, as the numbers at both ends, which may have bytes in common.
+#[inline(always)]
+pub(crate) fn are_ends_same(first: &[u8], next: &[u8], from: usize, to: usize) -> bool
+    requires least { from + 8 ≤ to }
+    requires most { to ≤ from + 16 }
+    requires first { to ≤ length first.now }
+    requires next { to ≤ length next.now }
+    ensures same { Decides result (AreSame first.now next.now from to) }
+{
+    is_word_same(first, next, from) && is_word_same(first, next, to - 8)
+}
+
+/// The same of fewer than eight bytes.
+#[inline(always)]
+fn are_few_same(first: &[u8], next: &[u8], from: usize, to: usize) -> bool
+    requires range { from ≤ to }
+    requires few { to < from + 8 }
+    requires first { to ≤ length first.now }
+    requires next { to ≤ length next.now }
+    ensures same { Decides result (AreSame first.now next.now from to) }
+{
+    let len = to - from;
+    if len == 0 {
+        return true;
+    }
+    if len >= 4 {
+        return is_quad_same(first, next, from) && is_quad_same(first, next, to - 4);
+    }
+    if len >= 2 {
+        return is_pair_same(first, next, from) && is_pair_same(first, next, to - 2);
+    }
+    first[from] == next[from]
+}
+
+/// Whether two frames have the same bytes from one place to another. Mostly these are few, and no call is worth its
+/// while.
 #[inline(always)]
 pub(crate) fn is_same(first: &[u8], next: &[u8], from: usize, to: usize) -> bool
+    requires range { from ≤ to }
+    requires first { to ≤ length first.now }
+    requires next { to ≤ length next.now }
+    ensures same { Decides result (AreSame first.now next.now from to) }
+{
+    let len = to - from;
+    if len < 8 {
+        return are_few_same(first, next, from, to);
+    }
+    if len <= 16 {
+        return are_ends_same(first, next, from, to);
+    }
+    if len <= 32 {
+        return are_ends_same(first, next, from, from + 16)
+            && are_ends_same(first, next, to - 16, to);
+    }
+    are_many_same(first, next, from, to)
+}
+
+/// The same of any number of bytes.
+fn are_many_same(first: &[u8], next: &[u8], from: usize, to: usize) -> bool
     requires range { from ≤ to }
     requires first { to ≤ length first.now }
     requires next { to ≤ length next.now }

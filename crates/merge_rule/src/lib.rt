@@ -24,10 +24,13 @@
 //!   frame that has these. So frames in one slice and in buffers stand on one rule, and the definition stays one of
 //!   whole frames: `IsNext` is `IsNextBy` at the frames' own lengths, and one lemma, `next_by_head`, carries what was
 //!   judged of heads to all frames.
-//! - **Ethernet, IPv4 or IPv6, and TCP are compared at fixed places** (`plain`), as most packets have these alone:
-//!   slices whose lengths the compiler knows, with no loop, where the walk over a list of headers takes three.
-//!   Addresses and ports come first, so that another flow's packet is refused by one comparison. The clause is that of
-//!   the walk over that list (`AreHeadersNext`), and what is to lie between the fields is computed from their table.
+//! - **Ethernet, IPv4 or IPv6, and TCP are compared at fixed places** (`plain`), as most packets have these alone, with
+//!   no loop, where the walk over a list of headers takes three. Addresses and ports come first, so that another flow's
+//!   packet is refused by one comparison. The clause is that of the walk over that list (`AreHeadersNext`), and what is
+//!   to lie between the fields is computed from their table.
+//! - **Bytes are compared as numbers of two, four and eight** (`alike`), read where they lie, of which two may have
+//!   bytes in common: three instructions for eight bytes, where a comparison of slices is a call of some forty. Up to
+//!   32 bytes are compared so in the walk too; options are mostly twelve.
 #![tactic(auto)]
 
 mod alike;

@@ -1,11 +1,11 @@
 //! The rule where the headers are Ethernet without tags, IPv4 or IPv6, and TCP: these lie at fixed places.
-ghost use Rattle.std.specs.Prelude.{◌≤◌, length};
+ghost use Rattle.std.specs.Prelude.{◌≤◌, ◌+◌, length};
 ghost use Rattle.std.specs.Bool.{Decides};
 ghost use Rattle.frame_layout.specs.Plain.{plain_headers, plain6_headers};
-ghost use Rattle.merge_rule.specs.Next.{AreAlikeFrom, varying_in};
+ghost use Rattle.merge_rule.specs.Next.{AreAlikeFrom, AreSame, varying_in};
 ghost use Rattle.merge_rule.specs.Plain.{AreHeadersNext};
 
-use crate::alike::is_same;
+use crate::alike::{are_ends_same, is_pair_same, is_quad_same, is_same};
 use crate::next::{is_next_header, is_next_id};
 use frame_layout::{IP, IP6, TCP, TCP6};
 
@@ -22,11 +22,12 @@ fn are_same(first: &[u8], next: &[u8], end: usize) -> bool
     if first.len() < 54 || next.len() < 54 {
         return false;
     }
-    is_same(first, next, 26, 38)
-        && is_same(first, next, 0, 16)
-        && is_same(first, next, 20, 24)
-        && is_same(first, next, 42, 47)
-        && is_same(first, next, 48, 50)
+    are_ends_same(first, next, 26, 38)
+        && are_ends_same(first, next, 0, 16)
+        && is_quad_same(first, next, 20)
+        && is_quad_same(first, next, 42)
+        && first[46] == next[46]
+        && is_pair_same(first, next, 48)
         && is_same(first, next, 52, end)
 }
 
@@ -51,6 +52,29 @@ pub(crate) fn are_plain_next(
         && is_next_id(first, next, count, modes, IP)
 }
 
+/// Whether two frames with IPv6 have the same bytes from its next header on: addresses and ports.
+#[inline(always)]
+fn are_hosts_same6(first: &[u8], next: &[u8]) -> bool
+    requires first { 58 ≤ length first.now }
+    requires next { 58 ≤ length next.now }
+    ensures same { Decides result (AreSame first.now next.now 20 58) }
+{
+    are_ends_same(first, next, 42, 58)
+        && are_ends_same(first, next, 26, 42)
+        && is_quad_same(first, next, 20)
+        && is_quad_same(first, next, 22)
+}
+
+/// Whether they have the same bytes before IPv6's payload length.
+#[inline(always)]
+fn is_link_same6(first: &[u8], next: &[u8]) -> bool
+    requires first { 58 ≤ length first.now }
+    requires next { 58 ≤ length next.now }
+    ensures same { Decides result (AreSame first.now next.now 0 18) }
+{
+    are_ends_same(first, next, 0, 16) && is_pair_same(first, next, 16)
+}
+
 /// The same bytes with IPv6.
 #[inline(always)]
 fn are_same6(first: &[u8], next: &[u8], end: usize) -> bool
@@ -62,10 +86,11 @@ fn are_same6(first: &[u8], next: &[u8], end: usize) -> bool
     if first.len() < 74 || next.len() < 74 {
         return false;
     }
-    is_same(first, next, 20, 58)
-        && is_same(first, next, 0, 18)
-        && is_same(first, next, 62, 67)
-        && is_same(first, next, 68, 70)
+    are_hosts_same6(first, next)
+        && is_link_same6(first, next)
+        && is_quad_same(first, next, 62)
+        && first[66] == next[66]
+        && is_pair_same(first, next, 68)
         && is_same(first, next, 72, end)
 }
 

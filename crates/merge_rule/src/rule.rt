@@ -17,8 +17,8 @@ use pcap_io::FRAME_LIMIT;
 /// header whose identification stays, the lowest for the first.
 #[derive(Clone, Copy)]
 pub struct Progress {
-    pub is_open: bool,
     pub total: usize,
+    pub is_open: bool,
     pub modes: u8,
 }
 
@@ -105,6 +105,7 @@ pub fn is_next(
 
 /// Whether there may be a packet behind a frame that begins with `next`, in a run whose first packet has `first_len`
 /// bytes.
+#[inline(always)]
 fn stays_open(first_len: usize, next: &[u8], next_len: usize, layout: &Layout) -> bool
     requires there { AreInside (length next.now) layout.now.headers }
     ensures open { result
@@ -114,6 +115,7 @@ fn stays_open(first_len: usize, next: &[u8], next_len: usize, layout: &Layout) -
 }
 
 /// A bit for each IP header whose identification stays. The second packet settles them.
+#[inline(always)]
 fn next_modes(first: &[u8], next: &[u8], headers: &[Header], more: usize, modes: u8) -> u8
     requires first { AreInside (length first.now) headers.now }
     requires next { AreInside (length next.now) headers.now }
@@ -140,6 +142,7 @@ pub fn first_progress(layout: &Layout, first: &[u8], first_len: usize) -> Progre
 }
 
 /// What a run comes to with one more packet, which it takes. `more` packets follow its first so far.
+#[inline(always)]
 pub fn next_progress(
     layout: &Layout,
     first: &[u8],

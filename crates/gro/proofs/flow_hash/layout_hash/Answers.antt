@@ -14,6 +14,3 @@ returns-then-is_plain c = record {
   hash = λ f o s. c.plain_hash.ensures.hash
       ∙ ap hash_of (its_key c.args.head.now f (λ k. omega (arith, c.type_inv.head k)) o c.args.layout.now s (c.is_plain.ensures.plain c.if-is_plain.true));
 }
-
-pub returns : goal.returns
-returns c = record { hash = λ f o s. c.key_hash.ensures.hash ∙ ap hash_of (c.key_behind-key.ensures.key f o) }

@@ -2,7 +2,7 @@ use Rattle.std.proofs.Common.{◌-◌, arith}
 use Rattle.std.proofs.lemmas.Bool.Decides.{Decides-eqb}
 use Rattle.std.proofs.lemmas.Slice.Eq.{slice_eq-Decides}
 use Rattle.merge_rule.proofs.Headers.{same_parts, parts_same}
-use Rattle.merge_rule.proofs.alike.is_same.Goals as goal
+use Rattle.merge_rule.proofs.alike.are_many_same.Goals as goal
 
 pub returns : goal.returns
 returns c =

@@ -1,9 +1,0 @@
-use Rattle.std.proofs.Common.{◌≡◌, ◌+◌, ◌*◌, ◌≤◌, drop}
-use Rattle.inet_sum.specs.Sum.{word_sum, folded, fold_of as fold_of_bytes}
-use Rattle.inet_sum.proofs.quads_sum.Given as goal
-
-abbrev pub invariant-loop-i : goal.invariant-loop-i
-invariant-loop-i l = record {
-  fold : folded (l.sum + word_sum (drop (4 * l.i) l.bytes)) ≡ fold_of_bytes l.bytes;
-  small : l.sum ≤ 4294967295 * l.i;
-}
