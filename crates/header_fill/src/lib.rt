@@ -23,6 +23,8 @@
 //!
 //! - **The merged frame's length isn't an argument** of the call that writes its headers: a partial sum says how many
 //!   bytes it stands for, and the headers end where the payload begins.
+//! - **Ethernet, IPv4 and TCP alone have a way of their own**, at fixed places: the functions for any header, called
+//!   with constants.
 #![tactic(auto)]
 
 ghost use Rattle.std.specs.Prelude.{◌≡◌, ℕ, ◌+◌, ◌<◌, ◌≤◌, ◌^◌, ◌++◌, List, length, take};
@@ -30,6 +32,8 @@ ghost use Rattle.net_bytes.specs.Bytes.{byte};
 ghost use Rattle.inet_sum.specs.Stands.{StandsFor};
 ghost use Rattle.frame_layout.specs.Shape.{Layout};
 ghost use Rattle.frame_layout.specs.Headers.{AtHeaders, AreLaid};
+ghost use Rattle.frame_layout.specs.Plain.{plain_headers};
+ghost use Rattle.frame_layout.specs.declared.layout.Layer.TheVariants.{Ip4};
 ghost use Rattle.frame_layout.specs.Segment.{HasFlags};
 ghost use Rattle.offload_model.specs.Mergeable.{IsLengthInRange};
 ghost use Rattle.offload_model.specs.Edits.{with_lengths_and_sums};
@@ -40,10 +44,10 @@ mod fields;
 mod place;
 mod sums;
 
-use crate::fields::put_lengths;
-use crate::sums::put_sums;
+use crate::fields::{put_lengths, put_plain_lengths};
+use crate::sums::{put_plain_sums, put_sums};
 pub use fields::put_flags;
-use frame_layout::Header;
+use frame_layout::{Header, are_plain};
 use inet_sum::Partial;
 pub use place::put_places;
 
@@ -79,6 +83,42 @@ pub fn merge_headers(head: &mut [u8], headers: &[Header], flags: u8, payload: Pa
 ///
 /// `payload` is the payload's sum, and says how long it is.
 pub fn fill(head: &mut [u8], headers: &[Header], payload: Partial)
+    requires laid { AreLaid 0 headers.now (length head.old) }
+    requires ranges { AtHeaders (IsLengthInRange (length head.old + payload.len)) headers.now }
+    requires few { length head.old + payload.len < 2 ^ 31 }
+    ensures filled { (bytes : List ℕ)
+        → StandsFor payload bytes
+        → head.new ++ bytes ≡ with_lengths_and_sums headers.now (head.old ++ bytes) }
+    ensures right { (bytes : List ℕ)
+        → StandsFor payload bytes
+        → IsFilled headers.now (head.old ++ bytes) (head.new ++ bytes) }
+{
+    if are_plain(headers) {
+        fill_plain(head, payload)
+    } else {
+        fill_all(head, headers, payload)
+    }
+}
+
+/// The same of Ethernet, IPv4 and TCP alone, at fixed places.
+fn fill_plain(head: &mut [u8], payload: Partial)
+    requires laid { AreLaid 0 plain_headers (length head.old) }
+    requires range { IsLengthInRange (length head.old + payload.len) Ip4 14 }
+    requires few { length head.old + payload.len < 2 ^ 31 }
+    ensures filled { (bytes : List ℕ)
+        → StandsFor payload bytes
+        → head.new ++ bytes ≡ with_lengths_and_sums plain_headers (head.old ++ bytes) }
+    ensures right { (bytes : List ℕ)
+        → StandsFor payload bytes
+        → IsFilled plain_headers (head.old ++ bytes) (head.new ++ bytes) }
+{
+    let total = head.len() + payload.len() as usize;
+    put_plain_lengths(head, total);
+    put_plain_sums(head, payload);
+}
+
+/// The same of any headers.
+fn fill_all(head: &mut [u8], headers: &[Header], payload: Partial)
     requires laid { AreLaid 0 headers.now (length head.old) }
     requires ranges { AtHeaders (IsLengthInRange (length head.old + payload.len)) headers.now }
     requires few { length head.old + payload.len < 2 ^ 31 }

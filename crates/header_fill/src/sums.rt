@@ -6,12 +6,13 @@ ghost use Rattle.net_bytes.specs.Bytes.{put16};
 ghost use Rattle.inet_sum.specs.Sum.{checksum_of};
 ghost use Rattle.inet_sum.specs.Stands.{StandsFor};
 ghost use Rattle.frame_layout.specs.Headers.{AreLaid};
+ghost use Rattle.frame_layout.specs.Plain.{plain_headers};
 ghost use Rattle.frame_layout.specs.Candidate.{pseudo_header};
 ghost use Rattle.offload_model.specs.Edits.{put_sum as with_sum, with_sums};
 ghost use Rattle.frame_layout.specs.Front.{AreAddressesWithin};
 ghost use Rattle.header_fill.specs.Filled.{IsInside, header_before};
 
-use frame_layout::{Front, Header, Layer, carried_sum, ip4_sum};
+use frame_layout::{ETHERNET, Front, Header, IP, Layer, TCP as TCP_HEADER, carried_sum, ip4_sum};
 use inet_sum::{Partial, not_zero};
 use ip_headers::set_header_sum;
 use tcp_headers::{set_tcp_sum, set_udp_sum, udp};
@@ -37,6 +38,19 @@ pub fn put_sums(head: &mut [u8], headers: &[Header], payload: Partial)
     }
 }
 
+/// The same of Ethernet, IPv4 and TCP alone, at fixed places.
+#[inline(always)]
+pub(crate) fn put_plain_sums(head: &mut [u8], payload: Partial)
+    requires inside { 54 ≤ length head.old }
+    requires few { length head.old + payload.len < 2 ^ 31 }
+    ensures summed { (bytes : List ℕ)
+        → StandsFor payload bytes
+        → head.new ++ bytes ≡ with_sums (header_before plain_headers 0) plain_headers (head.old ++ bytes) }
+{
+    put_sum(head, IP, TCP_HEADER, payload);
+    put_sum(head, ETHERNET, IP, payload);
+}
+
 /// The header before the one at a place; before the first, an Ethernet header.
 fn before(headers: &[Header], i: usize) -> Header
     requires inside { i ≤ length headers.now }
@@ -53,6 +67,7 @@ fn before(headers: &[Header], i: usize) -> Header
 }
 
 /// One header's sum, where it has one; `ip` is the header before it.
+#[inline(always)]
 fn put_sum(head: &mut [u8], ip: Header, header: Header, payload: Partial)
     requires inside { IsInside (length head.old) header.layer header.at }
     requires addresses { AreAddressesWithin (length head.old) ip.layer ip.at }

@@ -5,7 +5,7 @@ use Rattle.offload_model.specs.Edits.{with_sums, with_lengths_and_sums}
 use Rattle.header_fill.specs.Filled.{header_before, IsFilled}
 use Rattle.frame_layout.proofs.Lemmas.{inside_all}
 use Rattle.header_fill.proofs.Right.{is_filled}
-use Rattle.header_fill.proofs.fill.Goals as goal
+use Rattle.header_fill.proofs.fill_all.Goals as goal
 
 pub put_lengths-requires-clause-inside : goal.put_lengths-requires-clause-inside
 put_lengths-requires-clause-inside c = inside_all 0 (length c.args.head.now) c.args.headers.now c.requires.laid
