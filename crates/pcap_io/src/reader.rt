@@ -163,6 +163,7 @@ impl<'s, S: Source> CaptureReader<'s, S> {
     /// Refused as `Cap` exactly where the next bytes are no lawful record header; the bytes that were there, at most
     /// 16, are then gone from the source. `ReadFault` only where the source's count of faults rose; fewer than 16 bytes
     /// are then gone. After the end or a refusal the reader isn't ready.
+    #[inline(always)]
     pub fn next_head(&mut self) -> Result<Option<RecHead>, InFault>
         requires ready { IsReady (place_of self.old) }
         ensures same_source { SameLoan self.old self.new }

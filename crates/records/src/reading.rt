@@ -288,6 +288,7 @@ pub fn finish_record<S: Source>(
 /// them its blocks are home, or are brought. Where they don't come its body isn't read, which is `Lacking`: its header
 /// is written to `kept`, which no other answer touches, and [`finish_record`] goes on behind it. A record that isn't
 /// given leaves all blocks home that were or that came, and the packets as they were.
+#[inline(always)]
 pub fn read_record<S: Source, H: Supply>(
     alloc: Global,
     pool: &mut Pool,

@@ -2,7 +2,7 @@ use Rattle.std.proofs.Common.{◌≡◌, ◌+◌, ◌≤◌, ℕ, length}
 use Rattle.std.specs.List.{sum_by}
 use Rattle.raw_block.specs.Views.{SoleState}
 use Rattle.block_pool.specs.PoolState.{MovesLast}
-use Rattle.block_pool.proofs.pool.Pool.take_to.Given as goal
+use Rattle.block_pool.proofs.pool.Pool.move_some.Given as goal
 
 abbrev pub invariant-loop : goal.invariant-loop
 invariant-loop l =
