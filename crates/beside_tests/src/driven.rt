@@ -218,6 +218,22 @@ fn ten_thousand_rounds_over_the_fewest_blocks(rt: HostRuntime) -> Result<(), Fai
     Ok(())
 }
 
+// The same in rounds of two records, whose lanes give lists while the next round is read into them.
+#[test]
+fn ten_thousand_rounds_of_two_over_six_blocks(rt: HostRuntime) -> Result<(), Fail> {
+    let alloc = rt.alloc();
+    let input = capture(alloc, 5000)?;
+    let how = How {
+        blocks: 6,
+        budget: 2,
+        queues: 1,
+        taps: 0,
+    };
+    let end = halting_ends_as(&rt, alloc, how, &input, &[], &[], 21)?;
+    assert_eq!(rt; end, MergeEnd::Done);
+    Ok(())
+}
+
 // Rounds of one record, which have one task of a queue and one of each tap, and of more.
 #[test]
 fn thousands_of_rounds_by_lanes(rt: HostRuntime) -> Result<(), Fail> {

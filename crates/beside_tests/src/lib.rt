@@ -16,6 +16,8 @@ mod examples;
 #[cfg(test)]
 mod halting;
 #[cfg(test)]
+mod pausing;
+#[cfg(test)]
 mod plans;
 #[cfg(test)]
 mod refused;

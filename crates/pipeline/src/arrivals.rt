@@ -15,13 +15,15 @@ use records::Supply;
 /// token.
 const LOOKS: u32 = 16;
 
+/// So many lists come in before a round is read, at most; others wait for the next one.
+const MOST_LISTS: u32 = 192;
+
 impl<W: Post + Drop> Desk<W> {
     // The next token: if it comes within so many tries, or, where it is waited for, whenever it comes.
     fn next_token(&mut self, tries: u32, waits: bool) -> Option<Token>
         ensures token { MatchOption result (received self.new.tokens ≡ received self.old.tokens)
             (λ t. received self.new.tokens ≡ received self.old.tokens ++ t ∷ []) }
-        ensures same { (self.new.shelves ≡ self.old.shelves) × (self.new.taker ≡ self.old.taker)
-            × (self.new.owed ≡ self.old.owed) }
+        ensures same { (self.new.shelves ≡ self.old.shelves) × (self.new.taker ≡ self.old.taker) }
     {
         if waits {
             Some(self.post.next(&mut self.tokens))
@@ -36,7 +38,7 @@ impl<W: Post + Drop> Desk<W> {
         ensures named { (h : ℕ → ℕ) → weighed h pool.new.blocks + weights_to self.old h
             ≡ weighed h pool.old.blocks + weights_to self.new h }
         ensures same { (pool.new.made ≡ pool.old.made) × (pool.new.taken ≡ pool.old.taken) }
-        ensures owed { self.old.owed + brought_to self.old ≤ self.new.owed + brought_to self.new }
+        ensures rises { home pool.old ≤ home pool.new }
     {
         if self.shelves.len() == self.shelves.capacity() {
             return false;
@@ -45,11 +47,10 @@ impl<W: Post + Drop> Desk<W> {
             return false;
         };
         let Token { mut shelf, goes } = token;
-        let before = pool.home();
+        let _ = pool.home();
         pool.refill(&mut shelf);
-        self.owed = self.owed.saturating_sub(pool.home() - before);
         self.shelves.push_front_reserved(shelf);
-        self.out = self.out.saturating_sub(1);
+        self.away.meet_round();
         if !goes {
             self.stopped = true;
         }
@@ -62,17 +63,17 @@ impl<W: Post + Drop> Desk<W> {
         ensures named { (h : ℕ → ℕ) → weighed h pool.new.blocks + weights_to self.old h
             ≡ weighed h pool.old.blocks + weights_to self.new h }
         ensures same { (pool.new.made ≡ pool.old.made) × (pool.new.taken ≡ pool.old.taken) }
-        ensures owed { self.old.owed + brought_to self.old ≤ self.new.owed + brought_to self.new }
+        ensures rises { home pool.old ≤ home pool.new }
     {
         let before = pool.home();
         let came = self.post.bring_list(&mut self.taker, pool);
-        self.owed = self.owed.saturating_sub(pool.home() - before);
+        self.away.meet_list(pool.home() - before);
         came
     }
 
     // Whether a token will come.
     fn awaits(&self) -> bool {
-        self.out > 0 && !self.stopped
+        self.away.rounds() > 0 && !self.stopped
     }
 
     // A list or a token, whichever comes first, however long that takes. The side that reads looks for both for a
@@ -82,7 +83,7 @@ impl<W: Post + Drop> Desk<W> {
         ensures named { (h : ℕ → ℕ) → weighed h pool.new.blocks + weights_to self.old h
             ≡ weighed h pool.old.blocks + weights_to self.new h }
         ensures same { (pool.new.made ≡ pool.old.made) × (pool.new.taken ≡ pool.old.taken) }
-        ensures owed { self.old.owed + brought_to self.old ≤ self.new.owed + brought_to self.new }
+        ensures rises { home pool.old ≤ home pool.new }
     {
         for turn in 0..u64::MAX {
             if self.meet_list(pool) || self.meet(pool, LOOKS, false) {
@@ -100,32 +101,53 @@ impl<W: Post + Drop> Desk<W> {
         unreachable!()
     }
 
-    // As many blocks as are needed, or all that are owed, however long that takes, unless the other side has stopped.
+    // As many blocks as are needed, however long that takes, unless the other side has stopped. Where one round is out
+    // alone, no list of it is due, and none is found, they are the rest of that round's: then the round that is read is
+    // paused, if it isn't yet.
     fn meet_needed(&mut self, pool: &mut Pool, need: u32)
         ensures sum { home pool.new + brought_to self.old ≡ home pool.old + brought_to self.new }
         ensures named { (h : ℕ → ℕ) → weighed h pool.new.blocks + weights_to self.old h
             ≡ weighed h pool.old.blocks + weights_to self.new h }
         ensures same { (pool.new.made ≡ pool.old.made) × (pool.new.taken ≡ pool.old.taken) }
-        ensures owed { self.old.owed + brought_to self.old ≤ self.new.owed + brought_to self.new }
-        ensures short { home pool.new < need → self.new.stopped ≡ false → self.new.owed ≡ 0 }
+        ensures rises { home pool.old ≤ home pool.new }
     {
         for _ in 0..u64::MAX {
-            if pool.home() >= need || self.owed == 0 || self.stopped {
+            if pool.home() >= need || self.stopped {
                 return;
             }
-            self.meet_any(pool);
+            if self.paused || self.away.may_bring() {
+                self.meet_any(pool);
+            } else if !self.meet_list(pool) {
+                self.paused = true;
+                return;
+            }
         }
         self.post.stall();
         unreachable!()
     }
 
-    // All tokens that have come, and one at least where no shelf is here and one will come.
-    fn meet_all(&mut self, pool: &mut Pool)
+    // All lists that have come: their blocks, which somebody just had, are taken next.
+    fn meet_lists(&mut self, pool: &mut Pool)
         ensures sum { home pool.new + brought_to self.old ≡ home pool.old + brought_to self.new }
         ensures named { (h : ℕ → ℕ) → weighed h pool.new.blocks + weights_to self.old h
             ≡ weighed h pool.old.blocks + weights_to self.new h }
         ensures same { (pool.new.made ≡ pool.old.made) × (pool.new.taken ≡ pool.old.taken) }
-        ensures owed { self.old.owed + brought_to self.old ≤ self.new.owed + brought_to self.new }
+        ensures rises { home pool.old ≤ home pool.new }
+    {
+        for _ in 0..MOST_LISTS {
+            if !self.meet_list(pool) {
+                return;
+            }
+        }
+    }
+
+    // All tokens that have come, and one at least where no shelf is here and one will come.
+    fn meet_tokens(&mut self, pool: &mut Pool)
+        ensures sum { home pool.new + brought_to self.old ≡ home pool.old + brought_to self.new }
+        ensures named { (h : ℕ → ℕ) → weighed h pool.new.blocks + weights_to self.old h
+            ≡ weighed h pool.old.blocks + weights_to self.new h }
+        ensures same { (pool.new.made ≡ pool.old.made) × (pool.new.taken ≡ pool.old.taken) }
+        ensures rises { home pool.old ≤ home pool.new }
     {
         for _ in 0..=SHELVES {
             let waits = self.shelves.is_empty() && self.awaits();
@@ -133,6 +155,18 @@ impl<W: Post + Drop> Desk<W> {
                 return;
             }
         }
+    }
+
+    // What has come before a round is read: lists, and tokens with their shelves.
+    fn meet_all(&mut self, pool: &mut Pool)
+        ensures sum { home pool.new + brought_to self.old ≡ home pool.old + brought_to self.new }
+        ensures named { (h : ℕ → ℕ) → weighed h pool.new.blocks + weights_to self.old h
+            ≡ weighed h pool.old.blocks + weights_to self.new h }
+        ensures same { (pool.new.made ≡ pool.old.made) × (pool.new.taken ≡ pool.old.taken) }
+        ensures rises { home pool.old ≤ home pool.new }
+    {
+        self.meet_tokens(pool);
+        self.meet_lists(pool);
     }
 }
 
@@ -147,11 +181,12 @@ impl<W: Post + Drop> Supply for Desk<W> {
 
     ghost refusals = { λ _. 0 };
 
-    ghost owed = { λ d. d.owed };
+    ghost owed = { λ _. 0 };
 
     ghost ended = { λ d. d.stopped };
 
-    /// Where none is needed a round is to be read: then tokens come in, with their shelves.
+    /// Where none is needed a round is to be read: then tokens come in, with their shelves. Behind a no that paused a
+    /// round it waits, and says no again only where the other side has stopped.
     fn bring(&mut self, pool: &mut Pool, need: u32) -> bool {
         if need == 0 {
             self.meet_all(pool);

@@ -1,10 +1,11 @@
 //! The desk of the side that reads: lists and tokens come in here, and their blocks go home.
-ghost use Rattle.std.specs.Prelude.{◌≡◌, ℕ, ◌+◌, ◌≤◌, min, IfSome, IfOk, IsTrue, []};
+ghost use Rattle.std.specs.Prelude.{◌≡◌, ℕ, ◌+◌, ◌≤◌, IfSome, IfOk, IsTrue, []};
 ghost use Rattle.std.specs.Arc.{arc_value};
 ghost use Rattle.block_pool.specs.PoolState.{home};
 ghost use Rattle.rtrb.specs.Ring.{received};
 ghost use Rattle.pipeline.specs.Parcels.{IsOfRing, homes_of, shelved, weights_back, weights_shelved};
 
+use crate::away::Away;
 use crate::parcel::{Fits, Naming, Parcel, Token};
 use crate::post::Post;
 use block_pool::Pool;
@@ -16,8 +17,9 @@ use std::collections::VecDeque;
 /// As many rounds may be read before the first of them is back.
 pub(crate) const SHELVES: usize = 3;
 
-/// The ends where lists and tokens come back, and the shelves that are here. `out` of them are away with a round, and
-/// `owed` blocks went away with rounds and haven't come home, unless the other side has stopped.
+/// The ends where lists and tokens come back, the shelves that are here, and what is away with rounds. Where a round is
+/// paused for want of blocks they are waited for, whatever comes; `stopped` says that the other side takes no more
+/// rounds.
 #[derive(Drop)]
 pub(crate) struct Desk<W: Post + Drop> {
     pub(crate) post: W,
@@ -25,8 +27,8 @@ pub(crate) struct Desk<W: Post + Drop> {
     pub(crate) tokens: Consumer<Token>,
     pub(crate) shelves: VecDeque<Pool>,
     pub(crate) taker: Taker,
-    pub(crate) out: u32,
-    pub(crate) owed: u32,
+    pub(crate) away: Away,
+    pub(crate) paused: bool,
     pub(crate) stopped: bool,
     pub ghost named: { blocks ≡ W.blocks },
     pub ghost ringed: { IsOfRing W.ring tokens },
@@ -64,11 +66,11 @@ fn is_ready(shelf: &Pool, blocks: u32) -> bool
 }
 
 impl<W: Post + Drop> Desk<W> {
-    /// A shelf is away already, with the first round and as many blocks as are owed.
+    /// A shelf is away already, with the first round, which has so many spares.
     pub(crate) fn new(
         post: W,
         blocks: u32,
-        owed: u32,
+        spares: u32,
         tokens: Consumer<Token>,
         shelves: VecDeque<Pool>,
         taker: Taker,
@@ -78,7 +80,6 @@ impl<W: Post + Drop> Desk<W> {
         requires pooled { arc_value taker.lists ≡ W.lists }
         requires none { (received tokens ≡ []) × (shelved shelves.items ≡ 0) }
         ensures same { (result.tokens ≡ tokens) × (result.shelves ≡ shelves) × (result.taker ≡ taker) }
-        ensures owed { result.owed ≡ owed }
     {
         Desk {
             post,
@@ -86,8 +87,8 @@ impl<W: Post + Drop> Desk<W> {
             tokens,
             shelves,
             taker,
-            out: 1,
-            owed,
+            away: Away::new(spares),
+            paused: false,
             stopped: false,
         }
     }
@@ -102,8 +103,8 @@ impl<W: Post + Drop> Desk<W> {
             tokens,
             shelves,
             taker,
-            out: _,
-            owed: _,
+            away: _,
+            paused: _,
             stopped: _,
         } = self;
         (tokens, shelves, taker)
@@ -131,23 +132,21 @@ impl<W: Post + Drop> Desk<W> {
             × (self.new.tokens ≡ self.old.tokens) × (self.new.taker ≡ self.old.taker) }
         ensures named { (h : ℕ → ℕ) → weights_shelved h self.new.shelves.items
             ≡ weights_shelved h self.old.shelves.items }
-        ensures owed { self.new.owed ≡ self.old.owed }
     {
         let shelf = self.shelves.pop_front()?;
         if is_ready(&shelf, self.blocks) {
-            self.out = self.out.saturating_add(1);
             return Some(shelf);
         }
         self.shelves.push_front_reserved(shelf);
         None
     }
 
-    /// A round goes away with so many blocks. No more than all of them are owed.
-    pub(crate) fn lend(&mut self, blocks: u32)
-        ensures owed { self.new.owed ≡ min (self.old.owed + blocks) W.blocks }
+    /// A round goes away, with so many spares.
+    pub(crate) fn lend(&mut self, spares: u32)
         ensures same { (self.new.shelves ≡ self.old.shelves) × (self.new.tokens ≡ self.old.tokens)
             × (self.new.taker ≡ self.old.taker) }
     {
-        self.owed = self.owed.saturating_add(blocks).min(self.blocks);
+        self.away.lend(spares);
+        self.paused = false;
     }
 }

@@ -168,7 +168,7 @@ fn handle_named<
     let Ok((mut out, mut from, shelf, mut kept, shelves)) = prepare::<N>(alloc, bench) else {
         return Err(read);
     };
-    let owed = read.round.blocks();
+    let spares = read.round.spares();
     send_first(rt, &mut out, read, shelf);
     let Ways {
         mut told,
@@ -181,7 +181,7 @@ fn handle_named<
     let bells = Bells::new(bell);
     let post = Sleeper::<'_, R, N>::new(rt, &bells);
     let mut supply = Reading {
-        desk: Desk::new(post, blocks, owed, tokens, shelves, taker),
+        desk: Desk::new(post, blocks, spares, tokens, shelves, taker),
         out,
     };
     let end = run_sides(

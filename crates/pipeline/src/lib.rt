@@ -29,20 +29,21 @@
 //!   its own. The shelf goes back in a token. Only the last round's stay on a shelf with the side that works until both
 //!   have ended: blocks are handed over where there is room for all that they may leave again.
 //!
-//! There are three shelves, so reading is at most three rounds ahead. The side that reads counts the blocks that went
-//! away with rounds and haven't come home. Behind a record's header, where fewer are home than the record needs, it
-//! takes lists, and where there is none it waits for one, or for a token, as long as blocks are away and the other side
-//! hasn't stopped. So a record is left half read for want of blocks only where the other side has stopped, and a round
-//! exceeds the blocks just where it does in one thread.
+//! There are three shelves, so reading is at most three rounds ahead. Before a round is read, what has come is taken.
+//! Behind a record's header, where fewer blocks are home than the record needs, the side that reads takes lists, and
+//! where there is none it waits for one, or for a token, as long as another list may come or more than one round is
+//! out. Where they are those of the last round alone the round that is read is paused: its header is kept, and once all
+//! blocks but its own are home it is read to its end (`rounds::Intake::read_beside`). So a record is left half read for
+//! want of blocks only where the other side has stopped, and a round exceeds the blocks just where it does in one
+//! thread.
 //!
 //! Proved of [`handle_beside`], whatever both threads do at the same time, is the clause of `rounds::handle_from`,
 //! which does the same in one thread: the rounds that were read stand one behind another in the capture, each of the
 //! first of them was handled in turn up to the one that ended it, and nothing was done with those behind. What was sent
 //! by a ring and what was received are known once the threads have joined. All blocks are home whatever the ending,
 //! also those of rounds that were read and that nobody worked. [`merge_beside`] has the clauses of `Rounds::merge_all`,
-//! word for word. As each round begins all blocks are home or owed (`sure` of `Intake::read_round`), and the desk says
-//! no only where none is owed or the other side has stopped (`short` of `bring`): so no round ends for want of blocks
-//! while the other side goes on.
+//! word for word. A round that is paused is given up only where the other side has stopped (`ended` of `bring_rest` in
+//! `rounds`): so no round ends for want of blocks while the other side goes on.
 //!
 //! Not proved: that waiting ends. The side that works waits only where it has sent a token for each parcel that it
 //! received, so that all blocks of these lie in tokens and lists, and the side that reads only while a shelf or blocks
@@ -66,18 +67,25 @@
 //!
 //! Its parts: `ring` (putting in and waiting at the ends of a ring), `bells` (who wakes whom, and whether there are
 //! two), `parcel` (what goes through the rings), `ways` (the ring of tokens and the pool of lists), `post` (waiting for
-//! what comes home), `desk` and `arrivals` (where lists and tokens come in while rounds are read), `sides` (the loop of
-//! each side, and both at once), `gather` (what lies between the sides comes home once both have ended), `here` (the
-//! first round and what is left, in one thread), `drive` (the first round, the two sides, and one thread where there
-//! can't be two), `crew` (all of that with who run lanes beside it) and `merge` (where each round is written).
+//! what comes home), `desk`, `arrivals` and `away` (where lists and tokens come in while rounds are read, and what may
+//! still come), `sides` (the loop of each side, and both at once), `gather` (what lies between the sides comes home
+//! once both have ended), `here` (the first round and what is left, in one thread), `drive` (the first round, the two
+//! sides, and one thread where there can't be two), `crew` (all of that with who run lanes beside it) and `merge`
+//! (where each round is written).
 //!
-//! Tests: `beside_tests`, module `driven`, and `round_tests`, module `lane_rows`.
+//! Tests: `beside_tests`, modules `driven` and `pausing`, and `round_tests`, module `lane_rows`.
 //!
 //! Why so:
 //!
 //! - **The side that reads waits behind a record's header, for as many blocks as the record needs**: so it begins to
 //!   wait as late as it can, and blocks that come soon are used soon. Whether a round exceeds the blocks is judged
 //!   before, by how many were made, as in one thread.
+//! - **Lists that have come are taken before each round, also where blocks abound**: those that somebody just had are
+//!   in a cache, and those that never were out aren't. Who leaves lists until blocks are lacking reads through all
+//!   blocks that there are, and takes a quarter longer.
+//! - **It pauses only where the last round that is out has the blocks, and no list of it is due**, by what it counted
+//!   itself (`Away`). No proof rests on that count: a pause that comes too early costs a wait for that round, and one
+//!   that comes too late costs nothing.
 //! - **A list rings the reader's bell only where the reader has said that it waits for blocks** (`block_pool::Bell`),
 //!   so that giving one is a step and a look. Who wants blocks looks for lists and tokens in turn for about as long as
 //!   a small round lasts; then it says that it waits, looks once more, and sleeps between its looks. Where it waits for
@@ -87,12 +95,14 @@
 //!   reads has the one part that is left, and its pass says what it took (`brought`). What was put is known where the
 //!   giver is; that all of it was taken, or is home, only where both are in one hand.
 //! - **That all blocks are there once all tokens are back isn't proved in the reading thread**, since it knows nothing
-//!   of the other one but what the ring says of a token, and the pool of a list. So it counts what went away with
-//!   rounds, less what came home, and waits for these alone: where it says no the other side has stopped, and the round
-//!   that is cut short is never worked. After the join both lists are known, and `home` is proved.
+//!   of the other one but what the ring says of a token, and the pool of a list. So behind a pause it counts the blocks
+//!   that are home, and waits until those are all but the paused round's own: where it says no the other side has
+//!   stopped, and the round that is cut short is never worked. After the join both lists are known, and `home` is
+//!   proved.
 #![tactic(auto)]
 
 mod arrivals;
+mod away;
 mod bells;
 mod crew;
 mod desk;

@@ -50,7 +50,6 @@ fn read_side<N: Naming, R: Wait, P: Post + Drop, S: Source>(
     requires link { (place_of reader.old).link ≡ Ethernet }
     requires named { (intake.old.blocks ≡ N.blocks) × (P.blocks ≡ N.blocks) }
     requires first { IsFirst (place_of reader.old).number (sent supply.old.out) }
-    requires sure { intake.old.blocks ≤ intake.old.home + supply.old.desk.owed }
     ensures ring { SameProducer supply.old.out supply.new.out }
     ensures same_source { SameLoan reader.old reader.new }
     ensures read { ReadOn intake.old.blocks intake.old.budget
@@ -79,9 +78,9 @@ fn read_side<N: Naming, R: Wait, P: Post + Drop, S: Source>(
             supply.desk.wake();
             return;
         };
-        let read = intake.read_round(reader, &mut supply.desk);
+        let read = intake.read_beside(rt, reader, &mut supply.desk);
         let end = read.end;
-        supply.desk.lend(read.round.blocks());
+        supply.desk.lend(read.round.spares());
         let parcel = Parcel {
             number,
             read,
@@ -199,7 +198,6 @@ pub(crate) fn run_sides<
     requires empty { home kept.old ≡ 0 }
     requires lent { IsLent giver.old }
     requires first { IsFirst (place_of reader.old).number (sent supply.old.out) }
-    requires sure { intake.old.blocks ≤ intake.old.home + supply.old.desk.owed }
     requires none { (received from.old ≡ []) × (sent told.old ≡ []) }
     requires start { H.ready (options_at bench.old) bench.old.keep 0 into.old }
     ensures rings { SameProducer supply.old.out supply.new.out × SameConsumer from.old from.new
@@ -235,7 +233,6 @@ pub(crate) fn run_sides<
             requires link { (place_of reader.now).link ≡ Ethernet }
             requires named { (intake.now.blocks ≡ N.blocks) × (P.blocks ≡ N.blocks) }
             requires first { IsFirst (place_of reader.now).number (sent supply.now.out) }
-            requires sure { intake.now.blocks ≤ intake.now.home + supply.now.desk.owed }
             ensures ring { SameProducer supply.entry.now.out supply.exit.now.out }
             ensures same_source { SameLoan reader.entry.now reader.exit.now }
             ensures read { ReadOn intake.entry.now.blocks intake.entry.now.budget

@@ -40,6 +40,8 @@ pub struct Intake {
     hold: VecDeque<Sole>,
     // How often a take found no list while a round was read beside work.
     pub(crate) empties: u64,
+    // How often a round that was read beside others was paused.
+    pub(crate) pauses: u64,
     budget: u32,
 }
 
@@ -111,6 +113,7 @@ impl Intake {
             pool,
             hold,
             empties: 0,
+            pauses: 0,
             budget,
         })
     }
@@ -145,6 +148,29 @@ impl Intake {
         ensures value { result ≡ self.now.empties }
     {
         self.empties
+    }
+
+    /// How often a round was paused by `read_beside`. It stays at `2^64 - 1`, and is for tests: no clause speaks of it.
+    pub fn pauses(&self) -> u64 {
+        self.pauses
+    }
+
+    /// Memory for the packets of a round.
+    pub(crate) fn make_blank(&self) -> Result<Blank, AllocError>
+        ensures none { IfOk result (λ b. (b.packets.items ≡ []) × (home b.spares ≡ 0)) }
+        ensures room { IfOk result (λ b. (self.now.budget ≤ b.packets.room)
+            × (2 * self.now.budget ≤ b.spares.made)) }
+    {
+        Blank::make(self.alloc, self.budget)
+    }
+
+    /// A round of no records, for want of memory.
+    pub(crate) fn read_none(&self) -> RoundRead
+        ensures none { (result.round.packets ≡ []) × (result.round.spares ≡ []) × (result.round.blocks ≡ 0) }
+        ensures end { result.end ≡ RoundEnd.NoMemory }
+        ensures budget { (1 ≤ self.now.budget) × (self.now.budget ≤ 4096) }
+    {
+        no_round(self.alloc)
     }
 
     /// Blocks that were out come home on a shelf. None is taken.

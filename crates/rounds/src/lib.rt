@@ -60,6 +60,8 @@
 //!   than are home, and only where a take found no list of them, which `empties` counts; the header is kept. `given` of
 //!   `read_rest`: what such a round comes to in the end, over all of its records. That both run at the same time isn't
 //!   proved.
+//! - `given` of `read_beside` of [`Intake`]: the same where another thread works, whose blocks are waited for. It
+//!   pauses so too, and `ended` of `bring_rest`: a paused round is given up only where that thread keeps the blocks.
 //! - `captured` of `merge_all`: the packets that are merged are such as a capture may hold, since each was read into
 //!   fields of 32 bits and into bytes.
 //!
@@ -102,7 +104,8 @@
 //! `writing` (what they come to); `intake` (the side that reads: pool and budget); `bench` (the side that works:
 //! places, memory and lanes) and `giving` (spares that go to others); `lists` (the pool by which lists of spares come
 //! home while the rest of their round is out, and its end where they are taken); `rounds` (both, in turn) and `ahead`
-//! (a round read beside the work of another, and its rest); `handler` (what is done with a round, for whoever drives
+//! (a round read beside the work of another, and its rest), `beside` (the same where another thread works: paused, and
+//! read on once the other rounds have ended); `handler` (what is done with a round, for whoever drives
 //! them) and `turns` (rounds one after another, each read and handled); `merge` (the handler that writes a round, and
 //! all rounds of a capture with it); `segment` (the type that segments, record by record) on `cut` (a record's packets
 //! written one by one, its blocks brought home); `memory` (what is kept from round to round).
@@ -111,7 +114,7 @@
 //! capture's bytes, `specs/Benches.antt` when blocks may come home, and what is so once they have.
 //!
 //! Tests: `round_tests`, modules `frames`, `jumbo`, `lane_rows`, `long_runs`, `merging`, `segments` and `sides`, and
-//! `beside_tests`, modules `ahead` and `refused`.
+//! `beside_tests`, modules `ahead`, `pausing` and `refused`.
 //!
 //! Why so:
 //!
@@ -178,6 +181,7 @@
 
 mod ahead;
 mod bench;
+mod beside;
 mod cut;
 mod frames;
 mod giving;

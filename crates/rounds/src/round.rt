@@ -1,5 +1,5 @@
 //! The records of a round, and what they come to.
-ghost use Rattle.std.specs.Prelude.{◌≡◌, ◌≢◌, ◌≤◌, ◌*◌, [], IfOk};
+ghost use Rattle.std.specs.Prelude.{◌≡◌, ◌≢◌, ◌≤◌, ◌*◌, [], length, IfOk};
 ghost use Rattle.block_pool.specs.PoolState.{home};
 ghost use Rattle.rounds.specs.Merging.{is_worked as is_worked_end};
 ghost use Rattle.rounds.specs.Reading.{IsEndOf};
@@ -90,6 +90,13 @@ impl Round {
         ensures blocks { result ≡ self.now.blocks }
     {
         self.blocks
+    }
+
+    /// How many of them are spares: two for each packet.
+    pub fn spares(&self) -> u32
+        ensures spares { result ≡ length self.now.spares }
+    {
+        self.spares.home()
     }
 
     /// Gives the round up outside its rounds: its blocks are freed. No memory is taken.

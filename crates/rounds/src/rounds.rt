@@ -120,6 +120,12 @@ impl Rounds {
         self.intake.empties()
     }
 
+    /// How often a round that was read beside the work of others was paused by [`Intake::read_beside`], to be read on
+    /// once they had ended. It stays at `2^64 - 1`, and is for tests: no clause speaks of it.
+    pub fn pauses(&self) -> u64 {
+        self.intake.pauses()
+    }
+
     /// The blocks that were made.
     pub fn blocks(&self) -> u32
         ensures blocks { result ≡ self.now.blocks }

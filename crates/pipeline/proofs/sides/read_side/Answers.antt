@@ -52,8 +52,8 @@ pub returns-then-not-is_full-clause-read : goal.returns-then-not-is_full-clause-
 returns-then-not-is_full-clause-read g c =
     let l = c.loop in
     let i = l.invariant in
-    let r = c.read_round-read.ensures in
-    let p : Parcel = record { number = l.number; read = c.read_round-read.result; shelf = c.in-Some-pick.shelf } in
+    let r = c.read_beside-read.ensures in
+    let p : Parcel = record { number = l.number; read = c.read_beside-read.result; shelf = c.in-Some-pick.shelf } in
     record {
       more = i.more ++ p.read ∷ [];
       sent = sent_more (sent c.args.supply.now.out) (sent l.supply.out) _ i.more p i.is c.send-in-loop.ensures.sent;
@@ -78,12 +78,12 @@ returns-then-not-is_full-clause-read g c =
 pub returns-then-not-is_full-clause-sum : goal.returns-then-not-is_full-clause-sum
 returns-then-not-is_full-clause-sum g c =
     let l = c.loop in
-    let p : Parcel = record { number = l.number; read = c.read_round-read.result; shelf = c.in-Some-pick.shelf } in
+    let p : Parcel = record { number = l.number; read = c.read_beside-read.result; shelf = c.in-Some-pick.shelf } in
     omega (
       arith,
       l.invariant.sum,
       c.bring_more.ensures.sum,
-      c.read_round-read.ensures.sum,
+      c.read_beside-read.ensures.sum,
       ap blocks_of c.send-in-loop.ensures.sent,
       blocks_last (sent l.supply.out) (Some p),
       c.pick.ensures.same.0,
@@ -97,12 +97,12 @@ returns-then-not-is_full-clause-sum g c =
 pub returns-then-not-is_full-clause-named : goal.returns-then-not-is_full-clause-named
 returns-then-not-is_full-clause-named g c h =
     let l = c.loop in
-    let p : Parcel = record { number = l.number; read = c.read_round-read.result; shelf = c.in-Some-pick.shelf } in
+    let p : Parcel = record { number = l.number; read = c.read_beside-read.result; shelf = c.in-Some-pick.shelf } in
     omega (
       arith,
       l.invariant.named h,
       c.bring_more.ensures.named h,
-      c.read_round-read.ensures.named h,
+      c.read_beside-read.ensures.named h,
       ap (weights_sent h) c.send-in-loop.ensures.sent,
       weights_sent_append h (sent l.supply.out) (Some p ∷ []),
       c.pick.ensures.named h,
@@ -117,7 +117,7 @@ pub send-requires-in-loop : goal.send-requires-in-loop
 send-requires-in-loop g c =
     let l = c.loop in
     let i = l.invariant in
-    let r = c.read_round-read.ensures in
+    let r = c.read_beside-read.ensures in
     record {
       allowed = record {
         number = i.number;
@@ -128,11 +128,6 @@ send-requires-in-loop g c =
         made = c.in-Some-pick.ensures.ready.1 ∙ c.requires.named.1;
       };
     }
-
-pub read_round-read-requires-clause-sure : goal.read_round-read-requires-clause-sure
-read_round-read-requires-clause-sure g c =
-    let i = c.loop.invariant in
-    omega (arith, i.sure, c.bring_more.ensures.sum, c.bring_more.ensures.owed, c.bring_more.ensures.same.0, c.pick.ensures.owed)
 
 pub loop-init : goal.loop-init
 loop-init g c = record {
@@ -150,7 +145,6 @@ loop-init g c = record {
   budget = refl;
   number = omega (arith, ap (λ (xs : List (Option Parcel)). length (rounds_of xs)) c.requires.first.1);
   packets = omega (arith, ap (λ (xs : List (Option Parcel)). packets_of (rounds_of xs)) c.requires.first.1, c.requires.first.3);
-  sure = c.requires.sure;
   counted = omega arith;
   later = omega arith;
 }
@@ -159,8 +153,8 @@ pub loop-preserved : goal.loop-preserved
 loop-preserved g c =
     let l = c.loop in
     let i = l.invariant in
-    let r = c.read_round-read.ensures in
-    let p : Parcel = record { number = l.number; read = c.read_round-read.result; shelf = c.in-Some-pick.shelf } in
+    let r = c.read_beside-read.ensures in
+    let p : Parcel = record { number = l.number; read = c.read_beside-read.result; shelf = c.in-Some-pick.shelf } in
     let on = sym c.is_full.ensures.full ∙ c.if-not-is_full.false in
     let full = full_end p.read.end on in
     let passes = r.full full in
@@ -221,24 +215,6 @@ loop-preserved g c =
       budget = r.same.1 ∙ c.bring_more.ensures.same.2 ∙ i.budget;
       number = omega (arith, i.number, ap length now, length-append (rounds_of (sent l.supply.out)) (p.read ∷ []));
       packets = omega (arith, i.packets, ap packets_of now, packets_append (rounds_of (sent l.supply.out)) (p.read ∷ []), passes.number, passes.full);
-      sure = omega (
-        arith,
-        i.sure,
-        c.bring_more.ensures.sum,
-        c.bring_more.ensures.owed,
-        c.bring_more.ensures.same.0,
-        c.pick.ensures.owed,
-        c.pick.ensures.same.0,
-        ap (λ t. homes_of (received t)) c.pick.ensures.same.1,
-        ap (λ t. listed_home t.pass t.left) c.pick.ensures.same.2,
-        r.sum,
-        r.owed,
-        r.same.0,
-        c.lend.ensures.owed,
-        i.blocks,
-        c.requires.named.0,
-        c.requires.named.1,
-      );
       counted = omega (arith, i.counted, passes.number, r.budget.0);
       later = omega (arith, r.later, i.later);
     }

@@ -30,7 +30,6 @@ invariant-loop g l = record {
   budget : l.intake.budget ≡ l.initial.intake.budget;
   number : l.number ≡ length (rounds_of (sent l.supply.out));
   packets : packets_of (rounds_of (sent l.supply.out)) ≤ l.reader.place.number;
-  sure : l.intake.blocks ≤ l.intake.home + l.supply.desk.owed;
   counted : l.number ≤ l.reader.place.number + 1;
   later : g.S.Source.faults l.initial.reader.source.now ≤ g.S.Source.faults l.reader.source.now;
 }

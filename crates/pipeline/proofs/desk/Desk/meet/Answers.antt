@@ -9,7 +9,7 @@ use Rattle.pipeline.proofs.desk.Desk.meet.Goals as goal
 pub invariant_of-self-clause-counted : goal.invariant_of-self-clause-counted
 invariant_of-self-clause-counted g c =
     let less = left_less (home c.args.pool.now) (home c.refill.new.self) (home c.in-Some.token.shelf) (home c.refill.new.from) c.args.pool.now.made c.refill.ensures.sum c.refill.ensures.all
-    (omega (arith, c.home-before.ensures.within, c.home-before.ensures.home)) in
+    (omega (arith, c.home.ensures.within, c.home.ensures.home)) in
     omega (
       arith,
       c.args.self.now.counted,
@@ -24,7 +24,7 @@ invariant_of-self-clause-counted g c =
 pub invariant_of-self-else-not-goes-clause-counted : goal.invariant_of-self-else-not-goes-clause-counted
 invariant_of-self-else-not-goes-clause-counted g c =
     let less = left_less (home c.args.pool.now) (home c.refill.new.self) (home c.in-Some.token.shelf) (home c.refill.new.from) c.args.pool.now.made c.refill.ensures.sum c.refill.ensures.all
-    (omega (arith, c.home-before.ensures.within, c.home-before.ensures.home)) in
+    (omega (arith, c.home.ensures.within, c.home.ensures.home)) in
     omega (
       arith,
       c.args.self.now.counted,
@@ -116,32 +116,14 @@ returns-else-not-goes-clause-named g c h =
       ap (λ t. weights_home h t.pass t.left) c.in-Some.ensures.same.1,
     )
 
-pub returns-then-not-goes-clause-owed : goal.returns-then-not-goes-clause-owed
-returns-then-not-goes-clause-owed g c =
-    omega (
-      arith,
-      c.args.self.now.counted,
-      c.refill.ensures.sum,
-      ap homes_of c.in-Some.ensures.token,
-      homes_last (received c.args.self.now.tokens) c.in-Some.token,
-      ap shelved
-          c.push_front_reserved.ensures.items,
-      ap (λ s. shelved s.items) c.in-Some.ensures.same.0,
-      ap (λ t. listed_home t.pass t.left) c.in-Some.ensures.same.1,
-      c.in-Some.ensures.same.2,
-    )
+pub returns-then-not-goes-clause-rises : goal.returns-then-not-goes-clause-rises
+returns-then-not-goes-clause-rises g c =
+    let less = left_less (home c.args.pool.now) (home c.refill.new.self) (home c.in-Some.token.shelf) (home c.refill.new.from) c.args.pool.now.made c.refill.ensures.sum c.refill.ensures.all
+    (omega (arith, c.home.ensures.within, c.home.ensures.home)) in
+    omega (arith, less, c.refill.ensures.sum)
 
-pub returns-else-not-goes-clause-owed : goal.returns-else-not-goes-clause-owed
-returns-else-not-goes-clause-owed g c =
-    omega (
-      arith,
-      c.args.self.now.counted,
-      c.refill.ensures.sum,
-      ap homes_of c.in-Some.ensures.token,
-      homes_last (received c.args.self.now.tokens) c.in-Some.token,
-      ap shelved
-          c.push_front_reserved.ensures.items,
-      ap (λ s. shelved s.items) c.in-Some.ensures.same.0,
-      ap (λ t. listed_home t.pass t.left) c.in-Some.ensures.same.1,
-      c.in-Some.ensures.same.2,
-    )
+pub returns-else-not-goes-clause-rises : goal.returns-else-not-goes-clause-rises
+returns-else-not-goes-clause-rises g c =
+    let less = left_less (home c.args.pool.now) (home c.refill.new.self) (home c.in-Some.token.shelf) (home c.refill.new.from) c.args.pool.now.made c.refill.ensures.sum c.refill.ensures.all
+    (omega (arith, c.home.ensures.within, c.home.ensures.home)) in
+    omega (arith, less, c.refill.ensures.sum)

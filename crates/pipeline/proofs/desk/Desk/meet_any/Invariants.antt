@@ -8,4 +8,4 @@ invariant-loop-turn g l =
     (home l.pool + brought_to l.initial.self ≡ home l.initial.pool + brought_to l.self)
     × (l.pool.made ≡ l.initial.pool.made) × (l.pool.taken ≡ l.initial.pool.taken)
     × ((h : ℕ → ℕ) → weighed h l.pool.blocks + weights_to l.initial.self h ≡ weighed h l.initial.pool.blocks + weights_to l.self h)
-    × (l.initial.self.owed + brought_to l.initial.self ≤ l.self.owed + brought_to l.self)
+    × (home l.initial.pool ≤ home l.pool)
