@@ -14,7 +14,7 @@ pub fn runs_come_back()
     ensures law { RunsComeBack }
 {}
 
-/// The record of mergeable packets is a lawful super-packet, and its numbers fit their fields of 16 bits.
+/// The record of mergeable packets is a lawful super-packet, and its numbers fit their fields of 32 bits.
 pub fn runs_are_lawful()
     ensures law { RunsAreLawful }
 {}

@@ -1,6 +1,6 @@
 -- A prefix of what a command writes of all that was given, however little of it was read, where the source didn't fail.
 use Rattle.std.proofs.Common.{◌≡◌, ℕ, List, [], ◌++◌, take, drop, refl, sym, ap, ◌∙◌, subst, Option, Some, None, Ok, Err, Bool, ◌⊎◌, ⊎_elim, inl, inr}
-use Rattle.std.specs.Prelude.{IfSome}
+use Rattle.std.specs.Prelude.{IfSome, MatchOption}
 use Rattle.std.specs.Io.KnownBytes.{Appends, Keeps}
 use Rattle.std.proofs.KnownBytes.{Appends-nil, Appends-kept}
 use Rattle.off_io.specs.Content.{AppendsFront}
@@ -30,10 +30,12 @@ use Rattle.checking.specs.Handling.{ending_of as check_ending}
 use Rattle.offload_words.specs.declared.merge.MergeOptions.{MergeOptions}
 use Rattle.offload_words.specs.declared.words.Command.{Command}
 use Rattle.offload_words.specs.declared.words.Command.TheVariants.{Merge, Segment, Check, Make}
+use Rattle.offload_run.specs.declared.engine.Engine.{Engine}
 use Rattle.offload_run.specs.declared.status.Status.{Status}
 use Rattle.offload_run.specs.declared.status.Status.TheVariants as statuses
 use Rattle.offload_run.specs.Checking.{status_if, LinesEnd, Tells, Checked}
 use Rattle.offload_run.specs.Ending.{Ends}
+use Rattle.offload_run.specs.Engines.{LeavesHome, IsMergeHome, IsSegmentHome}
 use Rattle.offload_run.specs.Output.{options}
 use Rattle.offload_run.specs.RunAnswers.{unless_made, Fronts}
 use Rattle.offload_run.proofs.Lining.{lined_of}
@@ -158,3 +160,11 @@ unread (Make o) failed a h = tt
 pub fronts_unread : (command : Option Command) (failed : Type 0) (a h : Option (List ℕ)) → IfSome command (λ command. Fronts command failed a a h h)
 fronts_unread None failed a h = tt
 fronts_unread (Some command) failed a h = unread command failed a h
+
+pub none_left : (command : Option Command) (engine : Option Engine) → engine ≡ None
+    → MatchOption command (engine ≡ None) (λ command. LeavesHome command engine)
+none_left None engine none = none
+none_left (Some (Merge o)) engine none = subst (IsMergeHome o.blocks) (sym none) tt
+none_left (Some (Segment o)) engine none = subst (IsSegmentHome o.blocks) (sym none) tt
+none_left (Some (Check o)) engine none = subst (IsMergeHome o.merge.blocks) (sym none) tt
+none_left (Some (Make o)) engine none = none

@@ -45,3 +45,23 @@ HasRun (Segment o) engine old new = HasSegmented o.blocks
     (λ given. records_need (reads Offload given).packets) engine old new
 HasRun (Check o) engine old new = HasChecked o.seed o engine old new
 HasRun (Make o) engine old new = ⊤
+
+-- ---- whatever the status
+
+-- where an engine was left it has so many blocks, and all of them are home
+abbrev pub IsMergeHome : ℕ → Option Engine → Type 0
+IsMergeHome blocks None = ⊤
+IsMergeHome blocks (Some (engines.Merge rounds)) = (rounds.blocks ≡ blocks) × (rounds.home ≡ blocks)
+IsMergeHome blocks (Some (engines.Segment run)) = ⊥
+
+abbrev pub IsSegmentHome : ℕ → Option Engine → Type 0
+IsSegmentHome blocks None = ⊤
+IsSegmentHome blocks (Some (engines.Merge rounds)) = ⊥
+IsSegmentHome blocks (Some (engines.Segment run)) = (run.blocks ≡ blocks) × (run.home ≡ blocks)
+
+-- the engine is that of the command, over the blocks that it asks for; `make` leaves none
+abbrev pub LeavesHome : Command → Option Engine → Type 0
+LeavesHome (Merge o) engine = IsMergeHome o.blocks engine
+LeavesHome (Segment o) engine = IsSegmentHome o.blocks engine
+LeavesHome (Check o) engine = IsMergeHome o.merge.blocks engine
+LeavesHome (Make o) engine = engine ≡ None

@@ -25,7 +25,7 @@ ghost use Rattle.checking.specs.Handling.{ending_of as check_ending};
 ghost use Rattle.offload_run.specs.Checking.{checking_made, first_line, status_if, CheckAnswers, Checked, ChecksMade};
 ghost use Rattle.offload_run.specs.Checking.{ChecksTo, LinesEnd, ReadAnswers, Tells};
 ghost use Rattle.offload_run.specs.Ending.{HasBlocks};
-ghost use Rattle.offload_run.specs.Engines.{HasChecked, HasMerged};
+ghost use Rattle.offload_run.specs.Engines.{HasChecked, HasMerged, IsMergeHome};
 ghost use Rattle.offload_run.specs.Output.{options as options_of};
 ghost use Rattle.offload_run.specs.RunAnswers.{unless_made};
 
@@ -197,6 +197,7 @@ fn check_records<R: Threads + Wait + Sync, S: Source + Send, K: Sink, G: Gate + 
     ensures engine { result ≡ Status.Ok → HasMerged options.blocks
         (λ rest. round_need (found_at (first_place file Ethernet 0) rest).packets) engine.new (S.left source.old)
         (S.left source.new) }
+    ensures home { IsMergeHome options.blocks engine.new }
     ensures not_usage { result ≡ Status.Usage → ⊥ }
     ensures later { S.faults source.old ≤ S.faults source.new }
     ensures later_sink { K.faults sink.old ≤ K.faults sink.new }
@@ -239,6 +240,7 @@ fn check_read<R: Threads + Wait + Sync, S: Source + Send, K: Sink, G: Gate + Syn
     ensures blocks { HasBlocks options.blocks result }
     ensures engine { result ≡ Status.Ok → HasMerged options.blocks
         (λ given. round_need (reads Ethernet given).packets) engine.new (S.left source.old) (S.left source.new) }
+    ensures home { IsMergeHome options.blocks engine.new }
     ensures not_usage { result ≡ Status.Usage → ⊥ }
     ensures later { S.faults source.old ≤ S.faults source.new }
     ensures later_sink { K.faults sink.old ≤ K.faults sink.new }
@@ -271,6 +273,7 @@ fn check_made<R: Threads + Wait + Sync, K: Sink, G: Gate + Sync>(
     ensures blocks { HasBlocks options.blocks result }
     ensures engine { result ≡ Status.Ok → HasMerged options.blocks
         (λ given. round_need (reads Ethernet given).packets) engine.new (Some (made_capture seed count)) (Some []) }
+    ensures home { IsMergeHome options.blocks engine.new }
     ensures not_usage { result ≡ Status.Usage → ⊥ }
     ensures not_read { result ≡ Status.ReadFault → ⊥ }
     ensures later { K.faults sink.old ≤ K.faults sink.new }
@@ -323,6 +326,7 @@ pub(crate) fn run_check<R: Threads + Wait + Sync, S: Source + Send, K: Sink, G: 
     ensures blocks { HasBlocks options.merge.blocks result }
     ensures engine { result ≡ Status.Ok → HasChecked options.seed options engine.new (S.left source.old)
         (S.left source.new) }
+    ensures home { IsMergeHome options.merge.blocks engine.new }
     ensures not_usage { result ≡ Status.Usage → ⊥ }
     ensures later { S.faults source.old ≤ S.faults source.new }
     ensures later_sink { K.faults sink.old ≤ K.faults sink.new }

@@ -1,12 +1,13 @@
 //! The whole program over a source and a sink.
-ghost use Rattle.std.specs.Prelude.{◌≡◌, ◌≤◌, ◌⊎◌, IfSome, Some, None, map, string_bytes};
+ghost use Rattle.std.specs.Prelude.{◌≡◌, ◌≤◌, ◌⊎◌, IfSome, MatchOption, Some, None, map, string_bytes};
+ghost use Rattle.off_io.specs.Content.{AppendsFront};
 ghost use Rattle.off_io.specs.Faults.{Rose};
 ghost use Rattle.off_io.specs.Told.{Told};
 ghost use Rattle.offload_words.specs.Commands.{command_of, HasRanges};
 ghost use Rattle.status_log.specs.Lines.{Logs};
 ghost use Rattle.offload_run.specs.Making.{Makes};
 ghost use Rattle.offload_run.specs.RunAnswers.{Answers, AreBlocksOf, FlowsBack, Fronts};
-ghost use Rattle.offload_run.specs.Engines.{HasRun};
+ghost use Rattle.offload_run.specs.Engines.{HasRun, LeavesHome};
 ghost use Rattle.offload_run.specs.Log.{log_line};
 
 use crate::check::run_check;
@@ -42,6 +43,7 @@ fn run_command<R: Threads + Wait + Sync, S: Source + Send, K: Sink, G: Gate + Sy
     ensures blocks { AreBlocksOf command result }
     ensures flows { Told (S.left source.old) (S.left source.new) (FlowsBack command result) }
     ensures engine { result ≡ Status.Ok → HasRun command engine.new (S.left source.old) (S.left source.new) }
+    ensures home { LeavesHome command engine.new }
     ensures not_usage { result ≡ Status.Usage → ⊥ }
     ensures later { S.faults source.old ≤ S.faults source.new }
     ensures later_sink { K.faults sink.old ≤ K.faults sink.new }
@@ -86,6 +88,8 @@ fn run_words<R: Threads + Wait + Sync, S: Source + Send, K: Sink, G: Gate + Sync
         (λ command. Told (S.left source.old) (S.left source.new) (FlowsBack command result)) }
     ensures engine { IfSome (command_of (map string_bytes words.now))
         (λ command. result ≡ Status.Ok → HasRun command engine.new (S.left source.old) (S.left source.new)) }
+    ensures home { MatchOption (command_of (map string_bytes words.now)) (engine.new ≡ None)
+        (λ command. LeavesHome command engine.new) }
     ensures later { S.faults source.old ≤ S.faults source.new }
     ensures later_sink { K.faults sink.old ≤ K.faults sink.new }
     ensures read { result ≡ Status.ReadFault → Rose (S.faults source.old) (S.faults source.new) }
@@ -104,7 +108,7 @@ fn run_words<R: Threads + Wait + Sync, S: Source + Send, K: Sink, G: Gate + Sync
 /// packets came back, and with a seed it reads nothing and checks a generated capture; `make` reads nothing and writes
 /// one (clause `made`). Each queue's worker and each tap of `merge` and `check` passes the gate at point 0 before its
 /// work and at point 1 after it. Where two of them have something to do two run at once, and more where there are
-/// processors for them.
+/// processors for them. Of gate and threads no clause speaks: that is tested.
 ///
 /// `Usage` exactly where the words are none of the command set, want of memory aside: then nothing is read or written,
 /// and the counts of faults of the source and the sink stay as they are. `Ok`, `Malformed` and `PoolEmpty` exactly as
@@ -113,11 +117,12 @@ fn run_words<R: Threads + Wait + Sync, S: Source + Send, K: Sink, G: Gate + Sync
 /// rose in this call. At `Malformed`, `PoolEmpty` and `ReadFault` the output of all whole records (of all rounds)
 /// before is in the sink, so a sink that fails before that is answered first, by `WriteFault`.
 ///
-/// The sink is flushed once, after the last write, and stays as it was where there is no lawful file header. On each
-/// status but `Ok` the log gets one line. A log that fails is ignored.
+/// The sink is flushed after the last write, and stays as it was where there is no lawful file header. On each
+/// status but `Ok` the log gets one line, or a prefix of it where the log fails (`log`, `log_front`), which is ignored.
 ///
 /// At `Ok` of a command that reads, `engine` holds the blocks that this call made, all of them home, and its count of
-/// blocks taken is at least what the records need (clause `engine`). Else what it holds isn't said.
+/// blocks taken is at least what the records need (clause `engine`). On another status it may hold none; what it holds
+/// is the command's, and all of its blocks are home (clause `home`).
 pub fn run<R: Threads + Wait + Sync, S: Source + Send, K: Sink + Send, L: Sink, G: Gate + Sync>(
     rt: &R,
     alloc: Global,
@@ -148,11 +153,14 @@ pub fn run<R: Threads + Wait + Sync, S: Source + Send, K: Sink + Send, L: Sink, 
         (λ command. Told (S.left source.old) (S.left source.new) (FlowsBack command result)) }
     ensures engine { IfSome (command_of (map string_bytes words.now))
         (λ command. result ≡ Status.Ok → HasRun command engine.new (S.left source.old) (S.left source.new)) }
+    ensures home { MatchOption (command_of (map string_bytes words.now)) (engine.new ≡ None)
+        (λ command. LeavesHome command engine.new) }
     ensures later { S.faults source.old ≤ S.faults source.new }
     ensures later_sink { K.faults sink.old ≤ K.faults sink.new }
     ensures read { result ≡ Status.ReadFault → Rose (S.faults source.old) (S.faults source.new) }
     ensures write { result ≡ Status.WriteFault → Rose (K.faults sink.old) (K.faults sink.new) }
     ensures log { Logs (L.held log.old) (L.held log.new) (L.faults log.old) (L.faults log.new) (log_line result) }
+    ensures log_front { AppendsFront (L.held log.old) (L.held log.new) (log_line result) }
     ensures quiet { result ≡ Status.Ok → log.new ≡ log.old }
     ensures later_log { L.faults log.old ≤ L.faults log.new }
 {

@@ -7,12 +7,12 @@
 //! hash of `--rss` and the table of `--table`, and each of `--taps` taps reads a window of `--snap` bytes of what
 //! `--filter` shows of every packet: queue by queue the records are written, and then tap by tap the windows. Workers
 //! and taps run at the same time, in as many threads as there are processors for, and in two at least where there are
-//! two of them; where there is a second processor `merge` reads the next rounds beside them. All threads are started
-//! once, for the whole run. `segment` cuts such a capture, or one with headers of version 1, back into the packets that
+//! two of them; where there is a second processor the next rounds are read beside them. All threads are started once,
+//! for the whole run. `segment` cuts such a capture, or one with headers of version 1, back into the packets that
 //! its records stand for. `check` merges as `merge` does, compares what each round comes to with its packets, and
 //! writes lines of how many came back, at the end; with `--seed` it checks a generated capture, and nothing is read.
-//! Records are read into `--blocks` blocks of 2048 bytes; those of a round are home as it ends, and all of them at the
-//! end. The log gets one line on each status but a good one.
+//! Records are read into `--blocks` blocks of 2048 bytes; those of a round are given back as it ends, and all are home
+//! at the end. The log gets one line on each status but a good one.
 //!
 //! Proved, at every source, sink, log and gate, with whatever options, and whatever the order in which workers and taps
 //! run (clauses of [`run`]): which words are no command, and that nothing is then read or written (`usage`,
@@ -20,10 +20,10 @@
 //! plain words in [`answers_in_plain_words`]); that it is, whatever the answer, a prefix of what comes of all that was
 //! given, unless the source failed (`front`, [`prefixes_in_plain_words`]); of which pool an empty one is told
 //! (`blocks`); that every flow comes back of what merging makes (`flows`); which engine a good run leaves, with all
-//! blocks home, and how many it took (`engine`); that a fault is answered only where the outside failed (`read`,
-//! `write`); what the log gets (`log`, `quiet`). So do the two commands one after the other
-//! ([`every_flow_comes_back`]), and each line of `check` tells as many records that came back as there are
-//! ([`every_record_returns`]).
+//! blocks home, and how many it took (`engine`), and that all blocks of one are home on every other status (`home`);
+//! that a fault is answered only where the outside failed (`read`, `write`); what the log gets (`log`, `log_front`,
+//! `quiet`). So do the two commands one after the other ([`every_flow_comes_back`]), and each line of `check` tells as
+//! many records that came back as there are ([`every_record_returns`]).
 //!
 //! ```
 //! let mut engine = None;
@@ -50,16 +50,17 @@
 //!   some bytes, and what each ending says of that. `ending_of` leads from a status there, and one more command that
 //!   reads is one more line of `Answers`. `answers_in_plain_words` unfolds it: what the capture reads as, which round
 //!   exceeds the blocks, what is written.
-//! - **The engine goes out by a `&mut Option`** that holds none before, and is there at status 0. What it tells, that
-//!   all blocks are home and how many were taken, is one clause (`engine`); its calls stay those of `rounds`.
+//! - **The engine goes out by a `&mut Option`** that holds none before, and is there at status 0. What it tells then,
+//!   that all blocks are home and how many were taken, is one clause (`engine`), and that they are home whatever the
+//!   status another (`home`); its calls stay those of `rounds`.
 //! - **`flows` asks nothing of the source**: a record that was read is held in fields of 32 bits and in bytes, so the
 //!   packets that are merged are such as a capture may hold (`captured` of `merge_all`), and their numbers rise
 //!   whatever the bytes. It is said where merging ended by the bytes or by the source (status 0, 3, 4, 5); after a
 //!   fault of the sink or want of memory a front is written, of which it isn't said.
 //! - **A seeded check makes its capture twice**: once for the length in its first line (`made_len`), which stands
 //!   before anything is counted, and once to be checked. It needs no memory for it.
-//! - **`run` asks its runtime for `Wait`, too**, since one side of `merge` sleeps until the other wakes it. So it is no
-//!   longer proved that `run`, and `main`, come to an end; of their commands `merge` alone ever waits.
+//! - **`run` asks its runtime for `Wait`, too**, since one side of `merge` and `check` sleeps until the other wakes it.
+//!   So it is no longer proved that `run`, and `main`, come to an end; of their commands these two alone ever wait.
 #![tactic(auto)]
 
 mod check;

@@ -12,7 +12,7 @@ ghost use Rattle.offload_model.specs.Passing.{merging, merging_whole, Answers, P
 ghost use Rattle.offload_words.specs.Merge.{IsInRange};
 ghost use Rattle.rounds.specs.Merging.{ending_of as merge_ending, options_of as rounds_options, HoldsCaptured};
 ghost use Rattle.offload_run.specs.Ending.{ending_of, Ends, FlushesAt, HasBlocks, OfRead, status_by};
-ghost use Rattle.offload_run.specs.Engines.{HasMerged};
+ghost use Rattle.offload_run.specs.Engines.{HasMerged, IsMergeHome};
 ghost use Rattle.offload_run.specs.Output.{options as options_of, plan_of, merged_packets, AreCapturedWithin};
 ghost use Rattle.offload_run.specs.Output.{FlowsComeBack};
 
@@ -157,6 +157,7 @@ fn merge_records<R: Threads + Wait + Sync, S: Source + Send, K: Sink, G: Gate + 
     ensures engine { result ≡ Status.Ok → HasMerged options.blocks
         (λ rest. round_need (found_at (first_place file Ethernet 0) rest).packets) engine.new (S.left source.old)
         (S.left source.new) }
+    ensures home { IsMergeHome options.blocks engine.new }
     ensures not_usage { result ≡ Status.Usage → ⊥ }
     ensures later { S.faults source.old ≤ S.faults source.new }
     ensures later_sink { K.faults sink.old ≤ K.faults sink.new }
@@ -197,6 +198,7 @@ pub(crate) fn run_merge<R: Threads + Wait + Sync, S: Source + Send, K: Sink, G: 
     ensures blocks { HasBlocks options.blocks result }
     ensures engine { result ≡ Status.Ok → HasMerged options.blocks
         (λ given. round_need (reads Ethernet given).packets) engine.new (S.left source.old) (S.left source.new) }
+    ensures home { IsMergeHome options.blocks engine.new }
     ensures not_usage { result ≡ Status.Usage → ⊥ }
     ensures later { S.faults source.old ≤ S.faults source.new }
     ensures later_sink { K.faults sink.old ≤ K.faults sink.new }

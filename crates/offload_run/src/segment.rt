@@ -11,7 +11,7 @@ ghost use Rattle.pcap_io.specs.Readers.{place_of, source_of, SameLoan};
 ghost use Rattle.offload_model.specs.Passing.{segmenting, segmenting_whole, Answers, Passes, FrontUnless};
 ghost use Rattle.offload_words.specs.Segment.{IsInRange};
 ghost use Rattle.offload_run.specs.Ending.{ending_of, Ends, FlushesAt, HasBlocks};
-ghost use Rattle.offload_run.specs.Engines.{HasSegmented, records_need};
+ghost use Rattle.offload_run.specs.Engines.{HasSegmented, IsSegmentHome, records_need};
 ghost use Rattle.offload_run.specs.Segmenting.{GivesUp};
 
 use crate::ending::{finish, refused};
@@ -146,6 +146,7 @@ fn segment_records<S: Source, K: Sink>(
     ensures engine { result ≡ Status.Ok → HasSegmented blocks
         (λ rest. records_need (found_at (first_place file Offload 0) rest).packets) engine.new (S.left source.old)
         (S.left source.new) }
+    ensures home { IsSegmentHome blocks engine.new }
     ensures not_usage { result ≡ Status.Usage → ⊥ }
     ensures later { S.faults source.old ≤ S.faults source.new }
     ensures later_sink { K.faults sink.old ≤ K.faults sink.new }
@@ -180,6 +181,7 @@ pub(crate) fn run_segment<S: Source, K: Sink>(
     ensures blocks { HasBlocks options.blocks result }
     ensures engine { result ≡ Status.Ok → HasSegmented options.blocks
         (λ given. records_need (reads Offload given).packets) engine.new (S.left source.old) (S.left source.new) }
+    ensures home { IsSegmentHome options.blocks engine.new }
     ensures not_usage { result ≡ Status.Usage → ⊥ }
     ensures later { S.faults source.old ≤ S.faults source.new }
     ensures later_sink { K.faults sink.old ≤ K.faults sink.new }
