@@ -216,7 +216,7 @@ def make(name, sample, size, folder):
 # Programs.
 
 # What the launcher sets for the program.
-OWN_WORDS = {"GLIBC_TUNABLES": "glibc.malloc.hugetlb=1"}
+OWN_WORDS = {"GLIBC_TUNABLES": "glibc.malloc.hugetlb=1:glibc.malloc.top_pad=33554432"}
 
 
 def takes(*words):
