@@ -6,6 +6,7 @@ ghost use Rattle.net_bytes.specs.Bytes.{put16};
 ghost use Rattle.inet_sum.specs.Sum.{checksum_of};
 ghost use Rattle.inet_sum.specs.Stands.{StandsFor};
 ghost use Rattle.frame_layout.specs.Headers.{AreLaid};
+ghost use Rattle.frame_layout.specs.declared.layout.Layer.TheVariants.{Udp};
 ghost use Rattle.frame_layout.specs.Plain.{plain_headers};
 ghost use Rattle.frame_layout.specs.Candidate.{pseudo_header};
 ghost use Rattle.offload_model.specs.Edits.{put_sum as with_sum, with_sums};
@@ -86,13 +87,24 @@ fn put_sum(head: &mut [u8], ip: Header, header: Header, payload: Partial)
             let sum = sum_over(head, ip, TCP, at, 16, payload);
             set_tcp_sum(head, at, sum);
         }
-        Layer::Udp => {
-            if udp::checksum(head, at) != 0 {
-                let sum = not_zero(sum_over(head, ip, UDP, at, 6, payload));
-                set_udp_sum(head, at, sum);
-            }
-        }
+        Layer::Udp => put_udp_sum(head, ip, at, payload),
         _ => {}
+    }
+}
+
+/// The sum of the UDP header at the place, where it has one. With it one header's sum would be too long to be put
+/// together with its callers.
+fn put_udp_sum(head: &mut [u8], ip: Header, at: usize, payload: Partial)
+    requires inside { at + 8 ≤ length head.old }
+    requires addresses { AreAddressesWithin (length head.old) ip.layer ip.at }
+    requires few { length head.old + payload.len < 2 ^ 31 }
+    ensures summed { (bytes : List ℕ)
+        → StandsFor payload bytes
+        → head.new ++ bytes ≡ with_sum ip Udp at (head.old ++ bytes) }
+{
+    if udp::checksum(head, at) != 0 {
+        let sum = not_zero(sum_over(head, ip, UDP, at, 6, payload));
+        set_udp_sum(head, at, sum);
     }
 }
 
