@@ -15,7 +15,7 @@ ghost use Rattle.gro.specs.Chains.{packet_at};
 ghost use Rattle.gro.specs.Flows.{hash_of, place_of, AreFlows, Puts, HasRoom};
 ghost use Rattle.gro.specs.Engine.{IsAdded, IsChain, runs_of, AreRuns, HasPlaces, Grows, Takes, DoRise, IsReady};
 
-use crate::candidacy::{Addition, is_cut, judge};
+use crate::candidacy::{Addition, is_refused, judge};
 use crate::flow_hash::{flow_hash, hash_in};
 use crate::flows::Flows;
 use crate::run::{Run, progress_of};
@@ -350,7 +350,7 @@ impl Engine {
         requires slot { IsHeld slot.now }
         ensures takes { Takes segs (map packet_of packets.now) i self.old self.new }
     {
-        if self.flows.is_empty() && is_cut(&slot.skb, slot.original) {
+        if self.flows.is_empty() && is_refused(&slot.skb, slot.original) {
             return self.stand_alone(packets, i, slot);
         }
         let candidacy = judge(&slot.skb, slot.original);

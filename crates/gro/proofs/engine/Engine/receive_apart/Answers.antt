@@ -4,8 +4,8 @@ use Rattle.skb.specs.SkbState.{buffer_bytes}
 use Rattle.gro.specs.declared.slot.Slot.{Slot}
 use Rattle.gro.proofs.engine.Engine.receive_apart.Goals as goal
 
-pub returns-then-is_cut : goal.returns-then-is_cut
-returns-then-is_cut c = record { takes = c.stand_alone.ensures.takes c.args.segs }
+pub returns-then-is_refused : goal.returns-then-is_refused
+returns-then-is_refused c = record { takes = c.stand_alone.ensures.takes c.args.segs }
 
 pub stand_alone-requires-then-is_apart-clause-alone : goal.stand_alone-requires-then-is_apart-clause-alone
 stand_alone-requires-then-is_apart-clause-alone c =
