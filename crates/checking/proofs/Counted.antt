@@ -187,6 +187,7 @@ all_checked old new from to before after end first last start h =
       taken = λ done. subst (λ (t : ℕ). Told from.left to.left (TakesAll old.taken t from.place)) last
           (subst (λ (t : ℕ). Told from.left to.left (TakesAll t to.taken from.place)) first (counted.taken done));
       least = h.rests.least;
+      pauses = h.rests.pauses;
       later = h.rests.later;
       read = counted.read;
     }

@@ -6,6 +6,7 @@ use Rattle.off_io.specs.Told.{Told}
 use Rattle.checking.specs.Counts.{Counts, HasLanes, IsWithin}
 use Rattle.checking.specs.Checking.{counting}
 use Rattle.checking.specs.Tallies.{Tallies}
+use Rattle.rounds.specs.Handled.{FewPauses}
 use Rattle.rounds.specs.Merging.{options_of, TakesAll}
 use Rattle.rounds.specs.RoundsState.{RoundsState}
 use Rattle.rounds.specs.Reads.{Spot}
@@ -24,5 +25,6 @@ pub record Checked (old new : RoundsState) (from to : Spot) (before after : Coun
   pub same : (new.blocks ≡ old.blocks) × (options_of new ≡ options_of old) × (new.keep ≡ old.keep)
   pub taken : end ≡ ends.Done → Told from.left to.left (TakesAll old.taken new.taken from.place)
   pub least : old.taken ≤ new.taken
+  pub pauses : FewPauses old.empties old.pauses new.empties new.pauses
   pub later : from.faults ≤ to.faults
   pub read : end ≡ ends.ReadFault → Rose from.faults to.faults

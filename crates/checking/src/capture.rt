@@ -219,6 +219,8 @@ pub fn check_all<W: Works, S: Source>(
         (λ bytes left. min (rounds.old.taken + round_need (found_at (place_of reader.old) bytes).packets) (2 ^ 64 - 1)
         ≤ rounds.new.taken) }
     ensures least { rounds.old.taken ≤ rounds.new.taken }
+    ensures pauses { (rounds.old.pauses ≤ rounds.new.pauses)
+        × (min (rounds.old.empties + (rounds.new.pauses - rounds.old.pauses)) (2 ^ 64 - 1) ≤ rounds.new.empties) }
     ensures later { S.faults (source_of reader.old) ≤ S.faults (source_of reader.new) }
     ensures read { result ≡ CheckEnd.ReadFault → Rose (S.faults (source_of reader.old))
         (S.faults (source_of reader.new)) }

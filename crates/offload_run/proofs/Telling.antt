@@ -159,6 +159,7 @@ fresh o rounds = record {
   blocks = o.blocks;
   taken = 0;
   empties = 0;
+  pauses = 0;
   budget = o.budget;
   plan = plan_of o;
   keep = true;

@@ -101,6 +101,7 @@ pub(crate) fn make_rounds(
       blocks = options.blocks;
       taken = 0;
       empties = 0;
+      pauses = 0;
       budget = options.budget;
       plan = plan_of options;
       keep = keep;

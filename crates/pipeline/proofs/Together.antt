@@ -6,7 +6,7 @@ use Rattle.block_pool.specs.PoolState.{weighed}
 use Rattle.offload_model.specs.Written.{Options}
 use Rattle.rounds.specs.declared.round.RoundEnd.TheVariants as rounds
 use Rattle.rounds.specs.declared.round.RoundRead.{RoundRead}
-use Rattle.rounds.specs.Handled.{Ends, Ran, Rests, IsReadyAtEnd, Handled}
+use Rattle.rounds.specs.Handled.{Ends, FewPauses, Ran, Rests, IsReadyAtEnd, Handled}
 use Rattle.rounds.specs.Merging.{options_of}
 use Rattle.rounds.specs.Reads.{Spot, ReadRound, Reads, is_full}
 use Rattle.rounds.specs.RoundsState.{RoundsState, IntakeState}
@@ -15,7 +15,7 @@ use Rattle.pipeline.specs.declared.parcel.Parcel.{Parcel}
 use Rattle.pipeline.specs.Handled.{RanOn, HandledOn, MayGoOn, IsOut, Idle, MayBeHandled, ComesBack, blocks_out, weights_out}
 use Rattle.pipeline.specs.Parcels.{blocks_of, rounds_of, weights_sent}
 use Rattle.pipeline.specs.Reads.{ReadOn, IsAlone}
-use Rattle.rounds.proofs.Going.{counted_as}
+use Rattle.rounds.proofs.Going.{counted_as, few_none, few_then}
 use Rattle.rounds.proofs.Rows.{reads_least}
 use Rattle.pipeline.proofs.Rows.{none_known, rounds_append}
 
@@ -44,6 +44,7 @@ pub record Lent (state new : RoundsState) (intake : IntakeState) (home back : �
   pub same : (new.blocks ≡ state.blocks) × (options_of new ≡ options_of state) × (new.keep ≡ state.keep)
   pub all : new.home ≡ home
   pub after : new.taken ≡ back
+  pub pauses : FewPauses state.empties state.pauses new.empties new.pauses
 
 -- The first round was read and full, and alone in the ring as the sides began. What was received of all that was sent, and what wasn't,
 -- is known once they have joined.
@@ -75,6 +76,7 @@ module _ {T E : Type 0} (did : T → T → RoundRead → ℕ → Option E → Ty
     home = re.all ∙ all ∙ sym re.same.0;
     same = re.same;
     least = omega (arith, s.few, reads_least state.blocks state.budget first last s.on.more read_behind);
+    pauses = re.pauses;
     later = s.later;
   }
 
@@ -122,6 +124,7 @@ module _ {T E : Type 0} (did : T → T → RoundRead → ℕ → Option E → Ty
         named = named;
         same = re.same;
         taken = ap (λ (x : Spot). x.taken) stands;
+        pauses = re.pauses;
         stands = stands;
         nothing = same;
       }
@@ -185,6 +188,7 @@ idle_as old new at was same = record {
   named = λ h. ap (λ (s : RoundsState). weighed h s.stock) same;
   same = (ap (λ (s : RoundsState). s.blocks) same, ap options_of same, ap (λ (s : RoundsState). s.keep) same);
   taken = ap (λ (s : RoundsState). s.taken) same;
+  pauses = few_none old.empties old.pauses new.empties new.pauses (omega (arith, ap (λ (s : RoundsState). s.empties) same)) (ap (λ (s : RoundsState). s.pauses) same);
   stands = ap (λ (s : RoundsState). record at { taken = s.taken }) same;
   nothing = refl;
 }
@@ -229,6 +233,7 @@ module _ {T E : Type 0} (did : Options → T → T → RoundRead → ℕ → Opt
       home = h.rests.home;
       same = (h.rests.same.0 ∙ idle.same.0, h.rests.same.1 ∙ idle.same.1, h.rests.same.2 ∙ idle.same.2);
       least = omega (arith, h.rests.least, idle.taken);
+      pauses = few_then old.empties old.pauses mid.empties mid.pauses new.empties new.pauses idle.pauses h.rests.pauses;
       later = omega (arith, ap (λ (s : Spot). s.faults) idle.stands, h.rests.later);
     };
     named = λ x. omega (arith, h.named x, idle.named x, ap (λ (r : RoundRead). weights_of r.round x) same);
@@ -237,11 +242,11 @@ module _ {T E : Type 0} (did : Options → T → T → RoundRead → ℕ → Opt
 
   -- with the first round, from where it was read
   pub all_handled : (old mid new : RoundsState) (read : RoundRead) (from at to : Spot) (was is : T) (end : E) → ReadRound old.blocks old.budget from at read
-      → (mid.blocks ≡ old.blocks) × (options_of mid ≡ options_of old) × (mid.keep ≡ old.keep) → old.taken ≤ mid.taken
+      → (mid.blocks ≡ old.blocks) × (options_of mid ≡ options_of old) × (mid.keep ≡ old.keep) → (mid.empties ≡ old.empties) × (mid.pauses ≡ old.pauses) → old.taken ≤ mid.taken
       → ((h : ℕ → ℕ) → weighed h mid.stock + weights_of read.round h ≡ weighed h old.stock)
       → HandledOn (did (options_of mid)) stopped (ready (options_of mid) mid.keep) mid new read at to was is end
       → Handled (did (options_of old)) stopped (ready (options_of old) old.keep) 0 old new from to was is end
-  all_handled old mid new read from at to was is end r same least named h =
+  all_handled old mid new read from at to was is end r same counts least named h =
       let ran = ran_as (options_of old) (options_of mid) old.blocks mid.blocks old.budget mid.budget read read at at to was was is end same.1 same.0
       (ap (λ (o : Options). o.budget) same.1) refl refl refl h.ran in
       let reads : Reads old.blocks old.budget from (read ∷ ran.rest) to = (at, r, ran.closes, ran.reads) in
@@ -251,6 +256,8 @@ module _ {T E : Type 0} (did : Options → T → T → RoundRead → ℕ → Opt
           home = h.rests.home;
           same = (h.rests.same.0 ∙ same.0, h.rests.same.1 ∙ same.1, h.rests.same.2 ∙ same.2);
           least = omega (arith, h.rests.least, least);
+          pauses = few_then old.empties old.pauses mid.empties mid.pauses new.empties new.pauses
+              (few_none old.empties old.pauses mid.empties mid.pauses (omega (arith, counts.0)) counts.1) h.rests.pauses;
           later = omega (arith, r.later, h.rests.later);
         };
         named = λ x. omega (arith, h.named x, named x);
@@ -264,6 +271,9 @@ module _ {T E : Type 0} (did : Options → T → T → RoundRead → ℕ → Opt
       (named : (h : ℕ → ℕ) → weighed h mid.stock ≡ weighed h old.stock + weights_of read.round h) (counted : ready (options_of old) old.keep (0 + length read.round.packets) between) where
     put_home : mid.home ≡ mid.blocks
     put_home = ap (λ (s : RoundsState). s.home) put ∙ out ∙ sym (ap (λ (s : RoundsState). s.blocks) put)
+
+    put_few : FewPauses old.empties old.pauses mid.empties mid.pauses
+    put_few = few_none old.empties old.pauses mid.empties mid.pauses (omega (arith, ap (λ (s : RoundsState). s.empties) put)) (ap (λ (s : RoundsState). s.pauses) put)
 
     -- the first round ended it
     pub put_ends : (end : E) → did (options_of old) was between read 0 (Some end)
@@ -282,6 +292,7 @@ module _ {T E : Type 0} (did : Options → T → T → RoundRead → ℕ → Opt
         home = put_home;
         same = (ap (λ (s : RoundsState). s.blocks) put, ap options_of put, ap (λ (s : RoundsState). s.keep) put);
         least = omega (arith, ap (λ (s : RoundsState). s.taken) put);
+        pauses = put_few;
         later = omega arith;
       };
       named = named;
@@ -309,6 +320,7 @@ module _ {T E : Type 0} (did : Options → T → T → RoundRead → ℕ → Opt
             home = h.rests.home;
             same = (h.rests.same.0 ∙ ap (λ (s : RoundsState). s.blocks) put, h.rests.same.1 ∙ ap options_of put, h.rests.same.2 ∙ ap (λ (s : RoundsState). s.keep) put);
             least = omega (arith, h.rests.least, ap (λ (s : RoundsState). s.taken) put);
+            pauses = few_then old.empties old.pauses mid.empties mid.pauses new.empties new.pauses put_few h.rests.pauses;
             later = h.rests.later;
           };
           named = λ x. omega (arith, h.named x, named x);

@@ -7,7 +7,7 @@ use Rattle.pcap_io.specs.Places.{IsReady}
 use Rattle.rounds.specs.declared.round.RoundEnd.TheVariants as ends
 use Rattle.rounds.specs.declared.round.RoundRead.{RoundRead}
 use Rattle.rounds.specs.Benches.{IsRead}
-use Rattle.rounds.specs.Handled.{Ends, IsReadyAtEnd, Rests}
+use Rattle.rounds.specs.Handled.{Ends, FewPauses, IsReadyAtEnd, Rests}
 use Rattle.rounds.specs.Merging.{options_of}
 use Rattle.rounds.specs.Reads.{Spot, Reads, is_full}
 use Rattle.rounds.specs.RoundsState.{RoundsState}
@@ -54,6 +54,7 @@ pub record Idle {T : Type 0} (old new : RoundsState) (from to : Spot) (was is : 
   pub named : (h : ℕ → ℕ) → weighed h new.stock ≡ weighed h old.stock
   pub same : (new.blocks ≡ old.blocks) × (options_of new ≡ options_of old) × (new.keep ≡ old.keep)
   pub taken : new.taken ≡ old.taken
+  pub pauses : FewPauses old.empties old.pauses new.empties new.pauses
   pub stands : to ≡ from
   pub nothing : is ≡ was
 

@@ -1,5 +1,5 @@
 //! What comes in at the desk while rounds are read.
-ghost use Rattle.std.specs.Prelude.{◌≡◌, ℕ, ◌+◌, ◌<◌, ◌≤◌, false, MatchOption, [], ◌∷◌, ◌++◌};
+ghost use Rattle.std.specs.Prelude.{◌≡◌, ℕ, ◌+◌, ◌-◌, ◌<◌, ◌≤◌, ◌^◌, true, false, min, MatchOption, [], ◌∷◌, ◌++◌};
 ghost use Rattle.block_pool.specs.PoolState.{home, weighed};
 ghost use Rattle.rtrb.specs.Ring.{received};
 ghost use Rattle.pipeline.specs.Desks.{brought_to, weights_to};
@@ -39,6 +39,7 @@ impl<W: Post + Drop> Desk<W> {
             ≡ weighed h pool.old.blocks + weights_to self.new h }
         ensures same { (pool.new.made ≡ pool.old.made) × (pool.new.taken ≡ pool.old.taken) }
         ensures rises { home pool.old ≤ home pool.new }
+        ensures taker { self.new.taker ≡ self.old.taker }
     {
         if self.shelves.len() == self.shelves.capacity() {
             return false;
@@ -64,6 +65,10 @@ impl<W: Post + Drop> Desk<W> {
             ≡ weighed h pool.old.blocks + weights_to self.new h }
         ensures same { (pool.new.made ≡ pool.old.made) × (pool.new.taken ≡ pool.old.taken) }
         ensures rises { home pool.old ≤ home pool.new }
+        ensures came { result ≡ true → home pool.old < home pool.new }
+        ensures refused { result ≡ false → home pool.old < pool.old.made
+            → min (self.old.taker.pass.empties + 1) (2 ^ 64 - 1) ≤ self.new.taker.pass.empties }
+        ensures asked { self.old.taker.pass.empties ≤ self.new.taker.pass.empties }
     {
         let before = pool.home();
         let came = self.post.bring_list(&mut self.taker, pool);
@@ -84,6 +89,7 @@ impl<W: Post + Drop> Desk<W> {
             ≡ weighed h pool.old.blocks + weights_to self.new h }
         ensures same { (pool.new.made ≡ pool.old.made) × (pool.new.taken ≡ pool.old.taken) }
         ensures rises { home pool.old ≤ home pool.new }
+        ensures asked { self.old.taker.pass.empties ≤ self.new.taker.pass.empties }
     {
         for turn in 0..u64::MAX {
             if self.meet_list(pool) || self.meet(pool, LOOKS, false) {
@@ -103,19 +109,22 @@ impl<W: Post + Drop> Desk<W> {
 
     // As many blocks as are needed, however long that takes, unless the other side has stopped. Where one round is out
     // alone, no list of it is due, and none is found, they are the rest of that round's: then the round that is read is
-    // paused, if it isn't yet.
+    // paused, if it isn't yet. It ends with fewer only behind a take that found no list.
     fn meet_needed(&mut self, pool: &mut Pool, need: u32)
         ensures sum { home pool.new + brought_to self.old ≡ home pool.old + brought_to self.new }
         ensures named { (h : ℕ → ℕ) → weighed h pool.new.blocks + weights_to self.old h
             ≡ weighed h pool.old.blocks + weights_to self.new h }
         ensures same { (pool.new.made ≡ pool.old.made) × (pool.new.taken ≡ pool.old.taken) }
         ensures rises { home pool.old ≤ home pool.new }
+        ensures refused { need ≤ pool.old.made → home pool.new < need
+            → min (self.old.taker.pass.empties + 1) (2 ^ 64 - 1) ≤ self.new.taker.pass.empties }
+        ensures asked { self.old.taker.pass.empties ≤ self.new.taker.pass.empties }
     {
         for _ in 0..u64::MAX {
-            if pool.home() >= need || self.stopped {
+            if pool.home() >= need {
                 return;
             }
-            if self.paused || self.away.may_bring() {
+            if !self.stopped && (self.paused || self.away.may_bring()) {
                 self.meet_any(pool);
             } else if !self.meet_list(pool) {
                 self.paused = true;
@@ -126,13 +135,14 @@ impl<W: Post + Drop> Desk<W> {
         unreachable!()
     }
 
-    // All lists that have come: their blocks, which somebody just had, are taken next.
+    // All further lists that have come: their blocks, which somebody just had, are taken next.
     fn meet_lists(&mut self, pool: &mut Pool)
         ensures sum { home pool.new + brought_to self.old ≡ home pool.old + brought_to self.new }
         ensures named { (h : ℕ → ℕ) → weighed h pool.new.blocks + weights_to self.old h
             ≡ weighed h pool.old.blocks + weights_to self.new h }
         ensures same { (pool.new.made ≡ pool.old.made) × (pool.new.taken ≡ pool.old.taken) }
         ensures rises { home pool.old ≤ home pool.new }
+        ensures asked { self.old.taker.pass.empties ≤ self.new.taker.pass.empties }
     {
         for _ in 0..MOST_LISTS {
             if !self.meet_list(pool) {
@@ -148,6 +158,7 @@ impl<W: Post + Drop> Desk<W> {
             ≡ weighed h pool.old.blocks + weights_to self.new h }
         ensures same { (pool.new.made ≡ pool.old.made) × (pool.new.taken ≡ pool.old.taken) }
         ensures rises { home pool.old ≤ home pool.new }
+        ensures taker { self.new.taker ≡ self.old.taker }
     {
         for _ in 0..=SHELVES {
             let waits = self.shelves.is_empty() && self.awaits();
@@ -164,22 +175,30 @@ impl<W: Post + Drop> Desk<W> {
             ≡ weighed h pool.old.blocks + weights_to self.new h }
         ensures same { (pool.new.made ≡ pool.old.made) × (pool.new.taken ≡ pool.old.taken) }
         ensures rises { home pool.old ≤ home pool.new }
+        ensures looked { home pool.new ≡ home pool.old → home pool.old < pool.old.made
+            → min (self.old.taker.pass.empties + 1) (2 ^ 64 - 1) ≤ self.new.taker.pass.empties }
+        ensures asked { self.old.taker.pass.empties ≤ self.new.taker.pass.empties }
     {
         self.meet_tokens(pool);
-        self.meet_lists(pool);
+        if self.meet_list(pool) {
+            self.meet_lists(pool);
+        }
     }
 }
 
 impl<W: Post + Drop> Supply for Desk<W> {
+    ghost use Rattle.std.specs.Prelude.{true};
     ghost use Rattle.pipeline.specs.Desks.{brought_to, weights_to};
 
     ghost brought = { brought_to };
 
     ghost weights = { weights_to };
 
-    ghost counts = { false };
+    ghost counts = { true };
 
-    ghost refusals = { λ _. 0 };
+    ghost refusals = { λ d. d.taker.pass.empties };
+
+    ghost looks = { true };
 
     ghost owed = { λ _. 0 };
 

@@ -1,5 +1,5 @@
 //! What comes home once both sides have ended.
-ghost use Rattle.std.specs.Prelude.{◌≡◌, ℕ, ◌+◌, ◌≤◌};
+ghost use Rattle.std.specs.Prelude.{◌≡◌, ℕ, ◌+◌, ◌-◌, ◌≤◌, ◌^◌, min};
 ghost use Rattle.std.specs.Arc.{arc_value};
 ghost use Rattle.block_pool.specs.Giving.{given_by, weights_given};
 ghost use Rattle.block_pool.specs.Listed.{blocks_in};
@@ -96,6 +96,7 @@ pub(crate) fn bring_home<R: Wait>(
       stock = intake.new.stock;
       empties = intake.new.empties;
     } }
+    ensures empties { intake.new.empties ≡ min (intake.old.empties + taker.pass.empties) (2 ^ 64 - 1) }
     ensures home { intake.new.home + blocks_in taker.pass.taken ≡ intake.old.home
         + homes_of (known_items tokens.old) + home kept + shelved shelves.items + home taker.left + given_by giver }
     ensures named { (h : ℕ → ℕ) → weighed h intake.new.stock + weights_listed h taker.pass.taken

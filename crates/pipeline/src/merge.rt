@@ -52,6 +52,8 @@ pub fn merge_beside<R: Threads + Wait + Sync, S: Source + Send, K: Sink, G: Gate
         (λ bytes left. min (rounds.old.taken + round_need (found_at (place_of reader.old) bytes).packets) (2 ^ 64 - 1)
         ≤ rounds.new.taken) }
     ensures least { rounds.old.taken ≤ rounds.new.taken }
+    ensures pauses { (rounds.old.pauses ≤ rounds.new.pauses)
+        × (min (rounds.old.empties + (rounds.new.pauses - rounds.old.pauses)) (2 ^ 64 - 1) ≤ rounds.new.empties) }
     ensures captured { Told (S.left (source_of reader.old)) (S.left (source_of reader.new))
         (HoldsCaptured rounds.old.blocks rounds.old.budget (place_of reader.old) result) }
     ensures later { S.faults (source_of reader.old) ≤ S.faults (source_of reader.new) }

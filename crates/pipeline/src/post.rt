@@ -1,5 +1,5 @@
 //! Where the side that reads waits for blocks.
-ghost use Rattle.std.specs.Prelude.{◌≡◌, ℕ, ◌+◌, ◌≤◌, [], ◌∷◌, ◌++◌};
+ghost use Rattle.std.specs.Prelude.{◌≡◌, ℕ, ◌+◌, ◌-◌, ◌<◌, ◌≤◌, ◌^◌, [], ◌∷◌, ◌++◌, min, true, false};
 ghost use Rattle.std.specs.Arc.{arc_value};
 ghost use Rattle.block_pool.specs.PassState.{SharedState};
 ghost use Rattle.block_pool.specs.PoolState.{home, weighed};
@@ -31,7 +31,8 @@ pub(crate) trait Post {
         ensures ring { SameConsumer tokens.old tokens.new }
         ensures token { received tokens.new ≡ received tokens.old ++ result ∷ [] };
 
-    /// Whether a list has come: its blocks are home then, as far as there are places.
+    /// Whether a list has come: its blocks are home then, as far as there are places. Where blocks are out it says no
+    /// only behind a take that found none.
     fn bring_list(&self, taker: &mut Taker, pool: &mut Pool) -> bool
         ensures sum { home pool.new + listed_home taker.old.pass taker.old.left
             ≡ home pool.old + listed_home taker.new.pass taker.new.left }
@@ -39,6 +40,10 @@ pub(crate) trait Post {
             ≡ weighed h pool.old.blocks + weights_home h taker.new.pass taker.new.left }
         ensures same { (pool.new.made ≡ pool.old.made) × (pool.new.taken ≡ pool.old.taken) }
         ensures rises { home pool.old ≤ home pool.new }
+        ensures came { result ≡ true → home pool.old < home pool.new }
+        ensures refused { result ≡ false → home pool.old < pool.old.made
+            → min (taker.old.pass.empties + 1) (2 ^ 64 - 1) ≤ taker.new.pass.empties }
+        ensures asked { taker.old.pass.empties ≤ taker.new.pass.empties }
         ensures lists { arc_value taker.new.lists ≡ arc_value taker.old.lists };
 
     /// Says that who gives a list is to wake this side from here on. It looks once more before it sleeps.

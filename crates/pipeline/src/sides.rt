@@ -6,7 +6,7 @@ ghost use Rattle.pcap_io.specs.declared.heads.Link.TheVariants.{Ethernet};
 ghost use Rattle.pcap_io.specs.Places.{IsReady};
 ghost use Rattle.pcap_io.specs.Readers.{place_of, source_of, SameLoan};
 ghost use Rattle.rounds.specs.Benches.{options_at, HasRoom, IsLent, IsSameBench, Lends};
-ghost use Rattle.rounds.specs.Handled.{Ends, IsReadyAtEnd};
+ghost use Rattle.rounds.specs.Handled.{Ends, FewPauses, IsReadyAtEnd};
 ghost use Rattle.rounds.specs.Reads.{is_full as is_full_end, reader_at};
 ghost use Rattle.rtrb.specs.Ring.{sent, received, SameProducer, SameConsumer};
 ghost use Rattle.pipeline.specs.Desks.{brought_to, weights_to};
@@ -60,8 +60,10 @@ fn read_side<N: Naming, R: Wait, P: Post + Drop, S: Source>(
     ensures named { (h : ℕ → ℕ) → weighed h intake.new.stock + weights_sent h (sent supply.new.out)
         + weights_to supply.old.desk h ≡ weighed h intake.old.stock + weights_sent h (sent supply.old.out)
         + weights_to supply.new.desk h }
-    ensures same { (intake.new.blocks ≡ intake.old.blocks)
-        × (intake.new.budget ≡ intake.old.budget) }
+    ensures paused { FewPauses supply.old.desk.taker.pass.empties intake.old.pauses
+        supply.new.desk.taker.pass.empties intake.new.pauses }
+    ensures same { (intake.new.blocks ≡ intake.old.blocks) × (intake.new.budget ≡ intake.old.budget)
+        × (intake.new.empties ≡ intake.old.empties) }
     ensures later { S.faults (source_of reader.old) ≤ S.faults (source_of reader.new) }
 {
     if !supply.desk.begin() {
@@ -211,8 +213,10 @@ pub(crate) fn run_sides<
     ensures named { (h : ℕ → ℕ) → weighed h intake.new.stock + weights_sent h (sent supply.new.out)
         + weights_to supply.old.desk h ≡ weighed h intake.old.stock + weights_sent h (sent supply.old.out)
         + weights_to supply.new.desk h }
-    ensures same_intake { (intake.new.blocks ≡ intake.old.blocks)
-        × (intake.new.budget ≡ intake.old.budget) }
+    ensures paused { FewPauses supply.old.desk.taker.pass.empties intake.old.pauses
+        supply.new.desk.taker.pass.empties intake.new.pauses }
+    ensures same_intake { (intake.new.blocks ≡ intake.old.blocks) × (intake.new.budget ≡ intake.old.budget)
+        × (intake.new.empties ≡ intake.old.empties) }
     ensures later { S.faults (source_of reader.old) ≤ S.faults (source_of reader.new) }
     ensures handled { MatchOption result ((received from.new ≡ []) × (into.new ≡ into.old))
         (λ end. Ends (H.did handler.now (options_at bench.old)) H.stopped 0 into.old into.new
@@ -246,8 +250,11 @@ pub(crate) fn run_sides<
                 + weights_to supply.entry.now.desk h
                 ≡ weighed h intake.entry.now.stock + weights_sent h (sent supply.entry.now.out)
                 + weights_to supply.exit.now.desk h }
+            ensures paused { FewPauses supply.entry.now.desk.taker.pass.empties intake.entry.now.pauses
+                supply.exit.now.desk.taker.pass.empties intake.exit.now.pauses }
             ensures same { (intake.exit.now.blocks ≡ intake.entry.now.blocks)
-                × (intake.exit.now.budget ≡ intake.entry.now.budget) }
+                × (intake.exit.now.budget ≡ intake.entry.now.budget)
+                × (intake.exit.now.empties ≡ intake.entry.now.empties) }
             ensures later { S.faults (source_of reader.entry.now) ≤ S.faults (source_of reader.exit.now) }
         { read_side(rt, reader, intake, supply) },
         &mut || -> Option<E>

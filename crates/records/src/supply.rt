@@ -21,6 +21,9 @@ pub trait Supply {
     /// How often it said no, where it counts.
     ghost refusals: { Self → ℕ };
 
+    /// Whether it looks for blocks also where none is needed.
+    ghost looks: { Bool };
+
     /// How many blocks will come yet, at least, unless whoever has them keeps them.
     ghost owed: { Self → ℕ };
 
@@ -35,6 +38,8 @@ pub trait Supply {
         ensures same { (pool.new.made ≡ pool.old.made) × (pool.new.taken ≡ pool.old.taken) }
         ensures enough { result ≡ true → need ≤ home pool.new }
         ensures refused { counts ≡ true → need ≤ pool.old.made → result ≡ false
+            → min (refusals self.old + 1) (2 ^ 64 - 1) ≤ refusals self.new }
+        ensures looked { looks ≡ true → need ≡ 0 → home pool.new ≡ home pool.old → home pool.old < pool.old.made
             → min (refusals self.old + 1) (2 ^ 64 - 1) ≤ refusals self.new }
         ensures asked { refusals self.old ≤ refusals self.new }
         ensures owed { owed self.old + brought self.old ≤ owed self.new + brought self.new }
@@ -57,6 +62,8 @@ impl Supply for AllHome {
     ghost counts = { false };
 
     ghost refusals = { λ _. 0 };
+
+    ghost looks = { false };
 
     ghost owed = { λ _. 0 };
 

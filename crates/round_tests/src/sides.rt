@@ -47,6 +47,8 @@ impl<N: Stocked> Supply for Shelf<N> {
 
     ghost refusals = { λ _. 0 };
 
+    ghost looks = { false };
+
     ghost owed = { λ s. home s.pool };
 
     ghost ended = { λ _. true };
@@ -77,6 +79,8 @@ impl Supply for NoneComes {
     ghost counts = { false };
 
     ghost refusals = { λ _. 0 };
+
+    ghost looks = { false };
 
     ghost owed = { λ _. 65536 };
 

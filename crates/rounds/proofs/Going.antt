@@ -1,8 +1,8 @@
 -- Rounds that were handled, one after another.
-use Rattle.std.proofs.Common.{◌≡◌, ◌∙◌, ◌+◌, ℕ, List, [], ◌∷◌, ◌++◌, Option, None, Bool, inl, refl, ap, subst, length, arith}
+use Rattle.std.proofs.Common.{◌≡◌, ◌∙◌, ◌⊎◌, ◌+◌, ◌-◌, ◌≤◌, ◌^◌, ℕ, min, List, [], ◌∷◌, ◌++◌, Option, None, Bool, true, inl, inr, refl, ap, subst, length, arith}
 use Rattle.offload_model.specs.Written.{Options}
 use Rattle.rounds.specs.declared.round.RoundRead.{RoundRead}
-use Rattle.rounds.specs.Handled.{Went, Ends, IsReadyAt, Rests, Stepped}
+use Rattle.rounds.specs.Handled.{Went, Ends, FewPauses, IsReadyAt, Rests, Stepped}
 use Rattle.rounds.specs.Merging.{options_of}
 use Rattle.rounds.specs.Reads.{Spot}
 use Rattle.rounds.specs.RoundsState.{RoundsState}
@@ -50,10 +50,30 @@ module _ {T E : Type 0} (did : Options → T → T → RoundRead → ℕ → Opt
       (subst (λ (x : ℕ). Stepped (did (options_of old)) (ready (options_of old) now.keep) x now.budget k from to was is result) same.0
       (subst (λ (x : Options). Stepped (did x) (ready x now.keep) now.blocks now.budget k from to was is result) same.1 s)))
 
+-- more takes that found nothing, and no pause more
+pub few_later : (e p e' p' e'' p'' : ℕ) → FewPauses e p e' p' → e' ≤ e'' → p'' ≡ p' → FewPauses e p e'' p''
+few_later e p e' p' e'' p'' few later same = (omega (arith, few.0, same), omega (arith, few.1, later, same))
+
+-- one more pause at most, behind a take that found nothing
+pub few_paused : (counts : Bool) → counts ≡ true → (e p e' p' e'' p'' : ℕ) → FewPauses e p e' p' → e' ≤ e'' → p' ≤ p''
+    → (p'' ≡ p') ⊎ ((p'' ≡ min (p' + 1) (2 ^ 64 - 1)) × (counts ≡ true → min (e' + 1) (2 ^ 64 - 1) ≤ e'')) → FewPauses e p e'' p''
+few_paused counts is e p e' p' e'' p'' few later least (inl same) = few_later e p e' p' e'' p'' few later same
+few_paused counts is e p e' p' e'' p'' few later least (inr rose) =
+    (omega (arith, few.0, least), omega (arith, few.0, few.1, later, least, rose.0, rose.1 is))
+
+-- both, one after the other
+pub few_then : (e p e' p' e'' p'' : ℕ) → FewPauses e p e' p' → FewPauses e' p' e'' p'' → FewPauses e p e'' p''
+few_then e p e' p' e'' p'' a b = (omega (arith, a.0, b.0), omega (arith, a.0, a.1, b.0, b.1))
+
+-- none
+pub few_none : (e p e' p' : ℕ) → e ≤ e' → p' ≡ p → FewPauses e p e' p'
+few_none e p e' p' later same = (omega (arith, same), omega (arith, later, same))
+
 pub rests_then : (old now new : RoundsState) (from at to : Spot) → Rests old now from at → Rests now new at to → Rests old new from to
 rests_then old now new from at to a b = record {
   home = b.home;
   same = (b.same.0 ∙ a.same.0, b.same.1 ∙ a.same.1, b.same.2 ∙ a.same.2);
   least = omega (arith, a.least, b.least);
+  pauses = few_then old.empties old.pauses now.empties now.pauses new.empties new.pauses a.pauses b.pauses;
   later = omega (arith, a.later, b.later);
 }

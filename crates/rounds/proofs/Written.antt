@@ -328,6 +328,7 @@ all_merged at_sink file ready old new from to before after end is_file h =
       same = h.rests.same;
       taken = ended.taken;
       least = h.rests.least;
+      pauses = h.rests.pauses;
       captured = ended.captured;
       later = h.rests.later;
       later_sink = sank.later;

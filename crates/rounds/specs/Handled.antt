@@ -1,5 +1,5 @@
 -- What was done with rounds that were read, one after another.
-use Rattle.std.specs.Prelude.{ℕ, ◌≡◌, ◌⊎◌, ◌+◌, ◌≤◌, ◌^◌, Option, None, Some, List, [], ◌∷◌, ◌++◌, length}
+use Rattle.std.specs.Prelude.{ℕ, ◌≡◌, ◌⊎◌, ◌+◌, ◌-◌, ◌≤◌, ◌^◌, min, Option, None, Some, List, [], ◌∷◌, ◌++◌, length}
 use Rattle.block_pool.specs.PoolState.{weighed}
 use Rattle.rounds.specs.declared.round.RoundEnd.TheVariants as ends
 use Rattle.rounds.specs.declared.round.RoundRead.{RoundRead}
@@ -31,11 +31,18 @@ pub record Ran {T E : Type 0} (did : T → T → RoundRead → ℕ → Option E 
 
 -- ---- the rounds and the reader
 
+-- As many more takes found no list as reads were paused more, unless their count stands at its last value: both counts
+-- before, and after.
+abbrev pub FewPauses : ℕ → ℕ → ℕ → ℕ → Type 0
+FewPauses empties pauses empties' pauses' =
+    (pauses ≤ pauses') × (min (empties + (pauses' - pauses)) (2 ^ 64 - 1) ≤ empties')
+
 -- all blocks are home, and nothing else is as it wasn't
 pub record Rests (old new : RoundsState) (from to : Spot) : Type 0 where
   pub home : new.home ≡ new.blocks
   pub same : (new.blocks ≡ old.blocks) × (options_of new ≡ options_of old) × (new.keep ≡ old.keep)
   pub least : old.taken ≤ new.taken
+  pub pauses : FewPauses old.empties old.pauses new.empties new.pauses
   pub later : from.faults ≤ to.faults
 
 -- of no more packets than this

@@ -16,6 +16,7 @@ use Rattle.rounds.specs.declared.merge.Step.{Step}
 use Rattle.rounds.specs.declared.merge.Step.TheVariants as steps
 use Rattle.rounds.specs.declared.round.RoundRead.{RoundRead}
 use Rattle.rounds.specs.Merging.{ending_of, options_of, is_worked, Puts, GivesUp, Ahead, TakesAll, HoldsCaptured}
+use Rattle.rounds.specs.Handled.{FewPauses}
 use Rattle.rounds.specs.Reads.{Spot}
 use Rattle.rounds.specs.RoundsState.{RoundsState}
 
@@ -88,6 +89,7 @@ pub record Merged (old new : RoundsState) (from to : Spot) (before after : Sunk)
   pub same : (new.blocks ≡ old.blocks) × (options_of new ≡ options_of old) × (new.keep ≡ old.keep)
   pub taken : end ≡ ends.Done → Told from.left to.left (TakesAll from.taken to.taken from.place)
   pub least : old.taken ≤ new.taken
+  pub pauses : FewPauses old.empties old.pauses new.empties new.pauses
   pub captured : Told from.left to.left (HoldsCaptured old.blocks old.budget from.place end)
   pub later : from.faults ≤ to.faults
   pub later_sink : before.faults ≤ after.faults

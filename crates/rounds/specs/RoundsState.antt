@@ -1,5 +1,6 @@
 -- What a contract sees of rounds: which blocks are home, how many these are, how many were made and were taken, how
--- often a take found no list while a round was read beside work, and of a round what it holds.
+-- often a take found no list while a round was read beside work, how often such a round was paused, and of a round
+-- what it holds.
 use Rattle.std.specs.Prelude.{ℕ, Bool, List}
 use Rattle.raw_block.specs.Views.{SoleState}
 use Rattle.gro.specs.declared.slot.Slot.{Slot}
@@ -14,6 +15,7 @@ pub record RoundsState : Type 0 where
   pub blocks : ℕ
   pub taken : ℕ
   pub empties : ℕ
+  pub pauses : ℕ
   pub budget : ℕ
   pub plan : Plan
   pub keep : Bool
@@ -25,6 +27,7 @@ pub record IntakeState : Type 0 where
   pub blocks : ℕ
   pub taken : ℕ
   pub empties : ℕ
+  pub pauses : ℕ
   pub budget : ℕ
 
 -- of the side that works: how many places it has for what is given back, for how many blocks, how many packets a round

@@ -76,7 +76,7 @@ fn work_beside<'a, R: Threads + Wait + Sync, N: ListName + Send, W: Works, S: So
         + weights_home h more.old.taker.pass more.old.taker.left
         ≡ weighed h intake.old.stock + weights_home h more.new.taker.pass more.new.taker.left }
     ensures intake { (intake.new.blocks ≡ intake.old.blocks) × (intake.new.budget ≡ intake.old.budget)
-        × (intake.new.empties ≡ intake.old.empties) }
+        × (intake.new.empties ≡ intake.old.empties) × (intake.new.pauses ≡ intake.old.pauses) }
     ensures budget { (1 ≤ intake.old.budget) × (intake.old.budget ≤ 4096) }
     ensures taken { min (intake.old.taken + (round_of result.0).blocks) (2 ^ 64 - 1) ≤ intake.new.taken }
     ensures least { intake.old.taken ≤ intake.new.taken }
@@ -130,7 +130,8 @@ fn work_beside<'a, R: Threads + Wait + Sync, N: ListName + Send, W: Works, S: So
                 + weights_home h more.exit.now.taker.pass more.exit.now.taker.left }
             ensures intake { (intake.exit.now.blocks ≡ intake.entry.now.blocks)
                 × (intake.exit.now.budget ≡ intake.entry.now.budget)
-                × (intake.exit.now.empties ≡ intake.entry.now.empties) }
+                × (intake.exit.now.empties ≡ intake.entry.now.empties)
+                × (intake.exit.now.pauses ≡ intake.entry.now.pauses) }
             ensures budget { (1 ≤ intake.entry.now.budget) × (intake.entry.now.budget ≤ 4096) }
             ensures taken { min (intake.entry.now.taken + (round_of result).blocks) (2 ^ 64 - 1)
                 ≤ intake.exit.now.taken }
@@ -217,6 +218,7 @@ impl Rounds {
             self.old.taken self.new.taken paused) }
         ensures rose { IfPaused result.1 (λ _. min (self.old.empties + 1) (2 ^ 64 - 1) ≤ self.new.empties) }
         ensures later_empties { self.old.empties ≤ self.new.empties }
+        ensures unpaused { self.new.pauses ≡ self.old.pauses }
         ensures home { self.new.home + blocks_out result.0 + (round_of result.1).blocks ≡ self.old.blocks }
         ensures named { (h : ℕ → ℕ) → weighed h self.new.stock + weights_out result.0 h
             + weights_of (round_of result.1) h ≡ weighed h self.old.stock + weights_of round h }
@@ -289,6 +291,7 @@ impl Rounds {
             self.old.taken self.new.taken paused) }
         ensures rose { IfPaused result.1 (λ _. min (self.old.empties + 1) (2 ^ 64 - 1) ≤ self.new.empties) }
         ensures later_empties { self.old.empties ≤ self.new.empties }
+        ensures unpaused { self.new.pauses ≡ self.old.pauses }
         ensures home { self.new.home + blocks_out result.0 + (round_of result.1).blocks ≡ self.old.blocks }
         ensures named { (h : ℕ → ℕ) → weighed h self.new.stock + weights_out result.0 h
             + weights_of (round_of result.1) h ≡ weighed h self.old.stock + weights_of round h }
@@ -339,7 +342,8 @@ impl Rounds {
         ensures named { (h : ℕ → ℕ) → weighed h self.new.stock + weights_of result.round h
             ≡ weighed h self.old.stock + weights_of paused.round h }
         ensures same { (self.new.blocks ≡ self.old.blocks) × (options_of self.new ≡ options_of self.old)
-            × (self.new.keep ≡ self.old.keep) × (self.new.empties ≡ self.old.empties) }
+            × (self.new.keep ≡ self.old.keep) × (self.new.empties ≡ self.old.empties)
+            × (self.new.pauses ≡ self.old.pauses) }
         ensures budget { (1 ≤ self.old.budget) × (self.old.budget ≤ 4096) }
         ensures taken { min (self.old.taken + (result.round.blocks - paused.round.blocks)) (2 ^ 64 - 1)
             ≤ self.new.taken }

@@ -1,5 +1,5 @@
 //! Rounds are read while another thread works those before, and paused where blocks don't come.
-ghost use Rattle.std.specs.Prelude.{◌≡◌, ◌≢◌, ◌+◌, ◌-◌, ◌<◌, ◌≤◌, ◌^◌, length, map, min, false, true, ℕ};
+ghost use Rattle.std.specs.Prelude.{◌≡◌, ◌≢◌, ◌⊎◌, ◌+◌, ◌-◌, ◌<◌, ◌≤◌, ◌^◌, length, map, min, false, true, ℕ};
 ghost use Rattle.std.specs.List.{AllByRecursion};
 ghost use Rattle.block_pool.specs.PoolState.{weighed};
 ghost use Rattle.off_io.specs.Faults.{Rose};
@@ -45,8 +45,11 @@ impl Intake {
         ensures named { (h : ℕ → ℕ) → weighed h self.new.stock + weights_of (round_of result) h + H.weights more.old h
             ≡ weighed h self.old.stock + H.weights more.new h }
         ensures within { (round_of result).blocks ≤ self.old.blocks }
+        ensures refused { H.counts ≡ true → IfPaused result (λ _.
+            min (H.refusals more.old + 1) (2 ^ 64 - 1) ≤ H.refusals more.new) }
+        ensures asked { H.refusals more.old ≤ H.refusals more.new }
         ensures same { (self.new.blocks ≡ self.old.blocks) × (self.new.budget ≡ self.old.budget)
-            × (self.new.empties ≡ self.old.empties) }
+            × (self.new.empties ≡ self.old.empties) × (self.new.pauses ≡ self.old.pauses) }
         ensures budget { (1 ≤ self.old.budget) × (self.old.budget ≤ 4096) }
         ensures taken { min (self.old.taken + (round_of result).blocks) (2 ^ 64 - 1) ≤ self.new.taken }
         ensures least { self.old.taken ≤ self.new.taken }
@@ -70,7 +73,9 @@ impl Intake {
         ensures named { (h : ℕ → ℕ) → weighed h self.new.stock + H.weights more.old h
             ≡ weighed h self.old.stock + H.weights more.new h }
         ensures same { (self.new.blocks ≡ self.old.blocks) × (self.new.taken ≡ self.old.taken)
-            × (self.new.budget ≡ self.old.budget) × (self.new.empties ≡ self.old.empties) }
+            × (self.new.budget ≡ self.old.budget) × (self.new.empties ≡ self.old.empties)
+            × (self.new.pauses ≡ self.old.pauses) }
+        ensures asked { H.refusals more.old ≤ H.refusals more.new }
         ensures all { result ≡ true → self.new.home + blocks ≡ self.old.blocks }
         ensures ended { result ≡ false → H.ended more.new ≡ true }
     {
@@ -120,6 +125,9 @@ impl Intake {
         ensures within { result.round.blocks ≤ self.old.blocks }
         ensures same { (self.new.blocks ≡ self.old.blocks) × (self.new.budget ≡ self.old.budget)
             × (self.new.empties ≡ self.old.empties) }
+        ensures paused { self.new.pauses ≡ min (self.old.pauses + 1) (2 ^ 64 - 1) }
+        ensures later_pauses { self.old.pauses ≤ self.new.pauses }
+        ensures asked { H.refusals more.old ≤ H.refusals more.new }
         ensures taken { min (self.old.taken + (result.round.blocks - paused.round.blocks)) (2 ^ 64 - 1)
             ≤ self.new.taken }
         ensures least { (paused.round.blocks ≤ result.round.blocks) × (self.old.taken ≤ self.new.taken) }
@@ -166,6 +174,11 @@ impl Intake {
         ensures within { result.round.blocks ≤ self.old.blocks }
         ensures same { (self.new.blocks ≡ self.old.blocks) × (self.new.budget ≡ self.old.budget)
             × (self.new.empties ≡ self.old.empties) }
+        ensures paused { (self.new.pauses ≡ self.old.pauses)
+            ⊎ ((self.new.pauses ≡ min (self.old.pauses + 1) (2 ^ 64 - 1)) × (H.counts ≡ true
+            → min (H.refusals more.old + 1) (2 ^ 64 - 1) ≤ H.refusals more.new)) }
+        ensures later_pauses { self.old.pauses ≤ self.new.pauses }
+        ensures asked { H.refusals more.old ≤ H.refusals more.new }
         ensures budget { (1 ≤ self.old.budget) × (self.old.budget ≤ 4096) }
         ensures taken { min (self.old.taken + result.round.blocks) (2 ^ 64 - 1) ≤ self.new.taken }
         ensures least { self.old.taken ≤ self.new.taken }

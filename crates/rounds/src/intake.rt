@@ -59,6 +59,7 @@ impl Model for Intake {
       blocks = i.pool.made;
       taken = i.pool.taken;
       empties = i.empties;
+      pauses = i.pauses;
       budget = i.budget;
     } };
 
@@ -103,6 +104,7 @@ impl Intake {
           blocks = blocks;
           taken = 0;
           empties = 0;
+          pauses = 0;
           budget = budget;
         }) × (length intake.stock ≡ blocks)) }
     {
@@ -150,8 +152,10 @@ impl Intake {
         self.empties
     }
 
-    /// How often a round was paused by `read_beside`. It stays at `2^64 - 1`, and is for tests: no clause speaks of it.
-    pub fn pauses(&self) -> u64 {
+    /// How often a round was paused by `read_beside`. It stays at `2^64 - 1`.
+    pub fn pauses(&self) -> u64
+        ensures value { result ≡ self.now.pauses }
+    {
         self.pauses
     }
 
@@ -189,8 +193,12 @@ impl Intake {
         ensures named { (h : ℕ → ℕ) → weighed h self.new.stock + H.weights more.old h
             ≡ weighed h self.old.stock + H.weights more.new h }
         ensures same { (self.new.blocks ≡ self.old.blocks) × (self.new.taken ≡ self.old.taken)
-            × (self.new.budget ≡ self.old.budget) × (self.new.empties ≡ self.old.empties) }
+            × (self.new.budget ≡ self.old.budget) × (self.new.empties ≡ self.old.empties)
+            × (self.new.pauses ≡ self.old.pauses) }
         ensures owed { H.owed more.old + H.brought more.old ≤ H.owed more.new + H.brought more.new }
+        ensures looked { H.looks ≡ true → self.new.home ≡ self.old.home → self.old.home < self.old.blocks
+            → min (H.refusals more.old + 1) (2 ^ 64 - 1) ≤ H.refusals more.new }
+        ensures asked { H.refusals more.old ≤ H.refusals more.new }
     {
         let _enough = more.bring(&mut self.pool, 0);
     }
@@ -222,7 +230,7 @@ impl Intake {
         ensures owed { H.owed more.old + H.brought more.old ≤ H.owed more.new + H.brought more.new }
         ensures within { result.round.blocks ≤ self.old.blocks }
         ensures same { (self.new.blocks ≡ self.old.blocks) × (self.new.budget ≡ self.old.budget)
-            × (self.new.empties ≡ self.old.empties) }
+            × (self.new.empties ≡ self.old.empties) × (self.new.pauses ≡ self.old.pauses) }
         ensures budget { (1 ≤ self.old.budget) × (self.old.budget ≤ 4096) }
         ensures taken { min (self.old.taken + result.round.blocks) (2 ^ 64 - 1) ≤ self.new.taken }
         ensures least { self.old.taken ≤ self.new.taken }
@@ -266,7 +274,7 @@ impl Intake {
         ensures within { result.round.blocks ≤ self.old.blocks }
         ensures unread { OnErr blank (self.new ≡ self.old) }
         ensures same { (self.new.blocks ≡ self.old.blocks) × (self.new.budget ≡ self.old.budget)
-            × (self.new.empties ≡ self.old.empties) }
+            × (self.new.empties ≡ self.old.empties) × (self.new.pauses ≡ self.old.pauses) }
         ensures budget { (1 ≤ self.old.budget) × (self.old.budget ≤ 4096) }
         ensures taken { min (self.old.taken + result.round.blocks) (2 ^ 64 - 1) ≤ self.new.taken }
         ensures least { self.old.taken ≤ self.new.taken }
@@ -334,7 +342,7 @@ impl Intake {
             ≡ weighed h self.old.stock + H.weights more.new h }
         ensures within { (round_of result).blocks ≤ self.old.blocks }
         ensures same { (self.new.blocks ≡ self.old.blocks) × (self.new.budget ≡ self.old.budget)
-            × (self.new.empties ≡ self.old.empties) }
+            × (self.new.empties ≡ self.old.empties) × (self.new.pauses ≡ self.old.pauses) }
         ensures budget { (1 ≤ self.old.budget) × (self.old.budget ≤ 4096) }
         ensures taken { min (self.old.taken + (round_of result).blocks) (2 ^ 64 - 1) ≤ self.new.taken }
         ensures least { self.old.taken ≤ self.new.taken }
@@ -406,7 +414,7 @@ impl Intake {
         ensures named { (h : ℕ → ℕ) → weighed h self.new.stock + weights_of result.round h
             ≡ weighed h self.old.stock + weights_of paused.round h }
         ensures same { (self.new.blocks ≡ self.old.blocks) × (self.new.budget ≡ self.old.budget)
-            × (self.new.empties ≡ self.old.empties) }
+            × (self.new.empties ≡ self.old.empties) × (self.new.pauses ≡ self.old.pauses) }
         ensures budget { (1 ≤ self.old.budget) × (self.old.budget ≤ 4096) }
         ensures taken { min (self.old.taken + (result.round.blocks - paused.round.blocks)) (2 ^ 64 - 1)
             ≤ self.new.taken }

@@ -61,7 +61,8 @@
 //!   `read_rest`: what such a round comes to in the end, over all of its records. That both run at the same time isn't
 //!   proved.
 //! - `given` of `read_beside` of [`Intake`]: the same where another thread works, whose blocks are waited for. It
-//!   pauses so too, and `ended` of `bring_rest`: a paused round is given up only where that thread keeps the blocks.
+//!   pauses so too, which `pauses` counts (`paused`): only where who brings blocks counts a take that found nothing.
+//!   `ended` of `bring_rest`: a paused round is given up only where that thread keeps the blocks.
 //! - `captured` of `merge_all`: the packets that are merged are such as a capture may hold, since each was read into
 //!   fields of 32 bits and into bytes.
 //!

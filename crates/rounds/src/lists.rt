@@ -112,7 +112,7 @@ impl<'a, R, N: ListName> NextLists<'a, R, N> {
 }
 
 impl<R: Wait, N: ListName> Supply for NextLists<'_, R, N> {
-    ghost use Rattle.std.specs.Prelude.{true};
+    ghost use Rattle.std.specs.Prelude.{false, true};
     ghost use Rattle.rounds.specs.Lists.{listed_home, weights_home};
 
     ghost brought = { λ n. listed_home n.taker.pass n.taker.left };
@@ -122,6 +122,8 @@ impl<R: Wait, N: ListName> Supply for NextLists<'_, R, N> {
     ghost counts = { true };
 
     ghost refusals = { λ n. n.taker.pass.empties };
+
+    ghost looks = { false };
 
     ghost owed = { λ _. 0 };
 

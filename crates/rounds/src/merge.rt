@@ -298,6 +298,8 @@ impl Rounds {
             (λ bytes left. min (self.old.taken + round_need (found_at (place_of reader.old) bytes).packets) (2 ^ 64 - 1)
             ≤ self.new.taken) }
         ensures least { self.old.taken ≤ self.new.taken }
+        ensures pauses { (self.old.pauses ≤ self.new.pauses)
+            × (min (self.old.empties + (self.new.pauses - self.old.pauses)) (2 ^ 64 - 1) ≤ self.new.empties) }
         ensures captured { Told (S.left (source_of reader.old)) (S.left (source_of reader.new))
             (HoldsCaptured self.old.blocks self.old.budget (place_of reader.old) result) }
         ensures later { S.faults (source_of reader.old) ≤ S.faults (source_of reader.new) }

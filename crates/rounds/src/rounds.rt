@@ -56,6 +56,7 @@ impl Model for Rounds {
       blocks = r.intake.blocks;
       taken = r.intake.taken;
       empties = r.intake.empties;
+      pauses = r.intake.pauses;
       budget = r.bench.budget;
       plan = r.bench.plan;
       keep = r.bench.keep;
@@ -85,6 +86,7 @@ impl Rounds {
           blocks = blocks;
           taken = 0;
           empties = 0;
+          pauses = 0;
           budget = budget;
           plan = plan;
           keep = keep;
@@ -121,8 +123,10 @@ impl Rounds {
     }
 
     /// How often a round that was read beside the work of others was paused by [`Intake::read_beside`], to be read on
-    /// once they had ended. It stays at `2^64 - 1`, and is for tests: no clause speaks of it.
-    pub fn pauses(&self) -> u64 {
+    /// once they had ended. It stays at `2^64 - 1`.
+    pub fn pauses(&self) -> u64
+        ensures value { result ≡ self.now.pauses }
+    {
         self.intake.pauses()
     }
 
@@ -164,6 +168,7 @@ impl Rounds {
         ensures named { (h : ℕ → ℕ) → weighed h self.new.stock + weights_of result.round h ≡ weighed h self.old.stock }
         ensures same { (self.new.blocks ≡ self.old.blocks) × (options_of self.new ≡ options_of self.old)
             × (self.new.keep ≡ self.old.keep) }
+        ensures counts { (self.new.empties ≡ self.old.empties) × (self.new.pauses ≡ self.old.pauses) }
         ensures budget { (1 ≤ self.old.budget) × (self.old.budget ≤ 4096) }
         ensures taken { min (self.old.taken + result.round.blocks) (2 ^ 64 - 1) ≤ self.new.taken }
         ensures least { self.old.taken ≤ self.new.taken }

@@ -38,6 +38,9 @@ returns-clause-same g c = (checked g c).same
 pub returns-clause-taken : goal.returns-clause-taken
 returns-clause-taken g c = (checked g c).taken
 
+pub returns-clause-pauses : goal.returns-clause-pauses
+returns-clause-pauses g c = (checked g c).pauses
+
 pub returns-clause-least : goal.returns-clause-least
 returns-clause-least g c = (checked g c).least
 

@@ -43,7 +43,7 @@ returns-then-is_shared-clause-handled g c =
       later = r.later;
       failed = r.failed;
     })
-    r.same r.least r.named c.handle_on.ensures.handled
+    r.same r.counts r.least r.named c.handle_on.ensures.handled
 
 pub handle_here-requires-clause-out : goal.handle_here-requires-clause-out
 handle_here-requires-clause-out g c =
@@ -83,4 +83,4 @@ returns-else-is_shared-clause-handled g c =
       later = r.later;
       failed = r.failed;
     })
-    r.same r.least r.named c.handle_here.ensures.handled
+    r.same r.counts r.least r.named c.handle_here.ensures.handled

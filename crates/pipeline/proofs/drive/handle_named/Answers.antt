@@ -72,7 +72,7 @@ bring_home-requires g c =
     }
 
 abbrev lent : IntakeState → BenchState → RoundsState
-lent i b = record { home = i.home; stock = i.stock; blocks = i.blocks; taken = i.taken; empties = i.empties; budget = b.budget; plan = b.plan; keep = b.keep }
+lent i b = record { home = i.home; stock = i.stock; blocks = i.blocks; taken = i.taken; empties = i.empties; pauses = i.pauses; budget = b.budget; plan = b.plan; keep = b.keep }
 
 pub returns-in_default-clause-handled : goal.returns-in_default-clause-handled
 returns-in_default-clause-handled g c = (
@@ -256,6 +256,22 @@ returns-clause-handled g c =
       );
       all = ap (λ (s : RoundsState). s.home) d;
       after = ap (λ (s : RoundsState). s.taken) d ∙ ap (λ (i : IntakeState). i.taken) f.same;
+      pauses = (
+        omega (arith, r.paused.0, ap (λ (s : RoundsState). s.pauses) d, ap (λ (i : IntakeState). i.pauses) f.same, ap (λ (s : RoundsState). s.pauses) view),
+        omega (
+          arith,
+          r.paused.0,
+          r.paused.1,
+          r.same_intake.2,
+          f.empties,
+          ap (λ t. t.pass.empties) c.close-tokens.ensures.same.2,
+          ap (λ (s : RoundsState). s.pauses) d,
+          ap (λ (s : RoundsState). s.empties) d,
+          ap (λ (i : IntakeState). i.pauses) f.same,
+          ap (λ (s : RoundsState). s.pauses) view,
+          ap (λ (s : RoundsState). s.empties) view,
+        ),
+      );
     })
     (record {
       out = c.requires.out.out;

@@ -1,9 +1,10 @@
-use Rattle.std.proofs.Common.{◌∙◌, ◌∷◌, ◌++◌, [], ℕ, List, Option, None, Some, ap, sym, subst, refl, arith, rules, length, length-append, append-nil}
+use Rattle.std.proofs.Common.{◌∙◌, ◌∷◌, ◌++◌, [], ℕ, List, Option, None, Some, Bool, true, ap, sym, subst, refl, arith, rules, length, length-append, append-nil}
 use Rattle.rtrb.specs.Ring.{sent, received}
 use Rattle.pipeline.specs.declared.parcel.Parcel.{Parcel}
 use Rattle.rounds.specs.Lists.{listed_home, weights_home}
 use Rattle.pipeline.specs.Parcels.{blocks_of, homes_of, packets_of, rounds_of, shelved, weights_back, weights_sent, weights_shelved}
 use Rattle.rounds.specs.Reads.{spot, Reads}
+use Rattle.rounds.proofs.Going.{few_later, few_none, few_paused}
 use Rattle.rounds.proofs.Rows.{all_go_last, full_end, reads_last}
 use Rattle.pipeline.proofs.Rows.{blocks_last, packets_append, read_as, rounds_last, sent_more, sent_none, weights_sent_append}
 use Rattle.pipeline.proofs.sides.read_side.Goals as goal
@@ -47,6 +48,18 @@ returns-in_default-clause-named g c h =
       ap (λ t. weights_back h (received t)) c.pick.ensures.same.1,
       ap (λ t. weights_home h t.pass t.left) c.pick.ensures.same.2,
     )
+
+pub returns-in_default-clause-paused : goal.returns-in_default-clause-paused
+returns-in_default-clause-paused g c =
+    few_later _ _ _ _ _ _ c.loop.invariant.paused (omega (arith, c.bring_more.ensures.asked, ap (λ t. t.pass.empties) c.pick.ensures.same.2)) c.bring_more.ensures.same.4
+
+pub returns-then-not-is_full-clause-paused : goal.returns-then-not-is_full-clause-paused
+returns-then-not-is_full-clause-paused g c =
+    let r = c.read_beside-read.ensures in
+    few_later _ _ _ _ _ _
+    (few_paused true refl _ _ _ _ _ _ (few_later _ _ _ _ _ _ c.loop.invariant.paused (omega (arith, c.bring_more.ensures.asked, ap (λ t. t.pass.empties) c.pick.ensures.same.2)) c.bring_more.ensures.same.4) r.asked
+    r.later_pauses r.paused)
+    (omega (arith, ap (λ t. t.pass.empties) c.lend.ensures.same.2)) refl
 
 pub returns-then-not-is_full-clause-read : goal.returns-then-not-is_full-clause-read
 returns-then-not-is_full-clause-read g c =
@@ -143,6 +156,8 @@ loop-init g c = record {
   named = λ h. omega arith;
   blocks = refl;
   budget = refl;
+  empties = refl;
+  paused = few_none _ _ _ _ (omega arith) refl;
   number = omega (arith, ap (λ (xs : List (Option Parcel)). length (rounds_of xs)) c.requires.first.1);
   packets = omega (arith, ap (λ (xs : List (Option Parcel)). packets_of (rounds_of xs)) c.requires.first.1, c.requires.first.3);
   counted = omega arith;
@@ -216,5 +231,10 @@ loop-preserved g c =
       number = omega (arith, i.number, ap length now, length-append (rounds_of (sent l.supply.out)) (p.read ∷ []));
       packets = omega (arith, i.packets, ap packets_of now, packets_append (rounds_of (sent l.supply.out)) (p.read ∷ []), passes.number, passes.full);
       counted = omega (arith, i.counted, passes.number, r.budget.0);
+      empties = r.same.2 ∙ c.bring_more.ensures.same.3 ∙ i.empties;
+      paused = few_later _ _ _ _ _ _
+          (few_paused true refl _ _ _ _ _ _ (few_later _ _ _ _ _ _ i.paused (omega (arith, c.bring_more.ensures.asked, ap (λ t. t.pass.empties) c.pick.ensures.same.2)) c.bring_more.ensures.same.4) r.asked
+          r.later_pauses r.paused)
+          (omega (arith, ap (λ t. t.pass.empties) c.lend.ensures.same.2)) refl;
       later = omega (arith, r.later, i.later);
     }

@@ -6,6 +6,7 @@ use Rattle.rtrb.specs.Ring.{sent, SameProducer}
 use Rattle.rounds.specs.declared.round.RoundRead.{RoundRead}
 use Rattle.pipeline.specs.Desks.{brought_to, weights_to}
 use Rattle.pipeline.specs.Parcels.{packets_of, rounds_of, blocks_of, weights_sent}
+use Rattle.rounds.specs.Handled.{FewPauses}
 use Rattle.rounds.specs.Reads.{spot, Reads}
 use Rattle.rounds.proofs.Rows.{AllGo}
 use Rattle.pipeline.proofs.sides.read_side.Given as goal
@@ -28,6 +29,8 @@ invariant-loop g l = record {
       ≡ weighed h l.initial.intake.stock + weights_sent h (sent l.initial.supply.out) + weights_to l.supply.desk h;
   blocks : l.intake.blocks ≡ l.initial.intake.blocks;
   budget : l.intake.budget ≡ l.initial.intake.budget;
+  empties : l.intake.empties ≡ l.initial.intake.empties;
+  paused : FewPauses l.initial.supply.desk.taker.pass.empties l.initial.intake.pauses l.supply.desk.taker.pass.empties l.intake.pauses;
   number : l.number ≡ length (rounds_of (sent l.supply.out));
   packets : packets_of (rounds_of (sent l.supply.out)) ≤ l.reader.place.number;
   counted : l.number ≤ l.reader.place.number + 1;

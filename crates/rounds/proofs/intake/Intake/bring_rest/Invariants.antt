@@ -1,4 +1,4 @@
-use Rattle.std.proofs.Common.{◌≡◌, ℕ, ◌+◌}
+use Rattle.std.proofs.Common.{◌≡◌, ℕ, ◌+◌, ◌≤◌}
 use Rattle.block_pool.specs.PoolState.{weighed}
 use Rattle.rounds.proofs.intake.Intake.bring_rest.Given as goal
 
@@ -10,4 +10,6 @@ invariant-loop g l = record {
   taken : l.self.taken ≡ l.initial.self.taken;
   budget : l.self.budget ≡ l.initial.self.budget;
   empties : l.self.empties ≡ l.initial.self.empties;
+  pauses : l.self.pauses ≡ l.initial.self.pauses;
+  asked : g.H.Supply.refusals l.initial.more ≤ g.H.Supply.refusals l.more;
 }

@@ -40,6 +40,9 @@ returns-clause-taken g c = (merged g c).taken
 pub returns-clause-least : goal.returns-clause-least
 returns-clause-least g c = (merged g c).least
 
+pub returns-clause-pauses : goal.returns-clause-pauses
+returns-clause-pauses g c = (merged g c).pauses
+
 pub returns-clause-captured : goal.returns-clause-captured
 returns-clause-captured g c = (merged g c).captured
 
