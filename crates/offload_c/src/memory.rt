@@ -1,5 +1,5 @@
 //! A source over lent bytes, a sink that grows, and what a command comes to.
-ghost use Rattle.std.specs.Prelude.{◌≡◌, [], Some, IfOk};
+ghost use Rattle.std.specs.Prelude.{◌≡◌, ◌≤◌, [], true, Some, IfOk, vec_capacity};
 
 use off_io::{Failed, Sink, Source};
 use std::alloc::{AllocError, Global};
@@ -72,6 +72,8 @@ pub enum Outcome {
 /// An empty sink, with room for this many bytes.
 pub fn grown_sink(alloc: Global, room: usize) -> Result<GrownSink, AllocError>
     ensures empty { IfOk result (λ sink. sink.bytes.items ≡ []) }
+    ensures flushed { IfOk result (λ sink. (sink.is_flushed ≡ true) × (sink.faults ≡ 0)) }
+    ensures room { IfOk result (λ sink. room ≤ vec_capacity sink.bytes) }
 {
     Ok(GrownSink {
         bytes: Vec::with_capacity(alloc, room)?,
