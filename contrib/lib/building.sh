@@ -5,8 +5,8 @@
 #   product  the file that is built
 #   teller   who speaks on the standard error
 #   refused  the status where it can't be built
-# and that has two functions: `make_product` proves and builds the crate itself, over its lower crates, and what it says goes to stream 3;
-# `is_made` tells whether that made the product.
+# and that has two functions: `make_product JOBS` has rt prove and build the crate and all below it, each by so many jobs, and writes nothing
+# but what rt says; `is_made` tells whether that made the product.
 # shellcheck shell=bash disable=SC2154
 
 built=$product.built # the names and checksums of the sources, and of the product that was built from them
@@ -58,8 +58,8 @@ is_built() {
   [ -s "$product" ] && { [ -x "$product" ] || [ "${product##*.}" = a ]; } && [ -f "$built" ] && [ "$(state)" = "$(<"$built")" ]
 }
 
-# As many crates side by side as processors are free, and as memory allows at 3 GB each.
-side_by_side() {
+# As many jobs as processors are free, and as memory allows at 3 GB each: rt's own choice asks for several times that, and gives a large crate one.
+free_jobs() {
   local free busy memory
   free=$(nproc)
   read -r busy _ 2>/dev/null </proc/loadavg && free=$((free - ${busy%.*}))
@@ -90,56 +90,44 @@ announce() {
   read -r count bytes < <(to_prove "$1" | awk '{ bytes += $2 } END { print NR, bytes + 0 }')
   by=$(rt version 2>/dev/null </dev/null | head -n 1)
   say "proving and building ${product##*/} with ${by:-rt}: $count of $(lines_below | wc -l) crates are new, changed, or stand on one that is"
-  say "from nothing that takes some $((bytes * 15 / 1000000 + 1)) minutes of processor time, $(side_by_side) at a time here; what this machine proved before is taken over"
+  say "from nothing that takes some $((bytes * 15 / 1000000 + 1)) minutes of processor time, by $(free_jobs) jobs here; what this machine proved before is taken over"
 }
 
-# Keeps what is read in the log, and says how far the proving is: rt prints a crate's lines together, once it is done.
+# Keeps what is read in the log, and says how far the proving is: rt takes the crates in the order of `lines_below`, and a crate that it proved ends
+# with a line of its modules.
 tell() {
-  local of=$1 began=$SECONDS done=0 line
+  local began=$SECONDS names of line name at
+  names=$(lines_below | sed 's/[: ].*//')
+  of=$(wc -l <<<"$names")
   while IFS= read -r line; do
     printf '%s\n' "$line" >&3
     case $line in
-      '== summary') ;;
-      '== '*)
-        done=$((done + 1))
-        say "$done of $of lower crates, after $((SECONDS - began)) seconds: ${line#== }"
+      'crate '*': modules loaded='*)
+        name=${line#crate }
+        name=${name%%:*}
+        at=$(grep -nxF "$name" <<<"$names")
+        say "${at%%:*} of $of crates, after $((SECONDS - began)) seconds: $name"
         ;;
       'rt: waiting for another rt'* | *'; waiting for it,'*) say "${line#rt: }" ;;
     esac
   done
 }
 
-# Proves the crates below the product's side by side, from the folder of the highest of them.
-prove_below() (
-  local below highest
-  below=$(lines_below | sed '$d')
-  highest=${below##*$'\n'}
-  set -o pipefail
-  cd -- "$root/crates/${highest%%[: ]*}" || exit 1
-  rt all check --jobs "$(side_by_side)" </dev/null 2>&1 | tell "$(wc -l <<<"$below")"
-)
-
-# Of a list of sources, those of the crates below the product's.
-of_below() {
-  grep -v "  crates/$crate/\|  -\$"
-}
-
-# Proves what changed of these sources, and builds the product.
+# Proves what changed, and builds the product: one crate after another, each by all jobs. Most of the work is a chain, whose crates stand on one
+# another, so that crates side by side would leave all processors but one idle for most of the time.
 prove_and_build() (
   [ -d "${TMPDIR:-/tmp}" ] || unset TMPDIR
   exec 3>>"$log" || exit 1
-  if [ ! -f "$built" ] || [ "$(of_below <<<"$1")" != "$(of_below <"$built")" ]; then
-    prove_below || exit 1
-  fi
-  make_product
+  set -o pipefail
+  make_product "$(free_jobs)" 2>&1 3>&- | tell
 )
 
-# The end of the log, and before it the lines of the crates that were refused.
+# The end of the log, and before it the lines on what was refused, behind the last crate that was proved.
 show_log() {
   awk '
-    $1 == "==" { crate = $2; next }
-    crate == "summary" { if (/: failed/) { sub(/:.*/, ""); print lines[$0] } next }
-    /error|not proved|^rt: / { lines[crate] = lines[crate] $0 "\n" }' "$log" | head -n 40 >&2
+    /^logic=proved/ { lines = "" }
+    /(^|[ :])error[:[]|not proved|^rt: / { lines = lines $0 "\n" }
+    END { printf "%s", lines }' "$log" | head -n 40 >&2
   tail -n 12 "$log" >&2
 }
 
@@ -182,7 +170,7 @@ build() {
   fi
   before=$(sources)
   announce "$before"
-  if ! in_group prove_and_build "$before"; then
+  if ! in_group prove_and_build; then
     show_log
     refuse "$name could not be built; all that was said is in $log"
   fi
