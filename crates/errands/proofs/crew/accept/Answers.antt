@@ -1,9 +1,9 @@
-use Rattle.std.proofs.Common.{slice_set, Some, ◌≡◌, ◌+◌, ◌≤◌, ◌<◌, ◌-◌, List, [], ◌∷◌, ℕ, length, ap, sym, subst, ◌∙◌, refl, arith}
+use Rattle.std.proofs.Common.{slice_set, Some, ◌≡◌, ◌-◌, List, [], ◌∷◌, ℕ, length, ap, sym, subst, refl, arith}
 use mathlib.Core.Option.{some}
 use lib.ListN.{get_elem?}
-use Rattle.errands.specs.Answers.{Answers, IsAnswer, Places, AllBack}
+use Rattle.errands.specs.Answers.{Answers, IsAnswer, Places}
 use Rattle.errands.specs.Passes.{AskerState}
-use Rattle.errands.proofs.Answering.{back_more, not_before, places_set, missing_set}
+use Rattle.errands.proofs.Answering.{not_before, places_set, missing_set}
 use Rattle.errands.proofs.crew.accept.Goals as goal
 
 -- an answer to the task that is noted

@@ -1,6 +1,6 @@
-use Rattle.std.proofs.Common.{◌≡◌, ◌<◌, ◌≤◌, ◌⊎◌, inl, inr, ◌+◌, ◌++◌, ◌∙◌, List, ℕ, Option, None, Some, map, length, length-append, sym, ap, subst, refl, suc, [], ◌∷◌, arith}
+use Rattle.std.proofs.Common.{◌≡◌, ◌<◌, ◌≤◌, ◌⊎◌, inl, inr, ◌++◌, ◌∙◌, List, ℕ, Option, Some, map, length, length-append, sym, ap, subst, refl, suc, [], ◌∷◌, arith}
 use Rattle.std.proofs.lemmas.Bool.{cases_lt}
-use Rattle.errands.specs.Answers.{AllBack, Places, missing}
+use Rattle.errands.specs.Answers.{AllBack, Places}
 use Rattle.errands.specs.Rule.{times}
 use Rattle.errands.proofs.Answering.{places_open, all_back, each_did, missing_open}
 use Rattle.errands.proofs.crew.do_all.Goals as goal

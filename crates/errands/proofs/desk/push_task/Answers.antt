@@ -1,4 +1,4 @@
-use Rattle.std.proofs.Common.{◌≡◌, ◌∙◌, sym, ap, length, true}
+use Rattle.std.proofs.Common.{◌∙◌, sym, ap, length}
 use Rattle.crossbeam_queue.specs.Passes.{view}
 use Rattle.errands.specs.declared.rule.Asked.{Asked}
 use Rattle.errands.specs.declared.rule.Slip.{Slip}

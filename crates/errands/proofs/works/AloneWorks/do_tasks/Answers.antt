@@ -1,4 +1,4 @@
-use Rattle.std.proofs.Common.{rules, ◌≡◌, ◌++◌, ◌∙◌, List, [], ◌∷◌, append_assoc, sym, ap, subst, refl}
+use Rattle.std.proofs.Common.{rules, ◌≡◌, ◌++◌, ◌∙◌, List, [], ◌∷◌, append_assoc, sym, ap, subst}
 use Rattle.errands.specs.Answers.{EachDid}
 use Rattle.errands.proofs.works.AloneWorks.do_tasks.Goals as goal
 
