@@ -8,7 +8,7 @@ use Rattle.std.proofs.lemmas.List.{drop_more, drop_all}
 use Rattle.frame_layout.specs.Key.{key_of}
 use Rattle.pcap_io.specs.Capture.{Packet}
 use Rattle.offload_model.specs.Rounds.{is_of, key_in}
-use Rattle.offload_model.proofs.Items.{is_key_same}
+use Rattle.offload_model.proofs.Items.{key_eq_same}
 use Rattle.checking.specs.Returned.{is_same, equal_in}
 use Rattle.checking.proofs.Returning.{decides_same}
 use Rattle.checking.specs.Chain.{left_at, IsOwn, Leads, IsChain, Counts}
@@ -23,7 +23,7 @@ pub next_in : (ps : List Packet) (next : List ℕ) (q : Option (List ℕ)) (at :
 next_in ps next q at d e c own l =
     let x : Packet = get_or ps at d in
     let is : is_of q x ≡ true = own d l in
-    let same : q ≡ key_in x = is_key_same q (key_of x.frame) is in
+    let same : q ≡ key_in x = key_eq_same q (key_of x.frame) is in
     let lead : Leads ps q (at + 1) (get_or next at e) = subst (λ z. Leads ps z (at + 1) (get_or next at e)) (sym same) (c.leads at d e l) in
     (ap (filter (is_of q)) (drop_more ps at d l) ∙ ap (λ v. cond v (x ∷ left_at ps q (at + 1)) (left_at ps q (at + 1))) is ∙ ap (λ z. x ∷ z) (sym lead.same), lead.own)
 

@@ -4,9 +4,9 @@ use Rattle.std.specs.Prelude.{if◌then◌else◌, nat_le}
 use Rattle.std.specs.List.{filter, AllByRecursion}
 use Rattle.pcap_io.specs.Capture.{Packet}
 use Rattle.offload_model.specs.Merged.{Merged, merged_of}
-use Rattle.offload_model.specs.Rounds.{is_key}
+use Rattle.frame_layout.specs.Key.{key_eq}
 use Rattle.offload_model.proofs.Flows.{IsItem}
-use Rattle.offload_model.proofs.Items.{is_key_self, is_key_same}
+use Rattle.offload_model.proofs.Items.{key_eq_self, key_eq_same}
 use Rattle.checking.specs.declared.totals.QueueTotals.{QueueTotals}
 use Rattle.checking.specs.Counts.{queue_plus, is_merged}
 use Rattle.checking.specs.declared.kept_flows.KeptFlows.{KeptFlows}
@@ -20,15 +20,15 @@ use Rattle.checking.proofs.RunItems.{IsRunItem, run_item}
 -- an item that was compared: so many are the same, and its flow has as many fewer left
 pub item_counted : (ps : List Packet) (f g : KeptFlows) (left : Lefts) (r : Merged) (n : ℕ) → AreLeft ps f left → CountsIn ps f (flow_in r) (packets_in r) g n
     → (n ≡ equal_in (packets_in r) (left (flow_in r))) × AreLeft ps g (behind_item left r)
-item_counted ps f g left r n a c = (c.count ∙ ap (equal_in (packets_in r)) (a.are (flow_in r)), record { are = λ q. by q (is_key q (flow_in r)) refl })
+item_counted ps f g left r n a c = (c.count ∙ ap (equal_in (packets_in r)) (a.are (flow_in r)), record { are = λ q. by q (key_eq q (flow_in r)) refl })
   where
-    by : (q : Option (List ℕ)) (v : Bool) → is_key q (flow_in r) ≡ v → left_in ps g q ≡ behind_item left r q
+    by : (q : Option (List ℕ)) (v : Bool) → key_eq q (flow_in r) ≡ v → left_in ps g q ≡ behind_item left r q
     by q true e =
-        let own : q ≡ flow_in r = is_key_same q (flow_in r) e in
+        let own : q ≡ flow_in r = key_eq_same q (flow_in r) e in
         subst (λ z. left_in ps g z ≡ drop (length (packets_in r)) (left z)) (sym own) (c.left ∙ ap (drop (length (packets_in r))) (a.are (flow_in r)))
         ∙ ap (λ v. if v then drop (length (packets_in r)) (left q) else left q) (sym e)
     by q false e =
-        let apart : q ≡ flow_in r → ⊥ = λ h. (let t : true ≡ false = sym (is_key_self q) ∙ ap (λ z. is_key q z) h ∙ e in cc) in
+        let apart : q ≡ flow_in r → ⊥ = λ h. (let t : true ≡ false = sym (key_eq_self q) ∙ ap (λ z. key_eq q z) h ∙ e in cc) in
         c.others q apart ∙ a.are q ∙ ap (λ v. if v then drop (length (packets_in r)) (left q) else left q) (sym e)
 
 -- ---- totals

@@ -8,28 +8,16 @@ use Rattle.std.proofs.lemmas.List.{drop_more, drop_all, get_or-set_same, get_or-
 use Rattle.std.proofs.lemmas.Bool.{cases_eq}
 use Rattle.frame_layout.specs.Key.{key_eq, key_of}
 use Rattle.pcap_io.specs.Capture.{Packet}
-use Rattle.offload_model.specs.Rounds.{is_key, is_of, key_in}
-use Rattle.offload_model.proofs.Items.{is_key_self, is_key_same}
+use Rattle.offload_model.specs.Rounds.{is_of, key_in}
+use Rattle.offload_model.proofs.Items.{key_eq_self, key_eq_same}
 use Rattle.checking.specs.declared.kept_flows.KeptFlows.{KeptFlows}
 use Rattle.checking.specs.Returned.{equal_in}
 use Rattle.checking.specs.Chain.{left_at, IsOwn, Leads, IsChain, Counts}
 use Rattle.checking.specs.KeptFlows.{place_of, left_in, AreFlows, AreFlowsFrom, Moves, CountsIn}
 use Rattle.checking.proofs.Chains.{none_left}
 
-key_eq_is : (a b : Option (List ℕ)) → key_eq a b ≡ is_key a b
-key_eq_is None None = refl
-key_eq_is None (Some b) = refl
-key_eq_is (Some a) None = refl
-key_eq_is (Some a) (Some b) = refl
-
-same_key : (a b : Option (List ℕ)) → key_eq a b ≡ true → a ≡ b
-same_key a b e = is_key_same a b (sym (key_eq_is a b) ∙ e)
-
-self_key : (a : Option (List ℕ)) → key_eq a a ≡ true
-self_key a = key_eq_is a a ∙ is_key_self a
-
 other_key : (a b : Option (List ℕ)) → key_eq a b ≡ false → a ≡ b → ⊥
-other_key a b e h = let t : true ≡ false = sym (self_key b) ∙ ap (λ z. key_eq z b) (sym h) ∙ e in absurd cc
+other_key a b e h = let t : true ≡ false = sym (key_eq_self b) ∙ ap (λ z. key_eq z b) (sym h) ∙ e in absurd cc
 
 -- ---- entering
 
@@ -54,7 +42,7 @@ module _ (ps : List Packet) (f g : KeptFlows) (i : ℕ) (x : Packet) (k : Option
   first_new : (q : Option (List ℕ)) (v : Bool) → key_eq k q ≡ v → Leads ps q i (place_of g q)
   first_new q true e =
       let at : place_of g q ≡ i = place_new q ∙ ap (λ v. unwrap_or (cond v (Some i) (get key_eq f.first q)) (length f.next.items)) e in
-      let mine : is_of q x ≡ true = ap (λ z. is_key z (key_of x.frame)) (sym (same_key k q e) ∙ own) ∙ is_key_self (key_of x.frame) in
+      let mine : is_of q x ≡ true = ap (λ z. key_eq z (key_of x.frame)) (sym (key_eq_same k q e) ∙ own) ∙ key_eq_self (key_of x.frame) in
       subst (Leads ps q i) (sym at) (record { same = refl; own = λ d l. ap (is_of q) (is d) ∙ mine })
   first_new q false e =
       let at : place_of g q ≡ place_of f q = place_new q ∙ ap (λ v. unwrap_or (cond v (Some i) (get key_eq f.first q)) (length f.next.items)) e in
@@ -64,7 +52,7 @@ module _ (ps : List Packet) (f g : KeptFlows) (i : ℕ) (x : Packet) (k : Option
       subst (Leads ps q i) (sym at) (record { same = lead.same ∙ sym (none (is_of q x) refl); own = lead.own })
     where
       passed : (q : Option (List ℕ)) → key_eq k q ≡ false → (w : Bool) → is_of q x ≡ w → i < length ps → left_at ps q i ≡ left_at ps q (i + 1)
-      passed q e true s l = absurd (other_key k q e (own ∙ sym (is_key_same q (key_of x.frame) s)))
+      passed q e true s l = absurd (other_key k q e (own ∙ sym (key_eq_same q (key_of x.frame) s)))
       passed q e false s l =
           ap (filter (is_of q)) (drop_more ps i x l ∙ ap (λ z. z ∷ drop (i + 1) ps) (is x)) ∙ ap (λ v. cond v (x ∷ left_at ps q (i + 1)) (left_at ps q (i + 1))) s
 
@@ -102,13 +90,13 @@ moves_on f g k at next up =
     let long : length g.next.items ≡ length f.next.items = ap (λ z. length z.items) next in
     record {
       next = next;
-      own = inl (ap (λ v. unwrap_or v (length g.next.items)) (up k ∙ ap (λ v. cond v (Some at) (get key_eq f.first k)) (self_key k)));
+      own = inl (ap (λ v. unwrap_or v (length g.next.items)) (up k ∙ ap (λ v. cond v (Some at) (get key_eq f.first k)) (key_eq_self k)));
       others = λ r n. ap (λ v. unwrap_or v (length g.next.items)) (up r ∙ ap (λ v. cond v (Some at) (get key_eq f.first r)) (not_key r n (key_eq k r) refl))
           ∙ ap (λ z. unwrap_or (get key_eq f.first r) z) long;
     }
   where
     not_key : (r : Option (List ℕ)) → (r ≡ k → ⊥) → (w : Bool) → key_eq k r ≡ w → key_eq k r ≡ false
-    not_key r n true e = absurd (n (sym (same_key k r e)))
+    not_key r n true e = absurd (n (sym (key_eq_same k r e)))
     not_key r n false e = e
 
 pub stays : (f g : KeptFlows) (k : Option (List ℕ)) (at : ℕ) → g.next ≡ f.next → ((q : Option (List ℕ)) → get key_eq g.first q ≡ get key_eq f.first q) → get key_eq f.first k ≡ None → Moves f k at g
@@ -127,7 +115,7 @@ drop_none n = drop_all n [] (omega arith)
 module _ (ps : List Packet) (f g : KeptFlows) (q : Option (List ℕ)) (xs : List Packet) (from to n : ℕ) (a : AreFlows ps f) (is : from ≡ place_of f q) (c : Counts ps q from xs to n)
     (m : Moves f q to g) where
   own_new : (r : Option (List ℕ)) (v : Bool) → key_eq r q ≡ v → IsOwn ps r (place_of g r)
-  own_new r true e = subst (λ z. IsOwn ps z (place_of g z)) (sym (same_key r q e)) (elim m.own [
+  own_new r true e = subst (λ z. IsOwn ps z (place_of g z)) (sym (key_eq_same r q e)) (elim m.own [
     | inl h ↦ subst (IsOwn ps q) (sym h) c.own
     | inr h ↦ subst (IsOwn ps q) (sym h.0) (a.own q)
   ])

@@ -4,14 +4,14 @@ use Rattle.std.specs.List.{flat_map, filter, AllByRecursion, range_with_len}
 use Rattle.std.proofs.lemmas.List.Concat.{flat_map-append}
 use Rattle.std.proofs.lemmas.List.Elements.{filter-append}
 use Rattle.maximal_runs.specs.Items.{begins_in, AreItems}
-use Rattle.frame_layout.specs.Key.{key_of}
+use Rattle.frame_layout.specs.Key.{key_eq, key_of}
 use Rattle.pcap_io.specs.Capture.{Packet}
 use Rattle.offload_model.specs.Mergeable.{IsMergeableWithin}
-use Rattle.offload_model.specs.Rounds.{Spread, is_key, is_of, is_queued, number_of, items_of}
+use Rattle.offload_model.specs.Rounds.{Spread, is_of, is_queued, number_of, items_of}
 use Rattle.offload_model.specs.Captured.{IsCaptured, AreCaptured}
 use Rattle.offload_model.proofs.Lists.{all_filtered, one_of_range}
 use Rattle.offload_model.proofs.Flows.{IsItem, all_items, own_queue, other_queue}
-use Rattle.offload_model.proofs.Items.{is_key_self, is_key_same, items_are}
+use Rattle.offload_model.proofs.Items.{key_eq_self, key_eq_same, items_are}
 
 -- the packets of a flow's runs, in order
 abbrev pub of_flow : Option (List ℕ) → List (List Packet) → List Packet
@@ -65,7 +65,7 @@ one_flow : (q k : Option (List ℕ)) (p : Packet) → (q ≡ k → ⊥) → is_o
 one_flow q k p n e = by (is_of k p) refl
   where
     by : (w : Bool) → is_of k p ≡ w → is_of k p ≡ false
-    by true g = absurd (n (is_key_same q (key_of p.frame) e ∙ sym (is_key_same k (key_of p.frame) g)))
+    by true g = absurd (n (key_eq_same q (key_of p.frame) e ∙ sym (key_eq_same k (key_of p.frame) g)))
     by false g = g
 
 one_run : (q k : Option (List ℕ)) (run : List Packet) → (q ≡ k → ⊥) → begins_in (is_of q) run ≡ true → begins_in (is_of k) run ≡ false
@@ -78,7 +78,7 @@ pub same_size : (fuel : ℕ) (ys : List Packet) (runs : List (List Packet)) → 
 same_size fuel [] [] l full same = refl
 same_size fuel [] ([] ∷ runs) l full same = absurd (omega (arith, full.0))
 same_size fuel [] ((p ∷ run) ∷ runs) l full same =
-    let own : is_of (key_of p.frame) p ≡ true = is_key_self (key_of p.frame) in
+    let own : is_of (key_of p.frame) p ≡ true = key_eq_self (key_of p.frame) in
     let has : p ∷ (run ++ of_flow (key_of p.frame) runs) ≡ []
     = sym (ap (λ v. flat_map (λ (r : List Packet). r) (cond v ((p ∷ run) ∷ filter (begins_in (is_of (key_of p.frame))) runs) (filter (begins_in (is_of (key_of p.frame))) runs))) own) ∙ same
     (key_of p.frame) in
@@ -86,23 +86,23 @@ same_size fuel [] ((p ∷ run) ∷ runs) l full same =
 same_size zero (y ∷ ys) runs l full same = absurd (omega arith)
 same_size (suc fuel) (y ∷ ys) runs l full same =
     let k : Option (List ℕ) = key_of y.frame in
-    let own : is_of k y ≡ true = is_key_self k in
+    let own : is_of k y ≡ true = key_eq_self k in
     let mine : length (filter (is_of k) (y ∷ ys)) ≡ suc (length (filter (is_of k) ys)) = ap (λ v. length (cond v (y ∷ filter (is_of k) ys) (filter (is_of k) ys))) own in
     let lists = split_list (is_of k) (y ∷ ys) in
     let shares = split_runs (begins_in (is_of k)) runs in
     let rest = same_size fuel (filter (λ x. not (is_of k x)) (y ∷ ys)) (filter (λ x. not (begins_in (is_of k) x)) runs) (omega (arith, mine, lists))
     (all_filtered (λ (run : List Packet). 0 < length run) (λ x. not (begins_in (is_of k) x)) runs full)
-    (λ q. by q (is_key q k) refl) in
+    (λ q. by q (key_eq q k) refl) in
     omega (arith, lists, shares, rest, ap length (same k))
   where
-    by : (q : Option (List ℕ)) (v : Bool) → is_key q (key_of y.frame) ≡ v
+    by : (q : Option (List ℕ)) (v : Bool) → key_eq q (key_of y.frame) ≡ v
         → of_flow q (filter (λ x. not (begins_in (is_of (key_of y.frame)) x)) runs) ≡ filter (is_of q) (filter (λ x. not (is_of (key_of y.frame) x)) (y ∷ ys))
     by q true e =
-        let is : q ≡ key_of y.frame = is_key_same q (key_of y.frame) e in
+        let is : q ≡ key_of y.frame = key_eq_same q (key_of y.frame) e in
         subst (λ z. of_flow z (filter (λ x. not (begins_in (is_of (key_of y.frame)) x)) runs) ≡ filter (is_of z) (filter (λ x. not (is_of (key_of y.frame) x)) (y ∷ ys))) (sym is)
         (ap (flat_map (λ (r : List Packet). r)) (gone (begins_in (is_of (key_of y.frame))) runs) ∙ sym (gone (is_of (key_of y.frame)) (y ∷ ys)))
     by q false e =
-        let no : q ≡ key_of y.frame → ⊥ = λ h. (let t : true ≡ false = sym (is_key_self (key_of y.frame)) ∙ ap (λ z. is_key z (key_of y.frame)) (sym h) ∙ e in cc) in
+        let no : q ≡ key_of y.frame → ⊥ = λ h. (let t : true ≡ false = sym (key_eq_self (key_of y.frame)) ∙ ap (λ z. key_eq z (key_of y.frame)) (sym h) ∙ e in cc) in
         ap (flat_map (λ (r : List Packet). r)) (apart (begins_in (is_of q)) (begins_in (is_of (key_of y.frame))) runs (λ run g. one_run q (key_of y.frame) run no g))
         ∙ same q ∙ sym (apart (is_of q) (is_of (key_of y.frame)) (y ∷ ys) (λ p g. one_flow q (key_of y.frame) p no g))
 

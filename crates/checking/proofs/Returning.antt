@@ -8,14 +8,14 @@ use Rattle.std.proofs.lemmas.List.{length-map}
 use Rattle.std.proofs.lemmas.Slice.Eq.{bytes_eq-Decides}
 use Rattle.std.proofs.Math.Seq.{drop-append_seam}
 use Rattle.maximal_runs.specs.Items.{begins_in, AreItems}
-use Rattle.frame_layout.specs.Key.{key_of}
+use Rattle.frame_layout.specs.Key.{key_eq, key_of}
 use Rattle.pcap_io.specs.Capture.{Packet}
 use Rattle.offload_model.specs.Captured.{AreCaptured, content}
 use Rattle.offload_model.specs.Merged.{Merged, merged_of}
 use Rattle.offload_model.specs.Mergeable.{IsMergeableWithin}
-use Rattle.offload_model.specs.Rounds.{Spread, is_key, is_of, is_queued, number_of, items_of}
+use Rattle.offload_model.specs.Rounds.{Spread, is_of, is_queued, number_of, items_of}
 use Rattle.offload_model.proofs.Flows.{IsItem, own_queue, other_queue}
-use Rattle.offload_model.proofs.Items.{is_key_self, is_key_same, items_are}
+use Rattle.offload_model.proofs.Items.{key_eq_self, key_eq_same, items_are}
 use Rattle.checking.specs.Returned.{is_same, equal_in, packets_in, flow_in, Lefts, flows_of, behind_item, returned_in}
 use Rattle.checking.specs.Tallies.{RecordsReturn}
 use Rattle.checking.proofs.RunItems.{IsRunItem, run_item}
@@ -50,13 +50,13 @@ module _ (p : Packet) (ps : List Packet) (runs : List (List Packet)) where
   own_next : of_flow (key_of p.frame) ((p ∷ ps) ∷ runs) ≡ (p ∷ ps) ++ of_flow (key_of p.frame) runs
   own_next =
       ap (λ v. flat_map (λ (run : List Packet). run) (cond v ((p ∷ ps) ∷ filter (begins_in (is_of (key_of p.frame))) runs) (filter (begins_in (is_of (key_of p.frame))) runs)))
-      (is_key_self (key_of p.frame))
+      (key_eq_self (key_of p.frame))
 
   other_next : (q : Option (List ℕ)) → (q ≡ key_of p.frame → ⊥) → of_flow q ((p ∷ ps) ∷ runs) ≡ of_flow q runs
   other_next q n = by (is_of q p) refl
     where
       by : (v : Bool) → is_of q p ≡ v → of_flow q ((p ∷ ps) ∷ runs) ≡ of_flow q runs
-      by true e = absurd (n (is_key_same q (key_of p.frame) e))
+      by true e = absurd (n (key_eq_same q (key_of p.frame) e))
       by false e = ap (λ v. flat_map (λ (run : List Packet). run) (cond v ((p ∷ ps) ∷ filter (begins_in (is_of q)) runs) (filter (begins_in (is_of q)) runs))) e
 
 module _ (left more : Lefts) (p : Packet) (ps : List Packet) (runs : List (List Packet)) (k : IsRunItem p (p ∷ ps) (merged_of (p ∷ ps)))
@@ -79,16 +79,16 @@ module _ (left more : Lefts) (p : Packet) (ps : List Packet) (runs : List (List 
       ∙ equal_all (packets_in item) (p ∷ ps) (of_flow (flow_in item) runs ++ more (flow_in item)) k.back
 
   pub left_behind : (q : Option (List ℕ)) → behind_item left item q ≡ of_flow q runs ++ more q
-  left_behind q = by (is_key q (flow_in item)) refl
+  left_behind q = by (key_eq q (flow_in item)) refl
     where
-      by : (v : Bool) → is_key q (flow_in item) ≡ v → behind_item left item q ≡ of_flow q runs ++ more q
+      by : (v : Bool) → key_eq q (flow_in item) ≡ v → behind_item left item q ≡ of_flow q runs ++ more q
       by true e =
           ap (λ v. if v then drop (length (packets_in item)) (left q) else left q) e
           ∙ ap (λ n. drop n (left q)) size
-          ∙ ap (drop (length (p ∷ ps))) (own_left q (is_key_same q (flow_in item) e ∙ k.key))
+          ∙ ap (drop (length (p ∷ ps))) (own_left q (key_eq_same q (flow_in item) e ∙ k.key))
           ∙ drop-append_seam (p ∷ ps) (of_flow q runs ++ more q)
       by false e =
-          let apart : q ≡ key_of p.frame → ⊥ = λ h. (let t : true ≡ false = sym (is_key_self q) ∙ ap (λ z. is_key q z) (h ∙ sym k.key) ∙ e in cc) in
+          let apart : q ≡ key_of p.frame → ⊥ = λ h. (let t : true ≡ false = sym (key_eq_self q) ∙ ap (λ z. key_eq q z) (h ∙ sym k.key) ∙ e in cc) in
           ap (λ v. if v then drop (length (packets_in item)) (left q) else left q) e ∙ is q ∙ ap (λ z. z ++ more q) (other_next p ps runs q apart)
 
 returned_runs : (runs : List (List Packet)) (left more : Lefts) → AllByRecursion IsItem runs → ((q : Option (List ℕ)) → left q ≡ of_flow q runs ++ more q)

@@ -3,10 +3,10 @@
 use Rattle.std.specs.Prelude.{ℕ, ◌+◌, ◌==◌, ◌&&◌, Bool, if◌then◌else◌, Option, List, [], ◌∷◌, length, drop}
 use Rattle.std.specs.List.{filter}
 use Rattle.std.specs.Str.{bytes_eq}
-use Rattle.frame_layout.specs.Key.{key_of}
+use Rattle.frame_layout.specs.Key.{key_eq, key_of}
 use Rattle.pcap_io.specs.Capture.{Packet}
 use Rattle.offload_model.specs.Merged.{Merged}
-use Rattle.offload_model.specs.Rounds.{is_key, is_of}
+use Rattle.offload_model.specs.Rounds.{is_of}
 use Rattle.offload_model.specs.Segments.{segments_by}
 use Rattle.offload_model.specs.Written.{head_of}
 
@@ -37,7 +37,7 @@ flows_of ps q = filter (is_of q) ps
 
 -- once an item was compared, its flow has as many fewer
 abbrev pub behind_item : Lefts → Merged → Lefts
-behind_item left r q = if is_key q (flow_in r) then drop (length (packets_in r)) (left q) else left q
+behind_item left r q = if key_eq q (flow_in r) then drop (length (packets_in r)) (left q) else left q
 
 abbrev pub behind_items : Lefts → List Merged → Lefts
 behind_items left [] = left

@@ -5,11 +5,11 @@ use Rattle.std.proofs.lemmas.Bool.{cases_eq, cases_Bool}
 use Rattle.std.proofs.lemmas.List.{take_more, take_all, length-set, length-replicate, get_or-replicate, get_or-set_same, get_or-set_other, get_or_append_left, get_or_push}
 use Rattle.pcap_io.specs.Capture.{Packet}
 use Rattle.frame_layout.specs.Key.{key_of, key_eq}
+use Rattle.offload_model.proofs.Items.{key_eq_same}
 use Rattle.gro.specs.Chains.{no_packet}
 use Rattle.gro.specs.declared.flows.Entry.{Entry}
 use Rattle.gro.specs.declared.flows.Flows.{Flows}
 use Rattle.gro.specs.Flows.{or_else, last_in, joined, key_at, hash_of, bucket_in, no_entry, entry_at, IsHead, IsHashed, place_of, AreFlows, Puts}
-use Rattle.gro.proofs.Keys.{same_key}
 
 or_none : (o : Option (Option ℕ)) → or_else o None ≡ o
 or_none None = refl
@@ -56,7 +56,7 @@ last_skip ps q es l (suc n) b f =
 -- a key of another bucket is another
 pub apart_keys : (a q : Option (List ℕ)) (h : ℕ) → h ≡ hash_of a → bucket_in h ≢ bucket_in (hash_of q) → key_eq a q ≡ false
 apart_keys a q h e n = elim (cases_Bool (key_eq a q)) [
-  | inl t ↦ absurd (n (ap bucket_in (e ∙ ap hash_of (same_key a q t))))
+  | inl t ↦ absurd (n (ap bucket_in (e ∙ ap hash_of (key_eq_same a q t))))
   | inr f ↦ f
 ]
 
@@ -193,7 +193,7 @@ puts_put ps f g e entries q =
 -- what finds nothing finds nothing else, and what is found is found again
 pub puts_same : (ps : List Packet) (f : Flows) (key : Option (List ℕ)) (place : Option ℕ) → place_of ps f key ≡ place → Puts ps f key place f
 puts_same ps f key place e q = elim (cases_Bool (key_eq key q)) [
-  | inl t ↦ ap (place_of ps f) (sym (same_key key q t)) ∙ e ∙ sym (picks (key_eq key q) place (place_of ps f q) t)
+  | inl t ↦ ap (place_of ps f) (sym (key_eq_same key q t)) ∙ e ∙ sym (picks (key_eq key q) place (place_of ps f q) t)
   | inr n ↦ sym (skips (key_eq key q) place (place_of ps f q) n)
 ]
 

@@ -7,12 +7,12 @@ use Rattle.maximal_runs.specs.Items.{begins_in}
 use Rattle.pcap_io.specs.Capture.{Packet}
 use Rattle.frame_layout.specs.Key.{key_eq, key_of}
 use Rattle.offload_model.specs.Mergeable.{IsMergeable, IsMergeableWithin}
-use Rattle.offload_model.specs.Rounds.{is_key, is_of}
-use Rattle.offload_model.proofs.Items.{is_key_same, is_key_self}
+use Rattle.offload_model.specs.Rounds.{is_of}
+use Rattle.offload_model.proofs.Items.{key_eq_same, key_eq_self}
 use Rattle.merge_rule.specs.Steps.{IsLastBelow, TakesPacket}
 use Rattle.merge_rule.proofs.Steps.{run_grows, run_opens}
 use Rattle.gro.specs.Index.{IsShut, IsFound, IsIndexOf, IsLatest}
-use Rattle.gro.proofs.Keys.{keys_equiv, key_eq_is, same_key}
+use Rattle.gro.proofs.Keys.{keys_equiv}
 
 -- the run's first packet is of the flow with this key
 abbrev pub is_run_of : Option (List ℕ) → List Packet → Bool
@@ -42,7 +42,7 @@ begins_same q (y ∷ run) x h = refl
 one_flow : (q r : Option (List ℕ)) (run : List Packet) → is_run_of q run ≡ true → is_run_of r run ≡ true → q ≡ r
 one_flow q r [] e f = absurd cc
 one_flow q r (y ∷ run) e f =
-    is_key_same q (key_of y.frame) e ∙ sym (is_key_same r (key_of y.frame) f)
+    key_eq_same q (key_of y.frame) e ∙ sym (key_eq_same r (key_of y.frame) f)
 
 -- a run that is found is its flow's last
 pub found_last : (look : Option (List ℕ) → Option ℕ) (rs : List (List Packet)) (q : Option (List ℕ)) (i : ℕ)
@@ -99,7 +99,7 @@ module _ (look : Option (List ℕ) → Option ℕ) (rs : List (List Packet)) (ke
       → (is_open ≡ false → IsShut (run ++ (x ∷ []))) → IsIndexOf next grown
   index_grows next is_open puts shut = λ q. elim (cases_Bool (key_eq key q)) [
     | inl e ↦
-        let same : key ≡ q = same_key key q e in (
+        let same : key ≡ q = key_eq_same key q e in (
           Some i,
           (
             last_stays q (Some i) (subst (λ z. IsLastBelow (is_run_of z) rs (length rs) (Some i)) same own),
@@ -164,7 +164,7 @@ module _ (look next : Option (List ℕ) → Option ℕ) (rs : List (List Packet)
   opened = rs ++ ((x ∷ []) ∷ [])
 
   of_key : (q : Option (List ℕ)) → is_run_of q (x ∷ []) ≡ key_eq key q
-  of_key q = ap (is_key q) is ∙ sym (key_eq_is q key) ∙ keys_equiv.symm q key
+  of_key q = ap (key_eq q) is ∙ keys_equiv.symm q key
 
   -- what the flow with this key finds is `place`; another finds what it found
   opens : (place : Option ℕ) → ((q : Option (List ℕ)) → next q ≡ (if key_eq key q then place else look q))
@@ -226,4 +226,4 @@ pub latest_found : (look : Option (List ℕ) → Option ℕ) (rs : List (List Pa
     → key_of x.frame ≡ key_of first.frame → look (key_of x.frame) ≡ Some i
 latest_found look rs i first x rest l e k =
     let key : Option (List ℕ) = key_of x.frame in
-    l.1 key (ap (is_run_of key) e ∙ ap (is_key key) (sym k) ∙ is_key_self key)
+    l.1 key (ap (is_run_of key) e ∙ ap (key_eq key) (sym k) ∙ key_eq_self key)

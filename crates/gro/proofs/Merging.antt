@@ -10,8 +10,8 @@ use Rattle.maximal_runs.proofs.Pass.{all_append}
 use Rattle.frame_layout.specs.Key.{key_eq, key_of}
 use Rattle.pcap_io.specs.Capture.{Packet}
 use Rattle.offload_model.specs.Mergeable.{IsMergeable, IsMergeableWithin}
-use Rattle.offload_model.specs.Rounds.{is_key, is_of, number_of}
-use Rattle.offload_model.proofs.Items.{is_key_self}
+use Rattle.offload_model.specs.Rounds.{is_of, number_of}
+use Rattle.offload_model.proofs.Items.{key_eq_same, key_eq_self}
 use Rattle.merge_rule.specs.Runs.{IsNoCandidate}
 use Rattle.merge_rule.specs.Steps.{IsLastBelow, TakesPacket, KeepsEarly}
 use Rattle.merge_rule.proofs.Knows.{shut_by, no_first}
@@ -25,7 +25,7 @@ use Rattle.gro.specs.Flows.{place_of, AreFlows, Puts, HasRoom}
 use Rattle.gro.specs.Index.{IsShut, IsIndexOf, IsLatest}
 use Rattle.gro.specs.Chains.{chain_of, behind, indices, last_in, packet_at, run_of, index_sum, index_sums, sum_below, AreSharedOut, mark}
 use Rattle.gro.specs.Engine.{Knows, TakesOne, IsChain, runs_of, chains_of, AreRuns, Grows, HasPlaces, Takes}
-use Rattle.gro.proofs.Keys.{keys_equiv, same_key}
+use Rattle.gro.proofs.Keys.{keys_equiv}
 use Rattle.gro.proofs.Indexing.{found_last, index_grows, takes_grows, index_opens, takes_opens, index_none, latest_of}
 use Rattle.gro.proofs.Chains.{mark_same, once, last_counts, chain_apart, chain_grown, last_grown, totals_push, totals_set, one_of, two_of}
 use Rattle.std.proofs.lemmas.List.{get_or-set_other, take_more, take_all}
@@ -379,7 +379,7 @@ module _ (segs : ℕ) (ps : List Packet) (i : ℕ) (a b : Engine) (item : Run) (
       subst (IsLatest (place_of ps b.flows) (runs_of ps a ++ ((x ∷ []) ∷ []))) (sym last)
       (latest_of (place_of ps b.flows) (runs_of ps a ++ ((x ∷ []) ∷ [])) key j is_open
       (omega (arith, n, length-append (runs_of ps a) ((x ∷ []) ∷ [])))
-      (ap (begins_in (is_of key)) (get_or_push (runs_of ps a) (x ∷ []) [] j (sym n)) ∙ ap (is_key key) k ∙ is_key_self key)
+      (ap (begins_in (is_of key)) (get_or_push (runs_of ps a) (x ∷ []) [] j (sym n)) ∙ ap (key_eq key) k ∙ key_eq_self key)
       (puts key ∙ ap (λ (b : Bool). if b then (if is_open then Some j else None) else place_of ps a.flows key) (keys_equiv.refl key)))
 
   pub opens_run : (key : Option (List ℕ)) (j : ℕ) → key_of x.frame ≡ key → j ≡ length a.runs.items → AreFlows ps b.flows
@@ -403,7 +403,7 @@ module _ (segs : ℕ) (ps : List Packet) (i : ℕ) (a b : Engine) (item : Run) (
   keeps_none : (look : Option (List ℕ) → Option ℕ) (key q : Option (List ℕ)) → look key ≡ None
       → look q ≡ (if key_eq key q then None else look q)
   keeps_none look key q e = elim (cases_Bool (key_eq key q)) [
-    | inl t ↦ ap look (sym (same_key key q t)) ∙ e ∙ sym (ap (λ (b : Bool). if b then None else look q) t)
+    | inl t ↦ ap look (sym (key_eq_same key q t)) ∙ e ∙ sym (ap (λ (b : Bool). if b then None else look q) t)
     | inr f ↦ sym (ap (λ (b : Bool). if b then None else look q) f)
   ]
 
@@ -490,7 +490,7 @@ all_runs segs ps runs r items =
     let none : (key : Option (List ℕ)) → alone key < 1 = λ key. omega arith in
     let own : AreItems (IsMergeableWithin segs) is_of number_of ps (items_of segs alone 0 ps) = subst (λ z. AreItems (IsMergeableWithin segs) is_of number_of z (items_of segs alone 0 ps))
     (all_queued alone ps none) (items_are segs alone 0 ps r) in
-    unique_items is_of number_of key_in (λ p. is_key_self (key_of p.frame)) (IsMergeableWithin segs) (fronts_too segs) ps runs (items_of segs alone 0 ps) items own ∙ one_queue segs alone ps none
+    unique_items is_of number_of key_in (λ p. key_eq_self (key_of p.frame)) (IsMergeableWithin segs) (fronts_too segs) ps runs (items_of segs alone 0 ps) items own ∙ one_queue segs alone ps none
 
 pub all_received : (segs : ℕ) (ps : List Packet) (n : ℕ) (e : Engine) → HasReceived segs ps n e → n ≡ length ps → DoRise ps → runs_of ps e ≡ runs_in segs ps
 all_received segs ps n e r l rise =

@@ -1,12 +1,12 @@
 -- What packets' blocks weigh together, each by its name; and that a clone makes up no block.
-use Rattle.std.proofs.Common.{◌≡◌, ℕ, zero, suc, ◌+◌, ◌<◌, false, List, [], ◌∷◌, ◌++◌, length, map, get_or, set, reverse, refl, sym, ap, ◌∙◌, arith}
+use Rattle.std.proofs.Common.{◌≡◌, ℕ, zero, suc, ◌+◌, ◌<◌, false, List, [], ◌∷◌, ◌++◌, length, map, get_or, set, reverse, refl, ap, ◌∙◌, arith}
 use Rattle.std.specs.Prelude.{Result, Ok, Err}
 use Rattle.std.specs.List.{sum_by}
 use Rattle.std.proofs.lemmas.List.{reverse-append}
 use Rattle.std.proofs.lemmas.List.Sums.{sum_by-cons}
 use Rattle.raw_block.specs.Views.{PartState}
 use Rattle.frags.specs.Account.{KeepsBlocks, both, every}
-use Rattle.frags.specs.Gifts.{kept, less}
+use Rattle.frags.specs.Gifts.{kept}
 use Rattle.frags.specs.Holders.{name_of, AsPart}
 use Rattle.frags.specs.declared.pieces.Piece.{Piece}
 use Rattle.frags.specs.declared.pieces.ShareFault.{ShareFault}
@@ -15,7 +15,7 @@ use Rattle.frags.specs.declared.holder.Holder.{Holder}
 use Rattle.frags.specs.declared.holder.Holder.TheVariants.{Sole, Part}
 use Rattle.skb.specs.SkbState.{SkbState, is_sole, of_buffer, weighed_in, IsClone, IsLent}
 use Rattle.gro.specs.declared.slot.Slot.{Slot}
-use Rattle.gro.specs.Slots.{weighed_slots, with_head, AreLent}
+use Rattle.gro.specs.Slots.{weighed_slots, AreLent}
 use Rattle.gro.specs.Packets.{Cloned}
 
 -- ---- of a list

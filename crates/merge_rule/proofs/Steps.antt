@@ -6,10 +6,10 @@ use Rattle.std.proofs.lemmas.List.Elements.{filter-append}
 use Rattle.maximal_runs.specs.Items.{begins_in, first_number, AreItems}
 use Rattle.maximal_runs.proofs.Items.{opens_item, extends_item, filter_none}
 use Rattle.pcap_io.specs.Capture.{Packet}
-use Rattle.frame_layout.specs.Key.{key_of}
+use Rattle.frame_layout.specs.Key.{key_eq, key_of}
 use Rattle.offload_model.specs.Mergeable.{IsMergeableWithin}
-use Rattle.offload_model.specs.Rounds.{is_key, is_of, number_of}
-use Rattle.offload_model.proofs.Items.{is_key_same}
+use Rattle.offload_model.specs.Rounds.{is_of, number_of}
+use Rattle.offload_model.proofs.Items.{key_eq_same}
 use Rattle.merge_rule.specs.Steps.{IsLastBelow, TakesPacket, KeepsEarly}
 
 all_from_index : {X : Type 0} (P : X → Type 0) (xs : List X) → ((k : ℕ) (d : X) → k < length xs → P (get_or xs k d)) → AllByRecursion P xs
@@ -28,7 +28,7 @@ none_behind rs key i f = all_from_index (λ r. begins_in (is_of key) r ≡ false
 -- `key` is the new packet's
 module _ (segs : ℕ) (x : Packet) (key : Option (List ℕ)) (is : key_of x.frame ≡ key) where
   of_flow : (k : Option (List ℕ)) → is_of k x ≡ true → key ≡ k
-  of_flow k t = sym is ∙ sym (is_key_same k (key_of x.frame) t)
+  of_flow k t = sym is ∙ sym (key_eq_same k (key_of x.frame) t)
 
   pub run_grows : (rs : List (List Packet)) (i : ℕ) (run : List Packet) → run ≡ get_or rs i []
       → IsLastBelow (begins_in (is_of key)) rs (length rs) (Some i) → IsMergeableWithin segs (run ++ (x ∷ []))
@@ -37,11 +37,11 @@ module _ (segs : ℕ) (x : Packet) (key : Option (List ℕ)) (is : key_of x.fram
   run_grows rs i (y ∷ rest) e last m = λ packets later items.
       let split : rs ≡ take i rs ++ ((y ∷ rest) ∷ drop (i + 1) rs) = whole rs i last.0 ∙ ap (λ z. take i rs ++ (z ∷ drop (i + 1) rs)) (sym e) in
       let n : suc i ≡ i + 1 = omega arith in
-      let same : key_of y.frame ≡ key = sym (is_key_same key (key_of y.frame) (ap (begins_in (is_of key)) e ∙ last.1 [])) in
+      let same : key_of y.frame ≡ key = sym (key_eq_same key (key_of y.frame) (ap (begins_in (is_of key)) e ∙ last.1 [])) in
       subst (λ z. AreItems (IsMergeableWithin segs) is_of number_of (packets ++ (x ∷ [])) z)
       (sym (set_split rs i ((y ∷ rest) ++ (x ∷ [])) last.0 ∙ ap (λ z. take i rs ++ (((y ∷ rest) ++ (x ∷ [])) ∷ drop z rs)) n))
       (extends_item (IsMergeableWithin segs) is_of number_of packets x (take i rs) (drop (i + 1) rs) y rest
-      (λ k. ap (is_key k) (is ∙ sym same))
+      (λ k. ap (key_eq k) (is ∙ sym same))
       (λ k t. subst (λ z. AllByRecursion (λ r. begins_in (is_of z) r ≡ false) (drop (i + 1) rs)) (of_flow k t) (none_behind rs key i last.2))
       m
       (subst (λ z. AreItems (IsMergeableWithin segs) is_of number_of packets z) split items))

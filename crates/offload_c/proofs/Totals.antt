@@ -3,9 +3,9 @@ use Rattle.std.proofs.Common.{◌≡◌, ℕ, zero, suc, ◌+◌, ◌<◌, ◌�
 use Rattle.std.specs.List.{flat_map, filter, AllByRecursion}
 use Rattle.maximal_runs.specs.Items.{begins_in}
 use Rattle.pcap_io.specs.Capture.{Packet}
-use Rattle.frame_layout.specs.Key.{key_of}
-use Rattle.offload_model.specs.Rounds.{is_key, is_of}
-use Rattle.offload_model.proofs.Items.{is_key_self, is_key_same}
+use Rattle.frame_layout.specs.Key.{key_eq, key_of}
+use Rattle.offload_model.specs.Rounds.{is_of}
+use Rattle.offload_model.proofs.Items.{key_eq_self, key_eq_same}
 
 abbrev pub total : {A : Type 0} → (A → ℕ) → List A → ℕ
 total w [] = 0
@@ -40,13 +40,13 @@ take_one w key x rest [] e = absurd cc
 take_one w key x rest (p ∷ ps) e = by (is_of key p) refl e (λ h. take_one w key x rest ps h)
   where
     no : (other : Option (List ℕ)) (v : Bool) → is_of other p ≡ v → key ≡ key_of p.frame → (other ≡ key → ⊥) → is_of other p ≡ false
-    no other true t own n = absurd (n (is_key_same other (key_of p.frame) t ∙ sym own))
+    no other true t own n = absurd (n (key_eq_same other (key_of p.frame) t ∙ sym own))
     no other false t own n = t
 
     by : (v : Bool) → is_of key p ≡ v → cond v (p ∷ filter (is_of key) ps) (filter (is_of key) ps) ≡ x ∷ rest
         → (filter (is_of key) ps ≡ x ∷ rest → Taken w key (x ∷ []) rest ps) → Taken w key (x ∷ []) rest (p ∷ ps)
     by true s e f =
-        let own : key ≡ key_of p.frame = is_key_same key (key_of p.frame) s in
+        let own : key ≡ key_of p.frame = key_eq_same key (key_of p.frame) s in
         let same : p ∷ filter (is_of key) ps ≡ x ∷ rest = e in
         let first : p ≡ x = cc in
         record {
@@ -82,16 +82,16 @@ runs_total w ([] ∷ items) xs full same = absurd (omega (arith, full.0))
 runs_total w ((p ∷ run) ∷ items) xs full same =
     let key : Option (List ℕ) = key_of p.frame in
     let here : (p ∷ run) ++ joined_of key items ≡ filter (is_of key) xs
-    = sym (ap (λ v. flat_map (λ u. u) (cond v ((p ∷ run) ∷ filter (begins_in (is_of key)) items) (filter (begins_in (is_of key)) items))) (is_key_self key)) ∙ same key in
+    = sym (ap (λ v. flat_map (λ u. u) (cond v ((p ∷ run) ∷ filter (begins_in (is_of key)) items) (filter (begins_in (is_of key)) items))) (key_eq_self key)) ∙ same key in
     let t = take_run w key (p ∷ run) (joined_of key items) xs (sym here) in
     omega (arith, t.sum, runs_total w items t.left full.1 (λ other. by other (is_of other p) refl t.left t.own (t.others other)))
   where
     by : (other : Option (List ℕ)) (v : Bool) → is_of other p ≡ v → (left : List Packet) → filter (is_of (key_of p.frame)) left ≡ joined_of (key_of p.frame) items
         → ((other ≡ key_of p.frame → ⊥) → filter (is_of other) left ≡ filter (is_of other) xs) → joined_of other items ≡ filter (is_of other) left
     by other true s left own others =
-        let is : other ≡ key_of p.frame = is_key_same other (key_of p.frame) s in
+        let is : other ≡ key_of p.frame = key_eq_same other (key_of p.frame) s in
         ap (λ k. joined_of k items) is ∙ sym own ∙ ap (λ k. filter (is_of k) left) (sym is)
     by other false s left own others =
-        let apart : other ≡ key_of p.frame → ⊥ = λ h. (let both : true ≡ false = sym (is_key_self (key_of p.frame)) ∙ ap (λ k. is_key k (key_of p.frame)) (sym h) ∙ s in cc) in
+        let apart : other ≡ key_of p.frame → ⊥ = λ h. (let both : true ≡ false = sym (key_eq_self (key_of p.frame)) ∙ ap (λ k. key_eq k (key_of p.frame)) (sym h) ∙ s in cc) in
         sym (ap (λ v. flat_map (λ u. u) (cond v ((p ∷ run) ∷ filter (begins_in (is_of other)) items) (filter (begins_in (is_of other)) items))) s)
         ∙ same other ∙ sym (others apart)

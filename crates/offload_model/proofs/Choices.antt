@@ -15,7 +15,7 @@ use Rattle.offload_model.specs.Mergeable.{IsMergeableWithin}
 use Rattle.offload_model.specs.Rounds.{Spread, is_of, is_queued, key_in, number_of, items_of, runs_in}
 use Rattle.offload_model.specs.CaptureLaws.{QueuesKeepRuns, ChoicesKeepItems}
 use Rattle.offload_model.proofs.Fronts.{fronts_too}
-use Rattle.offload_model.proofs.Items.{is_key_self, is_key_same, are_flows, items_are}
+use Rattle.offload_model.proofs.Items.{key_eq_self, key_eq_same, are_flows, items_are}
 use Rattle.offload_model.proofs.OneQueue.{all_queued}
 
 -- the runs of all flows
@@ -26,10 +26,10 @@ all_runs segs ps rising =
 
 pub queues_keep_runs : QueuesKeepRuns
 queues_keep_runs segs spread q ps rising =
-    unique_items is_of number_of key_in (λ p. is_key_self (key_of p.frame)) (IsMergeableWithin segs) (fronts_too segs) (filter (is_queued spread q) ps) (items_of segs spread q ps)
+    unique_items is_of number_of key_in (λ p. key_eq_self (key_of p.frame)) (IsMergeableWithin segs) (fronts_too segs) (filter (is_queued spread q) ps) (items_of segs spread q ps)
     (filter (begins_in (is_queued spread q)) (runs_in segs ps))
     (items_are segs spread q ps rising)
-    (part_items (IsMergeableWithin segs) is_of key_in number_of (is_queued spread q) are_flows (λ x y e. ap (λ (k : Option (List ℕ)). spread k == q) (is_key_same (key_of x.frame) (key_of y.frame) e))
+    (part_items (IsMergeableWithin segs) is_of key_in number_of (is_queued spread q) are_flows (λ x y e. ap (λ (k : Option (List ℕ)). spread k == q) (key_eq_same (key_of x.frame) (key_of y.frame) e))
     ps (runs_in segs ps) (all_runs segs ps rising))
 
 -- ---- a list that is parted by a number below n

@@ -8,7 +8,7 @@ use Rattle.std.proofs.lemmas.List.Elements.{filter-append}
 use Rattle.std.proofs.lemmas.Bool.{le-ltb}
 use Rattle.std.proofs.lemmas.Simd.{map-map}
 use Rattle.net_bytes.specs.declared.order.Order.{Order}
-use Rattle.frame_layout.specs.Key.{key_of}
+use Rattle.frame_layout.specs.Key.{key_eq, key_of}
 use Rattle.frame_layout.proofs.Lemmas.{same_key}
 use Rattle.maximal_runs.proofs.Pass.{all_append}
 use Rattle.pcap_io.specs.declared.faults.CapKind.{CapKind}
@@ -23,7 +23,7 @@ use Rattle.pcap_io.proofs.HeadLaws.{file_head_law}
 use Rattle.pcap_io.proofs.SplitLaws.{written_law}
 use Rattle.offload_model.specs.Mergeable.{IsMergeable, IsMergeableAs}
 use Rattle.offload_model.specs.Segments.{packet_in, merged_in, with_frame, frames_of, segments_of}
-use Rattle.offload_model.specs.Rounds.{is_key, is_of, is_queued, items_of, rounds_of}
+use Rattle.offload_model.specs.Rounds.{is_of, is_queued, items_of, rounds_of}
 use Rattle.offload_model.proofs.Shown.{all_shown}
 use Rattle.offload_model.specs.Written.{Options, record_of, shown_of, window_of, window_record, windows_by, windows_of, round_records, records_of, record_bytes, written, segmented}
 use Rattle.offload_model.specs.Captured.{IsCaptured, AreCaptured, AreOptions, content}
@@ -194,16 +194,16 @@ none_of true = refl
 none_of false = refl
 
 -- a flow's packets among a record's are all or none
-one_record : (key k : Option (List ℕ)) (ps : List Packet) → AllByRecursion (λ p. IsOf k (content p)) ps → filter (is_of key) ps ≡ (if is_key key k then ps else [])
-one_record key k [] a = none_of (is_key key k)
-one_record key k (p ∷ ps) a = by (is_key key k) refl (one_record key k ps a.1)
+one_record : (key k : Option (List ℕ)) (ps : List Packet) → AllByRecursion (λ p. IsOf k (content p)) ps → filter (is_of key) ps ≡ (if key_eq key k then ps else [])
+one_record key k [] a = none_of (key_eq key k)
+one_record key k (p ∷ ps) a = by (key_eq key k) refl (one_record key k ps a.1)
   where
-    by : (v : Bool) → is_key key k ≡ v → filter (is_of key) ps ≡ (if is_key key k then ps else []) → cond (is_of key p) (p ∷ filter (is_of key) ps) (filter (is_of key) ps) ≡ (if v then p ∷ ps else [])
+    by : (v : Bool) → key_eq key k ≡ v → filter (is_of key) ps ≡ (if key_eq key k then ps else []) → cond (is_of key p) (p ∷ filter (is_of key) ps) (filter (is_of key) ps) ≡ (if v then p ∷ ps else [])
     by true s i =
-        let own : is_of key p ≡ true = ap (is_key key) a.0 ∙ s in
+        let own : is_of key p ≡ true = ap (key_eq key) a.0 ∙ s in
         ap (λ v. cond v (p ∷ filter (is_of key) ps) (filter (is_of key) ps)) own ∙ ap (λ z. p ∷ z) (i ∙ ap (λ v. if v then ps else []) s)
     by false s i =
-        let own : is_of key p ≡ false = ap (is_key key) a.0 ∙ s in
+        let own : is_of key p ≡ false = ap (key_eq key) a.0 ∙ s in
         ap (λ v. cond v (p ∷ filter (is_of key) ps) (filter (is_of key) ps)) own ∙ i ∙ ap (λ v. if v then ps else []) s
 
 abbrev IsOneFlow : Packet → Type 0

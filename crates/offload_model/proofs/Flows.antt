@@ -7,17 +7,17 @@ use Rattle.std.proofs.lemmas.List.Elements.{filter-append}
 use Rattle.std.proofs.lemmas.Bool.{eq-eqb, ne_eqb}
 use Rattle.maximal_runs.specs.Items.{begins_in, AreItems}
 use Rattle.maximal_runs.proofs.Pass.{all_front, all_back}
-use Rattle.frame_layout.specs.Key.{key_of}
+use Rattle.frame_layout.specs.Key.{key_eq, key_of}
 use Rattle.pcap_io.specs.Capture.{Packet}
 use Rattle.offload_model.specs.Mergeable.{IsMergeable, IsMergeableWithin}
 use Rattle.offload_model.specs.Segments.{packet_in, with_frame, segments_of}
-use Rattle.offload_model.specs.Rounds.{Spread, is_key, is_of, is_queued, number_of, items_of, rounds_of}
+use Rattle.offload_model.specs.Rounds.{Spread, is_of, is_queued, number_of, items_of, rounds_of}
 use Rattle.offload_model.proofs.Shown.{all_shown}
 use Rattle.offload_model.specs.Written.{Options, record_of, shown_of, window_of, windows_by, windows_of, round_records}
 use Rattle.offload_model.specs.Captured.{IsCaptured, AreCaptured, content}
 use Rattle.offload_model.specs.CaptureLaws.{FlowsComeBack}
 use Rattle.offload_model.proofs.Lists.{filter-flat_map, flat_map_none, all_filtered, all_of, all_joined, all_range, one_of_range, rounds_are, all_rounds, all_taken, near_taken, near_behind}
-use Rattle.offload_model.proofs.Items.{is_key_self, is_key_same, items_are}
+use Rattle.offload_model.proofs.Items.{key_eq_self, key_eq_same, items_are}
 use Rattle.offload_model.proofs.RunRecords.{runs_come_back, record_key, segments_are}
 
 -- what holds of the runs of each flow holds of all runs, since each run is of some flow
@@ -27,7 +27,7 @@ of_all : (Q : List Packet → Type 0) (items : List (List Packet))
 of_all Q [] full q = tt
 of_all Q ([] ∷ items) full q = absurd (omega (arith, full.0))
 of_all Q ((p ∷ run) ∷ items) full q = (
-  (subst (λ v. AllByRecursion Q (cond v ((p ∷ run) ∷ filter (begins_in (is_of (key_of p.frame))) items) (filter (begins_in (is_of (key_of p.frame))) items))) (is_key_self (key_of p.frame))
+  (subst (λ v. AllByRecursion Q (cond v ((p ∷ run) ∷ filter (begins_in (is_of (key_of p.frame))) items) (filter (begins_in (is_of (key_of p.frame))) items))) (key_eq_self (key_of p.frame))
       (q (key_of p.frame))).0,
   of_all Q items full.1 (λ key. rest (is_of key p) (filter (begins_in (is_of key)) items) (q key)),
 )
@@ -95,7 +95,7 @@ module _ (key : Option (List ℕ)) where
   back_items q ([] ∷ items) a = absurd (omega (arith, a.0.full))
   back_items q ((p ∷ run) ∷ items) a =
       let r : Packet = record_of q (p ∷ run) in
-      let same : has r ≡ is_of key p = ap (is_key key) (record_key q p run a.0.captured a.0.allowed) in
+      let same : has r ≡ is_of key p = ap (key_eq key) (record_key q p run a.0.captured a.0.allowed) in
       let rest : back (map (record_of q) items) ≡ map content (flat_map (λ u. u) (filter (begins_in (is_of key)) items)) = back_items q items a.1 in
       elim (is_of key p) as (λ v. has r ≡ v
       → map content (flat_map segments_of (filter has (r ∷ map (record_of q) items)))
@@ -127,7 +127,7 @@ module _ (key : Option (List ℕ)) where
   own_queue spread (p ∷ ps) = elim (is_of key p) as (λ v. is_of key p ≡ v
       → filter (is_of key) (filter (is_queued spread (own spread)) (p ∷ ps)) ≡ cond v (p ∷ filter (is_of key) ps) (filter (is_of key) ps)) [
         | true ↦ λ e.
-            let same : key ≡ key_of p.frame = is_key_same key (key_of p.frame) e in
+            let same : key ≡ key_of p.frame = key_eq_same key (key_of p.frame) e in
             let queued : is_queued spread (own spread) p ≡ true = eq-eqb (spread (key_of p.frame)) (spread key) (ap spread (sym same)) in
             rw queued (rw e (ap (λ z. p ∷ z) (own_queue spread ps)))
         | false ↦ λ e. elim (is_queued spread (own spread) p) as (λ w. filter (is_of key) (cond w (p ∷ filter (is_queued spread (own spread)) ps) (filter (is_queued spread (own spread)) ps))
@@ -141,7 +141,7 @@ module _ (key : Option (List ℕ)) where
   other_queue spread q [] n = refl
   other_queue spread q (p ∷ ps) n = elim (is_of key p) as (λ v. is_of key p ≡ v → filter (is_of key) (filter (is_queued spread q) (p ∷ ps)) ≡ []) [
     | true ↦ λ e.
-        let same : key ≡ key_of p.frame = is_key_same key (key_of p.frame) e in
+        let same : key ≡ key_of p.frame = key_eq_same key (key_of p.frame) e in
         let queued : is_queued spread q p ≡ false = ne_eqb (spread (key_of p.frame)) q (λ h. n (sym h ∙ ap spread (sym same))) in
         rw queued (other_queue spread q ps n)
     | false ↦ λ e. elim (is_queued spread q p) as (λ w. filter (is_of key) (cond w (p ∷ filter (is_queued spread q) ps) (filter (is_queued spread q) ps)) ≡ []) [

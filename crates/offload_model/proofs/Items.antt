@@ -1,7 +1,6 @@
 -- The items of a queue are the cuts of its flows.
-use Rattle.std.proofs.Common.{◌≡◌, ℕ, ◌<◌, ◌⊎◌, inl, inr, true, Option, Some, None, List, [], ◌∷◌, ◌++◌, length, take, refl, sym, ap, subst}
+use Rattle.std.proofs.Common.{◌≡◌, ℕ, ◌<◌, ◌⊎◌, inl, inr, true, Option, List, [], ◌∷◌, ◌++◌, length, take, refl, sym, ap, subst}
 use Rattle.std.specs.List.{filter}
-use Rattle.std.proofs.lemmas.Slice.Eq.{bytes_eq-Decides}
 use Rattle.maximal_runs.specs.Cut.{AllNeighbours, IsCut, cut_of}
 use Rattle.maximal_runs.specs.Items.{begins_in, AreFlows, AreItems}
 use Rattle.maximal_runs.proofs.Unique.{unique}
@@ -10,29 +9,26 @@ use Rattle.maximal_runs.proofs.Items.{unique_items}
 use Rattle.maximal_runs.proofs.Ordered.{items_are_runs}
 use Rattle.offload_model.proofs.Fronts.{fronts_too}
 use Rattle.offload_model.specs.Laws.{HasOneCut}
-use Rattle.frame_layout.specs.Key.{key_of}
+use Rattle.frame_layout.specs.Key.{key_eq, key_of}
+use Rattle.frame_layout.proofs.Lemmas.{decides_key}
 use Rattle.pcap_io.specs.Capture.{Packet}
 use Rattle.offload_model.specs.Mergeable.{IsMergeableWithin}
 use Rattle.offload_model.specs.Tests.{is_mergeable_within}
-use Rattle.offload_model.specs.Rounds.{Spread, is_key, key_in, is_of, is_queued, number_of, items_of}
+use Rattle.offload_model.specs.Rounds.{Spread, key_in, is_of, is_queued, number_of, items_of}
 use Rattle.offload_model.specs.CaptureLaws.{ItemsAreRuns}
 use Rattle.offload_model.proofs.Lists.{all_of, rising_filtered}
 use Rattle.offload_model.proofs.Decides.{decides_within}
 
-pub is_key_self : (key : Option (List ℕ)) → is_key key key ≡ true
-is_key_self None = refl
-is_key_self (Some a) = (bytes_eq-Decides a a).1 refl
+pub key_eq_self : (key : Option (List ℕ)) → key_eq key key ≡ true
+key_eq_self key = (decides_key key key).1 refl
 
-pub is_key_same : (a b : Option (List ℕ)) → is_key a b ≡ true → a ≡ b
-is_key_same None None e = refl
-is_key_same None (Some b) e = absurd cc
-is_key_same (Some a) None e = absurd cc
-is_key_same (Some a) (Some b) e = ap Some ((bytes_eq-Decides a b).0 e)
+pub key_eq_same : (a b : Option (List ℕ)) → key_eq a b ≡ true → a ≡ b
+key_eq_same a b e = (decides_key a b).0 e
 
 pub are_flows : AreFlows is_of key_in
 are_flows = record {
-  own = λ p. is_key_self (key_of p.frame);
-  one = λ key p x e. ap (λ k. is_key k (key_of x.frame)) (is_key_same key (key_of p.frame) e);
+  own = λ p. key_eq_self (key_of p.frame);
+  one = λ key p x e. ap (λ k. key_eq k (key_of x.frame)) (key_eq_same key (key_of p.frame) e);
 }
 
 -- a cut by one rule is a cut by another that says the same
@@ -64,7 +60,7 @@ items_are segs spread q ps rising =
 
 pub items_are_runs_alone : ItemsAreRuns
 items_are_runs_alone segs spread q ps items rising = (
-  λ i. unique_items is_of number_of key_in (λ p. is_key_self (key_of p.frame)) (IsMergeableWithin segs) (fronts_too segs) (filter (is_queued spread q) ps) items
+  λ i. unique_items is_of number_of key_in (λ p. key_eq_self (key_of p.frame)) (IsMergeableWithin segs) (fronts_too segs) (filter (is_queued spread q) ps) items
       (items_of segs spread q ps) i (items_are segs spread q ps rising),
   λ e. subst (AreItems (IsMergeableWithin segs) is_of number_of (filter (is_queued spread q) ps)) (sym e) (items_are segs spread q ps rising),
 )

@@ -1,9 +1,8 @@
 -- The packets of a capture in rounds, and the runs of a round.
-use Rattle.std.specs.Prelude.{ℕ, zero, suc, ◌-◌, Bool, true, false, ◌==◌, Option, Some, None, List, [], ◌∷◌, take}
+use Rattle.std.specs.Prelude.{ℕ, zero, suc, ◌-◌, Bool, ◌==◌, Option, List, [], ◌∷◌, take}
 use Rattle.std.specs.List.{filter}
-use Rattle.std.specs.Str.{bytes_eq}
 use Rattle.maximal_runs.specs.Items.{items_of as runs_of}
-use Rattle.frame_layout.specs.Key.{key_of}
+use Rattle.frame_layout.specs.Key.{key_eq, key_of}
 use Rattle.pcap_io.specs.Capture.{Packet}
 use Rattle.offload_model.specs.Tests.{is_mergeable_within}
 
@@ -17,19 +16,12 @@ rounds_from budget zero (x ∷ xs) = take budget (x ∷ xs) ∷ rounds_from budg
 abbrev pub rounds_of : {A : Type 0} → ℕ → List A → List (List A)
 rounds_of budget xs = rounds_from budget 0 xs
 
--- whether two flow keys are one
-abbrev pub is_key : Option (List ℕ) → Option (List ℕ) → Bool
-is_key None None = true
-is_key None (Some b) = false
-is_key (Some a) None = false
-is_key (Some a) (Some b) = bytes_eq a b
-
 abbrev pub key_in : Packet → Option (List ℕ)
 key_in p = key_of p.frame
 
 -- whether a packet is of the flow with this key, and whether its flow is of queue q
 abbrev pub is_of : Option (List ℕ) → Packet → Bool
-is_of key p = is_key key (key_of p.frame)
+is_of key p = key_eq key (key_of p.frame)
 
 -- how flows go to queues: any function of their keys
 abbrev pub Spread : Type 0

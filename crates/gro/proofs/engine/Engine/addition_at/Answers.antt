@@ -1,13 +1,12 @@
 use Rattle.std.proofs.Common.{◌≡◌, ◌∷◌, ◌++◌, [], List, Option, ℕ, map, sym, ap, ◌∙◌, subst, arith}
-use Rattle.std.specs.Bool.{Decides}
 use Rattle.std.proofs.lemmas.List.{length-map}
 use Rattle.maximal_runs.specs.Items.{begins_in}
-use Rattle.frame_layout.specs.Key.{key_of}
+use Rattle.frame_layout.specs.Key.{key_eq, key_of}
 use Rattle.pcap_io.specs.Capture.{Packet}
 use Rattle.skb.specs.SkbState.{buffer_bytes}
 use Rattle.offload_model.specs.Mergeable.{IsMergeableWithin}
-use Rattle.offload_model.specs.Rounds.{is_key, is_of}
-use Rattle.offload_model.proofs.Items.{is_key_self}
+use Rattle.offload_model.specs.Rounds.{is_of}
+use Rattle.offload_model.proofs.Items.{key_eq_self}
 use Rattle.gro.specs.declared.slot.Slot.{Slot}
 use Rattle.gro.specs.declared.run.Run.{Run}
 use Rattle.gro.specs.declared.engine.Engine.{Engine}
@@ -34,5 +33,5 @@ returns c =
     record {
       takes = if_some _ _ c.addition_within.result (λ a t. subst (λ (z : List Packet). IsMergeableWithin c.args.segs (z ++ (x ∷ []))) (sym is) (t rest k)) c.addition_within.ensures.takes;
       added = c.addition_within.ensures.added;
-      flow = if_some _ _ c.addition_within.result (λ a t. ap (begins_in (is_of key)) is ∙ ap (is_key key) (sym t) ∙ is_key_self key) c.addition_within.ensures.flow;
+      flow = if_some _ _ c.addition_within.result (λ a t. ap (begins_in (is_of key)) is ∙ ap (key_eq key) (sym t) ∙ key_eq_self key) c.addition_within.ensures.flow;
     }

@@ -2,12 +2,12 @@ use Rattle.std.proofs.Common.{◌≡◌, ◌∷◌, ◌++◌, [], List, Option, 
 use Rattle.std.specs.Bool.{Decides}
 use Rattle.std.proofs.lemmas.List.{length-map}
 use Rattle.maximal_runs.specs.Items.{begins_in}
-use Rattle.frame_layout.specs.Key.{key_of}
+use Rattle.frame_layout.specs.Key.{key_eq, key_of}
 use Rattle.pcap_io.specs.Capture.{Packet}
 use Rattle.skb.specs.SkbState.{buffer_bytes}
 use Rattle.offload_model.specs.Mergeable.{IsMergeableWithin}
-use Rattle.offload_model.specs.Rounds.{is_key, is_of}
-use Rattle.offload_model.proofs.Items.{is_key_self}
+use Rattle.offload_model.specs.Rounds.{is_of}
+use Rattle.offload_model.proofs.Items.{key_eq_self}
 use Rattle.gro.specs.declared.slot.Slot.{Slot}
 use Rattle.gro.specs.declared.run.Run.{Run}
 use Rattle.gro.specs.declared.engine.Engine.{Engine}
@@ -32,5 +32,5 @@ returns c =
     let key : Option (List ℕ) = key_of (buffer_bytes c.args.slot.now.skb) in
     record {
       takes = subst (λ (z : List Packet). Decides c.takes_within.result (IsMergeableWithin c.args.segs (z ++ (x ∷ [])))) (sym is) (c.takes_within.ensures.takes rest k);
-      flow = λ t. ap (begins_in (is_of key)) is ∙ ap (is_key key) (sym (c.takes_within.ensures.flow t)) ∙ is_key_self key;
+      flow = λ t. ap (begins_in (is_of key)) is ∙ ap (key_eq key) (sym (c.takes_within.ensures.flow t)) ∙ key_eq_self key;
     }

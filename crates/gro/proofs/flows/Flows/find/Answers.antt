@@ -4,11 +4,12 @@ use Rattle.std.proofs.lemmas.List.{get_or_default}
 use Rattle.frame_layout.specs.Key.{key_eq, key_of}
 use Rattle.pcap_io.specs.Capture.{Packet}
 use Rattle.skb.specs.SkbState.{buffer_bytes}
+use Rattle.offload_model.proofs.Items.{key_eq_same}
 use Rattle.gro.specs.declared.flows.Entry.{Entry}
 use Rattle.gro.specs.Flows.{last_in, joined, key_at, bucket_in, no_entry, entry_at, IsHead, IsHashed}
 use Rattle.gro.specs.Slots.{packet_of}
 use Rattle.gro.proofs.Flowing.{last_head, last_hit, last_below}
-use Rattle.gro.proofs.Keys.{keys_equiv, same_key}
+use Rattle.gro.proofs.Keys.{keys_equiv}
 use Rattle.gro.proofs.flows.Flows.find.Goals as goal
 
 pub loop-at-init : goal.loop-at-init
@@ -61,7 +62,7 @@ loop-at-preserved c =
     let is : entry ≡ entry_at es i = c.index-entry.ensures ∙ get_or_default es i entry no_entry inside in
     let no : key_eq (key_at ps (entry_at es i)) key ≡ false = elim (cases_Bool (key_eq (key_at ps (entry_at es i)) key)) [
       | inl e ↦
-          let same : key_at ps entry ≡ key = ap (key_at ps) is ∙ same_key (key_at ps (entry_at es i)) key e in
+          let same : key_at ps entry ≡ key = ap (key_at ps) is ∙ key_eq_same (key_at ps (entry_at es i)) key e in
           let u : false ≡ true = sym c.if-is_of.false ∙ c.is_of.ensures.same.1 same in absurd cc
       | inr e ↦ e
     ] in

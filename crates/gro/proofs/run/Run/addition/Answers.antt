@@ -1,9 +1,8 @@
-use Rattle.std.proofs.Common.{◌≡◌, ◌+◌, ◌∷◌, ◌++◌, [], List, Option, Some, None, length, subst, arith}
+use Rattle.std.proofs.Common.{◌≡◌, ◌+◌, ◌∷◌, List, Some, length, subst, arith}
 use Rattle.std.specs.Bool.{Decides}
 use Rattle.frame_layout.specs.Shape.{Layout}
 use Rattle.frame_layout.proofs.Lemmas.{same_shape}
 use Rattle.pcap_io.specs.Capture.{Packet}
-use Rattle.offload_model.specs.Mergeable.{IsMergeable}
 use Rattle.merge_rule.specs.Next.{IsNext}
 use Rattle.merge_rule.specs.Runs.{IsRunOf, IsCandidateOf}
 use Rattle.merge_rule.proofs.Knows.{takes_next, one_flow}

@@ -1,4 +1,4 @@
-use Rattle.std.proofs.Common.{◌≡◌, ◌+◌, arith}
+use Rattle.std.proofs.Common.{arith}
 use Rattle.gro.specs.Slots.{packet_of}
 use Rattle.gro.proofs.Running.{head_of, in_head, few_more, placed, sums, first_in_head}
 use Rattle.gro.proofs.run.Run.is_followed_by.Goals as goal
