@@ -2,7 +2,7 @@
 ghost use Rattle.std.specs.Prelude.{OnOk, OnErr};
 ghost use Rattle.std.specs.Io.KnownBytes.{Appends};
 ghost use Rattle.off_io.specs.Faults.{HasCause};
-ghost use Rattle.off_io.specs.Content.{AppendsFront};
+ghost use Rattle.off_io.specs.Content.{AppendsPrefix};
 ghost use Rattle.cap_make.specs.Capture.{made};
 
 use crate::maker::Maker;
@@ -14,7 +14,7 @@ use off_io::{Sink, WriteFault, write_all};
 /// `WriteFault` only where the sink's count of faults rose; a prefix of the capture was then written.
 pub fn make_capture<K: Sink>(seed: u64, count: u32, sink: &mut K) -> Result<(), WriteFault>
     ensures ok { OnOk result (Appends (K.held sink.old) (K.held sink.new) (made seed count)) }
-    ensures err { OnErr result (AppendsFront (K.held sink.old) (K.held sink.new) (made seed count)) }
+    ensures err { OnErr result (AppendsPrefix (K.held sink.old) (K.held sink.new) (made seed count)) }
     ensures cause { HasCause (K.faults sink.old) (K.faults sink.new) result }
 {
     let mut maker = Maker::new(seed);

@@ -1,7 +1,7 @@
 -- How counting goes on, and what its lines say of an ending.
 use Rattle.std.proofs.Common.{◌≡◌, ◌≤◌, ◌<◌, ◌+◌, ℕ, List, [], ◌∷◌, ◌++◌, length, map, refl, sym, ap, ◌∙◌, subst, arith, Option, None, append-nil, append_assoc}
 use Rattle.std.specs.Io.KnownBytes.{Appends}
-use Rattle.off_io.specs.Content.{AppendsFront}
+use Rattle.off_io.specs.Content.{AppendsPrefix}
 use Rattle.pcap_io.specs.declared.place.Place.{Place}
 use Rattle.pcap_io.specs.declared.faults.CapFault.{CapFault}
 use Rattle.pcap_io.specs.Capture.{Packet, Found, ended}
@@ -120,7 +120,7 @@ pub totals_are_told : TotalsAreTold
 totals_are_told blocks options place totals old new bytes left = record {
   stopped = λ stop p wrote. (p.0, p.1, subst (Appends old new) (lines_told blocks options place totals bytes p.2) wrote);
   read_fault = λ p wrote. (p.0, p.1, p.2, subst (Appends old new) (lines_told blocks options place totals p.0 p.3) wrote);
-  failed = λ stop p wrote. (p.3.0, p.3.1, subst (AppendsFront old new) (lines_told blocks options place totals p.3.0 p.3.2) wrote);
-  both_failed = λ p wrote. (p.0, p.1, subst (AppendsFront old new) (lines_told blocks options place totals p.0 p.3) wrote);
+  failed = λ stop p wrote. (p.3.0, p.3.1, subst (AppendsPrefix old new) (lines_told blocks options place totals p.3.0 p.3.2) wrote);
+  both_failed = λ p wrote. (p.0, p.1, subst (AppendsPrefix old new) (lines_told blocks options place totals p.0 p.3) wrote);
   no_memory = λ p wrote. (p.0, p.1, (0, wrote));
 }

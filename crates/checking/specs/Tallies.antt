@@ -2,7 +2,7 @@
 use Rattle.std.specs.Prelude.{◌≡◌, ℕ, ◌+◌, ◌*◌, ◌<◌, ◌≤◌, None, Option, List, [], ◌∷◌, ◌++◌, length, map}
 use Rattle.std.specs.Io.KnownBytes.{Appends}
 use Rattle.pcap_io.specs.Limits.{most_frame}
-use Rattle.off_io.specs.Content.{AppendsFront}
+use Rattle.off_io.specs.Content.{AppendsPrefix}
 use Rattle.pcap_io.specs.declared.place.Place.{Place}
 use Rattle.pcap_io.specs.declared.faults.CapFault.{CapFault}
 use Rattle.pcap_io.specs.Capture.{Packet, ended}
@@ -145,9 +145,11 @@ pub record LinesTell (blocks : ℕ) (options : Options) (place : Place) (totals 
       → Appends old new (check_lines totals) → Passes (checking blocks options place) old new ReadFault bytes left
   pub failed : (stop : Stop) → Tallies (counting blocks options place) (totals_of options []) totals
       (Stopped stop) bytes left
-      → AppendsFront old new (check_lines totals) → Passes (checking blocks options place) old new WriteFault bytes left
+      → AppendsPrefix old new (check_lines totals)
+      → Passes (checking blocks options place) old new WriteFault bytes left
   pub both_failed : Tallies (counting blocks options place) (totals_of options []) totals ReadFault bytes left
-      → AppendsFront old new (check_lines totals) → Passes (checking blocks options place) old new WriteFault bytes left
+      → AppendsPrefix old new (check_lines totals)
+      → Passes (checking blocks options place) old new WriteFault bytes left
   pub no_memory : Tallies (counting blocks options place) (totals_of options []) totals NoMemory bytes left
       → Appends old new [] → Passes (checking blocks options place) old new NoMemory bytes left
 

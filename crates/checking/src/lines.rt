@@ -3,7 +3,7 @@ ghost use Rattle.std.specs.Prelude.{◌≡◌, ◌≤◌, ◌<◌, ◌^◌, ◌+
 ghost use Rattle.std.specs.List.{AllByRecursion};
 ghost use Rattle.std.specs.Io.KnownBytes.{Appends};
 ghost use Rattle.arrayvec.specs.ArrayString.{array_string_len};
-ghost use Rattle.off_io.specs.Content.{AppendsFront};
+ghost use Rattle.off_io.specs.Content.{AppendsPrefix};
 ghost use Rattle.off_io.specs.Faults.{HasCause};
 ghost use Rattle.checking.specs.Counts.{queue_sum, IsQueueWithin};
 ghost use Rattle.checking.specs.Lines.{check_lines, lines_from, made_line, numbers_of, queue_line, tap_line};
@@ -96,7 +96,7 @@ fn made_text(count: u32, bytes: u64) -> Line
 
 fn write_queue<K: Sink>(sink: &mut K, queue: u64, totals: &QueueTotals) -> Result<(), WriteFault>
     ensures ok { OnOk result (Appends (K.held sink.old) (K.held sink.new) (queue_line queue totals.now)) }
-    ensures err { OnErr result (AppendsFront (K.held sink.old) (K.held sink.new) (queue_line queue totals.now)) }
+    ensures err { OnErr result (AppendsPrefix (K.held sink.old) (K.held sink.new) (queue_line queue totals.now)) }
     ensures cause { HasCause (K.faults sink.old) (K.faults sink.new) result }
 {
     write_all(sink, queue_text(queue, totals).as_bytes())
@@ -104,7 +104,7 @@ fn write_queue<K: Sink>(sink: &mut K, queue: u64, totals: &QueueTotals) -> Resul
 
 fn write_tap<K: Sink>(sink: &mut K, tap: u64, totals: &TapTotals) -> Result<(), WriteFault>
     ensures ok { OnOk result (Appends (K.held sink.old) (K.held sink.new) (tap_line tap totals.now)) }
-    ensures err { OnErr result (AppendsFront (K.held sink.old) (K.held sink.new) (tap_line tap totals.now)) }
+    ensures err { OnErr result (AppendsPrefix (K.held sink.old) (K.held sink.new) (tap_line tap totals.now)) }
     ensures cause { HasCause (K.faults sink.old) (K.faults sink.new) result }
 {
     write_all(sink, tap_text(tap, totals).as_bytes())
@@ -112,7 +112,7 @@ fn write_tap<K: Sink>(sink: &mut K, tap: u64, totals: &TapTotals) -> Result<(), 
 
 fn write_total<K: Sink>(sink: &mut K, totals: &QueueTotals) -> Result<(), WriteFault>
     ensures ok { OnOk result (Appends (K.held sink.old) (K.held sink.new) (total_line totals.now)) }
-    ensures err { OnErr result (AppendsFront (K.held sink.old) (K.held sink.new) (total_line totals.now)) }
+    ensures err { OnErr result (AppendsPrefix (K.held sink.old) (K.held sink.new) (total_line totals.now)) }
     ensures cause { HasCause (K.faults sink.old) (K.faults sink.new) result }
 {
     write_all(sink, total_text(totals).as_bytes())
@@ -120,7 +120,8 @@ fn write_total<K: Sink>(sink: &mut K, totals: &QueueTotals) -> Result<(), WriteF
 
 fn write_queues<K: Sink>(sink: &mut K, queues: &[QueueTotals]) -> Result<(), WriteFault>
     ensures ok { OnOk result (Appends (K.held sink.old) (K.held sink.new) (lines_from queue_line 0 queues.now)) }
-    ensures err { OnErr result (AppendsFront (K.held sink.old) (K.held sink.new) (lines_from queue_line 0 queues.now)) }
+    ensures err { OnErr result
+        (AppendsPrefix (K.held sink.old) (K.held sink.new) (lines_from queue_line 0 queues.now)) }
     ensures cause { HasCause (K.faults sink.old) (K.faults sink.new) result }
 {
     let mut queue = 0;
@@ -133,7 +134,7 @@ fn write_queues<K: Sink>(sink: &mut K, queues: &[QueueTotals]) -> Result<(), Wri
 
 fn write_taps<K: Sink>(sink: &mut K, taps: &[TapTotals]) -> Result<(), WriteFault>
     ensures ok { OnOk result (Appends (K.held sink.old) (K.held sink.new) (lines_from tap_line 0 taps.now)) }
-    ensures err { OnErr result (AppendsFront (K.held sink.old) (K.held sink.new) (lines_from tap_line 0 taps.now)) }
+    ensures err { OnErr result (AppendsPrefix (K.held sink.old) (K.held sink.new) (lines_from tap_line 0 taps.now)) }
     ensures cause { HasCause (K.faults sink.old) (K.faults sink.new) result }
 {
     let mut tap = 0;
@@ -171,7 +172,7 @@ fn write_lanes<K: Sink>(
     requires within { AllByRecursion (IsQueueWithin (2 ^ 50)) queues.now }
     ensures ok { OnOk result (Appends (K.held sink.old) (K.held sink.new)
         (check_lines (record { queues = queues.now; taps = taps.now }))) }
-    ensures err { OnErr result (AppendsFront (K.held sink.old) (K.held sink.new)
+    ensures err { OnErr result (AppendsPrefix (K.held sink.old) (K.held sink.new)
         (check_lines (record { queues = queues.now; taps = taps.now }))) }
     ensures cause { HasCause (K.faults sink.old) (K.faults sink.new) result }
 {
@@ -187,7 +188,7 @@ pub fn write_totals<K: Sink>(sink: &mut K, totals: &Totals) -> Result<(), WriteF
     requires lanes { length totals.now.queues ≤ 2 ^ 12 }
     requires within { AllByRecursion (IsQueueWithin (2 ^ 50)) totals.now.queues }
     ensures ok { OnOk result (Appends (K.held sink.old) (K.held sink.new) (check_lines totals.now)) }
-    ensures err { OnErr result (AppendsFront (K.held sink.old) (K.held sink.new) (check_lines totals.now)) }
+    ensures err { OnErr result (AppendsPrefix (K.held sink.old) (K.held sink.new) (check_lines totals.now)) }
     ensures cause { HasCause (K.faults sink.old) (K.faults sink.new) result }
 {
     write_lanes(sink, &totals.queues, &totals.taps)
@@ -198,7 +199,7 @@ pub fn write_totals<K: Sink>(sink: &mut K, totals: &Totals) -> Result<(), WriteF
 /// `WriteFault` only where the sink's count of faults rose; a prefix of the line was then written.
 pub fn write_made<K: Sink>(sink: &mut K, count: u32, bytes: u64) -> Result<(), WriteFault>
     ensures ok { OnOk result (Appends (K.held sink.old) (K.held sink.new) (made_line count bytes)) }
-    ensures err { OnErr result (AppendsFront (K.held sink.old) (K.held sink.new) (made_line count bytes)) }
+    ensures err { OnErr result (AppendsPrefix (K.held sink.old) (K.held sink.new) (made_line count bytes)) }
     ensures cause { HasCause (K.faults sink.old) (K.faults sink.new) result }
 {
     write_all(sink, made_text(count, bytes).as_bytes())

@@ -1,7 +1,7 @@
 -- A whole capture: its file header, and the records behind it.
 use Rattle.std.proofs.Common.{◌≡◌, ℕ, List, drop, refl, sym, subst, Option, None, Some, Err, Ok, true}
 use Rattle.std.specs.Io.KnownBytes.{Appends}
-use Rattle.off_io.specs.Content.{AppendsFront, SaysFlushed}
+use Rattle.off_io.specs.Content.{AppendsPrefix, SaysFlushed}
 use Rattle.off_io.specs.Told.{Told}
 use Rattle.off_io.proofs.Telling.{Told-weaker, Told-then}
 use Rattle.pcap_io.specs.declared.faults.CapFault.{CapFault}
@@ -41,12 +41,12 @@ module _ (from to : Link) (passing : Place → List ℕ → Passed) where
   no_file a b h fault told =
       Told-weaker a b (GivesFile from (Err fault)) (Passes (whole from to passing) h h (fault_ending fault)) (λ given left gives. not_taken h fault given left gives) told
 
-  pub head_failed : (a b h h1 : Option (List ℕ)) (file : FileHead) → AppendsFront h h1 (file_bytes file to) → Told a b (GivesFile from (Ok file))
+  pub head_failed : (a b h h1 : Option (List ℕ)) (file : FileHead) → AppendsPrefix h h1 (file_bytes file to) → Told a b (GivesFile from (Ok file))
       → Told a b (Passes (whole from to passing) h h1 WriteFault)
   head_failed a b h h1 file wrote told =
       Told-weaker a b (GivesFile from (Ok file)) (Passes (whole from to passing) h h1 WriteFault)
       (λ given left gives.
-      let front = subst (λ (f : FileHead). AppendsFront h h1 (file_bytes f to)) gives.2 wrote in
+      let front = subst (λ (f : FileHead). AppendsPrefix h h1 (file_bytes f to)) gives.2 wrote in
       subst (λ (l : List ℕ). Passes (whole from to passing) h h1 WriteFault given l) (sym gives.3) ((answers h given).not_written h1 gives.1 front).passes) told
 
   pub behind_head : (h h1 h2 : Option (List ℕ)) (file : FileHead) (ending : Ending) (given rest left : List ℕ) → Appends h h1 (file_bytes file to) → GivesFile from (Ok file) given rest

@@ -2,7 +2,7 @@
 use Rattle.std.proofs.Common.{◌≡◌, ℕ, ◌+◌, List, [], ◌++◌, refl, sym, ap, ◌∙◌, subst, append_assoc, Option, None, Result, Err, Ok}
 use Rattle.std.specs.Io.KnownBytes.{Appends}
 use Rattle.std.proofs.KnownBytes.{Appends-nil, Appends-trans, Appends-kept}
-use Rattle.off_io.specs.Content.{AppendsFront}
+use Rattle.off_io.specs.Content.{AppendsPrefix}
 use Rattle.off_io.specs.Told.{Told}
 use Rattle.off_io.proofs.Telling.{Told-weaker, Told-then, Told-same}
 use Rattle.pcap_io.specs.declared.faults.InFault.{InFault}
@@ -110,7 +110,7 @@ not_taken_given blocks a b h faults.ReadFault end is told =
     Told-weaker a b (Passes (segmenting_whole blocks) h h ReadFault) (EndsAs (segmenting_whole blocks) h h (Err end))
     (λ given left p. rw is (ReadFault, refl, p)) (no_file Offload Ethernet (segmenting blocks) a b h faults.ReadFault told)
 
-pub not_written_given : (blocks : ℕ) (a b h h1 : Option (List ℕ)) (file : FileHead) → AppendsFront h h1 (file_bytes file Ethernet) → Told a b (GivesFile Offload (Ok file))
+pub not_written_given : (blocks : ℕ) (a b h h1 : Option (List ℕ)) (file : FileHead) → AppendsPrefix h h1 (file_bytes file Ethernet) → Told a b (GivesFile Offload (Ok file))
     → Told a b (EndsAs (segmenting_whole blocks) h h1 (Err segments.WriteFault))
 not_written_given blocks a b h h1 file wrote told =
     Told-weaker a b (Passes (segmenting_whole blocks) h h1 WriteFault) (EndsAs (segmenting_whole blocks) h h1 (Err segments.WriteFault))

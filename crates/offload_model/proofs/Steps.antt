@@ -5,8 +5,8 @@ use Rattle.std.specs.List.{flat_map, range_with_len}
 use Rattle.std.specs.Io.KnownBytes.{Appends}
 use Rattle.std.proofs.KnownBytes.{Appends-trans}
 use Rattle.std.proofs.lemmas.Grind.{flat_map-append}
-use Rattle.off_io.specs.Content.{AppendsFront}
-use Rattle.off_io.proofs.Appending.{front_then, front_more}
+use Rattle.off_io.specs.Content.{AppendsPrefix}
+use Rattle.off_io.proofs.Appending.{front_then, prefix_more}
 use Rattle.net_bytes.specs.declared.order.Order.{Order}
 use Rattle.pcap_io.specs.declared.heads.FileHead.{FileHead}
 use Rattle.pcap_io.specs.declared.place.Place.{Place}
@@ -23,7 +23,7 @@ use Rattle.offload_model.specs.Rounds.{items_of}
 use Rattle.offload_model.specs.Written.{Options, record_of, round_records, records_of, record_bytes, windows_of}
 use Rattle.offload_model.specs.Need.{need_of, needed, round_need, exceeded, exceeded_at, exceeded_record_at, found_before}
 use Rattle.offload_model.specs.Passing.{Stop, AtFault, AtRound, Passed, Ending, Stopped, ReadFault, WriteFault, NoMemory, stop_of, merging, segmenting, IsNoRound, Passes}
-use Rattle.offload_model.specs.Steps.{stop_behind, ending_behind, behind, GoesOn, CommandsPassOn, FrontsPassOn, in_front, round_output, MergingGoesByRound, SegmentingGoesByRecord}
+use Rattle.offload_model.specs.Steps.{stop_behind, ending_behind, behind, GoesOn, CommandsPassOn, PrefixesPassOn, in_front, round_output, MergingGoesByRound, SegmentingGoesByRecord}
 use Rattle.offload_model.proofs.Rounding.{rounds_full, rounds_last}
 use Rattle.offload_model.proofs.Behind.{stop_none, stop_more, no_round_on, left_on, shift, exceeded_on, exceeded_last, exceeded_next, found_on, stop_on, made_full, made_last, made_less}
 
@@ -59,12 +59,12 @@ pass_on from to k gone done old mid new ReadFault bytes left on wrote p = (
 pass_on from to k gone done old mid new WriteFault bytes left on wrote p = (
   gone ++ p.0,
   ap (λ (l : List ℕ). gone ++ l) p.1 ∙ sym (append_assoc gone p.0 left),
-  subst (AppendsFront old new) (sym (ap (λ (x : Passed). x.output) (on p.0))) (front_then old mid new done (to p.0).output wrote p.2),
+  subst (AppendsPrefix old new) (sym (ap (λ (x : Passed). x.output) (on p.0))) (front_then old mid new done (to p.0).output wrote p.2),
 )
 pass_on from to k gone done old mid new NoMemory bytes left on wrote p = (
   gone ++ p.0,
   ap (λ (l : List ℕ). gone ++ l) p.1 ∙ sym (append_assoc gone p.0 left),
-  subst (AppendsFront old new) (sym (ap (λ (x : Passed). x.output) (on p.0))) (front_then old mid new done (to p.0).output wrote p.2),
+  subst (AppendsPrefix old new) (sym (ap (λ (x : Passed). x.output) (on p.0))) (front_then old mid new done (to p.0).output wrote p.2),
 )
 
 pub commands_pass_on : CommandsPassOn
@@ -74,12 +74,12 @@ commands_pass_on from to k gone done = record {
   passes = λ old mid new ending bytes left on wrote p. pass_on from to k gone done old mid new ending bytes left on wrote p;
 }
 
-pub fronts_pass_on : FrontsPassOn
-fronts_pass_on from to k gone done = record {
+pub prefixes_pass_on : PrefixesPassOn
+prefixes_pass_on from to k gone done = record {
   after = λ old mid new bytes left on wrote p.
-      subst (AppendsFront old new) (sym (ap (λ (x : Passed). x.output) (on bytes))) (front_then old mid new done (to bytes).output wrote p);
+      subst (AppendsPrefix old new) (sym (ap (λ (x : Passed). x.output) (on bytes))) (front_then old mid new done (to bytes).output wrote p);
   within = λ old new bytes left on p.
-      subst (AppendsFront old new) (sym (ap (λ (x : Passed). x.output) (on bytes))) (front_more old new done (to bytes).output p);
+      subst (AppendsPrefix old new) (sym (ap (λ (x : Passed). x.output) (on bytes))) (prefix_more old new done (to bytes).output p);
 }
 
 -- ---- merging

@@ -61,9 +61,9 @@ pub use frames::{
 };
 pub use need::{defaults_suffice, needs_add, needs_exceed, rounds_exceed};
 pub use passing::{
-    blocks_suffice, commands_pass_on, commands_stop, fronts_are_written, fronts_pass_on,
-    fronts_to_whole, merging_goes_by_round, records_to_whole, segmenting_goes_by_record,
-    segments_grow, stops_are_one, stops_write_fronts,
+    blocks_suffice, commands_pass_on, commands_stop, prefixes_are_written, prefixes_pass_on,
+    prefixes_to_whole, merging_goes_by_round, records_to_whole, segmenting_goes_by_record,
+    segments_grow, stops_are_one, stops_write_prefixes,
 };
 pub use rows::{need_rows_hold, rows_hold};
 pub use runs::{fronts_are_mergeable, grows_by_one, has_one_cut, tests_decide, tunnels_are_one};

@@ -2,7 +2,7 @@
 use Rattle.std.proofs.Common.{◌≡◌, ℕ, List, [], take, drop, refl, sym, subst, Option, Some, None, Ok, Err, Bool, true}
 use Rattle.std.specs.Io.KnownBytes.{Appends}
 use Rattle.std.proofs.KnownBytes.{Appends-nil}
-use Rattle.off_io.specs.Content.{AppendsFront, SaysFlushed}
+use Rattle.off_io.specs.Content.{AppendsPrefix, SaysFlushed}
 use Rattle.off_io.specs.Told.{Told}
 use Rattle.off_io.proofs.Telling.{Told-then, Told-weaker, Told-same}
 use Rattle.pcap_io.specs.declared.faults.InFault.{InFault}
@@ -41,14 +41,14 @@ no_file from to passing a b old is_flushed before after ReadFault status same is
 
 -- the file header was not wholly written
 pub head_failed : {K : Type 0} (from to : Link) (passing : Place → List ℕ → Passed) (a b old new : Option (List ℕ)) (is_flushed : Bool) (before after : K)
-    (file : FileHead) → AppendsFront old new (file_bytes file to) → Told a b (GivesFile from (Ok file))
+    (file : FileHead) → AppendsPrefix old new (file_bytes file to) → Told a b (GivesFile from (Ok file))
     → Told a b (Answers from (whole from to passing) old new is_flushed (after ≡ before) write_fault)
 head_failed from to passing a b old new is_flushed before after file wrote told =
     Told-weaker a b (GivesFile from (Ok file)) (Answers from (whole from to passing) old new is_flushed (after ≡ before) write_fault)
     (λ given left gives.
     subst (λ (l : List ℕ). Answers from (whole from to passing) old new is_flushed (after ≡ before) write_fault given l) (sym gives.3)
     ((records_to_whole from to passing old is_flushed before after given).not_written new gives.1
-    (subst (λ (f : FileHead). AppendsFront old new (file_bytes f to)) gives.2 wrote))) told
+    (subst (λ (f : FileHead). AppendsPrefix old new (file_bytes f to)) gives.2 wrote))) told
 
 -- what is said of the records behind it is said of the whole capture
 pub whole_given : {K : Type 0} (from to : Link) (passing : Place → List ℕ → Passed) (a b c old mid new : Option (List ℕ)) (is_flushed : Bool) (before after : K)

@@ -4,7 +4,7 @@ use Rattle.std.specs.Prelude.{is_some}
 use Rattle.std.specs.List.{AllByRecursion, range_with_len, sum_by}
 use Rattle.std.proofs.lemmas.List.Sums.{sum_by-cons}
 use Rattle.std.specs.Io.KnownBytes.{Appends}
-use Rattle.off_io.specs.Content.{AppendsFront}
+use Rattle.off_io.specs.Content.{AppendsPrefix}
 use Rattle.pcap_io.specs.declared.heads.Link.TheVariants.{Ethernet}
 use Rattle.pcap_io.specs.Headers.{file_head}
 use Rattle.pcap_io.specs.Capture.{Packet, Found, found_after, reads}
@@ -96,7 +96,7 @@ check_says o old new is_flushed untouched statuses.ReadFault given left a =
       a.0.flushes refl,
     )
 check_says o old new is_flushed untouched statuses.WriteFault given left a =
-    (a.0.passes.0, a.0.passes.1, subst (AppendsFront old new) (check_is o a.0.passes.0).output a.0.passes.2)
+    (a.0.passes.0, a.0.passes.1, subst (AppendsPrefix old new) (check_is o a.0.passes.0).output a.0.passes.2)
 check_says o old new is_flushed untouched statuses.NoMemory given left a = ((a.0.passes.0, a.0.passes.1), a.1)
 
 -- ---- a generated capture
@@ -130,7 +130,7 @@ made_says law seed o old new is_flushed (statuses.PoolEmpty round need blocks) f
       a.2,
     )
 made_says law seed o old new is_flushed statuses.WriteFault few a =
-    subst (AppendsFront old new) (ap (made_lines seed o) (check_is o.merge (made seed o.count)).output) a
+    subst (AppendsPrefix old new) (ap (made_lines seed o) (check_is o.merge (made seed o.count)).output) a
 made_says law seed o old new is_flushed statuses.NoMemory few a = a
 made_says law seed o old new is_flushed statuses.Usage few a = absurd a
 made_says law seed o old new is_flushed (statuses.Malformed fault) few a = absurd a

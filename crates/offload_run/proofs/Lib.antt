@@ -4,7 +4,7 @@ mod Used
 mod Makings
 mod Lining
 mod Telling
-mod Fronting
+mod Prefixes
 mod Numbered
 mod BackAgain
 mod PlainWords

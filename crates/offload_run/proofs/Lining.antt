@@ -7,7 +7,7 @@ use Rattle.std.proofs.KnownBytes.{Appends-nil}
 use Rattle.std.proofs.lemmas.List.{take_at, drop_at, length-take-le}
 use Rattle.std.proofs.lemmas.Bool.{lt-ltb, ltb-false}
 use Rattle.std.proofs.lemmas.Option.{none-some}
-use Rattle.off_io.specs.Content.{AppendsFront, SaysFlushed}
+use Rattle.off_io.specs.Content.{AppendsPrefix, SaysFlushed}
 use Rattle.off_io.specs.Told.{Told}
 use Rattle.off_io.proofs.Telling.{Told-weaker}
 use Rattle.pcap_io.specs.declared.heads.FileHead.{FileHead}
@@ -96,13 +96,13 @@ passes_behind passing old new WriteFault given left lawful p =
     let is = lined_is passing given p.0 lawful in (
       take 24 given ++ p.0,
       gone_behind given p.0 left p.1,
-      subst (AppendsFront old new) (sym (ap (λ (x : Passed). x.output) is)) p.2,
+      subst (AppendsPrefix old new) (sym (ap (λ (x : Passed). x.output) is)) p.2,
     )
 passes_behind passing old new NoMemory given left lawful p =
     let is = lined_is passing given p.0 lawful in (
       take 24 given ++ p.0,
       gone_behind given p.0 left p.1,
-      subst (AppendsFront old new) (sym (ap (λ (x : Passed). x.output) is)) p.2,
+      subst (AppendsPrefix old new) (sym (ap (λ (x : Passed). x.output) is)) p.2,
     )
 
 is_behind : (passing : Place → List ℕ → Passed) (old new : Option (List ℕ)) (ending : Ending) (given left : List ℕ) → HasFileHead Ethernet given

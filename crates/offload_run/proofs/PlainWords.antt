@@ -3,7 +3,7 @@ use Rattle.std.proofs.Common.{◌≡◌, ℕ, List, [], ◌++◌, take, drop, re
 use Rattle.std.specs.Prelude.{is_some}
 use Rattle.std.proofs.lemmas.Option.{none-some}
 use Rattle.std.specs.Io.KnownBytes.{Appends}
-use Rattle.off_io.specs.Content.{AppendsFront}
+use Rattle.off_io.specs.Content.{AppendsPrefix}
 use Rattle.pcap_io.specs.declared.heads.Link.TheVariants.{Ethernet, Offload}
 use Rattle.pcap_io.specs.declared.faults.CapKind.{CapKind}
 use Rattle.pcap_io.specs.declared.faults.CapFault.{CapFault}
@@ -170,9 +170,9 @@ merge_says o old new is_flushed untouched statuses.ReadFault given left a =
       a.flushes refl,
     )
 merge_says o old new is_flushed untouched statuses.WriteFault given left a =
-    (a.passes.0, a.passes.1, subst (AppendsFront old new) (merge_is o a.passes.0).output a.passes.2)
+    (a.passes.0, a.passes.1, subst (AppendsPrefix old new) (merge_is o a.passes.0).output a.passes.2)
 merge_says o old new is_flushed untouched statuses.NoMemory given left a =
-    (a.passes.0, a.passes.1, subst (AppendsFront old new) (merge_is o a.passes.0).output a.passes.2)
+    (a.passes.0, a.passes.1, subst (AppendsPrefix old new) (merge_is o a.passes.0).output a.passes.2)
 
 -- ---- segmenting
 
@@ -251,6 +251,6 @@ segment_says o old new is_flushed untouched statuses.ReadFault given left a = (
   a.flushes refl,
 )
 segment_says o old new is_flushed untouched statuses.WriteFault given left a =
-    (a.passes.0, a.passes.1, subst (AppendsFront old new) (output_is o a.passes.0) a.passes.2)
+    (a.passes.0, a.passes.1, subst (AppendsPrefix old new) (output_is o a.passes.0) a.passes.2)
 segment_says o old new is_flushed untouched statuses.NoMemory given left a =
-    (a.passes.0, a.passes.1, subst (AppendsFront old new) (output_is o a.passes.0) a.passes.2)
+    (a.passes.0, a.passes.1, subst (AppendsPrefix old new) (output_is o a.passes.0) a.passes.2)

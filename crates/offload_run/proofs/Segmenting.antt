@@ -6,10 +6,10 @@ use Rattle.std.proofs.lemmas.List.{map-append}
 use Rattle.std.specs.Io.KnownBytes.{Appends, Keeps}
 use Rattle.std.proofs.KnownBytes.{Appends-nil, Appends-trans, Appends-kept}
 use Rattle.off_io.specs.Told.{Told}
-use Rattle.off_io.specs.Content.{AppendsFront}
+use Rattle.off_io.specs.Content.{AppendsPrefix}
 use Rattle.off_io.proofs.Telling.{Told-then, Told-weaker, Told-same}
-use Rattle.off_io.proofs.Appending.{front_more}
-use Rattle.off_io.proofs.Owing.{front_whole}
+use Rattle.off_io.proofs.Appending.{prefix_more}
+use Rattle.off_io.proofs.Owing.{prefix_whole}
 use Rattle.pcap_io.specs.declared.place.Place.{Place}
 use Rattle.pcap_io.specs.declared.faults.CapFault.{CapFault}
 use Rattle.pcap_io.specs.Capture.{Packet, Found, ended, one_more, records_from}
@@ -78,7 +78,7 @@ lost_by passing old new WriteFault bytes left p = (p.0, p.1)
 lost_by passing old new NoMemory bytes left p = (p.0, p.1)
 
 -- a front that is kept
-front_kept : (a b c : Option (List ℕ)) (bytes : List ℕ) → AppendsFront a b bytes → Keeps b c → AppendsFront a c bytes
+front_kept : (a b c : Option (List ℕ)) (bytes : List ℕ) → AppendsPrefix a b bytes → Keeps b c → AppendsPrefix a c bytes
 front_kept a b c bytes f kept = (f.0, Appends-kept a b c _ f.1 kept)
 
 kept_passes : (passing : List ℕ → Passed) (old mid new : Option (List ℕ)) (ending : Ending) (bytes left : List ℕ) → Keeps mid new
@@ -119,8 +119,8 @@ front_all blocks k from to a b c h h1 h2 h3 before none kept =
     let wrote : Appends h h3 s.1 = Appends-kept h h2 h3 s.1 (Appends-kept h h1 h2 s.1 s.4 l.1) kept in (
       s.0 ++ l.0.0,
       s.2 ∙ ap (λ x. s.0 ++ x) l.0.1 ∙ sym (append_assoc s.0 l.0.0 left),
-      subst (AppendsFront h h3) (sym (ap (λ (x : Passed). x.output) (s.3 l.0.0)))
-          (front_more h h3 s.1 (segmenting blocks to l.0.0).output (front_whole h h3 s.1 wrote)),
+      subst (AppendsPrefix h h3) (sym (ap (λ (x : Passed). x.output) (s.3 l.0.0)))
+          (prefix_more h h3 s.1 (segmenting blocks to l.0.0).output (prefix_whole h h3 s.1 wrote)),
     )) before none
 
 -- behind the last record

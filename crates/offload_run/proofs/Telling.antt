@@ -4,10 +4,10 @@ use Rattle.std.specs.Io.KnownBytes.{Appends, Keeps}
 use Rattle.std.proofs.KnownBytes.{Appends-nil, Appends-kept, Keeps-refl}
 use Rattle.std.proofs.lemmas.Bool.{false≢true}
 use Rattle.std.proofs.lemmas.Option.{none-some}
-use Rattle.off_io.specs.Content.{AppendsFront, SaysFlushed}
+use Rattle.off_io.specs.Content.{AppendsPrefix, SaysFlushed}
 use Rattle.off_io.specs.Told.{Told}
 use Rattle.off_io.proofs.Telling.{Told-then, Told-same, Told-weaker}
-use Rattle.off_io.proofs.Owing.{front_whole}
+use Rattle.off_io.proofs.Owing.{prefix_whole}
 use Rattle.pcap_io.specs.declared.heads.FileHead.{FileHead}
 use Rattle.pcap_io.specs.declared.heads.Link.TheVariants.{Ethernet}
 use Rattle.pcap_io.specs.declared.place.Place.{Place}
@@ -57,7 +57,7 @@ failed_says blocks o place old new is_flushed bytes left p = record { passes = p
 -- all lines, or a prefix of them
 lines_say : (blocks : ℕ) (o : Options) (place : Place) (old new : Option (List ℕ)) (is_flushed : Bool) (lines : List ℕ) (end status : Status) (bytes left : List ℕ)
     → (Appends old new lines → SaysFlushed new is_flushed true → Says blocks o place old new is_flushed end bytes left)
-    → (AppendsFront old new lines → Passes (checking blocks o place) old new passing.WriteFault bytes left)
+    → (AppendsPrefix old new lines → Passes (checking blocks o place) old new passing.WriteFault bytes left)
     → LinesEnd old new is_flushed lines end status → Says blocks o place old new is_flushed status bytes left
 lines_say blocks o place old new is_flushed lines end status bytes left whole front told =
     let S : Status → Type 0 = λ s. Says blocks o place old new is_flushed s bytes left in
@@ -135,7 +135,7 @@ pub lines_flushed : (a b c : Option (List ℕ)) (is_flushed : Bool) (lines : Lis
     → (status ≡ end) ⊎ (status ≡ statuses.WriteFault) → (status ≡ statuses.WriteFault) ⊎ SaysFlushed c is_flushed true → LinesEnd a c is_flushed lines end status
 lines_flushed a b c is_flushed lines end status wrote kept answer flush =
     let all : Appends a c lines = Appends-kept a b c lines wrote kept in
-    let failed : status ≡ statuses.WriteFault → LinesEnd a c is_flushed lines end status = λ e. inr (e, front_whole a c lines all) in
+    let failed : status ≡ statuses.WriteFault → LinesEnd a c is_flushed lines end status = λ e. inr (e, prefix_whole a c lines all) in
     ⊎_elim (λ ok. ⊎_elim failed (λ says. inl (ok, all, says)) flush) failed answer
 
 -- there was no memory to count anything
@@ -205,7 +205,7 @@ stopped_says law blocks o place passed first totals old new is_flushed bytes lef
     let same : first ++ check_lines totals ≡ passed.output =
     ap (λ (l : List ℕ). first ++ l) (lines_are law blocks o place totals bytes left stop counted) ∙ sym out in
     ⊎_elim (λ p. subst (ChecksTo passed old new is_flushed) (sym p.0) (whole (subst (Appends old new) same p.1) p.2))
-    (λ p. subst (ChecksTo passed old new is_flushed) (sym p.0) (subst (AppendsFront old new) same p.1)) told
+    (λ p. subst (ChecksTo passed old new is_flushed) (sym p.0) (subst (AppendsPrefix old new) same p.1)) told
 
 made_by : TotalsAreTold → (blocks : ℕ) (o : Options) (place : Place) (passed : Passed) (first : List ℕ) (totals : Counts) (old new : Option (List ℕ)) (is_flushed : Bool)
     (rose : Type 0) (status : Status) (bytes left : List ℕ) → passed.output ≡ first ++ (checking blocks o place bytes).output

@@ -2,7 +2,7 @@
 -- its own.
 use Rattle.std.specs.Prelude.{◌≡◌, ◌⊎◌, ℕ, ◌++◌, Bool, true, List, [], length, Option, None, Some, ⊤}
 use Rattle.std.specs.Io.KnownBytes.{Appends, Keeps}
-use Rattle.off_io.specs.Content.{AppendsFront, SaysFlushed}
+use Rattle.off_io.specs.Content.{AppendsPrefix, SaysFlushed}
 use Rattle.pcap_io.specs.declared.heads.Link.TheVariants.{Ethernet}
 use Rattle.pcap_io.specs.declared.place.Place.{Place}
 use Rattle.cap_make.specs.Capture.{made}
@@ -53,7 +53,7 @@ ChecksTo passed old new is_flushed statuses.Ok = (passed.stop ≡ Nowhere) × Ap
     × SaysFlushed new is_flushed true
 ChecksTo passed old new is_flushed (statuses.PoolEmpty round need blocks) =
     (passed.stop ≡ AtRound round need) × Appends old new passed.output × SaysFlushed new is_flushed true
-ChecksTo passed old new is_flushed statuses.WriteFault = AppendsFront old new passed.output
+ChecksTo passed old new is_flushed statuses.WriteFault = AppendsPrefix old new passed.output
 ChecksTo passed old new is_flushed statuses.NoMemory = Keeps old new
 ChecksTo passed old new is_flushed _ = ⊥
 
@@ -91,7 +91,7 @@ status_if ends.NoMemory blocks = None
 abbrev pub LinesEnd : Option (List ℕ) → Option (List ℕ) → Bool → List ℕ → Status → Status → Type 0
 LinesEnd old new is_flushed lines end status =
     ((status ≡ end) × Appends old new lines × SaysFlushed new is_flushed true)
-    ⊎ ((status ≡ statuses.WriteFault) × AppendsFront old new lines)
+    ⊎ ((status ≡ statuses.WriteFault) × AppendsPrefix old new lines)
 
 -- what is written when checking is to end so: nothing where there was no memory
 abbrev pub Tells : Option (List ℕ) → Option (List ℕ) → Bool → List ℕ → Option Status → Status → Type 0

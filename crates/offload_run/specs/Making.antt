@@ -1,7 +1,7 @@
 -- What the commands that read no source say of each answer: `make`, and `check` of a generated capture.
 use Rattle.std.specs.Prelude.{ℕ, List, Bool, true, Option, ⊤}
 use Rattle.std.specs.Io.KnownBytes.{Appends}
-use Rattle.off_io.specs.Content.{AppendsFront, SaysFlushed}
+use Rattle.off_io.specs.Content.{AppendsPrefix, SaysFlushed}
 use Rattle.offload_words.specs.declared.make.MakeOptions.{MakeOptions}
 use Rattle.offload_words.specs.declared.words.Command.{Command}
 use Rattle.offload_words.specs.declared.words.Command.TheVariants.{Check, Make}
@@ -15,8 +15,8 @@ use Rattle.offload_run.specs.declared.status.Status.TheVariants as statuses
 abbrev pub MakeAnswers : MakeOptions → Option (List ℕ) → Option (List ℕ) → Bool → Status → Type 0
 MakeAnswers options old new is_flushed statuses.Ok = Appends old new (made options.seed options.count)
     × SaysFlushed new is_flushed true
-MakeAnswers options old new is_flushed statuses.WriteFault = AppendsFront old new (made options.seed options.count)
-MakeAnswers options old new is_flushed statuses.NoMemory = AppendsFront old new (made options.seed options.count)
+MakeAnswers options old new is_flushed statuses.WriteFault = AppendsPrefix old new (made options.seed options.count)
+MakeAnswers options old new is_flushed statuses.NoMemory = AppendsPrefix old new (made options.seed options.count)
 MakeAnswers options old new is_flushed _ = ⊥
 
 -- the same where the command reads no source, whatever one tells; `untouched` says that the source is as it was

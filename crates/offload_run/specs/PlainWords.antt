@@ -4,7 +4,7 @@ use Rattle.std.specs.Prelude.{◌≡◌, ◌⊎◌, ℕ, ◌+◌, ◌≤◌, ◌
 use Rattle.std.specs.Prelude.{List, [], ◌++◌, length, take, drop}
 use Rattle.std.specs.List.{AllByRecursion}
 use Rattle.std.specs.Io.KnownBytes.{Appends, Keeps}
-use Rattle.off_io.specs.Content.{AppendsFront, SaysFlushed}
+use Rattle.off_io.specs.Content.{AppendsPrefix, SaysFlushed}
 use Rattle.off_io.specs.Faults.{Rose}
 use Rattle.off_io.specs.Told.{Told}
 use Rattle.pcap_io.specs.declared.heads.Link.{Link}
@@ -30,7 +30,7 @@ use Rattle.checking.specs.Lines.{check_lines, made_line}
 use Rattle.offload_run.specs.declared.status.Status.{Status}
 use Rattle.offload_run.specs.declared.status.Status.TheVariants as statuses
 use Rattle.offload_run.specs.Output.{options}
-use Rattle.offload_run.specs.RunAnswers.{Answers, Fronts}
+use Rattle.offload_run.specs.RunAnswers.{Answers, Prefixes}
 
 -- why a file header is refused, if it is
 abbrev pub refusal : Link → List ℕ → Option CapKind
@@ -69,9 +69,9 @@ MergeSays o old new is_flushed untouched statuses.ReadFault given left =
     × Appends old new (written_of (options o) gone)
     × FlushedBehind (24 + length left ≤ length given) (SaysFlushed new is_flushed true) untouched
 MergeSays o old new is_flushed untouched statuses.WriteFault given left = (gone : List ℕ) × (given ≡ gone ++ left)
-    × AppendsFront old new (written_before o gone)
+    × AppendsPrefix old new (written_before o gone)
 MergeSays o old new is_flushed untouched statuses.NoMemory given left = (gone : List ℕ) × (given ≡ gone ++ left)
-    × AppendsFront old new (written_before o gone)
+    × AppendsPrefix old new (written_before o gone)
 
 -- ---- segmenting
 
@@ -111,9 +111,9 @@ SegmentSays o old new is_flushed untouched statuses.ReadFault given left =
     × Appends old new (segmented_before o gone) × FlushedBehind (24 + length left ≤ length given)
     (SaysFlushed new is_flushed true) untouched
 SegmentSays o old new is_flushed untouched statuses.WriteFault given left = (gone : List ℕ) × (given ≡ gone ++ left)
-    × AppendsFront old new (segmented_before o gone)
+    × AppendsPrefix old new (segmented_before o gone)
 SegmentSays o old new is_flushed untouched statuses.NoMemory given left = (gone : List ℕ) × (given ≡ gone ++ left)
-    × AppendsFront old new (segmented_before o gone)
+    × AppendsPrefix old new (segmented_before o gone)
 
 -- ---- checking
 
@@ -147,7 +147,7 @@ CheckSays o old new is_flushed untouched statuses.ReadFault given left =
     (gone : List ℕ) × (given ≡ gone ++ left) × (merge_exceeds o gone ≡ None) × Appends old new (checked_of o gone)
     × FlushedBehind (24 + length left ≤ length given) (SaysFlushed new is_flushed true) untouched
 CheckSays o old new is_flushed untouched statuses.WriteFault given left = (gone : List ℕ) × (given ≡ gone ++ left)
-    × AppendsFront old new (checked_before o gone)
+    × AppendsPrefix old new (checked_before o gone)
 CheckSays o old new is_flushed untouched statuses.NoMemory given left = Loses given left × Keeps old new
 
 -- the lines of a generated capture, its own first
@@ -163,7 +163,7 @@ MadeSays seed o old new is_flushed statuses.Ok =
 MadeSays seed o old new is_flushed (statuses.PoolEmpty round need blocks) =
     (merge_exceeds o.merge (made seed o.count) ≡ Some (round, need))
     × Appends old new (made_lines seed o (checked_before o.merge (made seed o.count))) × SaysFlushed new is_flushed true
-MadeSays seed o old new is_flushed statuses.WriteFault = AppendsFront old new
+MadeSays seed o old new is_flushed statuses.WriteFault = AppendsPrefix old new
     (made_lines seed o (checked_before o.merge (made seed o.count)))
 MadeSays seed o old new is_flushed statuses.NoMemory = Keeps old new
 MadeSays seed o old new is_flushed _ = ⊥
@@ -182,12 +182,12 @@ EveryRecordReturns =
 abbrev pub PrefixesInPlainWords : Type 0
 PrefixesInPlainWords =
     (faults more : ℕ) (before after old new : Option (List ℕ))
-    → ((o : MergeOptions) → Fronts (Merge o) (Rose faults more) before after old new
-    → Rose faults more ⊎ Told before after (λ given left. AppendsFront old new (written_before o given)))
-    × ((o : SegmentOptions) → Fronts (Segment o) (Rose faults more) before after old new
-    → Told before after (λ given left. AppendsFront old new (segmented_before o given)))
-    × ((o : CheckOptions) → o.seed ≡ None → Fronts (Check o) (Rose faults more) before after old new
-    → Rose faults more ⊎ Told before after (λ given left. AppendsFront old new (checked_before o.merge given)))
+    → ((o : MergeOptions) → Prefixes (Merge o) (Rose faults more) before after old new
+    → Rose faults more ⊎ Told before after (λ given left. AppendsPrefix old new (written_before o given)))
+    × ((o : SegmentOptions) → Prefixes (Segment o) (Rose faults more) before after old new
+    → Told before after (λ given left. AppendsPrefix old new (segmented_before o given)))
+    × ((o : CheckOptions) → o.seed ≡ None → Prefixes (Check o) (Rose faults more) before after old new
+    → Rose faults more ⊎ Told before after (λ given left. AppendsPrefix old new (checked_before o.merge given)))
 
 -- ---- what each answer says is this; the sink before and after is of any type
 

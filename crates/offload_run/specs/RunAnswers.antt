@@ -1,7 +1,7 @@
 -- What each answer of the whole program says, by the command that the words ask for.
 use Rattle.std.specs.Prelude.{◌≡◌, ℕ, List, Bool, Option, None, Some, ⊤}
 use Rattle.pcap_io.specs.declared.heads.Link.TheVariants.{Ethernet, Offload}
-use Rattle.offload_model.specs.Passing.{merging_whole, segmenting_whole, FrontUnless}
+use Rattle.offload_model.specs.Passing.{merging_whole, segmenting_whole, PrefixUnless}
 use Rattle.checking.specs.Checking.{checking_whole}
 use Rattle.offload_model.specs.Passing as passing
 use Rattle.offload_words.specs.declared.words.Command.{Command}
@@ -32,13 +32,13 @@ unless_made (Some seed) told = ⊤
 
 -- A prefix of what the command writes of all that was given, however little of it was read; where the source failed
 -- nothing more is said than by the ending. What is generated is told apart.
-abbrev pub Fronts : Command → Type 0 → Option (List ℕ) → Option (List ℕ) → Option (List ℕ) → Option (List ℕ) → Type 0
-Fronts (Merge o) failed before after old new = FrontUnless failed
+abbrev pub Prefixes : Command → Type 0 → Option (List ℕ) → Option (List ℕ) → Option (List ℕ) → Option (List ℕ) → Type 0
+Prefixes (Merge o) failed before after old new = PrefixUnless failed
     (merging_whole o.blocks (options o)) before after old new
-Fronts (Segment o) failed before after old new = FrontUnless ⊥ (segmenting_whole o.blocks) before after old new
-Fronts (Check o) failed before after old new = unless_made o.seed
-    (FrontUnless failed (checking_whole o.merge.blocks (options o.merge)) before after old new)
-Fronts (Make o) failed before after old new = ⊤
+Prefixes (Segment o) failed before after old new = PrefixUnless ⊥ (segmenting_whole o.blocks) before after old new
+Prefixes (Check o) failed before after old new = unless_made o.seed
+    (PrefixUnless failed (checking_whole o.merge.blocks (options o.merge)) before after old new)
+Prefixes (Make o) failed before after old new = ⊤
 
 -- the blocks of a pool that is empty are those that the command asks for
 abbrev pub AreBlocksOf : Command → Status → Type 0

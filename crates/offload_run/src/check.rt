@@ -5,7 +5,7 @@ ghost use Rattle.std.specs.Prelude.{OnOk, OnErr};
 ghost use Rattle.std.specs.List.{AllByRecursion};
 ghost use Rattle.std.specs.Io.KnownBytes.{Appends};
 ghost use Rattle.block_pool.specs.PoolState.{weighed};
-ghost use Rattle.off_io.specs.Content.{AppendsFront};
+ghost use Rattle.off_io.specs.Content.{AppendsPrefix};
 ghost use Rattle.off_io.specs.Faults.{HasCause, Rose};
 ghost use Rattle.off_io.specs.Told.{Told};
 ghost use Rattle.pcap_io.specs.declared.heads.Link.TheVariants.{Ethernet};
@@ -13,7 +13,7 @@ ghost use Rattle.pcap_io.specs.Capture.{reads};
 ghost use Rattle.pcap_io.specs.Places.{first_place, found_at};
 ghost use Rattle.cap_make.specs.Capture.{made as made_capture};
 ghost use Rattle.offload_model.specs.Need.{round_need};
-ghost use Rattle.offload_model.specs.Passing.{FrontUnless};
+ghost use Rattle.offload_model.specs.Passing.{PrefixUnless};
 ghost use Rattle.offload_words.specs.Check.{IsInRange as IsCheckInRange};
 ghost use Rattle.offload_words.specs.Merge.{IsInRange};
 ghost use Rattle.checking.specs.Counts.{totals_of, HasLanes, IsQueueWithin, IsWithin};
@@ -71,7 +71,7 @@ fn status_of(end: CheckEnd, blocks: u32) -> Option<Status>
 
 fn write_first<K: Sink>(sink: &mut K, made: Option<MadeLine>) -> Result<(), WriteFault>
     ensures ok { OnOk result (Appends (K.held sink.old) (K.held sink.new) (first_line made)) }
-    ensures err { OnErr result (AppendsFront (K.held sink.old) (K.held sink.new) (first_line made)) }
+    ensures err { OnErr result (AppendsPrefix (K.held sink.old) (K.held sink.new) (first_line made)) }
     ensures cause { HasCause (K.faults sink.old) (K.faults sink.new) result }
 {
     match made {
@@ -89,7 +89,7 @@ fn write_lines<K: Sink>(
     requires lanes { length totals.now.queues ≤ 2 ^ 12 }
     requires within { AllByRecursion (IsQueueWithin (2 ^ 50)) totals.now.queues }
     ensures ok { OnOk result (Appends (K.held sink.old) (K.held sink.new) (first_line made ++ check_lines totals.now)) }
-    ensures err { OnErr result (AppendsFront (K.held sink.old) (K.held sink.new)
+    ensures err { OnErr result (AppendsPrefix (K.held sink.old) (K.held sink.new)
         (first_line made ++ check_lines totals.now)) }
     ensures cause { HasCause (K.faults sink.old) (K.faults sink.new) result }
 {
@@ -234,7 +234,7 @@ fn check_read<R: Threads + Wait + Sync, S: Source + Send, K: Sink, G: Gate + Syn
     requires engine { engine.old ≡ None }
     ensures given { Told (S.left source.old) (S.left source.new)
         (ReadAnswers options (K.held sink.old) (K.held sink.new) (K.is_flushed sink.new) (sink.new ≡ sink.old) result) }
-    ensures front { FrontUnless (Rose (S.faults source.old) (S.faults source.new))
+    ensures prefix { PrefixUnless (Rose (S.faults source.old) (S.faults source.new))
         (checking_whole options.blocks (options_of options)) (S.left source.old) (S.left source.new) (K.held sink.old)
         (K.held sink.new) }
     ensures blocks { HasBlocks options.blocks result }
@@ -318,7 +318,7 @@ pub(crate) fn run_check<R: Threads + Wait + Sync, S: Source + Send, K: Sink, G: 
     ensures given { Told (S.left source.old) (S.left source.new)
         (CheckAnswers options.seed options (K.held sink.old) (K.held sink.new) (K.is_flushed sink.new)
         (sink.new ≡ sink.old) result) }
-    ensures front { unless_made options.seed (FrontUnless (Rose (S.faults source.old) (S.faults source.new))
+    ensures prefix { unless_made options.seed (PrefixUnless (Rose (S.faults source.old) (S.faults source.new))
         (checking_whole options.merge.blocks (options_of options.merge)) (S.left source.old) (S.left source.new)
         (K.held sink.old) (K.held sink.new)) }
     ensures made { ChecksMade options.seed options (K.held sink.old) (K.held sink.new) (K.is_flushed sink.new)

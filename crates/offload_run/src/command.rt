@@ -1,12 +1,12 @@
 //! The whole program over a source and a sink.
 ghost use Rattle.std.specs.Prelude.{◌≡◌, ◌≤◌, ◌⊎◌, IfSome, MatchOption, Some, None, map, string_bytes};
-ghost use Rattle.off_io.specs.Content.{AppendsFront};
+ghost use Rattle.off_io.specs.Content.{AppendsPrefix};
 ghost use Rattle.off_io.specs.Faults.{Rose};
 ghost use Rattle.off_io.specs.Told.{Told};
 ghost use Rattle.offload_words.specs.Commands.{command_of, HasRanges};
 ghost use Rattle.status_log.specs.Lines.{Logs};
 ghost use Rattle.offload_run.specs.Making.{Makes};
-ghost use Rattle.offload_run.specs.RunAnswers.{Answers, AreBlocksOf, FlowsBack, Fronts};
+ghost use Rattle.offload_run.specs.RunAnswers.{Answers, AreBlocksOf, FlowsBack, Prefixes};
 ghost use Rattle.offload_run.specs.Engines.{HasRun, LeavesHome};
 ghost use Rattle.offload_run.specs.Log.{log_line};
 
@@ -36,7 +36,7 @@ fn run_command<R: Threads + Wait + Sync, S: Source + Send, K: Sink, G: Gate + Sy
     requires engine { engine.old ≡ None }
     ensures given { Told (S.left source.old) (S.left source.new)
         (Answers command (K.held sink.old) (K.held sink.new) (K.is_flushed sink.new) (sink.new ≡ sink.old) result) }
-    ensures front { Fronts command (Rose (S.faults source.old) (S.faults source.new)) (S.left source.old)
+    ensures prefix { Prefixes command (Rose (S.faults source.old) (S.faults source.new)) (S.left source.old)
         (S.left source.new) (K.held sink.old) (K.held sink.new) }
     ensures made { Makes command (K.held sink.old) (K.held sink.new) (K.is_flushed sink.new)
         (source.new ≡ source.old) result }
@@ -77,8 +77,8 @@ fn run_words<R: Threads + Wait + Sync, S: Source + Send, K: Sink, G: Gate + Sync
     ensures given { IfSome (command_of (map string_bytes words.now))
         (λ command. Told (S.left source.old) (S.left source.new)
         (Answers command (K.held sink.old) (K.held sink.new) (K.is_flushed sink.new) (sink.new ≡ sink.old) result)) }
-    ensures front { IfSome (command_of (map string_bytes words.now))
-        (λ command. Fronts command (Rose (S.faults source.old) (S.faults source.new)) (S.left source.old)
+    ensures prefix { IfSome (command_of (map string_bytes words.now))
+        (λ command. Prefixes command (Rose (S.faults source.old) (S.faults source.new)) (S.left source.old)
         (S.left source.new) (K.held sink.old) (K.held sink.new)) }
     ensures made { IfSome (command_of (map string_bytes words.now))
         (λ command. Makes command (K.held sink.old) (K.held sink.new) (K.is_flushed sink.new)
@@ -118,7 +118,7 @@ fn run_words<R: Threads + Wait + Sync, S: Source + Send, K: Sink, G: Gate + Sync
 /// before is in the sink, so a sink that fails before that is answered first, by `WriteFault`.
 ///
 /// The sink is flushed after the last write, and stays as it was where there is no lawful file header. On each
-/// status but `Ok` the log gets one line, or a prefix of it where the log fails (`log`, `log_front`), which is ignored.
+/// status but `Ok` the log gets one line, or a prefix of it where the log fails (`log`, `log_prefix`), which is ignored.
 ///
 /// At `Ok` of a command that reads, `engine` holds the blocks that this call made, all of them home, and its count of
 /// blocks taken is at least what the records need (clause `engine`). On another status it may hold none; what it holds
@@ -142,8 +142,8 @@ pub fn run<R: Threads + Wait + Sync, S: Source + Send, K: Sink + Send, L: Sink, 
     ensures given { IfSome (command_of (map string_bytes words.now))
         (λ command. Told (S.left source.old) (S.left source.new)
         (Answers command (K.held sink.old) (K.held sink.new) (K.is_flushed sink.new) (sink.new ≡ sink.old) result)) }
-    ensures front { IfSome (command_of (map string_bytes words.now))
-        (λ command. Fronts command (Rose (S.faults source.old) (S.faults source.new)) (S.left source.old)
+    ensures prefix { IfSome (command_of (map string_bytes words.now))
+        (λ command. Prefixes command (Rose (S.faults source.old) (S.faults source.new)) (S.left source.old)
         (S.left source.new) (K.held sink.old) (K.held sink.new)) }
     ensures made { IfSome (command_of (map string_bytes words.now))
         (λ command. Makes command (K.held sink.old) (K.held sink.new) (K.is_flushed sink.new)
@@ -160,7 +160,7 @@ pub fn run<R: Threads + Wait + Sync, S: Source + Send, K: Sink + Send, L: Sink, 
     ensures read { result ≡ Status.ReadFault → Rose (S.faults source.old) (S.faults source.new) }
     ensures write { result ≡ Status.WriteFault → Rose (K.faults sink.old) (K.faults sink.new) }
     ensures log { Logs (L.held log.old) (L.held log.new) (L.faults log.old) (L.faults log.new) (log_line result) }
-    ensures log_front { AppendsFront (L.held log.old) (L.held log.new) (log_line result) }
+    ensures log_prefix { AppendsPrefix (L.held log.old) (L.held log.new) (log_line result) }
     ensures quiet { result ≡ Status.Ok → log.new ≡ log.old }
     ensures later_log { L.faults log.old ≤ L.faults log.new }
 {

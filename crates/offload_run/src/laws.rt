@@ -29,7 +29,7 @@ pub fn answers_in_plain_words<K>()
     made_reads_back();
 }
 
-/// What the clause `front` of `run` says of `merge`, `segment` and `check`, in plain words: whatever the status, a
+/// What the clause `prefix` of `run` says of `merge`, `segment` and `check`, in plain words: whatever the status, a
 /// prefix of the output that would have come of all that was given, however little of it was read. `merge` and `check`
 /// of a source that failed say it of what was read alone.
 pub fn prefixes_in_plain_words()

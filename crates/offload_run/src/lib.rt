@@ -18,10 +18,10 @@
 //! run (clauses of [`run`]): which words are no command, and that nothing is then read or written (`usage`,
 //! `no_command`, `untouched`); what is read and written for each answer, and when the sink is flushed (`given`, in
 //! plain words in [`answers_in_plain_words`]); that it is, whatever the answer, a prefix of what comes of all that was
-//! given, unless the source failed (`front`, [`prefixes_in_plain_words`]); of which pool an empty one is told
+//! given, unless the source failed (`prefix`, [`prefixes_in_plain_words`]); of which pool an empty one is told
 //! (`blocks`); that every flow comes back of what merging makes (`flows`); which engine a good run leaves, with all
 //! blocks home, and how many it took (`engine`), and that all blocks of one are home on every other status (`home`);
-//! that a fault is answered only where the outside failed (`read`, `write`); what the log gets (`log`, `log_front`,
+//! that a fault is answered only where the outside failed (`read`, `write`); what the log gets (`log`, `log_prefix`,
 //! `quiet`). So do the two commands one after the other ([`every_flow_comes_back`]), and each line of `check` tells as
 //! many records that came back as there are ([`every_record_returns`]).
 //!
@@ -56,7 +56,7 @@
 //! - **`flows` asks nothing of the source**: a record that was read is held in fields of 32 bits and in bytes, so the
 //!   packets that are merged are such as a capture may hold (`captured` of `merge_all`), and their numbers rise
 //!   whatever the bytes. It is said where merging ended by the bytes or by the source (status 0, 3, 4, 5); after a
-//!   fault of the sink or want of memory a front is written, of which it isn't said.
+//!   fault of the sink or want of memory a prefix is written, of which it isn't said.
 //! - **A seeded check makes its capture twice**: once for the length in its first line (`made_len`), which stands
 //!   before anything is counted, and once to be checked. It needs no memory for it.
 //! - **`run` asks its runtime for `Wait`, too**, since one side of `merge` and `check` sleeps until the other wakes it.

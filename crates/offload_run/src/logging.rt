@@ -1,6 +1,6 @@
 //! The line that the log gets of a status.
 ghost use Rattle.std.specs.Prelude.{◌≡◌, ◌≤◌, length};
-ghost use Rattle.off_io.specs.Content.{AppendsFront};
+ghost use Rattle.off_io.specs.Content.{AppendsPrefix};
 ghost use Rattle.status_log.specs.Lines.{Logs};
 ghost use Rattle.offload_run.specs.Log.{kind_name, log_line};
 
@@ -33,7 +33,7 @@ fn name_of(kind: CapKind) -> &'static str
 /// Logs the line of a status, none on `Ok`. A fault of the log is ignored.
 pub fn write_log<L: Sink>(log: &mut L, status: &Status)
     ensures line { Logs (L.held log.old) (L.held log.new) (L.faults log.old) (L.faults log.new) (log_line status.now) }
-    ensures front { AppendsFront (L.held log.old) (L.held log.new) (log_line status.now) }
+    ensures prefix { AppendsPrefix (L.held log.old) (L.held log.new) (log_line status.now) }
     ensures quiet { status.now ≡ Status.Ok → log.new ≡ log.old }
     ensures later { L.faults log.old ≤ L.faults log.new }
 {

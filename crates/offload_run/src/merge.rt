@@ -8,7 +8,7 @@ ghost use Rattle.pcap_io.specs.declared.heads.Link.TheVariants.{Ethernet, Offloa
 ghost use Rattle.pcap_io.specs.Capture.{reads};
 ghost use Rattle.pcap_io.specs.Places.{first_place, found_at};
 ghost use Rattle.offload_model.specs.Need.{round_need};
-ghost use Rattle.offload_model.specs.Passing.{merging, merging_whole, Answers, Passes, FrontUnless, flushes};
+ghost use Rattle.offload_model.specs.Passing.{merging, merging_whole, Answers, Passes, PrefixUnless, flushes};
 ghost use Rattle.offload_words.specs.Merge.{IsInRange};
 ghost use Rattle.rounds.specs.Merging.{ending_of as merge_ending, options_of as rounds_options, HoldsCaptured};
 ghost use Rattle.offload_run.specs.Ending.{ending_of, Ends, FlushesAt, HasBlocks, OfRead, status_by};
@@ -66,7 +66,7 @@ fn merge_behind<R: Threads + Wait + Sync, S: Source + Send, K: Sink, G: Gate + S
     ensures given { Told (S.left source.old) (S.left source.new)
         (Passes (merging rounds.old.blocks (rounds_options rounds.old) (first_place file Ethernet 0)) (K.held sink.old)
         (K.held sink.new) (merge_ending result)) }
-    ensures front { FrontUnless (Rose (S.faults source.old) (S.faults source.new))
+    ensures prefix { PrefixUnless (Rose (S.faults source.old) (S.faults source.new))
         (merging rounds.old.blocks (rounds_options rounds.old) (first_place file Ethernet 0)) (S.left source.old)
         (S.left source.new) (K.held sink.old) (K.held sink.new) }
     ensures captured { Told (S.left source.old) (S.left source.new)
@@ -148,7 +148,7 @@ fn merge_records<R: Threads + Wait + Sync, S: Source + Send, K: Sink, G: Gate + 
     ensures given { Told (S.left source.old) (S.left source.new)
         (Ends (Passes (merging options.blocks (options_of options) (first_place file Ethernet 0)) (K.held sink.old)
         (K.held sink.new)) (ending_of result)) }
-    ensures front { FrontUnless (Rose (S.faults source.old) (S.faults source.new))
+    ensures prefix { PrefixUnless (Rose (S.faults source.old) (S.faults source.new))
         (merging options.blocks (options_of options) (first_place file Ethernet 0)) (S.left source.old)
         (S.left source.new) (K.held sink.old) (K.held sink.new) }
     ensures captured { Told (S.left source.old) (S.left source.new)
@@ -190,7 +190,7 @@ pub(crate) fn run_merge<R: Threads + Wait + Sync, S: Source + Send, K: Sink, G: 
     ensures given { Told (S.left source.old) (S.left source.new)
         (Ends (Answers Ethernet (merging_whole options.blocks (options_of options)) (K.held sink.old) (K.held sink.new)
         (K.is_flushed sink.new) (sink.new ≡ sink.old)) (ending_of result)) }
-    ensures front { FrontUnless (Rose (S.faults source.old) (S.faults source.new))
+    ensures prefix { PrefixUnless (Rose (S.faults source.old) (S.faults source.new))
         (merging_whole options.blocks (options_of options)) (S.left source.old) (S.left source.new) (K.held sink.old)
         (K.held sink.new) }
     ensures flows { Told (S.left source.old) (S.left source.new)

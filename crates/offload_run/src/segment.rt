@@ -8,7 +8,7 @@ ghost use Rattle.pcap_io.specs.declared.heads.Link.TheVariants.{Ethernet, Offloa
 ghost use Rattle.pcap_io.specs.Capture.{reads};
 ghost use Rattle.pcap_io.specs.Places.{IsReady, first_place, found_at};
 ghost use Rattle.pcap_io.specs.Readers.{place_of, source_of, SameLoan};
-ghost use Rattle.offload_model.specs.Passing.{segmenting, segmenting_whole, Answers, Passes, FrontUnless};
+ghost use Rattle.offload_model.specs.Passing.{segmenting, segmenting_whole, Answers, Passes, PrefixUnless};
 ghost use Rattle.offload_words.specs.Segment.{IsInRange};
 ghost use Rattle.offload_run.specs.Ending.{ending_of, Ends, FlushesAt, HasBlocks};
 ghost use Rattle.offload_run.specs.Engines.{HasSegmented, IsSegmentHome, records_need};
@@ -139,7 +139,7 @@ fn segment_records<S: Source, K: Sink>(
     ensures given { Told (S.left source.old) (S.left source.new)
         (Ends (Passes (segmenting blocks (first_place file Offload 0)) (K.held sink.old) (K.held sink.new))
         (ending_of result)) }
-    ensures front { FrontUnless ⊥ (segmenting blocks (first_place file Offload 0)) (S.left source.old)
+    ensures prefix { PrefixUnless ⊥ (segmenting blocks (first_place file Offload 0)) (S.left source.old)
         (S.left source.new) (K.held sink.old) (K.held sink.new) }
     ensures flushed { FlushesAt (K.held sink.new) (K.is_flushed sink.new) (ending_of result) }
     ensures blocks { HasBlocks blocks result }
@@ -176,7 +176,7 @@ pub(crate) fn run_segment<S: Source, K: Sink>(
     ensures given { Told (S.left source.old) (S.left source.new)
         (Ends (Answers Offload (segmenting_whole options.blocks) (K.held sink.old) (K.held sink.new)
         (K.is_flushed sink.new) (sink.new ≡ sink.old)) (ending_of result)) }
-    ensures front { FrontUnless ⊥ (segmenting_whole options.blocks) (S.left source.old) (S.left source.new)
+    ensures prefix { PrefixUnless ⊥ (segmenting_whole options.blocks) (S.left source.old) (S.left source.new)
         (K.held sink.old) (K.held sink.new) }
     ensures blocks { HasBlocks options.blocks result }
     ensures engine { result ≡ Status.Ok → HasSegmented options.blocks

@@ -2,7 +2,7 @@
 ghost use Rattle.std.specs.Prelude.{◌≡◌, OnOk, OnErr};
 ghost use Rattle.std.specs.Io.KnownBytes.{Appends};
 ghost use Rattle.off_io.specs.Faults.{HasCause};
-ghost use Rattle.off_io.specs.Content.{AppendsFront};
+ghost use Rattle.off_io.specs.Content.{AppendsPrefix};
 ghost use Rattle.pcap_io.specs.Written.{magic_of, file_bytes, rec_bytes};
 
 use crate::heads::{MICROS, NANOS};
@@ -52,7 +52,7 @@ impl FileHead {
 pub fn write_file_head<K: Sink>(sink: &mut K, head: &FileHead, link: Link) -> Result<(), WriteFault>
     ensures ok { OnOk result (Appends (K.held sink.old) (K.held sink.new)
         (file_bytes head.now link)) }
-    ensures err { OnErr result (AppendsFront (K.held sink.old) (K.held sink.new)
+    ensures err { OnErr result (AppendsPrefix (K.held sink.old) (K.held sink.new)
         (file_bytes head.now link)) }
     ensures cause { HasCause (K.faults sink.old) (K.faults sink.new) result }
 {
@@ -72,7 +72,7 @@ pub fn write_rec_head<K: Sink>(
 ) -> Result<(), WriteFault>
     ensures ok { OnOk result (Appends (K.held sink.old) (K.held sink.new)
         (rec_bytes head.now.order sec frac captured original)) }
-    ensures err { OnErr result (AppendsFront (K.held sink.old) (K.held sink.new)
+    ensures err { OnErr result (AppendsPrefix (K.held sink.old) (K.held sink.new)
         (rec_bytes head.now.order sec frac captured original)) }
     ensures cause { HasCause (K.faults sink.old) (K.faults sink.new) result }
 {

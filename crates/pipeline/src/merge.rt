@@ -5,7 +5,7 @@ ghost use Rattle.off_io.specs.Content.{SaysFlushed};
 ghost use Rattle.off_io.specs.Faults.{Rose};
 ghost use Rattle.off_io.specs.Told.{Told};
 ghost use Rattle.offload_model.specs.Need.{round_need};
-ghost use Rattle.offload_model.specs.Passing.{merging, Passes, FrontUnless, flushes};
+ghost use Rattle.offload_model.specs.Passing.{merging, Passes, PrefixUnless, flushes};
 ghost use Rattle.pcap_io.specs.declared.heads.Link.TheVariants.{Ethernet};
 ghost use Rattle.pcap_io.specs.Places.{IsReady, found_at};
 ghost use Rattle.pcap_io.specs.Readers.{place_of, source_of, SameLoan};
@@ -40,7 +40,7 @@ pub fn merge_beside<R: Threads + Wait + Sync, S: Source + Send, K: Sink, G: Gate
     ensures given { Told (S.left (source_of reader.old)) (S.left (source_of reader.new))
         (Passes (merging rounds.old.blocks (options_of rounds.old) (place_of reader.old)) (K.held sink.old)
         (K.held sink.new) (ending_of result)) }
-    ensures front { FrontUnless (Rose (S.faults (source_of reader.old)) (S.faults (source_of reader.new)))
+    ensures prefix { PrefixUnless (Rose (S.faults (source_of reader.old)) (S.faults (source_of reader.new)))
         (merging rounds.old.blocks (options_of rounds.old) (place_of reader.old)) (S.left (source_of reader.old))
         (S.left (source_of reader.new)) (K.held sink.old) (K.held sink.new) }
     ensures flushed { flushes (ending_of result) ≡ true → SaysFlushed (K.held sink.new) (K.is_flushed sink.new) true }

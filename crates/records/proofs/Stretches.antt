@@ -5,7 +5,7 @@ use Rattle.std.specs.List.{flat_map, range_with_len}
 use Rattle.std.specs.Io.KnownBytes.{Appends}
 use Rattle.std.proofs.lemmas.List.{drop_at, drop-drop}
 use Rattle.std.proofs.Math.Seq.{take-append-add}
-use Rattle.off_io.specs.Content.{AppendsFront, Owes}
+use Rattle.off_io.specs.Content.{AppendsPrefix, Owes}
 use Rattle.off_io.proofs.Owing.{Owes-less, Owes-failed, Owes-none}
 use Rattle.net_bytes.specs.declared.order.Order.{Order}
 use Rattle.pcap_io.specs.Written.{rec_bytes}
@@ -68,7 +68,7 @@ module _ (f : ℕ → List ℕ) (n : ℕ) where
   owes_less i a b c all less owes wrote =
       Owes-less a b c all (f i) (flat_map f (range_with_len (i + 1) (n - (i + 1)))) (subst (Owes a b all) (first_of i less) owes) wrote
 
-  pub owes_failed : (i : ℕ) (a b c : Option (List ℕ)) (all : List ℕ) → i < n → Owes a b all (flat_map f (range_with_len i (n - i))) → AppendsFront b c (f i) → AppendsFront a c all
+  pub owes_failed : (i : ℕ) (a b c : Option (List ℕ)) (all : List ℕ) → i < n → Owes a b all (flat_map f (range_with_len i (n - i))) → AppendsPrefix b c (f i) → AppendsPrefix a c all
   owes_failed i a b c all less owes wrote =
       Owes-failed a b c all (f i) (flat_map f (range_with_len (i + 1) (n - (i + 1)))) (subst (Owes a b all) (first_of i less) owes) wrote
 

@@ -3,7 +3,7 @@ ghost use Rattle.std.specs.Prelude.{◌≤◌, OnOk, OnErr, drop};
 ghost use Rattle.std.specs.List.{flat_map};
 ghost use Rattle.std.specs.Io.KnownBytes.{Appends};
 ghost use Rattle.off_io.specs.Faults.{HasCause};
-ghost use Rattle.off_io.specs.Content.{AppendsFront};
+ghost use Rattle.off_io.specs.Content.{AppendsPrefix};
 ghost use Rattle.frags.specs.PieceList.{piece_bytes};
 ghost use Rattle.skb.specs.SkbState.{buffer_bytes, head_size};
 
@@ -16,7 +16,7 @@ use skb::Skb;
 #[inline(always)]
 pub fn write_buffer<K: Sink>(sink: &mut K, frame: &Skb) -> Result<(), WriteFault>
     ensures ok { OnOk result (Appends (K.held sink.old) (K.held sink.new) (buffer_bytes frame.now)) }
-    ensures err { OnErr result (AppendsFront (K.held sink.old) (K.held sink.new)
+    ensures err { OnErr result (AppendsPrefix (K.held sink.old) (K.held sink.new)
         (buffer_bytes frame.now)) }
     ensures cause { HasCause (K.faults sink.old) (K.faults sink.new) result }
 {
@@ -28,7 +28,7 @@ pub fn write_buffer<K: Sink>(sink: &mut K, frame: &Skb) -> Result<(), WriteFault
 pub(crate) fn write_from<K: Sink>(sink: &mut K, frame: &Skb, at: usize) -> Result<(), WriteFault>
     requires inside { at ≤ head_size frame.now }
     ensures ok { OnOk result (Appends (K.held sink.old) (K.held sink.new) (drop at (buffer_bytes frame.now))) }
-    ensures err { OnErr result (AppendsFront (K.held sink.old) (K.held sink.new)
+    ensures err { OnErr result (AppendsPrefix (K.held sink.old) (K.held sink.new)
         (drop at (buffer_bytes frame.now))) }
     ensures cause { HasCause (K.faults sink.old) (K.faults sink.new) result }
 {
@@ -42,7 +42,7 @@ pub(crate) fn write_from<K: Sink>(sink: &mut K, frame: &Skb, at: usize) -> Resul
 fn write_pieces<K: Sink>(sink: &mut K, frame: &Skb) -> Result<(), WriteFault>
     ensures ok { OnOk result (Appends (K.held sink.old) (K.held sink.new)
         (flat_map piece_bytes frame.now.rest)) }
-    ensures err { OnErr result (AppendsFront (K.held sink.old) (K.held sink.new)
+    ensures err { OnErr result (AppendsPrefix (K.held sink.old) (K.held sink.new)
         (flat_map piece_bytes frame.now.rest)) }
     ensures cause { HasCause (K.faults sink.old) (K.faults sink.new) result }
 {

@@ -3,7 +3,7 @@ ghost use Rattle.std.specs.Prelude.{◌≡◌, ◌+◌, ◌<◌, ◌≤◌, ◌^
 ghost use Rattle.std.specs.List.{AllByRecursion, flat_map};
 ghost use Rattle.std.specs.Io.KnownBytes.{Appends};
 ghost use Rattle.off_io.specs.Faults.{HasCause};
-ghost use Rattle.off_io.specs.Content.{AppendsFront};
+ghost use Rattle.off_io.specs.Content.{AppendsPrefix};
 ghost use Rattle.pcap_io.specs.Capture.{Packet};
 ghost use Rattle.pcap_io.specs.Limits.{off_head2_size};
 ghost use Rattle.offload_model.specs.Merged.{merged_of};
@@ -59,7 +59,7 @@ fn write_payloads<K: Sink>(
         (map (packet_at (map packet_of packets.now)) (chain_of next.now count first)) }
     ensures ok { OnOk result (Appends (K.held sink.old) (K.held sink.new)
         (payloads_behind at (map (packet_at (map packet_of packets.now)) (chain_of next.now count first)))) }
-    ensures err { OnErr result (AppendsFront (K.held sink.old) (K.held sink.new)
+    ensures err { OnErr result (AppendsPrefix (K.held sink.old) (K.held sink.new)
         (payloads_behind at (map (packet_at (map packet_of packets.now)) (chain_of next.now count first)))) }
     ensures cause { HasCause (K.faults sink.old) (K.faults sink.new) result }
 {
@@ -86,7 +86,7 @@ fn write_alone<K: Sink>(
     requires fits { slot.now.original + off_head2_size < 2 ^ 32 }
     ensures ok { OnOk result (Appends (K.held sink.old) (K.held sink.new)
         (item_bytes file.now.order lane (merged_of (packet_of slot.now ∷ [])))) }
-    ensures err { OnErr result (AppendsFront (K.held sink.old) (K.held sink.new)
+    ensures err { OnErr result (AppendsPrefix (K.held sink.old) (K.held sink.new)
         (item_bytes file.now.order lane (merged_of (packet_of slot.now ∷ [])))) }
     ensures cause { HasCause (K.faults sink.old) (K.faults sink.new) result }
 {
@@ -113,7 +113,7 @@ fn write_merged<K: Sink>(
     requires several { 1 ≤ run.now.more }
     ensures ok { OnOk result (Appends (K.held sink.old) (K.held sink.new)
         (item_bytes file.now.order lane (merged_of (run_of (map packet_of packets.now) next.now run.now)))) }
-    ensures err { OnErr result (AppendsFront (K.held sink.old) (K.held sink.new)
+    ensures err { OnErr result (AppendsPrefix (K.held sink.old) (K.held sink.new)
         (item_bytes file.now.order lane (merged_of (run_of (map packet_of packets.now) next.now run.now)))) }
     ensures cause { HasCause (K.faults sink.old) (K.faults sink.new) result }
 {
@@ -143,7 +143,7 @@ pub fn write_run<K: Sink>(
     requires fits { (packet_at (map packet_of packets.now) run.now.first).original + off_head2_size < 2 ^ 32 }
     ensures ok { OnOk result (Appends (K.held sink.old) (K.held sink.new)
         (item_bytes file.now.order lane (merged_of (run_of (map packet_of packets.now) next.now run.now)))) }
-    ensures err { OnErr result (AppendsFront (K.held sink.old) (K.held sink.new)
+    ensures err { OnErr result (AppendsPrefix (K.held sink.old) (K.held sink.new)
         (item_bytes file.now.order lane (merged_of (run_of (map packet_of packets.now) next.now run.now)))) }
     ensures cause { HasCause (K.faults sink.old) (K.faults sink.new) result }
 {
@@ -170,7 +170,7 @@ pub fn write_runs<K: Sink>(
     ensures ok { OnOk result (Appends (K.held sink.old) (K.held sink.new)
         (flat_map (item_bytes file.now.order lane)
         (map merged_of (runs_of (map packet_of packets.now) engine.now)))) }
-    ensures err { OnErr result (AppendsFront (K.held sink.old) (K.held sink.new)
+    ensures err { OnErr result (AppendsPrefix (K.held sink.old) (K.held sink.new)
         (flat_map (item_bytes file.now.order lane)
         (map merged_of (runs_of (map packet_of packets.now) engine.now)))) }
     ensures cause { HasCause (K.faults sink.old) (K.faults sink.new) result }

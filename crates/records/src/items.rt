@@ -3,7 +3,7 @@ ghost use Rattle.std.specs.Prelude.{◌≡◌, ◌+◌, ◌<◌, ◌^◌, OnOk, 
 ghost use Rattle.std.specs.List.{flat_map};
 ghost use Rattle.std.specs.Io.KnownBytes.{Appends};
 ghost use Rattle.off_io.specs.Faults.{HasCause};
-ghost use Rattle.off_io.specs.Content.{AppendsFront};
+ghost use Rattle.off_io.specs.Content.{AppendsPrefix};
 ghost use Rattle.gro.specs.Items.{item_of};
 ghost use Rattle.records.specs.Records.{item_bytes, FitsItem};
 
@@ -24,7 +24,7 @@ pub fn write_item<K: Sink>(
     requires fits { FitsItem item.now }
     ensures ok { OnOk result (Appends (K.held sink.old) (K.held sink.new)
         (item_bytes file.now.order lane (item_of item.now))) }
-    ensures err { OnErr result (AppendsFront (K.held sink.old) (K.held sink.new)
+    ensures err { OnErr result (AppendsPrefix (K.held sink.old) (K.held sink.new)
         (item_bytes file.now.order lane (item_of item.now))) }
     ensures cause { HasCause (K.faults sink.old) (K.faults sink.new) result }
 {
@@ -48,7 +48,7 @@ pub fn write_items<K: Sink>(
     requires fit { All FitsItem items.now }
     ensures ok { OnOk result (Appends (K.held sink.old) (K.held sink.new)
         (flat_map (λ item. item_bytes file.now.order lane (item_of item)) items.now)) }
-    ensures err { OnErr result (AppendsFront (K.held sink.old) (K.held sink.new)
+    ensures err { OnErr result (AppendsPrefix (K.held sink.old) (K.held sink.new)
         (flat_map (λ item. item_bytes file.now.order lane (item_of item)) items.now)) }
     ensures cause { HasCause (K.faults sink.old) (K.faults sink.new) result }
 {

@@ -3,7 +3,7 @@ ghost use Rattle.std.specs.Prelude.{◌≡◌, ◌+◌, ◌<◌, ◌^◌, ◌++�
 ghost use Rattle.std.specs.Io.KnownBytes.{Appends};
 ghost use Rattle.pcap_io.specs.Limits.{off_head2_size};
 ghost use Rattle.off_io.specs.Faults.{HasCause};
-ghost use Rattle.off_io.specs.Content.{AppendsFront};
+ghost use Rattle.off_io.specs.Content.{AppendsPrefix};
 ghost use Rattle.pcap_io.specs.Capture.{packet};
 ghost use Rattle.skb.specs.SkbState.{buffer_bytes, buffer_size};
 ghost use Rattle.offload_model.specs.Written.{record_bytes};
@@ -44,7 +44,7 @@ fn write_heads<K: Sink>(
     requires few { (len + off_head2_size < 2 ^ 32) × (original + off_head2_size < 2 ^ 32) }
     ensures ok { OnOk result (Appends (K.held sink.old) (K.held sink.new)
         (heads_of file.now.order time.sec time.frac len original head)) }
-    ensures err { OnErr result (AppendsFront (K.held sink.old) (K.held sink.new)
+    ensures err { OnErr result (AppendsPrefix (K.held sink.old) (K.held sink.new)
         (heads_of file.now.order time.sec time.frac len original head)) }
     ensures cause { HasCause (K.faults sink.old) (K.faults sink.new) result }
 {
@@ -73,7 +73,7 @@ pub fn write_record<K: Sink>(
     requires few { (buffer_size frame.now + off_head2_size < 2 ^ 32) × (original + off_head2_size < 2 ^ 32) }
     ensures ok { OnOk result (Appends (K.held sink.old) (K.held sink.new)
         (record_bytes file.now.order (headed head (packet 0 time.sec time.frac original (buffer_bytes frame.now))))) }
-    ensures err { OnErr result (AppendsFront (K.held sink.old) (K.held sink.new)
+    ensures err { OnErr result (AppendsPrefix (K.held sink.old) (K.held sink.new)
         (record_bytes file.now.order (headed head (packet 0 time.sec time.frac original (buffer_bytes frame.now))))) }
     ensures cause { HasCause (K.faults sink.old) (K.faults sink.new) result }
 {
@@ -93,7 +93,7 @@ pub fn write_window<K: Sink>(
     requires few { (length frame.now + off_head2_size < 2 ^ 32) × (original + off_head2_size < 2 ^ 32) }
     ensures ok { OnOk result (Appends (K.held sink.old) (K.held sink.new)
         (record_bytes file.now.order (headed head (packet 0 time.sec time.frac original frame.now)))) }
-    ensures err { OnErr result (AppendsFront (K.held sink.old) (K.held sink.new)
+    ensures err { OnErr result (AppendsPrefix (K.held sink.old) (K.held sink.new)
         (record_bytes file.now.order (headed head (packet 0 time.sec time.frac original frame.now)))) }
     ensures cause { HasCause (K.faults sink.old) (K.faults sink.new) result }
 {

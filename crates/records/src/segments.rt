@@ -4,7 +4,7 @@ ghost use Rattle.std.specs.Prelude.{drop, length, take};
 ghost use Rattle.std.specs.List.{flat_map, range_with_len};
 ghost use Rattle.std.specs.Io.KnownBytes.{Appends};
 ghost use Rattle.off_io.specs.Faults.{HasCause};
-ghost use Rattle.off_io.specs.Content.{AppendsFront};
+ghost use Rattle.off_io.specs.Content.{AppendsPrefix};
 ghost use Rattle.skb.specs.SkbState.{buffer_bytes};
 ghost use Rattle.segment_rule.specs.Segmentations.{segment_at};
 ghost use Rattle.gso.specs.Places.{IsPayloadPlace, IsPlace, bytes_at, own_at};
@@ -30,7 +30,7 @@ fn write_next<K: Sink>(
     requires there { n ≤ place.old.left }
     ensures ok { OnOk result (Appends (K.held sink.old) (K.held sink.new)
         (take n (bytes_at segments.now.skb place.old))) }
-    ensures err { OnErr result (AppendsFront (K.held sink.old) (K.held sink.new)
+    ensures err { OnErr result (AppendsPrefix (K.held sink.old) (K.held sink.new)
         (take n (bytes_at segments.now.skb place.old))) }
     ensures behind { OnOk result (IsPlace segments.now.skb place.new
         × (bytes_at segments.now.skb place.new ≡ drop n (bytes_at segments.now.skb place.old))) }
@@ -76,7 +76,7 @@ fn write_segment<K: Sink>(
     requires size { length row.old ≡ 16 + segments.now.cut.layout.payload_at }
     ensures ok { OnOk result (Appends (K.held sink.old) (K.held sink.new)
         (segment_bytes file.now.order time segments.now i)) }
-    ensures err { OnErr result (AppendsFront (K.held sink.old) (K.held sink.new)
+    ensures err { OnErr result (AppendsPrefix (K.held sink.old) (K.held sink.new)
         (segment_bytes file.now.order time segments.now i)) }
     ensures next { OnOk result (IsPayloadPlace segments.now (i + 1) place.new) }
     ensures size { length row.new ≡ 16 + segments.now.cut.layout.payload_at }
@@ -102,7 +102,7 @@ pub fn write_segments<K: Sink>(
 ) -> Result<(), WriteFault>
     ensures ok { OnOk result (Appends (K.held sink.old) (K.held sink.new)
         (flat_map (segment_bytes file.now.order time segments.now) (range_with_len 0 segments.now.cut.n))) }
-    ensures err { OnErr result (AppendsFront (K.held sink.old) (K.held sink.new)
+    ensures err { OnErr result (AppendsPrefix (K.held sink.old) (K.held sink.new)
         (flat_map (segment_bytes file.now.order time segments.now) (range_with_len 0 segments.now.cut.n))) }
     ensures cause { HasCause (K.faults sink.old) (K.faults sink.new) result }
 {

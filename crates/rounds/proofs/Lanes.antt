@@ -5,8 +5,8 @@ use Rattle.std.specs.declared.result.Result.{Result}
 use Rattle.std.specs.List.{flat_map}
 use Rattle.std.proofs.lemmas.Grind.{flat_map-append}
 use Rattle.std.specs.Io.KnownBytes.{Appends}
-use Rattle.off_io.specs.Content.{AppendsFront}
-use Rattle.off_io.proofs.Appending.{front_more}
+use Rattle.off_io.specs.Content.{AppendsPrefix}
+use Rattle.off_io.proofs.Appending.{prefix_more}
 use Rattle.off_io.proofs.Owing.{then_ok, then_err}
 use Rattle.net_bytes.specs.declared.order.Order.{Order}
 use Rattle.pcap_io.specs.Capture.{Packet}
@@ -97,9 +97,9 @@ brings_put (Err e) old mid new p q z n v g g' size named same brings put =
 pub ok_at : {T E : Type 0} (r : Result T E) (a b c : Option (List ℕ)) (xs ys vs ws : List ℕ) → xs ≡ vs → ys ≡ ws → Appends a b xs → OnOk r (Appends b c ys) → OnOk r (Appends a c (vs ++ ws))
 ok_at r a b c xs ys vs ws e f p q = subst (λ (z : List ℕ). OnOk r (Appends a c (z ++ ws))) e (subst (λ (z : List ℕ). OnOk r (Appends a c (xs ++ z))) f (then_ok r a b c xs ys p q))
 
-pub err_at : {T E : Type 0} (r : Result T E) (a b c : Option (List ℕ)) (xs ys vs ws : List ℕ) → xs ≡ vs → ys ≡ ws → Appends a b xs → OnErr r (AppendsFront b c ys)
-    → OnErr r (AppendsFront a c (vs ++ ws))
-err_at r a b c xs ys vs ws e f p q = subst (λ (z : List ℕ). OnErr r (AppendsFront a c (z ++ ws))) e (subst (λ (z : List ℕ). OnErr r (AppendsFront a c (xs ++ z))) f (then_err r a b c xs ys p q))
+pub err_at : {T E : Type 0} (r : Result T E) (a b c : Option (List ℕ)) (xs ys vs ws : List ℕ) → xs ≡ vs → ys ≡ ws → Appends a b xs → OnErr r (AppendsPrefix b c ys)
+    → OnErr r (AppendsPrefix a c (vs ++ ws))
+err_at r a b c xs ys vs ws e f p q = subst (λ (z : List ℕ). OnErr r (AppendsPrefix a c (z ++ ws))) e (subst (λ (z : List ℕ). OnErr r (AppendsPrefix a c (xs ++ z))) f (then_err r a b c xs ys p q))
 
-pub front_at : (a b : Option (List ℕ)) (xs vs ws : List ℕ) → xs ≡ vs → AppendsFront a b xs → AppendsFront a b (vs ++ ws)
-front_at a b xs vs ws e h = front_more a b vs ws (subst (AppendsFront a b) e h)
+pub front_at : (a b : Option (List ℕ)) (xs vs ws : List ℕ) → xs ≡ vs → AppendsPrefix a b xs → AppendsPrefix a b (vs ++ ws)
+front_at a b xs vs ws e h = prefix_more a b vs ws (subst (AppendsPrefix a b) e h)

@@ -6,9 +6,9 @@ use Rattle.std.proofs.lemmas.Bool.{false≢true}
 use Rattle.std.proofs.lemmas.List.{length-map, take_at}
 use Rattle.std.specs.Io.KnownBytes.{Appends, Keeps}
 use Rattle.std.proofs.KnownBytes.{Appends-nil, Appends-trans, Appends-kept}
-use Rattle.off_io.specs.Content.{AppendsFront}
+use Rattle.off_io.specs.Content.{AppendsPrefix}
 use Rattle.off_io.specs.Told.{Told}
-use Rattle.off_io.proofs.Owing.{front_whole}
+use Rattle.off_io.proofs.Owing.{prefix_whole}
 use Rattle.off_io.proofs.Telling.{Told-then, Told-same, Told-weaker}
 use Rattle.pcap_io.specs.declared.heads.FileHead.{FileHead}
 use Rattle.pcap_io.specs.declared.place.Place.{Place}
@@ -22,12 +22,12 @@ use Rattle.pcap_io.proofs.LengthLaws.{lengths_of_packets}
 use Rattle.maximal_runs.proofs.Pass.{all_append}
 use Rattle.offload_model.specs.Captured.{IsCaptured}
 use Rattle.offload_model.specs.Need.{needed, round_need, exceeded_at, found_before}
-use Rattle.offload_model.specs.Passing.{Stop, Ending, Stopped, Nowhere, AtFault, AtRound, Passed, ReadFault, WriteFault, NoMemory, merging, Passes, WritesFront, FrontUnless, IsNoRound, stop_of}
+use Rattle.offload_model.specs.Passing.{Stop, Ending, Stopped, Nowhere, AtFault, AtRound, Passed, ReadFault, WriteFault, NoMemory, merging, Passes, WritesPrefix, PrefixUnless, IsNoRound, stop_of}
 use Rattle.offload_model.specs.Steps.{ending_behind, behind, round_output}
 use Rattle.offload_model.specs.Written.{Options}
 use Rattle.offload_model.proofs.Lists.{all_taken}
 use Rattle.offload_model.proofs.Needs.{needed_append, needs_add}
-use Rattle.offload_model.proofs.Steps.{commands_pass_on, fronts_pass_on, merging_goes_by_round}
+use Rattle.offload_model.proofs.Steps.{commands_pass_on, prefixes_pass_on, merging_goes_by_round}
 use Rattle.gro.specs.declared.slot.Slot.{Slot as Held}
 use Rattle.gro.specs.Slots.{packet_of}
 use Rattle.records.specs.Reading.{in_front, Passes as PassesRecords}
@@ -44,7 +44,7 @@ use Rattle.rounds.specs.declared.merge.MergeEnd.TheVariants as ends
 -- a round that was written, and then the sink was flushed
 pub finished : (h h1 h2 : Option (List ℕ)) (bytes : List ℕ) (end result : MergeEnd) → Appends h h1 bytes → (result ≡ end) ⊎ (result ≡ ends.WriteFault) → Keeps h1 h2 → WritesLast h h2 bytes end result
 finished h h1 h2 bytes end result wrote (inl e) kept = inl (e, Appends-kept h h1 h2 bytes wrote kept)
-finished h h1 h2 bytes end result wrote (inr e) kept = inr (inl (e, front_whole h h2 bytes (Appends-kept h h1 h2 bytes wrote kept)))
+finished h h1 h2 bytes end result wrote (inr e) kept = inr (inl (e, prefix_whole h h2 bytes (Appends-kept h h1 h2 bytes wrote kept)))
 
 -- ---- rounds in a row
 
@@ -100,18 +100,18 @@ module _ (blocks : ℕ) (options : Options) (k : ℕ) (p0 p1 p2 : Place) (a b c 
       Told-then a b c (Ahead blocks options k p0 p1 h h1 t0 t1) (EndsBehind k blocks options p1 h1 h2 end) (Passes (merging blocks options p0) h h2 (ending_of end))
       (λ bytes rest left x y. one_end end bytes rest left x y) first more
 
-  one_front : (bytes rest left : List ℕ) → Ahead blocks options k p0 p1 h h1 t0 t1 bytes rest → WritesFront (merging blocks options p1) h1 h2 rest left
-      → WritesFront (merging blocks options p0) h h2 bytes left
+  one_front : (bytes rest left : List ℕ) → Ahead blocks options k p0 p1 h h1 t0 t1 bytes rest → WritesPrefix (merging blocks options p1) h1 h2 rest left
+      → WritesPrefix (merging blocks options p0) h h2 bytes left
   one_front bytes rest left x y =
-      subst (λ (l : List ℕ). WritesFront (merging blocks options p0) h h2 l left) (sym x.split)
-      ((fronts_pass_on (merging blocks options p0) (merging blocks options p1) k x.gone x.done).after h h1 h2 rest left x.goes x.wrote y)
+      subst (λ (l : List ℕ). WritesPrefix (merging blocks options p0) h h2 l left) (sym x.split)
+      ((prefixes_pass_on (merging blocks options p0) (merging blocks options p1) k x.gone x.done).after h h1 h2 rest left x.goes x.wrote y)
 
   -- a prefix of what comes of what follows is one of what comes of all
-  pub fronts_then : (X Y : Type 0) → (X → Y) → Told a b (Ahead blocks options k p0 p1 h h1 t0 t1) → FrontUnless X (merging blocks options p1) b c h1 h2
-      → FrontUnless Y (merging blocks options p0) a c h h2
+  pub fronts_then : (X Y : Type 0) → (X → Y) → Told a b (Ahead blocks options k p0 p1 h h1 t0 t1) → PrefixUnless X (merging blocks options p1) b c h1 h2
+      → PrefixUnless Y (merging blocks options p0) a c h h2
   fronts_then X Y later first (inl failed) = inl (later failed)
   fronts_then X Y later first (inr told) =
-      inr (Told-then a b c (Ahead blocks options k p0 p1 h h1 t0 t1) (WritesFront (merging blocks options p1) h1 h2) (WritesFront (merging blocks options p0) h h2)
+      inr (Told-then a b c (Ahead blocks options k p0 p1 h h1 t0 t1) (WritesPrefix (merging blocks options p1) h1 h2) (WritesPrefix (merging blocks options p0) h h2)
       (λ bytes rest left x y. one_front bytes rest left x y) first told)
 
   one_taken : (bytes rest left : List ℕ) → Ahead blocks options k p0 p1 h h1 t0 t1 bytes rest → TakesAll t1 t2 p1 rest left → TakesAll t0 t2 p0 bytes left
@@ -300,22 +300,22 @@ module _ (blocks : ℕ) (state : RoundsState) (file : FileHead) (from to : Place
 
   module _ (k : ℕ) (a b h h1 : Option (List ℕ)) where
     -- a round that wasn't written whole
-    pub fails_front : (end : MergeEnd) → Fails h h1 out end → AppendsFront h h1 out
+    pub fails_front : (end : MergeEnd) → Fails h h1 out end → AppendsPrefix h h1 out
     fails_front end (inl f) = f.1
     fails_front end (inr f) = (0, Appends-kept h h h1 [] (Appends-nil h) f.1)
 
-    last_front : (end result : MergeEnd) → WritesLast h h1 out end result → AppendsFront h h1 out
-    last_front end result (inl w) = front_whole h h1 out w.1
+    last_front : (end result : MergeEnd) → WritesLast h h1 out end result → AppendsPrefix h h1 out
+    last_front end result (inl w) = prefix_whole h h1 out w.1
     last_front end result (inr f) = fails_front result f
 
     -- a prefix of the last round, whose end was read
     pub ended_front : (end result : MergeEnd) (bytes left : List ℕ) (fault : Option CapFault) → length round < state.budget → needed (lengths_at from bytes) ≤ blocks
         → found_at from bytes ≡ in_front packets (ended fault)
-        → WritesLast h h1 out end result → WritesFront passing h h1 bytes left
+        → WritesLast h h1 out end result → WritesPrefix passing h h1 bytes left
     ended_front end result bytes left fault fewer room found wrote =
-        subst (AppendsFront h h1) (sym (ap (λ (x : Passed). x.output) (last_is bytes fault fewer room found))) (last_front end result wrote)
+        subst (AppendsPrefix h h1) (sym (ap (λ (x : Passed). x.output) (last_is bytes fault fewer room found))) (last_front end result wrote)
 
-    pub fails_end : (end : MergeEnd) → Fails h h1 out end → (gone bytes left : List ℕ) → bytes ≡ gone ++ left → (AppendsFront h h1 out → AppendsFront h h1 (passing gone).output)
+    pub fails_end : (end : MergeEnd) → Fails h h1 out end → (gone bytes left : List ℕ) → bytes ≡ gone ++ left → (AppendsPrefix h h1 out → AppendsPrefix h h1 (passing gone).output)
         → EndsBehind k blocks (options_of state) from h h1 end bytes left
     fails_end end (inl f) gone bytes left split wrote = (WriteFault, ap ending_of f.0, (gone, split, wrote f.1))
     fails_end end (inr f) gone bytes left split wrote = (NoMemory, ap ending_of f.0, (gone, split, (0, Appends-kept h h h1 [] (Appends-nil h) f.1)))
@@ -325,7 +325,7 @@ module _ (blocks : ℕ) (state : RoundsState) (file : FileHead) (from to : Place
         → ComesTo passing out bytes left
         → WritesLast h h1 out end result → EndsBehind k blocks (options_of state) from h h1 result bytes left
     last_end end result ending bytes left is passes comes (inl w) = (ending, ap ending_of w.0 ∙ is, passes w.1)
-    last_end end result ending bytes left is passes comes (inr f) = fails_end result f comes.0 bytes left comes.1 (λ w. subst (AppendsFront h h1) (sym comes.3) w)
+    last_end end result ending bytes left is passes comes (inr f) = fails_end result f comes.0 bytes left comes.1 (λ w. subst (AppendsPrefix h h1) (sym comes.3) w)
 
     pub end_given : (result : MergeEnd) → length round < state.budget → WritesLast h h1 out ends.Done result
         → Told a b (GivesRound blocks from to round rounds.End) → Told a b (EndsBehind k blocks (options_of state) from h h1 result)

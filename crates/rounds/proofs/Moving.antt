@@ -3,9 +3,9 @@ use Rattle.std.proofs.Common.{◌≡◌, ℕ, ◌+◌, ◌-◌, ◌^◌, ◌≤�
 use Rattle.std.proofs.Common.{Ok, Err}
 use Rattle.std.specs.Io.KnownBytes.{Appends}
 use Rattle.std.proofs.KnownBytes.{Appends-nil, Appends-kept, Keeps-refl}
-use Rattle.off_io.specs.Content.{AppendsFront}
+use Rattle.off_io.specs.Content.{AppendsPrefix}
 use Rattle.off_io.specs.Told.{Told}
-use Rattle.off_io.proofs.Appending.{front_more}
+use Rattle.off_io.proofs.Appending.{prefix_more}
 use Rattle.off_io.proofs.Telling.{Told-weaker}
 use Rattle.pcap_io.specs.declared.heads.Link.{Link}
 use Rattle.pcap_io.specs.declared.heads.Link.TheVariants.{Offload}
@@ -142,11 +142,11 @@ goes_on blocks old new r bytes left next lawful passes tail =
 -- a prefix of what it comes to
 front_of : (h k : Option (List ℕ)) (blocks : ℕ) (old new : Place) (r : Packet) (bytes left : List ℕ) → IsNext blocks old new r → is_lawful_record r ≡ true
     → (passes : Passes old new (r ∷ []) bytes left)
-    → AppendsFront h k (written old r) → AppendsFront h k (segmenting blocks old passes.0).output
+    → AppendsPrefix h k (written old r) → AppendsPrefix h k (segmenting blocks old passes.0).output
 front_of h k blocks old new r bytes left next lawful passes front =
     let e = goes_on blocks old new r bytes left next lawful passes [] in
-    subst (λ (xs : List ℕ). AppendsFront h k (segmenting blocks old xs).output) (append-nil passes.0)
-    (subst (λ (z : Passed). AppendsFront h k z.output) (sym e) (front_more h k (written old r) (segmenting blocks new []).output front))
+    subst (λ (xs : List ℕ). AppendsPrefix h k (segmenting blocks old xs).output) (append-nil passes.0)
+    (subst (λ (z : Passed). AppendsPrefix h k z.output) (sym e) (prefix_more h k (written old r) (segmenting blocks new []).output front))
 
 moved_one : (h k : Option (List ℕ)) (blocks : ℕ) (old new : Place) (r : Packet) (bytes left : List ℕ) → IsNext blocks old new r → Passes old new (r ∷ []) bytes left
     → WritesRecord old.file.order r h k (Ok tt) → Moves blocks old new h k (Ok One) bytes left

@@ -4,7 +4,7 @@ use Rattle.std.specs.Prelude.{◌==◌, ◌&&◌, ◌||◌, ◌↔◌, nat_le, I
 use Rattle.std.specs.List.{flat_map, range_with_len}
 use Rattle.std.specs.Io.KnownBytes.{Appends}
 use Rattle.std.proofs.lemmas.Bool.{and_parts}
-use Rattle.off_io.specs.Content.{AppendsFront}
+use Rattle.off_io.specs.Content.{AppendsPrefix}
 use Rattle.net_bytes.specs.declared.order.Order.{Order}
 use Rattle.pcap_io.specs.Capture.{Packet, packet}
 use Rattle.pcap_io.specs.Headers.{fields_in, head_size}
@@ -96,4 +96,4 @@ pub writes_record : (order : Order) (r : Packet) (ps : List Packet) (a b : Optio
     → WritesRecord order r a b x
 writes_record order r ps a b (Ok u) lawful e w = (lawful, subst (λ (z : List Packet). Appends a b (packets_bytes order z)) (sym e) w)
 writes_record order r ps a b (Err refusals.BadOffload) lawful e w = absurd w
-writes_record order r ps a b (Err refusals.WriteFault) lawful e w = (lawful, subst (λ (z : List Packet). AppendsFront a b (packets_bytes order z)) (sym e) w)
+writes_record order r ps a b (Err refusals.WriteFault) lawful e w = (lawful, subst (λ (z : List Packet). AppendsPrefix a b (packets_bytes order z)) (sym e) w)

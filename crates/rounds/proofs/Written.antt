@@ -4,18 +4,18 @@ use Rattle.std.proofs.Common.{append_assoc}
 use Rattle.std.specs.Io.KnownBytes.{Appends}
 use Rattle.std.proofs.KnownBytes.{Appends-nil, Appends-kept}
 use Rattle.std.proofs.lemmas.Bool.{false≢true}
-use Rattle.off_io.specs.Content.{AppendsFront, SaysFlushed}
+use Rattle.off_io.specs.Content.{AppendsPrefix, SaysFlushed}
 use Rattle.off_io.specs.Faults.{Rose}
 use Rattle.off_io.specs.Told.{Told}
-use Rattle.off_io.proofs.Appending.{front_more}
+use Rattle.off_io.proofs.Appending.{prefix_more}
 use Rattle.off_io.proofs.Telling.{Told-then, Told-weaker}
 use Rattle.pcap_io.specs.declared.heads.FileHead.{FileHead}
 use Rattle.pcap_io.specs.Reading.{Loses}
 use Rattle.offload_model.specs.Need.{round_need}
-use Rattle.offload_model.specs.Passing.{Passed, WriteFault, NoMemory, merging, WritesFront, FrontUnless, flushes}
+use Rattle.offload_model.specs.Passing.{Passed, WriteFault, NoMemory, merging, WritesPrefix, PrefixUnless, flushes}
 use Rattle.offload_model.specs.Steps.{round_output}
 use Rattle.offload_model.specs.Written.{Options}
-use Rattle.offload_model.proofs.Steps.{fronts_pass_on}
+use Rattle.offload_model.proofs.Steps.{prefixes_pass_on}
 use Rattle.gro.specs.declared.slot.Slot.{Slot as Held}
 use Rattle.gro.specs.Slots.{packet_of}
 use Rattle.rounds.specs.declared.round.RoundEnd.{RoundEnd}
@@ -91,8 +91,8 @@ rose_from : (a b c : ℕ) → a ≤ b → Rose b c → Rose a c
 rose_from a b c le rose = omega (arith, le, rose)
 
 -- where nothing was written that is a prefix of what comes of all the bytes
-kept_front : (X : Type 0) (passing : List ℕ → Passed) (a b h h1 : Option (List ℕ)) (P : List ℕ → List ℕ → Type 0) → AppendsFront h h1 [] → Told a b P → FrontUnless X passing a b h h1
-kept_front X passing a b h h1 P none told = inr (Told-weaker a b P (WritesFront passing h h1) (λ bytes left _. front_more h h1 [] (passing bytes).output none) told)
+kept_front : (X : Type 0) (passing : List ℕ → Passed) (a b h h1 : Option (List ℕ)) (P : List ℕ → List ℕ → Type 0) → AppendsPrefix h h1 [] → Told a b P → PrefixUnless X passing a b h h1
+kept_front X passing a b h h1 P none told = inr (Told-weaker a b P (WritesPrefix passing h h1) (λ bytes left _. prefix_more h h1 [] (passing bytes).output none) told)
 
 module _ (blocks : ℕ) (state : RoundsState) (file : FileHead) where
   -- what is said of the round behind which merging ended, itself behind k others
@@ -101,19 +101,19 @@ module _ (blocks : ℕ) (state : RoundsState) (file : FileHead) where
     captured : Told from.left to.left (EndsCaptured k from.place end)
     taken : end ≡ ends.Done → Told from.left to.left (TakesAll from.taken to.taken from.place)
     read : end ≡ ends.ReadFault → Rose from.faults to.faults
-    front : FrontUnless (Rose from.faults to.faults) (merging blocks (options_of state) from.place) from.left to.left h h1
+    prefix : PrefixUnless (Rose from.faults to.faults) (merging blocks (options_of state) from.place) from.left to.left h h1
 
   -- where it ended by a failed write or for want of memory
   cut_says : (k : ℕ) (from to : Spot) (h h1 : Option (List ℕ)) (end : MergeEnd) → (end ≡ ends.WriteFault) ⊎ (end ≡ ends.NoMemory)
       → Told from.left to.left (EndsBehind k blocks (options_of state) from.place h h1 end)
-      → FrontUnless (Rose from.faults to.faults) (merging blocks (options_of state) from.place) from.left to.left h h1 → Says k from to h h1 end
+      → PrefixUnless (Rose from.faults to.faults) (merging blocks (options_of state) from.place) from.left to.left h h1 → Says k from to h h1 end
   cut_says k from to h h1 end cut told front = record {
     given = told;
     captured = Told-weaker from.left to.left (EndsBehind k blocks (options_of state) from.place h h1 end) (EndsCaptured k from.place end)
         (λ bytes left _. cut_captured k from.place end bytes left cut) told;
     taken = λ done. not_one is_done end ends.WriteFault ends.NoMemory _ refl refl cut (ap is_done done);
     read = λ fault. not_one is_read end ends.WriteFault ends.NoMemory _ refl refl cut (ap is_read fault);
-    front = front;
+    prefix = front;
   }
 
   -- where there was no memory: these rounds are given up
@@ -170,12 +170,12 @@ module _ (blocks : ℕ) (state : RoundsState) (file : FileHead) where
         let split = x.split ∙ ap (λ (l : List ℕ). x.gone ++ l) y.1 ∙ sym (append_assoc x.gone y.0 left) in
         let after = (merging blocks (options_of state) to.place y.0).output in
         fails_end blocks state file from.place to.place round is_file r.some fits k from.left to.left h h1 end fails (x.gone ++ y.0) bytes left split
-        (λ f. subst (AppendsFront h h1) (sym (ap (λ (q : Passed). q.output) (x.goes y.0))) (front_more h h1 x.done after (subst (AppendsFront h h1) x.wrote f)))) first lost)
-        (inr (Told-then from.left to.left last.left ahead Loses (WritesFront passing h h1)
+        (λ f. subst (AppendsPrefix h h1) (sym (ap (λ (q : Passed). q.output) (x.goes y.0))) (prefix_more h h1 x.done after (subst (AppendsPrefix h h1) x.wrote f)))) first lost)
+        (inr (Told-then from.left to.left last.left ahead Loses (WritesPrefix passing h h1)
         (λ bytes mid left x y.
-        subst (λ (l : List ℕ). WritesFront passing h h1 l left) (sym x.split)
-        ((fronts_pass_on passing (merging blocks (options_of state) to.place) 1 x.gone x.done).within h h1 mid left x.goes
-        (subst (AppendsFront h h1) x.wrote (fails_front blocks state file from.place to.place round is_file r.some fits k from.left to.left h h1 end fails)))) first lost))
+        subst (λ (l : List ℕ). WritesPrefix passing h h1 l left) (sym x.split)
+        ((prefixes_pass_on passing (merging blocks (options_of state) to.place) 1 x.gone x.done).within h h1 mid left x.goes
+        (subst (AppendsPrefix h h1) x.wrote (fails_front blocks state file from.place to.place round is_file r.some fits k from.left to.left h h1 end fails)))) first lost))
 
     -- the last round, behind which nothing was read
     alone : (end : MergeEnd) (last : Spot) (ys : List RoundRead) → ys ≡ [] → Reads blocks state.budget to ys last → Says k from to h h1 end → Says k from last h h1 end
@@ -196,7 +196,7 @@ module _ (blocks : ℕ) (state : RoundsState) (file : FileHead) where
           captured = end_captured k blocks from.place to.place round from.left to.left h h1 out r.captured end put told;
           taken = λ done. done_taken blocks from.taken to.taken from.place to.place round from.left to.left read.end is took r.given;
           read = λ fault. not_last is_read h h1 out ends.Done end _ refl refl refl put (ap is_read fault);
-          front = inr (Told-weaker from.left to.left (GivesRound blocks from.place to.place round rounds.End) (WritesFront passing h h1)
+          prefix = inr (Told-weaker from.left to.left (GivesRound blocks from.place to.place round rounds.End) (WritesPrefix passing h h1)
               (λ bytes left gives.
               ended_front blocks state file from.place to.place round is_file r.some fits k from.left to.left h h1 ends.Done end bytes left None fewer gives.1 gives.0 put) told);
         }
@@ -209,7 +209,7 @@ module _ (blocks : ℕ) (state : RoundsState) (file : FileHead) where
           captured = malformed_captured k blocks from.place to.place round from.left to.left h h1 out r.captured fault end put told;
           taken = λ done. not_last is_done h h1 out (ends.Malformed fault) end _ refl refl refl put (ap is_done done);
           read = λ failed. not_last is_read h h1 out (ends.Malformed fault) end _ refl refl refl put (ap is_read failed);
-          front = inr (Told-weaker from.left to.left (GivesRound blocks from.place to.place round (rounds.Malformed fault)) (WritesFront passing h h1)
+          prefix = inr (Told-weaker from.left to.left (GivesRound blocks from.place to.place round (rounds.Malformed fault)) (WritesPrefix passing h h1)
               (λ bytes left gives.
               ended_front blocks state file from.place to.place round is_file r.some fits k from.left to.left h h1 (ends.Malformed fault) end bytes left (Some fault) fewer gives.1 gives.0 put) told);
         }
@@ -222,7 +222,7 @@ module _ (blocks : ℕ) (state : RoundsState) (file : FileHead) where
           captured = fault_captured k blocks from.place to.place round from.left to.left h h1 out r.captured end put told;
           taken = λ done. not_last is_done h h1 out ends.ReadFault end _ refl refl refl put (ap is_done done);
           read = λ fault. r.failed is;
-          front = inl (r.failed is);
+          prefix = inl (r.failed is);
         }
     end_says (rounds.PoolEmpty need) end last ys is closes reads w =
         let gave = gave_up (rounds.PoolEmpty need) end is refl w in
@@ -233,7 +233,7 @@ module _ (blocks : ℕ) (state : RoundsState) (file : FileHead) where
           captured = empty_captured k blocks from.place to.place round from.left to.left h h1 out r.captured need end gave.0 told;
           taken = λ done. not_one is_done end (ends.PoolEmpty k need) ends.WriteFault _ refl refl gave.0 (ap is_done done);
           read = λ fault. not_one is_read end (ends.PoolEmpty k need) ends.WriteFault _ refl refl gave.0 (ap is_read fault);
-          front = kept_front _ passing from.left to.left h h1 _ (0, Appends-kept h h h1 [] (Appends-nil h) gave.1) told;
+          prefix = kept_front _ passing from.left to.left h h1 _ (0, Appends-kept h h h1 [] (Appends-nil h) gave.1) told;
         }
     end_says rounds.NoMemory end last ys is closes reads w =
         let gave = gave_up rounds.NoMemory end is refl w in
@@ -251,8 +251,8 @@ module _ (blocks : ℕ) (state : RoundsState) (file : FileHead) where
     captured = captured_then blocks (options_of state) k start.place at.place to.place start.left at.left to.left start.held h h1 start.taken at.taken to.taken end gone.told says.given says.captured;
     taken = λ done. taken_then blocks (options_of state) k start.place at.place to.place start.left at.left to.left start.held h h1 start.taken at.taken to.taken gone.told (says.taken done);
     read = λ fault. rose_from first.faults at.faults to.faults later (says.read fault);
-    front = fronts_then blocks (options_of state) k start.place at.place to.place start.left at.left to.left start.held h h1 start.taken at.taken to.taken
-        (Rose at.faults to.faults) (Rose first.faults to.faults) (λ rose. rose_from first.faults at.faults to.faults later rose) gone.told says.front;
+    prefix = fronts_then blocks (options_of state) k start.place at.place to.place start.left at.left to.left start.held h h1 start.taken at.taken to.taken
+        (Rose at.faults to.faults) (Rose first.faults to.faults) (λ rose. rose_from first.faults at.faults to.faults later rose) gone.told says.prefix;
   }
 
   goes_behind : (start : Start) (k : ℕ) (at to : Spot) (h h1 : Option (List ℕ)) (read : RoundRead) → Behind blocks (options_of state) file start k at h → ReadRound blocks state.budget at to read
@@ -321,7 +321,7 @@ all_merged at_sink file ready old new from to before after end is_file h =
     let sank = ran_sank old.blocks old file at_sink 0 before after h.ran.got end h.ran.ends in
     record {
       given = ended.given;
-      front = ended.front;
+      prefix = ended.prefix;
       flushed = sank.flushed;
       home = h.rests.home;
       named = h.named;

@@ -3,7 +3,7 @@ use Rattle.std.specs.Prelude.{ℕ, ◌≡◌, ◌+◌, ◌-◌, true, false, Opt
 use Rattle.std.specs.Prelude.{Err}
 use Rattle.std.specs.List.{flat_map}
 use Rattle.std.specs.Io.KnownBytes.{Appends, Keeps}
-use Rattle.off_io.specs.Content.{AppendsFront}
+use Rattle.off_io.specs.Content.{AppendsPrefix}
 use Rattle.net_bytes.specs.declared.order.Order.{Order}
 use Rattle.pcap_io.specs.Capture.{Packet, packet}
 use Rattle.pcap_io.specs.Headers.{any_head, head_size}
@@ -35,7 +35,7 @@ pub record IsBehind (r : Packet) (head : AnyHead) (p : Held) : Type 0 where
 abbrev pub Writes : List ℕ → Option (List ℕ) → Option (List ℕ) → Result (Unit {0}) Refused → Type 0
 Writes all old new (Ok _) = Appends old new all
 Writes all old new (Err BadOffload) = ⊥
-Writes all old new (Err WriteFault) = AppendsFront old new all
+Writes all old new (Err WriteFault) = AppendsPrefix old new all
 
 -- what is written of one record: nothing where it isn't lawful
 abbrev pub WritesRecord : Order → Packet → Option (List ℕ) → Option (List ℕ) → Result (Unit {0}) Refused → Type 0
@@ -43,4 +43,4 @@ WritesRecord order r old new (Ok _) = (is_lawful_record r ≡ true)
     × Appends old new (packets_bytes order (segments_of r))
 WritesRecord order r old new (Err BadOffload) = (is_lawful_record r ≡ false) × Keeps old new
 WritesRecord order r old new (Err WriteFault) = (is_lawful_record r ≡ true)
-    × AppendsFront old new (packets_bytes order (segments_of r))
+    × AppendsPrefix old new (packets_bytes order (segments_of r))

@@ -6,7 +6,7 @@ use Rattle.off_io.specs.Faults.{Rose}
 use Rattle.off_io.specs.Told.{Told}
 use Rattle.pcap_io.specs.declared.heads.FileHead.{FileHead}
 use Rattle.pcap_io.specs.declared.place.Place.{Place}
-use Rattle.offload_model.specs.Passing.{merging, Passes, FrontUnless, flushes}
+use Rattle.offload_model.specs.Passing.{merging, Passes, PrefixUnless, flushes}
 use Rattle.offload_model.specs.Steps.{round_output}
 use Rattle.offload_model.specs.Written.{Options}
 use Rattle.gro.specs.Slots.{packet_of}
@@ -40,7 +40,7 @@ pub record Ended (blocks : ℕ) (options : Options) (start : Start) (from to : S
   pub captured : Told start.left to.left (HoldsCaptured blocks options.budget start.place end)
   pub taken : end ≡ ends.Done → Told start.left to.left (TakesAll start.taken to.taken start.place)
   pub read : end ≡ ends.ReadFault → Rose from.faults to.faults
-  pub front : FrontUnless (Rose from.faults to.faults) (merging blocks options start.place) start.left to.left
+  pub prefix : PrefixUnless (Rose from.faults to.faults) (merging blocks options start.place) start.left to.left
       start.held held
 
 -- a round was worked and written behind k others, or given up
@@ -81,7 +81,7 @@ pub record PutRound (options : Options) (file : FileHead) (old new : Sunk) (read
 pub record Merged (old new : RoundsState) (from to : Spot) (before after : Sunk) (end : MergeEnd) : Type 0 where
   pub given : Told from.left to.left
       (Passes (merging old.blocks (options_of old) from.place) before.held after.held (ending_of end))
-  pub front : FrontUnless (Rose from.faults to.faults) (merging old.blocks (options_of old) from.place)
+  pub prefix : PrefixUnless (Rose from.faults to.faults) (merging old.blocks (options_of old) from.place)
       from.left to.left before.held after.held
   pub flushed : flushes (ending_of end) ≡ true → SaysFlushed after.held after.flushed true
   pub home : new.home ≡ new.blocks

@@ -3,7 +3,7 @@ use Rattle.std.specs.Prelude.{◌≡◌, ◌⊎◌, ℕ, ◌+◌, ◌-◌, ◌�
 use Rattle.std.specs.Prelude.{List, ◌++◌}
 use Rattle.std.specs.List.{AllByRecursion}
 use Rattle.std.specs.Io.KnownBytes.{Appends, Keeps}
-use Rattle.off_io.specs.Content.{AppendsFront}
+use Rattle.off_io.specs.Content.{AppendsPrefix}
 use Rattle.pcap_io.specs.declared.place.Place.{Place}
 use Rattle.pcap_io.specs.Capture.{Packet}
 use Rattle.pcap_io.specs.Places.{found_at}
@@ -38,7 +38,7 @@ options_of rounds = options_by rounds.plan rounds.budget
 
 -- a round wasn't written whole: the sink failed, or there was no memory
 abbrev pub Fails : Option (List ℕ) → Option (List ℕ) → List ℕ → MergeEnd → Type 0
-Fails old new bytes end = ((end ≡ ends.WriteFault) × AppendsFront old new bytes)
+Fails old new bytes end = ((end ≡ ends.WriteFault) × AppendsPrefix old new bytes)
     ⊎ ((end ≡ ends.NoMemory) × Keeps old new)
 
 -- the last round: it was written, and merging ends as it is to, or it wasn't

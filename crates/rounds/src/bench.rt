@@ -4,7 +4,7 @@ ghost use Rattle.std.specs.Prelude.{ℕ, IfOk, IfErr, OnOk, OnErr};
 ghost use Rattle.std.specs.Io.KnownBytes.{Appends};
 ghost use Rattle.block_pool.specs.Giving.{given_by, weights_given};
 ghost use Rattle.block_pool.specs.PoolState.{home};
-ghost use Rattle.off_io.specs.Content.{AppendsFront};
+ghost use Rattle.off_io.specs.Content.{AppendsPrefix};
 ghost use Rattle.off_io.specs.Faults.{HasCause};
 ghost use Rattle.offload_model.specs.Written.{round_records};
 ghost use Rattle.gro.specs.Slots.{packet_of};
@@ -282,7 +282,7 @@ impl Bench {
     ) -> Result<(), WriteFault>
         ensures ok { OnOk result (Appends (K.held sink.old) (K.held sink.new)
             (worked_bytes file.now.order worked.now)) }
-        ensures err { OnErr result (AppendsFront (K.held sink.old) (K.held sink.new)
+        ensures err { OnErr result (AppendsPrefix (K.held sink.old) (K.held sink.new)
             (worked_bytes file.now.order worked.now)) }
         ensures cause { HasCause (K.faults sink.old) (K.faults sink.new) result }
     {

@@ -3,7 +3,7 @@ ghost use Rattle.std.specs.Prelude.{◌≡◌, ℕ, ◌+◌, ◌-◌, ◌<◌, �
 ghost use Rattle.std.specs.Prelude.{length};
 ghost use Rattle.std.specs.Io.KnownBytes.{Appends};
 ghost use Rattle.off_io.specs.Faults.{HasCause, Rose};
-ghost use Rattle.off_io.specs.Content.{AppendsFront};
+ghost use Rattle.off_io.specs.Content.{AppendsPrefix};
 ghost use Rattle.block_pool.specs.PoolState.{home, weighed};
 ghost use Rattle.skb.specs.SkbState.{buffer_bytes, weighed_in, IsAlone};
 ghost use Rattle.pcap_io.specs.Capture.{Packet as Record};
@@ -45,7 +45,7 @@ fn write_packets<K: Sink>(
     requires plan { IsPlanOf packet.now.skb plan.now }
     ensures ok { OnOk result (Appends (K.held sink.old) (K.held sink.new)
         (packets_bytes file.now.order (packets_by plan.now (packet_of packet.now)))) }
-    ensures err { OnErr result (AppendsFront (K.held sink.old) (K.held sink.new)
+    ensures err { OnErr result (AppendsPrefix (K.held sink.old) (K.held sink.new)
         (packets_bytes file.now.order (packets_by plan.now (packet_of packet.now)))) }
     ensures cause { HasCause (K.faults sink.old) (K.faults sink.new) result }
 {

@@ -9,7 +9,7 @@ ghost use Rattle.pcap_io.specs.declared.heads.Link.TheVariants.{Ethernet};
 ghost use Rattle.pcap_io.specs.Places.{IsReady, found_at};
 ghost use Rattle.pcap_io.specs.Readers.{place_of, source_of, SameLoan};
 ghost use Rattle.offload_model.specs.Need.{round_need};
-ghost use Rattle.offload_model.specs.Passing.{merging, Passes, FrontUnless, flushes};
+ghost use Rattle.offload_model.specs.Passing.{merging, Passes, PrefixUnless, flushes};
 ghost use Rattle.offload_model.specs.Steps.{round_output};
 ghost use Rattle.gro.specs.Slots.{packet_of};
 ghost use Rattle.rounds.specs.Benches.{options_at, Brings, BringsBeside, IsLent, Lends, MayBring};
@@ -266,7 +266,7 @@ impl Rounds {
     /// Merges the records of a capture, round by round, up to its end: each round is read, worked, written and ended.
     /// The sink is flushed once, after the last write.
     ///
-    /// `given` says of each ending what was read and written, `front` that this is a prefix of what comes of all the
+    /// `given` says of each ending what was read and written, `prefix` that this is a prefix of what comes of all the
     /// bytes that were given, unless the source failed, and `captured` that the packets are such as a capture may hold.
     /// A read fault or a write fault only where the count of the source or the sink rose. All blocks are home again,
     /// whatever the ending.
@@ -285,7 +285,7 @@ impl Rounds {
         ensures given { Told (S.left (source_of reader.old)) (S.left (source_of reader.new))
             (Passes (merging self.old.blocks (options_of self.old) (place_of reader.old)) (K.held sink.old)
             (K.held sink.new) (ending_of result)) }
-        ensures front { FrontUnless (Rose (S.faults (source_of reader.old)) (S.faults (source_of reader.new)))
+        ensures prefix { PrefixUnless (Rose (S.faults (source_of reader.old)) (S.faults (source_of reader.new)))
             (merging self.old.blocks (options_of self.old) (place_of reader.old)) (S.left (source_of reader.old))
             (S.left (source_of reader.new)) (K.held sink.old) (K.held sink.new) }
         ensures flushed { flushes (ending_of result) ≡ true

@@ -4,7 +4,7 @@ ghost use Rattle.std.specs.Prelude.{ℕ, OnErr};
 ghost use Rattle.std.specs.List.{AllByRecursion};
 ghost use Rattle.std.specs.Io.KnownBytes.{Appends};
 ghost use Rattle.block_pool.specs.PoolState.{weighed};
-ghost use Rattle.off_io.specs.Content.{AppendsFront};
+ghost use Rattle.off_io.specs.Content.{AppendsPrefix};
 ghost use Rattle.off_io.specs.Faults.{HasCause, Rose};
 ghost use Rattle.off_io.specs.Told.{Told};
 ghost use Rattle.pcap_io.specs.declared.heads.Link.TheVariants.{Ethernet};
@@ -221,7 +221,7 @@ impl Rounds {
     ) -> Result<(), WriteFault>
         ensures ok { OnOk result (Appends (K.held sink.old) (K.held sink.new)
             (worked_bytes file.now.order worked.now)) }
-        ensures err { OnErr result (AppendsFront (K.held sink.old) (K.held sink.new)
+        ensures err { OnErr result (AppendsPrefix (K.held sink.old) (K.held sink.new)
             (worked_bytes file.now.order worked.now)) }
         ensures cause { HasCause (K.faults sink.old) (K.faults sink.new) result }
     {

@@ -3,7 +3,7 @@ ghost use Rattle.std.specs.Prelude.{OnOk, OnErr};
 ghost use Rattle.std.specs.List.{AllByRecursion, flat_map};
 ghost use Rattle.std.specs.Io.KnownBytes.{Appends};
 ghost use Rattle.off_io.specs.Faults.{HasCause};
-ghost use Rattle.off_io.specs.Content.{AppendsFront};
+ghost use Rattle.off_io.specs.Content.{AppendsPrefix};
 ghost use Rattle.taps.specs.Shown.{shown_text};
 ghost use Rattle.rounds.specs.Lanes.{queue_bytes, text_bytes, tap_bytes, lanes_bytes, IsShortText};
 ghost use Rattle.rounds.specs.Lanes.{IsSmallQueue, IsSmallTap, IsSmallWork};
@@ -17,7 +17,7 @@ use taps::{TapText, TapTexts};
 fn write_queue<K: Sink>(sink: &mut K, file: &FileHead, lane: &QueueLane) -> Result<(), WriteFault>
     requires small { IsSmallQueue lane.now }
     ensures ok { OnOk result (Appends (K.held sink.old) (K.held sink.new) (queue_bytes file.now.order lane.now)) }
-    ensures err { OnErr result (AppendsFront (K.held sink.old) (K.held sink.new)
+    ensures err { OnErr result (AppendsPrefix (K.held sink.old) (K.held sink.new)
         (queue_bytes file.now.order lane.now)) }
     ensures cause { HasCause (K.faults sink.old) (K.faults sink.new) result }
 {
@@ -38,7 +38,7 @@ fn write_queues<K: Sink>(
     requires small { AllByRecursion IsSmallQueue lanes.now }
     ensures ok { OnOk result (Appends (K.held sink.old) (K.held sink.new)
         (flat_map (queue_bytes file.now.order) lanes.now)) }
-    ensures err { OnErr result (AppendsFront (K.held sink.old) (K.held sink.new)
+    ensures err { OnErr result (AppendsPrefix (K.held sink.old) (K.held sink.new)
         (flat_map (queue_bytes file.now.order) lanes.now)) }
     ensures cause { HasCause (K.faults sink.old) (K.faults sink.new) result }
 {
@@ -58,7 +58,7 @@ fn write_text<K: Sink>(
     requires short { IsShortText (shown_text text.now) }
     ensures ok { OnOk result (Appends (K.held sink.old) (K.held sink.new)
         (text_bytes file.now.order tap (shown_text text.now))) }
-    ensures err { OnErr result (AppendsFront (K.held sink.old) (K.held sink.new)
+    ensures err { OnErr result (AppendsPrefix (K.held sink.old) (K.held sink.new)
         (text_bytes file.now.order tap (shown_text text.now))) }
     ensures cause { HasCause (K.faults sink.old) (K.faults sink.new) result }
 {
@@ -85,7 +85,7 @@ fn write_texts<K: Sink>(
     requires short { AllByRecursion IsShortText texts.now }
     ensures ok { OnOk result (Appends (K.held sink.old) (K.held sink.new)
         (flat_map (text_bytes file.now.order tap) texts.now)) }
-    ensures err { OnErr result (AppendsFront (K.held sink.old) (K.held sink.new)
+    ensures err { OnErr result (AppendsPrefix (K.held sink.old) (K.held sink.new)
         (flat_map (text_bytes file.now.order tap) texts.now)) }
     ensures cause { HasCause (K.faults sink.old) (K.faults sink.new) result }
 {
@@ -98,7 +98,7 @@ fn write_texts<K: Sink>(
 fn write_tap<K: Sink>(sink: &mut K, file: &FileHead, lane: &TapLane) -> Result<(), WriteFault>
     requires small { IsSmallTap lane.now }
     ensures ok { OnOk result (Appends (K.held sink.old) (K.held sink.new) (tap_bytes file.now.order lane.now)) }
-    ensures err { OnErr result (AppendsFront (K.held sink.old) (K.held sink.new) (tap_bytes file.now.order lane.now)) }
+    ensures err { OnErr result (AppendsPrefix (K.held sink.old) (K.held sink.new) (tap_bytes file.now.order lane.now)) }
     ensures cause { HasCause (K.faults sink.old) (K.faults sink.new) result }
 {
     match &lane.texts {
@@ -111,7 +111,7 @@ fn write_taps<K: Sink>(sink: &mut K, file: &FileHead, lanes: &[TapLane]) -> Resu
     requires small { AllByRecursion IsSmallTap lanes.now }
     ensures ok { OnOk result (Appends (K.held sink.old) (K.held sink.new)
         (flat_map (tap_bytes file.now.order) lanes.now)) }
-    ensures err { OnErr result (AppendsFront (K.held sink.old) (K.held sink.new)
+    ensures err { OnErr result (AppendsPrefix (K.held sink.old) (K.held sink.new)
         (flat_map (tap_bytes file.now.order) lanes.now)) }
     ensures cause { HasCause (K.faults sink.old) (K.faults sink.new) result }
 {
@@ -129,7 +129,7 @@ pub(crate) fn write_lanes<K: Sink>(
 ) -> Result<(), WriteFault>
     requires small { IsSmallWork lanes.now }
     ensures ok { OnOk result (Appends (K.held sink.old) (K.held sink.new) (lanes_bytes file.now.order lanes.now)) }
-    ensures err { OnErr result (AppendsFront (K.held sink.old) (K.held sink.new)
+    ensures err { OnErr result (AppendsPrefix (K.held sink.old) (K.held sink.new)
         (lanes_bytes file.now.order lanes.now)) }
     ensures cause { HasCause (K.faults sink.old) (K.faults sink.new) result }
 {

@@ -2,7 +2,7 @@
 //!
 //! A line is put together in place, without memory, and then written whole. The texts stand in `specs/Lines.antt`, each
 //! with its line feed. Proved of each call: where the log tells what it holds, and its count of faults didn't rise, it
-//! holds its old content followed by the line (`line`); whatever happens, a prefix of the line was appended (`front`),
+//! holds its old content followed by the line (`line`); whatever happens, a prefix of the line was appended (`prefix`),
 //! and the count of faults hasn't fallen (`later`). So a log that fails is ignored.
 //!
 //! ```
@@ -19,7 +19,7 @@
 
 ghost use Rattle.std.specs.Prelude.{◌≡◌, ◌++◌, ◌+◌, ◌≤◌, codes, decimal, length};
 ghost use Rattle.arrayvec.specs.ArrayString.{array_string_len};
-ghost use Rattle.off_io.specs.Content.{AppendsFront};
+ghost use Rattle.off_io.specs.Content.{AppendsPrefix};
 ghost use Rattle.status_log.specs.Lines.{Logs, malformed_line, no_memory_line, pool_empty_line, read_fault_line};
 ghost use Rattle.status_log.specs.Lines.{usage_line, write_fault_line};
 
@@ -33,7 +33,7 @@ type Line = ArrayString<128>;
 /// Writes the line, and ignores a fault of the log.
 fn log_line<L: Sink>(log: &mut L, line: &str)
     ensures line { Logs (L.held log.old) (L.held log.new) (L.faults log.old) (L.faults log.new) line.now }
-    ensures front { AppendsFront (L.held log.old) (L.held log.new) line.now }
+    ensures prefix { AppendsPrefix (L.held log.old) (L.held log.new) line.now }
     ensures later { L.faults log.old ≤ L.faults log.new }
 {
     let _ = write_all(log, line.as_bytes());
@@ -68,7 +68,7 @@ fn malformed_text(kind: &str, offset: u64, number: u64) -> Line
 /// Logs that the words of the command line are none of the command set.
 pub fn log_usage<L: Sink>(log: &mut L)
     ensures line { Logs (L.held log.old) (L.held log.new) (L.faults log.old) (L.faults log.new) usage_line }
-    ensures front { AppendsFront (L.held log.old) (L.held log.new) usage_line }
+    ensures prefix { AppendsPrefix (L.held log.old) (L.held log.new) usage_line }
     ensures later { L.faults log.old ≤ L.faults log.new }
 {
     log_line(
@@ -83,7 +83,7 @@ pub fn log_malformed<L: Sink>(log: &mut L, kind: &str, offset: u64, number: u64)
     requires short { length kind.now ≤ 32 }
     ensures line { Logs (L.held log.old) (L.held log.new) (L.faults log.old) (L.faults log.new)
         (malformed_line kind.now offset number) }
-    ensures front { AppendsFront (L.held log.old) (L.held log.new) (malformed_line kind.now offset number) }
+    ensures prefix { AppendsPrefix (L.held log.old) (L.held log.new) (malformed_line kind.now offset number) }
     ensures later { L.faults log.old ≤ L.faults log.new }
 {
     let line = malformed_text(kind, offset, number);
@@ -109,7 +109,7 @@ fn pool_empty_text(round: u64, need: u32, blocks: u32) -> Line
 pub fn log_pool_empty<L: Sink>(log: &mut L, round: u64, need: u32, blocks: u32)
     ensures line { Logs (L.held log.old) (L.held log.new) (L.faults log.old) (L.faults log.new)
         (pool_empty_line round need blocks) }
-    ensures front { AppendsFront (L.held log.old) (L.held log.new) (pool_empty_line round need blocks) }
+    ensures prefix { AppendsPrefix (L.held log.old) (L.held log.new) (pool_empty_line round need blocks) }
     ensures later { L.faults log.old ≤ L.faults log.new }
 {
     let line = pool_empty_text(round, need, blocks);
@@ -119,7 +119,7 @@ pub fn log_pool_empty<L: Sink>(log: &mut L, round: u64, need: u32, blocks: u32)
 /// Logs that the source couldn't be read.
 pub fn log_read_fault<L: Sink>(log: &mut L)
     ensures line { Logs (L.held log.old) (L.held log.new) (L.faults log.old) (L.faults log.new) read_fault_line }
-    ensures front { AppendsFront (L.held log.old) (L.held log.new) read_fault_line }
+    ensures prefix { AppendsPrefix (L.held log.old) (L.held log.new) read_fault_line }
     ensures later { L.faults log.old ≤ L.faults log.new }
 {
     log_line(log, "read fault\n");
@@ -128,7 +128,7 @@ pub fn log_read_fault<L: Sink>(log: &mut L)
 /// Logs that the sink couldn't be written.
 pub fn log_write_fault<L: Sink>(log: &mut L)
     ensures line { Logs (L.held log.old) (L.held log.new) (L.faults log.old) (L.faults log.new) write_fault_line }
-    ensures front { AppendsFront (L.held log.old) (L.held log.new) write_fault_line }
+    ensures prefix { AppendsPrefix (L.held log.old) (L.held log.new) write_fault_line }
     ensures later { L.faults log.old ≤ L.faults log.new }
 {
     log_line(log, "write fault\n");
@@ -137,7 +137,7 @@ pub fn log_write_fault<L: Sink>(log: &mut L)
 /// Logs that memory ran out.
 pub fn log_no_memory<L: Sink>(log: &mut L)
     ensures line { Logs (L.held log.old) (L.held log.new) (L.faults log.old) (L.faults log.new) no_memory_line }
-    ensures front { AppendsFront (L.held log.old) (L.held log.new) no_memory_line }
+    ensures prefix { AppendsPrefix (L.held log.old) (L.held log.new) no_memory_line }
     ensures later { L.faults log.old ≤ L.faults log.new }
 {
     log_line(log, "no memory\n");

@@ -1,7 +1,7 @@
 use Rattle.std.proofs.Common.{arith, ap, ◌∙◌, subst, ◌++◌, ◌-◌}
 use Rattle.std.proofs.lemmas.Result.{err_from_is_err_and}
-use Rattle.off_io.specs.Content.{AppendsFront, Owes}
-use Rattle.off_io.proofs.Appending.{front_more}
+use Rattle.off_io.specs.Content.{AppendsPrefix, Owes}
+use Rattle.off_io.proofs.Appending.{prefix_more}
 use Rattle.off_io.proofs.Owing.{Owes-less, Owes-failed, Owes-none}
 use Rattle.cap_make.specs.Capture.{first_next, made, records_from}
 use Rattle.cap_make.proofs.Steps.{made_is, next_owed, none_owed}
@@ -12,8 +12,8 @@ returns-in_err-write_all-clause-err g c =
     let p = err_from_is_err_and c.from_residual.result c.from_residual.ensures.1 in
     let seed = c.args.seed in let count = c.args.count in
     let head = c.bytes.ensures.bytes ∙ c.of_file_header-buffer.ensures.bytes in
-    rw p.1 (subst (AppendsFront _ _) (ap (λ z. z ++ records_from (count - 0) 0 (first_next seed)) head ∙ made_is seed count)
-    (front_more _ _ c.bytes.result.now (records_from (count - 0) 0 (first_next seed)) c.in_err-write_all.ensures.err))
+    rw p.1 (subst (AppendsPrefix _ _) (ap (λ z. z ++ records_from (count - 0) 0 (first_next seed)) head ∙ made_is seed count)
+    (prefix_more _ _ c.bytes.result.now (records_from (count - 0) 0 (first_next seed)) c.in_err-write_all.ensures.err))
 
 pub loop-number-init : goal.loop-number-init
 loop-number-init g c =

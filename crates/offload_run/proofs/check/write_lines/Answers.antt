@@ -1,5 +1,5 @@
 use Rattle.std.proofs.lemmas.Result.{err_from_is_err_and}
-use Rattle.off_io.proofs.Appending.{front_more}
+use Rattle.off_io.proofs.Appending.{prefix_more}
 use Rattle.off_io.proofs.Owing.{then_err}
 use Rattle.checking.specs.Lines.{check_lines}
 use Rattle.offload_run.specs.Checking.{first_line}
@@ -8,7 +8,7 @@ use Rattle.offload_run.proofs.check.write_lines.Goals as goal
 pub returns-in_err-write_first-clause-err : goal.returns-in_err-write_first-clause-err
 returns-in_err-write_first-clause-err g c =
     let p = err_from_is_err_and c.from_residual.result c.from_residual.ensures.1 in
-    rw p.1 (front_more _ _ (first_line c.args.made) (check_lines c.args.totals.now) c.in_err-write_first.ensures.err)
+    rw p.1 (prefix_more _ _ (first_line c.args.made) (check_lines c.args.totals.now) c.in_err-write_first.ensures.err)
 
 pub returns-clause-err : goal.returns-clause-err
 returns-clause-err g c =

@@ -5,7 +5,7 @@ use Rattle.offload_run.specs.Ending.{ending_of}
 use Rattle.offload_run.specs.Output.{options}
 use Rattle.offload_run.proofs.Behind.{no_file, head_failed, whole_given}
 use Rattle.offload_run.proofs.BackAgain.{lawful_options, no_file_back, head_failed_back, whole_back}
-use Rattle.offload_run.proofs.Fronting.{no_file_front, head_failed_front, whole_front}
+use Rattle.offload_run.proofs.Prefixes.{no_file_prefix, head_failed_prefix, whole_prefix}
 use Rattle.offload_run.proofs.merge.run_merge.Goals as goal
 
 pub returns-in-Err-clause-given : goal.returns-in-Err-clause-given
@@ -36,15 +36,15 @@ returns-in-Ok-write_file_head-clause-flows g c =
     whole_back c.args.options.blocks (options c.args.options) (lawful_options c.args.options c.requires.range) _ _ _ c.in-Ok.file c.merge_records.result c.in-Ok.ensures.given
     c.merge_records.ensures.captured
 
-pub returns-in-Err-clause-front : goal.returns-in-Err-clause-front
-returns-in-Err-clause-front g c =
-    no_file_front Ethernet Offload (merging c.args.options.blocks (options c.args.options)) _ _ _ _ c.in-Err.fault c.in-Err.ensures.given
+pub returns-in-Err-clause-prefix : goal.returns-in-Err-clause-prefix
+returns-in-Err-clause-prefix g c =
+    no_file_prefix Ethernet Offload (merging c.args.options.blocks (options c.args.options)) _ _ _ _ c.in-Err.fault c.in-Err.ensures.given
 
-pub returns-in-Err-write_file_head-clause-front : goal.returns-in-Err-write_file_head-clause-front
-returns-in-Err-write_file_head-clause-front g c =
-    head_failed_front Ethernet Offload (merging c.args.options.blocks (options c.args.options)) _ _ _ _ _ c.in-Ok.file c.in-Err-write_file_head.ensures.err c.in-Ok.ensures.given
+pub returns-in-Err-write_file_head-clause-prefix : goal.returns-in-Err-write_file_head-clause-prefix
+returns-in-Err-write_file_head-clause-prefix g c =
+    head_failed_prefix Ethernet Offload (merging c.args.options.blocks (options c.args.options)) _ _ _ _ _ c.in-Ok.file c.in-Err-write_file_head.ensures.err c.in-Ok.ensures.given
 
-pub returns-in-Ok-write_file_head-clause-front : goal.returns-in-Ok-write_file_head-clause-front
-returns-in-Ok-write_file_head-clause-front g c =
-    whole_front Ethernet Offload (merging c.args.options.blocks (options c.args.options)) _ _ _ _ _ _ _ _ c.in-Ok.file
-    (λ rose. omega (arith, c.take_file.ensures.later, rose)) c.in-Ok.ensures.given c.in-Ok-write_file_head.ensures.ok c.merge_records.ensures.front
+pub returns-in-Ok-write_file_head-clause-prefix : goal.returns-in-Ok-write_file_head-clause-prefix
+returns-in-Ok-write_file_head-clause-prefix g c =
+    whole_prefix Ethernet Offload (merging c.args.options.blocks (options c.args.options)) _ _ _ _ _ _ _ _ c.in-Ok.file
+    (λ rose. omega (arith, c.take_file.ensures.later, rose)) c.in-Ok.ensures.given c.in-Ok-write_file_head.ensures.ok c.merge_records.ensures.prefix

@@ -4,8 +4,8 @@ use Rattle.std.specs.List.{AllByRecursion}
 use Rattle.std.specs.Io.KnownBytes.{Appends}
 use Rattle.std.proofs.lemmas.List.{length-take-le}
 use Rattle.std.proofs.lemmas.Result.{err_from_is_err_and}
-use Rattle.off_io.specs.Content.{AppendsFront}
-use Rattle.off_io.proofs.Appending.{front_more}
+use Rattle.off_io.specs.Content.{AppendsPrefix}
+use Rattle.off_io.proofs.Appending.{prefix_more}
 use Rattle.off_io.proofs.Owing.{then_ok, then_err}
 use Rattle.pcap_io.specs.Capture.{Packet}
 use Rattle.gro.specs.Slots.{packet_of}
@@ -69,7 +69,7 @@ returns-in_err-write_all-clause-err g c =
     let behind : List ℕ = payloads_behind at (map (packet_at (map packet_of packets)) (chain_of next (run.more + 1) run.first)) in
     let is = record_by packets next run c.requires.run c.index-packets-run.result c.index-packets-run.is c.args.file.now.order c.args.lane row at c.headers_len-at.ensures.size
     c.put_row.ensures.row in
-    rw p.1 (subst (AppendsFront _ _) is (front_more _ _ row behind c.in_err-write_all.ensures.err))
+    rw p.1 (subst (AppendsPrefix _ _) is (prefix_more _ _ row behind c.in_err-write_all.ensures.err))
 
 pub returns-clause-ok : goal.returns-clause-ok
 returns-clause-ok g c =
@@ -94,5 +94,5 @@ returns-clause-err g c =
     let behind : List ℕ = payloads_behind at (map (packet_at (map packet_of packets)) (chain_of next (run.more + 1) run.first)) in
     let is = record_by packets next run c.requires.run c.index-packets-run.result c.index-packets-run.is c.args.file.now.order c.args.lane row at c.headers_len-at.ensures.size
     c.put_row.ensures.row in
-    subst (λ (z : List ℕ). OnErr c.write_payloads.result (AppendsFront (g.K.Sink.held c.args.sink.now) (g.K.Sink.held c.write_payloads.new.sink) z)) is
+    subst (λ (z : List ℕ). OnErr c.write_payloads.result (AppendsPrefix (g.K.Sink.held c.args.sink.now) (g.K.Sink.held c.write_payloads.new.sink) z)) is
     (then_err c.write_payloads.result _ _ _ row behind c.in_ok-write_all.ensures.ok c.write_payloads.ensures.err)

@@ -1,7 +1,7 @@
 use Rattle.std.proofs.Common.{List, subst}
 use Rattle.std.specs.Prelude.{OnOk, OnErr}
 use Rattle.std.specs.Io.KnownBytes.{Appends}
-use Rattle.off_io.specs.Content.{AppendsFront}
+use Rattle.off_io.specs.Content.{AppendsPrefix}
 use Rattle.pcap_io.specs.Capture.{Packet}
 use Rattle.offload_model.specs.Merged.{merged_of}
 use Rattle.records.specs.Records.{item_bytes}
@@ -15,5 +15,5 @@ returns-then-run-eq0-clause-ok g c =
 
 pub returns-then-run-eq0-clause-err : goal.returns-then-run-eq0-clause-err
 returns-then-run-eq0-clause-err g c =
-    subst (λ (z : List Packet). OnErr c.write_alone.result (AppendsFront (g.K.Sink.held c.args.sink.now) (g.K.Sink.held c.write_alone.new.sink) (item_bytes c.args.file.now.order c.args.lane (merged_of z))))
+    subst (λ (z : List Packet). OnErr c.write_alone.result (AppendsPrefix (g.K.Sink.held c.args.sink.now) (g.K.Sink.held c.write_alone.new.sink) (item_bytes c.args.file.now.order c.args.lane (merged_of z))))
     (alone_is c.args.packets.now c.args.next.now c.args.run.now c.requires.run c.index-packets-run.result c.index-packets-run.is c.if-run-eq0.true) c.write_alone.ensures.err

@@ -3,7 +3,7 @@ use Rattle.std.specs.List.{flat_map}
 use Rattle.std.specs.Io.KnownBytes.{Appends}
 use Rattle.std.proofs.lemmas.List.{take_all}
 use Rattle.std.proofs.lemmas.Result.{err_from_is_err_and}
-use Rattle.off_io.specs.Content.{AppendsFront}
+use Rattle.off_io.specs.Content.{AppendsPrefix}
 use Rattle.off_io.proofs.Owing.{wrote_one_more, failed_at}
 use Rattle.pcap_io.specs.Capture.{Packet}
 use Rattle.offload_model.specs.Merged.{merged_of}
@@ -61,10 +61,10 @@ returns-in_err-write_run-clause-err g c =
     let run : Run = c.run-item.result in
     let same : c.deref-run-items.result.now ≡ e.runs.items = c.deref-run-items.ensures.value in
     let i = c.loop-run.run-index in
-    rw p.1 (subst (AppendsFront _ _) (runs_bytes order c.args.lane ps e.next.items e.runs.items)
+    rw p.1 (subst (AppendsPrefix _ _) (runs_bytes order c.args.lane ps e.next.items e.runs.items)
     (failed_at (λ (z : Run). item_bytes order c.args.lane (merged_of (run_of ps e.next.items z))) e.runs.items i run
     (subst (λ (z : List Run). i < length z) same c.loop-run-test.true) (c.run-item.is ∙ ap (λ (z : List Run). get_or z i run) same) _ _ _ c.loop-run.invariant.0
-    (subst (λ (z : List ℕ). AppendsFront (g.K.Sink.held c.loop-run.sink) (g.K.Sink.held c.write_run.new.sink) (item_bytes order c.args.lane (merged_of (run_of ps z run)))) c.deref.ensures.value c.in_err-write_run.ensures.err)))
+    (subst (λ (z : List ℕ). AppendsPrefix (g.K.Sink.held c.loop-run.sink) (g.K.Sink.held c.write_run.new.sink) (item_bytes order c.args.lane (merged_of (run_of ps z run)))) c.deref.ensures.value c.in_err-write_run.ensures.err)))
 
 pub returns-clause-ok : goal.returns-clause-ok
 returns-clause-ok g c =

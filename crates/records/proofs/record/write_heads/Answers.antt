@@ -1,7 +1,7 @@
 use Rattle.std.proofs.Common.{◌+◌, List, ℕ, sym, subst, Option}
 use Rattle.std.specs.Prelude.{OnOk, OnErr}
 use Rattle.std.specs.Io.KnownBytes.{Appends}
-use Rattle.off_io.specs.Content.{AppendsFront}
+use Rattle.off_io.specs.Content.{AppendsPrefix}
 use Rattle.pcap_io.specs.declared.off_head.OffHead2.{OffHead2}
 use Rattle.pcap_io.specs.Written.{rec_bytes, off_bytes2}
 use Rattle.records.specs.Records.{heads_of}
@@ -26,6 +26,6 @@ returns-clause-err g c =
     let bytes_are = joined_is c.both_heads.result c.record_header-header.result c.bytes.result
     (rec_bytes order t.sec t.frac (c.args.len + 16) (c.args.original + 16)) (off_bytes2 c.in-Some.head)
     c.both_heads.ensures.bytes c.record_header-header.ensures.bytes c.bytes.ensures.bytes in
-    subst (λ (h : Option OffHead2). OnErr c.write_all.result (AppendsFront (g.K.Sink.held c.args.sink.now) (g.K.Sink.held c.write_all.new.sink)
+    subst (λ (h : Option OffHead2). OnErr c.write_all.result (AppendsPrefix (g.K.Sink.held c.args.sink.now) (g.K.Sink.held c.write_all.new.sink)
     (heads_of order t.sec t.frac c.args.len c.args.original h))) (sym c.in-Some.is)
-    (subst (λ (z : List ℕ). OnErr c.write_all.result (AppendsFront (g.K.Sink.held c.args.sink.now) (g.K.Sink.held c.write_all.new.sink) z)) bytes_are c.write_all.ensures.err)
+    (subst (λ (z : List ℕ). OnErr c.write_all.result (AppendsPrefix (g.K.Sink.held c.args.sink.now) (g.K.Sink.held c.write_all.new.sink) z)) bytes_are c.write_all.ensures.err)

@@ -2,8 +2,8 @@ use Rattle.std.proofs.Common.{◌≡◌, ◌+◌, ℕ, List, length, take, ap, s
 use Rattle.std.specs.Prelude.{OnOk, OnErr}
 use Rattle.std.specs.Io.KnownBytes.{Appends}
 use Rattle.std.proofs.lemmas.Result.{err_from_is_err_and}
-use Rattle.off_io.specs.Content.{AppendsFront}
-use Rattle.off_io.proofs.Appending.{front_more}
+use Rattle.off_io.specs.Content.{AppendsPrefix}
+use Rattle.off_io.proofs.Appending.{prefix_more}
 use Rattle.off_io.proofs.Owing.{then_ok, then_err}
 use Rattle.gso.specs.Places.{bytes_at}
 use Rattle.records.proofs.Stretches.{record_is, short, next_by}
@@ -36,7 +36,7 @@ returns-in_err-write_all-clause-err g c =
     let head : length h.result ≡ 16 = search rules in
     let is = record_is c.args.file.now.order c.args.time s c.args.i n (c.headers_len.result + n) c.args.place.now c.put_row.new.row h.result c.requires.at c.payload_len-n.ensures.len h.ensures.bytes
     c.put_row.ensures.row c.put_row.ensures.size head (ap (λ (z : ℕ). z + n) c.headers_len.ensures.len) in
-    rw p.1 (subst (AppendsFront _ _) is (front_more _ _ c.put_row.new.row (take n (bytes_at s.skb c.args.place.now)) c.in_err-write_all.ensures.err))
+    rw p.1 (subst (AppendsPrefix _ _) is (prefix_more _ _ c.put_row.new.row (take n (bytes_at s.skb c.args.place.now)) c.in_err-write_all.ensures.err))
 
 pub returns-clause-ok : goal.returns-clause-ok
 returns-clause-ok g c =
@@ -57,7 +57,7 @@ returns-clause-err g c =
     let head : length h.result ≡ 16 = search rules in
     let is = record_is c.args.file.now.order c.args.time s c.args.i n (c.headers_len.result + n) c.args.place.now c.put_row.new.row h.result c.requires.at c.payload_len-n.ensures.len h.ensures.bytes
     c.put_row.ensures.row c.put_row.ensures.size head (ap (λ (z : ℕ). z + n) c.headers_len.ensures.len) in
-    subst (λ (z : List ℕ). OnErr c.write_next.result (AppendsFront (g.K.Sink.held c.args.sink.now) (g.K.Sink.held c.write_next.new.sink) z)) is
+    subst (λ (z : List ℕ). OnErr c.write_next.result (AppendsPrefix (g.K.Sink.held c.args.sink.now) (g.K.Sink.held c.write_next.new.sink) z)) is
     (then_err c.write_next.result _ _ _ c.put_row.new.row (take n (bytes_at s.skb c.args.place.now)) c.in_ok-write_all.ensures.ok c.write_next.ensures.err)
 
 pub returns-clause-next : goal.returns-clause-next

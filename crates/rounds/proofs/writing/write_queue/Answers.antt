@@ -2,7 +2,7 @@ use Rattle.std.proofs.Common.{List, map, length, sym, subst, ◌+◌, ◌<◌, �
 use Rattle.std.specs.Prelude.{OnOk, OnErr}
 use Rattle.std.specs.List.{AllByRecursion, flat_map}
 use Rattle.std.specs.Io.KnownBytes.{Appends}
-use Rattle.off_io.specs.Content.{AppendsFront}
+use Rattle.off_io.specs.Content.{AppendsPrefix}
 use Rattle.pcap_io.specs.Capture.{Packet}
 use Rattle.pcap_io.specs.Limits.{off_head2_size}
 use Rattle.offload_model.specs.Merged.{merged_of}
@@ -38,6 +38,6 @@ pub returns-clause-err : goal.returns-clause-err
 returns-clause-err g c =
     let l = c.args.lane.now in
     let w = c.write_runs in
-    subst (λ (z : List Slot). OnErr w.result (AppendsFront (g.K.Sink.held c.args.sink.now) (g.K.Sink.held w.new.sink)
+    subst (λ (z : List Slot). OnErr w.result (AppendsPrefix (g.K.Sink.held c.args.sink.now) (g.K.Sink.held w.new.sink)
     (flat_map (item_bytes c.args.file.now.order l.queue) (map merged_of (runs_of (map packet_of z) l.engine)))))
     c.slots.ensures.slots w.ensures.err

@@ -19,8 +19,8 @@ merged g c =
 pub returns-clause-given : goal.returns-clause-given
 returns-clause-given g c = (merged g c).given
 
-pub returns-clause-front : goal.returns-clause-front
-returns-clause-front g c = (merged g c).front
+pub returns-clause-prefix : goal.returns-clause-prefix
+returns-clause-prefix g c = (merged g c).prefix
 
 pub returns-clause-flushed : goal.returns-clause-flushed
 returns-clause-flushed g c = (merged g c).flushed

@@ -1,5 +1,0 @@
-use Rattle.offload_model.proofs.Passings.{stops_write_fronts}
-use Rattle.offload_model.proofs.passing.stops_write_fronts.Goals as goal
-
-pub returns : goal.returns
-returns c = record { law = stops_write_fronts }
