@@ -3,17 +3,17 @@ ghost use Rattle.std.specs.Prelude.{◌≡◌, ◌≤◌};
 ghost use Rattle.lanes.specs.Work.{IsPlan};
 
 use frame_layout::Choice;
-use lanes::Plan;
+use lanes::LanePlan;
 
 /// Runs of any number of packets, queues by the fold, and taps that are shown all.
-pub(crate) fn plain(queues: u32, taps: u32, snap: u32) -> Plan
+pub(crate) fn plain(queues: u32, taps: u32, snap: u32) -> LanePlan
     requires queues { (1 ≤ queues) × (queues ≤ 64) }
     requires taps { taps ≤ 8 }
     requires snap { (1 ≤ snap) × (snap ≤ 2048) }
     ensures plan { IsPlan result }
     ensures lanes { (result.queues ≡ queues) × (result.taps ≡ taps) }
 {
-    Plan {
+    LanePlan {
         queues,
         taps,
         snap,

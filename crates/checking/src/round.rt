@@ -11,12 +11,12 @@ ghost use Rattle.checking.specs.Counts.{round_totals};
 
 use crate::lane_totals::check_lanes;
 use crate::totals::Totals;
-use lanes::Plan;
+use lanes::LanePlan;
 use rounds::{Bench, Rounds, Worked};
 use std::alloc::AllocError;
 
 // Of those who work it wants the plan alone.
-fn check_worked(plan: &Plan, worked: &Worked) -> Result<Totals, AllocError>
+fn check_worked(plan: &LanePlan, worked: &Worked) -> Result<Totals, AllocError>
     requires plan { IsPlan plan.now }
     requires worked { (budget : ℕ) × ((ps : List Packet) × (IsKeptWorkOf (options_by plan.now budget) ps worked.now
         × AllByRecursion IsCaptured ps × (length ps ≤ 4096))) }

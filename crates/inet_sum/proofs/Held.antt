@@ -1,4 +1,4 @@
--- The sum by lanes: what the lanes hold, and that no carry is lost.
+-- The sum by pairs: what both totals hold, and that no carry is lost.
 use Rattle.std.proofs.Common.{◌≡◌, ℕ, ◌+◌, ◌-◌, ◌*◌, ◌/◌, ◌%◌, ◌^◌, ◌≤◌, ◌<◌, List, [], ◌∷◌, length, take, get_or, Fits, w8, take-add, refl, sym, ap, ◌∙◌, arith}
 use Rattle.std.proofs.lemmas.List.{length-take}
 use Rattle.std.proofs.lemmas.Simd.{chunk-fits, below_from_Fits, length-chunk}
@@ -27,14 +27,14 @@ number-below : (xs : List ℕ) → Each1 (λ x. x < 256) xs → number_l 256 xs 
 number-below [] each = omega arith
 number-below (x ∷ xs) each = omega (arith, each.0, number-below xs each.1, pow-suc 256 (length xs))
 
--- sixteen bytes fit two lanes
+-- sixteen bytes fit two numbers
 pub number_small : (xs : List ℕ) (at : ℕ) → at + 16 ≤ length xs → ((k : ℕ) → Fits w8 (get_or xs k 0)) → number_l 256 (chunk at 16 xs) < 2 ^ 128
 number_small xs at inside bytes =
     let below = number-below (chunk at 16 xs) (below_from_Fits w8 (chunk at 16 xs) (chunk-fits w8 at 16 xs bytes)) in
     let long : length (chunk at 16 xs) ≡ 16 = length-chunk at 16 xs inside in
     rw long at below
 
--- what two lanes of totals, which wrap, and two of high halves hold after i steps: four numbers that together have the
+-- what two totals, which wrap, and two of high halves hold after i steps: four numbers that together have the
 -- fold of what was added
 pub record Held (i : ℕ) (totals highs added : List ℕ) : Type 0 where
   pub low : ℕ

@@ -17,12 +17,12 @@
 //!
 //! Why so:
 //!
-//! - **Lists of 128 bytes and more are summed by lanes**, sixteen bytes a step, and shorter ones by the plain loop
-//!   alone, which is done before lanes are set up and added together. A lane adds whole numbers of 64 bits and wraps;
-//!   beside it the high halves are added, which tells the low halves from the total, so no carry is lost. Adding both
-//!   halves apart takes a third longer, words swapped into big-endian lanes nearly twice as long, and numbers of 128
-//!   bits in the place of lanes a seventh longer, each at 1,460 bytes. The loop over lanes isn't inlined: where the
-//!   compiler knows the length it unrolls it less.
+//! - **Lists of 128 bytes and more are summed by pairs of numbers**, sixteen bytes a step, and shorter ones by the plain
+//!   loop alone, which is done before pairs are set up and added together. Both totals of 64 bits wrap; beside them the
+//!   high halves are added, which tells the low halves from the total, so no carry is lost. Adding both halves apart
+//!   takes a third longer, words swapped into big-endian numbers nearly twice as long, and numbers of 128 bits in the
+//!   place of pairs a seventh longer, each at 1,460 bytes. The loop over pairs isn't inlined: where the compiler knows
+//!   the length it unrolls it less.
 //! - **The plain loop adds little-endian numbers of 64 bits**, each with the carry of the sum before at its low end:
 //!   two instructions for eight bytes. 65535 divides 2^64 - 1, so a carry leaves what it left, and the bytes' order is
 //!   turned once, at the end. Each is read at once (`byteorder`): put together from bytes it is taken apart again where
@@ -35,11 +35,11 @@ ghost use Rattle.inet_sum.specs.Words.{number_of, word_of, IsAround};
 ghost use Rattle.inet_sum.specs.Sum.{word_sum, folded, fold_of as fold_of_bytes, checksum_of, not_zero as not_zero_of};
 ghost use Rattle.inet_sum.specs.Sum.{udp_checksum_of, joined_fold};
 
-mod lanes;
+mod pairs;
 pub mod partial;
 
 use byteorder::{BigEndian, ByteOrder, LittleEndian};
-use lanes::{STEP, lanes_sum, turned};
+use pairs::{STEP, pairs_sum, turned};
 pub use partial::Partial;
 
 /// The fold of the bytes: 0 where their big-endian words add to 0, and else the number from 1 to 65535 that leaves the
@@ -51,7 +51,7 @@ pub fn fold_of(bytes: &[u8]) -> u16
     fold_number(unfolded(bytes))
 }
 
-/// Lists that are shorter are summed by the plain loop alone, which is done before the lanes are added up.
+/// Lists that are shorter are summed by the plain loop alone, which is done before both totals are added up.
 const SHORT: usize = 128;
 
 /// A number that has the fold of the bytes: a sum of many pieces folds once, at its end.
@@ -68,7 +68,7 @@ pub fn unfolded(bytes: &[u8]) -> u64
     }
 }
 
-/// The sum by lanes, and by the plain loop for the rest alone. It isn't inlined, since at a length that the compiler
+/// The sum by pairs, and by the plain loop for the rest alone. It isn't inlined, since at a length that the compiler
 /// knows it takes less of the loop's turns together, which is slower.
 #[inline(never)]
 fn long_sum(bytes: &[u8]) -> u64
@@ -78,7 +78,7 @@ fn long_sum(bytes: &[u8]) -> u64
     ensures small { result ≤ 2 ^ 30 * length bytes.now }
 {
     let (front, rest) = bytes.split_at(bytes.len() / STEP * STEP);
-    lanes_sum(front) + words_sum(rest)
+    pairs_sum(front) + words_sum(rest)
 }
 
 /// The sum of the 64-bit numbers in the bytes, and of the words of those behind them.

@@ -9,7 +9,7 @@ use Rattle.block_pool.specs.Giving.{GiverState}
 use Rattle.lanes.specs.declared.lane.QueueLane.{QueueLane}
 use Rattle.lanes.specs.declared.lane.TapLane.{TapLane}
 use Rattle.lanes.specs.declared.lane.Lanes.{Lanes}
-use Rattle.lanes.specs.declared.plan.Plan.{Plan}
+use Rattle.lanes.specs.declared.plan.LanePlan.{LanePlan}
 use Rattle.lanes.specs.declared.tasks.LaneTask.{LaneTask}
 use Rattle.lanes.specs.declared.tasks.LaneTask.TheVariants as asked
 use Rattle.lanes.specs.declared.tasks.LaneDone.{LaneDone}
@@ -105,11 +105,11 @@ module _ {L : Type 0} (D : L → L → Type 0) (E : ℕ → LaneTask → Type 0)
 
 -- ---- all lanes
 
-turned_queues : (plan : Plan) (l : Lanes) (t : LaneTask) → IsOfQueues plan.segs l.queues.items t → IsOf plan l t
+turned_queues : (plan : LanePlan) (l : Lanes) (t : LaneTask) → IsOfQueues plan.segs l.queues.items t → IsOf plan l t
 turned_queues plan l (asked.Queue t) h = h
 turned_queues plan l (asked.Tap t) h = absurd h
 
-turned_taps : (plan : Plan) (l : Lanes) (t : LaneTask) → IsOfTaps plan l.taps.items t → IsOf plan l t
+turned_taps : (plan : LanePlan) (l : Lanes) (t : LaneTask) → IsOfTaps plan l.taps.items t → IsOf plan l t
 turned_taps plan l (asked.Queue t) h = absurd h
 turned_taps plan l (asked.Tap t) h = h
 
@@ -118,13 +118,13 @@ pub own_queue : (segs at : ℕ) (old now : List QueueLane) (x lane : QueueLane) 
     → at < length old → IsOfQueues segs old (asked.Queue t)
 own_queue segs at old now x lane giver t e is same lt = subst (λ z. IsOfQueues segs old (asked.Queue z)) (sym e) (lt, refl, λ d. is ∙ same ∙ any_other old at x d lt)
 
-pub own_tap : (plan : Plan) (at : ℕ) (old now : List TapLane) (x lane : TapLane) (filter : Option (List Instr)) (t : TapWork) → t ≡ tap_work at lane plan.snap filter → filter ≡ plan.filter
+pub own_tap : (plan : LanePlan) (at : ℕ) (old now : List TapLane) (x lane : TapLane) (filter : Option (List Instr)) (t : TapWork) → t ≡ tap_work at lane plan.snap filter → filter ≡ plan.filter
     → lane ≡ get_or now at x
     → get_or now at x ≡ get_or old at x → at < length old → IsOfTaps plan old (asked.Tap t)
 own_tap plan at old now x lane filter t e shown is same lt = subst (λ z. IsOfTaps plan old (asked.Tap z)) (sym e) (lt, refl, shown, λ d. is ∙ same ∙ any_other old at x d lt)
 
 -- the queues went away, and then the taps
-pub all_away : (plan : Plan) (old new : Lanes) (qs : List QueueLane) (ls : List TapLane) (before mid after : List LaneTask) → before ≡ [] → new.queues.items ≡ qs → new.taps.items ≡ ls
+pub all_away : (plan : LanePlan) (old new : Lanes) (qs : List QueueLane) (ls : List TapLane) (before mid after : List LaneTask) → before ≡ [] → new.queues.items ≡ qs → new.taps.items ≡ ls
     → SentQueues plan.segs (length old.queues.items) old.queues.items qs before mid → SentTaps plan (length old.taps.items) old.taps.items ls mid after → Away plan old new after
 all_away plan old new qs ls before mid after none is_q is_t q t =
     let e : after ≡ q.0 ++ t.0 = t.1 ∙ ap (λ z. z ++ t.0) (q.1 ∙ ap (λ z. z ++ q.0) none) in
@@ -138,7 +138,7 @@ all_away plan old new qs ls before mid after none is_q is_t q t =
     })
 
 -- the answer of the first task comes back
-pub brought : (plan : Plan) (old l m : Lanes) (t : LaneTask) (ts : List LaneTask) (d : LaneDone) → DidLane t d → IsPut d l m → Away plan old l (t ∷ ts) → Away plan old m ts
+pub brought : (plan : LanePlan) (old l m : Lanes) (t : LaneTask) (ts : List LaneTask) (d : LaneDone) → DidLane t d → IsPut d l m → Away plan old l (t ∷ ts) → Away plan old m ts
 brought plan old l m (asked.Queue t) ts (answered.Queue d) did put h =
     let own = h.own.0 in
     let one : (x : QueueLane) → DidQueue plan.segs (get_or old.queues.items d.at x) d.lane = λ x.
@@ -166,24 +166,24 @@ brought plan old l m (asked.Queue t) ts (answered.Tap d) did put h = absurd did
 brought plan old l m (asked.Tap t) ts (answered.Queue d) did put h = absurd did
 
 -- each lane that is away has an answer
-abbrev pub Answered : Plan → Lanes → Lanes → List LaneDone → Type 0
+abbrev pub Answered : LanePlan → Lanes → Lanes → List LaneDone → Type 0
 Answered plan old l ds = (ts : List LaneTask) × EachDid DidLane ts ds × Away plan old l ts
 
-pub brought_next : (plan : Plan) (old l m : Lanes) (d : LaneDone) (ds : List LaneDone) → IsPut d l m → Answered plan old l (d ∷ ds) → Answered plan old m ds
+pub brought_next : (plan : LanePlan) (old l m : Lanes) (d : LaneDone) (ds : List LaneDone) → IsPut d l m → Answered plan old l (d ∷ ds) → Answered plan old m ds
 brought_next plan old l m d ds put h = step h.0 h.1 h.2
   where
     step : (ts : List LaneTask) → EachDid DidLane ts (d ∷ ds) → Away plan old l ts → Answered plan old m ds
     step [] e a = absurd e
     step (t ∷ ts) e a = (ts, e.1, brought plan old l m t ts d e.0 put a)
 
-pub none_away : (plan : Plan) (old l : Lanes) → Away plan old l [] → Did plan old l
+pub none_away : (plan : LanePlan) (old l : Lanes) → Away plan old l [] → Did plan old l
 none_away plan old l h = record {
   queues = λ i d lt. h.queues.did i d lt lt tt;
   taps = λ i d lt. h.taps.did i d lt lt tt;
   sizes = (h.queues.size, h.taps.size);
 }
 
-pub all_answered : (plan : Plan) (old l : Lanes) → Answered plan old l [] → Did plan old l
+pub all_answered : (plan : LanePlan) (old l : Lanes) → Answered plan old l [] → Did plan old l
 all_answered plan old l h = step h.0 h.1 h.2
   where
     step : (ts : List LaneTask) → EachDid DidLane ts [] → Away plan old l ts → Did plan old l
@@ -223,7 +223,7 @@ places_did l [] (d ∷ ds) e h = absurd e
 places_did l (t ∷ ts) [] e h = absurd e
 places_did l (t ∷ ts) (d ∷ ds) e h = (place_did l t d e.0 h.0, places_did l ts ds e.1 h.1)
 
-pub placed_away : (plan : Plan) (old l : Lanes) (ts : List LaneTask) → Away plan old l ts → AllByRecursion (IsPlaced l) ts
+pub placed_away : (plan : LanePlan) (old l : Lanes) (ts : List LaneTask) → Away plan old l ts → AllByRecursion (IsPlaced l) ts
 placed_away plan old l ts h = all_turned (IsOf plan old) (IsPlaced l) ts (turn h.queues.size h.taps.size) h.own
   where
     turn : length l.queues.items ≡ length old.queues.items → length l.taps.items ≡ length old.taps.items → (t : LaneTask) → IsOf plan old t → IsPlaced l t

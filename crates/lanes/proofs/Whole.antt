@@ -16,7 +16,7 @@ use Rattle.taps.specs.Texts.{texts_of}
 use Rattle.lanes.specs.declared.lane.QueueLane.{QueueLane}
 use Rattle.lanes.specs.declared.lane.TapLane.{TapLane}
 use Rattle.lanes.specs.declared.lane.Lanes.{Lanes}
-use Rattle.lanes.specs.declared.plan.Plan.{Plan}
+use Rattle.lanes.specs.declared.plan.LanePlan.{LanePlan}
 use Rattle.lanes.specs.Lanes.{of_queues, of_taps, of_lanes, counts_of_queues, weighed_queues, AreIdle, EachTapDid, IsFilled, IsIdleQueue, IsIdleTap, IsMerged}
 use Rattle.lanes.specs.Sharing.{EachFrom, IsSum}
 use Rattle.lanes.specs.Work.{spread_of, options_by, shown_by, AreFilled, AreUnshared, Did, IsDone, IsRefused, IsToWork, IsWorked, IsWatched, AreMerged, AreWatched, merged_in, lane_records, records_of_tap}
@@ -65,18 +65,18 @@ no_taps : (n : ℕ) (ts : List TapLane) → length ts ≡ n → n ≡ 0 → All 
 no_taps n ts e none i d lt = absurd (omega (arith, e, none, lt))
 
 -- nothing came to the lanes
-pub unshared_none : (plan : Plan) (ps : List Held) (l : Lanes) → AreIdle l → AreUnshared plan ps ps l
+pub unshared_none : (plan : LanePlan) (ps : List Held) (l : Lanes) → AreIdle l → AreUnshared plan ps ps l
 unshared_none plan ps l idle = record { alone = λ none h. (h, idle_alone l.queues.items idle.0); idle = λ none. idle.1 }
 
 -- what came to them
-pub unshared_some : (plan : Plan) (old now : List Held) (l : Lanes) (ls : List QueueLane) (ts : List TapLane) → l.queues.items ≡ ls → l.taps.items ≡ ts → length ts ≡ plan.taps
+pub unshared_some : (plan : LanePlan) (old now : List Held) (l : Lanes) (ls : List QueueLane) (ts : List TapLane) → l.queues.items ≡ ls → l.taps.items ≡ ts → length ts ≡ plan.taps
     → (plan.taps ≡ 0 → AreAlone old → AreAlone now × All (λ (m : QueueLane). AreAlone m.packets.items) ls) → AreUnshared plan old now l
 unshared_some plan old now l ls ts e f size h = record {
   alone = λ none alone. let a = h none alone in (a.0, subst (All (λ (m : QueueLane). AreAlone m.packets.items)) (sym e) a.1);
   idle = λ none. no_taps plan.taps l.taps.items (ap length f ∙ size) none;
 }
 
-unshared_did : (plan : Plan) (old : List Held) (l m : Lanes) → AreFilled plan old l → Did plan l m → AreUnshared plan old [] m
+unshared_did : (plan : LanePlan) (old : List Held) (l m : Lanes) → AreFilled plan old l → Did plan l m → AreUnshared plan old [] m
 unshared_did plan old l m f d = record {
   alone = λ none h. (tt, queues_alone plan.segs l.queues.items m.queues.items d.sizes.0 d.queues (f.unshared.alone none h).1);
   idle = λ none. no_taps plan.taps m.taps.items (d.sizes.1 ∙ f.sizes.1) none;
@@ -133,7 +133,7 @@ all_filled n ps ls h = all_from (IsToWork n ps) IsFilled 0 ls (λ q l w. w.fille
 
 -- ---- a round that is done
 
-keeps_lanes : (p : Account) (plan : Plan) (l m : Lanes) → Keeps p (of_lanes l) → Did plan l m → Keeps p (of_lanes m)
+keeps_lanes : (p : Account) (plan : LanePlan) (l m : Lanes) → Keeps p (of_lanes l) → Did plan l m → Keeps p (of_lanes m)
 keeps_lanes p plan l m k d t i =
     let x = k t i in
     let e = queues_same plan.segs l.queues.items m.queues.items d.sizes.0 d.queues in
@@ -142,7 +142,7 @@ keeps_lanes p plan l m k d t i =
     let z = taps_kept plan.filter plan.snap l.taps.items m.taps.items d.sizes.1 d.taps t i in
     (omega (arith, x.0, y, z.0), omega (arith, x.1, w, z.1))
 
-blocks_lanes : (p : Account) (plan : Plan) (l m : Lanes) → KeepsBlocks p (of_lanes l) → Did plan l m → KeepsBlocks p (of_lanes m)
+blocks_lanes : (p : Account) (plan : LanePlan) (l m : Lanes) → KeepsBlocks p (of_lanes l) → Did plan l m → KeepsBlocks p (of_lanes m)
 blocks_lanes p plan l m k d bs i =
     let x = k bs i in
     let e = queues_same plan.segs l.queues.items m.queues.items d.sizes.0 d.queues in
@@ -154,13 +154,13 @@ blocks_lanes p plan l m k d bs i =
 no_clones : (filter : Option (List Instr)) (snap : ℕ) (ls ms : List TapLane) → length ms ≡ length ls → EachTapDid filter snap ls ms → All (λ (t : TapLane). t.clones.items ≡ []) ms
 no_clones filter snap ls ms e h i d lt = (h i d (omega (arith, e, lt))).none
 
-same_lanes : (plan : Plan) (old : List Held) (l m : Lanes) → AreFilled plan old l → Did plan l m → counts_of_queues m.queues.items ≡ counts_of old
+same_lanes : (plan : LanePlan) (old : List Held) (l m : Lanes) → AreFilled plan old l → Did plan l m → counts_of_queues m.queues.items ≡ counts_of old
 same_lanes plan old l m f d = let n = queues_count plan.segs l.queues.items m.queues.items d.sizes.0 d.queues in omega (arith, f.count, n)
 
-weighed_lanes : (plan : Plan) (old : List Held) (l m : Lanes) → AreFilled plan old l → Did plan l m → (w : ℕ → ℕ) → weighed_queues w m.queues.items ≡ weighed_slots w old
+weighed_lanes : (plan : LanePlan) (old : List Held) (l m : Lanes) → AreFilled plan old l → Did plan l m → (w : ℕ → ℕ) → weighed_queues w m.queues.items ≡ weighed_slots w old
 weighed_lanes plan old l m f d w = queues_weighed w plan.segs l.queues.items m.queues.items d.sizes.0 d.queues ∙ f.named w
 
-pub is_done : (plan : Plan) (old : List Held) (l m : Lanes) → AreFilled plan old l → Did plan l m → All (λ (t : TapLane). IsSome t.texts) m.taps.items → IsDone plan old m
+pub is_done : (plan : LanePlan) (old : List Held) (l m : Lanes) → AreFilled plan old l → Did plan l m → All (λ (t : TapLane). IsSome t.texts) m.taps.items → IsDone plan old m
 is_done plan old l m f d read =
     let ps = map packet_of old in
     let qs = all_worked plan.segs (spread_of plan) ps l.queues.items m.queues.items d.sizes.0 f.queues d.queues in
@@ -182,7 +182,7 @@ is_done plan old l m f d read =
       clones = no_clones plan.filter plan.snap l.taps.items m.taps.items d.sizes.1 d.taps;
     }
 
-pub is_refused : (plan : Plan) (old : List Held) (l m : Lanes) → AreFilled plan old l → Did plan l m → IsRefused plan old [] m
+pub is_refused : (plan : LanePlan) (old : List Held) (l m : Lanes) → AreFilled plan old l → Did plan l m → IsRefused plan old [] m
 is_refused plan old l m f d = record {
   kept = λ t i. let x = keeps_lanes (of_packets old) plan l m f.kept d t i in (omega (arith, x.0), omega (arith, x.1));
   blocks = λ bs i. omega (arith, blocks_lanes (of_packets old) plan l m f.blocks d bs i);
@@ -193,7 +193,7 @@ is_refused plan old l m f d = record {
 }
 
 -- whether all was done or not, nothing is lost
-pub kept_after : {E : Type 0} (r : Result (Unit {0}) E) (plan : Plan) (old now : List Held) (l : Lanes) → now ≡ [] → MatchResult r (λ _. IsDone plan old l) (λ _. IsRefused plan old [] l)
+pub kept_after : {E : Type 0} (r : Result (Unit {0}) E) (plan : LanePlan) (old now : List Held) (l : Lanes) → now ≡ [] → MatchResult r (λ _. IsDone plan old l) (λ _. IsRefused plan old [] l)
     → Keeps (of_packets old) (both (of_packets now) (of_lanes l))
 kept_after (Ok u) plan old now l none is = λ t m.
     let k = is.kept t m in
@@ -202,7 +202,7 @@ kept_after (Ok u) plan old now l none is = λ t m.
     (omega (arith, k.0, h), omega (arith, k.1, h, g))
 kept_after (Err e) plan old now l none is = subst (λ (z : List Held). Keeps (of_packets old) (both (of_packets z) (of_lanes l))) (sym none) is.kept
 
-pub blocks_after : {E : Type 0} (r : Result (Unit {0}) E) (plan : Plan) (old now : List Held) (l : Lanes) → now ≡ [] → MatchResult r (λ _. IsDone plan old l) (λ _. IsRefused plan old [] l)
+pub blocks_after : {E : Type 0} (r : Result (Unit {0}) E) (plan : LanePlan) (old now : List Held) (l : Lanes) → now ≡ [] → MatchResult r (λ _. IsDone plan old l) (λ _. IsRefused plan old [] l)
     → KeepsBlocks (of_packets old) (both (of_packets now) (of_lanes l))
 blocks_after (Ok u) plan old now l none is = λ bs m.
     let k = is.blocks bs m in
@@ -211,17 +211,17 @@ blocks_after (Ok u) plan old now l none is = λ bs m.
     omega (arith, k, h, g)
 blocks_after (Err e) plan old now l none is = subst (λ (z : List Held). KeepsBlocks (of_packets old) (both (of_packets z) (of_lanes l))) (sym none) is.blocks
 
-pub unshared_after : {E : Type 0} (r : Result (Unit {0}) E) (plan : Plan) (old now : List Held) (l : Lanes) → now ≡ [] → MatchResult r (λ _. IsDone plan old l) (λ _. IsRefused plan old [] l)
+pub unshared_after : {E : Type 0} (r : Result (Unit {0}) E) (plan : LanePlan) (old now : List Held) (l : Lanes) → now ≡ [] → MatchResult r (λ _. IsDone plan old l) (λ _. IsRefused plan old [] l)
     → AreUnshared plan old now l
 unshared_after (Ok u) plan old now l none is = subst (λ (z : List Held). AreUnshared plan old z l) (sym none) is.unshared
 unshared_after (Err e) plan old now l none is = subst (λ (z : List Held). AreUnshared plan old z l) (sym none) is.unshared
 
-pub count_after : {E : Type 0} (r : Result (Unit {0}) E) (plan : Plan) (old now : List Held) (l : Lanes) → now ≡ [] → MatchResult r (λ _. IsDone plan old l) (λ _. IsRefused plan old [] l)
+pub count_after : {E : Type 0} (r : Result (Unit {0}) E) (plan : LanePlan) (old now : List Held) (l : Lanes) → now ≡ [] → MatchResult r (λ _. IsDone plan old l) (λ _. IsRefused plan old [] l)
     → counts_of now + counts_of_queues l.queues.items ≡ counts_of old
 count_after (Ok u) plan old now l none is = omega (arith, ap counts_of none, is.count)
 count_after (Err e) plan old now l none is = omega (arith, ap counts_of none, is.count)
 
-pub named_after : {E : Type 0} (r : Result (Unit {0}) E) (plan : Plan) (old now : List Held) (l : Lanes) → now ≡ [] → MatchResult r (λ _. IsDone plan old l) (λ _. IsRefused plan old [] l)
+pub named_after : {E : Type 0} (r : Result (Unit {0}) E) (plan : LanePlan) (old now : List Held) (l : Lanes) → now ≡ [] → MatchResult r (λ _. IsDone plan old l) (λ _. IsRefused plan old [] l)
     → (w : ℕ → ℕ) → weighed_slots w now + weighed_queues w l.queues.items ≡ weighed_slots w old
 named_after (Ok u) plan old now l none is w = omega (arith, ap (weighed_slots w) none, is.named w)
 named_after (Err e) plan old now l none is w = omega (arith, ap (weighed_slots w) none, is.named w)

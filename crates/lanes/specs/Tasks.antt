@@ -5,7 +5,7 @@ use Rattle.block_pool.specs.Giving.{MayGive}
 use Rattle.lanes.specs.declared.lane.QueueLane.{QueueLane}
 use Rattle.lanes.specs.declared.lane.TapLane.{TapLane}
 use Rattle.lanes.specs.declared.lane.Lanes.{Lanes}
-use Rattle.lanes.specs.declared.plan.Plan.{Plan}
+use Rattle.lanes.specs.declared.plan.LanePlan.{LanePlan}
 use Rattle.lanes.specs.declared.tasks.LaneTask.{LaneTask}
 use Rattle.lanes.specs.declared.tasks.LaneTask.TheVariants as asked
 use Rattle.lanes.specs.declared.tasks.LaneDone.{LaneDone}
@@ -28,13 +28,13 @@ IsOfQueues segs ls (asked.Queue t) =
     × ((d : QueueLane) → t.lane ≡ slice_index_or ls t.at d)
 IsOfQueues segs ls (asked.Tap t) = ⊥
 
-abbrev pub IsOfTaps : Plan → List TapLane → LaneTask → Type 0
+abbrev pub IsOfTaps : LanePlan → List TapLane → LaneTask → Type 0
 IsOfTaps plan ls (asked.Queue t) = ⊥
 IsOfTaps plan ls (asked.Tap t) =
     (t.at < length ls) × (t.snap ≡ plan.snap) × (t.filter ≡ plan.filter)
     × ((d : TapLane) → t.lane ≡ slice_index_or ls t.at d)
 
-abbrev pub IsOf : Plan → Lanes → LaneTask → Type 0
+abbrev pub IsOf : LanePlan → Lanes → LaneTask → Type 0
 IsOf plan l (asked.Queue t) = IsOfQueues plan.segs l.queues.items (asked.Queue t)
 IsOf plan l (asked.Tap t) = IsOfTaps plan l.taps.items (asked.Tap t)
 
@@ -61,13 +61,13 @@ SentQueues segs n old new before after =
     (more : List LaneTask) × (after ≡ before ++ more) × AllByRecursion (IsOfQueues segs old) more
     × Parted (DidQueue segs) IsElseQueue n old new more
 
-abbrev pub SentTaps : Plan → ℕ → List TapLane → List TapLane → List LaneTask → List LaneTask → Type 0
+abbrev pub SentTaps : LanePlan → ℕ → List TapLane → List TapLane → List LaneTask → List LaneTask → Type 0
 SentTaps plan n old new before after =
     (more : List LaneTask) × (after ≡ before ++ more) × AllByRecursion (IsOfTaps plan old) more
     × Parted (DidTap plan.filter plan.snap) IsElseTap n old new more
 
 -- each lane is worked, but those that these tasks have
-pub record Away (plan : Plan) (old new : Lanes) (ts : List LaneTask) : Type 0 where
+pub record Away (plan : LanePlan) (old new : Lanes) (ts : List LaneTask) : Type 0 where
   pub own : AllByRecursion (IsOf plan old) ts
   pub queues : Parted (DidQueue plan.segs) IsElseQueue (length old.queues.items) old.queues.items new.queues.items ts
   pub taps : Parted (DidTap plan.filter plan.snap) IsElseTap (length old.taps.items) old.taps.items new.taps.items ts

@@ -11,7 +11,7 @@ use Rattle.offload_model.specs.Written.{Options, head_of, shown_of, windows_of, 
 use Rattle.gro.specs.declared.slot.Slot.{Slot as Held}
 use Rattle.gro.specs.Slots.{packet_of, of_packets, counts_of, weighed_slots, AreAlone}
 use Rattle.taps.specs.Texts.{texts_of, record_of_text}
-use Rattle.lanes.specs.declared.plan.Plan.{Plan}
+use Rattle.lanes.specs.declared.plan.LanePlan.{LanePlan}
 use Rattle.lanes.specs.declared.lane.QueueLane.{QueueLane}
 use Rattle.lanes.specs.declared.lane.TapLane.{TapLane}
 use Rattle.lanes.specs.declared.lane.Lanes.{Lanes}
@@ -21,16 +21,16 @@ use Rattle.lanes.specs.Sharing.{EachFrom}
 use Rattle.lanes.specs.Taps.{HasClones}
 
 -- how many lanes there may be, how far a tap may read, and how many packets a run may have
-abbrev pub IsPlan : Plan → Type 0
+abbrev pub IsPlan : LanePlan → Type 0
 IsPlan p = ((1 ≤ p.queues) × (p.queues ≤ 64)) × (p.taps ≤ 8) × ((1 ≤ p.snap) × (p.snap ≤ 2048))
     × IsChoice p.queues p.choice × ((1 ≤ p.segs) × (p.segs ≤ 4096))
 
 -- the queue of each flow
-abbrev pub spread_of : Plan → Spread
+abbrev pub spread_of : LanePlan → Spread
 spread_of p = spread_by p.choice p.queues
 
 -- what merging is told, in rounds of `budget` packets
-abbrev pub options_by : Plan → ℕ → Options
+abbrev pub options_by : LanePlan → ℕ → Options
 options_by p budget = record {
   budget = budget;
   queues = p.queues;
@@ -42,7 +42,7 @@ options_by p budget = record {
 }
 
 -- what taps are shown
-abbrev pub shown_by : Plan → List Packet → List Packet
+abbrev pub shown_by : LanePlan → List Packet → List Packet
 shown_by p ps = map (shown_of p.filter) ps
 
 -- ---- before
@@ -100,12 +100,12 @@ pub record IsWatched (snap : ℕ) (ps : List Packet) (t : ℕ) (l : TapLane) : T
 -- ---- all lanes
 
 -- where no tap is, nobody shares a block of packets of which nobody shared one, and taps have nothing
-pub record AreUnshared (plan : Plan) (old new : List Held) (l : Lanes) : Type 0 where
+pub record AreUnshared (plan : LanePlan) (old new : List Held) (l : Lanes) : Type 0 where
   pub alone : plan.taps ≡ 0 → AreAlone old → AreAlone new × All (λ m. AreAlone m.packets.items) l.queues.items
   pub idle : plan.taps ≡ 0 → All IsIdleTap l.taps.items
 
 -- they have what they are to do
-pub record AreFilled (plan : Plan) (old : List Held) (l : Lanes) : Type 0 where
+pub record AreFilled (plan : LanePlan) (old : List Held) (l : Lanes) : Type 0 where
   pub kept : Keeps (of_packets old) (of_lanes l)
   pub blocks : KeepsBlocks (of_packets old) (of_lanes l)
   pub count : counts_of_queues l.queues.items ≡ counts_of old
@@ -116,13 +116,13 @@ pub record AreFilled (plan : Plan) (old : List Held) (l : Lanes) : Type 0 where
   pub unshared : AreUnshared plan old [] l
 
 -- each queue has done it, and each tap, or for want of memory that gave back what it had
-pub record Did (plan : Plan) (old new : Lanes) : Type 0 where
+pub record Did (plan : LanePlan) (old new : Lanes) : Type 0 where
   pub queues : EachQueueDid plan.segs old.queues.items new.queues.items
   pub taps : EachTapDid plan.filter plan.snap old.taps.items new.taps.items
   pub sizes : (length new.queues.items ≡ length old.queues.items) × (length new.taps.items ≡ length old.taps.items)
 
 -- what a round comes to
-pub record IsDone (plan : Plan) (old : List Held) (l : Lanes) : Type 0 where
+pub record IsDone (plan : LanePlan) (old : List Held) (l : Lanes) : Type 0 where
   pub lanes : AreMerged plan.segs (spread_of plan) plan.queues (map packet_of old) l.queues.items
   pub windows : AreWatched plan.snap plan.taps (shown_by plan (map packet_of old)) l.taps.items
   pub records : (budget : ℕ) → lane_records l ≡ round_records (options_by plan budget) (map packet_of old)
@@ -137,7 +137,7 @@ pub record IsDone (plan : Plan) (old : List Held) (l : Lanes) : Type 0 where
   pub clones : All (λ t. t.clones.items ≡ []) l.taps.items
 
 -- where memory was refused: the packets that stay, and what the lanes have of the others
-pub record IsRefused (plan : Plan) (old new : List Held) (l : Lanes) : Type 0 where
+pub record IsRefused (plan : LanePlan) (old new : List Held) (l : Lanes) : Type 0 where
   pub kept : Keeps (of_packets old) (both (of_packets new) (of_lanes l))
   pub blocks : KeepsBlocks (of_packets old) (both (of_packets new) (of_lanes l))
   pub count : counts_of new + counts_of_queues l.queues.items ≡ counts_of old

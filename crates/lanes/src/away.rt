@@ -12,7 +12,7 @@ ghost use Rattle.lanes.specs.Work.{Did};
 use crate::free::{free_queue, free_tap};
 use crate::giving::{carry, take_back};
 use crate::lane::{Lanes, QueueLane, TapLane};
-use crate::plan::Plan;
+use crate::plan::LanePlan;
 use crate::shared::{SharedProgram, program_in, share_in};
 use crate::tasks::{LaneDone, LaneJob, LaneTask, QueueTask, WatchTask};
 use crate::work::{watch, work};
@@ -93,7 +93,7 @@ fn send_queues<G: Gate>(
 }
 
 // What a tap's task has of the filter. None where there is nothing to read: then it is no task.
-fn filter_for(lane: &TapLane, plan: &Plan) -> Option<Option<SharedProgram>>
+fn filter_for(lane: &TapLane, plan: &LanePlan) -> Option<Option<SharedProgram>>
     ensures same { IfSome result (λ filter. filter ≡ plan.now.filter) }
 {
     if lane.clones.is_empty() {
@@ -103,7 +103,12 @@ fn filter_for(lane: &TapLane, plan: &Plan) -> Option<Option<SharedProgram>>
 }
 
 // The taps that have clones go away as tasks. The others are worked here.
-fn send_taps<G: Gate>(gate: &G, plan: &Plan, taps: &mut [TapLane], tasks: &mut VecDeque<LaneTask>)
+fn send_taps<G: Gate>(
+    gate: &G,
+    plan: &LanePlan,
+    taps: &mut [TapLane],
+    tasks: &mut VecDeque<LaneTask>,
+)
     requires ready { All IsTapReady taps.old }
     requires room { deque_len tasks.old + length taps.old ≤ deque_capacity tasks.old }
     ensures sent { SentTaps plan.now (length taps.old) taps.old taps.new tasks.old.items tasks.new.items }
@@ -124,7 +129,7 @@ fn send_taps<G: Gate>(gate: &G, plan: &Plan, taps: &mut [TapLane], tasks: &mut V
 /// The lanes that have something to do go away as tasks. The others are worked here.
 pub(crate) fn send_all<G: Gate>(
     gate: &G,
-    plan: &Plan,
+    plan: &LanePlan,
     lanes: &mut Lanes,
     tasks: &mut VecDeque<LaneTask>,
     giver: &mut Option<Giver>,
@@ -170,7 +175,7 @@ pub(crate) fn bring_back<R: Wait>(
 )
     requires places { AllByRecursion (HasPlace lanes.old) done.old.items }
     requires may { MayReturn giver.old (returned done.old.items) }
-    ensures did { (plan : Plan) (old : Lanes) (ts : List LaneTask)
+    ensures did { (plan : LanePlan) (old : Lanes) (ts : List LaneTask)
         → EachDid DidLane ts done.old.items → Away plan old lanes.old ts → Did plan old lanes.new }
     ensures back { (old : Option GiverState) → Divided false old giver.old (returned done.old.items)
         → Divided false old giver.new [] }
@@ -191,7 +196,7 @@ pub(crate) fn work_here<G: Gate, R: Wait>(
 )
     requires places { AllByRecursion (IsPlaced lanes.old) tasks.old.items }
     requires may { MayReturn giver.old (carried tasks.old.items) }
-    ensures did { (plan : Plan) (old : Lanes) → Away plan old lanes.old tasks.old.items → Did plan old lanes.new }
+    ensures did { (plan : LanePlan) (old : Lanes) → Away plan old lanes.old tasks.old.items → Did plan old lanes.new }
     ensures back { (old : Option GiverState) → Divided false old giver.old (carried tasks.old.items)
         → Divided false old giver.new [] }
     ensures none { tasks.new.items ≡ [] }

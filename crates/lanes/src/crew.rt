@@ -9,7 +9,7 @@ ghost use Rattle.lanes.specs.Work.{Did};
 use crate::away::{are_two_at_work, bring_back, send_all, work_here};
 use crate::giving::give_back;
 use crate::lane::Lanes;
-use crate::plan::Plan;
+use crate::plan::LanePlan;
 use crate::tasks::{LaneDone, LaneJob, LaneTask};
 use crate::work::run_and_give;
 use crate::works::Works;
@@ -127,7 +127,7 @@ fn run_by_tasks<G: Gate, N: Naming, R: Wait>(
     crew: &mut Crew<'_, LaneTask, LaneDone, LaneJob<'_, G, R>, N, R>,
     gate: &G,
     rt: &R,
-    plan: &Plan,
+    plan: &LanePlan,
     lanes: &mut Lanes,
     tasks: &mut VecDeque<LaneTask>,
     done: &mut VecDeque<LaneDone>,
@@ -149,7 +149,7 @@ fn run_by_tasks<G: Gate, N: Naming, R: Wait>(
 }
 
 impl<G: Gate, N: Naming, R: Wait> Works for LaneCrew<'_, '_, G, N, R> {
-    fn run_lanes(&mut self, plan: &Plan, lanes: &mut Lanes, giver: &mut Option<Giver>) {
+    fn run_lanes(&mut self, plan: &LanePlan, lanes: &mut Lanes, giver: &mut Option<Giver>) {
         let count = lanes.queues.len().saturating_add(lanes.taps.len());
         if count > self.tasks.capacity() || !are_two_at_work(lanes) {
             run_and_give(self.gate, self.rt, plan, lanes, giver);

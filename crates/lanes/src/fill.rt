@@ -13,7 +13,7 @@ ghost use Rattle.lanes.specs.Work.{IsPlan};
 use crate::clones::clone_all;
 use crate::free::{free_queues, free_taps};
 use crate::lane::{Lanes, QueueLane, TapLane};
-use crate::plan::Plan;
+use crate::plan::LanePlan;
 use core::mem::replace;
 use gro::Packets;
 use std::alloc::{AllocError, Global};
@@ -86,7 +86,11 @@ fn begin_queues(lanes: &mut [QueueLane])
 }
 
 /// Idle lanes for the queues and taps of a plan. Those of the queues begin.
-pub(crate) fn open_lanes(alloc: Global, plan: &Plan, lanes: &mut Lanes) -> Result<(), AllocError>
+pub(crate) fn open_lanes(
+    alloc: Global,
+    plan: &LanePlan,
+    lanes: &mut Lanes,
+) -> Result<(), AllocError>
     requires plan { IsPlan plan.now }
     requires idle { AreIdle lanes.old }
     ensures idle { AreIdle lanes.new }

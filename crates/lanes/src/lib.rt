@@ -82,7 +82,7 @@
 //! suffices where there is some, and that blocks are given at all and when. Not said: that a thread runs or is woken.
 //!
 //! ```
-//! let plan = Plan {
+//! let plan = LanePlan {
 //!     queues: 4,
 //!     taps: 1,
 //!     snap: 64,
@@ -160,7 +160,7 @@ mod works;
 pub use crew::{LANES, LaneCrew, LaneDesk, count_runners, open_desk, serve_lanes};
 pub use keep::keep_packets;
 pub use lane::{Lanes, QueueLane, TapLane};
-pub use plan::Plan;
+pub use plan::LanePlan;
 pub use round::work_packets;
 pub use shared::SharedProgram;
 pub use tasks::{LaneDone, LaneJob, LaneTask, QueueDone, QueueTask, TapDone, WatchTask};

@@ -5,7 +5,7 @@ use frame_layout::Choice;
 
 /// How many lanes there are, and how far a tap reads.
 #[derive(Drop)]
-pub struct Plan {
+pub struct LanePlan {
     /// The receive queues, from 1 to 64.
     pub queues: u32,
     /// The taps, from 0 to 8.

@@ -20,7 +20,7 @@ ghost use Rattle.lanes.specs.Work.{AreUnshared, AreWatched, Did, IsDone, IsRefus
 
 use crate::fill::{give_all_up, open_lanes, serve_taps};
 use crate::lane::{Lanes, TapLane};
-use crate::plan::Plan;
+use crate::plan::LanePlan;
 use crate::share::share_out;
 use crate::works::Works;
 use block_pool::Giver;
@@ -31,7 +31,7 @@ use std::alloc::{AllocError, Global};
 // what isn't in `packets` any more is in the lanes.
 fn fill(
     alloc: Global,
-    plan: &Plan,
+    plan: &LanePlan,
     packets: &mut Packets,
     lanes: &mut Lanes,
 ) -> Result<(), AllocError>
@@ -78,7 +78,7 @@ fn are_read(lanes: &[TapLane]) -> bool
 // The lanes get what they have to do. Where memory is refused they have no clones.
 fn begin(
     alloc: Global,
-    plan: &Plan,
+    plan: &LanePlan,
     packets: &mut Packets,
     lanes: &mut Lanes,
 ) -> Result<(), AllocError>
@@ -105,7 +105,7 @@ fn begin(
 
 // What the lanes say after their work: all of it is done, or a tap was refused memory.
 fn finish(lanes: &Lanes) -> Result<(), AllocError>
-    ensures ended { (plan : Plan) (old : List Held) (before : Lanes) → AreFilled plan old before
+    ensures ended { (plan : LanePlan) (old : List Held) (before : Lanes) → AreFilled plan old before
         → Did plan before lanes.now → MatchResult result (λ _. IsDone plan old lanes.now)
         (λ _. IsRefused plan old [] lanes.now) }
 {
@@ -128,7 +128,7 @@ pub fn work_packets<W: Works>(
     works: &mut W,
     alloc: Global,
     packets: &mut Packets,
-    plan: &Plan,
+    plan: &LanePlan,
     lanes: &mut Lanes,
     giver: &mut Option<Giver>,
 ) -> Result<(), AllocError>

@@ -10,14 +10,14 @@ ghost use Rattle.lanes.specs.Sharing.{EachFrom, EachStays, HasMemory, IsSharing,
 ghost use Rattle.lanes.specs.Sharing.{TakesAll, TakesIn};
 
 use crate::lane::QueueLane;
-use crate::plan::Plan;
+use crate::plan::LanePlan;
 use core::mem::swap;
 use frame_layout::{key, queue_by};
 use gro::{Packets, Slot};
 use std::alloc::AllocError;
 
 // The queue of a packet's flow.
-fn queue_for(packet: &Slot, plan: &Plan) -> u32
+fn queue_for(packet: &Slot, plan: &LanePlan) -> u32
     requires held { IsHeld packet.now }
     requires plan { IsPlan plan.now }
     ensures queue { result ≡ spread_of plan.now (key_of (buffer_bytes packet.now.skb)) }
@@ -42,7 +42,7 @@ fn take_in(lane: &mut QueueLane, packet: Slot) -> Result<(), (Slot, AllocError)>
 // list's last again.
 fn spread_back(
     packets: &mut Packets,
-    plan: &Plan,
+    plan: &LanePlan,
     lanes: &mut [QueueLane],
 ) -> Result<(), AllocError>
     requires plan { IsPlan plan.now }
@@ -74,7 +74,7 @@ fn spread_back(
 
 // Each packet goes to the queue of its flow, in order. Those that there is no memory for stay, in their order. Packets
 // leave their list by its end, so the list is turned.
-fn spread(packets: &mut Packets, plan: &Plan, lanes: &mut [QueueLane]) -> Result<(), AllocError>
+fn spread(packets: &mut Packets, plan: &LanePlan, lanes: &mut [QueueLane]) -> Result<(), AllocError>
     requires plan { IsPlan plan.now }
     requires queues { length lanes.old ≡ plan.now.queues }
     requires held { AreHeld packets.old.items }
@@ -125,7 +125,11 @@ fn start_all(lanes: &mut [QueueLane]) -> Result<(), AllocError>
 }
 
 // The packets go to the queues of their flows, in order. Those that there is no memory for stay, in their order.
-fn give_out(packets: &mut Packets, plan: &Plan, lanes: &mut [QueueLane]) -> Result<(), AllocError>
+fn give_out(
+    packets: &mut Packets,
+    plan: &LanePlan,
+    lanes: &mut [QueueLane],
+) -> Result<(), AllocError>
     requires plan { IsPlan plan.now }
     requires queues { length lanes.old ≡ plan.now.queues }
     requires held { AreHeld packets.old.items }
@@ -151,7 +155,7 @@ fn give_out(packets: &mut Packets, plan: &Plan, lanes: &mut [QueueLane]) -> Resu
 /// is no memory for stays; where all packets have gone and memory for the work is refused, they are in the lanes.
 pub(crate) fn share_out(
     packets: &mut Packets,
-    plan: &Plan,
+    plan: &LanePlan,
     lanes: &mut [QueueLane],
 ) -> Result<(), AllocError>
     requires plan { IsPlan plan.now }

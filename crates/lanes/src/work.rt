@@ -6,7 +6,7 @@ ghost use Rattle.lanes.specs.Work.{Did};
 
 use crate::giving::give_back;
 use crate::lane::{Lanes, QueueLane, TapLane};
-use crate::plan::Plan;
+use crate::plan::LanePlan;
 use crate::shared::program_in;
 use block_pool::Giver;
 use core::mem::replace;
@@ -47,7 +47,7 @@ pub(crate) fn watch<G: Gate>(gate: &G, snap: u32, filter: Option<&Program>, lane
 }
 
 // The queues' workers, one after another.
-fn work_in_turn<G: Gate>(gate: &G, plan: &Plan, queues: &mut [QueueLane])
+fn work_in_turn<G: Gate>(gate: &G, plan: &LanePlan, queues: &mut [QueueLane])
     requires filled { All IsFilled queues.old }
     ensures did { EachQueueDid plan.now.segs queues.old queues.new }
 {
@@ -57,7 +57,7 @@ fn work_in_turn<G: Gate>(gate: &G, plan: &Plan, queues: &mut [QueueLane])
 }
 
 // The taps' tasks, one after another.
-fn watch_in_turn<G: Gate>(gate: &G, plan: &Plan, taps: &mut [TapLane])
+fn watch_in_turn<G: Gate>(gate: &G, plan: &LanePlan, taps: &mut [TapLane])
     requires ready { All IsTapReady taps.old }
     ensures did { EachTapDid plan.now.filter plan.now.snap taps.old taps.new }
 {
@@ -67,7 +67,7 @@ fn watch_in_turn<G: Gate>(gate: &G, plan: &Plan, taps: &mut [TapLane])
 }
 
 /// All lanes in the thread that calls, queue after queue and then tap after tap.
-pub(crate) fn run_in_turn<G: Gate>(gate: &G, plan: &Plan, lanes: &mut Lanes)
+pub(crate) fn run_in_turn<G: Gate>(gate: &G, plan: &LanePlan, lanes: &mut Lanes)
     requires queues { All IsFilled lanes.old.queues.items }
     requires taps { All IsTapReady lanes.old.taps.items }
     ensures did { Did plan.now lanes.old lanes.new }
@@ -80,7 +80,7 @@ pub(crate) fn run_in_turn<G: Gate>(gate: &G, plan: &Plan, lanes: &mut Lanes)
 fn work_and_give<G: Gate, R: Wait>(
     gate: &G,
     rt: &R,
-    plan: &Plan,
+    plan: &LanePlan,
     queues: &mut [QueueLane],
     giver: &mut Option<Giver>,
 )
@@ -100,7 +100,7 @@ fn work_and_give<G: Gate, R: Wait>(
 pub(crate) fn run_and_give<G: Gate, R: Wait>(
     gate: &G,
     rt: &R,
-    plan: &Plan,
+    plan: &LanePlan,
     lanes: &mut Lanes,
     giver: &mut Option<Giver>,
 )

@@ -5,7 +5,7 @@ ghost use Rattle.lanes.specs.Lanes.{IsFilled, IsTapReady};
 ghost use Rattle.lanes.specs.Work.{Did};
 
 use crate::lane::Lanes;
-use crate::plan::Plan;
+use crate::plan::LanePlan;
 use crate::work::{run_and_give, run_in_turn};
 use block_pool::Giver;
 use off_io::Gate;
@@ -15,7 +15,7 @@ use std::sync::Wait;
 pub trait Works {
     /// Each lane does what it has to do, in whichever order. What lies in the giver's list may go back to its pool
     /// meanwhile.
-    fn run_lanes(&mut self, plan: &Plan, lanes: &mut Lanes, giver: &mut Option<Giver>)
+    fn run_lanes(&mut self, plan: &LanePlan, lanes: &mut Lanes, giver: &mut Option<Giver>)
         requires queues { All IsFilled lanes.old.queues.items }
         requires taps { All IsTapReady lanes.old.taps.items }
         ensures did { Did plan.now lanes.old lanes.new }
@@ -29,7 +29,7 @@ pub struct Alone<'a, G> {
 }
 
 impl<G: Gate> Works for Alone<'_, G> {
-    fn run_lanes(&mut self, plan: &Plan, lanes: &mut Lanes, _giver: &mut Option<Giver>) {
+    fn run_lanes(&mut self, plan: &LanePlan, lanes: &mut Lanes, _giver: &mut Option<Giver>) {
         run_in_turn(self.gate, plan, lanes);
     }
 }
@@ -43,7 +43,7 @@ pub struct Beside<'a, G, R> {
 }
 
 impl<G: Gate, R: Wait> Works for Beside<'_, G, R> {
-    fn run_lanes(&mut self, plan: &Plan, lanes: &mut Lanes, giver: &mut Option<Giver>) {
+    fn run_lanes(&mut self, plan: &LanePlan, lanes: &mut Lanes, giver: &mut Option<Giver>) {
         run_and_give(self.gate, self.rt, plan, lanes, giver);
     }
 }

@@ -6,7 +6,7 @@ use Rattle.pcap_io.specs.declared.faults.InFault.{InFault}
 use Rattle.pcap_io.specs.declared.faults.InFault.TheVariants as faults
 use Rattle.offload_model.specs.Passing.{Ending, Passed, Passes, merging_whole, segmenting_whole}
 use Rattle.lanes.specs.Work.{options_by}
-use Rattle.lanes.specs.declared.plan.Plan.{Plan}
+use Rattle.lanes.specs.declared.plan.LanePlan.{LanePlan}
 use Rattle.rounds.specs.declared.merge.MergeEnd.{MergeEnd}
 use Rattle.rounds.specs.declared.merge.MergeEnd.TheVariants as merges
 use Rattle.rounds.specs.declared.segment.SegFault.{SegFault}
@@ -45,7 +45,7 @@ module _ (passing : List ℕ → Passed) (bytes : Vec ℕ Global) (outcome : Out
 
 -- ---- over the blocks that were made
 
-pub merged_gives : (blocks budget : ℕ) (plan : Plan) (rounds : RoundsState) (start : List ℕ) (bytes : Vec ℕ Global) (outcome : Outcome) (given left : List ℕ) (end : MergeEnd)
+pub merged_gives : (blocks budget : ℕ) (plan : LanePlan) (rounds : RoundsState) (start : List ℕ) (bytes : Vec ℕ Global) (outcome : Outcome) (given left : List ℕ) (end : MergeEnd)
     → rounds ≡ record { home = blocks; stock = rounds.stock; blocks = blocks; taken = 0; empties = 0; pauses = 0; budget = budget; plan = plan; keep = false } → start ≡ [] → IsOutcomeOf end bytes outcome
     → Passes (merging_whole rounds.blocks (options_of rounds)) (Some start) (Some bytes.items) (ending_of end) given left → Gives (merging_whole blocks (options_by plan budget) given) outcome
 merged_gives blocks budget plan rounds start bytes outcome given left end made none is p =

@@ -6,7 +6,7 @@ use Rattle.frame_layout.specs.Choice.{IsTable, even_table_of}
 use Rattle.frame_layout.specs.declared.choice.Choice.{Choice}
 use Rattle.frame_layout.specs.declared.choice.Choice.TheVariants.{Fold, Toeplitz}
 use Rattle.offload_model.specs.Written.{Options}
-use Rattle.lanes.specs.declared.plan.Plan.{Plan}
+use Rattle.lanes.specs.declared.plan.LanePlan.{LanePlan}
 use Rattle.lanes.specs.Work.{options_by}
 use Rattle.offload_c.specs.declared.options.MergeOptions.{MergeOptions}
 use Rattle.offload_c.specs.declared.options.Refused.{Refused}
@@ -75,7 +75,7 @@ pub record AreLawful (o : MergeOptions) : Type 0 where
   pub others : AreAllButFilter o
   pub filter : IsFilter o.filter.now
 
-abbrev pub plan_of : MergeOptions → Plan
+abbrev pub plan_of : MergeOptions → LanePlan
 plan_of o = record {
   queues = o.queues;
   taps = o.taps;

@@ -12,7 +12,7 @@ ghost use Rattle.offload_c.specs.Options.{AreLawful, WhyRefused, model_of};
 
 use crate::memory::{LentSource, Outcome, grown_sink};
 use crate::options::{MergeOptions, Refused};
-use lanes::{Alone, Plan};
+use lanes::{Alone, LanePlan};
 use off_io::{NoGate, Sink, Source, WriteFault};
 use pcap_io::{CaptureReader, FileHead, InFault, Link, take_file, write_file_head};
 use rounds::{MergeEnd, Rounds};
@@ -74,7 +74,7 @@ fn outcome_of(end: MergeEnd, bytes: Vec<u8>) -> Outcome
 }
 
 // Merges a capture in memory, over a pool of blocks that is made here.
-fn merge_bytes(alloc: Global, blocks: u32, budget: u32, plan: Plan, capture: &[u8]) -> Outcome
+fn merge_bytes(alloc: Global, blocks: u32, budget: u32, plan: LanePlan, capture: &[u8]) -> Outcome
     requires blocks { (1 ≤ blocks) × (blocks ≤ 65536) }
     requires budget { (1 ≤ budget) × (budget ≤ 4096) }
     requires plan { IsPlan plan }

@@ -8,7 +8,7 @@ ghost use Rattle.offload_c.specs.Options.{filter_by, plan_of, WhyRefused, WhyNoF
 
 use arrayvec::ArrayVec;
 use frame_layout::{Choice, HashKey, even_table};
-use lanes::{Plan, SharedProgram};
+use lanes::{LanePlan, SharedProgram};
 use std::alloc::Global;
 use std::mem::size_of;
 use tap_filter::{FilterFault, Program};
@@ -151,7 +151,7 @@ impl MergeOptions<'_> {
     /// # Errors
     ///
     /// `Usage` where they aren't lawful. `NoMemory` where memory runs out while the filter is read.
-    pub fn plan(&self, alloc: Global) -> Result<Plan, Refused>
+    pub fn plan(&self, alloc: Global) -> Result<LanePlan, Refused>
         ensures plan { IfOk result (λ plan. plan ≡ plan_of self.now) }
         ensures lawful { IfOk result (λ plan. IsPlan plan × AreLawful self.now) }
         ensures refused { IfErr result (WhyRefused self.now) }
@@ -163,7 +163,7 @@ impl MergeOptions<'_> {
             return Err(Refused::Usage);
         };
         match filter_of(alloc, self.filter) {
-            Ok(filter) => Ok(Plan {
+            Ok(filter) => Ok(LanePlan {
                 queues: self.queues,
                 taps: self.taps,
                 snap: self.snap,

@@ -61,8 +61,8 @@ pub use frames::{
 };
 pub use need::{defaults_suffice, needs_add, needs_exceed, rounds_exceed};
 pub use passing::{
-    blocks_suffice, commands_pass_on, commands_stop, prefixes_are_written, prefixes_pass_on,
-    prefixes_to_whole, merging_goes_by_round, records_to_whole, segmenting_goes_by_record,
+    blocks_suffice, commands_pass_on, commands_stop, merging_goes_by_round, prefixes_are_written,
+    prefixes_pass_on, prefixes_to_whole, records_to_whole, segmenting_goes_by_record,
     segments_grow, stops_are_one, stops_write_prefixes,
 };
 pub use rows::{need_rows_hold, rows_hold};

@@ -13,7 +13,7 @@ use Rattle.offload_model.specs.Written.{Options, records_of}
 use Rattle.offload_model.specs.Need.{packets_within}
 use Rattle.offload_model.specs.Captured.{IsCaptured, content}
 use Rattle.offload_words.specs.declared.merge.MergeOptions.{MergeOptions}
-use Rattle.lanes.specs.declared.plan.Plan.{Plan}
+use Rattle.lanes.specs.declared.plan.LanePlan.{LanePlan}
 
 -- how a capture is merged: in rounds of `budget` records, whose flows go to queues by a choice, at most `segs` packets
 -- in a record, and by taps, each of which reads up to `snap` bytes of what a filter shows of a packet
@@ -29,7 +29,7 @@ options o = record {
 }
 
 -- how the work of a round is divided
-abbrev pub plan_of : MergeOptions → Plan
+abbrev pub plan_of : MergeOptions → LanePlan
 plan_of o = record {
   queues = o.queues;
   taps = o.taps;

@@ -18,7 +18,7 @@ ghost use Rattle.offload_run.specs.Output.{FlowsComeBack};
 
 use crate::ending::refused;
 use crate::{Engine, Status};
-use lanes::{Plan, SharedProgram};
+use lanes::{LanePlan, SharedProgram};
 use off_io::{Gate, Sink, Source, WriteFault};
 use offload_words::MergeOptions;
 use pcap_io::{CaptureReader, FileHead, Link, take_file, write_file_head};
@@ -121,7 +121,7 @@ pub(crate) fn make_rounds(
         Some(program) => Some(SharedProgram::new(alloc, program)?),
         None => None,
     };
-    let plan = Plan {
+    let plan = LanePlan {
         queues,
         taps,
         snap,

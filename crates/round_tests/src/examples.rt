@@ -4,7 +4,7 @@ use crate::writing::{FILE, all_go_home, frame};
 use frags::Outcomes;
 use frame_layout::Choice;
 use gro::Item;
-use lanes::{Alone, Lanes, Plan, work_packets};
+use lanes::{Alone, LanePlan, Lanes, work_packets};
 use off_io::{Feed, MemSink, MemSource, NoGate};
 use pcap_io::{CaptureReader, Link};
 use records::{Time, write_items, write_record};
@@ -47,7 +47,7 @@ fn example_of_records(rt: HostRuntime) -> Result<(), Fail> {
 fn example_of_lanes(rt: HostRuntime) {
     let alloc = rt.alloc();
     let mut packets = in_turn(&rt, alloc);
-    let plan = Plan {
+    let plan = LanePlan {
         queues: 4,
         taps: 1,
         snap: 64,
@@ -84,7 +84,7 @@ fn example_of_rounds(rt: HostRuntime) -> Result<(), Fail> {
     let mut reader = CaptureReader::start(&mut feed, Link::Ethernet)?;
     let file = reader.file();
     let mut sink = MemSink::new(alloc, 4096, Vec::new(alloc));
-    let plan = Plan {
+    let plan = LanePlan {
         queues: 4,
         taps: 1,
         snap: 64,

@@ -5,7 +5,7 @@ ghost use Rattle.lanes.specs.Work.{IsPlan};
 
 use crate::plans::{chosen, hash, plain};
 use crate::working::frames::IN_TURN;
-use lanes::{Alone, Plan};
+use lanes::{Alone, LanePlan};
 use off_io::{Feed, MemSink, MemSource, NoGate};
 use pcap_io::{CaptureReader, FileHead, Link, Order};
 use pipeline::merge_beside;
@@ -22,7 +22,7 @@ fn merged<R: Threads + Wait + Sync>(
     alloc: Global,
     capture: &[u8],
     budget: u32,
-    plan: Plan,
+    plan: LanePlan,
     keep: bool,
     threads: bool,
 ) -> Result<(MergeEnd, Vec<u8>, u32), Fail>

@@ -3,7 +3,7 @@ ghost use Rattle.std.specs.Prelude.{◌≡◌, ◌≤◌, IfOk};
 ghost use Rattle.lanes.specs.Work.{IsPlan};
 
 use frame_layout::{Choice, HashKey, even_table};
-use lanes::{Plan, SharedProgram};
+use lanes::{LanePlan, SharedProgram};
 use std::alloc::Global;
 use std::test::Fail;
 use tap_filter::Program;
@@ -16,14 +16,14 @@ const HASH_KEY: [u8; 40] = [
 ];
 
 /// Runs of any number of packets, queues by the fold, and taps that are shown all.
-pub(crate) fn plain(queues: u32, taps: u32, snap: u32) -> Plan
+pub(crate) fn plain(queues: u32, taps: u32, snap: u32) -> LanePlan
     requires queues { (1 ≤ queues) × (queues ≤ 64) }
     requires taps { taps ≤ 8 }
     requires snap { (1 ≤ snap) × (snap ≤ 2048) }
     ensures plan { IsPlan result }
     ensures lanes { (result.queues ≡ queues) × (result.taps ≡ taps) }
 {
-    Plan {
+    LanePlan {
         queues,
         taps,
         snap,
@@ -35,7 +35,7 @@ pub(crate) fn plain(queues: u32, taps: u32, snap: u32) -> Plan
 
 /// Runs of at most `segs` packets, queues by the hash, and two taps of 32 bytes that are shown what a filter's text
 /// says.
-pub(crate) fn chosen(alloc: Global, queues: u32, segs: u32, filter: &str) -> Result<Plan, Fail>
+pub(crate) fn chosen(alloc: Global, queues: u32, segs: u32, filter: &str) -> Result<LanePlan, Fail>
     requires queues { (1 ≤ queues) × (queues ≤ 64) }
     requires segs { (1 ≤ segs) × (segs ≤ 4096) }
     ensures plan { IfOk result IsPlan }
@@ -44,7 +44,7 @@ pub(crate) fn chosen(alloc: Global, queues: u32, segs: u32, filter: &str) -> Res
         Ok(filter) => filter,
         Err(_) => return Err(Fail::from("the filter is read")),
     };
-    Ok(Plan {
+    Ok(LanePlan {
         queues,
         taps: 2,
         snap: 32,

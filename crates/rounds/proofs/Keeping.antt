@@ -28,7 +28,7 @@ use Rattle.taps.specs.Texts.{text_by, text_of, texts_of}
 use Rattle.lanes.specs.declared.lane.QueueLane.{QueueLane}
 use Rattle.lanes.specs.declared.lane.TapLane.{TapLane}
 use Rattle.lanes.specs.declared.lane.Lanes.{Lanes}
-use Rattle.lanes.specs.declared.plan.Plan.{Plan}
+use Rattle.lanes.specs.declared.plan.LanePlan.{LanePlan}
 use Rattle.lanes.specs.Clones.{weight_after, AreAfter}
 use Rattle.lanes.specs.Lanes.{of_lanes, counts_of_queues, weighed_queues, AreIdle, IsIdleQueue, IsIdleTap, IsMerged}
 use Rattle.lanes.proofs.Idle.{idle_clones, idle_counts, idle_lanes, idle_weighed}
@@ -216,7 +216,7 @@ small_taps : (ls : List TapLane) → AllByRecursion (λ (l : TapLane). l.tap < 8
 small_taps [] number short = tt
 small_taps (l ∷ ls) number short = ((omega (arith, number.0), short.0), small_taps ls number.1 short.1)
 
-small_lanes : (plan : Plan) (ps : List Packet) (lanes : Lanes) → IsPlan plan → AllByRecursion Fits ps → AreMerged plan.segs (spread_of plan) plan.queues ps lanes.queues.items
+small_lanes : (plan : LanePlan) (ps : List Packet) (lanes : Lanes) → IsPlan plan → AllByRecursion Fits ps → AreMerged plan.segs (spread_of plan) plan.queues ps lanes.queues.items
     → All IsMerged lanes.queues.items → EachFrom (λ q (l : QueueLane). map packet_of l.packets.items ≡ filter (is_queued (spread_of plan) q) ps) 0 lanes.queues.items
     → AreWatched plan.snap plan.taps (shown_by plan ps) lanes.taps.items → IsSmallWork lanes
 small_lanes plan ps lanes is fit merged are packets watched = record {
@@ -272,7 +272,7 @@ beside k j l less out = (
       (subst (λ (z : Kept). IsOut z.shared (k.blocks - home k.spares) j.packets.items l z.kept.items) (sym less.same) out),
 )
 
-module _ {E : Type 0} (keep : Bool) (ps : List Packet) (n : ℕ) (plan : Plan) (k j : Kept) (is : IsPlan plan) (kept : IsKept keep plan.taps ps n k)
+module _ {E : Type 0} (keep : Bool) (ps : List Packet) (n : ℕ) (plan : LanePlan) (k j : Kept) (is : IsPlan plan) (kept : IsKept keep plan.taps ps n k)
     (less : IsLess k j) where
   pub settles : (r : Result (Unit {0}) E) (l : Lanes) → OnOk r (AreMerged plan.segs (spread_of plan) plan.queues (map packet_of k.packets.items) l.queues.items)
       → OnOk r (AreWatched plan.snap plan.taps (shown_by plan (map packet_of k.packets.items)) l.taps.items)
@@ -289,7 +289,7 @@ module _ {E : Type 0} (keep : Bool) (ps : List Packet) (n : ℕ) (plan : Plan) (
   settles (Err e) l merged watched are packets all out = beside k j l less out
 
 -- all that a comparison wants to know of what the lanes came to
-pub kept_work : {E X : Type 0} (plan : Plan) (budget n m : ℕ) (keep : Bool) (ps : List Packet) (k : Kept) (done : Result (Unit {0}) E) (l : Lanes) (r : Result WorkedState X) → keep ≡ true
+pub kept_work : {E X : Type 0} (plan : LanePlan) (budget n m : ℕ) (keep : Bool) (ps : List Packet) (k : Kept) (done : Result (Unit {0}) E) (l : Lanes) (r : Result WorkedState X) → keep ≡ true
     → IsKept keep plan.taps ps n k → OnOk done (AreMerged plan.segs (spread_of plan) plan.queues (map packet_of k.packets.items) l.queues.items)
     → OnOk done (AreWatched plan.snap plan.taps (shown_by plan (map packet_of k.packets.items)) l.taps.items)
     → OnOk done (All IsMerged l.queues.items)

@@ -6,7 +6,7 @@ use Rattle.raw_block.specs.Views.{SoleState}
 use Rattle.gro.specs.declared.slot.Slot.{Slot}
 use Rattle.taps.specs.declared.clones.TapClone.{TapClone}
 use Rattle.lanes.specs.declared.lane.Lanes.{Lanes}
-use Rattle.lanes.specs.declared.plan.Plan.{Plan}
+use Rattle.lanes.specs.declared.plan.LanePlan.{LanePlan}
 
 -- and how many packets a round may have, how its work is divided, and whether a clone of each packet is kept
 pub record RoundsState : Type 0 where
@@ -17,7 +17,7 @@ pub record RoundsState : Type 0 where
   pub empties : ℕ
   pub pauses : ℕ
   pub budget : ℕ
-  pub plan : Plan
+  pub plan : LanePlan
   pub keep : Bool
 
 -- of the side that reads: its blocks, and how many packets a round may have
@@ -36,7 +36,7 @@ pub record BenchState : Type 0 where
   pub room : ℕ
   pub blocks : ℕ
   pub budget : ℕ
-  pub plan : Plan
+  pub plan : LanePlan
   pub keep : Bool
 
 pub record RoundState : Type 0 where

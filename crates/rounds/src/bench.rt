@@ -17,13 +17,13 @@ ghost use Rattle.rounds.specs.Weights.{weights_of, weights_worked, weights_left}
 use crate::home::bring_out;
 use crate::memory::{close_places, open_places, place_spares};
 use crate::round::{Blank, Rest, Round, RoundRead, Worked, no_round};
-use crate::table::Place;
+use crate::table::Returned;
 use crate::writing::write_lanes;
 use block_pool::{Giver, Pool};
 use core::mem::replace;
 use frags::Outcomes;
 use gro::Packets;
-use lanes::{Lanes, Plan, Works};
+use lanes::{LanePlan, Lanes, Works};
 use off_io::{Sink, WriteFault};
 use pcap_io::FileHead;
 use std::alloc::{AllocError, Global};
@@ -34,7 +34,7 @@ use std::marker::Model;
 pub struct Bench {
     pub(crate) alloc: Global,
     // What came back, and where: used as a round ends. There are places for all blocks and for a clone's part of each.
-    places: Vec<Place>,
+    places: Vec<Returned>,
     out: Outcomes,
     // Memory alone.
     pub(crate) packets: Packets,
@@ -42,7 +42,7 @@ pub struct Bench {
     // Idle between rounds. Those of a round that was worked are away until it ends.
     lanes: Lanes,
     budget: u32,
-    pub(crate) plan: Plan,
+    pub(crate) plan: LanePlan,
     // Whether a clone of each packet is kept beside the work of a round.
     pub(crate) keep: bool,
 }
@@ -96,7 +96,7 @@ impl Bench {
         alloc: Global,
         blocks: u32,
         budget: u32,
-        plan: Plan,
+        plan: LanePlan,
         keep: bool,
     ) -> Result<Bench, AllocError>
         requires blocks { blocks ≤ 65536 }

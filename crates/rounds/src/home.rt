@@ -13,7 +13,7 @@ ghost use Rattle.frags.specs.OutcomesState.{IsBare};
 ghost use Rattle.rounds.specs.Table.{AllOpen, Comes, MayCome};
 
 use crate::lane_home::{bring_kept, bring_lanes, bring_queues_alone};
-use crate::table::{Place, reopen, sweep};
+use crate::table::{Returned, reopen, sweep};
 use block_pool::Pool;
 use frags::Outcomes;
 use gro::{Packets, Slot};
@@ -23,7 +23,7 @@ use skb::Skb;
 use taps::TapClone;
 
 /// A buffer is given back, and its blocks go home.
-pub(crate) fn bring_buffer(pool: &mut Pool, places: &mut [Place], out: &mut Outcomes, skb: Skb)
+pub(crate) fn bring_buffer(pool: &mut Pool, places: &mut [Returned], out: &mut Outcomes, skb: Skb)
     requires may { MayCome (of_buffer skb) pool.old places.old }
     requires bare { IsBare out.old }
     requires spare { blocks_in skb ≤ out.old.spare }
@@ -36,7 +36,12 @@ pub(crate) fn bring_buffer(pool: &mut Pool, places: &mut [Place], out: &mut Outc
 }
 
 /// A packet is given back.
-pub(crate) fn bring_packet(pool: &mut Pool, places: &mut [Place], out: &mut Outcomes, packet: Slot)
+pub(crate) fn bring_packet(
+    pool: &mut Pool,
+    places: &mut [Returned],
+    out: &mut Outcomes,
+    packet: Slot,
+)
     requires may { MayCome (of_packet packet) pool.old places.old }
     requires bare { IsBare out.old }
     requires spare { count_of packet ≤ out.old.spare }
@@ -57,7 +62,7 @@ pub(crate) fn bring_packet(pool: &mut Pool, places: &mut [Place], out: &mut Outc
 /// All packets are given back, and their memory stays.
 pub(crate) fn bring_packets(
     pool: &mut Pool,
-    places: &mut [Place],
+    places: &mut [Returned],
     out: &mut Outcomes,
     packets: &mut Packets,
 )
@@ -77,7 +82,7 @@ pub(crate) fn bring_packets(
 // What a round came to is given back: lanes, and clones that were kept.
 fn bring_work(
     pool: &mut Pool,
-    places: &mut [Place],
+    places: &mut [Returned],
     out: &mut Outcomes,
     lanes: &mut Lanes,
     kept: Vec<TapClone>,
@@ -98,7 +103,7 @@ fn bring_work(
 // All that is left of a round comes home to a table with a place for each of its blocks.
 fn bring_all(
     pool: &mut Pool,
-    places: &mut [Place],
+    places: &mut [Returned],
     out: &mut Outcomes,
     packets: &mut Packets,
     lanes: &mut Lanes,
@@ -133,7 +138,7 @@ fn bring_all(
 // no lane, what the lanes hold, and the clones that were kept. The lanes are idle then.
 fn bring_round(
     pool: &mut Pool,
-    table: &mut [Place],
+    table: &mut [Returned],
     blocks: u32,
     out: &mut Outcomes,
     packets: &mut Packets,
@@ -213,7 +218,7 @@ fn bring_round_alone(pool: &mut Pool, packets: &mut Packets, lanes: &mut Lanes, 
 pub(crate) fn bring_out(
     shared: bool,
     pool: &mut Pool,
-    table: &mut [Place],
+    table: &mut [Returned],
     blocks: u32,
     out: &mut Outcomes,
     packets: &mut Packets,

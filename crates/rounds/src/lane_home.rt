@@ -11,14 +11,14 @@ ghost use Rattle.frags.specs.OutcomesState.{IsBare};
 ghost use Rattle.rounds.specs.Table.{Comes, MayCome};
 
 use crate::home::{bring_alone, bring_buffer, bring_packets};
-use crate::table::{Place, sweep};
+use crate::table::{Returned, sweep};
 use block_pool::Pool;
 use frags::Outcomes;
 use lanes::{Lanes, QueueLane, TapLane};
 use taps::TapClone;
 
 // What a queue's lane holds.
-fn bring_queue(pool: &mut Pool, places: &mut [Place], out: &mut Outcomes, lane: &mut QueueLane)
+fn bring_queue(pool: &mut Pool, places: &mut [Returned], out: &mut Outcomes, lane: &mut QueueLane)
     requires may { MayCome (of_queue lane.old) pool.old places.old }
     requires bare { IsBare out.old }
     requires spare { count_of_queue lane.old ≤ out.old.spare }
@@ -30,7 +30,12 @@ fn bring_queue(pool: &mut Pool, places: &mut [Place], out: &mut Outcomes, lane: 
     bring_packets(pool, places, out, &mut lane.packets);
 }
 
-fn bring_queues(pool: &mut Pool, places: &mut [Place], out: &mut Outcomes, lanes: &mut [QueueLane])
+fn bring_queues(
+    pool: &mut Pool,
+    places: &mut [Returned],
+    out: &mut Outcomes,
+    lanes: &mut [QueueLane],
+)
     requires may { MayCome (of_queues lanes.old) pool.old places.old }
     requires bare { IsBare out.old }
     requires spare { counts_of_queues lanes.old ≤ out.old.spare }
@@ -46,7 +51,7 @@ fn bring_queues(pool: &mut Pool, places: &mut [Place], out: &mut Outcomes, lanes
 }
 
 // What a tap's lane holds, once its clones are read.
-fn bring_tap(pool: &mut Pool, places: &mut [Place], lane: &mut TapLane)
+fn bring_tap(pool: &mut Pool, places: &mut [Returned], lane: &mut TapLane)
     requires may { MayCome (of_tap lane.old) pool.old places.old }
     requires spent { lane.old.clones.items ≡ [] }
     ensures comes { Comes (of_tap lane.old) nothing pool.old places.old pool.new places.new }
@@ -55,7 +60,7 @@ fn bring_tap(pool: &mut Pool, places: &mut [Place], lane: &mut TapLane)
     sweep(pool, places, &mut lane.outcomes);
 }
 
-fn bring_taps(pool: &mut Pool, places: &mut [Place], lanes: &mut [TapLane])
+fn bring_taps(pool: &mut Pool, places: &mut [Returned], lanes: &mut [TapLane])
     requires may { MayCome (of_taps lanes.old) pool.old places.old }
     requires spent { AreSpent lanes.old }
     ensures comes { Comes (of_taps lanes.old) nothing pool.old places.old pool.new places.new }
@@ -70,7 +75,7 @@ fn bring_taps(pool: &mut Pool, places: &mut [Place], lanes: &mut [TapLane])
 /// What all lanes hold is given back, and they are idle. The taps have read their clones.
 pub(crate) fn bring_lanes(
     pool: &mut Pool,
-    places: &mut [Place],
+    places: &mut [Returned],
     out: &mut Outcomes,
     lanes: &mut Lanes,
 )
@@ -118,7 +123,7 @@ pub(crate) fn bring_queues_alone(pool: &mut Pool, lanes: &mut [QueueLane])
 /// Clones that were kept are given back.
 pub(crate) fn bring_kept(
     pool: &mut Pool,
-    places: &mut [Place],
+    places: &mut [Returned],
     out: &mut Outcomes,
     kept: Vec<TapClone>,
 )

@@ -87,7 +87,7 @@
 //! rest of one that was paused takes a list for its spares.
 //!
 //! ```
-//! let plan = Plan {
+//! let plan = LanePlan {
 //!     queues: 4,
 //!     taps: 1,
 //!     snap: 64,
@@ -146,8 +146,8 @@
 //! - **One function gives up a round** at whichever point (`Bench::bring`): what is left of it is a `Rest`, the packets
 //!   that are in no lane, what the lanes hold, the clones that were kept and the spares, and whether heads were shared.
 //!   So working needs no pool: for want of memory it gives back the rest, which whoever called brings home.
-//! - **What a round is told is one argument**, a `Plan`: queues and how flows go to them, taps, their window and their
-//!   filter, and how many packets a run may have. The model's options follow from it (`options_by`), so a further
+//! - **What a round is told is one argument**, a `LanePlan`: queues and how flows go to them, taps, their window and
+//!   their filter, and how many packets a run may have. The model's options follow from it (`options_by`), so a further
 //!   option is a field there and a body. It isn't copied: a hash key has tables of 4.6 KB, and a filter its program.
 //! - **A packet lies where it was read until it goes home**, in one list, and is merged, written and compared there, by
 //!   its index. Where there is one queue the list becomes its lane's; where there are several the list is turned in

@@ -3,30 +3,30 @@ ghost use Rattle.std.specs.Prelude.{◌≡◌, ◌*◌, ◌≤◌, length, IfOk,
 ghost use Rattle.block_pool.specs.PoolState.{home};
 ghost use Rattle.rounds.specs.Table.{AllOpen};
 
-use crate::table::Place;
+use crate::table::Returned;
 use block_pool::Pool;
 use std::alloc::{AllocError, Global};
 
 /// A table with an open place for each of `n` marks.
-pub(crate) fn open_places(alloc: Global, n: u32) -> Result<Vec<Place>, AllocError>
+pub(crate) fn open_places(alloc: Global, n: u32) -> Result<Vec<Returned>, AllocError>
     ensures open { IfOk result (λ places. AllOpen places.items) }
     ensures size { IfOk result (λ places. length places.items ≡ n) }
 {
     let mut places = Vec::with_capacity(alloc, n as usize)?;
     for _ in 0..n {
-        places.push_reserved(Place::Open);
+        places.push_reserved(Returned::Open);
     }
     Ok(places)
 }
 
 /// A table whose places are all open is given up.
-pub(crate) fn close_places(places: Vec<Place>)
+pub(crate) fn close_places(places: Vec<Returned>)
     requires open { AllOpen places.items }
 {
     let mut places = places;
     while let Some(place) = places.pop() {
         match place {
-            Place::Open => {}
+            Returned::Open => {}
             _ => unreachable!(),
         }
     }

@@ -4,11 +4,11 @@ ghost use Rattle.lanes.specs.Work.{IsPlan};
 
 use crate::bench::Bench;
 use crate::rounds::Rounds;
-use lanes::Plan;
+use lanes::LanePlan;
 
 impl Bench {
     /// How the work of each round is divided.
-    pub fn plan(&self) -> &Plan
+    pub fn plan(&self) -> &LanePlan
         ensures plan { result.now ≡ self.now.plan }
         ensures lawful { IsPlan self.now.plan }
     {
@@ -18,7 +18,7 @@ impl Bench {
 
 impl Rounds {
     /// How the work of each round is divided.
-    pub fn plan(&self) -> &Plan
+    pub fn plan(&self) -> &LanePlan
         ensures plan { result.now ≡ self.now.plan }
         ensures lawful { IsPlan self.now.plan }
     {

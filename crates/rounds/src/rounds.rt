@@ -27,7 +27,7 @@ use crate::bench::Bench;
 use crate::handler::RoundHandler;
 use crate::intake::Intake;
 use crate::round::{Round, RoundEnd, RoundRead, Worked};
-use lanes::{Plan, Works};
+use lanes::{LanePlan, Works};
 use off_io::{Sink, Source, WriteFault};
 use pcap_io::{CaptureReader, FileHead};
 use records::AllHome;
@@ -74,7 +74,7 @@ impl Rounds {
         alloc: Global,
         blocks: u32,
         budget: u32,
-        plan: Plan,
+        plan: LanePlan,
         keep: bool,
     ) -> Result<Rounds, AllocError>
         requires blocks { (1 ≤ blocks) × (blocks ≤ 65536) }

@@ -14,7 +14,7 @@ use frags::Outcomes;
 use raw_block::{Receipt, Sole};
 
 /// What came back of a block.
-pub(crate) enum Place {
+pub(crate) enum Returned {
     /// Nothing.
     Open,
     /// Its Sole, which went home.
@@ -25,46 +25,46 @@ pub(crate) enum Place {
 
 // A Sole goes home. Where its block is there already it is dropped: the account doesn't exclude this, and nothing lacks
 // it.
-fn bring(pool: &mut Pool, place: &mut Place, sole: Sole)
+fn bring(pool: &mut Pool, place: &mut Returned, sole: Sole)
     requires room { home pool.old + place_missing place.old ≤ pool.old.made }
-    ensures place { place.new ≡ Place.Home }
+    ensures place { place.new ≡ Returned.Home }
     ensures home { home pool.new ≡ home pool.old + place_missing place.old }
     ensures named { (h : ℕ → ℕ) → weighed h pool.new.blocks ≡ weighed h pool.old.blocks
         + place_weight (h sole.block) place.old }
     ensures made { (pool.new.made ≡ pool.old.made) × (pool.new.taken ≡ pool.old.taken) }
 {
-    match replace(place, Place::Home) {
-        Place::Open => pool.put(sole),
-        Place::Owed(receipt) => {
+    match replace(place, Returned::Home) {
+        Returned::Open => pool.put(sole),
+        Returned::Owed(receipt) => {
             receipt.close();
             pool.put(sole);
         }
-        Place::Home => {}
+        Returned::Home => {}
     }
 }
 
 // What stands at a place once a receipt came back.
-fn received(place: Place, receipt: Receipt) -> (Place, ())
+fn received(place: Returned, receipt: Receipt) -> (Returned, ())
     requires life { IsOfLife place receipt }
     ensures receives { Receives place receipt result.0 }
 {
     let _ = receipt.weight();
     let next = match place {
-        Place::Open => Place::Owed(receipt),
-        Place::Home => {
+        Returned::Open => Returned::Owed(receipt),
+        Returned::Home => {
             receipt.close();
-            Place::Home
+            Returned::Home
         }
-        Place::Owed(mut owed) => {
+        Returned::Owed(mut owed) => {
             owed.add(receipt);
-            Place::Owed(owed)
+            Returned::Owed(owed)
         }
     };
     (next, ())
 }
 
 // A receipt came back.
-fn receive(place: &mut Place, receipt: Receipt)
+fn receive(place: &mut Returned, receipt: Receipt)
     requires life { IsOfLife place.old receipt }
     ensures receives { Receives place.old receipt place.new }
 {
@@ -72,7 +72,7 @@ fn receive(place: &mut Place, receipt: Receipt)
 }
 
 // A Sole goes home, by its mark. One of a mark that the table doesn't have is dropped.
-fn bring_one(pool: &mut Pool, places: &mut [Place], sole: Sole)
+fn bring_one(pool: &mut Pool, places: &mut [Returned], sole: Sole)
     requires room { home pool.old + missing places.old ≤ pool.old.made }
     ensures settles { Settles (length places.old) (both (of_places places.old) (of_sole sole)) (of_places places.new) }
     ensures count { home pool.new + missing places.new ≡ home pool.old + missing places.old }
@@ -89,7 +89,7 @@ fn bring_one(pool: &mut Pool, places: &mut [Place], sole: Sole)
 }
 
 // A receipt came back, by its mark.
-fn receive_one(places: &mut [Place], receipt: Receipt)
+fn receive_one(places: &mut [Returned], receipt: Receipt)
     requires range { receipt.mark < length places.old }
     requires life { IsOfLife (place_at places.old receipt.mark) receipt }
     requires owed { AreOwed places.old }
@@ -105,7 +105,7 @@ fn receive_one(places: &mut [Place], receipt: Receipt)
 }
 
 // The Soles of what was given back go home.
-fn sweep_soles(pool: &mut Pool, places: &mut [Place], out: &mut Outcomes)
+fn sweep_soles(pool: &mut Pool, places: &mut [Returned], out: &mut Outcomes)
     requires room { home pool.old + missing places.old ≤ pool.old.made }
     ensures settles { Settles (length places.old) (both (of_places places.old) (of_outcomes out.old))
         (both (of_places places.new) (of_outcomes out.new)) }
@@ -125,7 +125,7 @@ fn sweep_soles(pool: &mut Pool, places: &mut [Place], out: &mut Outcomes)
 }
 
 // The receipts of what was given back stand at their places, or are closed.
-fn sweep_receipts(places: &mut [Place], out: &mut Outcomes)
+fn sweep_receipts(places: &mut [Returned], out: &mut Outcomes)
     requires marked { IsMarked (length places.old) (both (of_places places.old) (of_outcomes out.old)) }
     requires owed { AreOwed places.old }
     ensures settles { Settles (length places.old) (both (of_places places.old) (of_outcomes out.old))
@@ -145,7 +145,7 @@ fn sweep_receipts(places: &mut [Place], out: &mut Outcomes)
 }
 
 /// What was given back goes home, or stands at its places.
-pub(crate) fn sweep(pool: &mut Pool, places: &mut [Place], out: &mut Outcomes)
+pub(crate) fn sweep(pool: &mut Pool, places: &mut [Returned], out: &mut Outcomes)
     requires may { MayCome (of_outcomes out.old) pool.old places.old }
     ensures comes { Comes (of_outcomes out.old) nothing pool.old places.old pool.new places.new }
     ensures bare { IsBare out.new }
@@ -156,14 +156,14 @@ pub(crate) fn sweep(pool: &mut Pool, places: &mut [Place], out: &mut Outcomes)
 }
 
 /// The places of a table whose blocks are all home are open again.
-pub(crate) fn reopen(places: &mut [Place])
+pub(crate) fn reopen(places: &mut [Returned])
     requires home { AllHome places.old }
     ensures open { AllOpen places.new }
     ensures size { length places.new ≡ length places.old }
 {
     for i in 0..places.len() {
-        match replace(&mut places[i], Place::Open) {
-            Place::Home => {}
+        match replace(&mut places[i], Returned::Open) {
+            Returned::Home => {}
             _ => unreachable!(),
         }
     }

@@ -9,7 +9,7 @@ ghost use Rattle.pcap_io.specs.declared.heads.Link.TheVariants.{Ethernet};
 use anyhow::{Error, bail};
 use frame_layout::Choice;
 use inet_sum::{Partial, checksum};
-use lanes::{Alone, Plan};
+use lanes::{Alone, LanePlan};
 use off_io::{Feed, MemSource, NoGate};
 use pcap_io::{CaptureReader, Link};
 use rounds::{RoundEnd, RoundRead, Rounds};
@@ -189,7 +189,7 @@ fn time_pass(
 // How long the work on the row's packets took, and how many there were.
 fn time_row(rt: &HostRuntime, row: &Row, turns: u64) -> Result<(Duration, u64), Error> {
     let bytes = capture_of(rt.alloc(), row, PASS)?;
-    let plan = Plan {
+    let plan = LanePlan {
         queues: 1,
         taps: 0,
         snap: 64,

@@ -8,7 +8,7 @@ use crate::plans::{chosen, plain};
 use crossbeam_queue::ArrayQueue;
 use errands::{Asker, Bells, Errands, Job, Naming, Reply, Runner};
 use lanes::{
-    LANES, LaneCrew, LaneDesk, LaneDone, LaneJob, LaneTask, Plan, Works, open_desk, serve_lanes,
+    LANES, LaneCrew, LaneDesk, LaneDone, LaneJob, LanePlan, LaneTask, Works, open_desk, serve_lanes,
 };
 use off_io::{Gate, Meeting, NoGate, Who};
 use std::alloc::{AllocError, Global};
@@ -22,7 +22,7 @@ use std::thread::{Threads, join_mut};
 fn rounds_by<R: Abort, W: Works>(
     rt: &R,
     alloc: Global,
-    plan: &Plan,
+    plan: &LanePlan,
     works: &mut W,
     rounds: u32,
 ) -> usize
@@ -49,7 +49,7 @@ fn beside<
 >(
     rt: &'a R,
     alloc: Global,
-    plan: &'a Plan,
+    plan: &'a LanePlan,
     errands: &'a Errands<LaneTask>,
     replies: &'a ArrayQueue<Reply<LaneTask, LaneDone, J, N>>,
     job: &'a J,
@@ -82,7 +82,7 @@ fn beside<
 fn by_crew_named<N: Naming + Send + Sync, R: Threads + Wait + Abort + Sync, G: Gate + Sync>(
     rt: &R,
     alloc: Global,
-    plan: &Plan,
+    plan: &LanePlan,
     gate: &G,
     errands: &Errands<LaneTask>,
     asker: Asker<LaneTask>,
@@ -108,7 +108,7 @@ fn by_crew_named<N: Naming + Send + Sync, R: Threads + Wait + Abort + Sync, G: G
 fn by_crew<R: Threads + Wait + Abort + Sync, G: Gate + Sync>(
     rt: &R,
     alloc: Global,
-    plan: &Plan,
+    plan: &LanePlan,
     gate: &G,
     beside_it: u32,
     rounds: u32,

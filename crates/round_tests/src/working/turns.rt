@@ -6,7 +6,7 @@ ghost use Rattle.lanes.specs.Work.{IsPlan};
 use super::frames::IN_TURN;
 use super::packets::{all_home, in_turn, kept_home, rest_home, unshared};
 use crate::plans::{chosen, plain};
-use lanes::{Alone, Lanes, Plan, QueueLane, TapLane, Works, keep_packets, work_packets};
+use lanes::{Alone, LanePlan, Lanes, QueueLane, TapLane, Works, keep_packets, work_packets};
 use off_io::{Gate, NoGate, Who};
 use std::alloc::Global;
 use std::process::Abort;
@@ -20,7 +20,7 @@ type Said = (u32, u32, u32);
 pub(crate) fn lanes_of<W: Works>(
     rt: &impl Abort,
     alloc: Global,
-    plan: &Plan,
+    plan: &LanePlan,
     works: &mut W,
 ) -> Lanes
     requires plan { IsPlan plan.now }
@@ -41,7 +41,7 @@ pub(crate) fn lanes_of<W: Works>(
 }
 
 // The same by the thread that calls.
-fn alone(rt: &impl Abort, alloc: Global, plan: &Plan) -> Lanes
+fn alone(rt: &impl Abort, alloc: Global, plan: &LanePlan) -> Lanes
     requires plan { IsPlan plan.now }
     ensures merged { All IsMerged result.queues.items }
 {

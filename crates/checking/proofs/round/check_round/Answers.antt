@@ -1,6 +1,6 @@
 use Rattle.std.proofs.Common.{◌≡◌, sym, subst}
 use Rattle.std.specs.Prelude.{IfOk}
-use Rattle.lanes.specs.declared.plan.Plan.{Plan}
+use Rattle.lanes.specs.declared.plan.LanePlan.{LanePlan}
 use Rattle.lanes.specs.Work.{IsPlan, options_by}
 use Rattle.rounds.specs.Lanes.{IsKeptWorkOf}
 use Rattle.checking.specs.Counts.{Counts, round_totals}
@@ -13,13 +13,13 @@ pub check_worked-requires-clause-worked : goal.check_worked-requires-clause-work
 check_worked-requires-clause-worked c =
     let budget = c.args.rounds.now.budget in
     let r = c.requires.worked in
-    (budget, (r.0, (subst (λ (p : Plan). IsKeptWorkOf (options_by p budget) r.0 c.args.worked.now) (sym c.plan.ensures.plan) r.1.0, r.1.1, r.1.2)))
+    (budget, (r.0, (subst (λ (p : LanePlan). IsKeptWorkOf (options_by p budget) r.0 c.args.worked.now) (sym c.plan.ensures.plan) r.1.0, r.1.1, r.1.2)))
 
 pub returns : goal.returns
 returns c =
     let budget = c.args.rounds.now.budget in
     record {
       totals = λ ps kept.
-          subst (λ (p : Plan). IfOk c.check_worked.result (λ (t : Counts). t ≡ round_totals (options_by p budget) ps)) c.plan.ensures.plan
-          (c.check_worked.ensures.totals budget ps (subst (λ (p : Plan). IsKeptWorkOf (options_by p budget) ps c.args.worked.now) (sym c.plan.ensures.plan) kept));
+          subst (λ (p : LanePlan). IfOk c.check_worked.result (λ (t : Counts). t ≡ round_totals (options_by p budget) ps)) c.plan.ensures.plan
+          (c.check_worked.ensures.totals budget ps (subst (λ (p : LanePlan). IsKeptWorkOf (options_by p budget) ps c.args.worked.now) (sym c.plan.ensures.plan) kept));
     }

@@ -4,7 +4,7 @@ use Rattle.block_pool.specs.Giving.{GiverState}
 use Rattle.std.specs.List.{AllByRecursion}
 use Rattle.errands.specs.Answers.{EachDid}
 use Rattle.lanes.specs.declared.lane.Lanes.{Lanes}
-use Rattle.lanes.specs.declared.plan.Plan.{Plan}
+use Rattle.lanes.specs.declared.plan.LanePlan.{LanePlan}
 use Rattle.lanes.specs.declared.tasks.LaneTask.{LaneTask}
 use Rattle.lanes.specs.Givers.{returned, Divided}
 use Rattle.lanes.specs.Tasks.{DidLane, Away, HasPlace}
@@ -14,7 +14,7 @@ use Rattle.lanes.proofs.away.bring_back.Given as goal
 abbrev pub invariant-loop-answer : goal.invariant-loop-answer
 invariant-loop-answer g l = record {
   places : AllByRecursion (HasPlace l.lanes) l.done.items;
-  back : (plan : Plan) (old : Lanes) (ts : List LaneTask) → EachDid DidLane ts l.fn.done.items → Away plan old l.fn.lanes ts → Answered plan old l.lanes l.done.items;
+  back : (plan : LanePlan) (old : Lanes) (ts : List LaneTask) → EachDid DidLane ts l.fn.done.items → Away plan old l.fn.lanes ts → Answered plan old l.lanes l.done.items;
   taken : (old : Option GiverState) → Divided false old l.fn.giver (returned l.fn.done.items) → Divided false old l.giver (returned l.done.items);
 }
 

@@ -3,7 +3,7 @@ use Rattle.std.specs.Prelude.{Option, false}
 use Rattle.block_pool.specs.Giving.{GiverState}
 use Rattle.std.specs.List.{AllByRecursion}
 use Rattle.lanes.specs.declared.lane.Lanes.{Lanes}
-use Rattle.lanes.specs.declared.plan.Plan.{Plan}
+use Rattle.lanes.specs.declared.plan.LanePlan.{LanePlan}
 use Rattle.lanes.specs.Givers.{carried, Divided}
 use Rattle.lanes.specs.Tasks.{Away, IsPlaced}
 use Rattle.lanes.proofs.away.work_here.Given as goal
@@ -11,7 +11,7 @@ use Rattle.lanes.proofs.away.work_here.Given as goal
 abbrev pub invariant-loop-task : goal.invariant-loop-task
 invariant-loop-task g l = record {
   places : AllByRecursion (IsPlaced l.lanes) l.tasks.items;
-  back : (plan : Plan) (old : Lanes) → Away plan old l.fn.lanes l.fn.tasks.items → Away plan old l.lanes l.tasks.items;
+  back : (plan : LanePlan) (old : Lanes) → Away plan old l.fn.lanes l.fn.tasks.items → Away plan old l.lanes l.tasks.items;
   taken : (old : Option GiverState) → Divided false old l.fn.giver (carried l.fn.tasks.items) → Divided false old l.giver (carried l.tasks.items);
 }
 

@@ -1,4 +1,4 @@
-//! The sum by lanes: sixteen bytes at a time, as two little-endian numbers of 64 bits.
+//! The sum by pairs: sixteen bytes at a time, as two little-endian numbers of 64 bits.
 //!
 //! Which byte of a word is the high one doesn't matter while words are added, only at the end (RFC 1071, section 2).
 
@@ -13,7 +13,7 @@ pub(crate) const STEP: usize = 16;
 
 /// A number that has the fold of the bytes.
 #[inline(always)]
-pub(crate) fn lanes_sum(bytes: &[u8]) -> u64
+pub(crate) fn pairs_sum(bytes: &[u8]) -> u64
     requires few { length bytes.now < 2 ^ 32 }
     requires whole { length bytes.now % 16 ≡ 0 }
     ensures fold { folded result ≡ fold_of_bytes bytes.now }
@@ -27,7 +27,7 @@ pub(crate) fn lanes_sum(bytes: &[u8]) -> u64
         totals = totals + pair;
         highs = highs + (pair >> half);
     }
-    // The totals wrap. Less the high halves they are what the low halves add to, which fits a lane, so no carry is
+    // The totals wrap. Less the high halves they are what the low halves add to, which fits 64 bits, so no carry is
     // lost.
     let lows = totals - (highs << half);
     turned((lows + highs).reduce_sum())
@@ -37,7 +37,7 @@ pub(crate) fn lanes_sum(bytes: &[u8]) -> u64
 #[inline(always)]
 fn pair_at(bytes: &[u8], at: usize) -> u64x2
     requires inside { at + 16 ≤ length bytes.now }
-    ensures lanes { result ≡ digits_l (2 ^ 64) 2 (number_l 256 (chunk at 16 bytes.now)) }
+    ensures pair { result ≡ digits_l (2 ^ 64) 2 (number_l 256 (chunk at 16 bytes.now)) }
 {
     u64x2::from_le_bytes(u8x16::from_slice(&bytes[at..]))
 }

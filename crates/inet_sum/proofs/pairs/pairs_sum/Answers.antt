@@ -1,7 +1,7 @@
 use Rattle.std.proofs.Common.{◌+◌, ◌*◌, ◌^◌, ◌<◌, ◌≤◌, length, take_all, ap, ◌∙◌, arith}
 use Rattle.inet_sum.specs.Sum.{fold_of as fold_of_bytes}
 use Rattle.inet_sum.proofs.Held.{more, closed, number_small}
-use Rattle.inet_sum.proofs.lanes.lanes_sum.Goals as goal
+use Rattle.inet_sum.proofs.pairs.pairs_sum.Goals as goal
 
 pub loop-i-preserved : goal.loop-i-preserved
 loop-i-preserved c =
@@ -9,7 +9,7 @@ loop-i-preserved c =
     let i = c.loop-i.i in
     let inside : 16 * i + 16 ≤ length xs = omega (arith, c.loop-i-test.true, c.requires.whole) in
     more xs i c.loop-i.totals c.loop-i.highs c.pair_at-pair.result inside c.requires.few (number_small xs (16 * i) inside c.type_inv.bytes)
-    c.pair_at-pair.ensures.lanes c.loop-i.invariant
+    c.pair_at-pair.ensures.pair c.loop-i.invariant
 
 pub returns-clause-fold : goal.returns-clause-fold
 returns-clause-fold c =
