@@ -5,8 +5,8 @@
 #   product  the file that is built
 #   teller   who speaks on the standard error
 #   refused  the status where it can't be built
-# and that has two functions: `make_product JOBS` has rt prove and build the crate and all below it, each by so many jobs, and writes nothing
-# but what rt says; `is_made` tells whether that made the product.
+# and that has two functions: `make_product JOBS` has rt prove and build the crate and all below it, each by so many
+# jobs, and writes nothing but what rt says; `is_made` tells whether that made the product.
 # shellcheck shell=bash disable=SC2154
 
 built=$product.built # the names and checksums of the sources, and of the product that was built from them
@@ -58,7 +58,8 @@ is_built() {
   [ -s "$product" ] && { [ -x "$product" ] || [ "${product##*.}" = a ]; } && [ -f "$built" ] && [ "$(state)" = "$(<"$built")" ]
 }
 
-# As many jobs as processors are free, and as memory allows at 3 GB each: rt's own choice asks for several times that, and gives a large crate one.
+# As many jobs as processors are free, and as memory allows at 3 GB each: rt's own choice asks for several times that,
+# and gives a large crate one.
 free_jobs() {
   local free busy memory
   free=$(nproc)
@@ -93,8 +94,8 @@ announce() {
   say "from nothing that takes some $((bytes * 15 / 1000000 + 1)) minutes of processor time, by $(free_jobs) jobs here; what this machine proved before is taken over"
 }
 
-# Keeps what is read in the log, and says how far the proving is: rt takes the crates in the order of `lines_below`, and a crate that it proved ends
-# with a line of its modules.
+# Keeps what is read in the log, and says how far the proving is: rt takes the crates in the order of `lines_below`, and
+# a crate that it proved ends with a line of its modules.
 tell() {
   local began=$SECONDS names of line name at
   names=$(lines_below | sed 's/[: ].*//')
@@ -113,8 +114,8 @@ tell() {
   done
 }
 
-# Proves what changed, and builds the product: one crate after another, each by all jobs. Most of the work is a chain, whose crates stand on one
-# another, so that crates side by side would leave all processors but one idle for most of the time.
+# Proves what changed, and builds the product: one crate after another, each by all jobs. Side by side each crate has one
+# job, and the upper ones, half of the work, are a chain, in which all processors but one would idle.
 prove_and_build() (
   [ -d "${TMPDIR:-/tmp}" ] || unset TMPDIR
   exec 3>>"$log" || exit 1
