@@ -57,7 +57,7 @@
 //! Proved, by the names of the clauses of `work_packets`, whoever works the lanes and whatever the order in which they
 //! run:
 //!
-//! - `lane`: queue by queue, what its runs come to is what the maximal runs of its flows come to, in the order of
+//! - `lanes`: queue by queue, what its runs come to is what the maximal runs of its flows come to, in the order of
 //!   their first packets; `windows`: tap by tap, the texts are its windows of the packets as they arrived.
 //! - `records`: the records that are written of these, queue by queue and then tap by tap, are those of the round in
 //!   what merging writes.

@@ -7,8 +7,8 @@
 //!
 //! Proved: `write_all` appends all bytes, or a prefix of them at a fault (clauses `ok`, `err`, `cause`); `read_full`
 //! fills its buffer but at the end of the source (`bytes`, `cause`); the sources and sinks in memory fail at exactly
-//! the calls that they were told (`fails`). Trusted: that std's readers and writers behind [`StdSource`],
-//! [`BufferedSource`] and [`StdSink`] do as they say.
+//! the calls that they were told, but for a write whose memory is refused (`fails`, `memory`). Trusted: that std's
+//! readers and writers behind [`StdSource`], [`BufferedSource`] and [`StdSink`] do as they say.
 //!
 //! ```
 //! let mut source = StdSource::new(bytes); // or standard input

@@ -9,13 +9,13 @@
 //! Proved over all interleavings of threads, with no lock: a part reads the bytes that its life began with
 //! (`Part::bytes`), and only a Sole lends them for writing (`Sole::bytes_mut`, `range_mut`). Receipts of one life weigh
 //! less than `FULL` together (`Receipt::add`), so some release was the last, and the proof of `release` has no second
-//! one (`IsReleased`). A failed claim tells what the word was, above the part's weight (`IsClaimed`), so a part of
-//! weight `FULL` is never refused (`whole`), nor is a reunion. Holders of one life agree on its bytes and its mark
-//! (`agree` of `join`, `add`, `reunite`). The rule of weights is that of `ref_core`, and `specs/Shares.antt` says who
-//! owns what.
+//! one (`IsReleased`). A failed claim tells a weight above the part's own (`IsClaimed`), so a part of weight `FULL`
+//! is never refused (`whole`), nor is a reunion; that the word held it is what the sight owns. Holders of one life
+//! agree on its bytes and its mark (`agree` of `join`, `add`, `reunite`). The rule of weights is that of `ref_core`,
+//! and `specs/Shares.antt` says who owns what.
 //!
 //! A block has a name, which contracts alone see: a number that is chosen as the block is made. Its Soles, parts,
-//! receipts and sights show it through all lives, and no two live blocks have the same (`Sole::differ`).
+//! receipts and sights show it through all lives, and two Soles side by side have two (`Sole::differ`).
 //!
 //! Not said: how many steps on the word a call takes. `Share::release`, `claim` and `reunite` are one each, in one
 //! line.

@@ -6,9 +6,9 @@
 //! memory can be. `specs/SetMachine.antt` and `specs/WeightMachine.antt` say what one step of each answers, and `step`
 //! and `run_events` of both machines are proved to answer just that.
 //!
-//! `machines_agree` is the law: over every list of events, and so over every interleaving of holders, the weights
-//! answer as the pairs do. `weights_balance` is the rule by which a word and what was given back add up to the full
-//! weight.
+//! `machines_agree` is the law: over every list of events at which the weights answer no `BadGive`, and so over every
+//! interleaving of such holders, the weights answer as the pairs do. `weights_balance` is the rule by which a word and
+//! what was given back add up to the full weight.
 //!
 //! ```
 //! let mut machine = WeightMachine::make(alloc, 1)?;
