@@ -65,9 +65,9 @@ impl<N: Stocked> Supply for Shelf<N> {
     }
 }
 
-// Whoever has the blocks that are out keeps them, however many these are.
+/// Whoever has the blocks that are out keeps them, however many these are.
 #[derive(Drop)]
-struct NoneComes;
+pub(crate) struct NoneComes;
 
 impl Supply for NoneComes {
     ghost use Rattle.std.specs.Prelude.{false, true};
@@ -95,8 +95,8 @@ impl Supply for NoneComes {
     }
 }
 
-// A round that is full.
-fn full(read: RoundRead) -> Result<Round, Fail>
+/// A round that is full.
+pub(crate) fn full(read: RoundRead) -> Result<Round, Fail>
     ensures full { IfOk result (λ round. (read.end ≡ RoundEnd.Full) × (round ≡ read.round)) }
 {
     let RoundRead { round, end } = read;
@@ -109,11 +109,12 @@ fn full(read: RoundRead) -> Result<Round, Fail>
     }
 }
 
-// A shelf with places for three blocks.
-fn empty_shelf(alloc: Global) -> Result<Pool, AllocError>
-    ensures empty { IfOk result (λ pool. (home pool ≡ 0) × (pool.made ≡ 3)) }
+/// A shelf with places for so many blocks.
+pub(crate) fn empty_shelf(alloc: Global, blocks: u32) -> Result<Pool, AllocError>
+    requires few { blocks ≤ 65536 }
+    ensures empty { IfOk result (λ pool. (home pool ≡ 0) × (pool.made ≡ blocks)) }
 {
-    Pool::empty(alloc, 3)
+    Pool::empty(alloc, blocks)
 }
 
 // A round is read while the blocks of a shelf come home.
@@ -204,9 +205,9 @@ fn in_turn(alloc: Global) -> Result<([Step; 3], Vec<u8>, [u32; 4]), Fail> {
         mut bench,
     } = Rounds::make(alloc, 3, 1, plain(1, 0, 64), false)?;
     let (mut one, mut two, mut three) = (
-        empty_shelf(alloc)?,
-        empty_shelf(alloc)?,
-        empty_shelf(alloc)?,
+        empty_shelf(alloc, 3)?,
+        empty_shelf(alloc, 3)?,
+        empty_shelf(alloc, 3)?,
     );
     let round = full(intake.read_round(&mut reader, &mut AllHome))?;
     let end = RoundEnd::Full;
@@ -286,7 +287,7 @@ fn lacking(alloc: Global) -> Result<(RoundEnd, u32, u32), Fail> {
         mut intake,
         mut bench,
     } = Rounds::make(alloc, 3, 1, plain(1, 0, 64), false)?;
-    let mut back = empty_shelf(alloc)?;
+    let mut back = empty_shelf(alloc, 3)?;
     let first = full(intake.read_round(&mut reader, &mut AllHome))?;
     let RoundRead { round, end } = intake.read_round(&mut reader, &mut NoneComes);
     round.discard();
