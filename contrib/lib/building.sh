@@ -58,12 +58,14 @@ is_built() {
   [ -s "$product" ] && { [ -x "$product" ] || [ "${product##*.}" = a ]; } && [ -f "$built" ] && [ "$(state)" = "$(<"$built")" ]
 }
 
-# As many jobs as processors are free, and as memory allows at 3 GB each: rt's own choice asks for several times that,
-# and gives a large crate one.
+# As many jobs as processors are free, half of them at least since a load passes, and as memory allows at 3 GB each: rt's own choice asks for
+# several times that, and gives a large crate one.
 free_jobs() {
-  local free busy memory
-  free=$(nproc)
-  read -r busy _ 2>/dev/null </proc/loadavg && free=$((free - ${busy%.*}))
+  local all free busy memory
+  all=$(nproc)
+  free=$all
+  read -r busy _ 2>/dev/null </proc/loadavg && free=$((all - ${busy%.*}))
+  [ "$free" -lt $(((all + 1) / 2)) ] && free=$(((all + 1) / 2))
   memory=$(awk '/^MemAvailable:/ { print int($2 / 3000000) }' /proc/meminfo 2>/dev/null)
   [ -n "$memory" ] && [ "$memory" -lt "$free" ] && free=$memory
   echo $((free > 1 ? free : 1))
