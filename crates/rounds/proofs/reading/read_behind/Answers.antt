@@ -1,12 +1,15 @@
-use Rattle.std.proofs.Common.{◌≡◌, ◌-◌, ℕ, List, [], ◌∷◌, Ok, Err, ap, sym, subst, ◌∙◌, arith, map}
+use Rattle.std.proofs.Common.{◌-◌, ℕ, List, [], ◌∷◌, Ok, Err, ap, sym, subst, ◌∙◌, arith, map}
+use Rattle.std.proofs.Common.{length, length-append}
+use Rattle.std.specs.List.{AllByRecursion}
 use Rattle.block_pool.specs.PoolState.{home}
 use Rattle.off_io.specs.Told.{Told}
+use Rattle.offload_model.specs.Captured.{IsCaptured}
 use Rattle.offload_model.specs.Need.{round_need}
 use Rattle.gro.specs.declared.slot.Slot.{Slot as Packet}
 use Rattle.gro.specs.Packets.{PacketsState}
 use Rattle.gro.specs.Slots.{packet_of, counts_of, weighed_slots}
 use Rattle.gro.proofs.Weights.{weighed_last}
-use Rattle.records.specs.Laid.{LaidFrom}
+use Rattle.records.specs.Laid.{AreRead, LaidFrom}
 use Rattle.records.specs.Reading.{GivesKept}
 use Rattle.records.proofs.Laying.{laid_at}
 use Rattle.rounds.specs.Ahead.{GivesBehind}
@@ -15,7 +18,7 @@ use Rattle.rounds.specs.declared.reading.Halt.{Halt}
 use Rattle.rounds.specs.declared.reading.Halt.TheVariants.{Ended}
 use Rattle.rounds.specs.declared.round.RoundEnd.{RoundEnd}
 use Rattle.rounds.proofs.Coming.{counts_last}
-use Rattle.rounds.proofs.Rounding.{no_front, need_last}
+use Rattle.rounds.proofs.Rounding.{captured_last, need_last, no_front, read_last}
 use Rattle.rounds.proofs.Pausing.{behind_stop, behind_more, fills_behind, numbers_behind}
 use Rattle.rounds.proofs.reading.read_behind.Goals as goal
 
@@ -99,3 +102,36 @@ returns-clause-named g c = λ h.
     let p = r.one.0 in
     let e = r.one.1 in
     omega (arith, c.read_more-blocks.ensures.named h, r.named p e h, ap (weighed_slots h) e, weighed_last h c.args.packets.now.items p)
+
+pub read_more-blocks-requires-clause-size : goal.read_more-blocks-requires-clause-size
+read_more-blocks-requires-clause-size g c =
+    let r = c.in-Ok.ensures in
+    let more = length-append c.args.packets.now.items (r.one.0 ∷ []) in
+    omega (arith, ap length r.one.1, more, c.requires.size)
+
+pub read_more-blocks-requires-clause-reserved : goal.read_more-blocks-requires-clause-reserved
+read_more-blocks-requires-clause-reserved g c =
+    let r = c.in-Ok.ensures in
+    let more = length-append c.args.packets.now.items (r.one.0 ∷ []) in
+    omega (arith, ap length r.one.1, more, c.requires.reserved, r.room)
+
+pub read_more-blocks-requires-clause-pairs : goal.read_more-blocks-requires-clause-pairs
+read_more-blocks-requires-clause-pairs g c =
+    let r = c.in-Ok.ensures in
+    let more = length-append c.args.packets.now.items (r.one.0 ∷ []) in
+    omega (arith, ap length r.one.1, more, c.requires.pairs, r.spares)
+
+pub read_more-blocks-requires-clause-read : goal.read_more-blocks-requires-clause-read
+read_more-blocks-requires-clause-read g c =
+    let r = c.in-Ok.ensures in
+    let p = r.one.0 in
+    let e = r.one.1 in
+    subst AreRead (sym e) (read_last c.args.packets.now.items p c.requires.read (r.read p e))
+
+pub read_more-blocks-requires-clause-captured : goal.read_more-blocks-requires-clause-captured
+read_more-blocks-requires-clause-captured g c =
+    let r = c.in-Ok.ensures in
+    let p = r.one.0 in
+    let e = r.one.1 in
+    subst (λ (xs : List Packet). AllByRecursion IsCaptured (map packet_of xs)) (sym e)
+    (captured_last c.args.packets.now.items p c.requires.captured (r.captured p e c.requires.link))

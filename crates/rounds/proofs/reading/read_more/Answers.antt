@@ -149,3 +149,9 @@ reading-preserved g c =
       same = r.same_source ∙ i.same;
       later = omega (arith, r.later, i.later);
     }
+
+pub reading-smaller : goal.reading-smaller
+reading-smaller g c =
+    let one = c.in-Ok.ensures.one in
+    let more = length-append c.reading.packets.items (one.0 ∷ []) in
+    omega (arith, ap length one.1, more, c.reading-test.true, c.len.ensures)

@@ -1,8 +1,13 @@
 use Rattle.std.proofs.Common.{ℕ, ap, arith, length, rules, subst, sym}
+use Rattle.std.proofs.Common.{◌≡◌, ◌∙◌, ◌+◌, ◌-◌, ◌≤◌, ◌⊎◌, inl, inr}
+use Rattle.block_pool.specs.PoolState.{home}
 use Rattle.lanes.proofs.Listing.{refilled}
+use Rattle.raw_block.specs.Views.{SoleState}
 use Rattle.rounds.specs.Out.{IsOut}
 use Rattle.rounds.specs.Table.{AllOpen}
 use Rattle.rounds.specs.RoundsState.{BenchState, RestState}
+use Rattle.rounds.specs.Weights.{weights_left}
+use Rattle.rounds.proofs.Listing.{weighed_none}
 use Rattle.rounds.proofs.bench.Bench.bring.Goals as goal
 
 pub bring_out-requires-clause-out : goal.bring_out-requires-clause-out
@@ -29,3 +34,51 @@ invariant_of-self c =
       grind arith,
       v.7,
     )
+
+-- all that was spare has a place, so none is left
+none_left : (old n spare mid new left made : ℕ) → spare ≤ n → mid ≡ old + (n - spare)
+    → new + left ≡ mid + spare → (left ≡ 0) ⊎ (new ≡ made) → old + n ≤ made → left ≡ 0
+none_left old n spare mid new left made few home sum (inl none) room = none
+none_left old n spare mid new left made few home sum (inr full) room = omega arith
+
+pub returns : goal.returns
+returns c =
+    let s = c.self.inside in
+    let r = c.rest.inside in
+    let b = c.bring_out in
+    let f = c.refill in
+    let n = c.args.rest.blocks in
+    let old = c.args.home.now in
+    let mid = b.new.pool in
+    let blocks : r.blocks ≡ n = ap (λ (r : RestState). r.blocks) c.rest.view_is in
+    let few : home r.spares ≤ n = omega (arith, c.rest.invariant.0, blocks) in
+    let out : home mid ≡ home old + (n - home r.spares) =
+    omega (arith, b.ensures.home, c.home.ensures.home, blocks) in
+    let room : home old + n ≤ mid.made = omega (arith, c.requires.may.out, b.ensures.made.0) in
+    let none =
+    none_left (home old) n (home r.spares) (home mid) (home f.new.self) (home f.new.from) mid.made few out
+    f.ensures.sum f.ensures.all room in
+    let lent = ap length c.deref_mut.ensures.value in
+    let size : length b.new.table ≡ length s.places.items = omega (arith, b.ensures.size, lent) in
+    let kept = refilled s.places.len b.new.table s.places.items size (omega (arith, s.places.ok)) in
+    let spare = b.new.out.spare in
+    let bench : ℕ → BenchState = λ k.
+    record { room = spare; blocks = k; budget = s.budget; plan = s.plan; keep = s.keep } in
+    let same_size = ap length kept ∙ size in
+    let had = ap (λ (b : BenchState). b.room) c.self.view_is in
+    record {
+      brings = record {
+        count = omega (arith, f.ensures.sum, none, out, few);
+        named = λ h. omega (
+          arith,
+          f.ensures.blocks (λ (x : SoleState). h x.block),
+          weighed_none h f.new.from.blocks none,
+          b.ensures.named h,
+          ap (λ (r : RestState). weights_left r h) c.rest.view_is,
+        );
+        made = f.ensures.same.0 ∙ b.ensures.made.0;
+        taken = f.ensures.same.1 ∙ b.ensures.made.1;
+        room = omega (arith, b.ensures.spare, c.home.ensures.home, blocks, had);
+        same = ap bench same_size ∙ ap (λ (b : BenchState). record b { room = spare }) c.self.view_is;
+      };
+    }
