@@ -17,12 +17,12 @@
 //!
 //! Why so:
 //!
-//! - **Lists of 128 bytes and more are summed by pairs of numbers**, sixteen bytes a step, and shorter ones by the plain
-//!   loop alone, which is done before pairs are set up and added together. Both totals of 64 bits wrap; beside them the
-//!   high halves are added, which tells the low halves from the total, so no carry is lost. Adding both halves apart
-//!   takes a third longer, words swapped into big-endian numbers nearly twice as long, and numbers of 128 bits in the
-//!   place of pairs a seventh longer, each at 1,460 bytes. The loop over pairs isn't inlined: where the compiler knows
-//!   the length it unrolls it less.
+//! - **Lists of 128 bytes and more are summed by pairs of numbers**, sixteen bytes a step, and shorter ones by the
+//!   plain loop alone, which is done before pairs are set up and added together. Both totals of 64 bits wrap; beside
+//!   them the high halves are added, which tells the low halves from the total, so no carry is lost. Adding both halves
+//!   apart takes a third longer, words swapped into big-endian numbers nearly twice as long, and numbers of 128 bits in
+//!   the place of pairs a seventh longer, each at 1,460 bytes. The loop over pairs isn't inlined: where the compiler
+//!   knows the length it unrolls it less.
 //! - **The plain loop adds little-endian numbers of 64 bits**, each with the carry of the sum before at its low end:
 //!   two instructions for eight bytes. 65535 divides 2^64 - 1, so a carry leaves what it left, and the bytes' order is
 //!   turned once, at the end. Each is read at once (`byteorder`): put together from bytes it is taken apart again where

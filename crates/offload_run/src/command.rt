@@ -117,8 +117,8 @@ fn run_words<R: Threads + Wait + Sync, S: Source + Send, K: Sink, G: Gate + Sync
 /// rose in this call. At `Malformed`, `PoolEmpty` and `ReadFault` the output of all whole records (of all rounds)
 /// before is in the sink, so a sink that fails before that is answered first, by `WriteFault`.
 ///
-/// The sink is flushed after the last write, and stays as it was where there is no lawful file header. On each
-/// status but `Ok` the log gets one line, or a prefix of it where the log fails (`log`, `log_prefix`), which is ignored.
+/// The sink is flushed after the last write, and stays as it was where there is no lawful file header. On each status
+/// but `Ok` the log gets one line, or a prefix of it where the log fails (`log`, `log_prefix`), which is ignored.
 ///
 /// At `Ok` of a command that reads, `engine` holds the blocks that this call made, all of them home, and its count of
 /// blocks taken is at least what the records need (clause `engine`). On another status it may hold none; what it holds
