@@ -95,8 +95,12 @@ fn two_turns<R: Threads + Wait + Sync, W: Works, S: Source + Send>(
 
 fn give_up(next: ReadAhead) {
     match next {
-        ReadAhead::Read(RoundRead { round, end: _ }) => round.discard(),
-        ReadAhead::Paused(paused) => paused.discard(),
+        ReadAhead::Read(RoundRead { round, end: _ }) => {
+            round.discard();
+        }
+        ReadAhead::Paused(paused) => {
+            paused.discard();
+        }
     }
 }
 

@@ -1,9 +1,9 @@
 -- What a contract sees of who gives blocks back that nobody wants any more, and what it may have given.
-use Rattle.std.specs.Prelude.{ℕ, ◌≡◌, ◌⊎◌, ◌+◌, ◌≤◌, Option, None, Some}
+use Rattle.std.specs.Prelude.{ℕ, ◌≡◌, ◌⊎◌, ◌+◌, ◌-◌, ◌^◌, ◌≤◌, min, Option, None, Some}
 use Rattle.std.specs.List.{sum_by}
 use Rattle.raw_block.specs.Views.{SoleState}
 use Rattle.block_pool.specs.Listed.{listed, blocks_in}
-use Rattle.block_pool.specs.PassState.{SharedState, PassState, IsSame, IsNew, LostPart, Put, FoundFull, Gathered}
+use Rattle.block_pool.specs.PassState.{risen, SharedState, PassState, IsSame, IsNew, LostPart, Put, FoundFull, Gathered}
 use Rattle.block_pool.specs.PoolState.{PoolState, home}
 
 -- the pool, the pass with which lists go there, and the list
@@ -24,12 +24,17 @@ given_in g = blocks_in g.pass.put
 abbrev pub lying : (SoleState → ℕ) → GiverState → ℕ
 lying h g = given h g + sum_by h g.list.blocks
 
--- it gave some of its list back, or nothing; nothing is lost
+-- it gave some of its list back, or nothing; nothing is lost, and no put that found no place is forgotten
 pub record Gave (old new : GiverState) : Type 0 where
   pub pool : new.pool ≡ old.pool
   pub pass : IsSame old.pass new.pass
   pub blocks : (h : SoleState → ℕ) → lying h new ≡ lying h old
   pub least : (h : SoleState → ℕ) → given h old ≤ given h new
+  pub fulls : min old.pass.fulls (2 ^ 64 - 1) ≤ new.pass.fulls
+
+-- nothing is left in its list, or a put found no place: the count of these rose, or stands at its last value
+abbrev pub GaveAll : GiverState → GiverState → Type 0
+GaveAll old new = (home new.list ≡ 0) ⊎ (risen old.pass.fulls ≤ new.pass.fulls)
 
 -- one step of the pool: the whole list went there; or it stays, since it has no block, or since all places were taken
 abbrev pub PutOnce : GiverState → GiverState → Type 0
@@ -59,6 +64,10 @@ pub record Joined (g other new : GiverState) : Type 0 where
 abbrev pub MayGive : Option GiverState → Option GiverState → Type 0
 MayGive None new = new ≡ None
 MayGive (Some g) new = (g' : GiverState) × (new ≡ Some g') × Gave g g'
+
+abbrev pub LeavesNone : Option GiverState → Option GiverState → Type 0
+LeavesNone None new = new ≡ None
+LeavesNone (Some g) new = (g' : GiverState) × (new ≡ Some g') × GaveAll g g'
 
 abbrev pub given_by : Option GiverState → ℕ
 given_by None = 0

@@ -6,7 +6,7 @@
 //! [`Bell`], which is rung behind a list where it waits for one.
 ghost use Rattle.std.specs.Prelude.{◌≡◌, ◌+◌, ◌≤◌, [], IfOk, OnErr};
 ghost use Rattle.std.specs.Arc.{arc_value};
-ghost use Rattle.block_pool.specs.Giving.{Gave, Joined, PutOnce, Split};
+ghost use Rattle.block_pool.specs.Giving.{Gave, GaveAll, Joined, PutOnce, Split};
 ghost use Rattle.block_pool.specs.PassState.{IsOwn};
 ghost use Rattle.block_pool.specs.PoolState.{home};
 
@@ -125,6 +125,7 @@ impl Giver {
     pub fn give<R: Wait>(&mut self, rt: &R)
         ensures gave { Gave self.old self.new }
         ensures once { PutOnce self.old self.new }
+        ensures none_left { GaveAll self.old self.new }
     {
         if self.list.home() == 0 {
             return;

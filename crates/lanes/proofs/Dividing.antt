@@ -1,5 +1,5 @@
 -- A giver is divided among tasks, and comes together again.
-use Rattle.std.proofs.Common.{◌≡◌, ℕ, ◌≤◌, List, [], ◌∷◌, ◌++◌, length, append_assoc, append-nil, refl, sym, ap, ◌∙◌, subst, arith}
+use Rattle.std.proofs.Common.{◌≡◌, ℕ, ◌≤◌, ◌-◌, ◌^◌, min, List, [], ◌∷◌, ◌++◌, length, append_assoc, append-nil, refl, sym, ap, ◌∙◌, subst, arith}
 use Rattle.std.proofs.lemmas.List.Sums.{sum_by-append, sum_by-cons}
 use Rattle.std.specs.Prelude.{Bool, true, false, Option, None, Some, MatchOption}
 use Rattle.std.specs.List.{sum_by, AllByRecursion}
@@ -14,7 +14,7 @@ use Rattle.lanes.specs.declared.tasks.LaneTask.{LaneTask}
 use Rattle.lanes.specs.declared.tasks.LaneTask.TheVariants as asked
 use Rattle.lanes.specs.declared.tasks.LaneDone.{LaneDone}
 use Rattle.lanes.specs.declared.tasks.LaneDone.TheVariants as answered
-use Rattle.lanes.specs.Givers.{found, given_of, lying_of, blocks_of, parts_of, part_of, carried, back_of, returned, IsAlike, HasRoom, IsDivided, Divided, MayReturn, MayJoin, MayTake, Rejoined, IsTaken}
+use Rattle.lanes.specs.Givers.{found, given_of, lying_of, blocks_of, fulls_of, parts_of, part_of, carried, back_of, returned, IsAlike, HasRoom, IsDivided, Divided, MayReturn, MayJoin, MayTake, Rejoined, IsTaken}
 use Rattle.lanes.specs.LaneWork.{QueueWork, TapWork}
 use Rattle.lanes.specs.Tasks.{DidLane}
 use Rattle.lanes.proofs.Returning.{all_behind}
@@ -74,6 +74,14 @@ gave_least (g ∷ gs) [] a h = absurd a
 gave_least (g ∷ gs) (k ∷ ks) a h =
     omega (arith, a.0.least h, gave_least gs ks a.1 h, sum_by-cons (given h) g gs, sum_by-cons (given h) k ks)
 
+gave_fulls : (n : ℕ) (gs ks : List GiverState) → AllGave gs ks → n ≤ fulls_of gs → min n (2 ^ 64 - 1) ≤ fulls_of ks
+gave_fulls n [] [] a le = omega (arith, le)
+gave_fulls n [] (k ∷ ks) a le = absurd a
+gave_fulls n (g ∷ gs) [] a le = absurd a
+gave_fulls n (g ∷ gs) (k ∷ ks) a le =
+    let p : GiverState → ℕ = λ x. x.pass.fulls in
+    omega (arith, le, a.0.fulls, gave_fulls (fulls_of gs) gs ks a.1 (omega arith), sum_by-cons p g gs, sum_by-cons p k ks)
+
 gave_fewer : (gs ks : List GiverState) → AllGave gs ks → blocks_of ks ≤ blocks_of gs
 gave_fewer [] [] a = omega arith
 gave_fewer [] (k ∷ ks) a = absurd a
@@ -110,6 +118,7 @@ divided_gave whole (Some g) here gs ks a d =
       parts = gave_parts (found here ++ gs) (found here ++ ks) b ∙ d.parts;
       blocks = λ h. gave_blocks (found here ++ gs) (found here ++ ks) b h ∙ d.blocks h;
       least = λ h. omega (arith, d.least h, gave_least (found here ++ gs) (found here ++ ks) b h);
+      fulls = omega (arith, gave_fulls (min g.pass.fulls (2 ^ 64 - 1)) (found here ++ gs) (found here ++ ks) b d.fulls);
       room = gave_room whole here gs ks a d.room;
     }
 
@@ -135,6 +144,7 @@ divided_same whole (Some g) = record {
   parts = sum_by-append (λ (x : GiverState). x.pass.parts) (g ∷ []) [] ∙ omega arith;
   blocks = λ h. omega (arith, sum_by-cons (lying h) g []);
   least = λ h. omega (arith, sum_by-cons (given h) g []);
+  fulls = omega (arith, sum_by-cons (λ (x : GiverState). x.pass.fulls) g []);
   room = ((λ some. absurd (omega (arith, some))), (λ all. refl));
 }
 
@@ -149,6 +159,7 @@ divided_any whole (Some g) here away d = record {
   parts = d.parts;
   blocks = d.blocks;
   least = d.least;
+  fulls = d.fulls;
   room = any_room whole here away d.room;
 }
 
@@ -163,6 +174,7 @@ gave_all (Some g) (Some m) d = (
     pass = (d.pool.0.1, d.pool.0.2, omega (arith, d.parts, sum_by-cons (λ (x : GiverState). x.pass.parts) m []));
     blocks = λ h. omega (arith, d.blocks h, sum_by-cons (lying h) m []);
     least = λ h. omega (arith, d.least h, sum_by-cons (given h) m []);
+    fulls = omega (arith, d.fulls, sum_by-cons (λ (x : GiverState). x.pass.fulls) m []);
   },
 )
 
@@ -184,6 +196,7 @@ divided_whole (Some g) (Some m) away d =
       parts = subst (λ z. parts_of z ≡ g.pass.parts) e d.parts;
       blocks = λ h. subst (λ z. lying_of h z ≡ lying h g) e (d.blocks h);
       least = λ h. subst (λ z. given h g ≤ given_of h z) e (d.least h);
+      fulls = subst (λ z. min g.pass.fulls (2 ^ 64 - 1) ≤ fulls_of z) e d.fulls;
       room = refl;
     })
 
@@ -205,6 +218,7 @@ divided_part : (old : Option GiverState) (own part now : GiverState) (away : Lis
 divided_part None own part now away s d = absurd (let e : Some own ≡ None = d.0 in cc)
 divided_part (Some g) own part now away s d =
     let p : GiverState → ℕ = λ x. x.pass.parts in
+    let f : GiverState → ℕ = λ x. x.pass.fulls in
     let got = ap (λ (x : PassState PoolState). x.parts) s.pass.1 in
     let mine = d.pool.0 in
     record {
@@ -242,6 +256,15 @@ divided_part (Some g) own part now away s d =
         sum_by-cons (given h) now (away ++ part ∷ []),
         sum_by-append (given h) away (part ∷ []),
         sum_by-cons (given h) part [],
+      );
+      fulls = omega (
+        arith,
+        d.fulls,
+        ap (λ (x : PassState PoolState). x.fulls) s.pass.0,
+        sum_by-cons f own away,
+        sum_by-cons f now (away ++ part ∷ []),
+        sum_by-append f away (part ∷ []),
+        sum_by-cons f part [],
       );
       room = split_room own part now away s d.room;
     }
@@ -293,6 +316,7 @@ joined_room m other now rest j r =
 joined_back : (g m other now : GiverState) (rest : List GiverState) → Joined m other now → IsDivided false g (Some m) (other ∷ rest) → IsDivided false g (Some now) rest
 joined_back g m other now rest j d =
     let p : GiverState → ℕ = λ x. x.pass.parts in
+    let f : GiverState → ℕ = λ x. x.pass.fulls in
     let mine = d.pool.0 in
     record {
       pool = (
@@ -324,6 +348,14 @@ joined_back g m other now rest j d =
         sum_by-cons (given h) other rest,
         sum_by-cons (given h) now rest,
       );
+      fulls = omega (
+        arith,
+        d.fulls,
+        ap (λ (x : PassState PoolState). x.fulls) j.pass,
+        sum_by-cons f m (other ∷ rest),
+        sum_by-cons f other rest,
+        sum_by-cons f now rest,
+      );
       room = joined_room m other now rest j d.room;
     }
 
@@ -337,6 +369,7 @@ rejoined (Some g) None (Some other) new rest e d =
       parts = d.parts;
       blocks = d.blocks;
       least = d.least;
+      fulls = d.fulls;
       room = ((λ some. absurd (omega (arith, some, none))), (λ off'. absurd (off off')));
     })
 rejoined None (Some m) (Some other) new rest e d = absurd (let n : Some m ≡ None = d.0 in cc)

@@ -1,5 +1,6 @@
 -- A giver that is divided among tasks: what is at hand of it, and what is away.
-use Rattle.std.specs.Prelude.{ℕ, ◌≡◌, ◌+◌, ◌≤◌, Bool, true, false, Option, None, Some, List, [], ◌∷◌, ◌++◌, length}
+use Rattle.std.specs.Prelude.{ℕ, ◌≡◌, ◌+◌, ◌-◌, ◌^◌, ◌≤◌, min, Bool, true, false, Option, None, Some}
+use Rattle.std.specs.Prelude.{List, [], ◌∷◌, ◌++◌, length}
 use Rattle.std.specs.List.{sum_by, AllByRecursion}
 use Rattle.raw_block.specs.Views.{SoleState}
 use Rattle.block_pool.specs.PoolState.{home}
@@ -27,6 +28,10 @@ blocks_of gs = sum_by (λ (g : GiverState). home g.list) gs
 
 abbrev pub parts_of : List GiverState → ℕ
 parts_of gs = sum_by (λ (g : GiverState). g.pass.parts) gs
+
+-- how many puts of theirs found no place
+abbrev pub fulls_of : List GiverState → ℕ
+fulls_of gs = sum_by (λ (g : GiverState). g.pass.fulls) gs
 
 -- what a task carries, and what comes back with what is done
 abbrev pub part_of : LaneTask → List GiverState
@@ -62,6 +67,7 @@ pub record IsDivided (whole : Bool) (g : GiverState) (here : Option GiverState) 
   pub parts : parts_of (found here ++ away) ≡ g.pass.parts
   pub blocks : (h : SoleState → ℕ) → lying_of h (found here ++ away) ≡ lying h g
   pub least : (h : SoleState → ℕ) → given h g ≤ given_of h (found here ++ away)
+  pub fulls : min g.pass.fulls (2 ^ 64 - 1) ≤ fulls_of (found here ++ away)
   pub room : HasRoom whole here away
 
 abbrev pub Divided : Bool → Option GiverState → Option GiverState → List GiverState → Type 0

@@ -1,7 +1,7 @@
 -- Lanes as tasks, what is done of them, and lanes of which some are away as tasks.
 use Rattle.std.specs.Prelude.{ℕ, ◌≡◌, ◌≢◌, ◌<◌, ◌≤◌, ◌++◌, List, length, slice_set, slice_index_or}
 use Rattle.std.specs.List.{AllByRecursion}
-use Rattle.block_pool.specs.Giving.{MayGive}
+use Rattle.block_pool.specs.Giving.{LeavesNone, MayGive}
 use Rattle.lanes.specs.declared.lane.QueueLane.{QueueLane}
 use Rattle.lanes.specs.declared.lane.TapLane.{TapLane}
 use Rattle.lanes.specs.declared.lane.Lanes.{Lanes}
@@ -12,10 +12,10 @@ use Rattle.lanes.specs.declared.tasks.LaneDone.{LaneDone}
 use Rattle.lanes.specs.declared.tasks.LaneDone.TheVariants as answered
 use Rattle.lanes.specs.Lanes.{DidQueue, DidTap}
 
--- what the lane of a task comes to
+-- what the lane of a task comes to: nothing is left of what it carries, unless it found no place
 abbrev pub DidLane : LaneTask → LaneDone → Type 0
 DidLane (asked.Queue t) (answered.Queue d) =
-    (d.at ≡ t.at) × DidQueue t.segs t.lane d.lane × MayGive t.giver d.giver
+    (d.at ≡ t.at) × DidQueue t.segs t.lane d.lane × MayGive t.giver d.giver × LeavesNone t.giver d.giver
 DidLane (asked.Tap t) (answered.Tap d) = (d.at ≡ t.at) × DidTap t.filter t.snap t.lane d.lane
 DidLane _ _ = ⊥
 

@@ -149,6 +149,10 @@ fn run_by_tasks<G: Gate, N: Naming, R: Wait>(
 }
 
 impl<G: Gate, N: Naming, R: Wait> Works for LaneCrew<'_, '_, G, N, R> {
+    ghost use Rattle.std.specs.Prelude.{true};
+
+    ghost gives = { true };
+
     fn run_lanes(&mut self, plan: &LanePlan, lanes: &mut Lanes, giver: &mut Option<Giver>) {
         let count = lanes.queues.len().saturating_add(lanes.taps.len());
         if count > self.tasks.capacity() || !are_two_at_work(lanes) {
@@ -164,6 +168,7 @@ impl<G: Gate, N: Naming, R: Wait> Works for LaneCrew<'_, '_, G, N, R> {
                 &mut self.done,
                 giver,
             );
+            // What no task carried, or came back with one.
             give_back(self.rt, giver);
         }
     }

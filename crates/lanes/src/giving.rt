@@ -1,15 +1,16 @@
 //! Blocks that nobody reads go back to whoever takes lists, as soon as a queue's packets are merged.
 ghost use Rattle.std.specs.Prelude.{List, ◌≡◌, ◌++◌, Option, IfSome, MatchOption};
-ghost use Rattle.block_pool.specs.Giving.{GiverState, MayGive, Split};
+ghost use Rattle.block_pool.specs.Giving.{GiverState, LeavesNone, MayGive, Split};
 ghost use Rattle.lanes.specs.Givers.{found, Divided, MayJoin, Rejoined};
 
 use block_pool::Giver;
 use core::mem::replace;
 use std::sync::Wait;
 
-/// The list goes back, where somebody gives.
+/// The list goes back, where somebody gives. What finds no place stays.
 pub(crate) fn give_back<R: Wait>(rt: &R, giver: &mut Option<Giver>)
     ensures gave { MayGive giver.old giver.new }
+    ensures none_left { LeavesNone giver.old giver.new }
 {
     if let Some(own) = giver {
         own.give(rt);

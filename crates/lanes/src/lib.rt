@@ -68,6 +68,8 @@
 //! - `gave`: of the blocks that were lent some went to the pool, or none, whoever works and also where memory is
 //!   refused: by any weight of blocks what was given and what still lies there is what did before, and the pass has all
 //!   its parts again. So between two rounds nothing that was lent is in a lane or with a crew.
+//! - `none_left`: by who gives (`gives` of [`Works`]) all that was lent went as the work ends, unless a put found no
+//!   place. Each queue's task gives what it carries as soon as its lane is worked (`none_left` of `QueueTask::run`).
 //! - `packets`: each queue has the packets of its flows, in their order; `merged`: each of them is in one of the
 //!   queue's runs, once, by its index, so that what a run comes to can be read and written from where its packets lie.
 //!
@@ -78,8 +80,8 @@
 //! For a crew it comes from the notes: an answer is known to be that of its task (`DidLane` in `specs/Tasks`), in
 //! whatever order answers come.
 //!
-//! Only tested: that lanes run at the same time, that each passes the gate before its work and after it, that memory
-//! suffices where there is some, and that blocks are given at all and when. Not said: that a thread runs or is woken.
+//! Only tested: that lanes run at the same time, that each passes the gate before its work and after it, and that
+//! memory suffices where there is some. Not said: that a thread runs or is woken.
 //!
 //! ```
 //! let plan = LanePlan {

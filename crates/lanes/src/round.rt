@@ -8,7 +8,7 @@ ghost use Rattle.offload_model.specs.Written.{round_records};
 ghost use Rattle.gro.specs.declared.slot.Slot.{Slot as Held};
 ghost use Rattle.gro.specs.Slots.{packet_of, of_packets, counts_of, weighed_slots};
 ghost use Rattle.gro.specs.Slots.{AreAlone, AreHeld, AreShared, WeighAtLeast};
-ghost use Rattle.block_pool.specs.Giving.{MayGive};
+ghost use Rattle.block_pool.specs.Giving.{LeavesNone, MayGive};
 ghost use Rattle.lanes.specs.Clones.{weight_after};
 ghost use Rattle.lanes.specs.Lanes.{of_lanes, counts_of_queues, weighed_queues};
 ghost use Rattle.lanes.specs.Lanes.{AreIdle, IsFilled, IsIdleTap, IsMerged, IsTapReady};
@@ -121,6 +121,7 @@ fn finish(lanes: &Lanes) -> Result<(), AllocError>
 /// each worker and each tap passes the gate at point 0 before its work and at point 1 after it. One clone of each
 /// packet may have been kept before, by [`keep_packets`](crate::keep_packets). What lies in the giver's list is no
 /// block of the packets: it may go back to its pool as soon as a queue's lane is worked, and what doesn't stays there.
+/// By who gives (`Works::gives`) all of it goes back, unless a put finds no place.
 ///
 /// For want of memory what isn't in `packets` any more is in the lanes. Where they are as many as the plan has, their
 /// memory serves.
@@ -161,6 +162,7 @@ pub fn work_packets<W: Works>(
     ensures idle { plan.now.taps ≡ 0 → All IsIdleTap lanes.new.taps.items }
     ensures clones { All (λ t. t.clones.items ≡ []) lanes.new.taps.items }
     ensures gave { MayGive giver.old giver.new }
+    ensures none_left { W.gives ≡ true → OnOk result (LeavesNone giver.old giver.new) }
 {
     begin(alloc, plan, packets, lanes)?;
     works.run_lanes(plan, lanes, giver);

@@ -1,6 +1,6 @@
 //! Lanes as tasks: what goes to whoever runs them, and what comes back.
 ghost use Rattle.std.specs.Prelude.{◌≡◌};
-ghost use Rattle.block_pool.specs.Giving.{MayGive};
+ghost use Rattle.block_pool.specs.Giving.{LeavesNone, MayGive};
 ghost use Rattle.lanes.specs.Lanes.{DidQueue, DidTap, IsFilled, IsTapReady};
 ghost use Rattle.lanes.specs.LaneWork.{queue_work, tap_work};
 
@@ -142,6 +142,7 @@ impl QueueTask {
         ensures at { result.at ≡ self.at }
         ensures did { DidQueue self.segs self.lane result.lane }
         ensures gave { MayGive self.giver result.giver }
+        ensures none_left { LeavesNone self.giver result.giver }
     {
         let QueueTask {
             at,

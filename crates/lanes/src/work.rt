@@ -1,6 +1,6 @@
 //! The work of the lanes.
-ghost use Rattle.std.specs.Prelude.{◌≡◌, All, option_map};
-ghost use Rattle.block_pool.specs.Giving.{MayGive};
+ghost use Rattle.std.specs.Prelude.{◌≡◌, ◌≤◌, length, All, option_map};
+ghost use Rattle.block_pool.specs.Giving.{LeavesNone, MayGive};
 ghost use Rattle.lanes.specs.Lanes.{DidQueue, DidTap, EachQueueDid, EachTapDid, IsFilled, IsTapReady};
 ghost use Rattle.lanes.specs.Work.{Did};
 
@@ -76,7 +76,26 @@ pub(crate) fn run_in_turn<G: Gate>(gate: &G, plan: &LanePlan, lanes: &mut Lanes)
     watch_in_turn(gate, plan, &mut lanes.taps);
 }
 
-// The queues' workers, one after another. Behind one that had packets the list goes back, where it still lies there.
+// A queue's worker. Where it had packets the list goes back behind it, if it still lies there.
+fn work_giving<G: Gate, R: Wait>(
+    gate: &G,
+    rt: &R,
+    segs: u32,
+    lane: &mut QueueLane,
+    giver: &mut Option<Giver>,
+)
+    requires filled { IsFilled lane.old }
+    ensures did { DidQueue segs lane.old lane.new }
+    ensures gave { MayGive giver.old giver.new }
+    ensures none_left { 1 ≤ length lane.old.packets.items → LeavesNone giver.old giver.new }
+{
+    work(gate, segs, lane);
+    if lane.packets.len() > 0 {
+        give_back(rt, giver);
+    }
+}
+
+// The queues' workers, one after another. Behind the first one that had packets the list goes back.
 fn work_and_give<G: Gate, R: Wait>(
     gate: &G,
     rt: &R,
@@ -89,10 +108,7 @@ fn work_and_give<G: Gate, R: Wait>(
     ensures gave { MayGive giver.old giver.new }
 {
     for at in 0..queues.len() {
-        work(gate, plan.segs, &mut queues[at]);
-        if !queues[at].packets.is_empty() {
-            give_back(rt, giver);
-        }
+        work_giving(gate, rt, plan.segs, &mut queues[at], giver);
     }
 }
 
@@ -108,7 +124,10 @@ pub(crate) fn run_and_give<G: Gate, R: Wait>(
     requires taps { All IsTapReady lanes.old.taps.items }
     ensures did { Did plan.now lanes.old lanes.new }
     ensures gave { MayGive giver.old giver.new }
+    ensures none_left { LeavesNone giver.old giver.new }
 {
     work_and_give(gate, rt, plan, &mut lanes.queues, giver);
+    // Where no queue had packets the list still lies there.
+    give_back(rt, giver);
     watch_in_turn(gate, plan, &mut lanes.taps);
 }

@@ -1,6 +1,6 @@
 //! Who works the lanes of a round: the thread that calls, or all who run tasks.
-ghost use Rattle.std.specs.Prelude.{All};
-ghost use Rattle.block_pool.specs.Giving.{MayGive};
+ghost use Rattle.std.specs.Prelude.{◌≡◌, true, All, Bool};
+ghost use Rattle.block_pool.specs.Giving.{LeavesNone, MayGive};
 ghost use Rattle.lanes.specs.Lanes.{IsFilled, IsTapReady};
 ghost use Rattle.lanes.specs.Work.{Did};
 
@@ -13,13 +13,17 @@ use std::sync::Wait;
 
 /// Who works the lanes of a round.
 pub trait Works {
+    /// Whether blocks go back while lanes are worked.
+    ghost gives: { Bool };
+
     /// Each lane does what it has to do, in whichever order. What lies in the giver's list may go back to its pool
-    /// meanwhile.
+    /// meanwhile; where `gives` says that it does, no block is left there, unless a put found no place.
     fn run_lanes(&mut self, plan: &LanePlan, lanes: &mut Lanes, giver: &mut Option<Giver>)
         requires queues { All IsFilled lanes.old.queues.items }
         requires taps { All IsTapReady lanes.old.taps.items }
         ensures did { Did plan.now lanes.old lanes.new }
-        ensures gave { MayGive giver.old giver.new };
+        ensures gave { MayGive giver.old giver.new }
+        ensures none_left { gives ≡ true → LeavesNone giver.old giver.new };
 }
 
 /// The thread that calls, with no handle of threads: one lane after another. It gives nothing back.
@@ -29,6 +33,10 @@ pub struct Alone<'a, G> {
 }
 
 impl<G: Gate> Works for Alone<'_, G> {
+    ghost use Rattle.std.specs.Prelude.{false};
+
+    ghost gives = { false };
+
     fn run_lanes(&mut self, plan: &LanePlan, lanes: &mut Lanes, _giver: &mut Option<Giver>) {
         run_in_turn(self.gate, plan, lanes);
     }
@@ -43,6 +51,8 @@ pub struct Beside<'a, G, R> {
 }
 
 impl<G: Gate, R: Wait> Works for Beside<'_, G, R> {
+    ghost gives = { true };
+
     fn run_lanes(&mut self, plan: &LanePlan, lanes: &mut Lanes, giver: &mut Option<Giver>) {
         run_and_give(self.gate, self.rt, plan, lanes, giver);
     }

@@ -1,8 +1,10 @@
 -- What goes through the rings, how many blocks it holds, and what these weigh together, each by its name.
-use Rattle.std.specs.Prelude.{ℕ, ◌≡◌, ◌+◌, ◌^◌, ◌≤◌, Option, None, Some, List, [], ◌∷◌}
+use Rattle.std.specs.Prelude.{ℕ, ◌≡◌, ◌⊎◌, ◌+◌, ◌^◌, ◌≤◌, Option, None, Some, List, [], ◌∷◌}
 use Rattle.std.specs.Prelude.{length}
 use denote.RawPtr.{Ptr, null_ptr}
 use Rattle.std.specs.declared.alloc.Global.{Global}
+use Rattle.block_pool.specs.Giving.{GiverState}
+use Rattle.block_pool.specs.PassState.{risen}
 use Rattle.block_pool.specs.PoolState.{PoolState, home, weighed}
 use Rattle.rtrb.specs.declared.consumer.Consumer.{Consumer}
 use Rattle.rtrb.specs.Shared.{Names}
@@ -51,6 +53,17 @@ homes_of (t ∷ ts) = home t.shelf + homes_of ts
 abbrev pub weights_back : (ℕ → ℕ) → List Token → ℕ
 weights_back h [] = 0
 weights_back h (t ∷ ts) = weighed h t.shelf.blocks + weights_back h ts
+
+-- how many puts of who gives found no place
+abbrev pub fulls_by : Option GiverState → ℕ
+fulls_by None = 0
+fulls_by (Some g) = g.pass.fulls
+
+-- where somebody gives, no token brings a block, or a put found no place: the count of these rose, or stands at its
+-- last value
+abbrev pub BringsNone : List Token → Option GiverState → Option GiverState → Type 0
+BringsNone ts None new = Unit {0}
+BringsNone ts (Some g) new = (homes_of ts ≡ 0) ⊎ (risen g.pass.fulls ≤ fulls_by new)
 
 -- the blocks on shelves
 abbrev pub shelved : List PoolState → ℕ

@@ -4,7 +4,7 @@ ghost use Rattle.block_pool.specs.PoolState.{home, weighed};
 ghost use Rattle.rtrb.specs.Ring.{received};
 ghost use Rattle.pipeline.specs.Desks.{brought_to, weights_to};
 
-use crate::desk::{Desk, SHELVES};
+use crate::desk::{Desk, SHELVES, keep};
 use crate::parcel::Token;
 use crate::post::Post;
 use crate::ring::receive_within;
@@ -16,7 +16,7 @@ use records::Supply;
 const LOOKS: u32 = 16;
 
 /// So many lists come in before a round is read, at most; others wait for the next one.
-const MOST_LISTS: u32 = 192;
+const MOST_LISTS: u32 = 195;
 
 impl<W: Post + Drop> Desk<W> {
     // The next token: if it comes within so many tries, or, where it is waited for, whenever it comes.
@@ -48,14 +48,29 @@ impl<W: Post + Drop> Desk<W> {
             return false;
         };
         let Token { mut shelf, goes } = token;
-        let _ = pool.home();
+        let before = pool.home();
         pool.refill(&mut shelf);
-        self.shelves.push_front_reserved(shelf);
+        self.away.meet(pool.home().saturating_sub(before));
         self.away.meet_round();
+        keep(&mut self.shelves, shelf);
         if !goes {
             self.stopped = true;
         }
         true
+    }
+
+    // What went away as a shelf and came as a list is a shelf again, once its blocks are home.
+    fn keep_spent(&mut self)
+        ensures sum { brought_to self.new ≡ brought_to self.old }
+        ensures named { (h : ℕ → ℕ) → weights_to self.new h ≡ weights_to self.old h }
+        ensures same { self.new.taker.pass ≡ self.old.taker.pass }
+    {
+        if self.shelves.len() >= SHELVES.min(self.shelves.capacity()) {
+            return;
+        }
+        if let Some(shelf) = self.taker.take_spent(self.blocks) {
+            keep(&mut self.shelves, shelf);
+        }
     }
 
     // One list, if one has come.
@@ -72,7 +87,8 @@ impl<W: Post + Drop> Desk<W> {
     {
         let before = pool.home();
         let came = self.post.bring_list(&mut self.taker, pool);
-        self.away.meet_list(pool.home() - before);
+        self.away.meet(pool.home() - before);
+        self.keep_spent();
         came
     }
 
@@ -151,17 +167,21 @@ impl<W: Post + Drop> Desk<W> {
         }
     }
 
-    // All tokens that have come, and one at least where no shelf is here and one will come.
+    // All tokens that have come, and one at least where as many rounds are out as may be, or no shelf is here.
     fn meet_tokens(&mut self, pool: &mut Pool)
         ensures sum { home pool.new + brought_to self.old ≡ home pool.old + brought_to self.new }
         ensures named { (h : ℕ → ℕ) → weighed h pool.new.blocks + weights_to self.old h
             ≡ weighed h pool.old.blocks + weights_to self.new h }
         ensures same { (pool.new.made ≡ pool.old.made) × (pool.new.taken ≡ pool.old.taken) }
         ensures rises { home pool.old ≤ home pool.new }
-        ensures taker { self.new.taker ≡ self.old.taker }
+        ensures asked { self.old.taker.pass.empties ≤ self.new.taker.pass.empties }
     {
         for _ in 0..=SHELVES {
-            let waits = self.shelves.is_empty() && self.awaits();
+            if self.shelves.is_empty() {
+                self.meet_lists(pool);
+            }
+            let full = self.shelves.is_empty() || self.away.rounds() as usize >= SHELVES;
+            let waits = full && self.awaits();
             if !self.meet(pool, 1, waits) {
                 return;
             }

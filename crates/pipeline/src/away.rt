@@ -1,24 +1,27 @@
 //! What is away from the side that reads.
 
-/// The rounds that are away, and how many of their spares lists may bring yet. It tells whether a list is worth waiting
-/// for, and no proof rests on it: the side that reads counts what it sends and what comes, so a list that came early is
-/// counted off with an older round's.
+use rounds::Round;
+
+/// The rounds that are away, and how many of their blocks haven't come back. It tells whether more is worth waiting
+/// for, and no proof rests on it: the side that reads counts what it sends and what comes.
 #[derive(Clone, Copy, Debug)]
 pub(crate) struct Away {
     rounds: u32,
-    due: u32,
-    // The spares of the round that went last.
-    latest: u32,
+    out: u32,
+    // Of the round that went last, those that come back only once it is written.
+    last: u32,
 }
 
 impl Away {
-    /// One round is away, with so many spares.
-    pub(crate) fn new(spares: u32) -> Away {
-        Away {
-            rounds: 1,
-            due: spares,
-            latest: spares,
-        }
+    /// One round is away.
+    pub(crate) fn new(round: &Round) -> Away {
+        let mut away = Away {
+            rounds: 0,
+            out: 0,
+            last: 0,
+        };
+        away.lend(round);
+        away
     }
 
     pub(crate) fn rounds(&self) -> u32 {
@@ -26,29 +29,24 @@ impl Away {
     }
 
     /// Another round goes.
-    pub(crate) fn lend(&mut self, spares: u32) {
+    pub(crate) fn lend(&mut self, round: &Round) {
         self.rounds = self.rounds.saturating_add(1);
-        self.due = self.due.saturating_add(spares);
-        self.latest = spares;
+        self.out = self.out.saturating_add(round.blocks());
+        self.last = round.blocks().saturating_sub(round.spares());
     }
 
-    /// A list came, of so many blocks.
-    pub(crate) fn meet_list(&mut self, blocks: u32) {
-        self.due = self.due.saturating_sub(blocks);
+    /// So many blocks came.
+    pub(crate) fn meet(&mut self, blocks: u32) {
+        self.out = self.out.saturating_sub(blocks);
     }
 
-    /// The oldest round came back with all that lists hadn't brought of it.
+    /// The oldest round has ended.
     pub(crate) fn meet_round(&mut self) {
         self.rounds = self.rounds.saturating_sub(1);
-        self.due = match self.rounds {
-            0 => 0,
-            1 => self.due.min(self.latest),
-            _ => self.due,
-        };
     }
 
-    /// Whether more may come before the last round is over: a list, or an older round.
+    /// Whether more may come before the last round is written: a list, or an older round.
     pub(crate) fn may_bring(&self) -> bool {
-        self.rounds > 1 || self.due > 0
+        self.rounds > 1 || self.rounds == 1 && self.out > self.last
     }
 }

@@ -1,7 +1,8 @@
 //! The desk of the side that reads: lists and tokens come in here, and their blocks go home.
-ghost use Rattle.std.specs.Prelude.{◌≡◌, ℕ, ◌+◌, ◌≤◌, IfSome, IfOk, IsTrue, []};
+ghost use Rattle.std.specs.Prelude.{◌≡◌, ℕ, ◌+◌, ◌<◌, ◌≤◌, IfSome, IfOk, IsTrue, []};
 ghost use Rattle.std.specs.Arc.{arc_value};
-ghost use Rattle.block_pool.specs.PoolState.{home};
+ghost use Rattle.std.specs.VecDeque.{deque_len, deque_capacity};
+ghost use Rattle.block_pool.specs.PoolState.{home, weighed};
 ghost use Rattle.rtrb.specs.Ring.{received};
 ghost use Rattle.pipeline.specs.Parcels.{IsOfRing, homes_of, shelved, weights_back, weights_shelved};
 
@@ -9,12 +10,13 @@ use crate::away::Away;
 use crate::parcel::{Fits, Naming, Parcel, Token};
 use crate::post::Post;
 use block_pool::Pool;
-use rounds::Taker;
+use rounds::{Round, Taker};
 use rtrb::{Consumer, Producer};
 use std::alloc::{AllocError, Global};
 use std::collections::VecDeque;
 
-/// As many rounds may be read before the first of them is back.
+/// As many rounds may be read before the first of them is back. A shelf goes away with each, and comes back as the list
+/// that its blocks went on, or with the round's token.
 pub(crate) const SHELVES: usize = 3;
 
 /// The ends where lists and tokens come back, the shelves that are here, and what is away with rounds. Where a round is
@@ -23,7 +25,7 @@ pub(crate) const SHELVES: usize = 3;
 #[derive(Drop)]
 pub(crate) struct Desk<W: Post + Drop> {
     pub(crate) post: W,
-    blocks: u32,
+    pub(crate) blocks: u32,
     pub(crate) tokens: Consumer<Token>,
     pub(crate) shelves: VecDeque<Pool>,
     pub(crate) taker: Taker,
@@ -49,13 +51,25 @@ pub(crate) fn new_shelves(alloc: Global, blocks: u32) -> Result<VecDeque<Pool>, 
     requires few { blocks ≤ 65536 }
     ensures empty { IfOk result (λ shelves. shelved shelves.items ≡ 0) }
 {
-    let mut shelves = VecDeque::with_capacity(alloc, SHELVES)?;
+    let mut shelves = VecDeque::with_capacity(alloc, 2 * SHELVES + 1)?;
     for i in 1..SHELVES {
         prove!(i < 3);
         let shelf = Pool::empty(alloc, blocks)?;
         shelves.push_front_reserved(shelf);
     }
     Ok(shelves)
+}
+
+/// A shelf is here again. Of one whose blocks went on as a list there is nothing here.
+pub(crate) fn keep(shelves: &mut VecDeque<Pool>, shelf: Pool)
+    requires room { deque_len shelves.old < deque_capacity shelves.old }
+    ensures sum { shelved shelves.new.items ≡ shelved shelves.old.items + home shelf }
+    ensures named { (h : ℕ → ℕ) → weights_shelved h shelves.new.items
+        ≡ weights_shelved h shelves.old.items + weighed h shelf.blocks }
+{
+    if shelf.home() > 0 || shelf.made() > 0 {
+        shelves.push_front_reserved(shelf);
+    }
 }
 
 // Whether a round may be read for this shelf.
@@ -66,11 +80,11 @@ fn is_ready(shelf: &Pool, blocks: u32) -> bool
 }
 
 impl<W: Post + Drop> Desk<W> {
-    /// A shelf is away already, with the first round, which has so many spares.
+    /// A shelf is away already, with the first round.
     pub(crate) fn new(
         post: W,
         blocks: u32,
-        spares: u32,
+        away: Away,
         tokens: Consumer<Token>,
         shelves: VecDeque<Pool>,
         taker: Taker,
@@ -87,7 +101,7 @@ impl<W: Post + Drop> Desk<W> {
             tokens,
             shelves,
             taker,
-            away: Away::new(spares),
+            away,
             paused: false,
             stopped: false,
         }
@@ -141,12 +155,12 @@ impl<W: Post + Drop> Desk<W> {
         None
     }
 
-    /// A round goes away, with so many spares.
-    pub(crate) fn lend(&mut self, spares: u32)
+    /// A round goes away.
+    pub(crate) fn lend(&mut self, round: &Round)
         ensures same { (self.new.shelves ≡ self.old.shelves) × (self.new.tokens ≡ self.old.tokens)
             × (self.new.taker ≡ self.old.taker) }
     {
-        self.away.lend(spares);
+        self.away.lend(round);
         self.paused = false;
     }
 }

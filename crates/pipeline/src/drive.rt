@@ -14,6 +14,7 @@ ghost use Rattle.pipeline.specs.Handled.{ComesBack, HandledOn, IsOut, MayBeHandl
 ghost use Rattle.pipeline.specs.Parcels.{IsOfRing, shelved};
 ghost use Rattle.pipeline.specs.Reads.{IsAlone};
 
+use crate::away::Away;
 use crate::bells::Bells;
 use crate::desk::{Desk, Reading, SHELVES, new_shelves};
 use crate::gather::{bring_home, drop_parcels};
@@ -168,7 +169,7 @@ fn handle_named<
     let Ok((mut out, mut from, shelf, mut kept, shelves)) = prepare::<N>(alloc, bench) else {
         return Err(read);
     };
-    let spares = read.round.spares();
+    let away = Away::new(&read.round);
     send_first(rt, &mut out, read, shelf);
     let Ways {
         mut told,
@@ -181,7 +182,7 @@ fn handle_named<
     let bells = Bells::new(bell);
     let post = Sleeper::<'_, R, N>::new(rt, &bells);
     let mut supply = Reading {
-        desk: Desk::new(post, blocks, spares, tokens, shelves, taker),
+        desk: Desk::new(post, blocks, away, tokens, shelves, taker),
         out,
     };
     let end = run_sides(

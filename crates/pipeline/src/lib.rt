@@ -4,7 +4,8 @@
 //! ```text
 //!   reads ── Parcel: a round, its end, an empty shelf ──> works, handles ─ lanes, as tasks ──> whoever is free
 //!    ^  ^                                                    │    ^                                 │   │
-//!    │  └─── Token: the shelf, with the round's blocks ──────┘    └───────── lanes, done ───────────┘   │
+//!    │  ├─── Token: the round has ended ─────────────────────┤    └───────── lanes, done ───────────┘   │
+//!    │  └─── lists: its shelf, as soon as it is written ─────┘                                          │
 //!    └────── lists: spare blocks of a queue, as soon as its lane has been worked ───────────────────────┘
 //! ```
 //!
@@ -19,17 +20,18 @@
 //! a second side, it is worked by the thread that read it; so a capture of one round costs no thread for reading.
 //!
 //! The side that reads has the rounds' intake, whose pool it alone takes from; the side that works has their bench.
-//! Blocks come home to that pool by two ways:
+//! Blocks come home to that pool by a pool of lists that threads share (`block_pool::ListPool`), each list by one step.
+//! Who gives them is one `block_pool::Giver`, which stays with the side that works and is lent for each round:
 //!
-//! - The spare blocks of a queue's packets go, as soon as its lane has been worked, to a pool of lists that threads
-//!   share (`block_pool::ListPool`), by one step, while the packets are still to be written. Who gives them is one
-//!   `block_pool::Giver`, which stays with the side that works and is lent for each round. Where all places are taken a
-//!   list stays with its round.
-//! - All others that a round's work leaves come home onto the shelf that came with the round: a pool without blocks of
-//!   its own. The shelf goes back in a token. Only the last round's stay on a shelf with the side that works until both
-//!   have ended: blocks are handed over where there is room for all that they may leave again.
+//! - The spare blocks of a queue's packets go as soon as its lane has been worked, while the packets are still to be
+//!   written. Where all places are taken a list stays with its round.
+//! - All others that a round's work leaves go once it was written. They lie then on the shelf that came with the round,
+//!   a pool without blocks of its own, and the shelf goes as it is (`rounds::give_list`). Where all places are taken it
+//!   goes back in the token, which tells that the round has ended. Only the last round's stay on a shelf with the side
+//!   that works until both have ended: blocks are handed over where there is room for all that they may leave again.
 //!
-//! There are three shelves, so reading is at most three rounds ahead. Before a round is read, what has come is taken.
+//! There are three shelves, so reading is at most three rounds ahead. A shelf that came as a list is one again as soon
+//! as its blocks are home (`rounds::Taker::take_spent`). Before a round is read, what has come is taken.
 //! Behind a record's header, where fewer blocks are home than the record needs, the side that reads takes lists, and
 //! where there is none it waits for one, or for a token, as long as another list may come or more than one round is
 //! out. Where they are those of the last round alone the round that is read is paused: its header is kept, and once all
@@ -41,7 +43,8 @@
 //! which does the same in one thread: the rounds that were read stand one behind another in the capture, each of the
 //! first of them was handled in turn up to the one that ended it, and nothing was done with those behind. What was sent
 //! by a ring and what was received are known once the threads have joined. All blocks are home whatever the ending,
-//! also those of rounds that were read and that nobody worked. [`merge_beside`] has the clauses of `Rounds::merge_all`,
+//! also those of rounds that were read and that nobody worked. No token brings a block, unless a put found no place
+//! (`none_left` of `run_sides`). [`merge_beside`] has the clauses of `Rounds::merge_all`,
 //! word for word. A round is paused only where a take found no list: of a run there are no more pauses than such takes
 //! (`pauses`). One that is paused is given up only where the other side has stopped (`ended` of `bring_rest` in
 //! `rounds`): so no round ends for want of blocks while the other side goes on.

@@ -10,7 +10,7 @@ ghost use Rattle.rounds.specs.Handled.{Ends, FewPauses, IsReadyAtEnd};
 ghost use Rattle.rounds.specs.Reads.{is_full as is_full_end, reader_at};
 ghost use Rattle.rtrb.specs.Ring.{sent, received, SameProducer, SameConsumer};
 ghost use Rattle.pipeline.specs.Desks.{brought_to, weights_to};
-ghost use Rattle.pipeline.specs.Parcels.{blocks_of, homes_of, weights_back, weights_sent, rounds_of};
+ghost use Rattle.pipeline.specs.Parcels.{blocks_of, homes_of, weights_back, weights_sent, rounds_of, BringsNone};
 ghost use Rattle.pipeline.specs.Reads.{IsFirst, ReadOn};
 
 use crate::bells::Bells;
@@ -23,7 +23,7 @@ use core::mem::replace;
 use lanes::Works;
 use off_io::Source;
 use pcap_io::CaptureReader;
-use rounds::{Bench, Intake, RoundEnd, RoundHandler};
+use rounds::{Bench, Intake, RoundEnd, RoundHandler, give_list};
 use rtrb::{Consumer, Producer};
 use std::alloc::Global;
 use std::sync::Wait;
@@ -82,7 +82,7 @@ fn read_side<N: Naming, R: Wait, P: Post + Drop, S: Source>(
         };
         let read = intake.read_beside(rt, reader, &mut supply.desk);
         let end = read.end;
-        supply.desk.lend(read.round.spares());
+        supply.desk.lend(&read.round);
         let parcel = Parcel {
             number,
             read,
@@ -98,7 +98,7 @@ fn read_side<N: Naming, R: Wait, P: Post + Drop, S: Source>(
     unreachable!()
 }
 
-// The shelf goes back with the blocks that came home to it.
+// The shelf goes back with the blocks that still lie there.
 fn send_home<R: Wait>(rt: &R, shelf: Pool, goes: bool, told: &mut Producer<Token>, bell: &Bell)
     ensures ring { SameProducer told.old told.new }
     ensures sum { homes_of (sent told.new) ≡ homes_of (sent told.old) + home shelf }
@@ -109,8 +109,9 @@ fn send_home<R: Wait>(rt: &R, shelf: Pool, goes: bool, told: &mut Producer<Token
     bell.wake();
 }
 
-// Handles each round that comes, and sends its blocks back, but for those that are given while it is worked; those of
-// the last one are kept here. `None` where no reader has begun.
+// Handles each round that comes. What isn't given while it is worked is given once it was written, and a token tells
+// that it has ended; what finds no place goes back with that. Those of the last one are kept here. `None` where no
+// reader has begun.
 fn work_side<N: Naming, R: Wait, W: Works, T, E, H: RoundHandler<T, E>>(
     rt: &R,
     works: &mut W,
@@ -139,6 +140,7 @@ fn work_side<N: Naming, R: Wait, W: Works, T, E, H: RoundHandler<T, E>>(
     ensures each_named { (h : ℕ → ℕ) → weights_back h (sent told.new) + weighed h kept.new.blocks
         + weights_given giver.new h ≡ weights_sent h (received from.new) + weights_given giver.old h }
     ensures lends { Lends giver.old giver.new }
+    ensures none_left { BringsNone (sent told.new) giver.old giver.new }
     ensures room { HasRoom (home kept.new) bench.new }
     ensures same { IsSameBench bench.old bench.new }
 {
@@ -162,6 +164,7 @@ fn work_side<N: Naming, R: Wait, W: Works, T, E, H: RoundHandler<T, E>>(
             send_home(rt, replace(kept, shelf), false, told, &bells.reader);
             return Some(handler.stop());
         }
+        give_list(rt, giver, &mut shelf);
         send_home(rt, shelf, true, told, &bells.reader);
     }
     unreachable!()
@@ -227,6 +230,7 @@ pub(crate) fn run_sides<
     ensures each_named { (h : ℕ → ℕ) → weights_back h (sent told.new) + weighed h kept.new.blocks
         + weights_given giver.new h ≡ weights_sent h (received from.new) + weights_given giver.old h }
     ensures lends { Lends giver.old giver.new }
+    ensures none_left { BringsNone (sent told.new) giver.old giver.new }
     ensures room { HasRoom (home kept.new) bench.new }
     ensures same { IsSameBench bench.old bench.new }
 {
@@ -276,6 +280,7 @@ pub(crate) fn run_sides<
                 + weighed h kept.exit.now.blocks + weights_given giver.exit.now h
                 ≡ weights_sent h (received from.exit.now) + weights_given giver.entry.now h }
             ensures lends { Lends giver.entry.now giver.exit.now }
+            ensures none_left { BringsNone (sent told.exit.now) giver.entry.now giver.exit.now }
             ensures room { HasRoom (home kept.exit.now) bench.exit.now }
             ensures same { IsSameBench bench.entry.now bench.exit.now }
         {

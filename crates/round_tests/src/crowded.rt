@@ -131,14 +131,14 @@ fn crowded<R: Wait>(
     ))
 }
 
-// Two of the first round's three blocks lie in the list; the second round's list finds no place, and all three come
-// home with the round.
+// Two of the first round's three blocks lie in the list; the second round's list finds no place, neither behind its lane
+// nor as the work ends, and all three come home with the round.
 #[test]
 fn what_finds_no_place_comes_home_with_its_round(rt: HostRuntime) -> Result<(), Fail> {
     let (steps, written, homes, list, counts) = crowded(&rt, rt.alloc())?;
     assert_eq!(rt; steps, [Step::Goes, Step::Goes, Step::Ends(MergeEnd::Done)]);
     assert_eq!(rt; written.as_slice(), WRITTEN.as_slice());
     assert_eq!(rt; homes, [1, 3, 0]);
-    assert_eq!(rt; (list, counts), (Some(2), (1, 1)));
+    assert_eq!(rt; (list, counts), (Some(2), (1, 2)));
     Ok(())
 }

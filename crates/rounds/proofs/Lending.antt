@@ -1,12 +1,13 @@
 -- A giver that is lent for a round: what goes by it, and that it comes back.
-use Rattle.std.proofs.Common.{◌≡◌, ℕ, ◌+◌, ◌≤◌, Option, None, Some, refl, sym, ap, ◌∙◌, subst, arith}
+use Rattle.std.proofs.Common.{◌≡◌, ℕ, ◌+◌, ◌≤◌, ◌⊎◌, inl, inr, List, [], ◌∷◌, length, Option, None, Some, refl, sym, ap, ◌∙◌, subst, arith}
+use Rattle.std.specs.Prelude.{true, false, IfOk, IsOk, OnOk, Result, Ok, Err}
 use Rattle.raw_block.specs.Views.{SoleState}
-use Rattle.block_pool.specs.Giving.{GiverState, Gave, MayGive, given_by, given_in, weights_given}
+use Rattle.block_pool.specs.Giving.{GiverState, Gave, LeavesNone, MayGive, given_by, given_in, weights_given}
 use Rattle.block_pool.proofs.Giving.{count_lying}
-use Rattle.block_pool.specs.PassState.{IsSame}
+use Rattle.block_pool.specs.PassState.{risen, IsSame}
 use Rattle.block_pool.specs.PoolState.{PoolState, home, weighed}
-use Rattle.rounds.specs.Benches.{BringsBeside, Brings, IsLent, Lends, MayBring, Swaps}
-use Rattle.rounds.specs.RoundsState.{BenchState}
+use Rattle.rounds.specs.Benches.{BringsBeside, Brings, IsLent, LeavesNoSpare, Lends, MayBring, Swaps}
+use Rattle.rounds.specs.RoundsState.{BenchState, WorkedState}
 
 -- a round's spares went to the giver's list, some were given, and what is left came back
 pub record Went (old new : Option GiverState) (before after : PoolState) : Type 0 where
@@ -36,6 +37,7 @@ with_list g g' g'' s t u none is gave back left =
           pass = subst (λ (z : GiverState). IsSame g.pass z.pass) (sym back) gave.pass;
           none = omega (arith, ap (λ (z : GiverState). home z.list) back, ap home is, none);
           least = omega (arith, least, given);
+          fulls = omega (arith, gave.fulls, ap (λ (z : GiverState). z.pass.fulls) back);
         },
       );
     }
@@ -55,9 +57,38 @@ went (Some g) b c d s t u lent to gives back =
     let out = subst (λ z. Swaps z d t u) gave.1 back in
     subst (λ z. Went (Some g) z s u) (sym out.0) (with_list g gave.0 (record gave.0 { list = t }) s t u lent to.1 gave.2 refl out.1)
 
+-- ---- no spare stays with the round
+
+no_block : (blocks : List SoleState) → length blocks ≡ 0 → blocks ≡ []
+no_block [] e = refl
+no_block (s ∷ blocks) e = absurd (omega (arith, e))
+
+none_stays : (old now : GiverState) (u : PoolState) → u ≡ now.list → (home now.list ≡ 0) ⊎ (risen old.pass.fulls ≤ now.pass.fulls)
+    → (u.blocks ≡ []) ⊎ (risen old.pass.fulls ≤ now.pass.fulls)
+none_stays old now u e (inl none) = inl (no_block u.blocks (ap home e ∙ none))
+none_stays old now u e (inr full) = inr full
+
+pub leaves_no_spare : (a b c d : Option GiverState) (s t u : PoolState) → Swaps a b s t → LeavesNone b c → Swaps c d t u → LeavesNoSpare a d u.blocks
+leaves_no_spare None b c d s t u to none back = tt
+leaves_no_spare (Some g) b c d s t u to none back =
+    let left : LeavesNone (Some (record g { list = s })) c = subst (λ z. LeavesNone z c) to.0 none in
+    let out : Swaps (Some left.0) d t u = subst (λ z. Swaps z d t u) left.1 back in
+    (record left.0 { list = t }, out.0, none_stays (record g { list = s }) left.0 u out.1 left.2)
+
+-- what is said of spares where the lanes are done holds of those of the round that was worked
+pub of_worked : {D E F : Type 0} (done : Result D E) (result : Result WorkedState F) (spares : List SoleState) (P : List SoleState → Type 0)
+    → IfOk result (λ worked. IsOk done × (worked.spares ≡ spares)) → OnOk done (P spares) → IfOk result (λ worked. P worked.spares)
+of_worked (Ok d) (Ok worked) spares P is holds = subst P (sym is.1) holds
+of_worked (Err e) (Ok worked) spares P is holds = absurd (let off : false ≡ true = is.0 in cc)
+of_worked done (Err f) spares P is holds = tt
+
+pub on_ok : {D E : Type 0} {P Q : Type 0} (done : Result D E) → (P → Q) → OnOk done P → OnOk done Q
+on_ok (Ok d) step holds = step holds
+on_ok (Err e) step holds = tt
+
 pub lends_same : (g : Option GiverState) → IsLent g → Lends g g
 lends_same None lent = refl
-lends_same (Some g) lent = (g, refl, record { pool = refl; pass = (refl, refl, refl); none = lent; least = omega arith })
+lends_same (Some g) lent = (g, refl, record { pool = refl; pass = (refl, refl, refl); none = lent; least = omega arith; fulls = omega arith })
 
 -- what was given stays given
 pub given_least : (old new : Option GiverState) → Lends old new → given_by old ≤ given_by new

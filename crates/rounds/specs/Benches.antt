@@ -1,8 +1,9 @@
 -- The side of rounds that works: what it needs so that blocks may come home, and what is so once they have.
-use Rattle.std.specs.Prelude.{ℕ, ◌≡◌, ◌+◌, ◌≤◌, Option, None, Some, length, map}
+use Rattle.std.specs.Prelude.{ℕ, ◌≡◌, ◌⊎◌, ◌+◌, ◌-◌, ◌^◌, ◌≤◌, min, Option, None, Some, List, [], length, map}
 use Rattle.std.specs.List.{AllByRecursion}
+use Rattle.raw_block.specs.Views.{SoleState}
 use Rattle.block_pool.specs.Giving.{GiverState, given_by, given_in, weights_given}
-use Rattle.block_pool.specs.PassState.{IsSame}
+use Rattle.block_pool.specs.PassState.{risen, IsSame}
 use Rattle.block_pool.specs.PoolState.{PoolState, home, weighed}
 use Rattle.offload_model.specs.Captured.{IsCaptured}
 use Rattle.offload_model.specs.Written.{Options}
@@ -60,16 +61,25 @@ abbrev pub IsLent : Option GiverState → Type 0
 IsLent None = Unit {0}
 IsLent (Some g) = home g.list ≡ 0
 
--- it is back: of the same pool, with as many parts, and without blocks; what it gave it gave
+-- it is back: of the same pool, with as many parts, and without blocks; what it gave it gave, and no put that found no
+-- place is forgotten
 pub record IsBack (old new : GiverState) : Type 0 where
   pub pool : new.pool ≡ old.pool
   pub pass : IsSame old.pass new.pass
   pub none : home new.list ≡ 0
   pub least : given_in old ≤ given_in new
+  pub fulls : min old.pass.fulls (2 ^ 64 - 1) ≤ new.pass.fulls
 
 abbrev pub Lends : Option GiverState → Option GiverState → Type 0
 Lends None new = new ≡ None
 Lends (Some g) new = (g' : GiverState) × (new ≡ Some g') × IsBack g g'
+
+-- where somebody gives, none of these stays with a round, or a put found no place: the count of these rose, or stands
+-- at its last value
+abbrev pub LeavesNoSpare : Option GiverState → Option GiverState → List SoleState → Type 0
+LeavesNoSpare None new spares = Unit {0}
+LeavesNoSpare (Some g) new spares =
+    (g' : GiverState) × (new ≡ Some g') × ((spares ≡ []) ⊎ (risen g.pass.fulls ≤ g'.pass.fulls))
 
 -- a list against the giver's, where there is one
 abbrev pub Swaps : Option GiverState → Option GiverState → PoolState → PoolState → Type 0

@@ -10,7 +10,8 @@ ghost use Rattle.offload_model.specs.Written.{round_records};
 ghost use Rattle.gro.specs.Slots.{packet_of};
 ghost use Rattle.lanes.specs.Lanes.{AreIdle, IsMerged};
 ghost use Rattle.lanes.specs.Work.{IsPlan};
-ghost use Rattle.rounds.specs.Benches.{options_at, Brings, BringsBeside, IsLent, IsSameBench, Lends, MayBring};
+ghost use Rattle.rounds.specs.Benches.{options_at, Brings, BringsBeside, IsLent, IsSameBench, LeavesNoSpare, Lends};
+ghost use Rattle.rounds.specs.Benches.{MayBring};
 ghost use Rattle.rounds.specs.Lanes.{worked_bytes, worked_records, IsAloneWork, IsKeptWorkOf};
 ghost use Rattle.rounds.specs.Weights.{weights_of, weights_worked, weights_left};
 
@@ -204,7 +205,8 @@ impl Bench {
     }
 
     /// Works a round, as `work_round` of the rounds says it. Spares of it may go to others by the giver as soon as its
-    /// packets are merged; the round is as many blocks smaller. For want of memory all its other blocks are home.
+    /// packets are merged; the round is as many blocks smaller. By who gives (`Works::gives`) none stays with it,
+    /// unless a put found no place. For want of memory all its other blocks are home.
     pub fn work_round<W: Works>(
         &mut self,
         works: &mut W,
@@ -228,6 +230,8 @@ impl Bench {
         ensures brings { OnErr result (BringsBeside round.blocks (weights_of round) self.old self.new home.old home.new
             giver.old giver.new) }
         ensures gave { Lends giver.old giver.new }
+        ensures none_left { W.gives ≡ true
+            → IfOk result (λ worked. LeavesNoSpare giver.old giver.new worked.spares) }
     {
         match self.work(works, round, giver) {
             Ok(worked) => Ok(worked),

@@ -1,5 +1,6 @@
 //! Works a round: its packets are merged in lanes.
-ghost use Rattle.std.specs.Prelude.{◌⊎◌, ◌≡◌, ℕ, ◌+◌, ◌≤◌, true, false, [], map, All, IfOk, IfErr, OnOk, MatchResult};
+ghost use Rattle.std.specs.Prelude.{◌⊎◌, ◌≡◌, ℕ, ◌+◌, ◌≤◌, true, false, [], map, All, IfOk, IfErr, IsOk, OnOk};
+ghost use Rattle.std.specs.Prelude.{MatchResult};
 ghost use Rattle.std.specs.List.{AllByRecursion};
 ghost use Rattle.offload_model.specs.Captured.{IsCaptured};
 ghost use Rattle.offload_model.specs.Written.{round_records};
@@ -11,7 +12,7 @@ ghost use Rattle.lanes.specs.Clones.{AreAfter};
 ghost use Rattle.lanes.specs.Lanes.{weighed_queues, IsMerged};
 ghost use Rattle.block_pool.specs.Giving.{given_by, weights_given};
 ghost use Rattle.block_pool.specs.PoolState.{weighed};
-ghost use Rattle.rounds.specs.Benches.{options_at, IsLent, Lends};
+ghost use Rattle.rounds.specs.Benches.{options_at, IsLent, LeavesNoSpare, Lends};
 ghost use Rattle.records.specs.Laid.{AreRead, LaidFrom};
 ghost use Rattle.rounds.specs.Kept.{IsKept, IsPrepared, IsDone, IsLeft, IsOfLanes};
 ghost use Rattle.rounds.specs.Lanes.{worked_records, IsAloneWork, IsKeptWorkOf};
@@ -137,6 +138,7 @@ impl Bench {
         ensures worked { IfOk result (IsOfLanes done lanes kept.kept.items kept.blocks) }
         ensures named { IfOk result (λ worked. (h : ℕ → ℕ) → weights_worked worked h
             ≡ weighed_slots h kept.packets.items + weighed_queues h lanes.queues.items + weighed h kept.spares.blocks) }
+        ensures spares { IfOk result (λ worked. IsOk done × (worked.spares ≡ kept.spares.blocks)) }
         ensures rest { IfErr result (λ rest. rest.blocks ≡ kept.blocks) }
         ensures named_back { IfErr result (λ rest. (h : ℕ → ℕ) → weights_left rest h
             ≡ weighed_slots h kept.packets.items + weighed_queues h lanes.queues.items + weighed h kept.spares.blocks) }
@@ -172,7 +174,7 @@ impl Bench {
     }
 
     /// Works a round, or gives back what is left of it, for want of memory. Spares that went to others by the giver are
-    /// no blocks of the round any more.
+    /// no blocks of the round any more. By who gives all of them went, unless a put found no place.
     pub(crate) fn work<W: Works>(
         &mut self,
         works: &mut W,
@@ -195,6 +197,8 @@ impl Bench {
         ensures named_back { IfErr result (λ rest. (h : ℕ → ℕ) → weights_left rest h + weights_given giver.new h
             ≡ weights_of round h + weights_given giver.old h) }
         ensures gave { Lends giver.old giver.new }
+        ensures none_left { W.gives ≡ true
+            → IfOk result (λ worked. LeavesNoSpare giver.old giver.new worked.spares) }
         ensures same { self.new ≡ self.old }
     {
         let mut kept = self.keep_round(round)?;

@@ -38,6 +38,8 @@
 //! - `ok`, `err` of `write_round`: byte for byte what is written of a round that was worked.
 //! - `home`: how many blocks are home after each call, as an equation; after `drop_round` and `end_round`, and where
 //!   `work_round` wants memory, all of the round.
+//! - `freed` of `discard` of [`Round`] and [`Paused`]: a round that is given up outside its rounds frees just the
+//!   blocks that it has, and tells how many these are.
 //! - `need`, `taken`, `most`: the blocks that are out are what the packets need, and `taken` rises by at least as many;
 //!   it never falls, however merging ends (`least`).
 //! - `handled` of [`handle_from`]: the rounds that were read stand one behind another in the capture
@@ -52,7 +54,8 @@
 //! - `sum`, `home` of [`Intake`], `brings` of [`Bench`]: where one side reads and the other works no block is lost
 //!   between them, and `given`, `puts` and `gives` say of a round on its way what `merge_all` says of it.
 //! - `worked`, `brings` and `gave` where a giver is lent: what it gave and what comes home are together the round's
-//!   blocks, each counted once, and the giver comes back with an empty list and as many parts of its pass.
+//!   blocks, each counted once, and the giver comes back with an empty list and as many parts of its pass. By who gives
+//!   no spare stays with the round, unless a put found no place (`none_left`).
 //! - `alone` of [`Bench`]: where there are no taps and no clones are kept, nobody but a round's packets holds a block
 //!   of them once it was worked.
 //! - `given`, `reads`, `waits`, `paused`, `rose` of `work_and_read`: where the next round is read beside the work of
@@ -206,6 +209,7 @@ mod worked_parts;
 mod writing;
 
 pub use bench::Bench;
+pub use giving::give_list;
 pub use handler::RoundHandler;
 pub use intake::Intake;
 pub use lists::{Taker, bring_lists, open_lists};

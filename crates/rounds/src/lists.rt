@@ -1,5 +1,5 @@
 //! The pool by which lists of blocks come home while the other blocks of their round are out.
-ghost use Rattle.std.specs.Prelude.{◌≡◌, ◌⊎◌, ℕ, ◌+◌, ◌-◌, ◌<◌, ◌≤◌, ◌^◌, [], true, false, min, IfOk};
+ghost use Rattle.std.specs.Prelude.{◌≡◌, ◌⊎◌, ℕ, ◌+◌, ◌-◌, ◌<◌, ◌≤◌, ◌^◌, [], true, false, min, IfOk, IfSome};
 ghost use Rattle.std.specs.Arc.{arc_value};
 ghost use Rattle.block_pool.specs.Giving.{given_by, weights_given};
 ghost use Rattle.block_pool.specs.Listed.{blocks_in};
@@ -15,13 +15,14 @@ use std::alloc::{AllocError, Global};
 use std::marker::{Brand, PhantomData};
 use std::sync::{Arc, Wait};
 
-/// Places for the lists of all queues of as many rounds as may be read ahead. Where all are taken a list stays with its
-/// round.
-const LISTS: u32 = 192;
+/// Places for the lists of all queues of as many rounds as may be read ahead, and for one more of each, once it was
+/// written. Where all are taken a list stays with its round.
+const LISTS: u32 = 195;
 
 /// The end of the side that reads, which takes lists and gives none.
 #[derive(Drop)]
 pub struct Taker {
+    alloc: Global,
     pub(crate) lists: Arc<ListPool>,
     pub(crate) pass: ListPass,
     // Of a list that found no place at hand: nothing in fact.
@@ -75,6 +76,24 @@ impl Taker {
         };
         let _none = replace(&mut self.left, list.into_pool());
         self.put_left(pool)
+    }
+}
+
+impl Taker {
+    /// The memory of the list that came last, where all its blocks are home and it has so many places.
+    pub fn take_spent(&mut self, places: u32) -> Option<Pool>
+        ensures spent { IfSome result (λ list. (home list ≡ 0) × (list.made ≡ places)) }
+        ensures sum { listed_home self.new.pass self.new.left ≡ listed_home self.old.pass self.old.left }
+        ensures named { (h : ℕ → ℕ) → weights_home h self.new.pass self.new.left
+            ≡ weights_home h self.old.pass self.old.left }
+        ensures lists { arc_value self.new.lists ≡ arc_value self.old.lists }
+        ensures pass { self.new.pass ≡ self.old.pass }
+    {
+        if self.left.home() > 0 || self.left.made() != places {
+            return None;
+        }
+        let none = Pool::new(self.alloc);
+        Some(replace(&mut self.left, none))
     }
 }
 
@@ -156,6 +175,7 @@ pub fn open_lists(alloc: Global) -> Result<(Taker, Giver), AllocError>
     };
     let other = Arc::try_clone(&lists)?;
     let taker = Taker {
+        alloc,
         lists,
         pass: part,
         left: Pool::new(alloc),
@@ -206,6 +226,7 @@ pub fn bring_lists<R: Wait>(rt: &R, intake: &mut Intake, taker: Taker, giver: Op
 {
     let Some(giver) = giver else { unreachable!() };
     let Taker {
+        alloc: _,
         lists,
         mut pass,
         left,

@@ -99,14 +99,18 @@ impl Round {
         self.spares.home()
     }
 
-    /// Gives the round up outside its rounds: its blocks are freed. No memory is taken.
-    pub fn discard(self) {
+    /// Gives the round up outside its rounds: its blocks are freed, and the answer is how many these are, all that it
+    /// has. No memory is taken.
+    pub fn discard(self) -> usize
+        ensures freed { result ≡ self.blocks }
+    {
+        let _ = self.blocks();
         let Round {
             packets,
-            spares: _spares,
+            spares,
             blocks: _,
         } = self;
-        packets.free();
+        packets.free() + spares.home() as usize
     }
 }
 
@@ -223,13 +227,15 @@ impl Paused {
     }
 
     /// Gives the round up outside its rounds, as [`Round::discard`].
-    pub fn discard(self) {
+    pub fn discard(self) -> usize
+        ensures freed { result ≡ self.round.blocks }
+    {
         let Paused {
             round,
             head: _,
             empty: _,
         } = self;
-        round.discard();
+        round.discard()
     }
 }
 

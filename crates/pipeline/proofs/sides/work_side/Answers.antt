@@ -1,17 +1,17 @@
 use Rattle.std.proofs.Common.{◌≡◌, ◌+◌, ◌≤◌, ℕ, [], ◌∷◌, ◌++◌, None, Some, List, refl, inr, sym, ap, subst, arith, rules, length}
 use Rattle.block_pool.specs.PoolState.{PoolState, home, weighed}
-use Rattle.rtrb.specs.Ring.{received}
+use Rattle.rtrb.specs.Ring.{received, sent}
 use Rattle.rounds.specs.Benches.{options_at}
 use Rattle.rounds.specs.RoundsState.{BenchState}
 use Rattle.rounds.specs.Weights.{weights_of}
 use Rattle.rounds.specs.declared.round.RoundRead.{RoundRead}
 use Rattle.rounds.specs.Handled.{Ends, Went}
-use Rattle.pipeline.specs.Parcels.{blocks_of, packets_of, rounds_of, weights_sent}
+use Rattle.pipeline.specs.Parcels.{blocks_of, packets_of, rounds_of, weights_sent, BringsNone}
 use Rattle.rounds.proofs.Going.{went_more, went_ends, went_stopped}
 use Rattle.pipeline.proofs.Rows.{blocks_last, packets_append, rounds_last, rounds_none, weighed_none, weights_sent_append}
 use Rattle.rounds.proofs.Going.{ready_as}
 use Rattle.pipeline.proofs.Together.{handled_as}
-use Rattle.pipeline.proofs.Lending.{lends_same, lends_then, lent_again}
+use Rattle.pipeline.proofs.Lending.{brings_none, brings_none_lent, brings_none_more, lends_same, lends_then, lent_again}
 use Rattle.pipeline.proofs.sides.work_side.Goals as goal
 
 pub returns-then-not-has_begun-clause-lends : goal.returns-then-not-has_begun-clause-lends
@@ -246,11 +246,14 @@ loop-preserved g c =
       room = search rules;
       empty = i.empty;
       bench = search rules;
-      lends = lends_then c.args.giver.now l.giver c.handle.new.giver i.lends h.gave;
+      lends = lends_then c.args.giver.now c.handle.new.giver c.give_list.new.giver (lends_then c.args.giver.now l.giver c.handle.new.giver i.lends h.gave) c.give_list.ensures.gave;
+      brings = brings_none_more (sent l.told) (sent c.send_home-in-loop.new.told) c.args.giver.now l.giver c.handle.new.giver c.give_list.new.giver c.give_list.new.list.blocks
+          c.send_home-in-loop.ensures.sum i.lends h.gave c.give_list.ensures.gave c.give_list.ensures.none_left i.brings;
       each = omega (
         arith,
         i.each,
         c.send_home-in-loop.ensures.sum,
+        c.give_list.ensures.sum,
         ap home o.2,
         c.in-Some-receive.ensures.allowed.empty,
         h.brings.count,
@@ -262,6 +265,7 @@ loop-preserved g c =
         arith,
         i.named x,
         c.send_home-in-loop.ensures.named x,
+        c.give_list.ensures.named x,
         ap (λ (s : PoolState). weighed x s.blocks) o.2,
         weighed_none x p.shelf.blocks c.in-Some-receive.ensures.allowed.empty,
         h.brings.named x,
@@ -278,3 +282,25 @@ loop-preserved g c =
       ready = subst (λ (m : ℕ). g.H.RoundHandler.ready (options_at first) first.keep m c.handle.new.into)
           (omega (arith, ap packets_of now, counted, ap (λ (r : RoundRead). length r.round.packets) o.1)) ready;
     }
+
+pub give_list-requires : goal.give_list-requires
+give_list-requires g c = record { lent = lent_again c.args.giver.now c.handle.new.giver (lends_then c.args.giver.now c.loop.giver c.handle.new.giver c.loop.invariant.lends c.handle.ensures.gave) }
+
+pub returns-then-not-has_begun-clause-none_left : goal.returns-then-not-has_begun-clause-none_left
+returns-then-not-has_begun-clause-none_left g c =
+    subst (λ ts. BringsNone ts c.args.giver.now c.args.giver.now) (sym c.requires.none.1) (brings_none c.args.giver.now)
+
+pub returns-in_default-clause-none_left : goal.returns-in_default-clause-none_left
+returns-in_default-clause-none_left g c = c.loop.invariant.brings
+
+pub returns-in-Some-handle-clause-none_left : goal.returns-in-Some-handle-clause-none_left
+returns-in-Some-handle-clause-none_left g c =
+    let l = c.loop in
+    brings_none_lent (sent l.told) (sent c.send_home.new.told) c.args.giver.now l.giver c.handle.new.giver
+    (omega (arith, c.send_home.ensures.sum, ap home c.replace.ensures.value, l.invariant.empty)) c.handle.ensures.gave l.invariant.brings
+
+pub returns-then-is_err-clause-none_left : goal.returns-then-is_err-clause-none_left
+returns-then-is_err-clause-none_left g c =
+    let l = c.loop in
+    brings_none_lent (sent l.told) (sent c.send_home-then-is_err.new.told) c.args.giver.now l.giver c.handle.new.giver
+    (omega (arith, c.send_home-then-is_err.ensures.sum, ap home c.replace-then-is_err.ensures.value, l.invariant.empty)) c.handle.ensures.gave l.invariant.brings

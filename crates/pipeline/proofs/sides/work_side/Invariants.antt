@@ -4,7 +4,7 @@ use Rattle.block_pool.specs.PoolState.{home}
 use Rattle.rounds.specs.Benches.{options_at, HasRoom, IsSameBench, Lends}
 use Rattle.rtrb.specs.Ring.{sent, received, SameProducer, SameConsumer}
 use Rattle.rounds.specs.Handled.{Went}
-use Rattle.pipeline.specs.Parcels.{blocks_of, homes_of, packets_of, rounds_of, weights_back, weights_sent}
+use Rattle.pipeline.specs.Parcels.{blocks_of, homes_of, packets_of, rounds_of, weights_back, weights_sent, BringsNone}
 use Rattle.pipeline.proofs.sides.work_side.Given as goal
 
 abbrev pub invariant-loop : goal.invariant-loop
@@ -17,6 +17,7 @@ invariant-loop g l = record {
   each : homes_of (sent l.told) + given_by l.giver ≡ blocks_of (received l.from) + given_by l.initial.giver;
   named : (h : ℕ → ℕ) → weights_back h (sent l.told) + weights_given l.giver h ≡ weights_sent h (received l.from) + weights_given l.initial.giver h;
   lends : Lends l.initial.giver l.giver;
+  brings : BringsNone (sent l.told) l.initial.giver l.giver;
   went : Went (g.H.RoundHandler.did l.handler (options_at l.initial.bench)) 0 l.initial.into l.into (rounds_of (received l.from));
   few : packets_of (rounds_of (received l.from)) ≤ 2 ^ 32 + 4096;
   ready : g.H.RoundHandler.ready (options_at l.initial.bench) l.initial.bench.keep (packets_of (rounds_of (received l.from))) l.into;

@@ -9,14 +9,14 @@ use Rattle.pipeline.proofs.desk.Desk.meet.Goals as goal
 pub invariant_of-self-clause-counted : goal.invariant_of-self-clause-counted
 invariant_of-self-clause-counted g c =
     let less = left_less (home c.args.pool.now) (home c.refill.new.self) (home c.in-Some.token.shelf) (home c.refill.new.from) c.args.pool.now.made c.refill.ensures.sum c.refill.ensures.all
-    (omega (arith, c.home.ensures.within, c.home.ensures.home)) in
+    (omega (arith, c.home-before.ensures.within, c.home-before.ensures.home)) in
     omega (
       arith,
       c.args.self.now.counted,
       less,
       ap homes_of c.in-Some.ensures.token,
       homes_last (received c.args.self.now.tokens) c.in-Some.token,
-      ap shelved c.push_front_reserved.ensures.items,
+      c.keep.ensures.sum,
       ap
           (λ s. shelved s.items) c.in-Some.ensures.same.0,
     )
@@ -24,14 +24,14 @@ invariant_of-self-clause-counted g c =
 pub invariant_of-self-else-not-goes-clause-counted : goal.invariant_of-self-else-not-goes-clause-counted
 invariant_of-self-else-not-goes-clause-counted g c =
     let less = left_less (home c.args.pool.now) (home c.refill.new.self) (home c.in-Some.token.shelf) (home c.refill.new.from) c.args.pool.now.made c.refill.ensures.sum c.refill.ensures.all
-    (omega (arith, c.home.ensures.within, c.home.ensures.home)) in
+    (omega (arith, c.home-before.ensures.within, c.home-before.ensures.home)) in
     omega (
       arith,
       c.args.self.now.counted,
       less,
       ap homes_of c.in-Some.ensures.token,
       homes_last (received c.args.self.now.tokens) c.in-Some.token,
-      ap shelved c.push_front_reserved.ensures.items,
+      c.keep.ensures.sum,
       ap
           (λ s. shelved s.items) c.in-Some.ensures.same.0,
     )
@@ -44,8 +44,7 @@ returns-then-not-goes-clause-sum g c =
       c.refill.ensures.sum,
       ap homes_of c.in-Some.ensures.token,
       homes_last (received c.args.self.now.tokens) c.in-Some.token,
-      ap shelved
-          c.push_front_reserved.ensures.items,
+      c.keep.ensures.sum,
       ap (λ s. shelved s.items) c.in-Some.ensures.same.0,
       ap (λ t. listed_home t.pass t.left) c.in-Some.ensures.same.1,
     )
@@ -58,8 +57,7 @@ returns-else-not-goes-clause-sum g c =
       c.refill.ensures.sum,
       ap homes_of c.in-Some.ensures.token,
       homes_last (received c.args.self.now.tokens) c.in-Some.token,
-      ap shelved
-          c.push_front_reserved.ensures.items,
+      c.keep.ensures.sum,
       ap (λ s. shelved s.items) c.in-Some.ensures.same.0,
       ap (λ t. listed_home t.pass t.left) c.in-Some.ensures.same.1,
     )
@@ -72,7 +70,7 @@ invariant_of-self-clause-weighs g c h =
       left_weighs h c.in-Some.token.shelf c.refill.new.from c.args.pool.now c.refill.new.self c.refill.ensures.moved,
       ap (weights_back h) c.in-Some.ensures.token,
       weights_back_last h (received c.args.self.now.tokens) c.in-Some.token,
-      ap (weights_shelved h) c.push_front_reserved.ensures.items,
+      c.keep.ensures.named h,
       ap (λ s. weights_shelved h s.items) c.in-Some.ensures.same.0,
     )
 
@@ -84,7 +82,7 @@ invariant_of-self-else-not-goes-clause-weighs g c h =
       left_weighs h c.in-Some.token.shelf c.refill.new.from c.args.pool.now c.refill.new.self c.refill.ensures.moved,
       ap (weights_back h) c.in-Some.ensures.token,
       weights_back_last h (received c.args.self.now.tokens) c.in-Some.token,
-      ap (weights_shelved h) c.push_front_reserved.ensures.items,
+      c.keep.ensures.named h,
       ap (λ s. weights_shelved h s.items) c.in-Some.ensures.same.0,
     )
 
@@ -97,7 +95,7 @@ returns-then-not-goes-clause-named g c h =
       refill_weighs h c.in-Some.token.shelf.blocks c.refill.new.from.blocks c.args.pool.now.blocks c.refill.new.self.blocks c.refill.ensures.blocks,
       ap (weights_back h) c.in-Some.ensures.token,
       weights_back_last h (received c.args.self.now.tokens) c.in-Some.token,
-      ap (weights_shelved h) c.push_front_reserved.ensures.items,
+      c.keep.ensures.named h,
       ap (λ s. weights_shelved h s.items) c.in-Some.ensures.same.0,
       ap (λ t. weights_home h t.pass t.left) c.in-Some.ensures.same.1,
     )
@@ -111,7 +109,7 @@ returns-else-not-goes-clause-named g c h =
       refill_weighs h c.in-Some.token.shelf.blocks c.refill.new.from.blocks c.args.pool.now.blocks c.refill.new.self.blocks c.refill.ensures.blocks,
       ap (weights_back h) c.in-Some.ensures.token,
       weights_back_last h (received c.args.self.now.tokens) c.in-Some.token,
-      ap (weights_shelved h) c.push_front_reserved.ensures.items,
+      c.keep.ensures.named h,
       ap (λ s. weights_shelved h s.items) c.in-Some.ensures.same.0,
       ap (λ t. weights_home h t.pass t.left) c.in-Some.ensures.same.1,
     )
@@ -119,11 +117,11 @@ returns-else-not-goes-clause-named g c h =
 pub returns-then-not-goes-clause-rises : goal.returns-then-not-goes-clause-rises
 returns-then-not-goes-clause-rises g c =
     let less = left_less (home c.args.pool.now) (home c.refill.new.self) (home c.in-Some.token.shelf) (home c.refill.new.from) c.args.pool.now.made c.refill.ensures.sum c.refill.ensures.all
-    (omega (arith, c.home.ensures.within, c.home.ensures.home)) in
+    (omega (arith, c.home-before.ensures.within, c.home-before.ensures.home)) in
     omega (arith, less, c.refill.ensures.sum)
 
 pub returns-else-not-goes-clause-rises : goal.returns-else-not-goes-clause-rises
 returns-else-not-goes-clause-rises g c =
     let less = left_less (home c.args.pool.now) (home c.refill.new.self) (home c.in-Some.token.shelf) (home c.refill.new.from) c.args.pool.now.made c.refill.ensures.sum c.refill.ensures.all
-    (omega (arith, c.home.ensures.within, c.home.ensures.home)) in
+    (omega (arith, c.home-before.ensures.within, c.home-before.ensures.home)) in
     omega (arith, less, c.refill.ensures.sum)

@@ -9,4 +9,4 @@ invariant-loop g l =
     × (l.pool.made ≡ l.initial.pool.made) × (l.pool.taken ≡ l.initial.pool.taken)
     × ((h : ℕ → ℕ) → weighed h l.pool.blocks + weights_to l.initial.self h ≡ weighed h l.initial.pool.blocks + weights_to l.self h)
     × (home l.initial.pool ≤ home l.pool)
-    × (l.self.taker ≡ l.initial.self.taker)
+    × (l.initial.self.taker.pass.empties ≤ l.self.taker.pass.empties)

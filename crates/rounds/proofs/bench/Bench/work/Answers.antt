@@ -6,11 +6,11 @@ use Rattle.gro.specs.Slots.{packet_of}
 use Rattle.rounds.specs.declared.lane_work.Kept.{Kept}
 use Rattle.rounds.specs.Kept.{IsKept}
 use Rattle.rounds.specs.Lanes.{IsKeptWorkOf}
-use Rattle.rounds.specs.Benches.{options_at}
+use Rattle.rounds.specs.Benches.{options_at, LeavesNoSpare}
 use Rattle.rounds.specs.RoundsState.{BenchState}
 use Rattle.rounds.specs.Weights.{weights_of, weights_left, weights_worked}
 use Rattle.rounds.proofs.Keeping.{blocks_left, kept_work, out_worked, rest_left, settles, weights_back, weights_then}
-use Rattle.rounds.proofs.Lending.{went}
+use Rattle.rounds.proofs.Lending.{leaves_no_spare, of_worked, on_ok, went}
 use Rattle.rounds.proofs.bench.Bench.work.Goals as goal
 
 pub work_packets-done-requires-clause-shared : goal.work_packets-done-requires-clause-shared
@@ -97,3 +97,12 @@ returns-clause-named_back g c =
     w.ensures.gave c.swap_list-2.ensures.swapped in
     weights_back weights_left _ (weights_of c.args.round) (weights_given c.args.giver.now) (weights_given c.swap_list-2.new.giver) c.settle.result
     (λ h. omega (arith, gone.named h, w.ensures.named h, c.in_ok-kept.ensures.named h)) c.settle.ensures.named_back
+
+pub returns-clause-none_left : goal.returns-clause-none_left
+returns-clause-none_left g c = λ gives.
+    let k = c.in_ok-kept.kept in
+    let w = c.work_packets-done in
+    let left = c.swap_list-2.new.list in
+    of_worked w.result c.settle.result left.blocks (LeavesNoSpare c.args.giver.now c.swap_list-2.new.giver) c.settle.ensures.spares
+    (on_ok w.result (λ none. leaves_no_spare c.args.giver.now c.swap_list.new.giver w.new.giver c.swap_list-2.new.giver k.spares c.swap_list.new.list left c.swap_list.ensures.swapped none
+    c.swap_list-2.ensures.swapped) (w.ensures.none_left gives))
