@@ -46,6 +46,18 @@ module _ (p : Packet) (ps : List Packet) (layout : Layout) (sum : FoldAndLength)
   comes_to frame original n m modes several ef eo en em es =
       made_is p ps layout frame original n m modes r.shape several ef eo en em (es ∙ r.progress.staying (omega arith))
 
+-- what is known of a run's packets where they lie in buffers
+pub record IsHeldRun (first : Held) (rest : List Held) (layout : Layout) (sum : FoldAndLength) (bits : ℕ) (state : Progress) : Type 0 where
+  pub laid : AreLaid 0 layout.headers layout.payload_at
+  pub low : layout.payload_at ≤ 200
+  pub ranges : AtHeaders (IsLengthInRange (layout.payload_at + sum.len)) layout.headers
+  pub few : layout.payload_at + sum.len < 2 ^ 31
+  pub payload : StandsFor sum (payloads layout.payload_at (first ∷ rest))
+  pub each : AreJoinable layout.payload_at (first ∷ rest)
+  pub small : layout.payload_at + sizes_behind layout.payload_at (first ∷ rest) < 2 ^ 31
+  pub fits_m : buffer_size first.skb - layout.payload_at ≤ 262070
+  pub fits_n : length rest + 1 ≤ 262070
+
 module _ (first : Held) (rest : List Held) (layout : Layout) (sum : FoldAndLength) (bits : ℕ) (state : Progress)
     (r : IsRunOf layout sum bits state (packet_of first) (packet_of first ∷ map packet_of rest)) (held : AreHeld (first ∷ rest)) where
   abbrev p : Packet
@@ -54,32 +66,22 @@ module _ (first : Held) (rest : List Held) (layout : Layout) (sum : FoldAndLengt
   abbrev ps : List Packet
   ps = map packet_of rest
 
-  pub is_laid : AreLaid 0 layout.headers layout.payload_at
-  is_laid = laid_out p ps layout sum bits state r
-
-  pub is_low : layout.payload_at ≤ 200
-  is_low = (bounded p ps layout sum bits state r).2
-
-  pub is_in_range : AtHeaders (IsLengthInRange (layout.payload_at + sum.len)) layout.headers
-  is_in_range = in_range p ps layout sum bits state r (layout.payload_at + sum.len) refl
-
-  pub is_few : layout.payload_at + sum.len < 2 ^ 31
-  is_few = omega (arith, payload_short p ps layout sum bits state r)
-
-  pub is_payload : StandsFor sum (payloads layout.payload_at (first ∷ rest))
-  is_payload = subst (StandsFor sum) (sym (payloads_held layout (first ∷ rest))) r.payload
-
-  pub is_joinable : AreJoinable layout.payload_at (first ∷ rest)
-  is_joinable = joinable layout.payload_at (first ∷ rest) is_low held (all_inside p ps layout sum bits state r)
-
-  pub is_small : layout.payload_at + sizes_behind layout.payload_at (first ∷ rest) < 2 ^ 31
-  is_small = omega (arith, sizes_are layout.payload_at (first ∷ rest) held, is_payload.1, is_few)
-
-  pub fits_m : buffer_size first.skb - layout.payload_at ≤ 262070
-  fits_m = omega (arith, first_short p ps layout sum bits state r, held.0.size)
-
-  pub fits_n : length rest + 1 ≤ 262070
-  fits_n = omega (arith, few p ps layout sum bits state r, length-map rest packet_of)
+  pub held_run : IsHeldRun first rest layout sum bits state
+  held_run =
+      let low = (bounded p ps layout sum bits state r).2 in
+      let short = payload_short p ps layout sum bits state r in
+      let payload = subst (StandsFor sum) (sym (payloads_held layout (first ∷ rest))) r.payload in
+      record {
+        laid = laid_out p ps layout sum bits state r;
+        low = low;
+        ranges = in_range p ps layout sum bits state r (layout.payload_at + sum.len) refl;
+        few = omega (arith, short);
+        payload = payload;
+        each = joinable layout.payload_at (first ∷ rest) low held (all_inside p ps layout sum bits state r);
+        small = omega (arith, sizes_are layout.payload_at (first ∷ rest) held, payload.1, short);
+        fits_m = omega (arith, first_short p ps layout sum bits state r, held.0.size);
+        fits_n = omega (arith, few p ps layout sum bits state r, length-map rest packet_of);
+      }
 
   pub item_is : (frame : List ℕ) (original n m modes : ℕ) → 1 ≤ length rest
       → ((last : List ℕ) → AtHeaders (HasFlags bits last) layout.headers → frame ≡ merged_frame layout (buffer_bytes first.skb) last (payloads layout.payload_at (first ∷ rest)))

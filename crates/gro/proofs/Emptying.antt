@@ -2,13 +2,11 @@
 use Rattle.std.proofs.Common.{◌≡◌, ◌≢◌, ℕ, zero, suc, ◌-◌, ◌<◌, ◌≤◌, inl, inr, Option, None, List, [], ◌∷◌, ◌++◌, length, get_or, map, set, refl, sym, ap, ◌∙◌, subst, arith}
 use Rattle.std.specs.List.{AllByRecursion, flat_map}
 use Rattle.std.proofs.lemmas.Bool.{cases_eq, cases_lt}
-use Rattle.std.proofs.lemmas.List.{length-set, length-map, nil_from_length}
+use Rattle.std.proofs.lemmas.List.{length-set, length-map}
 use Rattle.maximal_runs.proofs.Pass.{all_front, all_back}
 use Rattle.gro.specs.declared.packet.Packet.{Packet as Held}
 use Rattle.gro.specs.declared.run.Run.{Run}
-use Rattle.gro.specs.declared.places.Places.{Places}
 use Rattle.gro.specs.Held.{packet_of}
-use Rattle.gro.specs.Places.{IsPlaceOf}
 use Rattle.gro.specs.Chains.{chain_of, behind, indices, index_sum, mark, AreDistinct}
 use Rattle.gro.specs.Waiting.{one_in, found, chosen, AreThere, Empties, held_at, IsRun, AreWaiting}
 use Rattle.gro.proofs.Chains.{mark_same, mark_other, sum_append, chain_step, chain_done}
@@ -183,45 +181,30 @@ module _ (next : List ℕ) (r : Run) (rs : List Run) (xs : List (Option Held)) (
 
 -- ---- the first packet of a run is taken
 
-module _ (run : Run) (next : List ℕ) (xs ys : List (Option Held)) (p : Held) (there : AreThere xs (indices next run)) (distinct : AreDistinct (indices next run))
-    (is : IsRun run (held_at next xs run)) (f : found xs run.first ≡ p ∷ []) (left : ys ≡ set xs run.first None) where
-  abbrev rest : List Held
-  rest = chosen ys (behind next run)
+pub record IsFirstTaken (run : Run) (next : List ℕ) (xs ys : List (Option Held)) (p : Held) : Type 0 where
+  pub split : held_at next xs run ≡ p ∷ chosen ys (behind next run)
+  pub run_split : IsRun run (p ∷ chosen ys (behind next run))
+  pub more : length (chosen ys (behind next run)) ≡ run.more
+  pub there : AreThere ys (behind next run)
+  pub empties : (zs : List (Option Held)) → Empties (behind next run) ys zs → Empties (indices next run) xs zs
+  pub alone : length (chosen ys (behind next run)) ≤ 0 → Empties (indices next run) xs ys
 
-  pub split : held_at next xs run ≡ p ∷ rest
-  split =
-      cut xs run.first (indices next run) (behind next run) p refl there distinct f
-      ∙ ap (λ (z : List (Option Held)). p ∷ chosen z (behind next run)) (sym left)
-
-  pub run_split : IsRun run (p ∷ rest)
-  run_split = subst (IsRun run) split is
-
-  pub more_left : length rest ≡ run.more
-  more_left = sym (length-map rest packet_of) ∙ run_split.0.more
-
-  pub there_left : AreThere ys (behind next run)
-  there_left =
-      subst (λ (z : List (Option Held)). AreThere z (behind next run)) (sym left)
-      (there_on xs run.first (indices next run) (behind next run) p refl there distinct f)
-
-  pub distinct_left : AreDistinct (behind next run)
-  distinct_left = distinct_on xs run.first (indices next run) (behind next run) p refl there distinct f
-
-  pub size_left : length ys ≡ length xs
-  size_left = ap length left ∙ length-set xs run.first None
-
-  pub empties_left : (zs : List (Option Held)) → Empties (behind next run) ys zs → Empties (indices next run) xs zs
-  empties_left zs h =
-      empties_first xs run.first (indices next run) (behind next run) p refl there distinct f zs
-      (subst (λ (z : List (Option Held)). Empties (behind next run) z zs) left h)
-
-  pub empties_alone : length rest ≤ 0 → Empties (indices next run) xs ys
-  empties_alone h =
-      let none : behind next run ≡ [] = chain_done next run.more (get_or next run.first 0) (omega (arith, h, more_left)) in
-      empties_left ys (subst (λ (z : List ℕ). Empties z ys ys) (sym none) (empties_none ys))
-
-  pub places_left : (places : Places) → IsPlaceOf (held_at next xs run) places → IsPlaceOf (p ∷ rest) places
-  places_left places h = subst (λ (z : List Held). IsPlaceOf z places) split h
-
-  pub alone_left : length (p ∷ rest) ≤ 1 → held_at next xs run ≡ p ∷ []
-  alone_left h = split ∙ ap (λ (z : List Held). p ∷ z) (nil_from_length rest (omega (arith, h)))
+pub first_taken : (run : Run) (next : List ℕ) (xs ys : List (Option Held)) (p : Held) → AreThere xs (indices next run) → AreDistinct (indices next run)
+    → IsRun run (held_at next xs run) → found xs run.first ≡ p ∷ [] → ys ≡ set xs run.first None → IsFirstTaken run next xs ys p
+first_taken run next xs ys p there distinct is f left =
+    let behind_it = behind next run in
+    let split : held_at next xs run ≡ p ∷ chosen ys behind_it
+    = cut xs run.first (indices next run) behind_it p refl there distinct f ∙ ap (λ (z : List (Option Held)). p ∷ chosen z behind_it) (sym left) in
+    let whole : IsRun run (p ∷ chosen ys behind_it) = subst (IsRun run) split is in
+    let more : length (chosen ys behind_it) ≡ run.more = sym (length-map (chosen ys behind_it) packet_of) ∙ whole.0.more in
+    let empties : (zs : List (Option Held)) → Empties behind_it ys zs → Empties (indices next run) xs zs
+    = λ zs h. empties_first xs run.first (indices next run) behind_it p refl there distinct f zs (subst (λ (z : List (Option Held)). Empties behind_it z zs) left h) in
+    record {
+      split = split;
+      run_split = whole;
+      more = more;
+      there = subst (λ (z : List (Option Held)). AreThere z behind_it) (sym left) (there_on xs run.first (indices next run) behind_it p refl there distinct f);
+      empties = empties;
+      alone = λ h. let none : behind_it ≡ [] = chain_done next run.more (get_or next run.first 0) (omega (arith, h, more)) in
+          empties ys (subst (λ (z : List ℕ). Empties z ys ys) (sym none) (empties_none ys));
+    }

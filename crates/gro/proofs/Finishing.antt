@@ -111,18 +111,6 @@ shared_too ps rs same a = facts_too (λ p. is_sole p.skb.head ≡ false) (λ p. 
 least_too : (w : ℕ) (ps : List Held) (rs : List (List Held)) → AreSame ps rs → WeighAtLeast w ps → AllByRecursion (WeighAtLeast w) rs
 least_too w ps rs same a = facts_too (λ p. w ≤ buffer_least p.skb) (λ p. w - buffer_least p.skb) (λ p h. omega (arith, h)) (λ p e. omega (arith, e)) ps rs same a
 
--- as many blocks and parts as the packets had
-pub counts_received : (ps : List Held) (t : TableState) → Received ps t → counts_in t.runs ≡ counts_of ps
-counts_received ps t r = counts_totals t.runs ∙ sym (r.same count_of) ∙ sym (counts_total ps)
-
--- what the packets hold is what the table does
-pub received_held : (ps : List Held) (t : TableState) → Received ps t → (u : Tests) (m : ℕ) → ((of_runs t.runs).held u m ≡ (of_packets ps).held u m)
-    × ((of_runs t.runs).homes u.blocks m ≡ (of_packets ps).homes u.blocks m)
-received_held ps t r u m = (
-  runs_held u m t.runs ∙ sym (r.same (λ p. (of_packet p).held u m)) ∙ sym (packets_held u m ps),
-  runs_home u.blocks m t.runs ∙ sym (r.same (λ p. (of_packet p).homes u.blocks m)) ∙ sym (packets_home u.blocks m ps),
-)
-
 pub received_count : (ps : List Held) (t : TableState) (is : List Item) → Received ps t → AreItemsFrom t.runs is → counts_of_items is ≡ counts_of ps
 received_count ps t is r a = items_count t.runs is a ∙ counts_totals t.runs ∙ sym (r.same count_of) ∙ sym (counts_total ps)
 

@@ -8,7 +8,7 @@ use Rattle.pcap_io.specs.Capture.{Packet}
 use Rattle.frame_layout.specs.Key.{key_eq, key_of}
 use Rattle.offload_model.specs.Mergeable.{IsMergeable, IsMergeableWithin}
 use Rattle.offload_model.specs.Rounds.{is_of}
-use Rattle.offload_model.proofs.Items.{key_eq_same, key_eq_self}
+use Rattle.offload_model.proofs.Items.{key_eq_same}
 use Rattle.merge_rule.specs.Steps.{IsLastBelow, TakesPacket}
 use Rattle.merge_rule.proofs.Steps.{run_grows, run_opens}
 use Rattle.gro.specs.Index.{IsShut, IsFound, IsIndexOf, IsLatest}
@@ -219,11 +219,3 @@ pub latest_of : (look : Option (List ℕ) → Option ℕ) (rs : List (List Packe
     → look key ≡ (if is_open then Some i else None) → IsLatest look rs (if is_open then Some i else None)
 latest_of look rs key i true h b e = (h, λ q t. ap look (one_flow q key (get_or rs i []) t b) ∙ e)
 latest_of look rs key i false h b e = tt
-
--- the packet that it takes finds it
-pub latest_found : (look : Option (List ℕ) → Option ℕ) (rs : List (List Packet)) (i : ℕ) (first x : Packet)
-    (rest : List Packet) → IsLatest look rs (Some i) → get_or rs i [] ≡ first ∷ rest
-    → key_of x.frame ≡ key_of first.frame → look (key_of x.frame) ≡ Some i
-latest_found look rs i first x rest l e k =
-    let key : Option (List ℕ) = key_of x.frame in
-    l.1 key (ap (is_run_of key) e ∙ ap (key_eq key) (sym k) ∙ key_eq_self key)

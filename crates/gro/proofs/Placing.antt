@@ -1,8 +1,5 @@
 -- Places and items, one after the other.
 use Rattle.std.proofs.Common.{◌≡◌, ℕ, zero, suc, ◌+◌, ◌-◌, ◌<◌, ◌≤◌, List, [], ◌∷◌, ◌++◌, length, get_or, map, drop, refl, sym, ap, ◌∙◌, subst, arith, append_assoc}
-use Rattle.std.specs.Prelude.{IfOk, Ok, Err}
-use Rattle.std.specs.declared.alloc.AllocError.{AllocError}
-use Rattle.std.specs.declared.result.Result.{Result}
 use Rattle.std.proofs.lemmas.List.{drop_more, append-nil, nil_from_length, length-drop}
 use Rattle.gro.specs.declared.packet.Packet.{Packet as Held}
 use Rattle.gro.specs.declared.packet_list.PacketList.{PacketList}
@@ -10,12 +7,11 @@ use Rattle.gro.specs.declared.slot.Slot.{Slot}
 use Rattle.gro.specs.declared.run.Run.{Run}
 use Rattle.gro.specs.declared.engine.Engine.{Engine}
 use Rattle.gro.specs.declared.places.Places.{Places}
-use Rattle.gro.specs.declared.places.Places.TheVariants.{Alone, Several}
 use Rattle.gro.specs.declared.item.Item.{Item}
-use Rattle.gro.specs.Build.{pieces_in, free_in}
+use Rattle.gro.specs.Build.{pieces_in}
 use Rattle.gro.specs.Chains.{chain_of}
 use Rattle.gro.specs.Held.{count_of, counts_of}
-use Rattle.gro.specs.Places.{IsEmpty, AreEmpty, AreSeveral, IsPlaceOf, ArePlacesOf}
+use Rattle.gro.specs.Places.{IsEmpty, AreEmpty, ArePlacesOf}
 use Rattle.gro.specs.Slots.{held_of, ArePaired}
 use Rattle.gro.specs.Table.{AreItemsFrom}
 use Rattle.gro.specs.Totals.{total, totals}
@@ -57,17 +53,6 @@ pieces_step l next left k d paired h inside =
     ap (λ (z : List ℕ). pieces_in (chosen (lined_up l) z)) (chain_step next left k h)
     ∙ ap (λ (z : List Held). pieces_in (z ++ chosen (lined_up l) rest)) w.1
 
--- places of several packets serve packets that are as many
-several_are : (ps : List Held) (count free : ℕ) (p : Places) → 2 ≤ length ps → pieces_in ps ≤ count → free_in ps ≤ free
-    → AreSeveral count free p → IsPlaceOf ps p
-several_are ps count free (Alone out) h a b s = absurd s
-several_are ps count free (Several pieces out) h a b s = (h, (s.0, omega (arith, a, s.1), omega (arith, b, s.2)))
-
-pub several_serve : (ps : List Held) (count free : ℕ) (found : Result Places AllocError) → 2 ≤ length ps → pieces_in ps ≤ count
-    → free_in ps ≤ free → IfOk found (λ p. AreSeveral count free p) → IfOk found (λ p. IsPlaceOf ps p)
-several_serve ps count free (Ok p) h a b s = several_are ps count free p h a b s
-several_serve ps count free (Err e) h a b s = tt
-
 pub empty_more : (ps : List Places) (p : Places) → AreEmpty ps → IsEmpty p → AreEmpty (ps ++ p ∷ [])
 empty_more [] p a e = (e, tt)
 empty_more (q ∷ qs) p a e = (a.0, empty_more qs p a.1 e)
@@ -75,13 +60,6 @@ empty_more (q ∷ qs) p a e = (a.0, empty_more qs p a.1 e)
 -- the run at a place comes first of those from there on
 pub run_first : (rs : List Run) (i : ℕ) (r : Run) → i < length rs → r ≡ get_or rs i r → drop i rs ≡ r ∷ drop (i + 1) rs
 run_first rs i r h e = drop_more rs i r h ∙ ap (λ (z : Run). z ∷ drop (i + 1) rs) (sym e)
-
-pub places_more : (g : Run → List Held) (rs : List Run) (i : ℕ) (r : Run) (all : List Places) (p : Places) → i < length rs → r ≡ get_or rs i r → IsPlaceOf (g r) p
-    → ((qs : List Places) → ArePlacesOf (map g (drop i rs)) qs → ArePlacesOf (map g rs) (all ++ qs))
-    → (qs : List Places) → ArePlacesOf (map g (drop (i + 1) rs)) qs → ArePlacesOf (map g rs) ((all ++ p ∷ []) ++ qs)
-places_more g rs i r all p h e is f qs a =
-    subst (ArePlacesOf (map g rs)) (sym (append_assoc all (p ∷ []) qs))
-    (f (p ∷ qs) (subst (λ (z : List Run). ArePlacesOf (map g z) (p ∷ qs)) (sym (run_first rs i r h e)) (is, a)))
 
 pub no_places : (g : Run → List Held) (rs : List Run) (i : ℕ) → i < length rs → ArePlacesOf (map g (drop i rs)) [] → ⊥
 no_places g [] i h a = absurd (omega (arith, h))

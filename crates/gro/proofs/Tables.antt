@@ -21,7 +21,7 @@ use Rattle.gro.specs.Engine.{runs_of, AreRuns, HasPlaces, IsReady, Takes}
 use Rattle.gro.specs.Totals.{total, totals}
 use Rattle.gro.specs.Waiting.{run_held, held_in, AreTogether}
 use Rattle.gro.specs.Table.{TableState, IsTable, AreRunsOf, Received, counts_in}
-use Rattle.gro.proofs.Merging.{none_yet, ready_received}
+use Rattle.gro.proofs.Merging.{ready_received}
 use Rattle.gro.proofs.Lining.{whole_push, counts_more, total_push, counts_total, same_sums, same_runs, runs_stay, are_more}
 
 pub counts_totals : (rs : List (List Held)) → counts_in rs ≡ totals count_of rs
@@ -57,16 +57,6 @@ slots_less l m n h p = (omega (arith, h, p.0), omega (arith, h, p.1))
 
 pub slots_none : (l : PacketList) → HasSlots l 0
 slots_none l = (omega (arith, l.slots.ok.1), omega (arith, l.spares.ok.1))
-
-pub ready_less : (e : Engine) (m n : ℕ) → m ≤ n → IsReady e n → IsReady e m
-ready_less e m n h r = record {
-  none = r.none;
-  linked = omega (arith, h, r.linked);
-  flows = r.flows;
-  nothing = r.nothing;
-  last = r.last;
-  places = places_less e m n h r.places;
-}
 
 -- ---- one more packet
 
@@ -185,14 +175,6 @@ module _ (segs : ℕ) (l m : PacketList) (a : Engine) (x : Held) (limit received
         }
 
 -- ---- none yet
-
-pub none_received : (t : TableState) → t.runs ≡ [] → t.received ≡ 0 → Received [] t
-none_received t e f = record {
-  are = record { rising = tt; runs = subst (λ (z : List (List Held)). AreItems (IsMergeableWithin t.segs) is_of number_of [] (map (λ (r : List Held). map packet_of r) z)) (sym e) (none_yet t.segs) };
-  same = λ f. sym (ap (totals f) e);
-  many = sym f;
-  below = tt;
-}
 
 -- a table that holds nothing
 pub table_none : (l : PacketList) (e : Engine) (limit : ℕ) → l.slots.items ≡ [] → l.spares.items ≡ [] → IsReady e limit → HasSlots l limit → IsTable l e limit 0 0 0

@@ -7,7 +7,7 @@ ghost use Rattle.maximal_runs.specs.Items.{begins_in};
 ghost use Rattle.frame_layout.specs.Key.{key_of};
 ghost use Rattle.offload_model.specs.Mergeable.{IsMergeable, IsMergeableWithin};
 ghost use Rattle.offload_model.specs.Rounds.{is_of, runs_in};
-ghost use Rattle.merge_rule.specs.Runs.{IsJudged, IsNoCandidate};
+ghost use Rattle.merge_rule.specs.Runs.{IsJudged, IsNoCandidate, IsFirstProgress};
 ghost use Rattle.skb.specs.SkbState.{buffer_bytes};
 ghost use Rattle.gro.specs.Slots.{packet_of, IsHeld, AreHeld, IsHere};
 ghost use Rattle.pcap_io.specs.Capture.{Packet};
@@ -20,7 +20,7 @@ use crate::flow_hash::{flow_hash, hash_in};
 use crate::flows::Flows;
 use crate::run::{Run, progress_of};
 use crate::slot::Slot;
-use merge_rule::Candidacy;
+use merge_rule::{Candidacy, Progress};
 use std::alloc::{AllocError, Global};
 
 /// The runs of a list of packets in the order of their first packets; for each packet, which one follows it in its run;
@@ -138,20 +138,29 @@ impl Engine {
         is_open
     }
 
-    /// A packet of a flow of which no run is found: it opens one.
-    fn begin(&mut self, packets: &[Slot], i: u32, slot: &Slot, hash: u32, candidacy: Candidacy)
+    /// A packet of a flow of which no run is found: it opens one. What that has come to is told, since a candidacy that
+    /// is looked at here would be copied once more.
+    fn begin(
+        &mut self,
+        packets: &[Slot],
+        i: u32,
+        slot: &Slot,
+        hash: u32,
+        candidacy: Candidacy,
+        progress: Progress,
+    )
         requires runs { AreRuns (map packet_of packets.now) i self.old }
         requires places { HasPlaces self.old 1 }
         requires here { IsHere packets.now i slot.now }
         requires slot { IsHeld slot.now }
         requires judged { IsJudged (buffer_bytes slot.now.skb) slot.now.original candidacy.layout candidacy.payload
             candidacy.flags }
+        requires progress { IsFirstProgress candidacy.layout (buffer_bytes slot.now.skb) progress }
         requires hash { hash ≡ hash_of (key_of (buffer_bytes slot.now.skb)) }
         requires none { place_of (map packet_of packets.now) self.old.flows (key_of (buffer_bytes slot.now.skb))
             ≡ None }
         ensures takes { (segs : ℕ) → Takes segs (map packet_of packets.now) i self.old self.new }
     {
-        let progress = progress_of(slot, &candidacy);
         let place = self.runs.len();
         let is_open = progress.is_open;
         self.flows.begin(i, hash, place, is_open);
@@ -168,6 +177,7 @@ impl Engine {
         hash: u32,
         found: usize,
         candidacy: Candidacy,
+        progress: Progress,
     )
         requires runs { AreRuns (map packet_of packets.now) i self.old }
         requires places { HasPlaces self.old 1 }
@@ -175,6 +185,7 @@ impl Engine {
         requires slot { IsHeld slot.now }
         requires judged { IsJudged (buffer_bytes slot.now.skb) slot.now.original candidacy.layout candidacy.payload
             candidacy.flags }
+        requires progress { IsFirstProgress candidacy.layout (buffer_bytes slot.now.skb) progress }
         requires hash { hash ≡ hash_of (key_of (buffer_bytes slot.now.skb)) }
         requires place { place_of (map packet_of packets.now) self.old.flows (key_of (buffer_bytes slot.now.skb))
             ≡ Some found }
@@ -183,7 +194,6 @@ impl Engine {
             ++ (packet_of slot.now ∷ [])) → ⊥)
             → Takes segs (map packet_of packets.now) i self.old self.new }
     {
-        let progress = progress_of(slot, &candidacy);
         let is_open = progress.is_open;
         let place = self.runs.len();
         let last = open_at(place, is_open);
@@ -333,12 +343,14 @@ impl Engine {
     {
         let hash = flow_hash(slot, &candidacy);
         let Some(found) = self.flows.find(packets, slot, &candidacy, hash) else {
-            return self.begin(packets, i, slot, hash, candidacy);
+            let progress = progress_of(slot, &candidacy);
+            return self.begin(packets, i, slot, hash, candidacy, progress);
         };
         if self.takes_at(packets, found, slot, &candidacy, segs) {
             return self.grow(packets, i, slot, hash, found, &candidacy);
         }
-        self.follow(packets, i, slot, hash, found, candidacy);
+        let progress = progress_of(slot, &candidacy);
+        self.follow(packets, i, slot, hash, found, candidacy, progress);
     }
 
     /// A packet that the last packet's run isn't seen to take.

@@ -44,6 +44,8 @@
 //! - `cloned` of `clone_at`: one packet's buffer is cloned as `Skb::clone` says, and all else stays as it was.
 //! - `lent` of `share_heads`: each head that was a Sole is a part of all its block's weight, and all else stays as it
 //!   was; `packets`: so no byte changes.
+//! - `alone`, `few` of `free`: how many blocks were freed, all where nobody else holds one, and never more than there
+//!   are.
 //!
 //! A [`RoundTable`] owns packets too, which it moves into items. It receives them one after the other, and finishes
 //! into their items. Proved, by the names of its clauses, whatever the packets are:

@@ -1,8 +1,8 @@
 //! The packets of a round, in a list in which they stay.
-ghost use Rattle.std.specs.Prelude.{◌≡◌, ◌+◌, ◌<◌, ◌≤◌, ◌++◌, ◌∷◌, [], length, map, reverse};
+ghost use Rattle.std.specs.Prelude.{◌≡◌, ◌+◌, ◌-◌, ◌^◌, ◌<◌, ◌≤◌, ◌++◌, ◌∷◌, [], length, map, min, reverse};
 ghost use Rattle.std.specs.Prelude.{IfOk, OnOk, IfSome, IfNone};
 ghost use Rattle.gro.specs.Packets.{ClonedAt};
-ghost use Rattle.gro.specs.Slots.{packet_of, AreLent};
+ghost use Rattle.gro.specs.Slots.{packet_of, counts_of, AreAlone, AreLent};
 
 use crate::slot::Slot;
 use frags::ShareFault;
@@ -131,8 +131,13 @@ impl Packets {
         slots.destroy_empty();
     }
 
-    /// Frees all of it, blocks too: for who drops what nobody else will bring home.
-    pub fn free(self) {
+    /// Frees all of it, blocks too, and answers how many these are: all where nobody else holds one of them, though no
+    /// more than a usize counts. For who drops what nobody else will bring home.
+    pub fn free(self) -> usize
+        ensures few { result ≤ counts_of self.items }
+        ensures alone { AreAlone self.items → result ≡ min (counts_of self.items) (2 ^ 64 - 1) }
+    {
+        let mut freed: usize = 0;
         let Packets { mut slots } = self;
         while let Some(slot) = slots.pop() {
             let Slot {
@@ -142,8 +147,9 @@ impl Packets {
                 original: _,
                 number: _,
             } = slot;
-            skb.free();
+            freed = freed.saturating_add(skb.free());
         }
         slots.destroy_empty();
+        freed
     }
 }

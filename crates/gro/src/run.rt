@@ -15,6 +15,7 @@ use crate::slot::Slot;
 use frame_layout::Layout;
 use inet_sum::Partial;
 use merge_rule::{Candidacy, Progress, first_progress, is_next, next_progress};
+use net_bytes::be32;
 
 /// A run of packets of one layout: the indices of its first and its last packet, how many follow the first, the sum of
 /// their payloads, the last one's control bits, and what the run has come to. A packet that may not be merged is alone
@@ -46,6 +47,15 @@ pub(crate) fn progress_of(first: &Slot, candidacy: &Candidacy) -> Progress
             modes: 0,
         },
     }
+}
+
+/// Whether two packets differ where most headers have the ports. Packets of many flows mostly do, so that less is asked
+/// of them than by a call of the rule.
+#[inline(always)]
+fn is_elsewhere(first: &Slot, next: &Slot) -> bool {
+    let own = first.skb.head();
+    let other = next.skb.head();
+    own.len() >= 38 && other.len() >= 38 && be32(own, 34) != be32(other, 34)
 }
 
 impl Run {
@@ -130,6 +140,10 @@ impl Run {
         let Some(layout) = &self.layout else {
             return None;
         };
+        // A run that has grown mostly grows on.
+        if self.more == 0 && is_elsewhere(first, next) {
+            return None;
+        }
         if !self.is_followed_by(layout, first, next) {
             return None;
         }

@@ -1,10 +1,10 @@
 //! Whole reads and writes at several steps, the listed failures, and the system's edge.
 
 use off_io::{
-    BufferedSource, Failed, Feed, Gate, MemSink, MemSource, NoGate, Sink, Source, StdSink,
-    StdSource, SureSink, SureSource, Who, WriteFault, read_full, write_all,
+    BufferedSink, BufferedSource, Failed, Feed, Gate, MemSink, MemSource, NoGate, Sink, Source,
+    StdSink, StdSource, SureSink, SureSource, Who, WriteFault, read_full, write_all,
 };
-use std::io::BufReader;
+use std::io::{BufReader, BufWriter};
 use std::test::Fail;
 
 const FIVE: [u8; 5] = [1, 2, 3, 4, 5];
@@ -70,6 +70,26 @@ fn buffered_reads(rt: HostRuntime) -> Result<(), Fail> {
         assert_eq!(rt; read_full(&mut source, &mut pair), Ok(1), "at size {size}");
         assert_eq!(rt; pair[0], 5, "at size {size}");
         assert_eq!(rt; source.read(&mut pair), Ok(0), "at size {size}");
+    }
+    Ok(())
+}
+
+// Writes of two bytes, before buffers of which some have fewer, as many, and more.
+#[test]
+fn buffered_writes(rt: HostRuntime) -> Result<(), Fail> {
+    for size in [1, 2, 3, 64] {
+        let mut room = [0; 5];
+        {
+            let inner = BufWriter::with_capacity(rt.alloc(), size, room.as_mut_slice())?;
+            let mut sink = BufferedSink::new(inner);
+            assert_eq!(rt; write_all(&mut sink, &[1, 2]), Ok(()), "at size {size}");
+            assert_eq!(rt; write_all(&mut sink, &[3, 4]), Ok(()), "at size {size}");
+            assert_eq!(rt; sink.flush(), Ok(()), "at size {size}");
+            // There is room for one byte more. What the buffer holds fails with the flush.
+            let is_taken = write_all(&mut sink, &[5, 6]).is_ok();
+            assert!(rt; !is_taken || sink.flush().is_err(), "at size {size}");
+        }
+        assert_eq!(rt; room, FIVE, "at size {size}");
     }
     Ok(())
 }

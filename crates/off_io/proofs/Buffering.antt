@@ -1,5 +1,5 @@
 -- Laws of bytes that lie in std's buffer in front of a reader.
-use Rattle.std.proofs.Common.{◌≡◌, ℕ, List, ◌++◌, take, drop, sym, ap, ◌∙◌, Option, None, Some, refl, append_assoc, take-append-drop, Bool, true, false}
+use Rattle.std.proofs.Common.{◌≡◌, ℕ, List, ◌++◌, take, drop, sym, ap, ◌∙◌, Option, None, Some, append_assoc, take-append-drop, Bool, true, false}
 use Rattle.std.specs.Prelude.{◌==◌, if◌then◌else◌}
 use Rattle.std.specs.Io.Buffered.{reader_buffer, reader_capacity, reader_inner, reader_remaining}
 use Rattle.std.specs.Io.KnownBytes.{Consumes, prepend_known}

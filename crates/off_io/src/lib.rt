@@ -8,7 +8,7 @@
 //! Proved: `write_all` appends all bytes, or a prefix of them at a fault (clauses `ok`, `err`, `cause`); `read_full`
 //! fills its buffer but at the end of the source (`bytes`, `cause`); the sources and sinks in memory fail at exactly
 //! the calls that they were told, but for a write whose memory is refused (`fails`, `memory`). Trusted: that std's
-//! readers and writers behind [`StdSource`], [`BufferedSource`] and [`StdSink`] do as they say.
+//! readers and writers behind [`StdSource`], [`BufferedSource`], [`StdSink`] and [`BufferedSink`] do as they say.
 //!
 //! ```
 //! let mut source = StdSource::new(bytes); // or standard input
@@ -28,7 +28,8 @@
 //! - **A listed call of a memory sink** whose write is also refused memory fails by the list, and `refused` stays.
 //! - **One call mostly takes or gives all bytes**, so `write_all` and `read_full` try one where they are called, and
 //!   only what that leaves is a loop of its own. A [`BufferedSource`] copies what lies in std's buffer without a result
-//!   of std's, which has 96 bytes.
+//!   of std's, which has 96 bytes, and a [`BufferedSink`] writes without one what has room in it: it asks what std
+//!   asks, and what follows where there is no room stands apart.
 //! - **Want of memory is std's `AllocError`** in every call below `offload_run` that has no other refusal; beside
 //!   others it is a variant `NoMemory`.
 #![tactic(auto)]
@@ -50,5 +51,5 @@ pub use mem_sink::MemSink;
 pub use mem_source::MemSource;
 pub use sink::{Sink, WriteFault, write_all};
 pub use source::{Failed, Source, read_full};
-pub use standard::{BufferedSource, StdSink, StdSource};
+pub use standard::{BufferedSink, BufferedSource, StdSink, StdSource};
 pub use sure::{SureSink, SureSource};

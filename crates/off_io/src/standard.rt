@@ -1,12 +1,12 @@
 //! The edge to the system: std's readers and writers with a count of their errors.
-ghost use Rattle.std.specs.Prelude.{◌≡◌, None, false};
-ghost use Rattle.std.specs.Io.{ReadsAtMost};
+ghost use Rattle.std.specs.Prelude.{◌≡◌, ◌<◌, None, IfOk, false, length};
+ghost use Rattle.std.specs.Io.{ReadsAtMost, WritesAtMost};
 ghost use Rattle.std.specs.Io.KnownBytes.{ReadConsumes};
 ghost use Rattle.std.specs.Io.Buffered.{reader_remaining};
 ghost use Rattle.off_io.specs.Faults.{HasCause};
 
 use crate::{Failed, Sink, Source};
-use std::io::{BufRead, BufReader, Read, Write};
+use std::io::{BufRead, BufReader, BufWriter, Read, Write};
 use std::marker::Model;
 
 /// A reader of std. Each of its errors is a fault, an interrupted read too.
@@ -161,5 +161,65 @@ impl<W: Write> Sink for StdSink<W> {
                 Err(Failed)
             }
         }
+    }
+}
+
+/// A writer of std behind std's buffer. What the buffer has room for is written without a result of std's; all else is
+/// as of [`StdSink`].
+#[derive(Drop)]
+pub struct BufferedSink<W: Write + Drop> {
+    sink: StdSink<BufWriter<W>>,
+}
+
+impl<W: Write + Drop> Model for BufferedSink<W> {
+    ghost use Rattle.std.specs.declared.io.buffered.BufWriter.{BufWriter};
+    ghost use Rattle.std.specs.declared.alloc.Global.{Global};
+    ghost use Rattle.off_io.specs.Edge.{Counting};
+
+    ghost Value = { Counting (BufWriter W Global) };
+
+    ghost view = { λ s. s.sink };
+}
+
+impl<W: Write + Drop> BufferedSink<W> {
+    /// A sink over a writer, with no fault yet.
+    pub fn new(inner: BufWriter<W>) -> Self
+        ensures made { result ≡ record { inner = inner; faults = 0 } }
+    {
+        BufferedSink {
+            sink: StdSink::new(inner),
+        }
+    }
+
+    // It stands apart, so that of a write that has room no failure is compiled.
+    #[inline(never)]
+    fn write_on(&mut self, from: &[u8]) -> Result<usize, Failed>
+        ensures bound { WritesAtMost result from.now }
+        ensures progress { IfOk result (λ n. 0 < length from.now → 0 < n) }
+        ensures cause { HasCause self.old.faults self.new.faults result }
+    {
+        self.sink.write(from)
+    }
+}
+
+impl<W: Write + Drop> Sink for BufferedSink<W> {
+    ghost held = { λ _. None };
+
+    ghost is_flushed = { λ _. false };
+
+    ghost faults = { λ s. s.faults };
+
+    #[inline(always)]
+    fn write(&mut self, from: &[u8]) -> Result<usize, Failed> {
+        let inner = &self.sink.inner;
+        // std's own test, by which the compiler knows what std does.
+        if from.len() < inner.capacity().wrapping_sub(inner.buffer().len()) {
+            return self.sink.write(from);
+        }
+        self.write_on(from)
+    }
+
+    fn flush(&mut self) -> Result<(), Failed> {
+        self.sink.flush()
     }
 }

@@ -7,7 +7,7 @@
 //! system call for each header.
 #![tactic(auto)]
 
-use off_io::{BufferedSource, NoGate, Sink, StdSink};
+use off_io::{BufferedSink, BufferedSource, NoGate, Sink, StdSink};
 use offload_run::{Status, run, write_log};
 use std::env;
 use std::io::{BufReader, BufWriter};
@@ -38,7 +38,7 @@ fn main(rt: HostRuntime) -> ExitCode {
         return no_memory(&mut log);
     };
     let mut source = BufferedSource::new(input);
-    let mut sink = StdSink::new(output);
+    let mut sink = BufferedSink::new(output);
     let mut engine = None;
     let status = run(
         &rt,

@@ -52,7 +52,24 @@ fn read_block<S: Source>(
     read
 }
 
-// Reads the bytes in front of a frame, where there are any.
+// Reads the bytes in front of a frame. It stands apart, so that the test for any is inlined alone.
+#[inline(never)]
+fn read_ahead<S: Source>(reader: &mut CaptureReader<'_, S>, front: &mut [u8]) -> Result<(), InFault>
+    requires body { length front.old ≤ (place_of reader.old).body }
+    ensures same_source { SameLoan reader.old reader.new }
+    ensures given { Told (S.left (source_of reader.old)) (S.left (source_of reader.new))
+        (GivesBody (place_of reader.old) result front.new) }
+    ensures front { length front.new ≡ length front.old }
+    ensures place { OnOk result (ReadsOn (place_of reader.old) (place_of reader.new) (length front.old)) }
+    ensures later { S.faults (source_of reader.old) ≤ S.faults (source_of reader.new) }
+    ensures failed { result ≡ Err InFault.ReadFault → Rose (S.faults (source_of reader.old))
+        (S.faults (source_of reader.new)) }
+{
+    reader.read_body(front)
+}
+
+// The same, where there are any.
+#[inline(always)]
 fn read_front<S: Source>(reader: &mut CaptureReader<'_, S>, front: &mut [u8]) -> Result<(), InFault>
     requires body { length front.old ≤ (place_of reader.old).body }
     ensures same_source { SameLoan reader.old reader.new }
@@ -67,7 +84,7 @@ fn read_front<S: Source>(reader: &mut CaptureReader<'_, S>, front: &mut [u8]) ->
     if front.is_empty() {
         return Ok(());
     }
-    reader.read_body(front)
+    read_ahead(reader, front)
 }
 
 /// Reads what one block has of the body of the record that was begun: first `front`, and then `len` bytes behind the

@@ -29,7 +29,7 @@ returns c =
       takes = λ segs apart. begins_run segs ps c.args.i a b c.open.result c.requires.runs c.push_reserved.ensures.items refl
           (omega (arith, c.requires.here.0, length-map c.args.packets.now packet_of))
           c.open.ensures.indices.0 c.open.ensures.indices.1 c.open.ensures.indices.2
-          (subst (λ z. Knows c.open.result z []) (sym c.requires.here.1) (c.open.ensures.knows x c.requires.judged c.progress_of-progress.ensures.progress))
+          (subst (λ z. Knows c.open.result z []) (sym c.requires.here.1) (c.open.ensures.knows x c.requires.judged c.requires.progress))
           (λ n h. (omega (arith, h.0, c.push_reserved.ensures.len, c.push_reserved.ensures.capacity), c.put.ensures.room n h.1))
           x key c.len-place.result c.requires.here.1 refl (omega (arith, c.len-place.ensures, a.runs.ok.0)) (c.put.ensures.flows ps c.requires.runs.flows own)
           (subst (λ (z : Option ℕ). Puts ps a.flows key z c.put.new.self) last puts)
