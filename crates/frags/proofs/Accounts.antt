@@ -24,23 +24,8 @@ pieces_held-append t m (x ∷ xs) b = omega (arith, pieces_held-append t m xs b)
 pub counted-le : (t : Tests) (m : ℕ) (l : Life) (k w : ℕ) → w ≤ full_weight → counted t m l k w ≤ full_weight * at_home t.blocks m l.block k
 counted-le t m l k w h = grind arith
 
-pub keeps_refl : (a : Account) → Keeps a a
-keeps_refl a t m = (omega arith, omega arith)
-
-pub keeps_trans : (a b c : Account) → Keeps a b → Keeps b c → Keeps a c
-keeps_trans a b c h k t m = let p = h t m in let q = k t m in (omega arith, omega arith)
-
-pub keeps_beside : (a b c : Account) → Keeps a b → Keeps (both a c) (both b c)
-keeps_beside a b c h t m = let p = h t m in (omega arith, omega arith)
-
 pub keeps_marks : (a b : Account) → Keeps a b → KeepsMarks a b
 keeps_marks a b h bs m = (h (every bs) m).1
-
-pub marks_trans : (a b c : Account) → KeepsMarks a b → KeepsMarks b c → KeepsMarks a c
-marks_trans a b c h k bs m = let p = h bs m in let q = k bs m in omega arith
-
-pub marks_beside : (a b c : Account) → KeepsMarks a b → KeepsMarks (both a c) (both b c)
-marks_beside a b c h bs m = let p = h bs m in omega arith
 
 pub gives_last : (p : PartState) (s : SoleState) (a b : OutcomesState) → s.block ≡ p.life.block → s.mark ≡ p.mark
     → p.weight ≤ full_weight → b.receipts ≡ a.receipts → b.soles ≡ a.soles ++ s ∷ []
@@ -88,15 +73,6 @@ keeps_pop_back s x xs ys o q e h k t m =
     (omega arith, omega arith)
 
 -- ---- no block is made up
-
-pub blocks_refl : (a : Account) → KeepsBlocks a a
-blocks_refl a bs m = omega arith
-
-pub blocks_trans : (a b c : Account) → KeepsBlocks a b → KeepsBlocks b c → KeepsBlocks a c
-blocks_trans a b c h k bs m = omega (arith, h bs m, k bs m)
-
-pub blocks_beside : (a b c : Account) → KeepsBlocks a b → KeepsBlocks (both a c) (both b c)
-blocks_beside a b c h bs m = omega (arith, h bs m)
 
 -- a part weighs 1 or more, what its block's Sole counts
 pub counted-ge : (bs : ℕ → Bool) (m : ℕ) (l : Life) (k w : ℕ) → 1 ≤ w → at_home bs m l.block k ≤ counted (every bs) m l k w

@@ -21,9 +21,6 @@ module _ {X : Type 0} where
   prefix_longer : (xs ys zs : List X) → ys ≡ xs ++ zs → take (length xs) ys ≡ xs
   prefix_longer xs ys zs e = ap (λ (z : List X). take (length xs) z) e ∙ take-append_seam xs zs
 
-pub grows_refl : (a : OutcomesState) → Grows 0 a a
-grows_refl a = (take-length a.soles, take-length a.receipts, omega arith)
-
 pub grows_trans : (m n : ℕ) (a b c : OutcomesState) → Grows m a b → Grows n b c → Grows (m + n) a c
 grows_trans m n a b c h k =
     let x = h.2 in

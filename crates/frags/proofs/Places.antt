@@ -112,8 +112,10 @@ byte_in-is n (p ∷ ps) h k d =
     (λ e. let le : s ≤ n = ltb-false n s e in byte_in-is (n - s) ps h.1 (omega arith) d
     ∙ sym (get_or-append_right (piece_bytes p) (bytes_of ps) s n d l le))
 
-pub last_piece : (xs ys : List Piece) (x : Piece) → xs ≡ ys ++ x ∷ [] → AllFit xs → Fits x × AllFit ys
-    × (size_of xs ≡ size_of ys + (x.to - x.from)) × (length xs ≡ length ys + 1)
+abbrev pub IsLast : List Piece → List Piece → Piece → Type 0
+IsLast xs ys x = Fits x × AllFit ys × (size_of xs ≡ size_of ys + (x.to - x.from)) × (length xs ≡ length ys + 1)
+
+pub last_piece : (xs ys : List Piece) (x : Piece) → xs ≡ ys ++ x ∷ [] → AllFit xs → IsLast xs ys x
 last_piece xs ys x e h =
     let k : AllFit (ys ++ x ∷ []) = subst AllFit e h in
     let s = ap size_of e ∙ size_of-append ys (x ∷ []) in
@@ -121,10 +123,12 @@ last_piece xs ys x e h =
     (AllFit-last ys x k, AllFit-front_of ys (x ∷ []) k, omega arith, omega arith)
 
 -- the pieces of the first `keep` bytes, where the last piece is cut
+abbrev pub IsCutLast : ℕ → List Piece → List Piece → Type 0
+IsCutLast keep xs zs = (zs ≡ keep_front keep xs) × (size_of zs ≡ keep) × AllFit zs × ((t : Tests) (m : ℕ) → pieces_held t m zs ≡ pieces_held t m xs)
+
 pub last_cut : (keep start : ℕ) (xs ys zs : List Piece) (x : Piece) → xs ≡ ys ++ x ∷ [] → zs
     ≡ ys ++ (record x { to = x.from + (keep - start) }) ∷ [] → start ≡ size_of ys → start < keep → keep ≤ size_of xs
-    → AllFit xs
-    → (zs ≡ keep_front keep xs) × (size_of zs ≡ keep) × AllFit zs × ((t : Tests) (m : ℕ) → pieces_held t m zs ≡ pieces_held t m xs)
+    → AllFit xs → IsCutLast keep xs zs
 last_cut keep start xs ys zs x e f a lt le h =
     let y : Piece = record x { to = x.from + (keep - start) } in
     let g = last_piece xs ys x e h in

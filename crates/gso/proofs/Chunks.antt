@@ -1,6 +1,6 @@
 -- Sums of pieces of m bytes.
-use Rattle.std.proofs.Common.{◌≡◌, ℕ, zero, suc, get_or, append_assoc, ◌*◌, ◌+◌, ◌<◌, ◌≤◌, ◌^◌, List, [], ◌∷◌, ◌++◌, length, take, drop, sym, ap, ◌∙◌, subst, arith, length-append, length-drop}
-use Rattle.std.proofs.lemmas.List.{length-take-le, drop_more, take-append-drop, drop-drop, take-append-le, drop-append-le, take_all, drop_all}
+use Rattle.std.proofs.Common.{◌≡◌, ℕ, zero, suc, get_or, append_assoc, ◌*◌, ◌+◌, ◌<◌, ◌≤◌, List, [], ◌∷◌, ◌++◌, length, take, drop, sym, ap, ◌∙◌, subst, arith, length-append, length-drop}
+use Rattle.std.proofs.lemmas.List.{drop_more, take-append-drop, drop-drop, take-append-le, drop-append-le, take_all, drop_all}
 use Rattle.inet_sum.specs.Stands.{FoldAndLength, StandsFor}
 use Rattle.gso.specs.Sums.{AreSums}
 
@@ -65,8 +65,3 @@ module _ (m : ℕ) (ss : List FoldAndLength) (rest d : FoldAndLength) where
       → IsJoining m (drop i ss) rest all f → IsJoining m (drop (i + 1) ss) rest new f
   joining_step i all new f l k h =
       joining_more m (get_or ss i d) (drop (i + 1) ss) rest all new f k (subst (λ (z : List FoldAndLength). IsJoining m z rest all f) (drop_more ss i d l) h)
-
-  pub joining_few : (i : ℕ) (all : FoldAndLength) (f : List ℕ) → i < length ss → length f < 2 ^ 32 → IsJoining m (drop i ss) rest all f → all.len + (get_or ss i d).len < 2 ^ 32
-  joining_few i all f l short h =
-      let g = subst (λ (z : List FoldAndLength). AreSums m z rest h.left) (drop_more ss i d l) h.sums in
-      omega (arith, g.1.1, h.stands.1, ap length h.parts, length-append h.done h.left, length-take-le m h.left g.0, g.0, short)

@@ -1,5 +1,5 @@
 -- What lies from a place of a buffer's bytes on, and one slice of it less.
-use Rattle.std.proofs.Common.{◌≡◌, ℕ, zero, suc, ◌+◌, ◌-◌, ◌<◌, ◌≤◌, List, ◌++◌, length, get_or, take, drop, sym, ap, ◌∙◌, subst, arith, length-append, length-drop, append_assoc, [], ◌∷◌}
+use Rattle.std.proofs.Common.{◌≡◌, ℕ, zero, suc, ◌+◌, ◌-◌, ◌<◌, ◌≤◌, List, [], ◌++◌, length, get_or, take, drop, sym, ap, ◌∙◌, subst, arith, length-append, length-drop, append_assoc, ◌∷◌}
 use Rattle.std.proofs.lemmas.List.{drop-append-le, take-append-drop, drop_all, take_all, drop-drop, length-take-le, take_at}
 use Rattle.inet_sum.specs.Stands.{FoldAndLength, StandsFor}
 use Rattle.frags.specs.PieceList.{bytes_of, piece_bytes}
@@ -53,9 +53,6 @@ module _ (s : SkbState) (p : Place) (n : ℕ) (b r : List ℕ) (is : IsPlace s p
       whole : r ≡ drop p.at b
       whole = read ∙ take_all n (drop p.at b) (omega (arith, all, length-drop p.at b))
 
-      pub bytes_ended : bytes_at s p ≡ r ++ drop 0 (slices_from s (p.slice + 1))
-      bytes_ended = here ∙ ap (λ (z : List ℕ). z ++ bytes_of (drop p.slice s.rest)) (sym whole) ∙ ap (λ (z : List ℕ). r ++ z) (sym (behind s p.slice))
-
       pub place_ended : IsPlace s (record { slice = p.slice + 1; at = 0; left = p.left - n })
       place_ended = record {
         inside = omega (arith, shorter s p.slice, ap length (behind s p.slice));
@@ -71,12 +68,6 @@ module _ (s : SkbState) (p : Place) (n : ℕ) (b r : List ℕ) (is : IsPlace s p
         ∙ ap (λ (z : List ℕ). r ++ (z ++ bytes_of (drop p.slice s.rest))) (drop-drop n p.at b)
         ∙ ap (λ (z : List ℕ). r ++ z) (sym (drop-append-le (p.at + n) b (bytes_of (drop p.slice s.rest)) (omega (arith, fits, within))))
         ∙ ap (λ (z : List ℕ). r ++ drop (p.at + n) z) (sym slice)
-
-    pub place_on : IsPlace s (record { slice = p.slice; at = p.at + n; left = p.left - n })
-    place_on = record {
-      inside = omega (arith, fits, within, ap length slice, length-append b (bytes_of (drop p.slice s.rest)));
-      left = omega (arith, is.left, ap length bytes_on, length-append r (drop (p.at + n) (slices_from s p.slice)), size);
-    }
 
 -- ---- how far it is to the end
 

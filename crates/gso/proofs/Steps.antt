@@ -1,7 +1,6 @@
 -- One segment more.
 use Rattle.std.proofs.Common.{◌≡◌, ℕ, ◌+◌, ◌*◌, ◌<◌, ◌^◌, List, [], ◌++◌, length, take, drop, min, refl, sym, ap, ◌∙◌, subst, arith, append-nil}
 use Rattle.std.proofs.lemmas.List.{take_at, drop_at, take_all, drop_all, drop-drop, length-take-le}
-use Rattle.inet_sum.specs.Stands.{FoldAndLength}
 use Rattle.raw_block.specs.Views.{SoleState}
 use Rattle.frame_layout.specs.Headers.{AtHeaders}
 use Rattle.frame_layout.proofs.Lemmas.{IsPlaced}
@@ -34,86 +33,84 @@ behind_n x m n e =
     (λ l. let k : n ≡ m = omega arith in ap (λ (z : ℕ). drop z x) k)
     (λ l. drop_all n x (omega arith) ∙ sym (drop_all m x (omega arith)))
 
--- i is any place, also that of the frame of the invariant
-module _ (u : Sums) (s t : SkbState) (p q r front : List Piece) (cut : Segmentation) (i n : ℕ) (f : List ℕ) (is : IsAt f (state u s p cut i))
-    (opened : buffer_bytes t ++ bytes_of q ≡ buffer_bytes s ++ bytes_of p) where
-  pub at_open : IsAt f (state u t q cut i)
-  at_open = record { in_bytes = is.in_bytes; short = is.short; of = is.of; bytes = opened ∙ is.bytes }
+-- the pieces are opened behind the headers: i is any place, also that of the frame of the invariant
+pub at_open : (u : Sums) (s t : SkbState) (p q : List Piece) (cut : Segmentation) (i : ℕ) (f : List ℕ) → IsAt f (state u s p cut i)
+    → buffer_bytes t ++ bytes_of q ≡ buffer_bytes s ++ bytes_of p → IsAt f (state u t q cut i)
+at_open u s t p q cut i f is opened = record { in_bytes = is.in_bytes; short = is.short; of = is.of; bytes = opened ∙ is.bytes }
 
+-- the payload of segment i was cut off: what was taken, and what is left
+pub record IsCutOff (u : Sums) (t : SkbState) (r front : List Piece) (cut : Segmentation) (i : ℕ) (f : List ℕ) : Type 0 where
+  pub placed : IsPlaced f cut.layout
+  pub head : head_bytes t ≡ take cut.layout.payload_at f
+  pub own : bytes_of front ≡ payload_at cut f i
+  pub ranges : AtHeaders (IsLengthInRange (cut.layout.payload_at + length (bytes_of front))) cut.layout.headers
+  pub few : cut.layout.payload_at + length (bytes_of front) < 2 ^ 31
+  pub next : IsAt f (state u t r cut (i + 1))
+
+module _ (u : Sums) (t : SkbState) (q r front : List Piece) (cut : Segmentation) (i n : ℕ) (f : List ℕ) (is : IsAt f (state u t q cut i))
+    (long : length (buffer_bytes t) ≡ cut.layout.payload_at) (bare : t.rest ≡ []) (some : n ≡ min cut.m (length (bytes_of q)))
+    (parts : bytes_of q ≡ bytes_of front ++ bytes_of r) (size : length (bytes_of front) ≡ n) where
   abbrev at : ℕ
   at = cut.layout.payload_at
 
   abbrev left : List ℕ
   left = drop (i * cut.m) (drop at f)
 
-  pub placed : IsPlaced f cut.layout
+  placed : IsPlaced f cut.layout
   placed = places cut f is.in_bytes is.of
 
-  module _ (long : length (buffer_bytes t) ≡ at) (bare : t.rest ≡ []) where
-    whole : buffer_bytes t ++ bytes_of q ≡ take at f ++ left
-    whole = opened ∙ is.bytes
+  headers_long : length (take at f) ≡ at
+  headers_long = length-take-le at f placed.within
 
-    headers_long : length (take at f) ≡ at
-    headers_long = length-take-le at f placed.within
+  headers : buffer_bytes t ≡ take at f
+  headers = sym (take_at (buffer_bytes t) (bytes_of q) at long) ∙ ap (take at) is.bytes ∙ take_at (take at f) left at headers_long
 
-    pub headers : buffer_bytes t ≡ take at f
-    headers = sym (take_at (buffer_bytes t) (bytes_of q) at long) ∙ ap (take at) whole ∙ take_at (take at f) left at headers_long
+  payload : bytes_of q ≡ left
+  payload = sym (drop_at (buffer_bytes t) (bytes_of q) at long) ∙ ap (drop at) is.bytes ∙ drop_at (take at f) left at headers_long
 
-    pub payload : bytes_of q ≡ left
-    payload = sym (drop_at (buffer_bytes t) (bytes_of q) at long) ∙ ap (drop at) whole ∙ drop_at (take at f) left at headers_long
+  is_n : n ≡ min cut.m (length left)
+  is_n = some ∙ ap (λ (z : List ℕ). min cut.m (length z)) payload
 
-    pub head_is : head_bytes t ≡ take at f
-    head_is = sym (append-nil (head_bytes t)) ∙ ap (λ (z : List Piece). head_bytes t ++ bytes_of z) (sym bare) ∙ headers
+  both : bytes_of front ++ bytes_of r ≡ left
+  both = sym parts ∙ payload
 
-    pub head_long : length (head_bytes t) ≡ at
-    head_long = ap length head_is ∙ headers_long
+  own : bytes_of front ≡ payload_at cut f i
+  own = sym (take_at (bytes_of front) (bytes_of r) n size) ∙ ap (take n) both ∙ first_n left cut.m n is_n
 
-    module _ (some : n ≡ min cut.m (length (bytes_of q))) (parts : bytes_of q ≡ bytes_of front ++ bytes_of r) (size : length (bytes_of front) ≡ n) where
-      is_n : n ≡ min cut.m (length left)
-      is_n = some ∙ ap (λ (z : List ℕ). min cut.m (length z)) payload
+  next_place : i * cut.m + cut.m ≡ (i + 1) * cut.m
+  next_place = grind arith
 
-      both : bytes_of front ++ bytes_of r ≡ left
-      both = sym parts ∙ payload
+  rest : bytes_of r ≡ drop ((i + 1) * cut.m) (drop at f)
+  rest =
+      sym (drop_at (bytes_of front) (bytes_of r) n size) ∙ ap (drop n) both ∙ behind_n left cut.m n is_n
+      ∙ drop-drop cut.m (i * cut.m) (drop at f) ∙ ap (λ (z : ℕ). drop z (drop at f)) next_place
 
-      pub own : bytes_of front ≡ payload_at cut f i
-      own = sym (take_at (bytes_of front) (bytes_of r) n size) ∙ ap (take n) both ∙ first_n left cut.m n is_n
+  pub cut_off : IsCutOff u t r front cut i f
+  cut_off = record {
+    placed = placed;
+    head = sym (append-nil (head_bytes t)) ∙ ap (λ (z : List Piece). head_bytes t ++ bytes_of z) (sym bare) ∙ headers;
+    own = own;
+    ranges = subst (λ (z : ℕ). AtHeaders (IsLengthInRange (at + z)) cut.layout.headers) (sym (ap length own)) (segment_ranges cut f i is.in_bytes is.of);
+    few = omega (arith, ap length own, payload_short cut f i, is.short, placed.low, placed.within);
+    next = record { in_bytes = is.in_bytes; short = is.short; of = is.of; bytes = ap (λ (z : List ℕ). z ++ bytes_of r) headers ∙ ap (λ (z : List ℕ). take at f ++ z) rest };
+  }
 
-      next_place : i * cut.m + cut.m ≡ (i + 1) * cut.m
-      next_place = grind arith
-
-      pub rest : bytes_of r ≡ drop ((i + 1) * cut.m) (drop at f)
-      rest =
-          sym (drop_at (bytes_of front) (bytes_of r) n size) ∙ ap (drop n) both ∙ behind_n left cut.m n is_n
-          ∙ drop-drop cut.m (i * cut.m) (drop at f) ∙ ap (λ (z : ℕ). drop z (drop at f)) next_place
-
-      pub at_next : IsAt f (state u t r cut (i + 1))
-      at_next = record { in_bytes = is.in_bytes; short = is.short; of = is.of; bytes = ap (λ (z : List ℕ). z ++ bytes_of r) headers ∙ ap (λ (z : List ℕ). take at f ++ z) rest }
-
-      module _ (sum : FoldAndLength) (len : sum.len ≡ length (bytes_of front)) where
-        pub ranges : AtHeaders (IsLengthInRange (at + sum.len)) cut.layout.headers
-        ranges = subst (λ (z : ℕ). AtHeaders (IsLengthInRange (at + z)) cut.layout.headers) (sym (len ∙ ap length own)) (segment_ranges cut f i is.in_bytes is.of)
-
-        pub few : at + sum.len < 2 ^ 31
-        few = omega (arith, len, ap length own, payload_short cut f i, is.short, placed.low, placed.within)
-
-      module _ (spare block : SoleState) (seg : SkbState) (less : i < cut.n)
-          (written : front_of block at ++ bytes_of front ≡ segment_from cut i (take at (head_bytes t) ++ bytes_of front))
-          (mark : block.mark ≡ spare.mark) (same : block.block ≡ spare.block)
-          (made : seg ≡ record { head = Sole block; from = 64; to = 64 + at; rest = front }) where
-        taken : take at (head_bytes t) ≡ take at f
-        taken = take_all at (head_bytes t) (omega (arith, head_long)) ∙ head_is
-
-        pub bytes_are : buffer_bytes seg ≡ segment_at cut f i
-        bytes_are =
-            ap buffer_bytes made ∙ written ∙ ap (λ (z : List ℕ). segment_from cut i (z ++ bytes_of front)) taken
-            ∙ ap (λ (z : List ℕ). segment_from cut i (take at f ++ z)) own
-
-        pub gives : GivesSegment f (state u s p cut i) spare (state u t r cut (i + 1)) seg
-        gives = record {
-          there = less;
-          bytes = bytes_are;
-          head = record { own = block; block = same; head = ap (λ (z : SkbState). z.head) made; mark = mark; from = ap (λ (z : SkbState). z.from) made; to = ap (λ (z : SkbState). z.to) made };
-          at = at_next;
-          cut = refl;
-          i = refl;
-        }
+-- with headers in front it is segment i
+pub gives : (u : Sums) (s t : SkbState) (p r front : List Piece) (cut : Segmentation) (i : ℕ) (f : List ℕ) → IsCutOff u t r front cut i f
+    → (spare block : SoleState) (seg : SkbState) → i < cut.n
+    → front_of block cut.layout.payload_at ++ bytes_of front ≡ segment_from cut i (take cut.layout.payload_at (head_bytes t) ++ bytes_of front)
+    → block.mark ≡ spare.mark → block.block ≡ spare.block
+    → seg ≡ record { head = Sole block; from = 64; to = 64 + cut.layout.payload_at; rest = front }
+    → GivesSegment f (state u s p cut i) spare (state u t r cut (i + 1)) seg
+gives u s t p r front cut i f k spare block seg less written mark same made =
+    let at = cut.layout.payload_at in
+    let taken = take_all at (head_bytes t) (omega (arith, ap length k.head, length-take-le at f k.placed.within)) ∙ k.head in
+    record {
+      there = less;
+      bytes = ap buffer_bytes made ∙ written ∙ ap (λ (z : List ℕ). segment_from cut i (z ++ bytes_of front)) taken
+          ∙ ap (λ (z : List ℕ). segment_from cut i (take at f ++ z)) k.own;
+      head = record { own = block; block = same; head = ap (λ (z : SkbState). z.head) made; mark = mark; from = ap (λ (z : SkbState). z.from) made; to = ap (λ (z : SkbState). z.to) made };
+      at = k.next;
+      cut = refl;
+      i = refl;
+    }

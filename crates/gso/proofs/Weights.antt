@@ -16,7 +16,7 @@ use Rattle.frags.proofs.PieceBytes.{count_within}
 use Rattle.frags.proofs.Shares.{kept_given}
 use Rattle.std.proofs.lemmas.List.{nil_from_length}
 use Rattle.frags.proofs.Splits.{by_cut}
-use Rattle.skb.specs.SkbState.{SkbState, IsLent, head_size, head_least, head_worn, buffer_least, buffer_size, of_buffer}
+use Rattle.skb.specs.SkbState.{SkbState, head_size, head_least, head_worn, buffer_least, buffer_size, of_buffer}
 use Rattle.skb.specs.Cut.{IsHeadCut, IsRestCut, cut_is_worn}
 use Rattle.skb.proofs.Cutting.{by_bool}
 use Rattle.gso.specs.Opening.{Enough, OpensAccount}
@@ -82,9 +82,6 @@ module _ (s t : SkbState) (at : ℕ) (c : List Piece) (some : 1 ≤ at) (fits : 
 
   pub opened_enough : (at < head_size s → IsHeadCut at s t c) → (head_size s ≤ at → IsRestCut at s t c) → Enough c
   opened_enough f g = elim_lt (Enough c) at (head_size s) (λ l. head_enough (f l)) (λ l. rest_enough (g l))
-
-as_part_lent : (h : Holder) (p : PartState) → AsPart h p → IsLent h (Part p)
-as_part_lent h p e = e
 
 weights : (t : Tests) (m : ℕ) (p : PartState) → gift p.weight ≤ p.weight → counted t m p.life p.mark (p.weight - gift p.weight) + counted t m p.life p.mark (gift p.weight)
     ≡ counted t m p.life p.mark p.weight

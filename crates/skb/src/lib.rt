@@ -69,9 +69,10 @@
 //!   the bytes, and each further block has up to 2048.
 //! - **`pull_up` judges by the head alone**: where the first n bytes lie there already the spare comes back, and the
 //!   head may be shared.
-//! - **What drops a buffer may have no outcomes and no memory**: `Skb::free`, `Pieces::free` and `Round::discard`
-//!   release part by part, and free each block whose last holder they were. `free` answers how many these were: of a
-//!   buffer that is alone all. A round that is given up among its rounds goes home instead.
+//! - **What drops a buffer may have no outcomes and no memory**: `Skb::free`, `Pieces::free`, `Packets::free` and
+//!   `Round::discard` release part by part, free each block whose last holder they were, and answer how many these
+//!   were: of a buffer that is alone, and of a round that was read, all. A round that is given up among its rounds goes
+//!   home instead.
 #![tactic(auto)]
 
 mod attach;

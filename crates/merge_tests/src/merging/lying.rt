@@ -209,11 +209,16 @@ fn what_items_say(rt: HostRuntime) {
     assert_eq!(rt; spent(&rt, items, &[(0, 2, 160, 0), (2, 1, 0, 0)]), 9);
 }
 
-/// A list that nobody brings home is freed with all that it has, and so is one without packets.
+/// A list that nobody brings home is freed with all that it has, but for a block that a clone holds; of one without
+/// packets nothing is.
 #[test]
 fn freed_with_its_packets(rt: HostRuntime) {
     let alloc = rt.alloc();
-    let packets = three(&rt, alloc);
-    packets.free();
-    Packets::new(alloc).free();
+    assert_eq!(rt; three(&rt, alloc).free(), 3);
+    assert_eq!(rt; Packets::new(alloc).free(), 0);
+    let mut shared = three(&rt, alloc);
+    assert!(rt; shared.len() == 3);
+    let clone = shared.clone_at(1).expect(&rt, "a clone");
+    assert_eq!(rt; shared.free(), 2);
+    assert_eq!(rt; clone.free(), 1);
 }

@@ -4,90 +4,67 @@ use Rattle.frags.specs.PieceList.{size_of, bytes_of, keep_front, AllFit, of_piec
 use Rattle.frags.specs.declared.pieces.Piece.{Piece}
 use Rattle.frags.proofs.Growing.{grows_trans, grows_by}
 use Rattle.frags.proofs.Accounts.{keeps_pop_back}
-use Rattle.frags.proofs.Places.{last_piece, last_cut, keep_front-less, keep_front-bytes}
+use Rattle.frags.proofs.Places.{IsLast, last_piece, IsCutLast, last_cut, keep_front-less, keep_front-bytes}
+use Rattle.frags.proofs.pieces.Pieces.cut_back.Goals.{In-Some, After-push_back_reserved}
 use Rattle.frags.proofs.pieces.Pieces.cut_back.Goals as goal
+
+-- the piece that is taken
+last : (c : In-Some) → IsLast c.loop-piece.self-inside.items.items c.pop_back.new.self.items c.in-Some.piece
+last c = last_piece c.loop-piece.self-inside.items.items c.pop_back.new.self.items c.in-Some.piece c.in-Some.ensures.items c.loop-piece.invariant.fits
 
 pub overflow_sub-start : goal.overflow_sub-start
 overflow_sub-start c =
-    let i = c.loop-piece.invariant in
-    let g = last_piece c.loop-piece.self-inside.items.items c.pop_back.new.self.items c.in-Some.piece c.in-Some.ensures.items i.fits in
-    let a = g.0.0 in
+    let a = (last (goal.at.overflow_sub-start c).In-Some).0.0 in
     omega arith
 
 pub overflow_sub-start-in-Some : goal.overflow_sub-start-in-Some
 overflow_sub-start-in-Some c =
-    let i = c.loop-piece.invariant in
-    let g = last_piece c.loop-piece.self-inside.items.items c.pop_back.new.self.items c.in-Some.piece c.in-Some.ensures.items i.fits in
-    let s = i.size in
-    let z = g.2 in
+    let s = c.loop-piece.invariant.size in
+    let z = (last (goal.at.overflow_sub-start-in-Some c).In-Some).2 in
     omega arith
+
+-- its front goes back
+cut : (c : After-push_back_reserved) → IsCutLast (c.self.inside.size - c.args.n) c.loop-piece.self-inside.items.items c.push_back_reserved.new.self.items
+cut c =
+    let i = c.loop-piece.invariant in
+    let s = i.size in
+    let z = (last (goal.at.invariant_of-self c).In-Some).2 in
+    let keep : ℕ = c.self.inside.size - c.args.n in
+    let start : ℕ = c.loop-piece.self-inside.size - (c.in-Some.piece.to - c.in-Some.piece.from) in
+    last_cut keep start c.loop-piece.self-inside.items.items c.pop_back.new.self.items
+    c.push_back_reserved.new.self.items c.in-Some.piece c.in-Some.ensures.items
+    c.push_back_reserved.ensures.items (omega arith) c.if-start-keep.true (omega arith) i.fits
+
+kept : (c : After-push_back_reserved) → c.push_back_reserved.new.self.items ≡ keep_front (size_of c.args.self.now - c.args.n) c.args.self.now
+kept c =
+    let i = c.loop-piece.invariant in
+    (cut c).0 ∙ i.rest ∙ ap (λ (k : ℕ). keep_front k c.args.self.now) i.kept_size
 
 pub invariant_of-self : goal.invariant_of-self
 invariant_of-self c =
-    let i = c.loop-piece.invariant in
-    let g = last_piece c.loop-piece.self-inside.items.items c.pop_back.new.self.items c.in-Some.piece c.in-Some.ensures.items i.fits in
-    let s = i.size in
-    let z = g.2 in
-    let keep : ℕ = c.self.inside.size - c.args.n in
-    let start : ℕ = c.loop-piece.self-inside.size - (c.in-Some.piece.to - c.in-Some.piece.from) in
-    let l = last_cut keep start c.loop-piece.self-inside.items.items c.pop_back.new.self.items
-    c.push_back_reserved.new.self.items c.in-Some.piece c.in-Some.ensures.items
-    c.push_back_reserved.ensures.items (omega arith) c.if-start-keep.true (omega arith) i.fits in
     let y = c.self.invariant.1 in
-    (sym l.1, omega arith, l.2)
+    (sym (cut c).1, omega arith, (cut c).2)
 
 pub returns-then-start-keep-clause-cut : goal.returns-then-start-keep-clause-cut
 returns-then-start-keep-clause-cut c =
-    let i = c.loop-piece.invariant in
-    let g = last_piece c.loop-piece.self-inside.items.items c.pop_back.new.self.items c.in-Some.piece c.in-Some.ensures.items i.fits in
-    let s = i.size in
-    let z = g.2 in
-    let keep : ℕ = c.self.inside.size - c.args.n in
-    let start : ℕ = c.loop-piece.self-inside.size - (c.in-Some.piece.to - c.in-Some.piece.from) in
-    let l = last_cut keep start c.loop-piece.self-inside.items.items c.pop_back.new.self.items
-    c.push_back_reserved.new.self.items c.in-Some.piece c.in-Some.ensures.items
-    c.push_back_reserved.ensures.items (omega arith) c.if-start-keep.true (omega arith) i.fits in
     let u = ap size_of c.self.view_is in
-    let e : c.push_back_reserved.new.self.items ≡ keep_front (size_of c.args.self.now - c.args.n) c.args.self.now = l.0
-    ∙ i.rest ∙ ap (λ (k : ℕ). keep_front k c.args.self.now) i.kept_size in
     let y = c.self.invariant.0 in
-    (omega arith, e)
+    (omega arith, kept c)
 
 pub returns-then-start-keep-clause-bytes : goal.returns-then-start-keep-clause-bytes
-returns-then-start-keep-clause-bytes c =
-    let i = c.loop-piece.invariant in
-    let g = last_piece c.loop-piece.self-inside.items.items c.pop_back.new.self.items c.in-Some.piece c.in-Some.ensures.items i.fits in
-    let s = i.size in
-    let z = g.2 in
-    let keep : ℕ = c.self.inside.size - c.args.n in
-    let start : ℕ = c.loop-piece.self-inside.size - (c.in-Some.piece.to - c.in-Some.piece.from) in
-    let l = last_cut keep start c.loop-piece.self-inside.items.items c.pop_back.new.self.items
-    c.push_back_reserved.new.self.items c.in-Some.piece c.in-Some.ensures.items
-    c.push_back_reserved.ensures.items (omega arith) c.if-start-keep.true (omega arith) i.fits in
-    let u = ap size_of c.self.view_is in
-    let e : c.push_back_reserved.new.self.items ≡ keep_front (size_of c.args.self.now - c.args.n) c.args.self.now = l.0
-    ∙ i.rest ∙ ap (λ (k : ℕ). keep_front k c.args.self.now) i.kept_size in
-    ap bytes_of e ∙ keep_front-bytes (size_of c.args.self.now - c.args.n) c.args.self.now (subst AllFit c.self.view_is c.self.invariant.2)
+returns-then-start-keep-clause-bytes c = ap bytes_of (kept c)
+    ∙ keep_front-bytes (size_of c.args.self.now - c.args.n) c.args.self.now (subst AllFit c.self.view_is c.self.invariant.2)
 
 pub returns-then-start-keep-clause-kept : goal.returns-then-start-keep-clause-kept
 returns-then-start-keep-clause-kept c = λ t m.
-    let i = c.loop-piece.invariant in
-    let g = last_piece c.loop-piece.self-inside.items.items c.pop_back.new.self.items c.in-Some.piece c.in-Some.ensures.items i.fits in
-    let s = i.size in
-    let z = g.2 in
-    let keep : ℕ = c.self.inside.size - c.args.n in
-    let start : ℕ = c.loop-piece.self-inside.size - (c.in-Some.piece.to - c.in-Some.piece.from) in
-    let l = last_cut keep start c.loop-piece.self-inside.items.items c.pop_back.new.self.items
-    c.push_back_reserved.new.self.items c.in-Some.piece c.in-Some.ensures.items
-    c.push_back_reserved.ensures.items (omega arith) c.if-start-keep.true (omega arith) i.fits in
-    let h = l.3 t m in
-    let k = i.kept t m in
+    let h = (cut c).3 t m in
+    let k = c.loop-piece.invariant.kept t m in
     (omega arith, omega arith)
 
 pub loop-piece-preserved : goal.loop-piece-preserved
 loop-piece-preserved c =
     let i = c.loop-piece.invariant in
-    let g = last_piece c.loop-piece.self-inside.items.items c.pop_back.new.self.items c.in-Some.piece c.in-Some.ensures.items i.fits in
+    let g = last (goal.at.loop-piece-preserved c).In-Some in
     let s = i.size in
     let z = g.2 in
     let n = g.3 in
