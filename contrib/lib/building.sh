@@ -5,8 +5,8 @@
 #   product  the file that is built
 #   teller   who speaks on the standard error
 #   refused  the status where it can't be built
-# and that has two functions: `make_product JOBS` has rt prove and build the crate and all below it, each by so many
-# jobs, and writes nothing but what rt says; `is_made` tells whether that made the product.
+# and that has two functions: `make_product JOBS` has rt prove and build the crate, below which all is proved, by so many jobs, and writes nothing
+# but what rt says; `is_made` tells whether that made the product.
 # shellcheck shell=bash disable=SC2154
 
 built=$product.built # the names and checksums of the sources, and of the product that was built from them
@@ -96,41 +96,102 @@ announce() {
   say "from nothing that takes some $((bytes * 15 / 1000000 + 1)) minutes of processor time, by $(free_jobs) jobs here; what this machine proved before is taken over"
 }
 
-# Keeps what is read in the log, and says how far the proving is: rt takes the crates in the order of `lines_below`, and
-# a crate that it proved ends with a line of its modules.
+# What each crate stands on, whether near or far, and the crate itself, lowest crate first: "NAME: NAME NAME ..".
+all_below() {
+  lines_below | awk -F: '
+    {
+      split($1, own, " ")
+      all = " " own[1] " "
+      count = split($2, near, " ")
+      for (i = 1; i <= count; i++) {
+        far = split(below[near[i]], names, " ")
+        for (j = 1; j <= far; j++) if (!index(all, " " names[j] " ")) all = all names[j] " "
+      }
+      below[own[1]] = all
+      print own[1] ":" all
+    }'
+}
+
+# Keeps what is read in the log, and says how far the proving is, of so many crates.
 tell() {
-  local began=$SECONDS names of line name at
-  names=$(lines_below | sed 's/[: ].*//')
-  of=$(wc -l <<<"$names")
+  local began=$SECONDS at=0 line
   while IFS= read -r line; do
     printf '%s\n' "$line" >&3
     case $line in
-      'crate '*': modules loaded='*)
-        name=${line#crate }
-        name=${name%%:*}
-        at=$(grep -nxF "$name" <<<"$names")
-        say "${at%%:*} of $of crates, after $((SECONDS - began)) seconds: $name"
+      *': done')
+        at=$((at + 1))
+        say "$at of $1 crates, after $((SECONDS - began)) seconds: ${line%: done}"
         ;;
-      'rt: waiting for another rt'* | *'; waiting for it,'*) say "${line#rt: }" ;;
+      *': rt: waiting for another rt'* | *'; waiting for it,'*) say "${line#*rt: }" ;;
     esac
   done
 }
 
-# Proves what changed, and builds the product: one crate after another, each by all jobs. Side by side each crate has one
-# job, and the upper ones, half of the work, are a chain, in which all processors but one would idle.
+# named NAME COMMAND..: the command, each line of which begins with the crate's name; a last one says that it ended well.
+named() {
+  "${@:2}" 2>&1 | sed -u "s/^/$1: /" && echo "$1: done"
+}
+
+# prove_one NAME JOBS: a library.
+prove_one() {
+  cd -- "$root/crates/$1" && rt lib --jobs "$2" </dev/null
+}
+
+# may_start NAME: nothing that it stands on is left to prove, or in the hands of a call that runs.
+may_start() {
+  local other below
+  for other in "${left[@]}"; do
+    [ "$other" = "$1" ] || [[ ${stands[$1]} != *" $other "* ]] || return 1
+  done
+  for other in "${!running[@]}"; do
+    for below in ${stands[$1]}; do
+      [[ ${stands[$other]} != *" $below "* ]] || return 1
+    done
+  done
+}
+
+# prove_below JOBS NAME..: proves these libraries, each by so many jobs and by a call of rt of its own: one that finds all below proved needn't
+# read their sources before, which takes minutes. A small crate doesn't fill the processors, so two at a time are proved that share none below:
+# of two that do, rt would have one wait for the other.
+prove_below() {
+  local jobs=$1 status=0 name below left=("${@:2}")
+  local -A stands=() running=()
+  while IFS=: read -r name below; do stands[$name]=$below; done < <(all_below)
+  while [ ${#left[@]} -gt 0 ] || [ ${#running[@]} -gt 0 ]; do
+    for name in "${left[@]}"; do
+      if [ ${#running[@]} -lt 2 ] && may_start "$name"; then
+        named "$name" prove_one "$name" "$jobs" &
+        running[$name]=$!
+        mapfile -t left < <(printf '%s\n' "${left[@]}" | grep -vxF "$name")
+      fi
+    done
+    sleep 0.2
+    for name in "${!running[@]}"; do
+      if ! kill -0 "${running[$name]}" 2>/dev/null; then
+        wait "${running[$name]}" || { status=1 && left=(); }
+        unset "running[$name]"
+      fi
+    done
+  done
+  return $status
+}
+
+# Proves what changed, and builds the product.
 prove_and_build() (
   [ -d "${TMPDIR:-/tmp}" ] || unset TMPDIR
   exec 3>>"$log" || exit 1
   set -o pipefail
-  make_product "$(free_jobs)" 2>&1 3>&- | tell
+  mapfile -t names < <(to_prove "$1" | sed 's/ .*//' | grep -vxF "$crate")
+  jobs=$(free_jobs)
+  { prove_below "$jobs" "${names[@]}" && named "$crate" make_product "$jobs"; } 3>&- | tell $((${#names[@]} + 1))
 )
 
-# The end of the log, and before it the lines on what was refused, behind the last crate that was proved.
+# The end of the log, and before it the lines on what was refused, of the crates that aren't proved.
 show_log() {
-  awk '
-    /^logic=proved/ { lines = "" }
-    /(^|[ :])error[:[]|not proved|^rt: / { lines = lines $0 "\n" }
-    END { printf "%s", lines }' "$log" | head -n 40 >&2
+  awk -F: '
+    / logic=proved/ { delete lines[$1] }
+    /(^|[ :])error[:[]|not proved|: rt: / { lines[$1] = lines[$1] $0 "\n" }
+    END { for (name in lines) printf "%s", lines[name] }' "$log" | head -n 40 >&2
   tail -n 12 "$log" >&2
 }
 
@@ -173,7 +234,7 @@ build() {
   fi
   before=$(sources)
   announce "$before"
-  if ! in_group prove_and_build; then
+  if ! in_group prove_and_build "$before"; then
     show_log
     refuse "$name could not be built; all that was said is in $log"
   fi
