@@ -8,7 +8,7 @@ use mir.Syntax.{ty_ptr}
 use denote.Opens.{Opens}
 use denote.Copied.{Struct-Copied}
 use denote.Shadow.{makes_shadow}
-use Rattle.raw_block.specs.Views.{LifeNames}
+use Rattle.raw_block.specs.Views.{Life}
 use Rattle.raw_block.specs.Shares.{share_owns, share_shares, released_owns, claimed_owns}
 use Rattle.raw_block.specs.Heap.{may_free, heap_owns}
 use Rattle.raw_block.specs.contracts.heap.OnHeap as on_heap
@@ -18,7 +18,6 @@ use Rattle.raw_block.specs.contracts.held.GivenBack as given_back
 use Rattle.raw_block.specs.contracts.held.WordSeen as word_seen
 use Rattle.raw_block.specs.contracts.held.Share as share
 use Rattle.raw_block.specs.contracts.name.Name as name
-use Rattle.raw_block.specs.contracts.name.NameSeen as name_seen
 
 abbrev pub alone : Ptr → Val
 alone p = vstruct (vcons (ptr_val p) vnil)
@@ -57,7 +56,7 @@ module _ {M : Type 1} {𝓤 : Ura M} (𝓛 : Logic 𝓤) (R : RattleType) where
   heap_placed (block_ptr b o) x = fact_i 𝓤 (Unit {0}) _ tt
   heap_placed null_ptr x = via 𝓤 (never 𝓤) (fst∗ 𝓤 (never 𝓤) (sem 𝓛 (may_free (bare (lone R.mir)) null_ptr))) (never_e 𝓤 _)
 
-  pub owns_placed : (p : Ptr) (γ : LifeNames) (x : R.Denot) (mark w : ℕ) → ent 𝓤 (sem 𝓛 (share_owns R p γ x mark w)) (fact 𝓤 (InBlock p))
+  pub owns_placed : (p : Ptr) (γ : Life) (x : R.Denot) (mark w : ℕ) → ent 𝓤 (sem 𝓛 (share_owns R p γ x mark w)) (fact 𝓤 (InBlock p))
   owns_placed (block_ptr b o) γ x mark w = fact_i 𝓤 (Unit {0}) _ tt
   owns_placed null_ptr γ x mark w = never_e 𝓤 _
 
@@ -89,12 +88,12 @@ module _ (R : RattleType) where
       ((ptr_val p ∷ [], tt), (refl, (refl, tt)))
 
 module _ {M : Type 1} {𝓤 : Ura M} (𝓛 : Logic 𝓤) (R : RattleType) where
-  pub released_placed : (p : Ptr) (γ : LifeNames) (x : R.Denot) (mark w n : ℕ)
+  pub released_placed : (p : Ptr) (γ : Life) (x : R.Denot) (mark w n : ℕ)
       → ent 𝓤 (sem 𝓛 (released_owns R p γ x mark w n)) (fact 𝓤 (InBlock p))
   released_placed (block_ptr b o) γ x mark w n = fact_i 𝓤 (Unit {0}) _ tt
   released_placed null_ptr γ x mark w n = never_e 𝓤 _
 
-  pub claimed_placed : (p : Ptr) (γ : LifeNames) (x : R.Denot) (mark w n : ℕ)
+  pub claimed_placed : (p : Ptr) (γ : Life) (x : R.Denot) (mark w n : ℕ)
       → ent 𝓤 (sem 𝓛 (claimed_owns R p γ x mark w n)) (fact 𝓤 (InBlock p))
   claimed_placed (block_ptr b o) γ x mark w n = fact_i 𝓤 (Unit {0}) _ tt
   claimed_placed null_ptr γ x mark w n = never_e 𝓤 _
@@ -121,6 +120,5 @@ word_seen_made 𝓛 = makes_shadow 𝓛 ((Struct (shape word_seen.the_type)).own
 pub name_made : {M : Type 1} {𝓤 : Ura M} (𝓛 : Logic 𝓤) → ent 𝓤 (emp 𝓤) (sem 𝓛 ((Struct (shape name.the_type)).own_val tt (none ∷ [])))
 name_made 𝓛 = makes_shadow 𝓛 ((Struct (shape name.the_type)).own_val tt (none ∷ [])) (λ vss. (tt, tt)) (tt, (refl, tt))
 
-pub name_seen_made : {M : Type 1} {𝓤 : Ura M} (𝓛 : Logic 𝓤) → ent 𝓤 (emp 𝓤)
-    (sem 𝓛 ((Struct (shape name_seen.the_type)).own_val tt (none ∷ [])))
-name_seen_made 𝓛 = makes_shadow 𝓛 ((Struct (shape name_seen.the_type)).own_val tt (none ∷ [])) (λ vss. (tt, tt)) (tt, (refl, tt))
+pub name_told : (vs : List Val) → Is (Struct (shape name.the_type)) tt vs → vs ≡ none ∷ []
+name_told vs is = is.1.0

@@ -13,7 +13,7 @@ use denote.Sharing.{ShrLaws}
 use denote.SharingLaws.{shortens, said_shr_laws}
 use denote.Struct.Lending.{Lends, Lends-false}
 use Rattle.core.proofs.cell.Borrows.{by_one}
-use Rattle.raw_block.specs.Views.{LifeNames}
+use Rattle.raw_block.specs.Views.{Life}
 use Rattle.raw_block.specs.Shares.{about, entry, kept, offset, seen, Inv, owned, share_at, share_owns, share_shares}
 use Rattle.raw_block.proofs.Entries.{kept_in}
 
@@ -38,7 +38,7 @@ module _ {M : Type 1} {𝓤 : Ura M} (𝓛 : Logic 𝓤) where
 
   infix 26 ◌⊢◌
   infixr 35 ◌∗◌
-  module _ (R : RattleType) (L : RowLaws R) (b o : ℕ) (γ : LifeNames) (x : R.Denot) (mark w : ℕ) (κ : Lft) where
+  module _ (R : RattleType) (L : RowLaws R) (b o : ℕ) (γ : Life) (x : R.Denot) (mark w : ℕ) (κ : Lft) where
     abbrev P : Fml
     P = share_at R b o γ x mark w
 
@@ -49,10 +49,10 @@ module _ {M : Type 1} {𝓤 : Ura M} (𝓛 : Logic 𝓤) where
     Fit = (0 < w) × (w ≤ full_weight)
 
     again : (a : ℕ) (e : Share) → Counts 63 e w → Fit → ⟦ finv (Inv R b o γ x mark a) ⟧
-        ∗ ⟦ entry γ.0 w 0 (about R x mark a) ⟧ ∗ ⟦ V (a ∷ []) ⟧
+        ∗ ⟦ entry γ.names.0 w 0 (about R x mark a) ⟧ ∗ ⟦ V (a ∷ []) ⟧
         ⊢ ⟦ fwand (fsep (fdead κ) (fseps (flft (a ∷ []) e ∷ []))) (fupd P) ⟧
     unfolding fseps
-    again a e c fit = qed 𝓛 (‵ (finv (Inv R b o γ x mark a)) ∷ ‵ (entry γ.0 w 0 (about R x mark a)) ∷ ‵ (V (a ∷ []))
+    again a e c fit = qed 𝓛 (‵ (finv (Inv R b o γ x mark a)) ∷ ‵ (entry γ.names.0 w 0 (about R x mark a)) ∷ ‵ (V (a ∷ []))
         ∷ []) ∵ assume ! (‵ (fsep (fdead κ) (fsep (flft (a ∷ []) e) ftrue))) $
         suffices ! ⟦ P ⟧ (upd_i 𝓤 ⟦ P ⟧) $ fsplit3 ! $ move ! (1 ∷ []) $ use1 𝓛 (‵ (kept a w)) (kept_in 𝓛 a w e c) $
         move ! (4 ∷ 0 ∷ []) $ fjoin ! $ move ! (3 ∷ 0 ∷ 4 ∷ []) $ fjoin3 ! $
@@ -73,7 +73,7 @@ module _ {M : Type 1} {𝓤 : Ura M} (𝓛 : Logic 𝓤) where
         use1 𝓛 (‵ (V (a ++ κ))) (shortens 𝓛 V (L x b (o + offset R)) a (a ++ κ) (meet_⊑_left a κ)) $ move ! (1 ∷ 0 ∷ []) $
         use2 𝓛 (‵ (V κ)) (moves 𝓛 V (L x b (o + offset R)) κ a) $ now ! $ keep ! (0 ∷ 2 ∷ []) $ done !))))
 
-  pub lends_share : (R : RattleType) → RowLaws R → (l : Lft) (p : Ptr) (γ : LifeNames) (x : R.Denot) (mark w : ℕ)
+  pub lends_share : (R : RattleType) → RowLaws R → (l : Lft) (p : Ptr) (γ : Life) (x : R.Denot) (mark w : ℕ)
       → Lends 𝓛 (share_owns R p γ x mark w) (share_shares R p x) l
   lends_share R L l null_ptr γ x mark w = Lends-false 𝓛 (share_shares R null_ptr x) l
   lends_share R L l (block_ptr b o) γ x mark w =

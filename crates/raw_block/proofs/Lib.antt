@@ -1,4 +1,5 @@
 pub mod Overwriting
+mod Beside
 mod Endings
 mod Entries
 mod Fields

@@ -4,8 +4,7 @@ use borrow.Author.Tests.{eqb-true}
 use lib.Dec.{eqb}
 use types.Kit.{‵, given, ◌$◌, ◌∵◌, !, qed, drop, use2, learn, done}
 use Rattle.raw_block.proofs.Walking.{Ura, SProp, ent, sep, emp, via, Logic, sem, fact, fact_i, full_weight}
-use Rattle.raw_block.specs.Shares.{entry}
-use Rattle.raw_block.specs.Naming.{about_nothing, name_owns}
+use Rattle.raw_block.specs.Shares.{about_nothing, entry, name_owns}
 use Rattle.raw_block.proofs.Entries.{Fit, entry_glue}
 
 by_bool : (P : Type 1) (v : Bool) → (v ≡ true → P) → (v ≡ false → P) → P

@@ -21,9 +21,9 @@ use denote.Struct.Parts.{PartsBack, Struct-parts}
 use Rattle.core.proofs.cell.Borrows.{flag}
 use Rattle.core.proofs.tally.Steps.{word_out, word_in}
 use types.Growing.{latest_new}
-use Rattle.raw_block.specs.Views.{LifeNames}
+use Rattle.raw_block.specs.Views.{Life, LifeNames}
 use Rattle.raw_block.specs.Shares.{Log, about, entry, kept, offset, block, content_at, seen, whole_with, state, alive}
-use Rattle.raw_block.specs.Shares.{Inv, owned, share_at, freed}
+use Rattle.raw_block.specs.Shares.{Inv, owned, share_at, freed, name_owns}
 use Rattle.raw_block.specs.Heap.{may_free}
 use Rattle.raw_block.specs.contracts.block.Block.{the_row}
 use Rattle.raw_block.proofs.Entries.{kept_in, kept_cut, entry_new, entry_cut}
@@ -96,22 +96,25 @@ module _ {M : Type 1} {𝓤 : Ura M} (𝓛 : Logic 𝓤) where
         each ! W (λ n. assume ! (‵ (fsep (word b (o + 0) n) (content_at R b o x))) $ move ! (1 ∷ 2 ∷ 0 ∷ []) $ by ! (again n x))
 
   module _ (R : RattleType) (b o : ℕ) (x : R.Denot) (mark : ℕ) where
-    -- the last share's holder has the block again
-    pub regained : (γ : LifeNames) (a w : ℕ) → ⟦ freed R b o γ x mark a w ⟧ ⊢ H.⇛ ⟦ block R b o 0 x ⟧
+    -- the last share's holder has the block again, and its name
+    pub regained : (γ : Life) (a w : ℕ) → ⟦ freed R b o γ x mark a w ⟧ ⊢ H.⇛ (⟦ block R b o 0 x ⟧ ∗ ⟦ name_owns γ.block ⟧)
     regained γ a w = let W : ℕ → Pr = λ n. ⟦ fwand (fsep (word b (o + 0) n) (content_at R b o x)) (block R b o n x) ⟧ in
         qed 𝓛 (‵ (freed R b o γ x mark a w) ∷ []) ∵ updating ! $ fsplit3 ! $ move ! (1 ∷ 2 ∷ []) $ move ! (1 ∷ []) $
-        fsplit ! $ move ! (2 ∷ 0 ∷ []) $ lent_back ! tt $
-        -- [the content; the way back; the word]
-        move ! (2 ∷ 0 ∷ []) $ fjoin ! $ move ! (1 ∷ []) $ use1 𝓛 (raw (W 0)) (all_e 𝓤 W 0) $ move ! (1 ∷ 0 ∷ []) $
+        fsplit3 ! $ move ! (3 ∷ 0 ∷ []) $ lent_back ! tt $
+        -- [the content; the way back; the name; the word]
+        move ! (3 ∷ 0 ∷ []) $ fjoin ! $ move ! (1 ∷ []) $ use1 𝓛 (raw (W 0)) (all_e 𝓤 W 0) $ move ! (1 ∷ 0 ∷ []) $
         use2 𝓛 (‵ (block R b o 0 x)) (apply∗ 𝓤 ⟦ fsep (word b (o + 0) 0) (content_at R b o x) ⟧ ⟦ block R b o 0 x ⟧) $ now ! $ done !
 
-    abbrev pub Begun : Fml
-    Begun = fex LifeNames (λ γ. share_at R b o γ x mark full_weight)
+    abbrev life : ℕ → LifeNames → Life
+    life m names = record { names = names; block = m }
 
-    pub begins : (l : Lft) → Shares 𝓛 R l → (μ : Lft) (q : Share) → Incl μ l → ⟦ word b (o + 0) full_weight ⟧
-        ∗ ⟦ content_at R b o x ⟧ ∗ ⟦ whole_with R b o x ⟧ ∗ A.lft μ q ⊢ H.⇛ (⟦ Begun ⟧ ∗ A.lft μ q)
-    begins l shares μ q inc = qed 𝓛 (‵ (word b (o + 0) full_weight) ∷ ‵ (content_at R b o x) ∷ ‵ (whole_with R b o x)
-        ∷ ‵ (flft μ q) ∷ []) ∵ updating ! $ lft_new ! tt (λ a. let κ : Lft = a ∷ [] in
+    abbrev pub Begun : ℕ → Fml
+    Begun m = fex LifeNames (λ names. share_at R b o (life m names) x mark full_weight)
+
+    pub begins : (m : ℕ) (l : Lft) → Shares 𝓛 R l → (μ : Lft) (q : Share) → Incl μ l → ⟦ word b (o + 0) full_weight ⟧
+        ∗ ⟦ content_at R b o x ⟧ ∗ ⟦ whole_with R b o x ⟧ ∗ ⟦ name_owns m ⟧ ∗ A.lft μ q ⊢ H.⇛ (⟦ Begun m ⟧ ∗ A.lft μ q)
+    begins m l shares μ q inc = qed 𝓛 (‵ (word b (o + 0) full_weight) ∷ ‵ (content_at R b o x) ∷ ‵ (whole_with R b o x)
+        ∷ ‵ (name_owns m) ∷ ‵ (flft μ q) ∷ []) ∵ updating ! $ lft_new ! tt (λ a. let κ : Lft = a ∷ [] in
         use0 𝓛 (later (some (λ (γ : GName). ‵ (entry γ full_weight (full_weight - 1) (about R x mark a)))))
         (via 𝓤 _ (entry_new 𝓛 full_weight (full_weight - 1) (about R x mark a))
         (basic 𝓛 (ex 𝓤 (λ (γ : GName). ⟦ entry γ full_weight (full_weight - 1) (about R x mark a) ⟧)))) $
@@ -119,22 +122,23 @@ module _ {M : Type 1} {𝓤 : Ura M} (𝓛 : Logic 𝓤) where
         use0 𝓛 (later (some (λ (δ : GName). ‵ (latest Log full_share δ (full_weight ∷ [])))))
         (via 𝓤 _ (latest_new Log 𝓛 (full_weight ∷ []))
         (basic 𝓛 (ex 𝓤 (λ (δ : GName). ⟦ latest Log full_share δ (full_weight ∷ []) ⟧)))) $ await ! tt $
-        pick ! (λ δ. let γ : LifeNames = (g, δ) in
-        fpack ! (List ℕ) (λ k. latest Log full_share δ (k ++ (full_weight ∷ []))) [] $ move ! (1 ∷ 2 ∷ 3 ∷ 4 ∷ 5 ∷ 6 ∷ []) $
-        use1 𝓛 (‵ (entry γ.0 (full_weight - full_weight) (full_weight - 1)
-        (about R x mark a)) ⊛ ‵ (entry γ.0 full_weight 0 (about R x mark a)))
-        (entry_cut 𝓛 γ.0 (about R x mark a)
+        pick ! (λ δ. let γ : Life = life m (g, δ) in
+        fpack ! (List ℕ) (λ k. latest Log full_share δ (k ++ (full_weight ∷ []))) [] $
+        move ! (1 ∷ 2 ∷ 3 ∷ 4 ∷ 5 ∷ 6 ∷ 7 ∷ []) $
+        use1 𝓛 (‵ (entry γ.names.0 (full_weight - full_weight) (full_weight - 1)
+        (about R x mark a)) ⊛ ‵ (entry γ.names.0 full_weight 0 (about R x mark a)))
+        (entry_cut 𝓛 γ.names.0 (about R x mark a)
         (full_weight - full_weight) full_weight full_weight (full_weight - 1) 0 (full_weight - 1) (omega arith)
         (omega arith) (omega arith) (omega arith)) $ split ! $
-        -- [the entry; my entry; the token; the word; the content; the way back; the token of μ]
+        -- [the entry; my entry; the token; the word; the content; the way back; the name; the token of μ]
         move ! (2 ∷ []) $ use1 𝓛 (‵ (kept a (2 ^ 63))) (kept_in 𝓛 a (2 ^ 63) full_share (Counts-all 63)) $
         use1 𝓛 (‵ (kept a (2 ^ 63 - full_weight)) ⊛ ‵ (kept a full_weight))
         (kept_cut 𝓛 a (2 ^ 63) (2 ^ 63 - full_weight) full_weight (omega arith) (omega arith) (omega arith)
         (omega arith)) $ split ! $
-        -- [the parts; my parts; the entry; my entry; the word; the content; the way back; the token of μ]
+        -- [the parts; my parts; the entry; my entry; the word; the content; the way back; the name; the token of μ]
         move ! (5 ∷ []) $ bor_new ! tt κ $
-        -- [the borrow; what is lent; the parts; my parts; the entry; my entry; the word; the way back; the token of μ]
-        move ! (1 ∷ 7 ∷ []) $ fjoin ! $ move ! (4 ∷ 2 ∷ 0 ∷ []) $ fjoin3 ! $ nothing ! $
+        -- [the borrow; what is lent; the parts; my parts; the entry; my entry; the word; the way back; the name; ..]
+        move ! (1 ∷ 7 ∷ 8 ∷ []) $ fjoin3 ! $ move ! (4 ∷ 2 ∷ 0 ∷ []) $ fjoin3 ! $ nothing ! $
         fpack ! (IsBalanced full_weight (full_weight - full_weight)) (λ _. ftrue) (omega arith, omega arith) $
         fjoin ! $
         -- [beside the word; the borrow; my parts; my entry; the word; the token of μ]
@@ -150,4 +154,4 @@ module _ {M : Type 1} {𝓤 : Ura M} (𝓛 : Logic 𝓤) where
         move ! (1 ∷ []) $ use1 𝓛 (‵ (kept a full_weight)) (kept_in 𝓛 a full_weight s c) $ move ! (4 ∷ 0 ∷ []) $
         fjoin ! $ move ! (3 ∷ 0 ∷ 1 ∷ []) $ fjoin3 ! $ fpack ! ℕ (λ u. owned R b o γ x mark u full_weight) a $
         nothing ! $ fpack ! ((0 < full_weight) × (full_weight ≤ full_weight)) (λ _. ftrue) (omega arith, omega arith) $
-        fjoin ! $ fpack ! LifeNames (λ g. share_at R b o g x mark full_weight) γ $ now ! $ done !)))))
+        fjoin ! $ fpack ! LifeNames (λ g. share_at R b o (life m g) x mark full_weight) (g, δ) $ now ! $ done !)))))

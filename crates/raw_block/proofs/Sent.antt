@@ -5,7 +5,7 @@ use Rattle.raw_block.proofs.Walking.{null_ptr, IsSend, IsSync, part_keyless, sen
 use base.Shift.{Keyless}
 use Rattle.std.proofs.Crossing.{frees}
 use Rattle.raw_block.specs.contracts.block.Block as blocks
-use Rattle.raw_block.specs.Views.{LifeNames}
+use Rattle.raw_block.specs.Views.{Life}
 use Rattle.raw_block.specs.Shares.{reached, was, offset, block, beside_word, alive, share_at, share_owns, share_shares}
 
 pub reached_keyless : (δ : GName) (w : ℕ) → Keyless (reached δ w)
@@ -19,7 +19,7 @@ was_keyless δ n = λ h. tt
 block_send : (R : RattleType) → IsSend R → IsSend (blocks.the_row R)
 block_send R s = search sendable
 
-module _ (R : RattleType) (s : IsSend R) (y : IsSync R) (b o : ℕ) (γ : LifeNames) (x : R.Denot) (mark : ℕ) where
+module _ (R : RattleType) (s : IsSend R) (y : IsSync R) (b o : ℕ) (γ : Life) (x : R.Denot) (mark : ℕ) where
   block_keyless : (w : ℕ) → Keyless (block R b o w x)
   block_keyless w = (
     part_keyless (blocks.the_row R) (block_send R s) full_share (record { word = w; content = x }) b o,
@@ -31,14 +31,14 @@ module _ (R : RattleType) (s : IsSend R) (y : IsSync R) (b o : ℕ) (γ : LifeNa
 
   beside_keyless : (a w : ℕ) → Keyless (beside_word R b o γ x mark a w)
   beside_keyless a w = (
-    reached_keyless γ.1 w,
+    reached_keyless γ.names.1 w,
     (
       (λ _. tt),
       (
         tt,
         (
           (λ e c. tt),
-          (content_keyless, λ v. ((tt, content_keyless), block_keyless v)),
+          (content_keyless, ((λ v. ((tt, content_keyless), block_keyless v)), tt)),
         ),
       ),
     ),
@@ -51,7 +51,7 @@ module _ (R : RattleType) (s : IsSend R) (y : IsSync R) (b o : ℕ) (γ : LifeNa
   share_keyless : (w : ℕ) → Keyless (share_at R b o γ x mark w)
   share_keyless w = ((λ _. tt), λ a. (alive_keyless a, ((tt, λ e c. tt), y.shared x b (o + offset R) (a ∷ []))))
 
-pub shares_keyless : (R : RattleType) → IsSend R → IsSync R → (p : Ptr) (γ : LifeNames) (x : R.Denot) (mark w : ℕ)
+pub shares_keyless : (R : RattleType) → IsSend R → IsSync R → (p : Ptr) (γ : Life) (x : R.Denot) (mark w : ℕ)
     → Keyless (share_owns R p γ x mark w)
 shares_keyless R s y (block_ptr b o) γ x mark w = share_keyless R s y b o γ x mark w
 shares_keyless R s y null_ptr γ x mark w = tt

@@ -16,11 +16,11 @@ use Rattle.raw_block.proofs.Walking.{fsep, fdead, finv, flft, Logic, sem}
 use Rattle.raw_block.proofs.Walking.{RattleType, block_ptr, nothing, word, latest, at_least, full_weight, IsBalanced}
 use Rattle.core.specs.Sync.RawAtomic.{Shift, rests, ends, enters, leaves, along, if_none, shifted, back, found, asks, always}
 use types.Growing.{latest_grows, latest_shows}
-use Rattle.raw_block.specs.Views.{LifeNames}
+use Rattle.raw_block.specs.Views.{Life}
 use Rattle.raw_block.specs.Shares.{About, about, Log, reached, was, entry, kept, beside_word, state, alive, Inv, held, told, tells}
 use Rattle.raw_block.proofs.Entries.{kept_glue, kept_whole, entry_cut, Fit, entry_glue}
 
-module _ {M : Type 1} {𝓤 : Ura M} (𝓛 : Logic 𝓤) (R : RattleType) (b o : ℕ) (γ : LifeNames) (x : R.Denot) (mark a : ℕ) where
+module _ {M : Type 1} {𝓤 : Ura M} (𝓛 : Logic 𝓤) (R : RattleType) (b o : ℕ) (γ : Life) (x : R.Denot) (mark a : ℕ) where
   open 𝓛 use {H, A}
 
   abbrev Pr : Type 2
@@ -129,35 +129,35 @@ module _ {M : Type 1} {𝓤 : Ura M} (𝓛 : Logic 𝓤) (R : RattleType) (b o :
         fjoin ! $ fpack ! Bool (told R b o γ x mark a w B n) true $ done !)
 
     -- the log goes on;  and tells what it ends in
-    goes_on : (n v : ℕ) → ⟦ reached γ.1 n ⟧ ⊢ upd 𝓤 ⟦ reached γ.1 v ⟧
-    goes_on n v = qed 𝓛 (‵ (reached γ.1 n) ∷ []) ∵ fpick ! (λ h. let l : List ℕ = h ++ (n ∷ []) in
-        use1 𝓛 (raw (upd 𝓤 ⟦ latest Log full_share γ.1 (l ++ (v ∷ [])) ⟧))
-        (latest_grows Log 𝓛 γ.1 l (l ++ (v ∷ [])) (prefix-append l (v ∷ []))) $
-        settle 𝓛 ⟦ reached γ.1 v ⟧ (‵ (latest Log full_share γ.1 (l ++ (v ∷ [])))) $
-        suffices ! _ (upd_i 𝓤 ⟦ reached γ.1 v ⟧) $ fpack ! (List ℕ) (λ k. latest Log full_share γ.1 (k ++ (v ∷ []))) l $ done !)
+    goes_on : (n v : ℕ) → ⟦ reached γ.names.1 n ⟧ ⊢ upd 𝓤 ⟦ reached γ.names.1 v ⟧
+    goes_on n v = qed 𝓛 (‵ (reached γ.names.1 n) ∷ []) ∵ fpick ! (λ h. let l : List ℕ = h ++ (n ∷ []) in
+        use1 𝓛 (raw (upd 𝓤 ⟦ latest Log full_share γ.names.1 (l ++ (v ∷ [])) ⟧))
+        (latest_grows Log 𝓛 γ.names.1 l (l ++ (v ∷ [])) (prefix-append l (v ∷ []))) $
+        settle 𝓛 ⟦ reached γ.names.1 v ⟧ (‵ (latest Log full_share γ.names.1 (l ++ (v ∷ [])))) $
+        suffices ! _ (upd_i 𝓤 ⟦ reached γ.names.1 v ⟧) $ fpack ! (List ℕ) (λ k. latest Log full_share γ.names.1 (k ++ (v ∷ []))) l $ done !)
 
-    tells_it : (n : ℕ) → ⟦ reached γ.1 n ⟧ ⊢ ⟦ reached γ.1 n ⟧ ∗ ⟦ was γ.1 n ⟧
-    tells_it n = qed 𝓛 (‵ (reached γ.1 n) ∷ []) ∵ fpick ! (λ h. let l : List ℕ = h ++ (n ∷ []) in
-        use1 𝓛 (‵ (latest Log full_share γ.1 l) ⊛ ‵ (at_least Log γ.1 l))
-        (latest_shows Log 𝓛 full_share γ.1 l l (Log.same l)) $ split ! $
-        fpack ! (List ℕ) (λ k. latest Log full_share γ.1 (k ++ (n ∷ []))) h $ frame ! $
-        fpack ! (List ℕ) (λ k. at_least Log γ.1 (k ++ (n ∷ []))) h $ done !)
+    tells_it : (n : ℕ) → ⟦ reached γ.names.1 n ⟧ ⊢ ⟦ reached γ.names.1 n ⟧ ∗ ⟦ was γ.names.1 n ⟧
+    tells_it n = qed 𝓛 (‵ (reached γ.names.1 n) ∷ []) ∵ fpick ! (λ h. let l : List ℕ = h ++ (n ∷ []) in
+        use1 𝓛 (‵ (latest Log full_share γ.names.1 l) ⊛ ‵ (at_least Log γ.names.1 l))
+        (latest_shows Log 𝓛 full_share γ.names.1 l l (Log.same l)) $ split ! $
+        fpack ! (List ℕ) (λ k. latest Log full_share γ.names.1 (k ++ (n ∷ []))) h $ frame ! $
+        fpack ! (List ℕ) (λ k. at_least Log γ.names.1 (k ++ (n ∷ []))) h $ done !)
 
     -- ---- release
     gives : (n : ℕ) → n ≢ w → ⟦ word b e ((n + (2 ^ 64 - w)) % 2 ^ 64) ⟧ ∗ ⟦ Beside n ⟧ ∗ ⟦ Mine ⟧
-        ⊢ upd 𝓤 (⟦ I ⟧ ∗ ⟦ tells R b o γ x mark a w (entry γ.0 0 w F) n ⟧)
-    gives n other = let B : Fml = entry γ.0 0 w F in let G : Pr = ⟦ I ⟧ ∗ ⟦ tells R b o γ x mark a w B n ⟧ in
+        ⊢ upd 𝓤 (⟦ I ⟧ ∗ ⟦ tells R b o γ x mark a w (entry γ.names.0 0 w F) n ⟧)
+    gives n other = let B : Fml = entry γ.names.0 0 w F in let G : Pr = ⟦ I ⟧ ∗ ⟦ tells R b o γ x mark a w B n ⟧ in
         qed 𝓛 (‵ (word b e ((n + (2 ^ 64 - w)) % 2 ^ 64)) ∷ ‵ (Beside n) ∷ ‵ Mine ∷ []) ∵ move ! (1 ∷ []) $ fsplit ! $
-        use1 𝓛 (raw (upd 𝓤 ⟦ reached γ.1 (n - w) ⟧)) (goes_on n (n - w)) $ settle 𝓛 G (‵ (reached γ.1 (n - w))) $
+        use1 𝓛 (raw (upd 𝓤 ⟦ reached γ.names.1 (n - w) ⟧)) (goes_on n (n - w)) $ settle 𝓛 G (‵ (reached γ.names.1 (n - w))) $
         suffices ! _ (upd_i 𝓤 G) $ move ! (1 ∷ 2 ∷ 3 ∷ []) $ fsplit ! $
         fpick ! (λ h. let h₀ = h.0 in let h₁ = h.1 in drop ! $ fsplit3 ! $ move ! (4 ∷ []) $ fsplit ! $
         -- [my entry; my parts; the entry; the parts; lent and back; the word]
-        move ! (2 ∷ 0 ∷ []) $ use2 𝓛 (given (Fit 𝓛 γ.0 F F (full_weight - n) w (n - 1) 0)
-        (‵ (entry γ.0 ((full_weight - n) + w) ((n - 1) + 0) F)))
-        (entry_glue 𝓛 γ.0 F F (full_weight - n) w (n - 1) 0) $ learn ! (λ fit. let below = fit.1 in
+        move ! (2 ∷ 0 ∷ []) $ use2 𝓛 (given (Fit 𝓛 γ.names.0 F F (full_weight - n) w (n - 1) 0)
+        (‵ (entry γ.names.0 ((full_weight - n) + w) ((n - 1) + 0) F)))
+        (entry_glue 𝓛 γ.names.0 F F (full_weight - n) w (n - 1) 0) $ learn ! (λ fit. let below = fit.1 in
         let more : w < n = omega arith in let v : ℕ = n - w in
-        use1 𝓛 (‵ (entry γ.0 (full_weight - v) (v - 1) F) ⊛ ‵ B)
-        (entry_cut 𝓛 γ.0 F (full_weight - v) 0 ((full_weight - n) + w) (v - 1) w ((n - 1) + 0) (omega arith)
+        use1 𝓛 (‵ (entry γ.names.0 (full_weight - v) (v - 1) F) ⊛ ‵ B)
+        (entry_cut 𝓛 γ.names.0 F (full_weight - v) 0 ((full_weight - n) + w) (v - 1) w ((n - 1) + 0) (omega arith)
         (omega arith) (omega arith) (omega arith)) $ split ! $
         -- [the entry; the receipt; my parts; the parts; lent and back; the word]
         move ! (3 ∷ 2 ∷ []) $ use2 𝓛 (‵ (kept a (2 ^ 63 - v))) (kept_glue 𝓛 a (2 ^ 63 - n) w (2 ^ 63 - v) (omega arith)
@@ -170,13 +170,13 @@ module _ {M : Type 1} {𝓤 : Ura M} (𝓛 : Logic 𝓤) (R : RattleType) (b o :
         fpack ! ((w < n) × (n ≤ full_weight)) (λ _. ftrue) (more, omega arith) $ fjoin ! $
         fpack ! Bool (told R b o γ x mark a w B n) false $ done !))
 
-    release_way : (n : ℕ) → n < 2 ^ 64 → Way (λ n. (n + (2 ^ 64 - w)) % 2 ^ 64) (tells R b o γ x mark a w (entry γ.0 0 w F)) Mine n
+    release_way : (n : ℕ) → n < 2 ^ 64 → Way (λ n. (n + (2 ^ 64 - w)) % 2 ^ 64) (tells R b o γ x mark a w (entry γ.names.0 0 w F)) Mine n
     release_way n fits = dite (ℕ_discrete n w) (λ same. stops (last (λ n. (n + (2 ^ 64 - w)) % 2 ^ 64)
-        (entry γ.0 0 w F) n same (omega arith))) (λ other. goes (gives n other))
+        (entry γ.names.0 0 w F) n same (omega arith))) (λ other. goes (gives n other))
 
     pub releases : A.inv I ∗ ⟦ Mine ⟧
-        ⊢ asks 𝓛 (block_ptr b e) (λ n. (n + (2 ^ 64 - w)) % 2 ^ 64) always (tells R b o γ x mark a w (entry γ.0 0 w F))
-    releases = stepped (λ n. (n + (2 ^ 64 - w)) % 2 ^ 64) (tells R b o γ x mark a w (entry γ.0 0 w F)) Mine release_way dies_with
+        ⊢ asks 𝓛 (block_ptr b e) (λ n. (n + (2 ^ 64 - w)) % 2 ^ 64) always (tells R b o γ x mark a w (entry γ.names.0 0 w F))
+    releases = stepped (λ n. (n + (2 ^ 64 - w)) % 2 ^ 64) (tells R b o γ x mark a w (entry γ.names.0 0 w F)) Mine release_way dies_with
 
     -- ---- claim
     abbrev swapped : ℕ → ℕ
@@ -189,21 +189,21 @@ module _ {M : Type 1} {𝓤 : Ura M} (𝓛 : Logic 𝓤) (R : RattleType) (b o :
     misses n other = subst (λ (y : Bool). either y 0 n ≡ n) (sym (ne_eqb n w other)) refl
 
     abbrev Kept : ℕ → Fml
-    Kept n = fsep Mine (was γ.1 n)
+    Kept n = fsep Mine (was γ.names.1 n)
 
     stays : (n : ℕ) → n ≢ w → ⟦ word b e (swapped n) ⟧ ∗ ⟦ Beside n ⟧ ∗ ⟦ Mine ⟧ ⊢ upd 𝓤 (⟦ I ⟧ ∗ ⟦ tells R b o γ x mark a w (Kept n) n ⟧)
     stays n other = let G : Pr = ⟦ I ⟧ ∗ ⟦ tells R b o γ x mark a w (Kept n) n ⟧ in
         qed 𝓛 (‵ (word b e (swapped n)) ∷ ‵ (Beside n) ∷ ‵ Mine ∷ []) ∵ suffices ! _ (upd_i 𝓤 G) $
         rewrite ! 0 (λ (k : ℕ). ‵ (word b e k)) (misses n other) refl $
-        move ! (1 ∷ []) $ fsplit ! $ use1 𝓛 (‵ (reached γ.1 n) ⊛ ‵ (was γ.1 n)) (tells_it n) $ split ! $
+        move ! (1 ∷ []) $ fsplit ! $ use1 𝓛 (‵ (reached γ.names.1 n) ⊛ ‵ (was γ.names.1 n)) (tells_it n) $ split ! $
         move ! (2 ∷ 3 ∷ 4 ∷ []) $ fsplit ! $ fpick ! (λ h. let h₀ = h.0 in let h₁ = h.1 in
         drop ! $ fsplit3 ! $ move ! (4 ∷ []) $ fsplit ! $
-        move ! (2 ∷ 0 ∷ []) $ use2 𝓛 (given (Fit 𝓛 γ.0 F F (full_weight - n) w (n - 1) 0)
-        (‵ (entry γ.0 ((full_weight - n) + w) ((n - 1) + 0) F)))
-        (entry_glue 𝓛 γ.0 F F (full_weight - n) w (n - 1) 0) $ learn ! (λ fit. let below = fit.1 in
+        move ! (2 ∷ 0 ∷ []) $ use2 𝓛 (given (Fit 𝓛 γ.names.0 F F (full_weight - n) w (n - 1) 0)
+        (‵ (entry γ.names.0 ((full_weight - n) + w) ((n - 1) + 0) F)))
+        (entry_glue 𝓛 γ.names.0 F F (full_weight - n) w (n - 1) 0) $ learn ! (λ fit. let below = fit.1 in
         let more : w < n = omega arith in
-        use1 𝓛 (‵ (entry γ.0 (full_weight - n) (n - 1) F) ⊛ ‵ (entry γ.0 w 0 F))
-        (entry_cut 𝓛 γ.0 F (full_weight - n) w ((full_weight - n) + w)
+        use1 𝓛 (‵ (entry γ.names.0 (full_weight - n) (n - 1) F) ⊛ ‵ (entry γ.names.0 w 0 F))
+        (entry_cut 𝓛 γ.names.0 F (full_weight - n) w ((full_weight - n) + w)
         (n - 1) 0 ((n - 1) + 0) refl refl below (omega arith)) $ split ! $
         -- [the entry; my entry; my parts; the parts; lent and back; the word]
         move ! (1 ∷ 2 ∷ []) $ fjoin ! $ move ! (1 ∷ 2 ∷ 3 ∷ []) $ fjoin3 ! $ nothing ! $
@@ -220,19 +220,19 @@ module _ {M : Type 1} {𝓤 : Ura M} (𝓛 : Logic 𝓤) (R : RattleType) (b o :
     -- ---- reunite
     module _ (r : ℕ) (total : w + r ≡ full_weight) where
       abbrev Both : Fml
-      Both = fsep Mine (entry γ.0 0 r F)
+      Both = fsep Mine (entry γ.names.0 0 r F)
 
       alone : (n : ℕ) → n ≢ w → ⟦ word b e (swapped n) ⟧ ∗ ⟦ Beside n ⟧ ∗ ⟦ Both ⟧ ⊢ upd 𝓤 (⟦ I ⟧ ∗ ⟦ tells R b o γ x mark a w ffalse n ⟧)
       alone n other = qed 𝓛 (‵ (word b e (swapped n)) ∷ ‵ (Beside n) ∷ ‵ Both ∷ []) ∵ move ! (1 ∷ []) $ fsplit ! $
           drop ! $ fsplit ! $ fpick ! (λ h. let h₀ = h.0 in let h₁ = h.1 in
           drop ! $ fsplit3 ! $ move ! (4 ∷ []) $ fsplit ! $ fsplit ! $
           -- [my entry; my parts; the receipt; the entry; ..]
-          move ! (3 ∷ 0 ∷ []) $ use2 𝓛 (given (Fit 𝓛 γ.0 F F (full_weight - n) w (n - 1) 0)
-          (‵ (entry γ.0 ((full_weight - n) + w) ((n - 1) + 0) F)))
-          (entry_glue 𝓛 γ.0 F F (full_weight - n) w (n - 1) 0) $ learn ! (λ fit. let below = fit.1 in
-          move ! (0 ∷ 2 ∷ []) $ use2 𝓛 (given (Fit 𝓛 γ.0 F F ((full_weight - n) + w) 0 ((n - 1) + 0) r)
-          (‵ (entry γ.0 (((full_weight - n) + w) + 0) (((n - 1) + 0) + r) F)))
-          (entry_glue 𝓛 γ.0 F F ((full_weight - n) + w) 0 ((n - 1) + 0) r) $
+          move ! (3 ∷ 0 ∷ []) $ use2 𝓛 (given (Fit 𝓛 γ.names.0 F F (full_weight - n) w (n - 1) 0)
+          (‵ (entry γ.names.0 ((full_weight - n) + w) ((n - 1) + 0) F)))
+          (entry_glue 𝓛 γ.names.0 F F (full_weight - n) w (n - 1) 0) $ learn ! (λ fit. let below = fit.1 in
+          move ! (0 ∷ 2 ∷ []) $ use2 𝓛 (given (Fit 𝓛 γ.names.0 F F ((full_weight - n) + w) 0 ((n - 1) + 0) r)
+          (‵ (entry γ.names.0 (((full_weight - n) + w) + 0) (((n - 1) + 0) + r) F)))
+          (entry_glue 𝓛 γ.names.0 F F ((full_weight - n) + w) 0 ((n - 1) + 0) r) $
           learn ! (λ tight. let at_most = tight.2 in absurd (omega arith))))
 
       ends_alone : (n : ℕ) → n ≡ w → ⟦ word b e (swapped n) ⟧ ∗ ⟦ Beside n ⟧ ∗ ⟦ Both ⟧ ⊢ A.lft κ full_share

@@ -1,6 +1,5 @@
 pub mod Heap
 pub mod Lending
-pub mod Naming
 pub mod Overwriting
 pub mod Releases
 pub mod Shares

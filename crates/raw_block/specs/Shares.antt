@@ -3,7 +3,8 @@
 -- it. The entries of one life agree on what the life is about: its lifetime, its mark and its content. While the life
 -- lasts its word w is what is held, and the life's invariant has what is left of both sums, that is full_weight - w and
 -- w - 1, and 2 ^ 63 - w of the 2 ^ 63 parts of the lifetime's token. A share of weight k has the entry (k, 0) and k
--- parts of the token; what a release left has (0, k).
+-- parts of the token; what a release left has (0, k). The invariant has the block's name too: whoever begins the life
+-- gives it up, and whoever ends it has it again.
 use Rattle.std.specs.Prelude.{◌≡◌, ℕ, ◌+◌, ◌-◌, ◌^◌, ◌<◌, ◌≤◌, List, [], ◌∷◌, ◌++◌}
 use mathlib.Core.Path.{refl, sym, ◌∙◌}
 use mathlib.Core.Bool.{Bool, true, false}
@@ -28,7 +29,7 @@ use denote.Sharing.{said}
 use Rattle.core.specs.Sync.RawAtomic.{word}
 use Rattle.ref_core.specs.WeightRule.{full_weight, IsBalanced, IsWeight}
 use Rattle.raw_block.specs.Heap.{heap_owns}
-use Rattle.raw_block.specs.Views.{LifeNames}
+use Rattle.raw_block.specs.Views.{Life}
 use Rattle.raw_block.specs.contracts.block.Block.{the_row}
 
 -- ---- the entries of a life
@@ -86,6 +87,14 @@ fact φ = fex φ (λ _. ftrue)
 abbrev pub entry : GName → ℕ → ℕ → About → Fml
 entry γ held given_back f = fown entries γ ((held, given_back), f)
 
+-- a name is about no lifetime, mark or content
+abbrev pub about_nothing : About
+about_nothing = ((0, 0), coded_ℕ.code 0)
+
+-- a block's name: all that can stand under it, with a second one it would be more than the sums allow
+abbrev pub name_owns : ℕ → Fml
+name_owns k = entry k full_weight (full_weight - 1) about_nothing
+
 -- k of the 2 ^ 63 parts of the token of the lifetime a
 abbrev pub kept : ℕ → ℕ → Fml
 kept a k = fex Share (λ e. fex (Counts 63 e k) (λ _. flft (a ∷ []) e))
@@ -127,12 +136,12 @@ module _ (R : RattleType) (b o : ℕ) where
   abbrev pub whole_with : R.Denot → Fml
   whole_with x = fall ℕ (λ w. fwand (fsep (word b (o + 0) w) (content_at x)) (block w x))
 
-  module _ (γ : LifeNames) (x : R.Denot) (mark a : ℕ) where
+  module _ (γ : Life) (x : R.Denot) (mark a : ℕ) where
     -- what lies beside the word w
     abbrev pub beside_word : ℕ → Fml
-    beside_word w = fsep (reached γ.1 w) (fsep (fact (IsBalanced w (full_weight - w)))
-        (fsep (entry γ.0 (full_weight - w) (w - 1) (about R x mark a))
-        (fsep (kept a (2 ^ 63 - w)) (fsep (flent (a ∷ []) (content_at x)) (whole_with x)))))
+    beside_word w = fsep (reached γ.names.1 w) (fsep (fact (IsBalanced w (full_weight - w)))
+        (fsep (entry γ.names.0 (full_weight - w) (w - 1) (about R x mark a))
+        (fsep (kept a (2 ^ 63 - w)) (fsep (flent (a ∷ []) (content_at x)) (fsep (whole_with x) (name_owns γ.block))))))
 
     abbrev pub state : ℕ → Fml
     state w = fsep (word b (o + 0) w) (beside_word w)
@@ -146,16 +155,16 @@ module _ (R : RattleType) (b o : ℕ) where
     Inv = fex Bool alive
 
     abbrev pub held : ℕ → Fml
-    held w = fsep (entry γ.0 w 0 (about R x mark a)) (kept a w)
+    held w = fsep (entry γ.names.0 w 0 (about R x mark a)) (kept a w)
 
     abbrev pub owned : ℕ → Fml
     owned w = fsep (finv Inv) (fsep (held w) (seen x (a ∷ [])))
 
-  abbrev pub share_at : LifeNames → R.Denot → ℕ → ℕ → Fml
+  abbrev pub share_at : Life → R.Denot → ℕ → ℕ → Fml
   share_at γ x mark w = fsep (fact (IsWeight w)) (fex ℕ (λ a. owned γ x mark a w))
 
 -- a share of weight w, of the life γ with the content x and this mark
-abbrev pub share_owns : (R : RattleType) → Ptr → LifeNames → R.Denot → ℕ → ℕ → Fml
+abbrev pub share_owns : (R : RattleType) → Ptr → Life → R.Denot → ℕ → ℕ → Fml
 share_owns R (block_ptr b o) γ x mark w = share_at R b o γ x mark w
 share_owns R null_ptr γ x mark w = ffalse
 
@@ -165,16 +174,16 @@ share_shares R (block_ptr b o) x = seen R b o x
 share_shares R null_ptr x = said ffalse
 
 -- that r was given back in the life γ with this mark, by one release or by several
-abbrev pub given_back_owns : LifeNames → ℕ → ℕ → Fml
+abbrev pub given_back_owns : Life → ℕ → ℕ → Fml
 given_back_owns γ mark r = fsep (fact ((0 < r) × (r + 1 ≤ full_weight)))
-    (fex (ℕ × Gv) (λ f. entry γ.0 0 r ((f.0, mark), f.1)))
+    (fex (ℕ × Gv) (λ f. entry γ.names.0 0 r ((f.0, mark), f.1)))
 
 -- ---- what a step leaves its caller: where it found the caller's own weight w the life has ended, and else `back`
 
-module _ (R : RattleType) (b o : ℕ) (γ : LifeNames) (x : R.Denot) (mark a w : ℕ) where
+module _ (R : RattleType) (b o : ℕ) (γ : Life) (x : R.Denot) (mark a w : ℕ) where
   abbrev pub freed : Fml
   freed = fsep (word b (o + 0) 0) (fsep (fdead (a ∷ []))
-      (fsep (flent (a ∷ []) (content_at R b o x)) (whole_with R b o x)))
+      (fsep (flent (a ∷ []) (content_at R b o x)) (fsep (whole_with R b o x) (name_owns γ.block))))
 
   abbrev pub told : Fml → ℕ → Bool → Fml
   told back n true = fsep (fact (n ≡ w)) freed
@@ -183,22 +192,23 @@ module _ (R : RattleType) (b o : ℕ) (γ : LifeNames) (x : R.Denot) (mark a w :
   abbrev pub tells : Fml → ℕ → Fml
   tells back n = fex Bool (told back n)
 
-module _ (R : RattleType) (b o : ℕ) (γ : LifeNames) (x : R.Denot) (mark w n : ℕ) where
+module _ (R : RattleType) (b o : ℕ) (γ : Life) (x : R.Denot) (mark w n : ℕ) where
   abbrev pub released_at : Fml
-  released_at = fsep (fact (IsWeight w)) (fex ℕ (λ a. tells R b o γ x mark a w (entry γ.0 0 w (about R x mark a)) n))
+  released_at = fsep (fact (IsWeight w))
+      (fex ℕ (λ a. tells R b o γ x mark a w (entry γ.names.0 0 w (about R x mark a)) n))
 
   abbrev pub claimed_at : Fml
   claimed_at = fsep (fact (IsWeight w)) (fex ℕ (λ a. fsep (finv (Inv R b o γ x mark a))
-      (fsep (seen R b o x (a ∷ [])) (tells R b o γ x mark a w (fsep (held R b o γ x mark a w) (was γ.1 n)) n))))
+      (fsep (seen R b o x (a ∷ [])) (tells R b o γ x mark a w (fsep (held R b o γ x mark a w) (was γ.names.1 n)) n))))
 
-abbrev pub released_owns : (R : RattleType) → Ptr → LifeNames → R.Denot → ℕ → ℕ → ℕ → Fml
+abbrev pub released_owns : (R : RattleType) → Ptr → Life → R.Denot → ℕ → ℕ → ℕ → Fml
 released_owns R (block_ptr b o) γ x mark w n = released_at R b o γ x mark w n
 released_owns R null_ptr γ x mark w n = ffalse
 
-abbrev pub claimed_owns : (R : RattleType) → Ptr → LifeNames → R.Denot → ℕ → ℕ → ℕ → Fml
+abbrev pub claimed_owns : (R : RattleType) → Ptr → Life → R.Denot → ℕ → ℕ → ℕ → Fml
 claimed_owns R (block_ptr b o) γ x mark w n = claimed_at R b o γ x mark w n
 claimed_owns R null_ptr γ x mark w n = ffalse
 
 -- that the word of the life was n
-abbrev pub seen_owns : LifeNames → ℕ → Fml
-seen_owns γ n = was γ.1 n
+abbrev pub seen_owns : Life → ℕ → Fml
+seen_owns γ n = was γ.names.1 n

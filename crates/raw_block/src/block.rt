@@ -13,7 +13,6 @@ ghost use Rattle.std.specs.Prelude.{◌≡◌, ◌+◌, ◌≤◌, length, slice
 ghost use Rattle.std.specs.Borrow.{sem};
 ghost use Rattle.raw_block.specs.Lending.{lends_range};
 
-use crate::name::Name;
 use ref_core::BLOCK_SIZE;
 
 /// A count word and a content, side by side in one allocation.
@@ -27,13 +26,6 @@ pub(crate) struct Block<T> {
 #[derive(Drop)]
 pub(crate) struct Bytes {
     pub(crate) bytes: [u8; BLOCK_SIZE],
-}
-
-/// What a block holds: its bytes, and the name that no other block has.
-#[derive(Drop)]
-pub(crate) struct Content {
-    pub(crate) bytes: Bytes,
-    pub(crate) name: Name,
 }
 
 impl Bytes {

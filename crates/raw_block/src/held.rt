@@ -6,12 +6,13 @@
 //! instruction.
 ghost use Rattle.std.specs.Prelude.{◌≡◌, ◌≢◌, ℕ, ◌+◌, ◌<◌, ◌≤◌};
 ghost use Rattle.ref_core.specs.WeightRule.{full_weight};
-ghost use Rattle.raw_block.specs.Views.{LifeNames};
+ghost use Rattle.raw_block.specs.Views.{Life};
 ghost use Rattle.raw_block.specs.Shares.{share_owns, share_shares, given_back_owns, released_owns, claimed_owns};
 ghost use Rattle.raw_block.specs.Shares.{seen_owns};
 
 use crate::block::Block;
 use crate::heap::OnHeap;
+use crate::name::Name;
 use atomic_table::exchange;
 use std::alloc::Global;
 use std::marker::{Brand, Model};
@@ -22,7 +23,7 @@ use std::sync::atomic::raw;
 pub(crate) struct Share<T> {
     at: *mut Block<T>,
     ghost weight: { ℕ },
-    ghost life: { LifeNames },
+    ghost life: { Life },
     ghost mark: { ℕ },
     ghost content: { T },
 }
@@ -36,7 +37,7 @@ impl<T> Model for Share<T> {
 /// That a share of some weight was released in a life, and was not the last.
 pub(crate) struct GivenBack {
     ghost weight: { ℕ },
-    ghost life: { LifeNames },
+    ghost life: { Life },
     ghost mark: { ℕ },
 }
 
@@ -48,7 +49,7 @@ impl Model for GivenBack {
 #[derive(Drop)]
 pub(crate) struct WordSeen {
     ghost total: { ℕ },
-    ghost life: { LifeNames },
+    ghost life: { Life },
 }
 
 impl Model for WordSeen {
@@ -60,7 +61,7 @@ pub(crate) struct AfterRelease<T> {
     at: *mut Block<T>,
     ghost found: { ℕ },
     ghost weight: { ℕ },
-    ghost life: { LifeNames },
+    ghost life: { Life },
     ghost mark: { ℕ },
     ghost content: { T },
 }
@@ -74,7 +75,7 @@ pub(crate) struct AfterClaim<T> {
     at: *mut Block<T>,
     ghost found: { ℕ },
     ghost weight: { ℕ },
-    ghost life: { LifeNames },
+    ghost life: { Life },
     ghost mark: { ℕ },
     ghost content: { T },
 }
@@ -84,13 +85,15 @@ impl<T> Model for AfterClaim<T> {
 }
 
 impl<T> Share<T> {
-    /// A life of the block begins, with all its weight in one share.
-    pub(crate) fn begin(block: OnHeap<Block<T>>, mark: u32) -> Share<T>
+    /// A life of the block begins, with all its weight in one share. It keeps the block's name.
+    pub(crate) fn begin(block: OnHeap<Block<T>>, mark: u32, name: Name) -> Share<T>
         requires word { block.value.word ≡ full_weight }
-        ensures begun { (result.weight ≡ full_weight) × (result.mark ≡ mark) × (result.content ≡ block.value.content) }
+        ensures begun { (result.weight ≡ full_weight) × (result.mark ≡ mark) × (result.content ≡ block.value.content)
+            × (result.life.block ≡ name.id) }
     {
         let OnHeap { at } = block;
         let _ = mark;
+        let Name {} = name;
         Share { at }
     }
 
@@ -121,6 +124,12 @@ impl<T> Share<T> {
     {
         let Share { at: _ } = other;
     }
+
+    /// A name that is owned beside a share is not that of its block, since the life has that one.
+    pub(crate) fn differ_from(&mut self, name: &mut Name)
+        ensures names { self.old.life.block ≢ name.old.id }
+        ensures same { (self.new ≡ self.old) × (name.new.id ≡ name.old.id) }
+    {}
 
     /// One fetch-sub. The number that it answers decides what is left.
     pub(crate) fn release(self, weight: u64) -> (u64, AfterRelease<T>)
@@ -160,13 +169,14 @@ impl<T> Share<T> {
 }
 
 impl<T> AfterRelease<T> {
-    /// The block, where the step found the share's own weight.
-    pub(crate) fn last(self) -> OnHeap<Block<T>>
+    /// The block and its name, where the step found the share's own weight.
+    pub(crate) fn last(self) -> (OnHeap<Block<T>>, Name)
         requires found { self.found ≡ self.weight }
-        ensures block { (result.value.word ≡ 0) × (result.value.content ≡ self.content) }
+        ensures block { (result.0.value.word ≡ 0) × (result.0.value.content ≡ self.content)
+            × (result.1.id ≡ self.life.block) }
     {
         let AfterRelease { at } = self;
-        OnHeap { at }
+        (OnHeap { at }, Name {})
     }
 
     /// That the weight was given back, where the step found another number.
@@ -181,13 +191,14 @@ impl<T> AfterRelease<T> {
 }
 
 impl<T> AfterClaim<T> {
-    /// The block, where the step found the share's own weight.
-    pub(crate) fn won(self) -> OnHeap<Block<T>>
+    /// The block and its name, where the step found the share's own weight.
+    pub(crate) fn won(self) -> (OnHeap<Block<T>>, Name)
         requires found { self.found ≡ self.weight }
-        ensures block { (result.value.word ≡ 0) × (result.value.content ≡ self.content) }
+        ensures block { (result.0.value.word ≡ 0) × (result.0.value.content ≡ self.content)
+            × (result.1.id ≡ self.life.block) }
     {
         let AfterClaim { at } = self;
-        OnHeap { at }
+        (OnHeap { at }, Name {})
     }
 
     /// The share again, and what the step saw, where it found another number.

@@ -15,7 +15,8 @@
 //! and `specs/Shares.antt` says who owns what.
 //!
 //! A block has a name, which contracts alone see: a number that is chosen as the block is made. Its Soles, parts,
-//! receipts and sights show it through all lives, and two Soles side by side have two (`Sole::differ`).
+//! receipts and sights show it through all lives. Two Soles side by side have two (`Sole::differ`), and so have a Sole
+//! and a part (`Sole::differ_from_part`).
 //!
 //! Not said: how many steps on the word a call takes. `Share::release`, `claim` and `reunite` are one each, in one
 //! line.
@@ -44,10 +45,10 @@
 //!
 //! - **Blocks come from the C heap.** `Sole::new` takes the allocator `Global`: a part's last holder frees the block,
 //!   so each part must have the allocator, and a clone of a general allocator may fail. `Global` has no bytes.
-//! - **A block has a name**, a ghost number that lies in it beside its bytes and is owned there, so that two blocks
-//!   have two. Each Sole, part, receipt and sight shows it, and the account counts by it: a Sole that merely has the
-//!   same mark isn't its block's. Receipts and sights hold the number alone; each clause that makes one says that it is
-//!   their part's.
+//! - **A block has a name**, a ghost number that its Sole owns, so that two blocks have two. A life takes it as it
+//!   begins, and the step that ends the life gives it back: what a part holds can't be shown beside a Sole, since it is
+//!   lent to all parts, but what the life owns can. Parts, receipts and sights tell the number, and the account counts
+//!   by it: a Sole that merely has the same mark isn't its block's.
 //! - **Agreement is a clause.** That two parts, or a part and a receipt, of one life have one mark (and parts the same
 //!   bytes) is told where two of them meet: `join`, `add`, `reunite`.
 //! - **The release and the claim don't answer the number that the word held**, but what follows from it. The number is

@@ -3,7 +3,7 @@ ghost use Rattle.std.specs.Prelude.{◌≡◌, ◌+◌, ◌<◌, ◌≤◌, ◌-
 ghost use Rattle.ref_core.specs.WeightRule.{full_weight};
 ghost use Rattle.raw_block.specs.Releases.{IsReleased, IsLast, IsClaimed, IsSole};
 
-use crate::block::Content;
+use crate::block::Bytes;
 use crate::held::Share;
 use crate::receipt::{Receipt, Sight};
 use crate::sole::Sole;
@@ -12,7 +12,7 @@ use std::marker::Model;
 
 /// A holder of a block beside others, by a part of its weight. It must be spent: released, claimed, joined or reunited.
 pub struct Part {
-    pub(crate) share: Share<Content>,
+    pub(crate) share: Share<Bytes>,
     pub(crate) weight: u64,
     pub(crate) alloc: Global,
     pub(crate) mark: u32,
@@ -26,9 +26,9 @@ impl Model for Part {
     ghost Value = { PartState };
 
     ghost view = { λ p. record {
-      life = record { names = p.share.life; block = p.share.content.name.id };
+      life = p.share.life;
       weight = p.weight;
-      bytes = p.share.content.bytes.bytes;
+      bytes = p.share.content.bytes;
       mark = p.mark;
     } };
 
@@ -56,7 +56,7 @@ impl Part {
         ensures value { result.now ≡ self.now.bytes }
         ensures size { length result.now ≡ 2048 }
     {
-        &self.share.content().bytes.bytes
+        &self.share.content().bytes
     }
 
     /// Its weight, from 1 to `FULL`.
@@ -120,11 +120,12 @@ impl Part {
             alloc,
             mark,
         } = self;
-        let name = share.content().name.seen();
         let (found, after) = share.release(weight);
         if found == weight {
+            let (block, name) = after.last();
             Released::Last(Sole {
-                block: after.last().into_box(alloc),
+                block: block.into_box(alloc),
+                name,
                 alloc,
                 mark,
             })
@@ -133,7 +134,6 @@ impl Part {
                 given_back: after.left(),
                 weight,
                 mark,
-                name,
             })
         }
     }
@@ -151,11 +151,12 @@ impl Part {
             alloc,
             mark,
         } = self;
-        let name = share.content().name.seen();
         let (found, after) = share.claim(weight);
         if found == weight {
+            let (block, name) = after.won();
             Claimed::Sole(Sole {
-                block: after.won().into_box(alloc),
+                block: block.into_box(alloc),
+                name,
                 alloc,
                 mark,
             })
@@ -168,11 +169,7 @@ impl Part {
                     alloc,
                     mark,
                 },
-                Sight {
-                    seen,
-                    total: found,
-                    name,
-                },
+                Sight { seen, total: found },
             )
         }
     }
@@ -193,11 +190,11 @@ impl Part {
             given_back,
             weight: _,
             mark: _,
-            name: _,
         } = receipt;
-        let after = share.reunite(given_back, weight);
+        let (block, name) = share.reunite(given_back, weight).last();
         Sole {
-            block: after.last().into_box(alloc),
+            block: block.into_box(alloc),
+            name,
             alloc,
             mark,
         }

@@ -3,7 +3,6 @@ ghost use Rattle.std.specs.Prelude.{◌≡◌, ◌+◌, ◌<◌};
 ghost use Rattle.ref_core.specs.WeightRule.{full_weight};
 
 use crate::held::{GivenBack, WordSeen};
-use crate::name::NameSeen;
 use std::marker::Model;
 
 /// That so much weight of a life was given back. It must be spent: added, reunited or closed.
@@ -11,7 +10,6 @@ pub struct Receipt {
     pub(crate) given_back: GivenBack,
     pub(crate) weight: u64,
     pub(crate) mark: u32,
-    pub(crate) name: NameSeen,
 }
 
 impl Model for Receipt {
@@ -22,7 +20,7 @@ impl Model for Receipt {
     ghost Value = { ReceiptState };
 
     ghost view = { λ r. record {
-      life = record { names = r.given_back.life; block = r.name.id };
+      life = r.given_back.life;
       weight = r.weight;
       mark = r.mark;
     } };
@@ -58,7 +56,6 @@ impl Receipt {
             given_back,
             weight,
             mark: _,
-            name: _,
         } = other;
         self.given_back.add(given_back);
         self.weight += weight;
@@ -70,7 +67,6 @@ impl Receipt {
             given_back,
             weight: _,
             mark: _,
-            name: _,
         } = self;
         given_back.close();
     }
@@ -81,7 +77,6 @@ impl Receipt {
 pub struct Sight {
     pub(crate) seen: WordSeen,
     pub(crate) total: u64,
-    pub(crate) name: NameSeen,
 }
 
 impl Model for Sight {
@@ -90,7 +85,7 @@ impl Model for Sight {
 
     ghost Value = { SightState };
 
-    ghost view = { λ s. record { life = record { names = s.seen.life; block = s.name.id }; total = s.total } };
+    ghost view = { λ s. record { life = s.seen.life; total = s.total } };
 
     ghost invariant = { λ s. s.seen.total ≡ s.total };
 }

@@ -2,9 +2,9 @@
 ghost use Rattle.std.specs.Prelude.{◌≡◌, ◌≢◌, ◌+◌, ◌≤◌, length, replicate, slice_range, IfOk};
 ghost use Rattle.std.specs.Borrow.{sem};
 ghost use Rattle.ref_core.specs.WeightRule.{full_weight};
-ghost use Rattle.raw_block.specs.Lending.{lends_bytes, lends_bytes_of, lends_content};
+ghost use Rattle.raw_block.specs.Lending.{lends_bytes, lends_content};
 
-use crate::block::{Block, Bytes, Content};
+use crate::block::{Block, Bytes};
 use crate::heap::OnHeap;
 use crate::held::Share;
 use crate::name::Name;
@@ -16,7 +16,8 @@ use std::marker::Model;
 /// A block that nobody else holds: the only one who may write its bytes.
 #[derive(Drop)]
 pub struct Sole {
-    pub(crate) block: Box<Block<Content>, Global>,
+    pub(crate) block: Box<Block<Bytes>, Global>,
+    pub(crate) name: Name,
     pub(crate) alloc: Global,
     pub(crate) mark: u32,
 }
@@ -27,28 +28,19 @@ impl Model for Sole {
     ghost Value = { SoleState };
 
     ghost view = { λ s. record {
-      block = s.block.value.content.name.id;
-      bytes = s.block.value.content.bytes.bytes;
+      block = s.name.id;
+      bytes = s.block.value.content.bytes;
       mark = s.mark;
     } };
 }
 
-// The bytes `from..to` of what a block holds, for writing.
-fn range_in(content: &mut Content, from: usize, to: usize) -> &mut [u8]
-    requires range { (from ≤ to) × (to ≤ 2048) }
-    ensures* writes_back { sem 𝓛 (lends_bytes_of content.entry from result) }
-    ensures value { (result.now ≡ slice_range content.old.bytes.bytes from to) × (length result.now + from ≡ to) }
-{
-    content.bytes.range_mut(from, to)
-}
-
 // The bytes `from..to` of a block, for writing.
-fn range_of(block: &mut Block<Content>, from: usize, to: usize) -> &mut [u8]
+fn range_of(block: &mut Block<Bytes>, from: usize, to: usize) -> &mut [u8]
     requires range { (from ≤ to) × (to ≤ 2048) }
     ensures* writes_back { sem 𝓛 (lends_content block.entry from result) }
-    ensures value { (result.now ≡ slice_range block.old.content.bytes.bytes from to) × (length result.now + from ≡ to) }
+    ensures value { (result.now ≡ slice_range block.old.content.bytes from to) × (length result.now + from ≡ to) }
 {
-    range_in(&mut block.content, from, to)
+    block.content.range_mut(from, to)
 }
 
 impl Sole {
@@ -56,21 +48,13 @@ impl Sole {
     pub fn new(alloc: Global) -> Result<Sole, AllocError>
         ensures zeros { IfOk result (λ sole. (sole.bytes ≡ replicate 2048 0) × (sole.mark ≡ 0)) }
     {
-        let bytes = Bytes {
+        let content = Bytes {
             bytes: [0; BLOCK_SIZE],
         };
-        let block = Box::new(
-            alloc,
-            Block {
-                word: 0,
-                content: Content {
-                    bytes,
-                    name: Name::new(),
-                },
-            },
-        )?;
+        let block = Box::new(alloc, Block { word: 0, content })?;
         Ok(Sole {
             block,
+            name: Name::new(),
             alloc,
             mark: 0,
         })
@@ -81,7 +65,7 @@ impl Sole {
         ensures value { result.now ≡ self.now.bytes }
         ensures size { length result.now ≡ 2048 }
     {
-        &self.block.content.bytes.bytes
+        &self.block.content.bytes
     }
 
     /// The 2048 bytes, for writing.
@@ -123,10 +107,15 @@ impl Sole {
         ensures blocks { self.old.block ≢ other.old.block }
         ensures same { (self.new ≡ self.old) × (other.new ≡ other.old) }
     {
-        self.block
-            .content
-            .name
-            .differ(&mut other.block.content.name);
+        self.name.differ(&mut other.name);
+    }
+
+    /// A Sole and a part of a life that stand side by side are of two blocks.
+    pub fn differ_from_part(&mut self, part: &mut Part)
+        ensures blocks { part.old.life.block ≢ self.old.block }
+        ensures same { (self.new ≡ self.old) × (part.new ≡ part.old) }
+    {
+        part.share.differ_from(&mut self.name);
     }
 
     /// A life of the block begins: one part with all the weight, the same bytes and the same mark.
@@ -136,11 +125,12 @@ impl Sole {
     {
         let Sole {
             mut block,
+            name,
             alloc,
             mark,
         } = self;
         block.word = FULL;
-        let share = Share::begin(OnHeap::of(block), mark);
+        let share = Share::begin(OnHeap::of(block), mark, name);
         Part {
             share,
             weight: FULL,

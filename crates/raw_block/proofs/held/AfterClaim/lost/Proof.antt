@@ -8,7 +8,7 @@ use Rattle.raw_block.proofs.Walking.{get_in, sets, is, agg, sub, whole, tables, 
 use Rattle.raw_block.proofs.Walking.{Valss, owns, types_at, plain, Ptr, InBlock, block_ptr, ptr_val, block_of, count_of}
 use Rattle.raw_block.proofs.Walking.{at_block, nothing, heard, param}
 use Rattle.raw_block.proofs.Walking.{bounded, alive, Stays, stay_dropped, walk_of, Goes-dropped, proved, leaves, full_weight}
-use Rattle.raw_block.specs.Views.{LifeNames}
+use Rattle.raw_block.specs.Views.{Life}
 use Rattle.raw_block.specs.Shares.{share_owns, claimed_owns, seen_owns}
 use Rattle.raw_block.specs.contracts.held.Share as share
 use Rattle.raw_block.proofs.Fields.{alone, typed, Words, made, claimed_told, claimed_placed, none, word_seen_made}
@@ -34,7 +34,7 @@ lost_spec 𝓤 𝓛 𝓜 𝓡 wired X L =
     proved 𝓛 En hs c 𝓜 𝓡 (Goes-dropped 𝓛 1 self no (λ κs x f. refl), tt) (#self inst) fn closed
     (λ κs. ((λ x. alone x.at ∷ []), tt)) (λ κs. ((λ x vs so. claimed_told R x.at vs so.0), tt)) (λ κs qs bounds a gh are.
     let h : Pr.Denot = a.0 in let p : Ptr = h.at in let x : X.Denot = h.content in let mark : ℕ = h.mark in
-    let γ : LifeNames = h.life in let w : ℕ = h.weight in let n : ℕ = h.found in
+    let γ : Life = h.life in let w : ℕ = h.weight in let n : ℕ = h.found in
     let y : (walk_of 𝓛 En hs c).Ghost = ((κs, qs, bounds, a, (alone p ∷ [], tt)), gh) in
     let Post : Val → SProp 𝓤 = (walk_of 𝓛 En hs c).post y in
     qed 𝓛 ((raw (alive 𝓛 En.signature κs qs) ⊛ ‵ (owns (types_at En.signature.params κs) a y.0.4)) ∷ raw (fact 𝓤 _)

@@ -4,7 +4,7 @@ use Rattle.raw_block.proofs.Walking.{dnil, a_type, Val, inst_fn, SProp, emp, no_
 use Rattle.raw_block.proofs.Walking.{pass_all, free_all, look_at, sets, agg, tables, fact, fact_i, no, RattleType, owns}
 use Rattle.raw_block.proofs.Walking.{types_at, plain, Ptr, nothing, heard}
 use Rattle.raw_block.proofs.Walking.{param, bounded, alive, Stays, stay_dropped, walk_of, Goes-dropped, proved, leaves, full_weight}
-use Rattle.raw_block.specs.Views.{LifeNames}
+use Rattle.raw_block.specs.Views.{Life}
 use Rattle.raw_block.specs.Shares.{given_back_owns}
 use Rattle.raw_block.proofs.Fields.{alone, released_told, typed_any, none, given_back_made}
 use Rattle.raw_block.specs.contracts.held.AfterRelease as after_release
@@ -28,7 +28,7 @@ left_spec 𝓤 𝓛 𝓜 𝓡 wired X L =
     proved 𝓛 En hs c 𝓜 𝓡 (Goes-dropped 𝓛 1 self no (λ κs x f. refl), tt) (#self inst) fn closed
     (λ κs. ((λ x. alone x.at ∷ []), tt)) (λ κs. ((λ x vs so. released_told R x.at vs so.0), tt)) (λ κs qs bounds a gh are.
     let h : Pr.Denot = a.0 in let p : Ptr = h.at in let x : X.Denot = h.content in let mark : ℕ = h.mark in
-    let γ : LifeNames = h.life in let w : ℕ = h.weight in let n : ℕ = h.found in
+    let γ : Life = h.life in let w : ℕ = h.weight in let n : ℕ = h.found in
     let y : (walk_of 𝓛 En hs c).Ghost = ((κs, qs, bounds, a, (alone p ∷ [], tt)), gh) in
     let Post : Val → SProp 𝓤 = (walk_of 𝓛 En hs c).post y in
     qed 𝓛 ((raw (alive 𝓛 En.signature κs qs) ⊛ ‵ (owns (types_at En.signature.params κs) a y.0.4)) ∷ raw (fact 𝓤 _)

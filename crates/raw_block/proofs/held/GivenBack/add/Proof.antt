@@ -6,7 +6,7 @@ use Rattle.raw_block.proofs.Walking.{alloc_all, pass_all, free_all, look_at, set
 use Rattle.raw_block.proofs.Walking.{RattleType, plain, nothing, heard, opens, closes}
 use Rattle.raw_block.proofs.Walking.{MutRef, mut_vals, mut_Tells, Stays, stay_dropped, walk_of, Goes-dropped, stay_ref}
 use Rattle.raw_block.proofs.Walking.{Goes-ref, proved, leaves, full_weight, unit_lit}
-use Rattle.raw_block.specs.Views.{LifeNames}
+use Rattle.raw_block.specs.Views.{Life}
 use Rattle.raw_block.specs.Shares.{given_back_owns}
 use Rattle.raw_block.proofs.Sharing as sharing
 use Rattle.raw_block.specs.contracts.held.GivenBack.add.{ended, clauses}
@@ -31,14 +31,14 @@ add_spec 𝓤 𝓛 𝓜 𝓡 wired =
       ((λ x vs so. given_back_told vs so.0), tt),
     )) (λ κs qs bounds a gh are.
     let b : ℕ = a.0.ref_ptr.0 in let o : ℕ = a.0.ref_ptr.1 in let h : Sr.Denot = a.0.now in let vs = mut_vals a.0 in
-    let γ : LifeNames = h.life in let r : ℕ = h.weight in let mark : ℕ = h.mark in let d : Sr.Denot = a.1.0 in
+    let γ : Life = h.life in let r : ℕ = h.weight in let mark : ℕ = h.mark in let d : Sr.Denot = a.1.0 in
     let y : (walk_of 𝓛 En hs c).Ghost = ((κs, qs, bounds, a, (vs, (none ∷ [], tt))), gh) in
     let Post : Val → SProp 𝓤 = (walk_of 𝓛 En hs c).post y in
     qed 𝓛 (((‵ (flft κs.0 qs.0) ⊛ ‵ ftrue) ⊛ ‵ ((MutRef (named 0) κs.0 Sr).own_val a.0 vs) ⊛ ‵ (fsep (Sr.own_val d (none
     ∷ [])) ftrue)) ∷ raw (fact 𝓤 (d.life ≡ γ)) ∷ []) ∵
     move ! (1 ∷ []) $ heard ! (d.life ≡ γ) (λ same. split ! $ split ! $ move ! (2 ∷ []) $ split ! $ move ! (1 ∷ []) $
     fsplit ! $ fsplit ! $ keep ! (1 ∷ 3 ∷ 4 ∷ 5 ∷ []) $
-    rewrite ! 0 (λ (g : LifeNames). ‵ (given_back_owns g d.mark d.weight)) same refl $
+    rewrite ! 0 (λ (g : Life). ‵ (given_back_owns g d.mark d.weight)) same refl $
     enter ! 𝓣.C 𝓣.Λ fn _ Post $ alloc_all ! (λ l. pass_all ! refl ((tt, tt), ((tt, tt), tt)) $
     move ! (1 ∷ []) $ fsplit3 ! $ move ! (1 ∷ 2 ∷ 4 ∷ []) $ opens ! tt Sr b o (λ us. move ! (1 ∷ []) $ fsplit ! $ move ! (1 ∷ 7 ∷ []) $
     use2 𝓛 (given ((r + d.weight < full_weight) × (d.mark ≡ mark)) (‵ (given_back_owns γ mark (r + d.weight))))

@@ -11,7 +11,7 @@ use Rattle.raw_block.proofs.Walking.{types_at, plain, Ptr, InBlock, block_ptr, p
 use Rattle.raw_block.proofs.Walking.{nothing, heard, param, bounded, u64, uint_vals, uint_Tells, alive, Stays}
 use Rattle.raw_block.proofs.Walking.{stay_dropped, walk_of, Goes-dropped, tail}
 use Rattle.raw_block.proofs.Walking.{proved, leaves, fm, found, finds, exchanges, full_weight}
-use Rattle.raw_block.specs.Views.{LifeNames}
+use Rattle.raw_block.specs.Views.{Life}
 use Rattle.raw_block.specs.Shares.{was, seen, Inv, held, share_owns, tells}
 use Rattle.raw_block.specs.contracts.held.Share as share
 use Rattle.raw_block.proofs.Fields.{alone, typed, told, owns_placed, Claimed_words, claimed_made}
@@ -38,7 +38,7 @@ claim_spec 𝓤 𝓛 𝓜 𝓡 wired X L =
       (uint_Tells w64, tt),
     )) (λ κs qs bounds a gh are.
     let h : Sr.Denot = a.0 in let p : Ptr = h.at in let b : ℕ = block_of p in let o : ℕ = count_of p in
-    let x : X.Denot = h.content in let mark : ℕ = h.mark in let γ : LifeNames = h.life in let k : ℕ = a.1.0 in
+    let x : X.Denot = h.content in let mark : ℕ = h.mark in let γ : Life = h.life in let k : ℕ = a.1.0 in
     let y : (walk_of 𝓛 En hs c).Ghost = ((κs, qs, bounds, a, (alone p ∷ [], (vint w64 k ∷ [], tt))), gh) in
     let Post : Val → SProp 𝓤 = (walk_of 𝓛 En hs c).post y in
     qed 𝓛 ((raw (alive 𝓛 En.signature κs qs) ⊛ ‵ (owns (types_at En.signature.params κs) a y.0.4)) ∷ raw (fact 𝓤 _)
@@ -56,7 +56,7 @@ claim_spec 𝓤 𝓛 𝓜 𝓡 wired X L =
     let Mine : Fml = held R b o γ x mark u k in
     use1 𝓛 (‵ (finv I) ⊛ ‵ (finv I)) (𝓛.invs.inv_dup I) $ split ! $ move ! (0 ∷ 2 ∷ []) $
     -- [the invariant; mine; the invariant; what is seen; the tokens]
-    let after : ℕ → Fml = λ n. tells R b o γ x mark u k (fsep Mine (was γ.1 n)) n in
+    let after : ℕ → Fml = λ n. tells R b o γ x mark u k (fsep Mine (was γ.names.1 n)) n in
     sets ! (is ! (of_opd ! (get_in ! (fld ! refl (stop !)) (sub ! 0 refl (whole !)))) (ap ptr_val at)) refl (tt, tt) $
     first ! $ blocks ! $ sets ! (addr ! (through ! refl (fld ! refl (stop !)))) refl (tt, tt) $
     use2 𝓛 (raw (𝓣.C _ (vptr b (o + 0) ∷ vint w64 k ∷ vint w64 0 ∷ []) (λ r. mean 𝓛 (found after r))))
@@ -73,7 +73,7 @@ claim_spec 𝓤 𝓛 𝓜 𝓡 wired X L =
       (record { fits = fits }, ((tt, tt), tt)),
     ) $
     move ! (1 ∷ 2 ∷ 0 ∷ []) $ fjoin3 ! $ fpack ! ℕ (λ v. fsep (finv (Inv R b o γ x mark v))
-    (fsep (seen R b o x (v ∷ [])) (tells R b o γ x mark v k (fsep (held R b o γ x mark v k) (was γ.1 n)) n))) u $
+    (fsep (seen R b o x (v ∷ [])) (tells R b o γ x mark v k (fsep (held R b o γ x mark v k) (was γ.names.1 n)) n))) u $
     nothing ! $ fpack ! ((0 < k) × (k ≤ full_weight)) (λ _. ftrue) fit $ fjoin ! $
     let q : Ptr = block_ptr b o in let d : Pr.Denot = record {
       at = q;

@@ -7,7 +7,7 @@ use Rattle.raw_block.proofs.Walking.{fact_i, no, RattleType, plain, Ptr}
 use Rattle.raw_block.proofs.Walking.{nothing, heard, opens, closes, param, bounded, MutRef, mut_vals, mut_Tells, Stays}
 use Rattle.raw_block.proofs.Walking.{stay_dropped, walk_of, Goes-dropped, stay_ref, Goes-ref, proved, leaves}
 use Rattle.raw_block.proofs.Walking.{full_weight, unit_lit}
-use Rattle.raw_block.specs.Views.{LifeNames}
+use Rattle.raw_block.specs.Views.{Life}
 use Rattle.raw_block.specs.Shares.{share_owns}
 use Rattle.raw_block.specs.contracts.held.Share as share
 use Rattle.raw_block.proofs.Fields.{alone, told, typed_any}
@@ -34,14 +34,14 @@ join_spec 𝓤 𝓛 𝓜 𝓡 wired X L =
       ((λ x vs so. told R x.at vs so.0), tt),
     )) (λ κs qs bounds a gh are.
     let b : ℕ = a.0.ref_ptr.0 in let o : ℕ = a.0.ref_ptr.1 in let h : Sr.Denot = a.0.now in let vs = mut_vals a.0 in
-    let p : Ptr = h.at in let x : X.Denot = h.content in let mark : ℕ = h.mark in let γ : LifeNames = h.life in
+    let p : Ptr = h.at in let x : X.Denot = h.content in let mark : ℕ = h.mark in let γ : Life = h.life in
     let w : ℕ = h.weight in let d : Sr.Denot = a.1.0 in
     let y : (walk_of 𝓛 En hs c).Ghost = ((κs, qs, bounds, a, (vs, (alone d.at ∷ [], tt))), gh) in
     let Post : Val → SProp 𝓤 = (walk_of 𝓛 En hs c).post y in let others : Fml = fsep (flft κs.1.0 qs.1.0) ftrue in
     qed 𝓛 (((‵ (flft κs.0 qs.0) ⊛ ‵ others) ⊛ ‵ ((MutRef (named 0) κs.0 Sr).own_val a.0 vs) ⊛ ‵ (fsep (Sr.own_val d (alone d.at ∷ [])) ftrue)) ∷ raw (fact 𝓤 _) ∷ raw (fact 𝓤 (d.life ≡ γ)) ∷ []) ∵
     keep ! (2 ∷ 0 ∷ []) $ heard ! (d.life ≡ γ) (λ same. split ! $ split ! $ move ! (2 ∷ []) $ split ! $
     move ! (1 ∷ []) $ fsplit ! $ fsplit ! $ keep ! (1 ∷ 3 ∷ 4 ∷ 5 ∷ []) $
-    rewrite ! 0 (λ (g : LifeNames). ‵ (share_owns R d.at g d.content d.mark d.weight)) same refl $
+    rewrite ! 0 (λ (g : Life). ‵ (share_owns R d.at g d.content d.mark d.weight)) same refl $
     enter ! 𝓣.C 𝓣.Λ fn _ Post $ alloc_all ! (λ l. pass_all ! refl ((tt, tt), (typed_any d.at, tt)) $
     -- [theirs; self; the token; the other tokens]
     move ! (1 ∷ []) $ fsplit3 ! $ move ! (1 ∷ 2 ∷ 4 ∷ []) $ opens ! tt Sr b o (λ us. move ! (1 ∷ []) $ fsplit ! $ move ! (1 ∷ 7 ∷ []) $

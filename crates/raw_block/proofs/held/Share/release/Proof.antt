@@ -12,7 +12,7 @@ use Rattle.raw_block.proofs.Walking.{nothing, heard, param, bounded, u64, uint_v
 use Rattle.raw_block.proofs.Walking.{stay_dropped, walk_of, Goes-dropped, tail}
 use Rattle.raw_block.proofs.Walking.{proved, leaves, fm, found, finds, full_weight}
 use Rattle.atomic_table.proofs.Calls.{seq_cst, subs}
-use Rattle.raw_block.specs.Views.{LifeNames}
+use Rattle.raw_block.specs.Views.{Life}
 use Rattle.raw_block.specs.Shares.{about, entry, share_owns, tells}
 use Rattle.raw_block.specs.contracts.held.Share as share
 use Rattle.raw_block.proofs.Fields.{alone, typed, told, owns_placed, Released_words, released_made}
@@ -39,7 +39,7 @@ release_spec 𝓤 𝓛 𝓜 𝓡 wired X L =
       (uint_Tells w64, tt),
     )) (λ κs qs bounds a gh are.
     let h : Sr.Denot = a.0 in let p : Ptr = h.at in let b : ℕ = block_of p in let o : ℕ = count_of p in
-    let x : X.Denot = h.content in let mark : ℕ = h.mark in let γ : LifeNames = h.life in let k : ℕ = a.1.0 in
+    let x : X.Denot = h.content in let mark : ℕ = h.mark in let γ : Life = h.life in let k : ℕ = a.1.0 in
     let y : (walk_of 𝓛 En hs c).Ghost = ((κs, qs, bounds, a, (alone p ∷ [], (vint w64 k ∷ [], tt))), gh) in
     let Post : Val → SProp 𝓤 = (walk_of 𝓛 En hs c).post y in
     qed 𝓛 ((raw (alive 𝓛 En.signature κs qs) ⊛ ‵ (owns (types_at En.signature.params κs) a y.0.4)) ∷ raw (fact 𝓤 _)
@@ -55,7 +55,7 @@ release_spec 𝓤 𝓛 𝓜 𝓡 wired X L =
     ) $ let Ev = env fn.locals l in
     fsplit ! $ fpick ! (λ fit. drop ! $ fpick ! (λ u. fsplit3 ! $
     -- [the invariant; mine; what is seen; the tokens]
-    let after : ℕ → Fml = tells R b o γ x mark u k (entry γ.0 0 k (about R x mark u)) in
+    let after : ℕ → Fml = tells R b o γ x mark u k (entry γ.names.0 0 k (about R x mark u)) in
     sets ! (is ! (of_opd ! (get_in ! (fld ! refl (stop !)) (sub ! 0 refl (whole !)))) (ap ptr_val at)) refl (tt, tt) $
     first ! $ blocks ! $ sets ! (addr ! (through ! refl (fld ! refl (stop !)))) refl (tt, tt) $
     use2 𝓛 (raw (𝓣.C _ (vptr b (o + 0) ∷ vint w64 k ∷ seq_cst ∷ []) (λ r. mean 𝓛 (found after r))))
@@ -71,7 +71,7 @@ release_spec 𝓤 𝓛 𝓜 𝓡 wired X L =
       tt,
       (record { fits = fits }, ((tt, tt), tt)),
     ) $
-    fpack ! ℕ (λ v. tells R b o γ x mark v k (entry γ.0 0 k (about R x mark v)) n) u $ nothing ! $
+    fpack ! ℕ (λ v. tells R b o γ x mark v k (entry γ.names.0 0 k (about R x mark v)) n) u $ nothing ! $
     fpack ! ((0 < k) × (k ≤ full_weight)) (λ _. ftrue) fit $ fjoin ! $
     let q : Ptr = block_ptr b o in let d : Pr.Denot = record {
       at = q;

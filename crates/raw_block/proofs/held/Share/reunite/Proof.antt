@@ -11,7 +11,7 @@ use Rattle.raw_block.proofs.Walking.{block_of, count_of, at_block, nothing, hear
 use Rattle.raw_block.proofs.Walking.{uint_Tells, alive, Stays, stay_dropped, walk_of, Goes-dropped, tail, proved}
 use Rattle.raw_block.proofs.Walking.{leaves, fm, found, finds, exchanges}
 use Rattle.raw_block.proofs.Walking.{full_weight, ffalse}
-use Rattle.raw_block.specs.Views.{LifeNames}
+use Rattle.raw_block.specs.Views.{Life}
 use Rattle.raw_block.specs.Shares.{About, about, entry, share_owns, tells}
 use Rattle.raw_block.specs.contracts.held.Share as share
 use Rattle.raw_block.proofs.Fields.{alone, typed, told, owns_placed, Released_words, released_made, none, given_back_told}
@@ -43,7 +43,7 @@ reunite_spec 𝓤 𝓛 𝓜 𝓡 wired X L =
     (λ κs. ((λ x vs so. told R x.at vs so.0), ((λ x vs so. given_back_told vs so.0), (uint_Tells w64, tt))))
     (λ κs qs bounds a gh are.
     let h : Sr.Denot = a.0 in let p : Ptr = h.at in let b : ℕ = block_of p in let o : ℕ = count_of p in
-    let x : X.Denot = h.content in let mark : ℕ = h.mark in let γ : LifeNames = h.life in let t = a.1.0 in
+    let x : X.Denot = h.content in let mark : ℕ = h.mark in let γ : Life = h.life in let t = a.1.0 in
     let k : ℕ = a.1.1.0 in
     let y : (walk_of 𝓛 En hs c).Ghost = ((κs, qs, bounds, a, (alone p ∷ [], (none ∷ [], (vint w64 k ∷ [], tt)))), gh) in
     let Post : Val → SProp 𝓤 = (walk_of 𝓛 En hs c).post y in
@@ -58,7 +58,7 @@ reunite_spec 𝓤 𝓛 𝓜 𝓡 wired X L =
     (fact_use 𝓤 _ (owns_placed 𝓛 R p γ x mark h.weight) (guard_i 𝓤 (InBlock p)
     (sem 𝓛 (share_owns R p γ x mark h.weight)))) $ learn ! (λ inb. let at : p ≡ block_ptr b o = at_block p inb in
     rewrite ! 0 (λ (z : Ptr × ℕ). ‵ (share_owns R z.0 γ x mark z.1)) (λ i. (at i, sym asked.0 i)) refl $
-    rewrite ! 1 (λ (g : LifeNames). ‵ (entry g.0 0 t.weight V)) asked.1 refl $
+    rewrite ! 1 (λ (g : Life). ‵ (entry g.names.0 0 t.weight V)) asked.1 refl $
     enter ! 𝓣.C 𝓣.Λ fn (alone p ∷ none ∷ vint w64 k ∷ []) Post $ alloc_all ! (λ l. pass_all ! refl (
       typed p inb,
       ((tt, tt), ((tt, record { fits = are.1.1.0.1 }), tt)),
@@ -66,12 +66,12 @@ reunite_spec 𝓤 𝓛 𝓜 𝓡 wired X L =
     fsplit ! $ fpick ! (λ fit. drop ! $ fpick ! (λ u. fsplit3 ! $
     -- [the invariant; mine; what is seen; the receipt; the tokens]
     move ! (1 ∷ []) $ fsplit ! $ move ! (4 ∷ 0 ∷ []) $
-    use2 𝓛 (given (steps_fit 𝓛 γ.0 V (about R x mark u) 0 k t.weight 0) (‵ (entry γ.0 (0 + k) (t.weight + 0) V)))
-    (entry_glue 𝓛 γ.0 V (about R x mark u) 0 k t.weight 0) $ learn ! (λ agree.
-    use1 𝓛 (‵ (entry γ.0 k 0 V) ⊛ ‵ (entry γ.0 0 t.weight V)) (entry_cut 𝓛 γ.0 V k 0 (0 + k) 0 t.weight (t.weight + 0)
+    use2 𝓛 (given (steps_fit 𝓛 γ.names.0 V (about R x mark u) 0 k t.weight 0) (‵ (entry γ.names.0 (0 + k) (t.weight + 0) V)))
+    (entry_glue 𝓛 γ.names.0 V (about R x mark u) 0 k t.weight 0) $ learn ! (λ agree.
+    use1 𝓛 (‵ (entry γ.names.0 k 0 V) ⊛ ‵ (entry γ.names.0 0 t.weight V)) (entry_cut 𝓛 γ.names.0 V k 0 (0 + k) 0 t.weight (t.weight + 0)
     (omega arith) (omega arith) agree.1 agree.2) $ split ! $
-    rewrite ! 0 (λ (z : About). ‵ (entry γ.0 k 0 z)) agree.0 refl $
-    rewrite ! 1 (λ (z : About). ‵ (entry γ.0 0 t.weight z)) agree.0 refl $ move ! (0 ∷ 2 ∷ []) $ fjoin ! $
+    rewrite ! 0 (λ (z : About). ‵ (entry γ.names.0 k 0 z)) agree.0 refl $
+    rewrite ! 1 (λ (z : About). ‵ (entry γ.names.0 0 t.weight z)) agree.0 refl $ move ! (0 ∷ 2 ∷ []) $ fjoin ! $
     move ! (0 ∷ 1 ∷ []) $ fjoin ! $ move ! (1 ∷ 0 ∷ []) $
     -- [the invariant; mine with the receipt; what is seen; the tokens]
     let after : ℕ → Fml = tells R b o γ x mark u k ffalse in
@@ -83,12 +83,12 @@ reunite_spec 𝓤 𝓛 𝓜 𝓡 wired X L =
     (block_ptr b (o + 0)) k 0 are.1.1.0.1 (lit< tt) after)) $
     Calls-last ! (fm 𝓛 𝓜 𝓡) (found after) (and_then ! (get ! refl)
     (and_then ! (get ! refl) (and_then ! (lit ! tt) (no_more !)))) (λ r. finds ! after (λ n fits.
-    use1 𝓛 (given (n ≡ k) (‵ (tells R b o γ x mark u k (entry γ.0 0 k (about R x mark u)) n)))
+    use1 𝓛 (given (n ≡ k) (‵ (tells R b o γ x mark u k (entry γ.names.0 0 k (about R x mark u)) n)))
     (endings.reunion_hits 𝓛 R γ x mark k n b o u) $ learn ! (λ hit.
     lands_last ! refl (tt, record { fits = fits }) $ exec ! 𝓣.C 𝓣.Λ Ev (tail (tail fn.body)) (at_ret Ev Post) $
     sets ! (of_opd ! (get ! refl)) refl (tt, record { fits = fits }) $
     sets ! (agg ! (and_then ! (get ! refl) (no_more !))) refl (tt, (tt, tt)) $
-    fpack ! ℕ (λ v. tells R b o γ x mark v k (entry γ.0 0 k (about R x mark v)) n) u $ nothing ! $
+    fpack ! ℕ (λ v. tells R b o γ x mark v k (entry γ.names.0 0 k (about R x mark v)) n) u $ nothing ! $
     fpack ! ((0 < k) × (k ≤ full_weight)) (λ _. ftrue) fit $ fjoin ! $
     let q : Ptr = block_ptr b o in let d : Pr.Denot = record { at = q; found = n; weight = k; life = γ; content = x; mark = mark } in
     let Told : Type 0 = (n ≡ h.weight) × (k ≡ h.weight) × (γ ≡ γ) × (mark ≡ mark) × (x ≡ x) in let Agree : Type 0 = t.mark ≡ mark in

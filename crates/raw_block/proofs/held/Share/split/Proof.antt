@@ -10,7 +10,7 @@ use Rattle.raw_block.proofs.Walking.{cell_at, param, bounded, param_laws, u64, M
 use Rattle.raw_block.proofs.Walking.{uint_Tells, Stays, stay_dropped, walk_of, Goes-dropped, stay_ref, Goes-ref, proved}
 use Rattle.raw_block.proofs.Walking.{leaves}
 use types.Run.{load}
-use Rattle.raw_block.specs.Views.{LifeNames}
+use Rattle.raw_block.specs.Views.{Life}
 use Rattle.raw_block.specs.Shares.{share_owns}
 use Rattle.raw_block.specs.contracts.held.Share as share
 use Rattle.raw_block.proofs.Fields.{alone, Words, told, made, owns_placed}
@@ -34,7 +34,7 @@ split_spec 𝓤 𝓛 𝓜 𝓡 wired X L =
     proved 𝓛 En hs c 𝓜 𝓡 (Goes-ref 𝓛 2 0 tt (plain (λ _. Sr)), (Goes-dropped 𝓛 2 number yes (λ κs x f. refl), tt)) (#self inst) fn closed
     (λ κs. (mut_vals, (uint_vals w64, tt))) (λ κs. (mut_Tells (named 0) κs.0 Sr, (uint_Tells w64, tt))) (λ κs qs bounds a gh are.
     let b : ℕ = a.0.ref_ptr.0 in let o : ℕ = a.0.ref_ptr.1 in let h : Sr.Denot = a.0.now in let vs = mut_vals a.0 in
-    let p : Ptr = h.at in let x : X.Denot = h.content in let mark : ℕ = h.mark in let γ : LifeNames = h.life in
+    let p : Ptr = h.at in let x : X.Denot = h.content in let mark : ℕ = h.mark in let γ : Life = h.life in
     let w : ℕ = h.weight in let k : ℕ = a.1.0 in
     let y : (walk_of 𝓛 En hs c).Ghost = ((κs, qs, bounds, a, (vs, (vint w64 k ∷ [], tt))), gh) in
     let Post : Val → SProp 𝓤 = (walk_of 𝓛 En hs c).post y in let others : Fml = fsep (flft κs.1.0 qs.1.0) ftrue in

@@ -5,7 +5,7 @@ use Rattle.raw_block.proofs.Walking.{returns, enter, unit_lit, alloc_all, pass_a
 use Rattle.raw_block.proofs.Walking.{fact, fact_i, fact_use, RattleType, plain}
 use Rattle.raw_block.proofs.Walking.{nothing, opens, closes, MutRef, mut_vals, mut_Tells, Stays, walk_of, stay_ref}
 use Rattle.raw_block.proofs.Walking.{Goes-ref, proved, leaves}
-use Rattle.raw_block.specs.Naming.{name_owns}
+use Rattle.raw_block.specs.Shares.{name_owns}
 use Rattle.raw_block.proofs.Naming.{names_differ}
 use Rattle.raw_block.specs.contracts.name.Name.differ.{ended, clauses}
 use Rattle.raw_block.specs.contracts.name.Name.differ.Key.{name as #self}

@@ -1,5 +1,5 @@
 use Rattle.std.proofs.Common.{◌-◌, [], ◌∷◌, refl}
-use Rattle.raw_block.specs.Naming.{about_nothing, name_owns}
+use Rattle.raw_block.specs.Shares.{about_nothing, name_owns}
 use Rattle.raw_block.proofs.Entries.{entry_new}
 use types.Kit.{‵, raw, ◌⊛◌, ◌$◌, ◌∵◌, !, qed, by, keep, split, fjoin, use0, later, some, await, pick}
 use Rattle.raw_block.proofs.Walking.{ex, basic, via, full_weight, Val, SProp, GName, sem, no_more, returns, enter}

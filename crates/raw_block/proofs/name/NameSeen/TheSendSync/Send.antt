@@ -1,5 +1,0 @@
-use Rattle.raw_block.proofs.Walking.{IsSend}
-use Rattle.raw_block.specs.contracts.name.NameSeen.{the_row}
-
-pub send : IsSend the_row
-send = record { owned = λ d vs. ((λ vss. (tt, tt)), tt); leaving = λ k d w. tt }

@@ -1,6 +1,0 @@
-use Rattle.raw_block.proofs.Walking.{IsSync, part_keyless}
-use Rattle.raw_block.specs.contracts.name.NameSeen.{the_row}
-use Rattle.raw_block.proofs.name.NameSeen.TheSendSync.Send.{send}
-
-pub sync : IsSync the_row
-sync = record { shared = λ d b o κ q. part_keyless the_row send q d b o }
