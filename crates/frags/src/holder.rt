@@ -2,7 +2,7 @@
 ghost use Rattle.std.specs.Prelude.{◌≡◌, ◌≢◌, ◌<◌, ◌≤◌};
 ghost use Rattle.ref_core.specs.WeightRule.{full_weight};
 ghost use Rattle.frags.specs.Gifts.{less, gave};
-ghost use Rattle.frags.specs.Holders.{AsPart};
+ghost use Rattle.frags.specs.Holders.{AsPart, name_of};
 ghost use Rattle.frags.specs.Returns.{Frees};
 
 use raw_block::{Part, Released, Sole};
@@ -25,6 +25,17 @@ impl Holder {
                 let _ = part.weight();
                 part
             }
+        }
+    }
+
+    /// A Sole that stands beside a holder is of another block.
+    pub fn differ_from(&mut self, sole: &mut Sole)
+        ensures others { name_of self.old ≢ sole.old.block }
+        ensures same { (self.new ≡ self.old) × (sole.new ≡ sole.old) }
+    {
+        match self {
+            Holder::Sole(own) => own.differ(sole),
+            Holder::Part(part) => sole.differ_from_part(part),
         }
     }
 

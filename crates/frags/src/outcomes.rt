@@ -1,5 +1,5 @@
 //! What was given back: Soles and receipts, in places that were reserved before.
-ghost use Rattle.std.specs.Prelude.{◌≡◌, ℕ, ◌+◌, ◌≤◌, [], ◌∷◌, ◌++◌, IfOk, OnOk, IsOk, MatchOption};
+ghost use Rattle.std.specs.Prelude.{◌≡◌, ℕ, ◌+◌, ◌≤◌, [], ◌∷◌, ◌++◌, IfOk, OnOk, IsOk, MatchOption, IsTrue, ◌↔◌};
 ghost use Rattle.frags.specs.Account.{Keeps, KeepsBlocks, both, of_part, of_sole, of_receipt, of_holder, of_outcomes};
 ghost use Rattle.frags.specs.Growth.{Grows};
 ghost use Rattle.frags.specs.Returns.{ReturnsPart, ReturnsHolder};
@@ -85,6 +85,13 @@ impl Outcomes {
         let soles = self.soles.capacity() - self.soles.len();
         let receipts = self.receipts.capacity() - self.receipts.len();
         soles.min(receipts)
+    }
+
+    /// Whether no Sole is in it.
+    pub fn has_no_sole(&self) -> bool
+        ensures none { IsTrue result ↔ self.now.soles ≡ [] }
+    {
+        self.soles.is_empty()
     }
 
     /// Keeps a Sole behind the others, in a reserved place.

@@ -1,7 +1,7 @@
 //! Pieces of shared blocks, as one run of bytes.
 ghost use Rattle.std.specs.Prelude.{◌≡◌, ℕ, ◌+◌, ◌-◌, ◌<◌, ◌≤◌, ◌^◌, [], ◌∷◌, ◌++◌, length, MatchResult, MatchOption};
 ghost use Rattle.std.specs.Prelude.{IfOk, IfErr, IfSome, IfNone, drop, take, min, slice_index_or, slice_range};
-ghost use Rattle.std.specs.Prelude.{Bool, false};
+ghost use Rattle.std.specs.Prelude.{◌≢◌, All, Bool, false};
 ghost use Rattle.frags.specs.declared.pieces.Piece.{Piece};
 ghost use Rattle.frags.specs.declared.holder.Holder.{Holder};
 ghost use Rattle.raw_block.specs.Views.{PartState};
@@ -149,6 +149,16 @@ impl Pieces {
             let start = skip.min(bytes.len());
             done = copy_on(into, done, &bytes[start..]);
             skip -= start;
+        }
+    }
+
+    /// A Sole that stands beside pieces is of no block of theirs.
+    pub fn differ_from(&mut self, sole: &mut Sole)
+        ensures others { All (λ p. p.part.life.block ≢ sole.old.block) self.old }
+        ensures same { (self.new ≡ self.old) × (sole.new ≡ sole.old) }
+    {
+        for i in 0..self.items.len() {
+            sole.differ_from_part(&mut self.items[i].part);
         }
     }
 
