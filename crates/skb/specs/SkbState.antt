@@ -1,6 +1,6 @@
 -- A buffer: a head block and pieces after it, as one run of bytes.
 use Rattle.std.specs.Prelude.{ℕ, ◌≡◌, ◌≢◌, ◌+◌, ◌-◌, ◌<◌, ◌≤◌, List, ◌∷◌, ◌++◌, Bool, false, true, ◌||◌, ◌==◌, cond}
-use Rattle.std.specs.Prelude.{length, take, drop, slice_range, min, map, Ok, Err}
+use Rattle.std.specs.Prelude.{length, take, drop, slice_range, min, map, All, Ok, Err}
 use Rattle.std.specs.List.{sum_by}
 use Rattle.std.specs.declared.result.Result.{Result}
 use Rattle.std.specs.declared.alloc.AllocError.{AllocError}
@@ -37,6 +37,11 @@ is_sole (Part p) = false
 pub record IsAlone (f : SkbState) : Type 0 where
   pub head : is_sole f.head ≡ true
   pub rest : AreWhole f.rest
+
+-- no block of it is b
+pub record IsApartFrom (b : ℕ) (f : SkbState) : Type 0 where
+  pub head : name_of f.head ≢ b
+  pub rest : All (λ (p : Piece). p.part.life.block ≢ b) f.rest
 
 -- what the blocks of a buffer weigh together, each by its name
 abbrev pub weighed_in : (ℕ → ℕ) → SkbState → ℕ

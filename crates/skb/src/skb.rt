@@ -12,7 +12,7 @@ ghost use Rattle.skb.specs.Lending.{lends_head, lends_head_if};
 ghost use Rattle.skb.specs.SkbState.{head_size, buffer_least, buffer_bytes, buffer_size, head_bytes, headroom};
 ghost use Rattle.frags.specs.OutcomesState.{OutcomesState};
 ghost use Rattle.frags.specs.Returns.{ReturnsHolder, ReturnsPieces};
-ghost use Rattle.skb.specs.SkbState.{tailroom, is_sole, of_buffer, IsAlone};
+ghost use Rattle.skb.specs.SkbState.{tailroom, is_sole, of_buffer, IsAlone, IsApartFrom};
 
 use crate::checksum::in_bytes;
 use crate::lend::range_of;
@@ -201,6 +201,15 @@ impl Skb {
     /// The allocator that the list of pieces takes its places from.
     pub fn allocator(&self) -> Global {
         self.rest.allocator()
+    }
+
+    /// A Sole that stands beside a buffer is of no block of it.
+    pub fn differ_from(&mut self, sole: &mut Sole)
+        ensures others { IsApartFrom sole.old.block self.old }
+        ensures same { (self.new ≡ self.old) × (sole.new ≡ sole.old) }
+    {
+        self.head.differ_from(sole);
+        self.rest.differ_from(sole);
     }
 
     /// Takes a buffer apart whose head is a Sole: the head's block, and the pieces after it.
