@@ -18,6 +18,9 @@
 //! `marks` the same over all lives of a block, where a Sole is shared and a life begins. `Keeps` adds up over calls by
 //! arithmetic alone. What follows over a round is in `specs/RoundAccount.antt`.
 //!
+//! `differ_from` is a law: a Sole that stands beside pieces is of no block of theirs (`others`). So who has let go of a
+//! part while others of its block are there has no Sole of it.
+//!
 //! ```
 //! let mut pieces = Pieces::new(alloc);
 //! if let Err((part, _)) = pieces.append(sole.share(), 64, 1500) {

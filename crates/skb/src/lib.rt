@@ -33,6 +33,7 @@
 //!   Sole, says it by marks; where the head is a Part, none begins.
 //! - `sum`, `in_bytes`: the sum stands for the bytes from that place on, and each is below 256.
 //! - `returned`: what `release` leaves, outcome by outcome.
+//! - `others`: a Sole that stands beside a buffer is of no block of it (`differ_from`).
 //! - `grows`, `fewer`, `places`: outcomes grow only at their end, by how many, and what room is left in them.
 //! - `writes_back`: after `head_mut` the head's bytes are what was written, and all else is as it was; at None nothing
 //!   has changed.
