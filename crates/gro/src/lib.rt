@@ -44,6 +44,7 @@
 //! - `cloned` of `clone_at`: one packet's buffer is cloned as `Skb::clone` says, and all else stays as it was.
 //! - `lent` of `share_heads`: each head that was a Sole is a part of all its block's weight, and all else stays as it
 //!   was; `packets`: so no byte changes.
+//! - `others` of `differ_from`: a Sole that stands beside packets is of no block of theirs.
 //! - `alone`, `few` of `free`: how many blocks were freed, all where nobody else holds one, and never more than there
 //!   are.
 //!

@@ -1,11 +1,13 @@
 //! The packets of a round, in a list in which they stay.
 ghost use Rattle.std.specs.Prelude.{◌≡◌, ◌+◌, ◌-◌, ◌^◌, ◌<◌, ◌≤◌, ◌++◌, ◌∷◌, [], length, map, min, reverse};
-ghost use Rattle.std.specs.Prelude.{IfOk, OnOk, IfSome, IfNone};
+ghost use Rattle.std.specs.Prelude.{All, IfOk, OnOk, IfSome, IfNone};
+ghost use Rattle.skb.specs.SkbState.{IsApartFrom};
 ghost use Rattle.gro.specs.Packets.{ClonedAt};
 ghost use Rattle.gro.specs.Slots.{packet_of, counts_of, AreAlone, AreLent};
 
 use crate::slot::Slot;
 use frags::ShareFault;
+use raw_block::Sole;
 use skb::Skb;
 use std::alloc::{AllocError, Global};
 use std::marker::Model;
@@ -120,6 +122,16 @@ impl Packets {
     {
         for i in 0..self.slots.len() {
             self.slots[i].skb.share_head();
+        }
+    }
+
+    /// A Sole that stands beside packets is of no block of theirs.
+    pub fn differ_from(&mut self, sole: &mut Sole)
+        ensures others { All (λ p. IsApartFrom sole.old.block p.skb) self.old.items }
+        ensures same { (self.new ≡ self.old) × (sole.new ≡ sole.old) }
+    {
+        for i in 0..self.slots.len() {
+            self.slots[i].skb.differ_from(sole);
         }
     }
 
