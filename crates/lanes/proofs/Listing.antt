@@ -1,7 +1,7 @@
 -- Facts of each element, with its place.
-use Rattle.std.proofs.Common.{◌≡◌, ℕ, zero, suc, ◌+◌, ◌<◌, ◌≤◌, List, [], ◌∷◌, ◌++◌, map, length, get_or, set, inl, inr, take, drop, refl, sym, ap, ◌∙◌, subst, arith}
+use Rattle.std.proofs.Common.{◌≡◌, ℕ, zero, suc, ◌+◌, ◌<◌, ◌≤◌, List, [], ◌∷◌, ◌++◌, map, length, get_or, set, inl, inr, take, drop, refl, sym, ap, ◌∙◌, subst, below_more, arith}
 use Rattle.std.proofs.lemmas.Bool.{cases_eq}
-use Rattle.std.proofs.lemmas.List.{get_or-set_other, get_or-set_same, length-set}
+use Rattle.std.proofs.lemmas.List.{get_or_default, get_or-set_other, get_or-set_same, length-set}
 use Rattle.std.specs.Prelude.{All}
 use Rattle.std.specs.List.{range_with_len}
 use Rattle.lanes.specs.Sharing.{EachFrom}
@@ -67,6 +67,12 @@ all_last P [] y h p zero d lt = p
 all_last P [] y h p (suc i) d lt = absurd (omega (arith, lt))
 all_last P (x ∷ xs) y h p zero d lt = h zero d (omega arith)
 all_last P (x ∷ xs) y h p (suc i) d lt = all_last P xs y (λ j e l. h (suc j) e (omega (arith, l))) p i d (omega (arith, lt))
+
+-- the first i + 1 elements, of which one more is known
+pub front_more : {A : Type 0} (P : A → Type 0) (xs : List A) (i : ℕ) (e : A) → i < length xs → ((k : ℕ) (d : A) → k < i → P (get_or xs k d)) → P (get_or xs i e)
+    → (k : ℕ) (d : A) → k < i + 1 → P (get_or xs k d)
+front_more {A} P xs i e lt below here k d less =
+    below_more (λ j. (x : A) → P (get_or xs j x)) i (λ j h x. below j x h) (λ x. subst P (get_or_default xs i e x lt) here) k less d
 
 -- below a place each has the property, and there it is had now
 pub front_set : {A : Type 0} (P : A → Type 0) (xs : List A) (i : ℕ) (y : A) → ((k : ℕ) (d : A) → k < i → k < length xs → P (get_or xs k d)) → P y

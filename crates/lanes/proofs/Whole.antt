@@ -19,7 +19,9 @@ use Rattle.lanes.specs.declared.lane.Lanes.{Lanes}
 use Rattle.lanes.specs.declared.plan.LanePlan.{LanePlan}
 use Rattle.lanes.specs.Lanes.{of_queues, of_taps, of_lanes, counts_of_queues, weighed_queues, AreIdle, EachTapDid, IsFilled, IsIdleQueue, IsIdleTap, IsMerged}
 use Rattle.lanes.specs.Sharing.{EachFrom, IsSum}
+use Rattle.lanes.specs.Soles.{AreOfPackets}
 use Rattle.lanes.specs.Work.{spread_of, options_by, shown_by, AreFilled, AreUnshared, Did, IsDone, IsRefused, IsToWork, IsWorked, IsWatched, AreMerged, AreWatched, merged_in, lane_records, records_of_tap}
+use Rattle.lanes.proofs.Apart.{are_of_packets}
 use Rattle.lanes.proofs.Listing.{all_from, each_map, each_equal}
 use Rattle.lanes.proofs.Idle.{idle_lanes, idle_queues}
 use Rattle.lanes.proofs.Sharing.{idle_alone}
@@ -191,6 +193,55 @@ is_refused plan old l m f d = record {
   unshared = unshared_did plan old l m f d;
   clones = no_clones plan.filter plan.snap l.taps.items m.taps.items d.sizes.1 d.taps;
 }
+
+-- what taps have given back is of the packets' blocks, also after the work
+pub of_packets_after : (plan : LanePlan) (old now : List Held) (l m : Lanes) → now ≡ [] → AreFilled plan old l → Did plan l m → AreOfPackets now m
+of_packets_after plan old now l m none f d =
+    let r = is_refused plan old l m f d in
+    subst (λ (z : List Held). AreOfPackets z m) (sym none) (are_of_packets old [] m.queues.items m.taps.items r.blocks r.named)
+
+-- taps gave back the clones that they got before memory was refused: so many blocks are no more
+pub blocks_given : (p q : Account) (qs : List QueueLane) (ts us vs : List TapLane) → KeepsBlocks p (both q (both (of_queues qs) (of_taps ts))) → us ≡ ts
+    → KeepsBlocks (of_taps us) (of_taps vs) → KeepsBlocks p (both q (both (of_queues qs) (of_taps vs)))
+blocks_given p q qs ts us vs k e g bs m =
+    let a = ap (λ (z : List TapLane). (of_taps z).held (every bs) m) e in
+    let b = ap (λ (z : List TapLane). (of_taps z).homes bs m) e in
+    omega (arith, k bs m, g bs m, a, b)
+
+kept_given : (p q : Account) (qs : List QueueLane) (ts us vs : List TapLane) → Keeps p (both q (both (of_queues qs) (of_taps ts))) → us ≡ ts
+    → Keeps (of_taps us) (of_taps vs) → Keeps p (both q (both (of_queues qs) (of_taps vs)))
+kept_given p q qs ts us vs k e g t m =
+    let x = k t m in
+    let y = g t m in
+    let a = ap (λ (z : List TapLane). (of_taps z).held t m) e in
+    let b = ap (λ (z : List TapLane). (of_taps z).homes t.blocks m) e in
+    (omega (arith, x.0, y.0, a), omega (arith, x.1, y.1, a, b))
+
+-- the same lanes, each list by its equation
+pub is_given_up : (plan : LanePlan) (old now : List Held) (l m : Lanes) (us vs : List TapLane) → m.queues.items ≡ l.queues.items → m.taps.items ≡ vs → us ≡ l.taps.items
+    → Keeps (of_packets old) (both (of_packets now) (of_lanes l)) → KeepsBlocks (of_packets old) (both (of_packets now) (of_lanes l))
+    → counts_of now + counts_of_queues l.queues.items ≡ counts_of old
+    → ((h : ℕ → ℕ) → weighed_slots h now + weighed_queues h l.queues.items ≡ weighed_slots h old) → AreUnshared plan old now l
+    → Keeps (of_taps us) (of_taps vs) → KeepsBlocks (of_taps us) (of_taps vs) → All (λ (t : TapLane). t.clones.items ≡ []) vs
+    → (All IsIdleTap us → All IsIdleTap vs) → IsRefused plan old now m
+is_given_up plan old now l m us vs queues taps same kept blocks count named unshared kept_taps blocks_taps clones idle =
+    let P : List QueueLane → List TapLane → Type 0 = λ qs ts. Keeps (of_packets old) (both (of_packets now) (both (of_queues qs) (of_taps ts))) in
+    let B : List QueueLane → List TapLane → Type 0 = λ qs ts. KeepsBlocks (of_packets old) (both (of_packets now) (both (of_queues qs) (of_taps ts))) in
+    let k = kept_given (of_packets old) (of_packets now) l.queues.items l.taps.items us vs kept same kept_taps in
+    let b = blocks_given (of_packets old) (of_packets now) l.queues.items l.taps.items us vs blocks same blocks_taps in
+    record {
+      kept = subst (λ qs. P qs m.taps.items) (sym queues) (subst (λ ts. P l.queues.items ts) (sym taps) k);
+      blocks = subst (λ qs. B qs m.taps.items) (sym queues) (subst (λ ts. B l.queues.items ts) (sym taps) b);
+      count = omega (arith, count, ap counts_of_queues queues);
+      named = λ w. omega (arith, named w, ap (weighed_queues w) queues);
+      unshared = record {
+        alone = λ none h.
+            let x = unshared.alone none h in
+            (x.0, subst (All (λ (q : QueueLane). AreAlone q.packets.items)) (sym queues) x.1);
+        idle = λ none. subst (All IsIdleTap) (sym taps) (idle (subst (All IsIdleTap) (sym same) (unshared.idle none)));
+      };
+      clones = subst (All (λ (t : TapLane). t.clones.items ≡ [])) (sym taps) clones;
+    }
 
 -- whether all was done or not, nothing is lost
 pub kept_after : {E : Type 0} (r : Result (Unit {0}) E) (plan : LanePlan) (old now : List Held) (l : Lanes) → now ≡ [] → MatchResult r (λ _. IsDone plan old l) (λ _. IsRefused plan old [] l)

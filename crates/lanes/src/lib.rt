@@ -63,6 +63,8 @@
 //!   what merging writes.
 //! - `kept`: nothing is lost, whether all work was done or memory was refused; `count`: what the queues hold and what
 //!   stays are as many blocks and parts as the packets had; `clones`: no clone is left.
+//! - `no_soles`: no tap has a Sole, also where memory is refused: what taps gave back left receipts alone. A Sole that
+//!   one had would be of a block that a packet still holds, and no Sole of that stands beside it.
 //! - `alone` and `idle`: without taps, where nobody else held a block of the packets nobody does of those in the lanes
 //!   and of those that stay, and the lanes of taps have nothing that is to be brought home.
 //! - `gave`: of the blocks that were lent some went to the pool, or none, whoever works and also where memory is
@@ -107,7 +109,7 @@
 //! queues, and memory for their runs), `clones` and `fill` (what taps get, where there are any), `keep` (a clone of
 //! each packet beside the work), `work` (one lane's work) and `works` (who does it); `giving` (a list that is lent, in
 //! parts and as one again), `tasks` (lanes as tasks), `away` (out to the desk and back), `crew`, `shared` (the filter
-//! that taps share) and `free`; and on these `round`.
+//! that taps share), `soles` (why taps have none) and `free`; and on these `round`.
 //!
 //! Tests: `round_tests`, module `working`.
 //!
@@ -155,6 +157,7 @@ mod plan;
 mod round;
 mod share;
 mod shared;
+mod soles;
 mod tasks;
 mod work;
 mod works;

@@ -14,6 +14,7 @@ ghost use Rattle.lanes.specs.Lanes.{of_lanes, counts_of_queues, weighed_queues};
 ghost use Rattle.lanes.specs.Lanes.{AreIdle, IsFilled, IsIdleTap, IsMerged, IsTapReady};
 ghost use Rattle.lanes.specs.Packets.{RiseFrom};
 ghost use Rattle.lanes.specs.Sharing.{EachFrom};
+ghost use Rattle.lanes.specs.Soles.{AreOfPackets, HaveNoSoles};
 ghost use Rattle.lanes.specs.Taps.{HasClones};
 ghost use Rattle.lanes.specs.Work.{spread_of, options_by, shown_by, IsPlan, IsToWork, AreFilled, AreMerged};
 ghost use Rattle.lanes.specs.Work.{AreUnshared, AreWatched, Did, IsDone, IsRefused, lane_records};
@@ -22,6 +23,7 @@ use crate::fill::{give_all_up, open_lanes, serve_taps};
 use crate::lane::{Lanes, TapLane};
 use crate::plan::LanePlan;
 use crate::share::share_out;
+use crate::soles::check_soles;
 use crate::works::Works;
 use block_pool::Giver;
 use gro::Packets;
@@ -75,7 +77,7 @@ fn are_read(lanes: &[TapLane]) -> bool
     true
 }
 
-// The lanes get what they have to do. Where memory is refused they have no clones.
+// The lanes get what they have to do. Where memory is refused they have no clones, and no tap has a Sole.
 fn begin(
     alloc: Global,
     plan: &LanePlan,
@@ -93,22 +95,28 @@ fn begin(
     ensures ready { OnOk result (All IsFilled lanes.new.queues.items × All IsTapReady lanes.new.taps.items) }
     ensures all { OnOk result (packets.new.items ≡ []) }
     ensures refused { OnErr result (IsRefused plan.now packets.old.items packets.new.items lanes.new) }
+    ensures no_soles { OnErr result (HaveNoSoles lanes.new.taps.items) }
 {
     match fill(alloc, plan, packets, lanes) {
         Ok(()) => Ok(()),
         Err(error) => {
             give_all_up(&mut lanes.taps);
+            check_soles(packets, lanes);
             Err(error)
         }
     }
 }
 
-// What the lanes say after their work: all of it is done, or a tap was refused memory.
-fn finish(lanes: &Lanes) -> Result<(), AllocError>
+// What the lanes say after their work: all of it is done, or a tap was refused memory. No tap has a Sole.
+fn finish(packets: &mut Packets, lanes: &mut Lanes) -> Result<(), AllocError>
+    requires theirs { AreOfPackets packets.old.items lanes.old }
     ensures ended { (plan : LanePlan) (old : List Held) (before : Lanes) → AreFilled plan old before
-        → Did plan before lanes.now → MatchResult result (λ _. IsDone plan old lanes.now)
-        (λ _. IsRefused plan old [] lanes.now) }
+        → Did plan before lanes.old → MatchResult result (λ _. IsDone plan old lanes.new)
+        (λ _. IsRefused plan old [] lanes.new) }
+    ensures no_soles { HaveNoSoles lanes.new.taps.items }
+    ensures packets { packets.new ≡ packets.old }
 {
+    check_soles(packets, lanes);
     if are_read(&lanes.taps) {
         Ok(())
     } else {
@@ -161,10 +169,11 @@ pub fn work_packets<W: Works>(
         → AreAlone packets.new.items × All (λ l. AreAlone l.packets.items) lanes.new.queues.items }
     ensures idle { plan.now.taps ≡ 0 → All IsIdleTap lanes.new.taps.items }
     ensures clones { All (λ t. t.clones.items ≡ []) lanes.new.taps.items }
+    ensures no_soles { HaveNoSoles lanes.new.taps.items }
     ensures gave { MayGive giver.old giver.new }
     ensures none_left { W.gives ≡ true → OnOk result (LeavesNone giver.old giver.new) }
 {
     begin(alloc, plan, packets, lanes)?;
     works.run_lanes(plan, lanes, giver);
-    finish(lanes)
+    finish(packets, lanes)
 }

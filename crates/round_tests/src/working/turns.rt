@@ -69,10 +69,11 @@ fn says(rt: &impl Abort, lane: &QueueLane, rows: &[Said])
     }
 }
 
-// A tap has read these bytes of each packet.
+// A tap has read these bytes of each packet, and what it gave back left no Sole.
 fn has_read(rt: &impl Abort, lane: &TapLane, from: usize, to: usize) {
     let texts = lane.texts.as_ref().expect(rt, "windows");
     assert!(rt; texts.len() == 8 && from <= to && to <= 70);
+    assert!(rt; lane.outcomes.has_no_sole());
     for i in 0..8 {
         let text = texts.get(i);
         assert_eq!(rt; text.number as usize, i);
