@@ -1,26 +1,22 @@
 -- A giver is divided among tasks, and comes together again.
 use Rattle.std.proofs.Common.{◌≡◌, ℕ, ◌≤◌, ◌-◌, ◌^◌, min, List, [], ◌∷◌, ◌++◌, length, append_assoc, append-nil, refl, sym, ap, ◌∙◌, subst, arith}
 use Rattle.std.proofs.lemmas.List.Sums.{sum_by-append, sum_by-cons}
-use Rattle.std.specs.Prelude.{Bool, true, false, Option, None, Some, MatchOption}
+use Rattle.std.specs.Prelude.{Option, None, Some, MatchOption}
 use Rattle.std.specs.List.{sum_by, AllByRecursion}
 use Rattle.raw_block.specs.Views.{SoleState}
 use Rattle.block_pool.specs.Listed.{listed}
 use Rattle.block_pool.specs.PassState.{PassState}
 use Rattle.block_pool.specs.PoolState.{PoolState, home}
 use Rattle.block_pool.specs.Giving.{GiverState, given, lying, Gave, Joined, MayGive, Split}
-use Rattle.block_pool.proofs.Giving.{gave_less, gave_nothing, may_give_nothing}
+use Rattle.block_pool.proofs.Giving.{gave_less, gave_nothing}
 use Rattle.errands.specs.Answers.{EachDid}
 use Rattle.lanes.specs.declared.tasks.LaneTask.{LaneTask}
 use Rattle.lanes.specs.declared.tasks.LaneTask.TheVariants as asked
 use Rattle.lanes.specs.declared.tasks.LaneDone.{LaneDone}
 use Rattle.lanes.specs.declared.tasks.LaneDone.TheVariants as answered
-use Rattle.lanes.specs.Givers.{found, given_of, lying_of, blocks_of, fulls_of, parts_of, part_of, carried, back_of, returned, IsAlike, HasRoom, IsDivided, Divided, MayReturn, MayJoin, MayTake, Rejoined, IsTaken}
-use Rattle.lanes.specs.LaneWork.{QueueWork, TapWork}
+use Rattle.lanes.specs.Givers.{found, given_of, lying_of, blocks_of, fulls_of, parts_of, part_of, carried, back_of, returned, IsAlike, HasRoom, IsDivided, Divided, MayJoin, Rejoined}
 use Rattle.lanes.specs.Tasks.{DidLane}
 use Rattle.lanes.proofs.Returning.{all_behind}
-
-off : false ≡ true → ⊥
-off e = absurd (let t : false ≡ true = e in cc)
 
 -- ---- each gave
 
@@ -33,14 +29,17 @@ gave_front : (x y : Option GiverState) (gs ks : List GiverState) → MayGive x y
 gave_front None y gs ks m a = subst (λ u. AllGave gs (found u ++ ks)) (sym m) a
 gave_front (Some g) y gs ks m a = subst (λ u. AllGave (g ∷ gs) (found u ++ ks)) (sym m.1) (m.2, a)
 
+did_gave : (t : LaneTask) (d : LaneDone) → DidLane t d → MayGive (part_of t) (back_of d)
+did_gave (asked.Queue t) (answered.Queue d) did = did.2
+did_gave (asked.Tap t) (answered.Tap d) did = did.2
+did_gave (asked.Queue t) (answered.Tap d) did = absurd did
+did_gave (asked.Tap t) (answered.Queue d) did = absurd did
+
 each_gave : (ts : List LaneTask) (ds : List LaneDone) → EachDid DidLane ts ds → AllGave (carried ts) (returned ds)
 each_gave [] [] e = tt
 each_gave [] (d ∷ ds) e = absurd e
 each_gave (t ∷ ts) [] e = absurd e
-each_gave (asked.Queue t ∷ ts) (answered.Queue d ∷ ds) e = gave_front t.giver d.giver (carried ts) (returned ds) e.0.2 (each_gave ts ds e.1)
-each_gave (asked.Tap t ∷ ts) (answered.Tap d ∷ ds) e = each_gave ts ds e.1
-each_gave (asked.Queue t ∷ ts) (answered.Tap d ∷ ds) e = absurd e.0
-each_gave (asked.Tap t ∷ ts) (answered.Queue d ∷ ds) e = absurd e.0
+each_gave (t ∷ ts) (d ∷ ds) e = gave_front (part_of t) (back_of d) (carried ts) (returned ds) (did_gave t d e.0) (each_gave ts ds e.1)
 
 all_same : (gs : List GiverState) → AllGave gs gs
 all_same [] = tt
@@ -101,71 +100,49 @@ none_of : (gs : List GiverState) → length gs ≡ 0 → gs ≡ []
 none_of [] e = refl
 none_of (g ∷ gs) e = absurd (omega (arith, e))
 
-gave_room : (whole : Bool) (here : Option GiverState) (gs ks : List GiverState) → AllGave gs ks → HasRoom whole here gs → HasRoom whole here ks
-gave_room whole None gs ks a r = gave_length gs ks a ∙ r
-gave_room whole (Some g) gs ks a r = (
-  (λ some. let most = r.0 (omega (arith, some, gave_length gs ks a)) in omega (arith, most, gave_fewer gs ks a)),
-  (λ all. none_of ks (gave_length gs ks a ∙ ap length (r.1 all))),
-)
+gave_room : (here : GiverState) (gs ks : List GiverState) → AllGave gs ks → HasRoom here gs → HasRoom here ks
+gave_room here gs ks a r = λ some. let most = r (omega (arith, some, gave_length gs ks a)) in omega (arith, most, gave_fewer gs ks a)
 
 -- those that are away give
-pub divided_gave : (whole : Bool) (old here : Option GiverState) (gs ks : List GiverState) → AllGave gs ks → Divided whole old here gs → Divided whole old here ks
-divided_gave whole None here gs ks a d = (d.0, none_of ks (gave_length gs ks a ∙ ap length d.1))
-divided_gave whole (Some g) here gs ks a d =
-    let b : AllGave (found here ++ gs) (found here ++ ks) = gave_front here here gs ks (may_give_nothing here) a in
+pub divided_gave : (old here : Option GiverState) (gs ks : List GiverState) → AllGave gs ks → Divided old here gs → Divided old here ks
+divided_gave None here gs ks a d = (d.0, none_of ks (gave_length gs ks a ∙ ap length d.1))
+divided_gave (Some g) None gs ks a d = absurd d
+divided_gave (Some g) (Some m) gs ks a d =
+    let b : AllGave (m ∷ gs) (m ∷ ks) = (gave_nothing m, a) in
     record {
-      pool = gave_alike g (found here ++ gs) (found here ++ ks) b d.pool;
-      parts = gave_parts (found here ++ gs) (found here ++ ks) b ∙ d.parts;
-      blocks = λ h. gave_blocks (found here ++ gs) (found here ++ ks) b h ∙ d.blocks h;
-      least = λ h. omega (arith, d.least h, gave_least (found here ++ gs) (found here ++ ks) b h);
-      fulls = omega (arith, gave_fulls (min g.pass.fulls (2 ^ 64 - 1)) (found here ++ gs) (found here ++ ks) b d.fulls);
-      room = gave_room whole here gs ks a d.room;
+      pool = gave_alike g (m ∷ gs) (m ∷ ks) b d.pool;
+      parts = gave_parts (m ∷ gs) (m ∷ ks) b ∙ d.parts;
+      blocks = λ h. gave_blocks (m ∷ gs) (m ∷ ks) b h ∙ d.blocks h;
+      least = λ h. omega (arith, d.least h, gave_least (m ∷ gs) (m ∷ ks) b h);
+      fulls = omega (arith, gave_fulls (min g.pass.fulls (2 ^ 64 - 1)) (m ∷ gs) (m ∷ ks) b d.fulls);
+      room = gave_room m gs ks a d.room;
     }
 
-pub divided_did : (whole : Bool) (old here : Option GiverState) (ts : List LaneTask) (ds : List LaneDone) → EachDid DidLane ts ds → Divided whole old here (carried ts)
-    → Divided whole old here (returned ds)
-divided_did whole old here ts ds e = divided_gave whole old here (carried ts) (returned ds) (each_gave ts ds e)
+pub divided_did : (old here : Option GiverState) (ts : List LaneTask) (ds : List LaneDone) → EachDid DidLane ts ds → Divided old here (carried ts) → Divided old here (returned ds)
+divided_did old here ts ds e = divided_gave old here (carried ts) (returned ds) (each_gave ts ds e)
 
 -- the first task gave
-pub divided_first : (whole : Bool) (old here : Option GiverState) (t : LaneTask) (ts : List LaneTask) (d : LaneDone) → DidLane t d
-    → Divided whole old here (carried (t ∷ ts)) → Divided whole old here (back_of d ++ carried ts)
-divided_first whole old here (asked.Queue t) ts (answered.Queue d) did =
-    divided_gave whole old here (found t.giver ++ carried ts) (found d.giver ++ carried ts) (gave_front t.giver d.giver (carried ts) (carried ts) did.2 (all_same (carried ts)))
-divided_first whole old here (asked.Tap t) ts (answered.Tap d) did = λ h. h
-divided_first whole old here (asked.Queue t) ts (answered.Tap d) did = absurd did
-divided_first whole old here (asked.Tap t) ts (answered.Queue d) did = absurd did
+pub divided_first : (old here : Option GiverState) (t : LaneTask) (ts : List LaneTask) (d : LaneDone) → DidLane t d → Divided old here (carried (t ∷ ts))
+    → Divided old here (found (back_of d) ++ carried ts)
+divided_first old here t ts d did =
+    divided_gave old here (found (part_of t) ++ carried ts) (found (back_of d) ++ carried ts) (gave_front (part_of t) (back_of d) (carried ts) (carried ts) (did_gave t d did) (all_same (carried ts)))
 
 -- ---- at first, and at last
 
-pub divided_same : (whole : Bool) (x : Option GiverState) → Divided whole x x []
-divided_same whole None = (refl, refl)
-divided_same whole (Some g) = record {
+pub divided_same : (x : Option GiverState) → Divided x x []
+divided_same None = (refl, refl)
+divided_same (Some g) = record {
   pool = ((refl, refl, refl), tt);
-  parts = sum_by-append (λ (x : GiverState). x.pass.parts) (g ∷ []) [] ∙ omega arith;
+  parts = omega (arith, sum_by-cons (λ (x : GiverState). x.pass.parts) g []);
   blocks = λ h. omega (arith, sum_by-cons (lying h) g []);
   least = λ h. omega (arith, sum_by-cons (given h) g []);
   fulls = omega (arith, sum_by-cons (λ (x : GiverState). x.pass.fulls) g []);
-  room = ((λ some. absurd (omega (arith, some))), (λ all. refl));
+  room = λ some. absurd (omega (arith, some));
 }
 
-any_room : (whole : Bool) (here : Option GiverState) (away : List GiverState) → HasRoom whole here away → HasRoom false here away
-any_room whole None away r = r
-any_room whole (Some g) away r = (r.0, λ e. absurd (off e))
-
-pub divided_any : (whole : Bool) (old here : Option GiverState) (away : List GiverState) → Divided whole old here away → Divided false old here away
-divided_any whole None here away d = d
-divided_any whole (Some g) here away d = record {
-  pool = d.pool;
-  parts = d.parts;
-  blocks = d.blocks;
-  least = d.least;
-  fulls = d.fulls;
-  room = any_room whole here away d.room;
-}
-
-pub gave_all : (old here : Option GiverState) → Divided false old here [] → MayGive old here
+pub gave_all : (old here : Option GiverState) → Divided old here [] → MayGive old here
 gave_all None here d = d.0
-gave_all (Some g) None d = absurd (let e : 0 ≡ 1 = d.room in omega (arith, e))
+gave_all (Some g) None d = absurd d
 gave_all (Some g) (Some m) d = (
   m,
   refl,
@@ -182,39 +159,17 @@ gave_all (Some g) (Some m) d = (
 
 pub carried_behind : (ts us : List LaneTask) → carried (ts ++ us) ≡ carried ts ++ carried us
 carried_behind [] us = refl
-carried_behind (t ∷ ts) us = ap (λ z. part_of t ++ z) (carried_behind ts us) ∙ sym (append_assoc (part_of t) (carried ts) (carried us))
+carried_behind (t ∷ ts) us = ap (λ z. found (part_of t) ++ z) (carried_behind ts us) ∙ sym (append_assoc (found (part_of t)) (carried ts) (carried us))
 
--- all goes with one task
-pub divided_whole : (old here : Option GiverState) (away : List GiverState) → Divided true old here away → Divided true old None (away ++ found here)
-divided_whole old None away d = subst (Divided true old None) (sym (append-nil away)) d
-divided_whole None (Some m) away d = absurd (let e : Some m ≡ None = d.0 in cc)
-divided_whole (Some g) (Some m) away d =
-    let none : away ≡ [] = d.room.1 refl in
-    let e : m ∷ away ≡ m ∷ [] = ap (λ z. m ∷ z) none in
-    subst (λ z. IsDivided true g None (z ++ m ∷ [])) (sym none) (record {
-      pool = subst (AllByRecursion (IsAlike g)) e d.pool;
-      parts = subst (λ z. parts_of z ≡ g.pass.parts) e d.parts;
-      blocks = λ h. subst (λ z. lying_of h z ≡ lying h g) e (d.blocks h);
-      least = λ h. subst (λ z. given h g ≤ given_of h z) e (d.least h);
-      fulls = subst (λ z. min g.pass.fulls (2 ^ 64 - 1) ≤ fulls_of z) e d.fulls;
-      room = refl;
-    })
-
-split_room : (own part now : GiverState) (away : List GiverState) → Split own part now → HasRoom false (Some own) away → HasRoom false (Some now) (away ++ part ∷ [])
-split_room own part now [] s r = (
-  (λ some. omega (arith, s.list, s.made, s.room, sum_by-cons (λ (x : GiverState). home x.list) part [])),
-  (λ e. absurd (off e)),
-)
+split_room : (own part now : GiverState) (away : List GiverState) → Split own part now → HasRoom own away → HasRoom now (away ++ part ∷ [])
+split_room own part now [] s r = λ some. omega (arith, s.list, s.made, s.room, sum_by-cons (λ (x : GiverState). home x.list) part [])
 split_room own part now (k ∷ ks) s r =
     let p : GiverState → ℕ = λ x. home x.list in
-    let most = r.0 (omega arith) in (
-      (λ some. omega (arith, most, s.list, s.made, sum_by-append p (k ∷ ks) (part ∷ []), sum_by-cons p part [])),
-      (λ e. absurd (off e)),
-    )
+    let most = r (omega arith) in
+    λ some. omega (arith, most, s.list, s.made, sum_by-append p (k ∷ ks) (part ∷ []), sum_by-cons p part [])
 
 -- a part goes with one task
-divided_part : (old : Option GiverState) (own part now : GiverState) (away : List GiverState) → Split own part now → Divided false old (Some own) away
-    → Divided false old (Some now) (away ++ part ∷ [])
+divided_part : (old : Option GiverState) (own part now : GiverState) (away : List GiverState) → Split own part now → Divided old (Some own) away → Divided old (Some now) (away ++ part ∷ [])
 divided_part None own part now away s d = absurd (let e : Some own ≡ None = d.0 in cc)
 divided_part (Some g) own part now away s d =
     let p : GiverState → ℕ = λ x. x.pass.parts in
@@ -271,49 +226,41 @@ divided_part (Some g) own part now away s d =
 
 -- or nothing does
 pub divided_maybe : (old : Option GiverState) (own now : GiverState) (part : Option GiverState) (away : List GiverState)
-    → MatchOption part (now ≡ own) (λ p. Split own p now) → Divided false old (Some own) away → Divided false old (Some now) (away ++ found part)
-divided_maybe old own now None away e d = subst (λ z. Divided false old (Some z) (away ++ [])) (sym e) (subst (Divided false old (Some own)) (sym (append-nil away)) d)
+    → MatchOption part (now ≡ own) (λ p. Split own p now) → Divided old (Some own) away → Divided old (Some now) (away ++ found part)
+divided_maybe old own now None away e d = subst (λ z. Divided old (Some z) (away ++ [])) (sym e) (subst (Divided old (Some own)) (sym (append-nil away)) d)
 divided_maybe old own now (Some part) away s d = divided_part old own part now away s d
 
--- a queue's task went away, and what it carries
-pub divided_sent : (whole : Bool) (old here now part : Option GiverState) (ts us : List LaneTask) (t : QueueWork) → us ≡ ts ++ asked.Queue t ∷ [] → t.giver ≡ part
-    → (Divided whole old here (carried ts) → Divided whole old now (carried ts ++ found part))
-    → Divided whole old here (carried ts) → Divided whole old now (carried us)
-divided_sent whole old here now part ts us t behind e step d =
-    let a : carried ts ++ found part ≡ carried (ts ++ asked.Queue t ∷ []) =
-    ap (λ z. carried ts ++ found z) (sym e) ∙ ap (λ z. carried ts ++ z) (sym (append-nil (found t.giver))) ∙ sym (carried_behind ts (asked.Queue t ∷ [])) in
-    subst (λ z. Divided whole old now (carried z)) (sym behind) (subst (Divided whole old now) a (step d))
+-- a task went away, and what it carries
+pub divided_sent : (old here now part : Option GiverState) (ts us : List LaneTask) (t : LaneTask) → us ≡ ts ++ t ∷ [] → part_of t ≡ part
+    → (Divided old here (carried ts) → Divided old now (carried ts ++ found part))
+    → Divided old here (carried ts) → Divided old now (carried us)
+divided_sent old here now part ts us t behind e step d =
+    let a : carried ts ++ found part ≡ carried (ts ++ t ∷ []) =
+    ap (λ z. carried ts ++ found z) (sym e) ∙ ap (λ z. carried ts ++ z) (sym (append-nil (found (part_of t)))) ∙ sym (carried_behind ts (t ∷ [])) in
+    subst (λ z. Divided old now (carried z)) (sym behind) (subst (Divided old now) a (step d))
 
 -- the same at a giver and at tasks that are these
-pub divided_is : (whole : Bool) (old here now : Option GiverState) (ts us : List LaneTask) → now ≡ here → us ≡ ts → Divided whole old here (carried ts) → Divided whole old now (carried us)
-divided_is whole old here now ts us e f d = subst (λ z. Divided whole old z (carried us)) (sym e) (subst (λ z. Divided whole old here (carried z)) (sym f) d)
-
-pub carried_tap : (ts : List LaneTask) (t : TapWork) → carried (ts ++ asked.Tap t ∷ []) ≡ carried ts
-carried_tap ts t = carried_behind ts (asked.Tap t ∷ []) ∙ append-nil (carried ts)
+pub divided_is : (old here now : Option GiverState) (ts us : List LaneTask) → now ≡ here → us ≡ ts → Divided old here (carried ts) → Divided old now (carried us)
+divided_is old here now ts us e f d = subst (λ z. Divided old z (carried us)) (sym e) (subst (λ z. Divided old here (carried z)) (sym f) d)
 
 -- ---- parts come back
 
-may_join : (old here back : Option GiverState) (rest : List GiverState) → Divided false old here (found back ++ rest) → MayJoin here back
+pub may_join : (old here back : Option GiverState) (rest : List GiverState) → Divided old here (found back ++ rest) → MayJoin here back
 may_join old None None rest d = tt
-may_join old None (Some other) rest d = tt
 may_join old (Some m) None rest d = tt
+may_join None None (Some other) rest d = absurd (let n : other ∷ rest ≡ [] = d.1 in cc)
+may_join (Some g) None (Some other) rest d = absurd d
 may_join None (Some m) (Some other) rest d = absurd (let e : Some m ≡ None = d.0 in cc)
 may_join (Some g) (Some m) (Some other) rest d =
-    let most = d.room.0 (omega arith) in
+    let most = d.room (omega arith) in
     (d.pool.1.0.0 ∙ sym d.pool.0.0, omega (arith, most, sum_by-cons (λ (x : GiverState). home x.list) other rest))
 
-pub may_take : (here : Option GiverState) (d : LaneDone) (rest : List GiverState) → MayReturn here (back_of d ++ rest) → MayTake d here
-may_take here (answered.Queue d) rest m = may_join m.0 here d.giver rest m.1
-may_take here (answered.Tap d) rest m = tt
-
-joined_room : (m other now : GiverState) (rest : List GiverState) → Joined m other now → HasRoom false (Some m) (other ∷ rest) → HasRoom false (Some now) rest
+joined_room : (m other now : GiverState) (rest : List GiverState) → Joined m other now → HasRoom m (other ∷ rest) → HasRoom now rest
 joined_room m other now rest j r =
-    let most = r.0 (omega arith) in (
-      (λ some. omega (arith, most, j.list, j.made, sum_by-cons (λ (x : GiverState). home x.list) other rest)),
-      (λ e. absurd (off e)),
-    )
+    let most = r (omega arith) in
+    λ some. omega (arith, most, j.list, j.made, sum_by-cons (λ (x : GiverState). home x.list) other rest)
 
-joined_back : (g m other now : GiverState) (rest : List GiverState) → Joined m other now → IsDivided false g (Some m) (other ∷ rest) → IsDivided false g (Some now) rest
+joined_back : (g m other now : GiverState) (rest : List GiverState) → Joined m other now → IsDivided g m (other ∷ rest) → IsDivided g now rest
 joined_back g m other now rest j d =
     let p : GiverState → ℕ = λ x. x.pass.parts in
     let f : GiverState → ℕ = λ x. x.pass.fulls in
@@ -359,22 +306,8 @@ joined_back g m other now rest j d =
       room = joined_room m other now rest j d.room;
     }
 
-rejoined : (old here back new : Option GiverState) (rest : List GiverState) → Rejoined here back new → Divided false old here (found back ++ rest) → Divided false old new rest
-rejoined old here None new rest e d = subst (λ z. Divided false old z rest) (sym e) d
-rejoined None None (Some other) new rest e d = absurd (let n : other ∷ rest ≡ [] = d.1 in cc)
-rejoined (Some g) None (Some other) new rest e d =
-    let none : length rest ≡ 0 = omega (arith, d.room) in
-    subst (λ z. IsDivided false g z rest) (sym e) (record {
-      pool = d.pool;
-      parts = d.parts;
-      blocks = d.blocks;
-      least = d.least;
-      fulls = d.fulls;
-      room = ((λ some. absurd (omega (arith, some, none))), (λ off'. absurd (off off')));
-    })
-rejoined None (Some m) (Some other) new rest e d = absurd (let n : Some m ≡ None = d.0 in cc)
-rejoined (Some g) (Some m) (Some other) new rest e d = subst (λ z. IsDivided false g z rest) (sym e.1) (joined_back g m other e.0 rest e.2 d)
-
-pub divided_taken : (old here new : Option GiverState) (d : LaneDone) (rest : List GiverState) → IsTaken d here new → Divided false old here (back_of d ++ rest) → Divided false old new rest
-divided_taken old here new (answered.Queue d) rest e h = rejoined old here d.giver new rest e h
-divided_taken old here new (answered.Tap d) rest e h = subst (λ z. Divided false old z rest) (sym e) h
+pub divided_taken : (old here back new : Option GiverState) (rest : List GiverState) → Rejoined here back new → Divided old here (found back ++ rest) → Divided old new rest
+divided_taken old here None new rest e d = subst (λ z. Divided old z rest) (sym e) d
+divided_taken old None (Some other) new rest e d = absurd e
+divided_taken None (Some m) (Some other) new rest e d = absurd (let n : Some m ≡ None = d.0 in cc)
+divided_taken (Some g) (Some m) (Some other) new rest e d = subst (λ z. Divided (Some g) z rest) (sym e.1) (joined_back g m other e.0 rest e.2 d)

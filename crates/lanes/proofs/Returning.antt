@@ -118,10 +118,11 @@ pub own_queue : (segs at : ℕ) (old now : List QueueLane) (x lane : QueueLane) 
     → at < length old → IsOfQueues segs old (asked.Queue t)
 own_queue segs at old now x lane giver t e is same lt = subst (λ z. IsOfQueues segs old (asked.Queue z)) (sym e) (lt, refl, λ d. is ∙ same ∙ any_other old at x d lt)
 
-pub own_tap : (plan : LanePlan) (at : ℕ) (old now : List TapLane) (x lane : TapLane) (filter : Option (List Instr)) (t : TapWork) → t ≡ tap_work at lane plan.snap filter → filter ≡ plan.filter
+pub own_tap : (plan : LanePlan) (at : ℕ) (old now : List TapLane) (x lane : TapLane) (filter : Option (List Instr)) (giver : Option GiverState) (t : TapWork) → t ≡ tap_work at lane plan.snap filter giver
+    → filter ≡ plan.filter
     → lane ≡ get_or now at x
     → get_or now at x ≡ get_or old at x → at < length old → IsOfTaps plan old (asked.Tap t)
-own_tap plan at old now x lane filter t e shown is same lt = subst (λ z. IsOfTaps plan old (asked.Tap z)) (sym e) (lt, refl, shown, λ d. is ∙ same ∙ any_other old at x d lt)
+own_tap plan at old now x lane filter giver t e shown is same lt = subst (λ z. IsOfTaps plan old (asked.Tap z)) (sym e) (lt, refl, shown, λ d. is ∙ same ∙ any_other old at x d lt)
 
 -- the queues went away, and then the taps
 pub all_away : (plan : LanePlan) (old new : Lanes) (qs : List QueueLane) (ls : List TapLane) (before mid after : List LaneTask) → before ≡ [] → new.queues.items ≡ qs → new.taps.items ≡ ls

@@ -1,5 +1,5 @@
 -- A giver that is divided among tasks: what is at hand of it, and what is away.
-use Rattle.std.specs.Prelude.{ℕ, ◌≡◌, ◌+◌, ◌-◌, ◌^◌, ◌≤◌, min, Bool, true, false, Option, None, Some}
+use Rattle.std.specs.Prelude.{ℕ, ◌≡◌, ◌+◌, ◌-◌, ◌^◌, ◌≤◌, min, Option, None, Some}
 use Rattle.std.specs.Prelude.{List, [], ◌∷◌, ◌++◌, length}
 use Rattle.std.specs.List.{sum_by, AllByRecursion}
 use Rattle.raw_block.specs.Views.{SoleState}
@@ -34,64 +34,55 @@ abbrev pub fulls_of : List GiverState → ℕ
 fulls_of gs = sum_by (λ (g : GiverState). g.pass.fulls) gs
 
 -- what a task carries, and what comes back with what is done
-abbrev pub part_of : LaneTask → List GiverState
-part_of (asked.Queue t) = found t.giver
-part_of (asked.Tap t) = []
+abbrev pub part_of : LaneTask → Option GiverState
+part_of (asked.Queue t) = t.giver
+part_of (asked.Tap t) = t.giver
 
 abbrev pub carried : List LaneTask → List GiverState
 carried [] = []
-carried (t ∷ ts) = part_of t ++ carried ts
+carried (t ∷ ts) = found (part_of t) ++ carried ts
 
-abbrev pub back_of : LaneDone → List GiverState
-back_of (answered.Queue d) = found d.giver
-back_of (answered.Tap d) = []
+abbrev pub back_of : LaneDone → Option GiverState
+back_of (answered.Queue d) = d.giver
+back_of (answered.Tap d) = d.giver
 
 abbrev pub returned : List LaneDone → List GiverState
 returned [] = []
-returned (d ∷ ds) = back_of d ++ returned ds
+returned (d ∷ ds) = found (back_of d) ++ returned ds
 
 -- it gives to the same pool
 abbrev pub IsAlike : GiverState → GiverState → Type 0
 IsAlike g other = (other.pool ≡ g.pool) × (other.pass.pool ≡ g.pass.pool) × (other.pass.size ≡ g.pass.size)
 
--- where nothing is at hand all is away as one; for what else is away there is room at hand. Where the whole goes with
--- one task, it goes first.
-abbrev pub HasRoom : Bool → Option GiverState → List GiverState → Type 0
-HasRoom whole None away = length away ≡ 1
-HasRoom whole (Some g) away =
-    (1 ≤ length away → home g.list + blocks_of away ≤ g.list.made) × (whole ≡ true → away ≡ [])
+-- for what is away there is room at hand
+abbrev pub HasRoom : GiverState → List GiverState → Type 0
+HasRoom here away = 1 ≤ length away → home here.list + blocks_of away ≤ here.list.made
 
 -- of all that gave at first: nothing of it is lost
-pub record IsDivided (whole : Bool) (g : GiverState) (here : Option GiverState) (away : List GiverState) : Type 0 where
-  pub pool : AllByRecursion (IsAlike g) (found here ++ away)
-  pub parts : parts_of (found here ++ away) ≡ g.pass.parts
-  pub blocks : (h : SoleState → ℕ) → lying_of h (found here ++ away) ≡ lying h g
-  pub least : (h : SoleState → ℕ) → given h g ≤ given_of h (found here ++ away)
-  pub fulls : min g.pass.fulls (2 ^ 64 - 1) ≤ fulls_of (found here ++ away)
-  pub room : HasRoom whole here away
+pub record IsDivided (g here : GiverState) (away : List GiverState) : Type 0 where
+  pub pool : AllByRecursion (IsAlike g) (here ∷ away)
+  pub parts : parts_of (here ∷ away) ≡ g.pass.parts
+  pub blocks : (h : SoleState → ℕ) → lying_of h (here ∷ away) ≡ lying h g
+  pub least : (h : SoleState → ℕ) → given h g ≤ given_of h (here ∷ away)
+  pub fulls : min g.pass.fulls (2 ^ 64 - 1) ≤ fulls_of (here ∷ away)
+  pub room : HasRoom here away
 
-abbrev pub Divided : Bool → Option GiverState → Option GiverState → List GiverState → Type 0
-Divided whole None here away = (here ≡ None) × (away ≡ [])
-Divided whole (Some g) here away = IsDivided whole g here away
+abbrev pub Divided : Option GiverState → Option GiverState → List GiverState → Type 0
+Divided None here away = (here ≡ None) × (away ≡ [])
+Divided (Some g) None away = ⊥
+Divided (Some g) (Some here) away = IsDivided g here away
 
 -- one of those that are away may come back
 abbrev pub MayReturn : Option GiverState → List GiverState → Type 0
-MayReturn here away = (old : Option GiverState) × Divided false old here away
+MayReturn here away = (old : Option GiverState) × Divided old here away
 
 abbrev pub MayJoin : Option GiverState → Option GiverState → Type 0
+MayJoin here None = Unit {0}
+MayJoin None (Some other) = ⊥
 MayJoin (Some g) (Some other) = (other.pool ≡ g.pool) × (home g.list + home other.list ≤ g.list.made)
-MayJoin _ _ = Unit {0}
-
-abbrev pub MayTake : LaneDone → Option GiverState → Type 0
-MayTake (answered.Queue d) here = MayJoin here d.giver
-MayTake (answered.Tap d) here = Unit {0}
 
 -- it came back, or there was none
 abbrev pub Rejoined : Option GiverState → Option GiverState → Option GiverState → Type 0
 Rejoined here None new = new ≡ here
-Rejoined None (Some other) new = new ≡ Some other
+Rejoined None (Some other) new = ⊥
 Rejoined (Some g) (Some other) new = (g' : GiverState) × (new ≡ Some g') × Joined g other g'
-
-abbrev pub IsTaken : LaneDone → Option GiverState → Option GiverState → Type 0
-IsTaken (answered.Queue d) here new = Rejoined here d.giver new
-IsTaken (answered.Tap d) here new = new ≡ here

@@ -1,5 +1,5 @@
--- What a contract sees of a lane's task: the lane at its place among those of its kind, how it is worked, and of a
--- queue what gives blocks back once it is.
+-- What a contract sees of a lane's task: the lane at its place among those of its kind, how it is worked, and what gives
+-- blocks back once it is.
 use Rattle.std.specs.Prelude.{ℕ, Option, List}
 use Rattle.tap_filter.specs.declared.instr.Instr.{Instr}
 use Rattle.block_pool.specs.Giving.{GiverState}
@@ -17,9 +17,10 @@ pub record TapWork : Type 0 where
   pub lane : TapLane
   pub snap : ℕ
   pub filter : Option (List Instr)
+  pub giver : Option GiverState
 
 abbrev pub queue_work : ℕ → QueueLane → ℕ → Option GiverState → QueueWork
 queue_work at lane segs giver = record { at = at; lane = lane; segs = segs; giver = giver }
 
-abbrev pub tap_work : ℕ → TapLane → ℕ → Option (List Instr) → TapWork
-tap_work at lane snap filter = record { at = at; lane = lane; snap = snap; filter = filter }
+abbrev pub tap_work : ℕ → TapLane → ℕ → Option (List Instr) → Option GiverState → TapWork
+tap_work at lane snap filter giver = record { at = at; lane = lane; snap = snap; filter = filter; giver = giver }

@@ -16,7 +16,8 @@ use Rattle.lanes.specs.Lanes.{DidQueue, DidTap}
 abbrev pub DidLane : LaneTask → LaneDone → Type 0
 DidLane (asked.Queue t) (answered.Queue d) =
     (d.at ≡ t.at) × DidQueue t.segs t.lane d.lane × MayGive t.giver d.giver × LeavesNone t.giver d.giver
-DidLane (asked.Tap t) (answered.Tap d) = (d.at ≡ t.at) × DidTap t.filter t.snap t.lane d.lane
+DidLane (asked.Tap t) (answered.Tap d) =
+    (d.at ≡ t.at) × DidTap t.filter t.snap t.lane d.lane × MayGive t.giver d.giver × LeavesNone t.giver d.giver
 DidLane _ _ = ⊥
 
 -- ---- lanes of which some are away

@@ -1,10 +1,10 @@
 //! Lanes go away as tasks, and come back to their places.
-ghost use Rattle.std.specs.Prelude.{◌≡◌, ℕ, ◌+◌, ◌≤◌, false, [], ◌∷◌, length, List, All, IfSome, Option};
+ghost use Rattle.std.specs.Prelude.{◌≡◌, ◌+◌, ◌≤◌, [], length, List, All, IfSome, Option};
 ghost use Rattle.std.specs.List.{AllByRecursion};
 ghost use Rattle.std.specs.VecDeque.{deque_len, deque_capacity};
 ghost use Rattle.errands.specs.Answers.{EachDid};
 ghost use Rattle.block_pool.specs.Giving.{GiverState};
-ghost use Rattle.lanes.specs.Givers.{carried, returned, Divided, IsTaken, MayReturn, MayTake};
+ghost use Rattle.lanes.specs.Givers.{back_of, carried, returned, Divided, MayJoin, MayReturn, Rejoined};
 ghost use Rattle.lanes.specs.Lanes.{IsFilled, IsTapReady};
 ghost use Rattle.lanes.specs.Tasks.{DidLane, SentQueues, SentTaps, Away, HasPlace, IsPlaced, IsPut};
 ghost use Rattle.lanes.specs.Work.{Did};
@@ -23,26 +23,20 @@ use off_io::Gate;
 use std::collections::VecDeque;
 use std::sync::Wait;
 
-// How many queues have packets.
-fn count_at_work(queues: &[QueueLane]) -> usize {
+/// How many lanes have something to do.
+pub(crate) fn count_at_work(lanes: &Lanes) -> usize {
     let mut count = 0usize;
-    for lane in queues {
+    for lane in &lanes.queues {
         if !lane.packets.is_empty() {
             count = count.saturating_add(1);
         }
     }
-    count
-}
-
-/// Whether two lanes at least have something to do.
-pub(crate) fn are_two_at_work(lanes: &Lanes) -> bool {
-    let mut count = count_at_work(&lanes.queues);
     for lane in &lanes.taps {
         if !lane.clones.is_empty() {
             count = count.saturating_add(1);
         }
     }
-    count > 1
+    count
 }
 
 // The lane leaves its place. What stays there is idle.
@@ -63,21 +57,20 @@ fn take_tap(lane: &mut TapLane) -> TapLane
     replace(lane, idle)
 }
 
-// The queues that have packets go away as tasks, each with its part of the list, or with all of it where it is the only
-// one. The others are worked here.
+// The queues that have packets go away as tasks, each with its part of the list. The others are worked here.
 fn send_queues<G: Gate>(
     gate: &G,
     segs: u32,
     queues: &mut [QueueLane],
+    at_work: usize,
     tasks: &mut VecDeque<LaneTask>,
     giver: &mut Option<Giver>,
-    whole: bool,
 )
     requires filled { All IsFilled queues.old }
     requires room { deque_len tasks.old + length queues.old ≤ deque_capacity tasks.old }
     ensures sent { SentQueues segs (length queues.old) queues.old queues.new tasks.old.items tasks.new.items }
-    ensures carried { (old : Option GiverState) → Divided whole old giver.old (carried tasks.old.items)
-        → Divided whole old giver.new (carried tasks.new.items) }
+    ensures carried { (old : Option GiverState) → Divided old giver.old (carried tasks.old.items)
+        → Divided old giver.new (carried tasks.new.items) }
     ensures few { deque_len tasks.new ≤ deque_len tasks.old + length queues.old }
     ensures room { deque_capacity tasks.new ≡ deque_capacity tasks.old }
 {
@@ -86,7 +79,7 @@ fn send_queues<G: Gate>(
             work(gate, segs, &mut queues[at]);
         } else {
             let lane = take_queue(&mut queues[at]);
-            let part = carry(giver, whole, lane.packets.len());
+            let part = carry(giver, at_work.saturating_sub(tasks.len()));
             tasks.push_back_reserved(LaneTask::Queue(QueueTask::new(at, lane, segs, part)));
         }
     }
@@ -102,23 +95,27 @@ fn filter_for(lane: &TapLane, plan: &LanePlan) -> Option<Option<SharedProgram>>
     share_in(&plan.filter).ok()
 }
 
-// The taps that have clones go away as tasks. The others are worked here.
+// The taps that have clones go away as tasks, each with its part of the list. The others are worked here.
 fn send_taps<G: Gate>(
     gate: &G,
     plan: &LanePlan,
     taps: &mut [TapLane],
+    at_work: usize,
     tasks: &mut VecDeque<LaneTask>,
+    giver: &mut Option<Giver>,
 )
     requires ready { All IsTapReady taps.old }
     requires room { deque_len tasks.old + length taps.old ≤ deque_capacity tasks.old }
     ensures sent { SentTaps plan.now (length taps.old) taps.old taps.new tasks.old.items tasks.new.items }
-    ensures carried { carried tasks.new.items ≡ carried tasks.old.items }
+    ensures carried { (old : Option GiverState) → Divided old giver.old (carried tasks.old.items)
+        → Divided old giver.new (carried tasks.new.items) }
 {
     for at in 0..taps.len() {
         match filter_for(&taps[at], plan) {
             Some(filter) => {
                 let lane = take_tap(&mut taps[at]);
-                let task = WatchTask::new(at, lane, plan.snap, filter);
+                let part = carry(giver, at_work.saturating_sub(tasks.len()));
+                let task = WatchTask::new(at, lane, plan.snap, filter, part);
                 tasks.push_back_reserved(LaneTask::Tap(task));
             }
             None => watch(gate, plan.snap, program_in(&plan.filter), &mut taps[at]),
@@ -126,7 +123,8 @@ fn send_taps<G: Gate>(
     }
 }
 
-/// The lanes that have something to do go away as tasks. The others are worked here.
+/// The lanes that have something to do go away as tasks, and the list is divided among them. The others are worked
+/// here.
 pub(crate) fn send_all<G: Gate>(
     gate: &G,
     plan: &LanePlan,
@@ -139,19 +137,19 @@ pub(crate) fn send_all<G: Gate>(
     requires none { tasks.old.items ≡ [] }
     requires room { length lanes.old.queues.items + length lanes.old.taps.items ≤ deque_capacity tasks.old }
     ensures away { Away plan.now lanes.old lanes.new tasks.new.items }
-    ensures divided { Divided false giver.old giver.new (carried tasks.new.items) }
+    ensures divided { Divided giver.old giver.new (carried tasks.new.items) }
 {
-    let whole = count_at_work(&lanes.queues) == 1;
-    send_queues(gate, plan.segs, &mut lanes.queues, tasks, giver, whole);
-    send_taps(gate, plan, &mut lanes.taps, tasks);
+    let at_work = count_at_work(lanes);
+    send_queues(gate, plan.segs, &mut lanes.queues, at_work, tasks, giver);
+    send_taps(gate, plan, &mut lanes.taps, at_work, tasks, giver);
 }
 
 // A lane comes back to its place, and what its task carried.
 fn put_back<R: Wait>(rt: &R, lanes: &mut Lanes, done: LaneDone, giver: &mut Option<Giver>)
     requires place { HasPlace lanes.old done }
-    requires may { MayTake done giver.old }
+    requires may { MayJoin giver.old (back_of done) }
     ensures put { IsPut done lanes.old lanes.new }
-    ensures taken { IsTaken done giver.old giver.new }
+    ensures taken { Rejoined giver.old (back_of done) giver.new }
 {
     match done {
         LaneDone::Queue(done) => {
@@ -160,8 +158,9 @@ fn put_back<R: Wait>(rt: &R, lanes: &mut Lanes, done: LaneDone, giver: &mut Opti
             take_back(rt, giver, back);
         }
         LaneDone::Tap(done) => {
-            let (at, lane) = done.open();
+            let (at, lane, back) = done.open();
             free_tap(replace(&mut lanes.taps[at], lane));
+            take_back(rt, giver, back);
         }
     }
 }
@@ -177,8 +176,8 @@ pub(crate) fn bring_back<R: Wait>(
     requires may { MayReturn giver.old (returned done.old.items) }
     ensures did { (plan : LanePlan) (old : Lanes) (ts : List LaneTask)
         → EachDid DidLane ts done.old.items → Away plan old lanes.old ts → Did plan old lanes.new }
-    ensures back { (old : Option GiverState) → Divided false old giver.old (returned done.old.items)
-        → Divided false old giver.new [] }
+    ensures back { (old : Option GiverState) → Divided old giver.old (returned done.old.items)
+        → Divided old giver.new [] }
     ensures none { done.new.items ≡ [] }
 {
     while let Some(answer) = done.pop_front() {
@@ -197,8 +196,8 @@ pub(crate) fn work_here<G: Gate, R: Wait>(
     requires places { AllByRecursion (IsPlaced lanes.old) tasks.old.items }
     requires may { MayReturn giver.old (carried tasks.old.items) }
     ensures did { (plan : LanePlan) (old : Lanes) → Away plan old lanes.old tasks.old.items → Did plan old lanes.new }
-    ensures back { (old : Option GiverState) → Divided false old giver.old (carried tasks.old.items)
-        → Divided false old giver.new [] }
+    ensures back { (old : Option GiverState) → Divided old giver.old (carried tasks.old.items)
+        → Divided old giver.new [] }
     ensures none { tasks.new.items ≡ [] }
 {
     let job = LaneJob { gate, rt };

@@ -6,7 +6,7 @@ ghost use Rattle.lanes.specs.Desks.{IsOpenDesk};
 ghost use Rattle.lanes.specs.Lanes.{IsFilled, IsTapReady};
 ghost use Rattle.lanes.specs.Work.{Did};
 
-use crate::away::{are_two_at_work, bring_back, send_all, work_here};
+use crate::away::{bring_back, count_at_work, send_all, work_here};
 use crate::giving::give_back;
 use crate::lane::Lanes;
 use crate::plan::LanePlan;
@@ -155,7 +155,7 @@ impl<G: Gate, N: Naming, R: Wait> Works for LaneCrew<'_, '_, G, N, R> {
 
     fn run_lanes(&mut self, plan: &LanePlan, lanes: &mut Lanes, giver: &mut Option<Giver>) {
         let count = lanes.queues.len().saturating_add(lanes.taps.len());
-        if count > self.tasks.capacity() || !are_two_at_work(lanes) {
+        if count > self.tasks.capacity() || count_at_work(lanes) < 2 {
             run_and_give(self.gate, self.rt, plan, lanes, giver);
         } else {
             run_by_tasks(

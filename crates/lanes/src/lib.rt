@@ -32,11 +32,11 @@
 //!
 //! Blocks that a round has and that no packet holds, its spares, lie in no lane. Where others read the next round
 //! beside the work they are lent with a `block_pool::Giver`, and go to the pool that these take lists from as soon as a
-//! queue's lane is worked: by the thread that does all lanes, behind the first queue that had packets ([`Beside`]); or
-//! by each queue's task, which carries two blocks for each of its packets and a pass of its own, or all where no other
-//! queue has packets. What no task could carry goes behind them, and what finds the pool full stays with who lent it. A
-//! tap carries none: the packets lie in the queues' lanes until a round is written, so it is never the last who holds
-//! one.
+//! lane is worked: by the thread that does all lanes, behind the first queue that had packets ([`Beside`]); or by each
+//! lane's task, a queue's or a tap's, which carries as many blocks as any other and a pass of its own, unless there are
+//! fewer blocks than tasks or there is no memory for that. What no task could carry goes behind them, and what finds the
+//! pool full stays with who lent it. Of its clones a tap has nothing to give: the packets lie in the queues' lanes until
+//! a round is written, so it is never the last who holds one.
 //!
 //! ```text
 //!   who asks ── a lane, part of the list ──> the desk ── the task, a note ──> whoever is free, and who asks, waiting
@@ -71,7 +71,8 @@
 //!   refused: by any weight of blocks what was given and what still lies there is what did before, and the pass has all
 //!   its parts again. So between two rounds nothing that was lent is in a lane or with a crew.
 //! - `none_left`: by who gives (`gives` of [`Works`]) all that was lent went as the work ends, unless a put found no
-//!   place. Each queue's task gives what it carries as soon as its lane is worked (`none_left` of `QueueTask::run`).
+//!   place. Each lane's task gives what it carries as soon as its lane is worked (`none_left` of `QueueTask::run` and of
+//!   `WatchTask::run`).
 //! - `packets`: each queue has the packets of its flows, in their order; `merged`: each of them is in one of the
 //!   queue's runs, once, by its index, so that what a run comes to can be read and written from where its packets lie.
 //!
@@ -130,7 +131,9 @@
 //!   they hold has to be their own.
 //! - **What is lent is counted whole, wherever it is** (`Divided` in `specs/Givers`): what is at hand and what tasks
 //!   carry have as many parts and blocks as all that was lent. So answers may come in any order, and whether a task
-//!   carries a part, all or none is nothing that a caller sees.
+//!   carries a part or none is nothing that a caller sees.
+//! - **What is lent is divided evenly**, over all lanes that go away as tasks: no list grows with how unlike the queues
+//!   are, and what no packet holds needn't wait for the lane with the most packets.
 //! - **Only memory stops lanes from being filled**: first there are as many as the plan has, then come each tap's
 //!   clones of all packets, then the packets go to their queues, and at last each queue's engine takes its memory. So
 //!   clones are of packets in their order, and a packet that there is no memory for stands in front of the others

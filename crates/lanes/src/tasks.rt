@@ -36,13 +36,15 @@ impl Model for QueueTask {
     ghost invariant = { λ t. IsFilled t.lane };
 }
 
-/// A tap's lane with the clones that it has to read. One that is dropped frees its blocks.
+/// A tap's lane with the clones that it has to read, and what gives blocks back once they are read. One that is dropped
+/// frees its blocks.
 pub struct WatchTask {
     // Its place among the taps.
     at: usize,
     lane: TapLane,
     snap: u32,
     filter: Option<SharedProgram>,
+    giver: Option<Giver>,
 }
 
 impl Model for WatchTask {
@@ -51,7 +53,7 @@ impl Model for WatchTask {
 
     ghost Value = { TapWork };
 
-    ghost view = { λ t. tap_work t.at t.lane t.snap t.filter };
+    ghost view = { λ t. tap_work t.at t.lane t.snap t.filter t.giver };
 
     ghost invariant = { λ t. IsTapReady t.lane };
 }
@@ -67,6 +69,7 @@ pub struct QueueDone {
 pub struct TapDone {
     at: usize,
     lane: TapLane,
+    giver: Option<Giver>,
 }
 
 /// What one lane has to do.
@@ -102,6 +105,7 @@ impl Drop for WatchTask {
             lane,
             snap: _,
             filter: _filter,
+            giver: _giver,
         } = self;
         free_tap(lane);
     }
@@ -120,7 +124,11 @@ impl Drop for QueueDone {
 
 impl Drop for TapDone {
     fn drop(self) {
-        let TapDone { at: _, lane } = self;
+        let TapDone {
+            at: _,
+            lane,
+            giver: _giver,
+        } = self;
         free_tap(lane);
     }
 }
@@ -162,30 +170,36 @@ impl WatchTask {
         lane: TapLane,
         snap: u32,
         filter: Option<SharedProgram>,
+        giver: Option<Giver>,
     ) -> WatchTask
         requires ready { IsTapReady lane }
-        ensures same { result ≡ tap_work at lane snap filter }
+        ensures same { result ≡ tap_work at lane snap filter giver }
     {
         WatchTask {
             at,
             lane,
             snap,
             filter,
+            giver,
         }
     }
 
-    fn run<G: Gate>(self, gate: &G) -> TapDone
+    fn run<G: Gate, R: Wait>(self, gate: &G, rt: &R) -> TapDone
         ensures at { result.at ≡ self.at }
         ensures did { DidTap self.filter self.snap self.lane result.lane }
+        ensures gave { MayGive self.giver result.giver }
+        ensures none_left { LeavesNone self.giver result.giver }
     {
         let WatchTask {
             at,
             mut lane,
             snap,
             filter,
+            mut giver,
         } = self;
         watch(gate, snap, program_in(&filter), &mut lane);
-        TapDone { at, lane }
+        give_back(rt, &mut giver);
+        TapDone { at, lane, giver }
     }
 }
 
@@ -199,16 +213,16 @@ impl QueueDone {
 }
 
 impl TapDone {
-    pub(crate) fn open(self) -> (usize, TapLane)
-        ensures same { (result.0 ≡ self.at) × (result.1 ≡ self.lane) }
+    pub(crate) fn open(self) -> (usize, TapLane, Option<Giver>)
+        ensures same { (result.0 ≡ self.at) × (result.1 ≡ self.lane) × (result.2 ≡ self.giver) }
     {
-        let TapDone { at, lane } = self;
-        (at, lane)
+        let TapDone { at, lane, giver } = self;
+        (at, lane, giver)
     }
 }
 
-/// What is done of a round's tasks. Each lane passes the gate at point 0 before its work and at point 1 after it. A
-/// queue's task then gives back what it carries.
+/// What is done of a round's tasks. Each lane passes the gate at point 0 before its work and at point 1 after it. Its
+/// task then gives back what it carries.
 #[derive(Drop)]
 pub struct LaneJob<'g, G, R> {
     pub gate: &'g G,
@@ -223,7 +237,7 @@ impl<G: Gate, R: Wait> Job<LaneTask, LaneDone> for LaneJob<'_, G, R> {
     fn run(&self, task: LaneTask) -> LaneDone {
         match task {
             LaneTask::Queue(task) => LaneDone::Queue(task.run(self.gate, self.rt)),
-            LaneTask::Tap(task) => LaneDone::Tap(task.run(self.gate)),
+            LaneTask::Tap(task) => LaneDone::Tap(task.run(self.gate, self.rt)),
         }
     }
 }

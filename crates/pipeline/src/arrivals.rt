@@ -16,7 +16,7 @@ use records::Supply;
 const LOOKS: u32 = 16;
 
 /// So many lists come in before a round is read, at most; others wait for the next one.
-const MOST_LISTS: u32 = 195;
+const MOST_LISTS: u32 = 219;
 
 impl<W: Post + Drop> Desk<W> {
     // The next token: if it comes within so many tries, or, where it is waited for, whenever it comes.

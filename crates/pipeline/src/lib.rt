@@ -6,7 +6,7 @@
 //!    ^  ^                                                    │    ^                                 │   │
 //!    │  ├─── Token: the round has ended ─────────────────────┤    └───────── lanes, done ───────────┘   │
 //!    │  └─── lists: its shelf, as soon as it is written ─────┘                                          │
-//!    └────── lists: spare blocks of a queue, as soon as its lane has been worked ───────────────────────┘
+//!    └────── lists: a lane's part of the spare blocks, as soon as it has been worked ───────────────────┘
 //! ```
 //!
 //! All threads are started once, as the leaves of one tree of joins for the whole run, and none in a round. Where
@@ -23,8 +23,8 @@
 //! Blocks come home to that pool by a pool of lists that threads share (`block_pool::ListPool`), each list by one step.
 //! Who gives them is one `block_pool::Giver`, which stays with the side that works and is lent for each round:
 //!
-//! - The spare blocks of a queue's packets go as soon as its lane has been worked, while the packets are still to be
-//!   written. Where all places are taken a list stays with its round.
+//! - The spare blocks of a round go lane by lane, each lane's part as soon as it has been worked, while the packets are
+//!   still to be written. Where all places are taken a list stays with its round.
 //! - All others that a round's work leaves go once it was written. They lie then on the shelf that came with the round,
 //!   a pool without blocks of its own, and the shelf goes as it is (`rounds::give_list`). Where all places are taken it
 //!   goes back in the token, which tells that the round has ended. Only the last round's stay on a shelf with the side

@@ -1,6 +1,6 @@
 //! Spares whose pool of lists is full when they are given back stay with their round, and come home with it.
 //!
-//! The program's pool has places for the lists of all queues of as many rounds as are read ahead, so it is never full.
+//! The program's pool has places for the lists of all lanes of as many rounds as are read ahead, so it is never full.
 //! Here it has one place, and nobody takes what lies there.
 ghost use Rattle.std.specs.Prelude.{◌≡◌, ◌+◌, ◌≤◌, [], IfOk};
 ghost use Rattle.std.specs.Arc.{arc_value};

@@ -261,7 +261,7 @@ impl Rounds {
     }
 
     /// Works a round, and reads the next one beside it: `work_round` and `read_round` at once, the reading in a thread
-    /// of its own. The spares of a queue come home as soon as its lane was worked, as a list; all other blocks of the
+    /// of its own. A lane's part of the spares comes home as soon as it was worked, as a list; all other blocks of the
     /// round stay out. So the next one is paused where it needs more blocks behind a record's header than are home, and
     /// a take found no list of them: that header is kept. For want of memory for two sides the round is worked all the
     /// same, and of the next one nothing is read.

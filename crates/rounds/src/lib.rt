@@ -13,8 +13,8 @@
 //! out. Blocks that it needs and that are out are brought once its header is read, by whoever has a [`Supply`] of them.
 //!
 //! The spares of a round nobody reads, so they may go to others before the round ends: whoever has a
-//! [`Giver`](block_pool::Giver) lends it to [`Bench::work_round`], and as soon as a queue's lane is worked they go by
-//! it. The round is as many blocks smaller. Without a giver they come home with the others.
+//! [`Giver`](block_pool::Giver) lends it to [`Bench::work_round`], and as soon as a lane is worked its part goes by it.
+//! The round is as many blocks smaller. Without a giver they come home with the others.
 //!
 //! Of a record of link type 147 the first 12 bytes are read apart, as every offload header has them, and the need is
 //! that of the bytes behind them. The last 4 bytes of a header of version 2 so stand in the first block, in front of

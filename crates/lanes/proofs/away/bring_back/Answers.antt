@@ -1,9 +1,8 @@
 use Rattle.std.proofs.Common.{rules, ◌≡◌, [], ◌∷◌, subst}
-use Rattle.std.specs.Prelude.{false}
 use Rattle.std.specs.List.{AllByRecursion}
-use Rattle.lanes.specs.Givers.{returned, Divided}
+use Rattle.lanes.specs.Givers.{back_of, returned, Divided}
 use Rattle.lanes.specs.Tasks.{HasPlace}
-use Rattle.lanes.proofs.Dividing.{may_take, divided_taken}
+use Rattle.lanes.proofs.Dividing.{may_join, divided_taken}
 use Rattle.lanes.proofs.Returning.{Answered, brought_next, all_answered, have_places}
 use Rattle.lanes.proofs.away.bring_back.Goals as goal
 
@@ -14,7 +13,7 @@ put_back-requires-clause-may g c =
     let rest = c.pop_front.new.self.items in
     let e : l.done.items ≡ answer ∷ rest = c.in-Some.ensures.items in
     let m = c.requires.may in
-    may_take l.giver answer (returned rest) (m.0, subst (λ z. Divided false m.0 l.giver (returned z)) e (l.invariant.taken m.0 m.1))
+    may_join m.0 l.giver (back_of answer) (returned rest) (subst (λ z. Divided m.0 l.giver (returned z)) e (l.invariant.taken m.0 m.1))
 
 pub loop-answer-preserved : goal.loop-answer-preserved
 loop-answer-preserved g c =
@@ -26,8 +25,8 @@ loop-answer-preserved g c =
     record {
       places = have_places answer l.lanes m rest c.put_back.ensures.put (subst (AllByRecursion (HasPlace l.lanes)) e l.invariant.places).1;
       back = λ plan old ts did away. brought_next plan old l.lanes m answer rest c.put_back.ensures.put (subst (Answered plan old l.lanes) e (l.invariant.back plan old ts did away));
-      taken = λ old d. divided_taken old l.giver c.put_back.new.giver answer (returned rest) c.put_back.ensures.taken
-          (subst (λ z. Divided false old l.giver (returned z)) e (l.invariant.taken old d));
+      taken = λ old d. divided_taken old l.giver (back_of answer) c.put_back.new.giver (returned rest) c.put_back.ensures.taken
+          (subst (λ z. Divided old l.giver (returned z)) e (l.invariant.taken old d));
     }
 
 pub returns-clause-did : goal.returns-clause-did
@@ -40,4 +39,4 @@ pub returns-clause-back : goal.returns-clause-back
 returns-clause-back g c =
     let l = c.loop-answer in
     let e : l.done.items ≡ [] = search rules in
-    λ old d. subst (λ z. Divided false old l.giver (returned z)) e (l.invariant.taken old d)
+    λ old d. subst (λ z. Divided old l.giver (returned z)) e (l.invariant.taken old d)

@@ -1,9 +1,8 @@
 use Rattle.std.proofs.Common.{length, sym, subst, arith}
 use Rattle.std.specs.Vec.{with_items}
-use Rattle.std.specs.Prelude.{false, nat_eq}
 use Rattle.lanes.specs.Givers.{carried, Divided}
 use Rattle.lanes.specs.Tasks.{SentQueues, SentTaps}
-use Rattle.lanes.proofs.Dividing.{divided_any, divided_same}
+use Rattle.lanes.proofs.Dividing.{divided_same}
 use Rattle.lanes.proofs.Listing.{refilled}
 use Rattle.lanes.proofs.Returning.{all_away}
 use Rattle.lanes.proofs.away.send_all.Goals as goal
@@ -17,8 +16,6 @@ returns g c =
     let before = c.args.tasks.now.items in
     let mid = c.send_queues.new.tasks.items in
     let giver = c.args.giver.now in
-    let now = c.send_queues.new.giver in
-    let whole = nat_eq c.count_at_work-whole.result 1 in
     let after = c.send_taps.new.tasks.items in
     let q = subst (λ xs. SentQueues plan.segs (length xs) xs qs before mid) c.deref_mut.ensures.value c.send_queues.ensures.sent in
     let t = subst (λ xs. SentTaps plan (length xs) xs ls mid after) c.deref_mut-2.ensures.value c.send_taps.ensures.sent in
@@ -27,7 +24,6 @@ returns g c =
           (refilled old.queues.len qs old.queues.items q.3.size (omega (arith, old.queues.ok)))
           (refilled old.taps.len ls old.taps.items t.3.size (omega (arith, old.taps.ok)))
           q t;
-      divided = subst (Divided false giver now) (sym c.send_taps.ensures.carried)
-          (divided_any whole giver now (carried mid) (c.send_queues.ensures.carried giver
-          (subst (λ z. Divided whole giver giver (carried z)) (sym c.requires.none) (divided_same whole giver))));
+      divided = c.send_taps.ensures.carried giver (c.send_queues.ensures.carried giver
+          (subst (λ z. Divided giver giver (carried z)) (sym c.requires.none) (divided_same giver)));
     }

@@ -26,7 +26,7 @@ loop-at-preserved g c =
           subst (λ z. Parted (DidQueue segs) IsElseQueue (at + 1) old z more) (sym w.queues-is)
               (parted_here (DidQueue segs) IsElseQueue at (at + 1) old now more w.index-queues-at-then-is_empty.result w.work.new.lane (omega arith) c.loop-at-test.true w.work.ensures.did i.sent.3),
         );
-        carried_on = λ o d. divided_is c.args.whole o c.loop-at.giver c.if-is_empty.giver c.loop-at.tasks.items c.if-is_empty.tasks.items w.giver-is (ap deque_items w.tasks-is) (i.carried_on o d);
+        carried_on = λ o d. divided_is o c.loop-at.giver c.if-is_empty.giver c.loop-at.tasks.items c.if-is_empty.tasks.items w.giver-is (ap deque_items w.tasks-is) (i.carried_on o d);
         few = omega (arith, i.few, ap deque_len w.tasks-is);
         room = ap deque_capacity w.tasks-is ∙ i.room;
       }
@@ -46,8 +46,8 @@ loop-at-preserved g c =
             carried_on = λ o d.
                 let us = c.if-is_empty.tasks.items in
                 let mine = w.carry-part.new.giver in
-                divided_is c.args.whole o mine c.if-is_empty.giver us us w.giver-is refl
-                (divided_sent c.args.whole o c.loop-at.giver mine w.carry-part.result c.loop-at.tasks.items us w.new.result (ap deque_items w.tasks-is ∙ w.push_back_reserved.ensures.items)
+                divided_is o mine c.if-is_empty.giver us us w.giver-is refl
+                (divided_sent o c.loop-at.giver mine w.carry-part.result c.loop-at.tasks.items us t (ap deque_items w.tasks-is ∙ w.push_back_reserved.ensures.items)
                 (ap (λ z. z.giver) w.new.ensures.same) (w.carry-part.ensures.carried o (carried c.loop-at.tasks.items)) (i.carried_on o d));
             few = omega (arith, i.few, ap deque_len w.tasks-is, w.push_back_reserved.ensures.len);
             room = ap deque_capacity w.tasks-is ∙ w.push_back_reserved.ensures.capacity ∙ i.room;

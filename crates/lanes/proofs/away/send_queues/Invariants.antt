@@ -9,7 +9,7 @@ use Rattle.lanes.proofs.away.send_queues.Given as goal
 abbrev pub invariant-loop-at : goal.invariant-loop-at
 invariant-loop-at g l = record {
   sent : SentQueues l.segs l.at l.fn.queues l.queues l.fn.tasks.items l.tasks.items;
-  carried_on : (old : Option GiverState) → Divided l.whole old l.fn.giver (carried l.fn.tasks.items) → Divided l.whole old l.giver (carried l.tasks.items);
+  carried_on : (old : Option GiverState) → Divided old l.fn.giver (carried l.fn.tasks.items) → Divided old l.giver (carried l.tasks.items);
   few : deque_len l.tasks ≤ deque_len l.fn.tasks + l.at;
   room : deque_capacity l.tasks ≡ deque_capacity l.fn.tasks;
 }

@@ -1,10 +1,10 @@
-use Rattle.std.proofs.Common.{◌≡◌, ◌+◌, [], ◌∷◌, ◌++◌, get_or, sym, ap, ◌∙◌, subst, arith}
+use Rattle.std.proofs.Common.{◌≡◌, ◌+◌, [], ◌∷◌, ◌++◌, get_or, refl, sym, ap, ◌∙◌, subst, arith}
 use Rattle.std.specs.VecDeque.{deque_len, deque_capacity, deque_items}
 use Rattle.lanes.specs.declared.tasks.LaneTask.TheVariants as asked
 use Rattle.lanes.specs.Givers.{carried}
 use Rattle.lanes.specs.Lanes.{DidTap}
 use Rattle.lanes.specs.Tasks.{IsOfTaps, IsElseTap, Parted}
-use Rattle.lanes.proofs.Dividing.{carried_tap}
+use Rattle.lanes.proofs.Dividing.{divided_is, divided_sent}
 use Rattle.lanes.proofs.Returning.{all_behind, one_more, parted_here, parted_sent, own_tap}
 use Rattle.lanes.proofs.away.send_taps.Goals as goal
 use Rattle.lanes.proofs.away.send_taps.Goals.{in-Some, in-None}
@@ -22,7 +22,7 @@ loop-at-preserved g c =
           let t = asked.Tap w.new-task.result in
           let x = w.index-taps-at-in-Some.result in
           let own =
-          own_tap plan at old now x w.take_tap-lane.result w.in-Some.filter w.new-task.result w.new-task.ensures.same w.in-Some.ensures.same w.take_tap-lane.ensures.same
+          own_tap plan at old now x w.take_tap-lane.result w.in-Some.filter w.carry-part.result w.new-task.result w.new-task.ensures.same w.in-Some.ensures.same w.take_tap-lane.ensures.same
           (i.sent.3.rest at x (omega arith)) c.loop-at-test.true in
           record {
             sent = (
@@ -34,8 +34,12 @@ loop-at-preserved g c =
                   (parted_sent (DidTap plan.filter plan.snap) IsElseTap at (at + 1) old now more t w.take_tap-lane.new.lane (omega arith)
                   (λ apart. apart (ap (λ z. z.at) w.new-task.ensures.same)) i.sent.3),
             );
-            same = subst (λ z. carried z.items ≡ carried c.args.tasks.now.items) (sym w.tasks-is)
-                (ap carried w.push_back_reserved.ensures.items ∙ carried_tap c.loop-at.tasks.items w.new-task.result ∙ i.same);
+            carried_on = λ o d.
+                let us = c.match-filter_for.tasks.items in
+                let mine = w.carry-part.new.giver in
+                divided_is o mine c.match-filter_for.giver us us w.giver-is refl
+                (divided_sent o c.loop-at.giver mine w.carry-part.result c.loop-at.tasks.items us t (ap deque_items w.tasks-is ∙ w.push_back_reserved.ensures.items)
+                (ap (λ z. z.giver) w.new-task.ensures.same) (w.carry-part.ensures.carried o (carried c.loop-at.tasks.items)) (i.carried_on o d));
             few = omega (arith, i.few, ap deque_len w.tasks-is, w.push_back_reserved.ensures.len);
             room = ap deque_capacity w.tasks-is ∙ w.push_back_reserved.ensures.capacity ∙ i.room;
           }
@@ -50,7 +54,7 @@ loop-at-preserved g c =
               subst (λ z. Parted (DidTap plan.filter plan.snap) IsElseTap (at + 1) old z more) (sym w.taps-is)
                   (parted_here (DidTap plan.filter plan.snap) IsElseTap at (at + 1) old now more x w.watch.new.lane (omega arith) c.loop-at-test.true did i.sent.3),
             );
-            same = subst (λ z. carried z.items ≡ carried c.args.tasks.now.items) (sym w.tasks-is) i.same;
+            carried_on = λ o d. divided_is o c.loop-at.giver c.match-filter_for.giver c.loop-at.tasks.items c.match-filter_for.tasks.items w.giver-is (ap deque_items w.tasks-is) (i.carried_on o d);
             few = omega (arith, i.few, ap deque_len w.tasks-is);
             room = ap deque_capacity w.tasks-is ∙ i.room;
           }
