@@ -204,3 +204,17 @@ fn one_block_has_room_as_its_numbers_say(rt: HostRuntime) -> Result<(), Fail> {
     assert_eq!(rt; soles, 3);
     Ok(())
 }
+
+// Telling a buffer's blocks from another one is for the proofs: it changes nothing.
+#[test]
+fn a_buffer_is_told_from_a_block(rt: HostRuntime) -> Result<(), Fail> {
+    let head = Sole::new(rt.alloc())?;
+    let mut block = Sole::new(rt.alloc())?;
+    block.set_mark(7);
+    let mut skb = Skb::new(head, 64, 70, Pieces::new(rt.alloc()));
+    skb.differ_from(&mut block);
+    let len = skb.len();
+    let freed = skb.free();
+    assert_eq!(rt; (len, freed, block.mark()), (6, 1, 7));
+    Ok(())
+}
