@@ -1,8 +1,8 @@
 //! Reading beside the work is paused behind a record's header where the blocks that it needs are those of the only
 //! round that is out, and goes on once that round has ended. What comes of it is what comes over many blocks.
 //!
-//! A tap holds each round for a while before its work. Where there are blocks for another record only once the round
-//! has ended, the reader meanwhile finds neither list nor block.
+//! The queue holds each round for a while before its work, and two taps give both spares of its record meanwhile. Where
+//! there are blocks for another record only once the round has ended, the reader then finds neither list nor block.
 ghost use Rattle.std.specs.Prelude.{◌≤◌};
 
 use crate::driven::capture;
@@ -25,19 +25,20 @@ const MANY: u32 = 8384;
 // The file header takes a read, and a record two: the body of the second one.
 const BODY_OF_THE_SECOND: u64 = 4;
 
-// A tap gives way to other threads this often.
+// The queue gives way to other threads this often.
 const TURNS: u32 = 2_000;
 
 // So often it is tried until reading is paused.
 const TRIES: u32 = 100;
 
-// Taps are held, and the queue isn't.
+// The queue is held, and taps aren't. Two spares are too few for three lanes: those of the taps have them, which go
+// last.
 #[derive(Drop)]
 struct Held;
 
 impl Gate for Held {
     fn pass(&self, who: Who, point: u32) {
-        if point != 0 || who != Who::Tap(0) {
+        if point != 0 || who != Who::Worker(0) {
             return;
         }
         for _ in 0..TURNS {
@@ -51,7 +52,7 @@ fn four_packets(alloc: Global, fails: Vec<u64>) -> Result<MemSource, Fail> {
     Ok(MemSource::new(capture(alloc, 1)?, 4096, fails))
 }
 
-// Merged in rounds of one record, with a tap, to a sink that fails at these of its calls: how it ended, what was
+// Merged in rounds of one record, with two taps, to a sink that fails at these of its calls: how it ended, what was
 // written, and how often reading was paused. All blocks are home.
 fn merged(
     rt: &(impl Threads + Wait + Sync),
@@ -71,7 +72,7 @@ fn merged(
     };
     let file = reader.file();
     let mut sink = MemSink::new(alloc, 4096, writes.to_vec(alloc)?);
-    let mut rounds = Rounds::make(alloc, blocks, 1, plain(1, 1, 64), false)?;
+    let mut rounds = Rounds::make(alloc, blocks, 1, plain(1, 2, 64), false)?;
     let end = merge_beside(rt, alloc, &mut rounds, &mut reader, &file, &mut sink, &Held);
     if rounds.home() != blocks {
         return Err(Fail::from("all blocks are home"));
@@ -95,8 +96,8 @@ fn checked(
         Ok(reader) => reader,
         Err(_) => return Err(Fail::from("the file header is lawful")),
     };
-    let mut rounds = Rounds::make(alloc, blocks, 1, plain(1, 1, 64), true)?;
-    let mut totals = Totals::make(alloc, 1, 1)?;
+    let mut rounds = Rounds::make(alloc, blocks, 1, plain(1, 2, 64), true)?;
+    let mut totals = Totals::make(alloc, 1, 2)?;
     let end = check_beside(rt, alloc, &mut rounds, &mut reader, &mut totals, &Held);
     if rounds.home() != blocks {
         return Err(Fail::from("all blocks are home"));
@@ -117,7 +118,7 @@ fn reads_beside(rt: &impl Threads) -> bool {
 }
 
 // Over many blocks merging ends in this way and never pauses. Over the fewest it ends and writes so too, again and
-// again until reading was paused: who is first, reader or tap, isn't the same each time.
+// again until reading was paused: who is first, reader or queue, isn't the same each time.
 fn pauses_and_ends_so(
     rt: &(impl Threads + Wait + Sync),
     alloc: Global,
