@@ -1,11 +1,15 @@
--- Lanes of a round as they are lent, with the clones that were kept: the clones are the round's packets, and the round
--- has its lanes.
-use Rattle.std.proofs.Common.{◌≡◌, ℕ, List, map, length, sym, ap, ◌∙◌, subst}
+-- Lanes of a round as they are lent, with the clones that were kept: the clones are the round's packets, the round has
+-- its lanes, and comparing wants no more.
+use Rattle.std.proofs.Common.{◌≡◌, ◌≤◌, ℕ, List, map, length, sym, ap, ◌∙◌, subst, arith}
 use Rattle.std.specs.Prelude.{All}
+use Rattle.std.specs.List.{AllByRecursion}
 use Rattle.std.proofs.lemmas.List.{length-map}
+use Rattle.std.proofs.lemmas.List.Elements.{recursion_from_All}
 use Rattle.std.proofs.lemmas.List.FromFn.{length-range_with_len}
 use Rattle.pcap_io.specs.Capture.{Packet}
+use Rattle.offload_model.specs.Captured.{IsCaptured}
 use Rattle.offload_model.specs.Written.{Options, shown_of}
+use Rattle.offload_model.proofs.Shown.{all_shown}
 use Rattle.taps.specs.declared.clones.TapClone.{TapClone}
 use Rattle.taps.specs.Clones.{packet_of}
 use Rattle.lanes.specs.declared.lane.Lanes.{Lanes}
@@ -16,6 +20,9 @@ use Rattle.lanes.specs.Packets.{RiseFrom}
 use Rattle.lanes.specs.Work.{AreMerged, AreWatched}
 use Rattle.rounds.specs.Lanes.{IsKeptWorkOf}
 use Rattle.rounds.specs.RoundsState.{WorkedState}
+use Rattle.checking.specs.Compared.{MayCompareWork}
+use Rattle.checking.proofs.Laning.{are_captured, lanes_known}
+use Rattle.checking.proofs.Totalling.{watched_short}
 
 -- what comparing wants to know of them
 pub record Lent (o : Options) (ps : List Packet) (lanes : Lanes) (kept : List TapClone) : Type 0 where
@@ -45,3 +52,17 @@ own_lent o ps w is =
 
 pub are_lent : (o : Options) (ps : List Packet) (w : WorkedState) (lanes : Lanes) (kept : List TapClone) → lanes ≡ w.lanes → kept ≡ w.kept → IsKeptWorkOf o ps w → Lent o ps lanes kept
 are_lent o ps w lanes kept e f is = subst (λ (l : Lanes). Lent o ps l kept) (sym e) (subst (Lent o ps w.lanes) (sym f) (own_lent o ps w is))
+
+-- what a round comes to may be compared
+pub may_compare : (o : Options) (ps : List Packet) (w : WorkedState) → IsKeptWorkOf o ps w → AllByRecursion IsCaptured ps → length ps ≤ 4096 → MayCompareWork w
+may_compare o ps w own c few =
+    let is = own_lent o ps w own in
+    let kept = map packet_of w.kept in
+    let captured : AllByRecursion IsCaptured kept = subst (AllByRecursion IsCaptured) (sym is.same) c in
+    let size : length kept ≤ 4096 = omega (arith, few, ap length is.same) in
+    record {
+      captured = captured;
+      queues = lanes_known o.segs o.spread kept w.lanes.queues.items (are_captured 0 kept captured is.rising) size is.merged (recursion_from_All IsMerged w.lanes.queues.items is.is);
+      taps = watched_short o.snap (length w.lanes.taps.items) (map (shown_of o.filter) kept) w.lanes.taps.items (all_shown o.filter kept captured)
+          (omega (arith, size, length-map kept (shown_of o.filter))) is.watched;
+    }

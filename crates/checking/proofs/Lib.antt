@@ -50,8 +50,8 @@ mod ItemTotals
 mod Totalling
 -- what is known of a queue's lane, and of the totals that it adds
 mod Laning
--- clones that were kept, and the packets that they are of
-mod Kept
+-- clones that were kept, the packets that they are of, and that a round's work may be compared
+pub mod Kept
 -- ---- a capture
 
 -- rounds that are counted, and how counting ends

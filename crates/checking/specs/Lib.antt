@@ -14,6 +14,7 @@ pub mod Chain
 pub mod KeptFlows
 pub mod Items
 pub mod Texts
+pub mod Compared
 -- ---- round by round
 
 pub mod Handling

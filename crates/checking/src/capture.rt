@@ -11,6 +11,7 @@ ghost use Rattle.pcap_io.specs.Readers.{place_of, source_of, SameLoan};
 ghost use Rattle.offload_model.specs.Captured.{IsCaptured};
 ghost use Rattle.offload_model.specs.Need.{round_need};
 ghost use Rattle.gro.specs.Slots.{packet_of};
+ghost use Rattle.checking.specs.Compared.{compared_work, MayCompareWork};
 ghost use Rattle.checking.specs.Counts.{added, round_totals, totals_of, HasLanes, IsWithin};
 ghost use Rattle.checking.specs.Checking.{counting};
 ghost use Rattle.checking.specs.Tallies.{Tallies};
@@ -48,8 +49,8 @@ pub enum CheckEnd {
 // Compares what a round came to with its packets, and ends it.
 fn compare_round(bench: &mut Bench, home: &mut Pool, worked: Worked) -> Result<Totals, AllocError>
     requires may { MayBring worked.blocks bench.old home.old }
-    requires worked { (ps : List Packet) × (IsKeptWorkOf (options_at bench.old) ps worked
-        × AllByRecursion IsCaptured ps × (length ps ≤ 4096)) }
+    requires worked { MayCompareWork worked }
+    ensures compared { IfOk result (λ t. t ≡ compared_work worked) }
     ensures totals { (ps : List Packet) → IsKeptWorkOf (options_at bench.old) ps worked
         → IfOk result (λ t. t ≡ round_totals (options_at bench.old) ps) }
     ensures brings { Brings worked.blocks (weights_worked worked) bench.old bench.new home.old home.new }

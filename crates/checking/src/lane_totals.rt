@@ -1,12 +1,11 @@
 //! All lanes of a round.
-ghost use Rattle.std.specs.Prelude.{◌≡◌, ◌<◌, ◌≤◌, ◌^◌, ℕ, List, Option, length, map, IfOk, IfSome};
+ghost use Rattle.std.specs.Prelude.{◌≡◌, ◌<◌, ◌^◌, ℕ, List, Option, length, map, IfOk, IfSome};
 ghost use Rattle.std.specs.List.{AllByRecursion};
-ghost use Rattle.tap_filter.specs.declared.instr.Instr.{Instr};
-ghost use Rattle.offload_model.specs.Captured.{IsCaptured};
+ghost use Rattle.offload_model.specs.Captured.{AreCaptured};
 ghost use Rattle.offload_model.specs.Written.{Options, shown_of};
 ghost use Rattle.taps.specs.Clones.{packet_of};
-ghost use Rattle.lanes.specs.Packets.{RiseFrom};
 ghost use Rattle.lanes.specs.Work.{AreMerged, AreWatched, merged_in};
+ghost use Rattle.checking.specs.Compared.{compared_lanes, AreShortTaps};
 ghost use Rattle.checking.specs.Counts.{round_totals};
 ghost use Rattle.checking.specs.KeptFlows.{AreFlows};
 ghost use Rattle.checking.specs.Returned.{Lefts, flows_of, behind_items};
@@ -90,7 +89,7 @@ fn check_tap(lane: &TapLane) -> TapTotals
 
 // The totals of all taps.
 fn check_taps(alloc: Global, lanes: &[TapLane]) -> Result<Vec<TapTotals>, AllocError>
-    requires short { AllByRecursion (λ l. IfSome l.texts IsShort) lanes.now }
+    requires short { AreShortTaps lanes.now }
     ensures totals { IfOk result (λ totals. totals.items ≡ map (λ l. totals_of_texts l.texts) lanes.now) }
 {
     let mut totals = Vec::with_capacity(alloc, lanes.len())?;
@@ -111,17 +110,11 @@ pub(crate) fn check_lanes(
     lanes: &Lanes,
     kept: &[TapClone],
 ) -> Result<Totals, AllocError>
-    requires captured { AllByRecursion IsCaptured (map packet_of kept.now) }
-    requires rising { (k : ℕ) × RiseFrom k (map packet_of kept.now) }
-    requires few { length kept.now ≤ 4096 }
-    requires queues { (1 ≤ length lanes.now.queues.items) × (length lanes.now.queues.items ≤ 64) }
     requires lanes { AllByRecursion MayCompare lanes.now.queues.items }
-    requires windows { (snap : ℕ) × ((filter : Option (List Instr))
-        × AreWatched snap (length lanes.now.taps.items)
-        (map (shown_of filter) (map packet_of kept.now)) lanes.now.taps.items) }
-    ensures compared { IfOk result (λ totals. totals.queues
-        ≡ totals_by (flows_of (map packet_of kept.now)) (map merged_in lanes.now.queues.items)) }
-    ensures totals { (o : Options) → ((key : Option (List ℕ)) → o.spread key < o.queues)
+    requires short { AreShortTaps lanes.now.taps.items }
+    ensures compared { IfOk result (λ totals. totals ≡ compared_lanes lanes.now (map packet_of kept.now)) }
+    ensures totals { (o : Options) → AreCaptured (map packet_of kept.now)
+        → ((key : Option (List ℕ)) → o.spread key < o.queues)
         → o.queues ≡ length lanes.now.queues.items → o.taps ≡ length lanes.now.taps.items
         → AreMerged o.segs o.spread (length lanes.now.queues.items) (map packet_of kept.now) lanes.now.queues.items
         → AreWatched o.snap (length lanes.now.taps.items)

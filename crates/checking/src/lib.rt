@@ -8,11 +8,11 @@
 //!             [headers] payloads ..        payloads; the segments are compared with p0, p2, p3 in turn
 //! ```
 //!
-//! [`check_round`] takes a round that was worked, with its lanes and a clone of each packet. A queue's runs come in
-//! order; each stands for its own packet, or for the segments of its merged frame, and these are compared with the next
-//! packets of their flow: byte for byte, slice by slice where they lie, and in original length. The merged frame isn't
-//! put together, and no segment is cut out: the headers of both are made beside, and the payloads are read packet after
-//! packet. So no buffer changes, and memory is wanted for totals and places alone.
+//! [`check_round`] takes a round that was worked, with its lanes and a clone of each packet, whatever these hold. A
+//! queue's runs come in order; each stands for its own packet, or for the segments of its merged frame, and these are
+//! compared with the next packets of their flow: byte for byte, slice by slice where they lie, and in original length.
+//! The merged frame isn't put together, and no segment is cut out: the headers of both are made beside, and the
+//! payloads are read packet after packet. So no buffer changes, and memory is wanted for totals and places alone.
 //!
 //! [`check_all`] does so with the rounds of a capture, one by one, and [`check_beside`] with the next rounds read while
 //! one is worked, by the driver that merges (`pipeline::handle_beside`). Totals are added round by round, and
@@ -28,10 +28,11 @@
 //!   appends just the lines, or a prefix of them where the sink failed (`ok`, `err`, `cause`); and counting goes round
 //!   by round ([`counting_goes_by_round`], [`totals_add_up`]).
 //! - `counts` of the inner calls: as many are counted as are equal in their places, whatever the packets are.
-//! - `compared` of `check_lanes`: whatever packets the lanes hold in runs, of each queue so many are counted as
-//!   returned as are equal to the next packets of their flows. So a body that compares nothing doesn't meet it.
-//! - `totals` of `check_lanes` and of `check_round`: where the lanes hold what the round comes to, the totals are the
-//!   model's: that all come back, byte for byte.
+//! - `compared` of [`check_round`] and of what it calls: whatever packets the lanes hold in runs, of each queue so many
+//!   are counted as returned as are equal to the next packets of their flows (`compared_work`). It asks no more of the
+//!   lanes than that they may be compared (`MayCompareWork`). So a body that compares nothing doesn't meet it.
+//! - `totals` of [`check_round`]: where the lanes hold what the round comes to, the totals are the model's: that all
+//!   come back, byte for byte. Such lanes may be compared (`may_compare` of `proofs/Kept.antt`).
 //! - `given` of `check_all` and of `check_beside`: the totals are those of the packets within the blocks, and checking
 //!   ends where the capture's bytes stop it, by the model that merging ends by (`counting`); after a read fault they
 //!   are those of the bytes that are gone. `home`: all blocks are home again, whatever the ending.
@@ -76,8 +77,10 @@
 //!   which leads each to the next one of its flow, and a place for each flow that moves on as its runs come. Each kept
 //!   packet is compared once at most, so a packet that came twice, or in another's place, isn't counted.
 //! - **That as many come back as went in is a law, and no evidence** (`records_return`: `returned` of the definition is
-//!   the packets of the queue): the number alone doesn't show that bytes were compared. The clauses `counts` of the
-//!   inner calls do, whatever the packets are, and the tests.
+//!   the packets of the queue): the number alone doesn't show that bytes were compared. `compared` of [`check_round`]
+//!   does, whatever the lanes hold, and so do the tests. [`check_all`] and [`check_beside`] work each round themselves,
+//!   so its lanes are known, and of what they count the model says all; each round goes through `compare_round`, which
+//!   has the clause too.
 #![tactic(auto)]
 
 mod beside;

@@ -1,12 +1,20 @@
-use Rattle.std.proofs.Common.{◌≡◌, ◌∙◌, sym, ap, subst, map}
+use Rattle.std.proofs.Common.{◌≡◌, ◌∙◌, sym, ap, subst, map, arith}
+use Rattle.std.proofs.lemmas.List.{length-map}
 use Rattle.offload_model.specs.Captured.{AreCaptured}
 use Rattle.offload_model.specs.Written.{Options}
 use Rattle.gro.specs.Slots.{packet_of}
 use Rattle.checking.specs.Counts.{added, round_totals}
 use Rattle.rounds.specs.Lanes.{IsKeptWorkOf}
 use Rattle.rounds.specs.Benches.{options_at}
+use Rattle.checking.proofs.Kept.{may_compare}
 use Rattle.checking.proofs.RoundsCounted.{alike, captured_of, room, room_of_round, more_lanes, more_within}
 use Rattle.checking.proofs.capture.count_round.Goals as goal
+
+pub compare_round-requires-clause-worked : goal.compare_round-requires-clause-worked
+compare_round-requires-clause-worked g c =
+    let packets = c.args.round.packets in
+    may_compare (options_at c.args.bench.now) (map packet_of packets) c.in_ok-worked.worked (c.in_ok-worked.ensures.checked c.requires.keep) c.requires.captured
+    (omega (arith, c.requires.few, length-map packets packet_of))
 
 pub add-requires-clause-within : goal.add-requires-clause-within
 add-requires-clause-within g c =

@@ -9,17 +9,8 @@ use Rattle.checking.proofs.round.check_round.Goals as goal
 pub check_worked-requires-clause-plan : goal.check_worked-requires-clause-plan
 check_worked-requires-clause-plan c = subst IsPlan (sym c.plan.ensures.plan) c.plan.ensures.lawful
 
-pub check_worked-requires-clause-worked : goal.check_worked-requires-clause-worked
-check_worked-requires-clause-worked c =
+pub returns-clause-totals : goal.returns-clause-totals
+returns-clause-totals c = λ ps kept.
     let budget = c.args.rounds.now.budget in
-    let r = c.requires.worked in
-    (budget, (r.0, (subst (λ (p : LanePlan). IsKeptWorkOf (options_by p budget) r.0 c.args.worked.now) (sym c.plan.ensures.plan) r.1.0, r.1.1, r.1.2)))
-
-pub returns : goal.returns
-returns c =
-    let budget = c.args.rounds.now.budget in
-    record {
-      totals = λ ps kept.
-          subst (λ (p : LanePlan). IfOk c.check_worked.result (λ (t : Counts). t ≡ round_totals (options_by p budget) ps)) c.plan.ensures.plan
-          (c.check_worked.ensures.totals budget ps (subst (λ (p : LanePlan). IsKeptWorkOf (options_by p budget) ps c.args.worked.now) (sym c.plan.ensures.plan) kept));
-    }
+    subst (λ (p : LanePlan). IfOk c.check_worked.result (λ (t : Counts). t ≡ round_totals (options_by p budget) ps)) c.plan.ensures.plan
+    (c.check_worked.ensures.totals budget ps (subst (λ (p : LanePlan). IsKeptWorkOf (options_by p budget) ps c.args.worked.now) (sym c.plan.ensures.plan) kept))
