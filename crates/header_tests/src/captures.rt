@@ -53,16 +53,16 @@ fn numbers_end(rt: HostRuntime) -> Result<(), Fail> {
         offset: 41,
         number: 4294967296,
     });
-    assert_eq!(rt; read_two(rt.alloc(), 0)?, (0, 24, Ok(Some(41))));
+    let read = [read_two(rt.alloc(), 0)?, read_two(rt.alloc(), 4294967295)?];
     assert_eq!(rt;
-        read_two(rt.alloc(), 4294967295)?,
-        (4294967295, 24, Err(too_many))
+        read,
+        [(0, 24, Ok(Some(41))), (4294967295, 24, Err(too_many)),]
     );
     Ok(())
 }
 
 #[test]
-fn headers_are_written(rt: HostRuntime) -> Result<(), Fail> {
+fn headers_are_written(rt: HostRuntime) {
     let alloc = rt.alloc();
     let head = FileHead {
         order: Order::Big,
@@ -71,15 +71,17 @@ fn headers_are_written(rt: HostRuntime) -> Result<(), Fail> {
         sigfigs: 9,
     };
     let mut sink = MemSink::new(alloc, 5, Vec::new(alloc));
-    assert_eq!(rt; write_file_head(&mut sink, &head, Link::Offload), Ok(()));
-    assert_eq!(rt; write_rec_head(&mut sink, &head, 1, 2, 15, 17), Ok(()));
+    let answers = [
+        write_file_head(&mut sink, &head, Link::Offload),
+        write_rec_head(&mut sink, &head, 1, 2, 15, 17),
+    ];
     let want = [
         0xa1, 0xb2, 0x3c, 0x4d, 0x00, 0x02, 0x00, 0x04, 0x00, 0x00, 0x00, 0x07, 0x00, 0x00, 0x00,
         0x09, 0x00, 0x04, 0x00, 0x10, 0x00, 0x00, 0x00, 0x93, 0x00, 0x00, 0x00, 0x01, 0x00, 0x00,
         0x00, 0x02, 0x00, 0x00, 0x00, 0x0f, 0x00, 0x00, 0x00, 0x11,
     ];
+    assert_eq!(rt; answers, [Ok(()); 2]);
     assert_eq!(rt; sink.bytes(), want.as_slice());
-    Ok(())
 }
 
 /// The fields of an offload header of version 2: 70,000 packets of at most 131,072 bytes.
@@ -103,13 +105,17 @@ fn offload_headers_of_both_versions(rt: HostRuntime) {
         m: 4,
         ..FIELDS
     };
-    assert_eq!(rt; AnyHead::V1(head).fields(), fields);
-    assert_eq!(rt; head.bytes(), first);
     let second = [2, 1, 3, 5, 0, 1, 0x11, 0x70, 0, 2, 0, 0, 0, 1, 2, 3];
-    assert_eq!(rt; OffHead2::read(&second), FIELDS);
-    assert_eq!(rt; FIELDS.bytes(), second);
-    assert_eq!(rt; AnyHead::V2(FIELDS).fields(), FIELDS);
-    assert_eq!(rt; FRAME_LIMIT, 262_144);
+    let read = [
+        AnyHead::V1(head).fields(),
+        OffHead2::read(&second),
+        AnyHead::V2(FIELDS).fields(),
+    ];
+    assert_eq!(rt; read, [fields, FIELDS, FIELDS]);
+    assert_eq!(rt;
+        (head.bytes(), FIELDS.bytes(), FRAME_LIMIT),
+        (first, second, 262_144)
+    );
 }
 
 /// Length and version of the header that a record begins with, and whether it says that version.
@@ -118,17 +124,28 @@ fn version_of(body: &[u8]) -> Option<(u32, u8, bool)> {
     Some((head.size(), head.fields().version, head.says_version()))
 }
 
+/// Whether a header of this size, alone and with a byte behind it, is read as it begins, and one that is cut isn't.
+fn is_read_as(version: u8, size: usize, says: bool) -> bool
+    requires size { (1 ≤ size) × (size ≤ 16) }
+{
+    let mut body = [0u8; 17];
+    body[0] = version;
+    let want = Some((size as u32, version, says));
+    version_of(&body) == want
+        && version_of(&body[..size]) == want
+        && version_of(&body[..size - 1]).is_none()
+}
+
 /// The first byte tells the version. All but 2 are read as version 1.
 #[test]
 fn versions_by_the_first_byte(rt: HostRuntime) {
-    let mut body = [0u8; 17];
-    for (version, size, says) in [(0, 12, false), (1, 12, true), (2, 16, true), (3, 12, false)] {
-        body[0] = version;
-        let want = Some((size as u32, version, says));
-        assert!(rt; version_of(&body) == want && version_of(&body[..size]) == want);
-        assert!(rt; version_of(&body[..size - 1]).is_none());
-    }
-    assert!(rt; version_of(&[]).is_none());
+    let read = [
+        is_read_as(0, 12, false),
+        is_read_as(1, 12, true),
+        is_read_as(2, 16, true),
+        is_read_as(3, 12, false),
+    ];
+    assert_eq!(rt; (read, version_of(&[])), ([true; 4], None));
 }
 
 #[test]

@@ -1,20 +1,27 @@
 //! Sums from RFC 1071, section 3, and at the ends of the range; the lanes beside a sum word by word.
-ghost use Rattle.std.specs.Prelude.{◌<◌, ◌^◌, IfOk, vec_len};
+ghost use Rattle.std.specs.Prelude.{◌<◌, ◌^◌, vec_len};
 
 use inet_sum::{Partial, checksum, fold_of, udp_checksum};
 use std::alloc::Global;
-use std::test::Fail;
+use std::process::Abort;
+
+const WORDS: [u8; 8] = [0x00, 0x01, 0xf2, 0x03, 0xf4, 0xf5, 0xf6, 0xf7];
 
 #[test]
 fn sums_of_whole_lists(rt: HostRuntime) {
-    let words = [0x00, 0x01, 0xf2, 0x03, 0xf4, 0xf5, 0xf6, 0xf7];
-    assert_eq!(rt; fold_of(&words), 0xddf2);
-    assert_eq!(rt; checksum(&words), 0x220d);
-    assert_eq!(rt; checksum(&[]), 0xffff);
-    assert_eq!(rt; checksum(&[0xff, 0xff]), 0x0000);
-    assert_eq!(rt; checksum(&[0x01]), 0xfeff);
-    assert_eq!(rt; udp_checksum(&[0xff, 0xff]), 0xffff);
-    assert_eq!(rt; udp_checksum(&words), 0x220d);
+    let sums = [
+        fold_of(&WORDS),
+        checksum(&WORDS),
+        checksum(&[]),
+        checksum(&[0xff, 0xff]),
+        checksum(&[0x01]),
+        udp_checksum(&[0xff, 0xff]),
+        udp_checksum(&WORDS),
+    ];
+    assert_eq!(rt;
+        sums,
+        [0xddf2, 0x220d, 0xffff, 0x0000, 0xfeff, 0xffff, 0x220d]
+    );
 }
 
 /// 257 words of 1212, of which one is 3412, and 5600; the sum was computed by a separate program.
@@ -28,27 +35,26 @@ fn a_sum_of_many_words(rt: HostRuntime) {
 
 #[test]
 fn sums_of_pieces(rt: HostRuntime) {
-    let words = [0x00, 0x01, 0xf2, 0x03, 0xf4, 0xf5, 0xf6, 0xf7];
     let mut sum = Partial::new();
-    sum.add(&words[..1]);
-    sum.add(&words[1..4]);
+    sum.add(&WORDS[..1]);
+    sum.add(&WORDS[1..4]);
     let mut rest = Partial::new();
-    rest.add(&words[4..]);
+    rest.add(&WORDS[4..]);
     let all = sum.joined(rest);
-    assert_eq!(rt; all.len(), 8);
-    assert_eq!(rt; all.fold(), 0xddf2);
-    assert_eq!(rt; all.checksum(), 0x220d);
     sum.add_number(0xf4f5);
     sum.add_number(0xf6f7);
-    assert_eq!(rt; sum.checksum(), 0x220d);
+    assert_eq!(rt;
+        (all.len(), all.fold(), all.checksum(), sum.checksum()),
+        (8, 0xddf2, 0x220d, 0x220d)
+    );
 }
 
 // Bytes ff, some more than a million.
-fn all_ones(alloc: Global, count: usize) -> Result<Vec<u8>, Fail>
+fn all_ones(rt: &impl Abort, alloc: Global, count: usize) -> Vec<u8>
     requires few { count < 2 ^ 20 }
-    ensures few { IfOk result (λ bytes. vec_len bytes < 2 ^ 20) }
+    ensures few { vec_len result < 2 ^ 20 }
 {
-    Ok(vec![in alloc; 0xff; count]?)
+    vec![in alloc; 0xff; count].expect(rt, "no memory")
 }
 
 fn sum_in_pieces(bytes: &[u8], size: usize) -> Partial
@@ -64,18 +70,25 @@ fn sum_in_pieces(bytes: &[u8], size: usize) -> Partial
     sum
 }
 
+/// Length and checksum of the sum in pieces of this size.
+fn in_pieces(bytes: &[u8], size: usize) -> (u32, u16)
+    requires some { 0 < size }
+{
+    let sum = sum_in_pieces(bytes, size);
+    (sum.len(), sum.checksum())
+}
+
 /// 500,000 words of ffff leave nothing, and the last byte is the word ff00, whose complement is 00ff.
 #[test]
-fn a_million_and_one_bytes_ff(rt: HostRuntime) -> Result<(), Fail> {
-    let bytes = all_ones(rt.alloc(), 1_000_001)?;
-    assert_eq!(rt; bytes.len(), 1_000_001);
-    assert_eq!(rt; checksum(&bytes), 0x00ff);
-    for size in [63, 64, 65] {
-        let sum = sum_in_pieces(&bytes, size);
-        assert_eq!(rt; sum.len(), 1_000_001);
-        assert_eq!(rt; sum.checksum(), 0x00ff, "in pieces of {size}");
-    }
-    Ok(())
+fn a_million_and_one_bytes_ff(rt: HostRuntime) {
+    let bytes = all_ones(&rt, rt.alloc(), 1_000_001);
+    let sums = [
+        in_pieces(&bytes, 63),
+        in_pieces(&bytes, 64),
+        in_pieces(&bytes, 65),
+    ];
+    assert_eq!(rt; (bytes.len(), checksum(&bytes)), (1_000_001, 0x00ff));
+    assert_eq!(rt; sums, [(1_000_001, 0x00ff); 3]);
 }
 
 /// Word by word, the carries added at once (RFC 1071, section 1).
@@ -91,6 +104,19 @@ fn slow_fold(bytes: &[u8]) -> u16 {
     (sum % (1 << 16)) as u16
 }
 
+/// The length and the place of the first bytes with another sum than word by word.
+fn first_other(buffer: &[u8; 320]) -> Option<(usize, usize)> {
+    for length in 0..301 {
+        for at in 0..16 {
+            let bytes = &buffer[at..at + length];
+            if fold_of(bytes) != slow_fold(bytes) {
+                return Some((length, at));
+            }
+        }
+    }
+    None
+}
+
 #[test]
 fn every_length_at_every_place(rt: HostRuntime) {
     let mut buffer = [0u8; 320];
@@ -99,10 +125,5 @@ fn every_length_at_every_place(rt: HostRuntime) {
         state = state.wrapping_mul(1_664_525).wrapping_add(1_013_904_223);
         *byte = (state >> 24) as u8;
     }
-    for length in 0..301 {
-        for at in 0..16 {
-            let bytes = &buffer[at..at + length];
-            assert_eq!(rt; fold_of(bytes), slow_fold(bytes), "{length} bytes at {at}");
-        }
-    }
+    assert_eq!(rt; first_other(&buffer), None);
 }

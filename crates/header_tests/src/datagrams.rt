@@ -2,8 +2,8 @@
 //! computed the bytes.
 ghost use Rattle.std.specs.Prelude.{◌<◌, ◌^◌, length};
 
-use crate::layouts::{change, has_shape};
-use frame_layout::{Leaf, candidate, key};
+use crate::layouts::{has_flow, has_shape, is_of_none, with};
+use frame_layout::{Leaf, candidate};
 use inet_sum::Partial;
 
 /// Ethernet, IPv4, UDP, and four bytes.
@@ -45,32 +45,33 @@ const FLOW: [u8; 26] = [
     0x01, 0x0a, 0x00, 0x00, 0x02, 0x11, 0xc3, 0x50, 0x13, 0x89,
 ];
 
-/// The ports of tunnels, to which no datagram goes that isn't one.
-const PORTS: [[u8; 2]; 2] = [[0x12, 0xb5], [0x21, 0x18]];
+/// Whether a datagram to this port, which is one of tunnels, has neither shape nor flow, alone and in a tunnel; the
+/// source's port doesn't matter.
+fn is_of_tunnels(high: u8, low: u8) -> bool {
+    is_of_none(&with(DATAGRAM, &[(36, high), (37, low)]))
+        && is_of_none(&with(IN_VXLAN, &[(86, high), (87, low)]))
+        && has_shape(&with(DATAGRAM, &[(34, high), (35, low)]), 3, 42)
+}
 
 #[test]
 fn shapes_of_datagrams(rt: HostRuntime) {
-    assert!(rt; has_shape(&DATAGRAM, 3, 42) && has_shape(&DATAGRAM[..42], 3, 42));
-    assert!(rt; has_shape(&DATAGRAM[..41], 0, 0));
-    assert!(rt; has_shape(&OVER_IP6, 3, 62));
-    assert!(rt; has_shape(&IN_VXLAN, 7, 92));
-    assert_eq!(rt; key(&DATAGRAM).bytes(), Some(FLOW.as_slice()));
-    for port in PORTS {
-        let mut plain = DATAGRAM;
-        change(&mut plain, &[(36, port[0]), (37, port[1])]);
-        let mut inner = IN_VXLAN;
-        change(&mut inner, &[(86, port[0]), (87, port[1])]);
-        assert!(rt; has_shape(&plain, 0, 0) && has_shape(&inner, 0, 0));
-        assert!(rt; key(&plain).bytes().is_none() && key(&inner).bytes().is_none());
-        // The source's port doesn't matter.
-        let mut from = DATAGRAM;
-        change(&mut from, &[(34, port[0]), (35, port[1])]);
-        assert!(rt; has_shape(&from, 3, 42));
-    }
+    let are_so = [
+        has_shape(&DATAGRAM, 3, 42),
+        has_shape(&DATAGRAM[..42], 3, 42),
+        has_shape(&DATAGRAM[..41], 0, 0),
+        has_shape(&OVER_IP6, 3, 62),
+        has_shape(&IN_VXLAN, 7, 92),
+        has_flow(&DATAGRAM, &FLOW),
+        is_of_tunnels(0x12, 0xb5),
+        is_of_tunnels(0x21, 0x18),
+    ];
+    assert_eq!(rt; are_so, [true; 8]);
 }
 
 /// What a candidate says of its last header: what it is, whether it has no sum, its flags; and the bytes behind it.
-fn said(frame: &[u8]) -> Option<(Leaf, bool, u8, u32)>
+type Said = Option<(Leaf, bool, u8, u32)>;
+
+fn said(frame: &[u8]) -> Said
     requires few { length frame.now < 2 ^ 29 }
 {
     let len = frame.len() as u32;
@@ -80,44 +81,73 @@ fn said(frame: &[u8]) -> Option<(Leaf, bool, u8, u32)>
     }
 }
 
+const SUMMED: Said = Some((Leaf::Udp, false, 0, 4));
+
+const UNSUMMED: Said = Some((Leaf::Udp, true, 0, 4));
+
 /// A sum of 0 says that there is none; where the value is 0, ffff is written.
+static CASES: [(&str, [(usize, u8); 4], Said); 7] = [
+    (
+        "no sum",
+        [(40, 0x00), (41, 0x00), (45, 0x64), (45, 0x64)],
+        UNSUMMED,
+    ),
+    (
+        "another sum",
+        [(41, 0x32), (45, 0x64), (45, 0x64), (45, 0x64)],
+        None,
+    ),
+    (
+        "another payload",
+        [(45, 0x65), (45, 0x65), (45, 0x65), (45, 0x65)],
+        None,
+    ),
+    (
+        "a length of 11",
+        [(39, 0x0b), (40, 0x00), (41, 0x00), (41, 0x00)],
+        None,
+    ),
+    (
+        "a length of 13",
+        [(39, 0x0d), (40, 0x00), (41, 0x00), (41, 0x00)],
+        None,
+    ),
+    (
+        "an IPv4 length of 31",
+        [(17, 0x1f), (25, 0xcb), (45, 0x64), (45, 0x64)],
+        None,
+    ),
+    (
+        "a sum of ffff",
+        [(40, 0xff), (41, 0xff), (42, 0xb1), (43, 0x95)],
+        SUMMED,
+    ),
+];
+
+/// The first row by which the datagram says something else.
+fn first_other<'a>(rows: &[(&'a str, [(usize, u8); 4], Said)]) -> &'a str {
+    for (what, edits, want) in rows {
+        if said(&with(DATAGRAM, edits)) != *want {
+            return what;
+        }
+    }
+    "none"
+}
+
 #[test]
 fn datagrams_that_may_be_merged(rt: HostRuntime) {
-    let summed = Some((Leaf::Udp, false, 0, 4));
-    assert_eq!(rt; said(&DATAGRAM), summed);
-    assert_eq!(rt; said(&OVER_IP6), summed);
-    assert_eq!(rt; said(&IN_VXLAN), summed);
-    let cases = [
-        (
-            "no sum",
-            [(40, 0x00), (41, 0x00), (45, 0x64)],
-            Some((Leaf::Udp, true, 0, 4)),
-        ),
-        ("another sum", [(41, 0x32), (45, 0x64), (45, 0x64)], None),
-        (
-            "another payload",
-            [(45, 0x65), (45, 0x65), (45, 0x65)],
-            None,
-        ),
-        ("a length of 11", [(39, 0x0b), (40, 0x00), (41, 0x00)], None),
-        ("a length of 13", [(39, 0x0d), (40, 0x00), (41, 0x00)], None),
-        (
-            "an IPv4 length of 31",
-            [(17, 0x1f), (25, 0xcb), (45, 0x64)],
-            None,
-        ),
-    ];
-    for (what, edits, want) in cases {
-        let mut frame = DATAGRAM;
-        change(&mut frame, &edits);
-        assert!(rt; said(&frame) == want, "{what}");
-    }
-    let mut zero = DATAGRAM;
-    change(&mut zero, &[(40, 0xff), (41, 0xff), (42, 0xb1), (43, 0x95)]);
-    assert_eq!(rt; said(&zero), summed);
+    assert_eq!(rt; first_other(&CASES), "none");
     // Without payload, and in a tunnel without an inner sum.
-    assert!(rt; has_shape(&EMPTY, 3, 42) && said(&EMPTY).is_none());
-    let mut inner = IN_VXLAN;
-    change(&mut inner, &[(90, 0x00), (91, 0x00)]);
-    assert_eq!(rt; said(&inner), Some((Leaf::Udp, true, 0, 4)));
+    let inner = with(IN_VXLAN, &[(90, 0x00), (91, 0x00)]);
+    let seen = [
+        said(&DATAGRAM),
+        said(&OVER_IP6),
+        said(&IN_VXLAN),
+        said(&EMPTY),
+        said(&inner),
+    ];
+    assert_eq!(rt;
+        (seen, has_shape(&EMPTY, 3, 42)),
+        ([SUMMED, SUMMED, SUMMED, None, UNSUMMED], true)
+    );
 }

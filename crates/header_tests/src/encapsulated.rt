@@ -2,7 +2,7 @@
 ghost use Rattle.std.specs.Prelude.{◌≡◌, ◌+◌, length};
 
 use crate::datagrams::IN_VXLAN;
-use crate::layouts::{change, has_shape, is_candidate};
+use crate::layouts::{first_with_shape, has_flow, has_shape, is_candidate, with};
 use frame_layout::key;
 
 /// Ethernet, IPv4, GRE without a key, IPv4, TCP, and four bytes.
@@ -61,43 +61,44 @@ const KEYED_FLOW: [u8; 42] = [
 
 #[test]
 fn shapes_and_flows(rt: HostRuntime) {
-    assert!(rt; has_shape(&PLAIN, 5, 78) && is_candidate(&PLAIN));
-    assert!(rt; has_shape(&KEYED, 5, 82) && is_candidate(&KEYED));
-    assert!(rt; has_shape(&OVER_IP6, 5, 118) && is_candidate(&OVER_IP6));
-    assert!(rt; has_shape(&DATAGRAM, 5, 70) && is_candidate(&DATAGRAM));
-    assert_eq!(rt; key(&PLAIN).bytes(), Some(FLOW.as_slice()));
-    assert_eq!(rt; key(&KEYED).bytes(), Some(KEYED_FLOW.as_slice()));
-    let mut other = KEYED;
-    change(&mut other, &[(41, 8)]);
-    assert!(rt; is_candidate(&other) && key(&other) != key(&KEYED));
+    let other = with(KEYED, &[(41, 8)]);
+    let are_so = [
+        has_shape(&PLAIN, 5, 78) && is_candidate(&PLAIN),
+        has_shape(&KEYED, 5, 82) && is_candidate(&KEYED),
+        has_shape(&OVER_IP6, 5, 118) && is_candidate(&OVER_IP6),
+        has_shape(&DATAGRAM, 5, 70) && is_candidate(&DATAGRAM),
+        has_flow(&PLAIN, &FLOW),
+        has_flow(&KEYED, &KEYED_FLOW),
+        is_candidate(&other),
+        key(&other) != key(&KEYED),
+    ];
+    assert_eq!(rt; are_so, [true; 8]);
 }
+
+static CASES: [(&str, [(usize, u8); 2]); 7] = [
+    ("a sum", [(34, 0x80), (34, 0x80)]),
+    ("a sequence number", [(34, 0x10), (34, 0x10)]),
+    ("a key without its four bytes", [(34, 0x20), (34, 0x20)]),
+    ("another version", [(35, 0x01), (35, 0x01)]),
+    ("Ethernet within", [(36, 0x65), (37, 0x58)]),
+    ("a tag within", [(36, 0x81), (37, 0x00)]),
+    ("IPv6 said of IPv4", [(36, 0x86), (37, 0xdd)]),
+];
 
 #[test]
 fn tunnels_that_have_no_shape(rt: HostRuntime) {
-    let cases = [
-        ("a sum", [(34, 0x80), (34, 0x80)]),
-        ("a sequence number", [(34, 0x10), (34, 0x10)]),
-        ("a key without its four bytes", [(34, 0x20), (34, 0x20)]),
-        ("another version", [(35, 0x01), (35, 0x01)]),
-        ("Ethernet within", [(36, 0x65), (37, 0x58)]),
-        ("a tag within", [(36, 0x81), (37, 0x00)]),
-        ("IPv6 said of IPv4", [(36, 0x86), (37, 0xdd)]),
+    assert_eq!(rt; first_with_shape(PLAIN, &CASES), "none");
+    let have_none = [
+        // With 4 to 7 bytes behind the IPv4 header, of the 8 that a header with a key has.
+        has_shape(&KEYED[..38], 0, 0),
+        has_shape(&KEYED[..39], 0, 0),
+        has_shape(&KEYED[..40], 0, 0),
+        has_shape(&KEYED[..41], 0, 0),
+        // Datagrams to the ports of tunnels.
+        has_shape(&with(DATAGRAM, &[(64, 0x12), (65, 0xb5)]), 0, 0),
+        has_shape(&with(DATAGRAM, &[(64, 0x21), (65, 0x18)]), 0, 0),
     ];
-    for (what, edits) in cases {
-        let mut frame = PLAIN;
-        change(&mut frame, &edits);
-        assert!(rt; has_shape(&frame, 0, 0), "{what}");
-    }
-    // With 4 to 7 bytes behind the IPv4 header, of the 8 that a header with a key has.
-    for end in 38..42 {
-        assert!(rt; has_shape(&KEYED[..end], 0, 0));
-    }
-    // Datagrams to the ports of tunnels.
-    for port in [[0x12, 0xb5], [0x21, 0x18]] {
-        let mut frame = DATAGRAM;
-        change(&mut frame, &[(64, port[0]), (65, port[1])]);
-        assert!(rt; has_shape(&frame, 0, 0));
-    }
+    assert_eq!(rt; have_none, [true; 6]);
 }
 
 /// Bytes, and others behind them.
@@ -115,9 +116,12 @@ fn joined<const N: usize>(front: &[u8], back: &[u8]) -> [u8; N]
 fn tunnels_in_tunnels(rt: HostRuntime) {
     // Up to the inner IP header, and up to the inner Ethernet header.
     let (gre, vxlan) = (&PLAIN[..38], &IN_VXLAN[..50]);
-    assert!(rt; has_shape(&joined::<82>(gre, &PLAIN[38..]), 5, 78));
-    assert!(rt; has_shape(&joined::<106>(gre, &PLAIN[14..]), 0, 0));
-    assert!(rt; has_shape(&joined::<120>(gre, &IN_VXLAN[14..]), 0, 0));
-    assert!(rt; has_shape(&joined::<96>(vxlan, &IN_VXLAN[50..]), 7, 92));
-    assert!(rt; has_shape(&joined::<132>(vxlan, &PLAIN), 0, 0));
+    let are_so = [
+        has_shape(&joined::<82>(gre, &PLAIN[38..]), 5, 78),
+        has_shape(&joined::<106>(gre, &PLAIN[14..]), 0, 0),
+        has_shape(&joined::<120>(gre, &IN_VXLAN[14..]), 0, 0),
+        has_shape(&joined::<96>(vxlan, &IN_VXLAN[50..]), 7, 92),
+        has_shape(&joined::<132>(vxlan, &PLAIN), 0, 0),
+    ];
+    assert_eq!(rt; are_so, [true; 5]);
 }

@@ -6,39 +6,51 @@ const FRAME: [u8; 22] = [
     0x81, 0x00, 0x00, 0x64, 0x08, 0x00,
 ];
 
+/// Destination and source, and the type.
+fn ethernet_fields() -> Option<([[u8; 6]; 2], u16)> {
+    let header = EthView::read(&FRAME, 0)?;
+    Some(([header.destination(), header.source()], header.ether_type()))
+}
+
+/// The tag at this place, and the type behind it.
+fn tag_fields(at: usize) -> Option<[u16; 2]> {
+    let tag = TagView::read(&FRAME, at)?;
+    Some([tag.tci(), tag.next_type()])
+}
+
 #[test]
 fn fields_of_a_tagged_frame(rt: HostRuntime) {
-    let Some(ethernet) = EthView::read(&FRAME, 0) else {
-        panic!(rt; "no Ethernet header");
-    };
+    let ends = [
+        [0x02, 0x00, 0x00, 0x00, 0x00, 0x02],
+        [0x02, 0x00, 0x00, 0x00, 0x00, 0x01],
+    ];
+    assert_eq!(rt; ethernet_fields(), Some((ends, 0x88a8)));
     assert_eq!(rt;
-        ethernet.destination(),
-        [0x02, 0x00, 0x00, 0x00, 0x00, 0x02]
+        [tag_fields(14), tag_fields(18)],
+        [Some([0x2005, 0x8100]), Some([0x0064, 0x0800])]
     );
-    assert_eq!(rt; ethernet.source(), [0x02, 0x00, 0x00, 0x00, 0x00, 0x01]);
-    assert_eq!(rt; ethernet.ether_type(), 0x88a8);
-    for (at, tci, next) in [(14, 0x2005, 0x8100), (18, 0x0064, 0x0800)] {
-        let Some(tag) = TagView::read(&FRAME, at) else {
-            panic!(rt; "no tag at {at}");
-        };
-        assert_eq!(rt; tag.tci(), tci);
-        assert_eq!(rt; tag.next_type(), next);
-    }
 }
 
 #[test]
 fn headers_that_are_cut(rt: HostRuntime) {
-    assert!(rt; EthView::read(&FRAME[..13], 0).is_none());
-    assert!(rt; EthView::read(&FRAME, 9).is_none());
-    assert!(rt; EthView::read(&FRAME, 8).is_some());
-    assert!(rt; TagView::read(&FRAME, 19).is_none());
-    assert!(rt; TagView::read(&FRAME, usize::MAX).is_none());
-    for (kind, tag) in [
-        (0x8100, true),
-        (0x88a8, true),
-        (0x9100, false),
-        (0x0800, false),
-    ] {
-        assert_eq!(rt; is_tag(kind), tag);
-    }
+    let there = [
+        EthView::read(&FRAME[..13], 0).is_some(),
+        EthView::read(&FRAME, 9).is_some(),
+        EthView::read(&FRAME, 8).is_some(),
+        TagView::read(&FRAME, 19).is_some(),
+        TagView::read(&FRAME, usize::MAX).is_some(),
+    ];
+    let tags = [
+        is_tag(0x8100),
+        is_tag(0x88a8),
+        is_tag(0x9100),
+        is_tag(0x0800),
+    ];
+    assert_eq!(rt;
+        (there, tags),
+        (
+            [false, false, true, false, false],
+            [true, true, false, false]
+        )
+    );
 }

@@ -7,7 +7,7 @@ use std::test::Fail;
 use tap_filter::{Bytes, FilterFault, Instr, Program, never_stuck, parse_filter};
 use worked_captures::FIRST;
 
-const LOADS: [(&str, u32); 17] = [
+static LOADS: [(&str, u32); 17] = [
     // a word
     ("2,32 0 0 26,22 0 0 0", 167772161),
     // the last word
@@ -44,7 +44,7 @@ const LOADS: [(&str, u32); 17] = [
     ("3,1 0 0 24,80 0 0 4294967295,22 0 0 0", 0),
 ];
 
-const REGISTERS: [(&str, u32); 12] = [
+static REGISTERS: [(&str, u32); 12] = [
     // A is k
     ("2,0 0 0 4294967295,22 0 0 0", 4294967295),
     // A is 0 at first
@@ -71,7 +71,7 @@ const REGISTERS: [(&str, u32); 12] = [
     ("4,0 0 0 77,7 0 0 0,12 0 0 0,22 0 0 0", 154),
 ];
 
-const ARITHMETIC: [(&str, u32); 29] = [
+static ARITHMETIC: [(&str, u32); 29] = [
     // add
     ("3,0 0 0 4294967295,4 0 0 3,22 0 0 0", 2),
     // add X
@@ -132,7 +132,7 @@ const ARITHMETIC: [(&str, u32); 29] = [
     ("2,132 0 0 0,22 0 0 0", 0),
 ];
 
-const JUMPS: [(&str, u32); 22] = [
+static JUMPS: [(&str, u32); 22] = [
     // go on
     ("3,5 0 0 1,6 0 0 1,6 0 0 2", 2),
     // go on to the next
@@ -179,7 +179,7 @@ const JUMPS: [(&str, u32); 22] = [
     ("1,6 0 0 4294967295", 4294967295),
 ];
 
-const EXPRESSIONS: [(&str, u32); 9] = [
+static EXPRESSIONS: [(&str, u32); 9] = [
     // tcp port 5001
     (
         "20,40 0 0 12,21 0 6 34525,48 0 0 20,21 0 15 6,40 0 0 54,21 12 0 5001,40 0 0 56,\
@@ -279,7 +279,7 @@ fn fault_of(alloc: Global, text: &str) -> Option<FilterFault> {
 }
 
 /// The tests in their order, the first place that fails, and jumps to the end and over it.
-const FAULTS: [(&str, FilterFault); 19] = [
+static FAULTS: [(&str, FilterFault); 19] = [
     ("0", FilterFault::BadLength { count: 0 }),
     ("1,255 0 0 0", FilterFault::BadCode { at: 0 }),
     // the codes of a sum with neither k nor X, of a negation with X, and of a load of a byte with X alone
@@ -311,7 +311,7 @@ const FAULTS: [(&str, FilterFault); 19] = [
     ("1,6 0 0", FilterFault::BadText),
 ];
 
-const NO_TEXTS: [&str; 20] = [
+static NO_TEXTS: [&str; 20] = [
     "",
     "1",
     "0,",
@@ -335,7 +335,7 @@ const NO_TEXTS: [&str; 20] = [
 ];
 
 /// Jumps to the last instruction; the greatest numbers; ten digits. Where nothing jumps, jt and jf count for nothing.
-const TAKEN: [&str; 4] = [
+static TAKEN: [&str; 4] = [
     "3,21 1 1 0,6 0 0 0,6 0 0 0",
     "2,100 255 255 31,22 255 255 4294967295",
     "0000000001,0000000006 00 0 0000000001",
@@ -402,8 +402,10 @@ fn the_longest_program(rt: HostRuntime) -> Result<(), Fail> {
 }
 
 #[test]
-fn instructions_of_a_text(rt: HostRuntime) -> Result<(), Fail> {
-    let code = parse_filter(rt.alloc(), "2,37 1 255 4294967295,65535 2 3 4").map_err(|_| "a text")?;
+fn instructions_of_a_text(rt: HostRuntime) {
+    let Ok(code) = parse_filter(rt.alloc(), "2,37 1 255 4294967295,65535 2 3 4") else {
+        panic!(rt; "a text");
+    };
     let want = [
         Instr {
             code: 37,
@@ -419,7 +421,6 @@ fn instructions_of_a_text(rt: HostRuntime) -> Result<(), Fail> {
         },
     ];
     assert_eq!(rt; code.as_slice(), want.as_slice());
-    Ok(())
 }
 
 /// Two pieces, one behind the other.
@@ -448,8 +449,10 @@ impl<'a> Bytes for Pieces<'a> {
 
 /// A frame that is cut anywhere has the value that it has whole.
 #[test]
-fn a_cut_changes_no_value(rt: HostRuntime) -> Result<(), Fail> {
-    let program = Program::of_text(rt.alloc(), "2,32 0 0 26,22 0 0 0").map_err(|_| "a program")?;
+fn a_cut_changes_no_value(rt: HostRuntime) {
+    let Ok(program) = Program::of_text(rt.alloc(), "2,32 0 0 26,22 0 0 0") else {
+        panic!(rt; "a program");
+    };
     for at in 0..59usize {
         let pieces = Pieces {
             front: &FIRST[..at],
@@ -457,5 +460,4 @@ fn a_cut_changes_no_value(rt: HostRuntime) -> Result<(), Fail> {
         };
         assert_eq!(rt; program.value(&pieces), 0x0a000001);
     }
-    Ok(())
 }

@@ -20,7 +20,7 @@ const KEY: [u8; 40] = [
 ];
 
 /// Addresses and ports; the hash of the addresses, and of all.
-const OVER_IP4: [([u8; 12], u32, u32); 5] = [
+static OVER_IP4: [([u8; 12], u32, u32); 5] = [
     // 66.9.149.187 port 2794 to 161.142.100.80 port 1766
     (
         [
@@ -63,7 +63,7 @@ const OVER_IP4: [([u8; 12], u32, u32); 5] = [
     ),
 ];
 
-const OVER_IP6: [([u8; 36], u32, u32); 3] = [
+static OVER_IP6: [([u8; 36], u32, u32); 3] = [
     // 3ffe:2501:200:1fff::7 port 2794 to 3ffe:2501:200:3::1 port 1766
     (
         [
@@ -106,20 +106,23 @@ fn has_hash(hash_key: &HashKey, input: &[u8], hash: u32) -> bool
 #[test]
 fn hashes_of_the_verification_suite(rt: HostRuntime) {
     let hash_key = HashKey::of(&KEY);
-    for (input, addresses, all) in OVER_IP4 {
+    for (input, addresses, all) in &OVER_IP4 {
         assert!(rt;
-            has_hash(&hash_key, &input[..8], addresses) && has_hash(&hash_key, &input, all)
+            has_hash(&hash_key, &input[..8], *addresses) && has_hash(&hash_key, input, *all)
         );
     }
-    for (input, addresses, all) in OVER_IP6 {
+    for (input, addresses, all) in &OVER_IP6 {
         assert!(rt;
-            has_hash(&hash_key, &input[..32], addresses) && has_hash(&hash_key, &input, all)
+            has_hash(&hash_key, &input[..32], *addresses) && has_hash(&hash_key, input, *all)
         );
     }
     let mut one = [0u8; 12];
-    assert!(rt; has_hash(&hash_key, &one, 0) && has_hash(&hash_key, &[], 0));
     one[0] = 1;
-    assert!(rt; has_hash(&hash_key, &one, 0xad2b6d12));
+    assert!(rt;
+        has_hash(&hash_key, &[0; 12], 0)
+            && has_hash(&hash_key, &[], 0)
+            && has_hash(&hash_key, &one, 0xad2b6d12)
+    );
     hash_has_bits();
     hash_is_linear();
     rss_is_of_layers();
@@ -135,18 +138,19 @@ fn has_input(frame: &[u8], input: &[u8]) -> bool {
 /// The ports are those of a header directly behind the outermost IP header.
 #[test]
 fn what_is_hashed(rt: HostRuntime) {
-    assert!(rt; has_input(&FIRST, &[10, 0, 0, 1, 10, 0, 0, 2, 0x9c, 0x40, 0x13, 0x89]));
-    assert!(rt;
+    let are_hashed = [
+        has_input(&FIRST, &[10, 0, 0, 1, 10, 0, 0, 2, 0x9c, 0x40, 0x13, 0x89]),
         has_input(
             &DATAGRAM,
-            &[10, 0, 0, 1, 10, 0, 0, 2, 0xc3, 0x50, 0x13, 0x89]
-        )
-    );
-    assert!(rt; has_input(&PLAIN, &[10, 0, 0, 1, 10, 0, 0, 2]));
-    assert!(rt; has_input(&KEYED, &[10, 0, 0, 1, 10, 0, 0, 2]));
-    // Two tags, IPv6, and the UDP header of a tunnel.
-    assert!(rt; has_input(&TUNNEL, &TUNNEL[30..66]));
-    assert!(rt; has_input(&FIRST[..53], &[]));
+            &[10, 0, 0, 1, 10, 0, 0, 2, 0xc3, 0x50, 0x13, 0x89],
+        ),
+        has_input(&PLAIN, &[10, 0, 0, 1, 10, 0, 0, 2]),
+        has_input(&KEYED, &[10, 0, 0, 1, 10, 0, 0, 2]),
+        // Two tags, IPv6, and the UDP header of a tunnel.
+        has_input(&TUNNEL, &TUNNEL[30..66]),
+        has_input(&FIRST[..53], &[]),
+    ];
+    assert_eq!(rt; are_hashed, [true; 6]);
 }
 
 /// The first frame, from and to the ends of the suite's first row.
@@ -171,10 +175,15 @@ fn choice_of(queues: u32) -> Choice
 #[test]
 fn queues_by_hash(rt: HostRuntime) {
     let flow = key(&of_the_suite());
-    assert_eq!(rt; queue_by(&flow, &choice_of(4), 4), 0);
-    assert_eq!(rt; queue_by(&flow, &choice_of(7), 7), 1);
-    assert_eq!(rt; queue_by(&flow, &Choice::Fold, 7), queue_of(&flow, 7));
-    assert_eq!(rt; queue_by(&Key::other(), &choice_of(7), 7), 0);
+    let queues = [
+        queue_by(&flow, &choice_of(4), 4),
+        queue_by(&flow, &choice_of(7), 7),
+        queue_by(&flow, &Choice::Fold, 7),
+        queue_by(&Key::other(), &choice_of(7), 7),
+    ];
     let table = even_table(3);
-    assert_eq!(rt; (table.len(), table[0], table[127]), (128, 0, 1));
+    assert_eq!(rt;
+        (queues, table.len(), table[0], table[127]),
+        ([0, 1, queue_of(&flow, 7), 0], 128, 0, 1)
+    );
 }

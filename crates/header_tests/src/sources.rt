@@ -9,6 +9,14 @@ use std::test::Fail;
 
 const FIVE: [u8; 5] = [1, 2, 3, 4, 5];
 
+/// How many bytes a read of four gives, all of which are written.
+fn passed_on(source: &mut Feed<MemSource>, sink: &mut MemSink) -> Option<usize> {
+    let mut buffer = [0; 4];
+    let count = read_full(source, &mut buffer).ok()?;
+    write_all(sink, &buffer[..count]).ok()?;
+    Some(count)
+}
+
 #[test]
 fn whole_reads_and_writes(rt: HostRuntime) -> Result<(), Fail> {
     let alloc = rt.alloc();
@@ -19,19 +27,25 @@ fn whole_reads_and_writes(rt: HostRuntime) -> Result<(), Fail> {
             inner: MemSource::new(FIVE.to_vec(alloc)?, step, Vec::new(alloc)),
         };
         let mut sink = MemSink::new(alloc, step, Vec::new(alloc));
-        for want in [4, 1, 0] {
-            let mut buffer = [0; 4];
-            let count = read_full(&mut source, &mut buffer).map_err(|_| "no read fails")?;
-            assert_eq!(rt; count, want, "at step {step}");
-            write_all(&mut sink, &buffer[..count]).map_err(|_| "no write fails")?;
-        }
+        let counts = [
+            passed_on(&mut source, &mut sink),
+            passed_on(&mut source, &mut sink),
+            passed_on(&mut source, &mut sink),
+        ];
+        let flushed = (sink.is_flushed(), sink.flush(), sink.is_flushed());
+        assert_eq!(rt;
+            (counts, flushed, sink.refused()),
+            ([Some(4), Some(1), Some(0)], (false, Ok(()), true), 0),
+            "at step {step}"
+        );
         assert_eq!(rt; sink.bytes(), FIVE.as_slice());
-        assert!(rt; !sink.is_flushed());
-        assert_eq!(rt; sink.flush(), Ok(()));
-        assert!(rt; sink.is_flushed());
-        assert_eq!(rt; sink.refused(), 0);
     }
-    let mut sure = SureSource::new(FIVE.to_vec(alloc)?);
+    Ok(())
+}
+
+#[test]
+fn reads_and_writes_that_never_fail(rt: HostRuntime) -> Result<(), Fail> {
+    let mut sure = SureSource::new(FIVE.to_vec(rt.alloc())?);
     let mut buffer = [0; 8];
     assert_eq!(rt; read_full(&mut sure, &mut buffer), Ok(5));
     assert_eq!(rt; write_all(&mut SureSink::new(), &buffer), Ok(()));
@@ -43,17 +57,35 @@ fn listed_calls_fail(rt: HostRuntime) -> Result<(), Fail> {
     let alloc = rt.alloc();
     let mut source = MemSource::new(FIVE.to_vec(alloc)?, 2, [1, 3].to_vec(alloc)?);
     let mut buffer = [0; 4];
-    for want in [Ok(2), Err(Failed), Ok(2), Err(Failed), Ok(1), Ok(0)] {
-        assert_eq!(rt; source.read(&mut buffer), want);
-    }
+    let reads = [
+        source.read(&mut buffer),
+        source.read(&mut buffer),
+        source.read(&mut buffer),
+        source.read(&mut buffer),
+        source.read(&mut buffer),
+        source.read(&mut buffer),
+    ];
+    assert_eq!(rt;
+        reads,
+        [Ok(2), Err(Failed), Ok(2), Err(Failed), Ok(1), Ok(0)]
+    );
     // Calls 1 and 3 fail; a flush is counted as a write is.
     let mut sink = MemSink::new(alloc, 2, [1, 3].to_vec(alloc)?);
-    assert_eq!(rt; sink.write(&FIVE), Ok(2));
-    assert_eq!(rt; sink.write(&FIVE), Err(Failed));
-    assert_eq!(rt; sink.flush(), Ok(()));
-    assert_eq!(rt; sink.flush(), Err(Failed));
+    let writes = [sink.write(&FIVE), sink.write(&FIVE)];
+    let flushes = [sink.flush(), sink.flush()];
+    assert_eq!(rt;
+        (writes, flushes),
+        ([Ok(2), Err(Failed)], [Ok(()), Err(Failed)])
+    );
     assert_eq!(rt; sink.bytes(), [1, 2].as_slice());
     Ok(())
+}
+
+/// How many bytes a read of two gives, and which.
+fn pair_of<S: Source>(source: &mut S) -> (Option<usize>, [u8; 2]) {
+    let mut pair = [0; 2];
+    let count = read_full(source, &mut pair).ok();
+    (count, pair)
 }
 
 // Reads of two bytes, behind buffers of which some have fewer, as many, and more.
@@ -62,16 +94,26 @@ fn buffered_reads(rt: HostRuntime) -> Result<(), Fail> {
     for size in [1, 2, 3, 64] {
         let inner = BufReader::with_capacity(rt.alloc(), size, FIVE.as_slice())?;
         let mut source = BufferedSource::new(inner);
-        let mut pair = [0; 2];
-        for want in [[1, 2], [3, 4]] {
-            assert_eq!(rt; read_full(&mut source, &mut pair), Ok(2), "at size {size}");
-            assert_eq!(rt; pair, want, "at size {size}");
-        }
-        assert_eq!(rt; read_full(&mut source, &mut pair), Ok(1), "at size {size}");
-        assert_eq!(rt; pair[0], 5, "at size {size}");
-        assert_eq!(rt; source.read(&mut pair), Ok(0), "at size {size}");
+        let pairs = [pair_of(&mut source), pair_of(&mut source)];
+        let (count, pair) = pair_of(&mut source);
+        let end = source.read(&mut [0; 2]);
+        assert_eq!(rt;
+            (pairs, count, pair[0], end),
+            ([(Some(2), [1, 2]), (Some(2), [3, 4])], Some(1), 5, Ok(0)),
+            "at size {size}"
+        );
     }
     Ok(())
+}
+
+/// What two writes of two bytes and a flush answer; and whether one more write of two, for which there is room for one,
+/// fails, or the flush behind it.
+fn answers_of<K: Sink>(sink: &mut K) -> (bool, bool, bool, bool) {
+    let first = write_all(sink, &[1, 2]).is_ok();
+    let second = write_all(sink, &[3, 4]).is_ok();
+    let flushed = sink.flush().is_ok();
+    let refused = write_all(sink, &[5, 6]).is_err() || sink.flush().is_err();
+    (first, second, flushed, refused)
 }
 
 // Writes of two bytes, before buffers of which some have fewer, as many, and more.
@@ -79,17 +121,15 @@ fn buffered_reads(rt: HostRuntime) -> Result<(), Fail> {
 fn buffered_writes(rt: HostRuntime) -> Result<(), Fail> {
     for size in [1, 2, 3, 64] {
         let mut room = [0; 5];
-        {
+        let answers = {
             let inner = BufWriter::with_capacity(rt.alloc(), size, room.as_mut_slice())?;
-            let mut sink = BufferedSink::new(inner);
-            assert_eq!(rt; write_all(&mut sink, &[1, 2]), Ok(()), "at size {size}");
-            assert_eq!(rt; write_all(&mut sink, &[3, 4]), Ok(()), "at size {size}");
-            assert_eq!(rt; sink.flush(), Ok(()), "at size {size}");
-            // There is room for one byte more. What the buffer holds fails with the flush.
-            let is_taken = write_all(&mut sink, &[5, 6]).is_ok();
-            assert!(rt; !is_taken || sink.flush().is_err(), "at size {size}");
-        }
-        assert_eq!(rt; room, FIVE, "at size {size}");
+            answers_of(&mut BufferedSink::new(inner))
+        };
+        assert_eq!(rt;
+            (answers, room),
+            ((true, true, true, true), FIVE),
+            "at size {size}"
+        );
     }
     Ok(())
 }
@@ -98,12 +138,11 @@ fn buffered_writes(rt: HostRuntime) -> Result<(), Fail> {
 fn std_readers_and_writers(rt: HostRuntime) {
     let mut source = StdSource::new(FIVE.as_slice());
     let mut buffer = [0; 4];
-    assert_eq!(rt; read_full(&mut source, &mut buffer), Ok(4));
-    assert_eq!(rt; buffer, [1, 2, 3, 4]);
+    let count = read_full(&mut source, &mut buffer);
+    assert_eq!(rt; (count, buffer), (Ok(4), [1, 2, 3, 4]));
     // A slice that is full takes 0 bytes of a piece, which is a fault.
     let mut room = [0; 3];
     let mut sink = StdSink::new(room.as_mut_slice());
-    assert_eq!(rt; write_all(&mut sink, &[7, 8]), Ok(()));
-    assert_eq!(rt; write_all(&mut sink, &[9, 9]), Err(WriteFault));
-    assert_eq!(rt; sink.flush(), Ok(()));
+    let writes = [write_all(&mut sink, &[7, 8]), write_all(&mut sink, &[9, 9])];
+    assert_eq!(rt; (writes, sink.flush()), ([Ok(()), Err(WriteFault)], Ok(())));
 }

@@ -8,21 +8,23 @@ const TCP: [u8; 24] = [
 
 const UDP: [u8; 8] = [0xc3, 0x50, 0x12, 0xb5, 0x00, 0x6e, 0xab, 0xcd];
 
+/// Ports; sequence and acknowledgment; data offset, reserved bits and flags; window, sum and urgent pointer.
+fn tcp_fields(bytes: &[u8]) -> Option<([u16; 2], [u32; 2], [u8; 3], [u16; 3])> {
+    let header = TcpView::read(bytes, 0)?;
+    Some((
+        [header.source_port(), header.destination_port()],
+        [header.sequence(), header.acknowledgment()],
+        [header.data_offset(), header.reserved(), header.flags()],
+        [header.window(), header.sum(), header.urgent()],
+    ))
+}
+
 #[test]
 fn fields_of_tcp(rt: HostRuntime) {
-    let Some(header) = TcpView::read(&TCP, 0) else {
-        panic!(rt; "no header");
-    };
-    assert_eq!(rt; header.source_port(), 40000);
-    assert_eq!(rt; header.destination_port(), 5001);
-    assert_eq!(rt; header.sequence(), 1000);
-    assert_eq!(rt; header.acknowledgment(), 1);
-    assert_eq!(rt; header.data_offset(), 5);
-    assert_eq!(rt; header.reserved(), 0);
-    assert_eq!(rt; header.flags(), 0x10);
-    assert_eq!(rt; header.window(), 256);
-    assert_eq!(rt; header.sum(), 0x2255);
-    assert_eq!(rt; header.urgent(), 7);
+    assert_eq!(rt;
+        tcp_fields(&TCP),
+        Some(([40000, 5001], [1000, 1], [5, 0, 0x10], [256, 0x2255, 7]))
+    );
     let mut bytes = TCP;
     set_seq(&mut bytes, 0, 0xfedcba98);
     set_flags(&mut bytes, 0, 0x18);
@@ -36,33 +38,44 @@ fn fields_of_tcp(rt: HostRuntime) {
     );
 }
 
+/// Whether there is a header with this byte of the data offset.
+fn is_header(offset: u8) -> bool {
+    let mut bytes = TCP;
+    bytes[12] = offset;
+    TcpView::read(&bytes, 0).is_some()
+}
+
 #[test]
 fn tcp_headers_that_are_not_there(rt: HostRuntime) {
-    for (offset, there) in [
-        (0x40, false),
-        (0x50, true),
-        (0x60, true),
-        (0x70, false),
-        (0xf0, false),
-    ] {
-        let mut bytes = TCP;
-        bytes[12] = offset;
-        assert_eq!(rt; TcpView::read(&bytes, 0).is_some(), there);
-    }
-    assert!(rt; TcpView::read(&TCP[..19], 0).is_none());
-    assert!(rt; TcpView::read(&TCP, 5).is_none());
+    let there = [
+        is_header(0x40),
+        is_header(0x50),
+        is_header(0x60),
+        is_header(0x70),
+        is_header(0xf0),
+        TcpView::read(&TCP[..19], 0).is_some(),
+        TcpView::read(&TCP, 5).is_some(),
+    ];
+    assert_eq!(rt; there, [false, true, true, false, false, false, false]);
+}
+
+/// Ports, length and sum.
+fn udp_fields(at: usize) -> Option<[u16; 4]> {
+    let header = UdpView::read(&UDP, at)?;
+    Some([
+        header.source_port(),
+        header.destination_port(),
+        header.length(),
+        header.sum(),
+    ])
 }
 
 #[test]
 fn fields_of_udp(rt: HostRuntime) {
-    let Some(header) = UdpView::read(&UDP, 0) else {
-        panic!(rt; "no header");
-    };
-    assert_eq!(rt; header.source_port(), 50000);
-    assert_eq!(rt; header.destination_port(), 4789);
-    assert_eq!(rt; header.length(), 110);
-    assert_eq!(rt; header.sum(), 0xabcd);
-    assert!(rt; UdpView::read(&UDP, 1).is_none());
+    assert_eq!(rt;
+        [udp_fields(0), udp_fields(1)],
+        [Some([50000, 4789, 110, 0xabcd]), None]
+    );
     let mut bytes = UDP;
     set_udp_len(&mut bytes, 0, 0x0102);
     set_udp_sum(&mut bytes, 0, 0x0304);
