@@ -234,6 +234,21 @@ fn put(
     receive(rt, alloc, table, packet(rt, alloc, number, head, payload));
 }
 
+// A packet of this payload is received, numbered by its index: that, the bytes before it in its flow, and its flags.
+fn put_plain(
+    rt: &impl Abort,
+    alloc: Global,
+    table: &mut RoundTable,
+    place: (u16, u32, u8),
+    payload: &[u8],
+)
+    requires short { length payload.now ≤ 1000 }
+{
+    let (index, before, flags) = place;
+    let head = plain(index, before, flags, payload);
+    put(rt, alloc, table, u32::from(index), &head, payload);
+}
+
 // How many blocks are home once a table is given up.
 fn given_up(rt: &impl Abort, alloc: Global, table: RoundTable) -> usize {
     let mut outcomes = Outcomes::new(alloc);
@@ -279,6 +294,26 @@ pub(crate) fn spent(rt: &impl Abort, items: Vec<Item>, rows: &[Said]) -> usize {
     }
     items.destroy_empty();
     blocks
+}
+
+/// Whether there is a first item, whose buffer and head are so long, in so many blocks, with these bytes at these places.
+pub(crate) fn begins_with(items: &[Item], lengths: [usize; 3], parts: &[(usize, &[u8])]) -> bool {
+    let Some(item) = items.first() else {
+        return false;
+    };
+    let skb = &item.skb;
+    [skb.len(), skb.head().len(), skb.count()] == lengths && has_parts(skb, parts)
+}
+
+/// Whether a buffer has these bytes at these places.
+pub(crate) fn has_parts(skb: &Skb, parts: &[(usize, &[u8])]) -> bool {
+    for part in parts {
+        let (at, bytes) = *part;
+        if at >= 10_000 || bytes.len() >= 10_000 || !has_bytes(skb, at, bytes) {
+            return false;
+        }
+    }
+    true
 }
 
 // Whether a buffer has these bytes from a place on.

@@ -12,11 +12,11 @@ use frags::{Outcomes, PieceBuilder};
 use frames::{
     NESTED_500, PLAIN_2194, PLAIN_65495, PLAIN_SEGMENTS, TAGGED_500, TUNNEL, TUNNEL_SEGMENTS,
 };
+use pcap_io::AnyHead;
 use raw_block::{FULL, Released, Sole};
 use skb::{Returned, Skb};
 use std::alloc::Global;
 use std::process::Abort;
-use std::test::Fail;
 use worked_captures::MERGED;
 
 // Whether all frames were given, and so many blocks came home.
@@ -24,23 +24,54 @@ fn is_whole(given: &Given, frames: usize, blocks: usize) -> bool {
     given.is_done && given.weights.len() == frames && given.blocks == blocks
 }
 
+// Whether a record is cut into these frames, so many, with as many blocks home.
+fn is_cut<A: Abort>(
+    rt: &A,
+    alloc: Global,
+    head: &AnyHead,
+    skb: Skb,
+    bytes: &[u8],
+    whole: (usize, usize),
+) -> bool {
+    let given = cut_whole(rt, alloc, head, skb).expect(rt, "lawful");
+    given.bytes.as_slice() == bytes && is_whole(&given, whole.0, whole.1)
+}
+
+// The same by the digest of all frames.
+fn is_cut_to<A: Abort>(
+    rt: &A,
+    alloc: Global,
+    head: &AnyHead,
+    skb: Skb,
+    sum: u32,
+    whole: (usize, usize),
+) -> bool {
+    let given = cut_whole(rt, alloc, head, skb).expect(rt, "lawful");
+    digest(given.bytes.as_slice()) == sum && is_whole(&given, whole.0, whole.1)
+}
+
 #[test]
-fn worked_records_are_cut(rt: HostRuntime) -> Result<(), Fail> {
+fn worked_records_are_cut(rt: HostRuntime) {
     let alloc = rt.alloc();
     let plain = buffer(&rt, alloc, &MERGED, 60, 1);
-    let given = cut_whole(&rt, alloc, &merged(2, 4, 0), plain).expect(&rt, "lawful");
-    assert_eq!(rt; given.bytes.as_slice(), PLAIN_SEGMENTS.as_slice());
-    assert!(rt; is_whole(&given, 2, 3));
     let tunnel = buffer(&rt, alloc, &TUNNEL, 109, 1);
-    let given = cut_whole(&rt, alloc, &merged(2, 3, 1), tunnel).expect(&rt, "lawful");
-    assert_eq!(rt; given.bytes.as_slice(), TUNNEL_SEGMENTS.as_slice());
-    assert!(rt; is_whole(&given, 2, 3));
-    Ok(())
+    let are_cut = [
+        is_cut(&rt, alloc, &merged(2, 4, 0), plain, &PLAIN_SEGMENTS, (2, 3)),
+        is_cut(
+            &rt,
+            alloc,
+            &merged(2, 3, 1),
+            tunnel,
+            &TUNNEL_SEGMENTS,
+            (2, 3),
+        ),
+    ];
+    assert_eq!(rt; are_cut, [true; 2]);
 }
 
 // Kind, n, m, modes, lane; how many frames are given, how many bytes in all, and the bytes 18 and 19 and 38 to 41 of
 // the second: its identification and sequence number.
-const TAKEN: [(u8, u16, u16, u8, u8, usize, usize, [u8; 6]); 6] = [
+static TAKEN: [(u8, u16, u16, u8, u8, usize, usize, [u8; 6]); 6] = [
     (1, 2, 4, 0, 63, 2, 114, [0, 0x65, 0, 0, 3, 0xec]),
     (1, 2, 5, 0, 0, 2, 114, [0, 0x65, 0, 0, 3, 0xed]),
     (1, 2, 3, 0, 0, 2, 114, [0, 0x65, 0, 0, 3, 0xeb]),
@@ -65,53 +96,54 @@ fn are_said(bytes: &[u8], m: u16, frames: usize, size: usize, second: &[u8; 6]) 
 }
 
 #[test]
-fn each_kind_is_cut_in_both_versions(rt: HostRuntime) -> Result<(), Fail> {
+fn each_kind_is_cut_in_both_versions(rt: HostRuntime) {
     let alloc = rt.alloc();
-    for (kind, n, m, modes, lane, frames, size, second) in TAKEN {
-        for head in headers(kind, n, m, modes, lane) {
+    for (kind, n, m, modes, lane, frames, size, second) in &TAKEN {
+        for head in headers(*kind, *n, *m, *modes, *lane) {
             let skb = buffer(&rt, alloc, &MERGED, 60, 1);
             let given = cut_whole(&rt, alloc, &head, skb).expect(&rt, "lawful");
-            assert!(rt; is_whole(&given, frames, 1 + frames));
-            assert!(rt; are_said(given.bytes.as_slice(), m, frames, size, &second));
+            let bytes = given.bytes.as_slice();
+            assert!(rt;
+                *frames <= 2
+                    && is_whole(&given, *frames, 1 + *frames)
+                    && are_said(bytes, *m, *frames, *size, second)
+            );
         }
     }
-    Ok(())
 }
 
 // m, n, how many bytes the head has and each piece, the blocks, and the digest of all frames. From segment 65 on sums
 // aren't kept.
 type Row = (u32, u32, usize, usize, usize, u32);
 
-const TAGGED: [Row; 3] = [
+static TAGGED: [Row; 3] = [
     (7, 72, 200, 33, 86, 2_051_142_430),
     (250, 2, 622, 1, 3, 355_341_419),
     (499, 2, 300, 200, 5, 2_352_762_784),
 ];
 
-const NESTED: [Row; 3] = [
+static NESTED: [Row; 3] = [
     (7, 72, 200, 33, 89, 2_783_449_920),
     (100, 5, 200, 200, 9, 3_270_548_043),
     (201, 3, 700, 1, 4, 4_206_346_562),
 ];
 
-fn check_rows<A: Abort>(rt: &A, alloc: Global, frame: &[u8], rows: [Row; 3]) {
+fn check_rows<A: Abort>(rt: &A, alloc: Global, frame: &[u8], rows: &[Row; 3]) {
     for (m, n, of_head, of_piece, blocks, sum) in rows {
-        assert!(rt; of_head <= 1984 && 0 < of_piece && of_piece <= 1984);
-        let skb = buffer(rt, alloc, frame, of_head, of_piece);
-        let given = cut_whole(rt, alloc, &merged(n, m, 0), skb).expect(rt, "lawful");
-        assert!(rt; is_whole(&given, n as usize, blocks));
-        assert_eq!(rt; digest(given.bytes.as_slice()), sum);
+        assert!(rt; *of_head <= 1984 && 0 < *of_piece && *of_piece <= 1984);
+        let skb = buffer(rt, alloc, frame, *of_head, *of_piece);
+        let whole = (*n as usize, *blocks);
+        assert!(rt; is_cut_to(rt, alloc, &merged(*n, *m, 0), skb, *sum, whole));
     }
 }
 
 #[test]
-fn frames_in_pieces_are_cut(rt: HostRuntime) -> Result<(), Fail> {
+fn frames_in_pieces_are_cut(rt: HostRuntime) {
     let alloc = rt.alloc();
     let tagged = counted(&rt, alloc, &TAGGED_500, 500);
-    check_rows(&rt, alloc, tagged.as_slice(), TAGGED);
+    check_rows(&rt, alloc, tagged.as_slice(), &TAGGED);
     let nested = counted(&rt, alloc, &NESTED_500, 500);
-    check_rows(&rt, alloc, nested.as_slice(), NESTED);
-    Ok(())
+    check_rows(&rt, alloc, nested.as_slice(), &NESTED);
 }
 
 // The first 200 bytes, or all of fewer, are brought into a fresh head.
@@ -127,23 +159,27 @@ fn pull_headers<A: Abort>(rt: &A, alloc: Global, skb: &mut Skb, out: &mut Outcom
 }
 
 #[test]
-fn frames_whose_headers_lie_in_pieces_are_cut_once_pulled_up(rt: HostRuntime) -> Result<(), Fail> {
+fn frames_whose_headers_lie_in_pieces_are_cut_once_pulled_up(rt: HostRuntime) {
     let alloc = rt.alloc();
     let mut out = Outcomes::new(alloc);
     assert!(rt; out.reserve(40).is_ok());
     let mut plain = buffer(&rt, alloc, &MERGED, 0, 7);
     pull_headers(&rt, alloc, &mut plain, &mut out);
-    let given = cut_whole(&rt, alloc, &merged(2, 4, 0), plain).expect(&rt, "lawful");
-    assert_eq!(rt; given.bytes.as_slice(), PLAIN_SEGMENTS.as_slice());
-    assert!(rt; is_whole(&given, 2, 3));
     let frame = counted(&rt, alloc, &NESTED_500, 500);
     let mut nested = buffer(&rt, alloc, frame.as_slice(), 20, 33);
     pull_headers(&rt, alloc, &mut nested, &mut out);
-    let given = cut_whole(&rt, alloc, &merged(5, 100, 0), nested).expect(&rt, "lawful");
-    assert_eq!(rt; digest(given.bytes.as_slice()), 3_270_548_043);
-    assert!(rt; is_whole(&given, 5, 22));
-    assert_eq!(rt; home_of(out), 16);
-    Ok(())
+    let are_cut = [
+        is_cut(&rt, alloc, &merged(2, 4, 0), plain, &PLAIN_SEGMENTS, (2, 3)),
+        is_cut_to(
+            &rt,
+            alloc,
+            &merged(5, 100, 0),
+            nested,
+            3_270_548_043,
+            (5, 22),
+        ),
+    ];
+    assert_eq!(rt; (are_cut, home_of(out)), ([true; 2], 16));
 }
 
 // This frame: 200 bytes in the head, and 2,048 in a part that weighs no more, as little as `start` takes.
@@ -179,34 +215,38 @@ fn is_of_head(weights: &[u64]) -> bool {
     true
 }
 
+// Whether 2,194 frames weigh this: those of the head as they are cut off, and those of the part 1 each.
+fn are_weights(weights: &[u64]) -> bool {
+    if weights.len() != 2194 {
+        return false;
+    }
+    let (of_head, of_part) = weights.split_at(146);
+    for weight in of_part {
+        if *weight != 1 {
+            return false;
+        }
+    }
+    is_of_head(of_head)
+}
+
 #[test]
-fn a_part_no_heavier_than_its_bytes_is_cut_everywhere(rt: HostRuntime) -> Result<(), Fail> {
+fn a_part_no_heavier_than_its_bytes_is_cut_everywhere(rt: HostRuntime) {
     let alloc = rt.alloc();
     let mut out = Outcomes::new(alloc);
     assert!(rt; out.reserve(1).is_ok());
     let frame = counted(&rt, alloc, &PLAIN_2194, 2194);
     let skb = thin(&rt, alloc, frame.as_slice(), &mut out);
     let given = cut_whole(&rt, alloc, &merged(2194, 1, 0), skb).expect(&rt, "lawful");
-    assert_eq!(rt; home_of(out), 0);
-    assert!(rt; is_whole(&given, 2194, 2196));
-    assert_eq!(rt; digest(given.bytes.as_slice()), 3_625_064_795);
-    let weights = given.weights.as_slice();
-    assert!(rt; weights.len() == 2194);
-    let (of_head, of_part) = weights.split_at(146);
-    assert!(rt; is_of_head(of_head));
-    for weight in of_part {
-        assert_eq!(rt; *weight, 1);
-    }
-    Ok(())
+    let sum = digest(given.bytes.as_slice());
+    assert_eq!(rt; (home_of(out), sum), (0, 3_625_064_795));
+    assert!(rt; is_whole(&given, 2194, 2196) && are_weights(given.weights.as_slice()));
 }
 
 #[test]
-fn a_frame_as_long_as_may_be_is_cut_byte_by_byte(rt: HostRuntime) -> Result<(), Fail> {
+fn a_frame_as_long_as_may_be_is_cut_byte_by_byte(rt: HostRuntime) {
     let alloc = rt.alloc();
     let frame = counted(&rt, alloc, &PLAIN_65495, 65_495);
     let skb = buffer(&rt, alloc, frame.as_slice(), 1984, 1984);
-    let given = cut_whole(&rt, alloc, &merged(65_495, 1, 1), skb).expect(&rt, "lawful");
-    assert!(rt; is_whole(&given, 65_495, 65_529));
-    assert_eq!(rt; digest(given.bytes.as_slice()), 1_200_039_238);
-    Ok(())
+    let head = merged(65_495, 1, 1);
+    assert!(rt; is_cut_to(&rt, alloc, &head, skb, 1_200_039_238, (65_495, 65_529)));
 }

@@ -3,7 +3,7 @@ ghost use Rattle.std.specs.Prelude.{◌+◌, ◌≤◌, length};
 ghost use Rattle.gro.specs.Slots.{IsHeld};
 ghost use Rattle.merge_tests.specs.Numbered.{AreNumbered};
 
-use super::rounds::in_flow;
+use super::rounds::{Place, head_of};
 use super::{freed_slot, plain, slot};
 use gro::{Engine, Slot};
 use std::alloc::Global;
@@ -50,82 +50,77 @@ fn is_chain(engine: &Engine, place: usize, row: &[u32]) -> bool {
     run.more as usize + 1 == row.len() && run.last == index
 }
 
-// Packets of these headers and one payload, in runs of at most `segs`, come to these chains.
+// Whether the runs are the chains of these indices.
+fn are_chains(engine: &Engine, rows: &[&[u32]]) -> bool {
+    for i in 0..rows.len() {
+        if !is_chain(engine, i, rows[i]) {
+            return false;
+        }
+    }
+    engine.runs.len() == rows.len()
+}
+
+// Packets of one payload, in runs of at most `segs`, come to these chains.
 fn linked(
     rt: &impl Abort,
     alloc: Global,
     segs: u32,
-    heads: &[[u8; 54]],
+    places: &[Place],
     payload: &[u8],
     rows: &[&[u32]],
 )
-    requires few { length heads.now ≤ 4096 }
+    requires few { length places.now ≤ 4096 }
+    requires short { length payload.now ≤ 1000 }
 {
     let mut slots = Vec::new(alloc);
-    for i in 0..heads.len() {
-        let slot = slot(rt, alloc, i as u32, &heads[i], payload);
+    for i in 0..places.len() {
+        let head = head_of(&places[i], payload);
+        let slot = slot(rt, alloc, i as u32, &head, payload);
         append(rt, &mut slots, i as u32, slot);
     }
-    let mut engine = Engine::make(alloc, heads.len() as u32).expect(rt, "engine");
+    let mut engine = Engine::make(alloc, places.len() as u32).expect(rt, "engine");
     engine.merge(&slots, segs);
-    assert_eq!(rt; engine.runs.len(), rows.len());
-    for i in 0..rows.len() {
-        assert!(rt; is_chain(&engine, i, rows[i]));
-    }
+    assert!(rt; are_chains(&engine, rows));
     spent_slots(rt, alloc, slots);
 }
+
+static THREE_FLOWS: [Place; 6] = [
+    (0, 0, 0x10, 0, 1),
+    (0, 0, 0x10, 1, 1),
+    (1, 100, 0x10, 0, 1),
+    (0, 0, 0x10, 2, 1),
+    (1, 100, 0x10, 1, 1),
+    (2, 200, 0x10, 0, 1),
+];
+
+static CHAINS: [&[u32]; 3] = [&[0, 2, 5], &[1, 4], &[3]];
 
 /// Two flows in turn, and a packet of a third among them.
 #[test]
 fn flows_in_turn(rt: HostRuntime) {
-    let payload = [9; 100];
-    let heads = [
-        plain(0, 0, 0x10, &payload),
-        in_flow(plain(0, 0, 0x10, &payload), 1),
-        plain(1, 100, 0x10, &payload),
-        in_flow(plain(0, 0, 0x10, &payload), 2),
-        in_flow(plain(1, 100, 0x10, &payload), 1),
-        plain(2, 200, 0x10, &payload),
-    ];
-    linked(
-        &rt,
-        rt.alloc(),
-        4096,
-        &heads,
-        &payload,
-        &[&[0, 2, 5], &[1, 4], &[3]],
-    );
+    linked(&rt, rt.alloc(), 4096, &THREE_FLOWS, &[9; 100], &CHAINS);
 }
+
+static TWO_FLOWS: [Place; 6] = [
+    (0, 0, 0x10, 0, 1),
+    (1, 100, 0x10, 0, 1),
+    (0, 0, 0x10, 1, 1),
+    (2, 200, 0x10, 0, 1),
+    (3, 300, 0x10, 0, 1),
+    (4, 400, 0x10, 0, 1),
+];
+
+static CHAINS_OF_TWO: [&[u32]; 4] = [&[0, 1], &[2], &[3, 4], &[5]];
+
+static CHAINS_OF_THREE: [&[u32]; 3] = [&[0, 1, 3], &[2], &[4, 5]];
 
 /// A run that has as many packets as it may is followed by another, which is linked from its own first packet on.
 #[test]
 fn closed_by_their_number(rt: HostRuntime) {
-    let payload = [9; 100];
-    let heads = [
-        plain(0, 0, 0x10, &payload),
-        plain(1, 100, 0x10, &payload),
-        in_flow(plain(0, 0, 0x10, &payload), 1),
-        plain(2, 200, 0x10, &payload),
-        plain(3, 300, 0x10, &payload),
-        plain(4, 400, 0x10, &payload),
-    ];
     let alloc = rt.alloc();
-    linked(
-        &rt,
-        alloc,
-        2,
-        &heads,
-        &payload,
-        &[&[0, 1], &[2], &[3, 4], &[5]],
-    );
-    linked(
-        &rt,
-        alloc,
-        3,
-        &heads,
-        &payload,
-        &[&[0, 1, 3], &[2], &[4, 5]],
-    );
+    let payload = [9; 100];
+    linked(&rt, alloc, 2, &TWO_FLOWS, &payload, &CHAINS_OF_TWO);
+    linked(&rt, alloc, 3, &TWO_FLOWS, &payload, &CHAINS_OF_THREE);
 }
 
 /// The same engine over one list after another: what was linked before doesn't matter.
@@ -133,21 +128,12 @@ fn closed_by_their_number(rt: HostRuntime) {
 fn one_list_after_another(rt: HostRuntime) {
     let alloc = rt.alloc();
     let payload = [9; 100];
+    let (first, next) = (plain(0, 0, 0x10, &payload), plain(1, 100, 0x10, &payload));
     let mut engine = Engine::make(alloc, 2).expect(&rt, "engine");
     for turn in 0..3u32 {
         let mut slots = Vec::new(alloc);
-        append(
-            &rt,
-            &mut slots,
-            0,
-            slot(&rt, alloc, 0, &plain(0, 0, 0x10, &payload), &payload),
-        );
-        append(
-            &rt,
-            &mut slots,
-            1,
-            slot(&rt, alloc, 1, &plain(1, 100, 0x10, &payload), &payload),
-        );
+        append(&rt, &mut slots, 0, slot(&rt, alloc, 0, &first, &payload));
+        append(&rt, &mut slots, 1, slot(&rt, alloc, 1, &next, &payload));
         engine.start(2).expect(&rt, "room");
         engine.merge(&slots, if turn == 1 { 1 } else { 2 });
         assert!(rt; is_chain(&engine, 0, if turn == 1 { &[0] } else { &[0, 1] }));

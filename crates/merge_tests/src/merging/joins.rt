@@ -1,9 +1,12 @@
 //! The join into one buffer: bytes, heads, pieces and blocks.
 use super::{
-    checked, finished, frames, freed, has_bytes, packet, plain, put, receive, spent, table_for,
+    begins_with, checked, finished, frames, freed, has_bytes, has_parts, packet, plain, put,
+    put_plain, receive, spent, table_for,
 };
 use frags::Outcomes;
-use std::test::Fail;
+use gro::Item;
+use std::alloc::Global;
+use std::process::Abort;
 
 // The bytes that count up from one.
 pub(super) fn counting<const N: usize>(first: u8) -> [u8; N] {
@@ -14,28 +17,42 @@ pub(super) fn counting<const N: usize>(first: u8) -> [u8; N] {
     bytes
 }
 
+// The items of a packet of 160 bytes and the next one of 100, numbered 7 and 8.
+fn of_two(rt: &impl Abort, alloc: Global) -> Vec<Item> {
+    let mut table = table_for(rt, alloc, 2);
+    put(
+        rt,
+        alloc,
+        &mut table,
+        7,
+        &frames::PLAIN_FIRST,
+        &counting::<160>(1),
+    );
+    put(
+        rt,
+        alloc,
+        &mut table,
+        8,
+        &frames::PLAIN_NEXT,
+        &counting::<100>(0x32),
+    );
+    finished(rt, alloc, table)
+}
+
 /// Payloads of 160 and 100 bytes, the second with PSH: the head has 146 bytes of the first, and two pieces the rest.
 #[test]
 fn two_become_one(rt: HostRuntime) {
-    let alloc = rt.alloc();
-    let payload = counting::<160>(1);
-    let other = counting::<100>(0x32);
-    assert_eq!(rt; plain(0, 0, 0x10, &payload), frames::PLAIN_FIRST);
-    assert_eq!(rt; plain(1, 160, 0x18, &other), frames::PLAIN_NEXT);
-    let mut table = table_for(&rt, alloc, 2);
-    put(&rt, alloc, &mut table, 7, &frames::PLAIN_FIRST, &payload);
-    put(&rt, alloc, &mut table, 8, &frames::PLAIN_NEXT, &other);
-    let items = finished(&rt, alloc, table);
+    let (payload, other) = (counting::<160>(1), counting::<100>(0x32));
+    assert_eq!(rt;
+        [plain(0, 0, 0x10, &payload), plain(1, 160, 0x18, &other)],
+        [frames::PLAIN_FIRST, frames::PLAIN_NEXT]
+    );
+    let items = of_two(&rt, rt.alloc());
     assert!(rt; items.len() == 1);
     let item = &items[0];
     assert_eq!(rt; (item.original, item.sec, item.frac), (314, 1, 2));
-    assert_eq!(rt;
-        (item.skb.len(), item.skb.head().len(), item.skb.count()),
-        (314, 200, 3)
-    );
-    assert!(rt; has_bytes(&item.skb, 0, &frames::PLAIN_MERGED));
-    assert!(rt; has_bytes(&item.skb, 54, &payload));
-    assert!(rt; has_bytes(&item.skb, 214, &other));
+    let parts: [(usize, &[u8]); 3] = [(0, &frames::PLAIN_MERGED), (54, &payload), (214, &other)];
+    assert!(rt; begins_with(&items, [314, 200, 3], &parts));
     assert_eq!(rt; spent(&rt, items, &[(7, 2, 160, 0)]), 6);
 }
 
@@ -46,38 +63,12 @@ fn a_shorter_one_ends_the_run(rt: HostRuntime) {
     let payload = counting::<100>(1);
     let other = counting::<60>(101);
     let mut table = table_for(&rt, alloc, 3);
-    put(
-        &rt,
-        alloc,
-        &mut table,
-        0,
-        &plain(0, 0, 0x10, &payload),
-        &payload,
-    );
-    put(
-        &rt,
-        alloc,
-        &mut table,
-        1,
-        &plain(1, 100, 0x10, &other),
-        &other,
-    );
-    put(
-        &rt,
-        alloc,
-        &mut table,
-        2,
-        &plain(2, 160, 0x10, &payload),
-        &payload,
-    );
+    put_plain(&rt, alloc, &mut table, (0, 0, 0x10), &payload);
+    put_plain(&rt, alloc, &mut table, (1, 100, 0x10), &other);
+    put_plain(&rt, alloc, &mut table, (2, 160, 0x10), &payload);
     let items = finished(&rt, alloc, table);
-    assert!(rt; items.len() == 2);
-    let item = &items[0];
-    assert_eq!(rt;
-        (item.skb.len(), item.skb.head().len(), item.skb.count()),
-        (214, 200, 2)
-    );
-    assert!(rt; has_bytes(&item.skb, 54, &payload) && has_bytes(&item.skb, 154, &other));
+    let parts: [(usize, &[u8]); 2] = [(54, &payload), (154, &other)];
+    assert!(rt; items.len() == 2 && begins_with(&items, [214, 200, 2], &parts));
     assert_eq!(rt; spent(&rt, items, &[(0, 2, 100, 0), (2, 1, 0, 0)]), 9);
 }
 
@@ -89,18 +80,12 @@ fn the_head_is_filled_from_many(rt: HostRuntime) {
     let mut table = table_for(&rt, alloc, 150);
     for i in 0..150 {
         let payload = &bytes[i..i + 1];
-        let head = plain(i as u16, i as u32, 0x10, payload);
-        put(&rt, alloc, &mut table, i as u32, &head, payload);
+        put_plain(&rt, alloc, &mut table, (i as u16, i as u32, 0x10), payload);
     }
     let items = finished(&rt, alloc, table);
-    assert!(rt; items.len() == 1);
-    let item = &items[0];
-    assert_eq!(rt;
-        (item.skb.len(), item.skb.head().len(), item.skb.count()),
-        (204, 200, 5)
-    );
-    assert!(rt; has_bytes(&item.skb, 0, &plain(0, 0, 0x10, &bytes)));
-    assert!(rt; has_bytes(&item.skb, 54, &bytes));
+    let head = plain(0, 0, 0x10, &bytes);
+    let parts: [(usize, &[u8]); 2] = [(0, &head), (54, &bytes)];
+    assert!(rt; items.len() == 1 && begins_with(&items, [204, 200, 5], &parts));
     assert_eq!(rt; spent(&rt, items, &[(0, 150, 1, 0)]), 450);
 }
 
@@ -112,15 +97,21 @@ fn the_head_is_headers_alone(rt: HostRuntime) {
     put(&rt, alloc, &mut table, 0, &frames::TUNNELLED_FIRST, &[]);
     put(&rt, alloc, &mut table, 1, &frames::TUNNELLED_NEXT, &[]);
     let items = finished(&rt, alloc, table);
-    assert!(rt; items.len() == 1);
-    let item = &items[0];
-    assert_eq!(rt; item.original, 217);
-    assert_eq!(rt;
-        (item.skb.len(), item.skb.head().len(), item.skb.count()),
-        (217, 200, 3)
-    );
-    assert!(rt; has_bytes(&item.skb, 0, &frames::TUNNELLED_MERGED));
+    assert!(rt; items.len() == 1 && items[0].original == 217);
+    let parts: [(usize, &[u8]); 1] = [(0, &frames::TUNNELLED_MERGED)];
+    assert!(rt; begins_with(&items, [217, 200, 3], &parts));
     assert_eq!(rt; spent(&rt, items, &[(0, 2, 11, 0)]), 6);
+}
+
+// Whether an item of both packets has a head of its own.
+fn is_merged(items: &[Item]) -> bool {
+    let Some(item) = items.first() else {
+        return false;
+    };
+    let skb = &item.skb;
+    let payload = counting::<160>(1);
+    let parts: [(usize, &[u8]); 2] = [(0, &frames::PLAIN_MERGED), (54, &payload)];
+    skb.len() == 314 && skb.head().len() == 200 && skb.head_is_sole() && has_parts(skb, &parts)
 }
 
 /// Heads that are parts while clones live: nothing is written in them, and a tap reads what arrived.
@@ -137,19 +128,13 @@ fn clones_keep_their_bytes(rt: HostRuntime) {
     receive(&rt, alloc, &mut table, checked(&rt, first));
     receive(&rt, alloc, &mut table, checked(&rt, next));
     let items = finished(&rt, alloc, table);
-    assert!(rt; items.len() == 1);
-    let item = &items[0];
-    assert_eq!(rt; (item.skb.len(), item.skb.head().len()), (314, 200));
-    assert!(rt; item.skb.head_is_sole());
-    assert!(rt;
-        has_bytes(&item.skb, 0, &frames::PLAIN_MERGED) && has_bytes(&item.skb, 54, &payload)
-    );
+    assert!(rt; items.len() == 1 && is_merged(&items));
     assert!(rt; has_bytes(&one, 0, &frames::PLAIN_FIRST) && has_bytes(&one, 54, &payload));
     assert!(rt; has_bytes(&two, 0, &frames::PLAIN_NEXT) && has_bytes(&two, 54, &other));
-    assert_eq!(rt; spent(&rt, items, &[(0, 2, 160, 0)]), 4);
-    let blocks = (
+    let blocks = [
+        spent(&rt, items, &[(0, 2, 160, 0)]),
         freed(&rt, one, Outcomes::new(alloc)),
         freed(&rt, two, Outcomes::new(alloc)),
-    );
-    assert_eq!(rt; blocks, (1, 1));
+    ];
+    assert_eq!(rt; blocks, [4, 1, 1]);
 }

@@ -4,7 +4,8 @@ use super::frames::{
     KEYED_GRE_FIRST, KEYED_GRE_MERGED, KEYED_GRE_NEXT, TUNNELLED_DATAGRAM_FIRST,
     TUNNELLED_DATAGRAM_MERGED, TUNNELLED_DATAGRAM_NEXT,
 };
-use super::{Said, finished, has_bytes, put, spent, table_for};
+use super::{Said, finished, has_parts, put, spent, table_for};
+use gro::Item;
 use std::alloc::Global;
 use std::process::Abort;
 
@@ -21,7 +22,7 @@ fn come_to(
     headers: &[u8],
     rows: &[Said],
 ) {
-    assert!(rt; packets.len() <= 8 && headers.len() <= 200);
+    assert!(rt; packets.len() <= 8);
     let mut table = table_for(rt, alloc, 8);
     for (number, (head, size)) in packets.iter().enumerate() {
         put(
@@ -34,8 +35,29 @@ fn come_to(
         );
     }
     let items = finished(rt, alloc, table);
-    assert!(rt; !items.is_empty() && has_bytes(&items[0].skb, 0, headers));
+    assert!(rt; is_of_headers(&items, headers));
     assert_eq!(rt; spent(rt, items, rows), packets.len() * 3);
+}
+
+// Whether the first item has these headers.
+fn is_of_headers(items: &[Item], headers: &[u8]) -> bool {
+    match items.first() {
+        Some(item) => has_parts(&item.skb, &[(0, headers)]),
+        None => false,
+    }
+}
+
+// The same of two, with as much payload each.
+fn pair_comes_to(
+    rt: &impl Abort,
+    alloc: Global,
+    pair: (&[u8], &[u8]),
+    size: usize,
+    headers: &[u8],
+    rows: &[Said],
+) {
+    let (first, next) = pair;
+    come_to(rt, alloc, &[(first, size), (next, size)], headers, rows);
 }
 
 // The headers with another byte at a place.
@@ -68,36 +90,34 @@ fn datagrams(rt: HostRuntime) {
     let (bare, behind, end) = (unsummed(&first), unsummed(&next), unsummed(&last));
     let none: [(&[u8], usize); 3] = [(&bare, 500), (&behind, 500), (&end, 200)];
     come_to(&rt, alloc, &none, &unsummed(&DATAGRAM_MERGED), &rows);
-    come_to(&rt, alloc, &[(&bare, 500), (&next, 500)], &bare, &SINGLES);
-    come_to(
-        &rt,
-        alloc,
-        &[(&first, 500), (&behind, 500)],
-        &first,
-        &SINGLES,
-    );
+    pair_comes_to(&rt, alloc, (&bare, &next), 500, &bare, &SINGLES);
+    pair_comes_to(&rt, alloc, (&first, &behind), 500, &first, &SINGLES);
+}
+
+// Two datagrams to this port are alone.
+fn none_merges(rt: &impl Abort, alloc: Global, high: u8, low: u8) {
+    let first = to_port(&unsummed(&DATAGRAM_FIRST), high, low);
+    let next = to_port(&unsummed(&DATAGRAM_NEXT), high, low);
+    pair_comes_to(rt, alloc, (&first, &next), 500, &first, &SINGLES);
 }
 
 /// To the ports of tunnels no datagrams go that are merged.
 #[test]
 fn datagrams_to_ports_of_tunnels(rt: HostRuntime) {
     let alloc = rt.alloc();
-    for (high, low) in [(0x12, 0xb5), (0x21, 0x18)] {
-        let first = to_port(&unsummed(&DATAGRAM_FIRST), high, low);
-        let next = to_port(&unsummed(&DATAGRAM_NEXT), high, low);
-        come_to(&rt, alloc, &[(&first, 500), (&next, 500)], &first, &SINGLES);
-    }
+    none_merges(&rt, alloc, 0x12, 0xb5);
+    none_merges(&rt, alloc, 0x21, 0x18);
 }
 
 #[test]
 fn datagrams_in_a_tunnel(rt: HostRuntime) {
-    let alloc = rt.alloc();
-    let (first, next) = (TUNNELLED_DATAGRAM_FIRST, TUNNELLED_DATAGRAM_NEXT);
+    let pair: (&[u8], &[u8]) = (&TUNNELLED_DATAGRAM_FIRST, &TUNNELLED_DATAGRAM_NEXT);
     let rows = [(0, 2, 500, 0)];
-    come_to(
+    pair_comes_to(
         &rt,
-        alloc,
-        &[(&first, 500), (&next, 500)],
+        rt.alloc(),
+        pair,
+        500,
         &TUNNELLED_DATAGRAM_MERGED,
         &rows,
     );
@@ -109,35 +129,11 @@ fn frames_in_gre(rt: HostRuntime) {
     let alloc = rt.alloc();
     let rows = [(0, 2, 1000, 0)];
     let (first, next) = (GRE_FIRST, GRE_NEXT);
-    come_to(
-        &rt,
-        alloc,
-        &[(&first, 1000), (&next, 1000)],
-        &GRE_MERGED,
-        &rows,
-    );
+    pair_comes_to(&rt, alloc, (&first, &next), 1000, &GRE_MERGED, &rows);
     let (summed, behind) = (with(&first, 34, 0x80), with(&next, 34, 0x80));
-    come_to(
-        &rt,
-        alloc,
-        &[(&summed, 1000), (&behind, 1000)],
-        &summed,
-        &SINGLES,
-    );
+    pair_comes_to(&rt, alloc, (&summed, &behind), 1000, &summed, &SINGLES);
     let (first, next) = (KEYED_GRE_FIRST, KEYED_GRE_NEXT);
-    come_to(
-        &rt,
-        alloc,
-        &[(&first, 1000), (&next, 1000)],
-        &KEYED_GRE_MERGED,
-        &rows,
-    );
+    pair_comes_to(&rt, alloc, (&first, &next), 1000, &KEYED_GRE_MERGED, &rows);
     let other = with(&next, 41, 8);
-    come_to(
-        &rt,
-        alloc,
-        &[(&first, 1000), (&other, 1000)],
-        &first,
-        &SINGLES,
-    );
+    pair_comes_to(&rt, alloc, (&first, &other), 1000, &first, &SINGLES);
 }

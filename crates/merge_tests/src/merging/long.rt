@@ -77,38 +77,39 @@ fn items_of(rt: &impl Abort, alloc: Global, sizes: &[usize]) -> Vec<Item> {
     finished(rt, alloc, table)
 }
 
+static ROWS: [Row; 4] = [
+    (
+        &[32_758, 32_757],
+        &[(0, 2, 32_758, 0)],
+        65_589,
+        [0xff, 0xff, 0x75, 0xa0],
+    ),
+    (
+        &[32_758, 32_758],
+        &[(0, 2, 32_758, 0)],
+        65_590,
+        [0x00, 0x00, 0x75, 0x96],
+    ),
+    (
+        &[52_414; 5],
+        &[(0, 5, 52_414, 0)],
+        262_144,
+        [0x00, 0x00, 0xdc, 0x2f],
+    ),
+    (
+        &[52_415; 5],
+        &[(0, 4, 52_415, 0), (4, 1, 0, 0)],
+        209_734,
+        [0x00, 0x00, 0x8a, 0xcc],
+    ),
+];
+
 /// The payload length field says up to 65,535, and 0 from there on. A frame has at most 262,144 bytes.
 #[test]
 fn runs_over_ip6(rt: HostRuntime) {
-    let rows: [Row; 4] = [
-        (
-            &[32_758, 32_757],
-            &[(0, 2, 32_758, 0)],
-            65_589,
-            [0xff, 0xff, 0x75, 0xa0],
-        ),
-        (
-            &[32_758, 32_758],
-            &[(0, 2, 32_758, 0)],
-            65_590,
-            [0x00, 0x00, 0x75, 0x96],
-        ),
-        (
-            &[52_414; 5],
-            &[(0, 5, 52_414, 0)],
-            262_144,
-            [0x00, 0x00, 0xdc, 0x2f],
-        ),
-        (
-            &[52_415; 5],
-            &[(0, 4, 52_415, 0), (4, 1, 0, 0)],
-            209_734,
-            [0x00, 0x00, 0x8a, 0xcc],
-        ),
-    ];
-    for (sizes, said, len, fields) in rows {
+    for (sizes, said, len, fields) in &ROWS {
         let items = items_of(&rt, rt.alloc(), sizes);
-        assert!(rt; begins_with(&items, len, fields));
+        assert!(rt; begins_with(&items, *len, *fields));
         assert!(rt; spent(&rt, items, said) > 0);
     }
 }

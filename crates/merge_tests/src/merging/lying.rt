@@ -7,7 +7,7 @@ ghost use Rattle.merge_tests.specs.Numbered.{AreNumbered};
 use super::rounds::in_flow;
 use super::{finished, frames, freed, freed_slot, has_bytes, plain, put, slot, spent, table_for};
 use frags::Outcomes;
-use gro::{Engine, Packets, Slot};
+use gro::{Engine, Item, Packets, Slot};
 use pcap_io::OffHead2;
 use std::alloc::Global;
 use std::process::Abort;
@@ -88,6 +88,26 @@ fn three(rt: &impl Abort, alloc: Global) -> Packets
     packets
 }
 
+// Whether a packet of a list begins with these bytes.
+fn begins_so(slots: &[Slot], i: usize, bytes: &[u8; 54]) -> bool {
+    match slots.get(i) {
+        Some(slot) => has_bytes(&slot.skb, 0, bytes),
+        None => false,
+    }
+}
+
+// Which of three packets' heads are Soles.
+fn sole_heads(slots: &[Slot]) -> Option<[bool; 3]> {
+    if slots.len() != 3 {
+        return None;
+    }
+    Some([
+        slots[0].skb.head_is_sole(),
+        slots[1].skb.head_is_sole(),
+        slots[2].skb.head_is_sole(),
+    ])
+}
+
 /// A clone of the second packet: its head is shared where it lies, and the others' heads aren't.
 #[test]
 fn cloned_where_it_lies(rt: HostRuntime) {
@@ -95,12 +115,11 @@ fn cloned_where_it_lies(rt: HostRuntime) {
     let mut packets = three(&rt, alloc);
     assert!(rt; packets.len() == 3);
     let clone = packets.clone_at(1).expect(&rt, "a clone");
-    let slots = packets.slots();
-    assert!(rt; slots.len() == 3);
-    assert!(rt; has_bytes(&clone, 0, &frames::PLAIN_NEXT));
-    assert!(rt; has_bytes(&slots[1].skb, 0, &frames::PLAIN_NEXT));
-    assert!(rt; slots[0].skb.head_is_sole() && !slots[1].skb.head_is_sole());
-    assert!(rt; slots[2].skb.head_is_sole());
+    assert!(rt;
+        has_bytes(&clone, 0, &frames::PLAIN_NEXT)
+            && begins_so(packets.slots(), 1, &frames::PLAIN_NEXT)
+    );
+    assert_eq!(rt; sole_heads(packets.slots()), Some([true, false, true]));
     let blocks = popped(&rt, alloc, packets, &[2, 1, 0]);
     assert_eq!(rt; (blocks, freed(&rt, clone, Outcomes::new(alloc))), (2, 1));
 }
@@ -112,14 +131,14 @@ fn heads_shared(rt: HostRuntime) {
     let mut packets = three(&rt, alloc);
     let clone = packets.clone_at(0).expect(&rt, "a clone");
     packets.share_heads();
-    let slots = packets.slots();
-    assert!(rt; slots.len() == 3);
-    assert!(rt; has_bytes(&slots[0].skb, 0, &frames::PLAIN_FIRST));
-    assert!(rt; has_bytes(&slots[1].skb, 0, &frames::PLAIN_NEXT));
-    assert!(rt; !slots[0].skb.head_is_sole() && !slots[1].skb.head_is_sole());
-    assert!(rt; !slots[2].skb.head_is_sole());
-    assert_eq!(rt; freed(&rt, clone, Outcomes::new(alloc)), 0);
-    assert_eq!(rt; popped(&rt, alloc, packets, &[2, 1, 0]), 3);
+    assert!(rt;
+        begins_so(packets.slots(), 0, &frames::PLAIN_FIRST)
+            && begins_so(packets.slots(), 1, &frames::PLAIN_NEXT)
+    );
+    assert_eq!(rt; sole_heads(packets.slots()), Some([false; 3]));
+    let of_clone = freed(&rt, clone, Outcomes::new(alloc));
+    let blocks = popped(&rt, alloc, packets, &[2, 1, 0]);
+    assert_eq!(rt; (of_clone, blocks), (0, 3));
 }
 
 // What a run of an engine comes to: its offload header where it is of queue 3, and how long its headers, its frame and
@@ -180,14 +199,23 @@ fn what_runs_come_to(rt: HostRuntime) {
     engine.merge(slots, 4096);
     assert!(rt; engine.runs.len() == 2);
     let merged = said_of(slots, &engine, 0);
-    assert_eq!(rt; merged, (of_queue(1, 2, 160, 0), 54, 314, 314));
-    assert!(rt; has_headers(slots, &engine, 0, &frames::PLAIN_MERGED));
     let alone = said_of(slots, &engine, 1);
     assert_eq!(rt;
-        (alone.0, alone.2, alone.3),
-        (of_queue(0, 1, 0, 2), 214, 214)
+        (merged, alone.0, alone.2, alone.3),
+        (
+            (of_queue(1, 2, 160, 0), 54, 314, 314),
+            of_queue(0, 1, 0, 2),
+            214,
+            214
+        )
     );
+    assert!(rt; has_headers(slots, &engine, 0, &frames::PLAIN_MERGED));
     assert_eq!(rt; popped(&rt, alloc, packets, &[2, 1, 0]), 3);
+}
+
+// The same of an item.
+fn said_by(item: &Item) -> (OffHead2, usize, u32) {
+    (item.head(3), item.skb.len(), item.original)
 }
 
 /// The same packets in a table: its items' records have these headers and lengths.
@@ -203,9 +231,14 @@ fn what_items_say(rt: HostRuntime) {
     put(&rt, alloc, &mut table, 2, &apart, &payload);
     let items = finished(&rt, alloc, table);
     assert!(rt; items.len() == 2);
-    assert!(rt; items[0].head(3) == of_queue(1, 2, 160, 0) && items[0].original == 314);
-    assert!(rt; has_bytes(&items[0].skb, 0, &frames::PLAIN_MERGED) && items[0].skb.len() == 314);
-    assert!(rt; items[1].head(3) == of_queue(0, 1, 0, 2) && items[1].original == 214);
+    assert_eq!(rt;
+        [said_by(&items[0]), said_by(&items[1])],
+        [
+            (of_queue(1, 2, 160, 0), 314, 314),
+            (of_queue(0, 1, 0, 2), 214, 214),
+        ]
+    );
+    assert!(rt; has_bytes(&items[0].skb, 0, &frames::PLAIN_MERGED));
     assert_eq!(rt; spent(&rt, items, &[(0, 2, 160, 0), (2, 1, 0, 0)]), 9);
 }
 
@@ -214,11 +247,14 @@ fn what_items_say(rt: HostRuntime) {
 #[test]
 fn freed_with_its_packets(rt: HostRuntime) {
     let alloc = rt.alloc();
-    assert_eq!(rt; three(&rt, alloc).free(), 3);
-    assert_eq!(rt; Packets::new(alloc).free(), 0);
     let mut shared = three(&rt, alloc);
     assert!(rt; shared.len() == 3);
     let clone = shared.clone_at(1).expect(&rt, "a clone");
-    assert_eq!(rt; shared.free(), 2);
-    assert_eq!(rt; clone.free(), 1);
+    let blocks = [
+        three(&rt, alloc).free(),
+        Packets::new(alloc).free(),
+        shared.free(),
+        clone.free(),
+    ];
+    assert_eq!(rt; blocks, [3, 0, 2, 1]);
 }

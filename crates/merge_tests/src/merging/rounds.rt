@@ -3,13 +3,12 @@
 ghost use Rattle.std.specs.Prelude.{◌≡◌, ◌≤◌, [], length};
 
 use super::{
-    Said, emptied, finished, given_up, home, packet, plain, put, put16, receive, reserve, spent,
-    table_for, table_in_runs,
+    Said, emptied, finished, given_up, home, packet, plain, put, put_plain, put16, receive,
+    reserve, spent, table_for, table_in_runs,
 };
 use gro::{Item, RoundTable};
 use std::alloc::Global;
 use std::process::Abort;
-use std::test::Fail;
 
 // The same headers in another flow. Both ports change, and their sum stays.
 pub(super) fn in_flow(head: [u8; 54], flow: u16) -> [u8; 54] {
@@ -19,11 +18,25 @@ pub(super) fn in_flow(head: [u8; 54], flow: u16) -> [u8; 54] {
     other
 }
 
-// Packets of these headers and one payload come to items that say this.
-fn come_to(rt: &impl Abort, alloc: Global, heads: &[[u8; 54]], payload: &[u8], rows: &[Said])
-    requires few { length heads.now ≤ 128 }
+/// A packet: its index, the bytes before it in its flow, its flags, its flow and its station.
+pub(super) type Place = (u16, u32, u8, u16, u8);
+
+// Its headers. Of the flow 0 and the station 1 are those of `plain`; what is hashed of a flow's key is no station's.
+pub(super) fn head_of(place: &Place, payload: &[u8]) -> [u8; 54]
+    requires short { length payload.now ≤ 1000 }
 {
-    come_to_runs(rt, alloc, 4096, heads, payload, rows);
+    let (index, before, flags, flow, station) = *place;
+    let mut head = in_flow(plain(index, before, flags, payload), flow);
+    head[11] = station;
+    head
+}
+
+// Packets of one payload come to items that say this.
+fn come_to(rt: &impl Abort, alloc: Global, places: &[Place], payload: &[u8], rows: &[Said])
+    requires few { length places.now ≤ 128 }
+    requires short { length payload.now ≤ 1000 }
+{
+    come_to_runs(rt, alloc, 4096, places, payload, rows);
 }
 
 // The same in runs of at most so many.
@@ -31,86 +44,90 @@ fn come_to_runs(
     rt: &impl Abort,
     alloc: Global,
     segs: u32,
-    heads: &[[u8; 54]],
+    places: &[Place],
     payload: &[u8],
     rows: &[Said],
 )
-    requires few { length heads.now ≤ 128 }
+    requires few { length places.now ≤ 128 }
+    requires short { length payload.now ≤ 1000 }
 {
-    let mut table = table_in_runs(rt, alloc, heads.len() as u32, segs);
-    for i in 0..heads.len() {
-        put(rt, alloc, &mut table, i as u32, &heads[i], payload);
+    let mut table = table_in_runs(rt, alloc, places.len() as u32, segs);
+    for i in 0..places.len() {
+        let head = head_of(&places[i], payload);
+        put(rt, alloc, &mut table, i as u32, &head, payload);
     }
-    assert!(rt; !table.may_receive(heads.len() as u32));
+    assert!(rt; !table.may_receive(places.len() as u32));
     let items = finished(rt, alloc, table);
-    assert_eq!(rt; spent(rt, items, rows), heads.len().wrapping_mul(3));
+    assert_eq!(rt; spent(rt, items, rows), places.len().wrapping_mul(3));
 }
+
+// Identifications 65535 and 0, and sequence numbers from 50 below zero to 50.
+static WRAPPING: [Place; 2] = [
+    (65435, 0xfffffbe6, 0x10, 0, 1),
+    (65436, 0xfffffc4a, 0x10, 0, 1),
+];
+
+// An identification that stays, and then rises.
+static FIXED: [Place; 3] = [
+    (0, 0, 0x10, 0, 1),
+    (0, 100, 0x10, 0, 1),
+    (1, 200, 0x10, 0, 1),
+];
+
+// PSH, which ends a run.
+static PUSHED: [Place; 3] = [
+    (0, 0, 0x10, 0, 1),
+    (1, 100, 0x18, 0, 1),
+    (2, 200, 0x10, 0, 1),
+];
 
 /// What lets a run go on, and what ends it.
 #[test]
 fn rows_of_packets(rt: HostRuntime) {
     let alloc = rt.alloc();
     let payload = [9; 100];
-    let first = plain(0, 0, 0x10, &payload);
-    // Identifications 65535 and 0, and sequence numbers from 50 below zero to 50.
-    let wrapping = [
-        plain(65435, 0xfffffbe6, 0x10, &payload),
-        plain(65436, 0xfffffc4a, 0x10, &payload),
-    ];
-    come_to(&rt, alloc, &wrapping, &payload, &[(0, 2, 100, 0)]);
-    // An identification that stays, and then rises.
-    let fixed = [
-        first,
-        plain(0, 100, 0x10, &payload),
-        plain(1, 200, 0x10, &payload),
-    ];
+    come_to(&rt, alloc, &WRAPPING, &payload, &[(0, 2, 100, 0)]);
     let rows = [(0, 2, 100, 1), (2, 1, 0, 0)];
-    come_to(&rt, alloc, &fixed, &payload, &rows);
-    // PSH, which ends a run.
-    let pushed = [
-        first,
-        plain(1, 100, 0x18, &payload),
-        plain(2, 200, 0x10, &payload),
-    ];
+    come_to(&rt, alloc, &FIXED, &payload, &rows);
     let rows = [(0, 2, 100, 0), (2, 1, 0, 0)];
-    come_to(&rt, alloc, &pushed, &payload, &rows);
-    // Two bytes behind the payload, which no frame may have that is merged.
-    let padded = [first, plain(1, 100, 0x10, &payload[..98])];
-    let rows = [(0, 1, 0, 0), (1, 1, 0, 0)];
-    come_to(&rt, alloc, &padded, &payload, &rows);
+    come_to(&rt, alloc, &PUSHED, &payload, &rows);
 }
 
-// The same headers from another station. What is hashed of a flow's key stays.
-fn from_station(head: [u8; 54], station: u8) -> [u8; 54] {
-    let mut other = head;
-    other[11] = station;
-    other
-}
-
-/// Flows in turn whose keys have one hash, one of which ends its run and begins another.
+/// Two bytes behind the payload, which no frame may have that is merged.
 #[test]
-fn flows_of_one_hash(rt: HostRuntime) {
+fn padded(rt: HostRuntime) {
     let alloc = rt.alloc();
     let payload = [9; 100];
-    let first = plain(0, 0, 0x10, &payload);
-    let next = plain(1, 100, 0x10, &payload);
-    let heads = [
-        first,
-        from_station(first, 7),
-        from_station(first, 8),
-        plain(1, 100, 0x18, &payload),
-        from_station(next, 7),
-        plain(2, 200, 0x10, &payload),
-        from_station(next, 8),
-        plain(3, 300, 0x10, &payload),
-    ];
-    let rows = [
-        (0, 2, 100, 0),
-        (1, 2, 100, 0),
-        (2, 2, 100, 0),
-        (5, 2, 100, 0),
-    ];
-    come_to(&rt, alloc, &heads, &payload, &rows);
+    let mut table = table_for(&rt, alloc, 2);
+    put_plain(&rt, alloc, &mut table, (0, 0, 0x10), &payload);
+    let next = plain(1, 100, 0x10, &payload[..98]);
+    put(&rt, alloc, &mut table, 1, &next, &payload);
+    let rows = [(0, 1, 0, 0), (1, 1, 0, 0)];
+    assert_eq!(rt; spent(&rt, finished(&rt, alloc, table), &rows), 6);
+}
+
+// Flows in turn whose keys have one hash, one of which ends its run and begins another.
+static OF_ONE_HASH: [Place; 8] = [
+    (0, 0, 0x10, 0, 1),
+    (0, 0, 0x10, 0, 7),
+    (0, 0, 0x10, 0, 8),
+    (1, 100, 0x18, 0, 1),
+    (1, 100, 0x10, 0, 7),
+    (2, 200, 0x10, 0, 1),
+    (1, 100, 0x10, 0, 8),
+    (3, 300, 0x10, 0, 1),
+];
+
+static SAID_OF_ONE_HASH: [Said; 4] = [
+    (0, 2, 100, 0),
+    (1, 2, 100, 0),
+    (2, 2, 100, 0),
+    (5, 2, 100, 0),
+];
+
+#[test]
+fn flows_of_one_hash(rt: HostRuntime) {
+    come_to(&rt, rt.alloc(), &OF_ONE_HASH, &[9; 100], &SAID_OF_ONE_HASH);
 }
 
 // Three packets of a flow that continue one another, of which the second one was captured in part, or all were.
@@ -154,26 +171,24 @@ fn of_no_flow(rt: HostRuntime) {
     let payload = [9; 100];
     let cut = within_ip(plain(1, 100, 0x10, &[]));
     let mut table = table_for(&rt, alloc, 3);
-    put(
-        &rt,
-        alloc,
-        &mut table,
-        0,
-        &plain(0, 0, 0x10, &payload),
-        &payload,
-    );
+    put_plain(&rt, alloc, &mut table, (0, 0, 0x10), &payload);
     put(&rt, alloc, &mut table, 1, &cut, &[]);
-    put(
-        &rt,
-        alloc,
-        &mut table,
-        2,
-        &plain(1, 100, 0x10, &payload),
-        &payload,
-    );
+    let next = plain(1, 100, 0x10, &payload);
+    put(&rt, alloc, &mut table, 2, &next, &payload);
     let rows = [(0, 2, 100, 0), (1, 1, 0, 0)];
     assert_eq!(rt; spent(&rt, finished(&rt, alloc, table), &rows), 9);
 }
+
+static TWO_FLOWS: [Place; 6] = [
+    (0, 0, 0x10, 0, 1),
+    (0, 0, 0x10, 1, 1),
+    (1, 100, 0x10, 0, 1),
+    (2, 200, 0x10, 0, 1),
+    (1, 100, 0x18, 1, 1),
+    (3, 200, 0x10, 0, 1),
+];
+
+static SAID_OF_TWO_FLOWS: [Said; 4] = [(0, 2, 100, 0), (1, 2, 100, 0), (3, 1, 0, 0), (5, 1, 0, 0)];
 
 /// Two flows in turn, and a pure ACK of the first, which ends its run and joins none; a packet behind it opens the next
 /// run.
@@ -182,23 +197,14 @@ fn two_flows_and_an_ack(rt: HostRuntime) {
     let alloc = rt.alloc();
     let payload = [9; 100];
     let mut table = table_for(&rt, alloc, 6);
-    let heads = [
-        plain(0, 0, 0x10, &payload),
-        in_flow(plain(0, 0, 0x10, &payload), 1),
-        plain(1, 100, 0x10, &payload),
-        plain(2, 200, 0x10, &[]),
-        in_flow(plain(1, 100, 0x18, &payload), 1),
-        plain(3, 200, 0x10, &payload),
-    ];
     for i in 0..6 {
         let own: &[u8] = if i == 3 { &[] } else { &payload };
-        put(&rt, alloc, &mut table, i as u32, &heads[i], own);
+        let head = head_of(&TWO_FLOWS[i], own);
+        put(&rt, alloc, &mut table, i as u32, &head, own);
     }
-    assert!(rt; !table.may_receive(6));
-    assert_eq!(rt; table.count(), 18);
+    assert_eq!(rt; (table.may_receive(6), table.count()), (false, 18));
     let items = finished(&rt, alloc, table);
-    let rows = [(0, 2, 100, 0), (1, 2, 100, 0), (3, 1, 0, 0), (5, 1, 0, 0)];
-    assert_eq!(rt; spent(&rt, items, &rows), 18);
+    assert_eq!(rt; spent(&rt, items, &SAID_OF_TWO_FLOWS), 18);
 }
 
 // So many flows in turn, so many packets of each: an item for each flow, in the order of the first packets.
@@ -245,14 +251,7 @@ fn summed(rt: &impl Abort, alloc: Global, sum: u16, rows: &[Said]) {
     other[..2].copy_from_slice(&next[50..52]);
     put16(&mut next, 50, sum);
     let mut table = table_for(rt, alloc, 2);
-    put(
-        rt,
-        alloc,
-        &mut table,
-        0,
-        &plain(0, 0, 0x10, &payload),
-        &payload,
-    );
+    put_plain(rt, alloc, &mut table, (0, 0, 0x10), &payload);
     put(rt, alloc, &mut table, 1, &next, &other);
     let items = finished(rt, alloc, table);
     assert_eq!(rt; spent(rt, items, rows), 6);
@@ -272,9 +271,10 @@ fn serve(rt: &impl Abort, alloc: Global, table: &mut RoundTable)
     ensures none { table.new.runs ≡ [] }
 {
     started(rt, table, 3);
-    put(rt, alloc, table, 0, &plain(0, 0, 0x10, &[7; 4]), &[7; 4]);
-    put(rt, alloc, table, 1, &plain(1, 4, 0x10, &[7; 4]), &[7; 4]);
-    put(rt, alloc, table, 2, &plain(0, 0, 0x10, &[7; 5]), &[7; 5]);
+    put_plain(rt, alloc, table, (0, 0, 0x10), &[7; 4]);
+    put_plain(rt, alloc, table, (1, 4, 0x10), &[7; 4]);
+    let apart = plain(0, 0, 0x10, &[7; 5]);
+    put(rt, alloc, table, 2, &apart, &[7; 5]);
     let mut items = Vec::new(alloc);
     finished_into(rt, table, &mut items);
     assert_eq!(rt; items.len(), 2);
@@ -333,37 +333,41 @@ fn a_table_lives_on(rt: HostRuntime) {
     table.discard();
 }
 
+// So many packets of one flow, each of `size` bytes.
+fn in_order<const N: usize>(size: u32) -> [Place; N]
+    requires few { size ≤ 1000 }
+{
+    let mut places = [(0, 0, 0x10, 0, 1); N];
+    for i in 0..N {
+        let index = (i % 65_536) as u16;
+        places[i] = (index, u32::from(index) * size, 0x10, 0, 1);
+    }
+    places
+}
+
 /// 70 packets of 1,000 bytes: 65 have room in one frame's length field, and five follow.
 #[test]
 fn a_frame_is_full(rt: HostRuntime) {
-    let alloc = rt.alloc();
-    let payload = [0xff; 1000];
-    let mut heads = [[0u8; 54]; 70];
-    for i in 0..70 {
-        heads[i] = plain(i as u16, i as u32 * 1000, 0x10, &payload);
-    }
     let rows = [(0, 65, 1000, 0), (65, 5, 1000, 0)];
-    come_to(&rt, alloc, &heads, &payload, &rows);
+    come_to(&rt, rt.alloc(), &in_order::<70>(1000), &[0xff; 1000], &rows);
 }
+
+static SAID_OF_17: [Said; 4] = [
+    (0, 17, 100, 0),
+    (17, 17, 100, 0),
+    (34, 17, 100, 0),
+    (51, 13, 100, 0),
+];
 
 /// 64 packets that would be one run, in runs of 17 and of one.
 #[test]
 fn runs_of_at_most_so_many(rt: HostRuntime) {
     let alloc = rt.alloc();
     let payload = [9; 100];
-    let mut heads = [[0u8; 54]; 64];
-    for i in 0..64 {
-        heads[i] = plain(i as u16, i as u32 * 100, 0x10, &payload);
-    }
-    let rows = [
-        (0, 17, 100, 0),
-        (17, 17, 100, 0),
-        (34, 17, 100, 0),
-        (51, 13, 100, 0),
-    ];
-    come_to_runs(&rt, alloc, 17, &heads, &payload, &rows);
+    let places = in_order::<64>(100);
+    come_to_runs(&rt, alloc, 17, &places, &payload, &SAID_OF_17);
     let rows = [(0, 1, 0, 0), (1, 1, 0, 0)];
-    come_to_runs(&rt, alloc, 1, &heads[..2], &payload, &rows);
+    come_to_runs(&rt, alloc, 1, &places[..2], &payload, &rows);
 }
 
 /// A table that is given up gives all blocks back.

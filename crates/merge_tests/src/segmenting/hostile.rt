@@ -14,7 +14,9 @@ fn is_taken(rt: &impl Abort, alloc: Global, head: &AnyHead, frame: &[u8], origin
 }
 
 // Kind, n, m, modes, lane, the frame's original length, and a place of the frame where these bits are turned.
-const REFUSED: [(u8, u16, u16, u8, u8, u32, usize, u8); 17] = [
+type Row = (u8, u16, u16, u8, u8, u32, usize, u8);
+
+static REFUSED: [Row; 17] = [
     (3, 2, 4, 0, 0, 60, 0, 0),
     (1, 2, 4, 0, 64, 60, 0, 0),
     (1, 1, 4, 0, 0, 60, 0, 0),
@@ -34,34 +36,57 @@ const REFUSED: [(u8, u16, u16, u8, u8, u32, usize, u8); 17] = [
     (2, 0, 0, 0, 8, 60, 0, 0),
 ];
 
+// Whether a record of a row is taken, in each version.
+fn are_taken(rt: &impl Abort, alloc: Global, row: &Row) -> (bool, bool) {
+    let (kind, n, m, modes, lane, original, place, bits) = *row;
+    let mut frame = MERGED;
+    if place < 60 {
+        frame[place] ^= bits;
+    }
+    let [first, second] = headers(kind, n, m, modes, lane);
+    (
+        is_taken(rt, alloc, &first, &frame, original),
+        is_taken(rt, alloc, &second, &frame, original),
+    )
+}
+
 #[test]
 fn hostile_records_are_refused(rt: HostRuntime) {
-    for (kind, n, m, modes, lane, original, place, bits) in REFUSED {
-        let mut frame = MERGED;
-        if place < 60 {
-            frame[place] ^= bits;
-        }
-        for head in headers(kind, n, m, modes, lane) {
-            assert!(rt; !is_taken(&rt, rt.alloc(), &head, &frame, original));
-        }
+    for row in &REFUSED {
+        assert!(rt; are_taken(&rt, rt.alloc(), row) == (false, false));
     }
+}
+
+// Whether a record that says this version is taken, with a header of each.
+fn are_taken_as(rt: &impl Abort, alloc: Global, version: u8) -> (bool, bool) {
+    let [first, second] = headers(1, 2, 4, 0, 0);
+    let (AnyHead::V1(first), AnyHead::V2(second)) = (first, second) else {
+        panic!(rt; "no headers of both versions");
+    };
+    let first = AnyHead::V1(OffHead { version, ..first });
+    let second = AnyHead::V2(OffHead2 { version, ..second });
+    (
+        is_taken(rt, alloc, &first, &MERGED, 60),
+        is_taken(rt, alloc, &second, &MERGED, 60),
+    )
 }
 
 #[test]
 fn other_versions_are_refused(rt: HostRuntime) {
-    for version in [0, 1, 2, 3, 255] {
-        let [first, second] = headers(1, 2, 4, 0, 0);
-        if let (AnyHead::V1(first), AnyHead::V2(second)) = (first, second) {
-            let first = AnyHead::V1(OffHead { version, ..first });
-            let second = AnyHead::V2(OffHead2 { version, ..second });
-            assert!(rt; is_taken(&rt, rt.alloc(), &first, &MERGED, 60) == (version == 1));
-            assert!(rt; is_taken(&rt, rt.alloc(), &second, &MERGED, 60) == (version == 2));
-        }
-    }
+    let alloc = rt.alloc();
+    let taken = [
+        are_taken_as(&rt, alloc, 0),
+        are_taken_as(&rt, alloc, 1),
+        are_taken_as(&rt, alloc, 2),
+        are_taken_as(&rt, alloc, 3),
+        are_taken_as(&rt, alloc, 255),
+    ];
+    let none = (false, false);
+    assert_eq!(rt; taken, [none, (true, false), (false, true), none, none]);
 }
 
 // n and m, whose products are 2^32 and more. In 32 bits the second and the third would fit the payload of six bytes.
-const WIDE: [(u32, u32); 6] = [
+static WIDE: [(u32, u32); 6] = [
     (4_294_967_295, 4_294_967_295),
     (65_537, 65_536),
     (536_870_913, 8),
@@ -72,9 +97,22 @@ const WIDE: [(u32, u32); 6] = [
 
 #[test]
 fn numbers_of_32_bits_are_refused(rt: HostRuntime) {
-    for (n, m) in WIDE {
-        assert!(rt; !is_taken(&rt, rt.alloc(), &merged(n, m, 0), &MERGED, 60));
+    for (n, m) in &WIDE {
+        assert!(rt; !is_taken(&rt, rt.alloc(), &merged(*n, *m, 0), &MERGED, 60));
     }
+}
+
+// Whether a single record is taken as long as may be, longer, with as long an original length as may be, with a longer
+// one, and with none.
+fn are_taken_at_limits(rt: &impl Abort, alloc: Global, head: &AnyHead, bytes: &[u8]) -> [bool; 5] {
+    assert!(rt; bytes.len() == 262_145);
+    [
+        is_taken(rt, alloc, head, &bytes[1..], 262_144),
+        is_taken(rt, alloc, head, bytes, 262_145),
+        is_taken(rt, alloc, head, &MERGED, 2_147_483_647),
+        is_taken(rt, alloc, head, &MERGED, 2_147_483_648),
+        is_taken(rt, alloc, head, &MERGED, 0),
+    ]
 }
 
 // A frame has at most 262,144 bytes, and its original length is at most 2^31 - 1.
@@ -82,14 +120,14 @@ fn numbers_of_32_bits_are_refused(rt: HostRuntime) {
 fn single_records_at_the_limits(rt: HostRuntime) -> Result<(), Fail> {
     let alloc = rt.alloc();
     let bytes = vec![in alloc; 0u8; 262_145]?;
-    assert!(rt; bytes.len() == 262_145);
-    for head in headers(0, 1, 0, 0, 63) {
-        assert!(rt; is_taken(&rt, alloc, &head, &bytes[1..], 262_144));
-        assert!(rt; !is_taken(&rt, alloc, &head, &bytes, 262_145));
-        assert!(rt; is_taken(&rt, alloc, &head, &MERGED, 2_147_483_647));
-        assert!(rt; !is_taken(&rt, alloc, &head, &MERGED, 2_147_483_648));
-        assert!(rt; is_taken(&rt, alloc, &head, &MERGED, 0));
-    }
+    let [first, second] = headers(0, 1, 0, 0, 63);
+    assert_eq!(rt;
+        [
+            are_taken_at_limits(&rt, alloc, &first, &bytes),
+            are_taken_at_limits(&rt, alloc, &second, &bytes),
+        ],
+        [[true, false, true, false, true]; 2]
+    );
     // An original length below that of the header.
     let [_, second] = headers(0, 1, 0, 0, 0);
     let skb = buffer(&rt, alloc, &MERGED, 60, 1);

@@ -23,10 +23,11 @@ fn check_rows<A: Abort>(rt: &A, alloc: Global, headers: &[u8], size: usize, rows
 /// A datagram's own lengths and identifications; and a sum that is left out stays out.
 #[test]
 fn datagrams(rt: HostRuntime) {
+    let alloc = rt.alloc();
     let rows = [(3, 500, 0, 5, 2_878_327_780), (3, 500, 1, 5, 2_344_885_572)];
-    check_rows(&rt, rt.alloc(), &DATAGRAM_1200, 1200, &rows);
+    check_rows(&rt, alloc, &DATAGRAM_1200, 1200, &rows);
     let rows = [(2, 1_199, 0, 4, 48_891_414)];
-    check_rows(&rt, rt.alloc(), &UNSUMMED_1200, 1200, &rows);
+    check_rows(&rt, alloc, &UNSUMMED_1200, 1200, &rows);
 }
 
 #[test]

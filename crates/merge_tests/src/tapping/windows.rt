@@ -1,10 +1,12 @@
 //! What taps read of packets of many lengths, with filters and without, the gate, and the blocks that come home.
+ghost use Rattle.std.specs.Prelude.{◌<◌, ◌≤◌};
+
 use super::packets::{byte_of, task_over};
 use crate::home::home_of;
 use off_io::{Gate, NoGate, Who};
+use std::alloc::Global;
 use std::process::Abort;
 use std::sync::atomic::{AtomicU32, Ordering};
-use std::test::Fail;
 use tap_filter::Program;
 use taps::{TapResult, TapText, TapTexts};
 
@@ -78,38 +80,67 @@ fn blocks(head: usize, piece: usize) -> usize {
     blocks
 }
 
+// Whether a task reads these windows of packets of these sizes of head and pieces, and all blocks come home.
+fn are_read<A: Abort>(
+    rt: &A,
+    alloc: Global,
+    reads: (u32, u32),
+    filter: Option<&Program>,
+    sizes: (usize, usize),
+    shown: Shown,
+) -> bool
+    requires sizes { (sizes.0 ≤ 1984) × (0 < sizes.1) × (sizes.1 ≤ 2000) }
+{
+    let task = task_over(rt, alloc, reads, filter, sizes, &LENGTHS);
+    let TapResult { texts, outcomes } = task.run(&NoGate);
+    let home = home_of(outcomes);
+    let Ok(texts) = texts else {
+        return false;
+    };
+    home == blocks(sizes.0, sizes.1)
+        && texts.is_empty() == (texts.len() == 0)
+        && are_windows(&texts, reads.0 as usize, reads.1 as usize, shown)
+}
+
+// The same of packets of three sizes of head and pieces.
+fn are_all_read<A: Abort>(
+    rt: &A,
+    alloc: Global,
+    reads: (u32, u32),
+    filter: Option<&Program>,
+    shown: Shown,
+) -> bool {
+    are_read(rt, alloc, reads, filter, (1984, 2000), shown)
+        && are_read(rt, alloc, reads, filter, (0, 1999), shown)
+        && are_read(rt, alloc, reads, filter, (63, 1000), shown)
+}
+
+// Taps, and what each reads at most.
+static READS: [(u32, u32); 9] = [
+    (0, 1),
+    (7, 1),
+    (0, 64),
+    (1, 64),
+    (2, 64),
+    (7, 64),
+    (0, 2048),
+    (1, 2048),
+    (7, 2048),
+];
+
 #[test]
-fn windows_are_those_of_the_packets(rt: HostRuntime) -> Result<(), Fail> {
-    for (tap, snap) in [
-        (0, 1),
-        (7, 1),
-        (0, 64),
-        (1, 64),
-        (2, 64),
-        (7, 64),
-        (0, 2048),
-        (1, 2048),
-        (7, 2048),
-    ] {
-        for (head, piece) in [(1984, 2000), (0, 1999), (63, 1000)] {
-            let task = task_over(&rt, rt.alloc(), (tap, snap), None, (head, piece), &LENGTHS);
-            let TapResult { texts, outcomes } = task.run(&NoGate);
-            let home = home_of(outcomes);
-            let texts = texts?;
-            assert!(rt;
-                are_windows(&texts, tap as usize, snap as usize, ALL),
-                "tap {tap}, snap {snap}, head {head}"
-            );
-            assert_eq!(rt; home, blocks(head, piece));
-            assert_eq!(rt; texts.is_empty(), texts.len() == 0);
-        }
+fn windows_are_those_of_the_packets(rt: HostRuntime) {
+    for (tap, snap) in &READS {
+        assert!(rt;
+            are_all_read(&rt, rt.alloc(), (*tap, *snap), None, ALL),
+            "tap {tap}, snap {snap}"
+        );
     }
-    Ok(())
 }
 
 // The texts of filters, and what they show: 40 bytes; 100 of those whose word at 61, which may lie in the head and a
 // piece, has the bytes 61 to 64; all of those that are longer than 128; and none.
-const FILTERS: [(&str, Shown); 4] = [
+static FILTERS: [(&str, Shown); 4] = [
     ("1,6 0 0 40", Shown { least: 0, most: 40 }),
     (
         "4,32 0 0 61,21 0 1 1027489600,6 0 0 100,6 0 0 0",
@@ -129,32 +160,20 @@ const FILTERS: [(&str, Shown); 4] = [
 ];
 
 #[test]
-fn windows_are_those_of_what_a_filter_shows(rt: HostRuntime) -> Result<(), Fail> {
+fn windows_are_those_of_what_a_filter_shows(rt: HostRuntime) {
     let alloc = rt.alloc();
-    for (text, shown) in FILTERS {
-        let filter = Program::of_text(alloc, text).map_err(|_| "a filter")?;
-        for (tap, snap) in [(0, 64), (1, 64), (0, 2048), (7, 10)] {
-            for (head, piece) in [(1984, 2000), (0, 1999), (63, 1000)] {
-                let task = task_over(
-                    &rt,
-                    alloc,
-                    (tap, snap),
-                    Some(&filter),
-                    (head, piece),
-                    &LENGTHS,
-                );
-                let TapResult { texts, outcomes } = task.run(&NoGate);
-                let home = home_of(outcomes);
-                let texts = texts?;
-                assert!(rt;
-                    home == blocks(head, piece)
-                        && are_windows(&texts, tap as usize, snap as usize, shown),
-                    "{text}, tap {tap}"
-                );
-            }
-        }
+    for (text, shown) in &FILTERS {
+        let Ok(filter) = Program::of_text(alloc, text) else {
+            panic!(rt; "{text} is a filter");
+        };
+        let are_shown = [
+            are_all_read(&rt, alloc, (0, 64), Some(&filter), *shown),
+            are_all_read(&rt, alloc, (1, 64), Some(&filter), *shown),
+            are_all_read(&rt, alloc, (0, 2048), Some(&filter), *shown),
+            are_all_read(&rt, alloc, (7, 10), Some(&filter), *shown),
+        ];
+        assert_eq!(rt; are_shown, [true; 4], "{text}");
     }
-    Ok(())
 }
 
 // Where the task is told to have been, a digit a pass: 1 for point 0, 2 for point 1, and 9 for another task.
@@ -179,14 +198,14 @@ impl Gate for Passes {
 }
 
 #[test]
-fn the_gate_is_passed_before_and_after(rt: HostRuntime) -> Result<(), Fail> {
+fn the_gate_is_passed_before_and_after(rt: HostRuntime) {
     let gate = Passes {
         seen: AtomicU32::new(0),
     };
     let task = task_over(&rt, rt.alloc(), (3, 64), None, (100, 100), &[300]);
     let TapResult { texts, outcomes } = task.run(&gate);
     let _ = home_of(outcomes);
-    assert_eq!(rt; texts?.len(), 1);
-    assert_eq!(rt; gate.seen.load(Ordering::SeqCst), 12);
-    Ok(())
+    let seen = gate.seen.load(Ordering::SeqCst);
+    let texts = texts.expect(&rt, "no memory");
+    assert_eq!(rt; (texts.len(), seen), (1, 12));
 }
