@@ -2,8 +2,10 @@
 ghost use Rattle.std.specs.Prelude.{◌≡◌, IfSome};
 ghost use Rattle.raw_block.specs.Views.{Life};
 
+use crate::memory::block;
 use raw_block::{Claimed, FULL, Part, Receipt, Released, Sole};
-use std::test::Fail;
+use std::alloc::Global;
+use std::process::Abort;
 use std::thread::{Threads, join};
 
 const QUARTER: u64 = 1 << 60;
@@ -77,17 +79,19 @@ fn claimed_late(block: Sole) -> (u64, u64, u64, u32, u8) {
 }
 
 #[test]
-fn a_claim_waits_for_the_others(rt: HostRuntime) -> Result<(), Fail> {
-    let mut block = Sole::new(rt.alloc())?;
-    assert_eq!(rt; block.bytes()[0], 0);
+fn a_claim_waits_for_the_others(rt: HostRuntime) {
+    let alloc = rt.alloc();
+    let mut block = block(&rt, alloc);
+    let fresh = block.bytes()[0];
     block.set_mark(7);
     block.bytes_mut()[2047] = 9;
     block.range_mut(2, 4)[1] = 5;
-    assert_eq!(rt; block.bytes()[3], 5);
-    assert_eq!(rt; FULL, 4_611_686_018_427_387_904);
+    let written = block.bytes()[3];
     let wanted = (4_610_560_118_520_545_280, FULL, 1_125_899_906_842_624, 7, 9);
-    assert_eq!(rt; claimed_late(block), wanted);
-    Ok(())
+    assert_eq!(rt;
+        (fresh, written, FULL, claimed_late(block)),
+        (0, 5, 4_611_686_018_427_387_904, wanted)
+    );
 }
 
 // A part and the receipt of all the rest.
@@ -126,15 +130,21 @@ fn added(block: Sole) -> Option<(u64, u32)> {
     Some(sum)
 }
 
+// A block with this mark.
+fn marked(rt: &impl Abort, alloc: Global, mark: u32) -> Sole {
+    let mut block = block(rt, alloc);
+    block.set_mark(mark);
+    block
+}
+
 #[test]
-fn receipts_add_up_to_the_rest(rt: HostRuntime) -> Result<(), Fail> {
-    let mut block = Sole::new(rt.alloc())?;
-    block.set_mark(3);
-    assert_eq!(rt; reunited(block), Some(3));
-    let mut block = Sole::new(rt.alloc())?;
-    block.set_mark(4);
-    assert_eq!(rt; added(block), Some((FULL - QUARTER, 4)));
-    Ok(())
+fn receipts_add_up_to_the_rest(rt: HostRuntime) {
+    let alloc = rt.alloc();
+    let sums = (
+        reunited(marked(&rt, alloc, 3)),
+        added(marked(&rt, alloc, 4)),
+    );
+    assert_eq!(rt; sums, (Some(3), Some((FULL - QUARTER, 4))));
 }
 
 // A closure holds only what is `Drop`, so a part goes to a thread behind a `&mut`.
@@ -213,17 +223,14 @@ fn release_at_once<R: Threads + Sync>(rt: &R, block: Sole) -> (u32, Option<Sole>
 }
 
 #[test]
-fn one_of_four_threads_is_last(rt: HostRuntime) -> Result<(), Fail> {
-    let mut block = Sole::new(rt.alloc())?;
+fn one_of_four_threads_is_last(rt: HostRuntime) {
+    let alloc = rt.alloc();
+    let mut next = block(&rt, alloc);
     for _ in 0..1000u32 {
-        let (count, back, left) = release_at_once(&rt, block);
+        let (count, back, left) = release_at_once(&rt, next);
         assert_eq!(rt; (count, left), (1, FULL - QUARTER));
-        block = match back {
-            Some(block) => block,
-            None => Sole::new(rt.alloc())?,
-        };
+        next = back.expect(&rt, "no block");
     }
-    Ok(())
 }
 
 // How often the part had other bytes than at first.
@@ -270,24 +277,23 @@ fn read_beside_others<R: Threads + Sync>(rt: &R, block: Sole, wanted: &[u8; 2048
 }
 
 #[test]
-fn a_part_reads_the_same_bytes(rt: HostRuntime) -> Result<(), Fail> {
-    let mut block = Sole::new(rt.alloc())?;
+fn a_part_reads_the_same_bytes(rt: HostRuntime) {
+    let alloc = rt.alloc();
+    let mut block = block(&rt, alloc);
     block.bytes_mut()[9] = 6;
     let mut wanted = [0; 2048];
     wanted[9] = 6;
     assert_eq!(rt; read_beside_others(&rt, block, &wanted), 0);
-    Ok(())
 }
 
 // Telling two blocks apart is for the proofs: it changes nothing.
 #[test]
-fn two_blocks_are_told_apart(rt: HostRuntime) -> Result<(), Fail> {
-    let mut first = Sole::new(rt.alloc())?;
-    let mut second = Sole::new(rt.alloc())?;
-    first.set_mark(1);
+fn two_blocks_are_told_apart(rt: HostRuntime) {
+    let alloc = rt.alloc();
+    let mut first = marked(&rt, alloc, 1);
+    let mut second = block(&rt, alloc);
     second.bytes_mut()[5] = 2;
     first.differ(&mut second);
-    assert_eq!(rt; (first.mark(), second.mark()), (1, 0));
-    assert_eq!(rt; (first.bytes()[5], second.bytes()[5]), (0, 2));
-    Ok(())
+    let bytes = [first.bytes()[5], second.bytes()[5]];
+    assert_eq!(rt; ([first.mark(), second.mark()], bytes), ([1, 0], [0, 2]));
 }

@@ -1,10 +1,12 @@
 //! A buffer over one block, by the numbers of its room, its clone, its copy and its faults.
 ghost use Rattle.std.specs.Prelude.{◌≡◌, ◌≤◌, ◌+◌, [], length};
 
+use crate::memory::{block, room_for};
 use frags::{Outcomes, Pieces};
 use raw_block::{FULL, Released, Sole};
 use skb::{CopyFault, PullFault, Returned, RoomFault, Skb, Unshared};
-use std::test::Fail;
+use std::alloc::Global;
+use std::process::Abort;
 
 // A fault's numbers, and (0, 0) for none. (1, 0) is Shared.
 fn numbers(answer: Result<(), RoomFault>) -> (usize, usize) {
@@ -135,37 +137,39 @@ struct Seen {
     copies: [((usize, usize), bool, usize, usize); 2],
 }
 
-// The answers of a buffer that begins empty, from 64 to 64.
-fn over_one_block(
-    mut skb: Skb,
-    spares: (Sole, Sole),
-    none: &mut Vec<Sole>,
-    two: &mut Vec<Sole>,
-    out: &mut Outcomes,
-) -> Seen
-    requires spare { (skb.rest ≡ []) × (8 ≤ out.old.spare) }
-{
+// The answers of a buffer that begins empty, from 64 to 64, and the blocks that came home.
+fn over_one_block(rt: &impl Abort, alloc: Global) -> (Seen, usize) {
+    let mut out = room_for(rt, alloc, 8);
+    let mut none = Vec::new(alloc);
+    let mut two = Vec::new(alloc);
+    two.push(block(rt, alloc)).expect(rt, "no memory");
+    two.push(block(rt, alloc)).expect(rt, "no memory");
+    let mut skb = Skb::new(block(rt, alloc), 64, 64, Pieces::new(alloc));
     let answers = [
         pushed(&mut skb, &[1; 14]),
         pushed(&mut skb, &[1; 51]),
         put(&mut skb, &[2; 1984]),
         put(&mut skb, &[3; 1]),
     ];
-    let short = match skb.pull(1999, out) {
+    let short = match skb.pull(1999, &mut out) {
         Ok(()) => (0, 0),
         Err(short) => (short.have, short.need),
     };
-    let too_big = too_big(&mut skb, 1985, spares.0, out);
-    let shared = beside_a_clone(&mut skb, spares.1, out);
-    let copies = [copied(&skb, none, out), copied(&skb, two, out)];
-    skb.release(out);
-    Seen {
+    let too_big = too_big(&mut skb, 1985, block(rt, alloc), &mut out);
+    let shared = beside_a_clone(&mut skb, block(rt, alloc), &mut out);
+    let copies = [
+        copied(&skb, &mut none, &mut out),
+        copied(&skb, &mut two, &mut out),
+    ];
+    skb.release(&mut out);
+    let seen = Seen {
         answers,
         short,
         too_big,
         shared,
         copies,
-    }
+    };
+    (seen, spend(out))
 }
 
 pub(crate) fn spend(mut out: Outcomes) -> usize {
@@ -178,43 +182,28 @@ pub(crate) fn spend(mut out: Outcomes) -> usize {
 }
 
 #[test]
-fn one_block_has_room_as_its_numbers_say(rt: HostRuntime) -> Result<(), Fail> {
-    let block = Sole::new(rt.alloc())?;
-    let spares = (Sole::new(rt.alloc())?, Sole::new(rt.alloc())?);
-    let mut two = Vec::new(rt.alloc());
-    two.push(Sole::new(rt.alloc())?)?;
-    two.push(Sole::new(rt.alloc())?)?;
-    let mut none = Vec::new(rt.alloc());
-    let mut out = Outcomes::new(rt.alloc());
-    if out.reserve(8).is_err() {
-        out.settle();
-        return Ok(());
-    }
-    let skb = Skb::new(block, 64, 64, Pieces::new(rt.alloc()));
-    let seen = over_one_block(skb, spares, &mut none, &mut two, &mut out);
-    let soles = spend(out);
+fn one_block_has_room_as_its_numbers_say(rt: HostRuntime) {
+    let alloc = rt.alloc();
+    let (seen, soles) = over_one_block(&rt, alloc);
     assert_eq!(rt;
         seen.answers,
         [((0, 0), 50), ((50, 51), 50), ((0, 0), 1998), ((0, 1), 1998)]
     );
     assert_eq!(rt; seen.short, (1998, 1999));
-    assert!(rt; seen.too_big);
     assert_eq!(rt; seen.shared, (true, true, true, 1125899906842624));
+    assert_eq!(rt; (seen.too_big, soles), (true, 3));
     assert_eq!(rt; seen.copies, [((0, 2), false, 0, 0), ((0, 0), true, 64, 2)]);
-    assert_eq!(rt; soles, 3);
-    Ok(())
 }
 
 // Telling a buffer's blocks from another one is for the proofs: it changes nothing.
 #[test]
-fn a_buffer_is_told_from_a_block(rt: HostRuntime) -> Result<(), Fail> {
-    let head = Sole::new(rt.alloc())?;
-    let mut block = Sole::new(rt.alloc())?;
-    block.set_mark(7);
-    let mut skb = Skb::new(head, 64, 70, Pieces::new(rt.alloc()));
-    skb.differ_from(&mut block);
+fn a_buffer_is_told_from_a_block(rt: HostRuntime) {
+    let alloc = rt.alloc();
+    let mut other = block(&rt, alloc);
+    other.set_mark(7);
+    let mut skb = Skb::new(block(&rt, alloc), 64, 70, Pieces::new(alloc));
+    skb.differ_from(&mut other);
     let len = skb.len();
     let freed = skb.free();
-    assert_eq!(rt; (len, freed, block.mark()), (6, 1, 7));
-    Ok(())
+    assert_eq!(rt; (len, freed, other.mark()), (6, 1, 7));
 }

@@ -1,15 +1,15 @@
 //! Buffers of two blocks, by their bytes once they are cut.
-ghost use Rattle.std.specs.Prelude.{◌≡◌, ◌≤◌, ◌<◌, ◌+◌, [], length, MatchOption};
+ghost use Rattle.std.specs.Prelude.{◌≡◌, ◌≤◌, ◌<◌, ◌+◌, [], length};
 ghost use Rattle.skb.specs.SkbState.{buffer_size};
 
 use crate::buffers::{spend, spend_released};
+use crate::memory::{block, room_for};
 use frags::{Outcomes, PieceBuilder, Pieces, ShareFault};
 use inet_sum::Partial;
 use raw_block::Sole;
 use skb::{Returned, Skb};
 use std::alloc::Global;
 use std::process::Abort;
-use std::test::Fail;
 
 // A block whose bytes count.
 fn counting(mut block: Sole) -> Sole {
@@ -20,20 +20,19 @@ fn counting(mut block: Sole) -> Sole {
     block
 }
 
-// 100 bytes from the place 64 of one block, and 100 from the place 200 of another behind them.
-fn two_blocks(first: Sole, second: Sole, alloc: Global, out: &mut Outcomes) -> Option<Skb>
-    requires spare { 2 ≤ out.old.spare }
-    ensures buffer { MatchOption result (0 ≤ 1) (λ s. (length s.rest ≡ 1) × (buffer_size s ≡ 200)) }
-    ensures places { out.old.spare ≤ out.new.spare + 2 }
+// 100 bytes from the place 64 of one block, and 100 from the place 200 of another behind them; and room for six.
+fn two_blocks(rt: &impl Abort, alloc: Global) -> (Skb, Outcomes)
+    ensures buffer { (length result.0.rest ≡ 1) × (buffer_size result.0 ≡ 200) }
+    ensures room { 6 ≤ result.1.spare }
 {
-    let mut skb = Skb::new(counting(first), 64, 164, Pieces::new(alloc));
-    let other = Skb::new(counting(second), 200, 300, Pieces::new(alloc));
-    if let Err((other, _)) = skb.attach(other, out) {
-        other.release(out);
-        skb.release(out);
-        return None;
+    let mut out = room_for(rt, alloc, 8);
+    let mut skb = Skb::new(counting(block(rt, alloc)), 64, 164, Pieces::new(alloc));
+    let other = Skb::new(counting(block(rt, alloc)), 200, 300, Pieces::new(alloc));
+    if let Err((other, _)) = skb.attach(other, &mut out) {
+        other.release(&mut out);
+        panic!(rt; "no memory");
     }
-    Some(skb)
+    (skb, out)
 }
 
 // The byte that stands at a place of these 200.
@@ -76,60 +75,51 @@ fn pieces_have_bytes(pieces: &Pieces, from: usize) -> bool
     true
 }
 
-// Length and blocks of both buffers of a cut, and whether their bytes are right.
-fn cut_at(mut skb: Skb, at: usize, out: &mut Outcomes) -> ([usize; 4], bool)
-    requires spare { (length skb.rest ≡ 1) × (at ≤ 200) × (4 ≤ out.old.spare) }
-    ensures spare { out.old.spare ≤ out.new.spare + 4 }
+// Length and blocks of both buffers of a cut, whether their bytes are right, and the blocks that came home.
+fn cut_at(rt: &impl Abort, alloc: Global, at: usize) -> ([usize; 4], bool, usize)
+    requires near { at ≤ 200 }
 {
-    match skb.split_at(at) {
-        Ok(back) => {
-            let numbers = [skb.len(), skb.count(), back.len(), back.count()];
-            let right = has_bytes(&skb, 0) && pieces_have_bytes(&back, at);
-            back.release(out);
-            skb.release(out);
-            (numbers, right)
-        }
-        Err(_) => {
-            skb.release(out);
-            ([0; 4], false)
-        }
-    }
+    let (mut skb, mut out) = two_blocks(rt, alloc);
+    let Ok(back) = skb.split_at(at) else {
+        panic!(rt; "not cut");
+    };
+    let numbers = [skb.len(), skb.count(), back.len(), back.count()];
+    let right = has_bytes(&skb, 0) && pieces_have_bytes(&back, at);
+    back.release(&mut out);
+    skb.release(&mut out);
+    (numbers, right, spend(out))
 }
 
-// Length, headroom, head and blocks after the first and the last bytes are gone, and whether the others are right.
-fn cut_off(mut skb: Skb, first: usize, last: usize, out: &mut Outcomes) -> ([usize; 4], bool)
-    requires spare { (length skb.rest ≡ 1) × (first ≤ 200) × (4 ≤ out.old.spare) }
-    ensures spare { out.old.spare ≤ out.new.spare + 4 }
+// Length, headroom, head and blocks after the first and the last bytes are gone, whether the others are right, and the
+// blocks that came home.
+fn cut_off(rt: &impl Abort, alloc: Global, first: usize, last: usize) -> ([usize; 4], bool, usize)
+    requires near { first ≤ 200 }
 {
-    let pulled = skb.pull(first, out).is_ok();
-    let trimmed = skb.trim(last, out).is_ok();
+    let (mut skb, mut out) = two_blocks(rt, alloc);
+    let pulled = skb.pull(first, &mut out).is_ok();
+    let trimmed = skb.trim(last, &mut out).is_ok();
     let numbers = [skb.len(), skb.headroom(), skb.head().len(), skb.count()];
     let right = pulled && trimmed && has_bytes(&skb, first);
-    skb.release(out);
-    (numbers, right)
+    skb.release(&mut out);
+    (numbers, right, spend(out))
 }
 
-// Length and pieces of a list that a buffer was moved into, and whether the bytes are right.
-fn moved<A: Abort>(
-    rt: &A,
-    skb: Skb,
-    from: usize,
-    alloc: Global,
-    out: &mut Outcomes,
-) -> ([usize; 2], bool)
-    requires spare { (length skb.rest ≡ 1) × (buffer_size skb ≤ 200) × (from ≤ 200) × (4 ≤ out.old.spare) }
+// Length and pieces of a list that a buffer without its first bytes was moved into, whether the bytes are right, and the
+// blocks that came home.
+fn moved(rt: &impl Abort, alloc: Global, first: usize) -> ([usize; 2], bool, usize)
+    requires near { first ≤ 200 }
 {
-    let Ok(mut pieces) = PieceBuilder::with_room(alloc, 4) else {
-        skb.release(out);
-        return ([0; 2], false);
-    };
-    skb.move_into(&mut pieces, out);
+    let (mut skb, mut out) = two_blocks(rt, alloc);
+    let _ = skb.pull(first, &mut out);
+    assert!(rt; skb.len() <= 200 && skb.count() == 2 && out.spare() >= 4);
+    let mut pieces = PieceBuilder::with_room(alloc, 4).expect(rt, "no room");
+    skb.move_into(&mut pieces, &mut out);
     let pieces = pieces.finish();
     let numbers = [pieces.len(), pieces.count()];
-    let right = pieces_have_bytes(&pieces, from);
+    let right = pieces_have_bytes(&pieces, first);
     assert!(rt; pieces.count() <= out.spare());
-    pieces.release(out);
-    (numbers, right)
+    pieces.release(&mut out);
+    (numbers, right, spend(out))
 }
 
 // Whether the old head was released.
@@ -144,17 +134,16 @@ fn gave(returned: Returned) -> bool {
 }
 
 // Headroom, head and blocks after bytes were pulled up, whether a spare served for it, and whether the bytes are right.
-fn pulled_up(mut skb: Skb, n: usize, spare: Sole, out: &mut Outcomes) -> ([usize; 3], bool, bool)
-    requires spare { (length skb.rest ≡ 1) × (4 ≤ out.old.spare) }
-    ensures spare { out.old.spare ≤ out.new.spare + 4 }
-{
-    let served = match skb.pull_up(n, spare, out) {
+fn pulled_up(rt: &impl Abort, alloc: Global, n: usize) -> ([usize; 3], bool, bool) {
+    let (mut skb, mut out) = two_blocks(rt, alloc);
+    let served = match skb.pull_up(n, block(rt, alloc), &mut out) {
         Ok(returned) => gave(returned),
         Err(_refused) => false,
     };
     let numbers = [skb.headroom(), skb.head().len(), skb.count()];
     let right = has_bytes(&skb, 0);
-    skb.release(out);
+    skb.release(&mut out);
+    let _ = spend(out);
     (numbers, served, right)
 }
 
@@ -183,25 +172,26 @@ fn behind(skb: &mut Skb, at: usize, out: &mut Outcomes) -> Result<usize, ShareFa
     Ok(len)
 }
 
-// Of a clone's clone, six times: its weight, whether a cut inside its head is Worn, and what is behind one at its end.
-fn of_weight_one(skb: Skb, out: &mut Outcomes) -> (u64, bool, usize)
-    requires spare { (skb.rest ≡ []) × (13 ≤ out.old.spare) }
-{
-    let skb = thinned(skb, out);
-    let skb = thinned(skb, out);
-    let skb = thinned(skb, out);
-    let skb = thinned(skb, out);
-    let skb = thinned(skb, out);
-    let mut skb = thinned(skb, out);
+// Of a clone's clone, six times: its weight, whether a cut inside its head is Worn, and what is behind one at its end;
+// and the blocks that came home.
+fn of_weight_one(rt: &impl Abort, alloc: Global) -> (u64, bool, usize, usize) {
+    let mut out = room_for(rt, alloc, 13);
+    let skb = Skb::new(block(rt, alloc), 0, 10, Pieces::new(alloc));
+    let skb = thinned(skb, &mut out);
+    let skb = thinned(skb, &mut out);
+    let skb = thinned(skb, &mut out);
+    let skb = thinned(skb, &mut out);
+    let skb = thinned(skb, &mut out);
+    let mut skb = thinned(skb, &mut out);
     let weight = skb.least_weight();
-    let worn = match behind(&mut skb, 3, out) {
+    let worn = match behind(&mut skb, 3, &mut out) {
         Ok(_) => false,
         Err(fault) => matches!(fault, ShareFault::Worn),
     };
     let end = skb.head().len();
-    let after = behind(&mut skb, end, out).unwrap_or(1000);
-    skb.release(out);
-    (weight, worn, after)
+    let after = behind(&mut skb, end, &mut out).unwrap_or(1000);
+    skb.release(&mut out);
+    (weight, worn, after, spend(out))
 }
 
 // Whether the sum from an odd place on is that of the bytes copied out.
@@ -218,9 +208,8 @@ fn is_summed(skb: &Skb) -> bool
 
 // The length of a piece, whether bytes of head and piece are summed and copied out, and whether the head's are lent for
 // writing until it is shared.
-fn read_and_written(rt: &impl Abort, mut skb: Skb, out: &mut Outcomes) -> (usize, bool, bool)
-    requires size { (length skb.rest ≡ 1) × (buffer_size skb ≡ 200) }
-{
+fn read_and_written(rt: &impl Abort, alloc: Global) -> (usize, bool, bool) {
+    let (mut skb, mut out) = two_blocks(rt, alloc);
     let piece = skb.slice(0).len();
     let mut bytes = [0; 10];
     skb.copy_out(95, &mut bytes);
@@ -234,170 +223,117 @@ fn read_and_written(rt: &impl Abort, mut skb: Skb, out: &mut Outcomes) -> (usize
     let head = skb.head();
     let written = head.len() == 100 && head[0] == 9 && head[99] == 9;
     skb.share_head();
-    assert!(rt; !skb.head_is_sole());
-    assert!(rt; skb.count() <= out.spare());
-    skb.release(out);
+    assert!(rt; !skb.head_is_sole() && skb.count() <= out.spare());
+    skb.release(&mut out);
+    let _ = spend(out);
     (piece, copied, written)
 }
 
 // Whether a shared head is lent for writing.
-fn is_lent_beside_a_clone(rt: &impl Abort, mut skb: Skb, out: &mut Outcomes) -> bool
-    requires spare { (skb.rest ≡ []) × (2 ≤ out.old.spare) }
-{
+fn is_lent_beside_a_clone(rt: &impl Abort, alloc: Global) -> bool {
+    let mut out = room_for(rt, alloc, 2);
+    let mut skb = Skb::new(block(rt, alloc), 64, 128, Pieces::new(alloc));
     let lent = match skb.clone() {
         Ok(clone) => {
-            clone.release(out);
+            clone.release(&mut out);
             skb.head_mut().is_some()
         }
         Err(_) => true,
     };
     assert!(rt; skb.count() <= out.spare());
-    skb.release(out);
+    skb.release(&mut out);
+    let _ = spend(out);
     lent
 }
 
 #[test]
-fn a_head_of_weight_one_is_not_cut(rt: HostRuntime) -> Result<(), Fail> {
-    let block = Sole::new(rt.alloc())?;
-    let mut out = Outcomes::new(rt.alloc());
-    if out.reserve(13).is_err() {
-        out.settle();
-        return Ok(());
-    }
-    let skb = Skb::new(block, 0, 10, Pieces::new(rt.alloc()));
-    let seen = of_weight_one(skb, &mut out);
-    let soles = spend(out);
-    assert_eq!(rt; seen, (1, true, 0));
-    assert_eq!(rt; soles, 1);
-    Ok(())
+fn a_head_of_weight_one_is_not_cut(rt: HostRuntime) {
+    let alloc = rt.alloc();
+    assert_eq!(rt; of_weight_one(&rt, alloc), (1, true, 0, 1));
 }
 
 #[test]
-fn bytes_are_read_and_written(rt: HostRuntime) -> Result<(), Fail> {
-    let first = Sole::new(rt.alloc())?;
-    let second = Sole::new(rt.alloc())?;
-    let third = Sole::new(rt.alloc())?;
-    let mut out = Outcomes::new(rt.alloc());
-    if out.reserve(6).is_err() {
-        out.settle();
-        return Ok(());
-    }
-    let seen = match two_blocks(first, second, rt.alloc(), &mut out) {
-        Some(skb) => read_and_written(&rt, skb, &mut out),
-        None => (0, false, false),
-    };
-    assert!(rt; 2 <= out.spare());
-    let shared = Skb::new(third, 64, 128, Pieces::new(rt.alloc()));
-    let lent = is_lent_beside_a_clone(&rt, shared, &mut out);
-    let _ = spend(out);
-    assert_eq!(rt; seen, (100, true, true));
-    assert!(rt; !lent);
-    Ok(())
+fn bytes_are_read_and_written(rt: HostRuntime) {
+    let alloc = rt.alloc();
+    assert_eq!(rt; read_and_written(&rt, alloc), (100, true, true));
+    assert!(rt; !is_lent_beside_a_clone(&rt, alloc));
 }
 
 #[test]
-fn two_blocks_are_cut_at_each_place(rt: HostRuntime) -> Result<(), Fail> {
-    let rows = [
-        (0, [0, 1, 200, 2]),
-        (40, [40, 1, 160, 2]),
-        (100, [100, 1, 100, 1]),
-        (150, [150, 2, 50, 1]),
-        (200, [200, 2, 0, 0]),
+fn two_blocks_are_cut_at_each_place(rt: HostRuntime) {
+    let alloc = rt.alloc();
+    let seen = [
+        cut_at(&rt, alloc, 0),
+        cut_at(&rt, alloc, 40),
+        cut_at(&rt, alloc, 100),
+        cut_at(&rt, alloc, 150),
+        cut_at(&rt, alloc, 200),
     ];
-    for (at, numbers) in rows {
-        let first = Sole::new(rt.alloc())?;
-        let second = Sole::new(rt.alloc())?;
-        let mut out = Outcomes::new(rt.alloc());
-        if out.reserve(6).is_err() {
-            out.settle();
-            return Ok(());
-        }
-        let seen = match two_blocks(first, second, rt.alloc(), &mut out) {
-            Some(skb) => cut_at(skb, at, &mut out),
-            None => ([0; 4], false),
-        };
-        let soles = spend(out);
-        assert_eq!(rt; seen, (numbers, true));
-        assert_eq!(rt; soles, 2);
-    }
-    Ok(())
+    assert_eq!(rt;
+        seen,
+        [
+            ([0, 1, 200, 2], true, 2),
+            ([40, 1, 160, 2], true, 2),
+            ([100, 1, 100, 1], true, 2),
+            ([150, 2, 50, 1], true, 2),
+            ([200, 2, 0, 0], true, 2),
+        ]
+    );
 }
 
 #[test]
-fn ends_are_cut_off(rt: HostRuntime) -> Result<(), Fail> {
-    let rows = [
-        ((30, 30), [140, 94, 70, 2]),
-        ((120, 30), [50, 164, 0, 2]),
-        ((10, 150), [40, 74, 40, 1]),
-        ((200, 0), [0, 164, 0, 1]),
+fn ends_are_cut_off(rt: HostRuntime) {
+    let alloc = rt.alloc();
+    let seen = [
+        cut_off(&rt, alloc, 30, 30),
+        cut_off(&rt, alloc, 120, 30),
+        cut_off(&rt, alloc, 10, 150),
+        cut_off(&rt, alloc, 200, 0),
     ];
-    for ((first, last), numbers) in rows {
-        let one = Sole::new(rt.alloc())?;
-        let two = Sole::new(rt.alloc())?;
-        let mut out = Outcomes::new(rt.alloc());
-        if out.reserve(6).is_err() {
-            out.settle();
-            return Ok(());
-        }
-        let seen = match two_blocks(one, two, rt.alloc(), &mut out) {
-            Some(skb) => cut_off(skb, first, last, &mut out),
-            None => ([0; 4], false),
-        };
-        let soles = spend(out);
-        assert_eq!(rt; seen, (numbers, true));
-        assert_eq!(rt; soles, 2);
-    }
-    Ok(())
+    assert_eq!(rt;
+        seen,
+        [
+            ([140, 94, 70, 2], true, 2),
+            ([50, 164, 0, 2], true, 2),
+            ([40, 74, 40, 1], true, 2),
+            ([0, 164, 0, 1], true, 2),
+        ]
+    );
 }
 
 #[test]
-fn first_bytes_are_pulled_up(rt: HostRuntime) -> Result<(), Fail> {
-    let rows = [
-        (100, ([64, 100, 2], false)),
-        (150, ([64, 150, 2], true)),
-        (200, ([64, 200, 1], true)),
-        (201, ([64, 100, 2], false)),
+fn first_bytes_are_pulled_up(rt: HostRuntime) {
+    let alloc = rt.alloc();
+    let seen = [
+        pulled_up(&rt, alloc, 100),
+        pulled_up(&rt, alloc, 150),
+        pulled_up(&rt, alloc, 200),
+        pulled_up(&rt, alloc, 201),
     ];
-    for (n, (numbers, served)) in rows {
-        let one = Sole::new(rt.alloc())?;
-        let two = Sole::new(rt.alloc())?;
-        let spare = Sole::new(rt.alloc())?;
-        let mut out = Outcomes::new(rt.alloc());
-        if out.reserve(6).is_err() {
-            out.settle();
-            return Ok(());
-        }
-        let seen = match two_blocks(one, two, rt.alloc(), &mut out) {
-            Some(skb) => pulled_up(skb, n, spare, &mut out),
-            None => ([0; 3], false, false),
-        };
-        let _ = spend(out);
-        assert_eq!(rt; seen, (numbers, served, true));
-    }
-    Ok(())
+    assert_eq!(rt;
+        seen,
+        [
+            ([64, 100, 2], false, true),
+            ([64, 150, 2], true, true),
+            ([64, 200, 1], true, true),
+            ([64, 100, 2], false, true),
+        ]
+    );
 }
 
 #[test]
-fn buffers_are_moved_behind_pieces(rt: HostRuntime) -> Result<(), Fail> {
-    for (first, numbers) in [(0, [200, 2]), (40, [160, 2]), (100, [100, 1])] {
-        let one = Sole::new(rt.alloc())?;
-        let two = Sole::new(rt.alloc())?;
-        let mut out = Outcomes::new(rt.alloc());
-        if out.reserve(8).is_err() {
-            out.settle();
-            return Ok(());
-        }
-        let seen = match two_blocks(one, two, rt.alloc(), &mut out) {
-            Some(mut skb) => {
-                let _ = skb.pull(first, &mut out);
-                assert!(rt; skb.len() <= 200 && skb.count() == 2 && out.spare() >= 4);
-                moved(&rt, skb, first, rt.alloc(), &mut out)
-            }
-            None => ([0; 2], false),
-        };
-        let soles = spend(out);
-        assert_eq!(rt; seen, (numbers, true));
-        assert_eq!(rt; soles, 2);
-    }
-    Ok(())
+fn buffers_are_moved_behind_pieces(rt: HostRuntime) {
+    let alloc = rt.alloc();
+    assert_eq!(rt;
+        [
+            moved(&rt, alloc, 0),
+            moved(&rt, alloc, 40),
+            moved(&rt, alloc, 100)
+        ],
+        [
+            ([200, 2], true, 2),
+            ([160, 2], true, 2),
+            ([100, 1], true, 2),
+        ]
+    );
 }

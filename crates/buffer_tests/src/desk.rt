@@ -12,7 +12,6 @@ use std::alloc::{AllocError, Global};
 use std::collections::VecDeque;
 use std::marker::Brand;
 use std::sync::Wait;
-use std::test::Fail;
 use std::thread::{Threads, for_each_mut, join_mut};
 
 const TASKS: u32 = 7;
@@ -187,24 +186,22 @@ fn by_crew<R: Threads + Wait + Sync, G: Gate + Sync>(
 }
 
 #[test]
-fn answers_stand_in_the_order_of_the_tasks(rt: HostRuntime) -> Result<(), Fail> {
+fn answers_stand_in_the_order_of_the_tasks(rt: HostRuntime) {
     let alloc = rt.alloc();
     let mut alone = Alone {
         job: &Passing { gate: &NoGate },
     };
     let right = [
-        rounds_by(&mut alone, alloc, 300, TASKS)?,
-        by_crew(&rt, alloc, &NoGate, 0, 300, TASKS)?,
-        by_crew(&rt, alloc, &NoGate, 3, 300, TASKS)?,
+        rounds_by(&mut alone, alloc, 300, TASKS).expect(&rt, "no memory"),
+        by_crew(&rt, alloc, &NoGate, 0, 300, TASKS).expect(&rt, "no memory"),
+        by_crew(&rt, alloc, &NoGate, 3, 300, TASKS).expect(&rt, "no memory"),
     ];
     assert_eq!(rt; right, [300, 300, 300]);
-    Ok(())
 }
 
 #[test]
-fn two_tasks_meet(rt: HostRuntime) -> Result<(), Fail> {
+fn two_tasks_meet(rt: HostRuntime) {
     let meeting = Meeting::of(Who::Worker(0), Who::Worker(1));
-    assert_eq!(rt; by_crew(&rt, rt.alloc(), &meeting, 1, 1, 2)?, 1);
-    assert_eq!(rt; meeting.met(), 2);
-    Ok(())
+    let right = by_crew(&rt, rt.alloc(), &meeting, 1, 1, 2).expect(&rt, "no memory");
+    assert_eq!(rt; (right, meeting.met()), (1, 2));
 }

@@ -18,6 +18,8 @@ mod examples;
 #[cfg(test)]
 mod machines;
 #[cfg(test)]
+mod memory;
+#[cfg(test)]
 mod pieces;
 #[cfg(test)]
 mod pools;

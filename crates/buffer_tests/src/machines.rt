@@ -1,24 +1,32 @@
 //! Rows of events with their answers, and a long run of both machines.
 use ref_core::{Answer, Event, SetMachine, WeightMachine};
-use std::alloc::AllocError;
-use std::test::Fail;
+use std::alloc::{AllocError, Global};
+use std::process::Abort;
 
 const BLOCKS: u32 = 4;
 
 const HOLDERS: u32 = 16;
 
-fn weights_of(rt: &HostRuntime, events: &[Event]) -> Result<Vec<Answer>, AllocError> {
-    let mut answers = Vec::new(rt.alloc());
-    let mut machine = WeightMachine::make(rt.alloc(), BLOCKS)?;
+fn weights_of(alloc: Global, events: &[Event]) -> Result<Vec<Answer>, AllocError> {
+    let mut answers = Vec::new(alloc);
+    let mut machine = WeightMachine::make(alloc, BLOCKS)?;
     machine.run_events(events, &mut answers)?;
     Ok(answers)
 }
 
-fn sets_of(rt: &HostRuntime, events: &[Event]) -> Result<Vec<Answer>, AllocError> {
-    let mut answers = Vec::new(rt.alloc());
-    let mut machine = SetMachine::make(rt.alloc(), BLOCKS)?;
+fn sets_of(alloc: Global, events: &[Event]) -> Result<Vec<Answer>, AllocError> {
+    let mut answers = Vec::new(alloc);
+    let mut machine = SetMachine::make(alloc, BLOCKS)?;
     machine.run_events(events, &mut answers)?;
     Ok(answers)
+}
+
+// Both machines answer so.
+fn are_answered(rt: &impl Abort, alloc: Global, events: &[Event], wanted: &[Answer]) {
+    let sets = sets_of(alloc, events).expect(rt, "no memory");
+    let weights = weights_of(alloc, events).expect(rt, "no memory");
+    assert_eq!(rt; sets.as_slice(), wanted);
+    assert_eq!(rt; weights.as_slice(), wanted);
 }
 
 const TAKE: Event = Event::Take {
@@ -39,7 +47,7 @@ const WRITE: Event = Event::Write {
 };
 
 #[test]
-fn a_shared_block_is_not_written(rt: HostRuntime) -> Result<(), Fail> {
+fn a_shared_block_is_not_written(rt: HostRuntime) {
     let events = [
         TAKE,
         SHARE,
@@ -60,13 +68,11 @@ fn a_shared_block_is_not_written(rt: HostRuntime) -> Result<(), Fail> {
         Answer::Last,
         Answer::Unlawful,
     ];
-    assert_eq!(rt; sets_of(&rt, &events)?.as_ref(), &wanted[..]);
-    assert_eq!(rt; weights_of(&rt, &events)?.as_ref(), &wanted[..]);
-    Ok(())
+    are_answered(&rt, rt.alloc(), &events, &wanted);
 }
 
 #[test]
-fn joined_holders_are_one(rt: HostRuntime) -> Result<(), Fail> {
+fn joined_holders_are_one(rt: HostRuntime) {
     let events = [
         TAKE,
         SHARE,
@@ -84,13 +90,11 @@ fn joined_holders_are_one(rt: HostRuntime) -> Result<(), Fail> {
         Answer::Yes,
         Answer::Unlawful,
     ];
-    assert_eq!(rt; sets_of(&rt, &events)?.as_ref(), &wanted[..]);
-    assert_eq!(rt; weights_of(&rt, &events)?.as_ref(), &wanted[..]);
-    Ok(())
+    are_answered(&rt, rt.alloc(), &events, &wanted);
 }
 
 #[test]
-fn nothing_cannot_be_given(rt: HostRuntime) -> Result<(), Fail> {
+fn nothing_cannot_be_given(rt: HostRuntime) {
     let events = [
         TAKE,
         Event::Share {
@@ -99,11 +103,11 @@ fn nothing_cannot_be_given(rt: HostRuntime) -> Result<(), Fail> {
             give: 0,
         },
     ];
+    let answers = weights_of(rt.alloc(), &events).expect(&rt, "no memory");
     assert_eq!(rt;
-        weights_of(&rt, &events)?.as_ref(),
-        &[Answer::Done, Answer::BadGive][..]
+        answers.as_slice(),
+        [Answer::Done, Answer::BadGive].as_slice()
     );
-    Ok(())
 }
 
 // The next number of a linear congruential generator, and 16 bits of it.
@@ -166,8 +170,7 @@ fn compared(rt: &HostRuntime) -> Result<(u32, u32, u32), AllocError> {
 }
 
 #[test]
-fn machines_answer_alike(rt: HostRuntime) -> Result<(), Fail> {
+fn machines_answer_alike(rt: HostRuntime) {
     // The first two counts are those of a model in another language.
-    assert_eq!(rt; compared(&rt)?, (9_854, 1_749, 0));
-    Ok(())
+    assert_eq!(rt; compared(&rt).expect(&rt, "no memory"), (9_854, 1_749, 0));
 }

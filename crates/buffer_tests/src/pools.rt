@@ -6,7 +6,6 @@ mod lists;
 mod passes;
 
 use block_pool::Pool;
-use std::test::Fail;
 
 // What is home without the block, whether a second take is Empty, and whether the block can be taken again.
 fn turn(pool: &mut Pool) -> (u32, bool, bool)
@@ -24,10 +23,12 @@ fn turn(pool: &mut Pool) -> (u32, bool, bool)
 }
 
 #[test]
-fn one_block_is_taken_and_comes_home(rt: HostRuntime) -> Result<(), Fail> {
-    let mut pool = Pool::make(rt.alloc(), 1)?;
-    assert_eq!(rt; (pool.home(), pool.made(), pool.taken()), (1, 1, 0));
-    assert_eq!(rt; turn(&mut pool), (0, true, true));
-    assert_eq!(rt; (pool.made(), pool.taken()), (1, 2));
-    Ok(())
+fn one_block_is_taken_and_comes_home(rt: HostRuntime) {
+    let mut pool = Pool::make(rt.alloc(), 1).expect(&rt, "no memory");
+    let before = (pool.home(), pool.made(), pool.taken());
+    let seen = turn(&mut pool);
+    assert_eq!(rt;
+        (before, seen, pool.made(), pool.taken()),
+        ((1, 1, 0), (0, true, true), 1, 2)
+    );
 }

@@ -1,14 +1,15 @@
 //! Readers on other threads, each with a clone, while the buffer itself is pushed, trimmed, pulled, unshared and
 //! released.
-ghost use Rattle.std.specs.Prelude.{◌≡◌, ◌+◌, ◌≤◌, length, IfSome, IfOk, None};
+ghost use Rattle.std.specs.Prelude.{◌≡◌, ◌+◌, ◌≤◌, length, IfSome, None};
 
 use crate::buffers::spend;
+use crate::memory::{block, room_for};
 use frags::{Outcomes, Pieces};
 use raw_block::{Released, Sole};
 use skb::{RoomFault, Skb, Unshared};
-use std::alloc::{AllocError, Global};
+use std::alloc::Global;
+use std::process::Abort;
 use std::sync::atomic::{AtomicU32, Ordering};
-use std::test::Fail;
 use std::thread::{Threads, join_mut, yield_now};
 
 const SIZE: usize = 100;
@@ -175,19 +176,19 @@ fn read_beside<R: Threads + Sync>(
     )
 }
 
-fn filled(alloc: Global) -> Result<Sole, AllocError> {
-    let mut block = Sole::new(alloc)?;
+fn filled(rt: &impl Abort, alloc: Global) -> Sole {
+    let mut block = block(rt, alloc);
     block.bytes_mut().fill(7);
-    Ok(block)
+    block
 }
 
 // A head and a piece of a second block.
-fn buffer_of(head: Sole, second: Sole, alloc: Global, out: &mut Outcomes) -> Skb
+fn buffer_of(rt: &impl Abort, alloc: Global, out: &mut Outcomes) -> Skb
     requires spare { 2 ≤ out.old.spare }
     ensures rest { (length result.rest ≤ 1) × (out.old.spare ≤ out.new.spare + 1) }
 {
-    let mut skb = Skb::new(head, 64, 64 + SIZE, Pieces::new(alloc));
-    let other = Skb::new(second, 0, SIZE, Pieces::new(alloc));
+    let mut skb = Skb::new(filled(rt, alloc), 64, 64 + SIZE, Pieces::new(alloc));
+    let other = Skb::new(filled(rt, alloc), 0, SIZE, Pieces::new(alloc));
     if let Err((other, _)) = skb.attach(other, out) {
         other.release(out);
     }
@@ -229,41 +230,19 @@ fn home_of_writer(writer: Writer) -> usize
     }
 }
 
-// Room for eight returns in each.
-fn rooms(alloc: Global) -> Result<(Outcomes, Outcomes, Outcomes), AllocError>
-    ensures room { IfOk result (λ o. (8 ≤ o.0.spare) × (8 ≤ o.1.spare) × (8 ≤ o.2.spare)) }
-{
-    let mut a = Outcomes::new(alloc);
-    let mut b = Outcomes::new(alloc);
-    let mut c = Outcomes::new(alloc);
-    let _ = a.reserve(8);
-    let _ = b.reserve(8);
-    let _ = c.reserve(8);
-    if a.spare().min(b.spare()).min(c.spare()) < 8 {
-        a.settle();
-        b.settle();
-        c.settle();
-        return Err(AllocError);
-    }
-    Ok((a, b, c))
-}
-
 // The changes that the readers saw, how the pushes went, and the blocks that came home.
-fn turn<R: Threads + Sync>(
+fn turn<R: Abort + Threads + Sync>(
     rt: &R,
     alloc: Global,
     reads: u32,
-) -> Result<(u32, (bool, bool), usize), AllocError> {
-    let head = filled(alloc)?;
-    let second = filled(alloc)?;
-    let spare = Sole::new(alloc)?;
-    let (mut out, a, b) = rooms(alloc)?;
-    let mut skb = buffer_of(head, second, alloc, &mut out);
-    let mut first = reader_of(&mut skb, a);
-    let mut second = reader_of(&mut skb, b);
+) -> (u32, (bool, bool), usize) {
+    let mut out = room_for(rt, alloc, 8);
+    let mut skb = buffer_of(rt, alloc, &mut out);
+    let mut first = reader_of(&mut skb, room_for(rt, alloc, 8));
+    let mut second = reader_of(&mut skb, room_for(rt, alloc, 8));
     let mut writer = Writer {
         skb: Some(skb),
-        spare: Some(spare),
+        spare: Some(block(rt, alloc)),
         out,
     };
     let meeting = Meeting {
@@ -275,15 +254,14 @@ fn turn<R: Threads + Sync>(
     let home = home_of_writer(writer)
         .wrapping_add(home_of(first))
         .wrapping_add(home_of(second));
-    Ok((changes, went, home))
+    (changes, went, home)
 }
 
 #[test]
-fn clones_keep_their_bytes_beside_a_writer(rt: HostRuntime) -> Result<(), Fail> {
+fn clones_keep_their_bytes_beside_a_writer(rt: HostRuntime) {
+    let alloc = rt.alloc();
     // With few reads the clones are given back while `unshare` asks for the head's block, with many after it.
     for at in 0..1000u32 {
-        let seen = turn(&rt, rt.alloc(), at % 16)?;
-        assert_eq!(rt; seen, (0, (true, true), 3));
+        assert_eq!(rt; turn(&rt, alloc, at % 16), (0, (true, true), 3));
     }
-    Ok(())
 }

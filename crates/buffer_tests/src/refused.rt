@@ -46,6 +46,17 @@ fn answers_of(
     (by_sets, by_weights)
 }
 
+// Both answer so.
+fn are_answered(
+    rt: &impl Abort,
+    sets: &mut SetMachine,
+    weights: &mut WeightMachine,
+    event: Event,
+    answer: Answer,
+) {
+    assert_eq!(rt; answers_of(rt, sets, weights, event), (answer, answer));
+}
+
 #[test]
 fn machines_are_asked_again(rt: HostRuntime) {
     let mut sets = set_machine(&rt, rt.alloc());
@@ -54,24 +65,21 @@ fn machines_are_asked_again(rt: HostRuntime) {
         block: 0,
         holder: 0,
     };
-    let done = (Answer::Done, Answer::Done);
-    assert_eq!(rt; answers_of(&rt, &mut sets, &mut weights, take), done);
+    are_answered(&rt, &mut sets, &mut weights, take, Answer::Done);
     for fresh in 1..HOLDERS {
         let share = Event::Share {
             holder: 0,
             fresh,
             give: 1,
         };
-        assert_eq!(rt; answers_of(&rt, &mut sets, &mut weights, share), done);
+        are_answered(&rt, &mut sets, &mut weights, share, Answer::Done);
     }
     for holder in 1..HOLDERS {
-        let left = (Answer::Left, Answer::Left);
         let back = Event::GiveBack { holder };
-        assert_eq!(rt; answers_of(&rt, &mut sets, &mut weights, back), left);
+        are_answered(&rt, &mut sets, &mut weights, back, Answer::Left);
     }
-    let last = (Answer::Last, Answer::Last);
     let back = Event::GiveBack { holder: 0 };
-    assert_eq!(rt; answers_of(&rt, &mut sets, &mut weights, back), last);
+    are_answered(&rt, &mut sets, &mut weights, back, Answer::Last);
 }
 
 fn shared_pool<R: Abort + Wait>(rt: &R, alloc: Global) -> (SharedPool, PoolPass)
@@ -100,6 +108,6 @@ fn taken_and_put<R: Wait>(rt: &R, pool: &SharedPool, pass: &mut PoolPass) -> Opt
 #[test]
 fn a_shared_pool_is_made_again(rt: HostRuntime) {
     let (pool, mut pass) = shared_pool(&rt, rt.alloc());
-    assert_eq!(rt; taken_and_put(&rt, &pool, &mut pass), Some(3));
-    assert_eq!(rt; (pass.takes(), pass.puts()), (3, 3));
+    let taken = taken_and_put(&rt, &pool, &mut pass);
+    assert_eq!(rt; (taken, pass.takes(), pass.puts()), (Some(3), 3, 3));
 }

@@ -1,27 +1,17 @@
 //! A block's bytes in three pieces, and outcomes that are counted.
-ghost use Rattle.std.specs.Prelude.{◌+◌, ◌<◌, ◌≤◌, length, IfSome};
+ghost use Rattle.std.specs.Prelude.{◌+◌, ◌<◌, ◌≤◌, length};
 ghost use Rattle.frags.specs.PieceList.{size_of};
 
+use crate::memory::{block, room_for};
 use frags::{Outcomes, Pieces};
-use raw_block::{Part, Sole};
+use raw_block::Part;
 use std::alloc::Global;
+use std::process::Abort;
 
 /// The bytes of the three pieces, of a block whose bytes are their places.
 pub const ALL: [u8; 25] = [
     0, 1, 2, 3, 4, 5, 6, 7, 8, 9, 100, 101, 102, 103, 104, 50, 51, 52, 53, 54, 55, 56, 57, 58, 59,
 ];
-
-/// Room for eight, if there is memory.
-pub fn outcomes(alloc: Global) -> Option<Outcomes>
-    ensures room { IfSome result (λ out. 8 ≤ out.spare) }
-{
-    let mut out = Outcomes::new(alloc);
-    if out.reserve(8).is_err() {
-        out.settle();
-        return None;
-    }
-    Some(out)
-}
 
 /// The Soles and the receipts that were given back.
 pub fn counted(mut out: Outcomes) -> (usize, usize) {
@@ -49,11 +39,12 @@ pub fn put(pieces: &mut Pieces, part: Part, from: usize, to: usize, out: &mut Ou
     }
 }
 
-/// The bytes 0 to 10, 100 to 105 and 50 to 60 of a block, each with a part of its own.
-pub fn three_pieces(mut block: Sole, alloc: Global, out: &mut Outcomes) -> Pieces
-    requires spare { 3 ≤ out.old.spare }
-    ensures left { (length result ≤ 3) × (size_of result ≤ 6144) × (out.old.spare ≤ out.new.spare + 3) }
+/// The bytes 0 to 10, 100 to 105 and 50 to 60 of a block, each with a part of its own; and room for eight.
+pub fn three_pieces(rt: &impl Abort, alloc: Global) -> (Pieces, Outcomes)
+    ensures left { (length result.0 ≤ 3) × (size_of result.0 ≤ 6144) × (5 ≤ result.1.spare) }
 {
+    let mut out = room_for(rt, alloc, 8);
+    let mut block = block(rt, alloc);
     let bytes = block.bytes_mut();
     for i in 0..200u8 {
         bytes[usize::from(i)] = i;
@@ -62,10 +53,10 @@ pub fn three_pieces(mut block: Sole, alloc: Global, out: &mut Outcomes) -> Piece
     let second = first.split(1 << 60);
     let third = first.split(1 << 60);
     let mut pieces = Pieces::new(alloc);
-    put(&mut pieces, first, 0, 10, out);
-    put(&mut pieces, second, 100, 105, out);
-    put(&mut pieces, third, 50, 60, out);
-    pieces
+    put(&mut pieces, first, 0, 10, &mut out);
+    put(&mut pieces, second, 100, 105, &mut out);
+    put(&mut pieces, third, 50, 60, &mut out);
+    (pieces, out)
 }
 
 /// The pieces have the bytes `from..to` of the three.

@@ -1,112 +1,87 @@
 //! Bytes across pieces, and cuts at each kind of place.
-use super::blocks::{counted, has_bytes, outcomes, three_pieces};
+use super::blocks::{counted, has_bytes, three_pieces};
+use crate::memory::block;
 use frags::{PieceBuilder, Pieces, ShareFault};
-use raw_block::Sole;
 use std::alloc::Global;
-use std::test::Fail;
+use std::process::Abort;
 
 // A copy across all three pieces, two single bytes and the second piece.
-fn read(block: Sole, alloc: Global) -> Option<([u8; 12], (u8, u8), bool)> {
-    let mut out = outcomes(alloc)?;
-    let pieces = three_pieces(block, alloc, &mut out);
+fn read(rt: &impl Abort, alloc: Global) -> ([u8; 12], [u8; 2], bool) {
+    let (pieces, mut out) = three_pieces(rt, alloc);
+    assert!(rt; pieces.len() == 25 && pieces.count() == 3);
     let mut copy = [0; 12];
-    let mut ends = (0, 0);
-    let mut second = false;
-    if pieces.len() == 25 && pieces.count() == 3 {
-        pieces.copy_out(7, &mut copy);
-        ends = (pieces.byte_at(10), pieces.byte_at(24));
-        second = pieces.slice(1) == [100u8, 101, 102, 103, 104].as_slice();
-    }
+    pieces.copy_out(7, &mut copy);
+    let ends = [pieces.byte_at(10), pieces.byte_at(24)];
+    let second = pieces.slice(1) == [100u8, 101, 102, 103, 104].as_slice();
     pieces.release(&mut out);
     let _ = counted(out);
-    Some((copy, ends, second))
+    (copy, ends, second)
 }
 
 #[test]
-fn bytes_are_read_across_pieces(rt: HostRuntime) -> Result<(), Fail> {
-    let block = Sole::new(rt.alloc())?;
+fn bytes_are_read_across_pieces(rt: HostRuntime) {
+    let alloc = rt.alloc();
     let copy = [7, 8, 9, 100, 101, 102, 103, 104, 50, 51, 52, 53];
-    assert_eq!(rt; read(block, rt.alloc()), Some((copy, (100, 59), true)));
-    Ok(())
+    assert_eq!(rt; read(&rt, alloc), (copy, [100, 59], true));
 }
 
 // Whether `cut_front` leaves all but the first `n` bytes, and what was given back until the end.
-fn front_cut(block: Sole, alloc: Global, n: usize) -> Option<(bool, (usize, usize))> {
-    let mut out = outcomes(alloc)?;
-    let mut pieces = three_pieces(block, alloc, &mut out);
+fn front_cut(rt: &impl Abort, alloc: Global, n: usize) -> (bool, (usize, usize)) {
+    let (mut pieces, mut out) = three_pieces(rt, alloc);
     let cut = pieces.cut_front(n, &mut out).is_ok();
     let right = cut && has_bytes(&pieces, n, 25);
     pieces.release(&mut out);
-    Some((right, counted(out)))
+    (right, counted(out))
 }
 
 // The same of `cut_back` and the last `n` bytes.
-fn back_cut(block: Sole, alloc: Global, n: usize) -> Option<(bool, (usize, usize))> {
-    let mut out = outcomes(alloc)?;
-    let mut pieces = three_pieces(block, alloc, &mut out);
+fn back_cut(rt: &impl Abort, alloc: Global, n: usize) -> (bool, (usize, usize)) {
+    let (mut pieces, mut out) = three_pieces(rt, alloc);
     let cut = pieces.cut_back(n, &mut out).is_ok();
     let right = cut && n <= 25 && has_bytes(&pieces, 0, 25 - n);
     pieces.release(&mut out);
-    Some((right, counted(out)))
+    (right, counted(out))
 }
 
 // Whether `split_at` leaves the first `at` bytes and answers the others, `join_back` makes the whole again, and `take`
 // moves it out.
-fn split_and_joined(block: Sole, alloc: Global, at: usize) -> Option<(bool, bool, (usize, usize))> {
-    let mut out = outcomes(alloc)?;
-    let mut pieces = three_pieces(block, alloc, &mut out);
+fn split_and_joined(rt: &impl Abort, alloc: Global, at: usize) -> (bool, bool, (usize, usize)) {
+    let (mut pieces, mut out) = three_pieces(rt, alloc);
     let Ok(rest) = pieces.split_at(at) else {
-        pieces.release(&mut out);
-        let _ = counted(out);
-        return None;
+        panic!(rt; "not split");
     };
     let split = has_bytes(&pieces, 0, at) && has_bytes(&rest, at, 25);
-    if let Err((rest, _)) = pieces.join_back(rest) {
-        rest.release(&mut out);
-        pieces.release(&mut out);
-        let _ = counted(out);
-        return None;
+    if let Err((_rest, _)) = pieces.join_back(rest) {
+        panic!(rt; "no memory");
     }
     let whole = pieces.take();
     let joined = has_bytes(&whole, 0, 25) && pieces.len() == 0;
     whole.release(&mut out);
     pieces.discard();
-    Some((split, joined, counted(out)))
+    (split, joined, counted(out))
 }
 
 #[test]
-fn cuts_leave_the_other_bytes(rt: HostRuntime) -> Result<(), Fail> {
+fn cuts_leave_the_other_bytes(rt: HostRuntime) {
+    let alloc = rt.alloc();
     for n in [0, 3, 10, 12, 15, 24, 25] {
-        let block = Sole::new(rt.alloc())?;
-        assert_eq!(rt;
-            front_cut(block, rt.alloc(), n),
-            Some((true, (1, 2))),
-            "front {n}"
-        );
-        let block = Sole::new(rt.alloc())?;
-        assert_eq!(rt;
-            back_cut(block, rt.alloc(), n),
-            Some((true, (1, 2))),
-            "back {n}"
-        );
+        let seen = [front_cut(&rt, alloc, n), back_cut(&rt, alloc, n)];
+        assert_eq!(rt; seen, [(true, (1, 2)); 2], "at {n}");
     }
-    Ok(())
 }
 
 #[test]
-fn a_split_makes_one_part_more_inside_a_piece(rt: HostRuntime) -> Result<(), Fail> {
+fn a_split_makes_one_part_more_inside_a_piece(rt: HostRuntime) {
+    let alloc = rt.alloc();
     for (at, receipts) in [(0, 2), (3, 3), (10, 2), (12, 3), (15, 2), (24, 3), (25, 2)] {
-        let block = Sole::new(rt.alloc())?;
-        let wanted = Some((true, true, (1, receipts)));
-        assert_eq!(rt; split_and_joined(block, rt.alloc(), at), wanted, "at {at}");
+        let seen = split_and_joined(&rt, alloc, at);
+        assert_eq!(rt; seen, (true, true, (1, receipts)), "at {at}");
     }
-    Ok(())
 }
 
 // What the three cuts behind the end answer.
-fn short(block: Sole, alloc: Global) -> Option<[(usize, usize); 3]> {
-    let mut out = outcomes(alloc)?;
-    let mut pieces = three_pieces(block, alloc, &mut out);
+fn short(rt: &impl Abort, alloc: Global) -> [(usize, usize); 3] {
+    let (mut pieces, mut out) = three_pieces(rt, alloc);
     let mut numbers = [(0, 0); 3];
     if let Err(short) = pieces.cut_front(26, &mut out) {
         numbers[0] = (short.have, short.need);
@@ -121,41 +96,33 @@ fn short(block: Sole, alloc: Global) -> Option<[(usize, usize); 3]> {
     }
     pieces.release(&mut out);
     let _ = counted(out);
-    Some(numbers)
+    numbers
 }
 
 #[test]
-fn a_cut_behind_the_end_is_short(rt: HostRuntime) -> Result<(), Fail> {
-    let block = Sole::new(rt.alloc())?;
-    let wanted = [(25, 26), (25, 27), (25, 28)];
-    assert_eq!(rt; short(block, rt.alloc()), Some(wanted));
-    Ok(())
+fn a_cut_behind_the_end_is_short(rt: HostRuntime) {
+    let alloc = rt.alloc();
+    assert_eq!(rt; short(&rt, alloc), [(25, 26), (25, 27), (25, 28)]);
 }
 
 // A piece and the three pieces of another block, put together in reserved places.
-fn built(block: Sole, other: Sole, alloc: Global) -> Option<(bool, usize, (usize, usize))> {
-    let mut out = outcomes(alloc)?;
+fn built(rt: &impl Abort, alloc: Global) -> (bool, usize, (usize, usize)) {
+    let (three, mut out) = three_pieces(rt, alloc);
     let none = Pieces::new(alloc);
-    let Ok(mut builder) = PieceBuilder::with_room(none.allocator(), 4) else {
-        none.release(&mut out);
-        let _ = counted(out);
-        return None;
-    };
+    let mut builder = PieceBuilder::with_room(none.allocator(), 4).expect(rt, "no room");
     builder.append(none);
-    builder.push(other.share(), 2000, 2048);
-    builder.append(three_pieces(block, alloc, &mut out));
+    builder.push(block(rt, alloc).share(), 2000, 2048);
+    builder.append(three);
     let room = builder.room();
     let mut pieces = builder.finish();
     let cut = pieces.cut_front(48, &mut out).is_ok();
     let right = cut && has_bytes(&pieces, 0, 25);
     pieces.release(&mut out);
-    Some((right, room, counted(out)))
+    (right, room, counted(out))
 }
 
 #[test]
-fn a_list_is_built_in_reserved_places(rt: HostRuntime) -> Result<(), Fail> {
-    let block = Sole::new(rt.alloc())?;
-    let other = Sole::new(rt.alloc())?;
-    assert_eq!(rt; built(block, other, rt.alloc()), Some((true, 0, (2, 2))));
-    Ok(())
+fn a_list_is_built_in_reserved_places(rt: HostRuntime) {
+    let alloc = rt.alloc();
+    assert_eq!(rt; built(&rt, alloc), (true, 0, (2, 2)));
 }

@@ -10,7 +10,6 @@ use block_pool::lists::{put_all, take_block};
 use block_pool::{ListPass, ListPool, Pool};
 use raw_block::Sole;
 use std::sync::Wait;
-use std::test::Fail;
 use std::thread;
 use std::thread::Threads;
 
@@ -61,25 +60,31 @@ fn give<R: Wait>(rt: &R, pool: &ListPool, pass: &mut ListPass, list: Pool) -> Op
 }
 
 #[test]
-fn a_list_comes_and_goes_by_one_step(rt: HostRuntime) -> Result<(), Fail> {
-    let (pool, mut pass) = ListPool::open(rt.alloc(), 1)?;
-    let mut hand = Pool::empty(rt.alloc(), 1)?;
-    let mut spent = Vec::with_capacity(rt.alloc(), 4)?;
-    assert_eq!(rt; (pool.made(), pool.places()), (0, 1));
-    let none = Pool::empty(rt.alloc(), 2)?;
-    assert_eq!(rt; give(&rt, &pool, &mut pass, none), Some(0));
-    let three = Pool::make(rt.alloc(), 3)?;
-    assert_eq!(rt; give(&rt, &pool, &mut pass, three), None);
-    let two = Pool::make(rt.alloc(), 2)?;
-    assert_eq!(rt; give(&rt, &pool, &mut pass, two), Some(2));
+fn a_list_comes_and_goes_by_one_step(rt: HostRuntime) {
+    let (pool, mut pass) = ListPool::open(rt.alloc(), 1).expect(&rt, "no memory");
+    let mut hand = Pool::empty(rt.alloc(), 1).expect(&rt, "no memory");
+    let mut spent = Vec::with_capacity(rt.alloc(), 4).expect(&rt, "no memory");
+    let sizes = (pool.made(), pool.places());
+    let none = Pool::empty(rt.alloc(), 2).expect(&rt, "no memory");
+    let three = Pool::make(rt.alloc(), 3).expect(&rt, "no memory");
+    let two = Pool::make(rt.alloc(), 2).expect(&rt, "no memory");
+    let given = [
+        give(&rt, &pool, &mut pass, none),
+        give(&rt, &pool, &mut pass, three),
+        give(&rt, &pool, &mut pass, two),
+    ];
+    let blocks = count_blocks(&rt, &pool, &mut pass, &mut hand, &mut spent);
     assert_eq!(rt;
-        count_blocks(&rt, &pool, &mut pass, &mut hand, &mut spent),
-        3
+        (given, blocks, spent.len()),
+        ([Some(0), None, Some(2)], 3, 1)
     );
-    assert_eq!(rt; (pass.takes(), pass.puts()), (1, 1));
-    assert_eq!(rt; (pass.empties(), pass.fulls()), (1, 1));
-    assert_eq!(rt; spent.len(), 1);
-    Ok(())
+    assert_eq!(rt;
+        (
+            sizes,
+            [pass.takes(), pass.puts(), pass.empties(), pass.fulls()]
+        ),
+        ((0, 1), [1, 1, 1, 1])
+    );
 }
 
 // A thread's pass of the pool that its lists come from, and of the one that they go to.
@@ -145,15 +150,17 @@ fn blocks_home<R: Wait>(rt: &R, pool: &ListPool, pass: &mut ListPass) -> u32
 }
 
 #[test]
-fn lists_go_to_and_fro(rt: HostRuntime) -> Result<(), Fail> {
-    let (there, mut there_pass) = ListPool::open(rt.alloc(), 4)?;
-    let (back, mut back_pass) = ListPool::open(rt.alloc(), 4)?;
-    let three = Pool::make(rt.alloc(), 3)?;
-    let five = Pool::make(rt.alloc(), 5)?;
-    assert_eq!(rt; give(&rt, &there, &mut there_pass, three), None);
-    assert_eq!(rt; give(&rt, &there, &mut there_pass, five), None);
+fn lists_go_to_and_fro(rt: HostRuntime) {
+    let (there, mut there_pass) = ListPool::open(rt.alloc(), 4).expect(&rt, "no memory");
+    let (back, mut back_pass) = ListPool::open(rt.alloc(), 4).expect(&rt, "no memory");
+    let three = Pool::make(rt.alloc(), 3).expect(&rt, "no memory");
+    let five = Pool::make(rt.alloc(), 5).expect(&rt, "no memory");
+    let given = [
+        give(&rt, &there, &mut there_pass, three),
+        give(&rt, &there, &mut there_pass, five),
+    ];
     if there_pass.parts() < 2 || back_pass.parts() < 2 {
-        return Ok(());
+        return;
     }
     let mut first = Side {
         from: there.fork(&mut there_pass),
@@ -166,12 +173,13 @@ fn lists_go_to_and_fro(rt: HostRuntime) -> Result<(), Fail> {
         blocks: 0,
     };
     to_and_fro(&rt, &there, &back, &mut first, &mut second);
-    assert_eq!(rt; first.blocks > 0, true);
-    let Side { from, to, .. } = first;
+    let Side { from, to, blocks } = first;
     there.gather(&rt, from, &mut second.to);
     back.gather(&rt, to, &mut second.from);
     let in_there = blocks_home(&rt, &there, &mut second.to);
     let in_back = blocks_home(&rt, &back, &mut second.from);
-    assert_eq!(rt; in_there.saturating_add(in_back), 8);
-    Ok(())
+    assert_eq!(rt;
+        (given, blocks > 0, in_there.saturating_add(in_back)),
+        ([None; 2], true, 8)
+    );
 }

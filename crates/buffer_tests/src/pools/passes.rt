@@ -11,7 +11,6 @@ use block_pool::shared::{Full, PoolPass, SharedPool};
 use raw_block::Sole;
 use std::alloc::{AllocError, Global};
 use std::sync::Wait;
-use std::test::Fail;
 use std::thread;
 use std::thread::Threads;
 
@@ -36,16 +35,17 @@ fn one_block<R: Wait>(
 }
 
 #[test]
-fn one_block_is_taken_and_comes_home(rt: HostRuntime) -> Result<(), Fail> {
-    let (pool, mut pass) = SharedPool::make(&rt, rt.alloc(), 1)?;
-    let mut fresh = Sole::new(rt.alloc())?;
+fn one_block_is_taken_and_comes_home(rt: HostRuntime) {
+    let (pool, mut pass) = SharedPool::make(&rt, rt.alloc(), 1).expect(&rt, "no memory");
+    let mut fresh = Sole::new(rt.alloc()).expect(&rt, "no memory");
     fresh.set_mark(7);
-    assert_eq!(rt; pool.made(), 1);
-    assert_eq!(rt; pass.parts(), 65_536);
-    assert_eq!(rt; one_block(&rt, &pool, &mut pass, fresh), Some((1, true)));
-    assert_eq!(rt; (pass.takes(), pass.puts()), (2, 2));
-    assert_eq!(rt; (pass.empties(), pass.fulls()), (1, 1));
-    Ok(())
+    let sizes = (pool.made(), pass.parts());
+    let seen = one_block(&rt, &pool, &mut pass, fresh);
+    assert_eq!(rt; (sizes, seen), ((1, 65_536), Some((1, true))));
+    assert_eq!(rt;
+        [pass.takes(), pass.puts(), pass.empties(), pass.fulls()],
+        [2, 2, 1, 1]
+    );
 }
 
 // Takes two blocks, and the takes that were done when the third was Empty.
@@ -57,6 +57,14 @@ fn two_blocks<R: Wait>(rt: &R, pool: &SharedPool, pass: &mut PoolPass) -> Option
     let second = pool.take(rt, pass).ok()?;
     let empty = pool.take(rt, pass).err()?;
     Some((first, second, empty.takes()))
+}
+
+// The takes that were done, once both blocks are freed.
+fn takes_of(taken: Option<(Sole, Sole, u64)>) -> Option<u64> {
+    match taken {
+        Some((_, _, takes)) => Some(takes),
+        None => None,
+    }
 }
 
 // How many blocks are home, where the pass has all parts.
@@ -71,24 +79,21 @@ fn home<R: Wait>(rt: &R, pool: &SharedPool, pass: &mut PoolPass) -> Option<usize
 }
 
 #[test]
-fn a_forked_pass_finds_the_pool_empty(rt: HostRuntime) -> Result<(), Fail> {
-    let (pool, mut pass) = SharedPool::make(&rt, rt.alloc(), 2)?;
+fn a_forked_pass_finds_the_pool_empty(rt: HostRuntime) {
+    let (pool, mut pass) = SharedPool::make(&rt, rt.alloc(), 2).expect(&rt, "no memory");
     let mut forked = pool.fork(&mut pass);
-    assert_eq!(rt; (pass.parts(), forked.parts()), (65_535, 1));
+    let parts = [pass.parts(), forked.parts()];
     let taken = two_blocks(&rt, &pool, &mut forked);
-    assert_eq!(rt; taken.map(|(_, _, takes)| takes), Some(2));
-    assert_eq!(rt;
-        (forked.takes(), forked.empties(), pass.empties()),
-        (2, 1, 0)
-    );
-    assert_eq!(rt; home(&rt, &pool, &mut pass), None);
+    let beside = [forked.takes(), forked.empties(), pass.empties()];
+    let homes = home(&rt, &pool, &mut pass);
+    assert_eq!(rt; (parts, beside, homes), ([65_535, 1], [2, 1, 0], None));
     pool.gather(&rt, forked, &mut pass);
+    let gathered = (pass.parts(), pass.takes(), pass.empties());
+    let homes = home(&rt, &pool, &mut pass);
     assert_eq!(rt;
-        (pass.parts(), pass.takes(), pass.empties()),
-        (65_536, 2, 1)
+        (takes_of(taken), gathered, homes),
+        (Some(2), (65_536, 2, 1), Some(0))
     );
-    assert_eq!(rt; home(&rt, &pool, &mut pass), Some(0));
-    Ok(())
 }
 
 // Marks the blocks from 0 on, as each goes to the back.
@@ -181,20 +186,21 @@ fn turns_of_all<R: Threads + Wait + Sync>(rt: &R, pool: &SharedPool, passes: &mu
 }
 
 #[test]
-fn four_threads_lose_no_block(rt: HostRuntime) -> Result<(), Fail> {
-    let (pool, mut pass) = SharedPool::make(&rt, rt.alloc(), 3)?;
+fn four_threads_lose_no_block(rt: HostRuntime) {
+    let (pool, mut pass) = SharedPool::make(&rt, rt.alloc(), 3).expect(&rt, "no memory");
     mark_each(&rt, &pool, &mut pass);
-    let mut passes = forked(rt.alloc(), &pool, &mut pass)?;
+    let mut passes = forked(rt.alloc(), &pool, &mut pass).expect(&rt, "no memory");
     turns_of_all(&rt, &pool, passes.as_mut_slice());
     gather_all(&rt, &pool, passes, &mut pass);
-    assert_eq!(rt; home(&rt, &pool, &mut pass), Some(3));
-    assert_eq!(rt; (pass.takes() == pass.puts(), pass.fulls()), (true, 0));
-    assert_eq!(rt; pass.takes().checked_add(pass.empties()), Some(400_003));
+    let homes = home(&rt, &pool, &mut pass);
+    let takes = pass.takes();
     assert_eq!(rt;
-        marks(&rt, rt.alloc(), &pool, &mut pass)?.as_slice(),
-        [0u32, 1, 2].as_slice()
+        (homes, takes == pass.puts(), pass.fulls()),
+        (Some(3), true, 0)
     );
-    Ok(())
+    assert_eq!(rt; takes.checked_add(pass.empties()), Some(400_003));
+    let marks = marks(&rt, rt.alloc(), &pool, &mut pass).expect(&rt, "no memory");
+    assert_eq!(rt; marks.as_slice(), [0u32, 1, 2].as_slice());
 }
 
 // A thread's pass, and the blocks that it is to put.
@@ -320,16 +326,21 @@ fn gather_givers<R: Wait>(rt: &R, pool: &SharedPool, mut givers: Vec<Giver>, kep
 }
 
 #[test]
-fn a_reader_takes_what_four_threads_put(rt: HostRuntime) -> Result<(), Fail> {
-    let (pool, mut pass) = SharedPool::make(&rt, rt.alloc(), 400)?;
+fn a_reader_takes_what_four_threads_put(rt: HostRuntime) {
+    let (pool, mut pass) = SharedPool::make(&rt, rt.alloc(), 400).expect(&rt, "no memory");
     mark_each(&rt, &pool, &mut pass);
-    let mut givers = four_givers(&rt, rt.alloc(), &pool, &mut pass)?;
-    assert_eq!(rt; pass.takes(), 800);
-    let mut marks = give_and_read(&rt, rt.alloc(), &pool, givers.as_mut_slice(), &mut pass)?;
+    let mut givers = four_givers(&rt, rt.alloc(), &pool, &mut pass).expect(&rt, "no memory");
+    let before = pass.takes();
+    let mut marks = give_and_read(&rt, rt.alloc(), &pool, givers.as_mut_slice(), &mut pass).expect(
+        &rt,
+        "no memory",
+    );
     gather_givers(&rt, &pool, givers, &mut pass);
-    marks.sort()?;
-    assert_eq!(rt; marks.iter().copied().eq(0..400), true);
-    assert_eq!(rt; (pass.takes(), pass.puts(), pass.fulls()), (1200, 800, 0));
-    assert_eq!(rt; home(&rt, &pool, &mut pass), Some(0));
-    Ok(())
+    marks.sort().expect(&rt, "no memory");
+    let homes = home(&rt, &pool, &mut pass);
+    assert_eq!(rt; (marks.iter().copied().eq(0..400), homes), (true, Some(0)));
+    assert_eq!(rt;
+        (before, pass.takes(), pass.puts(), pass.fulls()),
+        (800, 1200, 800, 0)
+    );
 }
