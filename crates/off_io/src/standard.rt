@@ -1,9 +1,9 @@
 //! The edge to the system: std's readers and writers with a count of their errors.
-ghost use Rattle.std.specs.Prelude.{◌≡◌, ◌<◌, None, IfOk, false, length};
-ghost use Rattle.std.specs.Io.{ReadsAtMost, WritesAtMost};
+ghost use Rattle.std.specs.Prelude.{◌≡◌, ◌<◌, ◌≤◌, None, IfNone, IfSome, false, length};
+ghost use Rattle.std.specs.Io.{ReadsAtMost};
 ghost use Rattle.std.specs.Io.KnownBytes.{ReadConsumes};
 ghost use Rattle.std.specs.Io.Buffered.{reader_remaining};
-ghost use Rattle.off_io.specs.Faults.{HasCause};
+ghost use Rattle.off_io.specs.Faults.{HasCause, Rose};
 
 use crate::{Failed, Sink, Source};
 use std::io::{BufRead, BufReader, BufWriter, Read, Write};
@@ -191,14 +191,19 @@ impl<W: Write + Drop> BufferedSink<W> {
         }
     }
 
-    // It stands apart, so that of a write that has room no failure is compiled.
+    // It stands apart, so that of a write that has room no failure is compiled. Its answer is of another type than that
+    // of `write`, or the compiler joins both before it looks at either.
     #[inline(never)]
-    fn write_on(&mut self, from: &[u8]) -> Result<usize, Failed>
-        ensures bound { WritesAtMost result from.now }
-        ensures progress { IfOk result (λ n. 0 < length from.now → 0 < n) }
-        ensures cause { HasCause self.old.faults self.new.faults result }
+    fn write_on(&mut self, from: &[u8]) -> Option<usize>
+        ensures bound { IfSome result (λ n. n ≤ length from.now) }
+        ensures progress { IfSome result (λ n. 0 < length from.now → 0 < n) }
+        ensures later { self.old.faults ≤ self.new.faults }
+        ensures failed { IfNone result (Rose self.old.faults self.new.faults) }
     {
-        self.sink.write(from)
+        match self.sink.write(from) {
+            Ok(count) => Some(count),
+            Err(Failed) => None,
+        }
     }
 }
 
@@ -216,7 +221,10 @@ impl<W: Write + Drop> Sink for BufferedSink<W> {
         if from.len() < inner.capacity().wrapping_sub(inner.buffer().len()) {
             return self.sink.write(from);
         }
-        self.write_on(from)
+        match self.write_on(from) {
+            Some(count) => Ok(count),
+            None => Err(Failed),
+        }
     }
 
     fn flush(&mut self) -> Result<(), Failed> {
