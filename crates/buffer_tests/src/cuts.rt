@@ -104,8 +104,8 @@ fn cut_off(rt: &impl Abort, alloc: Global, first: usize, last: usize) -> ([usize
     (numbers, right, spend(out))
 }
 
-// Length and pieces of a list that a buffer without its first bytes was moved into, whether the bytes are right, and the
-// blocks that came home.
+// Length and pieces of a list that a buffer without its first bytes was moved into, whether the bytes are right, and
+// the blocks that came home.
 fn moved(rt: &impl Abort, alloc: Global, first: usize) -> ([usize; 2], bool, usize)
     requires near { first ≤ 200 }
 {

@@ -1,5 +1,5 @@
--- What a contract sees of a lane's task: the lane at its place among those of its kind, how it is worked, and what gives
--- blocks back once it is.
+-- What a contract sees of a lane's task: the lane at its place among those of its kind, how it is worked, and what
+-- gives blocks back once it is.
 use Rattle.std.specs.Prelude.{ℕ, Option, List}
 use Rattle.tap_filter.specs.declared.instr.Instr.{Instr}
 use Rattle.block_pool.specs.Giving.{GiverState}

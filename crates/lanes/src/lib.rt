@@ -34,9 +34,9 @@
 //! beside the work they are lent with a `block_pool::Giver`, and go to the pool that these take lists from as soon as a
 //! lane is worked: by the thread that does all lanes, behind the first queue that had packets ([`Beside`]); or by each
 //! lane's task, a queue's or a tap's, which carries as many blocks as any other and a pass of its own, unless there are
-//! fewer blocks than tasks or there is no memory for that. What no task could carry goes behind them, and what finds the
-//! pool full stays with who lent it. Of its clones a tap has nothing to give: the packets lie in the queues' lanes until
-//! a round is written, so it is never the last who holds one.
+//! fewer blocks than tasks or there is no memory for that. What no task could carry goes behind them, and what finds
+//! the pool full stays with who lent it. Of its clones a tap has nothing to give: the packets lie in the queues' lanes
+//! until a round is written, so it is never the last who holds one.
 //!
 //! ```text
 //!   who asks ── a lane, part of the list ──> the desk ── the task, a note ──> whoever is free, and who asks, waiting
@@ -71,8 +71,8 @@
 //!   refused: by any weight of blocks what was given and what still lies there is what did before, and the pass has all
 //!   its parts again. So between two rounds nothing that was lent is in a lane or with a crew.
 //! - `none_left`: by who gives (`gives` of [`Works`]) all that was lent went as the work ends, unless a put found no
-//!   place. Each lane's task gives what it carries as soon as its lane is worked (`none_left` of `QueueTask::run` and of
-//!   `WatchTask::run`).
+//!   place. Each lane's task gives what it carries as soon as its lane is worked (`none_left` of `QueueTask::run` and
+//!   of `WatchTask::run`).
 //! - `packets`: each queue has the packets of its flows, in their order; `merged`: each of them is in one of the
 //!   queue's runs, once, by its index, so that what a run comes to can be read and written from where its packets lie.
 //!

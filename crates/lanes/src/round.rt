@@ -128,7 +128,7 @@ fn finish(packets: &mut Packets, lanes: &mut Lanes) -> Result<(), AllocError>
 /// there is one queue their list is the lane's. Each tap is given a clone of every packet before any worker starts; and
 /// each worker and each tap passes the gate at point 0 before its work and at point 1 after it. One clone of each
 /// packet may have been kept before, by [`keep_packets`](crate::keep_packets). What lies in the giver's list is no
-/// block of the packets: it may go back to its pool as soon as a queue's lane is worked, and what doesn't stays there.
+/// block of the packets: it may go back to its pool as soon as a lane is worked, and what doesn't stays there.
 /// By who gives (`Works::gives`) all of it goes back, unless a put finds no place.
 ///
 /// For want of memory what isn't in `packets` any more is in the lanes. Where they are as many as the plan has, their

@@ -296,7 +296,8 @@ pub(crate) fn spent(rt: &impl Abort, items: Vec<Item>, rows: &[Said]) -> usize {
     blocks
 }
 
-/// Whether there is a first item, whose buffer and head are so long, in so many blocks, with these bytes at these places.
+/// Whether there is a first item, whose buffer and head are so long, in so many blocks, with these bytes at these
+/// places.
 pub(crate) fn begins_with(items: &[Item], lengths: [usize; 3], parts: &[(usize, &[u8])]) -> bool {
     let Some(item) = items.first() else {
         return false;

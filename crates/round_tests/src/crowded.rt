@@ -131,8 +131,8 @@ fn crowded<R: Wait>(
     ))
 }
 
-// Two of the first round's three blocks lie in the list; the second round's list finds no place, neither behind its lane
-// nor as the work ends, and all three come home with the round.
+// Two of the first round's three blocks lie in the list; the second round's list finds no place, neither behind its
+// lane nor as the work ends, and all three come home with the round.
 #[test]
 fn what_finds_no_place_comes_home_with_its_round(rt: HostRuntime) -> Result<(), Fail> {
     let (steps, written, homes, list, counts) = crowded(&rt, rt.alloc())?;

@@ -15,8 +15,8 @@ use std::alloc::{AllocError, Global};
 use std::marker::{Brand, PhantomData};
 use std::sync::{Arc, Wait};
 
-/// Places for the lists of all 72 lanes of as many rounds as may be read ahead, three, and for one more of each, once it
-/// was written. Where all are taken a list stays with its round.
+/// Places for the lists of all 72 lanes of as many rounds as may be read ahead, three, and for one more of each, once
+/// it was written. Where all are taken a list stays with its round.
 const LISTS: u32 = 219;
 
 /// The end of the side that reads, which takes lists and gives none.
