@@ -53,9 +53,7 @@ impl<W: Post + Drop> Desk<W> {
         self.away.meet(pool.home().saturating_sub(before));
         self.away.meet_round();
         keep(&mut self.shelves, shelf);
-        if !goes {
-            self.stopped = true;
-        }
+        self.stopped |= !goes;
         true
     }
 

@@ -1,12 +1,34 @@
 use Rattle.std.proofs.Common.{◌∙◌, sym, arith}
 use Rattle.rounds.specs.Merging.{options_of}
-use Rattle.rounds.specs.Reads.{reader_at}
+use Rattle.rounds.specs.Reads.{reader_at, ReadRound}
+use Rattle.pipeline.specs.Handled.{IsOut}
 use Rattle.rounds.proofs.Going.{ready_as}
 use Rattle.pipeline.proofs.Together.{all_handled}
+use Rattle.pipeline.proofs.drive.handle_by.Given as given
 use Rattle.pipeline.proofs.drive.handle_by.Goals as goal
+use Rattle.pipeline.proofs.drive.handle_by.Goals.{After-read_round-read}
 
-pub handle_on-requires-clause-out : goal.handle_on-requires-clause-out
-handle_on-requires-clause-out g c κs within =
+-- the first round, as it was read
+first_read : (g : given.Over) (c : After-read_round-read g) → ReadRound c.args.rounds.now.blocks c.args.rounds.now.budget
+    (reader_at g.S.Source.left g.S.Source.faults c.args.reader.now c.args.rounds.now.taken)
+    (reader_at g.S.Source.left g.S.Source.faults c.read_round-read.new.reader c.read_round-read.new.self.taken) c.read_round-read.result
+first_read g c =
+    let r = c.read_round-read.ensures in
+    record {
+      given = r.given;
+      fewer = r.fewer;
+      full = r.full;
+      captured = r.captured;
+      need = r.need;
+      within = omega (arith, r.home);
+      some = r.budget.0;
+      took = r.taken;
+      later = r.later;
+      failed = r.failed;
+    }
+
+first_out : (g : given.Over) (c : After-read_round-read g) → IsOut c.read_round-read.new.self c.read_round-read.result c.read_round-read.new.reader.place
+first_out g c =
     let r = c.read_round-read.ensures in
     record {
       out = omega (arith, r.home, r.same.0);
@@ -16,71 +38,36 @@ handle_on-requires-clause-out g c κs within =
           record { ready = p.ready; link = p.link ∙ c.requires.link; packets = omega (arith, p.number, p.full); counted = omega (arith, p.number, r.budget.0) };
     }
 
-pub handle_on-requires-clause-start : goal.handle_on-requires-clause-start
-handle_on-requires-clause-start g c κs within =
+ready : (g : given.Over) (c : After-read_round-read g) → g.H.RoundHandler.ready (options_of c.read_round-read.new.self) c.read_round-read.new.self.keep 0 c.args.into.now
+ready g c =
     let r = c.read_round-read.ensures in
     let first = c.args.rounds.now in
     let mid = c.read_round-read.new.self in
     ready_as (g.H.RoundHandler.did c.args.handler.now) g.H.RoundHandler.stopped g.H.RoundHandler.ready (options_of mid) (options_of first) mid.keep first.keep 0 c.args.into.now (sym r.same.1)
     (sym r.same.2) c.requires.start
+
+pub handle_on-requires-clause-out : goal.handle_on-requires-clause-out
+handle_on-requires-clause-out g c κs within = first_out g (goal.at.handle_on-requires-clause-out g c).After-read_round-read
+
+pub handle_on-requires-clause-start : goal.handle_on-requires-clause-start
+handle_on-requires-clause-start g c κs within = ready g (goal.at.handle_on-requires-clause-start g c).After-read_round-read
 
 pub returns-then-is_shared-clause-handled : goal.returns-then-is_shared-clause-handled
 returns-then-is_shared-clause-handled g c =
     let r = c.read_round-read.ensures in
     all_handled (g.H.RoundHandler.did c.args.handler.now) g.H.RoundHandler.stopped g.H.RoundHandler.ready c.args.rounds.now c.read_round-read.new.self c.handle_on.new.rounds c.read_round-read.result
-    (reader_at g.S.Source.left g.S.Source.faults c.args.reader.now c.args.rounds.now.taken)
-    (reader_at g.S.Source.left g.S.Source.faults c.read_round-read.new.reader c.read_round-read.new.self.taken)
-    (reader_at g.S.Source.left g.S.Source.faults c.handle_on.new.reader c.handle_on.new.rounds.taken) c.args.into.now c.handle_on.new.into c.handle_on.result
-    (record {
-      given = r.given;
-      fewer = r.fewer;
-      full = r.full;
-      captured = r.captured;
-      need = r.need;
-      within = omega (arith, r.home);
-      some = r.budget.0;
-      took = r.taken;
-      later = r.later;
-      failed = r.failed;
-    })
-    r.same r.counts r.least r.named c.handle_on.ensures.handled
+    _ _ (reader_at g.S.Source.left g.S.Source.faults c.handle_on.new.reader c.handle_on.new.rounds.taken) c.args.into.now c.handle_on.new.into c.handle_on.result
+    (first_read g (goal.at.returns-then-is_shared-clause-handled g c).After-read_round-read) r.same r.counts r.least r.named c.handle_on.ensures.handled
 
 pub handle_here-requires-clause-out : goal.handle_here-requires-clause-out
-handle_here-requires-clause-out g c =
-    let r = c.read_round-read.ensures in
-    record {
-      out = omega (arith, r.home, r.same.0);
-      is = record { few = omega (arith, r.size, r.budget.1); captured = r.captured; numbers = (c.args.reader.now.place.number, r.numbers) };
-      goes = λ full.
-          let p = r.full full in
-          record { ready = p.ready; link = p.link ∙ c.requires.link; packets = omega (arith, p.number, p.full); counted = omega (arith, p.number, r.budget.0) };
-    }
+handle_here-requires-clause-out g c = first_out g (goal.at.handle_here-requires-clause-out g c).After-read_round-read
 
 pub handle_here-requires-clause-start : goal.handle_here-requires-clause-start
-handle_here-requires-clause-start g c =
-    let r = c.read_round-read.ensures in
-    let first = c.args.rounds.now in
-    let mid = c.read_round-read.new.self in
-    ready_as (g.H.RoundHandler.did c.args.handler.now) g.H.RoundHandler.stopped g.H.RoundHandler.ready (options_of mid) (options_of first) mid.keep first.keep 0 c.args.into.now (sym r.same.1)
-    (sym r.same.2) c.requires.start
+handle_here-requires-clause-start g c = ready g (goal.at.handle_here-requires-clause-start g c).After-read_round-read
 
 pub returns-else-is_shared-clause-handled : goal.returns-else-is_shared-clause-handled
 returns-else-is_shared-clause-handled g c =
     let r = c.read_round-read.ensures in
     all_handled (g.H.RoundHandler.did c.args.handler.now) g.H.RoundHandler.stopped g.H.RoundHandler.ready c.args.rounds.now c.read_round-read.new.self c.handle_here.new.rounds c.read_round-read.result
-    (reader_at g.S.Source.left g.S.Source.faults c.args.reader.now c.args.rounds.now.taken)
-    (reader_at g.S.Source.left g.S.Source.faults c.read_round-read.new.reader c.read_round-read.new.self.taken)
-    (reader_at g.S.Source.left g.S.Source.faults c.handle_here.new.reader c.handle_here.new.rounds.taken) c.args.into.now c.handle_here.new.into c.handle_here.result
-    (record {
-      given = r.given;
-      fewer = r.fewer;
-      full = r.full;
-      captured = r.captured;
-      need = r.need;
-      within = omega (arith, r.home);
-      some = r.budget.0;
-      took = r.taken;
-      later = r.later;
-      failed = r.failed;
-    })
-    r.same r.counts r.least r.named c.handle_here.ensures.handled
+    _ _ (reader_at g.S.Source.left g.S.Source.faults c.handle_here.new.reader c.handle_here.new.rounds.taken) c.args.into.now c.handle_here.new.into c.handle_here.result
+    (first_read g (goal.at.returns-else-is_shared-clause-handled g c).After-read_round-read) r.same r.counts r.least r.named c.handle_here.ensures.handled

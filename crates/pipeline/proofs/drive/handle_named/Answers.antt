@@ -19,19 +19,21 @@ use Rattle.pipeline.proofs.Rows.{blocks_append, homes_append, shelved_none, weig
 use Rattle.rounds.proofs.Going.{counted_as}
 use Rattle.pipeline.proofs.Together.{all_went, ends_as, idle_as, left_out, left_weights}
 use Rattle.pipeline.proofs.Lending.{giver_back}
+use Rattle.pipeline.proofs.drive.handle_named.Given as given
 use Rattle.pipeline.proofs.drive.handle_named.Goals as goal
+use Rattle.pipeline.proofs.drive.handle_named.Goals.{After-ending-ended}
 
--- all blocks are where they are counted: home, on shelves, in rounds that nobody worked, or in the round that comes back
-pub bring_home-requires : goal.bring_home-requires
-bring_home-requires g c =
+-- where all blocks are counted: home, on shelves, in rounds that nobody worked, or in the round that comes back
+counted : (g : given.Over) (c : After-ending-ended g)
+    → c.run_sides-end.new.intake.home + homes_of (known_items c.slots_beside.new.self) + home c.run_sides-end.new.kept + shelved c.close-tokens.result.1.items + home c.close-tokens.result.2.left
+    + given_by c.run_sides-end.new.giver + blocks_of (known_items c.ending-ended.new.from) + blocks_out c.ending-ended.result ≡ c.args.rounds.now.blocks + blocks_in c.close-tokens.result.2.pass.taken
+counted g c =
     let r = c.run_sides-end.ensures in
     let a = c.slots_beside-waiting.ensures in
     let b = c.slots_beside.ensures in
     let e = c.ending-ended.ensures in
     let w = c.args.ways in
     let d = c.run_sides-end.new.supply.desk in
-    let counted : c.run_sides-end.new.intake.home + homes_of (known_items c.slots_beside.new.self) + home c.run_sides-end.new.kept + shelved c.close-tokens.result.1.items + home c.close-tokens.result.2.left
-    + given_by c.run_sides-end.new.giver + blocks_of (known_items c.ending-ended.new.from) + blocks_out c.ending-ended.result ≡ c.args.rounds.now.blocks + blocks_in c.close-tokens.result.2.pass.taken =
     omega (
       arith,
       r.sum,
@@ -62,13 +64,19 @@ bring_home-requires g c =
       ap (λ t. shelved t.items) c.close-tokens.ensures.same.1,
       ap (λ t. home t.left) c.close-tokens.ensures.same.2,
       ap (λ t. blocks_in t.pass.taken) c.close-tokens.ensures.same.2,
-    ) in
+    )
+
+pub bring_home-requires : goal.bring_home-requires
+bring_home-requires g c =
+    let r = c.run_sides-end.ensures in
+    let w = c.args.ways in
+    let d = c.run_sides-end.new.supply.desk in
     record {
       giver = subst (λ (l : SharedState). HasGiver l c.run_sides-end.new.giver)
           (c.requires.ways.1 ∙ sym d.pooled ∙ sym (ap (λ t. arc_value t.lists) c.close-tokens.ensures.same.2))
           (giver_back (arc_value w.taker.lists) (Some w.giver) c.run_sides-end.new.giver
           (record { it = w.giver; is = refl; pool_is = w.same; parts = w.ungiven.0; none = w.ungiven.2 }) r.lends);
-      room = omega (arith, counted, r.same_intake.0, ap (λ (s : RoundsState). s.blocks) c.rounds.view_is);
+      room = omega (arith, counted g (goal.at.bring_home-requires g c).After-ending-ended, r.same_intake.0, ap (λ (s : RoundsState). s.blocks) c.rounds.view_is);
     }
 
 abbrev lent : IntakeState → BenchState → RoundsState
@@ -105,49 +113,11 @@ invariant_of-rounds-2 g c =
 pub drop_parcels-requires : goal.drop_parcels-requires
 drop_parcels-requires g c =
     let r = c.run_sides-end.ensures in
-    let a = c.slots_beside-waiting.ensures in
-    let b = c.slots_beside.ensures in
-    let e = c.ending-ended.ensures in
-    let w = c.args.ways in
-    let d = c.run_sides-end.new.supply.desk in
-    let counted : c.run_sides-end.new.intake.home + homes_of (known_items c.slots_beside.new.self) + home c.run_sides-end.new.kept + shelved c.close-tokens.result.1.items + home c.close-tokens.result.2.left
-    + given_by c.run_sides-end.new.giver + blocks_of (known_items c.ending-ended.new.from) + blocks_out c.ending-ended.result ≡ c.args.rounds.now.blocks + blocks_in c.close-tokens.result.2.pass.taken =
-    omega (
-      arith,
-      r.sum,
-      r.each,
-      d.counted,
-      d.taker.counted,
-      c.requires.out.out,
-      ap (λ (s : RoundsState). s.home) c.rounds.view_is,
-      ap (λ t. homes_of (received t)) c.new.ensures.same.0,
-      ap homes_of w.unused.1,
-      ap (λ s. shelved s.items) c.new.ensures.same.1,
-      c.in-Ok.ensures.shelves,
-      ap (λ t. listed_home t.pass t.left) c.new.ensures.same.2,
-      ap blocks_in w.untaken.0,
-      ap blocks_in w.ungiven.1,
-      ap blocks_of c.send_first.ensures.sent.1,
-      ap (λ (x : RoundRead). x.round.blocks) c.send_first.ensures.sent.2,
-      left_out g.H.RoundHandler.stopped c.run_sides-end.result c.ending-ended.result (known_items c.slots_beside-waiting.new.self) (known_items c.ending-ended.new.from) e.some e.none,
-      ap blocks_of a.fifo,
-      blocks_append (received c.slots_beside-waiting.new.self) (known_items c.slots_beside-waiting.new.self),
-      ap blocks_of a.looked.1,
-      ap blocks_of a.producer.1,
-      ap homes_of b.fifo,
-      homes_append (received c.slots_beside.new.self) (known_items c.slots_beside.new.self),
-      ap homes_of b.looked.1,
-      ap homes_of b.producer.1,
-      ap (λ t. homes_of (received t)) c.close-tokens.ensures.same.0,
-      ap (λ t. shelved t.items) c.close-tokens.ensures.same.1,
-      ap (λ t. home t.left) c.close-tokens.ensures.same.2,
-      ap (λ t. blocks_in t.pass.taken) c.close-tokens.ensures.same.2,
-    ) in
     let f = c.bring_home.ensures in
     record {
       room = omega (
         arith,
-        counted,
+        counted g (goal.at.drop_parcels-requires g c).After-ending-ended,
         f.home,
         ap (λ (i : IntakeState). i.blocks) f.same,
         r.same_intake.0,
@@ -162,40 +132,6 @@ returns-clause-handled g c =
     let b = c.slots_beside.ensures in
     let e = c.ending-ended.ensures in
     let w = c.args.ways in
-    let d = c.run_sides-end.new.supply.desk in
-    let counted : c.run_sides-end.new.intake.home + homes_of (known_items c.slots_beside.new.self) + home c.run_sides-end.new.kept + shelved c.close-tokens.result.1.items + home c.close-tokens.result.2.left
-    + given_by c.run_sides-end.new.giver + blocks_of (known_items c.ending-ended.new.from) + blocks_out c.ending-ended.result ≡ c.args.rounds.now.blocks + blocks_in c.close-tokens.result.2.pass.taken =
-    omega (
-      arith,
-      r.sum,
-      r.each,
-      d.counted,
-      d.taker.counted,
-      c.requires.out.out,
-      ap (λ (s : RoundsState). s.home) c.rounds.view_is,
-      ap (λ t. homes_of (received t)) c.new.ensures.same.0,
-      ap homes_of w.unused.1,
-      ap (λ s. shelved s.items) c.new.ensures.same.1,
-      c.in-Ok.ensures.shelves,
-      ap (λ t. listed_home t.pass t.left) c.new.ensures.same.2,
-      ap blocks_in w.untaken.0,
-      ap blocks_in w.ungiven.1,
-      ap blocks_of c.send_first.ensures.sent.1,
-      ap (λ (x : RoundRead). x.round.blocks) c.send_first.ensures.sent.2,
-      left_out g.H.RoundHandler.stopped c.run_sides-end.result c.ending-ended.result (known_items c.slots_beside-waiting.new.self) (known_items c.ending-ended.new.from) e.some e.none,
-      ap blocks_of a.fifo,
-      blocks_append (received c.slots_beside-waiting.new.self) (known_items c.slots_beside-waiting.new.self),
-      ap blocks_of a.looked.1,
-      ap blocks_of a.producer.1,
-      ap homes_of b.fifo,
-      homes_append (received c.slots_beside.new.self) (known_items c.slots_beside.new.self),
-      ap homes_of b.looked.1,
-      ap homes_of b.producer.1,
-      ap (λ t. homes_of (received t)) c.close-tokens.ensures.same.0,
-      ap (λ t. shelved t.items) c.close-tokens.ensures.same.1,
-      ap (λ t. home t.left) c.close-tokens.ensures.same.2,
-      ap (λ t. blocks_in t.pass.taken) c.close-tokens.ensures.same.2,
-    ) in
     let p = c.prepare.ensures in
     let f = c.bring_home.ensures in
     let d = c.drop_parcels.ensures.home in
@@ -285,7 +221,7 @@ returns-clause-handled g c =
     c.args.into.now c.run_sides-end.new.into
     (counted_as did g.H.RoundHandler.stopped g.H.RoundHandler.ready (options_of first) (options_at c.prepare.new.bench) first.keep c.prepare.new.bench.keep (2 ^ 32 + 4096) c.run_sides-end.new.into options
     keep r.ready)
-    c.run_sides-end.result c.ending-ended.result left (omega (arith, counted, f.home)) named
+    c.run_sides-end.result c.ending-ended.result left (omega (arith, counted g (goal.at.returns-clause-handled g c).After-ending-ended, f.home)) named
     (ends_as did g.H.RoundHandler.stopped (options_of first) (options_at c.prepare.new.bench) (received c.run_sides-end.new.from) c.args.into.now c.run_sides-end.new.into c.run_sides-end.result
     options r.handled)
     e.some e.none

@@ -6,13 +6,62 @@ use Rattle.rounds.specs.RoundsState.{BenchState}
 use Rattle.rounds.specs.Weights.{weights_of}
 use Rattle.rounds.specs.declared.round.RoundRead.{RoundRead}
 use Rattle.rounds.specs.Handled.{Ends, Went}
-use Rattle.pipeline.specs.Parcels.{blocks_of, packets_of, rounds_of, weights_sent, BringsNone}
+use Rattle.block_pool.specs.Giving.{given_by, weights_given}
+use Rattle.pipeline.specs.Parcels.{blocks_of, homes_of, packets_of, rounds_of, weights_back, weights_sent, BringsNone}
 use Rattle.rounds.proofs.Going.{went_more, went_ends, went_stopped}
 use Rattle.pipeline.proofs.Rows.{blocks_last, packets_append, rounds_last, rounds_none, weighed_none, weights_sent_append}
 use Rattle.rounds.proofs.Going.{ready_as}
 use Rattle.pipeline.proofs.Together.{handled_as}
 use Rattle.pipeline.proofs.Lending.{brings_none, brings_none_lent, brings_none_more, lends_same, lends_then, lent_again}
+use Rattle.pipeline.proofs.sides.work_side.Given as given
 use Rattle.pipeline.proofs.sides.work_side.Goals as goal
+use Rattle.pipeline.proofs.sides.work_side.Goals.{After-handle, In-None-handle}
+
+-- where the blocks of all rounds are that came, once the last of them was handled
+came : (g : given.Over) (c : After-handle g)
+    → homes_of (sent c.loop.told) + home c.handle.new.home + given_by c.handle.new.giver ≡ blocks_of (received c.receive.new.ring) + given_by c.args.giver.now
+came g c =
+    let o = c.open-number.ensures.same in
+    omega (
+      arith,
+      c.loop.invariant.each,
+      ap home o.2,
+      c.in-Some-receive.ensures.allowed.empty,
+      c.handle.ensures.brings.count,
+      ap (λ (r : RoundRead). r.round.blocks) o.1,
+      ap blocks_of c.in-Some-receive.ensures.item,
+      blocks_last (received c.loop.from) (Some c.in-Some-receive.parcel),
+    )
+
+came_named : (g : given.Over) (c : After-handle g) (h : ℕ → ℕ) → weights_back h (sent c.loop.told) + weighed h c.handle.new.home.blocks + weights_given c.handle.new.giver h
+    ≡ weights_sent h (received c.receive.new.ring) + weights_given c.args.giver.now h
+came_named g c h =
+    let p = c.in-Some-receive.parcel in
+    let o = c.open-number.ensures.same in
+    omega (
+      arith,
+      c.loop.invariant.named h,
+      ap (λ (s : PoolState). weighed h s.blocks) o.2,
+      weighed_none h p.shelf.blocks c.in-Some-receive.ensures.allowed.empty,
+      c.handle.ensures.brings.named h,
+      ap (λ (r : RoundRead). weights_of r.round h) o.1,
+      ap (weights_sent h) c.in-Some-receive.ensures.item,
+      weights_sent_append h (received c.loop.from) (Some p ∷ []),
+    )
+
+-- what was done with them
+went_on : (g : given.Over) (c : In-None-handle g)
+    → Went (g.H.RoundHandler.did c.args.handler.now (options_at c.args.bench.now)) 0 c.args.into.now c.handle.new.into (rounds_of (received c.receive.new.ring))
+went_on g c =
+    let l = c.loop in
+    let first = c.args.bench.now in
+    let did = g.H.RoundHandler.did c.args.handler.now (options_at first) in
+    let p = c.in-Some-receive.parcel in
+    let o = c.open-number.ensures.same in
+    subst (Went did 0 c.args.into.now c.handle.new.into) (sym (rounds_last (received l.from) _ p c.in-Some-receive.ensures.item))
+    (went_more did g.H.RoundHandler.stopped 0 c.args.into.now l.into c.handle.new.into (rounds_of (received l.from)) p.read l.invariant.went
+    (handled_as (g.H.RoundHandler.did c.args.handler.now) g.H.RoundHandler.stopped g.H.RoundHandler.ready (options_at first) (options_at l.bench) l.into c.handle.new.into p.read c.open-number.result.1
+    (0 + length (rounds_of (received l.from))) c.open-number.result.0 None (ap options_at l.invariant.bench) o.1 (omega (arith, o.0, c.in-Some-receive.ensures.allowed.number)) c.in-None-handle.ensures.did))
 
 pub returns-then-not-has_begun-clause-lends : goal.returns-then-not-has_begun-clause-lends
 returns-then-not-has_begun-clause-lends g c = lends_same c.args.giver.now c.requires.lent
@@ -104,42 +153,24 @@ returns-in-Some-handle-clause-handled g c =
 
 pub returns-in-Some-handle-clause-each : goal.returns-in-Some-handle-clause-each
 returns-in-Some-handle-clause-each g c =
-    let l = c.loop in
-    let p = c.in-Some-receive.parcel in
-    let o = c.open-number.ensures.same in
     omega (
       arith,
-      l.invariant.each,
-      l.invariant.empty,
+      came g (goal.at.returns-in-Some-handle-clause-each g c).After-handle,
+      c.loop.invariant.empty,
       c.send_home.ensures.sum,
       ap home c.replace.ensures.value,
       ap home c.replace.ensures.after,
-      ap home o.2,
-      c.in-Some-receive.ensures.allowed.empty,
-      c.handle.ensures.brings.count,
-      ap (λ (r : RoundRead). r.round.blocks) o.1,
-      ap blocks_of c.in-Some-receive.ensures.item,
-      blocks_last (received l.from) (Some p),
     )
 
 pub returns-in-Some-handle-clause-each_named : goal.returns-in-Some-handle-clause-each_named
 returns-in-Some-handle-clause-each_named g c h =
-    let l = c.loop in
-    let p = c.in-Some-receive.parcel in
-    let o = c.open-number.ensures.same in
     omega (
       arith,
-      l.invariant.named h,
-      weighed_none h l.kept.blocks l.invariant.empty,
+      came_named g (goal.at.returns-in-Some-handle-clause-each_named g c).After-handle h,
+      weighed_none h c.loop.kept.blocks c.loop.invariant.empty,
       c.send_home.ensures.named h,
       ap (λ (s : PoolState). weighed h s.blocks) c.replace.ensures.value,
       ap (λ (s : PoolState). weighed h s.blocks) c.replace.ensures.after,
-      ap (λ (s : PoolState). weighed h s.blocks) o.2,
-      weighed_none h p.shelf.blocks c.in-Some-receive.ensures.allowed.empty,
-      c.handle.ensures.brings.named h,
-      ap (λ (r : RoundRead). weights_of r.round h) o.1,
-      ap (weights_sent h) c.in-Some-receive.ensures.item,
-      weights_sent_append h (received l.from) (Some p ∷ []),
     )
 
 pub returns-in-Some-handle-clause-room : goal.returns-in-Some-handle-clause-room
@@ -150,59 +181,30 @@ returns-in-Some-handle-clause-room g c =
 
 pub returns-then-is_err-clause-handled : goal.returns-then-is_err-clause-handled
 returns-then-is_err-clause-handled g c =
-    let l = c.loop in
-    let i = l.invariant in
-    let first = c.args.bench.now in
-    let did = g.H.RoundHandler.did c.args.handler.now (options_at first) in
-    let p = c.in-Some-receive.parcel in
-    let o = c.open-number.ensures.same in
-    let now = rounds_last (received l.from) _ p c.in-Some-receive.ensures.item in
-    subst (λ (rs : List RoundRead). Ends did g.H.RoundHandler.stopped 0 c.args.into.now c.handle.new.into rs c.stop-then-is_err.result) (sym now)
-    (went_stopped did g.H.RoundHandler.stopped 0 c.args.into.now c.handle.new.into (rounds_of (received l.from) ++ p.read ∷ []) c.stop-then-is_err.result
-    c.stop-then-is_err.ensures.end
-    (went_more did g.H.RoundHandler.stopped 0 c.args.into.now l.into c.handle.new.into (rounds_of (received l.from)) p.read i.went
-    (handled_as (g.H.RoundHandler.did c.args.handler.now) g.H.RoundHandler.stopped g.H.RoundHandler.ready (options_at first)
-    (options_at l.bench) l.into c.handle.new.into p.read c.open-number.result.1
-    (0 + length (rounds_of (received l.from))) c.open-number.result.0 None (ap options_at i.bench) o.1 (omega (arith, o.0, c.in-Some-receive.ensures.allowed.number)) c.in-None-handle.ensures.did)))
+    let did = g.H.RoundHandler.did c.args.handler.now (options_at c.args.bench.now) in
+    went_stopped did g.H.RoundHandler.stopped 0 c.args.into.now c.handle.new.into (rounds_of (received c.receive.new.ring)) c.stop-then-is_err.result c.stop-then-is_err.ensures.end
+    (went_on g (goal.at.returns-then-is_err-clause-handled g c).In-None-handle)
 
 pub returns-then-is_err-clause-each : goal.returns-then-is_err-clause-each
 returns-then-is_err-clause-each g c =
-    let l = c.loop in
-    let p = c.in-Some-receive.parcel in
-    let o = c.open-number.ensures.same in
     omega (
       arith,
-      l.invariant.each,
-      l.invariant.empty,
+      came g (goal.at.returns-then-is_err-clause-each g c).After-handle,
+      c.loop.invariant.empty,
       c.send_home-then-is_err.ensures.sum,
       ap home c.replace-then-is_err.ensures.value,
       ap home c.replace-then-is_err.ensures.after,
-      ap home o.2,
-      c.in-Some-receive.ensures.allowed.empty,
-      c.handle.ensures.brings.count,
-      ap (λ (r : RoundRead). r.round.blocks) o.1,
-      ap blocks_of c.in-Some-receive.ensures.item,
-      blocks_last (received l.from) (Some p),
     )
 
 pub returns-then-is_err-clause-each_named : goal.returns-then-is_err-clause-each_named
 returns-then-is_err-clause-each_named g c h =
-    let l = c.loop in
-    let p = c.in-Some-receive.parcel in
-    let o = c.open-number.ensures.same in
     omega (
       arith,
-      l.invariant.named h,
-      weighed_none h l.kept.blocks l.invariant.empty,
+      came_named g (goal.at.returns-then-is_err-clause-each_named g c).After-handle h,
+      weighed_none h c.loop.kept.blocks c.loop.invariant.empty,
       c.send_home-then-is_err.ensures.named h,
       ap (λ (s : PoolState). weighed h s.blocks) c.replace-then-is_err.ensures.value,
       ap (λ (s : PoolState). weighed h s.blocks) c.replace-then-is_err.ensures.after,
-      ap (λ (s : PoolState). weighed h s.blocks) o.2,
-      weighed_none h p.shelf.blocks c.in-Some-receive.ensures.allowed.empty,
-      c.handle.ensures.brings.named h,
-      ap (λ (r : RoundRead). weights_of r.round h) o.1,
-      ap (weights_sent h) c.in-Some-receive.ensures.item,
-      weights_sent_append h (received l.from) (Some p ∷ []),
     )
 
 pub returns-then-is_err-clause-room : goal.returns-then-is_err-clause-room
@@ -226,13 +228,13 @@ loop-preserved g c =
     let l = c.loop in
     let i = l.invariant in
     let first = c.args.bench.now in
-    let did = g.H.RoundHandler.did c.args.handler.now (options_at first) in
-    let p = c.in-Some-receive.parcel in
+    let p = (goal.at.loop-preserved g c).After-handle in
+    let read = c.in-Some-receive.parcel.read in
     let o = c.open-number.ensures.same in
-    let now = rounds_last (received l.from) _ p c.in-Some-receive.ensures.item in
+    let now = rounds_last (received l.from) _ c.in-Some-receive.parcel c.in-Some-receive.ensures.item in
     let h = c.in-None-handle.ensures in
-    let counted = packets_append (rounds_of (received l.from)) (p.read ∷ []) in
-    let is_read : length p.read.round.packets ≤ 4096 = c.in-Some-receive.ensures.allowed.is.few in
+    let counted = packets_append (rounds_of (received l.from)) (read ∷ []) in
+    let is_read : length read.round.packets ≤ 4096 = c.in-Some-receive.ensures.allowed.is.few in
     let n = packets_of (rounds_of (received l.from)) in
     let options = ap options_at i.bench in
     let keep = ap (λ (b : BenchState). b.keep) i.bench in
@@ -249,35 +251,9 @@ loop-preserved g c =
       lends = lends_then c.args.giver.now c.handle.new.giver c.give_list.new.giver (lends_then c.args.giver.now l.giver c.handle.new.giver i.lends h.gave) c.give_list.ensures.gave;
       brings = brings_none_more (sent l.told) (sent c.send_home-in-loop.new.told) c.args.giver.now l.giver c.handle.new.giver c.give_list.new.giver c.give_list.new.list.blocks
           c.send_home-in-loop.ensures.sum i.lends h.gave c.give_list.ensures.gave c.give_list.ensures.none_left i.brings;
-      each = omega (
-        arith,
-        i.each,
-        c.send_home-in-loop.ensures.sum,
-        c.give_list.ensures.sum,
-        ap home o.2,
-        c.in-Some-receive.ensures.allowed.empty,
-        h.brings.count,
-        ap (λ (r : RoundRead). r.round.blocks) o.1,
-        ap blocks_of c.in-Some-receive.ensures.item,
-        blocks_last (received l.from) (Some p),
-      );
-      named = λ x. omega (
-        arith,
-        i.named x,
-        c.send_home-in-loop.ensures.named x,
-        c.give_list.ensures.named x,
-        ap (λ (s : PoolState). weighed x s.blocks) o.2,
-        weighed_none x p.shelf.blocks c.in-Some-receive.ensures.allowed.empty,
-        h.brings.named x,
-        ap (λ (r : RoundRead). weights_of r.round x) o.1,
-        ap (weights_sent x) c.in-Some-receive.ensures.item,
-        weights_sent_append x (received l.from) (Some p ∷ []),
-      );
-      went = subst (λ (rs : List RoundRead). Went did 0 c.args.into.now c.handle.new.into rs) (sym now)
-          (went_more did g.H.RoundHandler.stopped 0 c.args.into.now l.into c.handle.new.into (rounds_of (received l.from)) p.read i.went
-          (handled_as (g.H.RoundHandler.did c.args.handler.now) g.H.RoundHandler.stopped g.H.RoundHandler.ready (options_at first)
-          (options_at l.bench) l.into c.handle.new.into p.read c.open-number.result.1
-          (0 + length (rounds_of (received l.from))) c.open-number.result.0 None options o.1 (omega (arith, o.0, c.in-Some-receive.ensures.allowed.number)) c.in-None-handle.ensures.did));
+      each = omega (arith, came g p, c.send_home-in-loop.ensures.sum, c.give_list.ensures.sum);
+      named = λ x. omega (arith, came_named g p x, c.send_home-in-loop.ensures.named x, c.give_list.ensures.named x);
+      went = went_on g (goal.at.loop-preserved g c).In-None-handle;
       few = omega (arith, ap packets_of now, counted, is_read, c.in-Some-receive.ensures.allowed.packets);
       ready = subst (λ (m : ℕ). g.H.RoundHandler.ready (options_at first) first.keep m c.handle.new.into)
           (omega (arith, ap packets_of now, counted, ap (λ (r : RoundRead). length r.round.packets) o.1)) ready;

@@ -17,40 +17,11 @@ invariant_of-self-clause-counted g c =
       ap homes_of c.in-Some.ensures.token,
       homes_last (received c.args.self.now.tokens) c.in-Some.token,
       c.keep.ensures.sum,
-      ap
-          (λ s. shelved s.items) c.in-Some.ensures.same.0,
-    )
-
-pub invariant_of-self-else-not-goes-clause-counted : goal.invariant_of-self-else-not-goes-clause-counted
-invariant_of-self-else-not-goes-clause-counted g c =
-    let less = left_less (home c.args.pool.now) (home c.refill.new.self) (home c.in-Some.token.shelf) (home c.refill.new.from) c.args.pool.now.made c.refill.ensures.sum c.refill.ensures.all
-    (omega (arith, c.home-before.ensures.within, c.home-before.ensures.home)) in
-    omega (
-      arith,
-      c.args.self.now.counted,
-      less,
-      ap homes_of c.in-Some.ensures.token,
-      homes_last (received c.args.self.now.tokens) c.in-Some.token,
-      c.keep.ensures.sum,
-      ap
-          (λ s. shelved s.items) c.in-Some.ensures.same.0,
-    )
-
-pub returns-then-not-goes-clause-sum : goal.returns-then-not-goes-clause-sum
-returns-then-not-goes-clause-sum g c =
-    omega (
-      arith,
-      c.args.self.now.counted,
-      c.refill.ensures.sum,
-      ap homes_of c.in-Some.ensures.token,
-      homes_last (received c.args.self.now.tokens) c.in-Some.token,
-      c.keep.ensures.sum,
       ap (λ s. shelved s.items) c.in-Some.ensures.same.0,
-      ap (λ t. listed_home t.pass t.left) c.in-Some.ensures.same.1,
     )
 
-pub returns-else-not-goes-clause-sum : goal.returns-else-not-goes-clause-sum
-returns-else-not-goes-clause-sum g c =
+pub returns-clause-sum : goal.returns-clause-sum
+returns-clause-sum g c =
     omega (
       arith,
       c.args.self.now.counted,
@@ -74,20 +45,8 @@ invariant_of-self-clause-weighs g c h =
       ap (λ s. weights_shelved h s.items) c.in-Some.ensures.same.0,
     )
 
-pub invariant_of-self-else-not-goes-clause-weighs : goal.invariant_of-self-else-not-goes-clause-weighs
-invariant_of-self-else-not-goes-clause-weighs g c h =
-    omega (
-      arith,
-      c.args.self.now.weighs h,
-      left_weighs h c.in-Some.token.shelf c.refill.new.from c.args.pool.now c.refill.new.self c.refill.ensures.moved,
-      ap (weights_back h) c.in-Some.ensures.token,
-      weights_back_last h (received c.args.self.now.tokens) c.in-Some.token,
-      c.keep.ensures.named h,
-      ap (λ s. weights_shelved h s.items) c.in-Some.ensures.same.0,
-    )
-
-pub returns-then-not-goes-clause-named : goal.returns-then-not-goes-clause-named
-returns-then-not-goes-clause-named g c h =
+pub returns-clause-named : goal.returns-clause-named
+returns-clause-named g c h =
     omega (
       arith,
       c.args.self.now.weighs h,
@@ -100,28 +59,8 @@ returns-then-not-goes-clause-named g c h =
       ap (λ t. weights_home h t.pass t.left) c.in-Some.ensures.same.1,
     )
 
-pub returns-else-not-goes-clause-named : goal.returns-else-not-goes-clause-named
-returns-else-not-goes-clause-named g c h =
-    omega (
-      arith,
-      c.args.self.now.weighs h,
-      left_weighs h c.in-Some.token.shelf c.refill.new.from c.args.pool.now c.refill.new.self c.refill.ensures.moved,
-      refill_weighs h c.in-Some.token.shelf.blocks c.refill.new.from.blocks c.args.pool.now.blocks c.refill.new.self.blocks c.refill.ensures.blocks,
-      ap (weights_back h) c.in-Some.ensures.token,
-      weights_back_last h (received c.args.self.now.tokens) c.in-Some.token,
-      c.keep.ensures.named h,
-      ap (λ s. weights_shelved h s.items) c.in-Some.ensures.same.0,
-      ap (λ t. weights_home h t.pass t.left) c.in-Some.ensures.same.1,
-    )
-
-pub returns-then-not-goes-clause-rises : goal.returns-then-not-goes-clause-rises
-returns-then-not-goes-clause-rises g c =
-    let less = left_less (home c.args.pool.now) (home c.refill.new.self) (home c.in-Some.token.shelf) (home c.refill.new.from) c.args.pool.now.made c.refill.ensures.sum c.refill.ensures.all
-    (omega (arith, c.home-before.ensures.within, c.home-before.ensures.home)) in
-    omega (arith, less, c.refill.ensures.sum)
-
-pub returns-else-not-goes-clause-rises : goal.returns-else-not-goes-clause-rises
-returns-else-not-goes-clause-rises g c =
+pub returns-clause-rises : goal.returns-clause-rises
+returns-clause-rises g c =
     let less = left_less (home c.args.pool.now) (home c.refill.new.self) (home c.in-Some.token.shelf) (home c.refill.new.from) c.args.pool.now.made c.refill.ensures.sum c.refill.ensures.all
     (omega (arith, c.home-before.ensures.within, c.home-before.ensures.home)) in
     omega (arith, less, c.refill.ensures.sum)
