@@ -276,7 +276,8 @@ def by_options():
     options = [("--budget", str(budget)) for budget in (16, 256, 1024)] + [("--budget", "4096", "--blocks", "16384"), ("--blocks", "384"), ("--blocks", "65536")]
     found = [Group("merging by options, 1,514-byte frames", merge_lines("1,514 bytes", (), *options), ("merge",))]
     # Of four queues the sample's flows have one, and those that are made of it have all.
-    lanes = {"1,514 bytes": (("--taps", "1"), ("--taps", "8"), ("--queues", "4")), "4,096 flows by 8": (("--queues", "4"),)}
+    lanes = {"64 flows in turn": (("--queues", "4"), ("--taps", "1"), ("--taps", "8"), ("--queues", "4", "--taps", "2"))}
+    lanes |= {"1,514 bytes": (("--taps", "1"), ("--taps", "8"), ("--queues", "4")), "4,096 flows by 8": (("--queues", "4"),)}
     for name, own in lanes.items():
         runs = merge_lines(name, *(budget + lane for budget in ((), ("--budget", "1024")) for lane in ((), *own)))
         found.append(Group(f"merging over queues and taps, {name}", runs, ("merge", "merge --budget 1024")))
