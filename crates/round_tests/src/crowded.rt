@@ -2,22 +2,22 @@
 //!
 //! The program's pool has places for the lists of all lanes of as many rounds as are read ahead, so it is never full.
 //! Here it has one place, and nobody takes what lies there.
-ghost use Rattle.std.specs.Prelude.{◌≡◌, ◌+◌, ◌≤◌, [], IfOk};
+ghost use Rattle.std.specs.Prelude.{◌≡◌, ◌≤◌, IfOk};
 ghost use Rattle.std.specs.Arc.{arc_value};
 ghost use Rattle.block_pool.specs.PassState.{IsOwn};
 ghost use Rattle.block_pool.specs.PoolState.{home};
 ghost use Rattle.rounds.specs.Benches.{IsLent};
 
-use crate::plans::plain;
-use crate::sides::{NoneComes, empty_shelf, full};
+use crate::captures::{feed_of, reader_of, written};
+use crate::sides::{NoneComes, full, room_of, rounds_of_one};
 use block_pool::{Giver, ListPass, ListPool, Pool};
 use lanes::Beside;
-use off_io::{Feed, MemSink, MemSource, NoGate};
-use pcap_io::{CaptureReader, FileHead, Link};
-use rounds::{AllHome, Bench, MergeEnd, RoundEnd, RoundRead, Rounds, Step};
+use off_io::{MemSink, NoGate};
+use pcap_io::{FileHead, Link};
+use rounds::{AllHome, Bench, MergeEnd, RoundRead, Rounds, Step};
 use std::alloc::{AllocError, Global};
+use std::process::Abort;
 use std::sync::{Arc, Wait};
-use std::test::Fail;
 use worked_captures::{TWO_RECORDS, WRITTEN};
 
 // A pool with a place for one list, the pass of who takes it, and who gives.
@@ -35,31 +35,26 @@ fn one_place(alloc: Global) -> Result<(Arc<ListPool>, ListPass, Giver), AllocErr
     Ok((lists, part, giver))
 }
 
-// A full round is worked and written by whoever gives its spares. Its other blocks come home to an empty shelf.
-fn put<R: Wait>(
+// A round is worked and written by whoever gives its spares: what came of it, and a shelf with its other blocks.
+fn put<R: Wait + Abort>(
     rt: &R,
+    alloc: Global,
     bench: &mut Bench,
     read: RoundRead,
     file: &FileHead,
     sink: &mut MemSink,
     number: u64,
-    back: &mut Pool,
     giver: &mut Option<Giver>,
-) -> Result<Step, Fail>
-    requires empty { home back.old ≡ 0 }
-    requires made { back.old.made ≡ bench.old.blocks }
+) -> (Step, Pool)
     requires within { read.round.blocks ≤ bench.old.blocks }
     requires lent { IsLent giver.old }
     ensures blocks { bench.new.blocks ≡ bench.old.blocks }
     ensures lent { IsLent giver.new }
 {
-    if bench.make_room().is_err() {
-        let RoundRead { round, end: _ } = read;
-        round.discard();
-        return Err(Fail::from("there is memory"));
-    }
+    let mut back = room_of(rt, alloc, bench);
     let mut works = Beside { gate: &NoGate, rt };
-    Ok(bench.put_read(&mut works, read, file, sink, number, back, giver))
+    let step = bench.put_read(&mut works, read, file, sink, number, &mut back, giver);
+    (step, back)
 }
 
 // The blocks of the list that lies in the pool.
@@ -72,73 +67,54 @@ fn take_list<R: Wait>(rt: &R, lists: &ListPool, pass: &mut ListPass) -> Option<u
     }
 }
 
-// Both records in rounds of one, and the end behind them: what came of the rounds, and what was written; the blocks
-// that came home with each round, and those of the list; and how many lists were put and how many found no place.
-fn crowded<R: Wait>(
-    rt: &R,
-    alloc: Global,
-) -> Result<([Step; 3], Vec<u8>, [u32; 3], Option<u32>, (u64, u64)), Fail> {
-    let mut feed = Feed {
-        inner: MemSource::new(TWO_RECORDS.to_vec(alloc)?, 24, Vec::new(alloc)),
-    };
-    let mut reader = match CaptureReader::start(&mut feed, Link::Ethernet) {
-        Ok(reader) => reader,
-        Err(_) => return Err(Fail::from("the file header is lawful")),
-    };
-    let file = reader.file();
-    let mut sink = MemSink::new(alloc, 64, Vec::new(alloc));
-    let Rounds {
-        mut intake,
-        mut bench,
-    } = Rounds::make(alloc, 6, 1, plain(1, 0, 64), false)?;
-    let (lists, mut pass, giver) = one_place(alloc)?;
-    let mut giver = Some(giver);
-    let (mut one, mut two, mut three) = (
-        empty_shelf(alloc, 6)?,
-        empty_shelf(alloc, 6)?,
-        empty_shelf(alloc, 6)?,
-    );
-    let end = RoundEnd::Full;
-    let round = full(intake.read_round(&mut reader, &mut AllHome))?;
-    let read = RoundRead { round, end };
-    let first = put(
-        rt, &mut bench, read, &file, &mut sink, 0, &mut one, &mut giver,
-    )?;
-    let round = full(intake.read_round(&mut reader, &mut NoneComes))?;
-    let read = RoundRead { round, end };
-    let second = put(
-        rt, &mut bench, read, &file, &mut sink, 1, &mut two, &mut giver,
-    )?;
-    let last = intake.read_round(&mut reader, &mut NoneComes);
-    let third = put(
-        rt, &mut bench, last, &file, &mut sink, 2, &mut three, &mut giver,
-    )?;
-    let written = sink.bytes().to_vec(alloc)?;
-    let counts = match giver {
+// How many lists were put, and how many found no place.
+fn counts(giver: Option<Giver>) -> (u64, u64) {
+    match giver {
         Some(giver) => {
             let (_pool, pass, _list) = giver.open();
             (pass.puts(), pass.fulls())
         }
         None => (0, 0),
-    };
+    }
+}
+
+// What came of rounds, the blocks that came home with each, those of the list that lies in the pool, and how many lists
+// were put and how many found no place.
+type Crowded = ([Step; 3], [u32; 3], Option<u32>, (u64, u64));
+
+// Both records in rounds of one, and the end behind them; and what was written.
+fn crowded<R: Wait + Abort>(rt: &R, alloc: Global) -> (Crowded, Vec<u8>) {
+    let mut feed = feed_of(rt, alloc, &TWO_RECORDS, 24, &[]);
+    let mut reader = reader_of(rt, &mut feed, Link::Ethernet);
+    let file = reader.file();
+    let mut sink = MemSink::new(alloc, 64, Vec::new(alloc));
+    let Rounds {
+        mut intake,
+        mut bench,
+    } = rounds_of_one(rt, alloc, 6);
+    let (lists, mut pass, giver) = one_place(alloc).expect(rt, "no memory");
+    let mut giver = Some(giver);
+    let read = full(rt, intake.read_round(&mut reader, &mut AllHome));
+    let (first, one) = put(rt, alloc, &mut bench, read, &file, &mut sink, 0, &mut giver);
+    let read = full(rt, intake.read_round(&mut reader, &mut NoneComes));
+    let (second, two) = put(rt, alloc, &mut bench, read, &file, &mut sink, 1, &mut giver);
+    let last = intake.read_round(&mut reader, &mut NoneComes);
+    let (third, three) = put(rt, alloc, &mut bench, last, &file, &mut sink, 2, &mut giver);
+    let homes = [one.home(), two.home(), three.home()];
+    let puts = counts(giver);
     let list = take_list(rt, &lists, &mut pass);
-    Ok((
-        [first, second, third],
-        written,
-        [one.home(), two.home(), three.home()],
-        list,
-        counts,
-    ))
+    (
+        ([first, second, third], homes, list, puts),
+        written(rt, alloc, &sink),
+    )
 }
 
 // Two of the first round's three blocks lie in the list; the second round's list finds no place, neither behind its
 // lane nor as the work ends, and all three come home with the round.
 #[test]
-fn what_finds_no_place_comes_home_with_its_round(rt: HostRuntime) -> Result<(), Fail> {
-    let (steps, written, homes, list, counts) = crowded(&rt, rt.alloc())?;
-    assert_eq!(rt; steps, [Step::Goes, Step::Goes, Step::Ends(MergeEnd::Done)]);
+fn what_finds_no_place_comes_home_with_its_round(rt: HostRuntime) {
+    let (seen, written) = crowded(&rt, rt.alloc());
+    let steps = [Step::Goes, Step::Goes, Step::Ends(MergeEnd::Done)];
+    assert_eq!(rt; seen, (steps, [1, 3, 0], Some(2), (1, 2)));
     assert_eq!(rt; written.as_slice(), WRITTEN.as_slice());
-    assert_eq!(rt; homes, [1, 3, 0]);
-    assert_eq!(rt; (list, counts), (Some(2), (1, 2)));
-    Ok(())
 }

@@ -1,46 +1,33 @@
 //! The example of each first page, as it stands there, and what it comes to.
+use crate::captures::{feed_of, reader_of};
 use crate::working::packets::{all_home, in_turn, rest_home};
-use crate::writing::{FILE, all_go_home, frame};
-use frags::Outcomes;
+use crate::writing::{FILE, all_go_home, frame, one_item};
 use frame_layout::Choice;
-use gro::Item;
 use lanes::{Alone, LanePlan, Lanes, work_packets};
-use off_io::{Feed, MemSink, MemSource, NoGate};
-use pcap_io::{CaptureReader, Link};
+use off_io::{MemSink, NoGate};
+use pcap_io::Link;
 use records::{Time, write_items, write_record};
 use rounds::{MergeEnd, Rounds};
 use std::test::Fail;
 use worked_captures::TWO_FLOWS;
 
 #[test]
-fn example_of_records(rt: HostRuntime) -> Result<(), Fail> {
+fn example_of_records(rt: HostRuntime) {
     let alloc = rt.alloc();
     let (file, lane, original) = (FILE, 4, 9);
     let time = Time { sec: 1, frac: 2 };
     let mut sink = MemSink::new(alloc, 64, Vec::new(alloc));
-    let mut items = Vec::with_capacity(alloc, 1)?;
-    let outcomes = Outcomes::with_room(alloc, 2).expect(&rt, "places");
-    let skb = frame(alloc).expect(&rt, "no memory");
-    let segment = frame(alloc).expect(&rt, "no memory");
-    assert!(rt; skb.len() == 5 && segment.len() == 5 && items.len() < items.capacity());
-    items.push_reserved(Item {
-        skb,
-        number: 7,
-        sec: 1,
-        frac: 2,
-        original: 5,
-        n: 2,
-        m: 3,
-        modes: 1,
-        outcomes,
-    });
+    let items = one_item(&rt, alloc);
+    let segment = frame(&rt, alloc);
+    assert!(rt; segment.len() == 5);
     let first = write_record(&mut sink, &file, time, original, None, &segment);
     let rest = write_items(&mut sink, &file, lane, &items);
-    assert!(rt; first.is_ok() && rest.is_ok());
-    assert_eq!(rt; sink.bytes().len(), 21 + 37);
+    assert_eq!(rt;
+        (first, rest, sink.bytes().len()),
+        (Ok(()), Ok(()), 21 + 37)
+    );
     segment.free();
     all_go_home(&rt, items);
-    Ok(())
 }
 
 #[test]
@@ -78,10 +65,8 @@ fn example_of_lanes(rt: HostRuntime) {
 fn example_of_rounds(rt: HostRuntime) -> Result<(), Fail> {
     let alloc = rt.alloc();
     let blocks = 12;
-    let mut feed = Feed {
-        inner: MemSource::new(TWO_FLOWS.to_vec(alloc)?, 4096, Vec::new(alloc)),
-    };
-    let mut reader = CaptureReader::start(&mut feed, Link::Ethernet)?;
+    let mut feed = feed_of(&rt, alloc, &TWO_FLOWS, 4096, &[]);
+    let mut reader = reader_of(&rt, &mut feed, Link::Ethernet);
     let file = reader.file();
     let mut sink = MemSink::new(alloc, 4096, Vec::new(alloc));
     let plan = LanePlan {
@@ -94,7 +79,6 @@ fn example_of_rounds(rt: HostRuntime) -> Result<(), Fail> {
     };
     let mut rounds = Rounds::make(alloc, blocks, 64, plan, false)?;
     let end = rounds.merge_all(&mut Alone { gate: &NoGate }, &mut reader, &file, &mut sink);
-    assert_eq!(rt; end, MergeEnd::Done);
-    assert_eq!(rt; rounds.home(), 12);
+    assert_eq!(rt; (end, rounds.home()), (MergeEnd::Done, 12));
     Ok(())
 }

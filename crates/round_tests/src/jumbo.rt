@@ -3,17 +3,17 @@
 //! computed by a separate program.
 ghost use Rattle.std.specs.Prelude.{◌≡◌, ◌≤◌, IfOk};
 
+use crate::captures::push_record;
 use crate::plans::{hash, plain};
 use lanes::Alone;
 use off_io::{Feed, MemSink, MemSource, NoGate};
 use pcap_io::{CaptureReader, Link};
 use rounds::{RoundRead, Rounds};
 use std::alloc::{AllocError, Global};
-use std::test::Fail;
 use worked_captures::FILE_HEADER;
 
 // Ethernet, IPv4 and TCP of three flows, of each two segments with 8,946 bytes, of which byte k is k modulo 251.
-const HEADERS: [[u8; 54]; 6] = [
+static HEADERS: [[u8; 54]; 6] = [
     [
         0x02, 0x00, 0x00, 0x00, 0x00, 0x02, 0x02, 0x00, 0x00, 0x00, 0x00, 0x01, 0x08, 0x00, 0x45,
         0x00, 0x23, 0x1a, 0x00, 0x64, 0x40, 0x00, 0x40, 0x06, 0x03, 0x78, 0x0a, 0x00, 0x00, 0x01,
@@ -59,13 +59,7 @@ const BLOCKS: u32 = 44;
 fn capture(alloc: Global) -> Result<Vec<u8>, AllocError> {
     let mut capture = FILE_HEADER.to_vec(alloc)?;
     for headers in &HEADERS {
-        capture.extend_from_slice(&[0; 8])?;
-        capture.extend_from_slice(&9_000u32.to_le_bytes())?;
-        capture.extend_from_slice(&9_000u32.to_le_bytes())?;
-        capture.extend_from_slice(headers)?;
-        for k in 0..8_946u32 {
-            capture.push((k % 251) as u8)?;
-        }
+        push_record(&mut capture, headers, 8_946)?;
     }
     Ok(capture)
 }
@@ -120,7 +114,7 @@ const ALL_BESIDE_ONE: Row = Row {
 
 // The capture is a round: the blocks that are home while it is out, and what is written of it. None where memory was
 // refused or a record is.
-fn turn(alloc: Global, rounds: &mut Rounds, capture: &[u8]) -> Option<(u32, Vec<u8>)>
+fn turn(alloc: Global, rounds: &mut Rounds, capture: &[u8]) -> Option<(u32, MemSink)>
     requires home { rounds.old.home ≡ rounds.old.blocks }
     ensures home { rounds.new.home ≡ rounds.new.blocks }
 {
@@ -142,11 +136,8 @@ fn turn(alloc: Global, rounds: &mut Rounds, capture: &[u8]) -> Option<(u32, Vec<
     };
     let written = rounds.write_round(&worked, &file, &mut sink);
     rounds.end_round(worked);
-    if written.is_err() {
-        return None;
-    }
-    match sink.bytes().to_vec(alloc) {
-        Ok(bytes) => Some((home, bytes)),
+    match written {
+        Ok(()) => Some((home, sink)),
         Err(_) => None,
     }
 }
@@ -162,9 +153,12 @@ fn rounds_of(alloc: Global, row: Row) -> Result<Rounds, AllocError>
 }
 
 // Whether a turn left all blocks but those of the round home, and wrote what the row says.
-fn is_as_said(row: Row, turn: &Option<(u32, Vec<u8>)>) -> bool {
+fn is_as_said(row: Row, turn: &Option<(u32, MemSink)>) -> bool {
     match turn {
-        Some((home, bytes)) => *home == 2 && bytes.len() == row.size && hash(bytes) == row.hash,
+        Some((home, sink)) => {
+            let bytes = sink.bytes();
+            (*home, bytes.len(), hash(bytes)) == (2, row.size, row.hash)
+        }
         None => false,
     }
 }
@@ -184,15 +178,17 @@ fn is_right(alloc: Global, row: Row) -> Result<bool, AllocError>
 }
 
 #[test]
-fn records_of_several_blocks(rt: HostRuntime) -> Result<(), Fail> {
+fn records_of_several_blocks(rt: HostRuntime) {
     let alloc = rt.alloc();
-    assert!(rt; is_right(alloc, ONE_QUEUE)?);
-    assert!(rt; is_right(alloc, THREE_QUEUES)?);
-    assert!(rt; is_right(alloc, ONE_AND_TAPS)?);
-    assert!(rt; is_right(alloc, THREE_AND_TAPS)?);
-    assert!(rt; is_right(alloc, THREE_AND_CLONES)?);
-    assert!(rt; is_right(alloc, ALL_BESIDE_ONE)?);
-    Ok(())
+    let right = [
+        is_right(alloc, ONE_QUEUE),
+        is_right(alloc, THREE_QUEUES),
+        is_right(alloc, ONE_AND_TAPS),
+        is_right(alloc, THREE_AND_TAPS),
+        is_right(alloc, THREE_AND_CLONES),
+        is_right(alloc, ALL_BESIDE_ONE),
+    ];
+    assert_eq!(rt; right, [Ok(true); 6]);
 }
 
 // The blocks that are home after two rounds, of which one may be refused memory.
@@ -212,13 +208,13 @@ fn home_after(alloc: Global, row: Row) -> Result<u32, AllocError>
 #[test]
 fn blocks_come_home_where_memory_is_refused(rt: HostRuntime) {
     let alloc = rt.alloc();
-    assert_eq!(rt; home_after(alloc, ONE_QUEUE).unwrap_or(BLOCKS), BLOCKS);
-    assert_eq!(rt; home_after(alloc, THREE_QUEUES).unwrap_or(BLOCKS), BLOCKS);
-    assert_eq!(rt; home_after(alloc, ONE_AND_TAPS).unwrap_or(BLOCKS), BLOCKS);
-    assert_eq!(rt; home_after(alloc, THREE_AND_TAPS).unwrap_or(BLOCKS), BLOCKS);
-    assert_eq!(rt;
+    let home = [
+        home_after(alloc, ONE_QUEUE).unwrap_or(BLOCKS),
+        home_after(alloc, THREE_QUEUES).unwrap_or(BLOCKS),
+        home_after(alloc, ONE_AND_TAPS).unwrap_or(BLOCKS),
+        home_after(alloc, THREE_AND_TAPS).unwrap_or(BLOCKS),
         home_after(alloc, THREE_AND_CLONES).unwrap_or(BLOCKS),
-        BLOCKS
-    );
-    assert_eq!(rt; home_after(alloc, ALL_BESIDE_ONE).unwrap_or(BLOCKS), BLOCKS);
+        home_after(alloc, ALL_BESIDE_ONE).unwrap_or(BLOCKS),
+    ];
+    assert_eq!(rt; home, [BLOCKS; 6]);
 }

@@ -1,18 +1,18 @@
 //! Two segments over IPv6 that merge into a frame whose length still fits the payload length field, and into one whose
 //! length doesn't: there the field is 0. Headers and hashes were computed by a separate program.
 
+use crate::captures::{feed_of, merge, push_record, reader_of, written};
 use crate::plans::{hash, plain};
-use lanes::Alone;
-use off_io::{Feed, MemSink, MemSource, NoGate};
-use pcap_io::{CaptureReader, Link};
+use off_io::MemSink;
+use pcap_io::Link;
 use rounds::{MergeEnd, Moved, Rounds, SegmentRun};
 use std::alloc::{AllocError, Global};
-use std::test::Fail;
+use std::process::Abort;
 use worked_captures::FILE_HEADER;
 
 // Ethernet, IPv6 and TCP (RFC 8200, section 3; RFC 9293, section 3.1) of a segment with 32,758 bytes. Byte k is k
 // modulo 251.
-const FIRST: [u8; 74] = [
+static FIRST: [u8; 74] = [
     0x02, 0x00, 0x00, 0x00, 0x01, 0x02, 0x02, 0x00, 0x00, 0x00, 0x02, 0x02, 0x86, 0xdd, 0x60, 0x00,
     0x00, 0x00, 0x80, 0x0a, 0x06, 0x40, 0x20, 0x01, 0x0d, 0xb8, 0x00, 0x00, 0x00, 0x00, 0x00, 0x00,
     0x00, 0x00, 0x00, 0x00, 0x00, 0x01, 0x20, 0x01, 0x0d, 0xb8, 0x00, 0x00, 0x00, 0x00, 0x00, 0x00,
@@ -22,7 +22,6 @@ const FIRST: [u8; 74] = [
 
 // The next segment: its headers and its payload's length. And what both merge into: the payload length field of the
 // frame, and the size and the hash of the record.
-#[derive(Clone, Copy)]
 struct Row {
     headers: [u8; 74],
     payload: u32,
@@ -31,7 +30,7 @@ struct Row {
     hash: u32,
 }
 
-const FITS: Row = Row {
+static FITS: Row = Row {
     headers: [
         0x02, 0x00, 0x00, 0x00, 0x01, 0x02, 0x02, 0x00, 0x00, 0x00, 0x02, 0x02, 0x86, 0xdd, 0x60,
         0x00, 0x00, 0x00, 0x80, 0x09, 0x06, 0x40, 0x20, 0x01, 0x0d, 0xb8, 0x00, 0x00, 0x00, 0x00,
@@ -45,7 +44,7 @@ const FITS: Row = Row {
     hash: 1_217_775_339,
 };
 
-const EXCEEDS: Row = Row {
+static EXCEEDS: Row = Row {
     headers: [
         0x02, 0x00, 0x00, 0x00, 0x01, 0x02, 0x02, 0x00, 0x00, 0x00, 0x02, 0x02, 0x86, 0xdd, 0x60,
         0x00, 0x00, 0x00, 0x80, 0x0a, 0x06, 0x40, 0x20, 0x01, 0x0d, 0xb8, 0x00, 0x00, 0x00, 0x00,
@@ -59,84 +58,64 @@ const EXCEEDS: Row = Row {
     hash: 2_749_579_379,
 };
 
-fn push_segment(capture: &mut Vec<u8>, headers: &[u8; 74], payload: u32) -> Result<(), AllocError> {
-    let size = payload.wrapping_add(74).to_le_bytes();
-    capture.extend_from_slice(&[0; 8])?;
-    capture.extend_from_slice(&size)?;
-    capture.extend_from_slice(&size)?;
-    capture.extend_from_slice(headers)?;
-    for k in 0..payload {
-        capture.push((k % 251) as u8)?;
-    }
-    Ok(())
-}
-
 // The capture of both segments.
 fn capture_of(alloc: Global, row: &Row) -> Result<Vec<u8>, AllocError> {
     let mut capture = FILE_HEADER.to_vec(alloc)?;
-    push_segment(&mut capture, &FIRST, 32_758)?;
-    push_segment(&mut capture, &row.headers, row.payload)?;
+    push_record(&mut capture, &FIRST, 32_758)?;
+    push_record(&mut capture, &row.headers, row.payload)?;
     Ok(capture)
 }
 
-fn merged(alloc: Global, capture: &[u8]) -> Result<(MergeEnd, Vec<u8>), Fail> {
-    let mut feed = Feed {
-        inner: MemSource::new(capture.to_vec(alloc)?, 65_536, Vec::new(alloc)),
-    };
-    let mut reader = match CaptureReader::start(&mut feed, Link::Ethernet) {
-        Ok(reader) => reader,
-        Err(_) => return Err(Fail::from("the file header is lawful")),
-    };
-    let file = reader.file();
+fn merged(rt: &impl Abort, alloc: Global, capture: &[u8]) -> (MergeEnd, Vec<u8>) {
+    let mut feed = feed_of(rt, alloc, capture, 65_536, &[]);
     let mut sink = MemSink::new(alloc, 65_536, Vec::new(alloc));
-    let mut rounds = Rounds::make(alloc, 40, 2, plain(1, 0, 64), false)?;
-    let end = rounds.merge_all(&mut Alone { gate: &NoGate }, &mut reader, &file, &mut sink);
-    Ok((end, sink.bytes().to_vec(alloc)?))
+    let mut rounds = Rounds::make(alloc, 40, 2, plain(1, 0, 64), false).expect(rt, "no memory");
+    let end = merge(rt, &mut rounds, &mut feed, &mut sink);
+    (end, written(rt, alloc, &sink))
+}
+
+// The capture of a record that was written.
+fn capture_with(alloc: Global, record: &[u8]) -> Result<Vec<u8>, AllocError> {
+    let mut capture = FILE_HEADER.to_vec(alloc)?;
+    capture[20] = 147;
+    capture.extend_from_slice(record)?;
+    Ok(capture)
 }
 
 // The records that are cut of one.
-fn cut(alloc: Global, record: &[u8]) -> Result<(bool, Vec<u8>), Fail> {
-    let mut bytes = FILE_HEADER.to_vec(alloc)?;
-    bytes[20] = 147;
-    bytes.extend_from_slice(record)?;
-    let mut feed = Feed {
-        inner: MemSource::new(bytes, 65_536, Vec::new(alloc)),
-    };
-    let mut reader = match CaptureReader::start(&mut feed, Link::Offload) {
-        Ok(reader) => reader,
-        Err(_) => return Err(Fail::from("the file header is lawful")),
-    };
+fn cut(rt: &impl Abort, alloc: Global, record: &[u8]) -> (bool, Vec<u8>) {
+    let capture = capture_with(alloc, record).expect(rt, "no memory");
+    let mut feed = feed_of(rt, alloc, &capture, 65_536, &[]);
+    let mut reader = reader_of(rt, &mut feed, Link::Offload);
     let mut sink = MemSink::new(alloc, 65_536, Vec::new(alloc));
-    let mut run = SegmentRun::make(alloc, 40)?;
+    let mut run = SegmentRun::make(alloc, 40).expect(rt, "no memory");
     let moved = run.next(&mut reader, &mut sink);
-    Ok((moved == Ok(Moved::One), sink.bytes().to_vec(alloc)?))
+    (moved == Ok(Moved::One), written(rt, alloc, &sink))
 }
 
-// How merging both segments ended, the record that it wrote, and whether both came back when that was cut.
-fn there_and_back(alloc: Global, row: &Row) -> Result<(MergeEnd, Vec<u8>, bool), Fail> {
-    let capture = capture_of(alloc, row)?;
-    let (end, record) = merged(alloc, &capture)?;
-    let (is_cut, records) = cut(alloc, &record)?;
+// How merging both segments ended, the size and the hash of the record that it wrote, whether its payload length field
+// is the row's, and whether both came back when it was cut.
+fn there_and_back(rt: &impl Abort, alloc: Global, row: &Row) -> (MergeEnd, usize, u32, bool, bool) {
+    let capture = capture_of(alloc, row).expect(rt, "no memory");
+    let (end, record) = merged(rt, alloc, &capture);
+    let (is_cut, records) = cut(rt, alloc, &record);
+    let has_length = record.get(50..52) == Some(row.length.as_slice());
     let is_back = is_cut && capture.get(24..) == Some(records.as_slice());
-    Ok((end, record, is_back))
+    (end, record.len(), hash(&record), has_length, is_back)
 }
 
 #[test]
-fn a_payload_length_that_fits_the_field(rt: HostRuntime) -> Result<(), Fail> {
-    let (end, record, is_back) = there_and_back(rt.alloc(), &FITS)?;
-    assert_eq!(rt; end, MergeEnd::Done);
-    assert_eq!(rt; (record.len(), hash(&record)), (FITS.size, FITS.hash));
-    assert_eq!(rt; record.get(50..52), Some(FITS.length.as_slice()));
-    assert!(rt; is_back);
-    Ok(())
+fn a_payload_length_that_fits_the_field(rt: HostRuntime) {
+    assert_eq!(rt;
+        there_and_back(&rt, rt.alloc(), &FITS),
+        (MergeEnd::Done, FITS.size, FITS.hash, true, true)
+    );
 }
 
 #[test]
-fn a_payload_length_that_does_not_fit(rt: HostRuntime) -> Result<(), Fail> {
-    let (end, record, is_back) = there_and_back(rt.alloc(), &EXCEEDS)?;
-    assert_eq!(rt; end, MergeEnd::Done);
-    assert_eq!(rt; (record.len(), hash(&record)), (EXCEEDS.size, EXCEEDS.hash));
-    assert_eq!(rt; record.get(50..52), Some(EXCEEDS.length.as_slice()));
-    assert!(rt; is_back);
-    Ok(())
+fn a_payload_length_that_does_not_fit(rt: HostRuntime) {
+    assert_eq!(rt;
+        there_and_back(&rt, rt.alloc(), &EXCEEDS),
+        (MergeEnd::Done, EXCEEDS.size, EXCEEDS.hash, true, true)
+    );
 }

@@ -1,163 +1,162 @@
 //! Rounds are read, dropped, ended and merged, and all blocks are home again.
-ghost use Rattle.std.specs.Prelude.{◌≤◌};
+ghost use Rattle.std.specs.Prelude.{◌≡◌, ◌≤◌};
 
+use crate::captures::{feed_of, merge, reader_of, written};
 use crate::plans::plain;
 use lanes::Alone;
-use off_io::{Feed, MemSink, MemSource, NoGate};
-use pcap_io::{CaptureReader, Link};
+use off_io::{MemSink, NoGate};
+use pcap_io::Link;
 use rounds::{MergeEnd, RoundEnd, RoundRead, Rounds};
 use std::alloc::Global;
-use std::test::Fail;
+use std::process::Abort;
 use worked_captures::{TWO_RECORDS, WRITTEN};
 
-// A round of two, of a source that fails at these of its calls: the blocks that are home while the round is out and
-// once it was dropped, the blocks that were taken, and why it ended.
-fn turn(alloc: Global, blocks: u32, fails: Vec<u64>) -> Result<(u32, u32, u64, RoundEnd), Fail>
+// Rounds of two over so many blocks.
+fn rounds_over(rt: &impl Abort, alloc: Global, blocks: u32) -> Rounds
+    requires blocks { (1 ≤ blocks) × (blocks ≤ 65536) }
+    ensures home { result.home ≡ result.blocks }
+{
+    Rounds::make(alloc, blocks, 2, plain(1, 0, 64), false).expect(rt, "no memory")
+}
+
+// A round of a source that fails at these of its calls: the blocks that are home while the round is out and once it was
+// dropped, the blocks that were taken, and why it ended.
+fn turn(rt: &impl Abort, alloc: Global, blocks: u32, fails: &[u64]) -> (u32, u32, u64, RoundEnd)
     requires blocks { (1 ≤ blocks) × (blocks ≤ 65536) }
 {
-    let mut feed = Feed {
-        inner: MemSource::new(TWO_RECORDS.to_vec(alloc)?, 24, fails),
-    };
-    let mut reader = match CaptureReader::start(&mut feed, Link::Ethernet) {
-        Ok(reader) => reader,
-        Err(_) => return Err(Fail::from("the file header is lawful")),
-    };
-    let mut rounds = Rounds::make(alloc, blocks, 2, plain(1, 0, 64), false)?;
+    let mut feed = feed_of(rt, alloc, &TWO_RECORDS, 24, fails);
+    let mut reader = reader_of(rt, &mut feed, Link::Ethernet);
+    let mut rounds = rounds_over(rt, alloc, blocks);
     let RoundRead { round, end } = rounds.read_round(&mut reader);
     let home = rounds.home();
     rounds.drop_round(round);
-    Ok((home, rounds.home(), rounds.taken(), end))
+    (home, rounds.home(), rounds.taken(), end)
 }
 
 // The same round worked, written and ended: what is written, and the blocks that are home before the end and after it.
-fn worked_turn(alloc: Global, blocks: u32) -> Result<(Vec<u8>, u32, u32), Fail>
+fn worked_turn(rt: &impl Abort, alloc: Global, blocks: u32) -> (Vec<u8>, u32, u32)
     requires blocks { (1 ≤ blocks) × (blocks ≤ 65536) }
 {
-    let mut feed = Feed {
-        inner: MemSource::new(TWO_RECORDS.to_vec(alloc)?, 24, Vec::new(alloc)),
-    };
-    let mut reader = match CaptureReader::start(&mut feed, Link::Ethernet) {
-        Ok(reader) => reader,
-        Err(_) => return Err(Fail::from("the file header is lawful")),
-    };
+    let mut feed = feed_of(rt, alloc, &TWO_RECORDS, 24, &[]);
+    let mut reader = reader_of(rt, &mut feed, Link::Ethernet);
     let file = reader.file();
     let mut sink = MemSink::new(alloc, 64, Vec::new(alloc));
-    let mut rounds = Rounds::make(alloc, blocks, 2, plain(1, 0, 64), false)?;
+    let mut rounds = rounds_over(rt, alloc, blocks);
     let RoundRead { round, end: _ } = rounds.read_round(&mut reader);
-    let worked = rounds.work_round(&mut Alone { gate: &NoGate }, round)?;
-    let written = rounds.write_round(&worked, &file, &mut sink);
+    let worked = rounds.work_round(&mut Alone { gate: &NoGate }, round);
+    let worked = worked.expect(rt, "no memory");
+    rounds
+        .write_round(&worked, &file, &mut sink)
+        .expect(rt, "all is written");
     let home = rounds.home();
     rounds.end_round(worked);
-    if written.is_err() {
-        return Err(Fail::from("all is written"));
-    }
-    Ok((sink.bytes().to_vec(alloc)?, home, rounds.home()))
+    (written(rt, alloc, &sink), home, rounds.home())
 }
 
 // Both merged in rounds of two, from a source and to a sink that fail at these of their calls: how it ended, what was
 // written and whether it is flushed, and the blocks that are home.
-fn merge(
+fn merged(
+    rt: &impl Abort,
     alloc: Global,
     blocks: u32,
-    reads: Vec<u64>,
-    writes: Vec<u64>,
-) -> Result<(MergeEnd, Vec<u8>, bool, u32), Fail>
+    reads: &[u64],
+    writes: &[u64],
+) -> (MergeEnd, Vec<u8>, bool, u32)
     requires blocks { (1 ≤ blocks) × (blocks ≤ 65536) }
 {
-    let mut feed = Feed {
-        inner: MemSource::new(TWO_RECORDS.to_vec(alloc)?, 24, reads),
-    };
-    let mut reader = match CaptureReader::start(&mut feed, Link::Ethernet) {
-        Ok(reader) => reader,
-        Err(_) => return Err(Fail::from("the file header is lawful")),
-    };
-    let file = reader.file();
+    let mut feed = feed_of(rt, alloc, &TWO_RECORDS, 24, reads);
+    let writes = writes.to_vec(alloc).expect(rt, "no memory");
     let mut sink = MemSink::new(alloc, 64, writes);
-    let mut rounds = Rounds::make(alloc, blocks, 2, plain(1, 0, 64), false)?;
-    let end = rounds.merge_all(&mut Alone { gate: &NoGate }, &mut reader, &file, &mut sink);
-    let written = sink.bytes().to_vec(alloc)?;
-    Ok((end, written, sink.is_flushed(), rounds.home()))
+    let mut rounds = rounds_over(rt, alloc, blocks);
+    let end = merge(rt, &mut rounds, &mut feed, &mut sink);
+    (
+        end,
+        written(rt, alloc, &sink),
+        sink.is_flushed(),
+        rounds.home(),
+    )
 }
 
 #[test]
-fn all_is_merged(rt: HostRuntime) -> Result<(), Fail> {
-    let alloc = rt.alloc();
-    let (end, written, flushed, home) = merge(alloc, 6, Vec::new(alloc), Vec::new(alloc))?;
-    assert_eq!(rt; (end, flushed, home), (MergeEnd::Done, true, 6));
-    assert_eq!(rt; written.as_slice(), WRITTEN.as_slice());
-    Ok(())
+fn all_is_merged(rt: HostRuntime) {
+    let (end, written, flushed, home) = merged(&rt, rt.alloc(), 6, &[], &[]);
+    assert_eq!(rt;
+        (end, flushed, home, written.as_slice()),
+        (MergeEnd::Done, true, 6, WRITTEN.as_slice())
+    );
 }
 
 #[test]
-fn of_a_round_that_exceeds_the_blocks_nothing_is_written(rt: HostRuntime) -> Result<(), Fail> {
-    let alloc = rt.alloc();
-    let (end, written, flushed, home) = merge(alloc, 3, Vec::new(alloc), Vec::new(alloc))?;
+fn of_a_round_that_exceeds_the_blocks_nothing_is_written(rt: HostRuntime) {
+    let (end, written, flushed, home) = merged(&rt, rt.alloc(), 3, &[], &[]);
     let empty = MergeEnd::PoolEmpty { round: 0, need: 6 };
-    assert_eq!(rt; (end, flushed, home), (empty, true, 3));
-    assert_eq!(rt; written.len(), 0);
-    Ok(())
+    assert_eq!(rt; (end, flushed, home, written.len()), (empty, true, 3, 0));
 }
 
 #[test]
-fn a_failing_source_and_sink(rt: HostRuntime) -> Result<(), Fail> {
+fn a_failing_source_and_sink(rt: HostRuntime) {
     let alloc = rt.alloc();
-    let (end, written, flushed, home) = merge(alloc, 7, vec![in alloc; 4]?, Vec::new(alloc))?;
-    assert_eq!(rt; (end, flushed, home), (MergeEnd::ReadFault, true, 7));
-    assert_eq!(rt; written.as_slice(), &WRITTEN[..33]);
-    let (end, written, _, home) = merge(alloc, 7, Vec::new(alloc), vec![in alloc; 0]?)?;
-    assert_eq!(rt; (end, home), (MergeEnd::WriteFault, 7));
-    assert_eq!(rt; written.len(), 0);
-    Ok(())
-}
-
-#[test]
-fn a_worked_round_comes_home(rt: HostRuntime) -> Result<(), Fail> {
-    let alloc = rt.alloc();
-    let (written, before, after) = worked_turn(alloc, 7)?;
-    assert_eq!(rt; (before, after), (1, 7));
-    assert_eq!(rt; written.as_slice(), WRITTEN.as_slice());
-    let (written, before, after) = worked_turn(alloc, 5)?;
-    assert_eq!(rt; (before, after), (2, 5));
-    assert_eq!(rt; written.as_slice(), &WRITTEN[..33]);
-    Ok(())
-}
-
-#[test]
-fn the_need_is_exact(rt: HostRuntime) -> Result<(), Fail> {
-    let alloc = rt.alloc();
-    assert_eq!(rt; turn(alloc, 7, Vec::new(alloc))?, (1, 7, 6, RoundEnd::Full));
-    assert_eq!(rt; turn(alloc, 6, Vec::new(alloc))?, (0, 6, 6, RoundEnd::Full));
+    let (end, written, flushed, home) = merged(&rt, alloc, 7, &[4], &[]);
     assert_eq!(rt;
-        turn(alloc, 5, Vec::new(alloc))?,
-        (2, 5, 3, RoundEnd::PoolEmpty { need: 6 })
+        (end, flushed, home, written.as_slice()),
+        (MergeEnd::ReadFault, true, 7, &WRITTEN[..33])
     );
+    let (end, written, _, home) = merged(&rt, alloc, 7, &[], &[0]);
+    assert_eq!(rt; (end, home, written.len()), (MergeEnd::WriteFault, 7, 0));
+}
+
+#[test]
+fn a_worked_round_comes_home(rt: HostRuntime) {
+    let alloc = rt.alloc();
+    let (both, both_out, both_home) = worked_turn(&rt, alloc, 7);
+    let (one, one_out, one_home) = worked_turn(&rt, alloc, 5);
     assert_eq!(rt;
-        turn(alloc, 2, Vec::new(alloc))?,
-        (2, 2, 0, RoundEnd::PoolEmpty { need: 3 })
+        [
+            (both.as_slice(), both_out, both_home),
+            (one.as_slice(), one_out, one_home)
+        ],
+        [(WRITTEN.as_slice(), 1, 7), (&WRITTEN[..33], 2, 5)]
     );
-    Ok(())
+}
+
+#[test]
+fn the_need_is_exact(rt: HostRuntime) {
+    let alloc = rt.alloc();
+    let turns = [
+        turn(&rt, alloc, 7, &[]),
+        turn(&rt, alloc, 6, &[]),
+        turn(&rt, alloc, 5, &[]),
+        turn(&rt, alloc, 2, &[]),
+    ];
+    assert_eq!(rt;
+        turns,
+        [
+            (1, 7, 6, RoundEnd::Full),
+            (0, 6, 6, RoundEnd::Full),
+            (2, 5, 3, RoundEnd::PoolEmpty { need: 6 }),
+            (2, 2, 0, RoundEnd::PoolEmpty { need: 3 }),
+        ]
+    );
 }
 
 // Call 0 gives the file header; then each record's header is a call, and its body is one. The two spares of a record
 // are taken once its body is read.
 #[test]
-fn a_half_read_record_leaves_no_block_out(rt: HostRuntime) -> Result<(), Fail> {
+fn a_half_read_record_leaves_no_block_out(rt: HostRuntime) {
     let alloc = rt.alloc();
+    let turns = [
+        turn(&rt, alloc, 7, &[1]),
+        turn(&rt, alloc, 7, &[2]),
+        turn(&rt, alloc, 7, &[3]),
+        turn(&rt, alloc, 7, &[4]),
+    ];
     assert_eq!(rt;
-        turn(alloc, 7, vec![in alloc; 1]?)?,
-        (7, 7, 0, RoundEnd::ReadFault)
+        turns,
+        [
+            (7, 7, 0, RoundEnd::ReadFault),
+            (7, 7, 1, RoundEnd::ReadFault),
+            (4, 7, 3, RoundEnd::ReadFault),
+            (4, 7, 4, RoundEnd::ReadFault),
+        ]
     );
-    assert_eq!(rt;
-        turn(alloc, 7, vec![in alloc; 2]?)?,
-        (7, 7, 1, RoundEnd::ReadFault)
-    );
-    assert_eq!(rt;
-        turn(alloc, 7, vec![in alloc; 3]?)?,
-        (4, 7, 3, RoundEnd::ReadFault)
-    );
-    assert_eq!(rt;
-        turn(alloc, 7, vec![in alloc; 4]?)?,
-        (4, 7, 4, RoundEnd::ReadFault)
-    );
-    Ok(())
 }

@@ -1,5 +1,5 @@
 //! One side reads and the other works, in turn, over as few blocks as a round needs.
-ghost use Rattle.std.specs.Prelude.{◌≡◌, ℕ, ◌+◌, ◌-◌, ◌≤◌, List, [], length, IfOk};
+ghost use Rattle.std.specs.Prelude.{◌≡◌, ℕ, ◌+◌, ◌-◌, ◌≤◌, List, [], length};
 ghost use Rattle.raw_block.specs.Views.{SoleState};
 ghost use Rattle.block_pool.specs.PoolState.{home, weighed};
 ghost use Rattle.pcap_io.specs.declared.heads.Link.TheVariants.{Ethernet};
@@ -7,15 +7,16 @@ ghost use Rattle.pcap_io.specs.Places.{IsReady};
 ghost use Rattle.pcap_io.specs.Readers.{place_of, SameLoan};
 ghost use Rattle.rounds.specs.Reading.{PassesRound};
 
+use crate::captures::{feed_of, reader_of, written};
 use crate::plans::plain;
 use block_pool::Pool;
 use lanes::Alone;
-use off_io::{Feed, MemSink, MemSource, NoGate, Source};
+use off_io::{MemSink, NoGate, Source};
 use pcap_io::{CaptureReader, FileHead, Link};
-use rounds::{AllHome, Bench, Intake, MergeEnd, Round, RoundEnd, RoundRead, Rounds, Step, Supply};
-use std::alloc::{AllocError, Global};
+use rounds::{AllHome, Bench, Intake, MergeEnd, RoundEnd, RoundRead, Rounds, Step, Supply};
+use std::alloc::Global;
 use std::marker::{Brand, PhantomData};
-use std::test::Fail;
+use std::process::Abort;
 use worked_captures::{TWO_RECORDS, WRITTEN};
 
 // The blocks that were on a shelf at first: the call that lends it says them.
@@ -95,26 +96,32 @@ impl Supply for NoneComes {
     }
 }
 
-/// A round that is full.
-pub(crate) fn full(read: RoundRead) -> Result<Round, Fail>
-    ensures full { IfOk result (λ round. (read.end ≡ RoundEnd.Full) × (round ≡ read.round)) }
+/// A round, which is full.
+pub(crate) fn full(rt: &impl Abort, read: RoundRead) -> RoundRead
+    ensures full { (read.end ≡ RoundEnd.Full) × (result ≡ read) }
 {
-    let RoundRead { round, end } = read;
-    match end {
-        RoundEnd::Full => Ok(round),
-        _ => {
-            round.discard();
-            Err(Fail::from("the round is full"))
-        }
+    match read.end {
+        RoundEnd::Full => read,
+        _ => panic!(rt; "the round is full"),
     }
 }
 
-/// A shelf with places for so many blocks.
-pub(crate) fn empty_shelf(alloc: Global, blocks: u32) -> Result<Pool, AllocError>
-    requires few { blocks ≤ 65536 }
-    ensures empty { IfOk result (λ pool. (home pool ≡ 0) × (pool.made ≡ blocks)) }
+/// Rounds of one over so many blocks.
+pub(crate) fn rounds_of_one(rt: &impl Abort, alloc: Global, blocks: u32) -> Rounds
+    requires blocks { (1 ≤ blocks) × (blocks ≤ 65536) }
+    ensures blocks { (result.home ≡ blocks) × (result.blocks ≡ blocks) }
 {
-    Pool::empty(alloc, blocks)
+    Rounds::make(alloc, blocks, 1, plain(1, 0, 64), false).expect(rt, "no memory")
+}
+
+/// Room on a bench for a round that ends, and a shelf with places for all of its blocks.
+pub(crate) fn room_of(rt: &impl Abort, alloc: Global, bench: &mut Bench) -> Pool
+    ensures room { bench.old.blocks + bench.old.blocks ≤ bench.new.room }
+    ensures blocks { bench.new.blocks ≡ bench.old.blocks }
+    ensures empty { (home result ≡ 0) × (result.made ≡ bench.old.blocks) }
+{
+    bench.make_room().expect(rt, "no memory");
+    Pool::empty(alloc, bench.blocks()).expect(rt, "no memory")
 }
 
 // A round is read while the blocks of a shelf come home.
@@ -162,142 +169,93 @@ fn read_shelved<S: Source>(
     read_beside::<Brand, S>(intake, reader, pool)
 }
 
-// A round is worked and written, and its blocks come home to an empty shelf.
+// A round is worked and written: what came of it, and a shelf with its blocks.
 fn put(
+    rt: &impl Abort,
+    alloc: Global,
     bench: &mut Bench,
     read: RoundRead,
     file: &FileHead,
     sink: &mut MemSink,
     number: u64,
-    back: &mut Pool,
-) -> Result<Step, Fail>
-    requires empty { home back.old ≡ 0 }
-    requires made { back.old.made ≡ bench.old.blocks }
+) -> (Step, Pool)
     requires within { read.round.blocks ≤ bench.old.blocks }
-    ensures home { IfOk result (λ _. home back.new ≡ read.round.blocks) }
-    ensures made { back.new.made ≡ back.old.made }
+    ensures home { home result.1 ≡ read.round.blocks }
     ensures blocks { bench.new.blocks ≡ bench.old.blocks }
 {
-    if bench.make_room().is_err() {
-        let RoundRead { round, end: _ } = read;
-        round.discard();
-        return Err(Fail::from("there is memory"));
-    }
+    let mut back = room_of(rt, alloc, bench);
     let mut works = Alone { gate: &NoGate };
-    Ok(bench.put_read(&mut works, read, file, sink, number, back, &mut None))
+    let step = bench.put_read(&mut works, read, file, sink, number, &mut back, &mut None);
+    (step, back)
 }
 
 // Both records in rounds of one, over blocks for one: what came of the rounds, and what was written; the blocks that
 // are home where rounds are read once the first was put on a shelf, that lie on the shelf, that are home once the
 // second was read, and at last.
-fn in_turn(alloc: Global) -> Result<([Step; 3], Vec<u8>, [u32; 4]), Fail> {
-    let mut feed = Feed {
-        inner: MemSource::new(TWO_RECORDS.to_vec(alloc)?, 24, Vec::new(alloc)),
-    };
-    let mut reader = match CaptureReader::start(&mut feed, Link::Ethernet) {
-        Ok(reader) => reader,
-        Err(_) => return Err(Fail::from("the file header is lawful")),
-    };
+fn in_turn(rt: &impl Abort, alloc: Global) -> ([Step; 3], Vec<u8>, [u32; 4]) {
+    let mut feed = feed_of(rt, alloc, &TWO_RECORDS, 24, &[]);
+    let mut reader = reader_of(rt, &mut feed, Link::Ethernet);
     let file = reader.file();
     let mut sink = MemSink::new(alloc, 64, Vec::new(alloc));
     let Rounds {
         mut intake,
         mut bench,
-    } = Rounds::make(alloc, 3, 1, plain(1, 0, 64), false)?;
-    let (mut one, mut two, mut three) = (
-        empty_shelf(alloc, 3)?,
-        empty_shelf(alloc, 3)?,
-        empty_shelf(alloc, 3)?,
-    );
-    let round = full(intake.read_round(&mut reader, &mut AllHome))?;
-    let end = RoundEnd::Full;
-    let first = put(
-        &mut bench,
-        RoundRead { round, end },
-        &file,
-        &mut sink,
-        0,
-        &mut one,
-    )?;
+    } = rounds_of_one(rt, alloc, 3);
+    let round = full(rt, intake.read_round(&mut reader, &mut AllHome));
+    let (first, one) = put(rt, alloc, &mut bench, round, &file, &mut sink, 0);
     let (given, put_home) = (intake.home(), one.home());
     let (read, one) = read_shelved(&mut intake, &mut reader, one);
-    let round = full(read)?;
+    let round = full(rt, read);
     let read = intake.home();
     intake.bring_in(one);
-    let second = put(
-        &mut bench,
-        RoundRead { round, end },
-        &file,
-        &mut sink,
-        1,
-        &mut two,
-    )?;
+    let (second, two) = put(rt, alloc, &mut bench, round, &file, &mut sink, 1);
     let (last, two) = read_shelved(&mut intake, &mut reader, two);
-    let third = put(&mut bench, last, &file, &mut sink, 2, &mut three)?;
-    let written = sink.bytes().to_vec(alloc)?;
-    Ok((
+    let (third, three) = put(rt, alloc, &mut bench, last, &file, &mut sink, 2);
+    let shelved = two.home().saturating_add(three.home());
+    (
         [first, second, third],
-        written,
-        [
-            given,
-            put_home,
-            read,
-            intake
-                .home()
-                .saturating_add(two.home())
-                .saturating_add(three.home()),
-        ],
-    ))
+        written(rt, alloc, &sink),
+        [given, put_home, read, intake.home().saturating_add(shelved)],
+    )
 }
 
 #[test]
-fn blocks_come_home_while_rounds_are_read(rt: HostRuntime) -> Result<(), Fail> {
-    let (steps, written, homes) = in_turn(rt.alloc())?;
-    assert_eq!(rt; steps, [Step::Goes, Step::Goes, Step::Ends(MergeEnd::Done)]);
-    assert_eq!(rt; written.as_slice(), WRITTEN.as_slice());
-    assert_eq!(rt; homes, [0, 3, 0, 3]);
-    Ok(())
+fn blocks_come_home_while_rounds_are_read(rt: HostRuntime) {
+    let (steps, written, homes) = in_turn(&rt, rt.alloc());
+    let wanted = [Step::Goes, Step::Goes, Step::Ends(MergeEnd::Done)];
+    assert_eq!(rt;
+        (steps, written.as_slice(), homes),
+        (wanted, WRITTEN.as_slice(), [0, 3, 0, 3])
+    );
 }
 
-// A round is given up, and its blocks come home to an empty shelf.
-fn drop_to(bench: &mut Bench, round: Round, back: &mut Pool) -> Result<(), Fail>
-    requires empty { home back.old ≡ 0 }
-    requires made { back.old.made ≡ bench.old.blocks }
-    requires within { round.blocks ≤ bench.old.blocks }
+// The blocks of a round that is given up.
+fn dropped(rt: &impl Abort, alloc: Global, bench: &mut Bench, read: RoundRead) -> u32
+    requires within { read.round.blocks ≤ bench.old.blocks }
 {
-    if bench.make_room().is_err() {
-        round.discard();
-        return Err(Fail::from("there is memory"));
-    }
-    bench.drop_round(round, back);
-    Ok(())
+    let RoundRead { round, end: _ } = read;
+    let mut back = room_of(rt, alloc, bench);
+    bench.drop_round(round, &mut back);
+    back.home()
 }
 
 // A round is read while all blocks are out, of which none comes home: why it has no more records, and the blocks that
 // are home then, and once the round before was dropped.
-fn lacking(alloc: Global) -> Result<(RoundEnd, u32, u32), Fail> {
-    let mut feed = Feed {
-        inner: MemSource::new(TWO_RECORDS.to_vec(alloc)?, 24, Vec::new(alloc)),
-    };
-    let mut reader = match CaptureReader::start(&mut feed, Link::Ethernet) {
-        Ok(reader) => reader,
-        Err(_) => return Err(Fail::from("the file header is lawful")),
-    };
+fn lacking(rt: &impl Abort, alloc: Global) -> (RoundEnd, u32, u32) {
+    let mut feed = feed_of(rt, alloc, &TWO_RECORDS, 24, &[]);
+    let mut reader = reader_of(rt, &mut feed, Link::Ethernet);
     let Rounds {
         mut intake,
         mut bench,
-    } = Rounds::make(alloc, 3, 1, plain(1, 0, 64), false)?;
-    let mut back = empty_shelf(alloc, 3)?;
-    let first = full(intake.read_round(&mut reader, &mut AllHome))?;
+    } = rounds_of_one(rt, alloc, 3);
+    let first = full(rt, intake.read_round(&mut reader, &mut AllHome));
     let RoundRead { round, end } = intake.read_round(&mut reader, &mut NoneComes);
     round.discard();
     let home = intake.home();
-    drop_to(&mut bench, first, &mut back)?;
-    Ok((end, home, back.home()))
+    (end, home, dropped(rt, alloc, &mut bench, first))
 }
 
 #[test]
-fn a_round_without_blocks_is_no_capture_that_ended(rt: HostRuntime) -> Result<(), Fail> {
-    assert_eq!(rt; lacking(rt.alloc())?, (RoundEnd::NoMemory, 0, 3));
-    Ok(())
+fn a_round_without_blocks_is_no_capture_that_ended(rt: HostRuntime) {
+    assert_eq!(rt; lacking(&rt, rt.alloc()), (RoundEnd::NoMemory, 0, 3));
 }

@@ -12,9 +12,8 @@ use pcap_io::{FileHead, OffHead2, Order};
 use raw_block::Sole;
 use records::{Time, write_items, write_record, write_window};
 use skb::Skb;
-use std::alloc::{AllocError, Global};
+use std::alloc::Global;
 use std::process::Abort;
-use std::test::Fail;
 
 pub(crate) const FILE: FileHead = FileHead {
     order: Order::Little,
@@ -24,22 +23,44 @@ pub(crate) const FILE: FileHead = FileHead {
 };
 
 // An item, its frame alone, and a window of it.
-const WRITTEN: [u8; 93] = [
+static WRITTEN: [u8; 93] = [
     1, 0, 0, 0, 2, 0, 0, 0, 21, 0, 0, 0, 21, 0, 0, 0, 2, 1, 1, 4, 0, 0, 0, 2, 0, 0, 0, 3, 0, 0, 0,
     7, b'a', b'b', b'c', b'd', b'e', 1, 0, 0, 0, 2, 0, 0, 0, 5, 0, 0, 0, 9, 0, 0, 0, b'a', b'b',
     b'c', b'd', b'e', 1, 0, 0, 0, 2, 0, 0, 0, 19, 0, 0, 0, 19, 0, 0, 0, 2, 2, 0, 5, 0, 0, 0, 0, 0,
     0, 0, 0, 0, 0, 0, 7, b'a', b'b', b'c',
 ];
 
-// "abc" in the head, and "de" in a piece behind it.
-pub(crate) fn frame(alloc: Global) -> Result<Skb, AllocError> {
-    let mut head = Sole::new(alloc)?;
+/// "abc" in the head, and "de" in a piece behind it.
+pub(crate) fn frame(rt: &impl Abort, alloc: Global) -> Skb {
+    let mut head = Sole::new(alloc).expect(rt, "no memory");
     head.range_mut(64, 67).copy_from_slice(b"abc");
-    let mut block = Sole::new(alloc)?;
+    let mut block = Sole::new(alloc).expect(rt, "no memory");
     block.range_mut(5, 7).copy_from_slice(b"de");
-    let mut builder = PieceBuilder::with_room(alloc, 1)?;
+    let mut builder = PieceBuilder::with_room(alloc, 1).expect(rt, "no memory");
     builder.push(block.share(), 5, 7);
-    Ok(Skb::new(head, 64, 67, builder.finish()))
+    Skb::new(head, 64, 67, builder.finish())
+}
+
+/// One item, of that frame.
+pub(crate) fn one_item(rt: &impl Abort, alloc: Global) -> Vec<Item>
+    ensures fits { All FitsItem result.items }
+{
+    let outcomes = Outcomes::with_room(alloc, 2).expect(rt, "places");
+    let mut items = Vec::with_capacity(alloc, 1).expect(rt, "no memory");
+    let skb = frame(rt, alloc);
+    assert!(rt; skb.len() == 5 && skb.count() == 2 && items.len() < items.capacity());
+    items.push_reserved(Item {
+        skb,
+        number: 7,
+        sec: 1,
+        frac: 2,
+        original: 5,
+        n: 2,
+        m: 3,
+        modes: 1,
+        outcomes,
+    });
+    items
 }
 
 fn write(sink: &mut MemSink, items: &[Item]) -> Result<(), WriteFault>
@@ -62,36 +83,26 @@ fn write(sink: &mut MemSink, items: &[Item]) -> Result<(), WriteFault>
     write_window(sink, &FILE, time, 3, Some(head), b"abc")
 }
 
+// Whether writing fails where this call of the sink does, and a prefix is written.
+fn fails_at(rt: &impl Abort, alloc: Global, items: &[Item], call: u64) -> bool
+    requires fit { All FitsItem items.now }
+{
+    let fails = [call].to_vec(alloc).expect(rt, "no memory");
+    let mut sink = MemSink::new(alloc, 16, fails);
+    write(&mut sink, items) == Err(WriteFault) && WRITTEN.starts_with(sink.bytes())
+}
+
 #[test]
-fn records_are_headers_and_slices(rt: HostRuntime) -> Result<(), Fail> {
+fn records_are_headers_and_slices(rt: HostRuntime) {
     let alloc = rt.alloc();
-    let mut outcomes = Outcomes::new(alloc);
-    assert!(rt; outcomes.reserve(2).is_ok());
-    let mut items = Vec::with_capacity(alloc, 1).expect(&rt, "no memory");
-    let skb = frame(alloc).expect(&rt, "no memory");
-    assert!(rt; skb.len() == 5 && skb.count() == 2 && items.len() < items.capacity());
-    items.push_reserved(Item {
-        skb,
-        number: 7,
-        sec: 1,
-        frac: 2,
-        original: 5,
-        n: 2,
-        m: 3,
-        modes: 1,
-        outcomes,
-    });
+    let items = one_item(&rt, alloc);
     let mut sink = MemSink::new(alloc, 16, Vec::new(alloc));
-    assert_eq!(rt; write(&mut sink, &items), Ok(()));
-    assert_eq!(rt; sink.bytes(), WRITTEN.as_slice());
+    let answer = write(&mut sink, &items);
+    assert_eq!(rt; (answer, sink.bytes()), (Ok(()), WRITTEN.as_slice()));
     for call in 0..9 {
-        let fails = [call].to_vec(alloc).expect(&rt, "no memory");
-        let mut sink = MemSink::new(alloc, 16, fails);
-        assert_eq!(rt; write(&mut sink, &items), Err(WriteFault));
-        assert!(rt; WRITTEN.starts_with(sink.bytes()));
+        assert!(rt; fails_at(&rt, alloc, &items, call));
     }
     all_go_home(&rt, items);
-    Ok(())
 }
 
 pub(crate) fn all_go_home<A: Abort>(rt: &A, mut items: Vec<Item>) {

@@ -11,11 +11,10 @@ use lanes::{
     LANES, LaneCrew, LaneDesk, LaneDone, LaneJob, LanePlan, LaneTask, Works, open_desk, serve_lanes,
 };
 use off_io::{Gate, Meeting, NoGate, Who};
-use std::alloc::{AllocError, Global};
+use std::alloc::Global;
 use std::marker::Brand;
 use std::process::Abort;
 use std::sync::Wait;
-use std::test::Fail;
 use std::thread::{Threads, join_mut};
 
 // The blocks of so many rounds that came home.
@@ -31,8 +30,8 @@ fn rounds_by<R: Abort, W: Works>(
     let mut blocks = 0usize;
     for _ in 0..rounds {
         let lanes = lanes_of(rt, alloc, plan, works);
-        if plan.queues == 2 && plan.taps == 2 && plan.snap == 64 {
-            are_two_and_two(rt, &lanes);
+        if (plan.queues, plan.taps, plan.snap) == (2, 2, 64) {
+            assert!(rt; are_two_and_two(&lanes));
         }
         blocks = blocks.wrapping_add(all_home(rt, lanes));
     }
@@ -90,18 +89,19 @@ fn by_crew_named<N: Naming + Send + Sync, R: Threads + Wait + Abort + Sync, G: G
     bells: &Bells,
     runners: &mut [Runner<LaneTask>],
     rounds: u32,
-) -> Result<usize, AllocError>
+) -> usize
     requires plan { IsPlan plan.now }
     requires own { (asker.desk ≡ errands.now) × (own ≡ errands.now) × (errands.now ≡ N.desk) }
     requires none { asker.log ≡ [] }
     requires runners { All (λ r. r ≡ errands.now) runners.old }
 {
     let job = LaneJob { gate, rt };
-    let replies = ArrayQueue::new(alloc, LANES)?;
-    let mut crew = LaneCrew::new(rt, alloc, errands, &replies, &job, bells, asker, own)?;
-    Ok(beside::<LaneJob<'_, G, R>, N, R, LaneCrew<'_, '_, G, N, R>>(
+    let replies = ArrayQueue::new(alloc, LANES).expect(rt, "no memory");
+    let crew = LaneCrew::new(rt, alloc, errands, &replies, &job, bells, asker, own);
+    let mut crew = crew.expect(rt, "no memory");
+    beside::<LaneJob<'_, G, R>, N, R, LaneCrew<'_, '_, G, N, R>>(
         rt, alloc, plan, errands, &replies, &job, bells, runners, &mut crew, rounds,
-    ))
+    )
 }
 
 // The blocks of so many rounds, by a crew with so many beside who asks.
@@ -112,7 +112,7 @@ fn by_crew<R: Threads + Wait + Abort + Sync, G: Gate + Sync>(
     gate: &G,
     beside_it: u32,
     rounds: u32,
-) -> Result<usize, AllocError>
+) -> usize
     requires plan { IsPlan plan.now }
 {
     let LaneDesk {
@@ -121,7 +121,7 @@ fn by_crew<R: Threads + Wait + Abort + Sync, G: Gate + Sync>(
         own,
         mut runners,
         bells,
-    } = open_desk(alloc, beside_it)?;
+    } = open_desk(alloc, beside_it).expect(rt, "no memory");
     by_crew_named::<Brand, R, G>(
         rt,
         alloc,
@@ -138,56 +138,57 @@ fn by_crew<R: Threads + Wait + Abort + Sync, G: Gate + Sync>(
 
 /// With nobody beside who asks, and with one and five: each round's lanes are those of one thread.
 #[test]
-fn rounds_by_crews(rt: HostRuntime) -> Result<(), Fail> {
+fn rounds_by_crews(rt: HostRuntime) {
     let alloc = rt.alloc();
     let plan = plain(2, 2, 64);
-    assert_eq!(rt; by_crew(&rt, alloc, &plan, &NoGate, 0, 100)?, 800);
-    assert_eq!(rt; by_crew(&rt, alloc, &plan, &NoGate, 1, 1_000)?, 8_000);
-    assert_eq!(rt; by_crew(&rt, alloc, &plan, &NoGate, 5, 1_000)?, 8_000);
-    Ok(())
+    let blocks = [
+        by_crew(&rt, alloc, &plan, &NoGate, 0, 100),
+        by_crew(&rt, alloc, &plan, &NoGate, 1, 1_000),
+        by_crew(&rt, alloc, &plan, &NoGate, 5, 1_000),
+    ];
+    assert_eq!(rt; blocks, [800, 8_000, 8_000]);
 }
 
 /// One lane alone, which is no task; 72 lanes, of which most have nothing to do; and taps that share a filter.
 #[test]
-fn few_lanes_and_many(rt: HostRuntime) -> Result<(), Fail> {
+fn few_lanes_and_many(rt: HostRuntime) {
     let alloc = rt.alloc();
-    assert_eq!(rt; by_crew(&rt, alloc, &plain(1, 0, 64), &NoGate, 1, 10)?, 80);
-    assert_eq!(rt; by_crew(&rt, alloc, &plain(64, 8, 40), &NoGate, 3, 10)?, 80);
-    let shown = chosen(alloc, 4, 4096, "1,6 0 0 40")?;
-    assert_eq!(rt; by_crew(&rt, alloc, &shown, &NoGate, 3, 10)?, 80);
-    Ok(())
+    let shown = chosen(&rt, alloc, 4, 4096, "1,6 0 0 40");
+    let blocks = [
+        by_crew(&rt, alloc, &plain(1, 0, 64), &NoGate, 1, 10),
+        by_crew(&rt, alloc, &plain(64, 8, 40), &NoGate, 3, 10),
+        by_crew(&rt, alloc, &shown, &NoGate, 3, 10),
+    ];
+    assert_eq!(rt; blocks, [80; 3]);
 }
 
-// How many of two tasks of a round have seen the other, with one beside who asks.
+// The blocks of a round of these queues and taps, with one beside who asks, and how many of two of its tasks have seen
+// the other.
 fn seen<R: Threads + Wait + Abort + Sync>(
     rt: &R,
     alloc: Global,
     lanes: (u32, u32),
     one: Who,
     other: Who,
-) -> Result<u32, AllocError>
+) -> (usize, u32)
     requires queues { (1 ≤ lanes.0) × (lanes.0 ≤ 64) }
     requires taps { lanes.1 ≤ 8 }
 {
-    let (queues, taps) = lanes;
+    let plan = plain(lanes.0, lanes.1, 64);
     let meeting = Meeting::of(one, other);
-    assert_eq!(rt;
-        by_crew(rt, alloc, &plain(queues, taps, 64), &meeting, 1, 1)?,
-        8
-    );
-    Ok(meeting.met())
+    let blocks = by_crew(rt, alloc, &plan, &meeting, 1, 1);
+    (blocks, meeting.met())
 }
 
 /// Tasks that wait for one another meet, whichever the lanes are: one of them is done by who asks.
 #[test]
-fn tasks_meet(rt: HostRuntime) -> Result<(), Fail> {
+fn tasks_meet(rt: HostRuntime) {
     let alloc = rt.alloc();
-    assert_eq!(rt; seen(&rt, alloc, (1, 1), Who::Worker(0), Who::Tap(0))?, 2);
-    assert_eq!(rt; seen(&rt, alloc, (1, 2), Who::Tap(0), Who::Tap(1))?, 2);
-    assert_eq!(rt;
-        seen(&rt, alloc, (2, 0), Who::Worker(0), Who::Worker(1))?,
-        2
-    );
-    assert_eq!(rt; seen(&rt, alloc, (2, 2), Who::Worker(1), Who::Tap(0))?, 2);
-    Ok(())
+    let met = [
+        seen(&rt, alloc, (1, 1), Who::Worker(0), Who::Tap(0)),
+        seen(&rt, alloc, (1, 2), Who::Tap(0), Who::Tap(1)),
+        seen(&rt, alloc, (2, 0), Who::Worker(0), Who::Worker(1)),
+        seen(&rt, alloc, (2, 2), Who::Worker(1), Who::Tap(0)),
+    ];
+    assert_eq!(rt; met, [(8, 2); 4]);
 }

@@ -83,6 +83,13 @@ fn home(mut outcomes: Outcomes) -> usize {
     blocks
 }
 
+fn home_of_buffer(rt: &impl Abort, skb: Skb) -> usize {
+    let mut outcomes = Outcomes::new(skb.allocator());
+    outcomes.reserve(skb.count()).expect(rt, "places");
+    skb.release(&mut outcomes);
+    home(outcomes)
+}
+
 fn home_of_packet(rt: &impl Abort, packet: Slot) -> usize {
     let Slot {
         skb,
@@ -91,10 +98,7 @@ fn home_of_packet(rt: &impl Abort, packet: Slot) -> usize {
         original: _,
         number: _,
     } = packet;
-    let mut outcomes = Outcomes::new(skb.allocator());
-    outcomes.reserve(skb.count()).expect(rt, "places");
-    skb.release(&mut outcomes);
-    home(outcomes)
+    home_of_buffer(rt, skb)
 }
 
 fn home_of_packets(rt: &impl Abort, packets: Packets) -> usize {
@@ -152,24 +156,32 @@ pub(crate) fn rest_home(rt: &impl Abort, packets: Packets, lanes: Lanes) -> usiz
     home_of_packets(rt, packets).wrapping_add(all_home(rt, lanes))
 }
 
+// Whether a clone is that of the packet with this number.
+fn is_clone_of(clone: &TapClone, number: usize) -> bool {
+    match IN_TURN.get(number) {
+        Some(frame) => clone.number as usize == number && clone.skb.head() == frame.as_slice(),
+        None => false,
+    }
+}
+
+fn home_of_clone(rt: &impl Abort, clone: TapClone) -> usize {
+    let TapClone {
+        skb,
+        sec: _,
+        frac: _,
+        original: _,
+        number: _,
+    } = clone;
+    home_of_buffer(rt, skb)
+}
+
 /// The same of clones that were kept, which are those of both flows' packets.
 pub(crate) fn kept_home(rt: &impl Abort, kept: Vec<TapClone>) -> usize {
     let mut kept = kept;
     let mut blocks = 0usize;
     while let Some(clone) = kept.pop() {
-        let TapClone {
-            skb,
-            sec: _,
-            frac: _,
-            original: _,
-            number,
-        } = clone;
-        assert!(rt; number < 8 && kept.len() == number as usize);
-        assert_eq!(rt; skb.head(), IN_TURN[number as usize].as_slice());
-        let mut outcomes = Outcomes::new(skb.allocator());
-        outcomes.reserve(skb.count()).expect(rt, "places");
-        skb.release(&mut outcomes);
-        blocks = blocks.wrapping_add(home(outcomes));
+        assert!(rt; is_clone_of(&clone, kept.len()));
+        blocks = blocks.wrapping_add(home_of_clone(rt, clone));
     }
     kept.destroy_empty();
     blocks

@@ -3,7 +3,7 @@ ghost use Rattle.std.specs.Prelude.{◌≡◌, ◌+◌, ◌<◌, ◌≤◌, ◌^
 ghost use Rattle.std.specs.List.{AllByRecursion};
 ghost use Rattle.pcap_io.specs.Capture.{Packet as Captured};
 ghost use Rattle.pcap_io.specs.Limits.{off_head2_size};
-ghost use Rattle.gro.specs.Engine.{DoRise};
+ghost use Rattle.gro.specs.Engine.{AreRuns, DoRise};
 ghost use Rattle.gro.specs.Slots.{packet_of, IsHeld, AreHeld};
 
 use crate::writing::FILE;
@@ -17,7 +17,7 @@ use std::alloc::Global;
 use std::process::Abort;
 
 // Ethernet, IPv4, TCP: the headers of 300 bytes 0xff, which leave a sum as it is.
-const FIRST: [u8; 54] = [
+static FIRST: [u8; 54] = [
     0x02, 0x00, 0x00, 0x00, 0x00, 0x02, 0x02, 0x00, 0x00, 0x00, 0x00, 0x01, 0x08, 0x00, 0x45, 0x00,
     0x01, 0x54, 0x00, 0x64, 0x40, 0x00, 0x40, 0x06, 0x25, 0x3e, 0x0a, 0x00, 0x00, 0x01, 0x0a, 0x00,
     0x00, 0x02, 0x9c, 0x40, 0x13, 0x89, 0x00, 0x00, 0x03, 0xe8, 0x00, 0x00, 0x00, 0x01, 0x50, 0x10,
@@ -25,7 +25,7 @@ const FIRST: [u8; 54] = [
 ];
 
 // The headers of the next 200 bytes, all 0, with PSH.
-const NEXT: [u8; 54] = [
+static NEXT: [u8; 54] = [
     0x02, 0x00, 0x00, 0x00, 0x00, 0x02, 0x02, 0x00, 0x00, 0x00, 0x00, 0x01, 0x08, 0x00, 0x45, 0x00,
     0x00, 0xf0, 0x00, 0x65, 0x40, 0x00, 0x40, 0x06, 0x25, 0xa1, 0x0a, 0x00, 0x00, 0x01, 0x0a, 0x00,
     0x00, 0x02, 0x9c, 0x40, 0x13, 0x89, 0x00, 0x00, 0x05, 0x14, 0x00, 0x00, 0x00, 0x01, 0x50, 0x18,
@@ -34,7 +34,7 @@ const NEXT: [u8; 54] = [
 
 // What stands before both payloads in the record of the run, of queue 4: its header, with a length of 570, its offload
 // header, of two packets and 300 bytes, and the merged frame's headers.
-const MERGED: [u8; 86] = [
+static MERGED: [u8; 86] = [
     0x01, 0x00, 0x00, 0x00, 0x02, 0x00, 0x00, 0x00, 0x3a, 0x02, 0x00, 0x00, 0x3a, 0x02, 0x00, 0x00,
     0x02, 0x01, 0x00, 0x04, 0x00, 0x00, 0x00, 0x02, 0x00, 0x00, 0x01, 0x2c, 0x00, 0x00, 0x00, 0x00,
     0x02, 0x00, 0x00, 0x00, 0x00, 0x02, 0x02, 0x00, 0x00, 0x00, 0x00, 0x01, 0x08, 0x00, 0x45, 0x00,
@@ -44,7 +44,7 @@ const MERGED: [u8; 86] = [
 ];
 
 // The record of a packet of five bytes between the two, which is alone.
-const ALONE: [u8; 37] = [
+static ALONE: [u8; 37] = [
     1, 0, 0, 0, 2, 0, 0, 0, 21, 0, 0, 0, 21, 0, 0, 0, 2, 0, 0, 4, 0, 0, 0, 1, 0, 0, 0, 0, 0, 0, 0,
     1, b'a', b'b', b'c', b'd', b'e',
 ];
@@ -115,6 +115,22 @@ fn wanted(rt: &impl Abort, alloc: Global) -> Vec<u8> {
     bytes
 }
 
+// Whether writing all runs to a sink is answered so, and this is written.
+fn is_written(
+    slots: &[Slot],
+    engine: &Engine,
+    sink: MemSink,
+    wanted: (Result<(), WriteFault>, &[u8]),
+) -> bool
+    requires slots { AreHeld slots.now }
+    requires runs { AreRuns (map packet_of slots.now) (length slots.now) engine.now }
+    requires fit { AllByRecursion (λ (p : Captured). p.original + off_head2_size < 2 ^ 32) (map packet_of slots.now) }
+{
+    let mut sink = sink;
+    let answer = write_runs(&mut sink, &FILE, 4, slots, engine);
+    (answer, sink.bytes()) == wanted
+}
+
 /// The records of all runs, and a prefix of them where a byte isn't taken.
 #[test]
 fn runs_are_written_where_they_lie(rt: HostRuntime) {
@@ -123,18 +139,13 @@ fn runs_are_written_where_they_lie(rt: HostRuntime) {
     let slots = packets.slots();
     let mut engine = Engine::make(alloc, 3).expect(&rt, "engine");
     engine.merge(slots, 4096);
-    let wanted = wanted(&rt, alloc);
-    let mut sink = MemSink::new(alloc, 64, Vec::new(alloc));
-    assert_eq!(rt; write_runs(&mut sink, &FILE, 4, slots, &engine), Ok(()));
-    assert!(rt; sink.bytes() == wanted.as_slice());
-    for call in 0..wanted.len() {
+    let bytes = wanted(&rt, alloc);
+    let sink = MemSink::new(alloc, 64, Vec::new(alloc));
+    assert!(rt; is_written(slots, &engine, sink, (Ok(()), &bytes)));
+    for call in 0..bytes.len() {
         let fails = [call as u64].to_vec(alloc).expect(&rt, "no memory");
-        let mut sink = MemSink::new(alloc, 1, fails);
-        assert_eq!(rt;
-            write_runs(&mut sink, &FILE, 4, slots, &engine),
-            Err(WriteFault)
-        );
-        assert!(rt; sink.bytes().len() == call && wanted.starts_with(sink.bytes()));
+        let sink = MemSink::new(alloc, 1, fails);
+        assert!(rt; is_written(slots, &engine, sink, (Err(WriteFault), &bytes[..call])));
     }
     packets.free();
 }
@@ -159,22 +170,26 @@ fn with_spares(rt: &impl Abort, alloc: Global, slot: Slot) -> Packet {
     }
 }
 
+// A table receives a packet of at most two blocks.
+fn receive(rt: &impl Abort, alloc: Global, table: &mut RoundTable, slot: Slot) {
+    let packet = with_spares(rt, alloc, slot);
+    let len = packet.skb.len();
+    assert!(rt; len <= 1000 && len.min(200) <= packet.skb.head().len());
+    assert!(rt; table.may_receive(packet.number) && packet.skb.count() <= 2);
+    let mut outcomes = Outcomes::with_room(alloc, 4).expect(rt, "places");
+    if let Err((packet, _)) = table.receive(packet) {
+        packet.release(&mut outcomes);
+    }
+    settle(outcomes);
+}
+
 // The items that a table makes of the same packets.
 fn items_of(rt: &impl Abort, alloc: Global, packets: Packets) -> Vec<Item> {
     let mut packets = packets;
     packets.reverse();
     let mut table = RoundTable::make(alloc, 3, 4096).expect(rt, "table");
     while let Some(slot) = packets.pop() {
-        let packet = with_spares(rt, alloc, slot);
-        let len = packet.skb.len();
-        assert!(rt; len <= 1000 && len.min(200) <= packet.skb.head().len());
-        assert!(rt; table.may_receive(packet.number));
-        let mut outcomes = Outcomes::with_room(alloc, 4).expect(rt, "places");
-        assert!(rt; packet.skb.count() <= 2);
-        if let Err((packet, _)) = table.receive(packet) {
-            packet.release(&mut outcomes);
-        }
-        settle(outcomes);
+        receive(rt, alloc, &mut table, slot);
     }
     packets.discard();
     match table.finish() {
@@ -195,22 +210,32 @@ fn settle(outcomes: Outcomes) {
     outcomes.settle();
 }
 
-/// The same bytes are written of the items that a table makes of the same packets.
-#[test]
-fn runs_are_written_as_their_items(rt: HostRuntime) {
-    let alloc = rt.alloc();
-    let mut items = items_of(&rt, alloc, three(&rt, alloc));
-    assert!(rt; items.len() == 2);
-    let mut sink = MemSink::new(alloc, 64, Vec::new(alloc));
-    for item in &items {
-        assert!(rt; item.original < 1000 && item.skb.len() < 1000);
-        assert_eq!(rt; write_item(&mut sink, &FILE, 4, item), Ok(()));
-    }
-    assert!(rt; sink.bytes() == wanted(&rt, alloc).as_slice());
+// Frees the buffers of all items.
+fn free_all(items: Vec<Item>) {
+    let mut items = items;
     'items: while let Some(item) = items.pop() {
         let (skb, outcomes) = item.into_parts();
         skb.free();
         settle(outcomes);
     }
     items.destroy_empty();
+}
+
+fn put(rt: &impl Abort, sink: &mut MemSink, item: &Item) {
+    assert!(rt; item.original < 1000 && item.skb.len() < 1000);
+    assert!(rt; write_item(sink, &FILE, 4, item) == Ok(()));
+}
+
+/// The same bytes are written of the items that a table makes of the same packets.
+#[test]
+fn runs_are_written_as_their_items(rt: HostRuntime) {
+    let alloc = rt.alloc();
+    let items = items_of(&rt, alloc, three(&rt, alloc));
+    assert!(rt; items.len() == 2);
+    let mut sink = MemSink::new(alloc, 64, Vec::new(alloc));
+    for item in &items {
+        put(&rt, &mut sink, item);
+    }
+    assert!(rt; sink.bytes() == wanted(&rt, alloc).as_slice());
+    free_all(items);
 }
