@@ -110,12 +110,10 @@ fn a_worked_round_comes_home(rt: HostRuntime) {
     let alloc = rt.alloc();
     let (both, both_out, both_home) = worked_turn(&rt, alloc, 7);
     let (one, one_out, one_home) = worked_turn(&rt, alloc, 5);
+    let homes = [(both_out, both_home), (one_out, one_home)];
     assert_eq!(rt;
-        [
-            (both.as_slice(), both_out, both_home),
-            (one.as_slice(), one_out, one_home)
-        ],
-        [(WRITTEN.as_slice(), 1, 7), (&WRITTEN[..33], 2, 5)]
+        (homes, both.as_slice(), one.as_slice()),
+        ([(1, 7), (2, 5)], WRITTEN.as_slice(), &WRITTEN[..33])
     );
 }
 

@@ -8,4 +8,4 @@ lent_again None new a = subst IsLent (sym a) tt
 lent_again (Some g) new a = subst IsLent (sym a.1) a.2.none
 
 pub returns-clause-lent : goal.returns-clause-lent
-returns-clause-lent g c = lent_again c.args.giver.now c.put_read.new.giver c.put_read.ensures.gave
+returns-clause-lent g c = lent_again c.args.giver.now c.put_read-step.new.giver c.put_read-step.ensures.gave

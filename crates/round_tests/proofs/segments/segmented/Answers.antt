@@ -3,6 +3,6 @@ use Rattle.rounds.specs.declared.segment.Moved.TheVariants.{One}
 use Rattle.round_tests.proofs.segments.segmented.Goals as goal
 
 pub next-second-requires-clause-ready : goal.next-second-requires-clause-ready
-next-second-requires-clause-ready c =
+next-second-requires-clause-ready g c =
     let e : c.next-first.result ≡ Ok One = search rules in
     (c.next-first.ensures.next e).ready
