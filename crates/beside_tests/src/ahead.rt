@@ -1,32 +1,23 @@
 //! Rounds that are driven one by one, each next one read beside the work.
-ghost use Rattle.std.specs.Prelude.{◌≡◌, ◌+◌, ◌≤◌, IfOk};
+ghost use Rattle.std.specs.Prelude.{◌≡◌, ◌+◌};
 ghost use Rattle.pcap_io.specs.declared.heads.Link.TheVariants.{Ethernet};
 ghost use Rattle.pcap_io.specs.Places.{IsReady};
 ghost use Rattle.pcap_io.specs.Readers.{place_of};
 
-use crate::plans::plain;
+use crate::memory::{How, joined, large_record, rounds_of, source_of};
 use lanes::{Alone, Beside, Works};
 use off_io::{Failed, Feed, Gate, Meeting, MemSink, MemSource, NoGate, Source, Who};
 use pcap_io::{CaptureReader, FileHead, Link};
 use rounds::{MergeEnd, ReadAhead, RoundEnd, RoundRead, Rounds, Step};
 use std::alloc::Global;
+use std::process::Abort;
 use std::sync::Wait;
-use std::test::Fail;
 use std::thread::Threads;
 use worked_captures::{BY_QUEUE, TWO_FLOWS, TWO_RECORDS, WITH_WINDOWS, WRITTEN};
 
-// How a capture is merged.
-#[derive(Clone, Copy, Debug)]
-struct How {
-    blocks: u32,
-    budget: u32,
-    queues: u32,
-    taps: u32,
-}
-
 // A full round is worked and written while the next one is read, and where that pauses it is read to its end. Any other
 // is handed on. How many reads paused, and the blocks that these had taken by then.
-fn turn<R: Threads + Wait + Sync, W: Works, S: Source + Send>(
+fn turn<R: Threads + Wait + Abort + Sync, W: Works, S: Source + Send>(
     rt: &R,
     works: &mut W,
     rounds: &mut Rounds,
@@ -35,44 +26,38 @@ fn turn<R: Threads + Wait + Sync, W: Works, S: Source + Send>(
     file: &FileHead,
     sink: &mut MemSink,
     pauses: &mut (u32, u64),
-) -> Result<RoundRead, Fail>
+) -> RoundRead
     requires ready { read.end ≡ RoundEnd.Full → IsReady (place_of reader.old)
         × ((place_of reader.old).link ≡ Ethernet) }
     requires out { rounds.old.home + read.round.blocks ≡ rounds.old.blocks }
-    ensures ready { IfOk result (λ next. next.end ≡ RoundEnd.Full
-        → IsReady (place_of reader.new) × ((place_of reader.new).link ≡ Ethernet)) }
-    ensures out { IfOk result (λ next. rounds.new.home + next.round.blocks ≡ rounds.new.blocks) }
+    ensures ready { result.end ≡ RoundEnd.Full → IsReady (place_of reader.new)
+        × ((place_of reader.new).link ≡ Ethernet) }
+    ensures out { rounds.new.home + result.round.blocks ≡ rounds.new.blocks }
 {
     let RoundRead { round, end } = read;
     match end {
         RoundEnd::Full => {}
-        _ => return Ok(RoundRead { round, end }),
+        _ => return RoundRead { round, end },
     }
     let (worked, next) = rounds.work_and_read(rt, works, round, reader);
     let worked = match worked {
         Ok(worked) => worked,
-        Err(_) => {
-            give_up(next);
-            return Err(Fail::from("there is memory"));
-        }
+        Err(_) => panic!(rt; "no memory"),
     };
     let written = rounds.write_round(&worked, file, sink);
     rounds.end_round(worked);
-    if written.is_err() {
-        give_up(next);
-        return Err(Fail::from("all is written"));
-    }
+    assert!(rt; written.is_ok());
     match next {
-        ReadAhead::Read(read) => Ok(read),
+        ReadAhead::Read(read) => read,
         ReadAhead::Paused(paused) => {
             pauses.0 = pauses.0.wrapping_add(1);
             pauses.1 = pauses.1.wrapping_add(paused.empty.takes());
-            Ok(rounds.read_rest(paused, reader))
+            rounds.read_rest(paused, reader)
         }
     }
 }
 
-fn two_turns<R: Threads + Wait + Sync, W: Works, S: Source + Send>(
+fn two_turns<R: Threads + Wait + Abort + Sync, W: Works, S: Source + Send>(
     rt: &R,
     works: &mut W,
     rounds: &mut Rounds,
@@ -81,52 +66,37 @@ fn two_turns<R: Threads + Wait + Sync, W: Works, S: Source + Send>(
     file: &FileHead,
     sink: &mut MemSink,
     pauses: &mut (u32, u64),
-) -> Result<RoundRead, Fail>
+) -> RoundRead
     requires ready { read.end ≡ RoundEnd.Full → IsReady (place_of reader.old)
         × ((place_of reader.old).link ≡ Ethernet) }
     requires out { rounds.old.home + read.round.blocks ≡ rounds.old.blocks }
-    ensures ready { IfOk result (λ next. next.end ≡ RoundEnd.Full
-        → IsReady (place_of reader.new) × ((place_of reader.new).link ≡ Ethernet)) }
-    ensures out { IfOk result (λ next. rounds.new.home + next.round.blocks ≡ rounds.new.blocks) }
+    ensures ready { result.end ≡ RoundEnd.Full → IsReady (place_of reader.new)
+        × ((place_of reader.new).link ≡ Ethernet) }
+    ensures out { rounds.new.home + result.round.blocks ≡ rounds.new.blocks }
 {
-    let next = turn(rt, works, rounds, read, reader, file, sink, pauses)?;
+    let next = turn(rt, works, rounds, read, reader, file, sink, pauses);
     turn(rt, works, rounds, next, reader, file, sink, pauses)
 }
 
-fn give_up(next: ReadAhead) {
-    match next {
-        ReadAhead::Read(RoundRead { round, end: _ }) => {
-            round.discard();
-        }
-        ReadAhead::Paused(paused) => {
-            paused.discard();
-        }
-    }
-}
+// How merging ended, what was written, how many reads paused and the blocks that these had taken by then, and the
+// blocks that are home.
+type Seen = (Step, Vec<u8>, (u32, u64), u32);
 
-// Up to five rounds of a capture: how merging ended, what was written, how many reads paused and the blocks that these
-// had taken by then, and the blocks that are home. Each pause is a take that found no list.
-fn driven<R: Threads + Wait + Sync, W: Works, S: Source + Send + Drop>(
+// Up to five rounds of a capture. Each pause is a take that found no list.
+fn driven<R: Threads + Wait + Abort + Sync, W: Works, S: Source + Send + Drop>(
     rt: &R,
     alloc: Global,
     works: &mut W,
     source: S,
     how: How,
-) -> Result<(Step, Vec<u8>, (u32, u64), u32), Fail>
-    requires blocks { (1 ≤ how.blocks) × (how.blocks ≤ 65536) }
-    requires budget { (1 ≤ how.budget) × (how.budget ≤ 4096) }
-    requires queues { (1 ≤ how.queues) × (how.queues ≤ 64) }
-    requires taps { how.taps ≤ 8 }
-{
+) -> Seen {
     let mut feed = Feed { inner: source };
-    let mut reader = match CaptureReader::start(&mut feed, Link::Ethernet) {
-        Ok(reader) => reader,
-        Err(_) => return Err(Fail::from("the file header is lawful")),
+    let Ok(mut reader) = CaptureReader::start(&mut feed, Link::Ethernet) else {
+        panic!(rt; "the file header is lawful");
     };
     let file = reader.file();
     let mut sink = MemSink::new(alloc, 64, Vec::new(alloc));
-    let plan = plain(how.queues, how.taps, 1);
-    let mut rounds = Rounds::make(alloc, how.blocks, how.budget, plan, false)?;
+    let mut rounds = rounds_of(rt, alloc, how, 1);
     let mut pauses = (0, 0);
     let first = rounds.read_round(&mut reader);
     let third = two_turns(
@@ -138,7 +108,7 @@ fn driven<R: Threads + Wait + Sync, W: Works, S: Source + Send + Drop>(
         &file,
         &mut sink,
         &mut pauses,
-    )?;
+    );
     let last = two_turns(
         rt,
         works,
@@ -148,30 +118,44 @@ fn driven<R: Threads + Wait + Sync, W: Works, S: Source + Send + Drop>(
         &file,
         &mut sink,
         &mut pauses,
-    )?;
+    );
     let step = rounds.put_read(works, last, &file, &mut sink, 4);
-    if rounds.empties() != pauses.0 as u64 {
-        return Err(Fail::from("as many takes found no list"));
-    }
-    let written = sink.bytes().to_vec(alloc)?;
-    Ok((step, written, pauses, rounds.home()))
+    assert!(rt; rounds.empties() == pauses.0 as u64);
+    let written = sink.bytes().to_vec(alloc).expect(rt, "no memory");
+    (step, written, pauses, rounds.home())
 }
 
 // The same of these bytes, from a source that fails at these of its calls.
-fn of_bytes<R: Threads + Wait + Sync>(
+fn of_bytes<R: Threads + Wait + Abort + Sync>(
     rt: &R,
     alloc: Global,
     bytes: &[u8],
-    fails: Vec<u64>,
+    fails: &[u64],
     how: How,
-) -> Result<(Step, Vec<u8>, (u32, u64), u32), Fail>
-    requires blocks { (1 ≤ how.blocks) × (how.blocks ≤ 65536) }
-    requires budget { (1 ≤ how.budget) × (how.budget ≤ 4096) }
-    requires queues { (1 ≤ how.queues) × (how.queues ≤ 64) }
-    requires taps { how.taps ≤ 8 }
-{
-    let source = MemSource::new(bytes.to_vec(alloc)?, 4096, fails);
+) -> Seen {
+    let source = source_of(rt, alloc, bytes, fails);
     driven(rt, alloc, &mut Alone { gate: &NoGate }, source, how)
+}
+
+// How merging is to end, and how many reads pause, and the blocks that these have taken by then.
+type Want = (Step, (u32, u64));
+
+// Whether it ended so, this was written, and all blocks are home.
+fn is_as_wanted(seen: &Seen, want: Want, output: &[u8], how: How) -> bool {
+    let (step, written, pauses, home) = seen;
+    (*step, *pauses) == want && written.as_slice() == output && *home == how.blocks
+}
+
+// Whether merging these bytes ends so, and this is written.
+fn ends_so<R: Threads + Wait + Abort + Sync>(
+    rt: &R,
+    alloc: Global,
+    bytes: &[u8],
+    how: How,
+    want: Want,
+    output: &[u8],
+) -> bool {
+    is_as_wanted(&of_bytes(rt, alloc, bytes, &[], how), want, output, how)
 }
 
 const BY_FLOW: How = How {
@@ -190,141 +174,121 @@ const EACH_ALONE: How = How {
 
 const DONE: Step = Step::Ends(MergeEnd::Done);
 
+const READ_FAULT: Step = Step::Ends(MergeEnd::ReadFault);
+
 // Over as many blocks as two rounds need. Behind the first there is none, which wants no blocks.
 #[test]
-fn a_round_beside_none_is_written_as_ever(rt: HostRuntime) -> Result<(), Fail> {
-    let alloc = rt.alloc();
-    let none = Vec::new(alloc);
-    let (step, written, pauses, home) = of_bytes(&rt, alloc, &TWO_FLOWS, none, BY_FLOW)?;
-    assert_eq!(rt; (step, pauses, home), (DONE, (0, 0), 24));
-    assert_eq!(rt; written.as_slice(), BY_QUEUE.as_slice());
-    Ok(())
+fn a_round_beside_none_is_written_as_ever(rt: HostRuntime) {
+    let want = (DONE, (0, 0));
+    assert!(rt; ends_so(&rt, rt.alloc(), &TWO_FLOWS, BY_FLOW, want, &BY_QUEUE));
 }
 
 // The second read pauses before its first record, and behind the second round there is none.
 #[test]
-fn blocks_of_one_record_suffice(rt: HostRuntime) -> Result<(), Fail> {
-    let alloc = rt.alloc();
-    let none = Vec::new(alloc);
-    let (step, written, pauses, home) = of_bytes(&rt, alloc, &TWO_RECORDS, none, EACH_ALONE)?;
-    assert_eq!(rt; (step, pauses, home), (DONE, (1, 0), 3));
-    assert_eq!(rt; written.as_slice(), WRITTEN.as_slice());
-    Ok(())
+fn blocks_of_one_record_suffice(rt: HostRuntime) {
+    let want = (DONE, (1, 0));
+    assert!(rt; ends_so(&rt, rt.alloc(), &TWO_RECORDS, EACH_ALONE, want, &WRITTEN));
 }
+
+// Rounds of two records, over blocks enough.
+const AMPLE: How = How {
+    blocks: 8384,
+    budget: 2,
+    ..BY_FLOW
+};
 
 // Two rounds of two records, worked by whoever gives nothing back. The read of the second pauses behind the header of
 // its first record, and, where there are three blocks more, of its second one. What is written is the same as where it
 // doesn't pause.
 #[test]
-fn a_header_that_was_kept_is_gone_on_behind(rt: HostRuntime) -> Result<(), Fail> {
+fn a_header_that_was_kept_is_gone_on_behind(rt: HostRuntime) {
     let alloc = rt.alloc();
-    let ample = How {
-        blocks: 8384,
-        budget: 2,
-        ..BY_FLOW
-    };
-    let none = Vec::new(alloc);
-    let (step, wanted, pauses, home) = of_bytes(&rt, alloc, &TWO_FLOWS, none, ample)?;
-    assert_eq!(rt; (step, pauses, home), (DONE, (0, 0), 8384));
-    let first = How { blocks: 6, ..ample };
-    let none = Vec::new(alloc);
-    let (step, written, pauses, home) = of_bytes(&rt, alloc, &TWO_FLOWS, none, first)?;
-    assert_eq!(rt; (step, pauses, home), (DONE, (1, 0), 6));
-    assert_eq!(rt; written.as_slice(), wanted.as_slice());
-    let second = How { blocks: 9, ..ample };
-    let none = Vec::new(alloc);
-    let (step, written, pauses, home) = of_bytes(&rt, alloc, &TWO_FLOWS, none, second)?;
-    assert_eq!(rt; (step, pauses, home), (DONE, (1, 3), 9));
-    assert_eq!(rt; written.as_slice(), wanted.as_slice());
-    Ok(())
+    let seen = of_bytes(&rt, alloc, &TWO_FLOWS, &[], AMPLE);
+    let output = seen.1.as_slice();
+    let first = How { blocks: 6, ..AMPLE };
+    let second = How { blocks: 9, ..AMPLE };
+    let end_so = [
+        is_as_wanted(&seen, (DONE, (0, 0)), output, AMPLE),
+        ends_so(&rt, alloc, &TWO_FLOWS, first, (DONE, (1, 0)), output),
+        ends_so(&rt, alloc, &TWO_FLOWS, second, (DONE, (1, 3)), output),
+    ];
+    assert_eq!(rt; end_so, [true; 3]);
 }
 
 // The windows of two taps.
 #[test]
-fn windows_are_written_as_ever(rt: HostRuntime) -> Result<(), Fail> {
-    let alloc = rt.alloc();
+fn windows_are_written_as_ever(rt: HostRuntime) {
     let how = How {
         blocks: 6,
         budget: 2,
         queues: 1,
         taps: 2,
     };
-    let none = Vec::new(alloc);
-    let (step, written, pauses, home) = of_bytes(&rt, alloc, &TWO_RECORDS, none, how)?;
-    assert_eq!(rt; (step, pauses, home), (DONE, (0, 0), 6));
-    assert_eq!(rt; written.as_slice(), WITH_WINDOWS.as_slice());
-    Ok(())
+    let want = (DONE, (0, 0));
+    assert!(rt; ends_so(&rt, rt.alloc(), &TWO_RECORDS, how, want, &WITH_WINDOWS));
 }
+
+const MANY: How = How {
+    blocks: 200,
+    ..EACH_ALONE
+};
 
 // The source fails in the read beside, and in the rest of a round that paused.
 #[test]
-fn ends_of_a_read_beside(rt: HostRuntime) -> Result<(), Fail> {
+fn ends_of_a_read_beside(rt: HostRuntime) {
     let alloc = rt.alloc();
-    let many = How {
-        blocks: 200,
-        ..EACH_ALONE
-    };
-    let fails = vec![in alloc; 4]?;
-    let (step, written, pauses, home) = of_bytes(&rt, alloc, &TWO_RECORDS, fails, many)?;
-    assert_eq!(rt;
-        (step, pauses, home),
-        (Step::Ends(MergeEnd::ReadFault), (0, 0), 200)
-    );
-    assert_eq!(rt; written.as_slice(), &WRITTEN[..33]);
-    let fails = vec![in alloc; 4]?;
-    let (step, written, pauses, home) = of_bytes(&rt, alloc, &TWO_RECORDS, fails, EACH_ALONE)?;
-    assert_eq!(rt;
-        (step, pauses, home),
-        (Step::Ends(MergeEnd::ReadFault), (1, 0), 3)
-    );
-    assert_eq!(rt; written.as_slice(), &WRITTEN[..33]);
-    Ok(())
+    let seen = of_bytes(&rt, alloc, &TWO_RECORDS, &[4], MANY);
+    let paused = of_bytes(&rt, alloc, &TWO_RECORDS, &[4], EACH_ALONE);
+    let end_so = [
+        is_as_wanted(&seen, (READ_FAULT, (0, 0)), &WRITTEN[..33], MANY),
+        is_as_wanted(&paused, (READ_FAULT, (1, 0)), &WRITTEN[..33], EACH_ALONE),
+    ];
+    assert_eq!(rt; end_so, [true; 2]);
+}
+
+// Whether a capture that is cut off is refused once its first record is written, after so many pauses.
+fn is_refused<R: Threads + Wait + Abort + Sync>(
+    rt: &R,
+    alloc: Global,
+    bytes: &[u8],
+    pauses: u32,
+) -> bool {
+    let seen = of_bytes(rt, alloc, bytes, &[], EACH_ALONE);
+    let step = seen.0;
+    matches!(step, Step::Ends(MergeEnd::Malformed(_)))
+        && is_as_wanted(&seen, (step, (pauses, 0)), &WRITTEN[..33], EACH_ALONE)
 }
 
 // A capture that is cut off within the header of its last record, or within its body, of which a rest is read.
 #[test]
-fn a_rest_that_is_refused(rt: HostRuntime) -> Result<(), Fail> {
+fn a_rest_that_is_refused(rt: HostRuntime) {
     let alloc = rt.alloc();
-    let none = Vec::new(alloc);
-    let (step, written, pauses, home) = of_bytes(&rt, alloc, &TWO_RECORDS[..42], none, EACH_ALONE)?;
-    assert!(rt; matches!(step, Step::Ends(MergeEnd::Malformed(_))));
-    assert_eq!(rt; (pauses, home), ((0, 0), 3));
-    assert_eq!(rt; written.as_slice(), &WRITTEN[..33]);
-    let none = Vec::new(alloc);
-    let (step, written, pauses, home) = of_bytes(&rt, alloc, &TWO_RECORDS[..58], none, EACH_ALONE)?;
-    assert!(rt; matches!(step, Step::Ends(MergeEnd::Malformed(_))));
-    assert_eq!(rt; (pauses, home), ((1, 0), 3));
-    assert_eq!(rt; written.as_slice(), &WRITTEN[..33]);
-    Ok(())
+    let are_refused = [
+        is_refused(&rt, alloc, &TWO_RECORDS[..42], 0),
+        is_refused(&rt, alloc, &TWO_RECORDS[..58], 1),
+    ];
+    assert_eq!(rt; are_refused, [true; 2]);
 }
 
 // Whether a round exceeds the blocks is told by all of them, and not by those that the round beside it has: the last
 // record needs five.
 #[test]
-fn lent_blocks_count(rt: HostRuntime) -> Result<(), Fail> {
+fn lent_blocks_count(rt: HostRuntime) {
     let alloc = rt.alloc();
-    let mut bytes = TWO_RECORDS.to_vec(alloc)?;
-    bytes.extend_from_slice(&TWO_RECORDS[24..32])?;
-    bytes.extend_from_slice(&5000u32.to_le_bytes())?;
-    bytes.extend_from_slice(&5000u32.to_le_bytes())?;
-    bytes.extend_from_slice(&[0; 5000])?;
+    let large = large_record(&rt, alloc, &TWO_RECORDS);
+    let bytes = joined(&rt, alloc, &[&TWO_RECORDS, &large]);
     let enough = How {
         blocks: 5,
         ..EACH_ALONE
     };
-    let none = Vec::new(alloc);
-    let (step, _, pauses, home) = of_bytes(&rt, alloc, &bytes, none, enough)?;
+    let (step, _, pauses, home) = of_bytes(&rt, alloc, &bytes, &[], enough);
     assert_eq!(rt; (step, pauses, home), (DONE, (2, 0), 5));
     let fewer = How {
         blocks: 4,
         ..EACH_ALONE
     };
-    let none = Vec::new(alloc);
-    let (step, written, pauses, home) = of_bytes(&rt, alloc, &bytes, none, fewer)?;
     let exceeds = Step::Ends(MergeEnd::PoolEmpty { round: 4, need: 5 });
-    assert_eq!(rt; (step, pauses, home), (exceeds, (1, 0), 4));
-    assert_eq!(rt; written.as_slice(), WRITTEN.as_slice());
-    Ok(())
+    assert!(rt; ends_so(&rt, alloc, &bytes, fewer, (exceeds, (1, 0)), &WRITTEN));
 }
 
 // The reader's part of the meeting.
@@ -359,44 +323,33 @@ impl Source for Met<'_> {
 // beside the first round; before the second one, and the empty one behind it, the worker finds the reader's sign again.
 // If they took turns, the one that comes first would wait in vain.
 #[test]
-fn reader_and_worker_meet(rt: HostRuntime) -> Result<(), Fail> {
+fn reader_and_worker_meet(rt: HostRuntime) {
     let alloc = rt.alloc();
     let meeting = Meeting::of(Who::Worker(0), READER);
     let source = Met {
-        source: MemSource::new(TWO_RECORDS.to_vec(alloc)?, 4096, Vec::new(alloc)),
+        source: source_of(&rt, alloc, &TWO_RECORDS, &[]),
         reads: 0,
         at: 4,
         meeting: &meeting,
     };
-    let how = How {
-        blocks: 200,
-        ..EACH_ALONE
-    };
-    let (step, written, _, _) = driven(&rt, alloc, &mut Alone { gate: &meeting }, source, how)?;
-    assert_eq!(rt; step, DONE);
-    assert_eq!(rt; written.as_slice(), WRITTEN.as_slice());
+    let (step, written, _, _) = driven(&rt, alloc, &mut Alone { gate: &meeting }, source, MANY);
+    assert!(rt; step == DONE && written.as_slice() == WRITTEN.as_slice());
     assert_eq!(rt; meeting.met(), 4);
-    Ok(())
 }
 
 // There are as many blocks as the first round has. Its second queue's worker waits for the reader to be at the header
 // of the third record, behind which the capture ends; by then the first queue's spares were given. So the reader finds
 // a list, and doesn't pause. Before the second round the worker finds the reader's sign again.
 #[test]
-fn a_record_is_read_into_a_list_that_was_given(rt: HostRuntime) -> Result<(), Fail> {
+fn a_record_is_read_into_a_list_that_was_given(rt: HostRuntime) {
     let alloc = rt.alloc();
     let bytes = &TWO_FLOWS[..282];
-    let ample = How {
-        blocks: 8384,
-        budget: 2,
-        ..BY_FLOW
-    };
-    let none = Vec::new(alloc);
-    let (step, wanted, pauses, home) = of_bytes(&rt, alloc, bytes, none, ample)?;
-    assert_eq!(rt; (step, pauses, home), (DONE, (0, 0), 8384));
+    let seen = of_bytes(&rt, alloc, bytes, &[], AMPLE);
+    let output = seen.1.as_slice();
+    assert!(rt; is_as_wanted(&seen, (DONE, (0, 0)), output, AMPLE));
     let meeting = Meeting::of(Who::Worker(1), READER);
     let source = Met {
-        source: MemSource::new(bytes.to_vec(alloc)?, 4096, Vec::new(alloc)),
+        source: source_of(&rt, alloc, bytes, &[]),
         reads: 0,
         at: 6,
         meeting: &meeting,
@@ -405,10 +358,8 @@ fn a_record_is_read_into_a_list_that_was_given(rt: HostRuntime) -> Result<(), Fa
         gate: &meeting,
         rt: &rt,
     };
-    let how = How { blocks: 6, ..ample };
-    let (step, written, pauses, home) = driven(&rt, alloc, &mut works, source, how)?;
-    assert_eq!(rt; (step, pauses, home), (DONE, (0, 0), 6));
-    assert_eq!(rt; written.as_slice(), wanted.as_slice());
+    let how = How { blocks: 6, ..AMPLE };
+    let beside = driven(&rt, alloc, &mut works, source, how);
+    assert!(rt; is_as_wanted(&beside, (DONE, (0, 0)), output, how));
     assert_eq!(rt; meeting.met(), 3);
-    Ok(())
 }

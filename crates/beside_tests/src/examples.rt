@@ -28,8 +28,7 @@ fn example_of_pipeline(rt: HostRuntime) -> Result<(), Fail> {
         &mut sink,
         &NoGate,
     );
-    assert_eq!(rt; end, MergeEnd::Done);
-    assert_eq!(rt; rounds.home(), 12);
+    assert_eq!(rt; (end, rounds.home()), (MergeEnd::Done, 12));
     Ok(())
 }
 
@@ -47,12 +46,11 @@ fn example_of_checking(rt: HostRuntime) -> Result<(), Fail> {
     let mut totals = Totals::make(alloc, queues, taps)?;
     let end = check_all(&mut works, &mut rounds, &mut reader, &mut totals);
     write_totals(&mut sink, &totals)?;
-    assert_eq!(rt; end, CheckEnd::Done);
     let want = "queue 0: records 2 items 1 merged 1 returned 2\n\
         queue 1: records 2 items 1 merged 1 returned 2\n\
         tap 0: windows 4 bytes 256\n\
         tap 1: windows 4 bytes 24\n\
         total: records 4 items 2 merged 2 returned 4\n";
-    assert_eq!(rt; sink.bytes(), want.as_bytes());
+    assert_eq!(rt; (end, sink.bytes()), (CheckEnd::Done, want.as_bytes()));
     Ok(())
 }

@@ -16,6 +16,8 @@ mod examples;
 #[cfg(test)]
 mod halting;
 #[cfg(test)]
+mod memory;
+#[cfg(test)]
 mod pausing;
 #[cfg(test)]
 mod plans;
