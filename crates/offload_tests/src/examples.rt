@@ -3,13 +3,13 @@
 use crate::lines::{CAPTURE, words};
 use off_io::{MemSink, MemSource, NoGate};
 use offload_run::run;
-use std::test::Fail;
 
 #[test]
-fn example_of_offload_run(rt: HostRuntime) -> Result<(), Fail> {
+fn example_of_offload_run(rt: HostRuntime) {
     let alloc = rt.alloc();
-    let words = words(alloc, "offload check")?;
-    let mut source = MemSource::new(CAPTURE.to_vec(alloc)?, 4096, Vec::new(alloc));
+    let words = words(&rt, alloc, "offload check");
+    let bytes = CAPTURE.to_vec(alloc).expect(&rt, "no memory");
+    let mut source = MemSource::new(bytes, 4096, Vec::new(alloc));
     let mut sink = MemSink::new(alloc, 4096, Vec::new(alloc));
     let mut log = MemSink::new(alloc, 4096, Vec::new(alloc));
     let mut engine = None;
@@ -24,9 +24,7 @@ fn example_of_offload_run(rt: HostRuntime) -> Result<(), Fail> {
         &mut engine,
     );
     let code = status.code(); // 0 where all went well
-    assert_eq!(rt; code, 0);
     let want = "queue 0: records 2 items 1 merged 1 returned 2\n\
         total: records 2 items 1 merged 1 returned 2\n";
-    assert_eq!(rt; sink.bytes(), want.as_bytes());
-    Ok(())
+    assert_eq!(rt; (code, sink.bytes()), (0, want.as_bytes()));
 }

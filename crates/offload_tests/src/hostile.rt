@@ -4,16 +4,19 @@
 //! The numbers follow from the formats by hand: a file header of 24 bytes, a record header of 16, an offload header of
 //! 12 in version 1 and of 16 in version 2.
 
-use crate::failing::Whole;
-use crate::lines::{CAPTURE, SINGLES, Want, is_as_wanted, is_cut_off, refused, run_line};
+use crate::failing::{Whole, packets, writes_answered_first};
+use crate::lines::{
+    CAPTURE, Refusal, SHORT_HEADER, SHORT_RECORD, SHORT_RECORD_HEADER, SINGLES, Want, ends_so,
+    is_as_wanted, refusal, refused, run_line,
+};
 use crate::queues::{TWO_QUEUES, in_turn, written_of};
-use crate::row_frames::push32;
+use crate::row_frames::{first, joined, record_header};
 use crate::rows::hash;
 use offload_run::Status;
 use pcap_io::CapKind;
-use std::alloc::{AllocError, Global};
+use std::alloc::Global;
+use std::process::Abort;
 use std::sync::Wait;
-use std::test::Fail;
 use std::thread::Threads;
 use worked_captures::{FILE_HEADER, MERGED_CAPTURE, MERGED_CAPTURE_2};
 
@@ -22,70 +25,108 @@ const MERGE: &str = "offload merge --blocks 12";
 
 const SEGMENT: &str = "offload segment --blocks 12";
 
-// What segmenting gives: both packets with the time of the first.
-fn packets() -> [u8; 170] {
-    let mut bytes = CAPTURE;
-    bytes[102] = 0;
-    bytes
-}
+const FIRST_HEADER_SHORT: Refusal = (
+    CapKind::ShortRecordHeader,
+    24,
+    0,
+    "malformed: ShortRecordHeader at 24 in record 0\n",
+);
+
+const FIRST_SHORT: Refusal = (
+    CapKind::ShortRecord,
+    24,
+    0,
+    "malformed: ShortRecord at 24 in record 0\n",
+);
+
+const BAD_OFFLOAD: Refusal = (
+    CapKind::BadOffload,
+    24,
+    0,
+    "malformed: BadOffload at 24 in record 0\n",
+);
+
+const BAD_ORIGINAL: Refusal = (
+    CapKind::BadOriginal,
+    24,
+    0,
+    "malformed: BadOriginal at 24 in record 0\n",
+);
+
+const TOO_LONG: Refusal = (
+    CapKind::TooLong,
+    24,
+    0,
+    "malformed: TooLong at 24 in record 0\n",
+);
 
 // The want of the first bytes of a capture whose first record ends at `first`, behind which `one` bytes are written.
 fn want_of_cut(len: usize, first: usize, one: usize) -> Want {
     if len < 24 {
-        let line = "malformed: ShortHeader at 0 in record 0\n";
-        return (refused(CapKind::ShortHeader, 0, 0), line, 0);
+        return refusal(&SHORT_HEADER, 0);
     }
     if len == 24 || len == first {
         return (Status::Ok, "", if len == 24 { 24 } else { one });
     }
     if len < 40 {
-        let line = "malformed: ShortRecordHeader at 24 in record 0\n";
-        return (refused(CapKind::ShortRecordHeader, 24, 0), line, 24);
+        return refusal(&FIRST_HEADER_SHORT, 24);
     }
     if len < first {
-        let line = "malformed: ShortRecord at 24 in record 0\n";
-        return (refused(CapKind::ShortRecord, 24, 0), line, 24);
+        return refusal(&FIRST_SHORT, 24);
     }
     if len < 114 {
-        let line = "malformed: ShortRecordHeader at 98 in record 1\n";
-        return (refused(CapKind::ShortRecordHeader, 98, 1), line, one);
+        return refusal(&SHORT_RECORD_HEADER, one);
     }
-    let line = "malformed: ShortRecord at 98 in record 1\n";
-    (refused(CapKind::ShortRecord, 98, 1), line, one)
+    refusal(&SHORT_RECORD, one)
+}
+
+// The first of these lengths at which a capture that is cut off there ends otherwise.
+fn first_other_cut(
+    rt: &(impl Threads + Wait + Abort + Sync),
+    alloc: Global,
+    whole: Whole,
+    lengths: usize,
+    places: (usize, usize),
+) -> Option<usize> {
+    for len in 0..lengths {
+        let want = want_of_cut(len, places.0, places.1);
+        let cut = first(whole.input, len);
+        if !ends_so(rt, alloc, whole.line, cut, &[64], want, whole.output) {
+            return Some(len);
+        }
+    }
+    None
 }
 
 #[test]
-fn captures_cut_at_each_place(rt: HostRuntime) -> Result<(), Fail> {
-    for len in 0..170 {
-        let ended = run_line(&rt, rt.alloc(), MERGE, &CAPTURE[..len], 64, &[], &[])?;
-        let want = want_of_cut(len, 98, 114);
-        assert!(rt; is_as_wanted(&ended, want, &SINGLES), "merge, {len} bytes");
-    }
+fn captures_cut_at_each_place(rt: HostRuntime) {
+    let alloc = rt.alloc();
     let packets = packets();
-    for len in 0..113 {
-        let input = &MERGED_CAPTURE[..len];
-        let ended = run_line(&rt, rt.alloc(), SEGMENT, input, 64, &[], &[])?;
-        let want = want_of_cut(len, 112, 170);
-        assert!(rt;
-            is_as_wanted(&ended, want, &packets),
-            "segment, {len} bytes"
-        );
-    }
-    for len in 0..117 {
-        let input = &MERGED_CAPTURE_2[..len];
-        let ended = run_line(&rt, rt.alloc(), SEGMENT, input, 64, &[], &[])?;
-        let want = want_of_cut(len, 116, 170);
-        assert!(rt;
-            is_as_wanted(&ended, want, &packets),
-            "segment, version 2, {len} bytes"
-        );
-    }
-    Ok(())
+    let plain = Whole {
+        line: MERGE,
+        input: &CAPTURE,
+        output: &SINGLES,
+    };
+    let one = Whole {
+        line: SEGMENT,
+        input: &MERGED_CAPTURE,
+        output: &packets,
+    };
+    let two = Whole {
+        input: &MERGED_CAPTURE_2,
+        ..one
+    };
+    let others = [
+        first_other_cut(&rt, alloc, plain, 170, (98, 114)),
+        first_other_cut(&rt, alloc, one, 113, (112, 170)),
+        first_other_cut(&rt, alloc, two, 117, (116, 170)),
+    ];
+    assert_eq!(rt; others, [None; 3]);
 }
 
 // The first eight bytes of an offload header of version 1 (version, kind, n, m, modes, where) in the place of those of
 // the merged record, which are 1, 1, 2, 4, 0 and 0 and have six bytes of payload behind them.
-const REFUSED: [[u8; 8]; 16] = [
+static REFUSED: [[u8; 8]; 16] = [
     [0, 1, 0, 2, 0, 4, 0, 0],
     [3, 1, 0, 2, 0, 4, 0, 0],
     [1, 3, 0, 2, 0, 4, 0, 0],
@@ -104,19 +145,9 @@ const REFUSED: [[u8; 8]; 16] = [
     [1, 2, 0, 0, 0, 0, 0, 8],
 ];
 
-// Those that are taken, how much is written, and its hash by `contrib/by_definition`.
-const TAKEN: [([u8; 8], usize, u32); 6] = [
-    ([1, 1, 0, 2, 0, 4, 0, 63], 170, 2226559973),
-    ([1, 1, 0, 2, 0, 5, 0, 0], 170, 3048609287),
-    ([1, 1, 0, 2, 0, 3, 0, 0], 170, 292049363),
-    ([1, 1, 0, 2, 0, 4, 1, 0], 170, 2247594149),
-    ([1, 0, 0, 1, 0, 0, 0, 0], 100, 1886162403),
-    ([1, 2, 0, 0, 0, 0, 0, 7], 24, 2459910643),
-];
-
 // The first twelve bytes of one of version 2 (version, kind, modes, where, n, m) in the place of 2, 1, 0, 0, 2 and 4.
 // The product of the ninth's n and m is 8 in 32 bits.
-const REFUSED_2: [[u8; 12]; 17] = [
+static REFUSED_2: [[u8; 12]; 17] = [
     [0, 1, 0, 0, 0, 0, 0, 2, 0, 0, 0, 4],
     [3, 1, 0, 0, 0, 0, 0, 2, 0, 0, 0, 4],
     [2, 3, 0, 0, 0, 0, 0, 2, 0, 0, 0, 4],
@@ -136,258 +167,324 @@ const REFUSED_2: [[u8; 12]; 17] = [
     [2, 2, 0, 8, 0, 0, 0, 0, 0, 0, 0, 0],
 ];
 
-// Those that are taken write what those of version 1 do.
-const TAKEN_2: [[u8; 12]; 6] = [
-    [2, 1, 0, 63, 0, 0, 0, 2, 0, 0, 0, 4],
-    [2, 1, 0, 0, 0, 0, 0, 2, 0, 0, 0, 5],
-    [2, 1, 0, 0, 0, 0, 0, 2, 0, 0, 0, 3],
-    [2, 1, 1, 0, 0, 0, 0, 2, 0, 0, 0, 4],
-    [2, 0, 0, 0, 0, 0, 0, 1, 0, 0, 0, 0],
-    [2, 2, 0, 7, 0, 0, 0, 0, 0, 0, 0, 0],
+// Those that are taken, of both versions, how much is written, and its hash by `contrib/by_definition`.
+static TAKEN: [([u8; 8], [u8; 12], usize, u32); 6] = [
+    (
+        [1, 1, 0, 2, 0, 4, 0, 63],
+        [2, 1, 0, 63, 0, 0, 0, 2, 0, 0, 0, 4],
+        170,
+        2226559973,
+    ),
+    (
+        [1, 1, 0, 2, 0, 5, 0, 0],
+        [2, 1, 0, 0, 0, 0, 0, 2, 0, 0, 0, 5],
+        170,
+        3048609287,
+    ),
+    (
+        [1, 1, 0, 2, 0, 3, 0, 0],
+        [2, 1, 0, 0, 0, 0, 0, 2, 0, 0, 0, 3],
+        170,
+        292049363,
+    ),
+    (
+        [1, 1, 0, 2, 0, 4, 1, 0],
+        [2, 1, 1, 0, 0, 0, 0, 2, 0, 0, 0, 4],
+        170,
+        2247594149,
+    ),
+    (
+        [1, 0, 0, 1, 0, 0, 0, 0],
+        [2, 0, 0, 0, 0, 0, 0, 1, 0, 0, 0, 0],
+        100,
+        1886162403,
+    ),
+    (
+        [1, 2, 0, 0, 0, 0, 0, 7],
+        [2, 2, 0, 7, 0, 0, 0, 0, 0, 0, 0, 0],
+        24,
+        2459910643,
+    ),
 ];
 
-fn with_head(head: [u8; 8]) -> [u8; 112] {
+fn with_head(head: &[u8; 8]) -> [u8; 112] {
     let mut bytes = MERGED_CAPTURE;
-    bytes[40..48].copy_from_slice(&head);
+    bytes[40..48].copy_from_slice(head);
     bytes
 }
 
-fn with_head_2(head: [u8; 12]) -> [u8; 116] {
+fn with_head_2(head: &[u8; 12]) -> [u8; 116] {
     let mut bytes = MERGED_CAPTURE_2;
-    bytes[40..52].copy_from_slice(&head);
+    bytes[40..52].copy_from_slice(head);
     bytes
 }
 
 // Whether segmenting refuses the one record.
 fn is_refused(
-    rt: &(impl Threads + Wait + Sync),
+    rt: &(impl Threads + Wait + Abort + Sync),
     alloc: Global,
     input: &[u8],
-) -> Result<bool, AllocError> {
-    let line = "malformed: BadOffload at 24 in record 0\n";
-    let want = (refused(CapKind::BadOffload, 24, 0), line, 24);
-    let ended = run_line(rt, alloc, SEGMENT, input, 64, &[], &[])?;
-    Ok(is_as_wanted(&ended, want, &CAPTURE))
+    of: &Refusal,
+) -> bool {
+    let want = refusal(of, 24);
+    ends_so(rt, alloc, SEGMENT, input, &[64], want, &CAPTURE)
 }
 
 // Whether segmenting writes so much, with this hash.
 fn is_taken(
-    rt: &(impl Threads + Wait + Sync),
+    rt: &(impl Threads + Wait + Abort + Sync),
     alloc: Global,
     input: &[u8],
     len: usize,
     hashed: u32,
-) -> Result<bool, AllocError> {
-    let ended = run_line(rt, alloc, SEGMENT, input, 64, &[], &[])?;
+) -> bool {
+    let ended = run_line(rt, alloc, SEGMENT, input, 64, &[], &[]);
     let output = ended.sink.bytes();
-    Ok(is_as_wanted(&ended, (Status::Ok, "", len), output) && hash(output) == hashed)
+    is_as_wanted(&ended, (Status::Ok, "", len), output) && hash(output) == hashed
+}
+
+// The first head of version 1 that should be refused, and isn't.
+fn first_taken(rt: &(impl Threads + Wait + Abort + Sync), alloc: Global) -> Option<[u8; 8]> {
+    for head in &REFUSED {
+        if !is_refused(rt, alloc, &with_head(head), &BAD_OFFLOAD) {
+            return Some(*head);
+        }
+    }
+    None
+}
+
+// The same of version 2.
+fn first_taken_2(rt: &(impl Threads + Wait + Abort + Sync), alloc: Global) -> Option<[u8; 12]> {
+    for head in &REFUSED_2 {
+        if !is_refused(rt, alloc, &with_head_2(head), &BAD_OFFLOAD) {
+            return Some(*head);
+        }
+    }
+    None
+}
+
+// The first head that should be taken, of version 1, if it isn't in both versions.
+fn first_refused(rt: &(impl Threads + Wait + Abort + Sync), alloc: Global) -> Option<[u8; 8]> {
+    for (head, head_2, len, hashed) in &TAKEN {
+        let is_one = is_taken(rt, alloc, &with_head(head), *len, *hashed);
+        if !is_one || !is_taken(rt, alloc, &with_head_2(head_2), *len, *hashed) {
+            return Some(*head);
+        }
+    }
+    None
 }
 
 #[test]
-fn offload_headers_edited_by_hand(rt: HostRuntime) -> Result<(), Fail> {
+fn offload_headers_edited_by_hand(rt: HostRuntime) {
     let alloc = rt.alloc();
-    for head in REFUSED {
-        assert!(rt; is_refused(&rt, alloc, &with_head(head))?, "head {head:?}");
-    }
-    for head in REFUSED_2 {
-        assert!(rt;
-            is_refused(&rt, alloc, &with_head_2(head))?,
-            "head {head:?}"
-        );
-    }
-    for ((head, len, hashed), head_2) in TAKEN.into_iter().zip(TAKEN_2) {
-        let is_one = is_taken(&rt, alloc, &with_head(head), len, hashed)?;
-        let is_other = is_taken(&rt, alloc, &with_head_2(head_2), len, hashed)?;
-        assert!(rt; is_one && is_other, "heads {head:?} and {head_2:?}");
-    }
-    Ok(())
+    let first = (first_taken(&rt, alloc), first_taken_2(&rt, alloc));
+    assert_eq!(rt; (first, first_refused(&rt, alloc)), ((None, None), None));
 }
 
-// A capture of one record, of so many bytes: an offload header of a single packet, and a frame of zeros.
-fn single_of(alloc: Global, head: &[u8], captured: u32) -> Result<Vec<u8>, AllocError> {
-    let mut bytes = Vec::from_slice(alloc, &FILE_HEADER)?;
-    if bytes.len() > 20 {
-        bytes[20] = 147;
-    }
-    for n in [0, 0, captured, captured] {
-        push32(&mut bytes, n)?;
-    }
-    bytes.extend_from_slice(head)?;
+// Whether a capture of one record, of so many bytes, ends so: an offload header of a single packet, and a frame of
+// zeros.
+fn single_ends_so(
+    rt: &(impl Threads + Wait + Abort + Sync),
+    alloc: Global,
+    head: &[u8],
+    captured: u32,
+    want: Want,
+) -> bool {
+    let mut file = FILE_HEADER;
+    file[20] = 147;
     let left = (captured as usize).saturating_sub(head.len());
-    bytes.extend_from_slice(vec![in alloc; 0u8; left]?.as_slice())?;
-    Ok(bytes)
+    let frame = vec![in alloc; 0u8; left].expect(rt, "no memory");
+    let header = record_header(0, 0, captured);
+    let input = joined(rt, alloc, &[&file, &header, head, &frame]);
+    let ended = run_line(rt, alloc, "offload segment", &input, 65536, &[], &[]);
+    is_as_wanted(&ended, want, ended.sink.bytes())
 }
 
 // A frame has at most 262,144 bytes, whatever the version of the offload header before it.
 #[test]
-fn the_longest_records(rt: HostRuntime) -> Result<(), Fail> {
+fn the_longest_records(rt: HostRuntime) {
     let alloc = rt.alloc();
-    let one = [1, 0, 0, 1, 0, 0, 0, 0, 0, 0, 0, 0].as_slice();
-    let two = [2, 0, 0, 0, 0, 0, 0, 1, 0, 0, 0, 0, 0, 0, 0, 0].as_slice();
+    let one = [1, 0, 0, 1, 0, 0, 0, 0, 0, 0, 0, 0];
+    let two = [2, 0, 0, 0, 0, 0, 0, 1, 0, 0, 0, 0, 0, 0, 0, 0];
     let good = (Status::Ok, "", 262184);
-    let line = "malformed: BadOffload at 24 in record 0\n";
-    let bad = (refused(CapKind::BadOffload, 24, 0), line, 24);
-    let line = "malformed: TooLong at 24 in record 0\n";
-    let too_long = (refused(CapKind::TooLong, 24, 0), line, 24);
-    let rows = [
-        (one, 262156, good),
-        (one, 262157, bad),
-        (one, 262160, bad),
-        (one, 262161, too_long),
-        (two, 262160, good),
-        (two, 262161, too_long),
+    let bad = refusal(&BAD_OFFLOAD, 24);
+    let too_long = refusal(&TOO_LONG, 24);
+    let are_so = [
+        single_ends_so(&rt, alloc, &one, 262156, good),
+        single_ends_so(&rt, alloc, &one, 262157, bad),
+        single_ends_so(&rt, alloc, &one, 262160, bad),
+        single_ends_so(&rt, alloc, &one, 262161, too_long),
+        single_ends_so(&rt, alloc, &two, 262160, good),
+        single_ends_so(&rt, alloc, &two, 262161, too_long),
     ];
-    for (head, captured, want) in rows {
-        let input = single_of(alloc, head, captured)?;
-        let ended = run_line(&rt, alloc, "offload segment", &input, 65536, &[], &[])?;
-        let output = ended.sink.bytes();
-        assert!(rt; is_as_wanted(&ended, want, output), "{captured} bytes");
-    }
-    Ok(())
+    assert_eq!(rt; are_so, [true; 6]);
 }
 
-// Two bytes of a capture, each by its place, and what is wanted of it then.
-#[test]
-fn lengths_and_sums_edited_by_hand(rt: HostRuntime) -> Result<(), Fail> {
-    let line = "malformed: BadOffload at 24 in record 0\n";
-    let bad = (refused(CapKind::BadOffload, 24, 0), line, 24);
-    let line = "malformed: BadOriginal at 24 in record 0\n";
-    let bad_original = (refused(CapKind::BadOriginal, 24, 0), line, 24);
-    let line = "malformed: TooLong at 24 in record 0\n";
-    let too_long = (refused(CapKind::TooLong, 24, 0), line, 24);
-    let rows = [
-        // The original length; one bit of the IPv4 total length, and of the TCP sum.
-        (36, 71, 37, 0, bad),
-        (69, 0x2f, 68, 0, bad),
-        (103, 0xe5, 102, 0xbc, bad),
-        // A captured length of 11, and then an original one of 12 and of 11.
-        (32, 11, 36, 12, bad),
-        (32, 11, 36, 11, bad_original),
-        // An original length above what there may be for a header of version 1, and for any; a captured one for any.
-        (39, 0x80, 36, 12, bad),
-        (39, 0x80, 36, 16, bad_original),
-        (34, 4, 32, 17, too_long),
-    ];
-    for (a, first, b, second, want) in rows {
-        let mut input = MERGED_CAPTURE;
-        if a < 112 {
-            input[a] = first;
-        }
-        if b < 112 {
-            input[b] = second;
-        }
-        let ended = run_line(&rt, rt.alloc(), SEGMENT, &input, 64, &[], &[])?;
-        assert!(rt; is_as_wanted(&ended, want, &CAPTURE), "{first} at {a}");
+// Two bytes of a merged capture, each by its place, and why it is refused then.
+static EDITS: [(usize, u8, usize, u8, Refusal); 8] = [
+    // The original length; one bit of the IPv4 total length, and of the TCP sum.
+    (36, 71, 37, 0, BAD_OFFLOAD),
+    (69, 0x2f, 68, 0, BAD_OFFLOAD),
+    (103, 0xe5, 102, 0xbc, BAD_OFFLOAD),
+    // A captured length of 11, and then an original one of 12 and of 11.
+    (32, 11, 36, 12, BAD_OFFLOAD),
+    (32, 11, 36, 11, BAD_ORIGINAL),
+    // An original length above what there may be for a header of version 1, and for any; a captured one for any.
+    (39, 0x80, 36, 12, BAD_OFFLOAD),
+    (39, 0x80, 36, 16, BAD_ORIGINAL),
+    (34, 4, 32, 17, TOO_LONG),
+];
+
+// The merged capture with other bytes at two places.
+fn with_bytes(at: usize, byte: u8, next_at: usize, next: u8) -> [u8; 112] {
+    let mut input = MERGED_CAPTURE;
+    if at < 112 {
+        input[at] = byte;
     }
+    if next_at < 112 {
+        input[next_at] = next;
+    }
+    input
+}
+
+// The first edit, by its first place and byte, that isn't refused so.
+fn first_other_edit(
+    rt: &(impl Threads + Wait + Abort + Sync),
+    alloc: Global,
+) -> Option<(usize, u8)> {
+    for (a, byte, b, next, of) in &EDITS {
+        if !is_refused(rt, alloc, &with_bytes(*a, *byte, *b, *next), of) {
+            return Some((*a, *byte));
+        }
+    }
+    None
+}
+
+#[test]
+fn lengths_and_sums_edited_by_hand(rt: HostRuntime) {
+    let alloc = rt.alloc();
+    assert_eq!(rt; first_other_edit(&rt, alloc), None);
     // A packet whose IPv4 total length is two more than there is stays by itself.
     let (mut input, mut output) = (CAPTURE, SINGLES);
     input[57] = 0x2e;
     output[73] = 0x2e;
-    let ended = run_line(&rt, rt.alloc(), MERGE, &input, 64, &[], &[])?;
-    assert!(rt; is_as_wanted(&ended, (Status::Ok, "", 202), &output));
-    Ok(())
+    let want = (Status::Ok, "", 202);
+    assert!(rt; ends_so(&rt, alloc, MERGE, &input, &[64], want, &output));
+}
+
+// Whether a record of so many bytes whose offload header says version 2 is refused.
+fn is_refused_at(rt: &(impl Threads + Wait + Abort + Sync), alloc: Global, captured: u8) -> bool {
+    let mut input = MERGED_CAPTURE_2;
+    input[32] = captured;
+    input[36] = captured;
+    is_refused(rt, alloc, &input, &BAD_OFFLOAD)
 }
 
 // A record whose offload header says version 2 and that has 12 to 15 bytes.
 #[test]
-fn records_shorter_than_their_header(rt: HostRuntime) -> Result<(), Fail> {
+fn records_shorter_than_their_header(rt: HostRuntime) {
     let alloc = rt.alloc();
-    for captured in 12..16 {
-        let mut input = MERGED_CAPTURE_2;
-        input[32] = captured;
-        input[36] = captured;
-        assert!(rt; is_refused(&rt, alloc, &input)?, "{captured} bytes");
-    }
-    Ok(())
-}
-
-// How many calls of the sink are made by a run that is to end so while the sink takes all, if each of them that fails
-// is answered instead: by a write fault, with a prefix of the output. These reads fail.
-fn writes_answered_first(
-    rt: &(impl Threads + Wait + Sync),
-    alloc: Global,
-    whole: Whole,
-    step: usize,
-    reads: &[u64],
-    want: (Status, &'static str),
-) -> Result<Option<u64>, AllocError> {
-    let (status, line) = want;
-    for call in 0..1000 {
-        let ended = run_line(rt, alloc, whole.line, whole.input, step, reads, &[call])?;
-        if ended.status != Status::WriteFault {
-            let is_whole = is_as_wanted(&ended, (status, line, whole.output.len()), whole.output);
-            return Ok(if is_whole { Some(call) } else { None });
-        }
-        if !is_cut_off(&ended, whole.output) {
-            return Ok(None);
-        }
-    }
-    Ok(None)
+    let are_refused = [
+        is_refused_at(&rt, alloc, 12),
+        is_refused_at(&rt, alloc, 13),
+        is_refused_at(&rt, alloc, 14),
+        is_refused_at(&rt, alloc, 15),
+    ];
+    assert_eq!(rt; are_refused, [true; 4]);
 }
 
 // The step, reads of record 1, and how many writes and flushes the file header and record 0 take.
-const CALLS_BEFORE: [(usize, &[u64], u64); 3] = [
+static CALLS_BEFORE: [(usize, &[u64], u64); 3] = [
     (1, &[98, 114, 169], 115),
     (7, &[16, 17, 18, 19, 20, 21, 22, 23, 24, 25, 26], 19),
     (64, &[3, 4], 4),
 ];
 
-// The source fails in record 1, or the capture ends there, and the sink fails as what lies before is written.
-#[test]
-fn the_sink_fails_before_record_1(rt: HostRuntime) -> Result<(), Fail> {
-    let read_fault = (Status::ReadFault, "read fault\n");
-    let line = "malformed: ShortRecord at 98 in record 1\n";
-    let short = (refused(CapKind::ShortRecord, 98, 1), line);
-    let output = &SINGLES[..114];
-    for line in [MERGE, "offload merge --budget 1 --blocks 12"] {
-        for (step, reads, writes) in CALLS_BEFORE {
-            let input = &CAPTURE[..160];
-            let whole = Whole {
-                line,
-                input,
-                output,
-            };
-            let first = writes_answered_first(&rt, rt.alloc(), whole, step, &[], short)?;
-            assert_eq!(rt; first, Some(writes), "{line} at step {step}");
-            let input = &CAPTURE;
-            let whole = Whole {
-                line,
-                input,
-                output,
-            };
-            for read in reads {
-                let first = writes_answered_first(
-                    &rt,
-                    rt.alloc(),
-                    whole,
-                    step,
-                    &[*read],
-                    read_fault,
-                )?;
-                assert_eq!(rt; first, Some(writes), "{line}, read {read} at step {step}");
+// How many calls of the sink are made before one of these reads of record 1 is answered, or before the capture's end in
+// it is where no read fails.
+fn writes_before(
+    rt: &(impl Threads + Wait + Abort + Sync),
+    alloc: Global,
+    line: &str,
+    step: usize,
+    reads: &[u64],
+) -> Option<u64> {
+    let (len, want) = if reads.is_empty() {
+        let (status, line, _) = refusal(&SHORT_RECORD, 114);
+        (160, (status, line))
+    } else {
+        (170, (Status::ReadFault, "read fault\n"))
+    };
+    let whole = Whole {
+        line,
+        input: first(&CAPTURE, len),
+        output: first(&SINGLES, 114),
+    };
+    writes_answered_first(rt, alloc, whole, step, reads, want)
+}
+
+// The first step, and read if any, with another number of calls before.
+fn first_other_before(
+    rt: &(impl Threads + Wait + Abort + Sync),
+    alloc: Global,
+    line: &str,
+) -> Option<(usize, Option<u64>)> {
+    for (step, reads, writes) in &CALLS_BEFORE {
+        if writes_before(rt, alloc, line, *step, &[]) != Some(*writes) {
+            return Some((*step, None));
+        }
+        for read in *reads {
+            if writes_before(rt, alloc, line, *step, &[*read]) != Some(*writes) {
+                return Some((*step, Some(*read)));
             }
         }
     }
-    Ok(())
+    None
+}
+
+// The source fails in record 1, or the capture ends there, and the sink fails as what lies before is written.
+#[test]
+fn the_sink_fails_before_record_1(rt: HostRuntime) {
+    let alloc = rt.alloc();
+    let others = [
+        first_other_before(&rt, alloc, MERGE),
+        first_other_before(&rt, alloc, "offload merge --budget 1 --blocks 12"),
+    ];
+    assert_eq!(rt; others, [None; 2]);
+}
+
+// The first of four reads of a record of two queues, behind so many packets, with another number of calls before.
+fn first_other_behind(
+    rt: &(impl Threads + Wait + Abort + Sync),
+    alloc: Global,
+    packets: u16,
+    reads: u64,
+    writes: u64,
+) -> Option<u64> {
+    let input = in_turn(rt, alloc, 8);
+    let output = written_of(rt, alloc, packets);
+    let whole = Whole {
+        line: TWO_QUEUES,
+        input: &input,
+        output: &output,
+    };
+    let want = (Status::ReadFault, "read fault\n");
+    for read in reads..reads.saturating_add(4) {
+        if writes_answered_first(rt, alloc, whole, 64, &[read], want) != Some(writes) {
+            return Some(read);
+        }
+    }
+    None
 }
 
 // The same over two queues, where the packets before are a part of the first round, and of the second one.
 #[test]
-fn the_sink_fails_before_a_record_of_two_queues(rt: HostRuntime) -> Result<(), Fail> {
+fn the_sink_fails_before_a_record_of_two_queues(rt: HostRuntime) {
     let alloc = rt.alloc();
-    let read_fault = (Status::ReadFault, "read fault\n");
-    let input = in_turn(alloc, 8)?;
-    for (packets, reads, writes) in [(1, 5..9, 6), (3, 13..17, 12), (6, 25..29, 22)] {
-        let output = written_of(&rt, alloc, packets)?;
-        let whole = Whole {
-            line: TWO_QUEUES,
-            input: &input,
-            output: &output,
-        };
-        for read in reads {
-            let first = writes_answered_first(&rt, alloc, whole, 64, &[read], read_fault)?;
-            assert_eq!(rt; first, Some(writes), "read {read}");
-        }
-    }
-    Ok(())
+    let others = [
+        first_other_behind(&rt, alloc, 1, 5, 6),
+        first_other_behind(&rt, alloc, 3, 13, 12),
+        first_other_behind(&rt, alloc, 6, 25, 22),
+    ];
+    assert_eq!(rt; others, [None; 3]);
 }

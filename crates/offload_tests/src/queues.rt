@@ -1,13 +1,14 @@
 //! Queues and taps: their records, each call of the outside failing in turn, and tasks that wait for one another.
 
-use crate::lines::{is_as_wanted, is_cut_off, run_gated, run_line};
+use crate::failing::{Whole, writes_answered_first};
+use crate::lines::{is_as_wanted, run_gated, run_line};
 use crate::row_frames::{Frame, NEXT, PLAIN, capture_of};
-use crate::rows::{Said, said_in};
+use crate::rows::{Said, has_lengths, is_said};
 use off_io::{Meeting, Who};
 use offload_run::Status;
-use std::alloc::{AllocError, Global};
+use std::alloc::Global;
+use std::process::Abort;
 use std::sync::Wait;
-use std::test::Fail;
 use std::thread::Threads;
 
 pub const TWO_QUEUES: &str = "offload merge --queues 2 --budget 4";
@@ -17,156 +18,179 @@ pub const KEY: &str =
     "6d5a56da255b0ec24167253d43a38fb0d0ca2bcbae7b30b477cb2da38030f20c6a42b73bbeac01fa";
 
 // A capture of the first packets of two flows in turn, of which the first one has queue 0 of two.
-pub fn in_turn(alloc: Global, count: u16) -> Result<Vec<u8>, AllocError> {
+pub fn in_turn(rt: &impl Abort, alloc: Global, count: u16) -> Vec<u8> {
     let mut frames = Vec::new(alloc);
     for i in 0..count.min(8) {
-        frames.push(Frame {
+        let frame = Frame {
             port: 40000 + i % 2,
             id: 100 + i / 2,
             seq: 1000 + 100 * u32::from(i / 2),
             ..PLAIN
-        })?;
+        };
+        frames.push(frame).expect(rt, "no memory");
     }
-    capture_of(alloc, &frames)
+    capture_of(rt, alloc, &frames)
 }
+
+// Whether a line goes well and writes these records.
+pub fn line_says(
+    rt: &(impl Threads + Wait + Abort + Sync),
+    alloc: Global,
+    line: &str,
+    input: &[u8],
+    want: &[Said],
+) -> bool {
+    is_said(&run_line(rt, alloc, line, input, 65536, &[], &[]), want)
+}
+
+// Of two flows in rounds of four packets, all of which are merged.
+static IN_FOURS: [Said; 4] = [
+    (0, 2, 100, 0, 254),
+    (1, 2, 100, 0, 254),
+    (4, 2, 100, 0, 254),
+    (5, 2, 100, 0, 254),
+];
+
+static IN_THREES: [Said; 6] = [
+    (0, 2, 100, 0, 254),
+    (1, 1, 0, 0, 154),
+    (4, 1, 0, 0, 154),
+    (3, 2, 100, 0, 254),
+    (6, 1, 0, 0, 154),
+    (7, 1, 0, 0, 154),
+];
 
 // Number and packets of each record, queue by queue in each round.
 #[test]
-fn two_queues(rt: HostRuntime) -> Result<(), Fail> {
+fn two_queues(rt: HostRuntime) {
     let alloc = rt.alloc();
-    let input = in_turn(alloc, 8)?;
-    let single = |number| (number, 1, 0, 0, 154);
-    let merged = |number| (number, 2, 100, 0, 254);
-    let rows: [(&str, &[Said]); 2] = [
-        (TWO_QUEUES, &[merged(0), merged(1), merged(4), merged(5)]),
-        (
-            "offload merge --queues 2 --budget 3",
-            &[
-                merged(0),
-                single(1),
-                single(4),
-                merged(3),
-                single(6),
-                single(7),
-            ],
-        ),
+    let input = in_turn(&rt, alloc, 8);
+    let threes = "offload merge --queues 2 --budget 3";
+    let are_said = [
+        line_says(&rt, alloc, TWO_QUEUES, &input, &IN_FOURS),
+        line_says(&rt, alloc, threes, &input, &IN_THREES),
     ];
-    for (line, want) in rows {
-        let ended = run_line(&rt, alloc, line, &input, 4096, &[], &[])?;
-        let said = said_in(alloc, ended.sink.bytes())?;
-        let is_ok = ended.status == Status::Ok;
-        assert!(rt; is_ok && said.as_slice() == want, "at {line}");
-    }
-    Ok(())
+    assert_eq!(rt; are_said, [true; 2]);
 }
 
 // What is written of the first packets, where no call fails.
-pub fn written_of(
-    rt: &(impl Threads + Wait + Sync),
+pub fn written_of(rt: &(impl Threads + Wait + Abort + Sync), alloc: Global, count: u16) -> Vec<u8> {
+    let input = in_turn(rt, alloc, count);
+    let ended = run_line(rt, alloc, TWO_QUEUES, &input, 4096, &[], &[]);
+    ended.sink.bytes().to_vec(alloc).expect(rt, "no memory")
+}
+
+// The first read that fails and isn't answered once the packets before are written as two queues have them. The file
+// header takes a read, each of eight records four, and the end one.
+fn first_other_read(
+    rt: &(impl Threads + Wait + Abort + Sync),
     alloc: Global,
-    count: u16,
-) -> Result<Vec<u8>, AllocError> {
-    let ended = run_line(
-        rt,
-        alloc,
-        TWO_QUEUES,
-        &in_turn(alloc, count)?,
-        4096,
-        &[],
-        &[],
-    )?;
-    ended.sink.bytes().to_vec(alloc)
-}
-
-// Of each read that fails the packets before are written as two queues have them. The file header takes a read, each
-// record four, and the end one.
-#[test]
-fn each_read_fails_over_two_queues(rt: HostRuntime) -> Result<(), Fail> {
-    let alloc = rt.alloc();
-    let input = in_turn(alloc, 8)?;
-    let mut call = 1u64;
-    for packets in 0..9u16 {
-        let want = written_of(&rt, alloc, packets)?;
-        let reads = if packets == 8 { 1 } else { 4 };
-        for _ in 0..reads {
-            let ended = run_line(&rt, alloc, TWO_QUEUES, &input, 64, &[call], &[])?;
-            let fault = (Status::ReadFault, "read fault\n", want.len());
-            assert!(rt; is_as_wanted(&ended, fault, &want), "call {call}");
-            call = call.saturating_add(1);
+    input: &[u8],
+) -> Option<u64> {
+    for read in 0..33u64 {
+        let want = written_of(rt, alloc, (read / 4) as u16);
+        let ended = run_line(rt, alloc, TWO_QUEUES, input, 64, &[read + 1], &[]);
+        let fault = (Status::ReadFault, "read fault\n", want.len());
+        if !is_as_wanted(&ended, fault, &want) {
+            return Some(read);
         }
     }
-    let ended = run_line(&rt, alloc, TWO_QUEUES, &input, 64, &[call], &[])?;
-    assert_eq!(rt; ended.status, Status::Ok);
-    Ok(())
+    None
 }
 
-// At each write or flush that fails a prefix of the output is in the sink.
 #[test]
-fn each_write_fails_over_two_queues(rt: HostRuntime) -> Result<(), Fail> {
+fn each_read_fails_over_two_queues(rt: HostRuntime) {
     let alloc = rt.alloc();
-    let input = in_turn(alloc, 8)?;
-    let whole = written_of(&rt, alloc, 8)?;
-    for call in 0..1000 {
-        let ended = run_line(&rt, alloc, TWO_QUEUES, &input, 64, &[], &[call])?;
-        if ended.status == Status::Ok {
-            assert!(rt; call > 20 && ended.sink.bytes() == whole.as_slice());
-            return Ok(());
-        }
-        assert!(rt; is_cut_off(&ended, &whole), "call {call}");
-    }
-    assert!(rt; false);
-    Ok(())
+    let input = in_turn(&rt, alloc, 8);
+    let behind = run_line(&rt, alloc, TWO_QUEUES, &input, 64, &[34], &[]);
+    assert_eq!(rt;
+        (first_other_read(&rt, alloc, &input), behind.status),
+        (None, Status::Ok)
+    );
 }
 
-// Two packets of 100 bytes, which are merged.
-pub fn pair(alloc: Global) -> Result<Vec<u8>, AllocError> {
+// At each write or flush that fails, of more than 20, a prefix of the output is in the sink.
+#[test]
+fn each_write_fails_over_two_queues(rt: HostRuntime) {
+    let alloc = rt.alloc();
+    let input = in_turn(&rt, alloc, 8);
+    let output = written_of(&rt, alloc, 8);
+    let whole = Whole {
+        line: TWO_QUEUES,
+        input: &input,
+        output: &output,
+    };
+    let calls = writes_answered_first(&rt, alloc, whole, 64, &[], (Status::Ok, ""));
+    assert!(rt; calls.unwrap_or(0) > 20);
+}
+
+// Two packets of 100 bytes over this version of IP, which are merged. Over IPv6 they have 120.
+pub fn pair(rt: &impl Abort, alloc: Global, ip: u8) -> Vec<u8> {
     let first = Frame {
+        ip,
         payload: 46,
         ..PLAIN
     };
     let second = Frame {
+        ip,
         payload: 46,
         seq: 1046,
         ..NEXT
     };
-    capture_of(alloc, &[first, second])
+    capture_of(rt, alloc, &[first, second])
 }
 
-// Lane, number and captured length of each record: that of the merged packets, and two windows of each tap.
+// Whether a line goes well and writes records of these numbers and captured lengths.
+pub fn line_has_lengths(
+    rt: &(impl Threads + Wait + Abort + Sync),
+    alloc: Global,
+    line: &str,
+    input: &[u8],
+    want: &[(u32, u32)],
+) -> bool {
+    let ended = run_line(rt, alloc, line, input, 4096, &[], &[]);
+    ended.status == Status::Ok && has_lengths(ended.sink.bytes(), want)
+}
+
+// The merged packets, and two windows of each tap.
 #[test]
-fn two_taps(rt: HostRuntime) -> Result<(), Fail> {
+fn two_taps(rt: HostRuntime) {
     let alloc = rt.alloc();
-    let input = pair(alloc)?;
+    let input = pair(&rt, alloc, 4);
     let line = "offload merge --taps 2 --snap 64";
-    let ended = run_line(&rt, alloc, line, &input, 4096, &[], &[])?;
-    assert_eq!(rt; ended.status, Status::Ok);
-    let output = ended.sink.bytes();
-    let mut lens = Vec::new(alloc);
-    for said in said_in(alloc, output)? {
-        lens.push((said.0, said.4.saturating_add(16)))?;
-    }
-    assert_eq!(rt;
-        lens.as_slice(),
-        [(0, 162), (0, 80), (1, 80), (0, 52), (1, 52)].as_slice()
-    );
-    Ok(())
+    let want = [(0, 162), (0, 80), (1, 80), (0, 52), (1, 52)];
+    assert!(rt; line_has_lengths(&rt, alloc, line, &input, &want));
+}
+
+// How a line ends where two tasks wait for each other, and how often they met.
+fn met(
+    rt: &(impl Threads + Wait + Abort + Sync),
+    alloc: Global,
+    line: &str,
+    one: Who,
+    other: Who,
+) -> (Status, u32) {
+    let input = in_turn(rt, alloc, 2);
+    let meeting = Meeting::of(one, other);
+    let ended = run_gated(rt, alloc, line, &input, 4096, (&[], &[]), &meeting);
+    (ended.status, meeting.met())
 }
 
 // Each of two tasks sees that the other one has begun.
 #[test]
-fn tasks_meet(rt: HostRuntime) -> Result<(), Fail> {
+fn tasks_meet(rt: HostRuntime) {
     let alloc = rt.alloc();
-    let input = in_turn(alloc, 2)?;
-    let rows = [
-        ("offload merge --taps 1", Who::Worker(0), Who::Tap(0)),
-        ("offload merge --taps 2", Who::Tap(0), Who::Tap(1)),
-        ("offload merge --queues 2", Who::Worker(0), Who::Worker(1)),
+    let (workers, taps) = ([Who::Worker(0), Who::Worker(1)], [Who::Tap(0), Who::Tap(1)]);
+    let seen = [
+        met(&rt, alloc, "offload merge --taps 1", workers[0], taps[0]),
+        met(&rt, alloc, "offload merge --taps 2", taps[0], taps[1]),
+        met(
+            &rt,
+            alloc,
+            "offload merge --queues 2",
+            workers[0],
+            workers[1],
+        ),
     ];
-    for (line, one, other) in rows {
-        let meeting = Meeting::of(one, other);
-        let ended = run_gated(&rt, alloc, line, &input, 4096, &[], &[], &meeting)?;
-        let is_ok = ended.status == Status::Ok;
-        assert!(rt; is_ok && meeting.met() == 2, "at {line}");
-    }
-    Ok(())
+    assert_eq!(rt; seen, [(Status::Ok, 2); 3]);
 }
