@@ -54,10 +54,10 @@ pub(crate) fn source_of(rt: &impl Abort, alloc: Global, bytes: &[u8], fails: &[u
     MemSource::new(bytes, 4096, fails)
 }
 
-/// A sink that fails at these of its calls, of which each takes so many bytes at most.
+/// A sink that fails at these of its calls, of which each takes so many bytes at most, and one at least.
 pub(crate) fn sink_of(rt: &impl Abort, alloc: Global, step: usize, fails: &[u64]) -> MemSink {
     let fails = fails.to_vec(alloc).expect(rt, "no memory");
-    MemSink::new(alloc, step, fails)
+    MemSink::new(alloc, step.max(1), fails)
 }
 
 /// How a capture is merged.
