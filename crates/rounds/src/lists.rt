@@ -1,5 +1,5 @@
 //! The pool by which lists of blocks come home while the other blocks of their round are out.
-ghost use Rattle.std.specs.Prelude.{◌≡◌, ◌⊎◌, ℕ, ◌+◌, ◌-◌, ◌<◌, ◌≤◌, ◌^◌, [], true, false, min, IfOk, IfSome};
+ghost use Rattle.std.specs.Prelude.{◌≡◌, ◌≢◌, ◌⊎◌, ℕ, ◌+◌, ◌-◌, ◌<◌, ◌≤◌, ◌^◌, [], true, false, min, IfNone, IfOk, IfSome};
 ghost use Rattle.std.specs.Arc.{arc_value};
 ghost use Rattle.block_pool.specs.Giving.{given_by, weights_given};
 ghost use Rattle.block_pool.specs.Listed.{blocks_in};
@@ -83,6 +83,7 @@ impl Taker {
     /// The memory of the list that came last, where all its blocks are home and it has so many places.
     pub fn take_spent(&mut self, places: u32) -> Option<Pool>
         ensures spent { IfSome result (λ list. (home list ≡ 0) × (list.made ≡ places)) }
+        ensures none { IfNone result (home self.old.left ≡ 0 → self.old.left.made ≢ places) }
         ensures sum { listed_home self.new.pass self.new.left ≡ listed_home self.old.pass self.old.left }
         ensures named { (h : ℕ → ℕ) → weights_home h self.new.pass self.new.left
             ≡ weights_home h self.old.pass self.old.left }
