@@ -7,42 +7,36 @@ use Rattle.gro.specs.Waiting.{chosen, AreThere, Empties}
 use Rattle.gro.proofs.Chains.{chain_step, chain_done}
 use Rattle.gro.proofs.Emptying.{found_below, chain_cut, there_on, distinct_on, empties_first, empties_none}
 use Rattle.gro.proofs.Following.{then_all, none_taken}
+use Rattle.gro.proofs.build.take_packets.Goals.{After-take_packet-arg-in-loop-left-2-1 as Taken}
 use Rattle.gro.proofs.build.take_packets.Goals as goal
+
+-- of the packets that are left the one that was taken is the first
+first_taken : (c : Taken) → chosen c.loop-left.waiting.items (chain_of c.args.next.now c.loop-left.left c.loop-left.k)
+    ≡ c.take_at-packet.result ∷ chosen c.take_at-packet.new.waiting.items (chain_of c.args.next.now (c.loop-left.left - 1) (get_or c.args.next.now c.loop-left.k 0))
+first_taken c =
+    let i = c.loop-left.invariant in
+    chain_cut c.loop-left.waiting.items c.take_at-packet.new.waiting.items c.args.next.now c.loop-left.left c.loop-left.k c.take_at-packet.result c.loop-left-test.true
+    i.there i.distinct c.take_at-packet.ensures.packet c.take_at-packet.ensures.left
 
 pub take_packet-end-requires-clause-head : goal.take_packet-end-requires-clause-head
 take_packet-end-requires-clause-head c =
-    let i = c.loop-left.invariant in
-    let e = chain_cut c.loop-left.waiting.items c.take_at-packet.new.waiting.items c.args.next.now c.loop-left.left c.loop-left.k c.take_at-packet.result c.loop-left-test.true
-    i.there i.distinct c.take_at-packet.ensures.packet c.take_at-packet.ensures.left in
-    (subst (AreJoinable c.args.at) e i.each).0.0
+    (subst (AreJoinable c.args.at) (first_taken c) c.loop-left.invariant.each).0.0
 
 pub take_packet-end-requires-clause-front : goal.take_packet-end-requires-clause-front
 take_packet-end-requires-clause-front c =
-    let i = c.loop-left.invariant in
-    let e = chain_cut c.loop-left.waiting.items c.take_at-packet.new.waiting.items c.args.next.now c.loop-left.left c.loop-left.k c.take_at-packet.result c.loop-left-test.true
-    i.there i.distinct c.take_at-packet.ensures.packet c.take_at-packet.ensures.left in
-    (subst (AreJoinable c.args.at) e i.each).0.1
+    (subst (AreJoinable c.args.at) (first_taken c) c.loop-left.invariant.each).0.1
 
 pub take_packet-end-requires-clause-reserved : goal.take_packet-end-requires-clause-reserved
 take_packet-end-requires-clause-reserved c =
-    let i = c.loop-left.invariant in
-    let e = chain_cut c.loop-left.waiting.items c.take_at-packet.new.waiting.items c.args.next.now c.loop-left.left c.loop-left.k c.take_at-packet.result c.loop-left-test.true
-    i.there i.distinct c.take_at-packet.ensures.packet c.take_at-packet.ensures.left in
-    omega (arith, ap pieces_in e, i.reserved)
+    omega (arith, ap pieces_in (first_taken c), c.loop-left.invariant.reserved)
 
 pub take_packet-end-requires-clause-places : goal.take_packet-end-requires-clause-places
 take_packet-end-requires-clause-places c =
-    let i = c.loop-left.invariant in
-    let e = chain_cut c.loop-left.waiting.items c.take_at-packet.new.waiting.items c.args.next.now c.loop-left.left c.loop-left.k c.take_at-packet.result c.loop-left-test.true
-    i.there i.distinct c.take_at-packet.ensures.packet c.take_at-packet.ensures.left in
-    omega (arith, ap length e, i.places)
+    omega (arith, ap length (first_taken c), c.loop-left.invariant.places)
 
 pub take_packet-end-requires-clause-small : goal.take_packet-end-requires-clause-small
 take_packet-end-requires-clause-small c =
-    let i = c.loop-left.invariant in
-    let e = chain_cut c.loop-left.waiting.items c.take_at-packet.new.waiting.items c.args.next.now c.loop-left.left c.loop-left.k c.take_at-packet.result c.loop-left-test.true
-    i.there i.distinct c.take_at-packet.ensures.packet c.take_at-packet.ensures.left in
-    omega (arith, ap (sizes_behind c.args.at) e, i.small, i.order)
+    omega (arith, ap (sizes_behind c.args.at) (first_taken c), c.loop-left.invariant.small, c.loop-left.invariant.order)
 
 pub bounds-next-k : goal.bounds-next-k
 bounds-next-k c =

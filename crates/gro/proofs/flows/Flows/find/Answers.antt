@@ -10,7 +10,21 @@ use Rattle.gro.specs.Flows.{last_in, joined, key_at, bucket_in, no_entry, entry_
 use Rattle.gro.specs.Slots.{packet_of}
 use Rattle.gro.proofs.Flowing.{last_head, last_hit, last_below}
 use Rattle.gro.proofs.Keys.{keys_equiv}
+use Rattle.gro.proofs.flows.Flows.find.Goals.{After-index-entry}
 use Rattle.gro.proofs.flows.Flows.find.Goals as goal
+
+-- the entry that is looked at is the one below the place
+record Found (es : List Entry) (at : ℕ) (entry : Entry) : Type 0 where
+  next : at ≡ at - 1 + 1
+  inside : at - 1 < length es
+  is : entry ≡ entry_at es (at - 1)
+
+found : (c : After-index-entry) → Found c.args.self.now.entries.items c.loop-at.at c.index-entry.result.now
+found c =
+    let es : List Entry = c.args.self.now.entries.items in
+    let next : c.loop-at.at ≡ c.loop-at.at - 1 + 1 = omega (arith, c.loop-at-test.true) in
+    let inside : c.loop-at.at - 1 < length es = omega (arith, next, c.loop-at.invariant.0) in
+    record { next = next; inside = inside; is = c.index-entry.ensures ∙ get_or_default es (c.loop-at.at - 1) c.index-entry.result.now no_entry inside }
 
 pub loop-at-init : goal.loop-at-init
 loop-at-init c =
@@ -25,13 +39,8 @@ loop-at-init c =
 pub is_of-requires-clause-hashed : goal.is_of-requires-clause-hashed
 is_of-requires-clause-hashed c =
     let ps : List Packet = map packet_of c.args.packets.now in
-    let es : List Entry = c.args.self.now.entries.items in
-    let entry : Entry = c.index-entry.result.now in
-    let i : ℕ = c.loop-at.at - 1 in
-    let t : c.loop-at.at ≡ i + 1 = omega (arith, c.loop-at-test.true) in
-    let inside : i < length es = omega (arith, t, c.loop-at.invariant.0) in
-    let is : entry ≡ entry_at es i = c.index-entry.ensures ∙ get_or_default es i entry no_entry inside in
-    subst (λ (z : Entry). IsHashed ps z.packet z.hash) (sym is) (c.requires.flows.hashed i inside)
+    let at = found c in
+    subst (λ (z : Entry). IsHashed ps z.packet z.hash) (sym at.is) (c.requires.flows.hashed (c.loop-at.at - 1) at.inside)
 
 pub returns-then-is_of : goal.returns-then-is_of
 returns-then-is_of c =
@@ -40,15 +49,13 @@ returns-then-is_of c =
     let es : List Entry = c.args.self.now.entries.items in
     let entry : Entry = c.index-entry.result.now in
     let i : ℕ = c.loop-at.at - 1 in
-    let t : c.loop-at.at ≡ i + 1 = omega (arith, c.loop-at-test.true) in
-    let inside : i < length es = omega (arith, t, c.loop-at.invariant.0) in
-    let is : entry ≡ entry_at es i = c.index-entry.ensures ∙ get_or_default es i entry no_entry inside in
+    let at = found (goal.at.returns-then-is_of c).After-index-entry in
     let same : key_at ps entry ≡ key = c.is_of.ensures.same.0 c.if-is_of.true in
     let hit : key_eq (key_at ps (entry_at es i)) key ≡ true
-    = ap (λ (z : Entry). key_eq (key_at ps z) key) (sym is) ∙ ap (λ (z : Option (List ℕ)). key_eq z key) same ∙ keys_equiv.refl key in
+    = ap (λ (z : Entry). key_eq (key_at ps z) key) (sym at.is) ∙ ap (λ (z : Option (List ℕ)). key_eq z key) same ∙ keys_equiv.refl key in
     let last : last_in ps key es ≡ Some (entry_at es i).place
-    = sym c.loop-at.invariant.2 ∙ ap (λ z. last_in ps key (take z es)) t ∙ last_hit ps key es i inside hit in
-    record { place = ap (λ (z : Entry). z.place) is ∙ sym (ap joined last) }
+    = sym c.loop-at.invariant.2 ∙ ap (λ z. last_in ps key (take z es)) at.next ∙ last_hit ps key es i at.inside hit in
+    record { place = ap (λ (z : Entry). z.place) at.is ∙ sym (ap joined last) }
 
 pub loop-at-preserved : goal.loop-at-preserved
 loop-at-preserved c =
@@ -57,21 +64,19 @@ loop-at-preserved c =
     let es : List Entry = c.args.self.now.entries.items in
     let entry : Entry = c.index-entry.result.now in
     let i : ℕ = c.loop-at.at - 1 in
-    let t : c.loop-at.at ≡ i + 1 = omega (arith, c.loop-at-test.true) in
-    let inside : i < length es = omega (arith, t, c.loop-at.invariant.0) in
-    let is : entry ≡ entry_at es i = c.index-entry.ensures ∙ get_or_default es i entry no_entry inside in
+    let at = found (goal.at.loop-at-preserved c).After-index-entry in
     let no : key_eq (key_at ps (entry_at es i)) key ≡ false = elim (cases_Bool (key_eq (key_at ps (entry_at es i)) key)) [
       | inl e ↦
-          let same : key_at ps entry ≡ key = ap (key_at ps) is ∙ key_eq_same (key_at ps (entry_at es i)) key e in
+          let same : key_at ps entry ≡ key = ap (key_at ps) at.is ∙ key_eq_same (key_at ps (entry_at es i)) key e in
           let u : false ≡ true = sym c.if-is_of.false ∙ c.is_of.ensures.same.1 same in absurd cc
       | inr e ↦ e
     ] in
-    let here : bucket_in (entry_at es i).hash ≡ bucket_in c.args.hash = c.loop-at.invariant.1 (omega (arith, t)) in
-    let head : IsHead es (bucket_in (entry_at es i).hash) i (entry_at es i).below = c.requires.flows.belows i inside in
+    let here : bucket_in (entry_at es i).hash ≡ bucket_in c.args.hash = c.loop-at.invariant.1 (omega (arith, at.next)) in
+    let head : IsHead es (bucket_in (entry_at es i).hash) i (entry_at es i).below = c.requires.flows.belows i at.inside in
     subst (λ (z : Entry). (z.below ≤ length es) × (1 ≤ z.below → bucket_in (entry_at es (z.below - 1)).hash ≡ bucket_in c.args.hash)
-    × (last_in ps key (take z.below es) ≡ last_in ps key es)) (sym is) (
-      omega (arith, head.0, inside),
+    × (last_in ps key (take z.below es) ≡ last_in ps key es)) (sym at.is) (
+      omega (arith, head.0, at.inside),
       (λ o. head.1 o ∙ here),
-      sym (last_below ps key es i inside (λ k l. (c.requires.flows.hashed k l).1) no (here ∙ ap bucket_in c.requires.hash) head)
-          ∙ ap (λ z. last_in ps key (take z es)) (sym t) ∙ c.loop-at.invariant.2,
+      sym (last_below ps key es i at.inside (λ k l. (c.requires.flows.hashed k l).1) no (here ∙ ap bucket_in c.requires.hash) head)
+          ∙ ap (λ z. last_in ps key (take z es)) (sym at.next) ∙ c.loop-at.invariant.2,
     )
