@@ -1,7 +1,7 @@
 -- Blocks that are filled one after the other.
 use Rattle.std.proofs.Common.{◌≡◌, ℕ, zero, suc, ◌+◌, ◌-◌, ◌*◌, ◌<◌, ◌≤◌, min, List, [], ◌∷◌, ◌++◌, Option, Result, Ok, Err, refl, sym, ap, subst, ◌∙◌, length, get_or, set, take, drop, slice_range}
 use Rattle.std.proofs.Common.{append-nil, append_assoc, length-append, length-drop, arith}
-use Rattle.std.proofs.lemmas.List.{take_all, take_at, drop_at, length-take-le}
+use Rattle.std.proofs.lemmas.List.{length-set, take_all, take_at, drop_at, length-take-le}
 use Rattle.raw_block.specs.Views.{SoleState}
 use Rattle.frags.specs.declared.pieces.Piece.{Piece}
 use Rattle.frags.specs.PieceList.{bytes_of, piece_bytes}
@@ -13,8 +13,10 @@ use Rattle.pcap_io.specs.declared.faults.InFault.TheVariants.{Cap, ReadFault}
 use Rattle.pcap_io.specs.Places.{ReadsOn, short_record}
 use Rattle.pcap_io.specs.Reading.{GivesBody}
 use Rattle.offload_model.specs.Laws.{InBytes}
+use Rattle.records.specs.Bodies.{AreReadInto, IsReadInto}
 use Rattle.records.specs.Data.{data_of, GivesData, GivesFrame}
 use Rattle.records.specs.Laid.{MarkedFrom}
+use Rattle.records.proofs.Laying.{weighed_set}
 
 none_taken : (xs : List ℕ) (at n : ℕ) → n ≡ 0 → slice_range xs at (at + n) ≡ []
 none_taken xs at n e = let z : (at + n) - at ≡ 0 = omega (arith, e) in ap (λ (k : ℕ). take k (drop at xs)) z
@@ -61,6 +63,14 @@ pub marked_set : (i k : ℕ) (xs : List SoleState) (s d : SoleState) → i < len
 marked_set i k [] s d lt e h = absurd (omega (arith, lt))
 marked_set zero k (x ∷ xs) s d lt e h = (e ∙ h.0, h.1)
 marked_set (suc i) k (x ∷ xs) s d lt e h = (h.0, marked_set i (k + 1) xs s d (omega (arith, lt)) e h.1)
+
+-- one of the blocks is read into
+pub into_set : (i : ℕ) (old xs : List SoleState) (s d : SoleState) → i < length xs → d ≡ get_or xs i d → IsReadInto d s → AreReadInto old xs → AreReadInto old (set xs i s)
+into_set i old xs s d lt at is are = record {
+  marks = λ k h. marked_set i k xs s d lt (is.mark ∙ ap (λ (x : SoleState). x.mark) at) (are.marks k h);
+  named = λ h. weighed_set h xs i s d lt (is.named ∙ ap (λ (x : SoleState). x.block) at) ∙ are.named h;
+  size = length-set xs i s ∙ are.size;
+}
 
 -- `n` bytes of a body are in blocks
 abbrev pub Filled : ℕ → List SoleState → List ℕ → List ℕ → Type 0

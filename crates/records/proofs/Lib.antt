@@ -1,3 +1,5 @@
+-- a write behind another
+mod Writing
 -- the slices of a buffer, one after the other
 mod Slices
 -- the segments of a merged frame, from where they lie

@@ -1,5 +1,8 @@
 -- Records as they are written from buffers (pcap file format, section 5).
-use Rattle.std.specs.Prelude.{ℕ, ◌+◌, ◌<◌, ◌^◌, List, length, ◌++◌, Option, None, Some}
+use Rattle.std.specs.Prelude.{ℕ, ◌+◌, ◌<◌, ◌^◌, List, length, ◌++◌, Option, None, Some, OnErr, OnOk, Result}
+use Rattle.std.specs.Io.KnownBytes.{Appends}
+use Rattle.off_io.specs.Content.{AppendsPrefix}
+use Rattle.off_io.specs.Faults.{HasCause}
 use Rattle.pcap_io.specs.Limits.{off_head2_size}
 use Rattle.net_bytes.specs.declared.order.Order.{Order}
 use Rattle.pcap_io.specs.declared.off_head.OffHead2.{OffHead2}
@@ -13,6 +16,13 @@ use Rattle.offload_model.specs.Segments.{with_head}
 use Rattle.offload_model.specs.Written.{head_of, record_bytes}
 use Rattle.gro.specs.declared.item.Item.{Item}
 use Rattle.records.specs.declared.record.Time.{Time}
+
+-- a sink got these bytes, or a prefix of them where it failed: what it held before and holds now, and its faults
+pub record Writes {T E : Type 0} (held now : Option (List ℕ)) (faults risen : ℕ) (bytes : List ℕ) (result : Result T E)
+    : Type 0 where
+  pub ok : OnOk result (Appends held now bytes)
+  pub err : OnErr result (AppendsPrefix held now bytes)
+  pub cause : HasCause faults risen result
 
 -- a packet behind an offload header, where there is one
 abbrev pub headed : Option OffHead2 → Packet → Packet

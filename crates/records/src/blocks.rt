@@ -6,11 +6,10 @@ ghost use Rattle.block_pool.specs.PoolState.{home, weighed};
 ghost use Rattle.frags.specs.PieceList.{size_of, bytes_of};
 ghost use Rattle.frags.specs.declared.pieces.Piece.{Piece};
 ghost use Rattle.skb.specs.SkbState.{buffer_bytes, buffer_size, weighed_in, IsAlone};
-ghost use Rattle.gro.specs.Slots.{of_packet, count_of};
 ghost use Rattle.records.specs.Data.{data_of};
-ghost use Rattle.records.specs.Laid.{IsLaid, IsRead, MarkedFrom, WholeFrom, most_original, most_read, most_short};
-ghost use Rattle.records.specs.Reading.{HasOne, OfNew};
+ghost use Rattle.records.specs.Laid.{MarkedFrom, WholeFrom, most_original, most_read, most_short};
 ghost use Rattle.offload_model.specs.Need.{data_blocks};
+ghost use Rattle.records.specs.Bodies.{Adds, IsPacketOf};
 
 use block_pool::{Empty, Pool};
 use frags::{PieceBuilder, Pieces};
@@ -171,17 +170,7 @@ pub(crate) fn make_packet(
     requires range { first + 1 < 2 ^ 32 }
     requires original { head.now.original ≤ most_original }
     requires place { 1 ≤ packets.old.room }
-    ensures one { HasOne packets.old packets.new }
-    ensures room { packets.old.room ≤ packets.new.room + 1 }
-    ensures laid { OfNew packets.old packets.new (IsLaid first) }
-    ensures count { OfNew packets.old packets.new (λ p. count_of p ≡ data_blocks len) }
-    ensures named { OfNew packets.old packets.new (λ p. (h : ℕ → ℕ) → weighed_in h p.skb
-        ≡ h block.block + weighed h hold.old.items) }
-    ensures read { OfNew packets.old packets.new IsRead }
-    ensures range { OfNew packets.old packets.new (λ p. (p.number < 2 ^ 32) × (p.sec < 2 ^ 32) × (p.frac < 2 ^ 32)) }
-    ensures bytes { OfNew packets.old packets.new (λ p. buffer_bytes p.skb ≡ data_of 64 len (block ∷ hold.old.items)) }
-    ensures fields { OfNew packets.old packets.new (λ p. (p.number ≡ head.now.number)
-        × (p.sec ≡ head.now.sec) × (p.frac ≡ head.now.frac) × (p.original ≡ head.now.original)) }
+    ensures made { Adds packets.old packets.new (IsPacketOf first len head.now (block ∷ hold.old.items)) }
     ensures none { hold.new.items ≡ [] }
     ensures capacity { deque_capacity hold.new ≡ deque_capacity hold.old }
 {
@@ -204,16 +193,7 @@ pub(crate) fn make_short(
     requires short { len ≤ most_short }
     requires original { head.now.original ≤ most_original }
     requires place { 1 ≤ packets.old.room }
-    ensures one { HasOne packets.old packets.new }
-    ensures room { packets.old.room ≤ packets.new.room + 1 }
-    ensures laid { OfNew packets.old packets.new (IsLaid block.mark) }
-    ensures count { OfNew packets.old packets.new (λ p. count_of p ≡ data_blocks len) }
-    ensures named { OfNew packets.old packets.new (λ p. (h : ℕ → ℕ) → weighed_in h p.skb ≡ h block.block) }
-    ensures read { OfNew packets.old packets.new IsRead }
-    ensures range { OfNew packets.old packets.new (λ p. (p.number < 2 ^ 32) × (p.sec < 2 ^ 32) × (p.frac < 2 ^ 32)) }
-    ensures bytes { OfNew packets.old packets.new (λ p. buffer_bytes p.skb ≡ data_of 64 len (block ∷ [])) }
-    ensures fields { OfNew packets.old packets.new (λ p. (p.number ≡ head.now.number)
-        × (p.sec ≡ head.now.sec) × (p.frac ≡ head.now.frac) × (p.original ≡ head.now.original)) }
+    ensures made { Adds packets.old packets.new (IsPacketOf block.mark len head.now (block ∷ [])) }
 {
     let none = Pieces::new(alloc);
     let skb = Skb::new(block, HEADROOM, HEADROOM + len as usize, none);

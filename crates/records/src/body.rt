@@ -1,16 +1,14 @@
 //! Reads a record's body into blocks.
-ghost use Rattle.std.specs.Prelude.{◌≡◌, ℕ, ◌+◌, ◌-◌, ◌/◌, ◌≤◌, [], ◌∷◌, length, slice_range, OnOk, Err};
+ghost use Rattle.std.specs.Prelude.{◌≡◌, ◌+◌, ◌-◌, ◌/◌, ◌≤◌, [], ◌∷◌, length, slice_range, Err};
 ghost use Rattle.std.specs.VecDeque.{deque_capacity};
-ghost use Rattle.block_pool.specs.PoolState.{weighed};
-ghost use Rattle.off_io.specs.Faults.{Rose};
 ghost use Rattle.off_io.specs.Told.{Told};
-ghost use Rattle.pcap_io.specs.Places.{ReadsOn};
 ghost use Rattle.pcap_io.specs.Reading.{GivesBody};
 ghost use Rattle.pcap_io.specs.Readers.{place_of, source_of, SameLoan};
 ghost use Rattle.records.specs.Data.{GivesData, GivesFrame, data_of};
-ghost use Rattle.records.specs.Laid.{MarkedFrom, most_read, most_short};
+ghost use Rattle.records.specs.Laid.{most_read, most_short};
 ghost use Rattle.offload_model.specs.Need.{data_blocks};
 ghost use Rattle.offload_model.specs.Laws.{InBytes};
+ghost use Rattle.records.specs.Bodies.{AreReadInto, HasBytes, IsReadInto, ReadsBody};
 
 use off_io::Source;
 use pcap_io::{CaptureReader, InFault};
@@ -38,12 +36,9 @@ fn read_block<S: Source>(
         (GivesBody (place_of reader.old) result (slice_range block.new.bytes from to)) }
     ensures size { length (slice_range block.new.bytes from to) + from ≡ to }
     ensures in_bytes { InBytes (slice_range block.new.bytes from to) }
-    ensures mark { block.new.mark ≡ block.old.mark }
-    ensures named { block.new.block ≡ block.old.block }
-    ensures place { OnOk result (ReadsOn (place_of reader.old) (place_of reader.new) (to - from)) }
-    ensures later { S.faults (source_of reader.old) ≤ S.faults (source_of reader.new) }
-    ensures failed { result ≡ Err InFault.ReadFault → Rose (S.faults (source_of reader.old))
-        (S.faults (source_of reader.new)) }
+    ensures block { IsReadInto block.old block.new }
+    ensures reads { ReadsBody InFault.ReadFault (place_of reader.old) (place_of reader.new) (to - from)
+        (S.faults (source_of reader.old)) (S.faults (source_of reader.new)) result }
 {
     let _ = block.bytes();
     let range = block.range_mut(from, to);
@@ -60,10 +55,8 @@ fn read_ahead<S: Source>(reader: &mut CaptureReader<'_, S>, front: &mut [u8]) ->
     ensures given { Told (S.left (source_of reader.old)) (S.left (source_of reader.new))
         (GivesBody (place_of reader.old) result front.new) }
     ensures front { length front.new ≡ length front.old }
-    ensures place { OnOk result (ReadsOn (place_of reader.old) (place_of reader.new) (length front.old)) }
-    ensures later { S.faults (source_of reader.old) ≤ S.faults (source_of reader.new) }
-    ensures failed { result ≡ Err InFault.ReadFault → Rose (S.faults (source_of reader.old))
-        (S.faults (source_of reader.new)) }
+    ensures reads { ReadsBody InFault.ReadFault (place_of reader.old) (place_of reader.new) (length front.old)
+        (S.faults (source_of reader.old)) (S.faults (source_of reader.new)) result }
 {
     reader.read_body(front)
 }
@@ -76,10 +69,8 @@ fn read_front<S: Source>(reader: &mut CaptureReader<'_, S>, front: &mut [u8]) ->
     ensures given { Told (S.left (source_of reader.old)) (S.left (source_of reader.new))
         (GivesBody (place_of reader.old) result front.new) }
     ensures front { length front.new ≡ length front.old }
-    ensures place { OnOk result (ReadsOn (place_of reader.old) (place_of reader.new) (length front.old)) }
-    ensures later { S.faults (source_of reader.old) ≤ S.faults (source_of reader.new) }
-    ensures failed { result ≡ Err InFault.ReadFault → Rose (S.faults (source_of reader.old))
-        (S.faults (source_of reader.new)) }
+    ensures reads { ReadsBody InFault.ReadFault (place_of reader.old) (place_of reader.new) (length front.old)
+        (S.faults (source_of reader.old)) (S.faults (source_of reader.new)) result }
 {
     if front.is_empty() {
         return Ok(());
@@ -101,15 +92,11 @@ pub(crate) fn read_head<S: Source>(
     ensures same_source { SameLoan reader.old reader.new }
     ensures given { Told (S.left (source_of reader.old)) (S.left (source_of reader.new))
         (GivesFrame (place_of reader.old) front.new len result (block.new ∷ [])) }
-    ensures long { OnOk result (length (data_of 64 len (block.new ∷ [])) ≡ len) }
-    ensures in_bytes { OnOk result (InBytes (data_of 64 len (block.new ∷ []))) }
+    ensures bytes { HasBytes len (data_of 64 len (block.new ∷ [])) result }
     ensures front { length front.new ≡ length front.old }
-    ensures mark { block.new.mark ≡ block.old.mark }
-    ensures named { block.new.block ≡ block.old.block }
-    ensures place { OnOk result (ReadsOn (place_of reader.old) (place_of reader.new) (length front.old + len)) }
-    ensures later { S.faults (source_of reader.old) ≤ S.faults (source_of reader.new) }
-    ensures failed { result ≡ Err InFault.ReadFault → Rose (S.faults (source_of reader.old))
-        (S.faults (source_of reader.new)) }
+    ensures block { IsReadInto block.old block.new }
+    ensures reads { ReadsBody InFault.ReadFault (place_of reader.old) (place_of reader.new) (length front.old + len)
+        (S.faults (source_of reader.old)) (S.faults (source_of reader.new)) result }
 {
     match read_front(reader, front) {
         Ok(()) => {}
@@ -129,16 +116,11 @@ fn read_blocks<S: Source>(
     ensures same_source { SameLoan reader.old reader.new }
     ensures given { Told (S.left (source_of reader.old)) (S.left (source_of reader.new))
         (GivesData (place_of reader.old) size result hold.new.items) }
-    ensures long { OnOk result (length (data_of 0 size hold.new.items) ≡ size) }
-    ensures in_bytes { OnOk result (InBytes (data_of 0 size hold.new.items)) }
-    ensures marks { (k : ℕ) → MarkedFrom k hold.old.items → MarkedFrom k hold.new.items }
-    ensures named { (h : ℕ → ℕ) → weighed h hold.new.items ≡ weighed h hold.old.items }
-    ensures size { length hold.new.items ≡ length hold.old.items }
+    ensures bytes { HasBytes size (data_of 0 size hold.new.items) result }
+    ensures blocks { AreReadInto hold.old.items hold.new.items }
     ensures capacity { deque_capacity hold.new ≡ deque_capacity hold.old }
-    ensures place { OnOk result (ReadsOn (place_of reader.old) (place_of reader.new) size) }
-    ensures later { S.faults (source_of reader.old) ≤ S.faults (source_of reader.new) }
-    ensures failed { result ≡ Err InFault.ReadFault → Rose (S.faults (source_of reader.old))
-        (S.faults (source_of reader.new)) }
+    ensures reads { ReadsBody InFault.ReadFault (place_of reader.old) (place_of reader.new) size
+        (S.faults (source_of reader.old)) (S.faults (source_of reader.new)) result }
 {
     let mut left = size;
     for i in 0..hold.len() {
@@ -167,19 +149,13 @@ pub(crate) fn read_frame<S: Source>(
     ensures same_source { SameLoan reader.old reader.new }
     ensures given { Told (S.left (source_of reader.old)) (S.left (source_of reader.new))
         (GivesFrame (place_of reader.old) front.new len result (first.new ∷ hold.new.items)) }
-    ensures long { OnOk result (length (data_of 64 len (first.new ∷ hold.new.items)) ≡ len) }
-    ensures in_bytes { OnOk result (InBytes (data_of 64 len (first.new ∷ hold.new.items))) }
+    ensures bytes { HasBytes len (data_of 64 len (first.new ∷ hold.new.items)) result }
     ensures front { length front.new ≡ length front.old }
-    ensures mark { first.new.mark ≡ first.old.mark }
-    ensures marks { (k : ℕ) → MarkedFrom k hold.old.items → MarkedFrom k hold.new.items }
-    ensures named { (h : ℕ → ℕ) → h first.new.block + weighed h hold.new.items
-        ≡ h first.old.block + weighed h hold.old.items }
-    ensures size { length hold.new.items ≡ length hold.old.items }
+    ensures first { IsReadInto first.old first.new }
+    ensures blocks { AreReadInto hold.old.items hold.new.items }
     ensures capacity { deque_capacity hold.new ≡ deque_capacity hold.old }
-    ensures place { OnOk result (ReadsOn (place_of reader.old) (place_of reader.new) (length front.old + len)) }
-    ensures later { S.faults (source_of reader.old) ≤ S.faults (source_of reader.new) }
-    ensures failed { result ≡ Err InFault.ReadFault → Rose (S.faults (source_of reader.old))
-        (S.faults (source_of reader.new)) }
+    ensures reads { ReadsBody InFault.ReadFault (place_of reader.old) (place_of reader.new) (length front.old + len)
+        (S.faults (source_of reader.old)) (S.faults (source_of reader.new)) result }
 {
     let size = len as usize;
     let in_head = size.min(BLOCK_SIZE - HEADROOM);

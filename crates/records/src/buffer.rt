@@ -6,6 +6,7 @@ ghost use Rattle.off_io.specs.Faults.{HasCause};
 ghost use Rattle.off_io.specs.Content.{AppendsPrefix};
 ghost use Rattle.frags.specs.PieceList.{piece_bytes};
 ghost use Rattle.skb.specs.SkbState.{buffer_bytes, head_size};
+ghost use Rattle.records.specs.Records.{Writes};
 
 use off_io::{Sink, WriteFault, write_all};
 use skb::Skb;
@@ -27,10 +28,8 @@ pub fn write_buffer<K: Sink>(sink: &mut K, frame: &Skb) -> Result<(), WriteFault
 /// Writes what is behind `at` of a buffer, where that is in its head, slice by slice.
 pub(crate) fn write_from<K: Sink>(sink: &mut K, frame: &Skb, at: usize) -> Result<(), WriteFault>
     requires inside { at ≤ head_size frame.now }
-    ensures ok { OnOk result (Appends (K.held sink.old) (K.held sink.new) (drop at (buffer_bytes frame.now))) }
-    ensures err { OnErr result (AppendsPrefix (K.held sink.old) (K.held sink.new)
-        (drop at (buffer_bytes frame.now))) }
-    ensures cause { HasCause (K.faults sink.old) (K.faults sink.new) result }
+    ensures writes { Writes (K.held sink.old) (K.held sink.new) (K.faults sink.old) (K.faults sink.new)
+        (drop at (buffer_bytes frame.now)) result }
 {
     let head = frame.head();
     write_all(sink, &head[at..])?;
@@ -40,11 +39,8 @@ pub(crate) fn write_from<K: Sink>(sink: &mut K, frame: &Skb, at: usize) -> Resul
 // Writes the pieces behind a buffer's head.
 #[inline(always)]
 fn write_pieces<K: Sink>(sink: &mut K, frame: &Skb) -> Result<(), WriteFault>
-    ensures ok { OnOk result (Appends (K.held sink.old) (K.held sink.new)
-        (flat_map piece_bytes frame.now.rest)) }
-    ensures err { OnErr result (AppendsPrefix (K.held sink.old) (K.held sink.new)
-        (flat_map piece_bytes frame.now.rest)) }
-    ensures cause { HasCause (K.faults sink.old) (K.faults sink.new) result }
+    ensures writes { Writes (K.held sink.old) (K.held sink.new) (K.faults sink.old) (K.faults sink.new)
+        (flat_map piece_bytes frame.now.rest) result }
 {
     for i in 0..frame.count() - 1 {
         write_all(sink, frame.slice(i))?;

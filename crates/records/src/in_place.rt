@@ -11,7 +11,7 @@ ghost use Rattle.gro.specs.Slots.{packet_of, IsHeld, AreHeld};
 ghost use Rattle.gro.specs.Chains.{chain_of, packet_at, run_of};
 ghost use Rattle.gro.specs.Engine.{Knows, KnowsSome, IsChain, AreRuns, runs_of};
 ghost use Rattle.gro.specs.Packets.{headers_size, payloads_behind};
-ghost use Rattle.records.specs.Records.{item_bytes};
+ghost use Rattle.records.specs.Records.{item_bytes, Writes};
 
 use crate::buffer::write_from;
 use crate::record::{Time, both_heads, write_record};
@@ -57,11 +57,8 @@ fn write_payloads<K: Sink>(
     requires low { at ≤ 200 }
     requires there { AllByRecursion (λ (p : Packet). at ≤ length p.frame)
         (map (packet_at (map packet_of packets.now)) (chain_of next.now count first)) }
-    ensures ok { OnOk result (Appends (K.held sink.old) (K.held sink.new)
-        (payloads_behind at (map (packet_at (map packet_of packets.now)) (chain_of next.now count first)))) }
-    ensures err { OnErr result (AppendsPrefix (K.held sink.old) (K.held sink.new)
-        (payloads_behind at (map (packet_at (map packet_of packets.now)) (chain_of next.now count first)))) }
-    ensures cause { HasCause (K.faults sink.old) (K.faults sink.new) result }
+    ensures writes { Writes (K.held sink.old) (K.held sink.new) (K.faults sink.old) (K.faults sink.new)
+        (payloads_behind at (map (packet_at (map packet_of packets.now)) (chain_of next.now count first))) result }
 {
     let mut k = first;
     let mut left = count;
@@ -84,11 +81,8 @@ fn write_alone<K: Sink>(
     requires slot { IsHeld slot.now }
     requires run { Knows run.now (packet_of slot.now) [] }
     requires fits { slot.now.original + off_head2_size < 2 ^ 32 }
-    ensures ok { OnOk result (Appends (K.held sink.old) (K.held sink.new)
-        (item_bytes file.now.order lane (merged_of (packet_of slot.now ∷ [])))) }
-    ensures err { OnErr result (AppendsPrefix (K.held sink.old) (K.held sink.new)
-        (item_bytes file.now.order lane (merged_of (packet_of slot.now ∷ [])))) }
-    ensures cause { HasCause (K.faults sink.old) (K.faults sink.new) result }
+    ensures writes { Writes (K.held sink.old) (K.held sink.new) (K.faults sink.old) (K.faults sink.new)
+        (item_bytes file.now.order lane (merged_of (packet_of slot.now ∷ []))) result }
 {
     let head = run.head(lane, slot);
     let time = Time {
@@ -111,11 +105,8 @@ fn write_merged<K: Sink>(
     requires linked { length packets.now ≤ length next.now }
     requires run { IsChain (map packet_of packets.now) next.now run.now }
     requires several { 1 ≤ run.now.more }
-    ensures ok { OnOk result (Appends (K.held sink.old) (K.held sink.new)
-        (item_bytes file.now.order lane (merged_of (run_of (map packet_of packets.now) next.now run.now)))) }
-    ensures err { OnErr result (AppendsPrefix (K.held sink.old) (K.held sink.new)
-        (item_bytes file.now.order lane (merged_of (run_of (map packet_of packets.now) next.now run.now)))) }
-    ensures cause { HasCause (K.faults sink.old) (K.faults sink.new) result }
+    ensures writes { Writes (K.held sink.old) (K.held sink.new) (K.faults sink.old) (K.faults sink.new)
+        (item_bytes file.now.order lane (merged_of (run_of (map packet_of packets.now) next.now run.now))) result }
 {
     let at = run.headers_len();
     let mut row = [0u8; HEADS + FRONT];

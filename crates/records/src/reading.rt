@@ -9,15 +9,16 @@ ghost use Rattle.off_io.specs.Told.{Told};
 ghost use Rattle.pcap_io.specs.declared.heads.Link.TheVariants.{Ethernet};
 ghost use Rattle.pcap_io.specs.Headers.{is_bad_original};
 ghost use Rattle.pcap_io.specs.declared.place.Place.{Place};
-ghost use Rattle.pcap_io.specs.Places.{IsReady, ReadsOn};
+ghost use Rattle.pcap_io.specs.Places.{IsReady};
 ghost use Rattle.pcap_io.specs.Reading.{GivesHead};
 ghost use Rattle.pcap_io.specs.Readers.{place_of, source_of, SameLoan};
 ghost use Rattle.gro.specs.Slots.{packet_of, count_of};
-ghost use Rattle.records.specs.Laid.{IsInFields, IsLaid, IsRead, most_original, most_read, most_short};
+ghost use Rattle.records.specs.Laid.{IsLaid, IsRead, most_read, most_short};
 ghost use Rattle.records.specs.Reading.{front_size, GivesKept, GivesPacket, GivesRecord, GoesOn, IsStopOf};
 ghost use Rattle.records.specs.Reading.{HasOne, KeepsHead, OfAnswer, OfNew};
-ghost use Rattle.offload_model.specs.Need.{data_blocks, need_of};
+ghost use Rattle.offload_model.specs.Need.{need_of};
 ghost use Rattle.offload_model.specs.Captured.{IsCaptured};
+ghost use Rattle.records.specs.Bodies.{HasRoom, IsBody, Puts, ReadsBody, Spends};
 
 use crate::blocks::{blocks_of, make_packet, make_short, put_back, take_block, take_blocks};
 use crate::body::{read_frame, read_head};
@@ -71,48 +72,23 @@ fn read_packet<S: Source>(
     packets: &mut Packets,
 ) -> Result<u32, Stop>
     requires len { len ≤ most_read }
-    requires whole { head.now.captured ≡ length front.old + len }
-    requires original { head.now.original ≤ most_original }
-    requires body { (place_of reader.old).body ≡ head.now.captured }
+    requires body { IsBody (place_of reader.old) head.now (length front.old) len }
     requires empty { hold.old.items ≡ [] }
     requires capacity { 131 ≤ deque_capacity hold.old }
-    requires home { (need_of len ≤ home pool.old) × (home pool.old ≤ pool.old.made) }
-    requires room { home spares.old + 2 ≤ spares.old.made }
+    requires room { HasRoom (need_of len) pool.old spares.old packets.old }
     requires mark { mark ≤ 65536 }
-    requires place { 1 ≤ packets.old.room }
     ensures same_source { SameLoan reader.old reader.new }
     ensures given { OfAnswer result packets.old packets.new (λ r. Told (S.left (source_of reader.old))
         (S.left (source_of reader.new)) (GivesPacket (place_of reader.old) head.now front.new r)) }
-    ensures place { OnOk result (ReadsOn (place_of reader.old) (place_of reader.new) head.now.captured) }
+    ensures reads { ReadsBody Stop.ReadFault (place_of reader.old) (place_of reader.new) head.now.captured
+        (S.faults (source_of reader.old)) (S.faults (source_of reader.new)) result }
     ensures front { length front.new ≡ length front.old }
-    ensures one { OnOk result (HasOne packets.old packets.new) }
-    ensures none { OnErr result (packets.new ≡ packets.old) }
     ensures begun { result ≢ Err Stop.Lacking }
     ensures blocks { IfOk result (λ r. r ≡ need_of len) }
-    ensures room { packets.old.room ≤ packets.new.room + 1 }
-    ensures laid { OnOk result (OfNew packets.old packets.new (IsLaid mark)) }
-    ensures count { OnOk result (OfNew packets.old packets.new (λ p. count_of p ≡ data_blocks len)) }
-    ensures size { OnOk result (OfNew packets.old packets.new (λ p. length (buffer_bytes p.skb) ≡ len)) }
-    ensures read { OnOk result (OfNew packets.old packets.new IsRead) }
-    ensures in_fields { OnOk result (OfNew packets.old packets.new IsInFields) }
-    ensures number { OnOk result (OfNew packets.old packets.new (λ p. p.number ≡ head.now.number)) }
-    ensures original { OnOk result (OfNew packets.old packets.new (λ p. p.original ≡ head.now.original)) }
-    ensures home { OnOk result (home pool.new + need_of len ≡ home pool.old) }
-    ensures spares { OnOk result (home spares.new ≡ home spares.old + 2) }
-    ensures named { OnOk result (OfNew packets.old packets.new (λ p. (h : ℕ → ℕ) → weighed h pool.new.blocks
-        + weighed_in h p.skb + weighed h spares.new.blocks ≡ weighed h pool.old.blocks + weighed h spares.old.blocks)) }
-    ensures back { OnErr result ((home pool.new ≡ home pool.old) × (home spares.new ≡ home spares.old)) }
-    ensures named_back { OnErr result ((h : ℕ → ℕ) → (weighed h pool.new.blocks ≡ weighed h pool.old.blocks)
-        × (weighed h spares.new.blocks ≡ weighed h spares.old.blocks)) }
-    ensures made { (pool.new.made ≡ pool.old.made) × (spares.new.made ≡ spares.old.made) }
-    ensures taken { OnOk result (pool.new.taken ≡ min (pool.old.taken + need_of len) (2 ^ 64 - 1)) }
-    ensures most { pool.new.taken ≤ pool.old.taken + need_of len }
-    ensures least { pool.old.taken ≤ pool.new.taken }
+    ensures puts { Puts mark len head.now packets.old packets.new result }
+    ensures spends { Spends (need_of len) pool.old pool.new spares.old spares.new packets.old packets.new result }
     ensures empty { hold.new.items ≡ [] }
     ensures capacity { deque_capacity hold.new ≡ deque_capacity hold.old }
-    ensures later { S.faults (source_of reader.old) ≤ S.faults (source_of reader.new) }
-    ensures failed { result ≡ Err Stop.ReadFault → Rose (S.faults (source_of reader.old))
-        (S.faults (source_of reader.new)) }
 {
     let _ = pool.taken();
     let data = blocks_of(len);
@@ -155,43 +131,18 @@ fn read_short<S: Source>(
     packets: &mut Packets,
 ) -> Result<u32, Stop>
     requires short { len ≤ most_short }
-    requires whole { head.now.captured ≡ length front.old + len }
-    requires original { head.now.original ≤ most_original }
-    requires body { (place_of reader.old).body ≡ head.now.captured }
-    requires home { (need_of len ≤ home pool.old) × (home pool.old ≤ pool.old.made) }
-    requires room { home spares.old + 2 ≤ spares.old.made }
-    requires place { 1 ≤ packets.old.room }
+    requires body { IsBody (place_of reader.old) head.now (length front.old) len }
+    requires room { HasRoom (need_of len) pool.old spares.old packets.old }
     ensures same_source { SameLoan reader.old reader.new }
     ensures given { OfAnswer result packets.old packets.new (λ r. Told (S.left (source_of reader.old))
         (S.left (source_of reader.new)) (GivesPacket (place_of reader.old) head.now front.new r)) }
-    ensures place { OnOk result (ReadsOn (place_of reader.old) (place_of reader.new) head.now.captured) }
+    ensures reads { ReadsBody Stop.ReadFault (place_of reader.old) (place_of reader.new) head.now.captured
+        (S.faults (source_of reader.old)) (S.faults (source_of reader.new)) result }
     ensures front { length front.new ≡ length front.old }
-    ensures one { OnOk result (HasOne packets.old packets.new) }
-    ensures none { OnErr result (packets.new ≡ packets.old) }
     ensures begun { result ≢ Err Stop.Lacking }
     ensures blocks { IfOk result (λ r. r ≡ need_of len) }
-    ensures room { packets.old.room ≤ packets.new.room + 1 }
-    ensures laid { OnOk result (OfNew packets.old packets.new (IsLaid mark)) }
-    ensures count { OnOk result (OfNew packets.old packets.new (λ p. count_of p ≡ data_blocks len)) }
-    ensures size { OnOk result (OfNew packets.old packets.new (λ p. length (buffer_bytes p.skb) ≡ len)) }
-    ensures read { OnOk result (OfNew packets.old packets.new IsRead) }
-    ensures in_fields { OnOk result (OfNew packets.old packets.new IsInFields) }
-    ensures number { OnOk result (OfNew packets.old packets.new (λ p. p.number ≡ head.now.number)) }
-    ensures original { OnOk result (OfNew packets.old packets.new (λ p. p.original ≡ head.now.original)) }
-    ensures home { OnOk result (home pool.new + need_of len ≡ home pool.old) }
-    ensures spares { OnOk result (home spares.new ≡ home spares.old + 2) }
-    ensures named { OnOk result (OfNew packets.old packets.new (λ p. (h : ℕ → ℕ) → weighed h pool.new.blocks
-        + weighed_in h p.skb + weighed h spares.new.blocks ≡ weighed h pool.old.blocks + weighed h spares.old.blocks)) }
-    ensures back { OnErr result ((home pool.new ≡ home pool.old) × (home spares.new ≡ home spares.old)) }
-    ensures named_back { OnErr result ((h : ℕ → ℕ) → (weighed h pool.new.blocks ≡ weighed h pool.old.blocks)
-        × (weighed h spares.new.blocks ≡ weighed h spares.old.blocks)) }
-    ensures made { (pool.new.made ≡ pool.old.made) × (spares.new.made ≡ spares.old.made) }
-    ensures taken { OnOk result (pool.new.taken ≡ min (pool.old.taken + need_of len) (2 ^ 64 - 1)) }
-    ensures most { pool.new.taken ≤ pool.old.taken + need_of len }
-    ensures least { pool.old.taken ≤ pool.new.taken }
-    ensures later { S.faults (source_of reader.old) ≤ S.faults (source_of reader.new) }
-    ensures failed { result ≡ Err Stop.ReadFault → Rose (S.faults (source_of reader.old))
-        (S.faults (source_of reader.new)) }
+    ensures puts { Puts mark len head.now packets.old packets.new result }
+    ensures spends { Spends (need_of len) pool.old pool.new spares.old spares.new packets.old packets.new result }
 {
     let _ = pool.taken();
     let mut block = take_block(pool, mark);

@@ -7,7 +7,7 @@ ghost use Rattle.off_io.specs.Content.{AppendsPrefix};
 ghost use Rattle.pcap_io.specs.Capture.{packet};
 ghost use Rattle.skb.specs.SkbState.{buffer_bytes, buffer_size};
 ghost use Rattle.offload_model.specs.Written.{record_bytes};
-ghost use Rattle.records.specs.Records.{headed, heads_of};
+ghost use Rattle.records.specs.Records.{headed, heads_of, Writes};
 
 use crate::write_buffer;
 use off_io::{Sink, WriteFault, write_all};
@@ -42,11 +42,8 @@ fn write_heads<K: Sink>(
     head: Option<OffHead2>,
 ) -> Result<(), WriteFault>
     requires few { (len + off_head2_size < 2 ^ 32) × (original + off_head2_size < 2 ^ 32) }
-    ensures ok { OnOk result (Appends (K.held sink.old) (K.held sink.new)
-        (heads_of file.now.order time.sec time.frac len original head)) }
-    ensures err { OnErr result (AppendsPrefix (K.held sink.old) (K.held sink.new)
-        (heads_of file.now.order time.sec time.frac len original head)) }
-    ensures cause { HasCause (K.faults sink.old) (K.faults sink.new) result }
+    ensures writes { Writes (K.held sink.old) (K.held sink.new) (K.faults sink.old) (K.faults sink.new)
+        (heads_of file.now.order time.sec time.frac len original head) result }
 {
     let Some(head) = head else {
         return write_rec_head(sink, file, time.sec, time.frac, len, original);

@@ -1,5 +1,5 @@
 //! Writes the segments of a merged frame, from where they lie.
-ghost use Rattle.std.specs.Prelude.{◌≡◌, ℕ, ◌+◌, ◌<◌, ◌≤◌, ◌++◌, OnOk, OnErr};
+ghost use Rattle.std.specs.Prelude.{◌≡◌, ◌+◌, ◌<◌, ◌≤◌, ◌++◌, OnOk, OnErr};
 ghost use Rattle.std.specs.Prelude.{drop, length, take};
 ghost use Rattle.std.specs.List.{flat_map, range_with_len};
 ghost use Rattle.std.specs.Io.KnownBytes.{Appends};
@@ -8,7 +8,7 @@ ghost use Rattle.off_io.specs.Content.{AppendsPrefix};
 ghost use Rattle.skb.specs.SkbState.{buffer_bytes};
 ghost use Rattle.segment_rule.specs.Segmentations.{segment_at};
 ghost use Rattle.gso.specs.Places.{IsPayloadPlace, IsPlace, bytes_at, own_at};
-ghost use Rattle.records.specs.Records.{segment_bytes};
+ghost use Rattle.records.specs.Records.{segment_bytes, Writes};
 
 use crate::Time;
 use gso::{Place, Segments};
@@ -28,13 +28,10 @@ fn write_next<K: Sink>(
 ) -> Result<(), WriteFault>
     requires place { IsPlace segments.now.skb place.old }
     requires there { n ≤ place.old.left }
-    ensures ok { OnOk result (Appends (K.held sink.old) (K.held sink.new)
-        (take n (bytes_at segments.now.skb place.old))) }
-    ensures err { OnErr result (AppendsPrefix (K.held sink.old) (K.held sink.new)
-        (take n (bytes_at segments.now.skb place.old))) }
+    ensures writes { Writes (K.held sink.old) (K.held sink.new) (K.faults sink.old) (K.faults sink.new)
+        (take n (bytes_at segments.now.skb place.old)) result }
     ensures behind { OnOk result (IsPlace segments.now.skb place.new
         × (bytes_at segments.now.skb place.new ≡ drop n (bytes_at segments.now.skb place.old))) }
-    ensures cause { HasCause (K.faults sink.old) (K.faults sink.new) result }
 {
     let mut left = n;
     while left > 0 {
@@ -74,13 +71,10 @@ fn write_segment<K: Sink>(
     requires there { i < segments.now.cut.n }
     requires at { IsPayloadPlace segments.now i place.old }
     requires size { length row.old ≡ 16 + segments.now.cut.layout.payload_at }
-    ensures ok { OnOk result (Appends (K.held sink.old) (K.held sink.new)
-        (segment_bytes file.now.order time segments.now i)) }
-    ensures err { OnErr result (AppendsPrefix (K.held sink.old) (K.held sink.new)
-        (segment_bytes file.now.order time segments.now i)) }
+    ensures writes { Writes (K.held sink.old) (K.held sink.new) (K.faults sink.old) (K.faults sink.new)
+        (segment_bytes file.now.order time segments.now i) result }
     ensures next { OnOk result (IsPayloadPlace segments.now (i + 1) place.new) }
     ensures size { length row.new ≡ 16 + segments.now.cut.layout.payload_at }
-    ensures cause { HasCause (K.faults sink.old) (K.faults sink.new) result }
 {
     let n = segments.payload_len(*place);
     let len = (segments.headers_len() + n) as u32;

@@ -1,12 +1,7 @@
 use Rattle.std.proofs.Common.{◌≡◌, ◌<◌, ◌+◌, ◌-◌, ◌*◌, ◌++◌, ℕ, length, arith, refl, ap, ◌∙◌, sym, subst, set, slice_range, length-append}
-use Rattle.std.proofs.lemmas.List.{length-set}
 use Rattle.off_io.specs.Told.{Told}
-use Rattle.pcap_io.specs.Places.{ReadsOn}
-use Rattle.raw_block.specs.Views.{SoleState}
 use Rattle.records.specs.Data.{data_of}
-use Rattle.records.proofs.Laying.{weighed_set}
-use Rattle.records.proofs.Filling.{Filled, filled_none, filled_more, filled_stop, data_zero, data_step, marked_set, short_same, on_none, on_then, bytes_none, bytes_behind}
-use Rattle.offload_model.specs.Laws.{InBytes}
+use Rattle.records.proofs.Filling.{Filled, filled_none, filled_more, filled_stop, data_zero, data_step, into_set, short_same, on_none, on_then, bytes_none, bytes_behind}
 use Rattle.records.proofs.body.read_blocks.Goals as goal
 
 pub loop-i-init : goal.loop-i-init
@@ -19,9 +14,7 @@ loop-i-init g c =
       in_bytes = bytes_none _ zero';
       place = on_none c.args.reader.now.place _ none;
       left = omega arith;
-      marks = λ k h. h;
-      named = λ h. refl;
-      size = refl;
+      blocks = record { marks = λ k h. h; named = λ h. refl; size = refl };
       capacity = refl;
       same = refl;
       later = omega arith;
@@ -36,17 +29,12 @@ returns-in-Err-clause-given g c =
     (omega (arith, c.in-Err.ensures.size, c.min-count.ensures, l.auto)) (short_same c.args.reader.now.place l.reader.place (c.args.size - l.left) i.place) i.told
     c.in-Err.ensures.given
 
-pub returns-in-Err-clause-marks : goal.returns-in-Err-clause-marks
-returns-in-Err-clause-marks g c = λ k h.
+pub returns-in-Err-clause-blocks : goal.returns-in-Err-clause-blocks
+returns-in-Err-clause-blocks g c =
     let l = c.loop-i in
-    marked_set l.i k l.hold.items c.read_block.new.block c.index_mut.result.now (omega (arith, l.invariant.size, c.loop-i-test.true))
-    (c.in-Err.ensures.mark ∙ ap (λ (x : SoleState). x.mark) c.index_mut.ensures.value) (l.invariant.marks k h)
-
-pub returns-in-Err-clause-named : goal.returns-in-Err-clause-named
-returns-in-Err-clause-named g c = λ h.
-    let l = c.loop-i in
-    weighed_set h l.hold.items l.i c.read_block.new.block c.index_mut.result.now (omega (arith, l.invariant.size, c.loop-i-test.true))
-    (c.in-Err.ensures.named ∙ ap (λ (x : SoleState). x.block) c.index_mut.ensures.value) ∙ l.invariant.named h
+    let at = c.index_mut in
+    into_set l.i c.args.hold.now.items l.hold.items c.read_block.new.block at.result.now (omega (arith, l.invariant.blocks.size, c.loop-i-test.true)) at.ensures.value c.in-Err.ensures.block
+    l.invariant.blocks
 
 pub loop-i-preserved : goal.loop-i-preserved
 loop-i-preserved g c =
@@ -56,8 +44,8 @@ loop-i-preserved g c =
     let n : ℕ = c.args.size - l.left in
     let count : ℕ = c.min-count.result in
     let n' : ℕ = c.args.size - (l.left - count) in
-    let at : l.i < length l.hold.items = omega (arith, i.size, c.loop-i-test.true) in
-    let some : n ≡ 2048 * l.i = omega (arith, i.left, i.size, at, c.requires.blocks) in
+    let at : l.i < length l.hold.items = omega (arith, i.blocks.size, c.loop-i-test.true) in
+    let some : n ≡ 2048 * l.i = omega (arith, i.left, i.blocks.size, at, c.requires.blocks) in
     let whole : n' ≡ n + count = omega (arith, i.left, c.min-count.ensures) in
     let step = data_step l.i n count l.hold.items s at some (omega (arith, c.min-count.ensures)) in
     let step' : data_of 0 n' (set l.hold.items l.i s) ≡ data_of 0 n l.hold.items ++ slice_range s.bytes 0 count = ap (λ (k : ℕ). data_of 0 k (set l.hold.items l.i s)) whole ∙ step in
@@ -65,38 +53,17 @@ loop-i-preserved g c =
       told = filled_more _ _ _ l.reader.place n n' l.hold.items (set l.hold.items l.i s) (slice_range s.bytes 0 count) step' i.told c.in-Ok.ensures.given;
       long = omega (arith, ap length step', length-append (data_of 0 n l.hold.items) (slice_range s.bytes 0 count), i.long, c.in-Ok.ensures.size, whole);
       in_bytes = bytes_behind _ _ _ step' i.in_bytes c.in-Ok.ensures.in_bytes;
-      place = on_then c.args.reader.now.place l.reader.place c.read_block.new.reader.place n (count - 0) n' (omega (arith, whole)) i.place c.in-Ok.ensures.place;
+      place = on_then c.args.reader.now.place l.reader.place c.read_block.new.reader.place n (count - 0) n' (omega (arith, whole)) i.place c.in-Ok.ensures.reads.place;
       left = omega (arith, i.left, c.min-count.ensures);
-      marks = λ k h. marked_set l.i k l.hold.items s c.index_mut.result.now at (c.in-Ok.ensures.mark ∙ ap (λ (x : SoleState). x.mark) c.index_mut.ensures.value) (i.marks k h);
-      named = λ h. weighed_set h l.hold.items l.i s c.index_mut.result.now at
-          (c.in-Ok.ensures.named ∙ ap (λ (x : SoleState). x.block) c.index_mut.ensures.value) ∙ i.named h;
-      size = length-set l.hold.items l.i s ∙ i.size;
+      blocks = into_set l.i c.args.hold.now.items l.hold.items s c.index_mut.result.now at c.index_mut.ensures.value c.in-Ok.ensures.block i.blocks;
       capacity = i.capacity;
       same = c.in-Ok.ensures.same_source ∙ i.same;
-      later = omega (arith, i.later, c.in-Ok.ensures.later);
+      later = omega (arith, i.later, c.in-Ok.ensures.reads.later);
     }
 
 -- all of it, where no block is left
 pub returns-clause-given : goal.returns-clause-given
 returns-clause-given g c =
     let l = c.loop-i in
-    let all : c.args.size - l.left ≡ c.args.size = omega (arith, l.invariant.left, l.invariant.size, c.loop-i-test.false, c.requires.blocks) in
+    let all : c.args.size - l.left ≡ c.args.size = omega (arith, l.invariant.left, l.invariant.blocks.size, c.loop-i-test.false, c.requires.blocks) in
     subst (λ (k : ℕ). Told (g.S.Source.left c.args.reader.now.source.now) (g.S.Source.left l.reader.source.now) (Filled k l.hold.items)) all l.invariant.told
-
-pub returns-clause-long : goal.returns-clause-long
-returns-clause-long g c =
-    let l = c.loop-i in
-    let all : c.args.size - l.left ≡ c.args.size = omega (arith, l.invariant.left, l.invariant.size, c.loop-i-test.false, c.requires.blocks) in
-    ap (λ (k : ℕ). length (data_of 0 k l.hold.items)) (sym all) ∙ l.invariant.long ∙ all
-
-pub returns-clause-in_bytes : goal.returns-clause-in_bytes
-returns-clause-in_bytes g c =
-    let l = c.loop-i in
-    let all : c.args.size - l.left ≡ c.args.size = omega (arith, l.invariant.left, l.invariant.size, c.loop-i-test.false, c.requires.blocks) in
-    subst (λ (k : ℕ). InBytes (data_of 0 k l.hold.items)) all l.invariant.in_bytes
-
-pub returns-clause-place : goal.returns-clause-place
-returns-clause-place g c =
-    let l = c.loop-i in
-    let all : c.args.size - l.left ≡ c.args.size = omega (arith, l.invariant.left, l.invariant.size, c.loop-i-test.false, c.requires.blocks) in
-    subst (ReadsOn c.args.reader.now.place l.reader.place) all l.invariant.place

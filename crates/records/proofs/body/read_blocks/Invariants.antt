@@ -1,10 +1,9 @@
-use Rattle.std.proofs.Common.{◌≡◌, ◌-◌, ◌*◌, ◌≤◌, ℕ, length}
+use Rattle.std.proofs.Common.{◌≡◌, ◌-◌, ◌*◌, ◌≤◌, length}
 use Rattle.std.specs.VecDeque.{deque_capacity}
-use Rattle.block_pool.specs.PoolState.{weighed}
 use Rattle.off_io.specs.Told.{Told}
 use Rattle.pcap_io.specs.Places.{ReadsOn}
+use Rattle.records.specs.Bodies.{AreReadInto}
 use Rattle.records.specs.Data.{data_of}
-use Rattle.records.specs.Laid.{MarkedFrom}
 use Rattle.records.proofs.Filling.{Filled}
 use Rattle.offload_model.specs.Laws.{InBytes}
 use Rattle.records.proofs.body.read_blocks.Given as goal
@@ -16,9 +15,7 @@ invariant-loop-i g l = record {
   in_bytes : InBytes (data_of 0 (l.size - l.left) l.hold.items);
   place : ReadsOn l.fn.reader.place l.reader.place (l.size - l.left);
   left : l.left ≡ l.size - 2048 * l.i;
-  marks : (k : ℕ) → MarkedFrom k l.fn.hold.items → MarkedFrom k l.hold.items;
-  named : (h : ℕ → ℕ) → weighed h l.hold.items ≡ weighed h l.fn.hold.items;
-  size : length l.hold.items ≡ length l.fn.hold.items;
+  blocks : AreReadInto l.fn.hold.items l.hold.items;
   capacity : deque_capacity l.hold ≡ deque_capacity l.fn.hold;
   same : l.reader.source.ghost_name ≡ l.fn.reader.source.ghost_name;
   later : g.S.Source.faults l.fn.reader.source.now ≤ g.S.Source.faults l.reader.source.now;

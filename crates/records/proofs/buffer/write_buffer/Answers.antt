@@ -21,4 +21,4 @@ returns-clause-err g c =
     let s = c.args.frame.now in
     then_err c.write_pieces.result _ _ _ (head_bytes s) (bytes_of s.rest) (subst (Appends _ _) c.head.ensures.bytes c.in_ok-write_all.ensures.ok)
     (subst (λ (z : List ℕ). OnErr c.write_pieces.result (AppendsPrefix (g.K.Sink.held c.write_all.new.sink) (g.K.Sink.held c.write_pieces.new.sink) z)) (pieces_are s.rest)
-    c.write_pieces.ensures.err)
+    c.write_pieces.ensures.writes.err)

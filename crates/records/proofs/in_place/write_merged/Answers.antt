@@ -1,17 +1,15 @@
 use Rattle.std.proofs.Common.{◌+◌, ◌≤◌, ℕ, List, length, map, sym, ap, ◌∙◌, subst, arith}
-use Rattle.std.specs.Prelude.{OnOk, OnErr}
 use Rattle.std.specs.List.{AllByRecursion}
-use Rattle.std.specs.Io.KnownBytes.{Appends}
 use Rattle.std.proofs.lemmas.List.{length-take-le}
 use Rattle.std.proofs.lemmas.Result.{err_from_is_err_and}
 use Rattle.off_io.specs.Content.{AppendsPrefix}
 use Rattle.off_io.proofs.Appending.{prefix_more}
-use Rattle.off_io.proofs.Owing.{then_ok, then_err}
 use Rattle.pcap_io.specs.Capture.{Packet}
 use Rattle.gro.specs.Slots.{packet_of}
 use Rattle.gro.specs.Chains.{chain_of, packet_at}
 use Rattle.gro.specs.Packets.{payloads_behind}
 use Rattle.records.proofs.InPlace.{inside, is_slot, knows_some, few, low, all_below, all_there, record_by}
+use Rattle.records.proofs.Writing.{stopped, written}
 use Rattle.records.proofs.in_place.write_merged.Goals as goal
 
 pub overflow_add-row : goal.overflow_add-row
@@ -58,8 +56,8 @@ write_payloads-requires-clause-there g c =
     subst (λ (z : ℕ). AllByRecursion (λ (p : Packet). z ≤ length p.frame) (map (packet_at ps) (chain_of c.args.next.now (run.more + 1) run.first))) (sym c.headers_len-at.ensures.size)
     (all_there c.args.packets.now c.args.next.now run c.requires.run c.requires.several)
 
-pub returns-in_err-write_all-clause-err : goal.returns-in_err-write_all-clause-err
-returns-in_err-write_all-clause-err g c =
+pub returns-in_err-write_all : goal.returns-in_err-write_all
+returns-in_err-write_all g c =
     let p = err_from_is_err_and c.from_residual.result c.from_residual.ensures.1 in
     let packets = c.args.packets.now in
     let next = c.args.next.now in
@@ -69,10 +67,11 @@ returns-in_err-write_all-clause-err g c =
     let behind : List ℕ = payloads_behind at (map (packet_at (map packet_of packets)) (chain_of next (run.more + 1) run.first)) in
     let is = record_by packets next run c.requires.run c.index-packets-run.result c.index-packets-run.is c.args.file.now.order c.args.lane row at c.headers_len-at.ensures.size
     c.put_row.ensures.row in
-    rw p.1 (subst (AppendsPrefix _ _) is (prefix_more _ _ row behind c.in_err-write_all.ensures.err))
+    let e = c.in_err-write_all.ensures in
+    record { writes = stopped c.from_residual.result _ _ _ _ _ _ p.0 _ p.1 (subst (AppendsPrefix _ _) is (prefix_more _ _ row behind e.err)) (omega arith) e.cause }
 
-pub returns-clause-ok : goal.returns-clause-ok
-returns-clause-ok g c =
+pub returns : goal.returns
+returns g c =
     let packets = c.args.packets.now in
     let next = c.args.next.now in
     let run = c.args.run.now in
@@ -81,18 +80,5 @@ returns-clause-ok g c =
     let behind : List ℕ = payloads_behind at (map (packet_at (map packet_of packets)) (chain_of next (run.more + 1) run.first)) in
     let is = record_by packets next run c.requires.run c.index-packets-run.result c.index-packets-run.is c.args.file.now.order c.args.lane row at c.headers_len-at.ensures.size
     c.put_row.ensures.row in
-    subst (λ (z : List ℕ). OnOk c.write_payloads.result (Appends (g.K.Sink.held c.args.sink.now) (g.K.Sink.held c.write_payloads.new.sink) z)) is
-    (then_ok c.write_payloads.result _ _ _ row behind c.in_ok-write_all.ensures.ok c.write_payloads.ensures.ok)
-
-pub returns-clause-err : goal.returns-clause-err
-returns-clause-err g c =
-    let packets = c.args.packets.now in
-    let next = c.args.next.now in
-    let run = c.args.run.now in
-    let at = c.headers_len-at.result in
-    let row : List ℕ = c.put_row.new.row in
-    let behind : List ℕ = payloads_behind at (map (packet_at (map packet_of packets)) (chain_of next (run.more + 1) run.first)) in
-    let is = record_by packets next run c.requires.run c.index-packets-run.result c.index-packets-run.is c.args.file.now.order c.args.lane row at c.headers_len-at.ensures.size
-    c.put_row.ensures.row in
-    subst (λ (z : List ℕ). OnErr c.write_payloads.result (AppendsPrefix (g.K.Sink.held c.args.sink.now) (g.K.Sink.held c.write_payloads.new.sink) z)) is
-    (then_err c.write_payloads.result _ _ _ row behind c.in_ok-write_all.ensures.ok c.write_payloads.ensures.err)
+    let e = c.in_ok-write_all.ensures in
+    record { writes = written c.write_payloads.result _ _ _ _ _ _ _ row behind is e.ok e.cause.later c.write_payloads.ensures.writes }

@@ -11,9 +11,9 @@ use Rattle.records.proofs.in_place.write_run.Goals as goal
 pub returns-then-run-eq0-clause-ok : goal.returns-then-run-eq0-clause-ok
 returns-then-run-eq0-clause-ok g c =
     subst (λ (z : List Packet). OnOk c.write_alone.result (Appends (g.K.Sink.held c.args.sink.now) (g.K.Sink.held c.write_alone.new.sink) (item_bytes c.args.file.now.order c.args.lane (merged_of z))))
-    (alone_is c.args.packets.now c.args.next.now c.args.run.now c.requires.run c.index-packets-run.result c.index-packets-run.is c.if-run-eq0.true) c.write_alone.ensures.ok
+    (alone_is c.args.packets.now c.args.next.now c.args.run.now c.requires.run c.index-packets-run.result c.index-packets-run.is c.if-run-eq0.true) c.write_alone.ensures.writes.ok
 
 pub returns-then-run-eq0-clause-err : goal.returns-then-run-eq0-clause-err
 returns-then-run-eq0-clause-err g c =
     subst (λ (z : List Packet). OnErr c.write_alone.result (AppendsPrefix (g.K.Sink.held c.args.sink.now) (g.K.Sink.held c.write_alone.new.sink) (item_bytes c.args.file.now.order c.args.lane (merged_of z))))
-    (alone_is c.args.packets.now c.args.next.now c.args.run.now c.requires.run c.index-packets-run.result c.index-packets-run.is c.if-run-eq0.true) c.write_alone.ensures.err
+    (alone_is c.args.packets.now c.args.next.now c.args.run.now c.requires.run c.index-packets-run.result c.index-packets-run.is c.if-run-eq0.true) c.write_alone.ensures.writes.err

@@ -7,4 +7,4 @@ pub returns-clause-given : goal.returns-clause-given
 returns-clause-given g c = λ at used blocks keeps fits.
     let r = c.read_packet in
     kept_given r.result _ _ at c.args.reader.now.place r.new.reader.place used blocks r.new.front c.args.head.now c.args.packets.now r.new.packets keeps
-    (omega (arith, fits, c.requires.front, ap front_size keeps.enters.link)) r.ensures.place r.ensures.given
+    (omega (arith, fits, c.requires.front, ap front_size keeps.enters.link)) r.ensures.reads.place r.ensures.given

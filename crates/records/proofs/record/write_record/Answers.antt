@@ -15,7 +15,7 @@ returns-in_err-write_heads-clause-err g c =
     let t = c.args.time in
     let frame : List ℕ = buffer_bytes c.args.frame.now in
     rw p.1 (subst (AppendsPrefix _ _) (record_is c.args.file.now.order t.sec t.frac _ c.args.original c.args.head frame c.len.ensures.bytes)
-    (prefix_more _ _ _ frame c.in_err-write_heads.ensures.err))
+    (prefix_more _ _ _ frame c.in_err-write_heads.ensures.writes.err))
 
 pub returns-clause-ok : goal.returns-clause-ok
 returns-clause-ok g c =
@@ -23,7 +23,7 @@ returns-clause-ok g c =
     let frame : List ℕ = buffer_bytes c.args.frame.now in
     subst (λ (z : List ℕ). OnOk c.write_buffer.result (Appends (g.K.Sink.held c.args.sink.now) (g.K.Sink.held c.write_buffer.new.sink) z))
     (record_is c.args.file.now.order t.sec t.frac _ c.args.original c.args.head frame c.len.ensures.bytes)
-    (then_ok c.write_buffer.result _ _ _ _ frame c.in_ok-write_heads.ensures.ok c.write_buffer.ensures.ok)
+    (then_ok c.write_buffer.result _ _ _ _ frame c.in_ok-write_heads.ensures.writes.ok c.write_buffer.ensures.ok)
 
 pub returns-clause-err : goal.returns-clause-err
 returns-clause-err g c =
@@ -31,4 +31,4 @@ returns-clause-err g c =
     let frame : List ℕ = buffer_bytes c.args.frame.now in
     subst (λ (z : List ℕ). OnErr c.write_buffer.result (AppendsPrefix (g.K.Sink.held c.args.sink.now) (g.K.Sink.held c.write_buffer.new.sink) z))
     (record_is c.args.file.now.order t.sec t.frac _ c.args.original c.args.head frame c.len.ensures.bytes)
-    (then_err c.write_buffer.result _ _ _ _ frame c.in_ok-write_heads.ensures.ok c.write_buffer.ensures.err)
+    (then_err c.write_buffer.result _ _ _ _ frame c.in_ok-write_heads.ensures.writes.ok c.write_buffer.ensures.err)

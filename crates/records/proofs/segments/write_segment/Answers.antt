@@ -1,12 +1,10 @@
-use Rattle.std.proofs.Common.{◌≡◌, ◌+◌, ℕ, List, length, take, ap, subst, arith, rules}
-use Rattle.std.specs.Prelude.{OnOk, OnErr}
-use Rattle.std.specs.Io.KnownBytes.{Appends}
+use Rattle.std.proofs.Common.{◌≡◌, ◌+◌, ℕ, length, take, ap, subst, arith, rules}
 use Rattle.std.proofs.lemmas.Result.{err_from_is_err_and}
 use Rattle.off_io.specs.Content.{AppendsPrefix}
 use Rattle.off_io.proofs.Appending.{prefix_more}
-use Rattle.off_io.proofs.Owing.{then_ok, then_err}
 use Rattle.gso.specs.Places.{bytes_at}
 use Rattle.records.proofs.Stretches.{record_is, short, next_by}
+use Rattle.records.proofs.Writing.{stopped, written}
 use Rattle.records.proofs.segments.write_segment.Goals as goal
 
 pub overflow_add-len : goal.overflow_add-len
@@ -27,8 +25,8 @@ overflow_cast-len g c =
           c.headers_len.ensures.short,
     )
 
-pub returns-in_err-write_all-clause-err : goal.returns-in_err-write_all-clause-err
-returns-in_err-write_all-clause-err g c =
+pub returns-in_err-write_all-clause-writes : goal.returns-in_err-write_all-clause-writes
+returns-in_err-write_all-clause-writes g c =
     let p = err_from_is_err_and c.from_residual.result c.from_residual.ensures.1 in
     let s = c.args.segments.now in
     let n = c.payload_len-n.result in
@@ -36,29 +34,20 @@ returns-in_err-write_all-clause-err g c =
     let head : length h.result ≡ 16 = search rules in
     let is = record_is c.args.file.now.order c.args.time s c.args.i n (c.headers_len.result + n) c.args.place.now c.put_row.new.row h.result c.requires.at c.payload_len-n.ensures.len h.ensures.bytes
     c.put_row.ensures.row c.put_row.ensures.size head (ap (λ (z : ℕ). z + n) c.headers_len.ensures.len) in
-    rw p.1 (subst (AppendsPrefix _ _) is (prefix_more _ _ c.put_row.new.row (take n (bytes_at s.skb c.args.place.now)) c.in_err-write_all.ensures.err))
+    let e = c.in_err-write_all.ensures in
+    let err = subst (AppendsPrefix _ _) is (prefix_more _ _ c.put_row.new.row (take n (bytes_at s.skb c.args.place.now)) e.err) in
+    stopped c.from_residual.result _ _ _ _ _ _ p.0 _ p.1 err (omega arith) e.cause
 
-pub returns-clause-ok : goal.returns-clause-ok
-returns-clause-ok g c =
+pub returns-clause-writes : goal.returns-clause-writes
+returns-clause-writes g c =
     let s = c.args.segments.now in
     let n = c.payload_len-n.result in
     let h = c.record_header-header in
     let head : length h.result ≡ 16 = search rules in
     let is = record_is c.args.file.now.order c.args.time s c.args.i n (c.headers_len.result + n) c.args.place.now c.put_row.new.row h.result c.requires.at c.payload_len-n.ensures.len h.ensures.bytes
     c.put_row.ensures.row c.put_row.ensures.size head (ap (λ (z : ℕ). z + n) c.headers_len.ensures.len) in
-    subst (λ (z : List ℕ). OnOk c.write_next.result (Appends (g.K.Sink.held c.args.sink.now) (g.K.Sink.held c.write_next.new.sink) z)) is
-    (then_ok c.write_next.result _ _ _ c.put_row.new.row (take n (bytes_at s.skb c.args.place.now)) c.in_ok-write_all.ensures.ok c.write_next.ensures.ok)
-
-pub returns-clause-err : goal.returns-clause-err
-returns-clause-err g c =
-    let s = c.args.segments.now in
-    let n = c.payload_len-n.result in
-    let h = c.record_header-header in
-    let head : length h.result ≡ 16 = search rules in
-    let is = record_is c.args.file.now.order c.args.time s c.args.i n (c.headers_len.result + n) c.args.place.now c.put_row.new.row h.result c.requires.at c.payload_len-n.ensures.len h.ensures.bytes
-    c.put_row.ensures.row c.put_row.ensures.size head (ap (λ (z : ℕ). z + n) c.headers_len.ensures.len) in
-    subst (λ (z : List ℕ). OnErr c.write_next.result (AppendsPrefix (g.K.Sink.held c.args.sink.now) (g.K.Sink.held c.write_next.new.sink) z)) is
-    (then_err c.write_next.result _ _ _ c.put_row.new.row (take n (bytes_at s.skb c.args.place.now)) c.in_ok-write_all.ensures.ok c.write_next.ensures.err)
+    let e = c.in_ok-write_all.ensures in
+    written c.write_next.result _ _ _ _ _ _ _ c.put_row.new.row (take n (bytes_at s.skb c.args.place.now)) is e.ok e.cause.later c.write_next.ensures.writes
 
 pub returns-clause-next : goal.returns-clause-next
 returns-clause-next g c =
