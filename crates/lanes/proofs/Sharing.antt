@@ -14,6 +14,7 @@ use Rattle.gro.specs.declared.slot.Slot.{Slot as Held}
 use Rattle.gro.specs.Slots.{packet_of, of_packet, of_packets, count_of, counts_of, weighed_slots, AreAlone}
 use Rattle.gro.proofs.Weights.{weighed_append}
 use Rattle.lanes.specs.declared.lane.QueueLane.{QueueLane}
+use Rattle.lanes.specs.Filling.{SharesOut}
 use Rattle.lanes.specs.Lanes.{of_queue, of_queues, counts_of_queues, weighed_queues, IsIdleQueue}
 use Rattle.lanes.specs.Packets.{RiseFrom}
 use Rattle.lanes.specs.Sharing.{EachFrom, EachStays, in_queue, IsSharing, IsSum, TakesAll, TakesIn, StaysAs}
@@ -57,7 +58,7 @@ takes n every rest p q l m e t h = record {
       ∙ h.packets;
 }
 
-pub share_turn : (n : Spread) (every rest : List Held) (p : Held) (k i : ℕ) (ls : List QueueLane) (d m : QueueLane) → queue_for n p ≡ k + i → i < length ls
+share_turn : (n : Spread) (every rest : List Held) (p : Held) (k i : ℕ) (ls : List QueueLane) (d m : QueueLane) → queue_for n p ≡ k + i → i < length ls
     → TakesIn (get_or ls i d) p m → EachFrom (IsSharing n every (p ∷ rest)) k ls → EachFrom (IsSharing n every rest) k (set ls i m)
 share_turn n every rest p k i [] d m e lt t h = absurd (omega (arith, lt))
 share_turn n every rest p k zero (l ∷ ls) d m e lt t h =
@@ -72,7 +73,7 @@ same_lane n every rest q l m s h = record {
   packets = ap (λ z. z ++ in_queue n q rest) s.packets ∙ h.packets;
 }
 
-pub share_stop : (n : Spread) (every rest : List Held) (k i : ℕ) (ls : List QueueLane) (d m : QueueLane) → i < length ls
+share_stop : (n : Spread) (every rest : List Held) (k i : ℕ) (ls : List QueueLane) (d m : QueueLane) → i < length ls
     → StaysAs (get_or ls i d) m → EachFrom (IsSharing n every rest) k ls → EachFrom (IsSharing n every rest) k (set ls i m)
 share_stop n every rest k i [] d m lt t h = absurd (omega (arith, lt))
 share_stop n every rest k zero (l ∷ ls) d m lt t h = (same_lane n every rest k l m t h.0, h.1)
@@ -93,25 +94,25 @@ takes_account l m p h t i =
     let s = packets_append l.packets.items (p ∷ []) t i in
     (omega (arith, ps, s), omega (arith, qs, s))
 
-pub turn_account : (i : ℕ) (ls : List QueueLane) (d m : QueueLane) (p : Held) → i < length ls → TakesIn (get_or ls i d) p m → (t : Tests) (j : ℕ)
+turn_account : (i : ℕ) (ls : List QueueLane) (d m : QueueLane) (p : Held) → i < length ls → TakesIn (get_or ls i d) p m → (t : Tests) (j : ℕ)
     → ((of_queues (set ls i m)).held t j ≡ (of_queues ls).held t j + (of_packet p).held t j) × ((of_queues (set ls i m)).homes t.blocks j ≡ (of_queues ls).homes t.blocks j
     + (of_packet p).homes t.blocks j)
 turn_account i [] d m p lt h t j = absurd (omega (arith, lt))
 turn_account zero (l ∷ ls) d m p lt h t j = let a = takes_account l m p h t j in (omega (arith, a.0), omega (arith, a.1))
 turn_account (suc i) (l ∷ ls) d m p lt h t j = let a = turn_account i ls d m p (omega (arith, lt)) h t j in (omega (arith, a.0), omega (arith, a.1))
 
-pub turn_counts : (i : ℕ) (ls : List QueueLane) (d m : QueueLane) (p : Held) → i < length ls → TakesIn (get_or ls i d) p m → counts_of_queues (set ls i m) ≡ counts_of_queues ls + count_of p
+turn_counts : (i : ℕ) (ls : List QueueLane) (d m : QueueLane) (p : Held) → i < length ls → TakesIn (get_or ls i d) p m → counts_of_queues (set ls i m) ≡ counts_of_queues ls + count_of p
 turn_counts i [] d m p lt h = absurd (omega (arith, lt))
 turn_counts zero (l ∷ ls) d m p lt h = omega (arith, ap counts_of h.packets, counts_append l.packets.items (p ∷ []))
 turn_counts (suc i) (l ∷ ls) d m p lt h = omega (arith, turn_counts i ls d m p (omega (arith, lt)) h)
 
-pub turn_weighed : (w : ℕ → ℕ) (i : ℕ) (ls : List QueueLane) (d m : QueueLane) (p : Held) → i < length ls → TakesIn (get_or ls i d) p m
+turn_weighed : (w : ℕ → ℕ) (i : ℕ) (ls : List QueueLane) (d m : QueueLane) (p : Held) → i < length ls → TakesIn (get_or ls i d) p m
     → weighed_queues w (set ls i m) ≡ weighed_queues w ls + weighed_in w p.skb
 turn_weighed w i [] d m p lt h = absurd (omega (arith, lt))
 turn_weighed w zero (l ∷ ls) d m p lt h = omega (arith, ap (weighed_slots w) h.packets, weighed_append w l.packets.items (p ∷ []))
 turn_weighed w (suc i) (l ∷ ls) d m p lt h = omega (arith, turn_weighed w i ls d m p (omega (arith, lt)) h)
 
-pub stop_account : (i : ℕ) (ls : List QueueLane) (d m : QueueLane) → i < length ls → StaysAs (get_or ls i d) m → (t : Tests) (j : ℕ)
+stop_account : (i : ℕ) (ls : List QueueLane) (d m : QueueLane) → i < length ls → StaysAs (get_or ls i d) m → (t : Tests) (j : ℕ)
     → ((of_queues (set ls i m)).held t j ≡ (of_queues ls).held t j) × ((of_queues (set ls i m)).homes t.blocks j ≡ (of_queues ls).homes t.blocks j)
 stop_account i [] d m lt h t j = absurd (omega (arith, lt))
 stop_account zero (l ∷ ls) d m lt h t j =
@@ -120,12 +121,12 @@ stop_account zero (l ∷ ls) d m lt h t j =
     (omega (arith, ps), omega (arith, qs))
 stop_account (suc i) (l ∷ ls) d m lt h t j = let a = stop_account i ls d m (omega (arith, lt)) h t j in (omega (arith, a.0), omega (arith, a.1))
 
-pub stop_counts : (i : ℕ) (ls : List QueueLane) (d m : QueueLane) → i < length ls → StaysAs (get_or ls i d) m → counts_of_queues (set ls i m) ≡ counts_of_queues ls
+stop_counts : (i : ℕ) (ls : List QueueLane) (d m : QueueLane) → i < length ls → StaysAs (get_or ls i d) m → counts_of_queues (set ls i m) ≡ counts_of_queues ls
 stop_counts i [] d m lt h = absurd (omega (arith, lt))
 stop_counts zero (l ∷ ls) d m lt h = omega (arith, ap counts_of h.packets)
 stop_counts (suc i) (l ∷ ls) d m lt h = omega (arith, stop_counts i ls d m (omega (arith, lt)) h)
 
-pub stop_weighed : (w : ℕ → ℕ) (i : ℕ) (ls : List QueueLane) (d m : QueueLane) → i < length ls → StaysAs (get_or ls i d) m → weighed_queues w (set ls i m) ≡ weighed_queues w ls
+stop_weighed : (w : ℕ → ℕ) (i : ℕ) (ls : List QueueLane) (d m : QueueLane) → i < length ls → StaysAs (get_or ls i d) m → weighed_queues w (set ls i m) ≡ weighed_queues w ls
 stop_weighed w i [] d m lt h = absurd (omega (arith, lt))
 stop_weighed w zero (l ∷ ls) d m lt h = omega (arith, ap (weighed_slots w) h.packets)
 stop_weighed w (suc i) (l ∷ ls) d m lt h = omega (arith, stop_weighed w i ls d m (omega (arith, lt)) h)
@@ -136,7 +137,7 @@ none_yet : (xs ys : List Held) → xs ++ ys ≡ ys → xs ≡ []
 none_yet [] ys e = refl
 none_yet (x ∷ xs) ys e = absurd (omega (arith, ap length e, length-append (x ∷ xs) ys))
 
-pub empty_account : (n : Spread) (every : List Held) (k : ℕ) (ls : List QueueLane) → EachFrom (IsSharing n every every) k ls → (t : Tests) (m : ℕ)
+empty_account : (n : Spread) (every : List Held) (k : ℕ) (ls : List QueueLane) → EachFrom (IsSharing n every every) k ls → (t : Tests) (m : ℕ)
     → ((of_queues ls).held t m ≡ 0) × ((of_queues ls).homes t.blocks m ≡ 0)
 empty_account n every k [] h t m = (refl, refl)
 empty_account n every k (l ∷ ls) h t m =
@@ -147,14 +148,14 @@ empty_account n every k (l ∷ ls) h t m =
     let qs = ap (λ z. (of_packets z).homes t.blocks m) e in
     (omega (arith, i.0, ps), omega (arith, i.1, qs))
 
-pub empty_counts : (n : Spread) (every : List Held) (k : ℕ) (ls : List QueueLane) → EachFrom (IsSharing n every every) k ls → counts_of_queues ls ≡ 0
+empty_counts : (n : Spread) (every : List Held) (k : ℕ) (ls : List QueueLane) → EachFrom (IsSharing n every every) k ls → counts_of_queues ls ≡ 0
 empty_counts n every k [] h = refl
 empty_counts n every k (l ∷ ls) h =
     let s = h.0 in
     let e = none_yet l.packets.items (in_queue n k every) s.packets in
     omega (arith, empty_counts n every (suc k) ls h.1, ap counts_of e)
 
-pub empty_weighed : (w : ℕ → ℕ) (n : Spread) (every : List Held) (k : ℕ) (ls : List QueueLane) → EachFrom (IsSharing n every every) k ls → weighed_queues w ls ≡ 0
+empty_weighed : (w : ℕ → ℕ) (n : Spread) (every : List Held) (k : ℕ) (ls : List QueueLane) → EachFrom (IsSharing n every every) k ls → weighed_queues w ls ≡ 0
 empty_weighed w n every k [] h = refl
 empty_weighed w n every k (l ∷ ls) h =
     let s = h.0 in
@@ -214,14 +215,14 @@ gets_all n ps l m zero_all t h = record {
   packets = append-nil m.packets.items ∙ t.packets ∙ sym (all_queued n ps zero_all);
 }
 
-pub alone_takes : (n : Spread) (ps : List Held) (ls : List QueueLane) (d m : QueueLane) → length ls ≡ 1 → ((key : Option (List ℕ)) → n key ≡ 0) → TakesAll (get_or ls 0 d) ps m
+alone_takes : (n : Spread) (ps : List Held) (ls : List QueueLane) (d m : QueueLane) → length ls ≡ 1 → ((key : Option (List ℕ)) → n key ≡ 0) → TakesAll (get_or ls 0 d) ps m
     → EachFrom (IsSharing n ps ps) 0 ls → EachFrom (IsSharing n ps []) 0 (set ls 0 m)
 alone_takes n ps [] d m one zero_all t h = absurd (omega (arith, one))
 alone_takes n ps (l ∷ []) d m one zero_all t h = (gets_all n ps l m zero_all t h.0, tt)
 alone_takes n ps (l ∷ k ∷ ls) d m one zero_all t h = absurd (omega (arith, one))
 
 -- and the lanes hold them
-pub alone_holds : (ps : List Held) (ls : List QueueLane) (d m : QueueLane) → length ls ≡ 1 → TakesAll (get_or ls 0 d) ps m → IsSum (of_packets ps) (of_packets []) (of_queues (set ls 0 m))
+alone_holds : (ps : List Held) (ls : List QueueLane) (d m : QueueLane) → length ls ≡ 1 → TakesAll (get_or ls 0 d) ps m → IsSum (of_packets ps) (of_packets []) (of_queues (set ls 0 m))
 alone_holds ps [] d m one t = absurd (omega (arith, one))
 alone_holds ps (l ∷ []) d m one t = λ u i.
     let a = ap (λ z. (of_packets z).held u i) t.packets in
@@ -229,12 +230,12 @@ alone_holds ps (l ∷ []) d m one t = λ u i.
     (omega (arith, a), omega (arith, b))
 alone_holds ps (l ∷ k ∷ ls) d m one t = absurd (omega (arith, one))
 
-pub alone_has : (ps : List Held) (ls : List QueueLane) (d m : QueueLane) → length ls ≡ 1 → TakesAll (get_or ls 0 d) ps m → counts_of ps ≡ counts_of_queues (set ls 0 m)
+alone_has : (ps : List Held) (ls : List QueueLane) (d m : QueueLane) → length ls ≡ 1 → TakesAll (get_or ls 0 d) ps m → counts_of ps ≡ counts_of_queues (set ls 0 m)
 alone_has ps [] d m one t = absurd (omega (arith, one))
 alone_has ps (l ∷ []) d m one t = omega (arith, ap counts_of t.packets)
 alone_has ps (l ∷ k ∷ ls) d m one t = absurd (omega (arith, one))
 
-pub alone_weighs : (w : ℕ → ℕ) (ps : List Held) (ls : List QueueLane) (d m : QueueLane) → length ls ≡ 1 → TakesAll (get_or ls 0 d) ps m → weighed_slots w ps ≡ weighed_queues w (set ls 0 m)
+alone_weighs : (w : ℕ → ℕ) (ps : List Held) (ls : List QueueLane) (d m : QueueLane) → length ls ≡ 1 → TakesAll (get_or ls 0 d) ps m → weighed_slots w ps ≡ weighed_queues w (set ls 0 m)
 alone_weighs w ps [] d m one t = absurd (omega (arith, one))
 alone_weighs w ps (l ∷ []) d m one t = omega (arith, ap (weighed_slots w) t.packets)
 alone_weighs w ps (l ∷ k ∷ ls) d m one t = absurd (omega (arith, one))
@@ -245,7 +246,7 @@ alone_had ls d one idle = (idle 0 d (omega (arith, one))).packets
 
 -- ---- lanes that get memory
 
-pub did_stay : (k : ℕ) (n : Spread) (every rest : List Held) (ls ms : List QueueLane) → length ms ≡ length ls → EachStays ls ms → EachFrom (IsSharing n every rest) k ls
+did_stay : (k : ℕ) (n : Spread) (every rest : List Held) (ls ms : List QueueLane) → length ms ≡ length ls → EachStays ls ms → EachFrom (IsSharing n every rest) k ls
     → EachFrom (IsSharing n every rest) k ms
 did_stay k n every rest ls ms e s h = each_did (IsSharing n every rest) (IsSharing n every rest) StaysAs k ls ms (λ q l m a t. same_lane n every rest q l m t a) e h s
 
@@ -315,3 +316,64 @@ turned xs ys e = ap reverse e ∙ reverse-reverse xs
 
 pub turned_none : (xs ys : List Held) → ys ≡ reverse xs → xs ≡ [] → ys ≡ []
 turned_none xs ys e none = e ∙ ap reverse none
+
+-- ---- what private calls say of it
+
+-- before the first packet
+pub shares_none : (n : Spread) (ps : List Held) (ls : List QueueLane) → EachFrom (IsSharing n ps ps) 0 ls → SharesOut n ps ps ls
+shares_none n ps ls h = record {
+  shared = h;
+  account = λ t m. let z = empty_account n ps 0 ls h t m in (omega (arith, z.0), omega (arith, z.1));
+  counts = omega (arith, empty_counts n ps 0 ls h);
+  named = λ w. omega (arith, empty_weighed w n ps 0 ls h);
+  alone = λ h. h;
+}
+
+-- one packet more
+pub shares_turn : (n : Spread) (every rest : List Held) (p : Held) (q : ℕ) (ls : List QueueLane) (d m : QueueLane) → queue_for n p ≡ 0 + q → q < length ls → TakesIn (get_or ls q d) p m
+    → SharesOut n every (p ∷ rest) ls → SharesOut n every rest (set ls q m)
+shares_turn n every rest p q ls d m e lt taken s = record {
+  shared = share_turn n every rest p 0 q ls d m e lt taken s.shared;
+  account = λ t j.
+      let a = turn_account q ls d m p lt taken t j in
+      let i = s.account t j in
+      (omega (arith, a.0, i.0), omega (arith, a.1, i.1));
+  counts = omega (arith, turn_counts q ls d m p lt taken, s.counts);
+  named = λ w. omega (arith, turn_weighed w q ls d m p lt taken, s.named w);
+  alone = λ h. (s.alone h).1;
+}
+
+-- none more
+pub shares_stop : (n : Spread) (every rest : List Held) (q : ℕ) (ls : List QueueLane) (d m : QueueLane) → q < length ls → StaysAs (get_or ls q d) m → SharesOut n every rest ls
+    → SharesOut n every rest (set ls q m)
+shares_stop n every rest q ls d m lt stays s = record {
+  shared = share_stop n every rest 0 q ls d m lt stays s.shared;
+  account = λ t j.
+      let a = stop_account q ls d m lt stays t j in
+      let i = s.account t j in
+      (omega (arith, a.0, i.0), omega (arith, a.1, i.1));
+  counts = omega (arith, stop_counts q ls d m lt stays, s.counts);
+  named = λ w. omega (arith, stop_weighed w q ls d m lt stays, s.named w);
+  alone = s.alone;
+}
+
+-- all to the lane of the one queue
+pub shares_alone : (n : Spread) (ps : List Held) (ls : List QueueLane) (d m : QueueLane) → length ls ≡ 1 → ((key : Option (List ℕ)) → n key ≡ 0) → TakesAll (get_or ls 0 d) ps m
+    → EachFrom (IsSharing n ps ps) 0 ls → SharesOut n ps [] (set ls 0 m)
+shares_alone n ps ls d m one zero_all t h = record {
+  shared = alone_takes n ps ls d m one zero_all t h;
+  account = alone_holds ps ls d m one t;
+  counts = omega (arith, alone_has ps ls d m one t);
+  named = λ w. omega (arith, alone_weighs w ps ls d m one t);
+  alone = λ _. tt;
+}
+
+-- lanes got memory
+pub shares_stay : (n : Spread) (every rest : List Held) (ls ms : List QueueLane) → length ms ≡ length ls → EachStays ls ms → SharesOut n every rest ls → SharesOut n every rest ms
+shares_stay n every rest ls ms e stay s = record {
+  shared = did_stay 0 n every rest ls ms e stay s.shared;
+  account = subst (IsSum (of_packets every) (of_packets rest)) (sym (same_hold ls ms e stay)) s.account;
+  counts = omega (arith, same_counts ls ms e stay, s.counts);
+  named = λ w. omega (arith, same_weighed w ls ms e stay, s.named w);
+  alone = s.alone;
+}

@@ -17,6 +17,7 @@ use Rattle.lanes.specs.declared.lane.QueueLane.{QueueLane}
 use Rattle.lanes.specs.declared.lane.TapLane.{TapLane}
 use Rattle.lanes.specs.declared.lane.Lanes.{Lanes}
 use Rattle.lanes.specs.declared.plan.LanePlan.{LanePlan}
+use Rattle.lanes.specs.Filling.{Fills}
 use Rattle.lanes.specs.Lanes.{of_queues, of_taps, of_lanes, counts_of_queues, weighed_queues, AreIdle, EachTapDid, IsFilled, IsIdleQueue, IsIdleTap, IsMerged}
 use Rattle.lanes.specs.Sharing.{EachFrom, IsSum}
 use Rattle.lanes.specs.Soles.{AreOfPackets}
@@ -219,26 +220,23 @@ kept_given p q qs ts us vs k e g t m =
 
 -- the same lanes, each list by its equation
 pub is_given_up : (plan : LanePlan) (old now : List Held) (l m : Lanes) (us vs : List TapLane) → m.queues.items ≡ l.queues.items → m.taps.items ≡ vs → us ≡ l.taps.items
-    → Keeps (of_packets old) (both (of_packets now) (of_lanes l)) → KeepsBlocks (of_packets old) (both (of_packets now) (of_lanes l))
-    → counts_of now + counts_of_queues l.queues.items ≡ counts_of old
-    → ((h : ℕ → ℕ) → weighed_slots h now + weighed_queues h l.queues.items ≡ weighed_slots h old) → AreUnshared plan old now l
-    → Keeps (of_taps us) (of_taps vs) → KeepsBlocks (of_taps us) (of_taps vs) → All (λ (t : TapLane). t.clones.items ≡ []) vs
+    → Fills plan old now l → Keeps (of_taps us) (of_taps vs) → KeepsBlocks (of_taps us) (of_taps vs) → All (λ (t : TapLane). t.clones.items ≡ []) vs
     → (All IsIdleTap us → All IsIdleTap vs) → IsRefused plan old now m
-is_given_up plan old now l m us vs queues taps same kept blocks count named unshared kept_taps blocks_taps clones idle =
+is_given_up plan old now l m us vs queues taps same f kept_taps blocks_taps clones idle =
     let P : List QueueLane → List TapLane → Type 0 = λ qs ts. Keeps (of_packets old) (both (of_packets now) (both (of_queues qs) (of_taps ts))) in
     let B : List QueueLane → List TapLane → Type 0 = λ qs ts. KeepsBlocks (of_packets old) (both (of_packets now) (both (of_queues qs) (of_taps ts))) in
-    let k = kept_given (of_packets old) (of_packets now) l.queues.items l.taps.items us vs kept same kept_taps in
-    let b = blocks_given (of_packets old) (of_packets now) l.queues.items l.taps.items us vs blocks same blocks_taps in
+    let k = kept_given (of_packets old) (of_packets now) l.queues.items l.taps.items us vs f.kept same kept_taps in
+    let b = blocks_given (of_packets old) (of_packets now) l.queues.items l.taps.items us vs f.blocks same blocks_taps in
     record {
       kept = subst (λ qs. P qs m.taps.items) (sym queues) (subst (λ ts. P l.queues.items ts) (sym taps) k);
       blocks = subst (λ qs. B qs m.taps.items) (sym queues) (subst (λ ts. B l.queues.items ts) (sym taps) b);
-      count = omega (arith, count, ap counts_of_queues queues);
-      named = λ w. omega (arith, named w, ap (weighed_queues w) queues);
+      count = omega (arith, f.count, ap counts_of_queues queues);
+      named = λ w. omega (arith, f.named w, ap (weighed_queues w) queues);
       unshared = record {
         alone = λ none h.
-            let x = unshared.alone none h in
+            let x = f.unshared.alone none h in
             (x.0, subst (All (λ (q : QueueLane). AreAlone q.packets.items)) (sym queues) x.1);
-        idle = λ none. subst (All IsIdleTap) (sym taps) (idle (subst (All IsIdleTap) (sym same) (unshared.idle none)));
+        idle = λ none. subst (All IsIdleTap) (sym taps) (idle (subst (All IsIdleTap) (sym same) (f.unshared.idle none)));
       };
       clones = subst (All (λ (t : TapLane). t.clones.items ≡ [])) (sym taps) clones;
     }

@@ -4,6 +4,7 @@ ghost use Rattle.std.specs.List.{AllByRecursion};
 ghost use Rattle.std.specs.VecDeque.{deque_len, deque_capacity};
 ghost use Rattle.errands.specs.Answers.{EachDid};
 ghost use Rattle.block_pool.specs.Giving.{GiverState};
+ghost use Rattle.lanes.specs.Filling.{AreReady};
 ghost use Rattle.lanes.specs.Givers.{back_of, carried, returned, Divided, MayJoin, MayReturn, Rejoined};
 ghost use Rattle.lanes.specs.Lanes.{IsFilled, IsTapReady};
 ghost use Rattle.lanes.specs.Tasks.{DidLane, SentQueues, SentTaps, Away, HasPlace, IsPlaced, IsPut};
@@ -132,8 +133,7 @@ pub(crate) fn send_all<G: Gate>(
     tasks: &mut VecDeque<LaneTask>,
     giver: &mut Option<Giver>,
 )
-    requires queues { All IsFilled lanes.old.queues.items }
-    requires taps { All IsTapReady lanes.old.taps.items }
+    requires ready { AreReady lanes.old }
     requires none { tasks.old.items ≡ [] }
     requires room { length lanes.old.queues.items + length lanes.old.taps.items ≤ deque_capacity tasks.old }
     ensures away { Away plan.now lanes.old lanes.new tasks.new.items }

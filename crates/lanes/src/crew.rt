@@ -3,7 +3,7 @@ ghost use Rattle.std.specs.Prelude.{◌≡◌, ◌+◌, ◌-◌, ◌≤◌, max,
 ghost use Rattle.std.specs.VecDeque.{deque_capacity};
 ghost use Rattle.block_pool.specs.Giving.{MayGive};
 ghost use Rattle.lanes.specs.Desks.{IsOpenDesk};
-ghost use Rattle.lanes.specs.Lanes.{IsFilled, IsTapReady};
+ghost use Rattle.lanes.specs.Filling.{AreReady};
 ghost use Rattle.lanes.specs.Work.{Did};
 
 use crate::away::{bring_back, count_at_work, send_all, work_here};
@@ -133,8 +133,7 @@ fn run_by_tasks<G: Gate, N: Naming, R: Wait>(
     done: &mut VecDeque<LaneDone>,
     giver: &mut Option<Giver>,
 )
-    requires queues { All IsFilled lanes.old.queues.items }
-    requires taps { All IsTapReady lanes.old.taps.items }
+    requires ready { AreReady lanes.old }
     requires none { (tasks.old.items ≡ []) × (done.old.items ≡ []) }
     requires room { length lanes.old.queues.items + length lanes.old.taps.items ≤ deque_capacity tasks.old }
     ensures did { Did plan.now lanes.old lanes.new }

@@ -5,6 +5,7 @@ ghost use Rattle.gro.specs.declared.slot.Slot.{Slot as Held};
 ghost use Rattle.gro.specs.Slots.{packet_of, of_packets, counts_of, AreHeld, AreShared, WeighAtLeast};
 ghost use Rattle.offload_model.specs.Rounds.{Spread};
 ghost use Rattle.lanes.specs.Clones.{weight_after, AreAfter, AreSame};
+ghost use Rattle.lanes.specs.Filling.{CanServe, Serves};
 ghost use Rattle.lanes.specs.Lanes.{of_tap, of_taps, AreIdle, IsIdleQueue, IsIdleTap, IsTapReady};
 ghost use Rattle.lanes.specs.Sharing.{EachFrom, IsSharing};
 ghost use Rattle.lanes.specs.Taps.{HasClones};
@@ -148,19 +149,11 @@ fn fill_tap(
 // Each tap gets a clone of each packet; all packets have `count` blocks and parts. Where memory is refused the lanes
 // have the clones that were made.
 fn fill_taps(lanes: &mut [TapLane], count: usize, packets: &mut Packets) -> Result<(), AllocError>
-    requires few { length lanes.old ≤ 8 }
-    requires idle { All IsIdleTap lanes.old }
-    requires held { AreHeld packets.old.items }
+    requires may { CanServe lanes.old packets.old.items }
     requires shared { AreShared packets.old.items }
-    requires weigh { WeighAtLeast (weight_after 1) packets.old.items }
     requires count { count ≡ counts_of packets.old.items }
     ensures after { AreAfter 9 packets.old.items packets.new.items }
-    ensures kept { Keeps (of_packets packets.old.items) (both (of_packets packets.new.items) (of_taps lanes.new)) }
-    ensures blocks { KeepsBlocks (of_packets packets.old.items)
-        (both (of_packets packets.new.items) (of_taps lanes.new)) }
-    ensures ready { All IsTapReady lanes.new }
-    ensures clones { OnOk result (EachFrom (HasClones (map packet_of packets.old.items)) 0 lanes.new) }
-    ensures size { length lanes.new ≡ length lanes.old }
+    ensures serves { Serves packets.old.items packets.new.items lanes.old lanes.new result }
 {
     for i in 0..lanes.len() {
         fill_tap(&mut lanes[i], i as u32, count, packets)?;
@@ -171,20 +164,12 @@ fn fill_taps(lanes: &mut [TapLane], count: usize, packets: &mut Packets) -> Resu
 /// Each tap gets a clone of each packet. Where there is no tap nothing is counted and nothing is asked of the packets:
 /// they stay as they are.
 pub(crate) fn serve_taps(lanes: &mut [TapLane], packets: &mut Packets) -> Result<(), AllocError>
-    requires few { length lanes.old ≤ 8 }
-    requires idle { All IsIdleTap lanes.old }
-    requires held { AreHeld packets.old.items }
+    requires may { CanServe lanes.old packets.old.items }
     requires shared { 1 ≤ length lanes.old → AreShared packets.old.items }
-    requires weigh { WeighAtLeast (weight_after 1) packets.old.items }
     requires counts { counts_of packets.old.items ≤ 65536 }
     ensures same { AreSame packets.old.items packets.new.items }
     ensures stay { length lanes.old ≡ 0 → packets.new.items ≡ packets.old.items }
-    ensures kept { Keeps (of_packets packets.old.items) (both (of_packets packets.new.items) (of_taps lanes.new)) }
-    ensures blocks { KeepsBlocks (of_packets packets.old.items)
-        (both (of_packets packets.new.items) (of_taps lanes.new)) }
-    ensures ready { All IsTapReady lanes.new }
-    ensures clones { OnOk result (EachFrom (HasClones (map packet_of packets.old.items)) 0 lanes.new) }
-    ensures size { length lanes.new ≡ length lanes.old }
+    ensures serves { Serves packets.old.items packets.new.items lanes.old lanes.new result }
 {
     if lanes.is_empty() {
         return Ok(());

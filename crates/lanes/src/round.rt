@@ -10,14 +10,15 @@ ghost use Rattle.gro.specs.Slots.{packet_of, of_packets, counts_of, weighed_slot
 ghost use Rattle.gro.specs.Slots.{AreAlone, AreHeld, AreShared, WeighAtLeast};
 ghost use Rattle.block_pool.specs.Giving.{LeavesNone, MayGive};
 ghost use Rattle.lanes.specs.Clones.{weight_after};
+ghost use Rattle.lanes.specs.Filling.{AreReady, CanFill, Fills};
 ghost use Rattle.lanes.specs.Lanes.{of_lanes, counts_of_queues, weighed_queues};
-ghost use Rattle.lanes.specs.Lanes.{AreIdle, IsFilled, IsIdleTap, IsMerged, IsTapReady};
+ghost use Rattle.lanes.specs.Lanes.{AreIdle, IsIdleTap, IsMerged, IsTapReady};
 ghost use Rattle.lanes.specs.Packets.{RiseFrom};
 ghost use Rattle.lanes.specs.Sharing.{EachFrom};
 ghost use Rattle.lanes.specs.Soles.{AreOfPackets, HaveNoSoles};
 ghost use Rattle.lanes.specs.Taps.{HasClones};
 ghost use Rattle.lanes.specs.Work.{spread_of, options_by, shown_by, IsPlan, IsToWork, AreFilled, AreMerged};
-ghost use Rattle.lanes.specs.Work.{AreUnshared, AreWatched, Did, IsDone, IsRefused, lane_records};
+ghost use Rattle.lanes.specs.Work.{AreWatched, Did, IsDone, IsRefused, lane_records};
 
 use crate::fill::{give_all_up, open_lanes, serve_taps};
 use crate::lane::{Lanes, TapLane};
@@ -37,20 +38,8 @@ fn fill(
     packets: &mut Packets,
     lanes: &mut Lanes,
 ) -> Result<(), AllocError>
-    requires plan { IsPlan plan.now }
-    requires held { AreHeld packets.old.items }
-    requires shared { 1 ≤ plan.now.taps → AreShared packets.old.items }
-    requires weighs { WeighAtLeast (weight_after 1) packets.old.items }
-    requires rising { RiseFrom 0 (map packet_of packets.old.items) }
-    requires few { counts_of packets.old.items ≤ 65536 }
-    requires idle { AreIdle lanes.old }
-    ensures kept { Keeps (of_packets packets.old.items) (both (of_packets packets.new.items) (of_lanes lanes.new)) }
-    ensures blocks { KeepsBlocks (of_packets packets.old.items)
-        (both (of_packets packets.new.items) (of_lanes lanes.new)) }
-    ensures count { counts_of packets.new.items + counts_of_queues lanes.new.queues.items
-        ≡ counts_of packets.old.items }
-    ensures named { (h : ℕ → ℕ) → weighed_slots h packets.new.items + weighed_queues h lanes.new.queues.items
-        ≡ weighed_slots h packets.old.items }
+    requires may { CanFill plan.now packets.old.items lanes.old }
+    ensures fills { Fills plan.now packets.old.items packets.new.items lanes.new }
     ensures ready { All IsTapReady lanes.new.taps.items }
     ensures queues { OnOk result (EachFrom (IsToWork (spread_of plan.now) (map packet_of packets.old.items)) 0
         lanes.new.queues.items) }
@@ -58,7 +47,6 @@ fn fill(
     ensures size { OnOk result ((length lanes.new.queues.items ≡ plan.now.queues)
         × (length lanes.new.taps.items ≡ plan.now.taps)) }
     ensures all { OnOk result (packets.new.items ≡ []) }
-    ensures unshared { AreUnshared plan.now packets.old.items packets.new.items lanes.new }
 {
     open_lanes(alloc, plan, lanes)?;
     serve_taps(&mut lanes.taps, packets)?;
@@ -84,15 +72,9 @@ fn begin(
     packets: &mut Packets,
     lanes: &mut Lanes,
 ) -> Result<(), AllocError>
-    requires plan { IsPlan plan.now }
-    requires held { AreHeld packets.old.items }
-    requires shared { 1 ≤ plan.now.taps → AreShared packets.old.items }
-    requires weighs { WeighAtLeast (weight_after 1) packets.old.items }
-    requires rising { RiseFrom 0 (map packet_of packets.old.items) }
-    requires few { counts_of packets.old.items ≤ 65536 }
-    requires idle { AreIdle lanes.old }
+    requires may { CanFill plan.now packets.old.items lanes.old }
     ensures filled { OnOk result (AreFilled plan.now packets.old.items lanes.new) }
-    ensures ready { OnOk result (All IsFilled lanes.new.queues.items × All IsTapReady lanes.new.taps.items) }
+    ensures ready { OnOk result (AreReady lanes.new) }
     ensures all { OnOk result (packets.new.items ≡ []) }
     ensures refused { OnErr result (IsRefused plan.now packets.old.items packets.new.items lanes.new) }
     ensures no_soles { OnErr result (HaveNoSoles lanes.new.taps.items) }

@@ -1,12 +1,13 @@
 //! Spreads the packets of a round over its queues.
-ghost use Rattle.std.specs.Prelude.{◌≡◌, ◌+◌, ◌<◌, ◌≤◌, ◌^◌, [], length, All, IfErr, OnOk};
-ghost use Rattle.std.specs.Prelude.{ℕ, reverse};
+ghost use Rattle.std.specs.Prelude.{◌≡◌, ◌<◌, ◌≤◌, ◌^◌, [], length, All, IfErr, OnOk};
+ghost use Rattle.std.specs.Prelude.{reverse};
 ghost use Rattle.frame_layout.specs.Key.{key_of};
 ghost use Rattle.skb.specs.SkbState.{buffer_bytes};
-ghost use Rattle.gro.specs.Slots.{of_packets, counts_of, weighed_slots, AreAlone, AreHeld, IsHeld};
-ghost use Rattle.lanes.specs.Lanes.{of_queues, counts_of_queues, weighed_queues, IsIdleQueue};
+ghost use Rattle.gro.specs.Slots.{counts_of, IsHeld};
+ghost use Rattle.lanes.specs.Filling.{AreOpen, SharesOut};
+ghost use Rattle.lanes.specs.Lanes.{counts_of_queues, IsIdleQueue};
 ghost use Rattle.lanes.specs.Work.{IsPlan, spread_of};
-ghost use Rattle.lanes.specs.Sharing.{EachFrom, EachStays, HasMemory, IsSharing, IsSum, StaysAs};
+ghost use Rattle.lanes.specs.Sharing.{EachStays, HasMemory, StaysAs};
 ghost use Rattle.lanes.specs.Sharing.{TakesAll, TakesIn};
 
 use crate::lane::QueueLane;
@@ -45,21 +46,9 @@ fn spread_back(
     plan: &LanePlan,
     lanes: &mut [QueueLane],
 ) -> Result<(), AllocError>
-    requires plan { IsPlan plan.now }
-    requires queues { length lanes.old ≡ plan.now.queues }
-    requires held { AreHeld (reverse packets.old.items) }
-    requires open { EachFrom (IsSharing (spread_of plan.now) (reverse packets.old.items) (reverse packets.old.items)) 0
-        lanes.old }
+    requires lanes { AreOpen plan.now (reverse packets.old.items) lanes.old }
     ensures size { length lanes.new ≡ length lanes.old }
-    ensures shared { EachFrom (IsSharing (spread_of plan.now) (reverse packets.old.items) (reverse packets.new.items)) 0
-        lanes.new }
-    ensures account { IsSum (of_packets (reverse packets.old.items)) (of_packets (reverse packets.new.items))
-        (of_queues lanes.new) }
-    ensures counts { counts_of (reverse packets.old.items)
-        ≡ counts_of (reverse packets.new.items) + counts_of_queues lanes.new }
-    ensures named { (h : ℕ → ℕ) → weighed_slots h (reverse packets.old.items)
-        ≡ weighed_slots h (reverse packets.new.items) + weighed_queues h lanes.new }
-    ensures alone { AreAlone (reverse packets.old.items) → AreAlone (reverse packets.new.items) }
+    ensures shares { SharesOut (spread_of plan.now) (reverse packets.old.items) (reverse packets.new.items) lanes.new }
     ensures all { OnOk result (packets.new.items ≡ []) }
 {
     while let Some(packet) = packets.pop() {
@@ -75,17 +64,9 @@ fn spread_back(
 // Each packet goes to the queue of its flow, in order. Those that there is no memory for stay, in their order. Packets
 // leave their list by its end, so the list is turned.
 fn spread(packets: &mut Packets, plan: &LanePlan, lanes: &mut [QueueLane]) -> Result<(), AllocError>
-    requires plan { IsPlan plan.now }
-    requires queues { length lanes.old ≡ plan.now.queues }
-    requires held { AreHeld packets.old.items }
-    requires open { EachFrom (IsSharing (spread_of plan.now) packets.old.items packets.old.items) 0 lanes.old }
+    requires lanes { AreOpen plan.now packets.old.items lanes.old }
     ensures size { length lanes.new ≡ length lanes.old }
-    ensures shared { EachFrom (IsSharing (spread_of plan.now) packets.old.items packets.new.items) 0 lanes.new }
-    ensures account { IsSum (of_packets packets.old.items) (of_packets packets.new.items) (of_queues lanes.new) }
-    ensures counts { counts_of packets.old.items ≡ counts_of packets.new.items + counts_of_queues lanes.new }
-    ensures named { (h : ℕ → ℕ) → weighed_slots h packets.old.items
-        ≡ weighed_slots h packets.new.items + weighed_queues h lanes.new }
-    ensures alone { AreAlone packets.old.items → AreAlone packets.new.items }
+    ensures shares { SharesOut (spread_of plan.now) packets.old.items packets.new.items lanes.new }
     ensures all { OnOk result (packets.new.items ≡ []) }
 {
     packets.reverse();
@@ -130,18 +111,10 @@ fn give_out(
     plan: &LanePlan,
     lanes: &mut [QueueLane],
 ) -> Result<(), AllocError>
-    requires plan { IsPlan plan.now }
-    requires queues { length lanes.old ≡ plan.now.queues }
-    requires held { AreHeld packets.old.items }
-    requires open { EachFrom (IsSharing (spread_of plan.now) packets.old.items packets.old.items) 0 lanes.old }
+    requires lanes { AreOpen plan.now packets.old.items lanes.old }
     requires idle { All IsIdleQueue lanes.old }
     ensures size { length lanes.new ≡ length lanes.old }
-    ensures shared { EachFrom (IsSharing (spread_of plan.now) packets.old.items packets.new.items) 0 lanes.new }
-    ensures account { IsSum (of_packets packets.old.items) (of_packets packets.new.items) (of_queues lanes.new) }
-    ensures counts { counts_of packets.old.items ≡ counts_of packets.new.items + counts_of_queues lanes.new }
-    ensures named { (h : ℕ → ℕ) → weighed_slots h packets.old.items
-        ≡ weighed_slots h packets.new.items + weighed_queues h lanes.new }
-    ensures alone { AreAlone packets.old.items → AreAlone packets.new.items }
+    ensures shares { SharesOut (spread_of plan.now) packets.old.items packets.new.items lanes.new }
     ensures all { OnOk result (packets.new.items ≡ []) }
 {
     if plan.queues == 1 {
@@ -158,19 +131,11 @@ pub(crate) fn share_out(
     plan: &LanePlan,
     lanes: &mut [QueueLane],
 ) -> Result<(), AllocError>
-    requires plan { IsPlan plan.now }
-    requires queues { length lanes.old ≡ plan.now.queues }
-    requires held { AreHeld packets.old.items }
+    requires lanes { AreOpen plan.now packets.old.items lanes.old }
     requires few { counts_of packets.old.items ≤ 65536 }
-    requires open { EachFrom (IsSharing (spread_of plan.now) packets.old.items packets.old.items) 0 lanes.old }
     requires idle { All IsIdleQueue lanes.old }
     ensures size { length lanes.new ≡ length lanes.old }
-    ensures shared { EachFrom (IsSharing (spread_of plan.now) packets.old.items packets.new.items) 0 lanes.new }
-    ensures account { IsSum (of_packets packets.old.items) (of_packets packets.new.items) (of_queues lanes.new) }
-    ensures counts { counts_of packets.old.items ≡ counts_of packets.new.items + counts_of_queues lanes.new }
-    ensures named { (h : ℕ → ℕ) → weighed_slots h packets.old.items
-        ≡ weighed_slots h packets.new.items + weighed_queues h lanes.new }
-    ensures alone { AreAlone packets.old.items → AreAlone packets.new.items }
+    ensures shares { SharesOut (spread_of plan.now) packets.old.items packets.new.items lanes.new }
     ensures all { OnOk result (packets.new.items ≡ []) }
     ensures memory { OnOk result (All HasMemory lanes.new) }
 {

@@ -1,6 +1,7 @@
 //! The work of the lanes.
-ghost use Rattle.std.specs.Prelude.{◌≡◌, ◌≤◌, length, All, option_map};
+ghost use Rattle.std.specs.Prelude.{◌≤◌, length, All, option_map};
 ghost use Rattle.block_pool.specs.Giving.{LeavesNone, MayGive};
+ghost use Rattle.lanes.specs.Filling.{AreReady};
 ghost use Rattle.lanes.specs.Lanes.{DidQueue, DidTap, EachQueueDid, EachTapDid, IsFilled, IsTapReady};
 ghost use Rattle.lanes.specs.Work.{Did};
 
@@ -68,8 +69,7 @@ fn watch_in_turn<G: Gate>(gate: &G, plan: &LanePlan, taps: &mut [TapLane])
 
 /// All lanes in the thread that calls, queue after queue and then tap after tap.
 pub(crate) fn run_in_turn<G: Gate>(gate: &G, plan: &LanePlan, lanes: &mut Lanes)
-    requires queues { All IsFilled lanes.old.queues.items }
-    requires taps { All IsTapReady lanes.old.taps.items }
+    requires ready { AreReady lanes.old }
     ensures did { Did plan.now lanes.old lanes.new }
 {
     work_in_turn(gate, plan, &mut lanes.queues);
@@ -120,8 +120,7 @@ pub(crate) fn run_and_give<G: Gate, R: Wait>(
     lanes: &mut Lanes,
     giver: &mut Option<Giver>,
 )
-    requires queues { All IsFilled lanes.old.queues.items }
-    requires taps { All IsTapReady lanes.old.taps.items }
+    requires ready { AreReady lanes.old }
     ensures did { Did plan.now lanes.old lanes.new }
     ensures gave { MayGive giver.old giver.new }
     ensures none_left { LeavesNone giver.old giver.new }

@@ -1,4 +1,4 @@
-use Rattle.std.proofs.Common.{◌+◌, List, map, length-set, subst, ◌∙◌, arith}
+use Rattle.std.proofs.Common.{rules, ◌+◌, List, map, length-set, subst, ◌∙◌, arith}
 use Rattle.pcap_io.specs.Capture.{Packet}
 use Rattle.frags.specs.Account.{every}
 use Rattle.gro.specs.Slots.{packet_of, of_packets}
@@ -13,12 +13,12 @@ pub loop-i-init : goal.loop-i-init
 loop-i-init c =
     let ls = c.args.lanes.now in
     record {
-      after = after_none 1 c.args.packets.now.items c.requires.held c.requires.shared c.requires.weigh;
-      kept = λ t m. let z = idle_taps ls c.requires.idle t m in (omega (arith, z.0), omega (arith, z.1));
-      blocks = λ bs m. let z = idle_taps ls c.requires.idle (every bs) m in omega (arith, z.0, z.1);
-      ready = idle_ready ls c.requires.idle;
+      after = after_none 1 c.args.packets.now.items c.requires.may.held c.requires.shared c.requires.may.weigh;
+      kept = λ t m. let z = idle_taps ls c.requires.may.idle t m in (omega (arith, z.0), omega (arith, z.1));
+      blocks = λ bs m. let z = idle_taps ls c.requires.may.idle (every bs) m in omega (arith, z.0, z.1);
+      ready = idle_ready ls c.requires.may.idle;
       clones = λ k d lt. absurd (omega (arith, lt));
-      idle = λ k d le lt. c.requires.idle k d lt;
+      idle = λ k d le lt. c.requires.may.idle k d lt;
       size = omega arith;
     }
 
@@ -32,22 +32,24 @@ returns-in_err-fill_tap-clause-after c =
     after_later (l.i + 2) 9 old c.fill_tap.new.packets.items (omega arith)
     (after_both (l.i + 1) (l.i + 2) old l.packets.items c.fill_tap.new.packets.items l.invariant.after c.in_err-fill_tap.ensures.after)
 
-pub returns-in_err-fill_tap-clause-kept : goal.returns-in_err-fill_tap-clause-kept
-returns-in_err-fill_tap-clause-kept c =
+pub returns-in_err-fill_tap-clause-serves : goal.returns-in_err-fill_tap-clause-serves
+returns-in_err-fill_tap-clause-serves c =
     let l = c.loop-i in
+    let i = l.invariant in
     let d = c.index-lanes-i.result in
-    tap_keeps l.i (of_packets c.args.packets.now.items) (of_packets l.packets.items) (of_packets c.fill_tap.new.packets.items) l.lanes d c.fill_tap.new.lane (omega arith)
-    (l.invariant.idle l.i d (omega arith) (omega arith)) l.invariant.kept c.in_err-fill_tap.ensures.kept
-
-pub returns-in_err-fill_tap-clause-blocks : goal.returns-in_err-fill_tap-clause-blocks
-returns-in_err-fill_tap-clause-blocks c =
-    let l = c.loop-i in
-    let d = c.index-lanes-i.result in
-    tap_blocks l.i (of_packets c.args.packets.now.items) (of_packets l.packets.items) (of_packets c.fill_tap.new.packets.items) l.lanes d c.fill_tap.new.lane (omega arith)
-    (l.invariant.idle l.i d (omega arith) (omega arith)) l.invariant.blocks c.in_err-fill_tap.ensures.blocks
-
-pub returns-in_err-fill_tap-clause-ready : goal.returns-in_err-fill_tap-clause-ready
-returns-in_err-fill_tap-clause-ready c = all_set IsTapReady c.loop-i.lanes c.loop-i.i c.fill_tap.new.lane c.loop-i.invariant.ready c.in_err-fill_tap.ensures.ready
+    let m = c.fill_tap.new.lane in
+    let old = of_packets c.args.packets.now.items in
+    let mid = of_packets l.packets.items in
+    let now = of_packets c.fill_tap.new.packets.items in
+    let e = c.in_err-fill_tap.ensures in
+    let idle = i.idle l.i d (omega arith) (omega arith) in
+    record {
+      kept = tap_keeps l.i old mid now l.lanes d m (omega arith) idle i.kept e.kept;
+      blocks = tap_blocks l.i old mid now l.lanes d m (omega arith) idle i.blocks e.blocks;
+      ready = all_set IsTapReady l.lanes l.i m i.ready e.ready;
+      clones = search rules;
+      size = length-set l.lanes l.i m ∙ i.size;
+    }
 
 pub loop-i-preserved : goal.loop-i-preserved
 loop-i-preserved c =
@@ -72,7 +74,14 @@ loop-i-preserved c =
 pub returns-clause-after : goal.returns-clause-after
 returns-clause-after c = after_later (c.loop-i.i + 1) 9 c.args.packets.now.items c.loop-i.packets.items (omega arith) c.loop-i.invariant.after
 
-pub returns-clause-clones : goal.returns-clause-clones
-returns-clause-clones c =
+pub returns-clause-serves : goal.returns-clause-serves
+returns-clause-serves c =
     let l = c.loop-i in
-    each_placed (HasClones (map packet_of c.args.packets.now.items)) l.lanes (λ i d lt. l.invariant.clones i d (omega (arith, lt, l.invariant.size, c.loop-i-test.false)) lt)
+    let i = l.invariant in
+    record {
+      kept = i.kept;
+      blocks = i.blocks;
+      ready = i.ready;
+      clones = each_placed (HasClones (map packet_of c.args.packets.now.items)) l.lanes (λ k d lt. i.clones k d (omega (arith, lt, i.size, c.loop-i-test.false)) lt);
+      size = i.size;
+    }

@@ -1,0 +1,76 @@
+-- What private calls say of lanes that get what they have to do.
+use Rattle.std.specs.Prelude.{ℕ, ◌≡◌, ◌+◌, ◌≤◌, All, List, length, map, OnOk, Result}
+use Rattle.frags.specs.Account.{Keeps, KeepsBlocks, both}
+use Rattle.gro.specs.declared.slot.Slot.{Slot as Held}
+use Rattle.gro.specs.Slots.{packet_of, of_packets, counts_of, weighed_slots, AreAlone, AreHeld, AreShared, WeighAtLeast}
+use Rattle.offload_model.specs.Rounds.{Spread}
+use Rattle.lanes.specs.declared.plan.LanePlan.{LanePlan}
+use Rattle.lanes.specs.declared.lane.QueueLane.{QueueLane}
+use Rattle.lanes.specs.declared.lane.TapLane.{TapLane}
+use Rattle.lanes.specs.declared.lane.Lanes.{Lanes}
+use Rattle.lanes.specs.Clones.{weight_after}
+use Rattle.lanes.specs.Lanes.{of_lanes, of_queues, of_taps, counts_of_queues, weighed_queues}
+use Rattle.lanes.specs.Lanes.{AreIdle, IsFilled, IsIdleTap, IsTapReady}
+use Rattle.lanes.specs.Packets.{RiseFrom}
+use Rattle.lanes.specs.Sharing.{EachFrom, IsSharing, IsSum}
+use Rattle.lanes.specs.Taps.{HasClones}
+use Rattle.lanes.specs.Work.{spread_of, AreUnshared, IsPlan}
+
+-- ---- packets go to their queues
+
+-- lanes of queues to which none of these packets has come
+pub record AreOpen (by : LanePlan) (packets : List Held) (lanes : List QueueLane) : Type 0 where
+  pub plan : IsPlan by
+  pub queues : length lanes ≡ by.queues
+  pub held : AreHeld packets
+  pub empty : EachFrom (IsSharing (spread_of by) packets packets) 0 lanes
+
+-- of packets that were in a list the lanes have each that isn't there any more, in its queue
+pub record SharesOut (spread : Spread) (old new : List Held) (lanes : List QueueLane) : Type 0 where
+  pub shared : EachFrom (IsSharing spread old new) 0 lanes
+  pub account : IsSum (of_packets old) (of_packets new) (of_queues lanes)
+  pub counts : counts_of old ≡ counts_of new + counts_of_queues lanes
+  pub named : (h : ℕ → ℕ) → weighed_slots h old ≡ weighed_slots h new + weighed_queues h lanes
+  pub alone : AreAlone old → AreAlone new
+
+-- ---- taps get clones
+
+-- lanes of taps that are idle, and packets of which no clone was taken but those that are kept
+pub record CanServe (lanes : List TapLane) (packets : List Held) : Type 0 where
+  pub few : length lanes ≤ 8
+  pub idle : All IsIdleTap lanes
+  pub held : AreHeld packets
+  pub weigh : WeighAtLeast (weight_after 1) packets
+
+-- each tap has a clone of each packet, or for want of memory those that were made
+pub record Serves {T E : Type 0} (old new : List Held) (before after : List TapLane) (result : Result T E) : Type 0 where
+  pub kept : Keeps (of_packets old) (both (of_packets new) (of_taps after))
+  pub blocks : KeepsBlocks (of_packets old) (both (of_packets new) (of_taps after))
+  pub ready : All IsTapReady after
+  pub clones : OnOk result (EachFrom (HasClones (map packet_of old)) 0 after)
+  pub size : length after ≡ length before
+
+-- ---- all lanes
+
+-- the packets of a round, and lanes that are idle
+pub record CanFill (by : LanePlan) (packets : List Held) (lanes : Lanes) : Type 0 where
+  pub plan : IsPlan by
+  pub held : AreHeld packets
+  pub shared : 1 ≤ by.taps → AreShared packets
+  pub weighs : WeighAtLeast (weight_after 1) packets
+  pub rising : RiseFrom 0 (map packet_of packets)
+  pub few : counts_of packets ≤ 65536
+  pub idle : AreIdle lanes
+
+-- what isn't in the list any more is in the lanes
+pub record Fills (plan : LanePlan) (old new : List Held) (lanes : Lanes) : Type 0 where
+  pub kept : Keeps (of_packets old) (both (of_packets new) (of_lanes lanes))
+  pub blocks : KeepsBlocks (of_packets old) (both (of_packets new) (of_lanes lanes))
+  pub count : counts_of new + counts_of_queues lanes.queues.items ≡ counts_of old
+  pub named : (h : ℕ → ℕ) → weighed_slots h new + weighed_queues h lanes.queues.items ≡ weighed_slots h old
+  pub unshared : AreUnshared plan old new lanes
+
+-- lanes that may be worked
+pub record AreReady (lanes : Lanes) : Type 0 where
+  pub queues : All IsFilled lanes.queues.items
+  pub taps : All IsTapReady lanes.taps.items
