@@ -11,17 +11,16 @@ use Rattle.offload_model.specs.Merged.{merged_of}
 use Rattle.offload_model.specs.Rounds.{Spread, is_queued, items_of}
 use Rattle.offload_model.specs.Written.{record_of, shown_of, round_records, windows_of, Options}
 use Rattle.gro.specs.declared.slot.Slot.{Slot as Held}
-use Rattle.gro.specs.Slots.{packet_of, of_packets, counts_of, weighed_slots, AreAlone}
+use Rattle.gro.specs.Slots.{packet_of, of_packets, AreAlone}
 use Rattle.taps.specs.Texts.{texts_of}
 use Rattle.lanes.specs.declared.lane.QueueLane.{QueueLane}
 use Rattle.lanes.specs.declared.lane.TapLane.{TapLane}
 use Rattle.lanes.specs.declared.lane.Lanes.{Lanes}
 use Rattle.lanes.specs.declared.plan.LanePlan.{LanePlan}
-use Rattle.lanes.specs.Filling.{Fills}
 use Rattle.lanes.specs.Lanes.{of_queues, of_taps, of_lanes, counts_of_queues, weighed_queues, AreIdle, EachTapDid, IsFilled, IsIdleQueue, IsIdleTap, IsMerged}
 use Rattle.lanes.specs.Sharing.{EachFrom, IsSum}
 use Rattle.lanes.specs.Soles.{AreOfPackets}
-use Rattle.lanes.specs.Work.{spread_of, options_by, shown_by, AreFilled, AreUnshared, Did, IsDone, IsRefused, IsToWork, IsWorked, IsWatched, AreMerged, AreWatched, merged_in, lane_records, records_of_tap}
+use Rattle.lanes.specs.Work.{spread_of, options_by, shown_by, AreFilled, AreUnshared, Did, Fills, IsDone, IsRefused, IsToWork, IsWorked, IsWatched, AreMerged, AreWatched, merged_in, lane_records, records_of_tap}
 use Rattle.lanes.proofs.Apart.{are_of_packets}
 use Rattle.lanes.proofs.Listing.{all_from, each_map, each_equal}
 use Rattle.lanes.proofs.Idle.{idle_lanes, idle_queues}
@@ -79,12 +78,6 @@ unshared_some plan old now l ls ts e f size h = record {
   idle = λ none. no_taps plan.taps l.taps.items (ap length f ∙ size) none;
 }
 
-unshared_did : (plan : LanePlan) (old : List Held) (l m : Lanes) → AreFilled plan old l → Did plan l m → AreUnshared plan old [] m
-unshared_did plan old l m f d = record {
-  alone = λ none h. (tt, queues_alone plan.segs l.queues.items m.queues.items d.sizes.0 d.queues (f.unshared.alone none h).1);
-  idle = λ none. no_taps plan.taps m.taps.items (d.sizes.1 ∙ f.sizes.1) none;
-}
-
 -- ---- what all lanes have done
 
 numbers : {A : Type 0} (g : A → ℕ) (k : ℕ) (xs : List A) → EachFrom (λ i x. g x ≡ i) k xs → map g xs ≡ range_with_len k (length xs)
@@ -136,32 +129,34 @@ all_filled n ps ls h = all_from (IsToWork n ps) IsFilled 0 ls (λ q l w. w.fille
 
 -- ---- a round that is done
 
-keeps_lanes : (p : Account) (plan : LanePlan) (l m : Lanes) → Keeps p (of_lanes l) → Did plan l m → Keeps p (of_lanes m)
-keeps_lanes p plan l m k d t i =
-    let x = k t i in
-    let e = queues_same plan.segs l.queues.items m.queues.items d.sizes.0 d.queues in
-    let y = ap (λ z. z.held t i) e in
-    let w = ap (λ z. z.homes t.blocks i) e in
-    let z = taps_kept plan.filter plan.snap l.taps.items m.taps.items d.sizes.1 d.taps t i in
-    (omega (arith, x.0, y, z.0), omega (arith, x.1, w, z.1))
-
-blocks_lanes : (p : Account) (plan : LanePlan) (l m : Lanes) → KeepsBlocks p (of_lanes l) → Did plan l m → KeepsBlocks p (of_lanes m)
-blocks_lanes p plan l m k d bs i =
-    let x = k bs i in
-    let e = queues_same plan.segs l.queues.items m.queues.items d.sizes.0 d.queues in
-    let y = ap (λ z. z.held (every bs) i) e in
-    let w = ap (λ z. z.homes bs i) e in
-    let z = taps_blocks plan.filter plan.snap l.taps.items m.taps.items d.sizes.1 d.taps bs i in
-    omega (arith, x, y, w, z)
-
 no_clones : (filter : Option (List Instr)) (snap : ℕ) (ls ms : List TapLane) → length ms ≡ length ls → EachTapDid filter snap ls ms → All (λ (t : TapLane). t.clones.items ≡ []) ms
 no_clones filter snap ls ms e h i d lt = (h i d (omega (arith, e, lt))).none
 
-same_lanes : (plan : LanePlan) (old : List Held) (l m : Lanes) → AreFilled plan old l → Did plan l m → counts_of_queues m.queues.items ≡ counts_of old
-same_lanes plan old l m f d = let n = queues_count plan.segs l.queues.items m.queues.items d.sizes.0 d.queues in omega (arith, f.count, n)
-
-weighed_lanes : (plan : LanePlan) (old : List Held) (l m : Lanes) → AreFilled plan old l → Did plan l m → (w : ℕ → ℕ) → weighed_queues w m.queues.items ≡ weighed_slots w old
-weighed_lanes plan old l m f d w = queues_weighed w plan.segs l.queues.items m.queues.items d.sizes.0 d.queues ∙ f.named w
+-- what the packets hold is still in the lanes
+fills_did : (plan : LanePlan) (old : List Held) (l m : Lanes) → AreFilled plan old l → Did plan l m → Fills plan old [] m
+fills_did plan old l m f d =
+    let e = queues_same plan.segs l.queues.items m.queues.items d.sizes.0 d.queues in
+    let n = queues_count plan.segs l.queues.items m.queues.items d.sizes.0 d.queues in
+    record {
+      kept = λ t i.
+          let x = f.fills.kept t i in
+          let y = ap (λ z. z.held t i) e in
+          let w = ap (λ z. z.homes t.blocks i) e in
+          let z = taps_kept plan.filter plan.snap l.taps.items m.taps.items d.sizes.1 d.taps t i in
+          (omega (arith, x.0, y, z.0), omega (arith, x.1, w, z.1));
+      blocks = λ bs i.
+          let x = f.fills.blocks bs i in
+          let y = ap (λ z. z.held (every bs) i) e in
+          let w = ap (λ z. z.homes bs i) e in
+          let z = taps_blocks plan.filter plan.snap l.taps.items m.taps.items d.sizes.1 d.taps bs i in
+          omega (arith, x, y, w, z);
+      count = omega (arith, f.fills.count, n);
+      named = λ w. omega (arith, f.fills.named w, queues_weighed w plan.segs l.queues.items m.queues.items d.sizes.0 d.queues);
+      unshared = record {
+        alone = λ none h. (tt, queues_alone plan.segs l.queues.items m.queues.items d.sizes.0 d.queues (f.fills.unshared.alone none h).1);
+        idle = λ none. no_taps plan.taps m.taps.items (d.sizes.1 ∙ f.sizes.1) none;
+      };
+    }
 
 pub is_done : (plan : LanePlan) (old : List Held) (l m : Lanes) → AreFilled plan old l → Did plan l m → All (λ (t : TapLane). IsSome t.texts) m.taps.items → IsDone plan old m
 is_done plan old l m f d read =
@@ -177,28 +172,20 @@ is_done plan old l m f d read =
       merged = all_from (IsWorked plan.segs (spread_of plan) ps) IsMerged 0 m.queues.items (λ i q w. w.is) qs;
       packets =
           each_map (IsWorked plan.segs (spread_of plan) ps) (λ q (l : QueueLane). map packet_of l.packets.items ≡ filter (is_queued (spread_of plan) q) ps) 0 m.queues.items (λ q l w. w.packets) qs;
-      kept = keeps_lanes (of_packets old) plan l m f.kept d;
-      blocks = blocks_lanes (of_packets old) plan l m f.blocks d;
-      count = same_lanes plan old l m f d;
-      named = weighed_lanes plan old l m f d;
-      unshared = unshared_did plan old l m f d;
+      fills = fills_did plan old l m f d;
       clones = no_clones plan.filter plan.snap l.taps.items m.taps.items d.sizes.1 d.taps;
     }
 
 pub is_refused : (plan : LanePlan) (old : List Held) (l m : Lanes) → AreFilled plan old l → Did plan l m → IsRefused plan old [] m
 is_refused plan old l m f d = record {
-  kept = λ t i. let x = keeps_lanes (of_packets old) plan l m f.kept d t i in (omega (arith, x.0), omega (arith, x.1));
-  blocks = λ bs i. omega (arith, blocks_lanes (of_packets old) plan l m f.blocks d bs i);
-  count = omega (arith, same_lanes plan old l m f d);
-  named = λ w. omega (arith, weighed_lanes plan old l m f d w);
-  unshared = unshared_did plan old l m f d;
+  fills = fills_did plan old l m f d;
   clones = no_clones plan.filter plan.snap l.taps.items m.taps.items d.sizes.1 d.taps;
 }
 
 -- what taps have given back is of the packets' blocks, also after the work
 pub of_packets_after : (plan : LanePlan) (old now : List Held) (l m : Lanes) → now ≡ [] → AreFilled plan old l → Did plan l m → AreOfPackets now m
 of_packets_after plan old now l m none f d =
-    let r = is_refused plan old l m f d in
+    let r = fills_did plan old l m f d in
     subst (λ (z : List Held). AreOfPackets z m) (sym none) (are_of_packets old [] m.queues.items m.taps.items r.blocks r.named)
 
 -- taps gave back the clones that they got before memory was refused: so many blocks are no more
@@ -228,49 +215,23 @@ is_given_up plan old now l m us vs queues taps same f kept_taps blocks_taps clon
     let k = kept_given (of_packets old) (of_packets now) l.queues.items l.taps.items us vs f.kept same kept_taps in
     let b = blocks_given (of_packets old) (of_packets now) l.queues.items l.taps.items us vs f.blocks same blocks_taps in
     record {
-      kept = subst (λ qs. P qs m.taps.items) (sym queues) (subst (λ ts. P l.queues.items ts) (sym taps) k);
-      blocks = subst (λ qs. B qs m.taps.items) (sym queues) (subst (λ ts. B l.queues.items ts) (sym taps) b);
-      count = omega (arith, f.count, ap counts_of_queues queues);
-      named = λ w. omega (arith, f.named w, ap (weighed_queues w) queues);
-      unshared = record {
-        alone = λ none h.
-            let x = f.unshared.alone none h in
-            (x.0, subst (All (λ (q : QueueLane). AreAlone q.packets.items)) (sym queues) x.1);
-        idle = λ none. subst (All IsIdleTap) (sym taps) (idle (subst (All IsIdleTap) (sym same) (f.unshared.idle none)));
+      fills = record {
+        kept = subst (λ qs. P qs m.taps.items) (sym queues) (subst (λ ts. P l.queues.items ts) (sym taps) k);
+        blocks = subst (λ qs. B qs m.taps.items) (sym queues) (subst (λ ts. B l.queues.items ts) (sym taps) b);
+        count = omega (arith, f.count, ap counts_of_queues queues);
+        named = λ w. omega (arith, f.named w, ap (weighed_queues w) queues);
+        unshared = record {
+          alone = λ none h.
+              let x = f.unshared.alone none h in
+              (x.0, subst (All (λ (q : QueueLane). AreAlone q.packets.items)) (sym queues) x.1);
+          idle = λ none. subst (All IsIdleTap) (sym taps) (idle (subst (All IsIdleTap) (sym same) (f.unshared.idle none)));
+        };
       };
       clones = subst (All (λ (t : TapLane). t.clones.items ≡ [])) (sym taps) clones;
     }
 
 -- whether all was done or not, nothing is lost
-pub kept_after : {E : Type 0} (r : Result (Unit {0}) E) (plan : LanePlan) (old now : List Held) (l : Lanes) → now ≡ [] → MatchResult r (λ _. IsDone plan old l) (λ _. IsRefused plan old [] l)
-    → Keeps (of_packets old) (both (of_packets now) (of_lanes l))
-kept_after (Ok u) plan old now l none is = λ t m.
-    let k = is.kept t m in
-    let h = ap (λ (z : List Held). (of_packets z).held t m) none in
-    let g = ap (λ (z : List Held). (of_packets z).homes t.blocks m) none in
-    (omega (arith, k.0, h), omega (arith, k.1, h, g))
-kept_after (Err e) plan old now l none is = subst (λ (z : List Held). Keeps (of_packets old) (both (of_packets z) (of_lanes l))) (sym none) is.kept
-
-pub blocks_after : {E : Type 0} (r : Result (Unit {0}) E) (plan : LanePlan) (old now : List Held) (l : Lanes) → now ≡ [] → MatchResult r (λ _. IsDone plan old l) (λ _. IsRefused plan old [] l)
-    → KeepsBlocks (of_packets old) (both (of_packets now) (of_lanes l))
-blocks_after (Ok u) plan old now l none is = λ bs m.
-    let k = is.blocks bs m in
-    let h = ap (λ (z : List Held). (of_packets z).held (every bs) m) none in
-    let g = ap (λ (z : List Held). (of_packets z).homes bs m) none in
-    omega (arith, k, h, g)
-blocks_after (Err e) plan old now l none is = subst (λ (z : List Held). KeepsBlocks (of_packets old) (both (of_packets z) (of_lanes l))) (sym none) is.blocks
-
-pub unshared_after : {E : Type 0} (r : Result (Unit {0}) E) (plan : LanePlan) (old now : List Held) (l : Lanes) → now ≡ [] → MatchResult r (λ _. IsDone plan old l) (λ _. IsRefused plan old [] l)
-    → AreUnshared plan old now l
-unshared_after (Ok u) plan old now l none is = subst (λ (z : List Held). AreUnshared plan old z l) (sym none) is.unshared
-unshared_after (Err e) plan old now l none is = subst (λ (z : List Held). AreUnshared plan old z l) (sym none) is.unshared
-
-pub count_after : {E : Type 0} (r : Result (Unit {0}) E) (plan : LanePlan) (old now : List Held) (l : Lanes) → now ≡ [] → MatchResult r (λ _. IsDone plan old l) (λ _. IsRefused plan old [] l)
-    → counts_of now + counts_of_queues l.queues.items ≡ counts_of old
-count_after (Ok u) plan old now l none is = omega (arith, ap counts_of none, is.count)
-count_after (Err e) plan old now l none is = omega (arith, ap counts_of none, is.count)
-
-pub named_after : {E : Type 0} (r : Result (Unit {0}) E) (plan : LanePlan) (old now : List Held) (l : Lanes) → now ≡ [] → MatchResult r (λ _. IsDone plan old l) (λ _. IsRefused plan old [] l)
-    → (w : ℕ → ℕ) → weighed_slots w now + weighed_queues w l.queues.items ≡ weighed_slots w old
-named_after (Ok u) plan old now l none is w = omega (arith, ap (weighed_slots w) none, is.named w)
-named_after (Err e) plan old now l none is w = omega (arith, ap (weighed_slots w) none, is.named w)
+pub fills_after : {E : Type 0} (r : Result (Unit {0}) E) (plan : LanePlan) (old now : List Held) (l : Lanes) → now ≡ [] → MatchResult r (λ _. IsDone plan old l) (λ _. IsRefused plan old [] l)
+    → Fills plan old now l
+fills_after (Ok u) plan old now l none is = subst (λ (z : List Held). Fills plan old z l) (sym none) is.fills
+fills_after (Err e) plan old now l none is = subst (λ (z : List Held). Fills plan old z l) (sym none) is.fills

@@ -9,12 +9,12 @@ use Rattle.lanes.specs.declared.lane.QueueLane.{QueueLane}
 use Rattle.lanes.specs.declared.lane.TapLane.{TapLane}
 use Rattle.lanes.specs.declared.lane.Lanes.{Lanes}
 use Rattle.lanes.specs.Clones.{weight_after}
-use Rattle.lanes.specs.Lanes.{of_lanes, of_queues, of_taps, counts_of_queues, weighed_queues}
+use Rattle.lanes.specs.Lanes.{of_queues, of_taps, counts_of_queues, weighed_queues}
 use Rattle.lanes.specs.Lanes.{AreIdle, IsFilled, IsIdleTap, IsTapReady}
 use Rattle.lanes.specs.Packets.{RiseFrom}
 use Rattle.lanes.specs.Sharing.{EachFrom, IsSharing, IsSum}
 use Rattle.lanes.specs.Taps.{HasClones}
-use Rattle.lanes.specs.Work.{spread_of, AreUnshared, IsPlan}
+use Rattle.lanes.specs.Work.{spread_of, IsPlan}
 
 -- ---- packets go to their queues
 
@@ -61,14 +61,6 @@ pub record CanFill (by : LanePlan) (packets : List Held) (lanes : Lanes) : Type 
   pub rising : RiseFrom 0 (map packet_of packets)
   pub few : counts_of packets ≤ 65536
   pub idle : AreIdle lanes
-
--- what isn't in the list any more is in the lanes
-pub record Fills (plan : LanePlan) (old new : List Held) (lanes : Lanes) : Type 0 where
-  pub kept : Keeps (of_packets old) (both (of_packets new) (of_lanes lanes))
-  pub blocks : KeepsBlocks (of_packets old) (both (of_packets new) (of_lanes lanes))
-  pub count : counts_of new + counts_of_queues lanes.queues.items ≡ counts_of old
-  pub named : (h : ℕ → ℕ) → weighed_slots h new + weighed_queues h lanes.queues.items ≡ weighed_slots h old
-  pub unshared : AreUnshared plan old new lanes
 
 -- lanes that may be worked
 pub record AreReady (lanes : Lanes) : Type 0 where

@@ -104,16 +104,20 @@ pub record AreUnshared (plan : LanePlan) (old new : List Held) (l : Lanes) : Typ
   pub alone : plan.taps ≡ 0 → AreAlone old → AreAlone new × All (λ m. AreAlone m.packets.items) l.queues.items
   pub idle : plan.taps ≡ 0 → All IsIdleTap l.taps.items
 
+-- what isn't in the list any more is in the lanes
+pub record Fills (plan : LanePlan) (old new : List Held) (l : Lanes) : Type 0 where
+  pub kept : Keeps (of_packets old) (both (of_packets new) (of_lanes l))
+  pub blocks : KeepsBlocks (of_packets old) (both (of_packets new) (of_lanes l))
+  pub count : counts_of new + counts_of_queues l.queues.items ≡ counts_of old
+  pub named : (h : ℕ → ℕ) → weighed_slots h new + weighed_queues h l.queues.items ≡ weighed_slots h old
+  pub unshared : AreUnshared plan old new l
+
 -- they have what they are to do
 pub record AreFilled (plan : LanePlan) (old : List Held) (l : Lanes) : Type 0 where
-  pub kept : Keeps (of_packets old) (of_lanes l)
-  pub blocks : KeepsBlocks (of_packets old) (of_lanes l)
-  pub count : counts_of_queues l.queues.items ≡ counts_of old
-  pub named : (h : ℕ → ℕ) → weighed_queues h l.queues.items ≡ weighed_slots h old
+  pub fills : Fills plan old [] l
   pub queues : EachFrom (IsToWork (spread_of plan) (map packet_of old)) 0 l.queues.items
   pub taps : EachFrom (HasClones (map packet_of old)) 0 l.taps.items
   pub sizes : (length l.queues.items ≡ plan.queues) × (length l.taps.items ≡ plan.taps)
-  pub unshared : AreUnshared plan old [] l
 
 -- each queue has done it, and each tap, or for want of memory that gave back what it had
 pub record Did (plan : LanePlan) (old new : Lanes) : Type 0 where
@@ -129,18 +133,10 @@ pub record IsDone (plan : LanePlan) (old : List Held) (l : Lanes) : Type 0 where
   pub merged : All IsMerged l.queues.items
   pub packets : EachFrom (λ q (m : QueueLane). map packet_of m.packets.items
       ≡ filter (is_queued (spread_of plan) q) (map packet_of old)) 0 l.queues.items
-  pub kept : Keeps (of_packets old) (of_lanes l)
-  pub blocks : KeepsBlocks (of_packets old) (of_lanes l)
-  pub count : counts_of_queues l.queues.items ≡ counts_of old
-  pub named : (h : ℕ → ℕ) → weighed_queues h l.queues.items ≡ weighed_slots h old
-  pub unshared : AreUnshared plan old [] l
+  pub fills : Fills plan old [] l
   pub clones : All (λ t. t.clones.items ≡ []) l.taps.items
 
 -- where memory was refused: the packets that stay, and what the lanes have of the others
 pub record IsRefused (plan : LanePlan) (old new : List Held) (l : Lanes) : Type 0 where
-  pub kept : Keeps (of_packets old) (both (of_packets new) (of_lanes l))
-  pub blocks : KeepsBlocks (of_packets old) (both (of_packets new) (of_lanes l))
-  pub count : counts_of new + counts_of_queues l.queues.items ≡ counts_of old
-  pub named : (h : ℕ → ℕ) → weighed_slots h new + weighed_queues h l.queues.items ≡ weighed_slots h old
-  pub unshared : AreUnshared plan old new l
+  pub fills : Fills plan old new l
   pub clones : All (λ t. t.clones.items ≡ []) l.taps.items

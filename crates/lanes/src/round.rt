@@ -10,7 +10,7 @@ ghost use Rattle.gro.specs.Slots.{packet_of, of_packets, counts_of, weighed_slot
 ghost use Rattle.gro.specs.Slots.{AreAlone, AreHeld, AreShared, WeighAtLeast};
 ghost use Rattle.block_pool.specs.Giving.{LeavesNone, MayGive};
 ghost use Rattle.lanes.specs.Clones.{weight_after};
-ghost use Rattle.lanes.specs.Filling.{AreReady, CanFill, Fills};
+ghost use Rattle.lanes.specs.Filling.{AreReady, CanFill};
 ghost use Rattle.lanes.specs.Lanes.{of_lanes, counts_of_queues, weighed_queues};
 ghost use Rattle.lanes.specs.Lanes.{AreIdle, IsIdleTap, IsMerged, IsTapReady};
 ghost use Rattle.lanes.specs.Packets.{RiseFrom};
@@ -18,7 +18,7 @@ ghost use Rattle.lanes.specs.Sharing.{EachFrom};
 ghost use Rattle.lanes.specs.Soles.{AreOfPackets, HaveNoSoles};
 ghost use Rattle.lanes.specs.Taps.{HasClones};
 ghost use Rattle.lanes.specs.Work.{spread_of, options_by, shown_by, IsPlan, IsToWork, AreFilled, AreMerged};
-ghost use Rattle.lanes.specs.Work.{AreWatched, Did, IsDone, IsRefused, lane_records};
+ghost use Rattle.lanes.specs.Work.{AreWatched, Did, Fills, IsDone, IsRefused, lane_records};
 
 use crate::fill::{give_all_up, open_lanes, serve_taps};
 use crate::lane::{Lanes, TapLane};
