@@ -3,7 +3,7 @@ use Rattle.std.proofs.Common.{◌⊎◌, inl, inr, Option, append-nil}
 use Rattle.std.proofs.Common.{◌≡◌, ℕ, zero, suc, ◌+◌, ◌<◌, ◌≤◌, Bool, true, false, List, [], ◌∷◌, ◌++◌, map, length, get_or, set, refl, sym, ap, ◌∙◌, subst, append_assoc, length-append, arith}
 use Rattle.std.specs.Prelude.{All, cond, reverse}
 use Rattle.std.specs.List.{filter, AllByRecursion}
-use Rattle.std.proofs.lemmas.List.{reverse-append, reverse-reverse}
+use Rattle.std.proofs.lemmas.List.{length-set, reverse-append, reverse-reverse}
 use Rattle.std.proofs.lemmas.Bool.{eq-eqb, ne_eqb}
 use Rattle.pcap_io.specs.Capture.{Packet}
 use Rattle.frame_layout.specs.Key.{key_of}
@@ -320,19 +320,20 @@ turned_none xs ys e none = e ∙ ap reverse none
 -- ---- what private calls say of it
 
 -- before the first packet
-pub shares_none : (n : Spread) (ps : List Held) (ls : List QueueLane) → EachFrom (IsSharing n ps ps) 0 ls → SharesOut n ps ps ls
+pub shares_none : (n : Spread) (ps : List Held) (ls : List QueueLane) → EachFrom (IsSharing n ps ps) 0 ls → SharesOut n ps ps ls ls
 shares_none n ps ls h = record {
   shared = h;
   account = λ t m. let z = empty_account n ps 0 ls h t m in (omega (arith, z.0), omega (arith, z.1));
   counts = omega (arith, empty_counts n ps 0 ls h);
   named = λ w. omega (arith, empty_weighed w n ps 0 ls h);
   alone = λ h. h;
+  size = refl;
 }
 
 -- one packet more
-pub shares_turn : (n : Spread) (every rest : List Held) (p : Held) (q : ℕ) (ls : List QueueLane) (d m : QueueLane) → queue_for n p ≡ 0 + q → q < length ls → TakesIn (get_or ls q d) p m
-    → SharesOut n every (p ∷ rest) ls → SharesOut n every rest (set ls q m)
-shares_turn n every rest p q ls d m e lt taken s = record {
+pub shares_turn : (n : Spread) (every rest : List Held) (p : Held) (q : ℕ) (os ls : List QueueLane) (d m : QueueLane) → queue_for n p ≡ 0 + q → q < length ls → TakesIn (get_or ls q d) p m
+    → SharesOut n every (p ∷ rest) os ls → SharesOut n every rest os (set ls q m)
+shares_turn n every rest p q os ls d m e lt taken s = record {
   shared = share_turn n every rest p 0 q ls d m e lt taken s.shared;
   account = λ t j.
       let a = turn_account q ls d m p lt taken t j in
@@ -341,12 +342,13 @@ shares_turn n every rest p q ls d m e lt taken s = record {
   counts = omega (arith, turn_counts q ls d m p lt taken, s.counts);
   named = λ w. omega (arith, turn_weighed w q ls d m p lt taken, s.named w);
   alone = λ h. (s.alone h).1;
+  size = length-set ls q m ∙ s.size;
 }
 
 -- none more
-pub shares_stop : (n : Spread) (every rest : List Held) (q : ℕ) (ls : List QueueLane) (d m : QueueLane) → q < length ls → StaysAs (get_or ls q d) m → SharesOut n every rest ls
-    → SharesOut n every rest (set ls q m)
-shares_stop n every rest q ls d m lt stays s = record {
+pub shares_stop : (n : Spread) (every rest : List Held) (q : ℕ) (os ls : List QueueLane) (d m : QueueLane) → q < length ls → StaysAs (get_or ls q d) m → SharesOut n every rest os ls
+    → SharesOut n every rest os (set ls q m)
+shares_stop n every rest q os ls d m lt stays s = record {
   shared = share_stop n every rest 0 q ls d m lt stays s.shared;
   account = λ t j.
       let a = stop_account q ls d m lt stays t j in
@@ -355,25 +357,28 @@ shares_stop n every rest q ls d m lt stays s = record {
   counts = omega (arith, stop_counts q ls d m lt stays, s.counts);
   named = λ w. omega (arith, stop_weighed w q ls d m lt stays, s.named w);
   alone = s.alone;
+  size = length-set ls q m ∙ s.size;
 }
 
 -- all to the lane of the one queue
 pub shares_alone : (n : Spread) (ps : List Held) (ls : List QueueLane) (d m : QueueLane) → length ls ≡ 1 → ((key : Option (List ℕ)) → n key ≡ 0) → TakesAll (get_or ls 0 d) ps m
-    → EachFrom (IsSharing n ps ps) 0 ls → SharesOut n ps [] (set ls 0 m)
+    → EachFrom (IsSharing n ps ps) 0 ls → SharesOut n ps [] ls (set ls 0 m)
 shares_alone n ps ls d m one zero_all t h = record {
   shared = alone_takes n ps ls d m one zero_all t h;
   account = alone_holds ps ls d m one t;
   counts = omega (arith, alone_has ps ls d m one t);
   named = λ w. omega (arith, alone_weighs w ps ls d m one t);
   alone = λ _. tt;
+  size = length-set ls 0 m;
 }
 
 -- lanes got memory
-pub shares_stay : (n : Spread) (every rest : List Held) (ls ms : List QueueLane) → length ms ≡ length ls → EachStays ls ms → SharesOut n every rest ls → SharesOut n every rest ms
-shares_stay n every rest ls ms e stay s = record {
+pub shares_stay : (n : Spread) (every rest : List Held) (os ls ms : List QueueLane) → length ms ≡ length ls → EachStays ls ms → SharesOut n every rest os ls → SharesOut n every rest os ms
+shares_stay n every rest os ls ms e stay s = record {
   shared = did_stay 0 n every rest ls ms e stay s.shared;
   account = subst (IsSum (of_packets every) (of_packets rest)) (sym (same_hold ls ms e stay)) s.account;
   counts = omega (arith, same_counts ls ms e stay, s.counts);
   named = λ w. omega (arith, same_weighed w ls ms e stay, s.named w);
   alone = s.alone;
+  size = e ∙ s.size;
 }

@@ -26,12 +26,13 @@ pub record AreOpen (by : LanePlan) (packets : List Held) (lanes : List QueueLane
   pub empty : EachFrom (IsSharing (spread_of by) packets packets) 0 lanes
 
 -- of packets that were in a list the lanes have each that isn't there any more, in its queue
-pub record SharesOut (spread : Spread) (old new : List Held) (lanes : List QueueLane) : Type 0 where
-  pub shared : EachFrom (IsSharing spread old new) 0 lanes
-  pub account : IsSum (of_packets old) (of_packets new) (of_queues lanes)
-  pub counts : counts_of old ≡ counts_of new + counts_of_queues lanes
-  pub named : (h : ℕ → ℕ) → weighed_slots h old ≡ weighed_slots h new + weighed_queues h lanes
+pub record SharesOut (spread : Spread) (old new : List Held) (before after : List QueueLane) : Type 0 where
+  pub shared : EachFrom (IsSharing spread old new) 0 after
+  pub account : IsSum (of_packets old) (of_packets new) (of_queues after)
+  pub counts : counts_of old ≡ counts_of new + counts_of_queues after
+  pub named : (h : ℕ → ℕ) → weighed_slots h old ≡ weighed_slots h new + weighed_queues h after
   pub alone : AreAlone old → AreAlone new
+  pub size : length after ≡ length before
 
 -- ---- taps get clones
 

@@ -47,8 +47,8 @@ fn spread_back(
     lanes: &mut [QueueLane],
 ) -> Result<(), AllocError>
     requires lanes { AreOpen plan.now (reverse packets.old.items) lanes.old }
-    ensures size { length lanes.new ≡ length lanes.old }
-    ensures shares { SharesOut (spread_of plan.now) (reverse packets.old.items) (reverse packets.new.items) lanes.new }
+    ensures shares { SharesOut (spread_of plan.now) (reverse packets.old.items) (reverse packets.new.items) lanes.old
+        lanes.new }
     ensures all { OnOk result (packets.new.items ≡ []) }
 {
     while let Some(packet) = packets.pop() {
@@ -65,8 +65,7 @@ fn spread_back(
 // leave their list by its end, so the list is turned.
 fn spread(packets: &mut Packets, plan: &LanePlan, lanes: &mut [QueueLane]) -> Result<(), AllocError>
     requires lanes { AreOpen plan.now packets.old.items lanes.old }
-    ensures size { length lanes.new ≡ length lanes.old }
-    ensures shares { SharesOut (spread_of plan.now) packets.old.items packets.new.items lanes.new }
+    ensures shares { SharesOut (spread_of plan.now) packets.old.items packets.new.items lanes.old lanes.new }
     ensures all { OnOk result (packets.new.items ≡ []) }
 {
     packets.reverse();
@@ -113,8 +112,7 @@ fn give_out(
 ) -> Result<(), AllocError>
     requires lanes { AreOpen plan.now packets.old.items lanes.old }
     requires idle { All IsIdleQueue lanes.old }
-    ensures size { length lanes.new ≡ length lanes.old }
-    ensures shares { SharesOut (spread_of plan.now) packets.old.items packets.new.items lanes.new }
+    ensures shares { SharesOut (spread_of plan.now) packets.old.items packets.new.items lanes.old lanes.new }
     ensures all { OnOk result (packets.new.items ≡ []) }
 {
     if plan.queues == 1 {
@@ -134,8 +132,7 @@ pub(crate) fn share_out(
     requires lanes { AreOpen plan.now packets.old.items lanes.old }
     requires few { counts_of packets.old.items ≤ 65536 }
     requires idle { All IsIdleQueue lanes.old }
-    ensures size { length lanes.new ≡ length lanes.old }
-    ensures shares { SharesOut (spread_of plan.now) packets.old.items packets.new.items lanes.new }
+    ensures shares { SharesOut (spread_of plan.now) packets.old.items packets.new.items lanes.old lanes.new }
     ensures all { OnOk result (packets.new.items ≡ []) }
     ensures memory { OnOk result (All HasMemory lanes.new) }
 {

@@ -32,7 +32,7 @@ taps_served c =
 queues_filled : (c : After-share_out) → written c.open_lanes.new.lanes.queues.len c.share_out.new.lanes c.open_lanes.new.lanes.queues.items ≡ c.share_out.new.lanes
 queues_filled c =
     let queues = c.open_lanes.new.lanes.queues in
-    refilled queues.len c.share_out.new.lanes queues.items (omega (arith, c.share_out.ensures.size)) (omega (arith, queues.ok))
+    refilled queues.len c.share_out.new.lanes queues.items (omega (arith, c.share_out.ensures.shares.size)) (omega (arith, queues.ok))
 
 -- so what holds of queues and taps by themselves holds of the lanes
 of_both : (c : After-share_out) (P : List QueueLane → List TapLane → Type 0) → P c.share_out.new.lanes c.serve_taps.new.lanes

@@ -17,7 +17,7 @@ returns-then-plan-eq1-clause-shares c =
     let n = spread_of plan in
     let one : length ls ≡ 1 = omega (arith, open'.queues, c.if-plan-eq1.true) in
     let none : c.give_all.new.packets.items ≡ [] = c.give_all.ensures.list ∙ alone_had ls d one c.requires.idle in
-    subst (λ (z : List Held). SharesOut n ps z (set ls 0 m)) (sym none)
+    subst (λ (z : List Held). SharesOut n ps z ls (set ls 0 m)) (sym none)
     (shares_alone n ps ls d m one (λ key. omega (arith, spread_below plan key open'.plan, c.if-plan-eq1.true)) c.give_all.ensures.given open'.empty)
 
 pub returns-then-plan-eq1-clause-all : goal.returns-then-plan-eq1-clause-all

@@ -8,5 +8,5 @@ start_all-requires c = record { few = omega (arith, c.in_ok-give_out.ensures.sha
 
 pub returns-clause-shares : goal.returns-clause-shares
 returns-clause-shares c =
-    shares_stay (spread_of c.args.plan.now) c.args.packets.now.items c.give_out.new.packets.items c.give_out.new.lanes c.start_all.new.lanes c.start_all.ensures.size c.start_all.ensures.stay
+    shares_stay (spread_of c.args.plan.now) c.args.packets.now.items c.give_out.new.packets.items c.args.lanes.now c.give_out.new.lanes c.start_all.new.lanes c.start_all.ensures.size c.start_all.ensures.stay
     c.in_ok-give_out.ensures.shares

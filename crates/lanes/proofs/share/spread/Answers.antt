@@ -17,8 +17,8 @@ returns-clause-shares c =
     let lanes = c.spread_back-spread.new.lanes in
     let n = spread_of c.args.plan.now in
     let now = c.reverse-2.new.self.items in
-    subst (λ (z : List Held). SharesOut n z now lanes) (turned c.args.packets.now.items c.reverse.new.self.items c.reverse.ensures.items)
-    (subst (λ (z : List Held). SharesOut n (reverse c.reverse.new.self.items) z lanes) (sym c.reverse-2.ensures.items) c.spread_back-spread.ensures.shares)
+    subst (λ (z : List Held). SharesOut n z now c.args.lanes.now lanes) (turned c.args.packets.now.items c.reverse.new.self.items c.reverse.ensures.items)
+    (subst (λ (z : List Held). SharesOut n (reverse c.reverse.new.self.items) z c.args.lanes.now lanes) (sym c.reverse-2.ensures.items) c.spread_back-spread.ensures.shares)
 
 pub returns-clause-all : goal.returns-clause-all
 returns-clause-all c =

@@ -1,4 +1,4 @@
-use Rattle.std.proofs.Common.{◌≡◌, List, ◌∷◌, [], ◌++◌, length-set, set, ap, sym, subst, ◌∙◌, refl, arith}
+use Rattle.std.proofs.Common.{◌≡◌, List, ◌∷◌, [], ◌++◌, set, ap, sym, subst, ◌∙◌, arith}
 use Rattle.std.specs.Prelude.{reverse}
 use Rattle.gro.specs.declared.slot.Slot.{Slot as Held}
 use Rattle.gro.specs.Slots.{AreHeld}
@@ -9,7 +9,6 @@ use Rattle.lanes.proofs.share.spread_back.Goals as goal
 
 pub loop-packet-init : goal.loop-packet-init
 loop-packet-init c = record {
-  size = refl;
   shares = shares_none (spread_of c.args.plan.now) (reverse c.args.packets.now.items) c.args.lanes.now c.requires.lanes.empty;
   held = c.requires.lanes.held;
 }
@@ -29,8 +28,8 @@ returns-in-Err-clause-shares c =
     let rest = c.pop.new.self.items in
     let same : l.packets.items ≡ c.push.new.self.items
     = c.in-Some.ensures.some ∙ ap (λ (z : Held). rest ++ z ∷ []) (sym {A = Held} back.0) ∙ sym {A = List Held} c.push.ensures.items in
-    subst (λ (z : List Held). SharesOut n every (reverse z) (set l.lanes q m)) same
-    (shares_stop n every (reverse l.packets.items) q l.lanes c.index-lanes-queue.result m (omega arith) back.1 l.invariant.shares)
+    subst (λ (z : List Held). SharesOut n every (reverse z) c.args.lanes.now (set l.lanes q m)) same
+    (shares_stop n every (reverse l.packets.items) q c.args.lanes.now l.lanes c.index-lanes-queue.result m (omega arith) back.1 l.invariant.shares)
 
 pub loop-packet-preserved : goal.loop-packet-preserved
 loop-packet-preserved c =
@@ -42,8 +41,7 @@ loop-packet-preserved c =
     let m = c.take_in.new.lane in
     let e = popped l.packets.items c.pop.new.self.items p c.in-Some.ensures.some in
     record {
-      size = length-set l.lanes q m ∙ l.invariant.size;
-      shares = shares_turn n every (reverse c.pop.new.self.items) p q l.lanes c.index-lanes-queue.result m (omega (arith, c.queue_for-queue.ensures.queue)) (omega arith)
-          c.in_default-take_in.ensures.taken (subst (λ (z : List Held). SharesOut n every z l.lanes) e l.invariant.shares);
+      shares = shares_turn n every (reverse c.pop.new.self.items) p q c.args.lanes.now l.lanes c.index-lanes-queue.result m (omega (arith, c.queue_for-queue.ensures.queue)) (omega arith)
+          c.in_default-take_in.ensures.taken (subst (λ (z : List Held). SharesOut n every z c.args.lanes.now l.lanes) e l.invariant.shares);
       held = (subst AreHeld e l.invariant.held).1;
     }

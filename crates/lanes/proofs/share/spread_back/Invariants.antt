@@ -1,4 +1,4 @@
-use Rattle.std.proofs.Common.{◌≡◌, length}
+use Rattle.std.proofs.Common.{length}
 use Rattle.std.specs.Prelude.{reverse}
 use Rattle.gro.specs.Slots.{AreHeld}
 use Rattle.lanes.specs.Filling.{SharesOut}
@@ -7,8 +7,7 @@ use Rattle.lanes.proofs.share.spread_back.Given as goal
 
 abbrev pub invariant-loop-packet : goal.invariant-loop-packet
 invariant-loop-packet l = record {
-  size : length l.lanes ≡ length l.fn.lanes;
-  shares : SharesOut (spread_of l.plan) (reverse l.fn.packets.items) (reverse l.packets.items) l.lanes;
+  shares : SharesOut (spread_of l.plan) (reverse l.fn.packets.items) (reverse l.packets.items) l.fn.lanes l.lanes;
   held : AreHeld (reverse l.packets.items);
 }
 
