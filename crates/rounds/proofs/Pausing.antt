@@ -1,5 +1,5 @@
 -- A round that waits behind a header that is kept, and its rest.
-use Rattle.std.proofs.Common.{◌≡◌, ◌≢◌, ◌+◌, ◌<◌, ◌≤◌, ℕ, List, [], ◌∷◌, ◌++◌, Bool, true, false, Option, Some, Ok, Err, length, length-append, map, refl, sym, ap, ◌∙◌, arith, subst}
+use Rattle.std.proofs.Common.{◌≡◌, ◌+◌, ◌-◌, ◌<◌, ◌≤◌, ℕ, List, [], ◌∷◌, ◌++◌, Bool, true, false, Option, Some, Ok, Err, length, length-append, map, refl, sym, ap, ◌∙◌, arith, subst}
 use Rattle.std.proofs.lemmas.Bool.{false≢true}
 use Rattle.std.specs.List.{AllByRecursion}
 use Rattle.off_io.specs.Told.{Told}
@@ -9,16 +9,21 @@ use Rattle.pcap_io.specs.declared.heads.RecHead.{RecHead}
 use Rattle.pcap_io.specs.declared.place.Place.{Place}
 use Rattle.pcap_io.specs.Places.{IsReady}
 use Rattle.pcap_io.specs.Reading.{GivesHead}
+use Rattle.skb.specs.SkbState.{buffer_bytes}
 use Rattle.offload_model.specs.Captured.{IsCaptured}
-use Rattle.offload_model.specs.Need.{round_need}
+use Rattle.offload_model.specs.Need.{need_of, round_need}
 use Rattle.gro.specs.declared.slot.Slot.{Slot as Held}
-use Rattle.gro.specs.Slots.{packet_of}
+use Rattle.gro.specs.Slots.{packet_of, count_of, counts_of}
 use Rattle.records.specs.declared.reading.Stop.{Stop}
 use Rattle.records.specs.declared.reading.Stop.TheVariants as stops
+use Rattle.records.specs.Laid.{AreRead, IsLaid, IsRead, LaidFrom}
+use Rattle.records.proofs.Laying.{laid_at}
 use Rattle.records.specs.Reading.{GivesKept, GoesOn, KeepsHead, Passes}
-use Rattle.rounds.specs.Ahead.{GivesBehind, ReadsAhead, Waits}
+use Rattle.rounds.specs.Ahead.{GivesBehind, Waits}
+use Rattle.rounds.specs.Filling.{Reached, FillsAhead, FillsBehind, FillsOn, FillsWhole}
 use Rattle.rounds.specs.Fresh.{NumberedFrom}
 use Rattle.rounds.specs.Reading.{GivesRest, GivesRound, FillsRound, IfEnded, IsEndOf, IsHaltOf, NumbersOn, PassesOver, WaitsOver}
+use Rattle.rounds.specs.RoundOf.{IsRoundOf}
 use Rattle.rounds.specs.RoundsState.{RoundState}
 use Rattle.rounds.specs.declared.reading.Halt.{Halt}
 use Rattle.rounds.specs.declared.reading.Halt.TheVariants.{Ended, Lacking}
@@ -26,7 +31,9 @@ use Rattle.rounds.specs.declared.round.Paused.{Paused}
 use Rattle.rounds.specs.declared.round.ReadAhead.TheVariants as aheads
 use Rattle.rounds.specs.declared.round.RoundEnd.{RoundEnd}
 use Rattle.rounds.specs.declared.round.RoundEnd.TheVariants as ends
-use Rattle.rounds.proofs.Rounding.{ReadSoFar, goes_over, loses_head, passes_none, precede_more, round_stop, whole_fills, whole_goes, whole_numbered}
+use Rattle.rounds.specs.declared.round.RoundRead.{RoundRead}
+use Rattle.rounds.proofs.Coming.{counts_last}
+use Rattle.rounds.proofs.Rounding.{ReadSoFar, captured_last, goes_over, loses_head, need_last, passes_none, precede_more, read_last, round_none, round_stop, whole_fills, whole_given, whole_goes, whole_numbered}
 use Rattle.rounds.proofs.Taking.{numbered_last}
 
 -- ---- why no more records are read
@@ -55,8 +62,21 @@ is_full _ = false
 pub no_memory_full : ends.NoMemory ≡ ends.Full → ⊥
 no_memory_full e = false≢true (ap is_full e)
 
+abbrev is_fault : RoundEnd → Bool
+is_fault ends.ReadFault = true
+is_fault _ = false
+
+pub no_memory_fault : ends.NoMemory ≡ ends.ReadFault → ⊥
+no_memory_fault e = false≢true (ap is_fault e)
+
+pub full_fault : Ended ends.Full ≡ Ended ends.ReadFault → ⊥
+full_fault e = false≢true (ap (λ h. is_fault (end_in h)) e)
+
 pub lacking_full : Lacking ≡ Ended ends.Full → ⊥
 lacking_full e = false≢true (sym (ap is_lacking e))
+
+pub ended_same : (a b : RoundEnd) → Ended a ≡ Ended b → a ≡ b
+ended_same a b e = ap end_in e
 
 ended_lacking : (end : RoundEnd) (halt : Halt) → halt ≡ Ended end → halt ≡ Lacking → ⊥
 ended_lacking end halt is lacks = false≢true (ap is_lacking (sym is ∙ lacks))
@@ -69,6 +89,53 @@ halt_lacking (stops.PoolEmpty need) halt is lacks = absurd (ended_lacking (ends.
 halt_lacking stops.ReadFault halt is lacks = absurd (ended_lacking ends.ReadFault halt is lacks)
 halt_lacking stops.NoMemory halt is lacks = absurd (ended_lacking ends.NoMemory halt is lacks)
 halt_lacking stops.Lacking halt is lacks = refl
+
+-- a round is full for none
+pub halt_full : (stop : Stop) (halt : Halt) → IsHaltOf stop halt → halt ≡ Ended ends.Full → ⊥
+halt_full stops.End halt is full = false≢true (ap (λ h. is_full (end_in h)) (sym is ∙ full))
+halt_full (stops.Malformed fault) halt is full = false≢true (ap (λ h. is_full (end_in h)) (sym is ∙ full))
+halt_full (stops.PoolEmpty need) halt is full = false≢true (ap (λ h. is_full (end_in h)) (sym is ∙ full))
+halt_full stops.ReadFault halt is full = false≢true (ap (λ h. is_full (end_in h)) (sym is ∙ full))
+halt_full stops.NoMemory halt is full = false≢true (ap (λ h. is_full (end_in h)) (sym is ∙ full))
+halt_full stops.Lacking halt is full = false≢true (ap (λ h. is_full (end_in h)) (sym is ∙ full))
+
+pub end_full : (stop : Stop) (end : RoundEnd) → IsEndOf stop end → end ≡ ends.Full → ⊥
+end_full stops.End end is full = false≢true (ap is_full (sym is ∙ full))
+end_full (stops.Malformed fault) end is full = false≢true (ap is_full (sym is ∙ full))
+end_full (stops.PoolEmpty need) end is full = false≢true (ap is_full (sym is ∙ full))
+end_full stops.ReadFault end is full = false≢true (ap is_full (sym is ∙ full))
+end_full stops.NoMemory end is full = false≢true (ap is_full (sym is ∙ full))
+end_full stops.Lacking end is full = is
+
+-- and its source failed for this alone
+pub halt_fault : (stop : Stop) (halt : Halt) → IsHaltOf stop halt → halt ≡ Ended ends.ReadFault → stop ≡ stops.ReadFault
+halt_fault stops.End halt is fault = absurd (false≢true (ap (λ h. is_fault (end_in h)) (sym is ∙ fault)))
+halt_fault (stops.Malformed why) halt is fault = absurd (false≢true (ap (λ h. is_fault (end_in h)) (sym is ∙ fault)))
+halt_fault (stops.PoolEmpty need) halt is fault = absurd (false≢true (ap (λ h. is_fault (end_in h)) (sym is ∙ fault)))
+halt_fault stops.ReadFault halt is fault = refl
+halt_fault stops.NoMemory halt is fault = absurd (false≢true (ap (λ h. is_fault (end_in h)) (sym is ∙ fault)))
+halt_fault stops.Lacking halt is fault = absurd (false≢true (ap (λ h. is_fault (end_in h)) (sym is ∙ fault)))
+
+pub end_fault : (stop : Stop) (end : RoundEnd) → IsEndOf stop end → end ≡ ends.ReadFault → stop ≡ stops.ReadFault
+end_fault stops.End end is fault = absurd (false≢true (ap is_fault (sym is ∙ fault)))
+end_fault (stops.Malformed why) end is fault = absurd (false≢true (ap is_fault (sym is ∙ fault)))
+end_fault (stops.PoolEmpty need) end is fault = absurd (false≢true (ap is_fault (sym is ∙ fault)))
+end_fault stops.ReadFault end is fault = refl
+end_fault stops.NoMemory end is fault = absurd (false≢true (ap is_fault (sym is ∙ fault)))
+end_fault stops.Lacking end is fault = absurd is
+
+-- ---- a round with one packet more
+
+pub round_last : (ps qs : List Held) (p : Held) (spares spares' used used' mark : ℕ) → qs ≡ ps ++ p ∷ [] → IsRoundOf ps spares used → mark ≡ used - spares → spares' ≡ spares + 2
+    → used' ≡ used + (count_of p + 2) → IsLaid mark p → IsRead p → IsCaptured (packet_of p) → count_of p + 2 ≡ need_of (length (buffer_bytes p.skb)) → IsRoundOf qs spares' used'
+round_last ps qs p spares spares' used used' mark e r at more count laid read captured need = record {
+  laid = subst (LaidFrom 0) (sym e) (laid_at ps p used spares mark r.count at r.laid laid);
+  count = omega (arith, ap counts_of e, counts_last ps p, r.count, count, more);
+  pairs = omega (arith, ap (λ (xs : List Held). length xs) e, length-append ps (p ∷ []), r.pairs, more);
+  read = subst AreRead (sym e) (read_last ps p r.read read);
+  captured = subst (λ (xs : List Held). AllByRecursion IsCaptured (map packet_of xs)) (sym e) (captured_last ps p r.captured captured);
+  need = omega (arith, ap (λ (xs : List Held). round_need (map packet_of xs)) e, need_last ps p, r.need, count, need);
+}
 
 -- ---- a round that waits behind a header
 
@@ -109,36 +176,91 @@ waits_whole budget old new a b first p ready none fewer numbers w = record {
       (λ bytes left x. (x.0, (waits_passes w.at old first p.round.packets bytes x.0 none x.1.0, x.1.1))) w.given;
 }
 
--- what both ways out have, where no packet was there before
-pub record Sofar (budget : ℕ) (old new : Place) (first : List Held) (halt : Halt) (round : RoundState) : Type 0 where
-  pub ready : IsReady old
-  pub none : first ≡ []
-  pub size : length round.packets ≤ budget
-  pub fewer : halt ≢ Ended ends.Full → length round.packets < budget
-  pub full : halt ≡ Ended ends.Full → FillsRound old new first round.packets budget
-  pub captured : AllByRecursion IsCaptured (map packet_of round.packets)
-  pub numbers : NumbersOn old.number first round.packets
-  pub need : round.blocks ≡ round_need (map packet_of round.packets)
+-- ---- what a round comes to that had no packet before
 
-pub ends_ahead : (budget : ℕ) (old new : Place) (first : List Held) (halt : Halt) (round : RoundState) (end : RoundEnd) → halt ≡ Ended end → Sofar budget old new first halt round
-    → ReadsAhead budget old new (aheads.Read (record { round = round; end = end }))
-ends_ahead budget old new first halt round end is s = record {
-  size = s.size;
-  fewer = λ not_full memory. s.fewer (λ full. not_full (ap end_in (sym is ∙ full)));
-  full = λ full. whole_fills old new first round.packets budget s.ready s.none (s.full (is ∙ ap Ended full));
-  captured = s.captured;
-  numbers = whole_numbered old.number first round.packets s.none s.numbers;
-  need = s.need;
+-- it ends
+pub whole_on : (blocks budget : ℕ) (from to : Reached) (first round : List Held) (halt : Halt) (end : RoundEnd) → halt ≡ Ended end → IsReady from.place → first ≡ []
+    → FillsOn blocks budget from to first round halt → FillsWhole blocks budget from to round end
+whole_on blocks budget from to first round halt end is ready none f = record {
+  given = whole_given from.left to.left from.place to.place blocks first round end none
+      (subst (λ (h : Halt). IfEnded h (λ (e : RoundEnd). Told from.left to.left (GivesRest blocks from.place to.place first round e))) is f.given);
+  size = f.size;
+  fewer = λ not_full memory. f.fewer (λ full. not_full (ap end_in (sym is ∙ full)));
+  full = λ full. whole_fills from.place to.place first round budget ready none (f.full (is ∙ ap Ended full));
+  numbers = whole_numbered from.place.number first round none f.numbers;
+  later = f.later;
+  failed = λ fault. f.failed (is ∙ ap Ended fault);
 }
 
-pub waits_ahead : (budget : ℕ) (old new : Place) (first : List Held) (halt : Halt) (p : Paused) → Sofar budget old new first halt p.round → ReadsAhead budget old new (aheads.Paused p)
-waits_ahead budget old new first halt p s = record {
-  size = s.size;
-  fewer = tt;
-  full = tt;
-  captured = s.captured;
-  numbers = whole_numbered old.number first p.round.packets s.none s.numbers;
-  need = s.need;
+-- it waits for blocks that don't come
+pub whole_waits : (blocks budget : ℕ) (from to : Reached) (first round : List Held) (halt : Halt) (head : RecHead) → first ≡ [] → FillsOn blocks budget from to first round halt
+    → WaitsOver from.place to.place from.left to.left first round head → FillsWhole blocks budget from to round ends.NoMemory
+whole_waits blocks budget from to first round halt head none f w = record {
+  given = waits_ends from.left to.left from.place to.place blocks first round head none w;
+  size = f.size;
+  fewer = λ not_full memory. absurd (memory refl);
+  full = λ full. absurd (no_memory_full full);
+  numbers = whole_numbered from.place.number first round none f.numbers;
+  later = f.later;
+  failed = λ fault. absurd (no_memory_fault fault);
+}
+
+-- none is read, for want of memory
+pub unread_whole : (blocks budget : ℕ) (from : Reached) (read : RoundRead) → read.round.packets ≡ [] → read.end ≡ ends.NoMemory → FillsWhole blocks budget from from read.round.packets read.end
+unread_whole blocks budget from read none end = record {
+  given = subst (λ (e : RoundEnd). Told from.left from.left (GivesRound blocks from.place from.place read.round.packets e)) (sym end)
+      (Told-same from.left (GivesRound blocks from.place from.place read.round.packets ends.NoMemory) (λ bytes. ([], refl)));
+  size = omega (arith, ap (λ (xs : List Held). length xs) none);
+  fewer = λ not_full memory. absurd (memory end);
+  full = λ full. absurd (no_memory_full (sym end ∙ full));
+  numbers = subst (NumberedFrom from.place.number) (sym none) tt;
+  later = omega arith;
+  failed = λ fault. absurd (no_memory_fault (sym end ∙ fault));
+}
+
+pub unread_ahead : (blocks budget : ℕ) (from : Reached) (read : RoundRead) → read.round.packets ≡ [] → read.round.blocks ≡ 0 → read.end ≡ ends.NoMemory
+    → FillsAhead blocks budget from from (aheads.Read read)
+unread_ahead blocks budget from read none empty end =
+    let w = unread_whole blocks budget from read none end in
+    let r = round_none read.round.packets 0 read.round.blocks none refl empty in
+    record {
+      given = w.given;
+      reads = record { size = w.size; fewer = w.fewer; full = w.full; captured = r.captured; numbers = w.numbers; need = r.need };
+      waits = tt;
+      later = w.later;
+      failed = w.failed;
+    }
+
+-- beside work it ends, or it is paused
+pub ends_ahead : (blocks budget : ℕ) (from to : Reached) (first : List Held) (round : RoundState) (halt : Halt) (end : RoundEnd) → halt ≡ Ended end → IsReady from.place → first ≡ []
+    → FillsOn blocks budget from to first round.packets halt → AllByRecursion IsCaptured (map packet_of round.packets) → round.blocks ≡ round_need (map packet_of round.packets)
+    → FillsAhead blocks budget from to (aheads.Read (record { round = round; end = end }))
+ends_ahead blocks budget from to first round halt end is ready none f captured need =
+    let w = whole_on blocks budget from to first round.packets halt end is ready none f in
+    record {
+      given = w.given;
+      reads = record { size = w.size; fewer = w.fewer; full = w.full; captured = captured; numbers = w.numbers; need = need };
+      waits = tt;
+      later = w.later;
+      failed = w.failed;
+    }
+
+pub waits_ahead : (blocks budget : ℕ) (from to : Reached) (first : List Held) (p : Paused) (halt : Halt) → halt ≡ Lacking → IsReady from.place → first ≡ []
+    → FillsOn blocks budget from to first p.round.packets halt → AllByRecursion IsCaptured (map packet_of p.round.packets) → p.round.blocks ≡ round_need (map packet_of p.round.packets)
+    → WaitsOver from.place to.place from.left to.left first p.round.packets p.head → FillsAhead blocks budget from to (aheads.Paused p)
+waits_ahead blocks budget from to first p halt is ready none f captured need w = record {
+  given = tt;
+  reads = record {
+    size = f.size;
+    fewer = tt;
+    full = tt;
+    captured = captured;
+    numbers = whole_numbered from.place.number first p.round.packets none f.numbers;
+    need = need;
+  };
+  waits = waits_whole budget from.place to.place from.left to.left first p ready none (f.fewer (λ full. lacking_full (sym is ∙ full))) f.numbers w;
+  later = f.later;
+  failed = tt;
 }
 
 -- ---- the rest of a round, behind a header that was kept
@@ -162,6 +284,20 @@ behind_more a b c at mid new used blocks head first qs round p end e first_told 
 pub behind_unread : (a : Option (List ℕ)) (at new : Place) (blocks : ℕ) (head : RecHead) (first : List Held) → Told a a (GivesBehind blocks at new head first first ends.NoMemory)
 behind_unread a at new blocks head first =
     Told-same a (GivesBehind blocks at new head first first ends.NoMemory) (λ bytes. λ from before opened passes takes. loses_head at (map packet_of first) from before opened bytes head passes takes)
+
+-- so no packet is more than there were
+pub unread_behind : (blocks budget : ℕ) (from : Reached) (head : RecHead) (first round : List Held) → round ≡ first → length first < budget
+    → FillsBehind blocks budget from from head first round ends.NoMemory
+unread_behind blocks budget from head first round same fewer = record {
+  given = λ at keeps.
+      subst (λ (xs : List Held). Told from.left from.left (GivesBehind blocks at from.place head first xs ends.NoMemory)) (sym same) (behind_unread from.left at from.place blocks head first);
+  size = omega (arith, ap (λ (xs : List Held). length xs) same, fewer);
+  fewer = λ not_full. omega (arith, ap (λ (xs : List Held). length xs) same, fewer);
+  full = λ full. absurd (no_memory_full full);
+  numbers = λ at keeps. λ k run is. subst (NumberedFrom k) (sym same) run;
+  later = omega arith;
+  failed = λ fault. absurd (no_memory_fault fault);
+}
 
 pub fills_behind : (at mid new : Place) (first qs round : List Held) (p : Held) (budget : ℕ) → qs ≡ first ++ p ∷ [] → GoesOn at mid → FillsRound mid new qs round budget
     → FillsRound at new first round budget

@@ -22,11 +22,11 @@ use Rattle.gro.specs.Slots.{packet_of}
 use Rattle.records.specs.Laid.{IsRead}
 use Rattle.rounds.specs.Fresh.{NumberedFrom}
 use Rattle.records.specs.Reading.{front_size, in_front, Passes, HoldsNone, judged_at, GivesRecord, GoesOn, NeedsMore}
+use Rattle.rounds.specs.RoundOf.{IsRoundOf}
 use Rattle.rounds.specs.Reading.{GivesRound, GivesRest, PassesOver, PassesRound, GoesOver, FillsRound, NumbersOn, Holds, Exceeds, IsEndOf}
 use Rattle.records.specs.declared.reading.Stop.{Stop}
 use Rattle.records.specs.declared.reading.Stop.TheVariants as stops
 use Rattle.rounds.specs.declared.round.RoundEnd.{RoundEnd}
-use Rattle.rounds.specs.declared.round.RoundEnd.TheVariants as ends
 use Rattle.rounds.proofs.Taking.{numbered_last}
 
 -- behind the first packets these stand before what is still to be read
@@ -238,6 +238,18 @@ whole_fills old new first packets budget ready none fills = subst (λ (xs : List
 
 pub whole_goes : (old new : Place) (first packets : List Held) → IsReady old → first ≡ [] → GoesOver old new first packets → PassesRound old new packets (length packets)
 whole_goes old new first packets ready none goes = subst (λ (xs : List Held). GoesOver old new xs packets) none goes old (began old ready)
+
+-- a round of no packets
+pub round_none : (packets : List Held) (spares blocks : ℕ) → packets ≡ [] → spares ≡ 0 → blocks ≡ 0 → IsRoundOf packets spares blocks
+round_none [] spares blocks none bare empty = record {
+  laid = tt;
+  count = omega (arith, bare, empty);
+  pairs = omega (arith, bare);
+  read = tt;
+  captured = tt;
+  need = empty;
+}
+round_none (p ∷ ps) spares blocks none bare empty = absurd (omega (arith, ap (λ (xs : List Held). length xs) none))
 
 pub whole_numbered : (n : ℕ) (first packets : List Held) → first ≡ [] → NumbersOn n first packets → NumberedFrom n packets
 whole_numbered n first packets none on = subst (λ (xs : List Held). NumbersOn n xs packets) none on n tt (omega arith)

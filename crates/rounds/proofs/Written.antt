@@ -12,7 +12,7 @@ use Rattle.off_io.proofs.Telling.{Told-then, Told-weaker}
 use Rattle.pcap_io.specs.declared.heads.FileHead.{FileHead}
 use Rattle.pcap_io.specs.Reading.{Loses}
 use Rattle.offload_model.specs.Need.{round_need}
-use Rattle.offload_model.specs.Passing.{Passed, WriteFault, NoMemory, merging, WritesPrefix, PrefixUnless, flushes}
+use Rattle.offload_model.specs.Passing.{Passed, NoMemory, merging, WritesPrefix, PrefixUnless, flushes}
 use Rattle.offload_model.specs.Steps.{round_output}
 use Rattle.offload_model.specs.Written.{Options}
 use Rattle.offload_model.proofs.Steps.{prefixes_pass_on}

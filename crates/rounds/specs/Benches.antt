@@ -1,5 +1,6 @@
 -- The side of rounds that works: what it needs so that blocks may come home, and what is so once they have.
-use Rattle.std.specs.Prelude.{ℕ, ◌≡◌, ◌⊎◌, ◌+◌, ◌-◌, ◌^◌, ◌≤◌, min, Option, None, Some, List, [], length, map}
+use Rattle.std.specs.Prelude.{ℕ, ◌≡◌, ◌⊎◌, ◌+◌, ◌-◌, ◌^◌, ◌≤◌, min, Option, None, Some, List, [], length}
+use Rattle.std.specs.Prelude.{map, IfErr, IfOk, Result}
 use Rattle.std.specs.List.{AllByRecursion}
 use Rattle.raw_block.specs.Views.{SoleState}
 use Rattle.block_pool.specs.Giving.{GiverState, given_by, given_in, weights_given}
@@ -10,7 +11,8 @@ use Rattle.offload_model.specs.Written.{Options}
 use Rattle.gro.specs.Slots.{packet_of}
 use Rattle.lanes.specs.Work.{options_by}
 use Rattle.rounds.specs.Fresh.{NumberedFrom}
-use Rattle.rounds.specs.RoundsState.{BenchState, IntakeState, RoundState}
+use Rattle.rounds.specs.RoundsState.{BenchState, IntakeState, RestState, RoundState, WorkedState}
+use Rattle.rounds.specs.Weights.{weights_left, weights_worked}
 
 abbrev pub options_at : BenchState → Options
 options_at bench = options_by bench.plan bench.budget
@@ -73,6 +75,15 @@ pub record IsBack (old new : GiverState) : Type 0 where
 abbrev pub Lends : Option GiverState → Option GiverState → Type 0
 Lends None new = new ≡ None
 Lends (Some g) new = (g' : GiverState) × (new ≡ Some g') × IsBack g g'
+
+-- A round of so many blocks was worked, or is left: the giver is back, and its blocks are the round's no more.
+pub record LendsWork (blocks : ℕ) (weights : (ℕ → ℕ) → ℕ) (from to : Option GiverState)
+    (result : Result WorkedState RestState) : Type 0 where
+  pub worked : IfOk result (λ w. (w.blocks + given_by to ≡ blocks + given_by from)
+      × ((h : ℕ → ℕ) → weights_worked w h + weights_given to h ≡ weights h + weights_given from h))
+  pub rest : IfErr result (λ r. (r.blocks + given_by to ≡ blocks + given_by from)
+      × ((h : ℕ → ℕ) → weights_left r h + weights_given to h ≡ weights h + weights_given from h))
+  pub gave : Lends from to
 
 -- where somebody gives, none of these stays with a round, or a put found no place: the count of these rose, or stands
 -- at its last value

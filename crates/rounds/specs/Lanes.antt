@@ -1,10 +1,11 @@
 -- What a round that was worked holds in its lanes, what is written of it, and that its lengths fit their fields.
-use Rattle.std.specs.Prelude.{ℕ, ◌≡◌, ◌+◌, ◌≤◌, All, Option, None, Some, List, [], ◌++◌, length, map}
+use Rattle.std.specs.Prelude.{ℕ, ◌≡◌, ◌+◌, ◌≤◌, All, Bool, true, IfOk, Option, None, Some, Result, List, [], ◌++◌}
+use Rattle.std.specs.Prelude.{length, map}
 use Rattle.std.specs.List.{AllByRecursion, flat_map}
 use Rattle.net_bytes.specs.declared.order.Order.{Order}
 use Rattle.pcap_io.specs.Capture.{Packet}
 use Rattle.frags.specs.Account.{Account, both}
-use Rattle.offload_model.specs.Written.{Options, record_bytes, shown_of}
+use Rattle.offload_model.specs.Written.{Options, record_bytes, round_records, shown_of}
 use Rattle.gro.specs.Slots.{packet_of, AreAlone}
 use Rattle.taps.specs.declared.clones.TapClone.{TapClone}
 use Rattle.taps.specs.Clones.{packet_of as packet_of_clone, blocks_of, of_clones}
@@ -91,3 +92,10 @@ pub record IsKeptWorkOf (options : Options) (ps : List Packet) (w : WorkedState)
   pub is : All IsMerged w.lanes.queues.items
   pub kept : map packet_of_clone w.kept ≡ ps
   pub rising : RiseFrom 0 ps
+
+-- a round was worked: its records are those of its packets, and each of these is there once where they are kept
+pub record WorksAs {E : Type 0} (options : Options) (keep : Bool) (ps : List Packet) (result : Result WorkedState E)
+    : Type 0 where
+  pub records : IfOk result (λ worked. worked_records worked ≡ round_records options ps)
+  pub checked : keep ≡ true → IfOk result (λ worked. IsKeptWorkOf options ps worked)
+  pub merged : IfOk result (λ worked. All IsMerged worked.lanes.queues.items)

@@ -1,6 +1,7 @@
 pub mod Ahead
 pub mod Benches
 pub mod Cutting
+pub mod Filling
 pub mod Fresh
 pub mod Handled
 pub mod Held
@@ -13,6 +14,7 @@ pub mod Merging
 pub mod Out
 pub mod Reading
 pub mod Reads
+pub mod RoundOf
 pub mod RoundsState
 pub mod Segmenting
 pub mod Table

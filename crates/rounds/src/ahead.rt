@@ -4,7 +4,6 @@ ghost use Rattle.std.specs.Prelude.{ℕ, All, IfOk, IfErr};
 ghost use Rattle.std.specs.Prelude.{IsErr, MatchResult, Ok};
 ghost use Rattle.std.specs.Arc.{arc_value};
 ghost use Rattle.std.specs.List.{AllByRecursion};
-ghost use Rattle.block_pool.specs.Giving.{given_by, weights_given};
 ghost use Rattle.block_pool.specs.PoolState.{home, weighed};
 ghost use Rattle.off_io.specs.Faults.{Rose};
 ghost use Rattle.off_io.specs.Told.{Told};
@@ -20,12 +19,13 @@ ghost use Rattle.lanes.specs.Lanes.{IsMerged};
 ghost use Rattle.records.specs.Reading.{KeepsHead};
 ghost use Rattle.rounds.specs.Ahead.{blocks_out, weights_out, round_of, GivesBehind, IfPaused, IfRead, Lacks};
 ghost use Rattle.rounds.specs.Ahead.{ReadsAhead, Waits};
-ghost use Rattle.rounds.specs.Benches.{options_at, IsLent, Lends};
-ghost use Rattle.rounds.specs.Lanes.{worked_records, IsKeptWorkOf};
-ghost use Rattle.rounds.specs.Lists.{listed_home, weights_home};
+ghost use Rattle.rounds.specs.Benches.{options_at, IsLent, LendsWork};
+ghost use Rattle.rounds.specs.Filling.{reached, FillsAhead};
+ghost use Rattle.rounds.specs.Lanes.{worked_records, IsKeptWorkOf, WorksAs};
 ghost use Rattle.rounds.specs.Merging.{options_of};
 ghost use Rattle.rounds.specs.Reading.{FillsRound, GivesRound, NumberedTo, NumbersOn};
-ghost use Rattle.rounds.specs.Weights.{weights_of, weights_worked, weights_left};
+ghost use Rattle.rounds.specs.RoundOf.{brought_listed, Came, Takes};
+ghost use Rattle.rounds.specs.Weights.{weights_of, weights_left};
 
 use crate::bench::Bench;
 use crate::intake::Intake;
@@ -61,41 +61,22 @@ fn work_beside<'a, R: Threads + Wait + Sync, N: ListName + Send, W: Works, S: So
     requires few { round.old.blocks ≤ bench.old.blocks }
     requires lent { IsLent giver.old }
     ensures same_source { SameLoan reader.old reader.new }
-    ensures given { IfRead result.0 (λ read. Told (S.left (source_of reader.old)) (S.left (source_of reader.new))
-        (GivesRound intake.old.blocks (place_of reader.old) (place_of reader.new) read.round.packets read.end)) }
-    ensures reads { ReadsAhead intake.old.budget (place_of reader.old) (place_of reader.new) result.0 }
-    ensures waits { IfPaused result.0 (Waits intake.old.budget (place_of reader.old) (place_of reader.new)
-        (S.left (source_of reader.old)) (S.left (source_of reader.new))) }
+    ensures fills { FillsAhead intake.old.blocks intake.old.budget (reached S.left S.faults reader.old)
+        (reached S.left S.faults reader.new) result.0 }
     ensures paused { IfPaused result.0 (Lacks intake.new.home intake.old.blocks intake.old.taken intake.new.taken) }
     ensures refused { IfPaused result.0 (λ _. min (more.old.taker.pass.empties + 1) (2 ^ 64 - 1)
         ≤ more.new.taker.pass.empties) }
     ensures unlisted { (lists.new.packets.items ≡ []) × (home lists.new.spares ≡ 0) }
-    ensures sum { intake.new.home + (round_of result.0).blocks + listed_home more.old.taker.pass more.old.taker.left
-        ≡ intake.old.home + listed_home more.new.taker.pass more.new.taker.left }
-    ensures named { (h : ℕ → ℕ) → weighed h intake.new.stock + weights_of (round_of result.0) h
-        + weights_home h more.old.taker.pass more.old.taker.left
-        ≡ weighed h intake.old.stock + weights_home h more.new.taker.pass more.new.taker.left }
+    ensures came { Came (brought_listed more.old.taker.pass more.old.taker.left)
+        (brought_listed more.new.taker.pass more.new.taker.left) intake.old.home
+        (intake.new.home + (round_of result.0).blocks) (λ h. weighed h intake.old.stock)
+        (λ h. weighed h intake.new.stock + weights_of (round_of result.0) h) }
     ensures intake { (intake.new.blocks ≡ intake.old.blocks) × (intake.new.budget ≡ intake.old.budget)
         × (intake.new.empties ≡ intake.old.empties) × (intake.new.pauses ≡ intake.old.pauses) }
     ensures budget { (1 ≤ intake.old.budget) × (intake.old.budget ≤ 4096) }
-    ensures taken { min (intake.old.taken + (round_of result.0).blocks) (2 ^ 64 - 1) ≤ intake.new.taken }
-    ensures least { intake.old.taken ≤ intake.new.taken }
-    ensures most { intake.new.taken ≤ intake.old.taken + intake.old.blocks }
-    ensures later { S.faults (source_of reader.old) ≤ S.faults (source_of reader.new) }
-    ensures failed { IfRead result.0 (λ read. read.end ≡ RoundEnd.ReadFault
-        → Rose (S.faults (source_of reader.old)) (S.faults (source_of reader.new))) }
-    ensures records { IfOk result.1 (λ worked. worked_records worked
-        ≡ round_records (options_at bench.old) (map packet_of round.old.packets)) }
-    ensures checked { bench.old.keep ≡ true → IfOk result.1
-        (λ worked. IsKeptWorkOf (options_at bench.old) (map packet_of round.old.packets) worked) }
-    ensures merged { IfOk result.1 (λ worked. All IsMerged worked.lanes.queues.items) }
-    ensures worked { IfOk result.1 (λ worked. (worked.blocks + given_by giver.new
-        ≡ round.old.blocks + given_by giver.old) × ((h : ℕ → ℕ) → weights_worked worked h + weights_given giver.new h
-        ≡ weights_of round.old h + weights_given giver.old h)) }
-    ensures rest { IfErr result.1 (λ rest. (rest.blocks + given_by giver.new
-        ≡ round.old.blocks + given_by giver.old) × ((h : ℕ → ℕ) → weights_left rest h + weights_given giver.new h
-        ≡ weights_of round.old h + weights_given giver.old h)) }
-    ensures gave { Lends giver.old giver.new }
+    ensures takes { Takes intake.old.blocks intake.old.taken intake.new.taken 0 (round_of result.0).blocks }
+    ensures works { WorksAs (options_at bench.old) bench.old.keep (map packet_of round.old.packets) result.1 }
+    ensures lends { LendsWork round.old.blocks (weights_of round.old) giver.old giver.new result.1 }
     ensures spent { (round.new.packets ≡ []) × (round.new.spares ≡ []) }
     ensures same { bench.new ≡ bench.old }
 {
@@ -108,57 +89,32 @@ fn work_beside<'a, R: Threads + Wait + Sync, N: ListName + Send, W: Works, S: So
             requires reserved { (intake.now.budget ≤ lists.now.packets.room)
                 × (2 * intake.now.budget ≤ lists.now.spares.made) }
             ensures same_source { SameLoan reader.entry.now reader.exit.now }
-            ensures given { IfRead result (λ read. Told (S.left (source_of reader.entry.now))
-                (S.left (source_of reader.exit.now)) (GivesRound intake.entry.now.blocks
-                (place_of reader.entry.now) (place_of reader.exit.now) read.round.packets read.end)) }
-            ensures reads { ReadsAhead intake.entry.now.budget (place_of reader.entry.now)
-                (place_of reader.exit.now) result }
-            ensures waits { IfPaused result (Waits intake.entry.now.budget (place_of reader.entry.now)
-                (place_of reader.exit.now) (S.left (source_of reader.entry.now))
-                (S.left (source_of reader.exit.now))) }
+            ensures fills { FillsAhead intake.entry.now.blocks intake.entry.now.budget
+                (reached S.left S.faults reader.entry.now) (reached S.left S.faults reader.exit.now) result }
             ensures paused { IfPaused result (Lacks intake.exit.now.home intake.entry.now.blocks
                 intake.entry.now.taken intake.exit.now.taken) }
             ensures refused { IfPaused result (λ _. min (more.entry.now.taker.pass.empties + 1) (2 ^ 64 - 1)
                 ≤ more.exit.now.taker.pass.empties) }
             ensures unlisted { (lists.exit.now.packets.items ≡ []) × (home lists.exit.now.spares ≡ 0) }
-            ensures sum { intake.exit.now.home + (round_of result).blocks
-                + listed_home more.entry.now.taker.pass more.entry.now.taker.left
-                ≡ intake.entry.now.home + listed_home more.exit.now.taker.pass more.exit.now.taker.left }
-            ensures named { (h : ℕ → ℕ) → weighed h intake.exit.now.stock + weights_of (round_of result) h
-                + weights_home h more.entry.now.taker.pass more.entry.now.taker.left
-                ≡ weighed h intake.entry.now.stock
-                + weights_home h more.exit.now.taker.pass more.exit.now.taker.left }
+            ensures came { Came (brought_listed more.entry.now.taker.pass more.entry.now.taker.left)
+                (brought_listed more.exit.now.taker.pass more.exit.now.taker.left) intake.entry.now.home
+                (intake.exit.now.home + (round_of result).blocks) (λ h. weighed h intake.entry.now.stock)
+                (λ h. weighed h intake.exit.now.stock + weights_of (round_of result) h) }
             ensures intake { (intake.exit.now.blocks ≡ intake.entry.now.blocks)
                 × (intake.exit.now.budget ≡ intake.entry.now.budget)
                 × (intake.exit.now.empties ≡ intake.entry.now.empties)
                 × (intake.exit.now.pauses ≡ intake.entry.now.pauses) }
             ensures budget { (1 ≤ intake.entry.now.budget) × (intake.entry.now.budget ≤ 4096) }
-            ensures taken { min (intake.entry.now.taken + (round_of result).blocks) (2 ^ 64 - 1)
-                ≤ intake.exit.now.taken }
-            ensures least { intake.entry.now.taken ≤ intake.exit.now.taken }
-            ensures most { intake.exit.now.taken ≤ intake.entry.now.taken + intake.entry.now.blocks }
-            ensures later { S.faults (source_of reader.entry.now) ≤ S.faults (source_of reader.exit.now) }
-            ensures failed { IfRead result (λ read. read.end ≡ RoundEnd.ReadFault
-                → Rose (S.faults (source_of reader.entry.now)) (S.faults (source_of reader.exit.now))) }
+            ensures takes { Takes intake.entry.now.blocks intake.entry.now.taken intake.exit.now.taken 0
+                (round_of result).blocks }
         { intake.read_ahead(rt, reader, more, lists) },
         &mut || -> Result<Worked, Rest>
             requires few { round.now.blocks ≤ bench.now.blocks }
             requires lent { IsLent giver.now }
-            ensures records { IfOk result (λ worked. worked_records worked
-                ≡ round_records (options_at bench.entry.now) (map packet_of round.entry.now.packets)) }
-            ensures checked { bench.entry.now.keep ≡ true
-                → IfOk result (λ worked. IsKeptWorkOf (options_at bench.entry.now)
-                (map packet_of round.entry.now.packets) worked) }
-            ensures merged { IfOk result (λ worked. All IsMerged worked.lanes.queues.items) }
-            ensures worked { IfOk result (λ worked. (worked.blocks + given_by giver.exit.now
-                ≡ round.entry.now.blocks + given_by giver.entry.now)
-                × ((h : ℕ → ℕ) → weights_worked worked h + weights_given giver.exit.now h
-                ≡ weights_of round.entry.now h + weights_given giver.entry.now h)) }
-            ensures rest { IfErr result (λ rest. (rest.blocks + given_by giver.exit.now
-                ≡ round.entry.now.blocks + given_by giver.entry.now)
-                × ((h : ℕ → ℕ) → weights_left rest h + weights_given giver.exit.now h
-                ≡ weights_of round.entry.now h + weights_given giver.entry.now h)) }
-            ensures gave { Lends giver.entry.now giver.exit.now }
+            ensures works { WorksAs (options_at bench.entry.now) bench.entry.now.keep
+                (map packet_of round.entry.now.packets) result }
+            ensures lends { LendsWork round.entry.now.blocks (weights_of round.entry.now) giver.entry.now
+                giver.exit.now result }
             ensures spent { (round.exit.now.packets ≡ []) × (round.exit.now.spares ≡ []) }
             ensures same { bench.exit.now ≡ bench.entry.now }
         { bench.work_lent(rt, works, round, giver) },
@@ -202,18 +158,11 @@ impl Rounds {
         requires lists { (giver.pool ≡ arc_value taker.lists) × (arc_value taker.lists ≡ N.lists) }
         requires untaken { (taker.pass.taken ≡ []) × (home taker.left ≡ 0) × (taker.pass.empties ≡ 0) }
         requires ungiven { (giver.pass.parts ≡ 65535) × (giver.pass.put ≡ []) × (home giver.list ≡ 0) }
-        ensures records { IfOk result.0 (λ worked. worked_records worked
-            ≡ round_records (options_of self.old) (map packet_of round.packets)) }
-        ensures checked { self.old.keep ≡ true → IfOk result.0
-            (λ worked. IsKeptWorkOf (options_of self.old) (map packet_of round.packets) worked) }
-        ensures merged { IfOk result.0 (λ worked. All IsMerged worked.lanes.queues.items) }
+        ensures works { WorksAs (options_of self.old) self.old.keep (map packet_of round.packets) result.0 }
         ensures worked { IfOk result.0 (λ worked. worked.blocks ≤ round.blocks) }
         ensures same_source { SameLoan reader.old reader.new }
-        ensures given { IfRead result.1 (λ read. Told (S.left (source_of reader.old)) (S.left (source_of reader.new))
-            (GivesRound self.old.blocks (place_of reader.old) (place_of reader.new) read.round.packets read.end)) }
-        ensures reads { ReadsAhead self.old.budget (place_of reader.old) (place_of reader.new) result.1 }
-        ensures waits { IfPaused result.1 (Waits self.old.budget (place_of reader.old) (place_of reader.new)
-            (S.left (source_of reader.old)) (S.left (source_of reader.new))) }
+        ensures fills { FillsAhead self.old.blocks self.old.budget (reached S.left S.faults reader.old)
+            (reached S.left S.faults reader.new) result.1 }
         ensures paused { IfPaused result.1 (λ paused. Lacks (self.old.home - paused.round.blocks) self.old.blocks
             self.old.taken self.new.taken paused) }
         ensures rose { IfPaused result.1 (λ _. min (self.old.empties + 1) (2 ^ 64 - 1) ≤ self.new.empties) }
@@ -225,12 +174,7 @@ impl Rounds {
         ensures same { (self.new.blocks ≡ self.old.blocks) × (options_of self.new ≡ options_of self.old)
             × (self.new.keep ≡ self.old.keep) }
         ensures budget { (1 ≤ self.old.budget) × (self.old.budget ≤ 4096) }
-        ensures taken { min (self.old.taken + (round_of result.1).blocks) (2 ^ 64 - 1) ≤ self.new.taken }
-        ensures least { self.old.taken ≤ self.new.taken }
-        ensures most { self.new.taken ≤ self.old.taken + self.old.blocks }
-        ensures later { S.faults (source_of reader.old) ≤ S.faults (source_of reader.new) }
-        ensures failed { IfRead result.1 (λ read. read.end ≡ RoundEnd.ReadFault
-            → Rose (S.faults (source_of reader.old)) (S.faults (source_of reader.new))) }
+        ensures takes { Takes self.old.blocks self.old.taken self.new.taken 0 (round_of result.1).blocks }
     {
         let Ok(mut lists) = self.bench.take_blank() else {
             let none = no_round(self.bench.alloc());

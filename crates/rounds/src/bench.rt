@@ -1,6 +1,6 @@
 //! The side of rounds that works.
 ghost use Rattle.std.specs.Prelude.{◌≡◌, ◌≢◌, ◌+◌, ◌*◌, ◌≤◌, true, false, [], length, map, All};
-ghost use Rattle.std.specs.Prelude.{ℕ, IfOk, IfErr, OnOk, OnErr};
+ghost use Rattle.std.specs.Prelude.{ℕ, IfOk, OnOk, OnErr};
 ghost use Rattle.std.specs.Io.KnownBytes.{Appends};
 ghost use Rattle.block_pool.specs.Giving.{given_by, weights_given};
 ghost use Rattle.block_pool.specs.PoolState.{home};
@@ -11,8 +11,8 @@ ghost use Rattle.gro.specs.Slots.{packet_of};
 ghost use Rattle.lanes.specs.Lanes.{AreIdle, IsMerged};
 ghost use Rattle.lanes.specs.Work.{IsPlan};
 ghost use Rattle.rounds.specs.Benches.{options_at, Brings, BringsBeside, IsLent, IsSameBench, LeavesNoSpare, Lends};
-ghost use Rattle.rounds.specs.Benches.{MayBring};
-ghost use Rattle.rounds.specs.Lanes.{worked_bytes, worked_records, IsAloneWork, IsKeptWorkOf};
+ghost use Rattle.rounds.specs.Benches.{LendsWork, MayBring};
+ghost use Rattle.rounds.specs.Lanes.{worked_bytes, worked_records, IsAloneWork, IsKeptWorkOf, WorksAs};
 ghost use Rattle.rounds.specs.Weights.{weights_of, weights_worked, weights_left};
 
 use crate::home::bring_out;
@@ -253,19 +253,9 @@ impl Bench {
     ) -> Result<Worked, Rest>
         requires few { round.old.blocks ≤ self.old.blocks }
         requires lent { IsLent giver.old }
-        ensures records { IfOk result (λ worked. worked_records worked
-            ≡ round_records (options_at self.old) (map packet_of round.old.packets)) }
-        ensures checked { self.old.keep ≡ true → IfOk result
-            (λ worked. IsKeptWorkOf (options_at self.old) (map packet_of round.old.packets) worked) }
-        ensures merged { IfOk result (λ worked. All IsMerged worked.lanes.queues.items) }
+        ensures works { WorksAs (options_at self.old) self.old.keep (map packet_of round.old.packets) result }
         ensures alone { self.old.keep ≡ false → self.old.plan.taps ≡ 0 → IfOk result IsAloneWork }
-        ensures worked { IfOk result (λ worked. (worked.blocks + given_by giver.new
-            ≡ round.old.blocks + given_by giver.old) × ((h : ℕ → ℕ) → weights_worked worked h
-            + weights_given giver.new h ≡ weights_of round.old h + weights_given giver.old h)) }
-        ensures rest { IfErr result (λ rest. (rest.blocks + given_by giver.new
-            ≡ round.old.blocks + given_by giver.old) × ((h : ℕ → ℕ) → weights_left rest h
-            + weights_given giver.new h ≡ weights_of round.old h + weights_given giver.old h)) }
-        ensures gave { Lends giver.old giver.new }
+        ensures lends { LendsWork round.old.blocks (weights_of round.old) giver.old giver.new result }
         ensures spent { (round.new.packets ≡ []) × (round.new.spares ≡ []) }
         ensures same { self.new ≡ self.old }
     {

@@ -12,10 +12,12 @@ ghost use Rattle.offload_model.specs.Need.{need_of, round_need};
 ghost use Rattle.offload_model.specs.Captured.{IsCaptured};
 ghost use Rattle.gro.specs.Slots.{packet_of};
 ghost use Rattle.records.specs.Reading.{KeepsHead};
-ghost use Rattle.rounds.specs.Ahead.{round_of, GivesBehind, IfPaused, IfRead, Lacks, ReadsAhead, Waits};
+ghost use Rattle.rounds.specs.Ahead.{round_of, IfPaused, Lacks};
+ghost use Rattle.rounds.specs.Filling.{reached, FillsAhead, FillsBehind};
 ghost use Rattle.rounds.specs.Fresh.{NumberedFrom};
 ghost use Rattle.rounds.specs.Weights.{weights_of};
-ghost use Rattle.rounds.specs.Reading.{FillsRound, GivesRound, NumberedTo, NumbersOn, PassesRound};
+ghost use Rattle.rounds.specs.Reading.{GivesRound, NumberedTo, PassesRound};
+ghost use Rattle.rounds.specs.RoundOf.{brought_by, Came, Takes};
 
 use crate::intake::Intake;
 use crate::round::{Paused, ReadAhead, RoundEnd, RoundRead};
@@ -34,28 +36,19 @@ impl Intake {
         requires ready { IsReady (place_of reader.old) }
         requires link { (place_of reader.old).link ≡ Ethernet }
         ensures same_source { SameLoan reader.old reader.new }
-        ensures given { IfRead result (λ read. Told (S.left (source_of reader.old)) (S.left (source_of reader.new))
-            (GivesRound self.old.blocks (place_of reader.old) (place_of reader.new) read.round.packets read.end)) }
-        ensures reads { ReadsAhead self.old.budget (place_of reader.old) (place_of reader.new) result }
-        ensures waits { IfPaused result (Waits self.old.budget (place_of reader.old) (place_of reader.new)
-            (S.left (source_of reader.old)) (S.left (source_of reader.new))) }
+        ensures fills { FillsAhead self.old.blocks self.old.budget (reached S.left S.faults reader.old)
+            (reached S.left S.faults reader.new) result }
         ensures paused { IfPaused result (Lacks self.new.home self.old.blocks self.old.taken self.new.taken) }
-        ensures sum { self.new.home + (round_of result).blocks + H.brought more.old
-            ≡ self.old.home + H.brought more.new }
-        ensures named { (h : ℕ → ℕ) → weighed h self.new.stock + weights_of (round_of result) h + H.weights more.old h
-            ≡ weighed h self.old.stock + H.weights more.new h }
-        ensures within { (round_of result).blocks ≤ self.old.blocks }
+        ensures came { Came (brought_by H.brought H.weights H.owed H.refusals more.old)
+            (brought_by H.brought H.weights H.owed H.refusals more.new) self.old.home
+            (self.new.home + (round_of result).blocks) (λ h. weighed h self.old.stock)
+            (λ h. weighed h self.new.stock + weights_of (round_of result) h) }
         ensures refused { H.counts ≡ true → IfPaused result (λ _.
             min (H.refusals more.old + 1) (2 ^ 64 - 1) ≤ H.refusals more.new) }
-        ensures asked { H.refusals more.old ≤ H.refusals more.new }
         ensures same { (self.new.blocks ≡ self.old.blocks) × (self.new.budget ≡ self.old.budget)
             × (self.new.empties ≡ self.old.empties) × (self.new.pauses ≡ self.old.pauses) }
         ensures budget { (1 ≤ self.old.budget) × (self.old.budget ≤ 4096) }
-        ensures taken { min (self.old.taken + (round_of result).blocks) (2 ^ 64 - 1) ≤ self.new.taken }
-        ensures least { self.old.taken ≤ self.new.taken }
-        ensures later { S.faults (source_of reader.old) ≤ S.faults (source_of reader.new) }
-        ensures failed { IfRead result (λ read. read.end ≡ RoundEnd.ReadFault
-            → Rose (S.faults (source_of reader.old)) (S.faults (source_of reader.new))) }
+        ensures takes { Takes self.old.blocks self.old.taken self.new.taken 0 (round_of result).blocks }
     {
         let Ok(mut lists) = self.make_blank() else {
             return ReadAhead::Read(self.read_none());
@@ -69,13 +62,12 @@ impl Intake {
     // keeps them.
     fn bring_rest<R: Wait, H: Supply>(&mut self, rt: &R, blocks: u32, more: &mut H) -> bool
         requires few { blocks ≤ self.old.blocks }
-        ensures sum { self.new.home + H.brought more.old ≡ self.old.home + H.brought more.new }
-        ensures named { (h : ℕ → ℕ) → weighed h self.new.stock + H.weights more.old h
-            ≡ weighed h self.old.stock + H.weights more.new h }
+        ensures came { Came (brought_by H.brought H.weights H.owed H.refusals more.old)
+            (brought_by H.brought H.weights H.owed H.refusals more.new) self.old.home self.new.home
+            (λ h. weighed h self.old.stock) (λ h. weighed h self.new.stock) }
         ensures same { (self.new.blocks ≡ self.old.blocks) × (self.new.taken ≡ self.old.taken)
             × (self.new.budget ≡ self.old.budget) × (self.new.empties ≡ self.old.empties)
             × (self.new.pauses ≡ self.old.pauses) }
-        ensures asked { H.refusals more.old ≤ H.refusals more.new }
         ensures all { result ≡ true → self.new.home + blocks ≡ self.old.blocks }
         ensures ended { result ≡ false → H.ended more.new ≡ true }
     {
@@ -107,33 +99,19 @@ impl Intake {
         requires fits { paused.round.blocks + need_of paused.head.captured ≤ self.old.blocks }
         requires fewer { length paused.round.packets < self.old.budget }
         ensures same_source { SameLoan reader.old reader.new }
-        ensures given { (at : Place) → KeepsHead at (place_of reader.old) paused.head
-            → Told (S.left (source_of reader.old)) (S.left (source_of reader.new)) (GivesBehind self.old.blocks at
-            (place_of reader.new) paused.head paused.round.packets result.round.packets result.end) }
-        ensures size { length result.round.packets ≤ self.old.budget }
-        ensures fewer { result.end ≢ RoundEnd.Full → length result.round.packets < self.old.budget }
-        ensures full { result.end ≡ RoundEnd.Full → (at : Place) → KeepsHead at (place_of reader.old) paused.head
-            → FillsRound at (place_of reader.new) paused.round.packets result.round.packets self.old.budget }
+        ensures fills { FillsBehind self.old.blocks self.old.budget (reached S.left S.faults reader.old)
+            (reached S.left S.faults reader.new) paused.head paused.round.packets result.round.packets result.end }
         ensures captured { AllByRecursion IsCaptured (map packet_of result.round.packets) }
-        ensures numbers { (at : Place) → KeepsHead at (place_of reader.old) paused.head
-            → NumbersOn at.number paused.round.packets result.round.packets }
         ensures need { result.round.blocks ≡ round_need (map packet_of result.round.packets) }
-        ensures sum { self.new.home + result.round.blocks + H.brought more.old
-            ≡ self.old.home + paused.round.blocks + H.brought more.new }
-        ensures named { (h : ℕ → ℕ) → weighed h self.new.stock + weights_of result.round h + H.weights more.old h
-            ≡ weighed h self.old.stock + weights_of paused.round h + H.weights more.new h }
-        ensures within { result.round.blocks ≤ self.old.blocks }
+        ensures came { Came (brought_by H.brought H.weights H.owed H.refusals more.old)
+            (brought_by H.brought H.weights H.owed H.refusals more.new) (self.old.home + paused.round.blocks)
+            (self.new.home + result.round.blocks) (λ h. weighed h self.old.stock + weights_of paused.round h)
+            (λ h. weighed h self.new.stock + weights_of result.round h) }
         ensures same { (self.new.blocks ≡ self.old.blocks) × (self.new.budget ≡ self.old.budget)
             × (self.new.empties ≡ self.old.empties) }
         ensures paused { self.new.pauses ≡ min (self.old.pauses + 1) (2 ^ 64 - 1) }
         ensures later_pauses { self.old.pauses ≤ self.new.pauses }
-        ensures asked { H.refusals more.old ≤ H.refusals more.new }
-        ensures taken { min (self.old.taken + (result.round.blocks - paused.round.blocks)) (2 ^ 64 - 1)
-            ≤ self.new.taken }
-        ensures least { (paused.round.blocks ≤ result.round.blocks) × (self.old.taken ≤ self.new.taken) }
-        ensures later { S.faults (source_of reader.old) ≤ S.faults (source_of reader.new) }
-        ensures failed { result.end ≡ RoundEnd.ReadFault
-            → Rose (S.faults (source_of reader.old)) (S.faults (source_of reader.new)) }
+        ensures takes { Takes self.old.blocks self.old.taken self.new.taken paused.round.blocks result.round.blocks }
     {
         self.pauses = self.pauses.saturating_add(1);
         if self.bring_rest(rt, paused.round.blocks(), more) {

@@ -13,10 +13,12 @@ ghost use Rattle.offload_model.specs.Need.{need_of, round_need};
 ghost use Rattle.offload_model.specs.Captured.{IsCaptured};
 ghost use Rattle.gro.specs.Slots.{packet_of};
 ghost use Rattle.records.specs.Reading.{KeepsHead};
-ghost use Rattle.rounds.specs.Ahead.{round_of, GivesBehind, IfPaused, IfRead, Lacks, ReadsAhead, Waits};
+ghost use Rattle.rounds.specs.Ahead.{round_of, IfPaused, Lacks};
+ghost use Rattle.rounds.specs.Filling.{reached, FillsAhead, FillsBehind, FillsWhole};
 ghost use Rattle.rounds.specs.Fresh.{NumberedFrom};
 ghost use Rattle.rounds.specs.Weights.{weights_of};
-ghost use Rattle.rounds.specs.Reading.{FillsRound, GivesRound, NumberedTo, NumbersOn, PassesRound};
+ghost use Rattle.rounds.specs.Reading.{GivesRound, NumberedTo, PassesRound};
+ghost use Rattle.rounds.specs.RoundOf.{brought_by, Came, Takes};
 
 use crate::reading::{Halt, read_behind, read_more, read_records};
 use crate::round::{Blank, Empty, Paused, ReadAhead, Round, RoundEnd, RoundRead, no_round};
@@ -46,9 +48,10 @@ pub struct Intake {
 }
 
 impl Model for Intake {
-    ghost use Rattle.std.specs.Prelude.{◌≡◌, ◌≤◌, []};
+    ghost use Rattle.std.specs.Prelude.{◌≤◌};
     ghost use Rattle.std.specs.VecDeque.{deque_capacity};
     ghost use Rattle.block_pool.specs.PoolState.{home as home_of};
+    ghost use Rattle.rounds.specs.RoundOf.{IsHold};
     ghost use Rattle.rounds.specs.RoundsState.{IntakeState};
 
     ghost Value = { IntakeState };
@@ -63,7 +66,7 @@ impl Model for Intake {
       budget = i.budget;
     } };
 
-    ghost invariant = { λ i. (i.pool.made ≤ 65536) × (i.hold.items ≡ []) × (131 ≤ deque_capacity i.hold)
+    ghost invariant = { λ i. (i.pool.made ≤ 65536) × IsHold i.hold.items (deque_capacity i.hold)
         × (1 ≤ i.budget) × (i.budget ≤ 4096) };
 }
 
@@ -257,31 +260,19 @@ impl Intake {
             × (2 * self.old.budget ≤ b.spares.made)) }
         requires sure { self.old.blocks ≤ self.old.home + H.owed more.old }
         ensures same_source { SameLoan reader.old reader.new }
-        ensures given { Told (S.left (source_of reader.old)) (S.left (source_of reader.new))
-            (GivesRound self.old.blocks (place_of reader.old) (place_of reader.new) result.round.packets result.end) }
-        ensures size { length result.round.packets ≤ self.old.budget }
-        ensures fewer { (result.end ≢ RoundEnd.Full) → (result.end ≢ RoundEnd.NoMemory)
-            → length result.round.packets < self.old.budget }
-        ensures full { result.end ≡ RoundEnd.Full → PassesRound (place_of reader.old)
-            (place_of reader.new) result.round.packets self.old.budget }
+        ensures fills { FillsWhole self.old.blocks self.old.budget (reached S.left S.faults reader.old)
+            (reached S.left S.faults reader.new) result.round.packets result.end }
         ensures captured { AllByRecursion IsCaptured (map packet_of result.round.packets) }
-        ensures numbers { NumberedFrom (place_of reader.old).number result.round.packets }
         ensures need { result.round.blocks ≡ round_need (map packet_of result.round.packets) }
-        ensures sum { self.new.home + result.round.blocks + H.brought more.old ≡ self.old.home + H.brought more.new }
-        ensures named { (h : ℕ → ℕ) → weighed h self.new.stock + weights_of result.round h + H.weights more.old h
-            ≡ weighed h self.old.stock + H.weights more.new h }
-        ensures owed { H.owed more.old + H.brought more.old ≤ H.owed more.new + H.brought more.new }
-        ensures within { result.round.blocks ≤ self.old.blocks }
+        ensures came { Came (brought_by H.brought H.weights H.owed H.refusals more.old)
+            (brought_by H.brought H.weights H.owed H.refusals more.new) self.old.home
+            (self.new.home + result.round.blocks) (λ h. weighed h self.old.stock)
+            (λ h. weighed h self.new.stock + weights_of result.round h) }
         ensures unread { OnErr blank (self.new ≡ self.old) }
         ensures same { (self.new.blocks ≡ self.old.blocks) × (self.new.budget ≡ self.old.budget)
             × (self.new.empties ≡ self.old.empties) × (self.new.pauses ≡ self.old.pauses) }
         ensures budget { (1 ≤ self.old.budget) × (self.old.budget ≤ 4096) }
-        ensures taken { min (self.old.taken + result.round.blocks) (2 ^ 64 - 1) ≤ self.new.taken }
-        ensures least { self.old.taken ≤ self.new.taken }
-        ensures most { self.new.taken ≤ self.old.taken + self.old.blocks }
-        ensures later { S.faults (source_of reader.old) ≤ S.faults (source_of reader.new) }
-        ensures failed { result.end ≡ RoundEnd.ReadFault
-            → Rose (S.faults (source_of reader.old)) (S.faults (source_of reader.new)) }
+        ensures takes { Takes self.old.blocks self.old.taken self.new.taken 0 result.round.blocks }
     {
         let _ = self.pool.taken();
         let Blank {
@@ -326,30 +317,20 @@ impl Intake {
         requires none { (lists.old.packets.items ≡ []) × (home lists.old.spares ≡ 0) }
         requires reserved { (self.old.budget ≤ lists.old.packets.room) × (2 * self.old.budget ≤ lists.old.spares.made) }
         ensures same_source { SameLoan reader.old reader.new }
-        ensures given { IfRead result (λ read. Told (S.left (source_of reader.old)) (S.left (source_of reader.new))
-            (GivesRound self.old.blocks (place_of reader.old) (place_of reader.new) read.round.packets read.end)) }
-        ensures reads { ReadsAhead self.old.budget (place_of reader.old) (place_of reader.new) result }
-        ensures waits { IfPaused result (Waits self.old.budget (place_of reader.old) (place_of reader.new)
-            (S.left (source_of reader.old)) (S.left (source_of reader.new))) }
+        ensures fills { FillsAhead self.old.blocks self.old.budget (reached S.left S.faults reader.old)
+            (reached S.left S.faults reader.new) result }
         ensures paused { IfPaused result (Lacks self.new.home self.old.blocks self.old.taken self.new.taken) }
         ensures refused { H.counts ≡ true → IfPaused result (λ _.
             min (H.refusals more.old + 1) (2 ^ 64 - 1) ≤ H.refusals more.new) }
-        ensures asked { H.refusals more.old ≤ H.refusals more.new }
         ensures spent { (lists.new.packets.items ≡ []) × (home lists.new.spares ≡ 0) }
-        ensures sum { self.new.home + (round_of result).blocks + H.brought more.old
-            ≡ self.old.home + H.brought more.new }
-        ensures named { (h : ℕ → ℕ) → weighed h self.new.stock + weights_of (round_of result) h + H.weights more.old h
-            ≡ weighed h self.old.stock + H.weights more.new h }
-        ensures within { (round_of result).blocks ≤ self.old.blocks }
+        ensures came { Came (brought_by H.brought H.weights H.owed H.refusals more.old)
+            (brought_by H.brought H.weights H.owed H.refusals more.new) self.old.home
+            (self.new.home + (round_of result).blocks) (λ h. weighed h self.old.stock)
+            (λ h. weighed h self.new.stock + weights_of (round_of result) h) }
         ensures same { (self.new.blocks ≡ self.old.blocks) × (self.new.budget ≡ self.old.budget)
             × (self.new.empties ≡ self.old.empties) × (self.new.pauses ≡ self.old.pauses) }
         ensures budget { (1 ≤ self.old.budget) × (self.old.budget ≤ 4096) }
-        ensures taken { min (self.old.taken + (round_of result).blocks) (2 ^ 64 - 1) ≤ self.new.taken }
-        ensures least { self.old.taken ≤ self.new.taken }
-        ensures most { self.new.taken ≤ self.old.taken + self.old.blocks }
-        ensures later { S.faults (source_of reader.old) ≤ S.faults (source_of reader.new) }
-        ensures failed { IfRead result (λ read. read.end ≡ RoundEnd.ReadFault
-            → Rose (S.faults (source_of reader.old)) (S.faults (source_of reader.new))) }
+        ensures takes { Takes self.old.blocks self.old.taken self.new.taken 0 (round_of result).blocks }
     {
         let _ = self.pool.taken();
         let Blank {
@@ -399,16 +380,9 @@ impl Intake {
         requires fits { paused.round.blocks + need_of paused.head.captured ≤ self.old.blocks }
         requires fewer { length paused.round.packets < self.old.budget }
         ensures same_source { SameLoan reader.old reader.new }
-        ensures given { (at : Place) → KeepsHead at (place_of reader.old) paused.head
-            → Told (S.left (source_of reader.old)) (S.left (source_of reader.new)) (GivesBehind self.old.blocks at
-            (place_of reader.new) paused.head paused.round.packets result.round.packets result.end) }
-        ensures size { length result.round.packets ≤ self.old.budget }
-        ensures fewer { result.end ≢ RoundEnd.Full → length result.round.packets < self.old.budget }
-        ensures full { result.end ≡ RoundEnd.Full → (at : Place) → KeepsHead at (place_of reader.old) paused.head
-            → FillsRound at (place_of reader.new) paused.round.packets result.round.packets self.old.budget }
+        ensures fills { FillsBehind self.old.blocks self.old.budget (reached S.left S.faults reader.old)
+            (reached S.left S.faults reader.new) paused.head paused.round.packets result.round.packets result.end }
         ensures captured { AllByRecursion IsCaptured (map packet_of result.round.packets) }
-        ensures numbers { (at : Place) → KeepsHead at (place_of reader.old) paused.head
-            → NumbersOn at.number paused.round.packets result.round.packets }
         ensures need { result.round.blocks ≡ round_need (map packet_of result.round.packets) }
         ensures home { self.new.home + result.round.blocks ≡ self.old.blocks }
         ensures named { (h : ℕ → ℕ) → weighed h self.new.stock + weights_of result.round h
@@ -416,13 +390,7 @@ impl Intake {
         ensures same { (self.new.blocks ≡ self.old.blocks) × (self.new.budget ≡ self.old.budget)
             × (self.new.empties ≡ self.old.empties) × (self.new.pauses ≡ self.old.pauses) }
         ensures budget { (1 ≤ self.old.budget) × (self.old.budget ≤ 4096) }
-        ensures taken { min (self.old.taken + (result.round.blocks - paused.round.blocks)) (2 ^ 64 - 1)
-            ≤ self.new.taken }
-        ensures least { (paused.round.blocks ≤ result.round.blocks) × (self.old.taken ≤ self.new.taken) }
-        ensures most { self.new.taken + paused.round.blocks ≤ self.old.taken + self.old.blocks }
-        ensures later { S.faults (source_of reader.old) ≤ S.faults (source_of reader.new) }
-        ensures failed { result.end ≡ RoundEnd.ReadFault
-            → Rose (S.faults (source_of reader.old)) (S.faults (source_of reader.new)) }
+        ensures takes { Takes self.old.blocks self.old.taken self.new.taken paused.round.blocks result.round.blocks }
     {
         let _ = self.pool.taken();
         let Paused {

@@ -1,23 +1,16 @@
 //! Reads the records of a round.
-ghost use Rattle.std.specs.Prelude.{◌≡◌, ◌≢◌, ℕ, ◌+◌, ◌-◌, ◌*◌, ◌<◌, ◌≤◌, ◌^◌, [], false, true, length, map, min, Some};
-ghost use Rattle.std.specs.List.{AllByRecursion};
+ghost use Rattle.std.specs.Prelude.{◌≡◌, ◌+◌, ◌-◌, ◌*◌, ◌<◌, ◌≤◌, ◌^◌, [], false, true, length, min, Some, ℕ};
 ghost use Rattle.std.specs.VecDeque.{deque_capacity};
 ghost use Rattle.block_pool.specs.PoolState.{home, weighed};
-ghost use Rattle.off_io.specs.Faults.{Rose};
-ghost use Rattle.off_io.specs.Told.{Told};
 ghost use Rattle.pcap_io.specs.declared.heads.Link.TheVariants.{Ethernet};
 ghost use Rattle.pcap_io.specs.declared.place.Place.{Place};
 ghost use Rattle.pcap_io.specs.Places.{IsReady};
 ghost use Rattle.pcap_io.specs.Readers.{place_of, source_of, SameLoan};
-ghost use Rattle.offload_model.specs.Need.{need_of, round_need};
-ghost use Rattle.offload_model.specs.Captured.{IsCaptured};
-ghost use Rattle.gro.specs.Slots.{packet_of, counts_of, weighed_slots};
-ghost use Rattle.records.specs.Laid.{AreRead, LaidFrom};
+ghost use Rattle.offload_model.specs.Need.{need_of};
 ghost use Rattle.records.specs.Reading.{KeepsHead};
-ghost use Rattle.rounds.specs.Ahead.{GivesBehind};
-ghost use Rattle.rounds.specs.Fresh.{NumberedFrom};
-ghost use Rattle.rounds.specs.Reading.{FillsRound, GivesRest, GivesRound, NumbersOn, PassesRound, WaitsOver};
-ghost use Rattle.rounds.specs.Reading.{IfEnded, IsHaltOf};
+ghost use Rattle.rounds.specs.Filling.{reached, FillsBehind, FillsOn, FillsWhole};
+ghost use Rattle.rounds.specs.Reading.{IsHaltOf, WaitsOver};
+ghost use Rattle.rounds.specs.RoundOf.{at_hand, brought_by, Came, IsHold, IsRoundOf, Takes};
 
 use crate::round::{RoundEnd, end_of};
 use block_pool::Pool;
@@ -64,59 +57,32 @@ pub(crate) fn read_more<S: Source, H: Supply>(
 ) -> (u32, Halt)
     requires ready { IsReady (place_of reader.old) }
     requires link { (place_of reader.old).link ≡ Ethernet }
-    requires empty { hold.old.items ≡ [] }
-    requires capacity { 131 ≤ deque_capacity hold.old }
+    requires hold { IsHold hold.old.items (deque_capacity hold.old) }
     requires made { pool.old.made ≤ 65536 }
     requires size { length packets.old.items ≤ budget }
     requires reserved { budget ≤ length packets.old.items + packets.old.room }
     requires room { 2 * budget ≤ spares.old.made }
-    requires pairs { home spares.old ≡ 2 * length packets.old.items }
-    requires laid { LaidFrom 0 packets.old.items }
-    requires count { counts_of packets.old.items + home spares.old ≡ used }
-    requires read { AreRead packets.old.items }
-    requires captured { AllByRecursion IsCaptured (map packet_of packets.old.items) }
-    requires need { used ≡ round_need (map packet_of packets.old.items) }
+    requires round { IsRoundOf packets.old.items (home spares.old) used }
     requires within { used ≤ pool.old.made }
     ensures same_source { SameLoan reader.old reader.new }
-    ensures given { IfEnded result.1 (λ end. Told (S.left (source_of reader.old)) (S.left (source_of reader.new))
-        (GivesRest pool.old.made (place_of reader.old) (place_of reader.new) packets.old.items packets.new.items
-        end)) }
-    ensures size { length packets.new.items ≤ budget }
-    ensures fewer { result.1 ≢ Halt.Ended RoundEnd.Full → length packets.new.items < budget }
-    ensures full { result.1 ≡ Halt.Ended RoundEnd.Full → FillsRound (place_of reader.old)
-        (place_of reader.new) packets.old.items packets.new.items budget }
+    ensures fills { FillsOn pool.old.made budget (reached S.left S.faults reader.old)
+        (reached S.left S.faults reader.new) packets.old.items packets.new.items result.1 }
     ensures lacking { result.1 ≡ Halt.Lacking → (head : RecHead) × (kept.new ≡ Some head)
         × WaitsOver (place_of reader.old) (place_of reader.new) (S.left (source_of reader.old))
         (S.left (source_of reader.new)) packets.old.items packets.new.items head
         × (home pool.new < need_of head.captured) × (result.0 + need_of head.captured ≤ pool.old.made) }
     ensures refused { H.counts ≡ true → result.1 ≡ Halt.Lacking
         → min (H.refusals more.old + 1) (2 ^ 64 - 1) ≤ H.refusals more.new }
-    ensures asked { H.refusals more.old ≤ H.refusals more.new }
-    ensures owed { H.owed more.old + H.brought more.old ≤ H.owed more.new + H.brought more.new }
     ensures short { result.1 ≡ Halt.Lacking → H.ended more.new ≡ false → H.owed more.new ≡ 0 }
-    ensures laid { LaidFrom 0 packets.new.items }
-    ensures count { counts_of packets.new.items + home spares.new ≡ result.0 }
-    ensures pairs { home spares.new ≡ 2 * length packets.new.items }
-    ensures read { AreRead packets.new.items }
-    ensures captured { AllByRecursion IsCaptured (map packet_of packets.new.items) }
-    ensures numbers { NumbersOn (place_of reader.old).number packets.old.items packets.new.items }
-    ensures need { result.0 ≡ round_need (map packet_of packets.new.items) }
-    ensures sum { home pool.new + result.0 + H.brought more.old ≡ home pool.old + used + H.brought more.new }
-    ensures named { (h : ℕ → ℕ) → weighed h pool.new.blocks + weighed_slots h packets.new.items
-        + weighed h spares.new.blocks + H.weights more.old h ≡ weighed h pool.old.blocks
-        + weighed_slots h packets.old.items + weighed h spares.old.blocks + H.weights more.new h }
-    ensures within { result.0 ≤ pool.old.made }
+    ensures round { IsRoundOf packets.new.items (home spares.new) result.0 }
+    ensures came { Came (brought_by H.brought H.weights H.owed H.refusals more.old)
+        (brought_by H.brought H.weights H.owed H.refusals more.new) (home pool.old + used) (home pool.new + result.0)
+        (at_hand pool.old packets.old.items spares.old) (at_hand pool.new packets.new.items spares.new) }
     ensures made { pool.new.made ≡ pool.old.made }
-    ensures taken { min (pool.old.taken + (result.0 - used)) (2 ^ 64 - 1) ≤ pool.new.taken }
-    ensures least { (used ≤ result.0) × (pool.old.taken ≤ pool.new.taken) }
-    ensures most { pool.new.taken + used ≤ pool.old.taken + pool.old.made }
+    ensures takes { Takes pool.old.made pool.old.taken pool.new.taken used result.0 }
     ensures so_far { result.1 ≡ Halt.Lacking
         → pool.new.taken ≡ min (pool.old.taken + (result.0 - used)) (2 ^ 64 - 1) }
-    ensures empty { hold.new.items ≡ [] }
-    ensures capacity { deque_capacity hold.new ≡ deque_capacity hold.old }
-    ensures later { S.faults (source_of reader.old) ≤ S.faults (source_of reader.new) }
-    ensures failed { result.1 ≡ Halt.Ended RoundEnd.ReadFault
-        → Rose (S.faults (source_of reader.old)) (S.faults (source_of reader.new)) }
+    ensures hold { IsHold hold.new.items (deque_capacity hold.new) }
 {
     let _ = pool.taken();
     let mut used = used;
@@ -159,47 +125,22 @@ pub(crate) fn read_behind<S: Source>(
     requires link { (place_of reader.old).link ≡ Ethernet }
     requires out { home pool.old + used ≡ pool.old.made }
     requires fits { used + need_of head.now.captured ≤ pool.old.made }
-    requires empty { hold.old.items ≡ [] }
-    requires capacity { 131 ≤ deque_capacity hold.old }
+    requires hold { IsHold hold.old.items (deque_capacity hold.old) }
     requires made { pool.old.made ≤ 65536 }
     requires size { length packets.old.items < budget }
     requires reserved { budget ≤ length packets.old.items + packets.old.room }
     requires room { 2 * budget ≤ spares.old.made }
-    requires pairs { home spares.old ≡ 2 * length packets.old.items }
-    requires laid { LaidFrom 0 packets.old.items }
-    requires count { counts_of packets.old.items + home spares.old ≡ used }
-    requires read { AreRead packets.old.items }
-    requires captured { AllByRecursion IsCaptured (map packet_of packets.old.items) }
-    requires need { used ≡ round_need (map packet_of packets.old.items) }
+    requires round { IsRoundOf packets.old.items (home spares.old) used }
     ensures same_source { SameLoan reader.old reader.new }
-    ensures given { (at : Place) → KeepsHead at (place_of reader.old) head.now
-        → Told (S.left (source_of reader.old)) (S.left (source_of reader.new)) (GivesBehind pool.old.made at
-        (place_of reader.new) head.now packets.old.items packets.new.items result.1) }
-    ensures size { length packets.new.items ≤ budget }
-    ensures fewer { result.1 ≢ RoundEnd.Full → length packets.new.items < budget }
-    ensures full { result.1 ≡ RoundEnd.Full → (at : Place) → KeepsHead at (place_of reader.old) head.now
-        → FillsRound at (place_of reader.new) packets.old.items packets.new.items budget }
-    ensures laid { LaidFrom 0 packets.new.items }
-    ensures count { counts_of packets.new.items + home spares.new ≡ result.0 }
-    ensures pairs { home spares.new ≡ 2 * length packets.new.items }
-    ensures read { AreRead packets.new.items }
-    ensures captured { AllByRecursion IsCaptured (map packet_of packets.new.items) }
-    ensures numbers { (at : Place) → KeepsHead at (place_of reader.old) head.now
-        → NumbersOn at.number packets.old.items packets.new.items }
-    ensures need { result.0 ≡ round_need (map packet_of packets.new.items) }
+    ensures fills { FillsBehind pool.old.made budget (reached S.left S.faults reader.old)
+        (reached S.left S.faults reader.new) head.now packets.old.items packets.new.items result.1 }
+    ensures round { IsRoundOf packets.new.items (home spares.new) result.0 }
     ensures home { home pool.new + result.0 ≡ pool.old.made }
-    ensures named { (h : ℕ → ℕ) → weighed h pool.new.blocks + weighed_slots h packets.new.items
-        + weighed h spares.new.blocks ≡ weighed h pool.old.blocks
-        + weighed_slots h packets.old.items + weighed h spares.old.blocks }
+    ensures named { (h : ℕ → ℕ) → at_hand pool.new packets.new.items spares.new h
+        ≡ at_hand pool.old packets.old.items spares.old h }
     ensures made { pool.new.made ≡ pool.old.made }
-    ensures taken { min (pool.old.taken + (result.0 - used)) (2 ^ 64 - 1) ≤ pool.new.taken }
-    ensures least { (used ≤ result.0) × (pool.old.taken ≤ pool.new.taken) }
-    ensures most { pool.new.taken + used ≤ pool.old.taken + pool.old.made }
-    ensures empty { hold.new.items ≡ [] }
-    ensures capacity { deque_capacity hold.new ≡ deque_capacity hold.old }
-    ensures later { S.faults (source_of reader.old) ≤ S.faults (source_of reader.new) }
-    ensures failed { result.1 ≡ RoundEnd.ReadFault
-        → Rose (S.faults (source_of reader.old)) (S.faults (source_of reader.new)) }
+    ensures takes { Takes pool.old.made pool.old.taken pool.new.taken used result.0 }
+    ensures hold { IsHold hold.new.items (deque_capacity hold.new) }
 {
     let mark = used - spares.home();
     let front = &mut [];
@@ -234,41 +175,22 @@ pub(crate) fn read_records<S: Source, H: Supply>(
 ) -> (u32, RoundEnd)
     requires ready { IsReady (place_of reader.old) }
     requires link { (place_of reader.old).link ≡ Ethernet }
-    requires empty { hold.old.items ≡ [] }
-    requires capacity { 131 ≤ deque_capacity hold.old }
+    requires hold { IsHold hold.old.items (deque_capacity hold.old) }
     requires made { pool.old.made ≤ 65536 }
     requires none { (packets.old.items ≡ []) × (home spares.old ≡ 0) }
     requires reserved { budget ≤ packets.old.room }
     requires room { 2 * budget ≤ spares.old.made }
     requires sure { pool.old.made ≤ home pool.old + H.owed more.old }
     ensures same_source { SameLoan reader.old reader.new }
-    ensures given { Told (S.left (source_of reader.old)) (S.left (source_of reader.new))
-        (GivesRound pool.old.made (place_of reader.old) (place_of reader.new) packets.new.items result.1) }
-    ensures size { length packets.new.items ≤ budget }
-    ensures fewer { result.1 ≢ RoundEnd.Full → length packets.new.items < budget }
-    ensures full { result.1 ≡ RoundEnd.Full → PassesRound (place_of reader.old)
-        (place_of reader.new) packets.new.items budget }
-    ensures laid { LaidFrom 0 packets.new.items }
-    ensures count { counts_of packets.new.items + home spares.new ≡ result.0 }
-    ensures pairs { home spares.new ≡ 2 * length packets.new.items }
-    ensures read { AreRead packets.new.items }
-    ensures captured { AllByRecursion IsCaptured (map packet_of packets.new.items) }
-    ensures numbers { NumberedFrom (place_of reader.old).number packets.new.items }
-    ensures need { result.0 ≡ round_need (map packet_of packets.new.items) }
-    ensures sum { home pool.new + result.0 + H.brought more.old ≡ home pool.old + H.brought more.new }
-    ensures named { (h : ℕ → ℕ) → weighed h pool.new.blocks + weighed_slots h packets.new.items
-        + weighed h spares.new.blocks + H.weights more.old h ≡ weighed h pool.old.blocks + H.weights more.new h }
-    ensures owed { H.owed more.old + H.brought more.old ≤ H.owed more.new + H.brought more.new }
-    ensures within { result.0 ≤ pool.old.made }
+    ensures fills { FillsWhole pool.old.made budget (reached S.left S.faults reader.old)
+        (reached S.left S.faults reader.new) packets.new.items result.1 }
+    ensures round { IsRoundOf packets.new.items (home spares.new) result.0 }
+    ensures came { Came (brought_by H.brought H.weights H.owed H.refusals more.old)
+        (brought_by H.brought H.weights H.owed H.refusals more.new) (home pool.old) (home pool.new + result.0)
+        (λ h. weighed h pool.old.blocks) (at_hand pool.new packets.new.items spares.new) }
     ensures made { pool.new.made ≡ pool.old.made }
-    ensures taken { min (pool.old.taken + result.0) (2 ^ 64 - 1) ≤ pool.new.taken }
-    ensures least { pool.old.taken ≤ pool.new.taken }
-    ensures most { pool.new.taken ≤ pool.old.taken + pool.old.made }
-    ensures empty { hold.new.items ≡ [] }
-    ensures capacity { deque_capacity hold.new ≡ deque_capacity hold.old }
-    ensures later { S.faults (source_of reader.old) ≤ S.faults (source_of reader.new) }
-    ensures failed { result.1 ≡ RoundEnd.ReadFault → Rose (S.faults (source_of reader.old))
-        (S.faults (source_of reader.new)) }
+    ensures takes { Takes pool.old.made pool.old.taken pool.new.taken 0 result.0 }
+    ensures hold { IsHold hold.new.items (deque_capacity hold.new) }
 {
     let kept = &mut None;
     let (blocks, halt) = read_more(

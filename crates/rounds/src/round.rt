@@ -63,25 +63,18 @@ pub struct Round {
 }
 
 impl Model for Round {
-    ghost use Rattle.std.specs.Prelude.{◌≡◌, ◌+◌, ◌*◌, ℕ, length, map};
-    ghost use Rattle.std.specs.List.{AllByRecursion};
+    ghost use Rattle.std.specs.Prelude.{ℕ};
     ghost use Rattle.block_pool.specs.PoolState.{home};
-    ghost use Rattle.offload_model.specs.Captured.{IsCaptured};
-    ghost use Rattle.offload_model.specs.Need.{round_need};
-    ghost use Rattle.gro.specs.Slots.{packet_of, counts_of};
-    ghost use Rattle.records.specs.Laid.{AreRead, LaidFrom};
     ghost use Rattle.rounds.specs.Fresh.{NumberedFrom};
+    ghost use Rattle.rounds.specs.RoundOf.{IsRoundOf};
     ghost use Rattle.rounds.specs.RoundsState.{RoundState};
 
     ghost Value = { RoundState };
 
     ghost view = { λ r. record { packets = r.packets.items; spares = r.spares.blocks; blocks = r.blocks } };
 
-    ghost invariant = { λ r. LaidFrom 0 r.packets.items × AreRead r.packets.items
-        × (counts_of r.packets.items + home r.spares ≡ r.blocks) × (home r.spares ≡ 2 * length r.packets.items)
-        × ((k : ℕ) × NumberedFrom k r.packets.items)
-        × AllByRecursion IsCaptured (map packet_of r.packets.items)
-        × (r.blocks ≡ round_need (map packet_of r.packets.items)) };
+    ghost invariant = { λ r. IsRoundOf r.packets.items (home r.spares) r.blocks
+        × ((k : ℕ) × NumberedFrom k r.packets.items) };
 }
 
 impl Round {

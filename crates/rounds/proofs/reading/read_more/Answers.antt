@@ -1,21 +1,15 @@
-use Rattle.std.proofs.Common.{◌≡◌, ◌-◌, ◌++◌, ◌∷◌, [], List, ℕ, Ok, Err, ap, sym, subst, ◌∙◌, arith, refl, length, length-append, map}
+use Rattle.std.proofs.Common.{◌≡◌, ◌-◌, ◌+◌, ◌++◌, ◌∷◌, [], List, ℕ, Ok, Err, ap, sym, subst, ◌∙◌, arith, refl, length, length-append}
 use Rattle.block_pool.specs.PoolState.{home}
 use Rattle.off_io.specs.Told.{Told}
-use Rattle.std.specs.List.{AllByRecursion}
-use Rattle.offload_model.specs.Need.{round_need}
-use Rattle.offload_model.specs.Captured.{IsCaptured}
 use Rattle.gro.specs.declared.slot.Slot.{Slot as Packet}
 use Rattle.gro.specs.Packets.{PacketsState}
-use Rattle.gro.specs.Slots.{packet_of, counts_of, weighed_slots}
+use Rattle.gro.specs.Slots.{weighed_slots}
 use Rattle.gro.proofs.Weights.{weighed_last}
-use Rattle.records.specs.Laid.{AreRead, LaidFrom}
 use Rattle.rounds.specs.Reading.{GivesRest, NumbersOn, WaitsOver}
 use Rattle.rounds.specs.declared.round.RoundEnd.{RoundEnd}
 use Rattle.records.specs.Reading.{GivesRecord}
-use Rattle.rounds.proofs.Pausing.{halt_ended, halt_lacking, waits_over}
-use Rattle.rounds.proofs.Coming.{counts_last}
-use Rattle.rounds.proofs.Rounding.{no_front, so_far_none, so_far_at, so_far_more, round_stop_given, need_last, read_last, captured_last, fills_round, numbers_none, numbers_more}
-use Rattle.records.proofs.Laying.{laid_at}
+use Rattle.rounds.proofs.Pausing.{full_fault, halt_ended, halt_fault, halt_full, halt_lacking, round_last, waits_over}
+use Rattle.rounds.proofs.Rounding.{no_front, so_far_none, so_far_at, so_far_more, round_stop_given, fills_round, numbers_none, numbers_more}
 use Rattle.rounds.proofs.reading.read_more.Goals as goal
 
 pub reading-init : goal.reading-init
@@ -27,31 +21,22 @@ reading-init g c =
       size = c.requires.size;
       reserved = c.requires.reserved;
       room = c.requires.room;
-      pairs = c.requires.pairs;
-      laid = c.requires.laid;
-      read = c.requires.read;
-      captured = c.requires.captured;
+      round = c.requires.round;
       numbers = numbers_none place.number first;
-      count = c.requires.count;
-      need = c.requires.need;
-      sum = omega arith;
-      named = λ h. refl;
+      came = record { sum = omega arith; named = λ h. refl; owed = omega arith; asked = omega arith };
       within = c.requires.within;
       made = refl;
       more = omega arith;
       taken = omega (arith, c.taken.ensures.value, c.taken.type_inv);
-      asked = omega arith;
-      owed = omega arith;
       least = omega arith;
       most = omega arith;
-      empty = c.requires.empty;
-      capacity = refl;
+      hold = c.requires.hold;
       same = refl;
       later = omega arith;
     }
 
-pub returns-in-Err-clause-given : goal.returns-in-Err-clause-given
-returns-in-Err-clause-given g c =
+pub returns-in-Err-clause-fills : goal.returns-in-Err-clause-fills
+returns-in-Err-clause-fills g c =
     let l = c.reading in
     let i = l.invariant in
     let none = no_front c.read_record.new.front c.in-Err.ensures.front in
@@ -65,9 +50,22 @@ returns-in-Err-clause-given g c =
     let first = c.args.packets.now.items in
     let a = g.S.Source.left c.args.reader.now.source.now in
     let b = g.S.Source.left c.read_record.new.reader.source.now in
-    halt_ended (λ (end : RoundEnd). Told a b (GivesRest c.args.pool.now.made old new first c.read_record.new.packets.items end)) c.in-Err.stop c.halt_of.result c.halt_of.ensures.halt
-    (λ end is. subst (λ (ps : PacketsState). Told a b (GivesRest c.args.pool.now.made old new first ps.items end)) (sym c.in-Err.ensures.none)
-    (round_stop_given _ _ _ old l.reader.place new l.used c.args.pool.now.made first l.packets.items c.in-Err.stop end (i.so_far.link ∙ c.requires.link) i.within i.need is i.so_far.told told))
+    let stop = c.in-Err.stop in
+    let halt = c.halt_of.result in
+    let is = c.halt_of.ensures.halt in
+    let same = ap (λ (ps : PacketsState). ps.items) c.in-Err.ensures.none in
+    let count = ap (λ (xs : List Packet). length xs) same in
+    record {
+      given = halt_ended (λ (end : RoundEnd). Told a b (GivesRest c.args.pool.now.made old new first c.read_record.new.packets.items end)) stop halt is
+          (λ end ends. subst (λ (xs : List Packet). Told a b (GivesRest c.args.pool.now.made old new first xs end)) (sym same)
+          (round_stop_given _ _ _ old l.reader.place new l.used c.args.pool.now.made first l.packets.items stop end (i.so_far.link ∙ c.requires.link) i.within i.round.need ends i.so_far.told told));
+      size = omega (arith, count, i.size);
+      fewer = λ not_full. omega (arith, count, c.reading-test.true, c.len.ensures);
+      full = λ full. absurd (halt_full stop halt is full);
+      numbers = subst (NumbersOn old.number first) (sym same) i.numbers;
+      later = omega (arith, c.in-Err.ensures.later, i.later);
+      failed = λ fault. omega (arith, c.in-Err.ensures.failed (ap Err (halt_fault stop halt is fault)), i.later);
+    }
 
 pub returns-in-Err-clause-lacking : goal.returns-in-Err-clause-lacking
 returns-in-Err-clause-lacking g c = λ lacks.
@@ -90,7 +88,7 @@ returns-in-Err-clause-lacking g c = λ lacks.
 
 pub returns-in-Err-clause-refused : goal.returns-in-Err-clause-refused
 returns-in-Err-clause-refused g c = λ counts lacks.
-    omega (arith, c.in-Err.ensures.refused counts (ap Err (halt_lacking c.in-Err.stop c.halt_of.result c.halt_of.ensures.halt lacks)), c.reading.invariant.asked)
+    omega (arith, c.in-Err.ensures.refused counts (ap Err (halt_lacking c.in-Err.stop c.halt_of.result c.halt_of.ensures.halt lacks)), c.reading.invariant.came.asked)
 
 pub returns-in-Err-clause-short : goal.returns-in-Err-clause-short
 returns-in-Err-clause-short g c = λ lacks. c.in-Err.ensures.short (ap Err (halt_lacking c.in-Err.stop c.halt_of.result c.halt_of.ensures.halt lacks))
@@ -100,11 +98,23 @@ returns-in-Err-clause-so_far g c = λ lacks.
     let kept = c.in-Err.ensures.kept (ap Err (halt_lacking c.in-Err.stop c.halt_of.result c.halt_of.ensures.halt lacks)) in
     omega (arith, kept.5, c.reading.invariant.taken)
 
-pub returns-clause-full : goal.returns-clause-full
-returns-clause-full g c = λ is.
+pub returns-clause-fills : goal.returns-clause-fills
+returns-clause-fills g c =
     let l = c.reading in
-    fills_round _ _ c.args.reader.now.place l.reader.place c.args.packets.now.items l.packets.items c.args.budget (omega (arith, l.invariant.size, c.reading-test.false, c.len.ensures))
-    l.invariant.so_far
+    let i = l.invariant in
+    let old = c.args.reader.now.place in
+    let first = c.args.packets.now.items in
+    let a = g.S.Source.left c.args.reader.now.source.now in
+    let b = g.S.Source.left l.reader.source.now in
+    record {
+      given = i.so_far.told;
+      size = i.size;
+      fewer = λ not_full. absurd (not_full refl);
+      full = λ full. fills_round a b old l.reader.place first l.packets.items c.args.budget (omega (arith, i.size, c.reading-test.false, c.len.ensures)) i.so_far;
+      numbers = i.numbers;
+      later = i.later;
+      failed = λ fault. absurd (full_fault fault);
+    }
 
 pub reading-preserved : goal.reading-preserved
 reading-preserved g c =
@@ -127,25 +137,22 @@ reading-preserved g c =
       size = omega (arith, ap length e, length-append ps (p ∷ []), i.size, c.reading-test.true, c.len.ensures);
       reserved = omega (arith, ap length e, length-append ps (p ∷ []), i.reserved, r.room);
       room = omega (arith, i.room, r.made.1);
-      pairs = omega (arith, ap length e, length-append ps (p ∷ []), i.pairs, r.spares);
-      laid = subst (LaidFrom 0) (sym e) (laid_at ps p l.used (home l.spares) (l.used - c.home.result) i.count (omega (arith, c.home.ensures.home)) i.laid (r.laid p e));
-      read = subst AreRead (sym e) (read_last ps p i.read (r.read p e));
-      captured = subst (λ (xs : List Packet). AllByRecursion IsCaptured (map packet_of xs)) (sym e) (captured_last ps p i.captured (r.captured p e (i.so_far.link ∙ c.requires.link)));
+      round = round_last ps qs p (home l.spares) (home c.read_record.new.spares) l.used (l.used + c.in-Ok.count) (l.used - c.home.result) e i.round (omega (arith, c.home.ensures.home)) r.spares
+          (omega (arith, k)) (r.laid p e) (r.read p e) (r.captured p e (i.so_far.link ∙ c.requires.link)) (r.need p e);
       numbers = subst (NumbersOn start first) (sym e) (numbers_more start l.reader.place.number first ps p i.numbers i.so_far.number (r.number p e));
-      count = omega (arith, ap counts_of e, counts_last ps p, i.count, k, r.spares);
-      need = omega (arith, ap (λ (xs : List Packet). round_need (map packet_of xs)) e, need_last ps p, i.need, k, r.need p e);
-      sum = omega (arith, i.sum, r.home, k);
-      named = λ h. omega (arith, i.named h, r.named p e h, ap (weighed_slots h) e, weighed_last h ps p);
+      came = record {
+        sum = omega (arith, i.came.sum, r.home, k);
+        named = λ h. omega (arith, i.came.named h, r.named p e h, ap (weighed_slots h) e, weighed_last h ps p);
+        owed = omega (arith, i.came.owed, r.owed);
+        asked = omega (arith, i.came.asked, r.asked);
+      };
       within = omega (arith, i.made, r.fits, k);
       made = omega (arith, i.made, r.made);
       more = omega (arith, i.more);
       taken = omega (arith, i.more, i.taken, r.taken, k);
-      asked = omega (arith, i.asked, r.asked);
-      owed = omega (arith, i.owed, r.owed);
       least = omega (arith, i.least, r.least);
       most = omega (arith, i.most, r.taken, k);
-      empty = r.empty;
-      capacity = omega (arith, r.capacity, i.capacity);
+      hold = record { empty = r.empty; room = omega (arith, r.capacity, i.hold.room) };
       same = r.same_source ∙ i.same;
       later = omega (arith, r.later, i.later);
     }

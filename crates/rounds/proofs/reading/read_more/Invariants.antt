@@ -1,12 +1,8 @@
-use Rattle.std.proofs.Common.{◌≡◌, ℕ, ◌+◌, ◌-◌, ◌*◌, ◌^◌, ◌≤◌, [], min, map, length}
+use Rattle.std.proofs.Common.{◌≡◌, ◌+◌, ◌-◌, ◌*◌, ◌^◌, ◌≤◌, min, length}
 use Rattle.std.specs.VecDeque.{deque_capacity}
-use Rattle.block_pool.specs.PoolState.{home, weighed}
-use Rattle.std.specs.List.{AllByRecursion}
-use Rattle.offload_model.specs.Need.{round_need}
-use Rattle.offload_model.specs.Captured.{IsCaptured}
-use Rattle.gro.specs.Slots.{packet_of, counts_of, weighed_slots}
-use Rattle.records.specs.Laid.{AreRead, LaidFrom}
+use Rattle.block_pool.specs.PoolState.{home}
 use Rattle.rounds.specs.Reading.{NumbersOn}
+use Rattle.rounds.specs.RoundOf.{at_hand, brought_by, Came, IsHold, IsRoundOf}
 use Rattle.rounds.proofs.Rounding.{ReadSoFar}
 use Rattle.rounds.proofs.reading.read_more.Given as goal
 
@@ -16,26 +12,18 @@ invariant-reading g l = record {
   size : length l.packets.items ≤ l.budget;
   reserved : l.budget ≤ length l.packets.items + l.packets.room;
   room : 2 * l.budget ≤ l.spares.made;
-  pairs : home l.spares ≡ 2 * length l.packets.items;
-  laid : LaidFrom 0 l.packets.items;
-  read : AreRead l.packets.items;
-  captured : AllByRecursion IsCaptured (map packet_of l.packets.items);
+  round : IsRoundOf l.packets.items (home l.spares) l.used;
   numbers : NumbersOn l.initial.reader.place.number l.initial.packets.items l.packets.items;
-  count : counts_of l.packets.items + home l.spares ≡ l.used;
-  need : l.used ≡ round_need (map packet_of l.packets.items);
-  sum : home l.pool + l.used + g.H.Supply.brought l.initial.more ≡ home l.initial.pool + l.initial.used + g.H.Supply.brought l.more;
-  named : (h : ℕ → ℕ) → weighed h l.pool.blocks + weighed_slots h l.packets.items + weighed h l.spares.blocks + g.H.Supply.weights l.initial.more h
-      ≡ weighed h l.initial.pool.blocks + weighed_slots h l.initial.packets.items + weighed h l.initial.spares.blocks + g.H.Supply.weights l.more h;
+  came : Came (brought_by g.H.Supply.brought g.H.Supply.weights g.H.Supply.owed g.H.Supply.refusals l.initial.more)
+      (brought_by g.H.Supply.brought g.H.Supply.weights g.H.Supply.owed g.H.Supply.refusals l.more) (home l.initial.pool + l.initial.used) (home l.pool + l.used)
+      (at_hand l.initial.pool l.initial.packets.items l.initial.spares) (at_hand l.pool l.packets.items l.spares);
   within : l.used ≤ l.initial.pool.made;
   made : l.pool.made ≡ l.initial.pool.made;
   more : l.initial.used ≤ l.used;
   taken : l.pool.taken ≡ min (l.initial.pool.taken + (l.used - l.initial.used)) (2 ^ 64 - 1);
-  asked : g.H.Supply.refusals l.initial.more ≤ g.H.Supply.refusals l.more;
-  owed : g.H.Supply.owed l.initial.more + g.H.Supply.brought l.initial.more ≤ g.H.Supply.owed l.more + g.H.Supply.brought l.more;
   least : l.initial.pool.taken ≤ l.pool.taken;
   most : l.pool.taken + l.initial.used ≤ l.initial.pool.taken + l.used;
-  empty : l.hold.items ≡ [];
-  capacity : deque_capacity l.hold ≡ deque_capacity l.initial.hold;
+  hold : IsHold l.hold.items (deque_capacity l.hold);
   same : l.reader.source.ghost_name ≡ l.initial.reader.source.ghost_name;
   later : g.S.Source.faults l.initial.reader.source.now ≤ g.S.Source.faults l.reader.source.now;
 }

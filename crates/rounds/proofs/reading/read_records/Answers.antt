@@ -1,22 +1,22 @@
-use Rattle.std.proofs.Common.{sym, subst, ap, ◌∙◌}
-use Rattle.records.specs.Laid.{LaidFrom}
-use Rattle.rounds.specs.declared.reading.Halt.TheVariants.{Ended}
-use Rattle.rounds.proofs.Pausing.{waits_ends}
-use Rattle.rounds.proofs.Rounding.{whole_fills}
+use Rattle.std.proofs.Common.{refl}
+use Rattle.block_pool.specs.PoolState.{home}
+use Rattle.rounds.specs.Filling.{reached}
+use Rattle.rounds.proofs.Pausing.{whole_on, whole_waits}
+use Rattle.rounds.proofs.Rounding.{round_none}
 use Rattle.rounds.proofs.reading.read_records.Goals as goal
 
-pub read_more-blocks-requires-clause-laid : goal.read_more-blocks-requires-clause-laid
-read_more-blocks-requires-clause-laid g c = subst (LaidFrom 0) (sym c.requires.none.0) tt
+pub read_more-blocks-requires-clause-round : goal.read_more-blocks-requires-clause-round
+read_more-blocks-requires-clause-round g c = round_none c.args.packets.now.items (home c.args.spares.now) 0 c.requires.none.0 c.requires.none.1 refl
 
-pub returns-in-Ended-clause-full : goal.returns-in-Ended-clause-full
-returns-in-Ended-clause-full g c = λ full.
+pub returns-in-Ended-clause-fills : goal.returns-in-Ended-clause-fills
+returns-in-Ended-clause-fills g c =
     let r = c.read_more-blocks in
-    whole_fills c.args.reader.now.place r.new.reader.place c.args.packets.now.items r.new.packets.items c.args.budget c.requires.ready c.requires.none.0 (r.ensures.full (c.in-Ended.is ∙ ap Ended full))
+    whole_on c.args.pool.now.made c.args.budget (reached g.S.Source.left g.S.Source.faults c.args.reader.now) (reached g.S.Source.left g.S.Source.faults r.new.reader) c.args.packets.now.items
+    r.new.packets.items r.result.1 c.in-Ended.end c.in-Ended.is c.requires.ready c.requires.none.0 r.ensures.fills
 
-pub returns-in-Lacking-clause-given : goal.returns-in-Lacking-clause-given
-returns-in-Lacking-clause-given g c =
+pub returns-in-Lacking-clause-fills : goal.returns-in-Lacking-clause-fills
+returns-in-Lacking-clause-fills g c =
     let r = c.read_more-blocks in
-    let a = g.S.Source.left c.args.reader.now.source.now in
-    let b = g.S.Source.left r.new.reader.source.now in
     let kept = r.ensures.lacking c.in-Lacking.is in
-    waits_ends a b c.args.reader.now.place r.new.reader.place c.args.pool.now.made c.args.packets.now.items r.new.packets.items kept.0 c.requires.none.0 kept.2
+    whole_waits c.args.pool.now.made c.args.budget (reached g.S.Source.left g.S.Source.faults c.args.reader.now) (reached g.S.Source.left g.S.Source.faults r.new.reader) c.args.packets.now.items
+    r.new.packets.items r.result.1 kept.0 c.requires.none.0 r.ensures.fills kept.2

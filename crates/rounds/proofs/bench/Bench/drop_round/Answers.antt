@@ -13,8 +13,8 @@ pub invariant_of-rest : goal.invariant_of-rest
 invariant_of-rest c =
     let r = c.round.inside in
     let v = c.round.invariant in (
-      omega (arith, v.2),
-      out_alone _ r.packets.items c.take_lanes-lanes.result c.new.result.items v.0 (omega (arith, v.2)) c.take_lanes-lanes.ensures.idle c.new.ensures.items,
+      omega (arith, v.0.count),
+      out_alone _ r.packets.items c.take_lanes-lanes.result c.new.result.items v.0.laid (omega (arith, v.0.count)) c.take_lanes-lanes.ensures.idle c.new.ensures.items,
     )
 
 pub returns : goal.returns

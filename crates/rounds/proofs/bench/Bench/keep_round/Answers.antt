@@ -10,10 +10,10 @@ use Rattle.rounds.proofs.Keeping.{are_kept, at_count, out_idle}
 use Rattle.rounds.proofs.bench.Bench.keep_round.Goals as goal
 
 pub share_if-requires-clause-laid : goal.share_if-requires-clause-laid
-share_if-requires-clause-laid c = c.round.invariant.0
+share_if-requires-clause-laid c = c.round.invariant.0.laid
 
 pub share_if-requires-clause-read : goal.share_if-requires-clause-read
-share_if-requires-clause-read c = c.round.invariant.1
+share_if-requires-clause-read c = c.round.invariant.0.read
 
 pub invariant_of-result : goal.invariant_of-result
 invariant_of-result c =
@@ -22,9 +22,9 @@ invariant_of-result c =
     let s = c.is_shared-shared.result in
     let k = c.share_if.new in
     let n = r.blocks - home r.spares in (
-      omega (arith, v.2),
+      omega (arith, v.0.count),
       out_idle s n k.packets.items c.take_lanes.result k.kept.items c.take_lanes.ensures.idle
-          (at_count s (counts_of r.packets.items) n k.packets.items k.kept.items (omega (arith, v.2)) c.in-Err.ensures.prepared.round),
+          (at_count s (counts_of r.packets.items) n k.packets.items k.kept.items (omega (arith, v.0.count)) c.in-Err.ensures.prepared.round),
     )
 
 pub returns-in-Ok-clause-kept : goal.returns-in-Ok-clause-kept
@@ -36,7 +36,7 @@ returns-in-Ok-clause-kept c =
     let k : Kept = record { packets = c.share_if.new.packets; kept = c.share_if.new.kept; spares = r.spares; shared = s.result; blocks = r.blocks } in
     let b = c.args.self.now in
     subst (λ (z : RoundState). IsKept b.keep b.plan.taps (map packet_of z.packets) z.blocks k) c.round.view_is
-    (are_kept b.keep b.plan.taps r.blocks r.packets.items k refl v.2 v.5 v.4
+    (are_kept b.keep b.plan.taps r.blocks r.packets.items k refl v.0.count v.0.captured v.1
     (omega (arith, c.requires.few, c.self.invariant.0, ap (λ (b : BenchState). b.blocks) c.self.view_is, ap (λ (r : RoundState). r.blocks) c.round.view_is))
     s.ensures.taps s.ensures.only e.prepared
     (λ keep. e.all (ap (λ (b : BenchState). b.keep) c.self.view_is ∙ keep)))

@@ -1,15 +1,16 @@
-use Rattle.std.proofs.Common.{◌≡◌, ℕ, ◌+◌, ◌≤◌}
+use Rattle.std.proofs.Common.{◌≡◌}
 use Rattle.block_pool.specs.PoolState.{weighed}
+use Rattle.rounds.specs.RoundOf.{brought_by, Came}
 use Rattle.rounds.proofs.intake.Intake.bring_rest.Given as goal
 
 abbrev pub invariant-loop : goal.invariant-loop
 invariant-loop g l = record {
-  sum : l.self.home + g.H.Supply.brought l.initial.more ≡ l.initial.self.home + g.H.Supply.brought l.more;
-  named : (h : ℕ → ℕ) → weighed h l.self.stock + g.H.Supply.weights l.initial.more h ≡ weighed h l.initial.self.stock + g.H.Supply.weights l.more h;
+  came : Came (brought_by g.H.Supply.brought g.H.Supply.weights g.H.Supply.owed g.H.Supply.refusals l.initial.more)
+      (brought_by g.H.Supply.brought g.H.Supply.weights g.H.Supply.owed g.H.Supply.refusals l.more) l.initial.self.home l.self.home (λ h. weighed h l.initial.self.stock)
+      (λ h. weighed h l.self.stock);
   blocks : l.self.blocks ≡ l.initial.self.blocks;
   taken : l.self.taken ≡ l.initial.self.taken;
   budget : l.self.budget ≡ l.initial.self.budget;
   empties : l.self.empties ≡ l.initial.self.empties;
   pauses : l.self.pauses ≡ l.initial.self.pauses;
-  asked : g.H.Supply.refusals l.initial.more ≤ g.H.Supply.refusals l.more;
 }

@@ -1,22 +1,17 @@
-use Rattle.std.proofs.Common.{ℕ, ◌≡◌, List, rules, ap, sym, subst}
-use Rattle.off_io.specs.Told.{Told}
+use Rattle.std.proofs.Common.{◌≡◌, List, rules, subst}
 use Rattle.gro.specs.declared.slot.Slot.{Slot as Packet}
-use Rattle.rounds.specs.declared.round.RoundEnd.TheVariants.{NoMemory}
-use Rattle.rounds.specs.Ahead.{GivesBehind}
-use Rattle.rounds.specs.Reading.{FillsRound, NumbersOn}
+use Rattle.rounds.specs.Filling.{reached, FillsBehind}
+use Rattle.rounds.specs.Reading.{NumbersOn}
 use Rattle.rounds.specs.RoundsState.{IntakeState}
-use Rattle.rounds.proofs.Pausing.{behind_unread}
+use Rattle.rounds.proofs.Pausing.{unread_behind}
 use Rattle.rounds.proofs.intake.Intake.read_on.Goals as goal
 
-pub returns-then-is_err-clause-given : goal.returns-then-is_err-clause-given
-returns-then-is_err-clause-given g c = λ at keeps.
-    let a = g.S.Source.left c.args.reader.now.source.now in
-    let place = c.args.reader.now.place in
-    let blocks = c.args.self.now.blocks in
-    let head = c.args.paused.head in
-    let first = c.args.paused.round.packets in
-    let firsts : c.make_room.new.packets.items ≡ first = search rules in
-    subst (λ (xs : List Packet). Told a a (GivesBehind blocks at place head first xs NoMemory)) (sym firsts) (behind_unread a at place blocks head first)
+pub returns-then-is_err-clause-fills : goal.returns-then-is_err-clause-fills
+returns-then-is_err-clause-fills g c =
+    let i = c.args.self.now in
+    let p = c.args.paused in
+    let firsts : c.make_room.new.packets.items ≡ p.round.packets = search rules in
+    unread_behind i.blocks i.budget (reached g.S.Source.left g.S.Source.faults c.args.reader.now) p.head p.round.packets c.make_room.new.packets.items firsts c.requires.fewer
 
 pub invariant_of-result-2 : goal.invariant_of-result-2
 invariant_of-result-2 g c =
@@ -25,14 +20,17 @@ invariant_of-result-2 g c =
     let at = c.requires.kept.0 in
     let numbers = c.requires.kept.1.1 in
     let firsts : c.make_room.new.packets.items ≡ c.args.paused.round.packets = search rules in
-    let on = subst (λ (xs : List Packet). NumbersOn at.number xs r.new.packets.items) firsts (e.numbers at c.requires.kept.1.0) in
-    (e.laid, e.read, e.count, e.pairs, (numbers.0, on numbers.0 numbers.1 numbers.2), e.captured, e.need)
+    let on = subst (λ (xs : List Packet). NumbersOn at.number xs r.new.packets.items) firsts (e.fills.numbers at c.requires.kept.1.0) in
+    (e.round, (numbers.0, on numbers.0 numbers.1 numbers.2))
 
-pub returns-clause-full : goal.returns-clause-full
-returns-clause-full g c = λ full at keeps.
+pub returns-clause-fills : goal.returns-clause-fills
+returns-clause-fills g c =
     let r = c.read_behind-blocks in
-    let new = r.new.reader.place in
+    let from = reached g.S.Source.left g.S.Source.faults c.args.reader.now in
+    let to = reached g.S.Source.left g.S.Source.faults r.new.reader in
+    let head = c.args.paused.head in
     let round = r.new.packets.items in
+    let i = c.self.inside in
     let firsts : c.make_room.new.packets.items ≡ c.args.paused.round.packets = search rules in
-    subst (λ (k : ℕ). FillsRound at new c.args.paused.round.packets round k) (ap (λ (i : IntakeState). i.budget) c.self.view_is)
-    (subst (λ (xs : List Packet). FillsRound at new xs round c.self.inside.budget) firsts (r.ensures.full full at keeps))
+    subst (λ (s : IntakeState). FillsBehind s.blocks s.budget from to head c.args.paused.round.packets round r.result.1) c.self.view_is
+    (subst (λ (xs : List Packet). FillsBehind i.pool.made i.budget from to head xs round r.result.1) firsts r.ensures.fills)

@@ -11,7 +11,7 @@ use Rattle.rounds.proofs.rounds.Rounds.read_rest.Goals as goal
 pub returns-clause-full : goal.returns-clause-full
 returns-clause-full g c = λ full at keeps from passes.
     subst (λ (n : ℕ). PassesRound from (place_of c.read_on.new.reader) c.read_on.result.round.packets n) (sym c.self.invariant.budget ∙ ap (λ (s : RoundsState). s.budget) c.self.view_is)
-    (c.read_on.ensures.full full at keeps from passes)
+    (c.read_on.ensures.fills.full full at keeps from passes)
 
 pub returns-then-is_err-clause-given : goal.returns-then-is_err-clause-given
 returns-then-is_err-clause-given g c = λ at keeps.

@@ -1,12 +1,14 @@
-use Rattle.std.proofs.Common.{◌≡◌, All, Result, Ok, Err, IsErr, MatchResult, IfOk, ◌+◌, [], refl, sym, ap, subst, arith}
+use Rattle.std.proofs.Common.{◌≡◌, ℕ, All, Result, Ok, Err, IsErr, MatchResult, IfOk, ◌+◌, map, ap, subst, arith}
 use Rattle.std.proofs.lemmas.Bool.{false≢true}
-use Rattle.off_io.specs.Told.{Told}
-use Rattle.off_io.proofs.Telling.{Told-same}
+use Rattle.offload_model.specs.Written.{round_records}
+use Rattle.gro.specs.Slots.{packet_of}
 use Rattle.lanes.specs.Lanes.{IsMerged}
-use Rattle.rounds.specs.Reading.{GivesRound}
-use Rattle.rounds.specs.RoundsState.{RestState, RoundsState, WorkedState}
-use Rattle.rounds.specs.declared.round.RoundEnd.{RoundEnd}
-use Rattle.rounds.specs.declared.round.RoundEnd.TheVariants as ends
+use Rattle.rounds.specs.Benches.{options_at}
+use Rattle.rounds.specs.Filling.{reached, FillsAhead}
+use Rattle.rounds.specs.Lanes.{worked_records, IsKeptWorkOf, WorksAs}
+use Rattle.rounds.specs.Merging.{options_of}
+use Rattle.rounds.specs.RoundsState.{BenchState, RestState, RoundsState, WorkedState}
+use Rattle.rounds.proofs.Pausing.{unread_ahead}
 use Rattle.rounds.proofs.rounds.Rounds.work_listed.Goals as goal
 
 -- what is so of what was worked is so of the answer
@@ -21,18 +23,35 @@ closed_empties : (worked : Result WorkedState RestState) (old new : RoundsState)
 closed_empties (Ok w) old new is = ap (λ (s : RoundsState). s.empties) is
 closed_empties (Err rest) old new is = ap (λ (s : RoundsState). s.empties) is
 
-pub returns-in_default-clause-given : goal.returns-in_default-clause-given
-returns-in_default-clause-given g c =
+pub returns-in_default-clause-fills : goal.returns-in_default-clause-fills
+returns-in_default-clause-fills g c =
     let n = c.no_round-none in
-    let a = g.S.Source.left c.args.reader.now.source.now in
-    let place = c.args.reader.now.place in
-    let blocks = c.args.self.now.blocks in
-    subst (λ (e : RoundEnd). Told a a (GivesRound blocks place place n.result.round.packets e)) (sym n.ensures.end)
-    (Told-same a (GivesRound blocks place place n.result.round.packets ends.NoMemory) (λ bytes. ([], refl)))
+    let i = c.args.self.now in
+    unread_ahead i.blocks i.budget (reached g.S.Source.left g.S.Source.faults c.args.reader.now) n.result n.ensures.none.0 n.ensures.none.2 n.ensures.end
 
-pub returns-clause-merged : goal.returns-clause-merged
-returns-clause-merged g c =
-    closed_ok (λ (w : WorkedState). All IsMerged w.lanes.queues.items) c.work_beside-read.result.1 c.close_work.result c.close_work.ensures.worked c.work_beside-read.ensures.merged
+pub returns-clause-fills : goal.returns-clause-fills
+returns-clause-fills g c =
+    let w = c.work_beside-read in
+    let i = c.self.inside.intake in
+    let from = reached g.S.Source.left g.S.Source.faults c.args.reader.now in
+    let to = reached g.S.Source.left g.S.Source.faults w.new.reader in
+    let blocks : i.blocks ≡ c.args.self.now.blocks = ap (λ (s : RoundsState). s.blocks) c.self.view_is in
+    let budget : i.budget ≡ c.args.self.now.budget = omega (arith, c.self.invariant.budget, ap (λ (s : RoundsState). s.budget) c.self.view_is) in
+    subst (λ (n : ℕ). FillsAhead n c.args.self.now.budget from to w.result.0) blocks (subst (λ (n : ℕ). FillsAhead i.blocks n from to w.result.0) budget w.ensures.fills)
+
+pub returns-clause-works : goal.returns-clause-works
+returns-clause-works g c =
+    let w = c.work_beside-read in
+    let is = c.close_work.ensures.worked in
+    let ps = map packet_of c.args.round.packets in
+    let options = options_of c.args.self.now in
+    let lent = subst (λ (b : BenchState). WorksAs (options_at b) b.keep ps w.result.1) c.take_blank.ensures.same w.ensures.works in
+    let works = subst (λ (s : RoundsState). WorksAs (options_of s) s.keep ps w.result.1) c.self.view_is lent in
+    record {
+      records = closed_ok (λ (v : WorkedState). worked_records v ≡ round_records options ps) w.result.1 c.close_work.result is works.records;
+      checked = λ keep. closed_ok (λ (v : WorkedState). IsKeptWorkOf options ps v) w.result.1 c.close_work.result is (works.checked keep);
+      merged = closed_ok (λ (v : WorkedState). All IsMerged v.lanes.queues.items) w.result.1 c.close_work.result is works.merged;
+    }
 
 pub returns-clause-later_empties : goal.returns-clause-later_empties
 returns-clause-later_empties g c =

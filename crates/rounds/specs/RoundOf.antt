@@ -1,0 +1,68 @@
+-- What the side that reads hands on: a round by its lists, who holds its blocks, and how many were taken and brought.
+use Rattle.std.specs.Prelude.{ℕ, ◌≡◌, ◌+◌, ◌-◌, ◌*◌, ◌^◌, ◌≤◌, List, [], length, map, min}
+use Rattle.std.specs.List.{AllByRecursion}
+use Rattle.block_pool.specs.PassState.{PassState}
+use Rattle.block_pool.specs.PoolState.{PoolState, weighed}
+use Rattle.offload_model.specs.Captured.{IsCaptured}
+use Rattle.offload_model.specs.Need.{round_need}
+use Rattle.gro.specs.declared.slot.Slot.{Slot as Held}
+use Rattle.gro.specs.Slots.{packet_of, counts_of, weighed_slots}
+use Rattle.records.specs.Laid.{AreRead, LaidFrom}
+use Rattle.rounds.specs.Lists.{listed_home, weights_home}
+
+-- Packets of records as they were read, whose blocks and so many spares are the round's: two spares for each.
+pub record IsRoundOf (packets : List Held) (spares blocks : ℕ) : Type 0 where
+  pub laid : LaidFrom 0 packets
+  pub count : counts_of packets + spares ≡ blocks
+  pub pairs : spares ≡ 2 * length packets
+  pub read : AreRead packets
+  pub captured : AllByRecursion IsCaptured (map packet_of packets)
+  pub need : blocks ≡ round_need (map packet_of packets)
+
+-- between two records no block is held for one, and there is room for those of the longest
+pub record IsHold {A : Type 0} (items : List A) (capacity : ℕ) : Type 0 where
+  pub empty : items ≡ []
+  pub room : 131 ≤ capacity
+
+-- The counts of takes, before and after, of a pool of so many blocks: those of a round were taken, or of it those that
+-- it has more, and maybe others that went back. The count stays at 2^64 - 1.
+pub record Takes (made from to before after : ℕ) : Type 0 where
+  pub within : after ≤ made
+  pub taken : min (from + (after - before)) (2 ^ 64 - 1) ≤ to
+  pub least : (before ≤ after) × (from ≤ to)
+  pub most : to + before ≤ from + made
+
+-- of who brings blocks home: how many came and what they weigh, how many will yet, and how often it said no
+pub record Brought : Type 0 where
+  pub count : ℕ
+  pub weights : (ℕ → ℕ) → ℕ
+  pub owed : ℕ
+  pub refusals : ℕ
+
+abbrev pub brought_by : {H : Type 0} → (H → ℕ) → (H → (ℕ → ℕ) → ℕ) → (H → ℕ) → (H → ℕ) → H → Brought
+brought_by count weights owed refusals h = record {
+  count = count h;
+  weights = weights h;
+  owed = owed h;
+  refusals = refusals h;
+}
+
+-- by lists that are taken, and none waited for
+abbrev pub brought_listed : PassState PoolState → PoolState → Brought
+brought_listed pass left = record {
+  count = listed_home pass left;
+  weights = λ h. weights_home h pass left;
+  owed = 0;
+  refusals = pass.empties;
+}
+
+-- the blocks that are home and a round's came to more by those that were brought, as they are counted and as they weigh
+pub record Came (from to : Brought) (old new : ℕ) (weighs weighs_now : (ℕ → ℕ) → ℕ) : Type 0 where
+  pub sum : new + from.count ≡ old + to.count
+  pub named : (h : ℕ → ℕ) → weighs_now h + from.weights h ≡ weighs h + to.weights h
+  pub owed : from.owed + from.count ≤ to.owed + to.count
+  pub asked : from.refusals ≤ to.refusals
+
+-- what the blocks that are home and a round's weigh
+abbrev pub at_hand : PoolState → List Held → PoolState → (ℕ → ℕ) → ℕ
+at_hand pool packets spares h = weighed h pool.blocks + weighed_slots h packets + weighed h spares.blocks
