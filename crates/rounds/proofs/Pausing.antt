@@ -69,9 +69,6 @@ is_fault _ = false
 pub no_memory_fault : ends.NoMemory ≡ ends.ReadFault → ⊥
 no_memory_fault e = false≢true (ap is_fault e)
 
-pub full_fault : Ended ends.Full ≡ Ended ends.ReadFault → ⊥
-full_fault e = false≢true (ap (λ h. is_fault (end_in h)) e)
-
 pub lacking_full : Lacking ≡ Ended ends.Full → ⊥
 lacking_full e = false≢true (sym (ap is_lacking e))
 
@@ -89,40 +86,6 @@ halt_lacking (stops.PoolEmpty need) halt is lacks = absurd (ended_lacking (ends.
 halt_lacking stops.ReadFault halt is lacks = absurd (ended_lacking ends.ReadFault halt is lacks)
 halt_lacking stops.NoMemory halt is lacks = absurd (ended_lacking ends.NoMemory halt is lacks)
 halt_lacking stops.Lacking halt is lacks = refl
-
--- a round is full for none
-pub halt_full : (stop : Stop) (halt : Halt) → IsHaltOf stop halt → halt ≡ Ended ends.Full → ⊥
-halt_full stops.End halt is full = false≢true (ap (λ h. is_full (end_in h)) (sym is ∙ full))
-halt_full (stops.Malformed fault) halt is full = false≢true (ap (λ h. is_full (end_in h)) (sym is ∙ full))
-halt_full (stops.PoolEmpty need) halt is full = false≢true (ap (λ h. is_full (end_in h)) (sym is ∙ full))
-halt_full stops.ReadFault halt is full = false≢true (ap (λ h. is_full (end_in h)) (sym is ∙ full))
-halt_full stops.NoMemory halt is full = false≢true (ap (λ h. is_full (end_in h)) (sym is ∙ full))
-halt_full stops.Lacking halt is full = false≢true (ap (λ h. is_full (end_in h)) (sym is ∙ full))
-
-pub end_full : (stop : Stop) (end : RoundEnd) → IsEndOf stop end → end ≡ ends.Full → ⊥
-end_full stops.End end is full = false≢true (ap is_full (sym is ∙ full))
-end_full (stops.Malformed fault) end is full = false≢true (ap is_full (sym is ∙ full))
-end_full (stops.PoolEmpty need) end is full = false≢true (ap is_full (sym is ∙ full))
-end_full stops.ReadFault end is full = false≢true (ap is_full (sym is ∙ full))
-end_full stops.NoMemory end is full = false≢true (ap is_full (sym is ∙ full))
-end_full stops.Lacking end is full = is
-
--- and its source failed for this alone
-pub halt_fault : (stop : Stop) (halt : Halt) → IsHaltOf stop halt → halt ≡ Ended ends.ReadFault → stop ≡ stops.ReadFault
-halt_fault stops.End halt is fault = absurd (false≢true (ap (λ h. is_fault (end_in h)) (sym is ∙ fault)))
-halt_fault (stops.Malformed why) halt is fault = absurd (false≢true (ap (λ h. is_fault (end_in h)) (sym is ∙ fault)))
-halt_fault (stops.PoolEmpty need) halt is fault = absurd (false≢true (ap (λ h. is_fault (end_in h)) (sym is ∙ fault)))
-halt_fault stops.ReadFault halt is fault = refl
-halt_fault stops.NoMemory halt is fault = absurd (false≢true (ap (λ h. is_fault (end_in h)) (sym is ∙ fault)))
-halt_fault stops.Lacking halt is fault = absurd (false≢true (ap (λ h. is_fault (end_in h)) (sym is ∙ fault)))
-
-pub end_fault : (stop : Stop) (end : RoundEnd) → IsEndOf stop end → end ≡ ends.ReadFault → stop ≡ stops.ReadFault
-end_fault stops.End end is fault = absurd (false≢true (ap is_fault (sym is ∙ fault)))
-end_fault (stops.Malformed why) end is fault = absurd (false≢true (ap is_fault (sym is ∙ fault)))
-end_fault (stops.PoolEmpty need) end is fault = absurd (false≢true (ap is_fault (sym is ∙ fault)))
-end_fault stops.ReadFault end is fault = refl
-end_fault stops.NoMemory end is fault = absurd (false≢true (ap is_fault (sym is ∙ fault)))
-end_fault stops.Lacking end is fault = absurd is
 
 -- ---- a round with one packet more
 

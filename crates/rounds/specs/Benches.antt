@@ -76,13 +76,15 @@ abbrev pub Lends : Option GiverState → Option GiverState → Type 0
 Lends None new = new ≡ None
 Lends (Some g) new = (g' : GiverState) × (new ≡ Some g') × IsBack g g'
 
--- A round of so many blocks was worked, or is left: the giver is back, and its blocks are the round's no more.
+-- A round of so many blocks was worked, or is left: the giver is back, and what it gave is the round's no more.
 pub record LendsWork (blocks : ℕ) (weights : (ℕ → ℕ) → ℕ) (from to : Option GiverState)
     (result : Result WorkedState RestState) : Type 0 where
-  pub worked : IfOk result (λ w. (w.blocks + given_by to ≡ blocks + given_by from)
-      × ((h : ℕ → ℕ) → weights_worked w h + weights_given to h ≡ weights h + weights_given from h))
-  pub rest : IfErr result (λ r. (r.blocks + given_by to ≡ blocks + given_by from)
-      × ((h : ℕ → ℕ) → weights_left r h + weights_given to h ≡ weights h + weights_given from h))
+  pub worked : IfOk result (λ w. w.blocks + given_by to ≡ blocks + given_by from)
+  pub named : IfOk result (λ w. (h : ℕ → ℕ) → weights_worked w h + weights_given to h
+      ≡ weights h + weights_given from h)
+  pub rest : IfErr result (λ r. r.blocks + given_by to ≡ blocks + given_by from)
+  pub named_back : IfErr result (λ r. (h : ℕ → ℕ) → weights_left r h + weights_given to h
+      ≡ weights h + weights_given from h)
   pub gave : Lends from to
 
 -- where somebody gives, none of these stays with a round, or a put found no place: the count of these rose, or stands

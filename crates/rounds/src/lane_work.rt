@@ -1,21 +1,19 @@
 //! Works a round: its packets are merged in lanes.
-ghost use Rattle.std.specs.Prelude.{◌⊎◌, ◌≡◌, ℕ, ◌+◌, ◌≤◌, true, false, [], map, All, IfOk, IfErr, IsOk, OnOk};
+ghost use Rattle.std.specs.Prelude.{◌⊎◌, ◌≡◌, ℕ, ◌+◌, ◌≤◌, true, false, [], map, IfOk, IfErr, IsOk, OnOk};
 ghost use Rattle.std.specs.Prelude.{MatchResult};
 ghost use Rattle.std.specs.List.{AllByRecursion};
 ghost use Rattle.offload_model.specs.Captured.{IsCaptured};
-ghost use Rattle.offload_model.specs.Written.{round_records};
 ghost use Rattle.ref_core.specs.WeightRule.{full_weight};
 ghost use Rattle.frags.specs.Account.{Keeps, KeepsBlocks, both};
 ghost use Rattle.gro.specs.Slots.{packet_of, of_packets, counts_of, weighed_slots, AreHeld, AreShared, WeighAtLeast};
 ghost use Rattle.taps.specs.Clones.{packet_of as packet_of_clone, blocks_of, of_clones};
 ghost use Rattle.lanes.specs.Clones.{AreAfter};
-ghost use Rattle.lanes.specs.Lanes.{weighed_queues, IsMerged};
-ghost use Rattle.block_pool.specs.Giving.{given_by, weights_given};
+ghost use Rattle.lanes.specs.Lanes.{weighed_queues};
 ghost use Rattle.block_pool.specs.PoolState.{weighed};
-ghost use Rattle.rounds.specs.Benches.{options_at, IsLent, LeavesNoSpare, Lends};
+ghost use Rattle.rounds.specs.Benches.{options_at, IsLent, LeavesNoSpare, LendsWork};
 ghost use Rattle.records.specs.Laid.{AreRead, LaidFrom};
 ghost use Rattle.rounds.specs.Kept.{IsKept, IsPrepared, IsDone, IsLeft, IsOfLanes};
-ghost use Rattle.rounds.specs.Lanes.{worked_records, IsAloneWork, IsKeptWorkOf};
+ghost use Rattle.rounds.specs.Lanes.{IsAloneWork, WorksAs};
 ghost use Rattle.rounds.specs.Weights.{weights_of, weights_worked, weights_left};
 
 use crate::bench::Bench;
@@ -183,20 +181,9 @@ impl Bench {
     ) -> Result<Worked, Rest>
         requires few { round.blocks ≤ self.old.blocks }
         requires lent { IsLent giver.old }
-        ensures records { IfOk result (λ worked. worked_records worked
-            ≡ round_records (options_at self.old) (map packet_of round.packets)) }
-        ensures checked { self.old.keep ≡ true → IfOk result
-            (λ worked. IsKeptWorkOf (options_at self.old) (map packet_of round.packets) worked) }
-        ensures merged { IfOk result (λ worked. All IsMerged worked.lanes.queues.items) }
+        ensures works { WorksAs (options_at self.old) self.old.keep (map packet_of round.packets) result }
         ensures alone { self.old.keep ≡ false → self.old.plan.taps ≡ 0 → IfOk result IsAloneWork }
-        ensures worked { IfOk result (λ worked. worked.blocks + given_by giver.new ≡ round.blocks
-            + given_by giver.old) }
-        ensures named { IfOk result (λ worked. (h : ℕ → ℕ) → weights_worked worked h + weights_given giver.new h
-            ≡ weights_of round h + weights_given giver.old h) }
-        ensures rest { IfErr result (λ rest. rest.blocks + given_by giver.new ≡ round.blocks + given_by giver.old) }
-        ensures named_back { IfErr result (λ rest. (h : ℕ → ℕ) → weights_left rest h + weights_given giver.new h
-            ≡ weights_of round h + weights_given giver.old h) }
-        ensures gave { Lends giver.old giver.new }
+        ensures lends { LendsWork round.blocks (weights_of round) giver.old giver.new result }
         ensures none_left { W.gives ≡ true
             → IfOk result (λ worked. LeavesNoSpare giver.old giver.new worked.spares) }
         ensures same { self.new ≡ self.old }

@@ -1,3 +1,4 @@
+use Rattle.std.proofs.lemmas.Grind.{common_steps}
 use Rattle.std.proofs.Common.{◌+◌, ◌-◌, ℕ, List, [], ◌∷◌, Ok, Err, ap, sym, subst, ◌∙◌, arith, length, length-append}
 use Rattle.block_pool.specs.PoolState.{home}
 use Rattle.off_io.specs.Told.{Told}
@@ -14,7 +15,7 @@ use Rattle.rounds.specs.declared.reading.Halt.TheVariants.{Ended}
 use Rattle.rounds.specs.declared.round.RoundEnd.{RoundEnd}
 use Rattle.rounds.specs.declared.round.RoundEnd.TheVariants.{Full}
 use Rattle.rounds.proofs.Rounding.{no_front}
-use Rattle.rounds.proofs.Pausing.{behind_stop, behind_more, end_fault, end_full, ended_same, fills_behind, numbers_behind, round_last}
+use Rattle.rounds.proofs.Pausing.{behind_stop, behind_more, ended_same, fills_behind, numbers_behind, round_last}
 use Rattle.rounds.proofs.reading.read_behind.Goals as goal
 
 pub returns-in-Err-clause-fills : goal.returns-in-Err-clause-fills
@@ -29,20 +30,19 @@ returns-in-Err-clause-fills g c =
     let none = no_front c.finish_record.new.front r.front in
     let stop = c.in-Err.stop in
     let end = c.end_of.result in
-    let is = c.end_of.ensures.end in
     let same = ap (λ (ps : PacketsState). ps.items) r.none in
     let count = ap (λ (xs : List Packet). length xs) same in
     record {
       given = λ at keeps.
           let told = subst (λ (f : List ℕ). Told a b (GivesKept c.args.used made at new head f (Err stop))) none (r.given at c.args.used made keeps (omega (arith, c.requires.fits))) in
           subst (λ (xs : List Packet). Told a b (GivesBehind made at new head first xs end)) (sym same)
-          (behind_stop a b at new c.args.used made head first stop end (sym keeps.enters.link ∙ c.requires.link) (omega (arith, c.requires.out)) c.requires.round.need is told);
+          (behind_stop a b at new c.args.used made head first stop end (sym keeps.enters.link ∙ c.requires.link) (omega (arith, c.requires.out)) c.requires.round.need c.end_of.ensures.end told);
       size = omega (arith, count, c.requires.size);
       fewer = λ not_full. omega (arith, count, c.requires.size);
-      full = λ full. absurd (end_full stop end is full);
+      full = grind (arith, common_steps);
       numbers = λ at keeps. λ k run begun. subst (NumberedFrom k) (sym same) run;
       later = r.later;
-      failed = λ fault. r.failed (ap Err (end_fault stop end is fault));
+      failed = grind (arith, common_steps);
     }
 
 pub read_more-blocks-requires-clause-round : goal.read_more-blocks-requires-clause-round

@@ -1,3 +1,4 @@
+use Rattle.std.proofs.lemmas.Grind.{common_steps}
 use Rattle.std.proofs.Common.{◌≡◌, ◌-◌, ◌+◌, ◌++◌, ◌∷◌, [], List, ℕ, Ok, Err, ap, sym, subst, ◌∙◌, arith, refl, length, length-append}
 use Rattle.block_pool.specs.PoolState.{home}
 use Rattle.off_io.specs.Told.{Told}
@@ -8,7 +9,7 @@ use Rattle.gro.proofs.Weights.{weighed_last}
 use Rattle.rounds.specs.Reading.{GivesRest, NumbersOn, WaitsOver}
 use Rattle.rounds.specs.declared.round.RoundEnd.{RoundEnd}
 use Rattle.records.specs.Reading.{GivesRecord}
-use Rattle.rounds.proofs.Pausing.{full_fault, halt_ended, halt_fault, halt_full, halt_lacking, round_last, waits_over}
+use Rattle.rounds.proofs.Pausing.{halt_ended, halt_lacking, round_last, waits_over}
 use Rattle.rounds.proofs.Rounding.{no_front, so_far_none, so_far_at, so_far_more, round_stop_given, fills_round, numbers_none, numbers_more}
 use Rattle.rounds.proofs.reading.read_more.Goals as goal
 
@@ -51,20 +52,18 @@ returns-in-Err-clause-fills g c =
     let a = g.S.Source.left c.args.reader.now.source.now in
     let b = g.S.Source.left c.read_record.new.reader.source.now in
     let stop = c.in-Err.stop in
-    let halt = c.halt_of.result in
-    let is = c.halt_of.ensures.halt in
     let same = ap (λ (ps : PacketsState). ps.items) c.in-Err.ensures.none in
     let count = ap (λ (xs : List Packet). length xs) same in
     record {
-      given = halt_ended (λ (end : RoundEnd). Told a b (GivesRest c.args.pool.now.made old new first c.read_record.new.packets.items end)) stop halt is
+      given = halt_ended (λ (end : RoundEnd). Told a b (GivesRest c.args.pool.now.made old new first c.read_record.new.packets.items end)) stop c.halt_of.result c.halt_of.ensures.halt
           (λ end ends. subst (λ (xs : List Packet). Told a b (GivesRest c.args.pool.now.made old new first xs end)) (sym same)
           (round_stop_given _ _ _ old l.reader.place new l.used c.args.pool.now.made first l.packets.items stop end (i.so_far.link ∙ c.requires.link) i.within i.round.need ends i.so_far.told told));
       size = omega (arith, count, i.size);
       fewer = λ not_full. omega (arith, count, c.reading-test.true, c.len.ensures);
-      full = λ full. absurd (halt_full stop halt is full);
+      full = grind (arith, common_steps);
       numbers = subst (NumbersOn old.number first) (sym same) i.numbers;
       later = omega (arith, c.in-Err.ensures.later, i.later);
-      failed = λ fault. omega (arith, c.in-Err.ensures.failed (ap Err (halt_fault stop halt is fault)), i.later);
+      failed = grind (arith, common_steps);
     }
 
 pub returns-in-Err-clause-lacking : goal.returns-in-Err-clause-lacking
@@ -113,7 +112,7 @@ returns-clause-fills g c =
       full = λ full. fills_round a b old l.reader.place first l.packets.items c.args.budget (omega (arith, i.size, c.reading-test.false, c.len.ensures)) i.so_far;
       numbers = i.numbers;
       later = i.later;
-      failed = λ fault. absurd (full_fault fault);
+      failed = grind (arith, common_steps);
     }
 
 pub reading-preserved : goal.reading-preserved

@@ -1,6 +1,7 @@
-use Rattle.std.proofs.Common.{arith, map, refl, subst, sym, ◌-◌, ◌∙◌}
+use Rattle.std.proofs.Common.{◌≡◌, arith, map, refl, rules, subst, sym, ◌+◌, ◌-◌, ◌∙◌}
+use Rattle.std.proofs.lemmas.Grind.{common_steps}
 use Rattle.std.specs.Prelude.{IfOk}
-use Rattle.block_pool.specs.Giving.{weights_given}
+use Rattle.block_pool.specs.Giving.{given_by, weights_given}
 use Rattle.block_pool.specs.PoolState.{home}
 use Rattle.gro.specs.Slots.{packet_of}
 use Rattle.rounds.specs.declared.lane_work.Kept.{Kept}
@@ -49,54 +50,49 @@ settle-requires g c =
           w.ensures.named w.ensures.count w.ensures.clones w.ensures.alone w.ensures.idle);
     }
 
-pub returns-clause-checked : goal.returns-clause-checked
-returns-clause-checked g c = λ keep.
+pub returns-clause-works : goal.returns-clause-works
+returns-clause-works g c =
     let k = c.in_ok-kept.kept in
     let w = c.work_packets-done in
     let ps = map packet_of c.args.round.packets in
     let same = c.self.view_is ∙ c.take_lanes-lanes.ensures.same ∙ c.in_ok-kept.ensures.same in
     let is = subst (λ (s : BenchState). IsKept c.args.self.now.keep s.plan.taps ps c.args.round.blocks k) (sym same) c.in_ok-kept.ensures.kept in
-    subst (λ (s : BenchState). IfOk c.settle.result (IsKeptWorkOf (options_at s) ps)) same
-    (kept_work c.self.inside.plan c.self.inside.budget c.args.round.blocks (k.blocks - (c.home-before.result - c.home.result)) c.args.self.now.keep ps k w.result w.new.lanes c.settle.result keep is
-    w.ensures.lanes w.ensures.windows w.ensures.merged c.settle.ensures.worked)
+    record {
+      records = grind (arith, common_steps);
+      checked = λ keep. subst (λ (s : BenchState). IfOk c.settle.result (IsKeptWorkOf (options_at s) ps)) same
+          (kept_work c.self.inside.plan c.self.inside.budget c.args.round.blocks (k.blocks - (c.home-before.result - c.home.result)) c.args.self.now.keep ps k w.result w.new.lanes c.settle.result keep
+          is w.ensures.lanes w.ensures.windows w.ensures.merged c.settle.ensures.worked);
+      merged = search rules;
+    }
 
-pub returns-clause-worked : goal.returns-clause-worked
-returns-clause-worked g c =
+pub returns-clause-lends : goal.returns-clause-lends
+returns-clause-lends g c =
     let k = c.in_ok-kept.kept in
     let w = c.work_packets-done in
-    let gone = went c.args.giver.now c.swap_list.new.giver w.new.giver c.swap_list-2.new.giver k.spares c.swap_list.new.list c.swap_list-2.new.list c.requires.lent c.swap_list.ensures.swapped
-    w.ensures.gave c.swap_list-2.ensures.swapped in
+    let end = c.settle.result in
+    let from = c.args.giver.now in
+    let to = c.swap_list-2.new.giver in
+    let gone = went from c.swap_list.new.giver w.new.giver to k.spares c.swap_list.new.list c.swap_list-2.new.list c.requires.lent c.swap_list.ensures.swapped w.ensures.gave
+    c.swap_list-2.ensures.swapped in
     let is = c.in_ok-kept.ensures.kept in
-    blocks_left w.result w.new.lanes k.kept.items _ c.args.round.blocks _ _ c.settle.result
-    (omega (arith, gone.count, gone.fewer, is.size, is.spares, c.home.ensures.home, c.home-before.ensures.home)) c.settle.ensures.worked
-
-pub returns-clause-rest : goal.returns-clause-rest
-returns-clause-rest g c =
-    let k = c.in_ok-kept.kept in
-    let w = c.work_packets-done in
-    let gone = went c.args.giver.now c.swap_list.new.giver w.new.giver c.swap_list-2.new.giver k.spares c.swap_list.new.list c.swap_list-2.new.list c.requires.lent c.swap_list.ensures.swapped
-    w.ensures.gave c.swap_list-2.ensures.swapped in
-    let is = c.in_ok-kept.ensures.kept in
-    rest_left _ c.args.round.blocks _ _ c.settle.result
-    (omega (arith, gone.count, gone.fewer, is.size, is.spares, c.home.ensures.home, c.home-before.ensures.home)) c.settle.ensures.rest
-
-pub returns-clause-named : goal.returns-clause-named
-returns-clause-named g c =
-    let k = c.in_ok-kept.kept in
-    let w = c.work_packets-done in
-    let gone = went c.args.giver.now c.swap_list.new.giver w.new.giver c.swap_list-2.new.giver k.spares c.swap_list.new.list c.swap_list-2.new.list c.requires.lent c.swap_list.ensures.swapped
-    w.ensures.gave c.swap_list-2.ensures.swapped in
-    weights_then weights_worked _ (weights_of c.args.round) (weights_given c.args.giver.now) (weights_given c.swap_list-2.new.giver) c.settle.result
-    (λ h. omega (arith, gone.named h, w.ensures.named h, c.in_ok-kept.ensures.named h)) c.settle.ensures.named
-
-pub returns-clause-named_back : goal.returns-clause-named_back
-returns-clause-named_back g c =
-    let k = c.in_ok-kept.kept in
-    let w = c.work_packets-done in
-    let gone = went c.args.giver.now c.swap_list.new.giver w.new.giver c.swap_list-2.new.giver k.spares c.swap_list.new.list c.swap_list-2.new.list c.requires.lent c.swap_list.ensures.swapped
-    w.ensures.gave c.swap_list-2.ensures.swapped in
-    weights_back weights_left _ (weights_of c.args.round) (weights_given c.args.giver.now) (weights_given c.swap_list-2.new.giver) c.settle.result
-    (λ h. omega (arith, gone.named h, w.ensures.named h, c.in_ok-kept.ensures.named h)) c.settle.ensures.named_back
+    let blocks : k.blocks - (c.home-before.result - c.home.result) + given_by to ≡ c.args.round.blocks + given_by from = omega (
+      arith,
+      gone.count,
+      gone.fewer,
+      is.size,
+      is.spares,
+      c.home.ensures.home,
+      c.home-before.ensures.home,
+    ) in
+    record {
+      worked = blocks_left w.result w.new.lanes k.kept.items _ c.args.round.blocks _ _ end blocks c.settle.ensures.worked;
+      named = weights_then weights_worked _ (weights_of c.args.round) (weights_given from) (weights_given to) end
+          (λ h. omega (arith, gone.named h, w.ensures.named h, c.in_ok-kept.ensures.named h)) c.settle.ensures.named;
+      rest = rest_left _ c.args.round.blocks _ _ end blocks c.settle.ensures.rest;
+      named_back = weights_back weights_left _ (weights_of c.args.round) (weights_given from) (weights_given to) end
+          (λ h. omega (arith, gone.named h, w.ensures.named h, c.in_ok-kept.ensures.named h)) c.settle.ensures.named_back;
+      gave = grind (arith, common_steps);
+    }
 
 pub returns-clause-none_left : goal.returns-clause-none_left
 returns-clause-none_left g c = λ gives.
