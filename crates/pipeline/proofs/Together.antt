@@ -15,7 +15,7 @@ use Rattle.pipeline.specs.declared.parcel.Parcel.{Parcel}
 use Rattle.pipeline.specs.Handled.{RanOn, HandledOn, MayGoOn, IsOut, Idle, MayBeHandled, ComesBack, blocks_out, weights_out}
 use Rattle.pipeline.specs.Parcels.{blocks_of, rounds_of, weights_sent}
 use Rattle.pipeline.specs.Reads.{ReadOn, IsAlone}
-use Rattle.rounds.proofs.Going.{counted_as, few_none, few_then}
+use Rattle.rounds.proofs.Going.{counted_as, few_none, few_then, ready_as}
 use Rattle.rounds.proofs.Rows.{reads_least}
 use Rattle.pipeline.proofs.Rows.{none_known, rounds_append}
 
@@ -193,17 +193,6 @@ idle_as old new at was same = record {
   nothing = refl;
 }
 
--- the first round is out still
-pub idle_out : {T : Type 0} (old new : RoundsState) (read back : RoundRead) (from to : Spot) (was is : T) → back ≡ read → Idle old new from to was is → IsOut old read from.place
-    → IsOut new back to.place
-idle_out old new read back from to was is same idle out =
-    let here : IsOut new read to.place = record {
-      out = omega (arith, idle.home, idle.same.0, out.out);
-      is = out.is;
-      goes = λ full. subst (λ (s : Spot). MayGoOn read s.place) (sym idle.stands) (out.goes full);
-    } in
-    subst (λ (r : RoundRead). IsOut new r to.place) (sym same) here
-
 -- ---- the same, of rounds with the same options
 
 module _ {T E : Type 0} (did : Options → T → T → RoundRead → ℕ → Option E → Type 0) (stopped : E) (ready : Options → Bool → ℕ → T → Type 0) where
@@ -221,6 +210,18 @@ module _ {T E : Type 0} (did : Options → T → T → RoundRead → ℕ → Opt
       (subst (λ (x : ℕ). RanOn (did o) stopped b x back at' to was' is end) en
       (subst (λ (x : ℕ). RanOn (did o) stopped x n' back at' to was' is end) eb
       (subst (λ (x : Options). RanOn (did x) stopped b' n' back at' to was' is end) eo ran)))))
+
+  -- the first round is out still
+  pub idle_out : (old new : RoundsState) (read back : RoundRead) (from to : Spot) (was is : T) → back ≡ read → Idle old new from to was is
+      → IsOut (ready (options_of old) old.keep) old read from.place was → IsOut (ready (options_of new) new.keep) new back to.place is
+  idle_out old new read back from to was is same idle out =
+      let here : IsOut (ready (options_of new) new.keep) new read to.place is = record {
+        out = omega (arith, idle.home, idle.same.0, out.out);
+        is = out.is;
+        goes = λ full. subst (λ (s : Spot). MayGoOn read s.place) (sym idle.stands) (out.goes full);
+        start = ready_as did stopped ready (options_of new) (options_of old) new.keep old.keep 0 is (sym idle.same.1) (sym idle.same.2) (subst (ready (options_of old) old.keep 0) (sym idle.nothing) out.start);
+      } in
+      subst (λ (r : RoundRead). IsOut (ready (options_of new) new.keep) new r to.place is) (sym same) here
 
   -- one side alone, where nothing else was read
   pub idle_went : (old mid new : RoundsState) (read back : RoundRead) (from at to : Spot) (was between is : T) (end : E) → back ≡ read → Idle old mid from at was between

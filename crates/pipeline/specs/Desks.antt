@@ -1,5 +1,6 @@
 -- What came home to the desk of the side that reads.
-use Rattle.std.specs.Prelude.{ℕ, ◌+◌, ◌-◌}
+use Rattle.std.specs.Prelude.{ℕ, ◌≡◌, ◌+◌, ◌-◌, ◌≤◌}
+use Rattle.block_pool.specs.PoolState.{PoolState, home, weighed}
 use Rattle.rtrb.specs.Ring.{received}
 use Rattle.pipeline.specs.declared.desk.Desk.{Desk}
 use Rattle.pipeline.specs.declared.post.Post.{Ghosts}
@@ -16,3 +17,11 @@ abbrev pub weights_to : {W : Type 0} {G : Ghosts W} → Desk W G → (ℕ → �
 weights_to desk h =
     (weights_back h (received desk.tokens) - weights_shelved h desk.shelves.items)
     + weights_home h desk.taker.pass desk.taker.left
+
+-- it went on to this pool, of which nothing was taken; no take that found no list is forgotten
+pub record Meets {W : Type 0} {G : Ghosts W} (pool pool' : PoolState) (desk desk' : Desk W G) : Type 0 where
+  pub sum : home pool' + brought_to desk ≡ home pool + brought_to desk'
+  pub named : (h : ℕ → ℕ) → weighed h pool'.blocks + weights_to desk h ≡ weighed h pool.blocks + weights_to desk' h
+  pub same : (pool'.made ≡ pool.made) × (pool'.taken ≡ pool.taken)
+  pub rises : home pool ≤ home pool'
+  pub asked : desk.taker.pass.empties ≤ desk'.taker.pass.empties

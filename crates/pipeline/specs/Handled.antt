@@ -1,19 +1,22 @@
 -- What was done with rounds of which the first was read before.
 use Rattle.std.specs.Prelude.{ℕ, ◌≡◌, ◌+◌, ◌≤◌, false, Option, Some, List, [], ◌∷◌, ◌++◌, length, Result, Ok, Err}
-use Rattle.block_pool.specs.PoolState.{weighed}
+use Rattle.std.specs.Prelude.{MatchOption}
+use Rattle.block_pool.specs.Giving.{GiverState, given_by, weights_given}
+use Rattle.block_pool.specs.PoolState.{PoolState, home, weighed}
 use Rattle.pcap_io.specs.declared.heads.Link.TheVariants.{Ethernet}
 use Rattle.pcap_io.specs.declared.place.Place.{Place}
 use Rattle.pcap_io.specs.Places.{IsReady}
 use Rattle.rounds.specs.declared.round.RoundEnd.TheVariants as ends
 use Rattle.rounds.specs.declared.round.RoundRead.{RoundRead}
-use Rattle.rounds.specs.Benches.{IsRead}
+use Rattle.rounds.specs.Benches.{HasRoom, IsLent, IsRead, IsSameBench, Lends}
 use Rattle.rounds.specs.Handled.{Ends, FewPauses, IsReadyAtEnd, Rests}
 use Rattle.rounds.specs.Merging.{options_of}
 use Rattle.rounds.specs.Reads.{Spot, Reads, is_full}
-use Rattle.rounds.specs.RoundsState.{RoundsState}
+use Rattle.rounds.specs.RoundsState.{BenchState, RoundsState}
 use Rattle.rounds.specs.Weights.{weights_of}
 use Rattle.pipeline.specs.declared.parcel.Parcel.{Parcel}
-use Rattle.pipeline.specs.Parcels.{blocks_of, weights_sent}
+use Rattle.pipeline.specs.declared.parcel.Token.{Token}
+use Rattle.pipeline.specs.Parcels.{blocks_of, homes_of, rounds_of, weights_back, weights_sent, BringsNone}
 
 -- As `Ran` of the rounds says, behind a round that was read up to here, and with it.
 pub record RanOn {T E : Type 0} (did : T → T → RoundRead → ℕ → Option E → Type 0) (stopped : E) (blocks budget : ℕ)
@@ -42,11 +45,21 @@ pub record MayGoOn (read : RoundRead) (place : Place) : Type 0 where
   pub packets : length read.round.packets ≤ place.number
   pub counted : 1 ≤ place.number
 
--- a round was read up to here and is out
-pub record IsOut (rounds : RoundsState) (read : RoundRead) (place : Place) : Type 0 where
+-- a round was read up to here and is out, and nothing is done yet
+pub record IsOut {T : Type 0} (starts : ℕ → T → Type 0) (rounds : RoundsState) (read : RoundRead) (place : Place)
+    (into : T) : Type 0 where
   pub out : rounds.home + read.round.blocks ≡ rounds.blocks
   pub is : IsRead read.round
   pub goes : read.end ≡ ends.Full → MayGoOn read place
+  pub start : starts 0 into
+
+-- nothing was read from here on, and nothing is done yet
+pub record MayHandle {T : Type 0} (starts : ℕ → T → Type 0) (rounds : RoundsState) (place : Place) (into : T)
+    : Type 0 where
+  pub ready : IsReady place
+  pub link : place.link ≡ Ethernet
+  pub home : rounds.home ≡ rounds.blocks
+  pub start : starts 0 into
 
 -- nothing more was read, nothing was done, and the same blocks are home
 pub record Idle {T : Type 0} (old new : RoundsState) (from to : Spot) (was is : T) : Type 0 where
@@ -79,3 +92,30 @@ abbrev pub ComesBack : {E : Type 0} → E → List (Option Parcel) → List (Opt
 ComesBack stopped old new (Ok end) = (end ≡ stopped) × (blocks_of new ≡ blocks_of old)
     × ((h : ℕ → ℕ) → weights_sent h new ≡ weights_sent h old)
 ComesBack stopped old new (Err read) = (p : Parcel) × (p.read ≡ read) × (old ≡ Some p ∷ []) × (new ≡ [])
+
+-- ---- the side that works
+
+-- it may begin
+pub record MayWork {T : Type 0} (starts : ℕ → T → Type 0) (blocks : ℕ) (bench : BenchState) (kept : PoolState)
+    (giver : Option GiverState) (got : List (Option Parcel)) (told : List Token) (into : T) : Type 0 where
+  pub named : bench.blocks ≡ blocks
+  pub room : HasRoom 0 bench
+  pub empty : home kept ≡ 0
+  pub lent : IsLent giver
+  pub none : (got ≡ []) × (told ≡ [])
+  pub start : starts 0 into
+
+-- It has ended, with what it got; `None` where no reader had begun. What it got went home by tokens and by the giver,
+-- but for what it kept.
+pub record HasWorked {T E : Type 0} (did : T → T → RoundRead → ℕ → Option E → Type 0) (stopped : E)
+    (starts : ℕ → T → Type 0) (bench bench' : BenchState) (kept : PoolState) (giver giver' : Option GiverState)
+    (was is : T) (got : List (Option Parcel)) (told : List Token) (end : Option E) : Type 0 where
+  pub handled : MatchOption end ((got ≡ []) × (is ≡ was)) (λ e. Ends did stopped 0 was is (rounds_of got) e)
+  pub ready : IsReadyAtEnd starts is
+  pub each : homes_of told + home kept + given_by giver' ≡ blocks_of got + given_by giver
+  pub each_named : (h : ℕ → ℕ) → weights_back h told + weighed h kept.blocks + weights_given giver' h
+      ≡ weights_sent h got + weights_given giver h
+  pub lends : Lends giver giver'
+  pub none_left : BringsNone told giver giver'
+  pub room : HasRoom (home kept) bench'
+  pub same : IsSameBench bench bench'

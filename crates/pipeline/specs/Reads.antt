@@ -1,10 +1,19 @@
 -- What the side that reads says of the rounds that it sent, one after another.
-use Rattle.std.specs.Prelude.{ℕ, ◌≡◌, ◌≤◌, Option, Some, List, [], ◌∷◌, ◌++◌, length}
+use Rattle.std.specs.Prelude.{ℕ, ◌≡◌, ◌+◌, ◌≤◌, Option, Some, List, [], ◌∷◌, ◌++◌, length}
+use Rattle.block_pool.specs.PoolState.{weighed}
+use Rattle.pcap_io.specs.declared.heads.Link.TheVariants.{Ethernet}
+use Rattle.pcap_io.specs.declared.place.Place.{Place}
+use Rattle.pcap_io.specs.Places.{IsReady}
 use Rattle.rounds.specs.declared.round.RoundEnd.TheVariants as ends
 use Rattle.rounds.specs.declared.round.RoundRead.{RoundRead}
+use Rattle.rounds.specs.Handled.{FewPauses}
 use Rattle.rounds.specs.Reads.{Spot, Reads}
+use Rattle.rounds.specs.RoundsState.{IntakeState}
+use Rattle.pipeline.specs.declared.desk.Desk.{Desk}
 use Rattle.pipeline.specs.declared.parcel.Parcel.{Parcel}
-use Rattle.pipeline.specs.Parcels.{rounds_of}
+use Rattle.pipeline.specs.declared.post.Post.{Ghosts}
+use Rattle.pipeline.specs.Desks.{brought_to, weights_to}
+use Rattle.pipeline.specs.Parcels.{blocks_of, rounds_of, weights_sent}
 
 -- behind the rounds that were sent before, these were read and sent
 pub record ReadOn (blocks budget : ℕ) (from to : Spot) (before after : List (Option Parcel)) : Type 0 where
@@ -20,3 +29,23 @@ IsAlone read xs = (p : Parcel) × (xs ≡ Some p ∷ []) × (p.read ≡ read)
 abbrev pub IsFirst : ℕ → List (Option Parcel) → Type 0
 IsFirst number xs = (p : Parcel) × (xs ≡ Some p ∷ []) × (p.read.end ≡ ends.Full)
     × (length p.read.round.packets ≤ number)
+
+-- ---- the side that reads
+
+-- it may begin, of so many blocks, where shelves are for so many
+pub record MayRead (blocks shelf : ℕ) (intake : IntakeState) (place : Place) (sent : List (Option Parcel)) : Type 0 where
+  pub ready : IsReady place
+  pub link : place.link ≡ Ethernet
+  pub named : (intake.blocks ≡ blocks) × (shelf ≡ blocks)
+  pub first : IsFirst place.number sent
+
+-- it read on so far: what it sent was home, or came to the desk meanwhile
+pub record HasRead {W : Type 0} {G : Ghosts W} (old new : IntakeState) (from to : Spot)
+    (before after : List (Option Parcel)) (desk desk' : Desk W G) : Type 0 where
+  pub read : ReadOn old.blocks old.budget from to before after
+  pub sum : new.home + blocks_of after + brought_to desk ≡ old.home + blocks_of before + brought_to desk'
+  pub named : (h : ℕ → ℕ) → weighed h new.stock + weights_sent h after + weights_to desk h
+      ≡ weighed h old.stock + weights_sent h before + weights_to desk' h
+  pub paused : FewPauses desk.taker.pass.empties old.pauses desk'.taker.pass.empties new.pauses
+  pub same : (new.blocks ≡ old.blocks) × (new.budget ≡ old.budget) × (new.empties ≡ old.empties)
+  pub later : from.faults ≤ to.faults

@@ -1,8 +1,8 @@
 //! What comes in at the desk while rounds are read.
 ghost use Rattle.std.specs.Prelude.{◌≡◌, ℕ, ◌+◌, ◌-◌, ◌<◌, ◌≤◌, ◌^◌, true, false, min, MatchOption, [], ◌∷◌, ◌++◌};
-ghost use Rattle.block_pool.specs.PoolState.{home, weighed};
+ghost use Rattle.block_pool.specs.PoolState.{home};
 ghost use Rattle.rtrb.specs.Ring.{received};
-ghost use Rattle.pipeline.specs.Desks.{brought_to, weights_to};
+ghost use Rattle.pipeline.specs.Desks.{brought_to, weights_to, Meets};
 
 use crate::desk::{Desk, SHELVES, keep};
 use crate::parcel::Token;
@@ -34,11 +34,7 @@ impl<W: Post + Drop> Desk<W> {
 
     // One token, if one comes or is waited for: its blocks go home.
     fn meet(&mut self, pool: &mut Pool, tries: u32, waits: bool) -> bool
-        ensures sum { home pool.new + brought_to self.old ≡ home pool.old + brought_to self.new }
-        ensures named { (h : ℕ → ℕ) → weighed h pool.new.blocks + weights_to self.old h
-            ≡ weighed h pool.old.blocks + weights_to self.new h }
-        ensures same { (pool.new.made ≡ pool.old.made) × (pool.new.taken ≡ pool.old.taken) }
-        ensures rises { home pool.old ≤ home pool.new }
+        ensures meets { Meets pool.old pool.new self.old self.new }
         ensures taker { self.new.taker ≡ self.old.taker }
     {
         if self.shelves.len() == self.shelves.capacity() {
@@ -73,15 +69,10 @@ impl<W: Post + Drop> Desk<W> {
 
     // One list, if one has come.
     fn meet_list(&mut self, pool: &mut Pool) -> bool
-        ensures sum { home pool.new + brought_to self.old ≡ home pool.old + brought_to self.new }
-        ensures named { (h : ℕ → ℕ) → weighed h pool.new.blocks + weights_to self.old h
-            ≡ weighed h pool.old.blocks + weights_to self.new h }
-        ensures same { (pool.new.made ≡ pool.old.made) × (pool.new.taken ≡ pool.old.taken) }
-        ensures rises { home pool.old ≤ home pool.new }
+        ensures meets { Meets pool.old pool.new self.old self.new }
         ensures came { result ≡ true → home pool.old < home pool.new }
         ensures refused { result ≡ false → home pool.old < pool.old.made
             → min (self.old.taker.pass.empties + 1) (2 ^ 64 - 1) ≤ self.new.taker.pass.empties }
-        ensures asked { self.old.taker.pass.empties ≤ self.new.taker.pass.empties }
     {
         let before = pool.home();
         let came = self.post.bring_list(&mut self.taker, pool);
@@ -98,12 +89,7 @@ impl<W: Post + Drop> Desk<W> {
     // A list or a token, whichever comes first, however long that takes. The side that reads looks for both for a
     // while; then it says that it waits, looks once more, and sleeps between its looks.
     fn meet_any(&mut self, pool: &mut Pool)
-        ensures sum { home pool.new + brought_to self.old ≡ home pool.old + brought_to self.new }
-        ensures named { (h : ℕ → ℕ) → weighed h pool.new.blocks + weights_to self.old h
-            ≡ weighed h pool.old.blocks + weights_to self.new h }
-        ensures same { (pool.new.made ≡ pool.old.made) × (pool.new.taken ≡ pool.old.taken) }
-        ensures rises { home pool.old ≤ home pool.new }
-        ensures asked { self.old.taker.pass.empties ≤ self.new.taker.pass.empties }
+        ensures meets { Meets pool.old pool.new self.old self.new }
     {
         for turn in 0..u64::MAX {
             if self.meet_list(pool) || self.meet(pool, LOOKS, false) {
@@ -125,14 +111,9 @@ impl<W: Post + Drop> Desk<W> {
     // alone, no list of it is due, and none is found, they are the rest of that round's: then the round that is read is
     // paused, if it isn't yet. It ends with fewer only behind a take that found no list.
     fn meet_needed(&mut self, pool: &mut Pool, need: u32)
-        ensures sum { home pool.new + brought_to self.old ≡ home pool.old + brought_to self.new }
-        ensures named { (h : ℕ → ℕ) → weighed h pool.new.blocks + weights_to self.old h
-            ≡ weighed h pool.old.blocks + weights_to self.new h }
-        ensures same { (pool.new.made ≡ pool.old.made) × (pool.new.taken ≡ pool.old.taken) }
-        ensures rises { home pool.old ≤ home pool.new }
+        ensures meets { Meets pool.old pool.new self.old self.new }
         ensures refused { need ≤ pool.old.made → home pool.new < need
             → min (self.old.taker.pass.empties + 1) (2 ^ 64 - 1) ≤ self.new.taker.pass.empties }
-        ensures asked { self.old.taker.pass.empties ≤ self.new.taker.pass.empties }
     {
         for _ in 0..u64::MAX {
             if pool.home() >= need {
@@ -151,12 +132,7 @@ impl<W: Post + Drop> Desk<W> {
 
     // All further lists that have come: their blocks, which somebody just had, are taken next.
     fn meet_lists(&mut self, pool: &mut Pool)
-        ensures sum { home pool.new + brought_to self.old ≡ home pool.old + brought_to self.new }
-        ensures named { (h : ℕ → ℕ) → weighed h pool.new.blocks + weights_to self.old h
-            ≡ weighed h pool.old.blocks + weights_to self.new h }
-        ensures same { (pool.new.made ≡ pool.old.made) × (pool.new.taken ≡ pool.old.taken) }
-        ensures rises { home pool.old ≤ home pool.new }
-        ensures asked { self.old.taker.pass.empties ≤ self.new.taker.pass.empties }
+        ensures meets { Meets pool.old pool.new self.old self.new }
     {
         for _ in 0..MOST_LISTS {
             if !self.meet_list(pool) {
@@ -167,12 +143,7 @@ impl<W: Post + Drop> Desk<W> {
 
     // All tokens that have come, and one at least where as many rounds are out as may be, or no shelf is here.
     fn meet_tokens(&mut self, pool: &mut Pool)
-        ensures sum { home pool.new + brought_to self.old ≡ home pool.old + brought_to self.new }
-        ensures named { (h : ℕ → ℕ) → weighed h pool.new.blocks + weights_to self.old h
-            ≡ weighed h pool.old.blocks + weights_to self.new h }
-        ensures same { (pool.new.made ≡ pool.old.made) × (pool.new.taken ≡ pool.old.taken) }
-        ensures rises { home pool.old ≤ home pool.new }
-        ensures asked { self.old.taker.pass.empties ≤ self.new.taker.pass.empties }
+        ensures meets { Meets pool.old pool.new self.old self.new }
     {
         for _ in 0..=SHELVES {
             if self.shelves.is_empty() {
@@ -188,14 +159,9 @@ impl<W: Post + Drop> Desk<W> {
 
     // What has come before a round is read: lists, and tokens with their shelves.
     fn meet_all(&mut self, pool: &mut Pool)
-        ensures sum { home pool.new + brought_to self.old ≡ home pool.old + brought_to self.new }
-        ensures named { (h : ℕ → ℕ) → weighed h pool.new.blocks + weights_to self.old h
-            ≡ weighed h pool.old.blocks + weights_to self.new h }
-        ensures same { (pool.new.made ≡ pool.old.made) × (pool.new.taken ≡ pool.old.taken) }
-        ensures rises { home pool.old ≤ home pool.new }
+        ensures meets { Meets pool.old pool.new self.old self.new }
         ensures looked { home pool.new ≡ home pool.old → home pool.old < pool.old.made
             → min (self.old.taker.pass.empties + 1) (2 ^ 64 - 1) ≤ self.new.taker.pass.empties }
-        ensures asked { self.old.taker.pass.empties ≤ self.new.taker.pass.empties }
     {
         self.meet_tokens(pool);
         if self.meet_list(pool) {

@@ -7,6 +7,7 @@ ghost use Rattle.lanes.specs.Desks.{IsOpenDesk};
 ghost use Rattle.rounds.specs.Merging.{options_of};
 ghost use Rattle.rounds.specs.Handled.{Handled};
 ghost use Rattle.rounds.specs.Reads.{reader_at};
+ghost use Rattle.pipeline.specs.Handled.{MayHandle};
 
 use crate::drive::handle_by;
 use crossbeam_queue::ArrayQueue;
@@ -50,10 +51,8 @@ fn handle_serving<
 ) -> E
     requires own { errands.now ≡ N.desk }
     requires runners { All (λ r. r ≡ errands.now) runners.old }
-    requires ready { IsReady (place_of reader.old) }
-    requires link { (place_of reader.old).link ≡ Ethernet }
-    requires home { rounds.old.home ≡ rounds.old.blocks }
-    requires start { H.ready (options_of rounds.old) rounds.old.keep 0 into.old }
+    requires may { MayHandle (H.ready (options_of rounds.old) rounds.old.keep) rounds.old (place_of reader.old)
+        into.old }
     ensures same_source { SameLoan reader.old reader.new }
     ensures handled { Handled (H.did handler.now (options_of rounds.old)) H.stopped
         (H.ready (options_of rounds.old) rounds.old.keep) 0 rounds.old rounds.new
@@ -67,10 +66,8 @@ fn handle_serving<
             requires runners { All (λ r. r ≡ errands.now) runners.now }
         { serve_lanes(rt, errands, runners, replies, job, bells) },
         &mut || -> E
-            requires ready { IsReady (place_of reader.now) }
-            requires link { (place_of reader.now).link ≡ Ethernet }
-            requires home { rounds.now.home ≡ rounds.now.blocks }
-            requires start { H.ready (options_of rounds.now) rounds.now.keep 0 into.now }
+            requires may { MayHandle (H.ready (options_of rounds.now) rounds.now.keep) rounds.now
+                (place_of reader.now) into.now }
             ensures same_source { SameLoan reader.entry.now reader.exit.now }
             ensures handled { Handled (H.did handler.entry.now (options_of rounds.entry.now)) H.stopped
                 (H.ready (options_of rounds.entry.now) rounds.entry.now.keep) 0 rounds.entry.now rounds.exit.now
@@ -106,10 +103,8 @@ fn handle_crewed<
     gate: &G,
 ) -> E
     requires own { IsOpenDesk desk × (desk.errands ≡ N.desk) }
-    requires ready { IsReady (place_of reader.old) }
-    requires link { (place_of reader.old).link ≡ Ethernet }
-    requires home { rounds.old.home ≡ rounds.old.blocks }
-    requires start { H.ready (options_of rounds.old) rounds.old.keep 0 into.old }
+    requires may { MayHandle (H.ready (options_of rounds.old) rounds.old.keep) rounds.old (place_of reader.old)
+        into.old }
     ensures same_source { SameLoan reader.old reader.new }
     ensures handled { Handled (H.did handler.now (options_of rounds.old)) H.stopped
         (H.ready (options_of rounds.old) rounds.old.keep) 0 rounds.old rounds.new

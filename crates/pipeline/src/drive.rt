@@ -1,16 +1,14 @@
 //! Handles a capture's rounds by two sides.
-ghost use Rattle.std.specs.Prelude.{◌≡◌, ◌+◌, ◌-◌, ◌≤◌, ◌^◌, true, None, Ok, [], IfSome, IfOk, OnOk, length};
+ghost use Rattle.std.specs.Prelude.{◌≡◌, ◌+◌, ◌-◌, ◌≤◌, true, None, Ok, [], IfSome, IfOk, OnOk, length};
 ghost use Rattle.std.specs.Arc.{arc_value};
 ghost use Rattle.block_pool.specs.PoolState.{home};
-ghost use Rattle.pcap_io.specs.declared.heads.Link.TheVariants.{Ethernet};
-ghost use Rattle.pcap_io.specs.Places.{IsReady};
 ghost use Rattle.pcap_io.specs.Readers.{place_of, SameLoan};
 ghost use Rattle.rounds.specs.Benches.{HasRoom, IsRead, IsSameBench};
 ghost use Rattle.rounds.specs.Handled.{Handled};
 ghost use Rattle.rounds.specs.Merging.{options_of};
 ghost use Rattle.rounds.specs.Reads.{reader_at};
 ghost use Rattle.rtrb.specs.Ring.{sent, received, known_items, IsPair, SameProducer};
-ghost use Rattle.pipeline.specs.Handled.{ComesBack, HandledOn, IsOut, MayBeHandled};
+ghost use Rattle.pipeline.specs.Handled.{ComesBack, HandledOn, IsOut, MayBeHandled, MayHandle};
 ghost use Rattle.pipeline.specs.Parcels.{IsOfRing, shelved};
 ghost use Rattle.pipeline.specs.Reads.{IsAlone};
 
@@ -151,9 +149,9 @@ fn handle_named<
     into: &mut T,
     ways: Ways,
 ) -> Result<E, RoundRead>
-    requires out { IsOut rounds.old read (place_of reader.old) }
+    requires out { IsOut (H.ready (options_of rounds.old) rounds.old.keep) rounds.old read (place_of reader.old)
+        into.old }
     requires full { read.end ≡ RoundEnd.Full }
-    requires start { H.ready (options_of rounds.old) rounds.old.keep 0 into.old }
     requires named { rounds.old.blocks ≡ N.blocks }
     requires ways { IsOfRing N.ring ways.tokens × (arc_value ways.taker.lists ≡ N.lists) }
     ensures same_source { SameLoan reader.old reader.new }
@@ -222,9 +220,9 @@ fn handle_ringed<R: Threads + Wait + Sync, W: Works, S: Source + Send, T, E, H: 
     into: &mut T,
     ways: Ways,
 ) -> Result<E, RoundRead>
-    requires out { IsOut rounds.old read (place_of reader.old) }
+    requires out { IsOut (H.ready (options_of rounds.old) rounds.old.keep) rounds.old read (place_of reader.old)
+        into.old }
     requires full { read.end ≡ RoundEnd.Full }
-    requires start { H.ready (options_of rounds.old) rounds.old.keep 0 into.old }
     ensures same_source { SameLoan reader.old reader.new }
     ensures handled { MayBeHandled (H.did handler.now (options_of rounds.old)) H.stopped
         (H.ready (options_of rounds.old) rounds.old.keep) rounds.old rounds.new read
@@ -248,9 +246,9 @@ fn handle_on<R: Threads + Wait + Sync, W: Works, S: Source + Send, T, E, H: Roun
     handler: &H,
     into: &mut T,
 ) -> E
-    requires out { IsOut rounds.old read (place_of reader.old) }
+    requires out { IsOut (H.ready (options_of rounds.old) rounds.old.keep) rounds.old read (place_of reader.old)
+        into.old }
     requires full { read.end ≡ RoundEnd.Full }
-    requires start { H.ready (options_of rounds.old) rounds.old.keep 0 into.old }
     ensures same_source { SameLoan reader.old reader.new }
     ensures handled { HandledOn (H.did handler.now (options_of rounds.old)) H.stopped
         (H.ready (options_of rounds.old) rounds.old.keep) rounds.old rounds.new read
@@ -301,10 +299,8 @@ pub(crate) fn handle_by<
     handler: &H,
     into: &mut T,
 ) -> E
-    requires ready { IsReady (place_of reader.old) }
-    requires link { (place_of reader.old).link ≡ Ethernet }
-    requires home { rounds.old.home ≡ rounds.old.blocks }
-    requires start { H.ready (options_of rounds.old) rounds.old.keep 0 into.old }
+    requires may { MayHandle (H.ready (options_of rounds.old) rounds.old.keep) rounds.old (place_of reader.old)
+        into.old }
     ensures same_source { SameLoan reader.old reader.new }
     ensures handled { Handled (H.did handler.now (options_of rounds.old)) H.stopped
         (H.ready (options_of rounds.old) rounds.old.keep) 0 rounds.old rounds.new

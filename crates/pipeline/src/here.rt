@@ -18,8 +18,8 @@ pub(crate) fn handle_here<W: Works, S: Source, T, E, H: RoundHandler<T, E>>(
     handler: &H,
     into: &mut T,
 ) -> E
-    requires out { IsOut rounds.old read (place_of reader.old) }
-    requires start { H.ready (options_of rounds.old) rounds.old.keep 0 into.old }
+    requires out { IsOut (H.ready (options_of rounds.old) rounds.old.keep) rounds.old read (place_of reader.old)
+        into.old }
     ensures same_source { SameLoan reader.old reader.new }
     ensures handled { HandledOn (H.did handler.now (options_of rounds.old)) H.stopped
         (H.ready (options_of rounds.old) rounds.old.keep) rounds.old rounds.new read

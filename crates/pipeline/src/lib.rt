@@ -44,7 +44,7 @@
 //! first of them was handled in turn up to the one that ended it, and nothing was done with those behind. What was sent
 //! by a ring and what was received are known once the threads have joined. All blocks are home whatever the ending,
 //! also those of rounds that were read and that nobody worked. No token brings a block, unless a put found no place
-//! (`none_left` of `run_sides`). [`merge_beside`] has the clauses of `Rounds::merge_all`,
+//! (`worked` of `run_sides`). [`merge_beside`] has the clauses of `Rounds::merge_all`,
 //! word for word. A round is paused only where a take found no list: of a run there are no more pauses than such takes
 //! (`pauses`). One that is paused is given up only where the other side has stopped (`ended` of `bring_rest` in
 //! `rounds`): so no round ends for want of blocks while the other side goes on.

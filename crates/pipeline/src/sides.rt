@@ -1,17 +1,13 @@
 //! The side that reads and the side that works.
-ghost use Rattle.std.specs.Prelude.{◌≡◌, ℕ, ◌+◌, ◌≤◌, [], MatchOption};
-ghost use Rattle.block_pool.specs.Giving.{given_by, weights_given};
+ghost use Rattle.std.specs.Prelude.{◌≡◌, ℕ, ◌+◌};
 ghost use Rattle.block_pool.specs.PoolState.{home, weighed};
-ghost use Rattle.pcap_io.specs.declared.heads.Link.TheVariants.{Ethernet};
-ghost use Rattle.pcap_io.specs.Places.{IsReady};
-ghost use Rattle.pcap_io.specs.Readers.{place_of, source_of, SameLoan};
-ghost use Rattle.rounds.specs.Benches.{options_at, HasRoom, IsLent, IsSameBench, Lends};
-ghost use Rattle.rounds.specs.Handled.{Ends, FewPauses, IsReadyAtEnd};
+ghost use Rattle.pcap_io.specs.Readers.{place_of, SameLoan};
+ghost use Rattle.rounds.specs.Benches.{options_at};
 ghost use Rattle.rounds.specs.Reads.{is_full as is_full_end, reader_at};
 ghost use Rattle.rtrb.specs.Ring.{sent, received, SameProducer, SameConsumer};
-ghost use Rattle.pipeline.specs.Desks.{brought_to, weights_to};
-ghost use Rattle.pipeline.specs.Parcels.{blocks_of, homes_of, weights_back, weights_sent, rounds_of, BringsNone};
-ghost use Rattle.pipeline.specs.Reads.{IsFirst, ReadOn};
+ghost use Rattle.pipeline.specs.Handled.{HasWorked, MayWork};
+ghost use Rattle.pipeline.specs.Parcels.{homes_of, weights_back};
+ghost use Rattle.pipeline.specs.Reads.{HasRead, MayRead};
 
 use crate::bells::Bells;
 use crate::desk::Reading;
@@ -46,25 +42,12 @@ fn read_side<N: Naming, R: Wait, P: Post + Drop, S: Source>(
     intake: &mut Intake,
     supply: &mut Reading<P, N>,
 )
-    requires ready { IsReady (place_of reader.old) }
-    requires link { (place_of reader.old).link ≡ Ethernet }
-    requires named { (intake.old.blocks ≡ N.blocks) × (P.blocks ≡ N.blocks) }
-    requires first { IsFirst (place_of reader.old).number (sent supply.old.out) }
+    requires reads { MayRead N.blocks P.blocks intake.old (place_of reader.old) (sent supply.old.out) }
     ensures ring { SameProducer supply.old.out supply.new.out }
     ensures same_source { SameLoan reader.old reader.new }
-    ensures read { ReadOn intake.old.blocks intake.old.budget
-        (reader_at S.left S.faults reader.old intake.old.taken)
-        (reader_at S.left S.faults reader.new intake.new.taken) (sent supply.old.out) (sent supply.new.out) }
-    ensures sum { intake.new.home + blocks_of (sent supply.new.out) + brought_to supply.old.desk
-        ≡ intake.old.home + blocks_of (sent supply.old.out) + brought_to supply.new.desk }
-    ensures named { (h : ℕ → ℕ) → weighed h intake.new.stock + weights_sent h (sent supply.new.out)
-        + weights_to supply.old.desk h ≡ weighed h intake.old.stock + weights_sent h (sent supply.old.out)
-        + weights_to supply.new.desk h }
-    ensures paused { FewPauses supply.old.desk.taker.pass.empties intake.old.pauses
-        supply.new.desk.taker.pass.empties intake.new.pauses }
-    ensures same { (intake.new.blocks ≡ intake.old.blocks) × (intake.new.budget ≡ intake.old.budget)
-        × (intake.new.empties ≡ intake.old.empties) }
-    ensures later { S.faults (source_of reader.old) ≤ S.faults (source_of reader.new) }
+    ensures read { HasRead intake.old intake.new (reader_at S.left S.faults reader.old intake.old.taken)
+        (reader_at S.left S.faults reader.new intake.new.taken) (sent supply.old.out) (sent supply.new.out)
+        supply.old.desk supply.new.desk }
 {
     if !supply.desk.begin() {
         return;
@@ -124,25 +107,12 @@ fn work_side<N: Naming, R: Wait, W: Works, T, E, H: RoundHandler<T, E>>(
     told: &mut Producer<Token>,
     bells: &Bells,
 ) -> Option<E>
-    requires named { bench.old.blocks ≡ N.blocks }
-    requires room { HasRoom 0 bench.old }
-    requires empty { home kept.old ≡ 0 }
-    requires lent { IsLent giver.old }
-    requires none { (received from.old ≡ []) × (sent told.old ≡ []) }
-    requires ready { H.ready (options_at bench.old) bench.old.keep 0 into.old }
+    requires works { MayWork (H.ready (options_at bench.old) bench.old.keep) N.blocks bench.old kept.old giver.old
+        (received from.old) (sent told.old) into.old }
     ensures rings { SameConsumer from.old from.new × SameProducer told.old told.new }
-    ensures handled { MatchOption result ((received from.new ≡ []) × (into.new ≡ into.old))
-        (λ end. Ends (H.did handler.now (options_at bench.old)) H.stopped 0 into.old into.new
-        (rounds_of (received from.new)) end) }
-    ensures ready { IsReadyAtEnd (H.ready (options_at bench.old) bench.old.keep) into.new }
-    ensures each { homes_of (sent told.new) + home kept.new + given_by giver.new
-        ≡ blocks_of (received from.new) + given_by giver.old }
-    ensures each_named { (h : ℕ → ℕ) → weights_back h (sent told.new) + weighed h kept.new.blocks
-        + weights_given giver.new h ≡ weights_sent h (received from.new) + weights_given giver.old h }
-    ensures lends { Lends giver.old giver.new }
-    ensures none_left { BringsNone (sent told.new) giver.old giver.new }
-    ensures room { HasRoom (home kept.new) bench.new }
-    ensures same { IsSameBench bench.old bench.new }
+    ensures worked { HasWorked (H.did handler.now (options_at bench.old)) H.stopped
+        (H.ready (options_at bench.old) bench.old.keep) bench.old bench.new kept.new giver.old giver.new into.old
+        into.new (received from.new) (sent told.new) result }
 {
     if !bells.has_begun() {
         return None;
@@ -196,93 +166,38 @@ pub(crate) fn run_sides<
     told: &'a mut Producer<Token>,
     bells: &'a Bells,
 ) -> Option<E>
-    requires ready { IsReady (place_of reader.old) }
-    requires link { (place_of reader.old).link ≡ Ethernet }
-    requires named { (intake.old.blocks ≡ N.blocks) × (bench.old.blocks ≡ N.blocks) × (P.blocks ≡ N.blocks) }
-    requires room { HasRoom 0 bench.old }
-    requires empty { home kept.old ≡ 0 }
-    requires lent { IsLent giver.old }
-    requires first { IsFirst (place_of reader.old).number (sent supply.old.out) }
-    requires none { (received from.old ≡ []) × (sent told.old ≡ []) }
-    requires start { H.ready (options_at bench.old) bench.old.keep 0 into.old }
+    requires reads { MayRead N.blocks P.blocks intake.old (place_of reader.old) (sent supply.old.out) }
+    requires works { MayWork (H.ready (options_at bench.old) bench.old.keep) N.blocks bench.old kept.old giver.old
+        (received from.old) (sent told.old) into.old }
     ensures rings { SameProducer supply.old.out supply.new.out × SameConsumer from.old from.new
         × SameProducer told.old told.new }
     ensures same_source { SameLoan reader.old reader.new }
-    ensures read { ReadOn intake.old.blocks intake.old.budget
-        (reader_at S.left S.faults reader.old intake.old.taken)
-        (reader_at S.left S.faults reader.new intake.new.taken) (sent supply.old.out) (sent supply.new.out) }
-    ensures sum { intake.new.home + blocks_of (sent supply.new.out) + brought_to supply.old.desk
-        ≡ intake.old.home + blocks_of (sent supply.old.out) + brought_to supply.new.desk }
-    ensures named { (h : ℕ → ℕ) → weighed h intake.new.stock + weights_sent h (sent supply.new.out)
-        + weights_to supply.old.desk h ≡ weighed h intake.old.stock + weights_sent h (sent supply.old.out)
-        + weights_to supply.new.desk h }
-    ensures paused { FewPauses supply.old.desk.taker.pass.empties intake.old.pauses
-        supply.new.desk.taker.pass.empties intake.new.pauses }
-    ensures same_intake { (intake.new.blocks ≡ intake.old.blocks) × (intake.new.budget ≡ intake.old.budget)
-        × (intake.new.empties ≡ intake.old.empties) }
-    ensures later { S.faults (source_of reader.old) ≤ S.faults (source_of reader.new) }
-    ensures handled { MatchOption result ((received from.new ≡ []) × (into.new ≡ into.old))
-        (λ end. Ends (H.did handler.now (options_at bench.old)) H.stopped 0 into.old into.new
-        (rounds_of (received from.new)) end) }
-    ensures ready { IsReadyAtEnd (H.ready (options_at bench.old) bench.old.keep) into.new }
-    ensures each { homes_of (sent told.new) + home kept.new + given_by giver.new
-        ≡ blocks_of (received from.new) + given_by giver.old }
-    ensures each_named { (h : ℕ → ℕ) → weights_back h (sent told.new) + weighed h kept.new.blocks
-        + weights_given giver.new h ≡ weights_sent h (received from.new) + weights_given giver.old h }
-    ensures lends { Lends giver.old giver.new }
-    ensures none_left { BringsNone (sent told.new) giver.old giver.new }
-    ensures room { HasRoom (home kept.new) bench.new }
-    ensures same { IsSameBench bench.old bench.new }
+    ensures read { HasRead intake.old intake.new (reader_at S.left S.faults reader.old intake.old.taken)
+        (reader_at S.left S.faults reader.new intake.new.taken) (sent supply.old.out) (sent supply.new.out)
+        supply.old.desk supply.new.desk }
+    ensures worked { HasWorked (H.did handler.now (options_at bench.old)) H.stopped
+        (H.ready (options_at bench.old) bench.old.keep) bench.old bench.new kept.new giver.old giver.new into.old
+        into.new (received from.new) (sent told.new) result }
 {
     let ((), end) = join_mut(
         rt,
         &mut ||
-            requires ready { IsReady (place_of reader.now) }
-            requires link { (place_of reader.now).link ≡ Ethernet }
-            requires named { (intake.now.blocks ≡ N.blocks) × (P.blocks ≡ N.blocks) }
-            requires first { IsFirst (place_of reader.now).number (sent supply.now.out) }
+            requires reads { MayRead N.blocks P.blocks intake.now (place_of reader.now) (sent supply.now.out) }
             ensures ring { SameProducer supply.entry.now.out supply.exit.now.out }
             ensures same_source { SameLoan reader.entry.now reader.exit.now }
-            ensures read { ReadOn intake.entry.now.blocks intake.entry.now.budget
+            ensures read { HasRead intake.entry.now intake.exit.now
                 (reader_at S.left S.faults reader.entry.now intake.entry.now.taken)
                 (reader_at S.left S.faults reader.exit.now intake.exit.now.taken)
-                (sent supply.entry.now.out) (sent supply.exit.now.out) }
-            ensures sum { intake.exit.now.home + blocks_of (sent supply.exit.now.out)
-                + brought_to supply.entry.now.desk ≡ intake.entry.now.home + blocks_of (sent supply.entry.now.out)
-                + brought_to supply.exit.now.desk }
-            ensures named { (h : ℕ → ℕ) → weighed h intake.exit.now.stock + weights_sent h (sent supply.exit.now.out)
-                + weights_to supply.entry.now.desk h
-                ≡ weighed h intake.entry.now.stock + weights_sent h (sent supply.entry.now.out)
-                + weights_to supply.exit.now.desk h }
-            ensures paused { FewPauses supply.entry.now.desk.taker.pass.empties intake.entry.now.pauses
-                supply.exit.now.desk.taker.pass.empties intake.exit.now.pauses }
-            ensures same { (intake.exit.now.blocks ≡ intake.entry.now.blocks)
-                × (intake.exit.now.budget ≡ intake.entry.now.budget)
-                × (intake.exit.now.empties ≡ intake.entry.now.empties) }
-            ensures later { S.faults (source_of reader.entry.now) ≤ S.faults (source_of reader.exit.now) }
+                (sent supply.entry.now.out) (sent supply.exit.now.out) supply.entry.now.desk supply.exit.now.desk }
         { read_side(rt, reader, intake, supply) },
         &mut || -> Option<E>
-            requires named { bench.now.blocks ≡ N.blocks }
-            requires room { HasRoom 0 bench.now }
-            requires empty { home kept.now ≡ 0 }
-            requires lent { IsLent giver.now }
-            requires none { (received from.now ≡ []) × (sent told.now ≡ []) }
-            requires start { H.ready (options_at bench.now) bench.now.keep 0 into.now }
+            requires works { MayWork (H.ready (options_at bench.now) bench.now.keep) N.blocks bench.now kept.now
+                giver.now (received from.now) (sent told.now) into.now }
             ensures rings { SameConsumer from.entry.now from.exit.now × SameProducer told.entry.now told.exit.now }
-            ensures handled { MatchOption result ((received from.exit.now ≡ []) × (into.exit.now ≡ into.entry.now))
-                (λ end. Ends (H.did handler.entry.now (options_at bench.entry.now)) H.stopped 0 into.entry.now
-                into.exit.now (rounds_of (received from.exit.now)) end) }
-            ensures ready { IsReadyAtEnd (H.ready (options_at bench.entry.now) bench.entry.now.keep)
-                into.exit.now }
-            ensures each { homes_of (sent told.exit.now) + home kept.exit.now + given_by giver.exit.now
-                ≡ blocks_of (received from.exit.now) + given_by giver.entry.now }
-            ensures each_named { (h : ℕ → ℕ) → weights_back h (sent told.exit.now)
-                + weighed h kept.exit.now.blocks + weights_given giver.exit.now h
-                ≡ weights_sent h (received from.exit.now) + weights_given giver.entry.now h }
-            ensures lends { Lends giver.entry.now giver.exit.now }
-            ensures none_left { BringsNone (sent told.exit.now) giver.entry.now giver.exit.now }
-            ensures room { HasRoom (home kept.exit.now) bench.exit.now }
-            ensures same { IsSameBench bench.entry.now bench.exit.now }
+            ensures worked { HasWorked (H.did handler.entry.now (options_at bench.entry.now)) H.stopped
+                (H.ready (options_at bench.entry.now) bench.entry.now.keep) bench.entry.now bench.exit.now
+                kept.exit.now giver.entry.now giver.exit.now into.entry.now into.exit.now (received from.exit.now)
+                (sent told.exit.now) result }
         {
             work_side(
                 rt, works, bench, kept, giver, handler, into, from, told, bells,

@@ -27,30 +27,24 @@ first_read g c =
       failed = r.failed;
     }
 
-first_out : (g : given.Over) (c : After-read_round-read g) → IsOut c.read_round-read.new.self c.read_round-read.result c.read_round-read.new.reader.place
+first_out : (g : given.Over) (c : After-read_round-read g)
+    → IsOut (g.H.RoundHandler.ready (options_of c.read_round-read.new.self) c.read_round-read.new.self.keep) c.read_round-read.new.self c.read_round-read.result c.read_round-read.new.reader.place c.args.into.now
 first_out g c =
     let r = c.read_round-read.ensures in
+    let first = c.args.rounds.now in
+    let mid = c.read_round-read.new.self in
     record {
       out = omega (arith, r.home, r.same.0);
       is = record { few = omega (arith, r.size, r.budget.1); captured = r.captured; numbers = (c.args.reader.now.place.number, r.numbers) };
       goes = λ full.
           let p = r.full full in
-          record { ready = p.ready; link = p.link ∙ c.requires.link; packets = omega (arith, p.number, p.full); counted = omega (arith, p.number, r.budget.0) };
+          record { ready = p.ready; link = p.link ∙ c.requires.may.link; packets = omega (arith, p.number, p.full); counted = omega (arith, p.number, r.budget.0) };
+      start = ready_as (g.H.RoundHandler.did c.args.handler.now) g.H.RoundHandler.stopped g.H.RoundHandler.ready (options_of mid) (options_of first) mid.keep first.keep 0 c.args.into.now (sym r.same.1)
+          (sym r.same.2) c.requires.may.start;
     }
-
-ready : (g : given.Over) (c : After-read_round-read g) → g.H.RoundHandler.ready (options_of c.read_round-read.new.self) c.read_round-read.new.self.keep 0 c.args.into.now
-ready g c =
-    let r = c.read_round-read.ensures in
-    let first = c.args.rounds.now in
-    let mid = c.read_round-read.new.self in
-    ready_as (g.H.RoundHandler.did c.args.handler.now) g.H.RoundHandler.stopped g.H.RoundHandler.ready (options_of mid) (options_of first) mid.keep first.keep 0 c.args.into.now (sym r.same.1)
-    (sym r.same.2) c.requires.start
 
 pub handle_on-requires-clause-out : goal.handle_on-requires-clause-out
 handle_on-requires-clause-out g c κs within = first_out g (goal.at.handle_on-requires-clause-out g c).After-read_round-read
-
-pub handle_on-requires-clause-start : goal.handle_on-requires-clause-start
-handle_on-requires-clause-start g c κs within = ready g (goal.at.handle_on-requires-clause-start g c).After-read_round-read
 
 pub returns-then-is_shared-clause-handled : goal.returns-then-is_shared-clause-handled
 returns-then-is_shared-clause-handled g c =
@@ -59,11 +53,8 @@ returns-then-is_shared-clause-handled g c =
     _ _ (reader_at g.S.Source.left g.S.Source.faults c.handle_on.new.reader c.handle_on.new.rounds.taken) c.args.into.now c.handle_on.new.into c.handle_on.result
     (first_read g (goal.at.returns-then-is_shared-clause-handled g c).After-read_round-read) r.same r.counts r.least r.named c.handle_on.ensures.handled
 
-pub handle_here-requires-clause-out : goal.handle_here-requires-clause-out
-handle_here-requires-clause-out g c = first_out g (goal.at.handle_here-requires-clause-out g c).After-read_round-read
-
-pub handle_here-requires-clause-start : goal.handle_here-requires-clause-start
-handle_here-requires-clause-start g c = ready g (goal.at.handle_here-requires-clause-start g c).After-read_round-read
+pub handle_here-requires : goal.handle_here-requires
+handle_here-requires g c = record { out = first_out g (goal.at.handle_here-requires g c).After-read_round-read }
 
 pub returns-else-is_shared-clause-handled : goal.returns-else-is_shared-clause-handled
 returns-else-is_shared-clause-handled g c =

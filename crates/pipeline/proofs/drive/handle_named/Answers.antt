@@ -28,7 +28,8 @@ counted : (g : given.Over) (c : After-ending-ended g)
     → c.run_sides-end.new.intake.home + homes_of (known_items c.slots_beside.new.self) + home c.run_sides-end.new.kept + shelved c.close-tokens.result.1.items + home c.close-tokens.result.2.left
     + given_by c.run_sides-end.new.giver + blocks_of (known_items c.ending-ended.new.from) + blocks_out c.ending-ended.result ≡ c.args.rounds.now.blocks + blocks_in c.close-tokens.result.2.pass.taken
 counted g c =
-    let r = c.run_sides-end.ensures in
+    let r = c.run_sides-end.ensures.read in
+    let k = c.run_sides-end.ensures.worked in
     let a = c.slots_beside-waiting.ensures in
     let b = c.slots_beside.ensures in
     let e = c.ending-ended.ensures in
@@ -37,7 +38,7 @@ counted g c =
     omega (
       arith,
       r.sum,
-      r.each,
+      k.each,
       d.counted,
       d.taker.counted,
       c.requires.out.out,
@@ -68,15 +69,16 @@ counted g c =
 
 pub bring_home-requires : goal.bring_home-requires
 bring_home-requires g c =
-    let r = c.run_sides-end.ensures in
+    let r = c.run_sides-end.ensures.read in
+    let k = c.run_sides-end.ensures.worked in
     let w = c.args.ways in
     let d = c.run_sides-end.new.supply.desk in
     record {
       giver = subst (λ (l : SharedState). HasGiver l c.run_sides-end.new.giver)
           (c.requires.ways.1 ∙ sym d.pooled ∙ sym (ap (λ t. arc_value t.lists) c.close-tokens.ensures.same.2))
           (giver_back (arc_value w.taker.lists) (Some w.giver) c.run_sides-end.new.giver
-          (record { it = w.giver; is = refl; pool_is = w.same; parts = w.ungiven.0; none = w.ungiven.2 }) r.lends);
-      room = omega (arith, counted g (goal.at.bring_home-requires g c).After-ending-ended, r.same_intake.0, ap (λ (s : RoundsState). s.blocks) c.rounds.view_is);
+          (record { it = w.giver; is = refl; pool_is = w.same; parts = w.ungiven.0; none = w.ungiven.2 }) k.lends);
+      room = omega (arith, counted g (goal.at.bring_home-requires g c).After-ending-ended, r.same.0, ap (λ (s : RoundsState). s.blocks) c.rounds.view_is);
     }
 
 abbrev lent : IntakeState → BenchState → RoundsState
@@ -91,20 +93,21 @@ returns-in_default-clause-handled g c = (
 
 pub invariant_of-rounds-2 : goal.invariant_of-rounds-2
 invariant_of-rounds-2 g c =
-    let r = c.run_sides-end.ensures in
+    let r = c.run_sides-end.ensures.read in
+    let k = c.run_sides-end.ensures.worked in
     let v = c.rounds.invariant in
     let f = c.bring_home.ensures in
     record {
-      blocks = ap (λ (b : BenchState). b.blocks) r.same ∙ ap (λ (b : BenchState). b.blocks) c.prepare.ensures.same ∙ v.blocks ∙ sym r.same_intake.0 ∙ sym (ap (λ (i : IntakeState). i.blocks) f.same);
-      budget = ap (λ (b : BenchState). b.budget) r.same ∙ ap (λ (b : BenchState). b.budget) c.prepare.ensures.same ∙ v.budget ∙ sym r.same_intake.1 ∙ sym (ap (λ (i : IntakeState). i.budget) f.same);
-      few = (omega (arith, v.few.0, r.same_intake.1, ap (λ (i : IntakeState). i.budget) f.same), omega (arith, v.few.1, r.same_intake.1, ap (λ (i : IntakeState). i.budget) f.same));
+      blocks = ap (λ (b : BenchState). b.blocks) k.same ∙ ap (λ (b : BenchState). b.blocks) c.prepare.ensures.same ∙ v.blocks ∙ sym r.same.0 ∙ sym (ap (λ (i : IntakeState). i.blocks) f.same);
+      budget = ap (λ (b : BenchState). b.budget) k.same ∙ ap (λ (b : BenchState). b.budget) c.prepare.ensures.same ∙ v.budget ∙ sym r.same.1 ∙ sym (ap (λ (i : IntakeState). i.budget) f.same);
+      few = (omega (arith, v.few.0, r.same.1, ap (λ (i : IntakeState). i.budget) f.same), omega (arith, v.few.1, r.same.1, ap (λ (i : IntakeState). i.budget) f.same));
       room = omega (
         arith,
-        r.room,
+        k.room,
         f.least,
         ap (λ (i : IntakeState). i.blocks) f.same,
-        r.same_intake.0,
-        ap (λ (b : BenchState). b.blocks) r.same,
+        r.same.0,
+        ap (λ (b : BenchState). b.blocks) k.same,
         ap (λ (b : BenchState). b.blocks) c.prepare.ensures.same,
         v.blocks,
       );
@@ -112,7 +115,8 @@ invariant_of-rounds-2 g c =
 
 pub drop_parcels-requires : goal.drop_parcels-requires
 drop_parcels-requires g c =
-    let r = c.run_sides-end.ensures in
+    let r = c.run_sides-end.ensures.read in
+    let k = c.run_sides-end.ensures.worked in
     let f = c.bring_home.ensures in
     record {
       room = omega (
@@ -120,14 +124,15 @@ drop_parcels-requires g c =
         counted g (goal.at.drop_parcels-requires g c).After-ending-ended,
         f.home,
         ap (λ (i : IntakeState). i.blocks) f.same,
-        r.same_intake.0,
+        r.same.0,
         ap (λ (s : RoundsState). s.blocks) c.rounds.view_is,
       );
     }
 
 pub returns-clause-handled : goal.returns-clause-handled
 returns-clause-handled g c =
-    let r = c.run_sides-end.ensures in
+    let r = c.run_sides-end.ensures.read in
+    let k = c.run_sides-end.ensures.worked in
     let a = c.slots_beside-waiting.ensures in
     let b = c.slots_beside.ensures in
     let e = c.ending-ended.ensures in
@@ -151,7 +156,7 @@ returns-clause-handled g c =
       c.drop_parcels.ensures.named h,
       f.named h,
       r.named h,
-      r.each_named h,
+      k.each_named h,
       c.run_sides-end.new.supply.desk.weighs h,
       c.run_sides-end.new.supply.desk.taker.weighs h,
       ap (λ (s : RoundsState). weighed h s.stock) view,
@@ -186,9 +191,9 @@ returns-clause-handled g c =
       budget = sym c.rounds.invariant.budget ∙ ap (λ (s : RoundsState). s.budget) view;
       before = ap (λ (s : RoundsState). s.taken) view;
       same = (
-        ap (λ (s : RoundsState). s.blocks) d ∙ ap (λ (i : IntakeState). i.blocks) f.same ∙ r.same_intake.0 ∙ ap (λ (s : RoundsState). s.blocks) view,
-        ap options_of d ∙ ap options_at r.same ∙ options,
-        ap (λ (s : RoundsState). s.keep) d ∙ ap (λ (b : BenchState). b.keep) r.same ∙ keep,
+        ap (λ (s : RoundsState). s.blocks) d ∙ ap (λ (i : IntakeState). i.blocks) f.same ∙ r.same.0 ∙ ap (λ (s : RoundsState). s.blocks) view,
+        ap options_of d ∙ ap options_at k.same ∙ options,
+        ap (λ (s : RoundsState). s.keep) d ∙ ap (λ (b : BenchState). b.keep) k.same ∙ keep,
       );
       all = ap (λ (s : RoundsState). s.home) d;
       after = ap (λ (s : RoundsState). s.taken) d ∙ ap (λ (i : IntakeState). i.taken) f.same;
@@ -198,7 +203,7 @@ returns-clause-handled g c =
           arith,
           r.paused.0,
           r.paused.1,
-          r.same_intake.2,
+          r.same.2,
           f.empties,
           ap (λ t. t.pass.empties) c.close-tokens.ensures.same.2,
           ap (λ (s : RoundsState). s.pauses) d,
@@ -220,8 +225,8 @@ returns-clause-handled g c =
     })
     c.args.into.now c.run_sides-end.new.into
     (counted_as did g.H.RoundHandler.stopped g.H.RoundHandler.ready (options_of first) (options_at c.prepare.new.bench) first.keep c.prepare.new.bench.keep (2 ^ 32 + 4096) c.run_sides-end.new.into options
-    keep r.ready)
+    keep k.ready)
     c.run_sides-end.result c.ending-ended.result left (omega (arith, counted g (goal.at.returns-clause-handled g c).After-ending-ended, f.home)) named
     (ends_as did g.H.RoundHandler.stopped (options_of first) (options_at c.prepare.new.bench) (received c.run_sides-end.new.from) c.args.into.now c.run_sides-end.new.into c.run_sides-end.result
-    options r.handled)
+    options k.handled)
     e.some e.none

@@ -12,7 +12,7 @@ returns-in-Some-clause-handled g c =
     put_ends (g.H.RoundHandler.did c.args.handler.now) g.H.RoundHandler.stopped g.H.RoundHandler.ready c.args.rounds.now c.handle.new.self c.args.read
     (reader_at g.S.Source.left g.S.Source.faults c.args.reader.now c.args.rounds.now.taken) c.args.into.now c.handle.new.into c.requires.out.out c.requires.out.is.few h.home
     h.named
-    (h.ready 0 c.requires.start) c.in-Some.end h.did
+    (h.ready 0 c.requires.out.start) c.in-Some.end h.did
 
 pub handle_from-requires-clause-start : goal.handle_from-requires-clause-start
 handle_from-requires-clause-start g c =
@@ -23,7 +23,7 @@ handle_from-requires-clause-start g c =
       0 + length c.args.read.round.packets,
       omega (arith, goes.packets),
       ready_as (g.H.RoundHandler.did c.args.handler.now) g.H.RoundHandler.stopped g.H.RoundHandler.ready (options_of mid) (options_of first) mid.keep first.keep (0 + length c.args.read.round.packets)
-          c.handle.new.into (sym (ap options_of h.home)) (sym (ap (λ (s : RoundsState). s.keep) h.home)) (h.ready 0 c.requires.start),
+          c.handle.new.into (sym (ap options_of h.home)) (sym (ap (λ (s : RoundsState). s.keep) h.home)) (h.ready 0 c.requires.out.start),
     )
 
 pub returns-in-None-clause-handled : goal.returns-in-None-clause-handled
@@ -32,5 +32,5 @@ returns-in-None-clause-handled g c =
     put_goes (g.H.RoundHandler.did c.args.handler.now) g.H.RoundHandler.stopped g.H.RoundHandler.ready c.args.rounds.now c.handle.new.self c.args.read
     (reader_at g.S.Source.left g.S.Source.faults c.args.reader.now c.args.rounds.now.taken) c.args.into.now c.handle.new.into c.requires.out.out c.requires.out.is.few h.home
     h.named
-    (h.ready 0 c.requires.start) c.handle_from.new.rounds (reader_at g.S.Source.left g.S.Source.faults c.handle_from.new.reader c.handle_from.new.rounds.taken)
+    (h.ready 0 c.requires.out.start) c.handle_from.new.rounds (reader_at g.S.Source.left g.S.Source.faults c.handle_from.new.reader c.handle_from.new.rounds.taken)
     c.handle_from.new.into c.handle_from.result h.did (h.full refl) c.handle_from.ensures.handled

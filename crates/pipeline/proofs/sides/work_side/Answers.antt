@@ -1,11 +1,11 @@
-use Rattle.std.proofs.Common.{◌≡◌, ◌+◌, ◌≤◌, ℕ, [], ◌∷◌, ◌++◌, None, Some, List, refl, inr, sym, ap, subst, arith, rules, length}
+use Rattle.std.proofs.Common.{◌≡◌, ◌+◌, ◌≤◌, ◌^◌, ℕ, [], ◌∷◌, None, Some, List, refl, inr, sym, ap, subst, arith, rules, length}
 use Rattle.block_pool.specs.PoolState.{PoolState, home, weighed}
 use Rattle.rtrb.specs.Ring.{received, sent}
 use Rattle.rounds.specs.Benches.{options_at}
 use Rattle.rounds.specs.RoundsState.{BenchState}
 use Rattle.rounds.specs.Weights.{weights_of}
 use Rattle.rounds.specs.declared.round.RoundRead.{RoundRead}
-use Rattle.rounds.specs.Handled.{Ends, Went}
+use Rattle.rounds.specs.Handled.{Ends, IsReadyAtEnd, Went}
 use Rattle.block_pool.specs.Giving.{given_by, weights_given}
 use Rattle.pipeline.specs.Parcels.{blocks_of, homes_of, packets_of, rounds_of, weights_back, weights_sent, BringsNone}
 use Rattle.rounds.proofs.Going.{went_more, went_ends, went_stopped}
@@ -49,6 +49,38 @@ came_named g c h =
       weights_sent_append h (received c.loop.from) (Some p ∷ []),
     )
 
+-- what holds behind it
+few_on : (g : given.Over) (c : After-handle g) → packets_of (rounds_of (received c.receive.new.ring)) ≤ 2 ^ 32 + 4096
+few_on g c =
+    let fits = c.in-Some-receive.ensures.allowed in
+    let read = c.in-Some-receive.parcel.read in
+    let is_read : length read.round.packets ≤ 4096 = fits.is.few in
+    omega (arith, ap packets_of (rounds_last (received c.loop.from) _ c.in-Some-receive.parcel c.in-Some-receive.ensures.item), packets_append (rounds_of (received c.loop.from)) (read ∷ []), is_read, fits.packets)
+
+ready_now : (g : given.Over) (c : After-handle g)
+    → g.H.RoundHandler.ready (options_at c.args.bench.now) c.args.bench.now.keep (packets_of (rounds_of (received c.receive.new.ring))) c.handle.new.into
+ready_now g c =
+    let l = c.loop in
+    let i = l.invariant in
+    let first = c.args.bench.now in
+    let read = c.in-Some-receive.parcel.read in
+    let n = packets_of (rounds_of (received l.from)) in
+    let options = ap options_at i.bench in
+    let keep = ap (λ (b : BenchState). b.keep) i.bench in
+    let did = g.H.RoundHandler.did c.args.handler.now in
+    subst (λ (m : ℕ). g.H.RoundHandler.ready (options_at first) first.keep m c.handle.new.into)
+    (omega (
+      arith,
+      ap packets_of (rounds_last (received l.from) _ c.in-Some-receive.parcel c.in-Some-receive.ensures.item),
+      packets_append (rounds_of (received l.from)) (read ∷ []),
+      ap (λ (r : RoundRead). length r.round.packets) c.open-number.ensures.same.1,
+    ))
+    (ready_as did g.H.RoundHandler.stopped g.H.RoundHandler.ready (options_at first) (options_at l.bench) first.keep l.bench.keep (n + length c.open-number.result.1.round.packets) c.handle.new.into options keep
+    (c.handle.ensures.ready n (ready_as did g.H.RoundHandler.stopped g.H.RoundHandler.ready (options_at l.bench) (options_at first) l.bench.keep first.keep n l.into (sym options) (sym keep) i.ready)))
+
+ready_on : (g : given.Over) (c : After-handle g) → IsReadyAtEnd (g.H.RoundHandler.ready (options_at c.args.bench.now) c.args.bench.now.keep) c.handle.new.into
+ready_on g c = (packets_of (rounds_of (received c.receive.new.ring)), few_on g c, ready_now g c)
+
 -- what was done with them
 went_on : (g : given.Over) (c : In-None-handle g)
     → Went (g.H.RoundHandler.did c.args.handler.now (options_at c.args.bench.now)) 0 c.args.into.now c.handle.new.into (rounds_of (received c.receive.new.ring))
@@ -63,52 +95,50 @@ went_on g c =
     (handled_as (g.H.RoundHandler.did c.args.handler.now) g.H.RoundHandler.stopped g.H.RoundHandler.ready (options_at first) (options_at l.bench) l.into c.handle.new.into p.read c.open-number.result.1
     (0 + length (rounds_of (received l.from))) c.open-number.result.0 None (ap options_at l.invariant.bench) o.1 (omega (arith, o.0, c.in-Some-receive.ensures.allowed.number)) c.in-None-handle.ensures.did))
 
-pub returns-then-not-has_begun-clause-lends : goal.returns-then-not-has_begun-clause-lends
-returns-then-not-has_begun-clause-lends g c = lends_same c.args.giver.now c.requires.lent
+pub returns-then-not-has_begun-clause-worked : goal.returns-then-not-has_begun-clause-worked
+returns-then-not-has_begun-clause-worked g c =
+    let a = c.requires.works in
+    let giver = c.args.giver.now in
+    record {
+      handled = (a.none.0, refl);
+      ready = (0, omega arith, a.start);
+      each = omega (arith, ap homes_of a.none.1, ap blocks_of a.none.0, a.empty);
+      each_named = λ h. omega (arith, ap (weights_back h) a.none.1, ap (weights_sent h) a.none.0, weighed_none h c.args.kept.now.blocks a.empty);
+      lends = lends_same giver a.lent;
+      none_left = subst (λ ts. BringsNone ts giver giver) (sym a.none.1) (brings_none giver);
+      room = omega (arith, a.room, a.empty);
+      same = refl;
+    }
 
-pub returns-in_default-clause-lends : goal.returns-in_default-clause-lends
-returns-in_default-clause-lends g c = c.loop.invariant.lends
+pub returns-in_default-clause-worked : goal.returns-in_default-clause-worked
+returns-in_default-clause-worked g c =
+    let l = c.loop in
+    let i = l.invariant in
+    let did = g.H.RoundHandler.did c.args.handler.now (options_at c.args.bench.now) in
+    let none : c.receive.result ≡ None = search rules in
+    let came = c.receive.ensures.item in
+    record {
+      handled = subst (λ (rs : List RoundRead). Ends did g.H.RoundHandler.stopped 0 c.args.into.now l.into rs c.stop.result) (sym (rounds_none (received l.from) _ c.receive.result none came))
+          (went_stopped did g.H.RoundHandler.stopped 0 c.args.into.now l.into (rounds_of (received l.from)) c.stop.result c.stop.ensures.end i.went);
+      ready = (packets_of (rounds_of (received l.from)), i.few, i.ready);
+      each = omega (arith, i.each, i.empty, ap blocks_of came, blocks_last (received l.from) c.receive.result, ap (λ x. blocks_of (x ∷ [])) none);
+      each_named = λ h.
+          omega (
+            arith,
+            i.named h,
+            weighed_none h l.kept.blocks i.empty,
+            ap (weights_sent h) came,
+            weights_sent_append h (received l.from) (c.receive.result ∷ []),
+            ap (λ x. weights_sent h (x ∷ [])) none,
+          );
+      lends = i.lends;
+      none_left = i.brings;
+      room = omega (arith, i.room, i.empty);
+      same = i.bench;
+    }
 
 pub handle-requires-clause-lent : goal.handle-requires-clause-lent
 handle-requires-clause-lent g c = lent_again c.args.giver.now c.loop.giver c.loop.invariant.lends
-
-pub returns-in-Some-handle-clause-lends : goal.returns-in-Some-handle-clause-lends
-returns-in-Some-handle-clause-lends g c = lends_then c.args.giver.now c.loop.giver c.handle.new.giver c.loop.invariant.lends c.handle.ensures.gave
-
-pub returns-then-is_err-clause-lends : goal.returns-then-is_err-clause-lends
-returns-then-is_err-clause-lends g c = lends_then c.args.giver.now c.loop.giver c.handle.new.giver c.loop.invariant.lends c.handle.ensures.gave
-
-pub returns-in_default-clause-handled : goal.returns-in_default-clause-handled
-returns-in_default-clause-handled g c =
-    let l = c.loop in
-    let did = g.H.RoundHandler.did c.args.handler.now (options_at c.args.bench.now) in
-    let none : c.receive.result ≡ None = search rules in
-    subst (λ (rs : List RoundRead). Ends did g.H.RoundHandler.stopped 0 c.args.into.now l.into rs c.stop.result) (sym (rounds_none (received l.from) _ c.receive.result none c.receive.ensures.item))
-    (went_stopped did g.H.RoundHandler.stopped 0 c.args.into.now l.into (rounds_of (received l.from)) c.stop.result c.stop.ensures.end l.invariant.went)
-
-pub returns-in_default-clause-ready : goal.returns-in_default-clause-ready
-returns-in_default-clause-ready g c =
-    let i = c.loop.invariant in
-    (packets_of (rounds_of (received c.loop.from)), i.few, i.ready)
-
-pub returns-in_default-clause-each : goal.returns-in_default-clause-each
-returns-in_default-clause-each g c =
-    let l = c.loop in
-    let none : c.receive.result ≡ None = search rules in
-    omega (arith, l.invariant.each, l.invariant.empty, ap blocks_of c.receive.ensures.item, blocks_last (received l.from) c.receive.result, ap (λ x. blocks_of (x ∷ [])) none)
-
-pub returns-in_default-clause-each_named : goal.returns-in_default-clause-each_named
-returns-in_default-clause-each_named g c h =
-    let l = c.loop in
-    let none : c.receive.result ≡ None = search rules in
-    omega (
-      arith,
-      l.invariant.named h,
-      weighed_none h l.kept.blocks l.invariant.empty,
-      ap (weights_sent h) c.receive.ensures.item,
-      weights_sent_append h (received l.from) (c.receive.result ∷ []),
-      ap (λ x. weights_sent h (x ∷ [])) none,
-    )
 
 pub handle-requires-clause-may : goal.handle-requires-clause-may
 handle-requires-clause-may g c =
@@ -117,7 +147,7 @@ handle-requires-clause-may g c =
     let fits = c.in-Some-receive.ensures.allowed in
     let n = c.open-number.result.1.round.blocks in
     let same = ap (λ (r : RoundRead). r.round.blocks) o.1 in
-    let few : n ≤ c.loop.bench.blocks = omega (arith, fits.blocks, same, ap (λ (b : BenchState). b.blocks) i.bench, c.requires.named) in
+    let few : n ≤ c.loop.bench.blocks = omega (arith, fits.blocks, same, ap (λ (b : BenchState). b.blocks) i.bench, c.requires.works.named) in
     record { out = omega (arith, ap home o.2, fits.empty, ap (λ (s : PoolState). s.made) o.2, fits.made, fits.blocks, same); few = few; room = omega (arith, few, i.room) }
 
 pub handle-requires-clause-ready : goal.handle-requires-clause-ready
@@ -132,116 +162,94 @@ handle-requires-clause-ready g c =
           (sym (ap options_at i.bench)) (sym (ap (λ (b : BenchState). b.keep) i.bench)) i.ready,
     )
 
-pub returns-in-Some-handle-clause-handled : goal.returns-in-Some-handle-clause-handled
-returns-in-Some-handle-clause-handled g c =
+pub returns-in-Some-handle-clause-worked : goal.returns-in-Some-handle-clause-worked
+returns-in-Some-handle-clause-worked g c =
     let l = c.loop in
     let i = l.invariant in
     let first = c.args.bench.now in
     let did = g.H.RoundHandler.did c.args.handler.now (options_at first) in
     let p = c.in-Some-receive.parcel in
     let o = c.open-number.ensures.same in
+    let fits = c.in-Some-receive.ensures.allowed in
+    let b = c.handle.ensures.brings in
+    let left = c.handle.ensures.gave in
+    let r = c.replace.ensures in
     let now = rounds_last (received l.from) _ p c.in-Some-receive.ensures.item in
-    subst (λ (rs : List RoundRead). Ends did g.H.RoundHandler.stopped 0 c.args.into.now c.handle.new.into rs c.in-Some-handle.end) (sym now)
-    (went_ends did g.H.RoundHandler.stopped 0 c.args.into.now l.into c.handle.new.into (rounds_of (received l.from)) (p.read ∷ []) c.in-Some-handle.end i.went
-    (inr (
-      (handled_as (g.H.RoundHandler.did c.args.handler.now) g.H.RoundHandler.stopped g.H.RoundHandler.ready (options_at first)
-          (options_at l.bench) l.into c.handle.new.into p.read c.open-number.result.1
-          (0 + length (rounds_of (received l.from))) c.open-number.result.0 (Some c.in-Some-handle.end) (ap options_at i.bench) o.1
-          (omega (arith, o.0, c.in-Some-receive.ensures.allowed.number)) c.in-Some-handle.ensures.did),
-      refl,
-    )))
+    let at = (goal.at.returns-in-Some-handle-clause-worked g c).After-handle in
+    record {
+      handled = subst (λ (rs : List RoundRead). Ends did g.H.RoundHandler.stopped 0 c.args.into.now c.handle.new.into rs c.in-Some-handle.end) (sym now)
+          (went_ends did g.H.RoundHandler.stopped 0 c.args.into.now l.into c.handle.new.into (rounds_of (received l.from)) (p.read ∷ []) c.in-Some-handle.end i.went
+          (inr (
+            (handled_as (g.H.RoundHandler.did c.args.handler.now) g.H.RoundHandler.stopped g.H.RoundHandler.ready (options_at first)
+                (options_at l.bench) l.into c.handle.new.into p.read c.open-number.result.1
+                (0 + length (rounds_of (received l.from))) c.open-number.result.0 (Some c.in-Some-handle.end) (ap options_at i.bench) o.1
+                (omega (arith, o.0, fits.number)) c.in-Some-handle.ensures.did),
+            refl,
+          )));
+      ready = ready_on g at;
+      each = omega (arith, came g at, i.empty, c.send_home.ensures.sum, ap home r.value, ap home r.after);
+      each_named = λ h.
+          omega (
+            arith,
+            came_named g at h,
+            weighed_none h l.kept.blocks i.empty,
+            c.send_home.ensures.named h,
+            ap (λ (s : PoolState). weighed h s.blocks) r.value,
+            ap (λ (s : PoolState). weighed h s.blocks) r.after,
+          );
+      lends = lends_then c.args.giver.now l.giver c.handle.new.giver i.lends left;
+      none_left = brings_none_lent (sent l.told) (sent c.send_home.new.told) c.args.giver.now l.giver c.handle.new.giver (omega (arith, c.send_home.ensures.sum, ap home r.value, i.empty)) left i.brings;
+      room = omega (arith, ap home r.after, ap home o.2, fits.empty, i.room, b.count, b.room, ap (λ (b : BenchState). b.blocks) b.same);
+      same = search rules;
+    }
 
-pub returns-in-Some-handle-clause-each : goal.returns-in-Some-handle-clause-each
-returns-in-Some-handle-clause-each g c =
-    omega (
-      arith,
-      came g (goal.at.returns-in-Some-handle-clause-each g c).After-handle,
-      c.loop.invariant.empty,
-      c.send_home.ensures.sum,
-      ap home c.replace.ensures.value,
-      ap home c.replace.ensures.after,
-    )
-
-pub returns-in-Some-handle-clause-each_named : goal.returns-in-Some-handle-clause-each_named
-returns-in-Some-handle-clause-each_named g c h =
-    omega (
-      arith,
-      came_named g (goal.at.returns-in-Some-handle-clause-each_named g c).After-handle h,
-      weighed_none h c.loop.kept.blocks c.loop.invariant.empty,
-      c.send_home.ensures.named h,
-      ap (λ (s : PoolState). weighed h s.blocks) c.replace.ensures.value,
-      ap (λ (s : PoolState). weighed h s.blocks) c.replace.ensures.after,
-    )
-
-pub returns-in-Some-handle-clause-room : goal.returns-in-Some-handle-clause-room
-returns-in-Some-handle-clause-room g c =
-    let b = c.handle.ensures.brings in
-    let o = c.open-number.ensures.same in
-    omega (arith, ap home c.replace.ensures.after, ap home o.2, c.in-Some-receive.ensures.allowed.empty, c.loop.invariant.room, b.count, b.room, ap (λ (b : BenchState). b.blocks) b.same)
-
-pub returns-then-is_err-clause-handled : goal.returns-then-is_err-clause-handled
-returns-then-is_err-clause-handled g c =
+pub returns-then-is_err-clause-worked : goal.returns-then-is_err-clause-worked
+returns-then-is_err-clause-worked g c =
+    let l = c.loop in
+    let i = l.invariant in
     let did = g.H.RoundHandler.did c.args.handler.now (options_at c.args.bench.now) in
-    went_stopped did g.H.RoundHandler.stopped 0 c.args.into.now c.handle.new.into (rounds_of (received c.receive.new.ring)) c.stop-then-is_err.result c.stop-then-is_err.ensures.end
-    (went_on g (goal.at.returns-then-is_err-clause-handled g c).In-None-handle)
-
-pub returns-then-is_err-clause-each : goal.returns-then-is_err-clause-each
-returns-then-is_err-clause-each g c =
-    omega (
-      arith,
-      came g (goal.at.returns-then-is_err-clause-each g c).After-handle,
-      c.loop.invariant.empty,
-      c.send_home-then-is_err.ensures.sum,
-      ap home c.replace-then-is_err.ensures.value,
-      ap home c.replace-then-is_err.ensures.after,
-    )
-
-pub returns-then-is_err-clause-each_named : goal.returns-then-is_err-clause-each_named
-returns-then-is_err-clause-each_named g c h =
-    omega (
-      arith,
-      came_named g (goal.at.returns-then-is_err-clause-each_named g c).After-handle h,
-      weighed_none h c.loop.kept.blocks c.loop.invariant.empty,
-      c.send_home-then-is_err.ensures.named h,
-      ap (λ (s : PoolState). weighed h s.blocks) c.replace-then-is_err.ensures.value,
-      ap (λ (s : PoolState). weighed h s.blocks) c.replace-then-is_err.ensures.after,
-    )
-
-pub returns-then-is_err-clause-room : goal.returns-then-is_err-clause-room
-returns-then-is_err-clause-room g c =
     let b = c.handle.ensures.brings in
-    omega (
-      arith,
-      c.loop.invariant.room,
-      ap home c.replace-then-is_err.ensures.after,
-      ap home c.open-number.ensures.same.2,
-      c.in-Some-receive.ensures.allowed.empty,
-      b.count,
-      b.room,
-      ap (λ (b : BenchState). b.blocks) b.same,
-      c.make_room.ensures.later,
-      ap (λ (b : BenchState). b.blocks) c.make_room.ensures.same,
-    )
+    let left = c.handle.ensures.gave in
+    let r = c.replace-then-is_err.ensures in
+    let told = c.send_home-then-is_err.ensures in
+    let at = (goal.at.returns-then-is_err-clause-worked g c).After-handle in
+    record {
+      handled = went_stopped did g.H.RoundHandler.stopped 0 c.args.into.now c.handle.new.into (rounds_of (received c.receive.new.ring)) c.stop-then-is_err.result c.stop-then-is_err.ensures.end
+          (went_on g (goal.at.returns-then-is_err-clause-worked g c).In-None-handle);
+      ready = ready_on g at;
+      each = omega (arith, came g at, i.empty, told.sum, ap home r.value, ap home r.after);
+      each_named = λ h.
+          omega (
+            arith,
+            came_named g at h,
+            weighed_none h l.kept.blocks i.empty,
+            told.named h,
+            ap (λ (s : PoolState). weighed h s.blocks) r.value,
+            ap (λ (s : PoolState). weighed h s.blocks) r.after,
+          );
+      lends = lends_then c.args.giver.now l.giver c.handle.new.giver i.lends left;
+      none_left = brings_none_lent (sent l.told) (sent c.send_home-then-is_err.new.told) c.args.giver.now l.giver c.handle.new.giver (omega (arith, told.sum, ap home r.value, i.empty)) left i.brings;
+      room = omega (
+        arith,
+        i.room,
+        ap home r.after,
+        ap home c.open-number.ensures.same.2,
+        c.in-Some-receive.ensures.allowed.empty,
+        b.count,
+        b.room,
+        ap (λ (b : BenchState). b.blocks) b.same,
+        c.make_room.ensures.later,
+        ap (λ (b : BenchState). b.blocks) c.make_room.ensures.same,
+      );
+      same = search rules;
+    }
 
 pub loop-preserved : goal.loop-preserved
 loop-preserved g c =
     let l = c.loop in
     let i = l.invariant in
-    let first = c.args.bench.now in
     let p = (goal.at.loop-preserved g c).After-handle in
-    let read = c.in-Some-receive.parcel.read in
-    let o = c.open-number.ensures.same in
-    let now = rounds_last (received l.from) _ c.in-Some-receive.parcel c.in-Some-receive.ensures.item in
     let h = c.in-None-handle.ensures in
-    let counted = packets_append (rounds_of (received l.from)) (read ∷ []) in
-    let is_read : length read.round.packets ≤ 4096 = c.in-Some-receive.ensures.allowed.is.few in
-    let n = packets_of (rounds_of (received l.from)) in
-    let options = ap options_at i.bench in
-    let keep = ap (λ (b : BenchState). b.keep) i.bench in
-    let ready = ready_as (g.H.RoundHandler.did c.args.handler.now) g.H.RoundHandler.stopped g.H.RoundHandler.ready (options_at first) (options_at l.bench) first.keep l.bench.keep
-    (n + length c.open-number.result.1.round.packets) c.handle.new.into options keep
-    (h.ready n (ready_as (g.H.RoundHandler.did c.args.handler.now) g.H.RoundHandler.stopped g.H.RoundHandler.ready (options_at l.bench) (options_at first) l.bench.keep first.keep n l.into
-    (sym options) (sym keep) i.ready)) in
     record {
       from = search rules;
       told = search rules;
@@ -254,29 +262,9 @@ loop-preserved g c =
       each = omega (arith, came g p, c.send_home-in-loop.ensures.sum, c.give_list.ensures.sum);
       named = λ x. omega (arith, came_named g p x, c.send_home-in-loop.ensures.named x, c.give_list.ensures.named x);
       went = went_on g (goal.at.loop-preserved g c).In-None-handle;
-      few = omega (arith, ap packets_of now, counted, is_read, c.in-Some-receive.ensures.allowed.packets);
-      ready = subst (λ (m : ℕ). g.H.RoundHandler.ready (options_at first) first.keep m c.handle.new.into)
-          (omega (arith, ap packets_of now, counted, ap (λ (r : RoundRead). length r.round.packets) o.1)) ready;
+      few = few_on g p;
+      ready = ready_now g p;
     }
 
 pub give_list-requires : goal.give_list-requires
 give_list-requires g c = record { lent = lent_again c.args.giver.now c.handle.new.giver (lends_then c.args.giver.now c.loop.giver c.handle.new.giver c.loop.invariant.lends c.handle.ensures.gave) }
-
-pub returns-then-not-has_begun-clause-none_left : goal.returns-then-not-has_begun-clause-none_left
-returns-then-not-has_begun-clause-none_left g c =
-    subst (λ ts. BringsNone ts c.args.giver.now c.args.giver.now) (sym c.requires.none.1) (brings_none c.args.giver.now)
-
-pub returns-in_default-clause-none_left : goal.returns-in_default-clause-none_left
-returns-in_default-clause-none_left g c = c.loop.invariant.brings
-
-pub returns-in-Some-handle-clause-none_left : goal.returns-in-Some-handle-clause-none_left
-returns-in-Some-handle-clause-none_left g c =
-    let l = c.loop in
-    brings_none_lent (sent l.told) (sent c.send_home.new.told) c.args.giver.now l.giver c.handle.new.giver
-    (omega (arith, c.send_home.ensures.sum, ap home c.replace.ensures.value, l.invariant.empty)) c.handle.ensures.gave l.invariant.brings
-
-pub returns-then-is_err-clause-none_left : goal.returns-then-is_err-clause-none_left
-returns-then-is_err-clause-none_left g c =
-    let l = c.loop in
-    brings_none_lent (sent l.told) (sent c.send_home-then-is_err.new.told) c.args.giver.now l.giver c.handle.new.giver
-    (omega (arith, c.send_home-then-is_err.ensures.sum, ap home c.replace-then-is_err.ensures.value, l.invariant.empty)) c.handle.ensures.gave l.invariant.brings
