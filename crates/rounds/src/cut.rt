@@ -1,10 +1,10 @@
 //! Writes the packets that a record stands for, and brings its blocks home.
-ghost use Rattle.std.specs.Prelude.{◌≡◌, ℕ, ◌+◌, ◌-◌, ◌<◌, ◌≤◌, ◌^◌, Err, OnOk, OnErr};
+ghost use Rattle.std.specs.Prelude.{◌≡◌, ◌+◌, ◌-◌, ◌<◌, ◌≤◌, ◌^◌, Err, OnOk, OnErr};
 ghost use Rattle.std.specs.Prelude.{length};
 ghost use Rattle.std.specs.Io.KnownBytes.{Appends};
 ghost use Rattle.off_io.specs.Faults.{HasCause, Rose};
 ghost use Rattle.off_io.specs.Content.{AppendsPrefix};
-ghost use Rattle.block_pool.specs.PoolState.{home, weighed};
+ghost use Rattle.block_pool.specs.PoolState.{home};
 ghost use Rattle.skb.specs.SkbState.{buffer_bytes, weighed_in, IsAlone};
 ghost use Rattle.pcap_io.specs.Capture.{Packet as Record};
 ghost use Rattle.pcap_io.specs.Limits.{most_frame, off_head_size};
@@ -14,6 +14,7 @@ ghost use Rattle.gso.specs.Planning.{IsPlanOf, packets_by};
 ghost use Rattle.records.specs.Laid.{IsRead};
 ghost use Rattle.records.specs.Reading.{record_of};
 ghost use Rattle.rounds.specs.Cutting.{IsBehind, Writes, WritesRecord, packets_bytes};
+ghost use Rattle.rounds.specs.Weights.{Adds};
 
 use crate::opening::take_head;
 use block_pool::Pool;
@@ -67,9 +68,7 @@ fn write_packets<K: Sink>(
 fn bring_packet(pool: &mut Pool, packet: Slot)
     requires alone { IsAlone packet.skb }
     requires room { home pool.old + count_of packet ≤ pool.old.made }
-    ensures home { home pool.new ≡ home pool.old + count_of packet }
-    ensures named { (h : ℕ → ℕ) → weighed h pool.new.blocks ≡ weighed h pool.old.blocks + weighed_in h packet.skb }
-    ensures made { (pool.new.made ≡ pool.old.made) × (pool.new.taken ≡ pool.old.taken) }
+    ensures adds { Adds (count_of packet) (λ h. weighed_in h packet.skb) pool.old pool.new }
 {
     let Slot {
         skb,
@@ -96,9 +95,7 @@ fn write_plan<K: Sink>(
     requires room { home pool.old + count_of packet ≤ pool.old.made }
     ensures writes { Writes (packets_bytes file.now.order (packets_by plan (packet_of packet))) (K.held sink.old)
         (K.held sink.new) result }
-    ensures home { home pool.new ≡ home pool.old + count_of packet }
-    ensures named { (h : ℕ → ℕ) → weighed h pool.new.blocks ≡ weighed h pool.old.blocks + weighed_in h packet.skb }
-    ensures made { (pool.new.made ≡ pool.old.made) × (pool.new.taken ≡ pool.old.taken) }
+    ensures adds { Adds (count_of packet) (λ h. weighed_in h packet.skb) pool.old pool.new }
     ensures later { K.faults sink.old ≤ K.faults sink.new }
     ensures failed { result ≡ Err Refused.WriteFault → Rose (K.faults sink.old) (K.faults sink.new) }
 {
@@ -125,9 +122,7 @@ fn write_judged<K: Sink>(
     requires room { home pool.old + count_of packet ≤ pool.old.made }
     ensures writes { (r : Record) → IsBehind r head.now packet
         → WritesRecord file.now.order r (K.held sink.old) (K.held sink.new) result }
-    ensures home { home pool.new ≡ home pool.old + count_of packet }
-    ensures named { (h : ℕ → ℕ) → weighed h pool.new.blocks ≡ weighed h pool.old.blocks + weighed_in h packet.skb }
-    ensures made { (pool.new.made ≡ pool.old.made) × (pool.new.taken ≡ pool.old.taken) }
+    ensures adds { Adds (count_of packet) (λ h. weighed_in h packet.skb) pool.old pool.new }
     ensures later { K.faults sink.old ≤ K.faults sink.new }
     ensures failed { result ≡ Err Refused.WriteFault → Rose (K.faults sink.old) (K.faults sink.new) }
 {
@@ -161,9 +156,7 @@ pub(crate) fn cut_record<K: Sink>(
     requires room { home pool.old + count_of packet ≤ pool.old.made }
     ensures writes { WritesRecord file.now.order (record_of front.now packet) (K.held sink.old)
         (K.held sink.new) result }
-    ensures home { home pool.new ≡ home pool.old + count_of packet }
-    ensures named { (h : ℕ → ℕ) → weighed h pool.new.blocks ≡ weighed h pool.old.blocks + weighed_in h packet.skb }
-    ensures made { (pool.new.made ≡ pool.old.made) × (pool.new.taken ≡ pool.old.taken) }
+    ensures adds { Adds (count_of packet) (λ h. weighed_in h packet.skb) pool.old pool.new }
     ensures out { out.new ≡ out.old }
     ensures later { K.faults sink.old ≤ K.faults sink.new }
     ensures failed { result ≡ Err Refused.WriteFault → Rose (K.faults sink.old) (K.faults sink.new) }

@@ -11,6 +11,7 @@ ghost use Rattle.rounds.specs.Marks.{by_marks, IsNamed, IsRound, nothing};
 ghost use Rattle.rounds.specs.Out.{IsOut};
 ghost use Rattle.frags.specs.OutcomesState.{IsBare};
 ghost use Rattle.rounds.specs.Table.{AllOpen, Comes, MayCome};
+ghost use Rattle.rounds.specs.Weights.{Adds};
 
 use crate::lane_home::{bring_kept, bring_lanes, bring_queues_alone};
 use crate::table::{Returned, reopen, sweep};
@@ -173,10 +174,7 @@ fn bring_round(
 pub(crate) fn bring_alone(pool: &mut Pool, packets: &mut Packets)
     requires alone { AreAlone packets.old.items }
     requires room { home pool.old + counts_of packets.old.items ≤ pool.old.made }
-    ensures home { home pool.new ≡ home pool.old + counts_of packets.old.items }
-    ensures named { (h : ℕ → ℕ) → weighed h pool.new.blocks ≡ weighed h pool.old.blocks
-        + weighed_slots h packets.old.items }
-    ensures made { (pool.new.made ≡ pool.old.made) × (pool.new.taken ≡ pool.old.taken) }
+    ensures adds { Adds (counts_of packets.old.items) (λ h. weighed_slots h packets.old.items) pool.old pool.new }
     ensures none { packets.new.items ≡ [] }
     ensures memory { packets.old.room + length packets.old.items ≤ packets.new.room }
 {
@@ -200,11 +198,8 @@ fn bring_round_alone(pool: &mut Pool, packets: &mut Packets, lanes: &mut Lanes, 
         ≤ pool.old.made }
     requires none { kept.items ≡ [] }
     requires idle { All IsIdleTap lanes.old.taps.items }
-    ensures home { home pool.new ≡ home pool.old + (counts_of packets.old.items
-        + counts_of_queues lanes.old.queues.items) }
-    ensures named { (h : ℕ → ℕ) → weighed h pool.new.blocks ≡ weighed h pool.old.blocks
-        + (weighed_slots h packets.old.items + weighed_queues h lanes.old.queues.items) }
-    ensures made { (pool.new.made ≡ pool.old.made) × (pool.new.taken ≡ pool.old.taken) }
+    ensures adds { Adds (counts_of packets.old.items + counts_of_queues lanes.old.queues.items)
+        (λ h. weighed_slots h packets.old.items + weighed_queues h lanes.old.queues.items) pool.old pool.new }
     ensures none { packets.new.items ≡ [] }
     ensures idle { AreIdle lanes.new }
 {
@@ -231,10 +226,8 @@ pub(crate) fn bring_out(
     requires room { home pool.old + blocks ≤ pool.old.made }
     requires open { AllOpen table.old }
     requires spare { blocks + blocks ≤ out.old.spare }
-    ensures home { home pool.new ≡ home pool.old + blocks }
-    ensures named { (h : ℕ → ℕ) → weighed h pool.new.blocks ≡ weighed h pool.old.blocks
-        + (weighed_slots h packets.old.items + weighed_queues h lanes.old.queues.items) }
-    ensures made { (pool.new.made ≡ pool.old.made) × (pool.new.taken ≡ pool.old.taken) }
+    ensures adds { Adds blocks (λ h. weighed_slots h packets.old.items + weighed_queues h lanes.old.queues.items)
+        pool.old pool.new }
     ensures open { AllOpen table.new }
     ensures size { length table.new ≡ length table.old }
     ensures bare { IsBare out.new }

@@ -1,6 +1,6 @@
 //! Brings home what the lanes of a round hold.
-ghost use Rattle.std.specs.Prelude.{◌≡◌, ℕ, ◌+◌, ◌≤◌, [], All, length};
-ghost use Rattle.block_pool.specs.PoolState.{home, weighed};
+ghost use Rattle.std.specs.Prelude.{◌≡◌, ◌+◌, ◌≤◌, [], All, length};
+ghost use Rattle.block_pool.specs.PoolState.{home};
 ghost use Rattle.gro.specs.Slots.{weighed_slots, AreAlone};
 ghost use Rattle.taps.specs.Clones.{blocks_of, of_clones};
 ghost use Rattle.lanes.specs.Lanes.{of_queue, of_queues, of_tap, of_taps, of_lanes, count_of_queue};
@@ -9,6 +9,7 @@ ghost use Rattle.rounds.specs.Lanes.{AreSpent};
 ghost use Rattle.rounds.specs.Marks.{nothing};
 ghost use Rattle.frags.specs.OutcomesState.{IsBare};
 ghost use Rattle.rounds.specs.Table.{Comes, MayCome};
+ghost use Rattle.rounds.specs.Weights.{Adds};
 
 use crate::home::{bring_alone, bring_buffer, bring_packets};
 use crate::table::{Returned, sweep};
@@ -96,10 +97,7 @@ pub(crate) fn bring_lanes(
 fn bring_queue_alone(pool: &mut Pool, lane: &mut QueueLane)
     requires alone { AreAlone lane.old.packets.items }
     requires room { home pool.old + count_of_queue lane.old ≤ pool.old.made }
-    ensures home { home pool.new ≡ home pool.old + count_of_queue lane.old }
-    ensures named { (h : ℕ → ℕ) → weighed h pool.new.blocks ≡ weighed h pool.old.blocks
-        + weighed_slots h lane.old.packets.items }
-    ensures made { (pool.new.made ≡ pool.old.made) × (pool.new.taken ≡ pool.old.taken) }
+    ensures adds { Adds (count_of_queue lane.old) (λ h. weighed_slots h lane.old.packets.items) pool.old pool.new }
     ensures idle { IsIdleQueue lane.new }
 {
     bring_alone(pool, &mut lane.packets);
@@ -109,9 +107,7 @@ fn bring_queue_alone(pool: &mut Pool, lane: &mut QueueLane)
 pub(crate) fn bring_queues_alone(pool: &mut Pool, lanes: &mut [QueueLane])
     requires alone { All (λ l. AreAlone l.packets.items) lanes.old }
     requires room { home pool.old + counts_of_queues lanes.old ≤ pool.old.made }
-    ensures home { home pool.new ≡ home pool.old + counts_of_queues lanes.old }
-    ensures named { (h : ℕ → ℕ) → weighed h pool.new.blocks ≡ weighed h pool.old.blocks + weighed_queues h lanes.old }
-    ensures made { (pool.new.made ≡ pool.old.made) × (pool.new.taken ≡ pool.old.taken) }
+    ensures adds { Adds (counts_of_queues lanes.old) (λ h. weighed_queues h lanes.old) pool.old pool.new }
     ensures idle { All IsIdleQueue lanes.new }
     ensures size { length lanes.new ≡ length lanes.old }
 {

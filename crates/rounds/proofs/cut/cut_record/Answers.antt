@@ -1,6 +1,6 @@
-use Rattle.std.proofs.Common.{ap, sym, subst, arith}
+use Rattle.std.proofs.Common.{ap, sym, subst, arith, length}
 use Rattle.std.proofs.KnownBytes.{Keeps-refl}
-use Rattle.skb.specs.SkbState.{weighed_in, IsAlone}
+use Rattle.skb.specs.SkbState.{SkbState, weighed_in, IsAlone}
 use Rattle.records.specs.Reading.{record_of}
 use Rattle.rounds.proofs.Heads.{alone_within, behind_is, not_lawful}
 use Rattle.rounds.proofs.cut.cut_record.Goals as goal
@@ -21,8 +21,22 @@ bring_packet-requires-clause-alone g c = subst IsAlone (sym c.in-None.ensures.no
 pub returns-in-None-clause-writes : goal.returns-in-None-clause-writes
 returns-in-None-clause-writes g c = (not_lawful (record_of c.args.front.now c.args.packet) c.in-None.ensures.none.0, Keeps-refl _)
 
-pub returns-in-Some-clause-named : goal.returns-in-Some-clause-named
-returns-in-Some-clause-named g c = λ h. omega (arith, c.write_judged.ensures.named h, ap (weighed_in h) c.in-Some.ensures.within)
+pub returns-in-Some-clause-adds : goal.returns-in-Some-clause-adds
+returns-in-Some-clause-adds g c =
+    let e = c.write_judged.ensures.adds in
+    let within = c.in-Some.ensures.within in
+    record {
+      home = omega (arith, e.home, ap (λ (s : SkbState). length s.rest) within);
+      named = λ h. omega (arith, e.named h, ap (weighed_in h) within);
+      made = e.made;
+    }
 
-pub returns-in-None-clause-named : goal.returns-in-None-clause-named
-returns-in-None-clause-named g c = λ h. omega (arith, c.bring_packet.ensures.named h, ap (weighed_in h) c.in-None.ensures.none.1)
+pub returns-in-None-clause-adds : goal.returns-in-None-clause-adds
+returns-in-None-clause-adds g c =
+    let e = c.bring_packet.ensures.adds in
+    let same = c.in-None.ensures.none.1 in
+    record {
+      home = omega (arith, e.home, ap (λ (s : SkbState). length s.rest) same);
+      named = λ h. omega (arith, e.named h, ap (weighed_in h) same);
+      made = e.made;
+    }

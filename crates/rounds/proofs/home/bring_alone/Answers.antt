@@ -29,12 +29,12 @@ loop-packet-preserved c =
       made = (e.made.0 ∙ l.invariant.made.0, e.made.1 ∙ l.invariant.made.1);
     }
 
-pub returns-clause-home : goal.returns-clause-home
-returns-clause-home c =
+pub returns-clause-adds : goal.returns-clause-adds
+returns-clause-adds c =
+    let i = c.loop-packet.invariant in
     let e : c.loop-packet.packets.items ≡ [] = search rules in
-    omega (arith, ap counts_of e, c.loop-packet.invariant.count)
-
-pub returns-clause-named : goal.returns-clause-named
-returns-clause-named c = λ h.
-    let e : c.loop-packet.packets.items ≡ [] = search rules in
-    omega (arith, ap (weighed_slots h) e, c.loop-packet.invariant.named h)
+    record {
+      home = omega (arith, ap counts_of e, i.count);
+      named = λ h. omega (arith, ap (weighed_slots h) e, i.named h);
+      made = i.made;
+    }

@@ -45,12 +45,23 @@ bring_round_alone-requires-clause-idle c = (alone (goal.at.bring_round_alone-req
 pub returns-then-shared-clause-spare : goal.returns-then-shared-clause-spare
 returns-then-shared-clause-spare c = omega (arith, (with_others (goal.at.returns-then-shared-clause-spare c).Then-shared).counts, c.bring_round.ensures.spare)
 
-pub returns-else-shared-clause-home : goal.returns-else-shared-clause-home
-returns-else-shared-clause-home c = omega (arith, (alone (goal.at.returns-else-shared-clause-home c).Else-shared).count, c.bring_round_alone.ensures.home)
+pub returns-else-shared-clause-adds : goal.returns-else-shared-clause-adds
+returns-else-shared-clause-adds c =
+    let e = c.bring_round_alone.ensures.adds in
+    record {
+      home = omega (arith, (alone (goal.at.returns-else-shared-clause-adds c).Else-shared).count, e.home);
+      named = e.named;
+      made = e.made;
+    }
 
-pub returns-then-shared-clause-named : goal.returns-then-shared-clause-named
-returns-then-shared-clause-named c = λ h.
+pub returns-then-shared-clause-adds : goal.returns-then-shared-clause-adds
+returns-then-shared-clause-adds c =
     let a = c.args in
-    let o = with_others (goal.at.returns-then-shared-clause-named c).Then-shared in
+    let e = c.bring_round.ensures in
+    let o = with_others (goal.at.returns-then-shared-clause-adds c).Then-shared in
     let named = named_left o.names (of_outcomes a.out.now) (of_packets a.packets.now.items) (of_lanes a.lanes.now) (of_clones a.kept.items) (no_outcomes a.out.now c.requires.bare) o.named in
-    omega (arith, c.bring_round.ensures.named o.names h named, o.weights h)
+    record {
+      home = e.home;
+      named = λ h. omega (arith, e.named o.names h named, o.weights h);
+      made = e.made;
+    }

@@ -36,24 +36,22 @@ loop-i-preserved c =
     let e = c.bring_queue_alone in
     let k = queue_counts_first l.i (l.i + 1) old d x (omega arith) c.loop-i-test.true (l.invariant.idle.back l.i d (omega arith)) in
     record {
-      count = omega (arith, k, e.ensures.home, l.invariant.count);
-      named = λ h. omega (arith, queue_weights_first h l.i (l.i + 1) old d x (omega arith) c.loop-i-test.true (l.invariant.idle.back l.i d (omega arith)), e.ensures.named h, l.invariant.named h);
-      made = (e.ensures.made.0 ∙ l.invariant.made.0, e.ensures.made.1 ∙ l.invariant.made.1);
+      count = omega (arith, k, e.ensures.adds.home, l.invariant.count);
+      named = λ h. omega (arith, queue_weights_first h l.i (l.i + 1) old d x (omega arith) c.loop-i-test.true (l.invariant.idle.back l.i d (omega arith)), e.ensures.adds.named h, l.invariant.named h);
+      made = (e.ensures.adds.made.0 ∙ l.invariant.made.0, e.ensures.adds.made.1 ∙ l.invariant.made.1);
       idle = did_more (λ (old new : QueueLane). IsIdleQueue new) l.i (l.i + 1) old l.lanes d e.new.lane (omega arith) c.loop-i-test.true
           e.ensures.idle l.invariant.idle;
     }
 
-pub returns-clause-home : goal.returns-clause-home
-returns-clause-home c =
+pub returns-clause-adds : goal.returns-clause-adds
+returns-clause-adds c =
     let l = c.loop-i in
-    let none = ap counts_of_queues (dropped l.i c.args.lanes.now (omega (arith, c.loop-i-test.false))) in
-    omega (arith, none, l.invariant.count)
-
-pub returns-clause-named : goal.returns-clause-named
-returns-clause-named c = λ h.
-    let l = c.loop-i in
-    let none = ap (weighed_queues h) (dropped l.i c.args.lanes.now (omega (arith, c.loop-i-test.false))) in
-    omega (arith, none, l.invariant.named h)
+    let none = dropped l.i c.args.lanes.now (omega (arith, c.loop-i-test.false)) in
+    record {
+      home = omega (arith, ap counts_of_queues none, l.invariant.count);
+      named = λ h. omega (arith, ap (weighed_queues h) none, l.invariant.named h);
+      made = l.invariant.made;
+    }
 
 pub returns-clause-idle : goal.returns-clause-idle
 returns-clause-idle c =

@@ -53,8 +53,8 @@ returns c =
     let blocks : r.blocks ≡ n = ap (λ (r : RestState). r.blocks) c.rest.view_is in
     let few : home r.spares ≤ n = omega (arith, c.rest.invariant.0, blocks) in
     let out : home mid ≡ home old + (n - home r.spares) =
-    omega (arith, b.ensures.home, c.home.ensures.home, blocks) in
-    let room : home old + n ≤ mid.made = omega (arith, c.requires.may.out, b.ensures.made.0) in
+    omega (arith, b.ensures.adds.home, c.home.ensures.home, blocks) in
+    let room : home old + n ≤ mid.made = omega (arith, c.requires.may.out, b.ensures.adds.made.0) in
     let none =
     none_left (home old) n (home r.spares) (home mid) (home f.new.self) (home f.new.from) mid.made few out
     f.ensures.sum f.ensures.all room in
@@ -73,11 +73,11 @@ returns c =
           arith,
           f.ensures.blocks (λ (x : SoleState). h x.block),
           weighed_none h f.new.from.blocks none,
-          b.ensures.named h,
+          b.ensures.adds.named h,
           ap (λ (r : RestState). weights_left r h) c.rest.view_is,
         );
-        made = f.ensures.same.0 ∙ b.ensures.made.0;
-        taken = f.ensures.same.1 ∙ b.ensures.made.1;
+        made = f.ensures.same.0 ∙ b.ensures.adds.made.0;
+        taken = f.ensures.same.1 ∙ b.ensures.adds.made.1;
         room = omega (arith, b.ensures.spare, c.home.ensures.home, blocks, had);
         same = ap bench same_size ∙ ap (λ (b : BenchState). record b { room = spare }) c.self.view_is;
       };

@@ -123,7 +123,7 @@ returns-clause-taken g c = λ one.
     let long : length front ≡ off_head_size = r.ensures.front in
     let before = ap (λ (s : SegmentState). s.taken) c.self.view_is in
     takes_one _ _ c.self.inside.pool.made 0 c.args.self.now.taken c.refill.new.self.taken c.args.reader.now.place r.new.reader.place front p
-    (omega (arith, need_is front p long, before, c.in-Ok.ensures.need p is, c.in-Ok.ensures.count p is, c.in-Ok.ensures.taken, w.ensures.made.1, c.refill.ensures.same.1)) (c.in-Ok.ensures.given p is)
+    (omega (arith, need_is front p long, before, c.in-Ok.ensures.need p is, c.in-Ok.ensures.count p is, c.in-Ok.ensures.taken, w.ensures.adds.made.1, c.refill.ensures.same.1)) (c.in-Ok.ensures.given p is)
 
 pub returns-in-Err-clause-named : goal.returns-in-Err-clause-named
 returns-in-Err-clause-named g c = λ h. omega (arith, (c.in-Err.ensures.named_back h).0, ap (λ (s : SegmentState). weighed h s.stock) c.self.view_is)
@@ -138,8 +138,8 @@ returns-clause-named g c = λ h.
       arith,
       c.refill.ensures.sum,
       c.refill.ensures.same.0,
-      c.cut_record-wrote.ensures.home,
-      c.cut_record-wrote.ensures.made.0,
+      c.cut_record-wrote.ensures.adds.home,
+      c.cut_record-wrote.ensures.adds.made.0,
       c.in-Ok.ensures.count one.result is,
       c.in-Ok.ensures.home,
       c.in-Ok.ensures.spares,
@@ -153,7 +153,7 @@ returns-clause-named g c = λ h.
     omega (
       arith,
       c.in-Ok.ensures.named one.result is h,
-      c.cut_record-wrote.ensures.named h,
+      c.cut_record-wrote.ensures.adds.named h,
       c.refill.ensures.blocks (λ (s : SoleState). h s.block),
       weighed_none h c.self.inside.spares.blocks c.self.invariant.3,
       weighed_none h c.refill.new.from.blocks left,
