@@ -1,10 +1,9 @@
 -- Every flow comes back of what merging makes of some bytes; and what is said where nothing was read.
-use Rattle.std.proofs.Common.{◌≡◌, ℕ, ◌*◌, ◌<◌, List, [], ◌++◌, length, length-append, length-take, take, drop, refl, sym, ap, ◌∙◌, subst, arith, append_assoc, take-append-drop, Option, Some, None}
+use Rattle.std.proofs.Common.{◌≡◌, ℕ, ◌*◌, ◌<◌, List, [], ◌++◌, length, length-append, length-take, take, drop, sym, ap, ◌∙◌, subst, arith, append_assoc, take-append-drop, Option, Some, None}
 use Rattle.std.proofs.Common.{Ok, Err, Bool, true, if◌then◌else◌}
-use Rattle.std.specs.Prelude.{is_some, nat_lt, IfSome}
+use Rattle.std.specs.Prelude.{is_some, nat_lt}
 use Rattle.std.specs.List.{AllByRecursion}
-use Rattle.std.proofs.KnownBytes.{Appends-nil, Keeps-refl}
-use Rattle.std.proofs.lemmas.Bool.{false≢true, lt-ltb}
+use Rattle.std.proofs.lemmas.Bool.{lt-ltb}
 use Rattle.std.proofs.lemmas.List.{take_at, drop_at, length-take-le}
 use Rattle.off_io.specs.Told.{Told}
 use Rattle.off_io.proofs.Telling.{Told-weaker, Told-then, Told-same}
@@ -27,9 +26,6 @@ use Rattle.offload_model.specs.Need.{exceeded_at, found_before, packets_within}
 use Rattle.offload_model.proofs.Lists.{near_taken}
 use Rattle.offload_model.proofs.Flows.{flows_come_back}
 use Rattle.offload_words.specs.declared.merge.MergeOptions.{MergeOptions}
-use Rattle.offload_words.specs.declared.check.CheckOptions.{CheckOptions}
-use Rattle.offload_words.specs.declared.words.Command.{Command}
-use Rattle.offload_words.specs.declared.words.Command.TheVariants.{Merge, Segment, Check, Make}
 use Rattle.offload_words.specs.Merge.{IsInRange}
 use Rattle.rounds.specs.declared.merge.MergeEnd.{MergeEnd}
 use Rattle.rounds.specs.declared.merge.MergeEnd.TheVariants as ends
@@ -38,8 +34,6 @@ use Rattle.offload_run.specs.declared.status.Status.{Status}
 use Rattle.offload_run.specs.declared.status.Status.TheVariants as statuses
 use Rattle.offload_run.specs.Ending.{OfRead, IsStatusFor, status_by}
 use Rattle.offload_run.specs.Output.{options, merged_packets, AreCapturedWithin, FlowsComeBack}
-use Rattle.offload_run.specs.RunAnswers.{Answers, FlowsBack}
-use Rattle.offload_run.specs.Checking.{CheckAnswers}
 use Rattle.offload_run.proofs.Numbered.{records_rising}
 
 -- ---- what is merged
@@ -170,34 +164,3 @@ captured_given blocks budget made place a b end status is told =
 
 pub none_captured : (P : List ℕ → Type 0) (a : Option (List ℕ)) → Told a a (OfRead P statuses.NoMemory)
 none_captured P a = Told-same a (OfRead P statuses.NoMemory) (λ given. tt)
-
--- where nothing was read
-pub flows_unread : (o : Option Command) (a : Option (List ℕ)) → IfSome o (λ command. Told a a (FlowsBack command statuses.NoMemory))
-flows_unread None a = tt
-flows_unread (Some (Merge o)) a = Told-same a (FlowsBack (Merge o) statuses.NoMemory) (λ given. tt)
-flows_unread (Some (Segment o)) a = Told-same a (FlowsBack (Segment o) statuses.NoMemory) (λ given. tt)
-flows_unread (Some (Check o)) a = Told-same a (FlowsBack (Check o) statuses.NoMemory) (λ given. tt)
-flows_unread (Some (Make o)) a = Told-same a (FlowsBack (Make o) statuses.NoMemory) (λ given. tt)
-
--- ---- no memory for the words
-
-unread_check : (seed : Option ℕ) (o : CheckOptions) (h : Option (List ℕ)) (flushed : Bool) (untouched : Type 0) (given : List ℕ)
-    → CheckAnswers seed o h h flushed untouched statuses.NoMemory given given
-unread_check None o h flushed untouched given =
-    (record { passes = ([], refl, (0, Appends-nil h)); flushes = λ is. absurd (false≢true is) }, Keeps-refl h)
-unread_check (Some seed) o h flushed untouched given = (Keeps-refl h, refl)
-
-unread : (command : Command) (a h : Option (List ℕ)) (flushed : Bool) (untouched : Type 0) → Told a a (Answers command h h flushed untouched statuses.NoMemory)
-unread (Merge o) a h flushed untouched =
-    Told-same a (Answers (Merge o) h h flushed untouched statuses.NoMemory)
-    (λ given. record { passes = ([], refl, (0, Appends-nil h)); flushes = λ is. absurd (false≢true is) })
-unread (Segment o) a h flushed untouched =
-    Told-same a (Answers (Segment o) h h flushed untouched statuses.NoMemory)
-    (λ given. record { passes = ([], refl, (0, Appends-nil h)); flushes = λ is. absurd (false≢true is) })
-unread (Check o) a h flushed untouched = Told-same a (Answers (Check o) h h flushed untouched statuses.NoMemory) (λ given. unread_check o.seed o h flushed untouched given)
-unread (Make o) a h flushed untouched = Told-same a (Answers (Make o) h h flushed untouched statuses.NoMemory) (λ given. ((0, Appends-nil h), refl))
-
-pub all_unread : (o : Option Command) (a h : Option (List ℕ)) (flushed : Bool) (untouched : Type 0)
-    → IfSome o (λ command. Told a a (Answers command h h flushed untouched statuses.NoMemory))
-all_unread None a h flushed untouched = tt
-all_unread (Some command) a h flushed untouched = unread command a h flushed untouched

@@ -10,4 +10,5 @@ mod BackAgain
 mod PlainWords
 mod PrefixWords
 mod CheckedWords
+mod Unread
 mod BothWays

@@ -1,7 +1,6 @@
 -- A prefix of what a command writes of all that was given, however little of it was read, where the source didn't fail.
-use Rattle.std.proofs.Common.{◌≡◌, ℕ, List, [], ◌++◌, take, drop, refl, sym, ap, ◌∙◌, subst, Option, Some, None, Ok, Err, Bool, ◌⊎◌, ⊎_elim, inl, inr}
-use Rattle.std.specs.Prelude.{IfSome, MatchOption}
-use Rattle.std.specs.Io.KnownBytes.{Appends, Keeps}
+use Rattle.std.proofs.Common.{◌≡◌, ℕ, List, [], drop, refl, sym, ap, ◌∙◌, subst, Option, Some, None, Ok, Err, Bool, ◌⊎◌, ⊎_elim, inl, inr}
+use Rattle.std.specs.Io.KnownBytes.{Appends}
 use Rattle.std.proofs.KnownBytes.{Appends-nil, Appends-kept}
 use Rattle.off_io.specs.Content.{AppendsPrefix}
 use Rattle.off_io.specs.Told.{Told}
@@ -16,7 +15,7 @@ use Rattle.pcap_io.specs.declared.place.Place.{Place}
 use Rattle.pcap_io.specs.Places.{first_place}
 use Rattle.pcap_io.specs.Reading.{GivesFile}
 use Rattle.pcap_io.specs.Written.{file_bytes}
-use Rattle.offload_model.specs.Passing.{Passed, Ending, Stop, Stopped, Nowhere, AtFault, AtRound, Passes, WritesPrefix, PrefixUnless, segmenting, whole, merging_whole, segmenting_whole}
+use Rattle.offload_model.specs.Passing.{Passed, Ending, Stop, Stopped, Nowhere, AtFault, AtRound, Passes, WritesPrefix, PrefixUnless, segmenting, whole}
 use Rattle.offload_model.specs.Written.{Options}
 use Rattle.offload_model.proofs.Passings.{prefixes_are_written, prefixes_to_whole}
 use Rattle.offload_model.specs.PassingLaws.{SegmentsGrow}
@@ -28,16 +27,11 @@ use Rattle.checking.specs.declared.capture.CheckEnd.{CheckEnd}
 use Rattle.checking.specs.declared.capture.CheckEnd.TheVariants as ends
 use Rattle.checking.specs.Handling.{ending_of as check_ending}
 use Rattle.offload_words.specs.declared.merge.MergeOptions.{MergeOptions}
-use Rattle.offload_words.specs.declared.words.Command.{Command}
-use Rattle.offload_words.specs.declared.words.Command.TheVariants.{Merge, Segment, Check, Make}
-use Rattle.offload_run.specs.declared.engine.Engine.{Engine}
 use Rattle.offload_run.specs.declared.status.Status.{Status}
 use Rattle.offload_run.specs.declared.status.Status.TheVariants as statuses
 use Rattle.offload_run.specs.Checking.{status_if, LinesEnd, Tells, Checked}
 use Rattle.offload_run.specs.Ending.{Ends}
-use Rattle.offload_run.specs.Engines.{LeavesHome, IsMergeHome, IsSegmentHome}
 use Rattle.offload_run.specs.Output.{options}
-use Rattle.offload_run.specs.RunAnswers.{unless_made, Prefixes}
 use Rattle.offload_run.proofs.Lining.{lined_of}
 use Rattle.offload_run.proofs.Telling.{lines_are}
 
@@ -144,27 +138,3 @@ checked_prefix law o a b c file old new is_flushed rose failed status so first n
     ∙ ap (checking o.blocks (options o) place) (sym gives.3) in
     ⊎_elim (λ r. inl (so r)) (λ f. inr (subst (AppendsPrefix old new) (sym (ap (λ (p : Passed). p.output) all)) f))
     (lines_or_fault law o.blocks (options o) place checked.totals old new is_flushed rose status rest left checked.end checked.counted checked.told checked.read)) first next)
-
--- ---- where there was no memory for the words
-
-unread_check : (seed : Option ℕ) (o : MergeOptions) (failed : Type 0) (a h : Option (List ℕ)) → unless_made seed (PrefixUnless failed (checking_whole o.blocks (options o)) a a h h)
-unread_check None o failed a h = nothing_prefix failed (checking_whole o.blocks (options o)) a h
-unread_check (Some seed) o failed a h = tt
-
-unread : (command : Command) (failed : Type 0) (a h : Option (List ℕ)) → Prefixes command failed a a h h
-unread (Merge o) failed a h = nothing_prefix failed (merging_whole o.blocks (options o)) a h
-unread (Segment o) failed a h = nothing_prefix ⊥ (segmenting_whole o.blocks) a h
-unread (Check o) failed a h = unread_check o.seed o.merge failed a h
-unread (Make o) failed a h = tt
-
-pub prefixes_unread : (command : Option Command) (failed : Type 0) (a h : Option (List ℕ)) → IfSome command (λ command. Prefixes command failed a a h h)
-prefixes_unread None failed a h = tt
-prefixes_unread (Some command) failed a h = unread command failed a h
-
-pub none_left : (command : Option Command) (engine : Option Engine) → engine ≡ None
-    → MatchOption command (engine ≡ None) (λ command. LeavesHome command engine)
-none_left None engine none = none
-none_left (Some (Merge o)) engine none = subst (IsMergeHome o.blocks) (sym none) tt
-none_left (Some (Segment o)) engine none = subst (IsSegmentHome o.blocks) (sym none) tt
-none_left (Some (Check o)) engine none = subst (IsMergeHome o.merge.blocks) (sym none) tt
-none_left (Some (Make o)) engine none = none

@@ -1,6 +1,7 @@
 -- How a command that reads a capture and writes one ended, by its status.
-use Rattle.std.specs.Prelude.{◌≡◌, ℕ, Bool, true, List, ◌++◌, Option, Some, None, ⊤}
+use Rattle.std.specs.Prelude.{◌≡◌, ◌≤◌, ℕ, Bool, true, List, ◌++◌, Option, Some, None, ⊤}
 use Rattle.off_io.specs.Content.{SaysFlushed}
+use Rattle.off_io.specs.Faults.{Rose}
 use Rattle.pcap_io.specs.declared.faults.InFault.{InFault}
 use Rattle.pcap_io.specs.declared.faults.InFault.TheVariants as faults
 use Rattle.offload_model.specs.Passing.{Ending, Stopped, Nowhere, AtFault, AtRound, ReadFault, WriteFault, NoMemory}
@@ -59,3 +60,12 @@ OfRead P statuses.ReadFault given left = (gone : List ℕ) × (given ≡ gone ++
 OfRead P statuses.Usage given left = ⊤
 OfRead P statuses.WriteFault given left = ⊤
 OfRead P statuses.NoMemory given left = ⊤
+
+-- A command ended so, by the counts of faults of the source and of the sink: these never fall, and one that the status
+-- blames rose.
+pub record IsCaused (source source' sink sink' : ℕ) (status : Status) : Type 0 where
+  pub not_usage : status ≡ statuses.Usage → ⊥
+  pub later : source ≤ source'
+  pub later_sink : sink ≤ sink'
+  pub read : status ≡ statuses.ReadFault → Rose source source'
+  pub write : status ≡ statuses.WriteFault → Rose sink sink'

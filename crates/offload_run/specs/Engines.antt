@@ -12,6 +12,9 @@ use Rattle.offload_words.specs.declared.words.Command.{Command}
 use Rattle.offload_words.specs.declared.words.Command.TheVariants.{Merge, Segment, Check, Make}
 use Rattle.offload_run.specs.declared.engine.Engine.{Engine}
 use Rattle.offload_run.specs.declared.engine.Engine.TheVariants as engines
+use Rattle.offload_run.specs.declared.status.Status.{Status}
+use Rattle.offload_run.specs.declared.status.Status.TheVariants.{Ok}
+use Rattle.offload_run.specs.Ending.{HasBlocks}
 
 -- the need of all records, each a round of its own: the bytes that each offload header has, of either version, aren't
 -- read into blocks
@@ -65,3 +68,10 @@ LeavesHome (Merge o) engine = IsMergeHome o.blocks engine
 LeavesHome (Segment o) engine = IsSegmentHome o.blocks engine
 LeavesHome (Check o) engine = IsMergeHome o.merge.blocks engine
 LeavesHome (Make o) engine = engine ≡ None
+
+-- a command that merges over n blocks ended so, and left this: `need` is that of what the source gave
+pub record LeavesMerge (n : ℕ) (need : List ℕ → ℕ) (status : Status) (left : Option Engine) (old new : Option (List ℕ))
+    : Type 0 where
+  pub blocks : HasBlocks n status
+  pub engine : status ≡ Ok → HasMerged n need left old new
+  pub home : IsMergeHome n left

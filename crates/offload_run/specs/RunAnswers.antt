@@ -1,14 +1,19 @@
 -- What each answer of the whole program says, by the command that the words ask for.
 use Rattle.std.specs.Prelude.{◌≡◌, ℕ, List, Bool, Option, None, Some, ⊤}
+use Rattle.off_io.specs.Faults.{Rose}
+use Rattle.off_io.specs.Told.{Told}
 use Rattle.pcap_io.specs.declared.heads.Link.TheVariants.{Ethernet, Offload}
 use Rattle.offload_model.specs.Passing.{merging_whole, segmenting_whole, PrefixUnless}
 use Rattle.checking.specs.Checking.{checking_whole}
 use Rattle.offload_model.specs.Passing as passing
 use Rattle.offload_words.specs.declared.words.Command.{Command}
 use Rattle.offload_words.specs.declared.words.Command.TheVariants.{Merge, Segment, Check, Make}
+use Rattle.offload_run.specs.declared.engine.Engine.{Engine}
 use Rattle.offload_run.specs.declared.status.Status.{Status}
+use Rattle.offload_run.specs.declared.status.Status.TheVariants.{Ok}
 use Rattle.offload_run.specs.Ending.{ending_of, Ends, HasBlocks, OfRead}
-use Rattle.offload_run.specs.Making.{MakeAnswers}
+use Rattle.offload_run.specs.Engines.{HasRun, LeavesHome}
+use Rattle.offload_run.specs.Making.{MakeAnswers, Makes}
 use Rattle.offload_run.specs.Checking.{CheckAnswers}
 use Rattle.offload_run.specs.Output.{options, merged_packets, FlowsComeBack}
 
@@ -52,3 +57,16 @@ abbrev pub FlowsBack : Command → Status → List ℕ → List ℕ → Type 0
 FlowsBack (Merge o) status given left = OfRead (λ read. FlowsComeBack (options o)
     (merged_packets o.blocks o.budget read)) status given left
 FlowsBack _ status given left = ⊤
+
+-- A command ended so. What was left of the source and its faults, before and after; what the sink held, and whether all
+-- is flushed; that the source, that the sink is as it was; and the engine that was left.
+pub record HasEnded (command : Command) (left left' : Option (List ℕ)) (faults faults' : ℕ)
+    (held held' : Option (List ℕ)) (is_flushed : Bool) (unread untouched : Type 0) (kept : Option Engine)
+    (status : Status) : Type 0 where
+  pub given : Told left left' (Answers command held held' is_flushed untouched status)
+  pub prefix : Prefixes command (Rose faults faults') left left' held held'
+  pub made : Makes command held held' is_flushed unread status
+  pub blocks : AreBlocksOf command status
+  pub flows : Told left left' (FlowsBack command status)
+  pub engine : status ≡ Ok → HasRun command kept left left'
+  pub home : LeavesHome command kept

@@ -14,6 +14,7 @@ ghost use Rattle.pcap_io.specs.Places.{first_place, found_at};
 ghost use Rattle.cap_make.specs.Capture.{made as made_capture};
 ghost use Rattle.offload_model.specs.Need.{round_need};
 ghost use Rattle.offload_model.specs.Passing.{PrefixUnless};
+ghost use Rattle.offload_words.specs.declared.words.Command.TheVariants.{Check};
 ghost use Rattle.offload_words.specs.Check.{IsInRange as IsCheckInRange};
 ghost use Rattle.offload_words.specs.Merge.{IsInRange};
 ghost use Rattle.checking.specs.Counts.{totals_of, HasLanes, IsQueueWithin, IsWithin};
@@ -22,12 +23,12 @@ ghost use Rattle.checking.specs.Checking.{counting, checking_whole};
 ghost use Rattle.checking.specs.Tallies.{Tallies};
 ghost use Rattle.rounds.specs.Merging.{options_of as rounds_options};
 ghost use Rattle.checking.specs.Handling.{ending_of as check_ending};
-ghost use Rattle.offload_run.specs.Checking.{checking_made, first_line, status_if, CheckAnswers, Checked, ChecksMade};
+ghost use Rattle.offload_run.specs.Checking.{checking_made, first_line, status_if, Checked};
 ghost use Rattle.offload_run.specs.Checking.{ChecksTo, LinesEnd, ReadAnswers, Tells};
-ghost use Rattle.offload_run.specs.Ending.{HasBlocks};
-ghost use Rattle.offload_run.specs.Engines.{HasChecked, HasMerged, IsMergeHome};
+ghost use Rattle.offload_run.specs.Ending.{HasBlocks, IsCaused};
+ghost use Rattle.offload_run.specs.Engines.{LeavesMerge};
 ghost use Rattle.offload_run.specs.Output.{options as options_of};
-ghost use Rattle.offload_run.specs.RunAnswers.{unless_made};
+ghost use Rattle.offload_run.specs.RunAnswers.{HasEnded};
 
 use crate::ending::{finish, refused};
 use crate::merge::make_rounds;
@@ -193,16 +194,10 @@ fn check_records<R: Threads + Wait + Sync, S: Source + Send, K: Sink, G: Gate + 
     ensures given { Told (S.left source.old) (S.left source.new)
         (Checked (first_line made) options.blocks (options_of options) (first_place file Ethernet 0) (K.held sink.old)
         (K.held sink.new) (K.is_flushed sink.new) (Rose (S.faults source.old) (S.faults source.new)) result) }
-    ensures blocks { HasBlocks options.blocks result }
-    ensures engine { result ≡ Status.Ok → HasMerged options.blocks
-        (λ rest. round_need (found_at (first_place file Ethernet 0) rest).packets) engine.new (S.left source.old)
-        (S.left source.new) }
-    ensures home { IsMergeHome options.blocks engine.new }
-    ensures not_usage { result ≡ Status.Usage → ⊥ }
-    ensures later { S.faults source.old ≤ S.faults source.new }
-    ensures later_sink { K.faults sink.old ≤ K.faults sink.new }
-    ensures read { result ≡ Status.ReadFault → Rose (S.faults source.old) (S.faults source.new) }
-    ensures write { result ≡ Status.WriteFault → Rose (K.faults sink.old) (K.faults sink.new) }
+    ensures left { LeavesMerge options.blocks (λ rest. round_need (found_at (first_place file Ethernet 0) rest).packets) result
+        engine.new (S.left source.old) (S.left source.new) }
+    ensures caused { IsCaused (S.faults source.old) (S.faults source.new) (K.faults sink.old) (K.faults sink.new)
+        result }
 {
     let (blocks, queues, taps) = (options.blocks, options.queues, options.taps);
     let mut rounds = match make_rounds(alloc, options, true) {
@@ -237,15 +232,10 @@ fn check_read<R: Threads + Wait + Sync, S: Source + Send, K: Sink, G: Gate + Syn
     ensures prefix { PrefixUnless (Rose (S.faults source.old) (S.faults source.new))
         (checking_whole options.blocks (options_of options)) (S.left source.old) (S.left source.new) (K.held sink.old)
         (K.held sink.new) }
-    ensures blocks { HasBlocks options.blocks result }
-    ensures engine { result ≡ Status.Ok → HasMerged options.blocks
-        (λ given. round_need (reads Ethernet given).packets) engine.new (S.left source.old) (S.left source.new) }
-    ensures home { IsMergeHome options.blocks engine.new }
-    ensures not_usage { result ≡ Status.Usage → ⊥ }
-    ensures later { S.faults source.old ≤ S.faults source.new }
-    ensures later_sink { K.faults sink.old ≤ K.faults sink.new }
-    ensures read { result ≡ Status.ReadFault → Rose (S.faults source.old) (S.faults source.new) }
-    ensures write { result ≡ Status.WriteFault → Rose (K.faults sink.old) (K.faults sink.new) }
+    ensures left { LeavesMerge options.blocks (λ given. round_need (reads Ethernet given).packets) result
+        engine.new (S.left source.old) (S.left source.new) }
+    ensures caused { IsCaused (S.faults source.old) (S.faults source.new) (K.faults sink.old) (K.faults sink.new)
+        result }
 {
     totals_are_told();
     let file = match take_file(source, Link::Ethernet) {
@@ -270,10 +260,8 @@ fn check_made<R: Threads + Wait + Sync, K: Sink, G: Gate + Sync>(
     requires engine { engine.old ≡ None }
     ensures made { ChecksTo (checking_made seed count options) (K.held sink.old) (K.held sink.new)
         (K.is_flushed sink.new) result }
-    ensures blocks { HasBlocks options.blocks result }
-    ensures engine { result ≡ Status.Ok → HasMerged options.blocks
-        (λ given. round_need (reads Ethernet given).packets) engine.new (Some (made_capture seed count)) (Some []) }
-    ensures home { IsMergeHome options.blocks engine.new }
+    ensures left { LeavesMerge options.blocks (λ given. round_need (reads Ethernet given).packets) result
+        engine.new (Some (made_capture seed count)) (Some []) }
     ensures not_usage { result ≡ Status.Usage → ⊥ }
     ensures not_read { result ≡ Status.ReadFault → ⊥ }
     ensures later { K.faults sink.old ≤ K.faults sink.new }
@@ -315,23 +303,11 @@ pub(crate) fn run_check<R: Threads + Wait + Sync, S: Source + Send, K: Sink, G: 
 ) -> Status
     requires range { IsCheckInRange options }
     requires engine { engine.old ≡ None }
-    ensures given { Told (S.left source.old) (S.left source.new)
-        (CheckAnswers options.seed options (K.held sink.old) (K.held sink.new) (K.is_flushed sink.new)
-        (sink.new ≡ sink.old) result) }
-    ensures prefix { unless_made options.seed (PrefixUnless (Rose (S.faults source.old) (S.faults source.new))
-        (checking_whole options.merge.blocks (options_of options.merge)) (S.left source.old) (S.left source.new)
-        (K.held sink.old) (K.held sink.new)) }
-    ensures made { ChecksMade options.seed options (K.held sink.old) (K.held sink.new) (K.is_flushed sink.new)
-        (source.new ≡ source.old) result }
-    ensures blocks { HasBlocks options.merge.blocks result }
-    ensures engine { result ≡ Status.Ok → HasChecked options.seed options engine.new (S.left source.old)
-        (S.left source.new) }
-    ensures home { IsMergeHome options.merge.blocks engine.new }
-    ensures not_usage { result ≡ Status.Usage → ⊥ }
-    ensures later { S.faults source.old ≤ S.faults source.new }
-    ensures later_sink { K.faults sink.old ≤ K.faults sink.new }
-    ensures read { result ≡ Status.ReadFault → Rose (S.faults source.old) (S.faults source.new) }
-    ensures write { result ≡ Status.WriteFault → Rose (K.faults sink.old) (K.faults sink.new) }
+    ensures ended { HasEnded (Check options) (S.left source.old) (S.left source.new) (S.faults source.old)
+        (S.faults source.new) (K.held sink.old) (K.held sink.new) (K.is_flushed sink.new) (source.new ≡ source.old)
+        (sink.new ≡ sink.old) engine.new result }
+    ensures caused { IsCaused (S.faults source.old) (S.faults source.new) (K.faults sink.old) (K.faults sink.new)
+        result }
 {
     let CheckOptions { merge, seed, count } = options;
     match seed {

@@ -1,12 +1,13 @@
 //! The whole program over a source and a sink.
-ghost use Rattle.std.specs.Prelude.{◌≡◌, ◌≤◌, ◌⊎◌, IfSome, MatchOption, Some, None, map, string_bytes};
+ghost use Rattle.std.specs.Prelude.{◌≡◌, ◌≤◌, ◌⊎◌, IfSome, MatchOption, None, map, string_bytes};
 ghost use Rattle.off_io.specs.Content.{AppendsPrefix};
 ghost use Rattle.off_io.specs.Faults.{Rose};
 ghost use Rattle.off_io.specs.Told.{Told};
 ghost use Rattle.offload_words.specs.Commands.{command_of, HasRanges};
 ghost use Rattle.status_log.specs.Lines.{Logs};
+ghost use Rattle.offload_run.specs.Ending.{IsCaused};
 ghost use Rattle.offload_run.specs.Making.{Makes};
-ghost use Rattle.offload_run.specs.RunAnswers.{Answers, AreBlocksOf, FlowsBack, Prefixes};
+ghost use Rattle.offload_run.specs.RunAnswers.{Answers, AreBlocksOf, FlowsBack, HasEnded, Prefixes};
 ghost use Rattle.offload_run.specs.Engines.{HasRun, LeavesHome};
 ghost use Rattle.offload_run.specs.Log.{log_line};
 
@@ -34,21 +35,11 @@ fn run_command<R: Threads + Wait + Sync, S: Source + Send, K: Sink, G: Gate + Sy
 ) -> Status
     requires ranges { HasRanges command }
     requires engine { engine.old ≡ None }
-    ensures given { Told (S.left source.old) (S.left source.new)
-        (Answers command (K.held sink.old) (K.held sink.new) (K.is_flushed sink.new) (sink.new ≡ sink.old) result) }
-    ensures prefix { Prefixes command (Rose (S.faults source.old) (S.faults source.new)) (S.left source.old)
-        (S.left source.new) (K.held sink.old) (K.held sink.new) }
-    ensures made { Makes command (K.held sink.old) (K.held sink.new) (K.is_flushed sink.new)
-        (source.new ≡ source.old) result }
-    ensures blocks { AreBlocksOf command result }
-    ensures flows { Told (S.left source.old) (S.left source.new) (FlowsBack command result) }
-    ensures engine { result ≡ Status.Ok → HasRun command engine.new (S.left source.old) (S.left source.new) }
-    ensures home { LeavesHome command engine.new }
-    ensures not_usage { result ≡ Status.Usage → ⊥ }
-    ensures later { S.faults source.old ≤ S.faults source.new }
-    ensures later_sink { K.faults sink.old ≤ K.faults sink.new }
-    ensures read { result ≡ Status.ReadFault → Rose (S.faults source.old) (S.faults source.new) }
-    ensures write { result ≡ Status.WriteFault → Rose (K.faults sink.old) (K.faults sink.new) }
+    ensures ended { HasEnded command (S.left source.old) (S.left source.new) (S.faults source.old)
+        (S.faults source.new) (K.held sink.old) (K.held sink.new) (K.is_flushed sink.new) (source.new ≡ source.old)
+        (sink.new ≡ sink.old) engine.new result }
+    ensures caused { IsCaused (S.faults source.old) (S.faults source.new) (K.faults sink.old) (K.faults sink.new)
+        result }
 {
     match command {
         Command::Merge(options) => run_merge(rt, alloc, options, source, sink, gate, engine),
@@ -74,20 +65,9 @@ fn run_words<R: Threads + Wait + Sync, S: Source + Send, K: Sink, G: Gate + Sync
         → (result ≡ Status.Usage) ⊎ (result ≡ Status.NoMemory) }
     ensures untouched { command_of (map string_bytes words.now) ≡ None
         → (source.new ≡ source.old) × (sink.new ≡ sink.old) }
-    ensures given { IfSome (command_of (map string_bytes words.now))
-        (λ command. Told (S.left source.old) (S.left source.new)
-        (Answers command (K.held sink.old) (K.held sink.new) (K.is_flushed sink.new) (sink.new ≡ sink.old) result)) }
-    ensures prefix { IfSome (command_of (map string_bytes words.now))
-        (λ command. Prefixes command (Rose (S.faults source.old) (S.faults source.new)) (S.left source.old)
-        (S.left source.new) (K.held sink.old) (K.held sink.new)) }
-    ensures made { IfSome (command_of (map string_bytes words.now))
-        (λ command. Makes command (K.held sink.old) (K.held sink.new) (K.is_flushed sink.new)
-        (source.new ≡ source.old) result) }
-    ensures blocks { IfSome (command_of (map string_bytes words.now)) (λ command. AreBlocksOf command result) }
-    ensures flows { IfSome (command_of (map string_bytes words.now))
-        (λ command. Told (S.left source.old) (S.left source.new) (FlowsBack command result)) }
-    ensures engine { IfSome (command_of (map string_bytes words.now))
-        (λ command. result ≡ Status.Ok → HasRun command engine.new (S.left source.old) (S.left source.new)) }
+    ensures ended { IfSome (command_of (map string_bytes words.now)) (λ command. HasEnded command (S.left source.old)
+        (S.left source.new) (S.faults source.old) (S.faults source.new) (K.held sink.old) (K.held sink.new)
+        (K.is_flushed sink.new) (source.new ≡ source.old) (sink.new ≡ sink.old) engine.new result) }
     ensures home { MatchOption (command_of (map string_bytes words.now)) (engine.new ≡ None)
         (λ command. LeavesHome command engine.new) }
     ensures later { S.faults source.old ≤ S.faults source.new }

@@ -5,16 +5,16 @@ ghost use Rattle.off_io.specs.Content.{SaysFlushed};
 ghost use Rattle.off_io.specs.Faults.{Rose};
 ghost use Rattle.off_io.specs.Told.{Told};
 ghost use Rattle.pcap_io.specs.declared.heads.Link.TheVariants.{Ethernet, Offload};
-ghost use Rattle.pcap_io.specs.Capture.{reads};
 ghost use Rattle.pcap_io.specs.Places.{first_place, found_at};
 ghost use Rattle.offload_model.specs.Need.{round_need};
-ghost use Rattle.offload_model.specs.Passing.{merging, merging_whole, Answers, Passes, PrefixUnless, flushes};
+ghost use Rattle.offload_model.specs.Passing.{merging, Passes, PrefixUnless, flushes};
+ghost use Rattle.offload_words.specs.declared.words.Command.TheVariants.{Merge};
 ghost use Rattle.offload_words.specs.Merge.{IsInRange};
 ghost use Rattle.rounds.specs.Merging.{ending_of as merge_ending, options_of as rounds_options, HoldsCaptured};
-ghost use Rattle.offload_run.specs.Ending.{ending_of, Ends, FlushesAt, HasBlocks, OfRead, status_by};
-ghost use Rattle.offload_run.specs.Engines.{HasMerged, IsMergeHome};
-ghost use Rattle.offload_run.specs.Output.{options as options_of, plan_of, merged_packets, AreCapturedWithin};
-ghost use Rattle.offload_run.specs.Output.{FlowsComeBack};
+ghost use Rattle.offload_run.specs.RunAnswers.{HasEnded};
+ghost use Rattle.offload_run.specs.Ending.{ending_of, status_by, Ends, FlushesAt, HasBlocks, IsCaused, OfRead};
+ghost use Rattle.offload_run.specs.Engines.{LeavesMerge};
+ghost use Rattle.offload_run.specs.Output.{options as options_of, plan_of, AreCapturedWithin};
 
 use crate::ending::refused;
 use crate::{Engine, Status};
@@ -154,16 +154,10 @@ fn merge_records<R: Threads + Wait + Sync, S: Source + Send, K: Sink, G: Gate + 
     ensures captured { Told (S.left source.old) (S.left source.new)
         (OfRead (AreCapturedWithin options.blocks options.budget (first_place file Ethernet 0)) result) }
     ensures flushed { FlushesAt (K.held sink.new) (K.is_flushed sink.new) (ending_of result) }
-    ensures blocks { HasBlocks options.blocks result }
-    ensures engine { result ≡ Status.Ok → HasMerged options.blocks
-        (λ rest. round_need (found_at (first_place file Ethernet 0) rest).packets) engine.new (S.left source.old)
-        (S.left source.new) }
-    ensures home { IsMergeHome options.blocks engine.new }
-    ensures not_usage { result ≡ Status.Usage → ⊥ }
-    ensures later { S.faults source.old ≤ S.faults source.new }
-    ensures later_sink { K.faults sink.old ≤ K.faults sink.new }
-    ensures read { result ≡ Status.ReadFault → Rose (S.faults source.old) (S.faults source.new) }
-    ensures write { result ≡ Status.WriteFault → Rose (K.faults sink.old) (K.faults sink.new) }
+    ensures left { LeavesMerge options.blocks (λ rest. round_need (found_at (first_place file Ethernet 0) rest).packets) result
+        engine.new (S.left source.old) (S.left source.new) }
+    ensures caused { IsCaused (S.faults source.old) (S.faults source.new) (K.faults sink.old) (K.faults sink.new)
+        result }
 {
     let blocks = options.blocks;
     let mut rounds = match make_rounds(alloc, options, false) {
@@ -187,24 +181,11 @@ pub(crate) fn run_merge<R: Threads + Wait + Sync, S: Source + Send, K: Sink, G: 
 ) -> Status
     requires range { IsInRange options }
     requires engine { engine.old ≡ None }
-    ensures given { Told (S.left source.old) (S.left source.new)
-        (Ends (Answers Ethernet (merging_whole options.blocks (options_of options)) (K.held sink.old) (K.held sink.new)
-        (K.is_flushed sink.new) (sink.new ≡ sink.old)) (ending_of result)) }
-    ensures prefix { PrefixUnless (Rose (S.faults source.old) (S.faults source.new))
-        (merging_whole options.blocks (options_of options)) (S.left source.old) (S.left source.new) (K.held sink.old)
-        (K.held sink.new) }
-    ensures flows { Told (S.left source.old) (S.left source.new)
-        (OfRead (λ read. FlowsComeBack (options_of options) (merged_packets options.blocks options.budget read))
-        result) }
-    ensures blocks { HasBlocks options.blocks result }
-    ensures engine { result ≡ Status.Ok → HasMerged options.blocks
-        (λ given. round_need (reads Ethernet given).packets) engine.new (S.left source.old) (S.left source.new) }
-    ensures home { IsMergeHome options.blocks engine.new }
-    ensures not_usage { result ≡ Status.Usage → ⊥ }
-    ensures later { S.faults source.old ≤ S.faults source.new }
-    ensures later_sink { K.faults sink.old ≤ K.faults sink.new }
-    ensures read { result ≡ Status.ReadFault → Rose (S.faults source.old) (S.faults source.new) }
-    ensures write { result ≡ Status.WriteFault → Rose (K.faults sink.old) (K.faults sink.new) }
+    ensures ended { HasEnded (Merge options) (S.left source.old) (S.left source.new) (S.faults source.old)
+        (S.faults source.new) (K.held sink.old) (K.held sink.new) (K.is_flushed sink.new) (source.new ≡ source.old)
+        (sink.new ≡ sink.old) engine.new result }
+    ensures caused { IsCaused (S.faults source.old) (S.faults source.new) (K.faults sink.old) (K.faults sink.new)
+        result }
 {
     let file = match take_file(source, Link::Ethernet) {
         Ok(file) => file,

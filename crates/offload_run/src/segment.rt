@@ -1,18 +1,18 @@
 //! Segments a capture, record by record over one pool of blocks.
-ghost use Rattle.std.specs.Prelude.{◌≡◌, ℕ, ◌≤◌, ◌^◌, ◌-◌, ◌+◌, ◌⊎◌, Some, None, true, min};
+ghost use Rattle.std.specs.Prelude.{◌≡◌, ◌≤◌, ◌-◌, ◌+◌, ◌⊎◌, Some, None};
 ghost use Rattle.std.specs.Io.KnownBytes.{Keeps};
-ghost use Rattle.block_pool.specs.PoolState.{weighed};
 ghost use Rattle.off_io.specs.Faults.{Rose};
 ghost use Rattle.off_io.specs.Told.{Told};
 ghost use Rattle.pcap_io.specs.declared.heads.Link.TheVariants.{Ethernet, Offload};
-ghost use Rattle.pcap_io.specs.Capture.{reads};
 ghost use Rattle.pcap_io.specs.Places.{IsReady, first_place, found_at};
 ghost use Rattle.pcap_io.specs.Readers.{place_of, source_of, SameLoan};
-ghost use Rattle.offload_model.specs.Passing.{segmenting, segmenting_whole, Answers, Passes, PrefixUnless};
+ghost use Rattle.offload_model.specs.Passing.{segmenting, Passes, PrefixUnless};
+ghost use Rattle.offload_words.specs.declared.words.Command.TheVariants.{Segment};
 ghost use Rattle.offload_words.specs.Segment.{IsInRange};
-ghost use Rattle.offload_run.specs.Ending.{ending_of, Ends, FlushesAt, HasBlocks};
+ghost use Rattle.offload_run.specs.RunAnswers.{HasEnded};
+ghost use Rattle.offload_run.specs.Ending.{ending_of, Ends, FlushesAt, HasBlocks, IsCaused};
 ghost use Rattle.offload_run.specs.Engines.{HasSegmented, IsSegmentHome, records_need};
-ghost use Rattle.offload_run.specs.Segmenting.{GivesUp};
+ghost use Rattle.offload_run.specs.Segmenting.{GivesUp, SegmentedAll};
 
 use crate::ending::{finish, refused};
 use crate::{Engine, Status};
@@ -66,22 +66,10 @@ fn segment_all<S: Source, K: Sink>(
     requires blocks { run.old.blocks ≡ blocks }
     requires home { run.old.home ≡ run.old.blocks }
     ensures same_source { SameLoan reader.old reader.new }
-    ensures given { Told (S.left (source_of reader.old)) (S.left (source_of reader.new))
-        (Ends (Passes (segmenting blocks (place_of reader.old)) (K.held sink.old) (K.held sink.new))
-        (ending_of result)) }
-    ensures flushed { FlushesAt (K.held sink.new) (K.is_flushed sink.new) (ending_of result) }
-    ensures blocks { HasBlocks blocks result }
-    ensures home { (run.new.blocks ≡ blocks) × (run.new.home ≡ blocks) }
-    ensures named { (h : ℕ → ℕ) → weighed h run.new.stock ≡ weighed h run.old.stock }
-    ensures taken { result ≡ Status.Ok → Told (S.left (source_of reader.old)) (S.left (source_of reader.new))
-        (λ bytes left. min (run.old.taken + records_need (found_at (place_of reader.old) bytes).packets) (2 ^ 64 - 1)
-        ≤ run.new.taken) }
-    ensures not_usage { result ≡ Status.Usage → ⊥ }
-    ensures later { S.faults (source_of reader.old) ≤ S.faults (source_of reader.new) }
-    ensures later_sink { K.faults sink.old ≤ K.faults sink.new }
-    ensures read { result ≡ Status.ReadFault → Rose (S.faults (source_of reader.old))
-        (S.faults (source_of reader.new)) }
-    ensures write { result ≡ Status.WriteFault → Rose (K.faults sink.old) (K.faults sink.new) }
+    ensures segmented { SegmentedAll blocks run.old run.new (place_of reader.old) (S.left (source_of reader.old))
+        (S.left (source_of reader.new)) (K.held sink.old) (K.held sink.new) (K.is_flushed sink.new) result }
+    ensures caused { IsCaused (S.faults (source_of reader.old)) (S.faults (source_of reader.new)) (K.faults sink.old)
+        (K.faults sink.new) result }
 {
     let mut round = 0u64;
     'records: loop {
@@ -105,21 +93,10 @@ fn segment_behind<S: Source, K: Sink>(
 ) -> Status
     requires blocks { run.old.blocks ≡ blocks }
     requires home { run.old.home ≡ run.old.blocks }
-    ensures given { Told (S.left source.old) (S.left source.new)
-        (Ends (Passes (segmenting blocks (first_place file Offload 0)) (K.held sink.old) (K.held sink.new))
-        (ending_of result)) }
-    ensures flushed { FlushesAt (K.held sink.new) (K.is_flushed sink.new) (ending_of result) }
-    ensures blocks { HasBlocks blocks result }
-    ensures home { (run.new.blocks ≡ blocks) × (run.new.home ≡ blocks) }
-    ensures named { (h : ℕ → ℕ) → weighed h run.new.stock ≡ weighed h run.old.stock }
-    ensures taken { result ≡ Status.Ok → Told (S.left source.old) (S.left source.new)
-        (λ rest left. min (run.old.taken + records_need (found_at (first_place file Offload 0) rest).packets)
-        (2 ^ 64 - 1) ≤ run.new.taken) }
-    ensures not_usage { result ≡ Status.Usage → ⊥ }
-    ensures later { S.faults source.old ≤ S.faults source.new }
-    ensures later_sink { K.faults sink.old ≤ K.faults sink.new }
-    ensures read { result ≡ Status.ReadFault → Rose (S.faults source.old) (S.faults source.new) }
-    ensures write { result ≡ Status.WriteFault → Rose (K.faults sink.old) (K.faults sink.new) }
+    ensures segmented { SegmentedAll blocks run.old run.new (first_place file Offload 0) (S.left source.old)
+        (S.left source.new) (K.held sink.old) (K.held sink.new) (K.is_flushed sink.new) result }
+    ensures caused { IsCaused (S.faults source.old) (S.faults source.new) (K.faults sink.old) (K.faults sink.new)
+        result }
 {
     let mut reader = CaptureReader::after_file(source, file, Link::Offload);
     segment_all(run, blocks, &mut reader, sink)
@@ -147,11 +124,8 @@ fn segment_records<S: Source, K: Sink>(
         (λ rest. records_need (found_at (first_place file Offload 0) rest).packets) engine.new (S.left source.old)
         (S.left source.new) }
     ensures home { IsSegmentHome blocks engine.new }
-    ensures not_usage { result ≡ Status.Usage → ⊥ }
-    ensures later { S.faults source.old ≤ S.faults source.new }
-    ensures later_sink { K.faults sink.old ≤ K.faults sink.new }
-    ensures read { result ≡ Status.ReadFault → Rose (S.faults source.old) (S.faults source.new) }
-    ensures write { result ≡ Status.WriteFault → Rose (K.faults sink.old) (K.faults sink.new) }
+    ensures caused { IsCaused (S.faults source.old) (S.faults source.new) (K.faults sink.old) (K.faults sink.new)
+        result }
 {
     segments_grow();
     let mut run = match SegmentRun::make(alloc, blocks) {
@@ -173,20 +147,11 @@ pub(crate) fn run_segment<S: Source, K: Sink>(
 ) -> Status
     requires range { IsInRange options }
     requires engine { engine.old ≡ None }
-    ensures given { Told (S.left source.old) (S.left source.new)
-        (Ends (Answers Offload (segmenting_whole options.blocks) (K.held sink.old) (K.held sink.new)
-        (K.is_flushed sink.new) (sink.new ≡ sink.old)) (ending_of result)) }
-    ensures prefix { PrefixUnless ⊥ (segmenting_whole options.blocks) (S.left source.old) (S.left source.new)
-        (K.held sink.old) (K.held sink.new) }
-    ensures blocks { HasBlocks options.blocks result }
-    ensures engine { result ≡ Status.Ok → HasSegmented options.blocks
-        (λ given. records_need (reads Offload given).packets) engine.new (S.left source.old) (S.left source.new) }
-    ensures home { IsSegmentHome options.blocks engine.new }
-    ensures not_usage { result ≡ Status.Usage → ⊥ }
-    ensures later { S.faults source.old ≤ S.faults source.new }
-    ensures later_sink { K.faults sink.old ≤ K.faults sink.new }
-    ensures read { result ≡ Status.ReadFault → Rose (S.faults source.old) (S.faults source.new) }
-    ensures write { result ≡ Status.WriteFault → Rose (K.faults sink.old) (K.faults sink.new) }
+    ensures ended { HasEnded (Segment options) (S.left source.old) (S.left source.new) (S.faults source.old)
+        (S.faults source.new) (K.held sink.old) (K.held sink.new) (K.is_flushed sink.new) (source.new ≡ source.old)
+        (sink.new ≡ sink.old) engine.new result }
+    ensures caused { IsCaused (S.faults source.old) (S.faults source.new) (K.faults sink.old) (K.faults sink.new)
+        result }
 {
     let file = match take_file(source, Link::Offload) {
         Ok(file) => file,

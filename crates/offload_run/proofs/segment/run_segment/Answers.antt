@@ -1,34 +1,55 @@
-use Rattle.std.proofs.Common.{refl}
+use Rattle.std.proofs.Common.{refl, rules}
 use Rattle.pcap_io.specs.declared.heads.Link.TheVariants.{Ethernet, Offload}
 use Rattle.offload_model.specs.Passing.{segmenting}
 use Rattle.offload_run.specs.Ending.{ending_of}
+use Rattle.offload_run.specs.Engines.{records_need}
 use Rattle.offload_run.proofs.Behind.{no_file, head_failed, whole_given}
 use Rattle.offload_run.proofs.Prefixes.{no_file_prefix, head_failed_prefix, whole_prefix}
+use Rattle.offload_run.proofs.Used.{segmented_whole}
 use Rattle.offload_run.proofs.segment.run_segment.Goals as goal
 
-pub returns-in-Err-clause-given : goal.returns-in-Err-clause-given
-returns-in-Err-clause-given g c =
-    no_file Offload Ethernet (segmenting c.args.options.blocks) _ _ _ (g.K.Sink.is_flushed c.args.sink.now) c.args.sink.now c.args.sink.now
-    c.in-Err.fault c.refused.result refl c.refused.ensures.status c.in-Err.ensures.given
+pub returns-in-Err-clause-ended : goal.returns-in-Err-clause-ended
+returns-in-Err-clause-ended g c =
+    let passing = segmenting c.args.options.blocks in
+    let told = c.in-Err.ensures.given in
+    record {
+      given = no_file Offload Ethernet passing _ _ _ (g.K.Sink.is_flushed c.args.sink.now) c.args.sink.now c.args.sink.now c.in-Err.fault c.refused.result refl c.refused.ensures.status told;
+      prefix = no_file_prefix Offload Ethernet passing _ _ _ _ c.in-Err.fault told;
+      made = tt;
+      blocks = search rules;
+      flows = search rules;
+      engine = search rules;
+      home = search rules;
+    }
 
-pub returns-in-Err-write_file_head-clause-given : goal.returns-in-Err-write_file_head-clause-given
-returns-in-Err-write_file_head-clause-given g c =
-    head_failed Offload Ethernet (segmenting c.args.options.blocks) _ _ _ _ (g.K.Sink.is_flushed c.write_file_head.new.sink) c.args.sink.now c.write_file_head.new.sink
-    c.in-Ok.file c.in-Err-write_file_head.ensures.err c.in-Ok.ensures.given
+pub returns-in-Err-write_file_head-clause-ended : goal.returns-in-Err-write_file_head-clause-ended
+returns-in-Err-write_file_head-clause-ended g c =
+    let passing = segmenting c.args.options.blocks in
+    let told = c.in-Ok.ensures.given in
+    let failed = c.in-Err-write_file_head.ensures.err in
+    record {
+      given = head_failed Offload Ethernet passing _ _ _ _ (g.K.Sink.is_flushed c.write_file_head.new.sink) c.args.sink.now c.write_file_head.new.sink c.in-Ok.file failed told;
+      prefix = head_failed_prefix Offload Ethernet passing _ _ _ _ _ c.in-Ok.file failed told;
+      made = tt;
+      blocks = search rules;
+      flows = search rules;
+      engine = search rules;
+      home = search rules;
+    }
 
-pub returns-in-Ok-write_file_head-clause-given : goal.returns-in-Ok-write_file_head-clause-given
-returns-in-Ok-write_file_head-clause-given g c =
-    whole_given Offload Ethernet (segmenting c.args.options.blocks) _ _ _ _ _ _ (g.K.Sink.is_flushed c.segment_records.new.sink) c.args.sink.now c.segment_records.new.sink
-    c.in-Ok.file (ending_of c.segment_records.result) c.in-Ok.ensures.given c.in-Ok-write_file_head.ensures.ok c.segment_records.ensures.given c.segment_records.ensures.flushed
-
-pub returns-in-Err-clause-prefix : goal.returns-in-Err-clause-prefix
-returns-in-Err-clause-prefix g c = no_file_prefix Offload Ethernet (segmenting c.args.options.blocks) _ _ _ _ c.in-Err.fault c.in-Err.ensures.given
-
-pub returns-in-Err-write_file_head-clause-prefix : goal.returns-in-Err-write_file_head-clause-prefix
-returns-in-Err-write_file_head-clause-prefix g c =
-    head_failed_prefix Offload Ethernet (segmenting c.args.options.blocks) _ _ _ _ _ c.in-Ok.file c.in-Err-write_file_head.ensures.err c.in-Ok.ensures.given
-
-pub returns-in-Ok-write_file_head-clause-prefix : goal.returns-in-Ok-write_file_head-clause-prefix
-returns-in-Ok-write_file_head-clause-prefix g c =
-    whole_prefix Offload Ethernet (segmenting c.args.options.blocks) _ _ _ _ _ _ _ _ c.in-Ok.file (λ never. never) c.in-Ok.ensures.given
-    c.in-Ok-write_file_head.ensures.ok c.segment_records.ensures.prefix
+pub returns-in-Ok-write_file_head-clause-ended : goal.returns-in-Ok-write_file_head-clause-ended
+returns-in-Ok-write_file_head-clause-ended g c =
+    let passing = segmenting c.args.options.blocks in
+    let told = c.in-Ok.ensures.given in
+    let wrote = c.in-Ok-write_file_head.ensures.ok in
+    let r = c.segment_records.ensures in
+    record {
+      given = whole_given Offload Ethernet passing _ _ _ _ _ _ (g.K.Sink.is_flushed c.segment_records.new.sink) c.args.sink.now c.segment_records.new.sink
+          c.in-Ok.file (ending_of c.segment_records.result) told wrote r.given r.flushed;
+      prefix = whole_prefix Offload Ethernet passing _ _ _ _ _ _ _ _ c.in-Ok.file (λ never. never) told wrote r.prefix;
+      made = tt;
+      blocks = r.blocks;
+      flows = search rules;
+      engine = λ ok. segmented_whole Offload records_need c.args.options.blocks _ _ _ _ c.in-Ok.file told (r.engine ok);
+      home = r.home;
+    }

@@ -1,4 +1,4 @@
-use Rattle.std.proofs.Common.{◌+◌, ◌∙◌, ℕ, ap, arith, refl, Ok, Err}
+use Rattle.std.proofs.Common.{◌+◌, ◌∙◌, ℕ, ap, arith, refl, rules, Ok, Err}
 use Rattle.rounds.specs.declared.segment.Moved.{Moved}
 use Rattle.offload_run.proofs.Segmenting.{moves_by, none_yet, one_more_given, done_given, fault_given, took_none, took_more, took_all}
 use Rattle.offload_run.proofs.segment.segment_all.Goals as goal
@@ -39,21 +39,31 @@ records-preserved g c =
       λ h. omega (arith, c.in-Ok.ensures.named h, c.records.invariant.10 h),
     )
 
-pub returns-in-End-clause-given : goal.returns-in-End-clause-given
-returns-in-End-clause-given g c =
-    done_given c.args.blocks c.records.round c.args.reader.now.place c.records.reader.place c.next.new.reader.place _ _ _ _ _ _ _ c.finish.result c.records.invariant.0
-    (moves_by _ c.args.blocks c.records.reader.place c.next.new.reader.place _ _ _ _ _ _ c.records.invariant.5 (ap (λ (m : Moved). Ok m) c.in-End.is) c.in-Ok.ensures.given)
-    c.finish.ensures.content c.finish.ensures.answer
+pub returns-in-End-clause-segmented : goal.returns-in-End-clause-segmented
+returns-in-End-clause-segmented g c =
+    let i = c.records.invariant in
+    let next = moves_by _ c.args.blocks c.records.reader.place c.next.new.reader.place _ _ _ _ _ _ i.5 (ap (λ (m : Moved). Ok m) c.in-End.is) c.in-Ok.ensures.given in
+    record {
+      given = done_given c.args.blocks c.records.round c.args.reader.now.place c.records.reader.place c.next.new.reader.place _ _ _ _ _ _ _ c.finish.result i.0 next c.finish.ensures.content
+          c.finish.ensures.answer;
+      flushed = search rules;
+      blocks = search rules;
+      home = search rules;
+      named = search rules;
+      taken = λ ok. took_all c.args.blocks _ _ _ c.args.reader.now.place c.records.reader.place c.next.new.reader.place _ _ _ _ _ i.1 next c.in-Ok.ensures.least;
+    }
 
-pub returns-in-End-clause-taken : goal.returns-in-End-clause-taken
-returns-in-End-clause-taken g c = λ ok.
-    took_all c.args.blocks _ _ _ c.args.reader.now.place c.records.reader.place c.next.new.reader.place _ _ _ _ _ c.records.invariant.1
-    (moves_by _ c.args.blocks c.records.reader.place c.next.new.reader.place _ _ _ _ _ _ c.records.invariant.5 (ap (λ (m : Moved). Ok m) c.in-End.is) c.in-Ok.ensures.given)
-    c.in-Ok.ensures.least
-
-pub returns-in-Err-clause-given : goal.returns-in-Err-clause-given
-returns-in-Err-clause-given g c =
-    fault_given c.args.blocks c.records.round c.args.reader.now.place c.records.reader.place c.next.new.reader.place _ _ _ _ _ _ _ c.in-Err.fault c.give_up.result
-    c.records.invariant.0
-    (moves_by _ c.args.blocks c.records.reader.place c.next.new.reader.place _ _ _ _ (Err c.in-Err.fault) (Err c.in-Err.fault) c.records.invariant.5 refl c.in-Err.ensures.given)
-    c.give_up.ensures.content c.give_up.ensures.answer
+pub returns-in-Err-clause-segmented : goal.returns-in-Err-clause-segmented
+returns-in-Err-clause-segmented g c =
+    let i = c.records.invariant in
+    let w = c.give_up.ensures in
+    record {
+      given = fault_given c.args.blocks c.records.round c.args.reader.now.place c.records.reader.place c.next.new.reader.place _ _ _ _ _ _ _ c.in-Err.fault c.give_up.result i.0
+          (moves_by _ c.args.blocks c.records.reader.place c.next.new.reader.place _ _ _ _ (Err c.in-Err.fault) (Err c.in-Err.fault) i.5 refl c.in-Err.ensures.given)
+          w.content w.answer;
+      flushed = w.flushed;
+      blocks = w.blocks;
+      home = search rules;
+      named = search rules;
+      taken = λ ok. absurd (w.not_ok ok);
+    }

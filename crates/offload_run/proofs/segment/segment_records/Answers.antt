@@ -10,4 +10,4 @@ returns-in-Err-clause-prefix g c = nothing_prefix _ (segmenting c.args.blocks (f
 
 pub returns-clause-prefix : goal.returns-clause-prefix
 returns-clause-prefix g c =
-    segmented_prefix c.segments_grow.ensures.law _ c.args.blocks (first_place c.args.file Offload 0) _ _ _ _ (ending_of c.segment_behind-status.result) c.segment_behind-status.ensures.given
+    segmented_prefix c.segments_grow.ensures.law _ c.args.blocks (first_place c.args.file Offload 0) _ _ _ _ (ending_of c.segment_behind-status.result) c.segment_behind-status.ensures.segmented.given
