@@ -194,8 +194,9 @@ fn check_records<R: Threads + Wait + Sync, S: Source + Send, K: Sink, G: Gate + 
     ensures given { Told (S.left source.old) (S.left source.new)
         (Checked (first_line made) options.blocks (options_of options) (first_place file Ethernet 0) (K.held sink.old)
         (K.held sink.new) (K.is_flushed sink.new) (Rose (S.faults source.old) (S.faults source.new)) result) }
-    ensures left { LeavesMerge options.blocks (λ rest. round_need (found_at (first_place file Ethernet 0) rest).packets) result
-        engine.new (S.left source.old) (S.left source.new) }
+    ensures left { LeavesMerge options.blocks
+        (λ rest. round_need (found_at (first_place file Ethernet 0) rest).packets) result engine.new
+        (S.left source.old) (S.left source.new) }
     ensures caused { IsCaused (S.faults source.old) (S.faults source.new) (K.faults sink.old) (K.faults sink.new)
         result }
 {

@@ -154,8 +154,9 @@ fn merge_records<R: Threads + Wait + Sync, S: Source + Send, K: Sink, G: Gate + 
     ensures captured { Told (S.left source.old) (S.left source.new)
         (OfRead (AreCapturedWithin options.blocks options.budget (first_place file Ethernet 0)) result) }
     ensures flushed { FlushesAt (K.held sink.new) (K.is_flushed sink.new) (ending_of result) }
-    ensures left { LeavesMerge options.blocks (λ rest. round_need (found_at (first_place file Ethernet 0) rest).packets) result
-        engine.new (S.left source.old) (S.left source.new) }
+    ensures left { LeavesMerge options.blocks
+        (λ rest. round_need (found_at (first_place file Ethernet 0) rest).packets) result engine.new
+        (S.left source.old) (S.left source.new) }
     ensures caused { IsCaused (S.faults source.old) (S.faults source.new) (K.faults sink.old) (K.faults sink.new)
         result }
 {

@@ -33,7 +33,8 @@ IsFirst number xs = (p : Parcel) × (xs ≡ Some p ∷ []) × (p.read.end ≡ en
 -- ---- the side that reads
 
 -- it may begin, of so many blocks, where shelves are for so many
-pub record MayRead (blocks shelf : ℕ) (intake : IntakeState) (place : Place) (sent : List (Option Parcel)) : Type 0 where
+pub record MayRead (blocks shelf : ℕ) (intake : IntakeState) (place : Place) (sent : List (Option Parcel))
+    : Type 0 where
   pub ready : IsReady place
   pub link : place.link ≡ Ethernet
   pub named : (intake.blocks ≡ blocks) × (shelf ≡ blocks)
