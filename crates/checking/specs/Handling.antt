@@ -1,5 +1,8 @@
 -- How checking ends, and what a round or a row of them says of the totals and of the bytes that are gone.
-use Rattle.std.specs.Prelude.{◌≡◌, ◌⊎◌, ℕ, ◌+◌, ◌*◌, ◌-◌, ◌^◌, ◌≤◌, min, Option, None, Some, List, ◌++◌}
+use Rattle.std.specs.Prelude.{◌≡◌, ◌⊎◌, ℕ, ◌+◌, ◌*◌, ◌-◌, ◌^◌, ◌≤◌, min, Option, None, Some, List, ◌++◌, length}
+use Rattle.std.specs.Prelude.{true}
+use Rattle.block_pool.specs.Giving.{GiverState}
+use Rattle.block_pool.specs.PoolState.{PoolState}
 use Rattle.pcap_io.specs.declared.place.Place.{Place}
 use Rattle.pcap_io.specs.Capture.{Packet}
 use Rattle.pcap_io.specs.Limits.{most_frame}
@@ -8,11 +11,14 @@ use Rattle.offload_model.specs.Need.{round_need}
 use Rattle.offload_model.specs.Passing.{Ending, Stopped, Nowhere, AtFault, AtRound, ReadFault, NoMemory}
 use Rattle.offload_model.specs.Steps.{ending_behind, in_front}
 use Rattle.offload_model.specs.Written.{Options}
-use Rattle.checking.specs.Counts.{Counts, added, IsWithin}
+use Rattle.checking.specs.Counts.{Counts, added, HasLanes, IsWithin}
 use Rattle.checking.specs.Checking.{counting}
 use Rattle.checking.specs.Tallies.{CountsOn, Tallies}
 use Rattle.rounds.specs.declared.round.RoundEnd.{RoundEnd}
 use Rattle.rounds.specs.declared.round.RoundEnd.TheVariants as read_ends
+use Rattle.rounds.specs.Benches.{options_at, BringsBeside, IsLent, IsRead, Lends, MayBring}
+use Rattle.rounds.specs.RoundsState.{BenchState, RoundState}
+use Rattle.rounds.specs.Weights.{weights_of}
 use Rattle.checking.specs.declared.capture.CheckEnd.{CheckEnd}
 use Rattle.checking.specs.declared.capture.CheckEnd.TheVariants as ends
 
@@ -62,3 +68,23 @@ EndsBehind k blocks options from old new end bytes left =
 -- none of the numbers of n packets exceeds n, and none of a tap's the bytes that these may have
 abbrev pub AreOf : ℕ → Counts → Type 0
 AreOf n counts = IsWithin n (most_frame * n) counts
+
+-- ---- one round
+
+-- it may be worked and counted, where a clone of each packet is kept
+pub record MayCount (round : RoundState) (bench : BenchState) (pool : PoolState) (giver : Option GiverState)
+    (totals : Counts) : Type 0 where
+  pub may : MayBring round.blocks bench pool
+  pub lent : IsLent giver
+  pub keep : bench.keep ≡ true
+  pub read : IsRead round
+  pub lanes : HasLanes (options_at bench) totals
+  pub within : (n : ℕ) × (n ≤ 2 ^ 32) × AreOf n totals
+
+-- it is home, whether or not it was counted
+pub record IsCounted (round : RoundState) (bench bench' : BenchState) (pool pool' : PoolState)
+    (giver giver' : Option GiverState) (old new : Counts) : Type 0 where
+  pub lanes : HasLanes (options_at bench) new
+  pub within : (n : ℕ) → AreOf n old → AreOf (n + length round.packets) new
+  pub brings : BringsBeside round.blocks (weights_of round) bench bench' pool pool' giver giver'
+  pub gave : Lends giver giver'

@@ -1,6 +1,5 @@
 //! Checks the records of a capture, round by round.
-ghost use Rattle.std.specs.Prelude.{◌≡◌, ℕ, ◌+◌, ◌-◌, ◌≤◌, ◌^◌, [], List, length, map, min, true, IfOk, OnOk, OnErr};
-ghost use Rattle.std.specs.List.{AllByRecursion};
+ghost use Rattle.std.specs.Prelude.{◌≡◌, ℕ, ◌+◌, ◌-◌, ◌≤◌, ◌^◌, [], List, map, min, true, IfOk, OnOk};
 ghost use Rattle.block_pool.specs.PoolState.{weighed};
 ghost use Rattle.off_io.specs.Faults.{Rose};
 ghost use Rattle.off_io.specs.Told.{Told};
@@ -8,19 +7,17 @@ ghost use Rattle.pcap_io.specs.declared.heads.Link.TheVariants.{Ethernet};
 ghost use Rattle.pcap_io.specs.Capture.{Packet};
 ghost use Rattle.pcap_io.specs.Places.{IsReady, found_at};
 ghost use Rattle.pcap_io.specs.Readers.{place_of, source_of, SameLoan};
-ghost use Rattle.offload_model.specs.Captured.{IsCaptured};
 ghost use Rattle.offload_model.specs.Need.{round_need};
 ghost use Rattle.gro.specs.Slots.{packet_of};
 ghost use Rattle.checking.specs.Compared.{compared_work, MayCompareWork};
 ghost use Rattle.checking.specs.Counts.{added, round_totals, totals_of, HasLanes, IsWithin};
 ghost use Rattle.checking.specs.Checking.{counting};
 ghost use Rattle.checking.specs.Tallies.{Tallies};
-ghost use Rattle.rounds.specs.Benches.{options_at, Brings, BringsBeside, IsLent, Lends, MayBring};
+ghost use Rattle.rounds.specs.Benches.{options_at, Brings, MayBring};
 ghost use Rattle.rounds.specs.Lanes.{IsKeptWorkOf};
-ghost use Rattle.rounds.specs.Fresh.{NumberedFrom};
 ghost use Rattle.rounds.specs.Merging.{options_of};
-ghost use Rattle.rounds.specs.Weights.{weights_of, weights_worked};
-ghost use Rattle.checking.specs.Handling.{ending_of, AreOf, CountsLast};
+ghost use Rattle.rounds.specs.Weights.{weights_worked};
+ghost use Rattle.checking.specs.Handling.{ending_of, CountsLast, IsCounted, MayCount};
 
 use crate::round::check_bench;
 use crate::totals::Totals;
@@ -70,21 +67,10 @@ fn count_round<W: Works>(
     round: Round,
     totals: &mut Totals,
 ) -> Result<(), AllocError>
-    requires may { MayBring round.blocks bench.old home.old }
-    requires lent { IsLent giver.old }
-    requires keep { bench.old.keep ≡ true }
-    requires captured { AllByRecursion IsCaptured (map packet_of round.packets) }
-    requires numbers { (k : ℕ) × NumberedFrom k round.packets }
-    requires few { length round.packets ≤ 4096 }
-    requires lanes { HasLanes (options_at bench.old) totals.old }
-    requires within { (n : ℕ) × (n ≤ 2 ^ 32) × AreOf n totals.old }
+    requires may { MayCount round bench.old home.old giver.old totals.old }
     ensures ok { OnOk result (totals.new ≡ added totals.old
         (round_totals (options_at bench.old) (map packet_of round.packets))) }
-    ensures lanes { HasLanes (options_at bench.old) totals.new }
-    ensures within { (n : ℕ) → AreOf n totals.old → AreOf (n + length round.packets) totals.new }
-    ensures brings { BringsBeside round.blocks (weights_of round) bench.old bench.new home.old home.new giver.old
-        giver.new }
-    ensures gave { Lends giver.old giver.new }
+    ensures home { IsCounted round bench.old bench.new home.old home.new giver.old giver.new totals.old totals.new }
 {
     let worked = bench.work_round(works, round, home, giver)?;
     let counted = compare_round(bench, home, worked)?;
@@ -102,21 +88,10 @@ fn last_round<W: Works>(
     totals: &mut Totals,
     end: CheckEnd,
 ) -> CheckEnd
-    requires may { MayBring round.blocks bench.old home.old }
-    requires lent { IsLent giver.old }
-    requires keep { bench.old.keep ≡ true }
-    requires captured { AllByRecursion IsCaptured (map packet_of round.packets) }
-    requires numbers { (k : ℕ) × NumberedFrom k round.packets }
-    requires few { length round.packets ≤ 4096 }
-    requires lanes { HasLanes (options_at bench.old) totals.old }
-    requires within { (n : ℕ) × (n ≤ 2 ^ 32) × AreOf n totals.old }
+    requires may { MayCount round bench.old home.old giver.old totals.old }
     ensures counts { CountsLast totals.old totals.new (round_totals (options_at bench.old)
         (map packet_of round.packets)) end result }
-    ensures lanes { HasLanes (options_at bench.old) totals.new }
-    ensures within { (n : ℕ) → AreOf n totals.old → AreOf (n + length round.packets) totals.new }
-    ensures brings { BringsBeside round.blocks (weights_of round) bench.old bench.new home.old home.new giver.old
-        giver.new }
-    ensures gave { Lends giver.old giver.new }
+    ensures home { IsCounted round bench.old bench.new home.old home.new giver.old giver.new totals.old totals.new }
 {
     match count_round(works, bench, home, giver, round, totals) {
         Ok(()) => end,
