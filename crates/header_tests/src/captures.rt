@@ -12,54 +12,57 @@ use pcap_io::{
     rec_head_writes_back, split_is_unique, write_file_head, write_rec_head,
 };
 use std::alloc::Global;
-use std::test::Fail;
+use std::process::Abort;
 use worked_captures::TWO_RECORDS;
 
-fn source(alloc: Global, bytes: &[u8]) -> Result<Feed<MemSource>, Fail> {
-    Ok(Feed {
-        inner: MemSource::new(bytes.to_vec(alloc)?, 5, Vec::new(alloc)),
-    })
+fn source(rt: &impl Abort, alloc: Global) -> Feed<MemSource> {
+    let bytes = TWO_RECORDS.to_vec(alloc).expect(rt, "no memory");
+    Feed {
+        inner: MemSource::new(bytes, 5, Vec::new(alloc)),
+    }
 }
 
 // What the first record's header says, and why the second one is refused, where the first one has this number.
-fn read_two(alloc: Global, first: u64) -> Result<(u32, u64, Result<Option<u64>, InFault>), Fail>
+fn read_two(rt: &impl Abort, alloc: Global, first: u64) -> (u32, u64, Result<Option<u64>, InFault>)
     requires few { first ≤ 2 ^ 32 }
 {
-    let mut feed = source(alloc, &TWO_RECORDS)?;
-    let mut reader = match CaptureReader::start_numbered(&mut feed, Link::Ethernet, first) {
-        Ok(reader) => reader,
-        Err(_) => return Err(Fail::from("the file header is lawful")),
+    let mut feed = source(rt, alloc);
+    let Ok(mut reader) = CaptureReader::start_numbered(&mut feed, Link::Ethernet, first) else {
+        panic!(rt; "the file header is lawful");
     };
-    let head = match reader.next_head() {
-        Ok(Some(head)) => head,
-        _ => return Err(Fail::from("there is a record")),
+    let Ok(Some(head)) = reader.next_head() else {
+        panic!(rt; "there is a record");
     };
-    let mut body = vec![in alloc; 0u8; head.captured as usize]?;
-    if reader.read_body(&mut body).is_err() {
-        return Err(Fail::from("its body is there"));
-    }
+    let mut body = vec![in alloc; 0u8; head.captured as usize].expect(rt, "no memory");
+    reader.read_body(&mut body).expect(rt, "its body is there");
     let next = match reader.next_head() {
         Ok(Some(found)) => Ok(Some(found.offset)),
         Ok(None) => Ok(None),
         Err(fault) => Err(fault),
     };
-    Ok((head.number, head.offset, next))
+    (head.number, head.offset, next)
 }
 
 #[test]
-fn numbers_end(rt: HostRuntime) -> Result<(), Fail> {
+fn numbers_end(rt: HostRuntime) {
+    let alloc = rt.alloc();
     let too_many = InFault::Cap(CapFault {
         kind: CapKind::TooMany,
         offset: 41,
         number: 4294967296,
     });
-    let read = [read_two(rt.alloc(), 0)?, read_two(rt.alloc(), 4294967295)?];
     assert_eq!(rt;
-        read,
-        [(0, 24, Ok(Some(41))), (4294967295, 24, Err(too_many)),]
+        [read_two(&rt, alloc, 0), read_two(&rt, alloc, 4294967295)],
+        [(0, 24, Ok(Some(41))), (4294967295, 24, Err(too_many))]
     );
-    Ok(())
 }
+
+// What is written of the headers.
+static HEADERS: [u8; 40] = [
+    0xa1, 0xb2, 0x3c, 0x4d, 0x00, 0x02, 0x00, 0x04, 0x00, 0x00, 0x00, 0x07, 0x00, 0x00, 0x00, 0x09,
+    0x00, 0x04, 0x00, 0x10, 0x00, 0x00, 0x00, 0x93, 0x00, 0x00, 0x00, 0x01, 0x00, 0x00, 0x00, 0x02,
+    0x00, 0x00, 0x00, 0x0f, 0x00, 0x00, 0x00, 0x11,
+];
 
 #[test]
 fn headers_are_written(rt: HostRuntime) {
@@ -75,13 +78,7 @@ fn headers_are_written(rt: HostRuntime) {
         write_file_head(&mut sink, &head, Link::Offload),
         write_rec_head(&mut sink, &head, 1, 2, 15, 17),
     ];
-    let want = [
-        0xa1, 0xb2, 0x3c, 0x4d, 0x00, 0x02, 0x00, 0x04, 0x00, 0x00, 0x00, 0x07, 0x00, 0x00, 0x00,
-        0x09, 0x00, 0x04, 0x00, 0x10, 0x00, 0x00, 0x00, 0x93, 0x00, 0x00, 0x00, 0x01, 0x00, 0x00,
-        0x00, 0x02, 0x00, 0x00, 0x00, 0x0f, 0x00, 0x00, 0x00, 0x11,
-    ];
-    assert_eq!(rt; answers, [Ok(()); 2]);
-    assert_eq!(rt; sink.bytes(), want.as_slice());
+    assert_eq!(rt; (answers, sink.bytes()), ([Ok(()); 2], HEADERS.as_slice()));
 }
 
 /// The fields of an offload header of version 2: 70,000 packets of at most 131,072 bytes.
@@ -111,10 +108,9 @@ fn offload_headers_of_both_versions(rt: HostRuntime) {
         OffHead2::read(&second),
         AnyHead::V2(FIELDS).fields(),
     ];
-    assert_eq!(rt; read, [fields, FIELDS, FIELDS]);
     assert_eq!(rt;
-        (head.bytes(), FIELDS.bytes(), FRAME_LIMIT),
-        (first, second, 262_144)
+        (read, head.bytes(), FIELDS.bytes(), FRAME_LIMIT),
+        ([fields, FIELDS, FIELDS], first, second, 262_144)
     );
 }
 

@@ -5,7 +5,7 @@ use inet_sum::{Partial, checksum, fold_of, udp_checksum};
 use std::alloc::Global;
 use std::process::Abort;
 
-const WORDS: [u8; 8] = [0x00, 0x01, 0xf2, 0x03, 0xf4, 0xf5, 0xf6, 0xf7];
+static WORDS: [u8; 8] = [0x00, 0x01, 0xf2, 0x03, 0xf4, 0xf5, 0xf6, 0xf7];
 
 #[test]
 fn sums_of_whole_lists(rt: HostRuntime) {
@@ -87,8 +87,10 @@ fn a_million_and_one_bytes_ff(rt: HostRuntime) {
         in_pieces(&bytes, 64),
         in_pieces(&bytes, 65),
     ];
-    assert_eq!(rt; (bytes.len(), checksum(&bytes)), (1_000_001, 0x00ff));
-    assert_eq!(rt; sums, [(1_000_001, 0x00ff); 3]);
+    assert_eq!(rt;
+        (bytes.len(), checksum(&bytes), sums),
+        (1_000_001, 0x00ff, [(1_000_001, 0x00ff); 3])
+    );
 }
 
 /// Word by word, the carries added at once (RFC 1071, section 1).

@@ -1,7 +1,7 @@
 //! A frame with a service tag and a customer tag, written by hand after IEEE 802.1Q.
 use eth_vlan::{EthView, TagView, is_tag};
 
-const FRAME: [u8; 22] = [
+static FRAME: [u8; 22] = [
     0x02, 0x00, 0x00, 0x00, 0x00, 0x02, 0x02, 0x00, 0x00, 0x00, 0x00, 0x01, 0x88, 0xa8, 0x20, 0x05,
     0x81, 0x00, 0x00, 0x64, 0x08, 0x00,
 ];
@@ -24,10 +24,12 @@ fn fields_of_a_tagged_frame(rt: HostRuntime) {
         [0x02, 0x00, 0x00, 0x00, 0x00, 0x02],
         [0x02, 0x00, 0x00, 0x00, 0x00, 0x01],
     ];
-    assert_eq!(rt; ethernet_fields(), Some((ends, 0x88a8)));
     assert_eq!(rt;
-        [tag_fields(14), tag_fields(18)],
-        [Some([0x2005, 0x8100]), Some([0x0064, 0x0800])]
+        (ethernet_fields(), [tag_fields(14), tag_fields(18)]),
+        (
+            Some((ends, 0x88a8)),
+            [Some([0x2005, 0x8100]), Some([0x0064, 0x0800])]
+        )
     );
 }
 

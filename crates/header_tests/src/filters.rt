@@ -3,7 +3,7 @@
 ghost use Rattle.std.specs.Prelude.{◌≡◌, ◌+◌, ◌<◌, ◌^◌, ◌++◌, length};
 
 use std::alloc::Global;
-use std::test::Fail;
+use std::process::Abort;
 use tap_filter::{Bytes, FilterFault, Instr, Program, never_stuck, parse_filter};
 use worked_captures::FIRST;
 
@@ -370,57 +370,56 @@ fn faults_in_their_order(rt: HostRuntime) {
 #[test]
 fn texts_that_are_read(rt: HostRuntime) {
     let bad = Some(FilterFault::BadText);
-    assert_eq!(rt; first_unlike(rt.alloc(), &NO_TEXTS, bad), "none");
-    assert_eq!(rt; first_unlike(rt.alloc(), &TAKEN, None), "none");
+    let first_taken = first_unlike(rt.alloc(), &NO_TEXTS, bad);
+    let first_refused = first_unlike(rt.alloc(), &TAKEN, None);
+    assert_eq!(rt; (first_taken, first_refused), ("none", "none"));
 }
 
-/// So many times the same return.
-fn returns(alloc: Global, count: usize) -> Result<Vec<Instr>, Fail> {
+/// What is wrong with so many times the same return, and how many instructions come back.
+fn fault_of_returns(rt: &impl Abort, alloc: Global, count: usize) -> Option<(usize, FilterFault)> {
     let one = Instr {
         code: 6,
         jt: 0,
         jf: 0,
         k: 7,
     };
-    Ok(vec![in alloc; one; count]?)
-}
-
-#[test]
-fn the_longest_program(rt: HostRuntime) -> Result<(), Fail> {
-    let alloc = rt.alloc();
-    assert!(rt; Program::validate(returns(alloc, 4096)?).is_ok());
-    match Program::validate(returns(alloc, 4097)?) {
-        Ok(_) => Err(Fail::from("4097 instructions are too many")),
-        Err((code, fault)) => {
-            assert_eq!(rt;
-                (code.len(), fault),
-                (4097, FilterFault::BadLength { count: 4097 })
-            );
-            Ok(())
-        }
+    let code = vec![in alloc; one; count].expect(rt, "no memory");
+    match Program::validate(code) {
+        Ok(_) => None,
+        Err((code, fault)) => Some((code.len(), fault)),
     }
 }
 
 #[test]
-fn instructions_of_a_text(rt: HostRuntime) {
-    let Ok(code) = parse_filter(rt.alloc(), "2,37 1 255 4294967295,65535 2 3 4") else {
-        panic!(rt; "a text");
-    };
-    let want = [
-        Instr {
-            code: 37,
-            jt: 1,
-            jf: 255,
-            k: 4294967295,
-        },
-        Instr {
-            code: 65535,
-            jt: 2,
-            jf: 3,
-            k: 4,
-        },
+fn the_longest_program(rt: HostRuntime) {
+    let alloc = rt.alloc();
+    let faults = [
+        fault_of_returns(&rt, alloc, 4096),
+        fault_of_returns(&rt, alloc, 4097),
     ];
-    assert_eq!(rt; code.as_slice(), want.as_slice());
+    let too_many = FilterFault::BadLength { count: 4097 };
+    assert_eq!(rt; faults, [None, Some((4097, too_many))]);
+}
+
+static INSTRUCTIONS: [Instr; 2] = [
+    Instr {
+        code: 37,
+        jt: 1,
+        jf: 255,
+        k: 4294967295,
+    },
+    Instr {
+        code: 65535,
+        jt: 2,
+        jf: 3,
+        k: 4,
+    },
+];
+
+#[test]
+fn instructions_of_a_text(rt: HostRuntime) {
+    let code = parse_filter(rt.alloc(), "2,37 1 255 4294967295,65535 2 3 4").expect(&rt, "a text");
+    assert_eq!(rt; code.as_slice(), INSTRUCTIONS.as_slice());
 }
 
 /// Two pieces, one behind the other.
@@ -447,17 +446,23 @@ impl<'a> Bytes for Pieces<'a> {
     }
 }
 
-/// A frame that is cut anywhere has the value that it has whole.
-#[test]
-fn a_cut_changes_no_value(rt: HostRuntime) {
-    let Ok(program) = Program::of_text(rt.alloc(), "2,32 0 0 26,22 0 0 0") else {
-        panic!(rt; "a program");
-    };
+/// The first place at which a cut gives the frame another value.
+fn first_other_cut(program: &Program) -> Option<usize> {
     for at in 0..59usize {
         let pieces = Pieces {
             front: &FIRST[..at],
             back: &FIRST[at..],
         };
-        assert_eq!(rt; program.value(&pieces), 0x0a000001);
+        if program.value(&pieces) != 0x0a000001 {
+            return Some(at);
+        }
     }
+    None
+}
+
+/// A frame that is cut anywhere has the value that it has whole.
+#[test]
+fn a_cut_changes_no_value(rt: HostRuntime) {
+    let program = Program::of_text(rt.alloc(), "2,32 0 0 26,22 0 0 0").expect(&rt, "a program");
+    assert_eq!(rt; first_other_cut(&program), None);
 }

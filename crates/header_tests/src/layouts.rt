@@ -119,9 +119,9 @@ fn a_worked_segment(rt: HostRuntime) {
         is_candidate(&FIRST),
         is_candidate(&SECOND),
     ];
-    assert_eq!(rt; are_so, [true; 5]);
     let other = with(FIRST, &[(35, 0x41)]);
-    assert_eq!(rt; [queue(&FIRST), queue(&SECOND), queue(&other)], [0, 0, 1]);
+    let queues = [queue(&FIRST), queue(&SECOND), queue(&other)];
+    assert_eq!(rt; (are_so, queues), ([true; 5], [0, 0, 1]));
 }
 
 #[test]
@@ -145,8 +145,10 @@ fn queues_of_keys(rt: HostRuntime) {
         queue_of(&Key::other(), 5),
         queue_of(&key(&TUNNEL), 64),
     ];
-    assert_eq!(rt; queues, [1, 0, 0, 63]);
-    assert!(rt; has_flow(&TUNNEL, &TUNNEL_FLOW));
+    assert_eq!(rt;
+        (queues, has_flow(&TUNNEL, &TUNNEL_FLOW)),
+        ([1, 0, 0, 63], true)
+    );
 }
 
 /// How many bytes of the tunnel have a shape, at least.
@@ -166,16 +168,12 @@ fn a_tunnel_in_two_pieces(rt: HostRuntime) {
     let Some(segment) = candidate(&TUNNEL[..200], &rest, 203, 203) else {
         panic!(rt; "no candidate");
     };
+    let layout = &segment.layout;
+    let seen = (layout.headers().len(), layout.payload_at());
     assert_eq!(rt;
-        (
-            segment.layout.headers().len(),
-            segment.layout.payload_at(),
-            segment.payload_len,
-            segment.flags
-        ),
-        (11, 200, 3, 0x19)
+        (seen, segment.payload_len, segment.flags, least_with_shape()),
+        ((11, 200), 3, 0x19, 200)
     );
-    assert_eq!(rt; least_with_shape(), 200);
 }
 
 #[test]
@@ -202,11 +200,9 @@ fn headers_of(original: u32) -> Option<usize> {
 
 #[test]
 fn a_tunnel_without_a_sum(rt: HostRuntime) {
-    assert_eq!(rt;
-        [headers_of(113), headers_of(112), headers_of(114)],
-        [Some(8), None, None]
-    );
-    assert!(rt; !is_candidate(&with(UNSUMMED, &[(41, 1)])));
+    let counts = [headers_of(113), headers_of(112), headers_of(114)];
+    let with_sum = is_candidate(&with(UNSUMMED, &[(41, 1)]));
+    assert_eq!(rt; (counts, with_sum), ([Some(8), None, None], false));
 }
 
 type Row<'a, const N: usize> = (&'a str, [(usize, u8); N]);
@@ -275,9 +271,12 @@ fn first_other<'a>(rows: &[Row<'a, 4>], candidates: bool) -> &'a str {
 
 #[test]
 fn segments_that_are_no_candidates(rt: HostRuntime) {
-    assert_eq!(rt; first_other(&NO_CANDIDATES, false), "none");
-    assert_eq!(rt; first_other(&CANDIDATES, true), "none");
-    assert!(rt; shape(&EMPTY).is_some() && !is_candidate(&EMPTY));
+    let (taken, refused) = (
+        first_other(&NO_CANDIDATES, false),
+        first_other(&CANDIDATES, true),
+    );
+    let of_empty = [shape(&EMPTY).is_some(), is_candidate(&EMPTY)];
+    assert_eq!(rt; (taken, refused, of_empty), ("none", "none", [true, false]));
 }
 
 static NO_SHAPES: [Row<1>; 8] = [
@@ -318,8 +317,9 @@ pub fn first_with_shape<'a, const N: usize, const M: usize>(
 
 #[test]
 fn frames_that_have_no_shape(rt: HostRuntime) {
-    assert_eq!(rt; first_with_shape(FIRST, &NO_SHAPES), "none");
-    assert_eq!(rt; first_with_shape(TUNNEL, &NO_TUNNELS), "none");
+    let plain = first_with_shape(FIRST, &NO_SHAPES);
+    let tunnelled = first_with_shape(TUNNEL, &NO_TUNNELS);
+    assert_eq!(rt; (plain, tunnelled), ("none", "none"));
 }
 
 /// Ethernet, IPv6 and TCP, before 65,515 bytes of zeros.

@@ -10,11 +10,11 @@ fn vxlan_fields(bytes: &[u8], at: usize) -> Option<(u8, u32)> {
 #[test]
 fn fields(rt: HostRuntime) {
     let bytes = [0xff, 0x08, 0x00, 0x00, 0x00, 0x12, 0x34, 0x56, 0x00];
+    let read = [vxlan_fields(&bytes, 1), vxlan_fields(&bytes, 2)];
     assert_eq!(rt;
-        [vxlan_fields(&bytes, 1), vxlan_fields(&bytes, 2)],
-        [Some((0x08, 0x123456)), None]
+        (read, PORT, OLD_PORT, gre::PROTOCOL),
+        ([Some((0x08, 0x123456)), None], 4789, 8472, 47)
     );
-    assert_eq!(rt; (PORT, OLD_PORT, gre::PROTOCOL), (4789, 8472, 47));
 }
 
 /// Length, what is carried, and the key of the GRE header at a place.
@@ -33,20 +33,13 @@ fn fields_of_gre(rt: HostRuntime) {
     let bytes = [
         0xff, 0x20, 0x00, 0x86, 0xdd, 0x12, 0x34, 0x56, 0x78, 0x00, 0x00, 0x08, 0x00,
     ];
-    assert_eq!(rt;
-        [
-            gre_fields(&bytes, 1),
-            gre_fields(&bytes, 9),
-            gre_fields(&bytes[..8], 1),
-            gre_fields(&bytes[..12], 9),
-        ],
-        [
-            Some((8, 0x86dd, Some(0x12345678))),
-            Some((4, 0x0800, None)),
-            None,
-            None,
-        ]
-    );
+    let read = [
+        gre_fields(&bytes, 1),
+        gre_fields(&bytes, 9),
+        gre_fields(&bytes[..8], 1),
+        gre_fields(&bytes[..12], 9),
+    ];
+    let keyed = Some((8, 0x86dd, Some(0x12345678)));
     let others = [
         begun(0x80, 0x00),
         begun(0x10, 0x00),
@@ -54,5 +47,8 @@ fn fields_of_gre(rt: HostRuntime) {
         begun(0x00, 0x01),
         begun(0x20, 0x01),
     ];
-    assert_eq!(rt; others, [None; 5]);
+    assert_eq!(rt;
+        (read, others),
+        ([keyed, Some((4, 0x0800, None)), None, None], [None; 5])
+    );
 }
