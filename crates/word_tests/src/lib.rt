@@ -11,4 +11,6 @@ mod logged;
 #[cfg(test)]
 mod made;
 #[cfg(test)]
+mod seeing;
+#[cfg(test)]
 mod words;

@@ -4,14 +4,15 @@
 
 ghost use Rattle.std.specs.Prelude.{◌<◌};
 
+use crate::seeing::assert_same;
 use cap_make::{MadeSource, made_reads_back, make_capture};
 use off_io::{Feed, MemSink, Source, SureSink, WriteFault};
 use pcap_io::{CaptureReader, Link};
 use std::alloc::Global;
-use std::test::Fail;
+use std::process::Abort;
 
 // Seed, number of records, length, hash.
-const CAPTURES: [(u64, u32, usize, u64); 8] = [
+static CAPTURES: [(u64, u32, usize, u64); 8] = [
     (0, 0, 24, 0x4cba59b623d94d76),
     (0, 1, 1344, 0x240aa0eca2b1d430),
     (1, 1, 1314, 0xf082cff7bf900aa1),
@@ -32,32 +33,40 @@ fn hash(before: u64, bytes: &[u8]) -> u64 {
     hash
 }
 
+// What making a capture answers, and the length and the hash of what is written, where these calls fail.
 fn written(
+    rt: &impl Abort,
     alloc: Global,
     seed: u64,
     count: u32,
     fails: &[u64],
-) -> Result<(Result<(), WriteFault>, MemSink), Fail> {
-    let mut sink = MemSink::new(alloc, 65536, fails.to_vec(alloc)?);
+) -> (Result<(), WriteFault>, usize, u64) {
+    let fails = fails.to_vec(alloc).expect(rt, "no memory");
+    let mut sink = MemSink::new(alloc, 65536, fails);
     let result = make_capture(seed, count, &mut sink);
-    Ok((result, sink))
+    let bytes = sink.bytes();
+    (result, bytes.len(), hash(HASH_OF_NOTHING, bytes))
+}
+
+// Seed and number of records of the first capture that is made otherwise.
+fn first_other(rt: &impl Abort, alloc: Global) -> Option<(u64, u32)> {
+    for (seed, count, len, want) in &CAPTURES {
+        if written(rt, alloc, *seed, *count, &[]) != (Ok(()), *len, *want) {
+            return Some((*seed, *count));
+        }
+    }
+    None
 }
 
 #[test]
-fn captures_are_those_of_the_description(rt: HostRuntime) -> Result<(), Fail> {
-    for (seed, count, len, want) in CAPTURES {
-        let (result, sink) = written(rt.alloc(), seed, count, &[])?;
-        assert_eq!(rt; result, Ok(()));
-        assert_eq!(rt; sink.bytes().len(), len, "seed {seed}, {count} records");
-        assert_eq!(rt;
-            hash(HASH_OF_NOTHING, sink.bytes()),
-            want,
-            "seed {seed}, {count} records"
-        );
-    }
-    assert_eq!(rt; make_capture(3, 2000, &mut SureSink::new()), Ok(()));
+fn captures_are_those_of_the_description(rt: HostRuntime) {
+    let result = make_capture(3, 2000, &mut SureSink::new());
+    assert_same(
+        &rt,
+        &(first_other(&rt, rt.alloc()), result),
+        &(None, Ok(())),
+    );
     made_reads_back();
-    Ok(())
 }
 
 // Reads all, at most `step` bytes at a call, and answers how many there were and their hash.
@@ -78,27 +87,38 @@ fn drained(source: &mut MadeSource, step: usize) -> (usize, u64) {
     (len, sum)
 }
 
-#[test]
-fn sources_give_the_same_at_any_size(rt: HostRuntime) {
-    for (seed, count, len, want) in CAPTURES {
-        for step in [1, 7, 1319, 5000] {
-            let mut source = MadeSource::new(seed, count);
-            let (read, sum) = drained(&mut source, step);
-            assert_eq!(rt; read, len, "seed {seed}, {count} records, {step} at a time");
-            assert_eq!(rt; sum, want, "seed {seed}, {count} records, {step} at a time");
-            assert_eq!(rt; source.read(&mut [0; 4]), Ok(0));
-        }
-    }
+// Whether a source gives this at such a size, and nothing behind it.
+fn is_given(seed: u64, count: u32, step: usize, want: (usize, u64)) -> bool {
+    let mut source = MadeSource::new(seed, count);
+    drained(&mut source, step) == want && source.read(&mut [0; 4]) == Ok(0)
 }
 
-// How many records a reader finds, and how many bytes the last one has.
-fn counted(seed: u64, count: u32) -> Result<(u32, u32), Fail> {
+// Seed, number of records and size at which the first source gives other bytes.
+fn first_other_source() -> Option<(u64, u32, usize)> {
+    for (seed, count, len, want) in &CAPTURES {
+        for step in [1, 7, 1319, 5000] {
+            if !is_given(*seed, *count, step, (*len, *want)) {
+                return Some((*seed, *count, step));
+            }
+        }
+    }
+    None
+}
+
+#[test]
+fn sources_give_the_same_at_any_size(rt: HostRuntime) {
+    assert_same(&rt, &first_other_source(), &None);
+}
+
+// How many records a reader finds, and how many bytes the last one has. None where the file header isn't lawful, or a
+// body not whole.
+fn counted(seed: u64, count: u32) -> Option<(u32, u32)> {
     let mut feed = Feed {
         inner: MadeSource::new(seed, count),
     };
     let mut reader = match CaptureReader::start(&mut feed, Link::Ethernet) {
         Ok(reader) => reader,
-        Err(_) => return Err(Fail::from("the file header is lawful")),
+        Err(_) => return None,
     };
     let mut records: u32 = 0;
     let mut last = 0;
@@ -109,31 +129,50 @@ fn counted(seed: u64, count: u32) -> Result<(u32, u32), Fail> {
         };
         let len = head.captured as usize;
         if len > body.len() || reader.read_body(&mut body[..len]).is_err() {
-            return Err(Fail::from("each body is whole"));
+            return None;
         }
         records = records.saturating_add(1);
         last = head.captured;
     }
-    Ok((records, last))
+    Some((records, last))
 }
 
-#[test]
-fn captures_read_to_their_ends(rt: HostRuntime) -> Result<(), Fail> {
-    // Record 0 of seed 0 is in a tunnel, with a full payload.
-    assert_eq!(rt; counted(0, 1)?, (1, 1304));
-    assert_eq!(rt; counted(1, 0)?, (0, 0));
-    assert_eq!(rt; counted(1, 2)?.0, 2);
-    assert_eq!(rt; counted(1, 999)?.0, 999);
-    Ok(())
-}
-
-#[test]
-fn a_fault_leaves_a_front(rt: HostRuntime) -> Result<(), Fail> {
-    // Call 0 writes the file header, and each later one a record.
-    for (fails, len) in [(0, 0), (1, 24), (2, 1314)] {
-        let (result, sink) = written(rt.alloc(), 1, 40, &[fails])?;
-        assert_eq!(rt; result, Err(WriteFault));
-        assert_eq!(rt; sink.bytes().len(), len);
+// How many records a reader finds.
+fn records(seed: u64, count: u32) -> Option<u32> {
+    match counted(seed, count) {
+        Some((records, _)) => Some(records),
+        None => None,
     }
-    Ok(())
+}
+
+#[test]
+fn captures_read_to_their_ends(rt: HostRuntime) {
+    // Record 0 of seed 0 is in a tunnel, with a full payload.
+    assert_same(
+        &rt,
+        &(
+            [counted(0, 1), counted(1, 0)],
+            [records(1, 2), records(1, 999)],
+        ),
+        &([Some((1, 1304)), Some((0, 0))], [Some(2), Some(999)]),
+    );
+}
+
+// What making a capture of 40 records answers where this call fails, and how many bytes are written.
+fn front(rt: &impl Abort, alloc: Global, fails: u64) -> (Result<(), WriteFault>, usize) {
+    let (result, len, _) = written(rt, alloc, 1, 40, &[fails]);
+    (result, len)
+}
+
+#[test]
+fn a_fault_leaves_a_front(rt: HostRuntime) {
+    let alloc = rt.alloc();
+    // Call 0 writes the file header, and each later one a record.
+    let fronts = [
+        front(&rt, alloc, 0),
+        front(&rt, alloc, 1),
+        front(&rt, alloc, 2),
+    ];
+    let failed = Err(WriteFault);
+    assert_same(&rt, &fronts, &[(failed, 0), (failed, 24), (failed, 1314)]);
 }

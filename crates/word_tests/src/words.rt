@@ -1,12 +1,13 @@
 //! Lines of words, taken and refused.
 
+use crate::seeing::assert_same;
 use frame_layout::Choice;
 use offload_words::{
     Command, MergeOptions, SegmentOptions, WordsFault, every_faultless_line_is_a_command,
     parse_words,
 };
 use std::alloc::{AllocError, Global};
-use std::test::Fail;
+use std::process::Abort;
 use tap_filter::Instr;
 
 // A word of a line, in which ~ stands for a space.
@@ -28,8 +29,14 @@ pub fn words(alloc: Global, line: &str) -> Result<Vec<String>, AllocError> {
     Ok(words)
 }
 
+// What is made of a line.
+fn parsed(rt: &impl Abort, alloc: Global, line: &str) -> Result<Command, WordsFault> {
+    let words = words(alloc, line).expect(rt, "no memory");
+    parse_words(alloc, &words)
+}
+
 /// The options of `merge` that take a number.
-#[derive(Clone, Copy, Debug, PartialEq, Eq)]
+#[derive(Clone, Copy, PartialEq)]
 struct Numbers {
     queues: u32,
     budget: u32,
@@ -80,85 +87,123 @@ fn is_usage(command: &Result<Command, WordsFault>) -> bool {
     }
 }
 
-#[test]
-fn merge_and_its_numbers(rt: HostRuntime) -> Result<(), Fail> {
-    let alloc = rt.alloc();
-    let all = Numbers {
-        queues: 3,
-        budget: 5,
-        blocks: 7,
-        taps: 2,
-        snap: 9,
-        segs: 11,
-    };
-    let budget = |budget| Numbers { budget, ..DEFAULTS };
-    let segs = |segs| Numbers { segs, ..DEFAULTS };
-    let taken = [
-        ("merge", DEFAULTS),
-        ("merge --queues 1", DEFAULTS),
-        (
-            "merge --queues 64",
-            Numbers {
-                queues: 64,
-                ..DEFAULTS
-            },
-        ),
-        ("merge --budget 1", budget(1)),
-        ("merge --budget 4096", budget(4096)),
-        ("merge --budget=64", DEFAULTS),
-        ("merge --budget +7", budget(7)),
-        ("merge --budget 007", budget(7)),
-        (
-            "merge --blocks 1",
-            Numbers {
-                blocks: 1,
-                ..DEFAULTS
-            },
-        ),
-        (
-            "merge --blocks=65536",
-            Numbers {
-                blocks: 65536,
-                ..DEFAULTS
-            },
-        ),
-        ("merge --taps 0", DEFAULTS),
-        (
-            "merge --taps 8",
-            Numbers {
-                taps: 8,
-                ..DEFAULTS
-            },
-        ),
-        (
-            "merge --snap 1",
-            Numbers {
-                snap: 1,
-                ..DEFAULTS
-            },
-        ),
-        (
-            "merge --snap 2048",
-            Numbers {
-                snap: 2048,
-                ..DEFAULTS
-            },
-        ),
-        ("merge --segs 1", segs(1)),
-        ("merge --segs=4096", DEFAULTS),
-        ("merge --", DEFAULTS),
-        ("merge --budget 2 --", budget(2)),
-        (
-            "merge --segs 11 --snap 9 --taps 2 --blocks 7 --budget 5 --queues 3",
-            all,
-        ),
-    ];
-    for (line, numbers) in taken {
-        let line = format!(in alloc; "offload {line}")?;
-        let command = parse_words(alloc, &words(alloc, &line)?);
-        assert!(rt; is_merge(&command, numbers), "at {line}");
+static MERGES: [(&str, Numbers); 19] = [
+    ("offload merge", DEFAULTS),
+    ("offload merge --queues 1", DEFAULTS),
+    (
+        "offload merge --queues 64",
+        Numbers {
+            queues: 64,
+            ..DEFAULTS
+        },
+    ),
+    (
+        "offload merge --budget 1",
+        Numbers {
+            budget: 1,
+            ..DEFAULTS
+        },
+    ),
+    (
+        "offload merge --budget 4096",
+        Numbers {
+            budget: 4096,
+            ..DEFAULTS
+        },
+    ),
+    ("offload merge --budget=64", DEFAULTS),
+    (
+        "offload merge --budget +7",
+        Numbers {
+            budget: 7,
+            ..DEFAULTS
+        },
+    ),
+    (
+        "offload merge --budget 007",
+        Numbers {
+            budget: 7,
+            ..DEFAULTS
+        },
+    ),
+    (
+        "offload merge --blocks 1",
+        Numbers {
+            blocks: 1,
+            ..DEFAULTS
+        },
+    ),
+    (
+        "offload merge --blocks=65536",
+        Numbers {
+            blocks: 65536,
+            ..DEFAULTS
+        },
+    ),
+    ("offload merge --taps 0", DEFAULTS),
+    (
+        "offload merge --taps 8",
+        Numbers {
+            taps: 8,
+            ..DEFAULTS
+        },
+    ),
+    (
+        "offload merge --snap 1",
+        Numbers {
+            snap: 1,
+            ..DEFAULTS
+        },
+    ),
+    (
+        "offload merge --snap 2048",
+        Numbers {
+            snap: 2048,
+            ..DEFAULTS
+        },
+    ),
+    (
+        "offload merge --segs 1",
+        Numbers {
+            segs: 1,
+            ..DEFAULTS
+        },
+    ),
+    ("offload merge --segs=4096", DEFAULTS),
+    ("offload merge --", DEFAULTS),
+    (
+        "offload merge --budget 2 --",
+        Numbers {
+            budget: 2,
+            ..DEFAULTS
+        },
+    ),
+    (
+        "offload merge --segs 11 --snap 9 --taps 2 --blocks 7 --budget 5 --queues 3",
+        Numbers {
+            queues: 3,
+            budget: 5,
+            blocks: 7,
+            taps: 2,
+            snap: 9,
+            segs: 11,
+        },
+    ),
+];
+
+// The first line that isn't `merge` with these numbers.
+fn first_other_merge(rt: &impl Abort, alloc: Global) -> &'static str {
+    for (line, numbers) in &MERGES {
+        if !is_merge(&parsed(rt, alloc, line), *numbers) {
+            return line;
+        }
     }
-    Ok(())
+    "none"
+}
+
+#[test]
+fn merge_and_its_numbers(rt: HostRuntime) {
+    assert_same(&rt, &first_other_merge(&rt, rt.alloc()), &"none");
 }
 
 fn is_segment(command: &Result<Command, WordsFault>, want: u32) -> bool {
@@ -175,30 +220,48 @@ fn is_make(command: &Result<Command, WordsFault>, seed: u64, count: u32) -> bool
     }
 }
 
+static SEGMENTS: [(&str, u32); 3] = [
+    ("offload segment", 8384),
+    ("offload segment --", 8384),
+    ("offload segment --blocks 1", 1),
+];
+
+static MAKES: [(&str, u64, u32); 5] = [
+    ("offload make", 1, 1000),
+    ("another-name make --seed 0 --count 0", 0, 0),
+    ("offload make --count 10000000", 1, 10000000),
+    ("offload make --seed=18446744073709551615", u64::MAX, 1000),
+    ("offload make --count 5 --seed +07", 7, 5),
+];
+
+// The first line that isn't `segment` with so many blocks.
+fn first_other_segment(rt: &impl Abort, alloc: Global) -> &'static str {
+    for (line, blocks) in &SEGMENTS {
+        if !is_segment(&parsed(rt, alloc, line), *blocks) {
+            return line;
+        }
+    }
+    "none"
+}
+
+// The first line that isn't `make` with this seed and so many records.
+fn first_other_make(rt: &impl Abort, alloc: Global) -> &'static str {
+    for (line, seed, count) in &MAKES {
+        if !is_make(&parsed(rt, alloc, line), *seed, *count) {
+            return line;
+        }
+    }
+    "none"
+}
+
 #[test]
-fn segment_and_make(rt: HostRuntime) -> Result<(), Fail> {
+fn segment_and_make(rt: HostRuntime) {
     let alloc = rt.alloc();
-    let segmented = [
-        ("offload segment", 8384),
-        ("offload segment --", 8384),
-        ("offload segment --blocks 1", 1),
-    ];
-    for (line, blocks) in segmented {
-        let command = parse_words(alloc, &words(alloc, line)?);
-        assert!(rt; is_segment(&command, blocks), "at {line}");
-    }
-    let made = [
-        ("offload make", 1, 1000),
-        ("another-name make --seed 0 --count 0", 0, 0),
-        ("offload make --count 10000000", 1, 10000000),
-        ("offload make --seed=18446744073709551615", u64::MAX, 1000),
-        ("offload make --count 5 --seed +07", 7, 5),
-    ];
-    for (line, seed, count) in made {
-        let command = parse_words(alloc, &words(alloc, line)?);
-        assert!(rt; is_make(&command, seed, count), "at {line}");
-    }
-    Ok(())
+    let first = (
+        first_other_segment(&rt, alloc),
+        first_other_make(&rt, alloc),
+    );
+    assert_same(&rt, &first, &("none", "none"));
 }
 
 fn is_check(
@@ -215,44 +278,48 @@ fn is_check(
     }
 }
 
-#[test]
-fn check_and_its_numbers(rt: HostRuntime) -> Result<(), Fail> {
-    let alloc = rt.alloc();
-    let lanes = Numbers {
-        queues: 4,
-        taps: 2,
-        segs: 17,
-        ..DEFAULTS
-    };
-    let taken = [
-        ("check", DEFAULTS, None, 1000),
-        ("check --seed 0", DEFAULTS, Some(0), 1000),
-        (
-            "check --seed=18446744073709551615",
-            DEFAULTS,
-            Some(u64::MAX),
-            1000,
-        ),
-        ("check --count 0", DEFAULTS, None, 0),
-        (
-            "check --count 10000000 --seed 1",
-            DEFAULTS,
-            Some(1),
-            10000000,
-        ),
-        (
-            "check --queues 4 --taps 2 --segs 17 --seed 7 --count 5",
-            lanes,
-            Some(7),
-            5,
-        ),
-    ];
-    for (line, numbers, seed, count) in taken {
-        let line = format!(in alloc; "offload {line}")?;
-        let command = parse_words(alloc, &words(alloc, &line)?);
-        assert!(rt; is_check(&command, numbers, seed, count), "at {line}");
+static CHECKS: [(&str, Numbers, Option<u64>, u32); 6] = [
+    ("offload check", DEFAULTS, None, 1000),
+    ("offload check --seed 0", DEFAULTS, Some(0), 1000),
+    (
+        "offload check --seed=18446744073709551615",
+        DEFAULTS,
+        Some(u64::MAX),
+        1000,
+    ),
+    ("offload check --count 0", DEFAULTS, None, 0),
+    (
+        "offload check --count 10000000 --seed 1",
+        DEFAULTS,
+        Some(1),
+        10000000,
+    ),
+    (
+        "offload check --queues 4 --taps 2 --segs 17 --seed 7 --count 5",
+        Numbers {
+            queues: 4,
+            taps: 2,
+            segs: 17,
+            ..DEFAULTS
+        },
+        Some(7),
+        5,
+    ),
+];
+
+// The first line that isn't `check` with these numbers.
+fn first_other_check(rt: &impl Abort, alloc: Global) -> &'static str {
+    for (line, numbers, seed, count) in &CHECKS {
+        if !is_check(&parsed(rt, alloc, line), *numbers, *seed, *count) {
+            return line;
+        }
     }
-    Ok(())
+    "none"
+}
+
+#[test]
+fn check_and_its_numbers(rt: HostRuntime) {
+    assert_same(&rt, &first_other_check(&rt, rt.alloc()), &"none");
 }
 
 /// The key with which the Toeplitz hash is shown in most descriptions.
@@ -283,10 +350,14 @@ fn has_table(command: &Result<Command, WordsFault>, len: usize, front: &[u8]) ->
 }
 
 /// A line, and its table's length and first entries.
-const TABLES: [(&str, usize, &[u8]); 7] = [
+static TABLES: [(&str, usize, &[u8]); 7] = [
     ("merge --rss KEY", 128, &[0; 128]),
     ("merge --rss KEY --queues 3", 128, &[0, 1, 2, 0, 1, 2, 0]),
-    ("check --queues=64 --rss=KEY", 128, &[0, 1, 2, 3, 4, 5, 6]),
+    (
+        "check --queues=64 --rss=6d5a56da255b0ec24167253d43a38fb0d0ca2bcbae7b30b477cb2da38030f20c6a42b73bbeac01fa",
+        128,
+        &[0, 1, 2, 3, 4, 5, 6],
+    ),
     ("merge --table 0 --rss KEY", 1, &[0]),
     (
         "check --queues 4 --rss KEY --table 3,0,003,1",
@@ -301,42 +372,56 @@ const TABLES: [(&str, usize, &[u8]); 7] = [
     ("merge --table LONG --rss KEY", 128, &[0; 128]),
 ];
 
+/// So many zeros, with commas between them.
+fn push_zeros(line: &mut String, count: u32) -> Result<(), AllocError> {
+    for _ in 1..count {
+        line.push_str("0,")?;
+    }
+    line.push('0')
+}
+
+fn push_word(line: &mut String, word: &str) -> Result<(), AllocError> {
+    match word {
+        "KEY" => line.push_str(KEY),
+        "LONG" => push_zeros(line, 128),
+        "TOO" => push_zeros(line, 129),
+        _ => line.push_str(word),
+    }
+}
+
 /// A line in which KEY, LONG and TOO stand for the key and for tables of 128 and of 129 entries.
-fn rss_line(alloc: Global, line: &str) -> Result<String, Fail> {
+fn rss_line(alloc: Global, line: &str) -> Result<String, AllocError> {
     let mut whole = String::from_str(alloc, "offload")?;
     for word in line.split(' ') {
         whole.push(' ')?;
-        match word {
-            "KEY" => whole.push_str(KEY)?,
-            "--rss=KEY" => {
-                whole.push_str("--rss=")?;
-                whole.push_str(KEY)?;
-            }
-            "LONG" | "TOO" => {
-                for _ in 0..if word == "LONG" { 127 } else { 128 } {
-                    whole.push_str("0,")?;
-                }
-                whole.push('0')?;
-            }
-            _ => whole.push_str(word)?,
-        }
+        push_word(&mut whole, word)?;
     }
     Ok(whole)
 }
 
-#[test]
-fn keys_and_tables(rt: HostRuntime) -> Result<(), Fail> {
-    let alloc = rt.alloc();
-    for (line, len, front) in TABLES {
-        let line = rss_line(alloc, line)?;
-        let command = parse_words(alloc, &words(alloc, &line)?);
-        assert!(rt; has_table(&command, len, front), "at {line}");
+/// What is made of such a line.
+fn rss_parsed(rt: &impl Abort, alloc: Global, line: &str) -> Result<Command, WordsFault> {
+    let line = rss_line(alloc, line).expect(rt, "no memory");
+    parsed(rt, alloc, &line)
+}
+
+/// The first line that has another table.
+fn first_other_table(rt: &impl Abort, alloc: Global) -> &'static str {
+    for (line, len, front) in &TABLES {
+        if !has_table(&rss_parsed(rt, alloc, line), *len, front) {
+            return line;
+        }
     }
-    Ok(())
+    "none"
+}
+
+#[test]
+fn keys_and_tables(rt: HostRuntime) {
+    assert_same(&rt, &first_other_table(&rt, rt.alloc()), &"none");
 }
 
 /// Keys and tables that are none, and tables without a key.
-const REFUSED_KEYS: [&str; 22] = [
+static REFUSED_KEYS: [&str; 22] = [
     "merge --table 0",
     "check --queues 2 --table 0,1",
     "merge --rss KEY --table 1",
@@ -363,28 +448,42 @@ const REFUSED_KEYS: [&str; 22] = [
 
 /// What stands in the place of the key: it is a digit short, a digit too long, has a capital, a letter behind f, and a
 /// character of two bytes.
-const NO_KEYS: [&str; 5] = [
-    "6d5a56da255b0ec24167253d43a38fb0d0ca2bcbae7b30b477cb2da38030f20c6a42b73bbeac01f",
-    "6d5a56da255b0ec24167253d43a38fb0d0ca2bcbae7b30b477cb2da38030f20c6a42b73bbeac01fa0",
-    "6D5a56da255b0ec24167253d43a38fb0d0ca2bcbae7b30b477cb2da38030f20c6a42b73bbeac01fa",
-    "6d5a56da255b0ec24167253d43a38fb0d0ca2bcbae7b30b477cb2da38030f20c6a42b73bbeac01fg",
-    "6d5a56da255b0ec24167253d43a38fb0d0ca2bcbae7b30b477cb2da38030f20c6a42b73bbeac01é",
+static NO_KEYS: [&str; 5] = [
+    "offload merge --rss 6d5a56da255b0ec24167253d43a38fb0d0ca2bcbae7b30b477cb2da38030f20c6a42b73bbeac01f",
+    "offload merge --rss 6d5a56da255b0ec24167253d43a38fb0d0ca2bcbae7b30b477cb2da38030f20c6a42b73bbeac01fa0",
+    "offload merge --rss 6D5a56da255b0ec24167253d43a38fb0d0ca2bcbae7b30b477cb2da38030f20c6a42b73bbeac01fa",
+    "offload merge --rss 6d5a56da255b0ec24167253d43a38fb0d0ca2bcbae7b30b477cb2da38030f20c6a42b73bbeac01fg",
+    "offload merge --rss 6d5a56da255b0ec24167253d43a38fb0d0ca2bcbae7b30b477cb2da38030f20c6a42b73bbeac01é",
 ];
 
+/// The first line of keys and tables that is taken.
+fn first_taken_key(rt: &impl Abort, alloc: Global) -> &'static str {
+    for line in &REFUSED_KEYS {
+        if !is_usage(&rss_parsed(rt, alloc, line)) {
+            return line;
+        }
+    }
+    "none"
+}
+
+/// The first of these lines that is taken.
+fn first_taken<'a>(rt: &impl Abort, alloc: Global, lines: &[&'a str]) -> &'a str {
+    for line in lines {
+        if !is_usage(&parsed(rt, alloc, line)) {
+            return line;
+        }
+    }
+    "none"
+}
+
 #[test]
-fn refused_keys_and_tables(rt: HostRuntime) -> Result<(), Fail> {
+fn refused_keys_and_tables(rt: HostRuntime) {
     let alloc = rt.alloc();
-    for line in REFUSED_KEYS {
-        let line = rss_line(alloc, line)?;
-        let command = parse_words(alloc, &words(alloc, &line)?);
-        assert!(rt; is_usage(&command), "at {line}");
-    }
-    for key in NO_KEYS {
-        let line = format!(in alloc; "offload merge --rss {key}")?;
-        let command = parse_words(alloc, &words(alloc, &line)?);
-        assert!(rt; is_usage(&command), "at {key}");
-    }
-    Ok(())
+    let first = (
+        first_taken_key(&rt, alloc),
+        first_taken(&rt, alloc, &NO_KEYS),
+    );
+    assert_same(&rt, &first, &("none", "none"));
 }
 
 fn has_filter(command: &Result<Command, WordsFault>, want: &[Instr]) -> bool {
@@ -432,120 +531,125 @@ const TCP: [Instr; 4] = [
     },
 ];
 
-#[test]
-fn filters(rt: HostRuntime) -> Result<(), Fail> {
-    let alloc = rt.alloc();
-    let taken = [
-        ("offload merge --filter 1,6~0~0~40", FORTY.as_slice()),
-        (
-            "offload check --filter=1,6~0~0~40 --taps 1",
-            FORTY.as_slice(),
-        ),
-        (
-            "offload merge --filter 4,48~0~0~23,21~0~1~6,6~0~0~262144,6~0~0~0",
-            TCP.as_slice(),
-        ),
-    ];
-    for (line, want) in taken {
-        let command = parse_words(alloc, &words(alloc, line)?);
-        assert!(rt; has_filter(&command, want), "at {line}");
+static FILTERS: [(&str, &[Instr]); 3] = [
+    ("offload merge --filter 1,6~0~0~40", &FORTY),
+    ("offload check --filter=1,6~0~0~40 --taps 1", &FORTY),
+    (
+        "offload merge --filter 4,48~0~0~23,21~0~1~6,6~0~0~262144,6~0~0~0",
+        &TCP,
+    ),
+];
+
+static REFUSED_FILTERS: [&str; 14] = [
+    "offload merge --filter 0",
+    "offload merge --filter 1,255~0~0~0",
+    "offload merge --filter 1,21~0~0~6",
+    "offload merge --filter 1,52~0~0~0",
+    "offload merge --filter 1,2~0~0~16",
+    "offload merge --filter 1,135~0~0~0",
+    "offload merge --filter 1,6~0~0",
+    "offload check --filter 2,6~0~0~40",
+    "offload check --filter ",
+    "offload check --filter tcp",
+    "offload merge --filter",
+    "offload merge --filter 1,6~0~0~40 --filter 1,6~0~0~40",
+    "offload segment --filter 1,6~0~0~40",
+    "offload make --filter 1,6~0~0~40",
+];
+
+// The first line that has another filter.
+fn first_other_filter(rt: &impl Abort, alloc: Global) -> &'static str {
+    for (line, want) in &FILTERS {
+        if !has_filter(&parsed(rt, alloc, line), want) {
+            return line;
+        }
     }
-    let refused = [
-        "merge --filter 0",
-        "merge --filter 1,255~0~0~0",
-        "merge --filter 1,21~0~0~6",
-        "merge --filter 1,52~0~0~0",
-        "merge --filter 1,2~0~0~16",
-        "merge --filter 1,135~0~0~0",
-        "merge --filter 1,6~0~0",
-        "check --filter 2,6~0~0~40",
-        "check --filter ",
-        "check --filter tcp",
-        "merge --filter",
-        "merge --filter 1,6~0~0~40 --filter 1,6~0~0~40",
-        "segment --filter 1,6~0~0~40",
-        "make --filter 1,6~0~0~40",
-    ];
-    for line in refused {
-        let line = format!(in alloc; "offload {line}")?;
-        let command = parse_words(alloc, &words(alloc, &line)?);
-        assert!(rt; is_usage(&command), "at {line}");
-    }
-    Ok(())
+    "none"
 }
 
 #[test]
-fn refused_lines(rt: HostRuntime) -> Result<(), Fail> {
+fn filters(rt: HostRuntime) {
     let alloc = rt.alloc();
-    let refused = [
-        "offload make --count 10000001",
-        "offload make --seed 18446744073709551616",
-        "offload make --seed -1",
-        "offload make --budget 2",
-        "offload make --blocks 2",
-        "offload make 1",
-        "offload make --help",
-        "offload",
-        "offload --help",
-        "offload --version",
-        "offload help",
-        "offload merge --help",
-        "offload merge -h",
-        "offload merge --version",
-        "offload frobnicate",
-        "offload segment --budget 2",
-        "offload segment --queues 2",
-        "offload segment --blocks 0",
-        "offload segment --help",
-        "offload segment merge",
-        "offload merge --queues 0",
-        "offload merge --queues 65",
-        "offload merge --budget 0",
-        "offload merge --budget 4097",
-        "offload merge --blocks 0",
-        "offload merge --blocks 65537",
-        "offload merge --taps 9",
-        "offload merge --taps -1",
-        "offload merge --snap 0",
-        "offload merge --snap 2049",
-        "offload merge --segs 0",
-        "offload merge --segs 4097",
-        "offload merge --segs -1",
-        "offload merge --segs 2 --segs 2",
-        "offload segment --segs 2",
-        "offload make --segs 2",
-        "offload merge --budget 18446744073709551616",
-        "offload merge --budget -0",
-        "offload merge --budget",
-        "offload merge --budget ",
-        "offload merge --budget=",
-        "offload merge --budget 0x1",
-        "offload merge --budget 1_0",
-        "offload merge --queues 2 --queues 2",
-        "offload merge --budget 2 --budget 2",
-        "offload merge --blocks 2 --blocks 3",
-        "offload merge --taps 1 --taps=1",
-        "offload merge --snap 64 --taps 1 --snap 64",
-        "offload merge --seed 1",
-        "offload check --queues 65",
-        "offload check --snap 0",
-        "offload check --count 10000001",
-        "offload check --seed 18446744073709551616",
-        "offload check --seed",
-        "offload check --seed 1 --seed 1",
-        "offload check --help",
-        "offload merge --budget 2 3",
-        "offload merge -- 2",
-        "offload merge merge",
-        "offload --budget 2 merge",
-        "offload ",
-    ];
-    for line in refused {
-        let command = parse_words(alloc, &words(alloc, line)?);
-        assert!(rt; is_usage(&command), "at {line}");
-    }
+    let first = (
+        first_other_filter(&rt, alloc),
+        first_taken(&rt, alloc, &REFUSED_FILTERS),
+    );
+    assert_same(&rt, &first, &("none", "none"));
+}
+
+static REFUSED_LINES: [&str; 61] = [
+    "offload make --count 10000001",
+    "offload make --seed 18446744073709551616",
+    "offload make --seed -1",
+    "offload make --budget 2",
+    "offload make --blocks 2",
+    "offload make 1",
+    "offload make --help",
+    "offload",
+    "offload --help",
+    "offload --version",
+    "offload help",
+    "offload merge --help",
+    "offload merge -h",
+    "offload merge --version",
+    "offload frobnicate",
+    "offload segment --budget 2",
+    "offload segment --queues 2",
+    "offload segment --blocks 0",
+    "offload segment --help",
+    "offload segment merge",
+    "offload merge --queues 0",
+    "offload merge --queues 65",
+    "offload merge --budget 0",
+    "offload merge --budget 4097",
+    "offload merge --blocks 0",
+    "offload merge --blocks 65537",
+    "offload merge --taps 9",
+    "offload merge --taps -1",
+    "offload merge --snap 0",
+    "offload merge --snap 2049",
+    "offload merge --segs 0",
+    "offload merge --segs 4097",
+    "offload merge --segs -1",
+    "offload merge --segs 2 --segs 2",
+    "offload segment --segs 2",
+    "offload make --segs 2",
+    "offload merge --budget 18446744073709551616",
+    "offload merge --budget -0",
+    "offload merge --budget",
+    "offload merge --budget ",
+    "offload merge --budget=",
+    "offload merge --budget 0x1",
+    "offload merge --budget 1_0",
+    "offload merge --queues 2 --queues 2",
+    "offload merge --budget 2 --budget 2",
+    "offload merge --blocks 2 --blocks 3",
+    "offload merge --taps 1 --taps=1",
+    "offload merge --snap 64 --taps 1 --snap 64",
+    "offload merge --seed 1",
+    "offload check --queues 65",
+    "offload check --snap 0",
+    "offload check --count 10000001",
+    "offload check --seed 18446744073709551616",
+    "offload check --seed",
+    "offload check --seed 1 --seed 1",
+    "offload check --help",
+    "offload merge --budget 2 3",
+    "offload merge -- 2",
+    "offload merge merge",
+    "offload --budget 2 merge",
+    "offload ",
+];
+
+#[test]
+fn refused_lines(rt: HostRuntime) {
+    let alloc = rt.alloc();
     let none: Vec<String> = Vec::new(alloc);
-    assert!(rt; is_usage(&parse_words(alloc, &none)));
+    let is_refused = is_usage(&parse_words(alloc, &none));
+    assert_same(
+        &rt,
+        &(first_taken(&rt, alloc, &REFUSED_LINES), is_refused),
+        &("none", true),
+    );
     every_faultless_line_is_a_command();
-    Ok(())
 }
