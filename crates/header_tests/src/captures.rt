@@ -4,6 +4,7 @@
 
 ghost use Rattle.std.specs.Prelude.{◌≤◌, ◌^◌};
 
+use crate::seeing::assert_same;
 use off_io::{Feed, MemSink, MemSource};
 use pcap_io::{
     AnyHead, CapFault, CapKind, CaptureReader, FRAME_LIMIT, FileHead, InFault, Link, OffHead,
@@ -51,9 +52,10 @@ fn numbers_end(rt: HostRuntime) {
         offset: 41,
         number: 4294967296,
     });
-    assert_eq!(rt;
-        [read_two(&rt, alloc, 0), read_two(&rt, alloc, 4294967295)],
-        [(0, 24, Ok(Some(41))), (4294967295, 24, Err(too_many))]
+    assert_same(
+        &rt,
+        &[read_two(&rt, alloc, 0), read_two(&rt, alloc, 4294967295)],
+        &[(0, 24, Ok(Some(41))), (4294967295, 24, Err(too_many))],
     );
 }
 
@@ -78,7 +80,11 @@ fn headers_are_written(rt: HostRuntime) {
         write_file_head(&mut sink, &head, Link::Offload),
         write_rec_head(&mut sink, &head, 1, 2, 15, 17),
     ];
-    assert_eq!(rt; (answers, sink.bytes()), ([Ok(()); 2], HEADERS.as_slice()));
+    assert_same(
+        &rt,
+        &(answers, sink.bytes()),
+        &([Ok(()); 2], HEADERS.as_slice()),
+    );
 }
 
 /// The fields of an offload header of version 2: 70,000 packets of at most 131,072 bytes.
@@ -108,9 +114,10 @@ fn offload_headers_of_both_versions(rt: HostRuntime) {
         OffHead2::read(&second),
         AnyHead::V2(FIELDS).fields(),
     ];
-    assert_eq!(rt;
-        (read, head.bytes(), FIELDS.bytes(), FRAME_LIMIT),
-        ([fields, FIELDS, FIELDS], first, second, 262_144)
+    assert_same(
+        &rt,
+        &(read, head.bytes(), FIELDS.bytes(), FRAME_LIMIT),
+        &([fields, FIELDS, FIELDS], first, second, 262_144),
     );
 }
 
@@ -141,7 +148,7 @@ fn versions_by_the_first_byte(rt: HostRuntime) {
         is_read_as(2, 16, true),
         is_read_as(3, 12, false),
     ];
-    assert_eq!(rt; (read, version_of(&[])), ([true; 4], None));
+    assert_same(&rt, &(read, version_of(&[])), &([true; 4], None));
 }
 
 #[test]

@@ -1,6 +1,7 @@
 //! Sums from RFC 1071, section 3, and at the ends of the range; the lanes beside a sum word by word.
 ghost use Rattle.std.specs.Prelude.{◌<◌, ◌^◌, vec_len};
 
+use crate::seeing::assert_same;
 use inet_sum::{Partial, checksum, fold_of, udp_checksum};
 use std::alloc::Global;
 use std::process::Abort;
@@ -18,9 +19,10 @@ fn sums_of_whole_lists(rt: HostRuntime) {
         udp_checksum(&[0xff, 0xff]),
         udp_checksum(&WORDS),
     ];
-    assert_eq!(rt;
-        sums,
-        [0xddf2, 0x220d, 0xffff, 0x0000, 0xfeff, 0xffff, 0x220d]
+    assert_same(
+        &rt,
+        &sums,
+        &[0xddf2, 0x220d, 0xffff, 0x0000, 0xfeff, 0xffff, 0x220d],
     );
 }
 
@@ -30,7 +32,7 @@ fn a_sum_of_many_words(rt: HostRuntime) {
     let mut bytes = [0x12; 515];
     bytes[256] = 0x34;
     bytes[514] = 0x56;
-    assert_eq!(rt; fold_of(&bytes), 0x9c24);
+    assert_same(&rt, &fold_of(&bytes), &0x9c24);
 }
 
 #[test]
@@ -43,9 +45,10 @@ fn sums_of_pieces(rt: HostRuntime) {
     let all = sum.joined(rest);
     sum.add_number(0xf4f5);
     sum.add_number(0xf6f7);
-    assert_eq!(rt;
-        (all.len(), all.fold(), all.checksum(), sum.checksum()),
-        (8, 0xddf2, 0x220d, 0x220d)
+    assert_same(
+        &rt,
+        &(all.len(), all.fold(), all.checksum(), sum.checksum()),
+        &(8, 0xddf2, 0x220d, 0x220d),
     );
 }
 
@@ -87,9 +90,10 @@ fn a_million_and_one_bytes_ff(rt: HostRuntime) {
         in_pieces(&bytes, 64),
         in_pieces(&bytes, 65),
     ];
-    assert_eq!(rt;
-        (bytes.len(), checksum(&bytes), sums),
-        (1_000_001, 0x00ff, [(1_000_001, 0x00ff); 3])
+    assert_same(
+        &rt,
+        &(bytes.len(), checksum(&bytes), sums),
+        &(1_000_001, 0x00ff, [(1_000_001, 0x00ff); 3]),
     );
 }
 
@@ -127,5 +131,5 @@ fn every_length_at_every_place(rt: HostRuntime) {
         state = state.wrapping_mul(1_664_525).wrapping_add(1_013_904_223);
         *byte = (state >> 24) as u8;
     }
-    assert_eq!(rt; first_other(&buffer), None);
+    assert_same(&rt, &first_other(&buffer), &None);
 }

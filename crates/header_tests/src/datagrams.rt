@@ -3,6 +3,7 @@
 ghost use Rattle.std.specs.Prelude.{◌<◌, ◌^◌, length};
 
 use crate::layouts::{has_flow, has_shape, is_of_none, with};
+use crate::seeing::assert_same;
 use frame_layout::{Leaf, candidate};
 use inet_sum::Partial;
 
@@ -65,7 +66,7 @@ fn shapes_of_datagrams(rt: HostRuntime) {
         is_of_tunnels(0x12, 0xb5),
         is_of_tunnels(0x21, 0x18),
     ];
-    assert_eq!(rt; are_so, [true; 8]);
+    assert_same(&rt, &are_so, &[true; 8]);
 }
 
 /// What a candidate says of its last header: what it is, whether it has no sum, its flags; and the bytes behind it.
@@ -145,8 +146,9 @@ fn datagrams_that_may_be_merged(rt: HostRuntime) {
         said(&EMPTY),
         said(&inner),
     ];
-    assert_eq!(rt;
-        (first_other(&CASES), seen, has_shape(&EMPTY, 3, 42)),
-        ("none", [SUMMED, SUMMED, SUMMED, None, UNSUMMED], true)
+    assert_same(
+        &rt,
+        &(first_other(&CASES), seen, has_shape(&EMPTY, 3, 42)),
+        &("none", [SUMMED, SUMMED, SUMMED, None, UNSUMMED], true),
     );
 }

@@ -3,6 +3,7 @@ ghost use Rattle.std.specs.Prelude.{◌≡◌, ◌+◌, length};
 
 use crate::datagrams::IN_VXLAN;
 use crate::layouts::{first_with_shape, has_flow, has_shape, is_candidate, with};
+use crate::seeing::assert_same;
 use frame_layout::key;
 
 /// Ethernet, IPv4, GRE without a key, IPv4, TCP, and four bytes.
@@ -72,7 +73,7 @@ fn shapes_and_flows(rt: HostRuntime) {
         is_candidate(&other),
         key(&other) != key(&KEYED),
     ];
-    assert_eq!(rt; are_so, [true; 8]);
+    assert_same(&rt, &are_so, &[true; 8]);
 }
 
 static CASES: [(&str, [(usize, u8); 2]); 7] = [
@@ -97,9 +98,10 @@ fn tunnels_that_have_no_shape(rt: HostRuntime) {
         has_shape(&with(DATAGRAM, &[(64, 0x12), (65, 0xb5)]), 0, 0),
         has_shape(&with(DATAGRAM, &[(64, 0x21), (65, 0x18)]), 0, 0),
     ];
-    assert_eq!(rt;
-        (first_with_shape(PLAIN, &CASES), have_none),
-        ("none", [true; 6])
+    assert_same(
+        &rt,
+        &(first_with_shape(PLAIN, &CASES), have_none),
+        &("none", [true; 6]),
     );
 }
 
@@ -125,5 +127,5 @@ fn tunnels_in_tunnels(rt: HostRuntime) {
         has_shape(&joined::<96>(vxlan, &IN_VXLAN[50..]), 7, 92),
         has_shape(&joined::<132>(vxlan, &PLAIN), 0, 0),
     ];
-    assert_eq!(rt; are_so, [true; 5]);
+    assert_same(&rt, &are_so, &[true; 5]);
 }

@@ -1,4 +1,5 @@
 //! A frame with a service tag and a customer tag, written by hand after IEEE 802.1Q.
+use crate::seeing::assert_same;
 use eth_vlan::{EthView, TagView, is_tag};
 
 static FRAME: [u8; 22] = [
@@ -24,12 +25,13 @@ fn fields_of_a_tagged_frame(rt: HostRuntime) {
         [0x02, 0x00, 0x00, 0x00, 0x00, 0x02],
         [0x02, 0x00, 0x00, 0x00, 0x00, 0x01],
     ];
-    assert_eq!(rt;
-        (ethernet_fields(), [tag_fields(14), tag_fields(18)]),
-        (
+    assert_same(
+        &rt,
+        &(ethernet_fields(), [tag_fields(14), tag_fields(18)]),
+        &(
             Some((ends, 0x88a8)),
-            [Some([0x2005, 0x8100]), Some([0x0064, 0x0800])]
-        )
+            [Some([0x2005, 0x8100]), Some([0x0064, 0x0800])],
+        ),
     );
 }
 
@@ -48,11 +50,12 @@ fn headers_that_are_cut(rt: HostRuntime) {
         is_tag(0x9100),
         is_tag(0x0800),
     ];
-    assert_eq!(rt;
-        (there, tags),
-        (
+    assert_same(
+        &rt,
+        &(there, tags),
+        &(
             [false, false, true, false, false],
-            [true, true, false, false]
-        )
+            [true, true, false, false],
+        ),
     );
 }

@@ -1,6 +1,7 @@
 //! Frames whose bytes were computed by a separate program.
 ghost use Rattle.std.specs.Prelude.{◌≡◌, ◌+◌, ◌<◌, ◌^◌, length};
 
+use crate::seeing::assert_same;
 use frame_layout::{Header, Layer};
 use header_fill::merge_headers;
 use inet_sum::Partial;
@@ -49,7 +50,7 @@ fn plain(rt: HostRuntime) {
     let mut head = PLAIN;
     let payload = sum_of(&[0x61, 0x62, 0x63, 0x64], &[0x65, 0x66]);
     merge_headers(&mut head, &headers, 0x18, payload);
-    assert_eq!(rt; head, PLAIN_MERGED);
+    assert_same(&rt, &head, &PLAIN_MERGED);
 }
 
 /// The sum of payloads of three and of two bytes.
@@ -116,7 +117,11 @@ fn tunnelled(rt: HostRuntime) {
         tunnelled_merged(TUNNELLED),
         tunnelled_merged(without_sum(TUNNELLED)),
     ];
-    assert_eq!(rt; merged, [TUNNELLED_MERGED, without_sum(TUNNELLED_MERGED)]);
+    assert_same(
+        &rt,
+        &merged,
+        &[TUNNELLED_MERGED, without_sum(TUNNELLED_MERGED)],
+    );
 }
 
 /// Ethernet, IPv4, UDP.
@@ -150,7 +155,11 @@ fn datagrams(rt: HostRuntime) {
         datagram_merged(DATAGRAM, 0x10),
         datagram_merged(without_sum(DATAGRAM), 0),
     ];
-    assert_eq!(rt; merged, [DATAGRAM_MERGED, without_sum(DATAGRAM_MERGED)]);
+    assert_same(
+        &rt,
+        &merged,
+        &[DATAGRAM_MERGED, without_sum(DATAGRAM_MERGED)],
+    );
 }
 
 /// Ethernet, IPv4, GRE with a key, IPv4, TCP.
@@ -184,5 +193,5 @@ fn encapsulated(rt: HostRuntime) {
     ];
     let mut head = ENCAPSULATED;
     merge_headers(&mut head, &headers, 0x18, three_and_two());
-    assert_eq!(rt; head, ENCAPSULATED_MERGED);
+    assert_same(&rt, &head, &ENCAPSULATED_MERGED);
 }

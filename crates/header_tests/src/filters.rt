@@ -2,6 +2,7 @@
 //! `bpf_filter` of libpcap 1.10 on the same frame, and the last texts are what tcpdump 4.99 prints by `-ddd`.
 ghost use Rattle.std.specs.Prelude.{◌≡◌, ◌+◌, ◌<◌, ◌^◌, ◌++◌, length};
 
+use crate::seeing::assert_same;
 use std::alloc::Global;
 use std::process::Abort;
 use tap_filter::{Bytes, FilterFault, Instr, Program, never_stuck, parse_filter};
@@ -249,27 +250,27 @@ fn first_wrong<'a>(alloc: Global, rows: &[(&'a str, u32)]) -> &'a str {
 
 #[test]
 fn loads_of_the_frame(rt: HostRuntime) {
-    assert_eq!(rt; first_wrong(rt.alloc(), &LOADS), "");
+    assert_same(&rt, &first_wrong(rt.alloc(), &LOADS), &"");
 }
 
 #[test]
 fn registers_and_memory(rt: HostRuntime) {
-    assert_eq!(rt; first_wrong(rt.alloc(), &REGISTERS), "");
+    assert_same(&rt, &first_wrong(rt.alloc(), &REGISTERS), &"");
 }
 
 #[test]
 fn arithmetic_modulo_2_to_32(rt: HostRuntime) {
-    assert_eq!(rt; first_wrong(rt.alloc(), &ARITHMETIC), "");
+    assert_same(&rt, &first_wrong(rt.alloc(), &ARITHMETIC), &"");
 }
 
 #[test]
 fn jumps_and_returns(rt: HostRuntime) {
-    assert_eq!(rt; first_wrong(rt.alloc(), &JUMPS), "");
+    assert_same(&rt, &first_wrong(rt.alloc(), &JUMPS), &"");
 }
 
 #[test]
 fn expressions_of_tcpdump(rt: HostRuntime) {
-    assert_eq!(rt; first_wrong(rt.alloc(), &EXPRESSIONS), "");
+    assert_same(&rt, &first_wrong(rt.alloc(), &EXPRESSIONS), &"");
     never_stuck();
 }
 
@@ -364,7 +365,7 @@ fn first_unlike<'a>(alloc: Global, texts: &[&'a str], fault: Option<FilterFault>
 
 #[test]
 fn faults_in_their_order(rt: HostRuntime) {
-    assert_eq!(rt; first_other(rt.alloc(), &FAULTS), "none");
+    assert_same(&rt, &first_other(rt.alloc(), &FAULTS), &"none");
 }
 
 #[test]
@@ -372,7 +373,7 @@ fn texts_that_are_read(rt: HostRuntime) {
     let bad = Some(FilterFault::BadText);
     let first_taken = first_unlike(rt.alloc(), &NO_TEXTS, bad);
     let first_refused = first_unlike(rt.alloc(), &TAKEN, None);
-    assert_eq!(rt; (first_taken, first_refused), ("none", "none"));
+    assert_same(&rt, &(first_taken, first_refused), &("none", "none"));
 }
 
 /// What is wrong with so many times the same return, and how many instructions come back.
@@ -398,7 +399,7 @@ fn the_longest_program(rt: HostRuntime) {
         fault_of_returns(&rt, alloc, 4097),
     ];
     let too_many = FilterFault::BadLength { count: 4097 };
-    assert_eq!(rt; faults, [None, Some((4097, too_many))]);
+    assert_same(&rt, &faults, &[None, Some((4097, too_many))]);
 }
 
 static INSTRUCTIONS: [Instr; 2] = [
@@ -419,7 +420,7 @@ static INSTRUCTIONS: [Instr; 2] = [
 #[test]
 fn instructions_of_a_text(rt: HostRuntime) {
     let code = parse_filter(rt.alloc(), "2,37 1 255 4294967295,65535 2 3 4").expect(&rt, "a text");
-    assert_eq!(rt; code.as_slice(), INSTRUCTIONS.as_slice());
+    assert_same(&rt, &code.as_slice(), &INSTRUCTIONS.as_slice());
 }
 
 /// Two pieces, one behind the other.
@@ -464,5 +465,5 @@ fn first_other_cut(program: &Program) -> Option<usize> {
 #[test]
 fn a_cut_changes_no_value(rt: HostRuntime) {
     let program = Program::of_text(rt.alloc(), "2,32 0 0 26,22 0 0 0").expect(&rt, "a program");
-    assert_eq!(rt; first_other_cut(&program), None);
+    assert_same(&rt, &first_other_cut(&program), &None);
 }

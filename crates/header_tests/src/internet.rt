@@ -1,4 +1,5 @@
 //! The IPv4 header of a small TCP segment, and an IPv6 header written by hand after RFC 8200, section 3.
+use crate::seeing::assert_same;
 use ip_headers::{Ip4View, Ip6View, set_header_sum, set_id, set_payload_len, set_total};
 
 static IP4: [u8; 20] = [
@@ -33,12 +34,13 @@ fn fields_of_ip4(rt: HostRuntime) {
     set_id(&mut bytes, 0, 0x5678);
     set_header_sum(&mut bytes, 0, 0x9abc);
     let ends = [[10, 0, 0, 1], [10, 0, 0, 2]];
-    assert_eq!(rt;
-        [ip4_fields(&IP4), ip4_fields(&bytes)],
-        [
+    assert_same(
+        &rt,
+        &[ip4_fields(&IP4), ip4_fields(&bytes)],
+        &[
             Some(([44, 100, 0x4000, 0x2666], [64, 6], ends)),
             Some(([0x1234, 0x5678, 0x4000, 0x9abc], [64, 6], ends)),
-        ]
+        ],
     );
 }
 
@@ -60,7 +62,7 @@ fn fields_of_ip6(rt: HostRuntime) {
         [0x20, 0x01, 0x0d, 0xb8, 0, 0, 0, 0, 0, 0, 0, 0, 0, 0, 0, 1],
         [0x20, 0x01, 0x0d, 0xb8, 0, 0, 0, 0, 0, 0, 0, 0, 0, 0, 1, 2],
     ];
-    assert_eq!(rt; ip6_fields(&bytes), Some((0x5678, [17, 64], ends)));
+    assert_same(&rt, &ip6_fields(&bytes), &Some((0x5678, [17, 64], ends)));
 }
 
 /// Whether the IPv4 header is one with this first byte, and the IPv6 header.
@@ -92,11 +94,12 @@ fn headers_that_are_not_there(rt: HostRuntime) {
         are_headers(0x45),
     ];
     let none = (false, false);
-    assert_eq!(rt;
-        (cut, with_first),
-        (
+    assert_same(
+        &rt,
+        &(cut, with_first),
+        &(
             [false; 3],
-            [none, none, (false, true), none, none, none, (true, false)]
-        )
+            [none, none, (false, true), none, none, none, (true, false)],
+        ),
     );
 }

@@ -1,6 +1,7 @@
 //! Frames, sums and keys that a separate program computed from the RFCs.
 ghost use Rattle.std.specs.Prelude.{◌≡◌, ◌<◌, ◌^◌, length};
 
+use crate::seeing::assert_same;
 use frame_layout::{Key, candidate, candidate_in, ip6_length, key, queue_of, shape};
 use inet_sum::Partial;
 use std::alloc::Global;
@@ -121,7 +122,7 @@ fn a_worked_segment(rt: HostRuntime) {
     ];
     let other = with(FIRST, &[(35, 0x41)]);
     let queues = [queue(&FIRST), queue(&SECOND), queue(&other)];
-    assert_eq!(rt; (are_so, queues), ([true; 5], [0, 0, 1]));
+    assert_same(&rt, &(are_so, queues), &([true; 5], [0, 0, 1]));
 }
 
 #[test]
@@ -134,7 +135,7 @@ fn keys_that_are_alike(rt: HostRuntime) {
         flow == others[2],
         others[2] == Key::other(),
     ];
-    assert_eq!(rt; are_alike, [true, false, false, true]);
+    assert_same(&rt, &are_alike, &[true, false, false, true]);
 }
 
 #[test]
@@ -145,9 +146,10 @@ fn queues_of_keys(rt: HostRuntime) {
         queue_of(&Key::other(), 5),
         queue_of(&key(&TUNNEL), 64),
     ];
-    assert_eq!(rt;
-        (queues, has_flow(&TUNNEL, &TUNNEL_FLOW)),
-        ([1, 0, 0, 63], true)
+    assert_same(
+        &rt,
+        &(queues, has_flow(&TUNNEL, &TUNNEL_FLOW)),
+        &([1, 0, 0, 63], true),
     );
 }
 
@@ -170,9 +172,10 @@ fn a_tunnel_in_two_pieces(rt: HostRuntime) {
     };
     let layout = &segment.layout;
     let seen = (layout.headers().len(), layout.payload_at());
-    assert_eq!(rt;
-        (seen, segment.payload_len, segment.flags, least_with_shape()),
-        ((11, 200), 3, 0x19, 200)
+    assert_same(
+        &rt,
+        &(seen, segment.payload_len, segment.flags, least_with_shape()),
+        &((11, 200), 3, 0x19, 200),
     );
 }
 
@@ -202,7 +205,7 @@ fn headers_of(original: u32) -> Option<usize> {
 fn a_tunnel_without_a_sum(rt: HostRuntime) {
     let counts = [headers_of(113), headers_of(112), headers_of(114)];
     let with_sum = is_candidate(&with(UNSUMMED, &[(41, 1)]));
-    assert_eq!(rt; (counts, with_sum), ([Some(8), None, None], false));
+    assert_same(&rt, &(counts, with_sum), &([Some(8), None, None], false));
 }
 
 type Row<'a, const N: usize> = (&'a str, [(usize, u8); N]);
@@ -276,7 +279,11 @@ fn segments_that_are_no_candidates(rt: HostRuntime) {
         first_other(&CANDIDATES, true),
     );
     let of_empty = [shape(&EMPTY).is_some(), is_candidate(&EMPTY)];
-    assert_eq!(rt; (taken, refused, of_empty), ("none", "none", [true, false]));
+    assert_same(
+        &rt,
+        &(taken, refused, of_empty),
+        &("none", "none", [true, false]),
+    );
 }
 
 static NO_SHAPES: [Row<1>; 8] = [
@@ -319,7 +326,7 @@ pub fn first_with_shape<'a, const N: usize, const M: usize>(
 fn frames_that_have_no_shape(rt: HostRuntime) {
     let plain = first_with_shape(FIRST, &NO_SHAPES);
     let tunnelled = first_with_shape(TUNNEL, &NO_TUNNELS);
-    assert_eq!(rt; (plain, tunnelled), ("none", "none"));
+    assert_same(&rt, &(plain, tunnelled), &("none", "none"));
 }
 
 /// Ethernet, IPv6 and TCP, before 65,515 bytes of zeros.
@@ -380,8 +387,9 @@ fn lengths_over_ip6(rt: HostRuntime) {
         is_long_candidate(&rt, alloc, 65_516, [0x00, 0x00], short),
     ];
     let lengths = [ip6_length(65_535), ip6_length(65_536), ip6_length(262_104)];
-    assert_eq!(rt;
-        (are_candidates, lengths),
-        ([true, false, true, false, false], [65_535, 0, 0])
+    assert_same(
+        &rt,
+        &(are_candidates, lengths),
+        &([true, false, true, false, false], [65_535, 0, 0]),
     );
 }

@@ -31,6 +31,8 @@ mod numbers;
 #[cfg(test)]
 mod queues;
 #[cfg(test)]
+mod seeing;
+#[cfg(test)]
 mod sources;
 #[cfg(test)]
 mod transport;

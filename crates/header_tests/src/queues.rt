@@ -6,6 +6,7 @@ ghost use Rattle.frame_layout.specs.Choice.{IsChoice};
 use crate::datagrams::DATAGRAM;
 use crate::encapsulated::{KEYED, PLAIN};
 use crate::layouts::TUNNEL;
+use crate::seeing::assert_same;
 use frame_layout::{
     Choice, HashKey, Key, even_table, hash_has_bits, hash_is_linear, key, queue_by, queue_of,
     rss_input, rss_is_of_layers, toeplitz,
@@ -135,7 +136,7 @@ fn hashes_of_the_verification_suite(rt: HostRuntime) {
         has_hash(&hash_key, &[], 0),
         has_hash(&hash_key, &one, 0xad2b6d12),
     ];
-    assert_eq!(rt; (others, are_so), ([None; 2], [true; 3]));
+    assert_same(&rt, &(others, are_so), &([None; 2], [true; 3]));
     hash_has_bits();
     hash_is_linear();
     rss_is_of_layers();
@@ -163,7 +164,7 @@ fn what_is_hashed(rt: HostRuntime) {
         has_input(&TUNNEL, &TUNNEL[30..66]),
         has_input(&FIRST[..53], &[]),
     ];
-    assert_eq!(rt; are_hashed, [true; 6]);
+    assert_same(&rt, &are_hashed, &[true; 6]);
 }
 
 /// The first frame, from and to the ends of the suite's first row.
@@ -195,8 +196,9 @@ fn queues_by_hash(rt: HostRuntime) {
         queue_by(&Key::other(), &choice_of(7), 7),
     ];
     let table = even_table(3);
-    assert_eq!(rt;
-        (queues, table.len(), table[0], table[127]),
-        ([0, 1, queue_of(&flow, 7), 0], 128, 0, 1)
+    assert_same(
+        &rt,
+        &(queues, table.len(), table[0], table[127]),
+        &([0, 1, queue_of(&flow, 7), 0], 128, 0, 1),
     );
 }

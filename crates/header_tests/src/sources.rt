@@ -1,6 +1,7 @@
 //! Whole reads and writes at several steps, the listed failures, and the system's edge.
 ghost use Rattle.std.specs.Prelude.{◌<◌};
 
+use crate::seeing::assert_same;
 use off_io::{
     BufferedSink, BufferedSource, Failed, Feed, Gate, MemSink, MemSource, NoGate, Sink, Source,
     StdSink, StdSource, SureSink, SureSource, Who, WriteFault, read_full, write_all,
@@ -66,7 +67,7 @@ fn whole_reads_and_writes(rt: HostRuntime) {
         passed_by(&rt, alloc, 64),
     ];
     let want = ([Some(4), Some(1), Some(0)], (false, Ok(()), true), 0, true);
-    assert_eq!(rt; passed, [want; 3]);
+    assert_same(&rt, &passed, &[want; 3]);
 }
 
 #[test]
@@ -75,7 +76,7 @@ fn reads_and_writes_that_never_fail(rt: HostRuntime) {
     let mut buffer = [0; 8];
     let read = read_full(&mut sure, &mut buffer);
     let write = write_all(&mut SureSink::new(), &buffer);
-    assert_eq!(rt; (read, write), (Ok(5), Ok(())));
+    assert_same(&rt, &(read, write), &(Ok(5), Ok(())));
 }
 
 /// What six reads answer.
@@ -101,14 +102,15 @@ fn listed_calls_fail(rt: HostRuntime) {
     let writes = [sink.write(&FIVE), sink.write(&FIVE)];
     let flushes = [sink.flush(), sink.flush()];
     let failed = Err(Failed);
-    assert_eq!(rt;
-        (reads, writes, flushes, sink.bytes()),
-        (
+    assert_same(
+        &rt,
+        &(reads, writes, flushes, sink.bytes()),
+        &(
             [Ok(2), failed, Ok(2), failed, Ok(1), Ok(0)],
             [Ok(2), failed],
             [Ok(()), Err(Failed)],
-            [1, 2].as_slice()
-        )
+            [1, 2].as_slice(),
+        ),
     );
 }
 
@@ -148,7 +150,7 @@ fn buffered_reads(rt: HostRuntime) {
         pairs_behind(&rt, alloc, 64),
     ];
     let want = ([(Some(2), [1, 2]), (Some(2), [3, 4])], Some(1), 5, Ok(0));
-    assert_eq!(rt; read, [want; 4]);
+    assert_same(&rt, &read, &[want; 4]);
 }
 
 /// What two writes of two bytes and a flush answer; and whether one more write of two, for which there is room for one,
@@ -185,7 +187,7 @@ fn buffered_writes(rt: HostRuntime) {
         written_before(&rt, alloc, 3),
         written_before(&rt, alloc, 64),
     ];
-    assert_eq!(rt; written, [((true, true, true, true), FIVE); 4]);
+    assert_same(&rt, &written, &[((true, true, true, true), FIVE); 4]);
 }
 
 #[test]
@@ -197,8 +199,9 @@ fn std_readers_and_writers(rt: HostRuntime) {
     let mut room = [0; 3];
     let mut sink = StdSink::new(room.as_mut_slice());
     let writes = [write_all(&mut sink, &[7, 8]), write_all(&mut sink, &[9, 9])];
-    assert_eq!(rt;
-        (count, buffer, writes, sink.flush()),
-        (Ok(4), [1, 2, 3, 4], [Ok(()), Err(WriteFault)], Ok(()))
+    assert_same(
+        &rt,
+        &(count, buffer, writes, sink.flush()),
+        &(Ok(4), [1, 2, 3, 4], [Ok(()), Err(WriteFault)], Ok(())),
     );
 }

@@ -1,4 +1,5 @@
 //! The TCP header of a small segment, with options too, and a UDP header written by hand after RFC 768.
+use crate::seeing::assert_same;
 use tcp_headers::{TcpView, UdpView, set_flags, set_seq, set_tcp_sum, set_udp_len, set_udp_sum};
 
 static TCP: [u8; 24] = [
@@ -32,7 +33,7 @@ fn fields_of_tcp(rt: HostRuntime) {
     set_seq(&mut bytes, 0, 0xfedcba98);
     set_flags(&mut bytes, 0, 0x18);
     set_tcp_sum(&mut bytes, 0, 0x1234);
-    assert_eq!(rt; (tcp_fields(&TCP), bytes), (fields, EDITED_TCP));
+    assert_same(&rt, &(tcp_fields(&TCP), bytes), &(fields, EDITED_TCP));
 }
 
 /// Whether there is a header with this byte of the data offset.
@@ -53,7 +54,11 @@ fn tcp_headers_that_are_not_there(rt: HostRuntime) {
         TcpView::read(&TCP[..19], 0).is_some(),
         TcpView::read(&TCP, 5).is_some(),
     ];
-    assert_eq!(rt; there, [false, true, true, false, false, false, false]);
+    assert_same(
+        &rt,
+        &there,
+        &[false, true, true, false, false, false, false],
+    );
 }
 
 /// Ports, length and sum.
@@ -72,11 +77,12 @@ fn fields_of_udp(rt: HostRuntime) {
     let mut bytes = UDP;
     set_udp_len(&mut bytes, 0, 0x0102);
     set_udp_sum(&mut bytes, 0, 0x0304);
-    assert_eq!(rt;
-        ([udp_fields(0), udp_fields(1)], bytes),
-        (
+    assert_same(
+        &rt,
+        &([udp_fields(0), udp_fields(1)], bytes),
+        &(
             [Some([50000, 4789, 110, 0xabcd]), None],
-            [0xc3, 0x50, 0x12, 0xb5, 0x01, 0x02, 0x03, 0x04]
-        )
+            [0xc3, 0x50, 0x12, 0xb5, 0x01, 0x02, 0x03, 0x04],
+        ),
     );
 }

@@ -1,4 +1,5 @@
 //! Headers written by hand after RFC 7348, section 5, RFC 2784, section 2, and RFC 2890, section 2.
+use crate::seeing::assert_same;
 use vxlan::{GreView, OLD_PORT, PORT, VxlanView, gre};
 
 /// Flags and network of the VXLAN header at a place.
@@ -11,9 +12,10 @@ fn vxlan_fields(bytes: &[u8], at: usize) -> Option<(u8, u32)> {
 fn fields(rt: HostRuntime) {
     let bytes = [0xff, 0x08, 0x00, 0x00, 0x00, 0x12, 0x34, 0x56, 0x00];
     let read = [vxlan_fields(&bytes, 1), vxlan_fields(&bytes, 2)];
-    assert_eq!(rt;
-        (read, PORT, OLD_PORT, gre::PROTOCOL),
-        ([Some((0x08, 0x123456)), None], 4789, 8472, 47)
+    assert_same(
+        &rt,
+        &(read, PORT, OLD_PORT, gre::PROTOCOL),
+        &([Some((0x08, 0x123456)), None], 4789, 8472, 47),
     );
 }
 
@@ -47,8 +49,9 @@ fn fields_of_gre(rt: HostRuntime) {
         begun(0x00, 0x01),
         begun(0x20, 0x01),
     ];
-    assert_eq!(rt;
-        (read, others),
-        ([keyed, Some((4, 0x0800, None)), None, None], [None; 5])
+    assert_same(
+        &rt,
+        &(read, others),
+        &([keyed, Some((4, 0x0800, None)), None, None], [None; 5]),
     );
 }
