@@ -2,6 +2,7 @@
 ghost use Rattle.std.specs.Prelude.{◌≡◌, ◌≤◌, ◌+◌, [], length};
 
 use crate::memory::{block, room_for};
+use crate::seeing::assert_same;
 use frags::{Outcomes, Pieces};
 use raw_block::{FULL, Released, Sole};
 use skb::{CopyFault, PullFault, Returned, RoomFault, Skb, Unshared};
@@ -127,18 +128,18 @@ fn copied(
     }
 }
 
-// What is seen of a buffer over one block.
-#[derive(Drop)]
-struct Seen {
-    answers: [((usize, usize), usize); 4],
-    short: (usize, usize),
-    too_big: bool,
-    shared: (bool, bool, bool, u64),
-    copies: [((usize, usize), bool, usize, usize); 2],
-}
+// What is seen of a buffer over one block: what pushes and puts answer, the numbers of a pull behind the end, what is
+// seen beside a clone, whether too much is too big, the blocks that came home, and what copies answer.
+type Seen = (
+    [((usize, usize), usize); 4],
+    (usize, usize),
+    (bool, bool, bool, u64),
+    (bool, usize),
+    [((usize, usize), bool, usize, usize); 2],
+);
 
-// The answers of a buffer that begins empty, from 64 to 64, and the blocks that came home.
-fn over_one_block(rt: &impl Abort, alloc: Global) -> (Seen, usize) {
+// Of one that begins empty, from 64 to 64.
+fn over_one_block(rt: &impl Abort, alloc: Global) -> Seen {
     let mut out = room_for(rt, alloc, 8);
     let mut none = Vec::new(alloc);
     let mut two = Vec::new(alloc);
@@ -162,14 +163,7 @@ fn over_one_block(rt: &impl Abort, alloc: Global) -> (Seen, usize) {
         copied(&skb, &mut two, &mut out),
     ];
     skb.release(&mut out);
-    let seen = Seen {
-        answers,
-        short,
-        too_big,
-        shared,
-        copies,
-    };
-    (seen, spend(out))
+    (answers, short, shared, (too_big, spend(out)), copies)
 }
 
 pub(crate) fn spend(mut out: Outcomes) -> usize {
@@ -183,16 +177,17 @@ pub(crate) fn spend(mut out: Outcomes) -> usize {
 
 #[test]
 fn one_block_has_room_as_its_numbers_say(rt: HostRuntime) {
-    let alloc = rt.alloc();
-    let (seen, soles) = over_one_block(&rt, alloc);
-    assert_eq!(rt;
-        seen.answers,
-        [((0, 0), 50), ((50, 51), 50), ((0, 0), 1998), ((0, 1), 1998)]
+    assert_same(
+        &rt,
+        &over_one_block(&rt, rt.alloc()),
+        &(
+            [((0, 0), 50), ((50, 51), 50), ((0, 0), 1998), ((0, 1), 1998)],
+            (1998, 1999),
+            (true, true, true, 1125899906842624),
+            (true, 3),
+            [((0, 2), false, 0, 0), ((0, 0), true, 64, 2)],
+        ),
     );
-    assert_eq!(rt; seen.short, (1998, 1999));
-    assert_eq!(rt; seen.shared, (true, true, true, 1125899906842624));
-    assert_eq!(rt; (seen.too_big, soles), (true, 3));
-    assert_eq!(rt; seen.copies, [((0, 2), false, 0, 0), ((0, 0), true, 64, 2)]);
 }
 
 // Telling a buffer's blocks from another one is for the proofs: it changes nothing.
@@ -205,5 +200,5 @@ fn a_buffer_is_told_from_a_block(rt: HostRuntime) {
     skb.differ_from(&mut other);
     let len = skb.len();
     let freed = skb.free();
-    assert_eq!(rt; (len, freed, other.mark()), (6, 1, 7));
+    assert_same(&rt, &(len, freed, other.mark()), &(6, 1, 7));
 }

@@ -4,6 +4,7 @@ ghost use Rattle.skb.specs.SkbState.{buffer_size};
 
 use crate::buffers::{spend, spend_released};
 use crate::memory::{block, room_for};
+use crate::seeing::assert_same;
 use frags::{Outcomes, PieceBuilder, Pieces, ShareFault};
 use inet_sum::Partial;
 use raw_block::Sole;
@@ -249,14 +250,18 @@ fn is_lent_beside_a_clone(rt: &impl Abort, alloc: Global) -> bool {
 #[test]
 fn a_head_of_weight_one_is_not_cut(rt: HostRuntime) {
     let alloc = rt.alloc();
-    assert_eq!(rt; of_weight_one(&rt, alloc), (1, true, 0, 1));
+    assert_same(&rt, &of_weight_one(&rt, alloc), &(1, true, 0, 1));
 }
 
 #[test]
 fn bytes_are_read_and_written(rt: HostRuntime) {
     let alloc = rt.alloc();
-    assert_eq!(rt; read_and_written(&rt, alloc), (100, true, true));
-    assert!(rt; !is_lent_beside_a_clone(&rt, alloc));
+    let is_lent = is_lent_beside_a_clone(&rt, alloc);
+    assert_same(
+        &rt,
+        &(read_and_written(&rt, alloc), is_lent),
+        &((100, true, true), false),
+    );
 }
 
 #[test]
@@ -269,15 +274,16 @@ fn two_blocks_are_cut_at_each_place(rt: HostRuntime) {
         cut_at(&rt, alloc, 150),
         cut_at(&rt, alloc, 200),
     ];
-    assert_eq!(rt;
-        seen,
-        [
+    assert_same(
+        &rt,
+        &seen,
+        &[
             ([0, 1, 200, 2], true, 2),
             ([40, 1, 160, 2], true, 2),
             ([100, 1, 100, 1], true, 2),
             ([150, 2, 50, 1], true, 2),
             ([200, 2, 0, 0], true, 2),
-        ]
+        ],
     );
 }
 
@@ -290,14 +296,15 @@ fn ends_are_cut_off(rt: HostRuntime) {
         cut_off(&rt, alloc, 10, 150),
         cut_off(&rt, alloc, 200, 0),
     ];
-    assert_eq!(rt;
-        seen,
-        [
+    assert_same(
+        &rt,
+        &seen,
+        &[
             ([140, 94, 70, 2], true, 2),
             ([50, 164, 0, 2], true, 2),
             ([40, 74, 40, 1], true, 2),
             ([0, 164, 0, 1], true, 2),
-        ]
+        ],
     );
 }
 
@@ -310,30 +317,32 @@ fn first_bytes_are_pulled_up(rt: HostRuntime) {
         pulled_up(&rt, alloc, 200),
         pulled_up(&rt, alloc, 201),
     ];
-    assert_eq!(rt;
-        seen,
-        [
+    assert_same(
+        &rt,
+        &seen,
+        &[
             ([64, 100, 2], false, true),
             ([64, 150, 2], true, true),
             ([64, 200, 1], true, true),
             ([64, 100, 2], false, true),
-        ]
+        ],
     );
 }
 
 #[test]
 fn buffers_are_moved_behind_pieces(rt: HostRuntime) {
     let alloc = rt.alloc();
-    assert_eq!(rt;
-        [
+    assert_same(
+        &rt,
+        &[
             moved(&rt, alloc, 0),
             moved(&rt, alloc, 40),
-            moved(&rt, alloc, 100)
+            moved(&rt, alloc, 100),
         ],
-        [
+        &[
             ([200, 2], true, 2),
             ([160, 2], true, 2),
             ([100, 1], true, 2),
-        ]
+        ],
     );
 }

@@ -5,6 +5,7 @@
 //! - two tasks that wait for each other meet, where one runs beside the thread that asks
 ghost use Rattle.std.specs.Prelude.{◌≡◌, ◌<◌, [], All, length};
 
+use crate::seeing::assert_same;
 use crossbeam_queue::ArrayQueue;
 use errands::{Alone, Asker, Bells, Crew, Errands, Job, Naming, Reply, Runner, Works, serve};
 use off_io::{Gate, Meeting, NoGate, Who};
@@ -196,12 +197,12 @@ fn answers_stand_in_the_order_of_the_tasks(rt: HostRuntime) {
         by_crew(&rt, alloc, &NoGate, 0, 300, TASKS).expect(&rt, "no memory"),
         by_crew(&rt, alloc, &NoGate, 3, 300, TASKS).expect(&rt, "no memory"),
     ];
-    assert_eq!(rt; right, [300, 300, 300]);
+    assert_same(&rt, &right, &[300, 300, 300]);
 }
 
 #[test]
 fn two_tasks_meet(rt: HostRuntime) {
     let meeting = Meeting::of(Who::Worker(0), Who::Worker(1));
     let right = by_crew(&rt, rt.alloc(), &meeting, 1, 1, 2).expect(&rt, "no memory");
-    assert_eq!(rt; (right, meeting.met()), (1, 2));
+    assert_same(&rt, &(right, meeting.met()), &(1, 2));
 }

@@ -27,3 +27,5 @@ mod pools;
 mod readers;
 #[cfg(test)]
 mod refused;
+#[cfg(test)]
+mod seeing;

@@ -1,4 +1,5 @@
 //! Rows of events with their answers, and a long run of both machines.
+use crate::seeing::assert_same;
 use ref_core::{Answer, Event, SetMachine, WeightMachine};
 use std::alloc::{AllocError, Global};
 use std::process::Abort;
@@ -25,8 +26,11 @@ fn sets_of(alloc: Global, events: &[Event]) -> Result<Vec<Answer>, AllocError> {
 fn are_answered(rt: &impl Abort, alloc: Global, events: &[Event], wanted: &[Answer]) {
     let sets = sets_of(alloc, events).expect(rt, "no memory");
     let weights = weights_of(alloc, events).expect(rt, "no memory");
-    assert_eq!(rt; sets.as_slice(), wanted);
-    assert_eq!(rt; weights.as_slice(), wanted);
+    assert_same(
+        rt,
+        &(sets.as_slice(), weights.as_slice()),
+        &(wanted, wanted),
+    );
 }
 
 const TAKE: Event = Event::Take {
@@ -104,9 +108,10 @@ fn nothing_cannot_be_given(rt: HostRuntime) {
         },
     ];
     let answers = weights_of(rt.alloc(), &events).expect(&rt, "no memory");
-    assert_eq!(rt;
-        answers.as_slice(),
-        [Answer::Done, Answer::BadGive].as_slice()
+    assert_same(
+        &rt,
+        &answers.as_slice(),
+        &[Answer::Done, Answer::BadGive].as_slice(),
     );
 }
 
@@ -172,5 +177,9 @@ fn compared(rt: &HostRuntime) -> Result<(u32, u32, u32), AllocError> {
 #[test]
 fn machines_answer_alike(rt: HostRuntime) {
     // The first two counts are those of a model in another language.
-    assert_eq!(rt; compared(&rt).expect(&rt, "no memory"), (9_854, 1_749, 0));
+    assert_same(
+        &rt,
+        &compared(&rt).expect(&rt, "no memory"),
+        &(9_854, 1_749, 0),
+    );
 }

@@ -5,6 +5,7 @@ ghost use Rattle.block_pool.specs.PoolState.{home};
 mod lists;
 mod passes;
 
+use crate::seeing::assert_same;
 use block_pool::Pool;
 
 // What is home without the block, whether a second take is Empty, and whether the block can be taken again.
@@ -27,8 +28,9 @@ fn one_block_is_taken_and_comes_home(rt: HostRuntime) {
     let mut pool = Pool::make(rt.alloc(), 1).expect(&rt, "no memory");
     let before = (pool.home(), pool.made(), pool.taken());
     let seen = turn(&mut pool);
-    assert_eq!(rt;
-        (before, seen, pool.made(), pool.taken()),
-        ((1, 1, 0), (0, true, true), 1, 2)
+    assert_same(
+        &rt,
+        &(before, seen, pool.made(), pool.taken()),
+        &((1, 1, 0), (0, true, true), 1, 2),
     );
 }

@@ -4,6 +4,7 @@ ghost use Rattle.std.specs.Prelude.{◌≡◌, ◌+◌, ◌≤◌, length, IfSom
 
 use crate::buffers::spend;
 use crate::memory::{block, room_for};
+use crate::seeing::assert_same;
 use frags::{Outcomes, Pieces};
 use raw_block::{Released, Sole};
 use skb::{RoomFault, Skb, Unshared};
@@ -257,11 +258,22 @@ fn turn<R: Abort + Threads + Sync>(
     (changes, went, home)
 }
 
-#[test]
-fn clones_keep_their_bytes_beside_a_writer(rt: HostRuntime) {
-    let alloc = rt.alloc();
+// The first of 1000 turns that went otherwise.
+fn first_other<R: Abort + Threads + Sync>(
+    rt: &R,
+    alloc: Global,
+) -> Option<(u32, (bool, bool), usize)> {
     // With few reads the clones are given back while `unshare` asks for the head's block, with many after it.
     for at in 0..1000u32 {
-        assert_eq!(rt; turn(&rt, alloc, at % 16), (0, (true, true), 3));
+        let seen = turn(rt, alloc, at % 16);
+        if seen != (0, (true, true), 3) {
+            return Some(seen);
+        }
     }
+    None
+}
+
+#[test]
+fn clones_keep_their_bytes_beside_a_writer(rt: HostRuntime) {
+    assert_same(&rt, &first_other(&rt, rt.alloc()), &None);
 }

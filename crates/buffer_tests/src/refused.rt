@@ -4,6 +4,7 @@
 //! - a shared pool, all of whose blocks are taken and put back
 ghost use Rattle.block_pool.specs.PassState.{IsOwn};
 
+use crate::seeing::assert_same;
 use block_pool::shared::{PoolPass, SharedPool};
 use ref_core::{Answer, Event, SetMachine, WeightMachine};
 use std::alloc::Global;
@@ -54,7 +55,7 @@ fn are_answered(
     event: Event,
     answer: Answer,
 ) {
-    assert_eq!(rt; answers_of(rt, sets, weights, event), (answer, answer));
+    assert_same(rt, &answers_of(rt, sets, weights, event), &(answer, answer));
 }
 
 #[test]
@@ -109,5 +110,5 @@ fn taken_and_put<R: Wait>(rt: &R, pool: &SharedPool, pass: &mut PoolPass) -> Opt
 fn a_shared_pool_is_made_again(rt: HostRuntime) {
     let (pool, mut pass) = shared_pool(&rt, rt.alloc());
     let taken = taken_and_put(&rt, &pool, &mut pass);
-    assert_eq!(rt; (taken, pass.takes(), pass.puts()), (Some(3), 3, 3));
+    assert_same(&rt, &(taken, pass.takes(), pass.puts()), &(Some(3), 3, 3));
 }

@@ -3,6 +3,7 @@ ghost use Rattle.std.specs.Prelude.{◌+◌, ◌≤◌, length};
 
 use super::blocks::{counted, put};
 use crate::memory::{block, room_for};
+use crate::seeing::assert_same;
 use frags::{Holder, Outcomes, Pieces, ShareFault};
 use raw_block::{FULL, Part};
 use std::alloc::Global;
@@ -23,7 +24,7 @@ fn one_piece(rt: &impl Abort, alloc: Global) -> ((usize, usize, u8, u64), (usize
 #[test]
 fn a_block_in_one_piece(rt: HostRuntime) {
     let alloc = rt.alloc();
-    assert_eq!(rt; one_piece(&rt, alloc), ((1436, 1, 0, FULL), (1, 0)));
+    assert_same(&rt, &one_piece(&rt, alloc), &((1436, 1, 0, FULL), (1, 0)));
 }
 
 // A part of a small weight, and the rest of its block given back.
@@ -82,7 +83,7 @@ fn shared_thrice(rt: &impl Abort, alloc: Global) -> ([u64; 4], bool, bool, (usiz
 fn a_weight_of_three_is_shared_twice(rt: HostRuntime) {
     let alloc = rt.alloc();
     let wanted = ([2, 1, 1, 1], true, true, (1, 3));
-    assert_eq!(rt; shared_thrice(&rt, alloc), wanted);
+    assert_same(&rt, &shared_thrice(&rt, alloc), &wanted);
 }
 
 // Whether a piece of weight 1 is Worn where it is shared and where it is cut inside, and the lengths of both lists of a
@@ -111,7 +112,7 @@ fn of_weight_one(rt: &impl Abort, alloc: Global) -> (bool, bool, (usize, usize))
 #[test]
 fn a_weight_of_one_is_worn_inside(rt: HostRuntime) {
     let alloc = rt.alloc();
-    assert_eq!(rt; of_weight_one(&rt, alloc), (true, true, (10, 0)));
+    assert_same(&rt, &of_weight_one(&rt, alloc), &(true, true, (10, 0)));
 }
 
 // The weight that a Sole has in a list that took it and its list of pieces in, and what came back.
@@ -136,7 +137,7 @@ fn taken_in(rt: &impl Abort, alloc: Global) -> (usize, u64, (usize, usize)) {
 #[test]
 fn a_sole_begins_a_life_where_it_is_taken_in(rt: HostRuntime) {
     let alloc = rt.alloc();
-    assert_eq!(rt; taken_in(&rt, alloc), (30, FULL, (2, 0)));
+    assert_same(&rt, &taken_in(&rt, alloc), &(30, FULL, (2, 0)));
 }
 
 // The places that are left where a Sole and both parts of a block were given back, and what they left.
@@ -155,5 +156,5 @@ fn holders_given_back(rt: &impl Abort, alloc: Global) -> (usize, (usize, usize))
 fn holders_leave_soles_and_receipts(rt: HostRuntime) {
     let alloc = rt.alloc();
     let (spare, left) = holders_given_back(&rt, alloc);
-    assert_eq!(rt; (6 <= spare, left), (true, (2, 1)));
+    assert_same(&rt, &(6 <= spare, left), &(true, (2, 1)));
 }

@@ -6,6 +6,7 @@
 ghost use Rattle.std.specs.Prelude.{◌≡◌, ◌+◌, ◌≤◌, IfOk};
 ghost use Rattle.block_pool.specs.PassState.{IsOwn, IsSame};
 
+use crate::seeing::assert_same;
 use block_pool::lists::{put_all, take_block};
 use block_pool::{ListPass, ListPool, Pool};
 use raw_block::Sole;
@@ -74,16 +75,11 @@ fn a_list_comes_and_goes_by_one_step(rt: HostRuntime) {
         give(&rt, &pool, &mut pass, two),
     ];
     let blocks = count_blocks(&rt, &pool, &mut pass, &mut hand, &mut spent);
-    assert_eq!(rt;
-        (given, blocks, spent.len()),
-        ([Some(0), None, Some(2)], 3, 1)
-    );
-    assert_eq!(rt;
-        (
-            sizes,
-            [pass.takes(), pass.puts(), pass.empties(), pass.fulls()]
-        ),
-        ((0, 1), [1, 1, 1, 1])
+    let counts = [pass.takes(), pass.puts(), pass.empties(), pass.fulls()];
+    assert_same(
+        &rt,
+        &(sizes, given, blocks, spent.len(), counts),
+        &((0, 1), [Some(0), None, Some(2)], 3, 1, [1; 4]),
     );
 }
 
@@ -178,8 +174,9 @@ fn lists_go_to_and_fro(rt: HostRuntime) {
     back.gather(&rt, to, &mut second.from);
     let in_there = blocks_home(&rt, &there, &mut second.to);
     let in_back = blocks_home(&rt, &back, &mut second.from);
-    assert_eq!(rt;
-        (given, blocks > 0, in_there.saturating_add(in_back)),
-        ([None; 2], true, 8)
+    assert_same(
+        &rt,
+        &(given, blocks > 0, in_there.saturating_add(in_back)),
+        &([None; 2], true, 8),
     );
 }

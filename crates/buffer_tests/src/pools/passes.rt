@@ -7,6 +7,7 @@
 ghost use Rattle.std.specs.Prelude.{◌≡◌, ◌+◌, ◌<◌, ◌≤◌, All, IfOk};
 ghost use Rattle.block_pool.specs.PassState.{IsOwn, IsSame};
 
+use crate::seeing::assert_same;
 use block_pool::shared::{Full, PoolPass, SharedPool};
 use raw_block::Sole;
 use std::alloc::{AllocError, Global};
@@ -41,10 +42,11 @@ fn one_block_is_taken_and_comes_home(rt: HostRuntime) {
     fresh.set_mark(7);
     let sizes = (pool.made(), pass.parts());
     let seen = one_block(&rt, &pool, &mut pass, fresh);
-    assert_eq!(rt; (sizes, seen), ((1, 65_536), Some((1, true))));
-    assert_eq!(rt;
-        [pass.takes(), pass.puts(), pass.empties(), pass.fulls()],
-        [2, 2, 1, 1]
+    let counts = [pass.takes(), pass.puts(), pass.empties(), pass.fulls()];
+    assert_same(
+        &rt,
+        &(sizes, seen, counts),
+        &((1, 65_536), Some((1, true)), [2, 2, 1, 1]),
     );
 }
 
@@ -85,14 +87,20 @@ fn a_forked_pass_finds_the_pool_empty(rt: HostRuntime) {
     let parts = [pass.parts(), forked.parts()];
     let taken = two_blocks(&rt, &pool, &mut forked);
     let beside = [forked.takes(), forked.empties(), pass.empties()];
-    let homes = home(&rt, &pool, &mut pass);
-    assert_eq!(rt; (parts, beside, homes), ([65_535, 1], [2, 1, 0], None));
+    let before = home(&rt, &pool, &mut pass);
     pool.gather(&rt, forked, &mut pass);
     let gathered = (pass.parts(), pass.takes(), pass.empties());
-    let homes = home(&rt, &pool, &mut pass);
-    assert_eq!(rt;
-        (takes_of(taken), gathered, homes),
-        (Some(2), (65_536, 2, 1), Some(0))
+    let homes = [before, home(&rt, &pool, &mut pass)];
+    assert_same(
+        &rt,
+        &(parts, takes_of(taken), beside, gathered, homes),
+        &(
+            [65_535, 1],
+            Some(2),
+            [2, 1, 0],
+            (65_536, 2, 1),
+            [None, Some(0)],
+        ),
     );
 }
 
@@ -194,13 +202,14 @@ fn four_threads_lose_no_block(rt: HostRuntime) {
     gather_all(&rt, &pool, passes, &mut pass);
     let homes = home(&rt, &pool, &mut pass);
     let takes = pass.takes();
-    assert_eq!(rt;
-        (homes, takes == pass.puts(), pass.fulls()),
-        (Some(3), true, 0)
-    );
-    assert_eq!(rt; takes.checked_add(pass.empties()), Some(400_003));
+    let asked = takes.checked_add(pass.empties());
+    let counts = (asked, takes == pass.puts(), pass.fulls());
     let marks = marks(&rt, rt.alloc(), &pool, &mut pass).expect(&rt, "no memory");
-    assert_eq!(rt; marks.as_slice(), [0u32, 1, 2].as_slice());
+    assert_same(
+        &rt,
+        &(homes, counts, marks.as_slice()),
+        &(Some(3), (Some(400_003), true, 0), [0u32, 1, 2].as_slice()),
+    );
 }
 
 // A thread's pass, and the blocks that it is to put.
@@ -338,9 +347,10 @@ fn a_reader_takes_what_four_threads_put(rt: HostRuntime) {
     gather_givers(&rt, &pool, givers, &mut pass);
     marks.sort().expect(&rt, "no memory");
     let homes = home(&rt, &pool, &mut pass);
-    assert_eq!(rt; (marks.iter().copied().eq(0..400), homes), (true, Some(0)));
-    assert_eq!(rt;
-        (before, pass.takes(), pass.puts(), pass.fulls()),
-        (800, 1200, 800, 0)
+    let counts = [before, pass.takes(), pass.puts(), pass.fulls()];
+    assert_same(
+        &rt,
+        &(marks.iter().copied().eq(0..400), homes, counts),
+        &(true, Some(0), [800, 1200, 800, 0]),
     );
 }
