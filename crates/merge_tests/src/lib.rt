@@ -11,6 +11,8 @@ mod home;
 #[cfg(test)]
 mod merging;
 #[cfg(test)]
+mod seeing;
+#[cfg(test)]
 mod segmenting;
 #[cfg(test)]
 mod tapping;

@@ -12,6 +12,7 @@ mod long;
 mod lying;
 mod rounds;
 
+use crate::seeing::assert_same;
 use frags::{Outcomes, Pieces};
 use gro::{Item, Packet, RoundTable, Slot};
 use raw_block::Sole;
@@ -215,7 +216,7 @@ fn receive(rt: &impl Abort, alloc: Global, table: &mut RoundTable, packet: Packe
     let Err((packet, _)) = table.receive(packet) else {
         return;
     };
-    assert_eq!(rt; (table.count(), packet.number), before);
+    assert_same(rt, &(table.count(), packet.number), &before);
     assert!(rt; table.may_receive(packet.number));
     if let Err((packet, _)) = table.receive(packet) {
         spend(rt, alloc, packet);
@@ -281,14 +282,14 @@ pub(crate) type Said = (u32, u32, u32, u8);
 
 /// The items say this: how many blocks are home once they are spent.
 pub(crate) fn spent(rt: &impl Abort, items: Vec<Item>, rows: &[Said]) -> usize {
-    assert_eq!(rt; items.len(), rows.len());
+    assert_same(rt, &items.len(), &rows.len());
     let mut items = items;
     let mut blocks: usize = 0;
     let mut i = rows.len();
     while let Some(item) = items.pop() {
         i = i.wrapping_sub(1);
         if i < rows.len() {
-            assert_eq!(rt; (item.number, item.n, item.m, item.modes), rows[i]);
+            assert_same(rt, &(item.number, item.n, item.m, item.modes), &rows[i]);
         }
         blocks = blocks.wrapping_add(home(rt, item));
     }

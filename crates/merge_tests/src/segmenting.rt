@@ -7,6 +7,7 @@ mod hostile;
 mod layers;
 
 use crate::home::home_of;
+use crate::seeing::assert_same;
 use cutting::{Given, buffer, counted, cut_whole, digest, headers, merged};
 use frags::{Outcomes, PieceBuilder};
 use frames::{
@@ -66,12 +67,14 @@ fn worked_records_are_cut(rt: HostRuntime) {
             (2, 3),
         ),
     ];
-    assert_eq!(rt; are_cut, [true; 2]);
+    assert_same(&rt, &are_cut, &[true; 2]);
 }
 
 // Kind, n, m, modes, lane; how many frames are given, how many bytes in all, and the bytes 18 and 19 and 38 to 41 of
 // the second: its identification and sequence number.
-static TAKEN: [(u8, u16, u16, u8, u8, usize, usize, [u8; 6]); 6] = [
+type Taken = (u8, u16, u16, u8, u8, usize, usize, [u8; 6]);
+
+static TAKEN: [Taken; 6] = [
     (1, 2, 4, 0, 63, 2, 114, [0, 0x65, 0, 0, 3, 0xec]),
     (1, 2, 5, 0, 0, 2, 114, [0, 0x65, 0, 0, 3, 0xed]),
     (1, 2, 3, 0, 0, 2, 114, [0, 0x65, 0, 0, 3, 0xeb]),
@@ -95,21 +98,31 @@ fn are_said(bytes: &[u8], m: u16, frames: usize, size: usize, second: &[u8; 6]) 
     bytes[at + 18..at + 20] == second[..2] && bytes[at + 38..at + 42] == second[2..]
 }
 
-#[test]
-fn each_kind_is_cut_in_both_versions(rt: HostRuntime) {
-    let alloc = rt.alloc();
-    for (kind, n, m, modes, lane, frames, size, second) in &TAKEN {
-        for head in headers(*kind, *n, *m, *modes, *lane) {
-            let skb = buffer(&rt, alloc, &MERGED, 60, 1);
-            let given = cut_whole(&rt, alloc, &head, skb).expect(&rt, "lawful");
-            let bytes = given.bytes.as_slice();
-            assert!(rt;
-                *frames <= 2
-                    && is_whole(&given, *frames, 1 + *frames)
-                    && are_said(bytes, *m, *frames, *size, second)
-            );
+// Whether the worked record is cut as a row says, with this header.
+fn is_cut_so<A: Abort>(rt: &A, alloc: Global, head: &AnyHead, row: &Taken) -> bool {
+    let (_, _, m, _, _, frames, size, second) = *row;
+    let skb = buffer(rt, alloc, &MERGED, 60, 1);
+    let given = cut_whole(rt, alloc, head, skb).expect(rt, "lawful");
+    frames <= 2
+        && is_whole(&given, frames, 1 + frames)
+        && are_said(given.bytes.as_slice(), m, frames, size, &second)
+}
+
+// Kind, n, m and modes of the first row by which it is cut otherwise, with a header of either version.
+fn first_other<A: Abort>(rt: &A, alloc: Global) -> Option<(u8, u16, u16, u8)> {
+    for row in &TAKEN {
+        let (kind, n, m, modes, lane, _, _, _) = *row;
+        let [first, second] = headers(kind, n, m, modes, lane);
+        if !is_cut_so(rt, alloc, &first, row) || !is_cut_so(rt, alloc, &second, row) {
+            return Some((kind, n, m, modes));
         }
     }
+    None
+}
+
+#[test]
+fn each_kind_is_cut_in_both_versions(rt: HostRuntime) {
+    assert_same(&rt, &first_other(&rt, rt.alloc()), &None);
 }
 
 // m, n, how many bytes the head has and each piece, the blocks, and the digest of all frames. From segment 65 on sums
@@ -179,7 +192,7 @@ fn frames_whose_headers_lie_in_pieces_are_cut_once_pulled_up(rt: HostRuntime) {
             (5, 22),
         ),
     ];
-    assert_eq!(rt; (are_cut, home_of(out)), ([true; 2], 16));
+    assert_same(&rt, &(are_cut, home_of(out)), &([true; 2], 16));
 }
 
 // This frame: 200 bytes in the head, and 2,048 in a part that weighs no more, as little as `start` takes.
@@ -238,8 +251,8 @@ fn a_part_no_heavier_than_its_bytes_is_cut_everywhere(rt: HostRuntime) {
     let skb = thin(&rt, alloc, frame.as_slice(), &mut out);
     let given = cut_whole(&rt, alloc, &merged(2194, 1, 0), skb).expect(&rt, "lawful");
     let sum = digest(given.bytes.as_slice());
-    assert_eq!(rt; (home_of(out), sum), (0, 3_625_064_795));
-    assert!(rt; is_whole(&given, 2194, 2196) && are_weights(given.weights.as_slice()));
+    let are_so = is_whole(&given, 2194, 2196) && are_weights(given.weights.as_slice());
+    assert_same(&rt, &(home_of(out), sum, are_so), &(0, 3_625_064_795, true));
 }
 
 #[test]

@@ -3,6 +3,7 @@ use super::{
     begins_with, checked, finished, frames, freed, has_bytes, has_parts, packet, plain, put,
     put_plain, receive, spent, table_for,
 };
+use crate::seeing::assert_same;
 use frags::Outcomes;
 use gro::Item;
 use std::alloc::Global;
@@ -43,17 +44,24 @@ fn of_two(rt: &impl Abort, alloc: Global) -> Vec<Item> {
 #[test]
 fn two_become_one(rt: HostRuntime) {
     let (payload, other) = (counting::<160>(1), counting::<100>(0x32));
-    assert_eq!(rt;
-        [plain(0, 0, 0x10, &payload), plain(1, 160, 0x18, &other)],
-        [frames::PLAIN_FIRST, frames::PLAIN_NEXT]
-    );
+    let heads = [plain(0, 0, 0x10, &payload), plain(1, 160, 0x18, &other)];
     let items = of_two(&rt, rt.alloc());
     assert!(rt; items.len() == 1);
     let item = &items[0];
-    assert_eq!(rt; (item.original, item.sec, item.frac), (314, 1, 2));
+    let said = (item.original, item.sec, item.frac);
     let parts: [(usize, &[u8]); 3] = [(0, &frames::PLAIN_MERGED), (54, &payload), (214, &other)];
-    assert!(rt; begins_with(&items, [314, 200, 3], &parts));
-    assert_eq!(rt; spent(&rt, items, &[(7, 2, 160, 0)]), 6);
+    let is_joined = begins_with(&items, [314, 200, 3], &parts);
+    let blocks = spent(&rt, items, &[(7, 2, 160, 0)]);
+    assert_same(
+        &rt,
+        &(heads, said, is_joined, blocks),
+        &(
+            [frames::PLAIN_FIRST, frames::PLAIN_NEXT],
+            (314, 1, 2),
+            true,
+            6,
+        ),
+    );
 }
 
 /// Payloads of 100, 60 and 100 bytes: the second is the last of its run.
@@ -68,8 +76,9 @@ fn a_shorter_one_ends_the_run(rt: HostRuntime) {
     put_plain(&rt, alloc, &mut table, (2, 160, 0x10), &payload);
     let items = finished(&rt, alloc, table);
     let parts: [(usize, &[u8]); 2] = [(54, &payload), (154, &other)];
-    assert!(rt; items.len() == 2 && begins_with(&items, [214, 200, 2], &parts));
-    assert_eq!(rt; spent(&rt, items, &[(0, 2, 100, 0), (2, 1, 0, 0)]), 9);
+    let is_joined = items.len() == 2 && begins_with(&items, [214, 200, 2], &parts);
+    let blocks = spent(&rt, items, &[(0, 2, 100, 0), (2, 1, 0, 0)]);
+    assert_same(&rt, &(is_joined, blocks), &(true, 9));
 }
 
 /// 150 payloads of one byte: 146 of them fill the head, and four stand behind it.
@@ -85,8 +94,9 @@ fn the_head_is_filled_from_many(rt: HostRuntime) {
     let items = finished(&rt, alloc, table);
     let head = plain(0, 0, 0x10, &bytes);
     let parts: [(usize, &[u8]); 2] = [(0, &head), (54, &bytes)];
-    assert!(rt; items.len() == 1 && begins_with(&items, [204, 200, 5], &parts));
-    assert_eq!(rt; spent(&rt, items, &[(0, 150, 1, 0)]), 450);
+    let is_joined = items.len() == 1 && begins_with(&items, [204, 200, 5], &parts);
+    let blocks = spent(&rt, items, &[(0, 150, 1, 0)]);
+    assert_same(&rt, &(is_joined, blocks), &(true, 450));
 }
 
 /// Headers of exactly 200 bytes, in a tunnel with an outer sum: the head has them and no payload.
@@ -97,10 +107,11 @@ fn the_head_is_headers_alone(rt: HostRuntime) {
     put(&rt, alloc, &mut table, 0, &frames::TUNNELLED_FIRST, &[]);
     put(&rt, alloc, &mut table, 1, &frames::TUNNELLED_NEXT, &[]);
     let items = finished(&rt, alloc, table);
-    assert!(rt; items.len() == 1 && items[0].original == 217);
+    let is_long = items.len() == 1 && items[0].original == 217;
     let parts: [(usize, &[u8]); 1] = [(0, &frames::TUNNELLED_MERGED)];
-    assert!(rt; begins_with(&items, [217, 200, 3], &parts));
-    assert_eq!(rt; spent(&rt, items, &[(0, 2, 11, 0)]), 6);
+    let is_joined = begins_with(&items, [217, 200, 3], &parts);
+    let blocks = spent(&rt, items, &[(0, 2, 11, 0)]);
+    assert_same(&rt, &(is_long, is_joined, blocks), &(true, true, 6));
 }
 
 // Whether an item of both packets has a head of its own.
@@ -128,13 +139,15 @@ fn clones_keep_their_bytes(rt: HostRuntime) {
     receive(&rt, alloc, &mut table, checked(&rt, first));
     receive(&rt, alloc, &mut table, checked(&rt, next));
     let items = finished(&rt, alloc, table);
-    assert!(rt; items.len() == 1 && is_merged(&items));
-    assert!(rt; has_bytes(&one, 0, &frames::PLAIN_FIRST) && has_bytes(&one, 54, &payload));
-    assert!(rt; has_bytes(&two, 0, &frames::PLAIN_NEXT) && has_bytes(&two, 54, &other));
+    let are_so = [
+        items.len() == 1 && is_merged(&items),
+        has_bytes(&one, 0, &frames::PLAIN_FIRST) && has_bytes(&one, 54, &payload),
+        has_bytes(&two, 0, &frames::PLAIN_NEXT) && has_bytes(&two, 54, &other),
+    ];
     let blocks = [
         spent(&rt, items, &[(0, 2, 160, 0)]),
         freed(&rt, one, Outcomes::new(alloc)),
         freed(&rt, two, Outcomes::new(alloc)),
     ];
-    assert_eq!(rt; blocks, [4, 1, 1]);
+    assert_same(&rt, &(are_so, blocks), &([true; 3], [4, 1, 1]));
 }

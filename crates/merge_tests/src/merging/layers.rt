@@ -5,6 +5,7 @@ use super::frames::{
     TUNNELLED_DATAGRAM_MERGED, TUNNELLED_DATAGRAM_NEXT,
 };
 use super::{Said, finished, has_parts, put, spent, table_for};
+use crate::seeing::assert_same;
 use gro::Item;
 use std::alloc::Global;
 use std::process::Abort;
@@ -36,7 +37,7 @@ fn come_to(
     }
     let items = finished(rt, alloc, table);
     assert!(rt; is_of_headers(&items, headers));
-    assert_eq!(rt; spent(rt, items, rows), packets.len() * 3);
+    assert_same(rt, &spent(rt, items, rows), &(packets.len() * 3));
 }
 
 // Whether the first item has these headers.

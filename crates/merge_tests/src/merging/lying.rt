@@ -6,6 +6,7 @@ ghost use Rattle.merge_tests.specs.Numbered.{AreNumbered};
 
 use super::rounds::in_flow;
 use super::{finished, frames, freed, freed_slot, has_bytes, plain, put, slot, spent, table_for};
+use crate::seeing::assert_same;
 use frags::Outcomes;
 use gro::{Engine, Item, Packets, Slot};
 use pcap_io::OffHead2;
@@ -59,16 +60,21 @@ fn in_order_and_in_reverse(rt: HostRuntime) {
     let alloc = rt.alloc();
     let payload = [9; 100];
     let mut packets = Packets::with_capacity(alloc, 3).expect(&rt, "list");
-    assert!(rt; packets.is_empty());
+    let is_empty = packets.is_empty();
     for i in 0..3u32 {
         let head = plain(i as u16, i * 100, 0x10, &payload);
         let slot = slot(&rt, alloc, i, &head, &payload);
         append(&rt, &mut packets, i, slot);
     }
-    assert!(rt; has_numbers(&packets, &[0, 1, 2]) && !packets.is_empty());
+    let in_order = has_numbers(&packets, &[0, 1, 2]) && !packets.is_empty();
     packets.reverse();
-    assert!(rt; has_numbers(&packets, &[2, 1, 0]));
-    assert_eq!(rt; popped(&rt, alloc, packets, &[0, 1, 2]), 3);
+    let in_reverse = has_numbers(&packets, &[2, 1, 0]);
+    let blocks = popped(&rt, alloc, packets, &[0, 1, 2]);
+    assert_same(
+        &rt,
+        &(is_empty, in_order, in_reverse, blocks),
+        &(true, true, true, 3),
+    );
 }
 
 // A list of two packets of one flow, of 160 and 100 bytes, and one of another.
@@ -115,13 +121,18 @@ fn cloned_where_it_lies(rt: HostRuntime) {
     let mut packets = three(&rt, alloc);
     assert!(rt; packets.len() == 3);
     let clone = packets.clone_at(1).expect(&rt, "a clone");
-    assert!(rt;
-        has_bytes(&clone, 0, &frames::PLAIN_NEXT)
-            && begins_so(packets.slots(), 1, &frames::PLAIN_NEXT)
+    let are_same = has_bytes(&clone, 0, &frames::PLAIN_NEXT)
+        && begins_so(packets.slots(), 1, &frames::PLAIN_NEXT);
+    let soles = sole_heads(packets.slots());
+    let blocks = [
+        popped(&rt, alloc, packets, &[2, 1, 0]),
+        freed(&rt, clone, Outcomes::new(alloc)),
+    ];
+    assert_same(
+        &rt,
+        &(are_same, soles, blocks),
+        &(true, Some([true, false, true]), [2, 1]),
     );
-    assert_eq!(rt; sole_heads(packets.slots()), Some([true, false, true]));
-    let blocks = popped(&rt, alloc, packets, &[2, 1, 0]);
-    assert_eq!(rt; (blocks, freed(&rt, clone, Outcomes::new(alloc))), (2, 1));
 }
 
 /// The heads are shared where they lie, with one clone's before the others': no bytes change, and all blocks come home.
@@ -131,14 +142,16 @@ fn heads_shared(rt: HostRuntime) {
     let mut packets = three(&rt, alloc);
     let clone = packets.clone_at(0).expect(&rt, "a clone");
     packets.share_heads();
-    assert!(rt;
-        begins_so(packets.slots(), 0, &frames::PLAIN_FIRST)
-            && begins_so(packets.slots(), 1, &frames::PLAIN_NEXT)
-    );
-    assert_eq!(rt; sole_heads(packets.slots()), Some([false; 3]));
+    let are_same = begins_so(packets.slots(), 0, &frames::PLAIN_FIRST)
+        && begins_so(packets.slots(), 1, &frames::PLAIN_NEXT);
+    let soles = sole_heads(packets.slots());
     let of_clone = freed(&rt, clone, Outcomes::new(alloc));
     let blocks = popped(&rt, alloc, packets, &[2, 1, 0]);
-    assert_eq!(rt; (of_clone, blocks), (0, 3));
+    assert_same(
+        &rt,
+        &(are_same, soles, of_clone, blocks),
+        &(true, Some([false; 3]), 0, 3),
+    );
 }
 
 // What a run of an engine comes to: its offload header where it is of queue 3, and how long its headers, its frame and
@@ -199,18 +212,19 @@ fn what_runs_come_to(rt: HostRuntime) {
     engine.merge(slots, 4096);
     assert!(rt; engine.runs.len() == 2);
     let merged = said_of(slots, &engine, 0);
-    let alone = said_of(slots, &engine, 1);
-    assert_eq!(rt;
-        (merged, alone.0, alone.2, alone.3),
-        (
+    let (head, _, len, original) = said_of(slots, &engine, 1);
+    let are_headers = has_headers(slots, &engine, 0, &frames::PLAIN_MERGED);
+    let blocks = popped(&rt, alloc, packets, &[2, 1, 0]);
+    assert_same(
+        &rt,
+        &(merged, (head, len, original), are_headers, blocks),
+        &(
             (of_queue(1, 2, 160, 0), 54, 314, 314),
-            of_queue(0, 1, 0, 2),
-            214,
-            214
-        )
+            (of_queue(0, 1, 0, 2), 214, 214),
+            true,
+            3,
+        ),
     );
-    assert!(rt; has_headers(slots, &engine, 0, &frames::PLAIN_MERGED));
-    assert_eq!(rt; popped(&rt, alloc, packets, &[2, 1, 0]), 3);
 }
 
 // The same of an item.
@@ -231,15 +245,21 @@ fn what_items_say(rt: HostRuntime) {
     put(&rt, alloc, &mut table, 2, &apart, &payload);
     let items = finished(&rt, alloc, table);
     assert!(rt; items.len() == 2);
-    assert_eq!(rt;
-        [said_by(&items[0]), said_by(&items[1])],
-        [
-            (of_queue(1, 2, 160, 0), 314, 314),
-            (of_queue(0, 1, 0, 2), 214, 214),
-        ]
+    let said = [said_by(&items[0]), said_by(&items[1])];
+    let are_headers = has_bytes(&items[0].skb, 0, &frames::PLAIN_MERGED);
+    let blocks = spent(&rt, items, &[(0, 2, 160, 0), (2, 1, 0, 0)]);
+    assert_same(
+        &rt,
+        &(said, are_headers, blocks),
+        &(
+            [
+                (of_queue(1, 2, 160, 0), 314, 314),
+                (of_queue(0, 1, 0, 2), 214, 214),
+            ],
+            true,
+            9,
+        ),
     );
-    assert!(rt; has_bytes(&items[0].skb, 0, &frames::PLAIN_MERGED));
-    assert_eq!(rt; spent(&rt, items, &[(0, 2, 160, 0), (2, 1, 0, 0)]), 9);
 }
 
 /// A list that nobody brings home is freed with all that it has, but for a block that a clone holds; of one without
@@ -256,5 +276,5 @@ fn freed_with_its_packets(rt: HostRuntime) {
         shared.free(),
         clone.free(),
     ];
-    assert_eq!(rt; blocks, [3, 0, 2, 1]);
+    assert_same(&rt, &blocks, &[3, 0, 2, 1]);
 }

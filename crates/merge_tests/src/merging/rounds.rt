@@ -6,6 +6,7 @@ use super::{
     Said, emptied, finished, given_up, home, packet, plain, put, put_plain, put16, receive,
     reserve, spent, table_for, table_in_runs,
 };
+use crate::seeing::assert_same;
 use gro::{Item, RoundTable};
 use std::alloc::Global;
 use std::process::Abort;
@@ -58,7 +59,7 @@ fn come_to_runs(
     }
     assert!(rt; !table.may_receive(places.len() as u32));
     let items = finished(rt, alloc, table);
-    assert_eq!(rt; spent(rt, items, rows), places.len().wrapping_mul(3));
+    assert_same(rt, &spent(rt, items, rows), &places.len().wrapping_mul(3));
 }
 
 // Identifications 65535 and 0, and sequence numbers from 50 below zero to 50.
@@ -103,7 +104,7 @@ fn padded(rt: HostRuntime) {
     let next = plain(1, 100, 0x10, &payload[..98]);
     put(&rt, alloc, &mut table, 1, &next, &payload);
     let rows = [(0, 1, 0, 0), (1, 1, 0, 0)];
-    assert_eq!(rt; spent(&rt, finished(&rt, alloc, table), &rows), 6);
+    assert_same(&rt, &spent(&rt, finished(&rt, alloc, table), &rows), &6);
 }
 
 // Flows in turn whose keys have one hash, one of which ends its run and begins another.
@@ -143,7 +144,7 @@ fn none_merges(rt: &impl Abort, alloc: Global, all: bool) {
         receive(rt, alloc, &mut table, packet);
     }
     let rows = [(0, 1, 0, 0), (1, 1, 0, 0), (2, 1, 0, 0)];
-    assert_eq!(rt; spent(rt, finished(rt, alloc, table), &rows), 9);
+    assert_same(rt, &spent(rt, finished(rt, alloc, table), &rows), &9);
 }
 
 /// A packet that was captured in part is alone, and ends its flow's run. Where no run is open it opens none that
@@ -176,7 +177,7 @@ fn of_no_flow(rt: HostRuntime) {
     let next = plain(1, 100, 0x10, &payload);
     put(&rt, alloc, &mut table, 2, &next, &payload);
     let rows = [(0, 2, 100, 0), (1, 1, 0, 0)];
-    assert_eq!(rt; spent(&rt, finished(&rt, alloc, table), &rows), 9);
+    assert_same(&rt, &spent(&rt, finished(&rt, alloc, table), &rows), &9);
 }
 
 static TWO_FLOWS: [Place; 6] = [
@@ -202,9 +203,10 @@ fn two_flows_and_an_ack(rt: HostRuntime) {
         let head = head_of(&TWO_FLOWS[i], own);
         put(&rt, alloc, &mut table, i as u32, &head, own);
     }
-    assert_eq!(rt; (table.may_receive(6), table.count()), (false, 18));
+    let held = (table.may_receive(6), table.count());
     let items = finished(&rt, alloc, table);
-    assert_eq!(rt; spent(&rt, items, &SAID_OF_TWO_FLOWS), 18);
+    let blocks = spent(&rt, items, &SAID_OF_TWO_FLOWS);
+    assert_same(&rt, &(held, blocks), &((false, 18), 18));
 }
 
 // So many flows in turn, so many packets of each: an item for each flow, in the order of the first packets.
@@ -222,17 +224,21 @@ fn flows_in_turn(rt: &impl Abort, alloc: Global, flows: u16, turns: u16)
     }
     assert!(rt; !table.may_receive(all));
     let mut items = finished(rt, alloc, table);
-    assert_eq!(rt; items.len(), flows as usize);
+    let count = items.len();
+    let mut others: usize = 0;
     let mut blocks: usize = 0;
     while let Some(item) = items.pop() {
-        assert_eq!(rt;
-            (item.number as usize, item.n),
-            (items.len(), u32::from(turns))
-        );
+        if item.number as usize != items.len() || item.n != u32::from(turns) {
+            others = others.wrapping_add(1);
+        }
         blocks = blocks.wrapping_add(home(rt, item));
     }
     items.destroy_empty();
-    assert_eq!(rt; blocks, (all as usize).wrapping_mul(3));
+    assert_same(
+        rt,
+        &(count, others, blocks),
+        &(flows as usize, 0, (all as usize).wrapping_mul(3)),
+    );
 }
 
 /// 2,048 flows in turn, two packets of each, and 4,096 packets of as many flows.
@@ -254,7 +260,7 @@ fn summed(rt: &impl Abort, alloc: Global, sum: u16, rows: &[Said]) {
     put_plain(rt, alloc, &mut table, (0, 0, 0x10), &payload);
     put(rt, alloc, &mut table, 1, &next, &other);
     let items = finished(rt, alloc, table);
-    assert_eq!(rt; spent(rt, items, rows), 6);
+    assert_same(rt, &spent(rt, items, rows), &6);
 }
 
 /// A packet whose TCP sum is ffff where 0 is the value is alone: no frame that is put together has such a sum.
@@ -277,13 +283,13 @@ fn serve(rt: &impl Abort, alloc: Global, table: &mut RoundTable)
     put(rt, alloc, table, 2, &apart, &[7; 5]);
     let mut items = Vec::new(alloc);
     finished_into(rt, table, &mut items);
-    assert_eq!(rt; items.len(), 2);
+    let count = items.len();
     let mut blocks: usize = 0;
     while let Some(item) = items.pop() {
         blocks = blocks.wrapping_add(brought(rt, table, item));
     }
     items.destroy_empty();
-    assert_eq!(rt; blocks, 9);
+    assert_same(rt, &(count, blocks), &(2, 9));
 }
 
 // The table's next round. Where one call is refused memory, the next one isn't.
@@ -304,7 +310,7 @@ fn finished_into(rt: &impl Abort, table: &mut RoundTable, items: &mut Vec<Item>)
     match table.finish_into(items) {
         Ok(()) => {}
         Err(_) => {
-            assert_eq!(rt; table.count(), before);
+            assert_same(rt, &table.count(), &before);
             table.finish_into(items).expect(rt, "items");
         }
     }
@@ -379,5 +385,5 @@ fn given_back(rt: HostRuntime) {
         let head = plain(i as u16, i * 4, 0x10, &[1; 4]);
         put(&rt, alloc, &mut table, i, &head, &[1; 4]);
     }
-    assert_eq!(rt; given_up(&rt, alloc, table), 6);
+    assert_same(&rt, &given_up(&rt, alloc, table), &6);
 }

@@ -1,9 +1,9 @@
 //! Offload headers that no lawful record has, in both versions.
 use super::cutting::{buffer, cut, headers, merged};
+use crate::seeing::assert_same;
 use pcap_io::{AnyHead, OffHead, OffHead2};
 use std::alloc::Global;
 use std::process::Abort;
-use std::test::Fail;
 use worked_captures::MERGED;
 
 // Whether a record of these bytes is taken, whose record header says that its frame had so many.
@@ -50,11 +50,19 @@ fn are_taken(rt: &impl Abort, alloc: Global, row: &Row) -> (bool, bool) {
     )
 }
 
+// Kind, n, m, modes and lane of the first row that is taken, in either version.
+fn first_taken(rt: &impl Abort, alloc: Global) -> Option<(u8, u16, u16, u8, u8)> {
+    for row in &REFUSED {
+        if are_taken(rt, alloc, row) != (false, false) {
+            return Some((row.0, row.1, row.2, row.3, row.4));
+        }
+    }
+    None
+}
+
 #[test]
 fn hostile_records_are_refused(rt: HostRuntime) {
-    for row in &REFUSED {
-        assert!(rt; are_taken(&rt, rt.alloc(), row) == (false, false));
-    }
+    assert_same(&rt, &first_taken(&rt, rt.alloc()), &None);
 }
 
 // Whether a record that says this version is taken, with a header of each.
@@ -82,7 +90,11 @@ fn other_versions_are_refused(rt: HostRuntime) {
         are_taken_as(&rt, alloc, 255),
     ];
     let none = (false, false);
-    assert_eq!(rt; taken, [none, (true, false), (false, true), none, none]);
+    assert_same(
+        &rt,
+        &taken,
+        &[none, (true, false), (false, true), none, none],
+    );
 }
 
 // n and m, whose products are 2^32 and more. In 32 bits the second and the third would fit the payload of six bytes.
@@ -95,11 +107,19 @@ static WIDE: [(u32, u32); 6] = [
     (65_538, 4),
 ];
 
+// The first of them that is taken.
+fn first_wide(rt: &impl Abort, alloc: Global) -> Option<(u32, u32)> {
+    for (n, m) in &WIDE {
+        if is_taken(rt, alloc, &merged(*n, *m, 0), &MERGED, 60) {
+            return Some((*n, *m));
+        }
+    }
+    None
+}
+
 #[test]
 fn numbers_of_32_bits_are_refused(rt: HostRuntime) {
-    for (n, m) in &WIDE {
-        assert!(rt; !is_taken(&rt, rt.alloc(), &merged(*n, *m, 0), &MERGED, 60));
-    }
+    assert_same(&rt, &first_wide(&rt, rt.alloc()), &None);
 }
 
 // Whether a single record is taken as long as may be, longer, with as long an original length as may be, with a longer
@@ -117,20 +137,21 @@ fn are_taken_at_limits(rt: &impl Abort, alloc: Global, head: &AnyHead, bytes: &[
 
 // A frame has at most 262,144 bytes, and its original length is at most 2^31 - 1.
 #[test]
-fn single_records_at_the_limits(rt: HostRuntime) -> Result<(), Fail> {
+fn single_records_at_the_limits(rt: HostRuntime) {
     let alloc = rt.alloc();
-    let bytes = vec![in alloc; 0u8; 262_145]?;
+    let bytes = vec![in alloc; 0u8; 262_145].expect(&rt, "no memory");
     let [first, second] = headers(0, 1, 0, 0, 63);
-    assert_eq!(rt;
-        [
-            are_taken_at_limits(&rt, alloc, &first, &bytes),
-            are_taken_at_limits(&rt, alloc, &second, &bytes),
-        ],
-        [[true, false, true, false, true]; 2]
-    );
+    let are_taken = [
+        are_taken_at_limits(&rt, alloc, &first, &bytes),
+        are_taken_at_limits(&rt, alloc, &second, &bytes),
+    ];
     // An original length below that of the header.
     let [_, second] = headers(0, 1, 0, 0, 0);
     let skb = buffer(&rt, alloc, &MERGED, 60, 1);
-    assert!(rt; cut(&rt, alloc, &second, skb, 15).is_none());
-    Ok(())
+    let is_refused = cut(&rt, alloc, &second, skb, 15).is_none();
+    assert_same(
+        &rt,
+        &(are_taken, is_refused),
+        &([[true, false, true, false, true]; 2], true),
+    );
 }
