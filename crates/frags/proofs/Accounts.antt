@@ -1,6 +1,6 @@
 -- How balances are kept by steps, one after another.
 use Rattle.std.proofs.Common.{◌≡◌, ℕ, ◌+◌, ◌*◌, ◌≤◌, List, [], ◌∷◌, ◌++◌, Bool, ap, ◌∙◌, arith}
-use Rattle.ref_core.specs.WeightRule.{full_weight}
+use Rattle.block_weight.specs.WeightRule.{full_weight}
 use Rattle.raw_block.specs.Views.{Life, SoleState, PartState, ReceiptState}
 use Rattle.frags.specs.OutcomesState.{OutcomesState}
 use Rattle.frags.specs.Account.{Account, Tests, Keeps, KeepsBlocks, KeepsMarks, every, both, counted, at_home, receipts_held}

@@ -10,7 +10,7 @@ use lib.Dec.{ltb, eqb}
 use Rattle.frags.specs.declared.pieces.Piece.{Piece}
 use Rattle.frags.specs.Account.{Tests}
 use Rattle.frags.specs.PieceList.{bytes_of, piece_bytes, size_of, Fits, AllFit, pieces_held, keep_front, byte_in, least_weight}
-use Rattle.ref_core.specs.WeightRule.{full_weight}
+use Rattle.block_weight.specs.WeightRule.{full_weight}
 use Rattle.frags.proofs.Accounts.{pieces_held-append}
 use Rattle.frags.proofs.PieceBytes.{length-piece, size_of-append, AllFit-append}
 use Rattle.frags.proofs.Splits.{halves}

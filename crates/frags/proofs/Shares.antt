@@ -1,7 +1,7 @@
 -- What the parts of a list give away and what they keep, all at once and one by one.
 use Rattle.std.proofs.Common.{◌≡◌, ℕ, ◌+◌, ◌-◌, ◌<◌, ◌≤◌, List, [], ◌∷◌, ◌++◌, false, ◌≢◌, zero, suc, add-one, refl, ap}
 use Rattle.std.proofs.Common.{◌∙◌, length, get_or, set, map, arith}
-use Rattle.ref_core.specs.WeightRule.{IsWeight}
+use Rattle.block_weight.specs.WeightRule.{IsWeight}
 use Rattle.raw_block.specs.Views.{PartState}
 use Rattle.frags.specs.Account.{Tests, counted}
 use Rattle.frags.specs.Gifts.{kept, given, gift, kept_first, given_first, worn}

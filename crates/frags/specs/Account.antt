@@ -1,6 +1,6 @@
 -- Nothing is lost: by blocks, lives and marks, what was held is held, or its block's Sole is at home.
 use Rattle.std.specs.Prelude.{ℕ, ◌+◌, ◌*◌, ◌≤◌, List, [], ◌∷◌, Bool, true, cond, ◌&&◌, ◌==◌}
-use Rattle.ref_core.specs.WeightRule.{full_weight}
+use Rattle.block_weight.specs.WeightRule.{full_weight}
 use Rattle.raw_block.specs.Views.{Life, SoleState, PartState, ReceiptState}
 use Rattle.raw_block.specs.declared.part.Released.{Released}
 use Rattle.raw_block.specs.declared.part.Released.TheVariants.{Last, Left}

@@ -1,6 +1,6 @@
 -- What a holder of a block reads, and the part that it is or becomes.
 use Rattle.std.specs.Prelude.{ℕ, ◌≡◌, List, ◌∷◌, ◌++◌, Ok, Err}
-use Rattle.ref_core.specs.WeightRule.{full_weight}
+use Rattle.block_weight.specs.WeightRule.{full_weight}
 use Rattle.raw_block.specs.Views.{PartState}
 use Rattle.frags.specs.declared.pieces.Piece.{Piece}
 use Rattle.frags.specs.declared.holder.Holder.{Holder}

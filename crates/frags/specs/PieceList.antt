@@ -2,7 +2,7 @@
 use Rattle.std.specs.Prelude.{ℕ, ◌≡◌, ◌+◌, ◌-◌, ◌<◌, ◌≤◌, List, [], ◌∷◌, ◌++◌, cond, ◌==◌, nat_lt, length, slice_range}
 use Rattle.std.specs.Prelude.{slice_index_or, min}
 use Rattle.std.specs.List.{AllByRecursion}
-use Rattle.ref_core.specs.WeightRule.{full_weight, IsWeight}
+use Rattle.block_weight.specs.WeightRule.{full_weight, IsWeight}
 use Rattle.frags.specs.Account.{Account, Tests, counted}
 use Rattle.frags.specs.declared.pieces.Piece.{Piece}
 

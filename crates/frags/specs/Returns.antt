@@ -1,6 +1,6 @@
 -- What giving back leaves among the outcomes, and what is freed of what is given up without them.
 use Rattle.std.specs.Prelude.{ℕ, ◌≡◌, ◌≤◌, List, [], ◌∷◌}
-use Rattle.ref_core.specs.WeightRule.{full_weight}
+use Rattle.block_weight.specs.WeightRule.{full_weight}
 use Rattle.raw_block.specs.Releases.{IsReleased, IsLast}
 use Rattle.raw_block.specs.Views.{SoleState, PartState}
 use Rattle.raw_block.specs.declared.part.Released.{Released}

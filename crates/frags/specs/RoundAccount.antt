@@ -1,6 +1,6 @@
 -- What follows of the account over a whole round: by marks, and of one block.
 use Rattle.std.specs.Prelude.{ℕ, ◌≡◌, ◌+◌, ◌*◌, ◌<◌, ◌≤◌, Bool, true, ◌==◌}
-use Rattle.ref_core.specs.WeightRule.{full_weight}
+use Rattle.block_weight.specs.WeightRule.{full_weight}
 use Rattle.raw_block.specs.Views.{Life}
 use Rattle.frags.specs.Account.{Account, Tests, Keeps, both, every}
 

@@ -1,6 +1,6 @@
 //! Who holds a block, and what a part of it gives away.
 ghost use Rattle.std.specs.Prelude.{◌≡◌, ◌≢◌, ◌<◌, ◌≤◌};
-ghost use Rattle.ref_core.specs.WeightRule.{full_weight};
+ghost use Rattle.block_weight.specs.WeightRule.{full_weight};
 ghost use Rattle.frags.specs.Gifts.{less, gave};
 ghost use Rattle.frags.specs.Holders.{AsPart, name_of};
 ghost use Rattle.frags.specs.Returns.{Frees};

@@ -1,6 +1,6 @@
 -- What a run of packets in buffers comes to.
 use Rattle.std.specs.Prelude.{ℕ, ◌≡◌, ◌+◌, ◌≤◌, List, length}
-use Rattle.ref_core.specs.WeightRule.{full_weight}
+use Rattle.block_weight.specs.WeightRule.{full_weight}
 use Rattle.frags.specs.Account.{Account, Keeps, both, of_outcomes}
 use Rattle.frags.specs.OutcomesState.{OutcomesState}
 use Rattle.skb.specs.SkbState.{SkbState, buffer_bytes, buffer_least, of_buffer}

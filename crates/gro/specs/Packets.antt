@@ -2,7 +2,7 @@
 use Rattle.std.specs.Prelude.{ℕ, ◌≡◌, ◌+◌, ◌*◌, Bool, false, Option, Some, None, Result, List, length, drop, set}
 use Rattle.std.specs.Prelude.{slice_index_or, MatchResult, IfOk}
 use Rattle.std.specs.List.{flat_map}
-use Rattle.ref_core.specs.WeightRule.{full_weight}
+use Rattle.block_weight.specs.WeightRule.{full_weight}
 use Rattle.pcap_io.specs.Capture.{Packet}
 use Rattle.frags.specs.Account.{Tests, KeepsMarks, every}
 use Rattle.frags.specs.declared.pieces.ShareFault.{ShareFault}

@@ -4,7 +4,7 @@ ghost use Rattle.std.specs.Bool.{Decides};
 ghost use Rattle.pcap_io.specs.Limits.{most_frame};
 ghost use Rattle.frags.specs.Account.{Keeps, both, of_outcomes};
 ghost use Rattle.frags.specs.Growth.{Grows};
-ghost use Rattle.ref_core.specs.WeightRule.{full_weight};
+ghost use Rattle.block_weight.specs.WeightRule.{full_weight};
 ghost use Rattle.skb.specs.SkbState.{buffer_size};
 ghost use Rattle.skb.specs.Fronts.{IsFronted};
 ghost use Rattle.offload_model.specs.Merged.{merged_of};

@@ -3,7 +3,7 @@ use Rattle.std.proofs.Common.{◌≡◌, ℕ, zero, suc, ◌+◌, ◌<◌, ◌�
 use Rattle.std.specs.List.{AllByRecursion}
 use Rattle.std.specs.Prelude.{Result}
 use Rattle.std.proofs.lemmas.List.{length-set}
-use Rattle.ref_core.specs.WeightRule.{full_weight}
+use Rattle.block_weight.specs.WeightRule.{full_weight}
 use Rattle.frags.specs.Account.{Account, Tests, Keeps, KeepsBlocks, both, every, receipts_held, soles_home}
 use Rattle.frags.specs.OutcomesState.{IsBare}
 use Rattle.frags.specs.declared.pieces.ShareFault.{ShareFault}

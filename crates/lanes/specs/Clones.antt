@@ -2,7 +2,7 @@
 use Rattle.std.specs.Prelude.{ℕ, ◌≡◌, ◌+◌, ◌-◌, ◌*◌, ◌^◌, ◌≤◌, false, List, length, map, set, slice_index_or}
 use Rattle.std.specs.Prelude.{MatchResult, Result}
 use Rattle.std.specs.declared.alloc.AllocError.{AllocError}
-use Rattle.ref_core.specs.WeightRule.{full_weight}
+use Rattle.block_weight.specs.WeightRule.{full_weight}
 use Rattle.frags.specs.Account.{Keeps, KeepsBlocks, both}
 use Rattle.frags.specs.declared.pieces.ShareFault.{ShareFault}
 use Rattle.frags.specs.declared.pieces.ShareFault.TheVariants.{NoMemory}

@@ -1,8 +1,10 @@
 //! The edge to the system: std's readers and writers with a count of their errors.
 ghost use Rattle.std.specs.Prelude.{◌≡◌, ◌<◌, ◌≤◌, None, IfNone, IfSome, false, length};
 ghost use Rattle.std.specs.Io.{ReadsAtMost};
-ghost use Rattle.std.specs.Io.KnownBytes.{ReadConsumes};
-ghost use Rattle.std.specs.Io.Buffered.{reader_remaining};
+ghost use Rattle.std.specs.Io.KnownBytes.{Appends, Keeps, ReadConsumes};
+ghost use Rattle.std.specs.Io.Buffered.{reader_remaining, writer_contents};
+ghost use Rattle.std.specs.Prelude.{MatchOption, take};
+ghost use Rattle.off_io.specs.Content.{SaysFlushed};
 ghost use Rattle.off_io.specs.Faults.{HasCause, Rose};
 
 use crate::{Failed, Sink, Source};
@@ -116,36 +118,44 @@ impl<R: Read> Source for BufferedSource<R> {
 pub struct StdSink<W> {
     inner: W,
     faults: u64,
+    is_flushed: bool,
 }
 
 impl<W> Model for StdSink<W> {
-    ghost use Rattle.off_io.specs.Edge.{Counting};
+    ghost use Rattle.off_io.specs.Edge.{CountingSink};
 
-    ghost Value = { Counting W };
+    ghost Value = { CountingSink W };
 
-    ghost view = { λ s. record { inner = s.inner; faults = s.faults } };
+    ghost view = { λ s. record { inner = s.inner; faults = s.faults; is_flushed = s.is_flushed } };
 }
 
 impl<W: Write> StdSink<W> {
     /// A sink over a writer, with no fault yet.
     pub fn new(inner: W) -> Self
-        ensures made { result ≡ record { inner = inner; faults = 0 } }
+        ensures made { result ≡ record { inner = inner; faults = 0; is_flushed = false } }
     {
-        StdSink { inner, faults: 0 }
+        StdSink {
+            inner,
+            faults: 0,
+            is_flushed: false,
+        }
     }
 }
 
 impl<W: Write> Sink for StdSink<W> {
-    ghost held = { λ _. None };
+    ghost held = { λ s. W.contents s.inner };
 
-    ghost is_flushed = { λ _. false };
+    ghost is_flushed = { λ s. s.is_flushed };
 
     ghost faults = { λ s. s.faults };
 
     #[inline(always)]
     fn write(&mut self, from: &[u8]) -> Result<usize, Failed> {
         match self.inner.write(from) {
-            Ok(count) if count > 0 || from.is_empty() => Ok(count),
+            Ok(count) if count > 0 || from.is_empty() => {
+                self.is_flushed = self.is_flushed && count == 0;
+                Ok(count)
+            }
             _ => {
                 self.faults = self.faults.saturating_add(1);
                 Err(Failed)
@@ -155,7 +165,10 @@ impl<W: Write> Sink for StdSink<W> {
 
     fn flush(&mut self) -> Result<(), Failed> {
         match self.inner.flush() {
-            Ok(()) => Ok(()),
+            Ok(()) => {
+                self.is_flushed = true;
+                Ok(())
+            }
             Err(_) => {
                 self.faults = self.faults.saturating_add(1);
                 Err(Failed)
@@ -174,9 +187,9 @@ pub struct BufferedSink<W: Write + Drop> {
 impl<W: Write + Drop> Model for BufferedSink<W> {
     ghost use Rattle.std.specs.declared.io.buffered.BufWriter.{BufWriter};
     ghost use Rattle.std.specs.declared.alloc.Global.{Global};
-    ghost use Rattle.off_io.specs.Edge.{Counting};
+    ghost use Rattle.off_io.specs.Edge.{CountingSink};
 
-    ghost Value = { Counting (BufWriter W Global) };
+    ghost Value = { CountingSink (BufWriter W Global) };
 
     ghost view = { λ s. s.sink };
 }
@@ -184,7 +197,7 @@ impl<W: Write + Drop> Model for BufferedSink<W> {
 impl<W: Write + Drop> BufferedSink<W> {
     /// A sink over a writer, with no fault yet.
     pub fn new(inner: BufWriter<W>) -> Self
-        ensures made { result ≡ record { inner = inner; faults = 0 } }
+        ensures made { result ≡ record { inner = inner; faults = 0; is_flushed = false } }
     {
         BufferedSink {
             sink: StdSink::new(inner),
@@ -197,6 +210,12 @@ impl<W: Write + Drop> BufferedSink<W> {
     fn write_on(&mut self, from: &[u8]) -> Option<usize>
         ensures bound { IfSome result (λ n. n ≤ length from.now) }
         ensures progress { IfSome result (λ n. 0 < length from.now → 0 < n) }
+        ensures bytes { MatchOption result
+            (Keeps (writer_contents W.contents self.old.inner) (writer_contents W.contents self.new.inner))
+            (λ n. Appends (writer_contents W.contents self.old.inner) (writer_contents W.contents self.new.inner)
+            (take n from.now)) }
+        ensures unflushed { IfSome result (λ n. 0 < n → SaysFlushed (writer_contents W.contents self.new.inner)
+            self.new.is_flushed false) }
         ensures later { self.old.faults ≤ self.new.faults }
         ensures failed { IfNone result (Rose self.old.faults self.new.faults) }
     {
@@ -208,9 +227,9 @@ impl<W: Write + Drop> BufferedSink<W> {
 }
 
 impl<W: Write + Drop> Sink for BufferedSink<W> {
-    ghost held = { λ _. None };
+    ghost held = { λ s. writer_contents W.contents s.inner };
 
-    ghost is_flushed = { λ _. false };
+    ghost is_flushed = { λ s. s.is_flushed };
 
     ghost faults = { λ s. s.faults };
 

@@ -29,7 +29,7 @@ pub use types.ByLocal.{alloc_all, env, free_all, get, get_in, is, lands_last, lo
 pub use types.Part.{agg, look_in, sub, whole}
 pub use types.Run.{Calls-last, addr, and_then, blocks, enter, exec, first, fld, lit, no_more, of_opd, returns, stop, unit_lit}
 -- what a parameter owns, what becomes of it, and how it is stored
-pub use Rattle.ref_core.specs.WeightRule.{full_weight, IsBalanced}
+pub use Rattle.block_weight.specs.WeightRule.{full_weight, IsBalanced}
 pub use Rattle.std_alloc.proofs.BoxSteps.Steps.{box_in, box_out}
 pub use Rattle.std_heap.specs.contracts.GlobalAllocator.TheImpl.{dict, ghosts}
 pub use denote.Builtin.{RefOf, u64, RawPtr}

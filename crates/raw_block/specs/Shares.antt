@@ -27,7 +27,7 @@ use denote.Memory.{part_at, shared_of, lone}
 use denote.RawPtr.{Ptr, block_ptr, null_ptr}
 use denote.Sharing.{said}
 use Rattle.core.specs.Sync.RawAtomic.{word}
-use Rattle.ref_core.specs.WeightRule.{full_weight, IsBalanced, IsWeight}
+use Rattle.block_weight.specs.WeightRule.{full_weight, IsBalanced, IsWeight}
 use Rattle.raw_block.specs.Heap.{heap_owns}
 use Rattle.raw_block.specs.Views.{Life}
 use Rattle.raw_block.specs.contracts.block.Block.{the_row}

@@ -13,7 +13,7 @@ ghost use Rattle.std.specs.Prelude.{◌≡◌, ◌+◌, ◌≤◌, length, slice
 ghost use Rattle.std.specs.Borrow.{sem};
 ghost use Rattle.raw_block.specs.Lending.{lends_range};
 
-use ref_core::BLOCK_SIZE;
+use block_weight::BLOCK_SIZE;
 
 /// A count word and a content, side by side in one allocation.
 #[derive(Drop)]

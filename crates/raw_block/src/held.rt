@@ -5,7 +5,7 @@
 //! `reunite`. The steps are `SeqCst`, the one order that the toolchain has; on x86 a weaker one would be the same
 //! instruction.
 ghost use Rattle.std.specs.Prelude.{◌≡◌, ◌≢◌, ℕ, ◌+◌, ◌<◌, ◌≤◌};
-ghost use Rattle.ref_core.specs.WeightRule.{full_weight};
+ghost use Rattle.block_weight.specs.WeightRule.{full_weight};
 ghost use Rattle.raw_block.specs.Views.{Life};
 ghost use Rattle.raw_block.specs.Shares.{share_owns, share_shares, given_back_owns, released_owns, claimed_owns};
 ghost use Rattle.raw_block.specs.Shares.{seen_owns};

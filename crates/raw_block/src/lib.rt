@@ -63,7 +63,7 @@ mod part;
 mod receipt;
 mod sole;
 
+pub use block_weight::{BLOCK_SIZE, FULL};
 pub use part::{Claimed, Part, Released};
 pub use receipt::{Receipt, Sight};
-pub use ref_core::{BLOCK_SIZE, FULL};
 pub use sole::Sole;

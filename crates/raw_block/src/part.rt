@@ -1,6 +1,6 @@
 //! A weighed part of a block that several hold.
 ghost use Rattle.std.specs.Prelude.{◌≡◌, ◌+◌, ◌<◌, ◌≤◌, ◌-◌, length};
-ghost use Rattle.ref_core.specs.WeightRule.{full_weight};
+ghost use Rattle.block_weight.specs.WeightRule.{full_weight};
 ghost use Rattle.raw_block.specs.Releases.{IsReleased, IsLast, IsClaimed, IsSole};
 
 use crate::block::Bytes;
@@ -20,7 +20,7 @@ pub struct Part {
 
 impl Model for Part {
     ghost use Rattle.std.specs.Prelude.{◌≡◌};
-    ghost use Rattle.ref_core.specs.WeightRule.{IsWeight};
+    ghost use Rattle.block_weight.specs.WeightRule.{IsWeight};
     ghost use Rattle.raw_block.specs.Views.{PartState};
 
     ghost Value = { PartState };

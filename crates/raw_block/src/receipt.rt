@@ -1,6 +1,6 @@
 //! What releases and claims give beside a block's holders.
 ghost use Rattle.std.specs.Prelude.{◌≡◌, ◌+◌, ◌<◌};
-ghost use Rattle.ref_core.specs.WeightRule.{full_weight};
+ghost use Rattle.block_weight.specs.WeightRule.{full_weight};
 
 use crate::held::{GivenBack, WordSeen};
 use std::marker::Model;
@@ -14,7 +14,7 @@ pub struct Receipt {
 
 impl Model for Receipt {
     ghost use Rattle.std.specs.Prelude.{◌≡◌, ◌<◌};
-    ghost use Rattle.ref_core.specs.WeightRule.{full_weight};
+    ghost use Rattle.block_weight.specs.WeightRule.{full_weight};
     ghost use Rattle.raw_block.specs.Views.{ReceiptState};
 
     ghost Value = { ReceiptState };

@@ -1,7 +1,7 @@
 //! The only holder of a block.
 ghost use Rattle.std.specs.Prelude.{◌≡◌, ◌≢◌, ◌+◌, ◌≤◌, length, replicate, slice_range, IfOk};
 ghost use Rattle.std.specs.Borrow.{sem};
-ghost use Rattle.ref_core.specs.WeightRule.{full_weight};
+ghost use Rattle.block_weight.specs.WeightRule.{full_weight};
 ghost use Rattle.raw_block.specs.Lending.{lends_bytes, lends_content};
 
 use crate::block::{Block, Bytes};
@@ -9,7 +9,7 @@ use crate::heap::OnHeap;
 use crate::held::Share;
 use crate::name::Name;
 use crate::part::Part;
-use ref_core::{BLOCK_SIZE, FULL};
+use block_weight::{BLOCK_SIZE, FULL};
 use std::alloc::{AllocError, Global};
 use std::marker::Model;
 

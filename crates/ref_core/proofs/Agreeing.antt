@@ -4,7 +4,7 @@ use mathlib.Core.Bool.{cond, ◌&&◌, not}
 use lib.Dec.{T, ltb}
 use Rattle.std.specs.Prelude.{slice_set, is_none}
 use Rattle.ref_core.specs.Memory.{block_size, byte_at}
-use Rattle.ref_core.specs.WeightRule.{full_weight}
+use Rattle.block_weight.specs.WeightRule.{full_weight}
 use Rattle.ref_core.specs.SetMachine as sets
 use Rattle.ref_core.specs.SetMachine.{SetState, block_of, without, holder_count, same_block, set_step}
 use Rattle.ref_core.specs.WeightMachine as weights

@@ -11,7 +11,7 @@ use Rattle.ref_core.specs.declared.event.Event.{Event}
 use Rattle.ref_core.specs.declared.event.Event.TheVariants.{Take, Share, Read, Write, GiveBack, Claim, Join}
 use Rattle.ref_core.specs.declared.event.Answer.{Answer}
 use Rattle.ref_core.specs.declared.event.Answer.TheVariants.{Done, Byte, Yes, No, BadGive, Unlawful}
-use Rattle.ref_core.specs.WeightRule.{full_weight}
+use Rattle.block_weight.specs.WeightRule.{full_weight}
 use Rattle.ref_core.specs.WeightMachine.{Holdings, WeightState, IsWeighed, IsHoldingIn, AllLive, holding_of, dropped, with_holding, total_weight, word_of, can_take, can_give, is_fresh, taken, shared}
 use Rattle.ref_core.specs.WeightMachine.{read, written, given_back, claimed, joined, weight_step, first_weights}
 use Rattle.ref_core.specs.declared.weight_machine.Holding.{Holding}

@@ -1,5 +1,5 @@
 pub mod Memory
 pub mod SetMachine
 pub mod WeightMachine
-pub mod WeightRule
+pub use Rattle.block_weight.specs.WeightRule
 pub mod Agreement

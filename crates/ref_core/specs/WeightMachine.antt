@@ -5,7 +5,7 @@ use Rattle.std.specs.Prelude.{[], ◌∷◌, length, replicate, slice_index, sli
 use Rattle.std.specs.Map.{lookup, remove_entry}
 use Rattle.indexmap.specs.IndexMap.{insert_entry}
 use Rattle.ref_core.specs.Memory.{Memory, block_size, zeroed, byte_at, with_byte}
-use Rattle.ref_core.specs.WeightRule.{full_weight}
+use Rattle.block_weight.specs.WeightRule.{full_weight}
 use Rattle.ref_core.specs.declared.event.Event.{Event}
 use Rattle.ref_core.specs.declared.event.Event.TheVariants.{Take, Share, Read, Write, GiveBack, Claim, Join}
 use Rattle.ref_core.specs.declared.event.Answer.{Answer}

@@ -36,30 +36,19 @@
 #![tactic(auto)]
 
 ghost use Rattle.ref_core.specs.Agreement.{MachinesAgree};
-ghost use Rattle.ref_core.specs.WeightRule.{WeightRule};
 
 mod event;
 mod memory;
 mod set_machine;
 mod weight_machine;
 
+pub use block_weight::{BLOCK_SIZE, FULL};
 pub use event::{Answer, Event};
 pub use set_machine::SetMachine;
 pub use weight_machine::WeightMachine;
-
-/// The weight of a whole block.
-pub const FULL: u64 = 1 << 62;
-
-/// How many bytes a block has.
-pub const BLOCK_SIZE: usize = 2048;
 
 /// The law of the two machines: over every list of events at which the weight machine answers no `BadGive`, both give
 /// the same answers.
 pub fn machines_agree()
     ensures law { MachinesAgree }
-{}
-
-/// The rule of weights, which each step on a shared block's word keeps.
-pub fn weights_balance()
-    ensures law { WeightRule }
 {}

@@ -2,7 +2,7 @@
 ghost use Rattle.std.specs.Prelude.{◌≡◌, ◌<◌, length, IfOk, slice_index_or};
 ghost use Rattle.ref_core.specs.Memory.{byte_at, with_byte, zeroed, block_size};
 
-use crate::BLOCK_SIZE;
+use block_weight::BLOCK_SIZE;
 use std::alloc::{AllocError, Global};
 use std::marker::Model;
 

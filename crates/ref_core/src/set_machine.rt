@@ -4,9 +4,9 @@ ghost use Rattle.ref_core.specs.SetMachine.{block_of, holder_count, without, fir
 ghost use Rattle.ref_core.specs.SetMachine.{written, given_back, claimed, joined};
 ghost use Rattle.ref_core.specs.Agreement.{answers_of, after};
 
-use crate::BLOCK_SIZE;
 use crate::event::{Answer, Event};
 use crate::memory::Memory;
+use block_weight::BLOCK_SIZE;
 use std::alloc::{AllocError, Global};
 use std::marker::Model;
 

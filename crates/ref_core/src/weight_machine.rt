@@ -9,7 +9,7 @@ ghost use Rattle.ref_core.specs.Agreement.{answers_of, after};
 
 use crate::event::{Answer, Event};
 use crate::memory::Memory;
-use crate::{BLOCK_SIZE, FULL};
+use block_weight::{BLOCK_SIZE, FULL};
 use indexmap::IndexMap;
 use std::alloc::{AllocError, Global};
 use std::marker::Model;

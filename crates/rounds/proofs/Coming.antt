@@ -1,6 +1,6 @@
 -- Objects that come home one after another.
 use Rattle.std.proofs.Common.{◌≡◌, ℕ, suc, ◌+◌, ◌<◌, ◌≤◌, List, [], ◌∷◌, ◌++◌, Bool, refl, sym, ap, ◌∙◌, subst, length, arith}
-use Rattle.ref_core.specs.WeightRule.{full_weight}
+use Rattle.block_weight.specs.WeightRule.{full_weight}
 use Rattle.raw_block.specs.Views.{Life}
 use Rattle.block_pool.specs.PoolState.{PoolState, home, weighed}
 use Rattle.frags.specs.Account.{Account, Tests, Keeps, KeepsBlocks, both, every, of_outcomes, receipts_held, soles_home}

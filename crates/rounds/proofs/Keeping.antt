@@ -7,7 +7,7 @@ use Rattle.std.proofs.lemmas.Bool.{false≢true}
 use Rattle.std.proofs.lemmas.List.{length-take}
 use Rattle.std.proofs.lemmas.List.Elements.{recursion_from_All}
 use Rattle.pcap_io.specs.Capture.{Packet}
-use Rattle.ref_core.specs.WeightRule.{full_weight}
+use Rattle.block_weight.specs.WeightRule.{full_weight}
 use Rattle.maximal_runs.proofs.Pass.{all_append}
 use Rattle.block_pool.specs.PoolState.{home}
 use Rattle.frags.specs.Account.{Account, Tests, Keeps, KeepsBlocks, both, every}

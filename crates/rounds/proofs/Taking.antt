@@ -1,6 +1,6 @@
 -- The blocks of a round whose heads were shared.
 use Rattle.std.proofs.Common.{◌≡◌, ℕ, zero, suc, ◌+◌, ◌<◌, ◌≤◌, List, [], ◌∷◌, ◌++◌, Bool, false, ◌⊎◌, inl, inr, refl, sym, ◌∙◌, subst, length, arith}
-use Rattle.ref_core.specs.WeightRule.{full_weight}
+use Rattle.block_weight.specs.WeightRule.{full_weight}
 use Rattle.raw_block.specs.Views.{Life, SoleState, PartState}
 use Rattle.frags.specs.Account.{Account, Tests, both, counted, of_part, of_holder}
 use Rattle.frags.specs.RoundAccount.{of_lives}

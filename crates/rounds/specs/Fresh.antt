@@ -1,7 +1,7 @@
 -- The blocks of a round whose heads were shared: each is there once, and with all of its weight. And its packets, by
 -- their numbers.
 use Rattle.std.specs.Prelude.{ℕ, ◌≡◌, ◌+◌, ◌*◌, ◌<◌, ◌≤◌, List, [], ◌∷◌, Bool}
-use Rattle.ref_core.specs.WeightRule.{full_weight}
+use Rattle.block_weight.specs.WeightRule.{full_weight}
 use Rattle.raw_block.specs.Views.{Life}
 use Rattle.frags.specs.Account.{Account}
 use Rattle.frags.specs.RoundAccount.{all_blocks, of_lives}

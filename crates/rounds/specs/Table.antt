@@ -1,6 +1,6 @@
 -- A place for each mark of a round: what came back of its block.
 use Rattle.std.specs.Prelude.{ℕ, ◌≡◌, ◌+◌, ◌<◌, ◌≤◌, List, [], ◌∷◌, length, slice_index_or}
-use Rattle.ref_core.specs.WeightRule.{full_weight}
+use Rattle.block_weight.specs.WeightRule.{full_weight}
 use Rattle.raw_block.specs.Views.{ReceiptState}
 use Rattle.block_pool.specs.PoolState.{PoolState, home, weighed}
 use Rattle.frags.specs.Account.{Account, KeepsBlocks, Tests, counted, both}

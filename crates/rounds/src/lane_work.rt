@@ -3,7 +3,7 @@ ghost use Rattle.std.specs.Prelude.{◌⊎◌, ◌≡◌, ℕ, ◌+◌, ◌≤�
 ghost use Rattle.std.specs.Prelude.{MatchResult};
 ghost use Rattle.std.specs.List.{AllByRecursion};
 ghost use Rattle.offload_model.specs.Captured.{IsCaptured};
-ghost use Rattle.ref_core.specs.WeightRule.{full_weight};
+ghost use Rattle.block_weight.specs.WeightRule.{full_weight};
 ghost use Rattle.frags.specs.Account.{Keeps, KeepsBlocks, both};
 ghost use Rattle.gro.specs.Slots.{packet_of, of_packets, counts_of, weighed_slots, AreHeld, AreShared, WeighAtLeast};
 ghost use Rattle.taps.specs.Clones.{packet_of as packet_of_clone, blocks_of, of_clones};

@@ -8,7 +8,7 @@ use Rattle.std.specs.Prelude.{Ok, ◌≢◌, cond, ◌==◌}
 use Rattle.std.proofs.lemmas.Bool.{cond_both, true≢false}
 use borrow.Author.Tests.{eqb-true}
 use lib.Dec.{eqb}
-use Rattle.ref_core.specs.WeightRule.{full_weight}
+use Rattle.block_weight.specs.WeightRule.{full_weight}
 use Rattle.raw_block.specs.Views.{SoleState, PartState}
 use Rattle.frags.specs.OutcomesState.{OutcomesState}
 use Rattle.frags.specs.Account.{Tests, Keeps, KeepsMarks, both, every, counted, at_home, of_part, of_sole, of_holder, of_outcomes}

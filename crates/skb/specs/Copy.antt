@@ -2,7 +2,7 @@
 use Rattle.std.specs.Prelude.{ℕ, ◌≡◌, ◌+◌, ◌-◌, ◌/◌, ◌<◌, ◌≤◌, List, [], ◌∷◌, ◌++◌, true, length, min, take}
 use Rattle.std.specs.Prelude.{slice_range, Ok, Err}
 use Rattle.std.specs.declared.result.Result.{Result}
-use Rattle.ref_core.specs.WeightRule.{full_weight}
+use Rattle.block_weight.specs.WeightRule.{full_weight}
 use Rattle.raw_block.specs.Views.{SoleState, PartState}
 use Rattle.frags.specs.PieceList.{least_weight}
 use Rattle.frags.specs.declared.pieces.Piece.{Piece}

@@ -1,7 +1,7 @@
 -- What `pull_up` answers.
 use Rattle.std.specs.Prelude.{ℕ, ◌≡◌, ◌+◌, ◌-◌, ◌<◌, ◌≤◌, List, take, Ok, Err}
 use Rattle.std.specs.declared.result.Result.{Result}
-use Rattle.ref_core.specs.WeightRule.{full_weight}
+use Rattle.block_weight.specs.WeightRule.{full_weight}
 use Rattle.raw_block.specs.Releases.{IsReleased}
 use Rattle.raw_block.specs.Views.{SoleState}
 use Rattle.raw_block.specs.declared.part.Released.{Released}

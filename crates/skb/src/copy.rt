@@ -1,7 +1,7 @@
 //! A buffer copied into blocks of its own.
 ghost use Rattle.std.specs.Prelude.{◌≡◌, ◌<◌, ◌≤◌, ◌+◌, ◌-◌, ◌*◌, ◌^◌, ◌++◌, [], ℕ, Bool, length, min, take, drop};
 ghost use Rattle.std.specs.Prelude.{IfOk};
-ghost use Rattle.ref_core.specs.WeightRule.{full_weight};
+ghost use Rattle.block_weight.specs.WeightRule.{full_weight};
 ghost use Rattle.frags.specs.Account.{every, soles_home};
 ghost use Rattle.frags.specs.PieceList.{bytes_of, size_of, pieces_held, least_weight};
 ghost use Rattle.skb.specs.SkbState.{SkbState, buffer_bytes, buffer_size, of_buffer};

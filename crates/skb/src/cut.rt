@@ -1,6 +1,6 @@
 //! Buffers cut in two.
 ghost use Rattle.std.specs.Prelude.{◌≡◌, ◌<◌, ◌≤◌, ◌+◌, ◌*◌, ◌++◌, ℕ, Bool, false, length, IfOk, IfErr};
-ghost use Rattle.ref_core.specs.WeightRule.{full_weight};
+ghost use Rattle.block_weight.specs.WeightRule.{full_weight};
 ghost use Rattle.frags.specs.Account.{Tests, every};
 ghost use Rattle.frags.specs.PieceList.{bytes_of, pieces_held};
 ghost use Rattle.skb.specs.SkbState.{buffer_bytes, buffer_size, head_size, is_sole, of_buffer};

@@ -1,6 +1,6 @@
 //! A second buffer of the same bytes, and a head that is made a part or a Sole.
 ghost use Rattle.std.specs.Prelude.{◌≡◌, ℕ, ◌+◌, ◌*◌, length, MatchResult, IfOk, Bool, false};
-ghost use Rattle.ref_core.specs.WeightRule.{full_weight};
+ghost use Rattle.block_weight.specs.WeightRule.{full_weight};
 ghost use Rattle.frags.specs.Account.{Tests, Keeps, KeepsMarks, both, every, of_sole};
 ghost use Rattle.skb.specs.SkbState.{buffer_bytes, is_sole, Owned, IsClone, IsLent, buffer_worn, of_buffer};
 ghost use Rattle.skb.specs.SkbState.{of_unshared};

@@ -1,6 +1,6 @@
 //! The packets of two flows in turn, and what comes home of lanes.
 ghost use Rattle.std.specs.Prelude.{◌≡◌, ◌≤◌, map};
-ghost use Rattle.ref_core.specs.WeightRule.{full_weight};
+ghost use Rattle.block_weight.specs.WeightRule.{full_weight};
 ghost use Rattle.skb.specs.SkbState.{buffer_least, IsAlone};
 ghost use Rattle.gro.specs.Slots.{packet_of, count_of, counts_of, IsHeld, AreAlone, AreHeld, AreShared, WeighAtLeast};
 ghost use Rattle.lanes.specs.Clones.{weight_after};

@@ -1,5 +1,5 @@
 use Rattle.std.proofs.Common.{◌≤◌, arith}
-use Rattle.ref_core.specs.WeightRule.{full_weight}
+use Rattle.block_weight.specs.WeightRule.{full_weight}
 use Rattle.frags.proofs.Accounts.{gives_last, gives_left, last_blocks, left_blocks}
 use Rattle.frags.proofs.outcomes.Outcomes.give_back.Goals as goal
 

@@ -1,5 +1,5 @@
 use Rattle.std.proofs.Common.{◌∷◌, [], ◌++◌, List, length, arith, ◌∙◌, ap, sym, subst}
-use Rattle.ref_core.specs.WeightRule.{IsWeight}
+use Rattle.block_weight.specs.WeightRule.{IsWeight}
 use Rattle.frags.specs.PieceList.{size_of, AllFit}
 use Rattle.frags.proofs.Accounts.{append_keeps}
 use Rattle.frags.proofs.PieceBytes.{size_of-append, AllFit-append}

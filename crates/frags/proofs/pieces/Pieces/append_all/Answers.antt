@@ -1,5 +1,5 @@
 use Rattle.std.proofs.Common.{◌≡◌, ◌∙◌, ◌++◌, ◌∷◌, [], List, length, ap, sym, subst, arith}
-use Rattle.ref_core.specs.WeightRule.{IsWeight}
+use Rattle.block_weight.specs.WeightRule.{IsWeight}
 use Rattle.frags.specs.PieceList.{size_of}
 use Rattle.frags.specs.declared.pieces.Piece.{Piece}
 use Rattle.frags.proofs.Joining.{takes_in_is, takes_in_fit, takes_in_keeps, takes_in_marks}

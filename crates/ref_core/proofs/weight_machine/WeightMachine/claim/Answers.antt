@@ -1,5 +1,5 @@
 use Rattle.std.proofs.Common.{◌≡◌, Some, arith, sym, subst, ap, ◌∙◌, slice_set}
-use Rattle.ref_core.specs.WeightRule.{full_weight}
+use Rattle.block_weight.specs.WeightRule.{full_weight}
 use Rattle.ref_core.specs.WeightMachine.{WeightState, IsWeighed, holding_of, word_of}
 use Rattle.ref_core.proofs.Weighing.{claimed_weighed}
 use Rattle.ref_core.proofs.weight_machine.WeightMachine.claim.Goals as goal

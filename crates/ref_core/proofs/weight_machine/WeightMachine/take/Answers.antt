@@ -1,6 +1,6 @@
 use Rattle.std.proofs.Common.{◌≡◌, true, arith, sym, subst, ap, ◌∙◌, slice_set}
 use Rattle.std.specs.Prelude.{is_none, not}
-use Rattle.ref_core.specs.WeightRule.{full_weight}
+use Rattle.block_weight.specs.WeightRule.{full_weight}
 use Rattle.ref_core.specs.WeightMachine.{WeightState, IsWeighed, holding_of, word_of}
 use Rattle.ref_core.proofs.Weighing.{taken_weighed}
 use Rattle.ref_core.proofs.weight_machine.WeightMachine.take.Goals as goal

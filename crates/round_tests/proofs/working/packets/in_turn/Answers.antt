@@ -1,5 +1,5 @@
 use Rattle.std.proofs.Common.{List, [], ◌∷◌, sym, subst, arith}
-use Rattle.ref_core.specs.WeightRule.{full_weight}
+use Rattle.block_weight.specs.WeightRule.{full_weight}
 use Rattle.pcap_io.specs.Capture.{Packet}
 use Rattle.gro.specs.declared.slot.Slot.{Slot}
 use Rattle.gro.specs.Slots.{WeighAtLeast}
