@@ -1,5 +1,5 @@
-# What ./offload and contrib/c/build share: whether a product is built from the sources as they stand, and how it is proved and built where it
-# isn't. Sourced by a script of bash that has set
+# What ./offload and contrib/c/build share: where a product is that was built from the sources as they stand, and how it is proved and built where
+# there is none. Sourced by a script of bash that has set
 #   root     the repository's folder
 #   crate    the crate of the product
 #   product  the file that is built
@@ -9,8 +9,14 @@
 # but what rt says; `is_made` tells whether that made the product.
 # shellcheck shell=bash disable=SC2154
 
-built=$product.built # the names and checksums of the sources, and of the product that was built from them
+# Beside each product lies a file of the same name and `.built`: the names and checksums of the sources, and of the product that was built from them.
+# What the release has is stripped of what only a debugger reads, and a third file, `.whole`, has the checksum of the product as it was built.
 log=$product.log
+archive=$root/release/offload.tar.xz
+released=$root/out/release/${product##*/} # what was taken from there
+
+# shellcheck source=contrib/lib/side_by_side.sh
+. "$root/contrib/lib/side_by_side.sh" || exit 1
 
 say() {
   echo "$teller: $1" >&2
@@ -49,33 +55,84 @@ sources() {
     find "${folders[@]}" ! -type d \( -name '*.rt' -o -name '*.antt' \) ! -name '.*' -print0 | LC_ALL=C sort -z | xargs -0 sha256sum --
 }
 
-# The same, and the product.
+# state FILE: the same, and the checksum of a product.
 state() {
-  (sources && sha256sum <"$product") 2>/dev/null
+  (sources && sha256sum <"$1") 2>/dev/null
+}
+
+# is_of_these FILE: whether it is a product that was built from the sources as they stand.
+is_of_these() {
+  [ -s "$1" ] && { [ -x "$1" ] || [ "${1##*.}" = a ]; } && [ -f "$1.built" ] && [ "$(state "$1")" = "$(<"$1.built")" ]
 }
 
 is_built() {
-  [ -s "$product" ] && { [ -x "$product" ] || [ "${product##*.}" = a ]; } && [ -f "$built" ] && [ "$(state)" = "$(<"$built")" ]
+  is_of_these "$product"
 }
 
-# As many jobs as processors are free, half of them at least since a load passes, and as memory allows at 3 GB each: rt's own choice asks for
-# several times that, and gives a large crate one.
-free_jobs() {
-  local all free busy memory
-  all=$(nproc)
-  free=$all
-  read -r busy _ 2>/dev/null </proc/loadavg && free=$((all - ${busy%.*}))
-  [ "$free" -lt $(((all + 1) / 2)) ] && free=$(((all + 1) / 2))
-  memory=$(awk '/^MemAvailable:/ { print int($2 / 3000000) }' /proc/meminfo 2>/dev/null)
-  [ -n "$memory" ] && [ "$memory" -lt "$free" ] && free=$memory
-  echo $((free > 1 ? free : 1))
+# ---- the release: products that were proved and built elsewhere
+
+# why_not FOLDER: why the product that was unpacked there can't be taken; nothing where it can.
+why_not() {
+  local at=$1/${product##*/} first
+  first=$(diff <(head -n -1 "$at.built") <(sources) | sed -n 's/^[<>] //p' | sed -n '1s/^[0-9a-f]\{64\}  //p; 1s/:.*/ of crates.txt/p' | head -n 1)
+  if [ -n "$first" ]; then
+    echo "it was built from other sources, $first first of all"
+  elif [ "$(sha256sum <"$at")" != "$(tail -n 1 "$at.built")" ]; then
+    echo "its ${at##*/} isn't what was built"
+  fi
 }
+
+# Takes what the release has, where that was built from exactly these sources.
+take_released() {
+  local new why
+  [ -f "$archive" ] && mkdir -p "$root/out" 2>/dev/null && new=$(mktemp -d "$root/out/release.XXXXXX" 2>/dev/null) || return 1
+  if ! tar -xJf "$archive" -C "$new" 2>/dev/null; then
+    why="release/${archive##*/} can't be unpacked"
+  elif [ -f "$new/${product##*/}.built" ]; then
+    why=$(why_not "$new")
+  else
+    why="it has no ${product##*/}"
+  fi
+  if [ -z "$why" ] && ! { rm -rf "$root/out/release" && mv "$new" "$root/out/release"; } 2>/dev/null; then
+    why="$root/out can't be written"
+  fi
+  if [ -n "$why" ]; then
+    rm -rf "$new"
+    say "the release isn't taken: $why"
+    return 1
+  fi
+  say "taken from release/: proved and built elsewhere from exactly these sources; './offload --prove' proves and builds it here, and compares"
+}
+
+# Has `product` name a file that was built from these sources, here or, where it was never built here, elsewhere; builds it where there is none.
+find_product() {
+  is_built && return
+  if is_of_these "$released" || take_released; then
+    product=$released
+  else
+    build_in_turn
+  fi
+}
+
+# Says whether the product that was built here is the release's, to the bit.
+compare_released() {
+  if ! is_of_these "$released" && ! take_released 2>/dev/null; then
+    say "proved and built here; release/ has nothing that was built from these sources, so there is nothing to compare with"
+  elif [ "$(sha256sum <"$product")" = "$(<"$released.whole")" ]; then
+    say "proved and built here, and the same as the release's to the bit"
+  else
+    say "proved and built here, and NOT the same as what the release was made of"
+    return 1
+  fi
+}
+
+# ---- proving and building
 
 # Of a list of sources, the crates that changed since the last build and those above them, or all where nothing was built: for each a line with
 # the bytes of its sources.
 to_prove() {
   local name below words changed
-  changed=$(diff <(sort "$built" 2>/dev/null) <(sort <<<"$1") |
+  changed=$(diff <(sort "$product.built" 2>/dev/null) <(sort <<<"$1") |
     sed -n -e 's/^[<>] [0-9a-f]*  crates\/\([^/]*\)\/.*/\1/p' -e 's/^[<>] \([a-z_0-9]*\)[ a-z]*:.*/\1/p' | sort -u)
   while IFS=: read -r name below; do
     name=${name%% *}
@@ -87,13 +144,13 @@ to_prove() {
   done < <(lines_below)
 }
 
-# What will be done, and about how long. From nothing a megabyte of sources took 15 minutes of processor time.
+# What will be done, and about how long. From nothing a megabyte of sources takes 23 minutes of processor time.
 announce() {
   local count bytes by
   read -r count bytes < <(to_prove "$1" | awk '{ bytes += $2 } END { print NR, bytes + 0 }')
   by=$(rt version 2>/dev/null </dev/null | head -n 1)
   say "proving and building ${product##*/} with ${by:-rt}: $count of $(lines_below | wc -l) crates are new, changed, or stand on one that is"
-  say "from nothing that takes some $((bytes * 15 / 1000000 + 1)) minutes of processor time, by $(free_jobs) jobs here; what this machine proved before is taken over"
+  say "from nothing that takes some $((bytes * 23 / 1000000 + 1)) minutes of processor time, by $(count_lanes) processors here; what this machine proved before is taken over, and a build that is interrupted goes on where it was"
 }
 
 # What each crate stands on, whether near or far, and the crate itself, lowest crate first: "NAME: NAME NAME ..".
@@ -132,58 +189,17 @@ named() {
   "${@:2}" 2>&1 | sed -u "s/^/$1: /" && echo "$1: done"
 }
 
-# prove_one NAME JOBS: a library.
-prove_one() {
-  cd -- "$root/crates/$1" && rt lib --jobs "$2" </dev/null
-}
-
-# may_start NAME: nothing that it stands on is left to prove, or in the hands of a call that runs.
-may_start() {
-  local other below
-  for other in "${left[@]}"; do
-    [ "$other" = "$1" ] || [[ ${stands[$1]} != *" $other "* ]] || return 1
-  done
-  for other in "${!running[@]}"; do
-    for below in ${stands[$1]}; do
-      [[ ${stands[$other]} != *" $below "* ]] || return 1
-    done
-  done
-}
-
-# prove_below JOBS NAME..: proves these libraries, each by so many jobs and by a call of rt of its own: one that finds all below proved needn't
-# read their sources before, which takes minutes. A small crate doesn't fill the processors, so two at a time are proved that share none below:
-# of two that do, rt would have one wait for the other.
-prove_below() {
-  local jobs=$1 status=0 name below left=("${@:2}")
-  local -A stands=() running=()
-  while IFS=: read -r name below; do stands[$name]=$below; done < <(all_below)
-  while [ ${#left[@]} -gt 0 ] || [ ${#running[@]} -gt 0 ]; do
-    for name in "${left[@]}"; do
-      if [ ${#running[@]} -lt 2 ] && may_start "$name"; then
-        named "$name" prove_one "$name" "$jobs" &
-        running[$name]=$!
-        mapfile -t left < <(printf '%s\n' "${left[@]}" | grep -vxF "$name")
-      fi
-    done
-    sleep 0.2
-    for name in "${!running[@]}"; do
-      if ! kill -0 "${running[$name]}" 2>/dev/null; then
-        wait "${running[$name]}" || { status=1 && left=(); }
-        unset "running[$name]"
-      fi
-    done
-  done
-  return $status
-}
-
 # Proves what changed, and builds the product.
 prove_and_build() (
   [ -d "${TMPDIR:-/tmp}" ] || unset TMPDIR
   exec 3>>"$log" || exit 1
   set -o pipefail
-  mapfile -t names < <(to_prove "$1" | sed 's/ .*//' | grep -vxF "$crate")
-  jobs=$(free_jobs)
-  { prove_below "$jobs" "${names[@]}" && named "$crate" make_product "$jobs"; } 3>&- | tell $((${#names[@]} + 1))
+  mapfile -t changed < <(to_prove "$1" | grep -v "^$crate ")
+  count=$(count_lanes)
+  may_share || count=1
+  {
+    { [ ${#changed[@]} = 0 ] || prove_below "$count" < <(printf '%s\n' "${changed[@]}"); } && named "$crate" make_product "$count" && rm -rf -- "$lanes"
+  } 3>&- | tell $((${#changed[@]} + 1))
 )
 
 # The end of the log, and before it the lines on what was refused, of the crates that aren't proved.
@@ -241,7 +257,7 @@ build() {
   if [ "$(sources)" != "$before" ] || ! is_made; then
     refuse "a source changed while $name was built; call it again"
   fi
-  state >"$built"
+  state "$product" >"$product.built"
   say "built in $((SECONDS - began)) seconds"
 }
 

@@ -1,0 +1,25 @@
+# The library for C, as building.sh has it found or made. Sourced by a script of bash that has set `root`, `teller` and `refused`; behind
+# `find_product` the file is `product`.
+# shellcheck shell=bash disable=SC2034,SC2154
+
+crate=offload_c
+proved=$root/crates/offload_c/out/liboffload_c.a
+product=$root/crates/offload_c/out/liboffload.a
+# shellcheck source=contrib/lib/building.sh
+. "$root/contrib/lib/building.sh" || exit "$refused"
+
+make_product() {
+  command -v ar || { echo "error: ar isn't on the path" && return 1; }
+  cd -- "$root/crates/$crate" && rm -f -- "$proved" "$product" && rt lib --jobs "$1" 2>&1 </dev/null && join_archives 2>&1
+}
+
+is_made() {
+  [ -s "$product" ]
+}
+
+# One archive of the proved library and of the kit's three functions.
+join_archives() (
+  runtime=$(dirname "$(rt doc)")/c/liblibc_c.a room=$(mktemp -d) || return 1
+  trap 'rm -rf "$room"' EXIT
+  cp -- "$proved" "$room/liboffload.a" && cd -- "$room" && ar x "$runtime" && ar r liboffload.a ./*.o && mv -- liboffload.a "$product"
+)

@@ -1,0 +1,130 @@
+# How building.sh proves: as many crates at a time as there are lanes, each crate as soon as those that it stands on are proved, and of those that
+# may start the one with the longest way to the product first. A crate has one job, and the jobs that nobody else can use. A lane is a copy of
+# the sources, since two calls of rt in one tree wait for each other; a library that another lane proved rt takes over by itself.
+# shellcheck shell=bash disable=SC2154
+
+lanes=$(dirname "$product")/lanes
+
+# As many lanes as processors are free, half of them at least since a load passes, and as memory allows at 3 GB each.
+count_lanes() {
+  local all free busy memory
+  all=$(nproc)
+  free=$all
+  read -r busy _ 2>/dev/null </proc/loadavg && free=$((all - ${busy%.*}))
+  [ "$free" -lt $(((all + 1) / 2)) ] && free=$(((all + 1) / 2))
+  memory=$(awk '/^MemAvailable:/ { print int($2 / 3000000) }' /proc/meminfo 2>/dev/null)
+  [ -n "$memory" ] && [ "$memory" -lt "$free" ] && free=$memory
+  echo $((free > 1 ? free : 1))
+}
+
+# Whether rt can hand a library from one copy of the sources to another: it notes them beside its own folder.
+may_share() {
+  local beside
+  beside=$(dirname "$(dirname "$(rt doc 2>/dev/null </dev/null)")")/rattle-kept
+  [ -w "$beside" ] || { [ ! -e "$beside" ] && [ -w "$(dirname "$beside")" ]; }
+}
+
+# lane_folder LANE: the first lane is the tree itself.
+lane_folder() {
+  if [ "$1" = 0 ]; then echo "$root"; else echo "$lanes/$1"; fi
+}
+
+# make_lane LANE: the sources of the product as they stand, beside what an interrupted build left there.
+make_lane() {
+  local name part to
+  to=$(lane_folder "$1")
+  mkdir -p -- "$to/crates" && cp -- "$root/crates.txt" "$root/HANDLES" "$to/" || return 1
+  while read -r name _; do
+    name=${name%%:*}
+    mkdir -p -- "$to/crates/$name" || return 1
+    for part in src specs proofs; do
+      rm -rf -- "$to/crates/$name/$part"
+      [ ! -d "$root/crates/$name/$part" ] || cp -R -- "$root/crates/$name/$part" "$to/crates/$name/" || return 1
+    done
+  done < <(lines_below)
+}
+
+# prove_one LANE JOBS NAME: a library.
+prove_one() {
+  cd -- "$(lane_folder "$1")/crates/$3" && rt lib --jobs "$2" </dev/null
+}
+
+# Of lines "NAME BYTES", the names, those first whose way to the product has the most bytes: their own, 9,000 for what each crate costs, and those
+# of the longest way above them.
+longest_first() {
+  awk '
+    NR == FNR { bytes[$1] = $2; asked[$1]; next }
+    { split($0, words, ":"); below[words[1]] = words[2]; order[++count] = words[1] }
+    END {
+      for (i = count; i > 0; i--) {
+        own = order[i]
+        way[own] += bytes[own] + 9000
+        many = split(below[own], names, " ")
+        for (j = 1; j <= many; j++) if (names[j] != own && way[names[j]] < way[own]) way[names[j]] = way[own]
+      }
+      for (own in asked) print way[own], own
+    }' - <(all_below) | sort -rn | sed 's/.* //'
+}
+
+# is_ready NAME: nothing that it stands on is left to prove or being proved.
+is_ready() {
+  local other
+  for other in "${left[@]}" "${!running[@]}"; do
+    [ "$other" = "$1" ] || [[ ${stands[$1]} != *" $other "* ]] || return 1
+  done
+}
+
+# start NAME JOBS: in the first free lane.
+start() {
+  named "$1" prove_one "${free[0]}" "$2" "$1" &
+  running[$1]=$!
+  lane_of[$1]=${free[0]}
+  jobs_of[$1]=$2
+  spare=$((spare - $2))
+  free=("${free[@]:1}")
+  mapfile -t left < <(printf '%s\n' "${left[@]}" | grep -vxF "$1")
+}
+
+# Starts crates in free lanes, as many as may start.
+fill_lanes() {
+  local name ready=() jobs
+  for name in "${left[@]}"; do
+    is_ready "$name" && ready+=("$name")
+  done
+  while [ ${#ready[@]} -gt 0 ] && [ ${#free[@]} -gt 0 ]; do
+    name=${ready[0]}
+    ready=("${ready[@]:1}")
+    jobs=$((spare - ${#ready[@]}))
+    start "$name" $((jobs > 1 ? jobs : 1))
+  done
+}
+
+# end NAME: its lane and its jobs are free again.
+end() {
+  free+=("${lane_of[$1]}")
+  spare=$((spare + jobs_of[$1]))
+  unset "running[$1]"
+}
+
+# prove_below LANES: proves the libraries that standard input has as lines "NAME BYTES". One that is refused lets the others end, and no other start.
+prove_below() {
+  local status=0 name below lane left free=() spare=$1
+  local -A stands=() running=() lane_of=() jobs_of=()
+  mapfile -t left < <(longest_first)
+  while IFS=: read -r name below; do stands[$name]=$below; done < <(all_below)
+  for ((lane = 0; lane < $1; lane++)); do
+    [ "$lane" = 0 ] || make_lane "$lane" || return 1
+    free+=("$lane")
+  done
+  while [ ${#left[@]} -gt 0 ] || [ ${#running[@]} -gt 0 ]; do
+    fill_lanes
+    sleep 0.2
+    for name in "${!running[@]}"; do
+      if ! kill -0 "${running[$name]}" 2>/dev/null; then
+        wait "${running[$name]}" || { status=1 && left=(); }
+        end "$name"
+      fi
+    done
+  done
+  return $status
+}
