@@ -14,7 +14,7 @@ use Rattle.offload_model.specs.Written.{Options}
 use Rattle.offload_model.proofs.Flows.{IsItem}
 use Rattle.offload_model.proofs.Lists.{all_of}
 use Rattle.gro.specs.declared.slot.Slot.{Slot}
-use Rattle.gro.specs.Chains.{run_of}
+use Rattle.frame_runs.specs.Chains.{run_of}
 use Rattle.gro.specs.Slots.{packet_of}
 use Rattle.lanes.specs.declared.lane.QueueLane.{QueueLane}
 use Rattle.lanes.specs.Lanes.{runs_in_lane, IsMerged}

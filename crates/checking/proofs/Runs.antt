@@ -21,12 +21,12 @@ use Rattle.merge_rule.specs.Runs.{IsRunBy}
 use Rattle.segment_rule.specs.declared.segmentation.Segmentation.{Segmentation}
 use Rattle.segment_rule.specs.Segmentations.{HasNumbersOf, IsSegmentationOf}
 use Rattle.segment_rule.proofs.Judged.{segments_are}
-use Rattle.gro.specs.declared.run.Run.{Run}
+use Rattle.frame_runs.specs.declared.run.Run.{Run}
 use Rattle.gro.specs.declared.slot.Slot.{Slot}
-use Rattle.gro.specs.Chains.{chain_of, indices, no_packet, packet_at, run_of}
-use Rattle.gro.specs.Engine.{Knows, KnowsSome, IsChain}
+use Rattle.frame_runs.specs.Chains.{chain_of, indices, no_packet, packet_at, run_of}
+use Rattle.frame_runs.specs.Engine.{Knows, KnowsSome, IsChain}
 use Rattle.gro.specs.Slots.{packet_of, IsHeld}
-use Rattle.gro.proofs.Payloads.{all_at}
+use Rattle.frame_runs.proofs.Payloads.{all_at}
 use Rattle.checking.specs.Items.{AreInBytes}
 use Rattle.checking.specs.Returned.{packets_in}
 use Rattle.checking.specs.Segments.{IsCutOf}

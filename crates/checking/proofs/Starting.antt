@@ -6,11 +6,11 @@ use Rattle.pcap_io.specs.Capture.{Packet}
 use Rattle.skb.specs.Checksum.{AreBytes}
 use Rattle.offload_model.specs.Merged.{merged_of}
 use Rattle.segment_rule.specs.declared.segmentation.Segmentation.{Segmentation}
-use Rattle.gro.specs.declared.run.Run.{Run}
+use Rattle.frame_runs.specs.declared.run.Run.{Run}
 use Rattle.gro.specs.declared.slot.Slot.{Slot}
-use Rattle.gro.specs.Chains.{behind, packet_at, run_of}
-use Rattle.gro.specs.Engine.{Knows, KnowsSome}
-use Rattle.gro.specs.Packets.{headers_size, payloads_behind}
+use Rattle.frame_runs.specs.Chains.{behind, packet_at, run_of}
+use Rattle.frame_runs.specs.Engine.{Knows, KnowsSome}
+use Rattle.frame_runs.specs.MergedRun.{headers_size, payloads_behind}
 use Rattle.gro.specs.Slots.{packet_of}
 use Rattle.checking.specs.Items.{item_at, IsToCompare}
 use Rattle.checking.specs.Segments.{IsCutTo, IsCutOf}

@@ -10,13 +10,13 @@ use Rattle.skb.specs.SkbState.{buffer_bytes, head_size}
 use Rattle.merge_rule.specs.declared.rule.Progress.{Progress}
 use Rattle.merge_rule.specs.Runs.{IsRunBy}
 use Rattle.merge_rule.proofs.Knows.{bounded}
-use Rattle.gro.specs.declared.run.Run.{Run}
+use Rattle.frame_runs.specs.declared.run.Run.{Run}
 use Rattle.gro.specs.declared.slot.Slot.{Slot}
-use Rattle.gro.specs.Chains.{chain_of, behind, indices, packet_at, run_of}
-use Rattle.gro.specs.Engine.{IsChain}
-use Rattle.gro.specs.Packets.{payload_place, payloads_behind, headers_size}
+use Rattle.frame_runs.specs.Chains.{chain_of, behind, indices, packet_at, run_of}
+use Rattle.frame_runs.specs.Engine.{IsChain}
+use Rattle.frame_runs.specs.MergedRun.{payload_place, payloads_behind, headers_size}
 use Rattle.gro.specs.Slots.{packet_of, IsHeld, AreHeld}
-use Rattle.gro.proofs.Payloads.{all_at}
+use Rattle.frame_runs.proofs.Payloads.{all_at}
 use Rattle.checking.specs.Payloads.{payload_left, HasBehind, IsPayloadLeft}
 use Rattle.checking.proofs.Pieces.{none_of}
 use Rattle.checking.proofs.Runs.{there}

@@ -5,10 +5,10 @@ use Rattle.skb.specs.Checksum.{AreBytes}
 use Rattle.skb.specs.SkbState.{buffer_bytes}
 use Rattle.pcap_io.specs.Capture.{Packet}
 use Rattle.offload_model.specs.Merged.{Merged, merged_of}
-use Rattle.gro.specs.declared.run.Run.{Run}
+use Rattle.frame_runs.specs.declared.run.Run.{Run}
 use Rattle.gro.specs.declared.slot.Slot.{Slot}
-use Rattle.gro.specs.Chains.{run_of}
-use Rattle.gro.specs.Engine.{IsChain}
+use Rattle.frame_runs.specs.Chains.{run_of}
+use Rattle.frame_runs.specs.Engine.{IsChain}
 use Rattle.gro.specs.Slots.{packet_of, AreHeld}
 use Rattle.lanes.specs.declared.lane.QueueLane.{QueueLane}
 use Rattle.lanes.specs.Lanes.{IsMerged}

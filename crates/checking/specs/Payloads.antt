@@ -2,8 +2,8 @@
 use Rattle.std.specs.Prelude.{ℕ, ◌≡◌, ◌<◌, ◌≤◌, ◌^◌, List, ◌++◌, length, map}
 use Rattle.std.specs.List.{AllByRecursion}
 use Rattle.gro.specs.declared.slot.Slot.{Slot}
-use Rattle.gro.specs.Chains.{chain_of, packet_at}
-use Rattle.gro.specs.Packets.{payloads_behind}
+use Rattle.frame_runs.specs.Chains.{chain_of, packet_at}
+use Rattle.frame_runs.specs.MergedRun.{payloads_behind}
 use Rattle.gro.specs.Slots.{packet_of, AreHeld}
 
 -- what is left of one packet, and what n packets have behind a place, of which the first is that of index k

@@ -1,7 +1,7 @@
 //! The runs of a queue, compared.
 ghost use Rattle.std.specs.Prelude.{◌≡◌, ◌+◌, ◌<◌, ◌≤◌, ◌^◌, length, map};
 ghost use Rattle.std.specs.List.{AllByRecursion};
-ghost use Rattle.gro.specs.Engine.{IsChain};
+ghost use Rattle.frame_runs.specs.Engine.{IsChain};
 ghost use Rattle.gro.specs.Slots.{packet_of as packet_in, AreHeld};
 ghost use Rattle.taps.specs.Clones.{packet_of};
 ghost use Rattle.checking.specs.Counts.{queue_plus};
@@ -14,7 +14,8 @@ use crate::flow_key::flow_of;
 use crate::in_bytes::are_in_bytes;
 use crate::kept_flows::KeptFlows;
 use crate::totals::QueueTotals;
-use gro::{Run, Slot};
+use frame_runs::Run;
+use gro::Slot;
 use taps::TapClone;
 
 // In how many places the packets that a run stands for are the next ones of its flow, which is its first packet's.

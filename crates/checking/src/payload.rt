@@ -1,13 +1,14 @@
 //! The payloads of packets, read one behind the other where they lie.
 ghost use Rattle.std.specs.Prelude.{◌≡◌, ◌⊎◌, ◌<◌, ◌≤◌, ◌^◌, ◌++◌, true, false, length, map};
 ghost use Rattle.skb.specs.SkbState.{buffer_bytes};
-ghost use Rattle.gro.specs.Chains.{run_of};
-ghost use Rattle.gro.specs.Engine.{IsChain};
-ghost use Rattle.gro.specs.Packets.{headers_size, payloads_behind};
+ghost use Rattle.frame_runs.specs.Chains.{run_of};
+ghost use Rattle.frame_runs.specs.Engine.{IsChain};
+ghost use Rattle.frame_runs.specs.MergedRun.{headers_size, payloads_behind};
 ghost use Rattle.gro.specs.Slots.{packet_of, AreHeld};
 
 use crate::bytes::Bytes;
-use gro::{Run, Slot};
+use frame_runs::Run;
+use gro::Slot;
 use skb::Skb;
 use std::marker::Model;
 

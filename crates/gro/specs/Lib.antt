@@ -1,13 +1,2 @@
-pub mod Build
-pub mod Chains
-pub mod Engine
-pub mod Flows
-pub mod Held
-pub mod Index
-pub mod Items
 pub mod Packets
-pub mod Places
 pub mod Slots
-pub mod Table
-pub mod Totals
-pub mod Waiting

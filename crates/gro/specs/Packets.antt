@@ -1,15 +1,11 @@
--- What a contract sees of packets in a list, where they stay, and of the runs that they are in.
-use Rattle.std.specs.Prelude.{ℕ, ◌≡◌, ◌+◌, ◌*◌, Bool, false, Option, Some, None, Result, List, length, drop, set}
+-- What a contract sees of packets in a list, where they stay.
+use Rattle.std.specs.Prelude.{ℕ, ◌≡◌, ◌+◌, ◌*◌, Bool, false, Result, List, length, set}
 use Rattle.std.specs.Prelude.{slice_index_or, MatchResult, IfOk}
-use Rattle.std.specs.List.{flat_map}
 use Rattle.block_weight.specs.WeightRule.{full_weight}
-use Rattle.pcap_io.specs.Capture.{Packet}
 use Rattle.frags.specs.Account.{Tests, KeepsMarks, every}
 use Rattle.frags.specs.declared.pieces.ShareFault.{ShareFault}
-use Rattle.frame_layout.specs.Shape.{Layout}
 use Rattle.skb.specs.SkbState.{SkbState, buffer_bytes, is_sole, of_buffer, IsClone}
 use Rattle.gro.specs.declared.slot.Slot.{Slot}
-use Rattle.gro.specs.declared.run.Run.{Run}
 
 -- the packets in the order in which they came, and for how many more there is room
 pub record PacketsState : Type 0 where
@@ -39,17 +35,3 @@ pub record Cloned (a b : SkbState) (result : Result SkbState ShareFault) : Type 
 abbrev pub ClonedAt : ℕ → List Slot → List Slot → Result SkbState ShareFault → Type 0
 ClonedAt i ps qs result = (d : Slot) → (s : SkbState) × (Cloned (slice_index_or ps i d).skb s result
     × (qs ≡ set ps i (with_skb (slice_index_or ps i d) s)))
-
--- ---- what a run of several packets comes to, as they lie
-
--- where the payloads of a run's packets begin
-abbrev pub payload_place : Option Layout → ℕ
-payload_place None = 0
-payload_place (Some layout) = layout.payload_at
-
-abbrev pub headers_size : Run → ℕ
-headers_size run = payload_place run.layout
-
--- what is behind a place of each
-abbrev pub payloads_behind : ℕ → List Packet → List ℕ
-payloads_behind at ps = flat_map (λ (p : Packet). drop at p.frame) ps

@@ -9,7 +9,7 @@ use Rattle.frags.specs.OutcomesState.{IsBare}
 use Rattle.frags.specs.declared.pieces.ShareFault.{ShareFault}
 use Rattle.skb.specs.SkbState.{SkbState, buffer_least, is_sole, of_buffer, weighed_in}
 use Rattle.gro.specs.declared.slot.Slot.{Slot as Held}
-use Rattle.gro.specs.Held.{of_nothing}
+use Rattle.gro.specs.Slots.{of_nothing}
 use Rattle.gro.specs.Slots.{packet_of, IsHeld, of_packet, of_packets, count_of, counts_of, AreHeld, AreShared, WeighAtLeast}
 use Rattle.gro.specs.Packets.{ClonedAt, with_skb}
 use Rattle.gro.proofs.Weights.{weighed_set}

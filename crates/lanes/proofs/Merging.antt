@@ -1,7 +1,7 @@
 -- Packets of one queue that are merged.
 use Rattle.std.proofs.Common.{ℕ, ◌+◌, List, [], ◌∷◌, arith}
 use Rattle.pcap_io.specs.Capture.{Packet}
-use Rattle.gro.specs.Engine.{DoRise}
+use Rattle.frame_runs.specs.Engine.{DoRise}
 use Rattle.lanes.specs.Packets.{RiseFrom}
 
 -- numbers that rise from some number on rise

@@ -6,8 +6,8 @@ use Rattle.frags.specs.OutcomesState.{IsBare}
 use Rattle.pcap_io.specs.Capture.{Packet}
 use Rattle.tap_filter.specs.declared.instr.Instr.{Instr}
 use Rattle.offload_model.specs.Rounds.{runs_in}
-use Rattle.gro.specs.Engine.{AreRuns, IsReady, runs_of}
-use Rattle.gro.specs.Held.{of_nothing}
+use Rattle.frame_runs.specs.Engine.{AreRuns, IsReady, runs_of}
+use Rattle.gro.specs.Slots.{of_nothing}
 use Rattle.gro.specs.Slots.{packet_of, of_packets, counts_of, weighed_slots, AreHeld}
 use Rattle.taps.specs.Clones.{shown_packet, blocks_of, of_clones}
 use Rattle.offload_model.specs.Written.{windows_of}

@@ -4,7 +4,7 @@ use Rattle.std.specs.List.{filter}
 use Rattle.frags.specs.Account.{Account, Tests}
 use Rattle.offload_model.specs.Rounds.{Spread, is_queued}
 use Rattle.gro.specs.declared.slot.Slot.{Slot as Held}
-use Rattle.gro.specs.Engine.{IsReady}
+use Rattle.frame_runs.specs.Engine.{IsReady}
 use Rattle.gro.specs.Slots.{packet_of}
 use Rattle.lanes.specs.declared.lane.QueueLane.{QueueLane}
 

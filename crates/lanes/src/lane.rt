@@ -4,7 +4,8 @@ ghost use Rattle.lanes.specs.Lanes.{AreIdle, IsIdleQueue, IsIdleTap};
 
 use crate::free::{free_queues, free_taps};
 use frags::Outcomes;
-use gro::{Engine, Packets};
+use frame_runs::Engine;
+use gro::Packets;
 use std::alloc::Global;
 use taps::{TapClone, TapTexts};
 

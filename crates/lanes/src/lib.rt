@@ -15,7 +15,7 @@
 //!
 //! ```text
 //!   queue 0:   packets  [ p0 | p1 | p2 | p3 | p4 ]     each in its slot, where it stays until it is brought home
-//!              runs       p0 -> p2 -> p3,  p1,  p4     by index, in the order of their first packets (`gro::Engine`)
+//!              runs       p0 -> p2 -> p3,  p1,  p4     by index, in the order of their first packets (`frame_runs::Engine`)
 //! ```
 //!
 //! [`work_packets`] fills idle lanes: it clones each packet for each tap, and spreads the packets over the queues by

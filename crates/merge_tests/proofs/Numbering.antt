@@ -4,7 +4,7 @@ use Rattle.std.specs.List.{AllByRecursion}
 use Rattle.maximal_runs.proofs.Pass.{all_append}
 use Rattle.gro.specs.declared.slot.Slot.{Slot}
 use Rattle.gro.specs.Slots.{packet_of, IsHeld}
-use Rattle.gro.specs.Engine.{DoRise}
+use Rattle.frame_runs.specs.Engine.{DoRise}
 use Rattle.merge_tests.specs.Numbered.{AreNumbered}
 
 rise_push : (ss : List Slot) (s : Slot) → DoRise (map packet_of ss) → AllByRecursion (λ (t : Slot). t.number < s.number) ss → DoRise (map packet_of (ss ++ (s ∷ [])))

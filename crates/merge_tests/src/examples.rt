@@ -1,11 +1,13 @@
 //! The example of each first page, as it stands there, and what it comes to.
 use crate::home::home_of;
-use crate::merging::{emptied, packet, plain, reserve, spent};
+use crate::merging::{emptied, packet, plain, reserve, slot, spent};
 use crate::segmenting::cutting::{buffer, merged};
 use crate::tapping::packets::task_over;
 use frags::Outcomes;
 use frame_layout::{candidate, shape};
-use gro::RoundTable;
+use frame_runs::{Engine, Lent};
+use gro::Packets;
+use gro_table::RoundTable;
 use gso::{Cut, Cutter, check_super};
 use inet_sum::Partial;
 use merge_rule::{first_progress, is_next, next_progress};
@@ -57,7 +59,44 @@ fn example_of_segment_rule(rt: HostRuntime) {
 }
 
 #[test]
+fn example_of_frame_runs(rt: HostRuntime) {
+    let (first, next) = (FIRST.as_slice(), SECOND.as_slice());
+    let mut engine = Engine::make(rt.alloc(), 2).expect(&rt, "engine");
+    let frames = [
+        Lent {
+            bytes: first,
+            original: 58,
+            number: 0,
+        },
+        Lent {
+            bytes: next,
+            original: 56,
+            number: 1,
+        },
+    ];
+    engine.merge(&frames, 4096);
+    let runs = engine.runs.len(); // 1: the second frame follows the first one in its flow
+    assert_eq!(rt; runs, 1);
+}
+
+#[test]
 fn example_of_gro(rt: HostRuntime) {
+    let alloc = rt.alloc();
+    let payload = [9; 100];
+    let mut engine = Engine::make(alloc, 2).expect(&rt, "engine");
+    let mut packets = Packets::with_capacity(alloc, 2).expect(&rt, "list");
+    let first = slot(&rt, alloc, 0, &plain(0, 0, 0x10, &payload), &payload);
+    let next = slot(&rt, alloc, 1, &plain(1, 100, 0x10, &payload), &payload);
+    assert!(rt; first.number < next.number);
+    packets.push(first);
+    packets.push(next);
+    engine.merge(packets.slots(), 4096);
+    let blocks = packets.free(); // 2: each packet's own, as no run has moved any
+    assert_eq!(rt; (engine.runs.len(), blocks), (1, 2));
+}
+
+#[test]
+fn example_of_gro_table(rt: HostRuntime) {
     let alloc = rt.alloc();
     let payload = [9; 100];
     let first = packet(&rt, alloc, 0, &plain(0, 0, 0x10, &payload), &payload);

@@ -1,5 +1,5 @@
-//! Tests of merging packets in buffers ([`gro`]), of cutting them again ([`gso`]), and of reading them as they arrived
-//! ([`taps`]).
+//! Tests of merging packets ([`frame_runs`]), in buffers ([`gro`]) and into buffers of their own ([`gro_table`]), of
+//! cutting them again ([`gso`]), and of reading them as they arrived ([`taps`]).
 //!
 //! A crate of their own, since one with tests is proved twice, with them and without.
 #![tactic(auto)]

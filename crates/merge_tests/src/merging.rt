@@ -1,6 +1,6 @@
 //! Runs of packets in buffers, by what they come to.
 ghost use Rattle.std.specs.Prelude.{◌≡◌, ◌+◌, ◌<◌, ◌≤◌, [], length};
-ghost use Rattle.gro.specs.Held.{IsHeld};
+ghost use Rattle.gro_table.specs.Held.{IsHeld};
 ghost use Rattle.gro.specs.Slots.{IsHeld as IsHeldSlot};
 ghost use Rattle.frags.specs.OutcomesState.{IsBare};
 
@@ -14,7 +14,8 @@ mod rounds;
 
 use crate::seeing::assert_same;
 use frags::{Outcomes, Pieces};
-use gro::{Item, Packet, RoundTable, Slot};
+use gro::Slot;
+use gro_table::{Item, Packet, RoundTable};
 use raw_block::Sole;
 use skb::Skb;
 use std::alloc::Global;

@@ -8,12 +8,12 @@ use Rattle.off_io.specs.Content.{Owes}
 use Rattle.skb.specs.SkbState.{buffer_bytes}
 use Rattle.offload_model.specs.Merged.{merged_of}
 use Rattle.gro.specs.declared.slot.Slot.{Slot}
-use Rattle.gro.specs.declared.run.Run.{Run}
+use Rattle.frame_runs.specs.declared.run.Run.{Run}
 use Rattle.gro.specs.Slots.{packet_of, IsHeld, AreHeld}
-use Rattle.gro.specs.Chains.{chain_of, behind, indices, no_packet, packet_at, run_of}
-use Rattle.gro.specs.Engine.{Knows, KnowsSome, IsChain}
-use Rattle.gro.specs.Packets.{headers_size, payloads_behind}
-use Rattle.gro.proofs.Payloads.{chain_step, all_at, slot_at, few_more, headers_low, all_within}
+use Rattle.frame_runs.specs.Chains.{chain_of, behind, indices, no_packet, packet_at, run_of}
+use Rattle.frame_runs.specs.Engine.{Knows, KnowsSome, IsChain}
+use Rattle.frame_runs.specs.MergedRun.{headers_size, payloads_behind}
+use Rattle.frame_runs.proofs.Payloads.{chain_step, all_at, slot_at, few_more, headers_low, all_within}
 use Rattle.records.specs.Records.{item_bytes}
 
 -- ---- payloads along a chain
@@ -53,7 +53,7 @@ module _ (packets : List Slot) (next : List ℕ) (run : Run) (c : IsChain (map p
 
   -- its first packet, as it was read
   pub first_is : (slot : Slot) → slot ≡ get_or packets run.first slot → p ≡ packet_of slot
-  first_is slot e = slot_at packets run.first slot inside e
+  first_is slot e = slot_at packet_of packets run.first slot inside e
 
   pub is_slot : (slot : Slot) → slot ≡ get_or packets run.first slot → AreHeld packets → IsHeld slot
   is_slot slot e a = subst IsHeld (sym e) (all_at IsHeld packets run.first slot a inside)

@@ -3,8 +3,8 @@ use Rattle.std.proofs.Common.{◌≡◌, ℕ, List, [], ◌∷◌, ◌++◌, map
 use Rattle.std.specs.List.{flat_map}
 use Rattle.net_bytes.specs.declared.order.Order.{Order}
 use Rattle.pcap_io.specs.Capture.{Packet}
-use Rattle.gro.specs.declared.item.Item.{Item}
-use Rattle.gro.specs.Items.{item_of}
+use Rattle.gro_table.specs.declared.item.Item.{Item}
+use Rattle.gro_table.specs.Items.{item_of}
 use Rattle.offload_model.specs.Merged.{merged_of}
 use Rattle.offload_model.specs.Written.{record_of, record_bytes}
 use Rattle.records.specs.Records.{item_bytes}

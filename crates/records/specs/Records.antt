@@ -14,7 +14,7 @@ use Rattle.gso.specs.Places.{SegmentsState}
 use Rattle.offload_model.specs.Merged.{Merged}
 use Rattle.offload_model.specs.Segments.{with_head}
 use Rattle.offload_model.specs.Written.{head_of, record_bytes}
-use Rattle.gro.specs.declared.item.Item.{Item}
+use Rattle.gro_table.specs.declared.item.Item.{Item}
 use Rattle.records.specs.declared.record.Time.{Time}
 
 -- a sink got these bytes, or a prefix of them where it failed: what it held before and holds now, and its faults

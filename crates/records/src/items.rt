@@ -4,11 +4,11 @@ ghost use Rattle.std.specs.List.{flat_map};
 ghost use Rattle.std.specs.Io.KnownBytes.{Appends};
 ghost use Rattle.off_io.specs.Faults.{HasCause};
 ghost use Rattle.off_io.specs.Content.{AppendsPrefix};
-ghost use Rattle.gro.specs.Items.{item_of};
+ghost use Rattle.gro_table.specs.Items.{item_of};
 ghost use Rattle.records.specs.Records.{item_bytes, FitsItem};
 
 use crate::{Time, write_record};
-use gro::Item;
+use gro_table::Item;
 use off_io::{Sink, WriteFault};
 use pcap_io::FileHead;
 

@@ -6,7 +6,7 @@ ghost use Rattle.records.specs.Records.{FitsItem};
 mod in_place;
 
 use frags::{Outcomes, PieceBuilder};
-use gro::Item;
+use gro_table::Item;
 use off_io::{MemSink, WriteFault};
 use pcap_io::{FileHead, OffHead2, Order};
 use raw_block::Sole;

@@ -5,7 +5,8 @@ ghost use Rattle.merge_tests.specs.Numbered.{AreNumbered};
 
 use super::rounds::{Place, head_of};
 use super::{freed_slot, plain, slot};
-use gro::{Engine, Slot};
+use frame_runs::Engine;
+use gro::Slot;
 use std::alloc::Global;
 use std::process::Abort;
 

@@ -5,7 +5,7 @@ use super::{
 };
 use crate::seeing::assert_same;
 use frags::Outcomes;
-use gro::Item;
+use gro_table::Item;
 use std::alloc::Global;
 use std::process::Abort;
 

@@ -6,7 +6,7 @@ use super::frames::{
 };
 use super::{Said, finished, has_parts, put, spent, table_for};
 use crate::seeing::assert_same;
-use gro::Item;
+use gro_table::Item;
 use std::alloc::Global;
 use std::process::Abort;
 

@@ -1,13 +1,13 @@
 //! Runs over IPv6 that come to more than 65,535 bytes, up to the longest frame (RFC 8200, section 3).
 ghost use Rattle.std.specs.Prelude.{◌≤◌, length};
-ghost use Rattle.gro.specs.Held.{IsHeld};
+ghost use Rattle.gro_table.specs.Held.{IsHeld};
 
 use super::frames::IP6;
 use super::{
     Said, block, checked, checksum, finished, has_bytes, receive, spent, sum_of, table_for,
 };
 use crate::segmenting::cutting::buffer;
-use gro::{Item, Packet};
+use gro_table::{Item, Packet};
 use std::alloc::Global;
 use std::process::Abort;
 

@@ -1,6 +1,6 @@
 //! Packets in a list in which they stay, and what their runs come to there.
 ghost use Rattle.std.specs.Prelude.{◌+◌, ◌<◌, length, map};
-ghost use Rattle.gro.specs.Engine.{AreRuns};
+ghost use Rattle.frame_runs.specs.Engine.{AreRuns};
 ghost use Rattle.gro.specs.Slots.{packet_of, IsHeld, AreHeld};
 ghost use Rattle.merge_tests.specs.Numbered.{AreNumbered};
 
@@ -8,7 +8,9 @@ use super::rounds::in_flow;
 use super::{finished, frames, freed, freed_slot, has_bytes, plain, put, slot, spent, table_for};
 use crate::seeing::assert_same;
 use frags::Outcomes;
-use gro::{Engine, Item, Packets, Slot};
+use frame_runs::Engine;
+use gro::{Packets, Slot};
+use gro_table::Item;
 use pcap_io::OffHead2;
 use std::alloc::Global;
 use std::process::Abort;

@@ -7,7 +7,7 @@ use super::{
     reserve, spent, table_for, table_in_runs,
 };
 use crate::seeing::assert_same;
-use gro::{Item, RoundTable};
+use gro_table::{Item, RoundTable};
 use std::alloc::Global;
 use std::process::Abort;
 

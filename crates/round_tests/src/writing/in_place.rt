@@ -3,12 +3,14 @@ ghost use Rattle.std.specs.Prelude.{◌≡◌, ◌+◌, ◌<◌, ◌≤◌, ◌^
 ghost use Rattle.std.specs.List.{AllByRecursion};
 ghost use Rattle.pcap_io.specs.Capture.{Packet as Captured};
 ghost use Rattle.pcap_io.specs.Limits.{off_head2_size};
-ghost use Rattle.gro.specs.Engine.{AreRuns, DoRise};
+ghost use Rattle.frame_runs.specs.Engine.{AreRuns, DoRise};
 ghost use Rattle.gro.specs.Slots.{packet_of, IsHeld, AreHeld};
 
 use crate::writing::FILE;
 use frags::{Outcomes, PieceBuilder, Pieces};
-use gro::{Engine, Item, Packet, Packets, RoundTable, Slot};
+use frame_runs::Engine;
+use gro::{Packets, Slot};
+use gro_table::{Item, Packet, RoundTable};
 use off_io::{MemSink, WriteFault};
 use raw_block::Sole;
 use records::{write_item, write_runs};

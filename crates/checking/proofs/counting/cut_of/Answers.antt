@@ -1,7 +1,7 @@
 use Rattle.std.proofs.Common.{◌∙◌, ap, sym}
 use Rattle.pcap_io.specs.declared.off_head.OffHead2.{OffHead2}
 use Rattle.skb.specs.SkbState.{buffer_bytes}
-use Rattle.gro.specs.Packets.{payload_place}
+use Rattle.frame_runs.specs.MergedRun.{payload_place}
 use Rattle.gro.specs.Slots.{packet_of}
 use Rattle.segment_rule.specs.declared.segmentation.Segmentation.{Segmentation}
 use Rattle.checking.proofs.Runs.{head_is, layout_is, has_shape, cut_is}

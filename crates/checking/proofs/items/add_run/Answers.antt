@@ -1,6 +1,6 @@
 use Rattle.std.proofs.Common.{◌≡◌, ◌∙◌, ◌+◌, ℕ, map, ap, sym}
 use Rattle.taps.specs.Clones.{packet_of}
-use Rattle.gro.specs.Chains.{behind, packet_at}
+use Rattle.frame_runs.specs.Chains.{behind, packet_at}
 use Rattle.gro.specs.Slots.{packet_of as packet_in}
 use Rattle.checking.specs.Items.{item_at}
 use Rattle.checking.proofs.Comparing.{item_counted, totals}

@@ -1,5 +1,5 @@
 use Rattle.std.proofs.Common.{map, refl, subst, sym, arith}
-use Rattle.gro.specs.Engine.{IsChain}
+use Rattle.frame_runs.specs.Engine.{IsChain}
 use Rattle.gro.specs.Slots.{packet_of as packet_in}
 use Rattle.taps.specs.Clones.{packet_of}
 use Rattle.checking.specs.Items.{item_at, totals_of_items}

@@ -2,7 +2,7 @@ use Rattle.std.proofs.Common.{◌≡◌, ◌∙◌, ℕ, Option, List, map, ap, 
 use Rattle.std.proofs.lemmas.List.{length-map}
 use Rattle.frame_layout.specs.Key.{key_of}
 use Rattle.pcap_io.specs.Capture.{Packet}
-use Rattle.gro.specs.Chains.{behind, packet_at}
+use Rattle.frame_runs.specs.Chains.{behind, packet_at}
 use Rattle.gro.specs.Slots.{packet_of as packet_in}
 use Rattle.taps.specs.Clones.{packet_of}
 use Rattle.checking.specs.Chain.{IsOwn}

@@ -1,6 +1,6 @@
 use Rattle.std.proofs.Common.{List, map, length, sym, subst, ap, arith}
 use Rattle.gro.specs.declared.slot.Slot.{Slot}
-use Rattle.gro.specs.Engine.{DoRise, IsReady}
+use Rattle.frame_runs.specs.Engine.{DoRise, IsReady}
 use Rattle.gro.specs.Slots.{packet_of, AreHeld}
 use Rattle.lanes.proofs.Merging.{do_rise}
 use Rattle.lanes.proofs.work.work.Goals as goal

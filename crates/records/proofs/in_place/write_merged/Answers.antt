@@ -6,8 +6,8 @@ use Rattle.off_io.specs.Content.{AppendsPrefix}
 use Rattle.off_io.proofs.Appending.{prefix_more}
 use Rattle.pcap_io.specs.Capture.{Packet}
 use Rattle.gro.specs.Slots.{packet_of}
-use Rattle.gro.specs.Chains.{chain_of, packet_at}
-use Rattle.gro.specs.Packets.{payloads_behind}
+use Rattle.frame_runs.specs.Chains.{chain_of, packet_at}
+use Rattle.frame_runs.specs.MergedRun.{payloads_behind}
 use Rattle.records.proofs.InPlace.{inside, is_slot, knows_some, few, low, all_below, all_there, record_by}
 use Rattle.records.proofs.Writing.{stopped, written}
 use Rattle.records.proofs.in_place.write_merged.Goals as goal

@@ -5,9 +5,9 @@ use Rattle.pcap_io.specs.Capture.{Packet}
 use Rattle.skb.specs.SkbState.{buffer_bytes}
 use Rattle.gro.specs.declared.slot.Slot.{Slot}
 use Rattle.gro.specs.Slots.{packet_of}
-use Rattle.gro.specs.Chains.{chain_of, packet_at}
-use Rattle.gro.specs.Packets.{payloads_behind}
-use Rattle.gro.proofs.Payloads.{all_step}
+use Rattle.frame_runs.specs.Chains.{chain_of, packet_at}
+use Rattle.frame_runs.specs.MergedRun.{payloads_behind}
+use Rattle.frame_runs.proofs.Payloads.{all_step}
 use Rattle.records.proofs.InPlace.{owes_step, first_step, frame_there}
 use Rattle.records.proofs.Writing.{stopped}
 use Rattle.records.proofs.in_place.write_payloads.Goals as goal

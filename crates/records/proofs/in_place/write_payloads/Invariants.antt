@@ -3,8 +3,8 @@ use Rattle.std.specs.List.{AllByRecursion}
 use Rattle.off_io.specs.Content.{Owes}
 use Rattle.pcap_io.specs.Capture.{Packet}
 use Rattle.gro.specs.Slots.{packet_of}
-use Rattle.gro.specs.Chains.{chain_of, packet_at}
-use Rattle.gro.specs.Packets.{payloads_behind}
+use Rattle.frame_runs.specs.Chains.{chain_of, packet_at}
+use Rattle.frame_runs.specs.MergedRun.{payloads_behind}
 use Rattle.records.proofs.in_place.write_payloads.Given as goal
 
 -- of all payloads those of what is left of the chain are still to be written

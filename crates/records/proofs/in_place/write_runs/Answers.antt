@@ -7,12 +7,12 @@ use Rattle.off_io.specs.Content.{AppendsPrefix}
 use Rattle.off_io.proofs.Owing.{wrote_one_more, failed_at}
 use Rattle.pcap_io.specs.Capture.{Packet}
 use Rattle.offload_model.specs.Merged.{merged_of}
-use Rattle.gro.specs.declared.run.Run.{Run}
-use Rattle.gro.specs.declared.engine.Engine.{Engine}
+use Rattle.frame_runs.specs.declared.run.Run.{Run}
+use Rattle.frame_runs.specs.declared.engine.Engine.{Engine}
 use Rattle.gro.specs.Slots.{packet_of}
-use Rattle.gro.specs.Chains.{no_packet, run_of}
-use Rattle.gro.specs.Engine.{IsChain, AreRuns}
-use Rattle.gro.proofs.Payloads.{all_at, chain_at}
+use Rattle.frame_runs.specs.Chains.{no_packet, run_of}
+use Rattle.frame_runs.specs.Engine.{IsChain, AreRuns}
+use Rattle.frame_runs.proofs.Payloads.{all_at, chain_at}
 use Rattle.records.specs.Records.{item_bytes}
 use Rattle.records.proofs.InPlace.{runs_bytes}
 use Rattle.records.proofs.in_place.write_runs.Goals as goal

@@ -2,9 +2,9 @@ use Rattle.std.proofs.Common.{◌≤◌, take, map}
 use Rattle.std.specs.List.{flat_map}
 use Rattle.std.specs.Io.KnownBytes.{Appends}
 use Rattle.offload_model.specs.Merged.{merged_of}
-use Rattle.gro.specs.declared.run.Run.{Run}
+use Rattle.frame_runs.specs.declared.run.Run.{Run}
 use Rattle.gro.specs.Slots.{packet_of}
-use Rattle.gro.specs.Chains.{run_of}
+use Rattle.frame_runs.specs.Chains.{run_of}
 use Rattle.records.specs.Records.{item_bytes}
 use Rattle.records.proofs.in_place.write_runs.Given as goal
 

@@ -1,8 +1,8 @@
 use Rattle.std.proofs.Common.{arith}
 use Rattle.std.proofs.lemmas.Result.{err_from_is_err_and}
 use Rattle.off_io.proofs.Owing.{wrote_one_more, failed_at}
-use Rattle.gro.specs.declared.item.Item.{Item}
-use Rattle.gro.specs.Items.{item_of}
+use Rattle.gro_table.specs.declared.item.Item.{Item}
+use Rattle.gro_table.specs.Items.{item_of}
 use Rattle.records.specs.Records.{item_bytes}
 use Rattle.records.proofs.items.write_items.Goals as goal
 

@@ -1,8 +1,8 @@
 use Rattle.std.proofs.Common.{◌≤◌, take}
 use Rattle.std.specs.List.{flat_map}
 use Rattle.std.specs.Io.KnownBytes.{Appends}
-use Rattle.gro.specs.declared.item.Item.{Item}
-use Rattle.gro.specs.Items.{item_of}
+use Rattle.gro_table.specs.declared.item.Item.{Item}
+use Rattle.gro_table.specs.Items.{item_of}
 use Rattle.records.specs.Records.{item_bytes}
 use Rattle.records.proofs.items.write_items.Given as goal
 

@@ -7,7 +7,7 @@ use Rattle.pcap_io.specs.Capture.{Packet}
 use Rattle.pcap_io.specs.Limits.{off_head2_size}
 use Rattle.offload_model.specs.Merged.{merged_of}
 use Rattle.gro.specs.declared.slot.Slot.{Slot}
-use Rattle.gro.specs.Engine.{AreRuns, runs_of}
+use Rattle.frame_runs.specs.Engine.{AreRuns, runs_of}
 use Rattle.gro.specs.Slots.{packet_of, AreHeld}
 use Rattle.records.specs.Records.{item_bytes}
 use Rattle.rounds.proofs.Small.{originals_fit}

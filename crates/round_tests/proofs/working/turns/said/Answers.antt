@@ -1,11 +1,11 @@
 use Rattle.std.proofs.Common.{◌≡◌, ℕ, ◌<◌, List, get_or, length, map, ap, sym, subst, arith}
 use Rattle.std.proofs.lemmas.List.{length-map}
-use Rattle.gro.specs.Chains.{behind, packet_at}
-use Rattle.gro.specs.Engine.{IsChain, Knows, KnowsSome}
+use Rattle.frame_runs.specs.Chains.{behind, packet_at}
+use Rattle.frame_runs.specs.Engine.{IsChain, Knows, KnowsSome}
 use Rattle.gro.specs.Slots.{packet_of}
-use Rattle.gro.specs.declared.run.Run.{Run}
+use Rattle.frame_runs.specs.declared.run.Run.{Run}
 use Rattle.gro.specs.declared.slot.Slot.{Slot}
-use Rattle.gro.proofs.Payloads.{chain_at, slot_at}
+use Rattle.frame_runs.proofs.Payloads.{chain_at, slot_at}
 use Rattle.lanes.specs.declared.lane.QueueLane.{QueueLane}
 use Rattle.lanes.specs.Lanes.{IsMerged}
 
@@ -22,4 +22,4 @@ first_in slots next run h = omega (arith, h.inside.0, length-map slots packet_of
 knows_some : (slots : List Slot) (next : List ℕ) (run : Run) (first : Slot) → IsChain (map packet_of slots) next run → first ≡ get_or slots run.first first → KnowsSome run (packet_of first)
 knows_some slots next run first h e =
     let rest = map (packet_at (map packet_of slots)) (behind next run) in
-    (rest, subst (λ z. Knows run z rest) (slot_at slots run.first first (first_in slots next run h) e) h.knows)
+    (rest, subst (λ z. Knows run z rest) (slot_at packet_of slots run.first first (first_in slots next run h) e) h.knows)

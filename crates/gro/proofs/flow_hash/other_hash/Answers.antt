@@ -1,6 +1,0 @@
-use Rattle.std.proofs.Common.{ap, ◌∙◌}
-use Rattle.gro.specs.Flows.{hash_of}
-use Rattle.gro.proofs.flow_hash.other_hash.Goals as goal
-
-pub returns : goal.returns
-returns c = record { hash = λ f o. c.key_hash.ensures.hash ∙ ap hash_of (c.key_behind-key.ensures.key f o) }

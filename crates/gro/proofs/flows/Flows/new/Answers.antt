@@ -1,6 +1,0 @@
-use Rattle.std.proofs.Common.{refl}
-use Rattle.gro.proofs.Flowing.{flows_none}
-use Rattle.gro.proofs.flows.Flows.new.Goals as goal
-
-pub returns-clause-flows : goal.returns-clause-flows
-returns-clause-flows c = λ ps. flows_none ps _ c.new-entries.ensures.items refl
