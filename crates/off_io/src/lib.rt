@@ -7,8 +7,9 @@
 //!
 //! Proved: `write_all` appends all bytes, or a prefix of them at a fault (clauses `ok`, `err`, `cause`); `read_full`
 //! fills its buffer but at the end of the source (`bytes`, `cause`); the sources and sinks in memory fail at exactly
-//! the calls that they were told, but for a write whose memory is refused (`fails`, `memory`). Trusted: that std's
-//! readers and writers behind [`StdSource`], [`BufferedSource`], [`StdSink`] and [`BufferedSink`] do as they say.
+//! the calls that they were told, but for a write whose memory is refused (`fails`, `memory`); [`StdSource`],
+//! [`BufferedSource`], [`StdSink`] and [`BufferedSink`] tell what std's readers give and what std's writers were given
+//! (`bytes` of `read` and `write`). Trusted: that these readers and writers do as std says.
 //!
 //! ```
 //! let mut source = StdSource::new(bytes); // or standard input
