@@ -2,13 +2,14 @@
 
 ghost use Rattle.std.specs.Prelude.{◌≡◌, ◌+◌, ◌≤◌, [], min, length};
 ghost use Rattle.skb.specs.SkbState.{buffer_least, buffer_size, head_size};
-ghost use Rattle.gso.specs.Cutting.{count_of};
+ghost use Rattle.gso_cutter.specs.Cutting.{count_of};
 
 use crate::{Lines, bring_home};
 use anyhow::{Error, bail};
 use block_pool::Pool;
 use frags::{Outcomes, Pieces};
-use gso::{Cut, Cutter, check_super};
+use gso::check_super;
+use gso_cutter::{Cut, Cutter};
 use pcap_io::{AnyHead, OffHead2};
 use raw_block::Sole;
 use skb::Skb;

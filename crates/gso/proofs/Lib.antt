@@ -1,11 +1,7 @@
-mod Weights
-mod Places
-mod Chunks
-mod Summing
 mod BufferSums
-mod Steps
+mod Chunks
+mod Fronted
+mod Places
+pub mod Least
 -- a segment's payload, where it lies, and the next one behind it
 pub mod Payloads
-mod Turns
-mod Heads
-mod Fronted

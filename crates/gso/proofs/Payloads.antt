@@ -12,7 +12,7 @@ use Rattle.segment_rule.proofs.Segments.{places, payload_short, segment_ranges}
 use Rattle.gso.specs.declared.place.Place.{Place}
 use Rattle.gso.specs.Planning.{IsSegmentsReady}
 use Rattle.gso.specs.Places.{SegmentsState, IsPlace, IsPayloadPlace, bytes_at, own_at}
-use Rattle.gso.proofs.Steps.{first_n, behind_n}
+use Rattle.gso.proofs.Least.{first_n, behind_n}
 
 module _ (g : SegmentsState) (i : ℕ) (from : Place) (ready : IsSegmentsReady g.skb g.cut g.sums) (is : IsPayloadPlace g i from) where
   abbrev cut : Segmentation

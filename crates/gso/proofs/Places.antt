@@ -6,7 +6,7 @@ use Rattle.frags.specs.PieceList.{bytes_of, piece_bytes}
 use Rattle.frags.specs.declared.pieces.Piece.{Piece}
 use Rattle.skb.specs.SkbState.{SkbState}
 use Rattle.skb.proofs.Summing.{piece_first}
-use Rattle.gso.proofs.Weights.{elim_lt}
+use Rattle.gso.proofs.Least.{elim_lt}
 use Rattle.gso.specs.declared.place.Place.{Place}
 use Rattle.gso.specs.Places.{IsPlace, bytes_at, slices_from}
 

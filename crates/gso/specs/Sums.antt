@@ -1,7 +1,6 @@
 -- The sums of the segments that a payload is cut into: m bytes each, and what is left at the last one.
-use Rattle.std.specs.Prelude.{ℕ, ◌≡◌, ◌*◌, ◌<◌, ◌≤◌, List, [], ◌∷◌, length, take, drop}
+use Rattle.std.specs.Prelude.{ℕ, ◌<◌, ◌≤◌, List, [], ◌∷◌, length, take, drop}
 use Rattle.inet_sum.specs.Stands.{FoldAndLength, StandsFor}
-use Rattle.segment_rule.specs.declared.segmentation.Segmentation.{Segmentation}
 use Rattle.gso.specs.declared.sums.Sums.{Sums}
 
 -- each of the sums is that of m bytes, and `rest` that of those behind them
@@ -18,10 +17,3 @@ pub record IsRoom (m : ℕ) (sums : Sums) : Type 0 where
   pub some : 1 ≤ m
   pub few : length sums.parts.items ≤ 64
   pub low : length sums.parts.items < 64 → sums.rest.len < m
-
--- the bytes of segment i of a payload whose sums are known
-pub record IsSummedSegment (sums : Sums) (cut : Segmentation) (i : ℕ) (own : List ℕ) : Type 0 where
-  pub payload : List ℕ
-  pub known : AreSumsOf cut.m sums payload
-  pub within : length payload ≤ cut.n * cut.m
-  pub is : own ≡ take cut.m (drop (i * cut.m) payload)

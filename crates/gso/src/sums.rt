@@ -2,13 +2,10 @@
 
 ghost use Rattle.std.specs.Prelude.{◌≡◌, ◌+◌, ◌*◌, ◌<◌, ◌≤◌, ◌^◌, ◌++◌, [], ℕ, List, length, take, drop, IfSome, true};
 ghost use Rattle.inet_sum.specs.Stands.{StandsFor};
-ghost use Rattle.frags.specs.PieceList.{bytes_of, size_of};
-ghost use Rattle.gso.specs.Sums.{AreSumsOf, IsRoom, IsSummedSegment};
+ghost use Rattle.gso.specs.Sums.{AreSumsOf, IsRoom};
 
 use arrayvec::ArrayVec;
-use frags::Pieces;
 use inet_sum::Partial;
-use segment_rule::Segmentation;
 
 /// How many segments' sums are kept: all of a frame of 64 KiB where a segment has 1,024 bytes or more.
 const KEPT: usize = 64;
@@ -91,7 +88,7 @@ impl Sums {
     }
 
     /// The sum of segment `i`, from 0, where it is known. The last one's is that of all that follows.
-    pub(crate) fn part(&self, m: u32, i: u32, is_last: bool) -> Option<Partial>
+    pub fn part(&self, m: u32, i: u32, is_last: bool) -> Option<Partial>
         ensures part { (f : List ℕ) → AreSumsOf m self.now f → (is_last ≡ true → length f ≤ (i + 1) * m)
             → IfSome result (λ s. StandsFor s (take m (drop (i * m) f))) }
     {
@@ -105,33 +102,4 @@ impl Sums {
             None
         }
     }
-
-    /// The sum of segment `i`, from 0, whose bytes are `own`: where it isn't known they are read.
-    pub(crate) fn of_segment(&self, cut: &Segmentation, i: u32, own: &Pieces) -> Partial
-        requires there { i < cut.now.n }
-        requires of { IsSummedSegment self.now cut.now i (bytes_of own.now) }
-        ensures sum { StandsFor result (bytes_of own.now) }
-        ensures len { result.len ≡ length (bytes_of own.now) }
-    {
-        let n = cut.n;
-        match self.part(cut.m, i, i + 1 == n) {
-            Some(sum) => sum,
-            None => sum_of(own),
-        }
-    }
-}
-
-/// The sum of all bytes of pieces: each is read once, where it lies.
-fn sum_of(pieces: &Pieces) -> Partial
-    ensures sum { StandsFor result (bytes_of pieces.now) }
-    ensures size { length (bytes_of pieces.now) ≡ size_of pieces.now }
-    ensures len { result.len ≡ length (bytes_of pieces.now) }
-{
-    let _ = pieces.len();
-    let mut sum = Partial::new();
-    let n = pieces.count();
-    for i in 0..n {
-        sum.add(pieces.slice(i));
-    }
-    sum
 }

@@ -8,7 +8,8 @@ use frame_layout::{candidate, shape};
 use frame_runs::{Engine, Lent};
 use gro::Packets;
 use gro_table::RoundTable;
-use gso::{Cut, Cutter, check_super};
+use gso::{Plan, Segments, check_super};
+use gso_cutter::{Cut, Cutter};
 use inet_sum::Partial;
 use merge_rule::{first_progress, is_next, next_progress};
 use off_io::NoGate;
@@ -121,7 +122,22 @@ fn example_of_gro_table(rt: HostRuntime) {
 }
 
 #[test]
-fn example_of_gso(rt: HostRuntime) -> Result<(), Fail> {
+fn example_of_gso(rt: HostRuntime) {
+    let head = merged(2, 4, 0);
+    let original = 76;
+    let mut sizes = (0, 0, 0);
+    let skb = buffer(&rt, rt.alloc(), &MERGED, 60, 1);
+    assert!(rt; skb.len().min(200) <= skb.head().len());
+    if let Ok(Plan::Segments(cut, sums)) = &check_super(&head, &skb, original) {
+        let segments = Segments::new(&skb, cut, sums);
+        let payload = segments.payload_len(segments.first());
+        sizes = (segments.count(), segments.headers_len(), payload); // two segments, 54 and 4 bytes of the first one
+    }
+    assert_eq!(rt; (sizes, skb.free()), ((2, 54, 4), 1));
+}
+
+#[test]
+fn example_of_gso_cutter(rt: HostRuntime) -> Result<(), Fail> {
     let alloc = rt.alloc();
     let head = merged(2, 4, 0);
     let original = 76;

@@ -5,13 +5,14 @@ ghost use Rattle.std.specs.Prelude.{◌≡◌, ◌+◌, ◌≤◌, [], length, m
 ghost use Rattle.frags.specs.PieceList.{size_of};
 ghost use Rattle.skb.specs.SkbState.{buffer_least, buffer_size, head_size};
 ghost use Rattle.block_pool.specs.PoolState.{home};
-ghost use Rattle.gso.specs.Cutting.{count_of};
+ghost use Rattle.gso_cutter.specs.Cutting.{count_of};
 
 use crate::buffers::{empty, places};
 use anyhow::{Error, bail};
 use block_pool::Pool;
 use frags::{Outcomes, PieceBuilder, Pieces};
-use gso::{Cut, Cutter, check_super};
+use gso::check_super;
+use gso_cutter::{Cut, Cutter};
 use pcap_io::{AnyHead, OffHead2};
 use raw_block::Sole;
 use skb::{HEADROOM, Skb};

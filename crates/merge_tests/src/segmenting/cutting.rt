@@ -5,7 +5,8 @@ ghost use Rattle.skb.specs.SkbState.{buffer_size};
 
 use crate::home::home_of;
 use frags::{Outcomes, PieceBuilder, Pieces};
-use gso::{Cut, Cutter, check_super};
+use gso::check_super;
+use gso_cutter::{Cut, Cutter};
 use pcap_io::{AnyHead, OffHead, OffHead2};
 use raw_block::Sole;
 use skb::Skb;

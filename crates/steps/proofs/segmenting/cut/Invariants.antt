@@ -1,5 +1,5 @@
 use Rattle.std.proofs.Common.{◌≤◌}
-use Rattle.gso.specs.Cutting.{count_of}
+use Rattle.gso_cutter.specs.Cutting.{count_of}
 use Rattle.steps.proofs.segmenting.cut.Given as goal
 
 abbrev pub invariant-loop : goal.invariant-loop

@@ -1,0 +1,5 @@
+mod Heads
+mod Steps
+mod Summing
+mod Turns
+mod Weights

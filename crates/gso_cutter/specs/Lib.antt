@@ -1,0 +1,5 @@
+pub mod Opening
+pub mod Merged
+pub mod Whole
+pub mod Sums
+pub mod Cutting
