@@ -1,6 +1,0 @@
-use Rattle.std.proofs.Common.{◌≤◌}
-use Rattle.block_pool.specs.PoolState.{home}
-use Rattle.steps.proofs.pools.time_plain.Given as goal
-
-abbrev pub invariant-loop-turn : goal.invariant-loop-turn
-invariant-loop-turn g l = home l.pool ≤ l.pool.made

@@ -1,5 +1,0 @@
-use Rattle.block_pool.specs.PassState.{IsOwn}
-use Rattle.steps.proofs.pools.turns_of.Given as goal
-
-abbrev pub invariant-loop : goal.invariant-loop
-invariant-loop g l = IsOwn l.pool l.pass

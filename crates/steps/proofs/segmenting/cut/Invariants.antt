@@ -1,6 +1,0 @@
-use Rattle.std.proofs.Common.{◌≤◌}
-use Rattle.gso_cutter.specs.Cutting.{count_of}
-use Rattle.steps.proofs.segmenting.cut.Given as goal
-
-abbrev pub invariant-loop : goal.invariant-loop
-invariant-loop l = count_of l.cutter ≤ l.out.spare
