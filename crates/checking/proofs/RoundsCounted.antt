@@ -34,7 +34,7 @@ use Rattle.checking.proofs.Tallying.{totals_add_up, counting_goes_by_round}
 use Rattle.rounds.specs.Fresh.{NumberedFrom}
 use Rattle.rounds.specs.Merging.{TakesAll}
 use Rattle.rounds.specs.Reading.{GivesRound, Holds, Exceeds}
-use Rattle.records.specs.Reading.{Passes as PassesRecords}
+use Rattle.reading.specs.Reading.{Passes as PassesRecords}
 use Rattle.rounds.specs.declared.round.RoundEnd.{RoundEnd}
 use Rattle.rounds.specs.declared.round.RoundEnd.TheVariants as rounds
 use Rattle.checking.specs.Handling.{ending_of, CountsLast, Ahead, EndsBehind, AreOf}

@@ -9,7 +9,7 @@ use crate::parcel::Token;
 use crate::post::Post;
 use crate::ring::receive_within;
 use block_pool::Pool;
-use records::Supply;
+use reading::Supply;
 
 /// Before the side that reads sleeps for want of blocks it looks this often for a list, and each time this often for a
 /// token.

@@ -10,9 +10,3 @@ mod Heads
 mod Runs
 -- a run's record, from its packets where they lie
 mod InPlace
--- blocks that are filled one after another
-mod Filling
--- blocks in turn, and packets as they are laid in them
-pub mod Laying
--- a record that is read
-mod Recording

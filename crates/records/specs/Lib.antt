@@ -1,5 +1,1 @@
 pub mod Records
-pub mod Data
-pub mod Laid
-pub mod Reading
-pub mod Bodies

@@ -16,7 +16,7 @@ use Rattle.offload_model.proofs.Decides.{decides_opened}
 use Rattle.skb.specs.SkbState.{SkbState, IsAlone, buffer_bytes}
 use Rattle.gro.specs.declared.slot.Slot.{Slot as Held}
 use Rattle.rounds.specs.Cutting.{IsBehind}
-use Rattle.records.specs.Reading.{record_of}
+use Rattle.reading.specs.Reading.{record_of}
 
 -- ---- two parts of a row that were copied in
 

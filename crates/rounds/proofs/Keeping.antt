@@ -35,8 +35,8 @@ use Rattle.lanes.proofs.Idle.{idle_clones, idle_counts, idle_lanes, idle_weighed
 use Rattle.lanes.specs.Packets.{RiseFrom}
 use Rattle.lanes.specs.Sharing.{EachFrom}
 use Rattle.lanes.specs.Work.{IsPlan, options_by, spread_of, shown_by, AreMerged, AreWatched}
-use Rattle.records.specs.Laid.{AreRead, IsRead, LaidFrom}
-use Rattle.records.proofs.Laying.{laid_all}
+use Rattle.reading.specs.Laid.{AreRead, IsRead, LaidFrom}
+use Rattle.reading.proofs.Laying.{laid_all}
 use Rattle.rounds.specs.Fresh.{NumberedFrom}
 use Rattle.rounds.specs.Held.{Fits}
 use Rattle.rounds.specs.Kept.{IsKept, IsDone, IsLeft, IsOfLanes, IsOneRound, IsOutBeside, IsPrepared}

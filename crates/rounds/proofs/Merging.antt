@@ -30,7 +30,7 @@ use Rattle.offload_model.proofs.Needs.{needed_append, needs_add}
 use Rattle.offload_model.proofs.Steps.{commands_pass_on, prefixes_pass_on, merging_goes_by_round}
 use Rattle.gro.specs.declared.slot.Slot.{Slot as Held}
 use Rattle.gro.specs.Slots.{packet_of}
-use Rattle.records.specs.Reading.{in_front, Passes as PassesRecords}
+use Rattle.reading.specs.Reading.{in_front, Passes as PassesRecords}
 use Rattle.rounds.specs.Reading.{GivesRound, Holds, Exceeds}
 use Rattle.rounds.specs.RoundsState.{RoundsState}
 use Rattle.rounds.specs.Merging.{ending_of, options_of, Fails, WritesLast, Ahead, EndsBehind, TakesAll, AreCapturedAt, EndsCaptured, HoldsCaptured}

@@ -29,13 +29,13 @@ use Rattle.skb.specs.SkbState.{buffer_bytes}
 use Rattle.gro.specs.declared.slot.Slot.{Slot as Held}
 use Rattle.rounds.specs.declared.cut.Refused.{Refused}
 use Rattle.rounds.specs.declared.cut.Refused.TheVariants as refusals
-use Rattle.records.specs.declared.reading.Stop.{Stop as Unread}
-use Rattle.records.specs.declared.reading.Stop.TheVariants as stops
+use Rattle.reading.specs.declared.record.Stop.{Stop as Unread}
+use Rattle.reading.specs.declared.record.Stop.TheVariants as stops
 use Rattle.rounds.specs.declared.segment.Moved.{Moved}
 use Rattle.rounds.specs.declared.segment.Moved.TheVariants.{One}
 use Rattle.rounds.specs.declared.segment.SegFault.{SegFault}
 use Rattle.rounds.specs.Cutting.{WritesRecord, packets_bytes}
-use Rattle.records.specs.Reading.{front_size, judged_at, record_of, Passes, GivesRecord}
+use Rattle.reading.specs.Reading.{front_size, judged_at, record_of, Passes, GivesRecord}
 use Rattle.rounds.specs.Segmenting.{IsFaultOf, IsMovedOf, Moves, TakesOne}
 
 abbrev passed : List ℕ → Stop → Passed

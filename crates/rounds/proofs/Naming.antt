@@ -13,7 +13,7 @@ use Rattle.frags.specs.declared.holder.Holder.TheVariants.{Sole, Part}
 use Rattle.skb.specs.SkbState.{IsLent}
 use Rattle.gro.specs.declared.slot.Slot.{Slot as Held}
 use Rattle.gro.specs.Slots.{of_packets, counts_of, weighed_slots, AreLent}
-use Rattle.records.specs.Laid.{LaidFrom, WholeFrom}
+use Rattle.reading.specs.Laid.{LaidFrom, WholeFrom}
 use Rattle.rounds.specs.Marks.{by_marks, blocks_but, IsNamed}
 
 -- ---- names, one for each mark

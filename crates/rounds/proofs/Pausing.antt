@@ -14,11 +14,11 @@ use Rattle.offload_model.specs.Captured.{IsCaptured}
 use Rattle.offload_model.specs.Need.{need_of, round_need}
 use Rattle.gro.specs.declared.slot.Slot.{Slot as Held}
 use Rattle.gro.specs.Slots.{packet_of, count_of, counts_of}
-use Rattle.records.specs.declared.reading.Stop.{Stop}
-use Rattle.records.specs.declared.reading.Stop.TheVariants as stops
-use Rattle.records.specs.Laid.{AreRead, IsLaid, IsRead, LaidFrom}
-use Rattle.records.proofs.Laying.{laid_at}
-use Rattle.records.specs.Reading.{GivesKept, GoesOn, KeepsHead, Passes}
+use Rattle.reading.specs.declared.record.Stop.{Stop}
+use Rattle.reading.specs.declared.record.Stop.TheVariants as stops
+use Rattle.reading.specs.Laid.{AreRead, IsLaid, IsRead, LaidFrom}
+use Rattle.reading.proofs.Laying.{laid_at}
+use Rattle.reading.specs.Reading.{GivesKept, GoesOn, KeepsHead, Passes}
 use Rattle.rounds.specs.Ahead.{GivesBehind, Waits}
 use Rattle.rounds.specs.Filling.{Reached, FillsAhead, FillsBehind, FillsOn, FillsWhole}
 use Rattle.rounds.specs.Fresh.{NumberedFrom}

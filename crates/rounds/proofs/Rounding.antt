@@ -19,13 +19,13 @@ use Rattle.offload_model.specs.Need.{need_of, needed, round_need}
 use Rattle.offload_model.specs.Captured.{IsCaptured}
 use Rattle.gro.specs.declared.slot.Slot.{Slot as Held}
 use Rattle.gro.specs.Slots.{packet_of}
-use Rattle.records.specs.Laid.{IsRead}
+use Rattle.reading.specs.Laid.{IsRead}
 use Rattle.rounds.specs.Fresh.{NumberedFrom}
-use Rattle.records.specs.Reading.{front_size, in_front, Passes, HoldsNone, judged_at, GivesRecord, GoesOn, NeedsMore}
+use Rattle.reading.specs.Reading.{front_size, in_front, Passes, HoldsNone, judged_at, GivesRecord, GoesOn, NeedsMore}
 use Rattle.rounds.specs.RoundOf.{IsRoundOf}
 use Rattle.rounds.specs.Reading.{GivesRound, GivesRest, PassesOver, PassesRound, GoesOver, FillsRound, NumbersOn, Holds, Exceeds, IsEndOf}
-use Rattle.records.specs.declared.reading.Stop.{Stop}
-use Rattle.records.specs.declared.reading.Stop.TheVariants as stops
+use Rattle.reading.specs.declared.record.Stop.{Stop}
+use Rattle.reading.specs.declared.record.Stop.TheVariants as stops
 use Rattle.rounds.specs.declared.round.RoundEnd.{RoundEnd}
 use Rattle.rounds.proofs.Taking.{numbered_last}
 

@@ -11,8 +11,8 @@ use Rattle.frags.specs.declared.holder.Holder.TheVariants.{Sole, Part}
 use Rattle.skb.specs.SkbState.{IsLent}
 use Rattle.gro.specs.declared.slot.Slot.{Slot as Held}
 use Rattle.gro.specs.Slots.{of_packet, of_packets, count_of, counts_of, with_head, AreLent}
-use Rattle.records.specs.Laid.{IsLaid, LaidFrom, WholeFrom}
-use Rattle.records.proofs.Laying.{below_or}
+use Rattle.reading.specs.Laid.{IsLaid, LaidFrom, WholeFrom}
+use Rattle.reading.proofs.Laying.{below_or}
 use Rattle.rounds.specs.Marks.{all, others, OneLife, nothing, IsRound}
 use Rattle.rounds.specs.Fresh.{weight_at, IsFresh, NumberedFrom}
 

@@ -12,7 +12,7 @@ use Rattle.gro.specs.declared.slot.Slot.{Slot as Held}
 use Rattle.gro.specs.Slots.{packet_of}
 use Rattle.rounds.specs.Fresh.{NumberedFrom}
 use Rattle.rounds.specs.Reading.{GivesRound, NumberedTo, PassesRound}
-use Rattle.records.specs.Reading.{KeepsHead, Passes}
+use Rattle.reading.specs.Reading.{KeepsHead, Passes}
 use Rattle.rounds.specs.RoundsState.{RoundState, WorkedState}
 use Rattle.rounds.specs.declared.round.Paused.{Paused}
 use Rattle.rounds.specs.declared.round.ReadAhead.{ReadAhead}

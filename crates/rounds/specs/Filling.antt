@@ -7,7 +7,7 @@ use Rattle.pcap_io.specs.declared.place.Place.{Place}
 use Rattle.pcap_io.specs.declared.reader.CaptureReader.{CaptureReader}
 use Rattle.pcap_io.specs.Readers.{place_of, source_of}
 use Rattle.gro.specs.declared.slot.Slot.{Slot as Held}
-use Rattle.records.specs.Reading.{KeepsHead}
+use Rattle.reading.specs.Reading.{KeepsHead}
 use Rattle.rounds.specs.Ahead.{GivesBehind, IfPaused, IfRead, ReadsAhead, Waits}
 use Rattle.rounds.specs.Fresh.{NumberedFrom}
 use Rattle.rounds.specs.Reading.{FillsRound, GivesRest, GivesRound, IfEnded, NumbersOn, PassesRound}

@@ -14,7 +14,7 @@ use Rattle.offload_model.specs.Passing.{merging, Passes}
 use Rattle.offload_model.specs.Steps.{GoesOn, ending_behind}
 use Rattle.offload_model.specs.Written.{Options}
 use Rattle.lanes.specs.Work.{options_by}
-use Rattle.records.specs.Reading.{in_front}
+use Rattle.reading.specs.Reading.{in_front}
 use Rattle.rounds.specs.RoundsState.{RoundsState}
 use Rattle.rounds.specs.declared.round.RoundEnd.{RoundEnd}
 use Rattle.rounds.specs.declared.round.RoundEnd.TheVariants as read_ends

@@ -7,7 +7,7 @@ use Rattle.offload_model.specs.Captured.{IsCaptured}
 use Rattle.offload_model.specs.Need.{round_need}
 use Rattle.gro.specs.declared.slot.Slot.{Slot as Held}
 use Rattle.gro.specs.Slots.{packet_of, counts_of, weighed_slots}
-use Rattle.records.specs.Laid.{AreRead, LaidFrom}
+use Rattle.reading.specs.Laid.{AreRead, LaidFrom}
 use Rattle.rounds.specs.Lists.{listed_home, weights_home}
 
 -- Packets of records as they were read, whose blocks and so many spares are the round's: two spares for each.

@@ -12,8 +12,8 @@ use Rattle.offload_model.specs.Passing.{Passes}
 use Rattle.offload_model.specs.Steps.{GoesOn}
 use Rattle.rounds.specs.declared.cut.Refused.{Refused}
 use Rattle.rounds.specs.declared.cut.Refused.TheVariants as refusals
-use Rattle.records.specs.declared.reading.Stop.{Stop}
-use Rattle.records.specs.declared.reading.Stop.TheVariants as stops
+use Rattle.reading.specs.declared.record.Stop.{Stop}
+use Rattle.reading.specs.declared.record.Stop.TheVariants as stops
 use Rattle.rounds.specs.declared.segment.Moved.{Moved}
 use Rattle.rounds.specs.declared.segment.Moved.TheVariants.{One, End}
 use Rattle.rounds.specs.declared.segment.SegFault.{SegFault}

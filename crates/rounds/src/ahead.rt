@@ -16,7 +16,7 @@ ghost use Rattle.offload_model.specs.Need.{need_of, round_need};
 ghost use Rattle.offload_model.specs.Written.{round_records};
 ghost use Rattle.gro.specs.Slots.{packet_of};
 ghost use Rattle.lanes.specs.Lanes.{IsMerged};
-ghost use Rattle.records.specs.Reading.{KeepsHead};
+ghost use Rattle.reading.specs.Reading.{KeepsHead};
 ghost use Rattle.rounds.specs.Ahead.{blocks_out, weights_out, round_of, GivesBehind, IfPaused, IfRead, Lacks};
 ghost use Rattle.rounds.specs.Ahead.{ReadsAhead, Waits};
 ghost use Rattle.rounds.specs.Benches.{options_at, IsLent, LendsWork};

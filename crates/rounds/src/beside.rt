@@ -11,7 +11,7 @@ ghost use Rattle.pcap_io.specs.Readers.{place_of, source_of, SameLoan};
 ghost use Rattle.offload_model.specs.Need.{need_of, round_need};
 ghost use Rattle.offload_model.specs.Captured.{IsCaptured};
 ghost use Rattle.gro.specs.Slots.{packet_of};
-ghost use Rattle.records.specs.Reading.{KeepsHead};
+ghost use Rattle.reading.specs.Reading.{KeepsHead};
 ghost use Rattle.rounds.specs.Ahead.{round_of, IfPaused, Lacks};
 ghost use Rattle.rounds.specs.Filling.{reached, FillsAhead, FillsBehind};
 ghost use Rattle.rounds.specs.Fresh.{NumberedFrom};
@@ -23,7 +23,7 @@ use crate::intake::Intake;
 use crate::round::{Paused, ReadAhead, RoundEnd, RoundRead};
 use off_io::Source;
 use pcap_io::CaptureReader;
-use records::Supply;
+use reading::Supply;
 use std::sync::Wait;
 
 impl Intake {

@@ -11,8 +11,8 @@ ghost use Rattle.pcap_io.specs.Limits.{most_frame, off_head_size};
 ghost use Rattle.skb.specs.Fronts.{IsFronted};
 ghost use Rattle.gro.specs.Slots.{count_of, packet_of};
 ghost use Rattle.gso.specs.Planning.{IsPlanOf, packets_by};
-ghost use Rattle.records.specs.Laid.{IsRead};
-ghost use Rattle.records.specs.Reading.{record_of};
+ghost use Rattle.reading.specs.Laid.{IsRead};
+ghost use Rattle.reading.specs.Reading.{record_of};
 ghost use Rattle.rounds.specs.Cutting.{IsBehind, Writes, WritesRecord, packets_bytes};
 ghost use Rattle.rounds.specs.Weights.{Adds};
 
@@ -23,7 +23,8 @@ use gro::Slot;
 use gso::{BadOffload, Plan, Segments, check_super};
 use off_io::{Sink, WriteFault};
 use pcap_io::{AnyHead, FileHead, OFF_HEAD_LEN};
-use records::{Time, bring_blocks, write_record, write_segments};
+use reading::bring_blocks;
+use records::{Time, write_record, write_segments};
 
 /// Why the packets of a record aren't all written.
 #[derive(Clone, Copy, Debug, PartialEq, Eq)]

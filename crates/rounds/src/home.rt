@@ -19,7 +19,7 @@ use block_pool::Pool;
 use frags::Outcomes;
 use gro::{Packets, Slot};
 use lanes::Lanes;
-use records::bring_blocks;
+use reading::bring_blocks;
 use skb::Skb;
 use taps::TapClone;
 

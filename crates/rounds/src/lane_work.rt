@@ -11,7 +11,7 @@ ghost use Rattle.lanes.specs.Clones.{AreAfter};
 ghost use Rattle.lanes.specs.Lanes.{weighed_queues};
 ghost use Rattle.block_pool.specs.PoolState.{weighed};
 ghost use Rattle.rounds.specs.Benches.{options_at, IsLent, LeavesNoSpare, LendsWork};
-ghost use Rattle.records.specs.Laid.{AreRead, LaidFrom};
+ghost use Rattle.reading.specs.Laid.{AreRead, LaidFrom};
 ghost use Rattle.rounds.specs.Kept.{IsKept, IsPrepared, IsDone, IsLeft, IsOfLanes};
 ghost use Rattle.rounds.specs.Lanes.{IsAloneWork, WorksAs};
 ghost use Rattle.rounds.specs.Weights.{weights_of, weights_worked, weights_left};

@@ -10,7 +10,7 @@
 //!
 //! A record is judged in this order: its header, whether the round then needs more blocks than there are, its body. So
 //! a record that is too big for the pool takes no block, and one that is cut short or whose source fails leaves none
-//! out. Blocks that it needs and that are out are brought once its header is read, by whoever has a [`Supply`] of them.
+//! out. Blocks that it needs and that are out are brought once its header is read, by whoever has a [`Supply`](reading::Supply) of them.
 //!
 //! The spares of a round nobody reads, so they may go to others before the round ends: whoever has a
 //! [`Giver`](block_pool::Giver) lends it to [`Bench::work_round`], and as soon as a lane is worked its part goes by it.
@@ -102,8 +102,8 @@
 //! let end = rounds.merge_all(&mut Alone { gate: &NoGate }, &mut reader, &file, &mut sink);
 //! ```
 //!
-//! Its parts: `reading` (a round of records, each read by `records`); `table` and `home` (what comes back, by marks or
-//! by number, and all of a round given up at whichever point); `lane_work` (a round over lanes, by
+//! Its parts: `reading` (a round of records, each read by the crate `reading`); `table` and `home` (what comes back, by
+//! marks or by number, and all of a round given up at whichever point); `lane_work` (a round over lanes, by
 //! `lanes::work_packets`, with its heads shared where others hold blocks), `lane_home` (what lanes hold, home);
 //! `writing` (what they come to); `intake` (the side that reads: pool and budget); `bench` (the side that works:
 //! places, memory and lanes) and `giving` (spares that go to others); `lists` (the pool by which lists of spares come
@@ -214,7 +214,6 @@ pub use handler::RoundHandler;
 pub use intake::Intake;
 pub use lists::{Taker, bring_lists, open_lists};
 pub use merge::{MergeEnd, RoundWriter, Step};
-pub use records::{AllHome, Supply};
 pub use round::{Empty, Paused, ReadAhead, Round, RoundEnd, RoundRead, Worked};
 pub use rounds::Rounds;
 pub use segment::{Moved, SegFault, SegmentRun};

@@ -11,7 +11,7 @@ ghost use Rattle.rounds.specs.Lists.{HasGiver, listed_home, weights_home, weight
 use crate::intake::Intake;
 use block_pool::{Giver, ListPass, ListPool, Pool};
 use core::mem::replace;
-use records::Supply;
+use reading::Supply;
 use std::alloc::{AllocError, Global};
 use std::marker::{Brand, PhantomData};
 use std::sync::{Arc, Wait};

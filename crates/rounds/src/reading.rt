@@ -7,7 +7,7 @@ ghost use Rattle.pcap_io.specs.declared.place.Place.{Place};
 ghost use Rattle.pcap_io.specs.Places.{IsReady};
 ghost use Rattle.pcap_io.specs.Readers.{place_of, source_of, SameLoan};
 ghost use Rattle.offload_model.specs.Need.{need_of};
-ghost use Rattle.records.specs.Reading.{KeepsHead};
+ghost use Rattle.reading.specs.Reading.{KeepsHead};
 ghost use Rattle.rounds.specs.Filling.{reached, FillsBehind, FillsOn, FillsWhole};
 ghost use Rattle.rounds.specs.Reading.{IsHaltOf, WaitsOver};
 ghost use Rattle.rounds.specs.RoundOf.{at_hand, brought_by, Came, IsHold, IsRoundOf, Takes};
@@ -18,7 +18,7 @@ use gro::Packets;
 use off_io::Source;
 use pcap_io::{CaptureReader, RecHead};
 use raw_block::Sole;
-use records::{AllHome, Stop, Supply, finish_record, read_record};
+use reading::{AllHome, Stop, Supply, finish_record, read_record};
 use std::alloc::Global;
 use std::collections::VecDeque;
 

@@ -8,7 +8,7 @@ use block_pool::Pool;
 use gro::Packets;
 use lanes::Lanes;
 use pcap_io::{CapFault, RecHead};
-use records::Stop;
+use reading::Stop;
 use std::alloc::{AllocError, Global};
 use std::marker::Model;
 use taps::TapClone;

@@ -30,7 +30,7 @@ use crate::round::{Round, RoundEnd, RoundRead, Worked};
 use lanes::{LanePlan, Works};
 use off_io::{Sink, Source, WriteFault};
 use pcap_io::{CaptureReader, FileHead};
-use records::AllHome;
+use reading::AllHome;
 use std::alloc::{AllocError, Global};
 use std::marker::Model;
 

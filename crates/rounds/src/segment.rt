@@ -8,7 +8,7 @@ ghost use Rattle.off_io.specs.Told.{Told};
 ghost use Rattle.pcap_io.specs.declared.heads.Link.TheVariants.{Offload};
 ghost use Rattle.pcap_io.specs.Places.{IsReady, found_at};
 ghost use Rattle.pcap_io.specs.Readers.{place_of, source_of, SameLoan};
-ghost use Rattle.records.specs.Reading.{GoesOn};
+ghost use Rattle.reading.specs.Reading.{GoesOn};
 ghost use Rattle.rounds.specs.Segmenting.{IsFaultOf, IsMovedOf, Moves, TakesOne};
 
 use crate::cut::{Refused, cut_record};
@@ -18,7 +18,7 @@ use gro::{Packets, Slot};
 use off_io::{Sink, Source};
 use pcap_io::{CapFault, CapKind, CaptureReader, OFF_HEAD_LEN};
 use raw_block::Sole;
-use records::{AllHome, RECORD_BLOCKS, Stop, read_record};
+use reading::{AllHome, RECORD_BLOCKS, Stop, read_record};
 use std::alloc::{AllocError, Global};
 use std::collections::VecDeque;
 use std::marker::Model;

@@ -1,7 +1,7 @@
 use Rattle.std.proofs.Common.{ap, sym, subst, arith, length}
 use Rattle.std.proofs.KnownBytes.{Keeps-refl}
 use Rattle.skb.specs.SkbState.{SkbState, weighed_in, IsAlone}
-use Rattle.records.specs.Reading.{record_of}
+use Rattle.reading.specs.Reading.{record_of}
 use Rattle.rounds.proofs.Heads.{alone_within, behind_is, not_lawful}
 use Rattle.rounds.proofs.cut.cut_record.Goals as goal
 

@@ -1,6 +1,6 @@
 use Rattle.std.proofs.Common.{Bool, subst, sym}
 use Rattle.gro.proofs.Lying.{lent_held, lent_shared, lent_weigh}
-use Rattle.records.proofs.Laying.{laid_all}
+use Rattle.reading.proofs.Laying.{laid_all}
 use Rattle.rounds.specs.Kept.{IsPrepared}
 use Rattle.rounds.proofs.Keeping.{are_held, prepared_alone, prepared_shared}
 use Rattle.rounds.proofs.lane_work.share_if.Goals as goal

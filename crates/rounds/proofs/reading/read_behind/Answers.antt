@@ -6,7 +6,7 @@ use Rattle.gro.specs.declared.slot.Slot.{Slot as Packet}
 use Rattle.gro.specs.Packets.{PacketsState}
 use Rattle.gro.specs.Slots.{weighed_slots}
 use Rattle.gro.proofs.Weights.{weighed_last}
-use Rattle.records.specs.Reading.{GivesKept}
+use Rattle.reading.specs.Reading.{GivesKept}
 use Rattle.rounds.specs.Ahead.{GivesBehind}
 use Rattle.rounds.specs.Fresh.{NumberedFrom}
 use Rattle.rounds.specs.Reading.{GivesRest, IfEnded}

@@ -2,7 +2,7 @@ use Rattle.std.proofs.Common.{◌≡◌, ◌+◌, ◌∙◌, [], ap, refl, sym, 
 use Rattle.block_pool.specs.PoolState.{home, weighed}
 use Rattle.std.proofs.lemmas.Option.{same_Some}
 use Rattle.gro.specs.Slots.{weighed_slots}
-use Rattle.records.proofs.Laying.{weighed_none}
+use Rattle.reading.proofs.Laying.{weighed_none}
 use Rattle.rounds.specs.Ahead.{round_of}
 use Rattle.rounds.specs.Filling.{reached, FillsAhead}
 use Rattle.rounds.specs.Reading.{WaitsOver}

@@ -1,5 +1,5 @@
 use Rattle.std.proofs.Common.{◌≡◌, ap, arith}
-use Rattle.records.proofs.Laying.{laid_all}
+use Rattle.reading.proofs.Laying.{laid_all}
 use Rattle.rounds.specs.RoundsState.{RoundState}
 use Rattle.rounds.proofs.round.Round.discard.Goals as goal
 

@@ -10,11 +10,11 @@ use Rattle.gro.specs.declared.slot.Slot.{Slot as Held}
 use Rattle.gro.specs.Packets.{PacketsState}
 use Rattle.rounds.specs.declared.segment.Moved.TheVariants.{One}
 use Rattle.rounds.specs.Cutting.{WritesRecord}
-use Rattle.records.specs.Reading.{record_of}
+use Rattle.reading.specs.Reading.{record_of}
 use Rattle.rounds.specs.RoundsState.{SegmentState}
 use Rattle.rounds.specs.Segmenting.{Moves}
 use Rattle.rounds.proofs.Moving.{moved_given, need_is, next_is, not_moved_given, original_counts, takes_one, unmoved_given}
-use Rattle.records.proofs.Laying.{laid_alone, weighed_none}
+use Rattle.reading.proofs.Laying.{laid_alone, weighed_none}
 use Rattle.rounds.proofs.segment.SegmentRun.next.Goals.{in-Ok-wrote, in-Err-wrote}
 use Rattle.rounds.proofs.segment.SegmentRun.next.Goals as goal
 

@@ -1,0 +1,4 @@
+pub mod Data
+pub mod Laid
+pub mod Reading
+pub mod Bodies
