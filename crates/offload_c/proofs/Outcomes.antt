@@ -9,10 +9,11 @@ use Rattle.lanes.specs.Work.{options_by}
 use Rattle.lanes.specs.declared.plan.LanePlan.{LanePlan}
 use Rattle.rounds.specs.declared.merge.MergeEnd.{MergeEnd}
 use Rattle.rounds.specs.declared.merge.MergeEnd.TheVariants as merges
-use Rattle.rounds.specs.declared.segment.SegFault.{SegFault}
-use Rattle.rounds.specs.declared.segment.SegFault.TheVariants as segments
+use Rattle.segmenting.specs.declared.segment.SegFault.{SegFault}
+use Rattle.segmenting.specs.declared.segment.SegFault.TheVariants as segments
 use Rattle.rounds.specs.Merging.{ending_of, options_of}
-use Rattle.rounds.specs.RoundsState.{RoundsState, SegmentState}
+use Rattle.rounds.specs.RoundsState.{RoundsState}
+use Rattle.segmenting.specs.SegmentState.{SegmentState}
 use Rattle.offload_c.specs.Answers.{Gives}
 use Rattle.offload_c.specs.Ends.{IsMergeFault, IsOutcomeOf, IsEndingFor, EndsAs, IsSegOutcome}
 use Rattle.offload_c.specs.declared.memory.Outcome.{Outcome}

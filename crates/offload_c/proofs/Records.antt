@@ -18,11 +18,11 @@ use Rattle.pcap_io.proofs.RecordLaws.{records_none}
 use Rattle.offload_model.specs.Passing.{Ending, Stopped, Nowhere, AtFault, AtRound, Passed, ReadFault, WriteFault, NoMemory, segmenting, segmenting_whole, Passes}
 use Rattle.offload_model.specs.Steps.{GoesOn, ending_behind}
 use Rattle.offload_model.proofs.Steps.{commands_pass_on, segmenting_goes_by_record}
-use Rattle.rounds.specs.declared.segment.Moved.{Moved}
-use Rattle.rounds.specs.declared.segment.Moved.TheVariants.{One, End}
-use Rattle.rounds.specs.declared.segment.SegFault.{SegFault}
-use Rattle.rounds.specs.declared.segment.SegFault.TheVariants as segments
-use Rattle.rounds.specs.Segmenting.{Moves}
+use Rattle.segmenting.specs.declared.segment.Moved.{Moved}
+use Rattle.segmenting.specs.declared.segment.Moved.TheVariants.{One, End}
+use Rattle.segmenting.specs.declared.segment.SegFault.{SegFault}
+use Rattle.segmenting.specs.declared.segment.SegFault.TheVariants as segments
+use Rattle.segmenting.specs.Segmenting.{Moves}
 use Rattle.offload_c.specs.Ends.{IsSegFault, EndsAs}
 use Rattle.offload_c.proofs.Headers.{no_file, head_failed, behind_head}
 

@@ -7,8 +7,8 @@ use Rattle.offload_model.specs.Passing.{Ending, Stopped, Nowhere, AtFault, AtRou
 use Rattle.offload_model.specs.Passing.{NoMemory, Passes}
 use Rattle.rounds.specs.declared.merge.MergeEnd.{MergeEnd}
 use Rattle.rounds.specs.declared.merge.MergeEnd.TheVariants as merges
-use Rattle.rounds.specs.declared.segment.SegFault.{SegFault}
-use Rattle.rounds.specs.declared.segment.SegFault.TheVariants as segments
+use Rattle.segmenting.specs.declared.segment.SegFault.{SegFault}
+use Rattle.segmenting.specs.declared.segment.SegFault.TheVariants as segments
 use Rattle.offload_c.specs.declared.memory.Outcome.{Outcome}
 use Rattle.offload_c.specs.declared.memory.Outcome.TheVariants as outcomes
 

@@ -11,7 +11,7 @@ ghost use Rattle.offload_c.specs.Ends.{IsSegFault, EndsAs, IsSegOutcome};
 use crate::memory::{LentSource, Outcome, grown_sink};
 use off_io::{Sink, Source, WriteFault};
 use pcap_io::{CaptureReader, FileHead, InFault, Link, take_file, write_file_head};
-use rounds::{Moved, SegFault, SegmentRun};
+use segmenting::{Moved, SegFault, SegmentRun};
 use std::alloc::Global;
 
 // Why a capture without a lawful file header isn't segmented.

@@ -83,5 +83,6 @@ pub use logging::write_log;
 pub use offload_words::{
     CheckOptions, Command, MakeOptions, MergeOptions, SegmentOptions, WordsFault, parse_words,
 };
-pub use rounds::{Rounds, SegmentRun};
+pub use rounds::Rounds;
+pub use segmenting::SegmentRun;
 pub use status::Status;

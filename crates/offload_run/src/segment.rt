@@ -20,7 +20,7 @@ use off_io::{Sink, Source, WriteFault};
 use offload_model::segments_grow;
 use offload_words::SegmentOptions;
 use pcap_io::{CaptureReader, FileHead, Link, take_file, write_file_head};
-use rounds::{Moved, SegFault, SegmentRun};
+use segmenting::{Moved, SegFault, SegmentRun};
 use std::alloc::Global;
 
 // Ends at the fault of a record, behind `round` others and over this many blocks. What is written is flushed, where

@@ -2,3 +2,4 @@ pub mod Data
 pub mod Laid
 pub mod Reading
 pub mod Bodies
+pub mod Home

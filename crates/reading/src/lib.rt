@@ -33,6 +33,7 @@
 //!
 //! ```
 //! let mut hold = VecDeque::with_capacity(alloc, RECORD_BLOCKS)?;
+//! let mut packets = Packets::with_capacity(alloc, 1)?;
 //! let mut kept = None;
 //! let read = read_record(
 //!     alloc,

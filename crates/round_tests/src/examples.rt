@@ -2,14 +2,47 @@
 use crate::captures::{feed_of, reader_of};
 use crate::working::packets::{all_home, in_turn, rest_home};
 use crate::writing::{FILE, all_go_home, frame, one_item};
+use block_pool::Pool;
 use frame_layout::Choice;
+use gro::Packets;
 use lanes::{Alone, LanePlan, Lanes, work_packets};
 use off_io::{MemSink, NoGate};
 use pcap_io::Link;
+use reading::{AllHome, RECORD_BLOCKS, read_record};
 use records::{Time, write_items, write_record};
 use rounds::{MergeEnd, Rounds};
+use segmenting::{Moved, SegmentRun};
+use std::collections::VecDeque;
 use std::test::Fail;
-use worked_captures::TWO_FLOWS;
+use worked_captures::{MERGED_CAPTURE, TWO_FLOWS};
+
+#[test]
+fn example_of_reading(rt: HostRuntime) -> Result<(), Fail> {
+    let alloc = rt.alloc();
+    let mut feed = feed_of(&rt, alloc, &TWO_FLOWS, 4096, &[]);
+    let mut reader = reader_of(&rt, &mut feed, Link::Ethernet);
+    let mut pool = Pool::make(alloc, 12)?;
+    let mut spares = Pool::empty(alloc, 2)?;
+    let mut hold = VecDeque::with_capacity(alloc, RECORD_BLOCKS)?;
+    let mut packets = Packets::with_capacity(alloc, 1)?;
+    let mut kept = None;
+    let read = read_record(
+        alloc,
+        &mut pool,
+        &mut hold,
+        &mut spares,
+        &mut reader,
+        &mut AllHome,
+        &mut kept,
+        &mut [],
+        0,
+        0,
+        &mut packets,
+    );
+    let blocks = (pool.home(), spares.home(), packets.free());
+    assert_eq!(rt; (read, blocks), (Ok((24, 3)), (9, 2, 1)));
+    Ok(())
+}
 
 #[test]
 fn example_of_records(rt: HostRuntime) {
@@ -80,5 +113,17 @@ fn example_of_rounds(rt: HostRuntime) -> Result<(), Fail> {
     let mut rounds = Rounds::make(alloc, blocks, 64, plan, false)?;
     let end = rounds.merge_all(&mut Alone { gate: &NoGate }, &mut reader, &file, &mut sink);
     assert_eq!(rt; (end, rounds.home()), (MergeEnd::Done, 12));
+    Ok(())
+}
+
+#[test]
+fn example_of_segmenting(rt: HostRuntime) -> Result<(), Fail> {
+    let alloc = rt.alloc();
+    let mut feed = feed_of(&rt, alloc, &MERGED_CAPTURE, 4096, &[]);
+    let mut reader = reader_of(&rt, &mut feed, Link::Offload);
+    let mut sink = MemSink::new(alloc, 4096, Vec::new(alloc));
+    let mut run = SegmentRun::make(alloc, 8)?;
+    let moved = run.next(&mut reader, &mut sink);
+    assert_eq!(rt; (moved, run.home(), sink.bytes().len()), (Ok(Moved::One), 8, 146));
     Ok(())
 }

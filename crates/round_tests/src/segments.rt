@@ -4,7 +4,7 @@ ghost use Rattle.std.specs.Prelude.{◌≤◌, length};
 use crate::captures::{feed_of, reader_of};
 use off_io::MemSink;
 use pcap_io::{CapFault, CapKind, Link};
-use rounds::{Moved, SegFault, SegmentRun};
+use segmenting::{Moved, SegFault, SegmentRun};
 use std::alloc::Global;
 use std::process::Abort;
 use worked_captures::{MERGED_CAPTURE, MERGED_CAPTURE_2};

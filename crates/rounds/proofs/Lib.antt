@@ -32,9 +32,3 @@ pub mod Going
 pub mod Merging
 -- what is written of them one after another, and how merging ends
 pub mod Written
--- an offload header whose last bytes lie in blocks
-mod Heads
--- the packets of a record, written one after another
-mod Packets
--- what segmenting one record shows
-mod Moving

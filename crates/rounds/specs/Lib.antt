@@ -1,6 +1,5 @@
 pub mod Ahead
 pub mod Benches
-pub mod Cutting
 pub mod Filling
 pub mod Fresh
 pub mod Handled
@@ -16,6 +15,5 @@ pub mod Reading
 pub mod Reads
 pub mod RoundOf
 pub mod RoundsState
-pub mod Segmenting
 pub mod Table
 pub mod Weights

@@ -57,10 +57,3 @@ pub record RestState : Type 0 where
   pub lanes : Lanes
   pub spares : List SoleState
   pub blocks : ℕ
-
--- of what segments records: the same, and each record is a round of its own
-pub record SegmentState : Type 0 where
-  pub home : ℕ
-  pub stock : List SoleState
-  pub blocks : ℕ
-  pub taken : ℕ

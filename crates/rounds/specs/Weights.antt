@@ -1,7 +1,7 @@
 -- What the blocks of a round weigh together, each by its name: where this stays, whatever each name weighs, it has the
 -- same blocks.
-use Rattle.std.specs.Prelude.{ℕ, ◌≡◌, ◌+◌}
-use Rattle.block_pool.specs.PoolState.{PoolState, home as home_in, weighed}
+use Rattle.std.specs.Prelude.{ℕ, ◌+◌}
+use Rattle.block_pool.specs.PoolState.{weighed}
 use Rattle.gro.specs.Slots.{weighed_slots}
 use Rattle.lanes.specs.Lanes.{weighed_queues}
 use Rattle.rounds.specs.RoundsState.{RoundState, WorkedState, RestState}
@@ -15,9 +15,3 @@ weights_worked w h = weighed_queues h w.lanes.queues.items + weighed h w.spares
 
 abbrev pub weights_left : RestState → (ℕ → ℕ) → ℕ
 weights_left r h = weighed_slots h r.packets + weighed_queues h r.lanes.queues.items + weighed h r.spares
-
--- so many blocks that weigh so much came home, and no count of the pool changed
-pub record Adds (n : ℕ) (weights : (ℕ → ℕ) → ℕ) (from to : PoolState) : Type 0 where
-  pub home : home_in to ≡ home_in from + n
-  pub named : (h : ℕ → ℕ) → weighed h to.blocks ≡ weighed h from.blocks + weights h
-  pub made : (to.made ≡ from.made) × (to.taken ≡ from.taken)

@@ -11,7 +11,7 @@ ghost use Rattle.rounds.specs.Marks.{by_marks, IsNamed, IsRound, nothing};
 ghost use Rattle.rounds.specs.Out.{IsOut};
 ghost use Rattle.frags.specs.OutcomesState.{IsBare};
 ghost use Rattle.rounds.specs.Table.{AllOpen, Comes, MayCome};
-ghost use Rattle.rounds.specs.Weights.{Adds};
+ghost use Rattle.reading.specs.Home.{Adds};
 
 use crate::lane_home::{bring_kept, bring_lanes, bring_queues_alone};
 use crate::table::{Returned, reopen, sweep};

@@ -9,7 +9,7 @@ ghost use Rattle.rounds.specs.Lanes.{AreSpent};
 ghost use Rattle.rounds.specs.Marks.{nothing};
 ghost use Rattle.frags.specs.OutcomesState.{IsBare};
 ghost use Rattle.rounds.specs.Table.{Comes, MayCome};
-ghost use Rattle.rounds.specs.Weights.{Adds};
+ghost use Rattle.reading.specs.Home.{Adds};
 
 use crate::home::{bring_alone, bring_buffer, bring_packets};
 use crate::table::{Returned, sweep};

@@ -10,15 +10,12 @@
 //!
 //! A record is judged in this order: its header, whether the round then needs more blocks than there are, its body. So
 //! a record that is too big for the pool takes no block, and one that is cut short or whose source fails leaves none
-//! out. Blocks that it needs and that are out are brought once its header is read, by whoever has a [`Supply`](reading::Supply) of them.
+//! out. Blocks that it needs and that are out are brought once its header is read, by whoever has a
+//! [`Supply`](reading::Supply) of them.
 //!
 //! The spares of a round nobody reads, so they may go to others before the round ends: whoever has a
 //! [`Giver`](block_pool::Giver) lends it to [`Bench::work_round`], and as soon as a lane is worked its part goes by it.
 //! The round is as many blocks smaller. Without a giver they come home with the others.
-//!
-//! Of a record of link type 147 the first 12 bytes are read apart, as every offload header has them, and the need is
-//! that of the bytes behind them. The last 4 bytes of a header of version 2 so stand in the first block, in front of
-//! the frame, until the header is taken off.
 //!
 //! Who works the lanes of a round, the thread that calls or others with it, is told by [`Works`](lanes::Works):
 //! each call that works a round is one over whoever works.
@@ -69,14 +66,6 @@
 //! - `captured` of `merge_all`: the packets that are merged are such as a capture may hold, since each was read into
 //!   fields of 32 bits and into bytes.
 //!
-//! And of [`SegmentRun`], where each record is a round:
-//!
-//! - `given` of `next`: what is written is the next record's segments, by the definition of the whole capture's; and
-//!   for each fault how much of the source is gone, and that nothing is written for a record that isn't whole, lawful
-//!   and within the blocks.
-//! - `home`: all blocks are home after every answer.
-//! - `taken`: a record that was segmented took as many blocks as it needs.
-//!
 //! That they are home is told in two ways (`specs/Out.antt`). Where there are no taps and no clones are kept, each
 //! packet alone holds its blocks from when it is read, so that as many go home as there are. Where others hold some it
 //! follows from the account alone (`specs/Marks.antt`): the blocks of a round are marked 0, 1, ..; of each mark one
@@ -84,9 +73,9 @@
 //! a life weigh less than the whole. So where a mark's Sole isn't home something would still be held, and nothing is.
 //! Spares are held by nobody but the round, and are counted home.
 //!
-//! Memory is taken in [`Rounds::make`] and [`SegmentRun::make`], and for the list of pieces of a record of more than
-//! 1,984 bytes. The first round takes that of its lanes, and a later one only where it has more for a lane; each round
-//! takes memory for the clones that are kept. Of two rounds that are out at once each has lists of its own, and the
+//! Memory is taken in [`Rounds::make`], and for the list of pieces of a record of more than 1,984 bytes. The first round
+//! takes that of its lanes, and a later one only where it has more for a lane; each round takes memory for the clones
+//! that are kept. Of two rounds that are out at once each has lists of its own, and the
 //! rest of one that was paused takes a list for its spares.
 //!
 //! ```
@@ -111,13 +100,12 @@
 //! (a round read beside the work of another, and its rest), `beside` (the same where another thread works: paused, and
 //! read on once the other rounds have ended); `handler` (what is done with a round, for whoever drives
 //! them) and `turns` (rounds one after another, each read and handled); `merge` (the handler that writes a round, and
-//! all rounds of a capture with it); `segment` (the type that segments, record by record) on `cut` (a record's packets
-//! written one by one, its blocks brought home); `memory` (what is kept from round to round).
+//! all rounds of a capture with it); `memory` (what is kept from round to round).
 //! `specs/Out.antt` says what is out with a round, `specs/Marks.antt` what is its account where others hold blocks of
 //! it, `specs/Fresh.antt` what that is once heads are shared, `specs/Reading.antt` what each end of a round says of the
 //! capture's bytes, `specs/Benches.antt` when blocks may come home, and what is so once they have.
 //!
-//! Tests: `round_tests`, modules `frames`, `jumbo`, `lane_rows`, `long_runs`, `merging`, `segments` and `sides`, and
+//! Tests: `round_tests`, modules `frames`, `jumbo`, `lane_rows`, `long_runs`, `merging` and `sides`, and
 //! `beside_tests`, modules `ahead`, `pausing` and `refused`.
 //!
 //! Why so:
@@ -176,9 +164,6 @@
 //!   blocks was judged by all of them.
 //! - **What `read_rest` says is over the whole round** (`GivesBehind`): of every place and bytes from which the first
 //!   packets were read, and the header that was kept. So it has the ends of `read_round` with no ghost data in a round.
-//! - **A record is segmented where it lies**: each packet's headers are put together beside it, and its payload goes to
-//!   the sink from the record's own blocks. So no packet takes a block or memory, and the record goes home once, as it
-//!   came, whether all of it was written or the sink failed.
 //! - **Outcomes have room for each block twice** (`Rounds`): once for its packet, and once for the clone that is kept
 //!   of it.
 #![tactic(auto)]
@@ -186,7 +171,6 @@
 mod ahead;
 mod bench;
 mod beside;
-mod cut;
 mod frames;
 mod giving;
 mod handler;
@@ -197,12 +181,10 @@ mod lane_work;
 mod lists;
 mod memory;
 mod merge;
-mod opening;
 mod plan;
 mod reading;
 mod round;
 mod rounds;
-mod segment;
 mod table;
 mod turns;
 mod worked_parts;
@@ -216,5 +198,4 @@ pub use lists::{Taker, bring_lists, open_lists};
 pub use merge::{MergeEnd, RoundWriter, Step};
 pub use round::{Empty, Paused, ReadAhead, Round, RoundEnd, RoundRead, Worked};
 pub use rounds::Rounds;
-pub use segment::{Moved, SegFault, SegmentRun};
 pub use turns::handle_from;

@@ -1,5 +1,5 @@
 use Rattle.std.proofs.Common.{◌∙◌, ap, refl, Ok, Err}
-use Rattle.rounds.specs.declared.segment.Moved.TheVariants.{One, End}
+use Rattle.segmenting.specs.declared.segment.Moved.TheVariants.{One, End}
 use Rattle.offload_c.proofs.Records.{ahead_none, moves_is, goes_then, end_then, stop_then}
 use Rattle.offload_c.proofs.segmenting.segment_records.Goals as goal
 

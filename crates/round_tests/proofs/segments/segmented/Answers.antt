@@ -1,5 +1,5 @@
 use Rattle.std.proofs.Common.{◌≡◌, Ok, rules}
-use Rattle.rounds.specs.declared.segment.Moved.TheVariants.{One}
+use Rattle.segmenting.specs.declared.segment.Moved.TheVariants.{One}
 use Rattle.round_tests.proofs.segments.segmented.Goals as goal
 
 pub next-second-requires-clause-ready : goal.next-second-requires-clause-ready

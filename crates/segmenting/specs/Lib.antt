@@ -1,0 +1,3 @@
+pub mod Cutting
+pub mod SegmentState
+pub mod Segmenting
