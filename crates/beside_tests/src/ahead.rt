@@ -5,6 +5,7 @@ ghost use Rattle.pcap_io.specs.Places.{IsReady};
 ghost use Rattle.pcap_io.specs.Readers.{place_of};
 
 use crate::memory::{How, joined, large_record, rounds_of, source_of};
+use ahead::{read_rest, work_and_read};
 use lanes::{Alone, Beside, Works};
 use off_io::{Failed, Feed, Gate, Meeting, MemSink, MemSource, NoGate, Source, Who};
 use pcap_io::{CaptureReader, FileHead, Link};
@@ -39,7 +40,7 @@ fn turn<R: Threads + Wait + Abort + Sync, W: Works, S: Source + Send>(
         RoundEnd::Full => {}
         _ => return RoundRead { round, end },
     }
-    let (worked, next) = rounds.work_and_read(rt, works, round, reader);
+    let (worked, next) = work_and_read(rounds, rt, works, round, reader);
     let worked = match worked {
         Ok(worked) => worked,
         Err(_) => panic!(rt; "no memory"),
@@ -52,7 +53,7 @@ fn turn<R: Threads + Wait + Abort + Sync, W: Works, S: Source + Send>(
         ReadAhead::Paused(paused) => {
             pauses.0 = pauses.0.wrapping_add(1);
             pauses.1 = pauses.1.wrapping_add(paused.empty.takes());
-            rounds.read_rest(paused, reader)
+            read_rest(rounds, paused, reader)
         }
     }
 }

@@ -1,13 +1,40 @@
 //! The example of each first page, as it stands there, and what it comes to.
 use crate::plans::plain;
+use ahead::work_and_read;
 use checking::{CheckEnd, Totals, check_all, write_totals};
 use lanes::Alone;
 use off_io::{Feed, MemSink, MemSource, NoGate};
 use pcap_io::{CaptureReader, Link};
 use pipeline::merge_beside;
-use rounds::{MergeEnd, Rounds};
+use rounds::{MergeEnd, ReadAhead, RoundEnd, RoundRead, Rounds};
 use std::test::Fail;
 use worked_captures::TWO_FLOWS;
+
+#[test]
+fn example_of_ahead(rt: HostRuntime) -> Result<(), Fail> {
+    let alloc = rt.alloc();
+    let mut feed = Feed {
+        inner: MemSource::new(TWO_FLOWS.to_vec(alloc)?, 4096, Vec::new(alloc)),
+    };
+    let mut reader = CaptureReader::start(&mut feed, Link::Ethernet)?;
+    let mut rounds = Rounds::make(alloc, 12, 1, plain(4, 1, 64), false)?;
+    let mut works = Alone { gate: &NoGate };
+    let RoundRead { round, end } = rounds.read_round(&mut reader);
+    if end != RoundEnd::Full {
+        rounds.drop_round(round);
+        panic!(rt; "the first round is full");
+    }
+    let (worked, next) = work_and_read(&mut rounds, &rt, &mut works, round, &mut reader);
+    if let Ok(worked) = worked {
+        rounds.end_round(worked);
+    }
+    match next {
+        ReadAhead::Read(read) => rounds.drop_round(read.round),
+        ReadAhead::Paused(paused) => rounds.drop_round(paused.into_round()),
+    }
+    assert_eq!(rt; rounds.home(), 12);
+    Ok(())
+}
 
 #[test]
 fn example_of_pipeline(rt: HostRuntime) -> Result<(), Fail> {

@@ -6,6 +6,7 @@ ghost use Rattle.pcap_io.specs.Places.{IsReady};
 ghost use Rattle.pcap_io.specs.Readers.{place_of};
 
 use crate::plans::plain;
+use ahead::{read_rest, work_and_read};
 use lanes::Alone;
 use off_io::{Feed, MemSink, NoGate, Source, SureSource};
 use pcap_io::{CaptureReader, FileHead, Link};
@@ -66,7 +67,7 @@ fn turn<R: Threads + Wait + Sync, S: Source + Send>(
     if end != RoundEnd::Full {
         return Some(RoundRead { round, end });
     }
-    let (worked, next) = rounds.work_and_read(rt, &mut Alone { gate: &NoGate }, round, reader);
+    let (worked, next) = work_and_read(rounds, rt, &mut Alone { gate: &NoGate }, round, reader);
     let is_written = match worked {
         Ok(worked) => {
             let written = rounds.write_round(&worked, file, sink);
@@ -84,7 +85,7 @@ fn turn<R: Threads + Wait + Sync, S: Source + Send>(
         }
         ReadAhead::Paused(paused) => {
             if is_written {
-                return Some(rounds.read_rest(paused, reader));
+                return Some(read_rest(rounds, paused, reader));
             }
             rounds.drop_round(paused.into_round());
         }

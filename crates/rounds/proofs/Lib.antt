@@ -9,7 +9,7 @@ mod Naming
 -- a round that is read
 mod Rounding
 -- a round that waits behind a header, and its rest
-mod Pausing
+pub mod Pausing
 -- what a call keeps of a round
 mod Working
 -- what lanes hold, the last one apart

@@ -1,6 +1,5 @@
 -- What is said of a round that is read beside the work of another.
-use Rattle.std.specs.Prelude.{ℕ, ◌≡◌, ◌≢◌, ◌+◌, ◌-◌, ◌^◌, ◌<◌, ◌≤◌, List, length, map, min, Option, Some, Result, Ok}
-use Rattle.std.specs.Prelude.{Err}
+use Rattle.std.specs.Prelude.{ℕ, ◌≡◌, ◌≢◌, ◌+◌, ◌-◌, ◌^◌, ◌<◌, ◌≤◌, List, length, map, min, Option, Some, Ok}
 use Rattle.std.specs.List.{AllByRecursion}
 use Rattle.off_io.specs.Told.{Told}
 use Rattle.pcap_io.specs.declared.heads.RecHead.{RecHead}
@@ -13,14 +12,13 @@ use Rattle.gro.specs.Slots.{packet_of}
 use Rattle.rounds.specs.Fresh.{NumberedFrom}
 use Rattle.rounds.specs.Reading.{GivesRound, NumberedTo, PassesRound}
 use Rattle.reading.specs.Reading.{KeepsHead, Passes}
-use Rattle.rounds.specs.RoundsState.{RoundState, WorkedState}
+use Rattle.rounds.specs.RoundsState.{RoundState}
 use Rattle.rounds.specs.declared.round.Paused.{Paused}
 use Rattle.rounds.specs.declared.round.ReadAhead.{ReadAhead}
 use Rattle.rounds.specs.declared.round.ReadAhead.TheVariants as aheads
 use Rattle.rounds.specs.declared.round.RoundEnd.{RoundEnd}
 use Rattle.rounds.specs.declared.round.RoundEnd.TheVariants as ends
 use Rattle.rounds.specs.declared.round.RoundRead.{RoundRead}
-use Rattle.rounds.specs.Weights.{weights_worked}
 
 -- what was read, whole or not
 abbrev pub round_of : ReadAhead → RoundState
@@ -72,12 +70,3 @@ pub record ReadsAhead (budget : ℕ) (old new : Place) (ahead : ReadAhead) : Typ
   pub captured : AllByRecursion IsCaptured (map packet_of (round_of ahead).packets)
   pub numbers : NumberedFrom old.number (round_of ahead).packets
   pub need : (round_of ahead).blocks ≡ round_need (map packet_of (round_of ahead).packets)
-
--- the blocks of a round that was worked, if it was
-abbrev pub blocks_out : {E : Type 0} → Result WorkedState E → ℕ
-blocks_out (Ok worked) = worked.blocks
-blocks_out (Err error) = 0
-
-abbrev pub weights_out : {E : Type 0} → Result WorkedState E → (ℕ → ℕ) → ℕ
-weights_out (Ok worked) h = weights_worked worked h
-weights_out (Err error) h = 0

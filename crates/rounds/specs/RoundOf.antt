@@ -1,14 +1,12 @@
 -- What the side that reads hands on: a round by its lists, who holds its blocks, and how many were taken and brought.
 use Rattle.std.specs.Prelude.{ℕ, ◌≡◌, ◌+◌, ◌-◌, ◌*◌, ◌^◌, ◌≤◌, List, [], length, map, min}
 use Rattle.std.specs.List.{AllByRecursion}
-use Rattle.block_pool.specs.PassState.{PassState}
 use Rattle.block_pool.specs.PoolState.{PoolState, weighed}
 use Rattle.offload_model.specs.Captured.{IsCaptured}
 use Rattle.offload_model.specs.Need.{round_need}
 use Rattle.gro.specs.declared.slot.Slot.{Slot as Held}
 use Rattle.gro.specs.Slots.{packet_of, counts_of, weighed_slots}
 use Rattle.reading.specs.Laid.{AreRead, LaidFrom}
-use Rattle.rounds.specs.Lists.{listed_home, weights_home}
 
 -- Packets of records as they were read, whose blocks and so many spares are the round's: two spares for each.
 pub record IsRoundOf (packets : List Held) (spares blocks : ℕ) : Type 0 where
@@ -45,15 +43,6 @@ brought_by count weights owed refusals h = record {
   weights = weights h;
   owed = owed h;
   refusals = refusals h;
-}
-
--- by lists that are taken, and none waited for
-abbrev pub brought_listed : PassState PoolState → PoolState → Brought
-brought_listed pass left = record {
-  count = listed_home pass left;
-  weights = λ h. weights_home h pass left;
-  owed = 0;
-  refusals = pass.empties;
 }
 
 -- the blocks that are home and a round's came to more by those that were brought, as they are counted and as they weigh

@@ -157,7 +157,7 @@ impl Bench {
     }
 
     /// Where its memory comes from.
-    pub(crate) fn alloc(&self) -> Global {
+    pub fn alloc(&self) -> Global {
         self.alloc
     }
 
@@ -172,7 +172,7 @@ impl Bench {
     }
 
     /// The same, and lists for the packets of the next round and for their spares.
-    pub(crate) fn take_blank(&mut self) -> Result<Blank, AllocError>
+    pub fn take_blank(&mut self) -> Result<Blank, AllocError>
         ensures none { IfOk result (λ b. (b.packets.items ≡ []) × (home b.spares ≡ 0)) }
         ensures reserved { IfOk result (λ b. (self.old.budget ≤ b.packets.room)
             × (2 * self.old.budget ≤ b.spares.made)) }
@@ -244,7 +244,7 @@ impl Bench {
 
     /// Works the round that lies there, beside the side that reads: spares of it go there by the giver. The runtime
     /// goes with it as with that side.
-    pub(crate) fn work_lent<R: Sync, W: Works>(
+    pub fn work_lent<R: Sync, W: Works>(
         &mut self,
         _rt: &R,
         works: &mut W,

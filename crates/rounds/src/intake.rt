@@ -172,7 +172,7 @@ impl Intake {
     }
 
     /// A round of no records, for want of memory.
-    pub(crate) fn read_none(&self) -> RoundRead
+    pub fn read_none(&self) -> RoundRead
         ensures none { (result.round.packets ≡ []) × (result.round.spares ≡ []) × (result.round.blocks ≡ 0) }
         ensures end { result.end ≡ RoundEnd.NoMemory }
         ensures budget { (1 ≤ self.now.budget) × (self.now.budget ≤ 4096) }
@@ -305,7 +305,7 @@ impl Intake {
     /// Reads the next round beside the work of another, into lists that are lent for that. It is paused where a record
     /// needs blocks that aren't home and don't come: the header of that record is kept. The runtime goes with it for
     /// the borrow checker's part alone, by which what a side borrows ends with what both borrow.
-    pub(crate) fn read_ahead<R: Sync, S: Source, H: Supply>(
+    pub fn read_ahead<R: Sync, S: Source, H: Supply>(
         &mut self,
         _rt: &R,
         reader: &mut CaptureReader<'_, S>,
@@ -367,8 +367,9 @@ impl Intake {
         }
     }
 
-    /// Reads the rest of a round that was paused, as `read_rest` of the rounds says it.
-    pub(crate) fn read_on<S: Source>(
+    /// Reads the rest of a round that was paused, from behind the header that was kept, once all blocks but its own are
+    /// home.
+    pub fn read_on<S: Source>(
         &mut self,
         paused: Paused,
         reader: &mut CaptureReader<'_, S>,

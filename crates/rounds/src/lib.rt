@@ -46,8 +46,8 @@
 //!   (`merging` of `offload_model`) with all options, whole rounds alone; a round that exceeds the blocks is told by
 //!   its number and its need. After a fault, or want of memory, it is that of the bytes that are gone, or a prefix of
 //!   it. All blocks are home whatever the ending (`home`).
-//! - `taken` is the count of [`Intake`]'s own takes: `read_round`, `work_and_read`, `read_rest` and what goes by them
-//!   raise it, and no other call changes it (`home`, `same`), also where blocks come home on a shelf (`bring_in`).
+//! - `taken` is the count of [`Intake`]'s own takes: `read_round`, `read_ahead`, `read_on` and what goes by them raise
+//!   it, and no other call changes it (`home`, `same`), also where blocks come home on a shelf (`bring_in`).
 //! - `sum`, `home` of [`Intake`], `brings` of [`Bench`]: where one side reads and the other works no block is lost
 //!   between them, and `given`, `puts` and `gives` say of a round on its way what `merge_all` says of it.
 //! - `worked`, `brings` and `gave` where a giver is lent: what it gave and what comes home are together the round's
@@ -55,14 +55,12 @@
 //!   no spare stays with the round, unless a put found no place (`none_left`).
 //! - `alone` of [`Bench`]: where there are no taps and no clones are kept, nobody but a round's packets holds a block
 //!   of them once it was worked.
-//! - `given`, `reads`, `waits`, `paused`, `rose` of `work_and_read`: where the next round is read beside the work of
-//!   one, what is said of both is the same; the read pauses only behind the header of a record that needs more blocks
-//!   than are home, and only where a take found no list of them, which `empties` counts; the header is kept. `given` of
-//!   `read_rest`: what such a round comes to in the end, over all of its records. That both run at the same time isn't
-//!   proved.
-//! - `given` of `read_beside` of [`Intake`]: the same where another thread works, whose blocks are waited for. It
-//!   pauses so too, which `pauses` counts (`paused`): only where who brings blocks counts a take that found nothing.
-//!   `ended` of `bring_rest`: a paused round is given up only where that thread keeps the blocks.
+//! - `given` of `read_beside` of [`Intake`]: of a round that is read while another thread works, whose blocks are
+//!   waited for, what `read_round` says. It pauses only behind the header of a record that needs more blocks than are
+//!   home, which is kept, and `pauses` counts that (`paused`): only where who brings blocks counts a take that found
+//!   nothing. `ended` of `bring_rest`: a paused round is given up only where that thread keeps the blocks.
+//! - `fills`, `paused`, `refused` of `read_ahead` and `fills` of `read_on` of [`Intake`], `works`, `lends` of
+//!   `work_lent` of [`Bench`]: the same by its parts, for whoever drives rounds one by one (the crate `ahead`).
 //! - `captured` of `merge_all`: the packets that are merged are such as a capture may hold, since each was read into
 //!   fields of 32 bits and into bytes.
 //!
@@ -96,17 +94,16 @@
 //! `lanes::work_packets`, with its heads shared where others hold blocks), `lane_home` (what lanes hold, home);
 //! `writing` (what they come to); `intake` (the side that reads: pool and budget); `bench` (the side that works:
 //! places, memory and lanes) and `giving` (spares that go to others); `lists` (the pool by which lists of spares come
-//! home while the rest of their round is out, and its end where they are taken); `rounds` (both, in turn) and `ahead`
-//! (a round read beside the work of another, and its rest), `beside` (the same where another thread works: paused, and
-//! read on once the other rounds have ended); `handler` (what is done with a round, for whoever drives
-//! them) and `turns` (rounds one after another, each read and handled); `merge` (the handler that writes a round, and
-//! all rounds of a capture with it); `memory` (what is kept from round to round).
+//! home while the rest of their round is out, and its end where they are taken); `rounds` (both, in turn) and `beside`
+//! (a round read while another thread works: paused, and read on once the other rounds have ended); `handler` (what is
+//! done with a round, for whoever drives them) and `turns` (rounds one after another, each read and handled); `merge`
+//! (the handler that writes a round, and all rounds of a capture with it); `memory` (what is kept from round to round).
 //! `specs/Out.antt` says what is out with a round, `specs/Marks.antt` what is its account where others hold blocks of
 //! it, `specs/Fresh.antt` what that is once heads are shared, `specs/Reading.antt` what each end of a round says of the
 //! capture's bytes, `specs/Benches.antt` when blocks may come home, and what is so once they have.
 //!
 //! Tests: `round_tests`, modules `frames`, `jumbo`, `lane_rows`, `long_runs`, `merging` and `sides`, and
-//! `beside_tests`, modules `ahead`, `pausing` and `refused`.
+//! `beside_tests`, module `pausing`.
 //!
 //! Why so:
 //!
@@ -156,19 +153,10 @@
 //!   the count of what was taken.
 //! - **The fields are public**, since two parts of one value can't be lent by a call whose invariant speaks of both
 //!   (`AreOne`): that what is out has its places at the bench. Whoever lends them owes it when both are back.
-//! - **Whoever drives rounds one by one reads the next one beside the work** by `work_and_read`: one join, in which the
-//!   intake reads with all blocks that are home while the bench works. The spares of each queue come home as one list,
-//!   by one step, as soon as its lane was worked; all other blocks come home when both have ended. So taking a block
-//!   costs no locked step, and taking a list one. What a record needs is known once its header was taken, so a read
-//!   pauses there, and by that need: the header is kept, no byte of its body was read, and whether a round exceeds the
-//!   blocks was judged by all of them.
-//! - **What `read_rest` says is over the whole round** (`GivesBehind`): of every place and bytes from which the first
-//!   packets were read, and the header that was kept. So it has the ends of `read_round` with no ghost data in a round.
 //! - **Outcomes have room for each block twice** (`Rounds`): once for its packet, and once for the clone that is kept
 //!   of it.
 #![tactic(auto)]
 
-mod ahead;
 mod bench;
 mod beside;
 mod frames;
@@ -196,6 +184,6 @@ pub use handler::RoundHandler;
 pub use intake::Intake;
 pub use lists::{Taker, bring_lists, open_lists};
 pub use merge::{MergeEnd, RoundWriter, Step};
-pub use round::{Empty, Paused, ReadAhead, Round, RoundEnd, RoundRead, Worked};
+pub use round::{Blank, Empty, Paused, ReadAhead, Rest, Round, RoundEnd, RoundRead, Worked};
 pub use rounds::Rounds;
 pub use turns::handle_from;

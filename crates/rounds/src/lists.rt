@@ -4,16 +4,14 @@ ghost use Rattle.std.specs.Prelude.{IfNone, IfOk, IfSome};
 ghost use Rattle.std.specs.Arc.{arc_value};
 ghost use Rattle.block_pool.specs.Giving.{given_by, weights_given};
 ghost use Rattle.block_pool.specs.Listed.{blocks_in};
-ghost use Rattle.block_pool.specs.PassState.{IsOwn, SharedState};
+ghost use Rattle.block_pool.specs.PassState.{IsOwn};
 ghost use Rattle.block_pool.specs.PoolState.{home, weighed};
 ghost use Rattle.rounds.specs.Lists.{HasGiver, listed_home, weights_home, weights_listed};
 
 use crate::intake::Intake;
 use block_pool::{Giver, ListPass, ListPool, Pool};
 use core::mem::replace;
-use reading::Supply;
 use std::alloc::{AllocError, Global};
-use std::marker::{Brand, PhantomData};
 use std::sync::{Arc, Wait};
 
 /// Places for the lists of all 72 lanes of as many rounds as may be read ahead, three, and for one more of each, once
@@ -96,71 +94,6 @@ impl Taker {
         }
         let none = Pool::new(self.alloc);
         Some(replace(&mut self.left, none))
-    }
-}
-
-/// Which pool lists go to: the call that opens one says it.
-pub(crate) trait ListName {
-    ghost lists: { SharedState };
-}
-
-impl ListName for Brand {
-    ghost use Rattle.rounds.specs.Lists.{no_lists};
-
-    ghost lists = { no_lists };
-}
-
-/// Lists that are taken while a round is read beside the work of another: those that were given. None is waited for.
-#[derive(Drop)]
-pub(crate) struct NextLists<'a, R, N: ListName> {
-    pub(crate) rt: &'a R,
-    pub(crate) taker: Taker,
-    pub(crate) of: PhantomData<N>,
-    pub ghost pooled: { arc_value taker.lists ≡ N.lists },
-}
-
-impl<'a, R, N: ListName> NextLists<'a, R, N> {
-    pub(crate) fn new(rt: &'a R, taker: Taker) -> NextLists<'a, R, N>
-        requires pooled { arc_value taker.lists ≡ N.lists }
-        ensures same { result.taker ≡ taker }
-    {
-        NextLists {
-            rt,
-            taker,
-            of: PhantomData,
-        }
-    }
-}
-
-impl<R: Wait, N: ListName> Supply for NextLists<'_, R, N> {
-    ghost use Rattle.std.specs.Prelude.{false, true};
-    ghost use Rattle.rounds.specs.Lists.{listed_home, weights_home};
-
-    ghost brought = { λ n. listed_home n.taker.pass n.taker.left };
-
-    ghost weights = { λ n h. weights_home h n.taker.pass n.taker.left };
-
-    ghost counts = { true };
-
-    ghost refusals = { λ n. n.taker.pass.empties };
-
-    ghost looks = { false };
-
-    ghost owed = { λ _. 0 };
-
-    ghost ended = { λ _. true };
-
-    fn bring(&mut self, pool: &mut Pool, need: u32) -> bool {
-        while pool.home() < need {
-            if !self.taker.bring(self.rt, pool) {
-                return false;
-            }
-        }
-        true
-    }
-
-    fn has_ended(&self) -> bool {
-        true
     }
 }
 

@@ -15,7 +15,7 @@ use taps::TapClone;
 
 /// Memory for the packets of a round and for their spares, of which it has none yet. It must be spent: read into, or
 /// given up.
-pub(crate) struct Blank {
+pub struct Blank {
     pub(crate) packets: Packets,
     pub(crate) spares: Pool,
 }
@@ -43,7 +43,7 @@ impl Blank {
     }
 
     /// The memory is given up, and no block with it.
-    pub(crate) fn discard(self)
+    pub fn discard(self)
         requires none { (self.packets.items ≡ []) × (home self.spares ≡ 0) }
     {
         let Blank {
@@ -135,7 +135,7 @@ impl Model for Worked {
 
 /// What is left of a round, at whichever point it ends: packets that are in no lane, what the lanes hold, clones that
 /// were kept, and spares. It must be spent: brought home.
-pub(crate) struct Rest {
+pub struct Rest {
     pub(crate) packets: Packets,
     pub(crate) lanes: Lanes,
     pub(crate) kept: Vec<TapClone>,
@@ -199,7 +199,7 @@ impl Empty {
 }
 
 /// A round that goes on: its records so far, and the header of the next one, whose blocks weren't home. It must be
-/// spent: [`Rounds::read_rest`](crate::Rounds::read_rest) goes on behind that header.
+/// spent: [`Intake::read_on`](crate::Intake::read_on) goes on behind that header.
 pub struct Paused {
     pub round: Round,
     pub(crate) head: RecHead,

@@ -21,12 +21,12 @@ ghost use Rattle.rounds.specs.Fresh.{NumberedFrom};
 ghost use Rattle.rounds.specs.Lanes.{worked_bytes, worked_records, IsKeptWorkOf};
 ghost use Rattle.rounds.specs.Merging.{options_of};
 ghost use Rattle.rounds.specs.Reading.{GivesRound, PassesRound};
-ghost use Rattle.rounds.specs.Weights.{weights_of, weights_worked};
+ghost use Rattle.rounds.specs.Weights.{weights_of, weights_left, weights_worked};
 
 use crate::bench::Bench;
 use crate::handler::RoundHandler;
 use crate::intake::Intake;
-use crate::round::{Round, RoundEnd, RoundRead, Worked};
+use crate::round::{Rest, Round, RoundEnd, RoundRead, Worked};
 use lanes::{LanePlan, Works};
 use off_io::{Sink, Source, WriteFault};
 use pcap_io::{CaptureReader, FileHead};
@@ -237,6 +237,17 @@ impl Rounds {
         let intake = &mut self.intake;
         let bench = &mut self.bench;
         bench.drop_round(round, &mut intake.pool);
+    }
+
+    /// What is left of a round that memory was refused for goes home, all of its blocks.
+    pub fn bring_rest(&mut self, rest: Rest)
+        requires out { self.old.home + rest.blocks ≤ self.old.blocks }
+        ensures home { self.new ≡ record self.old { home = self.old.home + rest.blocks; stock = self.new.stock } }
+        ensures named { (h : ℕ → ℕ) → weighed h self.new.stock ≡ weighed h self.old.stock + weights_left rest h }
+    {
+        let intake = &mut self.intake;
+        let bench = &mut self.bench;
+        bench.bring(rest, &mut intake.pool);
     }
 
     /// Ends a round that was worked. Its blocks go home, all of them.

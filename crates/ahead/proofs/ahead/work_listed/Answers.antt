@@ -9,7 +9,7 @@ use Rattle.rounds.specs.Lanes.{worked_records, IsKeptWorkOf, WorksAs}
 use Rattle.rounds.specs.Merging.{options_of}
 use Rattle.rounds.specs.RoundsState.{BenchState, RestState, RoundsState, WorkedState}
 use Rattle.rounds.proofs.Pausing.{unread_ahead}
-use Rattle.rounds.proofs.rounds.Rounds.work_listed.Goals as goal
+use Rattle.ahead.proofs.ahead.work_listed.Goals as goal
 
 -- what is so of what was worked is so of the answer
 closed_ok : {E : Type 0} (P : WorkedState → Type 0) (worked : Result WorkedState RestState) (result : Result WorkedState E) → MatchResult worked (λ w. result ≡ Ok w) (λ _. IsErr result)
@@ -25,28 +25,28 @@ closed_empties (Err rest) old new is = ap (λ (s : RoundsState). s.empties) is
 
 pub returns-in_default-clause-fills : goal.returns-in_default-clause-fills
 returns-in_default-clause-fills g c =
-    let n = c.no_round-none in
-    let i = c.args.self.now in
+    let n = c.read_none-none in
+    let i = c.args.rounds.now in
     unread_ahead i.blocks i.budget (reached g.S.Source.left g.S.Source.faults c.args.reader.now) n.result n.ensures.none.0 n.ensures.none.2 n.ensures.end
 
 pub returns-clause-fills : goal.returns-clause-fills
 returns-clause-fills g c =
     let w = c.work_beside-read in
-    let i = c.self.inside.intake in
+    let i = c.rounds.inside.intake in
     let from = reached g.S.Source.left g.S.Source.faults c.args.reader.now in
     let to = reached g.S.Source.left g.S.Source.faults w.new.reader in
-    let blocks : i.blocks ≡ c.args.self.now.blocks = ap (λ (s : RoundsState). s.blocks) c.self.view_is in
-    let budget : i.budget ≡ c.args.self.now.budget = omega (arith, c.self.invariant.budget, ap (λ (s : RoundsState). s.budget) c.self.view_is) in
-    subst (λ (n : ℕ). FillsAhead n c.args.self.now.budget from to w.result.0) blocks (subst (λ (n : ℕ). FillsAhead i.blocks n from to w.result.0) budget w.ensures.fills)
+    let blocks : i.blocks ≡ c.args.rounds.now.blocks = ap (λ (s : RoundsState). s.blocks) c.rounds.view_is in
+    let budget : i.budget ≡ c.args.rounds.now.budget = omega (arith, c.rounds.invariant.budget, ap (λ (s : RoundsState). s.budget) c.rounds.view_is) in
+    subst (λ (n : ℕ). FillsAhead n c.args.rounds.now.budget from to w.result.0) blocks (subst (λ (n : ℕ). FillsAhead i.blocks n from to w.result.0) budget w.ensures.fills)
 
 pub returns-clause-works : goal.returns-clause-works
 returns-clause-works g c =
     let w = c.work_beside-read in
     let is = c.close_work.ensures.worked in
     let ps = map packet_of c.args.round.packets in
-    let options = options_of c.args.self.now in
+    let options = options_of c.args.rounds.now in
     let lent = subst (λ (b : BenchState). WorksAs (options_at b) b.keep ps w.result.1) c.take_blank.ensures.same w.ensures.works in
-    let works = subst (λ (s : RoundsState). WorksAs (options_of s) s.keep ps w.result.1) c.self.view_is lent in
+    let works = subst (λ (s : RoundsState). WorksAs (options_of s) s.keep ps w.result.1) c.rounds.view_is lent in
     record {
       records = closed_ok (λ (v : WorkedState). worked_records v ≡ round_records options ps) w.result.1 c.close_work.result is works.records;
       checked = λ keep. closed_ok (λ (v : WorkedState). IsKeptWorkOf options ps v) w.result.1 c.close_work.result is (works.checked keep);
@@ -58,8 +58,8 @@ returns-clause-later_empties g c =
     let w = c.work_beside-read in
     omega (
       arith,
-      ap (λ (s : RoundsState). s.empties) c.self.view_is,
+      ap (λ (s : RoundsState). s.empties) c.rounds.view_is,
       w.ensures.intake.2,
       c.bring_lists.ensures.later,
-      closed_empties w.result.1 _ c.close_work.new.self c.close_work.ensures.home,
+      closed_empties w.result.1 _ c.close_work.new.rounds c.close_work.ensures.home,
     )

@@ -1,5 +1,5 @@
 use Rattle.std.specs.Arc.{arc_value}
-use Rattle.rounds.proofs.rounds.Rounds.work_and_read.Given as goal
+use Rattle.ahead.proofs.ahead.work_and_read.Given as goal
 
 abbrev pub ghosts-work_listed : goal.ghosts-work_listed
 ghosts-work_listed g a = record { lists = arc_value a.taker.lists }

@@ -1,0 +1,296 @@
+//! A round is read beside the work of another, and its rest behind that.
+ghost use Rattle.std.specs.Prelude.{◌≡◌, ◌≢◌, ◌+◌, ◌-◌, ◌*◌, ◌<◌, ◌≤◌, ◌^◌, [], true, length, map, min};
+ghost use Rattle.std.specs.Prelude.{ℕ, All, IfOk, IfErr};
+ghost use Rattle.std.specs.Prelude.{IsErr, MatchResult, Ok};
+ghost use Rattle.std.specs.Arc.{arc_value};
+ghost use Rattle.std.specs.List.{AllByRecursion};
+ghost use Rattle.block_pool.specs.PoolState.{home, weighed};
+ghost use Rattle.off_io.specs.Faults.{Rose};
+ghost use Rattle.off_io.specs.Told.{Told};
+ghost use Rattle.pcap_io.specs.declared.heads.Link.TheVariants.{Ethernet};
+ghost use Rattle.pcap_io.specs.declared.place.Place.{Place};
+ghost use Rattle.pcap_io.specs.Places.{IsReady};
+ghost use Rattle.pcap_io.specs.Readers.{place_of, source_of, SameLoan};
+ghost use Rattle.offload_model.specs.Captured.{IsCaptured};
+ghost use Rattle.offload_model.specs.Need.{need_of, round_need};
+ghost use Rattle.offload_model.specs.Written.{round_records};
+ghost use Rattle.gro.specs.Slots.{packet_of};
+ghost use Rattle.lanes.specs.Lanes.{IsMerged};
+ghost use Rattle.reading.specs.Reading.{KeepsHead};
+ghost use Rattle.rounds.specs.Ahead.{round_of, GivesBehind, IfPaused, IfRead, Lacks, ReadsAhead, Waits};
+ghost use Rattle.rounds.specs.Benches.{options_at, IsLent, LendsWork};
+ghost use Rattle.rounds.specs.Filling.{reached, FillsAhead};
+ghost use Rattle.rounds.specs.Lanes.{worked_records, IsKeptWorkOf, WorksAs};
+ghost use Rattle.rounds.specs.Merging.{options_of};
+ghost use Rattle.rounds.specs.Reading.{FillsRound, GivesRound, NumberedTo, NumbersOn};
+ghost use Rattle.rounds.specs.RoundOf.{Came, Takes};
+ghost use Rattle.rounds.specs.Weights.{weights_of, weights_left};
+ghost use Rattle.ahead.specs.Out.{blocks_out, brought_listed, weights_out};
+
+use crate::lists::{ListName, NextLists};
+use block_pool::Giver;
+use lanes::Works;
+use off_io::Source;
+use pcap_io::CaptureReader;
+use rounds::{Bench, Blank, Intake, Paused, ReadAhead, Rest, Round, RoundEnd, RoundRead, Rounds};
+use rounds::{Taker, Worked, bring_lists, open_lists};
+use std::alloc::AllocError;
+use std::marker::Brand;
+use std::sync::Wait;
+use std::thread::{Threads, join_mut};
+
+// One side reads, in a thread of its own, and takes the lists that the other gives, which works here.
+fn work_beside<'a, R: Threads + Wait + Sync, N: ListName + Send, W: Works, S: Source + Send>(
+    rt: &'a R,
+    works: &'a mut W,
+    bench: &'a mut Bench,
+    round: &'a mut Round,
+    giver: &'a mut Option<Giver>,
+    intake: &'a mut Intake,
+    reader: &'a mut CaptureReader<'_, S>,
+    more: &'a mut NextLists<'_, R, N>,
+    lists: &'a mut Blank,
+) -> (ReadAhead, Result<Worked, Rest>)
+    requires ready { IsReady (place_of reader.old) }
+    requires link { (place_of reader.old).link ≡ Ethernet }
+    requires none { (lists.old.packets.items ≡ []) × (home lists.old.spares ≡ 0) }
+    requires reserved { (intake.old.budget ≤ lists.old.packets.room)
+        × (2 * intake.old.budget ≤ lists.old.spares.made) }
+    requires few { round.old.blocks ≤ bench.old.blocks }
+    requires lent { IsLent giver.old }
+    ensures same_source { SameLoan reader.old reader.new }
+    ensures fills { FillsAhead intake.old.blocks intake.old.budget (reached S.left S.faults reader.old)
+        (reached S.left S.faults reader.new) result.0 }
+    ensures paused { IfPaused result.0 (Lacks intake.new.home intake.old.blocks intake.old.taken intake.new.taken) }
+    ensures refused { IfPaused result.0 (λ _. min (more.old.taker.pass.empties + 1) (2 ^ 64 - 1)
+        ≤ more.new.taker.pass.empties) }
+    ensures unlisted { (lists.new.packets.items ≡ []) × (home lists.new.spares ≡ 0) }
+    ensures came { Came (brought_listed more.old.taker.pass more.old.taker.left)
+        (brought_listed more.new.taker.pass more.new.taker.left) intake.old.home
+        (intake.new.home + (round_of result.0).blocks) (λ h. weighed h intake.old.stock)
+        (λ h. weighed h intake.new.stock + weights_of (round_of result.0) h) }
+    ensures intake { (intake.new.blocks ≡ intake.old.blocks) × (intake.new.budget ≡ intake.old.budget)
+        × (intake.new.empties ≡ intake.old.empties) × (intake.new.pauses ≡ intake.old.pauses) }
+    ensures budget { (1 ≤ intake.old.budget) × (intake.old.budget ≤ 4096) }
+    ensures takes { Takes intake.old.blocks intake.old.taken intake.new.taken 0 (round_of result.0).blocks }
+    ensures works { WorksAs (options_at bench.old) bench.old.keep (map packet_of round.old.packets) result.1 }
+    ensures lends { LendsWork round.old.blocks (weights_of round.old) giver.old giver.new result.1 }
+    ensures spent { (round.new.packets ≡ []) × (round.new.spares ≡ []) }
+    ensures same { bench.new ≡ bench.old }
+{
+    join_mut(
+        rt,
+        &mut || -> ReadAhead
+            requires ready { IsReady (place_of reader.now) }
+            requires link { (place_of reader.now).link ≡ Ethernet }
+            requires none { (lists.now.packets.items ≡ []) × (home lists.now.spares ≡ 0) }
+            requires reserved { (intake.now.budget ≤ lists.now.packets.room)
+                × (2 * intake.now.budget ≤ lists.now.spares.made) }
+            ensures same_source { SameLoan reader.entry.now reader.exit.now }
+            ensures fills { FillsAhead intake.entry.now.blocks intake.entry.now.budget
+                (reached S.left S.faults reader.entry.now) (reached S.left S.faults reader.exit.now) result }
+            ensures paused { IfPaused result (Lacks intake.exit.now.home intake.entry.now.blocks
+                intake.entry.now.taken intake.exit.now.taken) }
+            ensures refused { IfPaused result (λ _. min (more.entry.now.taker.pass.empties + 1) (2 ^ 64 - 1)
+                ≤ more.exit.now.taker.pass.empties) }
+            ensures unlisted { (lists.exit.now.packets.items ≡ []) × (home lists.exit.now.spares ≡ 0) }
+            ensures came { Came (brought_listed more.entry.now.taker.pass more.entry.now.taker.left)
+                (brought_listed more.exit.now.taker.pass more.exit.now.taker.left) intake.entry.now.home
+                (intake.exit.now.home + (round_of result).blocks) (λ h. weighed h intake.entry.now.stock)
+                (λ h. weighed h intake.exit.now.stock + weights_of (round_of result) h) }
+            ensures intake { (intake.exit.now.blocks ≡ intake.entry.now.blocks)
+                × (intake.exit.now.budget ≡ intake.entry.now.budget)
+                × (intake.exit.now.empties ≡ intake.entry.now.empties)
+                × (intake.exit.now.pauses ≡ intake.entry.now.pauses) }
+            ensures budget { (1 ≤ intake.entry.now.budget) × (intake.entry.now.budget ≤ 4096) }
+            ensures takes { Takes intake.entry.now.blocks intake.entry.now.taken intake.exit.now.taken 0
+                (round_of result).blocks }
+        { intake.read_ahead(rt, reader, more, lists) },
+        &mut || -> Result<Worked, Rest>
+            requires few { round.now.blocks ≤ bench.now.blocks }
+            requires lent { IsLent giver.now }
+            ensures works { WorksAs (options_at bench.entry.now) bench.entry.now.keep
+                (map packet_of round.entry.now.packets) result }
+            ensures lends { LendsWork round.entry.now.blocks (weights_of round.entry.now) giver.entry.now
+                giver.exit.now result }
+            ensures spent { (round.exit.now.packets ≡ []) × (round.exit.now.spares ≡ []) }
+            ensures same { bench.exit.now ≡ bench.entry.now }
+        { bench.work_lent(rt, works, round, giver) },
+    )
+}
+
+// What was worked; for want of memory all blocks of the round come home.
+fn close_work(rounds: &mut Rounds, worked: Result<Worked, Rest>) -> Result<Worked, AllocError>
+    requires out { IfErr worked (λ rest. rounds.old.home + rest.blocks ≤ rounds.old.blocks) }
+    ensures worked { MatchResult worked (λ w. result ≡ Ok w) (λ _. IsErr result) }
+    ensures home { MatchResult worked (λ _. rounds.new ≡ rounds.old) (λ rest. rounds.new
+        ≡ record rounds.old { home = rounds.old.home + rest.blocks; stock = rounds.new.stock }) }
+    ensures named { IfErr worked (λ rest. (h : ℕ → ℕ) → weighed h rounds.new.stock
+        ≡ weighed h rounds.old.stock + weights_left rest h) }
+{
+    match worked {
+        Ok(worked) => Ok(worked),
+        Err(rest) => {
+            rounds.bring_rest(rest);
+            Err(AllocError)
+        }
+    }
+}
+
+// The same by this pool of lists.
+fn work_listed<N: ListName + Send, R: Threads + Wait + Sync, W: Works, S: Source + Send>(
+    rounds: &mut Rounds,
+    rt: &R,
+    works: &mut W,
+    round: Round,
+    reader: &mut CaptureReader<'_, S>,
+    taker: Taker,
+    giver: Giver,
+) -> (Result<Worked, AllocError>, ReadAhead)
+    requires ready { IsReady (place_of reader.old) }
+    requires link { (place_of reader.old).link ≡ Ethernet }
+    requires out { rounds.old.home + round.blocks ≡ rounds.old.blocks }
+    requires lists { (giver.pool ≡ arc_value taker.lists) × (arc_value taker.lists ≡ N.lists) }
+    requires untaken { (taker.pass.taken ≡ []) × (home taker.left ≡ 0) × (taker.pass.empties ≡ 0) }
+    requires ungiven { (giver.pass.parts ≡ 65535) × (giver.pass.put ≡ []) × (home giver.list ≡ 0) }
+    ensures works { WorksAs (options_of rounds.old) rounds.old.keep (map packet_of round.packets) result.0 }
+    ensures worked { IfOk result.0 (λ worked. worked.blocks ≤ round.blocks) }
+    ensures same_source { SameLoan reader.old reader.new }
+    ensures fills { FillsAhead rounds.old.blocks rounds.old.budget (reached S.left S.faults reader.old)
+        (reached S.left S.faults reader.new) result.1 }
+    ensures paused { IfPaused result.1 (λ paused. Lacks (rounds.old.home - paused.round.blocks) rounds.old.blocks
+        rounds.old.taken rounds.new.taken paused) }
+    ensures rose { IfPaused result.1 (λ _. min (rounds.old.empties + 1) (2 ^ 64 - 1) ≤ rounds.new.empties) }
+    ensures later_empties { rounds.old.empties ≤ rounds.new.empties }
+    ensures unpaused { rounds.new.pauses ≡ rounds.old.pauses }
+    ensures home { rounds.new.home + blocks_out result.0 + (round_of result.1).blocks ≡ rounds.old.blocks }
+    ensures named { (h : ℕ → ℕ) → weighed h rounds.new.stock + weights_out result.0 h
+        + weights_of (round_of result.1) h ≡ weighed h rounds.old.stock + weights_of round h }
+    ensures same { (rounds.new.blocks ≡ rounds.old.blocks) × (options_of rounds.new ≡ options_of rounds.old)
+        × (rounds.new.keep ≡ rounds.old.keep) }
+    ensures budget { (1 ≤ rounds.old.budget) × (rounds.old.budget ≤ 4096) }
+    ensures takes { Takes rounds.old.blocks rounds.old.taken rounds.new.taken 0 (round_of result.1).blocks }
+{
+    let Ok(mut lists) = rounds.bench.take_blank() else {
+        let none = rounds.intake.read_none();
+        return (rounds.work_round(works, round), ReadAhead::Read(none));
+    };
+    let mut round = round;
+    let mut giver = Some(giver);
+    let mut more = NextLists::<'_, R, N>::new(rt, taker);
+    let intake = &mut rounds.intake;
+    let bench = &mut rounds.bench;
+    let (read, worked) = work_beside(
+        rt, works, bench, &mut round, &mut giver, intake, reader, &mut more, &mut lists,
+    );
+    let _none = round.discard();
+    lists.discard();
+    let NextLists {
+        rt: _,
+        taker,
+        of: _,
+    } = more;
+    bring_lists(rt, intake, taker, giver);
+    (close_work(rounds, worked), read)
+}
+
+/// Works a round, and reads the next one beside it: `work_round` and `read_round` at once, the reading in a thread
+/// of its own. A lane's part of the spares comes home as soon as it was worked, as a list; all other blocks of the
+/// round stay out. So the next one is paused where it needs more blocks behind a record's header than are home, and
+/// a take found no list of them: that header is kept. For want of memory for two sides the round is worked all the
+/// same, and of the next one nothing is read.
+pub fn work_and_read<R: Threads + Wait + Sync, W: Works, S: Source + Send>(
+    rounds: &mut Rounds,
+    rt: &R,
+    works: &mut W,
+    round: Round,
+    reader: &mut CaptureReader<'_, S>,
+) -> (Result<Worked, AllocError>, ReadAhead)
+    requires ready { IsReady (place_of reader.old) }
+    requires link { (place_of reader.old).link ≡ Ethernet }
+    requires out { rounds.old.home + round.blocks ≡ rounds.old.blocks }
+    ensures records { IfOk result.0 (λ worked. worked_records worked
+        ≡ round_records (options_of rounds.old) (map packet_of round.packets)) }
+    ensures checked { rounds.old.keep ≡ true → IfOk result.0
+        (λ worked. IsKeptWorkOf (options_of rounds.old) (map packet_of round.packets) worked) }
+    ensures merged { IfOk result.0 (λ worked. All IsMerged worked.lanes.queues.items) }
+    ensures worked { IfOk result.0 (λ worked. worked.blocks ≤ round.blocks) }
+    ensures same_source { SameLoan reader.old reader.new }
+    ensures given { IfRead result.1 (λ read. Told (S.left (source_of reader.old)) (S.left (source_of reader.new))
+        (GivesRound rounds.old.blocks (place_of reader.old) (place_of reader.new) read.round.packets read.end)) }
+    ensures reads { ReadsAhead rounds.old.budget (place_of reader.old) (place_of reader.new) result.1 }
+    ensures waits { IfPaused result.1 (Waits rounds.old.budget (place_of reader.old) (place_of reader.new)
+        (S.left (source_of reader.old)) (S.left (source_of reader.new))) }
+    ensures paused { IfPaused result.1 (λ paused. Lacks (rounds.old.home - paused.round.blocks) rounds.old.blocks
+        rounds.old.taken rounds.new.taken paused) }
+    ensures rose { IfPaused result.1 (λ _. min (rounds.old.empties + 1) (2 ^ 64 - 1) ≤ rounds.new.empties) }
+    ensures later_empties { rounds.old.empties ≤ rounds.new.empties }
+    ensures unpaused { rounds.new.pauses ≡ rounds.old.pauses }
+    ensures home { rounds.new.home + blocks_out result.0 + (round_of result.1).blocks ≡ rounds.old.blocks }
+    ensures named { (h : ℕ → ℕ) → weighed h rounds.new.stock + weights_out result.0 h
+        + weights_of (round_of result.1) h ≡ weighed h rounds.old.stock + weights_of round h }
+    ensures same { (rounds.new.blocks ≡ rounds.old.blocks) × (options_of rounds.new ≡ options_of rounds.old)
+        × (rounds.new.keep ≡ rounds.old.keep) }
+    ensures budget { (1 ≤ rounds.old.budget) × (rounds.old.budget ≤ 4096) }
+    ensures taken { min (rounds.old.taken + (round_of result.1).blocks) (2 ^ 64 - 1) ≤ rounds.new.taken }
+    ensures least { rounds.old.taken ≤ rounds.new.taken }
+    ensures most { rounds.new.taken ≤ rounds.old.taken + rounds.old.blocks }
+    ensures later { S.faults (source_of reader.old) ≤ S.faults (source_of reader.new) }
+    ensures failed { IfRead result.1 (λ read. read.end ≡ RoundEnd.ReadFault
+        → Rose (S.faults (source_of reader.old)) (S.faults (source_of reader.new))) }
+{
+    let Ok((taker, giver)) = open_lists(rounds.bench.alloc()) else {
+        let none = rounds.intake.read_none();
+        return (rounds.work_round(works, round), ReadAhead::Read(none));
+    };
+    work_listed::<Brand, R, W, S>(rounds, rt, works, round, reader, taker, giver)
+}
+
+/// Reads the rest of a round that was paused, once the round beside it has ended, from behind the header that was
+/// kept. What `read_round` says, over the whole round: of wherever its first records and that header were read
+/// (`given`).
+pub fn read_rest<S: Source>(
+    rounds: &mut Rounds,
+    paused: Paused,
+    reader: &mut CaptureReader<'_, S>,
+) -> RoundRead
+    requires kept { (at : Place) × (KeepsHead at (place_of reader.old) paused.head
+        × NumberedTo at.number paused.round.packets) }
+    requires link { (place_of reader.old).link ≡ Ethernet }
+    requires out { rounds.old.home + paused.round.blocks ≡ rounds.old.blocks }
+    requires fits { paused.round.blocks + need_of paused.head.captured ≤ rounds.old.blocks }
+    requires fewer { length paused.round.packets < rounds.old.budget }
+    ensures same_source { SameLoan reader.old reader.new }
+    ensures given { (at : Place) → KeepsHead at (place_of reader.old) paused.head
+        → Told (S.left (source_of reader.old)) (S.left (source_of reader.new)) (GivesBehind rounds.old.blocks at
+        (place_of reader.new) paused.head paused.round.packets result.round.packets result.end) }
+    ensures size { length result.round.packets ≤ rounds.old.budget }
+    ensures fewer { result.end ≢ RoundEnd.Full → length result.round.packets < rounds.old.budget }
+    ensures full { result.end ≡ RoundEnd.Full → (at : Place) → KeepsHead at (place_of reader.old) paused.head
+        → FillsRound at (place_of reader.new) paused.round.packets result.round.packets rounds.old.budget }
+    ensures captured { AllByRecursion IsCaptured (map packet_of result.round.packets) }
+    ensures numbers { (at : Place) → KeepsHead at (place_of reader.old) paused.head
+        → NumbersOn at.number paused.round.packets result.round.packets }
+    ensures need { result.round.blocks ≡ round_need (map packet_of result.round.packets) }
+    ensures home { rounds.new.home + result.round.blocks ≡ rounds.old.blocks }
+    ensures named { (h : ℕ → ℕ) → weighed h rounds.new.stock + weights_of result.round h
+        ≡ weighed h rounds.old.stock + weights_of paused.round h }
+    ensures same { (rounds.new.blocks ≡ rounds.old.blocks) × (options_of rounds.new ≡ options_of rounds.old)
+        × (rounds.new.keep ≡ rounds.old.keep) × (rounds.new.empties ≡ rounds.old.empties)
+        × (rounds.new.pauses ≡ rounds.old.pauses) }
+    ensures budget { (1 ≤ rounds.old.budget) × (rounds.old.budget ≤ 4096) }
+    ensures taken { min (rounds.old.taken + (result.round.blocks - paused.round.blocks)) (2 ^ 64 - 1)
+        ≤ rounds.new.taken }
+    ensures least { (paused.round.blocks ≤ result.round.blocks) × (rounds.old.taken ≤ rounds.new.taken) }
+    ensures most { rounds.new.taken + paused.round.blocks ≤ rounds.old.taken + rounds.old.blocks }
+    ensures later { S.faults (source_of reader.old) ≤ S.faults (source_of reader.new) }
+    ensures failed { result.end ≡ RoundEnd.ReadFault
+        → Rose (S.faults (source_of reader.old)) (S.faults (source_of reader.new)) }
+{
+    if rounds.bench.make_room().is_err() {
+        let round = paused.into_round();
+        let end = RoundEnd::NoMemory;
+        return RoundRead { round, end };
+    }
+    rounds.intake.read_on(paused, reader)
+}
