@@ -33,7 +33,7 @@ use std::alloc::Global;
 use std::collections::VecDeque;
 
 /// Why no record was read.
-#[derive(Clone, Copy, Debug, PartialEq, Eq)]
+#[derive(Clone, Copy)]
 pub enum Stop {
     End,
     Malformed(CapFault),

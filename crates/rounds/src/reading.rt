@@ -23,7 +23,7 @@ use std::alloc::Global;
 use std::collections::VecDeque;
 
 /// Why no more records of a round are read.
-#[derive(Clone, Copy, Debug, PartialEq, Eq)]
+#[derive(Clone, Copy)]
 pub(crate) enum Halt {
     /// It has no more, for this.
     Ended(RoundEnd),

@@ -27,7 +27,7 @@ use reading::bring_blocks;
 use records::{Time, write_record, write_segments};
 
 /// Why the packets of a record aren't all written.
-#[derive(Clone, Copy, Debug, PartialEq, Eq)]
+#[derive(Clone, Copy)]
 pub(crate) enum Refused {
     /// The record isn't lawful; nothing of it is written.
     BadOffload,
