@@ -2,7 +2,7 @@
 use Rattle.std.specs.Prelude.{ℕ, Result, Ok, Err}
 use Rattle.block_pool.specs.PassState.{PassState}
 use Rattle.block_pool.specs.PoolState.{PoolState}
-use Rattle.rounds.specs.Lists.{listed_home, weights_home}
+use Rattle.block_supply.specs.Lists.{listed_home, weights_home}
 use Rattle.rounds.specs.RoundOf.{Brought}
 use Rattle.rounds.specs.RoundsState.{WorkedState}
 use Rattle.rounds.specs.Weights.{weights_worked}

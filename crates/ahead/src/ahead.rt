@@ -32,10 +32,8 @@ use block_pool::Giver;
 use lanes::Works;
 use off_io::Source;
 use pcap_io::CaptureReader;
-use rounds::{
-    Bench, Blank, Intake, Paused, ReadAhead, Rest, Round, RoundEnd, RoundRead, Rounds, Taker,
-    Worked, bring_lists, open_lists,
-};
+use block_supply::{Taker, open_lists};
+use rounds::{Bench, Blank, Intake, Paused, ReadAhead, Rest, Round, RoundEnd, RoundRead, Rounds, Worked, bring_lists};
 use std::alloc::AllocError;
 use std::marker::Brand;
 use std::sync::Wait;

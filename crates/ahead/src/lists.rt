@@ -4,8 +4,8 @@ ghost use Rattle.std.specs.Arc.{arc_value};
 ghost use Rattle.block_pool.specs.PassState.{SharedState};
 
 use block_pool::Pool;
-use reading::Supply;
-use rounds::Taker;
+use block_supply::Supply;
+use block_supply::Taker;
 use std::marker::{Brand, PhantomData};
 use std::sync::Wait;
 
@@ -15,7 +15,7 @@ pub(crate) trait ListName {
 }
 
 impl ListName for Brand {
-    ghost use Rattle.rounds.specs.Lists.{no_lists};
+    ghost use Rattle.block_supply.specs.Lists.{no_lists};
 
     ghost lists = { no_lists };
 }
@@ -44,7 +44,7 @@ impl<'a, R, N: ListName> NextLists<'a, R, N> {
 
 impl<R: Wait, N: ListName> Supply for NextLists<'_, R, N> {
     ghost use Rattle.std.specs.Prelude.{false, true};
-    ghost use Rattle.rounds.specs.Lists.{listed_home, weights_home};
+    ghost use Rattle.block_supply.specs.Lists.{listed_home, weights_home};
 
     ghost brought = { λ n. listed_home n.taker.pass n.taker.left };
 

@@ -1,10 +1,13 @@
 //! The example of each first page, as it stands there, and what it comes to.
 use crate::pieces::blocks::counted;
-use block_pool::Pool;
+use block_pool::{Bell, Pool};
+use block_supply::open_lists;
+use crossing::{SHELVES, receive, send_home};
 use errands::Errands;
 use frags::{Outcomes, Pieces};
 use raw_block::{Released, Sole};
 use ref_core::{Answer, Event, WeightMachine};
+use rtrb::RingBuffer;
 use skb::Skb;
 use std::test::Fail;
 
@@ -55,6 +58,28 @@ fn example_of_block_pool(rt: HostRuntime) -> Result<(), Fail> {
         pool.put(block);
     }
     assert_eq!(rt; (pool.home(), pool.taken()), (64, 1));
+    Ok(())
+}
+
+#[test]
+fn example_of_block_supply(rt: HostRuntime) -> Result<(), Fail> {
+    let alloc = rt.alloc();
+    let mut pool = Pool::make(alloc, 64)?;
+    let (mut taker, giver) = open_lists(alloc)?;
+    let came = taker.bring(&rt, &mut pool);
+    assert_eq!(rt; (came, giver.lying(), pool.home()), (false, 0, 64));
+    Ok(())
+}
+
+#[test]
+fn example_of_crossing(rt: HostRuntime) -> Result<(), Fail> {
+    let alloc = rt.alloc();
+    let bell = Bell::new();
+    let shelf = Pool::make(alloc, 2)?;
+    let (mut told, mut tokens) = RingBuffer::new(alloc, SHELVES + 1)?;
+    send_home(&rt, shelf, true, &mut told, &bell);
+    let token = receive(&rt, &mut tokens, &bell);
+    assert_eq!(rt; (token.shelf.home(), token.goes), (2, true));
     Ok(())
 }
 

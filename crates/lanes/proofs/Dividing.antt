@@ -10,13 +10,13 @@ use Rattle.block_pool.specs.PoolState.{PoolState, home}
 use Rattle.block_pool.specs.Giving.{GiverState, given, lying, Gave, Joined, MayGive, Split}
 use Rattle.block_pool.proofs.Giving.{gave_less, gave_nothing}
 use Rattle.errands.specs.Answers.{EachDid}
-use Rattle.lanes.specs.declared.tasks.LaneTask.{LaneTask}
-use Rattle.lanes.specs.declared.tasks.LaneTask.TheVariants as asked
-use Rattle.lanes.specs.declared.tasks.LaneDone.{LaneDone}
-use Rattle.lanes.specs.declared.tasks.LaneDone.TheVariants as answered
-use Rattle.lanes.specs.Givers.{found, given_of, lying_of, blocks_of, fulls_of, parts_of, part_of, carried, back_of, returned, IsAlike, HasRoom, IsDivided, Divided, MayJoin, Rejoined}
-use Rattle.lanes.specs.Tasks.{DidLane}
-use Rattle.lanes.proofs.Returning.{all_behind}
+use Rattle.lane_crew.specs.declared.tasks.LaneTask.{LaneTask}
+use Rattle.lane_crew.specs.declared.tasks.LaneTask.TheVariants as asked
+use Rattle.lane_crew.specs.declared.tasks.LaneDone.{LaneDone}
+use Rattle.lane_crew.specs.declared.tasks.LaneDone.TheVariants as answered
+use Rattle.lane_crew.specs.Givers.{found, given_of, lying_of, blocks_of, fulls_of, parts_of, part_of, carried, back_of, returned, IsAlike, HasRoom, IsDivided, Divided, MayJoin, Rejoined}
+use Rattle.lane_crew.specs.Tasks.{DidLane}
+use Rattle.lane_crew.proofs.Returning.{all_behind}
 
 -- ---- each gave
 

@@ -10,14 +10,14 @@ use Rattle.lanes.specs.declared.lane.QueueLane.{QueueLane}
 use Rattle.lanes.specs.declared.lane.TapLane.{TapLane}
 use Rattle.lanes.specs.declared.lane.Lanes.{Lanes}
 use Rattle.lanes.specs.declared.plan.LanePlan.{LanePlan}
-use Rattle.lanes.specs.declared.tasks.LaneTask.{LaneTask}
-use Rattle.lanes.specs.declared.tasks.LaneTask.TheVariants as asked
-use Rattle.lanes.specs.declared.tasks.LaneDone.{LaneDone}
-use Rattle.lanes.specs.declared.tasks.LaneDone.TheVariants as answered
+use Rattle.lane_crew.specs.declared.tasks.LaneTask.{LaneTask}
+use Rattle.lane_crew.specs.declared.tasks.LaneTask.TheVariants as asked
+use Rattle.lane_crew.specs.declared.tasks.LaneDone.{LaneDone}
+use Rattle.lane_crew.specs.declared.tasks.LaneDone.TheVariants as answered
 use Rattle.tap_filter.specs.declared.instr.Instr.{Instr}
 use Rattle.lanes.specs.Lanes.{DidQueue, DidTap}
-use Rattle.lanes.specs.LaneWork.{QueueWork, TapWork, queue_work, tap_work}
-use Rattle.lanes.specs.Tasks.{DidLane, IsOfQueues, IsOfTaps, IsOf, IsElseQueue, IsElseTap, Parted, SentQueues, SentTaps, Away, HasPlace, IsPlaced, IsPut}
+use Rattle.lane_crew.specs.LaneWork.{QueueWork, TapWork, queue_work, tap_work}
+use Rattle.lane_crew.specs.Tasks.{DidLane, IsOfQueues, IsOfTaps, IsOf, IsElseQueue, IsElseTap, Parted, SentQueues, SentTaps, Away, HasPlace, IsPlaced, IsPut}
 use Rattle.lanes.specs.Work.{Did}
 use Rattle.lanes.proofs.Listing.{any_other}
 

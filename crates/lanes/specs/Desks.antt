@@ -1,6 +1,6 @@
 -- A desk of lanes at which nothing was asked.
 use Rattle.std.specs.Prelude.{◌≡◌, [], All}
-use Rattle.lanes.specs.declared.crew.LaneDesk.{LaneDesk}
+use Rattle.lane_crew.specs.declared.crew.LaneDesk.{LaneDesk}
 
 abbrev pub IsOpenDesk : LaneDesk → Type 0
 IsOpenDesk d =

@@ -5,10 +5,10 @@ use Rattle.std.specs.List.{sum_by, AllByRecursion}
 use Rattle.raw_block.specs.Views.{SoleState}
 use Rattle.block_pool.specs.PoolState.{home}
 use Rattle.block_pool.specs.Giving.{GiverState, given, lying, Joined}
-use Rattle.lanes.specs.declared.tasks.LaneTask.{LaneTask}
-use Rattle.lanes.specs.declared.tasks.LaneTask.TheVariants as asked
-use Rattle.lanes.specs.declared.tasks.LaneDone.{LaneDone}
-use Rattle.lanes.specs.declared.tasks.LaneDone.TheVariants as answered
+use Rattle.lane_crew.specs.declared.tasks.LaneTask.{LaneTask}
+use Rattle.lane_crew.specs.declared.tasks.LaneTask.TheVariants as asked
+use Rattle.lane_crew.specs.declared.tasks.LaneDone.{LaneDone}
+use Rattle.lane_crew.specs.declared.tasks.LaneDone.TheVariants as answered
 
 -- the giver, where there is one
 abbrev pub found : Option GiverState → List GiverState

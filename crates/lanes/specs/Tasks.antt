@@ -6,10 +6,10 @@ use Rattle.lanes.specs.declared.lane.QueueLane.{QueueLane}
 use Rattle.lanes.specs.declared.lane.TapLane.{TapLane}
 use Rattle.lanes.specs.declared.lane.Lanes.{Lanes}
 use Rattle.lanes.specs.declared.plan.LanePlan.{LanePlan}
-use Rattle.lanes.specs.declared.tasks.LaneTask.{LaneTask}
-use Rattle.lanes.specs.declared.tasks.LaneTask.TheVariants as asked
-use Rattle.lanes.specs.declared.tasks.LaneDone.{LaneDone}
-use Rattle.lanes.specs.declared.tasks.LaneDone.TheVariants as answered
+use Rattle.lane_crew.specs.declared.tasks.LaneTask.{LaneTask}
+use Rattle.lane_crew.specs.declared.tasks.LaneTask.TheVariants as asked
+use Rattle.lane_crew.specs.declared.tasks.LaneDone.{LaneDone}
+use Rattle.lane_crew.specs.declared.tasks.LaneDone.TheVariants as answered
 use Rattle.lanes.specs.Lanes.{DidQueue, DidTap}
 
 -- what the lane of a task comes to: nothing is left of what it carries, unless it found no place

@@ -5,9 +5,9 @@ ghost use Rattle.std.specs.VecDeque.{deque_len, deque_capacity};
 ghost use Rattle.errands.specs.Answers.{EachDid};
 ghost use Rattle.block_pool.specs.Giving.{GiverState};
 ghost use Rattle.lanes.specs.Filling.{AreReady};
-ghost use Rattle.lanes.specs.Givers.{back_of, carried, returned, Divided, MayJoin, MayReturn, Rejoined};
+ghost use Rattle.lane_crew.specs.Givers.{back_of, carried, returned, Divided, MayJoin, MayReturn, Rejoined};
 ghost use Rattle.lanes.specs.Lanes.{IsFilled, IsTapReady};
-ghost use Rattle.lanes.specs.Tasks.{DidLane, SentQueues, SentTaps, Away, HasPlace, IsPlaced, IsPut};
+ghost use Rattle.lane_crew.specs.Tasks.{DidLane, SentQueues, SentTaps, Away, HasPlace, IsPlaced, IsPut};
 ghost use Rattle.lanes.specs.Work.{Did};
 
 use crate::free::{free_queue, free_tap};

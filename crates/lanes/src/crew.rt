@@ -2,7 +2,7 @@
 ghost use Rattle.std.specs.Prelude.{◌≡◌, ◌+◌, ◌-◌, ◌≤◌, max, [], length, All, IfOk};
 ghost use Rattle.std.specs.VecDeque.{deque_capacity};
 ghost use Rattle.block_pool.specs.Giving.{MayGive};
-ghost use Rattle.lanes.specs.Desks.{IsOpenDesk};
+ghost use Rattle.lane_crew.specs.Desks.{IsOpenDesk};
 ghost use Rattle.lanes.specs.Filling.{AreReady};
 ghost use Rattle.lanes.specs.Work.{Did};
 

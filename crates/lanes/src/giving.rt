@@ -1,7 +1,7 @@
 //! Blocks that nobody reads go back to whoever takes lists, as soon as a lane is worked.
 ghost use Rattle.std.specs.Prelude.{List, ◌≡◌, ◌++◌, Option, IfSome, MatchOption};
 ghost use Rattle.block_pool.specs.Giving.{GiverState, LeavesNone, MayGive, Split};
-ghost use Rattle.lanes.specs.Givers.{found, Divided, MayJoin, Rejoined};
+ghost use Rattle.lane_crew.specs.Givers.{found, Divided, MayJoin, Rejoined};
 
 use block_pool::Giver;
 use std::sync::Wait;

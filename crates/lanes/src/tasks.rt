@@ -2,7 +2,7 @@
 ghost use Rattle.std.specs.Prelude.{◌≡◌};
 ghost use Rattle.block_pool.specs.Giving.{LeavesNone, MayGive};
 ghost use Rattle.lanes.specs.Lanes.{DidQueue, DidTap, IsFilled, IsTapReady};
-ghost use Rattle.lanes.specs.LaneWork.{queue_work, tap_work};
+ghost use Rattle.lane_crew.specs.LaneWork.{queue_work, tap_work};
 
 use crate::free::{free_queue, free_tap};
 use crate::giving::give_back;
@@ -27,7 +27,7 @@ pub struct QueueTask {
 
 impl Model for QueueTask {
     ghost use Rattle.lanes.specs.Lanes.{IsFilled};
-    ghost use Rattle.lanes.specs.LaneWork.{QueueWork, queue_work};
+    ghost use Rattle.lane_crew.specs.LaneWork.{QueueWork, queue_work};
 
     ghost Value = { QueueWork };
 
@@ -49,7 +49,7 @@ pub struct WatchTask {
 
 impl Model for WatchTask {
     ghost use Rattle.lanes.specs.Lanes.{IsTapReady};
-    ghost use Rattle.lanes.specs.LaneWork.{TapWork, tap_work};
+    ghost use Rattle.lane_crew.specs.LaneWork.{TapWork, tap_work};
 
     ghost Value = { TapWork };
 
@@ -230,7 +230,7 @@ pub struct LaneJob<'g, G, R> {
 }
 
 impl<G: Gate, R: Wait> Job<LaneTask, LaneDone> for LaneJob<'_, G, R> {
-    ghost use Rattle.lanes.specs.Tasks.{DidLane};
+    ghost use Rattle.lane_crew.specs.Tasks.{DidLane};
 
     ghost did = { DidLane };
 

@@ -4,9 +4,10 @@ use Rattle.raw_block.specs.Views.{SoleState}
 use Rattle.block_pool.specs.Giving.{GiverState}
 use Rattle.block_pool.specs.PassState.{risen, SharedState}
 use Rattle.rounds.specs.Benches.{IsLent, LeavesNoSpare, Lends}
-use Rattle.rounds.specs.Lists.{HasGiver}
-use Rattle.pipeline.specs.declared.parcel.Token.{Token}
-use Rattle.pipeline.specs.Parcels.{homes_of, fulls_by, BringsNone}
+use Rattle.block_supply.specs.Lists.{HasGiver}
+use Rattle.crossing.specs.declared.token.Token.{Token}
+use Rattle.crossing.specs.Tokens.{homes_of}
+use Rattle.pipeline.specs.Parcels.{fulls_by, BringsNone}
 
 pub lends_same : (g : Option GiverState) → IsLent g → Lends g g
 lends_same None lent = refl

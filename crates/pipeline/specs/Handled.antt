@@ -15,8 +15,9 @@ use Rattle.rounds.specs.Reads.{Spot, Reads, is_full}
 use Rattle.rounds.specs.RoundsState.{BenchState, RoundsState}
 use Rattle.rounds.specs.Weights.{weights_of}
 use Rattle.pipeline.specs.declared.parcel.Parcel.{Parcel}
-use Rattle.pipeline.specs.declared.parcel.Token.{Token}
-use Rattle.pipeline.specs.Parcels.{blocks_of, homes_of, rounds_of, weights_back, weights_sent, BringsNone}
+use Rattle.crossing.specs.declared.token.Token.{Token}
+use Rattle.crossing.specs.Tokens.{homes_of, weights_back}
+use Rattle.pipeline.specs.Parcels.{blocks_of, rounds_of, weights_sent, BringsNone}
 
 -- As `Ran` of the rounds says, behind a round that was read up to here, and with it.
 pub record RanOn {T E : Type 0} (did : T → T → RoundRead → ℕ → Option E → Type 0) (stopped : E) (blocks budget : ℕ)

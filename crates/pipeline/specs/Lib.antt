@@ -1,4 +1,3 @@
 pub mod Parcels
-pub mod Desks
 pub mod Reads
 pub mod Handled

@@ -12,7 +12,7 @@ use Rattle.rounds.specs.Benches.{IsRead}
 use Rattle.rounds.specs.declared.round.RoundRead.{RoundRead}
 use Rattle.rounds.specs.Weights.{weights_of}
 use Rattle.pipeline.specs.declared.parcel.Parcel.{Parcel}
-use Rattle.pipeline.specs.declared.parcel.Token.{Token}
+use Rattle.crossing.specs.declared.token.Token.{Token}
 
 -- the rounds of parcels
 abbrev pub rounds_of : List (Option Parcel) → List RoundRead
@@ -45,15 +45,6 @@ weights_sent h [] = 0
 weights_sent h (None ∷ xs) = weights_sent h xs
 weights_sent h (Some p ∷ xs) = weights_of p.read.round h + weights_sent h xs
 
--- the blocks that came back
-abbrev pub homes_of : List Token → ℕ
-homes_of [] = 0
-homes_of (t ∷ ts) = home t.shelf + homes_of ts
-
-abbrev pub weights_back : (ℕ → ℕ) → List Token → ℕ
-weights_back h [] = 0
-weights_back h (t ∷ ts) = weighed h t.shelf.blocks + weights_back h ts
-
 -- how many puts of who gives found no place
 abbrev pub fulls_by : Option GiverState → ℕ
 fulls_by None = 0
@@ -64,32 +55,3 @@ fulls_by (Some g) = g.pass.fulls
 abbrev pub BringsNone : List Token → Option GiverState → Option GiverState → Type 0
 BringsNone ts None new = Unit {0}
 BringsNone ts (Some g) new = (homes_of ts ≡ 0) ⊎ (risen g.pass.fulls ≤ fulls_by new)
-
--- the blocks on shelves
-abbrev pub shelved : List PoolState → ℕ
-shelved [] = 0
-shelved (s ∷ ss) = home s + shelved ss
-
-abbrev pub weights_shelved : (ℕ → ℕ) → List PoolState → ℕ
-weights_shelved h [] = 0
-weights_shelved h (s ∷ ss) = weighed h s.blocks + weights_shelved h ss
-
--- what tells a ring from others
-pub record RingName : Type 0 where
-  pub words : Ptr
-  pub slots : Ptr
-  pub names : Names
-  pub heap : Global
-
-abbrev pub no_ring : RingName
-no_ring = record {
-  words = null_ptr;
-  slots = null_ptr;
-  names = (0, (0, 0));
-  heap = record { memory = record { seal = tt } };
-}
-
--- it is the end of this ring
-abbrev pub IsOfRing : {T P : Type 0} → RingName → Consumer T Global P → Type 0
-IsOfRing ring c = (c.end.words ≡ ring.words) × (c.end.slots ≡ ring.slots) × (c.end.names ≡ ring.names)
-    × (c.end.heap ≡ ring.heap)

@@ -9,10 +9,10 @@ use Rattle.rounds.specs.declared.round.RoundRead.{RoundRead}
 use Rattle.rounds.specs.Handled.{FewPauses}
 use Rattle.rounds.specs.Reads.{Spot, Reads}
 use Rattle.rounds.specs.RoundsState.{IntakeState}
-use Rattle.pipeline.specs.declared.desk.Desk.{Desk}
+use Rattle.crossing.specs.declared.desk.Desk.{Desk}
 use Rattle.pipeline.specs.declared.parcel.Parcel.{Parcel}
-use Rattle.pipeline.specs.declared.post.Post.{Ghosts}
-use Rattle.pipeline.specs.Desks.{brought_to, weights_to}
+use Rattle.crossing.specs.declared.post.Post.{Ghosts}
+use Rattle.crossing.specs.Desks.{brought_to, weights_to}
 use Rattle.pipeline.specs.Parcels.{blocks_of, rounds_of, weights_sent}
 
 -- behind the rounds that were sent before, these were read and sent

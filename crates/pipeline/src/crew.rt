@@ -3,7 +3,7 @@ ghost use Rattle.std.specs.Prelude.{◌≡◌, All};
 ghost use Rattle.pcap_io.specs.declared.heads.Link.TheVariants.{Ethernet};
 ghost use Rattle.pcap_io.specs.Places.{IsReady};
 ghost use Rattle.pcap_io.specs.Readers.{place_of, SameLoan};
-ghost use Rattle.lanes.specs.Desks.{IsOpenDesk};
+ghost use Rattle.lane_crew.specs.Desks.{IsOpenDesk};
 ghost use Rattle.rounds.specs.Merging.{options_of};
 ghost use Rattle.rounds.specs.Handled.{Handled};
 ghost use Rattle.rounds.specs.Reads.{reader_at};
@@ -12,10 +12,8 @@ ghost use Rattle.pipeline.specs.Handled.{MayHandle};
 use crate::drive::handle_by;
 use crossbeam_queue::ArrayQueue;
 use errands::{Bells, Errands, Job, Naming, Reply, Runner};
-use lanes::{
-    Beside, LANES, LaneCrew, LaneDesk, LaneDone, LaneJob, LaneTask, Works, count_runners,
-    open_desk, serve_lanes,
-};
+use lane_crew::{LANES, LaneCrew, LaneDesk, LaneDone, LaneJob, LaneTask, count_runners, open_desk, serve_lanes};
+use lanes::{Beside, Works};
 use off_io::{Gate, Source};
 use pcap_io::CaptureReader;
 use rounds::{RoundHandler, Rounds};

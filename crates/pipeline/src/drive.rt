@@ -8,21 +8,16 @@ ghost use Rattle.rounds.specs.Handled.{Handled};
 ghost use Rattle.rounds.specs.Merging.{options_of};
 ghost use Rattle.rounds.specs.Reads.{reader_at};
 ghost use Rattle.rtrb.specs.Ring.{sent, received, known_items, IsPair, SameProducer};
+ghost use Rattle.crossing.specs.Tokens.{IsOfRing, shelved};
 ghost use Rattle.pipeline.specs.Handled.{ComesBack, HandledOn, IsOut, MayBeHandled, MayHandle};
-ghost use Rattle.pipeline.specs.Parcels.{IsOfRing, shelved};
 ghost use Rattle.pipeline.specs.Reads.{IsAlone};
 
-use crate::away::Away;
-use crate::bells::Bells;
-use crate::desk::{Desk, Reading, SHELVES, new_shelves};
 use crate::gather::{bring_home, drop_parcels};
 use crate::here::handle_here;
-use crate::parcel::{Fits, Naming, Parcel};
-use crate::post::Sleeper;
-use crate::ring::send;
-use crate::sides::{is_full, run_sides};
-use crate::ways::{Ways, open_ways};
+use crate::parcel::{Fits, Parcel};
+use crate::sides::{Reading, is_full, run_sides};
 use block_pool::Pool;
+use crossing::{Away, Bells, Desk, Naming, SHELVES, Sleeper, Ways, new_shelves, open_ways, send};
 use lanes::Works;
 use off_io::Source;
 use pcap_io::CaptureReader;
@@ -167,7 +162,7 @@ fn handle_named<
     let Ok((mut out, mut from, shelf, mut kept, shelves)) = prepare::<N>(alloc, bench) else {
         return Err(read);
     };
-    let away = Away::new(&read.round);
+    let away = Away::new(read.round.blocks(), read.round.spares());
     send_first(rt, &mut out, read, shelf);
     let Ways {
         mut told,

@@ -10,7 +10,7 @@
 //! ```
 //!
 //! All threads are started once, as the leaves of one tree of joins for the whole run, and none in a round. Where
-//! queues and taps are two or more a desk is opened for their lanes (`lanes::LaneCrew`): as many run them as there
+//! queues and taps are two or more a desk is opened for their lanes (`lane_crew::LaneCrew`): as many run them as there
 //! are lanes and processors for, and two at least, so that two lanes may wait for each other. The side that works does
 //! lanes itself while it waits, so a thread that can't be made for another costs nothing. Where there is no memory for
 //! a desk it does all of them.
@@ -30,10 +30,9 @@
 //!   goes back in the token, which tells that the round has ended. Only the last round's stay on a shelf with the side
 //!   that works until both have ended: blocks are handed over where there is room for all that they may leave again.
 //!
-//! There are three shelves, so reading is at most three rounds ahead. A shelf that came as a list is one again as soon
-//! as its blocks are home (`rounds::Taker::take_spent`). Before a round is read, what has come is taken.
-//! Behind a record's header, where fewer blocks are home than the record needs, the side that reads takes lists, and
-//! where there is none it waits for one, or for a token, as long as another list may come or more than one round is
+//! There are three shelves (`crossing::SHELVES`), so reading is at most three rounds ahead. Behind a record's header,
+//! where fewer blocks are home than the record needs, the side that reads takes lists at its desk (`crossing::Desk`),
+//! and where there is none it waits for one, or for a token, as long as another list may come or more than one round is
 //! out. Where they are those of the last round alone the round that is read is paused: its header is kept, and once all
 //! blocks but its own are home it is read to its end (`rounds::Intake::read_beside`). So a record is left half read for
 //! want of blocks only where the other side has stopped, and a round exceeds the blocks just where it does in one
@@ -69,31 +68,15 @@
 //! );
 //! ```
 //!
-//! Its parts: `ring` (putting in and waiting at the ends of a ring), `bells` (who wakes whom, and whether there are
-//! two), `parcel` (what goes through the rings), `ways` (the ring of tokens and the pool of lists), `post` (waiting for
-//! what comes home), `desk`, `arrivals` and `away` (where lists and tokens come in while rounds are read, and what may
-//! still come), `sides` (the loop of each side, and both at once), `gather` (what lies between the sides comes home
-//! once both have ended), `here` (the first round and what is left, in one thread), `drive` (the first round, the two
-//! sides, and one thread where there can't be two), `crew` (all of that with who run lanes beside it) and `merge`
-//! (where each round is written).
+//! Its parts: `parcel` (what goes to the side that works; what comes back is in `crossing`), `sides` (the loop of each
+//! side, and both at once), `gather` (what lies between the sides comes home once both have ended), `here` (the first
+//! round and what is left, in one thread), `drive` (the first round, the two sides, and one thread where there can't be
+//! two), `crew` (all of that with who run lanes beside it) and `merge` (where each round is written).
 //!
 //! Tests: `beside_tests`, modules `driven` and `pausing`, and `round_tests`, module `lane_rows`.
 //!
 //! Why so:
 //!
-//! - **The side that reads waits behind a record's header, for as many blocks as the record needs**: so it begins to
-//!   wait as late as it can, and blocks that come soon are used soon. Whether a round exceeds the blocks is judged
-//!   before, by how many were made, as in one thread.
-//! - **Lists that have come are taken before each round, also where blocks abound**: those that somebody just had are
-//!   in a cache, and those that never were out aren't. Who leaves lists until blocks are lacking reads through all
-//!   blocks that there are, and takes a quarter longer.
-//! - **It pauses only where the last round that is out has the blocks, and no list of it is due**, by what it counted
-//!   itself (`Away`). No proof rests on that count: a pause that comes too early costs a wait for that round, and one
-//!   that comes too late costs nothing.
-//! - **A list rings the reader's bell only where the reader has said that it waits for blocks** (`block_pool::Bell`),
-//!   so that giving one is a step and a look. Who wants blocks looks for lists and tokens in turn for about as long as
-//!   a small round lasts; then it says that it waits, looks once more, and sleeps between its looks. Where it waits for
-//!   a shelf lists don't wake it.
 //! - **One giver for the whole run, with all parts of its pool's passes but one.** A round's lanes split it and join it
 //!   again, so between two rounds it is whole, and nothing is forked or gathered for a round beside that. The side that
 //!   reads has the one part that is left, and its pass says what it took (`brought`). What was put is known where the
@@ -105,20 +88,13 @@
 //!   proved.
 #![tactic(auto)]
 
-mod arrivals;
-mod away;
-mod bells;
 mod crew;
-mod desk;
 mod drive;
 mod gather;
 mod here;
 mod merge;
 mod parcel;
-mod post;
-mod ring;
 mod sides;
-mod ways;
 
 pub use crew::handle_beside;
 pub use merge::merge_beside;

@@ -1,12 +1,11 @@
-//! What goes through the rings.
-ghost use Rattle.std.specs.Prelude.{◌≡◌, ℕ};
-ghost use Rattle.block_pool.specs.PassState.{SharedState};
-ghost use Rattle.pipeline.specs.Parcels.{RingName};
+//! What goes to the side that works.
+ghost use Rattle.std.specs.Prelude.{◌≡◌};
 
 use block_pool::Pool;
+use crossing::Naming;
 use rounds::RoundRead;
 use rtrb::Protocol;
-use std::marker::{Brand, PhantomData};
+use std::marker::PhantomData;
 
 /// A round that was read, its number, and an empty shelf for its blocks. One that is dropped frees its blocks.
 pub(crate) struct Parcel {
@@ -38,34 +37,6 @@ impl Drop for Parcel {
         } = self;
         round.discard();
     }
-}
-
-/// A shelf that comes back with the blocks of a round, and whether more rounds are wanted.
-#[derive(Drop)]
-pub(crate) struct Token {
-    pub(crate) shelf: Pool,
-    pub(crate) goes: bool,
-}
-
-/// How many blocks there are, the ring that tokens come back by, and the pool that lists do: the call of a whole run
-/// says it.
-pub(crate) trait Naming {
-    ghost blocks: { ℕ };
-
-    ghost ring: { RingName };
-
-    ghost lists: { SharedState };
-}
-
-impl Naming for Brand {
-    ghost use Rattle.rounds.specs.Lists.{no_lists};
-    ghost use Rattle.pipeline.specs.Parcels.{no_ring};
-
-    ghost blocks = { 0 };
-
-    ghost ring = { no_ring };
-
-    ghost lists = { no_lists };
 }
 
 /// Rounds come in turn, and each fits the blocks and has an empty shelf with places for all of them.

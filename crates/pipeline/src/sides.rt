@@ -1,21 +1,15 @@
 //! The side that reads and the side that works.
-ghost use Rattle.std.specs.Prelude.{◌≡◌, ℕ, ◌+◌};
-ghost use Rattle.block_pool.specs.PoolState.{home, weighed};
 ghost use Rattle.pcap_io.specs.Readers.{place_of, SameLoan};
 ghost use Rattle.rounds.specs.Benches.{options_at};
 ghost use Rattle.rounds.specs.Reads.{is_full as is_full_end, reader_at};
 ghost use Rattle.rtrb.specs.Ring.{sent, received, SameProducer, SameConsumer};
 ghost use Rattle.pipeline.specs.Handled.{HasWorked, MayWork};
-ghost use Rattle.pipeline.specs.Parcels.{homes_of, weights_back};
 ghost use Rattle.pipeline.specs.Reads.{HasRead, MayRead};
 
-use crate::bells::Bells;
-use crate::desk::Reading;
-use crate::parcel::{Fits, Naming, Parcel, Token};
-use crate::post::Post;
-use crate::ring::{receive, send};
-use block_pool::{Bell, Giver, Pool};
+use crate::parcel::{Fits, Parcel};
+use block_pool::{Giver, Pool};
 use core::mem::replace;
+use crossing::{Bells, Desk, Naming, Post, Token, receive, send, send_home};
 use lanes::Works;
 use off_io::Source;
 use pcap_io::CaptureReader;
@@ -24,6 +18,13 @@ use rtrb::{Consumer, Producer};
 use std::alloc::Global;
 use std::sync::Wait;
 use std::thread::{Threads, join_mut};
+
+/// What the side that reads works with, beside its intake.
+#[derive(Drop)]
+pub(crate) struct Reading<W: Post + Drop, N: Naming> {
+    pub(crate) desk: Desk<W>,
+    pub(crate) out: Producer<Option<Parcel>, Global, Fits<N>>,
+}
 
 /// Whether another round may follow.
 pub(crate) fn is_full(end: RoundEnd) -> bool
@@ -65,7 +66,7 @@ fn read_side<N: Naming, R: Wait, P: Post + Drop, S: Source>(
         };
         let read = intake.read_beside(rt, reader, &mut supply.desk);
         let end = read.end;
-        supply.desk.lend(&read.round);
+        supply.desk.lend(read.round.blocks(), read.round.spares());
         let parcel = Parcel {
             number,
             read,
@@ -79,17 +80,6 @@ fn read_side<N: Naming, R: Wait, P: Post + Drop, S: Source>(
         number += 1;
     }
     unreachable!()
-}
-
-// The shelf goes back with the blocks that still lie there.
-fn send_home<R: Wait>(rt: &R, shelf: Pool, goes: bool, told: &mut Producer<Token>, bell: &Bell)
-    ensures ring { SameProducer told.old told.new }
-    ensures sum { homes_of (sent told.new) ≡ homes_of (sent told.old) + home shelf }
-    ensures named { (h : ℕ → ℕ) → weights_back h (sent told.new)
-        ≡ weights_back h (sent told.old) + weighed h shelf.blocks }
-{
-    send(rt, told, Token { shelf, goes });
-    bell.wake();
 }
 
 // Handles each round that comes. What isn't given while it is worked is given once it was written, and a token tells

@@ -8,10 +8,9 @@
 //! of their own.
 //!
 //! Between its header and its body what a record needs is known, and its blocks come home where they are out: whoever
-//! has a [`Supply`] of them brings them then, and no sooner; who brings none is [`AllHome`]. Where as many are home as
+//! has a [`Supply`](block_supply::Supply) of them brings them then, and no sooner; who brings none is [`AllHome`](block_supply::AllHome). Where as many are home as
 //! it needs nobody is asked. Where they don't come the header is kept, by an argument so that no answer has to carry
-//! it, and the reader stands behind it: [`finish_record`] reads the body once they are home. A supply says how many
-//! blocks it still owes, and says no only where it owes none or where whoever has them keeps them.
+//! it, and the reader stands behind it: [`finish_record`] reads the body once they are home.
 //!
 //! Nobody else holds a block of a buffer that was read, and its blocks are marked in turn. Where that stays so they go
 //! home by count alone ([`bring_blocks`]).
@@ -51,7 +50,7 @@
 //! ```
 //!
 //! Its parts: `record` (a record's header judged, and its body read), `body` (bytes into blocks), `blocks` (blocks
-//! taken and marked, made a packet, and brought home), `supply` (who brings blocks home while records are read).
+//! taken and marked, made a packet, and brought home). Who brings blocks home meanwhile is in `block_supply`.
 //!
 //! Tests: `round_tests`, modules `merging`, `jumbo` and `segments`, by the crates that read rounds and segments.
 #![tactic(auto)]
@@ -59,8 +58,6 @@
 mod blocks;
 mod body;
 mod record;
-mod supply;
 
 pub use blocks::bring_blocks;
 pub use record::{Stop, finish_record, read_record};
-pub use supply::{AllHome, RECORD_BLOCKS, Supply};

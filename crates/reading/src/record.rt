@@ -22,8 +22,8 @@ ghost use Rattle.reading.specs.Bodies.{HasRoom, IsBody, Puts, ReadsBody, Spends}
 
 use crate::blocks::{blocks_of, make_packet, make_short, put_back, take_block, take_blocks};
 use crate::body::{read_frame, read_head};
-use crate::supply::{Supply, has_blocks};
 use block_pool::Pool;
+use block_supply::{Supply, has_blocks};
 use frags::PieceBuilder;
 use gro::Packets;
 use off_io::Source;

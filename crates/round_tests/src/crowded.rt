@@ -14,7 +14,7 @@ use block_pool::{Giver, ListPass, ListPool, Pool};
 use lanes::Beside;
 use off_io::{MemSink, NoGate};
 use pcap_io::{FileHead, Link};
-use reading::AllHome;
+use block_supply::AllHome;
 use rounds::{Bench, MergeEnd, RoundRead, Rounds, Step};
 use std::alloc::{AllocError, Global};
 use std::process::Abort;

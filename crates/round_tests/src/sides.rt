@@ -13,7 +13,7 @@ use block_pool::Pool;
 use lanes::Alone;
 use off_io::{MemSink, NoGate, Source};
 use pcap_io::{CaptureReader, FileHead, Link};
-use reading::{AllHome, Supply};
+use block_supply::{AllHome, Supply};
 use rounds::{Bench, Intake, MergeEnd, RoundEnd, RoundRead, Rounds, Step};
 use std::alloc::Global;
 use std::marker::{Brand, PhantomData};

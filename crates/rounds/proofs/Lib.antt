@@ -20,8 +20,6 @@ mod Small
 mod Keeping
 -- what is written of rounds that are worked in lanes
 mod Lanes
--- lists of blocks that are taken and given
-pub mod Listing
 -- a giver that is lent for a round
 pub mod Lending
 -- rounds that were read one after another

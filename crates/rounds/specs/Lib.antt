@@ -6,7 +6,6 @@ pub mod Handled
 pub mod Held
 pub mod Kept
 pub mod Lanes
-pub mod Lists
 pub mod Marks
 pub mod Merged
 pub mod Merging

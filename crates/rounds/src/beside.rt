@@ -23,7 +23,7 @@ use crate::intake::Intake;
 use crate::round::{Paused, ReadAhead, RoundEnd, RoundRead};
 use off_io::Source;
 use pcap_io::CaptureReader;
-use reading::Supply;
+use block_supply::Supply;
 use std::sync::Wait;
 
 impl Intake {

@@ -28,7 +28,7 @@ use gro::Packets;
 use off_io::Source;
 use pcap_io::CaptureReader;
 use raw_block::Sole;
-use reading::{RECORD_BLOCKS, Supply};
+use block_supply::{RECORD_BLOCKS, Supply};
 use std::alloc::{AllocError, Global};
 use std::collections::VecDeque;
 use std::marker::Model;

@@ -11,7 +11,7 @@
 //! A record is judged in this order: its header, whether the round then needs more blocks than there are, its body. So
 //! a record that is too big for the pool takes no block, and one that is cut short or whose source fails leaves none
 //! out. Blocks that it needs and that are out are brought once its header is read, by whoever has a
-//! [`Supply`](reading::Supply) of them.
+//! [`Supply`](block_supply::Supply) of them.
 //!
 //! The spares of a round nobody reads, so they may go to others before the round ends: whoever has a
 //! [`Giver`](block_pool::Giver) lends it to [`Bench::work_round`], and as soon as a lane is worked its part goes by it.
@@ -93,8 +93,8 @@
 //! marks or by number, and all of a round given up at whichever point); `lane_work` (a round over lanes, by
 //! `lanes::work_packets`, with its heads shared where others hold blocks), `lane_home` (what lanes hold, home);
 //! `writing` (what they come to); `intake` (the side that reads: pool and budget); `bench` (the side that works:
-//! places, memory and lanes) and `giving` (spares that go to others); `lists` (the pool by which lists of spares come
-//! home while the rest of their round is out, and its end where they are taken); `rounds` (both, in turn) and `beside`
+//! places, memory and lanes) and `giving` (spares that go to others); `lists` (lists of spares come home that
+//! another thread gave or took); `rounds` (both, in turn) and `beside`
 //! (a round read while another thread works: paused, and read on once the other rounds have ended); `handler` (what is
 //! done with a round, for whoever drives them) and `turns` (rounds one after another, each read and handled); `merge`
 //! (the handler that writes a round, and all rounds of a capture with it); `memory` (what is kept from round to round).
@@ -182,7 +182,7 @@ pub use bench::Bench;
 pub use giving::give_list;
 pub use handler::RoundHandler;
 pub use intake::Intake;
-pub use lists::{Taker, bring_lists, open_lists};
+pub use lists::bring_lists;
 pub use merge::{MergeEnd, RoundWriter, Step};
 pub use round::{Blank, Empty, Paused, ReadAhead, Rest, Round, RoundEnd, RoundRead, Worked};
 pub use rounds::Rounds;

@@ -18,7 +18,8 @@ use gro::Packets;
 use off_io::Source;
 use pcap_io::{CaptureReader, RecHead};
 use raw_block::Sole;
-use reading::{AllHome, Stop, Supply, finish_record, read_record};
+use block_supply::{AllHome, Supply};
+use reading::{Stop, finish_record, read_record};
 use std::alloc::Global;
 use std::collections::VecDeque;
 

@@ -30,7 +30,7 @@ use crate::round::{Rest, Round, RoundEnd, RoundRead, Worked};
 use lanes::{LanePlan, Works};
 use off_io::{Sink, Source, WriteFault};
 use pcap_io::{CaptureReader, FileHead};
-use reading::AllHome;
+use block_supply::AllHome;
 use std::alloc::{AllocError, Global};
 use std::marker::Model;
 

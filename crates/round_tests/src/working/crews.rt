@@ -7,9 +7,8 @@ use super::turns::{are_two_and_two, lanes_of};
 use crate::plans::{chosen, plain};
 use crossbeam_queue::ArrayQueue;
 use errands::{Asker, Bells, Errands, Job, Naming, Reply, Runner};
-use lanes::{
-    LANES, LaneCrew, LaneDesk, LaneDone, LaneJob, LanePlan, LaneTask, Works, open_desk, serve_lanes,
-};
+use lane_crew::{LANES, LaneCrew, LaneDesk, LaneDone, LaneJob, LaneTask, open_desk, serve_lanes};
+use lanes::{LanePlan, Works};
 use off_io::{Gate, Meeting, NoGate, Who};
 use std::alloc::Global;
 use std::marker::Brand;

@@ -1,9 +1,9 @@
 use Rattle.std.proofs.Common.{rules, ◌≡◌, [], ◌∷◌, subst}
 use Rattle.std.specs.List.{AllByRecursion}
-use Rattle.lanes.specs.Givers.{back_of, returned, Divided}
-use Rattle.lanes.specs.Tasks.{HasPlace}
-use Rattle.lanes.proofs.Dividing.{may_join, divided_taken}
-use Rattle.lanes.proofs.Returning.{Answered, brought_next, all_answered, have_places}
+use Rattle.lane_crew.specs.Givers.{back_of, returned, Divided}
+use Rattle.lane_crew.specs.Tasks.{HasPlace}
+use Rattle.lane_crew.proofs.Dividing.{may_join, divided_taken}
+use Rattle.lane_crew.proofs.Returning.{Answered, brought_next, all_answered, have_places}
 use Rattle.lanes.proofs.away.bring_back.Goals as goal
 
 pub put_back-requires-clause-may : goal.put_back-requires-clause-may

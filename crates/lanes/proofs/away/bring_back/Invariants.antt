@@ -5,10 +5,10 @@ use Rattle.std.specs.List.{AllByRecursion}
 use Rattle.errands.specs.Answers.{EachDid}
 use Rattle.lanes.specs.declared.lane.Lanes.{Lanes}
 use Rattle.lanes.specs.declared.plan.LanePlan.{LanePlan}
-use Rattle.lanes.specs.declared.tasks.LaneTask.{LaneTask}
-use Rattle.lanes.specs.Givers.{returned, Divided}
-use Rattle.lanes.specs.Tasks.{DidLane, Away, HasPlace}
-use Rattle.lanes.proofs.Returning.{Answered}
+use Rattle.lane_crew.specs.declared.tasks.LaneTask.{LaneTask}
+use Rattle.lane_crew.specs.Givers.{returned, Divided}
+use Rattle.lane_crew.specs.Tasks.{DidLane, Away, HasPlace}
+use Rattle.lane_crew.proofs.Returning.{Answered}
 use Rattle.lanes.proofs.away.bring_back.Given as goal
 
 abbrev pub invariant-loop-answer : goal.invariant-loop-answer

@@ -1,10 +1,10 @@
 use Rattle.std.proofs.Common.{length, sym, subst, arith}
 use Rattle.std.specs.Vec.{with_items}
-use Rattle.lanes.specs.Givers.{carried, Divided}
-use Rattle.lanes.specs.Tasks.{SentQueues, SentTaps}
-use Rattle.lanes.proofs.Dividing.{divided_same}
+use Rattle.lane_crew.specs.Givers.{carried, Divided}
+use Rattle.lane_crew.specs.Tasks.{SentQueues, SentTaps}
+use Rattle.lane_crew.proofs.Dividing.{divided_same}
 use Rattle.lanes.proofs.Listing.{refilled}
-use Rattle.lanes.proofs.Returning.{all_away}
+use Rattle.lane_crew.proofs.Returning.{all_away}
 use Rattle.lanes.proofs.away.send_all.Goals as goal
 
 pub returns : goal.returns

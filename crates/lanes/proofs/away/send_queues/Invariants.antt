@@ -2,8 +2,8 @@ use Rattle.std.proofs.Common.{◌≡◌, ◌+◌, ◌≤◌}
 use Rattle.std.specs.VecDeque.{deque_len, deque_capacity}
 use Rattle.std.specs.Prelude.{Option}
 use Rattle.block_pool.specs.Giving.{GiverState}
-use Rattle.lanes.specs.Givers.{carried, Divided}
-use Rattle.lanes.specs.Tasks.{SentQueues}
+use Rattle.lane_crew.specs.Givers.{carried, Divided}
+use Rattle.lane_crew.specs.Tasks.{SentQueues}
 use Rattle.lanes.proofs.away.send_queues.Given as goal
 
 abbrev pub invariant-loop-at : goal.invariant-loop-at

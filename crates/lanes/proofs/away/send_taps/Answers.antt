@@ -1,11 +1,11 @@
 use Rattle.std.proofs.Common.{◌≡◌, ◌+◌, [], ◌∷◌, ◌++◌, get_or, refl, sym, ap, ◌∙◌, subst, arith}
 use Rattle.std.specs.VecDeque.{deque_len, deque_capacity, deque_items}
-use Rattle.lanes.specs.declared.tasks.LaneTask.TheVariants as asked
-use Rattle.lanes.specs.Givers.{carried}
+use Rattle.lane_crew.specs.declared.tasks.LaneTask.TheVariants as asked
+use Rattle.lane_crew.specs.Givers.{carried}
 use Rattle.lanes.specs.Lanes.{DidTap}
-use Rattle.lanes.specs.Tasks.{IsOfTaps, IsElseTap, Parted}
-use Rattle.lanes.proofs.Dividing.{divided_is, divided_sent}
-use Rattle.lanes.proofs.Returning.{all_behind, one_more, parted_here, parted_sent, own_tap}
+use Rattle.lane_crew.specs.Tasks.{IsOfTaps, IsElseTap, Parted}
+use Rattle.lane_crew.proofs.Dividing.{divided_is, divided_sent}
+use Rattle.lane_crew.proofs.Returning.{all_behind, one_more, parted_here, parted_sent, own_tap}
 use Rattle.lanes.proofs.away.send_taps.Goals as goal
 use Rattle.lanes.proofs.away.send_taps.Goals.{in-Some, in-None}
 

@@ -1,9 +1,9 @@
 use Rattle.std.proofs.Common.{rules, ◌≡◌, [], ◌∷◌, subst}
 use Rattle.std.specs.List.{AllByRecursion}
-use Rattle.lanes.specs.Givers.{back_of, carried, Divided}
-use Rattle.lanes.specs.Tasks.{Away, IsPlaced}
-use Rattle.lanes.proofs.Dividing.{may_join, divided_first, divided_taken}
-use Rattle.lanes.proofs.Returning.{brought, none_away, are_placed}
+use Rattle.lane_crew.specs.Givers.{back_of, carried, Divided}
+use Rattle.lane_crew.specs.Tasks.{Away, IsPlaced}
+use Rattle.lane_crew.proofs.Dividing.{may_join, divided_first, divided_taken}
+use Rattle.lane_crew.proofs.Returning.{brought, none_away, are_placed}
 use Rattle.lanes.proofs.away.work_here.Goals as goal
 
 pub put_back-requires-clause-may : goal.put_back-requires-clause-may

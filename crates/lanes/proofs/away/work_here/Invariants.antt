@@ -4,8 +4,8 @@ use Rattle.block_pool.specs.Giving.{GiverState}
 use Rattle.std.specs.List.{AllByRecursion}
 use Rattle.lanes.specs.declared.lane.Lanes.{Lanes}
 use Rattle.lanes.specs.declared.plan.LanePlan.{LanePlan}
-use Rattle.lanes.specs.Givers.{carried, Divided}
-use Rattle.lanes.specs.Tasks.{Away, IsPlaced}
+use Rattle.lane_crew.specs.Givers.{carried, Divided}
+use Rattle.lane_crew.specs.Tasks.{Away, IsPlaced}
 use Rattle.lanes.proofs.away.work_here.Given as goal
 
 abbrev pub invariant-loop-task : goal.invariant-loop-task

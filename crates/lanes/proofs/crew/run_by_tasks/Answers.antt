@@ -1,9 +1,9 @@
 use Rattle.std.proofs.Common.{sym, subst}
 use Rattle.std.specs.List.{AllByRecursion}
-use Rattle.lanes.specs.Givers.{carried, Divided}
-use Rattle.lanes.specs.Tasks.{Away, IsPlaced}
-use Rattle.lanes.proofs.Dividing.{divided_did, gave_all}
-use Rattle.lanes.proofs.Returning.{places_did, placed_away}
+use Rattle.lane_crew.specs.Givers.{carried, Divided}
+use Rattle.lane_crew.specs.Tasks.{Away, IsPlaced}
+use Rattle.lane_crew.proofs.Dividing.{divided_did, gave_all}
+use Rattle.lane_crew.proofs.Returning.{places_did, placed_away}
 use Rattle.lanes.proofs.crew.run_by_tasks.Goals as goal
 
 pub bring_back-requires : goal.bring_back-requires

@@ -1,6 +1,6 @@
 use Rattle.std.proofs.Common.{subst}
-use Rattle.lanes.specs.Givers.{Divided}
-use Rattle.lanes.proofs.Dividing.{divided_maybe}
+use Rattle.lane_crew.specs.Givers.{Divided}
+use Rattle.lane_crew.proofs.Dividing.{divided_maybe}
 use Rattle.lanes.proofs.giving.carry.Goals as goal
 
 pub returns-in-Some : goal.returns-in-Some

@@ -1,4 +1,4 @@
-use Rattle.std.proofs.Common.{◌≡◌, ℕ, ◌∙◌, ◌+◌, ◌^◌, ◌++◌, Option, Some, List, ap, sym, subst, refl, arith}
+use Rattle.std.proofs.Common.{◌≡◌, ℕ, ◌∙◌, ◌+◌, ◌^◌, ◌≤◌, ◌++◌, Option, Some, List, ap, sym, subst, refl, arith}
 use Rattle.std.specs.Arc.{arc_value}
 use Rattle.block_pool.specs.Giving.{given_by}
 use Rattle.block_pool.specs.Listed.{blocks_in}
@@ -12,10 +12,12 @@ use Rattle.rounds.specs.Weights.{weights_of}
 use Rattle.rounds.specs.declared.round.RoundRead.{RoundRead}
 use Rattle.pipeline.specs.declared.parcel.Parcel.{Parcel}
 use Rattle.pipeline.specs.Handled.{blocks_out, weights_out}
-use Rattle.rounds.specs.Lists.{HasGiver, listed_home, weights_home, weights_listed}
-use Rattle.pipeline.specs.Parcels.{blocks_of, homes_of, shelved, weights_back, weights_sent, weights_shelved}
+use Rattle.block_supply.specs.Lists.{HasGiver, listed_home, weights_home, weights_listed}
+use Rattle.crossing.specs.Tokens.{homes_of, shelved, weights_back, weights_shelved}
+use Rattle.pipeline.specs.Parcels.{blocks_of, weights_sent}
 use Rattle.rounds.specs.Reads.{reader_at}
-use Rattle.pipeline.proofs.Rows.{blocks_append, homes_append, shelved_none, weights_back_append, weights_sent_append}
+use Rattle.crossing.proofs.Shelves.{homes_append, shelved_none, weights_back_append}
+use Rattle.pipeline.proofs.Rows.{blocks_append, weights_sent_append}
 use Rattle.rounds.proofs.Going.{counted_as}
 use Rattle.pipeline.proofs.Together.{all_went, ends_as, idle_as, left_out, left_weights}
 use Rattle.pipeline.proofs.Lending.{giver_back}
@@ -28,39 +30,32 @@ counted : (g : given.Over) (c : After-ending-ended g)
     → c.run_sides-end.new.intake.home + homes_of (known_items c.slots_beside.new.self) + home c.run_sides-end.new.kept + shelved c.close-tokens.result.1.items + home c.close-tokens.result.2.left
     + given_by c.run_sides-end.new.giver + blocks_of (known_items c.ending-ended.new.from) + blocks_out c.ending-ended.result ≡ c.args.rounds.now.blocks + blocks_in c.close-tokens.result.2.pass.taken
 counted g c =
-    let r = c.run_sides-end.ensures.read in
-    let k = c.run_sides-end.ensures.worked in
-    let a = c.slots_beside-waiting.ensures in
-    let b = c.slots_beside.ensures in
-    let e = c.ending-ended.ensures in
-    let w = c.args.ways in
-    let d = c.run_sides-end.new.supply.desk in
     omega (
       arith,
-      r.sum,
-      k.each,
-      d.counted,
-      d.taker.counted,
+      c.run_sides-end.ensures.read.sum,
+      c.run_sides-end.ensures.worked.each,
+      c.run_sides-end.new.supply.desk.counted,
+      c.run_sides-end.new.supply.desk.taker.counted,
       c.requires.out.out,
       ap (λ (s : RoundsState). s.home) c.rounds.view_is,
       ap (λ t. homes_of (received t)) c.new.ensures.same.0,
-      ap homes_of w.unused.1,
+      ap homes_of c.args.ways.unused.1,
       ap (λ s. shelved s.items) c.new.ensures.same.1,
       c.in-Ok.ensures.shelves,
       ap (λ t. listed_home t.pass t.left) c.new.ensures.same.2,
-      ap blocks_in w.untaken.0,
-      ap blocks_in w.ungiven.1,
+      ap blocks_in c.args.ways.untaken.0,
+      ap blocks_in c.args.ways.ungiven.1,
       ap blocks_of c.send_first.ensures.sent.1,
       ap (λ (x : RoundRead). x.round.blocks) c.send_first.ensures.sent.2,
-      left_out g.H.RoundHandler.stopped c.run_sides-end.result c.ending-ended.result (known_items c.slots_beside-waiting.new.self) (known_items c.ending-ended.new.from) e.some e.none,
-      ap blocks_of a.fifo,
+      left_out g.H.RoundHandler.stopped c.run_sides-end.result c.ending-ended.result (known_items c.slots_beside-waiting.new.self) (known_items c.ending-ended.new.from) c.ending-ended.ensures.some c.ending-ended.ensures.none,
+      ap blocks_of c.slots_beside-waiting.ensures.fifo,
       blocks_append (received c.slots_beside-waiting.new.self) (known_items c.slots_beside-waiting.new.self),
-      ap blocks_of a.looked.1,
-      ap blocks_of a.producer.1,
-      ap homes_of b.fifo,
+      ap blocks_of c.slots_beside-waiting.ensures.looked.1,
+      ap blocks_of c.slots_beside-waiting.ensures.producer.1,
+      ap homes_of c.slots_beside.ensures.fifo,
       homes_append (received c.slots_beside.new.self) (known_items c.slots_beside.new.self),
-      ap homes_of b.looked.1,
-      ap homes_of b.producer.1,
+      ap homes_of c.slots_beside.ensures.looked.1,
+      ap homes_of c.slots_beside.ensures.producer.1,
       ap (λ t. homes_of (received t)) c.close-tokens.ensures.same.0,
       ap (λ t. shelved t.items) c.close-tokens.ensures.same.1,
       ap (λ t. home t.left) c.close-tokens.ensures.same.2,
@@ -91,6 +86,15 @@ returns-in_default-clause-handled g c = (
       (ap (lent c.rounds.inside.intake) c.prepare.ensures.same ∙ c.rounds.view_is),
 )
 
+least_same : (a b c : ℕ) → c ≡ b → a ≤ b → a ≤ c
+least_same a b c e h = subst (λ (x : ℕ). a ≤ x) (sym e) h
+
+most_same : (a b c : ℕ) → c ≡ a → a ≤ b → c ≤ b
+most_same a b c e h = subst (λ (x : ℕ). x ≤ b) (sym e) h
+
+room_back : (b i room kept home old : ℕ) → b ≡ i → b + b ≤ room + (kept + kept) → old + kept ≤ home → i + i ≤ room + (home + home)
+room_back b i room kept home old e r l = omega arith
+
 pub invariant_of-rounds-2 : goal.invariant_of-rounds-2
 invariant_of-rounds-2 g c =
     let r = c.run_sides-end.ensures.read in
@@ -100,17 +104,12 @@ invariant_of-rounds-2 g c =
     record {
       blocks = ap (λ (b : BenchState). b.blocks) k.same ∙ ap (λ (b : BenchState). b.blocks) c.prepare.ensures.same ∙ v.blocks ∙ sym r.same.0 ∙ sym (ap (λ (i : IntakeState). i.blocks) f.same);
       budget = ap (λ (b : BenchState). b.budget) k.same ∙ ap (λ (b : BenchState). b.budget) c.prepare.ensures.same ∙ v.budget ∙ sym r.same.1 ∙ sym (ap (λ (i : IntakeState). i.budget) f.same);
-      few = (omega (arith, v.few.0, r.same.1, ap (λ (i : IntakeState). i.budget) f.same), omega (arith, v.few.1, r.same.1, ap (λ (i : IntakeState). i.budget) f.same));
-      room = omega (
-        arith,
-        k.room,
-        f.least,
-        ap (λ (i : IntakeState). i.blocks) f.same,
-        r.same.0,
-        ap (λ (b : BenchState). b.blocks) k.same,
-        ap (λ (b : BenchState). b.blocks) c.prepare.ensures.same,
-        v.blocks,
+      few = (
+        least_same _ _ _ (ap (λ (i : IntakeState). i.budget) f.same ∙ r.same.1) v.few.0,
+        most_same _ _ _ (ap (λ (i : IntakeState). i.budget) f.same ∙ r.same.1) v.few.1,
       );
+      room = room_back c.run_sides-end.new.bench.blocks c.bring_home.new.intake.blocks c.run_sides-end.new.bench.room (home c.run_sides-end.new.kept) c.bring_home.new.intake.home c.run_sides-end.new.intake.home
+      (ap (λ (b : BenchState). b.blocks) k.same ∙ ap (λ (b : BenchState). b.blocks) c.prepare.ensures.same ∙ v.blocks ∙ sym r.same.0 ∙ sym (ap (λ (i : IntakeState). i.blocks) f.same)) k.room f.least;
     }
 
 pub drop_parcels-requires : goal.drop_parcels-requires

@@ -1,7 +1,7 @@
 use Rattle.std.proofs.Common.{◌≡◌, ℕ, ◌≤◌, ◌+◌}
 use Rattle.std.specs.VecDeque.{deque_len}
 use Rattle.block_pool.specs.PoolState.{weighed}
-use Rattle.pipeline.specs.Parcels.{shelved, weights_shelved}
+use Rattle.crossing.specs.Tokens.{shelved, weights_shelved}
 use Rattle.pipeline.proofs.gather.bring_shelves.Given as goal
 
 abbrev pub invariant-loop-shelf : goal.invariant-loop-shelf

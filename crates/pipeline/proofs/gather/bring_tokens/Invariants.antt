@@ -1,7 +1,7 @@
 use Rattle.std.proofs.Common.{◌≡◌, ℕ, ◌+◌, length}
 use Rattle.rtrb.specs.Ring.{known_items}
 use Rattle.block_pool.specs.PoolState.{weighed}
-use Rattle.pipeline.specs.Parcels.{homes_of, weights_back}
+use Rattle.crossing.specs.Tokens.{homes_of, weights_back}
 use Rattle.pipeline.proofs.gather.bring_tokens.Given as goal
 
 abbrev pub invariant-loop-tokens : goal.invariant-loop-tokens

@@ -1,8 +1,9 @@
 use Rattle.std.proofs.Common.{◌∙◌, ◌∷◌, ◌+◌, ◌++◌, [], ℕ, List, Option, None, Some, true, ap, sym, subst, refl, arith, rules, length, length-append, append-nil}
 use Rattle.rtrb.specs.Ring.{sent, received}
 use Rattle.pipeline.specs.declared.parcel.Parcel.{Parcel}
-use Rattle.rounds.specs.Lists.{listed_home, weights_home}
-use Rattle.pipeline.specs.Parcels.{blocks_of, homes_of, packets_of, rounds_of, shelved, weights_back, weights_sent, weights_shelved}
+use Rattle.block_supply.specs.Lists.{listed_home, weights_home}
+use Rattle.crossing.specs.Tokens.{homes_of, shelved, weights_back, weights_shelved}
+use Rattle.pipeline.specs.Parcels.{blocks_of, packets_of, rounds_of, weights_sent}
 use Rattle.pipeline.specs.Reads.{HasRead}
 use Rattle.rounds.specs.Reads.{reader_at, Reads}
 use Rattle.rounds.proofs.Going.{few_later, few_none, few_paused}

@@ -7,9 +7,11 @@ use Rattle.rounds.specs.Weights.{weights_of}
 use Rattle.rounds.specs.declared.round.RoundRead.{RoundRead}
 use Rattle.rounds.specs.Handled.{Ends, IsReadyAtEnd, Went}
 use Rattle.block_pool.specs.Giving.{given_by, weights_given}
-use Rattle.pipeline.specs.Parcels.{blocks_of, homes_of, packets_of, rounds_of, weights_back, weights_sent, BringsNone}
+use Rattle.crossing.specs.Tokens.{homes_of, weights_back}
+use Rattle.pipeline.specs.Parcels.{blocks_of, packets_of, rounds_of, weights_sent, BringsNone}
 use Rattle.rounds.proofs.Going.{went_more, went_ends, went_stopped}
-use Rattle.pipeline.proofs.Rows.{blocks_last, packets_append, rounds_last, rounds_none, weighed_none, weights_sent_append}
+use Rattle.block_supply.proofs.Listing.{weighed_none}
+use Rattle.pipeline.proofs.Rows.{blocks_last, packets_append, rounds_last, rounds_none, weights_sent_append}
 use Rattle.rounds.proofs.Going.{ready_as}
 use Rattle.pipeline.proofs.Together.{handled_as}
 use Rattle.pipeline.proofs.Lending.{brings_none, brings_none_lent, brings_none_more, lends_same, lends_then, lent_again}

@@ -4,7 +4,8 @@ use Rattle.block_pool.specs.PoolState.{home}
 use Rattle.rounds.specs.Benches.{options_at, HasRoom, IsSameBench, Lends}
 use Rattle.rtrb.specs.Ring.{sent, received, SameProducer, SameConsumer}
 use Rattle.rounds.specs.Handled.{Went}
-use Rattle.pipeline.specs.Parcels.{blocks_of, homes_of, packets_of, rounds_of, weights_back, weights_sent, BringsNone}
+use Rattle.crossing.specs.Tokens.{homes_of, weights_back}
+use Rattle.pipeline.specs.Parcels.{blocks_of, packets_of, rounds_of, weights_sent, BringsNone}
 use Rattle.pipeline.proofs.sides.work_side.Given as goal
 
 abbrev pub invariant-loop : goal.invariant-loop

@@ -3,8 +3,8 @@ use Rattle.block_pool.specs.Listed.{blocks_in}
 use Rattle.block_pool.specs.PassState.{PassState, IsHome}
 use Rattle.block_pool.specs.PoolState.{PoolState, home, weighed}
 use Rattle.rounds.specs.RoundsState.{IntakeState}
-use Rattle.rounds.specs.Lists.{weights_listed}
-use Rattle.rounds.proofs.Listing.{listed_last, taken_least, weights_listed_last}
+use Rattle.block_supply.specs.Lists.{weights_listed}
+use Rattle.block_supply.proofs.Listing.{listed_last, taken_least, weights_listed_last}
 use Rattle.rounds.proofs.lists.drain.Goals as goal
 
 pub bring_in-requires : goal.bring_in-requires

@@ -2,7 +2,7 @@ use Rattle.std.proofs.Common.{◌≡◌, ℕ, ◌+◌, ◌≤◌, []}
 use Rattle.block_pool.specs.Listed.{blocks_in}
 use Rattle.block_pool.specs.PassState.{IsHome, IsOwn}
 use Rattle.block_pool.specs.PoolState.{weighed}
-use Rattle.rounds.specs.Lists.{weights_listed}
+use Rattle.block_supply.specs.Lists.{weights_listed}
 use Rattle.rounds.proofs.lists.drain.Given as goal
 
 abbrev pub invariant-loop-waiting : goal.invariant-loop-waiting

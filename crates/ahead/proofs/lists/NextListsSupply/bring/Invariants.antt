@@ -1,6 +1,6 @@
 use Rattle.std.proofs.Common.{◌≡◌, ℕ, ◌+◌, ◌-◌, ◌≤◌}
 use Rattle.block_pool.specs.PoolState.{home, weighed}
-use Rattle.rounds.specs.Lists.{listed_home, weights_home}
+use Rattle.block_supply.specs.Lists.{listed_home, weights_home}
 use Rattle.ahead.proofs.lists.NextListsSupply.bring.Given as goal
 
 abbrev pub invariant-loop-self : goal.invariant-loop-self

@@ -7,7 +7,7 @@ use Rattle.rounds.specs.Out.{IsOut}
 use Rattle.rounds.specs.Table.{AllOpen}
 use Rattle.rounds.specs.RoundsState.{BenchState, RestState}
 use Rattle.rounds.specs.Weights.{weights_left}
-use Rattle.rounds.proofs.Listing.{weighed_none}
+use Rattle.block_supply.proofs.Listing.{weighed_none}
 use Rattle.rounds.proofs.bench.Bench.bring.Goals as goal
 
 pub bring_out-requires-clause-out : goal.bring_out-requires-clause-out

@@ -1,0 +1,2 @@
+-- lists of blocks that are taken and given
+pub mod Listing

@@ -1,0 +1,2 @@
+-- what comes back on shelves and in tokens
+pub mod Shelves

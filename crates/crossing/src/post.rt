@@ -1,0 +1,123 @@
+//! Where the side that reads waits for blocks.
+ghost use Rattle.std.specs.Prelude.{◌≡◌, ℕ, ◌+◌, ◌-◌, ◌<◌, ◌≤◌, ◌^◌, [], ◌∷◌, ◌++◌, min, true, false};
+ghost use Rattle.std.specs.Arc.{arc_value};
+ghost use Rattle.block_pool.specs.PassState.{SharedState};
+ghost use Rattle.block_pool.specs.PoolState.{home, weighed};
+ghost use Rattle.rtrb.specs.Ring.{received, SameConsumer};
+ghost use Rattle.block_supply.specs.Lists.{listed_home, weights_home};
+ghost use Rattle.crossing.specs.Tokens.{RingName};
+
+use crate::bells::Bells;
+use crate::ring::receive;
+use crate::token::{Naming, Token};
+use block_pool::Pool;
+use block_supply::Taker;
+use rtrb::Consumer;
+use std::marker::PhantomData;
+use std::sync::Wait;
+
+/// Who waits for lists and tokens: of which pool and ring, and on shelves for how many blocks.
+pub trait Post {
+    ghost blocks: { ℕ };
+
+    ghost ring: { RingName };
+
+    ghost lists: { SharedState };
+
+    /// Whether the side that reads may begin.
+    fn begin(&self) -> bool;
+
+    fn next(&self, tokens: &mut Consumer<Token>) -> Token
+        ensures ring { SameConsumer tokens.old tokens.new }
+        ensures token { received tokens.new ≡ received tokens.old ++ result ∷ [] };
+
+    /// Whether a list has come: its blocks are home then, as far as there are places. Where blocks are out it says no
+    /// only behind a take that found none.
+    fn bring_list(&self, taker: &mut Taker, pool: &mut Pool) -> bool
+        ensures sum { home pool.new + listed_home taker.old.pass taker.old.left
+            ≡ home pool.old + listed_home taker.new.pass taker.new.left }
+        ensures named { (h : ℕ → ℕ) → weighed h pool.new.blocks + weights_home h taker.old.pass taker.old.left
+            ≡ weighed h pool.old.blocks + weights_home h taker.new.pass taker.new.left }
+        ensures same { (pool.new.made ≡ pool.old.made) × (pool.new.taken ≡ pool.old.taken) }
+        ensures rises { home pool.old ≤ home pool.new }
+        ensures came { result ≡ true → home pool.old < home pool.new }
+        ensures refused { result ≡ false → home pool.old < pool.old.made
+            → min (taker.old.pass.empties + 1) (2 ^ 64 - 1) ≤ taker.new.pass.empties }
+        ensures asked { taker.old.pass.empties ≤ taker.new.pass.empties }
+        ensures lists { arc_value taker.new.lists ≡ arc_value taker.old.lists };
+
+    /// Says that who gives a list is to wake this side from here on. It looks once more before it sleeps.
+    fn begin_wait(&self);
+
+    /// Sleeps until the other side, or who gives a list, wakes it.
+    fn sleep(&self);
+
+    /// Lists wake this side no more.
+    fn end_wait(&self);
+
+    /// Waits for ever, at the end of more turns than any run takes.
+    fn stall(&self)
+        ensures never { ⊥ };
+
+    /// Wakes the other side.
+    fn wake(&self);
+}
+
+/// The thread that reads, which sleeps until its bell rings.
+#[derive(Drop)]
+pub struct Sleeper<'a, R, N: Naming> {
+    rt: &'a R,
+    bells: &'a Bells,
+    of: PhantomData<N>,
+}
+
+impl<'a, R, N: Naming> Sleeper<'a, R, N> {
+    pub fn new(rt: &'a R, bells: &'a Bells) -> Sleeper<'a, R, N> {
+        Sleeper {
+            rt,
+            bells,
+            of: PhantomData,
+        }
+    }
+}
+
+impl<R: Wait, N: Naming> Post for Sleeper<'_, R, N> {
+    ghost blocks = { N.blocks };
+
+    ghost ring = { N.ring };
+
+    ghost lists = { N.lists };
+
+    fn begin(&self) -> bool {
+        self.bells.begin()
+    }
+
+    fn next(&self, tokens: &mut Consumer<Token>) -> Token {
+        receive(self.rt, tokens, &self.bells.reader)
+    }
+
+    fn bring_list(&self, taker: &mut Taker, pool: &mut Pool) -> bool {
+        taker.bring(self.rt, pool)
+    }
+
+    fn begin_wait(&self) {
+        self.bells.reader.begin();
+    }
+
+    fn sleep(&self) {
+        self.bells.reader.sleep(self.rt);
+    }
+
+    fn end_wait(&self) {
+        self.bells.reader.end();
+    }
+
+    fn stall(&self) {
+        for _ in self.rt.forever() {}
+        unreachable!()
+    }
+
+    fn wake(&self) {
+        self.bells.worker.wake();
+    }
+}

@@ -1,5 +1,0 @@
-use Rattle.pipeline.specs.Desks.{Meets}
-use Rattle.pipeline.proofs.desk.Desk.meet_tokens.Given as goal
-
-abbrev pub invariant-loop : goal.invariant-loop
-invariant-loop g l = Meets l.initial.pool l.pool l.initial.self l.self
