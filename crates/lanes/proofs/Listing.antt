@@ -3,7 +3,7 @@ use Rattle.std.proofs.Common.{◌≡◌, ℕ, zero, suc, ◌+◌, ◌<◌, ◌�
 use Rattle.std.proofs.lemmas.Bool.{cases_eq}
 use Rattle.std.proofs.lemmas.List.{get_or_default, get_or-set_other, get_or-set_same, length-set}
 use Rattle.std.specs.Prelude.{All}
-use Rattle.std.specs.List.{range_with_len}
+use Rattle.std.specs.List.{range_with_len, AllByRecursion}
 use Rattle.lanes.specs.Sharing.{EachFrom}
 
 pub each_at : {A : Type 0} (P : ℕ → A → Type 0) (k : ℕ) (xs : List A) (i : ℕ) (d : A) → EachFrom P k xs → i < length xs → P (k + i) (get_or xs i d)
@@ -135,3 +135,21 @@ refilled len ws xs e f = ap (λ z. take z (ws ++ drop (length ws) xs)) f ∙ who
     whole [] (x ∷ xs) e = absurd (omega (arith, e))
     whole (w ∷ ws) [] e = absurd (omega (arith, e))
     whole (w ∷ ws) (x ∷ xs) e = ap (λ z. w ∷ z) (whole ws xs (omega (arith, e)))
+
+-- ---- of each
+
+pub all_front : {T : Type 0} (P : T → Type 0) (xs ys : List T) → AllByRecursion P (xs ++ ys) → AllByRecursion P xs
+all_front P [] ys h = tt
+all_front P (x ∷ xs) ys h = (h.0, all_front P xs ys h.1)
+
+pub all_rear : {T : Type 0} (P : T → Type 0) (xs ys : List T) → AllByRecursion P (xs ++ ys) → AllByRecursion P ys
+all_rear P [] ys h = h
+all_rear P (x ∷ xs) ys h = all_rear P xs ys h.1
+
+pub all_behind : {T : Type 0} (P : T → Type 0) (xs ys : List T) → AllByRecursion P xs → AllByRecursion P ys → AllByRecursion P (xs ++ ys)
+all_behind P [] ys h k = k
+all_behind P (x ∷ xs) ys h k = (h.0, all_behind P xs ys h.1 k)
+
+pub all_turned : {T : Type 0} (P Q : T → Type 0) (xs : List T) → ((x : T) → P x → Q x) → AllByRecursion P xs → AllByRecursion Q xs
+all_turned P Q [] f h = tt
+all_turned P Q (x ∷ xs) f h = (f x h.0, all_turned P Q xs f h.1)

@@ -19,7 +19,7 @@ use Rattle.lanes.specs.Lanes.{of_queue, of_queues, counts_of_queues, weighed_que
 use Rattle.lanes.specs.Packets.{RiseFrom}
 use Rattle.lanes.specs.Sharing.{EachFrom, EachStays, in_queue, IsSharing, IsSum, TakesAll, TakesIn, StaysAs}
 use Rattle.lanes.proofs.Listing.{DidUpTo, all_from, each_did}
-use Rattle.lane_crew.proofs.Returning.{all_front}
+use Rattle.lanes.proofs.Listing.{all_front}
 
 -- ---- one packet of the rest
 

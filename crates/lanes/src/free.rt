@@ -27,7 +27,8 @@ fn free_clones(clones: Vec<TapClone>) {
     clones.destroy_empty();
 }
 
-pub(crate) fn free_queue(lane: QueueLane) {
+/// What a queue's lane holds.
+pub fn free_queue(lane: QueueLane) {
     let QueueLane {
         queue: _,
         packets,
@@ -36,7 +37,8 @@ pub(crate) fn free_queue(lane: QueueLane) {
     packets.free();
 }
 
-pub(crate) fn free_tap(lane: TapLane) {
+/// What a tap's lane holds.
+pub fn free_tap(lane: TapLane) {
     let TapLane {
         tap: _,
         clones,

@@ -43,7 +43,7 @@ pub struct Lanes {
 
 impl QueueLane {
     /// An idle lane, which has no memory yet.
-    pub(crate) fn new(alloc: Global, queue: u32) -> QueueLane
+    pub fn new(alloc: Global, queue: u32) -> QueueLane
         ensures idle { IsIdleQueue result }
     {
         QueueLane {
@@ -56,7 +56,7 @@ impl QueueLane {
 
 impl TapLane {
     /// An idle lane, which has no memory yet.
-    pub(crate) fn new(alloc: Global, tap: u32) -> TapLane
+    pub fn new(alloc: Global, tap: u32) -> TapLane
         ensures idle { IsIdleTap result }
     {
         TapLane {

@@ -22,7 +22,7 @@
 //! their flows. With one queue the list of packets becomes the lane's as it stands, and no packet moves; with several
 //! the list is turned in place, and then each packet moves once. Then each queue's engine takes the memory for as many
 //! packets as the queue has. Then all lanes are worked by a [`Works`]: by the thread that calls, one after another
-//! ([`Alone`], [`Beside`]), or by all who run tasks beside it ([`LaneCrew`]). A queue's work takes no memory and can't
+//! ([`Alone`], [`Beside`]), or by all who run tasks beside it (`lane_crew::LaneCrew`). A queue's work takes no memory and can't
 //! be refused. A tap's lane holds room for all that its clones may leave before it gets them, so giving back wants no
 //! memory.
 //!
@@ -32,23 +32,10 @@
 //!
 //! Blocks that a round has and that no packet holds, its spares, lie in no lane. Where others read the next round
 //! beside the work they are lent with a `block_pool::Giver`, and go to the pool that these take lists from as soon as a
-//! lane is worked: by the thread that does all lanes, behind the first queue that had packets ([`Beside`]); or by each
-//! lane's task, a queue's or a tap's, which carries as many blocks as any other and a pass of its own, unless there are
-//! fewer blocks than tasks or there is no memory for that. What no task could carry goes behind them, and what finds
-//! the pool full stays with who lent it. Of its clones a tap has nothing to give: the packets lie in the queues' lanes
-//! until a round is written, so it is never the last who holds one.
-//!
-//! ```text
-//!   who asks ── a lane, part of the list ──> the desk ── the task, a note ──> whoever is free, and who asks, waiting
-//!      ^                                                                          │                      │
-//!      └───── the lane once it is worked, what is left of the list, the note ─────┘                      │
-//!   who reads <───────── pool of lists <───────── the list, as soon as the lane is worked ───────────────┘
-//! ```
-//!
-//! A crew works by `errands`: threads that live for a whole run ([`serve_lanes`]) take the lanes of its rounds from a
-//! desk ([`open_desk`]), so no thread is started in a round, and what the crew holds is reserved before. A lane that
-//! has nothing to do is no task, and where one lane alone has something to do, whoever asks does it. A thread that
-//! can't be made costs nothing. The tasks of taps share the filter by [`SharedProgram`].
+//! lane is worked: by the thread that does all lanes, behind the first queue that had packets ([`Beside`]); by a crew
+//! (`lane_crew`) each lane's part behind its work. What finds the pool full stays with who lent it. Of its clones a tap
+//! has nothing to give: the packets lie in the queues' lanes until a round is written, so it is never the last who holds
+//! one.
 //!
 //! [`keep_packets`] takes a clone of each packet before that, so that what comes out can be compared with what went in.
 //! With eight taps a packet is cloned nine times, and what each clone takes of a block's weight leaves enough for the
@@ -71,8 +58,7 @@
 //!   refused: by any weight of blocks what was given and what still lies there is what did before, and the pass has all
 //!   its parts again. So between two rounds nothing that was lent is in a lane or with a crew.
 //! - `none_left`: by who gives (`gives` of [`Works`]) all that was lent went as the work ends, unless a put found no
-//!   place. Each lane's task gives what it carries as soon as its lane is worked (`none_left` of `QueueTask::run` and
-//!   of `WatchTask::run`).
+//!   place.
 //! - `packets`: each queue has the packets of its flows, in their order; `merged`: each of them is in one of the
 //!   queue's runs, once, by its index, so that what a run comes to can be read and written from where its packets lie.
 //!
@@ -80,8 +66,6 @@
 //! and may still be worked; `kept` and `fewer`, nothing is lost.
 //!
 //! `did` of `Works::run_lanes` is what `work_packets` stands on: each lane is worked, and stands at its place again.
-//! For a crew it comes from the notes: an answer is known to be that of its task (`DidLane` in `specs/Tasks`), in
-//! whatever order answers come.
 //!
 //! Only tested: that lanes run at the same time, that each passes the gate before its work and after it, and that
 //! memory suffices where there is some. Not said: that a thread runs or is woken.
@@ -108,17 +92,15 @@
 //!
 //! Its parts: `plan` (how many lanes), `lane` (what each has to do, and what it has done), `share` (packets to their
 //! queues, and memory for their runs), `clones` and `fill` (what taps get, where there are any), `keep` (a clone of
-//! each packet beside the work), `work` (one lane's work) and `works` (who does it); `giving` (a list that is lent, in
-//! parts and as one again), `tasks` (lanes as tasks), `away` (out to the desk and back), `crew`, `shared` (the filter
-//! that taps share), `soles` (why taps have none) and `free`; and on these `round`.
+//! each packet beside the work), `work` (one lane's work) and `works` (who does it); `giving` (a list that is lent goes
+//! back), `shared` (the filter that taps share), `soles` (why taps have none) and `free`; and on these `round`.
 //!
 //! Tests: `round_tests`, module `working`.
 //!
 //! Why so:
 //!
 //! - **The lanes of a round are two lists of one type each**, the same before the work and after it: a worker or a tap
-//!   changes its lane in place. As a task a lane moves, with its place among its kind, and comes back to that place: so
-//!   answers may come in any order, and lanes with nothing to do stay where they are.
+//!   changes its lane in place.
 //! - **Idle lanes are of no plan**: whoever ends a round may have lanes of other rounds in hand. So each round numbers
 //!   its lanes, and makes them anew only where they are fewer or more than its plan has. How long runs may be an engine
 //!   is told as it merges, so it serves any plan. It is started anew for each round, and takes memory only where it had
@@ -127,13 +109,6 @@
 //!   runs of its last round, and nothing that says what lanes hold has to speak of engines.
 //! - **The list is turned before packets are spread**: they leave it by its end, where none of the others has to move,
 //!   and are to come to their lanes in order. Where memory is refused it is turned again.
-//! - **A task carries its filter by a count** (`SharedProgram`), and not by a loan: tasks outlive each call, so what
-//!   they hold has to be their own.
-//! - **What is lent is counted whole, wherever it is** (`Divided` in `specs/Givers`): what is at hand and what tasks
-//!   carry have as many parts and blocks as all that was lent. So answers may come in any order, and whether a task
-//!   carries a part or none is nothing that a caller sees.
-//! - **What is lent is divided evenly**, over all lanes that go away as tasks: no list grows with how unlike the queues
-//!   are, and what no packet holds needn't wait for the lane with the most packets.
 //! - **Only memory stops lanes from being filled**: first there are as many as the plan has, then come each tap's
 //!   clones of all packets, then the packets go to their queues, and at last each queue's engine takes its memory. So
 //!   clones are of packets in their order, and a packet that there is no memory for stands in front of the others
@@ -148,9 +123,7 @@
 //!   4096th at most of the whole weight 2^62, so at least 2^62 - 9 * 2^50 stays.
 #![tactic(auto)]
 
-mod away;
 mod clones;
-mod crew;
 mod fill;
 mod free;
 mod giving;
@@ -161,15 +134,15 @@ mod round;
 mod share;
 mod shared;
 mod soles;
-mod tasks;
 mod work;
 mod works;
 
-pub use crew::{LANES, LaneCrew, LaneDesk, count_runners, open_desk, serve_lanes};
+pub use free::{free_queue, free_tap};
+pub use giving::give_back;
 pub use keep::keep_packets;
 pub use lane::{Lanes, QueueLane, TapLane};
 pub use plan::LanePlan;
 pub use round::work_packets;
-pub use shared::SharedProgram;
-pub use tasks::{LaneDone, LaneJob, LaneTask, QueueDone, QueueTask, TapDone, WatchTask};
+pub use shared::{SharedProgram, program_in, share_in};
+pub use work::{run_and_give, watch, work};
 pub use works::{Alone, Beside, Works};

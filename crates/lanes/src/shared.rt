@@ -39,7 +39,7 @@ impl SharedProgram {
     }
 
     /// One more holder of the same program.
-    pub(crate) fn share(&self) -> Result<SharedProgram, AllocError>
+    pub fn share(&self) -> Result<SharedProgram, AllocError>
         ensures same { IfOk result (λ shared. shared ≡ self.now) }
     {
         let program = Arc::try_clone(&self.program)?;
@@ -48,7 +48,7 @@ impl SharedProgram {
 }
 
 /// The program, where there is one.
-pub(crate) fn program_in(filter: &Option<SharedProgram>) -> Option<&Program>
+pub fn program_in(filter: &Option<SharedProgram>) -> Option<&Program>
     ensures same { option_map (λ p. p.now) result ≡ filter.now }
 {
     match filter {
@@ -58,7 +58,7 @@ pub(crate) fn program_in(filter: &Option<SharedProgram>) -> Option<&Program>
 }
 
 /// The same for one more holder.
-pub(crate) fn share_in(filter: &Option<SharedProgram>) -> Result<Option<SharedProgram>, AllocError>
+pub fn share_in(filter: &Option<SharedProgram>) -> Result<Option<SharedProgram>, AllocError>
     ensures same { IfOk result (λ shared. shared ≡ filter.now) }
 {
     match filter {

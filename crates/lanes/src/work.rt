@@ -18,7 +18,7 @@ use taps::{TapTexts, read_clones};
 
 /// A queue's worker: its packets are merged where they lie, which takes no memory and can't be refused. The gate is
 /// passed at point 0 before the work and at point 1 after it.
-pub(crate) fn work<G: Gate>(gate: &G, segs: u32, lane: &mut QueueLane)
+pub fn work<G: Gate>(gate: &G, segs: u32, lane: &mut QueueLane)
     requires filled { IsFilled lane.old }
     ensures did { DidQueue segs lane.old lane.new }
 {
@@ -29,7 +29,7 @@ pub(crate) fn work<G: Gate>(gate: &G, segs: u32, lane: &mut QueueLane)
 }
 
 /// A tap's task. It passes the gate at the same points.
-pub(crate) fn watch<G: Gate>(gate: &G, snap: u32, filter: Option<&Program>, lane: &mut TapLane)
+pub fn watch<G: Gate>(gate: &G, snap: u32, filter: Option<&Program>, lane: &mut TapLane)
     requires ready { IsTapReady lane.old }
     ensures did { DidTap (option_map (λ p. p.now) filter.entry) snap lane.old lane.new }
 {
@@ -113,7 +113,7 @@ fn work_and_give<G: Gate, R: Wait>(
 }
 
 /// All lanes in the thread that calls, where others take lists beside it.
-pub(crate) fn run_and_give<G: Gate, R: Wait>(
+pub fn run_and_give<G: Gate, R: Wait>(
     gate: &G,
     rt: &R,
     plan: &LanePlan,

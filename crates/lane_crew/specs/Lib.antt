@@ -1,0 +1,4 @@
+pub mod Desks
+pub mod Givers
+pub mod LaneWork
+pub mod Tasks
