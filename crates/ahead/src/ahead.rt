@@ -29,11 +29,14 @@ ghost use Rattle.ahead.specs.Out.{blocks_out, brought_listed, weights_out};
 
 use crate::lists::{ListName, NextLists};
 use block_pool::Giver;
+use block_supply::{Taker, open_lists};
 use lanes::Works;
 use off_io::Source;
 use pcap_io::CaptureReader;
-use block_supply::{Taker, open_lists};
-use rounds::{Bench, Blank, Intake, Paused, ReadAhead, Rest, Round, RoundEnd, RoundRead, Rounds, Worked, bring_lists};
+use rounds::{
+    Bench, Blank, Intake, Paused, ReadAhead, Rest, Round, RoundEnd, RoundRead, Rounds, Worked,
+    bring_lists,
+};
 use std::alloc::AllocError;
 use std::marker::Brand;
 use std::sync::Wait;

@@ -4,8 +4,7 @@ ghost use Rattle.std.specs.Arc.{arc_value};
 ghost use Rattle.block_pool.specs.PassState.{SharedState};
 
 use block_pool::Pool;
-use block_supply::Supply;
-use block_supply::Taker;
+use block_supply::{Supply, Taker};
 use std::marker::{Brand, PhantomData};
 use std::sync::Wait;
 

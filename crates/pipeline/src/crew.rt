@@ -12,7 +12,9 @@ ghost use Rattle.pipeline.specs.Handled.{MayHandle};
 use crate::drive::handle_by;
 use crossbeam_queue::ArrayQueue;
 use errands::{Bells, Errands, Job, Naming, Reply, Runner};
-use lane_crew::{LANES, LaneCrew, LaneDesk, LaneDone, LaneJob, LaneTask, count_runners, open_desk, serve_lanes};
+use lane_crew::{
+    LANES, LaneCrew, LaneDesk, LaneDone, LaneJob, LaneTask, count_runners, open_desk, serve_lanes,
+};
 use lanes::{Beside, Works};
 use off_io::{Gate, Source};
 use pcap_io::CaptureReader;

@@ -3,12 +3,13 @@ use crate::captures::{feed_of, reader_of};
 use crate::working::packets::{all_home, in_turn, rest_home};
 use crate::writing::{FILE, all_go_home, frame, one_item};
 use block_pool::Pool;
+use block_supply::{AllHome, RECORD_BLOCKS};
 use frame_layout::Choice;
 use gro::Packets;
+use lane_crew::{count_runners, open_desk};
 use lanes::{Alone, LanePlan, Lanes, work_packets};
 use off_io::{MemSink, NoGate};
 use pcap_io::Link;
-use block_supply::{AllHome, RECORD_BLOCKS};
 use reading::read_record;
 use records::{Time, write_items, write_record};
 use rounds::{MergeEnd, Rounds};
@@ -94,6 +95,14 @@ fn example_of_lanes(rt: HostRuntime) {
         Err(_) => rest_home(&rt, packets, lanes),
     };
     assert_eq!(rt; blocks, 8);
+}
+
+#[test]
+fn example_of_lane_crew(rt: HostRuntime) -> Result<(), Fail> {
+    let alloc = rt.alloc();
+    let desk = open_desk(alloc, count_runners(&rt, 6))?;
+    assert!(rt; (1..=5).contains(&desk.runners.len()));
+    Ok(())
 }
 
 #[test]

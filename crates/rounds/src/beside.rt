@@ -21,9 +21,9 @@ ghost use Rattle.rounds.specs.RoundOf.{brought_by, Came, Takes};
 
 use crate::intake::Intake;
 use crate::round::{Paused, ReadAhead, RoundEnd, RoundRead};
+use block_supply::Supply;
 use off_io::Source;
 use pcap_io::CaptureReader;
-use block_supply::Supply;
 use std::sync::Wait;
 
 impl Intake {

@@ -14,11 +14,11 @@ ghost use Rattle.rounds.specs.RoundOf.{at_hand, brought_by, Came, IsHold, IsRoun
 
 use crate::round::{RoundEnd, end_of};
 use block_pool::Pool;
+use block_supply::{AllHome, Supply};
 use gro::Packets;
 use off_io::Source;
 use pcap_io::{CaptureReader, RecHead};
 use raw_block::Sole;
-use block_supply::{AllHome, Supply};
 use reading::{Stop, finish_record, read_record};
 use std::alloc::Global;
 use std::collections::VecDeque;

@@ -27,10 +27,10 @@ use crate::bench::Bench;
 use crate::handler::RoundHandler;
 use crate::intake::Intake;
 use crate::round::{Rest, Round, RoundEnd, RoundRead, Worked};
+use block_supply::AllHome;
 use lanes::{LanePlan, Works};
 use off_io::{Sink, Source, WriteFault};
 use pcap_io::{CaptureReader, FileHead};
-use block_supply::AllHome;
 use std::alloc::{AllocError, Global};
 use std::marker::Model;
 

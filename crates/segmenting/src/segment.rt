@@ -13,12 +13,12 @@ ghost use Rattle.segmenting.specs.Segmenting.{IsFaultOf, IsMovedOf, Moves, Takes
 
 use crate::cut::{Refused, cut_record};
 use block_pool::Pool;
+use block_supply::{AllHome, RECORD_BLOCKS};
 use frags::Outcomes;
 use gro::{Packets, Slot};
 use off_io::{Sink, Source};
 use pcap_io::{CapFault, CapKind, CaptureReader, OFF_HEAD_LEN};
 use raw_block::Sole;
-use block_supply::{AllHome, RECORD_BLOCKS};
 use reading::{Stop, read_record};
 use std::alloc::{AllocError, Global};
 use std::collections::VecDeque;

@@ -109,7 +109,7 @@ invariant_of-rounds-2 g c =
         most_same _ _ _ (ap (λ (i : IntakeState). i.budget) f.same ∙ r.same.1) v.few.1,
       );
       room = room_back c.run_sides-end.new.bench.blocks c.bring_home.new.intake.blocks c.run_sides-end.new.bench.room (home c.run_sides-end.new.kept) c.bring_home.new.intake.home c.run_sides-end.new.intake.home
-      (ap (λ (b : BenchState). b.blocks) k.same ∙ ap (λ (b : BenchState). b.blocks) c.prepare.ensures.same ∙ v.blocks ∙ sym r.same.0 ∙ sym (ap (λ (i : IntakeState). i.blocks) f.same)) k.room f.least;
+          (ap (λ (b : BenchState). b.blocks) k.same ∙ ap (λ (b : BenchState). b.blocks) c.prepare.ensures.same ∙ v.blocks ∙ sym r.same.0 ∙ sym (ap (λ (i : IntakeState). i.blocks) f.same)) k.room f.least;
     }
 
 pub drop_parcels-requires : goal.drop_parcels-requires
