@@ -92,7 +92,7 @@
 //!
 //! Its parts: `plan` (how many lanes), `lane` (what each has to do, and what it has done), `share` (packets to their
 //! queues, and memory for their runs), `clones` and `fill` (what taps get, where there are any), `keep` (a clone of
-//! each packet beside the work), `work` (one lane's work) and `works` (who does it); `giving` (a list that is lent goes
+//! each packet beside the work), `working` (one lane's work) and `works` (who does it); `giving` (a list that is lent goes
 //! back), `shared` (the filter that taps share), `soles` (why taps have none) and `free`; and on these `round`.
 //!
 //! Tests: `round_tests`, module `working`.
@@ -134,7 +134,7 @@ mod round;
 mod share;
 mod shared;
 mod soles;
-mod work;
+mod working;
 mod works;
 
 pub use free::{free_queue, free_tap};
@@ -144,5 +144,5 @@ pub use lane::{Lanes, QueueLane, TapLane};
 pub use plan::LanePlan;
 pub use round::work_packets;
 pub use shared::{SharedProgram, program_in, share_in};
-pub use work::{run_and_give, watch, work};
+pub use working::{run_and_give, watch, work};
 pub use works::{Alone, Beside, Works};

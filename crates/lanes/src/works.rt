@@ -6,7 +6,7 @@ ghost use Rattle.lanes.specs.Work.{Did};
 
 use crate::lane::Lanes;
 use crate::plan::LanePlan;
-use crate::work::{run_and_give, run_in_turn};
+use crate::working::{run_and_give, run_in_turn};
 use block_pool::Giver;
 use off_io::Gate;
 use std::sync::Wait;

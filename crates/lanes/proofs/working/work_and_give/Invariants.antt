@@ -1,7 +1,7 @@
 use Rattle.block_pool.specs.Giving.{MayGive}
 use Rattle.lanes.specs.Lanes.{DidQueue}
 use Rattle.lanes.proofs.Listing.{DidUpTo}
-use Rattle.lanes.proofs.work.work_and_give.Given as goal
+use Rattle.lanes.proofs.working.work_and_give.Given as goal
 
 abbrev pub invariant-loop-at : goal.invariant-loop-at
 invariant-loop-at g l = record {

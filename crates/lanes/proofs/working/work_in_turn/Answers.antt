@@ -1,7 +1,7 @@
 use Rattle.std.proofs.Common.{◌+◌, sym, subst, arith}
 use Rattle.lanes.specs.Lanes.{DidQueue, IsFilled}
 use Rattle.lanes.proofs.Listing.{did_none, did_more}
-use Rattle.lanes.proofs.work.work_in_turn.Goals as goal
+use Rattle.lanes.proofs.working.work_in_turn.Goals as goal
 
 pub loop-i-init : goal.loop-i-init
 loop-i-init g c = did_none (DidQueue c.args.plan.now.segs) c.args.queues.now

@@ -1,7 +1,7 @@
 use Rattle.std.proofs.Common.{◌+◌, get_or, sym, subst, arith}
 use Rattle.lanes.specs.Lanes.{DidTap, IsTapReady}
 use Rattle.lanes.proofs.Listing.{did_none, did_more}
-use Rattle.lanes.proofs.work.watch_in_turn.Goals as goal
+use Rattle.lanes.proofs.working.watch_in_turn.Goals as goal
 
 pub loop-i-init : goal.loop-i-init
 loop-i-init g c = did_none (DidTap c.args.plan.now.filter c.args.plan.now.snap) c.args.taps.now

@@ -2,7 +2,7 @@ use Rattle.std.proofs.Common.{◌+◌, sym, subst, arith}
 use Rattle.block_pool.proofs.Giving.{may_give_nothing, may_give_twice}
 use Rattle.lanes.specs.Lanes.{DidQueue, IsFilled}
 use Rattle.lanes.proofs.Listing.{did_none, did_more}
-use Rattle.lanes.proofs.work.work_and_give.Goals as goal
+use Rattle.lanes.proofs.working.work_and_give.Goals as goal
 
 pub loop-at-init : goal.loop-at-init
 loop-at-init g c = record {

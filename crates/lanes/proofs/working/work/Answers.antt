@@ -3,7 +3,7 @@ use Rattle.gro.specs.declared.slot.Slot.{Slot}
 use Rattle.frame_runs.specs.Engine.{DoRise, IsReady}
 use Rattle.gro.specs.Slots.{packet_of, AreHeld}
 use Rattle.lanes.proofs.Merging.{do_rise}
-use Rattle.lanes.proofs.work.work.Goals as goal
+use Rattle.lanes.proofs.working.work.Goals as goal
 
 pub merge-requires-clause-ready : goal.merge-requires-clause-ready
 merge-requires-clause-ready g c = subst (λ (z : List Slot). IsReady c.args.lane.now.engine (length z)) (sym c.slots.ensures.slots) c.requires.filled.ready
