@@ -4,3 +4,5 @@ pub mod Rows
 mod Lending
 -- what both sides say together
 mod Together
+-- blocks that are counted once both sides have ended
+mod Counting

@@ -10,6 +10,7 @@ use Rattle.rounds.specs.Merging.{options_of}
 use Rattle.rounds.specs.RoundsState.{BenchState, IntakeState, RoundsState}
 use Rattle.rounds.specs.Weights.{weights_of}
 use Rattle.rounds.specs.declared.round.RoundRead.{RoundRead}
+use Rattle.crossing.specs.declared.token.Token.{Token}
 use Rattle.pipeline.specs.declared.parcel.Parcel.{Parcel}
 use Rattle.pipeline.specs.Handled.{blocks_out, weights_out}
 use Rattle.block_supply.specs.Lists.{HasGiver, listed_home, weights_home, weights_listed}
@@ -18,6 +19,7 @@ use Rattle.pipeline.specs.Parcels.{blocks_of, weights_sent}
 use Rattle.rounds.specs.Reads.{reader_at}
 use Rattle.crossing.proofs.Shelves.{homes_append, shelved_none, weights_back_append}
 use Rattle.pipeline.proofs.Rows.{blocks_append, weights_sent_append}
+use Rattle.pipeline.proofs.Counting.{all_counted, all_out, all_weighed, few_home, least_same, most_same, room_back, room_home, room_left, whole_home}
 use Rattle.rounds.proofs.Going.{counted_as}
 use Rattle.pipeline.proofs.Together.{all_went, ends_as, idle_as, left_out, left_weights}
 use Rattle.pipeline.proofs.Lending.{giver_back}
@@ -30,37 +32,20 @@ counted : (g : given.Over) (c : After-ending-ended g)
     → c.run_sides-end.new.intake.home + homes_of (known_items c.slots_beside.new.self) + home c.run_sides-end.new.kept + shelved c.close-tokens.result.1.items + home c.close-tokens.result.2.left
     + given_by c.run_sides-end.new.giver + blocks_of (known_items c.ending-ended.new.from) + blocks_out c.ending-ended.result ≡ c.args.rounds.now.blocks + blocks_in c.close-tokens.result.2.pass.taken
 counted g c =
-    omega (
-      arith,
-      c.run_sides-end.ensures.read.sum,
-      c.run_sides-end.ensures.worked.each,
-      c.run_sides-end.new.supply.desk.counted,
-      c.run_sides-end.new.supply.desk.taker.counted,
-      c.requires.out.out,
-      ap (λ (s : RoundsState). s.home) c.rounds.view_is,
-      ap (λ t. homes_of (received t)) c.new.ensures.same.0,
-      ap homes_of c.args.ways.unused.1,
-      ap (λ s. shelved s.items) c.new.ensures.same.1,
-      c.in-Ok.ensures.shelves,
-      ap (λ t. listed_home t.pass t.left) c.new.ensures.same.2,
-      ap blocks_in c.args.ways.untaken.0,
-      ap blocks_in c.args.ways.ungiven.1,
-      ap blocks_of c.send_first.ensures.sent.1,
-      ap (λ (x : RoundRead). x.round.blocks) c.send_first.ensures.sent.2,
-      left_out g.H.RoundHandler.stopped c.run_sides-end.result c.ending-ended.result (known_items c.slots_beside-waiting.new.self) (known_items c.ending-ended.new.from) c.ending-ended.ensures.some c.ending-ended.ensures.none,
-      ap blocks_of c.slots_beside-waiting.ensures.fifo,
-      blocks_append (received c.slots_beside-waiting.new.self) (known_items c.slots_beside-waiting.new.self),
-      ap blocks_of c.slots_beside-waiting.ensures.looked.1,
-      ap blocks_of c.slots_beside-waiting.ensures.producer.1,
-      ap homes_of c.slots_beside.ensures.fifo,
-      homes_append (received c.slots_beside.new.self) (known_items c.slots_beside.new.self),
-      ap homes_of c.slots_beside.ensures.looked.1,
-      ap homes_of c.slots_beside.ensures.producer.1,
-      ap (λ t. homes_of (received t)) c.close-tokens.ensures.same.0,
-      ap (λ t. shelved t.items) c.close-tokens.ensures.same.1,
-      ap (λ t. home t.left) c.close-tokens.ensures.same.2,
-      ap (λ t. blocks_in t.pass.taken) c.close-tokens.ensures.same.2,
-    )
+    all_counted c.run_sides-end.ensures.read.sum c.run_sides-end.ensures.worked.each c.run_sides-end.new.supply.desk.counted c.run_sides-end.new.supply.desk.taker.counted
+    (ap (λ t. homes_of (received t)) c.new.ensures.same.0 ∙ ap homes_of c.args.ways.unused.1) (ap (λ t. blocks_in t.pass.taken) c.new.ensures.same.2 ∙ ap blocks_in c.args.ways.untaken.0)
+    (ap blocks_in c.args.ways.ungiven.1)
+    (sym (ap (λ (l : List (Option Parcel)). blocks_of l + blocks_of (known_items c.slots_beside-waiting.new.self)) c.slots_beside-waiting.ensures.looked.1)
+    ∙ sym (blocks_append (received c.slots_beside-waiting.new.self) (known_items c.slots_beside-waiting.new.self)) ∙ ap blocks_of c.slots_beside-waiting.ensures.fifo
+    ∙ ap blocks_of c.slots_beside-waiting.ensures.producer.1)
+    (left_out g.H.RoundHandler.stopped c.run_sides-end.result c.ending-ended.result (known_items c.slots_beside-waiting.new.self) (known_items c.ending-ended.new.from) c.ending-ended.ensures.some
+    c.ending-ended.ensures.none)
+    (sym (ap (λ t. homes_of (received t) + homes_of (known_items c.slots_beside.new.self)) c.close-tokens.ensures.same.0)
+    ∙ sym (ap (λ (l : List Token). homes_of l + homes_of (known_items c.slots_beside.new.self)) c.slots_beside.ensures.looked.1)
+    ∙ sym (homes_append (received c.slots_beside.new.self) (known_items c.slots_beside.new.self)) ∙ ap homes_of c.slots_beside.ensures.fifo ∙ ap homes_of c.slots_beside.ensures.producer.1)
+    (ap (λ t. shelved t.items) c.close-tokens.ensures.same.1) (ap (λ t. home t.left) c.close-tokens.ensures.same.2) (ap (λ t. blocks_in t.pass.taken) c.close-tokens.ensures.same.2)
+    ∙ ap (λ (n : ℕ). n + blocks_in c.close-tokens.result.2.pass.taken)
+    (all_out (ap (λ (s : RoundsState). s.home) c.rounds.view_is) (ap blocks_of c.send_first.ensures.sent.1) (ap (λ (x : RoundRead). x.round.blocks) c.send_first.ensures.sent.2) c.requires.out.out)
 
 pub bring_home-requires : goal.bring_home-requires
 bring_home-requires g c =
@@ -73,7 +58,7 @@ bring_home-requires g c =
           (c.requires.ways.1 ∙ sym d.pooled ∙ sym (ap (λ t. arc_value t.lists) c.close-tokens.ensures.same.2))
           (giver_back (arc_value w.taker.lists) (Some w.giver) c.run_sides-end.new.giver
           (record { it = w.giver; is = refl; pool_is = w.same; parts = w.ungiven.0; none = w.ungiven.2 }) k.lends);
-      room = omega (arith, counted g (goal.at.bring_home-requires g c).After-ending-ended, r.same.0, ap (λ (s : RoundsState). s.blocks) c.rounds.view_is);
+      room = room_home (counted g (goal.at.bring_home-requires g c).After-ending-ended) (r.same.0 ∙ ap (λ (s : RoundsState). s.blocks) c.rounds.view_is);
     }
 
 abbrev lent : IntakeState → BenchState → RoundsState
@@ -85,15 +70,6 @@ returns-in_default-clause-handled g c = (
   idle_as c.args.rounds.now _ (reader_at g.S.Source.left g.S.Source.faults c.args.reader.now c.args.rounds.now.taken) c.args.into.now
       (ap (lent c.rounds.inside.intake) c.prepare.ensures.same ∙ c.rounds.view_is),
 )
-
-least_same : (a b c : ℕ) → c ≡ b → a ≤ b → a ≤ c
-least_same a b c e h = subst (λ (x : ℕ). a ≤ x) (sym e) h
-
-most_same : (a b c : ℕ) → c ≡ a → a ≤ b → c ≤ b
-most_same a b c e h = subst (λ (x : ℕ). x ≤ b) (sym e) h
-
-room_back : (b i room kept home old : ℕ) → b ≡ i → b + b ≤ room + (kept + kept) → old + kept ≤ home → i + i ≤ room + (home + home)
-room_back b i room kept home old e r l = omega arith
 
 pub invariant_of-rounds-2 : goal.invariant_of-rounds-2
 invariant_of-rounds-2 g c =
@@ -114,18 +90,10 @@ invariant_of-rounds-2 g c =
 
 pub drop_parcels-requires : goal.drop_parcels-requires
 drop_parcels-requires g c =
-    let r = c.run_sides-end.ensures.read in
-    let k = c.run_sides-end.ensures.worked in
     let f = c.bring_home.ensures in
     record {
-      room = omega (
-        arith,
-        counted g (goal.at.drop_parcels-requires g c).After-ending-ended,
-        f.home,
-        ap (λ (i : IntakeState). i.blocks) f.same,
-        r.same.0,
-        ap (λ (s : RoundsState). s.blocks) c.rounds.view_is,
-      );
+      room = room_left f.home (counted g (goal.at.drop_parcels-requires g c).After-ending-ended)
+          (ap (λ (i : IntakeState). i.blocks) f.same ∙ c.run_sides-end.ensures.read.same.0 ∙ ap (λ (s : RoundsState). s.blocks) c.rounds.view_is);
     }
 
 pub returns-clause-handled : goal.returns-clause-handled
@@ -150,37 +118,18 @@ returns-clause-handled g c =
     let keep = ap (λ (b : BenchState). b.keep) p.same ∙ ap (λ (s : RoundsState). s.keep) view in
     let named : (h : ℕ → ℕ) → weighed h new.stock + weights_out c.ending-ended.result h ≡ weighed h first.stock + weights_of c.args.read.round h =
     λ h.
-    omega (
-      arith,
-      c.drop_parcels.ensures.named h,
-      f.named h,
-      r.named h,
-      k.each_named h,
-      c.run_sides-end.new.supply.desk.weighs h,
-      c.run_sides-end.new.supply.desk.taker.weighs h,
-      ap (λ (s : RoundsState). weighed h s.stock) view,
-      ap (λ t. weights_back h (received t)) c.new.ensures.same.0,
-      ap (weights_back h) w.unused.1,
-      shelved_none h c.new.result.shelves.items (ap (λ s. shelved s.items) c.new.ensures.same.1 ∙ c.in-Ok.ensures.shelves),
-      ap (λ t. weights_home h t.pass t.left) c.new.ensures.same.2,
-      ap (weights_listed h) w.untaken.0,
-      ap (weights_listed h) w.ungiven.1,
-      ap (weights_sent h) c.send_first.ensures.sent.1,
-      ap (λ (x : RoundRead). weights_of x.round h) c.send_first.ensures.sent.2,
-      left_weights h g.H.RoundHandler.stopped c.run_sides-end.result c.ending-ended.result known left e.some e.none,
-      ap (weights_sent h) a.fifo,
-      weights_sent_append h (received c.slots_beside-waiting.new.self) known,
-      ap (weights_sent h) a.looked.1,
-      ap (weights_sent h) a.producer.1,
-      ap (weights_back h) b.fifo,
-      weights_back_append h (received c.slots_beside.new.self) (known_items c.slots_beside.new.self),
-      ap (weights_back h) b.looked.1,
-      ap (weights_back h) b.producer.1,
-      ap (λ t. weights_back h (received t)) c.close-tokens.ensures.same.0,
-      ap (λ t. weights_shelved h t.items) c.close-tokens.ensures.same.1,
-      ap (λ t. weighed h t.left.blocks) c.close-tokens.ensures.same.2,
-      ap (λ t. weights_listed h t.pass.taken) c.close-tokens.ensures.same.2,
-    ) in
+    all_weighed (r.named h) (k.each_named h) (c.run_sides-end.new.supply.desk.weighs h) (c.run_sides-end.new.supply.desk.taker.weighs h)
+    (ap (λ t. weights_back h (received t)) c.new.ensures.same.0 ∙ ap (weights_back h) w.unused.1) (ap (λ t. weights_listed h t.pass.taken) c.new.ensures.same.2 ∙ ap (weights_listed h) w.untaken.0)
+    (ap (weights_listed h) w.ungiven.1)
+    (sym (ap (λ (l : List (Option Parcel)). weights_sent h l + weights_sent h known) a.looked.1) ∙ sym (weights_sent_append h (received c.slots_beside-waiting.new.self) known)
+    ∙ ap (weights_sent h) a.fifo ∙ ap (weights_sent h) a.producer.1)
+    (left_weights h g.H.RoundHandler.stopped c.run_sides-end.result c.ending-ended.result known left e.some e.none)
+    (sym (ap (λ t. weights_back h (received t) + weights_back h (known_items c.slots_beside.new.self)) c.close-tokens.ensures.same.0)
+    ∙ sym (ap (λ (l : List Token). weights_back h l + weights_back h (known_items c.slots_beside.new.self)) b.looked.1)
+    ∙ sym (weights_back_append h (received c.slots_beside.new.self) (known_items c.slots_beside.new.self)) ∙ ap (weights_back h) b.fifo ∙ ap (weights_back h) b.producer.1)
+    (ap (λ t. weights_shelved h t.items) c.close-tokens.ensures.same.1) (ap (λ t. weighed h t.left.blocks) c.close-tokens.ensures.same.2)
+    (ap (λ t. weights_listed h t.pass.taken) c.close-tokens.ensures.same.2) (f.named h) (c.drop_parcels.ensures.named h) (ap (λ (s : RoundsState). weighed h s.stock) view)
+    (ap (weights_sent h) c.send_first.ensures.sent.1) (ap (λ (x : RoundRead). weights_of x.round h) c.send_first.ensures.sent.2) in
     let whole = c.bring_home.new.intake.home + blocks_of left in
     all_went (did (options_of first)) g.H.RoundHandler.stopped (g.H.RoundHandler.ready (options_of first) first.keep) first new intake whole c.run_sides-end.new.intake.taken c.args.read
     (reader_at g.S.Source.left g.S.Source.faults c.args.reader.now first.taken) (reader_at g.S.Source.left g.S.Source.faults c.run_sides-end.new.reader new.taken)
@@ -196,22 +145,8 @@ returns-clause-handled g c =
       );
       all = ap (λ (s : RoundsState). s.home) d;
       after = ap (λ (s : RoundsState). s.taken) d ∙ ap (λ (i : IntakeState). i.taken) f.same;
-      pauses = (
-        omega (arith, r.paused.0, ap (λ (s : RoundsState). s.pauses) d, ap (λ (i : IntakeState). i.pauses) f.same, ap (λ (s : RoundsState). s.pauses) view),
-        omega (
-          arith,
-          r.paused.0,
-          r.paused.1,
-          r.same.2,
-          f.empties,
-          ap (λ t. t.pass.empties) c.close-tokens.ensures.same.2,
-          ap (λ (s : RoundsState). s.pauses) d,
-          ap (λ (s : RoundsState). s.empties) d,
-          ap (λ (i : IntakeState). i.pauses) f.same,
-          ap (λ (s : RoundsState). s.pauses) view,
-          ap (λ (s : RoundsState). s.empties) view,
-        ),
-      );
+      pauses = few_home r.paused (ap (λ (s : RoundsState). s.pauses) d ∙ ap (λ (i : IntakeState). i.pauses) f.same) (ap (λ (s : RoundsState). s.pauses) view)
+          (ap (λ (s : RoundsState). s.empties) d ∙ f.empties) (r.same.2 ∙ ap (λ (s : RoundsState). s.empties) view) (ap (λ t. t.pass.empties) c.close-tokens.ensures.same.2);
     })
     (record {
       out = c.requires.out.out;
@@ -225,7 +160,7 @@ returns-clause-handled g c =
     c.args.into.now c.run_sides-end.new.into
     (counted_as did g.H.RoundHandler.stopped g.H.RoundHandler.ready (options_of first) (options_at c.prepare.new.bench) first.keep c.prepare.new.bench.keep (2 ^ 32 + 4096) c.run_sides-end.new.into options
     keep k.ready)
-    c.run_sides-end.result c.ending-ended.result left (omega (arith, counted g (goal.at.returns-clause-handled g c).After-ending-ended, f.home)) named
+    c.run_sides-end.result c.ending-ended.result left (whole_home f.home (counted g (goal.at.returns-clause-handled g c).After-ending-ended)) named
     (ends_as did g.H.RoundHandler.stopped (options_of first) (options_at c.prepare.new.bench) (received c.run_sides-end.new.from) c.args.into.now c.run_sides-end.new.into c.run_sides-end.result
     options k.handled)
     e.some e.none
