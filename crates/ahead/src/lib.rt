@@ -21,7 +21,7 @@
 //!
 //! Its parts: `ahead` (both calls) on `lists` (the lists that the side that reads takes).
 //!
-//! Tests: `beside_tests`, modules `ahead` and `refused`.
+//! Tests: `beside_tests`, modules `beside_work` and `refused`.
 //!
 //! Why so:
 //!

@@ -6,7 +6,7 @@
 #![tactic(auto)]
 
 #[cfg(test)]
-mod ahead;
+mod beside_work;
 #[cfg(test)]
 mod checks;
 #[cfg(test)]

@@ -8,7 +8,7 @@ ghost use Rattle.offload_c.specs.Options.{AreLawful, AreAllButFilter, model_of};
 use crate::memory::Outcome;
 use crate::merging::merge_by;
 use crate::options::{MergeOptions, Refused};
-use crate::segmenting::segment_bytes;
+use crate::segment_call::segment_bytes;
 use std::alloc::Global;
 
 const OK: u32 = 0;

@@ -63,7 +63,7 @@ mod memory;
 mod merging;
 mod options;
 mod queues;
-mod segmenting;
+mod segment_call;
 #[cfg(test)]
 mod tests;
 

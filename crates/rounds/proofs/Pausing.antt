@@ -25,8 +25,8 @@ use Rattle.rounds.specs.Fresh.{NumberedFrom}
 use Rattle.rounds.specs.Reading.{GivesRest, GivesRound, FillsRound, IfEnded, IsEndOf, IsHaltOf, NumbersOn, PassesOver, WaitsOver}
 use Rattle.rounds.specs.RoundOf.{IsRoundOf}
 use Rattle.rounds.specs.RoundsState.{RoundState}
-use Rattle.rounds.specs.declared.reading.Halt.{Halt}
-use Rattle.rounds.specs.declared.reading.Halt.TheVariants.{Ended, Lacking}
+use Rattle.rounds.specs.declared.round_reading.Halt.{Halt}
+use Rattle.rounds.specs.declared.round_reading.Halt.TheVariants.{Ended, Lacking}
 use Rattle.rounds.specs.declared.round.Paused.{Paused}
 use Rattle.rounds.specs.declared.round.ReadAhead.TheVariants as aheads
 use Rattle.rounds.specs.declared.round.RoundEnd.{RoundEnd}

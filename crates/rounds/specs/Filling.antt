@@ -11,8 +11,8 @@ use Rattle.reading.specs.Reading.{KeepsHead}
 use Rattle.rounds.specs.Ahead.{GivesBehind, IfPaused, IfRead, ReadsAhead, Waits}
 use Rattle.rounds.specs.Fresh.{NumberedFrom}
 use Rattle.rounds.specs.Reading.{FillsRound, GivesRest, GivesRound, IfEnded, NumbersOn, PassesRound}
-use Rattle.rounds.specs.declared.reading.Halt.{Halt}
-use Rattle.rounds.specs.declared.reading.Halt.TheVariants as halts
+use Rattle.rounds.specs.declared.round_reading.Halt.{Halt}
+use Rattle.rounds.specs.declared.round_reading.Halt.TheVariants as halts
 use Rattle.rounds.specs.declared.round.ReadAhead.{ReadAhead}
 use Rattle.rounds.specs.declared.round.RoundEnd.{RoundEnd}
 use Rattle.rounds.specs.declared.round.RoundEnd.TheVariants as ends

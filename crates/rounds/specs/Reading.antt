@@ -13,8 +13,8 @@ use Rattle.gro.specs.declared.slot.Slot.{Slot as Held}
 use Rattle.gro.specs.Slots.{packet_of}
 use Rattle.rounds.specs.Fresh.{NumberedFrom}
 use Rattle.reading.specs.Reading.{in_front, Passes, Announces, KeepsHead}
-use Rattle.rounds.specs.declared.reading.Halt.{Halt}
-use Rattle.rounds.specs.declared.reading.Halt.TheVariants as halts
+use Rattle.rounds.specs.declared.round_reading.Halt.{Halt}
+use Rattle.rounds.specs.declared.round_reading.Halt.TheVariants as halts
 use Rattle.reading.specs.declared.record.Stop.{Stop}
 use Rattle.reading.specs.declared.record.Stop.TheVariants as stops
 use Rattle.rounds.specs.declared.round.RoundEnd.{RoundEnd}

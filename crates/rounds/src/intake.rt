@@ -20,8 +20,8 @@ ghost use Rattle.rounds.specs.Weights.{weights_of};
 ghost use Rattle.rounds.specs.Reading.{GivesRound, NumberedTo, PassesRound};
 ghost use Rattle.rounds.specs.RoundOf.{brought_by, Came, Takes};
 
-use crate::reading::{Halt, read_behind, read_more, read_records};
 use crate::round::{Blank, Empty, Paused, ReadAhead, Round, RoundEnd, RoundRead, no_round};
+use crate::round_reading::{Halt, read_behind, read_more, read_records};
 use block_pool::Pool;
 use block_supply::{RECORD_BLOCKS, Supply};
 use core::mem::replace;

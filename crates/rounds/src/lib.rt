@@ -89,7 +89,7 @@
 //! let end = rounds.merge_all(&mut Alone { gate: &NoGate }, &mut reader, &file, &mut sink);
 //! ```
 //!
-//! Its parts: `reading` (a round of records, each read by the crate `reading`); `table` and `home` (what comes back, by
+//! Its parts: `round_reading` (a round of records, each read by the crate `reading`); `table` and `home` (what comes back, by
 //! marks or by number, and all of a round given up at whichever point); `lane_work` (a round over lanes, by
 //! `lanes::work_packets`, with its heads shared where others hold blocks), `lane_home` (what lanes hold, home);
 //! `writing` (what they come to); `intake` (the side that reads: pool and budget); `bench` (the side that works:
@@ -170,8 +170,8 @@ mod lists;
 mod memory;
 mod merge;
 mod plan;
-mod reading;
 mod round;
+mod round_reading;
 mod rounds;
 mod table;
 mod turns;

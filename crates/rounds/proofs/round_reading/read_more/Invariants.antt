@@ -4,7 +4,7 @@ use Rattle.block_pool.specs.PoolState.{home}
 use Rattle.rounds.specs.Reading.{NumbersOn}
 use Rattle.rounds.specs.RoundOf.{at_hand, brought_by, Came, IsHold, IsRoundOf}
 use Rattle.rounds.proofs.Rounding.{ReadSoFar}
-use Rattle.rounds.proofs.reading.read_more.Given as goal
+use Rattle.rounds.proofs.round_reading.read_more.Given as goal
 
 abbrev pub invariant-reading : goal.invariant-reading
 invariant-reading g l = record {

@@ -11,7 +11,7 @@ use Rattle.rounds.specs.declared.round.RoundEnd.{RoundEnd}
 use Rattle.reading.specs.Reading.{GivesRecord}
 use Rattle.rounds.proofs.Pausing.{halt_ended, halt_lacking, round_last, waits_over}
 use Rattle.rounds.proofs.Rounding.{no_front, so_far_none, so_far_at, so_far_more, round_stop_given, fills_round, numbers_none, numbers_more}
-use Rattle.rounds.proofs.reading.read_more.Goals as goal
+use Rattle.rounds.proofs.round_reading.read_more.Goals as goal
 
 pub reading-init : goal.reading-init
 reading-init g c =

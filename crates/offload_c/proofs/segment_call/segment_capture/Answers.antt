@@ -1,5 +1,5 @@
 use Rattle.offload_c.proofs.Records.{not_taken_given, not_written_given, ends_given}
-use Rattle.offload_c.proofs.segmenting.segment_capture.Goals as goal
+use Rattle.offload_c.proofs.segment_call.segment_capture.Goals as goal
 
 pub returns-in-Err : goal.returns-in-Err
 returns-in-Err g c = record { given = not_taken_given c.args.run.now.blocks _ _ _ c.in-Err.fault c.fault_of.result c.fault_of.ensures.fault c.in-Err.ensures.given }

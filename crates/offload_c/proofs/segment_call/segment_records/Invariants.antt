@@ -3,7 +3,7 @@ use Rattle.off_io.specs.Told.{Told}
 use Rattle.pcap_io.specs.Places.{IsReady}
 use Rattle.pcap_io.specs.declared.heads.Link.TheVariants.{Offload}
 use Rattle.offload_c.proofs.Records.{Ahead}
-use Rattle.offload_c.proofs.segmenting.segment_records.Given as goal
+use Rattle.offload_c.proofs.segment_call.segment_records.Given as goal
 
 abbrev pub invariant-records : goal.invariant-records
 invariant-records g l = record {

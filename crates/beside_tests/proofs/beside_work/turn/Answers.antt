@@ -2,7 +2,7 @@ use Rattle.std.proofs.Common.{◌≡◌, rules, subst, ◌∙◌}
 use Rattle.pcap_io.specs.declared.heads.Link.TheVariants.{Ethernet}
 use Rattle.rounds.specs.Ahead.{IfPaused, Waits}
 use Rattle.rounds.specs.declared.round.ReadAhead.{ReadAhead}
-use Rattle.beside_tests.proofs.ahead.turn.Goals as goal
+use Rattle.beside_tests.proofs.beside_work.turn.Goals as goal
 
 pub returns-in-Paused-clause-ready : goal.returns-in-Paused-clause-ready
 returns-in-Paused-clause-ready g c = λ full.

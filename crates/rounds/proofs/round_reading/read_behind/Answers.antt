@@ -10,13 +10,13 @@ use Rattle.reading.specs.Reading.{GivesKept}
 use Rattle.rounds.specs.Ahead.{GivesBehind}
 use Rattle.rounds.specs.Fresh.{NumberedFrom}
 use Rattle.rounds.specs.Reading.{GivesRest, IfEnded}
-use Rattle.rounds.specs.declared.reading.Halt.{Halt}
-use Rattle.rounds.specs.declared.reading.Halt.TheVariants.{Ended}
+use Rattle.rounds.specs.declared.round_reading.Halt.{Halt}
+use Rattle.rounds.specs.declared.round_reading.Halt.TheVariants.{Ended}
 use Rattle.rounds.specs.declared.round.RoundEnd.{RoundEnd}
 use Rattle.rounds.specs.declared.round.RoundEnd.TheVariants.{Full}
 use Rattle.rounds.proofs.Rounding.{no_front}
 use Rattle.rounds.proofs.Pausing.{behind_stop, behind_more, ended_same, fills_behind, numbers_behind, round_last}
-use Rattle.rounds.proofs.reading.read_behind.Goals as goal
+use Rattle.rounds.proofs.round_reading.read_behind.Goals as goal
 
 pub returns-in-Err-clause-fills : goal.returns-in-Err-clause-fills
 returns-in-Err-clause-fills g c =

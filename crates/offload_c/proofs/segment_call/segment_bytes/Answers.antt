@@ -1,5 +1,5 @@
 use Rattle.offload_c.proofs.Outcomes.{segmented_gives}
-use Rattle.offload_c.proofs.segmenting.segment_bytes.Goals as goal
+use Rattle.offload_c.proofs.segment_call.segment_bytes.Goals as goal
 
 pub returns : goal.returns
 returns c =

@@ -3,7 +3,7 @@ use Rattle.block_pool.specs.PoolState.{home}
 use Rattle.rounds.specs.Filling.{reached}
 use Rattle.rounds.proofs.Pausing.{whole_on, whole_waits}
 use Rattle.rounds.proofs.Rounding.{round_none}
-use Rattle.rounds.proofs.reading.read_records.Goals as goal
+use Rattle.rounds.proofs.round_reading.read_records.Goals as goal
 
 pub read_more-blocks-requires-clause-round : goal.read_more-blocks-requires-clause-round
 read_more-blocks-requires-clause-round g c = round_none c.args.packets.now.items (home c.args.spares.now) 0 c.requires.none.0 c.requires.none.1 refl

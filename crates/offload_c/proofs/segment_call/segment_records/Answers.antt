@@ -1,7 +1,7 @@
 use Rattle.std.proofs.Common.{◌∙◌, ap, refl, Ok, Err}
 use Rattle.segmenting.specs.declared.segment.Moved.TheVariants.{One, End}
 use Rattle.offload_c.proofs.Records.{ahead_none, moves_is, goes_then, end_then, stop_then}
-use Rattle.offload_c.proofs.segmenting.segment_records.Goals as goal
+use Rattle.offload_c.proofs.segment_call.segment_records.Goals as goal
 
 pub records-init : goal.records-init
 records-init g c = record {
