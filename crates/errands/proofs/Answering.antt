@@ -19,9 +19,6 @@ one_here k n e = grind (arith, e)
 one_else : (k n : ℕ) → (k ≡ n → ⊥) → one k n ≡ 0
 one_else k n apart = grind (arith, apart)
 
-pub back_more : (first n : ℕ) (back : List ℕ) → AllBack first back → AllBack first (n ∷ back)
-back_more first n back h k lt = let m = times_more k n back in let b = h k lt in omega (arith, m, b)
-
 -- a number that was never answered isn't below the first one
 pub not_before : (first n : ℕ) (back : List ℕ) → AllBack first back → times n back ≡ 0 → first ≤ n
 not_before first n back h none = split (cases_lt n first)

@@ -3,9 +3,7 @@ use Rattle.std.proofs.Common.{◌≡◌, ℕ, zero, suc, ◌+◌, ◌<◌, ◌�
 use Rattle.std.specs.List.{AllByRecursion}
 use Rattle.std.specs.Prelude.{Result}
 use Rattle.std.proofs.lemmas.List.{length-set}
-use Rattle.block_weight.specs.WeightRule.{full_weight}
-use Rattle.frags.specs.Account.{Account, Tests, Keeps, KeepsBlocks, both, every, receipts_held, soles_home}
-use Rattle.frags.specs.OutcomesState.{IsBare}
+use Rattle.frags.specs.Account.{Account, Tests, Keeps, KeepsBlocks, both, every}
 use Rattle.frags.specs.declared.pieces.ShareFault.{ShareFault}
 use Rattle.skb.specs.SkbState.{SkbState, buffer_least, is_sole, of_buffer, weighed_in}
 use Rattle.gro.specs.declared.slot.Slot.{Slot as Held}
@@ -38,10 +36,6 @@ after_later j k ps qs le a = record { same = a.same; counts = a.counts; named = 
 pub same_after : (k : ℕ) (ps qs : List Held) → AreAfter k ps qs → AreSame ps qs
 same_after k ps qs a = record { same = a.same; counts = a.counts; named = a.named; held = a.held }
 
--- the same before any clone of a tap, of packets of which one clone may have been taken
-pub after_kept : (k : ℕ) (ps : List Held) → AreHeld ps → AreShared ps → WeighAtLeast full_weight ps → AreAfter k ps ps
-after_kept k ps held shared whole = after_none k ps held shared (weigh_less (weight_after k) full_weight ps (omega arith) whole)
-
 -- ---- a tap more
 
 -- an idle lane becomes another
@@ -66,28 +60,6 @@ tap_blocks i a p q ls d m lt idle h g bs j =
     let y = g bs j in
     let s = tap_set i ls d m lt idle (every bs) j in
     omega (arith, x, y, s.0, s.1)
-
--- a tap that got no clone
-pub none_keeps : (p : Account) (m : TapLane) → IsIdleTap m → Keeps p (both p (of_tap m))
-none_keeps p m idle t j = let z = idle_tap m idle t j in (omega (arith, z.0), omega (arith, z.1))
-
-pub none_blocks : (p : Account) (m : TapLane) → IsIdleTap m → KeepsBlocks p (both p (of_tap m))
-none_blocks p m idle bs j = let z = idle_tap m idle (every bs) j in omega (arith, z.0, z.1)
-
--- one that got clones, with outcomes that hold nothing
-pub clones_keep : (p q : Account) (m : TapLane) → IsBare m.outcomes → Keeps p (both q (of_clones m.clones.items)) → Keeps p (both q (of_tap m))
-clones_keep p q m bare h t j =
-    let x = h t j in
-    let r = ap (receipts_held t j) bare.1 in
-    let s = ap (soles_home t.blocks j) bare.0 in
-    (omega (arith, x.0, r), omega (arith, x.1, s, r))
-
-pub clones_blocks : (p q : Account) (m : TapLane) → IsBare m.outcomes → KeepsBlocks p (both q (of_clones m.clones.items)) → KeepsBlocks p (both q (of_tap m))
-clones_blocks p q m bare h bs j =
-    let x = h bs j in
-    let r = ap (receipts_held (every bs) j) bare.1 in
-    let s = ap (soles_home bs j) bare.0 in
-    omega (arith, x, r, s)
 
 -- ---- a tap that is given up
 

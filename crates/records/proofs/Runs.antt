@@ -16,7 +16,3 @@ mapped order q (i ∷ items) = ap (λ z. item_bytes order q (item_of i) ++ z) (m
 of_runs : (order : Order) (q : ℕ) (runs : List (List Packet)) → flat_map (item_bytes order q) (map merged_of runs) ≡ flat_map (record_bytes order) (map (record_of q) runs)
 of_runs order q [] = refl
 of_runs order q (run ∷ runs) = ap (λ z. item_bytes order q (merged_of run) ++ z) (of_runs order q runs)
-
-pub items_bytes : (order : Order) (q : ℕ) (runs : List (List Packet)) (items : List Item) → map item_of items ≡ map merged_of runs
-    → flat_map (λ (i : Item). item_bytes order q (item_of i)) items ≡ flat_map (record_bytes order) (map (record_of q) runs)
-items_bytes order q runs items are = mapped order q items ∙ ap (flat_map (item_bytes order q)) are ∙ of_runs order q runs

@@ -1,5 +1,5 @@
 -- A segment as a record, whose payload is written from where it lies.
-use Rattle.std.proofs.Common.{◌≡◌, ℕ, suc, ◌+◌, ◌-◌, ◌*◌, ◌<◌, ◌≤◌, List, ◌++◌, length, take, drop, min, refl, sym, ap, ◌∙◌, subst, arith, Option, Result, Ok, Err, length-append, length-drop, append_assoc}
+use Rattle.std.proofs.Common.{◌≡◌, ℕ, suc, ◌+◌, ◌-◌, ◌*◌, ◌<◌, ◌≤◌, List, ◌++◌, length, take, drop, min, refl, sym, ap, ◌∙◌, subst, arith, Option, Result, Ok, Err, length-append, length-drop}
 use Rattle.std.specs.Prelude.{OnOk}
 use Rattle.std.specs.List.{flat_map, range_with_len}
 use Rattle.std.specs.Io.KnownBytes.{Appends}
@@ -31,10 +31,6 @@ behind_first xs b rest n e few =
     ap (drop n) e ∙ ap (λ (z : ℕ). drop z (b ++ rest)) (sym k) ∙ sym (drop-drop (n - length b) (length b) (b ++ rest)) ∙ ap (drop (n - length b)) (drop_at b rest (length b) refl)
 
 -- ---- both headers in one row
-
-pub row_is : (row front own header headers segment : List ℕ) → row ≡ front ++ headers → front ≡ header → headers ++ own ≡ segment → row ++ own ≡ header ++ segment
-row_is row front own header headers segment e h s =
-    ap (λ (z : List ℕ). z ++ own) (e ∙ ap (λ (z : List ℕ). z ++ headers) h) ∙ append_assoc header headers own ∙ ap (λ (z : List ℕ). header ++ z) s
 
 -- and the record that they begin
 module _ (order : Order) (time : Time) (g : SegmentsState) (i n len : ℕ) (place : Place) (row header : List ℕ) (at : IsPayloadPlace g i place) (k : n ≡ min g.cut.m place.left) where

@@ -309,12 +309,6 @@ kept_work plan budget n m keep ps k done l (Ok w) on is merged watched are of =
       rising = subst (RiseFrom 0) is.same is.rising;
     }
 
--- what holds where the lanes have done all holds of the round that they came to
-pub done_work : {E X : Type 0} (P : Lanes → Type 0) (done : Result (Unit {0}) E) (l : Lanes) (kept : List TapClone) (n : ℕ) (r : Result WorkedState X) → OnOk done (P l)
-    → IfOk r (IsOfLanes done l kept n) → IfOk r (λ w. P w.lanes)
-done_work P done l kept n (Err e) h of = tt
-done_work P done l kept n (Ok w) h of = subst P (sym of.1) (ok_of done (P l) of.0 h)
-
 -- so many blocks are left, where n with what was given before were there
 pub blocks_left : {E X : Type 0} (done : Result (Unit {0}) E) (l : Lanes) (kept : List TapClone) (m n before after : ℕ) (r : Result WorkedState X) → m + after ≡ n + before
     → IfOk r (IsOfLanes done l kept m) → IfOk r (λ w. w.blocks + after ≡ n + before)

@@ -93,15 +93,6 @@ sizes (V2 h) = (omega arith, omega arith)
 pub there_more : (xs ys : List ℕ) → 1 ≤ length xs → off_head2_size ≤ length xs → any_head (xs ++ ys) ≡ any_head xs
 there_more xs ys some long = head_more xs ys some (omega (arith, long, (sizes (any_head xs)).1))
 
--- a header that isn't there in the first 12 bytes is of version 2, and has 16
-pub not_there : (xs ys : List ℕ) → 1 ≤ length xs → off_head_size ≤ length xs → length xs < head_size (any_head xs) → head_size (any_head (xs ++ ys)) ≡ off_head2_size
-not_there xs ys some long less =
-    ap (λ (n : ℕ). head_size (if n == 2 then V2 (off_head2 (xs ++ ys)) else V1 (off_head (xs ++ ys)))) (get_or_append_left xs ys 0 0 some) ∙ by (byte xs 0 == 2) less
-  where
-    by : (two : Bool) → length xs < head_size (if two then V2 (off_head2 xs) else V1 (off_head xs)) → head_size (if two then V2 (off_head2 (xs ++ ys)) else V1 (off_head (xs ++ ys))) ≡ off_head2_size
-    by true less = refl
-    by false less = absurd (omega (arith, less, long))
-
 -- ---- of a record
 
 -- as many bytes as the header has behind the first ones are in the buffer
