@@ -1,13 +1,10 @@
 -- What goes through the rings, how many blocks it holds, and what these weigh together, each by its name.
 use Rattle.std.specs.Prelude.{ℕ, ◌≡◌, ◌⊎◌, ◌+◌, ◌^◌, ◌≤◌, Option, None, Some, List, [], ◌∷◌}
 use Rattle.std.specs.Prelude.{length}
-use denote.RawPtr.{Ptr, null_ptr}
-use Rattle.std.specs.declared.alloc.Global.{Global}
 use Rattle.block_pool.specs.Giving.{GiverState}
 use Rattle.block_pool.specs.PassState.{risen}
 use Rattle.block_pool.specs.PoolState.{PoolState, home, weighed}
-use Rattle.rtrb.specs.declared.consumer.Consumer.{Consumer}
-use Rattle.rtrb.specs.Shared.{Names}
+use Rattle.crossing.specs.Tokens.{homes_of}
 use Rattle.rounds.specs.Benches.{IsRead}
 use Rattle.rounds.specs.declared.round.RoundRead.{RoundRead}
 use Rattle.rounds.specs.Weights.{weights_of}

@@ -1,4 +1,5 @@
 //! The side that reads and the side that works.
+ghost use Rattle.std.specs.Prelude.{◌≡◌};
 ghost use Rattle.pcap_io.specs.Readers.{place_of, SameLoan};
 ghost use Rattle.rounds.specs.Benches.{options_at};
 ghost use Rattle.rounds.specs.Reads.{is_full as is_full_end, reader_at};

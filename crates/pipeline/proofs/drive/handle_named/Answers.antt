@@ -1,6 +1,6 @@
 use Rattle.std.proofs.Common.{◌≡◌, ℕ, ◌∙◌, ◌+◌, ◌^◌, ◌≤◌, ◌++◌, Option, Some, List, ap, sym, subst, refl, arith}
 use Rattle.std.specs.Arc.{arc_value}
-use Rattle.block_pool.specs.Giving.{given_by}
+use Rattle.block_pool.specs.Giving.{given_by, weights_given}
 use Rattle.block_pool.specs.Listed.{blocks_in}
 use Rattle.block_pool.specs.PassState.{SharedState}
 use Rattle.block_pool.specs.PoolState.{home, weighed}
@@ -32,7 +32,9 @@ counted : (g : given.Over) (c : After-ending-ended g)
     → c.run_sides-end.new.intake.home + homes_of (known_items c.slots_beside.new.self) + home c.run_sides-end.new.kept + shelved c.close-tokens.result.1.items + home c.close-tokens.result.2.left
     + given_by c.run_sides-end.new.giver + blocks_of (known_items c.ending-ended.new.from) + blocks_out c.ending-ended.result ≡ c.args.rounds.now.blocks + blocks_in c.close-tokens.result.2.pass.taken
 counted g c =
-    all_counted c.run_sides-end.ensures.read.sum c.run_sides-end.ensures.worked.each c.run_sides-end.new.supply.desk.counted c.run_sides-end.new.supply.desk.taker.counted
+    all_counted c.run_sides-end.new.intake.home c.rounds.inside.intake.home (blocks_of (sent c.send_first.new.out)) (home c.run_sides-end.new.kept) (given_by c.run_sides-end.new.giver)
+    (blocks_of (received c.run_sides-end.new.from)) (blocks_of (known_items c.ending-ended.new.from)) (blocks_out c.ending-ended.result) (homes_of (known_items c.slots_beside.new.self))
+    (shelved c.new.result.shelves.items) (home c.new.result.taker.left) c.run_sides-end.ensures.read.sum c.run_sides-end.ensures.worked.each c.run_sides-end.new.supply.desk.counted c.run_sides-end.new.supply.desk.taker.counted
     (ap (λ t. homes_of (received t)) c.new.ensures.same.0 ∙ ap homes_of c.args.ways.unused.1) (ap (λ t. blocks_in t.pass.taken) c.new.ensures.same.2 ∙ ap blocks_in c.args.ways.untaken.0)
     (ap blocks_in c.args.ways.ungiven.1)
     (sym (ap (λ (l : List (Option Parcel)). blocks_of l + blocks_of (known_items c.slots_beside-waiting.new.self)) c.slots_beside-waiting.ensures.looked.1)
@@ -58,7 +60,7 @@ bring_home-requires g c =
           (c.requires.ways.1 ∙ sym d.pooled ∙ sym (ap (λ t. arc_value t.lists) c.close-tokens.ensures.same.2))
           (giver_back (arc_value w.taker.lists) (Some w.giver) c.run_sides-end.new.giver
           (record { it = w.giver; is = refl; pool_is = w.same; parts = w.ungiven.0; none = w.ungiven.2 }) k.lends);
-      room = room_home (counted g (goal.at.bring_home-requires g c).After-ending-ended) (r.same.0 ∙ ap (λ (s : RoundsState). s.blocks) c.rounds.view_is);
+      room = room_home (blocks_of (known_items c.ending-ended.new.from)) (blocks_out c.ending-ended.result) (blocks_in c.close-tokens.result.2.pass.taken) (counted g (goal.at.bring_home-requires g c).After-ending-ended) (r.same.0 ∙ ap (λ (s : RoundsState). s.blocks) c.rounds.view_is);
     }
 
 abbrev lent : IntakeState → BenchState → RoundsState
@@ -92,7 +94,7 @@ pub drop_parcels-requires : goal.drop_parcels-requires
 drop_parcels-requires g c =
     let f = c.bring_home.ensures in
     record {
-      room = room_left f.home (counted g (goal.at.drop_parcels-requires g c).After-ending-ended)
+      room = room_left c.bring_home.new.intake.home (blocks_in c.close-tokens.result.2.pass.taken) (blocks_of (known_items c.ending-ended.new.from)) (blocks_out c.ending-ended.result) f.home (counted g (goal.at.drop_parcels-requires g c).After-ending-ended)
           (ap (λ (i : IntakeState). i.blocks) f.same ∙ c.run_sides-end.ensures.read.same.0 ∙ ap (λ (s : RoundsState). s.blocks) c.rounds.view_is);
     }
 
@@ -118,7 +120,9 @@ returns-clause-handled g c =
     let keep = ap (λ (b : BenchState). b.keep) p.same ∙ ap (λ (s : RoundsState). s.keep) view in
     let named : (h : ℕ → ℕ) → weighed h new.stock + weights_out c.ending-ended.result h ≡ weighed h first.stock + weights_of c.args.read.round h =
     λ h.
-    all_weighed (r.named h) (k.each_named h) (c.run_sides-end.new.supply.desk.weighs h) (c.run_sides-end.new.supply.desk.taker.weighs h)
+    all_weighed (weighed h c.run_sides-end.new.intake.stock) (weighed h c.run_sides-end.new.kept.blocks) (weights_given c.run_sides-end.new.giver h)
+    (weights_sent h (received c.run_sides-end.new.from)) (weights_sent h left) (weights_out c.ending-ended.result h) (weights_back h (known_items c.slots_beside.new.self))
+    (weights_shelved h c.new.result.shelves.items) (weighed h c.new.result.taker.left.blocks) (weighed h c.bring_home.new.intake.stock) (r.named h) (k.each_named h) (c.run_sides-end.new.supply.desk.weighs h) (c.run_sides-end.new.supply.desk.taker.weighs h)
     (ap (λ t. weights_back h (received t)) c.new.ensures.same.0 ∙ ap (weights_back h) w.unused.1) (ap (λ t. weights_listed h t.pass.taken) c.new.ensures.same.2 ∙ ap (weights_listed h) w.untaken.0)
     (ap (weights_listed h) w.ungiven.1)
     (sym (ap (λ (l : List (Option Parcel)). weights_sent h l + weights_sent h known) a.looked.1) ∙ sym (weights_sent_append h (received c.slots_beside-waiting.new.self) known)
@@ -145,7 +149,7 @@ returns-clause-handled g c =
       );
       all = ap (λ (s : RoundsState). s.home) d;
       after = ap (λ (s : RoundsState). s.taken) d ∙ ap (λ (i : IntakeState). i.taken) f.same;
-      pauses = few_home r.paused (ap (λ (s : RoundsState). s.pauses) d ∙ ap (λ (i : IntakeState). i.pauses) f.same) (ap (λ (s : RoundsState). s.pauses) view)
+      pauses = few_home c.new.result.taker.pass.empties r.paused (ap (λ (s : RoundsState). s.pauses) d ∙ ap (λ (i : IntakeState). i.pauses) f.same) (ap (λ (s : RoundsState). s.pauses) view)
           (ap (λ (s : RoundsState). s.empties) d ∙ f.empties) (r.same.2 ∙ ap (λ (s : RoundsState). s.empties) view) (ap (λ t. t.pass.empties) c.close-tokens.ensures.same.2);
     })
     (record {
@@ -160,7 +164,7 @@ returns-clause-handled g c =
     c.args.into.now c.run_sides-end.new.into
     (counted_as did g.H.RoundHandler.stopped g.H.RoundHandler.ready (options_of first) (options_at c.prepare.new.bench) first.keep c.prepare.new.bench.keep (2 ^ 32 + 4096) c.run_sides-end.new.into options
     keep k.ready)
-    c.run_sides-end.result c.ending-ended.result left (whole_home f.home (counted g (goal.at.returns-clause-handled g c).After-ending-ended)) named
+    c.run_sides-end.result c.ending-ended.result left (whole_home c.bring_home.new.intake.home (blocks_in c.close-tokens.result.2.pass.taken) (blocks_of left) (blocks_out c.ending-ended.result) f.home (counted g (goal.at.returns-clause-handled g c).After-ending-ended)) named
     (ends_as did g.H.RoundHandler.stopped (options_of first) (options_at c.prepare.new.bench) (received c.run_sides-end.new.from) c.args.into.now c.run_sides-end.new.into c.run_sides-end.result
     options k.handled)
     e.some e.none
