@@ -2,12 +2,14 @@
 //! were worked out by hand.
 ghost use Rattle.std.specs.Prelude.{◌≡◌, ◌≤◌, [], true, IfOk};
 ghost use Rattle.rounds.specs.Merging.{options_of};
-ghost use Rattle.checking.specs.Counts.{totals_of};
+ghost use Rattle.check_totals.specs.Counts.{totals_of};
 
 use crate::driven::{PAST_THE_FIRST, Passing, READER};
 use crate::memory::{How, capture, reads_beside, sink_of, source_of};
 use crate::plans::plain;
-use checking::{CheckEnd, Totals, check_all, check_beside, write_totals};
+use checking::{CheckEnd, check_all};
+use checking_beside::check_beside;
+use check_totals::{Totals, write_totals};
 use lanes::Alone;
 use off_io::{Feed, Gate, Meeting, NoGate, Source, Who};
 use pcap_io::{CaptureReader, Link};

@@ -3,10 +3,10 @@
 
 ghost use Rattle.std.specs.Prelude.{◌≡◌, ◌≤◌, ◌^◌, length};
 ghost use Rattle.std.specs.List.{AllByRecursion};
-ghost use Rattle.checking.specs.Counts.{IsQueueWithin};
+ghost use Rattle.check_totals.specs.Counts.{IsQueueWithin};
 
 use crate::memory::sink_of;
-use checking::{QueueTotals, TapTotals, Totals, write_made, write_totals};
+use check_totals::{QueueTotals, TapTotals, Totals, write_made, write_totals};
 use off_io::WriteFault;
 use std::alloc::Global;
 use std::process::Abort;

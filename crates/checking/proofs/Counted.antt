@@ -10,9 +10,9 @@ use Rattle.offload_model.specs.Need.{round_need}
 use Rattle.offload_model.specs.Passing.{NoMemory}
 use Rattle.offload_model.specs.Written.{Options}
 use Rattle.gro.specs.Slots.{packet_of}
-use Rattle.checking.specs.Counts.{Counts, added, round_totals, totals_of, HasLanes}
-use Rattle.checking.specs.Checking.{counting}
-use Rattle.checking.specs.Tallies.{Tallies}
+use Rattle.check_totals.specs.Counts.{Counts, added, round_totals, totals_of, HasLanes}
+use Rattle.check_totals.specs.Checking.{counting}
+use Rattle.check_totals.specs.Tallies.{Tallies}
 use Rattle.rounds.specs.declared.round.RoundEnd.{RoundEnd}
 use Rattle.rounds.specs.declared.round.RoundEnd.TheVariants as rounds
 use Rattle.rounds.specs.declared.round.RoundRead.{RoundRead}

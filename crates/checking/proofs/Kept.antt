@@ -21,8 +21,8 @@ use Rattle.lanes.specs.Work.{AreMerged, AreWatched}
 use Rattle.rounds.specs.Lanes.{IsKeptWorkOf}
 use Rattle.rounds.specs.RoundsState.{WorkedState}
 use Rattle.checking.specs.Compared.{MayCompareWork}
-use Rattle.checking.proofs.Laning.{are_captured, lanes_known}
-use Rattle.checking.proofs.Totalling.{watched_short}
+use Rattle.comparing.proofs.Laning.{are_captured, lanes_known}
+use Rattle.comparing.proofs.Totalling.{watched_short}
 
 -- what comparing wants to know of them
 pub record Lent (o : Options) (ps : List Packet) (lanes : Lanes) (kept : List TapClone) : Type 0 where

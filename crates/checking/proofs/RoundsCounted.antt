@@ -23,14 +23,14 @@ use Rattle.offload_model.specs.Written.{Options}
 use Rattle.offload_model.proofs.Needs.{needed_append, needs_add}
 use Rattle.gro.specs.declared.slot.Slot.{Slot as Held}
 use Rattle.gro.specs.Slots.{packet_of}
-use Rattle.checking.specs.declared.totals.QueueTotals.{QueueTotals}
-use Rattle.checking.specs.declared.totals.TapTotals.{TapTotals}
-use Rattle.checking.specs.Counts.{Counts, added, round_totals, totals_of, no_lanes, HasLanes, HasSameLanes, IsWithin, IsQueueWithin, IsTapWithin}
-use Rattle.checking.specs.Checking.{Tally, counting}
-use Rattle.checking.specs.Tallies.{Tallies, AddsGone}
-use Rattle.checking.proofs.Bounds.{bounds_add, totals_are_few}
-use Rattle.checking.proofs.Summing.{added_assoc, added_none, lanes_stay}
-use Rattle.checking.proofs.Tallying.{totals_add_up, counting_goes_by_round}
+use Rattle.check_totals.specs.declared.totals.QueueTotals.{QueueTotals}
+use Rattle.check_totals.specs.declared.totals.TapTotals.{TapTotals}
+use Rattle.check_totals.specs.Counts.{Counts, added, round_totals, totals_of, no_lanes, HasLanes, HasSameLanes, IsWithin, IsQueueWithin, IsTapWithin}
+use Rattle.check_totals.specs.Checking.{Tally, counting}
+use Rattle.check_totals.specs.Tallies.{Tallies, AddsGone}
+use Rattle.check_totals.proofs.Bounds.{bounds_add, totals_are_few}
+use Rattle.check_totals.proofs.Summing.{added_assoc, added_none, lanes_stay}
+use Rattle.check_totals.proofs.Tallying.{totals_add_up, counting_goes_by_round}
 use Rattle.rounds.specs.Fresh.{NumberedFrom}
 use Rattle.rounds.specs.Merging.{TakesAll}
 use Rattle.rounds.specs.Reading.{GivesRound, Holds, Exceeds}

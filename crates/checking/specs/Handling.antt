@@ -11,9 +11,9 @@ use Rattle.offload_model.specs.Need.{round_need}
 use Rattle.offload_model.specs.Passing.{Ending, Stopped, Nowhere, AtFault, AtRound, ReadFault, NoMemory}
 use Rattle.offload_model.specs.Steps.{ending_behind, in_front}
 use Rattle.offload_model.specs.Written.{Options}
-use Rattle.checking.specs.Counts.{Counts, added, HasLanes, IsWithin}
-use Rattle.checking.specs.Checking.{counting}
-use Rattle.checking.specs.Tallies.{CountsOn, Tallies}
+use Rattle.check_totals.specs.Counts.{Counts, added, HasLanes, IsWithin}
+use Rattle.check_totals.specs.Checking.{counting}
+use Rattle.check_totals.specs.Tallies.{CountsOn, Tallies}
 use Rattle.rounds.specs.declared.round.RoundEnd.{RoundEnd}
 use Rattle.rounds.specs.declared.round.RoundEnd.TheVariants as read_ends
 use Rattle.rounds.specs.Benches.{options_at, BringsBeside, IsLent, IsRead, Lends, MayBring}

@@ -3,9 +3,9 @@ use Rattle.std.specs.Prelude.{◌≡◌, ℕ, ◌≤◌, ◌^◌}
 use Rattle.block_pool.specs.PoolState.{weighed}
 use Rattle.off_io.specs.Faults.{Rose}
 use Rattle.off_io.specs.Told.{Told}
-use Rattle.checking.specs.Counts.{Counts, HasLanes, IsWithin}
-use Rattle.checking.specs.Checking.{counting}
-use Rattle.checking.specs.Tallies.{Tallies}
+use Rattle.check_totals.specs.Counts.{Counts, HasLanes, IsWithin}
+use Rattle.check_totals.specs.Checking.{counting}
+use Rattle.check_totals.specs.Tallies.{Tallies}
 use Rattle.rounds.specs.Handled.{FewPauses}
 use Rattle.rounds.specs.Merging.{options_of, TakesAll}
 use Rattle.rounds.specs.RoundsState.{RoundsState}

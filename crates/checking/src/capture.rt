@@ -10,9 +10,9 @@ ghost use Rattle.pcap_io.specs.Readers.{place_of, source_of, SameLoan};
 ghost use Rattle.offload_model.specs.Need.{round_need};
 ghost use Rattle.gro.specs.Slots.{packet_of};
 ghost use Rattle.checking.specs.Compared.{compared_work, MayCompareWork};
-ghost use Rattle.checking.specs.Counts.{added, round_totals, totals_of, HasLanes, IsWithin};
-ghost use Rattle.checking.specs.Checking.{counting};
-ghost use Rattle.checking.specs.Tallies.{Tallies};
+ghost use Rattle.check_totals.specs.Counts.{added, round_totals, totals_of, HasLanes, IsWithin};
+ghost use Rattle.check_totals.specs.Checking.{counting};
+ghost use Rattle.check_totals.specs.Tallies.{Tallies};
 ghost use Rattle.rounds.specs.Benches.{options_at, Brings, MayBring};
 ghost use Rattle.rounds.specs.Lanes.{IsKeptWorkOf};
 ghost use Rattle.rounds.specs.Merging.{options_of};
@@ -20,8 +20,8 @@ ghost use Rattle.rounds.specs.Weights.{weights_worked};
 ghost use Rattle.checking.specs.Handling.{ending_of, CountsLast, IsCounted, MayCount};
 
 use crate::round::check_bench;
-use crate::totals::Totals;
 use block_pool::{Giver, Pool};
+use check_totals::Totals;
 use lanes::Works;
 use off_io::Source;
 use pcap_io::{CapFault, CaptureReader};
@@ -101,12 +101,12 @@ fn last_round<W: Works>(
 
 /// Each round is compared with its packets, and what it counts is added to totals.
 #[derive(Drop)]
-pub(crate) struct Counting;
+pub struct Counting;
 
 impl RoundHandler<Totals, CheckEnd> for Counting {
     ghost use Rattle.std.specs.Prelude.{◌≡◌, true, map};
     ghost use Rattle.gro.specs.Slots.{packet_of};
-    ghost use Rattle.checking.specs.Counts.{round_totals, HasLanes};
+    ghost use Rattle.check_totals.specs.Counts.{round_totals, HasLanes};
     ghost use Rattle.checking.specs.Handling.{AreOf, CountsRound};
     ghost use Rattle.checking.specs.declared.capture.CheckEnd.TheVariants.{NoMemory};
 

@@ -6,10 +6,10 @@ ghost use Rattle.rounds.specs.Benches.{options_at};
 ghost use Rattle.rounds.specs.Lanes.{IsKeptWorkOf};
 ghost use Rattle.rounds.specs.Merging.{options_of};
 ghost use Rattle.checking.specs.Compared.{compared_work, MayCompareWork};
-ghost use Rattle.checking.specs.Counts.{round_totals};
+ghost use Rattle.check_totals.specs.Counts.{round_totals};
 
-use crate::lane_totals::check_lanes;
-use crate::totals::Totals;
+use check_totals::Totals;
+use comparing::check_lanes;
 use lanes::LanePlan;
 use rounds::{Bench, Rounds, Worked};
 use std::alloc::AllocError;

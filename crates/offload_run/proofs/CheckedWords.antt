@@ -17,13 +17,13 @@ use Rattle.offload_model.specs.Passing.{IsNoRound}
 use Rattle.offload_model.specs.Written.{Options}
 use Rattle.offload_words.specs.declared.merge.MergeOptions.{MergeOptions}
 use Rattle.offload_words.specs.declared.check.CheckOptions.{CheckOptions}
-use Rattle.checking.specs.declared.totals.QueueTotals.{QueueTotals}
+use Rattle.check_totals.specs.declared.totals.QueueTotals.{QueueTotals}
 use Rattle.offload_model.specs.Captured.{AreCaptured}
 use Rattle.offload_model.proofs.Flows.{rounds_captured}
-use Rattle.checking.proofs.Returning.{records_return}
-use Rattle.checking.specs.Counts.{totals_of, queue_totals, queue_sum}
-use Rattle.checking.specs.Lines.{check_lines}
-use Rattle.checking.specs.Checking.{checking, checking_whole}
+use Rattle.check_totals.proofs.Returning.{records_return}
+use Rattle.check_totals.specs.Counts.{totals_of, queue_totals, queue_sum}
+use Rattle.check_totals.specs.Lines.{check_lines}
+use Rattle.check_totals.specs.Checking.{checking, checking_whole}
 use Rattle.offload_run.specs.declared.status.Status.{Status}
 use Rattle.offload_run.specs.declared.status.Status.TheVariants as statuses
 use Rattle.offload_run.specs.Output.{options}

@@ -4,7 +4,7 @@ use Rattle.off_io.specs.Content.{AppendsPrefix}
 use Rattle.off_io.specs.Told.{Told}
 use Rattle.off_io.proofs.Telling.{Told-weaker}
 use Rattle.offload_model.specs.Passing.{merging_whole, segmenting_whole, PrefixUnless, WritesPrefix}
-use Rattle.checking.specs.Checking.{checking_whole}
+use Rattle.check_totals.specs.Checking.{checking_whole}
 use Rattle.offload_words.specs.declared.merge.MergeOptions.{MergeOptions}
 use Rattle.offload_words.specs.declared.segment.SegmentOptions.{SegmentOptions}
 use Rattle.offload_run.specs.Output.{options}

@@ -19,10 +19,10 @@ use Rattle.offload_model.specs.Passing.{Passed, Ending, Stop, Stopped, Nowhere, 
 use Rattle.offload_model.specs.Written.{Options}
 use Rattle.offload_model.proofs.Passings.{prefixes_are_written, prefixes_to_whole}
 use Rattle.offload_model.specs.PassingLaws.{SegmentsGrow}
-use Rattle.checking.specs.Counts.{Counts, totals_of}
-use Rattle.checking.specs.Lines.{check_lines}
-use Rattle.checking.specs.Checking.{counting, checking, checking_whole}
-use Rattle.checking.specs.Tallies.{Tallies, TotalsAreTold}
+use Rattle.check_totals.specs.Counts.{Counts, totals_of}
+use Rattle.check_totals.specs.Lines.{check_lines}
+use Rattle.check_totals.specs.Checking.{counting, checking, checking_whole}
+use Rattle.check_totals.specs.Tallies.{Tallies, TotalsAreTold}
 use Rattle.checking.specs.declared.capture.CheckEnd.{CheckEnd}
 use Rattle.checking.specs.declared.capture.CheckEnd.TheVariants as ends
 use Rattle.checking.specs.Handling.{ending_of as check_ending}

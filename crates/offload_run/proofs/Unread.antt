@@ -7,7 +7,7 @@ use Rattle.off_io.specs.Faults.{Rose}
 use Rattle.off_io.specs.Told.{Told}
 use Rattle.off_io.proofs.Telling.{Told-same}
 use Rattle.offload_model.specs.Passing.{PrefixUnless, merging_whole, segmenting_whole}
-use Rattle.checking.specs.Checking.{checking_whole}
+use Rattle.check_totals.specs.Checking.{checking_whole}
 use Rattle.offload_words.specs.declared.merge.MergeOptions.{MergeOptions}
 use Rattle.offload_words.specs.declared.check.CheckOptions.{CheckOptions}
 use Rattle.offload_words.specs.declared.words.Command.{Command}

@@ -11,10 +11,10 @@ use Rattle.offload_model.specs.Passing as passing
 use Rattle.offload_model.specs.Written.{Options}
 use Rattle.offload_words.specs.declared.merge.MergeOptions.{MergeOptions}
 use Rattle.offload_words.specs.declared.check.CheckOptions.{CheckOptions}
-use Rattle.checking.specs.Counts.{Counts, totals_of}
-use Rattle.checking.specs.Lines.{check_lines, made_line}
-use Rattle.checking.specs.Checking.{counting, checking_whole}
-use Rattle.checking.specs.Tallies.{Tallies}
+use Rattle.check_totals.specs.Counts.{Counts, totals_of}
+use Rattle.check_totals.specs.Lines.{check_lines, made_line}
+use Rattle.check_totals.specs.Checking.{counting, checking_whole}
+use Rattle.check_totals.specs.Tallies.{Tallies}
 use Rattle.checking.specs.declared.capture.CheckEnd.{CheckEnd}
 use Rattle.checking.specs.declared.capture.CheckEnd.TheVariants as ends
 use Rattle.checking.specs.Handling.{ending_of as check_ending}

@@ -25,8 +25,8 @@ use Rattle.offload_words.specs.declared.segment.SegmentOptions.{SegmentOptions}
 use Rattle.offload_words.specs.declared.check.CheckOptions.{CheckOptions}
 use Rattle.offload_words.specs.declared.words.Command.TheVariants.{Merge, Segment, Check}
 use Rattle.cap_make.specs.Capture.{made, made_packets}
-use Rattle.checking.specs.Counts.{totals_of, queue_sum}
-use Rattle.checking.specs.Lines.{check_lines, made_line}
+use Rattle.check_totals.specs.Counts.{totals_of, queue_sum}
+use Rattle.check_totals.specs.Lines.{check_lines, made_line}
 use Rattle.offload_run.specs.declared.status.Status.{Status}
 use Rattle.offload_run.specs.declared.status.Status.TheVariants as statuses
 use Rattle.offload_run.specs.Output.{options}

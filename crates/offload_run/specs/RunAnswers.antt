@@ -4,7 +4,7 @@ use Rattle.off_io.specs.Faults.{Rose}
 use Rattle.off_io.specs.Told.{Told}
 use Rattle.pcap_io.specs.declared.heads.Link.TheVariants.{Ethernet, Offload}
 use Rattle.offload_model.specs.Passing.{merging_whole, segmenting_whole, PrefixUnless}
-use Rattle.checking.specs.Checking.{checking_whole}
+use Rattle.check_totals.specs.Checking.{checking_whole}
 use Rattle.offload_model.specs.Passing as passing
 use Rattle.offload_words.specs.declared.words.Command.{Command}
 use Rattle.offload_words.specs.declared.words.Command.TheVariants.{Merge, Segment, Check, Make}

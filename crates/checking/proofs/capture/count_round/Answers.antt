@@ -3,7 +3,7 @@ use Rattle.std.proofs.lemmas.List.{length-map}
 use Rattle.offload_model.specs.Captured.{AreCaptured}
 use Rattle.offload_model.specs.Written.{Options}
 use Rattle.gro.specs.Slots.{packet_of}
-use Rattle.checking.specs.Counts.{added, round_totals}
+use Rattle.check_totals.specs.Counts.{added, round_totals}
 use Rattle.rounds.specs.Lanes.{IsKeptWorkOf}
 use Rattle.rounds.specs.Benches.{options_at}
 use Rattle.checking.proofs.Kept.{may_compare}

@@ -3,7 +3,7 @@ use Rattle.std.specs.Prelude.{IfOk}
 use Rattle.lanes.specs.declared.plan.LanePlan.{LanePlan}
 use Rattle.lanes.specs.Work.{IsPlan, options_by}
 use Rattle.rounds.specs.Lanes.{IsKeptWorkOf}
-use Rattle.checking.specs.Counts.{Counts, round_totals}
+use Rattle.check_totals.specs.Counts.{Counts, round_totals}
 use Rattle.checking.proofs.round.check_bench.Goals as goal
 
 pub check_worked-requires-clause-plan : goal.check_worked-requires-clause-plan

@@ -8,11 +8,11 @@ use Rattle.taps.specs.Clones.{packet_of}
 use Rattle.lanes.specs.declared.lane.Lanes.{Lanes}
 use Rattle.lanes.specs.Work.{options_by}
 use Rattle.lanes.proofs.Planned.{spread_below}
-use Rattle.checking.specs.Compared.{compared_lanes, AreShortTaps}
-use Rattle.checking.specs.Counts.{Counts, round_totals}
-use Rattle.checking.specs.Items.{MayCompare}
+use Rattle.comparing.specs.Compared.{compared_lanes, AreShortTaps}
+use Rattle.check_totals.specs.Counts.{Counts, round_totals}
+use Rattle.comparing.specs.Items.{MayCompare}
 use Rattle.checking.proofs.Kept.{are_lent}
-use Rattle.checking.proofs.Laning.{are_captured}
+use Rattle.comparing.proofs.Laning.{are_captured}
 use Rattle.checking.proofs.round.check_worked.Goals as goal
 
 pub check_lanes-requires-clause-lanes : goal.check_lanes-requires-clause-lanes

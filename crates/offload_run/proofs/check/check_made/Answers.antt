@@ -1,5 +1,5 @@
 use Rattle.std.proofs.Common.{ap, arith}
-use Rattle.checking.specs.Lines.{made_line}
+use Rattle.check_totals.specs.Lines.{made_line}
 use Rattle.offload_run.proofs.Telling.{made_says}
 use Rattle.offload_run.proofs.check.check_made.Goals as goal
 

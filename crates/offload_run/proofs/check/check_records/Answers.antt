@@ -1,7 +1,7 @@
 use Rattle.std.proofs.Common.{rules, ◌≡◌, []}
 use Rattle.pcap_io.specs.declared.heads.Link.TheVariants.{Ethernet}
 use Rattle.pcap_io.specs.Places.{first_place}
-use Rattle.checking.specs.Counts.{totals_of}
+use Rattle.check_totals.specs.Counts.{totals_of}
 use Rattle.rounds.specs.Merging.{options_of as rounds_options}
 use Rattle.offload_run.specs.Checking.{first_line}
 use Rattle.offload_run.specs.Output.{options}

@@ -1,5 +1,5 @@
 use Rattle.std.proofs.Common.{◌++◌}
-use Rattle.checking.specs.Lines.{check_lines}
+use Rattle.check_totals.specs.Lines.{check_lines}
 use Rattle.offload_run.specs.Checking.{first_line}
 use Rattle.offload_run.proofs.Telling.{lines_flushed}
 use Rattle.offload_run.proofs.check.end_with_lines.Goals as goal

@@ -1,7 +1,7 @@
 use Rattle.std.proofs.lemmas.Result.{err_from_is_err_and}
 use Rattle.off_io.proofs.Appending.{prefix_more}
 use Rattle.off_io.proofs.Owing.{then_err}
-use Rattle.checking.specs.Lines.{check_lines}
+use Rattle.check_totals.specs.Lines.{check_lines}
 use Rattle.offload_run.specs.Checking.{first_line}
 use Rattle.offload_run.proofs.check.write_lines.Goals as goal
 

@@ -1,6 +1,0 @@
-use Rattle.std.proofs.Common.{drop}
-use Rattle.checking.specs.Items.{AreInBytes}
-use Rattle.checking.proofs.in_bytes.are_in_bytes.Given as goal
-
-abbrev pub invariant-loop-i : goal.invariant-loop-i
-invariant-loop-i l = AreInBytes (drop l.i l.packets) → AreInBytes l.packets

@@ -1,5 +1,0 @@
-use Rattle.checking.proofs.Tallying.{totals_add_up}
-use Rattle.checking.proofs.laws.totals_add_up.Goals as goal
-
-pub returns : goal.returns
-returns c = record { law = totals_add_up }

@@ -1,0 +1,30 @@
+//! Checks captures by two sides: the next rounds are read while one is worked and compared, with all who run lanes
+//! beside them.
+//!
+//! [`check_beside`] says what `checking::check_all` does, word for word. It goes by the driver that merges
+//! (`pipeline::handle_beside`), over what `checking` does with a round (`Counting`).
+//!
+//! Proved, by the names of the clauses of [`check_beside`]: the totals are those of the packets within the blocks, and
+//! checking ends where the capture's bytes stop it (`given`); all blocks are home again, just those that were, whatever
+//! the ending (`home`, `named`); and reading has no more pauses than takes that found nothing (`pauses`).
+//!
+//! ```
+//! let end = check_beside(
+//!     &rt,
+//!     alloc,
+//!     &mut rounds,
+//!     &mut reader,
+//!     &mut totals,
+//!     &NoGate,
+//! );
+//! ```
+//!
+//! Tests: `beside_tests`, modules `checks` and `pausing`.
+//!
+//! Why so: it alone wants two sides and a crew, so that comparing and counting are proved beside these, and whoever
+//! checks round by round stands on neither.
+#![tactic(auto)]
+
+mod beside;
+
+pub use beside::check_beside;

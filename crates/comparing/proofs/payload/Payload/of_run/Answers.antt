@@ -1,0 +1,19 @@
+use Rattle.comparing.proofs.Unread.{run_in_head, run_is, run_left}
+use Rattle.comparing.proofs.payload.Payload.of_run.Goals as goal
+
+pub behind-requires : goal.behind-requires
+behind-requires c = record {
+  inside = run_in_head c.args.packets.now c.args.next.now c.args.run.now c.requires.slots c.requires.linked c.requires.run c.requires.several c.index-packets-first.result
+      c.headers_len-from.result c.headers_len-from.ensures.size;
+}
+
+pub invariant_of-result : goal.invariant_of-result
+invariant_of-result c =
+    run_left c.args.packets.now c.args.next.now c.args.run.now c.requires.slots c.requires.linked c.requires.run c.requires.several c.index-packets-first.result
+    c.headers_len-from.result c.headers_len-from.ensures.size c.behind.result c.behind.ensures.all c.len.result c.len.ensures.len
+
+pub returns : goal.returns
+returns c = record {
+  all = run_is c.args.packets.now c.args.next.now c.args.run.now c.requires.slots c.requires.linked c.requires.run c.requires.several c.index-packets-first.result
+      c.headers_len-from.result c.headers_len-from.ensures.size c.behind.result c.behind.ensures.all;
+}
