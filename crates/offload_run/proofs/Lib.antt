@@ -1,14 +1,3 @@
-mod Behind
-mod Segmenting
-mod Used
 mod Makings
-mod Lining
-mod Telling
-mod Prefixes
-mod Numbered
-mod BackAgain
-mod PlainWords
-mod PrefixWords
-mod CheckedWords
+mod Engines
 mod Unread
-mod BothWays

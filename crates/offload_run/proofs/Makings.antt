@@ -5,9 +5,9 @@ use Rattle.std.proofs.KnownBytes.{Appends-kept}
 use Rattle.off_io.specs.Content.{SaysFlushed}
 use Rattle.offload_words.specs.declared.make.MakeOptions.{MakeOptions}
 use Rattle.cap_make.specs.Capture.{made}
-use Rattle.offload_run.specs.declared.status.Status.{Status}
-use Rattle.offload_run.specs.declared.status.Status.TheVariants as statuses
-use Rattle.offload_run.specs.Making.{MakeAnswers}
+use Rattle.command_answers.specs.declared.status.Status.{Status}
+use Rattle.command_answers.specs.declared.status.Status.TheVariants as statuses
+use Rattle.command_answers.specs.Making.{MakeAnswers}
 use Rattle.off_io.proofs.Owing.{prefix_whole}
 
 -- all was written, and then the sink was flushed, or failed

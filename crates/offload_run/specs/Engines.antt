@@ -1,25 +1,27 @@
 -- What an engine tells when a command that read a capture is done: all of its blocks are home, and it took at least as
 -- many as the bytes that were given need, or its count stands at its last value.
-use Rattle.std.specs.Prelude.{◌≡◌, ℕ, ◌-◌, ◌^◌, ◌≤◌, List, length, map, min, Option, None, Some, [], ⊤}
+use Rattle.std.specs.Prelude.{◌≡◌, ℕ, ◌-◌, ◌^◌, ◌≤◌, List, min, Option, None, Some, [], ⊤}
 use Rattle.off_io.specs.Told.{Told}
 use Rattle.pcap_io.specs.declared.heads.Link.TheVariants.{Ethernet, Offload}
-use Rattle.pcap_io.specs.Capture.{Packet, reads}
-use Rattle.pcap_io.specs.Limits.{off_head_size}
-use Rattle.offload_model.specs.Need.{needed, round_need}
+use Rattle.pcap_io.specs.Capture.{reads}
+use Rattle.offload_model.specs.Need.{round_need}
 use Rattle.cap_make.specs.Capture.{made}
 use Rattle.offload_words.specs.declared.check.CheckOptions.{CheckOptions}
 use Rattle.offload_words.specs.declared.words.Command.{Command}
 use Rattle.offload_words.specs.declared.words.Command.TheVariants.{Merge, Segment, Check, Make}
 use Rattle.offload_run.specs.declared.engine.Engine.{Engine}
 use Rattle.offload_run.specs.declared.engine.Engine.TheVariants as engines
-use Rattle.offload_run.specs.declared.status.Status.{Status}
-use Rattle.offload_run.specs.declared.status.Status.TheVariants.{Ok}
-use Rattle.offload_run.specs.Ending.{HasBlocks}
+use Rattle.rounds.specs.RoundsState.{RoundsState, SegmentState}
+use Rattle.segment_command.specs.Leaving.{records_need}
 
--- the need of all records, each a round of its own: the bytes that each offload header has, of either version, aren't
--- read into blocks
-abbrev pub records_need : List Packet → ℕ
-records_need rs = needed (map (λ r. length r.frame - off_head_size) rs)
+-- the engine of what a command left
+abbrev pub merging : Option RoundsState → Option Engine
+merging None = None
+merging (Some rounds) = Some (engines.Merge rounds)
+
+abbrev pub segmenting : Option SegmentState → Option Engine
+segmenting None = None
+segmenting (Some run) = Some (engines.Segment run)
 
 -- what is left of the source before and after
 abbrev pub HasMerged : ℕ → (List ℕ → ℕ) → Option Engine → Option (List ℕ) → Option (List ℕ) → Type 0
@@ -68,10 +70,3 @@ LeavesHome (Merge o) engine = IsMergeHome o.blocks engine
 LeavesHome (Segment o) engine = IsSegmentHome o.blocks engine
 LeavesHome (Check o) engine = IsMergeHome o.merge.blocks engine
 LeavesHome (Make o) engine = engine ≡ None
-
--- a command that merges over n blocks ended so, and left this: `need` is that of what the source gave
-pub record LeavesMerge (n : ℕ) (need : List ℕ → ℕ) (status : Status) (left : Option Engine) (old new : Option (List ℕ))
-    : Type 0 where
-  pub blocks : HasBlocks n status
-  pub engine : status ≡ Ok → HasMerged n need left old new
-  pub home : IsMergeHome n left

@@ -1,11 +1,2 @@
-pub mod Output
-pub mod Ending
-pub mod Checking
-pub mod RunAnswers
 pub mod Engines
-pub mod Segmenting
-pub mod Making
-pub mod Codes
-pub mod Log
-pub mod PlainWords
-pub mod Laws
+pub mod Ended

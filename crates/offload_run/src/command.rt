@@ -5,20 +5,21 @@ ghost use Rattle.off_io.specs.Faults.{Rose};
 ghost use Rattle.off_io.specs.Told.{Told};
 ghost use Rattle.offload_words.specs.Commands.{command_of, HasRanges};
 ghost use Rattle.status_log.specs.Lines.{Logs};
-ghost use Rattle.offload_run.specs.Ending.{IsCaused};
-ghost use Rattle.offload_run.specs.Making.{Makes};
-ghost use Rattle.offload_run.specs.RunAnswers.{Answers, AreBlocksOf, FlowsBack, HasEnded, Prefixes};
+ghost use Rattle.command_answers.specs.Ending.{IsCaused};
+ghost use Rattle.command_answers.specs.Making.{Makes};
+ghost use Rattle.command_answers.specs.RunAnswers.{Answers, AreBlocksOf, FlowsBack, Prefixes};
+ghost use Rattle.offload_run.specs.Ended.{HasEnded};
 ghost use Rattle.offload_run.specs.Engines.{HasRun, LeavesHome};
-ghost use Rattle.offload_run.specs.Log.{log_line};
+ghost use Rattle.command_answers.specs.Log.{log_line};
 
-use crate::check::run_check;
-use crate::logging::write_log;
+use crate::Engine;
 use crate::make::run_make;
-use crate::merge::run_merge;
-use crate::segment::run_segment;
-use crate::{Engine, Status};
+use check_command::run_check;
+use command_answers::{Status, write_log};
+use merge_command::run_merge;
 use off_io::{Gate, Sink, Source};
 use offload_words::{Command, WordsFault, parse_words};
+use segment_command::run_segment;
 use std::alloc::Global;
 use std::sync::Wait;
 use std::thread::Threads;
@@ -42,9 +43,24 @@ fn run_command<R: Threads + Wait + Sync, S: Source + Send, K: Sink, G: Gate + Sy
         result }
 {
     match command {
-        Command::Merge(options) => run_merge(rt, alloc, options, source, sink, gate, engine),
-        Command::Segment(options) => run_segment(alloc, options, source, sink, engine),
-        Command::Check(options) => run_check(rt, alloc, options, source, sink, gate, engine),
+        Command::Merge(options) => {
+            let mut rounds = None;
+            let status = run_merge(rt, alloc, options, source, sink, gate, &mut rounds);
+            *engine = Engine::merging(rounds);
+            status
+        }
+        Command::Segment(options) => {
+            let mut run = None;
+            let status = run_segment(alloc, options, source, sink, &mut run);
+            *engine = Engine::segmenting(run);
+            status
+        }
+        Command::Check(options) => {
+            let mut rounds = None;
+            let status = run_check(rt, alloc, options, source, sink, gate, &mut rounds);
+            *engine = Engine::merging(rounds);
+            status
+        }
         Command::Make(options) => run_make(options, sink),
     }
 }

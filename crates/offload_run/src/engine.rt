@@ -1,4 +1,6 @@
 //! What a command reads its records into.
+ghost use Rattle.std.specs.Prelude.{◌≡◌};
+ghost use Rattle.offload_run.specs.Engines.{merging, segmenting};
 
 use rounds::Rounds;
 use segmenting::SegmentRun;
@@ -11,4 +13,26 @@ pub enum Engine {
     Merge(Rounds),
     /// Of `segment`.
     Segment(SegmentRun),
+}
+
+impl Engine {
+    // Of the rounds that a command left, if it left some.
+    pub(crate) fn merging(rounds: Option<Rounds>) -> Option<Engine>
+        ensures engine { result ≡ merging rounds }
+    {
+        match rounds {
+            Some(rounds) => Some(Engine::Merge(rounds)),
+            None => None,
+        }
+    }
+
+    // Of the blocks that segmenting left, if it left some.
+    pub(crate) fn segmenting(run: Option<SegmentRun>) -> Option<Engine>
+        ensures engine { result ≡ segmenting run }
+    {
+        match run {
+            Some(run) => Some(Engine::Segment(run)),
+            None => None,
+        }
+    }
 }

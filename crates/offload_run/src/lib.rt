@@ -44,45 +44,27 @@
 //!
 //! Why so:
 //!
-//! - **The blocks are made once the file header is lawful**, so a refused capture costs none. The output's file header
-//!   is written before that: where memory for the blocks is refused, it is all that was written.
-//! - **What `run` says of the commands that read is said once** (`Passing` of `offload_model`): what a command makes of
-//!   some bytes, and what each ending says of that. `ending_of` leads from a status there, and one more command that
-//!   reads is one more line of `Answers`. `answers_in_plain_words` unfolds it: what the capture reads as, which round
-//!   exceeds the blocks, what is written.
+//! - **Each command is a crate of its own** (`segment_command`, `merge_command`, `check_command`, over what a command
+//!   answers, `command_answers`), so that they are proved side by side. None knows of the others' blocks: what a command
+//!   leaves is made an [`Engine`] here.
 //! - **The engine goes out by a `&mut Option`** that holds none before, and is there at status 0. What it tells then,
 //!   that all blocks are home and how many were taken, is one clause (`engine`), and that they are home whatever the
 //!   status another (`home`); its calls stay those of `rounds`.
-//! - **`flows` asks nothing of the source**: a record that was read is held in fields of 32 bits and in bytes, so the
-//!   packets that are merged are such as a capture may hold (`captured` of `merge_all`), and their numbers rise
-//!   whatever the bytes. It is said where merging ended by the bytes or by the source (status 0, 3, 4, 5); after a
-//!   fault of the sink or want of memory a prefix is written, of which it isn't said.
-//! - **A seeded check makes its capture twice**: once for the length in its first line (`made_len`), which stands
-//!   before anything is counted, and once to be checked. It needs no memory for it.
 //! - **`run` asks its runtime for `Wait`, too**, since one side of `merge` and `check` sleeps until the other wakes it.
 //!   So it is no longer proved that `run`, and `main`, come to an end; of their commands these two alone ever wait.
 #![tactic(auto)]
 
-mod check;
 mod command;
-mod ending;
 mod engine;
-mod laws;
-mod logging;
 mod make;
-mod merge;
-mod segment;
-mod status;
 
 pub use command::run;
-pub use engine::Engine;
-pub use laws::{
-    answers_in_plain_words, every_flow_comes_back, every_record_returns, prefixes_in_plain_words,
+pub use command_answers::{
+    Status, answers_in_plain_words, every_flow_comes_back, every_record_returns,
+    prefixes_in_plain_words, write_log,
 };
-pub use logging::write_log;
+pub use engine::Engine;
 pub use offload_words::{
     CheckOptions, Command, MakeOptions, MergeOptions, SegmentOptions, WordsFault, parse_words,
 };
-pub use rounds::Rounds;
-pub use segmenting::SegmentRun;
-pub use status::Status;
+pub use rounds::{Rounds, SegmentRun};

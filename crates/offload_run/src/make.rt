@@ -1,11 +1,10 @@
 //! Writes a generated capture.
 ghost use Rattle.std.specs.Prelude.{◌≡◌, ◌≤◌};
 ghost use Rattle.off_io.specs.Faults.{Rose};
-ghost use Rattle.offload_run.specs.Making.{MakeAnswers};
+ghost use Rattle.command_answers.specs.Making.{MakeAnswers};
 
-use crate::Status;
-use crate::ending::finish;
 use cap_make::make_capture;
+use command_answers::{Status, finish};
 use off_io::{Sink, WriteFault};
 use offload_words::MakeOptions;
 

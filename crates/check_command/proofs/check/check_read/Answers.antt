@@ -1,0 +1,19 @@
+use Rattle.std.proofs.Common.{refl, arith}
+use Rattle.check_command.proofs.Telling.{read_given, refused_given}
+use Rattle.check_command.proofs.Prefixes.{no_lines_prefix, checked_prefix}
+use Rattle.check_command.proofs.check.check_read.Goals as goal
+
+pub returns-in-Err-clause-given : goal.returns-in-Err-clause-given
+returns-in-Err-clause-given g c = refused_given c.args.options _ _ _ _ _ c.in-Err.fault c.refused.result refl c.refused.ensures.status c.in-Err.ensures.given
+
+pub returns-clause-given : goal.returns-clause-given
+returns-clause-given g c =
+    read_given c.totals_are_told.ensures.law c.args.options _ _ _ c.in-Ok.file _ _ _ _ _ c.check_records.result c.in-Ok.ensures.given c.check_records.ensures.given
+
+pub returns-in-Err-clause-prefix : goal.returns-in-Err-clause-prefix
+returns-in-Err-clause-prefix g c = no_lines_prefix c.args.options _ _ _ _ c.in-Err.fault c.in-Err.ensures.given
+
+pub returns-clause-prefix : goal.returns-clause-prefix
+returns-clause-prefix g c =
+    checked_prefix c.totals_are_told.ensures.law c.args.options _ _ _ c.in-Ok.file _ _ _ _ _ c.check_records.result
+    (λ rose. omega (arith, c.take_file.ensures.later, rose)) c.in-Ok.ensures.given c.check_records.ensures.given

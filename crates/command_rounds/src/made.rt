@@ -1,0 +1,49 @@
+//! The rounds of a command that merges, over one pool of blocks.
+ghost use Rattle.std.specs.Prelude.{◌≡◌, IfOk};
+ghost use Rattle.offload_words.specs.Merge.{IsInRange};
+ghost use Rattle.command_rounds.specs.Plans.{plan_of};
+
+use lanes::{LanePlan, SharedProgram};
+use offload_words::MergeOptions;
+use rounds::Rounds;
+use std::alloc::{AllocError, Global};
+
+/// The pool, and memory for rounds of these options. To be checked, rounds keep a clone of each packet.
+pub fn make_rounds(alloc: Global, options: MergeOptions, keep: bool) -> Result<Rounds, AllocError>
+    requires range { IsInRange options }
+    ensures made { IfOk result (λ rounds. rounds ≡ record {
+      home = options.blocks;
+      stock = rounds.stock;
+      blocks = options.blocks;
+      taken = 0;
+      empties = 0;
+      pauses = 0;
+      budget = options.budget;
+      plan = plan_of options;
+      keep = keep;
+    }) }
+{
+    let MergeOptions {
+        queues,
+        budget,
+        blocks,
+        taps,
+        snap,
+        segs,
+        choice,
+        filter,
+    } = options;
+    let filter = match filter {
+        Some(program) => Some(SharedProgram::new(alloc, program)?),
+        None => None,
+    };
+    let plan = LanePlan {
+        queues,
+        taps,
+        snap,
+        choice,
+        segs,
+        filter,
+    };
+    Rounds::make(alloc, blocks, budget, plan, keep)
+}

@@ -1,5 +1,0 @@
-use Rattle.offload_run.proofs.CheckedWords.{in_plain_words}
-use Rattle.offload_run.proofs.laws.answers_in_plain_words.Goals as goal
-
-pub returns : goal.returns
-returns g c = record { law = in_plain_words c.made_reads_back.ensures.law }

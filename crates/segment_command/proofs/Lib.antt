@@ -1,0 +1,3 @@
+mod Segmenting
+mod Prefixes
+mod Used
