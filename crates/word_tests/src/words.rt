@@ -87,125 +87,6 @@ fn is_usage(command: &Result<Command, WordsFault>) -> bool {
     }
 }
 
-static MERGES: [(&str, Numbers); 19] = [
-    ("offload merge", DEFAULTS),
-    ("offload merge --queues 1", DEFAULTS),
-    (
-        "offload merge --queues 64",
-        Numbers {
-            queues: 64,
-            ..DEFAULTS
-        },
-    ),
-    (
-        "offload merge --budget 1",
-        Numbers {
-            budget: 1,
-            ..DEFAULTS
-        },
-    ),
-    (
-        "offload merge --budget 4096",
-        Numbers {
-            budget: 4096,
-            ..DEFAULTS
-        },
-    ),
-    ("offload merge --budget=64", DEFAULTS),
-    (
-        "offload merge --budget +7",
-        Numbers {
-            budget: 7,
-            ..DEFAULTS
-        },
-    ),
-    (
-        "offload merge --budget 007",
-        Numbers {
-            budget: 7,
-            ..DEFAULTS
-        },
-    ),
-    (
-        "offload merge --blocks 1",
-        Numbers {
-            blocks: 1,
-            ..DEFAULTS
-        },
-    ),
-    (
-        "offload merge --blocks=65536",
-        Numbers {
-            blocks: 65536,
-            ..DEFAULTS
-        },
-    ),
-    ("offload merge --taps 0", DEFAULTS),
-    (
-        "offload merge --taps 8",
-        Numbers {
-            taps: 8,
-            ..DEFAULTS
-        },
-    ),
-    (
-        "offload merge --snap 1",
-        Numbers {
-            snap: 1,
-            ..DEFAULTS
-        },
-    ),
-    (
-        "offload merge --snap 2048",
-        Numbers {
-            snap: 2048,
-            ..DEFAULTS
-        },
-    ),
-    (
-        "offload merge --segs 1",
-        Numbers {
-            segs: 1,
-            ..DEFAULTS
-        },
-    ),
-    ("offload merge --segs=4096", DEFAULTS),
-    ("offload merge --", DEFAULTS),
-    (
-        "offload merge --budget 2 --",
-        Numbers {
-            budget: 2,
-            ..DEFAULTS
-        },
-    ),
-    (
-        "offload merge --segs 11 --snap 9 --taps 2 --blocks 7 --budget 5 --queues 3",
-        Numbers {
-            queues: 3,
-            budget: 5,
-            blocks: 7,
-            taps: 2,
-            snap: 9,
-            segs: 11,
-        },
-    ),
-];
-
-// The first line that isn't `merge` with these numbers.
-fn first_other_merge(rt: &impl Abort, alloc: Global) -> &'static str {
-    for (line, numbers) in &MERGES {
-        if !is_merge(&parsed(rt, alloc, line), *numbers) {
-            return line;
-        }
-    }
-    "none"
-}
-
-#[test]
-fn merge_and_its_numbers(rt: HostRuntime) {
-    assert_same(&rt, &first_other_merge(&rt, rt.alloc()), &"none");
-}
-
 fn is_segment(command: &Result<Command, WordsFault>, want: u32) -> bool {
     match command {
         Ok(Command::Segment(SegmentOptions { blocks })) => *blocks == want,
@@ -218,50 +99,6 @@ fn is_make(command: &Result<Command, WordsFault>, seed: u64, count: u32) -> bool
         Ok(Command::Make(options)) => options.seed == seed && options.count == count,
         _ => false,
     }
-}
-
-static SEGMENTS: [(&str, u32); 3] = [
-    ("offload segment", 8384),
-    ("offload segment --", 8384),
-    ("offload segment --blocks 1", 1),
-];
-
-static MAKES: [(&str, u64, u32); 5] = [
-    ("offload make", 1, 1000),
-    ("another-name make --seed 0 --count 0", 0, 0),
-    ("offload make --count 10000000", 1, 10000000),
-    ("offload make --seed=18446744073709551615", u64::MAX, 1000),
-    ("offload make --count 5 --seed +07", 7, 5),
-];
-
-// The first line that isn't `segment` with so many blocks.
-fn first_other_segment(rt: &impl Abort, alloc: Global) -> &'static str {
-    for (line, blocks) in &SEGMENTS {
-        if !is_segment(&parsed(rt, alloc, line), *blocks) {
-            return line;
-        }
-    }
-    "none"
-}
-
-// The first line that isn't `make` with this seed and so many records.
-fn first_other_make(rt: &impl Abort, alloc: Global) -> &'static str {
-    for (line, seed, count) in &MAKES {
-        if !is_make(&parsed(rt, alloc, line), *seed, *count) {
-            return line;
-        }
-    }
-    "none"
-}
-
-#[test]
-fn segment_and_make(rt: HostRuntime) {
-    let alloc = rt.alloc();
-    let first = (
-        first_other_segment(&rt, alloc),
-        first_other_make(&rt, alloc),
-    );
-    assert_same(&rt, &first, &("none", "none"));
 }
 
 fn is_check(
@@ -278,39 +115,173 @@ fn is_check(
     }
 }
 
-static CHECKS: [(&str, Numbers, Option<u64>, u32); 6] = [
-    ("offload check", DEFAULTS, None, 1000),
-    ("offload check --seed 0", DEFAULTS, Some(0), 1000),
+/// The key with which the Toeplitz hash is shown in most descriptions.
+const KEY: &str =
+    "6d5a56da255b0ec24167253d43a38fb0d0ca2bcbae7b30b477cb2da38030f20c6a42b73bbeac01fa";
+
+/// What a line comes to.
+enum Wanted {
+    Merge(Numbers),
+    Segment(u32),
+    Make(u64, u32),
+    Check(Numbers, Option<u64>, u32),
+}
+
+static LINES: [(&str, Wanted); 33] = [
+    ("offload merge", Wanted::Merge(DEFAULTS)),
+    ("offload merge --queues 1", Wanted::Merge(DEFAULTS)),
+    (
+        "offload merge --queues 64",
+        Wanted::Merge(Numbers {
+            queues: 64,
+            ..DEFAULTS
+        }),
+    ),
+    (
+        "offload merge --budget 1",
+        Wanted::Merge(Numbers {
+            budget: 1,
+            ..DEFAULTS
+        }),
+    ),
+    (
+        "offload merge --budget 4096",
+        Wanted::Merge(Numbers {
+            budget: 4096,
+            ..DEFAULTS
+        }),
+    ),
+    ("offload merge --budget=64", Wanted::Merge(DEFAULTS)),
+    (
+        "offload merge --budget +7",
+        Wanted::Merge(Numbers {
+            budget: 7,
+            ..DEFAULTS
+        }),
+    ),
+    (
+        "offload merge --budget 007",
+        Wanted::Merge(Numbers {
+            budget: 7,
+            ..DEFAULTS
+        }),
+    ),
+    (
+        "offload merge --blocks 1",
+        Wanted::Merge(Numbers {
+            blocks: 1,
+            ..DEFAULTS
+        }),
+    ),
+    (
+        "offload merge --blocks=65536",
+        Wanted::Merge(Numbers {
+            blocks: 65536,
+            ..DEFAULTS
+        }),
+    ),
+    ("offload merge --taps 0", Wanted::Merge(DEFAULTS)),
+    (
+        "offload merge --taps 8",
+        Wanted::Merge(Numbers {
+            taps: 8,
+            ..DEFAULTS
+        }),
+    ),
+    (
+        "offload merge --snap 1",
+        Wanted::Merge(Numbers {
+            snap: 1,
+            ..DEFAULTS
+        }),
+    ),
+    (
+        "offload merge --snap 2048",
+        Wanted::Merge(Numbers {
+            snap: 2048,
+            ..DEFAULTS
+        }),
+    ),
+    (
+        "offload merge --segs 1",
+        Wanted::Merge(Numbers {
+            segs: 1,
+            ..DEFAULTS
+        }),
+    ),
+    ("offload merge --segs=4096", Wanted::Merge(DEFAULTS)),
+    ("offload merge --", Wanted::Merge(DEFAULTS)),
+    (
+        "offload merge --budget 2 --",
+        Wanted::Merge(Numbers {
+            budget: 2,
+            ..DEFAULTS
+        }),
+    ),
+    (
+        "offload merge --segs 11 --snap 9 --taps 2 --blocks 7 --budget 5 --queues 3",
+        Wanted::Merge(Numbers {
+            queues: 3,
+            budget: 5,
+            blocks: 7,
+            taps: 2,
+            snap: 9,
+            segs: 11,
+        }),
+    ),
+    ("offload segment", Wanted::Segment(8384)),
+    ("offload segment --", Wanted::Segment(8384)),
+    ("offload segment --blocks 1", Wanted::Segment(1)),
+    ("offload make", Wanted::Make(1, 1000)),
+    ("another-name make --seed 0 --count 0", Wanted::Make(0, 0)),
+    ("offload make --count 10000000", Wanted::Make(1, 10000000)),
+    (
+        "offload make --seed=18446744073709551615",
+        Wanted::Make(u64::MAX, 1000),
+    ),
+    ("offload make --count 5 --seed +07", Wanted::Make(7, 5)),
+    ("offload check", Wanted::Check(DEFAULTS, None, 1000)),
+    (
+        "offload check --seed 0",
+        Wanted::Check(DEFAULTS, Some(0), 1000),
+    ),
     (
         "offload check --seed=18446744073709551615",
-        DEFAULTS,
-        Some(u64::MAX),
-        1000,
+        Wanted::Check(DEFAULTS, Some(u64::MAX), 1000),
     ),
-    ("offload check --count 0", DEFAULTS, None, 0),
+    ("offload check --count 0", Wanted::Check(DEFAULTS, None, 0)),
     (
         "offload check --count 10000000 --seed 1",
-        DEFAULTS,
-        Some(1),
-        10000000,
+        Wanted::Check(DEFAULTS, Some(1), 10000000),
     ),
     (
         "offload check --queues 4 --taps 2 --segs 17 --seed 7 --count 5",
-        Numbers {
-            queues: 4,
-            taps: 2,
-            segs: 17,
-            ..DEFAULTS
-        },
-        Some(7),
-        5,
+        Wanted::Check(
+            Numbers {
+                queues: 4,
+                taps: 2,
+                segs: 17,
+                ..DEFAULTS
+            },
+            Some(7),
+            5,
+        ),
     ),
 ];
 
-// The first line that isn't `check` with these numbers.
-fn first_other_check(rt: &impl Abort, alloc: Global) -> &'static str {
-    for (line, numbers, seed, count) in &CHECKS {
-        if !is_check(&parsed(rt, alloc, line), *numbers, *seed, *count) {
+fn is_wanted(command: &Result<Command, WordsFault>, wanted: &Wanted) -> bool {
+    match wanted {
+        Wanted::Merge(numbers) => is_merge(command, *numbers),
+        Wanted::Segment(blocks) => is_segment(command, *blocks),
+        Wanted::Make(seed, count) => is_make(command, *seed, *count),
+        Wanted::Check(numbers, seed, count) => is_check(command, *numbers, *seed, *count),
+    }
+}
+
+// The first line that comes to something else.
+fn first_other(rt: &impl Abort, alloc: Global) -> &'static str {
+    for (line, wanted) in &LINES {
+        if !is_wanted(&parsed(rt, alloc, line), wanted) {
             return line;
         }
     }
@@ -318,13 +289,9 @@ fn first_other_check(rt: &impl Abort, alloc: Global) -> &'static str {
 }
 
 #[test]
-fn check_and_its_numbers(rt: HostRuntime) {
-    assert_same(&rt, &first_other_check(&rt, rt.alloc()), &"none");
+fn commands_and_their_numbers(rt: HostRuntime) {
+    assert_same(&rt, &first_other(&rt, rt.alloc()), &"none");
 }
-
-/// The key with which the Toeplitz hash is shown in most descriptions.
-const KEY: &str =
-    "6d5a56da255b0ec24167253d43a38fb0d0ca2bcbae7b30b477cb2da38030f20c6a42b73bbeac01fa";
 
 /// The options of `merge`, or of the merging of `check`.
 fn merging(command: &Result<Command, WordsFault>) -> Option<&MergeOptions> {
