@@ -3,7 +3,8 @@ use Rattle.std.proofs.Common.{◌≡◌, ℕ, List, Option, None, Some}
 use Rattle.std.specs.Prelude.{Bool}
 use Rattle.offload_words.specs.declared.check.CheckOptions.{CheckOptions}
 use Rattle.offload_words.specs.declared.words.Command.{Command}
-use Rattle.rounds.specs.RoundsState.{RoundsState, SegmentState}
+use Rattle.rounds.specs.RoundsState.{RoundsState}
+use Rattle.segmenting.specs.SegmentState.{SegmentState}
 use Rattle.command_answers.specs.declared.status.Status.{Status}
 use Rattle.command_answers.specs.declared.status.Status.TheVariants.{Ok}
 use Rattle.command_answers.specs.RunAnswers.{HasAnswered}

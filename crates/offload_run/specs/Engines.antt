@@ -11,7 +11,8 @@ use Rattle.offload_words.specs.declared.words.Command.{Command}
 use Rattle.offload_words.specs.declared.words.Command.TheVariants.{Merge, Segment, Check, Make}
 use Rattle.offload_run.specs.declared.engine.Engine.{Engine}
 use Rattle.offload_run.specs.declared.engine.Engine.TheVariants as engines
-use Rattle.rounds.specs.RoundsState.{RoundsState, SegmentState}
+use Rattle.rounds.specs.RoundsState.{RoundsState}
+use Rattle.segmenting.specs.SegmentState.{SegmentState}
 use Rattle.segment_command.specs.Leaving.{records_need}
 
 -- the engine of what a command left

@@ -67,4 +67,5 @@ pub use engine::Engine;
 pub use offload_words::{
     CheckOptions, Command, MakeOptions, MergeOptions, SegmentOptions, WordsFault, parse_words,
 };
-pub use rounds::{Rounds, SegmentRun};
+pub use rounds::Rounds;
+pub use segmenting::SegmentRun;

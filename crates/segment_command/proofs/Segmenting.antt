@@ -22,11 +22,11 @@ use Rattle.offload_model.specs.Passing.{Nowhere, AtFault, AtRound, Passed, Endin
 use Rattle.offload_model.specs.Steps.{ending_behind, in_front}
 use Rattle.offload_model.proofs.Steps.{commands_pass_on, segmenting_goes_by_record}
 use Rattle.offload_model.proofs.Needs.{needed_append}
-use Rattle.rounds.specs.declared.segment.SegFault.{SegFault}
-use Rattle.rounds.specs.declared.segment.SegFault.TheVariants as faults
-use Rattle.rounds.specs.declared.segment.Moved.{Moved}
-use Rattle.rounds.specs.declared.segment.Moved.TheVariants.{One, End}
-use Rattle.rounds.specs.Segmenting.{Moves, TakesOne, WritesNone, ending_of as fault_ending}
+use Rattle.segmenting.specs.declared.segment.SegFault.{SegFault}
+use Rattle.segmenting.specs.declared.segment.SegFault.TheVariants as faults
+use Rattle.segmenting.specs.declared.segment.Moved.{Moved}
+use Rattle.segmenting.specs.declared.segment.Moved.TheVariants.{One, End}
+use Rattle.segmenting.specs.Segmenting.{Moves, TakesOne, WritesNone, ending_of as fault_ending}
 use Rattle.command_answers.specs.declared.status.Status.{Status}
 use Rattle.command_answers.specs.declared.status.Status.TheVariants as statuses
 use Rattle.command_answers.specs.Ending.{ending_of, Ends}

@@ -6,7 +6,7 @@ use Rattle.pcap_io.specs.declared.heads.Link.{Link}
 use Rattle.pcap_io.specs.Capture.{Packet, reads}
 use Rattle.pcap_io.specs.Places.{found_at, first_place}
 use Rattle.pcap_io.specs.Reading.{GivesFile}
-use Rattle.rounds.specs.RoundsState.{SegmentState}
+use Rattle.segmenting.specs.SegmentState.{SegmentState}
 use Rattle.segment_command.specs.Leaving.{HasSegmented}
 use Rattle.command_answers.proofs.Used.{took_whole}
 

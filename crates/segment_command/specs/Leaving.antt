@@ -5,7 +5,7 @@ use Rattle.off_io.specs.Told.{Told}
 use Rattle.pcap_io.specs.Capture.{Packet}
 use Rattle.pcap_io.specs.Limits.{off_head_size}
 use Rattle.offload_model.specs.Need.{needed}
-use Rattle.rounds.specs.RoundsState.{SegmentState}
+use Rattle.segmenting.specs.SegmentState.{SegmentState}
 use Rattle.command_answers.specs.declared.status.Status.{Status}
 use Rattle.command_answers.specs.declared.status.Status.TheVariants.{Ok}
 

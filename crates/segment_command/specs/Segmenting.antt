@@ -8,9 +8,9 @@ use Rattle.pcap_io.specs.Capture.{Packet}
 use Rattle.pcap_io.specs.Places.{found_at}
 use Rattle.offload_model.specs.Passing.{segmenting, Passes}
 use Rattle.offload_model.specs.Steps.{GoesOn, ending_behind, in_front}
-use Rattle.rounds.specs.declared.segment.SegFault.{SegFault}
-use Rattle.rounds.specs.RoundsState.{SegmentState}
-use Rattle.rounds.specs.Segmenting.{ending_of as fault_ending}
+use Rattle.segmenting.specs.declared.segment.SegFault.{SegFault}
+use Rattle.segmenting.specs.SegmentState.{SegmentState}
+use Rattle.segmenting.specs.Segmenting.{ending_of as fault_ending}
 use Rattle.command_answers.specs.declared.status.Status.{Status}
 use Rattle.command_answers.specs.declared.status.Status.TheVariants.{Ok, WriteFault}
 use Rattle.command_answers.specs.Ending.{ending_of, Ends, FlushesAt, HasBlocks}

@@ -1,5 +1,5 @@
 use Rattle.std.proofs.Common.{◌+◌, ◌∙◌, ℕ, ap, arith, refl, rules, Ok, Err}
-use Rattle.rounds.specs.declared.segment.Moved.{Moved}
+use Rattle.segmenting.specs.declared.segment.Moved.{Moved}
 use Rattle.segment_command.proofs.Segmenting.{moves_by, none_yet, one_more_given, done_given, fault_given, took_none, took_more, took_all}
 use Rattle.segment_command.proofs.segment.segment_all.Goals as goal
 
