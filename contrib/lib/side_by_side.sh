@@ -33,7 +33,7 @@ lane_folder() {
 make_lane() {
   local name part to
   to=$(lane_folder "$1")
-  mkdir -p -- "$to/crates" && cp -- "$root/crates.txt" "$root/HANDLES" "$to/" || return 1
+  mkdir -p -- "$to/crates" && lines_below >"$to/crates.txt" && cp -- "$root/HANDLES" "$to/" || return 1
   while read -r name _; do
     name=${name%%:*}
     mkdir -p -- "$to/crates/$name" || return 1
