@@ -6,7 +6,5 @@ mod Slices
 mod Stretches
 -- headers and the frame behind them
 mod Heads
--- the items of a queue are its runs
-mod Runs
 -- a run's record, from its packets where they lie
 mod InPlace

@@ -1,5 +1,5 @@
 -- Records as they are written from buffers (pcap file format, section 5).
-use Rattle.std.specs.Prelude.{ℕ, ◌+◌, ◌<◌, ◌^◌, List, length, ◌++◌, Option, None, Some, OnErr, OnOk, Result}
+use Rattle.std.specs.Prelude.{ℕ, ◌+◌, List, length, ◌++◌, Option, None, Some, OnErr, OnOk, Result}
 use Rattle.std.specs.Io.KnownBytes.{Appends}
 use Rattle.off_io.specs.Content.{AppendsPrefix}
 use Rattle.off_io.specs.Faults.{HasCause}
@@ -8,13 +8,12 @@ use Rattle.net_bytes.specs.declared.order.Order.{Order}
 use Rattle.pcap_io.specs.declared.off_head.OffHead2.{OffHead2}
 use Rattle.pcap_io.specs.Capture.{Packet, packet}
 use Rattle.pcap_io.specs.Written.{rec_bytes, off_bytes2}
-use Rattle.skb.specs.SkbState.{buffer_bytes, buffer_size}
+use Rattle.skb.specs.SkbState.{buffer_bytes}
 use Rattle.segment_rule.specs.Segmentations.{segment_at}
 use Rattle.gso.specs.Places.{SegmentsState}
 use Rattle.offload_model.specs.Merged.{Merged}
 use Rattle.offload_model.specs.Segments.{with_head}
 use Rattle.offload_model.specs.Written.{head_of, record_bytes}
-use Rattle.gro_table.specs.declared.item.Item.{Item}
 use Rattle.records.specs.declared.record.Time.{Time}
 
 -- a sink got these bytes, or a prefix of them where it failed: what it held before and holds now, and its faults
@@ -40,11 +39,6 @@ heads_of order sec frac len original (Some head) = rec_bytes order sec frac (len
 -- what is written of an item of queue q
 abbrev pub item_bytes : Order → ℕ → Merged → List ℕ
 item_bytes order q m = record_bytes order (with_head (head_of q m) m.packet)
-
--- the lengths behind an offload header fit their fields
-pub record FitsItem (item : Item) : Type 0 where
-  pub captured : buffer_size item.skb + off_head2_size < 2 ^ 32
-  pub original : item.original + off_head2_size < 2 ^ 32
 
 -- ---- what segments come to
 

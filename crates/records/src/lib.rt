@@ -12,8 +12,7 @@
 //! records, in turn, and of an engine's runs what each of them comes to.
 //!
 //! ```
-//! let first = write_record(&mut sink, &file, time, original, None, &segment);
-//! let rest = write_items(&mut sink, &file, lane, &items);
+//! let written = write_record(&mut sink, &file, time, original, None, &segment);
 //! ```
 //!
 //! Tests: `round_tests`, modules `writing` and `segments`.
@@ -21,12 +20,10 @@
 
 mod buffer;
 mod in_place;
-mod items;
 mod record;
 mod segments;
 
 pub use buffer::write_buffer;
 pub use in_place::{write_run, write_runs};
-pub use items::{write_item, write_items};
 pub use record::{Time, write_record, write_window};
 pub use segments::write_segments;

@@ -6,12 +6,13 @@ use block_pool::Pool;
 use block_supply::{AllHome, RECORD_BLOCKS};
 use frame_layout::Choice;
 use gro::Packets;
+use item_records::write_items;
 use lane_crew::{count_runners, open_desk};
 use lanes::{Alone, LanePlan, Lanes, work_packets};
 use off_io::{MemSink, NoGate};
 use pcap_io::Link;
 use reading::read_record;
-use records::{Time, write_items, write_record};
+use records::{Time, write_record};
 use rounds::{MergeEnd, Rounds};
 use segmenting::{Moved, SegmentRun};
 use std::collections::VecDeque;
@@ -50,19 +51,24 @@ fn example_of_reading(rt: HostRuntime) -> Result<(), Fail> {
 #[test]
 fn example_of_records(rt: HostRuntime) {
     let alloc = rt.alloc();
-    let (file, lane, original) = (FILE, 4, 9);
+    let (file, original) = (FILE, 9);
     let time = Time { sec: 1, frac: 2 };
     let mut sink = MemSink::new(alloc, 64, Vec::new(alloc));
-    let items = one_item(&rt, alloc);
     let segment = frame(&rt, alloc);
     assert!(rt; segment.len() == 5);
-    let first = write_record(&mut sink, &file, time, original, None, &segment);
-    let rest = write_items(&mut sink, &file, lane, &items);
-    assert_eq!(rt;
-        (first, rest, sink.bytes().len()),
-        (Ok(()), Ok(()), 21 + 37)
-    );
+    let written = write_record(&mut sink, &file, time, original, None, &segment);
+    assert_eq!(rt; (written, sink.bytes().len()), (Ok(()), 21));
     segment.free();
+}
+
+#[test]
+fn example_of_item_records(rt: HostRuntime) {
+    let alloc = rt.alloc();
+    let (file, lane) = (FILE, 4);
+    let mut sink = MemSink::new(alloc, 64, Vec::new(alloc));
+    let items = one_item(&rt, alloc);
+    let written = write_items(&mut sink, &file, lane, &items);
+    assert_eq!(rt; (written, sink.bytes().len()), (Ok(()), 37));
     all_go_home(&rt, items);
 }
 

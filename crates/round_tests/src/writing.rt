@@ -1,16 +1,17 @@
 //! Records of a frame in two blocks, byte for byte, and at a sink whose calls fail in turn.
 
 ghost use Rattle.std.specs.Prelude.{All};
-ghost use Rattle.records.specs.Records.{FitsItem};
+ghost use Rattle.item_records.specs.Items.{FitsItem};
 
 mod in_place;
 
 use frags::{Outcomes, PieceBuilder};
 use gro_table::Item;
+use item_records::write_items;
 use off_io::{MemSink, WriteFault};
 use pcap_io::{FileHead, OffHead2, Order};
 use raw_block::Sole;
-use records::{Time, write_items, write_record, write_window};
+use records::{Time, write_record, write_window};
 use skb::Skb;
 use std::alloc::Global;
 use std::process::Abort;

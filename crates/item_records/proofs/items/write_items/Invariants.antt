@@ -4,7 +4,7 @@ use Rattle.std.specs.Io.KnownBytes.{Appends}
 use Rattle.gro_table.specs.declared.item.Item.{Item}
 use Rattle.gro_table.specs.Items.{item_of}
 use Rattle.records.specs.Records.{item_bytes}
-use Rattle.records.proofs.items.write_items.Given as goal
+use Rattle.item_records.proofs.items.write_items.Given as goal
 
 abbrev pub invariant-loop-item : goal.invariant-loop-item
 invariant-loop-item g l =

@@ -4,7 +4,7 @@ use Rattle.off_io.proofs.Owing.{wrote_one_more, failed_at}
 use Rattle.gro_table.specs.declared.item.Item.{Item}
 use Rattle.gro_table.specs.Items.{item_of}
 use Rattle.records.specs.Records.{item_bytes}
-use Rattle.records.proofs.items.write_items.Goals as goal
+use Rattle.item_records.proofs.items.write_items.Goals as goal
 
 pub loop-item-preserved : goal.loop-item-preserved
 loop-item-preserved g c = (

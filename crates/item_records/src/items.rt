@@ -5,12 +5,13 @@ ghost use Rattle.std.specs.Io.KnownBytes.{Appends};
 ghost use Rattle.off_io.specs.Faults.{HasCause};
 ghost use Rattle.off_io.specs.Content.{AppendsPrefix};
 ghost use Rattle.gro_table.specs.Items.{item_of};
-ghost use Rattle.records.specs.Records.{item_bytes, FitsItem};
+ghost use Rattle.records.specs.Records.{item_bytes};
+ghost use Rattle.item_records.specs.Items.{FitsItem};
 
-use crate::{Time, write_record};
 use gro_table::Item;
 use off_io::{Sink, WriteFault};
 use pcap_io::FileHead;
+use records::{Time, write_record};
 
 /// Writes an item of a queue as a record.
 ///
