@@ -9,21 +9,22 @@ use Rattle.pcap_io.specs.declared.heads.RecHead.{RecHead}
 use Rattle.pcap_io.specs.declared.place.Place.{Place}
 use Rattle.pcap_io.specs.Places.{IsReady}
 use Rattle.pcap_io.specs.Reading.{GivesHead}
+use Rattle.block_pool.specs.PoolState.{PoolState, home, weighed}
 use Rattle.skb.specs.SkbState.{buffer_bytes}
 use Rattle.offload_model.specs.Captured.{IsCaptured}
 use Rattle.offload_model.specs.Need.{need_of, round_need}
 use Rattle.gro.specs.declared.slot.Slot.{Slot as Held}
-use Rattle.gro.specs.Slots.{packet_of, count_of, counts_of}
+use Rattle.gro.specs.Slots.{packet_of, count_of, counts_of, weighed_slots}
 use Rattle.reading.specs.declared.record.Stop.{Stop}
 use Rattle.reading.specs.declared.record.Stop.TheVariants as stops
 use Rattle.reading.specs.Laid.{AreRead, IsLaid, IsRead, LaidFrom}
-use Rattle.reading.proofs.Laying.{laid_at}
+use Rattle.reading.proofs.Laying.{laid_at, weighed_none}
 use Rattle.reading.specs.Reading.{GivesKept, GoesOn, KeepsHead, Passes}
 use Rattle.rounds.specs.Ahead.{GivesBehind, Waits}
 use Rattle.rounds.specs.Filling.{Reached, FillsAhead, FillsBehind, FillsOn, FillsWhole}
 use Rattle.rounds.specs.Fresh.{NumberedFrom}
 use Rattle.rounds.specs.Reading.{GivesRest, GivesRound, FillsRound, IfEnded, IsEndOf, IsHaltOf, NumbersOn, PassesOver, WaitsOver}
-use Rattle.rounds.specs.RoundOf.{IsRoundOf}
+use Rattle.rounds.specs.RoundOf.{at_hand, Brought, Came, IsRoundOf}
 use Rattle.rounds.specs.RoundsState.{RoundState}
 use Rattle.rounds.specs.declared.round_reading.Halt.{Halt}
 use Rattle.rounds.specs.declared.round_reading.Halt.TheVariants.{Ended, Lacking}
@@ -86,6 +87,83 @@ halt_lacking (stops.PoolEmpty need) halt is lacks = absurd (ended_lacking (ends.
 halt_lacking stops.ReadFault halt is lacks = absurd (ended_lacking ends.ReadFault halt is lacks)
 halt_lacking stops.NoMemory halt is lacks = absurd (ended_lacking ends.NoMemory halt is lacks)
 halt_lacking stops.Lacking halt is lacks = refl
+
+not_full : (end : RoundEnd) (halt : Halt) → is_full end ≡ false → halt ≡ Ended end → halt ≡ Ended ends.Full → ⊥
+not_full end halt isnt is full = false≢true (sym isnt ∙ ap is_full (ended_same end ends.Full (sym is ∙ full)))
+
+not_fault : (end : RoundEnd) (halt : Halt) → is_fault end ≡ false → halt ≡ Ended end → halt ≡ Ended ends.ReadFault → ⊥
+not_fault end halt isnt is fault = false≢true (sym isnt ∙ ap is_fault (ended_same end ends.ReadFault (sym is ∙ fault)))
+
+-- no stop is the end of a full round
+pub halt_full : (stop : Stop) (halt : Halt) → IsHaltOf stop halt → halt ≡ Ended ends.Full → ⊥
+halt_full stops.End halt is full = not_full ends.End halt refl is full
+halt_full (stops.Malformed fault) halt is full = not_full (ends.Malformed fault) halt refl is full
+halt_full (stops.PoolEmpty need) halt is full = not_full (ends.PoolEmpty need) halt refl is full
+halt_full stops.ReadFault halt is full = not_full ends.ReadFault halt refl is full
+halt_full stops.NoMemory halt is full = not_full ends.NoMemory halt refl is full
+halt_full stops.Lacking halt is full = ended_lacking ends.Full halt full is
+
+-- a read fault is one
+pub halt_fault : (stop : Stop) (halt : Halt) → IsHaltOf stop halt → halt ≡ Ended ends.ReadFault → stop ≡ stops.ReadFault
+halt_fault stops.End halt is fault = absurd (not_fault ends.End halt refl is fault)
+halt_fault (stops.Malformed cause) halt is fault = absurd (not_fault (ends.Malformed cause) halt refl is fault)
+halt_fault (stops.PoolEmpty need) halt is fault = absurd (not_fault (ends.PoolEmpty need) halt refl is fault)
+halt_fault stops.ReadFault halt is fault = refl
+halt_fault stops.NoMemory halt is fault = absurd (not_fault ends.NoMemory halt refl is fault)
+halt_fault stops.Lacking halt is fault = absurd (ended_lacking ends.ReadFault halt fault is)
+
+pub full_fault : Ended ends.Full ≡ Ended ends.ReadFault → ⊥
+full_fault e = not_fault ends.Full (Ended ends.Full) refl refl e
+
+-- the same of what is no halt but an end
+ended_by : (stop : Stop) (end : RoundEnd) → IsEndOf stop end → IsHaltOf stop (Ended end)
+ended_by stops.End end is = ap Ended is
+ended_by (stops.Malformed fault) end is = ap Ended is
+ended_by (stops.PoolEmpty need) end is = ap Ended is
+ended_by stops.ReadFault end is = ap Ended is
+ended_by stops.NoMemory end is = ap Ended is
+ended_by stops.Lacking end is = absurd is
+
+pub end_full : (stop : Stop) (end : RoundEnd) → IsEndOf stop end → end ≡ ends.Full → ⊥
+end_full stop end is full = halt_full stop (Ended end) (ended_by stop end is) (ap Ended full)
+
+pub end_fault : (stop : Stop) (end : RoundEnd) → IsEndOf stop end → end ≡ ends.ReadFault → stop ≡ stops.ReadFault
+end_fault stop end is fault = halt_fault stop (Ended end) (ended_by stop end is) (ap Ended fault)
+
+-- ---- a round that stays
+
+pub round_same : (ps qs : List Held) (spares spares' used : ℕ) → qs ≡ ps → spares' ≡ spares → IsRoundOf ps spares used → IsRoundOf qs spares' used
+round_same ps qs spares spares' used e at r = subst (λ (n : ℕ). IsRoundOf qs n used) (sym at) (subst (λ (xs : List Held). IsRoundOf xs spares used) (sym e) r)
+
+-- what came home while nothing was read
+pub came_back : (from to : Brought) (used : ℕ) (pool pool' spares spares' : PoolState) (ps qs : List Held) → qs ≡ ps → home pool' + from.count ≡ home pool + to.count
+    → ((h : ℕ → ℕ) → (weighed h pool'.blocks + from.weights h ≡ weighed h pool.blocks + to.weights h) × (weighed h spares'.blocks ≡ weighed h spares.blocks))
+    → from.owed + from.count ≤ to.owed + to.count → from.refusals ≤ to.refusals
+    → Came from to (home pool + used) (home pool' + used) (at_hand pool ps spares) (at_hand pool' qs spares')
+came_back from to used pool pool' spares spares' ps qs e count named owed asked = record {
+  sum = omega (arith, count);
+  named = λ h. omega (arith, (named h).0, (named h).1, ap (weighed_slots h) e);
+  owed = owed;
+  asked = asked;
+}
+
+pub came_then : (a b c : Brought) (old mid new : ℕ) (w x y : (ℕ → ℕ) → ℕ) → Came a b old mid w x → Came b c mid new x y → Came a c old new w y
+came_then a b c old mid new w x y p q = record {
+  sum = omega (arith, p.sum, q.sum);
+  named = λ h. omega (arith, p.named h, q.named h);
+  owed = omega (arith, p.owed, q.owed);
+  asked = omega (arith, p.asked, q.asked);
+}
+
+-- what came home where a round had no packet before
+pub came_whole : (from to : Brought) (old new : ℕ) (pool spares : PoolState) (ps : List Held) (weighs : (ℕ → ℕ) → ℕ) → ps ≡ [] → home spares ≡ 0
+    → Came from to (old + 0) new (at_hand pool ps spares) weighs → Came from to old new (λ h. weighed h pool.blocks) weighs
+came_whole from to old new pool spares ps weighs none bare came = record {
+  sum = omega (arith, came.sum);
+  named = λ h. omega (arith, came.named h, ap (weighed_slots h) none, weighed_none h spares.blocks bare);
+  owed = came.owed;
+  asked = came.asked;
+}
 
 -- ---- a round with one packet more
 
@@ -242,6 +320,13 @@ behind_more a b c at mid new used blocks head first qs round p end e first_told 
     Told-then a b c (GivesKept used blocks at mid head [] (Ok p)) (GivesRest blocks mid new (first ++ p ∷ []) round end) (GivesBehind blocks at new head first round end)
     (λ bytes rest left kept gives. λ from before opened passes takes. gives from before (precede_more from at mid used blocks first p before opened rest passes (kept opened takes))) first_told
     (subst (λ (xs : List Held). Told b c (GivesRest blocks mid new xs round end)) e told)
+
+-- and so the whole round, where its first packets were read from there on
+pub behind_whole : (a b c : Option (List ℕ)) (blocks budget : ℕ) (old mid new : Place) (p : Paused) (round : List Held) (end : RoundEnd) → (w : Waits budget old mid a b p)
+    → Told b c (GivesBehind blocks w.at new p.head p.round.packets round end) → Told a c (GivesRound blocks old new round end)
+behind_whole a b c blocks budget old mid new p round end w told =
+    Told-then a b c (λ bytes left. (opened : List ℕ) × (Passes old w.at (map packet_of p.round.packets) bytes opened × GivesHead w.at (Ok (Some p.head)) opened left))
+    (GivesBehind blocks w.at new p.head p.round.packets round end) (GivesRound blocks old new round end) (λ bytes rest left waits behind. behind old bytes waits.0 waits.1.0 waits.1.1) w.given told
 
 -- none is read: the header is gone
 pub behind_unread : (a : Option (List ℕ)) (at new : Place) (blocks : ℕ) (head : RecHead) (first : List Held) → Told a a (GivesBehind blocks at new head first first ends.NoMemory)

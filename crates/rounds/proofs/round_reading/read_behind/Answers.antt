@@ -1,4 +1,3 @@
-use Rattle.std.proofs.lemmas.Grind.{common_steps}
 use Rattle.std.proofs.Common.{◌+◌, ◌-◌, ℕ, List, [], ◌∷◌, Ok, Err, ap, sym, subst, ◌∙◌, arith, length, length-append}
 use Rattle.block_pool.specs.PoolState.{home}
 use Rattle.off_io.specs.Told.{Told}
@@ -15,7 +14,7 @@ use Rattle.rounds.specs.declared.round_reading.Halt.TheVariants.{Ended}
 use Rattle.rounds.specs.declared.round.RoundEnd.{RoundEnd}
 use Rattle.rounds.specs.declared.round.RoundEnd.TheVariants.{Full}
 use Rattle.rounds.proofs.Rounding.{no_front}
-use Rattle.rounds.proofs.Pausing.{behind_stop, behind_more, ended_same, fills_behind, numbers_behind, round_last}
+use Rattle.rounds.proofs.Pausing.{behind_stop, behind_more, end_fault, end_full, ended_same, fills_behind, numbers_behind, round_last, round_same}
 use Rattle.rounds.proofs.round_reading.read_behind.Goals as goal
 
 pub returns-in-Err-clause-fills : goal.returns-in-Err-clause-fills
@@ -39,11 +38,16 @@ returns-in-Err-clause-fills g c =
           (behind_stop a b at new c.args.used made head first stop end (sym keeps.enters.link ∙ c.requires.link) (omega (arith, c.requires.out)) c.requires.round.need c.end_of.ensures.end told);
       size = omega (arith, count, c.requires.size);
       fewer = λ not_full. omega (arith, count, c.requires.size);
-      full = grind (arith, common_steps);
+      full = λ full. absurd (end_full stop end c.end_of.ensures.end full);
       numbers = λ at keeps. λ k run begun. subst (NumberedFrom k) (sym same) run;
       later = r.later;
-      failed = grind (arith, common_steps);
+      failed = λ fault. r.failed (ap Err (end_fault stop end c.end_of.ensures.end fault));
     }
+
+pub returns-in-Err-clause-round : goal.returns-in-Err-clause-round
+returns-in-Err-clause-round g c =
+    let r = c.in-Err.ensures in
+    round_same _ _ _ _ _ (ap (λ (ps : PacketsState). ps.items) r.none) r.back.1 c.requires.round
 
 pub read_more-blocks-requires-clause-round : goal.read_more-blocks-requires-clause-round
 read_more-blocks-requires-clause-round g c =

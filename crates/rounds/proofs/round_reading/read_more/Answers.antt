@@ -1,4 +1,3 @@
-use Rattle.std.proofs.lemmas.Grind.{common_steps}
 use Rattle.std.proofs.Common.{◌≡◌, ◌-◌, ◌+◌, ◌++◌, ◌∷◌, [], List, ℕ, Ok, Err, ap, sym, subst, ◌∙◌, arith, refl, length, length-append}
 use Rattle.block_pool.specs.PoolState.{home}
 use Rattle.off_io.specs.Told.{Told}
@@ -9,7 +8,8 @@ use Rattle.gro.proofs.Weights.{weighed_last}
 use Rattle.rounds.specs.Reading.{GivesRest, NumbersOn, WaitsOver}
 use Rattle.rounds.specs.declared.round.RoundEnd.{RoundEnd}
 use Rattle.reading.specs.Reading.{GivesRecord}
-use Rattle.rounds.proofs.Pausing.{halt_ended, halt_lacking, round_last, waits_over}
+use Rattle.rounds.specs.RoundOf.{brought_by}
+use Rattle.rounds.proofs.Pausing.{came_back, came_then, full_fault, halt_ended, halt_fault, halt_full, halt_lacking, round_last, round_same, waits_over}
 use Rattle.rounds.proofs.Rounding.{no_front, so_far_none, so_far_at, so_far_more, round_stop_given, fills_round, numbers_none, numbers_more}
 use Rattle.rounds.proofs.round_reading.read_more.Goals as goal
 
@@ -60,11 +60,25 @@ returns-in-Err-clause-fills g c =
           (round_stop_given _ _ _ old l.reader.place new l.used c.args.pool.now.made first l.packets.items stop end (i.so_far.link ∙ c.requires.link) i.within i.round.need ends i.so_far.told told));
       size = omega (arith, count, i.size);
       fewer = λ not_full. omega (arith, count, c.reading-test.true, c.len.ensures);
-      full = grind (arith, common_steps);
+      full = λ full. absurd (halt_full stop c.halt_of.result c.halt_of.ensures.halt full);
       numbers = subst (NumbersOn old.number first) (sym same) i.numbers;
       later = omega (arith, c.in-Err.ensures.later, i.later);
-      failed = grind (arith, common_steps);
+      failed = λ fault. omega (arith, i.later, c.in-Err.ensures.failed (ap Err (halt_fault stop c.halt_of.result c.halt_of.ensures.halt fault)));
     }
+
+pub returns-in-Err-clause-round : goal.returns-in-Err-clause-round
+returns-in-Err-clause-round g c =
+    let r = c.in-Err.ensures in
+    round_same _ _ _ _ _ (ap (λ (ps : PacketsState). ps.items) r.none) r.back.1 c.reading.invariant.round
+
+pub returns-in-Err-clause-came : goal.returns-in-Err-clause-came
+returns-in-Err-clause-came g c =
+    let l = c.reading in
+    let r = c.in-Err.ensures in
+    came_then _ _ _ _ _ _ _ _ _ l.invariant.came
+    (came_back (brought_by g.H.Supply.brought g.H.Supply.weights g.H.Supply.owed g.H.Supply.refusals l.more)
+    (brought_by g.H.Supply.brought g.H.Supply.weights g.H.Supply.owed g.H.Supply.refusals c.read_record.new.more) l.used l.pool c.read_record.new.pool l.spares c.read_record.new.spares l.packets.items
+    c.read_record.new.packets.items (ap (λ (ps : PacketsState). ps.items) r.none) r.back.0 r.named_back r.owed r.asked)
 
 pub returns-in-Err-clause-lacking : goal.returns-in-Err-clause-lacking
 returns-in-Err-clause-lacking g c = λ lacks.
@@ -112,7 +126,7 @@ returns-clause-fills g c =
       full = λ full. fills_round a b old l.reader.place first l.packets.items c.args.budget (omega (arith, i.size, c.reading-test.false, c.len.ensures)) i.so_far;
       numbers = i.numbers;
       later = i.later;
-      failed = grind (arith, common_steps);
+      failed = λ fault. absurd (full_fault fault);
     }
 
 pub reading-preserved : goal.reading-preserved
