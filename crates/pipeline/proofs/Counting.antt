@@ -1,4 +1,4 @@
--- Blocks that are counted once both sides have ended, over plain numbers.
+-- Blocks that are counted on both sides, and once both have ended, over plain numbers.
 use Rattle.std.proofs.Common.{◌≡◌, ◌+◌, ◌-◌, ◌^◌, ◌≤◌, ℕ, min, sym, subst, arith}
 use Rattle.rounds.specs.Handled.{FewPauses}
 
@@ -46,3 +46,49 @@ most_same a b c e h = subst (λ (x : ℕ). x ≤ b) (sym e) h
 
 pub room_back : (b i room kept home old : ℕ) → b ≡ i → b + b ≤ room + (kept + kept) → old + kept ≤ home → i + i ≤ room + (home + home)
 room_back b i room kept home old e r l = omega arith
+
+-- ---- the side that reads
+
+-- a desk where nothing of what it was brought has changed
+pub same_brought : {t t' s s' l l' : ℕ} → t' ≡ t → s' ≡ s → l' ≡ l → (t' - s') + l' ≡ (t - s) + l
+same_brought a b c = omega arith
+
+-- a round more was read and sent: what is home, what was sent and what the desk was brought, against the same at first
+pub read_more : {sent' bk bb bd br : ℕ} (home sent brought here first now mid rest n : ℕ) → home + sent + brought ≡ here + first + now → mid + now ≡ home + bb → bk ≡ bb → rest + n + bk ≡ mid + br → bd ≡ br
+    → sent' ≡ sent + (n + 0) → rest + sent' + brought ≡ here + first + bd
+read_more home sent brought here first now mid rest n a b c d e f = omega arith
+
+-- or none
+pub read_none : {sent' bk bb : ℕ} (home sent brought here first now mid : ℕ) → home + sent + brought ≡ here + first + now → mid + now ≡ home + bb → bk ≡ bb → sent' ≡ sent + 0
+    → mid + sent' + brought ≡ here + first + bk
+read_none home sent brought here first now mid a b c d = omega arith
+
+pub read_stopped : (home sent brought here first now mid bb : ℕ) → home + sent + brought ≡ here + first + now → mid + now ≡ home + bb → mid + sent + brought ≡ here + first + bb
+read_stopped home sent brought here first now mid bb a b = omega arith
+
+-- ---- the side that works
+
+-- a round came and was handled
+pub came_more : {shelf empty n read now : ℕ} (told given got none here given' : ℕ) → told + given ≡ got + none → shelf ≡ empty → empty ≡ 0 → here + given' ≡ shelf + n + given → n ≡ read → now ≡ got + (read + 0)
+    → told + here + given' ≡ now + none
+came_more told given got none here given' a b c d e f = omega arith
+
+-- what is left of it is kept, and what was kept before goes home, which is nothing
+pub kept_last : {told' kept shelf last here : ℕ} (told given got none : ℕ) → told + here + given ≡ got + none → kept ≡ 0 → told' ≡ told + shelf → shelf ≡ kept → last ≡ here → told' + last + given ≡ got + none
+kept_last told given got none a b c d e = omega arith
+
+pub told_same : {told' shelf kept : ℕ} (told : ℕ) → told' ≡ told + shelf → shelf ≡ kept → kept ≡ 0 → told' ≡ told
+told_same told a b c = omega arith
+
+-- or it goes home
+pub told_more : {told' : ℕ} (told here given got none shelf given' : ℕ) → told + here + given ≡ got + none → told' ≡ told + shelf → shelf + given' ≡ here + given → told' + given' ≡ got + none
+told_more told here given got none shelf given' a b c = omega arith
+
+-- the places for it
+pub room_kept : {blocks blocks' here' last : ℕ} (room here room' : ℕ) → blocks + blocks ≤ room + (0 + 0) → room + (here + here) ≤ room' + (here' + here') → blocks' ≡ blocks → last ≡ here'
+    → blocks' + blocks' ≤ room' + (last + last)
+room_kept room here room' a b c d = omega arith
+
+pub room_more : {blocks blocks' here' last room' room'' blocks'' : ℕ} (room here : ℕ) → blocks + blocks ≤ room + (0 + 0) → room + (here + here) ≤ room' + (here' + here') → blocks' ≡ blocks → last ≡ here'
+    → room' ≤ room'' → blocks'' ≡ blocks' → blocks'' + blocks'' ≤ room'' + (last + last)
+room_more room here a b c d e f = omega arith

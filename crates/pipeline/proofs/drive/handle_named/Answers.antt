@@ -1,4 +1,4 @@
-use Rattle.std.proofs.Common.{◌≡◌, ℕ, ◌∙◌, ◌+◌, ◌^◌, ◌≤◌, ◌++◌, Option, Some, List, ap, sym, subst, refl, arith}
+use Rattle.std.proofs.Common.{◌≡◌, ℕ, ◌∙◌, ◌+◌, ◌^◌, ◌≤◌, ◌++◌, Option, Some, List, ap, sym, subst, refl, length, arith}
 use Rattle.std.specs.Arc.{arc_value}
 use Rattle.block_pool.specs.Giving.{given_by, weights_given}
 use Rattle.block_pool.specs.Listed.{blocks_in}
@@ -20,7 +20,7 @@ use Rattle.rounds.specs.Reads.{reader_at}
 use Rattle.crossing.proofs.Shelves.{homes_append, shelved_none, weights_back_append}
 use Rattle.pipeline.proofs.Rows.{blocks_append, weights_sent_append}
 use Rattle.pipeline.proofs.Counting.{all_counted, all_out, all_weighed, few_home, least_same, most_same, room_back, room_home, room_left, whole_home}
-use Rattle.rounds.proofs.Going.{counted_as}
+use Rattle.rounds.proofs.Going.{counted_as, ready_as}
 use Rattle.pipeline.proofs.Together.{all_went, ends_as, idle_as, left_out, left_weights}
 use Rattle.pipeline.proofs.Lending.{giver_back}
 use Rattle.pipeline.proofs.drive.handle_named.Given as given
@@ -48,6 +48,39 @@ counted g c =
     (ap (λ t. shelved t.items) c.close-tokens.ensures.same.1) (ap (λ t. home t.left) c.close-tokens.ensures.same.2) (ap (λ t. blocks_in t.pass.taken) c.close-tokens.ensures.same.2)
     ∙ ap (λ (n : ℕ). n + blocks_in c.close-tokens.result.2.pass.taken)
     (all_out (ap (λ (s : RoundsState). s.home) c.rounds.view_is) (ap blocks_of c.send_first.ensures.sent.1) (ap (λ (x : RoundRead). x.round.blocks) c.send_first.ensures.sent.2) c.requires.out.out)
+
+pub run_sides-end-requires-clause-reads : goal.run_sides-end-requires-clause-reads
+run_sides-end-requires-clause-reads g c κs within =
+    let on = c.requires.out.goes c.requires.full in
+    let one = c.send_first.ensures.sent in
+    record {
+      ready = on.ready;
+      link = on.link;
+      named = (ap (λ (s : RoundsState). s.blocks) c.rounds.view_is ∙ c.requires.named, refl);
+      first = (
+        one.0,
+        one.1,
+        ap (λ (r : RoundRead). r.end) one.2 ∙ c.requires.full,
+        subst (λ (r : RoundRead). length r.round.packets ≤ c.args.reader.now.place.number) (sym one.2) on.packets,
+      );
+    }
+
+pub run_sides-end-requires-clause-works : goal.run_sides-end-requires-clause-works
+run_sides-end-requires-clause-works g c κs within =
+    let p = c.prepare.ensures in
+    let r = c.in-Ok.ensures in
+    let w = c.args.ways in
+    let first = c.args.rounds.now in
+    let view = c.rounds.view_is in
+    record {
+      named = ap (λ (b : BenchState). b.blocks) p.same ∙ c.rounds.invariant.blocks ∙ ap (λ (s : RoundsState). s.blocks) view ∙ c.requires.named;
+      room = r.room;
+      empty = r.last;
+      lent = w.ungiven.2;
+      none = (r.ring.2, w.unused.0);
+      start = ready_as (g.H.RoundHandler.did c.args.handler.now) g.H.RoundHandler.stopped g.H.RoundHandler.ready (options_at c.prepare.new.bench) (options_of first) c.prepare.new.bench.keep first.keep 0 c.args.into.now
+          (sym (ap options_at p.same ∙ ap options_of view)) (sym (ap (λ (b : BenchState). b.keep) p.same ∙ ap (λ (s : RoundsState). s.keep) view)) c.requires.out.start;
+    }
 
 pub bring_home-requires : goal.bring_home-requires
 bring_home-requires g c =

@@ -5,6 +5,10 @@ use Rattle.block_supply.specs.Lists.{listed_home, weights_home}
 use Rattle.crossing.specs.Tokens.{homes_of, shelved, weights_back, weights_shelved}
 use Rattle.pipeline.specs.Parcels.{blocks_of, packets_of, rounds_of, weights_sent}
 use Rattle.pipeline.specs.Reads.{HasRead}
+use Rattle.block_pool.specs.PoolState.{weighed}
+use Rattle.crossing.specs.Desks.{brought_to, weights_to}
+use Rattle.rounds.specs.Weights.{weights_of}
+use Rattle.pipeline.proofs.Counting.{read_more, read_none, read_stopped, same_brought}
 use Rattle.rounds.specs.Reads.{reader_at, Reads}
 use Rattle.rounds.proofs.Going.{few_later, few_none, few_paused}
 use Rattle.rounds.proofs.Rows.{all_go_last, full_end, reads_last}
@@ -50,35 +54,17 @@ all_read g c =
               failed = r.failed;
             }));
       };
-      sum = omega (
-        arith,
-        e.sum,
-        b.sum,
-        r.sum,
-        ap blocks_of s,
-        blocks_last (sent l.supply.out) (Some (parcel g c)),
-        k.same.0,
-        ap (λ t. homes_of (received t)) k.same.1,
-        ap (λ t. listed_home t.pass t.left) k.same.2,
-        ap (λ s. shelved s.items) d.0,
-        ap (λ t. homes_of (received t)) d.1,
-        ap (λ t. listed_home t.pass t.left) d.2,
-      );
+      sum = read_more l.intake.home (blocks_of (sent l.supply.out)) (brought_to c.args.supply.now.desk) c.args.intake.now.home (blocks_of (sent c.args.supply.now.out)) (brought_to l.supply.desk)
+          c.bring_more.new.self.home c.read_beside-read.new.self.home c.read_beside-read.result.round.blocks e.sum b.sum
+          (same_brought (ap (λ t. homes_of (received t)) k.same.1) k.same.0 (ap (λ t. listed_home t.pass t.left) k.same.2)) r.sum
+          (same_brought (ap (λ t. homes_of (received t)) d.1) (ap (λ s. shelved s.items) d.0) (ap (λ t. listed_home t.pass t.left) d.2))
+          (ap blocks_of s ∙ blocks_last (sent l.supply.out) (Some (parcel g c)));
       named = λ h.
-          omega (
-            arith,
-            e.named h,
-            b.named h,
-            r.named h,
-            ap (weights_sent h) s,
-            weights_sent_append h (sent l.supply.out) (Some (parcel g c) ∷ []),
-            k.named h,
-            ap (λ t. weights_back h (received t)) k.same.1,
-            ap (λ t. weights_home h t.pass t.left) k.same.2,
-            ap (λ s. weights_shelved h s.items) d.0,
-            ap (λ t. weights_back h (received t)) d.1,
-            ap (λ t. weights_home h t.pass t.left) d.2,
-          );
+          read_more (weighed h l.intake.stock) (weights_sent h (sent l.supply.out)) (weights_to c.args.supply.now.desk h) (weighed h c.args.intake.now.stock) (weights_sent h (sent c.args.supply.now.out))
+          (weights_to l.supply.desk h) (weighed h c.bring_more.new.self.stock) (weighed h c.read_beside-read.new.self.stock) (weights_of c.read_beside-read.result.round h) (e.named h) (b.named h)
+          (same_brought (ap (λ t. weights_back h (received t)) k.same.1) (k.named h) (ap (λ t. weights_home h t.pass t.left) k.same.2)) (r.named h)
+          (same_brought (ap (λ t. weights_back h (received t)) d.1) (ap (λ s. weights_shelved h s.items) d.0) (ap (λ t. weights_home h t.pass t.left) d.2))
+          (ap (weights_sent h) s ∙ weights_sent_append h (sent l.supply.out) (Some (parcel g c) ∷ []));
       paused = few_later _ _ _ _ _ _
           (few_paused true refl _ _ _ _ _ _ (few_later _ _ _ _ _ _ e.paused (omega (arith, b.asked, ap (λ t. t.pass.empties) k.same.2)) b.same.4) r.asked r.later_pauses r.paused)
           (omega (arith, ap (λ t. t.pass.empties) d.2)) refl;
@@ -100,28 +86,37 @@ returns-in_default-clause-read g c =
         reads = subst (λ (t : ℕ). Reads c.args.intake.now.blocks c.args.intake.now.budget
             (reader_at g.S.Source.left g.S.Source.faults c.args.reader.now c.args.intake.now.taken) e.read.more (reader_at g.S.Source.left g.S.Source.faults l.reader t)) (sym b.same.1) e.read.reads;
       };
-      sum = omega (
-        arith,
-        e.sum,
-        b.sum,
-        ap blocks_of s,
-        blocks_last (sent l.supply.out) None,
-        k.same.0,
-        ap (λ t. homes_of (received t)) k.same.1,
-        ap (λ t. listed_home t.pass t.left) k.same.2,
-      );
+      sum = read_none l.intake.home (blocks_of (sent l.supply.out)) (brought_to c.args.supply.now.desk) c.args.intake.now.home (blocks_of (sent c.args.supply.now.out)) (brought_to l.supply.desk)
+          c.bring_more.new.self.home e.sum b.sum (same_brought (ap (λ t. homes_of (received t)) k.same.1) k.same.0 (ap (λ t. listed_home t.pass t.left) k.same.2))
+          (ap blocks_of s ∙ blocks_last (sent l.supply.out) None);
       named = λ h.
-          omega (
-            arith,
-            e.named h,
-            b.named h,
-            ap (weights_sent h) s,
-            weights_sent_append h (sent l.supply.out) (None ∷ []),
-            k.named h,
-            ap (λ t. weights_back h (received t)) k.same.1,
-            ap (λ t. weights_home h t.pass t.left) k.same.2,
-          );
+          read_none (weighed h l.intake.stock) (weights_sent h (sent l.supply.out)) (weights_to c.args.supply.now.desk h) (weighed h c.args.intake.now.stock) (weights_sent h (sent c.args.supply.now.out))
+          (weights_to l.supply.desk h) (weighed h c.bring_more.new.self.stock) (e.named h) (b.named h)
+          (same_brought (ap (λ t. weights_back h (received t)) k.same.1) (k.named h) (ap (λ t. weights_home h t.pass t.left) k.same.2))
+          (ap (weights_sent h) s ∙ weights_sent_append h (sent l.supply.out) (None ∷ []));
       paused = few_later _ _ _ _ _ _ e.paused (omega (arith, b.asked, ap (λ t. t.pass.empties) k.same.2)) b.same.4;
+      same = (b.same.0 ∙ e.same.0, b.same.2 ∙ e.same.1, b.same.3 ∙ e.same.2);
+      later = e.later;
+    }
+
+pub returns-then-has_stopped-clause-read : goal.returns-then-has_stopped-clause-read
+returns-then-has_stopped-clause-read g c =
+    let l = c.loop in
+    let e = l.invariant.read in
+    let b = c.bring_more.ensures in
+    record {
+      read = record {
+        more = e.read.more;
+        sent = e.read.sent;
+        reads = subst (λ (t : ℕ). Reads c.args.intake.now.blocks c.args.intake.now.budget
+            (reader_at g.S.Source.left g.S.Source.faults c.args.reader.now c.args.intake.now.taken) e.read.more (reader_at g.S.Source.left g.S.Source.faults l.reader t)) (sym b.same.1) e.read.reads;
+      };
+      sum = read_stopped l.intake.home (blocks_of (sent l.supply.out)) (brought_to c.args.supply.now.desk) c.args.intake.now.home (blocks_of (sent c.args.supply.now.out)) (brought_to l.supply.desk)
+          c.bring_more.new.self.home (brought_to c.bring_more.new.more) e.sum b.sum;
+      named = λ h.
+          read_stopped (weighed h l.intake.stock) (weights_sent h (sent l.supply.out)) (weights_to c.args.supply.now.desk h) (weighed h c.args.intake.now.stock) (weights_sent h (sent c.args.supply.now.out))
+          (weights_to l.supply.desk h) (weighed h c.bring_more.new.self.stock) (weights_to c.bring_more.new.more h) (e.named h) (b.named h);
+      paused = few_later _ _ _ _ _ _ e.paused b.asked b.same.4;
       same = (b.same.0 ∙ e.same.0, b.same.2 ∙ e.same.1, b.same.3 ∙ e.same.2);
       later = e.later;
     }

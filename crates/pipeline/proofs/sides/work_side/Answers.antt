@@ -1,7 +1,7 @@
-use Rattle.std.proofs.Common.{◌≡◌, ◌+◌, ◌≤◌, ◌^◌, ℕ, [], ◌∷◌, None, Some, List, refl, inr, sym, ap, subst, arith, rules, length}
+use Rattle.std.proofs.Common.{◌≡◌, ◌+◌, ◌≤◌, ◌^◌, ℕ, ◌∙◌, [], ◌∷◌, None, Some, List, refl, inr, sym, ap, subst, arith, rules, length}
 use Rattle.block_pool.specs.PoolState.{PoolState, home, weighed}
 use Rattle.rtrb.specs.Ring.{received, sent}
-use Rattle.rounds.specs.Benches.{options_at}
+use Rattle.rounds.specs.Benches.{options_at, IsRead}
 use Rattle.rounds.specs.RoundsState.{BenchState}
 use Rattle.rounds.specs.Weights.{weights_of}
 use Rattle.rounds.specs.declared.round.RoundRead.{RoundRead}
@@ -14,6 +14,7 @@ use Rattle.block_supply.proofs.Listing.{weighed_none}
 use Rattle.pipeline.proofs.Rows.{blocks_last, packets_append, rounds_last, rounds_none, weights_sent_append}
 use Rattle.rounds.proofs.Going.{ready_as}
 use Rattle.pipeline.proofs.Together.{handled_as}
+use Rattle.pipeline.proofs.Counting.{came_more, kept_last, room_kept, room_more, told_more, told_same}
 use Rattle.pipeline.proofs.Lending.{brings_none, brings_none_lent, brings_none_more, lends_same, lends_then, lent_again}
 use Rattle.pipeline.proofs.sides.work_side.Given as given
 use Rattle.pipeline.proofs.sides.work_side.Goals as goal
@@ -24,32 +25,19 @@ came : (g : given.Over) (c : After-handle g)
     → homes_of (sent c.loop.told) + home c.handle.new.home + given_by c.handle.new.giver ≡ blocks_of (received c.receive.new.ring) + given_by c.args.giver.now
 came g c =
     let o = c.open-number.ensures.same in
-    omega (
-      arith,
-      c.loop.invariant.each,
-      ap home o.2,
-      c.in-Some-receive.ensures.allowed.empty,
-      c.handle.ensures.brings.count,
-      ap (λ (r : RoundRead). r.round.blocks) o.1,
-      ap blocks_of c.in-Some-receive.ensures.item,
-      blocks_last (received c.loop.from) (Some c.in-Some-receive.parcel),
-    )
+    came_more (homes_of (sent c.loop.told)) (given_by c.loop.giver) (blocks_of (received c.loop.from)) (given_by c.args.giver.now) (home c.handle.new.home) (given_by c.handle.new.giver) c.loop.invariant.each
+    (ap home o.2) c.in-Some-receive.ensures.allowed.empty c.handle.ensures.brings.count (ap (λ (r : RoundRead). r.round.blocks) o.1)
+    (ap blocks_of c.in-Some-receive.ensures.item ∙ blocks_last (received c.loop.from) (Some c.in-Some-receive.parcel))
 
 came_named : (g : given.Over) (c : After-handle g) (h : ℕ → ℕ) → weights_back h (sent c.loop.told) + weighed h c.handle.new.home.blocks + weights_given c.handle.new.giver h
     ≡ weights_sent h (received c.receive.new.ring) + weights_given c.args.giver.now h
 came_named g c h =
     let p = c.in-Some-receive.parcel in
     let o = c.open-number.ensures.same in
-    omega (
-      arith,
-      c.loop.invariant.named h,
-      ap (λ (s : PoolState). weighed h s.blocks) o.2,
-      weighed_none h p.shelf.blocks c.in-Some-receive.ensures.allowed.empty,
-      c.handle.ensures.brings.named h,
-      ap (λ (r : RoundRead). weights_of r.round h) o.1,
-      ap (weights_sent h) c.in-Some-receive.ensures.item,
-      weights_sent_append h (received c.loop.from) (Some p ∷ []),
-    )
+    came_more (weights_back h (sent c.loop.told)) (weights_given c.loop.giver h) (weights_sent h (received c.loop.from)) (weights_given c.args.giver.now h) (weighed h c.handle.new.home.blocks)
+    (weights_given c.handle.new.giver h) (c.loop.invariant.named h) (ap (λ (s : PoolState). weighed h s.blocks) o.2) (weighed_none h p.shelf.blocks c.in-Some-receive.ensures.allowed.empty)
+    (c.handle.ensures.brings.named h) (ap (λ (r : RoundRead). weights_of r.round h) o.1)
+    (ap (weights_sent h) c.in-Some-receive.ensures.item ∙ weights_sent_append h (received c.loop.from) (Some p ∷ []))
 
 -- what holds behind it
 few_on : (g : given.Over) (c : After-handle g) → packets_of (rounds_of (received c.receive.new.ring)) ≤ 2 ^ 32 + 4096
@@ -152,6 +140,9 @@ handle-requires-clause-may g c =
     let few : n ≤ c.loop.bench.blocks = omega (arith, fits.blocks, same, ap (λ (b : BenchState). b.blocks) i.bench, c.requires.works.named) in
     record { out = omega (arith, ap home o.2, fits.empty, ap (λ (s : PoolState). s.made) o.2, fits.made, fits.blocks, same); few = few; room = omega (arith, few, i.room) }
 
+pub handle-requires-clause-read : goal.handle-requires-clause-read
+handle-requires-clause-read g c = subst (λ (r : RoundRead). IsRead r.round) (sym c.open-number.ensures.same.1) c.in-Some-receive.ensures.allowed.is
+
 pub handle-requires-clause-ready : goal.handle-requires-clause-ready
 handle-requires-clause-ready g c =
     let l = c.loop in
@@ -189,19 +180,14 @@ returns-in-Some-handle-clause-worked g c =
             refl,
           )));
       ready = ready_on g at;
-      each = omega (arith, came g at, i.empty, c.send_home.ensures.sum, ap home r.value, ap home r.after);
+      each = kept_last (homes_of (sent l.told)) (given_by c.handle.new.giver) (blocks_of (received c.receive.new.ring)) (given_by c.args.giver.now) (came g at) i.empty c.send_home.ensures.sum (ap home r.value)
+          (ap home r.after);
       each_named = λ h.
-          omega (
-            arith,
-            came_named g at h,
-            weighed_none h l.kept.blocks i.empty,
-            c.send_home.ensures.named h,
-            ap (λ (s : PoolState). weighed h s.blocks) r.value,
-            ap (λ (s : PoolState). weighed h s.blocks) r.after,
-          );
+          kept_last (weights_back h (sent l.told)) (weights_given c.handle.new.giver h) (weights_sent h (received c.receive.new.ring)) (weights_given c.args.giver.now h) (came_named g at h)
+          (weighed_none h l.kept.blocks i.empty) (c.send_home.ensures.named h) (ap (λ (s : PoolState). weighed h s.blocks) r.value) (ap (λ (s : PoolState). weighed h s.blocks) r.after);
       lends = lends_then c.args.giver.now l.giver c.handle.new.giver i.lends left;
-      none_left = brings_none_lent (sent l.told) (sent c.send_home.new.told) c.args.giver.now l.giver c.handle.new.giver (omega (arith, c.send_home.ensures.sum, ap home r.value, i.empty)) left i.brings;
-      room = omega (arith, ap home r.after, ap home o.2, fits.empty, i.room, b.count, b.room, ap (λ (b : BenchState). b.blocks) b.same);
+      none_left = brings_none_lent (sent l.told) (sent c.send_home.new.told) c.args.giver.now l.giver c.handle.new.giver (told_same (homes_of (sent l.told)) c.send_home.ensures.sum (ap home r.value) i.empty) left i.brings;
+      room = room_kept l.bench.room (home c.open-number.result.2) c.handle.new.bench.room i.room b.room (ap (λ (b : BenchState). b.blocks) b.same) (ap home r.after);
       same = search rules;
     }
 
@@ -219,30 +205,14 @@ returns-then-is_err-clause-worked g c =
       handled = went_stopped did g.H.RoundHandler.stopped 0 c.args.into.now c.handle.new.into (rounds_of (received c.receive.new.ring)) c.stop-then-is_err.result c.stop-then-is_err.ensures.end
           (went_on g (goal.at.returns-then-is_err-clause-worked g c).In-None-handle);
       ready = ready_on g at;
-      each = omega (arith, came g at, i.empty, told.sum, ap home r.value, ap home r.after);
+      each = kept_last (homes_of (sent l.told)) (given_by c.handle.new.giver) (blocks_of (received c.receive.new.ring)) (given_by c.args.giver.now) (came g at) i.empty told.sum (ap home r.value) (ap home r.after);
       each_named = λ h.
-          omega (
-            arith,
-            came_named g at h,
-            weighed_none h l.kept.blocks i.empty,
-            told.named h,
-            ap (λ (s : PoolState). weighed h s.blocks) r.value,
-            ap (λ (s : PoolState). weighed h s.blocks) r.after,
-          );
+          kept_last (weights_back h (sent l.told)) (weights_given c.handle.new.giver h) (weights_sent h (received c.receive.new.ring)) (weights_given c.args.giver.now h) (came_named g at h)
+          (weighed_none h l.kept.blocks i.empty) (told.named h) (ap (λ (s : PoolState). weighed h s.blocks) r.value) (ap (λ (s : PoolState). weighed h s.blocks) r.after);
       lends = lends_then c.args.giver.now l.giver c.handle.new.giver i.lends left;
-      none_left = brings_none_lent (sent l.told) (sent c.send_home-then-is_err.new.told) c.args.giver.now l.giver c.handle.new.giver (omega (arith, told.sum, ap home r.value, i.empty)) left i.brings;
-      room = omega (
-        arith,
-        i.room,
-        ap home r.after,
-        ap home c.open-number.ensures.same.2,
-        c.in-Some-receive.ensures.allowed.empty,
-        b.count,
-        b.room,
-        ap (λ (b : BenchState). b.blocks) b.same,
-        c.make_room.ensures.later,
-        ap (λ (b : BenchState). b.blocks) c.make_room.ensures.same,
-      );
+      none_left = brings_none_lent (sent l.told) (sent c.send_home-then-is_err.new.told) c.args.giver.now l.giver c.handle.new.giver (told_same (homes_of (sent l.told)) told.sum (ap home r.value) i.empty) left i.brings;
+      room = room_more l.bench.room (home c.open-number.result.2) i.room b.room (ap (λ (b : BenchState). b.blocks) b.same) (ap home r.after) c.make_room.ensures.later
+          (ap (λ (b : BenchState). b.blocks) c.make_room.ensures.same);
       same = search rules;
     }
 
@@ -261,8 +231,10 @@ loop-preserved g c =
       lends = lends_then c.args.giver.now c.handle.new.giver c.give_list.new.giver (lends_then c.args.giver.now l.giver c.handle.new.giver i.lends h.gave) c.give_list.ensures.gave;
       brings = brings_none_more (sent l.told) (sent c.send_home-in-loop.new.told) c.args.giver.now l.giver c.handle.new.giver c.give_list.new.giver c.give_list.new.list.blocks
           c.send_home-in-loop.ensures.sum i.lends h.gave c.give_list.ensures.gave c.give_list.ensures.none_left i.brings;
-      each = omega (arith, came g p, c.send_home-in-loop.ensures.sum, c.give_list.ensures.sum);
-      named = λ x. omega (arith, came_named g p x, c.send_home-in-loop.ensures.named x, c.give_list.ensures.named x);
+      each = told_more (homes_of (sent l.told)) (home c.handle.new.home) (given_by c.handle.new.giver) (blocks_of (received c.receive.new.ring)) (given_by c.args.giver.now) (home c.give_list.new.list)
+          (given_by c.give_list.new.giver) (came g p) c.send_home-in-loop.ensures.sum c.give_list.ensures.sum;
+      named = λ x. told_more (weights_back x (sent l.told)) (weighed x c.handle.new.home.blocks) (weights_given c.handle.new.giver x) (weights_sent x (received c.receive.new.ring))
+          (weights_given c.args.giver.now x) (weighed x c.give_list.new.list.blocks) (weights_given c.give_list.new.giver x) (came_named g p x) (c.send_home-in-loop.ensures.named x) (c.give_list.ensures.named x);
       went = went_on g (goal.at.loop-preserved g c).In-None-handle;
       few = few_on g p;
       ready = ready_now g p;
