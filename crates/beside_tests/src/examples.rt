@@ -2,9 +2,9 @@
 use crate::compared::{clone_of, packet, spend_all};
 use crate::plans::plain;
 use ahead::work_and_read;
+use check_totals::{Totals, write_totals};
 use checking::{CheckEnd, check_all};
 use checking_beside::check_beside;
-use check_totals::{Totals, write_totals};
 use comparing::{KeptFlows, check_items};
 use frame_runs::Engine;
 use gro::Packets;

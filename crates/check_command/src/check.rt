@@ -31,11 +31,11 @@ ghost use Rattle.command_answers.specs.Output.{options as options_of};
 ghost use Rattle.command_answers.specs.RunAnswers.{HasAnswered};
 
 use cap_make::{MadeSource, made_len, made_reads_back};
+use check_totals::{Totals, totals_are_told, write_made, write_totals};
 use checking::CheckEnd;
 use checking_beside::check_beside;
 use command_answers::{Status, finish, refused};
 use command_rounds::make_rounds;
-use check_totals::{Totals, totals_are_told, write_made, write_totals};
 use off_io::{Gate, Sink, Source, WriteFault};
 use offload_words::{CheckOptions, MergeOptions};
 use pcap_io::{CaptureReader, FileHead, Link, take_file};

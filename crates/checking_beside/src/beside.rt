@@ -13,8 +13,8 @@ ghost use Rattle.check_totals.specs.Tallies.{Tallies};
 ghost use Rattle.rounds.specs.Merging.{options_of};
 ghost use Rattle.checking.specs.Handling.{ending_of};
 
-use checking::{CheckEnd, Counting};
 use check_totals::Totals;
+use checking::{CheckEnd, Counting};
 use off_io::{Gate, Source};
 use pcap_io::CaptureReader;
 use pipeline::handle_beside;
