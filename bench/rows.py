@@ -12,7 +12,7 @@ from common import ROOT
 HEADER = 24
 RECORD = 16
 SAMPLE = os.path.join(ROOT, "samples", "tcp_ipv4_four_flows.pcap")
-PROGRAM = os.path.join(ROOT, "crates", "offload", "out", "offload")
+PROGRAM = os.path.join(ROOT, "out", "offload")  # a link to what ./offload runs, which `build` makes
 EMPTY = b"\xd4\xc3\xb2\xa1\x02\0\x04\0" + bytes(8) + b"\0\0\x04\0\x01\0\0\0"
 SAMPLES = {"VXLAN": "tcp_vxlan", "IPv6": "tcp_ipv6_four_flows", "two tags": "tcp_two_tags"}
 
@@ -79,9 +79,8 @@ def checksum(data):
     return 65535 - ((number - 1) % 65535 + 1 if number else 0)
 
 
-def segment(port, sequence, acknowledgment, identification, payload):
+def segment(port, sequence, acknowledgment, identification, payload, hosts=bytes((10, 77, 0, 1, 10, 77, 0, 2))):
     """A segment over IPv4 with twelve bytes of options, as Linux sends them: 66 bytes and its payload."""
-    hosts = bytes((10, 77, 0, 1, 10, 77, 0, 2))
     options = b"\1\1\x08\x0a\0\0\0\1\0\0\0\2"
     size = 32 + len(payload)
 
@@ -177,7 +176,21 @@ def large_records(sample, name):
     return [(s, f, with_port(p, 1024 + flow)) for flow in range(int(flows.replace(",", ""))) for s, f, p in burst]
 
 
+def times(number):
+    """A step of the hash by which `merge` looks at an open run first (frame_runs, flow_hash)."""
+    return number * 0x9E3779B1 % 2**32
+
+
+def colliding_hosts(port):
+    """Both addresses of a flow from a port, so that all such flows have one hash: what the ports add to it the destination takes off."""
+    return bytes((10, 77, 0, 1)) + ((times(40000 << 16 | 5201) - times(port << 16 | 5201)) % 2**32).to_bytes(4, "big")
+
+
 def small_records(name):
+    if name.startswith("4,096 small flows"):
+        flows = range(1024, 1024 + 4096)
+        hosts = {port: colliding_hosts(port) if name.endswith("collide") else bytes((10, 77, 0, 1)) + (port * 2654435761 % 2**32).to_bytes(4, "big") for port in flows}
+        return [(1, 0, segment(port, 1000, 1, 100, small_payload(port), hosts[port])) for port in flows]
     if name == "ACKs":
         return [(1, 0, segment(40000 + i % 4, 1000, 2000 + i, 100 + i, b"")) for i in range(256)]
     if name == "one flow":
@@ -185,7 +198,7 @@ def small_records(name):
     return [(1, 0, segment(40000 + i, 1000, 1, 100, small_payload(i))) for i in range(64)]
 
 
-SMALL = ("cut", "ACKs", "one flow", "64 flows")
+SMALL = ("cut", "ACKs", "one flow", "64 flows", "4,096 small flows", "4,096 small flows that collide")
 
 
 def make(name, sample, size, folder):
@@ -253,6 +266,8 @@ def merging(walk):
     found = [Group(title, beside(walk, name) + [merges("`offload merge`", name)], BESIDE, main=True) for name, title in titles.items()]
     layouts = ("1,514 bytes", "4,096 flows in turn", "4,096 flows by 8", *SAMPLES)
     found.append(Group("merging by flows and layouts", [merges(f"merge, {name}", name) for name in layouts], ("merge, 1,514 bytes",), main=True))
+    many = [merges(f"merge --budget 4096 --blocks 16384, {name}", name, "--budget", "4096", "--blocks", "16384") for name in SMALL[4:]]
+    found.append(Group("merging 100-byte segments of 4,096 flows, and of 4,096 whose hashes are equal", many, (many[0].name,)))
     kinds = [merges(f"merge, {name}", name) for name in FULL]
     # Of 45 segments a merged frame has 65,535 bytes at most, of 180 almost 262,144.
     long = [merges(f"merge --budget 180 --segs {segs}, IPv6 segments", "IPv6 segments", "--budget", "180", "--segs", str(segs)) for segs in (45, 180)]
@@ -304,8 +319,13 @@ def groups(walk):
 
 
 def build():
-    """Has the program proved and built."""
-    subprocess.run([os.path.join(ROOT, "offload"), "merge"], input=EMPTY, stdout=subprocess.DEVNULL, check=True)
+    """Has the program found, or proved and built, and `PROGRAM` lead to it."""
+    find = 'root=$0 teller=bench refused=1 && . "$root/contrib/lib/program.sh" && find_product && echo "$product"'
+    found = subprocess.run(["bash", "-c", find, ROOT], stdin=subprocess.DEVNULL, stdout=subprocess.PIPE, text=True, check=True).stdout.strip()
+    os.makedirs(os.path.dirname(PROGRAM), exist_ok=True)
+    link = f"{PROGRAM}.{os.getpid()}"
+    os.symlink(found, link)
+    os.replace(link, PROGRAM)
 
 
 def compile_walk(folder):

@@ -37,7 +37,7 @@ class Flow:
         self.fragment = mostly(rng, 0, 0x80, 0x20, 0x01) << 8 | (0x4000 if rng.random() < 0.7 else 0)
         self.id_step = [rng.choice((1, 1, 1, 0)) for _ in range(2)]
         self.ids = [rng.choice((0, 100, 65534, 65535)) for _ in range(2)]
-        self.hosts, self.port = rng.randrange(3), 40000 + rng.randrange(3)
+        self.hosts, self.port, self.destination = rng.randrange(3), 40000 + rng.randrange(3), bytes((10, 0, 0, 2))
         self.is_datagram, self.datagram_port = rng.random() < 0.3, rng.choice((5001, 5001, 5001, 4789, 8472))
         self.has_datagram_sum = rng.random() < 0.6
         self.options, self.reserved = rng.randbytes(4 * rng.choice((0, 0, 3, 3, 10))), mostly(rng, 0, 1, 8)
@@ -60,7 +60,7 @@ class Flow:
 
     def addresses(self, ip):
         if ip == 4:
-            return bytes((10, 0, 0, 1 + self.hosts, 10, 0, 0, 2))
+            return bytes((10, 0, 0, 1 + self.hosts)) + self.destination
         return bytes((0x20, 1, 0x0D, 0xB8)) + bytes(11) + bytes((1 + self.hosts,)) + bytes((0x20, 1, 0x0D, 0xB8)) + bytes(11) + b"\x02"
 
     def pseudo(self, ip, protocol, length):
@@ -377,8 +377,31 @@ def long_frames(rng):
         yield flow.next(rng)
 
 
+def times(number):
+    """A step of the hash by which the program looks at an open run first."""
+    return number * 0x9E3779B1 % 2**32
+
+
+def many_frames(rng):
+    """Frames of many flows, in turn or in bursts; of half of these the ports and the destination give all flows one hash."""
+    first, are_colliding = Flow(rng), rng.random() < 0.5
+    first.ip, first.size = 4, rng.choice((1, 4, 48))
+    flows = [copy.copy(first) for _ in range(rng.choice((10, 40, 100)))]
+    for at, flow in enumerate(flows):
+        flow.ids, flow.port = list(first.ids), 1024 + 7 * at
+        if are_colliding:
+            to = flow.datagram_port if flow.is_datagram else 5001
+            flow.destination = ((times(40000 << 16 | to) - times(flow.port << 16 | to)) % 2**32).to_bytes(4, "big")
+    burst, is_in_turn = rng.choice((1, 1, 2, 5)), rng.random() < 0.5
+    for at in range(3 * len(flows) // burst):
+        flow = flows[at % len(flows)] if is_in_turn else rng.choice(flows)
+        for _ in range(burst):
+            yield flow.next(rng)
+
+
 def frames_of(rng, is_wrong):
-    return long_frames(rng) if rng.random() < 0.003 else some_frames(rng, is_wrong)
+    kind = rng.random()
+    return long_frames(rng) if kind < 0.003 else many_frames(rng) if kind < 0.03 else some_frames(rng, is_wrong)
 
 
 def frames_capture(rng):
