@@ -3,7 +3,11 @@ ghost use Rattle.std.specs.Prelude.{◌≡◌, ◌≤◌, ◌⊎◌, IfSome, Mat
 ghost use Rattle.off_io.specs.Content.{AppendsPrefix};
 ghost use Rattle.off_io.specs.Faults.{Rose};
 ghost use Rattle.off_io.specs.Told.{Told};
+ghost use Rattle.offload_words.specs.declared.words.Command.TheVariants.{Merge, Segment, Check};
+ghost use Rattle.offload_words.specs.Check.{IsInRange as IsCheckInRange};
 ghost use Rattle.offload_words.specs.Commands.{command_of, HasRanges};
+ghost use Rattle.offload_words.specs.Merge.{IsInRange};
+ghost use Rattle.offload_words.specs.Segment.{IsInRange as IsSegmentInRange};
 ghost use Rattle.status_log.specs.Lines.{Logs};
 ghost use Rattle.command_answers.specs.Ending.{IsCaused};
 ghost use Rattle.command_answers.specs.Making.{Makes};
@@ -18,11 +22,81 @@ use check_command::run_check;
 use command_answers::{Status, write_log};
 use merge_command::run_merge;
 use off_io::{Gate, Sink, Source};
-use offload_words::{Command, WordsFault, parse_words};
+use offload_words::{CheckOptions, Command, MergeOptions, SegmentOptions, WordsFault, parse_words};
 use segment_command::run_segment;
 use std::alloc::Global;
 use std::sync::Wait;
 use std::thread::Threads;
+
+// Runs `merge`, and leaves its rounds as the engine.
+fn merge<R: Threads + Wait + Sync, S: Source + Send, K: Sink, G: Gate + Sync>(
+    rt: &R,
+    alloc: Global,
+    options: MergeOptions,
+    source: &mut S,
+    sink: &mut K,
+    gate: &G,
+    engine: &mut Option<Engine>,
+) -> Status
+    requires range { IsInRange options }
+    requires engine { engine.old ≡ None }
+    ensures ended { HasEnded (Merge options) (S.left source.old) (S.left source.new) (S.faults source.old)
+        (S.faults source.new) (K.held sink.old) (K.held sink.new) (K.is_flushed sink.new) (source.new ≡ source.old)
+        (sink.new ≡ sink.old) engine.new result }
+    ensures caused { IsCaused (S.faults source.old) (S.faults source.new) (K.faults sink.old) (K.faults sink.new)
+        result }
+{
+    let mut rounds = None;
+    let status = run_merge(rt, alloc, options, source, sink, gate, &mut rounds);
+    *engine = Engine::merging(rounds);
+    status
+}
+
+// Runs `segment`, and leaves its blocks as the engine.
+fn segment<S: Source, K: Sink>(
+    alloc: Global,
+    options: SegmentOptions,
+    source: &mut S,
+    sink: &mut K,
+    engine: &mut Option<Engine>,
+) -> Status
+    requires range { IsSegmentInRange options }
+    requires engine { engine.old ≡ None }
+    ensures ended { HasEnded (Segment options) (S.left source.old) (S.left source.new) (S.faults source.old)
+        (S.faults source.new) (K.held sink.old) (K.held sink.new) (K.is_flushed sink.new) (source.new ≡ source.old)
+        (sink.new ≡ sink.old) engine.new result }
+    ensures caused { IsCaused (S.faults source.old) (S.faults source.new) (K.faults sink.old) (K.faults sink.new)
+        result }
+{
+    let mut run = None;
+    let status = run_segment(alloc, options, source, sink, &mut run);
+    *engine = Engine::segmenting(run);
+    status
+}
+
+// Runs `check`, and leaves its rounds as the engine.
+fn check<R: Threads + Wait + Sync, S: Source + Send, K: Sink, G: Gate + Sync>(
+    rt: &R,
+    alloc: Global,
+    options: CheckOptions,
+    source: &mut S,
+    sink: &mut K,
+    gate: &G,
+    engine: &mut Option<Engine>,
+) -> Status
+    requires range { IsCheckInRange options }
+    requires engine { engine.old ≡ None }
+    ensures ended { HasEnded (Check options) (S.left source.old) (S.left source.new) (S.faults source.old)
+        (S.faults source.new) (K.held sink.old) (K.held sink.new) (K.is_flushed sink.new) (source.new ≡ source.old)
+        (sink.new ≡ sink.old) engine.new result }
+    ensures caused { IsCaused (S.faults source.old) (S.faults source.new) (K.faults sink.old) (K.faults sink.new)
+        result }
+{
+    let mut rounds = None;
+    let status = run_check(rt, alloc, options, source, sink, gate, &mut rounds);
+    *engine = Engine::merging(rounds);
+    status
+}
 
 // Runs a command.
 fn run_command<R: Threads + Wait + Sync, S: Source + Send, K: Sink, G: Gate + Sync>(
@@ -43,24 +117,9 @@ fn run_command<R: Threads + Wait + Sync, S: Source + Send, K: Sink, G: Gate + Sy
         result }
 {
     match command {
-        Command::Merge(options) => {
-            let mut rounds = None;
-            let status = run_merge(rt, alloc, options, source, sink, gate, &mut rounds);
-            *engine = Engine::merging(rounds);
-            status
-        }
-        Command::Segment(options) => {
-            let mut run = None;
-            let status = run_segment(alloc, options, source, sink, &mut run);
-            *engine = Engine::segmenting(run);
-            status
-        }
-        Command::Check(options) => {
-            let mut rounds = None;
-            let status = run_check(rt, alloc, options, source, sink, gate, &mut rounds);
-            *engine = Engine::merging(rounds);
-            status
-        }
+        Command::Merge(options) => merge(rt, alloc, options, source, sink, gate, engine),
+        Command::Segment(options) => segment(alloc, options, source, sink, engine),
+        Command::Check(options) => check(rt, alloc, options, source, sink, gate, engine),
         Command::Make(options) => run_make(options, sink),
     }
 }
