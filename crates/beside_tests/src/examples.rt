@@ -37,7 +37,7 @@ fn example_of_ahead(rt: HostRuntime) -> Result<(), Fail> {
         rounds.end_round(worked);
     }
     match next {
-        ReadAhead::Read(read) => rounds.drop_round(read.round),
+        ReadAhead::Read(RoundRead { round, end: _ }) => rounds.drop_round(round),
         ReadAhead::Paused(paused) => rounds.drop_round(paused.into_round()),
     }
     assert_eq!(rt; rounds.home(), 12);
