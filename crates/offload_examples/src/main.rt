@@ -11,21 +11,36 @@ mod steps;
 
 use anyhow::Error;
 use std::env;
+use steps::{blocks, buffers, cutting, frames, merging, pools, sums, windows};
+
+fn tell_usage(rt: &HostRuntime) -> Result<(), Error> {
+    println!(rt;
+        "usage: offload_examples frames|blocks|buffers|merging|pools|segmenting|taps TURNS, or sums TURNS LENGTH"
+    )?;
+    Ok(())
+}
 
 fn main(rt: HostRuntime) -> Result<(), Error> {
     let mut words = env::args(&rt)?;
     let Some(which) = words.nth(1) else {
         return samples::show(&rt);
     };
-    if let Some(turns) = words.next() {
-        let length = match words.next() {
-            Some(length) => Some(length.parse::<usize>()?),
-            None => None,
-        };
-        if steps::measure(&rt, which.as_str(), turns.parse::<u64>()?, length)? {
-            return Ok(());
-        }
+    let Some(turns) = words.next() else {
+        return tell_usage(&rt);
+    };
+    let turns = turns.parse::<u64>()?;
+    match which.as_str() {
+        "frames" => frames::measure(&rt, turns),
+        "blocks" => blocks::measure(&rt, turns),
+        "buffers" => buffers::measure(&rt, turns),
+        "merging" => merging::measure(&rt, turns),
+        "pools" => pools::measure(&rt, turns),
+        "segmenting" => cutting::measure(&rt, turns),
+        "taps" => windows::measure(&rt, turns),
+        "sums" => match words.next() {
+            Some(length) => sums::measure(&rt, turns, length.parse::<usize>()?),
+            None => tell_usage(&rt),
+        },
+        _ => tell_usage(&rt),
     }
-    println!(rt; "usage: offload_examples {}", steps::USAGE)?;
-    Ok(())
 }

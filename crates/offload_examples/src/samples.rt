@@ -15,6 +15,7 @@ use offload_run::{Status, run};
 use pcap_io::{CaptureReader, FileHead, Link, take_file};
 use std::alloc::{AllocError, Global};
 use std::fs;
+use std::fs::Files;
 use std::sync::Wait;
 use std::thread::Threads;
 
@@ -219,7 +220,7 @@ fn run_over(
 }
 
 // A line on a run with options.
-fn show_run(rt: &HostRuntime, name: &str, what: &str, ended: &Ended) -> Result<(), Error> {
+fn show_run(rt: &impl Print, name: &str, what: &str, ended: &Ended) -> Result<(), Error> {
     println!(rt;
         "{name}: {what}: status {}, bytes {}, hash {}",
         ended.status.code(),
@@ -230,7 +231,7 @@ fn show_run(rt: &HostRuntime, name: &str, what: &str, ended: &Ended) -> Result<(
 }
 
 // A line on a run that is refused: its status and its line in the log.
-fn show_refusal(rt: &HostRuntime, what: &str, ended: &Ended) -> Result<(), Error> {
+fn show_refusal(rt: &impl Print, what: &str, ended: &Ended) -> Result<(), Error> {
     let line = str::from_utf8(&ended.log).unwrap_or("no text");
     println!(rt;
         "{what}: status {}, log: {}",
@@ -249,7 +250,7 @@ fn cut_short(bytes: &[u8]) -> &[u8] {
 }
 
 /// The lines of all samples.
-pub fn show(rt: &HostRuntime) -> Result<(), Error> {
+pub fn show<R: Print + Files + AllocGlobal + Threads + Wait + Sync>(rt: &R) -> Result<(), Error> {
     let alloc = rt.alloc();
     for name in SAMPLES {
         let bytes = fs::read(rt, name)?;

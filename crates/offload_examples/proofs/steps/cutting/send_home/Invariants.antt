@@ -1,5 +1,5 @@
 use Rattle.std.proofs.Common.{◌≡◌, ◌≤◌, [], length}
-use Rattle.offload_examples.proofs.steps.segmenting.send_home.Given as goal
+use Rattle.offload_examples.proofs.steps.cutting.send_home.Given as goal
 
 abbrev pub invariant-loop-block : goal.invariant-loop-block
 invariant-loop-block l = l.fn.out.spare ≤ l.out.spare

@@ -1,6 +1,6 @@
 use Rattle.std.proofs.Common.{◌*◌, ◌≤◌, length}
 use Rattle.frags.specs.PieceList.{size_of}
-use Rattle.offload_examples.proofs.steps.segmenting.pieces_of.Given as goal
+use Rattle.offload_examples.proofs.steps.cutting.pieces_of.Given as goal
 
 abbrev pub invariant-loop-block : goal.invariant-loop-block
 invariant-loop-block l = record {

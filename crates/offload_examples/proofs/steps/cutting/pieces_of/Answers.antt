@@ -1,7 +1,7 @@
 use Rattle.std.proofs.Common.{length, arith, ap, ◌∙◌, length-append}
 use Rattle.frags.specs.PieceList.{size_of}
 use Rattle.frags.proofs.PieceBytes.{size_of-append}
-use Rattle.offload_examples.proofs.steps.segmenting.pieces_of.Goals as goal
+use Rattle.offload_examples.proofs.steps.cutting.pieces_of.Goals as goal
 
 pub loop-block-preserved-then-room-gt0 : goal.loop-block-preserved-then-room-gt0
 loop-block-preserved-then-room-gt0 c =

@@ -1,5 +1,5 @@
 use Rattle.std.proofs.Common.{◌-◌, ◌≤◌}
-use Rattle.offload_examples.proofs.steps.segmenting.buffer_of.Given as goal
+use Rattle.offload_examples.proofs.steps.cutting.buffer_of.Given as goal
 
 abbrev pub invariant-loop-from : goal.invariant-loop-from
 invariant-loop-from l = l.from ≤ 65495
