@@ -1,5 +1,6 @@
 use Rattle.std.proofs.Common.{arith, inl, inr}
-use Rattle.pipeline.proofs.Rows.{left_weighs, refill_weighs}
+use Rattle.block_supply.proofs.Listing.{left_weighs}
+use Rattle.crossing.proofs.Shelves.{refill_weighs}
 use Rattle.round_tests.proofs.sides.ShelfSupply.bring.Goals as goal
 
 pub invariant_of-self : goal.invariant_of-self
