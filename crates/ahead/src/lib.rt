@@ -1,8 +1,8 @@
 //! A round read beside the work of another, for whoever drives rounds one by one.
 //!
-//! [`work_and_read`] works a round and reads the next one at once, the reading in a thread of its own. The spares of the
-//! round that is worked come home list by list meanwhile. Where the next one needs more blocks behind a record's header
-//! than are home it is paused, and [`read_rest`] reads it to its end once the other has ended.
+//! [`work_and_read`] works a round and reads the next one at once, the reading in a thread of its own. The spares of
+//! the round that is worked come home list by list meanwhile. Where the next one needs more blocks behind a record's
+//! header than are home it is paused, and [`read_rest`] reads it to its end once the other has ended.
 //!
 //! Proved, by the names of the clauses:
 //!

@@ -124,8 +124,8 @@ fn example_of_comparing(rt: &impl Abort, alloc: Global, second: &[u8], original:
     returned
 }
 
-// One of them has another byte, another length, or is the other one. The bytes come from a program that was written from
-// the formats alone.
+// One of them has another byte, another length, or is the other one. The bytes come from a program that was written
+// from the formats alone.
 #[test]
 fn segments_are_compared(rt: HostRuntime) {
     let alloc = rt.alloc();

@@ -1,5 +1,5 @@
-//! The command `check`: a capture of Ethernet frames, read or generated, is merged as `merge` does, what each round comes
-//! to is compared with its packets, and lines of how many came back are written at the end.
+//! The command `check`: a capture of Ethernet frames, read or generated, is merged as `merge` does, what each round
+//! comes to is compared with its packets, and lines of how many came back are written at the end.
 //!
 //! Proved, by the names of the clauses of [`run_check`]: what is read and written for each answer, and when the sink is
 //! flushed (`answered`, by `HasAnswered` of `command_answers`); that all blocks are home, and how many were taken

@@ -6,8 +6,8 @@
 //!
 //! Proved, by the names of the clauses: totals start at those of no packet ([`Totals::make`]) and add lane by lane
 //! ([`Totals::add`]); [`write_totals`] appends just the lines, or a prefix of them where the sink failed (`ok`, `err`,
-//! `cause`); and counting goes round by round ([`counting_goes_by_round`], [`totals_add_up`]). That as many come back as
-//! went in is a law of what merging gives ([`records_return`]), and no evidence: that bytes are compared `comparing`
+//! `cause`); and counting goes round by round ([`counting_goes_by_round`], [`totals_add_up`]). That as many come back
+//! as went in is a law of what merging gives ([`records_return`]), and no evidence: that bytes are compared `comparing`
 //! says.
 //!
 //! ```

@@ -1,5 +1,5 @@
-//! What a command answers: its status, with the code that the program ends with and the line that the log gets; and what
-//! each status says of source and sink, command by command and in plain words.
+//! What a command answers: its status, with the code that the program ends with and the line that the log gets; and
+//! what each status says of source and sink, command by command and in plain words.
 //!
 //! A command that reads a capture ends by its file header ([`refused`]), or behind its records, where the sink is
 //! flushed ([`finish`]). Its [`Status`] has a code ([`Status::code`]) and a line in the log ([`write_log`]).

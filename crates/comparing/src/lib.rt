@@ -21,8 +21,8 @@
 //!
 //! - `counts` of the inner calls: as many are counted as are equal in their places, whatever the packets are.
 //! - `compared` of [`check_lanes`]: whatever packets the lanes hold in runs, of each queue so many are counted as
-//!   returned as are equal to the next packets of their flows (`compared_lanes`). It asks no more of the lanes than that
-//!   they may be compared. So a body that compares nothing doesn't meet it.
+//!   returned as are equal to the next packets of their flows (`compared_lanes`). It asks no more of the lanes than
+//!   that they may be compared. So a body that compares nothing doesn't meet it.
 //! - `totals` of [`check_lanes`]: where the lanes hold what the round comes to, the totals are the model's: that all
 //!   come back, byte for byte.
 //!

@@ -151,8 +151,8 @@ impl Engine {
         requires places { HasPlaces self.old 1 }
         requires here { IsHere F.packet packets.now i slot.now }
         requires slot { F.is_held slot.now }
-        requires judged { IsJudged (F.packet slot.now).frame (F.packet slot.now).original candidacy.layout candidacy.payload
-            candidacy.flags }
+        requires judged { IsJudged (F.packet slot.now).frame (F.packet slot.now).original candidacy.layout
+            candidacy.payload candidacy.flags }
         requires progress { IsFirstProgress candidacy.layout (F.packet slot.now).frame progress }
         requires hash { hash ≡ hash_of (key_of (F.packet slot.now).frame) }
         requires none { place_of (map F.packet packets.now) self.old.flows (key_of (F.packet slot.now).frame)
@@ -181,8 +181,8 @@ impl Engine {
         requires places { HasPlaces self.old 1 }
         requires here { IsHere F.packet packets.now i slot.now }
         requires slot { F.is_held slot.now }
-        requires judged { IsJudged (F.packet slot.now).frame (F.packet slot.now).original candidacy.layout candidacy.payload
-            candidacy.flags }
+        requires judged { IsJudged (F.packet slot.now).frame (F.packet slot.now).original candidacy.layout
+            candidacy.payload candidacy.flags }
         requires progress { IsFirstProgress candidacy.layout (F.packet slot.now).frame progress }
         requires hash { hash ≡ hash_of (key_of (F.packet slot.now).frame) }
         requires place { place_of (map F.packet packets.now) self.old.flows (key_of (F.packet slot.now).frame)
@@ -342,8 +342,8 @@ impl Engine {
         requires slots { AllByRecursion F.is_held packets.now }
         requires here { IsHere F.packet packets.now i slot.now }
         requires slot { F.is_held slot.now }
-        requires judged { IsJudged (F.packet slot.now).frame (F.packet slot.now).original candidacy.layout candidacy.payload
-            candidacy.flags }
+        requires judged { IsJudged (F.packet slot.now).frame (F.packet slot.now).original candidacy.layout
+            candidacy.payload candidacy.flags }
         ensures takes { Takes segs (map F.packet packets.now) i self.old self.new }
     {
         let hash = flow_hash(slot, &candidacy);

@@ -24,9 +24,9 @@
 //! ```
 //!
 //! Its parts: `slot` (a packet in a list), `packets` (a list whose packets stay). `specs/Slots.antt` says what is known
-//! of packets in a list and what they hold, `specs/Packets.antt` what a contract sees of a list. `proofs/Lying.antt` has
-//! the laws of packets whose heads are shared or whose blocks nobody else holds, `proofs/Weights.antt` those of what
-//! they weigh.
+//! of packets in a list and what they hold, `specs/Packets.antt` what a contract sees of a list. `proofs/Lying.antt`
+//! has the laws of packets whose heads are shared or whose blocks nobody else holds, `proofs/Weights.antt` those of
+//! what they weigh.
 //!
 //! Tests: `merge_tests`, modules `merging` and `home`.
 //!

@@ -13,7 +13,8 @@ ghost use Rattle.gro_table.specs.declared.packet.Packet.{Packet as Held};
 ghost use Rattle.gro_table.specs.Held.{packet_of, of_packets, count_of, counts_of, AreShared, WeighAtLeast, IsHeld};
 ghost use Rattle.gro_table.specs.Items.{item_of};
 ghost use Rattle.frags.specs.OutcomesState.{IsBare};
-ghost use Rattle.gro_table.specs.Table.{TableState, no_table, Received, of_runs, counts_in, AreItemsFrom, counts_of_items};
+ghost use Rattle.gro_table.specs.Table.{TableState, no_table, Received, of_runs, counts_in, AreItemsFrom};
+ghost use Rattle.gro_table.specs.Table.{counts_of_items};
 ghost use Rattle.gro_table.specs.Table.{of_items, KeepsTable, AreReady, ItemsWeighAtLeast};
 
 use crate::Packet;

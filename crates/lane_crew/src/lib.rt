@@ -12,16 +12,16 @@
 //! that has nothing to do is no task, and where one lane alone has something to do, whoever asks does it. A thread that
 //! can't be made costs nothing. The tasks of taps share the filter by `lanes::SharedProgram`.
 //!
-//! Where blocks are lent that may go back while lanes are worked, each task carries as many as any other, a queue's or a
-//! tap's, and a pass of its own, unless there are fewer blocks than tasks or there is no memory for that. It gives them
-//! as soon as its lane is worked. What no task could carry goes behind them, and what finds the pool full stays with who
-//! lent it.
+//! Where blocks are lent that may go back while lanes are worked, each task carries as many as any other, a queue's or
+//! a tap's, and a pass of its own, unless there are fewer blocks than tasks or there is no memory for that. It gives
+//! them as soon as its lane is worked. What no task could carry goes behind them, and what finds the pool full stays
+//! with who lent it.
 //!
 //! Proved of a crew is what `lanes::Works` asks (`did`, `gave`, `none_left` of `run_lanes`): each lane is worked, and
-//! stands at its place again, by an answer that is known to be that of its task (`DidLane` in `specs/Tasks`), in whatever
-//! order answers come; what was lent is there again, or was given. Each lane's task gives what it carries as soon as its
-//! lane is worked (`none_left` of `QueueTask::run` and of `WatchTask::run`). Of a desk that is opened: `open`, `count` of
-//! [`open_desk`], `some`, `few` of [`count_runners`].
+//! stands at its place again, by an answer that is known to be that of its task (`DidLane` in `specs/Tasks`), in
+//! whatever order answers come; what was lent is there again, or was given. Each lane's task gives what it carries as
+//! soon as its lane is worked (`none_left` of `QueueTask::run` and of `WatchTask::run`). Of a desk that is opened:
+//! `open`, `count` of [`open_desk`], `some`, `few` of [`count_runners`].
 //!
 //! Only tested: that lanes run at the same time. Not said: that a thread runs or is woken.
 //!
@@ -36,8 +36,8 @@
 //!
 //! Why so:
 //!
-//! - **As a task a lane moves**, with its place among its kind, and comes back to that place: so answers may come in any
-//!   order, and lanes with nothing to do stay where they are.
+//! - **As a task a lane moves**, with its place among its kind, and comes back to that place: so answers may come in
+//!   any order, and lanes with nothing to do stay where they are.
 //! - **A task carries its filter by a count** (`SharedProgram`), and not by a loan: tasks outlive each call, so what
 //!   they hold has to be their own.
 //! - **What is lent is counted whole, wherever it is** (`Divided` in `specs/Givers`): what is at hand and what tasks

@@ -15,16 +15,16 @@
 //!
 //! ```text
 //!   queue 0:   packets  [ p0 | p1 | p2 | p3 | p4 ]     each in its slot, where it stays until it is brought home
-//!              runs       p0 -> p2 -> p3,  p1,  p4     by index, in the order of their first packets (`frame_runs::Engine`)
+//!              runs       p0 -> p2 -> p3,  p1,  p4     by index, by first packets (`frame_runs::Engine`)
 //! ```
 //!
 //! [`work_packets`] fills idle lanes: it clones each packet for each tap, and spreads the packets over the queues by
 //! their flows. With one queue the list of packets becomes the lane's as it stands, and no packet moves; with several
 //! the list is turned in place, and then each packet moves once. Then each queue's engine takes the memory for as many
 //! packets as the queue has. Then all lanes are worked by a [`Works`]: by the thread that calls, one after another
-//! ([`Alone`], [`Beside`]), or by all who run tasks beside it (`lane_crew::LaneCrew`). A queue's work takes no memory and can't
-//! be refused. A tap's lane holds room for all that its clones may leave before it gets them, so giving back wants no
-//! memory.
+//! ([`Alone`], [`Beside`]), or by all who run tasks beside it (`lane_crew::LaneCrew`). A queue's work takes no memory
+//! and can't be refused. A tap's lane holds room for all that its clones may leave before it gets them, so giving back
+//! wants no memory.
 //!
 //! Only what is cloned is shared. Where there are taps, whoever has the packets shares their heads first
 //! (`gro::Packets::share_heads`), and each clone takes of a block's weight. Without taps nothing is asked of the heads,
@@ -34,8 +34,8 @@
 //! beside the work they are lent with a `block_pool::Giver`, and go to the pool that these take lists from as soon as a
 //! lane is worked: by the thread that does all lanes, behind the first queue that had packets ([`Beside`]); by a crew
 //! (`lane_crew`) each lane's part behind its work. What finds the pool full stays with who lent it. Of its clones a tap
-//! has nothing to give: the packets lie in the queues' lanes until a round is written, so it is never the last who holds
-//! one.
+//! has nothing to give: the packets lie in the queues' lanes until a round is written, so it is never the last who
+//! holds one.
 //!
 //! [`keep_packets`] takes a clone of each packet before that, so that what comes out can be compared with what went in.
 //! With eight taps a packet is cloned nine times, and what each clone takes of a block's weight leaves enough for the
@@ -92,8 +92,8 @@
 //!
 //! Its parts: `plan` (how many lanes), `lane` (what each has to do, and what it has done), `share` (packets to their
 //! queues, and memory for their runs), `clones` and `fill` (what taps get, where there are any), `keep` (a clone of
-//! each packet beside the work), `working` (one lane's work) and `works` (who does it); `giving` (a list that is lent goes
-//! back), `shared` (the filter that taps share), `soles` (why taps have none) and `free`; and on these `round`.
+//! each packet beside the work), `working` (one lane's work) and `works` (who does it); `giving` (a list that is lent
+//! goes back), `shared` (the filter that taps share), `soles` (why taps have none) and `free`; and on these `round`.
 //!
 //! Tests: `round_tests`, module `working`.
 //!

@@ -1,5 +1,5 @@
-//! The command `merge`: a capture of Ethernet frames is merged, in rounds over one pool of blocks, into a capture of link
-//! type 147.
+//! The command `merge`: a capture of Ethernet frames is merged, in rounds over one pool of blocks, into a capture of
+//! link type 147.
 //!
 //! Proved, by the names of the clauses of [`run_merge`]: what is read and written for each answer, when the sink is
 //! flushed, and that every flow comes back of what is written (`answered`, by `HasAnswered` of `command_answers`); that

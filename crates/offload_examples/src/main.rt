@@ -1,6 +1,6 @@
-//! The program over the sample captures of `data/`, as the gate runs it; with words, nanoseconds that calls take, as the
-//! scripts of `bench/` run it: `offload_examples frames 1000000`, and so with `blocks`, `buffers`, `merging`, `pools`,
-//! `segmenting` and `taps`; `offload_examples sums 1000000 1460` sums lists of that many bytes.
+//! The program over the sample captures of `data/`, as the gate runs it; with words, nanoseconds that calls take, as
+//! the scripts of `bench/` run it: `offload_examples frames 1000000`, and so with `blocks`, `buffers`, `merging`,
+//! `pools`, `segmenting` and `taps`; `offload_examples sums 1000000 1460` sums lists of that many bytes.
 //!
 //! Both stand on the whole engine, which a program pays for once. Its parts: `samples`, and `steps` with a module for
 //! each word.

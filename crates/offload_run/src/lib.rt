@@ -45,8 +45,8 @@
 //! Why so:
 //!
 //! - **Each command is a crate of its own** (`segment_command`, `merge_command`, `check_command`, over what a command
-//!   answers, `command_answers`), so that they are proved side by side. None knows of the others' blocks: what a command
-//!   leaves is made an [`Engine`] here.
+//!   answers, `command_answers`), so that they are proved side by side. None knows of the others' blocks: what a
+//!   command leaves is made an [`Engine`] here.
 //! - **The engine goes out by a `&mut Option`** that holds none before, and is there at status 0. What it tells then,
 //!   that all blocks are home and how many were taken, is one clause (`engine`), and that they are home whatever the
 //!   status another (`home`); its calls stay those of `rounds`.

@@ -11,8 +11,8 @@
 //! less than `FULL` together (`Receipt::add`), so some release was the last, and the proof of `release` has no second
 //! one (`IsReleased`). A failed claim tells a weight above the part's own (`IsClaimed`), so a part of weight `FULL`
 //! is never refused (`whole`), nor is a reunion; that the word held it is what the sight owns. Holders of one life
-//! agree on its bytes and its mark (`agree` of `join`, `add`, `reunite`). The rule of weights is that of `block_weight`,
-//! and `specs/Shares.antt` says who owns what.
+//! agree on its bytes and its mark (`agree` of `join`, `add`, `reunite`). The rule of weights is that of
+//! `block_weight`, and `specs/Shares.antt` says who owns what.
 //!
 //! A block has a name, which contracts alone see: a number that is chosen as the block is made. Its Soles, parts,
 //! receipts and sights show it through all lives. Two Soles side by side have two (`Sole::differ`), and so have a Sole

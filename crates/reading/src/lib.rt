@@ -8,9 +8,10 @@
 //! of their own.
 //!
 //! Between its header and its body what a record needs is known, and its blocks come home where they are out: whoever
-//! has a [`Supply`](block_supply::Supply) of them brings them then, and no sooner; who brings none is [`AllHome`](block_supply::AllHome). Where as many are home as
-//! it needs nobody is asked. Where they don't come the header is kept, by an argument so that no answer has to carry
-//! it, and the reader stands behind it: [`finish_record`] reads the body once they are home.
+//! has a [`Supply`](block_supply::Supply) of them brings them then, and no sooner; who brings none is
+//! [`AllHome`](block_supply::AllHome). Where as many are home as it needs nobody is asked. Where they don't come the
+//! header is kept, by an argument so that no answer has to carry it, and the reader stands behind it: [`finish_record`]
+//! reads the body once they are home.
 //!
 //! Nobody else holds a block of a buffer that was read, and its blocks are marked in turn. Where that stays so they go
 //! home by count alone ([`bring_blocks`]).

@@ -71,10 +71,10 @@
 //! a life weigh less than the whole. So where a mark's Sole isn't home something would still be held, and nothing is.
 //! Spares are held by nobody but the round, and are counted home.
 //!
-//! Memory is taken in [`Rounds::make`], and for the list of pieces of a record of more than 1,984 bytes. The first round
-//! takes that of its lanes, and a later one only where it has more for a lane; each round takes memory for the clones
-//! that are kept. Of two rounds that are out at once each has lists of its own, and the
-//! rest of one that was paused takes a list for its spares.
+//! Memory is taken in [`Rounds::make`], and for the list of pieces of a record of more than 1,984 bytes. The first
+//! round takes that of its lanes, and a later one only where it has more for a lane; each round takes memory for the
+//! clones that are kept. Of two rounds that are out at once each has lists of its own, and the rest of one that was
+//! paused takes a list for its spares.
 //!
 //! ```
 //! let plan = LanePlan {
@@ -89,18 +89,18 @@
 //! let end = rounds.merge_all(&mut Alone { gate: &NoGate }, &mut reader, &file, &mut sink);
 //! ```
 //!
-//! Its parts: `round_reading` (a round of records, each read by the crate `reading`); `table` and `home` (what comes back, by
-//! marks or by number, and all of a round given up at whichever point); `lane_work` (a round over lanes, by
+//! Its parts: `round_reading` (a round of records, each read by the crate `reading`); `table` and `home` (what comes
+//! back, by marks or by number, and all of a round given up at whichever point); `lane_work` (a round over lanes, by
 //! `lanes::work_packets`, with its heads shared where others hold blocks), `lane_home` (what lanes hold, home);
 //! `writing` (what they come to); `intake` (the side that reads: pool and budget); `bench` (the side that works:
-//! places, memory and lanes) and `giving` (spares that go to others); `lists` (lists of spares come home that
-//! another thread gave or took); `rounds` (both, in turn) and `beside`
-//! (a round read while another thread works: paused, and read on once the other rounds have ended); `handler` (what is
-//! done with a round, for whoever drives them) and `turns` (rounds one after another, each read and handled); `merge`
-//! (the handler that writes a round, and all rounds of a capture with it); `memory` (what is kept from round to round).
-//! `specs/Out.antt` says what is out with a round, `specs/Marks.antt` what is its account where others hold blocks of
-//! it, `specs/Fresh.antt` what that is once heads are shared, `specs/Reading.antt` what each end of a round says of the
-//! capture's bytes, `specs/Benches.antt` when blocks may come home, and what is so once they have.
+//! places, memory and lanes) and `giving` (spares that go to others); `lists` (lists of spares come home that another
+//! thread gave or took); `rounds` (both, in turn) and `beside` (a round read while another thread works: paused, and
+//! read on once the other rounds have ended); `handler` (what is done with a round, for whoever drives them) and
+//! `turns` (rounds one after another, each read and handled); `merge` (the handler that writes a round, and all rounds
+//! of a capture with it); `memory` (what is kept from round to round). `specs/Out.antt` says what is out with a round,
+//! `specs/Marks.antt` what is its account where others hold blocks of it, `specs/Fresh.antt` what that is once heads
+//! are shared, `specs/Reading.antt` what each end of a round says of the capture's bytes, `specs/Benches.antt` when
+//! blocks may come home, and what is so once they have.
 //!
 //! Tests: `round_tests`, modules `frames`, `jumbo`, `lane_rows`, `long_runs`, `merging` and `sides`, and
 //! `beside_tests`, module `pausing`.

@@ -1,8 +1,8 @@
 //! The command `segment`: a capture of link type 147 is cut, record by record over one pool of blocks, into the packets
 //! that its records stand for.
 //!
-//! Proved, by the names of the clauses of [`run_segment`]: what is read and written for each answer, and when the sink is
-//! flushed (`answered`, by `HasAnswered` of `command_answers`); that all blocks are home, and how many were taken
+//! Proved, by the names of the clauses of [`run_segment`]: what is read and written for each answer, and when the sink
+//! is flushed (`answered`, by `HasAnswered` of `command_answers`); that all blocks are home, and how many were taken
 //! (`left`); and that a fault is answered only where the outside failed (`caused`).
 //!
 //! ```
