@@ -5,8 +5,8 @@
 #   product  the file that is built
 #   teller   who speaks on the standard error
 #   refused  the status where it can't be built
-# and that has two functions: `make_product JOBS` has rt prove and build the crate, below which all is proved, by so many jobs, and writes nothing
-# but what rt says; `is_made` tells whether that made the product.
+# and that has two functions: `make_product` has rt prove and build the crate, below which all is proved, and writes nothing but what rt says;
+# `is_made` tells whether that made the product.
 # shellcheck shell=bash disable=SC2154
 
 # Beside each product lies a file of the same name and `.built`: the names and checksums of the sources, and of the product that was built from them.
@@ -198,7 +198,7 @@ prove_and_build() (
   count=$(count_lanes)
   may_share || count=1
   {
-    { [ ${#changed[@]} = 0 ] || prove_below "$count" < <(printf '%s\n' "${changed[@]}"); } && named "$crate" make_product "$count" && rm -rf -- "$lanes"
+    { [ ${#changed[@]} = 0 ] || prove_below "$count" < <(printf '%s\n' "${changed[@]}"); } && named "$crate" make_product && rm -rf -- "$lanes"
   } 3>&- | tell $((${#changed[@]} + 1))
 )
 

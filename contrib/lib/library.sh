@@ -10,7 +10,7 @@ product=$root/crates/offload_c/out/liboffload.a
 
 make_product() {
   command -v ar || { echo "error: ar isn't on the path" && return 1; }
-  cd -- "$root/crates/$crate" && rm -f -- "$proved" "$product" && rt lib --jobs "$1" 2>&1 </dev/null && join_archives 2>&1
+  cd -- "$root/crates/$crate" && rm -f -- "$proved" "$product" && rt lib --jobs 1 2>&1 </dev/null && join_archives 2>&1
 }
 
 is_made() {

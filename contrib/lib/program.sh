@@ -14,7 +14,7 @@ no_records() {
 
 # Has the program merge a capture without records: that status is 0 only where it was proved, compiled, linked and run.
 make_product() {
-  cd -- "$root/crates/$crate" && rt run --jobs "$1" -- merge < <(no_records) 2>&1 >/dev/null
+  cd -- "$root/crates/$crate" && rt run --jobs 1 -- merge < <(no_records) 2>&1 >/dev/null
 }
 
 is_made() {

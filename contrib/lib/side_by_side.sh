@@ -1,6 +1,7 @@
 # How building.sh proves: as many crates at a time as there are lanes, each crate as soon as those that it stands on are proved, and of those that
-# may start the one with the longest way to the product first. A crate has one job, and the jobs that nobody else can use. A lane is a copy of
-# the sources, since two calls of rt in one tree wait for each other; a library that another lane proved rt takes over by itself.
+# may start the one with the longest way to the product first. A large crate has more jobs than one, since those that stand on it wait; a small one
+# would take twice the work for them and be no sooner. A lane is a copy of the sources, since two calls of rt in one tree wait for each other; a
+# library that another lane proved rt takes over by itself.
 # shellcheck shell=bash disable=SC2154
 
 lanes=$(dirname "$product")/lanes
@@ -85,17 +86,21 @@ start() {
   mapfile -t left < <(printf '%s\n' "${left[@]}" | grep -vxF "$1")
 }
 
-# Starts crates in free lanes, as many as may start.
+# jobs_for NAME: a job more for each 150,000 bytes, of those that are free.
+jobs_for() {
+  local jobs=$((1 + bytes_of[$1] / 150000))
+  echo $((jobs < spare ? jobs : spare))
+}
+
+# Starts crates, as many as may start and there are free lanes and jobs for.
 fill_lanes() {
-  local name ready=() jobs
+  local name ready=()
   for name in "${left[@]}"; do
     is_ready "$name" && ready+=("$name")
   done
-  while [ ${#ready[@]} -gt 0 ] && [ ${#free[@]} -gt 0 ]; do
-    name=${ready[0]}
-    ready=("${ready[@]:1}")
-    jobs=$((spare - ${#ready[@]}))
-    start "$name" $((jobs > 1 ? jobs : 1))
+  for name in "${ready[@]}"; do
+    [ ${#free[@]} -gt 0 ] && [ "$spare" -gt 0 ] || return 0
+    start "$name" "$(jobs_for "$name")"
   done
 }
 
@@ -108,9 +113,11 @@ end() {
 
 # prove_below LANES: proves the libraries that standard input has as lines "NAME BYTES". One that is refused lets the others end, and no other start.
 prove_below() {
-  local status=0 name below lane left free=() spare=$1
-  local -A stands=() running=() lane_of=() jobs_of=()
-  mapfile -t left < <(longest_first)
+  local status=0 name below bytes lines lane left free=() spare=$1
+  local -A bytes_of=() stands=() running=() lane_of=() jobs_of=()
+  lines=$(</dev/stdin)
+  while read -r name bytes; do bytes_of[$name]=$bytes; done <<<"$lines"
+  mapfile -t left < <(longest_first <<<"$lines")
   while IFS=: read -r name below; do stands[$name]=$below; done < <(all_below)
   for ((lane = 0; lane < $1; lane++)); do
     [ "$lane" = 0 ] || make_lane "$lane" || return 1
