@@ -13,7 +13,7 @@ use Rattle.pcap_io.specs.declared.faults.InFault.TheVariants.{Cap, ReadFault}
 use Rattle.pcap_io.specs.Places.{ReadsOn, short_record}
 use Rattle.pcap_io.specs.Reading.{GivesBody}
 use Rattle.offload_model.specs.Laws.{InBytes}
-use Rattle.reading.specs.Bodies.{AreReadInto, IsReadInto}
+use Rattle.reading.specs.Bodies.{AreReadInto, HasBytes, IsReadInto}
 use Rattle.reading.specs.Data.{data_of, GivesData, GivesFrame}
 use Rattle.reading.specs.Laid.{MarkedFrom}
 use Rattle.reading.proofs.Laying.{weighed_set}
@@ -224,6 +224,17 @@ both_bytes (x ∷ xs) b f g (suc k) = both_bytes xs b (λ j. f (suc j)) g k
 -- bytes, and behind them others
 pub bytes_behind : (f a b : List ℕ) → f ≡ a ++ b → InBytes a → InBytes b → InBytes f
 bytes_behind f a b e x y = subst InBytes (sym e) (both_bytes a b x y)
+
+-- the first block's bytes were read, and those behind it are what they are
+pub frame_bytes : (r : Result (Unit {0}) InFault) (len k : ℕ) (s : SoleState) (ss : List SoleState) → k ≡ min len 1984 → HasBytes {T = Unit {0}} {E = InFault} k (data_of 64 k (s ∷ [])) (Ok tt)
+    → HasBytes (len - k) (data_of 0 (len - k) ss) r → HasBytes len (data_of 64 len (s ∷ ss)) r
+frame_bytes (Ok u) len k s ss least first behind =
+    let parts = data_behind len k s ss least in
+    record {
+      long = omega (arith, ap length parts, length-append (data_of 64 k (s ∷ [])) (data_of 0 (len - k) ss), first.long, behind.long, least);
+      in_bytes = bytes_behind _ _ _ parts first.in_bytes behind.in_bytes;
+    }
+frame_bytes (Err fault) len k s ss least first behind = record { long = tt; in_bytes = tt }
 
 -- what was written into a range stands there
 pub written_range : (from to : ℕ) (b x : List ℕ) → length x + from ≡ to → to ≤ length b → slice_range (take (length b) (take from b ++ (x ++ drop (from + length x) b))) from to ≡ x

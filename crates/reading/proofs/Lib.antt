@@ -4,3 +4,5 @@ mod Filling
 pub mod Laying
 -- a record that is read
 mod Recording
+-- the blocks that it takes
+mod Spending

@@ -4,6 +4,7 @@ use Rattle.std.proofs.Common.{append-nil, take-append-drop, length-take, Bool, t
 use Rattle.std.proofs.lemmas.List.{drop_all, take_all, length-take-le}
 use Rattle.std.proofs.lemmas.Bool.{false≢true, lt-ltb}
 use Rattle.std.specs.Prelude.{IfSome, OnOk, nat_lt}
+use Rattle.off_io.specs.Faults.{Rose}
 use Rattle.off_io.specs.Told.{Told}
 use Rattle.off_io.proofs.Telling.{Told-weaker, Told-then}
 use Rattle.raw_block.specs.Views.{SoleState}
@@ -244,7 +245,7 @@ record_given a b c old new used blocks front found head answer some first second
     Told-then a b c (GivesHead old (Ok (Some head))) (GivesKept used blocks old new head front answer) (GivesRecord used blocks old new front answer)
     (λ bytes rest left takes gives. gives bytes takes) at_some second
 
-abbrev is_lacking : {X : Type 0} → Result X Stop → Bool
+abbrev pub is_lacking : {X : Type 0} → Result X Stop → Bool
 is_lacking (Err Lacking) = true
 is_lacking _ = false
 
@@ -252,6 +253,28 @@ is_lacking _ = false
 pub never_lacking : {X : Type 0} (answer : Result X Stop) (fault : InFault) (stop : Stop) → answer ≡ Err stop → IsStopOf fault stop → answer ≢ Err Lacking
 never_lacking {X = X} answer (faults.Cap fault) stop is why lacks = false≢true (sym (ap (λ (s : Stop). is_lacking {X = X} (Err s)) why) ∙ ap is_lacking (sym is ∙ lacks))
 never_lacking {X = X} answer faults.ReadFault stop is why lacks = false≢true (sym (ap (λ (s : Stop). is_lacking {X = X} (Err s)) why) ∙ ap is_lacking (sym is ∙ lacks))
+
+pub not_lacking : {X : Type 0} (answer : Result X Stop) → is_lacking answer ≡ false → answer ≢ Err Lacking
+not_lacking answer other lacks = false≢true (sym other ∙ ap is_lacking lacks)
+
+pub no_stop : {X : Type 0} (x : X) (stop : Stop) → Ok x ≢ Err stop
+no_stop x stop is = cc
+
+pub other_stop : {X : Type 0} (answer : Result X Stop) → answer ≡ Err NoMemory → answer ≢ Err ReadFault
+other_stop answer is fails = cc
+
+-- why no record was read, whatever an answer has else
+abbrev pub stop_in : {X : Type 0} → Result X Stop → Stop
+stop_in (Ok x) = End
+stop_in (Err stop) = stop
+
+-- a fault that was counted behind an earlier call
+pub rose_after : (before mid now : ℕ) → before ≤ mid → Rose mid now → Rose before now
+rose_after before mid now later rose = omega (arith, later, rose)
+
+-- what was found has the fields of a header
+pub entered : (old new : Place) (found : Option RecHead) (head : RecHead) → found ≡ Some head → IfSome found (EntersBody old new) → EntersBody old new head
+entered old new found head some enters = subst (λ (f : Option RecHead). IfSome f (EntersBody old new)) some enters
 
 -- the header that was found is kept
 pub keeps_head : (at new : Place) (found : Option RecHead) (head : RecHead) → found ≡ Some head → IsReady at → IfSome found (EntersBody at new)

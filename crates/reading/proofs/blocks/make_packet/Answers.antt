@@ -1,4 +1,5 @@
 use Rattle.std.proofs.Common.{◌≡◌, ℕ, ◌+◌, ◌++◌, ◌-◌, List, ◌∷◌, length, slice_range, arith, ap, subst, sym, refl, ◌∙◌}
+use Rattle.std.proofs.lemmas.List.{nil_from_length}
 use Rattle.std.proofs.lemmas.List.Sums.{sum_by-cons}
 use Rattle.raw_block.specs.Views.{SoleState}
 use Rattle.frags.specs.PieceList.{size_of}
@@ -49,3 +50,8 @@ returns-clause-made c =
         fields = (refl, refl, refl, refl);
       });
     }
+
+pub returns-clause-none : goal.returns-clause-none
+returns-clause-none c =
+    let rest = c.build_pieces-rest in
+    nil_from_length rest.new.hold.items (omega (arith, rest.ensures.rest, rest.ensures.count, c.requires.count, c.requires.len, c.min-in_head.ensures))

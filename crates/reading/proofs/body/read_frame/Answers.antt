@@ -1,5 +1,5 @@
 use Rattle.std.proofs.Common.{◌-◌, [], ◌∷◌, ℕ, arith}
-use Rattle.reading.proofs.Filling.{data_behind, first_stop, frame_given, short_same}
+use Rattle.reading.proofs.Filling.{data_behind, first_stop, frame_bytes, frame_given, short_same}
 use Rattle.reading.proofs.body.read_frame.Goals as goal
 
 pub returns-in-Err-clause-given : goal.returns-in-Err-clause-given
@@ -17,3 +17,7 @@ returns-clause-given g c =
     let e = c.in-Ok.ensures in
     frame_given _ _ _ old now c.read_blocks.result c.read_head.new.front k c.args.len (c.args.len - k) (s ∷ []) (s ∷ ss) ss
     (data_behind c.args.len k s ss (omega (arith, c.min-in_head.ensures))) (omega (arith, e.bytes.long, c.min-in_head.ensures)) (short_same old now _ e.reads.place) e.given c.read_blocks.ensures.given
+
+pub returns-clause-bytes : goal.returns-clause-bytes
+returns-clause-bytes g c =
+    frame_bytes c.read_blocks.result c.args.len c.min-in_head.result c.read_head.new.block c.read_blocks.new.hold.items c.min-in_head.ensures c.in-Ok.ensures.bytes c.read_blocks.ensures.bytes

@@ -1,5 +1,9 @@
-use Rattle.std.proofs.Common.{arith, refl, Ok, Err}
-use Rattle.reading.proofs.Recording.{head_stop_given, head_given, end_given, empty_given, lacking_given, record_given, none_from, keeps_head, never_lacking}
+use Rattle.std.proofs.Common.{◌≡◌, ◌+◌, ◌-◌, ◌^◌, ◌≤◌, ◌∙◌, ℕ, arith, min, refl, sym, ap, subst, le_trans, le-add_left, Ok, Err}
+use Rattle.block_pool.specs.PoolState.{home}
+use Rattle.reading.proofs.Recording.{head_stop_given, head_given, end_given, empty_given, lacking_given, record_given, none_from, keeps_head, never_lacking, entered, not_lacking, no_stop, rose_after, stop_in}
+use Rattle.pcap_io.specs.declared.heads.Link.{Link}
+use Rattle.pcap_io.specs.Headers.{is_bad_original}
+use Rattle.reading.specs.Reading.{front_size}
 use Rattle.reading.proofs.record.read_record.Goals as goal
 
 pub returns-in-Err-clause-given : goal.returns-in-Err-clause-given
@@ -20,6 +24,12 @@ pub returns-in_default-clause-given : goal.returns-in_default-clause-given
 returns-in_default-clause-given g c =
     end_given _ _ c.args.reader.now.place c.next_head.new.self.place c.args.used c.args.pool.now.made c.args.front.now c.in-Ok.found (none_from c.in-Ok.found c.in_default.not-Some)
     c.in-Ok.ensures.given
+
+pub returns-in_default-clause-kept : goal.returns-in_default-clause-kept
+returns-in_default-clause-kept g c = λ lacks. absurd (not_lacking _ refl lacks)
+
+pub returns-then-need-made-clause-kept : goal.returns-then-need-made-clause-kept
+returns-then-need-made-clause-kept g c = λ lacks. absurd (not_lacking _ refl lacks)
 
 pub returns-then-need-made-clause-given : goal.returns-then-need-made-clause-given
 returns-then-need-made-clause-given g c =
@@ -43,6 +53,19 @@ returns-then-not-has_blocks-clause-kept g c = λ _.
       head_given _ _ c.args.reader.now.place c.in-Ok.found c.in-Some.head c.in-Some.is r.given,
     )
 
+pub returns-then-not-has_blocks-clause-refused : goal.returns-then-not-has_blocks-clause-refused
+returns-then-not-has_blocks-clause-refused g c = λ counts _.
+    c.has_blocks.ensures.refused counts (le_trans (le-add_left _ _) (subst (λ (n : ℕ). c.args.used + (c.blocks_of-count.result + 2) ≤ n) c.made.ensures.made c.if-need-made.false)) c.if-not-has_blocks.true
+
+pub returns-then-not-has_blocks-clause-short : goal.returns-then-not-has_blocks-clause-short
+returns-then-not-has_blocks-clause-short g c = λ _. c.has_blocks.ensures.short c.if-not-has_blocks.true
+
+pub returns-then-not-has_blocks-clause-named_back : goal.returns-then-not-has_blocks-clause-named_back
+returns-then-not-has_blocks-clause-named_back g c = λ h. (c.has_blocks.ensures.named h, refl)
+
+pub returns-then-not-has_blocks-clause-failed : goal.returns-then-not-has_blocks-clause-failed
+returns-then-not-has_blocks-clause-failed g c = λ fails. absurd (not_lacking _ refl (sym fails))
+
 pub finish_record-requires-clause-kept : goal.finish_record-requires-clause-kept
 finish_record-requires-clause-kept g c =
     let r = c.in-Ok.ensures in (
@@ -53,25 +76,117 @@ finish_record-requires-clause-kept g c =
 pub finish_record-requires-clause-home : goal.finish_record-requires-clause-home
 finish_record-requires-clause-home g c = (omega (arith, c.blocks_of-count.ensures.blocks, c.if-not-has_blocks.ensures.enough), c.has_blocks.ensures.within)
 
-pub returns-in-Ok-finish_record-clause-given : goal.returns-in-Ok-finish_record-clause-given
-returns-in-Ok-finish_record-clause-given g c = λ p is.
-    let r = c.in-Ok.ensures in
-    let old = c.args.reader.now.place in
-    let mid = c.next_head.new.self.place in
-    let made = c.args.pool.now.made in
-    let f = c.finish_record.new in
-    let keeps = keeps_head old mid c.in-Ok.found c.in-Some.head c.in-Some.is c.requires.ready r.enters r.limit r.original r.off_head r.counted in
-    record_given _ _ _ old f.reader.place c.args.used made f.front c.in-Ok.found c.in-Some.head (Ok p) c.in-Some.is r.given
-    (c.in-Ok-finish_record.ensures.given old c.args.used made keeps (omega (arith, c.blocks_of-count.ensures.blocks, c.if-need-made.false, c.made.ensures.made)) p is)
+pub finish_record-requires-clause-front : goal.finish_record-requires-clause-front
+finish_record-requires-clause-front g c =
+    c.requires.front ∙ ap front_size (sym (entered c.args.reader.now.place c.next_head.new.self.place c.in-Ok.found c.in-Some.head c.in-Some.is c.in-Ok.ensures.enters).link)
 
-pub returns-in-Err-finish_record-clause-given : goal.returns-in-Err-finish_record-clause-given
-returns-in-Err-finish_record-clause-given g c =
+-- what came with the blocks of a supply weighs in a later sum too
+moved_on : (all pool spares was came old : ℕ) → all ≡ pool + spares → pool + was ≡ old + came → all + was ≡ old + spares + came
+moved_on all pool spares was came old e more = omega (arith, e, more)
+
+most_within : (new mid old need used made : ℕ) → new ≤ mid + need → mid ≡ old → used + need ≤ made → new + used ≤ old + made
+most_within new mid old need used made most same fits = omega (arith, most, same, fits)
+
+pub returns-in-Ok-finish_record : goal.returns-in-Ok-finish_record
+returns-in-Ok-finish_record g c =
     let r = c.in-Ok.ensures in
     let old = c.args.reader.now.place in
-    let mid = c.next_head.new.self.place in
     let made = c.args.pool.now.made in
     let f = c.finish_record.new in
-    let e = c.in-Err-finish_record in
-    let keeps = keeps_head old mid c.in-Ok.found c.in-Some.head c.in-Some.is c.requires.ready r.enters r.limit r.original r.off_head r.counted in
-    record_given _ _ _ old f.reader.place c.args.used made f.front c.in-Ok.found c.in-Some.head (Err e.stop) c.in-Some.is r.given
-    (e.ensures.given old c.args.used made keeps (omega (arith, c.blocks_of-count.ensures.blocks, c.if-need-made.false, c.made.ensures.made)))
+    let e = c.in-Ok-finish_record.ensures in
+    let more = c.has_blocks.ensures in
+    let brought = g.H.Supply.brought c.args.more.now in
+    let keeps = keeps_head old c.next_head.new.self.place c.in-Ok.found c.in-Some.head c.in-Some.is c.requires.ready r.enters r.limit r.original r.off_head r.counted in
+    let enters = keeps.enters in
+    let fits = subst (λ (n : ℕ). c.args.used + (c.blocks_of-count.result + 2) ≤ n) c.made.ensures.made c.if-need-made.false in
+    let needed = subst (λ (n : ℕ). c.args.used + (n + 2) ≤ made) c.blocks_of-count.ensures.blocks fits in
+    let count = e.count.0 ∙ ap (λ (n : ℕ). n + 2) (sym c.blocks_of-count.ensures.blocks) in
+    record {
+      same_source = e.same_source ∙ r.same_source;
+      given = λ p is.
+          record_given _ _ _ old f.reader.place c.args.used made f.front c.in-Ok.found c.in-Some.head (Ok p) c.in-Some.is r.given (e.given old c.args.used made keeps needed p is);
+      next = e.next old keeps;
+      front = e.front;
+      one = e.one;
+      none = tt;
+      kept = λ lacks. absurd (not_lacking _ refl lacks);
+      unkept = λ _. refl;
+      refused = λ _ lacks. absurd (not_lacking _ refl lacks);
+      asked = more.asked;
+      owed = more.owed;
+      short = λ lacks. absurd (not_lacking _ refl lacks);
+      room = e.room;
+      number = λ p is. e.number p is ∙ enters.numbered;
+      original = λ p is. ap (λ (l : Link). is_bad_original l p.original) (sym enters.link) ∙ e.original p is;
+      offset = enters.lies;
+      behind = λ p is. let behind = e.behind p is in behind.0 ∙ enters.offset ∙ ap (λ (n : ℕ). old.offset + 16 + n) (sym behind.1);
+      laid = e.laid;
+      read = e.read;
+      captured = λ p is plain. e.captured p is (enters.link ∙ plain);
+      need = e.need;
+      count = λ p is. e.count.1 p is ∙ count;
+      home = ap (λ (n : ℕ). home f.pool + n + brought) (sym count) ∙ ap (λ (n : ℕ). n + brought) e.home ∙ more.sum;
+      spares = e.spares;
+      named = λ p is h. moved_on _ _ _ _ _ _ (e.named p is h) (more.named h);
+      fits = fits;
+      taken = e.taken ∙ ap (λ (n : ℕ). min (n + c.in-Ok-finish_record.field-0) (2 ^ 64 - 1)) more.same.1 ∙ ap (λ (n : ℕ). min (c.args.pool.now.taken + n) (2 ^ 64 - 1)) count;
+      back = tt;
+      named_back = tt;
+      most = tt;
+      least = subst (λ (n : ℕ). n ≤ f.pool.taken) more.same.1 e.least;
+      made = (e.made.0 ∙ more.same.0, e.made.1);
+      empty = e.empty;
+      capacity = e.capacity;
+      later = le_trans r.later e.later;
+      failed = λ fails. absurd (no_stop _ _ fails);
+    }
+
+pub returns-in-Err-finish_record : goal.returns-in-Err-finish_record
+returns-in-Err-finish_record g c =
+    let r = c.in-Ok.ensures in
+    let old = c.args.reader.now.place in
+    let made = c.args.pool.now.made in
+    let f = c.finish_record.new in
+    let e = c.in-Err-finish_record.ensures in
+    let more = c.has_blocks.ensures in
+    let keeps = keeps_head old c.next_head.new.self.place c.in-Ok.found c.in-Some.head c.in-Some.is c.requires.ready r.enters r.limit r.original r.off_head r.counted in
+    let fits = subst (λ (n : ℕ). c.args.used + (c.blocks_of-count.result + 2) ≤ n) c.made.ensures.made c.if-need-made.false in
+    let needed = subst (λ (n : ℕ). c.args.used + (n + 2) ≤ made) c.blocks_of-count.ensures.blocks fits in
+    record {
+      same_source = e.same_source ∙ r.same_source;
+      given = record_given _ _ _ old f.reader.place c.args.used made f.front c.in-Ok.found c.in-Some.head (Err c.in-Err-finish_record.stop) c.in-Some.is r.given (e.given old c.args.used made keeps needed);
+      next = tt;
+      front = e.front;
+      one = tt;
+      none = e.none;
+      kept = λ lacks. absurd (e.begun (ap Err (ap stop_in lacks)));
+      unkept = λ _. refl;
+      refused = λ _ lacks. absurd (e.begun (ap Err (ap stop_in lacks)));
+      asked = more.asked;
+      owed = more.owed;
+      short = λ lacks. absurd (e.begun (ap Err (ap stop_in lacks)));
+      room = e.room;
+      number = tt;
+      original = tt;
+      offset = tt;
+      behind = tt;
+      laid = tt;
+      read = tt;
+      captured = tt;
+      need = tt;
+      count = tt;
+      home = tt;
+      spares = tt;
+      named = tt;
+      fits = tt;
+      taken = tt;
+      back = (ap (λ (n : ℕ). n + g.H.Supply.brought c.args.more.now) e.back.0 ∙ more.sum, e.back.1);
+      named_back = λ h. (ap (λ (n : ℕ). n + g.H.Supply.weights c.args.more.now h) (e.named_back h).0 ∙ more.named h, (e.named_back h).1);
+      most = most_within _ _ _ _ _ _ e.most more.same.1 needed;
+      least = subst (λ (n : ℕ). n ≤ f.pool.taken) more.same.1 e.least;
+      made = (e.made.0 ∙ more.same.0, e.made.1);
+      empty = e.empty;
+      capacity = e.capacity;
+      later = le_trans r.later e.later;
+      failed = λ fails. rose_after _ _ _ r.later (e.failed (ap Err (ap stop_in fails)));
+    }
