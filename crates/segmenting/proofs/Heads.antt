@@ -93,6 +93,22 @@ sizes (V2 h) = (omega arith, omega arith)
 pub there_more : (xs ys : List ℕ) → 1 ≤ length xs → off_head2_size ≤ length xs → any_head (xs ++ ys) ≡ any_head xs
 there_more xs ys some long = head_more xs ys some (omega (arith, long, (sizes (any_head xs)).1))
 
+-- one that the first bytes hold is there, whatever follows
+pub there_still : (front ys : List ℕ) → length front ≡ off_head_size → head_size (any_head front) ≤ length front
+    → (any_head (front ++ ys) ≡ any_head front) × (head_size (any_head (front ++ ys)) ≤ length (front ++ ys))
+there_still front ys long fits =
+    let more = head_more front ys (omega (arith, long)) fits in
+    (more, omega (arith, ap head_size more, fits, length-append front ys))
+
+-- and with too few bytes behind these for the longer one it is theirs alone
+pub there_alone : (front ys : List ℕ) → length front ≡ off_head_size → length ys < 4 → head_size (any_head (front ++ ys)) ≤ length (front ++ ys) → head_size (any_head front) ≤ length front
+there_alone front ys long few fits = by (byte front 0 == 2) (subst (λ (n : ℕ). head_size (if n == 2 then V2 (off_head2 (front ++ ys)) else V1 (off_head (front ++ ys))) ≤ length (front ++ ys)) (get_or_append_left front ys 0 0 (omega (arith, long))) fits)
+  where
+    by : (two : Bool) → head_size (if two then V2 (off_head2 (front ++ ys)) else V1 (off_head (front ++ ys))) ≤ length (front ++ ys)
+        → head_size (if two then V2 (off_head2 front) else V1 (off_head front)) ≤ length front
+    by true fits = absurd (omega (arith, fits, length-append front ys, long, few))
+    by false fits = omega (arith, long)
+
 -- ---- of a record
 
 -- as many bytes as the header has behind the first ones are in the buffer

@@ -1,4 +1,4 @@
-use Rattle.std.proofs.Common.{ap, sym, arith, ◌∙◌}
+use Rattle.std.proofs.Common.{◌≤◌, ℕ, ap, sym, subst, arith, ◌∙◌}
 use Rattle.std.specs.Prelude.{is_ok}
 use Rattle.std.proofs.KnownBytes.{Keeps-refl}
 use Rattle.skb.specs.SkbState.{buffer_bytes}
@@ -17,6 +17,11 @@ pub write_plan-requires-clause-original : goal.write_plan-requires-clause-origin
 write_plan-requires-clause-original g c =
     let k = c.args.packet in
     omega (arith, c.size.ensures.size, (opened c.args.head.now k.original (buffer_bytes k.skb) (c.check_super.ensures.lawful.0 (ap is_ok c.in-Ok.is))).within)
+
+pub overflow_sub-packet : goal.overflow_sub-packet
+overflow_sub-packet g c =
+    let k = c.args.packet in
+    subst (λ (n : ℕ). n ≤ k.original) (sym c.size.ensures.size) (opened c.args.head.now k.original (buffer_bytes k.skb) (c.check_super.ensures.lawful.0 (ap is_ok c.in-Ok.is))).above
 
 pub returns-in-Ok-clause-writes : goal.returns-in-Ok-clause-writes
 returns-in-Ok-clause-writes g c = λ r is.

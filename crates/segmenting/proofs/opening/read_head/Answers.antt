@@ -1,10 +1,11 @@
-use Rattle.std.proofs.Common.{◌≡◌, ◌++◌, take, drop, length, length-append, sym, ap, ◌∙◌, subst, arith}
+use Rattle.std.proofs.Common.{◌≡◌, ◌++◌, take, drop, length, length-append, refl, sym, ap, ◌∙◌, subst, arith}
 use Rattle.std.specs.Prelude.{IfSome}
+use Rattle.std.proofs.lemmas.Bool.{false≢true}
 use Rattle.std.proofs.lemmas.List.{length-take}
 use Rattle.frags.specs.PieceList.{bytes_of}
 use Rattle.pcap_io.specs.Headers.{any_head}
 use Rattle.skb.specs.SkbState.{buffer_bytes, head_bytes}
-use Rattle.segmenting.proofs.Heads.{sizes, there_more, whole_is}
+use Rattle.segmenting.proofs.Heads.{sizes, there_alone, there_more, there_still, whole_is}
 use Rattle.segmenting.proofs.opening.read_head.Goals as goal
 
 pub returns-in-Some-first_chunk-clause-head : goal.returns-in-Some-first_chunk-clause-head
@@ -45,4 +46,17 @@ returns-in-Some-first_chunk-clause-there c =
         length-take 4 c.head.result.now,
         first.enough,
       )),
+    )
+
+pub returns-in-Some-clause-head : goal.returns-in-Some-clause-head
+returns-in-Some-clause-head c = c.in-Some.ensures.fields ∙ sym (there_still c.args.front.now (buffer_bytes c.args.skb.now) c.requires.long (c.in-Some.ensures.there.0 refl)).0
+
+pub returns-in-Some-clause-there : goal.returns-in-Some-clause-there
+returns-in-Some-clause-there c = (λ _. (there_still c.args.front.now (buffer_bytes c.args.skb.now) c.requires.long (c.in-Some.ensures.there.0 refl)).1, λ _. refl)
+
+pub returns-in-None-clause-there : goal.returns-in-None-clause-there
+returns-in-None-clause-there c =
+    let bytes = buffer_bytes c.args.skb.now in (
+      λ some. absurd (false≢true some),
+      λ there. c.in_default.ensures.there.1 (there_alone c.args.front.now bytes c.requires.long (omega (arith, c.in-None.ensures.cases, c.head.ensures.size, c.len.ensures.size, c.len.ensures.bytes, c.requires.front)) there),
     )
