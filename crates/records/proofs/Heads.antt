@@ -31,3 +31,13 @@ both_are first second a b zeros p q size rest =
 
 pub joined_is : (xs a b c d : List ℕ) → xs ≡ a ++ b → a ≡ c → b ≡ d → xs ≡ c ++ d
 joined_is xs a b c d p q r = p ∙ ap (λ (l : List ℕ). l ++ b) q ∙ ap (λ (l : List ℕ). c ++ l) r
+
+-- both headers of a record, and the frame's headers with what is behind them
+pub row_is : (order : Order) (sec frac len : ℕ) (head : OffHead2) (row header second headers behind frame : List ℕ) → row ≡ header ++ second → header ≡ rec_bytes order sec frac (len + 16) (len + 16)
+    → second ≡ off_bytes2 head → len ≡ length frame → headers ++ behind ≡ frame
+    → (row ++ headers) ++ behind ≡ record_bytes order (headed (Some head) (packet 0 sec frac (length frame) frame))
+row_is order sec frac len head row header second headers behind frame parts first is size whole =
+    append_assoc row headers behind ∙ ap (λ (z : List ℕ). row ++ z) whole
+    ∙ ap (λ (z : List ℕ). z ++ frame) (joined_is row header second (rec_bytes order sec frac (len + 16) (len + 16)) (off_bytes2 head) parts first is)
+    ∙ record_is order sec frac len len (Some head) frame size
+    ∙ ap (λ (n : ℕ). record_bytes order (headed (Some head) (packet 0 sec frac n frame))) size

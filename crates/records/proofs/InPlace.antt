@@ -1,9 +1,9 @@
 -- A run's record, from its packets where they lie.
-use Rattle.std.proofs.Common.{◌≡◌, ◌+◌, ◌-◌, ◌<◌, ◌≤◌, ℕ, suc, Option, List, [], ◌∷◌, ◌++◌, length, get_or, map, drop, refl, sym, ap, ◌∙◌, subst, arith}
+use Rattle.std.proofs.Common.{◌≡◌, ◌+◌, ◌-◌, ◌<◌, ◌≤◌, ℕ, suc, Option, Some, List, [], ◌∷◌, ◌++◌, length, get_or, map, drop, refl, sym, ap, ◌∙◌, subst, arith}
 use Rattle.std.specs.List.{AllByRecursion, flat_map}
 use Rattle.std.proofs.lemmas.List.{length-map, nil_from_length, get_or-map}
 use Rattle.net_bytes.specs.declared.order.Order.{Order}
-use Rattle.pcap_io.specs.Capture.{Packet}
+use Rattle.pcap_io.specs.Capture.{Packet, packet}
 use Rattle.off_io.specs.Content.{Owes}
 use Rattle.skb.specs.SkbState.{buffer_bytes}
 use Rattle.offload_model.specs.Merged.{merged_of}
@@ -14,7 +14,8 @@ use Rattle.frame_runs.specs.Chains.{chain_of, behind, indices, no_packet, packet
 use Rattle.frame_runs.specs.Engine.{Knows, KnowsSome, IsChain}
 use Rattle.frame_runs.specs.MergedRun.{headers_size, payloads_behind}
 use Rattle.frame_runs.proofs.Payloads.{chain_step, all_at, slot_at, few_more, headers_low, all_within}
-use Rattle.records.specs.Records.{item_bytes}
+use Rattle.offload_model.specs.Written.{head_of, record_bytes}
+use Rattle.records.specs.Records.{headed, item_bytes}
 
 -- ---- payloads along a chain
 
@@ -110,3 +111,10 @@ pub runs_bytes : (order : Order) (q : ℕ) (packets : List Packet) (next : List 
     → flat_map (λ (run : Run). item_bytes order q (merged_of (run_of packets next run))) runs ≡ flat_map (item_bytes order q) (map merged_of (map (run_of packets next) runs))
 runs_bytes order q packets next [] = refl
 runs_bytes order q packets next (run ∷ runs) = ap (λ (z : List ℕ). item_bytes order q (merged_of (run_of packets next run)) ++ z) (runs_bytes order q packets next runs)
+
+-- the record of several packets, with its own length as original length
+pub merged_record : (order : Order) (q : ℕ) (p : Packet) (rest : List Packet) → 1 ≤ length rest
+    → record_bytes order (headed (Some (head_of q (merged_of (p ∷ rest)))) (packet 0 p.sec p.frac (length (merged_of (p ∷ rest)).packet.frame) (merged_of (p ∷ rest)).packet.frame))
+    ≡ item_bytes order q (merged_of (p ∷ rest))
+merged_record order q p [] some = absurd (omega (arith, some))
+merged_record order q p (next ∷ more) some = refl

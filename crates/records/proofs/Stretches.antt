@@ -6,7 +6,7 @@ use Rattle.std.specs.Io.KnownBytes.{Appends}
 use Rattle.std.proofs.lemmas.List.{drop_at, drop-drop}
 use Rattle.std.proofs.Math.Seq.{take-append-add}
 use Rattle.off_io.specs.Content.{AppendsPrefix, Owes}
-use Rattle.off_io.proofs.Owing.{Owes-less, Owes-failed, Owes-none}
+use Rattle.off_io.proofs.Owing.{Owes-all, Owes-less, Owes-failed, Owes-none}
 use Rattle.net_bytes.specs.declared.order.Order.{Order}
 use Rattle.pcap_io.specs.Written.{rec_bytes}
 use Rattle.skb.specs.SkbState.{buffer_bytes}
@@ -72,3 +72,8 @@ module _ (f : ℕ → List ℕ) (n : ℕ) where
   owes_none i a b all past owes =
       let k : n - i ≡ 0 = omega (arith, past) in
       Owes-none a b all (subst (Owes a b all) (ap (λ (z : ℕ). flat_map f (range_with_len i z)) k) owes)
+
+  pub owes_first : (a : Option (List ℕ)) → Owes a a (flat_map f (range_with_len 0 n)) (flat_map f (range_with_len 0 (n - 0)))
+  owes_first a =
+      let k : n ≡ n - 0 = omega arith in
+      subst (λ (z : ℕ). Owes a a (flat_map f (range_with_len 0 n)) (flat_map f (range_with_len 0 z))) k (Owes-all a (flat_map f (range_with_len 0 n)))
