@@ -1,10 +1,10 @@
 -- Packets that are entered, flow by flow, and places that move on.
-use Rattle.std.proofs.Common.{◌≡◌, ℕ, ◌+◌, ◌<◌, inl, inr, Bool, true, false, cond, Option, Some, None, List, [], ◌∷◌, length, get_or, set, drop, refl, sym, ap, ◌∙◌, subst, arith}
+use Rattle.std.proofs.Common.{◌≡◌, ℕ, ◌+◌, ◌<◌, inl, inr, Bool, true, false, cond, Option, Some, None, List, [], ◌∷◌, length, get_or, set, drop, refl, sym, ap, ◌∙◌, subst, arith, ◌-◌, ◌≤◌, map}
 use Rattle.std.proofs.Common.{length-set}
 use Rattle.std.specs.Option.{unwrap_or}
 use Rattle.std.specs.List.{filter}
 use Rattle.std.specs.HashMap.{get}
-use Rattle.std.proofs.lemmas.List.{drop_more, drop_all, get_or-set_same, get_or-set_other}
+use Rattle.std.proofs.lemmas.List.{drop_more, drop_all, get_or-set_same, get_or-set_other, length-map}
 use Rattle.std.proofs.lemmas.Bool.{cases_eq}
 use Rattle.frame_layout.specs.Key.{key_eq, key_of}
 use Rattle.pcap_io.specs.Capture.{Packet}
@@ -15,11 +15,16 @@ use Rattle.check_totals.specs.Returned.{equal_in}
 use Rattle.comparing.specs.Chain.{left_at, IsOwn, Leads, IsChain, Counts}
 use Rattle.comparing.specs.KeptFlows.{place_of, left_in, AreFlows, AreFlowsFrom, Moves, CountsIn}
 use Rattle.comparing.proofs.Chains.{none_left}
+use Rattle.taps.specs.declared.clones.TapClone.{TapClone}
+use Rattle.taps.specs.Clones.{packet_of}
 
 other_key : (a b : Option (List ℕ)) → key_eq a b ≡ false → a ≡ b → ⊥
 other_key a b e h = let t : true ≡ false = sym (key_eq_self b) ∙ ap (λ z. key_eq z b) (sym h) ∙ e in absurd cc
 
 -- ---- entering
+
+pub next_free : (kept : List TapClone) (f : KeptFlows) (i : ℕ) → i ≤ length kept → 0 < i → AreFlowsFrom (map packet_of kept) i f → i - 1 < length f.next.items
+next_free kept f i l some a = omega (arith, l, some, a.long, length-map kept packet_of)
 
 module _ (ps : List Packet) (f g : KeptFlows) (i : ℕ) (x : Packet) (k : Option (List ℕ)) (there : i < length f.next.items) (is : (d : Packet) → get_or ps i d ≡ x) (own : k ≡ key_of x.frame)
     (was : AreFlowsFrom ps (i + 1) f) (up : (q : Option (List ℕ)) → get key_eq g.first q ≡ cond (key_eq k q) (Some i) (get key_eq f.first q))

@@ -1,11 +1,11 @@
 -- The totals of a queue's items, one item after the other.
-use Rattle.std.proofs.Common.{◌≡◌, ℕ, zero, suc, ◌+◌, ◌<◌, ◌≤◌, true, List, [], ◌∷◌, length, map, get_or, drop, refl, sym, ap, ◌∙◌, subst, arith}
+use Rattle.std.proofs.Common.{◌≡◌, ℕ, zero, suc, ◌+◌, ◌<◌, ◌≤◌, true, List, [], ◌∷◌, length, map, get_or, drop, refl, sym, ap, ◌∙◌, subst, arith, ◌++◌, take}
 use Rattle.std.specs.Prelude.{if◌then◌else◌, nat_le}
 use Rattle.std.specs.Bool.{one_answer}
 use Rattle.std.specs.Int.{from_bool}
 use Rattle.std.specs.List.{AllByRecursion}
 use Rattle.std.proofs.lemmas.Bool.{leb-true, le-leb}
-use Rattle.std.proofs.lemmas.List.{length-map, get_or-map, drop_more, drop_all}
+use Rattle.std.proofs.lemmas.List.{length-map, get_or-map, drop_more, drop_all, take_more, map-append}
 use Rattle.pcap_io.specs.Capture.{Packet}
 use Rattle.offload_model.specs.Merged.{Merged}
 use Rattle.check_totals.specs.declared.totals.QueueTotals.{QueueTotals}
@@ -67,3 +67,8 @@ mapped_next f xs i x l at =
 
 pub mapped_gone : {X Y : Type 0} (f : X → Y) (xs : List X) (i : ℕ) → length xs ≤ i → drop i (map f xs) ≡ []
 mapped_gone f xs i l = drop_all i (map f xs) (omega (arith, l, length-map xs f))
+
+pub mapped_more : {X Y : Type 0} (f : X → Y) (xs : List X) (i : ℕ) (x : X) (old new : List Y) (y : Y) → i < length xs → x ≡ get_or xs i x → y ≡ f x → old ≡ map f (take i xs) → new ≡ old ++ y ∷ []
+    → new ≡ map f (take (i + 1) xs)
+mapped_more f xs i x old new y l at is e grown =
+    grown ∙ ap (λ z. z ++ y ∷ []) e ∙ ap (λ z. map f (take i xs) ++ z ∷ []) (is ∙ ap f at) ∙ sym (ap (map f) (take_more xs i x l) ∙ map-append f (take i xs) (get_or xs i x ∷ []))

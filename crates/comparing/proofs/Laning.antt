@@ -1,5 +1,5 @@
 -- What is known of a queue's lane, and of the totals that it adds.
-use Rattle.std.proofs.Common.{◌≡◌, ℕ, zero, suc, ◌+◌, ◌<◌, ◌≤◌, Option, List, [], ◌∷◌, ◌++◌, length, map, get_or, drop, append_assoc, refl, sym, ap, ◌∙◌, subst, arith}
+use Rattle.std.proofs.Common.{◌≡◌, ℕ, zero, suc, ◌+◌, ◌<◌, ◌≤◌, Option, List, [], ◌∷◌, ◌++◌, length, map, get_or, drop, append_assoc, refl, sym, ap, ◌∙◌, subst, arith, append-nil}
 use Rattle.std.specs.List.{AllByRecursion, filter, flat_map, range_with_len}
 use Rattle.std.proofs.lemmas.List.Concat.{flat_map-append}
 use Rattle.std.proofs.lemmas.List.Elements.{filter-append}
@@ -30,7 +30,7 @@ use Rattle.check_totals.specs.Returned.{Lefts, flows_of, behind_items}
 use Rattle.check_totals.proofs.Flowing.{of_flow, queue_items, runs_from, all_runs}
 use Rattle.comparing.specs.Items.{MayCompare, AreLeft, item_at, totals_of_items, totals_by}
 use Rattle.comparing.proofs.Comparing.{totals_of_runs, runs_counted}
-use Rattle.comparing.proofs.ItemTotals.{all_get}
+use Rattle.comparing.proofs.ItemTotals.{all_get, mapped_gone}
 use Rattle.comparing.proofs.Totalling.{lane_at, items_few, map_same, totals_are, taps_are, rising}
 
 -- a merged lane that holds what the runs of its queue come to may be compared
@@ -86,6 +86,10 @@ lanes_next ps all i rs f g old new t x e grown a = record {
       ∙ ap (λ z. old ++ z ∷ totals_by (behind_items x.now rs) (drop (i + 1) all)) a.0
       ∙ ap (λ z. old ++ totals_by x.now z) (sym e) ∙ x.totals;
 }
+
+pub lanes_all : (ps : List Packet) (ls : List QueueLane) (i : ℕ) (f : KeptFlows) (done : List QueueTotals) → length ls ≤ i
+    → LanesSoFar ps (map merged_in ls) (drop i (map merged_in ls)) f done → done ≡ totals_by (flows_of ps) (map merged_in ls)
+lanes_all ps ls i f done l x = sym (append-nil done) ∙ ap (λ z. done ++ totals_by x.now z) (sym (mapped_gone merged_in ls i l)) ∙ x.totals
 
 -- ---- where they hold what the runs of their queues come to
 

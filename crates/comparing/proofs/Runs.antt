@@ -1,7 +1,7 @@
 -- What a run of packets comes to, and how its merged frame is cut.
 use Rattle.std.proofs.Common.{◌≡◌, ℕ, ◌+◌, ◌-◌, ◌*◌, ◌<◌, ◌≤◌, Option, None, Some, List, [], ◌∷◌, length, get_or, map, refl, sym, ap, ◌∙◌, subst, arith, length-append}
 use Rattle.std.specs.List.{AllByRecursion}
-use Rattle.std.proofs.lemmas.List.{get_or-map, get_or_append_left}
+use Rattle.std.proofs.lemmas.List.{get_or-map, get_or_append_left, length-map}
 use Rattle.inet_sum.specs.Stands.{FoldAndLength}
 use Rattle.frame_layout.specs.Headers.{AtHeaders}
 use Rattle.frame_layout.specs.Key.{key_of, IsHeadOf}
@@ -39,6 +39,10 @@ there slots i d l = get_or-map packet_of slots i d no_packet l
 
 pub here : (slots : List Slot) (i : ℕ) (s : Slot) → i < length slots → s ≡ get_or slots i s → packet_at (map packet_of slots) i ≡ packet_of s
 here slots i s l is = there slots i s l ∙ ap packet_of (sym is)
+
+-- a run's first packet is one of them
+pub first_inside : (slots : List Slot) (next : List ℕ) (run : Run) → IsChain (map packet_of slots) next run → run.first < length slots
+first_inside slots next run c = omega (arith, c.inside.0, length-map slots packet_of)
 
 all_chosen : {A : Type 0} (P : A → Type 0) (xs : List A) (d : A) (ks : List ℕ) → AllByRecursion (λ k. k < length xs) ks → AllByRecursion P xs
     → AllByRecursion P (map (λ k. get_or xs k d) ks)

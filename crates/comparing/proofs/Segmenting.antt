@@ -1,5 +1,5 @@
 -- A segment of a merged frame, as it is compared.
-use Rattle.std.proofs.Common.{◌≡◌, ◌≢◌, ℕ, suc, ◌+◌, ◌-◌, ◌*◌, ◌^◌, ◌<◌, ◌≤◌, inl, inr, Bool, false, List, [], ◌∷◌, ◌++◌, length, min, take, drop, sym, ap, ◌∙◌, subst, arith, length-take}
+use Rattle.std.proofs.Common.{◌≡◌, ◌≢◌, ℕ, suc, ◌+◌, ◌-◌, ◌*◌, ◌^◌, ◌<◌, ◌≤◌, inl, inr, Bool, false, List, [], ◌∷◌, ◌++◌, length, min, take, drop, sym, ap, ◌∙◌, subst, arith, length-take, length-drop}
 use Rattle.std.proofs.Common.{length-append, length-take-le}
 use Rattle.std.specs.Prelude.{Decides}
 use Rattle.std.proofs.lemmas.List.{take_min, drop-drop, drop_all}
@@ -21,6 +21,9 @@ drop_min n xs = elim (cases_lt n (length xs)) [
   | inl l ↦ ap (λ (k : ℕ). drop k xs) (omega arith)
   | inr l ↦ drop_all (min n (length xs)) xs (omega arith) ∙ sym (drop_all n xs l)
 ]
+
+pub least_inside : (m n : ℕ) (payload own : List ℕ) → n ≡ min m (length payload) → own ≡ payload → n ≤ length own
+least_inside m n payload own least e = omega (arith, least, ap length e)
 
 module _ (cut : Segmentation) (f headers payload : List ℕ) (i : ℕ) (is : IsCutTo cut f headers i payload) where
   placed : IsPlaced f cut.layout
@@ -49,6 +52,19 @@ module _ (cut : Segmentation) (f headers payload : List ℕ) (i : ℕ) (is : IsC
     pub ranges_at : (h : List ℕ) (sum : ℕ) → h ≡ headers → sum ≡ n → AtHeaders (IsLengthInRange (length h + sum)) cut.layout.headers
     ranges_at h sum e s =
         subst (λ (k : ℕ). AtHeaders (IsLengthInRange k) cut.layout.headers) (omega (arith, ap length e, size, long, s)) (segment_ranges cut f i is.in_bytes is.of)
+
+    pub few_bytes : (h : List ℕ) (sum : ℕ) → length headers ≤ 200 → h ≡ headers → sum ≡ n → length h + sum < 2 ^ 31
+    few_bytes h sum low e s = omega (
+      arith,
+      low,
+      ap length e,
+      s,
+      least,
+      ap length is.rest,
+      length-drop (i * cut.m) (drop cut.layout.payload_at f),
+      length-drop cut.layout.payload_at f,
+      is.short,
+    )
 
     -- the segment's header, made from the frame's, and its own payload are the segment
     pub segment_is : (h header : List ℕ) → h ≡ headers → header ++ take n payload ≡ segment_from cut i (h ++ take n payload) → header ++ take n payload ≡ segment_at cut f i

@@ -11,11 +11,12 @@ use Rattle.gro.specs.declared.slot.Slot.{Slot}
 use Rattle.frame_runs.specs.Chains.{behind, packet_at, run_of}
 use Rattle.frame_runs.specs.Engine.{Knows, KnowsSome}
 use Rattle.frame_runs.specs.MergedRun.{headers_size, payloads_behind}
-use Rattle.gro.specs.Slots.{packet_of}
+use Rattle.gro.specs.Slots.{packet_of, IsHeld}
 use Rattle.comparing.specs.Items.{item_at, IsToCompare}
 use Rattle.comparing.specs.Segments.{IsCutTo, IsCutOf}
-use Rattle.comparing.proofs.Runs.{here, run_in_bytes}
+use Rattle.comparing.proofs.Runs.{here, run_in_bytes, first_inside}
 use Rattle.comparing.proofs.Segmenting.{started}
+use Rattle.frame_runs.proofs.Payloads.{all_at}
 
 module _ (slots : List Slot) (next : List ℕ) (run : Run) (c : IsToCompare slots next run) (s : Slot) (is : s ≡ get_or slots run.first s) where
   pub first_is : packet_at (map packet_of slots) run.first ≡ packet_of s
@@ -26,6 +27,9 @@ module _ (slots : List Slot) (next : List ℕ) (run : Run) (c : IsToCompare slot
 
   pub knows_some : KnowsSome run (packet_of s)
   knows_some = (map (packet_at (map packet_of slots)) (behind next run), knows)
+
+  pub first_held : IsHeld s
+  first_held = subst IsHeld (sym is) (all_at IsHeld slots run.first s c.are (first_inside slots next run c.is))
 
   in_bytes : AllByRecursion (λ (x : Packet). AreBytes x.frame) (packet_of s ∷ map (packet_at (map packet_of slots)) (behind next run))
   in_bytes =

@@ -13,11 +13,15 @@ use Rattle.taps.specs.Clones.{packet_of}
 use Rattle.check_totals.specs.Returned.{is_same}
 use Rattle.comparing.specs.Chain.{IsChain, IsOwn, Counts}
 use Rattle.comparing.specs.Segments.{IsCutTo, segments_from}
-use Rattle.comparing.proofs.Chains.{Counting, count_turn, count_end, same_packet, ones}
+use Rattle.comparing.proofs.Chains.{Counting, count_turn, count_end, same_packet, ones, count_start}
 use Rattle.comparing.proofs.Segmenting.{one_more, none_more}
 
 pub kept_at : (kept : List TapClone) (at : ℕ) (clone : TapClone) → at < length kept → clone ≡ get_or kept at clone → get_or (map packet_of kept) at (packet_of clone) ≡ packet_of clone
 kept_at kept at clone l is = get_or-map packet_of kept at clone (packet_of clone) l ∙ ap packet_of (sym is)
+
+-- each packet has a next place
+pub next_inside : (kept : List TapClone) (next : List ℕ) (at : ℕ) → IsChain (map packet_of kept) next → at < length kept → at < length next
+next_inside kept next at c l = omega (arith, l, c.long, length-map kept packet_of)
 
 module _ (cut : Segmentation) (kept : List TapClone) (next : List ℕ) (f : List ℕ) (i at to n : ℕ) (b : Bool) (clone : TapClone) (chain : IsChain (map packet_of kept) next)
     (less : i < cut.n) (there : at < length kept) (is : clone ≡ get_or kept at clone) (e : ℕ) (goes : to ≡ get_or next at e)
@@ -41,6 +45,14 @@ pub record IsCounted (ps : List Packet) (cut : Segmentation) (f headers payload 
   pub cut_to : IsCutTo cut f headers i payload
   pub counting : (q : Option (List ℕ)) (p : Packet) → p.frame ≡ f → IsOwn ps q from
       → Counting ps q from (segments_at cut p) (segments_from cut p i (cut.n - i)) at n
+
+pub none_counted : (ps : List Packet) (cut : Segmentation) (f headers payload again : List ℕ) (from : ℕ) → again ≡ payload → IsCutTo cut f headers 0 payload
+    → IsCounted ps cut f headers again from 0 from 0
+none_counted ps cut f headers payload again from e is = record {
+  cut_to = subst (IsCutTo cut f headers 0) (sym e) is;
+  counting = λ q p same own.
+      subst (λ (k : ℕ). Counting ps q from (segments_at cut p) (segments_from cut p 0 k) from 0) (let k : cut.n ≡ cut.n - 0 = omega arith in k) (count_start ps q from (segments_at cut p) own);
+}
 
 pub ended_all : (ps : List Packet) (cut : Segmentation) (q : Option (List ℕ)) (p : Packet) (from i at n : ℕ) → cut.n ≤ i → Counting ps q from (segments_at cut p)
     (segments_from cut p i (cut.n - i)) at n → Counts ps q from (segments_at cut p) at n

@@ -76,6 +76,27 @@ module _ (own : List ℕ) (from : ℕ) (slots : List Slot) (next : List ℕ) (n 
       behind = ahead.1;
     }
 
+-- ---- the packet that is being read has more
+
+module _ (own bytes rest : List ℕ) (from : ℕ) (slots : List Slot) (next : List ℕ) (n k left : ℕ) (split : own ≡ bytes ++ rest) (p : IsPayloadLeft own from slots next n k left) where
+  own_long : left ≡ length bytes + length (payload_left rest from slots next n k)
+  own_long =
+      let others : List ℕ = payloads_behind from (map (packet_at (map packet_of slots)) (chain_of next n k)) in
+      p.long ∙ ap (λ (z : List ℕ). length (z ++ others)) split ∙ ap length (append_assoc bytes rest others) ∙ length-append bytes (rest ++ others)
+
+  pub own_fewer : length bytes ≤ left
+  own_fewer = omega (arith, own_long)
+
+  pub own_left : IsPayloadLeft rest from slots next n k (left - length bytes)
+  own_left = record {
+    long = omega (arith, own_long);
+    small = omega (arith, p.small);
+    are = p.are;
+    linked = p.linked;
+    low = p.low;
+    behind = p.behind;
+  }
+
 -- ---- a run of several packets
 
 each_all : (P : Packet → Type 0) (xs : List Packet) → ((i : ℕ) (d : Packet) → i < length xs → P (get_or xs i d)) → AllByRecursion P xs

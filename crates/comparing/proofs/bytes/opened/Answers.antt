@@ -23,3 +23,8 @@ returns-clause-some c =
     let e : length c.args.piece.now ≡ 0 = search rules in
     let l = piece_there c.args.piece.now c.args.skb.now c.args.next e c.requires.some in
     (piece_next c.args.piece.now c.args.skb.now c.args.next none c.slice.result.now e l c.requires.fit (c.slice.ensures.bytes none)).1
+
+pub slice-requires : goal.slice-requires
+slice-requires c =
+    let e : length c.args.piece.now ≡ 0 = search rules in
+    record { within = piece_there c.args.piece.now c.args.skb.now c.args.next e c.requires.some }

@@ -1,10 +1,10 @@
-use Rattle.std.proofs.Common.{◌+◌, ◌-◌, ℕ, map, get_or, refl, sym, subst, arith}
+use Rattle.std.proofs.Common.{◌+◌, ◌-◌, ℕ, map, get_or, refl, sym, subst, arith, le_refl}
 use Rattle.std.proofs.lemmas.List.{length-map}
 use Rattle.segment_rule.specs.Segmentations.{segments_at}
 use Rattle.taps.specs.Clones.{packet_of}
 use Rattle.comparing.specs.Segments.{segments_from}
 use Rattle.comparing.proofs.Chains.{Counting, count_stop, ones_few}
-use Rattle.comparing.proofs.Turning.{turned, ended_all}
+use Rattle.comparing.proofs.Turning.{turned, ended_all, next_inside, none_counted}
 use Rattle.comparing.proofs.counting.count_segments.Goals as goal
 
 pub returns-then-at-kept-clause-counts : goal.returns-then-at-kept-clause-counts
@@ -42,3 +42,12 @@ pub returns-clause-counts : goal.returns-clause-counts
 returns-clause-counts c = λ f is q p e own.
     let l = c.loop-i in
     ended_all (map packet_of c.args.kept.now) c.args.cut.now q p c.args.at.now l.i l.at l.count (omega arith) ((l.invariant.each f is).counting q p e own)
+
+pub loop-i-init : goal.loop-i-init
+loop-i-init c = record {
+  few = le_refl 0;
+  each = λ f is. none_counted (map packet_of c.args.kept.now) c.args.cut.now f c.args.headers.now c.args.payload.now c.again-payload.result c.args.at.now c.again-payload.ensures.same is;
+}
+
+pub bounds-kept_next-at : goal.bounds-kept_next-at
+bounds-kept_next-at c = next_inside c.args.kept.now c.args.kept_next.now c.loop-i.at c.requires.chain c.if-at-kept.false

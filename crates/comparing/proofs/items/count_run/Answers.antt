@@ -10,7 +10,7 @@ use Rattle.comparing.specs.Items.{item_at}
 use Rattle.comparing.specs.KeptFlows.{CountsIn}
 use Rattle.check_totals.specs.Returned.{packets_in, flow_in}
 use Rattle.comparing.proofs.Entering.{flows_moved, counted}
-use Rattle.comparing.proofs.Runs.{there, flow_is, run_in_bytes}
+use Rattle.comparing.proofs.Runs.{there, flow_is, run_in_bytes, first_inside}
 use Rattle.comparing.proofs.items.count_run.Goals as goal
 
 pub returns-clause-flows : goal.returns-clause-flows
@@ -40,3 +40,6 @@ returns-clause-counts c =
     subst (λ (k : Option (List ℕ)). CountsIn kept f k (packets_in r) c.move_to.new.self c.count_packets-count.result) key
     (counted kept f c.move_to.new.self q (packets_in r) c.place-at.result c.count_packets-count.new.at c.count_packets-count.result c.requires.flows c.place-at.ensures.place
     (c.count_packets-count.ensures.counts q own) c.move_to.ensures.moves)
+
+pub bounds-packets-run : goal.bounds-packets-run
+bounds-packets-run c = first_inside c.args.packets.now c.args.next.now c.args.run.now c.requires.run.is

@@ -4,7 +4,7 @@ use Rattle.lanes.specs.Work.{merged_in}
 use Rattle.check_totals.specs.Returned.{flows_of}
 use Rattle.comparing.specs.Items.{MayCompare, totals_by}
 use Rattle.comparing.proofs.ItemTotals.{all_get, mapped_next}
-use Rattle.comparing.proofs.Laning.{lanes_next}
+use Rattle.comparing.proofs.Laning.{lanes_next, lanes_all}
 use Rattle.comparing.proofs.lane_totals.check_queues.Goals as goal
 
 pub loop-i-init : goal.loop-i-init
@@ -37,3 +37,8 @@ loop-i-preserved c =
       size = omega (arith, l.invariant.size, c.push_reserved.ensures.len);
       room = omega (arith, l.invariant.room, c.push_reserved.ensures.capacity);
     }
+
+pub returns : goal.returns
+returns c = record {
+  totals = lanes_all (map packet_of c.args.kept.now) c.args.lanes.now c.loop-i.i c.loop-i.flows c.loop-i.totals.items c.loop-i-test.false c.loop-i.invariant.so_far;
+}

@@ -1,5 +1,6 @@
-use Rattle.std.proofs.Common.{◌∙◌, sym, length, ap, length-append, arith}
-use Rattle.comparing.proofs.Passing.{next_alike, both_more, begun}
+use Rattle.std.proofs.Common.{◌∙◌, sym, length, ap, length-append, arith, refl}
+use Rattle.std.proofs.lemmas.Bool.{false≢true}
+use Rattle.comparing.proofs.Passing.{next_alike, both_more, begun, all_alike}
 use Rattle.comparing.proofs.bytes.Bytes.begins_alike.Goals as goal
 
 pub returns-then-not-begins_with : goal.returns-then-not-begins_with
@@ -8,7 +9,7 @@ returns-then-not-begins_with c =
     let x = c.take-bytes.result.now in
     record {
       same = (
-        λ e. absurd cc,
+        λ e. absurd (false≢true e),
         λ e. sym c.if-not-begins_with.true ∙ c.begins_with.ensures.same.1 (next_alike c.args.n l.left c.args.self.now c.args.others.now l.self l.own x c.take-bytes.new.self l.invariant.passed
             c.take-bytes.ensures.most c.take-bytes.ensures.bytes e),
       );
@@ -23,3 +24,8 @@ loop-left-preserved c =
       passed = both_more c.args.n l.left c.args.self.now c.args.others.now l.self l.own x c.begins_with.new.self c.take-bytes.new.self l.invariant.passed c.take-bytes.ensures.most
           (begun l.self x c.begins_with.new.self (c.begins_with.ensures.same.0 c.if-not-begins_with.false) (c.begins_with.ensures.behind c.if-not-begins_with.false)) c.take-bytes.ensures.bytes;
     }
+
+pub returns : goal.returns
+returns c =
+    let l = c.loop-left in
+    record { same = (λ e. all_alike c.args.n l.left c.args.self.now c.args.others.now l.self l.own c.loop-left-test.false l.invariant.passed, λ e. refl) }

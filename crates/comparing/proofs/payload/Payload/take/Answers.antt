@@ -1,5 +1,5 @@
-use Rattle.std.proofs.Common.{◌∙◌, sym, arith}
-use Rattle.comparing.proofs.Unread.{next_there, left_is, fewer, next_left, some_begins}
+use Rattle.std.proofs.Common.{◌∙◌, sym, arith, lt_of_lt_of_le}
+use Rattle.comparing.proofs.Unread.{next_there, left_is, fewer, next_left, some_begins, in_head, own_left, own_fewer}
 use Rattle.comparing.proofs.payload.Payload.take.Goals as goal
 
 pub overflow_sub-self-then-is_read : goal.overflow_sub-self-then-is_read
@@ -33,3 +33,33 @@ returns-then-is_read-clause-some c = λ most some.
     let i = c.self.invariant in
     let has = next_there u.bytes u.from u.packets.now u.next.now u.more u.behind u.left i read.0 read.1 in
     c.take-bytes.ensures.some most (some_begins u.packets.now u.from u.behind c.index-self-k.result i.are i.low has c.behind-own.result c.behind-own.ensures.all)
+
+pub behind-own-requires : goal.behind-own-requires
+behind-own-requires c =
+    let u = c.self.inside in
+    let read = c.is_read.ensures.read c.if-is_read.true in
+    let i = c.self.invariant in
+    record {
+      inside = in_head u.packets.now u.from u.behind c.index-self-k.result i.are i.low
+          (next_there u.bytes u.from u.packets.now u.next.now u.more u.behind u.left i read.0 read.1);
+    }
+
+pub overflow_sub-self-2 : goal.overflow_sub-self-2
+overflow_sub-self-2 c =
+    let u = c.self.inside in
+    own_fewer u.bytes c.take-bytes-2.result.now c.take-bytes-2.new.self u.from u.packets.now u.next.now u.more u.behind u.left c.take-bytes-2.ensures.bytes c.self.invariant
+
+pub invariant_of-self-2 : goal.invariant_of-self-2
+invariant_of-self-2 c =
+    let u = c.self.inside in
+    own_left u.bytes c.take-bytes-2.result.now c.take-bytes-2.new.self u.from u.packets.now u.next.now u.more u.behind u.left c.take-bytes-2.ensures.bytes c.self.invariant
+
+pub bounds-self-inside-k-then-is_read : goal.bounds-self-inside-k-then-is_read
+bounds-self-inside-k-then-is_read c =
+    let u = c.self.inside in
+    let read = c.is_read.ensures.read c.if-is_read.true in
+    let i = c.self.invariant in
+    lt_of_lt_of_le (next_there u.bytes u.from u.packets.now u.next.now u.more u.behind u.left i read.0 read.1).inside i.linked
+
+pub overflow_sub-self : goal.overflow_sub-self
+overflow_sub-self c = (c.is_read.ensures.read c.if-is_read.true).1
