@@ -1,5 +1,5 @@
 -- What comes back on shelves and in tokens, one after another.
-use Rattle.std.proofs.Common.{◌≡◌, ◌+◌, ◌≤◌, ◌⊎◌, inl, inr, ℕ, List, [], ◌∷◌, ◌++◌, Option, Some, None, MatchOption, refl, ap, ◌∙◌, arith}
+use Rattle.std.proofs.Common.{◌≡◌, ◌+◌, ◌≤◌, ◌⊎◌, inl, inr, ℕ, List, [], ◌∷◌, ◌++◌, Option, Some, None, MatchOption, refl, ap, ◌∙◌, arith, length}
 use Rattle.std.specs.List.{sum_by}
 use Rattle.std.specs.declared.alloc.Global.{Global}
 use Rattle.raw_block.specs.Views.{SoleState}
@@ -52,3 +52,13 @@ left_less p p' s s' made sum (inr e) le = omega (arith, sum, e, le)
 pub refill_weighs : (h : ℕ → ℕ) (from from' to to' : List SoleState) → ((f : SoleState → ℕ) → sum_by f to' + sum_by f from' ≡ sum_by f to + sum_by f from)
     → weighed h to' + weighed h from' ≡ weighed h to + weighed h from
 refill_weighs h from from' to to' all = all (λ (s : SoleState). h s.block)
+
+-- a shelf with no blocks changes no sum
+pub none_kept : (old new shelf : ℕ) → new ≡ old + shelf → shelf ≡ 0 → new ≡ old
+none_kept old new shelf e none = omega (arith, e, none)
+
+pub none_picked : (old new shelf : ℕ) → old ≡ shelf + new → shelf ≡ 0 → new ≡ old
+none_picked old new shelf e none = omega (arith, e, none)
+
+pub none_more : (h : ℕ → ℕ) (old told : ℕ) (blocks : List SoleState) → told ≡ length blocks → told ≤ 0 → old ≡ old + weighed h blocks
+none_more h old told blocks e none = omega (arith, weighed_none h blocks (omega (arith, e, none)))
