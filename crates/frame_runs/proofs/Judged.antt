@@ -1,14 +1,15 @@
 -- A frame, by its head and the sum of what is behind.
-use Rattle.std.proofs.Common.{◌≡◌, ℕ, ◌+◌, ◌-◌, ◌<◌, ◌≤◌, inl, inr, List, length, drop, ap, ◌∙◌, subst, arith, length-append}
+use Rattle.std.proofs.Common.{◌≡◌, ℕ, ◌+◌, ◌-◌, ◌<◌, ◌≤◌, inl, inr, List, length, drop, ap, ◌∙◌, subst, arith, length-append, Some, None, sym}
 use Rattle.std.proofs.lemmas.Bool.{cases_lt}
 use Rattle.std.proofs.lemmas.List.{get_or_append_left, get_or-drop}
 use Rattle.net_bytes.specs.Bytes.{byte}
 use Rattle.inet_sum.specs.Stands.{FoldAndLength, StandsFor}
 use Rattle.frame_layout.specs.Key.{IsHeadOf}
-use Rattle.frame_layout.specs.Shape.{shape_of}
+use Rattle.frame_layout.specs.Shape.{shape_of, Layout}
 use Rattle.frame_layout.proofs.Lemmas.{shape_of_head}
 use Rattle.frame_layout.specs.Front.{IsPayloadOf}
 use Rattle.frame_runs.specs.Frames.{IsFrontOf, AreBytes}
+use Rattle.merge_rule.specs.Runs.{IsNoCandidate}
 
 module _ (head f : List ℕ) (front : IsFrontOf head f) where
   pub begins : (k : ℕ) → k < length head → byte f k ≡ byte head k
@@ -43,3 +44,15 @@ module _ (head f : List ℕ) (front : IsFrontOf head f) where
 -- headers of at most 200 bytes that the frame has lie in its head
 pub in_head : (head f : List ℕ) (at : ℕ) → IsFrontOf head f → at ≤ 200 → at ≤ length f → at ≤ length head
 in_head head f at front low within = omega (arith, front.enough, low, within)
+
+-- ---- frames that aren't candidates
+
+pub one_shape : (f : List ℕ) (a b : Layout) → shape_of f ≡ Some a → Some b ≡ shape_of f → a ≡ b
+one_shape f a b x y = let both : Some b ≡ Some a = y ∙ x in cc
+
+pub no_shape : (f : List ℕ) (original : ℕ) → shape_of f ≡ None → IsNoCandidate f original
+no_shape f original none layout is candidate = let both : None ≡ Some layout = sym none ∙ is in cc
+
+pub no_payload : (f : List ℕ) (original told place : ℕ) (own : Layout) → Some own ≡ shape_of f → told ≡ original → place ≡ own.payload_at → told ≤ place → IsNoCandidate f original
+no_payload f original told place own shaped same at short layout is candidate =
+    omega (arith, candidate.payload, candidate.whole, ap (λ (z : Layout). z.payload_at) (one_shape f layout own is shaped), same, at, short)

@@ -1,5 +1,5 @@
 -- What a run has come to, and the heads of its first packet and of the next.
-use Rattle.std.proofs.Common.{◌≡◌, ℕ, ◌+◌, ◌≤◌, Some, None, Option, List, ◌∷◌, length, sym, arith}
+use Rattle.std.proofs.Common.{◌≡◌, ℕ, ◌+◌, ◌≤◌, Some, None, Option, List, ◌∷◌, length, sym, arith, ◌<◌, ◌++◌, [], length-append}
 use Rattle.std.specs.Prelude.{IfSome}
 use Rattle.frame_runs.specs.Frames.{IsFrontOf}
 use Rattle.frame_runs.proofs.Judged.{begins}
@@ -44,3 +44,10 @@ module _ (item : Run) (first : Packet) (rest : List Packet) (layout : Layout) (i
 pub if_some : {A : Type 0} (P Q : A → Type 0) (o : Option A) → ((a : A) → P a → Q a) → IfSome o P → IfSome o Q
 if_some P Q None f h = tt
 if_some P Q (Some a) f h = f a h
+
+-- a run with one more packet has two more than follow its first
+pub few_enough : (p x : Packet) (rest : List Packet) (more segs : ℕ) → more + 2 ≤ segs → length rest ≡ more → length (p ∷ rest ++ x ∷ []) ≤ segs
+few_enough p x rest more segs few e = omega (arith, few, e, length-append rest (x ∷ []))
+
+pub too_many : (p x : Packet) (rest : List Packet) (more segs : ℕ) → segs < more + 2 → length rest ≡ more → length (p ∷ rest ++ x ∷ []) ≤ segs → ⊥
+too_many p x rest more segs many e few = omega (arith, many, few, e, length-append rest (x ∷ []))

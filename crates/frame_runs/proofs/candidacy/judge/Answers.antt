@@ -1,4 +1,4 @@
-use Rattle.std.proofs.Common.{◌≡◌, ℕ, List, None, Some, drop, sym, subst, arith}
+use Rattle.std.proofs.Common.{◌≡◌, ℕ, List, None, Some, drop, sym, subst, arith, ◌∙◌}
 use Rattle.inet_sum.specs.Stands.{StandsFor}
 use Rattle.frame_layout.specs.Front.{IsPayloadOf}
 use Rattle.frame_layout.specs.Segment.{IsSegOf}
@@ -9,7 +9,7 @@ use Rattle.frame_layout.specs.Shape.{Layout, shape_of}
 use Rattle.pcap_io.specs.Capture.{Packet}
 use Rattle.merge_rule.specs.Runs.{IsJudged, IsNoCandidate}
 use Rattle.frame_runs.specs.Frames.{AreBytes}
-use Rattle.frame_runs.proofs.Judged.{front_of, is_long, payload_of}
+use Rattle.frame_runs.proofs.Judged.{front_of, is_long, payload_of, no_shape, no_payload, one_shape}
 use Rattle.frame_runs.proofs.candidacy.judge.Goals as goal
 
 pub sum_from-payload-requires : goal.sum_from-payload-requires
@@ -81,9 +81,31 @@ returns-then-is_length_wrong g c =
     let front : IsHeadOf c.head-head.result.now f = front_of c.head-head.result.now f c.head-head.ensures.front in
     let shaped : Some c.in-Some.layout ≡ shape_of f = c.in-Some.ensures.whole f front in
     let none : IsNoCandidate f q.original = λ layout is candidate.
-    let same : layout ≡ c.in-Some.layout = cc (is, shaped) in
-    c.is_length_wrong.ensures.wrong c.if-is_length_wrong.true f front (omega (arith, c.if-len-original.false, c.len.ensures.len)) q.original
+    let same : layout ≡ c.in-Some.layout = one_shape f layout c.in-Some.layout is shaped in
+    c.is_length_wrong.ensures.wrong c.if-is_length_wrong.true f front (sym c.len.ensures.len ∙ c.if-len-original.false) q.original
     (subst (IsCandidate f q.original) same candidate) in
     record {
       judged = subst (λ z. IsJudged f q.original z c.none-then-is_length_wrong.result.payload c.none-then-is_length_wrong.result.flags) (sym c.none-then-is_length_wrong.ensures.layout) none;
+    }
+
+pub returns-in_default : goal.returns-in_default
+returns-in_default g c =
+    let q : Packet = g.F.Frame.packet c.args.slot.now in
+    let f : List ℕ = q.frame in
+    let front : IsHeadOf c.head-head.result.now f = front_of c.head-head.result.now f c.head-head.ensures.front in
+    record {
+      judged = subst (λ z. IsJudged f q.original z c.none-in_default.result.payload c.none-in_default.result.flags) (sym c.none-in_default.ensures.layout)
+          (no_shape f q.original (sym (c.in_default.ensures.whole f front)));
+    }
+
+pub returns-then-payload_at-original : goal.returns-then-payload_at-original
+returns-then-payload_at-original g c =
+    let q : Packet = g.F.Frame.packet c.args.slot.now in
+    let f : List ℕ = q.frame in
+    let front : IsHeadOf c.head-head.result.now f = front_of c.head-head.result.now f c.head-head.ensures.front in
+    let none = c.none-then-payload_at-original in
+    record {
+      judged = subst (λ z. IsJudged f q.original z none.result.payload none.result.flags) (sym none.ensures.layout)
+          (no_payload f q.original c.original-original.result c.payload_at.result c.in-Some.layout (c.in-Some.ensures.whole f front) c.original-original.ensures.original c.payload_at.ensures.place
+          c.if-payload_at-original.true);
     }

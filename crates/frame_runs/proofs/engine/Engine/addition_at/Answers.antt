@@ -1,4 +1,4 @@
-use Rattle.std.proofs.Common.{◌≡◌, ◌∷◌, ◌++◌, [], List, Option, ℕ, map, sym, ap, ◌∙◌, subst, arith}
+use Rattle.std.proofs.Common.{◌≡◌, ◌∷◌, ◌++◌, [], List, Option, ℕ, map, sym, ap, ◌∙◌, subst, arith, ◌<◌}
 use Rattle.std.proofs.lemmas.List.{length-map}
 use Rattle.maximal_runs.specs.Items.{begins_in}
 use Rattle.frame_layout.specs.Key.{key_eq, key_of}
@@ -32,3 +32,8 @@ returns g c =
       added = c.addition_within.ensures.added;
       flow = if_some _ _ c.addition_within.result (λ a t. ap (begins_in (is_of key)) is ∙ ap (key_eq key) (sym t) ∙ key_eq_self key) c.addition_within.ensures.flow;
     }
+
+pub bounds-packets-run : goal.bounds-packets-run
+bounds-packets-run g c =
+    subst (λ (n : ℕ). c.index-run.result.now.first < n) (length-map c.args.packets.now g.F.Frame.packet)
+    (first_below (map g.F.Frame.packet c.args.packets.now) 0 c.args.place c.args.self.now c.index-run.result.now c.requires.each c.requires.inside c.index-run.ensures)

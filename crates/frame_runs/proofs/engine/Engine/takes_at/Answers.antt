@@ -1,4 +1,4 @@
-use Rattle.std.proofs.Common.{◌≡◌, ◌∷◌, ◌++◌, [], List, Option, ℕ, map, sym, ap, ◌∙◌, subst, arith}
+use Rattle.std.proofs.Common.{◌≡◌, ◌∷◌, ◌++◌, [], List, Option, ℕ, map, sym, ap, ◌∙◌, subst, arith, ◌<◌}
 use Rattle.std.specs.Bool.{Decides}
 use Rattle.std.proofs.lemmas.List.{length-map}
 use Rattle.maximal_runs.specs.Items.{begins_in}
@@ -31,3 +31,8 @@ returns g c =
       takes = subst (λ (z : List Packet). Decides c.takes_within.result (IsMergeableWithin c.args.segs (z ++ (x ∷ [])))) (sym is) (c.takes_within.ensures.takes rest k);
       flow = λ t. ap (begins_in (is_of key)) is ∙ ap (key_eq key) (sym (c.takes_within.ensures.flow t)) ∙ key_eq_self key;
     }
+
+pub bounds-packets-run : goal.bounds-packets-run
+bounds-packets-run g c =
+    subst (λ (n : ℕ). c.index-run.result.now.first < n) (length-map c.args.packets.now g.F.Frame.packet)
+    (first_below (map g.F.Frame.packet c.args.packets.now) 0 c.args.place c.args.self.now c.index-run.result.now c.requires.each c.requires.inside c.index-run.ensures)

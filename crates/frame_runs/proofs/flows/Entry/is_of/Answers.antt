@@ -1,4 +1,5 @@
-use Rattle.std.proofs.Common.{◌≡◌, ℕ, List, map, sym, ap, subst, arith}
+use Rattle.std.proofs.Common.{◌≡◌, ℕ, List, map, sym, ap, subst, arith, ◌∙◌, ◌<◌}
+use Rattle.std.proofs.lemmas.Bool.{false≢true}
 use Rattle.std.specs.Bool.{Decides}
 use Rattle.std.proofs.lemmas.List.{length-map}
 use Rattle.frame_layout.specs.Key.{key_of}
@@ -11,8 +12,8 @@ use Rattle.frame_runs.proofs.flows.Entry.is_of.Goals as goal
 pub returns-then-self-hash : goal.returns-then-self-hash
 returns-then-self-hash g c = record {
   same = (
-    λ t. absurd cc,
-    λ e. absurd (omega (arith, ap hash_of e, c.requires.hashed.1, c.requires.hash, c.if-self-hash.true)),
+    λ t. absurd (false≢true t),
+    λ e. absurd (c.if-self-hash.true (c.requires.hashed.1 ∙ ap hash_of e ∙ sym c.requires.hash)),
   );
 }
 
@@ -26,3 +27,6 @@ returns g c =
     record {
       same = subst (λ (z : Packet). Decides c.is_same_flow.result (key_of z.frame ≡ key_of f)) (sym at) c.is_same_flow.ensures.same;
     }
+
+pub bounds-packets-self : goal.bounds-packets-self
+bounds-packets-self g c = subst (λ (n : ℕ). c.args.self.now.packet < n) (length-map c.args.packets.now g.F.Frame.packet) c.requires.hashed.0

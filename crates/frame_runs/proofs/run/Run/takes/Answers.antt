@@ -1,4 +1,5 @@
 use Rattle.std.proofs.Common.{◌≡◌, ◌+◌, ◌∷◌, List, length, subst, arith}
+use Rattle.std.proofs.lemmas.Bool.{false≢true}
 use Rattle.std.specs.Bool.{Decides}
 use Rattle.frame_layout.specs.Shape.{Layout}
 use Rattle.pcap_io.specs.Capture.{Packet}
@@ -15,22 +16,22 @@ returns-then-not-self g c =
     let run : Run = c.args.self.now in
     record {
       takes = λ rest k. (
-        λ e. absurd cc,
+        λ e. absurd (false≢true e),
         λ m. absurd (shut_by run.layout run.payload run.flags run.progress (g.F.Frame.packet c.args.first.now) (g.F.Frame.packet c.args.next.now)
             rest k.is c.if-not-self.true m),
       );
-      flow = λ t. absurd cc;
+      flow = λ t. absurd (false≢true t);
     }
 
 pub returns-in_default : goal.returns-in_default
 returns-in_default g c =
     record {
       takes = λ rest k. (
-        λ e. absurd cc,
+        λ e. absurd (false≢true e),
         λ m. absurd (no_next_by c.args.candidacy.now.layout c.args.candidacy.now.payload c.args.candidacy.now.flags (g.F.Frame.packet c.args.first.now)
             (g.F.Frame.packet c.args.next.now) rest c.requires.judged c.in_default.is m),
       );
-      flow = λ t. absurd cc;
+      flow = λ t. absurd (false≢true t);
     }
 
 pub returns-in-Some-layout : goal.returns-in-Some-layout
@@ -55,9 +56,9 @@ returns-in-None g c =
     let run : Run = c.args.self.now in
     record {
       takes = λ rest k. (
-        λ e. absurd cc,
+        λ e. absurd (false≢true e),
         λ m. absurd (no_first_by run.layout run.payload run.flags run.progress (g.F.Frame.packet c.args.first.now) (g.F.Frame.packet c.args.next.now)
             rest k.is c.in-None.is m),
       );
-      flow = λ t. absurd cc;
+      flow = λ t. absurd (false≢true t);
     }
