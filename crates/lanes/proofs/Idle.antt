@@ -1,6 +1,7 @@
 -- Lanes that hold nothing.
-use Rattle.std.proofs.Common.{◌≡◌, ℕ, zero, suc, List, [], ◌∷◌, refl, ap, arith}
-use Rattle.std.specs.Prelude.{All}
+
+use Rattle.std.proofs.Common.{◌≡◌, ℕ, zero, suc, List, [], ◌∷◌, refl, ap, arith, length}
+use Rattle.std.specs.Prelude.{All, Ok}
 use Rattle.frags.specs.Account.{Tests, receipts_held, soles_home}
 use Rattle.gro.specs.Slots.{of_packets, counts_of, weighed_slots}
 use Rattle.taps.specs.Clones.{blocks_of, of_clones}
@@ -8,6 +9,8 @@ use Rattle.lanes.specs.declared.lane.QueueLane.{QueueLane}
 use Rattle.lanes.specs.declared.lane.TapLane.{TapLane}
 use Rattle.lanes.specs.declared.lane.Lanes.{Lanes}
 use Rattle.lanes.specs.Lanes.{of_queue, of_queues, of_tap, of_taps, of_lanes, counts_of_queues, weighed_queues, AreIdle, IsIdleQueue, IsIdleTap, IsTapReady}
+use Rattle.gro.specs.declared.slot.Slot.{Slot as Held}
+use Rattle.lanes.specs.Filling.{Serves}
 
 pub idle_queue : (l : QueueLane) → IsIdleQueue l → (t : Tests) (m : ℕ) → ((of_queue l).held t m ≡ 0) × ((of_queue l).homes t.blocks m ≡ 0)
 idle_queue l s t m =
@@ -63,3 +66,8 @@ idle_ready ls h i d lt = omega (arith, ap blocks_of (h i d lt).clones)
 
 pub idle_clones : (ls : List TapLane) → All IsIdleTap ls → All (λ (l : TapLane). l.clones.items ≡ []) ls
 idle_clones ls h i d lt = (h i d lt).clones
+
+-- where there is no tap, nothing is served
+pub none_served : {T E : Type 0} (ps : List Held) (ls : List TapLane) (result : T) → length ls ≡ 0 → Serves {T = T} {E = E} ps ps ls ls (Ok result)
+none_served ps [] result none = record { kept = λ t m. (omega arith, omega arith); blocks = λ bs m. omega arith; ready = λ i d lt. absurd (omega arith); clones = tt; size = refl }
+none_served ps (l ∷ ls) result none = absurd (omega arith)

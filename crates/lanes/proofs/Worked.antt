@@ -21,9 +21,12 @@ use Rattle.lanes.specs.Lanes.{of_queues, of_taps, counts_of_queues, weighed_queu
 use Rattle.lanes.specs.Packets.{RiseFrom}
 use Rattle.lanes.specs.Sharing.{EachFrom, EachStays, HasMemory, IsSharing}
 use Rattle.lanes.specs.Taps.{HasClones}
-use Rattle.lanes.specs.Work.{IsToWork, IsWorked, IsWatched, merged_in, records_of_queue, records_of_texts, records_of_tap}
-use Rattle.lanes.proofs.Listing.{each_did, each_map}
+use Rattle.lanes.specs.Work.{IsToWork, IsWorked, IsWatched, merged_in, records_of_queue, records_of_texts, records_of_tap, Did}
+use Rattle.lanes.proofs.Listing.{each_did, each_map, refilled}
 use Rattle.lanes.proofs.Sharing.{few_packets, filter_map, filter_each, filter_counts, filter_rises, same_counts, same_hold, same_weighed}
+use Rattle.std.specs.Vec.{with_items}
+use Rattle.lanes.specs.declared.plan.LanePlan.{LanePlan}
+use Rattle.lanes.specs.declared.lane.Lanes.{Lanes}
 
 -- ---- each
 
@@ -172,3 +175,17 @@ tap_records snap ps k (l ∷ ls) h =
     let s : suc k ≡ k + 1 = omega arith in
     ap (λ z. z ++ flat_map records_of_tap ls) h.0.windows
     ∙ ap (λ z. windows_of snap k ps ++ z) (tap_records snap ps (suc k) ls h.1 ∙ ap (λ z. flat_map (λ t. windows_of snap t ps) (range_with_len z (length ls))) s)
+
+-- ---- all lanes
+
+-- what each queue and each tap did, in the slices that were lent
+pub did_all : (plan : LanePlan) (old : Lanes) (qs qs' : List QueueLane) (ts ts' : List TapLane) → qs ≡ old.queues.items → ts ≡ old.taps.items → length qs' ≡ length qs → length ts' ≡ length ts
+    → EachQueueDid plan.segs qs qs' → EachTapDid plan.filter plan.snap ts ts' → Did plan old (record { queues = with_items old.queues qs'; taps = with_items old.taps ts' })
+did_all plan old qs qs' ts ts' q t long tall queues taps =
+    let q' = refilled old.queues.len qs' old.queues.items (long ∙ ap length q) old.queues.ok.0 in
+    let t' = refilled old.taps.len ts' old.taps.items (tall ∙ ap length t) old.taps.ok.0 in
+    record {
+      queues = subst (EachQueueDid plan.segs old.queues.items) (sym q') (subst (λ (z : List QueueLane). EachQueueDid plan.segs z qs') q queues);
+      taps = subst (EachTapDid plan.filter plan.snap old.taps.items) (sym t') (subst (λ (z : List TapLane). EachTapDid plan.filter plan.snap z ts') t taps);
+      sizes = (ap length q' ∙ long ∙ ap length q, ap length t' ∙ tall ∙ ap length t);
+    }

@@ -1,4 +1,4 @@
-use Rattle.std.proofs.Common.{◌≡◌, ◌++◌, [], ℕ, List, map, take, drop, length, refl, sym, ap, subst, arith}
+use Rattle.std.proofs.Common.{◌≡◌, ◌++◌, [], ℕ, List, map, take, drop, length, refl, sym, ap, subst, arith, ◌∙◌}
 use Rattle.std.specs.Prelude.{All}
 use Rattle.frags.specs.Account.{Keeps, KeepsBlocks, both}
 use Rattle.gro.specs.Slots.{packet_of, of_packets, AreAlone}
@@ -13,6 +13,7 @@ use Rattle.lanes.proofs.Sharing.{idle_alone, lanes_alone}
 use Rattle.lanes.proofs.Whole.{blocks_all, blocks_none, blocks_taps, fill_all, fill_none, fill_taps, on_both, unshared_none, unshared_some}
 use Rattle.lanes.proofs.Worked.{all_to_work}
 use Rattle.lanes.proofs.round.fill.Goals.{In_err-serve_taps, After-share_out}
+use Rattle.lanes.specs.Taps.{HasClones}
 use Rattle.lanes.proofs.round.fill.Goals as goal
 
 -- a list that was written over all of a vector is what that holds
@@ -120,3 +121,25 @@ returns-clause-queues c =
     (all_to_work n old now ws c.in_ok-serve_taps.ensures.same c.requires.may.rising c.requires.may.few
     (subst (λ z. EachFrom (IsSharing n now z) 0 ws) none c.share_out.ensures.shares.shared) memory))
     c.share_out.ensures.all c.share_out.ensures.memory
+
+pub returns-clause-size : goal.returns-clause-size
+returns-clause-size c =
+    let ls = c.open_lanes.new.lanes in
+    let qs = c.share_out.new.lanes in
+    let ts = c.serve_taps.new.lanes in
+    let plan = c.args.plan.now in
+    let sizes = c.in_ok-open_lanes.ensures.size in
+    on_both c.share_out.result (c.share_out.new.packets.items ≡ []) (All HasMemory qs)
+    ((length (written ls.queues.len qs ls.queues.items) ≡ plan.queues) × (length (written ls.taps.len ts ls.taps.items) ≡ plan.taps))
+    (λ none memory.
+    of_both (goal.at.returns-clause-size c).After-share_out (λ qs ts. (length qs ≡ plan.queues) × (length ts ≡ plan.taps))
+    (c.share_out.ensures.shares.size ∙ ap length c.deref_mut-2.ensures.value ∙ sizes.0, c.in_ok-serve_taps.ensures.serves.size ∙ ap length c.deref_mut.ensures.value ∙ sizes.1))
+    c.share_out.ensures.all c.share_out.ensures.memory
+
+pub returns-clause-taps : goal.returns-clause-taps
+returns-clause-taps c =
+    let ts = c.serve_taps.new.lanes in
+    let lanes = c.open_lanes.new.lanes.taps in
+    let clones = EachFrom (HasClones (map packet_of c.args.packets.now.items)) 0 in
+    on_both c.share_out.result (c.share_out.new.packets.items ≡ []) (All HasMemory c.share_out.new.lanes) (clones (written lanes.len ts lanes.items))
+    (λ none memory. subst clones (sym (taps_served (goal.at.returns-clause-taps c).After-share_out)) c.in_ok-serve_taps.ensures.serves.clones) c.share_out.ensures.all c.share_out.ensures.memory

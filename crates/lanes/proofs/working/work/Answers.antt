@@ -1,8 +1,9 @@
-use Rattle.std.proofs.Common.{List, map, length, sym, subst, ap, arith}
+use Rattle.std.proofs.Common.{List, map, length, sym, subst, ap, arith, ◌≡◌, refl}
 use Rattle.gro.specs.declared.slot.Slot.{Slot}
-use Rattle.frame_runs.specs.Engine.{DoRise, IsReady}
+use Rattle.frame_runs.specs.Engine.{DoRise, IsReady, runs_of, AreRuns}
 use Rattle.gro.specs.Slots.{packet_of, AreHeld}
 use Rattle.lanes.proofs.Merging.{do_rise}
+use Rattle.offload_model.specs.Rounds.{runs_in}
 use Rattle.lanes.proofs.working.work.Goals as goal
 
 pub merge-requires-clause-ready : goal.merge-requires-clause-ready
@@ -17,3 +18,18 @@ merge-requires-clause-rising g c =
 
 pub merge-requires-clause-few : goal.merge-requires-clause-few
 merge-requires-clause-few g c = omega (arith, ap length c.slots.ensures.slots, c.requires.filled.few)
+
+pub returns : goal.returns
+returns g c =
+    let engine = c.merge.new.self in
+    record {
+      did = record {
+        queue = refl;
+        packets = refl;
+        runs = subst (λ (z : List Slot). runs_of (map packet_of z) engine ≡ runs_in c.args.segs (map packet_of z)) c.slots.ensures.slots c.merge.ensures.runs;
+        is = record {
+          held = c.requires.filled.held;
+          are = subst (λ (z : List Slot). AreRuns (map packet_of z) (length z) engine) c.slots.ensures.slots c.merge.ensures.are;
+        };
+      };
+    }

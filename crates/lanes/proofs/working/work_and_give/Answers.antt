@@ -1,4 +1,4 @@
-use Rattle.std.proofs.Common.{◌+◌, sym, subst, arith}
+use Rattle.std.proofs.Common.{◌+◌, sym, subst, arith, lt_of_lt_of_le}
 use Rattle.block_pool.proofs.Giving.{may_give_nothing, may_give_twice}
 use Rattle.lanes.specs.Lanes.{DidQueue, IsFilled}
 use Rattle.lanes.proofs.Listing.{did_none, did_more}
@@ -23,3 +23,6 @@ loop-at-preserved g c =
           (omega arith) c.loop-at-test.true c.work_giving.ensures.did i.did;
       gave = may_give_twice c.args.giver.now c.loop-at.giver c.work_giving.new.giver i.gave c.work_giving.ensures.gave;
     }
+
+pub returns-clause-did : goal.returns-clause-did
+returns-clause-did g c = λ i d lt. c.loop-at.invariant.did.front i d (lt_of_lt_of_le lt c.loop-at-test.false) lt
