@@ -1,9 +1,9 @@
-use Rattle.std.proofs.Common.{◌≡◌, ◌+◌, [], ◌∷◌, ◌++◌, refl, sym, ap, ◌∙◌, subst, arith}
+use Rattle.std.proofs.Common.{◌≡◌, ◌+◌, [], ◌∷◌, ◌++◌, refl, sym, ap, ◌∙◌, subst, arith, ℕ, le_refl, le_antisymm}
 use Rattle.std.specs.VecDeque.{deque_len, deque_capacity, deque_items}
 use Rattle.lane_crew.specs.declared.tasks.LaneTask.TheVariants as asked
 use Rattle.lane_crew.specs.Givers.{carried}
-use Rattle.lanes.specs.Lanes.{DidQueue}
-use Rattle.lane_crew.specs.Tasks.{IsOfQueues, IsElseQueue, Parted}
+use Rattle.lanes.specs.Lanes.{DidQueue, IsFilled}
+use Rattle.lane_crew.specs.Tasks.{IsOfQueues, IsElseQueue, Parted, SentQueues}
 use Rattle.lane_crew.proofs.Dividing.{divided_is, divided_sent}
 use Rattle.lanes.proofs.Listing.{all_behind}
 use Rattle.lane_crew.proofs.Returning.{one_more, parted_here, parted_sent, own_queue}
@@ -54,3 +54,20 @@ loop-at-preserved g c =
             room = ap deque_capacity w.tasks-is ∙ w.push_back_reserved.ensures.capacity ∙ i.room;
           }
     ]
+
+pub work-requires : goal.work-requires
+work-requires g c =
+    let l = c.loop-at in
+    let x = c.index-queues-at-then-is_empty.result in
+    record { filled = subst IsFilled (sym (l.invariant.sent.3.rest l.at x (le_refl l.at))) (c.requires.filled l.at x c.loop-at-test.true) }
+
+pub new-requires : goal.new-requires
+new-requires g c =
+    let l = c.loop-at in
+    let x = c.index-queues-at-else-is_empty.result in
+    record { filled = subst IsFilled (sym (c.take_queue-lane.ensures.same ∙ l.invariant.sent.3.rest l.at x (le_refl l.at))) (c.requires.filled l.at x c.loop-at-test.true) }
+
+pub returns-clause-sent : goal.returns-clause-sent
+returns-clause-sent g c =
+    subst (λ (n : ℕ). SentQueues c.args.segs n c.args.queues.now c.loop-at.queues c.args.tasks.now.items c.loop-at.tasks.items) (le_antisymm c.loop-at.auto.at-end c.loop-at-test.false)
+    c.loop-at.invariant.sent

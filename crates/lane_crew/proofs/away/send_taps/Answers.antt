@@ -1,9 +1,9 @@
-use Rattle.std.proofs.Common.{◌≡◌, ◌+◌, [], ◌∷◌, ◌++◌, get_or, refl, sym, ap, ◌∙◌, subst, arith}
+use Rattle.std.proofs.Common.{◌≡◌, ◌+◌, [], ◌∷◌, ◌++◌, get_or, refl, sym, ap, ◌∙◌, subst, arith, ℕ, le_antisymm}
 use Rattle.std.specs.VecDeque.{deque_len, deque_capacity, deque_items}
 use Rattle.lane_crew.specs.declared.tasks.LaneTask.TheVariants as asked
 use Rattle.lane_crew.specs.Givers.{carried}
 use Rattle.lanes.specs.Lanes.{DidTap}
-use Rattle.lane_crew.specs.Tasks.{IsOfTaps, IsElseTap, Parted}
+use Rattle.lane_crew.specs.Tasks.{IsOfTaps, IsElseTap, Parted, SentTaps}
 use Rattle.lane_crew.proofs.Dividing.{divided_is, divided_sent}
 use Rattle.lanes.proofs.Listing.{all_behind}
 use Rattle.lane_crew.proofs.Returning.{one_more, parted_here, parted_sent, own_tap}
@@ -60,3 +60,8 @@ loop-at-preserved g c =
             room = ap deque_capacity w.tasks-is ∙ i.room;
           }
     ]
+
+pub returns-clause-sent : goal.returns-clause-sent
+returns-clause-sent g c =
+    subst (λ (n : ℕ). SentTaps c.args.plan.now n c.args.taps.now c.loop-at.taps c.args.tasks.now.items c.loop-at.tasks.items) (le_antisymm c.loop-at.auto.at-end c.loop-at-test.false)
+    c.loop-at.invariant.sent

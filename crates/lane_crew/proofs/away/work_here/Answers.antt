@@ -1,4 +1,4 @@
-use Rattle.std.proofs.Common.{rules, ◌≡◌, [], ◌∷◌, subst}
+use Rattle.std.proofs.Common.{rules, ◌≡◌, [], ◌∷◌, subst, sym, ◌∙◌}
 use Rattle.std.specs.List.{AllByRecursion}
 use Rattle.lane_crew.specs.Givers.{back_of, carried, Divided}
 use Rattle.lane_crew.specs.Tasks.{Away, IsPlaced}
@@ -43,3 +43,8 @@ returns-clause-back g c =
     let l = c.loop-task in
     let e : l.tasks.items ≡ [] = search rules in
     λ old d. subst (λ z. Divided old l.giver (carried z)) e (l.invariant.taken old d)
+
+pub returns-clause-none : goal.returns-clause-none
+returns-clause-none g c =
+    let e : c.loop-task.tasks.items ≡ [] = search rules in
+    sym c.in_default.ensures.items ∙ e
