@@ -1,9 +1,9 @@
 -- The bytes of a hash key, two digits at a time.
 use Rattle.std.proofs.Common.{◌≡◌, ℕ, ◌+◌, ◌*◌, ◌<◌, Option, Some, None, List, [], ◌∷◌, ◌++◌, length, take, drop, get_or, set, refl, sym, ap, ◌∙◌, arith, append_assoc, add-one, option_and_then}
-use Rattle.std.specs.Prelude.{option_map}
-use Rattle.std.proofs.lemmas.List.{drop_more}
+use Rattle.std.specs.Prelude.{◌≤◌, ◌==◌, if◌then◌else◌, option_map}
+use Rattle.std.proofs.lemmas.List.{append-nil, drop_all, drop_more, take_all}
 use Rattle.std.proofs.Math.Seq.{take-suc-set}
-use Rattle.offload_words.specs.Rss.{hex_byte, hex_bytes}
+use Rattle.offload_words.specs.Rss.{hash_key_in, hex_byte, hex_bytes}
 
 -- two digits more
 two_more : (text : List ℕ) (i : ℕ) → 2 * i + 1 < length text
@@ -42,3 +42,20 @@ key_more text key i byte h l e s =
   where
     written : (key : List ℕ) (i byte : ℕ) → i < length key → take (i + 1) (set key i byte) ≡ take i key ++ byte ∷ []
     written key i byte l = rw add-one (take-suc-set key i byte l)
+
+-- ---- the key of a text as long as two digits for each byte
+
+module _ (text key : List ℕ) (i : ℕ) (long : length text ≡ 80) (done : hex_bytes text ≡ option_map (λ bytes. take i key ++ bytes) (hex_bytes (drop (2 * i) text))) where
+  by_digits : hash_key_in text ≡ option_map (λ bytes. take i key ++ bytes) (hex_bytes (drop (2 * i) text))
+  by_digits = ap (λ (n : ℕ). if n == 80 then hex_bytes text else None) long ∙ done
+
+  pub whole_key : length key ≡ 40 → 40 ≤ i → i ≤ 40 → Some key ≡ hash_key_in text
+  whole_key l low high =
+      sym (by_digits
+      ∙ ap (λ (z : List ℕ). option_map (λ bytes. take i key ++ bytes) (hex_bytes z)) (drop_all (2 * i) text (omega arith))
+      ∙ ap (λ (z : List ℕ). Some (z ++ [])) (take_all i key (omega arith)) ∙ ap Some (append-nil key))
+
+  pub no_key : i < 40 → None ≡ hex_byte (get_or text (2 * i) 0) (get_or text (2 * i + 1) 0) → None ≡ hash_key_in text
+  no_key near none =
+      let next = λ (byte : Option ℕ). option_and_then (λ b. option_map (λ bytes. b ∷ bytes) (hex_bytes (drop (2 * (i + 1)) text))) byte in
+      sym (by_digits ∙ ap (option_map (λ bytes. take i key ++ bytes)) (two_more text i (omega arith) ∙ ap next (sym none)))

@@ -1,3 +1,4 @@
+mod Adding
 mod Chosen
 mod CommandSet
 mod HashKeys

@@ -13,3 +13,6 @@ returns-clause-app c =
     let seed = c.in_ok-seed.ensures.app ∙ ap (λ (a : App). with_rule a seed_rule) merge in
     let all = ap (λ (a : App). with_rule a count_rule) seed in
     IfOk-weaker c.with_number.result _ _ (λ _ e. e ∙ all) c.with_number.ensures.app
+
+pub with_number-requires : goal.with_number-requires
+with_number-requires c = record { local = c.in_ok-seed.ensures.local }

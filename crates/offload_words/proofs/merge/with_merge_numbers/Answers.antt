@@ -17,3 +17,18 @@ returns-clause-app c =
     let taps = c.in_ok-taps.ensures.app ∙ ap (with taps_rule) blocks in
     let snap = c.in_ok-snap.ensures.app ∙ ap (with snap_rule) taps in
     IfOk-weaker c.with_number-5.result _ _ (λ _ e. e ∙ ap (with segs_rule) snap) c.with_number-5.ensures.app
+
+pub returns-clause-local : goal.returns-clause-local
+returns-clause-local c = c.with_number-5.ensures.local
+
+pub with_number-requires-2 : goal.with_number-requires-2
+with_number-requires-2 c = record { local = c.in_ok-queues.ensures.local }
+
+pub with_number-requires-3 : goal.with_number-requires-3
+with_number-requires-3 c = record { local = c.in_ok-blocks.ensures.local }
+
+pub with_number-requires-4 : goal.with_number-requires-4
+with_number-requires-4 c = record { local = c.in_ok-taps.ensures.local }
+
+pub with_number-requires-5 : goal.with_number-requires-5
+with_number-requires-5 c = record { local = c.in_ok-snap.ensures.local }

@@ -10,3 +10,9 @@ returns-clause-app c =
     let filter = c.in_ok-filter.ensures.app ∙ ap (with (codes "filter")) c.in_ok-numbers.ensures.app in
     let rss = c.in_ok-rss.ensures.app ∙ ap (with (codes "rss")) filter in
     IfOk-weaker c.with_text-3.result _ _ (λ _ e. e ∙ ap (with (codes "table")) rss) c.with_text-3.ensures.app
+
+pub with_text-requires-2 : goal.with_text-requires-2
+with_text-requires-2 c = record { local = c.in_ok-filter.ensures.local }
+
+pub with_text-requires-3 : goal.with_text-requires-3
+with_text-requires-3 c = record { local = c.in_ok-rss.ensures.local }
