@@ -297,6 +297,9 @@ wider m n j k c le le' w = record { queues = queue_wider m n le c.queues w.queue
 pub of_more : (m n : ℕ) (c : Counts) → m ≤ n → AreOf m c → AreOf n c
 of_more m n c le w = wider m n (most_frame * m) (most_frame * n) c le (omega (arith, le)) w
 
+pub of_behind : (n k : ℕ) (c : Counts) → AreOf n c → AreOf (n + k) c
+of_behind n k c w = of_more n (n + k) c (omega arith) w
+
 -- the packets of a round are such as a capture may hold
 pub captured_of : (k : ℕ) (ps : List Held) → AllByRecursion IsCaptured (map packet_of ps) → NumberedFrom k ps → AreCaptured (map packet_of ps)
 captured_of k ps each numbered = record { each = each; rising = rising k ps numbered }

@@ -1,14 +1,35 @@
-use Rattle.std.proofs.Common.{◌≡◌, ◌+◌, ◌∙◌, sym, ap, subst, length, map, arith, rules}
+use Rattle.std.proofs.Common.{◌≡◌, ◌+◌, ◌≤◌, ◌∙◌, ℕ, sym, ap, subst, length, map, arith}
 use Rattle.std.proofs.lemmas.List.{length-map}
 use Rattle.offload_model.specs.Captured.{AreCaptured}
 use Rattle.offload_model.specs.Written.{Options}
 use Rattle.gro.specs.Slots.{packet_of}
 use Rattle.check_totals.specs.Counts.{added, round_totals}
 use Rattle.rounds.specs.Lanes.{IsKeptWorkOf}
-use Rattle.rounds.specs.Benches.{options_at}
+use Rattle.block_pool.specs.Giving.{given_by}
+use Rattle.block_pool.specs.PoolState.{PoolState}
+use Rattle.rounds.specs.Benches.{options_at, Brings, BringsBeside, MayBring}
+use Rattle.rounds.specs.RoundsState.{BenchState}
+use Rattle.rounds.specs.Weights.{weights_of, weights_worked}
+use Rattle.rounds.proofs.Lending.{brings_rest, given_least, may_less}
 use Rattle.checking.proofs.Kept.{may_compare}
-use Rattle.checking.proofs.RoundsCounted.{alike, captured_of, room, room_of_round, more_lanes, more_within, of_more}
+use Rattle.checking.proofs.RoundsCounted.{alike, captured_of, room, room_of_round, more_lanes, more_within, of_behind}
+use Rattle.checking.proofs.capture.count_round.Given as given
 use Rattle.checking.proofs.capture.count_round.Goals as goal
+use Rattle.checking.proofs.capture.count_round.Goals.{After-compare_round}
+
+-- behind comparing all of the round is home, but what went to others
+brought : (g : given.Over) (c : After-compare_round g)
+    → BringsBeside c.args.round.blocks (weights_of c.args.round) c.args.bench.now c.compare_round.new.bench c.args.home.now c.compare_round.new.home c.args.giver.now c.work_round.new.giver
+brought g c =
+    let worked = c.in_ok-worked.worked in
+    let is = c.in_ok-worked.ensures in
+    brings_rest worked.blocks c.args.round.blocks (weights_worked worked) (weights_of c.args.round) c.args.bench.now c.compare_round.new.bench c.args.home.now c.compare_round.new.home
+    c.args.giver.now c.work_round.new.giver is.worked is.named
+    (subst (λ (b : BenchState). Brings worked.blocks (weights_worked worked) b c.compare_round.new.bench c.args.home.now c.compare_round.new.home) is.same.0
+    (subst (λ (p : PoolState). Brings worked.blocks (weights_worked worked) c.work_round.new.self c.compare_round.new.bench p c.compare_round.new.home) is.same.1 c.compare_round.ensures.brings))
+
+less_given : (m n given given' : ℕ) → m + given' ≡ n + given → given ≤ given' → m ≤ n
+less_given m n given given' sum least = omega arith
 
 pub compare_round-requires-clause-worked : goal.compare_round-requires-clause-worked
 compare_round-requires-clause-worked g c =
@@ -48,15 +69,34 @@ returns-clause-home g c =
     record {
       lanes = more_lanes first packets c.args.totals.now c.add.new.self c.requires.may.lanes sum;
       within = λ n w. more_within first n packets c.args.totals.now c.add.new.self (captured_of r.numbers.0 packets r.captured r.numbers.1) sum w;
-      brings = search rules;
-      gave = search rules;
+      brings = brought g (goal.at.returns-clause-home g c).After-compare_round;
+      gave = c.work_round.ensures.gave;
     }
 
 pub returns-in_err-counted-clause-home : goal.returns-in_err-counted-clause-home
 returns-in_err-counted-clause-home g c =
     record {
       lanes = c.requires.may.lanes;
-      within = λ n w. of_more n (n + length c.args.round.packets) c.args.totals.now (omega arith) w;
-      brings = search rules;
-      gave = search rules;
+      within = λ n. of_behind n (length c.args.round.packets) c.args.totals.now;
+      brings = brought g (goal.at.returns-in_err-counted-clause-home g c).After-compare_round;
+      gave = c.work_round.ensures.gave;
     }
+
+pub returns-in_err-worked-clause-home : goal.returns-in_err-worked-clause-home
+returns-in_err-worked-clause-home g c =
+    record {
+      lanes = c.requires.may.lanes;
+      within = λ n. of_behind n (length c.args.round.packets) c.args.totals.now;
+      brings = c.in_err-worked.ensures.brings;
+      gave = c.work_round.ensures.gave;
+    }
+
+pub compare_round-requires-clause-may : goal.compare_round-requires-clause-may
+compare_round-requires-clause-may g c =
+    let n = c.in_ok-worked.worked.blocks in
+    let same = c.in_ok-worked.ensures.same in
+    subst (λ (b : BenchState). MayBring n b c.work_round.new.home) (sym same.0)
+    (subst (MayBring n c.args.bench.now) (sym same.1)
+    (may_less n c.args.round.blocks c.args.bench.now c.args.home.now
+    (less_given n c.args.round.blocks (given_by c.args.giver.now) (given_by c.work_round.new.giver) c.in_ok-worked.ensures.worked (given_least c.args.giver.now c.work_round.new.giver c.work_round.ensures.gave))
+    c.requires.may.may))
